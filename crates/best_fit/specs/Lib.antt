@@ -1,0 +1,5 @@
+pub mod Extents
+pub mod Fit
+pub mod FreeTree
+pub mod Heap
+pub mod Table

@@ -1,0 +1,6 @@
+//! An allocator with best fit over the tiles of a window: blocks named by handles, and the gaps between them.
+#![tactic(auto)]
+
+mod refusal;
+
+pub use refusal::NoSpace;

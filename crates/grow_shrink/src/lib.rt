@@ -1,0 +1,6 @@
+//! The same directory in a larger segment, or in the least one that serves.
+#![tactic(auto)]
+
+mod refusals;
+
+pub use refusals::GrowError;

@@ -1,0 +1,3 @@
+pub mod Classes
+pub mod Meaning
+pub mod Opening

@@ -1,0 +1,7 @@
+//! Reading images that nobody vouches for: exactly those that denote a directory are accepted, and the others are refused
+//! by a named class.
+#![tactic(auto)]
+
+mod classes;
+
+pub use classes::ImageClass;

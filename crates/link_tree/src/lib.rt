@@ -1,0 +1,2 @@
+//! Ordered red-black trees over links that someone else keeps.
+#![tactic(auto)]

@@ -1,0 +1,2 @@
+//! Links that store the distance from their own offset to their target.
+#![tactic(auto)]

@@ -1,0 +1,76 @@
+-- Memory as contracts see it: the byte at each offset. A window and a list of bytes are both read in this way.
+use Rattle.std.specs.Prelude.{◌≡◌, ℕ, zero, suc, ◌+◌, ◌≤◌, ◌<◌, ◌⊎◌, List, [], ◌∷◌, ◌++◌, length, take, drop, slice_index, replicate}
+use Rattle.byteorder.specs.Endian.{little_number, little_bytes}
+
+-- the byte at each offset
+abbrev pub Memory : Type 0
+Memory = ℕ → ℕ
+
+-- a list of bytes, which begins at offset 0
+abbrev pub bytes_of : List ℕ → Memory
+bytes_of b = slice_index b
+
+-- the n bytes from an offset on
+abbrev pub read : Memory → ℕ → ℕ → List ℕ
+read m at zero = []
+read m at (suc n) = m at ∷ read m (at + 1) n
+
+-- memory has these bytes at this offset
+abbrev pub Has : Memory → ℕ → List ℕ → Type 0
+Has m at bytes = read m at (length bytes) ≡ bytes
+
+-- a word is eight bytes and a half word four, the lowest first
+unfoldable pub word_bytes : ℕ → List ℕ
+word_bytes x = little_bytes 8 x
+
+unfoldable pub half_word_bytes : ℕ → List ℕ
+half_word_bytes x = little_bytes 4 x
+
+unfoldable pub word_at : Memory → ℕ → ℕ
+word_at m at = little_number 8 (read m at 8)
+
+unfoldable pub half_word_at : Memory → ℕ → ℕ
+half_word_at m at = little_number 4 (read m at 4)
+
+-- n bytes that are 0
+unfoldable pub zeros : ℕ → List ℕ
+zeros n = replicate n 0
+
+-- the len bytes of a list from an offset on
+abbrev pub part : List ℕ → ℕ → ℕ → List ℕ
+part b from len = take len (drop from b)
+
+-- the list with these bytes in the place of those from an offset on
+abbrev pub patched : List ℕ → ℕ → List ℕ → List ℕ
+patched b from bytes = take from b ++ bytes ++ drop (from + length bytes) b
+
+-- a list of bytes in three pieces: a window is the middle one, and its base is the length of the first
+pub record Cut : Type 0 where
+  pub before : List ℕ
+  pub bytes : List ℕ
+  pub after : List ℕ
+
+-- all bytes of the region that a window lies in
+abbrev pub whole : Cut → List ℕ
+whole c = c.before ++ c.bytes ++ c.after
+
+-- the window of size bytes at this base of a region
+abbrev pub cut_at : List ℕ → ℕ → ℕ → Cut
+cut_at b base size = record { before = take base b; bytes = part b base size; after = drop (base + size) b }
+
+-- the bytes from an offset up to another stay
+pub record Same (m m' : Memory) (from to : ℕ) : Type 0 where
+  pub at : (k : ℕ) → from ≤ k → k < to → m' k ≡ m k
+
+-- all bytes stay but the n from an offset on
+pub record SameBut (m m' : Memory) (from n : ℕ) : Type 0 where
+  pub at : (k : ℕ) → (k < from) ⊎ (from + n ≤ k) → m' k ≡ m k
+
+-- the bytes from an offset up to another are 0
+pub record AreZero (m : Memory) (from to : ℕ) : Type 0 where
+  pub at : (k : ℕ) → from ≤ k → k < to → m k ≡ 0
+
+-- what lies round the window stays
+pub record SamePlace (old new : Cut) : Type 0 where
+  pub before : new.before ≡ old.before
+  pub after : new.after ≡ old.after

@@ -1,0 +1,2 @@
+//! Ordered maps at a place in a heap, with a block for each pair.
+#![tactic(auto)]

@@ -1,0 +1,62 @@
+-- Vectors, texts and vectors of texts: how they grow, and the bytes that spell them.
+use Rattle.std.specs.Prelude.{◌≡◌, ℕ, ◌+◌, ◌*◌, max, ℤ, Option, Some, None, List, [], ◌∷◌, length, flat_map, if◌then◌else◌, nat_lt, nat_le, ⊤, option_map}
+use Rattle.std.specs.List.{AllByRecursion}
+use Rattle.raw_region.specs.Memory.{Memory, Has, word_at}
+use Rattle.offset_link.specs.Link.{link_at}
+use Rattle.best_fit.specs.Extents.{Extent, handle}
+use Rattle.best_fit.specs.Table.{Table, table_link}
+use Rattle.seg_types.specs.declared.kinds.ScalarKind.{ScalarKind}
+use Rattle.seg_types.specs.Kinds.{spelling}
+
+-- the capacity that a vector has for one element more
+abbrev pub capacity_for_one : ℕ → ℕ → ℕ
+capacity_for_one len capacity = if nat_lt len capacity then capacity else max 4 (2 * capacity)
+
+-- the capacity that a text has for len bytes
+abbrev pub capacity_for_text : ℕ → ℕ → ℕ
+capacity_for_text len capacity = if nat_le len capacity then capacity else max (max 16 (2 * capacity)) len
+
+abbrev pub spelled : ScalarKind → List ℤ → List ℕ
+spelled k = flat_map (spelling k)
+
+-- the block, where there is one, begins with these bytes
+abbrev pub IsStorage : Memory → Table → List ℕ → Type 0
+IsStorage m t bytes = elim t.extent [ None ↦ ⊤ | Some x ↦ Has m (handle x) bytes ]
+
+-- the container at an offset has these elements, which are len
+pub record IsContainerAt (m : Memory) (at len : ℕ) (t : Table) (bytes : List ℕ) : Type 0 where
+  pub link : link_at m at ≡ table_link t
+  pub len_word : word_at m (at + 8) ≡ len
+  pub capacity : word_at m (at + 16) ≡ t.capacity
+  pub storage : IsStorage m t bytes
+
+abbrev pub IsVectorAt : Memory → ℕ → ScalarKind → List ℤ → Table → Type 0
+IsVectorAt m at k items t = IsContainerAt m at (length items) t (spelled k items)
+
+abbrev pub IsTextAt : Memory → ℕ → List ℕ → Table → Type 0
+IsTextAt m at bytes t = IsContainerAt m at (length bytes) t bytes
+
+-- a text in a vector: its bytes, and their block, which an empty one has not
+pub record OwnedText : Type 0 where
+  pub bytes : List ℕ
+  pub extent : Option Extent
+
+-- elements of 16 bytes, one after another from an offset on: a link to the block of the text, and its length
+abbrev pub AreTextLinks : Memory → ℕ → List OwnedText → Type 0
+AreTextLinks m at [] = ⊤
+AreTextLinks m at (p ∷ ps) =
+    (link_at m at ≡ option_map handle p.extent) × (word_at m (at + 8) ≡ length p.bytes) × AreTextLinks m (at + 16) ps
+
+abbrev pub IsOwnedText : Memory → OwnedText → Type 0
+IsOwnedText m p = elim p.extent [ None ↦ ⊤ | Some x ↦ Has m (handle x) p.bytes ]
+
+abbrev pub AreInArray : Memory → Table → List OwnedText → Type 0
+AreInArray m t ps = elim t.extent [ None ↦ ⊤ | Some x ↦ AreTextLinks m (handle x) ps ]
+
+-- the vector of texts at an offset: its array has the elements, and each text stands in a block of its own
+pub record IsTextsAt (m : Memory) (at : ℕ) (ps : List OwnedText) (t : Table) : Type 0 where
+  pub link : link_at m at ≡ table_link t
+  pub len_word : word_at m (at + 8) ≡ length ps
+  pub capacity : word_at m (at + 16) ≡ t.capacity
+  pub array : AreInArray m t ps
+  pub texts : AllByRecursion (IsOwnedText m) ps

@@ -1,0 +1,85 @@
+-- The lines that an answer is printed as.
+use Rattle.std.specs.Prelude.{ℕ, Option, Some, None, List, [], ◌∷◌, ◌++◌, length, map, if◌then◌else◌, ◌==◌, codes, Bool, true, false}
+use Rattle.block_tags.specs.declared.tile.Role.{Role}
+use Rattle.block_tags.specs.declared.tile.Role.TheVariants.{Object as ObjectRole, Index, Storage, Node}
+use Rattle.best_fit.specs.Extents.{Span, handle}
+use Rattle.seg_types.specs.declared.kinds.ScalarKind.{ScalarKind}
+use Rattle.seg_types.specs.declared.kinds.Class.{Class}
+use Rattle.seg_types.specs.declared.kinds.Class.TheVariants.{Anonymous, Named, Unique}
+use Rattle.seg_map.specs.Map.{Pair}
+use Rattle.seg_vector.specs.Vector.{OwnedText}
+use Rattle.segment_lang.specs.Texts.{number_text, quoted_text, name_text, value_text, kind_text, refusal_text}
+use Rattle.segment_manager.specs.Directory.{Value, Numbers, Elements, Bytes, Pairs, Texts, Object, kind_of, count_of}
+use Rattle.segment_manager.specs.Answers.{Answer, Done, Absent, Truth, Number, Made, Found, Element, TextElement, Shown, Told, Names, Kinds, Blocks, Refused}
+
+-- words of a line, parted by one blank, and the end of the line
+abbrev pub line : List (List ℕ) → List ℕ
+line [] = 0x0A ∷ []
+line (w ∷ []) = w ++ 0x0A ∷ []
+line (w ∷ v ∷ ws) = w ++ 0x20 ∷ line (v ∷ ws)
+
+abbrev pub handle_text : ℕ → List ℕ
+handle_text h = 0x23 ∷ number_text h
+
+abbrev pub object_handle : Object → List ℕ
+object_handle o = handle_text (handle o.extent)
+
+abbrev pub pair_text : ScalarKind → ScalarKind → Pair → List ℕ
+pair_text k v p = value_text k p.key ++ 0x3D ∷ value_text v p.value
+
+abbrev pub shown_words : Value → List (List ℕ)
+shown_words (Numbers k zs) =
+    (kind_text (kind_of (Numbers k zs)) ++ (if length zs == 1 then [] else 0x5B ∷ number_text (length zs) ++ 0x5D ∷ [])) ∷ map (value_text k) zs
+shown_words (Elements k zs t) = kind_text (kind_of (Elements k zs t)) ∷ map (value_text k) zs
+shown_words (Bytes bs t) = kind_text (kind_of (Bytes bs t)) ∷ quoted_text bs ∷ []
+shown_words (Texts ps t) = kind_text (kind_of (Texts ps t)) ∷ map (λ (p : OwnedText). quoted_text p.bytes) ps
+shown_words (Pairs k v ps) = kind_text (kind_of (Pairs k v ps)) ∷ map (pair_text k v) ps
+
+-- length and capacity of a vector or text, length of a map
+abbrev pub measure_words : Value → List (List ℕ)
+measure_words (Numbers k zs) = []
+measure_words (Elements k zs t) = number_text (length zs) ∷ number_text t.capacity ∷ []
+measure_words (Bytes bs t) = number_text (length bs) ∷ number_text t.capacity ∷ []
+measure_words (Texts ps t) = number_text (length ps) ∷ number_text t.capacity ∷ []
+measure_words (Pairs k v ps) = number_text (length ps) ∷ []
+
+abbrev pub class_words : Class → List ℕ → List (List ℕ)
+class_words Named name = codes "named" ∷ name_text name ∷ []
+class_words Unique name = codes "unique" ∷ codes "-" ∷ []
+class_words Anonymous name = codes "anonymous" ∷ codes "-" ∷ []
+
+-- kind, count and handle
+abbrev pub entry_words : Object → List (List ℕ)
+entry_words o = kind_text (kind_of o.value) ∷ number_text (count_of o.value) ∷ object_handle o ∷ []
+
+abbrev pub role_word : Option Role → List ℕ
+role_word None = codes "free"
+role_word (Some ObjectRole) = codes "object"
+role_word (Some Index) = codes "index"
+role_word (Some Storage) = codes "storage"
+role_word (Some Node) = codes "node"
+
+abbrev pub truth_word : Bool → List ℕ
+truth_word true = codes "true"
+truth_word false = codes "false"
+
+-- a line for each, and `end`
+abbrev pub listing : {A : Type 0} → (A → List (List ℕ)) → List A → List ℕ
+listing words [] = line (codes "end" ∷ [])
+listing words (x ∷ xs) = line (words x) ++ listing words xs
+
+abbrev pub answer_text : Answer → List ℕ
+answer_text Done = line (codes "ok" ∷ [])
+answer_text Absent = line (codes "none" ∷ [])
+answer_text (Truth b) = line (truth_word b ∷ [])
+answer_text (Number n) = line (number_text n ∷ [])
+answer_text (Made h) = line (handle_text h ∷ [])
+answer_text (Found h n) = line (handle_text h ∷ number_text n ∷ [])
+answer_text (Element k z) = line (value_text k z ∷ [])
+answer_text (TextElement bs) = line (quoted_text bs ∷ [])
+answer_text (Shown v) = line (shown_words v)
+answer_text (Told o) = line (class_words o.class o.name ++ entry_words o ++ measure_words o.value)
+answer_text (Names os) = listing (λ (o : Object). name_text o.name ∷ entry_words o) os
+answer_text (Kinds os) = listing entry_words os
+answer_text (Blocks ss) = listing (λ (s : Span). number_text s.offset ∷ number_text s.len ∷ role_word s.use_of ∷ []) ss
+answer_text (Refused r) = line (refusal_text r ∷ [])

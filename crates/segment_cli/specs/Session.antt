@@ -1,0 +1,178 @@
+-- What a session owes: what it prints and saves, and what each fault leaves.
+use Rattle.std.specs.Prelude.{◌≡◌, ◌⊎◌, ◌<◌, ◌≤◌, ℕ, ◌+◌, Bool, true, false, ◌||◌, List, [], ◌∷◌, ◌++◌, length, take, IsTrue, ◌==◌, nat_lt, Result, Err, MatchResult, if◌then◌else◌}
+use Rattle.raw_region.specs.Device.{Given, Taken, IsProperPrefix}
+use Rattle.best_fit.specs.Extents.{is_legal_size}
+use Rattle.segment_manager.specs.declared.modes.Mode.{Mode}
+use Rattle.segment_manager.specs.declared.modes.Mode.TheVariants.{Write, ReadOnly as ReadOnlyMode, CopyOnWrite}
+use Rattle.segment_manager.specs.Directory.{Directory, empty}
+use Rattle.segment_manager.specs.State.{StandsFor}
+use Rattle.image_check.specs.Opening.{IsRefusedAs, IsTooSmallFor, NeedsMemory, IsUndecided}
+use Rattle.segment_lang.specs.Language.{landed}
+use Rattle.segment_lang.specs.Reading.{reading}
+use Rattle.segment_cli.specs.declared.faults.Start.{Start}
+use Rattle.segment_cli.specs.declared.faults.Start.TheVariants.{Fresh, Image}
+use Rattle.segment_cli.specs.declared.faults.SessionFault.{SessionFault}
+use Rattle.segment_cli.specs.declared.faults.SessionFault.TheVariants.{Image as Refused, BadSize, RegionTooSmall, OutOfMemory, ReadFault, WriteFault, ScriptTooLong}
+use Rattle.segment_cli.specs.Run.{run, run_lines, respond, lines}
+
+-- the most bytes that a script may have
+abbrev pub script_limit : ℕ
+script_limit = 16777216
+
+-- what four devices gave and took
+pub record Traffic : Type 0 where
+  pub image : Given
+  pub script : Given
+  pub out : Taken
+  pub saved : Taken
+
+-- ---- where a session begins
+
+-- the image's reader was not asked
+pub record IsUntouched (image : Given) : Type 0 where
+  pub bytes : image.bytes ≡ []
+  pub failed : image.failed ≡ false
+
+-- an empty directory of a fresh size, or the one that the image denotes, which was read to its end
+abbrev pub Begins : Start → Given → Directory → Type 0
+Begins (Fresh size) image d = IsTrue (is_legal_size size) × (d ≡ empty size) × IsUntouched image
+Begins Image image d = (image.ended ≡ true) × (image.failed ≡ false) × StandsFor image.bytes d
+
+abbrev pub IsSizeRefused : Start → Type 0
+IsSizeRefused (Fresh size) = is_legal_size size ≡ false
+IsSizeRefused Image = ⊥
+
+-- the region does not hold the fresh size, or the legal size in the first 24 bytes of the image
+abbrev pub IsTooSmall : Start → Given → ℕ → ℕ → Type 0
+IsTooSmall (Fresh size) image base capacity = IsTrue (is_legal_size size) × (capacity < base + size)
+IsTooSmall Image image base capacity = IsTooSmallFor image base capacity
+
+-- ---- what a session prints and saves
+
+-- in mode Write an image that denotes the directory, and else nothing
+abbrev pub Saves : Mode → List ℕ → Directory → Type 0
+Saves Write saved d = StandsFor saved d
+Saves ReadOnlyMode saved d = saved ≡ []
+Saves CopyOnWrite saved d = saved ≡ []
+
+-- nothing went out
+pub record IsSilent (t : Traffic) : Type 0 where
+  pub prints : t.out.bytes ≡ []
+  pub saves : t.saved.bytes ≡ []
+
+-- which of the four devices failed in the session
+pub record Failures : Type 0 where
+  pub image : Bool
+  pub script : Bool
+  pub out : Bool
+  pub saved : Bool
+
+abbrev pub failures : Traffic → Failures
+failures t = record { image = t.image.failed; script = t.script.failed; out = t.out.failed; saved = t.saved.failed }
+
+abbrev pub none_failed : Failures
+none_failed = record { image = false; script = false; out = false; saved = false }
+
+-- done: the answers of the directory machine, and its last directory
+pub record IsDone (start : Start) (mode : Mode) (t : Traffic) : Type 0 where
+  pub from : Directory
+  pub begins : Begins start t.image from
+  pub whole : t.script.ended ≡ true
+  pub within : length t.script.bytes ≤ script_limit
+  pub prints : t.out.bytes ≡ (run landed mode from t.script.bytes).0
+  pub saves : Saves mode t.saved.bytes (run landed mode from t.script.bytes).1
+  pub failed : failures t ≡ none_failed
+
+-- the bytes up to the last line end among them
+abbrev pub whole_lines : List ℕ → List ℕ
+whole_lines [] = []
+whole_lines (c ∷ cs) = if (c == 0x0A) || nat_lt 0 (length (whole_lines cs)) then c ∷ whole_lines cs else []
+
+-- all lines that ended in the script, within its limit, were answered, and nothing is saved
+pub record IsCut (start : Start) (mode : Mode) (t : Traffic) : Type 0 where
+  pub from : Directory
+  pub begins : Begins start t.image from
+  pub prints : t.out.bytes ≡ (run landed mode from (whole_lines (take script_limit t.script.bytes))).0
+  pub saves : t.saved.bytes ≡ []
+
+-- the lines that may be executed: those that ended within the limit and, where the script ended, the last one
+abbrev pub executable : Given → List (List ℕ)
+executable script = if script.ended then lines (take script_limit script.bytes) else lines (whole_lines (take script_limit script.bytes))
+
+-- lines were answered, and of the answer to the next a proper prefix went out; nothing is saved
+pub record IsCutInAnswer (start : Start) (mode : Mode) (t : Traffic) : Type 0 where
+  pub from : Directory
+  pub begins : Begins start t.image from
+  pub answered : List (List ℕ)
+  pub next : List ℕ
+  pub rest : List (List ℕ)
+  pub script : executable t.script ≡ answered ++ next ∷ rest
+  pub front : List ℕ
+  pub prints : t.out.bytes ≡ (run_lines landed mode from answered).0 ++ front
+  pub part : IsProperPrefix front (respond mode (run_lines landed mode from answered).1 (reading landed next)).0
+  pub saves : t.saved.bytes ≡ []
+
+-- all was answered, and of an image of the last directory a proper prefix was written
+pub record IsCutInImage (start : Start) (mode : Mode) (t : Traffic) : Type 0 where
+  pub writes : mode ≡ Write
+  pub from : Directory
+  pub begins : Begins start t.image from
+  pub whole : t.script.ended ≡ true
+  pub within : length t.script.bytes ≤ script_limit
+  pub prints : t.out.bytes ≡ (run landed mode from t.script.bytes).0
+  pub image : List ℕ
+  pub denotes : StandsFor image (run landed mode from t.script.bytes).1
+  pub part : IsProperPrefix t.saved.bytes image
+
+-- the image's reader failed, and what it gave before leaves the class open
+pub record IsImageUnread (start : Start) (t : Traffic) : Type 0 where
+  pub image : start ≡ Image
+  pub undecided : IsUndecided t.image
+  pub silent : IsSilent t
+  pub failed : failures t ≡ record none_failed { image = true }
+
+-- the script's reader failed
+pub record IsScriptUnread (start : Start) (mode : Mode) (t : Traffic) : Type 0 where
+  pub cut : IsCut start mode t
+  pub failed : failures t ≡ record none_failed { script = true }
+
+-- the writer of the answers failed
+pub record IsAnswerUnwritten (start : Start) (mode : Mode) (t : Traffic) : Type 0 where
+  pub cut : IsCutInAnswer start mode t
+  pub failed : failures t ≡ record none_failed { out = true }
+
+-- the writer of the image failed
+pub record IsImageUnwritten (start : Start) (mode : Mode) (t : Traffic) : Type 0 where
+  pub cut : IsCutInImage start mode t
+  pub failed : failures t ≡ record none_failed { saved = true }
+
+-- more of the script was read than it may have
+pub record IsScriptTooLong (start : Start) (mode : Mode) (t : Traffic) : Type 0 where
+  pub long : script_limit < length t.script.bytes
+  pub cut : IsCut start mode t
+  pub failed : failures t ≡ none_failed
+
+-- the session ended before the script was asked for; the image's reader may have failed behind what decides the answer
+pub record IsRefusedBefore (t : Traffic) (cause : Type 0) : Type 0 where
+  pub why : cause
+  pub silent : IsSilent t
+  pub script : t.script.bytes ≡ []
+  pub failed : failures t ≡ record none_failed { image = t.image.failed }
+
+-- ---- what a session answers, in a region of this capacity
+
+abbrev pub AnswersFault : Start → Mode → ℕ → ℕ → Traffic → SessionFault → Type 0
+AnswersFault start mode base capacity t (Refused c) = IsRefusedBefore t ((start ≡ Image) × IsRefusedAs t.image c)
+AnswersFault start mode base capacity t BadSize = IsRefusedBefore t (IsSizeRefused start)
+AnswersFault start mode base capacity t RegionTooSmall = IsRefusedBefore t (IsTooSmall start t.image base capacity)
+AnswersFault start mode base capacity t OutOfMemory = IsRefusedBefore t ((start ≡ Image) × NeedsMemory t.image)
+AnswersFault start mode base capacity t ReadFault = IsImageUnread start t ⊎ IsScriptUnread start mode t
+AnswersFault start mode base capacity t WriteFault = IsAnswerUnwritten start mode t ⊎ IsImageUnwritten start mode t
+AnswersFault start mode base capacity t ScriptTooLong = IsScriptTooLong start mode t
+
+-- The headline, for one session.
+pub record IsSession (start : Start) (mode : Mode) (base capacity : ℕ) (t : Traffic) (result : Result (Unit {0}) SessionFault) : Type 0 where
+  pub answers : MatchResult result (λ u. IsDone start mode t) (AnswersFault start mode base capacity t)
+  -- these two are answered wherever they apply
+  pub bad_size : IsSizeRefused start → result ≡ Err BadSize
+  pub too_small : IsTooSmall start t.image base capacity → result ≡ Err RegionTooSmall

@@ -1,0 +1,39 @@
+//! How a session begins, and why it may fail.
+
+use image_check::ImageClass;
+use thiserror::Error;
+
+/// What a session begins with.
+#[derive(Clone, Copy, Debug, PartialEq, Eq)]
+pub enum Start {
+    /// An empty segment of this many bytes.
+    Fresh(u64),
+    /// The segment of the image that the session is given.
+    Image,
+}
+
+/// Why a session fails. Nothing is saved then, but for a front of the image where writing it failed.
+#[derive(Clone, Copy, Debug, PartialEq, Eq, Error)]
+pub enum SessionFault {
+    /// The image denotes no directory.
+    #[error("image refused: {0}")]
+    Image(ImageClass),
+    /// The fresh size is neither 144 nor a multiple of 16 from 176 to 1073741824.
+    #[error("size refused")]
+    BadSize,
+    /// The region ends before base plus size.
+    #[error("region too small")]
+    RegionTooSmall,
+    /// Memory for the check of the image was refused.
+    #[error("out of memory")]
+    OutOfMemory,
+    /// A reader failed.
+    #[error("read fault")]
+    ReadFault,
+    /// A writer failed.
+    #[error("write fault")]
+    WriteFault,
+    /// The script has more than 16777216 bytes.
+    #[error("script too long")]
+    ScriptTooLong,
+}

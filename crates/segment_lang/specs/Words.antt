@@ -1,0 +1,120 @@
+-- The words of a line, and the numbers, values and names that they spell.
+use Rattle.std.specs.Prelude.{ℕ, ◌+◌, ◌-◌, ◌*◌, ℤ, pos, negsuc, Bool, true, false, not, ◌&&◌, ◌||◌, Option, Some, None, List, [], ◌∷◌, option_map, option_and_then, ◌==◌, nat_lt, nat_le, if◌then◌else◌, codes, nat_eq}
+use Rattle.std.specs.List.{list_all}
+use Rattle.std.specs.Cmp.Lexicographic.{pointwise}
+use Rattle.seg_types.specs.Commands.{Literal, Whole, Truth, Quoted}
+
+abbrev pub is_blank : ℕ → Bool
+is_blank c = (c == 0x20) || (c == 0x09)
+
+abbrev pub between : ℕ → ℕ → ℕ → Bool
+between low high c = nat_le low c && nat_le c high
+
+abbrev pub is_bare : ℕ → Bool
+is_bare c = between 0x21 0x7E c && not (c == 0x22)
+
+-- stands for itself in a text
+abbrev pub is_plain : ℕ → Bool
+is_plain c = nat_le 0x20 c && not (c == 0x7F) && not (c == 0x22) && not (c == 0x5C)
+
+-- a bare word, or the bytes that a text in quotes stands for
+pub data Word : Type 0 where
+  Bare : List ℕ → Word
+  Text : List ℕ → Word
+
+-- the value of a digit of 0 to 9, a to f
+abbrev pub digit_of : ℕ → Option ℕ
+digit_of c = if between 0x30 0x39 c then Some (c - 0x30) else if between 0x61 0x66 c then Some (c - 0x57) else None
+
+abbrev pub byte_of_digits : ℕ → ℕ → Option ℕ
+byte_of_digits h l = option_and_then (λ x. option_map (λ y. 16 * x + y) (digit_of l)) (digit_of h)
+
+-- what is left to read of a word, and the words behind it
+abbrev pub Rest : Type 0
+Rest = Option (List ℕ × List Word)
+
+-- one byte more in front of the word
+abbrev pub more : ℕ → Rest → Rest
+more c rest = option_map (λ (bs, ws). (c ∷ bs, ws)) rest
+
+abbrev pub bare_word : ℕ → Rest → Option (List Word)
+bare_word c rest = option_map (λ (bs, ws). Bare (c ∷ bs) ∷ ws) rest
+
+abbrev pub text_word : Rest → Option (List Word)
+text_word rest = option_map (λ (bs, ws). Text bs ∷ ws) rest
+
+abbrev pub ended : Option (List Word) → Rest
+ended ws = option_map (λ ws. ([], ws)) ws
+
+-- The words of a line, or nothing where a byte does not fit. The three functions stand between words, inside a bare
+-- word, and inside a text.
+abbrev mutual
+  pub words : List ℕ → Option (List Word)
+  words [] = Some []
+  words (c ∷ cs) = if is_blank c then words cs else if c == 0x22 then text_word (in_text cs) else if is_bare c then bare_word c (in_bare cs) else None
+
+  pub in_bare : List ℕ → Rest
+  in_bare [] = Some ([], [])
+  in_bare (c ∷ cs) = if is_blank c then ended (words cs) else if is_bare c then more c (in_bare cs) else None
+
+  pub in_text : List ℕ → Rest
+  in_text [] = None
+  in_text (c ∷ cs) = if c == 0x22 then after_text cs else if c == 0x5C then escaped cs else if is_plain c then more c (in_text cs) else None
+
+  -- a blank or the end
+  pub after_text : List ℕ → Rest
+  after_text [] = Some ([], [])
+  after_text (c ∷ cs) = if is_blank c then ended (words cs) else None
+
+  -- behind a backslash
+  pub escaped : List ℕ → Rest
+  escaped [] = None
+  escaped (c ∷ cs) = if (c == 0x22) || (c == 0x5C) then more c (in_text cs) else if c == 0x78 then high_digit cs else None
+
+  pub high_digit : List ℕ → Rest
+  high_digit [] = None
+  high_digit (h ∷ []) = None
+  high_digit (h ∷ l ∷ cs) = option_and_then (λ c. more c (in_text cs)) (byte_of_digits h l)
+
+-- ---- numbers
+
+abbrev pub is_digit : ℕ → Bool
+is_digit = between 0x30 0x39
+
+abbrev pub number_after : ℕ → List ℕ → ℕ
+number_after n [] = n
+number_after n (d ∷ ds) = number_after (10 * n + (d - 0x30)) ds
+
+-- `0`, or digits without a leading zero
+abbrev pub is_numeral : List ℕ → Bool
+is_numeral [] = false
+is_numeral (d ∷ []) = is_digit d
+is_numeral (d ∷ e ∷ ds) = between 0x31 0x39 d && list_all is_digit (e ∷ ds)
+
+abbrev pub number_of : List ℕ → Option ℕ
+number_of w = if is_numeral w && nat_le (number_after 0 w) 18446744073709551615 then Some (number_after 0 w) else None
+
+abbrev pub negative_of : List ℕ → Option ℤ
+negative_of w = if is_numeral w && nat_lt 0 (number_after 0 w) && nat_le (number_after 0 w) 9223372036854775808 then Some (negsuc (number_after 0 w - 1)) else None
+
+-- a number, or `-` and a number that is not 0
+abbrev pub whole_of : List ℕ → Option ℤ
+whole_of [] = None
+whole_of (c ∷ cs) = if c == 0x2D then negative_of cs else option_map pos (number_of (c ∷ cs))
+
+abbrev pub is : List ℕ → List ℕ → Bool
+is = pointwise nat_eq
+
+-- a whole number, `true`, `false` or a text
+abbrev pub literal_of_word : Word → Option Literal
+literal_of_word (Text bs) = Some (Quoted bs)
+literal_of_word (Bare w) = if is w (codes "true") then Some (Truth true) else if is w (codes "false") then Some (Truth false) else option_map Whole (whole_of w)
+
+-- ---- names
+
+abbrev pub is_letter : ℕ → Bool
+is_letter c = between 0x41 0x5A c || between 0x61 0x7A c
+
+abbrev pub is_bare_name : List ℕ → Bool
+is_bare_name [] = false
+is_bare_name (c ∷ cs) = (is_letter c || (c == 0x5F)) && list_all (λ c. is_letter c || is_digit c || (c == 0x5F) || (c == 0x2E)) cs

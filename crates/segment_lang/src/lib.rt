@@ -1,0 +1,2 @@
+//! The command language: what a line of a script asks for, and how the parts of an answer are printed.
+#![tactic(auto)]

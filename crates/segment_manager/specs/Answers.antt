@@ -1,0 +1,23 @@
+-- What a command answers.
+use Rattle.std.specs.Prelude.{ℕ, ℤ, Bool, List}
+use Rattle.best_fit.specs.Extents.{Span}
+use Rattle.seg_types.specs.declared.kinds.ScalarKind.{ScalarKind}
+use Rattle.seg_types.specs.declared.refusals.Refusal.{Refusal}
+use Rattle.segment_manager.specs.Directory.{Value, Object}
+
+pub data Answer : Type 0 where
+  Done Absent : Answer
+  Truth : Bool → Answer
+  Number : ℕ → Answer
+  -- a handle; and a handle with a count
+  Made : ℕ → Answer
+  Found : ℕ → ℕ → Answer
+  TextElement : List ℕ → Answer
+  Element : ScalarKind → ℤ → Answer
+  Shown : Value → Answer
+  Told : Object → Answer
+  -- named objects by name; unique ones by kind; extents and gaps by offset
+  Names : List Object → Answer
+  Kinds : List Object → Answer
+  Blocks : List Span → Answer
+  Refused : Refusal → Answer

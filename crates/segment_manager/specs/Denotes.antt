@@ -1,0 +1,56 @@
+-- Which bytes stand for which directory.
+use Rattle.std.specs.Prelude.{◌≡◌, ℕ, ◌+◌, ◌-◌, ◌*◌, List, ◌++◌, length, map, replicate}
+use Rattle.std.specs.List.{AllByRecursion}
+use Rattle.raw_region.specs.Memory.{Memory, bytes_of, Has, word_at, AreZero}
+use Rattle.best_fit.specs.Extents.{handle}
+use Rattle.best_fit.specs.Heap.{LaysOut}
+use Rattle.seg_types.specs.Kinds.{class_code, code_of}
+use Rattle.seg_vector.specs.Vector.{IsVectorAt, IsTextAt, IsTextsAt, spelled}
+use Rattle.seg_map.specs.Map.{IsMapAt}
+use Rattle.seg_index.specs.Index.{IsIndexAt}
+use Rattle.segment_manager.specs.Directory.{Value, Numbers, Elements, Bytes, Pairs, Texts, Object, Directory, IsDirectory, live, kind_of, count_of, padded, named_objects, unique_objects}
+
+-- `MSEGFILE`
+abbrev pub magic_number : ℕ
+magic_number = 0x454C49464745534D
+
+-- the value at an offset
+abbrev pub IsValueAt : Memory → ℕ → Value → Type 0
+IsValueAt m at (Numbers k zs) = Has m at (spelled k zs)
+IsValueAt m at (Elements k zs t) = IsVectorAt m at k zs t
+IsValueAt m at (Bytes bs t) = IsTextAt m at bs t
+IsValueAt m at (Pairs k v ps) = IsMapAt m at k v ps
+IsValueAt m at (Texts ps t) = IsTextsAt m at ps t
+
+-- the name, with zeros up to a multiple of 8
+abbrev pub padded_name : List ℕ → List ℕ
+padded_name name = name ++ replicate (padded (length name) - length name) 0
+
+-- two numbers below 2 ^ 32 in a word
+abbrev pub two_halves : ℕ → ℕ → ℕ
+two_halves low high = low + 4294967296 * high
+
+pub record IsObjectAt (m : Memory) (o : Object) : Type 0 where
+  pub kind_count : word_at m (handle o.extent) ≡ two_halves (code_of (kind_of o.value)) (count_of o.value)
+  pub name_class : word_at m (handle o.extent + 8) ≡ two_halves (length o.name) (class_code o.class)
+  pub name : Has m (handle o.extent + 16) (padded_name o.name)
+  pub value : IsValueAt m (handle o.extent + 16 + padded (length o.name)) o.value
+
+abbrev pub handles : List Object → List ℕ
+handles = map (λ (o : Object). handle o.extent)
+
+-- the fields in front of the blocks
+pub record IsHeader (format : ℕ) (m : Memory) (size : ℕ) : Type 0 where
+  pub magic : word_at m 0 ≡ magic_number
+  pub version : word_at m 8 ≡ format
+  pub size_word : word_at m 16 ≡ size
+  pub zeros : AreZero m 80 128
+
+-- The bytes stand for the directory, by a format. What is not spoken of here may be anything.
+pub record Denotes (format : ℕ) (b : List ℕ) (d : Directory) : Type 0 where
+  pub directory : IsDirectory format d
+  pub header : IsHeader format (bytes_of b) d.size
+  pub heap : LaysOut format b (live d)
+  pub named : IsIndexAt (bytes_of b) 32 d.named (handles (named_objects d))
+  pub unique : IsIndexAt (bytes_of b) 56 d.unique (handles (unique_objects d))
+  pub objects : AllByRecursion (IsObjectAt (bytes_of b)) d.objects

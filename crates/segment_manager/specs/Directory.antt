@@ -1,0 +1,204 @@
+-- The directory: which objects a segment has, by handle, with their values and the extents that they use.
+use Rattle.std.specs.Prelude.{ℕ, ◌+◌, ◌*◌, ◌/◌, ℤ, Bool, true, false, ◌&&◌, Option, Some, None, List, [], ◌∷◌, ◌++◌, length, map, filter, find, flat_map, fold, option_to_list, IsTrue, ◌==◌, nat_lt, nat_le, nat_eq, if◌then◌else◌}
+use Rattle.std.specs.List.{list_all}
+use Rattle.std.specs.Cmp.Lexicographic.{pointwise, slice_cmp}
+use Rattle.std.specs.Ordering.{nat_cmp, is_lt}
+use Rattle.block_tags.specs.declared.tile.Role.TheVariants.{Object as ObjectRole, Index, Storage}
+use Rattle.best_fit.specs.Extents.{Extent, LiveSet, handle, is_proper}
+use Rattle.best_fit.specs.Fit.{insert}
+use Rattle.best_fit.specs.Table.{Table, no_table, is_table, serves}
+use Rattle.seg_types.specs.declared.kinds.ScalarKind.{ScalarKind}
+use Rattle.seg_types.specs.declared.kinds.Kind.{Kind}
+use Rattle.seg_types.specs.declared.kinds.Class.{Class}
+use Rattle.seg_types.specs.declared.kinds.Kind.TheVariants.{Scalar, Text, Vector, Map, Texts as TextsKind}
+use Rattle.seg_types.specs.declared.kinds.Class.TheVariants.{Named, Unique}
+use Rattle.seg_types.specs.Kinds.{size_of, is_value, code_of, same_kind, class_code, is_kind_of}
+use Rattle.seg_types.specs.Names.{Key, ByName, ByKind, ByHandle, NoKey, is_name}
+use Rattle.seg_vector.specs.Vector.{OwnedText}
+use Rattle.seg_map.specs.Map.{Pair, is_pair, is_rising}
+
+-- numbers of one kind; a vector; a text; a map, by rising keys; a vector of texts
+pub data Value : Type 0 where
+  Numbers : ScalarKind → List ℤ → Value
+  Elements : ScalarKind → List ℤ → Table → Value
+  Bytes : List ℕ → Table → Value
+  Pairs : ScalarKind → ScalarKind → List Pair → Value
+  Texts : List OwnedText → Table → Value
+
+-- its class, its name, which others than named objects have not, its value, and the block of its own
+pub record Object : Type 0 where
+  pub class : Class
+  pub name : List ℕ
+  pub value : Value
+  pub extent : Extent
+
+-- a size, the objects by offset, and the capacities and blocks of the two indexes
+pub record Directory : Type 0 where
+  pub size : ℕ
+  pub objects : List Object
+  pub named : Table
+  pub unique : Table
+
+-- a segment of a size with nothing in it
+abbrev pub empty : ℕ → Directory
+empty size = record { size = size; objects = []; named = no_table; unique = no_table }
+
+abbrev pub kind_of : Value → Kind
+kind_of (Numbers k zs) = Scalar k
+kind_of (Elements k zs t) = Vector k
+kind_of (Bytes bs t) = Text
+kind_of (Pairs k v ps) = Map k v
+kind_of (Texts ps t) = TextsKind
+
+abbrev pub count_of : Value → ℕ
+count_of (Numbers k zs) = length zs
+count_of (Elements k zs t) = 1
+count_of (Bytes bs t) = 1
+count_of (Pairs k v ps) = 1
+count_of (Texts ps t) = 1
+
+-- the bytes of the value itself: the spellings, or the three words of a container
+abbrev pub value_len : Value → ℕ
+value_len (Numbers k zs) = size_of k * length zs
+value_len (Elements k zs t) = 24
+value_len (Bytes bs t) = 24
+value_len (Pairs k v ps) = 24
+value_len (Texts ps t) = 24
+
+abbrev pub padded : ℕ → ℕ
+padded n = (n + 7) / 8 * 8
+
+-- the payload of an object, up to the end of its value
+abbrev pub object_len : List ℕ → Value → ℕ
+object_len name value = 16 + padded (length name) + value_len value
+
+-- ---- the extents that a directory uses
+
+abbrev pub table_extents : Table → List Extent
+table_extents t = option_to_list t.extent
+
+abbrev pub value_extents : Value → List Extent
+value_extents (Numbers k zs) = []
+value_extents (Elements k zs t) = table_extents t
+value_extents (Bytes bs t) = table_extents t
+value_extents (Pairs k v ps) = map (λ (p : Pair). p.node) ps
+value_extents (Texts ps t) = table_extents t ++ flat_map (λ (p : OwnedText). option_to_list p.extent) ps
+
+abbrev pub extents_of : Object → List Extent
+extents_of o = o.extent ∷ value_extents o.value
+
+abbrev pub sorted : List Extent → List Extent
+sorted [] = []
+sorted (x ∷ xs) = insert x (sorted xs)
+
+-- all of them, by offset
+unfoldable pub live : Directory → LiveSet
+live d = record {
+  size = d.size;
+  extents = sorted (flat_map extents_of d.objects ++ (table_extents d.named ++ table_extents d.unique));
+}
+
+-- ---- objects by key
+
+abbrev pub same_bytes : List ℕ → List ℕ → Bool
+same_bytes = pointwise nat_eq
+
+abbrev pub is_class : Class → Object → Bool
+is_class c o = class_code c == class_code o.class
+
+abbrev pub has_key : Key → Object → Bool
+has_key (ByName name) o = is_class Named o && same_bytes name o.name
+has_key (ByKind k) o = is_class Unique o && same_kind k (kind_of o.value)
+has_key (ByHandle h) o = h == handle o.extent
+has_key NoKey o = false
+
+abbrev pub object_at : Directory → Key → Option Object
+object_at d key = find (has_key key) d.objects
+
+-- the objects with a new one among them, by offset
+abbrev pub put_object : Object → List Object → List Object
+put_object o [] = o ∷ []
+put_object o (p ∷ ps) = if nat_lt o.extent.offset p.extent.offset then o ∷ p ∷ ps else p ∷ put_object o ps
+
+-- without the object of a handle
+abbrev pub remove_object : ℕ → List Object → List Object
+remove_object h [] = []
+remove_object h (p ∷ ps) = if h == handle p.extent then ps else p ∷ remove_object h ps
+
+-- with o in the place of the object of its handle
+abbrev pub replace_object : Object → List Object → List Object
+replace_object o [] = []
+replace_object o (p ∷ ps) = if handle o.extent == handle p.extent then o ∷ ps else p ∷ replace_object o ps
+
+abbrev pub with_object : Directory → Object → Directory
+with_object d o = record d { objects = put_object o d.objects }
+
+abbrev pub with_changed : Directory → Object → Directory
+with_changed d o = record d { objects = replace_object o d.objects }
+
+abbrev pub without_object : Directory → Object → Directory
+without_object d o = record d { objects = remove_object (handle o.extent) d.objects }
+
+-- the objects of an index in its order: by the bytes of their names, by the codes of their kinds
+abbrev pub by_name : Object → Object → Bool
+by_name o p = is_lt (slice_cmp nat_cmp o.name p.name)
+
+abbrev pub by_kind : Object → Object → Bool
+by_kind o p = nat_lt (code_of (kind_of o.value)) (code_of (kind_of p.value))
+
+abbrev pub insert_by : (Object → Object → Bool) → Object → List Object → List Object
+insert_by lt o [] = o ∷ []
+insert_by lt o (p ∷ ps) = if lt o p then o ∷ p ∷ ps else p ∷ insert_by lt o ps
+
+abbrev pub named_objects : Directory → List Object
+named_objects d = fold (λ os o. insert_by by_name o os) [] (filter (is_class Named) d.objects)
+
+abbrev pub unique_objects : Directory → List Object
+unique_objects d = fold (λ os o. insert_by by_kind o os) [] (filter (is_class Unique) d.objects)
+
+-- ---- what makes these parts a directory
+
+abbrev pub rises : (Object → Object → Bool) → List Object → Bool
+rises lt [] = true
+rises lt (o ∷ []) = true
+rises lt (o ∷ p ∷ ps) = lt o p && rises lt (p ∷ ps)
+
+-- a block exactly where there are bytes
+abbrev pub is_owned_text : OwnedText → Bool
+is_owned_text p = elim p.extent [ None ↦ length p.bytes == 0 | Some x ↦ nat_lt 0 (length p.bytes) && serves x Storage (length p.bytes) ]
+
+-- the numbers are of their kind, no vector or text is longer than its capacity, and each block holds what it is for
+abbrev pub is_good_value : Value → Bool
+is_good_value (Numbers k zs) = nat_le 1 (length zs) && nat_le (length zs) 1048576 && list_all (is_value k) zs
+is_good_value (Elements k zs t) = nat_le (length zs) t.capacity && is_table Storage (size_of k) t && list_all (is_value k) zs
+is_good_value (Bytes bs t) = nat_le (length bs) t.capacity && is_table Storage 1 t && list_all (λ b. nat_lt b 256) bs
+is_good_value (Pairs k v ps) = is_rising ps && list_all (is_pair k v) ps
+is_good_value (Texts ps t) = nat_le (length ps) t.capacity && is_table Storage 16 t && list_all is_owned_text ps
+
+abbrev pub has_good_name : ℕ → Object → Bool
+has_good_name format o = if is_class Named o then is_name format o.name else length o.name == 0
+
+-- the kinds and names are those of the format
+abbrev pub is_object : ℕ → Object → Bool
+is_object format o =
+    has_good_name format o && is_kind_of format (kind_of o.value) && is_good_value o.value
+    && serves o.extent ObjectRole (object_len o.name o.value)
+
+-- a full index has as many objects as it has places
+abbrev pub is_index : Table → List Object → (Object → Object → Bool) → Bool
+is_index t os lt = is_table Index 8 t && nat_le (length os) t.capacity && rises lt os
+
+-- the objects stand by offset, from an offset on
+abbrev pub rises_from : ℕ → List Object → Bool
+rises_from n [] = true
+rises_from n (o ∷ os) = nat_le n o.extent.offset && rises_from (o.extent.offset + 1) os
+
+-- A directory whose objects are of a format.
+pub record IsDirectory (format : ℕ) (d : Directory) : Type 0 where
+  -- no two extents meet, and all gaps can be free blocks
+  pub proper : IsTrue (is_proper (live d))
+  pub objects : IsTrue (list_all (is_object format) d.objects)
+  pub by_offset : IsTrue (rises_from 0 d.objects)
+  -- names and kinds differ, since they rise
+  pub named : IsTrue (is_index d.named (named_objects d) by_name)
+  pub unique : IsTrue (is_index d.unique (unique_objects d) by_kind)

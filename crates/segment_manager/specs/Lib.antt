@@ -1,0 +1,6 @@
+pub mod Directory
+pub mod Landed
+pub mod Answers
+pub mod Step
+pub mod Denotes
+pub mod State

@@ -1,0 +1,68 @@
+-- What contracts see of a segment: its bytes, which denote one directory, how it is open, and where it lies.
+use Rattle.std.specs.Prelude.{◌≡◌, ℕ, ℤ, Bool, List, Result, Ok, Err}
+use Rattle.raw_region.specs.Memory.{Cut, SamePlace}
+use Rattle.block_tags.specs.Format.{current}
+use Rattle.seg_types.specs.declared.kinds.ScalarKind.{ScalarKind}
+use Rattle.seg_types.specs.declared.kinds.Kind.{Kind}
+use Rattle.seg_types.specs.declared.refusals.Refusal.{Refusal}
+use Rattle.seg_types.specs.Names.{Key}
+use Rattle.seg_types.specs.Commands.{Command}
+use Rattle.segment_manager.specs.declared.modes.Mode.{Mode}
+use Rattle.segment_manager.specs.Directory.{Directory}
+use Rattle.segment_manager.specs.Landed.{IsLanded}
+use Rattle.segment_manager.specs.Answers.{Answer, Made, Truth, Element, Refused, Done}
+use Rattle.segment_manager.specs.Step.{step, step_of_kind}
+use Rattle.segment_manager.specs.Denotes.{Denotes}
+
+pub record State : Type 0 where
+  pub cut : Cut
+  pub mode : Mode
+
+-- the bytes denote the directory, which is made of what has come so far
+pub record StandsFor (b : List ℕ) (d : Directory) : Type 0 where
+  pub denotes : Denotes current b d
+  pub landed : IsLanded d
+
+abbrev pub IsSegment : List ℕ → Type 0
+IsSegment b = (d : Directory) × StandsFor b d
+
+-- the same segment, but for its bytes
+pub record Stays (old new : State) : Type 0 where
+  pub mode : new.mode ≡ old.mode
+  pub place : SamePlace old.cut new.cut
+
+-- from each directory that the old bytes denote to one that the new bytes denote, with this answer
+pub record Moves (old new : State) (answer : Answer) (next : Directory → Answer × Directory) : Type 0 where
+  pub stays : Stays old new
+  pub answers : (d : Directory) → StandsFor old.cut.bytes d → answer ≡ (next d).0
+  pub denotes : (d : Directory) → StandsFor old.cut.bytes d → StandsFor new.cut.bytes (next d).1
+
+-- the call is one step of the directory machine
+abbrev pub IsStep : State → State → Command → Answer → Type 0
+IsStep old new c answer = Moves old new answer (λ d. step old.mode d c)
+
+-- the same of a call that is for objects of one kind
+abbrev pub IsStepOfKind : State → State → Key → Kind → Command → Answer → Type 0
+IsStepOfKind old new key kind c answer = Moves old new answer (λ d. step_of_kind old.mode d key kind c)
+
+-- a call that changes nothing, and answers as the machine does
+pub record IsReply (s : State) (c : Command) (answer : Answer) : Type 0 where
+  pub answers : (d : Directory) → StandsFor s.cut.bytes d → answer ≡ (step s.mode d c).0
+
+-- ---- what a call's result is as an answer
+
+abbrev pub answer_of : {A : Type 0} → (A → Answer) → Result A Refusal → Answer
+answer_of f (Ok a) = f a
+answer_of f (Err r) = Refused r
+
+abbrev pub handle_answer : Result ℕ Refusal → Answer
+handle_answer = answer_of Made
+
+abbrev pub done_answer : Result (Unit {0}) Refusal → Answer
+done_answer = answer_of (λ u. Done)
+
+abbrev pub truth_answer : Result Bool Refusal → Answer
+truth_answer = answer_of Truth
+
+abbrev pub element_answer : ScalarKind → Result ℤ Refusal → Answer
+element_answer k = answer_of (Element k)

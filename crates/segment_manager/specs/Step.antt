@@ -1,0 +1,382 @@
+-- What each command does: an answer, and the directory after it.
+use Rattle.std.specs.Prelude.{ℕ, ◌-◌, ◌*◌, ℤ, pos, nat_abs, Bool, true, false, ◌&&◌, Option, Some, None, Result, Ok, Err, List, [], ◌∷◌, ◌++◌, length, map, insert, remove, slice_get, slice_set, take, replicate, ◌==◌, nat_lt, nat_le, if◌then◌else◌}
+use Rattle.block_tags.specs.declared.tile.Role.{Role}
+use Rattle.block_tags.specs.declared.tile.Role.TheVariants.{Object as ObjectRole, Index, Storage, Node}
+use Rattle.best_fit.specs.Extents.{Extent, LiveSet, handle, spans, free_bytes}
+use Rattle.best_fit.specs.Fit.{place, resized, regrow}
+use Rattle.best_fit.specs.Table.{Table, no_table, cut_table}
+use Rattle.seg_types.specs.declared.kinds.ScalarKind.{ScalarKind}
+use Rattle.seg_types.specs.declared.kinds.Kind.{Kind}
+use Rattle.seg_types.specs.declared.kinds.Class.{Class}
+use Rattle.seg_types.specs.declared.refusals.Refusal.{Refusal}
+use Rattle.seg_types.specs.declared.kinds.ScalarKind.TheVariants.{U8}
+use Rattle.seg_types.specs.declared.kinds.Class.TheVariants.{Anonymous, Named, Unique}
+use Rattle.seg_types.specs.declared.refusals.Refusal.TheVariants.{ReadOnly, Exists, NotFound, WrongKind, OutOfRange, NoSpace}
+use Rattle.seg_types.specs.Kinds.{size_of, same_kind}
+use Rattle.seg_types.specs.Names.{Key, ByName, ByKind, ByHandle, NoKey}
+use Rattle.seg_types.specs.Commands as asked
+use Rattle.seg_types.specs.Commands.{Command, Content, Literal, value_of_literal, is_changing}
+use Rattle.seg_vector.specs.Vector.{OwnedText, capacity_for_one, capacity_for_text}
+use Rattle.seg_map.specs.Map.{Pair, pair_at, put_pair, remove_pair, node_len}
+use Rattle.seg_index.specs.Index.{grown_capacity}
+use Rattle.segment_manager.specs.declared.modes.Mode.{Mode}
+use Rattle.segment_manager.specs.declared.modes.Mode.TheVariants.{Write, ReadOnly as ReadOnlyMode, CopyOnWrite}
+use Rattle.segment_manager.specs.Directory.{Value, Numbers, Elements, Bytes, Pairs, Texts, Object, Directory, live, object_at, kind_of, count_of, object_len, with_object, with_changed, without_object, named_objects, unique_objects}
+use Rattle.segment_manager.specs.Answers.{Answer, Done, Absent, Truth, Number, Made, Found, Element, TextElement, Shown, Told, Names, Kinds, Blocks, Refused}
+
+-- a block to ask for: a new one, or one in the place of an old one
+pub data Need : Type 0 where
+  New : Role → ℕ → Need
+  Regrown : Option Extent → ℕ → Need
+
+-- What a command does if it is not refused: it asks for its blocks in order, and then it answers and leaves a directory.
+pub data Plan : Type 0 where
+  Refuse : Refusal → Plan
+  Request : Need → (Extent → Plan) → Plan
+  Reply : Answer → Directory → Plan
+
+abbrev pub met : LiveSet → Need → Option Extent
+met l (New role n) = place l n role
+met l (Regrown old n) = regrow l old n
+
+-- Blocks are taken in order. Where one has no fit nothing changes.
+abbrev pub perform : Directory → LiveSet → Plan → Answer × Directory
+perform d l (Refuse r) = (Refused r, d)
+perform d l (Reply answer after) = (answer, after)
+perform d l (Request need next) = elim (met l need) [ None ↦ (Refused NoSpace, d) | Some x ↦ perform d (resized l x) (next x) ]
+
+-- ---- the blocks that commands ask for
+
+-- an index of so many places in a new block
+abbrev pub with_new_index : ℕ → (Table → Plan) → Plan
+with_new_index capacity next = Request (New Index (8 * capacity)) (λ x. next (record { capacity = capacity; extent = Some x }))
+
+-- an index that has so many entries, with a place for one more
+abbrev pub with_place : Table → ℕ → (Table → Plan) → Plan
+with_place t count next = if nat_lt count t.capacity then next t else with_new_index (grown_capacity t.capacity) next
+
+-- the directory with a place in the index of the class
+abbrev pub with_entry : Directory → Class → (Directory → Plan) → Plan
+with_entry d Anonymous next = next d
+with_entry d Named next = with_place d.named (length (named_objects d)) (λ t. next (record d { named = t }))
+with_entry d Unique next = with_place d.unique (length (unique_objects d)) (λ t. next (record d { unique = t }))
+
+-- storage for n elements, if there are any
+abbrev pub with_storage : ℕ → ℕ → (Table → Plan) → Plan
+with_storage each n next = if n == 0 then next no_table else Request (New Storage (each * n)) (λ x. next (record { capacity = n; extent = Some x }))
+
+-- storage for as many as the capacity says: as it is where there are so many places, else regrown
+abbrev pub with_capacity : ℕ → ℕ → Table → (Table → Plan) → Plan
+with_capacity each capacity t next =
+    if nat_le capacity t.capacity then next t
+    else Request (Regrown t.extent (each * capacity)) (λ x. next (record { capacity = capacity; extent = Some x }))
+
+-- ---- construction
+
+abbrev pub class_of : Key → Class
+class_of (ByName name) = Named
+class_of (ByKind kind) = Unique
+class_of (ByHandle h) = Anonymous
+class_of NoKey = Anonymous
+
+abbrev pub name_of : Key → List ℕ
+name_of (ByName name) = name
+name_of (ByKind kind) = []
+name_of (ByHandle h) = []
+name_of NoKey = []
+
+-- the value, but for its storage
+abbrev pub bare : Content → Value
+bare (asked.Numbers k zs) = Numbers k zs
+bare (asked.Elements k zs) = Elements k zs no_table
+bare (asked.Bytes bs) = Bytes bs no_table
+bare (asked.NoPairs k v) = Pairs k v []
+bare (asked.Strings bss) = Texts [] no_table
+
+-- texts in blocks of their own, where they are not empty
+abbrev pub with_owned_text : List ℕ → (OwnedText → Plan) → Plan
+with_owned_text bs next =
+    if length bs == 0 then next (record { bytes = bs; extent = None })
+    else Request (New Storage (length bs)) (λ x. next (record { bytes = bs; extent = Some x }))
+
+abbrev pub with_owned_texts : List (List ℕ) → (List OwnedText → Plan) → Plan
+with_owned_texts [] next = next []
+with_owned_texts (bs ∷ bss) next = with_owned_text bs (λ p. with_owned_texts bss (λ ps. next (p ∷ ps)))
+
+abbrev pub with_value : Content → (Value → Plan) → Plan
+with_value (asked.Numbers k zs) next = next (Numbers k zs)
+with_value (asked.Elements k zs) next = with_storage (size_of k) (length zs) (λ t. next (Elements k zs t))
+with_value (asked.Bytes bs) next = with_storage 1 (length bs) (λ t. next (Bytes bs t))
+with_value (asked.NoPairs k v) next = next (Pairs k v [])
+with_value (asked.Strings bss) next = with_storage 16 (length bss) (λ t. with_owned_texts bss (λ ps. next (Texts ps t)))
+
+-- index, object, storage
+abbrev pub with_new_object : Directory → Key → Content → (Object → Directory → Plan) → Plan
+with_new_object d key content next =
+    with_entry d (class_of key) (λ e.
+    Request (New ObjectRole (object_len (name_of key) (bare content))) (λ x.
+    with_value content (λ v.
+    let o : Object = record { class = class_of key; name = name_of key; value = v; extent = x } in
+    next o (with_object e o))))
+
+-- ---- the parts of a value
+
+abbrev pub items_of : Value → Result (ScalarKind × List ℤ) Refusal
+items_of (Numbers k zs) = Ok (k, zs)
+items_of (Elements k zs t) = Ok (k, zs)
+items_of (Bytes bs t) = Ok (U8, map pos bs)
+items_of (Pairs k v ps) = Err WrongKind
+items_of (Texts ps t) = Err WrongKind
+
+abbrev pub with_items : Value → List ℤ → Value
+with_items (Numbers k old) zs = Numbers k zs
+with_items (Elements k old t) zs = Elements k zs t
+with_items (Bytes old t) zs = Bytes (map nat_abs zs) t
+with_items (Pairs k v ps) zs = Pairs k v ps
+with_items (Texts ps t) zs = Texts [] t
+
+-- the bytes of an element, the length and the storage of a vector or text
+abbrev pub storage_of : Value → Result (ℕ × ℕ × Table) Refusal
+storage_of (Numbers k zs) = Err WrongKind
+storage_of (Elements k zs t) = Ok (size_of k, length zs, t)
+storage_of (Bytes bs t) = Ok (1, length bs, t)
+storage_of (Pairs k v ps) = Err WrongKind
+storage_of (Texts ps t) = Ok (16, length ps, t)
+
+abbrev pub with_table : Value → Table → Value
+with_table (Numbers k zs) u = Numbers k zs
+with_table (Elements k zs t) u = Elements k zs u
+with_table (Bytes bs t) u = Bytes bs u
+with_table (Pairs k v ps) u = Pairs k v ps
+with_table (Texts ps t) u = Texts ps u
+
+abbrev pub vector_of : Value → Result (ScalarKind × List ℤ × Table) Refusal
+vector_of (Numbers k zs) = Err WrongKind
+vector_of (Elements k zs t) = Ok (k, zs, t)
+vector_of (Bytes bs t) = Err WrongKind
+vector_of (Pairs k v ps) = Err WrongKind
+vector_of (Texts ps t) = Err WrongKind
+
+abbrev pub text_of : Value → Result (List ℕ × Table) Refusal
+text_of (Numbers k zs) = Err WrongKind
+text_of (Elements k zs t) = Err WrongKind
+text_of (Bytes bs t) = Ok (bs, t)
+text_of (Pairs k v ps) = Err WrongKind
+text_of (Texts ps t) = Err WrongKind
+
+abbrev pub map_of : Value → Result (ScalarKind × ScalarKind × List Pair) Refusal
+map_of (Numbers k zs) = Err WrongKind
+map_of (Elements k zs t) = Err WrongKind
+map_of (Bytes bs t) = Err WrongKind
+map_of (Pairs k v ps) = Ok (k, v, ps)
+map_of (Texts ps t) = Err WrongKind
+
+abbrev pub element_at : List ℤ → ℕ → Result ℤ Refusal
+element_at zs i = elim (slice_get zs i) [ None ↦ Err OutOfRange | Some z ↦ Ok z ]
+
+-- the values of literals: a wrong form among them comes before a wrong range
+abbrev pub and_then : Result ℤ Refusal → Result (List ℤ) Refusal → Result (List ℤ) Refusal
+and_then (Ok z) (Ok zs) = Ok (z ∷ zs)
+and_then (Ok z) (Err r) = Err r
+and_then (Err WrongKind) zs = Err WrongKind
+and_then (Err r) (Err WrongKind) = Err WrongKind
+and_then (Err r) zs = Err r
+
+abbrev pub values_of : ScalarKind → List Literal → Result (List ℤ) Refusal
+values_of k [] = Ok []
+values_of k (l ∷ ls) = and_then (value_of_literal k l) (values_of k ls)
+
+abbrev pub pair_of : ScalarKind → ScalarKind → Literal → Literal → Result (List ℤ) Refusal
+pair_of k v key value = and_then (value_of_literal k key) (and_then (value_of_literal v value) (Ok []))
+
+-- the one text that a text is assigned
+abbrev pub text_among : List Literal → Result (List ℕ) Refusal
+text_among (asked.Quoted bs ∷ []) = Ok bs
+text_among ls = Err WrongKind
+
+-- ---- the commands
+
+-- go on with what there is, or refuse
+abbrev pub with : {A : Type 0} → Result A Refusal → (A → Plan) → Plan
+with (Ok a) next = next a
+with (Err r) next = Refuse r
+
+abbrev pub found_at : Directory → Key → Result Object Refusal
+found_at d key = elim (object_at d key) [ None ↦ Err NotFound | Some o ↦ Ok o ]
+
+-- the directory with another value of an object
+abbrev pub changed : Directory → Object → Value → Directory
+changed d o v = with_changed d (record o { value = v })
+
+abbrev pub found : Object → Answer
+found o = Found (handle o.extent) (count_of o.value)
+
+-- texts as elements
+abbrev pub text_of_literal : Literal → Result (List ℕ) Refusal
+text_of_literal (asked.Quoted bs) = Ok bs
+text_of_literal l = Err WrongKind
+
+abbrev pub texts_of : List Literal → Result (List (List ℕ)) Refusal
+texts_of [] = Ok []
+texts_of (asked.Quoted bs ∷ ls) = elim (texts_of ls) [ Ok bss ↦ Ok (bs ∷ bss) | Err r ↦ Err r ]
+texts_of (l ∷ ls) = Err WrongKind
+
+abbrev pub owned_text_at : List OwnedText → ℕ → Result OwnedText Refusal
+owned_text_at ps i = elim (slice_get ps i) [ None ↦ Err OutOfRange | Some p ↦ Ok p ]
+
+-- what is assigned to a vector or text: as many places as are needed, where there are fewer
+abbrev pub assign : Directory → Object → Value → List Literal → Plan
+assign d o (Elements k zs t) ls =
+    with (values_of k ls) (λ new. with_capacity (size_of k) (length new) t (λ u. Reply Done (changed d o (Elements k new u))))
+assign d o (Bytes bs t) ls =
+    with (text_among ls) (λ new. with_capacity 1 (length new) t (λ u. Reply Done (changed d o (Bytes new u))))
+assign d o (Texts ps t) [] = Reply Done (changed d o (Texts [] t))
+assign d o (Texts ps t) (l ∷ ls) =
+    with (texts_of (l ∷ ls)) (λ bss. with_storage 16 (length bss) (λ u. with_owned_texts bss (λ qs. Reply Done (changed d o (Texts qs u)))))
+assign d o v ls = Refuse WrongKind
+
+-- the commands on elements
+abbrev pub get : Directory → Value → ℕ → Plan
+get d (Texts ps t) i = with (owned_text_at ps i) (λ p. Reply (TextElement p.bytes) d)
+get d v i = with (items_of v) (λ (k, zs). with (element_at zs i) (λ z. Reply (Element k z) d))
+
+abbrev pub set : Directory → Object → Value → ℕ → Literal → Plan
+set d o (Texts ps t) i l =
+    with (text_of_literal l) (λ bs. with (owned_text_at ps i) (λ old. with_owned_text bs (λ p. Reply Done (changed d o (Texts (slice_set ps i p) t)))))
+set d o v i l =
+    with (items_of v) (λ (k, zs). with (value_of_literal k l) (λ z. with (element_at zs i) (λ old. Reply Done (changed d o (with_items v (slice_set zs i z))))))
+
+abbrev pub push : Directory → Object → Value → Literal → Plan
+push d o (Texts ps t) l =
+    with (text_of_literal l) (λ bs. with_capacity 16 (capacity_for_one (length ps) t.capacity) t (λ u. with_owned_text bs (λ p.
+    Reply Done (changed d o (Texts (ps ++ p ∷ []) u)))))
+push d o v l =
+    with (vector_of v) (λ (k, zs, t). with (value_of_literal k l) (λ z.
+    with_capacity (size_of k) (capacity_for_one (length zs) t.capacity) t (λ u.
+    Reply Done (changed d o (Elements k (zs ++ z ∷ []) u)))))
+
+abbrev pub pop : Directory → Object → Value → Plan
+pop d o (Texts ps t) =
+    with (owned_text_at ps (length ps - 1)) (λ p. Reply (TextElement p.bytes) (changed d o (Texts (take (length ps - 1) ps) t)))
+pop d o v =
+    with (vector_of v) (λ (k, zs, t). with (element_at zs (length zs - 1)) (λ z.
+    Reply (Element k z) (changed d o (Elements k (take (length zs - 1) zs) t))))
+
+abbrev pub insert_at : Directory → Object → Value → ℕ → Literal → Plan
+insert_at d o (Texts ps t) i l =
+    with (text_of_literal l) (λ bs. if nat_lt (length ps) i then Refuse OutOfRange else
+    with_capacity 16 (capacity_for_one (length ps) t.capacity) t (λ u. with_owned_text bs (λ p.
+    Reply Done (changed d o (Texts (insert ps i p) u)))))
+insert_at d o v i l =
+    with (vector_of v) (λ (k, zs, t). with (value_of_literal k l) (λ z.
+    if nat_lt (length zs) i then Refuse OutOfRange else
+    with_capacity (size_of k) (capacity_for_one (length zs) t.capacity) t (λ u.
+    Reply Done (changed d o (Elements k (insert zs i z) u)))))
+
+abbrev pub erase : Directory → Object → Value → ℕ → Plan
+erase d o (Texts ps t) i = with (owned_text_at ps i) (λ p. Reply Done (changed d o (Texts (remove ps i) t)))
+erase d o v i =
+    with (vector_of v) (λ (k, zs, t). with (element_at zs i) (λ z. Reply Done (changed d o (Elements k (remove zs i) t))))
+
+abbrev pub shrunk_indexes : Directory → Directory
+shrunk_indexes d =
+    let e : Directory = record d { named = cut_table (live d) 8 (length (named_objects d)) d.named } in
+    record e { unique = cut_table (live e) 8 (length (unique_objects e)) e.unique }
+
+abbrev pub effect : Directory → Command → Plan
+effect d (asked.Construct key content) = elim (object_at d key) [
+  | Some o ↦ Refuse Exists
+  | None ↦ with_new_object d key content (λ o e. Reply (Made (handle o.extent)) e)
+]
+-- items are taken only after every request was met
+effect d (asked.ConstructIt key k count zs) = elim (object_at d key) [
+  | Some o ↦ Refuse Exists
+  | None ↦ if nat_lt (length zs) count
+      then with_new_object d key (asked.Numbers k (replicate count (pos 0))) (λ o e. Reply (Refused OutOfRange) d)
+      else with_new_object d key (asked.Numbers k (take count zs)) (λ o e. Reply (Made (handle o.extent)) e)
+]
+effect d (asked.Find key kind) = elim (object_at d key) [
+  | None ↦ Reply Absent d
+  | Some o ↦ if same_kind kind (kind_of o.value) then Reply (found o) d else Refuse WrongKind
+]
+effect d (asked.FindOrConstruct key content) = elim (object_at d key) [
+  | None ↦ with_new_object d key content (λ o e. Reply (found o) e)
+  | Some o ↦ if same_kind (kind_of (bare content)) (kind_of o.value) then Reply (found o) d else Refuse WrongKind
+]
+effect d (asked.Destroy key) = elim (object_at d key) [
+  | None ↦ Reply (Truth false) d
+  | Some o ↦ Reply (Truth true) (without_object d o)
+]
+effect d (asked.DestroyPtr h) = with (found_at d (ByHandle h)) (λ o. Reply (Truth true) (without_object d o))
+effect d (asked.Show key) = with (found_at d key) (λ o. Reply (Shown o.value) d)
+effect d (asked.Info key) = with (found_at d key) (λ o. Reply (Told o) d)
+effect d (asked.Get key i) = with (found_at d key) (λ o. get d o.value i)
+effect d (asked.Set key i l) = with (found_at d key) (λ o. set d o o.value i l)
+effect d (asked.Push key l) = with (found_at d key) (λ o. push d o o.value l)
+effect d (asked.Pop key) = with (found_at d key) (λ o. pop d o o.value)
+effect d (asked.Insert key i l) = with (found_at d key) (λ o. insert_at d o o.value i l)
+effect d (asked.Erase key i) = with (found_at d key) (λ o. erase d o o.value i)
+effect d (asked.Reserve key n) =
+    with (found_at d key) (λ o. with (storage_of o.value) (λ (each, len, t). with_capacity each n t (λ u.
+    Reply Done (changed d o (with_table o.value u)))))
+effect d (asked.Shrink key) =
+    with (found_at d key) (λ o. with (storage_of o.value) (λ (each, len, t).
+    Reply Done (changed d o (with_table o.value (cut_table (live d) each len t)))))
+effect d (asked.Clear key) =
+    with (found_at d key) (λ o. with (storage_of o.value) (λ s. Reply Done (changed d o (with_items o.value []))))
+effect d (asked.Assign key ls) = with (found_at d key) (λ o. assign d o o.value ls)
+effect d (asked.Append key more) =
+    with (found_at d key) (λ o. with (text_of o.value) (λ (bs, t).
+    with_capacity 1 (capacity_for_text (length (bs ++ more)) t.capacity) t (λ u.
+    Reply Done (changed d o (Bytes (bs ++ more) u)))))
+effect d (asked.Put key l m) =
+    with (found_at d key) (λ o. with (map_of o.value) (λ (k, v, ps). with (pair_of k v l m) (λ new. put d o k v ps new)))
+  where
+    put : Directory → Object → ScalarKind → ScalarKind → List Pair → List ℤ → Plan
+    put d o k v ps (x ∷ y ∷ []) = elim (pair_at ps x) [
+      | Some p ↦ Reply (Truth false) (changed d o (Pairs k v (put_pair (record p { value = y }) ps)))
+      | None ↦ Request (New Node (node_len k v)) (λ n.
+          Reply (Truth true) (changed d o (Pairs k v (put_pair (record { key = x; value = y; node = n }) ps))))
+    ]
+    put d o k v ps other = Refuse WrongKind
+effect d (asked.Lookup key l) =
+    with (found_at d key) (λ o. with (map_of o.value) (λ (k, v, ps). with (value_of_literal k l) (λ x.
+    elim (pair_at ps x) [ None ↦ Reply Absent d | Some p ↦ Reply (Element v p.value) d ])))
+effect d (asked.Remove key l) =
+    with (found_at d key) (λ o. with (map_of o.value) (λ (k, v, ps). with (value_of_literal k l) (λ x.
+    elim (pair_at ps x) [ None ↦ Reply (Truth false) d | Some p ↦ Reply (Truth true) (changed d o (Pairs k v (remove_pair ps x))) ])))
+effect d asked.ListNames = Reply (Names (named_objects d)) d
+effect d asked.ListKinds = Reply (Kinds (unique_objects d)) d
+effect d asked.ListBlocks = Reply (Blocks (spans (live d))) d
+effect d asked.Size = Reply (Number d.size) d
+effect d asked.Free = Reply (Number (free_bytes (live d))) d
+effect d asked.NumNamed = Reply (Number (length (named_objects d))) d
+effect d asked.NumUnique = Reply (Number (length (unique_objects d))) d
+effect d (asked.ReserveNamed n) =
+    if nat_le n d.named.capacity then Reply Done d else with_new_index n (λ t. Reply Done (record d { named = t }))
+effect d (asked.ReserveUnique n) =
+    if nat_le n d.unique.capacity then Reply Done d else with_new_index n (λ t. Reply Done (record d { unique = t }))
+effect d asked.ShrinkIndexes = Reply Done (shrunk_indexes d)
+-- the bytes that it sets belong to no object
+effect d asked.ZeroFree = Reply Done d
+effect d asked.Sanity = Reply (Truth true) d
+effect d asked.AllDeallocated = Reply (Truth (length (live d).extents == 0)) d
+
+abbrev pub is_read_only : Mode → Bool
+is_read_only Write = false
+is_read_only ReadOnlyMode = true
+is_read_only CopyOnWrite = false
+
+abbrev pub plan : Mode → Directory → Command → Plan
+plan mode d c = if is_read_only mode && is_changing c then Refuse ReadOnly else effect d c
+
+unfoldable pub step : Mode → Directory → Command → Answer × Directory
+unfolding live place regrow cut_table free_bytes
+step mode d c = perform d (live d) (plan mode d c)
+
+-- The step of a call that is for objects of one kind: it refuses those of another.
+unfoldable pub step_of_kind : Mode → Directory → Key → Kind → Command → Answer × Directory
+unfolding live place regrow cut_table free_bytes
+step_of_kind mode d key kind c =
+    perform d (live d) (if is_read_only mode && is_changing c then Refuse ReadOnly else
+    with (found_at d key) (λ o. if same_kind kind (kind_of o.value) then effect d c else Refuse WrongKind))

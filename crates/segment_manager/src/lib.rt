@@ -1,0 +1,9 @@
+//! A segment: typed objects under names in one run of bytes, after Boost.Interprocess's managed memory segments.
+//!
+//! What a segment holds is a directory, a finite map from handles to objects with their values and blocks. Each call
+//! is one step of the directory machine: from the directory that the bytes denote to the one that they denote then.
+#![tactic(auto)]
+
+mod modes;
+
+pub use modes::Mode;

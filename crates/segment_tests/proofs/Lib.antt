@@ -1,0 +1,6 @@
+mod Scripts
+mod Readings
+mod ZeroBytes
+mod Images
+mod ImageClasses
+mod HeapCalls

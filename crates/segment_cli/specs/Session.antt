@@ -1,5 +1,5 @@
 -- What a session owes: what it prints and saves, and what each fault leaves.
-use Rattle.std.specs.Prelude.{◌≡◌, ◌⊎◌, ◌<◌, ◌≤◌, ℕ, ◌+◌, Bool, true, false, ◌||◌, List, [], ◌∷◌, ◌++◌, length, take, IsTrue, ◌==◌, nat_lt, Result, Err, MatchResult, if◌then◌else◌}
+use Rattle.std.specs.Prelude.{◌≡◌, ◌⊎◌, ◌<◌, ◌≤◌, ℕ, ◌+◌, Bool, true, false, ◌||◌, ◌&&◌, ⊤, nat_le, List, [], ◌∷◌, ◌++◌, length, take, IsTrue, ◌==◌, nat_lt, Result, Err, MatchResult, if◌then◌else◌}
 use Rattle.raw_region.specs.Device.{Given, Taken, IsProperPrefix}
 use Rattle.best_fit.specs.Extents.{is_legal_size}
 use Rattle.segment_manager.specs.declared.modes.Mode.{Mode}
@@ -33,10 +33,15 @@ pub record IsUntouched (image : Given) : Type 0 where
   pub bytes : image.bytes ≡ []
   pub failed : image.failed ≡ false
 
+-- where a segment is made fresh, the image's reader is not asked
+abbrev pub IsImageLeft : Start → Given → Type 0
+IsImageLeft (Fresh size) image = IsUntouched image
+IsImageLeft Image image = ⊤
+
 -- an empty directory of a fresh size, or the one that the image denotes, which was read to its end
 abbrev pub Begins : Start → Given → Directory → Type 0
-Begins (Fresh size) image d = IsTrue (is_legal_size size) × (d ≡ empty size) × IsUntouched image
-Begins Image image d = (image.ended ≡ true) × (image.failed ≡ false) × StandsFor image.bytes d
+Begins (Fresh size) image d = IsTrue (is_legal_size size) × (d ≡ empty size)
+Begins Image image d = (image.ended ≡ true) × StandsFor image.bytes d
 
 abbrev pub IsSizeRefused : Start → Type 0
 IsSizeRefused (Fresh size) = is_legal_size size ≡ false
@@ -95,9 +100,11 @@ pub record IsCut (start : Start) (mode : Mode) (t : Traffic) : Type 0 where
   pub prints : t.out.bytes ≡ (run landed mode from (whole_lines (take script_limit t.script.bytes))).0
   pub saves : t.saved.bytes ≡ []
 
--- the lines that may be executed: those that ended within the limit and, where the script ended, the last one
+-- the lines that may be executed: those that ended within the limit and, where the script ended within it, the last one
 abbrev pub executable : Given → List (List ℕ)
-executable script = if script.ended then lines (take script_limit script.bytes) else lines (whole_lines (take script_limit script.bytes))
+executable script =
+    if script.ended && nat_le (length script.bytes) script_limit then lines script.bytes
+    else lines (whole_lines (take script_limit script.bytes))
 
 -- lines were answered, and of the answer to the next a proper prefix went out; nothing is saved
 pub record IsCutInAnswer (start : Start) (mode : Mode) (t : Traffic) : Type 0 where
@@ -129,10 +136,12 @@ pub record IsImageUnread (start : Start) (t : Traffic) : Type 0 where
   pub image : start ≡ Image
   pub undecided : IsUndecided t.image
   pub silent : IsSilent t
+  pub script : t.script.bytes ≡ []
   pub failed : failures t ≡ record none_failed { image = true }
 
 -- the script's reader failed
 pub record IsScriptUnread (start : Start) (mode : Mode) (t : Traffic) : Type 0 where
+  pub within : length t.script.bytes ≤ script_limit
   pub cut : IsCut start mode t
   pub failed : failures t ≡ record none_failed { script = true }
 
@@ -173,6 +182,7 @@ AnswersFault start mode base capacity t ScriptTooLong = IsScriptTooLong start mo
 -- The headline, for one session.
 pub record IsSession (start : Start) (mode : Mode) (base capacity : ℕ) (t : Traffic) (result : Result (Unit {0}) SessionFault) : Type 0 where
   pub answers : MatchResult result (λ u. IsDone start mode t) (AnswersFault start mode base capacity t)
+  pub left : IsImageLeft start t.image
   -- these two are answered wherever they apply
   pub bad_size : IsSizeRefused start → result ≡ Err BadSize
   pub too_small : IsTooSmall start t.image base capacity → result ≡ Err RegionTooSmall

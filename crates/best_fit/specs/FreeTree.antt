@@ -3,7 +3,8 @@ use Rattle.std.specs.Prelude.{◌≡◌, ℕ, zero, suc, ◌+◌, ◌-◌, ◌/�
 use Rattle.raw_region.specs.Memory.{Memory, word_at}
 use Rattle.offset_link.specs.Link.{link_at}
 use Rattle.link_tree.specs.Tree.{Cell, Tree, nodes_of, IsTree, IsRedBlack}
-use Rattle.block_tags.specs.Tiles.{Tile, has_tags, tiles_of}
+use Rattle.block_tags.specs.Tiles.{has_tags, tiles_of}
+use Rattle.block_tags.specs.declared.tile.Tile.{Tile}
 use Rattle.best_fit.specs.Extents.{LiveSet, Gap, Span, spans, gaps}
 use Rattle.best_fit.specs.Fit.{precedes}
 

@@ -3,7 +3,8 @@ use Rattle.std.specs.Prelude.{◌≡◌, ℕ, ◌+◌, ◌%◌, min, Bool, ◌&&
 use Rattle.std.specs.List.{AllByRecursion, list_any}
 use Rattle.raw_region.specs.Memory.{Memory, Cut, Same, SameBut, SamePlace, bytes_of, word_at}
 use Rattle.block_tags.specs.declared.tile.Role.{Role}
-use Rattle.block_tags.specs.Tiles.{Tile, tiles_of}
+use Rattle.block_tags.specs.Tiles.{tiles_of}
+use Rattle.block_tags.specs.declared.tile.Tile.{Tile}
 use Rattle.best_fit.specs.Extents.{Extent, LiveSet, handle, end_of, holds, is_proper}
 use Rattle.best_fit.specs.Fit.{place, added, others, released, resized}
 use Rattle.best_fit.specs.FreeTree.{IsTiled, IsFreeTree}

@@ -2,14 +2,8 @@
 use Rattle.std.specs.Prelude.{◌≡◌, ℕ, zero, suc, ◌+◌, ◌-◌, ◌*◌, ◌%◌, Bool, true, false, ◌&&◌, ◌||◌, not, Option, Some, None, List, [], ◌∷◌, IsTrue, ◌==◌, nat_le, nat_lt, ◌/◌, ◌<◌, ◌^◌, if◌then◌else◌, is_none}
 use Rattle.raw_region.specs.Memory.{Memory, word_at}
 use Rattle.block_tags.specs.declared.tile.Role.{Role}
+use Rattle.block_tags.specs.declared.tile.Tile.{Tile}
 use Rattle.block_tags.specs.declared.tile.Role.TheVariants.{Object, Index, Storage, Node}
-
--- where a tile begins, how many bytes it has with its tags, what it is used for (nothing where it is free), and its colour
-pub record Tile : Type 0 where
-  pub offset : ℕ
-  pub len : ℕ
-  pub use_of : Option Role
-  pub red : Bool
 
 -- the lowest four bits of a tile's second word
 abbrev pub role_bits : Role → ℕ
@@ -68,16 +62,19 @@ is_merged (t ∷ u ∷ ts) = not (is_free t && is_free u) && is_merged (u ∷ ts
 abbrev pub role_of_bits : ℕ → Role
 role_of_bits b = if b == 0 then Object else if b == 4 then Index else if b == 8 then Storage else Node
 
--- the tile that the second word at an offset says
-abbrev pub tile_at : Memory → ℕ → Tile
-tile_at m at =
-    let w = word_at m (at + 8) in
+-- the tile at an offset whose second word is w
+abbrev pub tile_of_word : ℕ → ℕ → Tile
+tile_of_word at w =
     record {
       offset = at;
       len = w / 16 * 16;
       use_of = if w % 2 == 0 then None else Some (role_of_bits (w % 16 / 4 * 4));
       red = (w / 2 % 2 == 1);
     }
+
+-- the tile that the second word at an offset says
+abbrev pub tile_at : Memory → ℕ → Tile
+tile_at m at = tile_of_word at (word_at m (at + 8))
 
 -- at most so many tiles from an offset on
 abbrev pub tiles_from : ℕ → Memory → ℕ → ℕ → List Tile

@@ -1,7 +1,22 @@
 //! Tiles: the parts that fill a segment from its header to its end tag, and the boundary tags (Knuth, The Art of
 //! Computer Programming, volume 1, section 2.5) that say where each begins, how long it is and what it is used for.
+//!
+//! The calls are functions of a `Window`, which the caller owns: the tags are all that there is of a tile, and no value
+//! of this crate's stands beside them.
 #![tactic(auto)]
 
+mod changing;
+mod checking;
+mod ends;
+pub mod laws;
+mod reading;
+#[cfg(test)]
+mod tests;
 mod tile;
+mod words;
 
-pub use tile::{BadTag, Role};
+pub use changing::{merge_next, set_red, set_use, split};
+pub use checking::check;
+pub use ends::{append_free, drop_last, lay};
+pub use reading::{first, next, previous, red, tile_at};
+pub use tile::{BadTag, Role, Tile};

@@ -1,4 +1,4 @@
-//! What a tile is used for, and the one refusal of this crate.
+//! A tile, what it is used for, and the one refusal of this crate.
 
 use thiserror::Error;
 
@@ -13,6 +13,19 @@ pub enum Role {
     Storage,
     /// A pair of an ordered map.
     Node,
+}
+
+/// A part of a segment: its payload, and the tag of 16 bytes in front of it.
+#[derive(Clone, Copy, Debug, PartialEq, Eq)]
+pub struct Tile {
+    /// Where the tag begins, in bytes from the segment's start: a multiple of 16.
+    pub offset: u64,
+    /// The number of bytes with the tag: a multiple of 16, at least 32.
+    pub len: u64,
+    /// What the payload is for, or nothing where the tile is free.
+    pub use_of: Option<Role>,
+    /// The tile's colour in a tree of tiles, red or black.
+    pub red: bool,
 }
 
 /// The bytes between the header and the end of a window are not filled by tiles with whole tags.

@@ -9,8 +9,10 @@ use Rattle.offset_link.specs.Link.{link_at}
 use Rattle.link_tree.specs.Tree.{nodes_of, tree_from, is_red_black}
 use Rattle.block_tags.specs.declared.tile.Role.{Role}
 use Rattle.block_tags.specs.declared.tile.Role.TheVariants.{Object, Index, Storage, Node}
-use Rattle.block_tags.specs.Tiles.{Tile, tiles_of, has_tags, is_free}
-use Rattle.best_fit.specs.Extents.{Gap, is_legal_size}
+use Rattle.block_tags.specs.Tiles.{tiles_of, has_tags, is_free}
+use Rattle.block_tags.specs.declared.tile.Tile.{Tile}
+use Rattle.best_fit.specs.Extents.{Gap}
+use Rattle.block_tags.specs.Format.{is_legal_size}
 use Rattle.best_fit.specs.FreeTree.{cells_of, sorted_gaps, payloads}
 use Rattle.best_fit.specs.Table.{same_role}
 use Rattle.seg_types.specs.declared.kinds.ScalarKind.{ScalarKind}

@@ -1,3 +1,5 @@
 pub mod Classes
 pub mod Meaning
 pub mod Opening
+pub mod LandedImages
+pub mod Deciding

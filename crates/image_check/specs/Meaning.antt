@@ -6,7 +6,7 @@ use Rattle.offset_link.specs.Link.{link_at}
 use Rattle.link_tree.specs.Tree.{Tree, nodes_of, IsTree, IsRedBlack}
 use Rattle.block_tags.specs.declared.tile.Role.{Role}
 use Rattle.block_tags.specs.declared.tile.Role.TheVariants.{Index, Storage, Node}
-use Rattle.block_tags.specs.Tiles.{Tile}
+use Rattle.block_tags.specs.declared.tile.Tile.{Tile}
 use Rattle.best_fit.specs.FreeTree.{cells_of, IsTreeOf}
 use Rattle.seg_types.specs.declared.kinds.ScalarKind.{ScalarKind}
 use Rattle.seg_types.specs.declared.kinds.ScalarKind.TheVariants.{U8}

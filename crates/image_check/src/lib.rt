@@ -3,5 +3,6 @@
 #![tactic(auto)]
 
 mod classes;
+pub mod laws;
 
 pub use classes::ImageClass;

@@ -1,1 +1,3 @@
 pub mod Link
+pub mod Relinked
+pub mod Moves

@@ -1,2 +1,11 @@
-//! Links that store the distance from their own offset to their target.
+//! Links that store the distance from their own offset to their target, so that they hold wherever
+//! the window lies. The distance 1 is null.
 #![tactic(auto)]
+
+mod link;
+mod moves;
+#[cfg(test)]
+mod tests;
+
+pub use link::{BadLink, checked, copy, load, store, store_null};
+pub use moves::{Places, are_links, shift};

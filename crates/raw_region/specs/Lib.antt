@@ -1,2 +1,10 @@
 pub mod Memory
 pub mod Device
+pub mod Ownership
+pub mod Loans
+pub mod Regions
+pub mod Lent
+pub mod LentWindow
+pub mod LentTwo
+pub mod Answers
+pub mod Streams

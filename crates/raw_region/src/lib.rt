@@ -1,2 +1,20 @@
 //! Raw memory of a fixed size, windows of it, and the readers and writers that the crates above are given.
 #![tactic(auto)]
+
+mod block;
+pub mod device;
+pub mod fake;
+mod history;
+mod region;
+mod slices;
+mod steps;
+pub mod stream;
+#[cfg(test)]
+mod tests;
+mod window;
+
+pub use device::{DeviceFault, Sink, Source, fill, write_all};
+pub use region::{OutOfMemory, RawRegion, Span, apart, two_mut};
+pub use slices::{set_word_in, word_in};
+pub use steps::Steps;
+pub use window::Window;

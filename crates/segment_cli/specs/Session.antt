@@ -1,7 +1,7 @@
 -- What a session owes: what it prints and saves, and what each fault leaves.
 use Rattle.std.specs.Prelude.{◌≡◌, ◌⊎◌, ◌<◌, ◌≤◌, ℕ, ◌+◌, Bool, true, false, ◌||◌, ◌&&◌, ⊤, nat_le, List, [], ◌∷◌, ◌++◌, length, take, IsTrue, ◌==◌, nat_lt, Result, Err, MatchResult, if◌then◌else◌}
 use Rattle.raw_region.specs.Device.{Given, Taken, IsProperPrefix}
-use Rattle.best_fit.specs.Extents.{is_legal_size}
+use Rattle.block_tags.specs.Format.{is_legal_size}
 use Rattle.segment_manager.specs.declared.modes.Mode.{Mode}
 use Rattle.segment_manager.specs.declared.modes.Mode.TheVariants.{Write, ReadOnly as ReadOnlyMode, CopyOnWrite}
 use Rattle.segment_manager.specs.Directory.{Directory, empty}

@@ -2,3 +2,8 @@ pub mod Words
 pub mod Texts
 pub mod Language
 pub mod Reading
+pub mod Tokens
+pub mod Arguments
+pub mod Seen
+pub mod Laws
+pub mod Pieces

@@ -4,3 +4,4 @@ pub mod Answers
 pub mod Step
 pub mod Denotes
 pub mod State
+pub mod Laws

@@ -4,6 +4,7 @@
 //! is one step of the directory machine: from the directory that the bytes denote to the one that they denote then.
 #![tactic(auto)]
 
+pub mod laws;
 mod modes;
 
 pub use modes::Mode;

@@ -2,7 +2,8 @@
 use Rattle.std.proofs.Common.{◌≡◌, refl, ℕ, pos, [], ◌∷◌, Some, None, false, map, find, option_map, codes}
 use Rattle.std.specs.Prelude.{◌==◌}
 use Rattle.block_tags.specs.declared.tile.Role.TheVariants.{Object, Index}
-use Rattle.block_tags.specs.Tiles.{Tile, tiles_of}
+use Rattle.block_tags.specs.Tiles.{tiles_of}
+use Rattle.block_tags.specs.declared.tile.Tile.{Tile}
 use Rattle.raw_region.specs.Memory.{bytes_of, word_at, word_bytes, zeros}
 use Rattle.best_fit.specs.Extents.{Extent, LiveSet, handle, gaps, free_bytes}
 use Rattle.best_fit.specs.Fit.{place, longer, shorter, added, released, resized}

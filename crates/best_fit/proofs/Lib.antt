@@ -1,0 +1,9 @@
+pub mod Allocated
+pub mod Changes
+pub mod Frames
+pub mod Gaps
+pub mod LayOut
+pub mod Maximal
+pub mod Order
+pub mod Placing
+pub mod Proper

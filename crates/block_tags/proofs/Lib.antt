@@ -1,0 +1,12 @@
+pub mod ReadOff
+pub mod WordLemmas
+pub mod Standing
+pub mod Saying
+pub mod Changes
+pub mod Cutting
+pub mod Joining
+pub mod Limits
+pub mod Walk
+pub mod Lists
+pub mod Stays
+pub mod Fresh

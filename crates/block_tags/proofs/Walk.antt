@@ -1,0 +1,194 @@
+-- The tags of a window, tested one tile after the other.
+use Rattle.std.proofs.Common.{◌≢◌, Some, None, is_some, is_none, ◌≡◌, refl, sym, ap, subst, ◌∙◌, ℕ, zero, suc, ◌+◌, ◌-◌, ◌*◌, ◌/◌, ◌<◌, ◌≤◌, Bool, true, false, List, [], ◌∷◌, arith, nat_lt, nat_le, ◌&&◌, not, IsTrue, ◌==◌}
+use Rattle.std.specs.Prelude.{Option}
+use mathlib.Core.Bool.{true≢false}
+use Rattle.std.proofs.lemmas.Bool.{eq-eqb}
+use Rattle.raw_region.specs.Memory.{Memory, word_at}
+use Rattle.block_tags.specs.declared.tile.Role.{Role}
+use Rattle.block_tags.specs.declared.tile.Tile.{Tile}
+use Rattle.block_tags.specs.Format.{current, is_legal_size}
+use Rattle.block_tags.specs.Tiles.{is_tile, is_free, is_merged, tag_word, tile_at, tiles_from, tiles_of, are_tags, has_tags}
+use Rattle.block_tags.specs.Checks.{is_good_tile, is_tagged}
+use Rattle.std.proofs.lemmas.Bool.{and_parts}
+use Rattle.block_tags.proofs.ReadOff.{is_tile-IsWhole}
+use Rattle.block_tags.proofs.Saying.{legal}
+
+-- no two free tiles side by side, behind one that is free or not
+merged_after : Bool → List Tile → Bool
+merged_after free [] = true
+merged_after free (t ∷ ts) = not (free && is_free t) && merged_after (is_free t) ts
+
+merged_behind : (t : Tile) (ts : List Tile) → is_merged (t ∷ ts) ≡ merged_after (is_free t) ts
+unfolding merged_after
+merged_behind t [] = refl
+merged_behind t (u ∷ ts) = ap (λ (b : Bool). not (is_free t && is_free u) && b) (merged_behind u ts)
+
+is_merged-after : (ts : List Tile) → is_merged ts ≡ merged_after false ts
+unfolding merged_after
+is_merged-after [] = refl
+is_merged-after (t ∷ ts) = merged_behind t ts
+
+-- the test of all tiles from an offset on, at most so many
+from_here : ℕ → Memory → ℕ → ℕ → Bool → ℕ → Bool
+from_here more m at before free end = are_tags current m at before (tiles_from more m at end) end && merged_after free (tiles_from more m at end)
+
+regrouped : (i w g l n r k : Bool) → (l ≡ false → r ≡ false) → (i && w && g && r) && (n && k) ≡ (w && l && (i && g) && n) && (r && k)
+regrouped false false g l n r k h = refl
+regrouped false true g false n r k h = refl
+regrouped false true g true n r k h = refl
+regrouped true false g l n r k h = refl
+regrouped true true false false n r k h = refl
+regrouped true true false true n r k h = refl
+regrouped true true true false n false k h = refl
+regrouped true true true false n true k h = absurd (true≢false (h refl))
+regrouped true true true true true r k h = refl
+regrouped true true true true false false k h = refl
+regrouped true true true true false true k h = refl
+
+-- tiles end at the end of the tags, and not beyond
+not_beyond : (more : ℕ) (m : Memory) (at before end : ℕ) → end < at → are_tags current m at before (tiles_from more m at end) end ≡ false
+not_beyond zero m at before end h = let e : (at == end) ≡ false = grind arith in ap (λ (b : Bool). b && (word_at m at == before) && (word_at m (at + 8) == 1)) e
+not_beyond (suc more) m at before end h =
+    let l : nat_lt at end ≡ false = grind arith in
+    let e : (at == end) ≡ false = grind arith in
+    ap (λ (b : Bool). are_tags current m at before (elim b [ false ↦ [] | true ↦ let t : Tile = tile_at m at in t ∷ tiles_from more m (at + t.len) end ]) end) l
+    ∙ ap (λ (b : Bool). b && (word_at m at == before) && (word_at m (at + 8) == 1)) e
+
+-- one tile is tested, and then the others
+one_more : (more : ℕ) (m : Memory) (at before : ℕ) (free : Bool) (end : ℕ) → at < end
+    → from_here (suc more) m at before free end ≡ (is_good_tile current m at before free end && from_here more m (at + (tile_at m at).len) (tile_at m at).len (is_free (tile_at m at)) end)
+unfolding from_here merged_after is_good_tile
+one_more more m at before free end h =
+    let t : Tile = tile_at m at in
+    let l : nat_lt at end ≡ true = grind arith in
+    let o : (at == at) ≡ true = eq-eqb at at refl in
+    let rest : List Tile = tiles_from more m (at + (tile_at m at).len) end in
+    let late : nat_le (tile_at m at).len (end - at) ≡ false → end < at + (tile_at m at).len = λ e. grind arith in
+    ap (λ (b : Bool). let ts : List Tile = elim b [ false ↦ [] | true ↦ let t : Tile = tile_at m at in t ∷ tiles_from more m (at + t.len) end ] in are_tags current m at before ts end && merged_after free ts) l
+    ∙ ap (λ (b : Bool). (b && is_tile current t && (word_at m at == before) && (word_at m (at + 8) == tag_word t) && are_tags current m (at + t.len) t.len rest end)
+    && (not (free && is_free t) && merged_after (is_free t) rest)) o
+    ∙ regrouped (is_tile current t) (word_at m at == before) (word_at m (at + 8) == tag_word t) (nat_le t.len (end - at)) (not (free && is_free t))
+    (are_tags current m (at + t.len) t.len rest end) (merged_after (is_free t) rest) (λ e. not_beyond more m (at + t.len) t.len end (late e))
+
+-- ---- where the loop stands
+pub record Walking (m : Memory) (size end at before : ℕ) (free : Bool) : Type 0 where
+  pub is : end ≡ size - 16
+  pub reach : at ≤ end
+  more : ℕ
+  enough : end < at + 32 * more + 32
+  same : has_tags current m size ≡ from_here more m at before free end
+
+pub starts : (m : Memory) (size end : ℕ) → IsTrue (is_legal_size size) → end ≡ size - 16 → Walking m size end 128 0 false
+unfolding from_here
+starts m size end h e =
+    let g = legal size h in let low = g.low in
+    let P : ℕ → Type 0 = λ (k : ℕ). Walking m size k 128 0 false in
+    subst P (sym e) (record {
+      is = refl;
+      reach = omega arith;
+      more = size / 32;
+      enough = omega arith;
+      same = ap (λ (b : Bool). are_tags current m 128 0 (tiles_of m size) (size - 16) && b) (is_merged-after (tiles_of m size));
+    })
+
+bad_here : (more : ℕ) (m : Memory) (at before : ℕ) (free : Bool) (end : ℕ) → at < end → is_good_tile current m at before free end ≡ false → from_here more m at before free end ≡ false
+unfolding from_here
+bad_here zero m at before free end h b =
+    let e : (at == end) ≡ false = grind arith in ap (λ (b : Bool). (b && (word_at m at == before) && (word_at m (at + 8) == 1)) && merged_after free []) e
+bad_here (suc more) m at before free end h b =
+    one_more more m at before free end h ∙ ap (λ (c : Bool). c && from_here more m (at + (tile_at m at).len) (tile_at m at).len (is_free (tile_at m at)) end) b
+
+-- a bad tag
+pub stops : (m : Memory) (size end at before : ℕ) (free : Bool) → Walking m size end at before free → at < end → is_good_tile current m at before free end ≡ false → has_tags current m size ≡ false
+stops m size end at before free w h b = w.same ∙ bad_here w.more m at before free end h b
+
+-- a good one
+pub record GoesOn (m : Memory) (size end at : ℕ) (t : Tile) : Type 0 where
+  pub long : 32 ≤ t.len
+  pub inside : t.len ≤ end - at
+  pub next : Walking m size end (at + t.len) t.len (is_free t)
+
+is_long : (m : Memory) (at before : ℕ) (free : Bool) (end : ℕ) → is_good_tile current m at before free end ≡ true → 32 ≤ (tile_at m at).len
+unfolding is_good_tile
+is_long m at before free end g =
+    let t : Tile = tile_at m at in
+    let most : IsTrue ((word_at m at == before) && nat_le t.len (end - at) && is_tagged current t (word_at m (at + 8))) = (and_parts ((word_at m at == before) && nat_le t.len (end - at) && is_tagged current t (word_at m (at + 8))) (not (free && is_free t)) g).0 in
+    let tagged : IsTrue (is_tagged current t (word_at m (at + 8))) = (and_parts ((word_at m at == before) && nat_le t.len (end - at)) (is_tagged current t (word_at m (at + 8))) most).1 in
+    (is_tile-IsWhole current t (and_parts (is_tile current t) (word_at m (at + 8) == tag_word t) tagged).0).long
+
+is_inside : (m : Memory) (at before : ℕ) (free : Bool) (end : ℕ) → is_good_tile current m at before free end ≡ true → (tile_at m at).len ≤ end - at
+unfolding is_good_tile
+is_inside m at before free end g =
+    let t : Tile = tile_at m at in
+    let most : IsTrue ((word_at m at == before) && nat_le t.len (end - at) && is_tagged current t (word_at m (at + 8))) = (and_parts ((word_at m at == before) && nat_le t.len (end - at) && is_tagged current t (word_at m (at + 8))) (not (free && is_free t)) g).0 in
+    let front : IsTrue ((word_at m at == before) && nat_le t.len (end - at)) = (and_parts ((word_at m at == before) && nat_le t.len (end - at)) (is_tagged current t (word_at m (at + 8))) most).0 in
+    let fits : IsTrue (nat_le t.len (end - at)) = (and_parts (word_at m at == before) (nat_le t.len (end - at)) front).1 in
+    grind arith
+
+onward : (more : ℕ) (m : Memory) (size end at before : ℕ) (free : Bool) → end ≡ size - 16 → end < at + 32 * more + 32 → has_tags current m size ≡ from_here more m at before free end
+    → at < end → is_good_tile current m at before free end ≡ true → Walking m size end (at + (tile_at m at).len) (tile_at m at).len (is_free (tile_at m at))
+onward zero m size end at before free is enough same h g =
+    let long = is_long m at before free end g in let inside = is_inside m at before free end g in absurd (omega arith)
+onward (suc more) m size end at before free is enough same h g =
+    let long = is_long m at before free end g in let inside = is_inside m at before free end g in
+    record {
+      is = is;
+      reach = omega arith;
+      more = more;
+      enough = omega arith;
+      same = same ∙ one_more more m at before free end h ∙ ap (λ (c : Bool). c && from_here more m (at + (tile_at m at).len) (tile_at m at).len (is_free (tile_at m at)) end) g;
+    }
+
+pub goes_on : (m : Memory) (size end at before : ℕ) (free : Bool) → Walking m size end at before free → at < end → is_good_tile current m at before free end ≡ true
+    → (t : Tile) → t ≡ tile_at m at → GoesOn m size end at t
+goes_on m size end at before free w h g t e =
+    let P : Tile → Type 0 = λ (u : Tile). GoesOn m size end at u in
+    subst P (sym e) (record {
+      long = is_long m at before free end g;
+      inside = is_inside m at before free end g;
+      next = onward w.more m size end at before free w.is w.enough w.same h g;
+    })
+
+and_true : (b : Bool) → (b && true) ≡ b
+and_true true = refl
+and_true false = refl
+
+end_here : (more : ℕ) (m : Memory) (at before : ℕ) (free : Bool) → from_here more m at before free at ≡ ((word_at m at == before) && (word_at m (at + 8) == 1))
+unfolding from_here merged_after
+end_here zero m at before free =
+    ap (λ (b : Bool). (b && (word_at m at == before) && (word_at m (at + 8) == 1)) && true) (eq-eqb at at refl) ∙ and_true ((word_at m at == before) && (word_at m (at + 8) == 1))
+end_here (suc more) m at before free =
+    let l : nat_lt at at ≡ false = grind arith in
+    ap (λ (b : Bool). let ts : List Tile = elim b [ false ↦ [] | true ↦ let t : Tile = tile_at m at in t ∷ tiles_from more m (at + t.len) at ] in are_tags current m at before ts at && merged_after free ts) l
+    ∙ ap (λ (b : Bool). (b && (word_at m at == before) && (word_at m (at + 8) == 1)) && true) (eq-eqb at at refl) ∙ and_true ((word_at m at == before) && (word_at m (at + 8) == 1))
+
+-- the end tag
+pub ends : (m : Memory) (size end at before : ℕ) (free : Bool) → Walking m size end at before free → end ≤ at → has_tags current m size ≡ ((word_at m end == before) && (word_at m (end + 8) == 1))
+ends m size end at before free w h =
+    let reach = w.reach in let e : at ≡ end = omega arith in
+    w.same ∙ ap (λ (k : ℕ). from_here w.more m k before free end) e ∙ end_here w.more m end before free
+
+module _ (m : Memory) (size end at before : ℕ) (free : Bool) (w : Walking m size end at before free) (h : end ≤ at) (x : ℕ) (e : x ≡ word_at m end) where
+  pub ends_short : x ≢ before → false ≡ has_tags current m size
+  ends_short n =
+      let f : (word_at m end == before) ≡ false = grind arith in
+      sym (ends m size end at before free w h ∙ ap (λ (b : Bool). b && (word_at m (end + 8) == 1)) f)
+
+  pub ends_unmarked : x ≡ before → (y : ℕ) → y ≡ word_at m (end + 8) → y ≢ 1 → false ≡ has_tags current m size
+  ends_unmarked n y f o =
+      let g : (word_at m end == before) ≡ true = eq-eqb (word_at m end) before (sym e ∙ n) in
+      let k : (word_at m (end + 8) == 1) ≡ false = grind arith in
+      sym (ends m size end at before free w h ∙ ap (λ (b : Bool). b && (word_at m (end + 8) == 1)) g ∙ k)
+
+  pub ends_well : x ≡ before → (y : ℕ) → y ≡ word_at m (end + 8) → y ≡ 1 → true ≡ has_tags current m size
+  ends_well n y f o =
+      let g : (word_at m end == before) ≡ true = eq-eqb (word_at m end) before (sym e ∙ n) in
+      let k : (word_at m (end + 8) == 1) ≡ true = eq-eqb (word_at m (end + 8)) 1 (sym f ∙ o) in
+      sym (ends m size end at before free w h ∙ ap (λ (b : Bool). b && (word_at m (end + 8) == 1)) g ∙ k)
+
+-- nothing is there exactly where something is not
+pub none_of : (o : Option Role) (b : Bool) → is_some o ≡ not b → is_none o ≡ b
+none_of None true e = refl
+none_of None false e = sym e
+none_of (Some r) true e = sym e
+none_of (Some r) false e = refl

@@ -1,0 +1,56 @@
+//! Where the tiles end: a window is laid out, and tiles are added and taken away at its end.
+ghost use Rattle.std.specs.Prelude.{◌-◌, List, [], IsTrue, length};
+ghost use Rattle.block_tags.specs.declared.tile.Tile.{Tile};
+ghost use Rattle.block_tags.specs.Format.{is_legal_size};
+ghost use Rattle.block_tags.specs.Lists.{laid, with_free, without_last};
+ghost use Rattle.block_tags.specs.Windows.{CanAppend, FrontSaysTiles, HasFreeLast, SameBesideTags, SaysTiles};
+
+use crate::words::{END_MARK, FIRST, TAG, put_word};
+use raw_region::Window;
+
+/// Writes the tags of one free tile that fills the window behind the header, or of none where there is no room for one.
+pub fn lay(window: &mut Window)
+    requires { IsTrue (is_legal_size (length window.old.bytes)) }
+    ensures tags { SaysTiles window.new (laid (length window.old.bytes)) }
+    ensures rest { SameBesideTags window.old window.new [] (laid (length window.old.bytes)) }
+{
+    let end = window.size() - TAG;
+    let room = end - FIRST;
+    // Where there is no room, the end tag takes the place of the tile's tag.
+    put_word(window, FIRST, 0);
+    put_word(window, FIRST + 8, room);
+    put_word(window, end, room);
+    put_word(window, end + 8, END_MARK);
+}
+
+/// Adds a free black tile where the tags fill the first `old_size` bytes of the window: it reaches from their end tag
+/// to the window's.
+pub fn append_free(window: &mut Window, old_size: u64)
+    requires { CanAppend window.old old_size }
+    ensures tags { (ts : List Tile) → FrontSaysTiles window.old old_size ts
+        → SaysTiles window.new (with_free ts (old_size - 16) (length window.old.bytes - 16)) }
+    ensures rest { (ts : List Tile) → FrontSaysTiles window.old old_size ts
+        → SameBesideTags window.old window.new ts (with_free ts (old_size - 16) (length window.old.bytes - 16)) }
+{
+    let size = window.size();
+    let end = size - TAG;
+    let len = size - old_size;
+    put_word(window, old_size - 8, len);
+    put_word(window, end, len);
+    put_word(window, end + 8, END_MARK);
+}
+
+/// Takes away the last tile, which is free, and answers the number of bytes that the other tiles fill with the header
+/// and an end tag.
+pub fn drop_last(window: &mut Window) -> u64
+    requires { HasFreeLast window.old }
+    ensures tags { (ts : List Tile) → SaysTiles window.old ts
+        → FrontSaysTiles window.new result (without_last ts) }
+    ensures rest { (ts : List Tile) → SaysTiles window.old ts
+        → SameBesideTags window.old window.new ts (without_last ts) }
+{
+    let end = window.size() - TAG;
+    let last = end - window.read_u64(end);
+    put_word(window, last + 8, END_MARK);
+    last + TAG
+}

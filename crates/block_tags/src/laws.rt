@@ -1,0 +1,80 @@
+//! What holds of the tiles that tags say. Each law is the contract of a function that does nothing.
+
+ghost use Rattle.block_tags.specs.Laws.{FrontIsAWindow, GoodTagsSayTiles, HeaderIsBesideTags, HeaderMayChange, LastTileEndsList, OneTileAtAnOffset, PayloadIsBesideTags, PayloadMayChange, TagsThatStaySayTheSame, TileIsReadOff, TileStandsInList, TilesAreReadOff, TilesFillTheWindow};
+ghost use Rattle.block_tags.specs.Tiles.{SayOneList};
+ghost use Rattle.block_tags.specs.Worked.{WorkedTiles};
+
+/// The tags of a segment say one list of tiles.
+pub fn tags_say_one_list()
+    ensures { SayOneList }
+{}
+
+/// The tiles that the tags say are those that are read off from the header on.
+pub fn tiles_are_read_off()
+    ensures { TilesAreReadOff }
+{}
+
+/// A tile that the tags say is read off from its own tag.
+pub fn tile_is_read_off()
+    ensures { TileIsReadOff }
+{}
+
+/// Tags are good exactly where they say tiles of which no two free ones are neighbours.
+pub fn good_tags_say_tiles()
+    ensures { GoodTagsSayTiles }
+{}
+
+/// The tiles fill a window from its header to its end tag, one behind the other.
+pub fn tiles_fill_the_window()
+    ensures { TilesFillTheWindow }
+{}
+
+/// No tag lies in the header.
+pub fn header_is_beside_tags()
+    ensures { HeaderIsBesideTags }
+{}
+
+/// No tag lies in the payload of a tile.
+pub fn payload_is_beside_tags()
+    ensures { PayloadIsBesideTags }
+{}
+
+/// The tile at an offset stands between those before it and those behind it.
+pub fn tile_stands_in_list()
+    ensures { TileStandsInList }
+{}
+
+/// Each tile that the tags say is the one that is found at its offset.
+pub fn one_tile_at_an_offset()
+    ensures { OneTileAtAnOffset }
+{}
+
+/// A list of tiles is those without the last, and the last.
+pub fn last_tile_ends_list()
+    ensures { LastTileEndsList }
+{}
+
+/// Tags whose bytes stay say the same tiles.
+pub fn tags_that_stay_say_the_same()
+    ensures { TagsThatStaySayTheSame }
+{}
+
+/// The tags say the same tiles where bytes of a payload change.
+pub fn payload_may_change()
+    ensures { PayloadMayChange }
+{}
+
+/// The tags say the same tiles where bytes of the header change.
+pub fn header_may_change()
+    ensures { HeaderMayChange }
+{}
+
+/// The first bytes of a window say the tiles that they say as a window of their own.
+pub fn front_is_a_window()
+    ensures { FrontIsAWindow }
+{}
+
+/// What the words of the definitions are at the tiles of one window.
+pub fn worked_tiles()
+    ensures { WorkedTiles }
+{}

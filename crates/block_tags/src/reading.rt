@@ -1,0 +1,64 @@
+//! The tiles that the tags say. An offset is a number of bytes from the window's start.
+ghost use Rattle.std.specs.Prelude.{◌≡◌, Some, List};
+ghost use Rattle.block_tags.specs.declared.tile.Tile.{Tile};
+ghost use Rattle.block_tags.specs.Lists.{first_in, next_in, previous_in, tile_in};
+ghost use Rattle.block_tags.specs.Windows.{HasTileAt, IsTiled, SaysTiles};
+
+use crate::tile::Tile;
+use crate::words::{FIRST, TAG, tile_there};
+use raw_region::Window;
+
+/// The tile that begins at the offset `at`.
+pub fn tile_at(window: &Window, at: u64) -> Tile
+    requires { HasTileAt window.now at }
+    ensures { (ts : List Tile) → SaysTiles window.now ts → tile_in ts at ≡ Some result }
+{
+    tile_there(window, at)
+}
+
+/// The tile behind the header, or nothing where there is none.
+pub fn first(window: &Window) -> Option<Tile>
+    requires { IsTiled window.now }
+    ensures { (ts : List Tile) → SaysTiles window.now ts → result ≡ first_in ts }
+{
+    if FIRST < window.size() - TAG {
+        Some(tile_there(window, FIRST))
+    } else {
+        None
+    }
+}
+
+/// The tile behind the one at `at`, or nothing where that is the last.
+pub fn next(window: &Window, at: u64) -> Option<Tile>
+    requires { HasTileAt window.now at }
+    ensures { (ts : List Tile) → SaysTiles window.now ts → result ≡ next_in ts at }
+{
+    let behind = at + tile_at(window, at).len;
+    if behind < window.size() - TAG {
+        Some(tile_there(window, behind))
+    } else {
+        None
+    }
+}
+
+/// The tile before the one at `at`, or nothing where that is the first.
+pub fn previous(window: &Window, at: u64) -> Option<Tile>
+    requires { HasTileAt window.now at }
+    ensures { (ts : List Tile) → SaysTiles window.now ts → result ≡ previous_in ts at }
+{
+    let before = window.read_u64(at);
+    if before == 0 {
+        None
+    } else {
+        Some(tile_there(window, at - before))
+    }
+}
+
+/// Whether the tile at `at` is red.
+pub fn red(window: &Window, at: u64) -> bool
+    requires { HasTileAt window.now at }
+    ensures { (ts : List Tile) (tile : Tile) → SaysTiles window.now ts → tile_in ts at ≡ Some tile
+        → result ≡ tile.red }
+{
+    tile_at(window, at).red
+}

@@ -1,0 +1,285 @@
+-- Bytes read so far, and what may follow them: which class they decide.
+use Rattle.std.proofs.Common.{◌≡◌, refl, sym, ap, subst, ◌∙◌, ℕ, zero, suc, ◌+◌, ◌-◌, ◌%◌, ◌<◌, ◌≤◌, Bool, true, false, ◌&&◌, ◌==◌, List, [], ◌∷◌, ◌++◌, length, arith, length-append, append-nil}
+use Rattle.std.specs.Prelude.{IsTrue, nat_lt, nat_le, Some, None, find}
+use Rattle.std.proofs.lemmas.Bool.{and_cases, and_parts, and_from, and_left, and_right, or_from, or_left, or_right, cond-true, cond-false, cases_Bool, cases_lt, not_from_true, not_from_false, le-ltb, lt-ltb, lt-leb, le-leb, leb-true, leb-false, ltb-true, ltb-false, eqb-true, or_cases, both_ways}
+use Rattle.std.proofs.lemmas.List.{get_or_append_left, length-replicate}
+use mathlib.Core.Logic.{◌⊎◌, inl, inr}
+use Rattle.raw_region.specs.Memory.{bytes_of, read, word_at, half_word_at, zeros}
+use Rattle.byteorder.specs.Endian.{little_number}
+use Rattle.block_tags.specs.Format.{current, is_legal_size}
+use Rattle.segment_manager.specs.Denotes.{magic_number}
+use Rattle.image_check.specs.declared.classes.ImageClass.{ImageClass}
+use Rattle.image_check.specs.declared.classes.ImageClass.TheVariants.{Truncated, BadMagic, UnsupportedVersion, BadSize, BadReserved, BadTag, BadFreeTree, BadIndex, BadObject, SharedBlock, BadContainer, OrphanBlock}
+use Rattle.image_check.specs.Classes.{size_word, holds, classes, class_of, has_magic, has_version, has_front, has_size, are_bytes, DecidesClass}
+use Rattle.image_check.specs.Deciding.{decided, decided_by, AllDecided}
+
+-- ---- the first class that holds
+
+-- the first element is found where it passes
+find-here : (p : ImageClass → Bool) (c : ImageClass) (cs : List ImageClass) → p c ≡ true → find p (c ∷ cs) ≡ Some c
+find-here p c cs e = cond-true (p c) (Some c) (find p cs) e
+
+-- and passed over where it does not
+find-past : (p : ImageClass → Bool) (c : ImageClass) (cs : List ImageClass) → p c ≡ false → find p (c ∷ cs) ≡ find p cs
+find-past p c cs e = cond-false (p c) (Some c) (find p cs) e
+
+-- what is found by the first test or behind it
+found_if : (p : ImageClass → Bool) (b : Bool) (d c : ImageClass) (cs : List ImageClass) → p d ≡ b → find p (d ∷ cs) ≡ Some c → (find p cs ≡ Some c → p c ≡ true) → p c ≡ true
+found_if p true d c cs e f k = let same : d ≡ c = cc (find-here p d cs e) in subst (λ x. p x ≡ true) same e
+found_if p false d c cs e f k = k (sym (find-past p d cs e) ∙ f)
+
+-- what is found holds
+find-holds : (p : ImageClass → Bool) (c : ImageClass) (cs : List ImageClass) → find p cs ≡ Some c → p c ≡ true
+find-holds p c [] f = absurd (cc)
+find-holds p c (d ∷ cs) f = found_if p (p d) d c cs refl f (find-holds p c cs)
+
+-- the classes behind the first four
+abbrev later : List ImageClass
+later = BadReserved ∷ BadTag ∷ BadFreeTree ∷ BadIndex ∷ BadObject ∷ SharedBlock ∷ BadContainer ∷ OrphanBlock ∷ []
+
+-- the first class is the one of the bytes where it holds
+first_class : (p : ImageClass → Bool) → p Truncated ≡ true → find p classes ≡ Some Truncated
+first_class p a = find-here p Truncated (BadMagic ∷ UnsupportedVersion ∷ BadSize ∷ later) a
+
+-- the second is where the first does not hold
+second_class : (p : ImageClass → Bool) → p Truncated ≡ false → p BadMagic ≡ true → find p classes ≡ Some BadMagic
+second_class p a b = find-past p Truncated (BadMagic ∷ UnsupportedVersion ∷ BadSize ∷ later) a ∙ find-here p BadMagic (UnsupportedVersion ∷ BadSize ∷ later) b
+
+-- the third where neither of the two before does
+third_class : (p : ImageClass → Bool) → p Truncated ≡ false → p BadMagic ≡ false → p UnsupportedVersion ≡ true → find p classes ≡ Some UnsupportedVersion
+third_class p a b c =
+    find-past p Truncated (BadMagic ∷ UnsupportedVersion ∷ BadSize ∷ later) a ∙ find-past p BadMagic (UnsupportedVersion ∷ BadSize ∷ later) b
+    ∙ find-here p UnsupportedVersion (BadSize ∷ later) c
+
+-- the fourth where none of the three before does
+fourth_class : (p : ImageClass → Bool) → p Truncated ≡ false → p BadMagic ≡ false → p UnsupportedVersion ≡ false → p BadSize ≡ true → find p classes ≡ Some BadSize
+fourth_class p a b c d =
+    find-past p Truncated (BadMagic ∷ UnsupportedVersion ∷ BadSize ∷ later) a ∙ find-past p BadMagic (UnsupportedVersion ∷ BadSize ∷ later) b
+    ∙ find-past p UnsupportedVersion (BadSize ∷ later) c ∙ find-here p BadSize later d
+
+-- ---- bytes that follow change no word before them
+
+-- the bytes of the front
+read-front : (b rest : List ℕ) (at n : ℕ) → at + n ≤ length b → read (bytes_of (b ++ rest)) at n ≡ read (bytes_of b) at n
+read-front b rest at zero l = refl
+read-front b rest at (suc n) l =
+    let first = get_or_append_left b rest 0 at (omega arith) in
+    let more = read-front b rest (at + 1) n (omega arith) in
+    λ i. first i ∷ more i
+
+-- a word of the front
+word_at-front : (b rest : List ℕ) (at : ℕ) → at + 8 ≤ length b → word_at (bytes_of (b ++ rest)) at ≡ word_at (bytes_of b) at
+unfolding word_at
+word_at-front b rest at l = ap (little_number 8) (read-front b rest at 8 l)
+
+-- a half word of the front
+half_word_at-front : (b rest : List ℕ) (at : ℕ) → at + 4 ≤ length b → half_word_at (bytes_of (b ++ rest)) at ≡ half_word_at (bytes_of b) at
+unfolding half_word_at
+half_word_at-front b rest at l = ap (little_number 4) (read-front b rest at 4 l)
+
+-- the magic stays
+has_magic-front : (b rest : List ℕ) → 24 ≤ length b → has_magic (b ++ rest) ≡ has_magic b
+has_magic-front b rest l = ap (λ w. w == magic_number) (word_at-front b rest 0 (omega arith))
+
+-- the version stays
+has_version-front : (b rest : List ℕ) → 24 ≤ length b → has_version current (b ++ rest) ≡ has_version current b
+has_version-front b rest l = ap (λ w. w == current) (half_word_at-front b rest 8 (omega arith))
+
+-- the size stays
+size_word-front : (b rest : List ℕ) → 24 ≤ length b → size_word (b ++ rest) ≡ size_word b
+size_word-front b rest l = word_at-front b rest 16 (omega arith)
+
+-- ---- where an image is not too short
+
+-- with 144 bytes and a front that is wrong
+not_truncated-front : (b : List ℕ) → 144 ≤ length b → has_front current b ≡ false → holds current b Truncated ≡ false
+not_truncated-front b l e =
+    or_from (nat_lt (length b) 144) (has_front current b && nat_lt (length b) (size_word b)) (le-ltb (length b) 144 l) (and_left (has_front current b) (nat_lt (length b) (size_word b)) e)
+
+-- with as many bytes as the size says
+not_truncated-size : (b : List ℕ) → 144 ≤ length b → size_word b ≤ length b → holds current b Truncated ≡ false
+not_truncated-size b l m =
+    or_from (nat_lt (length b) 144) (has_front current b && nat_lt (length b) (size_word b)) (le-ltb (length b) 144 l)
+    (and_right (has_front current b) (nat_lt (length b) (size_word b)) (le-ltb (length b) (size_word b) m))
+
+-- a wrong magic is a wrong front
+front-magic : (b : List ℕ) → has_magic b ≡ false → has_front current b ≡ false
+front-magic b e = and_left (has_magic b && has_version current b) (is_legal_size (size_word b)) (and_left (has_magic b) (has_version current b) e)
+
+-- a wrong version is a wrong front
+front-version : (b : List ℕ) → has_version current b ≡ false → has_front current b ≡ false
+front-version b e = and_left (has_magic b && has_version current b) (is_legal_size (size_word b)) (and_right (has_magic b) (has_version current b) e)
+
+-- a size that no segment has is a wrong front
+front-size : (b : List ℕ) → is_legal_size (size_word b) ≡ false → has_front current b ≡ false
+front-size b e = and_right (has_magic b && has_version current b) (is_legal_size (size_word b)) e
+
+-- ---- what is decided stays
+
+-- it is as long as its front, or longer
+longer : (b rest : List ℕ) (n : ℕ) → n ≤ length b → n ≤ length (b ++ rest)
+longer b rest n l = let e = length-append b rest in omega arith
+
+-- a wrong magic in 144 bytes decides class 2
+magic-decides : (b : List ℕ) → 144 ≤ length b → has_magic b ≡ false → DecidesClass current b BadMagic
+magic-decides b l e rest h =
+    let f : has_magic (b ++ rest) ≡ false = has_magic-front b rest (omega arith) ∙ e in
+    second_class (holds current (b ++ rest)) (not_truncated-front (b ++ rest) (longer b rest 144 l) (front-magic (b ++ rest) f)) (not_from_false (has_magic (b ++ rest)) f)
+
+-- a wrong version behind a right magic decides class 3
+version-decides : (b : List ℕ) → 144 ≤ length b → has_magic b ≡ true → has_version current b ≡ false → DecidesClass current b UnsupportedVersion
+version-decides b l e f rest h =
+    let m : has_magic (b ++ rest) ≡ true = has_magic-front b rest (omega arith) ∙ e in
+    let v : has_version current (b ++ rest) ≡ false = has_version-front b rest (omega arith) ∙ f in
+    third_class (holds current (b ++ rest)) (not_truncated-front (b ++ rest) (longer b rest 144 l) (front-version (b ++ rest) v))
+    (not_from_true (has_magic (b ++ rest)) m) (not_from_false (has_version current (b ++ rest)) v)
+
+-- a size class behind a right magic and version
+size-class : (b : List ℕ) → has_magic b ≡ true → has_version current b ≡ true → holds current b Truncated ≡ false → has_size b ≡ false → class_of current b ≡ Some BadSize
+size-class b m v t s = fourth_class (holds current b) t (not_from_true (has_magic b) m) (not_from_true (has_version current b) v) (not_from_false (has_size b) s)
+
+-- a size that no segment has, or fewer bytes than were read, decides class 4
+size-decides : (b : List ℕ) → 144 ≤ length b → has_magic b ≡ true → has_version current b ≡ true
+    → (is_legal_size (size_word b) ≡ false) ⊎ (nat_le (length b) (size_word b) ≡ false) → DecidesClass current b BadSize
+size-decides b l e f (inl g) rest h =
+    let m = has_magic-front b rest (omega arith) ∙ e in
+    let v = has_version-front b rest (omega arith) ∙ f in
+    let s : is_legal_size (size_word (b ++ rest)) ≡ false = ap is_legal_size (size_word-front b rest (omega arith)) ∙ g in
+    size-class (b ++ rest) m v (not_truncated-front (b ++ rest) (longer b rest 144 l) (front-size (b ++ rest) s)) (and_left (is_legal_size (size_word (b ++ rest))) (nat_le (length (b ++ rest)) (size_word (b ++ rest))) s)
+size-decides b l e f (inr g) rest h =
+    let m = has_magic-front b rest (omega arith) ∙ e in
+    let v = has_version-front b rest (omega arith) ∙ f in
+    let less = leb-false (length b) (size_word b) g in
+    let same = size_word-front b rest (omega arith) in
+    let more = length-append b rest in
+    let s : size_word (b ++ rest) < length (b ++ rest) = omega arith in
+    size-class (b ++ rest) m v (not_truncated-size (b ++ rest) (longer b rest 144 l) (omega arith))
+    (and_right (is_legal_size (size_word (b ++ rest))) (nat_le (length (b ++ rest)) (size_word (b ++ rest))) (lt-leb (length (b ++ rest)) (size_word (b ++ rest)) s))
+
+-- ---- where nothing is decided
+
+-- there are n zeros
+zeros-length : (n : ℕ) → length (zeros n) ≡ n
+unfolding zeros
+zeros-length n = length-replicate n 0
+
+-- zeros are bytes
+zeros-are_bytes : (n : ℕ) → IsTrue (are_bytes (zeros n))
+unfolding zeros
+zeros-are_bytes zero = refl
+zeros-are_bytes (suc n) = zeros-are_bytes n
+
+-- a legal size is at most 2 ^ 30
+largest : (n : ℕ) → ((n == 144) ≡ true) ⊎ (((n % 16 == 0) && nat_le 176 n && nat_le n 1073741824) ≡ true) → n ≤ 1073741824
+largest n (inl e) = let same = eqb-true n 144 e in omega arith
+largest n (inr e) = leb-true n 1073741824 (and_parts ((n % 16 == 0) && nat_le 176 n) (nat_le n 1073741824) e).1
+
+-- the same of the test
+is_legal_size-most : (n : ℕ) → IsTrue (is_legal_size n) → n ≤ 1073741824
+is_legal_size-most n h = largest n (or_cases (n == 144) ((n % 16 == 0) && nat_le 176 n && nat_le n 1073741824) h)
+
+-- an image of 2 ^ 30 bytes is not too short
+long_cases : (b : List ℕ) → 1073741824 ≤ length b → (is_legal_size (size_word b) ≡ true) ⊎ (is_legal_size (size_word b) ≡ false) → holds current b Truncated ≡ false
+long_cases b l (inl e) = let most = is_legal_size-most (size_word b) e in not_truncated-size b (omega arith) (omega arith)
+long_cases b l (inr e) = not_truncated-front b (omega arith) (front-size b e)
+
+-- with nothing behind it, the front has the class
+alone : (b : List ℕ) (c : ImageClass) → DecidesClass current b c → class_of current b ≡ Some c
+alone b c d = subst (λ x. class_of current x ≡ Some c) (append-nil b) (d [] refl)
+
+-- a front that is too short alone, and not with some bytes behind it, decides nothing
+not_both : (b rest : List ℕ) (c : ImageClass) → holds current b Truncated ≡ true → IsTrue (are_bytes rest) → holds current (b ++ rest) Truncated ≡ false → DecidesClass current b c → ⊥
+not_both b rest c t h n d =
+    let first : Some c ≡ Some Truncated = sym (alone b c d) ∙ first_class (holds current b) t in
+    let found : holds current (b ++ rest) Truncated ≡ true = find-holds (holds current (b ++ rest)) Truncated classes (d rest h ∙ first) in
+    both_ways (holds current (b ++ rest) Truncated) n found
+
+-- fewer than 144 bytes decide nothing: zeros may follow
+short_undecided : (b : List ℕ) (n : ℕ) (c : ImageClass) → 1073741824 ≤ n → length b < 144 → DecidesClass current b c → ⊥
+short_undecided b n c m l d =
+    let more = length-append b (zeros n) in
+    let many = zeros-length n in
+    not_both b (zeros n) c (or_left (nat_lt (length b) 144) (has_front current b && nat_lt (length b) (size_word b)) (lt-ltb (length b) 144 l)) (zeros-are_bytes n)
+    (long_cases (b ++ zeros n) (omega arith) (cases_Bool (is_legal_size (size_word (b ++ zeros n))))) d
+
+-- the front's tests that do not decide
+record IsOpen (b : List ℕ) : Type 0 where
+  long : 144 ≤ length b
+  magic : has_magic b ≡ true
+  version : has_version current b ≡ true
+  legal : is_legal_size (size_word b) ≡ true
+
+-- nor do fewer bytes than the size says: zeros may fill it up
+cut_undecided : (b : List ℕ) (c : ImageClass) → IsOpen b → length b < size_word b → DecidesClass current b c → ⊥
+cut_undecided b c o l d =
+    let n : ℕ = size_word b - length b in
+    let long = o.long in
+    let more = length-append b (zeros n) in
+    let many = zeros-length n in
+    let same = size_word-front b (zeros n) (omega arith) in
+    let front : has_front current b ≡ true = and_from (has_magic b && has_version current b) (is_legal_size (size_word b)) (and_from (has_magic b) (has_version current b) o.magic o.version) o.legal in
+    not_both b (zeros n) c
+    (or_right (nat_lt (length b) 144) (has_front current b && nat_lt (length b) (size_word b)) (and_from (has_front current b) (nat_lt (length b) (size_word b)) front (lt-ltb (length b) (size_word b) l)))
+    (zeros-are_bytes n)
+    (not_truncated-size (b ++ zeros n) (omega arith) (omega arith)) d
+
+-- nor do as many bytes as the size says: one more may follow
+whole_undecided : (b : List ℕ) (c : ImageClass) → IsOpen b → length b ≡ size_word b → DecidesClass current b c → ⊥
+whole_undecided b c o l d =
+    let rest : List ℕ = 0 ∷ [] in
+    let long = o.long in
+    let more : length (b ++ rest) ≡ length b + 1 = length-append b rest in
+    let same = size_word-front b rest (omega arith) in
+    let big : class_of current (b ++ rest) ≡ Some BadSize =
+    size-class (b ++ rest) (has_magic-front b rest (omega arith) ∙ o.magic) (has_version-front b rest (omega arith) ∙ o.version)
+    (not_truncated-size (b ++ rest) (omega arith) (omega arith))
+    (and_right (is_legal_size (size_word (b ++ rest))) (nat_le (length (b ++ rest)) (size_word (b ++ rest))) (lt-leb (length (b ++ rest)) (size_word (b ++ rest)) (omega arith))) in
+    let first : class_of current b ≡ Some BadSize = alone b c d ∙ sym (d rest refl) ∙ big in
+    let found : holds current b BadSize ≡ true = find-holds (holds current b) BadSize classes first in
+    both_ways (holds current b BadSize) (not_from_true (has_size b) (and_from (is_legal_size (size_word b)) (nat_le (length b) (size_word b)) o.legal (le-leb (length b) (size_word b) (omega arith)))) found
+
+-- both together
+open_cases : (b : List ℕ) (c : ImageClass) → IsOpen b → length b ≤ size_word b → (length b < size_word b) ⊎ (size_word b ≤ length b) → DecidesClass current b c → ⊥
+open_cases b c o m (inl l) d = cut_undecided b c o l d
+open_cases b c o m (inr l) d = whole_undecided b c o (omega arith) d
+
+-- ---- the test
+
+-- what is decided, by the four tests
+some_cases : (b : List ℕ) (c : ImageClass) (p q r s : Bool) → nat_lt (length b) 144 ≡ p → has_magic b ≡ q → has_version current b ≡ r → has_size b ≡ s
+    → decided_by p q r s ≡ Some c → DecidesClass current b c
+some_cases b c true q r s e f g h k = absurd (cc)
+some_cases b c false false r s e f g h k =
+    let same : BadMagic ≡ c = cc in subst (DecidesClass current b) same (magic-decides b (ltb-false (length b) 144 e) f)
+some_cases b c false true false s e f g h k =
+    let same : UnsupportedVersion ≡ c = cc in subst (DecidesClass current b) same (version-decides b (ltb-false (length b) 144 e) f g)
+some_cases b c false true true true e f g h k = absurd (cc)
+some_cases b c false true true false e f g h k =
+    let same : BadSize ≡ c = cc in
+    subst (DecidesClass current b) same (size-decides b (ltb-false (length b) 144 e) f g (and_cases (is_legal_size (size_word b)) (nat_le (length b) (size_word b)) h))
+
+-- what is not, by the four tests
+none_cases : (b : List ℕ) (n : ℕ) (c : ImageClass) (p q r s : Bool) → 1073741824 ≤ n → nat_lt (length b) 144 ≡ p → has_magic b ≡ q → has_version current b ≡ r → has_size b ≡ s
+    → decided_by p q r s ≡ None → DecidesClass current b c → ⊥
+none_cases b n c true q r s m e f g h k d = short_undecided b n c m (ltb-true (length b) 144 e) d
+none_cases b n c false false r s m e f g h k d = absurd (cc)
+none_cases b n c false true false s m e f g h k d = absurd (cc)
+none_cases b n c false true true false m e f g h k d = absurd (cc)
+none_cases b n c false true true true m e f g h k d =
+    let parts = and_parts (is_legal_size (size_word b)) (nat_le (length b) (size_word b)) h in
+    let o : IsOpen b = record { long = ltb-false (length b) 144 e; magic = f; version = g; legal = parts.0 } in
+    open_cases b c o (leb-true (length b) (size_word b) parts.1) (cases_lt (length b) (size_word b)) d
+
+-- what the test finds is decided
+pub decided-some : (front : List ℕ) (c : ImageClass) → decided front ≡ Some c → DecidesClass current front c
+unfolding decided
+decided-some front c e = some_cases front c (nat_lt (length front) 144) (has_magic front) (has_version current front) (has_size front) refl refl refl refl e
+
+-- where it finds nothing, no class is decided
+pub decided-none : (front : List ℕ) → decided front ≡ None → (c : ImageClass) → DecidesClass current front c → ⊥
+unfolding decided
+decided-none front e c d = none_cases front 1073741824 c (nat_lt (length front) 144) (has_magic front) (has_version current front) (has_size front) (omega arith) refl refl refl refl e d
+
+-- the law
+pub all_decided : AllDecided
+all_decided front = record { some = decided-some front; none = decided-none front }

@@ -1,0 +1,16 @@
+pub mod Bytes
+pub mod Spellings
+pub mod Tags
+pub mod Filling
+pub mod Order
+pub mod Objects
+pub mod Live
+pub mod Frame
+pub mod Landed
+pub mod Early
+pub mod Examples
+pub mod Words
+pub mod TagWalk
+pub mod TileWalk
+pub mod TagWords
+pub mod Deciding

@@ -1,0 +1,5 @@
+use Rattle.image_check.proofs.Deciding.{all_decided}
+use Rattle.image_check.proofs.laws.fronts_decide_classes.Goals as goal
+
+pub returns : goal.returns
+returns c = all_decided

@@ -1,0 +1,25 @@
+-- Which class the bytes read so far decide, as a test of their first three words.
+use Rattle.std.specs.Prelude.{◌≡◌, ℕ, Bool, List, length, nat_lt, Option, Some, None, if◌then◌else◌}
+use Rattle.block_tags.specs.Format.{current}
+use Rattle.image_check.specs.declared.classes.ImageClass.{ImageClass}
+use Rattle.image_check.specs.declared.classes.ImageClass.TheVariants.{BadMagic, UnsupportedVersion, BadSize}
+use Rattle.image_check.specs.Classes.{has_magic, has_version, has_size, DecidesClass}
+
+-- the class by these tests, one after another: too few bytes, the magic, the version, the size
+abbrev pub decided_by : Bool → Bool → Bool → Bool → Option ImageClass
+decided_by short magic version size =
+    if short then None
+    else if magic then (if version then (if size then None else Some BadSize) else Some UnsupportedVersion) else Some BadMagic
+
+-- No class is decided before 144 bytes, since there may be no more. After that, the magic and the version decide, and a
+-- size that no segment has or that is less than what was read.
+unfoldable pub decided : List ℕ → Option ImageClass
+decided front = decided_by (nat_lt (length front) 144) (has_magic front) (has_version current front) (has_size front)
+
+-- the law: the test finds the class that is decided, and none where none is
+pub record IsDecided (front : List ℕ) : Type 0 where
+  pub some : (c : ImageClass) → decided front ≡ Some c → DecidesClass current front c
+  pub none : decided front ≡ None → (c : ImageClass) → DecidesClass current front c → ⊥
+
+abbrev pub AllDecided : Type 0
+AllDecided = (front : List ℕ) → IsDecided front

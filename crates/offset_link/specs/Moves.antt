@@ -1,0 +1,14 @@
+-- How far links move.
+use Rattle.std.specs.Prelude.{ℕ, ◌+◌, ◌-◌, ◌*◌, ◌≤◌}
+use Rattle.offset_link.specs.declared.moves.Places.{Places}
+use Rattle.offset_link.specs.declared.moves.Places.TheVariants.{Up, Down}
+
+-- where links at an offset come to stand
+abbrev pub moved_to : ℕ → Places → ℕ
+moved_to at (Up places) = at + 8 * places
+moved_to at (Down places) = at - 8 * places
+
+-- they do not pass the start of the window
+abbrev pub StaysInside : ℕ → Places → Type 0
+StaysInside at (Up places) = Unit {0}
+StaysInside at (Down places) = 8 * places ≤ at

@@ -1,0 +1,36 @@
+-- A window's bytes, as its region has them.
+use Rattle.std.proofs.Common.{◌≡◌, ℕ, ◌+◌, ◌≤◌, List, ◌++◌, length, drop, refl, sym, ap, ◌∙◌, arith}
+use Rattle.std.specs.List.{refill}
+use Rattle.std.proofs.lemmas.List.{length-take}
+use Rattle.raw_region.specs.Memory.{Cut, part, patched, whole, cut_at, bytes_of, word_at}
+use Rattle.raw_region.specs.Regions.{with_bytes, IsWindow}
+use Rattle.raw_region.proofs.Patches.{length-part, part-part, word-of_part, whole-cut_at, cut_at-patched}
+
+module _ (region : List ℕ) (base size : ℕ) (w : Cut) (view_is : cut_at region base size ≡ w) (window : IsWindow region base size) where
+  bytes_are : part region base size ≡ w.bytes
+  bytes_are = ap (λ (c : Cut). c.bytes) view_is
+
+  pub size_is : length w.bytes ≡ size
+  size_is = ap (λ (l : List ℕ). length l) (sym bytes_are) ∙ length-part region base size window.inside
+
+  pub is_whole : region ≡ whole w
+  is_whole = sym (whole-cut_at region base size) ∙ ap whole view_is
+
+  pub reads : (from len : ℕ) → from + len ≤ length w.bytes → part region (base + from) len ≡ part w.bytes from len
+  reads from len h = sym (part-part region base size from len (omega (arith, size_is))) ∙ ap (λ (l : List ℕ). part l from len) bytes_are
+
+  pub reads_word : (at : ℕ) → at + 8 ≤ length w.bytes → word_at (bytes_of region) (base + at) ≡ word_at (bytes_of w.bytes) at
+  reads_word at h = word-of_part region base size at window.inside (omega (arith, size_is)) ∙ ap (λ (l : List ℕ). word_at (bytes_of l) at) bytes_are
+
+  pub writes : (new : List ℕ) (from : ℕ) (ws : List ℕ) → from + length ws ≤ length w.bytes → new ≡ patched region (base + from) ws
+      → cut_at new base size ≡ with_bytes w (patched w.bytes from ws)
+  writes new from ws h e =
+      ap (λ (l : List ℕ). cut_at l base size) e ∙ cut_at-patched region base size from ws window.inside (omega (arith, size_is))
+      ∙ ap (λ (c : Cut). with_bytes c (patched c.bytes from ws)) view_is
+
+  pub lends : (from len : ℕ) → from + len ≤ length w.bytes → (ws : List ℕ)
+      → cut_at (patched region (base + from) (refill len (part region (base + from) len) ws)) base size ≡ with_bytes w (patched w.bytes from (refill len (part w.bytes from len) ws))
+  lends from len h ws =
+      ap (λ (l : List ℕ). cut_at (patched region (base + from) (refill len l ws)) base size) (reads from len h)
+      ∙ writes (patched region (base + from) (refill len (part w.bytes from len) ws)) from (refill len (part w.bytes from len) ws)
+      (omega (arith, length-take len (ws ++ drop (length ws) (part w.bytes from len)))) refl

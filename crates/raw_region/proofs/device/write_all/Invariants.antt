@@ -1,0 +1,12 @@
+use Rattle.std.proofs.Common.{◌≡◌, ◌-◌, ◌≤◌, ◌++◌, length, take}
+use Rattle.raw_region.proofs.device.write_all.Given as goal
+
+abbrev pub invariant-pieces : goal.invariant-pieces
+invariant-pieces g l = record {
+  within : l.written ≤ length l.bytes;
+  taken : g.S.Sink.taken l.sink ≡ g.S.Sink.taken l.initial.sink ++ take l.written l.bytes;
+  failures : g.S.Sink.failures l.sink ≡ g.S.Sink.failures l.initial.sink;
+}
+
+abbrev pub decreases-pieces : goal.decreases-pieces
+decreases-pieces g l = length l.bytes - l.written

@@ -1,0 +1,28 @@
+-- What the answers of readers and writers say.
+use Rattle.std.specs.Prelude.{◌≡◌, ◌<◌, ℕ, Bool, false, List, ◌++◌, length, take, nat_lt, ◌==◌, ◌&&◌, if◌then◌else◌, Result, Ok, Err}
+
+-- a read of a slice that is not empty answered the end
+abbrev pub answers_end : {E : Type 0} → Result ℕ E → Bool
+answers_end (Ok n) = n == 0
+answers_end (Err e) = false
+
+-- a read of len bytes gave fewer, and no error
+abbrev pub falls_short : {E : Type 0} → Result ℕ E → ℕ → Bool
+falls_short (Ok n) len = nat_lt n len
+falls_short (Err e) len = false
+
+-- how many failures an answer is
+abbrev pub failures_in : {T E : Type 0} → Result T E → ℕ
+failures_in (Ok x) = 0
+failures_in (Err e) = 1
+
+-- the same for a write of len bytes: to take none of some is a failure too
+abbrev pub write_failures_in : {E : Type 0} → Result ℕ E → ℕ → ℕ
+write_failures_in (Ok n) len = if (n == 0) && nat_lt 0 len then 1 else 0
+write_failures_in (Err e) len = 1
+
+-- new is old with some of the bytes, from the first on, but not all
+pub record AddsFront (old new bytes : List ℕ) : Type 0 where
+  pub count : ℕ
+  pub fewer : count < length bytes
+  pub added : new ≡ old ++ take count bytes

@@ -1,0 +1,149 @@
+//! Readers and writers in memory, for tests: they give or take a few bytes at a time, and fail where
+//! they are told to.
+ghost use Rattle.std.specs.Prelude.{◌≡◌, ◌<◌, [], false, IfOk, vec_len};
+ghost use Rattle.raw_region.specs.Streams.{Gave, Took};
+
+use crate::device::{DeviceFault, Sink, Source};
+use crate::history::History;
+use std::alloc::{AllocError, Global};
+use std::marker::Model;
+
+/// What a device does after its last byte.
+#[derive(Clone, Copy, Debug, PartialEq, Eq)]
+pub enum Last {
+    /// A reader ends; a writer takes 0.
+    Ends,
+    /// Each further call is an error.
+    Fails,
+}
+
+/// A reader of the given bytes, at most `piece` of them a read.
+#[derive(Drop)]
+pub struct MemorySource<'a> {
+    rest: &'a [u8],
+    piece: usize,
+    last: Last,
+    ended: bool,
+    failures: u64,
+    history: History,
+}
+
+impl<'a> Model for MemorySource<'a> {
+    ghost use Rattle.raw_region.specs.Streams.{Gave};
+
+    ghost Value = { Gave };
+
+    ghost view = { λ r. record { bytes = r.history.bytes; ended = r.ended; failures = r.failures } };
+}
+
+impl<'a> MemorySource<'a> {
+    pub fn new(bytes: &'a [u8], piece: usize, last: Last) -> MemorySource<'a>
+        ensures { result ≡ record { bytes = []; ended = false; failures = 0 } }
+    {
+        MemorySource {
+            rest: bytes,
+            piece,
+            last,
+            ended: false,
+            failures: 0,
+            history: History::new(),
+        }
+    }
+}
+
+impl Source for MemorySource<'_> {
+    ghost given = { λ r. r.bytes };
+
+    ghost ended = { λ r. r.ended };
+
+    ghost failures = { λ r. r.failures };
+
+    fn read(&mut self, into: &mut [u8]) -> Result<usize, DeviceFault> {
+        let count = into.len().min(self.rest.len()).min(self.piece);
+        if !into.is_empty() {
+            if count == 0 && self.last == Last::Fails {
+                self.failures += 1;
+                self.ended = false;
+                return Err(DeviceFault);
+            }
+            self.ended = count == 0;
+        }
+        into[..count].copy_from_slice(&self.rest[..count]);
+        self.rest = &self.rest[count..];
+        self.history.record(&into[..count], 0);
+        Ok(count)
+    }
+}
+
+/// A writer with room for some bytes, which takes at most `piece` of them a write.
+#[derive(Drop)]
+pub struct MemorySink {
+    buffer: Vec<u8>,
+    len: usize,
+    piece: usize,
+    last: Last,
+    failures: u64,
+    history: History,
+}
+
+impl Model for MemorySink {
+    ghost use Rattle.std.specs.Prelude.{◌≡◌, ◌≤◌, take, vec_len};
+    ghost use Rattle.raw_region.specs.Streams.{Took};
+
+    ghost Value = { Took };
+
+    ghost view = { λ w. record { bytes = w.history.bytes; failures = w.failures } };
+
+    ghost invariant = { λ w. (w.len ≤ vec_len w.buffer) × (w.history.bytes ≡ take w.len w.buffer.items) };
+}
+
+impl MemorySink {
+    pub fn new(
+        alloc: Global,
+        room: usize,
+        piece: usize,
+        last: Last,
+    ) -> Result<MemorySink, AllocError>
+        ensures { IfOk result (λ w. w ≡ record { bytes = []; failures = 0 }) }
+    {
+        let buffer = Vec::from_elem(alloc, 0u8, room)?;
+        Ok(MemorySink {
+            buffer,
+            len: 0,
+            piece,
+            last,
+            failures: 0,
+            history: History::new(),
+        })
+    }
+
+    /// All that it took so far.
+    pub fn taken(&self) -> &[u8]
+        ensures { result.now ≡ self.now.bytes }
+    {
+        &self.buffer.as_slice()[..self.len]
+    }
+}
+
+impl Sink for MemorySink {
+    ghost taken = { λ w. w.bytes };
+
+    ghost failures = { λ w. w.failures };
+
+    fn write(&mut self, bytes: &[u8]) -> Result<usize, DeviceFault> {
+        let room = self.buffer.len() - self.len;
+        let count = bytes.len().min(room).min(self.piece);
+        if count == 0 && !bytes.is_empty() {
+            self.failures += 1;
+            return match self.last {
+                Last::Ends => Ok(0),
+                Last::Fails => Err(DeviceFault),
+            };
+        }
+        let end = self.len + count;
+        self.buffer.as_mut_slice()[self.len..end].copy_from_slice(&bytes[..count]);
+        self.len = end;
+        self.history.record(&bytes[..count], 0);
+        Ok(count)
+    }
+}

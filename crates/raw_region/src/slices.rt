@@ -1,0 +1,23 @@
+//! Words in a slice of bytes, the lowest byte first.
+ghost use Rattle.std.specs.Prelude.{◌≡◌, ◌+◌, ◌≤◌, length};
+ghost use Rattle.raw_region.specs.Memory.{bytes_of, word_at, word_bytes, patched};
+
+use byteorder::{ByteOrder, LittleEndian};
+
+/// The number in the 8 bytes at `at`.
+#[tactic(auto, using(crate::proofs::Patches::words))]
+pub fn word_in(bytes: &[u8], at: usize) -> u64
+    requires { at + 8 ≤ length bytes.now }
+    ensures { result ≡ word_at (bytes_of bytes.now) at }
+{
+    LittleEndian::read_u64(&bytes[at..at + 8])
+}
+
+/// Writes a number into the 8 bytes at `at`.
+#[tactic(auto, using(crate::proofs::Patches::words))]
+pub fn set_word_in(bytes: &mut [u8], at: usize, value: u64)
+    requires { at + 8 ≤ length bytes.old }
+    ensures { bytes.new ≡ patched bytes.old at (word_bytes value) }
+{
+    LittleEndian::write_u64(&mut bytes[at..at + 8], value);
+}

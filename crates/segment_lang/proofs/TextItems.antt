@@ -1,0 +1,159 @@
+-- A text item by item.
+use Rattle.std.proofs.Common.{◌≡◌, ℕ, Bool, true, false, cond, List, [], ◌∷◌, Option, Some, None, ap, subst, sym, refl, ◌∙◌, arith, ◌==◌, ◌||◌, length, ◌≤◌, ◌+◌, ◌++◌, append_assoc, append-nil, length-append}
+use Rattle.std.specs.Option.{option_map, option_and_then, unwrap_or, IsSome}
+use Rattle.std.proofs.lemmas.Bool.Decides.{nat_tests}
+use Rattle.std.proofs.lemmas.Option.{some_pair_parts}
+use Rattle.segment_lang.specs.Words.{is_plain, byte_of_digits}
+use Rattle.segment_lang.specs.Tokens.{text_at, escaped_at, high_digit_at, item_at, escape_at, digits_at, longer, closed_at, quote_at, behind_quote, ends_word, behind_text, text_in}
+
+-- ---- an item in front
+
+same_longer : (c b : ℕ) (cs r : List ℕ) → ◌≡◌ {A = Option (ℕ × List ℕ)} (Some (c, cs)) (Some (b, r)) → longer c (text_at cs) ≡ longer b (text_at r)
+same_longer c b cs r h = let e : (c ≡ b) × (cs ≡ r) = some_pair_parts c b cs r h in cc (e.0, e.1)
+
+digits_some : (o : Option ℕ) (b : ℕ) (cs r : List ℕ) → option_map {U = ℕ × List ℕ} (λ c. (c, cs)) o ≡ Some (b, r) → option_and_then (λ c. longer c (text_at cs)) o ≡ longer b (text_at r)
+digits_some None b cs r h = cc
+digits_some (Some x) b cs r h = same_longer x b cs r h
+
+high_digit_some : (cs r : List ℕ) (b : ℕ) → digits_at cs ≡ Some (b, r) → high_digit_at cs ≡ longer b (text_at r)
+unfolding digits_at text_at
+high_digit_some [] r b h = cc
+high_digit_some (c ∷ []) r b h = cc
+high_digit_some (c ∷ l ∷ cs) r b h = digits_some (byte_of_digits c l) b cs r h
+
+escape_choice : (q x : Bool) (c b : ℕ) (cs r : List ℕ) → (digits_at cs ≡ Some (b, r) → high_digit_at cs ≡ longer b (text_at r)) → cond q (Some (c, cs)) (cond x (digits_at cs) None) ≡ Some (b, r) → cond q (longer c (text_at cs)) (cond x (high_digit_at cs) None) ≡ longer b (text_at r)
+escape_choice true x c b cs r f h = same_longer c b cs r h
+escape_choice false true c b cs r f h = f h
+escape_choice false false c b cs r f h = cc
+
+escape_some : (cs r : List ℕ) (b : ℕ) → escape_at cs ≡ Some (b, r) → escaped_at cs ≡ longer b (text_at r)
+unfolding escape_at text_at
+escape_some [] r b h = cc
+escape_some (c ∷ cs) r b h = escape_choice ((c == 0x22) || (c == 0x5C)) (c == 0x78) c b cs r (high_digit_some cs r b) h
+
+item_choice : (q e p : Bool) (c b : ℕ) (cs r : List ℕ) → (q ≡ true → (e ≡ false) × (p ≡ false)) → (escape_at cs ≡ Some (b, r) → escaped_at cs ≡ longer b (text_at r)) → cond e (escape_at cs) (cond p (Some (c, cs)) None) ≡ Some (b, r) → cond q (closed_at cs) (cond e (escaped_at cs) (cond p (longer c (text_at cs)) None)) ≡ longer b (text_at r)
+item_choice true true p c b cs r k f h = cc (k refl).0
+item_choice true false true c b cs r k f h = cc (k refl).1
+item_choice true false false c b cs r k f h = cc
+item_choice false true p c b cs r k f h = f h
+item_choice false false true c b cs r k f h = same_longer c b cs r h
+item_choice false false false c b cs r k f h = cc
+
+quote_is_none : (c : ℕ) → (c == 0x22) ≡ true → ((c == 0x5C) ≡ false) × (is_plain c ≡ false)
+quote_is_none c h = grind (arith, nat_tests)
+
+-- an item is the first byte of the text
+pub text_at-item : (bytes r : List ℕ) (b : ℕ) → item_at bytes ≡ Some (b, r) → text_at bytes ≡ longer b (text_at r)
+unfolding item_at text_at
+text_at-item [] r b h = cc
+text_at-item (c ∷ cs) r b h = item_choice (c == 0x22) (c == 0x5C) (is_plain c) c b cs r (quote_is_none c) (escape_some cs r b) h
+
+behind_longer : (b : ℕ) (t : Option (List ℕ × List ℕ)) → option_map (λ x. x.1) (longer b t) ≡ option_map (λ x. x.1) t
+behind_longer b None = refl
+behind_longer b (Some x) = refl
+
+pub behind_text-item : (bytes r : List ℕ) (b : ℕ) → item_at bytes ≡ Some (b, r) → behind_text r ≡ behind_text bytes
+behind_text-item bytes r b h = sym (ap (option_map (λ x. x.1)) (text_at-item bytes r b h) ∙ behind_longer b (text_at r))
+
+-- ---- no item in front
+
+digits_none : (o : Option ℕ) (cs : List ℕ) → option_map {U = ℕ × List ℕ} (λ c. (c, cs)) o ≡ None → option_and_then (λ c. longer c (text_at cs)) o ≡ None
+digits_none None cs h = refl
+digits_none (Some x) cs h = cc
+
+high_digit_none : (cs : List ℕ) → digits_at cs ≡ None → high_digit_at cs ≡ None
+unfolding digits_at text_at
+high_digit_none [] h = refl
+high_digit_none (c ∷ []) h = refl
+high_digit_none (c ∷ l ∷ cs) h = digits_none (byte_of_digits c l) cs h
+
+escape_choice_none : (q x : Bool) (c : ℕ) (cs : List ℕ) → (digits_at cs ≡ None → high_digit_at cs ≡ None) → cond q (Some (c, cs)) (cond x (digits_at cs) None) ≡ None → cond q (longer c (text_at cs)) (cond x (high_digit_at cs) None) ≡ None
+escape_choice_none true x c cs f h = cc
+escape_choice_none false true c cs f h = f h
+escape_choice_none false false c cs f h = refl
+
+escape_none : (cs : List ℕ) → escape_at cs ≡ None → escaped_at cs ≡ None
+unfolding escape_at text_at
+escape_none [] h = refl
+escape_none (c ∷ cs) h = escape_choice_none ((c == 0x22) || (c == 0x5C)) (c == 0x78) c cs (high_digit_none cs) h
+
+item_choice_none : (q e p : Bool) (c : ℕ) (cs : List ℕ) → (escape_at cs ≡ None → escaped_at cs ≡ None) → cond e (escape_at cs) (cond p (Some (c, cs)) None) ≡ None → cond q (closed_at cs) (cond e (escaped_at cs) (cond p (longer c (text_at cs)) None)) ≡ cond q (closed_at cs) None
+item_choice_none true e p c cs f h = refl
+item_choice_none false true p c cs f h = f h
+item_choice_none false false true c cs f h = cc
+item_choice_none false false false c cs f h = refl
+
+-- where there is no item, there is the quote that ends the text, or nothing that fits
+pub text_at-end : (bytes : List ℕ) → item_at bytes ≡ None → text_at bytes ≡ quote_at bytes
+unfolding item_at text_at
+text_at-end [] h = refl
+text_at-end (c ∷ cs) h = item_choice_none (c == 0x22) (c == 0x5C) (is_plain c) c cs (escape_none cs) h
+
+-- ---- the bytes, and what is behind them
+
+-- no bytes, and what is behind them
+abbrev nothing_before : List ℕ → Option (List ℕ × List ℕ)
+nothing_before cs = Some ([], cs)
+
+-- the bytes of a text
+abbrev bytes_in : Option (List ℕ × List ℕ) → List ℕ
+bytes_in t = (unwrap_or t ([], [])).0
+
+quote_behind : (q e : Bool) (cs : List ℕ) → option_map (λ x. x.1) (cond q (cond e (nothing_before cs) None) None) ≡ cond q (cond e (Some cs) None) None
+quote_behind true true cs = refl
+quote_behind true false cs = refl
+quote_behind false e cs = refl
+
+quote_at-behind : (bytes : List ℕ) → option_map (λ x. x.1) (quote_at bytes) ≡ behind_quote bytes
+quote_at-behind [] = refl
+quote_at-behind (c ∷ cs) = quote_behind (c == 0x22) (ends_word cs) cs
+
+pub behind_text-end : (bytes : List ℕ) → item_at bytes ≡ None → behind_text bytes ≡ behind_quote bytes
+behind_text-end bytes h = ap (option_map (λ x. x.1)) (text_at-end bytes h) ∙ quote_at-behind bytes
+
+no_text : (t : Option (List ℕ × List ℕ)) → option_map (λ x. x.1) t ≡ None → t ≡ None
+no_text None h = refl
+no_text (Some x) h = cc
+
+pub text_at-none : (bytes : List ℕ) → behind_text bytes ≡ None → text_at bytes ≡ None
+text_at-none bytes h = no_text (text_at bytes) h
+
+a_text : (t : Option (List ℕ × List ℕ)) (r : List ℕ) → option_map (λ x. x.1) t ≡ Some r → (IsSome t) × (t ≡ Some (bytes_in t, r))
+a_text None r h = cc
+a_text (Some (bs, rest)) r h = (refl, let e : rest ≡ r = cc in cc)
+
+pub text_at-some : (bytes r : List ℕ) → behind_text bytes ≡ Some r → (IsSome (text_at bytes)) × (text_at bytes ≡ Some (text_in bytes, r))
+text_at-some bytes r h = a_text (text_at bytes) r h
+
+longer_in : (b : ℕ) (t : Option (List ℕ × List ℕ)) → IsSome (longer b t) → (IsSome t) × (bytes_in (longer b t) ≡ b ∷ bytes_in t)
+longer_in b None h = cc
+longer_in b (Some (bs, rest)) h = (refl, refl)
+
+pub text_in-item : (bytes r : List ℕ) (b : ℕ) → item_at bytes ≡ Some (b, r) → IsSome (text_at bytes) → (IsSome (text_at r)) × (text_in bytes ≡ b ∷ text_in r)
+text_in-item bytes r b h s =
+    let e = text_at-item bytes r b h in
+    let p = longer_in b (text_at r) (subst (λ t. IsSome t) e s) in
+    (p.0, ap bytes_in e ∙ p.1)
+
+quote_empty : (q e : Bool) (cs : List ℕ) → bytes_in (cond q (cond e (nothing_before cs) None) None) ≡ []
+quote_empty true true cs = refl
+quote_empty true false cs = refl
+quote_empty false e cs = refl
+
+quote_at-empty : (bytes : List ℕ) → bytes_in (quote_at bytes) ≡ []
+quote_at-empty [] = refl
+quote_at-empty (c ∷ cs) = quote_empty (c == 0x22) (ends_word cs) cs
+
+pub text_in-end : (bytes : List ℕ) → item_at bytes ≡ None → text_in bytes ≡ []
+text_in-end bytes h = ap bytes_in (text_at-end bytes h) ∙ quote_at-empty bytes
+
+-- ---- a text that is copied byte by byte
+
+pub moved_byte : (b : ℕ) (done done' left left' : List ℕ) → done' ≡ done ++ b ∷ [] → left ≡ b ∷ left' → done' ++ left' ≡ done ++ left
+moved_byte b done done' left left' d l = ap (λ xs. xs ++ left') d ∙ append_assoc done (b ∷ []) left' ∙ ap (λ xs. done ++ xs) (sym l)
+
+pub moved_room : (b : ℕ) (done done' left left' : List ℕ) → done' ≡ done ++ b ∷ [] → left ≡ b ∷ left' → length done + length left ≤ 4096 → length done' + length left' ≤ 4096
+moved_room b done done' left left' d l h = omega (arith, ap length d, ap length l, length-append done (b ∷ []))
+
+pub last_byte : (done left all : List ℕ) → left ≡ [] → done ++ left ≡ all → done ≡ all
+last_byte done left all l h = sym (append-nil done) ∙ sym (ap (λ xs. done ++ xs) l) ∙ h

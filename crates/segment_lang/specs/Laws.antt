@@ -1,0 +1,46 @@
+-- What the definitions of words and numbers mean, by the spelling of what is read.
+use Rattle.std.specs.Prelude.{◌≡◌, ◌<◌, ◌^◌, ◌↔◌, ◌⊎◌, ℕ, ℤ, pos, negsuc, ◌≤ℤ◌, true, Some, List, [], ◌∷◌, ◌++◌, decimal, take, option_map, option_and_then, if◌then◌else◌}
+use Rattle.std.specs.List.{AllByRecursion}
+use Rattle.std.specs.Fmt.{signed_decimal}
+use Rattle.segment_lang.specs.Words.{Text, words, number_of, whole_of, is_plain, byte_of_digits}
+use Rattle.segment_lang.specs.Texts.{quoted_text}
+use Rattle.segment_lang.specs.Language.{Language}
+use Rattle.segment_lang.specs.Reading.{reading}
+use Rattle.segment_lang.specs.Tokens.{at_end, ends_word, next_word, text_at}
+
+-- A word has a number exactly where it is the number's decimal text, and the number is below 2 ^ 64.
+abbrev pub NumbersAreDecimals : Type 0
+NumbersAreDecimals = (word : List ℕ) (n : ℕ) → (number_of word ≡ Some n) ↔ ((n < 2 ^ 64) × (word ≡ decimal n))
+
+-- A word has a whole number exactly where it is the number's decimal text, and the number is in the range.
+abbrev pub WholesAreDecimals : Type 0
+WholesAreDecimals =
+    (word : List ℕ) (z : ℤ) → (whole_of word ≡ Some z) ↔ ((negsuc 9223372036854775807 ≤ℤ z) × (z ≤ℤ pos 18446744073709551615) × (word ≡ signed_decimal z))
+
+-- An item of a text stands for a byte: for itself, behind a backslash, or as two digits.
+abbrev pub IsItem : List ℕ → ℕ → Type 0
+IsItem item b =
+    ((is_plain b ≡ true) × (item ≡ b ∷ [])) ⊎ ((((b ≡ 0x22) ⊎ (b ≡ 0x5C)) × (item ≡ 0x5C ∷ b ∷ [])) ⊎ ((high : ℕ) × (low : ℕ) × (byte_of_digits high low ≡ Some b) × (item ≡ 0x5C ∷ 0x78 ∷ high ∷ low ∷ [])))
+
+-- Items spell the bytes that they stand for, in order.
+abbrev pub Spells : List ℕ → List ℕ → Type 0
+Spells items [] = items ≡ []
+Spells items (b ∷ bs) = (item : List ℕ) × (more : List ℕ) × IsItem item b × Spells more bs × (items ≡ item ++ more)
+
+-- A text is read exactly where items spell it, a quote closes it, and the word ends behind the quote.
+abbrev pub TextsAreSpelled : Type 0
+TextsAreSpelled =
+    (bytes bs rest : List ℕ) → (text_at bytes ≡ Some (bs, rest)) ↔ ((items : List ℕ) × Spells items bs × (bytes ≡ items ++ 0x22 ∷ rest) × (ends_word rest ≡ true))
+
+-- A text that is printed is read as the bytes that it was printed for.
+abbrev pub PrintedTextsAreRead : Type 0
+PrintedTextsAreRead = (bs : List ℕ) → AllByRecursion (λ b. b < 256) bs → words (quoted_text bs) ≡ Some (Text bs ∷ [])
+
+-- All words of the bytes are none at their end, and else the next word and those behind it.
+abbrev pub WordsFollow : Type 0
+WordsFollow =
+    (bytes : List ℕ) → words bytes ≡ (if at_end bytes then Some [] else option_and_then (λ x. option_map (λ ws. x.0 ∷ ws) (words x.1)) (next_word bytes))
+
+-- Of a line that is too long, the first 4098 bytes say so: the others can be dropped.
+abbrev pub LongLinesAreCut : Type 0
+LongLinesAreCut = (language : Language) (line : List ℕ) → reading language (take 4098 line) ≡ reading language line

@@ -1,0 +1,103 @@
+-- The words of a line one after another: each reader takes what it reads from the front, and answers it with the rest.
+use Rattle.std.specs.Prelude.{ℕ, Bool, true, not, ◌||◌, Option, Some, None, List, [], ◌∷◌, length, option_map, option_and_then, ◌==◌, if◌then◌else◌, take_while, drop, unwrap_or}
+use Rattle.std.specs.List.{list_all}
+use Rattle.segment_lang.specs.Words.{Word, Bare, Text, is_blank, is_bare, is_plain, byte_of_digits}
+use Rattle.segment_lang.specs.Reading.{skip_blanks}
+
+infixl 10 ◌>>=◌
+abbrev pub ◌>>=◌ : {A B : Type 0} → Option A → (A → Option B) → Option B
+o >>= f = option_and_then f o
+
+-- there are no more words
+abbrev pub at_end : List ℕ → Bool
+at_end bytes = length (skip_blanks bytes) == 0
+
+-- the bytes up to a blank, and what is behind them
+abbrev pub up_to_blank : List ℕ → List ℕ
+up_to_blank bytes = take_while (λ c. not (is_blank c)) bytes
+
+abbrev pub behind_word : List ℕ → List ℕ
+behind_word bytes = drop (length (up_to_blank bytes)) bytes
+
+-- a bare word: all bytes up to a blank fit it
+unfoldable pub bare_at : List ℕ → Option (List ℕ × List ℕ)
+bare_at bytes = if list_all is_bare (up_to_blank bytes) then Some (up_to_blank bytes, behind_word bytes) else None
+
+-- ---- texts
+
+-- two digits
+unfoldable pub digits_at : List ℕ → Option (ℕ × List ℕ)
+digits_at [] = None
+digits_at (h ∷ []) = None
+digits_at (h ∷ l ∷ cs) = option_map (λ c. (c, cs)) (byte_of_digits h l)
+
+-- what stands behind a backslash
+unfoldable pub escape_at : List ℕ → Option (ℕ × List ℕ)
+escape_at [] = None
+escape_at (c ∷ cs) = if (c == 0x22) || (c == 0x5C) then Some (c, cs) else if c == 0x78 then digits_at cs else None
+
+-- one byte of a text; a quote is none
+unfoldable pub item_at : List ℕ → Option (ℕ × List ℕ)
+item_at [] = None
+item_at (c ∷ cs) = if c == 0x5C then escape_at cs else if is_plain c then Some (c, cs) else None
+
+-- a word ends at a blank or at the end of the line
+abbrev pub ends_word : List ℕ → Bool
+ends_word [] = true
+ends_word (c ∷ cs) = is_blank c
+
+abbrev pub closed_at : List ℕ → Option (List ℕ × List ℕ)
+closed_at cs = if ends_word cs then Some ([], cs) else None
+
+-- the quote that closes a text
+abbrev pub quote_at : List ℕ → Option (List ℕ × List ℕ)
+quote_at [] = None
+quote_at (c ∷ cs) = if c == 0x22 then closed_at cs else None
+
+-- what is behind the quote that closes a text
+abbrev pub behind_quote : List ℕ → Option (List ℕ)
+behind_quote [] = None
+behind_quote (c ∷ cs) = if c == 0x22 then (if ends_word cs then Some cs else None) else None
+
+-- one byte more in front of a text
+abbrev pub longer : ℕ → Option (List ℕ × List ℕ) → Option (List ℕ × List ℕ)
+longer c text = option_map (λ (bs, rest). (c ∷ bs, rest)) text
+
+-- A text behind the quote that opens it: items up to the quote that closes it.
+unfoldable mutual
+  pub text_at : List ℕ → Option (List ℕ × List ℕ)
+  text_at [] = None
+  text_at (c ∷ cs) = if c == 0x22 then closed_at cs else if c == 0x5C then escaped_at cs else if is_plain c then longer c (text_at cs) else None
+
+  pub escaped_at : List ℕ → Option (List ℕ × List ℕ)
+  escaped_at [] = None
+  escaped_at (c ∷ cs) = if (c == 0x22) || (c == 0x5C) then longer c (text_at cs) else if c == 0x78 then high_digit_at cs else None
+
+  pub high_digit_at : List ℕ → Option (List ℕ × List ℕ)
+  high_digit_at [] = None
+  high_digit_at (h ∷ []) = None
+  high_digit_at (h ∷ l ∷ cs) = option_and_then (λ c. longer c (text_at cs)) (byte_of_digits h l)
+
+-- the bytes that a text stands for, and what is behind it
+abbrev pub text_in : List ℕ → List ℕ
+text_in bytes = (unwrap_or (text_at bytes) ([], [])).0
+
+abbrev pub behind_text : List ℕ → Option (List ℕ)
+behind_text bytes = option_map (λ x. x.1) (text_at bytes)
+
+-- ---- words
+
+-- a word with no blank in front
+unfoldable pub word_at : List ℕ → Option (Word × List ℕ)
+word_at [] = None
+word_at (c ∷ cs) = if c == 0x22 then option_map (λ (bs, rest). (Text bs, rest)) (text_at cs) else option_map (λ (bs, rest). (Bare bs, rest)) (bare_at (c ∷ cs))
+
+-- the next word, behind the blanks in front of it
+unfoldable pub next_word : List ℕ → Option (Word × List ℕ)
+next_word bytes = word_at (skip_blanks bytes)
+
+-- the only word
+unfoldable pub only_word : List ℕ → Option Word
+only_word bytes = do
+  x ← next_word bytes
+  if at_end x.1 then Some x.0 else None

@@ -1,0 +1,83 @@
+//! Numbers in plain decimal.
+
+ghost use Rattle.std.specs.Prelude.{◌≡◌, ◌≤◌, ◌&&◌, IsTrue, Some, None, if◌then◌else◌, nat_le};
+ghost use Rattle.std.specs.List.{list_all};
+ghost use Rattle.segment_lang.specs.Words.{is_digit, is_numeral, number_after, number_of, negative_of, whole_of};
+
+/// Whether a byte is one of `0` to `9`.
+pub fn is_digit(byte: u8) -> bool
+    ensures { result ≡ is_digit byte }
+{
+    byte.is_ascii_digit()
+}
+
+/// Whether each byte is a digit.
+fn are_digits(bytes: &[u8]) -> bool
+    ensures { result ≡ list_all is_digit bytes.now }
+{
+    bytes.iter().all(|byte| is_digit(*byte))
+}
+
+/// Whether a word is `0`, or digits without a leading zero.
+#[tactic(auto, using(crate::proofs::Decimals::long_numeral))]
+fn is_numeral(word: &[u8]) -> bool
+    ensures { result ≡ is_numeral word.now }
+{
+    match word {
+        [] => false,
+        [digit] => is_digit(*digit),
+        [first, rest @ ..] => *first != b'0' && is_digit(*first) && are_digits(rest),
+    }
+}
+
+/// The number that digits spell, from 0 to 18446744073709551615, or `None` where it is greater.
+#[tactic(auto, using(crate::proofs::Decimals::further_digits, crate::proofs::Decimals::no_further_digits, crate::proofs::Decimals::next_digit))]
+fn value_of_digits(digits: &[u8]) -> Option<u64>
+    requires { IsTrue (list_all is_digit digits.now) }
+    ensures { result ≡ (if nat_le (number_after 0 digits.now) 18446744073709551615 then Some (number_after 0 digits.now) else None) }
+{
+    let mut number: u64 = 0;
+    let mut rest = digits;
+    'digits: while let [digit, tail @ ..] = rest {
+        let next = 10 * u128::from(number) + u128::from(*digit - b'0');
+        if next > u128::from(u64::MAX) {
+            return None;
+        }
+        number = next as u64;
+        rest = tail;
+    }
+    Some(number)
+}
+
+/// The number that a word spells: `0`, or digits without a leading zero, at most
+/// 18446744073709551615. `None` is any other word.
+pub fn number_of(word: &[u8]) -> Option<u64>
+    ensures { result ≡ number_of word.now }
+{
+    if !is_numeral(word) {
+        return None;
+    }
+    value_of_digits(word)
+}
+
+/// The whole number that digits behind a minus sign spell, from -9223372036854775808 to -1.
+fn negative_of(digits: &[u8]) -> Option<i128>
+    ensures { result ≡ negative_of digits.now }
+{
+    let number = number_of(digits)?;
+    if number == 0 || number > 9223372036854775808 {
+        return None;
+    }
+    Some(-i128::from(number))
+}
+
+/// The whole number that a word spells, from -9223372036854775808 to 18446744073709551615: a number,
+/// or `-` and a number that is not 0.
+pub fn whole_of(word: &[u8]) -> Option<i128>
+    ensures { result ≡ whole_of word.now }
+{
+    match word {
+        [b'-', digits @ ..] => negative_of(digits),
+        _ => Some(i128::from(number_of(word)?)),
+    }
+}

@@ -1,0 +1,239 @@
+//! The words of a line, one after another.
+
+ghost use Rattle.std.specs.Prelude.{◌≡◌, ◌≤◌, ◌<◌, ◌+◌, ◌++◌, length, option_map, IfSome};
+ghost use Rattle.std.specs.List.{list_all};
+ghost use Rattle.segment_lang.specs.Words.{is_bare, is_plain, digit_of};
+ghost use Rattle.segment_lang.specs.Tokens.{bare_at, digits_at, ends_word, escape_at, item_at, next_word, only_word, text_at, behind_quote, behind_text, text_in, up_to_blank};
+ghost use Rattle.segment_lang.specs.Seen.{bytes_said, word_of};
+
+use crate::blanks::{at_end, is_blank, skip_blanks, split_word};
+use crate::buffer::Text;
+use std::marker::Model;
+
+/// The bytes that a text in quotes stands for. They are read from the line when they are asked for.
+#[derive(Drop)]
+pub struct Quoted<'a> {
+    // What stands behind the quote that opens the text, to the end of the line.
+    behind: &'a [u8],
+}
+
+impl<'a> Model for Quoted<'a> {
+    ghost use Rattle.std.specs.Prelude.{List, ℕ, IsSome};
+    ghost use Rattle.segment_lang.specs.Tokens.{text_at, text_in};
+
+    ghost Value = { List ℕ };
+
+    ghost view = { λ q. text_in q.behind.now };
+
+    ghost invariant = { λ q. IsSome (text_at q.behind.now) };
+}
+
+impl Quoted<'_> {
+    /// The bytes as a text of its own.
+    pub fn to_text(&self) -> Text
+        requires { length self.now ≤ 4096 }
+        ensures { result ≡ self.now }
+    {
+        let mut text = Text::new();
+        self.append_to(&mut text);
+        text
+    }
+
+    /// Adds the bytes at the end of a text.
+    pub fn append_to(&self, text: &mut Text)
+        requires { length text.old + length self.now ≤ 4096 }
+        ensures { text.new ≡ text.old ++ self.now }
+    {
+        let mut rest = self.behind;
+        'items: while let Some((byte, tail)) = read_item(rest) {
+            text.push(byte);
+            rest = tail;
+        }
+    }
+}
+
+/// A word of a line.
+#[derive(Drop)]
+pub enum Word<'a> {
+    /// Bytes from 0x21 to 0x7E without a quote.
+    Bare(&'a [u8]),
+    /// A text in quotes.
+    Text(Quoted<'a>),
+}
+
+/// Whether a byte may stand in a bare word: 0x21 to 0x7E but a quote.
+fn is_bare(byte: u8) -> bool
+    ensures { result ≡ is_bare byte }
+{
+    byte.is_ascii_graphic() && byte != b'"'
+}
+
+/// Whether each byte may stand in a bare word.
+fn are_bare(bytes: &[u8]) -> bool
+    ensures { result ≡ list_all is_bare bytes.now }
+{
+    bytes.iter().all(|byte| is_bare(*byte))
+}
+
+/// The bare word in front, up to a blank, and what is behind it.
+#[tactic(auto, unfolding(crate::specs::Tokens::bare_at))]
+fn read_bare(bytes: &[u8]) -> Option<(&[u8], &[u8])>
+    ensures value { option_map (λ x. (x.0.now, x.1.now)) result ≡ bare_at bytes.now }
+    ensures shorter { IfSome result (λ x. length (up_to_blank bytes.now) + length x.1.now ≡ length bytes.now) }
+    ensures fits { IfSome result (λ x. length x.0.now ≤ length bytes.now) }
+{
+    let (word, rest) = split_word(bytes);
+    if !are_bare(word) {
+        return None;
+    }
+    Some((word, rest))
+}
+
+/// Whether a byte stands for itself in a text.
+fn is_plain(byte: u8) -> bool
+    ensures { result ≡ is_plain byte }
+{
+    byte >= b' ' && byte != 0x7F && byte != b'"' && byte != b'\\'
+}
+
+/// The value of a digit of `0` to `9`, `a` to `f`, from 0 to 15.
+fn digit_of(byte: u8) -> Option<u8>
+    ensures value { result ≡ digit_of byte }
+    ensures small { IfSome result (λ digit. digit < 16) }
+{
+    match byte {
+        b'0'..=b'9' => Some(byte - b'0'),
+        b'a'..=b'f' => Some(byte - b'a' + 10),
+        _ => None,
+    }
+}
+
+/// The byte that two digits in front spell, and what is behind them.
+#[tactic(auto, unfolding(crate::specs::Tokens::digits_at))]
+fn read_digits(bytes: &[u8]) -> Option<(u8, &[u8])>
+    ensures value { option_map (λ x. (x.0, x.1.now)) result ≡ digits_at bytes.now }
+    ensures shorter { IfSome result (λ x. length x.1.now < length bytes.now) }
+{
+    let [high, low, rest @ ..] = bytes else {
+        return None;
+    };
+    let high = digit_of(*high)?;
+    let low = digit_of(*low)?;
+    Some((16 * high + low, rest))
+}
+
+/// The byte that stands behind a backslash, and what is behind it.
+#[tactic(auto, unfolding(crate::specs::Tokens::escape_at))]
+fn read_escape(bytes: &[u8]) -> Option<(u8, &[u8])>
+    ensures value { option_map (λ x. (x.0, x.1.now)) result ≡ escape_at bytes.now }
+    ensures shorter { IfSome result (λ x. length x.1.now < length bytes.now) }
+{
+    let [byte, rest @ ..] = bytes else {
+        return None;
+    };
+    match *byte {
+        b'"' | b'\\' => Some((*byte, rest)),
+        b'x' => read_digits(rest),
+        _ => None,
+    }
+}
+
+/// The next byte that a text stands for, and what is behind its spelling. A quote is none.
+#[tactic(auto, unfolding(crate::specs::Tokens::item_at))]
+fn read_item(bytes: &[u8]) -> Option<(u8, &[u8])>
+    ensures value { option_map (λ x. (x.0, x.1.now)) result ≡ item_at bytes.now }
+    ensures shorter { IfSome result (λ x. length x.1.now < length bytes.now) }
+{
+    let [byte, rest @ ..] = bytes else {
+        return None;
+    };
+    if *byte == b'\\' {
+        return read_escape(rest);
+    }
+    if !is_plain(*byte) {
+        return None;
+    }
+    Some((*byte, rest))
+}
+
+/// Whether a word may end here: a blank or the end of the line follows.
+fn ends_word(bytes: &[u8]) -> bool
+    ensures { result ≡ ends_word bytes.now }
+{
+    match bytes {
+        [] => true,
+        [byte, ..] => is_blank(*byte),
+    }
+}
+
+/// What stands behind the items of a text.
+fn skip_items(bytes: &[u8]) -> &[u8]
+    ensures end { item_at result.now ≡ None }
+    ensures same { behind_text result.now ≡ behind_text bytes.now }
+    ensures shorter { length result.now ≤ length bytes.now }
+{
+    let mut rest = bytes;
+    'items: while let Some((_, tail)) = read_item(rest) {
+        rest = tail;
+    }
+    rest
+}
+
+/// What is behind the quote that closes a text, where it stands in front and the word ends there.
+fn close_text(bytes: &[u8]) -> Option<&[u8]>
+    ensures value { option_map (λ x. x.now) result ≡ behind_quote bytes.now }
+    ensures shorter { IfSome result (λ x. length x.now < length bytes.now) }
+{
+    let [byte, rest @ ..] = bytes else {
+        return None;
+    };
+    if *byte != b'"' || !ends_word(rest) {
+        return None;
+    }
+    Some(rest)
+}
+
+/// The text behind the quote that opens it, and what is behind the quote that closes it.
+fn read_text(bytes: &[u8]) -> Option<(Quoted<'_>, &[u8])>
+    ensures value { option_map (λ x. (x.0, x.1.now)) result ≡ text_at bytes.now }
+    ensures shorter { IfSome result (λ x. length x.1.now < length bytes.now) }
+    ensures fits { IfSome result (λ x. length x.0 ≤ length bytes.now) }
+{
+    let rest = close_text(skip_items(bytes))?;
+    Some((Quoted { behind: bytes }, rest))
+}
+
+/// The next word, behind the blanks in front of it, and what is behind it. There is none at the end,
+/// and where a byte does not fit.
+#[tactic(auto, unfolding(crate::specs::Tokens::next_word, crate::specs::Tokens::word_at))]
+pub fn next_word(bytes: &[u8]) -> Option<(Word<'_>, &[u8])>
+    ensures value { option_map (λ x. (word_of x.0, x.1.now)) result ≡ next_word bytes.now }
+    ensures shorter { IfSome result (λ x. length x.1.now < length bytes.now) }
+
+    // A word stands for no more bytes than the line has.
+    ensures fits { IfSome result (λ x. length (bytes_said x.0) ≤ length bytes.now) }
+{
+    let bytes = skip_blanks(bytes);
+    let [first, rest @ ..] = bytes else {
+        return None;
+    };
+    if *first == b'"' {
+        let (text, rest) = read_text(rest)?;
+        return Some((Word::Text(text), rest));
+    }
+    let (word, rest) = read_bare(bytes)?;
+    Some((Word::Bare(word), rest))
+}
+
+/// The only word of the bytes: one that is followed by blanks alone.
+#[tactic(auto, unfolding(crate::specs::Tokens::only_word))]
+pub fn only_word(bytes: &[u8]) -> Option<Word<'_>>
+    ensures value { option_map word_of result ≡ only_word bytes.now }
+    ensures fits { IfSome result (λ word. length (bytes_said word) ≤ length bytes.now) }
+{
+    let (word, rest) = next_word(bytes)?;
+    if !at_end(rest) {
+        return None;
+    }
+    Some(word)
+}

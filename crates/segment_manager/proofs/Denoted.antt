@@ -1,0 +1,179 @@
+-- What the bytes denote after one object is added, removed or changed.
+use Rattle.std.proofs.Common.{◌≡◌, refl, sym, ap, subst, ◌∙◌, ℕ, suc, ◌+◌, ◌≤◌, ◌≢◌, Bool, ◌&&◌, List, [], ◌∷◌, length, arith}
+use Rattle.std.specs.Prelude.{IsTrue, nat_le}
+use Rattle.std.specs.List.{AllByRecursion}
+use Rattle.raw_region.specs.Memory.{Memory, Cut, Same, bytes_of}
+use Rattle.block_tags.specs.declared.tile.Role.TheVariants.{Index}
+use Rattle.best_fit.specs.Extents.{Extent, LiveSet, handle, is_proper}
+use Rattle.best_fit.specs.Fit.{added, released}
+use Rattle.best_fit.specs.Heap.{LaysOut, SameBlock, Keeps}
+use Rattle.best_fit.specs.Table.{Table, is_table}
+use Rattle.seg_types.specs.declared.kinds.Class.TheVariants.{Anonymous}
+use Rattle.seg_index.specs.Index.{IsIndexAt}
+use Rattle.segment_manager.specs.Directory.{Object, Directory, IsDirectory, live, extents_of, value_extents, table_extents, is_object, is_index, rises, remove_object, with_object, with_changed, without_object, named_objects, unique_objects, by_name, by_kind}
+use Rattle.segment_manager.specs.Denotes.{Denotes, IsObjectAt, IsHeader, handles}
+use Rattle.segment_manager.proofs.Words.{first, second, no_more, Same-within}
+use Rattle.segment_manager.proofs.Frame.{any_objects-same, any_index-same, header-same}
+use Rattle.segment_manager.proofs.Order.{Differs, IsFresh, inserted, live-rises, rising-insert, all_of-inserted}
+use Rattle.segment_manager.proofs.Live.{adding, removing, OfEach, of_each, IsFound, IsIn, live-put, live-without, live-same}
+use Rattle.segment_manager.proofs.Faces.{IsLike, SameIndex, replace-rises, named-changed, unique-changed, named-with, unique-with, named-without, unique-without, anonymous-named, anonymous-unique}
+use Rattle.segment_manager.proofs.Objects.{all-put, all-remove, all-replace, list_all-put, list_all-remove, list_all-replace, stands_apart, put-rises, remove-rises}
+
+-- ---- what stays
+
+handles-length : (os : List Object) → length (handles os) ≡ length os
+handles-length [] = refl
+handles-length (o ∷ os) = ap suc (handles-length os)
+
+-- an index stays with its words and its block
+pub index-stays : (m m' : Memory) (at : ℕ) (t : Table) (os : List Object) (lt : Object → Object → Bool) → IsTrue (is_index t os lt) → Same m m' at (at + 24)
+    → AllByRecursion (SameBlock m m') (table_extents t) → IsIndexAt m at t (handles os) → IsIndexAt m' at t (handles os)
+index-stays m m' at t os lt is_there s blocks h =
+    let both : IsTrue (is_table Index 8 t && nat_le (length os) t.capacity) = first (is_table Index 8 t && nat_le (length os) t.capacity) (rises lt os) is_there in
+    let fits : length os ≤ t.capacity = no_more (length os) t.capacity (second (is_table Index 8 t) (nat_le (length os) t.capacity) both) in
+    any_index-same m m' at t (handles os) (first (is_table Index 8 t) (nat_le (length os) t.capacity) both) (omega (arith, handles-length os)) s blocks h
+
+-- the header and both indexes
+pub record IsFrame (format : ℕ) (m : Memory) (d : Directory) : Type 0 where
+  pub header : IsHeader format m d.size
+  pub named : IsIndexAt m 32 d.named (handles (named_objects d))
+  pub unique : IsIndexAt m 56 d.unique (handles (unique_objects d))
+
+-- the header and both indexes stay with their words and their blocks
+pub frame-stays : (format : ℕ) (old new : Cut) (d : Directory) (xs : List Extent) → Denotes format old.bytes d → Keeps old new xs
+    → AllByRecursion (SameBlock (bytes_of old.bytes) (bytes_of new.bytes)) (table_extents d.named)
+    → AllByRecursion (SameBlock (bytes_of old.bytes) (bytes_of new.bytes)) (table_extents d.unique) → IsFrame format (bytes_of new.bytes) d
+frame-stays format old new d xs h k n u =
+    let m : Memory = bytes_of old.bytes in
+    let m' : Memory = bytes_of new.bytes in
+    record {
+      header = header-same format m m' d.size k.front k.behind h.header;
+      named = index-stays m m' 32 d.named (named_objects d) by_name h.directory.named (Same-within m m' 32 128 32 56 (omega arith) (omega arith) k.behind) n h.named;
+      unique = index-stays m m' 56 d.unique (unique_objects d) by_kind h.directory.unique (Same-within m m' 32 128 56 80 (omega arith) (omega arith) k.behind) u h.unique;
+    }
+
+-- ---- one object more
+
+-- an object begins where no extent did
+pub fresh : (d : Directory) (o : Object) → IsTrue (is_proper (adding (live d) (extents_of o))) → Differs o.extent (live d).extents
+fresh d o h =
+    let f : IsFresh 128 o.extent (inserted (value_extents o.value) (live d).extents) =
+    rising-insert 128 o.extent (inserted (value_extents o.value) (live d).extents) (live-rises (adding (live d) (extents_of o)) h) in
+    (all_of-inserted (λ (y : Extent). o.extent.offset ≢ y.offset) (value_extents o.value) (live d).extents f.differs).1
+
+-- a directory with an anonymous object more
+pub directory-with : (format : ℕ) (d : Directory) (o : Object) → IsDirectory format d → IsTrue (is_object format o) → o.class ≡ Anonymous
+    → IsTrue (is_proper (adding (live d) (extents_of o))) → IsDirectory format (with_object d o)
+directory-with format d o h is_there c p = record {
+  proper = subst (λ l. IsTrue (is_proper l)) (sym (live-put d o p)) p;
+  objects = list_all-put (is_object format) o d.objects is_there h.objects;
+  by_offset = put-rises 0 o d.objects (omega arith) (stands_apart o d.objects (of_each (λ (y : Extent). o.extent.offset ≢ y.offset) d (fresh d o p)).objects) h.by_offset;
+  named = subst (λ os. IsTrue (is_index d.named os by_name)) (sym (named-with d o (anonymous-named o c))) h.named;
+  unique = subst (λ os. IsTrue (is_index d.unique os by_kind)) (sym (unique-with d o (anonymous-unique o c))) h.unique;
+}
+
+-- an anonymous object, with all its extents
+pub denotes-with : (format : ℕ) (old new : Cut) (d : Directory) (o : Object) → Denotes format old.bytes d → IsTrue (is_object format o) → o.class ≡ Anonymous
+    → LaysOut format new.bytes (adding (live d) (extents_of o)) → Keeps old new (live d).extents → IsObjectAt (bytes_of new.bytes) o → Denotes format new.bytes (with_object d o)
+denotes-with format old new d o h is_there c l k at =
+    let blocks : OfEach (SameBlock (bytes_of old.bytes) (bytes_of new.bytes)) d = of_each (SameBlock (bytes_of old.bytes) (bytes_of new.bytes)) d k.blocks in
+    let frame : IsFrame format (bytes_of new.bytes) d = frame-stays format old new d (live d).extents h k blocks.named blocks.unique in
+    record {
+      directory = directory-with format d o h.directory is_there c l.proper;
+      header = frame.header;
+      heap = subst (LaysOut format new.bytes) (sym (live-put d o l.proper)) l;
+      named = subst (λ os. IsIndexAt (bytes_of new.bytes) 32 d.named (handles os)) (sym (named-with d o (anonymous-named o c))) frame.named;
+      unique = subst (λ os. IsIndexAt (bytes_of new.bytes) 56 d.unique (handles os)) (sym (unique-with d o (anonymous-unique o c))) frame.unique;
+      objects = all-put (IsObjectAt (bytes_of new.bytes)) o d.objects at
+          (any_objects-same format (bytes_of old.bytes) (bytes_of new.bytes) d.objects h.directory.objects blocks.objects h.objects);
+    }
+
+-- an anonymous object that has one extent
+pub denotes-added : (format : ℕ) (old new : Cut) (d : Directory) (o : Object) → Denotes format old.bytes d → IsTrue (is_object format o) → o.class ≡ Anonymous
+    → value_extents o.value ≡ [] → LaysOut format new.bytes (added (live d) o.extent) → Keeps old new (live d).extents → IsObjectAt (bytes_of new.bytes) o
+    → Denotes format new.bytes (with_object d o)
+denotes-added format old new d o h is_there c e l k at =
+    denotes-with format old new d o h is_there c (subst (LaysOut format new.bytes) (ap (λ xs. adding (live d) (o.extent ∷ xs)) (sym e)) l) k at
+
+-- ---- one object less
+
+-- a directory with an anonymous object less
+pub directory-without : (format : ℕ) (d : Directory) (o : Object) → IsDirectory format d → IsIn d o → o.class ≡ Anonymous
+    → IsTrue (is_proper (live (without_object d o))) → IsDirectory format (without_object d o)
+directory-without format d o h f c p = record {
+  proper = p;
+  objects = list_all-remove (is_object format) (handle o.extent) d.objects h.objects;
+  by_offset = remove-rises 0 (handle o.extent) d.objects h.by_offset;
+  named = subst (λ os. IsTrue (is_index d.named os by_name)) (sym (named-without d o f (anonymous-named o c))) h.named;
+  unique = subst (λ os. IsTrue (is_index d.unique os by_kind)) (sym (unique-without d o f (anonymous-unique o c))) h.unique;
+}
+
+-- an anonymous object, with all its extents: those of the others stay
+pub denotes-without : (format : ℕ) (old new : Cut) (d : Directory) (o : Object) → Denotes format old.bytes d → IsIn d o → o.class ≡ Anonymous
+    → LaysOut format new.bytes (removing (live d) (extents_of o)) → Keeps old new (removing (live d) (extents_of o)).extents → Denotes format new.bytes (without_object d o)
+denotes-without format old new d o h f c l k =
+    let same : live (without_object d o) ≡ removing (live d) (extents_of o) = live-without d o f h.directory.proper in
+    let l' : LaysOut format new.bytes (live (without_object d o)) = subst (LaysOut format new.bytes) (sym same) l in
+    let blocks : OfEach (SameBlock (bytes_of old.bytes) (bytes_of new.bytes)) (without_object d o) =
+    of_each (SameBlock (bytes_of old.bytes) (bytes_of new.bytes)) (without_object d o)
+    (subst (λ (s : LiveSet). AllByRecursion (SameBlock (bytes_of old.bytes) (bytes_of new.bytes)) s.extents) (sym same) k.blocks) in
+    let frame : IsFrame format (bytes_of new.bytes) d = frame-stays format old new d (removing (live d) (extents_of o)).extents h k blocks.named blocks.unique in
+    record {
+      directory = directory-without format d o h.directory f c l'.proper;
+      header = frame.header;
+      heap = l';
+      named = subst (λ os. IsIndexAt (bytes_of new.bytes) 32 d.named (handles os)) (sym (named-without d o f (anonymous-named o c))) frame.named;
+      unique = subst (λ os. IsIndexAt (bytes_of new.bytes) 56 d.unique (handles os)) (sym (unique-without d o f (anonymous-unique o c))) frame.unique;
+      objects = any_objects-same format (bytes_of old.bytes) (bytes_of new.bytes) (remove_object (handle o.extent) d.objects)
+          (list_all-remove (is_object format) (handle o.extent) d.objects h.directory.objects) blocks.objects
+          (all-remove (IsObjectAt (bytes_of old.bytes)) (handle o.extent) d.objects h.objects);
+    }
+
+-- an anonymous object that has one extent
+pub denotes-removed : (format : ℕ) (old new : Cut) (d : Directory) (o : Object) → Denotes format old.bytes d → IsIn d o → o.class ≡ Anonymous → value_extents o.value ≡ []
+    → LaysOut format new.bytes (released (live d) (handle o.extent)) → Keeps old new (released (live d) (handle o.extent)).extents → Denotes format new.bytes (without_object d o)
+denotes-removed format old new d o h f c e l k =
+    let same : removing (live d) (extents_of o) ≡ released (live d) (handle o.extent) = ap (λ xs. removing (live d) (o.extent ∷ xs)) e in
+    denotes-without format old new d o h f c (subst (LaysOut format new.bytes) (sym same) l) (subst (λ (s : LiveSet). Keeps old new s.extents) (sym same) k)
+
+-- ---- one object changed
+
+-- an object like another in its place, of any class: the blocks of the others stay
+pub denotes-replaced : (format : ℕ) (old new : Cut) (d : Directory) (o o' : Object) → Denotes format old.bytes d → IsFound (handle o'.extent) d.objects o → IsLike o o'
+    → IsTrue (is_object format o') → LaysOut format new.bytes (live (with_changed d o')) → Keeps old new (live (without_object d o')).extents
+    → IsObjectAt (bytes_of new.bytes) o' → Denotes format new.bytes (with_changed d o')
+denotes-replaced format old new d o o' h f like is_there l k at =
+    let blocks : OfEach (SameBlock (bytes_of old.bytes) (bytes_of new.bytes)) (without_object d o') =
+    of_each (SameBlock (bytes_of old.bytes) (bytes_of new.bytes)) (without_object d o') k.blocks in
+    let frame : IsFrame format (bytes_of new.bytes) d = frame-stays format old new d (live (without_object d o')).extents h k blocks.named blocks.unique in
+    let n : SameIndex by_name (named_objects d) (named_objects (with_changed d o')) = named-changed d o o' f like in
+    let u : SameIndex by_kind (unique_objects d) (unique_objects (with_changed d o')) = unique-changed d o o' f like in
+    record {
+      directory = record {
+        proper = l.proper;
+        objects = list_all-replace (is_object format) o' d.objects is_there h.directory.objects;
+        by_offset = replace-rises 0 d.objects o o' f like ∙ h.directory.by_offset;
+        named = n.index d.named ∙ h.directory.named;
+        unique = u.index d.unique ∙ h.directory.unique;
+      };
+      header = frame.header;
+      heap = l;
+      named = subst (IsIndexAt (bytes_of new.bytes) 32 d.named) (sym n.entries) frame.named;
+      unique = subst (IsIndexAt (bytes_of new.bytes) 56 d.unique) (sym u.entries) frame.unique;
+      objects = all-replace (IsObjectAt (bytes_of new.bytes)) o' d.objects at
+          (any_objects-same format (bytes_of old.bytes) (bytes_of new.bytes) (remove_object (handle o'.extent) d.objects)
+          (list_all-remove (is_object format) (handle o'.extent) d.objects h.directory.objects) blocks.objects
+          (all-remove (IsObjectAt (bytes_of old.bytes)) (handle o'.extent) d.objects h.objects));
+    }
+
+-- its extents are the same
+pub denotes-changed : (format : ℕ) (old new : Cut) (d : Directory) (o o' : Object) → Denotes format old.bytes d → IsFound (handle o'.extent) d.objects o → IsLike o o'
+    → value_extents o'.value ≡ value_extents o.value → IsTrue (is_object format o') → LaysOut format new.bytes (live d) → Keeps old new (removing (live d) (extents_of o)).extents
+    → IsObjectAt (bytes_of new.bytes) o' → Denotes format new.bytes (with_changed d o')
+denotes-changed format old new d o o' h f like e is_there l k at =
+    let f' : IsIn d o = subst (λ (x : Extent). IsFound (handle x) d.objects o) like.extent f in
+    let same : live (with_changed d o') ≡ live d = live-same d o o' f (λ i. like.extent i ∷ e i) in
+    let others : live (without_object d o') ≡ removing (live d) (extents_of o) =
+    ap (λ (x : Extent). live (record d { objects = remove_object (handle x) d.objects })) like.extent ∙ live-without d o f' h.directory.proper in
+    denotes-replaced format old new d o o' h f like is_there (subst (LaysOut format new.bytes) (sym same) l)
+    (subst (λ (s : LiveSet). Keeps old new s.extents) (sym others) k) at

@@ -1,0 +1,139 @@
+-- The live set after an object's value takes a block more or less, or has one regrown.
+use Rattle.std.proofs.Common.{◌≡◌, refl, sym, ap, subst, ◌∙◌, ℕ, ◌+◌, ◌≢◌, List, [], ◌∷◌, ◌++◌}
+use Rattle.std.specs.Prelude.{IsTrue}
+use Rattle.std.specs.List.{AllByRecursion}
+use Rattle.raw_region.specs.Memory.{Cut, bytes_of}
+use Rattle.best_fit.specs.Extents.{Extent, LiveSet, handle, is_proper}
+use Rattle.best_fit.specs.Fit.{insert, others, added, released, resized}
+use Rattle.best_fit.specs.Heap.{SameBlock, Keeps}
+use Rattle.segment_manager.specs.Directory.{Object, Directory, live, extents_of, remove_object, with_changed, without_object}
+use Rattle.segment_manager.proofs.Words.{AllByRecursion-front}
+use Rattle.segment_manager.proofs.Order.{Differs, Rising, IsFresh, inserted, insert-comm, insert-inserted, all-insert, all_of-insert, all_of-inserted, live-rises, rising-insert, apart-inserted, others-insert}
+use Rattle.segment_manager.proofs.Live.{adding, IsFound, IsIn, live-split, live-changed}
+
+-- ---- one extent among others
+
+differs-flip : (x : Extent) (ys : List Extent) → AllByRecursion (λ y. Differs y (x ∷ [])) ys → Differs x ys
+differs-flip x [] h = tt
+differs-flip x (y ∷ ys) h = ((λ e. h.0.0 (sym e)), differs-flip x ys h.1)
+
+inserted-append : (xs ys zs : List Extent) → inserted (xs ++ ys) zs ≡ inserted xs (inserted ys zs)
+inserted-append [] ys zs = refl
+inserted-append (x ∷ xs) ys zs = ap (insert x) (inserted-append xs ys zs)
+
+-- one in the middle is put in last
+inserted-middle : (xs ys zs : List Extent) (x : Extent) → Differs x xs → inserted (xs ++ x ∷ ys) zs ≡ insert x (inserted (xs ++ ys) zs)
+inserted-middle xs ys zs x d =
+    inserted-append xs (x ∷ ys) zs ∙ sym (insert-inserted x xs (inserted ys zs) d) ∙ ap (insert x) (sym (inserted-append xs ys zs))
+
+-- it differs from all the others
+middle-differs : (n : ℕ) (xs ys zs : List Extent) (x : Extent) → Rising n (inserted (xs ++ x ∷ ys) zs) → Differs x xs
+middle-differs n xs ys zs x h = differs-flip x xs (apart-inserted n xs (x ∷ []) (inserted ys zs) (subst (Rising n) (inserted-append xs (x ∷ ys) zs) h))
+
+fresh-differs : (n : ℕ) (xs ys zs : List Extent) (x : Extent) → Rising n (insert x (inserted (xs ++ ys) zs)) → Differs x xs
+fresh-differs n xs ys zs x h =
+    let f : IsFresh n x (inserted (xs ++ ys) zs) = rising-insert n x (inserted (xs ++ ys) zs) h in
+    AllByRecursion-front (λ (y : Extent). x.offset ≢ y.offset) xs ys (all_of-inserted (λ (y : Extent). x.offset ≢ y.offset) (xs ++ ys) zs f.differs).0
+
+-- ---- the extents of an object and of one in its place
+
+-- what is the same of the two: the block of their own, and so the others
+pub record InPlace (d : Directory) (o o' : Object) : Type 0 where
+  pub found : IsFound (handle o'.extent) d.objects o
+  pub extent : o'.extent ≡ o.extent
+  pub proper : IsTrue (is_proper (live d))
+
+-- all extents but those of the object
+abbrev rest : Directory → Object → List Extent
+rest d o = (live (without_object d o)).extents
+
+-- the live set of these extents
+abbrev with_extents : Directory → Object → List Extent → LiveSet
+with_extents d o xs = adding (live (without_object d o)) xs
+
+split : (d : Directory) (o o' : Object) (xs : List Extent) → InPlace d o o' → extents_of o ≡ xs → live d ≡ with_extents d o' xs
+split d o o' xs p e =
+    let f : IsIn d o = subst (λ (x : Extent). IsFound (handle x) d.objects o) p.extent p.found in
+    live-split d o f p.proper ∙ (λ i. adding (live (record d { objects = remove_object (handle (sym p.extent i)) d.objects })) (e i))
+
+joined : (d : Directory) (o o' : Object) (xs : List Extent) → InPlace d o o' → extents_of o' ≡ xs → IsTrue (is_proper (with_extents d o' xs)) → live (with_changed d o') ≡ with_extents d o' xs
+joined d o o' xs p e h =
+    live-changed d o o' p.found (subst (λ ys. IsTrue (is_proper (with_extents d o' ys))) (sym e) h) ∙ ap (with_extents d o') e
+
+abbrev of_extents : Directory → Object → List Extent → LiveSet
+of_extents d o xs = record (live (without_object d o)) { extents = xs }
+
+middle : (d : Directory) (o : Object) (xs ys : List Extent) (x : Extent) → Differs x xs → with_extents d o (xs ++ x ∷ ys) ≡ added (with_extents d o (xs ++ ys)) x
+middle d o xs ys x h = ap (of_extents d o) (inserted-middle xs ys (rest d o) x h)
+
+-- one block more
+pub live-more : (d : Directory) (o o' : Object) (xs ys : List Extent) (x : Extent) → InPlace d o o' → extents_of o ≡ xs ++ ys → extents_of o' ≡ xs ++ x ∷ ys
+    → IsTrue (is_proper (added (live d) x)) → live (with_changed d o') ≡ added (live d) x
+live-more d o o' xs ys x p e e' h =
+    let was : live d ≡ with_extents d o' (xs ++ ys) = split d o o' (xs ++ ys) p e in
+    let h' : IsTrue (is_proper (added (with_extents d o' (xs ++ ys)) x)) = subst (λ l. IsTrue (is_proper (added l x))) was h in
+    let is : with_extents d o' (xs ++ x ∷ ys) ≡ added (with_extents d o' (xs ++ ys)) x =
+    middle d o' xs ys x (fresh-differs 128 xs ys (rest d o') x (live-rises (added (with_extents d o' (xs ++ ys)) x) h')) in
+    joined d o o' (xs ++ x ∷ ys) p e' (subst (λ l. IsTrue (is_proper l)) (sym is) h') ∙ is ∙ ap (λ l. added l x) (sym was)
+
+-- what the live set is with the block, and without it
+record Parted (d : Directory) (o' : Object) (xs ys : List Extent) (x : Extent) : Type 0 where
+  was : live d ≡ added (with_extents d o' (xs ++ ys)) x
+  differs : Differs x (inserted (xs ++ ys) (rest d o'))
+  front : Differs x xs
+
+parted : (d : Directory) (o o' : Object) (xs ys : List Extent) (x : Extent) → InPlace d o o' → extents_of o ≡ xs ++ x ∷ ys → Parted d o' xs ys x
+parted d o o' xs ys x p e =
+    let was : live d ≡ with_extents d o' (xs ++ x ∷ ys) = split d o o' (xs ++ x ∷ ys) p e in
+    let r : Rising 128 (inserted (xs ++ x ∷ ys) (rest d o')) = live-rises (with_extents d o' (xs ++ x ∷ ys)) (subst (λ l. IsTrue (is_proper l)) was p.proper) in
+    let front : Differs x xs = middle-differs 128 xs ys (rest d o') x r in
+    let f : IsFresh 128 x (inserted (xs ++ ys) (rest d o')) =
+    rising-insert 128 x (inserted (xs ++ ys) (rest d o')) (subst (Rising 128) (inserted-middle xs ys (rest d o') x front) r) in
+    record { was = was ∙ middle d o' xs ys x front; differs = f.differs; front = front }
+
+released-part : (d : Directory) (o' : Object) (xs ys : List Extent) (x : Extent) → Parted d o' xs ys x → released (live d) (handle x) ≡ with_extents d o' (xs ++ ys)
+released-part d o' xs ys x q = ap (λ l. released l (handle x)) q.was ∙ ap (of_extents d o') (others-insert x (inserted (xs ++ ys) (rest d o')) q.differs)
+
+-- one block less
+pub live-less : (d : Directory) (o o' : Object) (xs ys : List Extent) (x : Extent) → InPlace d o o' → extents_of o ≡ xs ++ x ∷ ys → extents_of o' ≡ xs ++ ys
+    → IsTrue (is_proper (released (live d) (handle x))) → live (with_changed d o') ≡ released (live d) (handle x)
+live-less d o o' xs ys x p e e' h =
+    let less : released (live d) (handle x) ≡ with_extents d o' (xs ++ ys) = released-part d o' xs ys x (parted d o o' xs ys x p e) in
+    joined d o o' (xs ++ ys) p e' (subst (λ l. IsTrue (is_proper l)) less h) ∙ sym less
+
+-- a block regrown where it begins
+pub live-regrown : (d : Directory) (o o' : Object) (xs ys : List Extent) (x y : Extent) → InPlace d o o' → extents_of o ≡ xs ++ x ∷ ys → extents_of o' ≡ xs ++ y ∷ ys → y.offset ≡ x.offset
+    → IsTrue (is_proper (resized (live d) y)) → live (with_changed d o') ≡ resized (live d) y
+live-regrown d o o' xs ys x y p e e' f h =
+    let q : Parted d o' xs ys x = parted d o o' xs ys x p e in
+    let less : released (live d) (handle y) ≡ with_extents d o' (xs ++ ys) = ap (λ (n : ℕ). released (live d) (n + 16)) f ∙ released-part d o' xs ys x q in
+    let h' : IsTrue (is_proper (added (with_extents d o' (xs ++ ys)) y)) = subst (λ l. IsTrue (is_proper (added l y))) less h in
+    let is : with_extents d o' (xs ++ y ∷ ys) ≡ added (with_extents d o' (xs ++ ys)) y =
+    middle d o' xs ys y (fresh-differs 128 xs ys (rest d o') y (live-rises (added (with_extents d o' (xs ++ ys)) y) h')) in
+    joined d o o' (xs ++ y ∷ ys) p e' (subst (λ l. IsTrue (is_proper l)) (sym is) h') ∙ is ∙ ap (λ l. added l y) (sym less)
+
+-- a new block taken beside an old one, which is released then
+pub live-moved : (d : Directory) (o o' : Object) (xs ys : List Extent) (x y : Extent) → InPlace d o o' → extents_of o ≡ xs ++ x ∷ ys → extents_of o' ≡ xs ++ y ∷ ys
+    → IsTrue (is_proper (added (live d) y)) → IsTrue (is_proper (released (added (live d) y) (handle x))) → live (with_changed d o') ≡ released (added (live d) y) (handle x)
+live-moved d o o' xs ys x y p e e' g h =
+    let q : Parted d o' xs ys x = parted d o o' xs ys x p e in
+    let v : List Extent = inserted (xs ++ ys) (rest d o') in
+    let r : Rising 128 (insert y (insert x v)) = live-rises (added (added (with_extents d o' (xs ++ ys)) x) y) (subst (λ l. IsTrue (is_proper (added l y))) q.was g) in
+    let f : IsFresh 128 y (insert x v) = rising-insert 128 y (insert x v) r in
+    let both : (y.offset ≢ x.offset) × Differs y v = all_of-insert (λ (z : Extent). y.offset ≢ z.offset) x v f.differs in
+    let apart : Differs x (insert y v) = all-insert (λ (z : Extent). x.offset ≢ z.offset) y v (λ s. both.0 (sym s)) q.differs in
+    let left : released (added (live d) y) (handle x) ≡ added (with_extents d o' (xs ++ ys)) y =
+    ap (λ l. released (added l y) (handle x)) q.was
+    ∙ ap (λ zs. of_extents d o' (others (handle x) zs)) (insert-comm y x v both.0)
+    ∙ ap (of_extents d o') (others-insert x (insert y v) apart) in
+    let is : with_extents d o' (xs ++ y ∷ ys) ≡ added (with_extents d o' (xs ++ ys)) y =
+    middle d o' xs ys y (AllByRecursion-front (λ (z : Extent). y.offset ≢ z.offset) xs ys (all_of-inserted (λ (z : Extent). y.offset ≢ z.offset) (xs ++ ys) (rest d o') both.1).0) in
+    joined d o o' (xs ++ y ∷ ys) p e' (subst (λ l. IsTrue (is_proper l)) (left ∙ sym is) h) ∙ is ∙ sym left
+
+-- what is kept of all blocks but one of an object's is kept of those of the others
+pub keeps-others : (old new : Cut) (d : Directory) (o o' : Object) (xs ys : List Extent) (x : Extent) → InPlace d o o' → extents_of o ≡ xs ++ x ∷ ys
+    → Keeps old new (released (live d) (handle x)).extents → Keeps old new (live (without_object d o')).extents
+keeps-others old new d o o' xs ys x p e k =
+    let less : released (live d) (handle x) ≡ with_extents d o' (xs ++ ys) = released-part d o' xs ys x (parted d o o' xs ys x p e) in
+    let k' : Keeps old new (with_extents d o' (xs ++ ys)).extents = subst (λ (l : LiveSet). Keeps old new l.extents) less k in
+    record { place = k'.place; front = k'.front; behind = k'.behind; blocks = (all_of-inserted (SameBlock (bytes_of old.bytes) (bytes_of new.bytes)) (xs ++ ys) (rest d o') k'.blocks).1 }

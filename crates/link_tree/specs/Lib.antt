@@ -1,1 +1,10 @@
 pub mod Tree
+pub mod Nodes
+pub mod Between
+pub mod Sides
+pub mod Turning
+pub mod Growing
+pub mod Shrinking
+pub mod Checking
+pub mod Table
+pub mod TableLaws

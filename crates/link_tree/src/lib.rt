@@ -1,2 +1,28 @@
 //! Ordered red-black trees over links that someone else keeps.
+//!
+//! The keeper of the nodes implements `Nodes`, and `NodesMut` where the tree changes: nodes are `u64`, links `Option<u64>`.
+//! No call makes, copies or moves a node, or allocates. Each answers its steps: a step is going to a node, with all
+//! reads and writes of its fields until the call goes to another.
+//! The trees are those of Cormen, Leiserson, Rivest and Stein, Introduction to Algorithms, chapter 13; `insert` goes
+//! after Okasaki, `remove` after Filliâtre and Letouzey.
 #![tactic(auto)]
+
+mod checking;
+mod inserting;
+mod laws;
+mod nodes;
+mod removing;
+mod searching;
+#[cfg(test)]
+mod tests;
+mod turning;
+mod visits;
+mod walking;
+
+pub use checking::{Checked, check};
+pub use inserting::{Changed, insert};
+pub use laws::{law_of_height, law_of_reading};
+pub use nodes::{Nodes, NodesMut};
+pub use removing::remove;
+pub use searching::{Found, find_first_not_before};
+pub use walking::walk;

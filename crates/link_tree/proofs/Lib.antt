@@ -1,0 +1,16 @@
+pub mod Orders
+pub mod Trees
+pub mod Heights
+pub mod Limits
+pub mod Seeking
+pub mod Joints
+pub mod Turns
+pub mod Colours
+pub mod Growth
+pub mod Mending
+pub mod Shrinkage
+pub mod Folding
+pub mod Reading
+pub mod Taking
+pub mod Soundness
+pub mod Tables

@@ -1,0 +1,70 @@
+use Rattle.std.proofs.Common.{◌≡◌, ℕ, ◌≤◌, true, Option, Some, length, sym, ap, ◌∙◌, arith}
+use Rattle.std.proofs.lemmas.Bool.{false≢true}
+use Rattle.link_tree.specs.Tree.{Tree, nodes_of, height, IsSearchTree}
+use Rattle.link_tree.specs.Nodes.{leads}
+use Rattle.link_tree.proofs.Trees.{one_tree, some_same, none_some}
+use Rattle.link_tree.proofs.Limits.{count_all, height_limit}
+use Rattle.link_tree.proofs.Soundness.{only, length-only, leads_only, only_closed, sound_whole, whole_sound}
+use Rattle.link_tree.proofs.checking.check.Goals as goal
+use Rattle.link_tree.proofs.checking.check.Given.{Over}
+
+low_tree : (g : Over) (s : g.row.N.Denot) (link : Option ℕ) (t : Tree) → IsSearchTree (g.N.Nodes.order s) (g.N.Nodes.cells s) link t
+    → leads (g.N.Nodes.is_node s) link ≡ true → height t ≤ 80
+low_tree g s link t k at_node =
+    let f = g.met.N.Nodes.finite s in
+    (height_limit (g.N.Nodes.order s) (g.met.N.Nodes.transitive s) (g.met.N.Nodes.irreflexive s) (g.N.Nodes.cells s) (g.N.Nodes.is_node s)
+    (g.met.N.Nodes.left_closed s) (g.met.N.Nodes.right_closed s) f.0 f.1 f.2 link t k at_node).0
+
+pub check_below-requires-clause-room : goal.check_below-requires-clause-room
+check_below-requires-clause-room g c =
+    let s = c.args.nodes.now in
+    let f = g.met.N.Nodes.finite s in
+    let good = g.N.Nodes.is_node s in
+    let ns = only good f.0 in
+    let few = f.1 in
+    let fewer = length-only good f.0 in
+    let counts = count_all (g.N.Nodes.order s) ns in
+    let zero = c.new-visits.ensures.steps in
+    let closed = only_closed (g.N.Nodes.cells s) good f.0 (g.met.N.Nodes.left_closed s) (g.met.N.Nodes.right_closed s) f.2 in
+    let e = c.new-visits.ensures.nodes in
+    (ns, rw e closed, leads_only good f.0 f.2 c.args.root c.requires, rw e (omega arith))
+
+pub returns-in_default-clause-counts : goal.returns-in_default-clause-counts
+returns-in_default-clause-counts g c = λ m. (
+  λ e. absurd (none_some m e),
+  λ w.
+      let s = c.args.nodes.now in
+      let low = low_tree g s c.args.root w.0 w.1 c.requires in
+      let complete = rw c.new-visits.ensures.nodes at c.check_below.ensures.complete in
+      let some = complete w.0 w.1.red_black.black.0 (sound_whole (g.N.Nodes.order s) (g.met.N.Nodes.transitive s) (g.met.N.Nodes.irreflexive s) (g.N.Nodes.cells s) c.args.root w.0 w.1) (omega arith) in
+      absurd (false≢true (rw c.in_default.is at some)),
+)
+
+pub returns-in_default-clause-steps : goal.returns-in_default-clause-steps
+returns-in_default-clause-steps g c = λ ns closed k.
+    let s = c.args.nodes.now in
+    let first = rw c.new-visits.ensures.nodes at c.check_below.ensures.steps in
+    let spent = rw c.in_default.is at (first ns closed k) in
+    let counts = count_all (g.N.Nodes.order s) ns in
+    let zero = c.new-visits.ensures.steps in
+    omega arith
+
+pub returns-clause-counts : goal.returns-clause-counts
+returns-clause-counts g c = λ m.
+    let s = c.args.nodes.now in
+    let sound = rw c.new-visits.ensures.nodes at c.in-Some.ensures.sound in
+    let whole = whole_sound (g.N.Nodes.order s) (g.met.N.Nodes.transitive s) (g.met.N.Nodes.irreflexive s) (g.N.Nodes.cells s) c.args.root sound.0 c.in-Some.part.blacks sound.1 in (
+      λ e. (sound.0, whole, sound.2 ∙ some_same c.in-Some.part.nodes m e),
+      λ w.
+          let same = one_tree (g.N.Nodes.cells s) c.args.root sound.0 w.0 whole.tree w.1.tree in
+          ap Some (sym sound.2 ∙ ap (λ t. length (nodes_of t)) same ∙ w.2),
+    )
+
+pub returns-clause-steps : goal.returns-clause-steps
+returns-clause-steps g c = λ ns closed k.
+    let s = c.args.nodes.now in
+    let first = rw c.new-visits.ensures.nodes at c.check_below.ensures.steps in
+    let spent = rw c.in-Some.is at (first ns closed k) in
+    let counts = count_all (g.N.Nodes.order s) ns in
+    let zero = c.new-visits.ensures.steps in
+    omega arith

@@ -1,0 +1,20 @@
+use Rattle.std.proofs.Common.{◌≡◌}
+use Rattle.link_tree.proofs.Growth.{nodes_of-rebalanced}
+use Rattle.link_tree.proofs.Mending.{mend_red_at}
+use Rattle.link_tree.proofs.removing.mend_red.Goals as goal
+
+pub returns-clause-mended : goal.returns-clause-mended
+returns-clause-mended g c = λ t w o.
+    let s = c.args.visits.now.nodes.now in
+    let h = g.N.Nodes.cells s in
+    let side = c.args.side in
+    let e2 : c.child-inner.new.self.nodes.now ≡ c.set_red.new.self.nodes.now = cc in
+    let eo2 : g.N.Nodes.order c.set_red.new.self.nodes.now ≡ g.N.Nodes.order s = cc in
+    let eo3 : g.N.Nodes.order c.redden.new.visits.nodes.now ≡ g.N.Nodes.order s = cc in
+    let redden = rw (e2, eo2) at c.redden.ensures.reddened in
+    let balance = rw eo3 at c.balance-root.ensures.balanced in
+    mend_red_at (g.N.Nodes.order s) (g.met.N.Nodes.transitive s) (g.met.N.Nodes.irreflexive s) side h
+    (g.N.Nodes.cells c.lift.new.visits.nodes.now) (g.N.Nodes.cells c.set_red.new.self.nodes.now) (g.N.Nodes.cells c.redden.new.visits.nodes.now)
+    (g.N.Nodes.cells c.balance-root.new.visits.nodes.now) (g.N.Nodes.cells c.set_child.new.self.nodes.now)
+    c.args.top c.args.heavy c.balance-root.result c.lift.result c.child-inner.result t w o (cc) (cc) c.lift.ensures.lifted (cc) (cc) redden balance
+    (nodes_of-rebalanced side) (cc)

@@ -1,0 +1,21 @@
+-- Nodes that stand between two others.
+use Rattle.std.specs.Prelude.{ℕ, ◌+◌, Bool, true, ◌&&◌, Option, Some, None, List, [], ◌∷◌, if◌then◌else◌}
+
+-- whether the node stands behind `low`, where there is a `low`
+abbrev pub is_above : (ℕ → ℕ → Bool) → Option ℕ → ℕ → Bool
+is_above precedes None n = true
+is_above precedes (Some low) n = precedes low n
+
+-- whether the node stands before `high`, where there is a `high`
+abbrev pub is_below : (ℕ → ℕ → Bool) → ℕ → Option ℕ → Bool
+is_below precedes n None = true
+is_below precedes n (Some high) = precedes n high
+
+abbrev pub is_between : (ℕ → ℕ → Bool) → Option ℕ → ℕ → Option ℕ → Bool
+is_between precedes low n high = is_above precedes low n && is_below precedes n high
+
+-- how many nodes of the list stand between the two
+abbrev pub count_between : (ℕ → ℕ → Bool) → Option ℕ → Option ℕ → List ℕ → ℕ
+count_between precedes low high [] = 0
+count_between precedes low high (n ∷ ns) =
+    (if is_between precedes low n high then 1 else 0) + count_between precedes low high ns

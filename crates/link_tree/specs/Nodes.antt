@@ -1,0 +1,44 @@
+-- What a call says of the nodes that it changed, and of lists of nodes.
+use Rattle.std.specs.Prelude.{ℕ, Bool, true, false, not, ◌||◌, Option, Some, None, List, [], ◌∷◌, nat_eq, if◌then◌else◌}
+use Rattle.std.specs.List.{find, list_all}
+use Rattle.link_tree.specs.Tree.{Cell}
+
+-- the cells, where one node's left link now leads to `to`
+unfoldable pub with_left : (ℕ → Cell) → ℕ → Option ℕ → ℕ → Cell
+with_left cells n to m = if nat_eq m n then record (cells m) { left = to } else cells m
+
+-- the cells, where one node's right link now leads to `to`
+unfoldable pub with_right : (ℕ → Cell) → ℕ → Option ℕ → ℕ → Cell
+with_right cells n to m = if nat_eq m n then record (cells m) { right = to } else cells m
+
+-- the cells, where one node now has this colour
+unfoldable pub with_red : (ℕ → Cell) → ℕ → Bool → ℕ → Cell
+with_red cells n red m = if nat_eq m n then record (cells m) { red = red } else cells m
+
+-- whether the node stands in the list
+abbrev pub is_in : ℕ → List ℕ → Bool
+is_in m [] = false
+is_in m (n ∷ ns) = nat_eq m n || is_in m ns
+
+-- a link that leads to a node that passes the test, or nowhere
+abbrev pub leads : (ℕ → Bool) → Option ℕ → Bool
+leads good None = true
+leads good (Some n) = good n
+
+-- the first node that does not stand before the probe
+abbrev pub first_not : (ℕ → Bool) → List ℕ → Option ℕ
+first_not before ns = find (λ n. not (before n)) ns
+
+-- whether the node stands before or behind each node of the list
+abbrev pub has_place : (ℕ → ℕ → Bool) → ℕ → List ℕ → Bool
+has_place precedes n ns = list_all (λ m. precedes n m || precedes m n) ns
+
+-- the ordered list with the node put in before the first that it precedes
+abbrev pub put : (ℕ → ℕ → Bool) → ℕ → List ℕ → List ℕ
+put precedes n [] = n ∷ []
+put precedes n (m ∷ ms) = if precedes n m then n ∷ m ∷ ms else m ∷ put precedes n ms
+
+-- the list without the node
+abbrev pub without : ℕ → List ℕ → List ℕ
+without n [] = []
+without n (m ∷ ms) = if nat_eq n m then without n ms else m ∷ without n ms

@@ -1,0 +1,163 @@
+//! Whether links are an ordered red-black tree.
+
+ghost use Rattle.std.specs.Prelude.{◌≡◌, ◌↔◌, ℕ, ◌+◌, ◌*◌, ◌<◌, ◌≤◌, ◌^◌, Bool, true, false, Option, Some, None, List, length, IfSome, is_some, if◌then◌else◌};
+ghost use Rattle.link_tree.specs.Tree.{Cell, Tree, IsSearchTree, nodes_of, height, bits};
+ghost use Rattle.link_tree.specs.Nodes.{leads, is_in};
+ghost use Rattle.link_tree.specs.Between.{is_above, is_below, count_between};
+ghost use Rattle.link_tree.specs.Checking.{IsClosed, IsSound};
+
+use crate::nodes::Nodes;
+use crate::visits::Visits;
+
+/// A red-black tree of at most 2 to the 40th nodes is no higher.
+pub const MOST_LEVELS: u64 = 82;
+
+/// How many nodes the tree has, where there is one, and the steps that the check took.
+#[derive(Clone, Copy, Debug, PartialEq, Eq)]
+pub struct Checked {
+    /// The number of nodes; none where the links are no ordered red-black tree.
+    pub nodes: Option<u64>,
+    /// How often the check went to a node.
+    pub steps: u64,
+}
+
+/// The nodes of a part of the tree, and the black ones on each path to its end.
+#[derive(Clone, Copy)]
+struct Part {
+    nodes: u64,
+    blacks: u64,
+}
+
+fn stands_above<N: Nodes>(visits: &mut Visits<N>, low: Option<u64>, node: u64) -> bool
+    requires low { leads (N.is_node visits.old.nodes.now) low ≡ true }
+    requires node { N.is_node visits.old.nodes.now node ≡ true }
+    requires room { visits.old.steps + 2 < 2 ^ 64 }
+    ensures value { result ≡ is_above (N.order visits.old.nodes.now) low node }
+    ensures nodes { visits.new.nodes.now ≡ visits.old.nodes.now }
+    ensures most { visits.new.steps ≤ visits.old.steps + 2 }
+{
+    match low {
+        Some(low) => visits.precedes(low, node),
+        None => true,
+    }
+}
+
+fn stands_below<N: Nodes>(visits: &mut Visits<N>, node: u64, high: Option<u64>) -> bool
+    requires high { leads (N.is_node visits.old.nodes.now) high ≡ true }
+    requires node { N.is_node visits.old.nodes.now node ≡ true }
+    requires room { visits.old.steps + 2 < 2 ^ 64 }
+    ensures value { result ≡ is_below (N.order visits.old.nodes.now) node high }
+    ensures nodes { visits.new.nodes.now ≡ visits.old.nodes.now }
+    ensures most { visits.new.steps ≤ visits.old.steps + 2 }
+{
+    match high {
+        Some(high) => visits.precedes(node, high),
+        None => true,
+    }
+}
+
+/// Checks the part that the link leads to, whose nodes must stand between `low` and `high`.
+///
+/// No node is met twice between the same bounds, so this ends on a cycle, and at a shared node.
+fn check_below<N: Nodes>(
+    visits: &mut Visits<N>,
+    link: Option<u64>,
+    low: Option<u64>,
+    high: Option<u64>,
+    red_above: bool,
+    levels: u64,
+) -> Option<Part>
+    requires link { leads (N.is_node visits.old.nodes.now) link ≡ true }
+    requires low { leads (N.is_node visits.old.nodes.now) low ≡ true }
+    requires high { leads (N.is_node visits.old.nodes.now) high ≡ true }
+    requires room { (ns : List ℕ) × IsClosed (N.cells visits.old.nodes.now) ns
+        × (leads (λ n. is_in n ns) link ≡ true)
+        × (visits.old.steps
+        + 5 * count_between (N.order visits.old.nodes.now) low high ns + 5 < 2 ^ 64) }
+    ensures sound { IfSome result (λ part. (t : Tree)
+        × IsSound (N.order visits.old.nodes.now)
+        (N.cells visits.old.nodes.now) link low high red_above t part.blacks
+        × (length (nodes_of t) ≡ part.nodes)) }
+    // Where such a tree is there and no deeper than the levels, it is found.
+    ensures complete { (t : Tree) (blacks : ℕ)
+        → IsSound (N.order visits.old.nodes.now)
+        (N.cells visits.old.nodes.now) link low high red_above t blacks
+        → height t ≤ levels → is_some result ≡ true }
+    ensures steps { (ns : List ℕ) → IsClosed (N.cells visits.old.nodes.now) ns
+        → leads (λ n. is_in n ns) link ≡ true
+        → visits.new.steps ≤ visits.old.steps
+        + 5 * count_between (N.order visits.old.nodes.now) low high ns
+        + (if is_some result then 0 else 5) }
+    ensures blacks { IfSome result (λ part. part.blacks ≤ levels) }
+    ensures nodes { visits.new.nodes.now ≡ visits.old.nodes.now }
+{
+    let Some(node) = link else {
+        return Some(Part {
+            nodes: 0,
+            blacks: 0,
+        });
+    };
+    if levels == 0 {
+        return None;
+    }
+    if !stands_above(visits, low, node) {
+        return None;
+    }
+    if !stands_below(visits, node, high) {
+        return None;
+    }
+    let red = visits.red(node);
+    let left = visits.left(node);
+    let right = visits.right(node);
+    if red && red_above {
+        return None;
+    }
+    let Some(before) = check_below(visits, left, low, Some(node), red, levels - 1) else {
+        return None;
+    };
+    let Some(behind) = check_below(visits, right, Some(node), high, red, levels - 1) else {
+        return None;
+    };
+    if before.blacks != behind.blacks {
+        return None;
+    }
+    let nodes = before.nodes + behind.nodes + 1;
+    if red {
+        return Some(Part {
+            nodes,
+            blacks: before.blacks,
+        });
+    }
+    Some(Part {
+        nodes,
+        blacks: before.blacks + 1,
+    })
+}
+
+/// How many nodes are reached from the root, where they are an ordered red-black tree, or none, where they are not.
+///
+/// The links may be any links between nodes: with cycles, with nodes that are shared.
+/// A step is going to a node, with all that is read there before the check goes to another.
+pub fn check<N: Nodes>(nodes: &N, root: Option<u64>) -> Checked
+    requires { leads (N.is_node nodes.now) root ≡ true }
+    // It counts n nodes exactly where the links are an ordered red-black tree of n nodes.
+    ensures counts { (n : ℕ) → (result.nodes ≡ Some n)
+        ↔ ((t : Tree) × IsSearchTree (N.order nodes.now) (N.cells nodes.now) root t
+        × (length (nodes_of t) ≡ n)) }
+    // `ns` may be any list of nodes that has the root, and with each node those that its links lead to.
+    ensures steps { (ns : List ℕ) → IsClosed (N.cells nodes.now) ns
+        → leads (λ n. is_in n ns) root ≡ true
+        → result.steps ≤ 16 * length ns + 16 }
+{
+    let mut visits = Visits::new(nodes);
+    let Some(part) = check_below(&mut visits, root, None, None, true, MOST_LEVELS) else {
+        return Checked {
+            nodes: None,
+            steps: visits.steps(),
+        };
+    };
+    Checked {
+        nodes: Some(part.nodes),
+        steps: visits.steps(),
+    }
+}

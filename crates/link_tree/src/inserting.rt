@@ -1,0 +1,108 @@
+//! Putting a node into a tree.
+
+ghost use Rattle.std.specs.Prelude.{◌≡◌, ◌≢◌, ℕ, ◌+◌, ◌*◌, ◌<◌, ◌≤◌, ◌^◌, Bool, true, false, Option, Some, None, List, [], ◌∷◌, length, IsTrue};
+ghost use Rattle.link_tree.specs.Tree.{Cell, Tree, leaf, fork, IsTree, IsSearchTree, nodes_of, rises, height, bits};
+ghost use Rattle.link_tree.specs.Nodes.{leads, is_in, has_place, put};
+ghost use Rattle.link_tree.specs.Turning.{Turned};
+ghost use Rattle.link_tree.specs.Growing.{Grows, grown};
+
+use crate::nodes::NodesMut;
+use crate::turning::{balance, blacken};
+use crate::visits::{Side, VisitsMut};
+
+/// The root of a tree that was changed, and the steps that the change took.
+#[derive(Clone, Copy, Debug, PartialEq, Eq)]
+pub struct Changed {
+    /// The link to the tree from now on, which the caller keeps; none where no node is left.
+    pub root: Option<u64>,
+    /// How often the call went to a node.
+    pub steps: u64,
+}
+
+/// Makes the node a red one with no node below it.
+fn lay<N: NodesMut>(visits: &mut VisitsMut<N>, node: u64)
+    requires node { N.is_node visits.old.nodes.now node ≡ true }
+    requires room { visits.old.steps + 3 < 2 ^ 64 }
+    ensures laid { Turned (N.cells visits.old.nodes.now) (N.cells visits.new.nodes.now) (node ∷ [])
+        (Some node) (fork true leaf node leaf) }
+    ensures most { visits.new.steps ≤ visits.old.steps + 3 }
+    ensures reference { visits.new.nodes.ghost_name ≡ visits.old.nodes.ghost_name }
+    ensures nodes { N.is_node visits.new.nodes.now ≡ N.is_node visits.old.nodes.now }
+    ensures order { N.order visits.new.nodes.now ≡ N.order visits.old.nodes.now }
+    ensures probe { N.before visits.new.nodes.now ≡ N.before visits.old.nodes.now }
+    ensures lender { N.lender visits.new.nodes.now ≡ N.lender visits.old.nodes.now }
+{
+    visits.set_child(node, Side::Left, None);
+    visits.set_child(node, Side::Right, None);
+    visits.set_red(node, true);
+}
+
+/// Puts the node into the tree that the link leads to, and answers the root of what it has become.
+fn grow<N: NodesMut>(visits: &mut VisitsMut<N>, link: Option<u64>, node: u64) -> u64
+    requires link { leads (N.is_node visits.old.nodes.now) link ≡ true }
+    requires node { N.is_node visits.old.nodes.now node ≡ true }
+    requires tree { (t : Tree)
+        × Grows (N.order visits.old.nodes.now) (N.cells visits.old.nodes.now) link node t
+        × (visits.old.steps + 13 * height t + 16 < 2 ^ 64) }
+    ensures grown { (t : Tree)
+        → Grows (N.order visits.old.nodes.now) (N.cells visits.old.nodes.now) link node t
+        → Turned (N.cells visits.old.nodes.now) (N.cells visits.new.nodes.now) (node ∷ nodes_of t)
+        (Some result) (grown (N.order visits.old.nodes.now) node t) }
+    ensures steps { (t : Tree)
+        → Grows (N.order visits.old.nodes.now) (N.cells visits.old.nodes.now) link node t
+        → visits.new.steps ≤ visits.old.steps + 13 * height t + 3 }
+    ensures root { N.is_node visits.old.nodes.now result ≡ true }
+    ensures reference { visits.new.nodes.ghost_name ≡ visits.old.nodes.ghost_name }
+    ensures nodes { N.is_node visits.new.nodes.now ≡ N.is_node visits.old.nodes.now }
+    ensures order { N.order visits.new.nodes.now ≡ N.order visits.old.nodes.now }
+    ensures probe { N.before visits.new.nodes.now ≡ N.before visits.old.nodes.now }
+    ensures lender { N.lender visits.new.nodes.now ≡ N.lender visits.old.nodes.now }
+{
+    let Some(at) = link else {
+        lay(visits, node);
+        return node;
+    };
+    let side = Side::of(visits.precedes(node, at));
+    let below = visits.child(at, side);
+    let child = grow(visits, below, node);
+    visits.set_child(at, side, Some(child));
+    balance(visits, at, side)
+}
+
+/// Puts the node into the tree.
+///
+/// Only links and colours of the tree's nodes and of the node change.
+/// A step is going to a node, with all that is read and written there before the call goes to another.
+/// Chris Okasaki, Red-Black Trees in a Functional Setting, 1999.
+pub fn insert<N: NodesMut>(nodes: &mut N, root: Option<u64>, node: u64) -> Changed
+    requires root { leads (N.is_node nodes.old) root ≡ true }
+    requires node { N.is_node nodes.old node ≡ true }
+    // The node must precede or follow each node of the tree.
+    requires tree { (t : Tree) × IsSearchTree (N.order nodes.old) (N.cells nodes.old) root t
+        × IsTrue (has_place (N.order nodes.old) node (nodes_of t)) }
+    // `put` puts the node before the first one that it precedes.
+    ensures tree { (t : Tree) → IsSearchTree (N.order nodes.old) (N.cells nodes.old) root t
+        → (grown : Tree) × IsSearchTree (N.order nodes.new) (N.cells nodes.new) result.root grown
+        × (nodes_of grown ≡ put (N.order nodes.old) node (nodes_of t)) }
+    // No other node's links or colour changed.
+    ensures frame { (t : Tree) → IsSearchTree (N.order nodes.old) (N.cells nodes.old) root t
+        → (m : ℕ) → m ≢ node → is_in m (nodes_of t) ≡ false
+        → N.cells nodes.new m ≡ N.cells nodes.old m }
+    // `bits` counts binary digits, here of the number of nodes before the call and one.
+    ensures steps { (t : Tree) → IsSearchTree (N.order nodes.old) (N.cells nodes.old) root t
+        → result.steps ≤ 32 * bits (length (nodes_of t) + 1) + 32 }
+    ensures root { leads (N.is_node nodes.new) result.root ≡ true }
+    ensures nodes { N.is_node nodes.new ≡ N.is_node nodes.old }
+    ensures order { N.order nodes.new ≡ N.order nodes.old }
+    ensures probe { N.before nodes.new ≡ N.before nodes.old }
+    // The nodes are still reached by the reference that they were reached by.
+    ensures lender { N.lender nodes.new ≡ N.lender nodes.old }
+{
+    let mut visits = VisitsMut::new(nodes);
+    let top = grow(&mut visits, root, node);
+    blacken(&mut visits, Some(top));
+    Changed {
+        root: Some(top),
+        steps: visits.steps(),
+    }
+}

@@ -1,0 +1,115 @@
+//! What a tree needs of the one who keeps its nodes.
+
+ghost use Rattle.std.specs.Prelude.{◌≡◌, ℕ, ◌≤◌, ◌^◌, Bool, true, false, Option, Some, List, length};
+ghost use Rattle.link_tree.specs.Tree.{Cell};
+ghost use Rattle.link_tree.specs.Nodes.{with_left, with_right, with_red, is_in, leads};
+
+/// Nodes that are numbers, each with two links and a colour, in a strict order.
+///
+/// There are finitely many, at most 2 to the 40th, and links from nodes lead to nodes. The links need not be a tree.
+/// A tree call goes from node to node. A step is going to one, with all that is read and written of its fields until
+/// the call goes to another; to have two nodes compared it goes to both.
+pub trait Nodes {
+    /// What a search looks for: a node can be compared with it, and it need not be a node.
+    type Probe;
+
+    // What the fields of each node say: its two links, and whether it is red. Of other numbers it may say anything.
+    ghost cells: { Self → ℕ → Cell };
+
+    // Whether a number is a node. No tree call asks for the fields of any other number.
+    ghost is_node: { Self → ℕ → Bool };
+
+    // Whether one node precedes another: a strict order, by the laws below. Of two nodes neither may precede the other;
+    // then at most one of them is in a tree.
+    ghost order: { Self → ℕ → ℕ → Bool };
+
+    // Whether a node stands before a probe. The nodes that do are the first ones of a tree, by the law `agrees`.
+    ghost before: { Self → Self.Probe → ℕ → Bool };
+
+    // The name of the reference that the nodes are reached by, where there is one: no call changes it.
+    ghost lender: { Self → ℕ } = { λ _. 0 };
+
+    /// The link to the left: the root of the nodes below this one that precede it.
+    fn left(&self, node: u64) -> Option<u64>
+        requires { is_node self.now node ≡ true }
+        ensures { result ≡ (cells self.now node).left };
+
+    /// The link to the right: the root of the nodes below this one that it precedes.
+    fn right(&self, node: u64) -> Option<u64>
+        requires { is_node self.now node ≡ true }
+        ensures { result ≡ (cells self.now node).right };
+
+    /// Whether the node is red, not black.
+    fn red(&self, node: u64) -> bool
+        requires { is_node self.now node ≡ true }
+        ensures { result ≡ (cells self.now node).red };
+
+    /// Whether the first node precedes the second.
+    fn precedes(&self, a: u64, b: u64) -> bool
+        requires first { is_node self.now a ≡ true }
+        requires second { is_node self.now b ≡ true }
+        ensures { result ≡ order self.now a b };
+
+    /// Whether the node stands before the probe, so that a search for the probe goes on to the right of it.
+    fn before_probe(&self, node: u64, probe: &Self::Probe) -> bool
+        requires { is_node self.now node ≡ true }
+        ensures { result ≡ before self.now probe.now node };
+
+    // All nodes are in one list, of at most 2 to the 40th: no tree is higher than 82, and no call's steps overflow.
+    ghost finite: { (s : Self) → (ns : List ℕ) × (length ns ≤ 2 ^ 40)
+        × ((n : ℕ) → is_node s n ≡ true → is_in n ns ≡ true) };
+
+    // A node's left link leads to a node, or nowhere.
+    ghost left_closed: { (s : Self) (n : ℕ) → is_node s n ≡ true
+        → leads (is_node s) (cells s n).left ≡ true };
+
+    // A node's right link leads to a node, or nowhere.
+    ghost right_closed: { (s : Self) (n : ℕ) → is_node s n ≡ true
+        → leads (is_node s) (cells s n).right ≡ true };
+
+    // No node precedes itself.
+    ghost irreflexive: { (s : Self) (n : ℕ) → order s n n ≡ false };
+
+    // A node precedes what a node precedes that it precedes.
+    ghost transitive: { (s : Self) (a b c : ℕ) → order s a b ≡ true → order s b c ≡ true
+        → order s a c ≡ true };
+
+    // What precedes a node that stands before the probe stands before it too.
+    ghost agrees: { (s : Self) (probe : Self.Probe) (a b : ℕ) → order s a b ≡ true
+        → before s probe b ≡ true → before s probe a ≡ true };
+}
+
+/// Nodes whose links and colours can be set.
+///
+/// Each call changes one field of one node and nothing else: which numbers are nodes, their order, what stands before
+/// a probe, and the reference that the nodes are reached by all stay as they were.
+pub trait NodesMut: Nodes {
+    /// Sets the link to the left, to a node or to nowhere.
+    fn set_left(&mut self, node: u64, to: Option<u64>)
+        requires node { Self.is_node self.old node ≡ true }
+        requires target { leads (Self.is_node self.old) to ≡ true }
+        ensures cells { Self.cells self.new ≡ with_left (Self.cells self.old) node to }
+        ensures nodes { Self.is_node self.new ≡ Self.is_node self.old }
+        ensures order { Self.order self.new ≡ Self.order self.old }
+        ensures probe { Self.before self.new ≡ Self.before self.old }
+        ensures lender { Self.lender self.new ≡ Self.lender self.old };
+
+    /// Sets the link to the right, to a node or to nowhere.
+    fn set_right(&mut self, node: u64, to: Option<u64>)
+        requires node { Self.is_node self.old node ≡ true }
+        requires target { leads (Self.is_node self.old) to ≡ true }
+        ensures cells { Self.cells self.new ≡ with_right (Self.cells self.old) node to }
+        ensures nodes { Self.is_node self.new ≡ Self.is_node self.old }
+        ensures order { Self.order self.new ≡ Self.order self.old }
+        ensures probe { Self.before self.new ≡ Self.before self.old }
+        ensures lender { Self.lender self.new ≡ Self.lender self.old };
+
+    /// Makes the node red, or black.
+    fn set_red(&mut self, node: u64, red: bool)
+        requires { Self.is_node self.old node ≡ true }
+        ensures cells { Self.cells self.new ≡ with_red (Self.cells self.old) node red }
+        ensures nodes { Self.is_node self.new ≡ Self.is_node self.old }
+        ensures order { Self.order self.new ≡ Self.order self.old }
+        ensures probe { Self.before self.new ≡ Self.before self.old }
+        ensures lender { Self.lender self.new ≡ Self.lender self.old };
+}

@@ -1,0 +1,335 @@
+//! Taking a node out of a tree.
+
+ghost use Rattle.std.specs.Prelude.{◌≡◌, ◌≢◌, ℕ, ◌+◌, ◌*◌, ◌<◌, ◌≤◌, ◌^◌, Bool, true, false, Option, Some, None, List, length, IsTrue};
+ghost use Rattle.link_tree.specs.Tree.{Cell, Tree, IsTree, IsSearchTree, nodes_of, rises, height, bits};
+ghost use Rattle.link_tree.specs.Nodes.{leads, is_in, without};
+ghost use Rattle.link_tree.specs.Sides.{opposite, child_of, joined_at};
+ghost use Rattle.link_tree.specs.Turning.{Turned};
+ghost use Rattle.link_tree.specs.Shrinking.{Rest, Shrinks, Leaves, reddened, mended, settled, sunk, least_of, without_least, uprooted, shrunk, spare};
+
+use crate::inserting::Changed;
+use crate::nodes::NodesMut;
+use crate::turning::{balance, blacken, is_red, lift};
+use crate::visits::{Side, VisitsMut};
+
+/// What is left of a tree, and whether each path to its end has one black node fewer than before.
+#[derive(Clone, Copy)]
+struct Leftover {
+    root: Option<u64>,
+    fell: bool,
+}
+
+/// The first node of a tree, and what is left without it.
+#[derive(Clone, Copy)]
+struct Least {
+    node: u64,
+    rest: Leftover,
+}
+
+/// Makes the root red.
+fn redden<N: NodesMut>(visits: &mut VisitsMut<N>, link: Option<u64>)
+    requires link { leads (N.is_node visits.old.nodes.now) link ≡ true }
+    requires room { visits.old.steps + 1 < 2 ^ 64 }
+    ensures reddened { (t : Tree) → IsTree (N.cells visits.old.nodes.now) link t
+        → rises (N.order visits.old.nodes.now) (nodes_of t) ≡ true
+        → Turned (N.cells visits.old.nodes.now) (N.cells visits.new.nodes.now) (nodes_of t) link
+        (reddened t) }
+    ensures most { visits.new.steps ≤ visits.old.steps + 1 }
+    ensures reference { visits.new.nodes.ghost_name ≡ visits.old.nodes.ghost_name }
+    ensures nodes { N.is_node visits.new.nodes.now ≡ N.is_node visits.old.nodes.now }
+    ensures order { N.order visits.new.nodes.now ≡ N.order visits.old.nodes.now }
+    ensures probe { N.before visits.new.nodes.now ≡ N.before visits.old.nodes.now }
+    ensures lender { N.lender visits.new.nodes.now ≡ N.lender visits.old.nodes.now }
+{
+    if let Some(node) = link {
+        visits.set_red(node, true);
+    }
+}
+
+/// `mend` under a heavy child that is red: its inner child gives the black node away.
+fn mend_red<N: NodesMut>(visits: &mut VisitsMut<N>, top: u64, heavy: u64, side: Side) -> Leftover
+    requires node { N.is_node visits.old.nodes.now top ≡ true }
+    requires heavy { child_of side (N.cells visits.old.nodes.now top) ≡ Some heavy }
+    requires red { (N.cells visits.old.nodes.now heavy).red ≡ true }
+    requires room { visits.old.steps + 20 < 2 ^ 64 }
+    ensures mended { (t : Tree) → IsTree (N.cells visits.old.nodes.now) (Some top) t
+        → rises (N.order visits.old.nodes.now) (nodes_of t) ≡ true
+        → Leaves (N.cells visits.old.nodes.now) (N.cells visits.new.nodes.now)
+        (nodes_of t) result.root result.fell (mended side t) }
+    ensures fell { result.fell ≡ false }
+    ensures root { leads (N.is_node visits.old.nodes.now) result.root ≡ true }
+    ensures most { visits.new.steps ≤ visits.old.steps + 18 }
+    ensures reference { visits.new.nodes.ghost_name ≡ visits.old.nodes.ghost_name }
+    ensures nodes { N.is_node visits.new.nodes.now ≡ N.is_node visits.old.nodes.now }
+    ensures order { N.order visits.new.nodes.now ≡ N.order visits.old.nodes.now }
+    ensures probe { N.before visits.new.nodes.now ≡ N.before visits.old.nodes.now }
+    ensures lender { N.lender visits.new.nodes.now ≡ N.lender visits.old.nodes.now }
+{
+    lift(visits, top, side);
+    visits.set_red(heavy, false);
+    let inner = visits.child(top, side);
+    redden(visits, inner);
+    let root = balance(visits, top, side);
+    visits.set_child(heavy, side.other(), Some(root));
+    Leftover {
+        root: Some(heavy),
+        fell: false,
+    }
+}
+
+/// Where the tree below `top` on the other side fell, takes a black node from this, heavy side.
+///
+/// Jean-Christophe Filliâtre and Pierre Letouzey, Functors for Proofs and Programs, 2004.
+fn mend<N: NodesMut>(visits: &mut VisitsMut<N>, top: u64, side: Side) -> Leftover
+    requires node { N.is_node visits.old.nodes.now top ≡ true }
+    requires at { visits.old.at ≡ Some top }
+    requires room { visits.old.steps + 22 < 2 ^ 64 }
+    ensures mended { (t : Tree) → IsTree (N.cells visits.old.nodes.now) (Some top) t
+        → rises (N.order visits.old.nodes.now) (nodes_of t) ≡ true
+        → Leaves (N.cells visits.old.nodes.now) (N.cells visits.new.nodes.now)
+        (nodes_of t) result.root result.fell (mended side t) }
+    ensures root { leads (N.is_node visits.old.nodes.now) result.root ≡ true }
+    ensures steps { visits.new.steps + spare result.fell ≤ visits.old.steps + 19 }
+    ensures reference { visits.new.nodes.ghost_name ≡ visits.old.nodes.ghost_name }
+    ensures nodes { N.is_node visits.new.nodes.now ≡ N.is_node visits.old.nodes.now }
+    ensures order { N.order visits.new.nodes.now ≡ N.order visits.old.nodes.now }
+    ensures probe { N.before visits.new.nodes.now ≡ N.before visits.old.nodes.now }
+    ensures lender { N.lender visits.new.nodes.now ≡ N.lender visits.old.nodes.now }
+{
+    let Some(heavy) = visits.child(top, side) else {
+        return Leftover {
+            root: Some(top),
+            fell: false,
+        };
+    };
+    let red = visits.red(top);
+    if visits.red(heavy) {
+        return mend_red(visits, top, heavy, side);
+    }
+    visits.set_red(heavy, true);
+    visits.set_red(top, false);
+    let root = balance(visits, top, side);
+    Leftover {
+        root: Some(root),
+        fell: !red,
+    }
+}
+
+/// Hangs what is left on this side under its parent again.
+fn settle<N: NodesMut>(
+    visits: &mut VisitsMut<N>,
+    parent: u64,
+    side: Side,
+    below: Leftover,
+) -> Leftover
+    requires node { N.is_node visits.old.nodes.now parent ≡ true }
+    requires below { leads (N.is_node visits.old.nodes.now) below.root ≡ true }
+    requires room { visits.old.steps + 23 < 2 ^ 64 }
+    ensures settled { (near far : Tree) → IsTree (N.cells visits.old.nodes.now) below.root near
+        → IsTree (N.cells visits.old.nodes.now)
+        (child_of (opposite side) (N.cells visits.old.nodes.now parent)) far
+        → rises (N.order visits.old.nodes.now)
+        (nodes_of (joined_at side (N.cells visits.old.nodes.now parent).red near parent far)) ≡ true
+        → Leaves (N.cells visits.old.nodes.now) (N.cells visits.new.nodes.now)
+        (nodes_of (joined_at side (N.cells visits.old.nodes.now parent).red near parent far))
+        result.root result.fell
+        (settled side (N.cells visits.old.nodes.now parent).red
+        (record { tree = near; fell = below.fell }) parent far) }
+    ensures root { leads (N.is_node visits.old.nodes.now) result.root ≡ true }
+    ensures steps { visits.new.steps + spare result.fell ≤ visits.old.steps + 13
+        + spare below.fell }
+    ensures reference { visits.new.nodes.ghost_name ≡ visits.old.nodes.ghost_name }
+    ensures nodes { N.is_node visits.new.nodes.now ≡ N.is_node visits.old.nodes.now }
+    ensures order { N.order visits.new.nodes.now ≡ N.order visits.old.nodes.now }
+    ensures probe { N.before visits.new.nodes.now ≡ N.before visits.old.nodes.now }
+    ensures lender { N.lender visits.new.nodes.now ≡ N.lender visits.old.nodes.now }
+{
+    visits.set_child(parent, side, below.root);
+    if below.fell {
+        return mend(visits, parent, side.other());
+    }
+    Leftover {
+        root: Some(parent),
+        fell: false,
+    }
+}
+
+/// Puts a tree into the place of its parent of that colour, which has no other.
+fn sink<N: NodesMut>(visits: &mut VisitsMut<N>, red: bool, link: Option<u64>) -> Leftover
+    requires link { leads (N.is_node visits.old.nodes.now) link ≡ true }
+    requires room { visits.old.steps + 2 < 2 ^ 64 }
+    ensures sunk { (t : Tree) → IsTree (N.cells visits.old.nodes.now) link t
+        → rises (N.order visits.old.nodes.now) (nodes_of t) ≡ true
+        → Leaves (N.cells visits.old.nodes.now) (N.cells visits.new.nodes.now)
+        (nodes_of t) result.root result.fell (sunk red t) }
+    ensures root { leads (N.is_node visits.old.nodes.now) result.root ≡ true }
+    // Where the tree fell, `spare` steps are kept in hand for mending it one level higher.
+    ensures steps { visits.new.steps + spare result.fell ≤ visits.old.steps + 9 }
+    ensures reference { visits.new.nodes.ghost_name ≡ visits.old.nodes.ghost_name }
+    ensures nodes { N.is_node visits.new.nodes.now ≡ N.is_node visits.old.nodes.now }
+    ensures order { N.order visits.new.nodes.now ≡ N.order visits.old.nodes.now }
+    ensures probe { N.before visits.new.nodes.now ≡ N.before visits.old.nodes.now }
+    ensures lender { N.lender visits.new.nodes.now ≡ N.lender visits.old.nodes.now }
+{
+    if red {
+        return Leftover {
+            root: link,
+            fell: false,
+        };
+    }
+    if is_red(visits, link) {
+        blacken(visits, link);
+        return Leftover {
+            root: link,
+            fell: false,
+        };
+    }
+    Leftover {
+        root: link,
+        fell: true,
+    }
+}
+
+/// Takes the first node out of the tree below `at`.
+fn take_least<N: NodesMut>(visits: &mut VisitsMut<N>, at: u64) -> Least
+    requires node { N.is_node visits.old.nodes.now at ≡ true }
+    // So that the way down to it is a step, which pays for what is done there on the way back.
+    requires away { visits.old.at ≢ Some at }
+    requires tree { (t : Tree)
+        × Shrinks (N.order visits.old.nodes.now) (N.cells visits.old.nodes.now) (Some at) t
+        × (visits.old.steps + 14 * height t + 40 < 2 ^ 64) }
+    ensures node { (t : Tree)
+        → Shrinks (N.order visits.old.nodes.now) (N.cells visits.old.nodes.now) (Some at) t
+        → result.node ≡ least_of at t }
+    ensures rest { (t : Tree)
+        → Shrinks (N.order visits.old.nodes.now) (N.cells visits.old.nodes.now) (Some at) t
+        → Leaves (N.cells visits.old.nodes.now) (N.cells visits.new.nodes.now)
+        (nodes_of t) result.rest.root result.rest.fell (without_least t) }
+    ensures steps { (t : Tree)
+        → Shrinks (N.order visits.old.nodes.now) (N.cells visits.old.nodes.now) (Some at) t
+        → visits.new.steps + spare result.rest.fell ≤ visits.old.steps + 14 * height t + 9 }
+    ensures is_node { N.is_node visits.old.nodes.now result.node ≡ true }
+    ensures root { leads (N.is_node visits.old.nodes.now) result.rest.root ≡ true }
+    ensures reference { visits.new.nodes.ghost_name ≡ visits.old.nodes.ghost_name }
+    ensures nodes { N.is_node visits.new.nodes.now ≡ N.is_node visits.old.nodes.now }
+    ensures order { N.order visits.new.nodes.now ≡ N.order visits.old.nodes.now }
+    ensures probe { N.before visits.new.nodes.now ≡ N.before visits.old.nodes.now }
+    ensures lender { N.lender visits.new.nodes.now ≡ N.lender visits.old.nodes.now }
+{
+    let Some(left) = visits.child(at, Side::Left) else {
+        let red = visits.red(at);
+        let right = visits.child(at, Side::Right);
+        return Least {
+            node: at,
+            rest: sink(visits, red, right),
+        };
+    };
+    let below = take_least(visits, left);
+    Least {
+        node: below.node,
+        rest: settle(visits, at, Side::Left, below.rest),
+    }
+}
+
+/// Takes out the root of a tree, and puts the next node into its place: by links, no node is copied.
+fn uproot<N: NodesMut>(visits: &mut VisitsMut<N>, at: u64) -> Leftover
+    requires node { N.is_node visits.old.nodes.now at ≡ true }
+    requires tree { (t : Tree)
+        × Shrinks (N.order visits.old.nodes.now) (N.cells visits.old.nodes.now) (Some at) t
+        × (visits.old.steps + 15 * height t + 60 < 2 ^ 64) }
+    ensures rest { (t : Tree)
+        → Shrinks (N.order visits.old.nodes.now) (N.cells visits.old.nodes.now) (Some at) t
+        → Leaves (N.cells visits.old.nodes.now) (N.cells visits.new.nodes.now)
+        (nodes_of t) result.root result.fell (uprooted t) }
+    ensures steps { (t : Tree)
+        → Shrinks (N.order visits.old.nodes.now) (N.cells visits.old.nodes.now) (Some at) t
+        → visits.new.steps + spare result.fell ≤ visits.old.steps + 15 * height t + 10 }
+    ensures root { leads (N.is_node visits.old.nodes.now) result.root ≡ true }
+    ensures reference { visits.new.nodes.ghost_name ≡ visits.old.nodes.ghost_name }
+    ensures nodes { N.is_node visits.new.nodes.now ≡ N.is_node visits.old.nodes.now }
+    ensures order { N.order visits.new.nodes.now ≡ N.order visits.old.nodes.now }
+    ensures probe { N.before visits.new.nodes.now ≡ N.before visits.old.nodes.now }
+    ensures lender { N.lender visits.new.nodes.now ≡ N.lender visits.old.nodes.now }
+{
+    let red = visits.red(at);
+    let left = visits.child(at, Side::Left);
+    let Some(right) = visits.child(at, Side::Right) else {
+        return sink(visits, red, left);
+    };
+    let next = take_least(visits, right);
+    visits.set_child(next.node, Side::Left, left);
+    visits.set_red(next.node, red);
+    settle(visits, next.node, Side::Right, next.rest)
+}
+
+/// Takes the node out of the tree that the link leads to.
+fn cut<N: NodesMut>(visits: &mut VisitsMut<N>, link: Option<u64>, node: u64) -> Leftover
+    requires link { leads (N.is_node visits.old.nodes.now) link ≡ true }
+    requires node { N.is_node visits.old.nodes.now node ≡ true }
+    requires tree { (t : Tree)
+        × Shrinks (N.order visits.old.nodes.now) (N.cells visits.old.nodes.now) link t
+        × (visits.old.steps + 15 * height t + 60 < 2 ^ 64) }
+    ensures rest { (t : Tree)
+        → Shrinks (N.order visits.old.nodes.now) (N.cells visits.old.nodes.now) link t
+        → Leaves (N.cells visits.old.nodes.now) (N.cells visits.new.nodes.now)
+        (nodes_of t) result.root result.fell (shrunk (N.order visits.old.nodes.now) node t) }
+    ensures steps { (t : Tree)
+        → Shrinks (N.order visits.old.nodes.now) (N.cells visits.old.nodes.now) link t
+        → visits.new.steps + spare result.fell ≤ visits.old.steps + 15 * height t + 10 }
+    ensures root { leads (N.is_node visits.old.nodes.now) result.root ≡ true }
+    ensures reference { visits.new.nodes.ghost_name ≡ visits.old.nodes.ghost_name }
+    ensures nodes { N.is_node visits.new.nodes.now ≡ N.is_node visits.old.nodes.now }
+    ensures order { N.order visits.new.nodes.now ≡ N.order visits.old.nodes.now }
+    ensures probe { N.before visits.new.nodes.now ≡ N.before visits.old.nodes.now }
+    ensures lender { N.lender visits.new.nodes.now ≡ N.lender visits.old.nodes.now }
+{
+    let Some(at) = link else {
+        return Leftover {
+            root: None,
+            fell: false,
+        };
+    };
+    if at == node {
+        return uproot(visits, at);
+    }
+    let side = Side::of(visits.precedes(node, at));
+    let link = visits.child(at, side);
+    let below = cut(visits, link, node);
+    settle(visits, at, side, below)
+}
+
+/// Takes the node out of the tree.
+///
+/// Only links and colours of the tree's nodes change: every other node stays where it is, and none is copied.
+/// A step is going to a node, with all that is read and written there before the call goes to another.
+/// Jean-Christophe Filliâtre and Pierre Letouzey, Functors for Proofs and Programs, 2004.
+pub fn remove<N: NodesMut>(nodes: &mut N, root: Option<u64>, node: u64) -> Changed
+    requires root { leads (N.is_node nodes.old) root ≡ true }
+    // The node must be in the tree.
+    requires tree { (t : Tree) × IsSearchTree (N.order nodes.old) (N.cells nodes.old) root t
+        × IsTrue (is_in node (nodes_of t)) }
+    // The other nodes are in it as before, in the same order.
+    ensures tree { (t : Tree) → IsSearchTree (N.order nodes.old) (N.cells nodes.old) root t
+        → (shrunk : Tree) × IsSearchTree (N.order nodes.new) (N.cells nodes.new) result.root shrunk
+        × (nodes_of shrunk ≡ without node (nodes_of t)) }
+    // No links or colour of a node outside the tree changed.
+    ensures frame { (t : Tree) → IsSearchTree (N.order nodes.old) (N.cells nodes.old) root t
+        → (m : ℕ) → is_in m (nodes_of t) ≡ false → N.cells nodes.new m ≡ N.cells nodes.old m }
+    // `bits` counts binary digits, here of the number of nodes before the call and one.
+    ensures steps { (t : Tree) → IsSearchTree (N.order nodes.old) (N.cells nodes.old) root t
+        → result.steps ≤ 32 * bits (length (nodes_of t) + 1) + 32 }
+    ensures root { leads (N.is_node nodes.new) result.root ≡ true }
+    ensures nodes { N.is_node nodes.new ≡ N.is_node nodes.old }
+    ensures order { N.order nodes.new ≡ N.order nodes.old }
+    ensures probe { N.before nodes.new ≡ N.before nodes.old }
+    // The nodes are still reached by the reference that they were reached by.
+    ensures lender { N.lender nodes.new ≡ N.lender nodes.old }
+{
+    let mut visits = VisitsMut::new(nodes);
+    let rest = cut(&mut visits, root, node);
+    blacken(&mut visits, rest.root);
+    Changed {
+        root: rest.root,
+        steps: visits.steps(),
+    }
+}

@@ -1,0 +1,48 @@
+//! The first node that does not stand before a probe.
+
+ghost use Rattle.std.specs.Prelude.{◌≡◌, ℕ, ◌+◌, ◌*◌, ◌≤◌, Bool, true, false, Option, Some, None, List, length};
+ghost use Rattle.link_tree.specs.Tree.{Tree, IsSearchTree, nodes_of, bits};
+ghost use Rattle.link_tree.specs.Nodes.{leads, first_not};
+
+use crate::nodes::Nodes;
+use crate::visits::Visits;
+
+/// The node that was looked for, if there is one, and the steps that the search took.
+#[derive(Clone, Copy, Debug, PartialEq, Eq)]
+pub struct Found {
+    /// The node; none where every node of the tree stands before the probe.
+    pub node: Option<u64>,
+    /// How often the search went to a node.
+    pub steps: u64,
+}
+
+/// The first node of the tree that does not stand before the probe.
+///
+/// A step is going to a node, with all that is read there before the search goes to another: no level of the tree
+/// takes more than one, so there are at most as many steps as the tree is high.
+pub fn find_first_not_before<N: Nodes>(nodes: &N, root: Option<u64>, probe: &N::Probe) -> Found
+    requires root { leads (N.is_node nodes.now) root ≡ true }
+    requires tree { (t : Tree) × IsSearchTree (N.order nodes.now) (N.cells nodes.now) root t }
+    // None, where all nodes stand before the probe.
+    ensures first { (t : Tree) → IsSearchTree (N.order nodes.now) (N.cells nodes.now) root t
+        → result.node ≡ first_not (N.before nodes.now probe.now) (nodes_of t) }
+    // `bits` counts binary digits: at most 2 log2 (n + 1) + 2 steps in a tree of n nodes.
+    ensures steps { (t : Tree) → IsSearchTree (N.order nodes.now) (N.cells nodes.now) root t
+        → result.steps ≤ 2 * bits (length (nodes_of t) + 1) }
+{
+    let mut visits = Visits::new(nodes);
+    let mut link = root;
+    let mut found = None;
+    while let Some(node) = link {
+        if visits.before_probe(node, probe) {
+            link = visits.right(node);
+        } else {
+            found = link;
+            link = visits.left(node);
+        }
+    }
+    Found {
+        node: found,
+        steps: visits.steps(),
+    }
+}

@@ -1,0 +1,282 @@
+//! The one way to a node: each step from one node to another is counted.
+
+ghost use Rattle.std.specs.Prelude.{◌≡◌, ◌≢◌, ℕ, ◌+◌, ◌<◌, ◌≤◌, ◌^◌, Bool, true, false, Option, Some, None};
+ghost use Rattle.link_tree.specs.Tree.{Cell};
+ghost use Rattle.link_tree.specs.Nodes.{with_left, with_right, with_red, is_in, leads};
+
+use crate::nodes::{Nodes, NodesMut};
+
+/// One of the two links of a node.
+#[derive(Clone, Copy)]
+pub enum Side {
+    /// Where the nodes stand that precede it.
+    Left,
+    /// Where the nodes stand that it precedes.
+    Right,
+}
+
+impl Side {
+    ghost use Rattle.link_tree.specs.Sides.{opposite, side_of};
+
+    /// The side of a node that precedes another, or follows it.
+    pub fn of(precedes: bool) -> Side
+        ensures { result ≡ side_of precedes }
+    {
+        if precedes { Side::Left } else { Side::Right }
+    }
+
+    /// The opposite side.
+    pub fn other(self) -> Side
+        ensures { result ≡ opposite self }
+    {
+        match self {
+            Side::Left => Side::Right,
+            Side::Right => Side::Left,
+        }
+    }
+}
+
+/// Nodes that are read, where one stands, and the steps that led there.
+#[derive(Drop)]
+pub struct Visits<'a, N> {
+    nodes: &'a N,
+    at: Option<u64>,
+    steps: u64,
+}
+
+impl<'a, N: Nodes> Visits<'a, N> {
+    pub fn new(nodes: &'a N) -> Visits<'a, N>
+        ensures nodes { result.nodes.now ≡ nodes.now }
+        ensures at { result.at ≡ None }
+        ensures steps { result.steps ≡ 0 }
+    {
+        Visits {
+            nodes,
+            at: None,
+            steps: 0,
+        }
+    }
+
+    pub fn steps(&self) -> u64
+        ensures { result ≡ self.now.steps }
+    {
+        self.steps
+    }
+
+    fn go(&mut self, node: u64)
+        requires { self.old.steps + 1 < 2 ^ 64 }
+        ensures nodes { self.new.nodes.now ≡ self.old.nodes.now }
+        ensures at { self.new.at ≡ Some node }
+        ensures most { self.new.steps ≤ self.old.steps + 1 }
+        ensures stays { self.old.at ≡ Some node → self.new.steps ≡ self.old.steps }
+        ensures goes { self.old.at ≢ Some node → self.new.steps ≡ self.old.steps + 1 }
+    {
+        if self.at != Some(node) {
+            self.steps += 1;
+            self.at = Some(node);
+        }
+    }
+
+    pub fn left(&mut self, node: u64) -> Option<u64>
+        requires node { N.is_node self.old.nodes.now node ≡ true }
+        requires room { self.old.steps + 1 < 2 ^ 64 }
+        ensures value { result ≡ (N.cells self.old.nodes.now node).left }
+        ensures nodes { self.new.nodes.now ≡ self.old.nodes.now }
+        ensures at { self.new.at ≡ Some node }
+        ensures most { self.new.steps ≤ self.old.steps + 1 }
+        ensures stays { self.old.at ≡ Some node → self.new.steps ≡ self.old.steps }
+        ensures goes { self.old.at ≢ Some node → self.new.steps ≡ self.old.steps + 1 }
+    {
+        self.go(node);
+        self.nodes.left(node)
+    }
+
+    pub fn right(&mut self, node: u64) -> Option<u64>
+        requires node { N.is_node self.old.nodes.now node ≡ true }
+        requires room { self.old.steps + 1 < 2 ^ 64 }
+        ensures value { result ≡ (N.cells self.old.nodes.now node).right }
+        ensures nodes { self.new.nodes.now ≡ self.old.nodes.now }
+        ensures at { self.new.at ≡ Some node }
+        ensures most { self.new.steps ≤ self.old.steps + 1 }
+        ensures stays { self.old.at ≡ Some node → self.new.steps ≡ self.old.steps }
+        ensures goes { self.old.at ≢ Some node → self.new.steps ≡ self.old.steps + 1 }
+    {
+        self.go(node);
+        self.nodes.right(node)
+    }
+
+    pub fn red(&mut self, node: u64) -> bool
+        requires node { N.is_node self.old.nodes.now node ≡ true }
+        requires room { self.old.steps + 1 < 2 ^ 64 }
+        ensures value { result ≡ (N.cells self.old.nodes.now node).red }
+        ensures nodes { self.new.nodes.now ≡ self.old.nodes.now }
+        ensures at { self.new.at ≡ Some node }
+        ensures most { self.new.steps ≤ self.old.steps + 1 }
+        ensures stays { self.old.at ≡ Some node → self.new.steps ≡ self.old.steps }
+    {
+        self.go(node);
+        self.nodes.red(node)
+    }
+
+    pub fn precedes(&mut self, first: u64, second: u64) -> bool
+        requires first { N.is_node self.old.nodes.now first ≡ true }
+        requires second { N.is_node self.old.nodes.now second ≡ true }
+        requires room { self.old.steps + 2 < 2 ^ 64 }
+        ensures value { result ≡ N.order self.old.nodes.now first second }
+        ensures nodes { self.new.nodes.now ≡ self.old.nodes.now }
+        ensures at { self.new.at ≡ Some second }
+        ensures most { self.new.steps ≤ self.old.steps + 2 }
+    {
+        self.go(first);
+        self.go(second);
+        self.nodes.precedes(first, second)
+    }
+
+    pub fn before_probe(&mut self, node: u64, probe: &N::Probe) -> bool
+        requires node { N.is_node self.old.nodes.now node ≡ true }
+        requires room { self.old.steps + 1 < 2 ^ 64 }
+        ensures value { result ≡ N.before self.old.nodes.now probe.now node }
+        ensures nodes { self.new.nodes.now ≡ self.old.nodes.now }
+        ensures at { self.new.at ≡ Some node }
+        ensures most { self.new.steps ≤ self.old.steps + 1 }
+        ensures goes { self.old.at ≢ Some node → self.new.steps ≡ self.old.steps + 1 }
+    {
+        self.go(node);
+        self.nodes.before_probe(node, probe)
+    }
+}
+
+/// Nodes whose links and colours are set, where one stands, and the steps that led there.
+#[derive(Drop)]
+pub struct VisitsMut<'a, N> {
+    nodes: &'a mut N,
+    at: Option<u64>,
+    steps: u64,
+}
+
+impl<'a, N: NodesMut> VisitsMut<'a, N> {
+    ghost use Rattle.link_tree.specs.Sides.{child_of, with_child};
+
+    pub fn new(nodes: &'a mut N) -> VisitsMut<'a, N>
+        ensures reference { result.nodes.ghost_name ≡ nodes.entry.ghost_name }
+        ensures nodes { result.nodes.now ≡ nodes.old }
+        ensures at { result.at ≡ None }
+        ensures steps { result.steps ≡ 0 }
+    {
+        VisitsMut {
+            nodes,
+            at: None,
+            steps: 0,
+        }
+    }
+
+    pub fn steps(&self) -> u64
+        ensures { result ≡ self.now.steps }
+    {
+        self.steps
+    }
+
+    fn go(&mut self, node: u64)
+        requires { self.old.steps + 1 < 2 ^ 64 }
+        ensures reference { self.new.nodes.ghost_name ≡ self.old.nodes.ghost_name }
+        ensures nodes { self.new.nodes.now ≡ self.old.nodes.now }
+        ensures at { self.new.at ≡ Some node }
+        ensures most { self.new.steps ≤ self.old.steps + 1 }
+        ensures stays { self.old.at ≡ Some node → self.new.steps ≡ self.old.steps }
+        ensures goes { self.old.at ≢ Some node → self.new.steps ≡ self.old.steps + 1 }
+    {
+        if self.at != Some(node) {
+            self.steps += 1;
+            self.at = Some(node);
+        }
+    }
+
+    pub fn child(&mut self, node: u64, side: Side) -> Option<u64>
+        requires node { N.is_node self.old.nodes.now node ≡ true }
+        requires room { self.old.steps + 1 < 2 ^ 64 }
+        ensures value { result ≡ child_of side (N.cells self.old.nodes.now node) }
+        ensures leads { leads (N.is_node self.old.nodes.now) result ≡ true }
+        ensures reference { self.new.nodes.ghost_name ≡ self.old.nodes.ghost_name }
+        ensures nodes { self.new.nodes.now ≡ self.old.nodes.now }
+        ensures at { self.new.at ≡ Some node }
+        ensures most { self.new.steps ≤ self.old.steps + 1 }
+        ensures stays { self.old.at ≡ Some node → self.new.steps ≡ self.old.steps }
+        ensures goes { self.old.at ≢ Some node → self.new.steps ≡ self.old.steps + 1 }
+    {
+        self.go(node);
+        match side {
+            Side::Left => self.nodes.left(node),
+            Side::Right => self.nodes.right(node),
+        }
+    }
+
+    pub fn red(&mut self, node: u64) -> bool
+        requires node { N.is_node self.old.nodes.now node ≡ true }
+        requires room { self.old.steps + 1 < 2 ^ 64 }
+        ensures value { result ≡ (N.cells self.old.nodes.now node).red }
+        ensures reference { self.new.nodes.ghost_name ≡ self.old.nodes.ghost_name }
+        ensures nodes { self.new.nodes.now ≡ self.old.nodes.now }
+        ensures at { self.new.at ≡ Some node }
+        ensures most { self.new.steps ≤ self.old.steps + 1 }
+        ensures stays { self.old.at ≡ Some node → self.new.steps ≡ self.old.steps }
+    {
+        self.go(node);
+        self.nodes.red(node)
+    }
+
+    pub fn precedes(&mut self, first: u64, second: u64) -> bool
+        requires first { N.is_node self.old.nodes.now first ≡ true }
+        requires second { N.is_node self.old.nodes.now second ≡ true }
+        requires room { self.old.steps + 2 < 2 ^ 64 }
+        ensures value { result ≡ N.order self.old.nodes.now first second }
+        ensures reference { self.new.nodes.ghost_name ≡ self.old.nodes.ghost_name }
+        ensures nodes { self.new.nodes.now ≡ self.old.nodes.now }
+        ensures at { self.new.at ≡ Some second }
+        ensures most { self.new.steps ≤ self.old.steps + 2 }
+        ensures goes { first ≢ second → self.old.steps < self.new.steps }
+    {
+        self.go(first);
+        self.go(second);
+        self.nodes.precedes(first, second)
+    }
+
+    pub fn set_child(&mut self, node: u64, side: Side, to: Option<u64>)
+        requires node { N.is_node self.old.nodes.now node ≡ true }
+        requires target { leads (N.is_node self.old.nodes.now) to ≡ true }
+        requires room { self.old.steps + 1 < 2 ^ 64 }
+        ensures cells { N.cells self.new.nodes.now
+            ≡ with_child side (N.cells self.old.nodes.now) node to }
+        ensures reference { self.new.nodes.ghost_name ≡ self.old.nodes.ghost_name }
+        ensures nodes { N.is_node self.new.nodes.now ≡ N.is_node self.old.nodes.now }
+        ensures order { N.order self.new.nodes.now ≡ N.order self.old.nodes.now }
+        ensures probe { N.before self.new.nodes.now ≡ N.before self.old.nodes.now }
+        ensures lender { N.lender self.new.nodes.now ≡ N.lender self.old.nodes.now }
+        ensures at { self.new.at ≡ Some node }
+        ensures most { self.new.steps ≤ self.old.steps + 1 }
+        ensures stays { self.old.at ≡ Some node → self.new.steps ≡ self.old.steps }
+    {
+        self.go(node);
+        match side {
+            Side::Left => self.nodes.set_left(node, to),
+            Side::Right => self.nodes.set_right(node, to),
+        }
+    }
+
+    pub fn set_red(&mut self, node: u64, red: bool)
+        requires node { N.is_node self.old.nodes.now node ≡ true }
+        requires room { self.old.steps + 1 < 2 ^ 64 }
+        ensures cells { N.cells self.new.nodes.now
+            ≡ with_red (N.cells self.old.nodes.now) node red }
+        ensures reference { self.new.nodes.ghost_name ≡ self.old.nodes.ghost_name }
+        ensures nodes { N.is_node self.new.nodes.now ≡ N.is_node self.old.nodes.now }
+        ensures order { N.order self.new.nodes.now ≡ N.order self.old.nodes.now }
+        ensures probe { N.before self.new.nodes.now ≡ N.before self.old.nodes.now }
+        ensures lender { N.lender self.new.nodes.now ≡ N.lender self.old.nodes.now }
+        ensures at { self.new.at ≡ Some node }
+        ensures most { self.new.steps ≤ self.old.steps + 1 }
+        ensures stays { self.old.at ≡ Some node → self.new.steps ≡ self.old.steps }
+    {
+        self.go(node);
+        self.nodes.set_red(node, red);
+    }
+}

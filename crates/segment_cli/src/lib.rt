@@ -2,5 +2,14 @@
 #![tactic(auto)]
 
 mod faults;
+mod machine;
+mod open_line;
+mod saving;
+mod scripts;
+#[cfg(test)]
+mod tests;
 
-pub use faults::{SessionFault, Start};
+pub use faults::{RunFault, SessionFault, Start};
+pub use machine::Machine;
+pub use saving::save;
+pub use scripts::run;

@@ -1,0 +1,5 @@
+pub mod LineLaws
+pub mod Kept
+pub mod RunLaws
+pub mod Cuts
+pub mod SessionLaws

@@ -1,0 +1,126 @@
+-- What a run leaves at a segment is what a session owes.
+use Rattle.std.proofs.Common.{◌≡◌, ◌==◌, ℕ, ◌-◌, ◌<◌, Bool, false, true, nat_lt, cond, List, [], ◌∷◌, ◌++◌, length, take, refl, sym, ap, subst, ◌∙◌, arith, slice_index}
+use Rattle.std.proofs.lemmas.List.{take_all, length-take-le}
+use Rattle.std.proofs.lemmas.Bool.Decides.{nat_tests}
+use Rattle.raw_region.specs.Device.{IsProperPrefix}
+use Rattle.seg_types.specs.Commands.{Reading, LineTooLong}
+use Rattle.segment_lang.specs.Language.{Language, landed}
+use Rattle.segment_lang.specs.Reading.{reading, without_return}
+use Rattle.segment_manager.specs.declared.modes.Mode.{Mode}
+use Rattle.segment_manager.specs.Directory.{Directory}
+use Rattle.segment_cli.specs.declared.faults.Start.{Start}
+use Rattle.segment_cli.specs.Run.{lines, respond, run, run_lines}
+use Rattle.segment_cli.specs.Session.{script_limit, whole_lines, Traffic, Begins, Saves, IsDone, IsCut, IsScriptUnread, IsAnswerUnwritten, IsScriptTooLong}
+use Rattle.segment_cli.specs.Leaves.{answer_all, Answers, RunsWhole, IsCutByReader, IsCutByWriter, IsCutAtLimit}
+use Rattle.segment_cli.specs.Lines.{ended_lines}
+use Rattle.segment_cli.specs.Segments.{answer_line}
+
+-- ---- a long line
+
+less_true : (a b : ℕ) → a < b → nat_lt a b ≡ true
+less_true a b h = grind (arith, nat_tests)
+
+returned-long : (line : List ℕ) (b : Bool) → 4097 < length line → 4096 < length (cond b (take (length line - 1) line) line)
+returned-long line true h = let long = length-take-le (length line - 1) line (omega arith) in omega arith
+returned-long line false h = omega arith
+
+too_long : (language : Language) (line : List ℕ) → 4097 < length line → reading language line ≡ LineTooLong
+unfolding reading
+too_long language line h =
+    let long : nat_lt 4096 (length (without_return line)) ≡ true = less_true 4096 (length (without_return line)) (returned-long line (slice_index line (length line - 1) == 0x0D) h) in
+    rw long refl
+
+reading-long : (language : Language) (line : List ℕ) → 4097 < length line → reading language line ≡ reading language (take 4098 line)
+reading-long language line h =
+    let long = length-take-le 4098 line (omega arith) in
+    too_long language line h ∙ sym (too_long language (take 4098 line) (omega arith))
+
+-- the law that a segment owes as a machine
+pub answer_line-long : (at : Mode × Directory) (line : List ℕ) → 4097 < length line → answer_line at line ≡ answer_line at (take 4098 line)
+answer_line-long at line h = ap (λ (r : Reading). let answer = respond at.0 at.1 r in (answer.0, (at.0, answer.1))) (reading-long landed line h)
+
+-- ---- a run of lines
+
+-- the answers of a segment, and its last place
+pub answer_all-segment : (mode : Mode) (d : Directory) (ls : List (List ℕ))
+    → answer_all answer_line (mode, d) ls ≡ ((run_lines landed mode d ls).0, (mode, (run_lines landed mode d ls).1))
+answer_all-segment mode d [] = refl
+answer_all-segment mode d (l ∷ ls) =
+    let first = respond mode d (reading landed l) in
+    ap (λ (r : List ℕ × (Mode × Directory)). (first.0 ++ r.0, r.1)) (answer_all-segment mode first.1 ls)
+
+printed-segment : (mode : Mode) (d : Directory) (ls : List (List ℕ)) → (answer_all answer_line (mode, d) ls).0 ≡ (run_lines landed mode d ls).0
+printed-segment mode d ls = ap (λ (r : List ℕ × (Mode × Directory)). r.0) (answer_all-segment mode d ls)
+
+place-segment : (mode : Mode) (d : Directory) (ls : List (List ℕ)) → (answer_all answer_line (mode, d) ls).1 ≡ (mode, (run_lines landed mode d ls).1)
+place-segment mode d ls = ap (λ (r : List ℕ × (Mode × Directory)). r.1) (answer_all-segment mode d ls)
+
+run-lines : (mode : Mode) (d : Directory) (script : List ℕ) → run landed mode d script ≡ run_lines landed mode d (lines script)
+unfolding run
+run-lines mode d script = refl
+
+run-ended : (mode : Mode) (d : Directory) (bytes : List ℕ) → run landed mode d (whole_lines bytes) ≡ run_lines landed mode d (ended_lines bytes)
+unfolding ended_lines
+run-ended mode d bytes = run-lines mode d (whole_lines bytes)
+
+-- ---- what a session owes, where it began at this directory
+
+module _ (start : Start) (mode : Mode) (t : Traffic) (from : Directory) (begins : Begins start t.image from) (Stands : Mode × Directory → Type 0) (image : t.image.failed ≡ false) (saved : t.saved.failed ≡ false) where
+  -- the last directory of a script that was run whole
+  pub stands_done : RunsWhole answer_line (mode, from) t.script t.out Stands → Stands (mode, (run landed mode from t.script.bytes).1)
+  stands_done h = subst Stands (place-segment mode from (lines t.script.bytes) ∙ ap (λ (r : List ℕ × Directory). (mode, r.1)) (sym (run-lines mode from t.script.bytes))) h.answers.stands
+
+  pub done : RunsWhole answer_line (mode, from) t.script t.out Stands → Saves mode t.saved.bytes (run landed mode from t.script.bytes).1 → IsDone start mode t
+  done h saves = record {
+    from = from;
+    begins = begins;
+    whole = h.whole;
+    within = h.within;
+    prints = h.answers.prints ∙ printed-segment mode from (lines t.script.bytes) ∙ ap (λ (r : List ℕ × Directory). r.0) (sym (run-lines mode from t.script.bytes));
+    saves = saves;
+    failed = rw (image, h.read, h.written, saved) refl;
+  }
+
+  cut : Answers answer_line (mode, from) (ended_lines (take script_limit t.script.bytes)) t.out.bytes Stands → t.saved.bytes ≡ [] → IsCut start mode t
+  cut h nothing = record {
+    from = from;
+    begins = begins;
+    prints = h.prints ∙ printed-segment mode from (ended_lines (take script_limit t.script.bytes)) ∙ ap (λ (r : List ℕ × Directory). r.0) (sym (run-ended mode from (take script_limit t.script.bytes)));
+    saves = nothing;
+  }
+
+  pub script_unread : IsCutByReader answer_line (mode, from) t.script t.out Stands → t.saved.bytes ≡ [] → IsScriptUnread start mode t
+  script_unread h nothing =
+      let all = take_all script_limit t.script.bytes h.within in
+      record {
+        within = h.within;
+        cut = cut (subst (λ (l : List ℕ). Answers answer_line (mode, from) (ended_lines l) t.out.bytes Stands) (sym all) h.answers) nothing;
+        failed = rw (image, h.read, h.written, saved) refl;
+      }
+
+  pub script_too_long : IsCutAtLimit answer_line (mode, from) t.script t.out Stands → t.saved.bytes ≡ [] → IsScriptTooLong start mode t
+  script_too_long h nothing = record {
+    long = h.beyond;
+    cut = cut h.answers nothing;
+    failed = rw (image, h.read, h.written, saved) refl;
+  }
+
+  pub answer_unwritten : IsCutByWriter answer_line (mode, from) t.script t.out Stands → t.saved.bytes ≡ [] → IsAnswerUnwritten start mode t
+  answer_unwritten h nothing =
+      let a = h.answers in
+      let place = place-segment mode from a.answered in
+      record {
+        cut = record {
+          from = from;
+          begins = begins;
+          answered = a.answered;
+          next = a.next;
+          rest = a.rest;
+          script = a.parts;
+          front = a.front;
+          prints = a.prints ∙ ap (λ (l : List ℕ). l ++ a.front) (printed-segment mode from a.answered);
+          part = subst (λ (at : Mode × Directory). IsProperPrefix a.front (answer_line at a.next).0) place a.part;
+          saves = nothing;
+        };
+        failed = rw (image, h.read, h.written, saved) refl;
+      }

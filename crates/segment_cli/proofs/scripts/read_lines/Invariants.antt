@@ -1,0 +1,23 @@
+use Rattle.std.proofs.Common.{◌≡◌, ◌+◌, length, drop}
+use Rattle.raw_region.specs.Device.{Grows}
+use Rattle.segment_cli.specs.Session.{script_limit}
+use Rattle.segment_cli.specs.Behind.{IsBehind}
+use Rattle.segment_cli.proofs.scripts.read_lines.Given as goal
+
+abbrev pub invariant-pieces : goal.invariant-pieces
+invariant-pieces g l =
+    let old = g.S.Source.given l.initial.script in
+    let new = g.S.Source.given l.script in
+    record {
+      buffer : length l.piece ≡ 4096;
+      grows : Grows old new;
+      limit : length (drop (length old) new) + l.left ≡ script_limit;
+      passed : length new + l.left ≡ length old + script_limit;
+      behind : (start : g.M.Machine.Place) → g.M.Machine.stands l.initial.machine start
+          → IsBehind g.M.Machine.respond start (g.W.Sink.taken l.initial.out) (drop (length old) new) (g.M.Machine.stands l.machine) l.line (g.W.Sink.taken l.out);
+      reads : g.S.Source.failures l.script ≡ g.S.Source.failures l.initial.script;
+      writes : g.W.Sink.failures l.out ≡ g.W.Sink.failures l.initial.out;
+    }
+
+abbrev pub decreases-pieces : goal.decreases-pieces
+decreases-pieces g l = l.left

@@ -1,0 +1,55 @@
+//! The line of a script that has not ended yet.
+ghost use Rattle.std.specs.Prelude.{◌≡◌, ◌==◌, ◌≤◌, [], ◌∷◌, ◌++◌, ℕ, List, length, take};
+
+use std::marker::Model;
+
+/// How many bytes of a line are kept: a longer one is answered by these alone.
+const KEPT: usize = 4098;
+
+/// The first 4098 bytes of a line, or all of them where it has fewer.
+#[derive(Drop)]
+pub struct OpenLine {
+    bytes: [u8; 4098],
+    len: usize,
+}
+
+impl Model for OpenLine {
+    ghost Value = { List ℕ };
+
+    ghost view = { λ l. take l.len l.bytes };
+
+    ghost invariant = { λ l. l.len ≤ 4098 };
+}
+
+impl OpenLine {
+    pub fn new() -> OpenLine
+        ensures { result ≡ [] }
+    {
+        OpenLine {
+            bytes: [0; KEPT],
+            len: 0,
+        }
+    }
+
+    pub fn as_slice(&self) -> &[u8]
+        ensures { result.now ≡ self.now }
+    {
+        &self.bytes[..self.len]
+    }
+
+    /// One byte more, which is dropped where the line is full.
+    pub fn push(&mut self, byte: u8)
+        ensures { self.new ≡ take 4098 (self.old ++ byte ∷ []) }
+    {
+        if self.len < KEPT {
+            self.bytes[self.len] = byte;
+            self.len += 1;
+        }
+    }
+
+    pub fn clear(&mut self)
+        ensures { self.new ≡ [] }
+    {
+        self.len = 0;
+    }
+}

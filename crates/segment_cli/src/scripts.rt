@@ -1,0 +1,158 @@
+//! The running of a script: read in pieces, parted into lines, each line answered at its end.
+ghost use Rattle.std.specs.Prelude.{◌≡◌, ◌+◌, ◌-◌, ◌^◌, ◌<◌, ◌≤◌, ℕ, List, [], ◌++◌, length, OnOk, OnErr, IfErr};
+ghost use Rattle.raw_region.specs.Answers.{failures_in};
+ghost use Rattle.raw_region.specs.Device.{given_since, taken_since, Grows};
+ghost use Rattle.segment_cli.specs.Run.{lines};
+ghost use Rattle.segment_cli.specs.Session.{script_limit};
+ghost use Rattle.segment_cli.specs.Leaves.{Leaves, LeavesFault, failed_reads, failed_writes};
+ghost use Rattle.segment_cli.specs.Behind.{IsBehind, IsStoppedIn, IsAtEnd, IsStoppedAtLast, HasAnswered};
+
+use crate::faults::RunFault;
+use crate::machine::Machine;
+use crate::open_line::OpenLine;
+use raw_region::{DeviceFault, Sink, Source};
+
+/// How many bytes of a script are read at once.
+const PIECE: usize = 4096;
+
+/// The most bytes that a script may have.
+const SCRIPT_LIMIT: usize = 16777216;
+
+/// Executes the lines that end in the piece, the first of which began before it, and keeps the
+/// line that is still open behind it.
+fn feed<M: Machine, W: Sink>(
+    machine: &mut M,
+    line: &mut OpenLine,
+    piece: &[u8],
+    out: &mut W,
+) -> Result<(), DeviceFault>
+    requires { W.failures out.old < 2 ^ 64 - 1 }
+    ensures ok { OnOk result ((start : M.Place) (before read : List ℕ)
+        → IsBehind M.respond start before read (M.stands machine.old) line.old (W.taken out.old)
+        → IsBehind M.respond start before (read ++ piece.now) (M.stands machine.new) line.new
+        (W.taken out.new)) }
+    ensures err { OnErr result ((start : M.Place) (before read : List ℕ)
+        → IsBehind M.respond start before read (M.stands machine.old) line.old (W.taken out.old)
+        → IsStoppedIn M.respond start before read piece.now (M.stands machine.new)
+        (W.taken out.new)) }
+    ensures counted { W.failures out.new ≡ W.failures out.old + failures_in result }
+{
+    for byte in piece {
+        if *byte == b'\n' {
+            machine.answer(line.as_slice(), out)?;
+            line.clear();
+        } else {
+            line.push(*byte);
+        }
+    }
+    Ok(())
+}
+
+/// Reads the script in pieces, and executes the lines that end in it.
+fn read_lines<M: Machine, S: Source, W: Sink>(
+    machine: &mut M,
+    script: &mut S,
+    line: &mut OpenLine,
+    out: &mut W,
+) -> Result<(), RunFault>
+    requires reader { S.failures script.old < 2 ^ 64 - 1 }
+    requires writer { W.failures out.old < 2 ^ 64 - 1 }
+    requires fresh { line.old ≡ [] }
+    ensures end { OnOk result ((start : M.Place) → M.stands machine.old start
+        → IsAtEnd M.respond start (W.taken out.old)
+        (given_since (S.given script.old) (S.given script.new) (S.ended script.new)
+        (S.failures script.old) (S.failures script.new))
+        (M.stands machine.new) line.new (W.taken out.new)) }
+    ensures fault { IfErr result (λ fault. (start : M.Place) → M.stands machine.old start
+        → LeavesFault M.respond start
+        (given_since (S.given script.old) (S.given script.new) (S.ended script.new)
+        (S.failures script.old) (S.failures script.new))
+        (taken_since (W.taken out.old) (W.taken out.new) (W.failures out.old)
+        (W.failures out.new))
+        fault (M.stands machine.new)) }
+    ensures script_grows { Grows (S.given script.old) (S.given script.new) }
+    ensures out_grows { OnErr result ((start : M.Place) → M.stands machine.old start
+        → Grows (W.taken out.old) (W.taken out.new)) }
+    ensures reads_no_further { length (S.given script.new)
+        ≤ length (S.given script.old) + script_limit + 4096 }
+    ensures reads_counted { S.failures script.new ≡ S.failures script.old + failed_reads result }
+    ensures writes_counted { W.failures out.new ≡ W.failures out.old + failed_writes result }
+{
+    let mut piece = [0u8; PIECE];
+    let mut left = SCRIPT_LIMIT;
+    'pieces: loop {
+        let count = match script.read(&mut piece) {
+            Ok(count) => count,
+            Err(_) => return Err(RunFault::ReadFault),
+        };
+        if count == 0 {
+            return Ok(());
+        }
+        let within = count.min(left);
+        match feed(machine, line, &piece[..within], out) {
+            Ok(()) => {}
+            Err(_) => return Err(RunFault::WriteFault),
+        }
+        if left < count {
+            return Err(RunFault::ScriptTooLong);
+        }
+        left -= count;
+    }
+}
+
+/// Answers the line that is open where the script ends, if it has a byte.
+fn answer_last<M: Machine, W: Sink>(
+    machine: &mut M,
+    line: &OpenLine,
+    out: &mut W,
+) -> Result<(), DeviceFault>
+    requires { W.failures out.old < 2 ^ 64 - 1 }
+    ensures ok { OnOk result ((start : M.Place) (before read : List ℕ)
+        → IsBehind M.respond start before read (M.stands machine.old) line.now (W.taken out.old)
+        → HasAnswered M.respond start before (lines read) (M.stands machine.new)
+        (W.taken out.new)) }
+    ensures err { OnErr result ((start : M.Place) (before read : List ℕ)
+        → IsBehind M.respond start before read (M.stands machine.old) line.now (W.taken out.old)
+        → IsStoppedAtLast M.respond start before read (M.stands machine.new) (W.taken out.new)) }
+    ensures counted { W.failures out.new ≡ W.failures out.old + failures_in result }
+{
+    let last = line.as_slice();
+    if !last.is_empty() {
+        machine.answer(last, out)?;
+    }
+    Ok(())
+}
+
+/// Executes the script line by line from where the machine stands, and writes the answers. A line
+/// ends at a byte 10; the last one needs no end. It takes no memory.
+///
+/// A fault leaves the machine where the lines that were executed lead.
+pub fn run<M: Machine, S: Source, W: Sink>(
+    machine: &mut M,
+    script: &mut S,
+    out: &mut W,
+) -> Result<(), RunFault>
+    requires reader { S.failures script.old < 2 ^ 64 - 1 }
+    requires writer { W.failures out.old < 2 ^ 64 - 1 }
+    ensures leaves { (place : M.Place) → M.stands machine.old place
+        → Leaves M.respond place
+        (given_since (S.given script.old) (S.given script.new) (S.ended script.new)
+        (S.failures script.old) (S.failures script.new))
+        (taken_since (W.taken out.old) (W.taken out.new) (W.failures out.old)
+        (W.failures out.new))
+        result (M.stands machine.new) }
+    ensures script_grows { Grows (S.given script.old) (S.given script.new) }
+    ensures out_grows { (place : M.Place) → M.stands machine.old place
+        → Grows (W.taken out.old) (W.taken out.new) }
+    ensures reads_no_further { length (S.given script.new)
+        ≤ length (S.given script.old) + script_limit + 4096 }
+    ensures reads_counted { S.failures script.new ≡ S.failures script.old + failed_reads result }
+    ensures writes_counted { W.failures out.new ≡ W.failures out.old + failed_writes result }
+{
+    let mut line = OpenLine::new();
+    read_lines(machine, script, &mut line, out)?;
+    match answer_last(machine, &line, out) {
+        Ok(()) => Ok(()),
+        Err(_) => Err(RunFault::WriteFault),
+    }
+}

@@ -1,12 +1,13 @@
 -- What contracts see of a heap: a window whose bytes lay out a live set.
-use Rattle.std.specs.Prelude.{◌≡◌, ℕ, ◌+◌, ◌%◌, min, Bool, ◌&&◌, Option, Some, None, Result, MatchResult, List, length, filter_map, IsTrue, ◌==◌}
+use Rattle.std.specs.Prelude.{◌≡◌, ℕ, ◌+◌, ◌-◌, ◌%◌, ◌<◌, ◌≤◌, ◌⊎◌, min, Bool, true, false, ◌&&◌, Option, Some, None, Result, MatchResult, List, [], length, filter_map, find, IsTrue, ◌==◌}
 use Rattle.std.specs.List.{AllByRecursion, list_any}
-use Rattle.raw_region.specs.Memory.{Memory, Cut, Same, SameBut, SamePlace, bytes_of, word_at}
+use Rattle.raw_region.specs.Memory.{Memory, AreZero, Cut, Same, SameBut, SamePlace, bytes_of, part, word_at}
 use Rattle.block_tags.specs.declared.tile.Role.{Role}
-use Rattle.block_tags.specs.Tiles.{tiles_of}
 use Rattle.block_tags.specs.declared.tile.Tile.{Tile}
-use Rattle.best_fit.specs.Extents.{Extent, LiveSet, handle, end_of, holds, is_proper}
-use Rattle.best_fit.specs.Fit.{place, added, others, released, resized}
+use Rattle.block_tags.specs.Lists.{laid, IsBesideTags}
+use Rattle.block_tags.specs.Tiles.{tiles_of}
+use Rattle.best_fit.specs.Extents.{Extent, Gap, LiveSet, handle, end_of, gaps, holds, is_proper}
+use Rattle.best_fit.specs.Fit.{place, added, longer, others, released, resized, shorter}
 use Rattle.best_fit.specs.FreeTree.{IsTiled, IsFreeTree}
 
 abbrev pub as_extent : Tile → Option Extent
@@ -82,3 +83,38 @@ pub record IsChanged (format : ℕ) (old new : Cut) (from n : ℕ) : Type 0 wher
   pub place : SamePlace old new
   pub live : LaysOut format new.bytes (live_of old.bytes)
   pub rest : SameBut (bytes_of old.bytes) (bytes_of new.bytes) from n
+
+-- ---- what else the calls of a heap answer and do
+
+-- the extent of a handle
+abbrev pub extent_at : LiveSet → ℕ → Option Extent
+extent_at live h = find (λ (x : Extent). handle x == h) live.extents
+
+-- the bytes of the block of a handle behind its tag
+abbrev pub payload_at : List ℕ → LiveSet → ℕ → List ℕ
+payload_at b live h = elim (extent_at live h) [ None ↦ [] | Some x ↦ part b h (x.len - 16) ]
+
+-- no block is in use; nothing changes but the tags and word 24
+pub record IsFresh (format : ℕ) (old new : Cut) : Type 0 where
+  pub place : SamePlace old new
+  pub live : LaysOut format new.bytes (record { size = length old.bytes; extents = [] })
+  pub rest : (k : ℕ) → (k < 24) ⊎ (32 ≤ k) → IsBesideTags (laid (length old.bytes)) k → k < length old.bytes - 16 → bytes_of new.bytes k ≡ bytes_of old.bytes k
+
+-- the block of this handle becomes what `longer` gives, or nothing changes where that is nothing
+pub record IsExtended (format : ℕ) (old new : Cut) (h n : ℕ) (result : Bool) : Type 0 where
+  pub extent : Extent
+  pub found : extent_at (live_of old.bytes) h ≡ Some extent
+  pub lengthened : (y : Extent) → longer (live_of old.bytes) extent n ≡ Some y → (result ≡ true) × IsResized format old new extent y
+  pub refused : longer (live_of old.bytes) extent n ≡ None → (result ≡ false) × (new ≡ old)
+
+-- the block of this handle becomes what `shorter` gives
+pub record IsShortened (format : ℕ) (old new : Cut) (h n : ℕ) : Type 0 where
+  pub extent : Extent
+  pub found : extent_at (live_of old.bytes) h ≡ Some extent
+  pub shortened : IsResized format old new extent (shorter (live_of old.bytes) extent n)
+
+-- the payload of each gap is 0, and nothing else changes
+pub record IsZeroed (format : ℕ) (old new : Cut) : Type 0 where
+  pub live : LaysOut format new.bytes (live_of old.bytes)
+  pub keeps : Keeps old new (live_of old.bytes).extents
+  pub zero : AllByRecursion (λ (g : Gap). AreZero (bytes_of new.bytes) (g.offset + 16) (g.offset + g.len)) (gaps (live_of old.bytes))

@@ -2,4 +2,6 @@ pub mod Extents
 pub mod Fit
 pub mod FreeTree
 pub mod Heap
+pub mod Resizes
 pub mod Table
+pub mod Tiling

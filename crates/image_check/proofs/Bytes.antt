@@ -2,7 +2,7 @@
 use Rattle.std.proofs.Common.{◌≡◌, refl, sym, ap, ◌∙◌, ℕ, zero, suc, ◌+◌, ◌*◌, ◌/◌, ◌%◌, ◌^◌, ◌<◌, ◌≤◌, ◌==◌, List, [], ◌∷◌, arith}
 use Rattle.std.specs.Prelude.{IsTrue, nat_lt, slice_index}
 use Rattle.std.proofs.Math.Nat.{div-div-eq-div-mul, div-one, pow-succ'}
-use Rattle.std.proofs.lemmas.Bool.{and_parts, and_from, eqb-true, eq-eqb, ltb-true, cases_lt}
+use Rattle.std.proofs.lemmas.Bool.{and_parts, and_from, eqb-true, eq-eqb, ltb-true, lt-ltb, cases_lt}
 use mathlib.Core.Logic.{⊎_elim}
 use Rattle.std.specs.Int.{byte_at, bytes_low_first}
 use Rattle.byteorder.specs.Endian.{little_number}
@@ -159,3 +159,10 @@ AreZero-half_word_at m at z = AreZero-number_at m at 4 z
 pub half_word_at-AreZero : (m : Memory) (at : ℕ) → half_word_at m at ≡ 0 → AreZero m at (at + 4)
 unfolding half_word_at
 half_word_at-AreZero m at e = number_at-AreZero m at 4 e
+
+-- ---- elements of type u8
+
+-- each fits in eight bits, and so all are bytes
+pub fits-are_bytes : (b : List ℕ) → ((k : ℕ) → slice_index b k < 256) → IsTrue (are_bytes b)
+fits-are_bytes [] f = refl
+fits-are_bytes (x ∷ b) f = and_from (nat_lt x 256) (are_bytes b) (lt-ltb x 256 (f 0)) (fits-are_bytes b (λ k. f (suc k)))

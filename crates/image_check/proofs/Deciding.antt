@@ -78,15 +78,15 @@ unfolding half_word_at
 half_word_at-front b rest at l = ap (little_number 4) (read-front b rest at 4 l)
 
 -- the magic stays
-has_magic-front : (b rest : List ℕ) → 24 ≤ length b → has_magic (b ++ rest) ≡ has_magic b
+pub has_magic-front : (b rest : List ℕ) → 24 ≤ length b → has_magic (b ++ rest) ≡ has_magic b
 has_magic-front b rest l = ap (λ w. w == magic_number) (word_at-front b rest 0 (omega arith))
 
 -- the version stays
-has_version-front : (b rest : List ℕ) → 24 ≤ length b → has_version current (b ++ rest) ≡ has_version current b
+pub has_version-front : (b rest : List ℕ) → 24 ≤ length b → has_version current (b ++ rest) ≡ has_version current b
 has_version-front b rest l = ap (λ w. w == current) (half_word_at-front b rest 8 (omega arith))
 
 -- the size stays
-size_word-front : (b rest : List ℕ) → 24 ≤ length b → size_word (b ++ rest) ≡ size_word b
+pub size_word-front : (b rest : List ℕ) → 24 ≤ length b → size_word (b ++ rest) ≡ size_word b
 size_word-front b rest l = word_at-front b rest 16 (omega arith)
 
 -- ---- where an image is not too short

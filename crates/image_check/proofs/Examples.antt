@@ -1,13 +1,16 @@
--- Three small images, as their words: what the test of landed images answers, and the directory that it reads off.
+-- Three small images, as their words: what the test of landed images answers, the directory that it reads off, and their class.
 use Rattle.std.proofs.Common.{◌≡◌, refl, ℕ, negsuc, List, [], ◌∷◌, ◌++◌, true, false}
-use Rattle.std.specs.Prelude.{flat_map}
+use Rattle.std.specs.Prelude.{flat_map, Some, None}
 use Rattle.raw_region.specs.Memory.{word_bytes, word_at, half_word_at, zeros}
+use Rattle.block_tags.specs.Format.{current}
 use Rattle.best_fit.specs.Heap.{live_of}
 use Rattle.best_fit.specs.Table.{no_table}
 use Rattle.block_tags.specs.declared.tile.Role.TheVariants.{Object as ObjectRole}
 use Rattle.seg_types.specs.declared.kinds.ScalarKind.TheVariants.{I64}
 use Rattle.seg_types.specs.declared.kinds.Class.TheVariants.{Anonymous}
 use Rattle.segment_manager.specs.Directory.{Numbers}
+use Rattle.image_check.specs.declared.classes.ImageClass.TheVariants.{BadObject}
+use Rattle.image_check.specs.Classes.{class_of}
 use Rattle.image_check.specs.LandedImages.{is_landed_image, has_frame, landed_directory}
 
 -- bytes from words
@@ -32,6 +35,11 @@ one_is : is_landed_image one ≡ true
 unfolding is_landed_image has_frame word_at word_bytes half_word_at zeros
 one_is = refl
 
+-- and has no class
+one_accepted : class_of current one ≡ None
+unfolding word_at word_bytes half_word_at zeros
+one_accepted = refl
+
 -- and says an anonymous object with -2
 one_says : landed_directory one ≡ record { size = 224; objects = record { class = Anonymous; name = []; value = Numbers I64 (negsuc 1 ∷ []); extent = record { offset = 128; len = 48; role = ObjectRole } } ∷ []; named = no_table; unique = no_table }
 unfolding landed_directory live_of word_at word_bytes half_word_at zeros
@@ -50,3 +58,12 @@ other_is = refl
 other_frame : has_frame other ≡ true
 unfolding has_frame word_at word_bytes half_word_at zeros
 other_frame = refl
+
+-- a number behind its right kind, with a count of 0: the test and the ninth class say so
+abbrev wrong : List ℕ
+wrong = words (4993446653039301453 ∷ 0 ∷ 224 ∷ 1 ∷ 1 ∷ 0 ∷ 0 ∷ 1 ∷ 0 ∷ 0 ∷ []) ++ zeros 48 ++ words (0 ∷ 49 ∷ 4 ∷ 0 ∷ 18446744073709551614 ∷ 77 ∷ 48 ∷ 32 ∷ 7 ∷ 9 ∷ 32 ∷ 1 ∷ [])
+
+-- it is no object
+wrong_class : class_of current wrong ≡ Some BadObject
+unfolding word_at word_bytes half_word_at zeros
+wrong_class = refl

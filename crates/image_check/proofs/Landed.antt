@@ -17,7 +17,7 @@ use Rattle.segment_manager.specs.Landed.{IsLanded}
 use Rattle.segment_manager.specs.Denotes.{Denotes, IsHeader, handles}
 use Rattle.segment_manager.specs.State.{StandsFor}
 use Rattle.image_check.specs.Classes.{are_bytes}
-use Rattle.image_check.specs.LandedImages.{has_frame, has_no_place, is_landed_tile, is_landed_image, landed_directory, LandedImages}
+use Rattle.image_check.specs.LandedImages.{has_frame, has_no_place, is_landed_tile, is_landed_image, landed_directory}
 use Rattle.image_check.proofs.Bytes.{AreSmall, are_bytes-AreSmall}
 use Rattle.image_check.proofs.Tags.{has_tags-AreWholeTiles}
 use Rattle.image_check.proofs.Filling.{used, used-proper, used-spans, spans-used}
@@ -33,7 +33,7 @@ abbrev capacity_of : Table → ℕ
 capacity_of t = t.capacity
 
 -- the distance 1 leads nowhere
-null_link : (at w : ℕ) → w ≡ 1 → target_of at w ≡ None
+pub null_link : (at w : ℕ) → w ≡ 1 → target_of at w ≡ None
 null_link at w e = cond-true (w == 1) None (Some ((at + w) % 2 ^ 64)) (eq-eqb w 1 e)
 
 -- a link is null, or it leads to a place
@@ -260,7 +260,3 @@ landed_image-one b d s =
     let objects : d.objects ≡ landed_objects (bytes_of b) (used (tiles_of (bytes_of b) (length b))) = said ∙ ap (landed_objects (bytes_of b)) (sym (used-objects b d t)) in
     let e : d ≡ directory_of b (used (tiles_of (bytes_of b) (length b))) = λ i. record { size = t.size i; objects = objects i; named = s.landed.named i; unique = s.landed.unique i } in
     e ∙ sym (landed_directory-is b)
-
--- the law
-pub landed_images : LandedImages
-landed_images b h = record { sound = landed_image-sound b h; complete = landed_image-complete b; one = landed_image-one b }

@@ -8,8 +8,16 @@ pub mod Live
 pub mod Frame
 pub mod Landed
 pub mod Early
+pub mod Fronts
+pub mod Stopping
+pub mod Filled
+pub mod Placed
+pub mod Walking
+pub mod Checked
 pub mod Examples
 pub mod Words
+pub mod NumberTiles
+pub mod Accepted
 pub mod TagWalk
 pub mod TileWalk
 pub mod TagWords

@@ -14,7 +14,7 @@ use Rattle.seg_types.specs.declared.kinds.Class.TheVariants.{Anonymous}
 use Rattle.seg_types.specs.Kinds.{value_of}
 use Rattle.segment_manager.specs.Directory.{Numbers, Object, Directory}
 use Rattle.segment_manager.specs.State.{StandsFor}
-use Rattle.image_check.specs.Classes.{size_word, has_magic, has_version, has_reserved, is_tiled, are_bytes}
+use Rattle.image_check.specs.Classes.{size_word, has_magic, has_version, has_reserved, is_tiled, are_bytes, class_of}
 
 -- ---- the header and the tags
 
@@ -69,12 +69,14 @@ landed_directory b = record {
   unique = no_table;
 }
 
--- ---- the law: the test holds of exactly the images of landed directories, and each is the image of only one
+-- ---- the law: the test holds of exactly the images of landed directories, each is the image of only one, and each is accepted
 
 pub record IsLandedImage (b : List ℕ) : Type 0 where
   pub sound : IsTrue (is_landed_image b) → StandsFor b (landed_directory b)
   pub complete : (d : Directory) → StandsFor b d → IsTrue (is_landed_image b)
   pub one : (d : Directory) → StandsFor b d → d ≡ landed_directory b
+  -- no class holds of an image of a directory: it is accepted
+  pub accepted : (d : Directory) → StandsFor b d → class_of current b ≡ None
 
 abbrev pub LandedImages : Type 0
 LandedImages = (b : List ℕ) → IsTrue (are_bytes b) → IsLandedImage b

@@ -1,5 +1,6 @@
 pub mod Classes
 pub mod Meaning
 pub mod Opening
+pub mod Reading
 pub mod LandedImages
 pub mod Deciding

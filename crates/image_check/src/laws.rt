@@ -4,7 +4,7 @@ ghost use Rattle.image_check.specs.LandedImages.{LandedImages};
 ghost use Rattle.image_check.specs.Deciding.{AllDecided};
 
 /// The test of an image of a directory that has come passes exactly those, and the directory that it reads off is the only
-/// one that they denote.
+/// one that they denote. No class holds of them, and so they are accepted.
 pub fn landed_images_have_one_directory()
     ensures { LandedImages }
 {}

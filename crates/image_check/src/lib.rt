@@ -2,7 +2,16 @@
 //! by a named class.
 #![tactic(auto)]
 
+mod checking;
 mod classes;
+mod errors;
+mod header;
 pub mod laws;
+mod opening;
+mod reading;
+#[cfg(test)]
+mod tests;
 
 pub use classes::ImageClass;
+pub use errors::{OpenError, OpenRefused};
+pub use opening::open;

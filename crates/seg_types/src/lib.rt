@@ -2,6 +2,7 @@
 #![tactic(auto)]
 
 mod kinds;
+pub mod laws;
 mod refusals;
 
 pub use kinds::{Class, Kind, ScalarKind};

@@ -3,3 +3,9 @@ pub mod Kept
 pub mod RunLaws
 pub mod Cuts
 pub mod SessionLaws
+pub mod Puts
+pub mod Replies
+pub mod Listing
+pub mod Endings
+pub mod Beginnings
+pub mod SavedImages

@@ -1,11 +1,9 @@
 -- What a run leaves at a segment is what a session owes.
-use Rattle.std.proofs.Common.{◌≡◌, ◌==◌, ℕ, ◌-◌, ◌<◌, Bool, false, true, nat_lt, cond, List, [], ◌∷◌, ◌++◌, length, take, refl, sym, ap, subst, ◌∙◌, arith, slice_index}
-use Rattle.std.proofs.lemmas.List.{take_all, length-take-le}
-use Rattle.std.proofs.lemmas.Bool.Decides.{nat_tests}
+use Rattle.std.proofs.Common.{◌≡◌, ℕ, false, List, [], ◌∷◌, ◌++◌, take, refl, sym, ap, subst, ◌∙◌}
+use Rattle.std.proofs.lemmas.List.{take_all}
 use Rattle.raw_region.specs.Device.{IsProperPrefix}
-use Rattle.seg_types.specs.Commands.{Reading, LineTooLong}
-use Rattle.segment_lang.specs.Language.{Language, landed}
-use Rattle.segment_lang.specs.Reading.{reading, without_return}
+use Rattle.segment_lang.specs.Language.{landed}
+use Rattle.segment_lang.specs.Reading.{reading}
 use Rattle.segment_manager.specs.declared.modes.Mode.{Mode}
 use Rattle.segment_manager.specs.Directory.{Directory}
 use Rattle.segment_cli.specs.declared.faults.Start.{Start}
@@ -14,30 +12,6 @@ use Rattle.segment_cli.specs.Session.{script_limit, whole_lines, Traffic, Begins
 use Rattle.segment_cli.specs.Leaves.{answer_all, Answers, RunsWhole, IsCutByReader, IsCutByWriter, IsCutAtLimit}
 use Rattle.segment_cli.specs.Lines.{ended_lines}
 use Rattle.segment_cli.specs.Segments.{answer_line}
-
--- ---- a long line
-
-less_true : (a b : ℕ) → a < b → nat_lt a b ≡ true
-less_true a b h = grind (arith, nat_tests)
-
-returned-long : (line : List ℕ) (b : Bool) → 4097 < length line → 4096 < length (cond b (take (length line - 1) line) line)
-returned-long line true h = let long = length-take-le (length line - 1) line (omega arith) in omega arith
-returned-long line false h = omega arith
-
-too_long : (language : Language) (line : List ℕ) → 4097 < length line → reading language line ≡ LineTooLong
-unfolding reading
-too_long language line h =
-    let long : nat_lt 4096 (length (without_return line)) ≡ true = less_true 4096 (length (without_return line)) (returned-long line (slice_index line (length line - 1) == 0x0D) h) in
-    rw long refl
-
-reading-long : (language : Language) (line : List ℕ) → 4097 < length line → reading language line ≡ reading language (take 4098 line)
-reading-long language line h =
-    let long = length-take-le 4098 line (omega arith) in
-    too_long language line h ∙ sym (too_long language (take 4098 line) (omega arith))
-
--- the law that a segment owes as a machine
-pub answer_line-long : (at : Mode × Directory) (line : List ℕ) → 4097 < length line → answer_line at line ≡ answer_line at (take 4098 line)
-answer_line-long at line h = ap (λ (r : Reading). let answer = respond at.0 at.1 r in (answer.0, (at.0, answer.1))) (reading-long landed line h)
 
 -- ---- a run of lines
 
@@ -63,20 +37,27 @@ run-ended : (mode : Mode) (d : Directory) (bytes : List ℕ) → run landed mode
 unfolding ended_lines
 run-ended mode d bytes = run-lines mode d (whole_lines bytes)
 
--- ---- what a session owes, where it began at this directory
+-- ---- a script that was run whole, from a directory
 
-module _ (start : Start) (mode : Mode) (t : Traffic) (from : Directory) (begins : Begins start t.image from) (Stands : Mode × Directory → Type 0) (image : t.image.failed ≡ false) (saved : t.saved.failed ≡ false) where
-  -- the last directory of a script that was run whole
+module _ (mode : Mode) (from : Directory) (t : Traffic) (Stands : Mode × Directory → Type 0) where
+  -- its last directory
   pub stands_done : RunsWhole answer_line (mode, from) t.script t.out Stands → Stands (mode, (run landed mode from t.script.bytes).1)
   stands_done h = subst Stands (place-segment mode from (lines t.script.bytes) ∙ ap (λ (r : List ℕ × Directory). (mode, r.1)) (sym (run-lines mode from t.script.bytes))) h.answers.stands
 
+  -- and its answers
+  pub prints_done : RunsWhole answer_line (mode, from) t.script t.out Stands → t.out.bytes ≡ (run landed mode from t.script.bytes).0
+  prints_done h = h.answers.prints ∙ printed-segment mode from (lines t.script.bytes) ∙ ap (λ (r : List ℕ × Directory). r.0) (sym (run-lines mode from t.script.bytes))
+
+-- ---- what a session owes, where it began at this directory
+
+module _ (start : Start) (mode : Mode) (t : Traffic) (from : Directory) (begins : Begins start t.image from) (Stands : Mode × Directory → Type 0) (image : t.image.failed ≡ false) (saved : t.saved.failed ≡ false) where
   pub done : RunsWhole answer_line (mode, from) t.script t.out Stands → Saves mode t.saved.bytes (run landed mode from t.script.bytes).1 → IsDone start mode t
   done h saves = record {
     from = from;
     begins = begins;
     whole = h.whole;
     within = h.within;
-    prints = h.answers.prints ∙ printed-segment mode from (lines t.script.bytes) ∙ ap (λ (r : List ℕ × Directory). r.0) (sym (run-lines mode from t.script.bytes));
+    prints = prints_done mode from t Stands h;
     saves = saves;
     failed = rw (image, h.read, h.written, saved) refl;
   }

@@ -59,6 +59,10 @@ role_word (Some Index) = codes "index"
 role_word (Some Storage) = codes "storage"
 role_word (Some Node) = codes "node"
 
+-- where a block or gap begins, its length, and what it is used for
+abbrev pub block_words : Span → List (List ℕ)
+block_words s = number_text s.offset ∷ number_text s.len ∷ role_word s.use_of ∷ []
+
 abbrev pub truth_word : Bool → List ℕ
 truth_word true = codes "true"
 truth_word false = codes "false"
@@ -81,5 +85,5 @@ answer_text (Shown v) = line (shown_words v)
 answer_text (Told o) = line (class_words o.class o.name ++ entry_words o ++ measure_words o.value)
 answer_text (Names os) = listing (λ (o : Object). name_text o.name ∷ entry_words o) os
 answer_text (Kinds os) = listing entry_words os
-answer_text (Blocks ss) = listing (λ (s : Span). number_text s.offset ∷ number_text s.len ∷ role_word s.use_of ∷ []) ss
+answer_text (Blocks ss) = listing block_words ss
 answer_text (Refused r) = line (refusal_text r ∷ [])

@@ -5,3 +5,5 @@ pub mod Lines
 pub mod Leaves
 pub mod Behind
 pub mod Segments
+pub mod LongLines
+pub mod Beginning

@@ -1,11 +1,12 @@
 -- What a session owes: what it prints and saves, and what each fault leaves.
-use Rattle.std.specs.Prelude.{◌≡◌, ◌⊎◌, ◌<◌, ◌≤◌, ℕ, ◌+◌, Bool, true, false, ◌||◌, ◌&&◌, ⊤, nat_le, List, [], ◌∷◌, ◌++◌, length, take, IsTrue, ◌==◌, nat_lt, Result, Err, MatchResult, if◌then◌else◌}
+use Rattle.std.specs.Prelude.{◌≡◌, ◌⊎◌, ◌<◌, ◌≤◌, ℕ, ◌+◌, Bool, true, false, ◌||◌, ◌&&◌, ⊤, nat_le, List, [], ◌∷◌, ◌++◌, length, take, IsTrue, ◌==◌, nat_lt, None, Result, Err, MatchResult, if◌then◌else◌}
 use Rattle.raw_region.specs.Device.{Given, Taken, IsProperPrefix}
-use Rattle.block_tags.specs.Format.{is_legal_size}
+use Rattle.block_tags.specs.Format.{current, is_legal_size}
 use Rattle.segment_manager.specs.declared.modes.Mode.{Mode}
 use Rattle.segment_manager.specs.declared.modes.Mode.TheVariants.{Write, ReadOnly as ReadOnlyMode, CopyOnWrite}
 use Rattle.segment_manager.specs.Directory.{Directory, empty}
 use Rattle.segment_manager.specs.State.{StandsFor}
+use Rattle.image_check.specs.Classes.{class_of}
 use Rattle.image_check.specs.Opening.{IsRefusedAs, IsTooSmallFor, NeedsMemory, IsUndecided}
 use Rattle.segment_lang.specs.Language.{landed}
 use Rattle.segment_lang.specs.Reading.{reading}
@@ -54,9 +55,14 @@ IsTooSmall Image image base capacity = IsTooSmallFor image base capacity
 
 -- ---- what a session prints and saves
 
--- in mode Write an image that denotes the directory, and else nothing
+-- an image that denotes the directory, and that is accepted again: no class holds of it
+pub record IsSaved (saved : List ℕ) (d : Directory) : Type 0 where
+  pub denotes : StandsFor saved d
+  pub accepted : class_of current saved ≡ None
+
+-- in mode Write such an image, and else nothing
 abbrev pub Saves : Mode → List ℕ → Directory → Type 0
-Saves Write saved d = StandsFor saved d
+Saves Write saved d = IsSaved saved d
 Saves ReadOnlyMode saved d = saved ≡ []
 Saves CopyOnWrite saved d = saved ≡ []
 

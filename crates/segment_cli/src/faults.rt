@@ -1,6 +1,9 @@
 //! How a session begins, and why it may fail.
+ghost use Rattle.std.specs.Prelude.{◌≡◌};
+ghost use Rattle.segment_cli.specs.Beginning.{created_fault, opened_fault, run_fault};
 
-use image_check::ImageClass;
+use image_check::{ImageClass, OpenError, OpenRefused};
+use segment_manager::{CreateError, CreateRefused};
 use thiserror::Error;
 
 /// What a session begins with.
@@ -52,4 +55,40 @@ pub enum RunFault {
     /// answered.
     #[error("script too long")]
     ScriptTooLong,
+}
+
+impl From<CreateRefused> for SessionFault {
+    ghost from_gives = { λ refused fault. fault ≡ created_fault refused.cause };
+
+    fn from(refused: CreateRefused) -> SessionFault {
+        match refused.cause {
+            CreateError::BadSize => SessionFault::BadSize,
+            CreateError::RegionTooSmall => SessionFault::RegionTooSmall,
+        }
+    }
+}
+
+impl From<OpenRefused> for SessionFault {
+    ghost from_gives = { λ refused fault. fault ≡ opened_fault refused.cause };
+
+    fn from(refused: OpenRefused) -> SessionFault {
+        match refused.cause {
+            OpenError::Image(class) => SessionFault::Image(class),
+            OpenError::RegionTooSmall => SessionFault::RegionTooSmall,
+            OpenError::OutOfMemory => SessionFault::OutOfMemory,
+            OpenError::ReadFault => SessionFault::ReadFault,
+        }
+    }
+}
+
+impl From<RunFault> for SessionFault {
+    ghost from_gives = { λ stopped fault. fault ≡ run_fault stopped };
+
+    fn from(stopped: RunFault) -> SessionFault {
+        match stopped {
+            RunFault::ReadFault => SessionFault::ReadFault,
+            RunFault::WriteFault => SessionFault::WriteFault,
+            RunFault::ScriptTooLong => SessionFault::ScriptTooLong,
+        }
+    }
 }

@@ -6,6 +6,10 @@ mod machine;
 mod open_line;
 mod saving;
 mod scripts;
+mod segments;
+#[cfg(test)]
+mod segments_tests;
+mod sessions;
 #[cfg(test)]
 mod tests;
 
@@ -13,3 +17,4 @@ pub use faults::{RunFault, SessionFault, Start};
 pub use machine::Machine;
 pub use saving::save;
 pub use scripts::run;
+pub use sessions::session;

@@ -6,13 +6,13 @@ use Rattle.seg_types.specs.declared.kinds.ScalarKind.TheVariants.{I64}
 use Rattle.seg_types.specs.declared.kinds.Kind.{Kind}
 use Rattle.seg_types.specs.declared.kinds.Kind.TheVariants.{Scalar}
 use Rattle.seg_types.specs.Names.{Key, NoKey}
-use Rattle.seg_types.specs.Commands.{Command, Construct, Show, Content, Numbers, UnknownCommand}
+use Rattle.seg_types.specs.Commands.{Command, Construct, DestroyPtr, Show, Content, Numbers, UnknownCommand}
 use Rattle.segment_lang.specs.Words as said
-use Rattle.segment_lang.specs.Words.{Word, Bare, words, is}
+use Rattle.segment_lang.specs.Words.{Word, Bare, number_of, words, is}
 use Rattle.segment_lang.specs.Language.{landed}
-use Rattle.segment_lang.specs.Reading.{Form, Reader, alone, as_reading, command_line, content, counted_kind, for_kind, form_of, key_of, making, name_key, new_key, value_for, with_key}
+use Rattle.segment_lang.specs.Reading.{Form, Reader, alone, as_reading, command_line, content, counted_kind, destroying_ptr, for_kind, form_of, key_of, making, name_key, new_key, value_for, with_key}
 use Rattle.segment_lang.specs.Tokens.{at_end, behind_word, next_word, only_word, up_to_blank}
-use Rattle.segment_lang.specs.Arguments.{construct_at, key_at, scalar_at}
+use Rattle.segment_lang.specs.Arguments.{construct_at, handle_at, handle_of, key_at, scalar_at}
 use Rattle.segment_lang.proofs.WordList.{take_word, take_end, take_only}
 
 -- ---- nothing
@@ -29,6 +29,30 @@ shown (Some w) = refl
 pub show_key : (bytes : List ℕ) → option_and_then (with_key Show key_of landed) (words bytes) ≡ option_map Show (key_at bytes)
 unfolding key_at
 show_key bytes = take_only (with_key Show key_of landed) refl (λ w v ws. refl) bytes ∙ shown (only_word bytes)
+
+-- ---- a handle
+
+no_ptr : (w v : Word) (ws : List Word) → destroying_ptr landed (w ∷ v ∷ ws) ≡ None
+no_ptr (said.Text bs) v ws = refl
+no_ptr (Bare []) v ws = refl
+no_ptr (Bare (c ∷ cs)) v ws = refl
+
+ptr_if : (b : Bool) (n : Option ℕ) → cond b (option_map DestroyPtr n) None ≡ option_map DestroyPtr (cond b n None)
+ptr_if true n = refl
+ptr_if false n = refl
+
+ptr_word : (w : Word) → destroying_ptr landed (w ∷ []) ≡ option_map DestroyPtr (handle_of w)
+ptr_word (said.Text bs) = refl
+ptr_word (Bare []) = refl
+ptr_word (Bare (c ∷ cs)) = ptr_if (c == 0x23) (number_of cs)
+
+ptr : (x : Option Word) → option_and_then (λ w. destroying_ptr landed (w ∷ [])) x ≡ option_map DestroyPtr (option_and_then handle_of x)
+ptr None = refl
+ptr (Some w) = ptr_word w
+
+pub destroy_handle : (bytes : List ℕ) → option_and_then (destroying_ptr landed) (words bytes) ≡ option_map DestroyPtr (handle_at bytes)
+unfolding handle_at
+destroy_handle bytes = take_only (destroying_ptr landed) refl no_ptr bytes ∙ ptr (only_word bytes)
 
 -- ---- a value
 

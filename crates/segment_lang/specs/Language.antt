@@ -37,11 +37,13 @@ whole format = record {
   has_counts = true;
 }
 
--- what has come so far: `construct i64 - V`, `show #n`, `size` and `free`
+-- what has come so far: one anonymous `i64` an object, made, printed and destroyed by its handle, and what concerns all blocks
 abbrev pub landed : Language
 landed = record {
   format = current;
-  commands = codes "construct" ∷ codes "show" ∷ codes "size" ∷ codes "free" ∷ [];
+  commands =
+      codes "construct" ∷ codes "destroy_ptr" ∷ codes "show" ∷ codes "blocks" ∷ codes "size" ∷ codes "free" ∷ codes "zero_free"
+      ∷ codes "sanity" ∷ codes "all_deallocated" ∷ [];
   kinds = Scalar I64 ∷ [];
   has_names = false;
   has_unique = false;

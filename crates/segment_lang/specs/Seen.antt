@@ -5,7 +5,7 @@ use Rattle.seg_types.specs.Commands as asked
 use Rattle.seg_types.specs.declared.kinds.ScalarKind.{ScalarKind}
 use Rattle.seg_types.specs.declared.kinds.ScalarKind.TheVariants as kind
 use Rattle.segment_lang.specs.Words as said
-use Rattle.segment_lang.specs.Reading.{Reader, making, with_key, alone, new_key, key_of}
+use Rattle.segment_lang.specs.Reading.{Reader, making, with_key, alone, destroying_ptr, new_key, key_of}
 use Rattle.segment_lang.specs.declared.words.Word.{Word}
 use Rattle.segment_lang.specs.declared.words.Word.TheVariants.{Bare, Text}
 use Rattle.segment_lang.specs.declared.literals.Literal.{Literal}
@@ -19,7 +19,7 @@ use Rattle.segment_lang.specs.declared.commands.NewKey.TheVariants.{Anonymous}
 use Rattle.segment_lang.specs.declared.commands.Key.{Key}
 use Rattle.segment_lang.specs.declared.commands.Key.TheVariants.{Handle}
 use Rattle.segment_lang.specs.declared.commands.Command.{Command}
-use Rattle.segment_lang.specs.declared.commands.Command.TheVariants.{Construct, Show, Size, Free}
+use Rattle.segment_lang.specs.declared.commands.Command.TheVariants.{Construct, DestroyPtr, Show, Blocks, Size, Free, ZeroFree, Sanity, AllDeallocated}
 use Rattle.segment_lang.specs.declared.commands.Reading.{Reading}
 use Rattle.segment_lang.specs.declared.commands.Reading.TheVariants.{Nothing, Asked, UnknownCommand, LineTooLong, BadSyntax}
 use Rattle.segment_lang.specs.declared.line.CommandWord.{CommandWord}
@@ -56,9 +56,14 @@ key_seen (Handle n) = name.ByHandle n
 
 abbrev pub command_of : Command → asked.Command
 command_of (Construct key content) = asked.Construct (new_key_seen key) (content_of content)
+command_of (DestroyPtr n) = asked.DestroyPtr n
 command_of (Show key) = asked.Show (key_seen key)
+command_of Blocks = asked.ListBlocks
 command_of Size = asked.Size
 command_of Free = asked.Free
+command_of ZeroFree = asked.ZeroFree
+command_of Sanity = asked.Sanity
+command_of AllDeallocated = asked.AllDeallocated
 
 abbrev pub reading_of : Reading → asked.Reading
 reading_of Nothing = asked.Nothing
@@ -70,6 +75,11 @@ reading_of BadSyntax = asked.BadSyntax
 -- the form of what stands behind a command word
 abbrev pub reader_of : CommandWord → Reader
 reader_of first.Construct = making asked.Construct new_key
+reader_of first.DestroyPtr = destroying_ptr
 reader_of first.Show = with_key asked.Show key_of
+reader_of first.Blocks = alone asked.ListBlocks
 reader_of first.Size = alone asked.Size
 reader_of first.Free = alone asked.Free
+reader_of first.ZeroFree = alone asked.ZeroFree
+reader_of first.Sanity = alone asked.Sanity
+reader_of first.AllDeallocated = alone asked.AllDeallocated

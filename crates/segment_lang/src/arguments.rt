@@ -7,7 +7,7 @@ ghost use Rattle.seg_types.specs.Kinds.{same_kind};
 ghost use Rattle.segment_lang.specs.Words.{words};
 ghost use Rattle.segment_lang.specs.Language.{landed};
 ghost use Rattle.segment_lang.specs.Reading.{content, counted_kind, key_of, kind_named, new_key};
-ghost use Rattle.segment_lang.specs.Arguments.{construct_at, has_kind, key_at, scalar_at};
+ghost use Rattle.segment_lang.specs.Arguments.{construct_at, handle_at, handle_of, has_kind, key_at, scalar_at};
 ghost use Rattle.segment_lang.specs.Seen.{command_of, content_of, key_seen, new_key_seen, word_of};
 
 use crate::commands::{Command, Content, Key, NewKey, Scalar};
@@ -42,6 +42,16 @@ fn new_key(word: Word<'_>) -> Option<NewKey>
 {
     match word {
         Word::Bare(word) if is(word, b"-") => Some(NewKey::Anonymous),
+        _ => None,
+    }
+}
+
+/// The handle behind `#`.
+fn handle_of(word: Word<'_>) -> Option<u64>
+    ensures { result ≡ handle_of (word_of word.entry) }
+{
+    match word {
+        Word::Bare([b'#', digits @ ..]) => number_of(digits),
         _ => None,
     }
 }
@@ -89,6 +99,15 @@ pub fn read_construct(bytes: &[u8]) -> Option<Command>
     let key = new_key(key)?;
     let content = read_content(kind, rest)?;
     Some(Command::Construct { key, content })
+}
+
+/// A handle, and nothing else.
+#[tactic(auto, unfolding(crate::specs::Arguments::handle_at))]
+pub fn read_handle(bytes: &[u8]) -> Option<u64>
+    ensures { result ≡ handle_at bytes.now }
+{
+    let word = only_word(bytes)?;
+    handle_of(word)
 }
 
 /// A key, and nothing else.

@@ -38,12 +38,22 @@ pub enum Command {
         /// What it is made with.
         content: Content,
     },
+    /// Destroy the object of a handle, in bytes from the front of the segment. It need not be a live object's.
+    DestroyPtr(u64),
     /// Print an object's kind and value.
     Show(Key),
+    /// Print the blocks and gaps by offset.
+    Blocks,
     /// Print the segment's size in bytes.
     Size,
     /// Print how many bytes are free.
     Free,
+    /// Make the free bytes zero.
+    ZeroFree,
+    /// Print whether the segment is whole.
+    Sanity,
+    /// Print whether no block is in use.
+    AllDeallocated,
 }
 
 /// What a line means.

@@ -1,15 +1,15 @@
 //! Lines.
 
 ghost use Rattle.std.specs.Prelude.{◌≡◌, ◌==◌, option_map, option_and_then, slice_index, Some, None, if◌then◌else◌};
-ghost use Rattle.seg_types.specs.Commands.{Show};
+ghost use Rattle.seg_types.specs.Commands.{DestroyPtr, Show};
 ghost use Rattle.segment_lang.specs.Words.{words};
 ghost use Rattle.segment_lang.specs.Language.{landed};
 ghost use Rattle.segment_lang.specs.Reading.{command_line, form_of, reading, without_return};
 ghost use Rattle.segment_lang.specs.Tokens.{at_end};
-ghost use Rattle.segment_lang.specs.Arguments.{key_at};
+ghost use Rattle.segment_lang.specs.Arguments.{handle_at, key_at};
 ghost use Rattle.segment_lang.specs.Seen.{command_of, reader_of, reading_of};
 
-use crate::arguments::{read_construct, read_key};
+use crate::arguments::{read_construct, read_handle, read_key};
 use crate::blanks::{at_end, skip_blanks, split_word};
 use crate::commands::{Command, Reading};
 use crate::literals::is;
@@ -21,9 +21,14 @@ pub const LONGEST_LINE: usize = 4096;
 #[derive(Clone, Copy, Debug, PartialEq, Eq)]
 enum CommandWord {
     Construct,
+    DestroyPtr,
     Show,
+    Blocks,
     Size,
     Free,
+    ZeroFree,
+    Sanity,
+    AllDeallocated,
 }
 
 /// The command word that a word is.
@@ -33,14 +38,29 @@ fn command_word(word: &[u8]) -> Option<CommandWord>
     if is(word, b"construct") {
         return Some(CommandWord::Construct);
     }
+    if is(word, b"destroy_ptr") {
+        return Some(CommandWord::DestroyPtr);
+    }
     if is(word, b"show") {
         return Some(CommandWord::Show);
+    }
+    if is(word, b"blocks") {
+        return Some(CommandWord::Blocks);
     }
     if is(word, b"size") {
         return Some(CommandWord::Size);
     }
     if is(word, b"free") {
         return Some(CommandWord::Free);
+    }
+    if is(word, b"zero_free") {
+        return Some(CommandWord::ZeroFree);
+    }
+    if is(word, b"sanity") {
+        return Some(CommandWord::Sanity);
+    }
+    if is(word, b"all_deallocated") {
+        return Some(CommandWord::AllDeallocated);
     }
     None
 }
@@ -51,6 +71,14 @@ fn read_show(bytes: &[u8]) -> Option<Command>
 {
     let key = read_key(bytes)?;
     Some(Command::Show(key))
+}
+
+/// The command of a handle, which stands alone.
+fn read_destroy_ptr(bytes: &[u8]) -> Option<Command>
+    ensures { option_map command_of result ≡ option_map DestroyPtr (handle_at bytes.now) }
+{
+    let handle = read_handle(bytes)?;
+    Some(Command::DestroyPtr(handle))
 }
 
 /// The command, where nothing stands behind its word.
@@ -69,9 +97,14 @@ fn read_command(word: CommandWord, bytes: &[u8]) -> Option<Command>
 {
     match word {
         CommandWord::Construct => read_construct(bytes),
+        CommandWord::DestroyPtr => read_destroy_ptr(bytes),
         CommandWord::Show => read_show(bytes),
+        CommandWord::Blocks => read_alone(Command::Blocks, bytes),
         CommandWord::Size => read_alone(Command::Size, bytes),
         CommandWord::Free => read_alone(Command::Free, bytes),
+        CommandWord::ZeroFree => read_alone(Command::ZeroFree, bytes),
+        CommandWord::Sanity => read_alone(Command::Sanity, bytes),
+        CommandWord::AllDeallocated => read_alone(Command::AllDeallocated, bytes),
     }
 }
 

@@ -43,6 +43,12 @@ fn commands_are_read(rt: HostRuntime) {
         ("\t size \t", Reading::Asked(Command::Size)),
         ("size\r", Reading::Asked(Command::Size)),
         ("free \r", Reading::Asked(Command::Free)),
+        ("destroy_ptr #144", Reading::Asked(Command::DestroyPtr(144))),
+        ("destroy_ptr  #0 ", Reading::Asked(Command::DestroyPtr(0))),
+        ("blocks", Reading::Asked(Command::Blocks)),
+        ("zero_free", Reading::Asked(Command::ZeroFree)),
+        ("sanity", Reading::Asked(Command::Sanity)),
+        ("all_deallocated", Reading::Asked(Command::AllDeallocated)),
     ];
     for (line, want) in rows {
         assert_eq!(rt; parse_line(line.as_bytes()), want, "at {line:?}");
@@ -75,7 +81,9 @@ fn other_words_are_no_commands(rt: HostRuntime) {
         "size\r\r",
         "size\x0b",
         "push v 1",
-        "destroy_ptr #144",
+        "destroy_ptr#144",
+        "destroy #144",
+        "zero_fre",
         "construct_it i64 - 1",
         "list",
         "constructi64 - 5",
@@ -94,6 +102,12 @@ fn what_does_not_fit_is_bad_syntax(rt: HostRuntime) {
     let lines = [
         "size x",
         "free #1",
+        "destroy_ptr",
+        "destroy_ptr 144",
+        "destroy_ptr \"#144\"",
+        "destroy_ptr #1 #2",
+        "blocks 1",
+        "sanity true",
         "size \"",
         "size \x7f",
         "size # x",

@@ -153,3 +153,7 @@ stands-written one old new d o o' from n k f like is_there landed c low high at 
     written-keeps old new (live (without_object d o)) o.extent from n (subst (λ l. IsTrue (is_proper l)) whole p) c.place c.rest low high in
     stands-changed old new d o o' k f like is_there landed (subst (LaysOut current new.bytes) same c.live)
     (subst (λ (l : LiveSet). Keeps old new l.extents) (live-released d o f' alone p) rest) at
+
+-- the bytes of a directory are a heap's
+pub stands-heap : LayOutOne → (b : List ℕ) (d : Directory) → StandsFor b d → LaysOut current b (live_of b)
+stands-heap one b d h = subst (LaysOut current b) (sym (stands-live one b d h)) h.denotes.heap

@@ -18,3 +18,7 @@ pub mod Handles
 pub mod Numbers
 pub mod Elements
 pub mod Access
+pub mod Kept
+pub mod Fresh
+pub mod NewBlocks
+pub mod NumberCalls

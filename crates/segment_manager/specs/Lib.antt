@@ -5,3 +5,4 @@ pub mod Step
 pub mod Denotes
 pub mod State
 pub mod Laws
+pub mod Calls

@@ -1,5 +1,5 @@
 -- What contracts see of a segment: its bytes, which denote one directory, how it is open, and where it lies.
-use Rattle.std.specs.Prelude.{◌≡◌, ℕ, ℤ, Bool, List, Result, Ok, Err}
+use Rattle.std.specs.Prelude.{◌≡◌, ℕ, ℤ, Bool, true, List, Result, Ok, Err}
 use Rattle.raw_region.specs.Memory.{Cut, SamePlace}
 use Rattle.block_tags.specs.Format.{current}
 use Rattle.seg_types.specs.declared.kinds.ScalarKind.{ScalarKind}
@@ -49,6 +49,10 @@ IsStepOfKind old new key kind c answer = Moves old new answer (λ d. step_of_kin
 pub record IsReply (s : State) (c : Command) (answer : Answer) : Type 0 where
   pub answers : (d : Directory) → StandsFor s.cut.bytes d → answer ≡ (step s.mode d c).0
 
+-- the same of a call that is for objects of one kind
+pub record IsReplyOfKind (s : State) (key : Key) (kind : Kind) (c : Command) (answer : Answer) : Type 0 where
+  pub answers : (d : Directory) → StandsFor s.cut.bytes d → answer ≡ (step_of_kind s.mode d key kind c).0
+
 -- ---- what a call's result is as an answer
 
 abbrev pub answer_of : {A : Type 0} → (A → Answer) → Result A Refusal → Answer
@@ -60,6 +64,10 @@ handle_answer = answer_of Made
 
 abbrev pub done_answer : Result (Unit {0}) Refusal → Answer
 done_answer = answer_of (λ u. Done)
+
+-- a command whose call answers nothing, and which prints `true`
+abbrev pub gone_answer : Result (Unit {0}) Refusal → Answer
+gone_answer = answer_of (λ u. Truth true)
 
 abbrev pub truth_answer : Result Bool Refusal → Answer
 truth_answer = answer_of Truth

@@ -4,7 +4,18 @@
 //! is one step of the directory machine: from the directory that the bytes denote to the one that they denote then.
 #![tactic(auto)]
 
+mod creating;
+mod errors;
 pub mod laws;
 mod modes;
+#[cfg(test)]
+mod scalar_tests;
+mod scalars;
+mod segment;
+#[cfg(test)]
+mod tests;
+mod tiles;
 
+pub use errors::{CreateError, CreateRefused};
 pub use modes::Mode;
+pub use segment::Segment;

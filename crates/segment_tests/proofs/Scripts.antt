@@ -201,7 +201,7 @@ landed_first_run = refl
 
 -- a word that has not come is unknown; a kind, key or count that has not come is bad syntax
 not_landed : (run landed Write (empty 1024) (codes "list\ndestroy_ptr #144\nconstruct i64 a 5\nconstruct i64 @i64 5\nconstruct u8 - 5\nconstruct i64[2] - 5\nshow a\n")).0
-    ≡ codes "error 1 unknown command\nerror 1 unknown command\nerror 3 bad syntax\nerror 3 bad syntax\nerror 3 bad syntax\nerror 3 bad syntax\nerror 3 bad syntax\n"
+    ≡ codes "error 1 unknown command\nerror 6 not found\nerror 3 bad syntax\nerror 3 bad syntax\nerror 3 bad syntax\nerror 3 bad syntax\nerror 3 bad syntax\n"
 unfolding run
 not_landed = refl
 

@@ -1,2 +1,11 @@
 //! Tests across the crates of the segment: worked rows as tables, and the checks of the definitions by computation.
 #![tactic(auto)]
+
+#[cfg(test)]
+mod desk;
+#[cfg(test)]
+mod fault_rows;
+#[cfg(test)]
+mod image_rows;
+#[cfg(test)]
+mod script_rows;

@@ -1,0 +1,76 @@
+-- What the check of a whole image finds: a right header and tags, and then an image of a landed directory or a class.
+use Rattle.std.proofs.Common.{◌≡◌, sym, ap, ◌∙◌, ℕ, Bool, true, false, ◌&&◌, List, length}
+use Rattle.std.specs.Prelude.{IsTrue}
+use Rattle.std.specs.List.{list_all}
+use Rattle.std.proofs.lemmas.Bool.{and_from, and_left, and_right, eq-eqb, ne_eqb}
+use Rattle.raw_region.specs.Memory.{Cut, bytes_of, word_at}
+use Rattle.block_tags.specs.Format.{current, is_legal_size}
+use Rattle.block_tags.specs.Tiles.{has_tags, tiles_of}
+use Rattle.segment_manager.specs.State.{IsSegment}
+use Rattle.image_check.specs.declared.classes.ImageClass.TheVariants.{BadFreeTree, OrphanBlock}
+use Rattle.image_check.specs.Classes.{are_bytes, has_reserved, is_tiled}
+use Rattle.image_check.specs.LandedImages.{has_frame, has_no_place, is_landed_tile, is_landed_image, landed_directory}
+use Rattle.image_check.specs.Opening.{IsClassFor, holding}
+use Rattle.image_check.specs.Reading.{HasFront}
+use Rattle.image_check.proofs.Early.{null_tree-BadFreeTree, frame-OrphanBlock}
+use Rattle.image_check.proofs.Filled.{HasFront-IsRight}
+use Rattle.image_check.proofs.Frame.{IsFrame-has_frame, HasWholeSize-has_whole_size}
+use Rattle.image_check.proofs.Accepted.{landed_images}
+
+-- what the check knows once the tags are right
+pub record IsChecked (w : Cut) : Type 0 where
+  pub front : HasFront w
+  pub reserved : has_reserved w.bytes ≡ true
+  pub tags : has_tags current (bytes_of w.bytes) (length w.bytes) ≡ true
+
+-- the tags are those of the size that the first words say
+checked-tiled : (w : Cut) → IsChecked w → is_tiled current w.bytes ≡ true
+checked-tiled w h = ap (has_tags current (bytes_of w.bytes)) h.front.says ∙ h.tags
+
+-- word 24 is no null link
+pub checked-tree : (w : Cut) (x : ℕ) → IsChecked w → x ≡ word_at (bytes_of w.bytes) 24 → (x ≡ 1 → ⊥) → IsClassFor w.bytes BadFreeTree
+checked-tree w x h e n = holding (null_tree-BadFreeTree w.bytes (checked-tiled w h) (ne_eqb (word_at (bytes_of w.bytes) 24) 1 (λ f. n (e ∙ f))))
+
+-- or it is
+pub checked-frame : (w : Cut) (x : ℕ) → IsChecked w → x ≡ word_at (bytes_of w.bytes) 24 → x ≡ 1 → IsTrue (has_frame w.bytes)
+checked-frame w x h e f =
+    let r = HasFront-IsRight w h.front in
+    IsFrame-has_frame w.bytes (record {
+      magic = r.magic;
+      version = r.version;
+      size = HasWholeSize-has_whole_size w.bytes (record { legal = ap is_legal_size r.says ∙ r.legal; same = r.says });
+      reserved = h.reserved;
+      tiled = checked-tiled w h;
+      null_tree = eq-eqb (word_at (bytes_of w.bytes) 24) 1 (sym e ∙ f);
+    })
+
+-- the test of all tiles
+abbrev are_landed : List ℕ → Bool
+are_landed b = list_all (is_landed_tile (bytes_of b)) (tiles_of (bytes_of b) (length b))
+
+-- behind a right frame, three tests more
+landed_image : (b : List ℕ) → IsTrue (has_frame b) → has_no_place (bytes_of b) 32 ≡ true → has_no_place (bytes_of b) 56 ≡ true → are_landed b ≡ true → IsTrue (is_landed_image b)
+unfolding is_landed_image
+landed_image b h p q r =
+    and_from (has_frame b && has_no_place (bytes_of b) 32 && has_no_place (bytes_of b) 56) (are_landed b)
+    (and_from (has_frame b && has_no_place (bytes_of b) 32) (has_no_place (bytes_of b) 56) (and_from (has_frame b) (has_no_place (bytes_of b) 32) h p) q) r
+
+pub checked-segment : (b : List ℕ) → IsTrue (are_bytes b) → IsTrue (has_frame b) → has_no_place (bytes_of b) 32 ≡ true → has_no_place (bytes_of b) 56 ≡ true → are_landed b ≡ true → IsSegment b
+checked-segment b small h p q r = (landed_directory b, (landed_images b small).sound (landed_image b h p q r))
+
+-- of which one fails
+pub named-class : (b : List ℕ) → IsTrue (has_frame b) → has_no_place (bytes_of b) 32 ≡ false → IsClassFor b OrphanBlock
+unfolding is_landed_image
+named-class b h e =
+    frame-OrphanBlock b h (and_left (has_frame b && has_no_place (bytes_of b) 32 && has_no_place (bytes_of b) 56) (are_landed b)
+    (and_left (has_frame b && has_no_place (bytes_of b) 32) (has_no_place (bytes_of b) 56) (and_right (has_frame b) (has_no_place (bytes_of b) 32) e)))
+
+pub unique-class : (b : List ℕ) → IsTrue (has_frame b) → has_no_place (bytes_of b) 56 ≡ false → IsClassFor b OrphanBlock
+unfolding is_landed_image
+unique-class b h e =
+    frame-OrphanBlock b h (and_left (has_frame b && has_no_place (bytes_of b) 32 && has_no_place (bytes_of b) 56) (are_landed b)
+    (and_right (has_frame b && has_no_place (bytes_of b) 32) (has_no_place (bytes_of b) 56) e))
+
+pub tiles-class : (b : List ℕ) → IsTrue (has_frame b) → are_landed b ≡ false → IsClassFor b OrphanBlock
+unfolding is_landed_image
+tiles-class b h e = frame-OrphanBlock b h (and_right (has_frame b && has_no_place (bytes_of b) 32 && has_no_place (bytes_of b) 56) (are_landed b) e)

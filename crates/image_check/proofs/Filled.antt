@@ -1,0 +1,75 @@
+-- A window whose first 24 bytes stand, and whose others are read behind them.
+use Rattle.std.proofs.Common.{◌≡◌, ap, ◌∙◌, ℕ, ◌+◌, ◌-◌, ◌≤◌, Bool, ◌&&◌, List, [], ◌++◌, length, take, drop, arith, Ok, Err}
+use Rattle.std.specs.Prelude.{Result, IfErr}
+use Rattle.std.specs.List.{refill}
+use Rattle.std.proofs.lemmas.Bool.{and_parts}
+use Rattle.std.proofs.lemmas.List.{drop_all, append-nil, length-append, length-take}
+use Rattle.raw_region.specs.Answers.{AddsFront}
+use Rattle.raw_region.specs.Device.{given_since}
+use Rattle.raw_region.specs.Memory.{Cut, part, patched, whole}
+use Rattle.raw_region.specs.Regions.{with_bytes}
+use Rattle.raw_region.proofs.Patches.{refill-all}
+use Rattle.block_tags.specs.Format.{current, is_legal_size}
+use Rattle.image_check.specs.declared.errors.OpenError.{OpenError}
+use Rattle.image_check.specs.Classes.{size_word, has_magic, has_version}
+use Rattle.image_check.specs.Reading.{faults_of, faults_in, IsShort, GoesOn, HasFront, Stops}
+use Rattle.image_check.proofs.Frame.{is_legal_size-least}
+use Rattle.image_check.proofs.Fronts.{IsRight, has_front-IsRight, IsRight-take, IsRight-append}
+use Rattle.image_check.proofs.Stopping.{rest_stops, whole_stops, both_added}
+
+-- the first words of a window, and how long it is
+pub HasFront-IsRight : (w : Cut) → HasFront w → IsRight w.bytes (length w.bytes)
+HasFront-IsRight w h =
+    let legal = (and_parts (has_magic w.bytes && has_version current w.bytes) (is_legal_size (size_word w.bytes)) h.right).1 in
+    let least = is_legal_size-least (size_word w.bytes) legal in
+    let says = h.says in
+    has_front-IsRight w.bytes (length w.bytes) (omega arith) h.right says
+
+pub HasFront-least : (w : Cut) → HasFront w → 144 ≤ length w.bytes
+HasFront-least w h = is_legal_size-least (length w.bytes) (HasFront-IsRight w h).legal
+
+-- as many bytes as were lent make up the rest
+pub rest-filled : (b ws : List ℕ) (n : ℕ) → 24 ≤ length b → n ≡ length b → length ws ≡ n - 24 → patched b 24 (refill (n - 24) (part b 24 (n - 24)) ws) ≡ take 24 b ++ ws
+rest-filled b ws n l e f =
+    let none : drop (24 + length ws) b ≡ [] = drop_all (24 + length ws) b (omega arith) in
+    ap (patched b 24) (refill-all (n - 24) (part b 24 (n - 24)) ws f) ∙ ap (λ x. take 24 b ++ ws ++ x) none ∙ append-nil (take 24 b ++ ws)
+
+-- they are as long as the window
+pub front-length : (b ws : List ℕ) (n : ℕ) → 24 ≤ length b → n ≡ length b → length ws ≡ n - 24 → length (take 24 b ++ ws) ≡ length b
+front-length b ws n l e f = let both = length-append (take 24 b) ws in let cut = length-take 24 b in omega arith
+
+-- a region is as long as before where its window is
+pub whole-length : (w : Cut) (xs : List ℕ) → length xs ≡ length w.bytes → length (whole (with_bytes w xs)) ≡ length (whole w)
+whole-length w xs e =
+    let a = length-append (w.before ++ xs) w.after in
+    let b = length-append w.before xs in
+    let c = length-append (w.before ++ w.bytes) w.after in
+    let d = length-append w.before w.bytes in
+    omega arith
+
+-- and there is room for its window
+pub whole-room : (w : Cut) → length w.before + length w.bytes ≤ length (whole w)
+whole-room w =
+    let c = length-append (w.before ++ w.bytes) w.after in
+    let d = length-append w.before w.bytes in
+    omega arith
+
+-- too few bytes came
+pub filled_short : (w : Cut) (start mid new ws : List ℕ) (n : ℕ) (ended : Bool) (f f' : ℕ) (cause : OpenError) → HasFront w → n ≡ length w.bytes → length ws ≡ n - 24 → mid ≡ start ++ take 24 w.bytes
+    → AddsFront mid new ws → IsShort ended cause → f' ≡ f + faults_of cause → Stops (given_since start new ended f f') (length w.before) (length (whole w)) cause
+filled_short w start mid new ws n ended f f' cause h e l s a i g =
+    let least = HasFront-least w h in
+    let cut = length-take 24 w.bytes in
+    rest_stops start mid new (take 24 w.bytes) ws (length w.bytes) ended f f' (length w.before) (length (whole w)) cause (IsRight-take w.bytes (length w.bytes) (HasFront-IsRight w h)) (omega arith)
+    (whole-room w) s a i g
+
+-- all came, and the reader does not end
+pub filled_whole : (w : Cut) (old mid new ws : List ℕ) (n : ℕ) (ended : Bool) (f g f' : ℕ) (r : Result (Unit {0}) OpenError) → HasFront w → n ≡ length w.bytes → length ws ≡ n - 24 → mid ≡ old ++ ws → g ≡ f + 0
+    → IfErr r (GoesOn mid new) → f' ≡ g + faults_in r
+    → IfErr r (λ cause. (start : List ℕ) → old ≡ start ++ take 24 w.bytes → Stops (given_since start new ended f f') (length w.before) (length (whole w)) cause)
+filled_whole w old mid new ws n ended f g f' (Ok u) h e l s k a c = tt
+filled_whole w old mid new ws n ended f g f' (Err cause) h e l s k a c = λ start t.
+    let least = HasFront-least w h in
+    whole_stops start mid new (take 24 w.bytes ++ ws) (length w.bytes) ended f f' (length w.before) (length (whole w)) cause
+    (IsRight-append (take 24 w.bytes) ws (length w.bytes) (IsRight-take w.bytes (length w.bytes) (HasFront-IsRight w h)))
+    (front-length w.bytes ws n (omega arith) e l) (whole-room w) (both_added start old mid (take 24 w.bytes) ws t s) a (omega arith)

@@ -1,0 +1,119 @@
+-- A whole image in its place in a region: its first 24 bytes are written, and the others are read behind them.
+use Rattle.std.proofs.Common.{◌≡◌, sym, ap, subst, ◌∙◌, ℕ, ◌+◌, ◌-◌, Bool, true, false, List, ◌++◌, length, take, drop, arith}
+use Rattle.std.specs.Prelude.{nat_lt}
+use Rattle.std.proofs.lemmas.Bool.{le-ltb}
+use Rattle.std.proofs.lemmas.List.{take_at, length-append, length-take, length-drop}
+use Rattle.raw_region.specs.Device.{Grows, given_since}
+use Rattle.raw_region.specs.Memory.{Cut, part, patched, whole, cut_at}
+use Rattle.raw_region.specs.Regions.{with_bytes}
+use Rattle.raw_region.proofs.Patches.{length-part}
+use Rattle.image_check.specs.declared.errors.OpenError.{OpenError}
+use Rattle.image_check.specs.Reading.{HasFront, IsFrontRead, IsImageRead, IsNotRead, Stops}
+use Rattle.image_check.proofs.Frame.{is_legal_size-least}
+use Rattle.image_check.proofs.Fronts.{IsRight, has_front-IsRight, IsRight-has_front, IsRight-append}
+use Rattle.image_check.proofs.Stopping.{added, both_added}
+
+-- the window of a region that the first 24 bytes say, with these in front
+pub record IsBegun (old mid front region : List ℕ) (base size : ℕ) (w : Cut) : Type 0 where
+  pub front_read : IsFrontRead old mid front base (length region) size
+  pub is : w ≡ with_bytes (cut_at region base size) (patched (part region base size) 0 front)
+
+module _ (old mid front region : List ℕ) (base size : ℕ) (w : Cut) (b : IsBegun old mid front region base size w) where
+  rest : List ℕ
+  rest = drop (0 + length front) (part region base size)
+
+  bytes_are : w.bytes ≡ front ++ rest
+  unfolding rest
+  bytes_are = ap (λ (c : Cut). c.bytes) b.is
+
+  pub begun-take : take 24 w.bytes ≡ front
+  begun-take = ap (take 24) bytes_are ∙ take_at front rest 24 b.front_read.long
+
+  front_right : IsRight front size
+  front_right = let long = b.front_read.long in has_front-IsRight front size (omega arith) b.front_read.right (sym b.front_read.says)
+
+  bytes_right : IsRight w.bytes size
+  bytes_right = subst (λ x. IsRight x size) (sym bytes_are) (IsRight-append front rest size front_right)
+
+  -- there are as many bytes as the first ones say
+  pub begun-length : length w.bytes ≡ size
+  unfolding rest
+  begun-length =
+      let room = b.front_read.room in
+      let long = b.front_read.long in
+      let least = is_legal_size-least size front_right.legal in
+      let all = length-part region base size room in
+      let both = length-append front (drop (0 + length front) (part region base size)) in
+      let cut = length-drop (0 + length front) (part region base size) in
+      ap length bytes_are ∙ (omega arith)
+
+  pub begun-HasFront : HasFront w
+  begun-HasFront = record { right = IsRight-has_front w.bytes size bytes_right; says = bytes_right.says ∙ sym begun-length }
+
+  pub begun-base : length w.before ≡ base
+  begun-base =
+      let room = b.front_read.room in
+      let cut = length-take base region in
+      ap (λ (c : Cut). length c.before) b.is ∙ (omega arith)
+
+  pub begun-whole : length (whole w) ≡ length region
+  begun-whole =
+      let room = b.front_read.room in
+      let front_len = begun-length in
+      let before_len = begun-base in
+      let after_len : length w.after ≡ length region - (base + size) = ap (λ (c : Cut). length c.after) b.is ∙ length-drop (base + size) region in
+      let c = length-append (w.before ++ w.bytes) w.after in
+      let d = length-append w.before w.bytes in
+      omega arith
+
+  -- no reading fails where no count rises
+  none_failed : (f g h : ℕ) → g ≡ f + 0 → h ≡ g + 0 → nat_lt f h ≡ false
+  none_failed f g h d e = le-ltb f h (omega arith)
+
+  -- the rest is read too
+  pub begun-read : (new : List ℕ) (ended : Bool) (f g h : ℕ) (v : Cut) → Grows mid new → g ≡ f + 0 → h ≡ g + 0 → ended ≡ true
+      → v ≡ with_bytes w (take 24 w.bytes ++ drop (length mid) new) → length (whole v) ≡ length (whole w)
+      → IsImageRead (given_since old new ended f h) region base v
+  begun-read new ended f g h v grows d e i s l =
+      let more : List ℕ = drop (length mid) new in
+      let said : drop (length old) new ≡ front ++ more = added old new (front ++ more) (both_added old mid new front more b.front_read.read grows) in
+      let bytes : v.bytes ≡ front ++ more = ap (λ (c : Cut). c.bytes) s ∙ ap (λ x. x ++ more) begun-take in
+      let before : v.before ≡ w.before = ap (λ (c : Cut). c.before) s in
+      let after : v.after ≡ w.after = ap (λ (c : Cut). c.after) s in
+      let was = length-append (w.before ++ w.bytes) w.after in
+      let was_front = length-append w.before w.bytes in
+      let now = length-append (v.before ++ v.bytes) v.after in
+      let now_front = length-append v.before v.bytes in
+      let same_before = ap length before in
+      let same_after = ap length after in
+      let size_is = begun-length in
+      let long : length v.bytes ≡ size = omega arith in
+      let all : length (drop (length old) new) ≡ size = ap length (said ∙ sym bytes) ∙ long in
+      let room = b.front_read.room in
+      let right : IsRight v.bytes size = subst (λ x. IsRight x size) (sym bytes) (IsRight-append front more size front_right) in
+      record {
+        ended = i;
+        read = none_failed f g h d e;
+        bytes = bytes ∙ sym said;
+        place = record {
+          before = before ∙ ap (λ (c : Cut). c.before) b.is;
+          after = after ∙ ap (λ (c : Cut). c.after) b.is ∙ ap (λ n. drop (base + n) region) (sym all);
+        };
+        room = omega arith;
+        capacity = l ∙ begun-whole;
+        front = record { right = IsRight-has_front v.bytes size right; says = right.says ∙ sym long };
+      }
+
+  -- or is not
+  pub begun-stops : (new : List ℕ) (ended : Bool) (f g h : ℕ) (v : Cut) (back : List ℕ) (cause : OpenError) → g ≡ f + 0 → back ≡ whole v → length (whole v) ≡ length (whole w)
+      → ((start : List ℕ) → mid ≡ start ++ take 24 w.bytes → Stops (given_since start new ended g h) (length w.before) (length (whole w)) cause)
+      → IsNotRead (given_since old new ended f h) region base (record { region = back; cause = cause })
+  begun-stops new ended f g h v back cause d e l s =
+      let same : g ≡ f = omega arith in
+      let stops = s old (b.front_read.read ∙ ap (λ x. old ++ x) (sym begun-take)) in
+      record {
+        stops = subst (λ k. Stops (given_since old new ended k h) base (length region) cause) same
+            (subst (λ k. Stops (given_since old new ended g h) base k cause) begun-whole
+            (subst (λ k. Stops (given_since old new ended g h) k (length (whole w)) cause) begun-base stops));
+        handed_back = ap length e ∙ l ∙ begun-whole;
+      }

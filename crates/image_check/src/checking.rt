@@ -1,0 +1,135 @@
+//! Whether a whole image is that of a directory.
+ghost use Rattle.std.specs.Prelude.{◌≡◌, ◌+◌, ◌^◌, ◌<◌, ◌≤◌, IsTrue, MatchResult, length};
+ghost use Rattle.std.specs.List.{list_all};
+ghost use Rattle.raw_region.specs.Memory.{bytes_of};
+ghost use Rattle.block_tags.specs.Format.{current, is_legal_size};
+ghost use Rattle.block_tags.specs.Tiles.{has_tags, tiles_of};
+ghost use Rattle.segment_manager.specs.State.{IsSegment};
+ghost use Rattle.image_check.specs.Classes.{are_bytes, has_reserved as is_reserved, is_zero as are_zeros};
+ghost use Rattle.image_check.specs.LandedImages.{has_no_place as is_without_place, is_landed_tile};
+ghost use Rattle.image_check.specs.Opening.{IsClassFor};
+ghost use Rattle.image_check.specs.Reading.{HasFront};
+
+use crate::classes::ImageClass;
+use block_tags::laws::{
+    good_tags_say_tiles, one_tile_at_an_offset, tiles_are_read_off, tiles_fill_the_window,
+};
+use block_tags::{Role, Tile, first, next};
+use raw_region::{Window, word_in};
+
+/// The word of a link that leads nowhere.
+const NULL: u64 = 1;
+
+/// How many bytes a tag takes in front of a payload.
+const TAG: u64 = 16;
+
+/// How many bytes an object takes that is one number and has no name.
+const OBJECT: u64 = 24;
+
+/// The first word of such an object: the kind `i64`, and the count 1 in the upper half.
+const KIND_AND_COUNT: u64 = 0x1_0000_0004;
+
+/// Its second word: a name of length 0, and the class of objects that are in no index.
+const NAME_AND_CLASS: u64 = 0;
+
+/// Whether a window whose first words are right is the image of a directory that a segment can keep: anonymous numbers of
+/// kind `i64`, and nothing in an index.
+///
+/// # Errors
+///
+/// The first of `BadReserved`, `BadTag` and `BadFreeTree` that holds, and `OrphanBlock` for each other image that is no such one.
+pub fn check(window: &Window) -> Result<(), ImageClass>
+    requires { HasFront window.now }
+    ensures { MatchResult result (λ done. IsSegment window.now.bytes) (IsClassFor window.now.bytes) }
+{
+    let bytes = all_bytes(window);
+    if !has_reserved(bytes) {
+        return Err(ImageClass::BadReserved);
+    }
+    if block_tags::check(window).is_err() {
+        return Err(ImageClass::BadTag);
+    }
+    if word_in(bytes, 24) != NULL {
+        return Err(ImageClass::BadFreeTree);
+    }
+    if has_no_place(bytes, 32) && has_no_place(bytes, 56) && has_numbers(window) {
+        Ok(())
+    } else {
+        Err(ImageClass::OrphanBlock)
+    }
+}
+
+/// All bytes of the window.
+fn all_bytes(window: &Window) -> &[u8]
+    ensures all { result.now ≡ window.now.bytes }
+    ensures bytes { IsTrue (are_bytes result.now) }
+{
+    let bytes = window.bytes(0, window.size());
+    hold_bytes(bytes);
+    bytes
+}
+
+/// Elements of type `u8` are below 256. Nothing is done.
+fn hold_bytes(bytes: &[u8])
+    ensures { IsTrue (are_bytes bytes.now) }
+{}
+
+/// Whether all bytes of the header that are kept for later are zero.
+fn has_reserved(bytes: &[u8]) -> bool
+    requires { 128 ≤ length bytes.now }
+    ensures { result ≡ is_reserved bytes.now }
+{
+    is_zero(&bytes[12..16]) && is_zero(&bytes[80..128])
+}
+
+fn is_zero(bytes: &[u8]) -> bool
+    ensures { result ≡ are_zeros bytes.now }
+{
+    bytes.iter().all(|byte| *byte == 0)
+}
+
+/// Whether the index whose link stands at `at` has neither a block nor an entry.
+fn has_no_place(bytes: &[u8], at: usize) -> bool
+    requires { at + 24 ≤ length bytes.now }
+    ensures { result ≡ is_without_place (bytes_of bytes.now) at }
+{
+    word_in(bytes, at) == NULL && word_in(bytes, at + 8) == 0 && word_in(bytes, at + 16) == 0
+}
+
+/// Whether each tile is free or holds an anonymous object that is one number of kind `i64`.
+fn has_numbers(window: &Window) -> bool
+    requires size { IsTrue (is_legal_size (length window.now.bytes)) }
+    requires tags { IsTrue (has_tags current (bytes_of window.now.bytes) (length window.now.bytes)) }
+    ensures { result ≡ list_all (is_landed_tile (bytes_of window.now.bytes)) (tiles_of (bytes_of window.now.bytes) (length window.now.bytes)) }
+{
+    good_tags_say_tiles();
+    tiles_are_read_off();
+    tiles_fill_the_window();
+    one_tile_at_an_offset();
+    let mut tile = first(window);
+    'tiles: while let Some(here) = tile {
+        if !is_number(window, here) {
+            return false;
+        }
+        tile = next(window, here.offset);
+    }
+    true
+}
+
+/// Whether the tile is free or holds such an object.
+fn is_number(window: &Window, tile: Tile) -> bool
+    requires within { tile.offset + tile.len ≤ length window.now.bytes }
+    requires small { length window.now.bytes < 2 ^ 63 }
+    ensures { result ≡ is_landed_tile (bytes_of window.now.bytes) tile }
+{
+    match tile.use_of {
+        None => true,
+        Some(Role::Object) => {
+            let payload = tile.offset + TAG;
+            tile.len >= TAG + OBJECT
+                && window.read_u64(payload) == KIND_AND_COUNT
+                && window.read_u64(payload + 8) == NAME_AND_CLASS
+        }
+        Some(_) => false,
+    }
+}

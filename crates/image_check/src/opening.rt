@@ -1,0 +1,43 @@
+//! The opening of an image.
+ghost use Rattle.std.specs.Prelude.{◌≡◌, ◌+◌, ◌-◌, ◌%◌, ◌^◌, ◌<◌, length};
+ghost use Rattle.raw_region.specs.Device.{Grows, given_since};
+ghost use Rattle.image_check.specs.Opening.{Opens, failed_reads};
+
+use crate::checking::check;
+use crate::errors::{OpenError, OpenRefused};
+use crate::reading::read_image;
+use raw_region::{RawRegion, Source, Steps};
+use segment_manager::{Mode, Segment};
+use std::alloc::Global;
+
+/// Reads an image into the region, from `base` on, which is a multiple of 16, and opens it.
+///
+/// # Errors
+///
+/// `RegionTooSmall` as soon as the magic, the version and a legal size are read and the region ends before base plus size. A
+/// class of the image where it denotes no directory. `ReadFault` where the reader failed before what it gave decided a class.
+/// The region comes back.
+pub fn open<S: Source>(
+    alloc: Global,
+    reader: &mut S,
+    region: RawRegion,
+    base: u64,
+    mode: Mode,
+    steps: &mut Steps,
+) -> Result<Segment, OpenRefused>
+    requires aligned { base % 16 ≡ 0 }
+    requires reader { S.failures reader.old < 2 ^ 64 - 1 }
+    ensures opens { Opens (given_since (S.given reader.old) (S.given reader.new) (S.ended reader.new) (S.failures reader.old) (S.failures reader.new)) region base mode result }
+    ensures grows { Grows (S.given reader.old) (S.given reader.new) }
+    ensures counted { S.failures reader.new ≡ S.failures reader.old + failed_reads result }
+    ensures steps { steps.new ≡ steps.old }
+{
+    let window = read_image(reader, region, base)?;
+    match check(&window) {
+        Ok(()) => Ok(Segment::adopt(window, mode)),
+        Err(class) => Err(OpenRefused {
+            region: window.into_region(),
+            cause: OpenError::Image(class),
+        }),
+    }
+}

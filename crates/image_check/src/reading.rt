@@ -1,0 +1,137 @@
+//! The reading of an image into its place in a region.
+ghost use Rattle.std.specs.Prelude.{◌≡◌, ◌+◌, ◌-◌, ◌%◌, ◌^◌, ◌<◌, ◌≤◌, List, ℕ, ◌++◌, true, length, take, drop, IfOk, OnOk, IfErr, MatchResult};
+ghost use Rattle.raw_region.specs.Answers.{AddsFront};
+ghost use Rattle.raw_region.specs.Device.{Grows, given_since};
+ghost use Rattle.raw_region.specs.Memory.{whole};
+ghost use Rattle.raw_region.specs.Regions.{with_bytes};
+ghost use Rattle.image_check.specs.Opening.{failed_reads};
+ghost use Rattle.image_check.specs.Reading.{faults_in, GoesOn, HasFront, IsFrontRead, IsImageRead, IsNotRead, IsShort, Stops};
+
+use crate::classes::ImageClass;
+use crate::errors::{OpenError, OpenRefused};
+use crate::header::{FRONT, LEAST, size_in};
+use raw_region::{RawRegion, Source, Window, fill};
+
+/// Reads a whole image, which fills the window of the region from `base` on that it says.
+///
+/// # Errors
+///
+/// `RegionTooSmall` as soon as the first words say a size for which there is no room. `Truncated`, or what is wrong with the
+/// first words, or `BadSize` where more bytes follow. `ReadFault` where the reader failed before that.
+pub fn read_image<S: Source>(
+    reader: &mut S,
+    region: RawRegion,
+    base: u64,
+) -> Result<Window, OpenRefused>
+    requires aligned { base % 16 ≡ 0 }
+    requires reader { S.failures reader.old < 2 ^ 64 - 1 }
+    ensures reads { MatchResult result
+        (IsImageRead (given_since (S.given reader.old) (S.given reader.new) (S.ended reader.new) (S.failures reader.old) (S.failures reader.new)) region base)
+        (IsNotRead (given_since (S.given reader.old) (S.given reader.new) (S.ended reader.new) (S.failures reader.old) (S.failures reader.new)) region base) }
+    ensures grows { Grows (S.given reader.old) (S.given reader.new) }
+    ensures counted { S.failures reader.new ≡ S.failures reader.old + failed_reads result }
+{
+    let mut front = [0; FRONT];
+    let size = match read_front(reader, &mut front, &region, base) {
+        Ok(size) => size,
+        Err(cause) => return Err(OpenRefused { region, cause }),
+    };
+    let mut window = Window::new(region, base, size);
+    window.write(0, &front);
+    match read_rest(reader, &mut window) {
+        Ok(()) => Ok(window),
+        Err(cause) => Err(OpenRefused {
+            region: window.into_region(),
+            cause,
+        }),
+    }
+}
+
+/// Reads the first 24 bytes of an image, and answers the size that they say.
+///
+/// # Errors
+///
+/// As `read_image`. Where the bytes begin no image, more are read, since fewer than 144 are too short whatever they are.
+fn read_front<S: Source>(
+    reader: &mut S,
+    front: &mut [u8; FRONT],
+    region: &RawRegion,
+    base: u64,
+) -> Result<u64, OpenError>
+    requires { S.failures reader.old < 2 ^ 64 - 1 }
+    ensures ok { IfOk result (IsFrontRead (S.given reader.old) (S.given reader.new) front.new base (length region.now)) }
+    ensures err { IfErr result (Stops (given_since (S.given reader.old) (S.given reader.new) (S.ended reader.new) (S.failures reader.old) (S.failures reader.new)) base (length region.now)) }
+    ensures grows { Grows (S.given reader.old) (S.given reader.new) }
+    ensures counted { S.failures reader.new ≡ S.failures reader.old + faults_in result }
+{
+    read_all(reader, front)?;
+    match size_in(front) {
+        Ok(size) if region.in_range(base, size) => Ok(size),
+        Ok(_) => Err(OpenError::RegionTooSmall),
+        Err(class) => {
+            read_all(reader, &mut [0; LEAST - FRONT])?;
+            Err(OpenError::Image(class))
+        }
+    }
+}
+
+/// Reads the bytes behind the first 24, which stand in the window and say its size, and finds that the image ends there.
+///
+/// # Errors
+///
+/// As `read_image`.
+fn read_rest<S: Source>(reader: &mut S, window: &mut Window) -> Result<(), OpenError>
+    requires reader { S.failures reader.old < 2 ^ 64 - 1 }
+    requires front { HasFront window.old }
+    ensures ok { OnOk result (window.new ≡ with_bytes window.old (take 24 window.old.bytes ++ drop (length (S.given reader.old)) (S.given reader.new))) }
+    ensures ended { OnOk result (S.ended reader.new ≡ true) }
+    ensures err { IfErr result (λ cause. (start : List ℕ) → S.given reader.old ≡ start ++ take 24 window.old.bytes
+        → Stops (given_since start (S.given reader.new) (S.ended reader.new) (S.failures reader.old) (S.failures reader.new)) (length window.old.before) (length (whole window.old)) cause) }
+    ensures len { length (whole window.new) ≡ length (whole window.old) }
+    ensures grows { Grows (S.given reader.old) (S.given reader.new) }
+    ensures counted { S.failures reader.new ≡ S.failures reader.old + faults_in result }
+{
+    let front = FRONT as u64;
+    let size = window.size();
+    read_all(reader, window.bytes_mut(front, size - front))?;
+    find_end(reader)
+}
+
+/// Fills the slice.
+///
+/// # Errors
+///
+/// `ReadFault` where the reader failed, and `Truncated` where it ended, before the slice was full.
+fn read_all<S: Source>(reader: &mut S, into: &mut [u8]) -> Result<(), OpenError>
+    requires { S.failures reader.old < 2 ^ 64 - 1 }
+    ensures ok { OnOk result (S.given reader.new ≡ S.given reader.old ++ into.new) }
+    ensures err { IfErr result (λ cause. AddsFront (S.given reader.old) (S.given reader.new) into.new × IsShort (S.ended reader.new) cause) }
+    ensures counted { S.failures reader.new ≡ S.failures reader.old + faults_in result }
+{
+    let Ok(count) = fill(reader, into) else {
+        return Err(OpenError::ReadFault);
+    };
+    if count < into.len() {
+        return Err(OpenError::Image(ImageClass::Truncated));
+    }
+    Ok(())
+}
+
+/// Asks for one byte more, of which there is none behind a whole image.
+///
+/// # Errors
+///
+/// `ReadFault` where the reader failed, and `BadSize` where it gave one.
+fn find_end<S: Source>(reader: &mut S) -> Result<(), OpenError>
+    requires { S.failures reader.old < 2 ^ 64 - 1 }
+    ensures same { OnOk result (S.given reader.new ≡ S.given reader.old) }
+    ensures ended { OnOk result (S.ended reader.new ≡ true) }
+    ensures err { IfErr result (GoesOn (S.given reader.old) (S.given reader.new)) }
+    ensures counted { S.failures reader.new ≡ S.failures reader.old + faults_in result }
+{
+    match reader.read(&mut [0]) {
+        Err(_) => Err(OpenError::ReadFault),
+        Ok(0) => Ok(()),
+        Ok(_) => Err(OpenError::Image(ImageClass::BadSize)),
+    }
+}

@@ -1,0 +1,81 @@
+//! Why a run fails, as the program says it.
+
+use image_check::ImageClass;
+use segment_cli::SessionFault;
+use thiserror::Error;
+
+/// Why a run fails.
+#[derive(Debug, Drop, Error)]
+pub enum Fault {
+    /// The file of the segment that is to be made is there already.
+    #[error("file exists")]
+    Exists,
+    /// The file holds no image of a directory.
+    #[error("image refused: {number} {class:?}")]
+    Image {
+        /// The place of the class among the twelve, from 1 on.
+        number: u8,
+        /// The class.
+        class: ImageClass,
+    },
+    /// A segment of this size is not made.
+    #[error("size refused")]
+    Size,
+    /// Memory was refused.
+    #[error("out of memory")]
+    OutOfMemory,
+    /// The script or the file could not be read.
+    #[error("read fault")]
+    Read,
+    /// The answers or the file could not be written.
+    #[error("write fault")]
+    Write,
+    /// The script has more than 16777216 bytes.
+    #[error("script too long")]
+    ScriptTooLong,
+}
+
+impl Fault {
+    /// The status that the program ends with.
+    pub fn status(&self) -> u8 {
+        match self {
+            Fault::Image { .. } | Fault::Size => 1,
+            Fault::Exists | Fault::Read | Fault::Write | Fault::ScriptTooLong => 3,
+            Fault::OutOfMemory => 4,
+        }
+    }
+}
+
+impl From<SessionFault> for Fault {
+    fn from(fault: SessionFault) -> Fault {
+        match fault {
+            SessionFault::Image(class) => Fault::Image {
+                number: number_of(class),
+                class,
+            },
+            SessionFault::BadSize | SessionFault::RegionTooSmall => Fault::Size,
+            SessionFault::OutOfMemory => Fault::OutOfMemory,
+            SessionFault::ReadFault => Fault::Read,
+            SessionFault::WriteFault => Fault::Write,
+            SessionFault::ScriptTooLong => Fault::ScriptTooLong,
+        }
+    }
+}
+
+/// The place of a class among the twelve, from 1 on.
+fn number_of(class: ImageClass) -> u8 {
+    match class {
+        ImageClass::Truncated => 1,
+        ImageClass::BadMagic => 2,
+        ImageClass::UnsupportedVersion => 3,
+        ImageClass::BadSize => 4,
+        ImageClass::BadReserved => 5,
+        ImageClass::BadTag => 6,
+        ImageClass::BadFreeTree => 7,
+        ImageClass::BadIndex => 8,
+        ImageClass::BadObject => 9,
+        ImageClass::SharedBlock => 10,
+        ImageClass::BadContainer => 11,
+        ImageClass::OrphanBlock => 12,
+    }
+}

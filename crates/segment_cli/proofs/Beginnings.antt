@@ -1,0 +1,54 @@
+-- Why a session has no segment, from what the call that was to make or open it answered.
+use Rattle.std.proofs.Common.{◌≡◌, ℕ, List, length, false, true, IsTrue, Result, Err, refl, sym, ap, ◌∙◌}
+use Rattle.raw_region.specs.Device.{Given}
+use Rattle.block_tags.specs.Format.{is_legal_size}
+use Rattle.segment_manager.specs.declared.modes.Mode.{Mode}
+use Rattle.segment_manager.specs.declared.errors.CreateError.{CreateError}
+use Rattle.segment_manager.specs.declared.errors.CreateError.TheVariants.{BadSize as NoSize, RegionTooSmall as NoRoom}
+use Rattle.segment_manager.specs.State.{State}
+use Rattle.segment_manager.specs.Calls.{IsWhy}
+use Rattle.image_check.specs.declared.errors.OpenError.{OpenError}
+use Rattle.image_check.specs.declared.errors.OpenError.TheVariants.{Image as NoImage, RegionTooSmall as NoRoomForImage, OutOfMemory as NoMemory, ReadFault as NotRead}
+use Rattle.image_check.specs.Opening.{IsWhyNot, IsTooSmallFor}
+use Rattle.segment_cli.specs.declared.faults.Start.TheVariants.{Fresh, Image}
+use Rattle.segment_cli.specs.declared.faults.SessionFault.{SessionFault}
+use Rattle.segment_cli.specs.Session.{IsUntouched}
+use Rattle.segment_cli.specs.Beginning.{Starts, IsWhyNotBegun, created_fault, opened_fault}
+
+illegal : (size : ℕ) → is_legal_size size ≡ false → IsTrue (is_legal_size size) → ⊥
+illegal size refused legal =
+    let same : false ≡ true = sym refused ∙ legal in
+    cc
+
+pub not_created : (region : List ℕ) (base size : ℕ) (mode : Mode) (image : Given) (cause : CreateError) → IsWhy region base size cause → IsUntouched image
+    → Starts (Fresh size) mode base (length region) image (Err (created_fault cause))
+not_created region base size mode image NoSize why untouched = record {
+  answers = why;
+  left = untouched;
+  bad_size = λ p. refl;
+  too_small = λ p. absurd (illegal size why p.0);
+}
+not_created region base size mode image NoRoom why untouched = record {
+  answers = why;
+  left = untouched;
+  bad_size = λ p. absurd (illegal size p why.0);
+  too_small = λ p. refl;
+}
+
+why_not_begun : (image : Given) (base capacity : ℕ) (cause : OpenError) → IsWhyNot image base capacity cause → IsWhyNotBegun Image image base capacity (opened_fault cause)
+why_not_begun image base capacity (NoImage c) why = (refl, why)
+why_not_begun image base capacity NoRoomForImage why = why
+why_not_begun image base capacity NoMemory why = (refl, why)
+why_not_begun image base capacity NotRead why = (refl, why)
+
+abbrev no_segment : OpenError → Result State SessionFault
+no_segment cause = Err (opened_fault cause)
+
+pub not_opened : (image : Given) (base capacity : ℕ) (mode : Mode) (cause : OpenError) → IsWhyNot image base capacity cause → (IsTooSmallFor image base capacity → cause ≡ NoRoomForImage)
+    → Starts Image mode base capacity image (Err (opened_fault cause))
+not_opened image base capacity mode cause why small = record {
+  answers = why_not_begun image base capacity cause why;
+  left = tt;
+  bad_size = λ p. absurd p;
+  too_small = λ p. ap no_segment (small p);
+}

@@ -1,0 +1,157 @@
+-- Each end of a session is one that it may have.
+use Rattle.std.proofs.Common.{◌≡◌, ℕ, Bool, false, true, inl, inr, List, [], ◌++◌, length, take, drop, Result, Ok, Err, MatchResult, refl, sym, ap, subst, ◌∙◌, arith}
+use Rattle.std.proofs.lemmas.List.{take-append-drop, length-drop}
+use Rattle.raw_region.specs.Answers.{AddsFront}
+use Rattle.raw_region.specs.Device.{Taken, IsProperPrefix, given_since, taken_since}
+use Rattle.segment_manager.specs.declared.modes.Mode.{Mode}
+use Rattle.segment_manager.specs.declared.modes.Mode.TheVariants.{Write}
+use Rattle.segment_manager.specs.Directory.{Directory}
+use Rattle.segment_manager.specs.State.{State, StandsFor}
+use Rattle.image_check.specs.Opening.{IsRefusedAs, NeedsMemory}
+use Rattle.segment_lang.specs.Language.{landed}
+use Rattle.segment_cli.specs.declared.faults.Start.{Start}
+use Rattle.segment_cli.specs.declared.faults.Start.TheVariants.{Image}
+use Rattle.segment_cli.specs.declared.faults.RunFault.{RunFault}
+use Rattle.segment_cli.specs.declared.faults.RunFault.TheVariants.{ReadFault as ScriptNotRead, WriteFault as AnswerNotWritten, ScriptTooLong as TooLong}
+use Rattle.segment_cli.specs.declared.faults.SessionFault.{SessionFault}
+use Rattle.segment_cli.specs.declared.faults.SessionFault.TheVariants.{Image as Refused, BadSize, RegionTooSmall, OutOfMemory, ReadFault, WriteFault, ScriptTooLong}
+use Rattle.segment_cli.specs.Run.{run}
+use Rattle.segment_cli.specs.Session.{Traffic, Saves, IsUntouched, IsSizeRefused, IsTooSmall, IsDone, IsImageUnwritten, IsRefusedBefore, AnswersFault, IsSession}
+use Rattle.segment_cli.specs.Beginning.{Starts, IsBegun, IsWhyNotBegun, run_fault}
+use Rattle.segment_cli.specs.Leaves.{LeavesFault, RunsWhole}
+use Rattle.segment_cli.specs.Segments.{answer_line}
+use Rattle.segment_cli.proofs.Cuts.{none_failed, nothing_yet, added}
+use Rattle.segment_cli.proofs.SessionLaws.{stands_done, prints_done, done, script_unread, answer_unwritten, script_too_long}
+
+-- a writer was not asked
+pub record IsUnwritten (t : Taken) : Type 0 where
+  pub bytes : t.bytes ≡ []
+  pub failed : t.failed ≡ false
+
+pub not_asked : (bytes : List ℕ) (ended : Bool) (n : ℕ) → IsUntouched (given_since bytes bytes ended n n)
+not_asked bytes ended n = record { bytes = (nothing_yet bytes).read; failed = none_failed n n refl }
+
+pub not_written : (bytes : List ℕ) (n : ℕ) → IsUnwritten (taken_since bytes bytes n n)
+not_written bytes n = record { bytes = (nothing_yet bytes).read; failed = none_failed n n refl }
+
+-- a front of the image was added
+pub front_added : (old new image : List ℕ) → AddsFront old new image → IsProperPrefix (drop (length old) new) image
+front_added old new image h =
+    let parts : image ≡ take h.count image ++ drop h.count image = sym (take-append-drop h.count image) in
+    (drop h.count image, rw (added old new (take h.count image) h.added) parts, let more = length-drop h.count image in omega (arith, h.fewer))
+
+-- the places of a segment
+abbrev pub Stands : State → Mode × Directory → Type 0
+Stands s at = (s.mode ≡ at.0) × StandsFor s.cut.bytes at.1
+
+-- ---- faults, as the call before answers them
+
+abbrev no_segment : SessionFault → Result State SessionFault
+no_segment f = Err f
+
+abbrev failed : SessionFault → Result (Unit {0}) SessionFault
+failed f = Err f
+
+same_fault : (a b : SessionFault) → no_segment a ≡ no_segment b → failed a ≡ failed b
+same_fault a b e =
+    let same : a ≡ b = cc in
+    ap failed same
+
+no_fault : (s : State) (b : SessionFault) → Ok s ≡ no_segment b → ⊥
+no_fault s b e = cc
+
+module _ (start : Start) (mode : Mode) (base capacity : ℕ) (t : Traffic) where
+  -- ---- no segment
+
+  refused_before : (cause : Type 0) → cause → IsUntouched t.script → IsUnwritten t.out → IsUnwritten t.saved → IsRefusedBefore t cause
+  refused_before cause why script out saved = record {
+    why = why;
+    silent = record { prints = out.bytes; saves = saved.bytes };
+    script = script.bytes;
+    failed = rw (script.failed, out.failed, saved.failed) refl;
+  }
+
+  not_begun : (fault : SessionFault) → IsWhyNotBegun start t.image base capacity fault → IsUntouched t.script → IsUnwritten t.out → IsUnwritten t.saved → AnswersFault start mode base capacity t fault
+  not_begun (Refused c) why script out saved = refused_before ((start ≡ Image) × IsRefusedAs t.image c) why script out saved
+  not_begun BadSize why script out saved = refused_before (IsSizeRefused start) why script out saved
+  not_begun RegionTooSmall why script out saved = refused_before (IsTooSmall start t.image base capacity) why script out saved
+  not_begun OutOfMemory why script out saved = refused_before ((start ≡ Image) × NeedsMemory t.image) why script out saved
+  not_begun ReadFault why script out saved = inl (record {
+    image = why.0;
+    undecided = why.1;
+    silent = record { prints = out.bytes; saves = saved.bytes };
+    script = script.bytes;
+    failed = rw (why.1.failed, script.failed, out.failed, saved.failed) refl;
+  })
+  not_begun WriteFault why script out saved = absurd why
+  not_begun ScriptTooLong why script out saved = absurd why
+
+  pub unbegun_session : (fault : SessionFault) → Starts start mode base capacity t.image (Err fault) → IsUntouched t.script → IsUnwritten t.out → IsUnwritten t.saved → IsSession start mode base capacity t (Err fault)
+  unbegun_session fault h script out saved = record {
+    answers = not_begun fault h.answers script out saved;
+    left = h.left;
+    bad_size = λ p. same_fault fault BadSize (h.bad_size p);
+    too_small = λ p. same_fault fault RegionTooSmall (h.too_small p);
+  }
+
+  -- ---- a segment was made or opened
+
+  begun_session : (s : State) (result : Result (Unit {0}) SessionFault) → Starts start mode base capacity t.image (Ok s) → MatchResult result (λ u. IsDone start mode t) (AnswersFault start mode base capacity t) → IsSession start mode base capacity t result
+  begun_session s result h answers = record {
+    answers = answers;
+    left = h.left;
+    bad_size = λ p. absurd (no_fault s BadSize (h.bad_size p));
+    too_small = λ p. absurd (no_fault s RegionTooSmall (h.too_small p));
+  }
+
+  stopped : (s s' : State) (fault : RunFault) → IsBegun start mode t.image s
+      → ((at : Mode × Directory) → Stands s at → LeavesFault answer_line at t.script t.out fault (Stands s'))
+      → IsUnwritten t.saved → AnswersFault start mode base capacity t (run_fault fault)
+  stopped s s' ScriptNotRead b leaves saved = inr (script_unread start mode t b.from b.begins (Stands s') b.read saved.failed (leaves (mode, b.from) (b.mode, b.stands)) saved.bytes)
+  stopped s s' AnswerNotWritten b leaves saved = inl (answer_unwritten start mode t b.from b.begins (Stands s') b.read saved.failed (leaves (mode, b.from) (b.mode, b.stands)) saved.bytes)
+  stopped s s' TooLong b leaves saved = script_too_long start mode t b.from b.begins (Stands s') b.read saved.failed (leaves (mode, b.from) (b.mode, b.stands)) saved.bytes
+
+  -- the script was not run to its end
+  pub stopped_session : (s s' : State) (fault : RunFault) → Starts start mode base capacity t.image (Ok s)
+      → ((at : Mode × Directory) → Stands s at → LeavesFault answer_line at t.script t.out fault (Stands s'))
+      → IsUnwritten t.saved → IsSession start mode base capacity t (Err (run_fault fault))
+  stopped_session s s' fault h leaves saved = begun_session s (Err (run_fault fault)) h (stopped s s' fault h.answers leaves saved)
+
+  -- the last directory was saved as the mode wants it
+  pub done_session : (s s' : State) (u : Unit {0}) → Starts start mode base capacity t.image (Ok s)
+      → ((at : Mode × Directory) → Stands s at → RunsWhole answer_line at t.script t.out (Stands s'))
+      → ((d : Directory) → StandsFor s'.cut.bytes d → Saves s'.mode t.saved.bytes d)
+      → t.saved.failed ≡ false → IsSession start mode base capacity t (Ok u)
+  done_session s s' u h leaves saves saved =
+      let b = h.answers in
+      let ran = leaves (mode, b.from) (b.mode, b.stands) in
+      let last = stands_done mode b.from t (Stands s') ran in
+      let d = (run landed mode b.from t.script.bytes).1 in
+      begun_session s (Ok u) h (done start mode t b.from b.begins (Stands s') b.read saved ran (subst (λ (m : Mode). Saves m t.saved.bytes d) last.0 (saves d last.1)))
+
+  -- all was answered, and of the image a proper prefix was written
+  unsaved : (s s' : State) → IsBegun start mode t.image s
+      → ((at : Mode × Directory) → Stands s at → RunsWhole answer_line at t.script t.out (Stands s'))
+      → s'.mode ≡ Write → IsProperPrefix t.saved.bytes s'.cut.bytes → t.saved.failed ≡ true → IsImageUnwritten start mode t
+  unsaved s s' b leaves how part saved =
+      let ran = leaves (mode, b.from) (b.mode, b.stands) in
+      let last = stands_done mode b.from t (Stands s') ran in
+      record {
+        cut = record {
+          writes = sym last.0 ∙ how;
+          from = b.from;
+          begins = b.begins;
+          whole = ran.whole;
+          within = ran.within;
+          prints = prints_done mode b.from t (Stands s') ran;
+          image = s'.cut.bytes;
+          denotes = last.1;
+          part = part;
+        };
+        failed = rw (b.read, ran.read, ran.written, saved) refl;
+      }
+
+  pub unsaved_session : (s s' : State) → Starts start mode base capacity t.image (Ok s)
+      → ((at : Mode × Directory) → Stands s at → RunsWhole answer_line at t.script t.out (Stands s'))
+      → s'.mode ≡ Write → IsProperPrefix t.saved.bytes s'.cut.bytes → t.saved.failed ≡ true → IsSession start mode base capacity t (Err WriteFault)
+  unsaved_session s s' h leaves how part saved = begun_session s (Err WriteFault) h (inr (unsaved s s' h.answers leaves how part saved))

@@ -1,0 +1,19 @@
+-- What is saved of a segment in mode Write is accepted again.
+use Rattle.std.proofs.Common.{◌≡◌, ℕ, ◌<◌, List, ◌++◌, length, drop, slice_index, sym, subst}
+use Rattle.segment_manager.specs.declared.modes.Mode.{Mode}
+use Rattle.segment_manager.specs.declared.modes.Mode.TheVariants.{Write}
+use Rattle.segment_manager.specs.Directory.{Directory}
+use Rattle.segment_manager.specs.State.{StandsFor}
+use Rattle.image_check.specs.LandedImages.{LandedImages}
+use Rattle.image_check.proofs.Bytes.{fits-are_bytes}
+use Rattle.segment_cli.specs.Session.{IsSaved, Saves}
+use Rattle.segment_cli.proofs.Cuts.{added}
+
+-- bytes that denote a directory are an image that is accepted
+pub accepted_image : LandedImages → (b : List ℕ) → ((k : ℕ) → slice_index b k < 256) → (d : Directory) → StandsFor b d → IsSaved b d
+accepted_image images b fits d s = record { denotes = s; accepted = (images b (fits-are_bytes b fits)).accepted d s }
+
+-- such an image, written in mode Write behind the bytes that a writer took before
+pub image_saved : (mode : Mode) (old new image : List ℕ) (d : Directory) → mode ≡ Write → new ≡ old ++ image → IsSaved image d → Saves mode (drop (length old) new) d
+image_saved mode old new image d writes e s =
+    subst (λ (m : Mode). Saves m (drop (length old) new) d) (sym writes) (subst (λ (b : List ℕ). IsSaved b d) (sym (added old new image e)) s)

@@ -1,0 +1,124 @@
+//! A session: a segment is made or opened, a script is run on it, and its image is saved.
+ghost use Rattle.std.specs.Prelude.{◌≡◌, ◌+◌, ◌-◌, ◌%◌, ◌^◌, ◌<◌, length, drop, OnOk, OnErr};
+ghost use Rattle.raw_region.specs.Answers.{failures_in};
+ghost use Rattle.raw_region.specs.Device.{given_since, taken_since, Grows, IsProperPrefix};
+ghost use Rattle.segment_manager.specs.declared.modes.Mode.TheVariants.{Write};
+ghost use Rattle.segment_manager.specs.Directory.{Directory};
+ghost use Rattle.segment_manager.specs.State.{StandsFor};
+ghost use Rattle.segment_cli.specs.Beginning.{Starts};
+ghost use Rattle.segment_cli.specs.Session.{IsSaved, IsSession, Saves};
+
+use crate::faults::{SessionFault, Start};
+use crate::saving::save;
+use crate::scripts::run;
+use image_check::laws::landed_images_have_one_directory;
+use image_check::open;
+use raw_region::{DeviceFault, RawRegion, Sink, Source, Steps};
+use segment_manager::{Mode, Segment};
+use std::alloc::Global;
+
+/// The segment that the session runs its script on: an empty one of the fresh size, or the one of
+/// the image, whose reader is asked only then.
+fn begin<I: Source>(
+    alloc: Global,
+    start: Start,
+    mode: Mode,
+    image: &mut I,
+    region: RawRegion,
+    base: u64,
+) -> Result<Segment, SessionFault>
+    requires aligned { base % 16 ≡ 0 }
+    requires image_reader { I.failures image.old < 2 ^ 64 - 1 }
+    ensures starts { Starts start mode base (length region)
+        (given_since (I.given image.old) (I.given image.new) (I.ended image.new)
+        (I.failures image.old) (I.failures image.new))
+        result }
+    ensures image_grows { Grows (I.given image.old) (I.given image.new) }
+{
+    match start {
+        Start::Fresh(size) => Ok(Segment::create(region, base, size, mode)?),
+        Start::Image => Ok(open(alloc, image, region, base, mode, &mut Steps::new())?),
+    }
+}
+
+/// Writes the image of a segment that is open in mode `Write`, and else nothing. The image is one
+/// that a check accepts. A fault leaves a proper prefix of it written.
+fn save_segment<W: Sink>(segment: &Segment, image_out: &mut W) -> Result<(), DeviceFault>
+    requires { W.failures image_out.old < 2 ^ 64 - 1 }
+    ensures ok { OnOk result ((d : Directory) → StandsFor segment.now.cut.bytes d
+        → Saves segment.now.mode
+        (drop (length (W.taken image_out.old)) (W.taken image_out.new)) d) }
+    ensures err { OnErr result ((segment.now.mode ≡ Write) × IsProperPrefix
+        (drop (length (W.taken image_out.old)) (W.taken image_out.new))
+        segment.now.cut.bytes) }
+    ensures grows { Grows (W.taken image_out.old) (W.taken image_out.new) }
+    ensures counted { W.failures image_out.new
+        ≡ W.failures image_out.old + failures_in result }
+{
+    if segment.mode() == Mode::Write {
+        let image = segment.as_bytes();
+        hold_accepted(image);
+        save(image, image_out)?;
+    }
+    Ok(())
+}
+
+/// An image that denotes a directory is accepted. Nothing is done.
+fn hold_accepted(image: &[u8])
+    ensures { (d : Directory) → StandsFor image.now d → IsSaved image.now d }
+{
+    landed_images_have_one_directory();
+}
+
+/// Makes an empty segment in the region, from `base` on, which is a multiple of 16 bytes, or opens
+/// the one of the image there; executes the script, and writes the answers to `out`; and then, if
+/// the mode is `Write`, writes the segment's image to `image_out`. Only the check of an image takes
+/// memory.
+///
+/// # Errors
+///
+/// `BadSize` and `RegionTooSmall` wherever they apply. A class of the image where it denotes no
+/// directory, and `OutOfMemory` where memory for its check was refused. `ReadFault` and
+/// `WriteFault` where a reader or a writer failed, and `ScriptTooLong` where the script has more
+/// than 16777216 bytes. Nothing is saved then, but for a proper prefix of the image where writing
+/// it failed.
+pub fn session<I: Source, S: Source, O: Sink, W: Sink>(
+    alloc: Global,
+    start: Start,
+    mode: Mode,
+    image: &mut I,
+    script: &mut S,
+    out: &mut O,
+    image_out: &mut W,
+    region: RawRegion,
+    base: u64,
+) -> Result<(), SessionFault>
+    requires aligned { base % 16 ≡ 0 }
+    requires image_reader { I.failures image.old < 2 ^ 64 - 1 }
+    requires script_reader { S.failures script.old < 2 ^ 64 - 1 }
+    requires answer_writer { O.failures out.old < 2 ^ 64 - 1 }
+    requires image_writer { W.failures image_out.old < 2 ^ 64 - 1 }
+    ensures session { IsSession start mode base (length region)
+        (record {
+          image = given_since (I.given image.old) (I.given image.new) (I.ended image.new)
+              (I.failures image.old) (I.failures image.new);
+          script = given_since (S.given script.old) (S.given script.new) (S.ended script.new)
+              (S.failures script.old) (S.failures script.new);
+          out = taken_since (O.taken out.old) (O.taken out.new) (O.failures out.old)
+              (O.failures out.new);
+          saved = taken_since (W.taken image_out.old) (W.taken image_out.new)
+              (W.failures image_out.old) (W.failures image_out.new);
+        })
+        result }
+    ensures image_grows { Grows (I.given image.old) (I.given image.new) }
+    ensures script_grows { Grows (S.given script.old) (S.given script.new) }
+    ensures out_grows { Grows (O.taken out.old) (O.taken out.new) }
+    ensures saved_grows { Grows (W.taken image_out.old) (W.taken image_out.new) }
+{
+    let mut segment = begin(alloc, start, mode, image, region, base)?;
+    run(&mut segment, script, out)?;
+    match save_segment(&segment, image_out) {
+        Ok(()) => Ok(()),
+        Err(_) => Err(SessionFault::WriteFault),
+    }
+}

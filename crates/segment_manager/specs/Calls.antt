@@ -1,0 +1,57 @@
+-- What the calls of a segment owe that are no steps of the directory machine.
+use Rattle.std.specs.Prelude.{◌≡◌, ◌<◌, ◌≤◌, ℕ, ◌+◌, ◌-◌, false, Option, Some, None, Result, Ok, Err, MatchResult, List, length, option_map, slice_get, IsTrue}
+use Rattle.std.specs.List.{AllByRecursion}
+use Rattle.raw_region.specs.Memory.{Cut, AreZero, SamePlace, bytes_of, cut_at}
+use Rattle.block_tags.specs.declared.tile.Tile.{Tile}
+use Rattle.block_tags.specs.Format.{is_legal_size}
+use Rattle.block_tags.specs.Lists.{laid, IsBesideTags}
+use Rattle.best_fit.specs.Extents.{Gap, gaps, spans}
+use Rattle.best_fit.specs.FreeTree.{span}
+use Rattle.seg_types.specs.declared.kinds.Kind.{Kind}
+use Rattle.seg_types.specs.declared.refusals.Refusal.{Refusal}
+use Rattle.seg_types.specs.declared.refusals.Refusal.TheVariants.{NotFound}
+use Rattle.seg_types.specs.Names.{Key}
+use Rattle.segment_manager.specs.declared.modes.Mode.{Mode}
+use Rattle.segment_manager.specs.declared.errors.CreateError.{CreateError}
+use Rattle.segment_manager.specs.declared.errors.CreateError.TheVariants.{BadSize, RegionTooSmall}
+use Rattle.segment_manager.specs.declared.errors.CreateRefused.{CreateRefused}
+use Rattle.segment_manager.specs.Directory.{Directory, empty, kind_of, live, object_at}
+use Rattle.segment_manager.specs.State.{State, StandsFor}
+
+-- a segment with nothing in it, in the window of the size at the base; its bytes are 0 but for the header's front, which
+-- says the size and two indexes without a place, and the tags
+pub record IsCreated (region : List ℕ) (base size : ℕ) (how : Mode) (s : State) : Type 0 where
+  pub legal : IsTrue (is_legal_size size)
+  pub fits : base + size ≤ length region
+  pub mode : s.mode ≡ how
+  pub place : SamePlace (cut_at region base size) s.cut
+  pub stands : StandsFor s.cut.bytes (empty size)
+  pub zeros : (k : ℕ) → 80 ≤ k → IsBesideTags (laid size) k → k < size - 16 → bytes_of s.cut.bytes k ≡ 0
+
+-- why no segment of the size is created
+abbrev pub IsWhy : List ℕ → ℕ → ℕ → CreateError → Type 0
+IsWhy region base size BadSize = is_legal_size size ≡ false
+IsWhy region base size RegionTooSmall = IsTrue (is_legal_size size) × (length region < base + size)
+
+-- no segment is created, and the region comes back as it was
+pub record IsNotCreated (region : List ℕ) (base size : ℕ) (refused : CreateRefused) : Type 0 where
+  pub why : IsWhy region base size refused.cause
+  pub region_same : refused.region ≡ region
+
+abbrev pub Creates : List ℕ → ℕ → ℕ → Mode → Result State CreateRefused → Type 0
+Creates region base size mode result = MatchResult result (IsCreated region base size mode) (IsNotCreated region base size)
+
+-- the kind of an object
+abbrev pub kind_at : Directory → Key → Result Kind Refusal
+kind_at d key = elim (object_at d key) [ None ↦ Err NotFound | Some o ↦ Ok (kind_of o.value) ]
+
+pub record IsKind (s : State) (key : Key) (result : Result Kind Refusal) : Type 0 where
+  pub answers : (d : Directory) → StandsFor s.cut.bytes d → result ≡ kind_at d key
+
+-- the block or gap with so many others before it
+pub record IsTile (s : State) (index : ℕ) (result : Option Tile) : Type 0 where
+  pub answers : (d : Directory) → StandsFor s.cut.bytes d → option_map span result ≡ slice_get (spans (live d)) index
+
+-- the bytes of all gaps behind their tags are 0
+pub record HasZeroGaps (s : State) : Type 0 where
+  pub zeros : (d : Directory) → StandsFor s.cut.bytes d → AllByRecursion (λ (g : Gap). AreZero (bytes_of s.cut.bytes) (g.offset + 16) (g.offset + g.len)) (gaps (live d))

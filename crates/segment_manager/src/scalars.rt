@@ -1,0 +1,133 @@
+//! Objects made, read and destroyed.
+ghost use Rattle.std.specs.Prelude.{◌≡◌, ◌+◌, IsTrue, [], ◌∷◌};
+ghost use Rattle.raw_region.specs.Memory.{bytes_of, word_at};
+ghost use Rattle.block_tags.specs.Format.{current};
+ghost use Rattle.best_fit.specs.Heap.{IsChanged, has_room, live_of};
+ghost use Rattle.seg_types.specs.declared.kinds.Class.TheVariants.{Anonymous};
+ghost use Rattle.seg_types.specs.declared.kinds.Kind.TheVariants.{Scalar};
+ghost use Rattle.seg_types.specs.declared.kinds.ScalarKind.TheVariants.{I64};
+ghost use Rattle.seg_types.specs.Kinds.{class_code, code_of};
+ghost use Rattle.seg_types.specs.Names.{ByHandle, NoKey};
+ghost use Rattle.seg_types.specs.Commands.{Construct, DestroyPtr, Get, Numbers};
+ghost use Rattle.segment_manager.specs.Calls.{IsKind};
+ghost use Rattle.segment_manager.specs.Denotes.{IsValueAt, two_halves};
+ghost use Rattle.segment_manager.specs.Directory.{Numbers as NumbersValue};
+ghost use Rattle.segment_manager.specs.State.{IsReplyOfKind, IsStep, element_answer, gone_answer, handle_answer};
+
+use crate::segment::Segment;
+use best_fit::laws::bytes_lay_out_one;
+use best_fit::{Heap, NoSpace};
+use block_tags::Role;
+use seg_types::laws::values_spell_one;
+use seg_types::{Kind, Refusal, ScalarKind};
+
+/// The bytes of an anonymous number's payload: the two words of its head, and its value.
+const NUMBER_LEN: u64 = 24;
+
+/// The first word of its head: the code of `i64`, and the count 1 in the upper half.
+const ONE_I64: u64 = 0x1_0000_0004;
+
+/// Where the second word of a head stands.
+const NAME: u64 = 8;
+
+/// The second word of an anonymous object's head: no name, and its class in the upper half.
+const ANONYMOUS: u64 = 0;
+
+/// Where the value of an anonymous object stands.
+const VALUE: u64 = 16;
+
+/// How many numbers an object has, as all that have come.
+const COUNT: u64 = 1;
+
+impl Segment {
+    /// Makes an anonymous number, and answers its handle.
+    ///
+    /// # Errors
+    ///
+    /// `ReadOnly` where the segment is open for reading, and else `NoSpace` where no gap is long enough. Nothing changes.
+    pub fn construct(&mut self, value: i64) -> Result<u64, Refusal>
+        ensures { IsStep self.old self.new (Construct NoKey (Numbers I64 (value ∷ []))) (handle_answer result) }
+    {
+        bytes_lay_out_one();
+        if self.is_read_only() {
+            return Err(Refusal::ReadOnly);
+        }
+        match self.heap.allocate(NUMBER_LEN, Role::Object) {
+            Err(NoSpace) => Err(Refusal::NoSpace),
+            Ok(handle) => {
+                write_number(&mut self.heap, handle, value);
+                Ok(handle)
+            }
+        }
+    }
+
+    /// Destroys the object of a handle, and gives back its block.
+    ///
+    /// # Errors
+    ///
+    /// `ReadOnly` where the segment is open for reading, and else `NotFound` where no object has the handle. Nothing changes.
+    pub fn destroy_ptr(&mut self, handle: u64) -> Result<(), Refusal>
+        ensures { IsStep self.old self.new (DestroyPtr handle) (gone_answer result) }
+    {
+        bytes_lay_out_one();
+        if self.is_read_only() {
+            Err(Refusal::ReadOnly)
+        } else if self.heap.is_live(handle) {
+            self.heap.deallocate(handle);
+            Ok(())
+        } else {
+            Err(Refusal::NotFound)
+        }
+    }
+
+    /// The kind of the object of a handle.
+    ///
+    /// # Errors
+    ///
+    /// `NotFound` where no object has the handle.
+    pub fn kind_of(&self, handle: u64) -> Result<Kind, Refusal>
+        ensures { IsKind self.now (ByHandle handle) result }
+    {
+        bytes_lay_out_one();
+        if self.heap.is_live(handle) {
+            // all objects that have come are `i64` numbers
+            Ok(Kind::Scalar(ScalarKind::I64))
+        } else {
+            Err(Refusal::NotFound)
+        }
+    }
+
+    /// The number at `index` in the object of a handle.
+    ///
+    /// # Errors
+    ///
+    /// `NotFound` where no object has the handle, `WrongKind` where it is of another kind, `OutOfRange` where it has no number
+    /// there.
+    pub fn get(&self, handle: u64, index: u64) -> Result<i64, Refusal>
+        ensures { IsReplyOfKind self.now (ByHandle handle) (Scalar I64) (Get (ByHandle handle) index) (element_answer I64 result) }
+    {
+        bytes_lay_out_one();
+        values_spell_one();
+        if !self.heap.is_live(handle) {
+            return Err(Refusal::NotFound);
+        }
+        if index >= COUNT {
+            return Err(Refusal::OutOfRange);
+        }
+        Ok(self.heap.word(handle, VALUE).cast_signed())
+    }
+}
+
+/// Writes an anonymous number at the front of the block of a handle.
+fn write_number(heap: &mut Heap, handle: u64, value: i64)
+    requires { IsTrue (has_room (live_of heap.old.bytes) handle 24) }
+    ensures change { IsChanged current heap.old heap.new handle 24 }
+    ensures kind_count { word_at (bytes_of heap.new.bytes) handle ≡ two_halves (code_of (Scalar I64)) 1 }
+    ensures name_class { word_at (bytes_of heap.new.bytes) (handle + 8) ≡ two_halves 0 (class_code Anonymous) }
+    ensures value { IsValueAt (bytes_of heap.new.bytes) (handle + 16) (NumbersValue I64 (value ∷ [])) }
+{
+    bytes_lay_out_one();
+    heap.set_word(handle, 0, ONE_I64);
+    heap.set_word(handle, NAME, ANONYMOUS);
+    heap.write(handle, VALUE, &value.to_le_bytes());
+}

@@ -1,0 +1,95 @@
+//! A segment: a heap whose bytes denote a directory.
+ghost use Rattle.std.specs.Prelude.{◌≡◌, ◌+◌, ◌-◌, ◌%◌, IsTrue, length};
+ghost use Rattle.raw_region.specs.Memory.{whole};
+ghost use Rattle.seg_types.specs.Commands.{Free, Size};
+ghost use Rattle.segment_manager.specs.Answers.{Number};
+ghost use Rattle.segment_manager.specs.State.{IsReply, IsSegment};
+ghost use Rattle.segment_manager.specs.Step.{is_read_only};
+
+use crate::modes::Mode;
+use best_fit::Heap;
+use best_fit::laws::bytes_lay_out_one;
+use raw_region::Window;
+use std::marker::Model;
+
+/// Where the header says the size.
+const SIZE_WORD: u64 = 16;
+
+/// Typed objects under names in one run of bytes, with how it is open.
+///
+/// Contracts speak of its bytes, which denote one directory, and each call is a step of that directory. An object goes by its
+/// handle: the offset in bytes of its payload from the front of the segment.
+#[derive(Drop)]
+pub struct Segment {
+    pub(crate) heap: Heap,
+    pub(crate) mode: Mode,
+}
+
+impl Model for Segment {
+    ghost use Rattle.segment_manager.specs.State.{State, IsSegment};
+
+    ghost Value = { State };
+
+    ghost view = { λ s. record { cut = s.heap; mode = s.mode } };
+
+    ghost invariant = { λ s. IsSegment s.heap.bytes };
+}
+
+impl Segment {
+    /// The segment that the bytes of a window already are. No byte changes.
+    pub fn adopt(window: Window, mode: Mode) -> Segment
+        requires { IsSegment window.bytes }
+        ensures cut { result.cut ≡ window }
+        ensures mode { result.mode ≡ mode }
+    {
+        bytes_lay_out_one();
+        Segment {
+            heap: Heap::adopt(window),
+            mode,
+        }
+    }
+
+    /// How the segment is open.
+    pub fn mode(&self) -> Mode
+        ensures { result ≡ self.now.mode }
+    {
+        self.mode
+    }
+
+    /// All bytes of the segment, which are its image.
+    pub fn as_bytes(&self) -> &[u8]
+        ensures bytes { result.now ≡ self.now.cut.bytes }
+        ensures denotes { IsSegment result.now }
+    {
+        self.heap.as_bytes()
+    }
+
+    /// The number of bytes in the segment.
+    pub fn size(&self) -> u64
+        ensures { IsReply self.now Size (Number result) }
+    {
+        self.heap.header_word(SIZE_WORD)
+    }
+
+    /// The bytes of all gaps, their tags included.
+    pub fn free(&self) -> u64
+        ensures { IsReply self.now Free (Number result) }
+    {
+        bytes_lay_out_one();
+        self.heap.free_bytes()
+    }
+
+    /// The number of bytes of the region behind the segment.
+    pub fn region_left(&self) -> u64
+        ensures { result ≡ length (whole self.now.cut) - (length self.now.cut.before + length self.now.cut.bytes) }
+    {
+        self.heap.region_left()
+    }
+
+    /// Whether the segment is open for reading.
+    pub(crate) fn is_read_only(&self) -> bool
+        ensures { result ≡ is_read_only self.now.mode }
+    {
+        self.mode == Mode::ReadOnly
+    }
+}

@@ -10,6 +10,7 @@ mod checking;
 mod ends;
 pub mod laws;
 mod reading;
+mod sizes;
 #[cfg(test)]
 mod tests;
 mod tile;
@@ -19,4 +20,5 @@ pub use changing::{merge_next, set_red, set_use, split};
 pub use checking::check;
 pub use ends::{append_free, drop_last, lay};
 pub use reading::{first, next, previous, red, tile_at};
+pub use sizes::is_legal_size;
 pub use tile::{BadTag, Role, Tile};

@@ -18,7 +18,4 @@ pub mod Examples
 pub mod Words
 pub mod NumberTiles
 pub mod Accepted
-pub mod TagWalk
-pub mod TileWalk
-pub mod TagWords
 pub mod Deciding

@@ -1,15 +1,15 @@
 -- A walk over the tiles of a window that tests each, from the first by `next`.
-use Rattle.std.proofs.Common.{◌≡◌, refl, sym, ap, subst, ◌∙◌, ℕ, ◌+◌, ◌-◌, ◌%◌, ◌<◌, ◌≤◌, Bool, true, false, ◌&&◌, not, ◌||◌, ◌==◌, List, [], ◌∷◌, ◌++◌, length, arith, append_assoc}
+use Rattle.std.proofs.Common.{◌≡◌, refl, sym, ap, subst, ◌∙◌, ℕ, ◌+◌, ◌-◌, ◌%◌, ◌<◌, ◌≤◌, Bool, true, ◌&&◌, not, ◌||◌, ◌==◌, List, [], ◌∷◌, ◌++◌, length, arith, append_assoc}
 use Rattle.std.specs.Prelude.{IsTrue, Option, Some, None, nat_le}
 use Rattle.std.specs.List.{list_all}
-use Rattle.std.proofs.lemmas.Bool.{and_parts, and_left, eq-eqb, ne_eqb, leb-true, cond-true, cond-false}
+use Rattle.std.proofs.lemmas.Bool.{and_parts, eq-eqb, ne_eqb, leb-true, cond-true, cond-false}
 use Rattle.raw_region.specs.Memory.{Cut, bytes_of}
 use Rattle.block_tags.specs.declared.tile.Tile.{Tile}
 use Rattle.block_tags.specs.Format.{current, is_legal_size}
-use Rattle.block_tags.specs.Laws.{GoodTagsSayTiles, OneTileAtAnOffset, TilesAreReadOff, TilesFillTheWindow}
+use Rattle.block_tags.specs.Laws.{GoodTagsSayTiles, TilesAreReadOff, TilesFillTheWindow}
 use Rattle.block_tags.specs.Lists.{Fill, first_in, next_in}
 use Rattle.block_tags.specs.Tiles.{has_tags, is_tile, may_be_red, tiles_of}
-use Rattle.block_tags.specs.Windows.{SaysTiles, IsTiled, HasTileAt}
+use Rattle.block_tags.specs.Windows.{SaysTiles, IsTiled}
 
 -- ---- tiles that fill a range
 
@@ -116,14 +116,6 @@ at-lies test c here fill a = fill-lies current 128 a.front here a.back (length c
 pub at-within : (test : Tile → Bool) (c : Cut) (here : Tile) → TilesFillTheWindow → IsAt test c here → here.offset + here.len ≤ length c.bytes
 at-within test c here fill a = let high = (at-lies test c here fill a).high in omega arith
 
--- and begins there
-pub at-HasTileAt : (test : Tile → Bool) (c : Cut) (here : Tile) → OneTileAtAnOffset → IsAt test c here → HasTileAt c here.offset
-at-HasTileAt test c here one a = record { tiles = a.front ++ here ∷ a.back; said = a.said; tile = here; stands = one c a.front here a.back a.said }
-
--- a tile that does not pass settles the answer
-pub at-fails : (test : Tile → Bool) (c : Cut) (here : Tile) → IsAt test c here → test here ≡ false → false ≡ list_all test (tiles_of (bytes_of c.bytes) (length c.bytes))
-at-fails test c here a e = sym (a.same ∙ and_left (test here) (list_all test a.back) e)
-
 -- one that passes leaves it to the next
 pub at-next : (test : Tile → Bool) (c : Cut) (here : Tile) (next : Option Tile) → TilesFillTheWindow → IsAt test c here → test here ≡ true
     → ((ts : List Tile) → SaysTiles c ts → next ≡ next_in ts here.offset) → IsWalking test c next
@@ -151,11 +143,3 @@ at-nearer test c tile here next fill a e n =
     let long = lies.long in
     subst (λ t. left_from c next < left_from c t) (sym e)
     (nearer c here (first_in a.back) next (omega arith) (λ u f. let there = lies.back_offset u f in omega arith) (n (a.front ++ here ∷ a.back) a.said ∙ lies.next))
-
--- where no tile is left, all have passed
-none_left : (test : Tile → Bool) (rest : List Tile) → None ≡ first_in rest → true ≡ list_all test rest
-none_left test [] e = refl
-none_left test (t ∷ rest) e = absurd (cc)
-
-pub walking-end : (test : Tile → Bool) (c : Cut) (tile : Option Tile) → IsWalking test c tile → tile ≡ None → true ≡ list_all test (tiles_of (bytes_of c.bytes) (length c.bytes))
-walking-end test c tile w e = none_left test w.rest (sym e ∙ w.is) ∙ sym w.same

@@ -37,7 +37,8 @@ const NAME_AND_CLASS: u64 = 0;
 ///
 /// # Errors
 ///
-/// The first of `BadReserved`, `BadTag` and `BadFreeTree` that holds, and `OrphanBlock` for each other image that is no such one.
+/// The first of `BadReserved`, `BadTag` and `BadFreeTree` that holds, and `OrphanBlock` for each other image that is not
+/// such a one.
 pub fn check(window: &Window) -> Result<(), ImageClass>
     requires { HasFront window.now }
     ensures { MatchResult result (λ done. IsSegment window.now.bytes) (IsClassFor window.now.bytes) }

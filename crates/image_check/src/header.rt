@@ -1,9 +1,9 @@
 //! The first words of an image: magic, version and size.
 ghost use Rattle.std.specs.Prelude.{◌≡◌, ◌≤◌, length};
-ghost use Rattle.block_tags.specs.Format.{is_legal_size as is_legal};
 ghost use Rattle.image_check.specs.Reading.{front_of};
 
 use crate::classes::ImageClass;
+use block_tags::is_legal_size;
 use byteorder::{ByteOrder, LittleEndian};
 use raw_region::word_in;
 
@@ -38,11 +38,4 @@ pub fn size_in(front: &[u8]) -> Result<u64, ImageClass>
         return Err(ImageClass::BadSize);
     }
     Ok(size)
-}
-
-/// Whether a segment may have so many bytes: 144, or a multiple of 16 from 176 to 2 to the 30th.
-fn is_legal_size(size: u64) -> bool
-    ensures { result ≡ is_legal size }
-{
-    size == 144 || (size % 16 == 0 && (176..=1_073_741_824).contains(&size))
 }

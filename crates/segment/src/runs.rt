@@ -5,6 +5,7 @@ ghost use Rattle.raw_region.specs.Regions.{IsCapacity};
 use crate::command_line::{Origin, Run};
 use crate::fault::Fault;
 use crate::files::{Answers, ImageFile, Shared};
+use block_tags::is_legal_size;
 use raw_region::stream::{Reading, Writing};
 use raw_region::{RawRegion, Source, fill, word_in};
 use segment_cli::{Start, session};
@@ -49,7 +50,7 @@ fn size_said<S: Source>(image: &mut S) -> u64
     let mut front = [0u8; FRONT];
     match fill(image, &mut front) {
         Ok(FRONT) => match word_in(&front, 16) {
-            size @ SMALLEST..=LARGEST => size,
+            size if is_legal_size(size) => size,
             _ => 0,
         },
         _ => 0,

@@ -1,16 +1,18 @@
 //! A segment as a machine that answers lines: each line is read, executed by a call of the segment, and answered.
 
-ghost use Rattle.std.specs.Prelude.{◌≡◌, ◌+◌, ◌-◌, ◌^◌, ◌<◌, ◌++◌, ◌∷◌, [], OnOk, OnErr};
+ghost use Rattle.std.specs.Prelude.{◌≡◌, ◌+◌, ◌-◌, ◌^◌, ◌<◌, ◌++◌, ◌∷◌, [], false, OnOk, OnErr};
 ghost use Rattle.raw_region.specs.Answers.{failures_in, AddsFront};
 ghost use Rattle.best_fit.specs.Extents.{spans};
 ghost use Rattle.best_fit.specs.FreeTree.{span};
-ghost use Rattle.seg_types.specs.Commands.{Construct, Show};
+ghost use Rattle.seg_types.specs.Commands.{Construct, Show, is_changing};
 ghost use Rattle.seg_types.specs.Names.{ByHandle};
+ghost use Rattle.segment_lang.specs.declared.commands.Command.TheVariants.{ZeroFree};
 ghost use Rattle.segment_lang.specs.Pieces.{piece_text};
 ghost use Rattle.segment_lang.specs.Seen.{command_of, content_of, new_key_seen};
 ghost use Rattle.segment_manager.specs.declared.modes.Mode.{Mode};
 ghost use Rattle.segment_manager.specs.Directory.{Directory, live};
-ghost use Rattle.segment_manager.specs.Answers.{Blocks, Number, Refused, Truth};
+ghost use Rattle.segment_manager.specs.Answers.{Blocks, Done, Number, Refused, Truth};
+ghost use Rattle.segment_manager.specs.Calls.{HasZeroGaps};
 ghost use Rattle.segment_manager.specs.State.{IsStep, StandsFor, done_answer, gone_answer, handle_answer};
 ghost use Rattle.segment_manager.specs.Step.{step};
 ghost use Rattle.segment_cli.specs.Answer.{answer_text, block_words, line, role_word, truth_word};
@@ -253,6 +255,9 @@ fn execute<W: Sink>(segment: &mut Segment, command: Command, out: &mut W) -> Res
         → W.taken out.new ≡ W.taken out.old ++ answer_text (step segment.old.mode d (command_of command)).0) }
     ensures err { OnErr result ((d : Directory) → StandsFor segment.old.cut.bytes d
         → AddsFront (W.taken out.old) (W.taken out.new) (answer_text (step segment.old.mode d (command_of command)).0)) }
+    ensures stays { is_changing (command_of command) ≡ false → segment.new ≡ segment.old }
+    ensures zeros { (d : Directory) → StandsFor segment.old.cut.bytes d → command ≡ ZeroFree
+        → (step segment.old.mode d (command_of command)).0 ≡ Done → HasZeroGaps segment.new }
     ensures counted { W.failures out.new ≡ W.failures out.old + failures_in result }
 {
     match command {

@@ -1,12 +1,12 @@
 //! A session: a segment is made or opened, a script is run on it, and its image is saved.
-ghost use Rattle.std.specs.Prelude.{◌≡◌, ◌+◌, ◌-◌, ◌%◌, ◌^◌, ◌<◌, length, drop, OnOk, OnErr};
+ghost use Rattle.std.specs.Prelude.{◌≡◌, ◌+◌, ◌-◌, ◌%◌, ◌^◌, ◌<◌, ◌≤◌, ◌++◌, length, drop, OnOk, OnErr};
 ghost use Rattle.raw_region.specs.Answers.{failures_in};
 ghost use Rattle.raw_region.specs.Device.{given_since, taken_since, Grows, IsProperPrefix};
 ghost use Rattle.segment_manager.specs.declared.modes.Mode.TheVariants.{Write};
 ghost use Rattle.segment_manager.specs.Directory.{Directory};
 ghost use Rattle.segment_manager.specs.State.{StandsFor};
 ghost use Rattle.segment_cli.specs.Beginning.{Starts};
-ghost use Rattle.segment_cli.specs.Session.{IsSaved, IsSession, Saves};
+ghost use Rattle.segment_cli.specs.Session.{IsSaved, IsSession, Saves, script_limit};
 
 use crate::faults::{SessionFault, Start};
 use crate::saving::save;
@@ -48,6 +48,8 @@ fn save_segment<W: Sink>(segment: &Segment, image_out: &mut W) -> Result<(), Dev
     ensures ok { OnOk result ((d : Directory) → StandsFor segment.now.cut.bytes d
         → Saves segment.now.mode
         (drop (length (W.taken image_out.old)) (W.taken image_out.new)) d) }
+    ensures bytes { OnOk result (segment.now.mode ≡ Write
+        → W.taken image_out.new ≡ W.taken image_out.old ++ segment.now.cut.bytes) }
     ensures err { OnErr result ((segment.now.mode ≡ Write) × IsProperPrefix
         (drop (length (W.taken image_out.old)) (W.taken image_out.new))
         segment.now.cut.bytes) }
@@ -112,6 +114,8 @@ pub fn session<I: Source, S: Source, O: Sink, W: Sink>(
         result }
     ensures image_grows { Grows (I.given image.old) (I.given image.new) }
     ensures script_grows { Grows (S.given script.old) (S.given script.new) }
+    ensures reads_no_further { length (S.given script.new)
+        ≤ length (S.given script.old) + script_limit + 4096 }
     ensures out_grows { Grows (O.taken out.old) (O.taken out.new) }
     ensures saved_grows { Grows (W.taken image_out.old) (W.taken image_out.new) }
 {

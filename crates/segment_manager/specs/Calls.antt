@@ -1,7 +1,7 @@
 -- What the calls of a segment owe that are no steps of the directory machine.
 use Rattle.std.specs.Prelude.{◌≡◌, ◌<◌, ◌≤◌, ℕ, ◌+◌, ◌-◌, false, Option, Some, None, Result, Ok, Err, MatchResult, List, length, option_map, slice_get, IsTrue}
 use Rattle.std.specs.List.{AllByRecursion}
-use Rattle.raw_region.specs.Memory.{Cut, AreZero, SamePlace, bytes_of, cut_at}
+use Rattle.raw_region.specs.Memory.{AreZero, SamePlace, bytes_of, cut_at}
 use Rattle.block_tags.specs.declared.tile.Tile.{Tile}
 use Rattle.block_tags.specs.Format.{is_legal_size}
 use Rattle.block_tags.specs.Lists.{laid, IsBesideTags}

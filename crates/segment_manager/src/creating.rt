@@ -1,7 +1,7 @@
 //! The making of an empty segment.
 ghost use Rattle.std.specs.Prelude.{◌≡◌, ◌%◌, []};
 ghost use Rattle.raw_region.specs.Memory.{AreZero, SameBut, SamePlace, bytes_of};
-ghost use Rattle.block_tags.specs.Format.{current, is_legal_size as is_legal};
+ghost use Rattle.block_tags.specs.Format.{current};
 ghost use Rattle.best_fit.specs.Heap.{LaysOut, live_of};
 ghost use Rattle.best_fit.specs.Table.{no_table};
 ghost use Rattle.seg_index.specs.Index.{IsIndexAt};
@@ -13,6 +13,7 @@ use crate::modes::Mode;
 use crate::segment::Segment;
 use best_fit::Heap;
 use best_fit::laws::bytes_lay_out_one;
+use block_tags::is_legal_size;
 use raw_region::{RawRegion, Window};
 
 /// `MSEGFILE`, the lowest byte first.
@@ -75,13 +76,6 @@ impl Segment {
         write_header(&mut heap, size);
         Ok(Segment { heap, mode })
     }
-}
-
-/// Whether a segment may have this size in bytes: 144, or a multiple of 16 from 176 to 1073741824.
-fn is_legal_size(size: u64) -> bool
-    ensures { result ≡ is_legal size }
-{
-    size == 144 || (size % 16 == 0 && size >= 176 && size <= 1073741824)
 }
 
 /// Writes the header of a segment with nothing in it, whose bytes from 32 up to 128 are 0. The word at 24 is the heap's.

@@ -1,5 +1,5 @@
 //! Objects made, read and destroyed.
-ghost use Rattle.std.specs.Prelude.{◌≡◌, ◌+◌, IsTrue, [], ◌∷◌};
+ghost use Rattle.std.specs.Prelude.{◌≡◌, ◌+◌, IsTrue, OnErr, [], ◌∷◌};
 ghost use Rattle.raw_region.specs.Memory.{bytes_of, word_at};
 ghost use Rattle.block_tags.specs.Format.{current};
 ghost use Rattle.best_fit.specs.Heap.{IsChanged, has_room, live_of};
@@ -46,7 +46,8 @@ impl Segment {
     ///
     /// `ReadOnly` where the segment is open for reading, and else `NoSpace` where no gap is long enough. Nothing changes.
     pub fn construct(&mut self, value: i64) -> Result<u64, Refusal>
-        ensures { IsStep self.old self.new (Construct NoKey (Numbers I64 (value ∷ []))) (handle_answer result) }
+        ensures step { IsStep self.old self.new (Construct NoKey (Numbers I64 (value ∷ []))) (handle_answer result) }
+        ensures refused { OnErr result (self.new ≡ self.old) }
     {
         bytes_lay_out_one();
         if self.is_read_only() {
@@ -67,7 +68,8 @@ impl Segment {
     ///
     /// `ReadOnly` where the segment is open for reading, and else `NotFound` where no object has the handle. Nothing changes.
     pub fn destroy_ptr(&mut self, handle: u64) -> Result<(), Refusal>
-        ensures { IsStep self.old self.new (DestroyPtr handle) (gone_answer result) }
+        ensures step { IsStep self.old self.new (DestroyPtr handle) (gone_answer result) }
+        ensures refused { OnErr result (self.new ≡ self.old) }
     {
         bytes_lay_out_one();
         if self.is_read_only() {

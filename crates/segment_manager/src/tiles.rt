@@ -1,5 +1,5 @@
 //! The blocks and gaps of a segment.
-ghost use Rattle.std.specs.Prelude.{◌≡◌, OnOk};
+ghost use Rattle.std.specs.Prelude.{◌≡◌, OnErr, OnOk};
 ghost use Rattle.seg_types.specs.Commands.{AllDeallocated, Sanity, ZeroFree};
 ghost use Rattle.segment_manager.specs.Answers.{Truth};
 ghost use Rattle.segment_manager.specs.Calls.{HasZeroGaps, IsTile};
@@ -42,6 +42,7 @@ impl Segment {
     pub fn zero_free(&mut self) -> Result<(), Refusal>
         ensures step { IsStep self.old self.new ZeroFree (done_answer result) }
         ensures zeros { OnOk result (HasZeroGaps self.new) }
+        ensures refused { OnErr result (self.new ≡ self.old) }
     {
         bytes_lay_out_one();
         if self.is_read_only() {

@@ -5,7 +5,7 @@ use segment_cli::SessionFault;
 use thiserror::Error;
 
 /// Why a run fails.
-#[derive(Debug, Drop, Error)]
+#[derive(Clone, Copy, Debug, PartialEq, Eq, Error)]
 pub enum Fault {
     /// The file of the segment that is to be made is there already.
     #[error("file exists")]

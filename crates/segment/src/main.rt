@@ -5,6 +5,8 @@ mod command_line;
 mod fault;
 mod files;
 mod runs;
+#[cfg(test)]
+mod tests;
 
 use command_line::read_words;
 use runs::run;

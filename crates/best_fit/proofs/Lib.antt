@@ -16,6 +16,7 @@ pub mod Placing
 pub mod Proper
 pub mod Releases
 pub mod Resizes
+pub mod Restores
 pub mod Rows
 pub mod Steps
 pub mod Takes

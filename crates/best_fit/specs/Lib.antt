@@ -5,3 +5,4 @@ pub mod Heap
 pub mod Resizes
 pub mod Table
 pub mod Tiling
+pub mod Requests

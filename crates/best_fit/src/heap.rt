@@ -1,7 +1,8 @@
 //! A heap: a window that blocks and gaps fill.
 ghost use Rattle.std.specs.Prelude.{◌≡◌, ◌≢◌, ◌+◌, ◌-◌, ◌%◌, ◌<◌, ◌≤◌, IsTrue, Option, Some, length, option_map, slice_get};
 ghost use Rattle.raw_region.specs.Memory.{Has, bytes_of, whole, word_at};
-ghost use Rattle.block_tags.specs.Format.{current, is_legal_size};
+ghost use Rattle.raw_region.specs.Format.{current};
+ghost use Rattle.block_tags.specs.Format.{is_legal_size};
 ghost use Rattle.block_tags.specs.Tiles.{tiles_of};
 ghost use Rattle.best_fit.specs.Extents.{Extent, free_bytes as free_bytes_of, spans};
 ghost use Rattle.best_fit.specs.FreeTree.{span};
@@ -32,7 +33,7 @@ pub struct Heap {
 
 impl Model for Heap {
     ghost use Rattle.raw_region.specs.Memory.{Cut};
-    ghost use Rattle.block_tags.specs.Format.{current};
+    ghost use Rattle.raw_region.specs.Format.{current};
     ghost use Rattle.best_fit.specs.Heap.{IsHeap};
 
     ghost Value = { Cut };

@@ -2,9 +2,10 @@
 use Rattle.std.proofs.Common.{◌≡◌, refl, sym, subst, ◌∙◌, ℕ, ◌+◌, ◌-◌, ◌<◌, inl, inr, Some, None, Bool, List, ◌∷◌, length, arith, ◌||◌, not, IsTrue}
 use Rattle.std.specs.Prelude.{Option}
 use Rattle.raw_region.specs.Memory.{Cut, Same, SamePlace, bytes_of}
+use Rattle.raw_region.specs.Format.{current}
 use Rattle.block_tags.specs.declared.tile.Role.{Role}
 use Rattle.block_tags.specs.declared.tile.Tile.{Tile}
-use Rattle.block_tags.specs.Format.{current, is_legal_size}
+use Rattle.block_tags.specs.Format.{is_legal_size}
 use Rattle.block_tags.specs.Tiles.{AreTags, may_be_red, tag_word, tile_at}
 use Rattle.block_tags.specs.Lists.{tile_in, changed_at, used_for, of_colour, with_use_at, with_red_at, IsBesideTags}
 use Rattle.block_tags.specs.Windows.{SaysTiles, HasTileAt, MayBeUsed, MayHaveColour, SameBesideTags, IsPut}

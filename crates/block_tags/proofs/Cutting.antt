@@ -1,8 +1,8 @@
 -- What the tags say where a tile is split.
 use Rattle.std.proofs.Common.{◌≡◌, refl, sym, ap, subst, ◌∙◌, ℕ, ◌+◌, ◌-◌, ◌<◌, ◌≤◌, ◌⊎◌, inl, inr, Some, None, false, List, ◌∷◌, length, arith}
 use Rattle.raw_region.specs.Memory.{Cut, Same, word_at, bytes_of}
+use Rattle.raw_region.specs.Format.{current}
 use Rattle.block_tags.specs.declared.tile.Tile.{Tile}
-use Rattle.block_tags.specs.Format.{current}
 use Rattle.block_tags.specs.Tiles.{AreTags, tag_word, tile_at}
 use Rattle.block_tags.specs.Lists.{tile_in, free_tile, in_two, split_at}
 use Rattle.block_tags.specs.Windows.{SaysTiles, HasTileAt, CanSplit, SameBesideTags, IsPut}

@@ -2,8 +2,8 @@
 use Rattle.std.proofs.Common.{◌≡◌, sym, ap, subst, ◌∙◌, ℕ, ◌+◌, ◌-◌, ◌%◌, ◌<◌, ◌≤◌, ◌⊎◌, inl, inr, Some, None, List, [], ◌∷◌, length, arith}
 use Rattle.std.specs.Prelude.{Option}
 use Rattle.raw_region.specs.Memory.{Cut, Same, word_at, bytes_of}
+use Rattle.raw_region.specs.Format.{current}
 use Rattle.block_tags.specs.declared.tile.Tile.{Tile}
-use Rattle.block_tags.specs.Format.{current}
 use Rattle.block_tags.specs.Tiles.{AreTags, tag_word, tile_at}
 use Rattle.block_tags.specs.Lists.{tile_in, first_in, next_in, in_one, joined_at, IsBesideTags}
 use Rattle.block_tags.specs.Windows.{SaysTiles, HasTileAt, HasFreeNext, SameBesideTags, IsPut}

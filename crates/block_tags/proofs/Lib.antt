@@ -9,4 +9,3 @@ pub mod Limits
 pub mod Walk
 pub mod Lists
 pub mod Stays
-pub mod Fresh

@@ -2,8 +2,9 @@
 use Rattle.std.proofs.Common.{◌≡◌, refl, sym, ap, subst, ◌∙◌, ℕ, ◌+◌, ◌-◌, ◌%◌, ◌<◌, ◌≤◌, ◌⊎◌, inl, inr, Some, None, Bool, false, List, [], ◌∷◌, ◌++◌, length, arith, cond, IsTrue, ◌==◌}
 use Rattle.std.proofs.lemmas.Bool.{eq-eqb}
 use Rattle.raw_region.specs.Memory.{Memory, Cut, Same, word_at, bytes_of}
+use Rattle.raw_region.specs.Format.{current}
 use Rattle.block_tags.specs.declared.tile.Tile.{Tile}
-use Rattle.block_tags.specs.Format.{current, is_legal_size}
+use Rattle.block_tags.specs.Format.{is_legal_size}
 use Rattle.block_tags.specs.Tiles.{AreTags, Tiles}
 use Rattle.block_tags.specs.Lists.{free_tile, laid, with_free, last_in, without_last, IsBesideTags}
 use Rattle.block_tags.specs.Windows.{SaysTiles, FrontSaysTiles, CanAppend, HasFreeLast, SameBesideTags, IsPut}

@@ -3,8 +3,8 @@ use Rattle.std.proofs.Common.{◌≡◌, refl, sym, ap, subst, ◌∙◌, ℕ, �
 use Rattle.std.specs.Prelude.{Option}
 use Rattle.std.proofs.lemmas.Bool.{eq-eqb, eqb-true}
 use Rattle.raw_region.specs.Memory.{Memory, bytes_of}
+use Rattle.raw_region.specs.Format.{current}
 use Rattle.block_tags.specs.declared.tile.Tile.{Tile}
-use Rattle.block_tags.specs.Format.{current}
 use Rattle.block_tags.specs.Tiles.{AreTags, tiles_of}
 use Rattle.block_tags.specs.Lists.{Fill, tile_in, first_in, next_in, previous_from, last_in, changed_at, IsBesideTags}
 use Rattle.block_tags.specs.Laws.{TilesAreReadOff, TileIsReadOff, GoodTagsSayTiles, TilesFillTheWindow, HeaderIsBesideTags, PayloadIsBesideTags, TileStandsInList, OneTileAtAnOffset, LastTileEndsList}

@@ -2,8 +2,9 @@
 use Rattle.std.proofs.Common.{◌≡◌, refl, sym, ap, subst, ◌∙◌, ℕ, ◌+◌, ◌-◌, ◌%◌, ◌^◌, ◌<◌, ◌≤◌, ◌⊎◌, Some, None, List, [], ◌∷◌, length, arith, IsTrue}
 use Rattle.std.specs.Prelude.{Option}
 use Rattle.raw_region.specs.Memory.{Memory, Cut, word_at, bytes_of}
+use Rattle.raw_region.specs.Format.{current}
 use Rattle.block_tags.specs.declared.tile.Tile.{Tile}
-use Rattle.block_tags.specs.Format.{current, is_legal_size}
+use Rattle.block_tags.specs.Format.{is_legal_size}
 use Rattle.block_tags.specs.Tiles.{AreTags, tile_at}
 use Rattle.block_tags.specs.Lists.{tile_in, first_in, next_in, previous_in}
 use Rattle.block_tags.specs.Windows.{SaysTiles, HasTileAt}

@@ -3,8 +3,9 @@ use Rattle.std.proofs.Common.{◌≡◌, refl, sym, ap, subst, ◌∙◌, ℕ, �
 use Rattle.std.specs.List.{AllByRecursion}
 use Rattle.std.proofs.lemmas.Bool.{eqb-true}
 use Rattle.raw_region.specs.Memory.{Memory, Same, SameBut, bytes_of}
+use Rattle.raw_region.specs.Format.{current}
 use Rattle.block_tags.specs.declared.tile.Tile.{Tile}
-use Rattle.block_tags.specs.Format.{current, is_legal_size}
+use Rattle.block_tags.specs.Format.{is_legal_size}
 use Rattle.block_tags.specs.Tiles.{AreTags, Tiles}
 use Rattle.block_tags.specs.Lists.{Fill, tile_in}
 use Rattle.block_tags.specs.Laws.{SameTags, TagsThatStaySayTheSame, PayloadMayChange, HeaderMayChange, FrontIsAWindow}

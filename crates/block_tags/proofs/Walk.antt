@@ -4,9 +4,10 @@ use Rattle.std.specs.Prelude.{Option}
 use mathlib.Core.Bool.{true≢false}
 use Rattle.std.proofs.lemmas.Bool.{eq-eqb}
 use Rattle.raw_region.specs.Memory.{Memory, word_at}
+use Rattle.raw_region.specs.Format.{current}
 use Rattle.block_tags.specs.declared.tile.Role.{Role}
 use Rattle.block_tags.specs.declared.tile.Tile.{Tile}
-use Rattle.block_tags.specs.Format.{current, is_legal_size}
+use Rattle.block_tags.specs.Format.{is_legal_size}
 use Rattle.block_tags.specs.Tiles.{is_tile, is_free, is_merged, tag_word, tile_at, tiles_from, tiles_of, are_tags, has_tags}
 use Rattle.block_tags.specs.Checks.{is_good_tile, is_tagged}
 use Rattle.std.proofs.lemmas.Bool.{and_parts}

@@ -1,9 +1,5 @@
--- The layout of a segment has had three formats. Definitions take the format as a number, and contracts speak of this one.
+-- How many bytes a segment may have.
 use Rattle.std.specs.Prelude.{ℕ, ◌%◌, Bool, ◌&&◌, ◌||◌, ◌==◌, nat_le}
-
--- the format that is written and read
-abbrev pub current : ℕ
-current = 0
 
 -- 144 bytes, or a multiple of 16 from 176 to 2 ^ 30
 abbrev pub is_legal_size : ℕ → Bool

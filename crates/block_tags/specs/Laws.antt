@@ -2,8 +2,9 @@
 use Rattle.std.specs.Prelude.{◌≡◌, ◌↔◌, ℕ, ◌+◌, ◌-◌, ◌<◌, ◌≤◌, Some, List, [], ◌∷◌, ◌++◌, length, IsTrue}
 use Rattle.std.specs.List.{AllByRecursion}
 use Rattle.raw_region.specs.Memory.{Memory, Cut, Same, SameBut, bytes_of}
+use Rattle.raw_region.specs.Format.{current}
 use Rattle.block_tags.specs.declared.tile.Tile.{Tile}
-use Rattle.block_tags.specs.Format.{current, is_legal_size}
+use Rattle.block_tags.specs.Format.{is_legal_size}
 use Rattle.block_tags.specs.Tiles.{has_tags, is_merged, tile_at, tiles_of}
 use Rattle.block_tags.specs.Lists.{Fill, tile_in, first_in, next_in, previous_in, last_in, changed_at, without_last, IsBesideTags}
 use Rattle.block_tags.specs.Windows.{SaysTiles, FrontSaysTiles}

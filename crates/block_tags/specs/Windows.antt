@@ -1,9 +1,10 @@
 -- What contracts say of a window: its tags say a list of tiles. The records named by what a call needs are conditions.
 use Rattle.std.specs.Prelude.{◌≡◌, ℕ, ◌+◌, ◌-◌, ◌%◌, ◌<◌, ◌≤◌, Bool, ◌||◌, not, Option, Some, List, length, IsTrue}
 use Rattle.raw_region.specs.Memory.{Cut, SamePlace, SameBut, bytes_of, word_at}
+use Rattle.raw_region.specs.Format.{current}
 use Rattle.block_tags.specs.declared.tile.Role.{Role}
 use Rattle.block_tags.specs.declared.tile.Tile.{Tile}
-use Rattle.block_tags.specs.Format.{current, is_legal_size}
+use Rattle.block_tags.specs.Format.{is_legal_size}
 use Rattle.block_tags.specs.Tiles.{Tiles, is_free, may_be_red}
 use Rattle.block_tags.specs.Lists.{tile_in, next_in, last_in, IsBesideTags}
 

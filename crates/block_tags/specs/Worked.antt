@@ -2,7 +2,8 @@
 use Rattle.std.specs.Prelude.{◌≡◌, Bool, true, false, Some, None, List, [], ◌∷◌, map, IsTrue}
 use Rattle.block_tags.specs.declared.tile.Role.TheVariants.{Object, Index, Node}
 use Rattle.block_tags.specs.declared.tile.Tile.{Tile}
-use Rattle.block_tags.specs.Format.{current, is_legal_size}
+use Rattle.raw_region.specs.Format.{current}
+use Rattle.block_tags.specs.Format.{is_legal_size}
 use Rattle.block_tags.specs.Tiles.{tag_word, tile_of_word, is_tile, is_merged}
 use Rattle.block_tags.specs.Lists.{Fill, tile_in, first_in, next_in, previous_in, last_in, free_tile, split_at, joined_at, with_use_at, with_red_at, with_free, without_last, laid}
 

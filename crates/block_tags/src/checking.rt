@@ -1,8 +1,9 @@
 //! Whether the tags of any window say tiles.
 ghost use Rattle.std.specs.Prelude.{◌≡◌, ◌+◌, ◌≤◌, ◌<◌, ◌^◌, IsTrue, is_ok, length};
 ghost use Rattle.raw_region.specs.Memory.{bytes_of};
+ghost use Rattle.raw_region.specs.Format.{current};
 ghost use Rattle.block_tags.specs.Checks.{is_good_tile, is_tagged};
-ghost use Rattle.block_tags.specs.Format.{current, is_legal_size};
+ghost use Rattle.block_tags.specs.Format.{is_legal_size};
 ghost use Rattle.block_tags.specs.Tiles.{has_tags};
 
 use crate::tile::{BadTag, Tile};

@@ -11,8 +11,6 @@ mod ends;
 pub mod laws;
 mod reading;
 mod sizes;
-#[cfg(test)]
-mod tests;
 mod tile;
 mod words;
 

@@ -1,7 +1,7 @@
 //! The two words of a tag: the length of the tile before, and the tile's own length with its use and colour.
 ghost use Rattle.std.specs.Prelude.{◌≡◌, ◌+◌, ◌≤◌, ◌<◌, ◌^◌, length};
 ghost use Rattle.raw_region.specs.Memory.{bytes_of};
-ghost use Rattle.block_tags.specs.Format.{current};
+ghost use Rattle.raw_region.specs.Format.{current};
 ghost use Rattle.block_tags.specs.Tiles.{may_be_red as may_be_red_in, role_bits as bits_of_role, role_of_bits as role_of, tag_word as word_of, tile_at as tile_said, tile_of_word as tile_of};
 ghost use Rattle.block_tags.specs.Windows.{IsPut};
 
@@ -70,6 +70,7 @@ pub fn tile_of_word(at: u64, word: u64) -> Tile
 }
 
 /// Whether a tile used for this may be red.
+#[tactic(auto, unfolding(raw_region::specs::Format::current))]
 pub fn may_be_red(use_of: Option<Role>) -> bool
     ensures { result ≡ may_be_red_in current use_of }
 {

@@ -1,5 +1,5 @@
 -- A directory in a larger or smaller segment.
-use Rattle.std.specs.Prelude.{ℕ, ◌+◌, ◌%◌, ◌≤◌, not, ◌||◌, Option, Some, None, List, [], ◌∷◌, ◌==◌, nat_lt, if◌then◌else◌}
+use Rattle.std.specs.Prelude.{◌≡◌, ℕ, ◌+◌, ◌%◌, ◌≤◌, not, ◌||◌, Option, Some, None, List, [], ◌∷◌, ◌==◌, nat_lt, if◌then◌else◌}
 use Rattle.best_fit.specs.Extents.{Extent, end_of}
 use Rattle.segment_manager.specs.declared.modes.Mode.{Mode}
 use Rattle.segment_manager.specs.Directory.{Directory, live, IsDirectory}
@@ -27,6 +27,14 @@ growth_refusal mode size extra room =
     else if nat_lt 1073741824 (size + extra) then Some TooLarge
     else if nat_lt room (size + extra) then Some RegionTooSmall
     else None
+
+-- the law: where a segment may be so much larger, its directory is one there
+abbrev pub GrownIsDirectory : Type 0
+GrownIsDirectory = (format : ℕ) (d : Directory) (extra : ℕ) → IsDirectory format d → 32 ≤ extra → extra % 16 ≡ 0 → d.size + extra ≤ 1073741824 → IsDirectory format (grown d extra)
+
+-- the law: what is left behind the last extent can be given up
+abbrev pub ShrunkIsDirectory : Type 0
+ShrunkIsDirectory = (format : ℕ) (d : Directory) → IsDirectory format d → IsDirectory format (shrunk d)
 
 -- the law: no smaller size serves the same extents
 abbrev pub ShrunkIsLeast : Type 0

@@ -5,11 +5,11 @@ use Rattle.std.specs.List.{AllByRecursion, list_all, list_any, range_with_len}
 use Rattle.std.specs.Cmp.Lexicographic.{slice_cmp}
 use Rattle.std.specs.Ordering.{nat_cmp, is_lt}
 use Rattle.std.proofs.lemmas.Bool.{and_from, and_left, and_right, or_parts, or_from, cond-true, cond-false, le-leb, not_from_true}
-use Rattle.raw_region.specs.Memory.{Memory, bytes_of, read, word_at, half_word_at}
+use Rattle.raw_region.specs.Memory.{Memory, bytes_of, read, word_at}
+use Rattle.raw_region.specs.Format.{current}
 use Rattle.offset_link.specs.Link.{link_at}
 use Rattle.block_tags.specs.declared.tile.Role.TheVariants.{Object as ObjectRole, Index}
 use Rattle.block_tags.specs.declared.tile.Tile.{Tile}
-use Rattle.block_tags.specs.Format.{current}
 use Rattle.block_tags.specs.Tiles.{tiles_of}
 use Rattle.seg_types.specs.declared.kinds.ScalarKind.TheVariants.{I64}
 use Rattle.seg_types.specs.declared.kinds.Kind.{Kind}
@@ -20,7 +20,7 @@ use Rattle.segment_manager.specs.Directory.{Directory, padded}
 use Rattle.segment_manager.specs.State.{StandsFor}
 use Rattle.image_check.specs.declared.classes.ImageClass.{ImageClass}
 use Rattle.image_check.specs.declared.classes.ImageClass.TheVariants.{Truncated, BadMagic, UnsupportedVersion, BadSize, BadReserved, BadTag, BadFreeTree, BadIndex, BadObject, SharedBlock, BadContainer, OrphanBlock}
-use Rattle.image_check.specs.Classes.{size_word, holds, classes, class_of, is_tiled, good_for, is_table_link, entries, targets, has_index, has_indexes, are_distinct, object_tiles, payload, name_at, value_offset, kind_at, are_spellings, is_value_in, has_name, has_padding, is_indexed, is_object_tile, is_zero, is_among, rise_by, has_objects, Field, index_field, field_at, storage_field, element_fields, root_link, node_fields, counted_fields, is_shared, share_some, needs_owner, leads_there, leave_some, is_orphaned, is_container, has_containers, are_bytes}
+use Rattle.image_check.specs.Classes.{size_word, holds, classes, class_of, is_tiled, good_for, is_table_link, entries, targets, has_index, has_indexes, are_distinct, object_tiles, payload, value_offset, kind_at, are_spellings, is_value_in, has_name, has_padding, is_indexed, is_object_tile, is_zero, is_among, rise_by, has_objects, Field, index_field, field_at, storage_field, element_fields, root_link, node_fields, counted_fields, is_shared, share_some, needs_owner, leads_there, leave_some, is_orphaned, is_container, has_containers, are_bytes}
 use Rattle.image_check.specs.Opening.{has_early_class}
 use Rattle.image_check.specs.LandedImages.{is_landed_tile, LandedImages}
 use Rattle.image_check.proofs.Bytes.{AreSmall, are_bytes-AreSmall, word_at-small}
@@ -29,6 +29,7 @@ use Rattle.image_check.proofs.Frame.{has_whole_size-HasWholeSize}
 use Rattle.image_check.proofs.Landed.{null_link, HasNoPlace, has_no_place-HasNoPlace, IsSaidLanded, is_landed_image-IsSaidLanded, landed_image-sound, landed_image-complete, landed_image-one}
 use Rattle.image_check.proofs.Early.{early_class-none}
 use Rattle.image_check.proofs.NumberTiles.{IsNumberTile, number_tiles, number_tile-kind, number_of_tile, values-numbers, unowned_tiles, numbers-storage, numbers-elements, numbers-roots, numbers-containers, no_node_fields}
+use Rattle.seg_index.specs.Keys.{code_at, count_at, name_len_at, class_at, name_at}
 
 -- ---- class 8: an index without a place is right
 
@@ -69,7 +70,7 @@ no_places-has_indexes m ts p q =
 -- it has no name
 number-has_name : (m : Memory) (t : Tile) → IsNumberTile m t → IsTrue (has_name current m (payload t))
 number-has_name m t n = λ i.
-    if n.class i == 1 then (if nat_le (half_word_at m (payload t + 8)) 255 then is_name current (name_at m (payload t)) else false)
+    if n.class i == 1 then (if nat_le (name_len_at m (payload t)) 255 then is_name current (name_at m (payload t)) else false)
     else nat_le (n.class i) 2 && (n.name_len i == 0)
 
 -- nothing is left between a name of no bytes and the value
@@ -96,7 +97,7 @@ one_value m at end s l = cond-true (nat_le (at + 8 * 1) end) (are_spellings m I6
 
 -- the number lies in the tile
 number-is_value_in : (m : Memory) (t : Tile) → AreSmall m → IsNumberTile m t
-    → IsTrue (is_value_in m (Scalar I64) (half_word_at m (payload t + 4)) (value_offset m (payload t)) (t.offset + t.len))
+    → IsTrue (is_value_in m (Scalar I64) (count_at m (payload t)) (value_offset m (payload t)) (t.offset + t.len))
 number-is_value_in m t s n =
     let long = n.long in
     let place : value_offset m (payload t) ≡ payload t + 16 + 0 = ap (λ k. payload t + 16 + padded k) n.name_len in
@@ -105,7 +106,7 @@ number-is_value_in m t s n =
 
 -- the test of a kind and value
 abbrev has_value : Memory → Tile → Option Kind → Bool
-has_value m t kind = elim kind [ None ↦ false | Some k ↦ is_value_in m k (half_word_at m (payload t + 4)) (value_offset m (payload t)) (t.offset + t.len) ]
+has_value m t kind = elim kind [ None ↦ false | Some k ↦ is_value_in m k (count_at m (payload t)) (value_offset m (payload t)) (t.offset + t.len) ]
 
 -- so the object is right
 number-is_object_tile : (m : Memory) (t : Tile) → AreSmall m → IsNumberTile m t → IsTrue (is_object_tile current m t)
@@ -128,9 +129,9 @@ numbers-has_objects m ts s p q h =
     let named = no_place-targets m 32 p in
     let unique = no_place-targets m 56 q in
     let objects = numbers-are_objects m (object_tiles ts) s h in
-    λ i. objects i && list_all (λ at. half_word_at m (at + 12) == 1) (named i) && list_all (λ at. half_word_at m (at + 12) == 2) (unique i)
+    λ i. objects i && list_all (λ at. class_at m at == 1) (named i) && list_all (λ at. class_at m at == 2) (unique i)
     && rise_by (λ a b. is_lt (slice_cmp nat_cmp (name_at m a) (name_at m b))) (named i)
-    && rise_by (λ a b. nat_lt (half_word_at m a) (half_word_at m b)) (unique i)
+    && rise_by (λ a b. nat_lt (code_at m a) (code_at m b)) (unique i)
 
 -- ---- classes 10 to 12: no field leads to a block, and no block needs one
 
@@ -215,7 +216,7 @@ none_found p [] h = refl
 none_found p (c ∷ cs) h = cond-false (p c) (Some c) (find p cs) h.0 ∙ none_found p cs h.1
 
 -- the class of an image whose frame and tiles are right
-sound-no_class : (b : List ℕ) → has_early_class b ≡ false → IsSound (bytes_of b) (tiles_of (bytes_of b) (size_word b)) → class_of current b ≡ None
+sound-no_class : (b : List ℕ) → has_early_class current b ≡ false → IsSound (bytes_of b) (tiles_of (bytes_of b) (size_word b)) → class_of current b ≡ None
 sound-no_class b e s =
     let m : Memory = bytes_of b in
     let ts : List Tile = tiles_of m (size_word b) in

@@ -4,7 +4,8 @@ use Rattle.std.specs.Prelude.{IsTrue}
 use Rattle.std.specs.List.{list_all}
 use Rattle.std.proofs.lemmas.Bool.{and_from, and_left, and_right, eq-eqb, ne_eqb}
 use Rattle.raw_region.specs.Memory.{Cut, bytes_of, word_at}
-use Rattle.block_tags.specs.Format.{current, is_legal_size}
+use Rattle.raw_region.specs.Format.{current}
+use Rattle.block_tags.specs.Format.{is_legal_size}
 use Rattle.block_tags.specs.Tiles.{has_tags, tiles_of}
 use Rattle.segment_manager.specs.State.{IsSegment}
 use Rattle.image_check.specs.declared.classes.ImageClass.TheVariants.{BadFreeTree, OrphanBlock}
@@ -19,7 +20,7 @@ use Rattle.image_check.proofs.Accepted.{landed_images}
 
 -- what the check knows once the tags are right
 pub record IsChecked (w : Cut) : Type 0 where
-  pub front : HasFront w
+  pub front : HasFront current w
   pub reserved : has_reserved w.bytes ≡ true
   pub tags : has_tags current (bytes_of w.bytes) (length w.bytes) ≡ true
 
@@ -28,13 +29,13 @@ checked-tiled : (w : Cut) → IsChecked w → is_tiled current w.bytes ≡ true
 checked-tiled w h = ap (has_tags current (bytes_of w.bytes)) h.front.says ∙ h.tags
 
 -- word 24 is no null link
-pub checked-tree : (w : Cut) (x : ℕ) → IsChecked w → x ≡ word_at (bytes_of w.bytes) 24 → (x ≡ 1 → ⊥) → IsClassFor w.bytes BadFreeTree
+pub checked-tree : (w : Cut) (x : ℕ) → IsChecked w → x ≡ word_at (bytes_of w.bytes) 24 → (x ≡ 1 → ⊥) → IsClassFor current w.bytes BadFreeTree
 checked-tree w x h e n = holding (null_tree-BadFreeTree w.bytes (checked-tiled w h) (ne_eqb (word_at (bytes_of w.bytes) 24) 1 (λ f. n (e ∙ f))))
 
 -- or it is
 pub checked-frame : (w : Cut) (x : ℕ) → IsChecked w → x ≡ word_at (bytes_of w.bytes) 24 → x ≡ 1 → IsTrue (has_frame w.bytes)
 checked-frame w x h e f =
-    let r = HasFront-IsRight w h.front in
+    let r = HasFront-IsRight current w h.front in
     IsFrame-has_frame w.bytes (record {
       magic = r.magic;
       version = r.version;
@@ -59,18 +60,18 @@ pub checked-segment : (b : List ℕ) → IsTrue (are_bytes b) → IsTrue (has_fr
 checked-segment b small h p q r = (landed_directory b, (landed_images b small).sound (landed_image b h p q r))
 
 -- of which one fails
-pub named-class : (b : List ℕ) → IsTrue (has_frame b) → has_no_place (bytes_of b) 32 ≡ false → IsClassFor b OrphanBlock
+pub named-class : (b : List ℕ) → IsTrue (has_frame b) → has_no_place (bytes_of b) 32 ≡ false → IsClassFor current b OrphanBlock
 unfolding is_landed_image
 named-class b h e =
     frame-OrphanBlock b h (and_left (has_frame b && has_no_place (bytes_of b) 32 && has_no_place (bytes_of b) 56) (are_landed b)
     (and_left (has_frame b && has_no_place (bytes_of b) 32) (has_no_place (bytes_of b) 56) (and_right (has_frame b) (has_no_place (bytes_of b) 32) e)))
 
-pub unique-class : (b : List ℕ) → IsTrue (has_frame b) → has_no_place (bytes_of b) 56 ≡ false → IsClassFor b OrphanBlock
+pub unique-class : (b : List ℕ) → IsTrue (has_frame b) → has_no_place (bytes_of b) 56 ≡ false → IsClassFor current b OrphanBlock
 unfolding is_landed_image
 unique-class b h e =
     frame-OrphanBlock b h (and_left (has_frame b && has_no_place (bytes_of b) 32 && has_no_place (bytes_of b) 56) (are_landed b)
     (and_right (has_frame b && has_no_place (bytes_of b) 32) (has_no_place (bytes_of b) 56) e))
 
-pub tiles-class : (b : List ℕ) → IsTrue (has_frame b) → are_landed b ≡ false → IsClassFor b OrphanBlock
+pub tiles-class : (b : List ℕ) → IsTrue (has_frame b) → are_landed b ≡ false → IsClassFor current b OrphanBlock
 unfolding is_landed_image
 tiles-class b h e = frame-OrphanBlock b h (and_right (has_frame b && has_no_place (bytes_of b) 32 && has_no_place (bytes_of b) 56) (are_landed b) e)

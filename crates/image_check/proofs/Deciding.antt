@@ -6,7 +6,7 @@ use Rattle.std.proofs.lemmas.List.{get_or_append_left, length-replicate}
 use mathlib.Core.Logic.{◌⊎◌, inl, inr}
 use Rattle.raw_region.specs.Memory.{bytes_of, read, word_at, half_word_at, zeros}
 use Rattle.byteorder.specs.Endian.{little_number}
-use Rattle.block_tags.specs.Format.{current, is_legal_size}
+use Rattle.block_tags.specs.Format.{is_legal_size}
 use Rattle.segment_manager.specs.Denotes.{magic_number}
 use Rattle.image_check.specs.declared.classes.ImageClass.{ImageClass}
 use Rattle.image_check.specs.declared.classes.ImageClass.TheVariants.{Truncated, BadMagic, UnsupportedVersion, BadSize, BadReserved, BadTag, BadFreeTree, BadIndex, BadObject, SharedBlock, BadContainer, OrphanBlock}
@@ -82,8 +82,8 @@ pub has_magic-front : (b rest : List ℕ) → 24 ≤ length b → has_magic (b +
 has_magic-front b rest l = ap (λ w. w == magic_number) (word_at-front b rest 0 (omega arith))
 
 -- the version stays
-pub has_version-front : (b rest : List ℕ) → 24 ≤ length b → has_version current (b ++ rest) ≡ has_version current b
-has_version-front b rest l = ap (λ w. w == current) (half_word_at-front b rest 8 (omega arith))
+pub has_version-front : (format : ℕ) (b rest : List ℕ) → 24 ≤ length b → has_version format (b ++ rest) ≡ has_version format b
+has_version-front format b rest l = ap (λ w. w == format) (half_word_at-front b rest 8 (omega arith))
 
 -- the size stays
 pub size_word-front : (b rest : List ℕ) → 24 ≤ length b → size_word (b ++ rest) ≡ size_word b
@@ -92,27 +92,27 @@ size_word-front b rest l = word_at-front b rest 16 (omega arith)
 -- ---- where an image is not too short
 
 -- with 144 bytes and a front that is wrong
-not_truncated-front : (b : List ℕ) → 144 ≤ length b → has_front current b ≡ false → holds current b Truncated ≡ false
-not_truncated-front b l e =
-    or_from (nat_lt (length b) 144) (has_front current b && nat_lt (length b) (size_word b)) (le-ltb (length b) 144 l) (and_left (has_front current b) (nat_lt (length b) (size_word b)) e)
+not_truncated-front : (format : ℕ) (b : List ℕ) → 144 ≤ length b → has_front format b ≡ false → holds format b Truncated ≡ false
+not_truncated-front format b l e =
+    or_from (nat_lt (length b) 144) (has_front format b && nat_lt (length b) (size_word b)) (le-ltb (length b) 144 l) (and_left (has_front format b) (nat_lt (length b) (size_word b)) e)
 
 -- with as many bytes as the size says
-not_truncated-size : (b : List ℕ) → 144 ≤ length b → size_word b ≤ length b → holds current b Truncated ≡ false
-not_truncated-size b l m =
-    or_from (nat_lt (length b) 144) (has_front current b && nat_lt (length b) (size_word b)) (le-ltb (length b) 144 l)
-    (and_right (has_front current b) (nat_lt (length b) (size_word b)) (le-ltb (length b) (size_word b) m))
+not_truncated-size : (format : ℕ) (b : List ℕ) → 144 ≤ length b → size_word b ≤ length b → holds format b Truncated ≡ false
+not_truncated-size format b l m =
+    or_from (nat_lt (length b) 144) (has_front format b && nat_lt (length b) (size_word b)) (le-ltb (length b) 144 l)
+    (and_right (has_front format b) (nat_lt (length b) (size_word b)) (le-ltb (length b) (size_word b) m))
 
 -- a wrong magic is a wrong front
-front-magic : (b : List ℕ) → has_magic b ≡ false → has_front current b ≡ false
-front-magic b e = and_left (has_magic b && has_version current b) (is_legal_size (size_word b)) (and_left (has_magic b) (has_version current b) e)
+front-magic : (format : ℕ) (b : List ℕ) → has_magic b ≡ false → has_front format b ≡ false
+front-magic format b e = and_left (has_magic b && has_version format b) (is_legal_size (size_word b)) (and_left (has_magic b) (has_version format b) e)
 
 -- a wrong version is a wrong front
-front-version : (b : List ℕ) → has_version current b ≡ false → has_front current b ≡ false
-front-version b e = and_left (has_magic b && has_version current b) (is_legal_size (size_word b)) (and_right (has_magic b) (has_version current b) e)
+front-version : (format : ℕ) (b : List ℕ) → has_version format b ≡ false → has_front format b ≡ false
+front-version format b e = and_left (has_magic b && has_version format b) (is_legal_size (size_word b)) (and_right (has_magic b) (has_version format b) e)
 
 -- a size that no segment has is a wrong front
-front-size : (b : List ℕ) → is_legal_size (size_word b) ≡ false → has_front current b ≡ false
-front-size b e = and_right (has_magic b && has_version current b) (is_legal_size (size_word b)) e
+front-size : (format : ℕ) (b : List ℕ) → is_legal_size (size_word b) ≡ false → has_front format b ≡ false
+front-size format b e = and_right (has_magic b && has_version format b) (is_legal_size (size_word b)) e
 
 -- ---- what is decided stays
 
@@ -121,39 +121,39 @@ longer : (b rest : List ℕ) (n : ℕ) → n ≤ length b → n ≤ length (b ++
 longer b rest n l = let e = length-append b rest in omega arith
 
 -- a wrong magic in 144 bytes decides class 2
-magic-decides : (b : List ℕ) → 144 ≤ length b → has_magic b ≡ false → DecidesClass current b BadMagic
-magic-decides b l e rest h =
+magic-decides : (format : ℕ) (b : List ℕ) → 144 ≤ length b → has_magic b ≡ false → DecidesClass format b BadMagic
+magic-decides format b l e rest h =
     let f : has_magic (b ++ rest) ≡ false = has_magic-front b rest (omega arith) ∙ e in
-    second_class (holds current (b ++ rest)) (not_truncated-front (b ++ rest) (longer b rest 144 l) (front-magic (b ++ rest) f)) (not_from_false (has_magic (b ++ rest)) f)
+    second_class (holds format (b ++ rest)) (not_truncated-front format (b ++ rest) (longer b rest 144 l) (front-magic format (b ++ rest) f)) (not_from_false (has_magic (b ++ rest)) f)
 
 -- a wrong version behind a right magic decides class 3
-version-decides : (b : List ℕ) → 144 ≤ length b → has_magic b ≡ true → has_version current b ≡ false → DecidesClass current b UnsupportedVersion
-version-decides b l e f rest h =
+version-decides : (format : ℕ) (b : List ℕ) → 144 ≤ length b → has_magic b ≡ true → has_version format b ≡ false → DecidesClass format b UnsupportedVersion
+version-decides format b l e f rest h =
     let m : has_magic (b ++ rest) ≡ true = has_magic-front b rest (omega arith) ∙ e in
-    let v : has_version current (b ++ rest) ≡ false = has_version-front b rest (omega arith) ∙ f in
-    third_class (holds current (b ++ rest)) (not_truncated-front (b ++ rest) (longer b rest 144 l) (front-version (b ++ rest) v))
-    (not_from_true (has_magic (b ++ rest)) m) (not_from_false (has_version current (b ++ rest)) v)
+    let v : has_version format (b ++ rest) ≡ false = has_version-front format b rest (omega arith) ∙ f in
+    third_class (holds format (b ++ rest)) (not_truncated-front format (b ++ rest) (longer b rest 144 l) (front-version format (b ++ rest) v))
+    (not_from_true (has_magic (b ++ rest)) m) (not_from_false (has_version format (b ++ rest)) v)
 
 -- a size class behind a right magic and version
-size-class : (b : List ℕ) → has_magic b ≡ true → has_version current b ≡ true → holds current b Truncated ≡ false → has_size b ≡ false → class_of current b ≡ Some BadSize
-size-class b m v t s = fourth_class (holds current b) t (not_from_true (has_magic b) m) (not_from_true (has_version current b) v) (not_from_false (has_size b) s)
+size-class : (format : ℕ) (b : List ℕ) → has_magic b ≡ true → has_version format b ≡ true → holds format b Truncated ≡ false → has_size b ≡ false → class_of format b ≡ Some BadSize
+size-class format b m v t s = fourth_class (holds format b) t (not_from_true (has_magic b) m) (not_from_true (has_version format b) v) (not_from_false (has_size b) s)
 
 -- a size that no segment has, or fewer bytes than were read, decides class 4
-size-decides : (b : List ℕ) → 144 ≤ length b → has_magic b ≡ true → has_version current b ≡ true
-    → (is_legal_size (size_word b) ≡ false) ⊎ (nat_le (length b) (size_word b) ≡ false) → DecidesClass current b BadSize
-size-decides b l e f (inl g) rest h =
+size-decides : (format : ℕ) (b : List ℕ) → 144 ≤ length b → has_magic b ≡ true → has_version format b ≡ true
+    → (is_legal_size (size_word b) ≡ false) ⊎ (nat_le (length b) (size_word b) ≡ false) → DecidesClass format b BadSize
+size-decides format b l e f (inl g) rest h =
     let m = has_magic-front b rest (omega arith) ∙ e in
-    let v = has_version-front b rest (omega arith) ∙ f in
+    let v = has_version-front format b rest (omega arith) ∙ f in
     let s : is_legal_size (size_word (b ++ rest)) ≡ false = ap is_legal_size (size_word-front b rest (omega arith)) ∙ g in
-    size-class (b ++ rest) m v (not_truncated-front (b ++ rest) (longer b rest 144 l) (front-size (b ++ rest) s)) (and_left (is_legal_size (size_word (b ++ rest))) (nat_le (length (b ++ rest)) (size_word (b ++ rest))) s)
-size-decides b l e f (inr g) rest h =
+    size-class format (b ++ rest) m v (not_truncated-front format (b ++ rest) (longer b rest 144 l) (front-size format (b ++ rest) s)) (and_left (is_legal_size (size_word (b ++ rest))) (nat_le (length (b ++ rest)) (size_word (b ++ rest))) s)
+size-decides format b l e f (inr g) rest h =
     let m = has_magic-front b rest (omega arith) ∙ e in
-    let v = has_version-front b rest (omega arith) ∙ f in
+    let v = has_version-front format b rest (omega arith) ∙ f in
     let less = leb-false (length b) (size_word b) g in
     let same = size_word-front b rest (omega arith) in
     let more = length-append b rest in
     let s : size_word (b ++ rest) < length (b ++ rest) = omega arith in
-    size-class (b ++ rest) m v (not_truncated-size (b ++ rest) (longer b rest 144 l) (omega arith))
+    size-class format (b ++ rest) m v (not_truncated-size format (b ++ rest) (longer b rest 144 l) (omega arith))
     (and_right (is_legal_size (size_word (b ++ rest))) (nat_le (length (b ++ rest)) (size_word (b ++ rest))) (lt-leb (length (b ++ rest)) (size_word (b ++ rest)) s))
 
 -- ---- where nothing is decided
@@ -179,107 +179,107 @@ is_legal_size-most : (n : ℕ) → IsTrue (is_legal_size n) → n ≤ 1073741824
 is_legal_size-most n h = largest n (or_cases (n == 144) ((n % 16 == 0) && nat_le 176 n && nat_le n 1073741824) h)
 
 -- an image of 2 ^ 30 bytes is not too short
-long_cases : (b : List ℕ) → 1073741824 ≤ length b → (is_legal_size (size_word b) ≡ true) ⊎ (is_legal_size (size_word b) ≡ false) → holds current b Truncated ≡ false
-long_cases b l (inl e) = let most = is_legal_size-most (size_word b) e in not_truncated-size b (omega arith) (omega arith)
-long_cases b l (inr e) = not_truncated-front b (omega arith) (front-size b e)
+long_cases : (format : ℕ) (b : List ℕ) → 1073741824 ≤ length b → (is_legal_size (size_word b) ≡ true) ⊎ (is_legal_size (size_word b) ≡ false) → holds format b Truncated ≡ false
+long_cases format b l (inl e) = let most = is_legal_size-most (size_word b) e in not_truncated-size format b (omega arith) (omega arith)
+long_cases format b l (inr e) = not_truncated-front format b (omega arith) (front-size format b e)
 
 -- with nothing behind it, the front has the class
-alone : (b : List ℕ) (c : ImageClass) → DecidesClass current b c → class_of current b ≡ Some c
-alone b c d = subst (λ x. class_of current x ≡ Some c) (append-nil b) (d [] refl)
+alone : (format : ℕ) (b : List ℕ) (c : ImageClass) → DecidesClass format b c → class_of format b ≡ Some c
+alone format b c d = subst (λ x. class_of format x ≡ Some c) (append-nil b) (d [] refl)
 
 -- a front that is too short alone, and not with some bytes behind it, decides nothing
-not_both : (b rest : List ℕ) (c : ImageClass) → holds current b Truncated ≡ true → IsTrue (are_bytes rest) → holds current (b ++ rest) Truncated ≡ false → DecidesClass current b c → ⊥
-not_both b rest c t h n d =
-    let first : Some c ≡ Some Truncated = sym (alone b c d) ∙ first_class (holds current b) t in
-    let found : holds current (b ++ rest) Truncated ≡ true = find-holds (holds current (b ++ rest)) Truncated classes (d rest h ∙ first) in
-    both_ways (holds current (b ++ rest) Truncated) n found
+not_both : (format : ℕ) (b rest : List ℕ) (c : ImageClass) → holds format b Truncated ≡ true → IsTrue (are_bytes rest) → holds format (b ++ rest) Truncated ≡ false → DecidesClass format b c → ⊥
+not_both format b rest c t h n d =
+    let first : Some c ≡ Some Truncated = sym (alone format b c d) ∙ first_class (holds format b) t in
+    let found : holds format (b ++ rest) Truncated ≡ true = find-holds (holds format (b ++ rest)) Truncated classes (d rest h ∙ first) in
+    both_ways (holds format (b ++ rest) Truncated) n found
 
 -- fewer than 144 bytes decide nothing: zeros may follow
-short_undecided : (b : List ℕ) (n : ℕ) (c : ImageClass) → 1073741824 ≤ n → length b < 144 → DecidesClass current b c → ⊥
-short_undecided b n c m l d =
+short_undecided : (format : ℕ) (b : List ℕ) (n : ℕ) (c : ImageClass) → 1073741824 ≤ n → length b < 144 → DecidesClass format b c → ⊥
+short_undecided format b n c m l d =
     let more = length-append b (zeros n) in
     let many = zeros-length n in
-    not_both b (zeros n) c (or_left (nat_lt (length b) 144) (has_front current b && nat_lt (length b) (size_word b)) (lt-ltb (length b) 144 l)) (zeros-are_bytes n)
-    (long_cases (b ++ zeros n) (omega arith) (cases_Bool (is_legal_size (size_word (b ++ zeros n))))) d
+    not_both format b (zeros n) c (or_left (nat_lt (length b) 144) (has_front format b && nat_lt (length b) (size_word b)) (lt-ltb (length b) 144 l)) (zeros-are_bytes n)
+    (long_cases format (b ++ zeros n) (omega arith) (cases_Bool (is_legal_size (size_word (b ++ zeros n))))) d
 
 -- the front's tests that do not decide
-record IsOpen (b : List ℕ) : Type 0 where
+record IsOpen (format : ℕ) (b : List ℕ) : Type 0 where
   long : 144 ≤ length b
   magic : has_magic b ≡ true
-  version : has_version current b ≡ true
+  version : has_version format b ≡ true
   legal : is_legal_size (size_word b) ≡ true
 
 -- nor do fewer bytes than the size says: zeros may fill it up
-cut_undecided : (b : List ℕ) (c : ImageClass) → IsOpen b → length b < size_word b → DecidesClass current b c → ⊥
-cut_undecided b c o l d =
+cut_undecided : (format : ℕ) (b : List ℕ) (c : ImageClass) → IsOpen format b → length b < size_word b → DecidesClass format b c → ⊥
+cut_undecided format b c o l d =
     let n : ℕ = size_word b - length b in
     let long = o.long in
     let more = length-append b (zeros n) in
     let many = zeros-length n in
     let same = size_word-front b (zeros n) (omega arith) in
-    let front : has_front current b ≡ true = and_from (has_magic b && has_version current b) (is_legal_size (size_word b)) (and_from (has_magic b) (has_version current b) o.magic o.version) o.legal in
-    not_both b (zeros n) c
-    (or_right (nat_lt (length b) 144) (has_front current b && nat_lt (length b) (size_word b)) (and_from (has_front current b) (nat_lt (length b) (size_word b)) front (lt-ltb (length b) (size_word b) l)))
+    let front : has_front format b ≡ true = and_from (has_magic b && has_version format b) (is_legal_size (size_word b)) (and_from (has_magic b) (has_version format b) o.magic o.version) o.legal in
+    not_both format b (zeros n) c
+    (or_right (nat_lt (length b) 144) (has_front format b && nat_lt (length b) (size_word b)) (and_from (has_front format b) (nat_lt (length b) (size_word b)) front (lt-ltb (length b) (size_word b) l)))
     (zeros-are_bytes n)
-    (not_truncated-size (b ++ zeros n) (omega arith) (omega arith)) d
+    (not_truncated-size format (b ++ zeros n) (omega arith) (omega arith)) d
 
 -- nor do as many bytes as the size says: one more may follow
-whole_undecided : (b : List ℕ) (c : ImageClass) → IsOpen b → length b ≡ size_word b → DecidesClass current b c → ⊥
-whole_undecided b c o l d =
+whole_undecided : (format : ℕ) (b : List ℕ) (c : ImageClass) → IsOpen format b → length b ≡ size_word b → DecidesClass format b c → ⊥
+whole_undecided format b c o l d =
     let rest : List ℕ = 0 ∷ [] in
     let long = o.long in
     let more : length (b ++ rest) ≡ length b + 1 = length-append b rest in
     let same = size_word-front b rest (omega arith) in
-    let big : class_of current (b ++ rest) ≡ Some BadSize =
-    size-class (b ++ rest) (has_magic-front b rest (omega arith) ∙ o.magic) (has_version-front b rest (omega arith) ∙ o.version)
-    (not_truncated-size (b ++ rest) (omega arith) (omega arith))
+    let big : class_of format (b ++ rest) ≡ Some BadSize =
+    size-class format (b ++ rest) (has_magic-front b rest (omega arith) ∙ o.magic) (has_version-front format b rest (omega arith) ∙ o.version)
+    (not_truncated-size format (b ++ rest) (omega arith) (omega arith))
     (and_right (is_legal_size (size_word (b ++ rest))) (nat_le (length (b ++ rest)) (size_word (b ++ rest))) (lt-leb (length (b ++ rest)) (size_word (b ++ rest)) (omega arith))) in
-    let first : class_of current b ≡ Some BadSize = alone b c d ∙ sym (d rest refl) ∙ big in
-    let found : holds current b BadSize ≡ true = find-holds (holds current b) BadSize classes first in
-    both_ways (holds current b BadSize) (not_from_true (has_size b) (and_from (is_legal_size (size_word b)) (nat_le (length b) (size_word b)) o.legal (le-leb (length b) (size_word b) (omega arith)))) found
+    let first : class_of format b ≡ Some BadSize = alone format b c d ∙ sym (d rest refl) ∙ big in
+    let found : holds format b BadSize ≡ true = find-holds (holds format b) BadSize classes first in
+    both_ways (holds format b BadSize) (not_from_true (has_size b) (and_from (is_legal_size (size_word b)) (nat_le (length b) (size_word b)) o.legal (le-leb (length b) (size_word b) (omega arith)))) found
 
 -- both together
-open_cases : (b : List ℕ) (c : ImageClass) → IsOpen b → length b ≤ size_word b → (length b < size_word b) ⊎ (size_word b ≤ length b) → DecidesClass current b c → ⊥
-open_cases b c o m (inl l) d = cut_undecided b c o l d
-open_cases b c o m (inr l) d = whole_undecided b c o (omega arith) d
+open_cases : (format : ℕ) (b : List ℕ) (c : ImageClass) → IsOpen format b → length b ≤ size_word b → (length b < size_word b) ⊎ (size_word b ≤ length b) → DecidesClass format b c → ⊥
+open_cases format b c o m (inl l) d = cut_undecided format b c o l d
+open_cases format b c o m (inr l) d = whole_undecided format b c o (omega arith) d
 
 -- ---- the test
 
 -- what is decided, by the four tests
-some_cases : (b : List ℕ) (c : ImageClass) (p q r s : Bool) → nat_lt (length b) 144 ≡ p → has_magic b ≡ q → has_version current b ≡ r → has_size b ≡ s
-    → decided_by p q r s ≡ Some c → DecidesClass current b c
-some_cases b c true q r s e f g h k = absurd (cc)
-some_cases b c false false r s e f g h k =
-    let same : BadMagic ≡ c = cc in subst (DecidesClass current b) same (magic-decides b (ltb-false (length b) 144 e) f)
-some_cases b c false true false s e f g h k =
-    let same : UnsupportedVersion ≡ c = cc in subst (DecidesClass current b) same (version-decides b (ltb-false (length b) 144 e) f g)
-some_cases b c false true true true e f g h k = absurd (cc)
-some_cases b c false true true false e f g h k =
+some_cases : (format : ℕ) (b : List ℕ) (c : ImageClass) (p q r s : Bool) → nat_lt (length b) 144 ≡ p → has_magic b ≡ q → has_version format b ≡ r → has_size b ≡ s
+    → decided_by p q r s ≡ Some c → DecidesClass format b c
+some_cases format b c true q r s e f g h k = absurd (cc)
+some_cases format b c false false r s e f g h k =
+    let same : BadMagic ≡ c = cc in subst (DecidesClass format b) same (magic-decides format b (ltb-false (length b) 144 e) f)
+some_cases format b c false true false s e f g h k =
+    let same : UnsupportedVersion ≡ c = cc in subst (DecidesClass format b) same (version-decides format b (ltb-false (length b) 144 e) f g)
+some_cases format b c false true true true e f g h k = absurd (cc)
+some_cases format b c false true true false e f g h k =
     let same : BadSize ≡ c = cc in
-    subst (DecidesClass current b) same (size-decides b (ltb-false (length b) 144 e) f g (and_cases (is_legal_size (size_word b)) (nat_le (length b) (size_word b)) h))
+    subst (DecidesClass format b) same (size-decides format b (ltb-false (length b) 144 e) f g (and_cases (is_legal_size (size_word b)) (nat_le (length b) (size_word b)) h))
 
 -- what is not, by the four tests
-none_cases : (b : List ℕ) (n : ℕ) (c : ImageClass) (p q r s : Bool) → 1073741824 ≤ n → nat_lt (length b) 144 ≡ p → has_magic b ≡ q → has_version current b ≡ r → has_size b ≡ s
-    → decided_by p q r s ≡ None → DecidesClass current b c → ⊥
-none_cases b n c true q r s m e f g h k d = short_undecided b n c m (ltb-true (length b) 144 e) d
-none_cases b n c false false r s m e f g h k d = absurd (cc)
-none_cases b n c false true false s m e f g h k d = absurd (cc)
-none_cases b n c false true true false m e f g h k d = absurd (cc)
-none_cases b n c false true true true m e f g h k d =
+none_cases : (format : ℕ) (b : List ℕ) (n : ℕ) (c : ImageClass) (p q r s : Bool) → 1073741824 ≤ n → nat_lt (length b) 144 ≡ p → has_magic b ≡ q → has_version format b ≡ r → has_size b ≡ s
+    → decided_by p q r s ≡ None → DecidesClass format b c → ⊥
+none_cases format b n c true q r s m e f g h k d = short_undecided format b n c m (ltb-true (length b) 144 e) d
+none_cases format b n c false false r s m e f g h k d = absurd (cc)
+none_cases format b n c false true false s m e f g h k d = absurd (cc)
+none_cases format b n c false true true false m e f g h k d = absurd (cc)
+none_cases format b n c false true true true m e f g h k d =
     let parts = and_parts (is_legal_size (size_word b)) (nat_le (length b) (size_word b)) h in
-    let o : IsOpen b = record { long = ltb-false (length b) 144 e; magic = f; version = g; legal = parts.0 } in
-    open_cases b c o (leb-true (length b) (size_word b) parts.1) (cases_lt (length b) (size_word b)) d
+    let o : IsOpen format b = record { long = ltb-false (length b) 144 e; magic = f; version = g; legal = parts.0 } in
+    open_cases format b c o (leb-true (length b) (size_word b) parts.1) (cases_lt (length b) (size_word b)) d
 
 -- what the test finds is decided
-pub decided-some : (front : List ℕ) (c : ImageClass) → decided front ≡ Some c → DecidesClass current front c
+pub decided-some : (format : ℕ) (front : List ℕ) (c : ImageClass) → decided format front ≡ Some c → DecidesClass format front c
 unfolding decided
-decided-some front c e = some_cases front c (nat_lt (length front) 144) (has_magic front) (has_version current front) (has_size front) refl refl refl refl e
+decided-some format front c e = some_cases format front c (nat_lt (length front) 144) (has_magic front) (has_version format front) (has_size front) refl refl refl refl e
 
 -- where it finds nothing, no class is decided
-pub decided-none : (front : List ℕ) → decided front ≡ None → (c : ImageClass) → DecidesClass current front c → ⊥
+pub decided-none : (format : ℕ) (front : List ℕ) → decided format front ≡ None → (c : ImageClass) → DecidesClass format front c → ⊥
 unfolding decided
-decided-none front e c d = none_cases front 1073741824 c (nat_lt (length front) 144) (has_magic front) (has_version current front) (has_size front) (omega arith) refl refl refl refl e d
+decided-none format front e c d = none_cases format front 1073741824 c (nat_lt (length front) 144) (has_magic front) (has_version format front) (has_size front) (omega arith) refl refl refl refl e d
 
 -- the law
 pub all_decided : AllDecided
-all_decided front = record { some = decided-some front; none = decided-none front }
+all_decided format front = record { some = decided-some format front; none = decided-none format front }

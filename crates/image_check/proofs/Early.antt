@@ -3,13 +3,14 @@ use Rattle.std.proofs.Common.{◌≡◌, refl, ℕ, ◌<◌, ◌≤◌, Bool, tr
 use Rattle.std.specs.Prelude.{IsTrue, nat_lt, nat_le}
 use Rattle.std.proofs.lemmas.Bool.{and_from, and_left, and_right, or_from, or_left, or_right, le-leb, le-ltb, lt-ltb, lt-leb, eq-eqb, cases_Bool, not_from_true, not_from_false, cases_order, both_ways}
 use mathlib.Core.Logic.{◌⊎◌, inl, inr}
-use Rattle.block_tags.specs.Format.{current, is_legal_size}
+use Rattle.raw_region.specs.Format.{current}
+use Rattle.block_tags.specs.Format.{is_legal_size}
 use Rattle.segment_manager.specs.Directory.{Directory}
-use Rattle.segment_manager.specs.State.{StandsFor, IsSegment}
+use Rattle.segment_manager.specs.State.{StandsFor}
 use Rattle.image_check.specs.declared.classes.ImageClass.{ImageClass}
 use Rattle.image_check.specs.declared.classes.ImageClass.TheVariants.{Truncated, BadMagic, UnsupportedVersion, BadSize, BadReserved, BadTag, BadFreeTree, OrphanBlock}
 use Rattle.image_check.specs.Classes.{size_word, holds, number_of, has_magic, has_version, has_front, has_size, has_reserved, is_tiled}
-use Rattle.image_check.specs.Opening.{has_early_class, IsClassFor, not_come}
+use Rattle.image_check.specs.Opening.{IsImage, has_early_class, IsClassFor, not_come}
 use Rattle.image_check.specs.LandedImages.{has_frame, has_whole_size, has_null_tree, is_landed_image}
 use Rattle.image_check.proofs.Frame.{IsFrame, has_frame-IsFrame, IsFrame-has_frame, has_whole_size-HasWholeSize, is_legal_size-least}
 use Rattle.image_check.proofs.Landed.{is_landed_image-IsSaidLanded, landed_image-complete}
@@ -34,6 +35,7 @@ no_bad_size b f =
 
 -- class 7 does not hold
 no_bad_free_tree : (b : List ℕ) → IsFrame b → holds current b BadFreeTree ≡ false
+unfolding current
 no_bad_free_tree b f = and_right (is_tiled current b) (not (has_null_tree b)) (not_from_true (has_null_tree b) f.null_tree)
 
 -- seven tests that fail, one after another
@@ -43,7 +45,7 @@ seven p q r s t u v a b c d e f g =
     (or_from s (t || (u || (v || false))) d (or_from t (u || (v || false)) e (or_from u (v || false) f (or_from v false g refl))))))
 
 -- an image whose frame is right has no early class
-pub frame-no_early_class : (b : List ℕ) → IsTrue (has_frame b) → has_early_class b ≡ false
+pub frame-no_early_class : (b : List ℕ) → IsTrue (has_frame b) → has_early_class current b ≡ false
 frame-no_early_class b h =
     let f = has_frame-IsFrame b h in
     seven (holds current b Truncated) (holds current b BadMagic) (holds current b UnsupportedVersion) (holds current b BadSize) (holds current b BadReserved) (holds current b BadTag) (holds current b BadFreeTree)
@@ -51,21 +53,21 @@ frame-no_early_class b h =
     (not_from_true (has_reserved b) f.reserved) (not_from_true (is_tiled current b) f.tiled) (no_bad_free_tree b f)
 
 -- nor has an image that stands for a directory
-pub early_class-none : (b : List ℕ) (d : Directory) → StandsFor b d → has_early_class b ≡ false
+pub early_class-none : (b : List ℕ) (d : Directory) → StandsFor b d → has_early_class current b ≡ false
 early_class-none b d s = frame-no_early_class b (IsFrame-has_frame b (is_landed_image-IsSaidLanded b (landed_image-complete b d s)).frame)
 
 -- ---- each wrong part of a frame has its class
 
 -- fewer bytes than a header and an end tag
-pub short-Truncated : (b : List ℕ) → length b < 144 → IsTrue (holds current b Truncated)
-short-Truncated b l = or_left (nat_lt (length b) 144) (has_front current b && nat_lt (length b) (size_word b)) (lt-ltb (length b) 144 l)
+pub short-Truncated : (format : ℕ) (b : List ℕ) → length b < 144 → IsTrue (holds format b Truncated)
+short-Truncated format b l = or_left (nat_lt (length b) 144) (has_front format b && nat_lt (length b) (size_word b)) (lt-ltb (length b) 144 l)
 
 -- a right magic, version and legal size, and fewer bytes than the size says
-pub cut-Truncated : (b : List ℕ) → IsTrue (has_magic b) → IsTrue (has_version current b) → IsTrue (is_legal_size (size_word b)) → length b < size_word b → IsTrue (holds current b Truncated)
-cut-Truncated b m v s l =
-    or_right (nat_lt (length b) 144) (has_front current b && nat_lt (length b) (size_word b))
-    (and_from (has_front current b) (nat_lt (length b) (size_word b))
-    (and_from (has_magic b && has_version current b) (is_legal_size (size_word b)) (and_from (has_magic b) (has_version current b) m v) s)
+pub cut-Truncated : (format : ℕ) (b : List ℕ) → IsTrue (has_magic b) → IsTrue (has_version format b) → IsTrue (is_legal_size (size_word b)) → length b < size_word b → IsTrue (holds format b Truncated)
+cut-Truncated format b m v s l =
+    or_right (nat_lt (length b) 144) (has_front format b && nat_lt (length b) (size_word b))
+    (and_from (has_front format b) (nat_lt (length b) (size_word b))
+    (and_from (has_magic b && has_version format b) (is_legal_size (size_word b)) (and_from (has_magic b) (has_version format b) m v) s)
     (lt-ltb (length b) (size_word b) l))
 
 -- another magic
@@ -94,6 +96,7 @@ tags-BadTag b e = not_from_false (is_tiled current b) e
 
 -- a word 24 that is not the null link, where the tags are whole
 pub null_tree-BadFreeTree : (b : List ℕ) → IsTrue (is_tiled current b) → has_null_tree b ≡ false → IsTrue (holds current b BadFreeTree)
+unfolding current
 null_tree-BadFreeTree b t e = and_from (is_tiled current b) (not (has_null_tree b)) t (not_from_false (has_null_tree b) e)
 
 -- ---- a wrong size
@@ -108,7 +111,7 @@ size_order : (b : List ℕ) → IsTrue (has_magic b) → IsTrue (has_version cur
     → (size_word b ≡ length b) ⊎ ((size_word b < length b) ⊎ (length b < size_word b)) → IsSizeClass b
 size_order b m v s n (inl e) = absurd (n e)
 size_order b m v s n (inr (inl l)) = bad_size (long-BadSize b l)
-size_order b m v s n (inr (inr l)) = truncated (cut-Truncated b m v s l)
+size_order b m v s n (inr (inr l)) = truncated (cut-Truncated current b m v s l)
 
 -- a size is no segment's, or is not the length
 size_parts : (b : List ℕ) → IsTrue (has_magic b) → IsTrue (has_version current b)
@@ -125,13 +128,13 @@ whole_size-IsSizeClass b m v h = size_parts b m v (cases_Bool (is_legal_size (si
 -- ---- a right frame, and no image of a directory that has come so far
 
 -- bytes that fail the test stand for no directory that has come so far
-no_segment : (b : List ℕ) → is_landed_image b ≡ false → IsSegment b → ⊥
-no_segment b e s = both_ways (is_landed_image b) e (landed_image-complete b s.0 s.1)
+no_image : (b : List ℕ) → is_landed_image b ≡ false → IsImage current b → ⊥
+no_image b e s = both_ways (is_landed_image b) e (landed_image-complete b s.0 (record { denotes = s.1.denotes; landed = s.1.landed }))
 
 -- bytes whose frame is right and that do not pass the test may be refused as an orphan, or by any class from the eighth on
-pub frame-late_class : (b : List ℕ) (c : ImageClass) → 8 ≤ number_of c → IsTrue (has_frame b) → is_landed_image b ≡ false → IsClassFor b c
-frame-late_class b c l h e = not_come (frame-no_early_class b h) l (no_segment b e)
+pub frame-late_class : (b : List ℕ) (c : ImageClass) → 8 ≤ number_of c → IsTrue (has_frame b) → is_landed_image b ≡ false → IsClassFor current b c
+frame-late_class b c l h e = not_come (frame-no_early_class b h) l (no_image b e)
 
 -- so the last class serves for all of them
-pub frame-OrphanBlock : (b : List ℕ) → IsTrue (has_frame b) → is_landed_image b ≡ false → IsClassFor b OrphanBlock
+pub frame-OrphanBlock : (b : List ℕ) → IsTrue (has_frame b) → is_landed_image b ≡ false → IsClassFor current b OrphanBlock
 frame-OrphanBlock b h e = frame-late_class b OrphanBlock (omega arith) h e

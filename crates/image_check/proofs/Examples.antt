@@ -2,7 +2,7 @@
 use Rattle.std.proofs.Common.{◌≡◌, refl, ℕ, negsuc, List, [], ◌∷◌, ◌++◌, true, false}
 use Rattle.std.specs.Prelude.{flat_map, Some, None}
 use Rattle.raw_region.specs.Memory.{word_bytes, word_at, half_word_at, zeros}
-use Rattle.block_tags.specs.Format.{current}
+use Rattle.raw_region.specs.Format.{current}
 use Rattle.best_fit.specs.Heap.{live_of}
 use Rattle.best_fit.specs.Table.{no_table}
 use Rattle.block_tags.specs.declared.tile.Role.TheVariants.{Object as ObjectRole}
@@ -23,7 +23,7 @@ fresh = words (4993446653039301453 ∷ 0 ∷ 176 ∷ 1 ∷ 1 ∷ 0 ∷ 0 ∷ 1 �
 
 -- it passes
 fresh_is : is_landed_image fresh ≡ true
-unfolding is_landed_image has_frame word_at word_bytes half_word_at zeros
+unfolding is_landed_image has_frame word_at word_bytes half_word_at zeros current
 fresh_is = refl
 
 -- the number -2 in 48 bytes, and a free tile behind it
@@ -32,12 +32,12 @@ one = words (4993446653039301453 ∷ 0 ∷ 224 ∷ 1 ∷ 1 ∷ 0 ∷ 0 ∷ 1 ∷
 
 -- it passes
 one_is : is_landed_image one ≡ true
-unfolding is_landed_image has_frame word_at word_bytes half_word_at zeros
+unfolding is_landed_image has_frame word_at word_bytes half_word_at zeros current
 one_is = refl
 
 -- and has no class
 one_accepted : class_of current one ≡ None
-unfolding word_at word_bytes half_word_at zeros
+unfolding word_at word_bytes half_word_at zeros current
 one_accepted = refl
 
 -- and says an anonymous object with -2
@@ -51,12 +51,12 @@ other = words (4993446653039301453 ∷ 0 ∷ 224 ∷ 1 ∷ 1 ∷ 0 ∷ 0 ∷ 1 �
 
 -- it does not pass
 other_is : is_landed_image other ≡ false
-unfolding is_landed_image has_frame word_at word_bytes half_word_at zeros
+unfolding is_landed_image has_frame word_at word_bytes half_word_at zeros current
 other_is = refl
 
 -- though its frame is right
 other_frame : has_frame other ≡ true
-unfolding has_frame word_at word_bytes half_word_at zeros
+unfolding has_frame word_at word_bytes half_word_at zeros current
 other_frame = refl
 
 -- a number behind its right kind, with a count of 0: the test and the ninth class say so
@@ -65,5 +65,5 @@ wrong = words (4993446653039301453 ∷ 0 ∷ 224 ∷ 1 ∷ 1 ∷ 0 ∷ 0 ∷ 1 �
 
 -- it is no object
 wrong_class : class_of current wrong ≡ Some BadObject
-unfolding word_at word_bytes half_word_at zeros
+unfolding word_at word_bytes half_word_at zeros current
 wrong_class = refl

@@ -9,24 +9,25 @@ use Rattle.raw_region.specs.Device.{given_since}
 use Rattle.raw_region.specs.Memory.{Cut, part, patched, whole}
 use Rattle.raw_region.specs.Regions.{with_bytes}
 use Rattle.raw_region.proofs.Patches.{refill-all}
-use Rattle.block_tags.specs.Format.{current, is_legal_size}
+use Rattle.block_tags.specs.Format.{is_legal_size}
 use Rattle.image_check.specs.declared.errors.OpenError.{OpenError}
 use Rattle.image_check.specs.Classes.{size_word, has_magic, has_version}
-use Rattle.image_check.specs.Reading.{faults_of, faults_in, IsShort, GoesOn, HasFront, Stops}
+use Rattle.image_check.specs.Opening.{failed_reads}
+use Rattle.image_check.specs.Reading.{IsShort, GoesOn, HasFront, Stops}
 use Rattle.image_check.proofs.Frame.{is_legal_size-least}
 use Rattle.image_check.proofs.Fronts.{IsRight, has_front-IsRight, IsRight-take, IsRight-append}
-use Rattle.image_check.proofs.Stopping.{rest_stops, whole_stops, both_added}
+use Rattle.image_check.proofs.Stopping.{rise, rest_stops, whole_stops, both_added}
 
 -- the first words of a window, and how long it is
-pub HasFront-IsRight : (w : Cut) → HasFront w → IsRight w.bytes (length w.bytes)
-HasFront-IsRight w h =
-    let legal = (and_parts (has_magic w.bytes && has_version current w.bytes) (is_legal_size (size_word w.bytes)) h.right).1 in
+pub HasFront-IsRight : (format : ℕ) (w : Cut) → HasFront format w → IsRight format w.bytes (length w.bytes)
+HasFront-IsRight format w h =
+    let legal = (and_parts (has_magic w.bytes && has_version format w.bytes) (is_legal_size (size_word w.bytes)) h.right).1 in
     let least = is_legal_size-least (size_word w.bytes) legal in
     let says = h.says in
-    has_front-IsRight w.bytes (length w.bytes) (omega arith) h.right says
+    has_front-IsRight format w.bytes (length w.bytes) (omega arith) h.right says
 
-pub HasFront-least : (w : Cut) → HasFront w → 144 ≤ length w.bytes
-HasFront-least w h = is_legal_size-least (length w.bytes) (HasFront-IsRight w h).legal
+pub HasFront-least : (format : ℕ) (w : Cut) → HasFront format w → 144 ≤ length w.bytes
+HasFront-least format w h = is_legal_size-least (length w.bytes) (HasFront-IsRight format w h).legal
 
 -- as many bytes as were lent make up the rest
 pub rest-filled : (b ws : List ℕ) (n : ℕ) → 24 ≤ length b → n ≡ length b → length ws ≡ n - 24 → patched b 24 (refill (n - 24) (part b 24 (n - 24)) ws) ≡ take 24 b ++ ws
@@ -55,21 +56,21 @@ whole-room w =
     omega arith
 
 -- too few bytes came
-pub filled_short : (w : Cut) (start mid new ws : List ℕ) (n : ℕ) (ended : Bool) (f f' : ℕ) (cause : OpenError) → HasFront w → n ≡ length w.bytes → length ws ≡ n - 24 → mid ≡ start ++ take 24 w.bytes
-    → AddsFront mid new ws → IsShort ended cause → f' ≡ f + faults_of cause → Stops (given_since start new ended f f') (length w.before) (length (whole w)) cause
-filled_short w start mid new ws n ended f f' cause h e l s a i g =
-    let least = HasFront-least w h in
+pub filled_short : (format : ℕ) (w : Cut) (start mid new ws : List ℕ) (n : ℕ) (ended : Bool) (f f' : ℕ) (cause : OpenError) → HasFront format w → n ≡ length w.bytes → length ws ≡ n - 24 → mid ≡ start ++ take 24 w.bytes
+    → AddsFront mid new ws → IsShort ended cause → f' ≡ f + rise cause → Stops format (given_since start new ended f f') (length w.before) (length (whole w)) cause
+filled_short format w start mid new ws n ended f f' cause h e l s a i g =
+    let least = HasFront-least format w h in
     let cut = length-take 24 w.bytes in
-    rest_stops start mid new (take 24 w.bytes) ws (length w.bytes) ended f f' (length w.before) (length (whole w)) cause (IsRight-take w.bytes (length w.bytes) (HasFront-IsRight w h)) (omega arith)
+    rest_stops format start mid new (take 24 w.bytes) ws (length w.bytes) ended f f' (length w.before) (length (whole w)) cause (IsRight-take format w.bytes (length w.bytes) (HasFront-IsRight format w h)) (omega arith)
     (whole-room w) s a i g
 
 -- all came, and the reader does not end
-pub filled_whole : (w : Cut) (old mid new ws : List ℕ) (n : ℕ) (ended : Bool) (f g f' : ℕ) (r : Result (Unit {0}) OpenError) → HasFront w → n ≡ length w.bytes → length ws ≡ n - 24 → mid ≡ old ++ ws → g ≡ f + 0
-    → IfErr r (GoesOn mid new) → f' ≡ g + faults_in r
-    → IfErr r (λ cause. (start : List ℕ) → old ≡ start ++ take 24 w.bytes → Stops (given_since start new ended f f') (length w.before) (length (whole w)) cause)
-filled_whole w old mid new ws n ended f g f' (Ok u) h e l s k a c = tt
-filled_whole w old mid new ws n ended f g f' (Err cause) h e l s k a c = λ start t.
-    let least = HasFront-least w h in
-    whole_stops start mid new (take 24 w.bytes ++ ws) (length w.bytes) ended f f' (length w.before) (length (whole w)) cause
-    (IsRight-append (take 24 w.bytes) ws (length w.bytes) (IsRight-take w.bytes (length w.bytes) (HasFront-IsRight w h)))
+pub filled_whole : (format : ℕ) (w : Cut) (old mid new ws : List ℕ) (n : ℕ) (ended : Bool) (f g f' : ℕ) (r : Result (Unit {0}) OpenError) → HasFront format w → n ≡ length w.bytes → length ws ≡ n - 24 → mid ≡ old ++ ws → g ≡ f + 0
+    → IfErr r (GoesOn mid new) → f' ≡ g + failed_reads r
+    → IfErr r (λ cause. (start : List ℕ) → old ≡ start ++ take 24 w.bytes → Stops format (given_since start new ended f f') (length w.before) (length (whole w)) cause)
+filled_whole format w old mid new ws n ended f g f' (Ok u) h e l s k a c = tt
+filled_whole format w old mid new ws n ended f g f' (Err cause) h e l s k a c = λ start t.
+    let least = HasFront-least format w h in
+    whole_stops format start mid new (take 24 w.bytes ++ ws) (length w.bytes) ended f f' (length w.before) (length (whole w)) cause
+    (IsRight-append format (take 24 w.bytes) ws (length w.bytes) (IsRight-take format w.bytes (length w.bytes) (HasFront-IsRight format w h)))
     (front-length w.bytes ws n (omega arith) e l) (whole-room w) (both_added start old mid (take 24 w.bytes) ws t s) a (omega arith)

@@ -5,7 +5,8 @@ use Rattle.std.proofs.lemmas.Bool.{and_parts, and_from, eq-eqb, eqb-true, leb-tr
 use Rattle.std.proofs.lemmas.List.Folds.{list_all-append}
 use mathlib.Core.Logic.{◌⊎◌, inl, inr}
 use Rattle.raw_region.specs.Memory.{Memory, bytes_of, read, word_at, half_word_at, AreZero}
-use Rattle.block_tags.specs.Format.{current, is_legal_size}
+use Rattle.raw_region.specs.Format.{current}
+use Rattle.block_tags.specs.Format.{is_legal_size}
 use Rattle.block_tags.specs.Tiles.{has_tags}
 use Rattle.segment_manager.specs.Denotes.{IsHeader, magic_number}
 use Rattle.image_check.specs.Classes.{size_word, has_magic, has_version, has_reserved, is_tiled, is_zero}
@@ -108,6 +109,7 @@ zero_rest m at e = AreZero-within m at (at + 8) (at + 4) (at + 8) (omega arith) 
 
 -- a frame has the header of its length
 pub IsFrame-IsHeader : (b : List ℕ) → IsFrame b → IsHeader current (bytes_of b) (length b)
+unfolding current
 IsFrame-IsHeader b f =
     let rows = two_rows (bytes_of b) 12 4 80 48 f.reserved in
     record {
@@ -124,6 +126,7 @@ IsFrame-has_tags b f = subst (λ n. IsTrue (has_tags current (bytes_of b) n)) (h
 -- a header of the length, a legal size, whole tags and a null link are a frame
 pub IsHeader-IsFrame : (b : List ℕ) → IsHeader current (bytes_of b) (length b) → IsTrue (is_legal_size (length b)) → IsTrue (has_tags current (bytes_of b) (length b))
     → word_at (bytes_of b) 24 ≡ 1 → IsFrame b
+unfolding current
 IsHeader-IsFrame b h legal tags null = record {
   magic = eq-eqb (word_at (bytes_of b) 0) magic_number h.magic;
   version = eq-eqb (half_word_at (bytes_of b) 8) 0 (zero_front (bytes_of b) 8 h.version);

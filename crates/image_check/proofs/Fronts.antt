@@ -7,7 +7,7 @@ use Rattle.std.proofs.lemmas.List.Folds.{list_all-append}
 use Rattle.byteorder.specs.Endian.{little_number}
 use Rattle.raw_region.specs.Memory.{bytes_of, part, read, word_at, half_word_at}
 use Rattle.raw_region.proofs.Patches.{read-part}
-use Rattle.block_tags.specs.Format.{current, is_legal_size}
+use Rattle.block_tags.specs.Format.{is_legal_size}
 use Rattle.segment_manager.specs.Denotes.{magic_number}
 use Rattle.image_check.specs.declared.classes.ImageClass.{ImageClass}
 use Rattle.image_check.specs.declared.classes.ImageClass.TheVariants.{BadMagic, UnsupportedVersion, BadSize}
@@ -43,27 +43,27 @@ version-is : (b : List ℕ) (m v n : ℕ) → IsReadOf b m v n → v ≡ half_wo
 version-is b m v n r = let long = r.long in r.version_is ∙ half_word-part b 8 (omega arith)
 
 -- another version
-pub front-version : (b : List ℕ) (m v : ℕ) → 24 ≤ length b → m ≡ word_at (bytes_of b) 0 → v ≡ little_number 4 (part b 8 4) → m ≡ magic_number → (v ≡ 0 → ⊥)
-    → Err UnsupportedVersion ≡ front_of b
-front-version b m v long p q e d =
+pub front-version : (format : ℕ) (b : List ℕ) (m v : ℕ) → 24 ≤ length b → m ≡ word_at (bytes_of b) 0 → v ≡ little_number 4 (part b 8 4) → m ≡ magic_number → (v ≡ format → ⊥)
+    → Err UnsupportedVersion ≡ front_of format b
+front-version format b m v long p q e d =
     let r : IsReadOf b m v (word_at (bytes_of b) 16) = record { long = long; magic_is = p; version_is = q; size_is = refl } in
-    let f : has_version current b ≡ false = ne_eqb (half_word_at (bytes_of b) 8) current (λ h. d (version-is b m v (word_at (bytes_of b) 16) r ∙ h)) in
+    let f : has_version format b ≡ false = ne_eqb (half_word_at (bytes_of b) 8) format (λ h. d (version-is b m v (word_at (bytes_of b) 16) r ∙ h)) in
     let g = magic-true b m v (word_at (bytes_of b) 16) r e in
     sym (λ i. front_by (g i) (f i) (is_legal_size (size_word b)) (size_word b))
 
 -- a size that no segment has
-pub front-size : (b : List ℕ) (m v n : ℕ) → IsReadOf b m v n → m ≡ magic_number → v ≡ 0 → is_legal_size n ≡ false → Err BadSize ≡ front_of b
-front-size b m v n r e d l =
-    let f : has_version current b ≡ true = eq-eqb (half_word_at (bytes_of b) 8) current (sym (version-is b m v n r) ∙ d) in
+pub front-size : (format : ℕ) (b : List ℕ) (m v n : ℕ) → IsReadOf b m v n → m ≡ magic_number → v ≡ format → is_legal_size n ≡ false → Err BadSize ≡ front_of format b
+front-size format b m v n r e d l =
+    let f : has_version format b ≡ true = eq-eqb (half_word_at (bytes_of b) 8) format (sym (version-is b m v n r) ∙ d) in
     let g = magic-true b m v n r e in
     let h : is_legal_size (size_word b) ≡ false = sym (ap is_legal_size r.size_is) ∙ l in
     sym (λ i. front_by (g i) (f i) (h i) (size_word b))
 
 -- all right
-pub front-right : (b : List ℕ) (m v n : ℕ) → IsReadOf b m v n → m ≡ magic_number → v ≡ 0 → is_legal_size n ≡ true → Ok n ≡ front_of b
-front-right b m v n r e d l =
+pub front-right : (format : ℕ) (b : List ℕ) (m v n : ℕ) → IsReadOf b m v n → m ≡ magic_number → v ≡ format → is_legal_size n ≡ true → Ok n ≡ front_of format b
+front-right format b m v n r e d l =
     let size = sym r.size_is in
-    let f : has_version current b ≡ true = eq-eqb (half_word_at (bytes_of b) 8) current (sym (version-is b m v n r) ∙ d) in
+    let f : has_version format b ≡ true = eq-eqb (half_word_at (bytes_of b) 8) format (sym (version-is b m v n r) ∙ d) in
     let g = magic-true b m v n r e in
     let h : is_legal_size (size_word b) ≡ true = sym (ap is_legal_size r.size_is) ∙ l in
     sym (λ i. front_by (g i) (f i) (h i) (size i))
@@ -71,10 +71,10 @@ front-right b m v n r e d l =
 -- ---- what follows it
 
 -- bytes that follow change nothing of what the front says
-pub front_of-append : (b rest : List ℕ) → 24 ≤ length b → front_of (b ++ rest) ≡ front_of b
-front_of-append b rest l =
+pub front_of-append : (format : ℕ) (b rest : List ℕ) → 24 ≤ length b → front_of format (b ++ rest) ≡ front_of format b
+front_of-append format b rest l =
     let m = has_magic-front b rest l in
-    let v = has_version-front b rest l in
+    let v = has_version-front format b rest l in
     let s = size_word-front b rest l in
     λ i. front_by (m i) (v i) (is_legal_size (s i)) (s i)
 
@@ -85,8 +85,8 @@ wrong_by true true false n c e = refl
 wrong_by true false l n c e = refl
 wrong_by false v l n c e = refl
 
-pub front-wrong : (b : List ℕ) (c : ImageClass) → front_of b ≡ Err c → has_front current b ≡ false
-front-wrong b c e = wrong_by (has_magic b) (has_version current b) (is_legal_size (size_word b)) (size_word b) c e
+pub front-wrong : (format : ℕ) (b : List ℕ) (c : ImageClass) → front_of format b ≡ Err c → has_front format b ≡ false
+front-wrong format b c e = wrong_by (has_magic b) (has_version format b) (is_legal_size (size_word b)) (size_word b) c e
 
 -- what is wrong with it is the class that it decides
 decided_wrong : (m v l s : Bool) (n : ℕ) (c : ImageClass) → (l ≡ false → s ≡ false) → front_by m v l n ≡ Err c → decided_by false m v s ≡ Some c
@@ -95,47 +95,47 @@ decided_wrong true true false s n c f e = let same : BadSize ≡ c = cc in ap (d
 decided_wrong true false l s n c f e = let same : UnsupportedVersion ≡ c = cc in ap Some same
 decided_wrong false v l s n c f e = let same : BadMagic ≡ c = cc in ap Some same
 
-pub front-decided : (b : List ℕ) (c : ImageClass) → 144 ≤ length b → front_of b ≡ Err c → decided b ≡ Some c
+pub front-decided : (format : ℕ) (b : List ℕ) (c : ImageClass) → 144 ≤ length b → front_of format b ≡ Err c → decided format b ≡ Some c
 unfolding decided
-front-decided b c l e =
-    ap (λ s. decided_by s (has_magic b) (has_version current b) (has_size b)) (le-ltb (length b) 144 l)
-    ∙ decided_wrong (has_magic b) (has_version current b) (is_legal_size (size_word b)) (has_size b) (size_word b) c (and_left (is_legal_size (size_word b)) (nat_le (length b) (size_word b))) e
+front-decided format b c l e =
+    ap (λ s. decided_by s (has_magic b) (has_version format b) (has_size b)) (le-ltb (length b) 144 l)
+    ∙ decided_wrong (has_magic b) (has_version format b) (is_legal_size (size_word b)) (has_size b) (size_word b) c (and_left (is_legal_size (size_word b)) (nat_le (length b) (size_word b))) e
 
 -- ---- a right front
 
 -- magic, version and a legal size stand in front
-pub record IsRight (b : List ℕ) (size : ℕ) : Type 0 where
+pub record IsRight (format : ℕ) (b : List ℕ) (size : ℕ) : Type 0 where
   pub long : 24 ≤ length b
   pub magic : has_magic b ≡ true
-  pub version : has_version current b ≡ true
+  pub version : has_version format b ≡ true
   pub legal : is_legal_size size ≡ true
   pub says : size_word b ≡ size
 
-pub has_front-IsRight : (b : List ℕ) (size : ℕ) → 24 ≤ length b → IsTrue (has_front current b) → size_word b ≡ size → IsRight b size
-has_front-IsRight b size l h e =
-    let two = and_parts (has_magic b && has_version current b) (is_legal_size (size_word b)) h in
-    let one = and_parts (has_magic b) (has_version current b) two.0 in
+pub has_front-IsRight : (format : ℕ) (b : List ℕ) (size : ℕ) → 24 ≤ length b → IsTrue (has_front format b) → size_word b ≡ size → IsRight format b size
+has_front-IsRight format b size l h e =
+    let two = and_parts (has_magic b && has_version format b) (is_legal_size (size_word b)) h in
+    let one = and_parts (has_magic b) (has_version format b) two.0 in
     record { long = l; magic = one.0; version = one.1; legal = sym (ap is_legal_size e) ∙ two.1; says = e }
 
-pub IsRight-has_front : (b : List ℕ) (size : ℕ) → IsRight b size → IsTrue (has_front current b)
-IsRight-has_front b size r =
-    and_from (has_magic b && has_version current b) (is_legal_size (size_word b)) (and_from (has_magic b) (has_version current b) r.magic r.version) (ap is_legal_size r.says ∙ r.legal)
+pub IsRight-has_front : (format : ℕ) (b : List ℕ) (size : ℕ) → IsRight format b size → IsTrue (has_front format b)
+IsRight-has_front format b size r =
+    and_from (has_magic b && has_version format b) (is_legal_size (size_word b)) (and_from (has_magic b) (has_version format b) r.magic r.version) (ap is_legal_size r.says ∙ r.legal)
 
-pub IsRight-append : (b rest : List ℕ) (size : ℕ) → IsRight b size → IsRight (b ++ rest) size
-IsRight-append b rest size r =
+pub IsRight-append : (format : ℕ) (b rest : List ℕ) (size : ℕ) → IsRight format b size → IsRight format (b ++ rest) size
+IsRight-append format b rest size r =
     let long = r.long in
     let more = length-append b rest in
     record {
       long = omega arith;
       magic = has_magic-front b rest r.long ∙ r.magic;
-      version = has_version-front b rest r.long ∙ r.version;
+      version = has_version-front format b rest r.long ∙ r.version;
       legal = r.legal;
       says = size_word-front b rest r.long ∙ r.says;
     }
 
 -- the first 24 bytes tell
-pub IsRight-take : (b : List ℕ) (size : ℕ) → IsRight b size → IsRight (take 24 b) size
-IsRight-take b size r =
+pub IsRight-take : (format : ℕ) (b : List ℕ) (size : ℕ) → IsRight format b size → IsRight format (take 24 b) size
+IsRight-take format b size r =
     let long = r.long in
     let cut = length-take 24 b in
     let some : 24 ≤ length (take 24 b) = omega arith in
@@ -143,7 +143,7 @@ IsRight-take b size r =
     record {
       long = some;
       magic = sym (ap has_magic both ∙ has_magic-front (take 24 b) (drop 24 b) some) ∙ r.magic;
-      version = sym (ap (has_version current) both ∙ has_version-front (take 24 b) (drop 24 b) some) ∙ r.version;
+      version = sym (ap (has_version format) both ∙ has_version-front format (take 24 b) (drop 24 b) some) ∙ r.version;
       legal = r.legal;
       says = sym (ap size_word both ∙ size_word-front (take 24 b) (drop 24 b) some) ∙ r.says;
     }

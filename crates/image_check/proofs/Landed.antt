@@ -5,8 +5,9 @@ use Rattle.std.specs.List.{AllByRecursion, list_all}
 use Rattle.std.proofs.lemmas.Bool.{and_parts, and_from, eq-eqb, eqb-true, ne_eqb, cond-true, cond-false, cases_eq}
 use mathlib.Core.Logic.{◌⊎◌, inl, inr}
 use Rattle.raw_region.specs.Memory.{Memory, bytes_of, word_at}
+use Rattle.raw_region.specs.Format.{current}
 use Rattle.offset_link.specs.Link.{target_of}
-use Rattle.block_tags.specs.Format.{current, is_legal_size}
+use Rattle.block_tags.specs.Format.{is_legal_size}
 use Rattle.block_tags.specs.Tiles.{tiles_of}
 use Rattle.best_fit.specs.Extents.{Extent, LiveSet, spans_from, proper_from, is_proper}
 use Rattle.best_fit.specs.FreeTree.{span}
@@ -134,6 +135,7 @@ frame-legal b f = let s = has_whole_size-HasWholeSize b f.size in subst (λ n. I
 
 -- the bytes lay them out
 live_in-LaysOut : (b : List ℕ) (xs : List Extent) → IsFrame b → AreBlocksOf b xs → LaysOut current b (live_in b xs)
+unfolding current
 live_in-LaysOut b xs f a = record {
   size = refl;
   proper = live_in-proper b xs (frame-legal b f) a.proper;
@@ -143,6 +145,7 @@ live_in-LaysOut b xs f a = record {
 
 -- it is a directory
 directory_of-IsDirectory : (b : List ℕ) (xs : List Extent) → AreSmall (bytes_of b) → IsFrame b → AreBlocksOf b xs → IsDirectory current (directory_of b xs)
+unfolding current
 directory_of-IsDirectory b xs s f a = record {
   proper = subst (λ l. IsTrue (is_proper l)) (sym (directory_of-live b xs a.rising)) (live_in-proper b xs (frame-legal b f) a.proper);
   objects = landed_objects-are_objects (bytes_of b) xs s a.landed;
@@ -160,11 +163,11 @@ directory_of-Denotes b xs s t a = record {
   named =
       let i = has_no_place-HasNoPlace (bytes_of b) 32 t.named in
       let none : named_objects (directory_of b xs) ≡ [] = named_objects-none (directory_of b xs) (directory_of-IsLanded b xs) in
-      record { link = null_link 32 (word_at (bytes_of b) 32) i.link; count = i.count ∙ sym (ap (λ os. length (handles os)) none); capacity = i.capacity; entries = tt };
+      record { link = null_link 32 (word_at (bytes_of b) 32) i.link; count = i.count ∙ sym (ap (λ os. length (handles os)) none); capacity = i.capacity; entries = ap handles none };
   unique =
       let i = has_no_place-HasNoPlace (bytes_of b) 56 t.unique in
       let none : unique_objects (directory_of b xs) ≡ [] = unique_objects-none (directory_of b xs) (directory_of-IsLanded b xs) in
-      record { link = null_link 56 (word_at (bytes_of b) 56) i.link; count = i.count ∙ sym (ap (λ os. length (handles os)) none); capacity = i.capacity; entries = tt };
+      record { link = null_link 56 (word_at (bytes_of b) 56) i.link; count = i.count ∙ sym (ap (λ os. length (handles os)) none); capacity = i.capacity; entries = ap handles none };
   objects = landed_objects-stand (bytes_of b) xs s a.landed;
 }
 
@@ -217,6 +220,7 @@ proper-legal l h = (and_parts (is_legal_size l.size) (proper_from 128 l.extents 
 
 -- their frame is right
 StandsFor-IsFrame : (b : List ℕ) (d : Directory) → StandsFor b d → IsSaid b d → IsFrame b
+unfolding current
 StandsFor-IsFrame b d s t =
     IsHeader-IsFrame b (subst (IsHeader current (bytes_of b)) t.size s.denotes.header) (proper-legal (live_in b (map extent_of d.objects)) t.heap.proper) t.heap.tiles.tags t.heap.free
 
@@ -242,6 +246,7 @@ unique-no_place b d s = record {
 
 -- bytes that stand for a directory that has come so far pass the test
 pub landed_image-complete : (b : List ℕ) (d : Directory) → StandsFor b d → IsTrue (is_landed_image b)
+unfolding current
 landed_image-complete b d s =
     let t = StandsFor-IsSaid b d s in
     let blocks = numbers-blocks (bytes_of b) d.objects (are_landed-AreNumbers d.objects s.landed.objects) s.denotes.directory.objects s.denotes.objects in
@@ -254,6 +259,7 @@ landed_image-complete b d s =
 
 -- and that directory is the one that is read off them
 pub landed_image-one : (b : List ℕ) (d : Directory) → StandsFor b d → d ≡ landed_directory b
+unfolding current
 landed_image-one b d s =
     let t = StandsFor-IsSaid b d s in
     let said = numbers-said (bytes_of b) d.objects (are_landed-AreNumbers d.objects s.landed.objects) s.denotes.directory.objects s.denotes.objects in

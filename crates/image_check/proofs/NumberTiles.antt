@@ -1,12 +1,12 @@
 -- Tiles that are free or hold one number: which words an object begins with, and that nothing leads to another block.
-use Rattle.std.proofs.Common.{◌≡◌, refl, ap, ◌∙◌, ℕ, zero, suc, ◌+◌, ◌*◌, ◌<◌, ◌≤◌, Bool, false, List, [], ◌∷◌, map, arith}
+use Rattle.std.proofs.Common.{◌≡◌, refl, ap, ℕ, zero, suc, ◌≤◌, Bool, false, List, [], ◌∷◌, map, arith}
 use Rattle.std.specs.Prelude.{IsTrue, Option, Some, None, filter_map, flat_map, option_map, if◌then◌else◌}
 use Rattle.std.specs.List.{AllByRecursion, list_all, list_any, cons_option}
 use Rattle.std.proofs.lemmas.Bool.{and_parts, or_from, leb-true, cond_both, false≢true}
-use Rattle.raw_region.specs.Memory.{Memory, word_at, half_word_at}
+use Rattle.raw_region.specs.Memory.{Memory}
+use Rattle.raw_region.specs.Format.{current}
 use Rattle.block_tags.specs.declared.tile.Role.{Role}
 use Rattle.block_tags.specs.declared.tile.Role.TheVariants.{Object as ObjectRole}
-use Rattle.block_tags.specs.Format.{current}
 use Rattle.block_tags.specs.declared.tile.Tile.{Tile}
 use Rattle.best_fit.specs.Extents.{Extent}
 use Rattle.seg_types.specs.declared.kinds.ScalarKind.TheVariants.{I64}
@@ -16,26 +16,18 @@ use Rattle.seg_types.specs.Kinds.{kind_of_code, is_kind_of}
 use Rattle.image_check.specs.Classes.{is_use, payload, object_tiles, kind_at, value_offset, values, needs_owner, storage_field, element_fields, root_link, node_fields, is_container}
 use Rattle.image_check.specs.LandedImages.{is_landed_tile}
 use Rattle.image_check.proofs.Bytes.{AreSmall}
-use Rattle.image_check.proofs.Words.{half_word_at-low, half_word_at-high}
 use Rattle.image_check.proofs.Objects.{is_landed_block-IsLandedBlock}
+use Rattle.seg_index.specs.Keys.{code_at, count_at, name_len_at, class_at}
 
 -- ---- the words that an object with one number begins with
-
--- the lower half of a word that is made of two
-low_half : (m : Memory) (at low high : ℕ) → AreSmall m → low < 4294967296 → word_at m at ≡ low + 4294967296 * high → half_word_at m at ≡ low
-low_half m at low high s l e = let h = half_word_at-low m at s in omega arith
-
--- and the upper one
-high_half : (m : Memory) (at low high : ℕ) → AreSmall m → low < 4294967296 → word_at m at ≡ low + 4294967296 * high → half_word_at m (at + 4) ≡ high
-high_half m at low high s l e = let h = half_word_at-high m at s in omega arith
 
 -- kind `i64`, count 1, no name and no index, and room for the number
 pub record IsNumberTile (m : Memory) (t : Tile) : Type 0 where
   pub long : 40 ≤ t.len
-  pub kind : half_word_at m (payload t) ≡ 4
-  pub count : half_word_at m (payload t + 4) ≡ 1
-  pub name_len : half_word_at m (payload t + 8) ≡ 0
-  pub class : half_word_at m (payload t + 12) ≡ 0
+  pub kind : code_at m (payload t) ≡ 4
+  pub count : count_at m (payload t) ≡ 1
+  pub name_len : name_len_at m (payload t) ≡ 0
+  pub class : class_at m (payload t) ≡ 0
 
 -- a tile by its parts
 abbrev tile : ℕ → ℕ → Option Role → Bool → Tile
@@ -48,13 +40,14 @@ number_tile m offset len None red s h u = absurd (false≢true u)
 number_tile m offset len (Some ObjectRole) red s h u =
     let x : Extent = record { offset = offset; len = len; role = ObjectRole } in
     let b = is_landed_block-IsLandedBlock m x h in
-    let behind : offset + 16 + 12 ≡ offset + 16 + 8 + 4 = omega arith in
+    let front = b.kind_count in
+    let behind = b.name_class in
     record {
       long = leb-true 40 len b.serves;
-      kind = low_half m (offset + 16) 4 1 s (omega arith) b.kind_count;
-      count = high_half m (offset + 16) 4 1 s (omega arith) b.kind_count;
-      name_len = low_half m (offset + 16 + 8) 0 0 s (omega arith) b.name_class;
-      class = ap (half_word_at m) behind ∙ high_half m (offset + 16 + 8) 0 0 s (omega arith) b.name_class;
+      kind = omega arith;
+      count = omega arith;
+      name_len = omega arith;
+      class = omega arith;
     }
 number_tile m offset len (Some role) red s h u = absurd (false≢true u)
 

@@ -14,11 +14,11 @@ use Rattle.image_check.proofs.Fronts.{IsRight, has_front-IsRight, IsRight-has_fr
 use Rattle.image_check.proofs.Stopping.{added, both_added}
 
 -- the window of a region that the first 24 bytes say, with these in front
-pub record IsBegun (old mid front region : List ℕ) (base size : ℕ) (w : Cut) : Type 0 where
-  pub front_read : IsFrontRead old mid front base (length region) size
+pub record IsBegun (format : ℕ) (old mid front region : List ℕ) (base size : ℕ) (w : Cut) : Type 0 where
+  pub front_read : IsFrontRead format old mid front base (length region) size
   pub is : w ≡ with_bytes (cut_at region base size) (patched (part region base size) 0 front)
 
-module _ (old mid front region : List ℕ) (base size : ℕ) (w : Cut) (b : IsBegun old mid front region base size w) where
+module _ (format : ℕ) (old mid front region : List ℕ) (base size : ℕ) (w : Cut) (b : IsBegun format old mid front region base size w) where
   rest : List ℕ
   rest = drop (0 + length front) (part region base size)
 
@@ -29,11 +29,11 @@ module _ (old mid front region : List ℕ) (base size : ℕ) (w : Cut) (b : IsBe
   pub begun-take : take 24 w.bytes ≡ front
   begun-take = ap (take 24) bytes_are ∙ take_at front rest 24 b.front_read.long
 
-  front_right : IsRight front size
-  front_right = let long = b.front_read.long in has_front-IsRight front size (omega arith) b.front_read.right (sym b.front_read.says)
+  front_right : IsRight format front size
+  front_right = let long = b.front_read.long in has_front-IsRight format front size (omega arith) b.front_read.right (sym b.front_read.says)
 
-  bytes_right : IsRight w.bytes size
-  bytes_right = subst (λ x. IsRight x size) (sym bytes_are) (IsRight-append front rest size front_right)
+  bytes_right : IsRight format w.bytes size
+  bytes_right = subst (λ x. IsRight format x size) (sym bytes_are) (IsRight-append format front rest size front_right)
 
   -- there are as many bytes as the first ones say
   pub begun-length : length w.bytes ≡ size
@@ -47,8 +47,8 @@ module _ (old mid front region : List ℕ) (base size : ℕ) (w : Cut) (b : IsBe
       let cut = length-drop (0 + length front) (part region base size) in
       ap length bytes_are ∙ (omega arith)
 
-  pub begun-HasFront : HasFront w
-  begun-HasFront = record { right = IsRight-has_front w.bytes size bytes_right; says = bytes_right.says ∙ sym begun-length }
+  pub begun-HasFront : HasFront format w
+  begun-HasFront = record { right = IsRight-has_front format w.bytes size bytes_right; says = bytes_right.says ∙ sym begun-length }
 
   pub begun-base : length w.before ≡ base
   begun-base =
@@ -73,7 +73,7 @@ module _ (old mid front region : List ℕ) (base size : ℕ) (w : Cut) (b : IsBe
   -- the rest is read too
   pub begun-read : (new : List ℕ) (ended : Bool) (f g h : ℕ) (v : Cut) → Grows mid new → g ≡ f + 0 → h ≡ g + 0 → ended ≡ true
       → v ≡ with_bytes w (take 24 w.bytes ++ drop (length mid) new) → length (whole v) ≡ length (whole w)
-      → IsImageRead (given_since old new ended f h) region base v
+      → IsImageRead format (given_since old new ended f h) region base v
   begun-read new ended f g h v grows d e i s l =
       let more : List ℕ = drop (length mid) new in
       let said : drop (length old) new ≡ front ++ more = added old new (front ++ more) (both_added old mid new front more b.front_read.read grows) in
@@ -90,10 +90,9 @@ module _ (old mid front region : List ℕ) (base size : ℕ) (w : Cut) (b : IsBe
       let long : length v.bytes ≡ size = omega arith in
       let all : length (drop (length old) new) ≡ size = ap length (said ∙ sym bytes) ∙ long in
       let room = b.front_read.room in
-      let right : IsRight v.bytes size = subst (λ x. IsRight x size) (sym bytes) (IsRight-append front more size front_right) in
+      let right : IsRight format v.bytes size = subst (λ x. IsRight format x size) (sym bytes) (IsRight-append format front more size front_right) in
       record {
-        ended = i;
-        read = none_failed f g h d e;
+        read = record { ended = i; failed = none_failed f g h d e };
         bytes = bytes ∙ sym said;
         place = record {
           before = before ∙ ap (λ (c : Cut). c.before) b.is;
@@ -101,19 +100,19 @@ module _ (old mid front region : List ℕ) (base size : ℕ) (w : Cut) (b : IsBe
         };
         room = omega arith;
         capacity = l ∙ begun-whole;
-        front = record { right = IsRight-has_front v.bytes size right; says = right.says ∙ sym long };
+        front = record { right = IsRight-has_front format v.bytes size right; says = right.says ∙ sym long };
       }
 
   -- or is not
   pub begun-stops : (new : List ℕ) (ended : Bool) (f g h : ℕ) (v : Cut) (back : List ℕ) (cause : OpenError) → g ≡ f + 0 → back ≡ whole v → length (whole v) ≡ length (whole w)
-      → ((start : List ℕ) → mid ≡ start ++ take 24 w.bytes → Stops (given_since start new ended g h) (length w.before) (length (whole w)) cause)
-      → IsNotRead (given_since old new ended f h) region base (record { region = back; cause = cause })
+      → ((start : List ℕ) → mid ≡ start ++ take 24 w.bytes → Stops format (given_since start new ended g h) (length w.before) (length (whole w)) cause)
+      → IsNotRead format (given_since old new ended f h) region base (record { region = back; cause = cause })
   begun-stops new ended f g h v back cause d e l s =
       let same : g ≡ f = omega arith in
       let stops = s old (b.front_read.read ∙ ap (λ x. old ++ x) (sym begun-take)) in
       record {
-        stops = subst (λ k. Stops (given_since old new ended k h) base (length region) cause) same
-            (subst (λ k. Stops (given_since old new ended g h) base k cause) begun-whole
-            (subst (λ k. Stops (given_since old new ended g h) k (length (whole w)) cause) begun-base stops));
+        stops = subst (λ k. Stops format (given_since old new ended k h) base (length region) cause) same
+            (subst (λ k. Stops format (given_since old new ended g h) base k cause) begun-whole
+            (subst (λ k. Stops format (given_since old new ended g h) k (length (whole w)) cause) begun-base stops));
         handed_back = ap length e ∙ l ∙ begun-whole;
       }

@@ -4,8 +4,9 @@ use Rattle.std.specs.Prelude.{IsTrue, Option, Some, None, nat_le}
 use Rattle.std.specs.List.{list_all}
 use Rattle.std.proofs.lemmas.Bool.{and_parts, eq-eqb, ne_eqb, leb-true, cond-true, cond-false}
 use Rattle.raw_region.specs.Memory.{Cut, bytes_of}
+use Rattle.raw_region.specs.Format.{current}
 use Rattle.block_tags.specs.declared.tile.Tile.{Tile}
-use Rattle.block_tags.specs.Format.{current, is_legal_size}
+use Rattle.block_tags.specs.Format.{is_legal_size}
 use Rattle.block_tags.specs.Laws.{GoodTagsSayTiles, TilesAreReadOff, TilesFillTheWindow}
 use Rattle.block_tags.specs.Lists.{Fill, first_in, next_in}
 use Rattle.block_tags.specs.Tiles.{has_tags, is_tile, may_be_red, tiles_of}

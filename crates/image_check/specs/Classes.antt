@@ -1,8 +1,7 @@
 -- Why bytes stand for no directory: twelve classes, each a test of the whole list, and the class of the bytes.
 use Rattle.std.specs.Prelude.{◌≡◌, ℕ, zero, suc, ◌+◌, ◌-◌, ◌*◌, ◌/◌, min, ℤ, Bool, true, false, not, ◌&&◌, ◌||◌, Option, Some, None, List, [], ◌∷◌, ◌++◌, length, map, filter, filter_map, find, flat_map, is_some, is_none, option_map, option_to_list, ◌==◌, nat_lt, nat_le, nat_eq, if◌then◌else◌, int_lt, IsTrue}
 use Rattle.std.specs.List.{list_all, list_any, range_with_len}
-use Rattle.std.specs.Cmp.Lexicographic.{pointwise, slice_cmp}
-use Rattle.std.specs.Ordering.{nat_cmp, is_lt}
+use Rattle.std.specs.Cmp.Lexicographic.{pointwise}
 use Rattle.byteorder.specs.Endian.{little_number}
 use Rattle.raw_region.specs.Memory.{Memory, bytes_of, read, word_at, half_word_at}
 use Rattle.offset_link.specs.Link.{link_at}
@@ -21,6 +20,7 @@ use Rattle.seg_types.specs.declared.kinds.ScalarKind.TheVariants.{U8}
 use Rattle.seg_types.specs.declared.kinds.Kind.TheVariants.{Scalar, Text, Vector, Map, Texts}
 use Rattle.seg_types.specs.Kinds.{size_of, kind_of_code, is_kind_of, value_of, is_spelling}
 use Rattle.seg_types.specs.Names.{is_name}
+use Rattle.seg_index.specs.Keys.{code_at, count_at, name_len_at, class_at, name_at, name_before, code_before}
 use Rattle.segment_manager.specs.Directory.{padded}
 use Rattle.segment_manager.specs.Denotes.{magic_number}
 use Rattle.image_check.specs.declared.classes.ImageClass.{ImageClass}
@@ -125,19 +125,16 @@ are_distinct (x ∷ xs) = not (is_among xs x) && are_distinct xs
 abbrev pub has_indexes : Memory → List Tile → Bool
 has_indexes m ts = has_index m ts 32 && has_index m ts 56 && are_distinct (targets m 32 ++ targets m 56)
 
--- ---- objects
+-- ---- objects: what their payloads say, by the words of an index entry
 
 abbrev pub object_tiles : List Tile → List Tile
 object_tiles = filter (is_use Object)
 
-abbrev pub name_at : Memory → ℕ → List ℕ
-name_at m at = read m (at + 16) (half_word_at m (at + 8))
-
 abbrev pub value_offset : Memory → ℕ → ℕ
-value_offset m at = at + 16 + padded (half_word_at m (at + 8))
+value_offset m at = at + 16 + padded (name_len_at m at)
 
 abbrev pub kind_at : ℕ → Memory → ℕ → Option Kind
-kind_at format m at = elim (kind_of_code (half_word_at m at)) [ None ↦ None | Some k ↦ if is_kind_of format k then Some k else None ]
+kind_at format m at = elim (kind_of_code (code_at m at)) [ None ↦ None | Some k ↦ if is_kind_of format k then Some k else None ]
 
 -- the n elements of a kind from an offset on are spellings
 abbrev pub are_spellings : Memory → ScalarKind → ℕ → ℕ → Bool
@@ -151,23 +148,23 @@ is_value_in m k count at end = (count == 1) && nat_le (at + 24) end
 
 abbrev pub has_name : ℕ → Memory → ℕ → Bool
 has_name format m at =
-    if half_word_at m (at + 12) == 1 then (if nat_le (half_word_at m (at + 8)) 255 then is_name format (name_at m at) else false)
-    else nat_le (half_word_at m (at + 12)) 2 && (half_word_at m (at + 8) == 0)
+    if class_at m at == 1 then (if nat_le (name_len_at m at) 255 then is_name format (name_at m at) else false)
+    else nat_le (class_at m at) 2 && (name_len_at m at == 0)
 
 abbrev pub has_padding : Memory → ℕ → Bool
-has_padding m at = let n = half_word_at m (at + 8) in is_zero (read m (at + 16 + n) (padded n - n))
+has_padding m at = let n = name_len_at m at in is_zero (read m (at + 16 + n) (padded n - n))
 
 -- a class 1 object is in the named index and a class 2 object in the unique one
 abbrev pub is_indexed : Memory → ℕ → Bool
 is_indexed m at =
-    if half_word_at m (at + 12) == 1 then is_among (targets m 32) at
-    else if half_word_at m (at + 12) == 2 then is_among (targets m 56) at else true
+    if class_at m at == 1 then is_among (targets m 32) at
+    else if class_at m at == 2 then is_among (targets m 56) at else true
 
 abbrev pub is_object_tile : ℕ → Memory → Tile → Bool
 is_object_tile format m t =
     let at = payload t in
     if has_name format m at then
-    elim (kind_at format m at) [ None ↦ false | Some k ↦ is_value_in m k (half_word_at m (at + 4)) (value_offset m at) (t.offset + t.len) ]
+    elim (kind_at format m at) [ None ↦ false | Some k ↦ is_value_in m k (count_at m at) (value_offset m at) (t.offset + t.len) ]
     && has_padding m at && is_indexed m at
     else false
 
@@ -179,10 +176,10 @@ rise_by lt (x ∷ y ∷ xs) = lt x y && rise_by lt (y ∷ xs)
 abbrev pub has_objects : ℕ → Memory → List Tile → Bool
 has_objects format m ts =
     list_all (is_object_tile format m) (object_tiles ts)
-    && list_all (λ at. half_word_at m (at + 12) == 1) (targets m 32)
-    && list_all (λ at. half_word_at m (at + 12) == 2) (targets m 56)
-    && rise_by (λ a b. is_lt (slice_cmp nat_cmp (name_at m a) (name_at m b))) (targets m 32)
-    && rise_by (λ a b. nat_lt (half_word_at m a) (half_word_at m b)) (targets m 56)
+    && list_all (λ at. class_at m at == 1) (targets m 32)
+    && list_all (λ at. class_at m at == 2) (targets m 56)
+    && rise_by (name_before m) (targets m 32)
+    && rise_by (code_before m) (targets m 56)
 
 -- ---- the fields that lead to blocks
 

@@ -1,6 +1,5 @@
 -- Which class the bytes read so far decide, as a test of their first three words.
 use Rattle.std.specs.Prelude.{◌≡◌, ℕ, Bool, List, length, nat_lt, Option, Some, None, if◌then◌else◌}
-use Rattle.block_tags.specs.Format.{current}
 use Rattle.image_check.specs.declared.classes.ImageClass.{ImageClass}
 use Rattle.image_check.specs.declared.classes.ImageClass.TheVariants.{BadMagic, UnsupportedVersion, BadSize}
 use Rattle.image_check.specs.Classes.{has_magic, has_version, has_size, DecidesClass}
@@ -13,13 +12,13 @@ decided_by short magic version size =
 
 -- No class is decided before 144 bytes, since there may be no more. After that, the magic and the version decide, and a
 -- size that no segment has or that is less than what was read.
-unfoldable pub decided : List ℕ → Option ImageClass
-decided front = decided_by (nat_lt (length front) 144) (has_magic front) (has_version current front) (has_size front)
+unfoldable pub decided : ℕ → List ℕ → Option ImageClass
+decided format front = decided_by (nat_lt (length front) 144) (has_magic front) (has_version format front) (has_size front)
 
 -- the law: the test finds the class that is decided, and none where none is
-pub record IsDecided (front : List ℕ) : Type 0 where
-  pub some : (c : ImageClass) → decided front ≡ Some c → DecidesClass current front c
-  pub none : decided front ≡ None → (c : ImageClass) → DecidesClass current front c → ⊥
+pub record IsDecided (format : ℕ) (front : List ℕ) : Type 0 where
+  pub some : (c : ImageClass) → decided format front ≡ Some c → DecidesClass format front c
+  pub none : decided format front ≡ None → (c : ImageClass) → DecidesClass format front c → ⊥
 
 abbrev pub AllDecided : Type 0
-AllDecided = (front : List ℕ) → IsDecided front
+AllDecided = (format : ℕ) (front : List ℕ) → IsDecided format front

@@ -2,7 +2,8 @@
 ghost use Rattle.std.specs.Prelude.{◌≡◌, ◌+◌, ◌^◌, ◌<◌, ◌≤◌, IsTrue, MatchResult, length};
 ghost use Rattle.std.specs.List.{list_all};
 ghost use Rattle.raw_region.specs.Memory.{bytes_of};
-ghost use Rattle.block_tags.specs.Format.{current, is_legal_size};
+ghost use Rattle.raw_region.specs.Format.{current};
+ghost use Rattle.block_tags.specs.Format.{is_legal_size};
 ghost use Rattle.block_tags.specs.Tiles.{has_tags, tiles_of};
 ghost use Rattle.segment_manager.specs.State.{IsSegment};
 ghost use Rattle.image_check.specs.Classes.{are_bytes, has_reserved as is_reserved, is_zero as are_zeros};
@@ -40,8 +41,8 @@ const NAME_AND_CLASS: u64 = 0;
 /// The first of `BadReserved`, `BadTag` and `BadFreeTree` that holds, and `OrphanBlock` for each other image that is not
 /// such a one.
 pub fn check(window: &Window) -> Result<(), ImageClass>
-    requires { HasFront window.now }
-    ensures { MatchResult result (λ done. IsSegment window.now.bytes) (IsClassFor window.now.bytes) }
+    requires { HasFront current window.now }
+    ensures { MatchResult result (λ done. IsSegment window.now.bytes) (IsClassFor current window.now.bytes) }
 {
     let bytes = all_bytes(window);
     if !has_reserved(bytes) {

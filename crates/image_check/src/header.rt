@@ -1,5 +1,6 @@
 //! The first words of an image: magic, version and size.
 ghost use Rattle.std.specs.Prelude.{◌≡◌, ◌≤◌, length};
+ghost use Rattle.raw_region.specs.Format.{current};
 ghost use Rattle.image_check.specs.Reading.{front_of};
 
 use crate::classes::ImageClass;
@@ -25,7 +26,7 @@ const VERSION: u32 = 0;
 /// `BadMagic`, `UnsupportedVersion` or `BadSize`, whichever comes first, where the bytes begin no image.
 pub fn size_in(front: &[u8]) -> Result<u64, ImageClass>
     requires { 24 ≤ length front.now }
-    ensures { result ≡ front_of front.now }
+    ensures { result ≡ front_of current front.now }
 {
     if word_in(front, 0) != MAGIC {
         return Err(ImageClass::BadMagic);

@@ -9,8 +9,6 @@ mod header;
 pub mod laws;
 mod opening;
 mod reading;
-#[cfg(test)]
-mod tests;
 
 pub use classes::ImageClass;
 pub use errors::{OpenError, OpenRefused};

@@ -1,7 +1,8 @@
 //! The opening of an image.
 ghost use Rattle.std.specs.Prelude.{◌≡◌, ◌+◌, ◌-◌, ◌%◌, ◌^◌, ◌<◌, length};
 ghost use Rattle.raw_region.specs.Device.{Grows, given_since};
-ghost use Rattle.image_check.specs.Opening.{Opens, failed_reads};
+ghost use Rattle.raw_region.specs.Format.{current};
+ghost use Rattle.image_check.specs.Opening.{Opens, cause_of, failed_reads};
 
 use crate::checking::check;
 use crate::errors::{OpenError, OpenRefused};
@@ -15,8 +16,9 @@ use std::alloc::Global;
 /// # Errors
 ///
 /// `RegionTooSmall` as soon as the magic, the version and a legal size are read and the region ends before base plus size. A
-/// class of the image where it denotes no directory. `ReadFault` where the reader failed before what it gave decided a class.
-/// The region comes back.
+/// class of the image where it denotes no directory and was read to its end, or where what was read decides it. `ReadFault`
+/// where the reader failed before that; it is not asked again after an error. `OutOfMemory` is not answered, since no memory is
+/// taken. The region comes back.
 pub fn open<S: Source>(
     alloc: Global,
     reader: &mut S,
@@ -27,9 +29,9 @@ pub fn open<S: Source>(
 ) -> Result<Segment, OpenRefused>
     requires aligned { base % 16 ≡ 0 }
     requires reader { S.failures reader.old < 2 ^ 64 - 1 }
-    ensures opens { Opens (given_since (S.given reader.old) (S.given reader.new) (S.ended reader.new) (S.failures reader.old) (S.failures reader.new)) region base mode result }
+    ensures opens { Opens current (given_since (S.given reader.old) (S.given reader.new) (S.ended reader.new) (S.failures reader.old) (S.failures reader.new)) region base mode result }
     ensures grows { Grows (S.given reader.old) (S.given reader.new) }
-    ensures counted { S.failures reader.new ≡ S.failures reader.old + failed_reads result }
+    ensures counted { S.failures reader.new ≡ S.failures reader.old + failed_reads (cause_of result) }
     ensures steps { steps.new ≡ steps.old }
 {
     let window = read_image(reader, region, base)?;

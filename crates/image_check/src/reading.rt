@@ -2,10 +2,11 @@
 ghost use Rattle.std.specs.Prelude.{◌≡◌, ◌+◌, ◌-◌, ◌%◌, ◌^◌, ◌<◌, ◌≤◌, List, ℕ, ◌++◌, true, length, take, drop, IfOk, OnOk, IfErr, MatchResult};
 ghost use Rattle.raw_region.specs.Answers.{AddsFront};
 ghost use Rattle.raw_region.specs.Device.{Grows, given_since};
+ghost use Rattle.raw_region.specs.Format.{current};
 ghost use Rattle.raw_region.specs.Memory.{whole};
 ghost use Rattle.raw_region.specs.Regions.{with_bytes};
-ghost use Rattle.image_check.specs.Opening.{failed_reads};
-ghost use Rattle.image_check.specs.Reading.{faults_in, GoesOn, HasFront, IsFrontRead, IsImageRead, IsNotRead, IsShort, Stops};
+ghost use Rattle.image_check.specs.Opening.{cause_of, failed_reads};
+ghost use Rattle.image_check.specs.Reading.{GoesOn, HasFront, IsFrontRead, IsImageRead, IsNotRead, IsShort, Stops};
 
 use crate::classes::ImageClass;
 use crate::errors::{OpenError, OpenRefused};
@@ -26,10 +27,10 @@ pub fn read_image<S: Source>(
     requires aligned { base % 16 ≡ 0 }
     requires reader { S.failures reader.old < 2 ^ 64 - 1 }
     ensures reads { MatchResult result
-        (IsImageRead (given_since (S.given reader.old) (S.given reader.new) (S.ended reader.new) (S.failures reader.old) (S.failures reader.new)) region base)
-        (IsNotRead (given_since (S.given reader.old) (S.given reader.new) (S.ended reader.new) (S.failures reader.old) (S.failures reader.new)) region base) }
+        (IsImageRead current (given_since (S.given reader.old) (S.given reader.new) (S.ended reader.new) (S.failures reader.old) (S.failures reader.new)) region base)
+        (IsNotRead current (given_since (S.given reader.old) (S.given reader.new) (S.ended reader.new) (S.failures reader.old) (S.failures reader.new)) region base) }
     ensures grows { Grows (S.given reader.old) (S.given reader.new) }
-    ensures counted { S.failures reader.new ≡ S.failures reader.old + failed_reads result }
+    ensures counted { S.failures reader.new ≡ S.failures reader.old + failed_reads (cause_of result) }
 {
     let mut front = [0; FRONT];
     let size = match read_front(reader, &mut front, &region, base) {
@@ -59,10 +60,10 @@ fn read_front<S: Source>(
     base: u64,
 ) -> Result<u64, OpenError>
     requires { S.failures reader.old < 2 ^ 64 - 1 }
-    ensures ok { IfOk result (IsFrontRead (S.given reader.old) (S.given reader.new) front.new base (length region.now)) }
-    ensures err { IfErr result (Stops (given_since (S.given reader.old) (S.given reader.new) (S.ended reader.new) (S.failures reader.old) (S.failures reader.new)) base (length region.now)) }
+    ensures ok { IfOk result (IsFrontRead current (S.given reader.old) (S.given reader.new) front.new base (length region.now)) }
+    ensures err { IfErr result (Stops current (given_since (S.given reader.old) (S.given reader.new) (S.ended reader.new) (S.failures reader.old) (S.failures reader.new)) base (length region.now)) }
     ensures grows { Grows (S.given reader.old) (S.given reader.new) }
-    ensures counted { S.failures reader.new ≡ S.failures reader.old + faults_in result }
+    ensures counted { S.failures reader.new ≡ S.failures reader.old + failed_reads result }
 {
     read_all(reader, front)?;
     match size_in(front) {
@@ -82,14 +83,14 @@ fn read_front<S: Source>(
 /// As `read_image`.
 fn read_rest<S: Source>(reader: &mut S, window: &mut Window) -> Result<(), OpenError>
     requires reader { S.failures reader.old < 2 ^ 64 - 1 }
-    requires front { HasFront window.old }
+    requires front { HasFront current window.old }
     ensures ok { OnOk result (window.new ≡ with_bytes window.old (take 24 window.old.bytes ++ drop (length (S.given reader.old)) (S.given reader.new))) }
     ensures ended { OnOk result (S.ended reader.new ≡ true) }
     ensures err { IfErr result (λ cause. (start : List ℕ) → S.given reader.old ≡ start ++ take 24 window.old.bytes
-        → Stops (given_since start (S.given reader.new) (S.ended reader.new) (S.failures reader.old) (S.failures reader.new)) (length window.old.before) (length (whole window.old)) cause) }
+        → Stops current (given_since start (S.given reader.new) (S.ended reader.new) (S.failures reader.old) (S.failures reader.new)) (length window.old.before) (length (whole window.old)) cause) }
     ensures len { length (whole window.new) ≡ length (whole window.old) }
     ensures grows { Grows (S.given reader.old) (S.given reader.new) }
-    ensures counted { S.failures reader.new ≡ S.failures reader.old + faults_in result }
+    ensures counted { S.failures reader.new ≡ S.failures reader.old + failed_reads result }
 {
     let front = FRONT as u64;
     let size = window.size();
@@ -106,7 +107,7 @@ fn read_all<S: Source>(reader: &mut S, into: &mut [u8]) -> Result<(), OpenError>
     requires { S.failures reader.old < 2 ^ 64 - 1 }
     ensures ok { OnOk result (S.given reader.new ≡ S.given reader.old ++ into.new) }
     ensures err { IfErr result (λ cause. AddsFront (S.given reader.old) (S.given reader.new) into.new × IsShort (S.ended reader.new) cause) }
-    ensures counted { S.failures reader.new ≡ S.failures reader.old + faults_in result }
+    ensures counted { S.failures reader.new ≡ S.failures reader.old + failed_reads result }
 {
     let Ok(count) = fill(reader, into) else {
         return Err(OpenError::ReadFault);
@@ -127,7 +128,7 @@ fn find_end<S: Source>(reader: &mut S) -> Result<(), OpenError>
     ensures same { OnOk result (S.given reader.new ≡ S.given reader.old) }
     ensures ended { OnOk result (S.ended reader.new ≡ true) }
     ensures err { IfErr result (GoesOn (S.given reader.old) (S.given reader.new)) }
-    ensures counted { S.failures reader.new ≡ S.failures reader.old + faults_in result }
+    ensures counted { S.failures reader.new ≡ S.failures reader.old + failed_reads result }
 {
     match reader.read(&mut [0]) {
         Err(_) => Err(OpenError::ReadFault),

@@ -1,3 +1,4 @@
+pub mod Laws
 pub mod Orders
 pub mod Trees
 pub mod Heights
@@ -10,7 +11,7 @@ pub mod Growth
 pub mod Mending
 pub mod Shrinkage
 pub mod Folding
+pub mod Walks
 pub mod Reading
 pub mod Taking
 pub mod Soundness
-pub mod Tables

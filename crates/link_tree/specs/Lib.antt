@@ -6,5 +6,5 @@ pub mod Turning
 pub mod Growing
 pub mod Shrinking
 pub mod Checking
-pub mod Table
-pub mod TableLaws
+pub mod Walking
+pub mod Frame

@@ -5,6 +5,7 @@ ghost use Rattle.link_tree.specs.Tree.{Cell, Tree, leaf, fork, IsTree, IsSearchT
 ghost use Rattle.link_tree.specs.Nodes.{leads, is_in, has_place, put};
 ghost use Rattle.link_tree.specs.Turning.{Turned};
 ghost use Rattle.link_tree.specs.Growing.{Grows, grown};
+ghost use Rattle.link_tree.specs.Frame.{SameBesideCells};
 
 use crate::nodes::NodesMut;
 use crate::turning::{balance, blacken};
@@ -27,10 +28,7 @@ fn lay<N: NodesMut>(visits: &mut VisitsMut<N>, node: u64)
         (Some node) (fork true leaf node leaf) }
     ensures most { visits.new.steps ≤ visits.old.steps + 3 }
     ensures reference { visits.new.nodes.ghost_name ≡ visits.old.nodes.ghost_name }
-    ensures nodes { N.is_node visits.new.nodes.now ≡ N.is_node visits.old.nodes.now }
-    ensures order { N.order visits.new.nodes.now ≡ N.order visits.old.nodes.now }
-    ensures probe { N.before visits.new.nodes.now ≡ N.before visits.old.nodes.now }
-    ensures lender { N.lender visits.new.nodes.now ≡ N.lender visits.old.nodes.now }
+    ensures same { SameBesideCells N.Nodes visits.old.nodes.now visits.new.nodes.now }
 {
     visits.set_child(node, Side::Left, None);
     visits.set_child(node, Side::Right, None);
@@ -53,10 +51,7 @@ fn grow<N: NodesMut>(visits: &mut VisitsMut<N>, link: Option<u64>, node: u64) ->
         → visits.new.steps ≤ visits.old.steps + 13 * height t + 3 }
     ensures root { N.is_node visits.old.nodes.now result ≡ true }
     ensures reference { visits.new.nodes.ghost_name ≡ visits.old.nodes.ghost_name }
-    ensures nodes { N.is_node visits.new.nodes.now ≡ N.is_node visits.old.nodes.now }
-    ensures order { N.order visits.new.nodes.now ≡ N.order visits.old.nodes.now }
-    ensures probe { N.before visits.new.nodes.now ≡ N.before visits.old.nodes.now }
-    ensures lender { N.lender visits.new.nodes.now ≡ N.lender visits.old.nodes.now }
+    ensures same { SameBesideCells N.Nodes visits.old.nodes.now visits.new.nodes.now }
 {
     let Some(at) = link else {
         lay(visits, node);
@@ -97,6 +92,8 @@ pub fn insert<N: NodesMut>(nodes: &mut N, root: Option<u64>, node: u64) -> Chang
     ensures probe { N.before nodes.new ≡ N.before nodes.old }
     // The nodes are still reached by the reference that they were reached by.
     ensures lender { N.lender nodes.new ≡ N.lender nodes.old }
+    // What the keeper has besides the links and colours of its nodes stays.
+    ensures kept { N.kept nodes.new ≡ N.kept nodes.old }
 {
     let mut visits = VisitsMut::new(nodes);
     let top = grow(&mut visits, root, node);

@@ -9,20 +9,18 @@
 
 mod checking;
 mod inserting;
-mod laws;
 mod nodes;
 mod removing;
 mod searching;
-#[cfg(test)]
-mod tests;
+mod theorems;
 mod turning;
 mod visits;
 mod walking;
 
 pub use checking::{Checked, check};
 pub use inserting::{Changed, insert};
-pub use laws::{law_of_height, law_of_reading};
 pub use nodes::{Nodes, NodesMut};
 pub use removing::remove;
 pub use searching::{Found, find_first_not_before};
+pub use theorems::{law_of_height, law_of_reading};
 pub use walking::walk;

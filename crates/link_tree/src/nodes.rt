@@ -29,6 +29,12 @@ pub trait Nodes {
     // The name of the reference that the nodes are reached by, where there is one: no call changes it.
     ghost lender: { Self → ℕ } = { λ _. 0 };
 
+    // What the keeper has besides the links and colours of its nodes: no setter and no tree call changes it. The keeper
+    // says what that is; a unit type where there is nothing to say.
+    ghost Kept: { Type 0 } = { Unit {0} };
+
+    ghost kept: { Self → Kept };
+
     /// The link to the left: the root of the nodes below this one that precede it.
     fn left(&self, node: u64) -> Option<u64>
         requires { is_node self.now node ≡ true }
@@ -82,7 +88,7 @@ pub trait Nodes {
 /// Nodes whose links and colours can be set.
 ///
 /// Each call changes one field of one node and nothing else: which numbers are nodes, their order, what stands before
-/// a probe, and the reference that the nodes are reached by all stay as they were.
+/// a probe, the reference that the nodes are reached by, and what the keeper has besides all stay as they were.
 pub trait NodesMut: Nodes {
     /// Sets the link to the left, to a node or to nowhere.
     fn set_left(&mut self, node: u64, to: Option<u64>)
@@ -92,7 +98,8 @@ pub trait NodesMut: Nodes {
         ensures nodes { Self.is_node self.new ≡ Self.is_node self.old }
         ensures order { Self.order self.new ≡ Self.order self.old }
         ensures probe { Self.before self.new ≡ Self.before self.old }
-        ensures lender { Self.lender self.new ≡ Self.lender self.old };
+        ensures lender { Self.lender self.new ≡ Self.lender self.old }
+        ensures kept { Self.kept self.new ≡ Self.kept self.old };
 
     /// Sets the link to the right, to a node or to nowhere.
     fn set_right(&mut self, node: u64, to: Option<u64>)
@@ -102,7 +109,8 @@ pub trait NodesMut: Nodes {
         ensures nodes { Self.is_node self.new ≡ Self.is_node self.old }
         ensures order { Self.order self.new ≡ Self.order self.old }
         ensures probe { Self.before self.new ≡ Self.before self.old }
-        ensures lender { Self.lender self.new ≡ Self.lender self.old };
+        ensures lender { Self.lender self.new ≡ Self.lender self.old }
+        ensures kept { Self.kept self.new ≡ Self.kept self.old };
 
     /// Makes the node red, or black.
     fn set_red(&mut self, node: u64, red: bool)
@@ -111,5 +119,6 @@ pub trait NodesMut: Nodes {
         ensures nodes { Self.is_node self.new ≡ Self.is_node self.old }
         ensures order { Self.order self.new ≡ Self.order self.old }
         ensures probe { Self.before self.new ≡ Self.before self.old }
-        ensures lender { Self.lender self.new ≡ Self.lender self.old };
+        ensures lender { Self.lender self.new ≡ Self.lender self.old }
+        ensures kept { Self.kept self.new ≡ Self.kept self.old };
 }

@@ -6,6 +6,7 @@ ghost use Rattle.link_tree.specs.Nodes.{leads, is_in, without};
 ghost use Rattle.link_tree.specs.Sides.{opposite, child_of, joined_at};
 ghost use Rattle.link_tree.specs.Turning.{Turned};
 ghost use Rattle.link_tree.specs.Shrinking.{Rest, Shrinks, Leaves, reddened, mended, settled, sunk, least_of, without_least, uprooted, shrunk, spare};
+ghost use Rattle.link_tree.specs.Frame.{SameBesideCells};
 
 use crate::inserting::Changed;
 use crate::nodes::NodesMut;
@@ -36,10 +37,7 @@ fn redden<N: NodesMut>(visits: &mut VisitsMut<N>, link: Option<u64>)
         (reddened t) }
     ensures most { visits.new.steps ≤ visits.old.steps + 1 }
     ensures reference { visits.new.nodes.ghost_name ≡ visits.old.nodes.ghost_name }
-    ensures nodes { N.is_node visits.new.nodes.now ≡ N.is_node visits.old.nodes.now }
-    ensures order { N.order visits.new.nodes.now ≡ N.order visits.old.nodes.now }
-    ensures probe { N.before visits.new.nodes.now ≡ N.before visits.old.nodes.now }
-    ensures lender { N.lender visits.new.nodes.now ≡ N.lender visits.old.nodes.now }
+    ensures same { SameBesideCells N.Nodes visits.old.nodes.now visits.new.nodes.now }
 {
     if let Some(node) = link {
         visits.set_red(node, true);
@@ -60,10 +58,7 @@ fn mend_red<N: NodesMut>(visits: &mut VisitsMut<N>, top: u64, heavy: u64, side: 
     ensures root { leads (N.is_node visits.old.nodes.now) result.root ≡ true }
     ensures most { visits.new.steps ≤ visits.old.steps + 18 }
     ensures reference { visits.new.nodes.ghost_name ≡ visits.old.nodes.ghost_name }
-    ensures nodes { N.is_node visits.new.nodes.now ≡ N.is_node visits.old.nodes.now }
-    ensures order { N.order visits.new.nodes.now ≡ N.order visits.old.nodes.now }
-    ensures probe { N.before visits.new.nodes.now ≡ N.before visits.old.nodes.now }
-    ensures lender { N.lender visits.new.nodes.now ≡ N.lender visits.old.nodes.now }
+    ensures same { SameBesideCells N.Nodes visits.old.nodes.now visits.new.nodes.now }
 {
     lift(visits, top, side);
     visits.set_red(heavy, false);
@@ -91,10 +86,7 @@ fn mend<N: NodesMut>(visits: &mut VisitsMut<N>, top: u64, side: Side) -> Leftove
     ensures root { leads (N.is_node visits.old.nodes.now) result.root ≡ true }
     ensures steps { visits.new.steps + spare result.fell ≤ visits.old.steps + 19 }
     ensures reference { visits.new.nodes.ghost_name ≡ visits.old.nodes.ghost_name }
-    ensures nodes { N.is_node visits.new.nodes.now ≡ N.is_node visits.old.nodes.now }
-    ensures order { N.order visits.new.nodes.now ≡ N.order visits.old.nodes.now }
-    ensures probe { N.before visits.new.nodes.now ≡ N.before visits.old.nodes.now }
-    ensures lender { N.lender visits.new.nodes.now ≡ N.lender visits.old.nodes.now }
+    ensures same { SameBesideCells N.Nodes visits.old.nodes.now visits.new.nodes.now }
 {
     let Some(heavy) = visits.child(top, side) else {
         return Leftover {
@@ -139,10 +131,7 @@ fn settle<N: NodesMut>(
     ensures steps { visits.new.steps + spare result.fell ≤ visits.old.steps + 13
         + spare below.fell }
     ensures reference { visits.new.nodes.ghost_name ≡ visits.old.nodes.ghost_name }
-    ensures nodes { N.is_node visits.new.nodes.now ≡ N.is_node visits.old.nodes.now }
-    ensures order { N.order visits.new.nodes.now ≡ N.order visits.old.nodes.now }
-    ensures probe { N.before visits.new.nodes.now ≡ N.before visits.old.nodes.now }
-    ensures lender { N.lender visits.new.nodes.now ≡ N.lender visits.old.nodes.now }
+    ensures same { SameBesideCells N.Nodes visits.old.nodes.now visits.new.nodes.now }
 {
     visits.set_child(parent, side, below.root);
     if below.fell {
@@ -166,10 +155,7 @@ fn sink<N: NodesMut>(visits: &mut VisitsMut<N>, red: bool, link: Option<u64>) ->
     // Where the tree fell, `spare` steps are kept in hand for mending it one level higher.
     ensures steps { visits.new.steps + spare result.fell ≤ visits.old.steps + 9 }
     ensures reference { visits.new.nodes.ghost_name ≡ visits.old.nodes.ghost_name }
-    ensures nodes { N.is_node visits.new.nodes.now ≡ N.is_node visits.old.nodes.now }
-    ensures order { N.order visits.new.nodes.now ≡ N.order visits.old.nodes.now }
-    ensures probe { N.before visits.new.nodes.now ≡ N.before visits.old.nodes.now }
-    ensures lender { N.lender visits.new.nodes.now ≡ N.lender visits.old.nodes.now }
+    ensures same { SameBesideCells N.Nodes visits.old.nodes.now visits.new.nodes.now }
 {
     if red {
         return Leftover {
@@ -211,10 +197,7 @@ fn take_least<N: NodesMut>(visits: &mut VisitsMut<N>, at: u64) -> Least
     ensures is_node { N.is_node visits.old.nodes.now result.node ≡ true }
     ensures root { leads (N.is_node visits.old.nodes.now) result.rest.root ≡ true }
     ensures reference { visits.new.nodes.ghost_name ≡ visits.old.nodes.ghost_name }
-    ensures nodes { N.is_node visits.new.nodes.now ≡ N.is_node visits.old.nodes.now }
-    ensures order { N.order visits.new.nodes.now ≡ N.order visits.old.nodes.now }
-    ensures probe { N.before visits.new.nodes.now ≡ N.before visits.old.nodes.now }
-    ensures lender { N.lender visits.new.nodes.now ≡ N.lender visits.old.nodes.now }
+    ensures same { SameBesideCells N.Nodes visits.old.nodes.now visits.new.nodes.now }
 {
     let Some(left) = visits.child(at, Side::Left) else {
         let red = visits.red(at);
@@ -246,10 +229,7 @@ fn uproot<N: NodesMut>(visits: &mut VisitsMut<N>, at: u64) -> Leftover
         → visits.new.steps + spare result.fell ≤ visits.old.steps + 15 * height t + 10 }
     ensures root { leads (N.is_node visits.old.nodes.now) result.root ≡ true }
     ensures reference { visits.new.nodes.ghost_name ≡ visits.old.nodes.ghost_name }
-    ensures nodes { N.is_node visits.new.nodes.now ≡ N.is_node visits.old.nodes.now }
-    ensures order { N.order visits.new.nodes.now ≡ N.order visits.old.nodes.now }
-    ensures probe { N.before visits.new.nodes.now ≡ N.before visits.old.nodes.now }
-    ensures lender { N.lender visits.new.nodes.now ≡ N.lender visits.old.nodes.now }
+    ensures same { SameBesideCells N.Nodes visits.old.nodes.now visits.new.nodes.now }
 {
     let red = visits.red(at);
     let left = visits.child(at, Side::Left);
@@ -278,10 +258,7 @@ fn cut<N: NodesMut>(visits: &mut VisitsMut<N>, link: Option<u64>, node: u64) -> 
         → visits.new.steps + spare result.fell ≤ visits.old.steps + 15 * height t + 10 }
     ensures root { leads (N.is_node visits.old.nodes.now) result.root ≡ true }
     ensures reference { visits.new.nodes.ghost_name ≡ visits.old.nodes.ghost_name }
-    ensures nodes { N.is_node visits.new.nodes.now ≡ N.is_node visits.old.nodes.now }
-    ensures order { N.order visits.new.nodes.now ≡ N.order visits.old.nodes.now }
-    ensures probe { N.before visits.new.nodes.now ≡ N.before visits.old.nodes.now }
-    ensures lender { N.lender visits.new.nodes.now ≡ N.lender visits.old.nodes.now }
+    ensures same { SameBesideCells N.Nodes visits.old.nodes.now visits.new.nodes.now }
 {
     let Some(at) = link else {
         return Leftover {
@@ -324,6 +301,8 @@ pub fn remove<N: NodesMut>(nodes: &mut N, root: Option<u64>, node: u64) -> Chang
     ensures probe { N.before nodes.new ≡ N.before nodes.old }
     // The nodes are still reached by the reference that they were reached by.
     ensures lender { N.lender nodes.new ≡ N.lender nodes.old }
+    // What the keeper has besides the links and colours of its nodes stays.
+    ensures kept { N.kept nodes.new ≡ N.kept nodes.old }
 {
     let mut visits = VisitsMut::new(nodes);
     let rest = cut(&mut visits, root, node);

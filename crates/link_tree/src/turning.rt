@@ -4,6 +4,7 @@ ghost use Rattle.std.specs.Prelude.{◌≡◌, ℕ, ◌+◌, ◌<◌, ◌≤◌,
 ghost use Rattle.link_tree.specs.Tree.{Cell, Tree, IsTree, nodes_of, rises};
 ghost use Rattle.link_tree.specs.Nodes.{leads};
 ghost use Rattle.link_tree.specs.Turning.{Turned, lifted, blackened, rebalanced, is_red_tree};
+ghost use Rattle.link_tree.specs.Frame.{SameBesideCells};
 
 use crate::nodes::NodesMut;
 use crate::visits::{Side, VisitsMut};
@@ -34,10 +35,7 @@ pub fn blacken<N: NodesMut>(visits: &mut VisitsMut<N>, link: Option<u64>)
         (blackened t) }
     ensures most { visits.new.steps ≤ visits.old.steps + 1 }
     ensures reference { visits.new.nodes.ghost_name ≡ visits.old.nodes.ghost_name }
-    ensures nodes { N.is_node visits.new.nodes.now ≡ N.is_node visits.old.nodes.now }
-    ensures order { N.order visits.new.nodes.now ≡ N.order visits.old.nodes.now }
-    ensures probe { N.before visits.new.nodes.now ≡ N.before visits.old.nodes.now }
-    ensures lender { N.lender visits.new.nodes.now ≡ N.lender visits.old.nodes.now }
+    ensures same { SameBesideCells N.Nodes visits.old.nodes.now visits.new.nodes.now }
 {
     if let Some(node) = link {
         visits.set_red(node, false);
@@ -57,10 +55,7 @@ pub fn lift<N: NodesMut>(visits: &mut VisitsMut<N>, top: u64, side: Side) -> u64
     ensures most { visits.new.steps ≤ visits.old.steps + 3 }
     ensures stays { visits.old.at ≡ Some top → visits.new.steps ≤ visits.old.steps + 2 }
     ensures reference { visits.new.nodes.ghost_name ≡ visits.old.nodes.ghost_name }
-    ensures nodes { N.is_node visits.new.nodes.now ≡ N.is_node visits.old.nodes.now }
-    ensures order { N.order visits.new.nodes.now ≡ N.order visits.old.nodes.now }
-    ensures probe { N.before visits.new.nodes.now ≡ N.before visits.old.nodes.now }
-    ensures lender { N.lender visits.new.nodes.now ≡ N.lender visits.old.nodes.now }
+    ensures same { SameBesideCells N.Nodes visits.old.nodes.now visits.new.nodes.now }
 {
     let Some(child) = visits.child(top, side) else {
         return top;
@@ -86,10 +81,7 @@ pub fn balance<N: NodesMut>(visits: &mut VisitsMut<N>, top: u64, side: Side) -> 
     ensures most { visits.new.steps ≤ visits.old.steps + 11 }
     ensures stays { visits.old.at ≡ Some top → visits.new.steps ≤ visits.old.steps + 10 }
     ensures reference { visits.new.nodes.ghost_name ≡ visits.old.nodes.ghost_name }
-    ensures nodes { N.is_node visits.new.nodes.now ≡ N.is_node visits.old.nodes.now }
-    ensures order { N.order visits.new.nodes.now ≡ N.order visits.old.nodes.now }
-    ensures probe { N.before visits.new.nodes.now ≡ N.before visits.old.nodes.now }
-    ensures lender { N.lender visits.new.nodes.now ≡ N.lender visits.old.nodes.now }
+    ensures same { SameBesideCells N.Nodes visits.old.nodes.now visits.new.nodes.now }
 {
     let Some(near) = visits.child(top, side) else {
         return top;

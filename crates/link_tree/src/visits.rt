@@ -3,6 +3,7 @@
 ghost use Rattle.std.specs.Prelude.{◌≡◌, ◌≢◌, ℕ, ◌+◌, ◌<◌, ◌≤◌, ◌^◌, Bool, true, false, Option, Some, None};
 ghost use Rattle.link_tree.specs.Tree.{Cell};
 ghost use Rattle.link_tree.specs.Nodes.{with_left, with_right, with_red, is_in, leads};
+ghost use Rattle.link_tree.specs.Frame.{SameBesideCells};
 
 use crate::nodes::{Nodes, NodesMut};
 
@@ -247,10 +248,7 @@ impl<'a, N: NodesMut> VisitsMut<'a, N> {
         ensures cells { N.cells self.new.nodes.now
             ≡ with_child side (N.cells self.old.nodes.now) node to }
         ensures reference { self.new.nodes.ghost_name ≡ self.old.nodes.ghost_name }
-        ensures nodes { N.is_node self.new.nodes.now ≡ N.is_node self.old.nodes.now }
-        ensures order { N.order self.new.nodes.now ≡ N.order self.old.nodes.now }
-        ensures probe { N.before self.new.nodes.now ≡ N.before self.old.nodes.now }
-        ensures lender { N.lender self.new.nodes.now ≡ N.lender self.old.nodes.now }
+        ensures same { SameBesideCells N.Nodes self.old.nodes.now self.new.nodes.now }
         ensures at { self.new.at ≡ Some node }
         ensures most { self.new.steps ≤ self.old.steps + 1 }
         ensures stays { self.old.at ≡ Some node → self.new.steps ≡ self.old.steps }
@@ -268,10 +266,7 @@ impl<'a, N: NodesMut> VisitsMut<'a, N> {
         ensures cells { N.cells self.new.nodes.now
             ≡ with_red (N.cells self.old.nodes.now) node red }
         ensures reference { self.new.nodes.ghost_name ≡ self.old.nodes.ghost_name }
-        ensures nodes { N.is_node self.new.nodes.now ≡ N.is_node self.old.nodes.now }
-        ensures order { N.order self.new.nodes.now ≡ N.order self.old.nodes.now }
-        ensures probe { N.before self.new.nodes.now ≡ N.before self.old.nodes.now }
-        ensures lender { N.lender self.new.nodes.now ≡ N.lender self.old.nodes.now }
+        ensures same { SameBesideCells N.Nodes self.old.nodes.now self.new.nodes.now }
         ensures at { self.new.at ≡ Some node }
         ensures most { self.new.steps ≤ self.old.steps + 1 }
         ensures stays { self.old.at ≡ Some node → self.new.steps ≡ self.old.steps }

@@ -1,15 +1,16 @@
 //! Visiting each node of a tree in order.
 
-ghost use Rattle.std.specs.Prelude.{◌≡◌, ℕ, ◌+◌, ◌<◌, ◌≤◌, ◌^◌, Bool, true, Option, List, length};
+ghost use Rattle.std.specs.Prelude.{◌≡◌, ◌≢◌, ℕ, ◌+◌, ◌<◌, ◌^◌, Bool, true, false, Option, Some, List, length};
 ghost use Rattle.std.specs.List.{FoldsTo};
-ghost use Rattle.link_tree.specs.Tree.{Tree, IsTree, IsSearchTree, nodes_of, height};
-ghost use Rattle.link_tree.specs.Nodes.{leads};
+ghost use Rattle.link_tree.specs.Tree.{Tree, IsSearchTree, nodes_of};
+ghost use Rattle.link_tree.specs.Nodes.{leads, is_in};
+ghost use Rattle.link_tree.specs.Walking.{IsAhead};
 
 use crate::checking::MOST_LEVELS;
 use crate::nodes::Nodes;
 use crate::visits::Visits;
 
-/// Visits the nodes below the link in order, down to so many levels.
+/// Visits the nodes below the link in order, where they are at most so many levels.
 fn walk_below<N: Nodes, F: FnMut(u64)>(
     visits: &mut Visits<N>,
     link: Option<u64>,
@@ -18,21 +19,29 @@ fn walk_below<N: Nodes, F: FnMut(u64)>(
 )
     requires callable { F.IsAlwaysCallable visit.old }
     requires link { leads (N.is_node visits.old.nodes.now) link ≡ true }
-    requires tree { (t : Tree) × IsTree (N.cells visits.old.nodes.now) link t
+    requires tree { (t : Tree)
+        × IsAhead (N.order visits.old.nodes.now) (N.cells visits.old.nodes.now)
+        link levels visits.old.at t
         × (visits.old.steps + length (nodes_of t) + 1 < 2 ^ 64) }
-    ensures walked { (t : Tree) → IsTree (N.cells visits.old.nodes.now) link t → height t ≤ levels
+    ensures walked { (t : Tree)
+        → IsAhead (N.order visits.old.nodes.now) (N.cells visits.old.nodes.now)
+        link levels visits.old.at t
         → FoldsTo (λ p x q. F.step p x tt q) visit.old (nodes_of t) visit.new }
     ensures callable { F.IsAlwaysCallable visit.new }
-    ensures steps { (t : Tree) → IsTree (N.cells visits.old.nodes.now) link t
-        → visits.new.steps ≤ visits.old.steps + length (nodes_of t) }
+    ensures steps { (t : Tree)
+        → IsAhead (N.order visits.old.nodes.now) (N.cells visits.old.nodes.now)
+        link levels visits.old.at t
+        → visits.new.steps ≡ visits.old.steps + length (nodes_of t) }
+    // The walk stands where it stood, or at a node of the tree.
+    ensures at { (t : Tree)
+        → IsAhead (N.order visits.old.nodes.now) (N.cells visits.old.nodes.now)
+        link levels visits.old.at t
+        → (m : ℕ) → is_in m (nodes_of t) ≡ false → visits.old.at ≢ Some m → visits.new.at ≢ Some m }
     ensures nodes { visits.new.nodes.now ≡ visits.old.nodes.now }
 {
     let Some(node) = link else {
         return;
     };
-    if levels == 0 {
-        return;
-    }
     let left = visits.left(node);
     let right = visits.right(node);
     walk_below(visits, left, visit, levels - 1);
@@ -40,21 +49,22 @@ fn walk_below<N: Nodes, F: FnMut(u64)>(
     walk_below(visits, right, visit, levels - 1);
 }
 
-/// Calls `visit` on each node of the tree, in order, and answers the steps that the walk took.
+/// Calls `visit` on each node of the tree, in order, and answers the steps that the walk took: as many as there are nodes.
 ///
 /// A step is going to a node, with all that is read there before the walk goes to another.
-pub fn walk<N: Nodes, F: FnMut(u64)>(nodes: &N, root: Option<u64>, mut visit: F) -> u64
-    requires callable { F.IsAlwaysCallable visit }
+pub fn walk<N: Nodes, F: FnMut(u64)>(nodes: &N, root: Option<u64>, visit: &mut F) -> u64
+    requires callable { F.IsAlwaysCallable visit.old }
     requires root { leads (N.is_node nodes.now) root ≡ true }
     requires tree { (t : Tree) × IsSearchTree (N.order nodes.now) (N.cells nodes.now) root t }
-    // The calls took `visit` from the state that was passed to a last one, with one call for each node, in order.
+    // The state of `visit` is what one call for each node, in order, makes of it, and no other call.
     ensures walked { (t : Tree) → IsSearchTree (N.order nodes.now) (N.cells nodes.now) root t
-        → (last : F) × FoldsTo (λ p x q. F.step p x tt q) visit (nodes_of t) last }
-    // A step for each node at most: it is left for good before the walk goes on.
+        → FoldsTo (λ p x q. F.step p x tt q) visit.old (nodes_of t) visit.new }
+    ensures callable { F.IsAlwaysCallable visit.new }
+    // One step for each node: it is left for good before the walk goes on.
     ensures steps { (t : Tree) → IsSearchTree (N.order nodes.now) (N.cells nodes.now) root t
-        → result ≤ length (nodes_of t) }
+        → result ≡ length (nodes_of t) }
 {
     let mut visits = Visits::new(nodes);
-    walk_below(&mut visits, root, &mut visit, MOST_LEVELS);
+    walk_below(&mut visits, root, visit, MOST_LEVELS);
     visits.steps()
 }

@@ -4,8 +4,6 @@
 
 mod link;
 mod moves;
-#[cfg(test)]
-mod tests;
 
 pub use link::{BadLink, checked, copy, load, store, store_null};
 pub use moves::{Places, are_links, shift};

@@ -8,12 +8,13 @@ use base.Logic.{ent, sep, via, snd∗, mono_r, id⊢}
 use contract.Conj.{top}
 use base.Fml.{Lft, Fml, fsep}
 use types.Logic.{Logic, sem}
-use types.Kit.{‵, ◌⊛◌, ◌$◌, ◌∵◌, !, qed, by, move, use1, use2, split, group, rewrite, fsplit, fjoin, done}
+use types.Kit.{‵, ◌⊛◌, ◌$◌, ◌∵◌, !, qed, by, move, drop as forget, use1, use2, split, group, rewrite, fsplit, fjoin, done}
 use denote.Builtin.{u8}
 use denote.Memory.{shared_of}
 use denote.RawPtr.Bytes.{bytes, bytes_cut, bytes_glue}
 use denote.Slice.{elements_shared}
-use Rattle.std.proofs.lemmas.List.{drop-take, take-take}
+use denote.Steps.{nothing}
+use Rattle.std.proofs.lemmas.List.{drop-take, take-take, append-nil}
 use Rattle.raw_region.specs.Memory.{part, patched}
 use Rattle.raw_region.specs.Regions.{IsApart}
 use Rattle.raw_region.proofs.Patches.{length-patched, front-patched, drop-patched, patched-commutes}
@@ -122,17 +123,39 @@ module _ {M : Type 1} {𝓤 : Ura M} (𝓛 : Logic 𝓤) (b o : ℕ) (xs : List 
         move ! (1 ∷ 0 ∷ []) $ by ! (part_in 𝓛 b one o from' len' one_fits ws' e');
   }
 
+-- an empty part is nothing, and the other is taken out alone
+module _ {M : Type 1} {𝓤 : Ura M} (𝓛 : Logic 𝓤) (b o : ℕ) (xs : List ℕ) (from from' len' : ℕ) (within : from ≤ length xs) (within' : from' + len' ≤ length xs) where
+  same : (ws : List ℕ) → length ws ≡ 0 → patched xs from ws ≡ xs
+  same [] e = ap (λ (l : List ℕ). l ++ drop (from + 0) xs) (append-nil (take from xs)) ∙ ap (λ (k : ℕ). take from xs ++ drop k xs) (omega arith) ∙ take-append-drop from xs
+  same (w ∷ ws) e = absurd (omega (arith, e))
+
+  pub beside_none : Parted 𝓛 b o xs from 0 from' len'
+  beside_none = record {
+    rest = Around 𝓛 b xs o from' len';
+    out = qed 𝓛 (‵ (Bytes 𝓛 b xs o) ∷ []) ∵
+        use1 𝓛 (‵ (Bytes 𝓛 b (part xs from' len') (from' + o)) ⊛ ‵ (Around 𝓛 b xs o from' len')) (part_out 𝓛 b xs o from' len' within') $ split ! $ nothing ! $ done !;
+    back = λ ws ws' e e'.
+        qed 𝓛 (‵ (Bytes 𝓛 b ws (from + o)) ∷ ‵ (Bytes 𝓛 b ws' (from' + o)) ∷ ‵ (Around 𝓛 b xs o from' len') ∷ []) ∵ forget ! $
+        use2 𝓛 (‵ (Bytes 𝓛 b (patched xs from' ws') o)) (part_in 𝓛 b xs o from' len' within' ws' e') $
+        rewrite ! 0 (λ (l : List ℕ). ‵ (Bytes 𝓛 b (patched l from' ws') o)) (sym (same ws e)) refl $ done !;
+  }
+
+-- the same two parts in the other order
 module _ {M : Type 1} {𝓤 : Ura M} (𝓛 : Logic 𝓤) (b o : ℕ) (xs : List ℕ) (from len from' len' : ℕ) (within : from + len ≤ length xs) (within' : from' + len' ≤ length xs) where
+  pub turned : IsApart from len from' len' → Parted 𝓛 b o xs from' len' from len → Parted 𝓛 b o xs from len from' len'
+  turned apart other = record {
+    rest = other.rest;
+    out = qed 𝓛 (‵ (Bytes 𝓛 b xs o) ∷ []) ∵
+        use1 𝓛 (‵ (Bytes 𝓛 b (part xs from' len') (from' + o)) ⊛ (‵ (Bytes 𝓛 b (part xs from len) (from + o)) ⊛ ‵ other.rest)) other.out $ split ! $ move ! (1 ∷ []) $ split ! $ move ! (0 ∷ 2 ∷ 1 ∷ []) $ done !;
+    back = λ ws ws' e e'.
+        let apart' : IsApart from (length ws) from' (length ws') = subst (λ (n : ℕ). IsApart from n from' (length ws')) (sym e) (subst (λ (n : ℕ). IsApart from len from' n) (sym e') apart) in
+        let same : patched (patched xs from' ws') from ws ≡ patched (patched xs from ws) from' ws' = sym (patched-commutes xs from ws (omega arith) from' ws' (omega arith) apart') in
+        qed 𝓛 (‵ (Bytes 𝓛 b ws (from + o)) ∷ ‵ (Bytes 𝓛 b ws' (from' + o)) ∷ ‵ other.rest ∷ []) ∵ move ! (1 ∷ 0 ∷ 2 ∷ []) $ group ! 3 $
+        use1 𝓛 (‵ (Bytes 𝓛 b (patched (patched xs from' ws') from ws) o)) (other.back ws' ws e' e) $ rewrite ! 0 (λ (l : List ℕ). ‵ (Bytes 𝓛 b l o)) same refl $ done !;
+  }
+
   pub parted : IsApart from len from' len' → Parted 𝓛 b o xs from len from' len'
-  parted (inl h) = in_order 𝓛 b o xs from len from' len' within' h
-  parted (inr h) =
-      let other = in_order 𝓛 b o xs from' len' from len within h in
-      record {
-        rest = other.rest;
-        out = qed 𝓛 (‵ (Bytes 𝓛 b xs o) ∷ []) ∵
-            use1 𝓛 (‵ (Bytes 𝓛 b (part xs from' len') (from' + o)) ⊛ (‵ (Bytes 𝓛 b (part xs from len) (from + o)) ⊛ ‵ other.rest)) other.out $ split ! $ move ! (1 ∷ []) $ split ! $ move ! (0 ∷ 2 ∷ 1 ∷ []) $ done !;
-        back = λ ws ws' e e'.
-            let same : patched (patched xs from' ws') from ws ≡ patched (patched xs from ws) from' ws' = sym (patched-commutes xs from ws (omega arith) from' ws' (omega arith) (inr (omega arith))) in
-            qed 𝓛 (‵ (Bytes 𝓛 b ws (from + o)) ∷ ‵ (Bytes 𝓛 b ws' (from' + o)) ∷ ‵ other.rest ∷ []) ∵ move ! (1 ∷ 0 ∷ 2 ∷ []) $ group ! 3 $
-            use1 𝓛 (‵ (Bytes 𝓛 b (patched (patched xs from' ws') from ws) o)) (other.back ws' ws e' e) $ rewrite ! 0 (λ (l : List ℕ). ‵ (Bytes 𝓛 b l o)) same refl $ done !;
-      }
+  parted (inl h) = subst (λ (n : ℕ). Parted 𝓛 b o xs from n from' len') (sym h) (beside_none 𝓛 b o xs from from' len' (omega arith) within')
+  parted (inr (inl h)) = turned (inr (inl h)) (subst (λ (n : ℕ). Parted 𝓛 b o xs from' n from len) (sym h) (beside_none 𝓛 b o xs from' from len (omega arith) within))
+  parted (inr (inr (inl h))) = in_order 𝓛 b o xs from len from' len' within' h
+  parted (inr (inr (inr h))) = turned (inr (inr (inr h))) (in_order 𝓛 b o xs from' len' from len within h)

@@ -173,7 +173,9 @@ patched-outside b from ws within k (inr h) = patched-after b from ws within k h
 
 away : (from n from' n' k j : ℕ) → IsApart from n from' n' → k ≡ from + j → j < n → Outside k from' n'
 away from n from' n' k j (inl h) e l = inl (omega arith)
-away from n from' n' k j (inr h) e l = inr (omega arith)
+away from n from' n' k j (inr (inl h)) e l = elim (lt_or_le k from') [ inl o ↦ inl o | inr o ↦ inr (omega arith) ]
+away from n from' n' k j (inr (inr (inl h))) e l = inl (omega arith)
+away from n from' n' k j (inr (inr (inr h))) e l = inr (omega arith)
 
 module _ (b : List ℕ) (from : ℕ) (ws : List ℕ) (within : from + length ws ≤ length b) (from' : ℕ) (ws' : List ℕ) (within' : from' + length ws' ≤ length b) where
   abbrev One : List ℕ

@@ -1,6 +1,8 @@
 pub mod Memory
 pub mod Device
+pub mod Format
 pub mod Ownership
+pub mod Owned
 pub mod Loans
 pub mod Regions
 pub mod Lent

@@ -8,18 +8,18 @@ use Rattle.raw_region.specs.Ownership.{IsPlaced}
 abbrev pub IsCapacity : ℕ → Type 0
 IsCapacity n = (n % 16 ≡ 0) × (16 ≤ n) × (n ≤ 2 ^ 40)
 
--- the block begins at start and fills the capacity, and the lease is for it
-pub record Holds (start place leased : Ptr) (items : List ℕ) (lease_len capacity : ℕ) : Type 0 where
+-- the block begins at start and fills the capacity, and its owner may give it back
+pub record Holds (start place owned : Ptr) (items : List ℕ) (owned_len capacity : ℕ) : Type 0 where
   pub placed : IsPlaced start
   pub block : place ≡ start
-  pub lease : leased ≡ start
-  pub len : lease_len ≡ capacity
+  pub owner : owned ≡ start
+  pub len : owned_len ≡ capacity
   pub full : length items ≡ capacity
   pub legal : IsCapacity capacity
 
--- two ranges, each by its first offset and its length, have no byte in common
+-- two ranges, each by its first offset and its length, have no byte in common: one of them is empty, or one ends before the other begins
 abbrev pub IsApart : ℕ → ℕ → ℕ → ℕ → Type 0
-IsApart from len from' len' = (from + len ≤ from') ⊎ (from' + len' ≤ from)
+IsApart from len from' len' = (len ≡ 0) ⊎ ((len' ≡ 0) ⊎ ((from + len ≤ from') ⊎ (from' + len' ≤ from)))
 
 -- the window with other bytes in it
 abbrev pub with_bytes : Cut → List ℕ → Cut

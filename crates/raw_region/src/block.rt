@@ -7,13 +7,13 @@ ghost use Rattle.raw_region.specs.Regions.{IsApart};
 ghost use Rattle.raw_region.specs.LentTwo.{LendsTwo};
 ghost use Rattle.raw_region.specs.Ownership.{IsPlaced, bytes_type, space_owns, block_owns, block_shares};
 
-use std::alloc::Allocator;
+use std::alloc::{Allocator, Global};
 use std::marker::{Model, PhantomData};
 use std::slice;
 
 /// Memory that holds nothing yet. Like the two types below it takes no space: its owner has the
 /// pointer and the length.
-pub(crate) struct Space {
+struct Space {
     ghost place: { Ptr },
     ghost len: { ℕ },
 }
@@ -35,7 +35,7 @@ impl Model for Block {
 }
 
 /// The right to give the memory back to `alloc`.
-pub(crate) struct Lease<A: Allocator> {
+struct Lease<A: Allocator> {
     marker: PhantomData<A>,
     ghost alloc: { A },
     ghost place: { Ptr },
@@ -47,7 +47,7 @@ impl<A: Allocator> Model for Lease<A> {
 }
 
 /// `len` bytes from the allocator, or `None` where it has not so many.
-pub(crate) fn allocate<A: Allocator>(alloc: &A, len: usize) -> Option<(*mut u8, Space, Lease<A>)>
+fn allocate<A: Allocator>(alloc: &A, len: usize) -> Option<(*mut u8, Space, Lease<A>)>
     ensures { IfSome result (λ r. IsPlaced r.0 × (r.1.place ≡ r.0) × (r.1.len ≡ len) × (r.2.place ≡ r.0) × (r.2.len ≡ len) × (r.2.alloc ≡ alloc.now)) }
 {
     match alloc.allocate(len, 1) {
@@ -63,7 +63,7 @@ pub(crate) fn allocate<A: Allocator>(alloc: &A, len: usize) -> Option<(*mut u8, 
 }
 
 /// Makes each byte 0.
-pub(crate) fn zero(start: *mut u8, len: usize, space: Space) -> Block
+fn zero(start: *mut u8, len: usize, space: Space) -> Block
     requires { IsPlaced start × (space.place ≡ start) × (space.len ≡ len) }
     ensures { (result.place ≡ start) × (result.items ≡ replicate len 0) }
 {
@@ -79,19 +79,51 @@ pub(crate) fn zero(start: *mut u8, len: usize, space: Space) -> Block
 }
 
 /// Gives the memory back to the allocator that it came from.
-pub(crate) fn free<A: Allocator>(
-    alloc: &A,
-    start: *mut u8,
-    len: usize,
-    block: Block,
-    lease: Lease<A>,
-)
+fn free<A: Allocator>(alloc: &A, start: *mut u8, len: usize, block: Block, lease: Lease<A>)
     requires { IsPlaced start × (block.place ≡ start) × (length block.items ≡ len) × (lease.place ≡ start) × (lease.len ≡ len) × (lease.alloc ≡ alloc.now) }
 {
     let Block {} = block;
     let Lease { marker: _ } = lease;
     unsafe {
         alloc.deallocate(start, len, 1);
+    }
+}
+
+/// The allocator that memory came from, and the right to give the memory back. Nobody else has that
+/// allocator, and `free` is all that can be done with it: who holds memory cannot take more.
+pub(crate) struct Owner {
+    alloc: Global,
+    lease: Lease<Global>,
+}
+
+impl Model for Owner {
+    ghost use denote.RawPtr.{Ptr};
+    ghost use Rattle.std.specs.Prelude.{◌≡◌, ℕ};
+    ghost use Rattle.raw_region.specs.Owned.{Owned};
+
+    ghost Value = { Owned };
+
+    ghost view = { λ o. record { place = o.lease.place; len = o.lease.len } };
+
+    ghost invariant = { λ o. o.lease.alloc ≡ o.alloc };
+}
+
+impl Owner {
+    /// `len` bytes, each 0, or `None` where the allocator has not so many.
+    pub(crate) fn allocate(alloc: Global, len: usize) -> Option<(*mut u8, Block, Owner)>
+        ensures { IfSome result (λ r. IsPlaced r.0 × (r.1.place ≡ r.0) × (r.1.items ≡ replicate len 0) × (r.2.place ≡ r.0) × (r.2.len ≡ len)) }
+    {
+        let (start, space, lease) = allocate(&alloc, len)?;
+        let block = zero(start, len, space);
+        Some((start, block, Owner { alloc, lease }))
+    }
+
+    /// Gives the memory back.
+    pub(crate) fn free(self, start: *mut u8, len: usize, block: Block)
+        requires { IsPlaced start × (block.place ≡ start) × (length block.items ≡ len) × (self.place ≡ start) × (self.len ≡ len) }
+    {
+        let Owner { alloc, lease } = self;
+        free(&alloc, start, len, block, lease);
     }
 }
 

@@ -9,8 +9,6 @@ mod region;
 mod slices;
 mod steps;
 pub mod stream;
-#[cfg(test)]
-mod tests;
 mod window;
 
 pub use device::{DeviceFault, Sink, Source, fill, write_all};

@@ -5,7 +5,7 @@ ghost use Rattle.raw_region.specs.Memory.{zeros, part, patched, bytes_of, word_a
 ghost use Rattle.raw_region.specs.Regions.{IsCapacity, IsApart};
 ghost use Rattle.raw_region.specs.LentTwo.{LendsTwo};
 
-use crate::block::{Block, Lease, allocate, free, two_parts, zero};
+use crate::block::{Block, Owner, two_parts};
 use byteorder::{ByteOrder, LittleEndian};
 use std::alloc::Global;
 use std::marker::Model;
@@ -16,12 +16,12 @@ use thiserror::Error;
 #[error("out of memory")]
 pub struct OutOfMemory;
 
-/// A run of bytes that has its own memory. It is freed once, when the region is dropped.
+/// A run of bytes that has its own memory. `new` takes it, and it is freed once, when the region is
+/// dropped. In between no call takes or gives back memory: none can reach an allocator.
 pub struct RawRegion {
     start: *mut u8,
     block: Block,
-    lease: Lease<Global>,
-    alloc: Global,
+    owner: Owner,
     capacity: u64,
 }
 
@@ -33,7 +33,7 @@ impl Model for RawRegion {
 
     ghost view = { λ r. r.block.items };
 
-    ghost invariant = { λ r. Holds r.start r.block.place r.lease.place r.block.items r.lease.len r.capacity × (r.lease.alloc ≡ r.alloc) };
+    ghost invariant = { λ r. Holds r.start r.block.place r.owner.place r.block.items r.owner.len r.capacity };
 }
 
 impl RawRegion {
@@ -47,16 +47,13 @@ impl RawRegion {
         ensures zeros { IfOk result (λ r. r ≡ zeros capacity) }
         ensures len { IfOk result (λ r. length r ≡ capacity) }
     {
-        let len = capacity as usize;
-        let Some((start, space, lease)) = allocate(&alloc, len) else {
+        let Some((start, block, owner)) = Owner::allocate(alloc, capacity as usize) else {
             return Err(OutOfMemory);
         };
-        let block = zero(start, len, space);
         Ok(RawRegion {
             start,
             block,
-            lease,
-            alloc,
+            owner,
             capacity,
         })
     }
@@ -155,11 +152,10 @@ impl Drop for RawRegion {
         let RawRegion {
             start,
             block,
-            lease,
-            alloc,
+            owner,
             capacity,
         } = self;
-        free(&alloc, start, capacity as usize, block, lease);
+        owner.free(start, capacity as usize, block);
     }
 }
 
@@ -170,17 +166,20 @@ pub struct Span {
     pub len: u64,
 }
 
-/// Whether two ranges have no byte in common.
+/// Whether two ranges have no byte in common. An empty range has none, wherever it begins.
 pub fn apart(a: Span, b: Span) -> bool
     ensures { IsTrue result ↔ IsApart a.from a.len b.from b.len }
 {
+    if a.len == 0 || b.len == 0 {
+        return true;
+    }
     if a.from <= b.from {
-        return a.len <= b.from - a.from || (b.len == 0 && b.from == a.from);
+        return a.len <= b.from - a.from;
     }
     b.len <= a.from - b.from
 }
 
-/// Two ranges of the bytes, lent together.
+/// Two ranges of the bytes that have none in common, lent together.
 pub fn two_mut(bytes: &mut [u8], a: Span, b: Span) -> (&mut [u8], &mut [u8])
     requires a_inside { a.from + a.len ≤ length bytes.old }
     requires b_inside { b.from + b.len ≤ length bytes.old }

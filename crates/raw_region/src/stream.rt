@@ -1,11 +1,57 @@
 //! std's readers and writers as a `Source` and a `Sink`.
-ghost use Rattle.std.specs.Prelude.{◌≡◌, [], false};
-ghost use Rattle.raw_region.specs.Streams.{Gave, Took};
+ghost use Rattle.std.specs.Prelude.{◌≡◌, ◌+◌, ◌^◌, ◌-◌, ◌<◌, ◌≤◌, ◌++◌, ℕ, List, [], false, Result, IfOk, OnErr, length, take};
+ghost use Rattle.std.specs.Io.KnownBytes.{ReadConsumes, WriteAppends};
+ghost use Rattle.raw_region.specs.Answers.{answers_end, failures_in, write_failures_in};
+ghost use Rattle.raw_region.specs.declared.device.DeviceFault.{DeviceFault as Fault};
 
 use crate::device::{DeviceFault, Sink, Source};
 use crate::history::History;
 use std::io::{Read, Write};
 use std::marker::Model;
+
+/// A reader that is asked once a call. Each reader of std is one.
+pub trait ReadOnce {
+    // What one read may answer, what stands in the slice then, and what the reader is then.
+    ghost read_gives: { Self → Result ℕ Fault → List ℕ → Self → Type 0 };
+
+    /// One read of the reader into the front of the slice, and its answer.
+    fn read_once(&mut self, into: &mut [u8]) -> Result<usize, DeviceFault>
+        ensures count { IfOk result (λ n. n ≤ length into.new) }
+        ensures once { read_gives self.old result into.new self.new };
+}
+
+impl<R: Read> ReadOnce for R {
+    ghost read_gives = { λ old answer bytes new. ReadConsumes (R.remaining old) (R.remaining new) answer bytes };
+
+    fn read_once(&mut self, into: &mut [u8]) -> Result<usize, DeviceFault> {
+        match self.read(into) {
+            Ok(given) => Ok(given),
+            Err(_) => Err(DeviceFault),
+        }
+    }
+}
+
+/// A writer that is given bytes once a call. Each writer of std is one.
+pub trait WriteOnce {
+    // What one write of these bytes may answer, and what the writer is then.
+    ghost write_gives: { Self → Result ℕ Fault → List ℕ → Self → Type 0 };
+
+    /// One write of the bytes to the writer, and its answer.
+    fn write_once(&mut self, bytes: &[u8]) -> Result<usize, DeviceFault>
+        ensures count { IfOk result (λ n. n ≤ length bytes.now) }
+        ensures once { write_gives self.old result bytes.now self.new };
+}
+
+impl<W: Write> WriteOnce for W {
+    ghost write_gives = { λ old answer bytes new. WriteAppends (W.contents old) (W.contents new) answer bytes };
+
+    fn write_once(&mut self, bytes: &[u8]) -> Result<usize, DeviceFault> {
+        match self.write(bytes) {
+            Ok(taken) => Ok(taken),
+            Err(_) => Err(DeviceFault),
+        }
+    }
+}
 
 /// A reader of std. Each of its errors is a failure, also where the reader may be asked again.
 #[derive(Drop)]
@@ -17,16 +63,18 @@ pub struct Reading<R> {
 }
 
 impl<R> Model for Reading<R> {
-    ghost use Rattle.raw_region.specs.Streams.{Gave};
+    ghost use Rattle.raw_region.specs.Streams.{GaveFrom, gave_from_code};
 
-    ghost Value = { Gave };
+    ghost Value = { GaveFrom R };
 
-    ghost view = { λ r. record { bytes = r.history.bytes; ended = r.ended; failures = r.failures } };
+    ghost coded = { gave_from_code R.code };
+
+    ghost view = { λ r. record { inner = r.inner; bytes = r.history.bytes; ended = r.ended; failures = r.failures } };
 }
 
-impl<R: Read> Reading<R> {
+impl<R: ReadOnce> Reading<R> {
     pub fn new(inner: R) -> Reading<R>
-        ensures { result ≡ record { bytes = []; ended = false; failures = 0 } }
+        ensures { result ≡ record { inner = inner; bytes = []; ended = false; failures = 0 } }
     {
         Reading {
             inner,
@@ -37,31 +85,41 @@ impl<R: Read> Reading<R> {
     }
 }
 
-impl<R: Read> Source for Reading<R> {
+impl<R: ReadOnce> Source for Reading<R> {
     ghost given = { λ r. r.bytes };
 
     ghost ended = { λ r. r.ended };
 
     ghost failures = { λ r. r.failures };
 
-    fn read(&mut self, into: &mut [u8]) -> Result<usize, DeviceFault> {
+    /// Asks the inner reader once, and answers what it answers.
+    fn read(&mut self, into: &mut [u8]) -> Result<usize, DeviceFault>
+        requires { self.old.failures < 2 ^ 64 - 1 }
+        ensures inner { R.read_gives self.old.inner result into.new self.new.inner }
+        ensures count { IfOk result (λ n. n ≤ length into.new) }
+        ensures bytes { IfOk result (λ n. self.new.bytes ≡ self.old.bytes ++ take n into.new) }
+        ensures no_bytes { OnErr result (self.new.bytes ≡ self.old.bytes) }
+        ensures end { 0 < length into.old → self.new.ended ≡ answers_end result }
+        ensures same_end { length into.old ≡ 0 → self.new.ended ≡ self.old.ended }
+        ensures counted { self.new.failures ≡ self.old.failures + failures_in result }
+    {
         let asked = !into.is_empty();
-        match self.inner.read(into) {
+        let answer = self.inner.read_once(into);
+        match answer {
             Ok(count) => {
                 self.history.record(&into[..count], 0);
                 if asked {
                     self.ended = count == 0;
                 }
-                Ok(count)
             }
             Err(_) => {
                 self.failures += 1;
                 if asked {
                     self.ended = false;
                 }
-                Err(DeviceFault)
             }
         }
+        answer
     }
 }
 
@@ -74,16 +132,18 @@ pub struct Writing<W> {
 }
 
 impl<W> Model for Writing<W> {
-    ghost use Rattle.raw_region.specs.Streams.{Took};
+    ghost use Rattle.raw_region.specs.Streams.{TookTo, took_to_code};
 
-    ghost Value = { Took };
+    ghost Value = { TookTo W };
 
-    ghost view = { λ w. record { bytes = w.history.bytes; failures = w.failures } };
+    ghost coded = { took_to_code W.code };
+
+    ghost view = { λ w. record { inner = w.inner; bytes = w.history.bytes; failures = w.failures } };
 }
 
-impl<W: Write> Writing<W> {
+impl<W: WriteOnce> Writing<W> {
     pub fn new(inner: W) -> Writing<W>
-        ensures { result ≡ record { bytes = []; failures = 0 } }
+        ensures { result ≡ record { inner = inner; bytes = []; failures = 0 } }
     {
         Writing {
             inner,
@@ -93,24 +153,30 @@ impl<W: Write> Writing<W> {
     }
 }
 
-impl<W: Write> Sink for Writing<W> {
+impl<W: WriteOnce> Sink for Writing<W> {
     ghost taken = { λ w. w.bytes };
 
     ghost failures = { λ w. w.failures };
 
-    fn write(&mut self, bytes: &[u8]) -> Result<usize, DeviceFault> {
-        match self.inner.write(bytes) {
+    /// Gives the bytes to the inner writer once, and answers what it answers.
+    fn write(&mut self, bytes: &[u8]) -> Result<usize, DeviceFault>
+        requires { self.old.failures < 2 ^ 64 - 1 }
+        ensures inner { W.write_gives self.old.inner result bytes.now self.new.inner }
+        ensures count { IfOk result (λ n. n ≤ length bytes.now) }
+        ensures bytes { IfOk result (λ n. self.new.bytes ≡ self.old.bytes ++ take n bytes.now) }
+        ensures no_bytes { OnErr result (self.new.bytes ≡ self.old.bytes) }
+        ensures counted { self.new.failures ≡ self.old.failures + write_failures_in result (length bytes.now) }
+    {
+        let answer = self.inner.write_once(bytes);
+        match answer {
             Ok(count) => {
                 self.history.record(&bytes[..count], 0);
                 if count == 0 && !bytes.is_empty() {
                     self.failures += 1;
                 }
-                Ok(count)
             }
-            Err(_) => {
-                self.failures += 1;
-                Err(DeviceFault)
-            }
+            Err(_) => self.failures += 1,
         }
+        answer
     }
 }

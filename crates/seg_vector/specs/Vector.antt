@@ -1,10 +1,11 @@
 -- Vectors, texts and vectors of texts: how they grow, and the bytes that spell them.
-use Rattle.std.specs.Prelude.{◌≡◌, ℕ, ◌+◌, ◌*◌, max, ℤ, Option, Some, None, List, [], ◌∷◌, length, flat_map, if◌then◌else◌, nat_lt, nat_le, ⊤, option_map}
-use Rattle.std.specs.List.{AllByRecursion}
+use Rattle.std.specs.Prelude.{◌≡◌, ℕ, ◌+◌, ◌*◌, max, ℤ, Bool, ◌&&◌, Option, Some, None, List, [], ◌∷◌, length, flat_map, if◌then◌else◌, nat_lt, nat_le, ⊤, option_map}
+use Rattle.std.specs.List.{AllByRecursion, list_all}
 use Rattle.raw_region.specs.Memory.{Memory, Has, word_at}
 use Rattle.offset_link.specs.Link.{link_at}
+use Rattle.block_tags.specs.declared.tile.Role.TheVariants.{Storage}
 use Rattle.best_fit.specs.Extents.{Extent, handle}
-use Rattle.best_fit.specs.Table.{Table, table_link}
+use Rattle.best_fit.specs.Table.{Table, is_table, table_link}
 use Rattle.seg_types.specs.declared.kinds.ScalarKind.{ScalarKind}
 use Rattle.seg_types.specs.Kinds.{spelling}
 
@@ -19,20 +20,31 @@ capacity_for_text len capacity = if nat_le len capacity then capacity else max (
 abbrev pub spelled : ScalarKind → List ℤ → List ℕ
 spelled k = flat_map (spelling k)
 
--- the block, where there is one, begins with these bytes
+-- The block begins with these bytes; without a block there are none. So a null link, the length 1 and the capacity 0 are no
+-- vector of one number.
 abbrev pub IsStorage : Memory → Table → List ℕ → Type 0
-IsStorage m t bytes = elim t.extent [ None ↦ ⊤ | Some x ↦ Has m (handle x) bytes ]
+IsStorage m t bytes = elim t.extent [ None ↦ bytes ≡ [] | Some x ↦ Has m (handle x) bytes ]
 
--- the container at an offset has these elements, which are len
+-- the container at an offset has these bytes, which spell len elements
 pub record IsContainerAt (m : Memory) (at len : ℕ) (t : Table) (bytes : List ℕ) : Type 0 where
   pub link : link_at m at ≡ table_link t
   pub len_word : word_at m (at + 8) ≡ len
   pub capacity : word_at m (at + 16) ≡ t.capacity
   pub storage : IsStorage m t bytes
 
-abbrev pub IsVectorAt : Memory → ℕ → ScalarKind → List ℤ → Table → Type 0
-IsVectorAt m at k items t = IsContainerAt m at (length items) t (spelled k items)
+-- the vector at an offset, of elements of any type
+abbrev pub IsVectorOf : {T : Type 0} → (T → List ℕ) → Memory → ℕ → List T → Table → Type 0
+IsVectorOf spelling_of m at items t = IsContainerAt m at (length items) t (flat_map spelling_of items)
 
+-- there are no more elements than places of so many bytes, and each is a value of its type
+abbrev pub is_vector : {T : Type 0} → ℕ → (T → Bool) → List T → Table → Bool
+is_vector size is_value items t = nat_le (length items) t.capacity && is_table Storage size t && list_all is_value items
+
+-- numbers of a scalar kind
+abbrev pub IsVectorAt : Memory → ℕ → ScalarKind → List ℤ → Table → Type 0
+IsVectorAt m at k items t = IsVectorOf (spelling k) m at items t
+
+-- bytes
 abbrev pub IsTextAt : Memory → ℕ → List ℕ → Table → Type 0
 IsTextAt m at bytes t = IsContainerAt m at (length bytes) t bytes
 
@@ -48,10 +60,10 @@ AreTextLinks m at (p ∷ ps) =
     (link_at m at ≡ option_map handle p.extent) × (word_at m (at + 8) ≡ length p.bytes) × AreTextLinks m (at + 16) ps
 
 abbrev pub IsOwnedText : Memory → OwnedText → Type 0
-IsOwnedText m p = elim p.extent [ None ↦ ⊤ | Some x ↦ Has m (handle x) p.bytes ]
+IsOwnedText m p = elim p.extent [ None ↦ p.bytes ≡ [] | Some x ↦ Has m (handle x) p.bytes ]
 
 abbrev pub AreInArray : Memory → Table → List OwnedText → Type 0
-AreInArray m t ps = elim t.extent [ None ↦ ⊤ | Some x ↦ AreTextLinks m (handle x) ps ]
+AreInArray m t ps = elim t.extent [ None ↦ ps ≡ [] | Some x ↦ AreTextLinks m (handle x) ps ]
 
 -- the vector of texts at an offset: its array has the elements, and each text stands in a block of its own
 pub record IsTextsAt (m : Memory) (at : ℕ) (ps : List OwnedText) (t : Table) : Type 0 where

@@ -1,19 +1,22 @@
--- Why a session has no segment, from what the call that was to make or open it answered.
-use Rattle.std.proofs.Common.{◌≡◌, ℕ, List, length, false, true, IsTrue, Result, Err, refl, sym, ap, ◌∙◌}
+-- The segment that a session begins with, or why it has none, from what the call that was to make or open it answered.
+use Rattle.std.proofs.Common.{◌≡◌, ℕ, List, length, false, true, IsTrue, Result, Ok, Err, refl, sym, ap, subst, ◌∙◌, arith}
 use Rattle.raw_region.specs.Device.{Given}
+use Rattle.raw_region.specs.Format.{current}
 use Rattle.block_tags.specs.Format.{is_legal_size}
 use Rattle.segment_manager.specs.declared.modes.Mode.{Mode}
 use Rattle.segment_manager.specs.declared.errors.CreateError.{CreateError}
 use Rattle.segment_manager.specs.declared.errors.CreateError.TheVariants.{BadSize as NoSize, RegionTooSmall as NoRoom}
-use Rattle.segment_manager.specs.State.{State}
-use Rattle.segment_manager.specs.Calls.{IsWhy}
+use Rattle.segment_manager.specs.Directory.{empty}
+use Rattle.segment_manager.specs.State.{State, StandsFor}
+use Rattle.segment_manager.specs.Calls.{IsCreated, IsWhy}
 use Rattle.image_check.specs.declared.errors.OpenError.{OpenError}
 use Rattle.image_check.specs.declared.errors.OpenError.TheVariants.{Image as NoImage, RegionTooSmall as NoRoomForImage, OutOfMemory as NoMemory, ReadFault as NotRead}
-use Rattle.image_check.specs.Opening.{IsWhyNot, IsTooSmallFor}
+use Rattle.image_check.specs.Opening.{IsOpened, IsWhyNot, IsTooSmallFor}
 use Rattle.segment_cli.specs.declared.faults.Start.TheVariants.{Fresh, Image}
 use Rattle.segment_cli.specs.declared.faults.SessionFault.{SessionFault}
 use Rattle.segment_cli.specs.Session.{IsUntouched}
 use Rattle.segment_cli.specs.Beginning.{Starts, IsWhyNotBegun, created_fault, opened_fault}
+use Rattle.segment_cli.proofs.Zeros.{created_zeros, zeros_read}
 
 illegal : (size : ℕ) → is_legal_size size ≡ false → IsTrue (is_legal_size size) → ⊥
 illegal size refused legal =
@@ -35,16 +38,53 @@ not_created region base size mode image NoRoom why untouched = record {
   too_small = λ p. refl;
 }
 
-why_not_begun : (image : Given) (base capacity : ℕ) (cause : OpenError) → IsWhyNot image base capacity cause → IsWhyNotBegun Image image base capacity (opened_fault cause)
+-- an empty segment was made
+pub created : (region : List ℕ) (base size : ℕ) (mode : Mode) (image : Given) (s : State) → IsCreated region base size mode s → IsUntouched image
+    → Starts (Fresh size) mode base (length region) image (Ok s)
+created region base size mode image s h untouched = record {
+  answers = record {
+    from = empty size;
+    begins = (h.legal, refl);
+    mode = h.mode;
+    stands = h.stands;
+    zeros = λ began. created_zeros region base size mode s h;
+    read = untouched.failed;
+  };
+  left = untouched;
+  bad_size = λ p. absurd (illegal size p h.legal);
+  too_small = λ p. absurd (let fits = h.fits in let short = p.1 in omega arith);
+}
+
+-- the image was opened
+pub opened : (region : List ℕ) (base : ℕ) (mode : Mode) (image : Given) (s : State) → IsOpened current image region base mode s → (IsTooSmallFor current image base (length region) → ⊥)
+    → Starts Image mode base (length region) image (Ok s)
+opened region base mode image s h small =
+    let d = h.denotes.0 in
+    let stands : StandsFor image.bytes d = record { denotes = h.denotes.1.denotes; landed = h.denotes.1.landed } in
+    record {
+      answers = record {
+        from = d;
+        begins = (h.read.ended, stands);
+        mode = h.mode;
+        stands = subst (λ (b : List ℕ). StandsFor b d) (sym h.bytes) stands;
+        zeros = λ began. zeros_read s image.bytes h.bytes began;
+        read = h.read.failed;
+      };
+      left = tt;
+      bad_size = λ p. absurd p;
+      too_small = λ p. absurd (small p);
+    }
+
+why_not_begun : (image : Given) (base capacity : ℕ) (cause : OpenError) → IsWhyNot current image base capacity cause → IsWhyNotBegun Image image base capacity (opened_fault cause)
 why_not_begun image base capacity (NoImage c) why = (refl, why)
 why_not_begun image base capacity NoRoomForImage why = why
-why_not_begun image base capacity NoMemory why = (refl, why)
+why_not_begun image base capacity NoMemory why = why
 why_not_begun image base capacity NotRead why = (refl, why)
 
 abbrev no_segment : OpenError → Result State SessionFault
 no_segment cause = Err (opened_fault cause)
 
-pub not_opened : (image : Given) (base capacity : ℕ) (mode : Mode) (cause : OpenError) → IsWhyNot image base capacity cause → (IsTooSmallFor image base capacity → cause ≡ NoRoomForImage)
+pub not_opened : (image : Given) (base capacity : ℕ) (mode : Mode) (cause : OpenError) → IsWhyNot current image base capacity cause → (IsTooSmallFor current image base capacity → cause ≡ NoRoomForImage)
     → Starts Image mode base capacity image (Err (opened_fault cause))
 not_opened image base capacity mode cause why small = record {
   answers = why_not_begun image base capacity cause why;

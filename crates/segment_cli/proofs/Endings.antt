@@ -3,11 +3,12 @@ use Rattle.std.proofs.Common.{◌≡◌, ℕ, Bool, false, true, inl, inr, List,
 use Rattle.std.proofs.lemmas.List.{take-append-drop, length-drop}
 use Rattle.raw_region.specs.Answers.{AddsFront}
 use Rattle.raw_region.specs.Device.{Taken, IsProperPrefix, given_since, taken_since}
+use Rattle.raw_region.specs.Format.{current}
 use Rattle.segment_manager.specs.declared.modes.Mode.{Mode}
 use Rattle.segment_manager.specs.declared.modes.Mode.TheVariants.{Write}
 use Rattle.segment_manager.specs.Directory.{Directory}
 use Rattle.segment_manager.specs.State.{State, StandsFor}
-use Rattle.image_check.specs.Opening.{IsRefusedAs, NeedsMemory}
+use Rattle.image_check.specs.Opening.{IsRefusedAs}
 use Rattle.segment_lang.specs.Language.{landed}
 use Rattle.segment_cli.specs.declared.faults.Start.{Start}
 use Rattle.segment_cli.specs.declared.faults.Start.TheVariants.{Image}
@@ -16,12 +17,13 @@ use Rattle.segment_cli.specs.declared.faults.RunFault.TheVariants.{ReadFault as 
 use Rattle.segment_cli.specs.declared.faults.SessionFault.{SessionFault}
 use Rattle.segment_cli.specs.declared.faults.SessionFault.TheVariants.{Image as Refused, BadSize, RegionTooSmall, OutOfMemory, ReadFault, WriteFault, ScriptTooLong}
 use Rattle.segment_cli.specs.Run.{run}
-use Rattle.segment_cli.specs.Session.{Traffic, Saves, IsUntouched, IsSizeRefused, IsTooSmall, IsDone, IsImageUnwritten, IsRefusedBefore, AnswersFault, IsSession}
+use Rattle.segment_cli.specs.Session.{Traffic, KeepsZeros, Saves, IsUntouched, IsSizeRefused, IsTooSmall, IsDone, IsImageUnwritten, IsRefusedBefore, AnswersFault, IsSession}
 use Rattle.segment_cli.specs.Beginning.{Starts, IsBegun, IsWhyNotBegun, run_fault}
 use Rattle.segment_cli.specs.Leaves.{LeavesFault, RunsWhole}
-use Rattle.segment_cli.specs.Segments.{answer_line}
+use Rattle.segment_cli.specs.Segments.{Place, IsAt, answer_line}
 use Rattle.segment_cli.proofs.Cuts.{none_failed, nothing_yet, added}
-use Rattle.segment_cli.proofs.SessionLaws.{stands_done, prints_done, done, script_unread, answer_unwritten, script_too_long}
+use Rattle.segment_cli.proofs.Zeros.{zeros_saved}
+use Rattle.segment_cli.proofs.SessionLaws.{place, stands_done, prints_done, done, script_unread, answer_unwritten, script_too_long}
 
 -- a writer was not asked
 pub record IsUnwritten (t : Taken) : Type 0 where
@@ -40,9 +42,12 @@ front_added old new image h =
     let parts : image ≡ take h.count image ++ drop h.count image = sym (take-append-drop h.count image) in
     (drop h.count image, rw (added old new (take h.count image) h.added) parts, let more = length-drop h.count image in omega (arith, h.fewer))
 
--- the places of a segment
-abbrev pub Stands : State → Mode × Directory → Type 0
-Stands s at = (s.mode ≡ at.0) × StandsFor s.cut.bytes at.1
+-- a segment with which a session begins stands at its directory; nothing need be known of its gaps
+abbrev pub first : Mode → Directory → Place
+first mode d = place mode d false
+
+pub at_first : (mode : Mode) (d : Directory) (s : State) → s.mode ≡ mode → StandsFor s.cut.bytes d → IsAt s (first mode d)
+at_first mode d s is stands = record { mode = is; denotes = stands; zeros = λ e. absurd (cc) }
 
 -- ---- faults, as the call before answers them
 
@@ -72,10 +77,10 @@ module _ (start : Start) (mode : Mode) (base capacity : ℕ) (t : Traffic) where
   }
 
   not_begun : (fault : SessionFault) → IsWhyNotBegun start t.image base capacity fault → IsUntouched t.script → IsUnwritten t.out → IsUnwritten t.saved → AnswersFault start mode base capacity t fault
-  not_begun (Refused c) why script out saved = refused_before ((start ≡ Image) × IsRefusedAs t.image c) why script out saved
+  not_begun (Refused c) why script out saved = refused_before ((start ≡ Image) × IsRefusedAs current t.image c) why script out saved
   not_begun BadSize why script out saved = refused_before (IsSizeRefused start) why script out saved
   not_begun RegionTooSmall why script out saved = refused_before (IsTooSmall start t.image base capacity) why script out saved
-  not_begun OutOfMemory why script out saved = refused_before ((start ≡ Image) × NeedsMemory t.image) why script out saved
+  not_begun OutOfMemory why script out saved = absurd why
   not_begun ReadFault why script out saved = inl (record {
     image = why.0;
     undecided = why.1;
@@ -105,53 +110,64 @@ module _ (start : Start) (mode : Mode) (base capacity : ℕ) (t : Traffic) where
   }
 
   stopped : (s s' : State) (fault : RunFault) → IsBegun start mode t.image s
-      → ((at : Mode × Directory) → Stands s at → LeavesFault answer_line at t.script t.out fault (Stands s'))
+      → ((at : Place) → IsAt s at → LeavesFault answer_line at t.script t.out fault (IsAt s'))
       → IsUnwritten t.saved → AnswersFault start mode base capacity t (run_fault fault)
-  stopped s s' ScriptNotRead b leaves saved = inr (script_unread start mode t b.from b.begins (Stands s') b.read saved.failed (leaves (mode, b.from) (b.mode, b.stands)) saved.bytes)
-  stopped s s' AnswerNotWritten b leaves saved = inl (answer_unwritten start mode t b.from b.begins (Stands s') b.read saved.failed (leaves (mode, b.from) (b.mode, b.stands)) saved.bytes)
-  stopped s s' TooLong b leaves saved = script_too_long start mode t b.from b.begins (Stands s') b.read saved.failed (leaves (mode, b.from) (b.mode, b.stands)) saved.bytes
+  stopped s s' ScriptNotRead b leaves saved = inr (script_unread start mode t b.from false b.begins (IsAt s') b.read saved.failed (leaves (first mode b.from) (at_first mode b.from s b.mode b.stands)) saved.bytes)
+  stopped s s' AnswerNotWritten b leaves saved = inl (answer_unwritten start mode t b.from false b.begins (IsAt s') b.read saved.failed (leaves (first mode b.from) (at_first mode b.from s b.mode b.stands)) saved.bytes)
+  stopped s s' TooLong b leaves saved = script_too_long start mode t b.from false b.begins (IsAt s') b.read saved.failed (leaves (first mode b.from) (at_first mode b.from s b.mode b.stands)) saved.bytes
 
   -- the script was not run to its end
   pub stopped_session : (s s' : State) (fault : RunFault) → Starts start mode base capacity t.image (Ok s)
-      → ((at : Mode × Directory) → Stands s at → LeavesFault answer_line at t.script t.out fault (Stands s'))
+      → ((at : Place) → IsAt s at → LeavesFault answer_line at t.script t.out fault (IsAt s'))
       → IsUnwritten t.saved → IsSession start mode base capacity t (Err (run_fault fault))
   stopped_session s s' fault h leaves saved = begun_session s (Err (run_fault fault)) h (stopped s s' fault h.answers leaves saved)
 
+  -- the gaps of the last image are zero where the script leaves them so
+  zeros_kept : (s s' : State) (b : IsBegun start mode t.image s)
+      → ((at : Place) → IsAt s at → RunsWhole answer_line at t.script t.out (IsAt s'))
+      → (image : List ℕ) → image ≡ s'.cut.bytes → KeepsZeros start mode t.image b.from t.script.bytes image
+  zeros_kept s s' b leaves image e = λ known began after.
+      let ran = leaves (place mode b.from known) (record { mode = b.mode; denotes = b.stands; zeros = λ e. b.zeros (began e) }) in
+      zeros_saved s' image e ((stands_done mode b.from known t (IsAt s') ran).zeros after)
+
   -- the last directory was saved as the mode wants it
   pub done_session : (s s' : State) (u : Unit {0}) → Starts start mode base capacity t.image (Ok s)
-      → ((at : Mode × Directory) → Stands s at → RunsWhole answer_line at t.script t.out (Stands s'))
+      → ((at : Place) → IsAt s at → RunsWhole answer_line at t.script t.out (IsAt s'))
       → ((d : Directory) → StandsFor s'.cut.bytes d → Saves s'.mode t.saved.bytes d)
+      → (s'.mode ≡ Write → t.saved.bytes ≡ s'.cut.bytes)
       → t.saved.failed ≡ false → IsSession start mode base capacity t (Ok u)
-  done_session s s' u h leaves saves saved =
+  done_session s s' u h leaves saves bytes saved =
       let b = h.answers in
-      let ran = leaves (mode, b.from) (b.mode, b.stands) in
-      let last = stands_done mode b.from t (Stands s') ran in
+      let ran = leaves (first mode b.from) (at_first mode b.from s b.mode b.stands) in
+      let last = stands_done mode b.from false t (IsAt s') ran in
       let d = (run landed mode b.from t.script.bytes).1 in
-      begun_session s (Ok u) h (done start mode t b.from b.begins (Stands s') b.read saved ran (subst (λ (m : Mode). Saves m t.saved.bytes d) last.0 (saves d last.1)))
+      begun_session s (Ok u) h (done start mode t b.from false b.begins (IsAt s') b.read saved ran (subst (λ (m : Mode). Saves m t.saved.bytes d) last.mode (saves d last.denotes))
+      (λ writes. zeros_kept s s' b leaves t.saved.bytes (bytes (last.mode ∙ writes))))
 
   -- all was answered, and of the image a proper prefix was written
   unsaved : (s s' : State) → IsBegun start mode t.image s
-      → ((at : Mode × Directory) → Stands s at → RunsWhole answer_line at t.script t.out (Stands s'))
+      → ((at : Place) → IsAt s at → RunsWhole answer_line at t.script t.out (IsAt s'))
       → s'.mode ≡ Write → IsProperPrefix t.saved.bytes s'.cut.bytes → t.saved.failed ≡ true → IsImageUnwritten start mode t
   unsaved s s' b leaves how part saved =
-      let ran = leaves (mode, b.from) (b.mode, b.stands) in
-      let last = stands_done mode b.from t (Stands s') ran in
+      let ran = leaves (first mode b.from) (at_first mode b.from s b.mode b.stands) in
+      let last = stands_done mode b.from false t (IsAt s') ran in
       record {
         cut = record {
-          writes = sym last.0 ∙ how;
+          writes = sym last.mode ∙ how;
           from = b.from;
           begins = b.begins;
           whole = ran.whole;
           within = ran.within;
-          prints = prints_done mode b.from t (Stands s') ran;
+          prints = prints_done mode b.from false t (IsAt s') ran;
           image = s'.cut.bytes;
-          denotes = last.1;
+          denotes = last.denotes;
+          zeros = zeros_kept s s' b leaves s'.cut.bytes refl;
           part = part;
         };
         failed = rw (b.read, ran.read, ran.written, saved) refl;
       }
 
   pub unsaved_session : (s s' : State) → Starts start mode base capacity t.image (Ok s)
-      → ((at : Mode × Directory) → Stands s at → RunsWhole answer_line at t.script t.out (Stands s'))
+      → ((at : Place) → IsAt s at → RunsWhole answer_line at t.script t.out (IsAt s'))
       → s'.mode ≡ Write → IsProperPrefix t.saved.bytes s'.cut.bytes → t.saved.failed ≡ true → IsSession start mode base capacity t (Err WriteFault)
   unsaved_session s s' h leaves how part saved = begun_session s (Err WriteFault) h (inr (unsaved s s' h.answers leaves how part saved))

@@ -8,4 +8,5 @@ pub mod Replies
 pub mod Listing
 pub mod Endings
 pub mod Beginnings
+pub mod Zeros
 pub mod SavedImages

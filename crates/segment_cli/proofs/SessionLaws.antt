@@ -1,33 +1,43 @@
 -- What a run leaves at a segment is what a session owes.
-use Rattle.std.proofs.Common.{◌≡◌, ℕ, false, List, [], ◌∷◌, ◌++◌, take, refl, sym, ap, subst, ◌∙◌}
+use Rattle.std.proofs.Common.{◌≡◌, ℕ, Bool, false, List, [], ◌∷◌, ◌++◌, take, refl, sym, ap, subst, ◌∙◌}
 use Rattle.std.proofs.lemmas.List.{take_all}
 use Rattle.raw_region.specs.Device.{IsProperPrefix}
 use Rattle.segment_lang.specs.Language.{landed}
 use Rattle.segment_lang.specs.Reading.{reading}
 use Rattle.segment_manager.specs.declared.modes.Mode.{Mode}
+use Rattle.segment_manager.specs.declared.modes.Mode.TheVariants.{Write}
 use Rattle.segment_manager.specs.Directory.{Directory}
 use Rattle.segment_cli.specs.declared.faults.Start.{Start}
 use Rattle.segment_cli.specs.Run.{lines, respond, run, run_lines}
-use Rattle.segment_cli.specs.Session.{script_limit, whole_lines, Traffic, Begins, Saves, IsDone, IsCut, IsScriptUnread, IsAnswerUnwritten, IsScriptTooLong}
+use Rattle.segment_cli.specs.ZeroGaps.{zeros_after, zeros_after_lines, zeros_after_run}
+use Rattle.segment_cli.specs.Session.{script_limit, whole_lines, Traffic, Begins, KeepsZeros, Saves, IsDone, IsCut, IsScriptUnread, IsAnswerUnwritten, IsScriptTooLong}
 use Rattle.segment_cli.specs.Leaves.{answer_all, Answers, RunsWhole, IsCutByReader, IsCutByWriter, IsCutAtLimit}
 use Rattle.segment_cli.specs.Lines.{ended_lines}
-use Rattle.segment_cli.specs.Segments.{answer_line}
+use Rattle.segment_cli.specs.Segments.{Place, answer_line}
 
 -- ---- a run of lines
 
+abbrev pub place : Mode → Directory → Bool → Place
+place mode d known = record { mode = mode; directory = d; zeros = known }
+
+-- where lines lead
+abbrev behind : Mode → Directory → Bool → List (List ℕ) → Place
+behind mode d known ls = place mode (run_lines landed mode d ls).1 (zeros_after_lines landed mode d ls known)
+
 -- the answers of a segment, and its last place
-pub answer_all-segment : (mode : Mode) (d : Directory) (ls : List (List ℕ))
-    → answer_all answer_line (mode, d) ls ≡ ((run_lines landed mode d ls).0, (mode, (run_lines landed mode d ls).1))
-answer_all-segment mode d [] = refl
-answer_all-segment mode d (l ∷ ls) =
-    let first = respond mode d (reading landed l) in
-    ap (λ (r : List ℕ × (Mode × Directory)). (first.0 ++ r.0, r.1)) (answer_all-segment mode first.1 ls)
+pub answer_all-segment : (mode : Mode) (d : Directory) (known : Bool) (ls : List (List ℕ))
+    → answer_all answer_line (place mode d known) ls ≡ ((run_lines landed mode d ls).0, behind mode d known ls)
+answer_all-segment mode d known [] = refl
+answer_all-segment mode d known (l ∷ ls) =
+    let asked = reading landed l in
+    let first = respond mode d asked in
+    ap (λ (r : List ℕ × Place). (first.0 ++ r.0, r.1)) (answer_all-segment mode first.1 (zeros_after mode d asked known) ls)
 
-printed-segment : (mode : Mode) (d : Directory) (ls : List (List ℕ)) → (answer_all answer_line (mode, d) ls).0 ≡ (run_lines landed mode d ls).0
-printed-segment mode d ls = ap (λ (r : List ℕ × (Mode × Directory)). r.0) (answer_all-segment mode d ls)
+printed-segment : (mode : Mode) (d : Directory) (known : Bool) (ls : List (List ℕ)) → (answer_all answer_line (place mode d known) ls).0 ≡ (run_lines landed mode d ls).0
+printed-segment mode d known ls = ap (λ (r : List ℕ × Place). r.0) (answer_all-segment mode d known ls)
 
-place-segment : (mode : Mode) (d : Directory) (ls : List (List ℕ)) → (answer_all answer_line (mode, d) ls).1 ≡ (mode, (run_lines landed mode d ls).1)
-place-segment mode d ls = ap (λ (r : List ℕ × (Mode × Directory)). r.1) (answer_all-segment mode d ls)
+place-segment : (mode : Mode) (d : Directory) (known : Bool) (ls : List (List ℕ)) → (answer_all answer_line (place mode d known) ls).1 ≡ behind mode d known ls
+place-segment mode d known ls = ap (λ (r : List ℕ × Place). r.1) (answer_all-segment mode d known ls)
 
 run-lines : (mode : Mode) (d : Directory) (script : List ℕ) → run landed mode d script ≡ run_lines landed mode d (lines script)
 unfolding run
@@ -37,59 +47,72 @@ run-ended : (mode : Mode) (d : Directory) (bytes : List ℕ) → run landed mode
 unfolding ended_lines
 run-ended mode d bytes = run-lines mode d (whole_lines bytes)
 
+zeros-lines : (mode : Mode) (d : Directory) (script : List ℕ) (known : Bool) → zeros_after_run landed mode d script known ≡ zeros_after_lines landed mode d (lines script) known
+unfolding zeros_after_run
+zeros-lines mode d script known = refl
+
 -- ---- a script that was run whole, from a directory
 
-module _ (mode : Mode) (from : Directory) (t : Traffic) (Stands : Mode × Directory → Type 0) where
-  -- its last directory
-  pub stands_done : RunsWhole answer_line (mode, from) t.script t.out Stands → Stands (mode, (run landed mode from t.script.bytes).1)
-  stands_done h = subst Stands (place-segment mode from (lines t.script.bytes) ∙ ap (λ (r : List ℕ × Directory). (mode, r.1)) (sym (run-lines mode from t.script.bytes))) h.answers.stands
+-- where it leads
+abbrev pub end_of : Mode → Directory → Bool → List ℕ → Place
+end_of mode from known script = place mode (run landed mode from script).1 (zeros_after_run landed mode from script known)
+
+end-behind : (mode : Mode) (from : Directory) (known : Bool) (script : List ℕ) → end_of mode from known script ≡ behind mode from known (lines script)
+end-behind mode from known script = rw (run-lines mode from script, zeros-lines mode from script known) refl
+
+module _ (mode : Mode) (from : Directory) (known : Bool) (t : Traffic) (Stands : Place → Type 0) where
+  -- its last place
+  pub stands_done : RunsWhole answer_line (place mode from known) t.script t.out Stands → Stands (end_of mode from known t.script.bytes)
+  stands_done h = subst Stands (place-segment mode from known (lines t.script.bytes) ∙ sym (end-behind mode from known t.script.bytes)) h.answers.stands
 
   -- and its answers
-  pub prints_done : RunsWhole answer_line (mode, from) t.script t.out Stands → t.out.bytes ≡ (run landed mode from t.script.bytes).0
-  prints_done h = h.answers.prints ∙ printed-segment mode from (lines t.script.bytes) ∙ ap (λ (r : List ℕ × Directory). r.0) (sym (run-lines mode from t.script.bytes))
+  pub prints_done : RunsWhole answer_line (place mode from known) t.script t.out Stands → t.out.bytes ≡ (run landed mode from t.script.bytes).0
+  prints_done h = h.answers.prints ∙ printed-segment mode from known (lines t.script.bytes) ∙ ap (λ (r : List ℕ × Directory). r.0) (sym (run-lines mode from t.script.bytes))
 
 -- ---- what a session owes, where it began at this directory
 
-module _ (start : Start) (mode : Mode) (t : Traffic) (from : Directory) (begins : Begins start t.image from) (Stands : Mode × Directory → Type 0) (image : t.image.failed ≡ false) (saved : t.saved.failed ≡ false) where
-  pub done : RunsWhole answer_line (mode, from) t.script t.out Stands → Saves mode t.saved.bytes (run landed mode from t.script.bytes).1 → IsDone start mode t
-  done h saves = record {
+module _ (start : Start) (mode : Mode) (t : Traffic) (from : Directory) (known : Bool) (begins : Begins start t.image from) (Stands : Place → Type 0) (image : t.image.failed ≡ false) (saved : t.saved.failed ≡ false) where
+  pub done : RunsWhole answer_line (place mode from known) t.script t.out Stands → Saves mode t.saved.bytes (run landed mode from t.script.bytes).1
+      → (mode ≡ Write → KeepsZeros start mode t.image from t.script.bytes t.saved.bytes) → IsDone start mode t
+  done h saves zeros = record {
     from = from;
     begins = begins;
     whole = h.whole;
     within = h.within;
-    prints = prints_done mode from t Stands h;
+    prints = prints_done mode from known t Stands h;
     saves = saves;
+    zeros = zeros;
     failed = rw (image, h.read, h.written, saved) refl;
   }
 
-  cut : Answers answer_line (mode, from) (ended_lines (take script_limit t.script.bytes)) t.out.bytes Stands → t.saved.bytes ≡ [] → IsCut start mode t
+  cut : Answers answer_line (place mode from known) (ended_lines (take script_limit t.script.bytes)) t.out.bytes Stands → t.saved.bytes ≡ [] → IsCut start mode t
   cut h nothing = record {
     from = from;
     begins = begins;
-    prints = h.prints ∙ printed-segment mode from (ended_lines (take script_limit t.script.bytes)) ∙ ap (λ (r : List ℕ × Directory). r.0) (sym (run-ended mode from (take script_limit t.script.bytes)));
+    prints = h.prints ∙ printed-segment mode from known (ended_lines (take script_limit t.script.bytes)) ∙ ap (λ (r : List ℕ × Directory). r.0) (sym (run-ended mode from (take script_limit t.script.bytes)));
     saves = nothing;
   }
 
-  pub script_unread : IsCutByReader answer_line (mode, from) t.script t.out Stands → t.saved.bytes ≡ [] → IsScriptUnread start mode t
+  pub script_unread : IsCutByReader answer_line (place mode from known) t.script t.out Stands → t.saved.bytes ≡ [] → IsScriptUnread start mode t
   script_unread h nothing =
       let all = take_all script_limit t.script.bytes h.within in
       record {
         within = h.within;
-        cut = cut (subst (λ (l : List ℕ). Answers answer_line (mode, from) (ended_lines l) t.out.bytes Stands) (sym all) h.answers) nothing;
+        cut = cut (subst (λ (l : List ℕ). Answers answer_line (place mode from known) (ended_lines l) t.out.bytes Stands) (sym all) h.answers) nothing;
         failed = rw (image, h.read, h.written, saved) refl;
       }
 
-  pub script_too_long : IsCutAtLimit answer_line (mode, from) t.script t.out Stands → t.saved.bytes ≡ [] → IsScriptTooLong start mode t
+  pub script_too_long : IsCutAtLimit answer_line (place mode from known) t.script t.out Stands → t.saved.bytes ≡ [] → IsScriptTooLong start mode t
   script_too_long h nothing = record {
     long = h.beyond;
     cut = cut h.answers nothing;
     failed = rw (image, h.read, h.written, saved) refl;
   }
 
-  pub answer_unwritten : IsCutByWriter answer_line (mode, from) t.script t.out Stands → t.saved.bytes ≡ [] → IsAnswerUnwritten start mode t
+  pub answer_unwritten : IsCutByWriter answer_line (place mode from known) t.script t.out Stands → t.saved.bytes ≡ [] → IsAnswerUnwritten start mode t
   answer_unwritten h nothing =
       let a = h.answers in
-      let place = place-segment mode from a.answered in
+      let led = place-segment mode from known a.answered in
       record {
         cut = record {
           from = from;
@@ -99,8 +122,8 @@ module _ (start : Start) (mode : Mode) (t : Traffic) (from : Directory) (begins 
           rest = a.rest;
           script = a.parts;
           front = a.front;
-          prints = a.prints ∙ ap (λ (l : List ℕ). l ++ a.front) (printed-segment mode from a.answered);
-          part = subst (λ (at : Mode × Directory). IsProperPrefix a.front (answer_line at a.next).0) place a.part;
+          prints = a.prints ∙ ap (λ (l : List ℕ). l ++ a.front) (printed-segment mode from known a.answered);
+          part = subst (λ (at : Place). IsProperPrefix a.front (answer_line at a.next).0) led a.part;
           saves = nothing;
         };
         failed = rw (image, h.read, h.written, saved) refl;

@@ -6,7 +6,7 @@ use Rattle.best_fit.specs.Extents.{Span, handle}
 use Rattle.seg_types.specs.declared.kinds.ScalarKind.{ScalarKind}
 use Rattle.seg_types.specs.declared.kinds.Class.{Class}
 use Rattle.seg_types.specs.declared.kinds.Class.TheVariants.{Anonymous, Named, Unique}
-use Rattle.seg_map.specs.Map.{Pair}
+use Rattle.seg_map.specs.Numbers.{NumberPair}
 use Rattle.seg_vector.specs.Vector.{OwnedText}
 use Rattle.segment_lang.specs.Texts.{number_text, quoted_text, name_text, value_text, kind_text, refusal_text}
 use Rattle.segment_manager.specs.Directory.{Value, Numbers, Elements, Bytes, Pairs, Texts, Object, kind_of, count_of}
@@ -24,7 +24,7 @@ handle_text h = 0x23 ∷ number_text h
 abbrev pub object_handle : Object → List ℕ
 object_handle o = handle_text (handle o.extent)
 
-abbrev pub pair_text : ScalarKind → ScalarKind → Pair → List ℕ
+abbrev pub pair_text : ScalarKind → ScalarKind → NumberPair → List ℕ
 pair_text k v p = value_text k p.key ++ 0x3D ∷ value_text v p.value
 
 abbrev pub shown_words : Value → List (List ℕ)

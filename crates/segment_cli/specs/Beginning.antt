@@ -1,21 +1,23 @@
 -- How a session begins: with a segment for its script, or with the fault that it ends with.
 use Rattle.std.specs.Prelude.{◌≡◌, ℕ, false, Result, Err, MatchResult}
 use Rattle.raw_region.specs.Device.{Given}
+use Rattle.raw_region.specs.Format.{current}
 use Rattle.segment_manager.specs.declared.modes.Mode.{Mode}
 use Rattle.segment_manager.specs.declared.errors.CreateError.{CreateError}
 use Rattle.segment_manager.specs.declared.errors.CreateError.TheVariants.{BadSize as NoSize, RegionTooSmall as NoRoom}
 use Rattle.segment_manager.specs.Directory.{Directory}
 use Rattle.segment_manager.specs.State.{State, StandsFor}
+use Rattle.segment_manager.specs.Calls.{HasZeroGaps}
 use Rattle.image_check.specs.declared.errors.OpenError.{OpenError}
 use Rattle.image_check.specs.declared.errors.OpenError.TheVariants.{Image as NoImage, RegionTooSmall as NoRoomForImage, OutOfMemory as NoMemory, ReadFault as NotRead}
-use Rattle.image_check.specs.Opening.{IsRefusedAs, NeedsMemory, IsUndecided}
+use Rattle.image_check.specs.Opening.{IsRefusedAs, IsUndecided}
 use Rattle.segment_cli.specs.declared.faults.Start.{Start}
 use Rattle.segment_cli.specs.declared.faults.Start.TheVariants.{Image}
 use Rattle.segment_cli.specs.declared.faults.RunFault.{RunFault}
 use Rattle.segment_cli.specs.declared.faults.RunFault.TheVariants.{ReadFault as ScriptNotRead, WriteFault as AnswerNotWritten, ScriptTooLong as TooLong}
 use Rattle.segment_cli.specs.declared.faults.SessionFault.{SessionFault}
 use Rattle.segment_cli.specs.declared.faults.SessionFault.TheVariants.{Image as Refused, BadSize, RegionTooSmall, OutOfMemory, ReadFault, WriteFault, ScriptTooLong}
-use Rattle.segment_cli.specs.Session.{Begins, IsImageLeft, IsSizeRefused, IsTooSmall}
+use Rattle.segment_cli.specs.Session.{Begins, BeginsWithZeros, IsImageLeft, IsSizeRefused, IsTooSmall}
 
 -- the faults that a session hands on under names of its own
 abbrev pub created_fault : CreateError → SessionFault
@@ -39,15 +41,16 @@ pub record IsBegun (start : Start) (how : Mode) (image : Given) (s : State) : Ty
   pub begins : Begins start image from
   pub mode : s.mode ≡ how
   pub stands : StandsFor s.cut.bytes from
+  pub zeros : BeginsWithZeros start image → HasZeroGaps s
   pub read : image.failed ≡ false
 
--- why there is no segment
+-- why there is no segment; for want of memory it never is
 abbrev pub IsWhyNotBegun : Start → Given → ℕ → ℕ → SessionFault → Type 0
-IsWhyNotBegun start image base capacity (Refused c) = (start ≡ Image) × IsRefusedAs image c
+IsWhyNotBegun start image base capacity (Refused c) = (start ≡ Image) × IsRefusedAs current image c
 IsWhyNotBegun start image base capacity BadSize = IsSizeRefused start
 IsWhyNotBegun start image base capacity RegionTooSmall = IsTooSmall start image base capacity
-IsWhyNotBegun start image base capacity OutOfMemory = (start ≡ Image) × NeedsMemory image
-IsWhyNotBegun start image base capacity ReadFault = (start ≡ Image) × IsUndecided image
+IsWhyNotBegun start image base capacity OutOfMemory = ⊥
+IsWhyNotBegun start image base capacity ReadFault = (start ≡ Image) × IsUndecided current image
 IsWhyNotBegun start image base capacity WriteFault = ⊥
 IsWhyNotBegun start image base capacity ScriptTooLong = ⊥
 

@@ -1,5 +1,6 @@
 pub mod Answer
 pub mod Run
+pub mod ZeroGaps
 pub mod Session
 pub mod Lines
 pub mod Leaves

@@ -6,10 +6,8 @@ use Rattle.std.proofs.lemmas.Bool.Decides.{nat_tests}
 use Rattle.seg_types.specs.Commands.{Reading, LineTooLong}
 use Rattle.segment_lang.specs.Language.{Language, landed}
 use Rattle.segment_lang.specs.Reading.{reading, without_return}
-use Rattle.segment_manager.specs.declared.modes.Mode.{Mode}
-use Rattle.segment_manager.specs.Directory.{Directory}
 use Rattle.segment_cli.specs.Run.{respond}
-use Rattle.segment_cli.specs.Segments.{answer_line}
+use Rattle.segment_cli.specs.Segments.{Place, place_after, answer_line}
 
 less_true : (a b : ℕ) → a < b → nat_lt a b ≡ true
 less_true a b h = grind (arith, nat_tests)
@@ -29,5 +27,5 @@ reading-long language line h =
     let long = length-take-le 4098 line (omega arith) in
     too_long language line h ∙ sym (too_long language (take 4098 line) (omega arith))
 
-pub answer_line-long : (at : Mode × Directory) (line : List ℕ) → 4097 < length line → answer_line at line ≡ answer_line at (take 4098 line)
-answer_line-long at line h = ap (λ (r : Reading). let answer = respond at.0 at.1 r in (answer.0, (at.0, answer.1))) (reading-long landed line h)
+pub answer_line-long : (at : Place) (line : List ℕ) → 4097 < length line → answer_line at line ≡ answer_line at (take 4098 line)
+answer_line-long at line h = ap (λ (r : Reading). ((respond at.mode at.directory r).0, place_after at r)) (reading-long landed line h)

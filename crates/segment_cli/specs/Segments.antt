@@ -1,19 +1,43 @@
 -- A segment as what answers the lines of a script.
-use Rattle.std.specs.Prelude.{ℕ, ℤ, List, [], ◌∷◌, Result, Ok, Err}
+use Rattle.std.specs.Prelude.{◌≡◌, ℕ, ℤ, Bool, true, List, [], ◌∷◌, Result, Ok, Err}
 use Rattle.seg_types.specs.declared.kinds.Kind.{Kind}
 use Rattle.seg_types.specs.declared.kinds.ScalarKind.TheVariants.{I64}
 use Rattle.seg_types.specs.declared.refusals.Refusal.{Refusal}
+use Rattle.seg_types.specs.Commands.{Reading}
 use Rattle.segment_lang.specs.Language.{landed}
 use Rattle.segment_lang.specs.Reading.{reading}
 use Rattle.segment_lang.specs.Texts.{kind_text, refusal_text, value_text}
 use Rattle.segment_manager.specs.declared.modes.Mode.{Mode}
 use Rattle.segment_manager.specs.Directory.{Directory}
+use Rattle.segment_manager.specs.State.{State, StandsFor}
+use Rattle.segment_manager.specs.Calls.{HasZeroGaps}
 use Rattle.segment_cli.specs.Answer.{line}
 use Rattle.segment_cli.specs.Run.{respond}
+use Rattle.segment_cli.specs.ZeroGaps.{zeros_after}
 
--- what a line prints from a mode and a directory, and where it leads: the mode stays
-abbrev pub answer_line : Mode × Directory → List ℕ → List ℕ × (Mode × Directory)
-answer_line at line = let answer = respond at.0 at.1 (reading landed line) in (answer.0, (at.0, answer.1))
+-- what is known of a segment between two lines
+pub record Place : Type 0 where
+  pub mode : Mode
+  pub directory : Directory
+  -- its gaps are zero; where this is false they may be anything
+  pub zeros : Bool
+
+pub record IsAt (s : State) (at : Place) : Type 0 where
+  pub mode : s.mode ≡ at.mode
+  pub denotes : StandsFor s.cut.bytes at.directory
+  pub zeros : at.zeros ≡ true → HasZeroGaps s
+
+-- where a reading leads: the mode stays
+abbrev pub place_after : Place → Reading → Place
+place_after at asked = record {
+  mode = at.mode;
+  directory = (respond at.mode at.directory asked).1;
+  zeros = zeros_after at.mode at.directory asked at.zeros;
+}
+
+-- what a line prints from a place, and where it leads
+abbrev pub answer_line : Place → List ℕ → List ℕ × Place
+answer_line at line = let asked = reading landed line in ((respond at.mode at.directory asked).0, place_after at asked)
 
 -- what is printed of an object: its kind and its number, or why it has none
 abbrev pub shown_line : Kind → Result ℤ Refusal → List ℕ

@@ -1,13 +1,14 @@
 -- What a session owes: what it prints and saves, and what each fault leaves.
 use Rattle.std.specs.Prelude.{◌≡◌, ◌⊎◌, ◌<◌, ◌≤◌, ℕ, ◌+◌, Bool, true, false, ◌||◌, ◌&&◌, ⊤, nat_le, List, [], ◌∷◌, ◌++◌, length, take, IsTrue, ◌==◌, nat_lt, None, Result, Err, MatchResult, if◌then◌else◌}
 use Rattle.raw_region.specs.Device.{Given, Taken, IsProperPrefix}
-use Rattle.block_tags.specs.Format.{current, is_legal_size}
+use Rattle.raw_region.specs.Format.{current}
+use Rattle.block_tags.specs.Format.{is_legal_size}
 use Rattle.segment_manager.specs.declared.modes.Mode.{Mode}
 use Rattle.segment_manager.specs.declared.modes.Mode.TheVariants.{Write, ReadOnly as ReadOnlyMode, CopyOnWrite}
 use Rattle.segment_manager.specs.Directory.{Directory, empty}
 use Rattle.segment_manager.specs.State.{StandsFor}
 use Rattle.image_check.specs.Classes.{class_of}
-use Rattle.image_check.specs.Opening.{IsRefusedAs, IsTooSmallFor, NeedsMemory, IsUndecided}
+use Rattle.image_check.specs.Opening.{IsRefusedAs, IsTooSmallFor, IsUndecided}
 use Rattle.segment_lang.specs.Language.{landed}
 use Rattle.segment_lang.specs.Reading.{reading}
 use Rattle.segment_cli.specs.declared.faults.Start.{Start}
@@ -15,6 +16,7 @@ use Rattle.segment_cli.specs.declared.faults.Start.TheVariants.{Fresh, Image}
 use Rattle.segment_cli.specs.declared.faults.SessionFault.{SessionFault}
 use Rattle.segment_cli.specs.declared.faults.SessionFault.TheVariants.{Image as Refused, BadSize, RegionTooSmall, OutOfMemory, ReadFault, WriteFault, ScriptTooLong}
 use Rattle.segment_cli.specs.Run.{run, run_lines, respond, lines}
+use Rattle.segment_cli.specs.ZeroGaps.{HasZeroGapsIn, zeros_after_run}
 
 -- the most bytes that a script may have
 abbrev pub script_limit : ℕ
@@ -44,6 +46,11 @@ abbrev pub Begins : Start → Given → Directory → Type 0
 Begins (Fresh size) image d = IsTrue (is_legal_size size) × (d ≡ empty size)
 Begins Image image d = (image.ended ≡ true) × StandsFor image.bytes d
 
+-- the gaps are zero with which a session begins: those of a fresh segment are, those of an image may be
+abbrev pub BeginsWithZeros : Start → Given → Type 0
+BeginsWithZeros (Fresh size) image = ⊤
+BeginsWithZeros Image image = HasZeroGapsIn image.bytes
+
 abbrev pub IsSizeRefused : Start → Type 0
 IsSizeRefused (Fresh size) = is_legal_size size ≡ false
 IsSizeRefused Image = ⊥
@@ -51,7 +58,7 @@ IsSizeRefused Image = ⊥
 -- the region does not hold the fresh size, or the legal size in the first 24 bytes of the image
 abbrev pub IsTooSmall : Start → Given → ℕ → ℕ → Type 0
 IsTooSmall (Fresh size) image base capacity = IsTrue (is_legal_size size) × (capacity < base + size)
-IsTooSmall Image image base capacity = IsTooSmallFor image base capacity
+IsTooSmall Image image base capacity = IsTooSmallFor current image base capacity
 
 -- ---- what a session prints and saves
 
@@ -65,6 +72,12 @@ abbrev pub Saves : Mode → List ℕ → Directory → Type 0
 Saves Write saved d = IsSaved saved d
 Saves ReadOnlyMode saved d = saved ≡ []
 Saves CopyOnWrite saved d = saved ≡ []
+
+-- Behind a script that began at the directory the gaps of an image are zero, if the script leaves them so: where it made them
+-- zero, or they were zero before it, and nothing may have undone it since.
+abbrev pub KeepsZeros : Start → Mode → Given → Directory → List ℕ → List ℕ → Type 0
+KeepsZeros start mode began from script image =
+    (known : Bool) → (known ≡ true → BeginsWithZeros start began) → zeros_after_run landed mode from script known ≡ true → HasZeroGapsIn image
 
 -- nothing went out
 pub record IsSilent (t : Traffic) : Type 0 where
@@ -92,6 +105,7 @@ pub record IsDone (start : Start) (mode : Mode) (t : Traffic) : Type 0 where
   pub within : length t.script.bytes ≤ script_limit
   pub prints : t.out.bytes ≡ (run landed mode from t.script.bytes).0
   pub saves : Saves mode t.saved.bytes (run landed mode from t.script.bytes).1
+  pub zeros : mode ≡ Write → KeepsZeros start mode t.image from t.script.bytes t.saved.bytes
   pub failed : failures t ≡ none_failed
 
 -- the bytes up to the last line end among them
@@ -135,12 +149,13 @@ pub record IsCutInImage (start : Start) (mode : Mode) (t : Traffic) : Type 0 whe
   pub prints : t.out.bytes ≡ (run landed mode from t.script.bytes).0
   pub image : List ℕ
   pub denotes : StandsFor image (run landed mode from t.script.bytes).1
+  pub zeros : KeepsZeros start mode t.image from t.script.bytes image
   pub part : IsProperPrefix t.saved.bytes image
 
 -- the image's reader failed, and what it gave before leaves the class open
 pub record IsImageUnread (start : Start) (t : Traffic) : Type 0 where
   pub image : start ≡ Image
-  pub undecided : IsUndecided t.image
+  pub undecided : IsUndecided current t.image
   pub silent : IsSilent t
   pub script : t.script.bytes ≡ []
   pub failed : failures t ≡ record none_failed { image = true }
@@ -174,13 +189,13 @@ pub record IsRefusedBefore (t : Traffic) (cause : Type 0) : Type 0 where
   pub script : t.script.bytes ≡ []
   pub failed : failures t ≡ record none_failed { image = t.image.failed }
 
--- ---- what a session answers, in a region of this capacity
+-- ---- what a session answers, in a region of this capacity; it takes no memory, and so it never wants any
 
 abbrev pub AnswersFault : Start → Mode → ℕ → ℕ → Traffic → SessionFault → Type 0
-AnswersFault start mode base capacity t (Refused c) = IsRefusedBefore t ((start ≡ Image) × IsRefusedAs t.image c)
+AnswersFault start mode base capacity t (Refused c) = IsRefusedBefore t ((start ≡ Image) × IsRefusedAs current t.image c)
 AnswersFault start mode base capacity t BadSize = IsRefusedBefore t (IsSizeRefused start)
 AnswersFault start mode base capacity t RegionTooSmall = IsRefusedBefore t (IsTooSmall start t.image base capacity)
-AnswersFault start mode base capacity t OutOfMemory = IsRefusedBefore t ((start ≡ Image) × NeedsMemory t.image)
+AnswersFault start mode base capacity t OutOfMemory = ⊥
 AnswersFault start mode base capacity t ReadFault = IsImageUnread start t ⊎ IsScriptUnread start mode t
 AnswersFault start mode base capacity t WriteFault = IsAnswerUnwritten start mode t ⊎ IsImageUnwritten start mode t
 AnswersFault start mode base capacity t ScriptTooLong = IsScriptTooLong start mode t

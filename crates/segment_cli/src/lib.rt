@@ -7,11 +7,7 @@ mod open_line;
 mod saving;
 mod scripts;
 mod segments;
-#[cfg(test)]
-mod segments_tests;
 mod sessions;
-#[cfg(test)]
-mod tests;
 
 pub use faults::{RunFault, SessionFault, Start};
 pub use machine::Machine;

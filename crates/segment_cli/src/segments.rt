@@ -1,9 +1,8 @@
 //! A segment as a machine that answers lines: each line is read, executed by a call of the segment, and answered.
 
-ghost use Rattle.std.specs.Prelude.{◌≡◌, ◌+◌, ◌-◌, ◌^◌, ◌<◌, ◌++◌, ◌∷◌, [], false, OnOk, OnErr};
+ghost use Rattle.std.specs.Prelude.{◌≡◌, ◌+◌, ◌-◌, ◌^◌, ◌<◌, ◌++◌, ◌∷◌, [], false, true, OnOk, OnErr};
 ghost use Rattle.raw_region.specs.Answers.{failures_in, AddsFront};
 ghost use Rattle.best_fit.specs.Extents.{spans};
-ghost use Rattle.best_fit.specs.FreeTree.{span};
 ghost use Rattle.seg_types.specs.Commands.{Construct, Show, is_changing};
 ghost use Rattle.seg_types.specs.Names.{ByHandle};
 ghost use Rattle.segment_lang.specs.declared.commands.Command.TheVariants.{ZeroFree};
@@ -12,20 +11,21 @@ ghost use Rattle.segment_lang.specs.Seen.{command_of, content_of, new_key_seen};
 ghost use Rattle.segment_manager.specs.declared.modes.Mode.{Mode};
 ghost use Rattle.segment_manager.specs.Directory.{Directory, live};
 ghost use Rattle.segment_manager.specs.Answers.{Blocks, Done, Number, Refused, Truth};
-ghost use Rattle.segment_manager.specs.Calls.{HasZeroGaps};
+ghost use Rattle.segment_manager.specs.Calls.{HasZeroGaps, as_span};
 ghost use Rattle.segment_manager.specs.State.{IsStep, StandsFor, done_answer, gone_answer, handle_answer};
 ghost use Rattle.segment_manager.specs.Step.{step};
 ghost use Rattle.segment_cli.specs.Answer.{answer_text, block_words, line, role_word, truth_word};
 ghost use Rattle.segment_cli.specs.Run.{error_line};
-ghost use Rattle.segment_cli.specs.Segments.{answer_line, shown_line};
+ghost use Rattle.segment_cli.specs.Segments.{IsAt, Place, answer_line, shown_line};
+ghost use Rattle.segment_cli.specs.ZeroGaps.{is_refused};
 ghost use Rattle.segment_cli.specs.LongLines.{answer_line-long};
 
 use crate::machine::Machine;
-use block_tags::{Role, Tile};
+use block_tags::Role;
 use raw_region::{DeviceFault, Sink};
 use seg_types::{Kind, Refusal};
 use segment_lang::{Command, Content, Key, NewKey, Piece, Reading, Scalar, parse_line, put_pieces};
-use segment_manager::Segment;
+use segment_manager::{Segment, Span};
 
 /// Writes a line of one piece.
 fn put_word<W: Sink>(out: &mut W, word: Piece<'_>) -> Result<(), DeviceFault>
@@ -155,10 +155,10 @@ fn role_word(use_of: Option<Role>) -> &'static [u8]
 }
 
 /// Writes the line of a block or gap: where it begins, how long it is, and what it is used for.
-fn put_tile<W: Sink>(out: &mut W, tile: Tile) -> Result<(), DeviceFault>
+fn put_tile<W: Sink>(out: &mut W, tile: Span) -> Result<(), DeviceFault>
     requires { W.failures out.old < 2 ^ 64 - 1 }
-    ensures ok { OnOk result (W.taken out.new ≡ W.taken out.old ++ line (block_words (span tile))) }
-    ensures err { OnErr result (AddsFront (W.taken out.old) (W.taken out.new) (line (block_words (span tile)))) }
+    ensures ok { OnOk result (W.taken out.new ≡ W.taken out.old ++ line (block_words (as_span tile))) }
+    ensures err { OnErr result (AddsFront (W.taken out.old) (W.taken out.new) (line (block_words (as_span tile)))) }
     ensures counted { W.failures out.new ≡ W.failures out.old + failures_in result }
 {
     put_pieces(
@@ -237,7 +237,8 @@ fn show<W: Sink>(segment: &Segment, handle: u64, out: &mut W) -> Result<(), Devi
 
 /// Makes an object, and answers its handle.
 fn construct(segment: &mut Segment, key: NewKey, content: Content) -> Result<u64, Refusal>
-    ensures { IsStep segment.old segment.new (Construct (new_key_seen key) (content_of content)) (handle_answer result) }
+    ensures step { IsStep segment.old segment.new (Construct (new_key_seen key) (content_of content)) (handle_answer result) }
+    ensures refused { OnErr result (segment.new ≡ segment.old) }
 {
     match (key, content) {
         (NewKey::Anonymous, Content::Scalar(Scalar::I64(value))) => segment.construct(value),
@@ -256,6 +257,8 @@ fn execute<W: Sink>(segment: &mut Segment, command: Command, out: &mut W) -> Res
     ensures err { OnErr result ((d : Directory) → StandsFor segment.old.cut.bytes d
         → AddsFront (W.taken out.old) (W.taken out.new) (answer_text (step segment.old.mode d (command_of command)).0)) }
     ensures stays { is_changing (command_of command) ≡ false → segment.new ≡ segment.old }
+    ensures refused { (d : Directory) → StandsFor segment.old.cut.bytes d
+        → is_refused (step segment.old.mode d (command_of command)).0 ≡ true → segment.new ≡ segment.old }
     ensures zeros { (d : Directory) → StandsFor segment.old.cut.bytes d → command ≡ ZeroFree
         → (step segment.old.mode d (command_of command)).0 ≡ Done → HasZeroGaps segment.new }
     ensures counted { W.failures out.new ≡ W.failures out.old + failures_in result }
@@ -274,11 +277,11 @@ fn execute<W: Sink>(segment: &mut Segment, command: Command, out: &mut W) -> Res
 }
 
 impl Machine for Segment {
-    ghost Place = { Mode × Directory };
+    ghost Place = { Place };
 
     ghost respond = { λ at line. answer_line at line };
 
-    ghost stands = { λ s at. (s.mode ≡ at.0) × StandsFor s.cut.bytes at.1 };
+    ghost stands = { λ s at. IsAt s at };
 
     fn answer<W: Sink>(&mut self, line: &[u8], out: &mut W) -> Result<(), DeviceFault> {
         match parse_line(line) {

@@ -74,16 +74,15 @@ fn hold_accepted(image: &[u8])
 
 /// Makes an empty segment in the region, from `base` on, which is a multiple of 16 bytes, or opens
 /// the one of the image there; executes the script, and writes the answers to `out`; and then, if
-/// the mode is `Write`, writes the segment's image to `image_out`. Only the check of an image takes
-/// memory.
+/// the mode is `Write`, writes the segment's image to `image_out`. It takes no memory.
 ///
 /// # Errors
 ///
 /// `BadSize` and `RegionTooSmall` wherever they apply. A class of the image where it denotes no
-/// directory, and `OutOfMemory` where memory for its check was refused. `ReadFault` and
-/// `WriteFault` where a reader or a writer failed, and `ScriptTooLong` where the script has more
-/// than 16777216 bytes. Nothing is saved then, but for a proper prefix of the image where writing
-/// it failed.
+/// directory. `ReadFault` and `WriteFault` where a reader or a writer failed, and `ScriptTooLong`
+/// where the script has more than 16777216 bytes. `OutOfMemory` is not answered, since no memory is
+/// taken. Nothing is saved after a fault, but for a proper prefix of the image where writing it
+/// failed.
 pub fn session<I: Source, S: Source, O: Sink, W: Sink>(
     alloc: Global,
     start: Start,

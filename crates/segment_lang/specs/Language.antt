@@ -1,7 +1,7 @@
 -- How much of the language there is. A command word that has not come is unknown; a kind, a form of key or a count that has
 -- not come is bad syntax.
 use Rattle.std.specs.Prelude.{ℕ, Bool, true, false, List, [], ◌∷◌, filter, codes}
-use Rattle.block_tags.specs.Format.{current}
+use Rattle.raw_region.specs.Format.{current}
 use Rattle.seg_types.specs.declared.kinds.Kind.{Kind}
 use Rattle.seg_types.specs.declared.kinds.Kind.TheVariants.{Scalar}
 use Rattle.seg_types.specs.declared.kinds.ScalarKind.TheVariants.{I64}

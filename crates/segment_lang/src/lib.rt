@@ -10,8 +10,6 @@ mod laws;
 mod line;
 mod literals;
 mod numbers;
-#[cfg(test)]
-mod tests;
 mod words;
 
 pub use answers::{

@@ -4,7 +4,7 @@ use Rattle.std.specs.Prelude.{IsTrue, nat_lt}
 use Rattle.std.specs.List.{AllByRecursion, list_any}
 use Rattle.std.proofs.lemmas.Bool.{eq-eqb, and_from, or_left, or_right}
 use Rattle.raw_region.specs.Memory.{Memory, Cut, Same, SameBut, SamePlace, Has, bytes_of, word_at}
-use Rattle.block_tags.specs.Format.{current}
+use Rattle.raw_region.specs.Format.{current}
 use Rattle.block_tags.specs.declared.tile.Role.TheVariants.{Object as ObjectRole}
 use Rattle.best_fit.specs.Extents.{Extent, LiveSet, handle, end_of, holds, is_proper}
 use Rattle.best_fit.specs.Fit.{insert, added, released}

@@ -1,4 +1,5 @@
 pub mod Refusals
+pub mod Unchanged
 pub mod Words
 pub mod Blocks
 pub mod Frame
@@ -12,6 +13,7 @@ pub mod Calling
 pub mod Steps
 pub mod Ranks
 pub mod Indexes
+pub mod Entries
 pub mod AnyClass
 pub mod Regrown
 pub mod Handles
@@ -22,3 +24,5 @@ pub mod Kept
 pub mod Fresh
 pub mod NewBlocks
 pub mod NumberCalls
+pub mod Heads
+pub mod PlacedTexts

@@ -1,5 +1,5 @@
 -- What a command answers.
-use Rattle.std.specs.Prelude.{ℕ, ℤ, Bool, List}
+use Rattle.std.specs.Prelude.{ℕ, ℤ, Bool, Option, Some, None, List}
 use Rattle.best_fit.specs.Extents.{Span}
 use Rattle.seg_types.specs.declared.kinds.ScalarKind.{ScalarKind}
 use Rattle.seg_types.specs.declared.refusals.Refusal.{Refusal}
@@ -21,3 +21,8 @@ pub data Answer : Type 0 where
   Kinds : List Object → Answer
   Blocks : List Span → Answer
   Refused : Refusal → Answer
+
+-- why a command is refused, if it is
+abbrev pub refusal_of : Answer → Option Refusal
+refusal_of (Refused r) = Some r
+refusal_of answer = None

@@ -1,12 +1,10 @@
 -- What the calls of a segment owe that are no steps of the directory machine.
-use Rattle.std.specs.Prelude.{◌≡◌, ◌<◌, ◌≤◌, ℕ, ◌+◌, ◌-◌, false, Option, Some, None, Result, Ok, Err, MatchResult, List, length, option_map, slice_get, IsTrue}
+use Rattle.std.specs.Prelude.{◌≡◌, ◌<◌, ◌≤◌, ℕ, ◌+◌, ◌-◌, false, Some, None, Result, Ok, Err, MatchResult, List, length, IsTrue}
 use Rattle.std.specs.List.{AllByRecursion}
 use Rattle.raw_region.specs.Memory.{AreZero, SamePlace, bytes_of, cut_at}
-use Rattle.block_tags.specs.declared.tile.Tile.{Tile}
 use Rattle.block_tags.specs.Format.{is_legal_size}
 use Rattle.block_tags.specs.Lists.{laid, IsBesideTags}
-use Rattle.best_fit.specs.Extents.{Gap, gaps, spans}
-use Rattle.best_fit.specs.FreeTree.{span}
+use Rattle.best_fit.specs.Extents.{Gap, Span as LiveSpan, gaps}
 use Rattle.seg_types.specs.declared.kinds.Kind.{Kind}
 use Rattle.seg_types.specs.declared.refusals.Refusal.{Refusal}
 use Rattle.seg_types.specs.declared.refusals.Refusal.TheVariants.{NotFound}
@@ -15,6 +13,7 @@ use Rattle.segment_manager.specs.declared.modes.Mode.{Mode}
 use Rattle.segment_manager.specs.declared.errors.CreateError.{CreateError}
 use Rattle.segment_manager.specs.declared.errors.CreateError.TheVariants.{BadSize, RegionTooSmall}
 use Rattle.segment_manager.specs.declared.errors.CreateRefused.{CreateRefused}
+use Rattle.segment_manager.specs.declared.tiles.Span.{Span}
 use Rattle.segment_manager.specs.Directory.{Directory, empty, kind_of, live, object_at}
 use Rattle.segment_manager.specs.State.{State, StandsFor}
 
@@ -45,12 +44,9 @@ Creates region base size mode result = MatchResult result (IsCreated region base
 abbrev pub kind_at : Directory → Key → Result Kind Refusal
 kind_at d key = elim (object_at d key) [ None ↦ Err NotFound | Some o ↦ Ok (kind_of o.value) ]
 
-pub record IsKind (s : State) (key : Key) (result : Result Kind Refusal) : Type 0 where
-  pub answers : (d : Directory) → StandsFor s.cut.bytes d → result ≡ kind_at d key
-
--- the block or gap with so many others before it
-pub record IsTile (s : State) (index : ℕ) (result : Option Tile) : Type 0 where
-  pub answers : (d : Directory) → StandsFor s.cut.bytes d → option_map span result ≡ slice_get (spans (live d)) index
+-- an extent or a gap, as a call answers it
+abbrev pub as_span : Span → LiveSpan
+as_span s = record { offset = s.offset; len = s.len; use_of = s.use_of }
 
 -- the bytes of all gaps behind their tags are 0
 pub record HasZeroGaps (s : State) : Type 0 where

@@ -6,7 +6,7 @@ use Rattle.best_fit.specs.Extents.{handle}
 use Rattle.best_fit.specs.Heap.{LaysOut}
 use Rattle.seg_types.specs.Kinds.{class_code, code_of}
 use Rattle.seg_vector.specs.Vector.{IsVectorAt, IsTextAt, IsTextsAt, spelled}
-use Rattle.seg_map.specs.Map.{IsMapAt}
+use Rattle.seg_map.specs.Numbers.{IsNumberMapAt}
 use Rattle.seg_index.specs.Index.{IsIndexAt}
 use Rattle.segment_manager.specs.Directory.{Value, Numbers, Elements, Bytes, Pairs, Texts, Object, Directory, IsDirectory, live, kind_of, count_of, padded, named_objects, unique_objects}
 
@@ -19,7 +19,7 @@ abbrev pub IsValueAt : Memory → ℕ → Value → Type 0
 IsValueAt m at (Numbers k zs) = Has m at (spelled k zs)
 IsValueAt m at (Elements k zs t) = IsVectorAt m at k zs t
 IsValueAt m at (Bytes bs t) = IsTextAt m at bs t
-IsValueAt m at (Pairs k v ps) = IsMapAt m at k v ps
+IsValueAt m at (Pairs k v ps) = IsNumberMapAt m at k v ps
 IsValueAt m at (Texts ps t) = IsTextsAt m at ps t
 
 -- the name, with zeros up to a multiple of 8

@@ -1,5 +1,5 @@
 -- The directory: which objects a segment has, by handle, with their values and the extents that they use.
-use Rattle.std.specs.Prelude.{ℕ, ◌+◌, ◌*◌, ◌/◌, ℤ, Bool, true, false, ◌&&◌, Option, Some, None, List, [], ◌∷◌, ◌++◌, length, map, filter, find, flat_map, fold, option_to_list, IsTrue, ◌==◌, nat_lt, nat_le, nat_eq, if◌then◌else◌}
+use Rattle.std.specs.Prelude.{ℕ, ◌+◌, ◌*◌, ◌/◌, ℤ, Bool, true, false, ◌&&◌, Option, Some, None, List, [], ◌∷◌, ◌++◌, length, map, filter, find, flat_map, fold, option_to_list, IsTrue, ◌==◌, nat_lt, nat_le, nat_eq, int_lt, if◌then◌else◌}
 use Rattle.std.specs.List.{list_all}
 use Rattle.std.specs.Cmp.Lexicographic.{pointwise, slice_cmp}
 use Rattle.std.specs.Ordering.{nat_cmp, is_lt}
@@ -14,15 +14,16 @@ use Rattle.seg_types.specs.declared.kinds.Kind.TheVariants.{Scalar, Text, Vector
 use Rattle.seg_types.specs.declared.kinds.Class.TheVariants.{Named, Unique}
 use Rattle.seg_types.specs.Kinds.{size_of, is_value, code_of, same_kind, class_code, is_kind_of}
 use Rattle.seg_types.specs.Names.{Key, ByName, ByKind, ByHandle, NoKey, is_name}
-use Rattle.seg_vector.specs.Vector.{OwnedText}
-use Rattle.seg_map.specs.Map.{Pair, is_pair, is_rising}
+use Rattle.seg_vector.specs.Vector.{OwnedText, is_vector}
+use Rattle.seg_map.specs.Map.{is_rising}
+use Rattle.seg_map.specs.Numbers.{NumberPair, is_number_pair}
 
 -- numbers of one kind; a vector; a text; a map, by rising keys; a vector of texts
 pub data Value : Type 0 where
   Numbers : ScalarKind → List ℤ → Value
   Elements : ScalarKind → List ℤ → Table → Value
   Bytes : List ℕ → Table → Value
-  Pairs : ScalarKind → ScalarKind → List Pair → Value
+  Pairs : ScalarKind → ScalarKind → List NumberPair → Value
   Texts : List OwnedText → Table → Value
 
 -- its class, its name, which others than named objects have not, its value, and the block of its own
@@ -81,7 +82,7 @@ abbrev pub value_extents : Value → List Extent
 value_extents (Numbers k zs) = []
 value_extents (Elements k zs t) = table_extents t
 value_extents (Bytes bs t) = table_extents t
-value_extents (Pairs k v ps) = map (λ (p : Pair). p.node) ps
+value_extents (Pairs k v ps) = map (λ (p : NumberPair). p.node) ps
 value_extents (Texts ps t) = table_extents t ++ flat_map (λ (p : OwnedText). option_to_list p.extent) ps
 
 abbrev pub extents_of : Object → List Extent
@@ -164,16 +165,19 @@ rises lt (o ∷ []) = true
 rises lt (o ∷ p ∷ ps) = lt o p && rises lt (p ∷ ps)
 
 -- a block exactly where there are bytes
+abbrev pub has_own_block : OwnedText → Bool
+has_own_block p = elim p.extent [ None ↦ length p.bytes == 0 | Some x ↦ nat_lt 0 (length p.bytes) && serves x Storage (length p.bytes) ]
+
 abbrev pub is_owned_text : OwnedText → Bool
-is_owned_text p = elim p.extent [ None ↦ length p.bytes == 0 | Some x ↦ nat_lt 0 (length p.bytes) && serves x Storage (length p.bytes) ]
+is_owned_text p = has_own_block p && list_all (λ b. nat_lt b 256) p.bytes
 
 -- the numbers are of their kind, no vector or text is longer than its capacity, and each block holds what it is for
 abbrev pub is_good_value : Value → Bool
 is_good_value (Numbers k zs) = nat_le 1 (length zs) && nat_le (length zs) 1048576 && list_all (is_value k) zs
-is_good_value (Elements k zs t) = nat_le (length zs) t.capacity && is_table Storage (size_of k) t && list_all (is_value k) zs
-is_good_value (Bytes bs t) = nat_le (length bs) t.capacity && is_table Storage 1 t && list_all (λ b. nat_lt b 256) bs
-is_good_value (Pairs k v ps) = is_rising ps && list_all (is_pair k v) ps
-is_good_value (Texts ps t) = nat_le (length ps) t.capacity && is_table Storage 16 t && list_all is_owned_text ps
+is_good_value (Elements k zs t) = is_vector (size_of k) (is_value k) zs t
+is_good_value (Bytes bs t) = is_vector 1 (λ b. nat_lt b 256) bs t
+is_good_value (Pairs k v ps) = is_rising int_lt ps && list_all (is_number_pair k v) ps
+is_good_value (Texts ps t) = is_vector 16 is_owned_text ps t
 
 abbrev pub has_good_name : ℕ → Object → Bool
 has_good_name format o = if is_class Named o then is_name format o.name else length o.name == 0

@@ -1,14 +1,15 @@
 -- What holds of every step of the directory machine.
-use Rattle.std.specs.Prelude.{◌≡◌, true}
+use Rattle.std.specs.Prelude.{◌≡◌, ℕ, true, false, Some, List, Result}
 use Rattle.seg_types.specs.declared.refusals.Refusal.{Refusal}
 use Rattle.seg_types.specs.declared.refusals.Refusal.TheVariants.{ReadOnly}
 use Rattle.seg_types.specs.declared.kinds.Kind.{Kind}
 use Rattle.seg_types.specs.Names.{Key}
-use Rattle.seg_types.specs.Commands.{Command, is_changing}
+use Rattle.seg_types.specs.Commands.{Command, Pop, is_changing}
 use Rattle.segment_manager.specs.declared.modes.Mode.{Mode}
 use Rattle.segment_manager.specs.Directory.{Directory}
-use Rattle.segment_manager.specs.Answers.{Refused}
+use Rattle.segment_manager.specs.Answers.{Answer, Refused, TextElement, refusal_of}
 use Rattle.segment_manager.specs.Step.{step, step_of_kind, is_read_only}
+use Rattle.segment_manager.specs.State.{State, StandsFor, IsStep, LeadsOn, answer_of, refusal_in}
 
 -- what is refused leaves the directory as it was; a segment that is open for reading refuses what may change it
 pub record IsSafe (mode : Mode) (d : Directory) (c : Command) : Type 0 where
@@ -26,3 +27,22 @@ RefusalsChangeNothing = (mode : Mode) (d : Directory) (c : Command) → IsSafe m
 
 abbrev pub RefusalsOfKindChangeNothing : Type 0
 RefusalsOfKindChangeNothing = (mode : Mode) (d : Directory) (key : Key) (kind : Kind) (c : Command) → IsSafeOfKind mode d key kind c
+
+-- the law: a command that may change nothing leaves the directory
+abbrev pub ReadsChangeNothing : Type 0
+ReadsChangeNothing = (mode : Mode) (d : Directory) (c : Command) → is_changing c ≡ false → (step mode d c).1 ≡ d
+
+abbrev pub ReadsOfKindChangeNothing : Type 0
+ReadsOfKindChangeNothing = (mode : Mode) (d : Directory) (key : Key) (kind : Kind) (c : Command) → is_changing c ≡ false → (step_of_kind mode d key kind c).1 ≡ d
+
+-- the law: a step leads on, refused for the reason that it answers
+abbrev pub StepsLeadOn : Type 0
+StepsLeadOn = (old new : State) (c : Command) (answer : Answer) → IsStep old new c answer → LeadsOn old new c (refusal_of answer)
+
+-- for one: a call that takes the last text away and does not answer it, where the text would be a step's answer
+abbrev pub PoppedTextsLeadOn : Type 0
+PoppedTextsLeadOn = (old new : State) (key : Key) (result : Result (List ℕ) Refusal) → IsStep old new (Pop key) (answer_of TextElement result) → LeadsOn old new (Pop key) (refusal_in result)
+
+-- and what leads on and is refused leaves the directory
+abbrev pub RefusedCallsStay : Type 0
+RefusedCallsStay = (old new : State) (c : Command) (r : Refusal) → LeadsOn old new c (Some r) → (d : Directory) → StandsFor old.cut.bytes d → StandsFor new.cut.bytes d

@@ -1,4 +1,5 @@
 pub mod Directory
+pub mod Entries
 pub mod Landed
 pub mod Answers
 pub mod Step
@@ -6,3 +7,5 @@ pub mod Denotes
 pub mod State
 pub mod Laws
 pub mod Calls
+pub mod OwnedTexts
+pub mod Heads

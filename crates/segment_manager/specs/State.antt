@@ -1,7 +1,7 @@
 -- What contracts see of a segment: its bytes, which denote one directory, how it is open, and where it lies.
-use Rattle.std.specs.Prelude.{◌≡◌, ℕ, ℤ, Bool, true, List, Result, Ok, Err}
+use Rattle.std.specs.Prelude.{◌≡◌, ℕ, ℤ, Bool, true, List, Option, Some, None, Result, Ok, Err}
 use Rattle.raw_region.specs.Memory.{Cut, SamePlace}
-use Rattle.block_tags.specs.Format.{current}
+use Rattle.raw_region.specs.Format.{current}
 use Rattle.seg_types.specs.declared.kinds.ScalarKind.{ScalarKind}
 use Rattle.seg_types.specs.declared.kinds.Kind.{Kind}
 use Rattle.seg_types.specs.declared.refusals.Refusal.{Refusal}
@@ -10,7 +10,7 @@ use Rattle.seg_types.specs.Commands.{Command}
 use Rattle.segment_manager.specs.declared.modes.Mode.{Mode}
 use Rattle.segment_manager.specs.Directory.{Directory}
 use Rattle.segment_manager.specs.Landed.{IsLanded}
-use Rattle.segment_manager.specs.Answers.{Answer, Made, Truth, Element, Refused, Done}
+use Rattle.segment_manager.specs.Answers.{Answer, Made, Truth, Element, Refused, Done, refusal_of}
 use Rattle.segment_manager.specs.Step.{step, step_of_kind}
 use Rattle.segment_manager.specs.Denotes.{Denotes}
 
@@ -31,8 +31,12 @@ pub record Stays (old new : State) : Type 0 where
   pub mode : new.mode ≡ old.mode
   pub place : SamePlace old.cut new.cut
 
--- from each directory that the old bytes denote to one that the new bytes denote, with this answer
-pub record Moves (old new : State) (answer : Answer) (next : Directory → Answer × Directory) : Type 0 where
+-- a call that changes nothing, and answers this function of the directory
+pub record Answers {A : Type 0} (s : State) (say : Directory → A) (result : A) : Type 0 where
+  pub answers : (d : Directory) → StandsFor s.cut.bytes d → result ≡ say d
+
+-- from each directory that the old bytes denote to one that the new bytes denote, with this answer, of whatever type
+pub record Moves {A : Type 0} (old new : State) (answer : A) (next : Directory → A × Directory) : Type 0 where
   pub stays : Stays old new
   pub answers : (d : Directory) → StandsFor old.cut.bytes d → answer ≡ (next d).0
   pub denotes : (d : Directory) → StandsFor old.cut.bytes d → StandsFor new.cut.bytes (next d).1
@@ -45,19 +49,29 @@ IsStep old new c answer = Moves old new answer (λ d. step old.mode d c)
 abbrev pub IsStepOfKind : State → State → Key → Kind → Command → Answer → Type 0
 IsStepOfKind old new key kind c answer = Moves old new answer (λ d. step_of_kind old.mode d key kind c)
 
+-- The call is refused exactly where the step is, for the same reason, and else it is not; it leads to the step's directory. This
+-- is for a call that answers less than the machine.
+abbrev pub LeadsOn : State → State → Command → Option Refusal → Type 0
+LeadsOn old new c refusal = Moves old new refusal (λ d. (refusal_of (step old.mode d c).0, (step old.mode d c).1))
+
 -- a call that changes nothing, and answers as the machine does
-pub record IsReply (s : State) (c : Command) (answer : Answer) : Type 0 where
-  pub answers : (d : Directory) → StandsFor s.cut.bytes d → answer ≡ (step s.mode d c).0
+abbrev pub IsReply : State → Command → Answer → Type 0
+IsReply s c answer = Answers s (λ d. (step s.mode d c).0) answer
 
 -- the same of a call that is for objects of one kind
-pub record IsReplyOfKind (s : State) (key : Key) (kind : Kind) (c : Command) (answer : Answer) : Type 0 where
-  pub answers : (d : Directory) → StandsFor s.cut.bytes d → answer ≡ (step_of_kind s.mode d key kind c).0
+abbrev pub IsReplyOfKind : State → Key → Kind → Command → Answer → Type 0
+IsReplyOfKind s key kind c answer = Answers s (λ d. (step_of_kind s.mode d key kind c).0) answer
 
 -- ---- what a call's result is as an answer
 
 abbrev pub answer_of : {A : Type 0} → (A → Answer) → Result A Refusal → Answer
 answer_of f (Ok a) = f a
 answer_of f (Err r) = Refused r
+
+-- and why it is refused, if it is
+abbrev pub refusal_in : {A : Type 0} → Result A Refusal → Option Refusal
+refusal_in (Ok a) = None
+refusal_in (Err r) = Some r
 
 abbrev pub handle_answer : Result ℕ Refusal → Answer
 handle_answer = answer_of Made

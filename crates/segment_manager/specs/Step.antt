@@ -1,5 +1,5 @@
 -- What each command does: an answer, and the directory after it.
-use Rattle.std.specs.Prelude.{ℕ, ◌-◌, ◌*◌, ℤ, pos, nat_abs, Bool, true, false, ◌&&◌, Option, Some, None, Result, Ok, Err, List, [], ◌∷◌, ◌++◌, length, map, insert, remove, slice_get, slice_set, take, replicate, ◌==◌, nat_lt, nat_le, if◌then◌else◌}
+use Rattle.std.specs.Prelude.{ℕ, ◌-◌, ◌*◌, ℤ, pos, nat_abs, Bool, true, false, ◌&&◌, Option, Some, None, Result, Ok, Err, List, [], ◌∷◌, ◌++◌, length, map, insert, remove, slice_get, slice_set, take, replicate, ◌==◌, nat_lt, nat_le, int_lt, if◌then◌else◌}
 use Rattle.block_tags.specs.declared.tile.Role.{Role}
 use Rattle.block_tags.specs.declared.tile.Role.TheVariants.{Object as ObjectRole, Index, Storage, Node}
 use Rattle.best_fit.specs.Extents.{Extent, LiveSet, handle, spans, free_bytes}
@@ -17,7 +17,8 @@ use Rattle.seg_types.specs.Names.{Key, ByName, ByKind, ByHandle, NoKey}
 use Rattle.seg_types.specs.Commands as asked
 use Rattle.seg_types.specs.Commands.{Command, Content, Literal, value_of_literal, is_changing}
 use Rattle.seg_vector.specs.Vector.{OwnedText, capacity_for_one, capacity_for_text}
-use Rattle.seg_map.specs.Map.{Pair, pair_at, put_pair, remove_pair, node_len}
+use Rattle.seg_map.specs.Map.{pair_at, put_pair, remove_pair, node_len}
+use Rattle.seg_map.specs.Numbers.{NumberPair}
 use Rattle.seg_index.specs.Index.{grown_capacity}
 use Rattle.segment_manager.specs.declared.modes.Mode.{Mode}
 use Rattle.segment_manager.specs.declared.modes.Mode.TheVariants.{Write, ReadOnly as ReadOnlyMode, CopyOnWrite}
@@ -164,7 +165,7 @@ text_of (Bytes bs t) = Ok (bs, t)
 text_of (Pairs k v ps) = Err WrongKind
 text_of (Texts ps t) = Err WrongKind
 
-abbrev pub map_of : Value → Result (ScalarKind × ScalarKind × List Pair) Refusal
+abbrev pub map_of : Value → Result (ScalarKind × ScalarKind × List NumberPair) Refusal
 map_of (Numbers k zs) = Err WrongKind
 map_of (Elements k zs t) = Err WrongKind
 map_of (Bytes bs t) = Err WrongKind
@@ -332,19 +333,19 @@ effect d (asked.Append key more) =
 effect d (asked.Put key l m) =
     with (found_at d key) (λ o. with (map_of o.value) (λ (k, v, ps). with (pair_of k v l m) (λ new. put d o k v ps new)))
   where
-    put : Directory → Object → ScalarKind → ScalarKind → List Pair → List ℤ → Plan
-    put d o k v ps (x ∷ y ∷ []) = elim (pair_at ps x) [
-      | Some p ↦ Reply (Truth false) (changed d o (Pairs k v (put_pair (record p { value = y }) ps)))
-      | None ↦ Request (New Node (node_len k v)) (λ n.
-          Reply (Truth true) (changed d o (Pairs k v (put_pair (record { key = x; value = y; node = n }) ps))))
+    put : Directory → Object → ScalarKind → ScalarKind → List NumberPair → List ℤ → Plan
+    put d o k v ps (x ∷ y ∷ []) = elim (pair_at int_lt ps x) [
+      | Some p ↦ Reply (Truth false) (changed d o (Pairs k v (put_pair int_lt (record p { value = y }) ps)))
+      | None ↦ Request (New Node (node_len (size_of k) (size_of v))) (λ n.
+          Reply (Truth true) (changed d o (Pairs k v (put_pair int_lt (record { key = x; value = y; node = n }) ps))))
     ]
     put d o k v ps other = Refuse WrongKind
 effect d (asked.Lookup key l) =
     with (found_at d key) (λ o. with (map_of o.value) (λ (k, v, ps). with (value_of_literal k l) (λ x.
-    elim (pair_at ps x) [ None ↦ Reply Absent d | Some p ↦ Reply (Element v p.value) d ])))
+    elim (pair_at int_lt ps x) [ None ↦ Reply Absent d | Some p ↦ Reply (Element v p.value) d ])))
 effect d (asked.Remove key l) =
     with (found_at d key) (λ o. with (map_of o.value) (λ (k, v, ps). with (value_of_literal k l) (λ x.
-    elim (pair_at ps x) [ None ↦ Reply (Truth false) d | Some p ↦ Reply (Truth true) (changed d o (Pairs k v (remove_pair ps x))) ])))
+    elim (pair_at int_lt ps x) [ None ↦ Reply (Truth false) d | Some p ↦ Reply (Truth true) (changed d o (Pairs k v (remove_pair int_lt ps x))) ])))
 effect d asked.ListNames = Reply (Names (named_objects d)) d
 effect d asked.ListKinds = Reply (Kinds (unique_objects d)) d
 effect d asked.ListBlocks = Reply (Blocks (spans (live d))) d

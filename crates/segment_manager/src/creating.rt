@@ -1,7 +1,7 @@
 //! The making of an empty segment.
 ghost use Rattle.std.specs.Prelude.{◌≡◌, ◌%◌, []};
 ghost use Rattle.raw_region.specs.Memory.{AreZero, SameBut, SamePlace, bytes_of};
-ghost use Rattle.block_tags.specs.Format.{current};
+ghost use Rattle.raw_region.specs.Format.{current};
 ghost use Rattle.best_fit.specs.Heap.{LaysOut, live_of};
 ghost use Rattle.best_fit.specs.Table.{no_table};
 ghost use Rattle.seg_index.specs.Index.{IsIndexAt};

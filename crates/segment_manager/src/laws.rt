@@ -1,9 +1,44 @@
 //! What holds of every command, whatever the segment holds. Each function here does nothing: its contract is the law.
-ghost use Rattle.segment_manager.specs.Laws.{RefusalsChangeNothing, RefusalsOfKindChangeNothing};
+ghost use Rattle.segment_manager.specs.Entries.{IndexesFollowObjects};
+ghost use Rattle.segment_manager.specs.Laws.{ReadsChangeNothing, ReadsOfKindChangeNothing, PoppedTextsLeadOn, RefusalsChangeNothing, RefusalsOfKindChangeNothing, RefusedCallsStay, StepsLeadOn};
+ghost use Rattle.segment_manager.specs.Heads.{EntriesSayObjects};
+ghost use Rattle.segment_manager.specs.OwnedTexts.{TextsArePlaced};
 
 /// A command that is refused changes nothing, and a segment that is open for reading refuses each command that may
 /// change it.
 pub fn refusals_change_nothing()
     ensures any { RefusalsChangeNothing }
     ensures of_kind { RefusalsOfKindChangeNothing }
+{}
+
+/// A command that only reads changes nothing.
+pub fn reads_change_nothing()
+    ensures any { ReadsChangeNothing }
+    ensures of_kind { ReadsOfKindChangeNothing }
+{}
+
+/// A step leads on, refused for the reason that it answers, and what is refused leaves the directory: so it is with a call that
+/// answers less than its command prints.
+pub fn steps_lead_on()
+    ensures leads { StepsLeadOn }
+    ensures popped { PoppedTextsLeadOn }
+    ensures refused { RefusedCallsStay }
+{}
+
+/// Each index follows its objects: one that is put in or taken out is one entry more or less, and another value changes no
+/// entry.
+pub fn indexes_follow_objects()
+    ensures { IndexesFollowObjects }
+{}
+
+/// Several texts that ask for blocks get them placed one after another, each text that is not empty one; where one has no
+/// fit, there is no space for all.
+pub fn texts_are_placed()
+    ensures { TextsArePlaced }
+{}
+
+/// Of each object that the bytes of a segment denote, the words of its index entry are its kind's code, its count, its
+/// class and its name.
+pub fn entries_say_objects()
+    ensures { EntriesSayObjects }
 {}

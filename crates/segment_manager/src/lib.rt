@@ -8,14 +8,11 @@ mod creating;
 mod errors;
 pub mod laws;
 mod modes;
-#[cfg(test)]
-mod scalar_tests;
 mod scalars;
 mod segment;
-#[cfg(test)]
-mod tests;
 mod tiles;
 
 pub use errors::{CreateError, CreateRefused};
 pub use modes::Mode;
 pub use segment::Segment;
+pub use tiles::Span;

@@ -1,7 +1,7 @@
 //! Objects made, read and destroyed.
 ghost use Rattle.std.specs.Prelude.{◌≡◌, ◌+◌, IsTrue, OnErr, [], ◌∷◌};
 ghost use Rattle.raw_region.specs.Memory.{bytes_of, word_at};
-ghost use Rattle.block_tags.specs.Format.{current};
+ghost use Rattle.raw_region.specs.Format.{current};
 ghost use Rattle.best_fit.specs.Heap.{IsChanged, has_room, live_of};
 ghost use Rattle.seg_types.specs.declared.kinds.Class.TheVariants.{Anonymous};
 ghost use Rattle.seg_types.specs.declared.kinds.Kind.TheVariants.{Scalar};
@@ -9,10 +9,10 @@ ghost use Rattle.seg_types.specs.declared.kinds.ScalarKind.TheVariants.{I64};
 ghost use Rattle.seg_types.specs.Kinds.{class_code, code_of};
 ghost use Rattle.seg_types.specs.Names.{ByHandle, NoKey};
 ghost use Rattle.seg_types.specs.Commands.{Construct, DestroyPtr, Get, Numbers};
-ghost use Rattle.segment_manager.specs.Calls.{IsKind};
+ghost use Rattle.segment_manager.specs.Calls.{kind_at};
 ghost use Rattle.segment_manager.specs.Denotes.{IsValueAt, two_halves};
 ghost use Rattle.segment_manager.specs.Directory.{Numbers as NumbersValue};
-ghost use Rattle.segment_manager.specs.State.{IsReplyOfKind, IsStep, element_answer, gone_answer, handle_answer};
+ghost use Rattle.segment_manager.specs.State.{Answers, IsReplyOfKind, IsStep, element_answer, gone_answer, handle_answer};
 
 use crate::segment::Segment;
 use best_fit::laws::bytes_lay_out_one;
@@ -88,7 +88,7 @@ impl Segment {
     ///
     /// `NotFound` where no object has the handle.
     pub fn kind_of(&self, handle: u64) -> Result<Kind, Refusal>
-        ensures { IsKind self.now (ByHandle handle) result }
+        ensures { Answers self.now (λ d. kind_at d (ByHandle handle)) result }
     {
         bytes_lay_out_one();
         if self.heap.is_live(handle) {

@@ -9,7 +9,7 @@ use Rattle.best_fit.specs.Extents.{Extent, gaps, is_proper}
 use Rattle.best_fit.specs.Table.{Table, no_table}
 use Rattle.seg_types.specs.declared.kinds.ScalarKind.TheVariants.{I64}
 use Rattle.seg_types.specs.declared.kinds.Class.TheVariants.{Named}
-use Rattle.seg_map.specs.Map.{Pair}
+use Rattle.seg_map.specs.Numbers.{NumberPair}
 use Rattle.segment_manager.specs.declared.modes.Mode.TheVariants.{Write}
 use Rattle.segment_manager.specs.Directory.{Directory, Object as SomeObject, Value, Numbers, Elements, Pairs, empty, live}
 use Rattle.segment_manager.specs.Denotes.{Denotes}
@@ -58,8 +58,8 @@ fresh_denotes = record {
       lists = refl;
     };
   };
-  named = record { link = refl; count = refl; capacity = refl; entries = tt };
-  unique = record { link = refl; count = refl; capacity = refl; entries = tt };
+  named = record { link = refl; count = refl; capacity = refl; entries = refl };
+  unique = record { link = refl; count = refl; capacity = refl; entries = refl };
   objects = tt;
 }
 
@@ -95,7 +95,7 @@ named_denotes = record {
     };
   };
   named = record { link = refl; count = refl; capacity = refl; entries = (refl, tt) };
-  unique = record { link = refl; count = refl; capacity = refl; entries = tt };
+  unique = record { link = refl; count = refl; capacity = refl; entries = refl };
   objects = (record { kind_count = refl; name_class = refl; name = refl; value = refl }, tt);
 }
 
@@ -142,7 +142,7 @@ vectors_denote = record {
     };
   };
   named = record { link = refl; count = refl; capacity = refl; entries = (refl, (refl, tt)) };
-  unique = record { link = refl; count = refl; capacity = refl; entries = tt };
+  unique = record { link = refl; count = refl; capacity = refl; entries = refl };
   objects = (
     record { kind_count = refl; name_class = refl; name = refl; value = record { link = refl; len_word = refl; capacity = refl; storage = refl } },
     (
@@ -160,10 +160,10 @@ pair_image =
     ++ words (53 ∷ 48 ∷ 0 ∷ 0 ∷ 0 ∷ 48 ∷ 65 ∷ 4295164932 ∷ 4294967297 ∷ 109 ∷ 40 ∷ 1 ∷ 0 ∷ 64 ∷ 61 ∷ 1 ∷ 1 ∷ 1 ∷ 10 ∷ 48 ∷ 720 ∷ 1 ∷ 1 ∷ [])
     ++ zeros 688 ++ words (720 ∷ 1 ∷ [])
 
-abbrev pair : ℕ → ℕ → Pair
+abbrev pair : ℕ → ℕ → NumberPair
 pair key node = record { key = pos key; value = pos (10 * key); node = extent node 48 Node }
 
-abbrev map_of : List Pair → Directory
+abbrev map_of : List NumberPair → Directory
 map_of ps = directory (named (109 ∷ []) (Pairs I64 I64 ps) (extent 176 64 Object) ∷ [])
 
 abbrev with_pair : Directory
@@ -190,7 +190,7 @@ pair_denotes = record {
     };
   };
   named = record { link = refl; count = refl; capacity = refl; entries = (refl, tt) };
-  unique = record { link = refl; count = refl; capacity = refl; entries = tt };
+  unique = record { link = refl; count = refl; capacity = refl; entries = refl };
   objects = (
     record {
       kind_count = refl;
@@ -205,7 +205,7 @@ pair_denotes = record {
           red_black = record { root = refl; no_red_pair = refl; black = (1, refl) };
           lists = refl;
         };
-        pairs = (refl, tt);
+        pairs = ((refl, refl), tt);
       };
     },
     tt,
@@ -246,7 +246,7 @@ map_denotes = record {
     };
   };
   named = record { link = refl; count = refl; capacity = refl; entries = (refl, tt) };
-  unique = record { link = refl; count = refl; capacity = refl; entries = tt };
+  unique = record { link = refl; count = refl; capacity = refl; entries = refl };
   objects = (
     record {
       kind_count = refl;
@@ -261,7 +261,7 @@ map_denotes = record {
           red_black = record { root = refl; no_red_pair = refl; black = (2, refl) };
           lists = refl;
         };
-        pairs = (refl, (refl, (refl, (refl, (refl, (refl, (refl, tt)))))));
+        pairs = ((refl, refl), ((refl, refl), ((refl, refl), ((refl, refl), ((refl, refl), ((refl, refl), ((refl, refl), tt)))))));
       };
     },
     tt,

@@ -4,3 +4,7 @@ mod ZeroBytes
 mod Images
 mod ImageClasses
 mod HeapCalls
+mod Directories
+mod Containers
+mod Entries
+mod Requests

@@ -8,4 +8,8 @@ mod fault_rows;
 #[cfg(test)]
 mod image_rows;
 #[cfg(test)]
+mod line_rows;
+#[cfg(test)]
+mod machine_rows;
+#[cfg(test)]
 mod script_rows;

@@ -1,6 +1,6 @@
 use Rattle.std.proofs.Common.{◌<◌, ◌≤◌, ◌-◌, length, arith}
 use Rattle.raw_region.specs.Memory.{bytes_of}
-use Rattle.block_tags.specs.Format.{current}
+use Rattle.raw_region.specs.Format.{current}
 use Rattle.block_tags.proofs.Saying.{first_some, first_none, legal}
 use Rattle.block_tags.proofs.reading.first.Goals as goal
 

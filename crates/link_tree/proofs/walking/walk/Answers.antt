@@ -1,6 +1,7 @@
-use Rattle.std.proofs.Common.{◌≡◌, ℕ, ◌≤◌, ◌^◌, true, Option, length, arith}
+use Rattle.std.proofs.Common.{◌≡◌, ℕ, ◌≤◌, ◌^◌, true, Option, None, length, arith}
 use Rattle.link_tree.specs.Tree.{Tree, IsSearchTree, nodes_of, height}
 use Rattle.link_tree.specs.Nodes.{leads}
+use Rattle.link_tree.specs.Walking.{IsAhead}
 use Rattle.link_tree.proofs.Limits.{height_limit}
 use Rattle.link_tree.proofs.walking.walk.Goals as goal
 use Rattle.link_tree.proofs.walking.walk.Given.{Over}
@@ -12,25 +13,33 @@ few g s link t k at_node =
     height_limit (g.N.Nodes.order s) (g.met.N.Nodes.transitive s) (g.met.N.Nodes.irreflexive s) (g.N.Nodes.cells s) (g.N.Nodes.is_node s)
     (g.met.N.Nodes.left_closed s) (g.met.N.Nodes.right_closed s) f.0 f.1 f.2 link t k at_node
 
+-- the whole tree is ahead of a walk that stands nowhere
+ahead : (g : Over) (s : g.row.N.Denot) (link here : Option ℕ) (t : Tree) → IsSearchTree (g.N.Nodes.order s) (g.N.Nodes.cells s) link t
+    → leads (g.N.Nodes.is_node s) link ≡ true → here ≡ None → IsAhead (g.N.Nodes.order s) (g.N.Nodes.cells s) link 82 here t
+ahead g s link here t k at_node nowhere =
+    let f = few g s link t k at_node in
+    record { tree = k.tree; ordered = k.ordered; low = omega arith; away = λ m i e. cc }
+
 pub walk_below-requires-clause-tree : goal.walk_below-requires-clause-tree
 walk_below-requires-clause-tree g c =
     let s = c.args.nodes.now in
     let t = c.requires.tree in
     let low = few g s c.args.root t.0 t.1 c.requires.root in
     let zero = c.new-visits.ensures.steps in
-    (t.0, rw c.new-visits.ensures.nodes t.1.tree, omega arith)
+    (t.0, rw c.new-visits.ensures.nodes (ahead g s c.args.root c.new-visits.result.at t.0 t.1 c.requires.root c.new-visits.ensures.at), omega arith)
 
 pub returns : goal.returns
 returns g c = record {
   walked = λ u k.
       let s = c.args.nodes.now in
-      let low = few g s c.args.root u k c.requires.root in
       let walked = rw c.new-visits.ensures.nodes at c.walk_below.ensures.walked in
-      (c.walk_below.new.visit, walked u k.tree (omega arith));
+      walked u (ahead g s c.args.root c.new-visits.result.at u k c.requires.root c.new-visits.ensures.at);
+  callable = c.walk_below.ensures.callable;
   steps = λ u k.
+      let s = c.args.nodes.now in
       let zero = c.new-visits.ensures.steps in
       let stepped = rw c.new-visits.ensures.nodes at c.walk_below.ensures.steps in
-      let spent = stepped u k.tree in
+      let spent = stepped u (ahead g s c.args.root c.new-visits.result.at u k c.requires.root c.new-visits.ensures.at) in
       let told = c.steps.ensures in
       omega arith;
 }

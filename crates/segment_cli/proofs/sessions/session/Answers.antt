@@ -1,8 +1,8 @@
 use Rattle.std.proofs.Common.{length, arith}
 use Rattle.std.proofs.lemmas.Result.{err_from_is_err_and}
 use Rattle.raw_region.specs.Device.{given_since, taken_since}
-use Rattle.segment_cli.proofs.Cuts.{none_failed, one_failed}
-use Rattle.segment_cli.proofs.Endings.{not_asked, not_written, unbegun_session, stopped_session, done_session, unsaved_session}
+use Rattle.segment_cli.proofs.Cuts.{added, none_failed, one_failed}
+use Rattle.segment_cli.proofs.Endings.{at_first, first, not_asked, not_written, unbegun_session, stopped_session, done_session, unsaved_session}
 use Rattle.segment_cli.proofs.sessions.session.Goals as goal
 
 pub returns-in_err-segment-clause-session : goal.returns-in_err-segment-clause-session
@@ -40,7 +40,7 @@ returns-in_err-run-clause-session g c =
 pub returns-in_err-run-clause-out_grows : goal.returns-in_err-run-clause-out_grows
 returns-in_err-run-clause-out_grows g c =
     let begun = c.in_ok-segment.ensures.starts.answers in
-    c.run.ensures.out_grows (c.args.mode, begun.from) (begun.mode, begun.stands)
+    c.run.ensures.out_grows (first c.args.mode begun.from) (at_first c.args.mode begun.from c.in_ok-segment.segment begun.mode begun.stands)
 
 pub returns-in-Ok-clause-session : goal.returns-in-Ok-clause-session
 returns-in-Ok-clause-session g c =
@@ -54,12 +54,13 @@ returns-in-Ok-clause-session g c =
       saved = taken_since (Saved.taken a.image_out.now) (Saved.taken c.save_segment.new.image_out) (Saved.failures a.image_out.now) (Saved.failures c.save_segment.new.image_out);
     })
     c.in_ok-segment.segment c.run.new.machine tt c.in_ok-segment.ensures.starts c.in_ok-run.ensures.leaves c.in-Ok.ensures.ok
+    (λ writes. added (Saved.taken a.image_out.now) (Saved.taken c.save_segment.new.image_out) c.run.new.machine.cut.bytes (c.in-Ok.ensures.bytes writes))
     (none_failed _ _ (omega (arith, c.in-Ok.ensures.counted)))
 
 pub returns-in-Ok-clause-out_grows : goal.returns-in-Ok-clause-out_grows
 returns-in-Ok-clause-out_grows g c =
     let begun = c.in_ok-segment.ensures.starts.answers in
-    c.run.ensures.out_grows (c.args.mode, begun.from) (begun.mode, begun.stands)
+    c.run.ensures.out_grows (first c.args.mode begun.from) (at_first c.args.mode begun.from c.in_ok-segment.segment begun.mode begun.stands)
 
 pub returns-clause-session : goal.returns-clause-session
 returns-clause-session g c =
@@ -79,4 +80,4 @@ returns-clause-session g c =
 pub returns-clause-out_grows : goal.returns-clause-out_grows
 returns-clause-out_grows g c =
     let begun = c.in_ok-segment.ensures.starts.answers in
-    c.run.ensures.out_grows (c.args.mode, begun.from) (begun.mode, begun.stands)
+    c.run.ensures.out_grows (first c.args.mode begun.from) (at_first c.args.mode begun.from c.in_ok-segment.segment begun.mode begun.stands)

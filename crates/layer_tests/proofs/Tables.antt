@@ -1,0 +1,78 @@
+-- What the tests' table does, and what its searches tell.
+use Rattle.std.proofs.Common.{◌≡◌, ℕ, ◌<◌, Bool, true, ◌||◌, Option, Some, List, [], ◌∷◌, length, nat_lt, nat_eq, get_or, set, refl, sym, ap, arith, inl, inr}
+use Rattle.std.proofs.lemmas.Bool.{ltb-false, lt-ltb, eqb-true, eq-eqb, or_left, or_right, cases_Bool, eqb-false, and_parts, and_from}
+use Rattle.std.proofs.lemmas.List.{get_or-set_same, get_or-set_other}
+use mathlib.Core.Path.{fun_ext}
+use Rattle.std.specs.List.{list_all}
+use Rattle.link_tree.specs.Tree.{rises}
+use Rattle.link_tree.specs.Nodes.{is_in, with_left, with_right, with_red, first_not, has_place}
+use Rattle.layer_tests.specs.Table.{link_of, table_cells}
+use Rattle.layer_tests.specs.TableLaws.{table_transitive}
+use Rattle.link_tree.proofs.Orders.{all_at, all_from}
+use Rattle.link_tree.proofs.Trees.{some_same, none_some}
+
+pub table_set_left : (left right red : List ℕ) (n v : ℕ) (to : Option ℕ) → n < length left → link_of v ≡ to
+    → table_cells (set left n v) right red ≡ with_left (table_cells left right red) n to
+unfolding with_left
+table_set_left left right red n v to h e = fun_ext (λ m. elim (cases_Bool (nat_eq m n)) [
+  | inl k ↦
+      let same = eqb-true m n k in
+      let read : get_or (set left n v) m 0 ≡ v = rw same (get_or-set_same left n v 0 h) in
+      rw (k, read, e) refl
+  | inr k ↦
+      let d = eqb-false m n k in
+      let read = get_or-set_other left n m v 0 d in
+      rw (k, read) refl
+])
+
+pub table_set_right : (left right red : List ℕ) (n v : ℕ) (to : Option ℕ) → n < length right → link_of v ≡ to
+    → table_cells left (set right n v) red ≡ with_right (table_cells left right red) n to
+unfolding with_right
+table_set_right left right red n v to h e = fun_ext (λ m. elim (cases_Bool (nat_eq m n)) [
+  | inl k ↦
+      let same = eqb-true m n k in
+      let read : get_or (set right n v) m 0 ≡ v = rw same (get_or-set_same right n v 0 h) in
+      rw (k, read, e) refl
+  | inr k ↦
+      let d = eqb-false m n k in
+      let read = get_or-set_other right n m v 0 d in
+      rw (k, read) refl
+])
+
+pub table_set_red : (left right red : List ℕ) (n v : ℕ) (to : Bool) → n < length red → nat_eq v 1 ≡ to
+    → table_cells left right (set red n v) ≡ with_red (table_cells left right red) n to
+unfolding with_red
+table_set_red left right red n v to h e = fun_ext (λ m. elim (cases_Bool (nat_eq m n)) [
+  | inl k ↦
+      let same = eqb-true m n k in
+      let read : get_or (set red n v) m 0 ≡ v = rw same (get_or-set_same red n v 0 h) in
+      rw (k, read, e) refl
+  | inr k ↦
+      let d = eqb-false m n k in
+      let read = get_or-set_other red n m v 0 d in
+      rw (k, read) refl
+])
+
+-- a number that is not found has its place
+pub place_unless_found : (x : ℕ) (ns : List ℕ) → rises nat_lt ns ≡ true → (first_not (λ m. nat_lt m x) ns ≡ Some x → ⊥) → has_place nat_lt x ns ≡ true
+place_unless_found x [] o f = refl
+place_unless_found x (n ∷ ns) o f =
+    let p = and_parts (list_all (nat_lt n) ns) (rises nat_lt ns) o in
+    elim (cases_Bool (nat_lt n x)) [
+      | inl k ↦
+          let g : first_not (λ m. nat_lt m x) ns ≡ Some x → ⊥ = rw k at f in
+          and_from (nat_lt x n || nat_lt n x) (has_place nat_lt x ns) (or_right (nat_lt x n) (nat_lt n x) k) (place_unless_found x ns p.1 g)
+      | inr k ↦
+          let g : Some n ≡ Some x → ⊥ = rw k at f in
+          let d : n ≡ x → ⊥ = λ e. g (ap Some e) in
+          let above = lt-ltb x n (omega (arith, ltb-false n x k)) in
+          and_from (nat_lt x n || nat_lt n x) (has_place nat_lt x ns) (or_left (nat_lt x n) (nat_lt n x) above)
+          (all_from (λ m. nat_lt x m || nat_lt m x) ns (λ m i. or_left (nat_lt x m) (nat_lt m x) (table_transitive x n m above (all_at (nat_lt n) ns m p.0 i))))
+    ]
+
+pub in_if_found : (x : ℕ) (ns : List ℕ) → first_not (λ m. nat_lt m x) ns ≡ Some x → is_in x ns ≡ true
+in_if_found x [] f = absurd (none_some x f)
+in_if_found x (n ∷ ns) f = elim (cases_Bool (nat_lt n x)) [
+  | inl k ↦ let g : first_not (λ m. nat_lt m x) ns ≡ Some x = rw k at f in or_right (nat_eq x n) (is_in x ns) (in_if_found x ns g)
+  | inr k ↦ let g : Some n ≡ Some x = rw k at f in or_left (nat_eq x n) (is_in x ns) (eq-eqb x n (sym (some_same n x g)))
+]

@@ -1,0 +1,12 @@
+use Rattle.std.proofs.Common.{refl, ap, length, ℕ, List, arith}
+use Rattle.layer_tests.proofs.FreshWindows.{length-zeros, legal_fresh, laid_fresh}
+use Rattle.layer_tests.proofs.block_tags_tests.laid_window.Goals as goal
+
+pub new-window-requires-clause-inside : goal.new-window-requires-clause-inside
+new-window-requires-clause-inside c = let l = ap (λ (b : List ℕ). length b) c.in_ok-region.ensures.zeros in omega (arith, length-zeros 1024, l)
+
+pub lay-requires : goal.lay-requires
+lay-requires c = legal_fresh 1024 _ _ c.in_ok-region.ensures.zeros c.new-window.ensures.cut refl
+
+pub returns : goal.returns
+returns c = laid_fresh 1024 _ _ _ c.in_ok-region.ensures.zeros c.new-window.ensures.cut c.lay.ensures.tags

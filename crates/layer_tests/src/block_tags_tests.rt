@@ -1,0 +1,72 @@
+//! Each call once, over a window of 1024 bytes.
+ghost use Rattle.std.specs.Prelude.{IfOk, [], ◌∷◌};
+ghost use Rattle.block_tags.specs.Lists.{free_tile};
+ghost use Rattle.block_tags.specs.Windows.{SaysTiles};
+
+use block_tags::{
+    BadTag, Role, Tile, append_free, check, drop_last, first, lay, merge_next, next, previous, red,
+    set_red, set_use, split, tile_at,
+};
+use raw_region::{OutOfMemory, RawRegion, Window};
+use std::alloc::Global;
+use std::test::Fail;
+
+/// A window of 1024 bytes, of which one free tile fills all but the header and the end tag.
+fn laid_window(alloc: Global) -> Result<Window, OutOfMemory>
+    ensures { IfOk result (λ w. SaysTiles w (free_tile 128 880 ∷ [])) }
+{
+    let region = RawRegion::new(alloc, 1024)?;
+    let mut window = Window::new(region, 0, 1024);
+    lay(&mut window);
+    Ok(window)
+}
+
+fn free(offset: u64, len: u64) -> Tile {
+    Tile {
+        offset,
+        len,
+        use_of: None,
+        red: false,
+    }
+}
+
+#[test]
+fn splits_and_joins(rt: HostRuntime) -> Result<(), Fail> {
+    let mut window = laid_window(rt.alloc())?;
+    assert_eq!(rt; first(&window), Some(free(128, 880)));
+    split(&mut window, 128, 64);
+    assert_eq!(rt; next(&window, 128), Some(free(192, 816)));
+    assert_eq!(rt; previous(&window, 192), Some(free(128, 64)));
+    assert_eq!(rt; check(&window), Err(BadTag), "two free neighbours");
+    merge_next(&mut window, 128);
+    assert_eq!(rt; first(&window), Some(free(128, 880)));
+    Ok(())
+}
+
+#[test]
+fn gives_use_and_colour(rt: HostRuntime) -> Result<(), Fail> {
+    let mut window = laid_window(rt.alloc())?;
+    set_use(&mut window, 128, Some(Role::Node));
+    assert!(rt; !red(&window, 128));
+    set_red(&mut window, 128, true);
+    assert!(rt; red(&window, 128));
+    let wanted = Tile {
+        offset: 128,
+        len: 880,
+        use_of: Some(Role::Node),
+        red: true,
+    };
+    assert_eq!(rt; tile_at(&window, 128), wanted);
+    assert_eq!(rt; check(&window), Ok(()));
+    Ok(())
+}
+
+#[test]
+fn moves_the_end(rt: HostRuntime) -> Result<(), Fail> {
+    let mut window = laid_window(rt.alloc())?;
+    let size = drop_last(&mut window);
+    assert_eq!(rt; size, 144);
+    append_free(&mut window, size);
+    assert_eq!(rt; first(&window), Some(free(128, 880)));
+    Ok(())
+}

@@ -1,0 +1,23 @@
+//! Tests of the layers below a session, over their public calls: from raw memory to the command language.
+#![tactic(auto)]
+
+#[cfg(test)]
+mod best_fit_tests;
+#[cfg(test)]
+mod block_tags_tests;
+#[cfg(test)]
+mod image_check_tests;
+#[cfg(test)]
+mod link_tree_tests;
+#[cfg(test)]
+mod offset_link_tests;
+#[cfg(test)]
+mod raw_region_stream_tests;
+#[cfg(test)]
+mod raw_region_tests;
+#[cfg(test)]
+mod segment_lang_tests;
+#[cfg(test)]
+mod segment_manager_tests;
+#[cfg(test)]
+mod segment_scalar_tests;

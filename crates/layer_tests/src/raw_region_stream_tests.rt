@@ -1,0 +1,95 @@
+use raw_region::stream::{Reading, Writing};
+use raw_region::{Sink, Source, write_all};
+use std::io::{self, ErrorKind, Read, Write};
+use std::test::Fail;
+
+/// Gives two bytes, is interrupted, gives two more and ends. It counts how often it is asked.
+#[derive(Drop)]
+struct Counting {
+    asked: u64,
+}
+
+impl Read for Counting {
+    fn read(&mut self, into: &mut [u8]) -> io::Result<usize> {
+        self.asked = self.asked.wrapping_add(1);
+        let bytes = match self.asked {
+            1 => b"ab",
+            2 => return Err(io::Error::from(ErrorKind::Interrupted)),
+            3 => b"cd",
+            _ => return Ok(0),
+        };
+        let count = into.len().min(2);
+        into[..count].copy_from_slice(&bytes[..count]);
+        Ok(count)
+    }
+}
+
+/// Takes two bytes a write, but is interrupted the second time and takes none after the third. It keeps
+/// what it took, and counts how often it is asked.
+#[derive(Drop)]
+struct Keeping {
+    asked: u64,
+    kept: [u8; 4],
+}
+
+impl Write for Keeping {
+    fn write(&mut self, bytes: &[u8]) -> io::Result<usize> {
+        self.asked = self.asked.wrapping_add(1);
+        let from = match self.asked {
+            1 => 0,
+            2 => return Err(io::Error::from(ErrorKind::Interrupted)),
+            3 => 2,
+            _ => return Ok(0),
+        };
+        let count = bytes.len().min(2);
+        self.kept[from..from + count].copy_from_slice(&bytes[..count]);
+        Ok(count)
+    }
+
+    fn flush(&mut self) -> io::Result<()> {
+        Ok(())
+    }
+}
+
+#[test]
+fn each_read_asks_the_reader_once(rt: HostRuntime) -> Result<(), Fail> {
+    let mut reader = Counting { asked: 0 };
+    let mut into = *b"........";
+    let mut source = Reading::new(&mut reader);
+    assert_eq!(rt; source.read(&mut into[..4])?, 2);
+    assert!(rt; source.read(&mut into[2..]).is_err());
+    assert_eq!(rt; source.read(&mut into[2..])?, 2);
+    assert_eq!(rt; source.read(&mut into[4..])?, 0);
+    assert_eq!(rt; into.as_slice(), b"abcd....".as_slice());
+    assert_eq!(rt; reader.asked, 4);
+    Ok(())
+}
+
+#[test]
+fn each_write_asks_the_writer_once(rt: HostRuntime) -> Result<(), Fail> {
+    let mut writer = Keeping {
+        asked: 0,
+        kept: [0; 4],
+    };
+    let mut sink = Writing::new(&mut writer);
+    assert_eq!(rt; sink.write(b"abc")?, 2);
+    assert!(rt; sink.write(b"cd").is_err());
+    assert_eq!(rt; sink.write(b"cd")?, 2);
+    assert_eq!(rt; sink.write(b"e")?, 0);
+    assert!(rt; write_all(&mut sink, b"e").is_err());
+    assert_eq!(rt; writer.kept.as_slice(), b"abcd".as_slice());
+    assert_eq!(rt; writer.asked, 5);
+    Ok(())
+}
+
+#[test]
+fn a_reader_of_bytes_gives_them(rt: HostRuntime) -> Result<(), Fail> {
+    let mut bytes = b"abcd".as_slice();
+    let mut into = [0u8; 3];
+    let mut source = Reading::new(&mut bytes);
+    assert_eq!(rt; source.read(&mut into)?, 3);
+    assert_eq!(rt; into.as_slice(), b"abc".as_slice());
+    assert_eq!(rt; source.read(&mut [])?, 0);
+    assert_eq!(rt; bytes, b"d".as_slice());
+    Ok(())
+}

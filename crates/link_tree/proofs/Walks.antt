@@ -1,0 +1,59 @@
+-- Walks over trees: what is ahead of one at a node.
+use Rattle.std.proofs.Common.{◌≡◌, ◌≢◌, ℕ, ◌+◌, ◌-◌, ◌<◌, Bool, true, false, Option, Some, List, ◌∷◌, ◌++◌, length, sym, ap, ◌∙◌, arith, length-append}
+use Rattle.std.proofs.lemmas.Bool.{false_from_ne_true, true≢false}
+use Rattle.link_tree.specs.Tree.{Cell, Tree, nodes_of, IsTree}
+use Rattle.link_tree.specs.Nodes.{is_in}
+use Rattle.link_tree.specs.Walking.{IsAhead}
+use Rattle.link_tree.proofs.Orders.{rises_split, not_left, not_right, not_both}
+use Rattle.link_tree.proofs.Trees.{open_tree, some_same, root_in}
+
+-- a walk stands at a node: the left tree is ahead of it, and the right one from wherever the walk over the left one ends
+pub record AreAhead (lt : ℕ → ℕ → Bool) (h : ℕ → Cell) (n levels : ℕ) (here : Option ℕ) (ns : List ℕ) : Type 0 where
+  pub left : Tree
+  pub right : Tree
+  pub nodes : ns ≡ nodes_of left ++ n ∷ nodes_of right
+  pub size : length ns ≡ length (nodes_of left) + length (nodes_of right) + 1
+  pub positive : 0 < levels
+  pub comes : here ≢ Some n
+  pub left_ahead : (at_node : Option ℕ) → at_node ≡ Some n → IsAhead lt h (h n).left (levels - 1) at_node left
+  pub right_ahead : (at_node later : Option ℕ) → at_node ≡ Some n
+      → ((m : ℕ) → is_in m (nodes_of left) ≡ false → at_node ≢ Some m → later ≢ Some m)
+      → IsAhead lt h (h n).right (levels - 1) later right
+
+pub ahead_at : (lt : ℕ → ℕ → Bool) → ((a b c : ℕ) → lt a b ≡ true → lt b c ≡ true → lt a c ≡ true) → ((n : ℕ) → lt n n ≡ false)
+    → (h : ℕ → Cell) (n levels : ℕ) (link here : Option ℕ) (t : Tree) → link ≡ Some n → IsAhead lt h link levels here t
+    → AreAhead lt h n levels here (nodes_of t)
+ahead_at lt transitive irreflexive h n levels link here t e a =
+    let w : IsTree h (Some n) t = rw e at a.tree in
+    let o = open_tree h n t w in
+    let l = nodes_of o.left in
+    let r = nodes_of o.right in
+    let low = rw o.is at a.low in
+    let sp = rises_split lt l n r (rw o.is at a.ordered) in
+    record {
+      left = o.left;
+      right = o.right;
+      nodes = ap nodes_of o.is;
+      size = ap (λ u. length (nodes_of u)) o.is ∙ omega (arith, length-append l (n ∷ r));
+      positive = omega arith;
+      comes = a.away n (root_in h n t w);
+      left_ahead = λ at_node f. record {
+        tree = o.left_tree;
+        ordered = sp.left;
+        low = omega arith;
+        away = λ m i k.
+            let same : n ≡ m = some_same n m (sym f ∙ k) in
+            true≢false (sym (rw (← same) at i) ∙ not_left lt transitive irreflexive l n r sp);
+      };
+      right_ahead = λ at_node later f stays. record {
+        tree = o.right_tree;
+        ordered = sp.right;
+        low = omega arith;
+        away = λ m i.
+            stays m
+            (false_from_ne_true (is_in m l) (λ j. true≢false (sym i ∙ not_both lt transitive irreflexive l n r sp m j)))
+            (λ k.
+            let same : n ≡ m = some_same n m (sym f ∙ k) in
+            true≢false (sym (rw (← same) at i) ∙ not_right lt transitive irreflexive l n r sp));
+      };
+    }

@@ -1,5 +1,0 @@
-use Rattle.link_tree.proofs.Heights.{bounds_height}
-use Rattle.link_tree.proofs.laws.law_of_height.Goals as goal
-
-pub returns : goal.returns
-returns c = bounds_height

@@ -1,5 +1,0 @@
-use Rattle.link_tree.proofs.Reading.{reads_off}
-use Rattle.link_tree.proofs.laws.law_of_reading.Goals as goal
-
-pub returns : goal.returns
-returns c = reads_off

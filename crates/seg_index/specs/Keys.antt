@@ -1,0 +1,29 @@
+-- What an index compares of the objects that it leads to, each by its handle, at which its payload begins: two words, and the name.
+use Rattle.std.specs.Prelude.{ℕ, ◌+◌, ◌/◌, ◌%◌, Bool, List, nat_lt}
+use Rattle.std.specs.Cmp.Lexicographic.{slice_cmp}
+use Rattle.std.specs.Ordering.{nat_cmp, is_lt}
+use Rattle.raw_region.specs.Memory.{Memory, read, word_at}
+
+-- the code of the kind, and the count, are the halves of the first word
+abbrev pub code_at : Memory → ℕ → ℕ
+code_at m h = word_at m h % 4294967296
+
+abbrev pub count_at : Memory → ℕ → ℕ
+count_at m h = word_at m h / 4294967296
+
+-- the length of the name, and the code of the class, are those of the second
+abbrev pub name_len_at : Memory → ℕ → ℕ
+name_len_at m h = word_at m (h + 8) % 4294967296
+
+abbrev pub class_at : Memory → ℕ → ℕ
+class_at m h = word_at m (h + 8) / 4294967296
+
+abbrev pub name_at : Memory → ℕ → List ℕ
+name_at m h = read m (h + 16) (name_len_at m h)
+
+-- the orders of the two indexes: by the bytes of the names, and by the codes of the kinds
+abbrev pub name_before : Memory → ℕ → ℕ → Bool
+name_before m g h = is_lt (slice_cmp nat_cmp (name_at m g) (name_at m h))
+
+abbrev pub code_before : Memory → ℕ → ℕ → Bool
+code_before m g h = nat_lt (code_at m g) (code_at m h)

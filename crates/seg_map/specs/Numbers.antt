@@ -1,0 +1,18 @@
+-- Maps from numbers of one scalar kind to numbers of one, as a directory has them.
+use Rattle.std.specs.Prelude.{ℕ, ℤ, Bool, List}
+use Rattle.raw_region.specs.Memory.{Memory}
+use Rattle.seg_types.specs.declared.kinds.ScalarKind.{ScalarKind}
+use Rattle.seg_types.specs.Kinds.{size_of, spelling, is_value}
+use Rattle.seg_map.specs.Map.{Pair, is_pair, IsPairAt, IsMapAt}
+
+abbrev pub NumberPair : Type 0
+NumberPair = Pair ℤ ℤ
+
+abbrev pub is_number_pair : ScalarKind → ScalarKind → NumberPair → Bool
+is_number_pair k v = is_pair (size_of k) (size_of v) (is_value k) (is_value v)
+
+abbrev pub IsNumberPairAt : ScalarKind → ScalarKind → Memory → NumberPair → Type 0
+IsNumberPairAt k v = IsPairAt (size_of k) (spelling k) (spelling v)
+
+abbrev pub IsNumberMapAt : Memory → ℕ → ScalarKind → ScalarKind → List NumberPair → Type 0
+IsNumberMapAt m at k v ps = IsMapAt (size_of k) (spelling k) (spelling v) m at ps

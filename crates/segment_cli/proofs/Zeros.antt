@@ -1,0 +1,116 @@
+-- Where a segment stands after a line: whether its gaps are zero.
+use Rattle.std.proofs.Common.{◌≡◌, ◌==◌, ℕ, ◌+◌, ◌-◌, ◌≤◌, Bool, true, false, if◌then◌else◌, inr, List, [], ◌∷◌, nat_lt, refl, sym, ap, subst, ◌∙◌, arith}
+use Rattle.std.specs.List.{AllByRecursion}
+use Rattle.std.proofs.lemmas.Bool.{cond_both}
+use Rattle.raw_region.specs.Memory.{AreZero, bytes_of}
+use Rattle.raw_region.specs.Format.{current}
+use Rattle.block_tags.specs.declared.tile.Tile.{Tile}
+use Rattle.block_tags.specs.Lists.{free_tile, laid, IsBesideTags}
+use Rattle.best_fit.specs.Extents.{Gap, gaps, gap_between}
+use Rattle.best_fit.proofs.LayOut.{lay_out_one}
+use Rattle.seg_types.specs.Commands as asked
+use Rattle.seg_types.specs.Commands.{Reading, is_changing}
+use Rattle.segment_lang.specs.Language.{landed}
+use Rattle.segment_lang.specs.Reading.{reading}
+use Rattle.segment_lang.specs.Seen.{command_of}
+use Rattle.segment_lang.specs.declared.commands.Command.{Command}
+use Rattle.segment_lang.specs.declared.commands.Command.TheVariants.{Construct, DestroyPtr, Show, Blocks, Size, Free, ZeroFree, Sanity, AllDeallocated}
+use Rattle.segment_manager.specs.declared.modes.Mode.{Mode}
+use Rattle.segment_manager.specs.declared.modes.Mode.TheVariants.{Write, ReadOnly, CopyOnWrite}
+use Rattle.segment_manager.specs.Directory.{Directory, empty, live}
+use Rattle.segment_manager.specs.Answers.{Done}
+use Rattle.segment_manager.specs.State.{State, StandsFor}
+use Rattle.segment_manager.specs.Step.{step}
+use Rattle.segment_manager.specs.Calls.{HasZeroGaps, IsCreated}
+use Rattle.segment_cli.specs.ZeroGaps.{HasZeroGapsIn, is_refused, is_zero_free}
+use Rattle.segment_cli.specs.Segments.{Place, IsAt, place_after, answer_line}
+
+-- ---- bytes
+
+-- gaps are zero by the bytes alone
+zeros_of : (s : State) → HasZeroGaps s → HasZeroGapsIn s.cut.bytes
+zeros_of s h = record { zeros = h.zeros }
+
+zeros_of_bytes : (s : State) → HasZeroGapsIn s.cut.bytes → HasZeroGaps s
+zeros_of_bytes s h = record { zeros = h.zeros }
+
+pub zeros_saved : (s : State) (image : List ℕ) → image ≡ s.cut.bytes → HasZeroGaps s → HasZeroGapsIn image
+zeros_saved s image e h = subst HasZeroGapsIn (sym e) (zeros_of s h)
+
+pub zeros_read : (s : State) (image : List ℕ) → s.cut.bytes ≡ image → HasZeroGapsIn image → HasZeroGaps s
+zeros_read s image e h = zeros_of_bytes s (subst HasZeroGapsIn (sym e) h)
+
+-- ---- a fresh segment
+
+-- bytes stand for directories with the same blocks
+one_live : (b : List ℕ) (d e : Directory) → StandsFor b d → StandsFor b e → live d ≡ live e
+one_live b d e h k = sym (lay_out_one current b (live d) h.denotes.heap) ∙ lay_out_one current b (live e) k.denotes.heap
+
+-- the gap between the front and the end tag
+empty_gaps : (size : ℕ) → gaps (live (empty size)) ≡ gap_between 128 (size - 16)
+unfolding gaps live
+empty_gaps size = refl
+
+beside_front : (size k : ℕ) → 144 ≤ k → IsBesideTags (laid size) k
+beside_front size k h = cond_both (size == 144) [] (free_tile 128 (size - 144) ∷ []) (λ (ts : List Tile). IsBesideTags ts k) (λ _. tt) (λ _. (inr h, tt))
+
+abbrev Zero : List ℕ → List Gap → Type 0
+Zero b = AllByRecursion (λ (g : Gap). AreZero (bytes_of b) (g.offset + 16) (g.offset + g.len))
+
+pub created_zeros : (region : List ℕ) (base size : ℕ) (mode : Mode) (s : State) → IsCreated region base size mode s → HasZeroGaps s
+created_zeros region base size mode s h =
+    let one : Zero s.cut.bytes (gap_between 128 (size - 16)) = cond_both (nat_lt 128 (size - 16)) (record { offset = 128; len = size - 16 - 128 } ∷ []) [] (Zero s.cut.bytes)
+    (λ _. (record { at = λ k low high. h.zeros k (omega arith) (beside_front size k (omega arith)) (omega arith) }, tt)) (λ _. tt) in
+    record {
+      zeros = λ d k. subst (Zero s.cut.bytes) (sym (ap gaps (one_live s.cut.bytes d (empty size) k h.stands) ∙ empty_gaps size)) one;
+    }
+
+-- ---- a command
+
+zero_free-is : (c : Command) → is_zero_free (command_of c) ≡ true → c ≡ ZeroFree
+zero_free-is (Construct key content) e = absurd (cc)
+zero_free-is (DestroyPtr n) e = absurd (cc)
+zero_free-is (Show key) e = absurd (cc)
+zero_free-is Blocks e = absurd (cc)
+zero_free-is Size e = absurd (cc)
+zero_free-is Free e = absurd (cc)
+zero_free-is ZeroFree e = refl
+zero_free-is Sanity e = absurd (cc)
+zero_free-is AllDeallocated e = absurd (cc)
+
+zero_free-done : (mode : Mode) (d : Directory) → is_refused (step mode d asked.ZeroFree).0 ≡ false → (step mode d asked.ZeroFree).0 ≡ Done
+unfolding step
+zero_free-done Write d e = refl
+zero_free-done ReadOnly d e = absurd (cc)
+zero_free-done CopyOnWrite d e = refl
+
+-- what a command leaves, by what holds of it
+zeros_held : (refused changing zero_free known : Bool) (old new : State) → (refused ≡ true → new ≡ old) → (changing ≡ false → new ≡ old)
+    → (zero_free ≡ true → refused ≡ false → HasZeroGaps new) → (known ≡ true → HasZeroGaps old)
+    → (if refused then known else if changing then zero_free else known) ≡ true → HasZeroGaps new
+zeros_held true changing zero_free known old new same stays zeros was e = subst HasZeroGaps (sym (same refl)) (was e)
+zeros_held false true zero_free known old new same stays zeros was e = zeros e refl
+zeros_held false false zero_free known old new same stays zeros was e = subst HasZeroGaps (sym (stays refl)) (was e)
+
+-- a line that is a command
+pub executed : (old new : State) (c : Command) (line : List ℕ) → asked.Asked (command_of c) ≡ reading landed line → new.mode ≡ old.mode
+    → ((d : Directory) → StandsFor old.cut.bytes d → StandsFor new.cut.bytes (step old.mode d (command_of c)).1)
+    → (is_changing (command_of c) ≡ false → new ≡ old)
+    → ((d : Directory) → StandsFor old.cut.bytes d → is_refused (step old.mode d (command_of c)).0 ≡ true → new ≡ old)
+    → ((d : Directory) → StandsFor old.cut.bytes d → c ≡ ZeroFree → (step old.mode d (command_of c)).0 ≡ Done → HasZeroGaps new)
+    → (at : Place) → IsAt old at → IsAt new (answer_line at line).1
+executed old new c line e mode leads stays refused zeros at h =
+    let d = at.directory in
+    let m = h.mode in
+    let place : IsAt new (place_after at (asked.Asked (command_of c))) = record {
+      mode = mode ∙ m;
+      denotes = subst (λ (n : Mode). StandsFor new.cut.bytes (step n d (command_of c)).1) m (leads d h.denotes);
+      zeros = zeros_held (is_refused (step at.mode d (command_of c)).0) (is_changing (command_of c)) (is_zero_free (command_of c)) at.zeros old new
+          (λ r. refused d h.denotes (ap (λ (n : Mode). is_refused (step n d (command_of c)).0) m ∙ r)) stays
+          (λ z r. let is = zero_free-is c z in
+          zeros d h.denotes is
+          (ap (λ (x : Command). (step old.mode d (command_of x)).0) is
+          ∙ zero_free-done old.mode d (ap (λ (x : Command). is_refused (step old.mode d (command_of x)).0) (sym is) ∙ ap (λ (n : Mode). is_refused (step n d (command_of c)).0) m ∙ r)))
+          h.zeros;
+    } in
+    subst (λ (r : Reading). IsAt new (place_after at r)) e place

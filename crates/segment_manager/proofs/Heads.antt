@@ -1,0 +1,116 @@
+-- What the words of an index entry are of an object that stands in its block.
+use Rattle.std.proofs.Common.{◌≡◌, refl, ap, ◌∙◌, ℕ, zero, suc, ◌+◌, ◌*◌, ◌-◌, ◌<◌, ◌≤◌, Bool, true, false, ◌&&◌, not, List, [], ◌∷◌, ◌++◌, length, replicate, ◌==◌, if◌then◌else◌, arith}
+use Rattle.std.specs.Prelude.{IsTrue, nat_le}
+use Rattle.std.specs.List.{AllByRecursion, list_all}
+use Rattle.std.specs.Str.{is_utf8, chars}
+use Rattle.std.proofs.lemmas.Bool.{and_parts, eqb-true, leb-true}
+use Rattle.raw_region.specs.Memory.{Memory, bytes_of, read, Has, word_at}
+use Rattle.best_fit.specs.Extents.{handle}
+use Rattle.best_fit.specs.Table.{serves}
+use Rattle.block_tags.specs.declared.tile.Role.TheVariants.{Object as ObjectRole}
+use Rattle.seg_types.specs.declared.kinds.ScalarKind.{ScalarKind}
+use Rattle.seg_types.specs.declared.kinds.ScalarKind.TheVariants.{Bool as BoolKind, U8, I32, I64, U64}
+use Rattle.seg_types.specs.declared.kinds.Kind.{Kind}
+use Rattle.seg_types.specs.declared.kinds.Kind.TheVariants.{Scalar, Text, Vector, Map, Texts}
+use Rattle.seg_types.specs.declared.kinds.Class.TheVariants.{Named}
+use Rattle.seg_types.specs.Kinds.{scalar_code, code_of, class_code, is_kind_of}
+use Rattle.seg_types.specs.Names.{is_name, is_printable_name, is_text_name, is_control}
+use Rattle.seg_index.specs.Keys.{name_len_at}
+use Rattle.segment_manager.specs.Directory.{Object, kind_of, count_of, padded, is_class, has_good_name, is_good_value, is_object, object_len}
+use Rattle.segment_manager.specs.Denotes.{IsObjectAt}
+use Rattle.segment_manager.specs.Heads.{IsEntry, EntriesSayObjects}
+use Rattle.segment_manager.proofs.Words.{first, second}
+
+-- ---- the codes are below 2 ^ 32
+
+scalar-small : (k : ScalarKind) → scalar_code k ≤ 5
+scalar-small BoolKind = omega arith
+scalar-small U8 = omega arith
+scalar-small I32 = omega arith
+scalar-small I64 = omega arith
+scalar-small U64 = omega arith
+
+pub code-small : (k : Kind) → code_of k < 4294967296
+code-small (Scalar k) = let l = scalar-small k in omega arith
+code-small Text = omega arith
+code-small (Vector k) = let l = scalar-small k in omega arith
+code-small (Map k v) = let l = scalar-small k in let r = scalar-small v in omega arith
+code-small Texts = omega arith
+
+-- ---- names are short
+
+text-short : (name : List ℕ) → IsTrue (is_text_name name) → length name ≤ 255
+unfolding is_text_name
+text-short name h =
+    let three = and_parts (nat_le 1 (length name) && nat_le (length name) 255 && is_utf8 name) (list_all (λ c. not (is_control c)) (chars name)) h in
+    let two = and_parts (nat_le 1 (length name) && nat_le (length name) 255) (is_utf8 name) three.0 in
+    leb-true (length name) 255 (and_parts (nat_le 1 (length name)) (nat_le (length name) 255) two.0).1
+
+printable-short : (name : List ℕ) → IsTrue (is_printable_name name) → length name ≤ 255
+printable-short name h =
+    let two = and_parts (nat_le 1 (length name) && nat_le (length name) 63) (list_all (λ c. nat_le 0x20 c && nat_le c 0x7E) name) h in
+    let l = leb-true (length name) 63 (and_parts (nat_le 1 (length name)) (nat_le (length name) 63) two.0).1 in
+    omega arith
+
+pub name-short : (format : ℕ) (name : List ℕ) → IsTrue (is_name format name) → length name ≤ 255
+name-short zero name h = printable-short name h
+name-short (suc zero) name h = printable-short name h
+name-short (suc (suc format)) name h = text-short name h
+
+good-if : (format : ℕ) (o : Object) (b : Bool) → IsTrue (if b then is_name format o.name else length o.name == 0) → length o.name ≤ 255
+good-if format o true h = name-short format o.name h
+good-if format o false h = let e = eqb-true (length o.name) 0 h in omega arith
+
+pub good_name-short : (format : ℕ) (o : Object) → IsTrue (has_good_name format o) → length o.name ≤ 255
+good_name-short format o h = good-if format o (is_class Named o) h
+
+-- ---- an object's words
+
+-- the first of two rows of bytes
+pub Has-front : (m : Memory) (at : ℕ) (xs ys : List ℕ) → Has m at (xs ++ ys) → Has m at xs
+Has-front m at [] ys h = refl
+Has-front m at (x ∷ xs) ys h =
+    let g : m at ∷ read m (at + 1) (length (xs ++ ys)) ≡ x ∷ (xs ++ ys) = h in
+    let first : m at ≡ x = cc in
+    let rest : read m (at + 1) (length (xs ++ ys)) ≡ xs ++ ys = cc in
+    let ih : read m (at + 1) (length xs) ≡ xs = Has-front m (at + 1) xs ys rest in
+    λ i. first i ∷ ih i
+
+-- the length of the name
+pub entry-name_len : (m : Memory) (o : Object) → length o.name ≤ 255 → IsObjectAt m o → name_len_at m (handle o.extent) ≡ length o.name
+entry-name_len m o short a =
+    let behind : word_at m (handle o.extent + 8) ≡ length o.name + 4294967296 * class_code o.class = a.name_class in
+    omega arith
+
+pub object-entry : (m : Memory) (o : Object) → length o.name ≤ 255 → IsObjectAt m o → IsEntry m o
+object-entry m o short a =
+    let small = code-small (kind_of o.value) in
+    let front : word_at m (handle o.extent) ≡ code_of (kind_of o.value) + 4294967296 * count_of o.value = a.kind_count in
+    let behind : word_at m (handle o.extent + 8) ≡ length o.name + 4294967296 * class_code o.class = a.name_class in
+    record {
+      code = omega arith;
+      count = omega arith;
+      class = omega arith;
+      name =
+          ap (read m (handle o.extent + 16)) (entry-name_len m o short a)
+          ∙ Has-front m (handle o.extent + 16) o.name (replicate (padded (length o.name) - length o.name) 0) a.name;
+    }
+
+-- ---- the law
+
+-- a good object has a good name
+named : (format : ℕ) (o : Object) → IsTrue (is_object format o) → IsTrue (has_good_name format o)
+named format o h =
+    first (has_good_name format o) (is_kind_of format (kind_of o.value))
+    (first (has_good_name format o && is_kind_of format (kind_of o.value)) (is_good_value o.value)
+    (first (has_good_name format o && is_kind_of format (kind_of o.value) && is_good_value o.value) (serves o.extent ObjectRole (object_len o.name o.value)) h))
+
+entries : (format : ℕ) (m : Memory) (os : List Object) → IsTrue (list_all (is_object format) os) → AllByRecursion (IsObjectAt m) os → AllByRecursion (IsEntry m) os
+entries format m [] h a = tt
+entries format m (o ∷ os) h a = (
+  object-entry m o (good_name-short format o (named format o (first (is_object format o) (list_all (is_object format) os) h))) a.0,
+  entries format m os (second (is_object format o) (list_all (is_object format) os) h) a.1,
+)
+
+pub entries_say_objects : EntriesSayObjects
+entries_say_objects format b d h = entries format (bytes_of b) d.objects h.directory.objects h.objects

@@ -1,0 +1,88 @@
+-- Texts that ask for their blocks one after another get what `place_all` gives.
+use Rattle.std.proofs.Common.{◌≡◌, refl, sym, ap, subst, ◌∙◌, ℕ, Bool, true, false, List, [], ◌∷◌, Option, Some, None, length, ◌==◌}
+use Rattle.std.specs.Prelude.{IsTrue, IfSome, option_map}
+use Rattle.std.proofs.lemmas.Bool.{cond-true, cond-false}
+use Rattle.block_tags.specs.declared.tile.Role.{Role}
+use Rattle.block_tags.specs.declared.tile.Role.TheVariants.{Storage}
+use Rattle.best_fit.specs.Extents.{Extent, LiveSet, is_proper}
+use Rattle.best_fit.specs.Fit.{added, place, resized}
+use Rattle.best_fit.specs.Requests.{place_all, all_added}
+use Rattle.best_fit.proofs.Changes.{all_keep_proper}
+use Rattle.seg_vector.specs.Vector.{OwnedText}
+use Rattle.segment_manager.specs.Directory.{Directory}
+use Rattle.segment_manager.specs.Answers.{Answer, Refused}
+use Rattle.seg_types.specs.declared.refusals.Refusal.TheVariants.{NoSpace}
+use Rattle.segment_manager.specs.Step.{Plan, New, Request, perform, with_owned_texts}
+use Rattle.segment_manager.specs.OwnedTexts.{text_needs, owned_texts, with_blocks, TextsArePlaced}
+use Rattle.segment_manager.proofs.Order.{live-rises, rising-insert, resized-fresh}
+
+-- a placed extent keeps the live set proper
+placed-proper : (l : LiveSet) (n : ℕ) (role : Role) (x : Extent) → IsTrue (is_proper l) → place l n role ≡ Some x → IsTrue (is_proper (added l x))
+placed-proper l n role x p e = subst (λ o. IfSome o (λ y. IsTrue (is_proper (added l y)))) e ((all_keep_proper l p).place n role)
+
+-- and is new in it
+placed-fresh : (l : LiveSet) (x : Extent) → IsTrue (is_proper (added l x)) → resized l x ≡ added l x
+placed-fresh l x p = resized-fresh l x (rising-insert 128 x l.extents (live-rises (added l x) p)).differs
+
+-- an empty text takes no block
+owned-empty : (bs : List ℕ) (bss : List (List ℕ)) (xs : List Extent) → (length bs == 0) ≡ true → owned_texts (bs ∷ bss) xs ≡ record { bytes = bs; extent = None } ∷ owned_texts bss xs
+owned-empty bs bss [] e = refl
+owned-empty bs bss (x ∷ xs) e = cond-true (length bs == 0) (record { bytes = bs; extent = None } ∷ owned_texts bss (x ∷ xs)) (record { bytes = bs; extent = Some x } ∷ owned_texts bss xs) e
+
+empty-blocks : (d : Directory) (l : LiveSet) (bs : List ℕ) (bss : List (List ℕ)) (next : List OwnedText → Plan) (o : Option (List Extent)) → (length bs == 0) ≡ true
+    → with_blocks d l bss (λ ps. next (record { bytes = bs; extent = None } ∷ ps)) o ≡ with_blocks d l (bs ∷ bss) next o
+empty-blocks d l bs bss next None e = refl
+empty-blocks d l bs bss next (Some xs) e = ap (λ ps. perform d (all_added l xs) (next ps)) (sym (owned-empty bs bss xs e))
+
+-- any other takes the first
+first-block : (d : Directory) (l : LiveSet) (x : Extent) (bs : List ℕ) (bss : List (List ℕ)) (next : List OwnedText → Plan) (o : Option (List Extent)) → (length bs == 0) ≡ false
+    → with_blocks d (added l x) bss (λ ps. next (record { bytes = bs; extent = Some x } ∷ ps)) o ≡ with_blocks d l (bs ∷ bss) next (option_map (λ xs. x ∷ xs) o)
+first-block d l x bs bss next None e = refl
+first-block d l x bs bss next (Some xs) e =
+    ap (λ ps. perform d (all_added (added l x) xs) (next ps))
+    (sym (cond-false (length bs == 0) (record { bytes = bs; extent = None } ∷ owned_texts bss (x ∷ xs)) (record { bytes = bs; extent = Some x } ∷ owned_texts bss xs) e))
+
+-- what one request comes to
+abbrev requested : Directory → LiveSet → (Extent → Plan) → Option Extent → Answer × Directory
+requested d l next o = elim o [ None ↦ (Refused NoSpace, d) | Some x ↦ perform d (resized l x) (next x) ]
+
+abbrev placed_then : LiveSet → List (ℕ × Role) → Option Extent → Option (List Extent)
+placed_then l needs o = elim o [ None ↦ None | Some x ↦ option_map (λ xs. x ∷ xs) (place_all (added l x) needs) ]
+
+abbrev Placed : Directory → List (List ℕ) → Type 0
+Placed d bss = (l : LiveSet) (next : List OwnedText → Plan) → IsTrue (is_proper l) → perform d l (with_owned_texts bss next) ≡ with_blocks d l bss next (place_all l (text_needs bss))
+
+request-placed : (d : Directory) (l : LiveSet) (bs : List ℕ) (bss : List (List ℕ)) (next : List OwnedText → Plan) (o : Option Extent) → Placed d bss → IsTrue (is_proper l)
+    → (length bs == 0) ≡ false → place l (length bs) Storage ≡ o
+    → requested d l (λ x. with_owned_texts bss (λ ps. next (record { bytes = bs; extent = Some x } ∷ ps))) o ≡ with_blocks d l (bs ∷ bss) next (placed_then l (text_needs bss) o)
+request-placed d l bs bss next None more p e f = refl
+request-placed d l bs bss next (Some x) more p e f =
+    let q = placed-proper l (length bs) Storage x p f in
+    ap (λ k. perform d k (with_owned_texts bss (λ ps. next (record { bytes = bs; extent = Some x } ∷ ps)))) (placed-fresh l x q)
+    ∙ more (added l x) (λ ps. next (record { bytes = bs; extent = Some x } ∷ ps)) q
+    ∙ first-block d l x bs bss next (place_all (added l x) (text_needs bss)) e
+
+-- one text more
+one-more : (d : Directory) (l : LiveSet) (bs : List ℕ) (bss : List (List ℕ)) (next : List OwnedText → Plan) (b : Bool) → Placed d bss → IsTrue (is_proper l) → (length bs == 0) ≡ b
+    → perform d l (with_owned_texts (bs ∷ bss) next) ≡ with_blocks d l (bs ∷ bss) next (place_all l (text_needs (bs ∷ bss)))
+one-more d l bs bss next true more p e =
+    let after : OwnedText → Plan = λ p. with_owned_texts bss (λ ps. next (p ∷ ps)) in
+    let none : OwnedText = record { bytes = bs; extent = None } in
+    ap (perform d l) (cond-true (length bs == 0) (after none) (Request (New Storage (length bs)) (λ x. after (record { bytes = bs; extent = Some x }))) e)
+    ∙ more l (λ ps. next (none ∷ ps)) p
+    ∙ empty-blocks d l bs bss next (place_all l (text_needs bss)) e
+    ∙ ap (λ needs. with_blocks d l (bs ∷ bss) next (place_all l needs)) (sym (cond-true (length bs == 0) (text_needs bss) ((length bs, Storage) ∷ text_needs bss) e))
+one-more d l bs bss next false more p e =
+    let after : OwnedText → Plan = λ p. with_owned_texts bss (λ ps. next (p ∷ ps)) in
+    let none : OwnedText = record { bytes = bs; extent = None } in
+    ap (perform d l) (cond-false (length bs == 0) (after none) (Request (New Storage (length bs)) (λ x. after (record { bytes = bs; extent = Some x }))) e)
+    ∙ request-placed d l bs bss next (place l (length bs) Storage) more p e refl
+    ∙ ap (λ needs. with_blocks d l (bs ∷ bss) next (place_all l needs)) (sym (cond-false (length bs == 0) (text_needs bss) ((length bs, Storage) ∷ text_needs bss) e))
+
+all-placed : (d : Directory) (bss : List (List ℕ)) → Placed d bss
+all-placed d [] l next p = refl
+all-placed d (bs ∷ bss) l next p = one-more d l bs bss next (length bs == 0) (all-placed d bss) p refl
+
+-- the law
+pub texts_are_placed : TextsArePlaced
+texts_are_placed d l bss next p = all-placed d bss l next p

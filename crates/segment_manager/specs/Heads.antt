@@ -1,0 +1,20 @@
+-- What the words of an index entry say of the objects that bytes denote.
+use Rattle.std.specs.Prelude.{◌≡◌, ℕ, List}
+use Rattle.std.specs.List.{AllByRecursion}
+use Rattle.raw_region.specs.Memory.{Memory, bytes_of}
+use Rattle.best_fit.specs.Extents.{handle}
+use Rattle.seg_types.specs.Kinds.{code_of, class_code}
+use Rattle.seg_index.specs.Keys.{code_at, count_at, class_at, name_at}
+use Rattle.segment_manager.specs.Directory.{Object, Directory, kind_of, count_of}
+use Rattle.segment_manager.specs.Denotes.{Denotes}
+
+-- its kind, count, class and name
+pub record IsEntry (m : Memory) (o : Object) : Type 0 where
+  pub code : code_at m (handle o.extent) ≡ code_of (kind_of o.value)
+  pub count : count_at m (handle o.extent) ≡ count_of o.value
+  pub class : class_at m (handle o.extent) ≡ class_code o.class
+  pub name : name_at m (handle o.extent) ≡ o.name
+
+-- the law
+abbrev pub EntriesSayObjects : Type 0
+EntriesSayObjects = (format : ℕ) (b : List ℕ) (d : Directory) → Denotes format b d → AllByRecursion (IsEntry (bytes_of b)) d.objects

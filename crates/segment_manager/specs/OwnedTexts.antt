@@ -1,0 +1,34 @@
+-- The blocks that several texts ask for, as a list of requests.
+use Rattle.std.specs.Prelude.{◌≡◌, ℕ, Option, Some, None, List, [], ◌∷◌, length, IsTrue, ◌==◌, if◌then◌else◌}
+use Rattle.block_tags.specs.declared.tile.Role.{Role}
+use Rattle.block_tags.specs.declared.tile.Role.TheVariants.{Storage}
+use Rattle.best_fit.specs.Extents.{Extent, LiveSet, is_proper}
+use Rattle.best_fit.specs.Requests.{place_all, all_added}
+use Rattle.seg_types.specs.declared.refusals.Refusal.TheVariants.{NoSpace}
+use Rattle.seg_vector.specs.Vector.{OwnedText}
+use Rattle.segment_manager.specs.Directory.{Directory}
+use Rattle.segment_manager.specs.Answers.{Answer, Refused}
+use Rattle.segment_manager.specs.Step.{Plan, perform, with_owned_texts}
+
+-- one for each text that is not empty
+abbrev pub text_needs : List (List ℕ) → List (ℕ × Role)
+text_needs [] = []
+text_needs (bs ∷ bss) = if length bs == 0 then text_needs bss else (length bs, Storage) ∷ text_needs bss
+
+-- the texts, each that is not empty in the next of these blocks
+abbrev pub owned_texts : List (List ℕ) → List Extent → List OwnedText
+owned_texts [] xs = []
+owned_texts (bs ∷ bss) [] = record { bytes = bs; extent = None } ∷ owned_texts bss []
+owned_texts (bs ∷ bss) (x ∷ xs) =
+    if length bs == 0 then record { bytes = bs; extent = None } ∷ owned_texts bss (x ∷ xs)
+    else record { bytes = bs; extent = Some x } ∷ owned_texts bss xs
+
+-- what a plan comes to that goes on with texts in these blocks, or has no space for them
+abbrev pub with_blocks : Directory → LiveSet → List (List ℕ) → (List OwnedText → Plan) → Option (List Extent) → Answer × Directory
+with_blocks d l bss next None = (Refused NoSpace, d)
+with_blocks d l bss next (Some xs) = perform d (all_added l xs) (next (owned_texts bss xs))
+
+-- the law: a plan that asks for several texts goes on with the extents that `place_all` gives for those that are not empty
+abbrev pub TextsArePlaced : Type 0
+TextsArePlaced = (d : Directory) (l : LiveSet) (bss : List (List ℕ)) (next : List OwnedText → Plan) → IsTrue (is_proper l)
+    → perform d l (with_owned_texts bss next) ≡ with_blocks d l bss next (place_all l (text_needs bss))

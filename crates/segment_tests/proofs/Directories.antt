@@ -1,0 +1,49 @@
+-- What is nearly a directory, and what nearly stands in memory, and is none and does not.
+use Rattle.std.proofs.Common.{◌≡◌, refl, ap, ℕ, pos, List, [], ◌∷◌, Some, None, true, false, length, arith}
+use Rattle.raw_region.specs.Memory.{Memory}
+use Rattle.block_tags.specs.declared.tile.Role.TheVariants.{Object, Storage}
+use Rattle.best_fit.specs.Table.{no_table}
+use Rattle.seg_types.specs.declared.kinds.ScalarKind.TheVariants.{I64}
+use Rattle.seg_types.specs.declared.kinds.Class.TheVariants.{Anonymous}
+use Rattle.seg_vector.specs.Vector.{IsVectorAt, IsTextAt, IsTextsAt}
+use Rattle.seg_index.specs.Index.{IsIndexAt}
+use Rattle.segment_manager.specs.Directory.{Object as SomeObject, Texts, is_object}
+use Rattle.segment_tests.proofs.Images.{extent}
+
+-- ---- a vector of one text of one byte, in a block of its own
+
+abbrev one_text : ℕ → SomeObject
+one_text byte = record {
+  class = Anonymous;
+  name = [];
+  value = Texts (record { bytes = byte ∷ []; extent = Some (extent 224 32 Storage) } ∷ []) (record { capacity = 1; extent = Some (extent 192 32 Storage) });
+  extent = extent 128 64 Object;
+}
+
+text : is_object 2 (one_text 255) ≡ true
+text = refl
+
+-- 256 is no byte
+no_byte : is_object 2 (one_text 256) ≡ false
+no_byte = refl
+
+-- ---- without a block there is no element, whatever the words say
+
+not_empty : {A : Type 0} (x : A) (xs : List A) → x ∷ xs ≡ [] → ⊥
+not_empty x xs e = let n = ap length e in omega arith
+
+no_vector : (m : Memory) → IsVectorAt m 0 I64 (pos 5 ∷ []) no_table → ⊥
+no_vector m h = not_empty 5 _ h.storage
+
+no_text : (m : Memory) → IsTextAt m 0 (5 ∷ []) no_table → ⊥
+no_text m h = not_empty 5 [] h.storage
+
+-- an array with an empty text, and a text of one byte in no block
+no_array : (m : Memory) → IsTextsAt m 0 (record { bytes = []; extent = None } ∷ []) no_table → ⊥
+no_array m h = not_empty _ [] h.array
+
+no_bytes : (m : Memory) → IsTextsAt m 0 (record { bytes = 5 ∷ []; extent = None } ∷ []) (record { capacity = 1; extent = Some (extent 192 32 Storage) }) → ⊥
+no_bytes m h = not_empty 5 [] h.texts.0
+
+no_entry : (m : Memory) → IsIndexAt m 32 no_table (144 ∷ []) → ⊥
+no_entry m h = not_empty 144 [] h.entries

@@ -1,8 +1,13 @@
 pub mod Extents
 pub mod Fit
 pub mod FreeTree
+pub mod GapLaws
+pub mod GapNodes
+pub mod GapTrees
 pub mod Heap
+pub mod Lent
 pub mod Resizes
 pub mod Table
 pub mod Tiling
+pub mod Pairs
 pub mod Requests

@@ -1,34 +1,34 @@
 //! A heap: a window that blocks and gaps fill.
-ghost use Rattle.std.specs.Prelude.{◌≡◌, ◌≢◌, ◌+◌, ◌-◌, ◌%◌, ◌<◌, ◌≤◌, IsTrue, Option, Some, length, option_map, slice_get};
-ghost use Rattle.raw_region.specs.Memory.{Has, bytes_of, whole, word_at};
+ghost use Rattle.std.specs.Prelude.{◌≡◌, ◌≢◌, ◌-◌, ◌%◌, ◌<◌, ◌+◌, ◌*◌, ◌≤◌, IsTrue, List, Option, Some, ℕ, length, option_map, slice_get};
+ghost use Rattle.std.specs.Borrow.{sem};
+ghost use Rattle.raw_region.specs.Memory.{Has, bytes_of, read, whole, word_at};
 ghost use Rattle.raw_region.specs.Format.{current};
 ghost use Rattle.block_tags.specs.Format.{is_legal_size};
+ghost use Rattle.link_tree.specs.Tree.{bits};
+ghost use Rattle.best_fit.specs.Extents.{Extent, free_bytes as free_bytes_of, gaps as gaps_of_live, spans};
 ghost use Rattle.block_tags.specs.Tiles.{tiles_of};
-ghost use Rattle.best_fit.specs.Extents.{Extent, free_bytes as free_bytes_of, spans};
 ghost use Rattle.best_fit.specs.FreeTree.{span};
-ghost use Rattle.best_fit.specs.Heap.{Allocates, IsChanged, IsExtended, IsFresh, IsHeap, IsReleased, IsShortened, IsZeroed, extent_at, has_room, is_live_in, live_of, payload_at};
+ghost use Rattle.best_fit.specs.Heap.{Allocates, IsChanged, IsExtended, IsFresh, IsHeap, IsReleased, IsShortened, IsZeroed, extent_at, has_room, is_live_in, live_of, payload_at, with_payload};
+ghost use Rattle.best_fit.specs.Pairs.{CallsOnTwo, TakesTwo};
 
+use crate::lending::on_two;
+use crate::nodes::{Gaps, plant_first};
 use crate::refusal::NoSpace;
 use crate::sizes::TAG;
-use crate::{releasing, resizing, taking, walking, zeroing};
+use crate::touching::Touches;
+use crate::{releasing, resizing, summing, taking, walking, zeroing};
 use block_tags::{Role, Tile};
-use raw_region::Window;
+use raw_region::{Span, Steps, Window};
 use std::marker::Model;
 
-/// Where the link to the tree of the gaps stands in the header. There is no tree yet, and the link is null.
-const FREE_TREE: u64 = 24;
-
-/// The null link.
-const NULL: u64 = 1;
-
 /// A window that blocks and gaps fill from byte 128 to its end tag of 16 bytes. The header before them is the caller's,
-/// but for its word at 24.
+/// but for its word at 24, the link to the tree of the gaps.
 ///
 /// A block in use has a role, and is named by its handle: the offset in bytes of its payload from the window's start. An
 /// offset in a block counts from its handle. The live set, as contracts have it, are the blocks in use by offset.
 #[derive(Drop)]
 pub struct Heap {
-    window: Window,
+    pub(crate) gaps: Gaps,
 }
 
 impl Model for Heap {
@@ -38,30 +38,37 @@ impl Model for Heap {
 
     ghost Value = { Cut };
 
-    ghost view = { λ h. h.window };
+    ghost view = { λ h. h.gaps.window };
 
-    ghost invariant = { λ h. IsHeap current h.window.bytes };
+    ghost invariant = { λ h. IsHeap current h.gaps.window.bytes };
 }
 
 impl Heap {
+    ghost use Rattle.best_fit.specs.Lent.{LendsBlock};
+
     /// A heap with no block in use, over a window of 144 bytes or of a multiple of 16 from 176 to 1073741824. It writes
-    /// the tags and the word at 24, and no other byte.
+    /// the tags, the links of the one gap and the word at 24, and no other byte.
     pub fn fresh(window: Window) -> Heap
         requires { IsTrue (is_legal_size (length window.bytes)) }
         ensures { IsFresh current window result }
     {
         let mut window = window;
         block_tags::lay(&mut window);
-        window.write_u64(FREE_TREE, NULL);
-        Heap { window }
+        plant_first(&mut window);
+        Heap {
+            gaps: Gaps { window },
+        }
     }
 
-    /// The heap that the bytes of a window already are. No byte changes.
+    /// The heap that the bytes of a window already are: good tags, and at the word at 24 a good tree of the gaps. No byte
+    /// changes.
     pub fn adopt(window: Window) -> Heap
         requires { IsHeap current window.bytes }
         ensures { result ≡ window }
     {
-        Heap { window }
+        Heap {
+            gaps: Gaps { window },
+        }
     }
 
     /// The heap's window, with the bytes that it has now.
@@ -69,7 +76,9 @@ impl Heap {
         ensures window { result ≡ self }
         ensures heap { IsHeap current result.bytes }
     {
-        let Heap { window } = self;
+        let Heap {
+            gaps: Gaps { window },
+        } = self;
         window
     }
 
@@ -77,21 +86,21 @@ impl Heap {
     pub fn as_bytes(&self) -> &[u8]
         ensures { result.now ≡ self.now.bytes }
     {
-        self.window.bytes(0, self.window.size())
+        self.gaps.window.bytes(0, self.gaps.window.size())
     }
 
     /// The number of bytes in the window.
     pub fn size(&self) -> u64
         ensures { result ≡ length self.now.bytes }
     {
-        self.window.size()
+        self.gaps.window.size()
     }
 
     /// The number of bytes of the region behind the window.
     pub fn region_left(&self) -> u64
         ensures { result ≡ length (whole self.now) - (length self.now.before + length self.now.bytes) }
     {
-        self.window.capacity() - (self.window.base() + self.window.size())
+        self.gaps.window.capacity() - (self.gaps.window.base() + self.gaps.window.size())
     }
 
     /// The header's word at `at`: a multiple of 8 below 128, and not 24.
@@ -101,7 +110,7 @@ impl Heap {
         requires other { at ≢ 24 }
         ensures { result ≡ word_at (bytes_of self.now.bytes) at }
     {
-        self.window.read_u64(at)
+        self.gaps.window.read_u64(at)
     }
 
     /// Writes the header's word at `at`: a multiple of 8 below 128, and not 24.
@@ -112,14 +121,24 @@ impl Heap {
         ensures change { IsChanged current self.old self.new at 8 }
         ensures word { word_at (bytes_of self.new.bytes) at ≡ value }
     {
-        self.window.write_u64(at, value);
+        self.gaps.window.write_u64(at, value);
     }
 
     /// Whether a block in use has this handle. Any number may be asked for.
     pub fn is_live(&self, handle: u64) -> bool
         ensures { result ≡ is_live_in (live_of self.now.bytes) handle }
     {
-        walking::is_live(&self.window, handle)
+        walking::is_live(&self.gaps.window, handle)
+    }
+
+    /// What the block of a handle is used for.
+    pub fn role(&self, handle: u64) -> Role
+        requires { IsTrue (is_live_in (live_of self.now.bytes) handle) }
+        ensures { option_map (λ (x : Extent). x.role) (extent_at (live_of self.now.bytes) handle) ≡ Some result }
+    {
+        block_tags::tile_at(&self.gaps.window, handle - TAG)
+            .use_of
+            .unwrap_or(Role::Object)
     }
 
     /// The word at `at` in the block of a handle.
@@ -127,7 +146,7 @@ impl Heap {
         requires { IsTrue (has_room (live_of self.now.bytes) handle (at + 8)) }
         ensures { result ≡ word_at (bytes_of self.now.bytes) (handle + at) }
     {
-        self.window.read_u64(handle + at)
+        self.gaps.window.read_u64(handle + at)
     }
 
     /// Writes the word at `at` in the block of a handle.
@@ -136,7 +155,7 @@ impl Heap {
         ensures change { IsChanged current self.old self.new (handle + at) 8 }
         ensures word { word_at (bytes_of self.new.bytes) (handle + at) ≡ value }
     {
-        self.window.write_u64(handle + at, value);
+        self.gaps.window.write_u64(handle + at, value);
     }
 
     /// Writes bytes at `at` in the block of a handle.
@@ -145,7 +164,18 @@ impl Heap {
         ensures change { IsChanged current self.old self.new (handle + at) (length bytes.now) }
         ensures content { Has (bytes_of self.new.bytes) (handle + at) bytes.now }
     {
-        self.window.write(handle + at, bytes);
+        self.gaps.window.write(handle + at, bytes);
+    }
+
+    /// Copies the `n` bytes from `from_at` on in the block `from` to `to_at` in the block `to`. It may be one block, and the
+    /// two ranges may overlap.
+    pub fn copy(&mut self, from: u64, from_at: u64, to: u64, to_at: u64, n: u64)
+        requires source { IsTrue (has_room (live_of self.old.bytes) from (from_at + n)) }
+        requires target { IsTrue (has_room (live_of self.old.bytes) to (to_at + n)) }
+        ensures change { IsChanged current self.old self.new (to + to_at) n }
+        ensures content { read (bytes_of self.new.bytes) (to + to_at) n ≡ read (bytes_of self.old.bytes) (from + from_at) n }
+    {
+        self.gaps.window.move_within(from + from_at, to + to_at, n);
     }
 
     /// The payload of the block of a handle: its bytes behind the tag, at least as many as were asked for.
@@ -153,8 +183,43 @@ impl Heap {
         requires { IsTrue (is_live_in (live_of self.now.bytes) handle) }
         ensures { result.now ≡ payload_at self.now.bytes (live_of self.now.bytes) handle }
     {
-        let len = block_tags::tile_at(&self.window, handle - TAG).len;
-        self.window.bytes(handle, len - TAG)
+        let len = block_tags::tile_at(&self.gaps.window, handle - TAG).len;
+        self.gaps.window.bytes(handle, len - TAG)
+    }
+
+    /// The same, to be written.
+    pub fn block_mut(&mut self, handle: u64) -> &mut [u8]
+        requires { IsTrue (is_live_in (live_of self.old.bytes) handle) }
+        ensures* writes_back { sem 𝓛 (LendsBlock self.entry handle result) }
+        ensures bytes { result.now ≡ payload_at self.old.bytes (live_of self.old.bytes) handle }
+    {
+        let len = block_tags::tile_at(&self.gaps.window, handle - TAG).len;
+        self.gaps.window.bytes_mut(handle, len - TAG)
+    }
+
+    /// Calls `change` with the payloads of two blocks, the first to be read and the second to be written.
+    pub fn two<F: FnOnce(&[u8], &mut [u8])>(&mut self, first: u64, second: u64, change: F)
+        requires first { IsTrue (is_live_in (live_of self.old.bytes) first) }
+        requires second { IsTrue (is_live_in (live_of self.old.bytes) second) }
+        requires apart { first ≢ second }
+        requires callable { TakesTwo F.FnOnce change (payload_at self.old.bytes (live_of self.old.bytes) first)
+            (payload_at self.old.bytes (live_of self.old.bytes) second) }
+        ensures { (ws : List ℕ) × CallsOnTwo F.FnOnce change (payload_at self.old.bytes (live_of self.old.bytes) first)
+            (payload_at self.old.bytes (live_of self.old.bytes) second) ws × (self.new ≡ with_payload self.old second ws) }
+    {
+        let len = block_tags::tile_at(&self.gaps.window, first - TAG).len;
+        let other = block_tags::tile_at(&self.gaps.window, second - TAG).len;
+        let size = self.gaps.window.size();
+        let bytes = self.gaps.window.bytes_mut(0, size);
+        let a = Span {
+            from: first,
+            len: len - TAG,
+        };
+        let b = Span {
+            from: second,
+            len: other - TAG,
+        };
+        on_two(bytes, a, b, change);
     }
 
     /// Takes a block for `n` bytes into use and answers its handle: the front of the least gap that is long enough, or
@@ -163,17 +228,51 @@ impl Heap {
     /// # Errors
     ///
     /// `NoSpace` where no gap is long enough, as for each `n` above 1073741824. Nothing changes.
-    pub fn allocate(&mut self, n: u64, role: Role) -> Result<u64, NoSpace>
-        ensures { Allocates current self.old self.new n role result }
+    pub fn allocate(&mut self, n: u64, role: Role, steps: &mut Steps) -> Result<u64, NoSpace>
+        ensures answer { Allocates current self.old self.new n role result }
+        ensures steps { steps.new ≤ steps.old + 128 * bits (length (gaps_of_live (live_of self.old.bytes)) + 1) + 128 }
     {
-        taking::allocate(&mut self.window, n, role)
+        let mut touches = Touches::new(&mut self.gaps);
+        let result = taking::allocate(&mut touches, n, role);
+        steps.add(touches.count());
+        result
     }
 
-    /// The bytes of all gaps, their tags included.
-    pub fn free_bytes(&self) -> u64
-        ensures { result ≡ free_bytes_of (live_of self.now.bytes) }
+    /// Gives back the block of a handle: it becomes one gap with those before and behind it.
+    pub fn deallocate(&mut self, handle: u64, steps: &mut Steps)
+        requires { IsTrue (is_live_in (live_of self.old.bytes) handle) }
+        ensures released { IsReleased current self.old self.new handle }
+        ensures steps { steps.new ≤ steps.old + 128 * bits (length (gaps_of_live (live_of self.old.bytes)) + 1) + 128 }
     {
-        walking::free_bytes(&self.window)
+        let mut touches = Touches::new(&mut self.gaps);
+        releasing::release(&mut touches, handle - TAG);
+        steps.add(touches.count());
+    }
+
+    /// Lengthens the block of a handle where it stands, to hold `n` bytes, and answers whether it did: the block is too
+    /// short, and it is long enough with the gap behind it. All of the gap is taken where less than 32 bytes would be
+    /// left. Else nothing changes.
+    pub fn try_extend(&mut self, handle: u64, n: u64, steps: &mut Steps) -> bool
+        requires { IsTrue (is_live_in (live_of self.old.bytes) handle) }
+        ensures extended { IsExtended current self.old self.new handle n result }
+        ensures steps { steps.new ≤ steps.old + 128 * bits (length (gaps_of_live (live_of self.old.bytes)) + 1) + 128 }
+    {
+        let mut touches = Touches::new(&mut self.gaps);
+        let longer = resizing::extend(&mut touches, handle - TAG, n);
+        steps.add(touches.count());
+        longer
+    }
+
+    /// Shortens the block of a handle where it stands, to hold `n` bytes, where it is longer and a gap stands behind it or
+    /// at least 32 bytes are cut off. Else nothing changes.
+    pub fn shrink_in_place(&mut self, handle: u64, n: u64, steps: &mut Steps)
+        requires { IsTrue (is_live_in (live_of self.old.bytes) handle) }
+        ensures shortened { IsShortened current self.old self.new handle n }
+        ensures steps { steps.new ≤ steps.old + 128 * bits (length (gaps_of_live (live_of self.old.bytes)) + 1) + 128 }
+    {
+        let mut touches = Touches::new(&mut self.gaps);
+        resizing::shorten(&mut touches, handle - TAG, n);
+        steps.add(touches.count());
     }
 
     /// The block or gap with `index` others before it, or nothing where there are no more.
@@ -181,64 +280,34 @@ impl Heap {
         ensures tile { result ≡ slice_get (tiles_of (bytes_of self.now.bytes) (length self.now.bytes)) index }
         ensures span { option_map span result ≡ slice_get (spans (live_of self.now.bytes)) index }
     {
-        walking::tile(&self.window, index)
-    }
-
-    /// Gives back the block of a handle: it becomes one gap with those before and behind it.
-    pub fn deallocate(&mut self, handle: u64)
-        requires { IsTrue (is_live_in (live_of self.old.bytes) handle) }
-        ensures { IsReleased current self.old self.new handle }
-    {
-        releasing::release(&mut self.window, handle - TAG);
+        walking::tile(&self.gaps.window, index)
     }
 
     /// The number of blocks in use.
     pub fn live_count(&self) -> u64
         ensures { result ≡ length (live_of self.now.bytes).extents }
     {
-        walking::live_count(&self.window)
+        walking::live_count(&self.gaps.window)
     }
 
-    /// What the block of a handle is used for.
-    pub fn role(&self, handle: u64) -> Role
-        requires { IsTrue (is_live_in (live_of self.now.bytes) handle) }
-        ensures { option_map (λ (x : Extent). x.role) (extent_at (live_of self.now.bytes) handle) ≡ Some result }
+    /// The bytes of all gaps, their tags included.
+    pub fn free_bytes(&self) -> u64
+        ensures { result ≡ free_bytes_of (live_of self.now.bytes) }
     {
-        block_tags::tile_at(&self.window, handle - TAG)
-            .use_of
-            .unwrap_or(Role::Object)
+        summing::free_bytes(&self.gaps)
     }
 
-    /// Lengthens the block of a handle where it stands, to hold `n` bytes, and answers whether it did: the block is too
-    /// short, and it is long enough with the gap behind it. All of the gap is taken where less than 32 bytes would be
-    /// left. Else nothing changes.
-    pub fn try_extend(&mut self, handle: u64, n: u64) -> bool
-        requires { IsTrue (is_live_in (live_of self.old.bytes) handle) }
-        ensures { IsExtended current self.old self.new handle n result }
-    {
-        resizing::extend(&mut self.window, handle - TAG, n)
-    }
-
-    /// Shortens the block of a handle where it stands, to hold `n` bytes, where it is longer and a gap stands behind it or
-    /// at least 32 bytes are cut off. Else nothing changes.
-    pub fn shrink_in_place(&mut self, handle: u64, n: u64)
-        requires { IsTrue (is_live_in (live_of self.old.bytes) handle) }
-        ensures { IsShortened current self.old self.new handle n }
-    {
-        resizing::shorten(&mut self.window, handle - TAG, n);
-    }
-
-    /// Makes the bytes of each gap zero that lie behind its tag. Blocks in use, tags and header stay.
+    /// Makes the free bytes of each gap zero: those behind its tag and its two links. No other byte changes.
     pub fn zero_free(&mut self)
         ensures { IsZeroed current self.old self.new }
     {
-        zeroing::zero_gaps(&mut self.window);
+        zeroing::zero_gaps(&mut self.gaps.window);
     }
 
     /// Whether the tags are whole, as they are in each heap.
     pub fn sanity(&self) -> bool
         ensures { IsTrue result }
     {
-        block_tags::check(&self.window).is_ok()
+        block_tags::check(&self.gaps.window).is_ok()
     }
 }

@@ -75,8 +75,8 @@ pub fn may_be_red(use_of: Option<Role>) -> bool
     ensures { result ≡ may_be_red_in current use_of }
 {
     match use_of {
-        Some(Role::Node) => true,
-        Some(Role::Object | Role::Index | Role::Storage) | None => false,
+        Some(Role::Node) | None => true,
+        Some(Role::Object | Role::Index | Role::Storage) => false,
     }
 }
 

@@ -231,8 +231,8 @@ sound-no_class b e s =
 
 -- an image of a directory that has come so far has no class
 pub landed_image-accepted : (b : List ℕ) → IsTrue (are_bytes b) → (d : Directory) → StandsFor b d → class_of current b ≡ None
-landed_image-accepted b h d s = sound-no_class b (early_class-none b d s) (image-IsSound b h (is_landed_image-IsSaidLanded b (landed_image-complete b d s)))
+landed_image-accepted b h d s = sound-no_class b (early_class-none b d h s) (image-IsSound b h (is_landed_image-IsSaidLanded b (landed_image-complete b d h s)))
 
 -- the law of the images of directories that have come so far
 pub landed_images : LandedImages
-landed_images b h = record { sound = landed_image-sound b h; complete = landed_image-complete b; one = landed_image-one b; accepted = landed_image-accepted b h }
+landed_images b h = record { sound = landed_image-sound b h; complete = λ d. landed_image-complete b d h; one = landed_image-one b; accepted = landed_image-accepted b h }

@@ -1,8 +1,9 @@
 -- Bytes and the numbers in them: how large a word is, which bytes spell it, and which words are made of zeros.
-use Rattle.std.proofs.Common.{◌≡◌, refl, sym, ap, ◌∙◌, ℕ, zero, suc, ◌+◌, ◌*◌, ◌/◌, ◌%◌, ◌^◌, ◌<◌, ◌≤◌, ◌==◌, List, [], ◌∷◌, arith}
+use Rattle.std.proofs.Common.{◌≡◌, refl, sym, ap, ◌∙◌, ℕ, zero, suc, ◌+◌, ◌*◌, ◌/◌, ◌%◌, ◌^◌, ◌<◌, ◌≤◌, ◌==◌, List, [], ◌∷◌, ◌++◌, arith}
 use Rattle.std.specs.Prelude.{IsTrue, nat_lt, slice_index}
 use Rattle.std.proofs.Math.Nat.{div-div-eq-div-mul, div-one, pow-succ'}
 use Rattle.std.proofs.lemmas.Bool.{and_parts, and_from, eqb-true, eq-eqb, ltb-true, lt-ltb, cases_lt}
+use Rattle.std.proofs.lemmas.List.Folds.{list_all-append}
 use mathlib.Core.Logic.{⊎_elim}
 use Rattle.std.specs.Int.{byte_at, bytes_low_first}
 use Rattle.byteorder.specs.Endian.{little_number}
@@ -166,3 +167,18 @@ half_word_at-AreZero m at e = number_at-AreZero m at 4 e
 pub fits-are_bytes : (b : List ℕ) → ((k : ℕ) → slice_index b k < 256) → IsTrue (are_bytes b)
 fits-are_bytes [] f = refl
 fits-are_bytes (x ∷ b) f = and_from (nat_lt x 256) (are_bytes b) (lt-ltb x 256 (f 0)) (fits-are_bytes b (λ k. f (suc k)))
+
+-- ---- two rows of bytes
+
+-- two rows of zeros
+pub two_rows : (m : Memory) (a n c k : ℕ) → IsTrue (is_zero (read m a n ++ read m c k)) → AreZero m a (a + n) × AreZero m c (c + k)
+two_rows m a n c k h =
+    let split = sym (list_all-append (λ x. x == 0) (read m a n) (read m c k)) ∙ h in
+    let parts = and_parts (is_zero (read m a n)) (is_zero (read m c k)) split in
+    (is_zero-AreZero m a n parts.0, is_zero-AreZero m c k parts.1)
+
+-- pass the test of both
+pub from_two_rows : (m : Memory) (a n c k : ℕ) → AreZero m a (a + n) → AreZero m c (c + k) → IsTrue (is_zero (read m a n ++ read m c k))
+from_two_rows m a n c k y z =
+    list_all-append (λ x. x == 0) (read m a n) (read m c k)
+    ∙ and_from (is_zero (read m a n)) (is_zero (read m c k)) (AreZero-is_zero m a n y) (AreZero-is_zero m c k z)

@@ -1,19 +1,19 @@
 -- What the check of a whole image finds: a right header and tags, and then an image of a landed directory or a class.
-use Rattle.std.proofs.Common.{◌≡◌, sym, ap, ◌∙◌, ℕ, Bool, true, false, ◌&&◌, List, length}
+use Rattle.std.proofs.Common.{◌≡◌, ap, ◌∙◌, ℕ, Bool, true, false, ◌&&◌, List, length}
 use Rattle.std.specs.Prelude.{IsTrue}
 use Rattle.std.specs.List.{list_all}
-use Rattle.std.proofs.lemmas.Bool.{and_from, and_left, and_right, eq-eqb, ne_eqb}
-use Rattle.raw_region.specs.Memory.{Cut, bytes_of, word_at}
+use Rattle.std.proofs.lemmas.Bool.{and_from, and_left, and_right}
+use Rattle.raw_region.specs.Memory.{Cut, bytes_of}
 use Rattle.raw_region.specs.Format.{current}
 use Rattle.block_tags.specs.Format.{is_legal_size}
 use Rattle.block_tags.specs.Tiles.{has_tags, tiles_of}
 use Rattle.segment_manager.specs.State.{IsSegment}
 use Rattle.image_check.specs.declared.classes.ImageClass.TheVariants.{BadFreeTree, OrphanBlock}
-use Rattle.image_check.specs.Classes.{are_bytes, has_reserved, is_tiled}
+use Rattle.image_check.specs.Classes.{are_bytes, has_free_tree, has_reserved, is_tiled}
 use Rattle.image_check.specs.LandedImages.{has_frame, has_no_place, is_landed_tile, is_landed_image, landed_directory}
 use Rattle.image_check.specs.Opening.{IsClassFor, holding}
 use Rattle.image_check.specs.Reading.{HasFront}
-use Rattle.image_check.proofs.Early.{null_tree-BadFreeTree, frame-OrphanBlock}
+use Rattle.image_check.proofs.Early.{tree-BadFreeTree, frame-OrphanBlock}
 use Rattle.image_check.proofs.Filled.{HasFront-IsRight}
 use Rattle.image_check.proofs.Frame.{IsFrame-has_frame, HasWholeSize-has_whole_size}
 use Rattle.image_check.proofs.Accepted.{landed_images}
@@ -28,13 +28,14 @@ pub record IsChecked (w : Cut) : Type 0 where
 checked-tiled : (w : Cut) → IsChecked w → is_tiled current w.bytes ≡ true
 checked-tiled w h = ap (has_tags current (bytes_of w.bytes)) h.front.says ∙ h.tags
 
--- word 24 is no null link
-pub checked-tree : (w : Cut) (x : ℕ) → IsChecked w → x ≡ word_at (bytes_of w.bytes) 24 → (x ≡ 1 → ⊥) → IsClassFor current w.bytes BadFreeTree
-checked-tree w x h e n = holding (null_tree-BadFreeTree w.bytes (checked-tiled w h) (ne_eqb (word_at (bytes_of w.bytes) 24) 1 (λ f. n (e ∙ f))))
+-- the free tree is not right
+pub checked-tree : (w : Cut) → IsChecked w → has_free_tree current (bytes_of w.bytes) (tiles_of (bytes_of w.bytes) (length w.bytes)) ≡ false → IsClassFor current w.bytes BadFreeTree
+checked-tree w h e =
+    holding (tree-BadFreeTree w.bytes (checked-tiled w h) (ap (λ n. has_free_tree current (bytes_of w.bytes) (tiles_of (bytes_of w.bytes) n)) h.front.says ∙ e))
 
 -- or it is
-pub checked-frame : (w : Cut) (x : ℕ) → IsChecked w → x ≡ word_at (bytes_of w.bytes) 24 → x ≡ 1 → IsTrue (has_frame w.bytes)
-checked-frame w x h e f =
+pub checked-frame : (w : Cut) → IsChecked w → has_free_tree current (bytes_of w.bytes) (tiles_of (bytes_of w.bytes) (length w.bytes)) ≡ true → IsTrue (has_frame w.bytes)
+checked-frame w h e =
     let r = HasFront-IsRight current w h.front in
     IsFrame-has_frame w.bytes (record {
       magic = r.magic;
@@ -42,7 +43,7 @@ checked-frame w x h e f =
       size = HasWholeSize-has_whole_size w.bytes (record { legal = ap is_legal_size r.says ∙ r.legal; same = r.says });
       reserved = h.reserved;
       tiled = checked-tiled w h;
-      null_tree = eq-eqb (word_at (bytes_of w.bytes) 24) 1 (sym e ∙ f);
+      tree = ap (λ n. has_free_tree current (bytes_of w.bytes) (tiles_of (bytes_of w.bytes) n)) h.front.says ∙ e;
     })
 
 -- the test of all tiles
@@ -60,18 +61,18 @@ pub checked-segment : (b : List ℕ) → IsTrue (are_bytes b) → IsTrue (has_fr
 checked-segment b small h p q r = (landed_directory b, (landed_images b small).sound (landed_image b h p q r))
 
 -- of which one fails
-pub named-class : (b : List ℕ) → IsTrue (has_frame b) → has_no_place (bytes_of b) 32 ≡ false → IsClassFor current b OrphanBlock
+pub named-class : (b : List ℕ) → IsTrue (are_bytes b) → IsTrue (has_frame b) → has_no_place (bytes_of b) 32 ≡ false → IsClassFor current b OrphanBlock
 unfolding is_landed_image
-named-class b h e =
-    frame-OrphanBlock b h (and_left (has_frame b && has_no_place (bytes_of b) 32 && has_no_place (bytes_of b) 56) (are_landed b)
+named-class b small h e =
+    frame-OrphanBlock b small h (and_left (has_frame b && has_no_place (bytes_of b) 32 && has_no_place (bytes_of b) 56) (are_landed b)
     (and_left (has_frame b && has_no_place (bytes_of b) 32) (has_no_place (bytes_of b) 56) (and_right (has_frame b) (has_no_place (bytes_of b) 32) e)))
 
-pub unique-class : (b : List ℕ) → IsTrue (has_frame b) → has_no_place (bytes_of b) 56 ≡ false → IsClassFor current b OrphanBlock
+pub unique-class : (b : List ℕ) → IsTrue (are_bytes b) → IsTrue (has_frame b) → has_no_place (bytes_of b) 56 ≡ false → IsClassFor current b OrphanBlock
 unfolding is_landed_image
-unique-class b h e =
-    frame-OrphanBlock b h (and_left (has_frame b && has_no_place (bytes_of b) 32 && has_no_place (bytes_of b) 56) (are_landed b)
+unique-class b small h e =
+    frame-OrphanBlock b small h (and_left (has_frame b && has_no_place (bytes_of b) 32 && has_no_place (bytes_of b) 56) (are_landed b)
     (and_right (has_frame b && has_no_place (bytes_of b) 32) (has_no_place (bytes_of b) 56) e))
 
-pub tiles-class : (b : List ℕ) → IsTrue (has_frame b) → are_landed b ≡ false → IsClassFor current b OrphanBlock
+pub tiles-class : (b : List ℕ) → IsTrue (are_bytes b) → IsTrue (has_frame b) → are_landed b ≡ false → IsClassFor current b OrphanBlock
 unfolding is_landed_image
-tiles-class b h e = frame-OrphanBlock b h (and_right (has_frame b && has_no_place (bytes_of b) 32 && has_no_place (bytes_of b) 56) (are_landed b) e)
+tiles-class b small h e = frame-OrphanBlock b small h (and_right (has_frame b && has_no_place (bytes_of b) 32 && has_no_place (bytes_of b) 56) (are_landed b) e)

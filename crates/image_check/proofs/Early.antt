@@ -9,9 +9,9 @@ use Rattle.segment_manager.specs.Directory.{Directory}
 use Rattle.segment_manager.specs.State.{StandsFor}
 use Rattle.image_check.specs.declared.classes.ImageClass.{ImageClass}
 use Rattle.image_check.specs.declared.classes.ImageClass.TheVariants.{Truncated, BadMagic, UnsupportedVersion, BadSize, BadReserved, BadTag, BadFreeTree, OrphanBlock}
-use Rattle.image_check.specs.Classes.{size_word, holds, number_of, has_magic, has_version, has_front, has_size, has_reserved, is_tiled}
+use Rattle.image_check.specs.Classes.{are_bytes, size_word, holds, number_of, has_magic, has_version, has_front, has_size, has_reserved, is_tiled}
 use Rattle.image_check.specs.Opening.{IsImage, has_early_class, IsClassFor, not_come}
-use Rattle.image_check.specs.LandedImages.{has_frame, has_whole_size, has_null_tree, is_landed_image}
+use Rattle.image_check.specs.LandedImages.{has_frame, has_whole_size, has_tree, is_landed_image}
 use Rattle.image_check.proofs.Frame.{IsFrame, has_frame-IsFrame, IsFrame-has_frame, has_whole_size-HasWholeSize, is_legal_size-least}
 use Rattle.image_check.proofs.Landed.{is_landed_image-IsSaidLanded, landed_image-complete}
 
@@ -35,8 +35,7 @@ no_bad_size b f =
 
 -- class 7 does not hold
 no_bad_free_tree : (b : List ℕ) → IsFrame b → holds current b BadFreeTree ≡ false
-unfolding current
-no_bad_free_tree b f = and_right (is_tiled current b) (not (has_null_tree b)) (not_from_true (has_null_tree b) f.null_tree)
+no_bad_free_tree b f = and_right (is_tiled current b) (not (has_tree b)) (not_from_true (has_tree b) f.tree)
 
 -- seven tests that fail, one after another
 seven : (p q r s t u v : Bool) → p ≡ false → q ≡ false → r ≡ false → s ≡ false → t ≡ false → u ≡ false → v ≡ false → (p || (q || (r || (s || (t || (u || (v || false))))))) ≡ false
@@ -53,8 +52,8 @@ frame-no_early_class b h =
     (not_from_true (has_reserved b) f.reserved) (not_from_true (is_tiled current b) f.tiled) (no_bad_free_tree b f)
 
 -- nor has an image that stands for a directory
-pub early_class-none : (b : List ℕ) (d : Directory) → StandsFor b d → has_early_class current b ≡ false
-early_class-none b d s = frame-no_early_class b (IsFrame-has_frame b (is_landed_image-IsSaidLanded b (landed_image-complete b d s)).frame)
+pub early_class-none : (b : List ℕ) (d : Directory) → IsTrue (are_bytes b) → StandsFor b d → has_early_class current b ≡ false
+early_class-none b d h s = frame-no_early_class b (IsFrame-has_frame b (is_landed_image-IsSaidLanded b (landed_image-complete b d h s)).frame)
 
 -- ---- each wrong part of a frame has its class
 
@@ -94,10 +93,9 @@ reserved-BadReserved b e = not_from_false (has_reserved b) e
 pub tags-BadTag : (b : List ℕ) → is_tiled current b ≡ false → IsTrue (holds current b BadTag)
 tags-BadTag b e = not_from_false (is_tiled current b) e
 
--- a word 24 that is not the null link, where the tags are whole
-pub null_tree-BadFreeTree : (b : List ℕ) → IsTrue (is_tiled current b) → has_null_tree b ≡ false → IsTrue (holds current b BadFreeTree)
-unfolding current
-null_tree-BadFreeTree b t e = and_from (is_tiled current b) (not (has_null_tree b)) t (not_from_false (has_null_tree b) e)
+-- another tree than that of the free tiles, where the tags are whole
+pub tree-BadFreeTree : (b : List ℕ) → IsTrue (is_tiled current b) → has_tree b ≡ false → IsTrue (holds current b BadFreeTree)
+tree-BadFreeTree b t e = and_from (is_tiled current b) (not (has_tree b)) t (not_from_false (has_tree b) e)
 
 -- ---- a wrong size
 
@@ -128,13 +126,13 @@ whole_size-IsSizeClass b m v h = size_parts b m v (cases_Bool (is_legal_size (si
 -- ---- a right frame, and no image of a directory that has come so far
 
 -- bytes that fail the test stand for no directory that has come so far
-no_image : (b : List ℕ) → is_landed_image b ≡ false → IsImage current b → ⊥
-no_image b e s = both_ways (is_landed_image b) e (landed_image-complete b s.0 (record { denotes = s.1.denotes; landed = s.1.landed }))
+no_image : (b : List ℕ) → IsTrue (are_bytes b) → is_landed_image b ≡ false → IsImage current b → ⊥
+no_image b small e s = both_ways (is_landed_image b) e (landed_image-complete b s.0 small (record { denotes = s.1.denotes; landed = s.1.landed }))
 
 -- bytes whose frame is right and that do not pass the test may be refused as an orphan, or by any class from the eighth on
-pub frame-late_class : (b : List ℕ) (c : ImageClass) → 8 ≤ number_of c → IsTrue (has_frame b) → is_landed_image b ≡ false → IsClassFor current b c
-frame-late_class b c l h e = not_come (frame-no_early_class b h) l (no_image b e)
+pub frame-late_class : (b : List ℕ) (c : ImageClass) → IsTrue (are_bytes b) → 8 ≤ number_of c → IsTrue (has_frame b) → is_landed_image b ≡ false → IsClassFor current b c
+frame-late_class b c small l h e = not_come (frame-no_early_class b h) l (no_image b small e)
 
 -- so the last class serves for all of them
-pub frame-OrphanBlock : (b : List ℕ) → IsTrue (has_frame b) → is_landed_image b ≡ false → IsClassFor current b OrphanBlock
-frame-OrphanBlock b h e = frame-late_class b OrphanBlock (omega arith) h e
+pub frame-OrphanBlock : (b : List ℕ) → IsTrue (are_bytes b) → IsTrue (has_frame b) → is_landed_image b ≡ false → IsClassFor current b OrphanBlock
+frame-OrphanBlock b small h e = frame-late_class b OrphanBlock small (omega arith) h e

@@ -19,7 +19,7 @@ words = flat_map word_bytes
 
 -- nothing in 176 bytes: one free tile
 abbrev fresh : List ℕ
-fresh = words (4993446653039301453 ∷ 0 ∷ 176 ∷ 1 ∷ 1 ∷ 0 ∷ 0 ∷ 1 ∷ 0 ∷ 0 ∷ []) ++ zeros 48 ++ words (0 ∷ 32 ∷ 7 ∷ 9 ∷ 32 ∷ 1 ∷ [])
+fresh = words (4993446653039301453 ∷ 1 ∷ 176 ∷ 120 ∷ 1 ∷ 0 ∷ 0 ∷ 1 ∷ 0 ∷ 0 ∷ []) ++ zeros 48 ++ words (0 ∷ 32 ∷ 1 ∷ 1 ∷ 32 ∷ 1 ∷ [])
 
 -- it passes
 fresh_is : is_landed_image fresh ≡ true
@@ -28,7 +28,7 @@ fresh_is = refl
 
 -- the number -2 in 48 bytes, and a free tile behind it
 abbrev one : List ℕ
-one = words (4993446653039301453 ∷ 0 ∷ 224 ∷ 1 ∷ 1 ∷ 0 ∷ 0 ∷ 1 ∷ 0 ∷ 0 ∷ []) ++ zeros 48 ++ words (0 ∷ 49 ∷ 4294967300 ∷ 0 ∷ 18446744073709551614 ∷ 77 ∷ 48 ∷ 32 ∷ 7 ∷ 9 ∷ 32 ∷ 1 ∷ [])
+one = words (4993446653039301453 ∷ 1 ∷ 224 ∷ 168 ∷ 1 ∷ 0 ∷ 0 ∷ 1 ∷ 0 ∷ 0 ∷ []) ++ zeros 48 ++ words (0 ∷ 49 ∷ 4294967300 ∷ 0 ∷ 18446744073709551614 ∷ 77 ∷ 48 ∷ 32 ∷ 1 ∷ 1 ∷ 32 ∷ 1 ∷ [])
 
 -- it passes
 one_is : is_landed_image one ≡ true
@@ -47,7 +47,7 @@ one_says = refl
 
 -- a kind that has not come: the frame is right, and the image is refused
 abbrev other : List ℕ
-other = words (4993446653039301453 ∷ 0 ∷ 224 ∷ 1 ∷ 1 ∷ 0 ∷ 0 ∷ 1 ∷ 0 ∷ 0 ∷ []) ++ zeros 48 ++ words (0 ∷ 49 ∷ 4294967301 ∷ 0 ∷ 18446744073709551614 ∷ 77 ∷ 48 ∷ 32 ∷ 7 ∷ 9 ∷ 32 ∷ 1 ∷ [])
+other = words (4993446653039301453 ∷ 1 ∷ 224 ∷ 168 ∷ 1 ∷ 0 ∷ 0 ∷ 1 ∷ 0 ∷ 0 ∷ []) ++ zeros 48 ++ words (0 ∷ 49 ∷ 4294967301 ∷ 0 ∷ 18446744073709551614 ∷ 77 ∷ 48 ∷ 32 ∷ 1 ∷ 1 ∷ 32 ∷ 1 ∷ [])
 
 -- it does not pass
 other_is : is_landed_image other ≡ false
@@ -61,7 +61,7 @@ other_frame = refl
 
 -- a number behind its right kind, with a count of 0: the test and the ninth class say so
 abbrev wrong : List ℕ
-wrong = words (4993446653039301453 ∷ 0 ∷ 224 ∷ 1 ∷ 1 ∷ 0 ∷ 0 ∷ 1 ∷ 0 ∷ 0 ∷ []) ++ zeros 48 ++ words (0 ∷ 49 ∷ 4 ∷ 0 ∷ 18446744073709551614 ∷ 77 ∷ 48 ∷ 32 ∷ 7 ∷ 9 ∷ 32 ∷ 1 ∷ [])
+wrong = words (4993446653039301453 ∷ 1 ∷ 224 ∷ 168 ∷ 1 ∷ 0 ∷ 0 ∷ 1 ∷ 0 ∷ 0 ∷ []) ++ zeros 48 ++ words (0 ∷ 49 ∷ 4 ∷ 0 ∷ 18446744073709551614 ∷ 77 ∷ 48 ∷ 32 ∷ 1 ∷ 1 ∷ 32 ∷ 1 ∷ [])
 
 -- it is no object
 wrong_class : class_of current wrong ≡ Some BadObject

@@ -1,17 +1,17 @@
 -- The frame of an image: header, tags and word 24. What its tests say of the memory, and what passes them.
-use Rattle.std.proofs.Common.{◌≡◌, sym, subst, ◌∙◌, ℕ, ◌+◌, ◌%◌, ◌≤◌, Bool, true, ◌&&◌, ◌==◌, List, ◌++◌, length, arith}
+use Rattle.std.proofs.Common.{◌≡◌, sym, subst, ℕ, ◌%◌, ◌≤◌, Bool, true, ◌&&◌, ◌==◌, List, length, arith}
 use Rattle.std.specs.Prelude.{IsTrue, nat_le}
 use Rattle.std.proofs.lemmas.Bool.{and_parts, and_from, eq-eqb, eqb-true, leb-true, or_cases}
-use Rattle.std.proofs.lemmas.List.Folds.{list_all-append}
 use mathlib.Core.Logic.{◌⊎◌, inl, inr}
-use Rattle.raw_region.specs.Memory.{Memory, bytes_of, read, word_at, half_word_at, AreZero}
+use Rattle.raw_region.specs.Memory.{bytes_of, word_at, half_word_at}
 use Rattle.raw_region.specs.Format.{current}
 use Rattle.block_tags.specs.Format.{is_legal_size}
-use Rattle.block_tags.specs.Tiles.{has_tags}
+use Rattle.block_tags.specs.Tiles.{has_tags, tiles_of}
 use Rattle.segment_manager.specs.Denotes.{IsHeader, magic_number}
-use Rattle.image_check.specs.Classes.{size_word, has_magic, has_version, has_reserved, is_tiled, is_zero}
-use Rattle.image_check.specs.LandedImages.{has_frame, has_whole_size, has_null_tree}
-use Rattle.image_check.proofs.Bytes.{AreZero-join, AreZero-within, is_zero-AreZero, AreZero-is_zero, AreZero-word_at, word_at-AreZero, AreZero-half_word_at, half_word_at-AreZero}
+use Rattle.image_check.specs.Classes.{size_word, has_magic, has_version, has_reserved, is_tiled, has_free_tree}
+use Rattle.image_check.specs.LandedImages.{has_frame, has_whole_size, has_tree}
+use Rattle.image_check.proofs.Bytes.{AreSmall, two_rows, from_two_rows, AreZero-half_word_at, half_word_at-AreZero}
+use Rattle.image_check.proofs.Words.{word_at-halves, half_word_at-low, half_word_at-high}
 
 -- the tests of a frame, by name
 pub record IsFrame (b : List ℕ) : Type 0 where
@@ -20,7 +20,7 @@ pub record IsFrame (b : List ℕ) : Type 0 where
   pub size : IsTrue (has_whole_size b)
   pub reserved : IsTrue (has_reserved b)
   pub tiled : IsTrue (is_tiled current b)
-  pub null_tree : IsTrue (has_null_tree b)
+  pub tree : IsTrue (has_tree b)
 
 -- six tests one after another
 six : (p q r s t u : Bool) → IsTrue (p && q && r && s && t && u) → IsTrue p × IsTrue q × IsTrue r × IsTrue s × IsTrue t × IsTrue u
@@ -41,14 +41,14 @@ from_six p q r s t u a b c d e f =
 pub has_frame-IsFrame : (b : List ℕ) → IsTrue (has_frame b) → IsFrame b
 unfolding has_frame
 has_frame-IsFrame b h =
-    let parts = six (has_magic b) (has_version current b) (has_whole_size b) (has_reserved b) (is_tiled current b) (has_null_tree b) h in
-    record { magic = parts.0; version = parts.1; size = parts.2; reserved = parts.3; tiled = parts.4; null_tree = parts.5 }
+    let parts = six (has_magic b) (has_version current b) (has_whole_size b) (has_reserved b) (is_tiled current b) (has_tree b) h in
+    record { magic = parts.0; version = parts.1; size = parts.2; reserved = parts.3; tiled = parts.4; tree = parts.5 }
 
 -- what passes each is a frame
 pub IsFrame-has_frame : (b : List ℕ) → IsFrame b → IsTrue (has_frame b)
 unfolding has_frame
 IsFrame-has_frame b f =
-    from_six (has_magic b) (has_version current b) (has_whole_size b) (has_reserved b) (is_tiled current b) (has_null_tree b) f.magic f.version f.size f.reserved f.tiled f.null_tree
+    from_six (has_magic b) (has_version current b) (has_whole_size b) (has_reserved b) (is_tiled current b) (has_tree b) f.magic f.version f.size f.reserved f.tiled f.tree
 
 -- ---- the size
 
@@ -78,33 +78,6 @@ has_whole_size-HasWholeSize b h =
 pub HasWholeSize-has_whole_size : (b : List ℕ) → HasWholeSize b → IsTrue (has_whole_size b)
 HasWholeSize-has_whole_size b s = and_from (is_legal_size (size_word b)) (size_word b == length b) s.legal (eq-eqb (size_word b) (length b) s.same)
 
--- ---- the bytes that are kept for later
-
--- two rows of zeros
-pub two_rows : (m : Memory) (a n c k : ℕ) → IsTrue (is_zero (read m a n ++ read m c k)) → AreZero m a (a + n) × AreZero m c (c + k)
-two_rows m a n c k h =
-    let split = sym (list_all-append (λ x. x == 0) (read m a n) (read m c k)) ∙ h in
-    let parts = and_parts (is_zero (read m a n)) (is_zero (read m c k)) split in
-    (is_zero-AreZero m a n parts.0, is_zero-AreZero m c k parts.1)
-
--- pass the test of both
-pub from_two_rows : (m : Memory) (a n c k : ℕ) → AreZero m a (a + n) → AreZero m c (c + k) → IsTrue (is_zero (read m a n ++ read m c k))
-from_two_rows m a n c k y z =
-    list_all-append (λ x. x == 0) (read m a n) (read m c k)
-    ∙ and_from (is_zero (read m a n)) (is_zero (read m c k)) (AreZero-is_zero m a n y) (AreZero-is_zero m c k z)
-
--- a version 0 and a half word of zeros behind it are a word 0
-zero_words : (m : Memory) (at : ℕ) → half_word_at m at ≡ 0 → AreZero m (at + 4) (at + 8) → word_at m at ≡ 0
-zero_words m at e z = AreZero-word_at m at (AreZero-join m at (at + 4) (at + 8) (half_word_at-AreZero m at e) z)
-
--- and such a word begins with a half word 0
-zero_front : (m : Memory) (at : ℕ) → word_at m at ≡ 0 → half_word_at m at ≡ 0
-zero_front m at e = AreZero-half_word_at m at (AreZero-within m at (at + 8) at (at + 4) (omega arith) (omega arith) (word_at-AreZero m at e))
-
--- and has zeros behind that
-zero_rest : (m : Memory) (at : ℕ) → word_at m at ≡ 0 → AreZero m (at + 4) (at + 8)
-zero_rest m at e = AreZero-within m at (at + 8) (at + 4) (at + 8) (omega arith) (omega arith) (word_at-AreZero m at e)
-
 -- ---- the header
 
 -- a frame has the header of its length
@@ -112,9 +85,12 @@ pub IsFrame-IsHeader : (b : List ℕ) → IsFrame b → IsHeader current (bytes_
 unfolding current
 IsFrame-IsHeader b f =
     let rows = two_rows (bytes_of b) 12 4 80 48 f.reserved in
+    let both = word_at-halves (bytes_of b) 8 in
+    let low = eqb-true (half_word_at (bytes_of b) 8) current f.version in
+    let high = AreZero-half_word_at (bytes_of b) 12 rows.0 in
     record {
       magic = eqb-true (word_at (bytes_of b) 0) magic_number f.magic;
-      version = zero_words (bytes_of b) 8 (eqb-true (half_word_at (bytes_of b) 8) 0 f.version) rows.0;
+      version = omega arith;
       size_word = (has_whole_size-HasWholeSize b f.size).same;
       zeros = rows.1;
     }
@@ -123,15 +99,26 @@ IsFrame-IsHeader b f =
 pub IsFrame-has_tags : (b : List ℕ) → IsFrame b → IsTrue (has_tags current (bytes_of b) (length b))
 IsFrame-has_tags b f = subst (λ n. IsTrue (has_tags current (bytes_of b) n)) (has_whole_size-HasWholeSize b f.size).same f.tiled
 
--- a header of the length, a legal size, whole tags and a null link are a frame
-pub IsHeader-IsFrame : (b : List ℕ) → IsHeader current (bytes_of b) (length b) → IsTrue (is_legal_size (length b)) → IsTrue (has_tags current (bytes_of b) (length b))
-    → word_at (bytes_of b) 24 ≡ 1 → IsFrame b
+-- so is its free tree
+pub IsFrame-tree : (b : List ℕ) → IsFrame b → IsTrue (has_free_tree current (bytes_of b) (tiles_of (bytes_of b) (length b)))
+IsFrame-tree b f = subst (λ n. IsTrue (has_free_tree current (bytes_of b) (tiles_of (bytes_of b) n))) (has_whole_size-HasWholeSize b f.size).same f.tree
+
+-- a header of the length, a legal size, whole tags and a right free tree are a frame
+pub IsHeader-IsFrame : (b : List ℕ) → AreSmall (bytes_of b) → IsHeader current (bytes_of b) (length b) → IsTrue (is_legal_size (length b))
+    → IsTrue (has_tags current (bytes_of b) (length b)) → IsTrue (has_free_tree current (bytes_of b) (tiles_of (bytes_of b) (length b))) → IsFrame b
 unfolding current
-IsHeader-IsFrame b h legal tags null = record {
-  magic = eq-eqb (word_at (bytes_of b) 0) magic_number h.magic;
-  version = eq-eqb (half_word_at (bytes_of b) 8) 0 (zero_front (bytes_of b) 8 h.version);
-  size = HasWholeSize-has_whole_size b (record { legal = subst (λ n. IsTrue (is_legal_size n)) (sym h.size_word) legal; same = h.size_word });
-  reserved = from_two_rows (bytes_of b) 12 4 80 48 (zero_rest (bytes_of b) 8 h.version) h.zeros;
-  tiled = subst (λ n. IsTrue (has_tags current (bytes_of b) n)) (sym h.size_word) tags;
-  null_tree = eq-eqb (word_at (bytes_of b) 24) 1 null;
-}
+IsHeader-IsFrame b small h legal tags tree =
+    let m = bytes_of b in
+    let low = half_word_at-low m 8 small in
+    let high = half_word_at-high m 8 small in
+    let word = h.version in
+    let version : half_word_at m 8 ≡ current = omega arith in
+    let rest : half_word_at m 12 ≡ 0 = omega arith in
+    record {
+      magic = eq-eqb (word_at m 0) magic_number h.magic;
+      version = eq-eqb (half_word_at m 8) current version;
+      size = HasWholeSize-has_whole_size b (record { legal = subst (λ n. IsTrue (is_legal_size n)) (sym h.size_word) legal; same = h.size_word });
+      reserved = from_two_rows m 12 4 80 48 (half_word_at-AreZero m 12 rest) h.zeros;
+      tiled = subst (λ n. IsTrue (has_tags current m n)) (sym h.size_word) tags;
+      tree = subst (λ n. IsTrue (has_free_tree current m (tiles_of m n))) (sym h.size_word) tree;
+    }

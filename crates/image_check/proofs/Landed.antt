@@ -25,7 +25,8 @@ use Rattle.image_check.proofs.Filling.{used, used-proper, used-spans, spans-used
 use Rattle.image_check.proofs.Order.{extent_of, Rising, used-rising, Rising-rises_from}
 use Rattle.image_check.proofs.Objects.{IsLandedBlock, landed_objects, are_landed-AreNumbers, landed_objects-extents, landed_objects-are_landed, landed_objects-are_objects, landed_objects-stand, numbers-blocks, numbers-said}
 use Rattle.image_check.proofs.Live.{blocks_of, live-landed, named_objects-none, unique_objects-none, landed_tiles-blocks, blocks-landed_tiles}
-use Rattle.image_check.proofs.Frame.{IsFrame, has_frame-IsFrame, IsFrame-has_frame, has_whole_size-HasWholeSize, IsFrame-IsHeader, IsFrame-has_tags, IsHeader-IsFrame}
+use Rattle.image_check.proofs.Frame.{IsFrame, has_frame-IsFrame, IsFrame-has_frame, has_whole_size-HasWholeSize, IsFrame-IsHeader, IsFrame-has_tags, IsFrame-tree, IsHeader-IsFrame}
+use Rattle.image_check.proofs.Framed.{free_tree-passes, free_tree-said}
 
 -- ---- an index without a place
 
@@ -135,12 +136,11 @@ frame-legal b f = let s = has_whole_size-HasWholeSize b f.size in subst (λ n. I
 
 -- the bytes lay them out
 live_in-LaysOut : (b : List ℕ) (xs : List Extent) → IsFrame b → AreBlocksOf b xs → LaysOut current b (live_in b xs)
-unfolding current
 live_in-LaysOut b xs f a = record {
   size = refl;
   proper = live_in-proper b xs (frame-legal b f) a.proper;
   tiles = record { tags = IsFrame-has_tags b f; tiles = a.tiles };
-  free = eqb-true (word_at (bytes_of b) 24) 1 f.null_tree;
+  free = free_tree-said current (bytes_of b) (tiles_of (bytes_of b) (length b)) (live_in b xs) a.tiles (IsFrame-tree b f);
 }
 
 -- it is a directory
@@ -219,10 +219,11 @@ unfolding is_proper
 proper-legal l h = (and_parts (is_legal_size l.size) (proper_from 128 l.extents (l.size - 16)) h).0
 
 -- their frame is right
-StandsFor-IsFrame : (b : List ℕ) (d : Directory) → StandsFor b d → IsSaid b d → IsFrame b
-unfolding current
-StandsFor-IsFrame b d s t =
-    IsHeader-IsFrame b (subst (IsHeader current (bytes_of b)) t.size s.denotes.header) (proper-legal (live_in b (map extent_of d.objects)) t.heap.proper) t.heap.tiles.tags t.heap.free
+StandsFor-IsFrame : (b : List ℕ) (d : Directory) → AreSmall (bytes_of b) → StandsFor b d → IsSaid b d → IsFrame b
+StandsFor-IsFrame b d small s t =
+    let blocks = live_in b (map extent_of d.objects) in
+    IsHeader-IsFrame b small (subst (IsHeader current (bytes_of b)) t.size s.denotes.header) (proper-legal blocks t.heap.proper) t.heap.tiles.tags
+    (free_tree-passes current (bytes_of b) (tiles_of (bytes_of b) (length b)) blocks t.heap.tiles.tiles t.heap.free)
 
 -- the tiles in use are the blocks of the objects
 used-objects : (b : List ℕ) (d : Directory) → IsSaid b d → used (tiles_of (bytes_of b) (length b)) ≡ map extent_of d.objects
@@ -245,13 +246,13 @@ unique-no_place b d s = record {
 }
 
 -- bytes that stand for a directory that has come so far pass the test
-pub landed_image-complete : (b : List ℕ) (d : Directory) → StandsFor b d → IsTrue (is_landed_image b)
+pub landed_image-complete : (b : List ℕ) (d : Directory) → IsTrue (are_bytes b) → StandsFor b d → IsTrue (is_landed_image b)
 unfolding current
-landed_image-complete b d s =
+landed_image-complete b d h s =
     let t = StandsFor-IsSaid b d s in
     let blocks = numbers-blocks (bytes_of b) d.objects (are_landed-AreNumbers d.objects s.landed.objects) s.denotes.directory.objects s.denotes.objects in
     IsSaidLanded-is_landed_image b (record {
-      frame = StandsFor-IsFrame b d s t;
+      frame = StandsFor-IsFrame b d (are_bytes-AreSmall b h) s t;
       named = HasNoPlace-has_no_place (bytes_of b) 32 (named-no_place b d s);
       unique = HasNoPlace-has_no_place (bytes_of b) 56 (unique-no_place b d s);
       tiles = blocks-landed_tiles (bytes_of b) (tiles_of (bytes_of b) (length b)) (subst (AllByRecursion (IsLandedBlock (bytes_of b))) (sym (used-objects b d t)) blocks);

@@ -5,8 +5,7 @@ use Rattle.std.proofs.Math.Nat.{pow-succ'}
 use Rattle.std.proofs.lemmas.Bool.{and_parts, and_from, eq-eqb, eqb-true}
 use Rattle.raw_region.specs.Memory.{Memory, bytes_of, word_at, half_word_at, AreZero}
 use Rattle.image_check.specs.Classes.{are_bytes, has_version, has_reserved}
-use Rattle.image_check.proofs.Bytes.{AreSmall, are_bytes-AreSmall, number_at, number_at-suc, number_at-small, AreZero-none, AreZero-join, AreZero-within, word_at-AreZero, AreZero-word_at, half_word_at-AreZero, AreZero-half_word_at}
-use Rattle.image_check.proofs.Frame.{two_rows, from_two_rows}
+use Rattle.image_check.proofs.Bytes.{two_rows, from_two_rows, AreSmall, are_bytes-AreSmall, number_at, number_at-suc, number_at-small, AreZero-none, AreZero-join, AreZero-within, word_at-AreZero, AreZero-word_at, half_word_at-AreZero, AreZero-half_word_at}
 
 -- two tests are one where each follows from the other
 same_truth : (p q : Bool) → (IsTrue p → IsTrue q) → (IsTrue q → IsTrue p) → p ≡ q

@@ -15,7 +15,7 @@ use Rattle.seg_types.specs.declared.kinds.Class.TheVariants.{Anonymous}
 use Rattle.seg_types.specs.Kinds.{value_of}
 use Rattle.segment_manager.specs.Directory.{Numbers, Object, Directory}
 use Rattle.segment_manager.specs.State.{StandsFor}
-use Rattle.image_check.specs.Classes.{size_word, has_magic, has_version, has_reserved, is_tiled, are_bytes, class_of}
+use Rattle.image_check.specs.Classes.{size_word, has_magic, has_version, has_reserved, is_tiled, are_bytes, class_of, has_free_tree}
 
 -- ---- the header and the tags
 
@@ -23,13 +23,13 @@ use Rattle.image_check.specs.Classes.{size_word, has_magic, has_version, has_res
 abbrev pub has_whole_size : List ℕ → Bool
 has_whole_size b = is_legal_size (size_word b) && (size_word b == length b)
 
--- the null link stands where a free tree would begin
-abbrev pub has_null_tree : List ℕ → Bool
-has_null_tree b = word_at (bytes_of b) 24 == 1
+-- the tree of the free tiles is right
+abbrev pub has_tree : List ℕ → Bool
+has_tree b = has_free_tree current (bytes_of b) (tiles_of (bytes_of b) (size_word b))
 
 -- all that the classes before the eighth speak of is right
 unfoldable pub has_frame : List ℕ → Bool
-has_frame b = has_magic b && has_version current b && has_whole_size b && has_reserved b && is_tiled current b && has_null_tree b
+has_frame b = has_magic b && has_version current b && has_whole_size b && has_reserved b && is_tiled current b && has_tree b
 
 -- ---- the indexes and the objects
 

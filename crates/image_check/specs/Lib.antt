@@ -4,3 +4,5 @@ pub mod Opening
 pub mod Reading
 pub mod LandedImages
 pub mod Deciding
+pub mod FreeNodes
+pub mod FreeLaws

@@ -12,6 +12,7 @@ ghost use Rattle.image_check.specs.Opening.{IsClassFor};
 ghost use Rattle.image_check.specs.Reading.{HasFront};
 
 use crate::classes::ImageClass;
+use crate::free_tree::has_free_tree;
 use block_tags::laws::{
     good_tags_say_tiles, one_tile_at_an_offset, tiles_are_read_off, tiles_fill_the_window,
 };
@@ -51,7 +52,7 @@ pub fn check(window: &Window) -> Result<(), ImageClass>
     if block_tags::check(window).is_err() {
         return Err(ImageClass::BadTag);
     }
-    if word_in(bytes, 24) != NULL {
+    if !has_free_tree(window) {
         return Err(ImageClass::BadFreeTree);
     }
     if has_no_place(bytes, 32) && has_no_place(bytes, 56) && has_numbers(window) {

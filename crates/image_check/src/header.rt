@@ -17,7 +17,7 @@ pub const LEAST: usize = 144;
 /// `MSEGFILE`, as a number with the lowest byte first.
 const MAGIC: u64 = 0x454C_4946_4745_534D;
 
-const VERSION: u32 = 0;
+const VERSION: u32 = 1;
 
 /// The size of an image that begins with these bytes.
 ///

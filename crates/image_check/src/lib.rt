@@ -5,6 +5,7 @@
 mod checking;
 mod classes;
 mod errors;
+mod free_tree;
 mod header;
 pub mod laws;
 mod opening;

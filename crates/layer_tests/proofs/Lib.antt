@@ -1,2 +1,3 @@
-pub mod Tables
 pub mod FreshWindows
+pub mod HeapCalls
+pub mod Tables

@@ -12,11 +12,14 @@ use std::test::Fail;
 fn empty() -> [u8; 176] {
     let mut image = [0; 176];
     image[..8].copy_from_slice(b"MSEGFILE");
+    image[8] = 1;
     image[16] = 176;
-    image[24] = 1;
+    image[24] = 120;
     image[32] = 1;
     image[56] = 1;
     image[136] = 32;
+    image[144] = 1;
+    image[152] = 1;
     image[160] = 32;
     image[168] = 1;
     image
@@ -87,6 +90,7 @@ fn with_number(len: u8, kind: u8) -> [u8; 208]
 {
     let mut image = [0; 208];
     image[..8].copy_from_slice(b"MSEGFILE");
+    image[8] = 1;
     image[16] = 144 + len;
     image[24] = 1;
     image[32] = 1;
@@ -125,6 +129,10 @@ fn refuses_by_class(rt: HostRuntime) -> Result<(), Fail> {
         (127, 1, ImageClass::BadReserved),
         (168, 0, ImageClass::BadTag),
         (24, 0, ImageClass::BadFreeTree),
+        (24, 1, ImageClass::BadFreeTree),
+        (136, 34, ImageClass::BadFreeTree),
+        (144, 0, ImageClass::BadFreeTree),
+        (152, 248, ImageClass::BadFreeTree),
     ] {
         let found = cause(rt.alloc(), &with_byte(at, byte), Last::Ends)?;
         assert_eq!(rt; found, Some(OpenError::Image(class)), "byte {at}");
@@ -165,13 +173,12 @@ fn refuses_what_has_not_come(rt: HostRuntime) -> Result<(), Fail> {
         ImageClass::OrphanBlock,
     ];
     // a count in an index without a place, and a block for an object that is none
-    for (at, byte) in [(40, 1), (136, 33)] {
-        match cause(rt.alloc(), &with_byte(at, byte), Last::Ends)? {
-            Some(OpenError::Image(class)) => assert!(rt;
-                late.contains(&class),
-                "byte {at}: {class}"
-            ),
-            other => assert!(rt; false, "byte {at}: {other:?}"),
+    let mut no_object = with_byte(136, 33);
+    no_object[24] = 1;
+    for image in [with_byte(40, 1), no_object] {
+        match cause(rt.alloc(), &image, Last::Ends)? {
+            Some(OpenError::Image(class)) => assert!(rt; late.contains(&class), "{class}"),
+            other => assert!(rt; false, "{other:?}"),
         }
     }
     Ok(())

@@ -23,7 +23,7 @@ fn a_segment_is_made(rt: HostRuntime) -> Result<(), Fail> {
     assert!(rt;
         segment
             .as_bytes()
-            .starts_with(b"MSEGFILE\0\0\0\0\0\0\0\0\xB0")
+            .starts_with(b"MSEGFILE\x01\0\0\0\0\0\0\0\xB0")
     );
     assert_eq!(rt; segment.region_left(), 832);
     assert_eq!(rt; segment.tile(0), Some(free(32)));

@@ -1,12 +1,11 @@
 -- Where a segment stands after a line: whether its gaps are zero.
-use Rattle.std.proofs.Common.{◌≡◌, ◌==◌, ℕ, ◌+◌, ◌-◌, ◌≤◌, Bool, true, false, if◌then◌else◌, inr, List, [], ◌∷◌, nat_lt, refl, sym, ap, subst, ◌∙◌, arith}
+use Rattle.std.proofs.Common.{◌≡◌, ℕ, ◌+◌, ◌-◌, Bool, true, false, if◌then◌else◌, List, [], ◌∷◌, nat_lt, refl, sym, ap, subst, ◌∙◌, arith}
 use Rattle.std.specs.List.{AllByRecursion}
 use Rattle.std.proofs.lemmas.Bool.{cond_both}
 use Rattle.raw_region.specs.Memory.{AreZero, bytes_of}
 use Rattle.raw_region.specs.Format.{current}
-use Rattle.block_tags.specs.declared.tile.Tile.{Tile}
-use Rattle.block_tags.specs.Lists.{free_tile, laid, IsBesideTags}
 use Rattle.best_fit.specs.Extents.{Gap, gaps, gap_between}
+use Rattle.best_fit.specs.FreeTree.{gap_front}
 use Rattle.best_fit.proofs.LayOut.{lay_out_one}
 use Rattle.seg_types.specs.Commands as asked
 use Rattle.seg_types.specs.Commands.{Reading, is_changing}
@@ -51,16 +50,13 @@ empty_gaps : (size : ℕ) → gaps (live (empty size)) ≡ gap_between 128 (size
 unfolding gaps live
 empty_gaps size = refl
 
-beside_front : (size k : ℕ) → 144 ≤ k → IsBesideTags (laid size) k
-beside_front size k h = cond_both (size == 144) [] (free_tile 128 (size - 144) ∷ []) (λ (ts : List Tile). IsBesideTags ts k) (λ _. tt) (λ _. (inr h, tt))
-
 abbrev Zero : List ℕ → List Gap → Type 0
-Zero b = AllByRecursion (λ (g : Gap). AreZero (bytes_of b) (g.offset + 16) (g.offset + g.len))
+Zero b = AllByRecursion (λ (g : Gap). AreZero (bytes_of b) (g.offset + gap_front current) (g.offset + g.len))
 
 pub created_zeros : (region : List ℕ) (base size : ℕ) (mode : Mode) (s : State) → IsCreated region base size mode s → HasZeroGaps s
 created_zeros region base size mode s h =
     let one : Zero s.cut.bytes (gap_between 128 (size - 16)) = cond_both (nat_lt 128 (size - 16)) (record { offset = 128; len = size - 16 - 128 } ∷ []) [] (Zero s.cut.bytes)
-    (λ _. (record { at = λ k low high. h.zeros k (omega arith) (beside_front size k (omega arith)) (omega arith) }, tt)) (λ _. tt) in
+    (λ _. (record { at = λ k low high. h.zeros.at k low (omega arith) }, tt)) (λ _. tt) in
     record {
       zeros = λ d k. subst (Zero s.cut.bytes) (sym (ap gaps (one_live s.cut.bytes d (empty size) k h.stands) ∙ empty_gaps size)) one;
     }

@@ -1,10 +1,11 @@
 -- What the calls of a segment owe that are no steps of the directory machine.
-use Rattle.std.specs.Prelude.{◌≡◌, ◌<◌, ◌≤◌, ℕ, ◌+◌, ◌-◌, false, Some, None, Result, Ok, Err, MatchResult, List, length, IsTrue}
+use Rattle.std.specs.Prelude.{◌≡◌, ◌<◌, ◌≤◌, ℕ, ◌+◌, ◌-◌, ◌%◌, false, Some, None, Result, Ok, Err, MatchResult, List, length, IsTrue}
 use Rattle.std.specs.List.{AllByRecursion}
-use Rattle.raw_region.specs.Memory.{AreZero, SamePlace, bytes_of, cut_at}
+use Rattle.raw_region.specs.Format.{current}
+use Rattle.raw_region.specs.Memory.{AreZero, SamePlace, bytes_of, cut_at, word_at}
 use Rattle.block_tags.specs.Format.{is_legal_size}
-use Rattle.block_tags.specs.Lists.{laid, IsBesideTags}
 use Rattle.best_fit.specs.Extents.{Gap, Span as LiveSpan, gaps}
+use Rattle.best_fit.specs.FreeTree.{gap_front}
 use Rattle.seg_types.specs.declared.kinds.Kind.{Kind}
 use Rattle.seg_types.specs.declared.refusals.Refusal.{Refusal}
 use Rattle.seg_types.specs.declared.refusals.Refusal.TheVariants.{NotFound}
@@ -18,14 +19,16 @@ use Rattle.segment_manager.specs.Directory.{Directory, empty, kind_of, live, obj
 use Rattle.segment_manager.specs.State.{State, StandsFor}
 
 -- a segment with nothing in it, in the window of the size at the base; its bytes are 0 but for the header's front, which
--- says the size and two indexes without a place, and the tags
+-- says the size, the free tree and two indexes without a place, the tags, and the links of the one gap
 pub record IsCreated (region : List ℕ) (base size : ℕ) (how : Mode) (s : State) : Type 0 where
   pub legal : IsTrue (is_legal_size size)
   pub fits : base + size ≤ length region
   pub mode : s.mode ≡ how
   pub place : SamePlace (cut_at region base size) s.cut
   pub stands : StandsFor s.cut.bytes (empty size)
-  pub zeros : (k : ℕ) → 80 ≤ k → IsBesideTags (laid size) k → k < size - 16 → bytes_of s.cut.bytes k ≡ 0
+  -- the words in front of its gap's free bytes are null links
+  pub links : (at : ℕ) → at % 8 ≡ 0 → 144 ≤ at → at < 128 + gap_front current → at < size - 16 → word_at (bytes_of s.cut.bytes) at ≡ 1
+  pub zeros : AreZero (bytes_of s.cut.bytes) (128 + gap_front current) (size - 16)
 
 -- why no segment of the size is created
 abbrev pub IsWhy : List ℕ → ℕ → ℕ → CreateError → Type 0
@@ -48,6 +51,6 @@ kind_at d key = elim (object_at d key) [ None ↦ Err NotFound | Some o ↦ Ok (
 abbrev pub as_span : Span → LiveSpan
 as_span s = record { offset = s.offset; len = s.len; use_of = s.use_of }
 
--- the bytes of all gaps behind their tags are 0
+-- the free bytes of all gaps are 0
 pub record HasZeroGaps (s : State) : Type 0 where
-  pub zeros : (d : Directory) → StandsFor s.cut.bytes d → AllByRecursion (λ (g : Gap). AreZero (bytes_of s.cut.bytes) (g.offset + 16) (g.offset + g.len)) (gaps (live d))
+  pub zeros : (d : Directory) → StandsFor s.cut.bytes d → AllByRecursion (λ (g : Gap). AreZero (bytes_of s.cut.bytes) (g.offset + gap_front current) (g.offset + g.len)) (gaps (live d))

@@ -20,7 +20,7 @@ use raw_region::{RawRegion, Window};
 const MAGIC: u64 = 0x454C_4946_4745_534D;
 
 /// The format of the layout that is written.
-const FORMAT: u64 = 0;
+const FORMAT: u64 = 1;
 
 /// The null link.
 const NULL: u64 = 1;

@@ -18,6 +18,7 @@ use crate::segment::Segment;
 use best_fit::laws::bytes_lay_out_one;
 use best_fit::{Heap, NoSpace};
 use block_tags::Role;
+use raw_region::Steps;
 use seg_types::laws::values_spell_one;
 use seg_types::{Kind, Refusal, ScalarKind};
 
@@ -53,7 +54,10 @@ impl Segment {
         if self.is_read_only() {
             return Err(Refusal::ReadOnly);
         }
-        match self.heap.allocate(NUMBER_LEN, Role::Object) {
+        match self
+            .heap
+            .allocate(NUMBER_LEN, Role::Object, &mut Steps::new())
+        {
             Err(NoSpace) => Err(Refusal::NoSpace),
             Ok(handle) => {
                 write_number(&mut self.heap, handle, value);
@@ -75,7 +79,7 @@ impl Segment {
         if self.is_read_only() {
             Err(Refusal::ReadOnly)
         } else if self.heap.is_live(handle) {
-            self.heap.deallocate(handle);
+            self.heap.deallocate(handle, &mut Steps::new());
             Ok(())
         } else {
             Err(Refusal::NotFound)

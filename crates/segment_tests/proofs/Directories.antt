@@ -1,14 +1,15 @@
 -- What is nearly a directory, and what nearly stands in memory, and is none and does not.
 use Rattle.std.proofs.Common.{◌≡◌, refl, ap, ℕ, pos, List, [], ◌∷◌, Some, None, true, false, length, arith}
-use Rattle.raw_region.specs.Memory.{Memory}
+use Rattle.raw_region.specs.Memory.{Memory, bytes_of, word_at, word_bytes}
+use Rattle.offset_link.specs.Link.{link_at}
 use Rattle.block_tags.specs.declared.tile.Role.TheVariants.{Object, Storage}
 use Rattle.best_fit.specs.Table.{no_table}
 use Rattle.seg_types.specs.declared.kinds.ScalarKind.TheVariants.{I64}
 use Rattle.seg_types.specs.declared.kinds.Class.TheVariants.{Anonymous}
 use Rattle.seg_vector.specs.Vector.{IsVectorAt, IsTextAt, IsTextsAt}
 use Rattle.seg_index.specs.Index.{IsIndexAt}
-use Rattle.segment_manager.specs.Directory.{Object as SomeObject, Texts, is_object}
-use Rattle.segment_tests.proofs.Images.{extent}
+use Rattle.segment_manager.specs.Directory.{Object as SomeObject, Texts, has_own_block, is_object}
+use Rattle.segment_tests.proofs.Images.{words, extent}
 
 -- ---- a vector of one text of one byte, in a block of its own
 
@@ -23,7 +24,10 @@ one_text byte = record {
 text : is_object 2 (one_text 255) ≡ true
 text = refl
 
--- 256 is no byte
+-- 256 is no byte, though the blocks are right
+right_block : has_own_block (record { bytes = 256 ∷ []; extent = Some (extent 224 32 Storage) }) ≡ true
+right_block = refl
+
 no_byte : is_object 2 (one_text 256) ≡ false
 no_byte = refl
 
@@ -31,6 +35,22 @@ no_byte = refl
 
 not_empty : {A : Type 0} (x : A) (xs : List A) → x ∷ xs ≡ [] → ⊥
 not_empty x xs e = let n = ap length e in omega arith
+
+-- the three words: the null link, the length 1 and the capacity 0
+abbrev null_words : Memory
+null_words = bytes_of (words (1 ∷ 1 ∷ 0 ∷ []))
+
+null_link : link_at null_words 0 ≡ None
+unfolding word_at word_bytes
+null_link = refl
+
+len_word : word_at null_words 8 ≡ 1
+unfolding word_at word_bytes
+len_word = refl
+
+capacity_word : word_at null_words 16 ≡ 0
+unfolding word_at word_bytes
+capacity_word = refl
 
 no_vector : (m : Memory) → IsVectorAt m 0 I64 (pos 5 ∷ []) no_table → ⊥
 no_vector m h = not_empty 5 _ h.storage

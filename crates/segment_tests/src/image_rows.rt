@@ -20,7 +20,7 @@ struct Change {
     class: ImageClass,
 }
 
-const CHANGES: [Change; 9] = [
+const CHANGES: [Change; 11] = [
     Change {
         at: 0,
         bytes: &[0],
@@ -58,8 +58,18 @@ const CHANGES: [Change; 9] = [
     },
     Change {
         at: 136,
-        bytes: &[34],
+        bytes: &[36],
         class: ImageClass::BadTag,
+    },
+    Change {
+        at: 136,
+        bytes: &[34],
+        class: ImageClass::BadFreeTree,
+    },
+    Change {
+        at: 144,
+        bytes: &[0],
+        class: ImageClass::BadFreeTree,
     },
     Change {
         at: 24,

@@ -5,7 +5,7 @@ ghost use Rattle.raw_region.specs.Regions.{IsCapacity};
 use crate::desk::{Place, SOUND, put, run_fresh, run_image, run_with};
 use segment_cli::Start;
 use segment_manager::Mode;
-use std::alloc::Global;
+use std::alloc::{AllocError, Global};
 use std::process::Abort;
 use std::test::Fail;
 
@@ -196,11 +196,11 @@ fn a_long_line_is_refused(rt: HostRuntime) -> Result<(), Fail> {
 }
 
 /// The words of the image that the first script saves; all others are 0.
-const FIRST_WORDS: [(usize, u64); 14] = [
+const FIRST_WORDS: [(usize, u64); 16] = [
     (0, 0x454c_4946_4745_534d),
-    (8, 0),
+    (8, 1),
     (16, 1024),
-    (24, 1),
+    (24, 168),
     (32, 1),
     (56, 1),
     (128, 0),
@@ -209,17 +209,47 @@ const FIRST_WORDS: [(usize, u64); 14] = [
     (160, 5),
     (176, 48),
     (184, 832),
+    (192, 1),
+    (200, 1),
     (1008, 832),
     (1016, 1),
 ];
 
-#[test]
-fn the_first_image_has_its_words(rt: HostRuntime) -> Result<(), Fail> {
-    let done = run_fresh(rt.alloc(), 1024, b"construct i64 - 5\n")?;
-    let mut want = Vec::from_elem(rt.alloc(), 0u8, 1024)?;
-    for (at, word) in FIRST_WORDS {
-        put(want.as_mut_slice(), at, &word.to_le_bytes());
+/// The words of a fresh image of 176 bytes; all others are 0.
+const FRESH_WORDS: [(usize, u64); 11] = [
+    (0, 0x454c_4946_4745_534d),
+    (8, 1),
+    (16, 176),
+    (24, 120),
+    (32, 1),
+    (56, 1),
+    (136, 32),
+    (144, 1),
+    (152, 1),
+    (160, 32),
+    (168, 1),
+];
+
+/// Bytes that are 0 but for some words.
+fn bytes_of(alloc: Global, len: usize, words: &[(usize, u64)]) -> Result<Vec<u8>, AllocError> {
+    let mut bytes = Vec::from_elem(alloc, 0u8, len)?;
+    for (at, word) in words {
+        put(bytes.as_mut_slice(), *at, &word.to_le_bytes());
     }
-    assert_eq!(rt; done.saved.taken(), want.as_slice());
+    Ok(bytes)
+}
+
+#[test]
+fn images_have_their_words(rt: HostRuntime) -> Result<(), Fail> {
+    let first = run_fresh(rt.alloc(), 1024, b"construct i64 - 5\n")?;
+    assert_eq!(rt;
+        first.saved.taken(),
+        bytes_of(rt.alloc(), 1024, &FIRST_WORDS)?.as_slice()
+    );
+    let fresh = run_fresh(rt.alloc(), 176, b"")?;
+    assert_eq!(rt;
+        fresh.saved.taken(),
+        bytes_of(rt.alloc(), 176, &FRESH_WORDS)?.as_slice()
+    );
     Ok(())
 }

@@ -1,29 +1,43 @@
-use Rattle.std.proofs.Common.{sym, ◌∙◌}
+-- Each turn of the walk passes one tile.
+use Rattle.std.proofs.Common.{◌≡◌, refl, sym, ap, ◌∙◌, true, false, List, ◌∷◌, ◌++◌}
+use Rattle.std.specs.List.{list_all}
 use Rattle.raw_region.specs.Memory.{bytes_of}
+use Rattle.block_tags.specs.declared.tile.Tile.{Tile}
 use Rattle.image_check.specs.LandedImages.{is_landed_tile}
-use Rattle.image_check.proofs.Walking.{tags-IsTiled, walking-start, walking-at, at-within, at-next, at-nearer}
+use Rattle.image_check.proofs.WalkedTiles.{all-fails, all-more, at-within, tags-IsTiled, walk-at, walk-nearer, walk-on, walk-start}
 use Rattle.image_check.proofs.checking.has_numbers.Goals as goal
 
 pub tiles-init : goal.tiles-init
 tiles-init c =
     let w = c.args.window.now in
-    walking-start (is_landed_tile (bytes_of w.bytes)) w c.first-tile.result c.tiles_are_read_off.ensures (tags-IsTiled w c.good_tags_say_tiles.ensures c.requires.size c.requires.tags) c.first-tile.ensures
+    walk-start w (λ (ts : List Tile). list_all (is_landed_tile (bytes_of w.bytes)) ts ≡ true) c.first-tile.result
+    (tags-IsTiled w c.good_tags_say_tiles.ensures c.requires.size c.requires.tags) c.first-tile.ensures refl
 
 pub is_number-requires-clause-within : goal.is_number-requires-clause-within
 is_number-requires-clause-within c =
     let w = c.args.window.now in
+    let kept = λ (ts : List Tile). list_all (is_landed_tile (bytes_of w.bytes)) ts ≡ true in
+    at-within w kept c.in-Some.here c.tiles_fill_the_window.ensures (walk-at w kept c.tiles.tile c.in-Some.here c.tiles.invariant c.in-Some.is)
+
+pub returns-then-not-is_number : goal.returns-then-not-is_number
+returns-then-not-is_number c =
+    let w = c.args.window.now in
     let test = is_landed_tile (bytes_of w.bytes) in
-    at-within test w c.in-Some.here c.tiles_fill_the_window.ensures (walking-at test w c.tiles.tile c.in-Some.here c.tiles.invariant c.in-Some.is)
+    let a = walk-at w (λ (ts : List Tile). list_all test ts ≡ true) c.tiles.tile c.in-Some.here c.tiles.invariant c.in-Some.is in
+    let all : list_all test (a.front ++ c.in-Some.here ∷ a.back) ≡ false = all-fails test a.front c.in-Some.here a.back (sym c.is_number.ensures ∙ c.if-not-is_number.true) in
+    sym (ap (list_all test) (c.tiles_are_read_off.ensures w (a.front ++ c.in-Some.here ∷ a.back) a.said) ∙ all)
 
 pub tiles-smaller : goal.tiles-smaller
 tiles-smaller c =
     let w = c.args.window.now in
-    let test = is_landed_tile (bytes_of w.bytes) in
-    at-nearer test w c.tiles.tile c.in-Some.here c.next-tile.result c.tiles_fill_the_window.ensures (walking-at test w c.tiles.tile c.in-Some.here c.tiles.invariant c.in-Some.is) c.in-Some.is c.next-tile.ensures
+    let kept = λ (ts : List Tile). list_all (is_landed_tile (bytes_of w.bytes)) ts ≡ true in
+    walk-nearer w kept c.tiles.tile c.in-Some.here c.next-tile.result c.tiles_fill_the_window.ensures (walk-at w kept c.tiles.tile c.in-Some.here c.tiles.invariant c.in-Some.is)
+    c.in-Some.is c.next-tile.ensures
 
 pub tiles-preserved : goal.tiles-preserved
 tiles-preserved c =
     let w = c.args.window.now in
     let test = is_landed_tile (bytes_of w.bytes) in
-    at-next test w c.in-Some.here c.next-tile.result c.tiles_fill_the_window.ensures (walking-at test w c.tiles.tile c.in-Some.here c.tiles.invariant c.in-Some.is)
-    (sym c.is_number.ensures ∙ c.if-not-is_number.false) c.next-tile.ensures
+    let kept = λ (ts : List Tile). list_all test ts ≡ true in
+    walk-on w kept kept c.in-Some.here c.next-tile.result c.tiles_fill_the_window.ensures (walk-at w kept c.tiles.tile c.in-Some.here c.tiles.invariant c.in-Some.is) c.next-tile.ensures
+    (λ front k. all-more test front c.in-Some.here k (sym c.is_number.ensures ∙ c.if-not-is_number.false))

@@ -1,0 +1,234 @@
+-- A block is given back: its free neighbours leave the tree, and the gap that it becomes with them enters it.
+use Rattle.std.proofs.Common.{◌≡◌, refl, sym, ap, subst, ◌∙◌, ℕ, ◌+◌, ◌-◌, ◌≤◌, false, List, [], ◌∷◌, ◌++◌, length, append_assoc, arith}
+use Rattle.std.specs.Prelude.{Option, Some, None, map}
+use Rattle.raw_region.specs.Memory.{Cut, bytes_of}
+use Rattle.block_tags.specs.declared.tile.Tile.{Tile}
+use Rattle.raw_region.specs.Format.{current}
+use Rattle.block_tags.specs.Lists.{first_in, last_in, next_in, previous_in, with_red_at, with_use_at, without_last}
+use Rattle.block_tags.specs.Windows.{HasTileAt, MayBeUsed, MayHaveColour, SaysTiles, SameBesideTags}
+use Rattle.link_tree.specs.Tree.{IsTree}
+use Rattle.link_tree.specs.Nodes.{is_in}
+use Rattle.link_tree.proofs.Trees.{tree_same}
+use Rattle.offset_link.specs.Link.{link_at, target_of}
+use Rattle.best_fit.specs.Extents.{Gap, LiveSet}
+use Rattle.best_fit.specs.Fit.{others, released}
+use Rattle.best_fit.specs.FreeTree.{IsTreeOf, cells_of, payloads, sorted_gaps}
+use Rattle.best_fit.specs.GapNodes.{gap_of, gaps_of, gaps_in, plain, tiles_in}
+use Rattle.best_fit.specs.GapTrees.{HasTree, LacksOne, Regrown, node_of, of_option, start_of}
+use Rattle.best_fit.specs.Heap.{IsHeap, IsReleased, Keeps, LaysOut, live_of}
+use Rattle.best_fit.specs.Tiling.{joined_before, joined_free_at}
+use Rattle.best_fit.proofs.Allocating.{heap_tree}
+use Rattle.best_fit.proofs.Around.{Away, away_front, next_in-around, previous_in-around}
+use Rattle.best_fit.proofs.Frames.{keeps-others, keeps-trans}
+use Rattle.best_fit.proofs.GapOrder.{in_sorted}
+use Rattle.best_fit.proofs.GapSteps.{kept_same, same_gaps}
+use Rattle.best_fit.proofs.Joins.{rest_of}
+use Rattle.best_fit.proofs.Laid.{SaysHeap, heap-says, said_row}
+use Rattle.best_fit.proofs.Placed.{gaps_of-append, lays_out}
+use Rattle.best_fit.proofs.Regrowths.{SplitsAlike, regrown_keeps, regrown_live, splits_alike, tree_says}
+use Rattle.best_fit.proofs.Releases.{colour_may, last_step, left_cell, left_gaps, left_live, left_start, left_word, other_keeps, says4, stands2, stands3, use_may}
+use Rattle.best_fit.proofs.Replanting.{lacking_node}
+use Rattle.best_fit.proofs.Rows.{Apart-is_merged, gaps_of-used}
+use Rattle.best_fit.proofs.Writes.{Block}
+
+-- ---- lists in parts
+
+front_parts : (ts : List Tile) → ts ≡ without_last ts ++ of_option (last_in ts)
+front_parts [] = refl
+front_parts (t ∷ []) = refl
+front_parts (t ∷ u ∷ ts) = ap (λ (us : List Tile). t ∷ us) (front_parts (u ∷ ts))
+
+pub back_parts : (ts : List Tile) → ts ≡ of_option (first_in ts) ++ rest_of ts
+back_parts [] = refl
+back_parts (t ∷ ts) = refl
+
+init-plain : (ts : List Tile) → map plain (without_last ts) ≡ without_last (map plain ts)
+init-plain [] = refl
+init-plain (t ∷ []) = refl
+init-plain (t ∷ u ∷ ts) = ap (λ (us : List Tile). plain t ∷ us) (init-plain (u ∷ ts))
+
+rest-plain : (ts : List Tile) → map plain (rest_of ts) ≡ rest_of (map plain ts)
+rest-plain [] = refl
+rest-plain (t ∷ ts) = refl
+
+start-plain : (ts : List Tile) (at : ℕ) → start_of (last_in (map plain ts)) at ≡ start_of (last_in ts) at
+start-plain [] at = refl
+start-plain (t ∷ []) at = refl
+start-plain (t ∷ u ∷ ts) at = start-plain (u ∷ ts) at
+
+same_init : (ts us : List Tile) → map plain us ≡ map plain ts → gaps_of (without_last us) ≡ gaps_of (without_last ts)
+same_init ts us e = same_gaps (without_last ts) (without_last us) (init-plain us ∙ ap without_last e ∙ sym (init-plain ts))
+
+pub same_rest : (ts us : List Tile) → map plain us ≡ map plain ts → gaps_of (rest_of us) ≡ gaps_of (rest_of ts)
+same_rest ts us e = same_gaps (rest_of ts) (rest_of us) (rest-plain us ∙ ap rest_of e ∙ sym (rest-plain ts))
+
+same_start : (ts us : List Tile) (at : ℕ) → map plain us ≡ map plain ts → start_of (last_in us) at ≡ start_of (last_in ts) at
+same_start ts us at e = sym (start-plain us at) ∙ ap (λ (vs : List Tile). start_of (last_in vs) at) e ∙ start-plain ts at
+
+pub regrown-trans : (a b c : Cut) → Regrown a b → Regrown b c → Regrown a c
+regrown-trans a b c r s =
+    record {
+      place = record { before = s.place.before ∙ r.place.before; after = s.place.after ∙ r.place.after };
+      size = s.size ∙ r.size;
+      tiles = s.tiles ∙ r.tiles;
+      bytes = λ k i o. s.bytes k (kept_same (tiles_in a) (tiles_in b) k r.tiles ∙ i) o ∙ r.bytes k i o;
+    }
+
+module _ (w : Cut) (at : ℕ) (heap : IsHeap current w.bytes) (b : Block w (at + 16)) where
+  begins : b.tile.offset ≡ at
+  begins = let e = b.at in omega arith
+
+  away : Away at b.front
+  away = subst (λ k. Away k b.front) begins (away_front 128 b.front b.tile b.back (length w.bytes - 16) (said_row w (b.front ++ (b.tile ∷ b.back)) b.said))
+
+  abbrev init : List Gap
+  init = gaps_of (without_last b.front)
+
+  abbrev last : List Gap
+  last = gaps_of (of_option (last_in b.front))
+
+  abbrev first : List Gap
+  first = gaps_of (of_option (first_in b.back))
+
+  abbrev tail : List Gap
+  tail = gaps_of (rest_of b.back)
+
+  pub next_is : next_in (b.front ++ (b.tile ∷ b.back)) at ≡ first_in b.back
+  next_is = next_in-around at b.tile b.back begins b.front away
+
+  pub previous_is : previous_in (b.front ++ (b.tile ∷ b.back)) at ≡ last_in b.front
+  previous_is = previous_in-around at b.tile b.back begins b.front away
+
+  front_gaps : gaps_of b.front ≡ gaps_of (without_last b.front) ++ gaps_of (of_option (last_in b.front))
+  front_gaps = ap gaps_of (front_parts b.front) ∙ gaps_of-append (without_last b.front) (of_option (last_in b.front))
+
+  back_gaps : gaps_of b.back ≡ gaps_of (of_option (first_in b.back)) ++ gaps_of (rest_of b.back)
+  back_gaps = ap gaps_of (back_parts b.back) ∙ gaps_of-append (of_option (first_in b.back)) (rest_of b.back)
+
+  all_gaps : gaps_in w ≡ (init ++ last) ++ (first ++ tail)
+  all_gaps =
+      ap gaps_of b.list ∙ gaps_of-append b.front (b.tile ∷ b.back) ∙ ap (λ (hs : List Gap). gaps_of b.front ++ hs) (gaps_of-used b.tile b.back b.role b.in_use)
+      ∙ ap (λ (hs : List Gap). hs ++ gaps_of b.back) front_gaps ∙ ap (λ (hs : List Gap). (init ++ last) ++ hs) back_gaps
+
+  -- before the first call
+  pub first_tree : HasTree w ((init ++ last) ++ (first ++ tail))
+  first_tree = subst (λ (hs : List Gap). HasTree w hs) all_gaps (heap_tree w heap)
+
+  -- and before the second
+  pub second_tree : (d1 : Cut) → HasTree d1 ((init ++ last) ++ tail) → HasTree d1 (init ++ (last ++ tail))
+  second_tree d1 h = subst (λ (hs : List Gap). HasTree d1 hs) (append_assoc init last tail) h
+
+  module _ (d : Cut) (h : HasTree d (init ++ tail)) (r : Regrown w d) where
+    s : SplitsAlike (tiles_in d) b.front b.tile b.back
+    s = splits_alike (tiles_in d) b.front b.tile b.back (r.tiles ∙ ap (λ (ts : List Tile). map plain ts) b.list)
+
+    says_d : SaysHeap d (tiles_in d)
+    says_d = tree_says d (init ++ tail) h
+
+    used_d : s.tile'.use_of ≡ Some b.role
+    used_d = ap (λ (t : Tile). t.use_of) s.tiles ∙ b.in_use
+
+    begins_d : s.tile'.offset ≡ at
+    begins_d = ap (λ (t : Tile). t.offset) s.tiles ∙ begins
+
+    same_gaps_d : init ++ tail ≡ gaps_of (without_last s.front') ++ gaps_of (rest_of s.back')
+    same_gaps_d = sym (ap (λ (hs : List Gap). hs ++ gaps_of (rest_of s.back')) (same_init b.front s.front' s.fronts) ∙ ap (λ (hs : List Gap). init ++ hs) (same_rest b.back s.back' s.backs))
+
+    tree_d : HasTree d (gaps_of (without_last s.front') ++ gaps_of (rest_of s.back'))
+    tree_d = subst (λ (hs : List Gap). HasTree d hs) same_gaps_d h
+
+    pub r_colour : MayHaveColour d at false
+    r_colour = colour_may d says_d at s.front' s.tile' s.back' b.role s.list used_d begins_d
+
+    module _ (one : Cut) (paint : (ts : List Tile) → SaysTiles d ts → SaysTiles one (with_red_at at false ts)) (paint_same : (ts : List Tile) → SaysTiles d ts → SameBesideTags d one ts (with_red_at at false ts)) where
+      pub r_use : MayBeUsed one at None
+      r_use = use_may d says_d at s.front' s.tile' s.back' b.role s.list used_d begins_d one paint paint_same
+
+      module _ (two : Cut) (change : (ts : List Tile) → SaysTiles one ts → SaysTiles two (with_use_at at None ts)) (change_same : (ts : List Tile) → SaysTiles one ts → SameBesideTags one two ts (with_use_at at None ts)) where
+        pub r_stands2 : HasTileAt two at
+        r_stands2 = stands2 d says_d at s.front' s.tile' s.back' b.role s.list used_d begins_d one paint paint_same two change change_same
+
+        module _ (three : Cut) (join : (ts : List Tile) → SaysTiles two ts → SaysTiles three (joined_free_at at ts)) (join_same : (ts : List Tile) → SaysTiles two ts → SameBesideTags two three ts (joined_free_at at ts)) where
+          pub r_stands3 : HasTileAt three at
+          r_stands3 = stands3 d says_d at s.front' s.tile' s.back' b.role s.list used_d begins_d one paint paint_same two change change_same three join join_same
+
+          module _ (four : Cut) (last_join : (ts : List Tile) → SaysTiles three ts → SaysTiles four (joined_before at ts)) (last_same : (ts : List Tile) → SaysTiles three ts → SameBesideTags three four ts (joined_before at ts)) where
+            abbrev whole_d : Tile
+            whole_d = (last_step d says_d at s.front' s.tile' s.back' b.role s.list used_d begins_d one paint paint_same two change change_same three join join_same four last_join last_same).whole
+
+            says_four : SaysHeap four (tiles_in four)
+            says_four = says4 d says_d at s.front' s.tile' s.back' b.role s.list used_d begins_d one paint paint_same two change change_same three join join_same four last_join last_same
+
+            pub new_gap : Gap
+            new_gap = gap_of whole_d
+
+            pub xs : List Gap
+            xs = gaps_of (without_last s.front')
+
+            pub ys : List Gap
+            ys = gaps_of (rest_of s.back')
+
+            pub new_node : start_of (last_in b.front) at + 16 ≡ node_of new_gap
+            unfolding new_gap
+            new_node =
+                let e = left_start d says_d at s.front' s.tile' s.back' b.role s.list used_d begins_d one paint paint_same two change change_same three join join_same four last_join last_same in
+                ap (λ k. k + 16) (sym (e ∙ same_start b.front s.front' at s.fronts))
+
+            pub lacks : LacksOne four xs new_gap ys
+            unfolding new_gap xs ys
+            lacks =
+                let hs = gaps_of (without_last s.front') ++ gaps_of (rest_of s.back') in
+                let word = left_word d says_d at s.front' s.tile' s.back' b.role s.list used_d begins_d one paint paint_same two change change_same three join join_same four last_join last_same in
+                let root : link_at (bytes_of four.bytes) 24 ≡ link_at (bytes_of d.bytes) 24 = ap (target_of 24) word in
+                let cell = left_cell d says_d at s.front' s.tile' s.back' b.role s.list used_d begins_d one paint paint_same two change change_same three join join_same four last_join last_same in
+                let old = tree_d.tree in
+                record {
+                  said = says_four.said;
+                  merged = Apart-is_merged false (tiles_in four) says_four.apart;
+                  gaps = left_gaps d says_d at s.front' s.tile' s.back' b.role s.list used_d begins_d one paint paint_same two change change_same three join join_same four last_join last_same;
+                  tree = record {
+                    tree = old.tree;
+                    linked = subst (λ (l : Option ℕ). IsTree (cells_of (bytes_of four.bytes)) l old.tree) (sym root)
+                        (tree_same (cells_of (bytes_of d.bytes)) (cells_of (bytes_of four.bytes)) (link_at (bytes_of d.bytes) 24) old.tree
+                        (λ m i. cell m (sym (in_sorted m hs) ∙ ap (λ (ns : List ℕ). is_in m ns) (sym old.lists) ∙ i)) old.linked);
+                    red_black = old.red_black;
+                    lists = old.lists;
+                  };
+                }
+
+            pub start_small : start_of (last_in b.front) at + 16 ≤ 1073741824
+            start_small =
+                let n = lacking_node four xs new_gap ys (start_of (last_in b.front) at + 16) new_node lacks in
+                let long = n.long in let ends = n.ends in let size = n.size in omega arith
+
+            pub few_left : length (xs ++ ys) ≤ length (gaps_in w)
+            unfolding xs ys
+            few_left =
+                let few = tree_d.some.few in
+                let same : length (gaps_in d) ≡ length (gaps_in w) = ap (λ (hs : List Gap). length hs) (same_gaps (tiles_in w) (tiles_in d) r.tiles) in
+                omega arith
+
+            module _ (e : Cut) (planted : HasTree e (xs ++ (new_gap ∷ ys))) (regrown : Regrown four e) where
+              says_e : SaysHeap e (tiles_in e)
+              says_e = tree_says e (xs ++ (new_gap ∷ ys)) planted
+
+              gaps_e : gaps_in e ≡ xs ++ (new_gap ∷ ys)
+              gaps_e = same_gaps (tiles_in four) (tiles_in e) regrown.tiles ∙ lacks.gaps
+
+              live_four : live_of four.bytes ≡ released (live_of w.bytes) (at + 16)
+              live_four =
+                  left_live d says_d at s.front' s.tile' s.back' b.role s.list used_d begins_d one paint paint_same two change change_same three join join_same four last_join last_same
+                  ∙ ap (λ (l : LiveSet). released l (at + 16)) (regrown_live w d r)
+
+              pub released_block : IsReleased current w e (at + 16)
+              released_block =
+                  let xs_ = (live_of w.bytes).extents in
+                  let first_keeps = keeps-others w d (at + 16) xs_ (regrown_keeps w d (heap-says w heap).said says_d.said r) in
+                  let second_keeps : Keeps d four (others (at + 16) xs_) = subst (λ (l : LiveSet). Keeps d four (others (at + 16) l.extents)) (regrown_live w d r)
+                  (other_keeps d says_d at s.front' s.tile' s.back' b.role s.list used_d begins_d one paint paint_same two change change_same three join join_same four last_join last_same) in
+                  let third_keeps : Keeps four e (others (at + 16) xs_) = subst (λ (l : LiveSet). Keeps four e l.extents) live_four (regrown_keeps four e says_four.said says_e.said regrown) in
+                  record {
+                    live = subst (LaysOut current e.bytes) (regrown_live four e regrown ∙ live_four)
+                        (lays_out e says_e (subst (λ (hs : List Gap). IsTreeOf (bytes_of e.bytes) 24 (payloads (sorted_gaps hs))) (sym gaps_e) planted.tree));
+                    keeps = keeps-trans w four e (others (at + 16) xs_) (keeps-trans w d four (others (at + 16) xs_) first_keeps second_keeps) third_keeps;
+                  }

@@ -1,0 +1,240 @@
+-- A block takes the gap behind it, which leaves the tree, and what is cut off enters it.
+use Rattle.std.proofs.Common.{◌≡◌, refl, sym, ap, subst, ◌∙◌, ℕ, ◌+◌, ◌-◌, ◌≤◌, Bool, true, false, List, [], ◌∷◌, ◌++◌, length, arith, nat_le}
+use Rattle.std.specs.Prelude.{Option, Some, map, min}
+use Rattle.raw_region.specs.Memory.{Memory, Cut, bytes_of}
+use Rattle.block_tags.specs.declared.tile.Tile.{Tile}
+use Rattle.raw_region.specs.Format.{current}
+use Rattle.block_tags.specs.Lists.{first_in, free_tile, next_in, tile_in}
+use Rattle.block_tags.specs.Windows.{HasTileAt, SaysTiles, SameBesideTags}
+use Rattle.link_tree.specs.Tree.{IsTree}
+use Rattle.link_tree.specs.Nodes.{is_in}
+use Rattle.link_tree.proofs.Trees.{tree_same}
+use Rattle.offset_link.specs.Link.{link_at, target_of}
+use Rattle.best_fit.specs.Extents.{Extent, Gap, LiveSet, handle, end_of}
+use Rattle.best_fit.specs.Fit.{gap_after, others, resized, share}
+use Rattle.best_fit.specs.FreeTree.{IsTreeOf, cells_of, payloads, sorted_gaps}
+use Rattle.best_fit.specs.GapNodes.{gap_of, gaps_of, gaps_in, plain, tiles_in}
+use Rattle.best_fit.specs.GapTrees.{HasTree, LacksOne, Regrown, node_of, of_option}
+use Rattle.best_fit.specs.Heap.{IsHeap, Keeps, LaysOut, SameBlock, live_of}
+use Rattle.best_fit.specs.Resizes.{IsCut}
+use Rattle.best_fit.specs.Tiling.{cut_at, free_len, joined_free_at}
+use Rattle.best_fit.proofs.Allocating.{heap_tree}
+use Rattle.best_fit.proofs.Around.{Away, away_front, next_in-around}
+use Rattle.best_fit.proofs.Frames.{Same-part, SameBlock-trans, keeps-insert, keeps-others, keeps-trans}
+use Rattle.best_fit.proofs.GapFacts.{in_around}
+use Rattle.best_fit.proofs.GapOrder.{in_sorted}
+use Rattle.best_fit.proofs.GapSteps.{same_gaps}
+use Rattle.best_fit.proofs.Joins.{rest_of}
+use Rattle.best_fit.proofs.GivingBack.{back_parts, same_rest}
+use Rattle.best_fit.proofs.Laid.{SaysHeap, heap-says, said_row}
+use Rattle.best_fit.proofs.Placed.{gaps_of-append, lays_out}
+use Rattle.best_fit.proofs.Regrowths.{SplitsAlike, regrown_block, regrown_keeps, regrown_live, splits_alike, tree_says}
+use Rattle.best_fit.proofs.Resizes.{gap_high, gap_is, joins, t_cell, t_cut_at, t_cuts, t_gaps, t_in, t_joins, t_keeps, t_live, t_says, t_stands0, t_stands1, t_still, t_word}
+use Rattle.best_fit.proofs.Rows.{Apart-is_merged, extent_of, gaps_of-used}
+use Rattle.best_fit.proofs.Steps.{In}
+use Rattle.best_fit.proofs.Writes.{Block}
+
+free-plain : (ts : List Tile) → free_len (first_in (map plain ts)) ≡ free_len (first_in ts)
+free-plain [] = refl
+free-plain (t ∷ ts) = refl
+
+same_free : (ts us : List Tile) → map plain us ≡ map plain ts → free_len (first_in us) ≡ free_len (first_in ts)
+same_free ts us e = sym (free-plain us) ∙ ap (λ (vs : List Tile). free_len (first_in vs)) e ∙ free-plain ts
+
+-- the front of a block that stays, stays
+front_block : (m m' : Memory) (x : Extent) (k : ℕ) → k ≤ x.len → SameBlock m m' x → SameBlock m m' (record x { len = k })
+front_block m m' x k l s = record { payload = Same-part m m' (handle x) (end_of x) (handle x) (x.offset + k) s.payload (omega arith) (omega arith); colour = s.colour }
+
+module _ (w : Cut) (at : ℕ) (heap : IsHeap current w.bytes) (b : Block w (at + 16)) (wanted : ℕ) where
+  begins : b.tile.offset ≡ at
+  begins = let e = b.at in omega arith
+
+  away : Away at b.front
+  away = subst (λ k. Away k b.front) begins (away_front 128 b.front b.tile b.back (length w.bytes - 16) (said_row w (b.front ++ (b.tile ∷ b.back)) b.said))
+
+  pub behind_is : next_in (b.front ++ (b.tile ∷ b.back)) at ≡ first_in b.back
+  behind_is = next_in-around at b.tile b.back begins b.front away
+
+  gaps_w : gaps_in w ≡ gaps_of b.front ++ (gaps_of (of_option (first_in b.back)) ++ gaps_of (rest_of b.back))
+  gaps_w =
+      ap gaps_of b.list ∙ gaps_of-append b.front (b.tile ∷ b.back) ∙ ap (λ (hs : List Gap). gaps_of b.front ++ hs) (gaps_of-used b.tile b.back b.role b.in_use)
+      ∙ ap (λ (hs : List Gap). gaps_of b.front ++ hs) (ap gaps_of (back_parts b.back) ∙ gaps_of-append (of_option (first_in b.back)) (rest_of b.back))
+
+  pub tree_w : HasTree w (gaps_of b.front ++ (gaps_of (of_option (first_in b.back)) ++ gaps_of (rest_of b.back)))
+  tree_w = subst (λ (hs : List Gap). HasTree w hs) gaps_w (heap_tree w heap)
+
+  abbrev x : Extent
+  x = extent_of b.tile b.role
+
+  abbrev y : Extent
+  y = record { offset = b.tile.offset; len = share (b.tile.len + gap_after (live_of w.bytes) (extent_of b.tile b.role)) wanted; role = b.role }
+
+  module _ (d : Cut) (h : HasTree d (gaps_of b.front ++ gaps_of (rest_of b.back))) (r : Regrown w d) where
+    s : SplitsAlike (tiles_in d) b.front b.tile b.back
+    s = splits_alike (tiles_in d) b.front b.tile b.back (r.tiles ∙ ap (λ (ts : List Tile). map plain ts) b.list)
+
+    says_d : SaysHeap d (tiles_in d)
+    says_d = tree_says d (gaps_of b.front ++ gaps_of (rest_of b.back)) h
+
+    used_d : s.tile'.use_of ≡ Some b.role
+    used_d = ap (λ (t : Tile). t.use_of) s.tiles ∙ b.in_use
+
+    offset_d : s.tile'.offset ≡ b.tile.offset
+    offset_d = ap (λ (t : Tile). t.offset) s.tiles
+
+    begins_d : s.tile'.offset ≡ at
+    begins_d = offset_d ∙ begins
+
+    tree_d : HasTree d (gaps_of s.front' ++ gaps_of (rest_of s.back'))
+    tree_d = subst (λ (hs : List Gap). HasTree d hs)
+        (sym (ap (λ (hs : List Gap). hs ++ gaps_of (rest_of s.back')) (same_gaps b.front s.front' s.fronts) ∙ ap (λ (hs : List Gap). gaps_of b.front ++ hs) (same_rest b.back s.back' s.backs))) h
+
+    abbrev j : ℕ
+    j = (t_joins d says_d at s.front' s.tile' s.back' b.role s.list used_d begins_d wanted).gap
+
+    -- it is as long as before
+    long_d : s.tile'.len + j ≡ b.tile.len + gap_after (live_of w.bytes) (extent_of b.tile b.role)
+    long_d =
+        let l : s.tile'.len ≡ b.tile.len = ap (λ (t : Tile). t.len) s.tiles in
+        let g : j ≡ gap_after (live_of w.bytes) (extent_of b.tile b.role) =
+        sym (t_joins d says_d at s.front' s.tile' s.back' b.role s.list used_d begins_d wanted).len ∙ same_free b.back s.back' s.backs ∙ (joins w heap (at + 16) at b begins wanted).len
+        ∙ sym (gap_is w heap (at + 16) at b begins wanted) in
+        omega arith
+
+    pub c_stands0 : HasTileAt d at
+    c_stands0 = t_stands0 d says_d at s.front' s.tile' s.back' b.role s.list used_d begins_d wanted
+
+    pub c_high : b.tile.len + gap_after (live_of w.bytes) (extent_of b.tile b.role) ≤ 1073741824
+    c_high = gap_high w heap (at + 16) at b begins wanted
+
+    module _ (mid : Cut) (join : (ts : List Tile) → SaysTiles d ts → SaysTiles mid (joined_free_at at ts)) (join_same : (ts : List Tile) → SaysTiles d ts → SameBesideTags d mid ts (joined_free_at at ts)) where
+      pub c_stands1 : HasTileAt mid at
+      c_stands1 = t_stands1 d says_d at s.front' s.tile' s.back' b.role s.list used_d begins_d wanted mid join join_same
+
+      module _ (new : Cut) (cut : (ts : List Tile) → SaysTiles mid ts → SaysTiles new (cut_at at wanted ts)) (cut_same : (ts : List Tile) → SaysTiles mid ts → SameBesideTags mid new ts (cut_at at wanted ts)) where
+        says_new : SaysHeap new (tiles_in new)
+        says_new = t_says d says_d at s.front' s.tile' s.back' b.role s.list used_d begins_d wanted mid join join_same new cut cut_same
+
+        y_is : record { offset = s.tile'.offset; len = share (s.tile'.len + j) wanted; role = b.role } ≡ y
+        y_is = let l = long_d in λ i. record { offset = offset_d i; len = share (l i) wanted; role = b.role }
+
+        live_new : live_of new.bytes ≡ resized (live_of w.bytes) y
+        live_new =
+            t_live d says_d at s.front' s.tile' s.back' b.role s.list used_d begins_d wanted mid join join_same new cut cut_same
+            ∙ ap (λ (l : LiveSet). resized l (record { offset = s.tile'.offset; len = share (s.tile'.len + j) wanted; role = b.role })) (regrown_live w d r)
+            ∙ ap (resized (live_of w.bytes)) y_is
+
+        keeps_new : Keeps w new (others (handle x) (live_of w.bytes).extents)
+        keeps_new =
+            let first = keeps-others w d (at + 16) (live_of w.bytes).extents (regrown_keeps w d (heap-says w heap).said says_d.said r) in
+            let second = subst (λ (l : LiveSet). Keeps d new (others (at + 16) l.extents)) (regrown_live w d r)
+            (t_keeps d says_d at s.front' s.tile' s.back' b.role s.list used_d begins_d wanted mid join join_same new cut cut_same) in
+            subst (λ k. Keeps w new (others (k + 16) (live_of w.bytes).extents)) (sym begins) (keeps-trans w d new (others (at + 16) (live_of w.bytes).extents) first second)
+
+        abbrev both : Extent
+        both = record x { len = min b.tile.len (share (b.tile.len + gap_after (live_of w.bytes) (extent_of b.tile b.role)) wanted) }
+
+        still_new : SameBlock (bytes_of w.bytes) (bytes_of new.bytes) both
+        still_new =
+            let i : In b.tile (tiles_in w) = subst (λ (ts : List Tile). In b.tile ts) (sym b.list) (in_around b.front b.tile b.back) in
+            let first = front_block (bytes_of w.bytes) (bytes_of d.bytes) x (min b.tile.len (share (b.tile.len + gap_after (live_of w.bytes) (extent_of b.tile b.role)) wanted)) (omega arith)
+            (regrown_block w d (heap-says w heap).said says_d.said r b.tile i b.role b.in_use) in
+            let l = long_d in let n : s.tile'.len ≡ b.tile.len = ap (λ (t : Tile). t.len) s.tiles in
+            let second = subst (λ (z : Extent). SameBlock (bytes_of d.bytes) (bytes_of new.bytes) z) (λ i. record { offset = offset_d i; len = min (n i) (share (l i) wanted); role = b.role })
+            (t_still d says_d at s.front' s.tile' s.back' b.role s.list used_d begins_d wanted mid join join_same new cut cut_same) in
+            SameBlock-trans (bytes_of w.bytes) (bytes_of d.bytes) (bytes_of new.bytes) both first second
+
+        tree_new : IsTreeOf (bytes_of new.bytes) 24 (payloads (sorted_gaps (gaps_of s.front' ++ gaps_of (rest_of s.back'))))
+        tree_new =
+            let hs = gaps_of s.front' ++ gaps_of (rest_of s.back') in
+            let root : link_at (bytes_of new.bytes) 24 ≡ link_at (bytes_of d.bytes) 24 = ap (target_of 24) (t_word d says_d at s.front' s.tile' s.back' b.role s.list used_d begins_d wanted mid join join_same new cut cut_same) in
+            let cell = t_cell d says_d at s.front' s.tile' s.back' b.role s.list used_d begins_d wanted mid join join_same new cut cut_same in
+            let old = tree_d.tree in
+            record {
+              tree = old.tree;
+              linked = subst (λ (l : Option ℕ). IsTree (cells_of (bytes_of new.bytes)) l old.tree) (sym root)
+                  (tree_same (cells_of (bytes_of d.bytes)) (cells_of (bytes_of new.bytes)) (link_at (bytes_of d.bytes) 24) old.tree
+                  (λ m i. cell m (sym (in_sorted m hs) ∙ ap (λ (ns : List ℕ). is_in m ns) (sym old.lists) ∙ i)) old.linked);
+              red_black = old.red_black;
+              lists = old.lists;
+            }
+
+        gaps_new : gaps_in new ≡ gaps_of s.front' ++ (gaps_of (t_cuts d says_d at s.front' s.tile' s.back' b.role s.list used_d begins_d wanted).left ++ gaps_of (rest_of s.back'))
+        gaps_new = t_gaps d says_d at s.front' s.tile' s.back' b.role s.list used_d begins_d wanted mid join join_same new cut cut_same
+
+        -- whether a rest is left
+        pub c_cut : (left : Bool) → ((ts : List Tile) (t : Tile) → SaysTiles mid ts → tile_in ts at ≡ Some t → left ≡ nat_le (wanted + 32) t.len) → nat_le (wanted + 32) (b.tile.len + gap_after (live_of w.bytes) (extent_of b.tile b.role)) ≡ left
+        c_cut left is =
+            let h1 = c_stands1 in
+            subst (λ k. nat_le (wanted + 32) k ≡ left) long_d (sym (is h1.tiles (record s.tile' { len = s.tile'.len + j }) h1.said (t_cut_at d says_d at s.front' s.tile' s.back' b.role s.list used_d begins_d wanted mid join join_same new cut cut_same h1.tiles h1.said)))
+
+        pub c_whole : nat_le (wanted + 32) (b.tile.len + gap_after (live_of w.bytes) (extent_of b.tile b.role)) ≡ false → IsCut current w new (at + 16) wanted
+        c_whole e =
+            let gs : gaps_in new ≡ gaps_of s.front' ++ gaps_of (rest_of s.back') =
+            gaps_new ∙ ap (λ (ts : List Tile). gaps_of s.front' ++ (gaps_of ts ++ gaps_of (rest_of s.back'))) ((t_cuts d says_d at s.front' s.tile' s.back' b.role s.list used_d begins_d wanted).keeps (subst (λ k. nat_le (wanted + 32) k ≡ false) (sym long_d) e)) in
+            record {
+              extent = x;
+              found = b.extent;
+              resized = record {
+                live = subst (LaysOut current new.bytes) live_new (lays_out new says_new (subst (λ (hs : List Gap). IsTreeOf (bytes_of new.bytes) 24 (payloads (sorted_gaps hs))) (sym gs) tree_new));
+                keeps = keeps_new;
+                still = still_new;
+              };
+            }
+
+        pub rest_gap : Gap
+        rest_gap = gap_of (free_tile (s.tile'.offset + wanted) (s.tile'.len + j - wanted))
+
+        pub rest_node : at + wanted + 16 ≡ node_of rest_gap
+        unfolding rest_gap
+        rest_node = let e = begins_d in omega arith
+
+        pub fronts : List Gap
+        fronts = gaps_of s.front'
+
+        pub backs : List Gap
+        backs = gaps_of (rest_of s.back')
+
+        pub c_lacks : nat_le (wanted + 32) (b.tile.len + gap_after (live_of w.bytes) (extent_of b.tile b.role)) ≡ true → LacksOne new fronts rest_gap backs
+        unfolding rest_gap fronts backs
+        c_lacks e =
+            record {
+              said = says_new.said;
+              merged = Apart-is_merged false (tiles_in new) says_new.apart;
+              gaps = gaps_new ∙ ap (λ (ts : List Tile). gaps_of s.front' ++ (gaps_of ts ++ gaps_of (rest_of s.back'))) ((t_cuts d says_d at s.front' s.tile' s.back' b.role s.list used_d begins_d wanted).splits (subst (λ k. nat_le (wanted + 32) k ≡ true) (sym long_d) e));
+              tree = tree_new;
+            }
+
+        pub c_few : length (fronts ++ backs) ≤ length (gaps_in w)
+        unfolding fronts backs
+        c_few =
+            let few = tree_d.some.few in
+            let same : length (gaps_in d) ≡ length (gaps_in w) = ap (λ (hs : List Gap). length hs) (same_gaps (tiles_in w) (tiles_in d) r.tiles) in
+            omega arith
+
+        module _ (e : Cut) (planted : HasTree e (fronts ++ (rest_gap ∷ backs))) (regrown : Regrown new e) (split : nat_le (wanted + 32) (b.tile.len + gap_after (live_of w.bytes) (extent_of b.tile b.role)) ≡ true) where
+          says_e : SaysHeap e (tiles_in e)
+          says_e = tree_says e (fronts ++ (rest_gap ∷ backs)) planted
+
+          gaps_e : gaps_in e ≡ fronts ++ (rest_gap ∷ backs)
+          gaps_e = same_gaps (tiles_in new) (tiles_in e) regrown.tiles ∙ (c_lacks split).gaps
+
+          pub c_split : IsCut current w e (at + 16) wanted
+          c_split =
+              let last = subst (λ (l : LiveSet). Keeps new e l.extents) live_new (regrown_keeps new e says_new.said says_e.said regrown) in
+              let keep_last = keeps-insert new e y (others (handle x) (live_of w.bytes).extents) last in
+              let l = long_d in
+              let whole = subst (λ (z : Extent). SameBlock (bytes_of new.bytes) (bytes_of e.bytes) z) y_is
+              (regrown_block new e says_new.said says_e.said regrown (record s.tile' { len = share (s.tile'.len + j) wanted })
+              (t_in d says_d at s.front' s.tile' s.back' b.role s.list used_d begins_d wanted mid join join_same new cut cut_same) b.role used_d) in
+              let third = front_block (bytes_of new.bytes) (bytes_of e.bytes) y (min b.tile.len (share (b.tile.len + gap_after (live_of w.bytes) (extent_of b.tile b.role)) wanted)) (omega arith) whole in
+              record {
+                extent = x;
+                found = b.extent;
+                resized = record {
+                  live = subst (LaysOut current e.bytes) (regrown_live new e regrown ∙ live_new)
+                      (lays_out e says_e (subst (λ (hs : List Gap). IsTreeOf (bytes_of e.bytes) 24 (payloads (sorted_gaps hs))) (sym gaps_e) planted.tree));
+                  keeps = keeps-trans w new e (others (handle x) (live_of w.bytes).extents) keeps_new keep_last;
+                  still = SameBlock-trans (bytes_of w.bytes) (bytes_of new.bytes) (bytes_of e.bytes) both still_new third;
+                };
+              }

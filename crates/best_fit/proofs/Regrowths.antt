@@ -1,0 +1,167 @@
+-- What stays where only links and colours of gaps, and word 24, change.
+use Rattle.std.proofs.Common.{◌≡◌, refl, sym, ap, subst, ◌∙◌, ℕ, ◌+◌, ◌-◌, ◌%◌, ◌<◌, ◌≤◌, ◌⊎◌, inl, inr, Bool, true, false, ◌&&◌, not, List, [], ◌∷◌, ◌++◌, length, arith, nat_lt, nat_le}
+use Rattle.std.specs.Prelude.{Some, map}
+use Rattle.std.specs.List.{AllByRecursion, cons_option}
+use Rattle.std.proofs.lemmas.Bool.{and_from, or_left, or_right, le-leb, lt-ltb}
+use Rattle.raw_region.specs.Memory.{Cut, bytes_of, word_at}
+use Rattle.block_tags.specs.declared.tile.Role.{Role}
+use Rattle.block_tags.specs.declared.tile.Tile.{Tile}
+use Rattle.raw_region.specs.Format.{current}
+use Rattle.block_tags.specs.Lists.{tile_in}
+use Rattle.block_tags.specs.Tiles.{is_free}
+use Rattle.block_tags.specs.Windows.{SaysTiles, SameBesideTags}
+use Rattle.offset_link.specs.Link.{target_of}
+use Rattle.best_fit.specs.Extents.{Extent, Gap}
+use Rattle.best_fit.specs.FreeTree.{cells_of}
+use Rattle.best_fit.specs.GapNodes.{lies_in_block, plain, tiles_in}
+use Rattle.best_fit.specs.GapLaws.{is_good-Good}
+use Rattle.best_fit.specs.GapTrees.{HasTree, Regrown}
+use Rattle.best_fit.specs.Heap.{Keeps, SameBlock, as_extent, live_of}
+use Rattle.best_fit.proofs.Frames.{read-same, word_at-read}
+use Rattle.best_fit.proofs.GapFacts.{apart_of, said_of, tile_colour}
+use Rattle.best_fit.proofs.GapSetters.{cell_stays}
+use Rattle.best_fit.proofs.Laid.{SaysHeap, said_row}
+use Rattle.best_fit.proofs.Rows.{Row, extents_of, extent_of, extents_of-free, extents_of-used, unused, used, use_cases, used-not_free}
+use Rattle.best_fit.proofs.Steps.{In, inside, tag_in}
+
+-- a window with a tree says its tiles
+pub tree_says : (c : Cut) (hs : List Gap) → HasTree c hs → SaysHeap c (tiles_in c)
+tree_says c hs h = let g = is_good-Good c h.good in record { said = said_of c g; apart = apart_of c g }
+
+extents-plain : (ts : List Tile) → extents_of (map plain ts) ≡ extents_of ts
+extents-plain [] = refl
+extents-plain (t ∷ ts) = ap (cons_option (as_extent t)) (extents-plain ts)
+
+pub same_extents : (ts us : List Tile) → map plain us ≡ map plain ts → extents_of us ≡ extents_of ts
+same_extents ts us e = sym (extents-plain us) ∙ ap extents_of e ∙ extents-plain ts
+
+-- the live set stays
+pub regrown_live : (c d : Cut) → Regrown c d → live_of d.bytes ≡ live_of c.bytes
+unfolding live_of
+regrown_live c d r = let e = same_extents (tiles_in c) (tiles_in d) r.tiles in λ i. record { size = r.size i; extents = e i }
+
+-- ---- the blocks stay
+
+-- a tile in use is as it was
+plain_used : (t : Tile) → is_free t ≡ false → plain t ≡ t
+plain_used t e = let red : (not (is_free t) && t.red) ≡ t.red = ap (λ (b : Bool). not b && t.red) e in λ i. record t { red = red i }
+
+in_plain : (t : Tile) (ts : List Tile) → In t ts → In (plain t) (map plain ts)
+in_plain t [] h = absurd h
+in_plain t (u ∷ us) (inl e) = inl (ap plain e)
+in_plain t (u ∷ us) (inr h) = inr (in_plain t us h)
+
+from_plain : (v : Tile) (ts : List Tile) → In v (map plain ts) → is_free v ≡ false → In v ts
+from_plain v [] h e = absurd h
+from_plain v (u ∷ us) (inl p) e = inl (sym (plain_used u (ap is_free p ∙ e)) ∙ p)
+from_plain v (u ∷ us) (inr h) e = inr (from_plain v us h e)
+
+pub used_stays : (t : Tile) (ts us : List Tile) → map plain us ≡ map plain ts → is_free t ≡ false → In t ts → In t us
+used_stays t ts us e taken h =
+    let plainly = subst (λ (v : Tile). In v (map plain ts)) (plain_used t taken) (in_plain t ts h) in
+    from_plain t us (subst (λ (vs : List Tile). In t vs) (sym e) plainly) taken
+
+in_any : (t : Tile) (ts : List Tile) (k : ℕ) → In t ts → is_free t ≡ false → t.offset + 16 ≤ k → k < t.offset + t.len → lies_in_block ts k ≡ true
+in_any t [] k h e low high = absurd h
+in_any t (u ∷ us) k (inl p) e low high =
+    let P : Tile → Type 0 = λ (v : Tile). (not (is_free v) && nat_le (v.offset + 16) k && nat_lt k (v.offset + v.len)) ≡ true in
+    or_left (not (is_free u) && nat_le (u.offset + 16) k && nat_lt k (u.offset + u.len)) (lies_in_block us k)
+    (subst P (sym p) (and_from (not (is_free t) && nat_le (t.offset + 16) k) (nat_lt k (t.offset + t.len))
+    (and_from (not (is_free t)) (nat_le (t.offset + 16) k) (ap not e) (le-leb (t.offset + 16) k low)) (lt-ltb k (t.offset + t.len) high)))
+in_any t (u ∷ us) k (inr h) e low high =
+    or_right (not (is_free u) && nat_le (u.offset + 16) k && nat_lt k (u.offset + u.len)) (lies_in_block us k) (in_any t us k h e low high)
+
+all_used : (P : Extent → Type 0) (ts : List Tile) → ((t : Tile) → In t ts → (role : Role) → t.use_of ≡ Some role → P (extent_of t role)) → AllByRecursion P (extents_of ts)
+all_used P [] h = tt
+all_used P (t ∷ ts) h =
+    let rest = all_used P ts (λ u i role e. h u (inr i) role e) in
+    elim (use_cases t) [
+      | unused e ↦ subst (AllByRecursion P) (sym (extents_of-free t ts e)) rest
+      | used role e ↦ let both : AllByRecursion P (extent_of t role ∷ extents_of ts) = (h t (inl refl) role e, rest) in subst (AllByRecursion P) (sym (extents_of-used t ts role e)) both
+    ]
+
+module _ (c d : Cut) (said : SaysTiles c (tiles_in c)) (says : SaysTiles d (tiles_in d)) (r : Regrown c d) where
+  row : Row 128 (tiles_in c) (length c.bytes - 16)
+  row = said_row c (tiles_in c) said
+
+  tag : (t : Tile) (role : Role) → In t (tiles_in c) → t.use_of ≡ Some role → word_at (bytes_of d.bytes) (t.offset + 8) ≡ word_at (bytes_of c.bytes) (t.offset + 8)
+  tag t role i e =
+      let used = used-not_free t role e in
+      let j = used_stays t (tiles_in c) (tiles_in d) r.tiles used i in
+      let one = tag_in current (bytes_of c.bytes) 128 0 (tiles_in c) (length c.bytes - 16) t said.tags row i in
+      let two = tag_in current (bytes_of d.bytes) 128 0 (tiles_in d) (length d.bytes - 16) t says.tags (said_row d (tiles_in d) says) j in
+      two.word ∙ sym one.word
+
+  pub regrown_block : (t : Tile) → In t (tiles_in c) → (role : Role) → t.use_of ≡ Some role → SameBlock (bytes_of c.bytes) (bytes_of d.bytes) (extent_of t role)
+  regrown_block t i role e =
+      let used = used-not_free t role e in
+      record {
+        payload = record {
+          at = λ k low high.
+              let j = inside 128 t (tiles_in c) (length c.bytes - 16) k row i low high in let a = j.low in
+              let kept = or_right (nat_lt k 128) (lies_in_block (tiles_in c) k) (in_any t (tiles_in c) k i used low high) in
+              r.bytes k kept (inr (omega arith));
+        };
+        colour = ap (λ w. w % 16) (tag t role i e);
+      }
+
+  header : (k : ℕ) → k < 128 → (k < 24) ⊎ (32 ≤ k) → bytes_of d.bytes k ≡ bytes_of c.bytes k
+  header k l away = r.bytes k (or_left (nat_lt k 128) (lies_in_block (tiles_in c) k) (lt-ltb k 128 l)) away
+
+  pub regrown_keeps : Keeps c d (live_of c.bytes).extents
+  unfolding live_of
+  regrown_keeps =
+      record {
+        place = r.place;
+        front = record { at = λ k low high. header k (omega arith) (inl high) };
+        behind = record { at = λ k low high. header k high (inr low) };
+        blocks = all_used (SameBlock (bytes_of c.bytes) (bytes_of d.bytes)) (tiles_in c) regrown_block;
+      }
+
+-- ---- a list that is split where another is
+
+pub record SplitsAlike (us front : List Tile) (t : Tile) (back : List Tile) : Type 0 where
+  pub front' : List Tile
+  pub tile' : Tile
+  pub back' : List Tile
+  pub list : us ≡ front' ++ (tile' ∷ back')
+  pub fronts : map plain front' ≡ map plain front
+  pub tiles : plain tile' ≡ plain t
+  pub backs : map plain back' ≡ map plain back
+
+empty_not : (x : Tile) (xs : List Tile) → [] ≡ x ∷ xs → ⊥
+empty_not x xs e = let ys : List Tile = [] in let f : ys ≡ x ∷ xs = e in cc
+
+head_same : (x y : Tile) (xs ys : List Tile) → x ∷ xs ≡ y ∷ ys → x ≡ y
+head_same x y xs ys e = cc
+
+tail_same : (x y : Tile) (xs ys : List Tile) → x ∷ xs ≡ y ∷ ys → xs ≡ ys
+tail_same x y xs ys e = cc
+
+pub splits_alike : (us front : List Tile) (t : Tile) (back : List Tile) → map plain us ≡ map plain (front ++ (t ∷ back)) → SplitsAlike us front t back
+splits_alike [] [] t back e = absurd (empty_not (plain t) (map plain back) e)
+splits_alike [] (f ∷ fs) t back e = absurd (empty_not (plain f) (map plain (fs ++ (t ∷ back))) e)
+splits_alike (u ∷ us) [] t back e =
+    record { front' = []; tile' = u; back' = us; list = refl; fronts = refl; tiles = head_same (plain u) (plain t) (map plain us) (map plain back) e; backs = tail_same (plain u) (plain t) (map plain us) (map plain back) e }
+splits_alike (u ∷ us) (f ∷ fs) t back e =
+    let head = head_same (plain u) (plain f) (map plain us) (map plain (fs ++ (t ∷ back))) e in
+    let r = splits_alike us fs t back (tail_same (plain u) (plain f) (map plain us) (map plain (fs ++ (t ∷ back))) e) in
+    let fronts = r.fronts in
+    record { front' = u ∷ r.front'; tile' = r.tile'; back' = r.back'; list = ap (λ (vs : List Tile). u ∷ vs) r.list; fronts = λ i. head i ∷ fronts i; tiles = r.tiles; backs = r.backs }
+
+-- ---- a gap that stands before and afterwards
+
+module _ (old new : Cut) (ts us : List Tile) (said : SaysTiles old ts) (says : SaysTiles new us) (same : SameBesideTags old new ts us) (u : Tile) (m : ℕ) (i : In u ts) (j : In u us) (at : u.offset + 16 ≡ m) (long : 32 ≤ u.len)
+    (here : tile_in ts u.offset ≡ Some u) (there : tile_in us u.offset ≡ Some u) where
+  word_stays : (k : ℕ) → m ≤ k → k + 8 ≤ m + 16 → word_at (bytes_of new.bytes) k ≡ word_at (bytes_of old.bytes) k
+  word_stays k low high =
+      let new_row : Row 128 us (length old.bytes - 16) = subst (λ n. Row 128 us (n - 16)) same.size (said_row new us says) in
+      word_at-read (bytes_of old.bytes) (bytes_of new.bytes) k (read-same (bytes_of old.bytes) (bytes_of new.bytes) k 8 (λ l a b.
+      let p = inside 128 u ts (length old.bytes - 16) l (said_row old ts said) i (omega arith) (omega arith) in
+      let q = inside 128 u us (length old.bytes - 16) l new_row j (omega arith) (omega arith) in
+      same.bytes l p.beside q.beside p.high))
+
+  pub step_cell : cells_of (bytes_of new.bytes) m ≡ cells_of (bytes_of old.bytes) m
+  step_cell =
+      cell_stays (bytes_of old.bytes) (bytes_of new.bytes) m (ap (target_of m) (word_stays m (omega arith) (omega arith))) (ap (target_of (m + 8)) (word_stays (m + 8) (omega arith) (omega arith)))
+      (tile_colour new us u m says there at ∙ sym (tile_colour old ts u m said here at))

@@ -1,0 +1,76 @@
+-- A tile that is free is taken out of the tree, and any other is not in it.
+use Rattle.std.proofs.Common.{◌≡◌, refl, sym, ap, subst, ◌∙◌, ℕ, ◌+◌, ◌≤◌, true, List, [], ◌∷◌, ◌++◌, length, arith}
+use Rattle.std.specs.Prelude.{Option, Some, None}
+use Rattle.std.proofs.lemmas.Bool.{cond-true, cond-false}
+use Rattle.raw_region.specs.Memory.{Cut}
+use Rattle.block_tags.specs.declared.tile.Tile.{Tile}
+use Rattle.block_tags.specs.Tiles.{is_free}
+use Rattle.link_tree.specs.Nodes.{is_in}
+use Rattle.best_fit.specs.Extents.{Gap}
+use Rattle.best_fit.specs.FreeTree.{payloads}
+use Rattle.best_fit.specs.GapNodes.{gaps_of}
+use Rattle.best_fit.specs.GapLaws.{is_good-Good}
+use Rattle.best_fit.specs.GapTrees.{HasTree, Regrown, gap_offset, of_option, offset_of}
+use Rattle.best_fit.proofs.FreeTrees.{in_here}
+use Rattle.best_fit.proofs.GapFacts.{node_at}
+use Rattle.best_fit.proofs.Rows.{unused, used, use_cases, unused-free, used-not_free, gaps_of-free, gaps_of-used}
+
+no_at : (n : ℕ) → None ≡ Some n → ⊥
+no_at n e = let o : Option ℕ = None in let f : o ≡ Some n = e in cc
+
+some_at : (m n : ℕ) → Some m ≡ Some n → m ≡ n
+some_at m n e = cc
+
+pub record One (gs : List Gap) (at : ℕ) : Type 0 where
+  pub gap : Gap
+  pub list : gs ≡ gap ∷ []
+  pub offset : at ≡ gap.offset
+
+pub one_gap : (gs : List Gap) (at : ℕ) → Some at ≡ offset_of gs → length gs ≤ 1 → One gs at
+one_gap [] at e l = absurd (no_at at (sym e))
+one_gap (g ∷ []) at e l = record { gap = g; list = refl; offset = some_at at g.offset e }
+one_gap (g ∷ h ∷ gs) at e l = absurd (omega arith)
+
+pub no_gaps : (gs : List Gap) → None ≡ offset_of gs → gs ≡ []
+no_gaps [] e = refl
+no_gaps (g ∷ gs) e = absurd (no_at g.offset e)
+
+-- the gaps of a tile, or none
+pub option_offset : (o : Option Tile) → gap_offset o ≡ offset_of (gaps_of (of_option o))
+option_offset None = refl
+option_offset (Some t) =
+    elim (use_cases t) [
+      | unused e ↦ cond-true (is_free t) (Some t.offset) None (unused-free t e) ∙ sym (ap offset_of (gaps_of-free t [] e))
+      | used role e ↦ cond-false (is_free t) (Some t.offset) None (used-not_free t role e) ∙ sym (ap offset_of (gaps_of-used t [] role e))
+    ]
+
+pub option_few : (o : Option Tile) → length (gaps_of (of_option o)) ≤ 1
+option_few None = omega arith
+option_few (Some t) =
+    elim (use_cases t) [
+      | unused e ↦ let n : length (gaps_of (t ∷ [])) ≡ 1 = ap (λ (gs : List Gap). length gs) (gaps_of-free t [] e) in omega arith
+      | used role e ↦ let n : length (gaps_of (t ∷ [])) ≡ 0 = ap (λ (gs : List Gap). length gs) (gaps_of-used t [] role e) in omega arith
+    ]
+
+-- ---- one that is there
+
+module _ (c : Cut) (xs gs ys : List Gap) (at : ℕ) (o : One gs at) (h : HasTree c (xs ++ (gs ++ ys))) where
+  pub one_tree : HasTree c (xs ++ (o.gap ∷ ys))
+  one_tree = subst (λ (ks : List Gap). HasTree c (xs ++ (ks ++ ys))) o.list h
+
+  pub one_listed : is_in (at + 16) (payloads (xs ++ (gs ++ ys))) ≡ true
+  one_listed =
+      subst (λ (ks : List Gap). is_in (at + 16) (payloads (xs ++ (ks ++ ys))) ≡ true) (sym o.list)
+      (subst (λ k. is_in (k + 16) (payloads (xs ++ (o.gap ∷ ys))) ≡ true) (sym o.offset) (in_here xs o.gap ys))
+
+  pub one_small : at + 16 ≤ 1073741824
+  one_small =
+      let d = node_at c (at + 16) (record { good = is_good-Good c h.good; listed = h.some.listed (at + 16) one_listed }) in
+      let long = d.long in let ends = d.ends in let size = d.size in omega arith
+
+pub none_tree : (c : Cut) (xs gs ys : List Gap) → gs ≡ [] → HasTree c (xs ++ (gs ++ ys)) → HasTree c (xs ++ ys)
+none_tree c xs gs ys e h = subst (λ (ks : List Gap). HasTree c (xs ++ (ks ++ ys))) e h
+
+-- what does not change is regrown
+pub regrown-refl : (c : Cut) → Regrown c c
+regrown-refl c = record { place = record { before = refl; after = refl }; size = refl; tiles = refl; bytes = λ k i o. refl }

@@ -1,0 +1,95 @@
+-- The gaps of a window as the nodes of a tree: each is named by its payload, where its two links stand, and its colour is in its tag.
+use Rattle.std.specs.Prelude.{ℕ, ◌+◌, Bool, false, ◌&&◌, ◌||◌, not, Option, Some, None, List, length, map, filter_map, find, ◌==◌, nat_le, nat_lt, if◌then◌else◌}
+use Rattle.std.specs.List.{list_all, list_any}
+use Rattle.raw_region.specs.Memory.{Memory, Cut, bytes_of}
+use Rattle.block_tags.specs.declared.tile.Tile.{Tile}
+use Rattle.raw_region.specs.Format.{current}
+use Rattle.block_tags.specs.Format.{is_legal_size}
+use Rattle.block_tags.specs.Tiles.{has_tags, is_free, tiles_of}
+use Rattle.link_tree.specs.Tree.{Cell}
+use Rattle.link_tree.specs.Nodes.{is_in, leads}
+use Rattle.best_fit.specs.Extents.{Gap}
+use Rattle.best_fit.specs.FreeTree.{cells_of, payloads}
+
+-- the tiles that the tags of a window say
+abbrev pub tiles_in : Cut → List Tile
+tiles_in c = tiles_of (bytes_of c.bytes) (length c.bytes)
+
+-- a free tile is a gap
+abbrev pub gap_of : Tile → Gap
+gap_of t = record { offset = t.offset; len = t.len }
+
+abbrev pub as_gap : Tile → Option Gap
+as_gap t = elim t.use_of [ None ↦ Some (gap_of t) | Some role ↦ None ]
+
+-- the gaps among tiles
+abbrev pub gaps_of : List Tile → List Gap
+gaps_of ts = filter_map as_gap ts
+
+abbrev pub gaps_in : Cut → List Gap
+gaps_in c = gaps_of (tiles_in c)
+
+-- the length of the gap that has this payload, or 0
+abbrev pub len_in : List Gap → ℕ → ℕ
+len_in gs n = elim (find (λ (g : Gap). g.offset + 16 == n) gs) [ None ↦ 0 | Some g ↦ g.len ]
+
+-- by length, and then by offset
+abbrev pub comes_before : List Gap → ℕ → ℕ → Bool
+comes_before gs a b = nat_lt (len_in gs a) (len_in gs b) || ((len_in gs a == len_in gs b) && nat_lt a b)
+
+abbrev pub is_too_short : List Gap → ℕ → ℕ → Bool
+is_too_short gs wanted n = nat_lt (len_in gs n) wanted
+
+-- both links of a node lead to nodes, or nowhere
+abbrev pub links_among : Memory → List ℕ → ℕ → Bool
+links_among m ns n = leads (λ k. is_in k ns) (cells_of m n).left && leads (λ k. is_in k ns) (cells_of m n).right
+
+abbrev pub has_links : Cut → Bool
+has_links c = list_all (links_among (bytes_of c.bytes) (payloads (gaps_in c))) (payloads (gaps_in c))
+
+-- good tags, and the links of all gaps lead to gaps
+abbrev pub is_good : Cut → Bool
+is_good c = is_legal_size (length c.bytes) && has_tags current (bytes_of c.bytes) (length c.bytes) && has_links c
+
+-- where tags and links are good, the gaps are the nodes
+unfoldable pub is_gap_node : Cut → ℕ → Bool
+is_gap_node c n = is_good c && is_in n (payloads (gaps_in c))
+
+abbrev pub no_cell : Cell
+no_cell = record { left = None; right = None; red = false }
+
+unfoldable pub gap_cells : Cut → ℕ → Cell
+unfolding is_gap_node
+gap_cells c n = if is_good c && is_in n (payloads (gaps_in c)) then cells_of (bytes_of c.bytes) n else no_cell
+
+-- ---- what no change of links and colours of gaps changes
+
+-- a tile, black where it is free
+abbrev pub plain : Tile → Tile
+plain t = record t { red = not (is_free t) && t.red }
+
+-- the byte lies in the payload of a block in use
+abbrev pub lies_in_block : List Tile → ℕ → Bool
+lies_in_block ts k = list_any (λ (t : Tile). not (is_free t) && nat_le (t.offset + 16) k && nat_lt k (t.offset + t.len)) ts
+
+-- the byte lies in the header or in the payload of a block in use
+abbrev pub is_kept : List Tile → ℕ → Bool
+is_kept ts k = nat_lt k 128 || lies_in_block ts k
+
+-- what lies round the window, its tiles but for the colours of the free ones, the header and the payloads of blocks
+pub record Kept : Type 0 where
+  pub before : List ℕ
+  pub after : List ℕ
+  pub size : ℕ
+  pub tiles : List Tile
+  pub byte : ℕ → ℕ
+
+unfoldable pub kept_of : Cut → Kept
+kept_of c =
+    record {
+      before = c.before;
+      after = c.after;
+      size = length c.bytes;
+      tiles = map plain (tiles_in c);
+      byte = λ k. if is_kept (tiles_in c) k then bytes_of c.bytes k else 0;
+    }

@@ -1,0 +1,85 @@
+-- Trees of gaps while a heap changes: the tree at word 24 has some of the gaps, and nothing else changes.
+use Rattle.std.specs.Prelude.{◌≡◌, ℕ, ◌+◌, ◌≤◌, ◌<◌, ◌⊎◌, Bool, true, Option, Some, None, if◌then◌else◌, List, [], ◌∷◌, ◌++◌, length, map, IsTrue, nat_le}
+use Rattle.std.specs.List.{AllByRecursion}
+use Rattle.raw_region.specs.Memory.{Cut, SamePlace, bytes_of}
+use Rattle.block_tags.specs.declared.tile.Tile.{Tile}
+use Rattle.block_tags.specs.Tiles.{is_free, is_merged}
+use Rattle.block_tags.specs.Windows.{SaysTiles}
+use Rattle.link_tree.specs.Nodes.{is_in}
+use Rattle.best_fit.specs.Extents.{Gap}
+use Rattle.best_fit.specs.FreeTree.{IsTreeOf, payloads, sorted_gaps}
+use Rattle.best_fit.specs.GapNodes.{gaps_in, gaps_of, is_good, is_kept, len_in, plain, tiles_in}
+
+-- the name of a gap as a node
+abbrev pub node_of : Gap → ℕ
+node_of g = g.offset + 16
+
+abbrev pub is_long : ℕ → Gap → Bool
+is_long wanted g = nat_le wanted g.len
+
+-- the lengths that are looked up are those of the gaps
+abbrev pub Fits : List Gap → List Gap → Type 0
+Fits gs hs = AllByRecursion (λ (h : Gap). len_in gs (h.offset + 16) ≡ h.len) hs
+
+-- gaps in order of offset, from a place on
+abbrev pub Rises : ℕ → List Gap → Type 0
+Rises at [] = Unit {0}
+Rises at (h ∷ hs) = (at ≤ h.offset) × Rises (h.offset + 1) hs
+
+-- some of the gaps, in order of offset
+pub record AreSome (gs hs : List Gap) : Type 0 where
+  pub fits : Fits gs hs
+  pub rises : Rises 0 hs
+  pub listed : (n : ℕ) → is_in n (payloads hs) ≡ true → is_in n (payloads gs) ≡ true
+  pub few : length hs ≤ length gs
+
+-- good tags and links, and a tree of some of the gaps
+pub record HasTree (c : Cut) (hs : List Gap) : Type 0 where
+  pub good : IsTrue (is_good c)
+  pub some : AreSome (gaps_in c) hs
+  pub tree : IsTreeOf (bytes_of c.bytes) 24 (payloads (sorted_gaps hs))
+
+-- good tags, and a tree of all gaps but one, whose links may be anything
+pub record LacksOne (c : Cut) (xs : List Gap) (g : Gap) (ys : List Gap) : Type 0 where
+  pub said : SaysTiles c (tiles_in c)
+  pub merged : IsTrue (is_merged (tiles_in c))
+  pub gaps : gaps_in c ≡ xs ++ (g ∷ ys)
+  pub tree : IsTreeOf (bytes_of c.bytes) 24 (payloads (sorted_gaps (xs ++ ys)))
+
+-- nothing changes but word 24, and the bytes and the colours of gaps
+pub record Regrown (old new : Cut) : Type 0 where
+  pub place : SamePlace old new
+  pub size : length new.bytes ≡ length old.bytes
+  pub tiles : map plain (tiles_in new) ≡ map plain (tiles_in old)
+  pub bytes : (k : ℕ) → is_kept (tiles_in old) k ≡ true → (k < 24) ⊎ (32 ≤ k) → bytes_of new.bytes k ≡ bytes_of old.bytes k
+
+-- a gap that is not in the tree, in which all others are
+pub record OutOfTree (c : Cut) (at len : ℕ) : Type 0 where
+  pub front : List Tile
+  pub tile : Tile
+  pub back : List Tile
+  pub list : tiles_in c ≡ front ++ (tile ∷ back)
+  pub free : tile.use_of ≡ None
+  pub offset : tile.offset ≡ at
+  pub len_is : tile.len ≡ len
+  pub tree : HasTree c (gaps_of front ++ gaps_of back)
+
+-- a tile, or none
+abbrev pub of_option : Option Tile → List Tile
+of_option None = []
+of_option (Some t) = t ∷ []
+
+-- where a tile begins with the free one before it
+abbrev pub start_of : Option Tile → ℕ → ℕ
+start_of None at = at
+start_of (Some t) at = if is_free t then t.offset else at
+
+-- where a tile begins that is free
+abbrev pub gap_offset : Option Tile → Option ℕ
+gap_offset None = None
+gap_offset (Some t) = if is_free t then Some t.offset else None
+
+-- where the first gap begins
+abbrev pub offset_of : List Gap → Option ℕ
+offset_of [] = None
+offset_of (g ∷ gs) = Some g.offset

@@ -1,0 +1,17 @@
+use Rattle.std.proofs.Common.{◌≡◌, true, List}
+use Rattle.std.specs.List.{list_all}
+use Rattle.raw_region.specs.Memory.{bytes_of}
+use Rattle.link_tree.specs.Tree.{Tree, IsSearchTree, nodes_of}
+use Rattle.block_tags.specs.declared.tile.Tile.{Tile}
+use Rattle.image_check.specs.FreeNodes.{is_planted, place_cells, stands_before}
+use Rattle.image_check.proofs.WalkedTiles.{Walks, left_from}
+use Rattle.image_check.proofs.free_tree.are_planted.Given as goal
+
+-- all tiles that the walk has passed are planted in each tree at the root
+abbrev pub invariant-tiles : goal.invariant-tiles
+invariant-tiles l =
+    (t : Tree) → IsSearchTree (stands_before (bytes_of l.places.window.now.bytes)) (place_cells l.places.window.now) l.root t
+    → Walks l.places.window.now (λ (ts : List Tile). list_all (is_planted l.places.window.now (nodes_of t)) ts ≡ true) l.tile
+
+abbrev pub decreases-tiles : goal.decreases-tiles
+decreases-tiles l = left_from l.places.window.now l.tile

@@ -1,0 +1,50 @@
+-- The places of a window where a payload may begin, as the nodes of a tree whose links nobody vouches for.
+use Rattle.std.specs.Prelude.{ℕ, ◌+◌, ◌-◌, ◌*◌, ◌/◌, Bool, true, ◌&&◌, not, Option, Some, None, List, length, if◌then◌else◌}
+use Rattle.raw_region.specs.Memory.{Memory, Cut, bytes_of, word_at}
+use Rattle.offset_link.specs.Link.{is_handle_place, link_at}
+use Rattle.offset_link.specs.Relinked.{is_bad}
+use Rattle.link_tree.specs.Tree.{Cell}
+use Rattle.link_tree.specs.Nodes.{is_in}
+use Rattle.block_tags.specs.declared.tile.Tile.{Tile}
+use Rattle.block_tags.specs.Format.{is_legal_size}
+use Rattle.block_tags.specs.Tiles.{is_free}
+use Rattle.best_fit.specs.FreeTree.{is_red}
+use Rattle.best_fit.specs.GapLaws.{comes}
+
+-- a place where a payload may begin
+unfoldable pub is_place : Cut → ℕ → Bool
+is_place c n = is_legal_size (length c.bytes) && is_handle_place (length c.bytes) n
+
+-- where a link leads: nowhere, where that is no such place
+unfoldable pub placed : ℕ → Option ℕ → Option ℕ
+placed size None = None
+placed size (Some n) = if is_handle_place size n then Some n else None
+
+unfoldable pub place_cells : Cut → ℕ → Cell
+unfolding placed
+place_cells c n =
+    record {
+      left = placed (length c.bytes) (link_at (bytes_of c.bytes) n);
+      right = placed (length c.bytes) (link_at (bytes_of c.bytes) (n + 8));
+      red = is_red (bytes_of c.bytes) n;
+    }
+
+-- the length that the tag in front of a payload says
+abbrev pub len_at : Memory → ℕ → ℕ
+len_at m n = word_at m (n - 8) / 16 * 16
+
+-- by length, and then by offset
+abbrev pub stands_before : Memory → ℕ → ℕ → Bool
+stands_before m a b = comes (len_at m a) a (len_at m b) b
+
+-- before a node of this length at this place
+abbrev pub is_before : Memory → ℕ → ℕ → ℕ → Bool
+is_before m len node n = comes (len_at m n) n len node
+
+-- both links of a node are null or lead to such places
+abbrev pub has_good_links : Cut → ℕ → Bool
+has_good_links c n = not (is_bad (length c.bytes) (link_at (bytes_of c.bytes) n)) && not (is_bad (length c.bytes) (link_at (bytes_of c.bytes) (n + 8)))
+
+-- a tile that is free is one of these nodes, and its links are good
+abbrev pub is_planted : Cut → List ℕ → Tile → Bool
+is_planted c ns t = if is_free t then is_in (t.offset + 16) ns && has_good_links c (t.offset + 16) else true

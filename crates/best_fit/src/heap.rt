@@ -230,6 +230,7 @@ impl Heap {
     /// `NoSpace` where no gap is long enough, as for each `n` above 1073741824. Nothing changes.
     pub fn allocate(&mut self, n: u64, role: Role, steps: &mut Steps) -> Result<u64, NoSpace>
         ensures answer { Allocates current self.old self.new n role result }
+        ensures counted { steps.old ≤ steps.new }
         ensures steps { steps.new ≤ steps.old + 128 * bits (length (gaps_of_live (live_of self.old.bytes)) + 1) + 128 }
     {
         let mut touches = Touches::new(&mut self.gaps);
@@ -242,6 +243,7 @@ impl Heap {
     pub fn deallocate(&mut self, handle: u64, steps: &mut Steps)
         requires { IsTrue (is_live_in (live_of self.old.bytes) handle) }
         ensures released { IsReleased current self.old self.new handle }
+        ensures counted { steps.old ≤ steps.new }
         ensures steps { steps.new ≤ steps.old + 128 * bits (length (gaps_of_live (live_of self.old.bytes)) + 1) + 128 }
     {
         let mut touches = Touches::new(&mut self.gaps);
@@ -255,6 +257,7 @@ impl Heap {
     pub fn try_extend(&mut self, handle: u64, n: u64, steps: &mut Steps) -> bool
         requires { IsTrue (is_live_in (live_of self.old.bytes) handle) }
         ensures extended { IsExtended current self.old self.new handle n result }
+        ensures counted { steps.old ≤ steps.new }
         ensures steps { steps.new ≤ steps.old + 128 * bits (length (gaps_of_live (live_of self.old.bytes)) + 1) + 128 }
     {
         let mut touches = Touches::new(&mut self.gaps);
@@ -268,6 +271,7 @@ impl Heap {
     pub fn shrink_in_place(&mut self, handle: u64, n: u64, steps: &mut Steps)
         requires { IsTrue (is_live_in (live_of self.old.bytes) handle) }
         ensures shortened { IsShortened current self.old self.new handle n }
+        ensures counted { steps.old ≤ steps.new }
         ensures steps { steps.new ≤ steps.old + 128 * bits (length (gaps_of_live (live_of self.old.bytes)) + 1) + 128 }
     {
         let mut touches = Touches::new(&mut self.gaps);

@@ -1,5 +1,5 @@
 #!/usr/bin/env bash
-# How long the program takes to make anonymous numbers and to destroy them in another order. Run it at the top of the
+# How long the program takes to make anonymous numbers, to list their blocks, and to destroy them in another order. Run it at the top of the
 # repository, once `rt run` has built crates/segment/out/segment; it writes into a folder of its own, which it removes.
 set -euo pipefail
 cd "$(dirname "$0")/.."
@@ -36,4 +36,9 @@ for n in 5000 10000 20000 100000; do
   size=$(((144 + 48 * n + 64 + 15) / 16 * 16))
   { constructs "$n"; destroys "$n"; } > "$room/script"
   timed "$n constructs, destroyed in random order" "$size" "$room/script"
+done
+for n in 5000 10000 20000 100000; do
+  size=$(((144 + 48 * n + 64 + 15) / 16 * 16))
+  { constructs "$n"; echo blocks; } > "$room/script"
+  timed "$n constructs, and their blocks listed" "$size" "$room/script"
 done

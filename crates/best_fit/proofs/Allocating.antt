@@ -10,8 +10,10 @@ use Rattle.raw_region.specs.Format.{current}
 use Rattle.block_tags.specs.Tiles.{has_tags}
 use Rattle.block_tags.specs.Windows.{SaysTiles}
 use Rattle.std.specs.Int.Digits.{digits_of}
+use Rattle.std.proofs.lemmas.Option.{same_Some}
 use Rattle.link_tree.specs.Tree.{bits, nodes_of}
 use Rattle.link_tree.specs.Nodes.{is_in, leads}
+use Rattle.link_tree.proofs.Laws.{all_from}
 use Rattle.best_fit.specs.Extents.{Extent, Gap, LiveSet, gaps}
 use Rattle.best_fit.specs.Fit.{added, fit, least, place, precedes, room, share}
 use Rattle.best_fit.specs.FreeTree.{IsTreeOf, cells_of, is_red, payloads, sorted_gaps}
@@ -23,13 +25,12 @@ use Rattle.best_fit.proofs.Frames.{keeps-trans}
 use Rattle.best_fit.proofs.FreeTrees.{all_gaps, fits_one, in_here}
 use Rattle.best_fit.proofs.GapFacts.{FreeAt, NodeAt, node_at}
 use Rattle.best_fit.proofs.GapOrder.{in_sorted}
-use Rattle.best_fit.proofs.GapSteps.{all_from, same_gaps}
+use Rattle.best_fit.proofs.GapSteps.{same_gaps}
 use Rattle.best_fit.proofs.Laid.{heap-gaps, heap-says, legal_size, said_row}
-use Rattle.best_fit.proofs.Placed.{gaps_of-append}
 use Rattle.best_fit.proofs.Placing.{room-IsRoom}
 use Rattle.best_fit.proofs.Regrowths.{regrown_keeps, regrown_live, splits_alike}
 use Rattle.best_fit.proofs.Replanting.{closed_more, holds_closed}
-use Rattle.best_fit.proofs.Rows.{Row, unused, used, use_cases, gaps_of-free, gaps_of-used}
+use Rattle.best_fit.proofs.Rows.{Row, unused, used, use_cases, gaps_of-free, gaps_of-used, gaps_of-append}
 use Rattle.best_fit.proofs.Around.{row_reaches}
 use Rattle.best_fit.proofs.Writes.{laid-heap}
 
@@ -44,6 +45,10 @@ pub bits_some : (n : ℕ) → 1 ≤ bits (n + 1)
 bits_some n = omega (arith, length-digits_of_step 2 (n + 1) (omega arith) (omega arith))
 
 -- ---- the tree of a heap
+
+-- its gaps are as many as the window's
+pub heap_bits : (c : Cut) → IsHeap current c.bytes → bits (length (gaps (live_of c.bytes)) + 1) ≡ bits (length (gaps_in c) + 1)
+heap_bits c h = ap (λ (hs : List Gap). bits (length hs + 1)) (heap-gaps c h)
 
 tags_of : (c : Cut) → IsHeap current c.bytes → IsTrue (has_tags current (bytes_of c.bytes) (length c.bytes))
 unfolding live_of
@@ -144,9 +149,6 @@ too_long c n role h l =
 no_node : (n : ℕ) → None ≡ Some n → ⊥
 no_node n e = let o : Option ℕ = None in let f : o ≡ Some n = e in cc
 
-some_node : (m n : ℕ) → Some m ≡ Some n → m ≡ n
-some_node m n e = cc
-
 pub record Found (c : Cut) (wanted node : ℕ) : Type 0 where
   pub gap : Gap
   pub least_is : least (filter (is_long wanted) (gaps_in c)) ≡ Some gap
@@ -159,7 +161,7 @@ found_by : (c : Cut) (wanted node : ℕ) → HasTree c (gaps_in c) → (o : Opti
 found_by c wanted node h None e f = absurd (no_node node (sym f))
 found_by c wanted node h (Some g) e f =
     let i = least-IsOf (gaps_in c) wanted g e in
-    let is = some_node node (node_of g) f in
+    let is = same_Some node (node_of g) f in
     let whole = subst (λ (hs : List Gap). AreSome (gaps_in c) hs) i.list h.some in
     record {
       gap = g;

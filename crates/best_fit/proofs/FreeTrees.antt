@@ -4,25 +4,25 @@ use Rattle.std.specs.Prelude.{Option, Some, None, map, if◌then◌else◌}
 use Rattle.std.specs.List.{list_all}
 use Rattle.std.proofs.lemmas.Bool.{cases_Bool, or_cases, or_left, or_right, eqb-true, eq-eqb, cond-true}
 use Rattle.raw_region.specs.Memory.{Cut, SameBut, SamePlace, bytes_of}
+use Rattle.raw_region.proofs.Laws.{SameBut-word}
 use Rattle.block_tags.specs.declared.tile.Tile.{Tile}
 use Rattle.block_tags.specs.Format.{is_legal_size}
 use Rattle.block_tags.specs.Windows.{SaysTiles}
-use Rattle.block_tags.proofs.Lists.{good_tags_say_tiles, tiles_are_read_off}
-use Rattle.block_tags.proofs.Stays.{header_may_change}
+use Rattle.block_tags.proofs.Laws.{good_tags_say_tiles, header_may_change, tiles_are_read_off}
 use Rattle.link_tree.specs.Tree.{Cell, Tree, IsTree, IsSearchTree, nodes_of, rises}
 use Rattle.link_tree.specs.Nodes.{is_in, leads}
-use Rattle.link_tree.proofs.Trees.{tree_same, root_in}
+use Rattle.link_tree.proofs.Laws.{root_in, tree_same, all_from}
 use Rattle.offset_link.specs.Link.{link_at}
+use Rattle.offset_link.proofs.Laws.{SameBut-link}
 use Rattle.best_fit.specs.Extents.{Gap}
 use Rattle.best_fit.specs.FreeTree.{cells_of, insert_gap, payloads, sorted_gaps}
 use Rattle.best_fit.specs.GapNodes.{Kept, comes_before, gap_cells, gap_of, gaps_of, gaps_in, is_gap_node, is_kept, kept_of, len_in, links_among, plain, tiles_in}
 use Rattle.best_fit.specs.GapLaws.{Good, GapNode-is_gap_node, Good-is_good, is_good-Good, links_at, cells_at}
 use Rattle.best_fit.specs.GapTrees.{AreSome, Fits, HasTree, Regrown, Rises}
-use Rattle.best_fit.proofs.Frames.{link_at-beside, word_at-beside}
 use Rattle.best_fit.proofs.GapFacts.{len_in_row, node_at, said_of, apart_of}
 use Rattle.best_fit.proofs.GapOrder.{NoneAt, in_sorted, none_above, sorted-rises}
 use Rattle.best_fit.proofs.GapSetters.{cell_stays}
-use Rattle.best_fit.proofs.GapSteps.{all_from, kept_same}
+use Rattle.best_fit.proofs.GapSteps.{kept_same}
 use Rattle.best_fit.proofs.Laid.{said_row}
 use Rattle.best_fit.proofs.Rows.{Row, unused, used, use_cases, gaps_of-free, gaps_of-used, Apart-is_merged}
 
@@ -55,11 +55,11 @@ root_leads c hs h = by_link (link_at (bytes_of c.bytes) 24) refl
         tree_nodes c hs h n (root_in (cells_of (bytes_of c.bytes)) n h.tree.tree (subst (λ (o : Option ℕ). IsTree (cells_of (bytes_of c.bytes)) o h.tree.tree) e h.tree.linked))
 
 -- as many nodes as gaps
-length-inserted : (g : Gap) (hs : List Gap) → length (insert_gap g hs) ≡ length hs + 1
+pub length-inserted : (g : Gap) (hs : List Gap) → length (insert_gap g hs) ≡ length hs + 1
 length-inserted g [] = omega arith
 length-inserted g (h ∷ hs) = let ih = length-inserted g hs in grind (arith, ih)
 
-length-sorted : (hs : List Gap) → length (payloads (sorted_gaps hs)) ≡ length hs
+pub length-sorted : (hs : List Gap) → length (payloads (sorted_gaps hs)) ≡ length hs
 length-sorted hs = length-map (sorted_gaps hs) ∙ sorts hs
   where
     length-map : (gs : List Gap) → length (payloads gs) ≡ length gs
@@ -198,9 +198,9 @@ module _ (d e : Cut) (hs : List Gap) (t : Tree) (root : Option ℕ) (good : Good
 
   header_cell : (n : ℕ) → 144 ≤ n → cells_of (bytes_of e.bytes) n ≡ cells_of (bytes_of d.bytes) n
   header_cell n l =
-      cell_stays (bytes_of d.bytes) (bytes_of e.bytes) n (link_at-beside (bytes_of d.bytes) (bytes_of e.bytes) 24 8 n same (inr (omega arith)))
-      (link_at-beside (bytes_of d.bytes) (bytes_of e.bytes) 24 8 (n + 8) same (inr (omega arith)))
-      (ap (λ w. w / 2 % 2 == 1) (word_at-beside (bytes_of d.bytes) (bytes_of e.bytes) 24 8 (n - 8) same (inr (omega arith))))
+      cell_stays (bytes_of d.bytes) (bytes_of e.bytes) n (SameBut-link (bytes_of d.bytes) (bytes_of e.bytes) 24 8 n same (inr (omega arith)))
+      (SameBut-link (bytes_of d.bytes) (bytes_of e.bytes) 24 8 (n + 8) same (inr (omega arith)))
+      (ap (λ w. w / 2 % 2 == 1) (SameBut-word (bytes_of d.bytes) (bytes_of e.bytes) 24 8 (n - 8) same (inr (omega arith))))
 
   low : (n : ℕ) → is_in n (payloads (gaps_in d)) ≡ true → 144 ≤ n
   low n i = (node_at d n (record { good = good; listed = i })).low

@@ -2,12 +2,13 @@
 use Rattle.std.proofs.Common.{◌≡◌, refl, sym, ap, subst, ◌∙◌, ℕ, ◌+◌, ◌-◌, ◌/◌, ◌%◌, ◌≤◌, ◌⊎◌, inl, inr, true, false, List, [], ◌∷◌, ◌++◌, length, arith, ◌==◌}
 use Rattle.std.specs.Prelude.{Option, Some, None, find}
 use Rattle.std.proofs.lemmas.Bool.{false≢true, or_cases, or_left, or_right, eqb-true, eq-eqb, ne_eqb, cond-true, cond-false}
+use Rattle.std.proofs.lemmas.Option.{same_Some}
 use Rattle.raw_region.specs.Memory.{Cut, bytes_of, word_at}
 use Rattle.block_tags.specs.declared.tile.Tile.{Tile}
 use Rattle.block_tags.specs.Lists.{tile_in}
 use Rattle.block_tags.specs.Tiles.{tile_at}
 use Rattle.block_tags.specs.Windows.{HasTileAt, SaysTiles}
-use Rattle.block_tags.proofs.Lists.{good_tags_say_tiles, one_tile_at_an_offset, tile_is_read_off, tiles_are_read_off}
+use Rattle.block_tags.proofs.Laws.{good_tags_say_tiles, one_tile_at_an_offset, tile_is_read_off, tiles_are_read_off}
 use Rattle.link_tree.specs.Nodes.{is_in}
 use Rattle.best_fit.specs.Extents.{Gap}
 use Rattle.best_fit.specs.FreeTree.{is_red, payloads}
@@ -189,13 +190,10 @@ node_tile c n at d e =
     let o = d.free_tile.at in let same : d.free_tile.tile.offset ≡ at = omega arith in
     record { tiles = tiles_in c; said = d.said; tile = d.free_tile.tile; stands = subst (λ k. tile_in (tiles_in c) k ≡ Some d.free_tile.tile) same d.stands }
 
-same_tile : (a b : Tile) → Some a ≡ Some b → a ≡ b
-same_tile a b e = cc
-
 pub node_read : (c : Cut) (n at : ℕ) → (d : NodeAt c n) → at + 16 ≡ n → (t : Tile) → ((ts : List Tile) → SaysTiles c ts → tile_in ts at ≡ Some t) → t ≡ d.free_tile.tile
 node_read c n at d e t is =
     let o = d.free_tile.at in let same : d.free_tile.tile.offset ≡ at = omega arith in
-    same_tile t d.free_tile.tile (sym (is (tiles_in c) d.said) ∙ subst (λ k. tile_in (tiles_in c) k ≡ Some d.free_tile.tile) same d.stands)
+    same_Some t d.free_tile.tile (sym (is (tiles_in c) d.said) ∙ subst (λ k. tile_in (tiles_in c) k ≡ Some d.free_tile.tile) same d.stands)
 
 -- its colour is the tile's, and so is its length
 pub tile_colour : (c : Cut) (ts : List Tile) (t : Tile) (n : ℕ) → SaysTiles c ts → tile_in ts t.offset ≡ Some t → t.offset + 16 ≡ n → is_red (bytes_of c.bytes) n ≡ t.red

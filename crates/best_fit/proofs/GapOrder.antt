@@ -5,7 +5,7 @@ use Rattle.std.specs.List.{list_all, AllByRecursion}
 use Rattle.std.proofs.lemmas.Bool.{both_ways, cases_Bool, cases_eq, cases_lt, and_from, or_left, or_right, leb-true, le-leb, eq-eqb, ne_eqb, cond-true, cond-false, cond_both}
 use Rattle.link_tree.specs.Tree.{rises}
 use Rattle.link_tree.specs.Nodes.{first_not, has_place, is_in, put, without}
-use Rattle.link_tree.proofs.Growth.{rises_put}
+use Rattle.link_tree.proofs.Laws.{rises_put, without_none}
 use Rattle.best_fit.specs.Extents.{Gap}
 use Rattle.best_fit.specs.Fit.{least, precedes}
 use Rattle.best_fit.specs.FreeTree.{insert_gap, payloads, sorted_gaps}
@@ -119,17 +119,6 @@ in_sorted n (g ∷ gs) = in_inserted n g (sorted_gaps gs) ∙ ap (λ (b : Bool).
 
 -- ---- one taken out
 
-pub without-none : (n : ℕ) (ns : List ℕ) → is_in n ns ≡ false → without n ns ≡ ns
-without-none n [] e = refl
-without-none n (m ∷ ns) e = by_test (cases_Bool (n == m)) (without-none n ns)
-  where
-    rest : (n == m) ≡ false → is_in n ns ≡ false
-    rest f = sym (ap (λ (b : Bool). b || is_in n ns) f) ∙ e
-
-    by_test : ((n == m) ≡ true) ⊎ ((n == m) ≡ false) → (is_in n ns ≡ false → without n ns ≡ ns) → without n (m ∷ ns) ≡ m ∷ ns
-    by_test (inl t) ih = absurd (both_ways (is_in n (m ∷ ns)) e (or_left (n == m) (is_in n ns) t))
-    by_test (inr f) ih = cond-false (n == m) (without n ns) (m ∷ without n ns) f ∙ ap (λ (ks : List ℕ). m ∷ ks) (ih (rest f))
-
 without_here : (n m : ℕ) (ns : List ℕ) → n ≡ m → without n (m ∷ ns) ≡ without n ns
 without_here n m ns e = cond-true (n == m) (without n ns) (m ∷ without n ns) (eq-eqb n m e)
 
@@ -151,7 +140,7 @@ without-inserted n g [] e out = without_here n (node_of g) [] (sym e)
 without-inserted n g (h ∷ hs) e out =
     let ih = without-inserted n g hs e (out_rest n (node_of h) (payloads hs) out) in
     cond_both (precedes g h) (g ∷ h ∷ hs) (h ∷ insert_gap g hs) (λ ks. without n (payloads ks) ≡ payloads (h ∷ hs))
-    (λ _. without_here n (node_of g) (payloads (h ∷ hs)) (sym e) ∙ without-none n (payloads (h ∷ hs)) out)
+    (λ _. without_here n (node_of g) (payloads (h ∷ hs)) (sym e) ∙ without_none n (payloads (h ∷ hs)) out)
     (λ _. without_past n (node_of h) (payloads (insert_gap g hs)) (out_of n (node_of h) (payloads hs) out) ∙ ap (λ (ks : List ℕ). node_of h ∷ ks) ih)
 
 -- ---- the order of the payloads

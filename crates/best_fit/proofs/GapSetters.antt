@@ -4,23 +4,22 @@ use Rattle.std.specs.Prelude.{Option, Some, None, IfSome, map}
 use Rattle.std.proofs.lemmas.Bool.{and_parts, and_from}
 use Rattle.raw_region.specs.Memory.{Memory, Cut, SameBut, SamePlace, bytes_of, patched, word_at}
 use Rattle.raw_region.specs.Regions.{with_bytes}
-use Rattle.raw_region.proofs.Words.{word_written-SameBut}
+use Rattle.raw_region.proofs.Laws.{word_written-SameBut, Same-word, SameBut-word}
 use Rattle.block_tags.specs.declared.tile.Role.{Role}
 use Rattle.block_tags.specs.declared.tile.Tile.{Tile}
 use Rattle.block_tags.specs.Lists.{IsBesideTags, of_colour, tile_in, with_red_at}
 use Rattle.raw_region.specs.Format.{current}
 use Rattle.block_tags.specs.Tiles.{is_free, may_be_red}
 use Rattle.block_tags.specs.Windows.{MayHaveColour, SaysTiles, SameBesideTags}
-use Rattle.block_tags.proofs.Lists.{one_tile_at_an_offset}
-use Rattle.block_tags.proofs.Stays.{payload_may_change}
+use Rattle.block_tags.proofs.Laws.{one_tile_at_an_offset, payload_may_change}
 use Rattle.link_tree.specs.Tree.{Cell}
 use Rattle.link_tree.specs.Nodes.{is_in, leads, with_left, with_right, with_red}
 use Rattle.offset_link.specs.Link.{link, link_at, link_word, target_of}
+use Rattle.offset_link.proofs.Laws.{SameBut-link}
 use Rattle.best_fit.specs.FreeTree.{cells_of, is_red, payloads}
 use Rattle.best_fit.specs.GapNodes.{gaps_in, gap_cells, is_gap_node, links_among, plain, tiles_in}
 use Rattle.best_fit.specs.GapLaws.{GapNode, is_gap_node-GapNode, links_at}
 use Rattle.best_fit.proofs.Around.{Away, away_front, changed_at-around}
-use Rattle.best_fit.proofs.Frames.{link_at-beside, word_at-beside, word_at-read, read-same}
 use Rattle.best_fit.proofs.GapFacts.{NodeAt, node_at, nodes_apart, node_colour, tile_colour}
 use Rattle.best_fit.proofs.GapSteps.{Changed, one_cell}
 use Rattle.best_fit.proofs.Laid.{said_row}
@@ -37,6 +36,18 @@ pub target_whole : (c : Cut) (to : Option ℕ) → leads (is_gap_node c) to ≡ 
 target_whole c None h = tt
 target_whole c (Some n) h = (node_at c n (is_gap_node-GapNode c n h)).whole
 
+-- the links of a node are words of the window
+pub record LinksFit (c : Cut) (n : ℕ) : Type 0 where
+  pub left_whole : n % 8 ≡ 0
+  pub left_inside : n + 8 ≤ length c.bytes
+  pub right_whole : (n + 8) % 8 ≡ 0
+  pub right_inside : n + 8 + 8 ≤ length c.bytes
+
+pub link_fits : (c : Cut) (n : ℕ) → is_gap_node c n ≡ true → LinksFit c n
+link_fits c n h =
+    let d = node_at c n (is_gap_node-GapNode c n h) in let whole = d.whole in let long = d.long in let ends = d.ends in
+    record { left_whole = omega arith; left_inside = omega arith; right_whole = omega arith; right_inside = omega arith }
+
 -- a link that leads to a node leads to one of the list
 leads_in : (c : Cut) (to : Option ℕ) → leads (is_gap_node c) to ≡ true → leads (λ k. is_in k (payloads (gaps_in c))) to ≡ true
 leads_in c None h = refl
@@ -46,21 +57,21 @@ leads_in c (Some n) h = (is_gap_node-GapNode c n h).listed
 pub cell_stays : (m m' : Memory) (n : ℕ) → link_at m' n ≡ link_at m n → link_at m' (n + 8) ≡ link_at m (n + 8) → is_red m' n ≡ is_red m n → cells_of m' n ≡ cells_of m n
 cell_stays m m' n a b e = λ i. record { left = a i; right = b i; red = e i }
 
--- the fields of a node away from eight bytes that change
-beside_cell : (m m' : Memory) (from n : ℕ) → SameBut m m' from 8 → 144 ≤ n → (n + 16 ≤ from) ⊎ (from + 8 ≤ n - 8) → cells_of m' n ≡ cells_of m n
-beside_cell m m' from n same low apart =
-    cell_stays m m' n (link_at-beside m m' from 8 n same (first apart)) (link_at-beside m m' from 8 (n + 8) same (second apart))
-    (ap (λ w. w / 2 % 2 == 1) (word_at-beside m m' from 8 (n - 8) same (tag apart)))
+-- the fields of a node away from some bytes that change
+pub beside_cell : (m m' : Memory) (from len n : ℕ) → SameBut m m' from len → 144 ≤ n → (n + 16 ≤ from) ⊎ (from + len ≤ n - 8) → cells_of m' n ≡ cells_of m n
+beside_cell m m' from len n same low apart =
+    cell_stays m m' n (SameBut-link m m' from len n same (first apart)) (SameBut-link m m' from len (n + 8) same (second apart))
+    (ap (λ w. w / 2 % 2 == 1) (SameBut-word m m' from len (n - 8) same (tag apart)))
   where
-    first : (n + 16 ≤ from) ⊎ (from + 8 ≤ n - 8) → (n + 8 ≤ from) ⊎ (from + 8 ≤ n)
+    first : (n + 16 ≤ from) ⊎ (from + len ≤ n - 8) → (n + 8 ≤ from) ⊎ (from + len ≤ n)
     first (inl l) = inl (omega arith)
     first (inr l) = inr (omega arith)
 
-    second : (n + 16 ≤ from) ⊎ (from + 8 ≤ n - 8) → (n + 8 + 8 ≤ from) ⊎ (from + 8 ≤ n + 8)
+    second : (n + 16 ≤ from) ⊎ (from + len ≤ n - 8) → (n + 8 + 8 ≤ from) ⊎ (from + len ≤ n + 8)
     second (inl l) = inl (omega arith)
     second (inr l) = inr (omega arith)
 
-    tag : (n + 16 ≤ from) ⊎ (from + 8 ≤ n - 8) → (n - 8 + 8 ≤ from) ⊎ (from + 8 ≤ n - 8)
+    tag : (n + 16 ≤ from) ⊎ (from + len ≤ n - 8) → (n - 8 + 8 ≤ from) ⊎ (from + len ≤ n - 8)
     tag (inl l) = inl (omega arith)
     tag (inr l) = inr l
 
@@ -78,7 +89,7 @@ module _ (c d : Cut) (n from : ℕ) (to : Option ℕ) (g : GapNode c n) (target 
   other_cell : (m : ℕ) → is_in m (payloads (gaps_in c)) ≡ true → (m ≡ n → ⊥) → cells_of (bytes_of d.bytes) m ≡ cells_of (bytes_of c.bytes) m
   other_cell m i o =
       let e = node_at c m (record { good = g.good; listed = i }) in
-      beside_cell (bytes_of c.bytes) (bytes_of d.bytes) from m same e.low (by_case (nodes_apart c n m node e o))
+      beside_cell (bytes_of c.bytes) (bytes_of d.bytes) from 8 m same e.low (by_case (nodes_apart c n m node e o))
     where
       by_case : (m + 32 ≤ n) ⊎ (n + 32 ≤ m) → (m + 16 ≤ from) ⊎ (from + 8 ≤ m - 8)
       by_case (inl l) = inl (omega arith)
@@ -100,14 +111,14 @@ module _ (c d : Cut) (n from : ℕ) (to : Option ℕ) (g : GapNode c n) (target 
 
 -- the colour in the tag stays
 colour_beside : (m m' : Memory) (from n : ℕ) → SameBut m m' from 8 → 144 ≤ n → n ≤ from → is_red m' n ≡ is_red m n
-colour_beside m m' from n same low l = ap (λ w. w / 2 % 2 == 1) (word_at-beside m m' from 8 (n - 8) same (inl (omega arith)))
+colour_beside m m' from n same low l = ap (λ w. w / 2 % 2 == 1) (SameBut-word m m' from 8 (n - 8) same (inl (omega arith)))
 
 module _ (c d : Cut) (n : ℕ) (to : Option ℕ) (g : GapNode c n) (target : leads (is_gap_node c) to ≡ true)
     (set : link_at (bytes_of d.bytes) n ≡ to) (size : length d.bytes ≡ length c.bytes) (place : SamePlace c d) (same : SameBut (bytes_of c.bytes) (bytes_of d.bytes) n 8) where
   left_own : cells_of (bytes_of d.bytes) n ≡ record (cells_of (bytes_of c.bytes) n) { left = to }
   left_own =
       let low = (node_at c n g).low in
-      let right = link_at-beside (bytes_of c.bytes) (bytes_of d.bytes) n 8 (n + 8) same (inr (omega arith)) in
+      let right = SameBut-link (bytes_of c.bytes) (bytes_of d.bytes) n 8 (n + 8) same (inr (omega arith)) in
       let red = colour_beside (bytes_of c.bytes) (bytes_of d.bytes) n n same low (omega arith) in
       λ i. record { left = set i; right = right i; red = red i }
 
@@ -128,7 +139,7 @@ module _ (c d : Cut) (n : ℕ) (to : Option ℕ) (g : GapNode c n) (target : lea
   right_own : cells_of (bytes_of d.bytes) n ≡ record (cells_of (bytes_of c.bytes) n) { right = to }
   right_own =
       let low = (node_at c n g).low in
-      let left = link_at-beside (bytes_of c.bytes) (bytes_of d.bytes) (n + 8) 8 n same (inl (omega arith)) in
+      let left = SameBut-link (bytes_of c.bytes) (bytes_of d.bytes) (n + 8) 8 n same (inl (omega arith)) in
       let red = colour_beside (bytes_of c.bytes) (bytes_of d.bytes) (n + 8) n same low (omega arith) in
       λ i. record { left = left i; right = set i; red = red i }
 
@@ -203,9 +214,11 @@ module _ (c d : Cut) (n at : ℕ) (red : Bool) (g : GapNode c n) (o : at + 16 �
   word_stays : (m k : ℕ) → NodeAt c m → m ≤ k → k + 8 ≤ m + 16 → word_at (bytes_of d.bytes) k ≡ word_at (bytes_of c.bytes) k
   word_stays m k e low high =
       let t = e.free_tile in let p = t.at in let long = e.long in
-      word_at-read (bytes_of c.bytes) (bytes_of d.bytes) k (read-same (bytes_of c.bytes) (bytes_of d.bytes) k 8 (λ j a b.
-      let i = inside 128 t.tile (tiles_in c) (length c.bytes - 16) j e.row e.is_in_list (omega arith) (omega arith) in
-      beside j i.beside i.high))
+      Same-word (bytes_of c.bytes) (bytes_of d.bytes) k (k + 8) k (record {
+        at = λ j a b.
+            let i = inside 128 t.tile (tiles_in c) (length c.bytes - 16) j e.row e.is_in_list (omega arith) (omega arith) in
+            beside j i.beside i.high;
+      }) (omega arith) (omega arith)
 
   left_stays : (m : ℕ) → NodeAt c m → link_at (bytes_of d.bytes) m ≡ link_at (bytes_of c.bytes) m
   left_stays m e = ap (target_of m) (word_stays m m e (omega arith) (omega arith))

@@ -2,16 +2,17 @@
 use Rattle.std.proofs.Common.{◌≡◌, refl, sym, ap, subst, ◌∙◌, ℕ, ◌+◌, ◌-◌, ◌<◌, ◌≤◌, ◌⊎◌, inl, inr, Bool, true, false, ◌&&◌, ◌||◌, not, List, [], ◌∷◌, length, arith, nat_lt, nat_le, ◌==◌, IsTrue}
 use Rattle.std.specs.Prelude.{Option, None, map, if◌then◌else◌}
 use Rattle.std.specs.List.{list_all, cons_option}
-use Rattle.std.proofs.lemmas.Bool.{false≢true, both_ways, cases_Bool, cases_eq, and_parts, and_from, or_cases, or_left, or_right, eq-eqb, ne_eqb, leb-true, ltb-true, cond-true, cond-false}
+use Rattle.std.proofs.lemmas.Bool.{false≢true, both_ways, cases_Bool, cases_eq, and_parts, or_cases, eq-eqb, ne_eqb, leb-true, ltb-true, cond-true, cond-false, not-true}
 use Rattle.raw_region.specs.Memory.{Cut, SamePlace, bytes_of}
 use Rattle.block_tags.specs.declared.tile.Tile.{Tile}
 use Rattle.block_tags.specs.Format.{is_legal_size}
 use Rattle.block_tags.specs.Lists.{IsBesideTags}
 use Rattle.block_tags.specs.Tiles.{is_free, is_merged}
 use Rattle.block_tags.specs.Windows.{SaysTiles}
-use Rattle.block_tags.proofs.Lists.{good_tags_say_tiles, tiles_are_read_off}
+use Rattle.block_tags.proofs.Laws.{good_tags_say_tiles, tiles_are_read_off}
 use Rattle.link_tree.specs.Tree.{Cell}
 use Rattle.link_tree.specs.Nodes.{is_in, leads}
+use Rattle.link_tree.proofs.Laws.{all_from}
 use Rattle.best_fit.specs.Extents.{Gap}
 use Rattle.best_fit.specs.FreeTree.{cells_of, payloads}
 use Rattle.best_fit.specs.GapNodes.{as_gap, comes_before, gap_cells, gaps_of, gaps_in, is_gap_node, is_good, is_kept, is_too_short, kept_of, lies_in_block, links_among, plain, tiles_in}
@@ -58,16 +59,12 @@ record InBlock (ts : List Tile) (k : ℕ) : Type 0 where
   low : tile.offset + 16 ≤ k
   high : k < tile.offset + tile.len
 
-by_not : (b : Bool) → not b ≡ true → b ≡ false
-by_not true h = absurd (false≢true h)
-by_not false h = refl
-
 block_step : (t : Tile) (ts : List Tile) (k : ℕ) → (lies_in_block ts k ≡ true → InBlock ts k)
     → ((not (is_free t) && nat_le (t.offset + 16) k && nat_lt k (t.offset + t.len)) ≡ true) ⊎ (lies_in_block ts k ≡ true) → InBlock (t ∷ ts) k
 block_step t ts k rest (inl e) =
     let two = and_parts (not (is_free t) && nat_le (t.offset + 16) k) (nat_lt k (t.offset + t.len)) e in
     let one = and_parts (not (is_free t)) (nat_le (t.offset + 16) k) two.0 in
-    record { tile = t; listed = inl refl; in_use = by_not (is_free t) one.0; low = leb-true (t.offset + 16) k one.1; high = ltb-true k (t.offset + t.len) two.1 }
+    record { tile = t; listed = inl refl; in_use = not-true (is_free t) one.0; low = leb-true (t.offset + 16) k one.1; high = ltb-true k (t.offset + t.len) two.1 }
 block_step t ts k rest (inr e) = let i = rest e in record { tile = i.tile; listed = inr i.listed; in_use = i.in_use; low = i.low; high = i.high }
 
 in_block : (ts : List Tile) (k : ℕ) → lies_in_block ts k ≡ true → InBlock ts k
@@ -126,11 +123,6 @@ pub record Changed (c d : Cut) (n : ℕ) : Type 0 where
   pub bytes : (k : ℕ) → IsBesideTags (tiles_in c) k → k < length c.bytes - 16 → (k < n) ⊎ (n + 16 ≤ k) → bytes_of d.bytes k ≡ bytes_of c.bytes k
   pub links : links_among (bytes_of d.bytes) (payloads (gaps_in c)) n ≡ true
   pub others : (m : ℕ) → is_in m (payloads (gaps_in c)) ≡ true → (m ≡ n → ⊥) → cells_of (bytes_of d.bytes) m ≡ cells_of (bytes_of c.bytes) m
-
-pub all_from : (p : ℕ → Bool) (ns : List ℕ) → ((n : ℕ) → is_in n ns ≡ true → p n ≡ true) → list_all p ns ≡ true
-all_from p [] h = refl
-all_from p (n ∷ ns) h =
-    and_from (p n) (list_all p ns) (h n (or_left (n == n) (is_in n ns) (eq-eqb n n refl))) (all_from p ns (λ m i. h m (or_right (m == n) (is_in m ns) i)))
 
 module _ (c d : Cut) (n : ℕ) (g : GapNode c n) (h : Changed c d n) where
   node : NodeAt c n

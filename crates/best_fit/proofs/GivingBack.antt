@@ -1,14 +1,14 @@
 -- A block is given back: its free neighbours leave the tree, and the gap that it becomes with them enters it.
-use Rattle.std.proofs.Common.{◌≡◌, refl, sym, ap, subst, ◌∙◌, ℕ, ◌+◌, ◌-◌, ◌≤◌, false, List, [], ◌∷◌, ◌++◌, length, append_assoc, arith}
+use Rattle.std.proofs.Common.{◌≡◌, refl, sym, ap, subst, ◌∙◌, ℕ, ◌+◌, ◌-◌, ◌*◌, ◌≤◌, false, List, [], ◌∷◌, ◌++◌, length, append_assoc, arith}
 use Rattle.std.specs.Prelude.{Option, Some, None, map}
 use Rattle.raw_region.specs.Memory.{Cut, bytes_of}
 use Rattle.block_tags.specs.declared.tile.Tile.{Tile}
 use Rattle.raw_region.specs.Format.{current}
 use Rattle.block_tags.specs.Lists.{first_in, last_in, next_in, previous_in, with_red_at, with_use_at, without_last}
 use Rattle.block_tags.specs.Windows.{HasTileAt, MayBeUsed, MayHaveColour, SaysTiles, SameBesideTags}
-use Rattle.link_tree.specs.Tree.{IsTree}
+use Rattle.link_tree.specs.Tree.{IsTree, bits}
 use Rattle.link_tree.specs.Nodes.{is_in}
-use Rattle.link_tree.proofs.Trees.{tree_same}
+use Rattle.link_tree.proofs.Laws.{tree_same}
 use Rattle.offset_link.specs.Link.{link_at, target_of}
 use Rattle.best_fit.specs.Extents.{Gap, LiveSet}
 use Rattle.best_fit.specs.Fit.{others, released}
@@ -17,18 +17,18 @@ use Rattle.best_fit.specs.GapNodes.{gap_of, gaps_of, gaps_in, plain, tiles_in}
 use Rattle.best_fit.specs.GapTrees.{HasTree, LacksOne, Regrown, node_of, of_option, start_of}
 use Rattle.best_fit.specs.Heap.{IsHeap, IsReleased, Keeps, LaysOut, live_of}
 use Rattle.best_fit.specs.Tiling.{joined_before, joined_free_at}
-use Rattle.best_fit.proofs.Allocating.{heap_tree}
+use Rattle.best_fit.proofs.Allocating.{bits-le, heap_tree}
 use Rattle.best_fit.proofs.Around.{Away, away_front, next_in-around, previous_in-around}
 use Rattle.best_fit.proofs.Frames.{keeps-others, keeps-trans}
 use Rattle.best_fit.proofs.GapOrder.{in_sorted}
 use Rattle.best_fit.proofs.GapSteps.{kept_same, same_gaps}
 use Rattle.best_fit.proofs.Joins.{rest_of}
 use Rattle.best_fit.proofs.Laid.{SaysHeap, heap-says, said_row}
-use Rattle.best_fit.proofs.Placed.{gaps_of-append, lays_out}
+use Rattle.best_fit.proofs.Placed.{lays_out}
 use Rattle.best_fit.proofs.Regrowths.{SplitsAlike, regrown_keeps, regrown_live, splits_alike, tree_says}
-use Rattle.best_fit.proofs.Releases.{colour_may, last_step, left_cell, left_gaps, left_live, left_start, left_word, other_keeps, says4, stands2, stands3, use_may}
-use Rattle.best_fit.proofs.Replanting.{lacking_node}
-use Rattle.best_fit.proofs.Rows.{Apart-is_merged, gaps_of-used}
+use Rattle.best_fit.proofs.Releases.{Freed, colour_may, freed, stands2, stands3, use_may}
+use Rattle.best_fit.proofs.Replanting.{few_bits, lacking_node}
+use Rattle.best_fit.proofs.Rows.{Apart-is_merged, gaps_of-used, gaps_of-append}
 use Rattle.best_fit.proofs.Writes.{Block}
 
 -- ---- lists in parts
@@ -74,6 +74,18 @@ regrown-trans a b c r s =
       bytes = λ k i o. s.bytes k (kept_same (tiles_in a) (tiles_in b) k r.tiles ∙ i) o ∙ r.bytes k i o;
     }
 
+-- What is known before the last step: the gap that the block has become is to be put into the tree of the others, and with it there the
+-- block is given back.
+pub record GivenBack (w four : Cut) (at start : ℕ) : Type 0 where
+  pub front : List Gap
+  pub gap : Gap
+  pub back : List Gap
+  pub node : start + 16 ≡ node_of gap
+  pub lacks : LacksOne four front gap back
+  pub small : start + 16 ≤ 1073741824
+  pub few : length (front ++ back) ≤ length (gaps_in w)
+  pub released : (e : Cut) → HasTree e (front ++ (gap ∷ back)) → Regrown four e → IsReleased current w e (at + 16)
+
 module _ (w : Cut) (at : ℕ) (heap : IsHeap current w.bytes) (b : Block w (at + 16)) where
   begins : b.tile.offset ≡ at
   begins = let e = b.at in omega arith
@@ -114,9 +126,33 @@ module _ (w : Cut) (at : ℕ) (heap : IsHeap current w.bytes) (b : Block w (at +
   pub first_tree : HasTree w ((init ++ last) ++ (first ++ tail))
   first_tree = subst (λ (hs : List Gap). HasTree w hs) all_gaps (heap_tree w heap)
 
-  -- and before the second
-  pub second_tree : (d1 : Cut) → HasTree d1 ((init ++ last) ++ tail) → HasTree d1 (init ++ (last ++ tail))
-  second_tree d1 h = subst (λ (hs : List Gap). HasTree d1 hs) (append_assoc init last tail) h
+  -- the gap behind has left the tree, after this many touches
+  pub record HalfUprooted (d : Cut) (count : ℕ) : Type 0 where
+    pub tree : HasTree d (init ++ (last ++ tail))
+    pub rest : Regrown w d
+    pub steps : count ≤ 32 * bits (length (gaps_in w) + 1) + 34
+
+  pub half_uprooted : (d : Cut) (n count : ℕ) → HasTree d ((init ++ last) ++ tail) → Regrown w d → n ≤ 2 → count ≤ n + 32 * bits (length ((init ++ last) ++ (first ++ tail)) + 1) + 32 → HalfUprooted d count
+  half_uprooted d n count tree rest low high =
+      let few = first_tree.some.few in
+      let b1 = bits-le (length ((init ++ last) ++ (first ++ tail)) + 1) (length (gaps_in w) + 1) (omega arith) in
+      record { tree = subst (λ (hs : List Gap). HasTree d hs) (append_assoc init last tail) tree; rest = rest; steps = omega arith }
+
+  -- and so has the gap before
+  pub record Uprooted (d : Cut) (count : ℕ) : Type 0 where
+    pub tree : HasTree d (init ++ tail)
+    pub rest : Regrown w d
+    pub steps : count ≤ 64 * bits (length (gaps_in w) + 1) + 66
+
+  pub uprooted : (d1 d : Cut) (n count : ℕ) → HalfUprooted d1 n → HasTree d (init ++ tail) → Regrown d1 d → count ≤ n + 32 * bits (length (init ++ (last ++ tail)) + 1) + 32 → Uprooted d count
+  uprooted d1 d n count half tree rest high =
+      let few = half.tree.some.few in let low = half.steps in
+      let same : length (gaps_in d1) ≡ length (gaps_in w) = ap (λ (hs : List Gap). length hs) (same_gaps (tiles_in w) (tiles_in d1) half.rest.tiles) in
+      let b2 = bits-le (length (init ++ (last ++ tail)) + 1) (length (gaps_in w) + 1) (omega arith) in
+      record { tree = tree; rest = regrown-trans w d1 d half.rest rest; steps = omega arith }
+
+  pub few_steps : bits (length (gaps_in w) + 1) ≤ 41
+  few_steps = few_bits w (gaps_in w) (heap_tree w heap)
 
   module _ (d : Cut) (h : HasTree d (init ++ tail)) (r : Regrown w d) where
     s : SplitsAlike (tiles_in d) b.front b.tile b.back
@@ -153,82 +189,71 @@ module _ (w : Cut) (at : ℕ) (heap : IsHeap current w.bytes) (b : Block w (at +
           r_stands3 = stands3 d says_d at s.front' s.tile' s.back' b.role s.list used_d begins_d one paint paint_same two change change_same three join join_same
 
           module _ (four : Cut) (last_join : (ts : List Tile) → SaysTiles three ts → SaysTiles four (joined_before at ts)) (last_same : (ts : List Tile) → SaysTiles three ts → SameBesideTags three four ts (joined_before at ts)) where
-            abbrev whole_d : Tile
-            whole_d = (last_step d says_d at s.front' s.tile' s.back' b.role s.list used_d begins_d one paint paint_same two change change_same three join join_same four last_join last_same).whole
+            f : Freed d four at s.front' s.back'
+            f = freed d says_d at s.front' s.tile' s.back' b.role s.list used_d begins_d one paint paint_same two change change_same three join join_same four last_join last_same
 
-            says_four : SaysHeap four (tiles_in four)
-            says_four = says4 d says_d at s.front' s.tile' s.back' b.role s.list used_d begins_d one paint paint_same two change change_same three join join_same four last_join last_same
-
-            pub new_gap : Gap
-            new_gap = gap_of whole_d
-
-            pub xs : List Gap
+            xs : List Gap
             xs = gaps_of (without_last s.front')
 
-            pub ys : List Gap
+            ys : List Gap
             ys = gaps_of (rest_of s.back')
 
-            pub new_node : start_of (last_in b.front) at + 16 ≡ node_of new_gap
-            unfolding new_gap
-            new_node =
-                let e = left_start d says_d at s.front' s.tile' s.back' b.role s.list used_d begins_d one paint paint_same two change change_same three join join_same four last_join last_same in
-                ap (λ k. k + 16) (sym (e ∙ same_start b.front s.front' at s.fronts))
+            new_node : start_of (last_in b.front) at + 16 ≡ node_of (gap_of f.whole)
+            new_node = ap (λ k. k + 16) (sym (f.start ∙ same_start b.front s.front' at s.fronts))
 
-            pub lacks : LacksOne four xs new_gap ys
-            unfolding new_gap xs ys
+            lacks : LacksOne four xs (gap_of f.whole) ys
+            unfolding xs ys
             lacks =
                 let hs = gaps_of (without_last s.front') ++ gaps_of (rest_of s.back') in
-                let word = left_word d says_d at s.front' s.tile' s.back' b.role s.list used_d begins_d one paint paint_same two change change_same three join join_same four last_join last_same in
-                let root : link_at (bytes_of four.bytes) 24 ≡ link_at (bytes_of d.bytes) 24 = ap (target_of 24) word in
-                let cell = left_cell d says_d at s.front' s.tile' s.back' b.role s.list used_d begins_d one paint paint_same two change change_same three join join_same four last_join last_same in
+                let root : link_at (bytes_of four.bytes) 24 ≡ link_at (bytes_of d.bytes) 24 = ap (target_of 24) f.word in
                 let old = tree_d.tree in
                 record {
-                  said = says_four.said;
-                  merged = Apart-is_merged false (tiles_in four) says_four.apart;
-                  gaps = left_gaps d says_d at s.front' s.tile' s.back' b.role s.list used_d begins_d one paint paint_same two change change_same three join join_same four last_join last_same;
+                  said = f.says.said;
+                  merged = Apart-is_merged false (tiles_in four) f.says.apart;
+                  gaps = f.gaps;
                   tree = record {
                     tree = old.tree;
                     linked = subst (λ (l : Option ℕ). IsTree (cells_of (bytes_of four.bytes)) l old.tree) (sym root)
                         (tree_same (cells_of (bytes_of d.bytes)) (cells_of (bytes_of four.bytes)) (link_at (bytes_of d.bytes) 24) old.tree
-                        (λ m i. cell m (sym (in_sorted m hs) ∙ ap (λ (ns : List ℕ). is_in m ns) (sym old.lists) ∙ i)) old.linked);
+                        (λ m i. f.cell m (sym (in_sorted m hs) ∙ ap (λ (ns : List ℕ). is_in m ns) (sym old.lists) ∙ i)) old.linked);
                     red_black = old.red_black;
                     lists = old.lists;
                   };
                 }
 
-            pub start_small : start_of (last_in b.front) at + 16 ≤ 1073741824
+            start_small : start_of (last_in b.front) at + 16 ≤ 1073741824
             start_small =
-                let n = lacking_node four xs new_gap ys (start_of (last_in b.front) at + 16) new_node lacks in
+                let n = lacking_node four xs (gap_of f.whole) ys (start_of (last_in b.front) at + 16) new_node lacks in
                 let long = n.long in let ends = n.ends in let size = n.size in omega arith
 
-            pub few_left : length (xs ++ ys) ≤ length (gaps_in w)
+            few_left : length (xs ++ ys) ≤ length (gaps_in w)
             unfolding xs ys
             few_left =
                 let few = tree_d.some.few in
                 let same : length (gaps_in d) ≡ length (gaps_in w) = ap (λ (hs : List Gap). length hs) (same_gaps (tiles_in w) (tiles_in d) r.tiles) in
                 omega arith
 
-            module _ (e : Cut) (planted : HasTree e (xs ++ (new_gap ∷ ys))) (regrown : Regrown four e) where
+            module _ (e : Cut) (planted : HasTree e (xs ++ (gap_of f.whole ∷ ys))) (regrown : Regrown four e) where
               says_e : SaysHeap e (tiles_in e)
-              says_e = tree_says e (xs ++ (new_gap ∷ ys)) planted
+              says_e = tree_says e (xs ++ (gap_of f.whole ∷ ys)) planted
 
-              gaps_e : gaps_in e ≡ xs ++ (new_gap ∷ ys)
+              gaps_e : gaps_in e ≡ xs ++ (gap_of f.whole ∷ ys)
               gaps_e = same_gaps (tiles_in four) (tiles_in e) regrown.tiles ∙ lacks.gaps
 
               live_four : live_of four.bytes ≡ released (live_of w.bytes) (at + 16)
-              live_four =
-                  left_live d says_d at s.front' s.tile' s.back' b.role s.list used_d begins_d one paint paint_same two change change_same three join join_same four last_join last_same
-                  ∙ ap (λ (l : LiveSet). released l (at + 16)) (regrown_live w d r)
+              live_four = f.live ∙ ap (λ (l : LiveSet). released l (at + 16)) (regrown_live w d r)
 
-              pub released_block : IsReleased current w e (at + 16)
+              released_block : IsReleased current w e (at + 16)
               released_block =
                   let xs_ = (live_of w.bytes).extents in
                   let first_keeps = keeps-others w d (at + 16) xs_ (regrown_keeps w d (heap-says w heap).said says_d.said r) in
-                  let second_keeps : Keeps d four (others (at + 16) xs_) = subst (λ (l : LiveSet). Keeps d four (others (at + 16) l.extents)) (regrown_live w d r)
-                  (other_keeps d says_d at s.front' s.tile' s.back' b.role s.list used_d begins_d one paint paint_same two change change_same three join join_same four last_join last_same) in
-                  let third_keeps : Keeps four e (others (at + 16) xs_) = subst (λ (l : LiveSet). Keeps four e l.extents) live_four (regrown_keeps four e says_four.said says_e.said regrown) in
+                  let second_keeps : Keeps d four (others (at + 16) xs_) = subst (λ (l : LiveSet). Keeps d four (others (at + 16) l.extents)) (regrown_live w d r) f.keeps in
+                  let third_keeps : Keeps four e (others (at + 16) xs_) = subst (λ (l : LiveSet). Keeps four e l.extents) live_four (regrown_keeps four e f.says.said says_e.said regrown) in
                   record {
                     live = subst (LaysOut current e.bytes) (regrown_live four e regrown ∙ live_four)
                         (lays_out e says_e (subst (λ (hs : List Gap). IsTreeOf (bytes_of e.bytes) 24 (payloads (sorted_gaps hs))) (sym gaps_e) planted.tree));
                     keeps = keeps-trans w four e (others (at + 16) xs_) (keeps-trans w d four (others (at + 16) xs_) first_keeps second_keeps) third_keeps;
                   }
+
+            pub given_back : GivenBack w four at (start_of (last_in b.front) at)
+            given_back = record { front = xs; gap = gap_of f.whole; back = ys; node = new_node; lacks = lacks; small = start_small; few = few_left; released = released_block }

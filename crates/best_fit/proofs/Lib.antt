@@ -1,41 +1,44 @@
-pub mod Allocated
-pub mod Allocating
-pub mod Around
-pub mod Changes
-pub mod Cuts
-pub mod Frames
-pub mod FreeTrees
-pub mod Fresh
-pub mod GapFacts
-pub mod GapOrder
-pub mod GapSetters
-pub mod GapSteps
-pub mod Gaps
-pub mod GivingBack
-pub mod Joins
-pub mod Laid
-pub mod LayOut
-pub mod Lengths
-pub mod Linked
-pub mod Maximal
-pub mod Order
-pub mod Payloads
-pub mod Placed
-pub mod Placing
-pub mod Proper
-pub mod Recolours
-pub mod Recutting
-pub mod Regrowths
-pub mod Releases
-pub mod Replanting
-pub mod Resizes
-pub mod Restoring
-pub mod Rows
-pub mod Steps
-pub mod Sums
-pub mod Takes
-pub mod TwoLent
-pub mod Uprooting
-pub mod Walks
-pub mod Writes
-pub mod Zeros
+mod Allocated
+mod Allocating
+mod Around
+mod Changes
+mod Cuts
+mod Frames
+mod FreeTrees
+mod Fresh
+mod GapFacts
+mod GapOrder
+mod GapSetters
+mod GapSteps
+mod Gaps
+mod GivingBack
+mod Joins
+mod Laid
+mod LayOut
+mod Lengths
+mod Linked
+mod Maximal
+mod NodesStay
+mod Order
+mod Payloads
+mod Placed
+mod Placing
+mod Proper
+mod Recolours
+mod Recutting
+mod Regrowths
+mod Releases
+mod Replanting
+mod Resizes
+mod Restoring
+mod Rows
+mod Steps
+mod Sums
+mod Takes
+mod TwoLent
+mod Uprooting
+mod Walks
+mod Writes
+mod Zeros
+mod Serving
+pub mod Laws

@@ -4,12 +4,13 @@ use Rattle.std.specs.Prelude.{Some, None}
 use Rattle.std.specs.List.{length_refill, refill}
 use Rattle.raw_region.specs.Memory.{Cut, Has, SameBut, bytes_of, part, patched}
 use Rattle.raw_region.specs.Regions.{with_bytes}
-use Rattle.raw_region.proofs.Patches.{length-part, length-patched, refill-all}
-use Rattle.raw_region.proofs.Words.{patched-Has, patched-SameBut, with_bytes-SamePlace}
+use Rattle.raw_region.proofs.Laws.{length-part, length-patched, patched-Has, patched-SameBut, refill-all, with_bytes-SamePlace}
 use Rattle.raw_region.specs.Format.{current}
-use Rattle.block_tags.specs.Windows.{HasTileAt}
+use Rattle.block_tags.specs.declared.tile.Tile.{Tile}
+use Rattle.block_tags.specs.Lists.{tile_in}
+use Rattle.block_tags.specs.Windows.{HasTileAt, SaysTiles}
 use Rattle.best_fit.specs.Heap.{IsChanged, IsHeap, LoansWriteOneBlock, is_live_in, live_of, payload_len, with_payload}
-use Rattle.best_fit.proofs.Writes.{Block, Room, block_tile, live_block, payload_changed}
+use Rattle.best_fit.proofs.Writes.{Block, Room, block_len, block_tile, live_block, payload_changed}
 
 -- a live block of the window that a heap is seen as
 pub record LiveAt (c : Cut) (h : ℕ) : Type 0 where
@@ -24,6 +25,21 @@ live_at v c h e heap live =
     let b = live_block c h heap (subst (λ (u : Cut). IsTrue (is_live_in (live_of u.bytes) h)) e live) in
     let o = b.at in let low = b.low in let long = b.long in let ends = b.inside in
     record { block = b; low = omega arith; tile = block_tile c h (h - 16) b (omega arith); inside = omega arith; long = long }
+
+-- such a block, whose tile was read
+pub record ReadAt (c : Cut) (h len : ℕ) : Type 0 where
+  pub block : Block c h
+  pub low : 144 ≤ h
+  pub payload : len - 16 ≡ block.tile.len - 16
+  pub inside : h + (len - 16) ≤ length c.bytes
+  pub long : 32 ≤ len
+
+pub read_at : (v c : Cut) (h : ℕ) → v ≡ c → IsHeap current c.bytes → IsTrue (is_live_in (live_of v.bytes) h) → (t : Tile) → ((ts : List Tile) → SaysTiles c ts → tile_in ts (h - 16) ≡ Some t) → ReadAt c h t.len
+read_at v c h e heap live t is =
+    let s = live_at v c h e heap live in
+    let low = s.low in let inside = s.inside in let long = s.long in
+    let len = block_len c h (h - 16) s.block (omega arith) t is in
+    record { block = s.block; low = low; payload = ap (λ k. k - 16) len; inside = omega arith; long = omega arith }
 
 pub payload_written : (c : Cut) (h n : ℕ) (ws : List ℕ) → IsHeap current c.bytes → (b : Block c h) → n ≡ b.tile.len - 16
     → IsChanged current c (with_bytes c (patched c.bytes h (refill n (part c.bytes h n) ws))) h n

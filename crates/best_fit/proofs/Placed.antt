@@ -1,29 +1,29 @@
 -- A gap that is not in the tree becomes a block, and what is left of it a gap.
 use Rattle.std.proofs.Common.{◌≡◌, refl, sym, ap, subst, ◌∙◌, ℕ, ◌+◌, ◌-◌, ◌≤◌, inl, inr, Bool, true, false, List, [], ◌∷◌, ◌++◌, length, arith, nat_le, length-append}
 use Rattle.std.specs.Prelude.{Option, Some}
-use Rattle.std.proofs.lemmas.List.Elements.{filter_map-append}
 use Rattle.raw_region.specs.Memory.{Cut, bytes_of}
 use Rattle.block_tags.specs.declared.tile.Role.{Role}
 use Rattle.block_tags.specs.declared.tile.Tile.{Tile}
 use Rattle.raw_region.specs.Format.{current}
+use Rattle.raw_region.proofs.Laws.{Same-word}
 use Rattle.block_tags.specs.Lists.{free_tile, of_colour, tile_in, with_red_at, with_use_at}
 use Rattle.block_tags.specs.Tiles.{is_free}
 use Rattle.block_tags.specs.Windows.{HasTileAt, MayBeUsed, MayHaveColour, SaysTiles, SameBesideTags}
-use Rattle.block_tags.proofs.Lists.{one_tile_at_an_offset, tiles_are_read_off}
+use Rattle.block_tags.proofs.Laws.{one_tile_at_an_offset, tiles_are_read_off}
 use Rattle.link_tree.specs.Tree.{IsTree}
 use Rattle.link_tree.specs.Nodes.{is_in}
-use Rattle.link_tree.proofs.Trees.{tree_same}
+use Rattle.link_tree.proofs.Laws.{tree_same}
 use Rattle.offset_link.specs.Link.{link_at, target_of}
 use Rattle.best_fit.specs.Extents.{Extent, Gap, LiveSet, gaps}
 use Rattle.best_fit.specs.Fit.{added, insert, share}
 use Rattle.best_fit.specs.FreeTree.{IsTreeOf, cells_of, is_red, payloads, sorted_gaps}
-use Rattle.best_fit.specs.GapNodes.{as_gap, gap_of, gaps_of, gaps_in, tiles_in}
+use Rattle.best_fit.specs.GapNodes.{gap_of, gaps_of, gaps_in, tiles_in}
 use Rattle.best_fit.specs.GapLaws.{GapNode, is_good-Good}
-use Rattle.best_fit.specs.GapTrees.{HasTree, LacksOne, OutOfTree, Regrown}
+use Rattle.best_fit.specs.GapTrees.{HasTree, LacksOne, OutOfTree, Regrown, node_of}
 use Rattle.best_fit.specs.Heap.{Keeps, LaysOut, live_of}
 use Rattle.best_fit.specs.Tiling.{cut_at}
 use Rattle.best_fit.proofs.Around.{Away, away_front, changed_at-around}
-use Rattle.best_fit.proofs.Frames.{keeps-insert, keeps-trans, word_at-same}
+use Rattle.best_fit.proofs.Frames.{keeps-insert, keeps-trans}
 use Rattle.best_fit.proofs.GapFacts.{free_at, in_around, listed_at, row_lies, tile_colour}
 use Rattle.best_fit.proofs.GapOrder.{in_sorted}
 use Rattle.best_fit.proofs.GapSetters.{gap_may}
@@ -31,7 +31,7 @@ use Rattle.best_fit.proofs.GapSteps.{same_gaps}
 use Rattle.best_fit.proofs.Joins.{extents_of-append}
 use Rattle.best_fit.proofs.Laid.{SaysHeap, gaps-live_in, legal_size, live_in, said_row, says-LaysOut, says-live}
 use Rattle.best_fit.proofs.Regrowths.{regrown_keeps, regrown_live, step_cell, tree_says, used_stays}
-use Rattle.best_fit.proofs.Rows.{Apart, Apart-is_merged, extents_of, extents_of-free, gaps_of-free, gaps_of-used, used-not_free}
+use Rattle.best_fit.proofs.Rows.{Apart, Apart-is_merged, extents_of, extents_of-free, gaps_of-free, gaps_of-used, used-not_free, gaps_of-append}
 use Rattle.best_fit.proofs.Steps.{In, around_keeps, in_back, step_header}
 use Rattle.best_fit.proofs.Takes.{Taking, taking, taking_fits, taking_stands, taking_used, mid_said, mid_same, new_same, taken_black, taken_header, taken_keeps, taken_says, taken_size, new_extents}
 
@@ -42,9 +42,6 @@ lays_out c says tree =
     let gs : gaps (live_in (length c.bytes) (tiles_in c)) ≡ gaps_in c = gaps-live_in (length c.bytes) (tiles_in c) (said_row c (tiles_in c) says.said) says.apart in
     subst (LaysOut current c.bytes) (sym (says-live c (tiles_in c) says))
     (says-LaysOut c (tiles_in c) says (subst (λ (hs : List Gap). IsTreeOf (bytes_of c.bytes) 24 (payloads (sorted_gaps hs))) (sym gs) tree))
-
-pub gaps_of-append : (ts us : List Tile) → gaps_of (ts ++ us) ≡ gaps_of ts ++ gaps_of us
-gaps_of-append ts us = filter_map-append as_gap ts us
 
 -- a tile between others
 in_widened : (t : Tile) (front mid back : List Tile) → In t (front ++ back) → In t (front ++ (mid ++ back))
@@ -73,6 +70,29 @@ apart_recoloured b (f ∷ fs) t red back a = (a.0, apart_recoloured (is_free f) 
 
 pub extents_recoloured : (front : List Tile) (t : Tile) (red : Bool) (back : List Tile) → extents_of (front ++ (record t { red = red } ∷ back)) ≡ extents_of (front ++ (t ∷ back))
 extents_recoloured front t red back = extents_of-append front (record t { red = red } ∷ back) ∙ sym (extents_of-append front (t ∷ back))
+
+-- the gaps but for one that is not in the tree
+out_count : (c : Cut) (at len : ℕ) → (o : OutOfTree c at len) → length (gaps_in c) ≡ length (gaps_of o.front ++ gaps_of o.back) + 1
+out_count c at len o =
+    let e : gaps_in c ≡ gaps_of o.front ++ (gap_of o.tile ∷ gaps_of o.back) = ap gaps_of o.list ∙ gaps_of-append o.front (o.tile ∷ o.back) ∙ ap (λ (hs : List Gap). gaps_of o.front ++ hs) (gaps_of-free o.tile o.back o.free) in
+    ap length e ∙ omega (arith, length-append (gaps_of o.front) (gap_of o.tile ∷ gaps_of o.back), length-append (gaps_of o.front) (gaps_of o.back))
+
+-- what is known of the heap with the block, once the rest of the gap, if there is one, is in the tree
+pub record Planted (c e : Cut) (at len wanted : ℕ) (role : Role) : Type 0 where
+  pub live : LaysOut current e.bytes (added (live_of c.bytes) (record { offset = at; len = share len wanted; role = role }))
+  pub keeps : Keeps c e (live_of c.bytes).extents
+  pub black : is_red (bytes_of e.bytes) (at + 16) ≡ false
+
+-- What is known once the front of the gap is in use: if it was cut, the rest is to be put into the tree of the others.
+pub record Taken (c new : Cut) (at len wanted : ℕ) (role : Role) (is_cut : Bool) : Type 0 where
+  pub front : List Gap
+  pub gap : Gap
+  pub back : List Gap
+  pub node : at + wanted + 16 ≡ node_of gap
+  pub count : length (gaps_in c) ≡ length (front ++ back) + 1
+  pub lacks : is_cut ≡ true → LacksOne new front gap back
+  pub whole : is_cut ≡ false → Planted c new at len wanted role
+  pub planted : is_cut ≡ true → (e : Cut) → HasTree e (front ++ (gap ∷ back)) → Regrown new e → Planted c e at len wanted role
 
 module _ (c : Cut) (at len : ℕ) (o : OutOfTree c at len) (wanted : ℕ) (role : Role) where
   says_c : SaysHeap c (tiles_in c)
@@ -131,11 +151,11 @@ module _ (c : Cut) (at len : ℕ) (o : OutOfTree c at len) (wanted : ℕ) (role 
     pub cut_stands : HasTileAt c1 at
     cut_stands = subst (λ k. HasTileAt c1 k) o.offset (taking_stands c1 says1 g1 o.front o.back tiles1 o.free refl wanted role)
 
-    pub cut_fits : len ≤ 1073741824
+    cut_fits : len ≤ 1073741824
     cut_fits = let f = taking_fits c1 says1 g1 o.front o.back tiles1 o.free refl wanted role in let e = o.len_is in omega arith
 
     -- whether a rest is left
-    pub cut_tile_stands : (ts : List Tile) → SaysTiles c1 ts → tile_in ts at ≡ Some g1
+    cut_tile_stands : (ts : List Tile) → SaysTiles c1 ts → tile_in ts at ≡ Some g1
     cut_tile_stands ts said =
         ap (λ (us : List Tile). tile_in us at) (sym (tiles_are_read_off c1 ts said) ∙ tiles1)
         ∙ subst (λ k. tile_in (o.front ++ (g1 ∷ o.back)) k ≡ Some g1) o.offset (one_tile_at_an_offset c1 o.front g1 o.back said1)
@@ -175,7 +195,7 @@ module _ (c : Cut) (at len : ℕ) (o : OutOfTree c at len) (wanted : ℕ) (role 
         tiles3 : tiles_in c3 ≡ list3
         tiles3 = tiles_are_read_off c3 list3 says3'.said
 
-        pub says3 : SaysHeap c3 (tiles_in c3)
+        says3 : SaysHeap c3 (tiles_in c3)
         says3 = subst (SaysHeap c3) (sym tiles3) says3'
 
         said2 : SaysTiles c2 (o.front ++ (cut_tile ∷ (t.left ++ o.back)))
@@ -187,16 +207,16 @@ module _ (c : Cut) (at len : ℕ) (o : OutOfTree c at len) (wanted : ℕ) (role 
         same3 : SameBesideTags c2 c3 (o.front ++ (cut_tile ∷ (t.left ++ o.back))) list3
         same3 = new_same c1 says1 g1 o.front o.back tiles1 o.free refl wanted role t c2 cuts' cuts_rest' c3 used' used_rest'
 
-        pub keeps3 : Keeps c c3 (live_of c.bytes).extents
+        keeps3 : Keeps c c3 (live_of c.bytes).extents
         keeps3 =
             keeps-trans c c1 c3 (live_of c.bytes).extents keeps1
             (subst (λ (l : LiveSet). Keeps c1 c3 l.extents) live1 (taken_keeps c1 says1 g1 o.front o.back tiles1 o.free refl wanted role t c2 cuts' cuts_rest' c3 used' used_rest'))
 
-        pub black3 : is_red (bytes_of c3.bytes) (at + 16) ≡ false
+        black3 : is_red (bytes_of c3.bytes) (at + 16) ≡ false
         black3 = subst (λ k. is_red (bytes_of c3.bytes) (k + 16) ≡ false) o.offset (taken_black c1 says1 g1 o.front o.back tiles1 o.free refl wanted role t c2 cuts' cuts_rest' c3 used' used_rest')
 
         -- the live set with the block
-        pub live3 : live_of c3.bytes ≡ added (live_of c.bytes) (record { offset = at; len = share len wanted; role = role })
+        live3 : live_of c3.bytes ≡ added (live_of c.bytes) (record { offset = at; len = share len wanted; role = role })
         unfolding live_of
         live3 =
             let n = taken_size c1 says1 g1 o.front o.back tiles1 o.free refl wanted role t c2 cuts' cuts_rest' c3 used' used_rest' ∙ same1.size in
@@ -230,7 +250,7 @@ module _ (c : Cut) (at len : ℕ) (o : OutOfTree c at len) (wanted : ℕ) (role 
         root3 =
             let h1 = step_header c c1 (o.front ++ (o.tile ∷ o.back)) (o.front ++ (g1 ∷ o.back)) said_c said1 same1 in
             let h3 = taken_header c1 says1 g1 o.front o.back tiles1 o.free refl wanted role t c2 cuts' cuts_rest' c3 used' used_rest' in
-            ap (target_of 24) (word_at-same (bytes_of c1.bytes) (bytes_of c3.bytes) 0 128 24 h3 (omega arith) (omega arith) ∙ word_at-same (bytes_of c.bytes) (bytes_of c1.bytes) 0 128 24 h1 (omega arith) (omega arith))
+            ap (target_of 24) (Same-word (bytes_of c1.bytes) (bytes_of c3.bytes) 0 128 24 h3 (omega arith) (omega arith) ∙ Same-word (bytes_of c.bytes) (bytes_of c1.bytes) 0 128 24 h1 (omega arith) (omega arith))
 
         -- and so does the tree
         tree3 : IsTreeOf (bytes_of c3.bytes) 24 (payloads (sorted_gaps (gaps_of o.front ++ gaps_of o.back)))
@@ -252,7 +272,7 @@ module _ (c : Cut) (at len : ℕ) (o : OutOfTree c at len) (wanted : ℕ) (role 
             ∙ ap (λ (hs : List Gap). gaps_of o.front ++ hs) (gaps_of-used block (t.left ++ o.back) role refl ∙ gaps_of-append t.left o.back)
 
         -- where nothing is left
-        pub kept_whole : nat_le (wanted + 32) g1.len ≡ false → LaysOut current c3.bytes (added (live_of c.bytes) (record { offset = at; len = share len wanted; role = role }))
+        kept_whole : nat_le (wanted + 32) g1.len ≡ false → LaysOut current c3.bytes (added (live_of c.bytes) (record { offset = at; len = share len wanted; role = role }))
         kept_whole e =
             let gs : gaps_in c3 ≡ gaps_of o.front ++ gaps_of o.back = gaps3 ∙ ap (λ (ts : List Tile). gaps_of o.front ++ (gaps_of ts ++ gaps_of o.back)) (t.keeps e) in
             subst (LaysOut current c3.bytes) live3 (lays_out c3 says3 (subst (λ (hs : List Gap). IsTreeOf (bytes_of c3.bytes) 24 (payloads (sorted_gaps hs))) (sym gs) tree3))
@@ -261,7 +281,7 @@ module _ (c : Cut) (at len : ℕ) (o : OutOfTree c at len) (wanted : ℕ) (role 
         rest = free_tile (g1.offset + wanted) (g1.len - wanted)
 
         -- where a gap is left
-        pub rest_lacks : nat_le (wanted + 32) g1.len ≡ true → LacksOne c3 (gaps_of o.front) (gap_of rest) (gaps_of o.back)
+        rest_lacks : nat_le (wanted + 32) g1.len ≡ true → LacksOne c3 (gaps_of o.front) (gap_of rest) (gaps_of o.back)
         rest_lacks e =
             record {
               said = says3.said;
@@ -277,22 +297,38 @@ module _ (c : Cut) (at len : ℕ) (o : OutOfTree c at len) (wanted : ℕ) (role 
           gaps_e : gaps_in e ≡ gaps_of o.front ++ (gap_of rest ∷ gaps_of o.back)
           gaps_e = same_gaps (tiles_in c3) (tiles_in e) regrown.tiles ∙ (rest_lacks split).gaps
 
-          pub planted_live : LaysOut current e.bytes (added (live_of c.bytes) (record { offset = at; len = share len wanted; role = role }))
+          planted_live : LaysOut current e.bytes (added (live_of c.bytes) (record { offset = at; len = share len wanted; role = role }))
           planted_live =
               subst (LaysOut current e.bytes) (regrown_live c3 e regrown ∙ live3)
               (lays_out e says_e (subst (λ (hs : List Gap). IsTreeOf (bytes_of e.bytes) 24 (payloads (sorted_gaps hs))) (sym gaps_e) planted.tree))
 
-          pub planted_keeps : Keeps c e (live_of c.bytes).extents
+          planted_keeps : Keeps c e (live_of c.bytes).extents
           planted_keeps =
               keeps-trans c c3 e (live_of c.bytes).extents keeps3
               (keeps-insert c3 e (record { offset = at; len = share len wanted; role = role }) (live_of c.bytes).extents
               (subst (λ (l : LiveSet). Keeps c3 e l.extents) live3 (regrown_keeps c3 e says3.said says_e.said regrown)))
 
-          pub planted_black : is_red (bytes_of e.bytes) (at + 16) ≡ false
+          planted_black : is_red (bytes_of e.bytes) (at + 16) ≡ false
           planted_black =
               let i3 : In block (tiles_in c3) = subst (λ (us : List Tile). In block us) (sym tiles3) (in_around o.front block (t.left ++ o.back)) in
               let i = used_stays block (tiles_in c3) (tiles_in e) regrown.tiles (used-not_free block role refl) i3 in
               tile_colour e (tiles_in e) block (at + 16) says_e.said (in_stands e (tiles_in e) block says_e.said i) (ap (λ k. k + 16) o.offset)
+
+        pub taken : (is_cut : Bool) → ((ts : List Tile) (u : Tile) → SaysTiles c1 ts → tile_in ts at ≡ Some u → is_cut ≡ nat_le (wanted + 32) u.len) → Taken c c3 at len wanted role is_cut
+        taken is_cut is =
+            let hs = cut_stands in
+            let split : nat_le (wanted + 32) g1.len ≡ is_cut = sym (is hs.tiles g1 hs.said (cut_tile_stands hs.tiles hs.said)) in
+            record {
+              front = gaps_of o.front;
+              gap = gap_of rest;
+              back = gaps_of o.back;
+              node = (let e = o.offset in omega arith);
+              count = out_count c at len o;
+              lacks = λ yes. rest_lacks (split ∙ yes);
+              whole = λ no. record { live = kept_whole (split ∙ no); keeps = keeps3; black = black3 };
+              planted = λ yes e tree regrown.
+                  record { live = planted_live e tree regrown (split ∙ yes); keeps = planted_keeps e tree regrown (split ∙ yes); black = planted_black e tree regrown (split ∙ yes) };
+            }
 
 -- where the gap lies
 pub out_bounds : (c : Cut) (at len : ℕ) → OutOfTree c at len → at + len ≤ 1073741824
@@ -302,8 +338,3 @@ out_bounds c at len o =
     let i : In o.tile (tiles_in c) = subst (λ (us : List Tile). In o.tile us) (sym o.list) (in_around o.front o.tile o.back) in
     let high = (row_lies 128 (tiles_in c) (length c.bytes - 16) o.tile (said_row c (tiles_in c) says.said) i).high in
     let a = o.offset in let b = o.len_is in omega arith
-
-pub out_count : (c : Cut) (at len : ℕ) → (o : OutOfTree c at len) → length (gaps_in c) ≡ length (gaps_of o.front ++ gaps_of o.back) + 1
-out_count c at len o =
-    let e : gaps_in c ≡ gaps_of o.front ++ (gap_of o.tile ∷ gaps_of o.back) = ap gaps_of o.list ∙ gaps_of-append o.front (o.tile ∷ o.back) ∙ ap (λ (hs : List Gap). gaps_of o.front ++ hs) (gaps_of-free o.tile o.back o.free) in
-    ap length e ∙ omega (arith, length-append (gaps_of o.front) (gap_of o.tile ∷ gaps_of o.back), length-append (gaps_of o.front) (gaps_of o.back))

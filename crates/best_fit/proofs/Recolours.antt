@@ -1,23 +1,24 @@
 -- The colour of a block's tile changes.
 use Rattle.std.proofs.Common.{◌≡◌, refl, sym, ap, subst, ◌∙◌, ℕ, ◌+◌, ◌-◌, ◌<◌, ◌≤◌, Bool, true, false, ◌||◌, not, List, [], ◌∷◌, ◌++◌, length, arith, IsTrue}
-use Rattle.std.specs.Prelude.{Option, Some, None}
+use Rattle.std.specs.Prelude.{Option, Some}
 use Rattle.std.specs.List.{AllByRecursion}
+use Rattle.std.proofs.lemmas.Option.{none-some}
 use Rattle.raw_region.specs.Memory.{Cut, Same, bytes_of, word_at}
 use Rattle.block_tags.specs.declared.tile.Role.{Role}
 use Rattle.block_tags.specs.declared.tile.Role.TheVariants.{Node}
 use Rattle.block_tags.specs.declared.tile.Tile.{Tile}
 use Rattle.raw_region.specs.Format.{current}
+use Rattle.raw_region.proofs.Laws.{Same-word}
 use Rattle.block_tags.specs.Lists.{of_colour, tile_in, with_red_at, IsBesideTags}
 use Rattle.block_tags.specs.Tiles.{may_be_red}
 use Rattle.block_tags.specs.Windows.{MayHaveColour, SaysTiles, SameBesideTags}
-use Rattle.block_tags.proofs.Lists.{one_tile_at_an_offset}
+use Rattle.block_tags.proofs.Laws.{one_tile_at_an_offset}
 use Rattle.offset_link.specs.Link.{target_of}
 use Rattle.best_fit.specs.Extents.{Extent, LiveSet, handle, end_of}
 use Rattle.best_fit.specs.Fit.{others}
 use Rattle.best_fit.specs.FreeTree.{IsFreeTree, cells_of, is_red}
 use Rattle.best_fit.specs.Heap.{IsHeap, IsRecoloured, Keeps, LaysOut, live_of}
 use Rattle.best_fit.proofs.Around.{Away, away_front, changed_at-around}
-use Rattle.best_fit.proofs.Frames.{read-same, word_at-read}
 use Rattle.best_fit.proofs.GapFacts.{NodeAt, node_colour, tile_colour}
 use Rattle.best_fit.proofs.GapSetters.{beside_recoloured, cell_stays, tile_in-other}
 use Rattle.best_fit.proofs.Laid.{SaysHeap, heap-says, said_row, says-LaysOut, live_in}
@@ -84,10 +85,7 @@ module _ (c d : Cut) (h at : ℕ) (red : Bool) (heap : IsHeap current c.bytes) (
   gap_word m k n low high =
       let t = n.free_tile in let p = t.at in let long = n.long in
       let here : In t.tile (front ++ (tile ∷ back)) = subst (λ (ts : List Tile). In t.tile ts) b.list n.is_in_list in
-      word_at-read (bytes_of c.bytes) (bytes_of d.bytes) k (read-same (bytes_of c.bytes) (bytes_of d.bytes) k 8 (λ j low' high'. payload_byte t.tile here j (omega arith) (omega arith)))
-
-  none_some : (r : Role) → None ≡ Some r → ⊥
-  none_some r f = let o : Option Role = None in let g : o ≡ Some r = f in cc
+      Same-word (bytes_of c.bytes) (bytes_of d.bytes) k (k + 8) k (record { at = λ j low' high'. payload_byte t.tile here j (omega arith) (omega arith) }) (omega arith) (omega arith)
 
   gap_red : (m : ℕ) → NodeAt c m → is_red (bytes_of d.bytes) m ≡ is_red (bytes_of c.bytes) m
   gap_red m n =
@@ -96,7 +94,7 @@ module _ (c d : Cut) (h at : ℕ) (red : Bool) (heap : IsHeap current c.bytes) (
       let far : tile.offset ≡ u.offset → ⊥ = λ q.
       (let here : Some u ≡ Some tile = sym stands ∙ ap (λ k. tile_in (front ++ (tile ∷ back)) k) (sym q) ∙ b.stands in
       let one : u ≡ tile = cc in
-      none_some b.role (sym n.free_tile.free ∙ ap (λ (t : Tile). t.use_of) one ∙ b.in_use)) in
+      none-some b.role (sym n.free_tile.free ∙ ap (λ (t : Tile). t.use_of) one ∙ b.in_use)) in
       let there = tile_in-other front tile (record tile { red = red }) back u.offset u refl far stands in
       tile_colour d painted u m said there p ∙ sym (node_colour c m n)
 

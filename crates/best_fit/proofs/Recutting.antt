@@ -1,14 +1,15 @@
 -- A block takes the gap behind it, which leaves the tree, and what is cut off enters it.
-use Rattle.std.proofs.Common.{◌≡◌, refl, sym, ap, subst, ◌∙◌, ℕ, ◌+◌, ◌-◌, ◌≤◌, Bool, true, false, List, [], ◌∷◌, ◌++◌, length, arith, nat_le}
+use Rattle.std.proofs.Common.{◌≡◌, refl, sym, ap, subst, ◌∙◌, ℕ, ◌+◌, ◌-◌, ◌*◌, ◌≤◌, Bool, true, false, List, [], ◌∷◌, ◌++◌, length, arith, nat_le}
 use Rattle.std.specs.Prelude.{Option, Some, map, min}
 use Rattle.raw_region.specs.Memory.{Memory, Cut, bytes_of}
 use Rattle.block_tags.specs.declared.tile.Tile.{Tile}
 use Rattle.raw_region.specs.Format.{current}
+use Rattle.raw_region.proofs.Laws.{Same-part}
 use Rattle.block_tags.specs.Lists.{first_in, free_tile, next_in, tile_in}
 use Rattle.block_tags.specs.Windows.{HasTileAt, SaysTiles, SameBesideTags}
-use Rattle.link_tree.specs.Tree.{IsTree}
+use Rattle.link_tree.specs.Tree.{IsTree, bits}
 use Rattle.link_tree.specs.Nodes.{is_in}
-use Rattle.link_tree.proofs.Trees.{tree_same}
+use Rattle.link_tree.proofs.Laws.{tree_same}
 use Rattle.offset_link.specs.Link.{link_at, target_of}
 use Rattle.best_fit.specs.Extents.{Extent, Gap, LiveSet, handle, end_of}
 use Rattle.best_fit.specs.Fit.{gap_after, others, resized, share}
@@ -18,21 +19,22 @@ use Rattle.best_fit.specs.GapTrees.{HasTree, LacksOne, Regrown, node_of, of_opti
 use Rattle.best_fit.specs.Heap.{IsHeap, Keeps, LaysOut, SameBlock, live_of}
 use Rattle.best_fit.specs.Resizes.{IsCut}
 use Rattle.best_fit.specs.Tiling.{cut_at, free_len, joined_free_at}
-use Rattle.best_fit.proofs.Allocating.{heap_tree}
+use Rattle.best_fit.proofs.Allocating.{heap_tree, bits-le}
 use Rattle.best_fit.proofs.Around.{Away, away_front, next_in-around}
-use Rattle.best_fit.proofs.Frames.{Same-part, SameBlock-trans, keeps-insert, keeps-others, keeps-trans}
+use Rattle.best_fit.proofs.Frames.{SameBlock-trans, keeps-insert, keeps-others, keeps-trans}
 use Rattle.best_fit.proofs.GapFacts.{in_around}
 use Rattle.best_fit.proofs.GapOrder.{in_sorted}
 use Rattle.best_fit.proofs.GapSteps.{same_gaps}
 use Rattle.best_fit.proofs.Joins.{rest_of}
 use Rattle.best_fit.proofs.GivingBack.{back_parts, same_rest}
 use Rattle.best_fit.proofs.Laid.{SaysHeap, heap-says, said_row}
-use Rattle.best_fit.proofs.Placed.{gaps_of-append, lays_out}
+use Rattle.best_fit.proofs.Placed.{lays_out}
 use Rattle.best_fit.proofs.Regrowths.{SplitsAlike, regrown_block, regrown_keeps, regrown_live, splits_alike, tree_says}
 use Rattle.best_fit.proofs.Resizes.{gap_high, gap_is, joins, t_cell, t_cut_at, t_cuts, t_gaps, t_in, t_joins, t_keeps, t_live, t_says, t_stands0, t_stands1, t_still, t_word}
-use Rattle.best_fit.proofs.Rows.{Apart-is_merged, extent_of, gaps_of-used}
+use Rattle.best_fit.proofs.Rows.{Apart-is_merged, extent_of, gaps_of-used, gaps_of-append}
 use Rattle.best_fit.proofs.Steps.{In}
 use Rattle.best_fit.proofs.Writes.{Block}
+use Rattle.best_fit.proofs.Replanting.{few_bits}
 
 free-plain : (ts : List Tile) → free_len (first_in (map plain ts)) ≡ free_len (first_in ts)
 free-plain [] = refl
@@ -44,6 +46,18 @@ same_free ts us e = sym (free-plain us) ∙ ap (λ (vs : List Tile). free_len (f
 -- the front of a block that stays, stays
 front_block : (m m' : Memory) (x : Extent) (k : ℕ) → k ≤ x.len → SameBlock m m' x → SameBlock m m' (record x { len = k })
 front_block m m' x k l s = record { payload = Same-part m m' (handle x) (end_of x) (handle x) (x.offset + k) s.payload (omega arith) (omega arith); colour = s.colour }
+
+-- What is known once the block has taken the gap behind it and is cut, or not: if it is, the gap that is cut off is to be put into the
+-- tree of the others.
+pub record Recut (w new : Cut) (at wanted : ℕ) (is_cut : Bool) : Type 0 where
+  pub front : List Gap
+  pub gap : Gap
+  pub back : List Gap
+  pub node : at + wanted + 16 ≡ node_of gap
+  pub lacks : is_cut ≡ true → LacksOne new front gap back
+  pub few : length (front ++ back) ≤ length (gaps_in w)
+  pub whole : is_cut ≡ false → IsCut current w new (at + 16) wanted
+  pub split : is_cut ≡ true → (e : Cut) → HasTree e (front ++ (gap ∷ back)) → Regrown new e → IsCut current w e (at + 16) wanted
 
 module _ (w : Cut) (at : ℕ) (heap : IsHeap current w.bytes) (b : Block w (at + 16)) (wanted : ℕ) where
   begins : b.tile.offset ≡ at
@@ -68,6 +82,22 @@ module _ (w : Cut) (at : ℕ) (heap : IsHeap current w.bytes) (b : Block w (at +
 
   abbrev y : Extent
   y = record { offset = b.tile.offset; len = share (b.tile.len + gap_after (live_of w.bytes) (extent_of b.tile b.role)) wanted; role = b.role }
+
+  -- the gap behind has left the tree, after this many touches of some before
+  pub record TailUprooted (d : Cut) (before count : ℕ) : Type 0 where
+    pub tree : HasTree d (gaps_of b.front ++ gaps_of (rest_of b.back))
+    pub rest : Regrown w d
+    pub steps : count ≤ before + 32 * bits (length (gaps_in w) + 1) + 33
+
+  pub tail_uprooted : (d : Cut) (before n count : ℕ) → HasTree d (gaps_of b.front ++ gaps_of (rest_of b.back)) → Regrown w d → n ≤ before + 1
+      → count ≤ n + 32 * bits (length (gaps_of b.front ++ (gaps_of (of_option (first_in b.back)) ++ gaps_of (rest_of b.back))) + 1) + 32 → TailUprooted d before count
+  tail_uprooted d before n count tree rest low high =
+      let few = tree_w.some.few in
+      let most = bits-le (length (gaps_of b.front ++ (gaps_of (of_option (first_in b.back)) ++ gaps_of (rest_of b.back))) + 1) (length (gaps_in w) + 1) (omega arith) in
+      record { tree = tree; rest = rest; steps = omega arith }
+
+  pub few_steps : bits (length (gaps_in w) + 1) ≤ 41
+  few_steps = few_bits w (gaps_in w) (heap_tree w heap)
 
   module _ (d : Cut) (h : HasTree d (gaps_of b.front ++ gaps_of (rest_of b.back))) (r : Regrown w d) where
     s : SplitsAlike (tiles_in d) b.front b.tile b.back
@@ -104,7 +134,7 @@ module _ (w : Cut) (at : ℕ) (heap : IsHeap current w.bytes) (b : Block w (at +
     pub c_stands0 : HasTileAt d at
     c_stands0 = t_stands0 d says_d at s.front' s.tile' s.back' b.role s.list used_d begins_d wanted
 
-    pub c_high : b.tile.len + gap_after (live_of w.bytes) (extent_of b.tile b.role) ≤ 1073741824
+    c_high : b.tile.len + gap_after (live_of w.bytes) (extent_of b.tile b.role) ≤ 1073741824
     c_high = gap_high w heap (at + 16) at b begins wanted
 
     module _ (mid : Cut) (join : (ts : List Tile) → SaysTiles d ts → SaysTiles mid (joined_free_at at ts)) (join_same : (ts : List Tile) → SaysTiles d ts → SameBesideTags d mid ts (joined_free_at at ts)) where
@@ -163,12 +193,12 @@ module _ (w : Cut) (at : ℕ) (heap : IsHeap current w.bytes) (b : Block w (at +
         gaps_new = t_gaps d says_d at s.front' s.tile' s.back' b.role s.list used_d begins_d wanted mid join join_same new cut cut_same
 
         -- whether a rest is left
-        pub c_cut : (left : Bool) → ((ts : List Tile) (t : Tile) → SaysTiles mid ts → tile_in ts at ≡ Some t → left ≡ nat_le (wanted + 32) t.len) → nat_le (wanted + 32) (b.tile.len + gap_after (live_of w.bytes) (extent_of b.tile b.role)) ≡ left
+        c_cut : (left : Bool) → ((ts : List Tile) (t : Tile) → SaysTiles mid ts → tile_in ts at ≡ Some t → left ≡ nat_le (wanted + 32) t.len) → nat_le (wanted + 32) (b.tile.len + gap_after (live_of w.bytes) (extent_of b.tile b.role)) ≡ left
         c_cut left is =
             let h1 = c_stands1 in
             subst (λ k. nat_le (wanted + 32) k ≡ left) long_d (sym (is h1.tiles (record s.tile' { len = s.tile'.len + j }) h1.said (t_cut_at d says_d at s.front' s.tile' s.back' b.role s.list used_d begins_d wanted mid join join_same new cut cut_same h1.tiles h1.said)))
 
-        pub c_whole : nat_le (wanted + 32) (b.tile.len + gap_after (live_of w.bytes) (extent_of b.tile b.role)) ≡ false → IsCut current w new (at + 16) wanted
+        c_whole : nat_le (wanted + 32) (b.tile.len + gap_after (live_of w.bytes) (extent_of b.tile b.role)) ≡ false → IsCut current w new (at + 16) wanted
         c_whole e =
             let gs : gaps_in new ≡ gaps_of s.front' ++ gaps_of (rest_of s.back') =
             gaps_new ∙ ap (λ (ts : List Tile). gaps_of s.front' ++ (gaps_of ts ++ gaps_of (rest_of s.back'))) ((t_cuts d says_d at s.front' s.tile' s.back' b.role s.list used_d begins_d wanted).keeps (subst (λ k. nat_le (wanted + 32) k ≡ false) (sym long_d) e)) in
@@ -182,20 +212,20 @@ module _ (w : Cut) (at : ℕ) (heap : IsHeap current w.bytes) (b : Block w (at +
               };
             }
 
-        pub rest_gap : Gap
+        rest_gap : Gap
         rest_gap = gap_of (free_tile (s.tile'.offset + wanted) (s.tile'.len + j - wanted))
 
-        pub rest_node : at + wanted + 16 ≡ node_of rest_gap
+        rest_node : at + wanted + 16 ≡ node_of rest_gap
         unfolding rest_gap
         rest_node = let e = begins_d in omega arith
 
-        pub fronts : List Gap
+        fronts : List Gap
         fronts = gaps_of s.front'
 
-        pub backs : List Gap
+        backs : List Gap
         backs = gaps_of (rest_of s.back')
 
-        pub c_lacks : nat_le (wanted + 32) (b.tile.len + gap_after (live_of w.bytes) (extent_of b.tile b.role)) ≡ true → LacksOne new fronts rest_gap backs
+        c_lacks : nat_le (wanted + 32) (b.tile.len + gap_after (live_of w.bytes) (extent_of b.tile b.role)) ≡ true → LacksOne new fronts rest_gap backs
         unfolding rest_gap fronts backs
         c_lacks e =
             record {
@@ -205,7 +235,7 @@ module _ (w : Cut) (at : ℕ) (heap : IsHeap current w.bytes) (b : Block w (at +
               tree = tree_new;
             }
 
-        pub c_few : length (fronts ++ backs) ≤ length (gaps_in w)
+        c_few : length (fronts ++ backs) ≤ length (gaps_in w)
         unfolding fronts backs
         c_few =
             let few = tree_d.some.few in
@@ -219,7 +249,7 @@ module _ (w : Cut) (at : ℕ) (heap : IsHeap current w.bytes) (b : Block w (at +
           gaps_e : gaps_in e ≡ fronts ++ (rest_gap ∷ backs)
           gaps_e = same_gaps (tiles_in new) (tiles_in e) regrown.tiles ∙ (c_lacks split).gaps
 
-          pub c_split : IsCut current w e (at + 16) wanted
+          c_split : IsCut current w e (at + 16) wanted
           c_split =
               let last = subst (λ (l : LiveSet). Keeps new e l.extents) live_new (regrown_keeps new e says_new.said says_e.said regrown) in
               let keep_last = keeps-insert new e y (others (handle x) (live_of w.bytes).extents) last in
@@ -238,3 +268,16 @@ module _ (w : Cut) (at : ℕ) (heap : IsHeap current w.bytes) (b : Block w (at +
                   still = SameBlock-trans (bytes_of w.bytes) (bytes_of new.bytes) (bytes_of e.bytes) both still_new third;
                 };
               }
+
+        pub recut : (left : Bool) → ((ts : List Tile) (t : Tile) → SaysTiles mid ts → tile_in ts at ≡ Some t → left ≡ nat_le (wanted + 32) t.len) → Recut w new at wanted left
+        recut left is =
+            record {
+              front = fronts;
+              gap = rest_gap;
+              back = backs;
+              node = rest_node;
+              lacks = λ e. c_lacks (c_cut left is ∙ e);
+              few = c_few;
+              whole = λ e. c_whole (c_cut left is ∙ e);
+              split = λ e d planted regrown. c_split d planted regrown (c_cut left is ∙ e);
+            }

@@ -1,28 +1,28 @@
 -- What stays where only links and colours of gaps, and word 24, change.
 use Rattle.std.proofs.Common.{◌≡◌, refl, sym, ap, subst, ◌∙◌, ℕ, ◌+◌, ◌-◌, ◌%◌, ◌<◌, ◌≤◌, ◌⊎◌, inl, inr, Bool, true, false, ◌&&◌, not, List, [], ◌∷◌, ◌++◌, length, arith, nat_lt, nat_le}
 use Rattle.std.specs.Prelude.{Some, map}
-use Rattle.std.specs.List.{AllByRecursion, cons_option}
+use Rattle.std.specs.List.{cons_option}
 use Rattle.std.proofs.lemmas.Bool.{and_from, or_left, or_right, le-leb, lt-ltb}
 use Rattle.raw_region.specs.Memory.{Cut, bytes_of, word_at}
 use Rattle.block_tags.specs.declared.tile.Role.{Role}
 use Rattle.block_tags.specs.declared.tile.Tile.{Tile}
 use Rattle.raw_region.specs.Format.{current}
+use Rattle.raw_region.proofs.Laws.{Same-word}
 use Rattle.block_tags.specs.Lists.{tile_in}
 use Rattle.block_tags.specs.Tiles.{is_free}
 use Rattle.block_tags.specs.Windows.{SaysTiles, SameBesideTags}
 use Rattle.offset_link.specs.Link.{target_of}
-use Rattle.best_fit.specs.Extents.{Extent, Gap}
+use Rattle.best_fit.specs.Extents.{Gap}
 use Rattle.best_fit.specs.FreeTree.{cells_of}
 use Rattle.best_fit.specs.GapNodes.{lies_in_block, plain, tiles_in}
 use Rattle.best_fit.specs.GapLaws.{is_good-Good}
 use Rattle.best_fit.specs.GapTrees.{HasTree, Regrown}
 use Rattle.best_fit.specs.Heap.{Keeps, SameBlock, as_extent, live_of}
-use Rattle.best_fit.proofs.Frames.{read-same, word_at-read}
 use Rattle.best_fit.proofs.GapFacts.{apart_of, said_of, tile_colour}
 use Rattle.best_fit.proofs.GapSetters.{cell_stays}
 use Rattle.best_fit.proofs.Laid.{SaysHeap, said_row}
-use Rattle.best_fit.proofs.Rows.{Row, extents_of, extent_of, extents_of-free, extents_of-used, unused, used, use_cases, used-not_free}
-use Rattle.best_fit.proofs.Steps.{In, inside, tag_in}
+use Rattle.best_fit.proofs.Rows.{Row, extents_of, extent_of, used-not_free}
+use Rattle.best_fit.proofs.Steps.{In, inside, tag_in, all_used}
 
 -- a window with a tree says its tiles
 pub tree_says : (c : Cut) (hs : List Gap) → HasTree c hs → SaysHeap c (tiles_in c)
@@ -70,15 +70,6 @@ in_any t (u ∷ us) k (inl p) e low high =
     (and_from (not (is_free t)) (nat_le (t.offset + 16) k) (ap not e) (le-leb (t.offset + 16) k low)) (lt-ltb k (t.offset + t.len) high)))
 in_any t (u ∷ us) k (inr h) e low high =
     or_right (not (is_free u) && nat_le (u.offset + 16) k && nat_lt k (u.offset + u.len)) (lies_in_block us k) (in_any t us k h e low high)
-
-all_used : (P : Extent → Type 0) (ts : List Tile) → ((t : Tile) → In t ts → (role : Role) → t.use_of ≡ Some role → P (extent_of t role)) → AllByRecursion P (extents_of ts)
-all_used P [] h = tt
-all_used P (t ∷ ts) h =
-    let rest = all_used P ts (λ u i role e. h u (inr i) role e) in
-    elim (use_cases t) [
-      | unused e ↦ subst (AllByRecursion P) (sym (extents_of-free t ts e)) rest
-      | used role e ↦ let both : AllByRecursion P (extent_of t role ∷ extents_of ts) = (h t (inl refl) role e, rest) in subst (AllByRecursion P) (sym (extents_of-used t ts role e)) both
-    ]
 
 module _ (c d : Cut) (said : SaysTiles c (tiles_in c)) (says : SaysTiles d (tiles_in d)) (r : Regrown c d) where
   row : Row 128 (tiles_in c) (length c.bytes - 16)
@@ -156,10 +147,12 @@ module _ (old new : Cut) (ts us : List Tile) (said : SaysTiles old ts) (says : S
   word_stays : (k : ℕ) → m ≤ k → k + 8 ≤ m + 16 → word_at (bytes_of new.bytes) k ≡ word_at (bytes_of old.bytes) k
   word_stays k low high =
       let new_row : Row 128 us (length old.bytes - 16) = subst (λ n. Row 128 us (n - 16)) same.size (said_row new us says) in
-      word_at-read (bytes_of old.bytes) (bytes_of new.bytes) k (read-same (bytes_of old.bytes) (bytes_of new.bytes) k 8 (λ l a b.
-      let p = inside 128 u ts (length old.bytes - 16) l (said_row old ts said) i (omega arith) (omega arith) in
-      let q = inside 128 u us (length old.bytes - 16) l new_row j (omega arith) (omega arith) in
-      same.bytes l p.beside q.beside p.high))
+      Same-word (bytes_of old.bytes) (bytes_of new.bytes) k (k + 8) k (record {
+        at = λ l a b.
+            let p = inside 128 u ts (length old.bytes - 16) l (said_row old ts said) i (omega arith) (omega arith) in
+            let q = inside 128 u us (length old.bytes - 16) l new_row j (omega arith) (omega arith) in
+            same.bytes l p.beside q.beside p.high;
+      }) (omega arith) (omega arith)
 
   pub step_cell : cells_of (bytes_of new.bytes) m ≡ cells_of (bytes_of old.bytes) m
   step_cell =

@@ -1,32 +1,29 @@
 -- A gap is taken out of the tree, or put into it.
-use Rattle.std.proofs.Common.{◌≡◌, refl, sym, ap, subst, ◌∙◌, ℕ, ◌+◌, ◌-◌, ◌/◌, ◌%◌, ◌≤◌, ◌⊎◌, inl, inr, Bool, true, ◌&&◌, List, ◌∷◌, ◌++◌, length, arith, ◌==◌, IsTrue}
+use Rattle.std.proofs.Common.{◌≡◌, refl, sym, ap, subst, ◌∙◌, ℕ, ◌+◌, ◌-◌, ◌≤◌, ◌⊎◌, inl, inr, Bool, true, ◌&&◌, List, ◌∷◌, ◌++◌, length, arith, IsTrue}
 use Rattle.std.specs.Prelude.{Option, Some, None, map}
 use Rattle.std.specs.List.{list_all}
 use Rattle.std.proofs.lemmas.Bool.{false≢true, both_ways, cases_eq, and_from}
-use Rattle.raw_region.specs.Memory.{Memory, Cut, SameBut, SamePlace, bytes_of}
-use Rattle.raw_region.proofs.Words.{SameBut-wider}
+use Rattle.raw_region.specs.Memory.{Cut, SameBut, SamePlace, bytes_of}
+use Rattle.raw_region.proofs.Laws.{SameBut-wider}
 use Rattle.block_tags.specs.declared.tile.Tile.{Tile}
 use Rattle.block_tags.specs.Format.{is_legal_size}
 use Rattle.block_tags.specs.Windows.{SaysTiles}
-use Rattle.block_tags.proofs.Lists.{good_tags_say_tiles, tiles_are_read_off}
-use Rattle.block_tags.proofs.Stays.{header_may_change, payload_may_change}
+use Rattle.block_tags.proofs.Laws.{good_tags_say_tiles, header_may_change, payload_may_change, tiles_are_read_off}
 use Rattle.link_tree.specs.Tree.{Cell, Tree, leaf, fork, root_of, Holds, IsTree, IsSearchTree, nodes_of, bits}
 use Rattle.link_tree.specs.Nodes.{is_in, leads, put, without, has_place}
-use Rattle.link_tree.proofs.Trees.{tree_same}
-use Rattle.link_tree.proofs.Heights.{bits_most}
-use Rattle.link_tree.proofs.Orders.{in_left, in_right, in_middle, in_parts}
+use Rattle.link_tree.proofs.Laws.{bits_most, in_left, in_middle, in_parts, in_right, tree_same, all_from}
 use Rattle.offset_link.specs.Link.{link_at}
+use Rattle.offset_link.proofs.Laws.{SameBut-link}
 use Rattle.best_fit.specs.Extents.{Gap}
 use Rattle.best_fit.specs.FreeTree.{cells_of, payloads, sorted_gaps}
 use Rattle.best_fit.specs.GapNodes.{Kept, comes_before, gap_cells, gaps_of, gaps_in, is_gap_node, kept_of, links_among, plain, tiles_in}
 use Rattle.best_fit.specs.GapLaws.{Good, GapNode-is_gap_node, Good-is_good, is_good-Good, is_gap_node-GapNode, few_gaps_in}
 use Rattle.best_fit.specs.GapTrees.{AreSome, HasTree, LacksOne, Regrown, node_of}
-use Rattle.best_fit.proofs.Frames.{link_at-beside, word_at-beside}
 use Rattle.best_fit.proofs.FreeTrees.{all_gaps, fits_one, in_here, in_other, none_in, none_front, none_round, regrown, rooted, search_tree, some_drop}
 use Rattle.best_fit.proofs.GapFacts.{NodeAt, node_from, nodes_apart, said_of}
 use Rattle.best_fit.proofs.GapOrder.{fits-sorted, in_sorted, place_sorted, put_is, sorted-around, without-inserted}
-use Rattle.best_fit.proofs.GapSetters.{cell_stays}
-use Rattle.best_fit.proofs.GapSteps.{all_from, kept_round, same_gaps}
+use Rattle.best_fit.proofs.GapSetters.{beside_cell}
+use Rattle.best_fit.proofs.GapSteps.{kept_round, same_gaps}
 use Rattle.best_fit.proofs.Laid.{legal_size}
 use Rattle.best_fit.proofs.Rows.{is_merged-Apart}
 
@@ -110,24 +107,6 @@ holds_closed f (fork red l n r) m h i =
       ]
     ]
 
--- the fields of a node away from sixteen bytes that change
-beside_cell : (m m' : Memory) (from n : ℕ) → SameBut m m' from 16 → 144 ≤ n → (n + 16 ≤ from) ⊎ (from + 16 ≤ n - 8) → cells_of m' n ≡ cells_of m n
-beside_cell m m' from n same low apart =
-    cell_stays m m' n (link_at-beside m m' from 16 n same (first apart)) (link_at-beside m m' from 16 (n + 8) same (second apart))
-    (ap (λ w. w / 2 % 2 == 1) (word_at-beside m m' from 16 (n - 8) same (tag apart)))
-  where
-    first : (n + 16 ≤ from) ⊎ (from + 16 ≤ n - 8) → (n + 8 ≤ from) ⊎ (from + 16 ≤ n)
-    first (inl l) = inl (omega arith)
-    first (inr l) = inr (omega arith)
-
-    second : (n + 16 ≤ from) ⊎ (from + 16 ≤ n - 8) → (n + 8 + 8 ≤ from) ⊎ (from + 16 ≤ n + 8)
-    second (inl l) = inl (omega arith)
-    second (inr l) = inr (omega arith)
-
-    tag : (n + 16 ≤ from) ⊎ (from + 16 ≤ n - 8) → (n - 8 + 8 ≤ from) ⊎ (from + 16 ≤ n - 8)
-    tag (inl l) = inl (omega arith)
-    tag (inr l) = inr l
-
 -- where the gap of a node lies whose links may be anything
 pub lacking_node : (c : Cut) (xs : List Gap) (g : Gap) (ys : List Gap) (node : ℕ) → node ≡ node_of g → LacksOne c xs g ys → NodeAt c node
 lacking_node c xs g ys node is l =
@@ -167,14 +146,14 @@ module _ (c a b : Cut) (xs : List Gap) (g : Gap) (ys : List Gap) (node : ℕ) (i
   other_cell : (m : ℕ) → is_in m (payloads (gaps_in c)) ≡ true → (m ≡ node → ⊥) → cells_of (bytes_of b.bytes) m ≡ cells_of (bytes_of c.bytes) m
   other_cell m i o =
       let e = node_from c m l.said (is_merged-Apart (tiles_in c) l.merged) i in
-      beside_cell (bytes_of c.bytes) (bytes_of b.bytes) node m same e.low (by_case (nodes_apart c node m at_node e o))
+      beside_cell (bytes_of c.bytes) (bytes_of b.bytes) node 16 m same e.low (by_case (nodes_apart c node m at_node e o))
     where
       by_case : (m + 32 ≤ node) ⊎ (node + 32 ≤ m) → (m + 16 ≤ node) ⊎ (node + 16 ≤ m - 8)
       by_case (inl x) = inl (omega arith)
       by_case (inr x) = inr (omega arith)
 
   left_b : link_at (bytes_of b.bytes) node ≡ None
-  left_b = link_at-beside (bytes_of a.bytes) (bytes_of b.bytes) (node + 8) 8 node same2 (inl (omega arith)) ∙ left
+  left_b = SameBut-link (bytes_of a.bytes) (bytes_of b.bytes) (node + 8) 8 node same2 (inl (omega arith)) ∙ left
 
   in_tree : (m : ℕ) → is_in m (nodes_of l.tree.tree) ≡ true → is_in m (payloads (xs ++ ys)) ≡ true
   in_tree m i = sym (in_sorted m (xs ++ ys)) ∙ ap (λ (ns : List ℕ). is_in m ns) (sym l.tree.lists) ∙ i
@@ -227,7 +206,7 @@ module _ (c a b : Cut) (xs : List Gap) (g : Gap) (ys : List Gap) (node : ℕ) (i
   pub cleared_tree : HasTree b (xs ++ ys)
   cleared_tree =
       let low = at_node.low in
-      let root = link_at-beside (bytes_of c.bytes) (bytes_of b.bytes) node 16 24 same (inl (omega arith)) in
+      let root = SameBut-link (bytes_of c.bytes) (bytes_of b.bytes) node 16 24 same (inl (omega arith)) in
       record {
         good = Good-is_good b good_b;
         some = subst (λ (gs : List Gap). AreSome gs (xs ++ ys)) (sym gaps_b) some_rest;

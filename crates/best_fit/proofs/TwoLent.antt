@@ -7,15 +7,16 @@ use denote.Ref.{Bor, MutBor}
 use Rattle.raw_region.specs.Memory.{Cut, part, patched}
 use Rattle.raw_region.specs.Regions.{IsApart}
 use Rattle.raw_region.specs.LentTwo.{with_two}
-use Rattle.raw_region.proofs.Patches.{length-part, length-patched, part-at, patched-all, refill-all, same_bytes, whole-cut_at}
+use Rattle.raw_region.proofs.Laws.{length-part, length-patched, part-at, patched-all, refill-all, same_bytes, whole-cut_at}
 use Rattle.block_tags.specs.declared.tile.Tile.{Tile}
 use Rattle.raw_region.specs.Format.{current}
 use Rattle.best_fit.specs.Heap.{IsHeap, live_of, payload_at}
 use Rattle.best_fit.specs.Pairs.{CallsOnTwo}
 use Rattle.best_fit.proofs.GapFacts.{Disjoint, in_around, row_disjoint}
-use Rattle.best_fit.proofs.Laid.{heap-says, said_row, tiles_in}
+use Rattle.best_fit.proofs.Laid.{heap-says, said_row}
 use Rattle.best_fit.proofs.Steps.{In}
 use Rattle.best_fit.proofs.Writes.{Block, block_payload}
+use Rattle.best_fit.specs.GapNodes.{tiles_in}
 
 -- what is put where it stood changes nothing
 patched_same : (b : List ℕ) (from n : ℕ) → from + n ≤ length b → patched b from (part b from n) ≡ b

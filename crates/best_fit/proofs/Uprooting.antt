@@ -2,6 +2,7 @@
 use Rattle.std.proofs.Common.{◌≡◌, refl, sym, ap, subst, ◌∙◌, ℕ, ◌+◌, ◌≤◌, true, List, [], ◌∷◌, ◌++◌, length, arith}
 use Rattle.std.specs.Prelude.{Option, Some, None}
 use Rattle.std.proofs.lemmas.Bool.{cond-true, cond-false}
+use Rattle.std.proofs.lemmas.Option.{same_Some}
 use Rattle.raw_region.specs.Memory.{Cut}
 use Rattle.block_tags.specs.declared.tile.Tile.{Tile}
 use Rattle.block_tags.specs.Tiles.{is_free}
@@ -18,9 +19,6 @@ use Rattle.best_fit.proofs.Rows.{unused, used, use_cases, unused-free, used-not_
 no_at : (n : ℕ) → None ≡ Some n → ⊥
 no_at n e = let o : Option ℕ = None in let f : o ≡ Some n = e in cc
 
-some_at : (m n : ℕ) → Some m ≡ Some n → m ≡ n
-some_at m n e = cc
-
 pub record One (gs : List Gap) (at : ℕ) : Type 0 where
   pub gap : Gap
   pub list : gs ≡ gap ∷ []
@@ -28,7 +26,7 @@ pub record One (gs : List Gap) (at : ℕ) : Type 0 where
 
 pub one_gap : (gs : List Gap) (at : ℕ) → Some at ≡ offset_of gs → length gs ≤ 1 → One gs at
 one_gap [] at e l = absurd (no_at at (sym e))
-one_gap (g ∷ []) at e l = record { gap = g; list = refl; offset = some_at at g.offset e }
+one_gap (g ∷ []) at e l = record { gap = g; list = refl; offset = same_Some at g.offset e }
 one_gap (g ∷ h ∷ gs) at e l = absurd (omega arith)
 
 pub no_gaps : (gs : List Gap) → None ≡ offset_of gs → gs ≡ []

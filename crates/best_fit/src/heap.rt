@@ -8,16 +8,15 @@ ghost use Rattle.link_tree.specs.Tree.{bits};
 ghost use Rattle.best_fit.specs.Extents.{Extent, free_bytes as free_bytes_of, gaps as gaps_of_live, spans};
 ghost use Rattle.block_tags.specs.Tiles.{tiles_of};
 ghost use Rattle.best_fit.specs.FreeTree.{span};
-ghost use Rattle.best_fit.specs.Heap.{Allocates, IsChanged, IsExtended, IsFresh, IsHeap, IsReleased, IsShortened, IsZeroed, extent_at, has_room, is_live_in, live_of, payload_at, with_payload};
+ghost use Rattle.best_fit.specs.Heap.{Allocates, IsChanged, IsExtended, IsFresh, IsHeap, IsReleased, IsShortened, IsTileOf, IsZeroed, extent_at, has_room, is_live_in, live_of, payload_at, with_payload};
 ghost use Rattle.best_fit.specs.Pairs.{CallsOnTwo, TakesTwo};
 
 use crate::lending::on_two;
-use crate::nodes::{Gaps, plant_first};
+use crate::nodes::{FREE_TREE, Gaps, plant_first};
 use crate::refusal::NoSpace;
-use crate::sizes::TAG;
 use crate::touching::Touches;
 use crate::{releasing, resizing, summing, taking, walking, zeroing};
-use block_tags::{Role, Tile};
+use block_tags::{FIRST, Role, TAG, Tile};
 use raw_region::{Span, Steps, Window};
 use std::marker::Model;
 
@@ -106,8 +105,8 @@ impl Heap {
     /// The header's word at `at`: a multiple of 8 below 128, and not 24.
     pub fn header_word(&self, at: u64) -> u64
         requires whole { at % 8 ≡ 0 }
-        requires below { at < 128 }
-        requires other { at ≢ 24 }
+        requires below { at < FIRST }
+        requires other { at ≢ FREE_TREE }
         ensures { result ≡ word_at (bytes_of self.now.bytes) at }
     {
         self.gaps.window.read_u64(at)
@@ -116,8 +115,8 @@ impl Heap {
     /// Writes the header's word at `at`: a multiple of 8 below 128, and not 24.
     pub fn set_header_word(&mut self, at: u64, value: u64)
         requires whole { at % 8 ≡ 0 }
-        requires below { at < 128 }
-        requires other { at ≢ 24 }
+        requires below { at < FIRST }
+        requires other { at ≢ FREE_TREE }
         ensures change { IsChanged current self.old self.new at 8 }
         ensures word { word_at (bytes_of self.new.bytes) at ≡ value }
     {
@@ -277,6 +276,25 @@ impl Heap {
         let mut touches = Touches::new(&mut self.gaps);
         resizing::shorten(&mut touches, handle - TAG, n);
         steps.add(touches.count());
+    }
+
+    /// The block or gap that stands first, or nothing where there is none.
+    pub fn first_tile(&self) -> Option<Tile>
+        ensures tile { result ≡ slice_get (tiles_of (bytes_of self.now.bytes) (length self.now.bytes)) 0 }
+        ensures span { option_map span result ≡ slice_get (spans (live_of self.now.bytes)) 0 }
+    {
+        block_tags::first(&self.gaps.window)
+    }
+
+    /// The block or gap behind one of the heap's, or nothing where that is the last.
+    pub fn next_tile(&self, tile: Tile) -> Option<Tile>
+        requires { IsTileOf self.now.bytes tile }
+        ensures tile { (i : ℕ) → slice_get (tiles_of (bytes_of self.now.bytes) (length self.now.bytes)) i ≡ Some tile
+            → result ≡ slice_get (tiles_of (bytes_of self.now.bytes) (length self.now.bytes)) (i + 1) }
+        ensures span { (i : ℕ) → slice_get (tiles_of (bytes_of self.now.bytes) (length self.now.bytes)) i ≡ Some tile
+            → option_map span result ≡ slice_get (spans (live_of self.now.bytes)) (i + 1) }
+    {
+        block_tags::next(&self.gaps.window, tile.offset)
     }
 
     /// The block or gap with `index` others before it, or nothing where there are no more.

@@ -9,9 +9,8 @@ ghost use Rattle.best_fit.specs.FreeTree.{is_red};
 ghost use Rattle.best_fit.specs.Heap.{IsChanged, IsRecoloured, has_room, is_live_in, is_node_in, live_of};
 
 use crate::heap::Heap;
-use crate::nodes::set_link;
-use crate::sizes::TAG;
-use block_tags::{set_red, tile_at};
+use crate::nodes::{FREE_TREE, set_link};
+use block_tags::{FIRST, TAG, set_red, tile_at};
 use offset_link::{Places, load, shift};
 use raw_region::Window;
 
@@ -19,8 +18,8 @@ impl Heap {
     /// Where the header's link at `at` leads: a multiple of 8 below 128, and not 24.
     pub fn header_link(&self, at: u64) -> Option<u64>
         requires whole { at % 8 ≡ 0 }
-        requires below { at < 128 }
-        requires other { at ≢ 24 }
+        requires below { at < FIRST }
+        requires other { at ≢ FREE_TREE }
         ensures { result ≡ link_at (bytes_of self.now.bytes) at }
     {
         load(&self.gaps.window, at)
@@ -29,8 +28,8 @@ impl Heap {
     /// Makes the header's link at `at`, a multiple of 8 below 128 and not 24, lead to a multiple of 16, or nowhere.
     pub fn set_header_link(&mut self, at: u64, to: Option<u64>)
         requires whole { at % 8 ≡ 0 }
-        requires below { at < 128 }
-        requires other { at ≢ 24 }
+        requires below { at < FIRST }
+        requires other { at ≢ FREE_TREE }
         requires target { IfSome to (λ target. target % 16 ≡ 0) }
         ensures change { IsChanged current self.old self.new at 8 }
         ensures leads { link_at (bytes_of self.new.bytes) at ≡ to }

@@ -11,20 +11,19 @@ ghost use Rattle.offset_link.specs.Link.{link_at};
 ghost use Rattle.best_fit.specs.GapNodes.{Kept as WhatStays, comes_before, gap_cells, gaps_in, is_gap_node, is_too_short, kept_of};
 ghost use Rattle.best_fit.specs.GapLaws.{comes_agrees, comes_irreflexive, comes_transitive, gaps_finite, gaps_left, gaps_right};
 
-use crate::sizes::TAG;
-use block_tags::tile_at;
+use block_tags::{FIRST, TAG, tile_at};
 use link_tree::{Nodes, NodesMut};
 use offset_link::{load, store, store_null};
 use raw_region::Window;
 
-/// Where the right link of a node stands behind its left link.
+/// Where the right link of a node of a tree stands behind the left one, in bytes.
 pub const RIGHT: u64 = 8;
 
-/// Where the link to the root of the tree stands in the header.
+/// The offset of the header's word that links to the root of the free tree.
 pub const FREE_TREE: u64 = 24;
 
 /// The payload of the first tile.
-const FIRST_GAP: u64 = 144;
+const FIRST_GAP: u64 = FIRST + TAG;
 
 /// A window whose gaps are nodes, each named by its payload: its links are the first two words there, and its colour is
 /// that of its tile. A gap precedes longer ones, and those as long that stand behind it.
@@ -124,7 +123,7 @@ pub fn plant_first(window: &mut Window)
     ensures behind { Same (bytes_of window.old.bytes) (bytes_of window.new.bytes) 32 144 }
     ensures rest { Same (bytes_of window.old.bytes) (bytes_of window.new.bytes) 160 (length window.old.bytes) }
 {
-    if window.size() > 144 {
+    if window.size() > FIRST_GAP {
         set_link(window, FIRST_GAP, None);
         set_link(window, FIRST_GAP + RIGHT, None);
         set_link(window, FREE_TREE, Some(FIRST_GAP));

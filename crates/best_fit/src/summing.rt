@@ -6,7 +6,7 @@ ghost use Rattle.best_fit.specs.GapNodes.{gaps_in, is_gap_node, len_in};
 ghost use Rattle.best_fit.specs.Heap.{IsHeap, live_of};
 
 use crate::nodes::{FREE_TREE, Gaps};
-use crate::sizes::TAG;
+use block_tags::TAG;
 use link_tree::walk;
 use offset_link::load;
 use raw_region::Window;

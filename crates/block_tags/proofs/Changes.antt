@@ -10,7 +10,7 @@ use Rattle.block_tags.specs.Tiles.{AreTags, may_be_red, tag_word, tile_at}
 use Rattle.block_tags.specs.Lists.{tile_in, changed_at, used_for, of_colour, with_use_at, with_red_at, IsBesideTags}
 use Rattle.block_tags.specs.Windows.{SaysTiles, HasTileAt, MayBeUsed, MayHaveColour, SameBesideTags, IsPut}
 use Rattle.block_tags.proofs.ReadOff.{is_tile-IsWhole}
-use Rattle.block_tags.proofs.WordLemmas.{word_at-beside, beside}
+use Rattle.block_tags.proofs.Puts.{put-word, put-Same}
 use Rattle.block_tags.proofs.Standing.{Standing, is_tile-made, head_word, retag}
 use Rattle.block_tags.proofs.Saying.{reads, stands_in, stood}
 
@@ -43,10 +43,10 @@ module _ (c d : Cut) (at : ℕ) (t : Tile) (u : Option Role) (r : Bool) (x : ℕ
       let long = (is_tile-IsWhole current t h.1).long in (
         h.0,
         is_tile-made current t.offset t.len u r long ((is_tile-IsWhole current t h.1).whole) colour,
-        word_at-beside c d (at + 8) x p at (inl (omega arith)) ∙ h.2,
+        put-word c d (at + 8) x p at (inl (omega arith)) ∙ h.2,
         p.word ∙ f,
-        retag current (bytes_of c.bytes) (bytes_of d.bytes) (at + t.len) t.len t.len behind end h.4 (beside c d (at + 8) x p (at + t.len + 8) (end + 16) (inr (omega arith)))
-            (word_at-beside c d (at + 8) x p (at + t.len) (inr (omega arith)) ∙ head_word current (bytes_of c.bytes) (at + t.len) t.len behind end h.4),
+        retag current (bytes_of c.bytes) (bytes_of d.bytes) (at + t.len) t.len t.len behind end h.4 (put-Same c d (at + 8) x p (at + t.len + 8) (end + 16) (inr (omega arith)))
+            (put-word c d (at + 8) x p (at + t.len) (inr (omega arith)) ∙ head_word current (bytes_of c.bytes) (at + t.len) t.len behind end h.4),
       )
 
   module _ (change : Tile → List Tile → List Tile) (is : (ts : List Tile) → change t ts ≡ t' ∷ ts) (ts : List Tile) (said : SaysTiles c ts) (stands : tile_in ts at ≡ Some t) where
@@ -54,7 +54,7 @@ module _ (c d : Cut) (at : ℕ) (t : Tile) (u : Option Role) (r : Bool) (x : ℕ
     s = stood c ts at t said stands
 
     marked_says : SaysTiles d (changed_at at change ts)
-    marked_says = changed_says c d ts at t said stands change p.size s (beside c d (at + 8) x p 128 at (inl (omega arith)))
+    marked_says = changed_says c d ts at t said stands change p.size s (put-Same c d (at + 8) x p 128 at (inl (omega arith)))
         (subst (λ (us : List Tile). AreTags current (bytes_of d.bytes) at s.before us (length c.bytes - 16)) (sym (is s.behind)) (marked s.before s.behind (length c.bytes - 16) s.tags))
 
     marked_rest : SameBesideTags c d ts (changed_at at change ts)

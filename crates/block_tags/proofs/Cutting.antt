@@ -2,12 +2,13 @@
 use Rattle.std.proofs.Common.{◌≡◌, refl, sym, ap, subst, ◌∙◌, ℕ, ◌+◌, ◌-◌, ◌<◌, ◌≤◌, ◌⊎◌, inl, inr, Some, None, false, List, ◌∷◌, length, arith}
 use Rattle.raw_region.specs.Memory.{Cut, Same, word_at, bytes_of}
 use Rattle.raw_region.specs.Format.{current}
+use Rattle.raw_region.proofs.Laws.{Same-word, SamePlace-trans}
 use Rattle.block_tags.specs.declared.tile.Tile.{Tile}
 use Rattle.block_tags.specs.Tiles.{AreTags, tag_word, tile_at}
 use Rattle.block_tags.specs.Lists.{tile_in, free_tile, in_two, split_at}
 use Rattle.block_tags.specs.Windows.{SaysTiles, HasTileAt, CanSplit, SameBesideTags, IsPut}
 use Rattle.block_tags.proofs.ReadOff.{is_tile-IsWhole}
-use Rattle.block_tags.proofs.WordLemmas.{word_at-same, word_at-beside, beside, place-trans}
+use Rattle.block_tags.proofs.Puts.{put-word, put-Same}
 use Rattle.block_tags.proofs.Standing.{Standing, is_tile-made, colour_of, retag, beside_head}
 use Rattle.block_tags.proofs.Saying.{fits, reads, stands_in, stood}
 use Rattle.block_tags.proofs.Changes.{changed_says, changed_rest}
@@ -44,25 +45,25 @@ module _ (c c1 c2 c3 d : Cut) (at len : ℕ) (h : CanSplit c at len) (t : Tile) 
   stays from to o =
       let room = room_to_split in let long = h.long in
       let away : (q : ℕ) → at + 8 ≤ q → q ≤ at + t.len → (to ≤ q) ⊎ (q + 8 ≤ from) = λ q a b. elim o [ inl l ↦ inl (omega arith) | inr l ↦ inr (omega arith) ] in
-      let s1 = beside c c1 (at + 8) x p1 from to (away (at + 8) (omega arith) (omega arith)) in
-      let s2 = beside c1 c2 (at + len) len p2 from to (away (at + len) (omega arith) (omega arith)) in
-      let s3 = beside c2 c3 (at + len + 8) y p3 from to (away (at + len + 8) (omega arith) (omega arith)) in
-      let s4 = beside c3 d (at + t.len) (t.len - len) p4 from to (away (at + t.len) (omega arith) (omega arith)) in
+      let s1 = put-Same c c1 (at + 8) x p1 from to (away (at + 8) (omega arith) (omega arith)) in
+      let s2 = put-Same c1 c2 (at + len) len p2 from to (away (at + len) (omega arith) (omega arith)) in
+      let s3 = put-Same c2 c3 (at + len + 8) y p3 from to (away (at + len + 8) (omega arith) (omega arith)) in
+      let s4 = put-Same c3 d (at + t.len) (t.len - len) p4 from to (away (at + t.len) (omega arith) (omega arith)) in
       record { at = λ k a b. s4.at k a b ∙ s3.at k a b ∙ s2.at k a b ∙ s1.at k a b }
 
   first_tag : word_at (bytes_of d.bytes) (at + 8) ≡ x
   first_tag =
       let room = room_to_split in let long = h.long in
-      word_at-beside c3 d (at + t.len) (t.len - len) p4 (at + 8) (inl (omega arith)) ∙ word_at-beside c2 c3 (at + len + 8) y p3 (at + 8) (inl (omega arith))
-      ∙ word_at-beside c1 c2 (at + len) len p2 (at + 8) (inl (omega arith)) ∙ p1.word
+      put-word c3 d (at + t.len) (t.len - len) p4 (at + 8) (inl (omega arith)) ∙ put-word c2 c3 (at + len + 8) y p3 (at + 8) (inl (omega arith))
+      ∙ put-word c1 c2 (at + len) len p2 (at + 8) (inl (omega arith)) ∙ p1.word
 
   second_before : word_at (bytes_of d.bytes) (at + len) ≡ len
   second_before =
       let room = room_to_split in
-      word_at-beside c3 d (at + t.len) (t.len - len) p4 (at + len) (inl (omega arith)) ∙ word_at-beside c2 c3 (at + len + 8) y p3 (at + len) (inl (omega arith)) ∙ p2.word
+      put-word c3 d (at + t.len) (t.len - len) p4 (at + len) (inl (omega arith)) ∙ put-word c2 c3 (at + len + 8) y p3 (at + len) (inl (omega arith)) ∙ p2.word
 
   second_tag : word_at (bytes_of d.bytes) (at + len + 8) ≡ y
-  second_tag = let room = room_to_split in word_at-beside c3 d (at + t.len) (t.len - len) p4 (at + len + 8) (inl (omega arith)) ∙ p3.word
+  second_tag = let room = room_to_split in put-word c3 d (at + t.len) (t.len - len) p4 (at + len + 8) (inl (omega arith)) ∙ p3.word
 
   cut_tags : (before : ℕ) (behind : List Tile) (end : ℕ) → AreTags current (bytes_of c.bytes) at before (t ∷ behind) end
       → AreTags current (bytes_of d.bytes) at before (in_two len t behind) end
@@ -73,7 +74,7 @@ module _ (c c1 c2 c3 d : Cut) (at len : ℕ) (h : CanSplit c at len) (t : Tile) 
       let last = retag current (bytes_of c.bytes) (bytes_of d.bytes) (at + t.len) t.len (t.len - len) behind end tags.4 (stays (at + t.len + 8) (end + 16) (inr (omega arith))) p4.word in (
         tags.0,
         is_tile-made current t.offset len t.use_of t.red h.long h.whole (colour_of current t tags.1),
-        word_at-same (bytes_of c.bytes) (bytes_of d.bytes) at (stays at (at + 8) (inl (omega arith))) ∙ tags.2,
+        Same-word (bytes_of c.bytes) (bytes_of d.bytes) at (at + 8) at (stays at (at + 8) (inl (omega arith))) (omega arith) (omega arith) ∙ tags.2,
         first_tag ∙ f,
         (
           ap (λ (n : ℕ). n + len) tags.0,
@@ -98,7 +99,7 @@ module _ (c c1 c2 c3 d : Cut) (at len : ℕ) (h : CanSplit c at len) (t : Tile) 
     split_says = changed_says c d ts at t said stands (in_two len) size s (stays 128 at (inl (omega arith))) (cut_tags s.before s.behind (length c.bytes - 16) s.tags)
 
     pub split_rest : SameBesideTags c d ts (split_at at len ts)
-    split_rest = changed_rest c d ts at t said stands (in_two len) size s (place-trans c c1 d p1.place (place-trans c1 c2 d p2.place (place-trans c2 c3 d p3.place p4.place)))
+    split_rest = changed_rest c d ts at t said stands (in_two len) size s (SamePlace-trans c c1 d p1.place (SamePlace-trans c1 c2 d p2.place (SamePlace-trans c2 c3 d p3.place p4.place)))
         (λ k o n l.
         let room = room_to_split in let long = h.long in let there = s.tags.0 in
         let first : (k < at) ⊎ (at + 16 ≤ k) = elim o.0 [ inl a ↦ inl (omega arith) | inr a ↦ inr (omega arith) ] in

@@ -1,15 +1,17 @@
 -- What the tags say where a tile is joined to the one behind it.
 use Rattle.std.proofs.Common.{◌≡◌, sym, ap, subst, ◌∙◌, ℕ, ◌+◌, ◌-◌, ◌%◌, ◌<◌, ◌≤◌, ◌⊎◌, inl, inr, Some, None, List, [], ◌∷◌, length, arith}
 use Rattle.std.specs.Prelude.{Option}
+use Rattle.std.proofs.lemmas.Option.{same_Some, none-some}
 use Rattle.raw_region.specs.Memory.{Cut, Same, word_at, bytes_of}
 use Rattle.raw_region.specs.Format.{current}
+use Rattle.raw_region.proofs.Laws.{Same-trans, Same-word, SamePlace-trans}
 use Rattle.block_tags.specs.declared.tile.Tile.{Tile}
 use Rattle.block_tags.specs.Tiles.{AreTags, tag_word, tile_at}
 use Rattle.block_tags.specs.Lists.{tile_in, first_in, next_in, in_one, joined_at, IsBesideTags}
 use Rattle.block_tags.specs.Windows.{SaysTiles, HasTileAt, HasFreeNext, SameBesideTags, IsPut}
 use Rattle.block_tags.proofs.ReadOff.{is_tile-IsWhole, tile_at-tag_word, AreTags-reaches}
-use Rattle.block_tags.proofs.WordLemmas.{word_at-same, word_at-beside, beside, same-trans, place-trans}
-use Rattle.block_tags.proofs.Standing.{Standing, is_tile-made, colour_of, retag, beside_head, none_some, some_inj}
+use Rattle.block_tags.proofs.Puts.{put-word, put-Same}
+use Rattle.block_tags.proofs.Standing.{Standing, is_tile-made, colour_of, retag, beside_head}
 use Rattle.block_tags.proofs.Saying.{fits, stands_in, stood, one_list}
 use Rattle.block_tags.proofs.Changes.{changed_says, changed_rest}
 use Rattle.block_tags.proofs.Cutting.{beside_word}
@@ -17,8 +19,8 @@ use Rattle.block_tags.proofs.Cutting.{beside_word}
 -- ---- two words are written
 -- the tile behind, where the list has one
 pub next_there : (o : Option Tile) (behind : List Tile) (u : Tile) → o ≡ Some u → o ≡ first_in behind → (us : List Tile) × (behind ≡ u ∷ us)
-next_there o [] u g f = absurd (none_some o u f g)
-next_there o (v ∷ vs) u g f = (vs, ap (λ (w : Tile). w ∷ vs) (some_inj v u (sym f ∙ g)))
+next_there o [] u g f = absurd (none-some u (sym f ∙ g))
+next_there o (v ∷ vs) u g f = (vs, ap (λ (w : Tile). w ∷ vs) (same_Some v u (sym f ∙ g)))
 
 module _ (c : Cut) (at : ℕ) (h : HasFreeNext c at) (t : Tile) (e : t ≡ tile_at (bytes_of c.bytes) at) where
   pub there_to_join : HasTileAt c at
@@ -73,9 +75,9 @@ module _ (c : Cut) (at : ℕ) (h : HasFreeNext c at) (t : Tile) (e : t ≡ tile_
     stays : (from to : ℕ) → (to ≤ at + 8) ⊎ (at + t.len + v.len + 8 ≤ from) → Same (bytes_of c.bytes) (bytes_of d.bytes) from to
     stays from to o =
         let long = j.long in let more = j.more in
-        let s1 = beside c c1 (at + 8) x p1 from to (elim o [ inl l ↦ inl (omega arith) | inr l ↦ inr (omega arith) ]) in
-        let s2 = beside c1 d (at + (t.len + v.len)) (t.len + v.len) p2 from to (elim o [ inl l ↦ inl (omega arith) | inr l ↦ inr (omega arith) ]) in
-        same-trans (bytes_of c.bytes) (bytes_of c1.bytes) (bytes_of d.bytes) from to s1 s2
+        let s1 = put-Same c c1 (at + 8) x p1 from to (elim o [ inl l ↦ inl (omega arith) | inr l ↦ inr (omega arith) ]) in
+        let s2 = put-Same c1 d (at + (t.len + v.len)) (t.len + v.len) p2 from to (elim o [ inl l ↦ inl (omega arith) | inr l ↦ inr (omega arith) ]) in
+        Same-trans (bytes_of c.bytes) (bytes_of c1.bytes) (bytes_of d.bytes) from to s1 s2
 
     joined_tags : (before : ℕ) (rest : List Tile) (end : ℕ) → AreTags current (bytes_of c.bytes) at before (t ∷ v ∷ rest) end
         → AreTags current (bytes_of d.bytes) at before (in_one t (v ∷ rest)) end
@@ -86,8 +88,8 @@ module _ (c : Cut) (at : ℕ) (h : HasFreeNext c at) (t : Tile) (e : t ≡ tile_
         (ap (λ (n : ℕ). word_at (bytes_of d.bytes) n) onward ∙ p2.word) in (
           tags.0,
           is_tile-made current t.offset (t.len + v.len) t.use_of t.red (omega arith) (omega arith) (colour_of current t tags.1),
-          word_at-same (bytes_of c.bytes) (bytes_of d.bytes) at (stays at (at + 8) (inl (omega arith))) ∙ tags.2,
-          word_at-beside c1 d (at + (t.len + v.len)) (t.len + v.len) p2 (at + 8) (inl (omega arith)) ∙ p1.word ∙ f,
+          Same-word (bytes_of c.bytes) (bytes_of d.bytes) at (at + 8) at (stays at (at + 8) (inl (omega arith))) (omega arith) (omega arith) ∙ tags.2,
+          put-word c1 d (at + (t.len + v.len)) (t.len + v.len) p2 (at + 8) (inl (omega arith)) ∙ p1.word ∙ f,
           subst (λ (n : ℕ). AreTags current (bytes_of d.bytes) n (t.len + v.len) rest end) onward last,
         )
 
@@ -104,7 +106,7 @@ module _ (c : Cut) (at : ℕ) (h : HasFreeNext c at) (t : Tile) (e : t ≡ tile_
     joined_says = changed_says c d ts at t said j.stands in_one size j.s (stays 128 at (inl (omega arith))) now
 
     pub joined_rest : SameBesideTags c d ts (joined_at at ts)
-    joined_rest = changed_rest c d ts at t said j.stands in_one size j.s (place-trans c c1 d p1.place p2.place)
+    joined_rest = changed_rest c d ts at t said j.stands in_one size j.s (SamePlace-trans c c1 d p1.place p2.place)
         (λ k o n l.
         let there = j.s.tags.0 in let long = j.long in let more = j.more in
         let first : (k < at) ⊎ (at + 16 ≤ k) = elim o.0 [ inl a ↦ inl (omega arith) | inr a ↦ inr (omega arith) ] in

@@ -1,11 +1,12 @@
-pub mod ReadOff
-pub mod WordLemmas
-pub mod Standing
-pub mod Saying
-pub mod Changes
-pub mod Cutting
-pub mod Joining
-pub mod Limits
-pub mod Walk
-pub mod Lists
-pub mod Stays
+mod ReadOff
+mod Puts
+mod Standing
+mod Saying
+mod Changes
+mod Cutting
+mod Joining
+mod Limits
+mod Walk
+mod Lists
+mod Stays
+pub mod Laws

@@ -1,16 +1,18 @@
 -- What the tags say where the end of the tiles moves.
 use Rattle.std.proofs.Common.{◌≡◌, refl, sym, ap, subst, ◌∙◌, ℕ, ◌+◌, ◌-◌, ◌%◌, ◌<◌, ◌≤◌, ◌⊎◌, inl, inr, Some, None, Bool, false, List, [], ◌∷◌, ◌++◌, length, arith, cond, IsTrue, ◌==◌}
 use Rattle.std.proofs.lemmas.Bool.{eq-eqb}
+use Rattle.std.proofs.lemmas.Option.{same_Some, none-some}
 use Rattle.raw_region.specs.Memory.{Memory, Cut, Same, word_at, bytes_of}
 use Rattle.raw_region.specs.Format.{current}
+use Rattle.raw_region.proofs.Laws.{Same-word, SamePlace-trans}
 use Rattle.block_tags.specs.declared.tile.Tile.{Tile}
 use Rattle.block_tags.specs.Format.{is_legal_size}
 use Rattle.block_tags.specs.Tiles.{AreTags, Tiles}
 use Rattle.block_tags.specs.Lists.{free_tile, laid, with_free, last_in, without_last, IsBesideTags}
 use Rattle.block_tags.specs.Windows.{SaysTiles, FrontSaysTiles, CanAppend, HasFreeLast, SameBesideTags, IsPut}
 use Rattle.block_tags.proofs.ReadOff.{is_tile-IsWhole, AreTags-reaches}
-use Rattle.block_tags.proofs.WordLemmas.{word_at-same, word_at-beside, place-trans}
-use Rattle.block_tags.proofs.Standing.{is_tile-made, none_some, some_inj}
+use Rattle.block_tags.proofs.Puts.{put-word}
+use Rattle.block_tags.proofs.Standing.{is_tile-made}
 use Rattle.block_tags.proofs.Saying.{Legal, legal, one_list}
 use Rattle.block_tags.proofs.Cutting.{beside_word}
 
@@ -35,7 +37,7 @@ module _ (c c1 c2 c3 d : Cut) (size : IsTrue (is_legal_size (length c.bytes)))
       let at : 128 ≡ length c.bytes - 16 = omega arith in
       let at' : 128 + 8 ≡ length c.bytes - 16 + 8 = omega arith in (
         at,
-        ap (λ (k : ℕ). word_at (bytes_of d.bytes) k) at ∙ word_at-beside c3 d (n - 16 + 8) 1 p4 (n - 16) (inl (omega arith)) ∙ p3.word ∙ z,
+        ap (λ (k : ℕ). word_at (bytes_of d.bytes) k) at ∙ put-word c3 d (n - 16 + 8) 1 p4 (n - 16) (inl (omega arith)) ∙ p3.word ∙ z,
         ap (λ (k : ℕ). word_at (bytes_of d.bytes) k) at' ∙ p4.word,
       )
 
@@ -46,11 +48,11 @@ module _ (c c1 c2 c3 d : Cut) (size : IsTrue (is_legal_size (length c.bytes)))
       let at : 128 + (length c.bytes - 144) ≡ length c.bytes - 16 = omega arith in (
         refl,
         is_tile-made current 128 (n - 144) None false (omega arith) (omega arith) refl,
-        word_at-beside c3 d (n - 16 + 8) 1 p4 128 (inl (omega arith)) ∙ word_at-beside c2 c3 (n - 16) len p3 128 (inl (omega arith)) ∙ word_at-beside c1 c2 136 len p2 128 (inl (omega arith)) ∙ p1.word,
-        (word_at-beside c3 d (n - 16 + 8) 1 p4 136 (inl (omega arith)) ∙ word_at-beside c2 c3 (n - 16) len p3 136 (inl (omega arith)) ∙ p2.word ∙ omega arith),
+        put-word c3 d (n - 16 + 8) 1 p4 128 (inl (omega arith)) ∙ put-word c2 c3 (n - 16) len p3 128 (inl (omega arith)) ∙ put-word c1 c2 136 len p2 128 (inl (omega arith)) ∙ p1.word,
+        (put-word c3 d (n - 16 + 8) 1 p4 136 (inl (omega arith)) ∙ put-word c2 c3 (n - 16) len p3 136 (inl (omega arith)) ∙ p2.word ∙ omega arith),
         (
           at,
-          ap (λ (k : ℕ). word_at (bytes_of d.bytes) k) at ∙ word_at-beside c3 d (n - 16 + 8) 1 p4 (n - 16) (inl (omega arith)) ∙ p3.word ∙ sym same,
+          ap (λ (k : ℕ). word_at (bytes_of d.bytes) k) at ∙ put-word c3 d (n - 16 + 8) 1 p4 (n - 16) (inl (omega arith)) ∙ p3.word ∙ sym same,
           ap (λ (k : ℕ). word_at (bytes_of d.bytes) (k + 8)) at ∙ p4.word,
         ),
       )
@@ -74,7 +76,7 @@ module _ (c c1 c2 c3 d : Cut) (size : IsTrue (is_legal_size (length c.bytes)))
 
   pub laid_rest : SameBesideTags c d [] (laid (length c.bytes))
   laid_rest = record {
-    place = place-trans c c1 d p1.place (place-trans c1 c2 d p2.place (place-trans c2 c3 d p3.place p4.place));
+    place = SamePlace-trans c c1 d p1.place (SamePlace-trans c1 c2 d p2.place (SamePlace-trans c2 c3 d p3.place p4.place));
     size = laid_size;
     bytes = λ k o u l. elim (legal n size).room [
       | inl e ↦ unlaid k (inl (omega arith)) l
@@ -91,7 +93,7 @@ appended m m' at before [] end len h same long whole tag last mark =
     let P : ℕ → ℕ → Type 0 = λ (k x : ℕ). word_at m' k ≡ x in (
       sym h.0,
       is_tile-made current end len None false long whole refl,
-      word_at-same m m' at (record { at = λ k a b. same.at k a (omega arith) }) ∙ h.1,
+      Same-word m m' at (end + 8) at same (omega arith) (omega arith) ∙ h.1,
       (ap (λ (k : ℕ). word_at m' (k + 8)) e ∙ tag ∙ omega arith),
       (on, ap (λ (k : ℕ). word_at m' k) on ∙ last, ap (λ (k : ℕ). word_at m' (k + 8)) on ∙ mark),
     )
@@ -99,8 +101,8 @@ appended m m' at before (t ∷ ts) end len h same long whole tag last mark =
     let on = AreTags-reaches current m (at + t.len) t.len ts end h.4 in let far = (is_tile-IsWhole current t h.1).long in (
       h.0,
       h.1,
-      word_at-same m m' at (record { at = λ k a b. same.at k a (omega arith) }) ∙ h.2,
-      word_at-same m m' (at + 8) (record { at = λ k a b. same.at k (omega arith) (omega arith) }) ∙ h.3,
+      Same-word m m' at (end + 8) at same (omega arith) (omega arith) ∙ h.2,
+      Same-word m m' at (end + 8) (at + 8) same (omega arith) (omega arith) ∙ h.3,
       appended m m' (at + t.len) t.len ts end len h.4 (record { at = λ k a b. same.at k (omega arith) b }) long whole tag last mark,
     )
 
@@ -124,9 +126,9 @@ module _ (c c1 c2 d : Cut) (m : ℕ) (h : CanAppend c m)
       let front : Same (bytes_of c.bytes) (bytes_of d.bytes) 128 (m - 16 + 8) =
       record { at = λ k a b. p3.rest.at k (inl (omega arith)) ∙ p2.rest.at k (inl (omega arith)) ∙ p1.rest.at k (inl (omega arith)) } in
       let tags = appended (bytes_of c.bytes) (bytes_of d.bytes) 128 0 ts (m - 16) (length c.bytes - 16 - (m - 16)) said.tags front (omega arith) (omega arith)
-      (ap (λ (k : ℕ). word_at (bytes_of d.bytes) k) tag_at ∙ word_at-beside c2 d (length c.bytes - 16 + 8) 1 p3 (m - 8) (inl (omega arith))
-      ∙ word_at-beside c1 c2 (length c.bytes - 16) (length c.bytes - m) p2 (m - 8) (inl (omega arith)) ∙ p1.word ∙ same_len)
-      (ap (λ (k : ℕ). word_at (bytes_of d.bytes) k) on ∙ word_at-beside c2 d (length c.bytes - 16 + 8) 1 p3 (length c.bytes - 16) (inl (omega arith)) ∙ p2.word ∙ same_len)
+      (ap (λ (k : ℕ). word_at (bytes_of d.bytes) k) tag_at ∙ put-word c2 d (length c.bytes - 16 + 8) 1 p3 (m - 8) (inl (omega arith))
+      ∙ put-word c1 c2 (length c.bytes - 16) (length c.bytes - m) p2 (m - 8) (inl (omega arith)) ∙ p1.word ∙ same_len)
+      (ap (λ (k : ℕ). word_at (bytes_of d.bytes) k) on ∙ put-word c2 d (length c.bytes - 16 + 8) 1 p3 (length c.bytes - 16) (inl (omega arith)) ∙ p2.word ∙ same_len)
       (ap (λ (k : ℕ). word_at (bytes_of d.bytes) (k + 8)) on ∙ p3.word) in
       subst (λ (k : ℕ). AreTags current (bytes_of d.bytes) 128 0 (with_free ts (m - 16) (length c.bytes - 16)) k) on tags
 
@@ -138,7 +140,7 @@ module _ (c c1 c2 d : Cut) (m : ℕ) (h : CanAppend c m)
 
   pub appended_rest : SameBesideTags c d ts (with_free ts (m - 16) (length c.bytes - 16))
   appended_rest = record {
-    place = place-trans c c1 d p1.place (place-trans c1 c2 d p2.place p3.place);
+    place = SamePlace-trans c c1 d p1.place (SamePlace-trans c1 c2 d p2.place p3.place);
     size = appended_size;
     bytes = λ k o u l.
         let g = legal m said.size in let low = g.low in
@@ -157,11 +159,11 @@ record Ends (m : Memory) (at before : ℕ) (ts : List Tile) (end : ℕ) (t : Til
   dropped : (m' : Memory) → Same m m' at (t.offset + 8) → word_at m' (t.offset + 8) ≡ 1 → AreTags current m' at before (without_last ts) t.offset
 
 ends_with : (m : Memory) (at before : ℕ) (ts : List Tile) (end : ℕ) (t : Tile) → AreTags current m at before ts end → last_in ts ≡ Some t → Ends m at before ts end t
-ends_with m at before [] end t h e = absurd (none_some (last_in []) t refl e)
+ends_with m at before [] end t h e = absurd (none-some t e)
 ends_with m at before (u ∷ []) end t h e =
     let P : Tile → Type 0 = λ (v : Tile). Ends m at before (u ∷ []) end v in
     let there = h.0 in let rest = h.4 in let on : at + u.len ≡ end = rest.0 in let whole = (is_tile-IsWhole current u h.1).whole in
-    subst P (some_inj u t e) (record {
+    subst P (same_Some u t e) (record {
       word = ap (λ (k : ℕ). word_at m k) (sym on) ∙ rest.1;
       ends = omega arith;
       long = (is_tile-IsWhole current u h.1).long;
@@ -169,7 +171,7 @@ ends_with m at before (u ∷ []) end t h e =
       room = inl h.0;
       tag = λ k o. o.0;
       dropped = λ m' same mark.
-          (sym h.0, word_at-same m m' at (record { at = λ k a b. same.at k a (omega arith) }) ∙ h.2, ap (λ (k : ℕ). word_at m' (k + 8)) (sym h.0) ∙ mark);
+          (sym h.0, Same-word m m' at (u.offset + 8) at same (omega arith) (omega arith) ∙ h.2, ap (λ (k : ℕ). word_at m' (k + 8)) (sym h.0) ∙ mark);
     })
 ends_with m at before (u ∷ v ∷ ts) end t h e =
     let on : Ends m (at + u.len) u.len (v ∷ ts) end t = ends_with m (at + u.len) u.len (v ∷ ts) end t h.4 e in
@@ -185,8 +187,8 @@ ends_with m at before (u ∷ v ∷ ts) end t h e =
       dropped = λ m' same mark. (
         h.0,
         h.1,
-        word_at-same m m' at (record { at = λ k a b. same.at k a (omega arith) }) ∙ h.2,
-        word_at-same m m' (at + 8) (record { at = λ k a b. same.at k (omega arith) (omega arith) }) ∙ h.3,
+        Same-word m m' at (t.offset + 8) at same (omega arith) (omega arith) ∙ h.2,
+        Same-word m m' at (t.offset + 8) (at + 8) same (omega arith) (omega arith) ∙ h.3,
         on.dropped m' (record { at = λ k a b. same.at k (omega arith) b }) mark,
       );
     }

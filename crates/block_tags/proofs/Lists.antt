@@ -2,14 +2,16 @@
 use Rattle.std.proofs.Common.{◌≡◌, refl, sym, ap, subst, ◌∙◌, ℕ, ◌+◌, ◌-◌, ◌<◌, ◌≤◌, inl, inr, Some, None, Bool, false, List, [], ◌∷◌, ◌++◌, length, arith, cond, ◌==◌}
 use Rattle.std.specs.Prelude.{Option}
 use Rattle.std.proofs.lemmas.Bool.{eq-eqb, eqb-true}
-use Rattle.raw_region.specs.Memory.{Memory, bytes_of}
+use Rattle.std.proofs.lemmas.Option.{same_Some, none-some}
+use Rattle.raw_region.specs.Memory.{Cut, Memory, bytes_of}
 use Rattle.raw_region.specs.Format.{current}
 use Rattle.block_tags.specs.declared.tile.Tile.{Tile}
 use Rattle.block_tags.specs.Tiles.{AreTags, tiles_of}
 use Rattle.block_tags.specs.Lists.{Fill, tile_in, first_in, next_in, previous_from, last_in, changed_at, IsBesideTags}
+use Rattle.block_tags.specs.Windows.{SaysTiles}
 use Rattle.block_tags.specs.Laws.{TilesAreReadOff, TileIsReadOff, GoodTagsSayTiles, TilesFillTheWindow, HeaderIsBesideTags, PayloadIsBesideTags, TileStandsInList, OneTileAtAnOffset, LastTileEndsList}
 use Rattle.block_tags.proofs.ReadOff.{is_tile-IsWhole, tiles_of-Tiles, has_tags-Tiles, has_tags-is_merged, Tiles-has_tags}
-use Rattle.block_tags.proofs.Standing.{some_inj, none_some, by_test}
+use Rattle.block_tags.proofs.Standing.{by_test}
 use Rattle.block_tags.proofs.Saying.{legal, reads}
 
 -- ---- what is read off
@@ -26,7 +28,7 @@ good_tags_say_tiles c size = (
 )
 
 -- ---- tiles fill a range
-AreTags-Fill : (format : ℕ) (m : Memory) (at before : ℕ) (ts : List Tile) (end : ℕ) → AreTags format m at before ts end → Fill format at ts end
+pub AreTags-Fill : (format : ℕ) (m : Memory) (at before : ℕ) (ts : List Tile) (end : ℕ) → AreTags format m at before ts end → Fill format at ts end
 AreTags-Fill format m at before [] end h = h.0
 AreTags-Fill format m at before (t ∷ ts) end h = (h.0, h.1, AreTags-Fill format m (at + t.len) t.len ts end h.4)
 
@@ -55,13 +57,13 @@ pub record InRange (from : ℕ) (ts : List Tile) (to at : ℕ) (t : Tile) : Type
   pub beside : (k : ℕ) → at + 16 ≤ k → k < at + t.len → IsBesideTags ts k
 
 pub in_range : (format from : ℕ) (ts : List Tile) (to at : ℕ) (t : Tile) → Fill format from ts to → tile_in ts at ≡ Some t → InRange from ts to at t
-in_range format from [] to at t h e = absurd (none_some None t refl e)
+in_range format from [] to at t h e = absurd (none-some t e)
 in_range format from (u ∷ us) to at t h e =
     let P : Tile → Type 0 = λ (v : Tile). InRange from (u ∷ us) to at v in
     by_test (u.offset == at) (InRange from (u ∷ us) to at t)
     (λ f.
     let there = eqb-true u.offset at f in let here = h.0 in let long = (is_tile-IsWhole format u h.1).long in let on = fill-reaches format (from + u.len) us to h.2 in
-    subst P (some_inj u t (sym (ap (λ (v : Bool). cond v (Some u) (tile_in us at)) f) ∙ e))
+    subst P (same_Some u t (sym (ap (λ (v : Bool). cond v (Some u) (tile_in us at)) f) ∙ e))
     (record { low = omega arith; long = long; high = omega arith; beside = λ k a b. (inr (omega arith), before_tags format (from + u.len) us to h.2 k (omega arith)) }))
     (λ f.
     let r = in_range format (from + u.len) us to at t h.2 (sym (ap (λ (v : Bool). cond v (Some u) (tile_in us at)) f) ∙ e) in
@@ -75,7 +77,7 @@ payload_is_beside_tags c ts at t said stands k a b =
 -- ---- where a tile stands
 
 -- the last tile, or the one before a list of none
-abbrev last_or : Option Tile → List Tile → Option Tile
+abbrev pub last_or : Option Tile → List Tile → Option Tile
 last_or before [] = before
 last_or before (t ∷ ts) = last_or (Some t) ts
 
@@ -83,7 +85,7 @@ last_or-last_in : (t : Tile) (ts : List Tile) → last_or (Some t) ts ≡ last_i
 last_or-last_in t [] = refl
 last_or-last_in t (u ∷ ts) = last_or-last_in u ts
 
-none_last : (ts : List Tile) → last_or None ts ≡ last_in ts
+pub none_last : (ts : List Tile) → last_or None ts ≡ last_in ts
 none_last [] = refl
 none_last (t ∷ ts) = last_or-last_in t ts
 
@@ -97,11 +99,11 @@ record StandsBehind (before : Option Tile) (ts : List Tile) (at : ℕ) (t : Tile
   changed : (change : Tile → List Tile → List Tile) → changed_at at change ts ≡ front ++ change t back
 
 stands_behind : (before : Option Tile) (ts : List Tile) (at : ℕ) (t : Tile) → tile_in ts at ≡ Some t → StandsBehind before ts at t
-stands_behind before [] at t e = absurd (none_some None t refl e)
+stands_behind before [] at t e = absurd (none-some t e)
 stands_behind before (u ∷ us) at t e =
     let P : Tile → Type 0 = λ (v : Tile). StandsBehind before (u ∷ us) at v in
     by_test (u.offset == at) (StandsBehind before (u ∷ us) at t)
-    (λ f. subst P (some_inj u t (sym (ap (λ (v : Bool). cond v (Some u) (tile_in us at)) f) ∙ e))
+    (λ f. subst P (same_Some u t (sym (ap (λ (v : Bool). cond v (Some u) (tile_in us at)) f) ∙ e))
     (record {
       front = [];
       back = us;
@@ -143,8 +145,19 @@ one_at format from (u ∷ us) t back to h =
 pub one_tile_at_an_offset : OneTileAtAnOffset
 one_tile_at_an_offset c front t back said = one_at current 128 front t back (length c.bytes - 16) (tiles_fill_the_window c (front ++ t ∷ back) said)
 
+-- the tile behind it
+next_at : (format from : ℕ) (front : List Tile) (t : Tile) (back : List Tile) (to : ℕ) → Fill format from (front ++ t ∷ back) to → next_in (front ++ t ∷ back) t.offset ≡ first_in back
+next_at format from [] t back to h = ap (λ (v : Bool). cond v (first_in back) (next_in back t.offset)) (eq-eqb t.offset t.offset refl)
+next_at format from (u ∷ us) t back to h =
+    let on = offset_low format (from + u.len) us t back to h.2 in let long = (is_tile-IsWhole format u h.1).long in let here = h.0 in
+    let other : (u.offset == t.offset) ≡ false = grind arith in
+    ap (λ (v : Bool). cond v (first_in (us ++ t ∷ back)) (next_in (us ++ t ∷ back) t.offset)) other ∙ next_at format (from + u.len) us t back to h.2
+
+pub next_stands_behind : (c : Cut) (front : List Tile) (t : Tile) (back : List Tile) → SaysTiles c (front ++ t ∷ back) → next_in (front ++ t ∷ back) t.offset ≡ first_in back
+next_stands_behind c front t back said = next_at current 128 front t back (length c.bytes - 16) (tiles_fill_the_window c (front ++ t ∷ back) said)
+
 -- ---- the last tile
 pub last_tile_ends_list : LastTileEndsList
-last_tile_ends_list [] t e = absurd (none_some (last_in []) t refl e)
-last_tile_ends_list (u ∷ []) t e = ap (λ (v : Tile). v ∷ []) (some_inj u t e)
+last_tile_ends_list [] t e = absurd (none-some t e)
+last_tile_ends_list (u ∷ []) t e = ap (λ (v : Tile). v ∷ []) (same_Some u t e)
 last_tile_ends_list (u ∷ v ∷ ts) t e = ap (λ (us : List Tile). u ∷ us) (last_tile_ends_list (v ∷ ts) t e)

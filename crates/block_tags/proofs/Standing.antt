@@ -8,8 +8,9 @@ use Rattle.block_tags.specs.declared.tile.Tile.{Tile}
 use Rattle.block_tags.specs.Tiles.{AreTags, is_tile, may_be_red, tile_at}
 use Rattle.block_tags.specs.Lists.{tile_in, first_in, next_in, previous_from, changed_at, IsBesideTags}
 use Rattle.std.proofs.lemmas.Bool.{and_parts, and_from}
+use Rattle.std.proofs.lemmas.Option.{same_Some, none-some}
 use Rattle.block_tags.proofs.ReadOff.{is_tile-IsWhole, tile_at-tag_word, AreTags-reaches}
-use Rattle.block_tags.proofs.WordLemmas.{word_at-same}
+use Rattle.raw_region.proofs.Laws.{Same-word}
 
 -- ---- the fields of a test of a tile
 pub is_tile-made : (format offset len : ℕ) (use_of : Option Role) (red : Bool) → 32 ≤ len → len % 16 ≡ 0 → IsTrue (not red || may_be_red format use_of)
@@ -30,11 +31,11 @@ pub retag : (format : ℕ) (m m' : Memory) (at before before' : ℕ) (ts : List 
     → Same m m' (at + 8) (end + 16) → word_at m' at ≡ before' → AreTags format m' at before' ts end
 retag format m m' at before before' [] end h same w =
     let e = h.0 in
-    (h.0, w, word_at-same m m' (at + 8) (record { at = λ k a b. same.at k a (omega arith) }) ∙ h.2)
+    (h.0, w, Same-word m m' (at + 8) (end + 16) (at + 8) same (omega arith) (omega arith) ∙ h.2)
 retag format m m' at before before' (t ∷ ts) end h same w =
     let on = AreTags-reaches format m (at + t.len) t.len ts end h.4 in let long = (is_tile-IsWhole format t h.1).long in
-    let word = word_at-same m m' (at + 8) (record { at = λ k a b. same.at k a (omega arith) }) in
-    let next = word_at-same m m' (at + t.len) (record { at = λ k a b. same.at k (omega arith) (omega arith) }) in
+    let word = Same-word m m' (at + 8) (end + 16) (at + 8) same (omega arith) (omega arith) in
+    let next = Same-word m m' (at + 8) (end + 16) (at + t.len) same (omega arith) (omega arith) in
     let rest = retag format m m' (at + t.len) t.len t.len ts end h.4 (record { at = λ k a b. same.at k (omega arith) b }) (next ∙ head_word format m (at + t.len) t.len ts end h.4) in
     (h.0, h.1, w, word ∙ h.3, rest)
 
@@ -62,17 +63,11 @@ pub record Standing (format : ℕ) (m : Memory) (from first : ℕ) (last : Optio
   pub changed : (change : Tile → List Tile → List Tile) (m' : Memory) → Same m m' from at → AreTags format m' at before (change tile behind) end
       → AreTags format m' from first (changed_at at change ts) end
 
-pub some_inj : (a b : Tile) → Some a ≡ Some b → a ≡ b
-some_inj a b e = cc
-
-pub none_some : (o : Option Tile) (b : Tile) → o ≡ None → o ≡ Some b → ⊥
-none_some o b e f = cc
-
 module _ (format : ℕ) (m : Memory) (from first : ℕ) (last : Option Tile) (t : Tile) (ts : List Tile) (end at : ℕ) (tile : Tile)
     (h : AreTags format m from first (t ∷ ts) end) (b : IsBefore m from first last) (stands : tile_in (t ∷ ts) at ≡ Some tile) where
   here : (t.offset == at) ≡ true → Standing format m from first last (t ∷ ts) end at tile
   here e =
-      let same : t ≡ tile = some_inj t tile (sym (ap (λ (v : Bool). cond v (Some t) (tile_in ts at)) e) ∙ stands) in
+      let same : t ≡ tile = same_Some t tile (sym (ap (λ (v : Bool). cond v (Some t) (tile_in ts at)) e) ∙ stands) in
       let there : from ≡ at = sym h.0 ∙ eqb-true t.offset at e in
       let P : Tile → Type 0 = λ (u : Tile). Standing format m from first last (t ∷ ts) end at u in
       subst P same (record {
@@ -113,8 +108,8 @@ module _ (format : ℕ) (m : Memory) (from first : ℕ) (last : Option Tile) (t 
         changed = λ change m' same g. subst (λ (v : Bool). AreTags format m' from first (cond v (change t ts) (t ∷ changed_at at change ts)) end) (sym e) (
           h.0,
           h.1,
-          word_at-same m m' from (record { at = λ k a b. same.at k (omega arith) (omega arith) }) ∙ h.2,
-          word_at-same m m' (from + 8) (record { at = λ k a b. same.at k (omega arith) (omega arith) }) ∙ h.3,
+          Same-word m m' from at from same (omega arith) (omega arith) ∙ h.2,
+          Same-word m m' from at (from + 8) same (omega arith) (omega arith) ∙ h.3,
           s.changed change m' (record { at = λ k a b. same.at k (omega arith) b }) g,
         );
       }
@@ -125,7 +120,7 @@ by_test false P f g = g refl
 
 pub standing : (format : ℕ) (m : Memory) (from first : ℕ) (last : Option Tile) (ts : List Tile) (end at : ℕ) (tile : Tile)
     → AreTags format m from first ts end → IsBefore m from first last → tile_in ts at ≡ Some tile → Standing format m from first last ts end at tile
-standing format m from first last [] end at tile h b e = absurd (none_some None tile refl e)
+standing format m from first last [] end at tile h b e = absurd (none-some tile e)
 standing format m from first last (t ∷ ts) end at tile h b e =
     by_test (t.offset == at) (Standing format m from first last (t ∷ ts) end at tile) (here format m from first last t ts end at tile h b e)
     (λ f. there format m from first last t ts end at tile h b e f

@@ -1,7 +1,8 @@
 -- Tags whose bytes stay say the same tiles, whatever else changes.
-use Rattle.std.proofs.Common.{◌≡◌, refl, sym, ap, subst, ◌∙◌, ℕ, ◌+◌, ◌-◌, ◌≤◌, inl, inr, Some, None, Bool, List, [], ◌∷◌, length, arith, cond, IsTrue, ◌==◌}
+use Rattle.std.proofs.Common.{◌≡◌, sym, ap, subst, ◌∙◌, ℕ, ◌+◌, ◌-◌, ◌≤◌, inl, inr, Some, Bool, List, [], ◌∷◌, length, arith, cond, IsTrue, ◌==◌}
 use Rattle.std.specs.List.{AllByRecursion}
 use Rattle.std.proofs.lemmas.Bool.{eqb-true}
+use Rattle.std.proofs.lemmas.Option.{same_Some, none-some}
 use Rattle.raw_region.specs.Memory.{Memory, Same, SameBut, bytes_of}
 use Rattle.raw_region.specs.Format.{current}
 use Rattle.block_tags.specs.declared.tile.Tile.{Tile}
@@ -10,8 +11,8 @@ use Rattle.block_tags.specs.Tiles.{AreTags, Tiles}
 use Rattle.block_tags.specs.Lists.{Fill, tile_in}
 use Rattle.block_tags.specs.Laws.{SameTags, TagsThatStaySayTheSame, PayloadMayChange, HeaderMayChange, FrontIsAWindow}
 use Rattle.block_tags.proofs.ReadOff.{is_tile-IsWhole}
-use Rattle.block_tags.proofs.WordLemmas.{word_at-same}
-use Rattle.block_tags.proofs.Standing.{some_inj, none_some, by_test, head_word, retag}
+use Rattle.raw_region.proofs.Laws.{Same-word}
+use Rattle.block_tags.proofs.Standing.{by_test, head_word, retag}
 use Rattle.block_tags.proofs.Saying.{legal}
 use Rattle.block_tags.proofs.Lists.{tiles_fill_the_window}
 
@@ -19,13 +20,13 @@ AreTags-same : (format : ℕ) (m m' : Memory) (at before : ℕ) (ts : List Tile)
     → AllByRecursion (λ (t : Tile). Same m m' t.offset (t.offset + 16)) ts → Same m m' end (end + 16) → AreTags format m' at before ts end
 AreTags-same format m m' at before [] end h tags last =
     let e = h.0 in
-    (h.0, word_at-same m m' at (record { at = λ k a b. last.at k (omega arith) (omega arith) }) ∙ h.1, word_at-same m m' (at + 8) (record { at = λ k a b. last.at k (omega arith) (omega arith) }) ∙ h.2)
+    (h.0, Same-word m m' end (end + 16) at last (omega arith) (omega arith) ∙ h.1, Same-word m m' end (end + 16) (at + 8) last (omega arith) (omega arith) ∙ h.2)
 AreTags-same format m m' at before (t ∷ ts) end h tags last =
     let e = h.0 in let tag = tags.0 in (
       h.0,
       h.1,
-      word_at-same m m' at (record { at = λ k a b. tag.at k (omega arith) (omega arith) }) ∙ h.2,
-      word_at-same m m' (at + 8) (record { at = λ k a b. tag.at k (omega arith) (omega arith) }) ∙ h.3,
+      Same-word m m' t.offset (t.offset + 16) at tag (omega arith) (omega arith) ∙ h.2,
+      Same-word m m' t.offset (t.offset + 16) (at + 8) tag (omega arith) (omega arith) ∙ h.3,
       AreTags-same format m m' (at + t.len) t.len ts end h.4 tags.1 last,
     )
 
@@ -50,12 +51,12 @@ header_may_change c d ts said size from n l same =
 -- bytes that change in a payload
 tags_round : (format : ℕ) (m m' : Memory) (first : ℕ) (ts : List Tile) (to from n at : ℕ) (t : Tile) → Fill format first ts to → tile_in ts at ≡ Some t
     → at + 16 ≤ from → from + n ≤ at + t.len → SameBut m m' from n → (SameTags m m' ts to) × (first ≤ at)
-tags_round format m m' first [] to from n at t h e a b same = absurd (none_some None t refl e)
+tags_round format m m' first [] to from n at t h e a b same = absurd (none-some t e)
 tags_round format m m' first (u ∷ us) to from n at t h e a b same =
     by_test (u.offset == at) ((SameTags m m' (u ∷ us) to) × (first ≤ at))
     (λ f.
     let there = eqb-true u.offset at f in let here = h.0 in
-    let is : u ≡ t = some_inj u t (sym (ap (λ (v : Bool). cond v (Some u) (tile_in us at)) f) ∙ e) in
+    let is : u ≡ t = same_Some u t (sym (ap (λ (v : Bool). cond v (Some u) (tile_in us at)) f) ∙ e) in
     let len : u.len ≡ t.len = ap (λ (v : Tile). v.len) is in
     let rest = tags_behind format m m' (first + u.len) us to from n h.2 (omega arith) same in
     (record { tags = (record { at = λ k c d. same.at k (inl (omega arith)) }, rest.tags); last = rest.last }, omega arith))
@@ -79,7 +80,7 @@ front_is_a_window c d ts l same = (
         size = said.size;
         within = l;
         tags = retag current (bytes_of c.bytes) (bytes_of d.bytes) 128 0 0 ts (length c.bytes - 16) said.tags (record { at = λ k a b. same.at k (omega arith) (omega arith) })
-            (word_at-same (bytes_of c.bytes) (bytes_of d.bytes) 128 (record { at = λ k a b. same.at k (omega arith) (omega arith) })
+            (Same-word (bytes_of c.bytes) (bytes_of d.bytes) 0 (length c.bytes) 128 same (omega arith) (omega arith)
             ∙ head_word current (bytes_of c.bytes) 128 0 ts (length c.bytes - 16) said.tags);
       }),
   (λ said.
@@ -87,7 +88,7 @@ front_is_a_window c d ts l same = (
       record {
         size = said.size;
         tags = retag current (bytes_of d.bytes) (bytes_of c.bytes) 128 0 0 ts (length c.bytes - 16) said.tags (record { at = λ k a b. sym (same.at k (omega arith) (omega arith)) })
-            (word_at-same (bytes_of d.bytes) (bytes_of c.bytes) 128 (record { at = λ k a b. sym (same.at k (omega arith) (omega arith)) })
+            (sym (Same-word (bytes_of c.bytes) (bytes_of d.bytes) 0 (length c.bytes) 128 same (omega arith) (omega arith))
             ∙ head_word current (bytes_of d.bytes) 128 0 ts (length c.bytes - 16) said.tags);
       }),
 )

@@ -6,8 +6,9 @@ ghost use Rattle.block_tags.specs.Checks.{is_good_tile, is_tagged};
 ghost use Rattle.block_tags.specs.Format.{is_legal_size};
 ghost use Rattle.block_tags.specs.Tiles.{has_tags};
 
+use crate::sizes::{FIRST, TAG};
 use crate::tile::{BadTag, Tile};
-use crate::words::{END_MARK, FIRST, TAG, may_be_red, tag_word, tile_there};
+use crate::words::{END_MARK, may_be_red, tag_word, tile_there};
 use raw_region::Window;
 
 /// Reads all tags of a window of 144 bytes, or of a multiple of 16 from 176 to 2 to the 30th, whatever its bytes are.
@@ -47,7 +48,7 @@ pub fn check(window: &Window) -> Result<(), BadTag>
 fn is_good(window: &Window, at: u64, before: u64, behind_free: bool, end: u64) -> bool
     requires inside { at < end }
     requires small { end < 2 ^ 63 }
-    requires end { end + 16 ≤ length window.now.bytes }
+    requires end { end + TAG ≤ length window.now.bytes }
     ensures { result ≡ is_good_tile current (bytes_of window.now.bytes) at before behind_free end }
 {
     let tile = tile_there(window, at);

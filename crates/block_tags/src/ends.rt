@@ -5,7 +5,8 @@ ghost use Rattle.block_tags.specs.Format.{is_legal_size};
 ghost use Rattle.block_tags.specs.Lists.{laid, with_free, without_last};
 ghost use Rattle.block_tags.specs.Windows.{CanAppend, FrontSaysTiles, HasFreeLast, SameBesideTags, SaysTiles};
 
-use crate::words::{END_MARK, FIRST, TAG, put_word};
+use crate::sizes::{FIRST, TAG};
+use crate::words::{END_MARK, put_word};
 use raw_region::Window;
 
 /// Writes the tags of one free tile that fills the window behind the header, or of none where there is no room for one.
@@ -28,9 +29,9 @@ pub fn lay(window: &mut Window)
 pub fn append_free(window: &mut Window, old_size: u64)
     requires { CanAppend window.old old_size }
     ensures tags { (ts : List Tile) → FrontSaysTiles window.old old_size ts
-        → SaysTiles window.new (with_free ts (old_size - 16) (length window.old.bytes - 16)) }
+        → SaysTiles window.new (with_free ts (old_size - TAG) (length window.old.bytes - TAG)) }
     ensures rest { (ts : List Tile) → FrontSaysTiles window.old old_size ts
-        → SameBesideTags window.old window.new ts (with_free ts (old_size - 16) (length window.old.bytes - 16)) }
+        → SameBesideTags window.old window.new ts (with_free ts (old_size - TAG) (length window.old.bytes - TAG)) }
 {
     let size = window.size();
     let end = size - TAG;

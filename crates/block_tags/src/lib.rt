@@ -8,9 +8,9 @@
 mod changing;
 mod checking;
 mod ends;
-pub mod laws;
 mod reading;
 mod sizes;
+pub mod theorems;
 mod tile;
 mod words;
 
@@ -18,5 +18,5 @@ pub use changing::{merge_next, set_red, set_use, split};
 pub use checking::check;
 pub use ends::{append_free, drop_last, lay};
 pub use reading::{first, next, previous, red, tile_at};
-pub use sizes::is_legal_size;
+pub use sizes::{FIRST, TAG, is_legal_size};
 pub use tile::{BadTag, Role, Tile};

@@ -4,8 +4,9 @@ ghost use Rattle.block_tags.specs.declared.tile.Tile.{Tile};
 ghost use Rattle.block_tags.specs.Lists.{first_in, next_in, previous_in, tile_in};
 ghost use Rattle.block_tags.specs.Windows.{HasTileAt, IsTiled, SaysTiles};
 
+use crate::sizes::{FIRST, TAG};
 use crate::tile::Tile;
-use crate::words::{FIRST, TAG, tile_there};
+use crate::words::tile_there;
 use raw_region::Window;
 
 /// The tile that begins at the offset `at`.

@@ -1,6 +1,12 @@
-//! How many bytes a segment may have.
+//! How many bytes a segment, its header and a tag have.
 ghost use Rattle.std.specs.Prelude.{◌≡◌};
 ghost use Rattle.block_tags.specs.Format.{is_legal_size as is_legal};
+
+/// The number of bytes that a tag takes in front of a tile's payload, and the end tag at the end of a segment.
+pub const TAG: u64 = 16;
+
+/// The number of bytes of the header: where the first tile begins, or the end tag where there is none.
+pub const FIRST: u64 = 128;
 
 /// Whether a segment may have so many bytes: 144, which is no tile, or a multiple of 16 from 176 to 1073741824.
 pub fn is_legal_size(size: u64) -> bool

@@ -5,14 +5,9 @@ ghost use Rattle.raw_region.specs.Format.{current};
 ghost use Rattle.block_tags.specs.Tiles.{may_be_red as may_be_red_in, role_bits as bits_of_role, role_of_bits as role_of, tag_word as word_of, tile_at as tile_said, tile_of_word as tile_of};
 ghost use Rattle.block_tags.specs.Windows.{IsPut};
 
+use crate::sizes::TAG;
 use crate::tile::{Role, Tile};
 use raw_region::Window;
-
-/// The number of bytes of a tag.
-pub const TAG: u64 = 16;
-
-/// Where the first tile begins, or the end tag where there is none: behind the header.
-pub const FIRST: u64 = 128;
 
 /// The second word of the end tag: a tile in use of no length.
 pub const END_MARK: u64 = 1;
@@ -83,7 +78,7 @@ pub fn may_be_red(use_of: Option<Role>) -> bool
 /// The tile that the 16 bytes at `at` say.
 pub fn tile_there(window: &Window, at: u64) -> Tile
     requires small { at < 2 ^ 63 }
-    requires inside { at + 16 ≤ length window.now.bytes }
+    requires inside { at + TAG ≤ length window.now.bytes }
     ensures { result ≡ tile_said (bytes_of window.now.bytes) at }
 {
     tile_of_word(at, window.read_u64(at + 8))

@@ -1,29 +1,13 @@
 -- The extents of a directory, which are proper at its size, are so at larger sizes, and at the least one that is not before their end.
-use Rattle.std.proofs.Common.{◌≡◌, subst, ℕ, ◌+◌, ◌-◌, ◌%◌, ◌≤◌, ◌⊎◌, inl, inr, true, ◌&&◌, List, [], ◌∷◌, arith, nat_le, ◌==◌, IsTrue}
-use Rattle.std.proofs.lemmas.Bool.{and_parts, and_from, or_cases, or_left, or_right, eqb-true, eq-eqb, leb-true, le-leb}
+use Rattle.std.proofs.Common.{◌≡◌, subst, ℕ, ◌+◌, ◌-◌, ◌%◌, ◌≤◌, ◌⊎◌, inl, inr, ◌&&◌, List, [], ◌∷◌, arith, nat_le, ◌==◌, IsTrue}
+use Rattle.std.proofs.lemmas.Bool.{and_parts, and_from, or_left, or_right, eq-eqb, le-leb}
 use Rattle.block_tags.specs.Format.{is_legal_size}
-use Rattle.best_fit.specs.Extents.{Extent, end_of, is_block, is_hole, is_proper, proper_from}
+use Rattle.best_fit.specs.Extents.{Extent, end_of, is_proper, proper_from}
+use Rattle.best_fit.proofs.Laws.{IsBlock, IsFirst, IsFirst-proper_from, IsHole, IsLegal, is_hole-IsHole, legal_size, proper_from-IsFirst}
 use Rattle.segment_manager.specs.Directory.{Directory, live}
 use Rattle.grow_shrink.specs.Resized.{GrownIsDirectory, ShrunkIsDirectory, ShrunkIsLeast, last_end}
 
 -- ---- legal sizes
-
--- the least size, or a multiple of 16 in range
-record IsLegal (size : ℕ) : Type 0 where
-  whole : size % 16 ≡ 0
-  least : 144 ≤ size
-  most : size ≤ 1073741824
-
-legal-cases : (size : ℕ) → ((size == 144) ≡ true) ⊎ (((size % 16 == 0) && nat_le 176 size && nat_le size 1073741824) ≡ true) → IsLegal size
-legal-cases size (inl e) = let is = eqb-true size 144 e in record { whole = omega arith; least = omega arith; most = omega arith }
-legal-cases size (inr h) =
-    let two = and_parts ((size % 16 == 0) && nat_le 176 size) (nat_le size 1073741824) h in
-    let one = and_parts (size % 16 == 0) (nat_le 176 size) two.0 in
-    let low = leb-true 176 size one.1 in
-    record { whole = eqb-true (size % 16) 0 one.0; least = omega arith; most = leb-true size 1073741824 two.1 }
-
-legal : (size : ℕ) → IsTrue (is_legal_size size) → IsLegal size
-legal size h = legal-cases size (or_cases (size == 144) ((size % 16 == 0) && nat_le 176 size && nat_le size 1073741824) h)
 
 -- the test of a size with room for a block
 larger-is_legal : (size : ℕ) → size % 16 ≡ 0 → 176 ≤ size → size ≤ 1073741824 → IsTrue (is_legal_size size)
@@ -34,41 +18,23 @@ larger-is_legal size whole low high =
 
 -- ---- holes and blocks
 
--- what a proper list says of its first extent
-record IsFirst (from : ℕ) (x : Extent) (xs : List Extent) (to : ℕ) : Type 0 where
-  hole : IsTrue (is_hole from x.offset)
-  block : IsTrue (is_block x)
-  rest : IsTrue (proper_from (end_of x) xs to)
-
-first : (from : ℕ) (x : Extent) (xs : List Extent) (to : ℕ) → IsTrue (proper_from from (x ∷ xs) to) → IsFirst from x xs to
-first from x xs to h =
-    let two = and_parts (is_hole from x.offset && is_block x) (proper_from (end_of x) xs to) h in
-    let one = and_parts (is_hole from x.offset) (is_block x) two.0 in
-    record { hole = one.0; block = one.1; rest = two.1 }
-
 -- the same extent, and others behind it
 with_rest : (from : ℕ) (x : Extent) (xs : List Extent) (to to' : ℕ) → IsFirst from x xs to → IsTrue (proper_from (end_of x) xs to') → IsTrue (proper_from from (x ∷ xs) to')
-with_rest from x xs to to' f rest =
-    and_from (is_hole from x.offset && is_block x) (proper_from (end_of x) xs to') (and_from (is_hole from x.offset) (is_block x) f.hole f.block) rest
-
-hole-cases : (a b : ℕ) → ((a == b) ≡ true) ⊎ (nat_le (a + 32) b ≡ true) → a ≤ b
-hole-cases a b (inl e) = let is = eqb-true a b e in omega arith
-hole-cases a b (inr l) = let is = leb-true (a + 32) b l in omega arith
+with_rest from x xs to to' f rest = IsFirst-proper_from from x xs to' (record { hole = f.hole; block = f.block; rest = rest })
 
 -- a hole ends where it begins or later
-hole-reaches : (a b : ℕ) → IsTrue (is_hole a b) → a ≤ b
-hole-reaches a b h = hole-cases a b (or_cases (a == b) (nat_le (a + 32) b) h)
+hole-reaches : (a b : ℕ) → IsHole a b → a ≤ b
+hole-reaches a b (inl e) = omega arith
+hole-reaches a b (inr l) = omega arith
 
 -- a block ends at a multiple of 16, at least 32 bytes on
 record Ends (x : Extent) : Type 0 where
   whole : end_of x % 16 ≡ 0
   long : x.offset + 32 ≤ end_of x
 
-block-ends : (x : Extent) → IsTrue (is_block x) → Ends x
-block-ends x h =
-    let two = and_parts ((x.offset % 16 == 0) && nat_le 32 x.len) (x.len % 16 == 0) h in
-    let one = and_parts (x.offset % 16 == 0) (nat_le 32 x.len) two.0 in
-    let at = eqb-true (x.offset % 16) 0 one.0 in let len = eqb-true (x.len % 16) 0 two.1 in let long = leb-true 32 x.len one.1 in
+block-ends : (x : Extent) → IsBlock x → Ends x
+block-ends x b =
+    let at = b.offset in let len = b.len in let long = b.long in
     record { whole = omega arith; long = omega arith }
 
 -- ---- proper lists up to another end
@@ -76,16 +42,16 @@ block-ends x h =
 -- up to a later one, if enough for a free block lies between
 proper-farther : (from : ℕ) (xs : List Extent) (to to' : ℕ) → IsTrue (proper_from from xs to) → to + 32 ≤ to' → IsTrue (proper_from from xs to')
 proper-farther from [] to to' h l =
-    let reaches = hole-reaches from to h in
+    let reaches = hole-reaches from to (is_hole-IsHole from to h) in
     or_right (from == to') (nat_le (from + 32) to') (le-leb (from + 32) to' (omega arith))
 proper-farther from (x ∷ xs) to to' h l =
-    let f = first from x xs to h in with_rest from x xs to to' f (proper-farther (end_of x) xs to to' f.rest l)
+    let f = proper_from-IsFirst from x xs to h in with_rest from x xs to to' f (proper-farther (end_of x) xs to to' f.rest l)
 
 -- up to where the last extent ends
 proper-to_last : (from : ℕ) (xs : List Extent) (to : ℕ) → IsTrue (proper_from from xs to) → IsTrue (proper_from from xs (last_end from xs))
 proper-to_last from [] to h = or_left (from == from) (nat_le (from + 32) from) (eq-eqb from from (λ i. from))
 proper-to_last from (x ∷ xs) to h =
-    let f = first from x xs to h in with_rest from x xs to (last_end (end_of x) xs) f (proper-to_last (end_of x) xs to f.rest)
+    let f = proper_from-IsFirst from x xs to h in with_rest from x xs to (last_end (end_of x) xs) f (proper-to_last (end_of x) xs to f.rest)
 
 -- where that is
 record IsEnd (from to end : ℕ) : Type 0 where
@@ -97,9 +63,9 @@ end-behind : (from at mid to end : ℕ) → from ≤ at → at + 32 ≤ mid → 
 end-behind from at mid to end a b e = record { whole = e.whole; within = e.within; least = inr (let least = e.least in omega arith) }
 
 last-end : (from : ℕ) (xs : List Extent) (to : ℕ) → from % 16 ≡ 0 → IsTrue (proper_from from xs to) → IsEnd from to (last_end from xs)
-last-end from [] to whole h = record { whole = whole; within = hole-reaches from to h; least = inl (λ i. from) }
+last-end from [] to whole h = record { whole = whole; within = hole-reaches from to (is_hole-IsHole from to h); least = inl (λ i. from) }
 last-end from (x ∷ xs) to whole h =
-    let f = first from x xs to h in
+    let f = proper_from-IsFirst from x xs to h in
     let ends = block-ends x f.block in
     end-behind from x.offset (end_of x) to (last_end (end_of x) xs) (hole-reaches from x.offset f.hole) ends.long (last-end (end_of x) xs to ends.whole f.rest)
 
@@ -107,14 +73,14 @@ last-end from (x ∷ xs) to whole h =
 
 -- what a proper live set says
 record IsProper (size : ℕ) (xs : List Extent) : Type 0 where
-  legal : IsLegal size
+  whole_size : IsLegal size
   list : IsTrue (proper_from 128 xs (size - 16))
 
 proper : (d : Directory) → IsTrue (is_proper (live d)) → IsProper d.size (live d).extents
 unfolding is_proper live
 proper d h =
     let parts = and_parts (is_legal_size d.size) (proper_from 128 (live d).extents (d.size - 16)) h in
-    record { legal = legal d.size parts.0; list = parts.1 }
+    record { whole_size = legal_size d.size parts.0; list = parts.1 }
 
 -- the directory at another size where its live set is proper
 at_size : (d : Directory) (size : ℕ) → IsTrue (is_legal_size size) → IsTrue (proper_from 128 (live d).extents (size - 16)) → IsTrue (is_proper (live (record d { size = size })))
@@ -124,7 +90,7 @@ at_size d size h list = and_from (is_legal_size size) (proper_from 128 (live d).
 pub grown-directory : GrownIsDirectory
 grown-directory format d extra is more whole most =
     let p = proper d is.proper in
-    let low = p.legal.least in let even = p.legal.whole in
+    let low = p.whole_size.low in let even = p.whole_size.whole in
     record {
       proper = at_size d (d.size + extra) (larger-is_legal (d.size + extra) (omega arith) (omega arith) most)
           (proper-farther 128 (live d).extents (d.size - 16) (d.size + extra - 16) p.list (omega arith));
@@ -144,7 +110,7 @@ pub shrunk-directory : ShrunkIsDirectory
 shrunk-directory format d is =
     let p = proper d is.proper in
     let e = last-end 128 (live d).extents (d.size - 16) (λ i. 0) p.list in
-    let low = p.legal.least in let most = p.legal.most in let within = e.within in
+    let low = p.whole_size.low in let most = p.whole_size.high in let within = e.within in
     let back : last_end 128 (live d).extents ≡ last_end 128 (live d).extents + 16 - 16 = omega arith in
     record {
       proper = at_size d (last_end 128 (live d).extents + 16) (least-is_legal (last_end 128 (live d).extents) e.whole e.least (omega arith))
@@ -163,6 +129,6 @@ same-extents d size = λ i. (live d).extents
 pub shrunk-least : ShrunkIsLeast
 shrunk-least format d size is other =
     let p = proper (record d { size = size }) other.proper in
-    let low = p.legal.least in
+    let low = p.whole_size.low in
     let e = last-end 128 (live d).extents (size - 16) (λ i. 0) (subst (λ xs. IsTrue (proper_from 128 xs (size - 16))) (same-extents d size) p.list) in
     let within = e.within in omega arith

@@ -1,15 +1,17 @@
 -- Bytes and the numbers in them: how large a word is, which bytes spell it, and which words are made of zeros.
-use Rattle.std.proofs.Common.{◌≡◌, refl, sym, ap, ◌∙◌, ℕ, zero, suc, ◌+◌, ◌*◌, ◌/◌, ◌%◌, ◌^◌, ◌<◌, ◌≤◌, ◌==◌, List, [], ◌∷◌, ◌++◌, arith}
-use Rattle.std.specs.Prelude.{IsTrue, nat_lt, slice_index}
-use Rattle.std.proofs.Math.Nat.{div-div-eq-div-mul, div-one, pow-succ'}
+use Rattle.std.proofs.Common.{◌≡◌, refl, sym, ap, ◌∙◌, ℕ, zero, suc, ◌+◌, ◌*◌, ◌^◌, ◌<◌, ◌≤◌, ◌==◌, List, [], ◌∷◌, ◌++◌, arith, subst}
+use Rattle.std.specs.Prelude.{IsTrue, nat_lt, slice_index, length}
+use Rattle.std.specs.List.{AllByRecursion}
 use Rattle.std.proofs.lemmas.Bool.{and_parts, and_from, eqb-true, eq-eqb, ltb-true, lt-ltb, cases_lt}
 use Rattle.std.proofs.lemmas.List.Folds.{list_all-append}
 use mathlib.Core.Logic.{⊎_elim}
-use Rattle.std.specs.Int.{byte_at, bytes_low_first}
+use Rattle.std.specs.Int.{bytes_low_first}
 use Rattle.byteorder.specs.Endian.{little_number}
 use Rattle.byteorder.specs.Numbers.{little_from-cons}
 use Rattle.raw_region.specs.Memory.{Memory, bytes_of, read, word_at, half_word_at, AreZero}
-use Rattle.image_check.specs.Classes.{are_bytes, is_zero}
+use Rattle.seg_types.proofs.Laws.{bytes-back, number-small}
+use Rattle.image_check.specs.EarlyTests.{is_zero}
+use Rattle.image_check.specs.Classes.{are_bytes}
 
 -- ---- memory whose bytes are below 256
 
@@ -37,43 +39,23 @@ number_at m at n = little_number n (read m at n)
 pub number_at-suc : (m : Memory) (at n : ℕ) → number_at m at (suc n) ≡ m at + 256 * number_at m (at + 1) n
 number_at-suc m at n = ap (λ x. m at + 256 * x) (little_from-cons 0 n (m at) (read m (at + 1) n))
 
--- n bytes are a number below 256 ^ n
+-- n bytes are n
+pub read-length : (m : Memory) (at n : ℕ) → length (read m at n) ≡ n
+read-length m at zero = refl
+read-length m at (suc n) = ap suc (read-length m (at + 1) n)
+
+read-small : (m : Memory) (at n : ℕ) → AreSmall m → AllByRecursion (λ b. b < 256) (read m at n)
+read-small m at zero s = tt
+read-small m at (suc n) s = (s.at at, read-small m (at + 1) n s)
+
+-- they are a number below 256 ^ n
 pub number_at-small : (m : Memory) (at n : ℕ) → AreSmall m → number_at m at n < 256 ^ n
-number_at-small m at zero s = omega arith
-number_at-small m at (suc n) s =
-    let byte = s.at at in
-    let rest = number_at-small m (at + 1) n s in
-    let e = number_at-suc m at n in
-    rw (pow-succ' 256 n) (omega arith)
+number_at-small m at n s = subst (λ (k : ℕ). little_number k (read m at n) < 256 ^ k) (read-length m at n) (number-small (read m at n) (read-small m at n s))
 
--- a byte of a number, by division
-byte_at-is : (k x : ℕ) → byte_at k x ≡ x / 256 ^ k % 256
-byte_at-is zero x = ap (λ (y : ℕ). y % 256) (sym (div-one x))
-byte_at-is (suc k) x = refl
-
--- a byte of a number is the next one of the number with a byte put in front
-byte_at-next : (k a x : ℕ) → a < 256 → byte_at (suc k) (a + 256 * x) ≡ byte_at k x
-byte_at-next k a x small =
-    let up : (a + 256 * x) / 256 ≡ x = omega arith in
-    let split : (a + 256 * x) / 256 ^ suc k ≡ (a + 256 * x) / 256 / 256 ^ k = ap (λ (p : ℕ). (a + 256 * x) / p) (pow-succ' 256 k) ∙ sym (div-div-eq-div-mul (a + 256 * x) 256 (256 ^ k)) in
-    ap (λ (y : ℕ). y % 256) (split ∙ ap (λ (y : ℕ). y / 256 ^ k) up) ∙ sym (byte_at-is k x)
-
--- and so are all of them
-bytes_low_first-next : (i n a x : ℕ) → a < 256 → bytes_low_first (suc i) n (a + 256 * x) ≡ bytes_low_first i n x
-bytes_low_first-next i zero a x small = refl
-bytes_low_first-next i (suc n) a x small =
-    let e = byte_at-next i a x small in
-    let ih = bytes_low_first-next (suc i) n a x small in
-    λ j. e j ∷ ih j
-
--- the bytes of the number in n bytes are these bytes
+-- and the bytes of that number are these bytes
 pub bytes_low_first-number_at : (m : Memory) (at n : ℕ) → AreSmall m → bytes_low_first 0 n (number_at m at n) ≡ read m at n
-bytes_low_first-number_at m at zero s = refl
-bytes_low_first-number_at m at (suc n) s =
-    let small = s.at at in
-    let low : (m at + 256 * number_at m (at + 1) n) % 256 ≡ m at = omega arith in
-    let up = bytes_low_first-next 0 n (m at) (number_at m (at + 1) n) small ∙ bytes_low_first-number_at m (at + 1) n s in
-    ap (bytes_low_first 0 (suc n)) (number_at-suc m at n) ∙ (λ j. low j ∷ up j)
+bytes_low_first-number_at m at n s =
+    subst (λ (k : ℕ). bytes_low_first 0 k (little_number k (read m at n)) ≡ read m at n) (read-length m at n) (bytes-back (read m at n) (read-small m at n s))
 
 -- ---- zeros
 
@@ -88,10 +70,6 @@ AreZero-cons m at n e z = record { at = λ k f g. ⊎_elim (λ l. z.at k (omega 
 -- a part of zeros
 pub AreZero-within : (m : Memory) (a b c d : ℕ) → a ≤ c → d ≤ b → AreZero m a b → AreZero m c d
 AreZero-within m a b c d f g z = record { at = λ k h l. z.at k (omega arith) (omega arith) }
-
--- zeros on both sides of a place
-pub AreZero-join : (m : Memory) (a b c : ℕ) → AreZero m a b → AreZero m b c → AreZero m a c
-AreZero-join m a b c y z = record { at = λ k f g. ⊎_elim (λ l. y.at k f l) (λ l. z.at k l g) (cases_lt k b) }
 
 -- the test of zeros says that they are
 pub is_zero-AreZero : (m : Memory) (at n : ℕ) → IsTrue (is_zero (read m at n)) → AreZero m at (at + n)
@@ -135,21 +113,6 @@ word_at-small m at s = number_at-small m at 8 s
 pub word_at-bytes : (m : Memory) (at : ℕ) → AreSmall m → bytes_low_first 0 8 (word_at m at) ≡ read m at 8
 unfolding word_at
 word_at-bytes m at s = bytes_low_first-number_at m at 8 s
-
--- what eight bytes are as a word
-pub word_at-read : (m : Memory) (at : ℕ) (bytes : List ℕ) → read m at 8 ≡ bytes → word_at m at ≡ little_number 8 bytes
-unfolding word_at
-word_at-read m at bytes e = ap (little_number 8) e
-
--- a word is 0 where its bytes are
-pub AreZero-word_at : (m : Memory) (at : ℕ) → AreZero m at (at + 8) → word_at m at ≡ 0
-unfolding word_at
-AreZero-word_at m at z = AreZero-number_at m at 8 z
-
--- and its bytes are 0 where it is
-pub word_at-AreZero : (m : Memory) (at : ℕ) → word_at m at ≡ 0 → AreZero m at (at + 8)
-unfolding word_at
-word_at-AreZero m at e = number_at-AreZero m at 8 e
 
 -- the same of a half word
 pub AreZero-half_word_at : (m : Memory) (at : ℕ) → AreZero m at (at + 4) → half_word_at m at ≡ 0

@@ -1,4 +1,4 @@
--- What the check of a whole image finds: a right header and tags, and then an image of a landed directory or a class.
+-- What the check of a whole image finds: a right header and tags, and then an image of a supported directory or a class.
 use Rattle.std.proofs.Common.{◌≡◌, ap, ◌∙◌, ℕ, Bool, true, false, ◌&&◌, List, length}
 use Rattle.std.specs.Prelude.{IsTrue}
 use Rattle.std.specs.List.{list_all}
@@ -9,14 +9,15 @@ use Rattle.block_tags.specs.Format.{is_legal_size}
 use Rattle.block_tags.specs.Tiles.{has_tags, tiles_of}
 use Rattle.segment_manager.specs.State.{IsSegment}
 use Rattle.image_check.specs.declared.classes.ImageClass.TheVariants.{BadFreeTree, OrphanBlock}
-use Rattle.image_check.specs.Classes.{are_bytes, has_free_tree, has_reserved, is_tiled}
-use Rattle.image_check.specs.LandedImages.{has_frame, has_no_place, is_landed_tile, is_landed_image, landed_directory}
+use Rattle.image_check.specs.EarlyTests.{has_free_tree, has_reserved, is_tiled}
+use Rattle.image_check.specs.Classes.{are_bytes}
+use Rattle.image_check.specs.SupportedImages.{has_frame, has_no_place, is_supported_tile, is_supported_image, supported_directory}
 use Rattle.image_check.specs.Opening.{IsClassFor, holding}
 use Rattle.image_check.specs.Reading.{HasFront}
 use Rattle.image_check.proofs.Early.{tree-BadFreeTree, frame-OrphanBlock}
 use Rattle.image_check.proofs.Filled.{HasFront-IsRight}
 use Rattle.image_check.proofs.Frame.{IsFrame-has_frame, HasWholeSize-has_whole_size}
-use Rattle.image_check.proofs.Accepted.{landed_images}
+use Rattle.image_check.proofs.Supported.{supported_images}
 
 -- what the check knows once the tags are right
 pub record IsChecked (w : Cut) : Type 0 where
@@ -47,32 +48,32 @@ checked-frame w h e =
     })
 
 -- the test of all tiles
-abbrev are_landed : List ℕ → Bool
-are_landed b = list_all (is_landed_tile (bytes_of b)) (tiles_of (bytes_of b) (length b))
+abbrev are_supported : List ℕ → Bool
+are_supported b = list_all (is_supported_tile (bytes_of b)) (tiles_of (bytes_of b) (length b))
 
 -- behind a right frame, three tests more
-landed_image : (b : List ℕ) → IsTrue (has_frame b) → has_no_place (bytes_of b) 32 ≡ true → has_no_place (bytes_of b) 56 ≡ true → are_landed b ≡ true → IsTrue (is_landed_image b)
-unfolding is_landed_image
-landed_image b h p q r =
-    and_from (has_frame b && has_no_place (bytes_of b) 32 && has_no_place (bytes_of b) 56) (are_landed b)
+supported_image : (b : List ℕ) → IsTrue (has_frame b) → has_no_place (bytes_of b) 32 ≡ true → has_no_place (bytes_of b) 56 ≡ true → are_supported b ≡ true → IsTrue (is_supported_image b)
+unfolding is_supported_image
+supported_image b h p q r =
+    and_from (has_frame b && has_no_place (bytes_of b) 32 && has_no_place (bytes_of b) 56) (are_supported b)
     (and_from (has_frame b && has_no_place (bytes_of b) 32) (has_no_place (bytes_of b) 56) (and_from (has_frame b) (has_no_place (bytes_of b) 32) h p) q) r
 
-pub checked-segment : (b : List ℕ) → IsTrue (are_bytes b) → IsTrue (has_frame b) → has_no_place (bytes_of b) 32 ≡ true → has_no_place (bytes_of b) 56 ≡ true → are_landed b ≡ true → IsSegment b
-checked-segment b small h p q r = (landed_directory b, (landed_images b small).sound (landed_image b h p q r))
+pub checked-segment : (b : List ℕ) → IsTrue (are_bytes b) → IsTrue (has_frame b) → has_no_place (bytes_of b) 32 ≡ true → has_no_place (bytes_of b) 56 ≡ true → are_supported b ≡ true → IsSegment b
+checked-segment b small h p q r = (supported_directory b, (supported_images b small).sound (supported_image b h p q r))
 
 -- of which one fails
 pub named-class : (b : List ℕ) → IsTrue (are_bytes b) → IsTrue (has_frame b) → has_no_place (bytes_of b) 32 ≡ false → IsClassFor current b OrphanBlock
-unfolding is_landed_image
+unfolding is_supported_image
 named-class b small h e =
-    frame-OrphanBlock b small h (and_left (has_frame b && has_no_place (bytes_of b) 32 && has_no_place (bytes_of b) 56) (are_landed b)
+    frame-OrphanBlock b small h (and_left (has_frame b && has_no_place (bytes_of b) 32 && has_no_place (bytes_of b) 56) (are_supported b)
     (and_left (has_frame b && has_no_place (bytes_of b) 32) (has_no_place (bytes_of b) 56) (and_right (has_frame b) (has_no_place (bytes_of b) 32) e)))
 
 pub unique-class : (b : List ℕ) → IsTrue (are_bytes b) → IsTrue (has_frame b) → has_no_place (bytes_of b) 56 ≡ false → IsClassFor current b OrphanBlock
-unfolding is_landed_image
+unfolding is_supported_image
 unique-class b small h e =
-    frame-OrphanBlock b small h (and_left (has_frame b && has_no_place (bytes_of b) 32 && has_no_place (bytes_of b) 56) (are_landed b)
+    frame-OrphanBlock b small h (and_left (has_frame b && has_no_place (bytes_of b) 32 && has_no_place (bytes_of b) 56) (are_supported b)
     (and_right (has_frame b && has_no_place (bytes_of b) 32) (has_no_place (bytes_of b) 56) e))
 
-pub tiles-class : (b : List ℕ) → IsTrue (are_bytes b) → IsTrue (has_frame b) → are_landed b ≡ false → IsClassFor current b OrphanBlock
-unfolding is_landed_image
-tiles-class b small h e = frame-OrphanBlock b small h (and_right (has_frame b && has_no_place (bytes_of b) 32 && has_no_place (bytes_of b) 56) (are_landed b) e)
+pub tiles-class : (b : List ℕ) → IsTrue (are_bytes b) → IsTrue (has_frame b) → are_supported b ≡ false → IsClassFor current b OrphanBlock
+unfolding is_supported_image
+tiles-class b small h e = frame-OrphanBlock b small h (and_right (has_frame b && has_no_place (bytes_of b) 32 && has_no_place (bytes_of b) 56) (are_supported b) e)

@@ -10,7 +10,8 @@ use Rattle.block_tags.specs.Format.{is_legal_size}
 use Rattle.segment_manager.specs.Denotes.{magic_number}
 use Rattle.image_check.specs.declared.classes.ImageClass.{ImageClass}
 use Rattle.image_check.specs.declared.classes.ImageClass.TheVariants.{Truncated, BadMagic, UnsupportedVersion, BadSize, BadReserved, BadTag, BadFreeTree, BadIndex, BadObject, SharedBlock, BadContainer, OrphanBlock}
-use Rattle.image_check.specs.Classes.{size_word, holds, classes, class_of, has_magic, has_version, has_front, has_size, are_bytes, DecidesClass}
+use Rattle.image_check.specs.EarlyTests.{size_word, has_magic, has_version, has_front, has_size}
+use Rattle.image_check.specs.Classes.{holds, classes, class_of, are_bytes, DecidesClass}
 use Rattle.image_check.specs.Deciding.{decided, decided_by, AllDecided}
 
 -- ---- the first class that holds

@@ -1,4 +1,4 @@
--- Three small images, as their words: what the test of landed images answers, the directory that it reads off, and their class.
+-- Three small images, as their words: what the test of supported images answers, the directory that it reads off, and their class.
 use Rattle.std.proofs.Common.{◌≡◌, refl, ℕ, negsuc, List, [], ◌∷◌, ◌++◌, true, false}
 use Rattle.std.specs.Prelude.{flat_map, Some, None}
 use Rattle.raw_region.specs.Memory.{word_bytes, word_at, half_word_at, zeros}
@@ -11,7 +11,7 @@ use Rattle.seg_types.specs.declared.kinds.Class.TheVariants.{Anonymous}
 use Rattle.segment_manager.specs.Directory.{Numbers}
 use Rattle.image_check.specs.declared.classes.ImageClass.TheVariants.{BadObject}
 use Rattle.image_check.specs.Classes.{class_of}
-use Rattle.image_check.specs.LandedImages.{is_landed_image, has_frame, landed_directory}
+use Rattle.image_check.specs.SupportedImages.{is_supported_image, has_frame, supported_directory}
 
 -- bytes from words
 abbrev words : List ℕ → List ℕ
@@ -22,8 +22,8 @@ abbrev fresh : List ℕ
 fresh = words (4993446653039301453 ∷ 1 ∷ 176 ∷ 120 ∷ 1 ∷ 0 ∷ 0 ∷ 1 ∷ 0 ∷ 0 ∷ []) ++ zeros 48 ++ words (0 ∷ 32 ∷ 1 ∷ 1 ∷ 32 ∷ 1 ∷ [])
 
 -- it passes
-fresh_is : is_landed_image fresh ≡ true
-unfolding is_landed_image has_frame word_at word_bytes half_word_at zeros current
+fresh_is : is_supported_image fresh ≡ true
+unfolding is_supported_image has_frame word_at word_bytes half_word_at zeros current
 fresh_is = refl
 
 -- the number -2 in 48 bytes, and a free tile behind it
@@ -31,8 +31,8 @@ abbrev one : List ℕ
 one = words (4993446653039301453 ∷ 1 ∷ 224 ∷ 168 ∷ 1 ∷ 0 ∷ 0 ∷ 1 ∷ 0 ∷ 0 ∷ []) ++ zeros 48 ++ words (0 ∷ 49 ∷ 4294967300 ∷ 0 ∷ 18446744073709551614 ∷ 77 ∷ 48 ∷ 32 ∷ 1 ∷ 1 ∷ 32 ∷ 1 ∷ [])
 
 -- it passes
-one_is : is_landed_image one ≡ true
-unfolding is_landed_image has_frame word_at word_bytes half_word_at zeros current
+one_is : is_supported_image one ≡ true
+unfolding is_supported_image has_frame word_at word_bytes half_word_at zeros current
 one_is = refl
 
 -- and has no class
@@ -41,8 +41,8 @@ unfolding word_at word_bytes half_word_at zeros current
 one_accepted = refl
 
 -- and says an anonymous object with -2
-one_says : landed_directory one ≡ record { size = 224; objects = record { class = Anonymous; name = []; value = Numbers I64 (negsuc 1 ∷ []); extent = record { offset = 128; len = 48; role = ObjectRole } } ∷ []; named = no_table; unique = no_table }
-unfolding landed_directory live_of word_at word_bytes half_word_at zeros
+one_says : supported_directory one ≡ record { size = 224; objects = record { class = Anonymous; name = []; value = Numbers I64 (negsuc 1 ∷ []); extent = record { offset = 128; len = 48; role = ObjectRole } } ∷ []; named = no_table; unique = no_table }
+unfolding supported_directory live_of word_at word_bytes half_word_at zeros
 one_says = refl
 
 -- a kind that has not come: the frame is right, and the image is refused
@@ -50,8 +50,8 @@ abbrev other : List ℕ
 other = words (4993446653039301453 ∷ 1 ∷ 224 ∷ 168 ∷ 1 ∷ 0 ∷ 0 ∷ 1 ∷ 0 ∷ 0 ∷ []) ++ zeros 48 ++ words (0 ∷ 49 ∷ 4294967301 ∷ 0 ∷ 18446744073709551614 ∷ 77 ∷ 48 ∷ 32 ∷ 1 ∷ 1 ∷ 32 ∷ 1 ∷ [])
 
 -- it does not pass
-other_is : is_landed_image other ≡ false
-unfolding is_landed_image has_frame word_at word_bytes half_word_at zeros current
+other_is : is_supported_image other ≡ false
+unfolding is_supported_image has_frame word_at word_bytes half_word_at zeros current
 other_is = refl
 
 -- though its frame is right

@@ -5,29 +5,28 @@ use Rattle.std.specs.List.{refill}
 use Rattle.std.proofs.lemmas.Bool.{and_parts}
 use Rattle.std.proofs.lemmas.List.{drop_all, append-nil, length-append, length-take}
 use Rattle.raw_region.specs.Answers.{AddsFront}
-use Rattle.raw_region.specs.Device.{given_since}
 use Rattle.raw_region.specs.Memory.{Cut, part, patched, whole}
 use Rattle.raw_region.specs.Regions.{with_bytes}
-use Rattle.raw_region.proofs.Patches.{refill-all}
+use Rattle.raw_region.proofs.Laws.{refill-all, both_added}
 use Rattle.block_tags.specs.Format.{is_legal_size}
+use Rattle.best_fit.proofs.Laws.{legal_size}
 use Rattle.image_check.specs.declared.errors.OpenError.{OpenError}
-use Rattle.image_check.specs.Classes.{size_word, has_magic, has_version}
+use Rattle.image_check.specs.EarlyTests.{size_word, has_magic, has_version}
 use Rattle.image_check.specs.Opening.{failed_reads}
 use Rattle.image_check.specs.Reading.{IsShort, GoesOn, HasFront, Stops}
-use Rattle.image_check.proofs.Frame.{is_legal_size-least}
 use Rattle.image_check.proofs.Fronts.{IsRight, has_front-IsRight, IsRight-take, IsRight-append}
-use Rattle.image_check.proofs.Stopping.{rise, rest_stops, whole_stops, both_added}
+use Rattle.image_check.proofs.Stopping.{read_since, rest_stops, rise, whole_stops}
 
 -- the first words of a window, and how long it is
 pub HasFront-IsRight : (format : ℕ) (w : Cut) → HasFront format w → IsRight format w.bytes (length w.bytes)
 HasFront-IsRight format w h =
     let legal = (and_parts (has_magic w.bytes && has_version format w.bytes) (is_legal_size (size_word w.bytes)) h.right).1 in
-    let least = is_legal_size-least (size_word w.bytes) legal in
+    let least = (legal_size (size_word w.bytes) legal).low in
     let says = h.says in
     has_front-IsRight format w.bytes (length w.bytes) (omega arith) h.right says
 
 pub HasFront-least : (format : ℕ) (w : Cut) → HasFront format w → 144 ≤ length w.bytes
-HasFront-least format w h = is_legal_size-least (length w.bytes) (HasFront-IsRight format w h).legal
+HasFront-least format w h = (legal_size (length w.bytes) (HasFront-IsRight format w h).legal).low
 
 -- as many bytes as were lent make up the rest
 pub rest-filled : (b ws : List ℕ) (n : ℕ) → 24 ≤ length b → n ≡ length b → length ws ≡ n - 24 → patched b 24 (refill (n - 24) (part b 24 (n - 24)) ws) ≡ take 24 b ++ ws
@@ -57,7 +56,7 @@ whole-room w =
 
 -- too few bytes came
 pub filled_short : (format : ℕ) (w : Cut) (start mid new ws : List ℕ) (n : ℕ) (ended : Bool) (f f' : ℕ) (cause : OpenError) → HasFront format w → n ≡ length w.bytes → length ws ≡ n - 24 → mid ≡ start ++ take 24 w.bytes
-    → AddsFront mid new ws → IsShort ended cause → f' ≡ f + rise cause → Stops format (given_since start new ended f f') (length w.before) (length (whole w)) cause
+    → AddsFront mid new ws → IsShort ended cause → f' ≡ f + rise cause → Stops format (read_since start new ended f f') (length w.before) (length (whole w)) cause
 filled_short format w start mid new ws n ended f f' cause h e l s a i g =
     let least = HasFront-least format w h in
     let cut = length-take 24 w.bytes in
@@ -67,7 +66,7 @@ filled_short format w start mid new ws n ended f f' cause h e l s a i g =
 -- all came, and the reader does not end
 pub filled_whole : (format : ℕ) (w : Cut) (old mid new ws : List ℕ) (n : ℕ) (ended : Bool) (f g f' : ℕ) (r : Result (Unit {0}) OpenError) → HasFront format w → n ≡ length w.bytes → length ws ≡ n - 24 → mid ≡ old ++ ws → g ≡ f + 0
     → IfErr r (GoesOn mid new) → f' ≡ g + failed_reads r
-    → IfErr r (λ cause. (start : List ℕ) → old ≡ start ++ take 24 w.bytes → Stops format (given_since start new ended f f') (length w.before) (length (whole w)) cause)
+    → IfErr r (λ cause. (start : List ℕ) → old ≡ start ++ take 24 w.bytes → Stops format (read_since start new ended f f') (length w.before) (length (whole w)) cause)
 filled_whole format w old mid new ws n ended f g f' (Ok u) h e l s k a c = tt
 filled_whole format w old mid new ws n ended f g f' (Err cause) h e l s k a c = λ start t.
     let least = HasFront-least format w h in

@@ -1,17 +1,16 @@
--- The frame of an image: header, tags and word 24. What its tests say of the memory, and what passes them.
-use Rattle.std.proofs.Common.{◌≡◌, sym, subst, ℕ, ◌%◌, ◌≤◌, Bool, true, ◌&&◌, ◌==◌, List, length, arith}
-use Rattle.std.specs.Prelude.{IsTrue, nat_le}
-use Rattle.std.proofs.lemmas.Bool.{and_parts, and_from, eq-eqb, eqb-true, leb-true, or_cases}
-use mathlib.Core.Logic.{◌⊎◌, inl, inr}
-use Rattle.raw_region.specs.Memory.{bytes_of, word_at, half_word_at}
+-- The frame of an image: header, tags and free tree. What its tests say, and what passes them.
+use Rattle.std.proofs.Common.{◌≡◌, sym, subst, ℕ, Bool, not, ◌&&◌, ◌==◌, List, length, arith}
+use Rattle.std.specs.Prelude.{IsTrue, nat_le, nat_lt}
+use Rattle.std.proofs.lemmas.Bool.{and_parts, and_from, and_right, or_from, eq-eqb, eqb-true, le-leb, le-ltb, not_from_true, not-false}
+use Rattle.raw_region.specs.Memory.{bytes_of}
 use Rattle.raw_region.specs.Format.{current}
 use Rattle.block_tags.specs.Format.{is_legal_size}
-use Rattle.block_tags.specs.Tiles.{has_tags, tiles_of}
-use Rattle.segment_manager.specs.Denotes.{IsHeader, magic_number}
-use Rattle.image_check.specs.Classes.{size_word, has_magic, has_version, has_reserved, is_tiled, has_free_tree}
-use Rattle.image_check.specs.LandedImages.{has_frame, has_whole_size, has_tree}
-use Rattle.image_check.proofs.Bytes.{AreSmall, two_rows, from_two_rows, AreZero-half_word_at, half_word_at-AreZero}
-use Rattle.image_check.proofs.Words.{word_at-halves, half_word_at-low, half_word_at-high}
+use Rattle.block_tags.specs.Tiles.{tiles_of}
+use Rattle.best_fit.proofs.Laws.{legal_size}
+use Rattle.image_check.specs.EarlyTests.{size_word, has_magic, has_version, has_front, has_size, has_reserved, is_tiled, has_free_tree}
+use Rattle.image_check.specs.SupportedImages.{has_frame, has_whole_size, has_tree}
+use Rattle.image_check.proofs.Bytes.{AreSmall}
+use Rattle.image_check.proofs.Framed.{IsFramed, IsEarlyClean, framed-clean, clean-framed}
 
 -- the tests of a frame, by name
 pub record IsFrame (b : List ℕ) : Type 0 where
@@ -52,17 +51,6 @@ IsFrame-has_frame b f =
 
 -- ---- the size
 
--- a legal size is one of at least 144 bytes
-long_enough : (n : ℕ) → ((n == 144) ≡ true) ⊎ (((n % 16 == 0) && nat_le 176 n && nat_le n 1073741824) ≡ true) → 144 ≤ n
-long_enough n (inl e) = let same = eqb-true n 144 e in omega arith
-long_enough n (inr e) =
-    let front = (and_parts ((n % 16 == 0) && nat_le 176 n) (nat_le n 1073741824) e).0 in
-    let least = leb-true 176 n (and_parts (n % 16 == 0) (nat_le 176 n) front).1 in omega arith
-
--- the same of the test
-pub is_legal_size-least : (n : ℕ) → IsTrue (is_legal_size n) → 144 ≤ n
-is_legal_size-least n h = long_enough n (or_cases (n == 144) ((n % 16 == 0) && nat_le 176 n && nat_le n 1073741824) h)
-
 -- the size word of a whole image is a legal size, its length
 pub record HasWholeSize (b : List ℕ) : Type 0 where
   pub legal : IsTrue (is_legal_size (size_word b))
@@ -78,47 +66,39 @@ has_whole_size-HasWholeSize b h =
 pub HasWholeSize-has_whole_size : (b : List ℕ) → HasWholeSize b → IsTrue (has_whole_size b)
 HasWholeSize-has_whole_size b s = and_from (is_legal_size (size_word b)) (size_word b == length b) s.legal (eq-eqb (size_word b) (length b) s.same)
 
--- ---- the header
+-- ---- what it leaves of the classes
 
--- a frame has the header of its length
-pub IsFrame-IsHeader : (b : List ℕ) → IsFrame b → IsHeader current (bytes_of b) (length b)
-unfolding current
-IsFrame-IsHeader b f =
-    let rows = two_rows (bytes_of b) 12 4 80 48 f.reserved in
-    let both = word_at-halves (bytes_of b) 8 in
-    let low = eqb-true (half_word_at (bytes_of b) 8) current f.version in
-    let high = AreZero-half_word_at (bytes_of b) 12 rows.0 in
+-- none of the first seven classes holds of a frame
+pub frame-clean : (b : List ℕ) → IsFrame b → IsEarlyClean current b
+frame-clean b f =
+    let s = has_whole_size-HasWholeSize b f.size in
+    let least = (legal_size (size_word b) s.legal).low in
+    let same = s.same in
     record {
-      magic = eqb-true (word_at (bytes_of b) 0) magic_number f.magic;
-      version = omega arith;
-      size_word = (has_whole_size-HasWholeSize b f.size).same;
-      zeros = rows.1;
+      truncated = or_from (nat_lt (length b) 144) (has_front current b && nat_lt (length b) (size_word b)) (le-ltb (length b) 144 (omega arith))
+          (and_right (has_front current b) (nat_lt (length b) (size_word b)) (le-ltb (length b) (size_word b) (omega arith)));
+      magic = not_from_true (has_magic b) f.magic;
+      version = not_from_true (has_version current b) f.version;
+      size = not_from_true (has_size b) (and_from (is_legal_size (size_word b)) (nat_le (length b) (size_word b)) s.legal (le-leb (length b) (size_word b) (omega arith)));
+      reserved = not_from_true (has_reserved b) f.reserved;
+      tags = not_from_true (is_tiled current b) f.tiled;
+      free_tree = and_right (is_tiled current b) (not (has_tree b)) (not_from_true (has_tree b) f.tree);
     }
 
--- and its tags are whole
-pub IsFrame-has_tags : (b : List ℕ) → IsFrame b → IsTrue (has_tags current (bytes_of b) (length b))
-IsFrame-has_tags b f = subst (λ n. IsTrue (has_tags current (bytes_of b) n)) (has_whole_size-HasWholeSize b f.size).same f.tiled
+-- so header, tags and free tree are right
+pub frame-framed : (b : List ℕ) → AreSmall (bytes_of b) → IsFrame b → IsFramed current b
+frame-framed b small f = clean-framed current b small (frame-clean b f)
 
--- so is its free tree
-pub IsFrame-tree : (b : List ℕ) → IsFrame b → IsTrue (has_free_tree current (bytes_of b) (tiles_of (bytes_of b) (length b)))
-IsFrame-tree b f = subst (λ n. IsTrue (has_free_tree current (bytes_of b) (tiles_of (bytes_of b) n))) (has_whole_size-HasWholeSize b f.size).same f.tree
-
--- a header of the length, a legal size, whole tags and a right free tree are a frame
-pub IsHeader-IsFrame : (b : List ℕ) → AreSmall (bytes_of b) → IsHeader current (bytes_of b) (length b) → IsTrue (is_legal_size (length b))
-    → IsTrue (has_tags current (bytes_of b) (length b)) → IsTrue (has_free_tree current (bytes_of b) (tiles_of (bytes_of b) (length b))) → IsFrame b
+-- and where they are right, the bytes are a frame
+pub framed-frame : (b : List ℕ) → AreSmall (bytes_of b) → IsFramed current b → IsFrame b
 unfolding current
-IsHeader-IsFrame b small h legal tags tree =
-    let m = bytes_of b in
-    let low = half_word_at-low m 8 small in
-    let high = half_word_at-high m 8 small in
-    let word = h.version in
-    let version : half_word_at m 8 ≡ current = omega arith in
-    let rest : half_word_at m 12 ≡ 0 = omega arith in
+framed-frame b small f =
+    let c = framed-clean current b (omega arith) small f in
     record {
-      magic = eq-eqb (word_at m 0) magic_number h.magic;
-      version = eq-eqb (half_word_at m 8) current version;
-      size = HasWholeSize-has_whole_size b (record { legal = subst (λ n. IsTrue (is_legal_size n)) (sym h.size_word) legal; same = h.size_word });
-      reserved = from_two_rows m 12 4 80 48 (half_word_at-AreZero m 12 rest) h.zeros;
-      tiled = subst (λ n. IsTrue (has_tags current m n)) (sym h.size_word) tags;
-      tree = subst (λ n. IsTrue (has_free_tree current m (tiles_of m n))) (sym h.size_word) tree;
+      magic = not-false (has_magic b) c.magic;
+      version = not-false (has_version current b) c.version;
+      size = HasWholeSize-has_whole_size b (record { legal = subst (λ n. IsTrue (is_legal_size n)) (sym f.size) f.legal; same = f.size });
+      reserved = not-false (has_reserved b) c.reserved;
+      tiled = not-false (is_tiled current b) c.tags;
+      tree = subst (λ n. IsTrue (has_free_tree current (bytes_of b) (tiles_of (bytes_of b) n))) (sym f.size) f.free_tree;
     }

@@ -1,42 +1,34 @@
 -- Links that may be anything, and nodes that are looked for in an ordered list.
-use Rattle.std.proofs.Common.{◌≡◌, refl, sym, ap, subst, ◌∙◌, ℕ, ◌+◌, ◌≤◌, inl, inr, Bool, true, false, not, List, [], ◌∷◌, length, arith, ◌==◌, nat_eq, IsTrue}
+use Rattle.std.proofs.Common.{◌≡◌, refl, sym, ap, subst, ◌∙◌, ℕ, ◌+◌, inl, inr, Bool, true, false, not, List, [], ◌∷◌, length, arith, ◌==◌, nat_eq, IsTrue}
 use Rattle.std.specs.Prelude.{Option, Some, None}
 use Rattle.std.specs.List.{find, list_all}
-use Rattle.std.proofs.lemmas.Bool.{false≢true, true≢false, both_ways, cases_Bool, and_parts, and_from, or_cases, or_left, or_right, eqb-true, eq-eqb, ne_eqb, cond-true, cond-false}
+use Rattle.std.proofs.lemmas.Bool.{false≢true, both_ways, cases_Bool, and_parts, and_from, or_cases, or_left, or_right, eqb-true, eq-eqb, ne_eqb, cond-true, cond-false, not-false, not-true}
 use Rattle.raw_region.specs.Memory.{Cut, bytes_of}
 use Rattle.offset_link.specs.Link.{is_handle_place, link_at}
 use Rattle.offset_link.specs.Relinked.{is_bad}
 use Rattle.link_tree.specs.Tree.{rises}
 use Rattle.link_tree.specs.Nodes.{first_not, is_in, leads}
-use Rattle.link_tree.proofs.Orders.{all_at, all_from}
+use Rattle.link_tree.proofs.Laws.{all_at, all_from, none_some, some_same}
 use Rattle.block_tags.specs.Format.{is_legal_size}
 use Rattle.image_check.specs.FreeNodes.{is_place, placed, place_cells}
 use Rattle.image_check.specs.FreeLaws.{is_place-from}
 
 -- ---- links
 
-not_false : (b : Bool) → not b ≡ false → b ≡ true
-not_false true h = refl
-not_false false h = absurd (true≢false h)
-
-not_true : (b : Bool) → not b ≡ true → b ≡ false
-not_true true h = absurd (false≢true h)
-not_true false h = refl
-
 -- a good link is read as it is, and a bad one as null
 pub good-placed : (size : ℕ) (o : Option ℕ) → is_bad size o ≡ false → placed size o ≡ o
 unfolding placed
 good-placed size None h = refl
-good-placed size (Some n) h = cond-true (is_handle_place size n) (Some n) None (not_false (is_handle_place size n) h)
+good-placed size (Some n) h = cond-true (is_handle_place size n) (Some n) None (not-false (is_handle_place size n) h)
 
 pub bad-placed : (size : ℕ) (o : Option ℕ) → is_bad size o ≡ true → placed size o ≡ None
 unfolding placed
 bad-placed size None h = refl
-bad-placed size (Some n) h = cond-false (is_handle_place size n) (Some n) None (not_true (is_handle_place size n) h)
+bad-placed size (Some n) h = cond-false (is_handle_place size n) (Some n) None (not-true (is_handle_place size n) h)
 
 pub good-leads : (c : Cut) (o : Option ℕ) → IsTrue (is_legal_size (length c.bytes)) → is_bad (length c.bytes) o ≡ false → leads (is_place c) o ≡ true
 good-leads c None size h = refl
-good-leads c (Some n) size h = is_place-from c n size (not_false (is_handle_place (length c.bytes) n) h)
+good-leads c (Some n) size h = is_place-from c n size (not-false (is_handle_place (length c.bytes) n) h)
 
 pub left-is : (c : Cut) (n : ℕ) (o : Option ℕ) → o ≡ placed (length c.bytes) (link_at (bytes_of c.bytes) n) → o ≡ (place_cells c n).left
 unfolding place_cells
@@ -47,12 +39,6 @@ unfolding place_cells
 right-is c n o e = e
 
 -- ---- a search
-
-pub same_node : (m n : ℕ) → Some m ≡ Some n → m ≡ n
-same_node m n e = cc
-
-no_node : (n : ℕ) → None ≡ Some n → ⊥
-no_node n e = cc
 
 -- a node that stands in an ordered list is the first that does not stand before it
 pub found-in : (lt : ℕ → ℕ → Bool) (before : ℕ → Bool) (n : ℕ) (ns : List ℕ) → ((k : ℕ) → before k ≡ lt k n) → lt n n ≡ false → rises lt ns ≡ true → is_in n ns ≡ true → first_not before ns ≡ Some n
@@ -74,9 +60,9 @@ found-in lt before n (m ∷ ms) b i r h =
 
 -- what is found stands in the list
 pub found-is : (before : ℕ → Bool) (n : ℕ) (ns : List ℕ) → first_not before ns ≡ Some n → is_in n ns ≡ true
-found-is before n [] e = absurd (no_node n e)
+found-is before n [] e = absurd (none_some n e)
 found-is before n (m ∷ ms) e = elim (cases_Bool (not (before m))) [
-  | inl h ↦ or_left (n == m) (is_in n ms) (eq-eqb n m (sym (same_node m n (sym (cond-true (not (before m)) (Some m) (find (λ k. not (before k)) ms) h) ∙ e))))
+  | inl h ↦ or_left (n == m) (is_in n ms) (eq-eqb n m (sym (some_same m n (sym (cond-true (not (before m)) (Some m) (find (λ k. not (before k)) ms) h) ∙ e))))
   | inr h ↦ or_right (n == m) (is_in n ms) (found-is before n ms (sym (cond-false (not (before m)) (Some m) (find (λ k. not (before k)) ms) h) ∙ e))
 ]
 
@@ -84,14 +70,14 @@ found-is before n (m ∷ ms) e = elim (cases_Bool (not (before m))) [
 pub found-tells : (lt : ℕ → ℕ → Bool) (before : ℕ → Bool) (n found : ℕ) (ns : List ℕ) → ((k : ℕ) → before k ≡ lt k n) → lt n n ≡ false → rises lt ns ≡ true
     → Some found ≡ first_not before ns → nat_eq found n ≡ is_in n ns
 found-tells lt before n found ns b i r e = elim (cases_Bool (is_in n ns)) [
-  | inl h ↦ eq-eqb found n (same_node found n (e ∙ found-in lt before n ns b i r h)) ∙ sym h
+  | inl h ↦ eq-eqb found n (some_same found n (e ∙ found-in lt before n ns b i r h)) ∙ sym h
   | inr h ↦ ne_eqb found n (λ same. both_ways (is_in n ns) h (subst (λ k. is_in k ns ≡ true) same (found-is before found ns (sym e)))) ∙ sym h
 ]
 
 pub nothing-tells : (lt : ℕ → ℕ → Bool) (before : ℕ → Bool) (n : ℕ) (ns : List ℕ) → ((k : ℕ) → before k ≡ lt k n) → lt n n ≡ false → rises lt ns ≡ true
     → None ≡ first_not before ns → false ≡ is_in n ns
 nothing-tells lt before n ns b i r e = elim (cases_Bool (is_in n ns)) [
-  | inl h ↦ absurd (no_node n (e ∙ found-in lt before n ns b i r h))
+  | inl h ↦ absurd (none_some n (e ∙ found-in lt before n ns b i r h))
   | inr h ↦ sym h
 ]
 
@@ -112,15 +98,6 @@ among-tail lt trans irr x xs y ys r s sub k h =
             | inr f ↦ both_ways (lt k k) (irr k) (trans k x k (subst (λ j. lt j x ≡ true) (sym k_y) (all_at (lt y) ys x ry.0 f)) x_k)
           ])
     ]
-
--- it is no longer, and where it is as long they are one
-pub no_longer : (lt : ℕ → ℕ → Bool) → ((a b c : ℕ) → lt a b ≡ true → lt b c ≡ true → lt a c ≡ true) → ((n : ℕ) → lt n n ≡ false) → (xs ys : List ℕ)
-    → rises lt xs ≡ true → rises lt ys ≡ true → ((k : ℕ) → is_in k xs ≡ true → is_in k ys ≡ true) → length xs ≤ length ys
-no_longer lt trans irr [] ys r s sub = omega arith
-no_longer lt trans irr (x ∷ xs) [] r s sub = absurd (false≢true (sub x (or_left (x == x) (is_in x xs) (eq-eqb x x refl))))
-no_longer lt trans irr (x ∷ xs) (y ∷ ys) r s sub =
-    let rest = no_longer lt trans irr xs ys (and_parts (list_all (lt x) xs) (rises lt xs) r).1 (and_parts (list_all (lt y) ys) (rises lt ys) s).1 (among-tail lt trans irr x xs y ys r s sub) in
-    omega arith
 
 pub all-of : (lt : ℕ → ℕ → Bool) → ((a b c : ℕ) → lt a b ≡ true → lt b c ≡ true → lt a c ≡ true) → ((n : ℕ) → lt n n ≡ false) → (xs ys : List ℕ)
     → rises lt xs ≡ true → rises lt ys ≡ true → ((k : ℕ) → is_in k xs ≡ true → is_in k ys ≡ true) → length xs ≡ length ys → xs ≡ ys

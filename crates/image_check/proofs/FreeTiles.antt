@@ -1,37 +1,32 @@
 -- The free tiles of a window and the tree over places: when the one makes up the other.
 use Rattle.std.proofs.Common.{◌≡◌, refl, sym, ap, subst, ◌∙◌, ℕ, ◌+◌, ◌-◌, ◌*◌, ◌/◌, ◌%◌, ◌≤◌, inl, inr, Bool, true, false, not, ◌&&◌, List, [], ◌∷◌, ◌++◌, length, arith, ◌==◌, nat_le, IsTrue}
-use Rattle.std.specs.Prelude.{Option, Some, None, is_none, is_some, map, filter}
+use Rattle.std.specs.Prelude.{Option, Some, None, is_none, is_some}
 use Rattle.std.specs.List.{list_all}
-use Rattle.std.proofs.lemmas.Bool.{false≢true, true≢false, both_ways, cases_Bool, and_parts, and_from, or_cases, or_left, or_right, le-leb, eqb-true, eq-eqb, cond-true, cond-false}
+use Rattle.std.proofs.lemmas.Bool.{false≢true, true≢false, both_ways, cases_Bool, and_parts, and_from, or_cases, or_left, or_right, le-leb, eqb-true, eq-eqb, cond-true, cond-false, not-true}
 use Rattle.raw_region.specs.Memory.{Memory, Cut, bytes_of, word_at}
 use Rattle.offset_link.specs.Link.{is_handle_place, link_at}
 use Rattle.offset_link.specs.Relinked.{is_bad}
 use Rattle.link_tree.specs.Tree.{Cell, Tree, IsTree, IsSearchTree, nodes_of, rises}
 use Rattle.link_tree.specs.Nodes.{is_in, leads}
-use Rattle.link_tree.proofs.Trees.{root_in, tree_same}
+use Rattle.link_tree.proofs.Laws.{root_in, tree_same}
 use Rattle.block_tags.specs.declared.tile.Role.{Role}
 use Rattle.block_tags.specs.declared.tile.Tile.{Tile}
 use Rattle.raw_region.specs.Format.{current}
 use Rattle.block_tags.specs.Format.{is_legal_size}
 use Rattle.block_tags.specs.Tiles.{has_tags, is_free, tile_at}
 use Rattle.block_tags.specs.Windows.{SaysTiles}
-use Rattle.block_tags.specs.Laws.{OneTileAtAnOffset, TileIsReadOff, TilesFillTheWindow}
-use Rattle.block_tags.proofs.Lists.{good_tags_say_tiles, tile_is_read_off, tiles_are_read_off}
+use Rattle.block_tags.proofs.Laws.{good_tags_say_tiles, one_tile_at_an_offset, tile_is_read_off, tiles_are_read_off}
 use Rattle.best_fit.specs.Extents.{Gap}
-use Rattle.best_fit.specs.FreeTree.{IsTreeOf, cells_of, insert_gap, is_red, payloads, sorted_gaps}
+use Rattle.best_fit.specs.FreeTree.{IsTreeOf, cells_of, is_red, payloads, sorted_gaps}
 use Rattle.best_fit.specs.GapNodes.{comes_before, gap_of, gaps_in, gaps_of, len_in, tiles_in}
 use Rattle.best_fit.specs.GapLaws.{comes}
-use Rattle.best_fit.proofs.GapFacts.{NodeAt, node_from, node_len}
-use Rattle.best_fit.proofs.GapOrder.{in_sorted, sorted-rises}
-use Rattle.best_fit.proofs.FreeTrees.{all_gaps}
-use Rattle.best_fit.proofs.Replanting.{holds_closed}
-use Rattle.best_fit.proofs.Rows.{Apart, is_merged-Apart, free-unused, unused, used, use_cases, gaps_of-free, gaps_of-used}
-use Rattle.image_check.specs.Classes.{free_gaps, free_payloads, has_free_tree}
+use Rattle.best_fit.proofs.Laws.{Apart, NodeAt, all_gaps, free-unused, gaps_of-free, gaps_of-used, holds_closed, in_sorted, legal_size, length-sorted, is_merged-Apart, node_from, node_len, sorted-rises, unused, use_cases, used}
+use Rattle.image_check.specs.EarlyTests.{free_payloads, has_free_tree}
 use Rattle.image_check.specs.FreeNodes.{has_good_links, is_place, is_planted, len_at, place_cells, stands_before}
 use Rattle.image_check.specs.FreeLaws.{before_irreflexive, before_transitive, is_place-from, small_size}
-use Rattle.image_check.proofs.Framed.{tree-passes, tree-said}
+use Rattle.image_check.proofs.Framed.{few-free, free-payloads, tree-passes, tree-said}
 use Rattle.image_check.proofs.FreePlaces.{all-of, good-placed, rises-same}
-use Rattle.image_check.proofs.WalkedTiles.{WalksAt, at-lies, walk-few}
+use Rattle.image_check.proofs.WalkedTiles.{WalksAt, at-lies, at-meets, walk-few}
 
 -- ---- a tile's payload is a place
 
@@ -39,17 +34,15 @@ handle_from : (size n : ℕ) → n % 16 ≡ 0 → 144 ≤ n → n + 32 ≤ size 
 handle_from size n a b c =
     and_from ((n % 16 == 0) && nat_le 144 n) (nat_le (n + 32) size) (and_from (n % 16 == 0) (nat_le 144 n) (eq-eqb (n % 16) 0 a) (le-leb 144 n b)) (le-leb (n + 32) size c)
 
-least-size : (n : ℕ) → IsTrue (is_legal_size n) → 144 ≤ n
-least-size n h = grind arith
-
-pub at-place : (c : Cut) (Kept : List Tile → Type 0) (here : Tile) → TilesFillTheWindow → WalksAt c Kept here → IsTrue (is_legal_size (length c.bytes)) → is_place c (here.offset + 16) ≡ true
-at-place c Kept here fill a legal =
-    let lies = at-lies c Kept here fill a in
+pub at-place : (c : Cut) (Kept : List Tile → Type 0) (here : Tile) → WalksAt c Kept here → IsTrue (is_legal_size (length c.bytes)) → is_place c (here.offset + 16) ≡ true
+at-place c Kept here a legal =
+    let lies = at-lies c Kept here a in
+    let met = at-meets c Kept here a in
     let low = lies.low in
-    let long = lies.long in
-    let high = lies.high in
+    let long = met.long in
+    let high = met.within in
     let whole = lies.whole (omega arith) in
-    let least = least-size (length c.bytes) legal in
+    let least = (legal_size (length c.bytes) legal).low in
     is_place-from c (here.offset + 16) legal (handle_from (length c.bytes) (here.offset + 16) (omega arith) (omega arith) (omega arith))
 
 tag-len : (m : Memory) (at n : ℕ) (t : Tile) → tile_at m at ≡ t → n ≡ at + 16 → len_at m n ≡ t.len
@@ -57,10 +50,10 @@ tag-len m at n t read e =
     let tag : n - 8 ≡ at + 8 = omega arith in
     ap (λ k. word_at m k / 16 * 16) tag ∙ ap (λ (u : Tile). u.len) read
 
-pub at-len : (c : Cut) (Kept : List Tile → Type 0) (here : Tile) → OneTileAtAnOffset → TileIsReadOff → WalksAt c Kept here → len_at (bytes_of c.bytes) (here.offset + 16) ≡ here.len
-at-len c Kept here one read a =
+pub at-len : (c : Cut) (Kept : List Tile → Type 0) (here : Tile) → WalksAt c Kept here → len_at (bytes_of c.bytes) (here.offset + 16) ≡ here.len
+at-len c Kept here a =
     tag-len (bytes_of c.bytes) here.offset (here.offset + 16) here
-    (read c (a.front ++ here ∷ a.back) here.offset here a.said (one c a.front here a.back a.said)) refl
+    (tile_is_read_off c (a.front ++ here ∷ a.back) here.offset here a.said (one_tile_at_an_offset c a.front here a.back a.said)) refl
 
 -- ---- how many are free
 
@@ -109,19 +102,10 @@ none-free (t ∷ front) here e =
           omega arith
     ]
 
-few-free : (ts : List Tile) → length (gaps_of ts) ≤ length ts
-few-free [] = omega arith
-few-free (t ∷ ts) =
-    let rest = few-free ts in
-    elim (use_cases t) [
-      | unused e ↦ let n = ap (λ (gs : List Gap). length gs) (gaps_of-free t ts e) in omega arith
-      | used role e ↦ let n = ap (λ (gs : List Gap). length gs) (gaps_of-used t ts role e) in omega arith
-    ]
-
 -- so a count of the free ones stays small
-pub count-small : (c : Cut) (count : ℕ) (here : Tile) → TilesFillTheWindow → IsTrue (is_legal_size (length c.bytes)) → WalksAt c (λ (ts : List Tile). count ≡ length (gaps_of ts)) here → count ≤ 1073741824
-count-small c count here fill legal a =
-    let few = walk-few c (λ (ts : List Tile). count ≡ length (gaps_of ts)) here fill a in
+pub count-small : (c : Cut) (count : ℕ) (here : Tile) → IsTrue (is_legal_size (length c.bytes)) → WalksAt c (λ (ts : List Tile). count ≡ length (gaps_of ts)) here → count ≤ 1073741824
+count-small c count here legal a =
+    let few = walk-few c (λ (ts : List Tile). count ≡ length (gaps_of ts)) here a in
     let free = few-free a.front in
     let is = a.kept in
     let small = small_size (length c.bytes) legal in
@@ -210,26 +194,7 @@ wanted-rises c g =
     same-order (len_at (bytes_of c.bytes) a) (len_in (gaps_in c) a) a (len_at (bytes_of c.bytes) b) (len_in (gaps_in c) b) b (node-len c a g (node c a g i)) (node-len c b g (node c b g j)))
     (sorted-rises (gaps_in c) 0 (gaps_in c) all.fits all.rises)
 
-inserted-length : (g : Gap) (hs : List Gap) → length (insert_gap g hs) ≡ length hs + 1
-inserted-length g [] = omega arith
-inserted-length g (h ∷ hs) = let ih = inserted-length g hs in grind (arith, ih)
-
-sorted-length : (gs : List Gap) → length (payloads (sorted_gaps gs)) ≡ length gs
-sorted-length gs = of_payloads (sorted_gaps gs) ∙ of_sorted gs
-  where
-    of_payloads : (hs : List Gap) → length (payloads hs) ≡ length hs
-    of_payloads [] = refl
-    of_payloads (h ∷ hs) = let ih = of_payloads hs in omega arith
-
-    of_sorted : (hs : List Gap) → length (sorted_gaps hs) ≡ length hs
-    of_sorted [] = refl
-    of_sorted (h ∷ hs) = let ih = of_sorted hs in let one = inserted-length h (sorted_gaps hs) in omega arith
-
 -- ---- links
-
-good_link : (b : Bool) → not b ≡ true → b ≡ false
-good_link true h = absurd (false≢true h)
-good_link false h = refl
 
 -- a node with good links reads as the tree of the gaps does
 same_cell : (c : Cut) (n : ℕ) → has_good_links c n ≡ true → place_cells c n ≡ cells_of (bytes_of c.bytes) n
@@ -237,8 +202,8 @@ unfolding place_cells
 same_cell c n h =
     let m = bytes_of c.bytes in
     let parts = and_parts (not (is_bad (length c.bytes) (link_at m n))) (not (is_bad (length c.bytes) (link_at m (n + 8)))) h in
-    let left = good-placed (length c.bytes) (link_at m n) (good_link (is_bad (length c.bytes) (link_at m n)) parts.0) in
-    let right = good-placed (length c.bytes) (link_at m (n + 8)) (good_link (is_bad (length c.bytes) (link_at m (n + 8))) parts.1) in
+    let left = good-placed (length c.bytes) (link_at m n) (not-true (is_bad (length c.bytes) (link_at m n)) parts.0) in
+    let right = good-placed (length c.bytes) (link_at m (n + 8)) (not-true (is_bad (length c.bytes) (link_at m (n + 8))) parts.1) in
     λ i. record { left = left i; right = right i; red = is_red m n }
 
 not_bad : (c : Cut) (ns : List ℕ) (o : Option ℕ) → ((n : ℕ) → is_in n ns ≡ true → is_handle_place (length c.bytes) n ≡ true) → leads (λ k. is_in k ns) o ≡ true → is_bad (length c.bytes) o ≡ false
@@ -277,7 +242,7 @@ planted c g w =
         ordered = subst (λ (ks : List ℕ). rises (stands_before m) ks ≡ true) (sym w.lists) (wanted-rises c g);
         red_black = w.red_black;
       };
-      few = ap length w.lists ∙ sorted-length (gaps_in c);
+      few = ap length w.lists ∙ length-sorted (gaps_in c);
       all = planted-from c ns (tiles_in c) (λ n i.
           let j : is_in n ns ≡ true = subst (λ (ks : List ℕ). is_in n ks ≡ true) (sym w.lists) (in_sorted n (gaps_in c) ∙ i) in
           and_from (is_in n ns) (has_good_links c n) j (links n j));
@@ -290,7 +255,7 @@ unplanted c t g s few all =
     let both : (n : ℕ) → is_in n (wanted c) ≡ true → (is_in n (nodes_of t) ≡ true) × (has_good_links c n ≡ true) =
     λ n i. and_parts (is_in n (nodes_of t)) (has_good_links c n) (planted-at c (nodes_of t) (tiles_in c) all n (sym (in_sorted n (gaps_in c)) ∙ i)) in
     let same : wanted c ≡ nodes_of t =
-    all-of (stands_before m) (before_transitive m) (before_irreflexive m) (wanted c) (nodes_of t) (wanted-rises c g) s.ordered (λ n i. (both n i).0) (sorted-length (gaps_in c) ∙ sym few) in
+    all-of (stands_before m) (before_transitive m) (before_irreflexive m) (wanted c) (nodes_of t) (wanted-rises c g) s.ordered (λ n i. (both n i).0) (length-sorted (gaps_in c) ∙ sym few) in
     record {
       tree = t;
       linked = tree_same (place_cells c) (cells_of m) (link_at m 24) t (λ n i. sym (same_cell c n (both n (subst (λ (ks : List ℕ). is_in n ks ≡ true) (sym same) i)).1)) s.tree;
@@ -300,18 +265,8 @@ unplanted c t g s few all =
 
 -- ---- the test of the class
 
-free-gaps-of : (ts : List Tile) → free_gaps ts ≡ gaps_of ts
-free-gaps-of [] = refl
-free-gaps-of (t ∷ ts) =
-    let rest = free-gaps-of ts in
-    let gap : Tile → Gap = λ u. record { offset = u.offset; len = u.len } in
-    elim (use_cases t) [
-      | unused e ↦ ap (map gap) (cond-true (is_free t) (t ∷ filter is_free ts) (filter is_free ts) (ap is_none e)) ∙ ap (λ (gs : List Gap). gap t ∷ gs) rest ∙ sym (gaps_of-free t ts e)
-      | used role e ↦ ap (map gap) (cond-false (is_free t) (t ∷ filter is_free ts) (filter is_free ts) (ap is_none e)) ∙ rest ∙ sym (gaps_of-used t ts role e)
-    ]
-
 wanted-is : (c : Cut) → free_payloads (tiles_in c) ≡ wanted c
-wanted-is c = ap (λ (gs : List Gap). payloads (sorted_gaps gs)) (free-gaps-of (tiles_in c))
+wanted-is c = free-payloads (tiles_in c)
 
 -- it holds where the tree is there, and only there
 pub tree-true : (c : Cut) → IsTreeOf (bytes_of c.bytes) 24 (wanted c) → has_free_tree current (bytes_of c.bytes) (tiles_in c) ≡ true

@@ -6,12 +6,12 @@ use Rattle.std.proofs.lemmas.List.{length-append, length-take, take-append-drop}
 use Rattle.std.proofs.lemmas.List.Folds.{list_all-append}
 use Rattle.byteorder.specs.Endian.{little_number}
 use Rattle.raw_region.specs.Memory.{bytes_of, part, read, word_at, half_word_at}
-use Rattle.raw_region.proofs.Patches.{read-part}
+use Rattle.raw_region.proofs.Laws.{read-part}
 use Rattle.block_tags.specs.Format.{is_legal_size}
 use Rattle.segment_manager.specs.Denotes.{magic_number}
 use Rattle.image_check.specs.declared.classes.ImageClass.{ImageClass}
 use Rattle.image_check.specs.declared.classes.ImageClass.TheVariants.{BadMagic, UnsupportedVersion, BadSize}
-use Rattle.image_check.specs.Classes.{size_word, has_magic, has_version, has_front, has_size, is_zero}
+use Rattle.image_check.specs.EarlyTests.{size_word, has_magic, has_version, has_front, has_size, is_zero}
 use Rattle.image_check.specs.Deciding.{decided, decided_by}
 use Rattle.image_check.specs.Reading.{front_of}
 use Rattle.image_check.proofs.Deciding.{has_magic-front, has_version-front, size_word-front}

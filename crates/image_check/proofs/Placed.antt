@@ -3,15 +3,15 @@ use Rattle.std.proofs.Common.{◌≡◌, sym, ap, subst, ◌∙◌, ℕ, ◌+◌
 use Rattle.std.specs.Prelude.{nat_lt}
 use Rattle.std.proofs.lemmas.Bool.{le-ltb}
 use Rattle.std.proofs.lemmas.List.{take_at, length-append, length-take, length-drop}
-use Rattle.raw_region.specs.Device.{Grows, given_since}
+use Rattle.raw_region.specs.Device.{Grows}
 use Rattle.raw_region.specs.Memory.{Cut, part, patched, whole, cut_at}
 use Rattle.raw_region.specs.Regions.{with_bytes}
-use Rattle.raw_region.proofs.Patches.{length-part}
+use Rattle.raw_region.proofs.Laws.{length-part, added, both_added}
+use Rattle.best_fit.proofs.Laws.{legal_size}
 use Rattle.image_check.specs.declared.errors.OpenError.{OpenError}
 use Rattle.image_check.specs.Reading.{HasFront, IsFrontRead, IsImageRead, IsNotRead, Stops}
-use Rattle.image_check.proofs.Frame.{is_legal_size-least}
 use Rattle.image_check.proofs.Fronts.{IsRight, has_front-IsRight, IsRight-has_front, IsRight-append}
-use Rattle.image_check.proofs.Stopping.{added, both_added}
+use Rattle.image_check.proofs.Stopping.{read_since}
 
 -- the window of a region that the first 24 bytes say, with these in front
 pub record IsBegun (format : ℕ) (old mid front region : List ℕ) (base size : ℕ) (w : Cut) : Type 0 where
@@ -41,7 +41,7 @@ module _ (format : ℕ) (old mid front region : List ℕ) (base size : ℕ) (w :
   begun-length =
       let room = b.front_read.room in
       let long = b.front_read.long in
-      let least = is_legal_size-least size front_right.legal in
+      let least = (legal_size size front_right.legal).low in
       let all = length-part region base size room in
       let both = length-append front (drop (0 + length front) (part region base size)) in
       let cut = length-drop (0 + length front) (part region base size) in
@@ -73,7 +73,7 @@ module _ (format : ℕ) (old mid front region : List ℕ) (base size : ℕ) (w :
   -- the rest is read too
   pub begun-read : (new : List ℕ) (ended : Bool) (f g h : ℕ) (v : Cut) → Grows mid new → g ≡ f + 0 → h ≡ g + 0 → ended ≡ true
       → v ≡ with_bytes w (take 24 w.bytes ++ drop (length mid) new) → length (whole v) ≡ length (whole w)
-      → IsImageRead format (given_since old new ended f h) region base v
+      → IsImageRead format (read_since old new ended f h) region base v
   begun-read new ended f g h v grows d e i s l =
       let more : List ℕ = drop (length mid) new in
       let said : drop (length old) new ≡ front ++ more = added old new (front ++ more) (both_added old mid new front more b.front_read.read grows) in
@@ -105,14 +105,14 @@ module _ (format : ℕ) (old mid front region : List ℕ) (base size : ℕ) (w :
 
   -- or is not
   pub begun-stops : (new : List ℕ) (ended : Bool) (f g h : ℕ) (v : Cut) (back : List ℕ) (cause : OpenError) → g ≡ f + 0 → back ≡ whole v → length (whole v) ≡ length (whole w)
-      → ((start : List ℕ) → mid ≡ start ++ take 24 w.bytes → Stops format (given_since start new ended g h) (length w.before) (length (whole w)) cause)
-      → IsNotRead format (given_since old new ended f h) region base (record { region = back; cause = cause })
+      → ((start : List ℕ) → mid ≡ start ++ take 24 w.bytes → Stops format (read_since start new ended g h) (length w.before) (length (whole w)) cause)
+      → IsNotRead format (read_since old new ended f h) region base (record { region = back; cause = cause })
   begun-stops new ended f g h v back cause d e l s =
       let same : g ≡ f = omega arith in
       let stops = s old (b.front_read.read ∙ ap (λ x. old ++ x) (sym begun-take)) in
       record {
-        stops = subst (λ k. Stops format (given_since old new ended k h) base (length region) cause) same
-            (subst (λ k. Stops format (given_since old new ended g h) base k cause) begun-whole
-            (subst (λ k. Stops format (given_since old new ended g h) k (length (whole w)) cause) begun-base stops));
+        stops = subst (λ k. Stops format (read_since old new ended k h) base (length region) cause) same
+            (subst (λ k. Stops format (read_since old new ended g h) base k cause) begun-whole
+            (subst (λ k. Stops format (read_since old new ended g h) k (length (whole w)) cause) begun-base stops));
         handed_back = ap length e ∙ l ∙ begun-whole;
       }

@@ -1,22 +1,24 @@
 -- Why the reading of an image stops: too few bytes came, the first ones are wrong, or more follow.
-use Rattle.std.proofs.Common.{◌≡◌, refl, sym, ap, subst, ◌∙◌, ℕ, ◌+◌, ◌<◌, ◌≤◌, Bool, true, false, inl, inr, List, [], ◌∷◌, ◌++◌, length, take, drop, arith, Some, None, Err, append_assoc}
+use Rattle.std.proofs.Common.{◌≡◌, refl, sym, ap, subst, ◌∙◌, ℕ, ◌+◌, ◌<◌, ◌≤◌, Bool, true, false, inl, inr, List, [], ◌∷◌, ◌++◌, length, take, arith, Some, None, Err}
 use Rattle.std.specs.Prelude.{IsTrue, nat_lt, nat_le}
 use Rattle.std.proofs.lemmas.Bool.{and_from, and_right, lt-ltb, le-ltb, lt-leb, le-leb, both_ways}
-use Rattle.std.proofs.lemmas.List.{drop_at, length-append, length-take}
+use Rattle.std.proofs.lemmas.List.{length-append, length-take}
 use Rattle.raw_region.specs.Answers.{AddsFront}
 use Rattle.raw_region.specs.Device.{Given, given_since}
+use Rattle.raw_region.proofs.Laws.{added, both_added}
 use Rattle.block_tags.specs.Format.{is_legal_size}
+use Rattle.best_fit.proofs.Laws.{legal_size}
 use Rattle.image_check.specs.declared.classes.ImageClass.{ImageClass}
 use Rattle.image_check.specs.declared.classes.ImageClass.TheVariants.{Truncated, BadSize}
 use Rattle.image_check.specs.declared.errors.OpenError.{OpenError}
 use Rattle.image_check.specs.declared.errors.OpenError.TheVariants.{Image, ReadFault}
-use Rattle.image_check.specs.Classes.{size_word, holds, has_magic, has_version, has_front, has_size}
+use Rattle.image_check.specs.EarlyTests.{size_word, has_magic, has_version, has_front, has_size}
+use Rattle.image_check.specs.Classes.{holds}
 use Rattle.image_check.specs.Deciding.{decided, decided_by}
 use Rattle.image_check.specs.Opening.{IsTooSmallFor, holding, failed_reads}
 use Rattle.image_check.specs.Reading.{front_of, IsShort, GoesOn, Stops}
 use Rattle.image_check.proofs.Deciding.{decided-some, decided-none}
 use Rattle.image_check.proofs.Early.{short-Truncated, cut-Truncated}
-use Rattle.image_check.proofs.Frame.{is_legal_size-least}
 use Rattle.image_check.proofs.Fronts.{IsRight, IsRight-append, front_of-append, front-wrong, front-decided}
 
 -- ---- what a reader gave
@@ -24,6 +26,10 @@ use Rattle.image_check.proofs.Fronts.{IsRight, IsRight-append, front_of-append, 
 -- bytes that were read, and the counts of failed reads before and after
 abbrev pub given : List ℕ → Bool → ℕ → ℕ → Given
 given b ended f f' = record { bytes = b; ended = ended; failed = nat_lt f f' }
+
+-- what was given in a call, from the bytes given before and after it, and the counts
+abbrev pub read_since : List ℕ → List ℕ → Bool → ℕ → ℕ → Given
+read_since old new ended f f' = given_since (record { bytes = old; ended = ended; failures = f }) (record { bytes = new; ended = ended; failures = f' })
 
 -- by how much a cause raises the count of failed reads
 abbrev pub rise : OpenError → ℕ
@@ -33,17 +39,9 @@ rise cause = failed_reads {T = Unit {0}} (Err cause)
 none_failed : (f f' : ℕ) → f' ≡ f + 0 → nat_lt f f' ≡ false
 none_failed f f' e = le-ltb f f' (omega arith)
 
--- what was added to what was given before
-pub added : (old new b : List ℕ) → new ≡ old ++ b → drop (length old) new ≡ b
-added old new b e = ap (drop (length old)) e ∙ drop_at old b (length old) refl
-
 pub stops_since : (format : ℕ) (old new b : List ℕ) (ended : Bool) (f f' base capacity : ℕ) (cause : OpenError) → new ≡ old ++ b → Stops format (given b ended f f') base capacity cause
-    → Stops format (given_since old new ended f f') base capacity cause
+    → Stops format (read_since old new ended f f') base capacity cause
 stops_since format old new b ended f f' base capacity cause e s = subst (λ x. Stops format (given x ended f f') base capacity cause) (sym (added old new b e)) s
-
--- first these bytes, and then those
-pub both_added : (old mid new b more : List ℕ) → mid ≡ old ++ b → new ≡ mid ++ more → new ≡ old ++ (b ++ more)
-both_added old mid new b more e f = f ∙ ap (λ x. x ++ more) e ∙ append_assoc old b more
 
 -- ---- too few bytes
 
@@ -88,7 +86,7 @@ some_taken : (n count : ℕ) (xs : List ℕ) → length xs ≡ n → count < len
 some_taken n count xs e l = let cut = length-take count xs in omega arith
 
 pub front_stops : (format : ℕ) (old new xs : List ℕ) (ended : Bool) (f f' base capacity : ℕ) (cause : OpenError) → length xs ≡ 24 → AddsFront old new xs → IsShort ended cause → f' ≡ f + rise cause
-    → Stops format (given_since old new ended f f') base capacity cause
+    → Stops format (read_since old new ended f f') base capacity cause
 front_stops format old new xs ended f f' base capacity cause l a s g =
     let b : List ℕ = take a.count xs in
     let less = some_taken 24 a.count xs l a.fewer in
@@ -100,7 +98,7 @@ none_too_small : (format : ℕ) (b : List ℕ) (ended : Bool) (f f' base capacit
 none_too_small format b ended f f' base capacity c e t = both_ways (has_front format b) (front-wrong format b c e) t.front
 
 pub wrong_front_stops : (format : ℕ) (old mid new front xs : List ℕ) (ended : Bool) (f f' base capacity : ℕ) (c : ImageClass) (cause : OpenError) → length front ≡ 24 → length xs ≡ 120 → mid ≡ old ++ front
-    → front_of format front ≡ Err c → AddsFront mid new xs → IsShort ended cause → f' ≡ f + rise cause → Stops format (given_since old new ended f f') base capacity cause
+    → front_of format front ≡ Err c → AddsFront mid new xs → IsShort ended cause → f' ≡ f + rise cause → Stops format (read_since old new ended f f') base capacity cause
 wrong_front_stops format old mid new front xs ended f f' base capacity c cause l k e w a s g =
     let b : List ℕ = front ++ take a.count xs in
     let less = some_taken 120 a.count xs k a.fewer in
@@ -111,7 +109,7 @@ wrong_front_stops format old mid new front xs ended f f' base capacity c cause l
 
 -- with 144 bytes the wrong front decides
 pub wrong_front_decides : (format : ℕ) (old mid new front xs : List ℕ) (ended : Bool) (f f' base capacity : ℕ) (c : ImageClass) → length front ≡ 24 → length xs ≡ 120 → mid ≡ old ++ front
-    → front_of format front ≡ Err c → new ≡ mid ++ xs → f' ≡ f + 0 → Stops format (given_since old new ended f f') base capacity (Image c)
+    → front_of format front ≡ Err c → new ≡ mid ++ xs → f' ≡ f + 0 → Stops format (read_since old new ended f f') base capacity (Image c)
 wrong_front_decides format old mid new front xs ended f f' base capacity c l k e w a g =
     let b : List ℕ = front ++ xs in
     let both = length-append front xs in
@@ -126,7 +124,7 @@ room_for : (format : ℕ) (b : List ℕ) (size : ℕ) (ended : Bool) (f f' base 
 room_for format b size ended f f' base capacity r l t = let says = r.says in let small = t.small in omega arith
 
 pub rest_stops : (format : ℕ) (old mid new front xs : List ℕ) (size : ℕ) (ended : Bool) (f f' base capacity : ℕ) (cause : OpenError) → IsRight format front size → length front + length xs ≡ size → base + size ≤ capacity
-    → mid ≡ old ++ front → AddsFront mid new xs → IsShort ended cause → f' ≡ f + rise cause → Stops format (given_since old new ended f f') base capacity cause
+    → mid ≡ old ++ front → AddsFront mid new xs → IsShort ended cause → f' ≡ f + rise cause → Stops format (read_since old new ended f f') base capacity cause
 rest_stops format old mid new front xs size ended f f' base capacity cause r l room e a s g =
     let b : List ℕ = front ++ take a.count xs in
     let fewer = a.fewer in
@@ -143,7 +141,7 @@ more-decided : (format : ℕ) (b : List ℕ) (size : ℕ) → IsRight format b s
 unfolding decided
 more-decided format b size r l =
     let says = r.says in
-    let least = is_legal_size-least size r.legal in
+    let least = (legal_size size r.legal).low in
     let m = r.magic in
     let v = r.version in
     let long : nat_lt (length b) 144 ≡ false = le-ltb (length b) 144 (omega arith) in
@@ -152,7 +150,7 @@ more-decided format b size r l =
 
 -- the image is whole, and the reader does not end
 pub whole_stops : (format : ℕ) (old mid new b : List ℕ) (size : ℕ) (ended : Bool) (f f' base capacity : ℕ) (cause : OpenError) → IsRight format b size → length b ≡ size → base + size ≤ capacity
-    → mid ≡ old ++ b → GoesOn mid new cause → f' ≡ f + rise cause → Stops format (given_since old new ended f f') base capacity cause
+    → mid ≡ old ++ b → GoesOn mid new cause → f' ≡ f + rise cause → Stops format (read_since old new ended f f') base capacity cause
 whole_stops format old mid new b size ended f f' base capacity cause r l room e (inl h) g =
     stops_since format old new b ended f f' base capacity cause (h.1 ∙ e)
     (subst (Stops format (given b ended f f') base capacity) (sym h.0)

@@ -2,7 +2,8 @@
 use Rattle.std.specs.Prelude.{◌≡◌, ℕ, Bool, List, length, nat_lt, Option, Some, None, if◌then◌else◌}
 use Rattle.image_check.specs.declared.classes.ImageClass.{ImageClass}
 use Rattle.image_check.specs.declared.classes.ImageClass.TheVariants.{BadMagic, UnsupportedVersion, BadSize}
-use Rattle.image_check.specs.Classes.{has_magic, has_version, has_size, DecidesClass}
+use Rattle.image_check.specs.EarlyTests.{has_magic, has_version, has_size}
+use Rattle.image_check.specs.Classes.{DecidesClass}
 
 -- the class by these tests, one after another: too few bytes, the magic, the version, the size
 abbrev pub decided_by : Bool → Bool → Bool → Bool → Option ImageClass

@@ -1,8 +1,11 @@
+pub mod EarlyTests
+pub mod ObjectTests
+pub mod Fields
 pub mod Classes
 pub mod Meaning
 pub mod Opening
 pub mod Reading
-pub mod LandedImages
+pub mod SupportedImages
 pub mod Deciding
 pub mod FreeNodes
 pub mod FreeLaws

@@ -5,21 +5,22 @@ use Rattle.raw_region.specs.Memory.{SamePlace, cut_at}
 use Rattle.raw_region.specs.Device.{Given}
 use Rattle.segment_manager.specs.declared.modes.Mode.{Mode}
 use Rattle.segment_manager.specs.Directory.{Directory}
-use Rattle.segment_manager.specs.Landed.{IsLanded}
+use Rattle.segment_manager.specs.Supported.{is_supported}
 use Rattle.segment_manager.specs.Denotes.{Denotes}
 use Rattle.segment_manager.specs.State.{State}
 use Rattle.image_check.specs.declared.errors.OpenError.{OpenError}
 use Rattle.image_check.specs.declared.errors.OpenError.TheVariants.{Image, RegionTooSmall, OutOfMemory, ReadFault}
 use Rattle.image_check.specs.declared.errors.OpenRefused.{OpenRefused}
 use Rattle.image_check.specs.declared.classes.ImageClass.{ImageClass}
-use Rattle.image_check.specs.Classes.{holds, classes, number_of, has_front, size_word, DecidesClass}
+use Rattle.image_check.specs.EarlyTests.{has_front, size_word}
+use Rattle.image_check.specs.Classes.{holds, classes, number_of, DecidesClass}
 
 -- ---- of the bytes
 
 -- they denote this directory by the format, and it is made of what has come so far
 pub record IsImageOf (format : ℕ) (b : List ℕ) (d : Directory) : Type 0 where
   pub denotes : Denotes format b d
-  pub landed : IsLanded d
+  pub supported : IsTrue (is_supported d)
 
 abbrev pub IsImage : ℕ → List ℕ → Type 0
 IsImage format b = (d : Directory) × IsImageOf format b d

@@ -8,7 +8,7 @@ use Rattle.image_check.specs.declared.errors.OpenError.TheVariants.{Image, Regio
 use Rattle.image_check.specs.declared.errors.OpenRefused.{OpenRefused}
 use Rattle.image_check.specs.declared.classes.ImageClass.{ImageClass}
 use Rattle.image_check.specs.declared.classes.ImageClass.TheVariants.{Truncated, BadMagic, UnsupportedVersion, BadSize}
-use Rattle.image_check.specs.Classes.{has_magic, has_version, has_front, size_word}
+use Rattle.image_check.specs.EarlyTests.{has_magic, has_version, has_front, size_word}
 use Rattle.image_check.specs.Opening.{IsReadToEnd, IsWhyNot, IsTooSmallFor}
 
 -- ---- the first words

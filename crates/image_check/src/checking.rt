@@ -6,33 +6,24 @@ ghost use Rattle.raw_region.specs.Format.{current};
 ghost use Rattle.block_tags.specs.Format.{is_legal_size};
 ghost use Rattle.block_tags.specs.Tiles.{has_tags, tiles_of};
 ghost use Rattle.segment_manager.specs.State.{IsSegment};
-ghost use Rattle.image_check.specs.Classes.{are_bytes, has_reserved as is_reserved, is_zero as are_zeros};
-ghost use Rattle.image_check.specs.LandedImages.{has_no_place as is_without_place, is_landed_tile};
+ghost use Rattle.image_check.specs.EarlyTests.{has_reserved as is_reserved, is_zero as are_zeros};
+ghost use Rattle.image_check.specs.Classes.{are_bytes};
+ghost use Rattle.image_check.specs.SupportedImages.{has_no_place as is_without_place, is_supported_tile};
 ghost use Rattle.image_check.specs.Opening.{IsClassFor};
 ghost use Rattle.image_check.specs.Reading.{HasFront};
 
 use crate::classes::ImageClass;
 use crate::free_tree::has_free_tree;
-use block_tags::laws::{
-    good_tags_say_tiles, one_tile_at_an_offset, tiles_are_read_off, tiles_fill_the_window,
-};
-use block_tags::{Role, Tile, first, next};
+use block_tags::{FIRST, Role, TAG, Tile, first, next};
+use offset_link::NULL;
 use raw_region::{Window, word_in};
-
-/// The word of a link that leads nowhere.
-const NULL: u64 = 1;
-
-/// How many bytes a tag takes in front of a payload.
-const TAG: u64 = 16;
+use segment_manager::layout::{
+    ANONYMOUS, FORMAT_AT, HEAD_LEN, NAME_CLASS_AT, NAMED_AT, ONE_I64, RESERVED_AT, SIZE_AT,
+    UNIQUE_AT,
+};
 
 /// How many bytes an object takes that is one number and has no name.
-const OBJECT: u64 = 24;
-
-/// The first word of such an object: the kind `i64`, and the count 1 in the upper half.
-const KIND_AND_COUNT: u64 = 0x1_0000_0004;
-
-/// Its second word: a name of length 0, and the class of objects that are in no index.
-const NAME_AND_CLASS: u64 = 0;
+const NUMBER_LEN: u64 = HEAD_LEN + 8;
 
 /// Whether a window whose first words are right is the image of a directory that a segment can keep: anonymous numbers of
 /// kind `i64`, and nothing in an index.
@@ -55,7 +46,7 @@ pub fn check(window: &Window) -> Result<(), ImageClass>
     if !has_free_tree(window) {
         return Err(ImageClass::BadFreeTree);
     }
-    if has_no_place(bytes, 32) && has_no_place(bytes, 56) && has_numbers(window) {
+    if has_no_place(bytes, NAMED_AT) && has_no_place(bytes, UNIQUE_AT) && has_numbers(window) {
         Ok(())
     } else {
         Err(ImageClass::OrphanBlock)
@@ -77,12 +68,15 @@ fn hold_bytes(bytes: &[u8])
     ensures { IsTrue (are_bytes bytes.now) }
 {}
 
-/// Whether all bytes of the header that are kept for later are zero.
+/// Whether all bytes of the header that are kept for later are zero: the upper half of the word of the format, and those
+/// behind the indexes.
 fn has_reserved(bytes: &[u8]) -> bool
     requires { 128 ≤ length bytes.now }
     ensures { result ≡ is_reserved bytes.now }
 {
-    is_zero(&bytes[12..16]) && is_zero(&bytes[80..128])
+    let upper_half = FORMAT_AT as usize + 4..SIZE_AT as usize;
+    let behind_indexes = RESERVED_AT as usize..FIRST as usize;
+    is_zero(&bytes[upper_half]) && is_zero(&bytes[behind_indexes])
 }
 
 fn is_zero(bytes: &[u8]) -> bool
@@ -92,10 +86,11 @@ fn is_zero(bytes: &[u8]) -> bool
 }
 
 /// Whether the index whose link stands at `at` has neither a block nor an entry.
-fn has_no_place(bytes: &[u8], at: usize) -> bool
+fn has_no_place(bytes: &[u8], at: u64) -> bool
     requires { at + 24 ≤ length bytes.now }
     ensures { result ≡ is_without_place (bytes_of bytes.now) at }
 {
+    let at = at as usize;
     word_in(bytes, at) == NULL && word_in(bytes, at + 8) == 0 && word_in(bytes, at + 16) == 0
 }
 
@@ -103,12 +98,8 @@ fn has_no_place(bytes: &[u8], at: usize) -> bool
 fn has_numbers(window: &Window) -> bool
     requires size { IsTrue (is_legal_size (length window.now.bytes)) }
     requires tags { IsTrue (has_tags current (bytes_of window.now.bytes) (length window.now.bytes)) }
-    ensures { result ≡ list_all (is_landed_tile (bytes_of window.now.bytes)) (tiles_of (bytes_of window.now.bytes) (length window.now.bytes)) }
+    ensures { result ≡ list_all (is_supported_tile (bytes_of window.now.bytes)) (tiles_of (bytes_of window.now.bytes) (length window.now.bytes)) }
 {
-    good_tags_say_tiles();
-    tiles_are_read_off();
-    tiles_fill_the_window();
-    one_tile_at_an_offset();
     let mut tile = first(window);
     'tiles: while let Some(here) = tile {
         if !is_number(window, here) {
@@ -123,15 +114,15 @@ fn has_numbers(window: &Window) -> bool
 fn is_number(window: &Window, tile: Tile) -> bool
     requires within { tile.offset + tile.len ≤ length window.now.bytes }
     requires small { length window.now.bytes < 2 ^ 63 }
-    ensures { result ≡ is_landed_tile (bytes_of window.now.bytes) tile }
+    ensures { result ≡ is_supported_tile (bytes_of window.now.bytes) tile }
 {
     match tile.use_of {
         None => true,
         Some(Role::Object) => {
             let payload = tile.offset + TAG;
-            tile.len >= TAG + OBJECT
-                && window.read_u64(payload) == KIND_AND_COUNT
-                && window.read_u64(payload + 8) == NAME_AND_CLASS
+            tile.len >= TAG + NUMBER_LEN
+                && window.read_u64(payload) == ONE_I64
+                && window.read_u64(payload + NAME_CLASS_AT) == ANONYMOUS
         }
         Some(_) => false,
     }

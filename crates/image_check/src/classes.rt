@@ -1,4 +1,6 @@
 //! Why bytes are no image of a directory.
+ghost use Rattle.std.specs.Prelude.{◌≡◌};
+ghost use Rattle.image_check.specs.Classes.{number_of};
 
 use thiserror::Error;
 
@@ -41,4 +43,26 @@ pub enum ImageClass {
     /// A block belongs to nothing.
     #[error("a block belongs to nothing")]
     OrphanBlock,
+}
+
+impl ImageClass {
+    /// The place of the class in the order in which the classes are looked at, from 1 to 12.
+    pub fn number(self) -> u8
+        ensures { result ≡ number_of self }
+    {
+        match self {
+            ImageClass::Truncated => 1,
+            ImageClass::BadMagic => 2,
+            ImageClass::UnsupportedVersion => 3,
+            ImageClass::BadSize => 4,
+            ImageClass::BadReserved => 5,
+            ImageClass::BadTag => 6,
+            ImageClass::BadFreeTree => 7,
+            ImageClass::BadIndex => 8,
+            ImageClass::BadObject => 9,
+            ImageClass::SharedBlock => 10,
+            ImageClass::BadContainer => 11,
+            ImageClass::OrphanBlock => 12,
+        }
+    }
 }

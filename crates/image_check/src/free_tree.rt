@@ -9,27 +9,15 @@ ghost use Rattle.raw_region.specs.Format.{current};
 ghost use Rattle.block_tags.specs.Format.{is_legal_size};
 ghost use Rattle.block_tags.specs.Tiles.{has_tags, tiles_of};
 ghost use Rattle.best_fit.specs.GapNodes.{gaps_in, tiles_in};
-ghost use Rattle.image_check.specs.Classes.{has_free_tree as has_tree};
+ghost use Rattle.image_check.specs.EarlyTests.{has_free_tree as has_tree};
 ghost use Rattle.image_check.specs.FreeNodes.{has_good_links, is_before, is_planted as is_planted_in, is_place, len_at as len_there, place_cells, placed, stands_before};
 ghost use Rattle.image_check.specs.FreeLaws.{before_agrees, before_irreflexive, before_transitive, places_finite, places_left, places_right};
 
-use block_tags::laws::{
-    good_tags_say_tiles, one_tile_at_an_offset, tile_is_read_off, tiles_are_read_off,
-    tiles_fill_the_window,
-};
-use block_tags::{Tile, first, next};
+use best_fit::{FREE_TREE, RIGHT};
+use block_tags::{TAG, Tile, first, next};
 use link_tree::{Nodes, check, find_first_not_before};
 use offset_link::checked;
 use raw_region::Window;
-
-/// Where the header has the link to the root.
-const ROOT: u64 = 24;
-
-/// How many bytes a tag takes in front of a payload.
-const TAG: u64 = 16;
-
-/// Where the right link of a node stands behind its left link.
-const RIGHT: u64 = 8;
 
 /// The places of a window where a payload may begin, as the nodes of a tree. A link that leads to no such place is read as
 /// null. A node precedes longer ones, and those as long that stand behind it, by the lengths in front of them.
@@ -127,7 +115,7 @@ pub fn has_free_tree(window: &Window) -> bool
     ensures { result ≡ has_tree current (bytes_of window.now.bytes) (tiles_of (bytes_of window.now.bytes) (length window.now.bytes)) }
 {
     let places = Places { window };
-    let Ok(root) = checked(window, ROOT) else {
+    let Ok(root) = checked(window, FREE_TREE) else {
         return false;
     };
     let Some(nodes) = check(&places, root).nodes else {
@@ -142,10 +130,6 @@ fn count_free(window: &Window) -> u64
     requires tags { IsTrue (has_tags current (bytes_of window.now.bytes) (length window.now.bytes)) }
     ensures { result ≡ length (gaps_in window.now) }
 {
-    good_tags_say_tiles();
-    tiles_are_read_off();
-    tiles_fill_the_window();
-    one_tile_at_an_offset();
     let mut count = 0;
     let mut tile = first(window);
     'tiles: while let Some(here) = tile {
@@ -166,11 +150,6 @@ fn are_planted(places: &Places<'_>, root: Option<u64>) -> bool
     ensures { (t : Tree) → IsSearchTree (stands_before (bytes_of places.now.window.now.bytes)) (place_cells places.now.window.now) root t
         → result ≡ list_all (is_planted_in places.now.window.now (nodes_of t)) (tiles_in places.now.window.now) }
 {
-    good_tags_say_tiles();
-    tiles_are_read_off();
-    tiles_fill_the_window();
-    one_tile_at_an_offset();
-    tile_is_read_off();
     let mut tile = first(places.window);
     'tiles: while let Some(here) = tile {
         if !is_planted(places, root, here) {

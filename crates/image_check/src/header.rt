@@ -4,37 +4,36 @@ ghost use Rattle.raw_region.specs.Format.{current};
 ghost use Rattle.image_check.specs.Reading.{front_of};
 
 use crate::classes::ImageClass;
-use block_tags::is_legal_size;
+use block_tags::{FIRST, TAG, is_legal_size};
 use byteorder::{ByteOrder, LittleEndian};
 use raw_region::word_in;
+use segment_manager::layout::{FORMAT, FORMAT_AT, MAGIC, MAGIC_AT, SIZE_AT};
 
-/// How many bytes tell the size of an image.
-pub const FRONT: usize = 24;
+/// How many bytes at the front of an image say its magic, its version and its size.
+pub const FRONT: usize = SIZE_AT as usize + 8;
 
 /// The fewest bytes that an image has.
-pub const LEAST: usize = 144;
+pub const LEAST: usize = (FIRST + TAG) as usize;
 
-/// `MSEGFILE`, as a number with the lowest byte first.
-const MAGIC: u64 = 0x454C_4946_4745_534D;
-
-const VERSION: u32 = 1;
-
-/// The size of an image that begins with these bytes.
+/// The size in bytes of an image that begins with these bytes, of which there are at least [`FRONT`] and the first `FRONT` are
+/// looked at: 144, or a multiple of 16 from 176 to 2^30. It is what the front says, and no promise that the rest is an image.
 ///
 /// # Errors
 ///
-/// `BadMagic`, `UnsupportedVersion` or `BadSize`, whichever comes first, where the bytes begin no image.
+/// `BadMagic` where the bytes do not begin with the magic, then `UnsupportedVersion` for any other version than the one that is
+/// read, then `BadSize` for a size that no segment has.
 pub fn size_in(front: &[u8]) -> Result<u64, ImageClass>
     requires { 24 ≤ length front.now }
     ensures { result ≡ front_of current front.now }
 {
-    if word_in(front, 0) != MAGIC {
+    if word_in(front, MAGIC_AT as usize) != MAGIC {
         return Err(ImageClass::BadMagic);
     }
-    if LittleEndian::read_u32(&front[8..12]) != VERSION {
+    let format = FORMAT_AT as usize;
+    if u64::from(LittleEndian::read_u32(&front[format..format + 4])) != FORMAT {
         return Err(ImageClass::UnsupportedVersion);
     }
-    let size = word_in(front, 16);
+    let size = word_in(front, SIZE_AT as usize);
     if !is_legal_size(size) {
         return Err(ImageClass::BadSize);
     }

@@ -13,4 +13,5 @@ mod reading;
 
 pub use classes::ImageClass;
 pub use errors::{OpenError, OpenRefused};
+pub use header::{FRONT, size_in};
 pub use opening::open;

@@ -1,6 +1,6 @@
 //! The opening of an image.
 ghost use Rattle.std.specs.Prelude.{◌≡◌, ◌+◌, ◌-◌, ◌%◌, ◌^◌, ◌<◌, length};
-ghost use Rattle.raw_region.specs.Device.{Grows, given_since};
+ghost use Rattle.raw_region.specs.Device.{Reads, given_since};
 ghost use Rattle.raw_region.specs.Format.{current};
 ghost use Rattle.image_check.specs.Opening.{Opens, cause_of, failed_reads};
 
@@ -28,10 +28,9 @@ pub fn open<S: Source>(
     steps: &mut Steps,
 ) -> Result<Segment, OpenRefused>
     requires aligned { base % 16 ≡ 0 }
-    requires reader { S.failures reader.old < 2 ^ 64 - 1 }
-    ensures opens { Opens current (given_since (S.given reader.old) (S.given reader.new) (S.ended reader.new) (S.failures reader.old) (S.failures reader.new)) region base mode result }
-    ensures grows { Grows (S.given reader.old) (S.given reader.new) }
-    ensures counted { S.failures reader.new ≡ S.failures reader.old + failed_reads (cause_of result) }
+    requires reader { (S.history reader.old).failures < 2 ^ 64 - 1 }
+    ensures opens { Opens current (given_since (S.history reader.old) (S.history reader.new)) region base mode result }
+    ensures history { Reads (S.history reader.old) (S.history reader.new) (failed_reads (cause_of result)) }
     ensures steps { steps.new ≡ steps.old }
 {
     let window = read_image(reader, region, base)?;

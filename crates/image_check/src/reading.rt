@@ -1,7 +1,7 @@
 //! The reading of an image into its place in a region.
 ghost use Rattle.std.specs.Prelude.{◌≡◌, ◌+◌, ◌-◌, ◌%◌, ◌^◌, ◌<◌, ◌≤◌, List, ℕ, ◌++◌, true, length, take, drop, IfOk, OnOk, IfErr, MatchResult};
 ghost use Rattle.raw_region.specs.Answers.{AddsFront};
-ghost use Rattle.raw_region.specs.Device.{Grows, given_since};
+ghost use Rattle.raw_region.specs.Device.{Reads, given_since};
 ghost use Rattle.raw_region.specs.Format.{current};
 ghost use Rattle.raw_region.specs.Memory.{whole};
 ghost use Rattle.raw_region.specs.Regions.{with_bytes};
@@ -25,12 +25,11 @@ pub fn read_image<S: Source>(
     base: u64,
 ) -> Result<Window, OpenRefused>
     requires aligned { base % 16 ≡ 0 }
-    requires reader { S.failures reader.old < 2 ^ 64 - 1 }
+    requires reader { (S.history reader.old).failures < 2 ^ 64 - 1 }
     ensures reads { MatchResult result
-        (IsImageRead current (given_since (S.given reader.old) (S.given reader.new) (S.ended reader.new) (S.failures reader.old) (S.failures reader.new)) region base)
-        (IsNotRead current (given_since (S.given reader.old) (S.given reader.new) (S.ended reader.new) (S.failures reader.old) (S.failures reader.new)) region base) }
-    ensures grows { Grows (S.given reader.old) (S.given reader.new) }
-    ensures counted { S.failures reader.new ≡ S.failures reader.old + failed_reads (cause_of result) }
+        (IsImageRead current (given_since (S.history reader.old) (S.history reader.new)) region base)
+        (IsNotRead current (given_since (S.history reader.old) (S.history reader.new)) region base) }
+    ensures history { Reads (S.history reader.old) (S.history reader.new) (failed_reads (cause_of result)) }
 {
     let mut front = [0; FRONT];
     let size = match read_front(reader, &mut front, &region, base) {
@@ -59,11 +58,10 @@ fn read_front<S: Source>(
     region: &RawRegion,
     base: u64,
 ) -> Result<u64, OpenError>
-    requires { S.failures reader.old < 2 ^ 64 - 1 }
-    ensures ok { IfOk result (IsFrontRead current (S.given reader.old) (S.given reader.new) front.new base (length region.now)) }
-    ensures err { IfErr result (Stops current (given_since (S.given reader.old) (S.given reader.new) (S.ended reader.new) (S.failures reader.old) (S.failures reader.new)) base (length region.now)) }
-    ensures grows { Grows (S.given reader.old) (S.given reader.new) }
-    ensures counted { S.failures reader.new ≡ S.failures reader.old + failed_reads result }
+    requires { (S.history reader.old).failures < 2 ^ 64 - 1 }
+    ensures ok { IfOk result (IsFrontRead current (S.history reader.old).bytes (S.history reader.new).bytes front.new base (length region.now)) }
+    ensures err { IfErr result (Stops current (given_since (S.history reader.old) (S.history reader.new)) base (length region.now)) }
+    ensures history { Reads (S.history reader.old) (S.history reader.new) (failed_reads result) }
 {
     read_all(reader, front)?;
     match size_in(front) {
@@ -82,15 +80,14 @@ fn read_front<S: Source>(
 ///
 /// As `read_image`.
 fn read_rest<S: Source>(reader: &mut S, window: &mut Window) -> Result<(), OpenError>
-    requires reader { S.failures reader.old < 2 ^ 64 - 1 }
+    requires reader { (S.history reader.old).failures < 2 ^ 64 - 1 }
     requires front { HasFront current window.old }
-    ensures ok { OnOk result (window.new ≡ with_bytes window.old (take 24 window.old.bytes ++ drop (length (S.given reader.old)) (S.given reader.new))) }
-    ensures ended { OnOk result (S.ended reader.new ≡ true) }
-    ensures err { IfErr result (λ cause. (start : List ℕ) → S.given reader.old ≡ start ++ take 24 window.old.bytes
-        → Stops current (given_since start (S.given reader.new) (S.ended reader.new) (S.failures reader.old) (S.failures reader.new)) (length window.old.before) (length (whole window.old)) cause) }
+    ensures ok { OnOk result (window.new ≡ with_bytes window.old (take 24 window.old.bytes ++ drop (length (S.history reader.old).bytes) (S.history reader.new).bytes)) }
+    ensures ended { OnOk result ((S.history reader.new).ended ≡ true) }
+    ensures err { IfErr result (λ cause. (start : List ℕ) → (S.history reader.old).bytes ≡ start ++ take 24 window.old.bytes
+        → Stops current (given_since (record (S.history reader.old) { bytes = start }) (S.history reader.new)) (length window.old.before) (length (whole window.old)) cause) }
     ensures len { length (whole window.new) ≡ length (whole window.old) }
-    ensures grows { Grows (S.given reader.old) (S.given reader.new) }
-    ensures counted { S.failures reader.new ≡ S.failures reader.old + failed_reads result }
+    ensures history { Reads (S.history reader.old) (S.history reader.new) (failed_reads result) }
 {
     let front = FRONT as u64;
     let size = window.size();
@@ -104,10 +101,10 @@ fn read_rest<S: Source>(reader: &mut S, window: &mut Window) -> Result<(), OpenE
 ///
 /// `ReadFault` where the reader failed, and `Truncated` where it ended, before the slice was full.
 fn read_all<S: Source>(reader: &mut S, into: &mut [u8]) -> Result<(), OpenError>
-    requires { S.failures reader.old < 2 ^ 64 - 1 }
-    ensures ok { OnOk result (S.given reader.new ≡ S.given reader.old ++ into.new) }
-    ensures err { IfErr result (λ cause. AddsFront (S.given reader.old) (S.given reader.new) into.new × IsShort (S.ended reader.new) cause) }
-    ensures counted { S.failures reader.new ≡ S.failures reader.old + failed_reads result }
+    requires { (S.history reader.old).failures < 2 ^ 64 - 1 }
+    ensures ok { OnOk result ((S.history reader.new).bytes ≡ (S.history reader.old).bytes ++ into.new) }
+    ensures err { IfErr result (λ cause. AddsFront (S.history reader.old).bytes (S.history reader.new).bytes into.new × IsShort (S.history reader.new).ended cause) }
+    ensures counted { (S.history reader.new).failures ≡ (S.history reader.old).failures + failed_reads result }
 {
     let Ok(count) = fill(reader, into) else {
         return Err(OpenError::ReadFault);
@@ -124,11 +121,11 @@ fn read_all<S: Source>(reader: &mut S, into: &mut [u8]) -> Result<(), OpenError>
 ///
 /// `ReadFault` where the reader failed, and `BadSize` where it gave one.
 fn find_end<S: Source>(reader: &mut S) -> Result<(), OpenError>
-    requires { S.failures reader.old < 2 ^ 64 - 1 }
-    ensures same { OnOk result (S.given reader.new ≡ S.given reader.old) }
-    ensures ended { OnOk result (S.ended reader.new ≡ true) }
-    ensures err { IfErr result (GoesOn (S.given reader.old) (S.given reader.new)) }
-    ensures counted { S.failures reader.new ≡ S.failures reader.old + failed_reads result }
+    requires { (S.history reader.old).failures < 2 ^ 64 - 1 }
+    ensures same { OnOk result ((S.history reader.new).bytes ≡ (S.history reader.old).bytes) }
+    ensures ended { OnOk result ((S.history reader.new).ended ≡ true) }
+    ensures err { IfErr result (GoesOn (S.history reader.old).bytes (S.history reader.new).bytes) }
+    ensures counted { (S.history reader.new).failures ≡ (S.history reader.old).failures + failed_reads result }
 {
     match reader.read(&mut [0]) {
         Err(_) => Err(OpenError::ReadFault),

@@ -1,9 +1,8 @@
 -- Windows as the tests have them, and conditions of calls from the tiles that are known.
 use Rattle.std.proofs.Common.{◌≡◌, sym, ap, subst, ◌∙◌, ℕ, ◌+◌, ◌%◌, ◌≤◌, Some, Bool, List, [], ◌∷◌, length, arith, ◌||◌, not, IsTrue}
 use Rattle.std.specs.Prelude.{Option}
-use Rattle.std.proofs.lemmas.List.{length-replicate}
 use Rattle.raw_region.specs.Memory.{Cut, zeros, cut_at}
-use Rattle.raw_region.proofs.Patches.{length-part}
+use Rattle.raw_region.proofs.Laws.{length-part, length-zeros}
 use Rattle.raw_region.specs.Format.{current}
 use Rattle.block_tags.specs.declared.tile.Role.{Role}
 use Rattle.block_tags.specs.declared.tile.Tile.{Tile}
@@ -11,11 +10,7 @@ use Rattle.block_tags.specs.Format.{is_legal_size}
 use Rattle.block_tags.specs.Tiles.{is_free, may_be_red}
 use Rattle.block_tags.specs.Lists.{free_tile, tile_in, next_in, last_in, laid}
 use Rattle.block_tags.specs.Windows.{SaysTiles, FrontSaysTiles, IsTiled, HasTileAt, CanSplit, HasFreeNext, MayBeUsed, MayHaveColour, HasFreeLast, CanAppend}
-use Rattle.block_tags.proofs.Saying.{legal}
-
-pub length-zeros : (n : ℕ) → length (zeros n) ≡ n
-unfolding zeros
-length-zeros n = length-replicate n 0
+use Rattle.block_tags.proofs.Laws.{legal}
 
 pub length-fresh : (n : ℕ) (region : List ℕ) (c : Cut) → region ≡ zeros n → c ≡ cut_at region 0 n → length c.bytes ≡ n
 length-fresh n region c e f =

@@ -11,11 +11,8 @@ use Rattle.block_tags.specs.declared.tile.Role.TheVariants.{Node}
 use Rattle.best_fit.specs.Extents.{Extent, LiveSet, Gap, handle}
 use Rattle.best_fit.specs.Fit.{room, share, fit, place}
 use Rattle.best_fit.specs.Heap.{live_of, has_room, is_node_in, is_node_role, IsAllocated, IsChanged, IsRecoloured}
-use Rattle.best_fit.proofs.Allocated.{allocated-live, allocated-room, allocated-room_before, changed-room}
-use Rattle.best_fit.proofs.Frames.{link_at-beside}
-use Rattle.best_fit.proofs.LayOut.{lay_out_one}
-use Rattle.best_fit.proofs.Order.{list_any-insert}
-use Rattle.best_fit.proofs.Placing.{IfSome_is}
+use Rattle.best_fit.proofs.Laws.{IfSome_is, allocated-live, allocated-room, allocated-room_before, changed-room, lay_out_one, list_any-insert}
+use Rattle.offset_link.proofs.Laws.{SameBut-link}
 
 -- ---- room
 
@@ -71,7 +68,7 @@ each_step m at next k e l a b (inr second) = subst (λ (j : ℕ). IsLink m j) (o
 -- a link to a block and, written after it, one that leads nowhere
 pub two_links : (m m' : Memory) (at next target : ℕ) → next ≡ at + 8 → target % 16 ≡ 0 → SameBut m m' next 8 → link_at m at ≡ Some target → link_at m' next ≡ None → AreLinks m' at 2
 two_links m m' at next target e whole same leads null =
-    let kept = link_at-beside m m' next 8 at same (inl (omega arith)) in
+    let kept = SameBut-link m m' next 8 at same (inl (omega arith)) in
     let there : IsLink m' at = rw (kept, leads) whole in
     let nowhere : IsLink m' next = rw null tt in
     record { each = λ k l. each_step m' at next k e l there nowhere (cases_lt k 1) }

@@ -1,3 +1,4 @@
-pub mod FreshWindows
-pub mod HeapCalls
-pub mod Tables
+mod FreshWindows
+mod HeapCalls
+mod Indexed
+mod Tables

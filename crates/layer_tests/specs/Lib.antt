@@ -1,2 +1,4 @@
+pub mod OneEntry
 pub mod Table
 pub mod TableLaws
+pub mod Tickets

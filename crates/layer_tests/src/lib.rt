@@ -10,11 +10,17 @@ mod image_check_tests;
 #[cfg(test)]
 mod link_tree_tests;
 #[cfg(test)]
+mod node_tables;
+#[cfg(test)]
 mod offset_link_tests;
 #[cfg(test)]
 mod raw_region_stream_tests;
 #[cfg(test)]
 mod raw_region_tests;
+#[cfg(test)]
+mod seg_index_tests;
+#[cfg(test)]
+mod seg_types_tests;
 #[cfg(test)]
 mod segment_lang_tests;
 #[cfg(test)]

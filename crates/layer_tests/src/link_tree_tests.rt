@@ -1,199 +1,13 @@
-//! The calls on two keepers of nodes: one that owns a table of them, and one that holds a reference to it.
+//! The calls on trees, on both keepers of nodes.
 
 ghost use Rattle.std.specs.Prelude.{◌≡◌, ◌≢◌, ℕ, ◌+◌, ◌<◌, ◌≤◌, Bool, true, false, Option, Some, None, length, nat_lt, nat_eq, refl};
-ghost use Rattle.link_tree.specs.Nodes.{leads};
-ghost use Rattle.layer_tests.specs.Table.{link_of, table_cells};
-ghost use Rattle.layer_tests.specs.TableLaws.{table_finite, table_left, table_right, table_irreflexive, table_transitive, table_agrees};
+ghost use Rattle.link_tree.specs.Tree.{Tree, IsSearchTree, nodes_of};
+ghost use Rattle.link_tree.specs.Nodes.{leads, is_in, has_place};
 
-use link_tree::{Nodes, NodesMut, check, find_first_not_before, insert, remove, walk};
+use crate::node_tables::{Lent, Numbered, empty_table};
+use link_tree::{NodesMut, check, find_first_not_before, insert, remove, walk};
 use std::process::Abort;
 use std::test::Fail;
-
-/// The number that stands for no link.
-const NOWHERE: u64 = 64;
-
-/// Nodes 0 to 63 in the order of their numbers.
-#[derive(Drop)]
-struct Table {
-    left: [u64; 64],
-    right: [u64; 64],
-    red: [u64; 64],
-}
-
-fn link(value: u64) -> Option<u64>
-    ensures { result ≡ link_of value }
-{
-    if value < 64 { Some(value) } else { None }
-}
-
-fn value(link: Option<u64>) -> u64
-    requires { leads (λ n. nat_lt n 64) link ≡ true }
-    ensures { link_of result ≡ link }
-{
-    match link {
-        Some(node) => node,
-        None => NOWHERE,
-    }
-}
-
-fn colour(red: bool) -> u64
-    ensures { nat_eq result 1 ≡ red }
-{
-    if red { 1 } else { 0 }
-}
-
-impl Nodes for Table {
-    type Probe = u64;
-
-    ghost cells = { λ s. table_cells s.left s.right s.red };
-
-    ghost is_node = { λ s n. nat_lt n 64 };
-
-    ghost order = { λ s. nat_lt };
-
-    ghost before = { λ s probe n. nat_lt n probe };
-
-    ghost kept = { λ s. tt };
-
-    fn left(&self, node: u64) -> Option<u64> {
-        link(self.left[node as usize])
-    }
-
-    fn right(&self, node: u64) -> Option<u64> {
-        link(self.right[node as usize])
-    }
-
-    fn red(&self, node: u64) -> bool {
-        self.red[node as usize] == 1
-    }
-
-    fn precedes(&self, a: u64, b: u64) -> bool {
-        a < b
-    }
-
-    fn before_probe(&self, node: u64, probe: &u64) -> bool {
-        node < *probe
-    }
-
-    ghost finite = { λ s. table_finite };
-
-    ghost left_closed = { λ s. table_left s.left s.right s.red };
-
-    ghost right_closed = { λ s. table_right s.left s.right s.red };
-
-    ghost irreflexive = { λ s. table_irreflexive };
-
-    ghost transitive = { λ s. table_transitive };
-
-    ghost agrees = { λ s. table_agrees };
-}
-
-impl NodesMut for Table {
-    fn set_left(&mut self, node: u64, to: Option<u64>) {
-        self.left[node as usize] = value(to);
-    }
-
-    fn set_right(&mut self, node: u64, to: Option<u64>) {
-        self.right[node as usize] = value(to);
-    }
-
-    fn set_red(&mut self, node: u64, red: bool) {
-        self.red[node as usize] = colour(red);
-    }
-}
-
-/// A table that someone else owns.
-#[derive(Drop)]
-struct Lent<'a> {
-    table: &'a mut Table,
-}
-
-impl<'a> Nodes for Lent<'a> {
-    type Probe = u64;
-
-    ghost cells = { λ s. table_cells s.table.now.left s.table.now.right s.table.now.red };
-
-    ghost is_node = { λ s n. nat_lt n 64 };
-
-    ghost order = { λ s. nat_lt };
-
-    ghost before = { λ s probe n. nat_lt n probe };
-
-    ghost lender = { λ s. s.table.ghost_name };
-
-    ghost kept = { λ s. tt };
-
-    fn left(&self, node: u64) -> Option<u64> {
-        self.table.left(node)
-    }
-
-    fn right(&self, node: u64) -> Option<u64> {
-        self.table.right(node)
-    }
-
-    fn red(&self, node: u64) -> bool {
-        self.table.red(node)
-    }
-
-    fn precedes(&self, a: u64, b: u64) -> bool {
-        self.table.precedes(a, b)
-    }
-
-    fn before_probe(&self, node: u64, probe: &u64) -> bool {
-        self.table.before_probe(node, probe)
-    }
-
-    ghost finite = { λ s. table_finite };
-
-    ghost left_closed = { λ s. table_left s.table.now.left s.table.now.right s.table.now.red };
-
-    ghost right_closed = { λ s. table_right s.table.now.left s.table.now.right s.table.now.red };
-
-    ghost irreflexive = { λ s. table_irreflexive };
-
-    ghost transitive = { λ s. table_transitive };
-
-    ghost agrees = { λ s. table_agrees };
-}
-
-impl<'a> NodesMut for Lent<'a> {
-    fn set_left(&mut self, node: u64, to: Option<u64>) {
-        self.table.set_left(node, to);
-    }
-
-    fn set_right(&mut self, node: u64, to: Option<u64>) {
-        self.table.set_right(node, to);
-    }
-
-    fn set_red(&mut self, node: u64, red: bool) {
-        self.table.set_red(node, red);
-    }
-}
-
-/// Nodes that are the numbers below 64, in their order, and probes that are numbers.
-trait Numbered: NodesMut<Probe = u64> {
-    ghost numbers: { (s : Self) → Self.is_node s ≡ (λ n. nat_lt n 64) };
-
-    ghost in_order: { (s : Self) → Self.order s ≡ nat_lt };
-
-    ghost probed: { (s : Self) (probe : ℕ) → Self.before s probe ≡ (λ n. nat_lt n probe) };
-}
-
-impl Numbered for Table {
-    ghost numbers = { λ s. refl };
-
-    ghost in_order = { λ s. refl };
-
-    ghost probed = { λ s probe. refl };
-}
-
-impl<'a> Numbered for Lent<'a> {
-    ghost numbers = { λ s. refl };
-
-    ghost in_order = { λ s. refl };
-
-    ghost probed = { λ s probe. refl };
-}
 
 /// The most steps that each call took.
 #[derive(Clone, Copy, Drop)]
@@ -217,6 +31,29 @@ impl Most {
     }
 }
 
+/// Whether the node is in the tree, where the links are one.
+fn has<R: Abort, N: Numbered>(
+    rt: &R,
+    nodes: &N,
+    root: Option<u64>,
+    node: u64,
+    most: &mut Most,
+) -> bool
+    requires { leads (N.is_node nodes.now) root ≡ true }
+    ensures { (t : Tree) × IsSearchTree (N.order nodes.now) (N.cells nodes.now) root t
+        × (result ≡ true → is_in node (nodes_of t) ≡ true)
+        × (result ≡ false → has_place (N.order nodes.now) node (nodes_of t) ≡ true) }
+{
+    let checked = check(nodes, root);
+    let Some(_count) = checked.nodes else {
+        panic!(rt; "the links are no tree");
+    };
+    let found = find_first_not_before(nodes, root, &node);
+    most.check = checked.steps.max(most.check);
+    most.find = found.steps.max(most.find);
+    found.node == Some(node)
+}
+
 /// Puts a node in, where the links are a tree and the node is not in it yet.
 fn put<R: Abort, N: Numbered>(
     rt: &R,
@@ -229,17 +66,10 @@ fn put<R: Abort, N: Numbered>(
     requires node { node < 64 }
     ensures { leads (N.is_node nodes.new) result ≡ true }
 {
-    let checked = check(nodes, root);
-    let Some(_count) = checked.nodes else {
-        panic!(rt; "the links are no tree");
-    };
-    let found = find_first_not_before(nodes, root, &node);
-    if found.node == Some(node) {
+    if has(rt, nodes, root, node, most) {
         panic!(rt; "the node is in the tree already");
     }
     let changed = insert(nodes, root, node);
-    most.check = checked.steps.max(most.check);
-    most.find = found.steps.max(most.find);
     most.insert = changed.steps.max(most.insert);
     changed.root
 }
@@ -253,20 +83,12 @@ fn take<R: Abort, N: Numbered>(
     most: &mut Most,
 ) -> Option<u64>
     requires root { leads (N.is_node nodes.old) root ≡ true }
-    requires node { node < 64 }
     ensures { leads (N.is_node nodes.new) result ≡ true }
 {
-    let checked = check(nodes, root);
-    let Some(_count) = checked.nodes else {
-        panic!(rt; "the links are no tree");
-    };
-    let found = find_first_not_before(nodes, root, &node);
-    if found.node != Some(node) {
+    if !has(rt, nodes, root, node, most) {
         panic!(rt; "the node is not in the tree");
     }
     let changed = remove(nodes, root, node);
-    most.check = checked.steps.max(most.check);
-    most.find = found.steps.max(most.find);
     most.remove = changed.steps.max(most.remove);
     changed.root
 }
@@ -312,15 +134,6 @@ fn fill_and_empty<R: Abort, N: Numbered>(rt: &R, nodes: &mut N, step: u64, back:
         assert_eq!(rt; check(nodes, root).nodes, Some(63 - i));
     }
     most
-}
-
-/// A table in which no node leads anywhere, and all are black.
-fn empty_table() -> Table {
-    Table {
-        left: [NOWHERE; 64],
-        right: [NOWHERE; 64],
-        red: [0; 64],
-    }
 }
 
 #[test]

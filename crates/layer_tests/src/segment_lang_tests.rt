@@ -1,18 +1,18 @@
 //! The readings of lines and the texts of answers, by example.
 
 use raw_region::fake::{Last, MemorySink};
-use seg_types::{Kind, Refusal, ScalarKind};
+use seg_types::{Key, Kind, NewKey, Refusal, ScalarKind, ScalarValue};
 use segment_lang::{
-    Command, Content, Key, Literal, NewKey, Piece, Reading, Scalar, Word, literal_of, next_word,
-    number_of, only_word, parse_line, put_error, put_name, put_number, put_pieces, put_text,
-    put_value, whole_of,
+    Command, Content, LineError, Literal, Piece, Reading, Word, literal_of, next_word, number_of,
+    only_word, parse_line, put_line_error, put_name, put_number, put_pieces, put_text, put_value,
+    whole_of,
 };
 use std::test::Fail;
 
 fn construct(value: i64) -> Reading {
     Reading::Asked(Command::Construct {
         key: NewKey::Anonymous,
-        content: Content::Scalar(Scalar::I64(value)),
+        content: Content::Scalar(ScalarValue::I64(value)),
     })
 }
 
@@ -91,7 +91,7 @@ fn other_words_are_no_commands(rt: HostRuntime) {
     for line in lines {
         assert_eq!(rt;
             parse_line(line.as_bytes()),
-            Reading::UnknownCommand,
+            Reading::Wrong(LineError::UnknownCommand),
             "at {line:?}"
         );
     }
@@ -144,7 +144,7 @@ fn what_does_not_fit_is_bad_syntax(rt: HostRuntime) {
     for line in lines {
         assert_eq!(rt;
             parse_line(line.as_bytes()),
-            Reading::BadSyntax,
+            Reading::Wrong(LineError::BadSyntax),
             "at {line:?}"
         );
     }
@@ -153,15 +153,30 @@ fn what_does_not_fit_is_bad_syntax(rt: HostRuntime) {
 #[test]
 fn a_line_has_4096_bytes_at_most(rt: HostRuntime) {
     let mut line = [b'a'; 4099];
-    assert_eq!(rt; parse_line(&line[..4096]), Reading::UnknownCommand);
-    assert_eq!(rt; parse_line(&line[..4097]), Reading::LineTooLong);
-    assert_eq!(rt; parse_line(&line), Reading::LineTooLong);
+    assert_eq!(rt;
+        parse_line(&line[..4096]),
+        Reading::Wrong(LineError::UnknownCommand)
+    );
+    assert_eq!(rt;
+        parse_line(&line[..4097]),
+        Reading::Wrong(LineError::LineTooLong)
+    );
+    assert_eq!(rt; parse_line(&line), Reading::Wrong(LineError::LineTooLong));
     line[4096] = b'\r';
-    assert_eq!(rt; parse_line(&line[..4097]), Reading::UnknownCommand);
-    assert_eq!(rt; parse_line(&line[..4098]), Reading::LineTooLong);
+    assert_eq!(rt;
+        parse_line(&line[..4097]),
+        Reading::Wrong(LineError::UnknownCommand)
+    );
+    assert_eq!(rt;
+        parse_line(&line[..4098]),
+        Reading::Wrong(LineError::LineTooLong)
+    );
     line[0] = b'#';
     assert_eq!(rt; parse_line(&line[..4097]), Reading::Nothing);
-    assert_eq!(rt; parse_line(&line[..4098]), Reading::LineTooLong);
+    assert_eq!(rt;
+        parse_line(&line[..4098]),
+        Reading::Wrong(LineError::LineTooLong)
+    );
 }
 
 #[test]
@@ -245,7 +260,7 @@ fn answers_are_printed(rt: HostRuntime) -> Result<(), Fail> {
     let pieces = [
         Piece::Kind(Kind::Map(ScalarKind::Bool, ScalarKind::U64)),
         Piece::Bytes(b" "),
-        Piece::Value(Scalar::I64(-9223372036854775808)),
+        Piece::Value(ScalarValue::I64(-9223372036854775808)),
         Piece::Bytes(b"\n"),
         Piece::Refusal(Refusal::NoSpace),
         Piece::Bytes(b" #"),
@@ -254,10 +269,11 @@ fn answers_are_printed(rt: HostRuntime) -> Result<(), Fail> {
         Piece::Name(b"a_1."),
         Piece::Name(b"1 a"),
         Piece::Kind(Kind::Vector(ScalarKind::I32)),
+        Piece::LineError(LineError::LineTooLong),
     ];
     put_pieces(&mut out, &pieces)?;
     let want =
-        b"map<bool,u64> -9223372036854775808\nerror 9 no space #18446744073709551615\"a\\\"\\\\ \\x0a\\xc3\"a_1.\"1 a\"vec<i32>";
+        b"map<bool,u64> -9223372036854775808\nerror 9 no space #18446744073709551615\"a\\\"\\\\ \\x0a\\xc3\"a_1.\"1 a\"vec<i32>error 2 line too long";
     assert_eq!(rt; out.taken(), want.as_slice());
     Ok(())
 }
@@ -266,12 +282,12 @@ fn answers_are_printed(rt: HostRuntime) -> Result<(), Fail> {
 fn a_writer_that_fails_took_the_front(rt: HostRuntime) -> Result<(), Fail> {
     let mut out = MemorySink::new(rt.alloc(), 9, 2, Last::Fails)?;
     put_number(&mut out, 10)?;
-    put_value(&mut out, Scalar::I64(-1))?;
+    put_value(&mut out, ScalarValue::I64(-1))?;
     put_name(&mut out, b"_")?;
     assert!(rt; put_text(&mut out, b"\x00\x01").is_err());
     assert_eq!(rt; out.taken(), b"10-1_\"\\x0".as_slice());
     let mut out = MemorySink::new(rt.alloc(), 3, 9, Last::Ends)?;
-    assert!(rt; put_error(&mut out, 1, b"unknown command").is_err());
+    assert!(rt; put_line_error(&mut out, LineError::UnknownCommand).is_err());
     assert_eq!(rt; out.taken(), b"err".as_slice());
     Ok(())
 }

@@ -122,7 +122,7 @@ blackened_same leaf k = refl
 blackened_same (fork false l n r) k = refl
 blackened_same (fork true l n r) k = absurd (false≢true k)
 
-black_root_join : (side : Side) (near : Tree) (n : ℕ) (far : Tree) → has_black_root (joined_at side false near n far) ≡ true
+pub black_root_join : (side : Side) (near : Tree) (n : ℕ) (far : Tree) → has_black_root (joined_at side false near n far) ≡ true
 black_root_join Left near n far = refl
 black_root_join Right near n far = refl
 

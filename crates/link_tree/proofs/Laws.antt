@@ -2,10 +2,12 @@
 use Rattle.std.proofs.Common.{◌≡◌, ℕ, ◌+◌, ◌≤◌, ◌^◌, Bool, true, false, Option, Some, List, ◌∷◌, ◌++◌, ◌⊎◌, length}
 use Rattle.std.specs.List.{list_all}
 use Rattle.link_tree.specs.Tree.{Cell, Tree, nodes_of, Holds, IsTree, rises, bits, BoundsHeight, ReadsOff}
-use Rattle.link_tree.specs.Nodes.{is_in, has_place, put}
+use Rattle.link_tree.specs.Nodes.{is_in, has_place, put, without}
+pub use Rattle.link_tree.proofs.Trees.{none_some, some_same}
 use Rattle.link_tree.proofs.Trees as trees
 use Rattle.link_tree.proofs.Orders as orders
 use Rattle.link_tree.proofs.Growth as growth
+use Rattle.link_tree.proofs.Shrinkage as shrinkage
 use Rattle.link_tree.proofs.Heights as heights
 use Rattle.link_tree.proofs.Limits as limits
 use Rattle.link_tree.proofs.Reading as reading
@@ -55,6 +57,10 @@ all_at = orders.all_at
 -- what holds of each node of a list holds of all
 pub all_from : (p : ℕ → Bool) (ns : List ℕ) → ((m : ℕ) → is_in m ns ≡ true → p m ≡ true) → list_all p ns ≡ true
 all_from = orders.all_from
+
+-- a list without a node that it does not have is the list
+pub without_none : (n : ℕ) (ns : List ℕ) → is_in n ns ≡ false → without n ns ≡ ns
+without_none = shrinkage.without_none
 
 -- ---- order, where a node precedes what a node precedes that it precedes
 

@@ -1,17 +1,18 @@
+mod Orders
+mod Trees
+mod Heights
+mod Limits
+mod Seeking
+mod Joints
+mod Turns
+mod Colours
+mod Growth
+mod Mending
+mod Shrinkage
+mod Folding
+mod Walks
+mod Reading
+mod TakingLeast
+mod Taking
+mod Soundness
 pub mod Laws
-pub mod Orders
-pub mod Trees
-pub mod Heights
-pub mod Limits
-pub mod Seeking
-pub mod Joints
-pub mod Turns
-pub mod Colours
-pub mod Growth
-pub mod Mending
-pub mod Shrinkage
-pub mod Folding
-pub mod Walks
-pub mod Reading
-pub mod Taking
-pub mod Soundness

@@ -113,12 +113,13 @@ module _ (lt : ℕ → ℕ → Bool) (transitive : (a b c : ℕ) → lt a b ≡ 
   pub tree_limit : (ns : List ℕ) (t : Tree) → rises lt (nodes_of t) ≡ true → ((m : ℕ) → is_in m (nodes_of t) ≡ true → is_in m ns ≡ true) → length (nodes_of t) ≤ length ns
   tree_limit ns t o i = omega (arith, count_tree ns t None None o (λ m j. refl) i, count_all lt ns)
 
-  -- a search tree of nodes is no higher than 80
-  pub height_limit : (h : ℕ → Cell) (good : ℕ → Bool)
-      → ((n : ℕ) → good n ≡ true → leads good (h n).left ≡ true) → ((n : ℕ) → good n ≡ true → leads good (h n).right ≡ true)
-      → (ns : List ℕ) → length ns ≤ 2 ^ 40 → ((n : ℕ) → good n ≡ true → is_in n ns ≡ true)
-      → (link : Option ℕ) (t : Tree) → IsSearchTree lt h link t → leads good link ≡ true
-      → (height t ≤ 80) × (length (nodes_of t) ≤ 2 ^ 40)
-  height_limit h good cl cr ns few all link t s k =
-      let fits : length (nodes_of t) ≤ length ns = tree_limit ns t s.ordered (λ m i. all m (tree_good h good cl cr t link s.tree k m i)) in
-      (omega (arith, height_bits t s.red_black, bits_most (length (nodes_of t)) (omega arith)), omega arith)
+-- a search tree of nodes, of which there are finitely many, is no higher than 80
+pub height_limit : {lt : ℕ → ℕ → Bool} {h : ℕ → Cell} {good : ℕ → Bool} {link : Option ℕ} {t : Tree}
+    → ((a b c : ℕ) → lt a b ≡ true → lt b c ≡ true → lt a c ≡ true) → ((n : ℕ) → lt n n ≡ false)
+    → ((ns : List ℕ) × (length ns ≤ 2 ^ 40) × ((n : ℕ) → good n ≡ true → is_in n ns ≡ true))
+    → ((n : ℕ) → good n ≡ true → leads good (h n).left ≡ true) → ((n : ℕ) → good n ≡ true → leads good (h n).right ≡ true)
+    → IsSearchTree lt h link t → leads good link ≡ true → (height t ≤ 80) × (length (nodes_of t) ≤ 2 ^ 40)
+height_limit {lt = lt} {h = h} {good = good} {link = link} {t = t} transitive irreflexive finite cl cr s k =
+    let fits : length (nodes_of t) ≤ length finite.0 = tree_limit lt transitive irreflexive finite.0 t s.ordered (λ m i. finite.2 m (tree_good h good cl cr t link s.tree k m i)) in
+    let few = finite.1 in
+    (omega (arith, height_bits t s.red_black, bits_most (length (nodes_of t)) (omega arith)), omega arith)

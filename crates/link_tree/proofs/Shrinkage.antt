@@ -11,7 +11,7 @@ use Rattle.link_tree.specs.declared.visits.Side.{Side}
 use Rattle.link_tree.specs.declared.visits.Side.TheVariants.{Left, Right}
 use Rattle.link_tree.proofs.Orders.{rises_split, all_at, all_from, is_in-append, in_left, in_right, not_left, not_right}
 use Rattle.link_tree.proofs.Joints.{joined_opposite, nodes_of-joined, nodes_of-joined_far, nodes_of-blackened, nodes_of-turn}
-use Rattle.link_tree.proofs.Colours.{IsEven, IsNearlyEven, black_join, red_join, rebalanced_even, nearly_even, under_red, sides_of_red, sides_of_black, blackened_even, blackened_root, blackened_same}
+use Rattle.link_tree.proofs.Colours.{IsEven, IsNearlyEven, black_join, black_root_join, red_join, rebalanced_even, nearly_even, under_red, sides_of_red, sides_of_black, blackened_even, blackened_root, blackened_same}
 use Rattle.link_tree.proofs.Growth.{nodes_of-rebalanced}
 use Rattle.link_tree.proofs.Mending.{nodes_of-reddened}
 use Rattle.std.proofs.lemmas.List.{append-nil}
@@ -177,10 +177,6 @@ reddened_even leaf b e k = absurd (no_black b e.black)
 reddened_even (fork true l n r) b e k = absurd (false≢true k)
 reddened_even (fork false l n r) b e k = record { children = e.no_red_pair; black = e.black }
 
-black_joined_root : (side : Side) (near : Tree) (n : ℕ) (far : Tree) → has_black_root (joined_at side false near n far) ≡ true
-black_joined_root Left near n far = refl
-black_joined_root Right near n far = refl
-
 -- two trees under a red root
 record HasBlackSides (side : Side) (l r : Tree) : Type 0 where
   near_root : has_black_root (tree_on side l r) ≡ true
@@ -216,7 +212,7 @@ mended_even side false (fork true l m r) n far b e f k =
       level = suc (suc b);
       even = black_join side (tree_on side l r) m (rebalanced side (joined_at side false (reddened (tree_on (opposite side) l r)) n far)) (suc b) s.near_even inner;
       total = omega arith;
-      root = λ q g. black_joined_root side (tree_on side l r) m (rebalanced side (joined_at side false (reddened (tree_on (opposite side) l r)) n far));
+      root = λ q g. black_root_join side (tree_on side l r) m (rebalanced side (joined_at side false (reddened (tree_on (opposite side) l r)) n far));
     }
 
 done_even : (side : Side) (red : Bool) (near : Tree) (n : ℕ) (far : Tree) (b : ℕ) → IsEven near b → IsEven far b
@@ -224,7 +220,7 @@ done_even : (side : Side) (red : Bool) (near : Tree) (n : ℕ) (far : Tree) (b :
     → IsRestEven (not red) (record { tree = joined_at side red near n far; fell = false }) (above_red red b)
 unfolding above_red
 done_even side true near n far b e f k m = record { level = b; even = red_join side near n far b e f (k refl) (m refl); total = omega arith; root = λ q g. absurd (false≢true q) }
-done_even side false near n far b e f k m = record { level = suc b; even = black_join side near n far b e f; total = omega arith; root = λ q g. black_joined_root side near n far }
+done_even side false near n far b e f k m = record { level = suc b; even = black_join side near n far b e f; total = omega arith; root = λ q g. black_root_join side near n far }
 
 settled_even : (side : Side) (red black : Bool) (rest : Rest) (n : ℕ) (far : Tree) (b : ℕ) → IsRestEven black rest b → IsEven far b
     → (red ≡ true → black ≡ true) → (red ≡ true → has_black_root far ≡ true) → IsRestEven (not red) (settled side red rest n far) (above_red red b)

@@ -1,168 +1,21 @@
--- How a removal goes down a tree and comes back.
-use Rattle.std.proofs.Common.{◌≡◌, ℕ, ◌+◌, ◌≤◌, Bool, true, false, Option, Some, None, List, [], ◌∷◌, ◌++◌, nat_eq, refl, sym, ap, ◌∙◌, inl, inr, subst}
-use Rattle.std.proofs.lemmas.Bool.{eqb-false, ne_eqb, or_from, or_parts, cases_Bool}
-use Rattle.link_tree.specs.Tree.{Cell, Tree, leaf, fork, root_of, nodes_of, Holds, IsTree, IsSearchTree, rises, height}
+-- How a removal takes the root of a tree, or a node below it, and makes the root of what is left black.
+use Rattle.std.proofs.Common.{◌≡◌, ℕ, ◌+◌, ◌≤◌, Bool, true, false, Option, Some, None, [], ◌∷◌, ◌++◌, nat_eq, refl, sym, ap, ◌∙◌, inl, inr, subst}
+use Rattle.std.proofs.lemmas.Bool.{eqb-false, ne_eqb, or_parts, cases_Bool}
+use Rattle.link_tree.specs.Tree.{Cell, Tree, leaf, fork, nodes_of, Holds, IsTree, IsSearchTree, rises, height}
 use Rattle.link_tree.specs.Nodes.{is_in, with_left, with_red, without}
 use Rattle.link_tree.specs.Sides.{opposite, child_of, joined_at, side_of}
 use Rattle.link_tree.specs.Turning.{Turned, blackened}
 use Rattle.link_tree.specs.Shrinking.{Rest, Shrinks, Leaves, settled, sunk, least_of, without_least, without_root, uprooted, shrunk}
 use Rattle.link_tree.specs.declared.visits.Side.{Side}
 use Rattle.link_tree.specs.declared.visits.Side.TheVariants.{Left, Right}
-use Rattle.link_tree.proofs.Orders.{rises_split, is_in-append, in_middle, outside_parts, not_right}
-use Rattle.link_tree.proofs.Trees.{open_tree, holds_same, tree_same, none_some, no_tree, root_in}
-use Rattle.link_tree.proofs.Joints.{far_of_cell, red_of_cell, with_child-other, with_child-near, with_red-other, with_red-same, joint_of, open_side, apart_of, outside_all, other_than, nodes_of-blackened}
+use Rattle.link_tree.proofs.Orders.{rises_split, in_middle, outside_parts}
+use Rattle.link_tree.proofs.Trees.{open_tree, tree_same, none_some, no_tree, root_in}
+use Rattle.link_tree.proofs.Joints.{with_child-other, with_child-near, with_red-other, with_red-same, open_side, apart_of, outside_all, other_than, nodes_of-blackened}
 use Rattle.link_tree.proofs.Growth.{lower_near}
-use Rattle.link_tree.proofs.Shrinkage.{without_out, rises_without, rises_skip, nodes_of-least, nodes_of-shrunk, nodes_of-settled, shrunk_red_black}
-
--- a node outside the parts is outside a joined tree
-pub outside_join : (side : Side) (red : Bool) (near : Tree) (n : ℕ) (far : Tree) (m : ℕ) → is_in m (nodes_of near) ≡ false → (m ≡ n → ⊥) → is_in m (nodes_of far) ≡ false
-    → is_in m (nodes_of (joined_at side red near n far)) ≡ false
-outside_join Left red near n far m a d b = is_in-append m (nodes_of near) (n ∷ nodes_of far) ∙ or_from (is_in m (nodes_of near)) (is_in m (n ∷ nodes_of far)) a (or_from (nat_eq m n) (is_in m (nodes_of far)) (ne_eqb m n d) b)
-outside_join Right red near n far m a d b = is_in-append m (nodes_of far) (n ∷ nodes_of near) ∙ or_from (is_in m (nodes_of far)) (is_in m (n ∷ nodes_of near)) b (or_from (nat_eq m n) (is_in m (nodes_of near)) (ne_eqb m n d) a)
-
--- changes of fewer nodes are changes of more
-pub widen : (h h' : ℕ → Cell) (xs ys : List ℕ) (link : Option ℕ) (fell : Bool) (rest : Rest) → ((m : ℕ) → is_in m ys ≡ false → is_in m xs ≡ false)
-    → Leaves h h' xs link fell rest → Leaves h h' ys link fell rest
-widen h h' xs ys link fell rest sub u = record {
-  turned = record { tree = u.turned.tree; frame = λ m i. u.turned.frame m (sub m i) };
-  fallen = u.fallen;
-}
-
-right_left : Right ≡ Left → ⊥
-right_left e = cc
+use Rattle.link_tree.proofs.Shrinkage.{without_out, rises_without, rises_skip, nodes_of-shrunk, nodes_of-settled, shrunk_red_black}
+use Rattle.link_tree.proofs.TakingLeast.{outside_join, widen, right_left, settle_below, apart_head, has_least}
 
 module _ (lt : ℕ → ℕ → Bool) (transitive : (a b c : ℕ) → lt a b ≡ true → lt b c ≡ true → lt a c ≡ true) (irreflexive : (n : ℕ) → lt n n ≡ false) where
-  -- the tree below shrank, and was hung under its parent again
-  pub settle_below : (side : Side) (h h1 h2 : ℕ → Cell) (red : Bool) (near : Tree) (at : ℕ) (far : Tree) (rest : Rest) (link root : Option ℕ) (fell_below fell : Bool)
-      → Holds h (joined_at side red near at far) → rises lt (nodes_of (joined_at side red near at far)) ≡ true
-      → Leaves h h1 (nodes_of near) link fell_below rest
-      → ((m : ℕ) → is_in m (nodes_of near) ≡ false → is_in m (nodes_of rest.tree) ≡ false)
-      → rises lt (nodes_of (joined_at side red rest.tree at far)) ≡ true
-      → ((near' far' : Tree) → IsTree h1 link near' → IsTree h1 (child_of (opposite side) (h1 at)) far'
-      → rises lt (nodes_of (joined_at side (h1 at).red near' at far')) ≡ true
-      → Leaves h1 h2 (nodes_of (joined_at side (h1 at).red near' at far')) root fell (settled side (h1 at).red (record { tree = near'; fell = fell_below }) at far'))
-      → Leaves h h2 (nodes_of (joined_at side red near at far)) root fell (settled side red rest at far)
-  settle_below side h h1 h2 red near at far rest link root fell_below fell w o u sub o' settle =
-      let apart = apart_of lt transitive irreflexive side red near at far o in
-      let joint = joint_of h side red near at far w in
-      let cell = u.turned.frame at apart.not_near ∙ joint.cell in
-      let is_red : (h1 at).red ≡ red = ap (λ (c : Cell). c.red) cell ∙ red_of_cell side red (root_of near) (root_of far) in
-      let far_link : child_of (opposite side) (h1 at) ≡ root_of far = ap (child_of (opposite side)) cell ∙ far_of_cell side red (root_of near) (root_of far) in
-      let far_holds = holds_same h h1 far (λ m i. u.turned.frame m (apart.near_of_far m i)) joint.far_holds in
-      let first = settle rest.tree far u.turned.tree (record { root = far_link; holds = far_holds })
-      (subst (λ (c : Bool). rises lt (nodes_of (joined_at side c rest.tree at far)) ≡ true) (sym is_red) o') in
-      let second = subst (λ (c : Bool). Leaves h1 h2 (nodes_of (joined_at side c rest.tree at far)) root fell (settled side c (record { tree = rest.tree; fell = fell_below }) at far)) is_red first in
-      let s = subst (λ (f : Bool). Leaves h1 h2 (nodes_of (joined_at side red rest.tree at far)) root fell (settled side red (record { tree = rest.tree; fell = f }) at far)) u.fallen second in
-      record {
-        turned = record {
-          tree = s.turned.tree;
-          frame = λ m i.
-              let out = outside_all side red near at far m i in
-              s.turned.frame m (outside_join side red rest.tree at far m (sub m out.near_out) out.root_out out.far_out) ∙ u.turned.frame m out.near_out;
-        };
-        fallen = s.fallen;
-      }
-
-  -- ---- the first node
-
-  apart_head : (n : ℕ) (ns : List ℕ) → rises lt (n ∷ ns) ≡ true → is_in n ns ≡ false
-  apart_head n ns o = not_right lt transitive irreflexive [] n ns (rises_split lt [] n ns o)
-
-  least_any : (a b : ℕ) (red : Bool) (l : Tree) (n : ℕ) (r : Tree) → least_of a (fork red l n r) ≡ least_of b (fork red l n r)
-  least_any a b red l n r = refl
-
-  -- what is left of a tree without its first node has its other nodes
-  record HasLeast (t : Tree) (n : ℕ) : Type 0 where
-    nodes : nodes_of t ≡ least_of n t ∷ nodes_of (without_least t).tree
-
-  has_least : (h : ℕ → Cell) (n : ℕ) (t : Tree) → IsTree h (Some n) t → HasLeast t n
-  has_least h n leaf w = absurd (none_some n (sym w.root))
-  has_least h n (fork red l m r) w = record { nodes = nodes_of-least red l m r }
-
-  rest_out : (m n : ℕ) (xs ys : List ℕ) → xs ≡ n ∷ ys → is_in m xs ≡ false → is_in m ys ≡ false
-  rest_out m n xs ys e o = (or_parts (nat_eq m n) (is_in m ys) (ap (is_in m) (sym e) ∙ o)).1
-
-  pub take_last : (h h' : ℕ → Cell) (at : ℕ) (root : Option ℕ) (fell : Bool) (t : Tree) → IsTree h (Some at) t → (h at).left ≡ None → rises lt (nodes_of t) ≡ true
-      → ((u : Tree) → IsTree h (h at).right u → rises lt (nodes_of u) ≡ true → Leaves h h' (nodes_of u) root fell (sunk (h at).red u))
-      → Leaves h h' (nodes_of t) root fell (without_least t)
-  take_last h h' at root fell t w e o sink =
-      let p = open_tree h at t w in
-      let l_tree = rw e at p.left_tree in
-      let no_left = no_tree h p.left l_tree in
-      let is : t ≡ fork (h at).red leaf at p.right = p.is ∙ ap (λ x. fork (h at).red x at p.right) no_left in
-      let o' : rises lt (at ∷ nodes_of p.right) ≡ true = ap (λ x. rises lt (nodes_of x)) (sym is) ∙ o in
-      let s = sink p.right p.right_tree (rises_split lt [] at (nodes_of p.right) o').right in
-      let is_rest : without_least t ≡ sunk (h at).red p.right = ap without_least is in
-      let nodes : nodes_of t ≡ at ∷ nodes_of p.right = ap nodes_of is in
-      rw is_rest (widen h h' (nodes_of p.right) (nodes_of t) root fell (sunk (h at).red p.right) (λ m i. rest_out m at (nodes_of t) (nodes_of p.right) nodes i) s)
-
-  pub least_last : (h : ℕ → Cell) (at : ℕ) (t : Tree) → IsTree h (Some at) t → (h at).left ≡ None → at ≡ least_of at t
-  least_last h at t w e =
-      let p = open_tree h at t w in
-      let l_tree = rw e at p.left_tree in
-      let no_left = no_tree h p.left l_tree in
-      sym (ap (least_of at) (p.is ∙ ap (λ x. fork (h at).red x at p.right) no_left))
-
-  -- the tree on the left, which is not empty
-  pub record HasLeft (h : ℕ → Cell) (at left : ℕ) (t : Tree) : Type 0 where
-    pub tree : Tree
-    pub shrinks : Shrinks lt h (Some left) tree
-    pub lower : height tree + 1 ≤ height t
-    pub least : least_of at t ≡ least_of left tree
-    pub apart : left ≡ at → ⊥
-
-  least_over : (h : ℕ → Cell) (left : ℕ) (l : Tree) (at : ℕ) → IsTree h (Some left) l → least_of at l ≡ least_of left l
-  least_over h left leaf at w = absurd (none_some left (sym w.root))
-  least_over h left (fork red a m b) at w = refl
-
-  pub left_of : (h : ℕ → Cell) (at left : ℕ) (t : Tree) → IsTree h (Some at) t → rises lt (nodes_of t) ≡ true → (h at).left ≡ Some left → HasLeft h at left t
-  left_of h at left t w o e =
-      let p = open_side h Left at t w in
-      let red = (h at).red in
-      let order : rises lt (nodes_of (joined_at Left red p.near at p.far)) ≡ true = ap (λ x. rises lt (nodes_of x)) (sym p.is) ∙ o in
-      let apart = apart_of lt transitive irreflexive Left red p.near at p.far order in
-      let tree = rw e at p.near_tree in
-      let low = lower_near Left red p.near at p.far in
-      record {
-        tree = p.near;
-        shrinks = record { tree = tree; ordered = apart.near_rises };
-        lower = subst (λ u. height p.near + 1 ≤ height u) (sym p.is) low;
-        least = ap (least_of at) p.is ∙ least_over h left p.near at tree;
-        apart = other_than left at (nodes_of p.near) (root_in h left p.near tree) apart.not_near;
-      }
-
-  rises_rest : (xs ys zs : List ℕ) (n m : ℕ) → xs ≡ m ∷ ys → rises lt (xs ++ n ∷ zs) ≡ true → rises lt (ys ++ n ∷ zs) ≡ true
-  rises_rest xs ys zs n m e o =
-      let o' : rises lt (m ∷ (ys ++ n ∷ zs)) ≡ true = ap (λ x. rises lt (x ++ n ∷ zs)) (sym e) ∙ o in
-      (rises_split lt [] m (ys ++ n ∷ zs) o').right
-
-  without_least_over : (h : ℕ → Cell) (red : Bool) (left : ℕ) (l : Tree) (at : ℕ) (r : Tree) → IsTree h (Some left) l
-      → without_least (fork red l at r) ≡ settled Left red (without_least l) at r
-  without_least_over h red left leaf at r w = absurd (none_some left (sym w.root))
-  without_least_over h red left (fork red' a m b) at r w = refl
-
-  pub take_more : (h h1 h2 : ℕ → Cell) (at left : ℕ) (link root : Option ℕ) (fell_below fell : Bool) (t : Tree)
-      → IsTree h (Some at) t → rises lt (nodes_of t) ≡ true → (h at).left ≡ Some left
-      → ((u : Tree) → Shrinks lt h (Some left) u → Leaves h h1 (nodes_of u) link fell_below (without_least u))
-      → ((near' far' : Tree) → IsTree h1 link near' → IsTree h1 (h1 at).right far'
-      → rises lt (nodes_of (joined_at Left (h1 at).red near' at far')) ≡ true
-      → Leaves h1 h2 (nodes_of (joined_at Left (h1 at).red near' at far')) root fell (settled Left (h1 at).red (record { tree = near'; fell = fell_below }) at far'))
-      → Leaves h h2 (nodes_of t) root fell (without_least t)
-  take_more h h1 h2 at left link root fell_below fell t w o e take settle =
-      let p = open_side h Left at t w in
-      let red = (h at).red in
-      let order : rises lt (nodes_of (joined_at Left red p.near at p.far)) ≡ true = ap (λ x. rises lt (nodes_of x)) (sym p.is) ∙ o in
-      let holds : Holds h (joined_at Left red p.near at p.far) = rw p.is at w.holds in
-      let tree = rw e at p.near_tree in
-      let apart = apart_of lt transitive irreflexive Left red p.near at p.far order in
-      let u = take p.near (record { tree = tree; ordered = apart.near_rises }) in
-      let least = has_least h left p.near tree in
-      let s = settle_below Left h h1 h2 red p.near at p.far (without_least p.near) link root fell_below fell holds order u
-      (λ m i. rest_out m (least_of left p.near) (nodes_of p.near) (nodes_of (without_least p.near).tree) least.nodes i)
-      (rises_rest (nodes_of p.near) (nodes_of (without_least p.near).tree) (nodes_of p.far) at (least_of left p.near) least.nodes order) settle in
-      let is : without_least t ≡ settled Left red (without_least p.near) at p.far = ap without_least p.is ∙ without_least_over h red left p.near at p.far tree in
-      rw is (subst (λ x. Leaves h h2 (nodes_of x) root fell (settled Left red (without_least p.near) at p.far)) (sym p.is) s)
-
   -- ---- a tree without its root
 
   pub uproot_last : (h h' : ℕ → Cell) (at : ℕ) (root : Option ℕ) (fell : Bool) (t : Tree) → IsTree h (Some at) t → (h at).right ≡ None → rises lt (nodes_of t) ≡ true
@@ -225,11 +78,11 @@ module _ (lt : ℕ → ℕ → Bool) (transitive : (a b c : ℕ) → lt a b ≡ 
       let shrinks : Shrinks lt h (Some right) r = record { tree = r_tree; ordered = apart.far_rises } in
       let u = take r shrinks in
       let left_over = (without_least r).tree in
-      let least = has_least h right r r_tree in
+      let least = has_least lt transitive irreflexive h right r r_tree in
       let nodes_r : nodes_of r ≡ next ∷ nodes_of left_over = least.nodes ∙ ap (λ x. x ∷ nodes_of left_over) (sym (is_next r shrinks)) in
       let next_in : is_in next (nodes_of r) ≡ true = ap (is_in next) nodes_r ∙ in_middle [] next (nodes_of left_over) in
       let r_order : rises lt (next ∷ nodes_of left_over) ≡ true = ap (rises lt) (sym nodes_r) ∙ apart.far_rises in
-      let next_out : is_in next (nodes_of left_over) ≡ false = apart_head next (nodes_of left_over) r_order in
+      let next_out : is_in next (nodes_of left_over) ≡ false = apart_head lt transitive irreflexive next (nodes_of left_over) r_order in
       let next_not_left : is_in next (nodes_of l) ≡ false = apart.near_of_far next next_in in
       let rest : (m : ℕ) → (m ≡ next → ⊥) → h3 m ≡ h1 m =
       λ m d. ap (λ (f : ℕ → Cell). f m) s3 ∙ with_red-other h2 next m red d ∙ ap (λ (f : ℕ → Cell). f m) s2 ∙ with_child-other Left h1 next m (h at).left d in
@@ -322,7 +175,7 @@ module _ (lt : ℕ → ℕ → Bool) (transitive : (a b c : ℕ) → lt a b ≡ 
       let is_joined = shrunk-joined x side red p.near at p.far other e in
       let o' : rises lt (nodes_of (joined_at side red (shrunk lt x p.near).tree at p.far)) ≡ true =
       settled_order side red (shrunk lt x p.near) at p.far (ap (λ r. rises lt (nodes_of r.tree)) (sym is_joined) ∙ ap (rises lt) whole ∙ rises_without lt x (nodes_of (joined_at side red p.near at p.far)) order) in
-      let s = settle_below side h h1 h2 red p.near at p.far (shrunk lt x p.near) link root fell_below fell holds order u
+      let s = settle_below lt transitive irreflexive side h h1 h2 red p.near at p.far (shrunk lt x p.near) link root fell_below fell holds order u
       (λ m i. ap (is_in m) nodes ∙ without_out x (nodes_of p.near) m i) o' settle in
       let is : shrunk lt x t ≡ settled side red (shrunk lt x p.near) at p.far = ap (shrunk lt x) p.is ∙ is_joined in
       rw is (subst (λ v. Leaves h h2 (nodes_of v) root fell (settled side red (shrunk lt x p.near) at p.far)) (sym p.is) s)

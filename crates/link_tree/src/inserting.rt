@@ -87,13 +87,8 @@ pub fn insert<N: NodesMut>(nodes: &mut N, root: Option<u64>, node: u64) -> Chang
     ensures steps { (t : Tree) → IsSearchTree (N.order nodes.old) (N.cells nodes.old) root t
         → result.steps ≤ 32 * bits (length (nodes_of t) + 1) + 32 }
     ensures root { leads (N.is_node nodes.new) result.root ≡ true }
-    ensures nodes { N.is_node nodes.new ≡ N.is_node nodes.old }
-    ensures order { N.order nodes.new ≡ N.order nodes.old }
-    ensures probe { N.before nodes.new ≡ N.before nodes.old }
-    // The nodes are still reached by the reference that they were reached by.
-    ensures lender { N.lender nodes.new ≡ N.lender nodes.old }
-    // What the keeper has besides the links and colours of its nodes stays.
-    ensures kept { N.kept nodes.new ≡ N.kept nodes.old }
+    // Nothing but links and colours changed: the nodes, their order, the reference they are reached by, and what else there is stay.
+    ensures same { SameBesideCells N.Nodes nodes.old nodes.new }
 {
     let mut visits = VisitsMut::new(nodes);
     let top = grow(&mut visits, root, node);

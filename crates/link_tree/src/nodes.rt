@@ -90,35 +90,25 @@ pub trait Nodes {
 /// Each call changes one field of one node and nothing else: which numbers are nodes, their order, what stands before
 /// a probe, the reference that the nodes are reached by, and what the keeper has besides all stay as they were.
 pub trait NodesMut: Nodes {
+    ghost use Rattle.link_tree.specs.Frame.{SameBesideCells};
+
     /// Sets the link to the left, to a node or to nowhere.
     fn set_left(&mut self, node: u64, to: Option<u64>)
         requires node { Self.is_node self.old node ≡ true }
         requires target { leads (Self.is_node self.old) to ≡ true }
         ensures cells { Self.cells self.new ≡ with_left (Self.cells self.old) node to }
-        ensures nodes { Self.is_node self.new ≡ Self.is_node self.old }
-        ensures order { Self.order self.new ≡ Self.order self.old }
-        ensures probe { Self.before self.new ≡ Self.before self.old }
-        ensures lender { Self.lender self.new ≡ Self.lender self.old }
-        ensures kept { Self.kept self.new ≡ Self.kept self.old };
+        ensures same { SameBesideCells Self.Nodes self.old self.new };
 
     /// Sets the link to the right, to a node or to nowhere.
     fn set_right(&mut self, node: u64, to: Option<u64>)
         requires node { Self.is_node self.old node ≡ true }
         requires target { leads (Self.is_node self.old) to ≡ true }
         ensures cells { Self.cells self.new ≡ with_right (Self.cells self.old) node to }
-        ensures nodes { Self.is_node self.new ≡ Self.is_node self.old }
-        ensures order { Self.order self.new ≡ Self.order self.old }
-        ensures probe { Self.before self.new ≡ Self.before self.old }
-        ensures lender { Self.lender self.new ≡ Self.lender self.old }
-        ensures kept { Self.kept self.new ≡ Self.kept self.old };
+        ensures same { SameBesideCells Self.Nodes self.old self.new };
 
     /// Makes the node red, or black.
     fn set_red(&mut self, node: u64, red: bool)
         requires { Self.is_node self.old node ≡ true }
         ensures cells { Self.cells self.new ≡ with_red (Self.cells self.old) node red }
-        ensures nodes { Self.is_node self.new ≡ Self.is_node self.old }
-        ensures order { Self.order self.new ≡ Self.order self.old }
-        ensures probe { Self.before self.new ≡ Self.before self.old }
-        ensures lender { Self.lender self.new ≡ Self.lender self.old }
-        ensures kept { Self.kept self.new ≡ Self.kept self.old };
+        ensures same { SameBesideCells Self.Nodes self.old self.new };
 }

@@ -1,2 +1,3 @@
-pub mod Links
-pub mod Shifting
+mod Links
+mod Shifting
+pub mod Laws

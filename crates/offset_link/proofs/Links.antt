@@ -1,9 +1,30 @@
 -- A link leads where it was made to lead.
-use Rattle.std.proofs.Common.{◌≡◌, refl, ℕ, ◌+◌, ◌-◌, ◌%◌, ◌^◌, ◌<◌, ◌≤◌, Some, None, Bool, true, false, ap, sym, ◌∙◌, subst, arith, List, length}
-use Rattle.std.specs.Prelude.{Option, IfSome}
-use Rattle.raw_region.specs.Memory.{bytes_of, patched, word_at, word_bytes}
-use Rattle.raw_region.proofs.Words.{word-own}
+use Rattle.std.proofs.Common.{◌≡◌, ℕ, ◌+◌, ◌-◌, ◌%◌, ◌^◌, ◌<◌, ◌≤◌, Some, None, ◌⊎◌, inl, inr, ap, sym, ◌∙◌, arith, List, length}
+use Rattle.std.specs.Prelude.{Option, ◌==◌}
+use Rattle.std.proofs.lemmas.Bool.{cond-false, ne_eqb}
+use Rattle.std.proofs.lemmas.Option.{none-some}
+use Rattle.std.proofs.lemmas.Bool.{cases_eq}
+use Rattle.raw_region.specs.Memory.{Memory, Same, SameBut, bytes_of, patched}
+use Rattle.raw_region.proofs.Laws.{Same-word, SameBut-word, word-own}
 use Rattle.offset_link.specs.Link.{target_of, link_word, link_at, link}
+
+-- a link within a range that stays
+pub Same-link : (m m' : Memory) (from to at : ℕ) → Same m m' from to → from ≤ at → at + 8 ≤ to → link_at m' at ≡ link_at m at
+Same-link m m' from to at s low high = ap (target_of at) (Same-word m m' from to at s low high)
+
+-- a link outside of the bytes that may change
+pub SameBut-link : (m m' : Memory) (from n at : ℕ) → SameBut m m' from n → (at + 8 ≤ from) ⊎ (from + n ≤ at) → link_at m' at ≡ link_at m at
+SameBut-link m m' from n at s beside = ap (target_of at) (SameBut-word m m' from n at s beside)
+
+null_cases : (at w : ℕ) → target_of at w ≡ None → (w ≡ 1) ⊎ (w ≡ 1 → ⊥) → w ≡ 1
+null_cases at w none (inl e) = e
+null_cases at w none (inr n) =
+    let o : Option ℕ = Some ((at + w) % 2 ^ 64) in
+    let some : target_of at w ≡ o = cond-false (w == 1) None o (ne_eqb w 1 n) in absurd (none-some ((at + w) % 2 ^ 64) (sym none ∙ some))
+
+-- a link that leads nowhere is the word 1
+pub null_word : (at w : ℕ) → target_of at w ≡ None → w ≡ 1
+null_word at w none = null_cases at w none (cases_eq w 1)
 
 not_null : (at t : ℕ) → at < 2 ^ 64 → t < 2 ^ 64 → at % 8 ≡ 0 → t % 16 ≡ 0 → (t + 2 ^ 64 - at) % 2 ^ 64 ≡ 1 → ⊥
 not_null at t a b e f g = omega arith

@@ -1,13 +1,12 @@
 -- Links that move together: one more, from the front or from the back, and where all of them lead.
-use Rattle.std.proofs.Common.{◌≡◌, ℕ, zero, suc, ◌+◌, ◌-◌, ◌*◌, ◌%◌, ◌^◌, ◌<◌, ◌≤◌, Bool, true, false, ◌==◌, List, [], ◌∷◌, ◌++◌, length, refl, sym, ap, ap₂, ◌∙◌, arith, length-append}
+use Rattle.std.proofs.Common.{◌≡◌, ℕ, zero, suc, ◌+◌, ◌*◌, ◌%◌, ◌^◌, ◌<◌, ◌≤◌, Bool, true, false, ◌==◌, List, ◌++◌, length, refl, sym, ap, ap₂, ◌∙◌, arith, length-append}
 use Rattle.std.specs.Prelude.{Option, Some, None, IfSome, if◌then◌else◌}
 use Rattle.std.proofs.lemmas.List.{append-nil, append_assoc, take_all}
 use Rattle.std.specs.List.{refill}
 use Rattle.raw_region.specs.Memory.{Memory, bytes_of, part, patched, word_at}
-use Rattle.raw_region.proofs.Patches.{length-word, length-patched, refill-all, patched-all, patched-prepend, patched-append}
-use Rattle.raw_region.proofs.Words.{word-before, word-after, word-first, word-behind, word-inside}
+use Rattle.raw_region.proofs.Laws.{length-patched, length-word, patched-all, patched-append, patched-prepend, refill-all, word-after, word-before, word-behind, word-first, word-inside}
 use Rattle.offset_link.specs.Link.{target_of, link_at, link_word, link}
-use Rattle.offset_link.specs.Relinked.{relinked, IsLink, AreLinks, KeepTargets}
+use Rattle.offset_link.specs.Relinked.{relinked, AreLinks, KeepTargets}
 use Rattle.offset_link.proofs.Links.{target_of-link_word, link_word-fits}
 
 pub length-link : (at : ℕ) (target : Option ℕ) → length (link at target) ≡ 8

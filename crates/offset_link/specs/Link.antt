@@ -1,5 +1,5 @@
 -- A link is a word that has the distance from its own offset to its target. The distance 1 is null.
-use Rattle.std.specs.Prelude.{◌≡◌, ℕ, ◌+◌, ◌-◌, ◌%◌, ◌^◌, ◌≤◌, Option, Some, None, if◌then◌else◌, ◌==◌, List, Bool, nat_le, ◌&&◌}
+use Rattle.std.specs.Prelude.{ℕ, ◌+◌, ◌-◌, ◌%◌, ◌^◌, Option, Some, None, if◌then◌else◌, ◌==◌, List, Bool, nat_le, ◌&&◌}
 use Rattle.raw_region.specs.Memory.{Memory, word_at, word_bytes}
 
 -- what the word w at an offset leads to

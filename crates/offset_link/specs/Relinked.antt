@@ -1,5 +1,5 @@
 -- Links that move together, and links that cannot be trusted.
-use Rattle.std.specs.Prelude.{◌≡◌, ℕ, zero, suc, ◌+◌, ◌-◌, ◌*◌, ◌<◌, ◌≤◌, ◌%◌, Option, Some, None, IfSome, List, [], ◌++◌, Bool, true, false, not}
+use Rattle.std.specs.Prelude.{◌≡◌, ℕ, zero, suc, ◌+◌, ◌*◌, ◌<◌, ◌%◌, Option, Some, None, IfSome, List, [], ◌++◌, Bool, false, not}
 use Rattle.raw_region.specs.Memory.{Memory}
 use Rattle.offset_link.specs.Link.{link_at, link, is_handle_place}
 

@@ -5,5 +5,5 @@
 mod link;
 mod moves;
 
-pub use link::{BadLink, checked, copy, load, store, store_null};
+pub use link::{BadLink, NULL, checked, copy, load, store, store_null};
 pub use moves::{Places, are_links, shift};

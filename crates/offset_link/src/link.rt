@@ -8,8 +8,8 @@ ghost use Rattle.offset_link.specs.Relinked.{IsLink, is_bad};
 use raw_region::Window;
 use thiserror::Error;
 
-/// The distance that leads nowhere.
-pub(crate) const NULL: u64 = 1;
+/// The word of a link that leads nowhere.
+pub const NULL: u64 = 1;
 
 /// The link leads to no place where a block's payload can begin.
 #[derive(Debug, Drop, Error)]

@@ -1,8 +1,10 @@
-pub mod Lending
-pub mod Parts
-pub mod Values
-pub mod Bodies
-pub mod Patches
-pub mod Windows
-pub mod Pieces
-pub mod Words
+mod Lending
+mod Parts
+mod Values
+mod Bodies
+mod Patches
+mod Windows
+mod Pieces
+mod Words
+mod Writing
+pub mod Laws

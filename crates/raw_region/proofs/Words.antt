@@ -56,11 +56,34 @@ module _ (m m' : Memory) where
       moved k (inl o) = inl (omega arith)
       moved k (inr o) = inr (omega arith)
 
+-- memory that does not change stays
+pub Same-refl : (m : Memory) (from to : ℕ) → Same m m from to
+Same-refl m from to = record { at = λ k a b. refl }
+
 pub Same-trans : (m m' m'' : Memory) (from to : ℕ) → Same m m' from to → Same m' m'' from to → Same m m'' from to
 Same-trans m m' m'' from to s t = record { at = λ k a b. t.at k a b ∙ s.at k a b }
 
 pub SameBut-trans : (m m' m'' : Memory) (from n : ℕ) → SameBut m m' from n → SameBut m' m'' from n → SameBut m m'' from n
 SameBut-trans m m' m'' from n s t = record { at = λ k o. t.at k o ∙ s.at k o }
+
+-- a range outside of the bytes that may change
+pub SameBut-Same : (m m' : Memory) (from n low high : ℕ) → SameBut m m' from n → (high ≤ from) ⊎ (from + n ≤ low) → Same m m' low high
+SameBut-Same m m' from n low high s (inl l) = record { at = λ k a b. s.at k (inl (omega arith)) }
+SameBut-Same m m' from n low high s (inr l) = record { at = λ k a b. s.at k (inr (omega arith)) }
+
+-- a word outside of the bytes that may change
+pub SameBut-word : (m m' : Memory) (from n at : ℕ) → SameBut m m' from n → (at + 8 ≤ from) ⊎ (from + n ≤ at) → word_at m' at ≡ word_at m at
+SameBut-word m m' from n at s beside =
+    Same-word m m' at (at + 8) at (SameBut-Same m m' from n at (at + 8) s beside) (omega arith) (omega arith)
+
+-- a half word outside of the bytes that may change
+pub SameBut-half_word : (m m' : Memory) (from n at : ℕ) → SameBut m m' from n → (at + 4 ≤ from) ⊎ (from + n ≤ at) → half_word_at m' at ≡ half_word_at m at
+SameBut-half_word m m' from n at s beside =
+    Same-half_word m m' at (at + 4) at (SameBut-Same m m' from n at (at + 4) s beside) (omega arith) (omega arith)
+
+-- bytes that lie in what stays
+pub Has-same : (m m' : Memory) (from to at : ℕ) (bytes : List ℕ) → Same m m' from to → from ≤ at → at + length bytes ≤ to → Has m at bytes → Has m' at bytes
+Has-same m m' from to at bytes s low high h = Same-read m m' from to at (length bytes) s low high ∙ h
 
 -- ---- what a word is
 pub Has-word : (m : Memory) (at x : ℕ) → x < 2 ^ 64 → Has m at (word_bytes x) → word_at m at ≡ x
@@ -183,6 +206,9 @@ filled-SameBut b from len x h =
     SameBut-wider (bytes_of b) (bytes_of (patched b from (replicate len x))) from (length (replicate len x)) from len (patched-SameBut b from (replicate len x) fits) (omega arith) (omega (arith, length-replicate {A = ℕ} len x))
 
 -- ---- a window keeps its place
+pub SamePlace-trans : (a b c : Cut) → SamePlace a b → SamePlace b c → SamePlace a c
+SamePlace-trans a b c p q = record { before = q.before ∙ p.before; after = q.after ∙ p.after }
+
 pub with_bytes-SamePlace : (c : Cut) (bytes : List ℕ) → SamePlace c (with_bytes c bytes)
 with_bytes-SamePlace c bytes = record { before = refl; after = refl }
 

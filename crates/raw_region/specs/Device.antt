@@ -1,5 +1,21 @@
--- What readers and writers gave and took in a call.
-use Rattle.std.specs.Prelude.{◌≡◌, ◌<◌, ℕ, Bool, List, ◌++◌, length, drop, nat_lt}
+-- What readers and writers gave and took: so far, and in a call.
+use Rattle.std.specs.Prelude.{◌≡◌, ◌<◌, ℕ, ◌+◌, Bool, List, ◌++◌, length, drop, nat_lt, Result, OnOk, OnErr}
+use Rattle.raw_region.specs.Answers.{AddsFront, failures_in}
+
+-- ---- what a device did so far
+
+-- the bytes that a reader gave, whether its last read of a slice that is not empty answered the end, and how many reads failed
+pub record Gave : Type 0 where
+  pub bytes : List ℕ
+  pub ended : Bool
+  pub failures : ℕ
+
+-- the bytes that a writer took, and how many writes failed
+pub record Took : Type 0 where
+  pub bytes : List ℕ
+  pub failures : ℕ
+
+-- ---- what it did in a call
 
 -- of a reader: the bytes that it gave, whether its last read answered the end, and whether it failed
 pub record Given : Type 0 where
@@ -12,17 +28,29 @@ pub record Taken : Type 0 where
   pub bytes : List ℕ
   pub failed : Bool
 
--- from what a device gave or took in all, before and after a call, and its counts of failures
-abbrev pub given_since : List ℕ → List ℕ → Bool → ℕ → ℕ → Given
-given_since old new ended failures failures' =
-    record { bytes = drop (length old) new; ended = ended; failed = nat_lt failures failures' }
+-- from what it did before and after the call
+abbrev pub given_since : Gave → Gave → Given
+given_since old new =
+    record { bytes = drop (length old.bytes) new.bytes; ended = new.ended; failed = nat_lt old.failures new.failures }
 
-abbrev pub taken_since : List ℕ → List ℕ → ℕ → ℕ → Taken
-taken_since old new failures failures' = record { bytes = drop (length old) new; failed = nat_lt failures failures' }
+abbrev pub taken_since : Took → Took → Taken
+taken_since old new = record { bytes = drop (length old.bytes) new.bytes; failed = nat_lt old.failures new.failures }
+
+-- A call writes a text: all of it where it answers Ok; where it answers an error, not all of it, from the first byte on, and one
+-- more failure.
+pub record Writes {A E : Type 0} (old new : Took) (result : Result A E) (text : List ℕ) : Type 0 where
+  pub ok : OnOk result (new.bytes ≡ old.bytes ++ text)
+  pub err : OnErr result (AddsFront old.bytes new.bytes text)
+  pub counted : new.failures ≡ old.failures + failures_in result
 
 -- the new bytes are the old ones, and more
 abbrev pub Grows : List ℕ → List ℕ → Type 0
 Grows old new = new ≡ old ++ drop (length old) new
+
+-- A call reads: what it was given comes behind what was given before, and this many of its reads failed.
+pub record Reads (old new : Gave) (failed : ℕ) : Type 0 where
+  pub grows : Grows old.bytes new.bytes
+  pub counted : new.failures ≡ old.failures + failed
 
 -- front is what stands before some further byte of all
 abbrev pub IsProperPrefix : List ℕ → List ℕ → Type 0

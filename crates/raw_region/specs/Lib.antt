@@ -1,5 +1,4 @@
 pub mod Memory
-pub mod Device
 pub mod Format
 pub mod Ownership
 pub mod Owned
@@ -9,4 +8,5 @@ pub mod Lent
 pub mod LentWindow
 pub mod LentTwo
 pub mod Answers
+pub mod Device
 pub mod Streams

@@ -1,7 +1,7 @@
 //! Readers and writers in memory, for tests: they give or take a few bytes at a time, and fail where
 //! they are told to.
 ghost use Rattle.std.specs.Prelude.{◌≡◌, ◌<◌, [], false, IfOk, vec_len};
-ghost use Rattle.raw_region.specs.Streams.{Gave, Took};
+ghost use Rattle.raw_region.specs.Device.{Gave, Took};
 
 use crate::device::{DeviceFault, Sink, Source};
 use crate::history::History;
@@ -29,7 +29,7 @@ pub struct MemorySource<'a> {
 }
 
 impl<'a> Model for MemorySource<'a> {
-    ghost use Rattle.raw_region.specs.Streams.{Gave};
+    ghost use Rattle.raw_region.specs.Device.{Gave};
 
     ghost Value = { Gave };
 
@@ -52,11 +52,7 @@ impl<'a> MemorySource<'a> {
 }
 
 impl Source for MemorySource<'_> {
-    ghost given = { λ r. r.bytes };
-
-    ghost ended = { λ r. r.ended };
-
-    ghost failures = { λ r. r.failures };
+    ghost history = { λ r. r };
 
     fn read(&mut self, into: &mut [u8]) -> Result<usize, DeviceFault> {
         let count = into.len().min(self.rest.len()).min(self.piece);
@@ -88,7 +84,7 @@ pub struct MemorySink {
 
 impl Model for MemorySink {
     ghost use Rattle.std.specs.Prelude.{◌≡◌, ◌≤◌, take, vec_len};
-    ghost use Rattle.raw_region.specs.Streams.{Took};
+    ghost use Rattle.raw_region.specs.Device.{Took};
 
     ghost Value = { Took };
 
@@ -126,9 +122,7 @@ impl MemorySink {
 }
 
 impl Sink for MemorySink {
-    ghost taken = { λ w. w.bytes };
-
-    ghost failures = { λ w. w.failures };
+    ghost history = { λ w. w };
 
     fn write(&mut self, bytes: &[u8]) -> Result<usize, DeviceFault> {
         let room = self.buffer.len() - self.len;

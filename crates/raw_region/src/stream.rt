@@ -69,12 +69,12 @@ impl<R> Model for Reading<R> {
 
     ghost coded = { gave_from_code R.code };
 
-    ghost view = { λ r. record { inner = r.inner; bytes = r.history.bytes; ended = r.ended; failures = r.failures } };
+    ghost view = { λ r. record { inner = r.inner; history = record { bytes = r.history.bytes; ended = r.ended; failures = r.failures } } };
 }
 
 impl<R: ReadOnce> Reading<R> {
     pub fn new(inner: R) -> Reading<R>
-        ensures { result ≡ record { inner = inner; bytes = []; ended = false; failures = 0 } }
+        ensures { result ≡ record { inner = inner; history = record { bytes = []; ended = false; failures = 0 } } }
     {
         Reading {
             inner,
@@ -86,22 +86,18 @@ impl<R: ReadOnce> Reading<R> {
 }
 
 impl<R: ReadOnce> Source for Reading<R> {
-    ghost given = { λ r. r.bytes };
-
-    ghost ended = { λ r. r.ended };
-
-    ghost failures = { λ r. r.failures };
+    ghost history = { λ r. r.history };
 
     /// Asks the inner reader once, and answers what it answers.
     fn read(&mut self, into: &mut [u8]) -> Result<usize, DeviceFault>
-        requires { self.old.failures < 2 ^ 64 - 1 }
+        requires { self.old.history.failures < 2 ^ 64 - 1 }
         ensures inner { R.read_gives self.old.inner result into.new self.new.inner }
         ensures count { IfOk result (λ n. n ≤ length into.new) }
-        ensures bytes { IfOk result (λ n. self.new.bytes ≡ self.old.bytes ++ take n into.new) }
-        ensures no_bytes { OnErr result (self.new.bytes ≡ self.old.bytes) }
-        ensures end { 0 < length into.old → self.new.ended ≡ answers_end result }
-        ensures same_end { length into.old ≡ 0 → self.new.ended ≡ self.old.ended }
-        ensures counted { self.new.failures ≡ self.old.failures + failures_in result }
+        ensures bytes { IfOk result (λ n. self.new.history.bytes ≡ self.old.history.bytes ++ take n into.new) }
+        ensures no_bytes { OnErr result (self.new.history.bytes ≡ self.old.history.bytes) }
+        ensures end { 0 < length into.old → self.new.history.ended ≡ answers_end result }
+        ensures same_end { length into.old ≡ 0 → self.new.history.ended ≡ self.old.history.ended }
+        ensures counted { self.new.history.failures ≡ self.old.history.failures + failures_in result }
     {
         let asked = !into.is_empty();
         let answer = self.inner.read_once(into);
@@ -138,12 +134,12 @@ impl<W> Model for Writing<W> {
 
     ghost coded = { took_to_code W.code };
 
-    ghost view = { λ w. record { inner = w.inner; bytes = w.history.bytes; failures = w.failures } };
+    ghost view = { λ w. record { inner = w.inner; history = record { bytes = w.history.bytes; failures = w.failures } } };
 }
 
 impl<W: WriteOnce> Writing<W> {
     pub fn new(inner: W) -> Writing<W>
-        ensures { result ≡ record { inner = inner; bytes = []; failures = 0 } }
+        ensures { result ≡ record { inner = inner; history = record { bytes = []; failures = 0 } } }
     {
         Writing {
             inner,
@@ -154,18 +150,16 @@ impl<W: WriteOnce> Writing<W> {
 }
 
 impl<W: WriteOnce> Sink for Writing<W> {
-    ghost taken = { λ w. w.bytes };
-
-    ghost failures = { λ w. w.failures };
+    ghost history = { λ w. w.history };
 
     /// Gives the bytes to the inner writer once, and answers what it answers.
     fn write(&mut self, bytes: &[u8]) -> Result<usize, DeviceFault>
-        requires { self.old.failures < 2 ^ 64 - 1 }
+        requires { self.old.history.failures < 2 ^ 64 - 1 }
         ensures inner { W.write_gives self.old.inner result bytes.now self.new.inner }
         ensures count { IfOk result (λ n. n ≤ length bytes.now) }
-        ensures bytes { IfOk result (λ n. self.new.bytes ≡ self.old.bytes ++ take n bytes.now) }
-        ensures no_bytes { OnErr result (self.new.bytes ≡ self.old.bytes) }
-        ensures counted { self.new.failures ≡ self.old.failures + write_failures_in result (length bytes.now) }
+        ensures bytes { IfOk result (λ n. self.new.history.bytes ≡ self.old.history.bytes ++ take n bytes.now) }
+        ensures no_bytes { OnErr result (self.new.history.bytes ≡ self.old.history.bytes) }
+        ensures counted { self.new.history.failures ≡ self.old.history.failures + write_failures_in result (length bytes.now) }
     {
         let answer = self.inner.write_once(bytes);
         match answer {

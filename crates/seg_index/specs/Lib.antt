@@ -1,2 +1,7 @@
+pub mod Capacities
+pub mod Growth
+pub mod Held
 pub mod Index
 pub mod Keys
+pub mod Laws
+pub mod Lookups

@@ -1,1 +1,3 @@
-pub mod Spellings
+mod PlainReads
+mod EightBytes
+pub mod Laws

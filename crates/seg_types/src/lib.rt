@@ -1,9 +1,19 @@
-//! The words that the layers above the heap share: kinds of values, classes of objects, names, refusals and commands.
+//! The words that the layers above the heap share: kinds of values, values, keys of objects, refusals and commands.
 #![tactic(auto)]
 
+mod keys;
 mod kinds;
-pub mod laws;
+mod names;
+mod plain;
 mod refusals;
+mod scalars;
+pub mod theorems;
+mod values;
 
+pub use keys::{Handle, Key, NewKey};
 pub use kinds::{Class, Kind, ScalarKind};
+pub use names::{LONGEST_NAME, Name};
+pub use plain::Plain;
 pub use refusals::Refusal;
+pub use scalars::Scalar;
+pub use values::ScalarValue;

@@ -50,7 +50,7 @@ impl From<SessionFault> for Fault {
     fn from(fault: SessionFault) -> Fault {
         match fault {
             SessionFault::Image(class) => Fault::Image {
-                number: number_of(class),
+                number: class.number(),
                 class,
             },
             SessionFault::BadSize | SessionFault::RegionTooSmall => Fault::Size,
@@ -59,23 +59,5 @@ impl From<SessionFault> for Fault {
             SessionFault::WriteFault => Fault::Write,
             SessionFault::ScriptTooLong => Fault::ScriptTooLong,
         }
-    }
-}
-
-/// The place of a class among the twelve, from 1 on.
-fn number_of(class: ImageClass) -> u8 {
-    match class {
-        ImageClass::Truncated => 1,
-        ImageClass::BadMagic => 2,
-        ImageClass::UnsupportedVersion => 3,
-        ImageClass::BadSize => 4,
-        ImageClass::BadReserved => 5,
-        ImageClass::BadTag => 6,
-        ImageClass::BadFreeTree => 7,
-        ImageClass::BadIndex => 8,
-        ImageClass::BadObject => 9,
-        ImageClass::SharedBlock => 10,
-        ImageClass::BadContainer => 11,
-        ImageClass::OrphanBlock => 12,
     }
 }

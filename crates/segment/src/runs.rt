@@ -5,9 +5,9 @@ ghost use Rattle.raw_region.specs.Regions.{IsCapacity};
 use crate::command_line::{Origin, Run};
 use crate::fault::Fault;
 use crate::files::{Answers, ImageFile, Shared};
-use block_tags::is_legal_size;
+use image_check::{FRONT, size_in};
 use raw_region::stream::{Reading, Writing};
-use raw_region::{RawRegion, Source, fill, word_in};
+use raw_region::{RawRegion, Source, fill};
 use segment_cli::{Start, session};
 use segment_manager::Mode;
 use std::fs::{self, OpenFile};
@@ -19,9 +19,6 @@ const LARGEST: u64 = 1073741824;
 
 /// The fewest bytes of a segment with a block.
 const SMALLEST: u64 = 176;
-
-/// How many bytes of an image say its size.
-const FRONT: usize = 24;
 
 /// Where the script comes from and the answers go to, and all else that a run needs.
 pub trait Host: Files + AllocGlobal + Input + Print {}
@@ -43,16 +40,13 @@ fn region_for<R: Host>(rt: &R, bytes: u64) -> Result<RawRegion, Fault> {
     }
 }
 
-/// The size that the front of an image says, or 0 where it says none that a segment may have.
+/// The size that the front of an image says, or 0 where it is not the front of one.
 fn size_said<S: Source>(image: &mut S) -> u64
-    requires { S.failures image.old < 2 ^ 64 - 1 }
+    requires { (S.history image.old).failures < 2 ^ 64 - 1 }
 {
     let mut front = [0u8; FRONT];
     match fill(image, &mut front) {
-        Ok(FRONT) => match word_in(&front, 16) {
-            size if is_legal_size(size) => size,
-            _ => 0,
-        },
+        Ok(FRONT) => size_in(&front).unwrap_or(0),
         _ => 0,
     }
 }
@@ -94,7 +88,7 @@ fn run_session<R: Host, S: Source>(
     path: &str,
     region: RawRegion,
 ) -> Result<(), Fault>
-    requires { S.failures image.old < 2 ^ 64 - 1 }
+    requires { (S.history image.old).failures < 2 ^ 64 - 1 }
 {
     let Ok(buffer) = BufWriter::new(rt.alloc(), io::writer(rt)) else {
         return Err(Fault::OutOfMemory);

@@ -1,10 +1,12 @@
 -- Where a run stops: at a fault of a device, at the limit, or at the end.
 use Rattle.std.proofs.Common.{◌≡◌, ◌==◌, ℕ, ◌+◌, ◌<◌, ◌≤◌, min, nat_lt, nat_le, inl, inr, false, true, List, [], ◌∷◌, ◌++◌, length, take, drop, refl, sym, ap, subst, ◌∙◌, arith}
-use Rattle.std.proofs.lemmas.List.{append_assoc, take_all, take-take, drop_at, drop_all, length-take, length-drop, length-append, append-nil, length-take-le, take-append-drop}
+use Rattle.std.proofs.lemmas.List.{append_assoc, take_all, take-take, drop_all, length-take, length-drop, length-append, append-nil, length-take-le, take-append-drop}
+use Rattle.std.proofs.lemmas.Bool.{ne_eqb}
 use Rattle.std.proofs.lemmas.Bool.Decides.{nat_tests}
 use Rattle.std.proofs.Math.Seq.{take-append-add}
 use Rattle.raw_region.specs.Answers.{AddsFront}
 use Rattle.raw_region.specs.Device.{Given, Grows}
+use Rattle.raw_region.proofs.Laws.{added, both_added}
 use Rattle.segment_cli.specs.Run.{lines}
 use Rattle.segment_cli.specs.Session.{script_limit, executable}
 use Rattle.segment_cli.specs.Leaves.{answer_all, Answers, AnswersPart}
@@ -22,15 +24,9 @@ none_failed old new e = grind (arith, nat_tests)
 pub one_failed : (old new : ℕ) → new ≡ old + 1 → nat_lt old new ≡ true
 one_failed old new e = grind (arith, nat_tests)
 
-pub added : (old new xs : List ℕ) → new ≡ old ++ xs → drop (length old) new ≡ xs
-added old new xs e = ap (λ (l : List ℕ). drop (length old) l) e ∙ drop_at old xs (length old) refl
-
-both_added : (old mid new xs : List ℕ) → Grows old mid → new ≡ mid ++ xs → new ≡ old ++ (drop (length old) mid ++ xs)
-both_added old mid new xs h e = e ∙ ap (λ (l : List ℕ). l ++ xs) h ∙ append_assoc old (drop (length old) mid) xs
-
 -- a device that gave more
 pub since-more : (old mid new xs : List ℕ) → Grows old mid → new ≡ mid ++ xs → drop (length old) new ≡ drop (length old) mid ++ xs
-since-more old mid new xs h e = added old new (drop (length old) mid ++ xs) (both_added old mid new xs h e)
+since-more old mid new xs h e = added old new (drop (length old) mid ++ xs) (both_added old mid new (drop (length old) mid) xs h e)
 
 pub record HasNothingNew (old : List ℕ) : Type 0 where
   pub grows : Grows old old
@@ -40,9 +36,6 @@ pub nothing_yet : (old : List ℕ) → HasNothingNew old
 nothing_yet old =
     let none : drop (length old) old ≡ [] = drop_all (length old) old (omega arith) in
     record { grows = rw none (sym (append-nil old)); read = none }
-
-pub not_zero : (n : ℕ) → (n ≡ 0 → ⊥) → (n == 0) ≡ false
-not_zero n h = grind (arith, nat_tests)
 
 -- ---- the limit
 
@@ -75,7 +68,7 @@ last_is [] e = absurd (cc)
 last_is (c ∷ cs) e = last-some c cs
 
 some_kept : (n c : ℕ) (cs : List ℕ) → 0 < n → (length (take n (c ∷ cs)) == 0) ≡ false
-some_kept n c cs h = not_zero (length (take n (c ∷ cs))) (λ e. let long = length-take n (c ∷ cs) in omega arith)
+some_kept n c cs h = ne_eqb (length (take n (c ∷ cs))) 0 (λ e. let long = length-take n (c ∷ cs) in omega arith)
 
 last_is_none : (all : List ℕ) → (length (take kept all) == 0) ≡ true → last_lines all ≡ []
 last_is_none [] e = last-none

@@ -1,15 +1,16 @@
 -- Each end of a session is one that it may have.
-use Rattle.std.proofs.Common.{◌≡◌, ℕ, Bool, false, true, inl, inr, List, [], ◌++◌, length, take, drop, Result, Ok, Err, MatchResult, refl, sym, ap, subst, ◌∙◌, arith}
+use Rattle.std.proofs.Common.{◌≡◌, ℕ, false, true, inl, inr, List, [], ◌++◌, length, take, drop, Result, Ok, Err, MatchResult, refl, sym, ap, subst, ◌∙◌, arith}
 use Rattle.std.proofs.lemmas.List.{take-append-drop, length-drop}
 use Rattle.raw_region.specs.Answers.{AddsFront}
-use Rattle.raw_region.specs.Device.{Taken, IsProperPrefix, given_since, taken_since}
+use Rattle.raw_region.specs.Device.{Gave, Took, Taken, IsProperPrefix, given_since, taken_since}
 use Rattle.raw_region.specs.Format.{current}
+use Rattle.raw_region.proofs.Laws.{added}
 use Rattle.segment_manager.specs.declared.modes.Mode.{Mode}
 use Rattle.segment_manager.specs.declared.modes.Mode.TheVariants.{Write}
 use Rattle.segment_manager.specs.Directory.{Directory}
 use Rattle.segment_manager.specs.State.{State, StandsFor}
 use Rattle.image_check.specs.Opening.{IsRefusedAs}
-use Rattle.segment_lang.specs.Language.{landed}
+use Rattle.segment_lang.specs.Language.{supported}
 use Rattle.segment_cli.specs.declared.faults.Start.{Start}
 use Rattle.segment_cli.specs.declared.faults.Start.TheVariants.{Image}
 use Rattle.segment_cli.specs.declared.faults.RunFault.{RunFault}
@@ -21,7 +22,7 @@ use Rattle.segment_cli.specs.Session.{Traffic, KeepsZeros, Saves, IsUntouched, I
 use Rattle.segment_cli.specs.Beginning.{Starts, IsBegun, IsWhyNotBegun, run_fault}
 use Rattle.segment_cli.specs.Leaves.{LeavesFault, RunsWhole}
 use Rattle.segment_cli.specs.Segments.{Place, IsAt, answer_line}
-use Rattle.segment_cli.proofs.Cuts.{none_failed, nothing_yet, added}
+use Rattle.segment_cli.proofs.Cuts.{none_failed, nothing_yet}
 use Rattle.segment_cli.proofs.Zeros.{zeros_saved}
 use Rattle.segment_cli.proofs.SessionLaws.{place, stands_done, prints_done, done, script_unread, answer_unwritten, script_too_long}
 
@@ -30,11 +31,11 @@ pub record IsUnwritten (t : Taken) : Type 0 where
   pub bytes : t.bytes ≡ []
   pub failed : t.failed ≡ false
 
-pub not_asked : (bytes : List ℕ) (ended : Bool) (n : ℕ) → IsUntouched (given_since bytes bytes ended n n)
-not_asked bytes ended n = record { bytes = (nothing_yet bytes).read; failed = none_failed n n refl }
+pub not_asked : (gave : Gave) → IsUntouched (given_since gave gave)
+not_asked gave = record { bytes = (nothing_yet gave.bytes).read; failed = none_failed gave.failures gave.failures refl }
 
-pub not_written : (bytes : List ℕ) (n : ℕ) → IsUnwritten (taken_since bytes bytes n n)
-not_written bytes n = record { bytes = (nothing_yet bytes).read; failed = none_failed n n refl }
+pub not_written : (took : Took) → IsUnwritten (taken_since took took)
+not_written took = record { bytes = (nothing_yet took.bytes).read; failed = none_failed took.failures took.failures refl }
 
 -- a front of the image was added
 pub front_added : (old new image : List ℕ) → AddsFront old new image → IsProperPrefix (drop (length old) new) image
@@ -140,7 +141,7 @@ module _ (start : Start) (mode : Mode) (base capacity : ℕ) (t : Traffic) where
       let b = h.answers in
       let ran = leaves (first mode b.from) (at_first mode b.from s b.mode b.stands) in
       let last = stands_done mode b.from false t (IsAt s') ran in
-      let d = (run landed mode b.from t.script.bytes).1 in
+      let d = (run supported mode b.from t.script.bytes).1 in
       begun_session s (Ok u) h (done start mode t b.from false b.begins (IsAt s') b.read saved ran (subst (λ (m : Mode). Saves m t.saved.bytes d) last.mode (saves d last.denotes))
       (λ writes. zeros_kept s s' b leaves t.saved.bytes (bytes (last.mode ∙ writes))))
 

@@ -1,7 +1,6 @@
 -- A line of which no more than so many bytes are kept.
-use Rattle.std.proofs.Common.{◌≡◌, ℕ, ◌+◌, ◌<◌, ◌≤◌, List, [], ◌∷◌, ◌++◌, length, take, set, true, false, nat_le, ◌⊎◌, inl, inr, sym, ap, ◌∙◌, arith}
-use Rattle.std.proofs.lemmas.Bool.Decides.{nat_tests}
-use Rattle.segment_cli.proofs.LineLaws.{bool_cases}
+use Rattle.std.proofs.Common.{◌≡◌, ℕ, ◌+◌, ◌<◌, ◌≤◌, List, [], ◌∷◌, ◌++◌, length, take, set, ◌⊎◌, inl, inr, sym, ap, ◌∙◌, arith}
+use Rattle.std.proofs.lemmas.Bool.{cases_lt}
 use Rattle.std.proofs.lemmas.List.{take_more_set, take_all, take_at, length-take-le, take-append-le, length_push}
 
 -- there is room for one more
@@ -17,14 +16,8 @@ none_more n i bytes line b e h k =
     let long : length line ≡ n = sym (ap length e) ∙ length-take-le i bytes (omega arith) ∙ h in
     sym (take_at line (b ∷ []) n long)
 
-le_true : (a b : ℕ) → nat_le a b ≡ true → a ≤ b
-le_true a b e = grind (arith, nat_tests)
-
-le_false : (a b : ℕ) → nat_le a b ≡ false → b < a
-le_false a b e = grind (arith, nat_tests)
-
 pub at_most_or_more : (a b : ℕ) → (a ≤ b) ⊎ (b < a)
-at_most_or_more a b = elim (bool_cases (nat_le a b)) [ inl e ↦ inl (le_true a b e) | inr e ↦ inr (le_false a b e) ]
+at_most_or_more a b = elim (cases_lt b a) [ inl h ↦ inr h | inr h ↦ inl h ]
 
 -- what was dropped makes no difference to what is kept
 pub kept-append : (n : ℕ) (xs : List ℕ) (b : ℕ) → take n (take n xs ++ b ∷ []) ≡ take n (xs ++ b ∷ [])

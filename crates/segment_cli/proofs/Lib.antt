@@ -1,12 +1,14 @@
-pub mod LineLaws
-pub mod Kept
-pub mod RunLaws
-pub mod Cuts
-pub mod SessionLaws
-pub mod Puts
-pub mod Replies
-pub mod Listing
-pub mod Endings
-pub mod Beginnings
-pub mod Zeros
-pub mod SavedImages
+mod LineLaws
+mod Kept
+mod RunLaws
+mod Cuts
+mod SessionLaws
+mod Owed
+mod WrongLines
+mod Answering
+mod ShownObjects
+mod BlockLines
+mod Endings
+mod Beginnings
+mod Zeros
+mod SavedImages

@@ -1,26 +1,16 @@
 -- The lines of a script, byte by byte.
-use Rattle.std.proofs.Common.{◌≡◌, ◌==◌, ℕ, ◌<◌, ◌≤◌, ◌⊎◌, inl, inr, Bool, true, false, ◌||◌, nat_lt, List, [], ◌∷◌, ◌++◌, length, refl, sym, ap, ◌∙◌, arith, length-append}
+use Rattle.std.proofs.Common.{◌≡◌, ◌==◌, ℕ, ◌<◌, ◌≤◌, inl, inr, Bool, true, false, ◌||◌, nat_lt, List, [], ◌∷◌, ◌++◌, length, refl, sym, ap, ◌∙◌, arith, length-append}
 use Rattle.std.proofs.lemmas.List.{drop-append-le, drop_all}
-use Rattle.std.proofs.lemmas.Bool.Decides.{nat_tests}
+use Rattle.std.proofs.lemmas.Bool.{cases_Bool, lt-ltb}
+use Rattle.std.proofs.Math.Bool.{or-true}
 use Rattle.segment_cli.specs.Run.{lines, onto_first}
 use Rattle.segment_cli.specs.Session.{whole_lines}
 use Rattle.segment_cli.specs.Lines.{ended_lines, open_line}
 
-pub bool_cases : (b : Bool) → (b ≡ true) ⊎ (b ≡ false)
-bool_cases true = inl refl
-bool_cases false = inr refl
-
-or_true : (b : Bool) → (b || true) ≡ true
-or_true true = refl
-or_true false = refl
-
-positive : (n : ℕ) → 0 < n → nat_lt 0 n ≡ true
-positive n h = grind (arith, nat_tests)
-
 some_behind : (xs ys : List ℕ) (y : ℕ) → nat_lt 0 (length (xs ++ y ∷ ys)) ≡ true
 some_behind xs ys y =
     let n : 0 < length (xs ++ y ∷ ys) = omega (arith, length-append xs (y ∷ ys)) in
-    positive _ n
+    lt-ltb 0 _ n
 
 whole-counted : (c : ℕ) (cs : List ℕ) → ((c == 0x0A) || nat_lt 0 (length (whole_lines cs))) ≡ true → whole_lines (c ∷ cs) ≡ c ∷ whole_lines cs
 whole-counted c cs e = rw e refl
@@ -32,7 +22,7 @@ pub whole_lines-end : (xs more : List ℕ) → whole_lines (xs ++ 0x0A ∷ more)
 whole_lines-end [] more = refl
 whole_lines-end (c ∷ cs) more =
     let rest = whole_lines-end cs more in
-    whole-counted c (cs ++ 0x0A ∷ more) (ap (λ (l : List ℕ). (c == 0x0A) || nat_lt 0 (length l)) rest ∙ ap (λ (b : Bool). (c == 0x0A) || b) (some_behind cs (whole_lines more) 0x0A) ∙ or_true (c == 0x0A))
+    whole-counted c (cs ++ 0x0A ∷ more) (ap (λ (l : List ℕ). (c == 0x0A) || nat_lt 0 (length l)) rest ∙ ap (λ (b : Bool). (c == 0x0A) || b) (some_behind cs (whole_lines more) 0x0A) ∙ or-true (c == 0x0A))
     ∙ ap (λ (l : List ℕ). c ∷ l) rest
 
 pub whole_lines-byte : (xs : List ℕ) (d : ℕ) → (d == 0x0A) ≡ false → whole_lines (xs ++ d ∷ []) ≡ whole_lines xs
@@ -41,18 +31,18 @@ whole_lines-byte (c ∷ cs) d e = rw (whole_lines-byte cs d e) refl
 
 pub whole_lines-le : (xs : List ℕ) → length (whole_lines xs) ≤ length xs
 whole_lines-le [] = omega arith
-whole_lines-le (c ∷ cs) = elim (bool_cases ((c == 0x0A) || nat_lt 0 (length (whole_lines cs)))) [
+whole_lines-le (c ∷ cs) = elim (cases_Bool ((c == 0x0A) || nat_lt 0 (length (whole_lines cs)))) [
   | inl e ↦ rw (whole-counted c cs e) (let h = whole_lines-le cs in omega arith)
   | inr e ↦ rw (whole-open c cs e) (omega arith)
 ]
 
 none_whole : (xs : List ℕ) → nat_lt 0 (length xs) ≡ false → xs ≡ []
 none_whole [] e = refl
-none_whole (x ∷ xs) e = absurd (let h = positive (length (x ∷ xs)) (omega arith) in cc)
+none_whole (x ∷ xs) e = absurd (let h = lt-ltb 0 (length (x ∷ xs)) (omega arith) in cc)
 
 -- a line does not vanish
 lines-some : (c : ℕ) (cs : List ℕ) → (l : List ℕ) × ((ls : List (List ℕ)) × (lines (c ∷ cs) ≡ l ∷ ls))
-lines-some c cs = elim (bool_cases (c == 0x0A)) [
+lines-some c cs = elim (cases_Bool (c == 0x0A)) [
   | inl e ↦ ([], (lines cs, rw e refl))
   | inr e ↦ (front (lines cs), (behind (lines cs), rw e (onto_first-some (lines cs))))
 ] where
@@ -139,10 +129,10 @@ pub ended_lines-end : (xs more : List ℕ) → ended_lines (xs ++ 0x0A ∷ more)
 ended_lines-end [] more = (at_end 0x0A more refl).ended ∙ sym (ap (λ (ls : List (List ℕ)). ls ++ open_line [] ∷ ended_lines more) ended-nil ∙ ap (λ (l : List ℕ). l ∷ ended_lines more) open-nil)
 ended_lines-end (c ∷ cs) more =
     let rest = ended_lines-end cs more in
-    elim (bool_cases (c == 0x0A)) [
+    elim (cases_Bool (c == 0x0A)) [
       | inl e ↦ let a = at_end c cs e in let b = at_end c (cs ++ 0x0A ∷ more) e in
           b.ended ∙ ap (λ (ls : List (List ℕ)). [] ∷ ls) rest ∙ sym (ap (λ (ls : List (List ℕ)). ls ++ open_line (c ∷ cs) ∷ ended_lines more) a.ended ∙ ap (λ (l : List ℕ). [] ∷ (ended_lines cs ++ l ∷ ended_lines more)) a.left)
-      | inr e ↦ ended-onto c cs more e ∙ ap (onto_first c) rest ∙ elim (bool_cases (nat_lt 0 (length (whole_lines cs)))) [
+      | inr e ↦ ended-onto c cs more e ∙ ap (onto_first c) rest ∙ elim (cases_Bool (nat_lt 0 (length (whole_lines cs)))) [
         | inl f ↦ let a = at_line c cs e f in
             ended-some c cs (open_line cs ∷ ended_lines more) f ∙ sym (ap (λ (ls : List (List ℕ)). ls ++ open_line (c ∷ cs) ∷ ended_lines more) a.ended ∙ ap (λ (l : List ℕ). onto_first c (ended_lines cs) ++ l ∷ ended_lines more) a.left)
         | inr f ↦ let a = at_open c cs e f in
@@ -178,10 +168,10 @@ pub lines-parts : (xs : List ℕ) → lines xs ≡ ended_lines xs ++ last_lines 
 lines-parts [] = sym (ap (λ (ls : List (List ℕ)). ls ++ last_lines (open_line [])) ended-nil ∙ ap last_lines open-nil ∙ last-none)
 lines-parts (c ∷ cs) =
     let rest = lines-parts cs in
-    elim (bool_cases (c == 0x0A)) [
+    elim (cases_Bool (c == 0x0A)) [
       | inl e ↦ let a = at_end c cs e in
           lines-cons-end c cs e ∙ ap (λ (ls : List (List ℕ)). [] ∷ ls) rest ∙ sym (ap (λ (ls : List (List ℕ)). ls ++ last_lines (open_line (c ∷ cs))) a.ended ∙ ap (λ (l : List ℕ). [] ∷ (ended_lines cs ++ last_lines l)) a.left)
-      | inr e ↦ lines-cons c cs e ∙ ap (onto_first c) rest ∙ elim (bool_cases (nat_lt 0 (length (whole_lines cs)))) [
+      | inr e ↦ lines-cons c cs e ∙ ap (onto_first c) rest ∙ elim (cases_Bool (nat_lt 0 (length (whole_lines cs)))) [
         | inl f ↦ let a = at_line c cs e f in
             ended-some c cs (last_lines (open_line cs)) f ∙ sym (ap (λ (ls : List (List ℕ)). ls ++ last_lines (open_line (c ∷ cs))) a.ended ∙ ap (λ (l : List ℕ). onto_first c (ended_lines cs) ++ last_lines l) a.left)
         | inr f ↦ let a = at_open c cs e f in

@@ -1,7 +1,6 @@
 -- What a run has answered, line by line.
 use Rattle.std.proofs.Common.{◌≡◌, ◌==◌, ℕ, ◌+◌, ◌<◌, inl, inr, false, get_or, List, [], ◌∷◌, ◌++◌, length, take, drop, refl, sym, ap, subst, ◌∙◌, arith}
 use Rattle.std.proofs.lemmas.List.{append-nil, append_assoc, take_all, take_more, take-append-drop, drop_more}
-use Rattle.std.proofs.lemmas.Bool.Decides.{nat_tests}
 use Rattle.raw_region.specs.Answers.{AddsFront}
 use Rattle.segment_cli.specs.Leaves.{answer_all}
 use Rattle.segment_cli.specs.Behind.{kept, HasAnswered, HasStopped, IsBehind, IsStoppedIn}
@@ -116,6 +115,3 @@ module _ {P : Type 0} (respond : P → List ℕ → List ℕ × P) where
 -- one byte more of a piece
 pub read_more : (read piece : List ℕ) (i : ℕ) → i < length piece → read ++ take (i + 1) piece ≡ (read ++ take i piece) ++ get_or piece i 0 ∷ []
 read_more read piece i h = ap (λ (l : List ℕ). read ++ l) (take_more piece i 0 h) ∙ sym (append_assoc read (take i piece) (get_or piece i 0 ∷ []))
-
-pub not_end : (c : ℕ) → (c ≡ 0x0A → ⊥) → (c == 0x0A) ≡ false
-not_end c h = grind (arith, nat_tests)

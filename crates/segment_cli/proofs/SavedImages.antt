@@ -4,14 +4,13 @@ use Rattle.segment_manager.specs.declared.modes.Mode.{Mode}
 use Rattle.segment_manager.specs.declared.modes.Mode.TheVariants.{Write}
 use Rattle.segment_manager.specs.Directory.{Directory}
 use Rattle.segment_manager.specs.State.{StandsFor}
-use Rattle.image_check.specs.LandedImages.{LandedImages}
-use Rattle.image_check.proofs.Bytes.{fits-are_bytes}
+use Rattle.image_check.proofs.Facts.{fits-are_bytes, supported_images}
 use Rattle.segment_cli.specs.Session.{IsSaved, Saves}
-use Rattle.segment_cli.proofs.Cuts.{added}
+use Rattle.raw_region.proofs.Laws.{added}
 
 -- bytes that denote a directory are an image that is accepted
-pub accepted_image : LandedImages → (b : List ℕ) → ((k : ℕ) → slice_index b k < 256) → (d : Directory) → StandsFor b d → IsSaved b d
-accepted_image images b fits d s = record { denotes = s; accepted = (images b (fits-are_bytes b fits)).accepted d s }
+pub accepted_image : (b : List ℕ) → ((k : ℕ) → slice_index b k < 256) → (d : Directory) → StandsFor b d → IsSaved b d
+accepted_image b fits d s = record { denotes = s; accepted = (supported_images b (fits-are_bytes b fits)).accepted d s }
 
 -- such an image, written in mode Write behind the bytes that a writer took before
 pub image_saved : (mode : Mode) (old new image : List ℕ) (d : Directory) → mode ≡ Write → new ≡ old ++ image → IsSaved image d → Saves mode (drop (length old) new) d

@@ -6,14 +6,10 @@ use Rattle.raw_region.specs.Memory.{AreZero, bytes_of}
 use Rattle.raw_region.specs.Format.{current}
 use Rattle.best_fit.specs.Extents.{Gap, gaps, gap_between}
 use Rattle.best_fit.specs.FreeTree.{gap_front}
-use Rattle.best_fit.proofs.LayOut.{lay_out_one}
-use Rattle.seg_types.specs.Commands as asked
-use Rattle.seg_types.specs.Commands.{Reading, is_changing}
-use Rattle.segment_lang.specs.Language.{landed}
+use Rattle.best_fit.proofs.Laws.{lay_out_one}
+use Rattle.seg_types.specs.Commands.{Command, Reading, Asked, ZeroFree, is_changing}
+use Rattle.segment_lang.specs.Language.{supported}
 use Rattle.segment_lang.specs.Reading.{reading}
-use Rattle.segment_lang.specs.Seen.{command_of}
-use Rattle.segment_lang.specs.declared.commands.Command.{Command}
-use Rattle.segment_lang.specs.declared.commands.Command.TheVariants.{Construct, DestroyPtr, Show, Blocks, Size, Free, ZeroFree, Sanity, AllDeallocated}
 use Rattle.segment_manager.specs.declared.modes.Mode.{Mode}
 use Rattle.segment_manager.specs.declared.modes.Mode.TheVariants.{Write, ReadOnly, CopyOnWrite}
 use Rattle.segment_manager.specs.Directory.{Directory, empty, live}
@@ -22,6 +18,8 @@ use Rattle.segment_manager.specs.State.{State, StandsFor}
 use Rattle.segment_manager.specs.Step.{step}
 use Rattle.segment_manager.specs.Calls.{HasZeroGaps, IsCreated}
 use Rattle.segment_cli.specs.ZeroGaps.{HasZeroGapsIn, is_refused, is_zero_free}
+use Rattle.segment_cli.specs.declared.replies.Answer.{Answer as Reply}
+use Rattle.segment_cli.specs.Replies.{Replies}
 use Rattle.segment_cli.specs.Segments.{Place, IsAt, place_after, answer_line}
 
 -- ---- bytes
@@ -63,18 +61,11 @@ created_zeros region base size mode s h =
 
 -- ---- a command
 
-zero_free-is : (c : Command) → is_zero_free (command_of c) ≡ true → c ≡ ZeroFree
-zero_free-is (Construct key content) e = absurd (cc)
-zero_free-is (DestroyPtr n) e = absurd (cc)
-zero_free-is (Show key) e = absurd (cc)
-zero_free-is Blocks e = absurd (cc)
-zero_free-is Size e = absurd (cc)
-zero_free-is Free e = absurd (cc)
+zero_free-is : (c : Command) → is_zero_free c ≡ true → c ≡ ZeroFree
 zero_free-is ZeroFree e = refl
-zero_free-is Sanity e = absurd (cc)
-zero_free-is AllDeallocated e = absurd (cc)
+zero_free-is c e = absurd (cc)
 
-zero_free-done : (mode : Mode) (d : Directory) → is_refused (step mode d asked.ZeroFree).0 ≡ false → (step mode d asked.ZeroFree).0 ≡ Done
+zero_free-done : (mode : Mode) (d : Directory) → is_refused (step mode d ZeroFree).0 ≡ false → (step mode d ZeroFree).0 ≡ Done
 unfolding step
 zero_free-done Write d e = refl
 zero_free-done ReadOnly d e = absurd (cc)
@@ -88,25 +79,20 @@ zeros_held true changing zero_free known old new same stays zeros was e = subst 
 zeros_held false true zero_free known old new same stays zeros was e = zeros e refl
 zeros_held false false zero_free known old new same stays zeros was e = subst HasZeroGaps (sym (stays refl)) (was e)
 
--- a line that is a command
-pub executed : (old new : State) (c : Command) (line : List ℕ) → asked.Asked (command_of c) ≡ reading landed line → new.mode ≡ old.mode
-    → ((d : Directory) → StandsFor old.cut.bytes d → StandsFor new.cut.bytes (step old.mode d (command_of c)).1)
-    → (is_changing (command_of c) ≡ false → new ≡ old)
-    → ((d : Directory) → StandsFor old.cut.bytes d → is_refused (step old.mode d (command_of c)).0 ≡ true → new ≡ old)
-    → ((d : Directory) → StandsFor old.cut.bytes d → c ≡ ZeroFree → (step old.mode d (command_of c)).0 ≡ Done → HasZeroGaps new)
-    → (at : Place) → IsAt old at → IsAt new (answer_line at line).1
-executed old new c line e mode leads stays refused zeros at h =
+-- a line that is a command leads to the place behind it
+pub executed : (old new : State) (c : Command) (reply : Reply) (line : List ℕ) → Asked c ≡ reading supported line → Replies old new c reply → (at : Place) → IsAt old at → IsAt new (answer_line at line).1
+executed old new c reply line e done at h =
     let d = at.directory in
     let m = h.mode in
-    let place : IsAt new (place_after at (asked.Asked (command_of c))) = record {
-      mode = mode ∙ m;
-      denotes = subst (λ (n : Mode). StandsFor new.cut.bytes (step n d (command_of c)).1) m (leads d h.denotes);
-      zeros = zeros_held (is_refused (step at.mode d (command_of c)).0) (is_changing (command_of c)) (is_zero_free (command_of c)) at.zeros old new
-          (λ r. refused d h.denotes (ap (λ (n : Mode). is_refused (step n d (command_of c)).0) m ∙ r)) stays
+    let place : IsAt new (place_after at (Asked c)) = record {
+      mode = done.stays.mode ∙ m;
+      denotes = subst (λ (n : Mode). StandsFor new.cut.bytes (step n d c).1) m (done.denotes d h.denotes);
+      zeros = zeros_held (is_refused (step at.mode d c).0) (is_changing c) (is_zero_free c) at.zeros old new
+          (λ r. done.refused d h.denotes (ap (λ (n : Mode). is_refused (step n d c).0) m ∙ r)) done.reads
           (λ z r. let is = zero_free-is c z in
-          zeros d h.denotes is
-          (ap (λ (x : Command). (step old.mode d (command_of x)).0) is
-          ∙ zero_free-done old.mode d (ap (λ (x : Command). is_refused (step old.mode d (command_of x)).0) (sym is) ∙ ap (λ (n : Mode). is_refused (step n d (command_of c)).0) m ∙ r)))
+          done.zeros d h.denotes is
+          (ap (λ (x : Command). (step old.mode d x).0) is
+          ∙ zero_free-done old.mode d (ap (λ (x : Command). is_refused (step old.mode d x).0) (sym is) ∙ ap (λ (n : Mode). is_refused (step n d c).0) m ∙ r)))
           h.zeros;
     } in
     subst (λ (r : Reading). IsAt new (place_after at r)) e place

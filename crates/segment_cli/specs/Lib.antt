@@ -1,4 +1,5 @@
 pub mod Answer
+pub mod Writing
 pub mod Run
 pub mod ZeroGaps
 pub mod Session
@@ -6,5 +7,6 @@ pub mod Lines
 pub mod Leaves
 pub mod Behind
 pub mod Segments
+pub mod Replies
 pub mod LongLines
 pub mod Beginning

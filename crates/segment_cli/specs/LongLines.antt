@@ -2,15 +2,12 @@
 use Rattle.std.specs.Prelude.{nat_lt}
 use Rattle.std.proofs.Common.{◌≡◌, ◌==◌, ℕ, ◌-◌, ◌<◌, Bool, false, true, cond, List, length, take, refl, sym, ap, ◌∙◌, arith, slice_index}
 use Rattle.std.proofs.lemmas.List.{length-take-le}
-use Rattle.std.proofs.lemmas.Bool.Decides.{nat_tests}
+use Rattle.std.proofs.lemmas.Bool.{lt-ltb}
 use Rattle.seg_types.specs.Commands.{Reading, LineTooLong}
-use Rattle.segment_lang.specs.Language.{Language, landed}
+use Rattle.segment_lang.specs.Language.{Language, supported}
 use Rattle.segment_lang.specs.Reading.{reading, without_return}
 use Rattle.segment_cli.specs.Run.{respond}
 use Rattle.segment_cli.specs.Segments.{Place, place_after, answer_line}
-
-less_true : (a b : ℕ) → a < b → nat_lt a b ≡ true
-less_true a b h = grind (arith, nat_tests)
 
 returned-long : (line : List ℕ) (b : Bool) → 4097 < length line → 4096 < length (cond b (take (length line - 1) line) line)
 returned-long line true h = let long = length-take-le (length line - 1) line (omega arith) in omega arith
@@ -19,7 +16,7 @@ returned-long line false h = omega arith
 too_long : (language : Language) (line : List ℕ) → 4097 < length line → reading language line ≡ LineTooLong
 unfolding reading
 too_long language line h =
-    let long : nat_lt 4096 (length (without_return line)) ≡ true = less_true 4096 (length (without_return line)) (returned-long line (slice_index line (length line - 1) == 0x0D) h) in
+    let long : nat_lt 4096 (length (without_return line)) ≡ true = lt-ltb 4096 (length (without_return line)) (returned-long line (slice_index line (length line - 1) == 0x0D) h) in
     rw long refl
 
 reading-long : (language : Language) (line : List ℕ) → 4097 < length line → reading language line ≡ reading language (take 4098 line)
@@ -28,4 +25,4 @@ reading-long language line h =
     too_long language line h ∙ sym (too_long language (take 4098 line) (omega arith))
 
 pub answer_line-long : (at : Place) (line : List ℕ) → 4097 < length line → answer_line at line ≡ answer_line at (take 4098 line)
-answer_line-long at line h = ap (λ (r : Reading). ((respond at.mode at.directory r).0, place_after at r)) (reading-long landed line h)
+answer_line-long at line h = ap (λ (r : Reading). ((respond at.mode at.directory r).0, place_after at r)) (reading-long supported line h)

@@ -1,8 +1,10 @@
 -- What a script prints and leaves.
-use Rattle.std.specs.Prelude.{ℕ, List, [], ◌∷◌, ◌++◌, ◌==◌, if◌then◌else◌, codes}
+use Rattle.std.specs.Prelude.{ℕ, List, [], ◌∷◌, ◌++◌, ◌==◌, if◌then◌else◌}
 use Rattle.std.specs.Fmt.{digits}
 use Rattle.seg_types.specs.Commands.{Reading, Nothing, Asked, UnknownCommand, LineTooLong, BadSyntax}
-use Rattle.segment_lang.specs.Texts.{error_text}
+use Rattle.segment_lang.specs.declared.errors.LineError.{LineError}
+use Rattle.segment_lang.specs.declared.errors.LineError.TheVariants as wrong
+use Rattle.segment_lang.specs.Texts.{line_error_text}
 use Rattle.segment_lang.specs.Language.{Language}
 use Rattle.segment_lang.specs.Reading.{reading}
 use Rattle.segment_manager.specs.declared.modes.Mode.{Mode}
@@ -20,16 +22,16 @@ abbrev pub lines : List ℕ → List (List ℕ)
 lines [] = []
 lines (c ∷ cs) = if c == 0x0A then [] ∷ lines cs else onto_first c (lines cs)
 
-abbrev pub error_line : ℕ → List ℕ → List ℕ
-error_line n words = line (error_text n words ∷ [])
+abbrev pub error_line : LineError → List ℕ
+error_line e = line (line_error_text e ∷ [])
 
 -- what is printed for a line, and the directory after it
 abbrev pub respond : Mode → Directory → Reading → List ℕ × Directory
 respond mode d Nothing = ([], d)
 respond mode d (Asked c) = let done = step mode d c in (answer_text done.0, done.1)
-respond mode d UnknownCommand = (error_line 1 (codes "unknown command"), d)
-respond mode d LineTooLong = (error_line 2 (codes "line too long"), d)
-respond mode d BadSyntax = (error_line 3 (codes "bad syntax"), d)
+respond mode d UnknownCommand = (error_line wrong.UnknownCommand, d)
+respond mode d LineTooLong = (error_line wrong.LineTooLong, d)
+respond mode d BadSyntax = (error_line wrong.BadSyntax, d)
 
 abbrev pub run_lines : Language → Mode → Directory → List (List ℕ) → List ℕ × Directory
 run_lines language mode d [] = ([], d)

@@ -1,12 +1,8 @@
 -- A segment as what answers the lines of a script.
-use Rattle.std.specs.Prelude.{◌≡◌, ℕ, ℤ, Bool, true, List, [], ◌∷◌, Result, Ok, Err}
-use Rattle.seg_types.specs.declared.kinds.Kind.{Kind}
-use Rattle.seg_types.specs.declared.kinds.ScalarKind.TheVariants.{I64}
-use Rattle.seg_types.specs.declared.refusals.Refusal.{Refusal}
+use Rattle.std.specs.Prelude.{◌≡◌, ℕ, Bool, true, List}
 use Rattle.seg_types.specs.Commands.{Reading}
-use Rattle.segment_lang.specs.Language.{landed}
+use Rattle.segment_lang.specs.Language.{supported}
 use Rattle.segment_lang.specs.Reading.{reading}
-use Rattle.segment_lang.specs.Texts.{kind_text, refusal_text, value_text}
 use Rattle.segment_manager.specs.declared.modes.Mode.{Mode}
 use Rattle.segment_manager.specs.Directory.{Directory}
 use Rattle.segment_manager.specs.State.{State, StandsFor}
@@ -37,9 +33,4 @@ place_after at asked = record {
 
 -- what a line prints from a place, and where it leads
 abbrev pub answer_line : Place → List ℕ → List ℕ × Place
-answer_line at line = let asked = reading landed line in ((respond at.mode at.directory asked).0, place_after at asked)
-
--- what is printed of an object: its kind and its number, or why it has none
-abbrev pub shown_line : Kind → Result ℤ Refusal → List ℕ
-shown_line kind (Ok z) = line (kind_text kind ∷ value_text I64 z ∷ [])
-shown_line kind (Err r) = line (refusal_text r ∷ [])
+answer_line at line = let asked = reading supported line in ((respond at.mode at.directory asked).0, place_after at asked)

@@ -2,12 +2,16 @@
 #![tactic(auto)]
 
 mod faults;
+mod listing;
 mod machine;
 mod open_line;
+mod printing;
+mod replies;
 mod saving;
 mod scripts;
 mod segments;
 mod sessions;
+mod showing;
 
 pub use faults::{RunFault, SessionFault, Start};
 pub use machine::Machine;

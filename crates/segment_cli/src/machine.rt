@@ -1,6 +1,6 @@
 //! What stands between a script and whatever answers its lines.
-ghost use Rattle.std.specs.Prelude.{◌≡◌, ◌+◌, ◌-◌, ◌^◌, ◌<◌, ℕ, List, ◌++◌, length, take, OnOk, OnErr};
-ghost use Rattle.raw_region.specs.Answers.{failures_in, AddsFront};
+ghost use Rattle.std.specs.Prelude.{◌≡◌, ◌-◌, ◌^◌, ◌<◌, ℕ, List, length, take};
+ghost use Rattle.segment_cli.specs.Writing.{WritesFor};
 
 use raw_region::{DeviceFault, Sink};
 
@@ -18,14 +18,11 @@ pub trait Machine {
     /// Executes the line, which has no line end, and writes its answer. A fault leaves the line
     /// executed, and a proper prefix of its answer written.
     fn answer<W: Sink>(&mut self, line: &[u8], out: &mut W) -> Result<(), DeviceFault>
-        requires { W.failures out.old < 2 ^ 64 - 1 }
+        requires { (W.history out.old).failures < 2 ^ 64 - 1 }
         ensures leads { (place : Place) → stands self.old place
             → stands self.new (respond place line.now).1 }
-        ensures ok { OnOk result ((place : Place) → stands self.old place
-            → W.taken out.new ≡ W.taken out.old ++ (respond place line.now).0) }
-        ensures err { OnErr result ((place : Place) → stands self.old place
-            → AddsFront (W.taken out.old) (W.taken out.new) (respond place line.now).0) }
-        ensures counted { W.failures out.new ≡ W.failures out.old + failures_in result };
+        ensures writes { WritesFor (W.history out.old) (W.history out.new) result (stands self.old)
+            (λ place. (respond place line.now).0) };
 
     // Of a line of more than 4097 bytes the first 4098 decide.
     ghost long_lines: { (place : Place) (line : List ℕ) → 4097 < length line

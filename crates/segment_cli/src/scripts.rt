@@ -1,10 +1,9 @@
 //! The running of a script: read in pieces, parted into lines, each line answered at its end.
-ghost use Rattle.std.specs.Prelude.{◌≡◌, ◌+◌, ◌-◌, ◌^◌, ◌<◌, ◌≤◌, ℕ, List, [], ◌++◌, length, OnOk, OnErr, IfErr};
+ghost use Rattle.std.specs.Prelude.{◌≡◌, ◌+◌, ◌-◌, ◌^◌, ◌<◌, ℕ, List, [], ◌++◌, OnOk, OnErr, IfErr};
 ghost use Rattle.raw_region.specs.Answers.{failures_in};
 ghost use Rattle.raw_region.specs.Device.{given_since, taken_since, Grows};
 ghost use Rattle.segment_cli.specs.Run.{lines};
-ghost use Rattle.segment_cli.specs.Session.{script_limit};
-ghost use Rattle.segment_cli.specs.Leaves.{Leaves, LeavesFault, failed_reads, failed_writes};
+ghost use Rattle.segment_cli.specs.Leaves.{Leaves, LeavesFault, UsesDevices};
 ghost use Rattle.segment_cli.specs.Behind.{IsBehind, IsStoppedIn, IsAtEnd, IsStoppedAtLast, HasAnswered};
 
 use crate::faults::RunFault;
@@ -26,16 +25,16 @@ fn feed<M: Machine, W: Sink>(
     piece: &[u8],
     out: &mut W,
 ) -> Result<(), DeviceFault>
-    requires { W.failures out.old < 2 ^ 64 - 1 }
+    requires { (W.history out.old).failures < 2 ^ 64 - 1 }
     ensures ok { OnOk result ((start : M.Place) (before read : List ℕ)
-        → IsBehind M.respond start before read (M.stands machine.old) line.old (W.taken out.old)
+        → IsBehind M.respond start before read (M.stands machine.old) line.old (W.history out.old).bytes
         → IsBehind M.respond start before (read ++ piece.now) (M.stands machine.new) line.new
-        (W.taken out.new)) }
+        (W.history out.new).bytes) }
     ensures err { OnErr result ((start : M.Place) (before read : List ℕ)
-        → IsBehind M.respond start before read (M.stands machine.old) line.old (W.taken out.old)
+        → IsBehind M.respond start before read (M.stands machine.old) line.old (W.history out.old).bytes
         → IsStoppedIn M.respond start before read piece.now (M.stands machine.new)
-        (W.taken out.new)) }
-    ensures counted { W.failures out.new ≡ W.failures out.old + failures_in result }
+        (W.history out.new).bytes) }
+    ensures counted { (W.history out.new).failures ≡ (W.history out.old).failures + failures_in result }
 {
     for byte in piece {
         if *byte == b'\n' {
@@ -55,28 +54,22 @@ fn read_lines<M: Machine, S: Source, W: Sink>(
     line: &mut OpenLine,
     out: &mut W,
 ) -> Result<(), RunFault>
-    requires reader { S.failures script.old < 2 ^ 64 - 1 }
-    requires writer { W.failures out.old < 2 ^ 64 - 1 }
+    requires reader { (S.history script.old).failures < 2 ^ 64 - 1 }
+    requires writer { (W.history out.old).failures < 2 ^ 64 - 1 }
     requires fresh { line.old ≡ [] }
     ensures end { OnOk result ((start : M.Place) → M.stands machine.old start
-        → IsAtEnd M.respond start (W.taken out.old)
-        (given_since (S.given script.old) (S.given script.new) (S.ended script.new)
-        (S.failures script.old) (S.failures script.new))
-        (M.stands machine.new) line.new (W.taken out.new)) }
+        → IsAtEnd M.respond start (W.history out.old).bytes
+        (given_since (S.history script.old) (S.history script.new))
+        (M.stands machine.new) line.new (W.history out.new).bytes) }
     ensures fault { IfErr result (λ fault. (start : M.Place) → M.stands machine.old start
         → LeavesFault M.respond start
-        (given_since (S.given script.old) (S.given script.new) (S.ended script.new)
-        (S.failures script.old) (S.failures script.new))
-        (taken_since (W.taken out.old) (W.taken out.new) (W.failures out.old)
-        (W.failures out.new))
+        (given_since (S.history script.old) (S.history script.new))
+        (taken_since (W.history out.old) (W.history out.new))
         fault (M.stands machine.new)) }
-    ensures script_grows { Grows (S.given script.old) (S.given script.new) }
     ensures out_grows { OnErr result ((start : M.Place) → M.stands machine.old start
-        → Grows (W.taken out.old) (W.taken out.new)) }
-    ensures reads_no_further { length (S.given script.new)
-        ≤ length (S.given script.old) + script_limit + 4096 }
-    ensures reads_counted { S.failures script.new ≡ S.failures script.old + failed_reads result }
-    ensures writes_counted { W.failures out.new ≡ W.failures out.old + failed_writes result }
+        → Grows (W.history out.old).bytes (W.history out.new).bytes) }
+    ensures devices { UsesDevices (S.history script.old) (S.history script.new)
+        (W.history out.old) (W.history out.new) result }
 {
     let mut piece = [0u8; PIECE];
     let mut left = SCRIPT_LIMIT;
@@ -106,15 +99,15 @@ fn answer_last<M: Machine, W: Sink>(
     line: &OpenLine,
     out: &mut W,
 ) -> Result<(), DeviceFault>
-    requires { W.failures out.old < 2 ^ 64 - 1 }
+    requires { (W.history out.old).failures < 2 ^ 64 - 1 }
     ensures ok { OnOk result ((start : M.Place) (before read : List ℕ)
-        → IsBehind M.respond start before read (M.stands machine.old) line.now (W.taken out.old)
+        → IsBehind M.respond start before read (M.stands machine.old) line.now (W.history out.old).bytes
         → HasAnswered M.respond start before (lines read) (M.stands machine.new)
-        (W.taken out.new)) }
+        (W.history out.new).bytes) }
     ensures err { OnErr result ((start : M.Place) (before read : List ℕ)
-        → IsBehind M.respond start before read (M.stands machine.old) line.now (W.taken out.old)
-        → IsStoppedAtLast M.respond start before read (M.stands machine.new) (W.taken out.new)) }
-    ensures counted { W.failures out.new ≡ W.failures out.old + failures_in result }
+        → IsBehind M.respond start before read (M.stands machine.old) line.now (W.history out.old).bytes
+        → IsStoppedAtLast M.respond start before read (M.stands machine.new) (W.history out.new).bytes) }
+    ensures counted { (W.history out.new).failures ≡ (W.history out.old).failures + failures_in result }
 {
     let last = line.as_slice();
     if !last.is_empty() {
@@ -132,22 +125,17 @@ pub fn run<M: Machine, S: Source, W: Sink>(
     script: &mut S,
     out: &mut W,
 ) -> Result<(), RunFault>
-    requires reader { S.failures script.old < 2 ^ 64 - 1 }
-    requires writer { W.failures out.old < 2 ^ 64 - 1 }
+    requires reader { (S.history script.old).failures < 2 ^ 64 - 1 }
+    requires writer { (W.history out.old).failures < 2 ^ 64 - 1 }
     ensures leaves { (place : M.Place) → M.stands machine.old place
         → Leaves M.respond place
-        (given_since (S.given script.old) (S.given script.new) (S.ended script.new)
-        (S.failures script.old) (S.failures script.new))
-        (taken_since (W.taken out.old) (W.taken out.new) (W.failures out.old)
-        (W.failures out.new))
+        (given_since (S.history script.old) (S.history script.new))
+        (taken_since (W.history out.old) (W.history out.new))
         result (M.stands machine.new) }
-    ensures script_grows { Grows (S.given script.old) (S.given script.new) }
     ensures out_grows { (place : M.Place) → M.stands machine.old place
-        → Grows (W.taken out.old) (W.taken out.new) }
-    ensures reads_no_further { length (S.given script.new)
-        ≤ length (S.given script.old) + script_limit + 4096 }
-    ensures reads_counted { S.failures script.new ≡ S.failures script.old + failed_reads result }
-    ensures writes_counted { W.failures out.new ≡ W.failures out.old + failed_writes result }
+        → Grows (W.history out.old).bytes (W.history out.new).bytes }
+    ensures devices { UsesDevices (S.history script.old) (S.history script.new)
+        (W.history out.old) (W.history out.new) result }
 {
     let mut line = OpenLine::new();
     read_lines(machine, script, &mut line, out)?;

@@ -6,12 +6,11 @@ ghost use Rattle.segment_manager.specs.declared.modes.Mode.TheVariants.{Write};
 ghost use Rattle.segment_manager.specs.Directory.{Directory};
 ghost use Rattle.segment_manager.specs.State.{StandsFor};
 ghost use Rattle.segment_cli.specs.Beginning.{Starts};
-ghost use Rattle.segment_cli.specs.Session.{IsSaved, IsSession, Saves, script_limit};
+ghost use Rattle.segment_cli.specs.Session.{IsSession, Saves, script_limit};
 
 use crate::faults::{SessionFault, Start};
 use crate::saving::save;
 use crate::scripts::run;
-use image_check::laws::landed_images_have_one_directory;
 use image_check::open;
 use raw_region::{DeviceFault, RawRegion, Sink, Source, Steps};
 use segment_manager::{Mode, Segment};
@@ -28,12 +27,11 @@ fn begin<I: Source>(
     base: u64,
 ) -> Result<Segment, SessionFault>
     requires aligned { base % 16 ≡ 0 }
-    requires image_reader { I.failures image.old < 2 ^ 64 - 1 }
+    requires image_reader { (I.history image.old).failures < 2 ^ 64 - 1 }
     ensures starts { Starts start mode base (length region)
-        (given_since (I.given image.old) (I.given image.new) (I.ended image.new)
-        (I.failures image.old) (I.failures image.new))
+        (given_since (I.history image.old) (I.history image.new))
         result }
-    ensures image_grows { Grows (I.given image.old) (I.given image.new) }
+    ensures image_grows { Grows (I.history image.old).bytes (I.history image.new).bytes }
 {
     match start {
         Start::Fresh(size) => Ok(Segment::create(region, base, size, mode)?),
@@ -44,32 +42,24 @@ fn begin<I: Source>(
 /// Writes the image of a segment that is open in mode `Write`, and else nothing. The image is one
 /// that a check accepts. A fault leaves a proper prefix of it written.
 fn save_segment<W: Sink>(segment: &Segment, image_out: &mut W) -> Result<(), DeviceFault>
-    requires { W.failures image_out.old < 2 ^ 64 - 1 }
+    requires { (W.history image_out.old).failures < 2 ^ 64 - 1 }
     ensures ok { OnOk result ((d : Directory) → StandsFor segment.now.cut.bytes d
         → Saves segment.now.mode
-        (drop (length (W.taken image_out.old)) (W.taken image_out.new)) d) }
+        (drop (length (W.history image_out.old).bytes) (W.history image_out.new).bytes) d) }
     ensures bytes { OnOk result (segment.now.mode ≡ Write
-        → W.taken image_out.new ≡ W.taken image_out.old ++ segment.now.cut.bytes) }
+        → (W.history image_out.new).bytes ≡ (W.history image_out.old).bytes ++ segment.now.cut.bytes) }
     ensures err { OnErr result ((segment.now.mode ≡ Write) × IsProperPrefix
-        (drop (length (W.taken image_out.old)) (W.taken image_out.new))
+        (drop (length (W.history image_out.old).bytes) (W.history image_out.new).bytes)
         segment.now.cut.bytes) }
-    ensures grows { Grows (W.taken image_out.old) (W.taken image_out.new) }
-    ensures counted { W.failures image_out.new
-        ≡ W.failures image_out.old + failures_in result }
+    ensures grows { Grows (W.history image_out.old).bytes (W.history image_out.new).bytes }
+    ensures counted { (W.history image_out.new).failures
+        ≡ (W.history image_out.old).failures + failures_in result }
 {
     if segment.mode() == Mode::Write {
         let image = segment.as_bytes();
-        hold_accepted(image);
         save(image, image_out)?;
     }
     Ok(())
-}
-
-/// An image that denotes a directory is accepted. Nothing is done.
-fn hold_accepted(image: &[u8])
-    ensures { (d : Directory) → StandsFor image.now d → IsSaved image.now d }
-{
-    landed_images_have_one_directory();
 }
 
 /// Makes an empty segment in the region, from `base` on, which is a multiple of 16 bytes, or opens
@@ -95,28 +85,24 @@ pub fn session<I: Source, S: Source, O: Sink, W: Sink>(
     base: u64,
 ) -> Result<(), SessionFault>
     requires aligned { base % 16 ≡ 0 }
-    requires image_reader { I.failures image.old < 2 ^ 64 - 1 }
-    requires script_reader { S.failures script.old < 2 ^ 64 - 1 }
-    requires answer_writer { O.failures out.old < 2 ^ 64 - 1 }
-    requires image_writer { W.failures image_out.old < 2 ^ 64 - 1 }
+    requires image_reader { (I.history image.old).failures < 2 ^ 64 - 1 }
+    requires script_reader { (S.history script.old).failures < 2 ^ 64 - 1 }
+    requires answer_writer { (O.history out.old).failures < 2 ^ 64 - 1 }
+    requires image_writer { (W.history image_out.old).failures < 2 ^ 64 - 1 }
     ensures session { IsSession start mode base (length region)
         (record {
-          image = given_since (I.given image.old) (I.given image.new) (I.ended image.new)
-              (I.failures image.old) (I.failures image.new);
-          script = given_since (S.given script.old) (S.given script.new) (S.ended script.new)
-              (S.failures script.old) (S.failures script.new);
-          out = taken_since (O.taken out.old) (O.taken out.new) (O.failures out.old)
-              (O.failures out.new);
-          saved = taken_since (W.taken image_out.old) (W.taken image_out.new)
-              (W.failures image_out.old) (W.failures image_out.new);
+          image = given_since (I.history image.old) (I.history image.new);
+          script = given_since (S.history script.old) (S.history script.new);
+          out = taken_since (O.history out.old) (O.history out.new);
+          saved = taken_since (W.history image_out.old) (W.history image_out.new);
         })
         result }
-    ensures image_grows { Grows (I.given image.old) (I.given image.new) }
-    ensures script_grows { Grows (S.given script.old) (S.given script.new) }
-    ensures reads_no_further { length (S.given script.new)
-        ≤ length (S.given script.old) + script_limit + 4096 }
-    ensures out_grows { Grows (O.taken out.old) (O.taken out.new) }
-    ensures saved_grows { Grows (W.taken image_out.old) (W.taken image_out.new) }
+    ensures image_grows { Grows (I.history image.old).bytes (I.history image.new).bytes }
+    ensures script_grows { Grows (S.history script.old).bytes (S.history script.new).bytes }
+    ensures reads_no_further { length (S.history script.new).bytes
+        ≤ length (S.history script.old).bytes + script_limit + 4096 }
+    ensures out_grows { Grows (O.history out.old).bytes (O.history out.new).bytes }
+    ensures saved_grows { Grows (W.history image_out.old).bytes (W.history image_out.new).bytes }
 {
     let mut segment = begin(alloc, start, mode, image, region, base)?;
     run(&mut segment, script, out)?;

@@ -5,6 +5,7 @@ use Rattle.std.specs.Prelude.{nat_le, nat_lt, decimal}
 use Rattle.std.specs.Option.{option_map}
 use Rattle.std.specs.List.{list_all}
 use Rattle.std.specs.Fmt.{signed_decimal}
+use Rattle.std.proofs.lemmas.Bool.{and_parts, le-leb, leb-true, lt-ltb, ltb-true}
 use Rattle.std.proofs.lemmas.Bool.Decides.{nat_tests}
 use Rattle.std.proofs.lemmas.Option.{cond_some}
 use Rattle.std.proofs.lemmas.Str.Parse.{IsNumeralModel, numerals_by_fold}
@@ -43,10 +44,6 @@ own = numerals_by_fold _ (search rules) number_after (search rules)
 abbrev no_leading_zero : List ℕ → Type 0
 no_leading_zero w = (list_all is_digit w ≡ true) × (0 < length w) × (get_or w 0 0 ≡ 48 → length w ≡ 1)
 
-both : (a b : Bool) → (a && b) ≡ true → (a ≡ true) × (b ≡ true)
-both true b h = (refl, h)
-both false b h = cc
-
 first_digit : (d : ℕ) → between 0x31 0x39 d ≡ true → (is_digit d ≡ true) × (48 < d)
 first_digit d h = (grind (arith, nat_tests), grind (arith, nat_tests))
 
@@ -54,7 +51,7 @@ numeral_parts : (w : List ℕ) → is_numeral w ≡ true → no_leading_zero w
 numeral_parts [] h = cc
 numeral_parts (d ∷ []) h = (rw h refl, omega arith, λ e. refl)
 numeral_parts (d ∷ e ∷ ds) h =
-    let p = both (between 0x31 0x39 d) (list_all is_digit (e ∷ ds)) h in
+    let p = and_parts (between 0x31 0x39 d) (list_all is_digit (e ∷ ds)) h in
     let f = first_digit d p.0 in
     (rw f.0 p.1, omega arith, λ e. absurd (omega (arith, f.1)))
 
@@ -63,8 +60,8 @@ high_digit d h k = grind (arith, nat_tests)
 
 parts_numeral : (w : List ℕ) → list_all is_digit w ≡ true → 0 < length w → 48 < get_or w 0 0 → is_numeral w ≡ true
 parts_numeral [] h k l = absurd (omega arith)
-parts_numeral (d ∷ []) h k l = (both (is_digit d) true h).0
-parts_numeral (d ∷ e ∷ ds) h k l = let p = both (is_digit d) (list_all is_digit (e ∷ ds)) h in rw (high_digit d p.0 l) p.1
+parts_numeral (d ∷ []) h k l = (and_parts (is_digit d) true h).0
+parts_numeral (d ∷ e ∷ ds) h k l = let p = and_parts (is_digit d) (list_all is_digit (e ∷ ds)) h in rw (high_digit d p.0 l) p.1
 
 decimal_numeral : (n : ℕ) → n < 2 ^ 64 → is_numeral (decimal n) ≡ true
 decimal_numeral zero h = rw (decimal_digit 0 (omega arith)) refl
@@ -73,17 +70,11 @@ decimal_numeral (suc n) h = parts_numeral (decimal (suc n)) (digits_decimal own 
 numeral_decimal : (w : List ℕ) → is_numeral w ≡ true → number_after 0 w < 2 ^ 64 → w ≡ decimal (number_after 0 w)
 numeral_decimal w h f = let p = numeral_parts w h in sym (decimal-digits_value own w p.0 p.1 p.2 f)
 
-le_test : (a b : ℕ) → nat_le a b ≡ true → a ≤ b
-le_test a b h = grind (arith, nat_tests)
-
-le_true : (a b : ℕ) → a ≤ b → nat_le a b ≡ true
-le_true a b h = grind (arith, nat_tests)
-
 number_is : (w : List ℕ) (n : ℕ) → number_of w ≡ Some n → (n < 2 ^ 64) × (w ≡ decimal n)
 number_is w n h =
     let t = cond_some (is_numeral w && nat_le (number_after 0 w) 18446744073709551615) (number_after 0 w) n h in
-    let p = both (is_numeral w) (nat_le (number_after 0 w) 18446744073709551615) t.0 in
-    let v : number_after 0 w ≤ 18446744073709551615 = le_test _ _ p.1 in
+    let p = and_parts (is_numeral w) (nat_le (number_after 0 w) 18446744073709551615) t.0 in
+    let v : number_after 0 w ≤ 18446744073709551615 = leb-true _ _ p.1 in
     let f : number_after 0 w < 2 ^ 64 = omega arith in
     (rw (← t.1) f, numeral_decimal w p.0 f ∙ ap decimal t.1)
 
@@ -91,7 +82,7 @@ number_of-decimal : (n : ℕ) → n < 2 ^ 64 → number_of (decimal n) ≡ Some 
 number_of-decimal n h =
     let v = digits_value-decimal own n h in
     let b : n ≤ 18446744073709551615 = omega arith in
-    rw (decimal_numeral n h, v, le_true n 18446744073709551615 b) refl
+    rw (decimal_numeral n h, v, le-leb n 18446744073709551615 b) refl
 
 pub numbers_are_decimals : NumbersAreDecimals
 numbers_are_decimals w n = (number_is w n, λ (h : (n < 2 ^ 64) × (w ≡ decimal n)). ap number_of h.1 ∙ number_of-decimal n h.0)
@@ -100,12 +91,6 @@ numbers_are_decimals w n = (number_is w n, λ (h : (n < 2 ^ 64) × (w ≡ decima
 
 abbrev IsWhole : List ℕ → ℤ → Type 0
 IsWhole w z = (negsuc 9223372036854775807 ≤ℤ z) × (z ≤ℤ pos 18446744073709551615) × (w ≡ signed_decimal z)
-
-lt_test : (a b : ℕ) → nat_lt a b ≡ true → a < b
-lt_test a b h = grind (arith, nat_tests)
-
-lt_true : (a b : ℕ) → a < b → nat_lt a b ≡ true
-lt_true a b h = grind (arith, nat_tests)
 
 negative_whole : (v : ℕ) (w : List ℕ) → w ≡ decimal v → 0 < v → v ≤ 9223372036854775808 → IsWhole (45 ∷ w) (negsuc (v - 1))
 negative_whole v w e p m =
@@ -116,11 +101,11 @@ negative_is : (w : List ℕ) (z : ℤ) → negative_of w ≡ Some z → IsWhole 
 negative_is w z h =
     let v = number_after 0 w in
     let t = cond_some (is_numeral w && nat_lt 0 v && nat_le v 9223372036854775808) (negsuc (v - 1)) z h in
-    let p = both (is_numeral w && nat_lt 0 v) (nat_le v 9223372036854775808) t.0 in
-    let q = both (is_numeral w) (nat_lt 0 v) p.0 in
-    let m : v ≤ 9223372036854775808 = le_test v _ p.1 in
+    let p = and_parts (is_numeral w && nat_lt 0 v) (nat_le v 9223372036854775808) t.0 in
+    let q = and_parts (is_numeral w) (nat_lt 0 v) p.0 in
+    let m : v ≤ 9223372036854775808 = leb-true v _ p.1 in
     let f : v < 2 ^ 64 = omega arith in
-    subst (IsWhole (45 ∷ w)) t.1 (negative_whole v w (numeral_decimal w q.0 f) (lt_test 0 v q.1) m)
+    subst (IsWhole (45 ∷ w)) t.1 (negative_whole v w (numeral_decimal w q.0 f) (ltb-true 0 v q.1) m)
 
 negative_of-decimal : (m : ℕ) → m ≤ 9223372036854775807 → negative_of (decimal (suc m)) ≡ Some (negsuc m)
 negative_of-decimal m h =
@@ -128,7 +113,7 @@ negative_of-decimal m h =
     let v = digits_value-decimal own (suc m) f in
     let b : suc m ≤ 9223372036854775808 = omega arith in
     let s : suc m - 1 ≡ m = omega arith in
-    rw (decimal_numeral (suc m) f, v, lt_true 0 (suc m) (omega arith), le_true (suc m) 9223372036854775808 b, s) refl
+    rw (decimal_numeral (suc m) f, v, lt-ltb 0 (suc m) (omega arith), le-leb (suc m) 9223372036854775808 b, s) refl
 
 whole_number : (o : Option ℕ) (z : ℤ) → option_map pos o ≡ Some z → (n : ℕ) × (o ≡ Some n) × (pos n ≡ z)
 whole_number None z h = cc
@@ -157,7 +142,7 @@ digit_is_no_minus c h = grind (arith, nat_tests)
 
 whole_of-digits : (w : List ℕ) → list_all is_digit w ≡ true → whole_of w ≡ option_map pos (number_of w)
 whole_of-digits [] h = refl
-whole_of-digits (c ∷ cs) h = rw (digit_is_no_minus c (both (is_digit c) (list_all is_digit cs) h).0) refl
+whole_of-digits (c ∷ cs) h = rw (digit_is_no_minus c (and_parts (is_digit c) (list_all is_digit cs) h).0) refl
 
 whole_again : (w : List ℕ) (z : ℤ) → IsWhole w z → whole_of w ≡ Some z
 whole_again w (pos n) h =

@@ -1,8 +1,8 @@
-pub mod TextItems
-pub mod Decimals
-pub mod Fronts
-pub mod LongLines
-pub mod WordList
-pub mod TextSpelling
-pub mod Readers
-pub mod Rows
+mod TextItems
+mod Decimals
+mod LongLines
+mod WordList
+mod TextSpelling
+mod FormTables
+mod Readers
+mod Rows

@@ -1,8 +1,7 @@
 -- Lines that are too long.
 use Rattle.std.proofs.Common.{◌≡◌, ℕ, ◌-◌, ◌≤◌, ◌<◌, Bool, true, false, cond, List, length, take, arith, sym, refl, ap, ◌∙◌, ◌⊎◌, inl, inr}
-use Rattle.std.specs.Prelude.{nat_lt}
 use Rattle.std.proofs.lemmas.List.{length-take, take_all}
-use Rattle.std.proofs.lemmas.Bool.Decides.{nat_tests}
+use Rattle.std.proofs.lemmas.Bool.{lt-ltb}
 use Rattle.seg_types.specs.Commands.{LineTooLong}
 use Rattle.segment_lang.specs.Language.{Language}
 use Rattle.segment_lang.specs.Reading.{reading, without_return}
@@ -12,12 +11,9 @@ one_less : (b : Bool) (line : List ℕ) → 4098 ≤ length line → 4096 < leng
 one_less true line h = omega (arith, length-take (length line - 1) line)
 one_less false line h = omega arith
 
-less : (a b : ℕ) → a < b → nat_lt a b ≡ true
-less a b h = grind (arith, nat_tests)
-
 too_long : (l : Language) (line : List ℕ) → 4098 ≤ length line → reading l line ≡ LineTooLong
 unfolding reading
-too_long l line h = rw (less 4096 (length (without_return line)) (one_less _ line h)) refl
+too_long l line h = rw (lt-ltb 4096 (length (without_return line)) (one_less _ line h)) refl
 
 long_or_whole : (l : Language) (line : List ℕ) → (length line ≤ 4098) ⊎ (4098 < length line) → reading l (take 4098 line) ≡ reading l line
 long_or_whole l line (inl h) = ap (reading l) (take_all 4098 line h)

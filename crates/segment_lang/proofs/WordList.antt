@@ -74,10 +74,7 @@ front_cons : (c : ℕ) (cs : List ℕ) → bare_at (c ∷ cs) ≡ bare_from (con
 unfolding bare_at
 front_cons c cs = ap (λ front. bare_from front (c ∷ cs)) (take_while-cons (λ c. not (is_blank c)) c cs)
 
-abbrev parts : List ℕ → List ℕ → Option (List ℕ × List ℕ)
-parts front rest = Some (front, rest)
-
-bare_longer : (f a : Bool) (c : ℕ) (front rest : List ℕ) → cond (f && a) (parts (c ∷ front) rest) None ≡ cond f (longer c (cond a (parts front rest) None)) None
+bare_longer : (f a : Bool) (c : ℕ) (front rest : List ℕ) → cond {A = Option (List ℕ × List ℕ)} (f && a) (Some (c ∷ front, rest)) None ≡ cond f (longer c (cond a (Some (front, rest)) None)) None
 bare_longer true true c front rest = refl
 bare_longer true false c front rest = refl
 bare_longer false a c front rest = refl

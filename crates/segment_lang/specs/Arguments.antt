@@ -7,7 +7,7 @@ use Rattle.seg_types.specs.declared.kinds.ScalarKind.{ScalarKind}
 use Rattle.seg_types.specs.Names.{Key}
 use Rattle.seg_types.specs.Commands.{Command, Construct, Content, Numbers}
 use Rattle.segment_lang.specs.Words.{Word, Bare, number_of, words}
-use Rattle.segment_lang.specs.Language.{Language, landed}
+use Rattle.segment_lang.specs.Language.{Language, supported}
 use Rattle.segment_lang.specs.Reading.{content, counted_kind, key_of, new_key, value_for}
 use Rattle.segment_lang.specs.Tokens.{◌>>=◌, next_word, only_word}
 
@@ -27,8 +27,8 @@ unfoldable pub construct_at : List ℕ → Option Command
 construct_at bytes = do
   kind ← next_word bytes
   key ← next_word kind.1
-  k ← counted_kind landed kind.0
-  at ← new_key landed key.0
+  k ← counted_kind supported kind.0
+  at ← new_key supported key.0
   made_with ← option_and_then (content k.0 k.1) (words key.1)
   Some (Construct at made_with)
 
@@ -47,4 +47,4 @@ handle_at bytes = do
 unfoldable pub key_at : List ℕ → Option Key
 key_at bytes = do
   word ← only_word bytes
-  key_of landed word
+  key_of supported word

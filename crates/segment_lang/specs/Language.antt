@@ -38,8 +38,8 @@ whole format = record {
 }
 
 -- what has come so far: one anonymous `i64` an object, made, printed and destroyed by its handle, and what concerns all blocks
-abbrev pub landed : Language
-landed = record {
+abbrev pub supported : Language
+supported = record {
   format = current;
   commands =
       codes "construct" ∷ codes "destroy_ptr" ∷ codes "show" ∷ codes "blocks" ∷ codes "size" ∷ codes "free" ∷ codes "zero_free"

@@ -1,29 +1,25 @@
 -- What the types of the code stand for.
-use Rattle.std.specs.Prelude.{ℕ, ℤ, List, [], ◌∷◌}
-use Rattle.seg_types.specs.Names as name
+use Rattle.std.specs.Prelude.{ℕ, List, [], ◌∷◌, Option, option_map, find}
 use Rattle.seg_types.specs.Commands as asked
-use Rattle.seg_types.specs.declared.kinds.ScalarKind.{ScalarKind}
-use Rattle.seg_types.specs.declared.kinds.ScalarKind.TheVariants as kind
+use Rattle.seg_types.specs.Keys.{key_seen, new_key_seen}
+use Rattle.seg_types.specs.Values.{kind_of_scalar, value_of_scalar}
 use Rattle.segment_lang.specs.Words as said
+use Rattle.segment_lang.specs.Words.{is}
 use Rattle.segment_lang.specs.Reading.{Reader, making, with_key, alone, destroying_ptr, new_key, key_of}
 use Rattle.segment_lang.specs.declared.words.Word.{Word}
 use Rattle.segment_lang.specs.declared.words.Word.TheVariants.{Bare, Text}
 use Rattle.segment_lang.specs.declared.literals.Literal.{Literal}
 use Rattle.segment_lang.specs.declared.literals.Literal.TheVariants.{Whole, Truth, Quoted}
-use Rattle.segment_lang.specs.declared.commands.Scalar.{Scalar}
-use Rattle.segment_lang.specs.declared.commands.Scalar.TheVariants.{I64}
 use Rattle.segment_lang.specs.declared.commands.Content.{Content}
 use Rattle.segment_lang.specs.declared.commands.Content.TheVariants.{Scalar as OneScalar}
-use Rattle.segment_lang.specs.declared.commands.NewKey.{NewKey}
-use Rattle.segment_lang.specs.declared.commands.NewKey.TheVariants.{Anonymous}
-use Rattle.segment_lang.specs.declared.commands.Key.{Key}
-use Rattle.segment_lang.specs.declared.commands.Key.TheVariants.{Handle}
 use Rattle.segment_lang.specs.declared.commands.Command.{Command}
 use Rattle.segment_lang.specs.declared.commands.Command.TheVariants.{Construct, DestroyPtr, Show, Blocks, Size, Free, ZeroFree, Sanity, AllDeallocated}
 use Rattle.segment_lang.specs.declared.commands.Reading.{Reading}
-use Rattle.segment_lang.specs.declared.commands.Reading.TheVariants.{Nothing, Asked, UnknownCommand, LineTooLong, BadSyntax}
-use Rattle.segment_lang.specs.declared.line.CommandWord.{CommandWord}
-use Rattle.segment_lang.specs.declared.line.CommandWord.TheVariants as first
+use Rattle.segment_lang.specs.declared.commands.Reading.TheVariants.{Nothing, Asked, Wrong}
+use Rattle.segment_lang.specs.declared.errors.LineError.{LineError}
+use Rattle.segment_lang.specs.declared.errors.LineError.TheVariants.{UnknownCommand, LineTooLong, BadSyntax}
+use Rattle.segment_lang.specs.declared.forms.CommandForm.{CommandForm}
+use Rattle.segment_lang.specs.declared.forms.CommandForm.TheVariants as form
 
 abbrev pub word_of : Word → said.Word
 word_of (Bare w) = said.Bare w.now
@@ -39,20 +35,8 @@ literal_of (Whole z) = asked.Whole z
 literal_of (Truth b) = asked.Truth b
 literal_of (Quoted t) = asked.Quoted t
 
-abbrev pub kind_of_scalar : Scalar → ScalarKind
-kind_of_scalar (I64 z) = kind.I64
-
-abbrev pub value_of_scalar : Scalar → ℤ
-value_of_scalar (I64 z) = z
-
 abbrev pub content_of : Content → asked.Content
 content_of (OneScalar s) = asked.Numbers (kind_of_scalar s) (value_of_scalar s ∷ [])
-
-abbrev pub new_key_seen : NewKey → name.Key
-new_key_seen Anonymous = name.NoKey
-
-abbrev pub key_seen : Key → name.Key
-key_seen (Handle n) = name.ByHandle n
 
 abbrev pub command_of : Command → asked.Command
 command_of (Construct key content) = asked.Construct (new_key_seen key) (content_of content)
@@ -65,21 +49,28 @@ command_of ZeroFree = asked.ZeroFree
 command_of Sanity = asked.Sanity
 command_of AllDeallocated = asked.AllDeallocated
 
+-- a line that is no command
+abbrev pub wrong_reading : LineError → asked.Reading
+wrong_reading UnknownCommand = asked.UnknownCommand
+wrong_reading LineTooLong = asked.LineTooLong
+wrong_reading BadSyntax = asked.BadSyntax
+
 abbrev pub reading_of : Reading → asked.Reading
 reading_of Nothing = asked.Nothing
 reading_of (Asked c) = asked.Asked (command_of c)
-reading_of UnknownCommand = asked.UnknownCommand
-reading_of LineTooLong = asked.LineTooLong
-reading_of BadSyntax = asked.BadSyntax
+reading_of (Wrong e) = wrong_reading e
 
 -- the form of what stands behind a command word
-abbrev pub reader_of : CommandWord → Reader
-reader_of first.Construct = making asked.Construct new_key
-reader_of first.DestroyPtr = destroying_ptr
-reader_of first.Show = with_key asked.Show key_of
-reader_of first.Blocks = alone asked.ListBlocks
-reader_of first.Size = alone asked.Size
-reader_of first.Free = alone asked.Free
-reader_of first.ZeroFree = alone asked.ZeroFree
-reader_of first.Sanity = alone asked.Sanity
-reader_of first.AllDeallocated = alone asked.AllDeallocated
+abbrev pub reader_of : CommandForm → Reader
+reader_of form.Construct = making asked.Construct new_key
+reader_of form.DestroyPtr = destroying_ptr
+reader_of form.Show = with_key asked.Show key_of
+reader_of (form.Alone c) = alone (command_of c)
+
+-- a command word and its form
+abbrev pub Row : Type 0
+Row = List ℕ × CommandForm
+
+-- the form of the first row of a word
+abbrev pub form_in : List Row → List ℕ → Option CommandForm
+form_in rows w = option_map (λ (row : Row). row.1) (find (λ (row : Row). is w row.0) rows)

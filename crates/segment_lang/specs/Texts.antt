@@ -8,6 +8,8 @@ use Rattle.seg_types.specs.declared.kinds.ScalarKind.TheVariants.{Bool as BoolKi
 use Rattle.seg_types.specs.declared.kinds.Kind.TheVariants.{Scalar, Text, Vector, Map, Texts}
 use Rattle.seg_types.specs.declared.refusals.Refusal.TheVariants.{ReadOnly, Exists, NotFound, WrongKind, OutOfRange, NoSpace}
 use Rattle.segment_lang.specs.Words.{is_bare_name, between}
+use Rattle.segment_lang.specs.declared.errors.LineError.{LineError}
+use Rattle.segment_lang.specs.declared.errors.LineError.TheVariants.{UnknownCommand, LineTooLong, BadSyntax}
 
 abbrev pub number_text : ℕ → List ℕ
 number_text n = decimal n
@@ -48,6 +50,24 @@ kind_text (Vector k) = codes "vec<" ++ scalar_text k ++ codes ">"
 kind_text Texts = codes "vec<string>"
 kind_text (Map k v) = codes "map<" ++ scalar_text k ++ codes "," ++ scalar_text v ++ codes ">"
 
+-- ---- errors: 1 to 3 where a line is no command, 4 to 9 where a command is refused
+
+abbrev pub error_text : ℕ → List ℕ → List ℕ
+error_text n words = codes "error " ++ number_text n ++ 0x20 ∷ words
+
+abbrev pub line_error_number : LineError → ℕ
+line_error_number UnknownCommand = 1
+line_error_number LineTooLong = 2
+line_error_number BadSyntax = 3
+
+abbrev pub line_error_words : LineError → List ℕ
+line_error_words UnknownCommand = codes "unknown command"
+line_error_words LineTooLong = codes "line too long"
+line_error_words BadSyntax = codes "bad syntax"
+
+abbrev pub line_error_text : LineError → List ℕ
+line_error_text e = error_text (line_error_number e) (line_error_words e)
+
 abbrev pub refusal_number : Refusal → ℕ
 refusal_number ReadOnly = 4
 refusal_number Exists = 5
@@ -63,9 +83,6 @@ refusal_words NotFound = codes "not found"
 refusal_words WrongKind = codes "wrong kind"
 refusal_words OutOfRange = codes "out of range"
 refusal_words NoSpace = codes "no space"
-
-abbrev pub error_text : ℕ → List ℕ → List ℕ
-error_text n words = codes "error " ++ number_text n ++ 0x20 ∷ words
 
 abbrev pub refusal_text : Refusal → List ℕ
 refusal_text r = error_text (refusal_number r) (refusal_words r)

@@ -1,27 +1,41 @@
 //! The command language: what a line of a script asks for, and how the parts of an answer are printed.
 #![tactic(auto)]
 
-mod answers;
-mod arguments;
+// The words of a line, and what they spell.
 mod blanks;
 mod buffer;
-mod commands;
-mod laws;
-mod line;
 mod literals;
 mod numbers;
 mod words;
 
-pub use answers::{
-    Piece, put_error, put_kind, put_name, put_number, put_pieces, put_refusal, put_text, put_value,
-};
+// The arguments of a command.
+mod contents;
+mod keys;
+mod kinds;
+
+// Commands.
+mod commands;
+mod forms;
+mod line;
+
+// Answers.
+mod errors;
+mod pieces;
+mod texts;
+
+// Laws of the definitions.
+mod theorems;
+
 pub use buffer::Text;
-pub use commands::{Command, Content, Key, NewKey, Reading, Scalar};
-pub use laws::{
-    long_lines_are_cut, numbers_are_decimals, printed_texts_are_read, texts_are_spelled,
-    wholes_are_decimals, words_follow,
-};
+pub use commands::{Command, Content, Reading};
+pub use errors::{LineError, put_line_error, put_refusal};
 pub use line::{LONGEST_LINE, parse_line};
 pub use literals::{Literal, literal_of};
 pub use numbers::{number_of, whole_of};
+pub use pieces::{Piece, put_pieces};
+pub use texts::{put_kind, put_name, put_number, put_text, put_value};
+pub use theorems::{
+    long_lines_are_cut, numbers_are_decimals, printed_texts_are_read, texts_are_spelled,
+    wholes_are_decimals, words_follow,
+};
 pub use words::{Quoted, Word, next_word, only_word};

@@ -12,7 +12,8 @@ use Rattle.seg_types.specs.declared.kinds.Class.TheVariants.{Anonymous}
 use Rattle.seg_index.specs.Index.{IsIndexAt}
 use Rattle.segment_manager.specs.Directory.{Object, Directory, IsDirectory, live, extents_of, value_extents, table_extents, is_object, is_index, rises, remove_object, with_object, with_changed, without_object, named_objects, unique_objects, by_name, by_kind}
 use Rattle.segment_manager.specs.Denotes.{Denotes, IsObjectAt, IsHeader, handles}
-use Rattle.segment_manager.proofs.Words.{first, second, no_more, Same-within}
+use Rattle.raw_region.proofs.Laws.{Same-part}
+use Rattle.segment_manager.proofs.Words.{first, second, no_more}
 use Rattle.segment_manager.proofs.Frame.{any_objects-same, any_index-same, header-same}
 use Rattle.segment_manager.proofs.Order.{Differs, IsFresh, inserted, live-rises, rising-insert, all_of-inserted}
 use Rattle.segment_manager.proofs.Live.{adding, removing, OfEach, of_each, IsFound, IsIn, live-put, live-without, live-same}
@@ -48,11 +49,16 @@ frame-stays format old new d xs h k n u =
     let m' : Memory = bytes_of new.bytes in
     record {
       header = header-same format m m' d.size k.front k.behind h.header;
-      named = index-stays m m' 32 d.named (named_objects d) by_name h.directory.named (Same-within m m' 32 128 32 56 (omega arith) (omega arith) k.behind) n h.named;
-      unique = index-stays m m' 56 d.unique (unique_objects d) by_kind h.directory.unique (Same-within m m' 32 128 56 80 (omega arith) (omega arith) k.behind) u h.unique;
+      named = index-stays m m' 32 d.named (named_objects d) by_name h.directory.named (Same-part m m' 32 128 32 56 k.behind (omega arith) (omega arith)) n h.named;
+      unique = index-stays m m' 56 d.unique (unique_objects d) by_kind h.directory.unique (Same-part m m' 32 128 56 80 k.behind (omega arith) (omega arith)) u h.unique;
     }
 
 -- ---- one object more
+
+-- an object without a key that has no block but its own
+pub record IsPlain (o : Object) : Type 0 where
+  pub class : o.class ≡ Anonymous
+  pub alone : value_extents o.value ≡ []
 
 -- an object begins where no extent did
 pub fresh : (d : Directory) (o : Object) → IsTrue (is_proper (adding (live d) (extents_of o))) → Differs o.extent (live d).extents
@@ -88,12 +94,12 @@ denotes-with format old new d o h is_there c l k at =
           (any_objects-same format (bytes_of old.bytes) (bytes_of new.bytes) d.objects h.directory.objects blocks.objects h.objects);
     }
 
--- an anonymous object that has one extent
-pub denotes-added : (format : ℕ) (old new : Cut) (d : Directory) (o : Object) → Denotes format old.bytes d → IsTrue (is_object format o) → o.class ≡ Anonymous
-    → value_extents o.value ≡ [] → LaysOut format new.bytes (added (live d) o.extent) → Keeps old new (live d).extents → IsObjectAt (bytes_of new.bytes) o
+-- one that has no block but its own
+pub denotes-added : (format : ℕ) (old new : Cut) (d : Directory) (o : Object) → Denotes format old.bytes d → IsTrue (is_object format o) → IsPlain o
+    → LaysOut format new.bytes (added (live d) o.extent) → Keeps old new (live d).extents → IsObjectAt (bytes_of new.bytes) o
     → Denotes format new.bytes (with_object d o)
-denotes-added format old new d o h is_there c e l k at =
-    denotes-with format old new d o h is_there c (subst (LaysOut format new.bytes) (ap (λ xs. adding (live d) (o.extent ∷ xs)) (sym e)) l) k at
+denotes-added format old new d o h is_there plain l k at =
+    denotes-with format old new d o h is_there plain.class (subst (LaysOut format new.bytes) (ap (λ xs. adding (live d) (o.extent ∷ xs)) (sym plain.alone)) l) k at
 
 -- ---- one object less
 
@@ -129,12 +135,12 @@ denotes-without format old new d o h f c l k =
           (all-remove (IsObjectAt (bytes_of old.bytes)) (handle o.extent) d.objects h.objects);
     }
 
--- an anonymous object that has one extent
-pub denotes-removed : (format : ℕ) (old new : Cut) (d : Directory) (o : Object) → Denotes format old.bytes d → IsIn d o → o.class ≡ Anonymous → value_extents o.value ≡ []
+-- one that has no block but its own
+pub denotes-removed : (format : ℕ) (old new : Cut) (d : Directory) (o : Object) → Denotes format old.bytes d → IsIn d o → IsPlain o
     → LaysOut format new.bytes (released (live d) (handle o.extent)) → Keeps old new (released (live d) (handle o.extent)).extents → Denotes format new.bytes (without_object d o)
-denotes-removed format old new d o h f c e l k =
-    let same : removing (live d) (extents_of o) ≡ released (live d) (handle o.extent) = ap (λ xs. removing (live d) (o.extent ∷ xs)) e in
-    denotes-without format old new d o h f c (subst (LaysOut format new.bytes) (sym same) l) (subst (λ (s : LiveSet). Keeps old new s.extents) (sym same) k)
+denotes-removed format old new d o h f plain l k =
+    let same : removing (live d) (extents_of o) ≡ released (live d) (handle o.extent) = ap (λ xs. removing (live d) (o.extent ∷ xs)) plain.alone in
+    denotes-without format old new d o h f plain.class (subst (LaysOut format new.bytes) (sym same) l) (subst (λ (s : LiveSet). Keeps old new s.extents) (sym same) k)
 
 -- ---- one object changed
 

@@ -1,28 +1,29 @@
-pub mod Refusals
-pub mod Unchanged
-pub mod Words
-pub mod Blocks
-pub mod Frame
-pub mod Order
-pub mod Live
-pub mod Faces
-pub mod Objects
-pub mod Denoted
-pub mod Landing
-pub mod Calling
-pub mod Steps
-pub mod Ranks
-pub mod Indexes
-pub mod Entries
-pub mod AnyClass
-pub mod Regrown
-pub mod Handles
-pub mod Numbers
-pub mod Elements
-pub mod Access
-pub mod Kept
-pub mod Fresh
-pub mod NewBlocks
-pub mod NumberCalls
-pub mod Heads
-pub mod PlacedTexts
+mod Refusals
+mod Unchanged
+mod Words
+mod Blocks
+mod Frame
+mod Order
+mod Live
+mod Faces
+mod Objects
+mod Denoted
+mod Supported
+mod Calling
+mod Steps
+mod Ranks
+mod Indexes
+mod Entries
+mod AnyClass
+mod Regrown
+mod Handles
+mod Numbers
+mod Elements
+mod Access
+mod Kept
+mod Fresh
+mod NewBlocks
+mod NumberCalls
+mod Heads
+mod PlacedTexts
+pub mod Laws

@@ -1,11 +1,11 @@
 -- Extents put in by offset: the order of the puts does not matter, and what is put in twice nowhere can be taken out again.
-use Rattle.std.proofs.Common.{◌≡◌, refl, ap, ◌∙◌, ℕ, ◌+◌, ◌-◌, ◌%◌, ◌<◌, ◌≤◌, ◌≢◌, Bool, true, false, ◌&&◌, ◌==◌, List, [], ◌∷◌, ◌++◌, arith, if◌then◌else◌}
+use Rattle.std.proofs.Common.{◌≡◌, refl, ap, ◌∙◌, ℕ, ◌+◌, ◌-◌, ◌%◌, ◌<◌, ◌≤◌, ◌≢◌, Bool, true, false, ◌&&◌, ◌==◌, List, [], ◌∷◌, ◌++◌, arith, if◌then◌else◌, inl, inr}
 use Rattle.std.specs.Prelude.{IsTrue, nat_lt, nat_le, ⊤}
 use Rattle.std.specs.List.{AllByRecursion}
-use Rattle.std.proofs.lemmas.Bool.{eq-eqb, ne_eqb}
 use Rattle.best_fit.specs.Extents.{Extent, LiveSet, handle, end_of, is_hole, is_block, is_proper, proper_from}
 use Rattle.block_tags.specs.Format.{is_legal_size}
 use Rattle.best_fit.specs.Fit.{insert, others, added, resized}
+use Rattle.best_fit.proofs.Laws.{AllByRecursion-insert, AllByRecursion-insert_from, AllByRecursion-insert_new, insert-comm, is_hole-IsHole, others-here, others-past}
 use Rattle.segment_manager.specs.Directory.{sorted}
 use Rattle.segment_manager.proofs.Words.{first, second, no_more}
 
@@ -25,11 +25,6 @@ Rising n [] = ⊤
 Rising n (x ∷ xs) = (n ≤ x.offset) × Rising (x.offset + 1) xs
 
 -- ---- putting in
-
--- two extents, in either order
-pub insert-comm : (x y : Extent) (zs : List Extent) → x.offset ≢ y.offset → insert x (insert y zs) ≡ insert y (insert x zs)
-insert-comm x y [] n = grind arith
-insert-comm x y (z ∷ zs) n = let ih = insert-comm x y zs n in grind (arith, ih)
 
 -- these extents put in among those
 abbrev pub inserted : List Extent → List Extent → List Extent
@@ -53,24 +48,9 @@ sorted-append (x ∷ xs) ys = ap (insert x) (sorted-append xs ys)
 
 -- ---- what holds of each
 
-all-if : (P : Extent → Type 0) (b : Bool) (xs ys : List Extent) → AllByRecursion P xs → AllByRecursion P ys → AllByRecursion P (if b then xs else ys)
-all-if P true xs ys h k = h
-all-if P false xs ys h k = k
-
--- what holds of an extent and of each of the others
-pub all-insert : (P : Extent → Type 0) (x : Extent) (zs : List Extent) → P x → AllByRecursion P zs → AllByRecursion P (insert x zs)
-all-insert P x [] p a = (p, tt)
-all-insert P x (z ∷ zs) p a = all-if P (nat_lt x.offset z.offset) (x ∷ z ∷ zs) (z ∷ insert x zs) (p, a) (a.0, all-insert P x zs p a.1)
-
-all_of-if : (P : Extent → Type 0) (b : Bool) (x z : Extent) (zs ws : List Extent) → (AllByRecursion P ws → P x × AllByRecursion P zs)
-    → AllByRecursion P (if b then x ∷ z ∷ zs else z ∷ ws) → P x × AllByRecursion P (z ∷ zs)
-all_of-if P true x z zs ws k h = (h.0, h.1)
-all_of-if P false x z zs ws k h = ((k h.1).0, (h.0, (k h.1).1))
-
--- the other way round
+-- what holds of an extent and of each of the others, the other way round
 pub all_of-insert : (P : Extent → Type 0) (x : Extent) (zs : List Extent) → AllByRecursion P (insert x zs) → P x × AllByRecursion P zs
-all_of-insert P x [] h = h
-all_of-insert P x (z ∷ zs) h = all_of-if P (nat_lt x.offset z.offset) x z zs (insert x zs) (all_of-insert P x zs) h
+all_of-insert P x zs h = (AllByRecursion-insert_new P x zs h, AllByRecursion-insert P x zs h)
 
 -- the same of many put in
 pub all_of-inserted : (P : Extent → Type 0) (xs zs : List Extent) → AllByRecursion P (inserted xs zs) → AllByRecursion P xs × AllByRecursion P zs
@@ -90,11 +70,11 @@ all_of-sorted P (x ∷ xs) h =
 -- what holds of each holds of each of the sorted list
 pub all-sorted : (P : Extent → Type 0) (xs : List Extent) → AllByRecursion P xs → AllByRecursion P (sorted xs)
 all-sorted P [] h = tt
-all-sorted P (x ∷ xs) h = all-insert P x (sorted xs) h.0 (all-sorted P xs h.1)
+all-sorted P (x ∷ xs) h = AllByRecursion-insert_from P x (sorted xs) h.0 (all-sorted P xs h.1)
 
 -- ---- rising
 
-rising-weak : (m n : ℕ) (xs : List Extent) → m ≤ n → Rising n xs → Rising m xs
+pub rising-weak : (m n : ℕ) (xs : List Extent) → m ≤ n → Rising n xs → Rising m xs
 rising-weak m n [] f h = h
 rising-weak m n (x ∷ xs) f h = (omega (arith, h.0), h.1)
 
@@ -102,8 +82,9 @@ rising-differs : (x : Extent) (n : ℕ) (zs : List Extent) → x.offset < n → 
 rising-differs x n [] f h = tt
 rising-differs x n (z ∷ zs) f h = ((λ e. omega (arith, h.0)), rising-differs x (z.offset + 1) zs (omega (arith, h.0)) h.1)
 
-hole-order : (a b : ℕ) → IsTrue (is_hole a b) → a ≤ b
-hole-order a b h = grind arith
+-- a hole ends where it begins or later
+pub hole-order : (a b : ℕ) → IsTrue (is_hole a b) → a ≤ b
+hole-order a b h = elim (is_hole-IsHole a b h) [ inl e ↦ omega arith | inr l ↦ omega arith ]
 
 -- extents that are apart rise
 pub proper-rises : (from : ℕ) (xs : List Extent) (to : ℕ) → IsTrue (proper_from from xs to) → Rising from xs
@@ -159,68 +140,15 @@ apart-inserted n (x ∷ xs) ys zs h =
     let below : Differs x (inserted ys zs) = (all_of-inserted (λ (y : Extent). x.offset ≢ y.offset) xs (inserted ys zs) outer.differs).1 in
     ((all_of-inserted (λ (y : Extent). x.offset ≢ y.offset) ys zs below).0, apart-inserted n xs ys zs outer.rest)
 
--- ---- apart
-
--- each begins where the one before ends, or behind, and the first at n or behind
-abbrev pub Spaced : ℕ → List Extent → Type 0
-Spaced n [] = ⊤
-Spaced n (x ∷ xs) = (n ≤ x.offset) × Spaced (end_of x) xs
-
--- extents of a proper live set stand one behind the other
-pub proper-spaced : (from : ℕ) (xs : List Extent) (to : ℕ) → IsTrue (proper_from from xs to) → Spaced from xs
-proper-spaced from [] to h = tt
-proper-spaced from (x ∷ xs) to h =
-    let front : IsTrue (is_hole from x.offset && is_block x) = first (is_hole from x.offset && is_block x) (proper_from (end_of x) xs to) h in (
-      hole-order from x.offset (first (is_hole from x.offset) (is_block x) front),
-      proper-spaced (end_of x) xs to (second (is_hole from x.offset && is_block x) (proper_from (end_of x) xs to) h),
-    )
-
--- the same of a live set
-pub live-spaced : (l : LiveSet) → IsTrue (is_proper l) → Spaced 128 l.extents
-unfolding is_proper
-live-spaced l h = proper-spaced 128 l.extents (l.size - 16) (second (is_legal_size l.size) (proper_from 128 l.extents (l.size - 16)) h)
-
--- the second ends where the first begins, or before, or the other way round
-pub data IsBeside (x y : Extent) : Type 0 where
-  above : end_of y ≤ x.offset → IsBeside x y
-  below : end_of x ≤ y.offset → IsBeside x y
-
-spaced-beside : (x : Extent) (n : ℕ) (zs : List Extent) → end_of x ≤ n → Spaced n zs → AllByRecursion (IsBeside x) zs
-spaced-beside x n [] f h = tt
-spaced-beside x n (z ∷ zs) f h = (below (omega (arith, h.0)), spaced-beside x (end_of z) zs (omega (arith, h.0)) h.1)
-
--- an extent among others has all of them beside it
-pub record IsAlone (n : ℕ) (x : Extent) (zs : List Extent) : Type 0 where
-  pub from : n ≤ x.offset
-  pub beside : AllByRecursion (IsBeside x) zs
-
-alone-if : (n : ℕ) (b : Bool) (x z : Extent) (zs ws : List Extent) → (Spaced (end_of z) ws → IsAlone (end_of z) x zs)
-    → Spaced n (if b then x ∷ z ∷ zs else z ∷ ws) → IsAlone n x (z ∷ zs)
-alone-if n true x z zs ws k h = record { from = h.0; beside = (below h.1.0, spaced-beside x (end_of z) zs (omega (arith, h.1.0)) h.1.1) }
-alone-if n false x z zs ws k h =
-    let rest : IsAlone (end_of z) x zs = k h.1 in
-    record { from = omega (arith, h.0, rest.from); beside = (above rest.from, rest.beside) }
-
--- so an extent among others has them all beside it
-pub spaced-insert : (n : ℕ) (x : Extent) (zs : List Extent) → Spaced n (insert x zs) → IsAlone n x zs
-spaced-insert n x [] h = record { from = h.0; beside = tt }
-spaced-insert n x (z ∷ zs) h = alone-if n (nat_lt x.offset z.offset) x z zs (insert x zs) (spaced-insert (end_of z) x zs) h
-
 -- ---- taking out
 
-others-cons : (h : ℕ) (z : Extent) (zs : List Extent) → handle z ≢ h → others h (z ∷ zs) ≡ z ∷ others h zs
-others-cons h z zs n = ap (λ b. if b then zs else z ∷ others h zs) (ne_eqb (handle z) h n)
-
-others-first : (h : ℕ) (z : Extent) (zs : List Extent) → handle z ≡ h → others h (z ∷ zs) ≡ zs
-others-first h z zs e = ap (λ b. if b then zs else z ∷ others h zs) (eq-eqb (handle z) h e)
-
 others-if : (b : Bool) (x z : Extent) (zs ws : List Extent) → x.offset ≢ z.offset → others (handle x) ws ≡ zs → others (handle x) (if b then x ∷ z ∷ zs else z ∷ ws) ≡ z ∷ zs
-others-if true x z zs ws n e = others-first (handle x) x (z ∷ zs) refl
-others-if false x z zs ws n e = others-cons (handle x) z ws (λ f. n (omega (arith, f))) ∙ ap (λ vs. z ∷ vs) e
+others-if true x z zs ws n e = others-here (handle x) x (z ∷ zs) refl
+others-if false x z zs ws n e = others-past (handle x) z ws (λ f. n (omega (arith, f))) ∙ ap (λ vs. z ∷ vs) e
 
 -- what was put in is what is taken out
 pub others-insert : (x : Extent) (zs : List Extent) → Differs x zs → others (handle x) (insert x zs) ≡ zs
-others-insert x [] n = others-first (handle x) x [] refl
+others-insert x [] n = others-here (handle x) x [] refl
 others-insert x (z ∷ zs) n = others-if (nat_lt x.offset z.offset) x z zs (insert x zs) n.0 (others-insert x zs n.1)
 
 -- without these
@@ -238,7 +166,7 @@ without-inserted n (x ∷ xs) zs h =
 -- an extent that begins nowhere else is added as it is resized to
 pub others-none : (h : ℕ) (zs : List Extent) → AllByRecursion (λ (z : Extent). handle z ≢ h) zs → others h zs ≡ zs
 others-none h [] n = refl
-others-none h (z ∷ zs) n = others-cons h z zs n.0 ∙ ap (λ vs. z ∷ vs) (others-none h zs n.1)
+others-none h (z ∷ zs) n = others-past h z zs n.0 ∙ ap (λ vs. z ∷ vs) (others-none h zs n.1)
 
 differs-handles : (x : Extent) (zs : List Extent) → Differs x zs → AllByRecursion (λ (z : Extent). handle z ≢ handle x) zs
 differs-handles x [] n = tt

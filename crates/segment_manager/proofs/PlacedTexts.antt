@@ -1,26 +1,22 @@
 -- Texts that ask for their blocks one after another get what `place_all` gives.
-use Rattle.std.proofs.Common.{◌≡◌, refl, sym, ap, subst, ◌∙◌, ℕ, Bool, true, false, List, [], ◌∷◌, Option, Some, None, length, ◌==◌}
-use Rattle.std.specs.Prelude.{IsTrue, IfSome, option_map}
+use Rattle.std.proofs.Common.{◌≡◌, refl, sym, ap, ◌∙◌, ℕ, Bool, true, false, List, [], ◌∷◌, Option, Some, None, length, ◌==◌}
+use Rattle.std.specs.Prelude.{IsTrue, option_map}
 use Rattle.std.proofs.lemmas.Bool.{cond-true, cond-false}
 use Rattle.block_tags.specs.declared.tile.Role.{Role}
 use Rattle.block_tags.specs.declared.tile.Role.TheVariants.{Storage}
 use Rattle.best_fit.specs.Extents.{Extent, LiveSet, is_proper}
 use Rattle.best_fit.specs.Fit.{added, place, resized}
 use Rattle.best_fit.specs.Requests.{place_all, all_added}
-use Rattle.best_fit.proofs.Changes.{all_keep_proper}
+use Rattle.best_fit.proofs.Laws.{placed_is_proper}
 use Rattle.seg_vector.specs.Vector.{OwnedText}
 use Rattle.segment_manager.specs.Directory.{Directory}
 use Rattle.segment_manager.specs.Answers.{Answer, Refused}
 use Rattle.seg_types.specs.declared.refusals.Refusal.TheVariants.{NoSpace}
-use Rattle.segment_manager.specs.Step.{Plan, New, Request, perform, with_owned_texts}
+use Rattle.segment_manager.specs.Plan.{Plan, New, Request, perform, with_owned_texts}
 use Rattle.segment_manager.specs.OwnedTexts.{text_needs, owned_texts, with_blocks, TextsArePlaced}
 use Rattle.segment_manager.proofs.Order.{live-rises, rising-insert, resized-fresh}
 
--- a placed extent keeps the live set proper
-placed-proper : (l : LiveSet) (n : ℕ) (role : Role) (x : Extent) → IsTrue (is_proper l) → place l n role ≡ Some x → IsTrue (is_proper (added l x))
-placed-proper l n role x p e = subst (λ o. IfSome o (λ y. IsTrue (is_proper (added l y)))) e ((all_keep_proper l p).place n role)
-
--- and is new in it
+-- a placed extent is new in the live set
 placed-fresh : (l : LiveSet) (x : Extent) → IsTrue (is_proper (added l x)) → resized l x ≡ added l x
 placed-fresh l x p = resized-fresh l x (rising-insert 128 x l.extents (live-rises (added l x) p)).differs
 
@@ -57,7 +53,7 @@ request-placed : (d : Directory) (l : LiveSet) (bs : List ℕ) (bss : List (List
     → requested d l (λ x. with_owned_texts bss (λ ps. next (record { bytes = bs; extent = Some x } ∷ ps))) o ≡ with_blocks d l (bs ∷ bss) next (placed_then l (text_needs bss) o)
 request-placed d l bs bss next None more p e f = refl
 request-placed d l bs bss next (Some x) more p e f =
-    let q = placed-proper l (length bs) Storage x p f in
+    let q = placed_is_proper l (length bs) Storage x p f in
     ap (λ k. perform d k (with_owned_texts bss (λ ps. next (record { bytes = bs; extent = Some x } ∷ ps)))) (placed-fresh l x q)
     ∙ more (added l x) (λ ps. next (record { bytes = bs; extent = Some x } ∷ ps)) q
     ∙ first-block d l x bs bss next (place_all (added l x) (text_needs bss)) e

@@ -8,7 +8,8 @@ use Rattle.best_fit.specs.Fit.{insert, others, added, released, resized}
 use Rattle.best_fit.specs.Heap.{SameBlock, Keeps}
 use Rattle.segment_manager.specs.Directory.{Object, Directory, live, extents_of, remove_object, with_changed, without_object}
 use Rattle.segment_manager.proofs.Words.{AllByRecursion-front}
-use Rattle.segment_manager.proofs.Order.{Differs, Rising, IsFresh, inserted, insert-comm, insert-inserted, all-insert, all_of-insert, all_of-inserted, live-rises, rising-insert, apart-inserted, others-insert}
+use Rattle.best_fit.proofs.Laws.{AllByRecursion-insert_from, insert-comm}
+use Rattle.segment_manager.proofs.Order.{Differs, Rising, IsFresh, inserted, insert-inserted, all_of-insert, all_of-inserted, live-rises, rising-insert, apart-inserted, others-insert}
 use Rattle.segment_manager.proofs.Live.{adding, IsFound, IsIn, live-split, live-changed}
 
 -- ---- one extent among others
@@ -121,7 +122,7 @@ live-moved d o o' xs ys x y p e e' g h =
     let r : Rising 128 (insert y (insert x v)) = live-rises (added (added (with_extents d o' (xs ++ ys)) x) y) (subst (λ l. IsTrue (is_proper (added l y))) q.was g) in
     let f : IsFresh 128 y (insert x v) = rising-insert 128 y (insert x v) r in
     let both : (y.offset ≢ x.offset) × Differs y v = all_of-insert (λ (z : Extent). y.offset ≢ z.offset) x v f.differs in
-    let apart : Differs x (insert y v) = all-insert (λ (z : Extent). x.offset ≢ z.offset) y v (λ s. both.0 (sym s)) q.differs in
+    let apart : Differs x (insert y v) = AllByRecursion-insert_from (λ (z : Extent). x.offset ≢ z.offset) y v (λ s. both.0 (sym s)) q.differs in
     let left : released (added (live d) y) (handle x) ≡ added (with_extents d o' (xs ++ ys)) y =
     ap (λ l. released (added l y) (handle x)) q.was
     ∙ ap (λ zs. of_extents d o' (others (handle x) zs)) (insert-comm y x v both.0)

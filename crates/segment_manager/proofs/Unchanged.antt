@@ -14,7 +14,8 @@ use Rattle.seg_map.specs.Map.{pair_at}
 use Rattle.segment_manager.specs.declared.modes.Mode.{Mode}
 use Rattle.segment_manager.specs.Directory.{Value, Texts, Directory, kind_of, live, object_at}
 use Rattle.segment_manager.specs.Answers.{Answer, Absent, Element, Refused, refusal_of}
-use Rattle.segment_manager.specs.Step.{Plan, Refuse, Reply, effect, element_at, found, found_at, get, is_read_only, items_of, map_of, owned_text_at, perform, plan, step, step_of_kind, with}
+use Rattle.segment_manager.specs.Plan.{Plan, Refuse, Reply, perform, with}
+use Rattle.segment_manager.specs.Step.{effect, element_at, found, found_at, get, is_read_only, items_of, map_of, owned_text_at, plan, step, step_of_kind}
 use Rattle.segment_manager.specs.State.{State, StandsFor, IsStep, LeadsOn, answer_of, refusal_in}
 use Rattle.segment_manager.proofs.Refusals.{step-refused}
 

@@ -1,11 +1,13 @@
 -- What the calls of a segment owe that are no steps of the directory machine.
-use Rattle.std.specs.Prelude.{◌≡◌, ◌<◌, ◌≤◌, ℕ, ◌+◌, ◌-◌, ◌%◌, false, Some, None, Result, Ok, Err, MatchResult, List, length, IsTrue}
+use Rattle.std.specs.Prelude.{◌≡◌, ◌<◌, ◌≤◌, ℕ, ◌+◌, ◌-◌, ◌%◌, false, Some, None, Result, Ok, Err, MatchResult, Option, option_map, slice_get, List, length, IsTrue}
 use Rattle.std.specs.List.{AllByRecursion}
 use Rattle.raw_region.specs.Format.{current}
 use Rattle.raw_region.specs.Memory.{AreZero, SamePlace, bytes_of, cut_at, word_at}
+use Rattle.block_tags.specs.declared.tile.Tile.{Tile}
 use Rattle.block_tags.specs.Format.{is_legal_size}
-use Rattle.best_fit.specs.Extents.{Gap, Span as LiveSpan, gaps}
-use Rattle.best_fit.specs.FreeTree.{gap_front}
+use Rattle.block_tags.specs.Tiles.{tiles_of}
+use Rattle.best_fit.specs.Extents.{Gap, Span as LiveSpan, gaps, spans}
+use Rattle.best_fit.specs.FreeTree.{gap_front, span as span_of}
 use Rattle.seg_types.specs.declared.kinds.Kind.{Kind}
 use Rattle.seg_types.specs.declared.refusals.Refusal.{Refusal}
 use Rattle.seg_types.specs.declared.refusals.Refusal.TheVariants.{NotFound}
@@ -15,8 +17,9 @@ use Rattle.segment_manager.specs.declared.errors.CreateError.{CreateError}
 use Rattle.segment_manager.specs.declared.errors.CreateError.TheVariants.{BadSize, RegionTooSmall}
 use Rattle.segment_manager.specs.declared.errors.CreateRefused.{CreateRefused}
 use Rattle.segment_manager.specs.declared.tiles.Span.{Span}
+use Rattle.segment_manager.specs.Layout.{header_len}
 use Rattle.segment_manager.specs.Directory.{Directory, empty, kind_of, live, object_at}
-use Rattle.segment_manager.specs.State.{State, StandsFor}
+use Rattle.segment_manager.specs.State.{Answers, State, StandsFor}
 
 -- a segment with nothing in it, in the window of the size at the base; its bytes are 0 but for the header's front, which
 -- says the size, the free tree and two indexes without a place, the tags, and the links of the one gap
@@ -27,8 +30,8 @@ pub record IsCreated (region : List ℕ) (base size : ℕ) (how : Mode) (s : Sta
   pub place : SamePlace (cut_at region base size) s.cut
   pub stands : StandsFor s.cut.bytes (empty size)
   -- the words in front of its gap's free bytes are null links
-  pub links : (at : ℕ) → at % 8 ≡ 0 → 144 ≤ at → at < 128 + gap_front current → at < size - 16 → word_at (bytes_of s.cut.bytes) at ≡ 1
-  pub zeros : AreZero (bytes_of s.cut.bytes) (128 + gap_front current) (size - 16)
+  pub links : (at : ℕ) → at % 8 ≡ 0 → 144 ≤ at → at < header_len + gap_front current → at < size - 16 → word_at (bytes_of s.cut.bytes) at ≡ 1
+  pub zeros : AreZero (bytes_of s.cut.bytes) (header_len + gap_front current) (size - 16)
 
 -- why no segment of the size is created
 abbrev pub IsWhy : List ℕ → ℕ → ℕ → CreateError → Type 0
@@ -50,6 +53,11 @@ kind_at d key = elim (object_at d key) [ None ↦ Err NotFound | Some o ↦ Ok (
 -- an extent or a gap, as a call answers it
 abbrev pub as_span : Span → LiveSpan
 as_span s = record { offset = s.offset; len = s.len; use_of = s.use_of }
+
+-- what stands at an index among the tiles of a segment, where as many stand: a block or gap of the directory
+pub record IsTileOfIndex (s : State) (index : ℕ) (result : Option Tile) : Type 0 where
+  pub tile : result ≡ slice_get (tiles_of (bytes_of s.cut.bytes) (length s.cut.bytes)) index
+  pub span : Answers s (λ d. slice_get (spans (live d)) index) (option_map span_of result)
 
 -- the free bytes of all gaps are 0
 pub record HasZeroGaps (s : State) : Type 0 where

@@ -8,6 +8,7 @@ use Rattle.seg_types.specs.Kinds.{class_code, code_of}
 use Rattle.seg_vector.specs.Vector.{IsVectorAt, IsTextAt, IsTextsAt, spelled}
 use Rattle.seg_map.specs.Numbers.{IsNumberMapAt}
 use Rattle.seg_index.specs.Index.{IsIndexAt}
+use Rattle.segment_manager.specs.Layout.{magic_at, format_at, size_at, named_at, unique_at, reserved_at, header_len, name_class_at, head_len}
 use Rattle.segment_manager.specs.Directory.{Value, Numbers, Elements, Bytes, Pairs, Texts, Object, Directory, IsDirectory, live, kind_of, count_of, padded, named_objects, unique_objects}
 
 -- `MSEGFILE`
@@ -32,25 +33,25 @@ two_halves low high = low + 4294967296 * high
 
 pub record IsObjectAt (m : Memory) (o : Object) : Type 0 where
   pub kind_count : word_at m (handle o.extent) ≡ two_halves (code_of (kind_of o.value)) (count_of o.value)
-  pub name_class : word_at m (handle o.extent + 8) ≡ two_halves (length o.name) (class_code o.class)
-  pub name : Has m (handle o.extent + 16) (padded_name o.name)
-  pub value : IsValueAt m (handle o.extent + 16 + padded (length o.name)) o.value
+  pub name_class : word_at m (handle o.extent + name_class_at) ≡ two_halves (length o.name) (class_code o.class)
+  pub name : Has m (handle o.extent + head_len) (padded_name o.name)
+  pub value : IsValueAt m (handle o.extent + head_len + padded (length o.name)) o.value
 
 abbrev pub handles : List Object → List ℕ
 handles = map (λ (o : Object). handle o.extent)
 
 -- the fields in front of the blocks
 pub record IsHeader (format : ℕ) (m : Memory) (size : ℕ) : Type 0 where
-  pub magic : word_at m 0 ≡ magic_number
-  pub version : word_at m 8 ≡ format
-  pub size_word : word_at m 16 ≡ size
-  pub zeros : AreZero m 80 128
+  pub magic : word_at m magic_at ≡ magic_number
+  pub version : word_at m format_at ≡ format
+  pub size_word : word_at m size_at ≡ size
+  pub zeros : AreZero m reserved_at header_len
 
 -- The bytes stand for the directory, by a format. What is not spoken of here may be anything.
 pub record Denotes (format : ℕ) (b : List ℕ) (d : Directory) : Type 0 where
   pub directory : IsDirectory format d
   pub header : IsHeader format (bytes_of b) d.size
   pub heap : LaysOut format b (live d)
-  pub named : IsIndexAt (bytes_of b) 32 d.named (handles (named_objects d))
-  pub unique : IsIndexAt (bytes_of b) 56 d.unique (handles (unique_objects d))
+  pub named : IsIndexAt (bytes_of b) named_at d.named (handles (named_objects d))
+  pub unique : IsIndexAt (bytes_of b) unique_at d.unique (handles (unique_objects d))
   pub objects : AllByRecursion (IsObjectAt (bytes_of b)) d.objects

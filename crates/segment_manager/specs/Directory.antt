@@ -17,6 +17,7 @@ use Rattle.seg_types.specs.Names.{Key, ByName, ByKind, ByHandle, NoKey, is_name}
 use Rattle.seg_vector.specs.Vector.{OwnedText, is_vector}
 use Rattle.seg_map.specs.Map.{is_rising}
 use Rattle.seg_map.specs.Numbers.{NumberPair, is_number_pair}
+use Rattle.segment_manager.specs.Layout.{head_len}
 
 -- numbers of one kind; a vector; a text; a map, by rising keys; a vector of texts
 pub data Value : Type 0 where
@@ -71,7 +72,7 @@ padded n = (n + 7) / 8 * 8
 
 -- the payload of an object, up to the end of its value
 abbrev pub object_len : List ℕ → Value → ℕ
-object_len name value = 16 + padded (length name) + value_len value
+object_len name value = head_len + padded (length name) + value_len value
 
 -- ---- the extents that a directory uses
 

@@ -1,7 +1,9 @@
+pub mod Layout
 pub mod Directory
 pub mod Entries
-pub mod Landed
+pub mod Supported
 pub mod Answers
+pub mod Plan
 pub mod Step
 pub mod Denotes
 pub mod State

@@ -8,7 +8,7 @@ use Rattle.seg_types.specs.declared.refusals.Refusal.TheVariants.{NoSpace}
 use Rattle.seg_vector.specs.Vector.{OwnedText}
 use Rattle.segment_manager.specs.Directory.{Directory}
 use Rattle.segment_manager.specs.Answers.{Answer, Refused}
-use Rattle.segment_manager.specs.Step.{Plan, perform, with_owned_texts}
+use Rattle.segment_manager.specs.Plan.{Plan, perform, with_owned_texts}
 
 -- one for each text that is not empty
 abbrev pub text_needs : List (List ℕ) → List (ℕ × Role)

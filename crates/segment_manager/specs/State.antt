@@ -1,5 +1,5 @@
 -- What contracts see of a segment: its bytes, which denote one directory, how it is open, and where it lies.
-use Rattle.std.specs.Prelude.{◌≡◌, ℕ, ℤ, Bool, true, List, Option, Some, None, Result, Ok, Err}
+use Rattle.std.specs.Prelude.{◌≡◌, ℕ, ℤ, Bool, true, List, Option, Some, None, Result, Ok, Err, IsTrue}
 use Rattle.raw_region.specs.Memory.{Cut, SamePlace}
 use Rattle.raw_region.specs.Format.{current}
 use Rattle.seg_types.specs.declared.kinds.ScalarKind.{ScalarKind}
@@ -9,7 +9,7 @@ use Rattle.seg_types.specs.Names.{Key}
 use Rattle.seg_types.specs.Commands.{Command}
 use Rattle.segment_manager.specs.declared.modes.Mode.{Mode}
 use Rattle.segment_manager.specs.Directory.{Directory}
-use Rattle.segment_manager.specs.Landed.{IsLanded}
+use Rattle.segment_manager.specs.Supported.{is_supported}
 use Rattle.segment_manager.specs.Answers.{Answer, Made, Truth, Element, Refused, Done, refusal_of}
 use Rattle.segment_manager.specs.Step.{step, step_of_kind}
 use Rattle.segment_manager.specs.Denotes.{Denotes}
@@ -21,7 +21,7 @@ pub record State : Type 0 where
 -- the bytes denote the directory, which is made of what has come so far
 pub record StandsFor (b : List ℕ) (d : Directory) : Type 0 where
   pub denotes : Denotes current b d
-  pub landed : IsLanded d
+  pub supported : IsTrue (is_supported d)
 
 abbrev pub IsSegment : List ℕ → Type 0
 IsSegment b = (d : Directory) × StandsFor b d

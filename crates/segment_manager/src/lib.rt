@@ -6,10 +6,11 @@
 
 mod creating;
 mod errors;
-pub mod laws;
+pub mod layout;
 mod modes;
 mod scalars;
 mod segment;
+pub mod theorems;
 mod tiles;
 
 pub use errors::{CreateError, CreateRefused};

@@ -12,30 +12,18 @@ ghost use Rattle.seg_types.specs.Commands.{Construct, DestroyPtr, Get, Numbers};
 ghost use Rattle.segment_manager.specs.Calls.{kind_at};
 ghost use Rattle.segment_manager.specs.Denotes.{IsValueAt, two_halves};
 ghost use Rattle.segment_manager.specs.Directory.{Numbers as NumbersValue};
+ghost use Rattle.segment_manager.specs.Layout.{head_len, name_class_at};
 ghost use Rattle.segment_manager.specs.State.{Answers, IsReplyOfKind, IsStep, element_answer, gone_answer, handle_answer};
 
+use crate::layout::{ANONYMOUS, HEAD_LEN, NAME_CLASS_AT, ONE_I64};
 use crate::segment::Segment;
-use best_fit::laws::bytes_lay_out_one;
 use best_fit::{Heap, NoSpace};
 use block_tags::Role;
 use raw_region::Steps;
-use seg_types::laws::values_spell_one;
 use seg_types::{Kind, Refusal, ScalarKind};
 
-/// The bytes of an anonymous number's payload: the two words of its head, and its value.
-const NUMBER_LEN: u64 = 24;
-
-/// The first word of its head: the code of `i64`, and the count 1 in the upper half.
-const ONE_I64: u64 = 0x1_0000_0004;
-
-/// Where the second word of a head stands.
-const NAME: u64 = 8;
-
-/// The second word of an anonymous object's head: no name, and its class in the upper half.
-const ANONYMOUS: u64 = 0;
-
-/// Where the value of an anonymous object stands.
-const VALUE: u64 = 16;
+/// The length of an anonymous number's payload: its head and its value.
+const NUMBER_LEN: u64 = HEAD_LEN + 8;
 
 /// How many numbers an object has, as all that have come.
 const COUNT: u64 = 1;
@@ -50,7 +38,6 @@ impl Segment {
         ensures step { IsStep self.old self.new (Construct NoKey (Numbers I64 (value ∷ []))) (handle_answer result) }
         ensures refused { OnErr result (self.new ≡ self.old) }
     {
-        bytes_lay_out_one();
         if self.is_read_only() {
             return Err(Refusal::ReadOnly);
         }
@@ -75,7 +62,6 @@ impl Segment {
         ensures step { IsStep self.old self.new (DestroyPtr handle) (gone_answer result) }
         ensures refused { OnErr result (self.new ≡ self.old) }
     {
-        bytes_lay_out_one();
         if self.is_read_only() {
             Err(Refusal::ReadOnly)
         } else if self.heap.is_live(handle) {
@@ -94,7 +80,6 @@ impl Segment {
     pub fn kind_of(&self, handle: u64) -> Result<Kind, Refusal>
         ensures { Answers self.now (λ d. kind_at d (ByHandle handle)) result }
     {
-        bytes_lay_out_one();
         if self.heap.is_live(handle) {
             // all objects that have come are `i64` numbers
             Ok(Kind::Scalar(ScalarKind::I64))
@@ -112,15 +97,13 @@ impl Segment {
     pub fn get(&self, handle: u64, index: u64) -> Result<i64, Refusal>
         ensures { IsReplyOfKind self.now (ByHandle handle) (Scalar I64) (Get (ByHandle handle) index) (element_answer I64 result) }
     {
-        bytes_lay_out_one();
-        values_spell_one();
         if !self.heap.is_live(handle) {
             return Err(Refusal::NotFound);
         }
         if index >= COUNT {
             return Err(Refusal::OutOfRange);
         }
-        Ok(self.heap.word(handle, VALUE).cast_signed())
+        Ok(self.heap.word(handle, HEAD_LEN).cast_signed())
     }
 }
 
@@ -129,11 +112,10 @@ fn write_number(heap: &mut Heap, handle: u64, value: i64)
     requires { IsTrue (has_room (live_of heap.old.bytes) handle 24) }
     ensures change { IsChanged current heap.old heap.new handle 24 }
     ensures kind_count { word_at (bytes_of heap.new.bytes) handle ≡ two_halves (code_of (Scalar I64)) 1 }
-    ensures name_class { word_at (bytes_of heap.new.bytes) (handle + 8) ≡ two_halves 0 (class_code Anonymous) }
-    ensures value { IsValueAt (bytes_of heap.new.bytes) (handle + 16) (NumbersValue I64 (value ∷ [])) }
+    ensures name_class { word_at (bytes_of heap.new.bytes) (handle + name_class_at) ≡ two_halves 0 (class_code Anonymous) }
+    ensures value { IsValueAt (bytes_of heap.new.bytes) (handle + head_len) (NumbersValue I64 (value ∷ [])) }
 {
-    bytes_lay_out_one();
     heap.set_word(handle, 0, ONE_I64);
-    heap.set_word(handle, NAME, ANONYMOUS);
-    heap.write(handle, VALUE, &value.to_le_bytes());
+    heap.set_word(handle, NAME_CLASS_AT, ANONYMOUS);
+    heap.write(handle, HEAD_LEN, &value.to_le_bytes());
 }

@@ -6,14 +6,11 @@ ghost use Rattle.segment_manager.specs.Answers.{Number};
 ghost use Rattle.segment_manager.specs.State.{IsReply, IsSegment};
 ghost use Rattle.segment_manager.specs.Step.{is_read_only};
 
+use crate::layout::SIZE_AT;
 use crate::modes::Mode;
 use best_fit::Heap;
-use best_fit::laws::bytes_lay_out_one;
 use raw_region::Window;
 use std::marker::Model;
-
-/// Where the header says the size.
-const SIZE_WORD: u64 = 16;
 
 /// Typed objects under names in one run of bytes, with how it is open.
 ///
@@ -42,7 +39,6 @@ impl Segment {
         ensures cut { result.cut ≡ window }
         ensures mode { result.mode ≡ mode }
     {
-        bytes_lay_out_one();
         Segment {
             heap: Heap::adopt(window),
             mode,
@@ -68,14 +64,13 @@ impl Segment {
     pub fn size(&self) -> u64
         ensures { IsReply self.now Size (Number result) }
     {
-        self.heap.header_word(SIZE_WORD)
+        self.heap.header_word(SIZE_AT)
     }
 
     /// The bytes of all gaps, their tags included.
     pub fn free(&self) -> u64
         ensures { IsReply self.now Free (Number result) }
     {
-        bytes_lay_out_one();
         self.heap.free_bytes()
     }
 

@@ -1,15 +1,18 @@
 //! The blocks and gaps of a segment.
-ghost use Rattle.std.specs.Prelude.{◌≡◌, OnErr, OnOk, option_map, slice_get};
+ghost use Rattle.std.specs.Prelude.{◌≡◌, ◌+◌, ℕ, Some, OnErr, OnOk, length, option_map, slice_get};
+ghost use Rattle.raw_region.specs.Memory.{bytes_of};
+ghost use Rattle.block_tags.specs.Tiles.{tiles_of};
 ghost use Rattle.best_fit.specs.Extents.{spans};
+ghost use Rattle.best_fit.specs.FreeTree.{span};
+ghost use Rattle.best_fit.specs.Heap.{IsTileOf};
 ghost use Rattle.seg_types.specs.Commands.{AllDeallocated, Sanity, ZeroFree};
 ghost use Rattle.segment_manager.specs.Answers.{Truth};
-ghost use Rattle.segment_manager.specs.Calls.{HasZeroGaps, as_span};
+ghost use Rattle.segment_manager.specs.Calls.{HasZeroGaps, IsTileOfIndex, as_span};
 ghost use Rattle.segment_manager.specs.Directory.{live};
 ghost use Rattle.segment_manager.specs.State.{Answers, IsReply, IsStep, done_answer};
 
 use crate::segment::Segment;
-use best_fit::laws::bytes_lay_out_one;
-use block_tags::Role;
+use block_tags::{Role, Tile};
 use seg_types::Refusal;
 
 /// A block in use or a gap.
@@ -23,18 +26,44 @@ pub struct Span {
     pub use_of: Option<Role>,
 }
 
-impl Segment {
-    /// The block or gap with `index` others before it, or nothing where there are no more.
-    pub fn tile(&self, index: u64) -> Option<Span>
-        ensures { Answers self.now (λ d. slice_get (spans (live d)) index) (option_map as_span result) }
+impl Span {
+    /// The block or gap of a tile.
+    pub fn of(tile: Tile) -> Span
+        ensures { as_span result ≡ span tile }
     {
-        bytes_lay_out_one();
-        let tile = self.heap.tile(index)?;
-        Some(Span {
+        Span {
             offset: tile.offset,
             len: tile.len,
             use_of: tile.use_of,
-        })
+        }
+    }
+}
+
+impl Segment {
+    /// The first block or gap, or nothing where there is none, as in a segment of 144 bytes.
+    pub fn first_tile(&self) -> Option<Tile>
+        ensures { IsTileOfIndex self.now 0 result }
+    {
+        self.heap.first_tile()
+    }
+
+    /// The block or gap behind one of the segment's, or nothing where that is the last. A walk over all of them takes one
+    /// step for each.
+    pub fn next_tile(&self, tile: Tile) -> Option<Tile>
+        requires { IsTileOf self.now.cut.bytes tile }
+        ensures { (i : ℕ) → slice_get (tiles_of (bytes_of self.now.cut.bytes) (length self.now.cut.bytes)) i ≡ Some tile
+            → IsTileOfIndex self.now (i + 1) result }
+    {
+        self.heap.next_tile(tile)
+    }
+
+    /// The block or gap with `index` others before it, or nothing where there are no more. It is looked for from the first
+    /// one on.
+    pub fn tile(&self, index: u64) -> Option<Span>
+        ensures { Answers self.now (λ d. slice_get (spans (live d)) index) (option_map as_span result) }
+    {
+        let tile = self.heap.tile(index)?;
+        Some(Span::of(tile))
     }
 
     /// Whether the segment is whole, as each segment is.
@@ -48,7 +77,6 @@ impl Segment {
     pub fn all_deallocated(&self) -> bool
         ensures { IsReply self.now AllDeallocated (Truth result) }
     {
-        bytes_lay_out_one();
         self.heap.live_count() == 0
     }
 
@@ -62,7 +90,6 @@ impl Segment {
         ensures zeros { OnOk result (HasZeroGaps self.new) }
         ensures refused { OnErr result (self.new ≡ self.old) }
     {
-        bytes_lay_out_one();
         if self.is_read_only() {
             return Err(Refusal::ReadOnly);
         }

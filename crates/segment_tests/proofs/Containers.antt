@@ -1,14 +1,14 @@
 -- Vectors and maps of a caller's own types, computed.
-use Rattle.std.proofs.Common.{◌≡◌, refl, ℕ, List, [], ◌∷◌, ◌++◌, Some, Bool, true, false}
+use Rattle.std.proofs.Common.{◌≡◌, refl, ℕ, List, [], ◌∷◌, ◌++◌, Bool, true, false}
 use Rattle.std.specs.Cmp.Lexicographic.{slice_cmp}
 use Rattle.std.specs.Ordering.{nat_cmp, is_lt}
 use Rattle.raw_region.specs.Memory.{Memory, bytes_of, word_at, word_bytes}
-use Rattle.link_tree.specs.Tree.{leaf, fork}
 use Rattle.block_tags.specs.declared.tile.Role.TheVariants.{Storage, Node}
 use Rattle.best_fit.specs.Table.{Table}
 use Rattle.seg_vector.specs.Vector.{IsVectorOf, is_vector}
 use Rattle.seg_map.specs.Map.{Pair, IsMapAt, put_pair, remove_pair, is_rising, is_pair}
-use Rattle.segment_tests.proofs.Images.{words, extent}
+use Rattle.segment_tests.proofs.Images.{words, extent, table}
+use Rattle.segment_tests.proofs.OneGap.{one_node}
 
 -- ---- points, each spelled by two bytes
 
@@ -26,7 +26,7 @@ abbrev points_memory : Memory
 points_memory = bytes_of (words (40 ∷ 2 ∷ 3 ∷ 0 ∷ 32 ∷ []) ++ 1 ∷ 2 ∷ 3 ∷ 4 ∷ [])
 
 abbrev three : Table
-three = record { capacity = 3; extent = Some (extent 24 32 Storage) }
+three = table 3 (extent 24 32 Storage)
 
 points : IsVectorOf point_bytes points_memory 0 ((1, 2) ∷ (3, 4) ∷ []) three
 unfolding word_at word_bytes
@@ -53,12 +53,7 @@ unfolding word_at word_bytes
 one_pair = record {
   count = refl;
   third = refl;
-  tree = record {
-    tree = fork false leaf 40 leaf;
-    linked = record { root = refl; holds = (refl, tt, tt) };
-    red_black = record { root = refl; no_red_pair = refl; black = (1, refl) };
-    lists = refl;
-  };
+  tree = one_node _ _ 40 refl refl;
   pairs = ((refl, refl), tt);
 }
 

@@ -9,7 +9,7 @@ use Rattle.seg_types.specs.declared.kinds.Class.TheVariants.{Anonymous}
 use Rattle.seg_vector.specs.Vector.{IsVectorAt, IsTextAt, IsTextsAt}
 use Rattle.seg_index.specs.Index.{IsIndexAt}
 use Rattle.segment_manager.specs.Directory.{Object as SomeObject, Texts, has_own_block, is_object}
-use Rattle.segment_tests.proofs.Images.{words, extent}
+use Rattle.segment_tests.proofs.Images.{words, extent, table}
 
 -- ---- a vector of one text of one byte, in a block of its own
 
@@ -17,7 +17,7 @@ abbrev one_text : ℕ → SomeObject
 one_text byte = record {
   class = Anonymous;
   name = [];
-  value = Texts (record { bytes = byte ∷ []; extent = Some (extent 224 32 Storage) } ∷ []) (record { capacity = 1; extent = Some (extent 192 32 Storage) });
+  value = Texts (record { bytes = byte ∷ []; extent = Some (extent 224 32 Storage) } ∷ []) (table 1 (extent 192 32 Storage));
   extent = extent 128 64 Object;
 }
 
@@ -62,7 +62,7 @@ no_text m h = not_empty 5 [] h.storage
 no_array : (m : Memory) → IsTextsAt m 0 (record { bytes = []; extent = None } ∷ []) no_table → ⊥
 no_array m h = not_empty _ [] h.array
 
-no_bytes : (m : Memory) → IsTextsAt m 0 (record { bytes = 5 ∷ []; extent = None } ∷ []) (record { capacity = 1; extent = Some (extent 192 32 Storage) }) → ⊥
+no_bytes : (m : Memory) → IsTextsAt m 0 (record { bytes = 5 ∷ []; extent = None } ∷ []) (table 1 (extent 192 32 Storage)) → ⊥
 no_bytes m h = not_empty 5 [] h.texts.0
 
 no_entry : (m : Memory) → IsIndexAt m 32 no_table (144 ∷ []) → ⊥

@@ -1,139 +1,103 @@
 -- Images that denote a directory have no class, and images that do not have the first that holds.
-use Rattle.std.proofs.Common.{◌≡◌, refl, ℕ, List, [], ◌∷◌, ◌++◌, Some, None, take}
+use Rattle.std.proofs.Common.{◌≡◌, refl, ℕ, List, [], ◌∷◌, ◌++◌, map, Option, Some, None, take}
 use Rattle.raw_region.specs.Memory.{patched, word_bytes, half_word_bytes, word_at, half_word_at, zeros}
 use Rattle.seg_types.specs.Names.{is_text_name}
+use Rattle.image_check.specs.declared.classes.ImageClass.{ImageClass}
 use Rattle.image_check.specs.declared.classes.ImageClass.TheVariants.{Truncated, BadMagic, UnsupportedVersion, BadSize, BadReserved, BadTag, BadFreeTree, BadIndex, BadObject, SharedBlock, BadContainer, OrphanBlock}
 use Rattle.image_check.specs.Classes.{class_of}
 use Rattle.segment_tests.proofs.Images.{words, magic_word, fresh_image, named_image, two_names_image, vectors_image, pair_image, map_image}
 
--- ---- images of directories
+-- each image has the class that stands beside it
+abbrev AreOf : ℕ → List (List ℕ × Option ImageClass) → Type 0
+AreOf format rows = map (λ row. class_of format row.0) rows ≡ map (λ row. row.1) rows
 
-fresh : class_of 1 (fresh_image) ≡ None
+-- ---- format 1
+
+-- images of directories
+directories : AreOf 1 (
+    (fresh_image, None)
+    ∷ (named_image, None)
+    ∷ (two_names_image, None)
+    ∷ (vectors_image, None)
+    ∷ (pair_image, None)
+    ∷ (map_image, None)
+    ∷ []
+    )
 unfolding word_at half_word_at word_bytes half_word_bytes zeros is_text_name
-fresh = refl
+directories = refl
 
-named : class_of 1 (named_image) ≡ None
+-- images that end too early
+cut : AreOf 1 (
+    (take 143 fresh_image, Some Truncated)
+    ∷ (take 1000 named_image, Some Truncated)
+    ∷ []
+    )
 unfolding word_at half_word_at word_bytes half_word_bytes zeros is_text_name
-named = refl
+cut = refl
 
-two_names : class_of 1 (two_names_image) ≡ None
+-- a wrong magic, another version, a byte more, an illegal size, a reserved byte
+headers : AreOf 1 (
+    (patched fresh_image 0 (0 ∷ []), Some BadMagic)
+    ∷ (patched fresh_image 8 (half_word_bytes 9), Some UnsupportedVersion)
+    ∷ (fresh_image ++ 0 ∷ [], Some BadSize)
+    ∷ (patched fresh_image 16 (word_bytes 160), Some BadSize)
+    ∷ (patched fresh_image 80 (1 ∷ []), Some BadReserved)
+    ∷ []
+    )
 unfolding word_at half_word_at word_bytes half_word_bytes zeros is_text_name
-two_names = refl
+headers = refl
 
-vectors : class_of 1 (vectors_image) ≡ None
+-- no end tag, a root that is its own link, a left link to its own node
+blocks : AreOf 1 (
+    (patched fresh_image 168 (word_bytes 0), Some BadTag)
+    ∷ (patched fresh_image 24 (word_bytes 0), Some BadFreeTree)
+    ∷ (patched fresh_image 144 (word_bytes 0), Some BadFreeTree)
+    ∷ []
+    )
 unfolding word_at half_word_at word_bytes half_word_bytes zeros is_text_name
-vectors = refl
+blocks = refl
 
-pair : class_of 1 (pair_image) ≡ None
+-- two entries with one target, an unknown kind
+objects : AreOf 1 (
+    (patched two_names_image 152 (word_bytes 40), Some BadIndex)
+    ∷ (patched named_image 192 (half_word_bytes 99), Some BadObject)
+    ∷ []
+    )
 unfolding word_at half_word_at word_bytes half_word_bytes zeros is_text_name
-pair = refl
+objects = refl
 
-map : class_of 1 (map_image) ≡ None
+-- two vectors with one block, a length above the capacity, a block of nothing
+containers : AreOf 1 (
+    (patched vectors_image 312 (word_bytes 18446744073709551560), Some SharedBlock)
+    ∷ (patched vectors_image 224 (word_bytes 2), Some BadContainer)
+    ∷ (patched vectors_image 216 (words (1 ∷ 0 ∷ 0 ∷ [])), Some OrphanBlock)
+    ∷ []
+    )
 unfolding word_at half_word_at word_bytes half_word_bytes zeros is_text_name
-map = refl
+containers = refl
 
--- ---- one change in each
-
--- 143 bytes
-fresh_cut : class_of 1 (take 143 fresh_image) ≡ Some Truncated
+-- a left link of a pair to its own node, one to an object, a wrong count
+maps : AreOf 1 (
+    (patched pair_image 256 (word_bytes 0), Some SharedBlock)
+    ∷ (patched pair_image 256 (word_bytes 18446744073709551552), Some BadContainer)
+    ∷ (patched pair_image 224 (word_bytes 2), Some BadContainer)
+    ∷ []
+    )
 unfolding word_at half_word_at word_bytes half_word_bytes zeros is_text_name
-fresh_cut = refl
+maps = refl
 
-named_cut : class_of 1 (take 1000 named_image) ≡ Some Truncated
+-- two changes, of which the class that is looked at first is the answer: magic before tags, length before reserved bytes,
+-- index before object, object before a block of nothing, object before a cycle
+two_changes : AreOf 1 (
+    (patched (patched fresh_image 0 (0 ∷ [])) 168 (word_bytes 0), Some BadMagic)
+    ∷ (take 1000 (patched named_image 80 (1 ∷ [])), Some Truncated)
+    ∷ (patched (patched two_names_image 152 (word_bytes 40)) 192 (half_word_bytes 99), Some BadIndex)
+    ∷ (patched (patched vectors_image 192 (half_word_bytes 99)) 216 (words (1 ∷ 0 ∷ 0 ∷ [])), Some BadObject)
+    ∷ (patched (patched pair_image 256 (word_bytes 0)) 209 (1 ∷ []), Some BadObject)
+    ∷ []
+    )
 unfolding word_at half_word_at word_bytes half_word_bytes zeros is_text_name
-named_cut = refl
-
-wrong_magic : class_of 1 (patched fresh_image 0 (0 ∷ [])) ≡ Some BadMagic
-unfolding word_at half_word_at word_bytes half_word_bytes zeros is_text_name
-wrong_magic = refl
-
-other_version : class_of 1 (patched fresh_image 8 (half_word_bytes 9)) ≡ Some UnsupportedVersion
-unfolding word_at half_word_at word_bytes half_word_bytes zeros is_text_name
-other_version = refl
-
-byte_more : class_of 1 (fresh_image ++ 0 ∷ []) ≡ Some BadSize
-unfolding word_at half_word_at word_bytes half_word_bytes zeros is_text_name
-byte_more = refl
-
-illegal_size : class_of 1 (patched fresh_image 16 (word_bytes 160)) ≡ Some BadSize
-unfolding word_at half_word_at word_bytes half_word_bytes zeros is_text_name
-illegal_size = refl
-
-reserved_byte : class_of 1 (patched fresh_image 80 (1 ∷ [])) ≡ Some BadReserved
-unfolding word_at half_word_at word_bytes half_word_bytes zeros is_text_name
-reserved_byte = refl
-
-no_end_tag : class_of 1 (patched fresh_image 168 (word_bytes 0)) ≡ Some BadTag
-unfolding word_at half_word_at word_bytes half_word_bytes zeros is_text_name
-no_end_tag = refl
-
--- a link to itself
-root_at_itself : class_of 1 (patched fresh_image 24 (word_bytes 0)) ≡ Some BadFreeTree
-unfolding word_at half_word_at word_bytes half_word_bytes zeros is_text_name
-root_at_itself = refl
-
--- two entries with one target
-one_target_twice : class_of 1 (patched two_names_image 152 (word_bytes 40)) ≡ Some BadIndex
-unfolding word_at half_word_at word_bytes half_word_bytes zeros is_text_name
-one_target_twice = refl
-
-unknown_kind : class_of 1 (patched named_image 192 (half_word_bytes 99)) ≡ Some BadObject
-unfolding word_at half_word_at word_bytes half_word_bytes zeros is_text_name
-unknown_kind = refl
-
--- two vectors with one block
-one_storage_twice : class_of 1 (patched vectors_image 312 (word_bytes 18446744073709551560)) ≡ Some SharedBlock
-unfolding word_at half_word_at word_bytes half_word_bytes zeros is_text_name
-one_storage_twice = refl
-
-longer_than_capacity : class_of 1 (patched vectors_image 224 (word_bytes 2)) ≡ Some BadContainer
-unfolding word_at half_word_at word_bytes half_word_bytes zeros is_text_name
-longer_than_capacity = refl
-
-storage_of_nothing : class_of 1 (patched vectors_image 216 (words (1 ∷ 0 ∷ 0 ∷ []))) ≡ Some OrphanBlock
-unfolding word_at half_word_at word_bytes half_word_bytes zeros is_text_name
-storage_of_nothing = refl
-
--- ---- two changes, of which the class that is looked at first is the answer
-
-magic_before_tags : class_of 1 (patched (patched fresh_image 0 (0 ∷ [])) 168 (word_bytes 0)) ≡ Some BadMagic
-unfolding word_at half_word_at word_bytes half_word_bytes zeros is_text_name
-magic_before_tags = refl
-
-cut_before_reserved : class_of 1 (take 1000 (patched named_image 80 (1 ∷ []))) ≡ Some Truncated
-unfolding word_at half_word_at word_bytes half_word_bytes zeros is_text_name
-cut_before_reserved = refl
-
--- a left link to its own node
-free_cycle : class_of 1 (patched fresh_image 144 (word_bytes 0)) ≡ Some BadFreeTree
-unfolding word_at half_word_at word_bytes half_word_bytes zeros is_text_name
-free_cycle = refl
-
-index_before_object : class_of 1 (patched (patched two_names_image 152 (word_bytes 40)) 192 (half_word_bytes 99)) ≡ Some BadIndex
-unfolding word_at half_word_at word_bytes half_word_bytes zeros is_text_name
-index_before_object = refl
-
-object_before_orphan : class_of 1 (patched (patched vectors_image 192 (half_word_bytes 99)) 216 (words (1 ∷ 0 ∷ 0 ∷ []))) ≡ Some BadObject
-unfolding word_at half_word_at word_bytes half_word_bytes zeros is_text_name
-object_before_orphan = refl
-
--- a left link of a pair to its own node
-pair_cycle : class_of 1 (patched pair_image 256 (word_bytes 0)) ≡ Some SharedBlock
-unfolding word_at half_word_at word_bytes half_word_bytes zeros is_text_name
-pair_cycle = refl
-
-object_before_cycle : class_of 1 (patched (patched pair_image 256 (word_bytes 0)) 209 (1 ∷ [])) ≡ Some BadObject
-unfolding word_at half_word_at word_bytes half_word_bytes zeros is_text_name
-object_before_cycle = refl
-
--- a left link of a pair to an object
-pair_to_object : class_of 1 (patched pair_image 256 (word_bytes 18446744073709551552)) ≡ Some BadContainer
-unfolding word_at half_word_at word_bytes half_word_bytes zeros is_text_name
-pair_to_object = refl
-
-wrong_pair_count : class_of 1 (patched pair_image 224 (word_bytes 2)) ≡ Some BadContainer
-unfolding word_at half_word_at word_bytes half_word_bytes zeros is_text_name
-wrong_pair_count = refl
+two_changes = refl
 
 -- ---- format 0: no free tree, and the null link at word 24
 
@@ -146,45 +110,29 @@ first_run_image =
     words (magic_word ∷ 0 ∷ 1024 ∷ 1 ∷ 1 ∷ 0 ∷ 0 ∷ 1 ∷ []) ++ zeros 72
     ++ words (49 ∷ 4294967300 ∷ 0 ∷ 5 ∷ 0 ∷ 48 ∷ 832 ∷ []) ++ zeros 816 ++ words (832 ∷ 1 ∷ [])
 
-plain : class_of 0 (plain_image) ≡ None
+-- images of directories
+plain : AreOf 0 (
+    (plain_image, None)
+    ∷ (first_run_image, None)
+    ∷ []
+    )
 unfolding word_at half_word_at word_bytes half_word_bytes zeros is_text_name
 plain = refl
 
-first_run : class_of 0 (first_run_image) ≡ None
+-- the length, a wrong magic, another version, a byte more, an illegal size, a reserved byte, no end tag, another link at word 24
+plain_damaged : AreOf 0 (
+    (take 143 plain_image, Some Truncated)
+    ∷ (patched plain_image 0 (0 ∷ []), Some BadMagic)
+    ∷ (patched plain_image 8 (half_word_bytes 9), Some UnsupportedVersion)
+    ∷ (plain_image ++ 0 ∷ [], Some BadSize)
+    ∷ (patched plain_image 16 (word_bytes 160), Some BadSize)
+    ∷ (patched plain_image 80 (1 ∷ []), Some BadReserved)
+    ∷ (patched plain_image 168 (word_bytes 0), Some BadTag)
+    ∷ (patched plain_image 24 (word_bytes 0), Some BadFreeTree)
+    ∷ []
+    )
 unfolding word_at half_word_at word_bytes half_word_bytes zeros is_text_name
-first_run = refl
-
-plain_cut : class_of 0 (take 143 plain_image) ≡ Some Truncated
-unfolding word_at half_word_at word_bytes half_word_bytes zeros is_text_name
-plain_cut = refl
-
-plain_wrong_magic : class_of 0 (patched plain_image 0 (0 ∷ [])) ≡ Some BadMagic
-unfolding word_at half_word_at word_bytes half_word_bytes zeros is_text_name
-plain_wrong_magic = refl
-
-plain_other_version : class_of 0 (patched plain_image 8 (half_word_bytes 9)) ≡ Some UnsupportedVersion
-unfolding word_at half_word_at word_bytes half_word_bytes zeros is_text_name
-plain_other_version = refl
-
-plain_byte_more : class_of 0 (plain_image ++ 0 ∷ []) ≡ Some BadSize
-unfolding word_at half_word_at word_bytes half_word_bytes zeros is_text_name
-plain_byte_more = refl
-
-plain_illegal_size : class_of 0 (patched plain_image 16 (word_bytes 160)) ≡ Some BadSize
-unfolding word_at half_word_at word_bytes half_word_bytes zeros is_text_name
-plain_illegal_size = refl
-
-plain_reserved_byte : class_of 0 (patched plain_image 80 (1 ∷ [])) ≡ Some BadReserved
-unfolding word_at half_word_at word_bytes half_word_bytes zeros is_text_name
-plain_reserved_byte = refl
-
-plain_no_end_tag : class_of 0 (patched plain_image 168 (word_bytes 0)) ≡ Some BadTag
-unfolding word_at half_word_at word_bytes half_word_bytes zeros is_text_name
-plain_no_end_tag = refl
-
-plain_root : class_of 0 (patched plain_image 24 (word_bytes 0)) ≡ Some BadFreeTree
-unfolding word_at half_word_at word_bytes half_word_bytes zeros is_text_name
-plain_root = refl
+plain_damaged = refl
 
 -- ---- format 2: a vector of strings
 
@@ -194,22 +142,21 @@ texts_image =
     ++ words (53 ∷ 48 ∷ 0 ∷ 0 ∷ 0 ∷ 48 ∷ 65 ∷ 4295229440 ∷ 4294967297 ∷ 118 ∷ 40 ∷ 2 ∷ 2 ∷ 64 ∷ 57 ∷ 48 ∷ 1 ∷ 64 ∷ 2 ∷ 48 ∷ 41 ∷ 97 ∷ 0 ∷ 32 ∷ 41 ∷ 25186 ∷ 0 ∷ 32 ∷ 656 ∷ 1 ∷ 1 ∷ [])
     ++ zeros 624 ++ words (656 ∷ 1 ∷ [])
 
-texts : class_of 2 (texts_image) ≡ None
+-- the image of a directory; two texts with one block, a text above its block, a text of nothing
+texts : AreOf 2 (
+    (texts_image, None)
+    ∷ (patched texts_image 272 (word_bytes 32), Some SharedBlock)
+    ∷ (patched texts_image 264 (word_bytes 17), Some BadContainer)
+    ∷ (patched texts_image 256 (words (1 ∷ 0 ∷ [])), Some OrphanBlock)
+    ∷ []
+    )
 unfolding word_at half_word_at word_bytes half_word_bytes zeros is_text_name
 texts = refl
 
-texts_in_format_1 : class_of 1 (patched texts_image 8 (half_word_bytes 1)) ≡ Some BadObject
+-- format 1 knows no vectors of strings
+texts_in_format_1 : AreOf 1 (
+    (patched texts_image 8 (half_word_bytes 1), Some BadObject)
+    ∷ []
+    )
 unfolding word_at half_word_at word_bytes half_word_bytes zeros is_text_name
 texts_in_format_1 = refl
-
-one_text_twice : class_of 2 (patched texts_image 272 (word_bytes 32)) ≡ Some SharedBlock
-unfolding word_at half_word_at word_bytes half_word_bytes zeros is_text_name
-one_text_twice = refl
-
-text_too_long : class_of 2 (patched texts_image 264 (word_bytes 17)) ≡ Some BadContainer
-unfolding word_at half_word_at word_bytes half_word_bytes zeros is_text_name
-text_too_long = refl
-
-text_of_nothing : class_of 2 (patched texts_image 256 (words (1 ∷ 0 ∷ []))) ≡ Some OrphanBlock
-unfolding word_at half_word_at word_bytes half_word_bytes zeros is_text_name
-text_of_nothing = refl

@@ -15,7 +15,7 @@ use Rattle.segment_manager.specs.Directory.{Directory, Object as SomeObject, Val
 use Rattle.segment_manager.specs.Denotes.{Denotes}
 use Rattle.segment_lang.specs.Language.{whole}
 use Rattle.segment_cli.specs.Run.{run}
-use Rattle.segment_tests.proofs.ZeroBytes.{zero_bytes}
+use Rattle.segment_tests.proofs.OneGap.{denotes, one_node}
 
 abbrev pub words : List ℕ → List ℕ
 words = flat_map word_bytes
@@ -27,7 +27,7 @@ magic_word = 4993446653039301453
 abbrev pub extent : ℕ → ℕ → Role → Extent
 extent offset len role = record { offset = offset; len = len; role = role }
 
-abbrev table : ℕ → Extent → Table
+abbrev pub table : ℕ → Extent → Table
 table capacity x = record { capacity = capacity; extent = Some x }
 
 abbrev named : List ℕ → Value → Extent → SomeObject
@@ -44,24 +44,7 @@ fresh_image =
 
 fresh_denotes : Denotes 1 fresh_image (empty 176)
 unfolding live gaps is_proper word_at word_bytes half_word_at zeros
-fresh_denotes = record {
-  directory = record { proper = refl; objects = refl; by_offset = refl; named = refl; unique = refl };
-  header = record { magic = refl; version = refl; size_word = refl; zeros = zero_bytes _ 80 48 refl };
-  heap = record {
-    size = refl;
-    proper = refl;
-    tiles = record { tags = refl; tiles = refl };
-    free = record {
-      tree = fork false leaf 144 leaf;
-      linked = record { root = refl; holds = (refl, tt, tt) };
-      red_black = record { root = refl; no_red_pair = refl; black = (1, refl) };
-      lists = refl;
-    };
-  };
-  named = record { link = refl; count = refl; capacity = refl; entries = refl };
-  unique = record { link = refl; count = refl; capacity = refl; entries = refl };
-  objects = tt;
-}
+fresh_denotes = denotes fresh_image (empty 176) 144 (record { size = refl; tests = refl; numbers = refl; links = refl; tiles = refl; node = refl; listed = refl }) refl refl tt
 
 -- ---- the segment of 1024 bytes with the number 5 under the name a
 
@@ -80,24 +63,7 @@ number_made = refl
 
 named_denotes : Denotes 1 named_image with_number
 unfolding live gaps is_proper word_at word_bytes half_word_at zeros
-named_denotes = record {
-  directory = record { proper = refl; objects = refl; by_offset = refl; named = refl; unique = refl };
-  header = record { magic = refl; version = refl; size_word = refl; zeros = zero_bytes _ 80 48 refl };
-  heap = record {
-    size = refl;
-    proper = refl;
-    tiles = record { tags = refl; tiles = refl };
-    free = record {
-      tree = fork false leaf 240 leaf;
-      linked = record { root = refl; holds = (refl, tt, tt) };
-      red_black = record { root = refl; no_red_pair = refl; black = (1, refl) };
-      lists = refl;
-    };
-  };
-  named = record { link = refl; count = refl; capacity = refl; entries = (refl, tt) };
-  unique = record { link = refl; count = refl; capacity = refl; entries = refl };
-  objects = (record { kind_count = refl; name_class = refl; name = refl; value = refl }, tt);
-}
+named_denotes = denotes named_image with_number 240 (record { size = refl; tests = refl; numbers = refl; links = refl; tiles = refl; node = refl; listed = refl }) (refl, tt) refl (record { kind_count = refl; name_class = refl; name = refl; value = refl }, tt)
 
 -- ---- two names
 
@@ -127,30 +93,7 @@ vectors_made = refl
 
 vectors_denote : Denotes 1 vectors_image with_vectors
 unfolding live gaps is_proper word_at word_bytes half_word_at zeros
-vectors_denote = record {
-  directory = record { proper = refl; objects = refl; by_offset = refl; named = refl; unique = refl };
-  header = record { magic = refl; version = refl; size_word = refl; zeros = zero_bytes _ 80 48 refl };
-  heap = record {
-    size = refl;
-    proper = refl;
-    tiles = record { tags = refl; tiles = refl };
-    free = record {
-      tree = fork false leaf 384 leaf;
-      linked = record { root = refl; holds = (refl, tt, tt) };
-      red_black = record { root = refl; no_red_pair = refl; black = (1, refl) };
-      lists = refl;
-    };
-  };
-  named = record { link = refl; count = refl; capacity = refl; entries = (refl, (refl, tt)) };
-  unique = record { link = refl; count = refl; capacity = refl; entries = refl };
-  objects = (
-    record { kind_count = refl; name_class = refl; name = refl; value = record { link = refl; len_word = refl; capacity = refl; storage = refl } },
-    (
-      record { kind_count = refl; name_class = refl; name = refl; value = record { link = refl; len_word = refl; capacity = refl; storage = refl } },
-      tt,
-    ),
-  );
-}
+vectors_denote = denotes vectors_image with_vectors 384 (record { size = refl; tests = refl; numbers = refl; links = refl; tiles = refl; node = refl; listed = refl }) (refl, (refl, tt)) refl (record { kind_count = refl; name_class = refl; name = refl; value = record { link = refl; len_word = refl; capacity = refl; storage = refl } }, (record { kind_count = refl; name_class = refl; name = refl; value = record { link = refl; len_word = refl; capacity = refl; storage = refl } }, tt))
 
 -- ---- a map of one pair, and one of seven
 
@@ -175,42 +118,7 @@ pair_made = refl
 
 pair_denotes : Denotes 1 pair_image with_pair
 unfolding live gaps is_proper word_at word_bytes half_word_at zeros
-pair_denotes = record {
-  directory = record { proper = refl; objects = refl; by_offset = refl; named = refl; unique = refl };
-  header = record { magic = refl; version = refl; size_word = refl; zeros = zero_bytes _ 80 48 refl };
-  heap = record {
-    size = refl;
-    proper = refl;
-    tiles = record { tags = refl; tiles = refl };
-    free = record {
-      tree = fork false leaf 304 leaf;
-      linked = record { root = refl; holds = (refl, tt, tt) };
-      red_black = record { root = refl; no_red_pair = refl; black = (1, refl) };
-      lists = refl;
-    };
-  };
-  named = record { link = refl; count = refl; capacity = refl; entries = (refl, tt) };
-  unique = record { link = refl; count = refl; capacity = refl; entries = refl };
-  objects = (
-    record {
-      kind_count = refl;
-      name_class = refl;
-      name = refl;
-      value = record {
-        count = refl;
-        third = refl;
-        tree = record {
-          tree = fork false leaf 256 leaf;
-          linked = record { root = refl; holds = (refl, tt, tt) };
-          red_black = record { root = refl; no_red_pair = refl; black = (1, refl) };
-          lists = refl;
-        };
-        pairs = ((refl, refl), tt);
-      };
-    },
-    tt,
-  );
-}
+pair_denotes = denotes pair_image with_pair 304 (record { size = refl; tests = refl; numbers = refl; links = refl; tiles = refl; node = refl; listed = refl }) (refl, tt) refl (record { kind_count = refl; name_class = refl; name = refl; value = record { count = refl; third = refl; tree = one_node _ _ 256 refl refl; pairs = ((refl, refl), tt) } }, tt)
 
 abbrev pub map_image : List ℕ
 map_image =
@@ -231,39 +139,22 @@ red_leaf n = fork true leaf n leaf
 
 map_denotes : Denotes 1 map_image with_map
 unfolding live gaps is_proper word_at word_bytes half_word_at zeros
-map_denotes = record {
-  directory = record { proper = refl; objects = refl; by_offset = refl; named = refl; unique = refl };
-  header = record { magic = refl; version = refl; size_word = refl; zeros = zero_bytes _ 80 48 refl };
-  heap = record {
-    size = refl;
-    proper = refl;
-    tiles = record { tags = refl; tiles = refl };
-    free = record {
-      tree = fork false leaf 592 leaf;
-      linked = record { root = refl; holds = (refl, tt, tt) };
-      red_black = record { root = refl; no_red_pair = refl; black = (1, refl) };
-      lists = refl;
-    };
-  };
-  named = record { link = refl; count = refl; capacity = refl; entries = (refl, tt) };
-  unique = record { link = refl; count = refl; capacity = refl; entries = refl };
-  objects = (
-    record {
-      kind_count = refl;
-      name_class = refl;
-      name = refl;
-      value = record {
-        count = refl;
-        third = refl;
-        tree = record {
-          tree = fork false (fork false (red_leaf 400) 304 (red_leaf 448)) 256 (fork false (red_leaf 496) 352 (red_leaf 544));
-          linked = record { root = refl; holds = (refl, (refl, (refl, tt, tt), (refl, tt, tt)), (refl, (refl, tt, tt), (refl, tt, tt))) };
-          red_black = record { root = refl; no_red_pair = refl; black = (2, refl) };
-          lists = refl;
-        };
-        pairs = ((refl, refl), ((refl, refl), ((refl, refl), ((refl, refl), ((refl, refl), ((refl, refl), ((refl, refl), tt)))))));
+map_denotes = denotes map_image with_map 592 (record { size = refl; tests = refl; numbers = refl; links = refl; tiles = refl; node = refl; listed = refl }) (refl, tt) refl (
+  record {
+    kind_count = refl;
+    name_class = refl;
+    name = refl;
+    value = record {
+      count = refl;
+      third = refl;
+      tree = record {
+        tree = fork false (fork false (red_leaf 400) 304 (red_leaf 448)) 256 (fork false (red_leaf 496) 352 (red_leaf 544));
+        linked = record { root = refl; holds = (refl, (refl, (refl, tt, tt), (refl, tt, tt)), (refl, (refl, tt, tt), (refl, tt, tt))) };
+        red_black = record { root = refl; no_red_pair = refl; black = (2, refl) };
+        lists = refl;
       };
-    },
-    tt,
-  );
-}
+      pairs = ((refl, refl), ((refl, refl), ((refl, refl), ((refl, refl), ((refl, refl), ((refl, refl), ((refl, refl), tt)))))));
+    };
+  },
+  tt,
+)

@@ -1,6 +1,7 @@
 mod Scripts
 mod Readings
 mod ZeroBytes
+mod OneGap
 mod Images
 mod ImageClasses
 mod HeapCalls

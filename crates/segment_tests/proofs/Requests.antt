@@ -1,5 +1,5 @@
 -- Several requests, placed one after another.
-use Rattle.std.proofs.Common.{◌≡◌, refl, [], ◌∷◌, Some, None}
+use Rattle.std.proofs.Common.{◌≡◌, refl, ℕ, List, [], ◌∷◌, Some, None}
 use Rattle.block_tags.specs.declared.tile.Role.TheVariants.{Object, Storage}
 use Rattle.best_fit.specs.Extents.{LiveSet, gaps}
 use Rattle.best_fit.specs.Fit.{place, fit}
@@ -12,22 +12,25 @@ abbrev two_gaps : LiveSet
 two_gaps = record { size = 256; extents = extent 160 32 Object ∷ [] }
 
 -- the second goes where the first has left room
-both : place_all two_gaps ((1, Storage) ∷ (20, Storage) ∷ []) ≡ Some (extent 128 32 Storage ∷ extent 192 48 Storage ∷ [])
+both_placed : place_all two_gaps ((1, Storage) ∷ (20, Storage) ∷ []) ≡ Some (extent 128 32 Storage ∷ extent 192 48 Storage ∷ [])
 unfolding place fit gaps
-both = refl
+both_placed = refl
 
 -- each has a fit alone, and not both
-not_both : place_all two_gaps ((20, Storage) ∷ (20, Storage) ∷ []) ≡ None
+without_room : place_all two_gaps ((20, Storage) ∷ (20, Storage) ∷ []) ≡ None
 unfolding place fit gaps
-not_both = refl
+without_room = refl
 
-added : all_added two_gaps (extent 192 48 Storage ∷ extent 128 32 Storage ∷ []) ≡ record { size = 256; extents = extent 128 32 Storage ∷ extent 160 32 Object ∷ extent 192 48 Storage ∷ [] }
-added = refl
+all_live : all_added two_gaps (extent 192 48 Storage ∷ extent 128 32 Storage ∷ []) ≡ record { size = 256; extents = extent 128 32 Storage ∷ extent 160 32 Object ∷ extent 192 48 Storage ∷ [] }
+all_live = refl
 
--- an empty text asks for nothing
-needs : text_needs ((7 ∷ []) ∷ [] ∷ (8 ∷ 9 ∷ []) ∷ []) ≡ (1, Storage) ∷ (2, Storage) ∷ []
+-- of three texts the empty one asks for nothing
+abbrev three_texts : List (List ℕ)
+three_texts = (7 ∷ []) ∷ [] ∷ (8 ∷ 9 ∷ []) ∷ []
+
+needs : text_needs three_texts ≡ (1, Storage) ∷ (2, Storage) ∷ []
 needs = refl
 
-texts : owned_texts ((7 ∷ []) ∷ [] ∷ (8 ∷ 9 ∷ []) ∷ []) (extent 128 32 Storage ∷ extent 192 48 Storage ∷ [])
+texts : owned_texts three_texts (extent 128 32 Storage ∷ extent 192 48 Storage ∷ [])
     ≡ record { bytes = 7 ∷ []; extent = Some (extent 128 32 Storage) } ∷ record { bytes = []; extent = None } ∷ record { bytes = 8 ∷ 9 ∷ []; extent = Some (extent 192 48 Storage) } ∷ []
 texts = refl

@@ -2,7 +2,7 @@
 use Rattle.std.proofs.Common.{◌≡◌, refl, codes}
 use Rattle.segment_manager.specs.declared.modes.Mode.TheVariants.{Write, ReadOnly}
 use Rattle.segment_manager.specs.Directory.{empty}
-use Rattle.segment_lang.specs.Language.{whole, landed}
+use Rattle.segment_lang.specs.Language.{whole, supported}
 use Rattle.segment_cli.specs.Run.{run}
 
 -- the first run
@@ -194,16 +194,16 @@ unfolding run
 printable_name = refl
 
 -- as much of the language as has come reads the first run
-landed_first_run : (run landed Write (empty 1024) (codes "construct i64 - 5\nshow #144\nfree\nsize\n")).0
+supported_first_run : (run supported Write (empty 1024) (codes "construct i64 - 5\nshow #144\nfree\nsize\n")).0
     ≡ codes "#144\ni64 5\n832\n1024\n"
 unfolding run
-landed_first_run = refl
+supported_first_run = refl
 
 -- a word that has not come is unknown; a kind, key or count that has not come is bad syntax
-not_landed : (run landed Write (empty 1024) (codes "list\ndestroy_ptr #144\nconstruct i64 a 5\nconstruct i64 @i64 5\nconstruct u8 - 5\nconstruct i64[2] - 5\nshow a\n")).0
+not_supported : (run supported Write (empty 1024) (codes "list\ndestroy_ptr #144\nconstruct i64 a 5\nconstruct i64 @i64 5\nconstruct u8 - 5\nconstruct i64[2] - 5\nshow a\n")).0
     ≡ codes "error 1 unknown command\nerror 6 not found\nerror 3 bad syntax\nerror 3 bad syntax\nerror 3 bad syntax\nerror 3 bad syntax\nerror 3 bad syntax\n"
 unfolding run
-not_landed = refl
+not_supported = refl
 
 -- a last line without an end is a line too, and nothing behind a last end is one
 no_last_line_end : (run (whole 2) Write (empty 176) (codes "size\nfree")).0

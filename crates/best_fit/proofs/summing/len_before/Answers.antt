@@ -4,7 +4,7 @@ use Rattle.std.proofs.lemmas.Bool.{false≢true}
 use Rattle.raw_region.specs.Memory.{bytes_of, word_at}
 use Rattle.block_tags.specs.declared.tile.Tile.{Tile}
 use Rattle.block_tags.specs.Tiles.{tile_at}
-use Rattle.block_tags.proofs.Lists.{tile_is_read_off}
+use Rattle.block_tags.proofs.Laws.{tile_is_read_off}
 use Rattle.best_fit.specs.GapLaws.{is_gap_node-GapNode}
 use Rattle.best_fit.specs.GapNodes.{tiles_in}
 use Rattle.best_fit.proofs.GapFacts.{node_at, node_len}

@@ -1,8 +1,9 @@
 use Rattle.std.proofs.Common.{ℕ, List, ap, subst, sym, ◌∙◌}
 use Rattle.std.specs.Prelude.{IsTrue}
 use Rattle.raw_region.specs.Memory.{bytes_of}
-use Rattle.image_check.specs.Classes.{are_bytes, has_reserved}
-use Rattle.image_check.specs.LandedImages.{has_no_place}
+use Rattle.image_check.specs.EarlyTests.{has_reserved}
+use Rattle.image_check.specs.Classes.{are_bytes}
+use Rattle.image_check.specs.SupportedImages.{has_no_place}
 use Rattle.image_check.proofs.Checked.{IsChecked, checked-tree, checked-frame, checked-segment, named-class, unique-class, tiles-class}
 use Rattle.image_check.proofs.checking.check.Goals as goal
 use Rattle.image_check.proofs.checking.check.Goals.{else-has_no_place-via-then-has_no_place+then-has_no_place-2+else-has_numbers, else-has_no_place-via-then-has_no_place+else-has_no_place-2, else-has_no_place-via-else-has_no_place}

@@ -7,7 +7,8 @@ use Rattle.offset_link.specs.Link.{link_at}
 use Rattle.offset_link.specs.Relinked.{is_bad}
 use Rattle.link_tree.specs.Tree.{IsSearchTree, nodes_of}
 use Rattle.image_check.specs.FreeNodes.{place_cells, stands_before}
-use Rattle.image_check.proofs.FreePlaces.{good-leads, same_node}
+use Rattle.link_tree.proofs.Laws.{some_same}
+use Rattle.image_check.proofs.FreePlaces.{good-leads}
 use Rattle.image_check.proofs.FreeTiles.{planted, tagged, tree-false, tree-true, unplanted}
 use Rattle.image_check.proofs.free_tree.has_free_tree.Goals as goal
 
@@ -63,5 +64,5 @@ returns-else-nodes-count_free c =
     ∙ sym (tree-false w (λ t.
     let p = planted w (tagged w c.requires.size c.requires.tags) t in
     let s = subst (λ (o : Option ℕ). IsSearchTree (stands_before m) (place_cells w) o p.tree) (sym c.in-Ok.ensures.ok) p.search in
-    let n = same_node c.in-Some.nodes (length (nodes_of p.tree)) (sym c.in-Some.is ∙ (c.check.ensures.counts (length (nodes_of p.tree))).1 (p.tree, s, refl)) in
+    let n = some_same c.in-Some.nodes (length (nodes_of p.tree)) (sym c.in-Some.is ∙ (c.check.ensures.counts (length (nodes_of p.tree))).1 (p.tree, s, refl)) in
     c.if-nodes-count_free.false (n ∙ p.few ∙ sym c.count_free.ensures)))

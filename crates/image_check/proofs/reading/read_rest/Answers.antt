@@ -10,7 +10,7 @@ returns-in_err-read_all-clause-err g c =
     let was = c.in_err-read_all.ensures in
     rw (p.1, p.2)
     (λ start e.
-    filled_short current c.args.window.now start (g.S.Source.given c.args.reader.now) (g.S.Source.given c.read_all.new.reader) c.read_all.new.into c.size-size.result _ _ _ c.in_err-read_all.field-0.0
+    filled_short current c.args.window.now start (g.S.Source.history c.args.reader.now).bytes (g.S.Source.history c.read_all.new.reader).bytes c.read_all.new.into c.size-size.result _ _ _ c.in_err-read_all.field-0.0
     c.requires.front c.size-size.ensures (let a = c.read_all.auto.into in let b = c.bytes_mut.ensures.len in omega arith) e was.err.0 was.err.1 was.counted)
 
 pub returns-in_err-read_all-clause-len : goal.returns-in_err-read_all-clause-len
@@ -23,7 +23,7 @@ returns-in_err-read_all-clause-len g c =
 pub returns-clause-err : goal.returns-clause-err
 returns-clause-err g c =
     let ok = c.in_ok-read_all.ensures in
-    filled_whole current c.args.window.now (g.S.Source.given c.args.reader.now) (g.S.Source.given c.read_all.new.reader) (g.S.Source.given c.find_end.new.reader) c.read_all.new.into c.size-size.result _ _ _ _ c.find_end.result
+    filled_whole current c.args.window.now (g.S.Source.history c.args.reader.now).bytes (g.S.Source.history c.read_all.new.reader).bytes (g.S.Source.history c.find_end.new.reader).bytes c.read_all.new.into c.size-size.result _ _ _ _ c.find_end.result
     c.requires.front c.size-size.ensures (let a = c.read_all.auto.into in let b = c.bytes_mut.ensures.len in omega arith) ok.ok ok.counted c.find_end.ensures.err c.find_end.ensures.counted
 
 pub returns-clause-len : goal.returns-clause-len

@@ -1,5 +1,5 @@
 use Rattle.std.proofs.Common.{lit≤}
-use Rattle.best_fit.proofs.Allocated.{allocated-room, changed-room}
+use Rattle.best_fit.proofs.Laws.{allocated-room, changed-room}
 use Rattle.layer_tests.proofs.best_fit_tests.a_block_is_read_back.Goals as goal
 
 pub set_word-requires : goal.set_word-requires

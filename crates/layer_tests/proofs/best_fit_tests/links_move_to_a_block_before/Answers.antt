@@ -1,5 +1,5 @@
 use Rattle.std.proofs.Common.{refl, arith, lit≤}
-use Rattle.best_fit.proofs.Allocated.{allocated-room, changed-room}
+use Rattle.best_fit.proofs.Laws.{allocated-room, changed-room}
 use Rattle.layer_tests.proofs.HeapCalls.{room_once, room_twice, room_before_two, two_links}
 use Rattle.layer_tests.proofs.best_fit_tests.links_move_to_a_block_before.Goals as goal
 

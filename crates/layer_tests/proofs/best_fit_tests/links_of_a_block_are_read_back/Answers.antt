@@ -1,5 +1,5 @@
 use Rattle.std.proofs.Common.{lit≤}
-use Rattle.best_fit.proofs.Allocated.{allocated-room}
+use Rattle.best_fit.proofs.Laws.{allocated-room}
 use Rattle.layer_tests.proofs.HeapCalls.{room_once, room_twice}
 use Rattle.layer_tests.proofs.best_fit_tests.links_of_a_block_are_read_back.Goals as goal
 

@@ -1,5 +1,5 @@
 use Rattle.std.proofs.Common.{refl, arith, lit≤}
-use Rattle.best_fit.proofs.Allocated.{allocated-room, changed-room}
+use Rattle.best_fit.proofs.Laws.{allocated-room, changed-room}
 use Rattle.layer_tests.proofs.HeapCalls.{room_once, room_twice, two_links}
 use Rattle.layer_tests.proofs.best_fit_tests.links_of_a_block_move.Goals as goal
 

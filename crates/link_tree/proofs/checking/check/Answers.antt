@@ -1,19 +1,10 @@
-use Rattle.std.proofs.Common.{◌≡◌, ℕ, ◌≤◌, true, Option, Some, length, sym, ap, ◌∙◌, arith}
+use Rattle.std.proofs.Common.{Some, length, sym, ap, ◌∙◌, arith}
 use Rattle.std.proofs.lemmas.Bool.{false≢true}
-use Rattle.link_tree.specs.Tree.{Tree, nodes_of, height, IsSearchTree}
-use Rattle.link_tree.specs.Nodes.{leads}
+use Rattle.link_tree.specs.Tree.{nodes_of}
 use Rattle.link_tree.proofs.Trees.{one_tree, some_same, none_some}
 use Rattle.link_tree.proofs.Limits.{count_all, height_limit}
 use Rattle.link_tree.proofs.Soundness.{only, length-only, leads_only, only_closed, sound_whole, whole_sound}
 use Rattle.link_tree.proofs.checking.check.Goals as goal
-use Rattle.link_tree.proofs.checking.check.Given.{Over}
-
-low_tree : (g : Over) (s : g.row.N.Denot) (link : Option ℕ) (t : Tree) → IsSearchTree (g.N.Nodes.order s) (g.N.Nodes.cells s) link t
-    → leads (g.N.Nodes.is_node s) link ≡ true → height t ≤ 80
-low_tree g s link t k at_node =
-    let f = g.met.N.Nodes.finite s in
-    (height_limit (g.N.Nodes.order s) (g.met.N.Nodes.transitive s) (g.met.N.Nodes.irreflexive s) (g.N.Nodes.cells s) (g.N.Nodes.is_node s)
-    (g.met.N.Nodes.left_closed s) (g.met.N.Nodes.right_closed s) f.0 f.1 f.2 link t k at_node).0
 
 pub check_below-requires-clause-room : goal.check_below-requires-clause-room
 check_below-requires-clause-room g c =
@@ -34,7 +25,7 @@ returns-in_default-clause-counts g c = λ m. (
   λ e. absurd (none_some m e),
   λ w.
       let s = c.args.nodes.now in
-      let low = low_tree g s c.args.root w.0 w.1 c.requires in
+      let low = height_limit (g.met.N.Nodes.transitive s) (g.met.N.Nodes.irreflexive s) (g.met.N.Nodes.finite s) (g.met.N.Nodes.left_closed s) (g.met.N.Nodes.right_closed s) w.1 c.requires in
       let complete = rw c.new-visits.ensures.nodes at c.check_below.ensures.complete in
       let some = complete w.0 w.1.red_black.black.0 (sound_whole (g.N.Nodes.order s) (g.met.N.Nodes.transitive s) (g.met.N.Nodes.irreflexive s) (g.N.Nodes.cells s) c.args.root w.0 w.1) (omega arith) in
       absurd (false≢true (rw c.in_default.is at some)),

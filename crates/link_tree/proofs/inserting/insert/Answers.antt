@@ -1,6 +1,6 @@
-use Rattle.std.proofs.Common.{◌≡◌, ℕ, ◌≤◌, true, Option, arith, subst, rules}
-use Rattle.link_tree.specs.Tree.{Tree, IsSearchTree, nodes_of, height}
-use Rattle.link_tree.specs.Nodes.{leads, has_place}
+use Rattle.std.proofs.Common.{◌≡◌, ℕ, true, Option, arith, subst, rules}
+use Rattle.link_tree.specs.Tree.{Tree, IsSearchTree, nodes_of}
+use Rattle.link_tree.specs.Nodes.{has_place}
 use Rattle.link_tree.specs.Growing.{Grows}
 use Rattle.link_tree.proofs.Trees.{one_tree}
 use Rattle.link_tree.proofs.Heights.{height_bits}
@@ -8,13 +8,6 @@ use Rattle.link_tree.proofs.Limits.{height_limit}
 use Rattle.link_tree.proofs.Growth.{inserted_tree, inserted_frame}
 use Rattle.link_tree.proofs.inserting.insert.Goals as goal
 use Rattle.link_tree.proofs.inserting.insert.Given.{Over}
-
-low_tree : (g : Over) (s : g.row.N.Denot) (link : Option ℕ) (t : Tree) → IsSearchTree (g.N.Nodes.order s) (g.N.Nodes.cells s) link t
-    → leads (g.N.Nodes.is_node s) link ≡ true → height t ≤ 80
-low_tree g s link t k at_node =
-    let f = g.met.N.Nodes.finite s in
-    (height_limit (g.N.Nodes.order s) (g.met.N.Nodes.transitive s) (g.met.N.Nodes.irreflexive s) (g.N.Nodes.cells s) (g.N.Nodes.is_node s)
-    (g.met.N.Nodes.left_closed s) (g.met.N.Nodes.right_closed s) f.0 f.1 f.2 link t k at_node).0
 
 -- the node has its place in each tree of the root, since there is but one
 grows : (g : Over) (s : g.row.N.Denot) (root : Option ℕ) (x : ℕ) (t u : Tree) → IsSearchTree (g.N.Nodes.order s) (g.N.Nodes.cells s) root t
@@ -28,7 +21,7 @@ pub grow-top-requires-clause-tree : goal.grow-top-requires-clause-tree
 grow-top-requires-clause-tree g c =
     let t = c.requires.tree in
     let s = c.args.nodes.now in
-    let low = low_tree g s c.args.root t.0 t.1 c.requires.root in
+    let low = height_limit (g.met.N.Nodes.transitive s) (g.met.N.Nodes.irreflexive s) (g.met.N.Nodes.finite s) (g.met.N.Nodes.left_closed s) (g.met.N.Nodes.right_closed s) t.1 c.requires.root in
     let zero = c.new-visits.ensures.steps in
     (t.0, rw c.new-visits.ensures.nodes (grows g s c.args.root c.args.node t.0 t.0 t.1 t.2 t.1), omega arith)
 
@@ -36,7 +29,7 @@ pub blacken-requires-clause-room : goal.blacken-requires-clause-room
 blacken-requires-clause-room g c =
     let t = c.requires.tree in
     let s = c.args.nodes.now in
-    let low = low_tree g s c.args.root t.0 t.1 c.requires.root in
+    let low = height_limit (g.met.N.Nodes.transitive s) (g.met.N.Nodes.irreflexive s) (g.met.N.Nodes.finite s) (g.met.N.Nodes.left_closed s) (g.met.N.Nodes.right_closed s) t.1 c.requires.root in
     let zero = c.new-visits.ensures.steps in
     let steps = rw c.new-visits.ensures.nodes at c.grow-top.ensures.steps in
     omega (arith, steps t.0 (grows g s c.args.root c.args.node t.0 t.0 t.1 t.2 t.1))

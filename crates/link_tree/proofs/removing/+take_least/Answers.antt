@@ -2,7 +2,7 @@ use Rattle.std.proofs.Common.{◌≡◌, ℕ, ◌+◌, ◌*◌, ◌<◌, ◌^◌
 use Rattle.link_tree.specs.Tree.{Tree, height}
 use Rattle.link_tree.specs.Shrinking.{Shrinks}
 use Rattle.link_tree.proofs.Trees.{some_same}
-use Rattle.link_tree.proofs.Taking.{take_last, take_more, left_of, HasLeft}
+use Rattle.link_tree.proofs.TakingLeast.{take_last, take_more, left_of, HasLeft}
 use Rattle.link_tree.proofs.removing.+take_least.Goals as goal
 use Rattle.link_tree.proofs.removing.+take_least.Given.{Over}
 

@@ -1,19 +1,11 @@
-use Rattle.std.proofs.Common.{◌≡◌, ℕ, ◌≤◌, true, Option, arith, rules}
-use Rattle.link_tree.specs.Tree.{Tree, IsSearchTree, height}
-use Rattle.link_tree.specs.Nodes.{leads}
+use Rattle.std.proofs.Common.{◌≡◌, ℕ, Option, arith, rules}
+use Rattle.link_tree.specs.Tree.{Tree, IsSearchTree}
 use Rattle.link_tree.specs.Shrinking.{Shrinks}
 use Rattle.link_tree.proofs.Heights.{height_bits}
 use Rattle.link_tree.proofs.Limits.{height_limit, tree_good}
 use Rattle.link_tree.proofs.Taking.{removed_tree, removed_frame}
 use Rattle.link_tree.proofs.removing.remove.Goals as goal
 use Rattle.link_tree.proofs.removing.remove.Given.{Over}
-
-low_tree : (g : Over) (s : g.row.N.Denot) (link : Option ℕ) (t : Tree) → IsSearchTree (g.N.Nodes.order s) (g.N.Nodes.cells s) link t
-    → leads (g.N.Nodes.is_node s) link ≡ true → height t ≤ 80
-low_tree g s link t k at_node =
-    let f = g.met.N.Nodes.finite s in
-    (height_limit (g.N.Nodes.order s) (g.met.N.Nodes.transitive s) (g.met.N.Nodes.irreflexive s) (g.N.Nodes.cells s) (g.N.Nodes.is_node s)
-    (g.met.N.Nodes.left_closed s) (g.met.N.Nodes.right_closed s) f.0 f.1 f.2 link t k at_node).0
 
 shrinks : (g : Over) (s : g.row.N.Denot) (link : Option ℕ) (t : Tree) → IsSearchTree (g.N.Nodes.order s) (g.N.Nodes.cells s) link t
     → Shrinks (g.N.Nodes.order s) (g.N.Nodes.cells s) link t
@@ -30,7 +22,7 @@ pub cut-rest-requires-clause-tree : goal.cut-rest-requires-clause-tree
 cut-rest-requires-clause-tree g c =
     let t = c.requires.tree in
     let s = c.args.nodes.now in
-    let low = low_tree g s c.args.root t.0 t.1 c.requires.root in
+    let low = height_limit (g.met.N.Nodes.transitive s) (g.met.N.Nodes.irreflexive s) (g.met.N.Nodes.finite s) (g.met.N.Nodes.left_closed s) (g.met.N.Nodes.right_closed s) t.1 c.requires.root in
     let zero = c.new-visits.ensures.steps in
     (t.0, rw c.new-visits.ensures.nodes (shrinks g s c.args.root t.0 t.1), omega arith)
 
@@ -38,7 +30,7 @@ pub blacken-requires-clause-room : goal.blacken-requires-clause-room
 blacken-requires-clause-room g c =
     let t = c.requires.tree in
     let s = c.args.nodes.now in
-    let low = low_tree g s c.args.root t.0 t.1 c.requires.root in
+    let low = height_limit (g.met.N.Nodes.transitive s) (g.met.N.Nodes.irreflexive s) (g.met.N.Nodes.finite s) (g.met.N.Nodes.left_closed s) (g.met.N.Nodes.right_closed s) t.1 c.requires.root in
     let zero = c.new-visits.ensures.steps in
     let steps = rw c.new-visits.ensures.nodes at c.cut-rest.ensures.steps in
     omega (arith, steps t.0 (shrinks g s c.args.root t.0 t.1))

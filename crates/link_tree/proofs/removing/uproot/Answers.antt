@@ -41,40 +41,33 @@ take_least-next-requires-clause-tree g c =
     let lower = b.lower in
     (b.tree, rw e b.shrinks, omega arith)
 
-spent : (g : Over) (s : g.row.N.Denot) (at right : ℕ) (t : Tree) (steps steps' : ℕ) → Shrinks (g.N.Nodes.order s) (g.N.Nodes.cells s) (Some at) t → (g.N.Nodes.cells s at).right ≡ Some right
-    → ((u : Tree) → Shrinks (g.N.Nodes.order s) (g.N.Nodes.cells s) (Some right) u → steps' ≤ steps + 14 * height u + 9)
-    → steps' + 5 ≤ steps + 14 * height t
-spent g s at right t steps steps' w e f =
+-- the steps of `take_least`
+spent : (g : Over) (s s' : g.row.N.Denot) (at right : ℕ) (t : Tree) (steps steps' more : ℕ) → Shrinks (g.N.Nodes.order s) (g.N.Nodes.cells s) (Some at) t
+    → ((u : Tree) → Shrinks (g.N.Nodes.order s') (g.N.Nodes.cells s') (Some right) u → steps' + more ≤ steps + 14 * height u + 9)
+    → (g.N.Nodes.cells s at).right ≡ Some right → s' ≡ s → steps' + 5 ≤ steps + 14 * height t
+spent g s s' at right t steps steps' more w told e same =
     let b = right_tree g s at right t w e in
+    let here = rw same at told in
     let lower = b.lower in
-    omega (arith, f b.tree b.shrinks)
+    omega (arith, here b.tree b.shrinks)
 
 pub set_child-requires-clause-room : goal.set_child-requires-clause-room
 set_child-requires-clause-room g c =
-    let s = c.args.visits.now.nodes.now in
-    let is_right : (g.N.Nodes.cells s c.args.at).right ≡ Some c.in-Some.right = cc in
-    let e : c.child.new.self.nodes.now ≡ s = cc in
+    let few = spent g c.args.visits.now.nodes.now _ c.args.at c.in-Some.right c.requires.tree.0 _ _ _ c.requires.tree.1 c.take_least-next.ensures.steps (cc) (cc) in
     let room = c.requires.tree.2 in
-    let steps = rw e at c.take_least-next.ensures.steps in
-    omega (arith, spent g s c.args.at c.in-Some.right c.requires.tree.0 c.child.new.self.steps c.take_least-next.new.visits.steps c.requires.tree.1 is_right (λ u w. omega (arith, steps u w)))
+    omega arith
 
 pub set_red-requires-clause-room : goal.set_red-requires-clause-room
 set_red-requires-clause-room g c =
-    let s = c.args.visits.now.nodes.now in
-    let is_right : (g.N.Nodes.cells s c.args.at).right ≡ Some c.in-Some.right = cc in
-    let e : c.child.new.self.nodes.now ≡ s = cc in
+    let few = spent g c.args.visits.now.nodes.now _ c.args.at c.in-Some.right c.requires.tree.0 _ _ _ c.requires.tree.1 c.take_least-next.ensures.steps (cc) (cc) in
     let room = c.requires.tree.2 in
-    let steps = rw e at c.take_least-next.ensures.steps in
-    omega (arith, spent g s c.args.at c.in-Some.right c.requires.tree.0 c.child.new.self.steps c.take_least-next.new.visits.steps c.requires.tree.1 is_right (λ u w. omega (arith, steps u w)))
+    omega arith
 
 pub settle-requires-clause-room : goal.settle-requires-clause-room
 settle-requires-clause-room g c =
-    let s = c.args.visits.now.nodes.now in
-    let is_right : (g.N.Nodes.cells s c.args.at).right ≡ Some c.in-Some.right = cc in
-    let e : c.child.new.self.nodes.now ≡ s = cc in
+    let few = spent g c.args.visits.now.nodes.now _ c.args.at c.in-Some.right c.requires.tree.0 _ _ _ c.requires.tree.1 c.take_least-next.ensures.steps (cc) (cc) in
     let room = c.requires.tree.2 in
-    let steps = rw e at c.take_least-next.ensures.steps in
-    omega (arith, spent g s c.args.at c.in-Some.right c.requires.tree.0 c.child.new.self.steps c.take_least-next.new.visits.steps c.requires.tree.1 is_right (λ u w. omega (arith, steps u w)))
+    omega arith
 
 pub returns-clause-rest : goal.returns-clause-rest
 returns-clause-rest g c = λ u w.

@@ -1,5 +1,5 @@
 use Rattle.std.proofs.Common.{◌≡◌, ℕ, ◌≤◌, true, false, Option, arith}
-use Rattle.link_tree.specs.Tree.{Tree, IsSearchTree, height}
+use Rattle.link_tree.specs.Tree.{Tree, IsSearchTree}
 use Rattle.link_tree.specs.Nodes.{leads}
 use Rattle.link_tree.proofs.Heights.{bounds_height}
 use Rattle.link_tree.proofs.Limits.{height_limit}
@@ -7,19 +7,12 @@ use Rattle.link_tree.proofs.Seeking.{Seeking, seek_start, seek_left, seek_right}
 use Rattle.link_tree.proofs.searching.find_first_not_before.Goals as goal
 use Rattle.link_tree.proofs.searching.find_first_not_before.Given.{Over}
 
-low_tree : (g : Over) (s : g.row.N.Denot) (link : Option ℕ) (t : Tree) → IsSearchTree (g.N.Nodes.order s) (g.N.Nodes.cells s) link t
-    → leads (g.N.Nodes.is_node s) link ≡ true → height t ≤ 80
-low_tree g s link t k at_node =
-    let f = g.met.N.Nodes.finite s in
-    (height_limit (g.N.Nodes.order s) (g.met.N.Nodes.transitive s) (g.met.N.Nodes.irreflexive s) (g.N.Nodes.cells s) (g.N.Nodes.is_node s)
-    (g.met.N.Nodes.left_closed s) (g.met.N.Nodes.right_closed s) f.0 f.1 f.2 link t k at_node).0
-
 -- no search is longer than a tree is high
 few_steps : (g : Over) (s : g.row.N.Denot) (probe : g.row.N-Probe.Denot) (root : Option ℕ) (t : Tree) (l found at : Option ℕ) (steps : ℕ)
     → IsSearchTree (g.N.Nodes.order s) (g.N.Nodes.cells s) root t → leads (g.N.Nodes.is_node s) root ≡ true
     → Seeking (g.N.Nodes.order s) (g.N.Nodes.cells s) (g.N.Nodes.before s probe) t l found at steps → steps ≤ 80
 few_steps g s probe root t l found at steps k at_node seeking =
-    let low = low_tree g s root t k at_node in
+    let low = height_limit (g.met.N.Nodes.transitive s) (g.met.N.Nodes.irreflexive s) (g.met.N.Nodes.finite s) (g.met.N.Nodes.left_closed s) (g.met.N.Nodes.right_closed s) k at_node in
     let taken = seeking.taken in
     omega arith
 

@@ -1,4 +1,4 @@
-use Rattle.std.proofs.Common.{◌≡◌, ◌≤◌, length, ◌+◌, ◌-◌, ◌*◌, arith}
+use Rattle.std.proofs.Common.{◌≤◌, length, ◌+◌, ◌-◌, ◌*◌, arith}
 use Rattle.offset_link.proofs.Shifting.{lent_leads}
 use Rattle.offset_link.proofs.moves.shift.Goals as goal
 

@@ -4,10 +4,10 @@ use Rattle.raw_region.proofs.device.fill.Given as goal
 abbrev pub invariant-pieces : goal.invariant-pieces
 invariant-pieces g l = record {
   within : l.filled ≤ length l.into;
-  given : g.S.Source.given l.source ≡ g.S.Source.given l.initial.source ++ take l.filled l.into;
-  some_read : 0 < l.filled → g.S.Source.ended l.source ≡ false;
-  none_read : l.filled ≡ 0 → g.S.Source.ended l.source ≡ g.S.Source.ended l.initial.source;
-  failures : g.S.Source.failures l.source ≡ g.S.Source.failures l.initial.source;
+  given : (g.S.Source.history l.source).bytes ≡ (g.S.Source.history l.initial.source).bytes ++ take l.filled l.into;
+  some_read : 0 < l.filled → (g.S.Source.history l.source).ended ≡ false;
+  none_read : l.filled ≡ 0 → (g.S.Source.history l.source).ended ≡ (g.S.Source.history l.initial.source).ended;
+  failures : (g.S.Source.history l.source).failures ≡ (g.S.Source.history l.initial.source).failures;
 }
 
 abbrev pub decreases-pieces : goal.decreases-pieces

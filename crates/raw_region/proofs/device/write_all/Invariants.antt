@@ -4,8 +4,8 @@ use Rattle.raw_region.proofs.device.write_all.Given as goal
 abbrev pub invariant-pieces : goal.invariant-pieces
 invariant-pieces g l = record {
   within : l.written ≤ length l.bytes;
-  taken : g.S.Sink.taken l.sink ≡ g.S.Sink.taken l.initial.sink ++ take l.written l.bytes;
-  failures : g.S.Sink.failures l.sink ≡ g.S.Sink.failures l.initial.sink;
+  taken : (g.S.Sink.history l.sink).bytes ≡ (g.S.Sink.history l.initial.sink).bytes ++ take l.written l.bytes;
+  failures : (g.S.Sink.history l.sink).failures ≡ (g.S.Sink.history l.initial.sink).failures;
 }
 
 abbrev pub decreases-pieces : goal.decreases-pieces

@@ -6,17 +6,17 @@ use Rattle.segment_cli.proofs.scripts.read_lines.Given as goal
 
 abbrev pub invariant-pieces : goal.invariant-pieces
 invariant-pieces g l =
-    let old = g.S.Source.given l.initial.script in
-    let new = g.S.Source.given l.script in
+    let old = (g.S.Source.history l.initial.script).bytes in
+    let new = (g.S.Source.history l.script).bytes in
     record {
       buffer : length l.piece ≡ 4096;
       grows : Grows old new;
       limit : length (drop (length old) new) + l.left ≡ script_limit;
       passed : length new + l.left ≡ length old + script_limit;
       behind : (start : g.M.Machine.Place) → g.M.Machine.stands l.initial.machine start
-          → IsBehind g.M.Machine.respond start (g.W.Sink.taken l.initial.out) (drop (length old) new) (g.M.Machine.stands l.machine) l.line (g.W.Sink.taken l.out);
-      reads : g.S.Source.failures l.script ≡ g.S.Source.failures l.initial.script;
-      writes : g.W.Sink.failures l.out ≡ g.W.Sink.failures l.initial.out;
+          → IsBehind g.M.Machine.respond start (g.W.Sink.history l.initial.out).bytes (drop (length old) new) (g.M.Machine.stands l.machine) l.line (g.W.Sink.history l.out).bytes;
+      reads : (g.S.Source.history l.script).failures ≡ (g.S.Source.history l.initial.script).failures;
+      writes : (g.W.Sink.history l.out).failures ≡ (g.W.Sink.history l.initial.out).failures;
     }
 
 abbrev pub decreases-pieces : goal.decreases-pieces

@@ -11,25 +11,25 @@ returns-in_err-create-in-Fresh-clause-starts g c =
     let Reader = g.I.Source in
     let p = err_from_is_err_and c.from_residual.result c.from_residual.ensures.1 in
     let refused = c.in_err-create-in-Fresh.field-0.0 in
-    rw (p.1, p.2, c.in-Fresh.is) (not_created c.args.region c.args.base c.in-Fresh.size c.args.mode _ refused.cause c.in_err-create-in-Fresh.ensures.why (not_asked (Reader.given c.args.image.now) (Reader.ended c.args.image.now) (Reader.failures c.args.image.now)))
+    rw (p.1, p.2, c.in-Fresh.is) (not_created c.args.region c.args.base c.in-Fresh.size c.args.mode _ refused.cause c.in_err-create-in-Fresh.ensures.why (not_asked (Reader.history c.args.image.now)))
 
 pub returns-in_err-open-in-Image-clause-starts : goal.returns-in_err-open-in-Image-clause-starts
 returns-in_err-open-in-Image-clause-starts g c =
     let Reader = g.I.Source in
     let p = err_from_is_err_and c.from_residual-in_err-open-in-Image.result c.from_residual-in_err-open-in-Image.ensures.1 in
     let opens = c.in_err-open-in-Image.ensures.opens in
-    rw (p.1, p.2, c.in-Image.is) (not_opened (given_since (Reader.given c.args.image.now) (Reader.given c.open.new.reader) (Reader.ended c.open.new.reader) (Reader.failures c.args.image.now) (Reader.failures c.open.new.reader))
+    rw (p.1, p.2, c.in-Image.is) (not_opened (given_since (Reader.history c.args.image.now) (Reader.history c.open.new.reader))
     c.args.base (length c.args.region) c.args.mode c.in_err-open-in-Image.field-0.0.cause opens.answers.why opens.too_small)
 
 pub returns-in_ok-create-in-Fresh-clause-starts : goal.returns-in_ok-create-in-Fresh-clause-starts
 returns-in_ok-create-in-Fresh-clause-starts g c =
     let Reader = g.I.Source in
     rw c.in-Fresh.is (created c.args.region c.args.base c.in-Fresh.size c.args.mode _ c.in_ok-create-in-Fresh.field-0 c.in_ok-create-in-Fresh.ensures
-    (not_asked (Reader.given c.args.image.now) (Reader.ended c.args.image.now) (Reader.failures c.args.image.now)))
+    (not_asked (Reader.history c.args.image.now)))
 
 pub returns-in_ok-open-in-Image-clause-starts : goal.returns-in_ok-open-in-Image-clause-starts
 returns-in_ok-open-in-Image-clause-starts g c =
     let Reader = g.I.Source in
     let opens = c.in_ok-open-in-Image.ensures.opens in
-    rw c.in-Image.is (opened c.args.region c.args.base c.args.mode (given_since (Reader.given c.args.image.now) (Reader.given c.open.new.reader) (Reader.ended c.open.new.reader) (Reader.failures c.args.image.now) (Reader.failures c.open.new.reader))
+    rw c.in-Image.is (opened c.args.region c.args.base c.args.mode (given_since (Reader.history c.args.image.now) (Reader.history c.open.new.reader))
     c.in_ok-open-in-Image.field-0 opens.answers opens.too_small)

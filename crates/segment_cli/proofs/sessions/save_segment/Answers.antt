@@ -10,10 +10,10 @@ pub returns-in_err-save-clause-err : goal.returns-in_err-save-clause-err
 returns-in_err-save-clause-err g c =
     let p = err_from_is_err_and c.from_residual.result c.from_residual.ensures.1 in
     let writes : c.mode.result ≡ Write = search rules in
-    rw (p.1, ← c.as_bytes-image.ensures.bytes) (sym c.mode.ensures ∙ writes, front_added (g.W.Sink.taken c.args.image_out.now) (g.W.Sink.taken c.save.new.out) c.as_bytes-image.result.now c.in_err-save.ensures.err)
+    rw (p.1, ← c.as_bytes-image.ensures.bytes) (sym c.mode.ensures ∙ writes, front_added (g.W.Sink.history c.args.image_out.now).bytes (g.W.Sink.history c.save.new.out).bytes c.as_bytes-image.result.now c.in_err-save.ensures.writes.err)
 
 pub returns-in_ok-save-clause-ok : goal.returns-in_ok-save-clause-ok
 returns-in_ok-save-clause-ok g c d stands =
     let writes : c.mode.result ≡ Write = search rules in
-    image_saved c.args.segment.now.mode (g.W.Sink.taken c.args.image_out.now) (g.W.Sink.taken c.save.new.out) c.as_bytes-image.result.now d
-    (sym c.mode.ensures ∙ writes) c.in_ok-save.ensures.ok (c.hold_accepted.ensures d (subst (λ b. StandsFor b d) (sym c.as_bytes-image.ensures.bytes) stands))
+    image_saved c.args.segment.now.mode (g.W.Sink.history c.args.image_out.now).bytes (g.W.Sink.history c.save.new.out).bytes c.as_bytes-image.result.now d
+    (sym c.mode.ensures ∙ writes) c.in_ok-save.ensures.writes.ok (c.save.ensures.accepted d (subst (λ b. StandsFor b d) (sym c.as_bytes-image.ensures.bytes) stands))

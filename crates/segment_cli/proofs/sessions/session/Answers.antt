@@ -1,7 +1,8 @@
 use Rattle.std.proofs.Common.{length, arith}
 use Rattle.std.proofs.lemmas.Result.{err_from_is_err_and}
 use Rattle.raw_region.specs.Device.{given_since, taken_since}
-use Rattle.segment_cli.proofs.Cuts.{added, none_failed, one_failed}
+use Rattle.raw_region.proofs.Laws.{added}
+use Rattle.segment_cli.proofs.Cuts.{none_failed, one_failed}
 use Rattle.segment_cli.proofs.Endings.{at_first, first, not_asked, not_written, unbegun_session, stopped_session, done_session, unsaved_session}
 use Rattle.segment_cli.proofs.sessions.session.Goals as goal
 
@@ -12,15 +13,15 @@ returns-in_err-segment-clause-session g c =
     let p = err_from_is_err_and c.from_residual.result c.from_residual.ensures.1 in
     rw (p.1, p.2) (unbegun_session a.start a.mode a.base (length a.region)
     (record {
-      image = given_since (Image.given a.image.now) (Image.given c.begin.new.image) (Image.ended c.begin.new.image) (Image.failures a.image.now) (Image.failures c.begin.new.image);
-      script = given_since (Script.given a.script.now) (Script.given a.script.now) (Script.ended a.script.now) (Script.failures a.script.now) (Script.failures a.script.now);
-      out = taken_since (Answers.taken a.out.now) (Answers.taken a.out.now) (Answers.failures a.out.now) (Answers.failures a.out.now);
-      saved = taken_since (Saved.taken a.image_out.now) (Saved.taken a.image_out.now) (Saved.failures a.image_out.now) (Saved.failures a.image_out.now);
+      image = given_since (Image.history a.image.now) (Image.history c.begin.new.image);
+      script = given_since (Script.history a.script.now) (Script.history a.script.now);
+      out = taken_since (Answers.history a.out.now) (Answers.history a.out.now);
+      saved = taken_since (Saved.history a.image_out.now) (Saved.history a.image_out.now);
     })
     c.in_err-segment.field-0.0 c.in_err-segment.ensures.starts
-    (not_asked (Script.given a.script.now) (Script.ended a.script.now) (Script.failures a.script.now))
-    (not_written (Answers.taken a.out.now) (Answers.failures a.out.now))
-    (not_written (Saved.taken a.image_out.now) (Saved.failures a.image_out.now)))
+    (not_asked (Script.history a.script.now))
+    (not_written (Answers.history a.out.now))
+    (not_written (Saved.history a.image_out.now)))
 
 pub returns-in_err-run-clause-session : goal.returns-in_err-run-clause-session
 returns-in_err-run-clause-session g c =
@@ -29,13 +30,13 @@ returns-in_err-run-clause-session g c =
     let p = err_from_is_err_and c.from_residual-in_err-run.result c.from_residual-in_err-run.ensures.1 in
     rw (p.1, p.2) (stopped_session a.start a.mode a.base (length a.region)
     (record {
-      image = given_since (Image.given a.image.now) (Image.given c.begin.new.image) (Image.ended c.begin.new.image) (Image.failures a.image.now) (Image.failures c.begin.new.image);
-      script = given_since (Script.given a.script.now) (Script.given c.run.new.script) (Script.ended c.run.new.script) (Script.failures a.script.now) (Script.failures c.run.new.script);
-      out = taken_since (Answers.taken a.out.now) (Answers.taken c.run.new.out) (Answers.failures a.out.now) (Answers.failures c.run.new.out);
-      saved = taken_since (Saved.taken a.image_out.now) (Saved.taken a.image_out.now) (Saved.failures a.image_out.now) (Saved.failures a.image_out.now);
+      image = given_since (Image.history a.image.now) (Image.history c.begin.new.image);
+      script = given_since (Script.history a.script.now) (Script.history c.run.new.script);
+      out = taken_since (Answers.history a.out.now) (Answers.history c.run.new.out);
+      saved = taken_since (Saved.history a.image_out.now) (Saved.history a.image_out.now);
     })
     c.in_ok-segment.segment c.run.new.machine c.in_err-run.field-0.0 c.in_ok-segment.ensures.starts c.in_err-run.ensures.leaves
-    (not_written (Saved.taken a.image_out.now) (Saved.failures a.image_out.now)))
+    (not_written (Saved.history a.image_out.now)))
 
 pub returns-in_err-run-clause-out_grows : goal.returns-in_err-run-clause-out_grows
 returns-in_err-run-clause-out_grows g c =
@@ -48,13 +49,13 @@ returns-in-Ok-clause-session g c =
     let a = c.args in
     done_session a.start a.mode a.base (length a.region)
     (record {
-      image = given_since (Image.given a.image.now) (Image.given c.begin.new.image) (Image.ended c.begin.new.image) (Image.failures a.image.now) (Image.failures c.begin.new.image);
-      script = given_since (Script.given a.script.now) (Script.given c.run.new.script) (Script.ended c.run.new.script) (Script.failures a.script.now) (Script.failures c.run.new.script);
-      out = taken_since (Answers.taken a.out.now) (Answers.taken c.run.new.out) (Answers.failures a.out.now) (Answers.failures c.run.new.out);
-      saved = taken_since (Saved.taken a.image_out.now) (Saved.taken c.save_segment.new.image_out) (Saved.failures a.image_out.now) (Saved.failures c.save_segment.new.image_out);
+      image = given_since (Image.history a.image.now) (Image.history c.begin.new.image);
+      script = given_since (Script.history a.script.now) (Script.history c.run.new.script);
+      out = taken_since (Answers.history a.out.now) (Answers.history c.run.new.out);
+      saved = taken_since (Saved.history a.image_out.now) (Saved.history c.save_segment.new.image_out);
     })
     c.in_ok-segment.segment c.run.new.machine tt c.in_ok-segment.ensures.starts c.in_ok-run.ensures.leaves c.in-Ok.ensures.ok
-    (λ writes. added (Saved.taken a.image_out.now) (Saved.taken c.save_segment.new.image_out) c.run.new.machine.cut.bytes (c.in-Ok.ensures.bytes writes))
+    (λ writes. added (Saved.history a.image_out.now).bytes (Saved.history c.save_segment.new.image_out).bytes c.run.new.machine.cut.bytes (c.in-Ok.ensures.bytes writes))
     (none_failed _ _ (omega (arith, c.in-Ok.ensures.counted)))
 
 pub returns-in-Ok-clause-out_grows : goal.returns-in-Ok-clause-out_grows
@@ -69,10 +70,10 @@ returns-clause-session g c =
     let unsaved = c.in-Err.ensures.err in
     unsaved_session a.start a.mode a.base (length a.region)
     (record {
-      image = given_since (Image.given a.image.now) (Image.given c.begin.new.image) (Image.ended c.begin.new.image) (Image.failures a.image.now) (Image.failures c.begin.new.image);
-      script = given_since (Script.given a.script.now) (Script.given c.run.new.script) (Script.ended c.run.new.script) (Script.failures a.script.now) (Script.failures c.run.new.script);
-      out = taken_since (Answers.taken a.out.now) (Answers.taken c.run.new.out) (Answers.failures a.out.now) (Answers.failures c.run.new.out);
-      saved = taken_since (Saved.taken a.image_out.now) (Saved.taken c.save_segment.new.image_out) (Saved.failures a.image_out.now) (Saved.failures c.save_segment.new.image_out);
+      image = given_since (Image.history a.image.now) (Image.history c.begin.new.image);
+      script = given_since (Script.history a.script.now) (Script.history c.run.new.script);
+      out = taken_since (Answers.history a.out.now) (Answers.history c.run.new.out);
+      saved = taken_since (Saved.history a.image_out.now) (Saved.history c.save_segment.new.image_out);
     })
     c.in_ok-segment.segment c.run.new.machine c.in_ok-segment.ensures.starts c.in_ok-run.ensures.leaves unsaved.0 unsaved.1
     (one_failed _ _ c.in-Err.ensures.counted)

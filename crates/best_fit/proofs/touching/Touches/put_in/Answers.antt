@@ -31,7 +31,7 @@ overflow_add-self-2 c =
 
 pub set_link-requires-clause-inside : goal.set_link-requires-clause-inside
 set_link-requires-clause-inside c =
-    node_inside c.insert-changed.new.nodes.window c.args.node (ap (λ (p : ℕ → Bool). p c.args.node) c.insert-changed.ensures.nodes ∙ c.clear_links.ensures.node)
+    node_inside c.insert-changed.new.nodes.window c.args.node (ap (λ (p : ℕ → Bool). p c.args.node) c.insert-changed.ensures.same.nodes ∙ c.clear_links.ensures.node)
 
 pub set_link-requires-clause-target : goal.set_link-requires-clause-target
 set_link-requires-clause-target c = target_whole c.insert-changed.new.nodes.window c.insert-changed.result.root c.insert-changed.ensures.root
@@ -41,13 +41,13 @@ returns-clause-tree c = λ xs g ys is l.
     let w = c.args.self.now.gaps.now.window in let b = c.clear_links.new.gaps.window in let d = c.insert-changed.new.nodes.window in let e = c.set_link.new.window in
     put_tree w b d e xs g ys c.args.node is l (c.clear_links.ensures.tree xs g ys is l) c.clear_links.ensures.kept c.insert-changed.result.root
     (λ t s. c.insert-changed.ensures.tree t (rw c.load-root.ensures s))
-    c.clear_links.ensures.node c.insert-changed.ensures.nodes c.insert-changed.ensures.kept c.set_link.ensures.leads c.set_link.ensures.len c.set_link.ensures.rest
+    c.clear_links.ensures.node c.insert-changed.ensures.same.nodes c.insert-changed.ensures.same.kept c.set_link.ensures.leads c.set_link.ensures.len c.set_link.ensures.rest
 
 pub returns-clause-rest : goal.returns-clause-rest
 returns-clause-rest c =
     let w = c.args.self.now.gaps.now.window in let d = c.insert-changed.new.nodes.window in let e = c.set_link.new.window in
-    taken_rest w d e c.args.node (ap (λ (p : ℕ → Bool). p c.args.node) c.insert-changed.ensures.nodes ∙ c.clear_links.ensures.node)
-    (c.insert-changed.ensures.kept ∙ c.clear_links.ensures.kept) c.set_link.ensures.place c.set_link.ensures.len c.set_link.ensures.rest
+    taken_rest w d e c.args.node (ap (λ (p : ℕ → Bool). p c.args.node) c.insert-changed.ensures.same.nodes ∙ c.clear_links.ensures.node)
+    (c.insert-changed.ensures.same.kept ∙ c.clear_links.ensures.kept) c.set_link.ensures.place c.set_link.ensures.len c.set_link.ensures.rest
 
 pub returns-clause-steps : goal.returns-clause-steps
 returns-clause-steps c = λ xs g ys is l.

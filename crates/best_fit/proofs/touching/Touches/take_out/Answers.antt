@@ -26,7 +26,7 @@ overflow_add-self c =
 pub set_link-requires-clause-inside : goal.set_link-requires-clause-inside
 set_link-requires-clause-inside c =
     let w = c.args.self.now.gaps.now.window in let d = c.remove-changed.new.nodes.window in
-    node_inside d c.args.node (ap (λ (p : ℕ → Bool). p c.args.node) c.remove-changed.ensures.nodes ∙ node_of_tree w c.requires.tree.0 c.args.node c.requires.tree.1 c.requires.tree.2)
+    node_inside d c.args.node (ap (λ (p : ℕ → Bool). p c.args.node) c.remove-changed.ensures.same.nodes ∙ node_of_tree w c.requires.tree.0 c.args.node c.requires.tree.1 c.requires.tree.2)
 
 pub set_link-requires-clause-target : goal.set_link-requires-clause-target
 set_link-requires-clause-target c = target_whole c.remove-changed.new.nodes.window c.remove-changed.result.root c.remove-changed.ensures.root
@@ -36,13 +36,13 @@ returns-clause-tree c = λ xs g ys is h.
     let w = c.args.self.now.gaps.now.window in let d = c.remove-changed.new.nodes.window in let e = c.set_link.new.window in
     taken_tree w d e xs g ys c.args.node is h c.remove-changed.result.root
     (λ t s. c.remove-changed.ensures.tree t (rw c.load-root.ensures s))
-    c.remove-changed.ensures.nodes c.remove-changed.ensures.kept c.set_link.ensures.leads c.set_link.ensures.len c.set_link.ensures.rest
+    c.remove-changed.ensures.same.nodes c.remove-changed.ensures.same.kept c.set_link.ensures.leads c.set_link.ensures.len c.set_link.ensures.rest
 
 pub returns-clause-rest : goal.returns-clause-rest
 returns-clause-rest c =
     let w = c.args.self.now.gaps.now.window in let d = c.remove-changed.new.nodes.window in let e = c.set_link.new.window in
-    taken_rest w d e c.args.node (ap (λ (p : ℕ → Bool). p c.args.node) c.remove-changed.ensures.nodes ∙ node_of_tree w c.requires.tree.0 c.args.node c.requires.tree.1 c.requires.tree.2)
-    c.remove-changed.ensures.kept c.set_link.ensures.place c.set_link.ensures.len c.set_link.ensures.rest
+    taken_rest w d e c.args.node (ap (λ (p : ℕ → Bool). p c.args.node) c.remove-changed.ensures.same.nodes ∙ node_of_tree w c.requires.tree.0 c.args.node c.requires.tree.1 c.requires.tree.2)
+    c.remove-changed.ensures.same.kept c.set_link.ensures.place c.set_link.ensures.len c.set_link.ensures.rest
 
 pub returns-clause-steps : goal.returns-clause-steps
 returns-clause-steps c = λ hs h.

@@ -1,0 +1,44 @@
+-- The laws of live sets, gaps and the bytes that lay them out for other crates.
+
+-- bytes lay out one live set, and the four changes keep a proper live set proper
+pub use Rattle.best_fit.proofs.LayOut.{lay_out_one}
+pub use Rattle.best_fit.proofs.Changes.{all_keep_proper, is_proper-IsProper}
+-- a live set with a placed extent is proper, and what is known of an answer that may be none
+pub use Rattle.best_fit.proofs.Restoring.{placed_is_proper}
+pub use Rattle.best_fit.proofs.Placing.{IfSome_is, place-holds, shorter-IsShorter}
+pub use Rattle.best_fit.proofs.Serving.{place-serves}
+-- a legal size, and what a proper live set says of its first extent and of the holes
+pub use Rattle.best_fit.proofs.Laid.{IsLegal, legal_size}
+pub use Rattle.best_fit.proofs.Proper.{IsBlock, IsFirst, IsFirst-proper_from, insert-here, insert-past, is_hole-IsHole, proper_from-IsFirst, proper_from-others}
+unfoldable pub use Rattle.best_fit.proofs.Proper.{IsHole}
+-- extents in order: one is put in or taken out
+pub use Rattle.best_fit.proofs.Order.{AllByRecursion-insert, AllByRecursion-insert_from, AllByRecursion-insert_new, AllByRecursion-others, insert-comm, list_any-insert, others-insert, others-insert_same}
+pub use Rattle.best_fit.proofs.Proper.{others-here, others-past}
+-- what stays twice stays, and what of it is kept with a block less
+pub use Rattle.best_fit.proofs.Frames.{AllByRecursion-beside, IsBeside, SameBlock-trans, blocks-trans, keeps-insert, keeps-others, keeps-refl, keeps-trans}
+-- a block that was placed is live, with room for what was asked for, and so are those before it; and still where payloads change
+pub use Rattle.best_fit.proofs.Allocated.{allocated-is_live, allocated-live, allocated-room, allocated-room_before, changed-keeps, changed-keeps_block, changed-live, changed-room, holds-fewer, is_red-payload, names-has_room, released-live, resized-live, still_allocated, still_allocated-block}
+-- a tile is free or in use, and what the gaps and the live set of tiles are then
+pub use Rattle.best_fit.proofs.Rows.{Fill-Row, free-unused, gaps_of-append, gaps_of-free, gaps_of-used, span_between-none, span_between-some, spans_from-row, unused, use_cases, used}
+unfoldable pub use Rattle.best_fit.proofs.Rows.{Row, extents_of}
+pub use Rattle.best_fit.proofs.Laid.{gaps-live_in, proper_live}
+-- no two free tiles are neighbours
+pub use Rattle.best_fit.proofs.Rows.{is_merged-Apart}
+unfoldable pub use Rattle.best_fit.proofs.Rows.{Apart}
+-- a gap that a number names as a node: its tile and its length
+pub use Rattle.best_fit.proofs.GapFacts.{NodeAt, node_from, node_len}
+-- gaps in the order of the tree: the same gaps, each once, and rising
+pub use Rattle.best_fit.proofs.GapOrder.{in_sorted, sorted-rises}
+pub use Rattle.best_fit.proofs.FreeTrees.{length-inserted, length-sorted}
+-- the gaps of a heap are those of its live set, and links among them hold a tree
+pub use Rattle.best_fit.proofs.FreeTrees.{all_gaps}
+pub use Rattle.best_fit.proofs.Replanting.{holds_closed}
+-- a walk over the tiles of a window, from one to the next
+pub use Rattle.best_fit.proofs.Walks.{Here, Meets, first_here, meets, next_here, next_nearer, none_left, passed_on}
+unfoldable pub use Rattle.best_fit.proofs.Walks.{to_go}
+pub use Rattle.best_fit.proofs.Laid.{said_row}
+-- the payload of a block in use: where it lies, what stays beside it, and bytes that lay out what they say
+pub use Rattle.best_fit.proofs.Linked.{block_aligned}
+pub use Rattle.best_fit.proofs.Writes.{block_payload, laid-heap, room_block}
+-- no gap is longer than the largest segment, and a number has no more digits than a greater one
+pub use Rattle.best_fit.proofs.Allocating.{bits-le, too_long}

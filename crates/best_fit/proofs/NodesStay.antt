@@ -1,0 +1,17 @@
+-- A node's cell changes, and nothing else that a tree of nodes is told of.
+use Rattle.std.proofs.Common.{refl, ℕ}
+use Rattle.link_tree.specs.Frame.{SameBesideCells}
+use Rattle.best_fit.specs.GapLaws.{GapNode}
+use Rattle.best_fit.specs.contracts.nodes.GapsNodes.TheImpl.{ghosts}
+use Rattle.best_fit.specs.declared.nodes.Gaps.{Gaps}
+use Rattle.best_fit.proofs.GapSteps.{Changed, nodes_stay, order_stays, probes_stay, kept_stays}
+
+pub same_beside_cells : (old new : Gaps) (n : ℕ) → GapNode old.window n → Changed old.window new.window n → SameBesideCells ghosts old new
+same_beside_cells old new n g changed =
+    record {
+      nodes = nodes_stay old.window new.window n g changed;
+      order = order_stays old.window new.window n g changed;
+      probe = probes_stay old.window new.window n g changed;
+      lender = refl;
+      kept = kept_stays old.window new.window n g changed;
+    }

@@ -1,6 +1,0 @@
--- The law is the lemma.
-use Rattle.best_fit.proofs.Restoring.{giving_back_restores}
-use Rattle.best_fit.proofs.laws.giving_back_restores.Goals as goal
-
-pub returns : goal.returns
-returns c = giving_back_restores

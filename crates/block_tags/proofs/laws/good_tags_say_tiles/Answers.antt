@@ -1,5 +1,0 @@
-use Rattle.block_tags.proofs.Lists.{good_tags_say_tiles as law}
-use Rattle.block_tags.proofs.laws.good_tags_say_tiles.Goals as goal
-
-pub returns : goal.returns
-returns c = law

@@ -1,5 +1,0 @@
-use Rattle.block_tags.proofs.Lists.{header_is_beside_tags as law}
-use Rattle.block_tags.proofs.laws.header_is_beside_tags.Goals as goal
-
-pub returns : goal.returns
-returns c = law

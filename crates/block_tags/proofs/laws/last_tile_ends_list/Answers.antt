@@ -1,5 +1,0 @@
-use Rattle.block_tags.proofs.Lists.{last_tile_ends_list as law}
-use Rattle.block_tags.proofs.laws.last_tile_ends_list.Goals as goal
-
-pub returns : goal.returns
-returns c = law

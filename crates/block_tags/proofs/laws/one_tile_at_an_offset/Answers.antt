@@ -1,5 +1,0 @@
-use Rattle.block_tags.proofs.Lists.{one_tile_at_an_offset as law}
-use Rattle.block_tags.proofs.laws.one_tile_at_an_offset.Goals as goal
-
-pub returns : goal.returns
-returns c = law

@@ -1,6 +1,0 @@
--- The law is the lemma.
-use Rattle.block_tags.proofs.ReadOff.{say_one_list}
-use Rattle.block_tags.proofs.laws.tags_say_one_list.Goals as goal
-
-pub returns : goal.returns
-returns c = say_one_list

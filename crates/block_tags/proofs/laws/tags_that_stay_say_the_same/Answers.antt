@@ -1,5 +1,0 @@
-use Rattle.block_tags.proofs.Stays.{tags_that_stay_say_the_same as law}
-use Rattle.block_tags.proofs.laws.tags_that_stay_say_the_same.Goals as goal
-
-pub returns : goal.returns
-returns c = law

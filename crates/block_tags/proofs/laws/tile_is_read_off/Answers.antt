@@ -1,5 +1,0 @@
-use Rattle.block_tags.proofs.Lists.{tile_is_read_off as law}
-use Rattle.block_tags.proofs.laws.tile_is_read_off.Goals as goal
-
-pub returns : goal.returns
-returns c = law

@@ -1,5 +1,0 @@
-use Rattle.block_tags.proofs.Lists.{tile_stands_in_list as law}
-use Rattle.block_tags.proofs.laws.tile_stands_in_list.Goals as goal
-
-pub returns : goal.returns
-returns c = law

@@ -1,5 +1,0 @@
-use Rattle.block_tags.proofs.Lists.{tiles_are_read_off as law}
-use Rattle.block_tags.proofs.laws.tiles_are_read_off.Goals as goal
-
-pub returns : goal.returns
-returns c = law

@@ -1,5 +1,0 @@
-use Rattle.block_tags.proofs.Lists.{tiles_fill_the_window as law}
-use Rattle.block_tags.proofs.laws.tiles_fill_the_window.Goals as goal
-
-pub returns : goal.returns
-returns c = law

@@ -1,0 +1,5 @@
+use Rattle.block_tags.proofs.Lists.{header_is_beside_tags as law}
+use Rattle.block_tags.proofs.theorems.header_is_beside_tags.Goals as goal
+
+pub returns : goal.returns
+returns c = law

@@ -1,0 +1,5 @@
+use Rattle.block_tags.proofs.Lists.{last_tile_ends_list as law}
+use Rattle.block_tags.proofs.theorems.last_tile_ends_list.Goals as goal
+
+pub returns : goal.returns
+returns c = law

@@ -1,6 +1,0 @@
--- The law is the lemma.
-use Rattle.grow_shrink.proofs.Sizes.{shrunk-least}
-use Rattle.grow_shrink.proofs.laws.shrunk_is_least.Goals as goal
-
-pub returns : goal.returns
-returns c = shrunk-least

@@ -1,0 +1,203 @@
+//! Two keepers of nodes for the tests of trees: one that owns a table of them, and one that holds a reference to it.
+
+ghost use Rattle.std.specs.Prelude.{◌≡◌, ◌≢◌, ℕ, ◌+◌, ◌<◌, ◌≤◌, Bool, true, false, Option, Some, None, length, nat_lt, nat_eq, refl};
+ghost use Rattle.link_tree.specs.Nodes.{leads};
+ghost use Rattle.layer_tests.specs.Table.{link_of, table_cells};
+ghost use Rattle.layer_tests.specs.TableLaws.{table_finite, table_left, table_right, table_irreflexive, table_transitive, table_agrees};
+
+use link_tree::{Nodes, NodesMut};
+
+/// The number that stands for no link.
+const NOWHERE: u64 = 64;
+
+/// Nodes 0 to 63 in the order of their numbers.
+#[derive(Drop)]
+pub struct Table {
+    left: [u64; 64],
+    right: [u64; 64],
+    red: [u64; 64],
+}
+
+fn link(value: u64) -> Option<u64>
+    ensures { result ≡ link_of value }
+{
+    if value < 64 { Some(value) } else { None }
+}
+
+fn value(link: Option<u64>) -> u64
+    requires { leads (λ n. nat_lt n 64) link ≡ true }
+    ensures { link_of result ≡ link }
+{
+    match link {
+        Some(node) => node,
+        None => NOWHERE,
+    }
+}
+
+fn colour(red: bool) -> u64
+    ensures { nat_eq result 1 ≡ red }
+{
+    if red { 1 } else { 0 }
+}
+
+impl Nodes for Table {
+    type Probe = u64;
+
+    ghost cells = { λ s. table_cells s.left s.right s.red };
+
+    ghost is_node = { λ s n. nat_lt n 64 };
+
+    ghost order = { λ s. nat_lt };
+
+    ghost before = { λ s probe n. nat_lt n probe };
+
+    ghost kept = { λ s. tt };
+
+    fn left(&self, node: u64) -> Option<u64> {
+        link(self.left[node as usize])
+    }
+
+    fn right(&self, node: u64) -> Option<u64> {
+        link(self.right[node as usize])
+    }
+
+    fn red(&self, node: u64) -> bool {
+        self.red[node as usize] == 1
+    }
+
+    fn precedes(&self, a: u64, b: u64) -> bool {
+        a < b
+    }
+
+    fn before_probe(&self, node: u64, probe: &u64) -> bool {
+        node < *probe
+    }
+
+    ghost finite = { λ s. table_finite };
+
+    ghost left_closed = { λ s. table_left s.left s.right s.red };
+
+    ghost right_closed = { λ s. table_right s.left s.right s.red };
+
+    ghost irreflexive = { λ s. table_irreflexive };
+
+    ghost transitive = { λ s. table_transitive };
+
+    ghost agrees = { λ s. table_agrees };
+}
+
+impl NodesMut for Table {
+    fn set_left(&mut self, node: u64, to: Option<u64>) {
+        self.left[node as usize] = value(to);
+    }
+
+    fn set_right(&mut self, node: u64, to: Option<u64>) {
+        self.right[node as usize] = value(to);
+    }
+
+    fn set_red(&mut self, node: u64, red: bool) {
+        self.red[node as usize] = colour(red);
+    }
+}
+
+/// A table that someone else owns.
+#[derive(Drop)]
+pub struct Lent<'a> {
+    pub table: &'a mut Table,
+}
+
+impl<'a> Nodes for Lent<'a> {
+    type Probe = u64;
+
+    ghost cells = { λ s. table_cells s.table.now.left s.table.now.right s.table.now.red };
+
+    ghost is_node = { λ s n. nat_lt n 64 };
+
+    ghost order = { λ s. nat_lt };
+
+    ghost before = { λ s probe n. nat_lt n probe };
+
+    ghost lender = { λ s. s.table.ghost_name };
+
+    ghost kept = { λ s. tt };
+
+    fn left(&self, node: u64) -> Option<u64> {
+        self.table.left(node)
+    }
+
+    fn right(&self, node: u64) -> Option<u64> {
+        self.table.right(node)
+    }
+
+    fn red(&self, node: u64) -> bool {
+        self.table.red(node)
+    }
+
+    fn precedes(&self, a: u64, b: u64) -> bool {
+        self.table.precedes(a, b)
+    }
+
+    fn before_probe(&self, node: u64, probe: &u64) -> bool {
+        self.table.before_probe(node, probe)
+    }
+
+    ghost finite = { λ s. table_finite };
+
+    ghost left_closed = { λ s. table_left s.table.now.left s.table.now.right s.table.now.red };
+
+    ghost right_closed = { λ s. table_right s.table.now.left s.table.now.right s.table.now.red };
+
+    ghost irreflexive = { λ s. table_irreflexive };
+
+    ghost transitive = { λ s. table_transitive };
+
+    ghost agrees = { λ s. table_agrees };
+}
+
+impl<'a> NodesMut for Lent<'a> {
+    fn set_left(&mut self, node: u64, to: Option<u64>) {
+        self.table.set_left(node, to);
+    }
+
+    fn set_right(&mut self, node: u64, to: Option<u64>) {
+        self.table.set_right(node, to);
+    }
+
+    fn set_red(&mut self, node: u64, red: bool) {
+        self.table.set_red(node, red);
+    }
+}
+
+/// Nodes that are the numbers below 64, in their order, and probes that are numbers.
+pub trait Numbered: NodesMut<Probe = u64> {
+    ghost numbers: { (s : Self) → Self.is_node s ≡ (λ n. nat_lt n 64) };
+
+    ghost in_order: { (s : Self) → Self.order s ≡ nat_lt };
+
+    ghost probed: { (s : Self) (probe : ℕ) → Self.before s probe ≡ (λ n. nat_lt n probe) };
+}
+
+impl Numbered for Table {
+    ghost numbers = { λ s. refl };
+
+    ghost in_order = { λ s. refl };
+
+    ghost probed = { λ s probe. refl };
+}
+
+impl<'a> Numbered for Lent<'a> {
+    ghost numbers = { λ s. refl };
+
+    ghost in_order = { λ s. refl };
+
+    ghost probed = { λ s probe. refl };
+}
+
+/// A table in which no node leads anywhere, and all are black.
+pub fn empty_table() -> Table {
+    Table {
+        left: [NOWHERE; 64],
+        right: [NOWHERE; 64],
+        red: [0; 64],
+    }
+}

@@ -1,0 +1,205 @@
+//! Values as bytes: those of the five scalar types, and those of a type that a caller gives the trait.
+ghost use Rattle.std.specs.Prelude.{◌≡◌, ◌≤◌, nat_lt, length, refl};
+ghost use Rattle.std.proofs.Common.{lit≤};
+ghost use Rattle.layer_tests.specs.Tickets.{place, ticket_bytes, is_number};
+ghost use Rattle.layer_tests.specs.Tickets as laws;
+
+use seg_types::theorems::{
+    scalar_is_number, unordered_are_same, values_spell_one, written_is_read,
+};
+use seg_types::{LONGEST_NAME, Name, Plain, Scalar, ScalarKind};
+use std::fmt::Debug;
+use std::process::Abort;
+
+/// A ticket of a queue, in three bytes: whether it is urgent, and its number. Urgent ones come first.
+#[derive(Clone, Copy, Debug, PartialEq)]
+struct Ticket {
+    urgent: bool,
+    number: u16,
+}
+
+impl Ticket {
+    /// The urgent ones by their numbers, and then the others.
+    fn place(self) -> u32
+        ensures { result ≡ place self.urgent self.number }
+    {
+        let group = if self.urgent { 0 } else { 65536 };
+        group + u32::from(self.number)
+    }
+}
+
+impl Plain for Ticket {
+    const SIZE: u64 = 3;
+
+    const CODE: u32 = 0x8000_0001;
+
+    ghost SIZE = { 3 };
+
+    ghost CODE = { 0x8000_0001 };
+
+    ghost is_value = { λ t. is_number t.number };
+
+    ghost spelling = { λ t. ticket_bytes t.urgent t.number };
+
+    ghost order = { λ s t. nat_lt (place s.urgent s.number) (place t.urgent t.number) };
+
+    fn write(self, to: &mut [u8]) {
+        let [low, high] = self.number.to_le_bytes();
+        to.copy_from_slice(&[u8::from(self.urgent), low, high]);
+    }
+
+    fn read(from: &[u8]) -> Option<Ticket> {
+        let urgent = match from[0] {
+            0 => false,
+            1 => true,
+            _ => return None,
+        };
+        let number = u16::from_le_bytes([from[1], from[2]]);
+        Some(Ticket { urgent, number })
+    }
+
+    fn precedes(self, other: Ticket) -> bool {
+        self.place() < other.place()
+    }
+
+    ghost sizes = { (lit≤ tt, lit≤ tt) };
+
+    ghost spells = { λ t h. refl };
+
+    ghost differs = { λ s t h k e. let same = laws.ticket_differs s.urgent t.urgent s.number t.number h k e in λ j. record { urgent = same.0 j; number = same.1 j } };
+
+    ghost irreflexive = { λ t. laws.ticket_irreflexive (place t.urgent t.number) };
+
+    ghost transitive = { λ s t u. laws.ticket_transitive (place s.urgent s.number) (place t.urgent t.number) (place u.urgent u.number) };
+
+    ghost total = { λ s t h k e f. let same = laws.ticket_total s.urgent t.urgent s.number t.number h k e f in λ j. record { urgent = same.0 j; number = same.1 j } };
+}
+
+/// Asserts that the value is spelled by these bytes, that they are read as it, and that it does not stand before itself.
+fn check_spelled<T: Plain + PartialEq + Drop>(rt: &impl Abort, value: T, spelled: &[u8])
+    requires size { length spelled.now ≡ T.SIZE }
+    requires small { T.SIZE ≤ 8 }
+{
+    let mut room = [0; 8];
+    let bytes = &mut room[..spelled.len()];
+    value.write(bytes);
+    assert!(rt; &*bytes == spelled);
+    assert!(rt; T::read(spelled) == Some(value));
+    assert!(rt; !value.precedes(value));
+    assert!(rt; written_is_read(value, bytes) == Some(value));
+    assert!(rt; unordered_are_same(value, value));
+}
+
+/// Asserts that each of these stands before the next, and not the other way round.
+fn check_rising<T: Plain>(rt: &impl Abort, values: &[T]) {
+    for pair in values.windows(2) {
+        assert!(rt; pair[0].precedes(pair[1]));
+        assert!(rt; !pair[1].precedes(pair[0]));
+    }
+}
+
+#[test]
+fn truths(rt: HostRuntime) {
+    assert_eq!(rt;
+        (bool::SIZE, bool::CODE, bool::kind()),
+        (1, 1, ScalarKind::Bool)
+    );
+    check_spelled(&rt, false, &[0]);
+    check_spelled(&rt, true, &[1]);
+    check_rising(&rt, &[false, true]);
+    assert_eq!(rt; bool::read(&[2]), None);
+    assert_eq!(rt; bool::read(&[255]), None);
+}
+
+#[test]
+fn bytes(rt: HostRuntime) {
+    assert_eq!(rt; (u8::SIZE, u8::CODE, u8::kind()), (1, 2, ScalarKind::U8));
+    check_spelled(&rt, 0u8, &[0]);
+    check_spelled(&rt, 255u8, &[255]);
+    check_rising(&rt, &[0u8, 127, 128, 255]);
+}
+
+#[test]
+fn numbers_of_four_bytes(rt: HostRuntime) {
+    assert_eq!(rt;
+        (i32::SIZE, i32::CODE, i32::kind()),
+        (4, 3, ScalarKind::I32)
+    );
+    check_spelled(&rt, 0i32, &[0; 4]);
+    check_spelled(&rt, -1i32, &[255; 4]);
+    check_spelled(&rt, 67305985i32, &[1, 2, 3, 4]);
+    check_spelled(&rt, i32::MIN, &[0, 0, 0, 128]);
+    check_spelled(&rt, i32::MAX, &[255, 255, 255, 127]);
+    check_rising(&rt, &[i32::MIN, -1, 0, 1, i32::MAX]);
+}
+
+#[test]
+fn numbers_of_eight_bytes(rt: HostRuntime) {
+    assert_eq!(rt;
+        (i64::SIZE, i64::CODE, i64::kind()),
+        (8, 4, ScalarKind::I64)
+    );
+    check_spelled(&rt, -2i64, &[254, 255, 255, 255, 255, 255, 255, 255]);
+    check_spelled(&rt, 578437695752307201i64, &[1, 2, 3, 4, 5, 6, 7, 8]);
+    check_spelled(&rt, i64::MIN, &[0, 0, 0, 0, 0, 0, 0, 128]);
+    check_spelled(&rt, i64::MAX, &[255, 255, 255, 255, 255, 255, 255, 127]);
+    check_rising(&rt, &[i64::MIN, -1, 0, 1, i64::MAX]);
+}
+
+#[test]
+fn numbers_without_a_sign(rt: HostRuntime) {
+    assert_eq!(rt;
+        (u64::SIZE, u64::CODE, u64::kind()),
+        (8, 5, ScalarKind::U64)
+    );
+    check_spelled(&rt, 578437695752307201u64, &[1, 2, 3, 4, 5, 6, 7, 8]);
+    check_spelled(&rt, u64::MAX, &[255; 8]);
+    check_rising(
+        &rt,
+        &[0u64, 9223372036854775807, 9223372036854775808, u64::MAX],
+    );
+}
+
+#[test]
+fn laws_are_called(rt: HostRuntime) {
+    values_spell_one();
+    assert_eq!(rt; scalar_is_number::<bool>(&[2]), None);
+    assert_eq!(rt; scalar_is_number::<i32>(&[0, 0, 0, 128]), Some(i32::MIN));
+    assert!(rt; !unordered_are_same(1u8, 2u8));
+}
+
+#[test]
+fn tickets(rt: HostRuntime) {
+    let urgent = |number| Ticket {
+        urgent: true,
+        number,
+    };
+    let plain = |number| Ticket {
+        urgent: false,
+        number,
+    };
+    check_spelled(&rt, urgent(258), &[1, 2, 1]);
+    check_spelled(&rt, plain(65535), &[0, 255, 255]);
+    check_rising(&rt, &[urgent(0), urgent(65535), plain(0), plain(1)]);
+    assert_eq!(rt; Ticket::read(&[2, 0, 0]), None);
+}
+
+/// Whether these bytes are a name, which then holds them.
+fn is_held(bytes: &[u8]) -> bool {
+    match Name::new(bytes) {
+        Some(name) => name.as_bytes() == bytes,
+        None => false,
+    }
+}
+
+#[test]
+fn names(rt: HostRuntime) {
+    let long = [b'~'; LONGEST_NAME + 1];
+    assert!(rt; is_held(b"a"));
+    assert!(rt; is_held(b" with blanks, and \"quotes\""));
+    assert!(rt; is_held(&long[..LONGEST_NAME]));
+    assert!(rt; Name::new(&long).is_none());
+    assert!(rt; Name::new(b"").is_none());
+    assert!(rt; Name::new(b"line\n").is_none());
+    assert!(rt; Name::new(&[0x7F]).is_none());
+}

@@ -1,0 +1,8 @@
+-- The laws of links for other crates.
+
+-- a link whose bytes stay leads where it led
+pub use Rattle.offset_link.proofs.Links.{Same-link, SameBut-link}
+-- a link that leads nowhere is the null word
+pub use Rattle.offset_link.proofs.Links.{null_word}
+-- links that are shifted are as many as they were
+pub use Rattle.offset_link.proofs.Shifting.{length-relinked}

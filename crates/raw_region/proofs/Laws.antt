@@ -1,0 +1,25 @@
+-- The laws of bytes, words and windows for other crates.
+use Rattle.std.proofs.Common.{◌≡◌, ap, refl, ◌∙◌, ℕ, List, ◌++◌, length, drop, append_assoc}
+use Rattle.std.proofs.lemmas.List.{drop_at}
+-- parts of a list of bytes, and a list with a part rewritten
+pub use Rattle.raw_region.proofs.Patches.{length-part, part-at, part-part, same_bytes, read-part, length-patched, patched-all, patched-append, patched-inside, patched-outside, patched-prepend, refill-all, whole-cut_at, length-word}
+-- where memory stays
+pub use Rattle.raw_region.proofs.Words.{Same-refl, Same-trans, Same-part, Same-read, Same-word, Same-half_word, Has-same}
+pub use Rattle.raw_region.proofs.Words.{SameBut-trans, SameBut-wider, SameBut-Same, SameBut-word, SameBut-half_word, SameBut-word_above, SameBut-word_below}
+pub use Rattle.raw_region.proofs.Words.{SamePlace-trans, with_bytes-SamePlace}
+-- words that are written, and words that are moved
+pub use Rattle.raw_region.proofs.Words.{word-own, word-before, word-after, word-inside, word-first, word-behind, word_moved, length-word_written, word_written-SameBut, patched-Has, patched-SameBut}
+-- zeros
+pub use Rattle.raw_region.proofs.Words.{filled-AreZero, filled-SameBut, length-zeros}
+-- texts that are written piece by piece
+pub use Rattle.raw_region.proofs.Writing.{writes-behind, writes-then, writes-cut, writes-element}
+
+-- ---- what a device gave or took
+
+-- what is behind the bytes before is what was added
+pub added : (old new b : List ℕ) → new ≡ old ++ b → drop (length old) new ≡ b
+added old new b e = ap (λ (l : List ℕ). drop (length old) l) e ∙ drop_at old b (length old) refl
+
+-- first these bytes, and then those
+pub both_added : (old mid new b more : List ℕ) → mid ≡ old ++ b → new ≡ mid ++ more → new ≡ old ++ (b ++ more)
+both_added old mid new b more e f = f ∙ ap (λ (l : List ℕ). l ++ more) e ∙ append_assoc old b more

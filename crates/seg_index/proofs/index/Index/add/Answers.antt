@@ -1,0 +1,1 @@
+-- In the block that the index has, or in that of the growth.

@@ -1,0 +1,48 @@
+-- What a call leaves that gives an index another capacity.
+use Rattle.std.specs.Prelude.{◌≡◌, ℕ, ◌+◌, ◌*◌, ◌<◌, ◌≤◌, Some, None, Result, MatchResult, List, length, ◌==◌, if◌then◌else◌}
+use Rattle.raw_region.specs.Format.{current}
+use Rattle.raw_region.specs.Memory.{Cut, bytes_of}
+use Rattle.block_tags.specs.declared.tile.Role.TheVariants.{Index as IndexRole}
+use Rattle.link_tree.specs.Tree.{bits}
+use Rattle.offset_link.specs.Link.{link_at}
+use Rattle.best_fit.specs.Extents.{Extent, LiveSet, gaps, handle}
+use Rattle.best_fit.specs.Fit.{added, place, released, resized, shorter}
+use Rattle.best_fit.specs.Heap.{IsRefused, LaysOut, live_of}
+use Rattle.best_fit.specs.Table.{Table, cut_table}
+use Rattle.seg_index.specs.Growth.{KeepsRest, beside_table, unlinked, without_link}
+use Rattle.seg_index.specs.Held.{IsIndexOf, capacity_at}
+
+-- the index has so many places in a new block, and its old one is no longer in use
+pub record IsReserved (old new : Cut) (at n : ℕ) : Type 0 where
+  pub extent : Extent
+  pub placed : place (live_of old.bytes) (8 * n) IndexRole ≡ Some extent
+  pub index : (t : Table) (handles : List ℕ) → IsIndexOf old at t handles → IsIndexOf new at (record { capacity = n; extent = Some extent }) handles
+  pub live : LaysOut current new.bytes (without_link (added (live_of old.bytes) extent) (link_at (bytes_of old.bytes) at))
+  pub keeps : KeepsRest old new at (unlinked old at).extents
+
+-- nothing changes where there are so many places
+pub record IsRoomy (old new : Cut) (at n : ℕ) : Type 0 where
+  pub same : n ≤ capacity_at old at → new ≡ old
+  pub reserved : capacity_at old at < n → IsReserved old new at n
+
+abbrev pub Reserves : {T E : Type 0} → Cut → Cut → ℕ → ℕ → Result T E → Type 0
+Reserves old new at n result =
+    MatchResult result (λ v. IsRoomy old new at n) (λ e. (capacity_at old at < n) × IsRefused old new (8 * n) IndexRole)
+
+-- how many steps a call of the heap may take
+abbrev pub heap_steps : LiveSet → ℕ
+heap_steps live = 128 * bits (length (gaps live) + 1) + 128
+
+-- one for the request, and one for the release of the old block
+abbrev pub reserve_steps : LiveSet → ℕ → ℕ
+reserve_steps live n = heap_steps live + elim (place live (8 * n) IndexRole) [ None ↦ 0 | Some x ↦ heap_steps (added live x) ]
+
+-- the live set where the block of a table is cut to n places
+abbrev pub with_cut : LiveSet → ℕ → Table → LiveSet
+with_cut live n t = elim t.extent [ None ↦ live | Some x ↦ if n == 0 then released live (handle x) else resized live (shorter live x (8 * n)) ]
+
+-- the index has as many places as entries
+pub record IsShrunk (old new : Cut) (at : ℕ) (t : Table) (handles : List ℕ) : Type 0 where
+  pub index : IsIndexOf new at (cut_table (live_of old.bytes) 8 (length handles) t) handles
+  pub live : LaysOut current new.bytes (with_cut (live_of old.bytes) (length handles) t)
+  pub keeps : KeepsRest old new at (beside_table t (live_of old.bytes).extents)

@@ -1,0 +1,100 @@
+//! An entry more.
+ghost use Rattle.std.specs.Prelude.{◌≡◌, ℕ, ◌+◌, ◌-◌, ◌*◌, ◌%◌, ◌<◌, ◌≤◌, IsTrue, List, Some, insert, length};
+ghost use Rattle.raw_region.specs.Format.{current};
+ghost use Rattle.raw_region.specs.Memory.{bytes_of};
+ghost use Rattle.link_tree.specs.Tree.{bits};
+ghost use Rattle.offset_link.specs.Link.{link_at};
+ghost use Rattle.offset_link.specs.Relinked.{AreLinks, KeepTargets};
+ghost use Rattle.best_fit.specs.Extents.{gaps};
+ghost use Rattle.best_fit.specs.Fit.{others};
+ghost use Rattle.best_fit.specs.Heap.{IsChanged, IsHeap, LaysOut, has_room, live_of};
+ghost use Rattle.best_fit.specs.Table.{Table as ATable};
+ghost use Rattle.seg_index.specs.Growth.{AddKeeps, Adds, CanGrow, IsBlockFor, KeepsRest, beside_table, grown_live, unlinked};
+ghost use Rattle.seg_index.specs.Held.{HasIndex, IsIndexIn, IsIndexOf, capacity_at, entry_count, place_of};
+ghost use Rattle.seg_index.specs.Index.{grown_capacity};
+
+use crate::growing::{Growth, LINK, grown};
+use crate::index::Index;
+use best_fit::Heap;
+use raw_region::Steps;
+
+impl Index {
+    /// Puts an entry at a place, in the block of a growth if there is one. The old block is then released. The entries from
+    /// that place on stand one place further.
+    pub fn add(self, heap: &mut Heap, place: u64, handle: u64, growth: Growth, steps: &mut Steps)
+        requires index { HasIndex heap.old (place_of self) }
+        requires growth { CanGrow heap.old (place_of self) growth.block }
+        requires within { place ≤ entry_count heap.old (place_of self) }
+        requires handle { handle % 16 ≡ 0 }
+        ensures index { (t : ATable) (handles : List ℕ) → IsIndexOf heap.old (place_of self) t handles
+            → Adds heap.old heap.new (place_of self) t (insert handles place handle) growth.block }
+        ensures live { LaysOut current heap.new.bytes (grown_live heap.old (place_of self) growth.block) }
+        ensures keeps { (t : ATable) (handles : List ℕ) → IsIndexOf heap.old (place_of self) t handles
+            → AddKeeps heap.old heap.new (place_of self) t growth.block }
+        ensures counted { steps.old ≤ steps.new }
+        ensures steps { steps.new ≤ steps.old + 128 * bits (length (gaps (live_of heap.old.bytes)) + 1) + 128 }
+    {
+        match growth.block {
+            None => self.insert(heap, place, handle),
+            Some(block) => self.insert_into(heap, block, place, handle, steps),
+        }
+    }
+
+    /// Puts an entry at a place of an index that has places left.
+    fn insert(self, heap: &mut Heap, place: u64, handle: u64)
+        requires index { HasIndex heap.old (place_of self) }
+        requires room { entry_count heap.old (place_of self) < capacity_at heap.old (place_of self) }
+        requires within { place ≤ entry_count heap.old (place_of self) }
+        requires handle { handle % 16 ≡ 0 }
+        ensures index { (t : ATable) (handles : List ℕ) → IsIndexOf heap.old (place_of self) t handles
+            → IsIndexOf heap.new (place_of self) t (insert handles place handle) }
+        ensures live { LaysOut current heap.new.bytes (live_of heap.old.bytes) }
+        ensures keeps { (t : ATable) (handles : List ℕ) → IsIndexOf heap.old (place_of self) t handles
+            → KeepsRest heap.old heap.new (place_of self) (beside_table t (live_of heap.old.bytes).extents) }
+    {
+        let count = self.len(heap);
+        let block = heap.header_link(self.place()).unwrap_or(0);
+        spread(heap, block, block, place, count, handle);
+        heap.set_header_word(self.place() + 8, count + 1);
+    }
+
+    /// The same into a block with more places, which becomes the index's.
+    fn insert_into(self, heap: &mut Heap, block: u64, place: u64, handle: u64, steps: &mut Steps)
+        requires index { HasIndex heap.old (place_of self) }
+        requires block { IsBlockFor heap.old block (grown_capacity (capacity_at heap.old (place_of self))) }
+        requires apart { link_at (bytes_of heap.old.bytes) (place_of self) ≡ Some block → ⊥ }
+        requires within { place ≤ entry_count heap.old (place_of self) }
+        requires handle { handle % 16 ≡ 0 }
+        ensures index { (t : ATable) (handles : List ℕ) → IsIndexOf heap.old (place_of self) t handles
+            → IsIndexIn heap.old heap.new (place_of self) block (grown_capacity (capacity_at heap.old (place_of self))) (insert handles place handle) }
+        ensures live { LaysOut current heap.new.bytes (unlinked heap.old (place_of self)) }
+        ensures keeps { KeepsRest heap.old heap.new (place_of self) (others block (unlinked heap.old (place_of self)).extents) }
+        ensures counted { steps.old ≤ steps.new }
+        ensures steps { steps.new ≤ steps.old + 128 * bits (length (gaps (live_of heap.old.bytes)) + 1) + 128 }
+    {
+        let count = self.len(heap);
+        let capacity = grown(self.capacity(heap));
+        // without a block there are no links to be moved
+        let from = heap.header_link(self.place()).unwrap_or(block);
+        heap.shift_links(from, 0, block, 0, place);
+        spread(heap, from, block, place, count, handle);
+        self.settle(heap, block, capacity, count + 1, steps);
+    }
+}
+
+/// Puts a link at a place of a block, behind which come the links of a block from that place on: the same block, or
+/// another.
+fn spread(heap: &mut Heap, from: u64, to: u64, place: u64, count: u64, handle: u64)
+    requires heap { IsHeap current heap.old.bytes }
+    requires within { place ≤ count }
+    requires source { IsTrue (has_room (live_of heap.old.bytes) from (8 * count)) }
+    requires target { IsTrue (has_room (live_of heap.old.bytes) to (8 * count + 8)) }
+    requires links { AreLinks (bytes_of heap.old.bytes) (from + 8 * place) (count - place) }
+    requires handle { handle % 16 ≡ 0 }
+    ensures change { IsChanged current heap.old heap.new (to + 8 * place) (8 * (count - place) + 8) }
+    ensures here { link_at (bytes_of heap.new.bytes) (to + 8 * place) ≡ Some handle }
+    ensures tail { KeepTargets (bytes_of heap.old.bytes) (bytes_of heap.new.bytes) (from + 8 * place) (to + 8 * place + 8) (count - place) }
+{
+    heap.shift_links(from, LINK * place, to, LINK * place + LINK, count - place);
+    heap.set_link(to, LINK * place, Some(handle));
+}

@@ -1,0 +1,102 @@
+//! The block that a full index grows into.
+ghost use Rattle.std.specs.Prelude.{◌≡◌, ◌≢◌, ℕ, ◌+◌, ◌*◌, ◌%◌, ◌^◌, ◌<◌, ◌≤◌, IfSome, IsTrue, List, length};
+ghost use Rattle.std.specs.List.{AllByRecursion};
+ghost use Rattle.raw_region.specs.Format.{current};
+ghost use Rattle.raw_region.specs.Memory.{bytes_of};
+ghost use Rattle.link_tree.specs.Tree.{bits};
+ghost use Rattle.offset_link.specs.Link.{link_at};
+ghost use Rattle.best_fit.specs.Extents.{gaps};
+ghost use Rattle.best_fit.specs.Heap.{IsHeap, LaysOut, is_live_in, live_of};
+ghost use Rattle.seg_index.specs.Growth.{GivesBack, IsBlockFor, IsHeld, KeepsRest, Prepares, Restores, unlinked};
+ghost use Rattle.seg_index.specs.Held.{HasIndex, IsIndexIn, place_of};
+ghost use Rattle.seg_index.specs.Index.{AreLinks, grown_capacity};
+
+use crate::index::Index;
+use best_fit::{Heap, NoSpace};
+use block_tags::Role;
+use raw_region::Steps;
+use std::cmp::max;
+
+/// A new block for the links of an index, or none where it has places left. It is taken in use before the command that
+/// needs it changes anything, and goes back to the heap or becomes the block of the index.
+#[derive(Drop)]
+pub struct Growth {
+    pub(crate) block: Option<u64>,
+}
+
+impl Index {
+    /// Takes a new block into use where the index is full: for twice its places, and at least 4. The old one stays.
+    ///
+    /// # Errors
+    ///
+    /// `NoSpace` where the index is full and no gap is long enough. Nothing changes.
+    pub fn prepare(self, heap: &mut Heap, steps: &mut Steps) -> Result<Growth, NoSpace>
+        requires index { HasIndex heap.old (place_of self) }
+        ensures growth { Prepares heap.old heap.new (place_of self) result }
+        ensures counted { steps.old ≤ steps.new }
+        ensures steps { steps.new ≤ steps.old + 128 * bits (length (gaps (live_of heap.old.bytes)) + 1) + 128 }
+    {
+        let capacity = self.capacity(heap);
+        if self.len(heap) < capacity {
+            return Ok(Growth { block: None });
+        }
+        let block = heap.allocate(LINK * grown(capacity), Role::Index, steps)?;
+        Ok(Growth { block: Some(block) })
+    }
+
+    /// Gives the block of a growth back, and with it the live set from which it was taken.
+    pub fn give_back(growth: Growth, heap: &mut Heap, steps: &mut Steps)
+        requires held { IsHeld heap.old growth }
+        ensures change { GivesBack heap.old heap.new growth.block }
+        ensures restored { Restores heap.old heap.new growth }
+        ensures counted { steps.old ≤ steps.new }
+        ensures steps { steps.new ≤ steps.old + 128 * bits (length (gaps (live_of heap.old.bytes)) + 1) + 128 }
+    {
+        if let Some(block) = growth.block {
+            heap.deallocate(block, steps);
+        }
+    }
+
+    /// Makes a block whose first links are set the block of an index, and releases the one that it had.
+    pub(crate) fn settle(
+        self,
+        heap: &mut Heap,
+        block: u64,
+        capacity: u64,
+        count: u64,
+        steps: &mut Steps,
+    )
+        requires heap { IsHeap current heap.old.bytes }
+        requires block { IsBlockFor heap.old block capacity }
+        requires released { IfSome (link_at (bytes_of heap.old.bytes) (place_of self))
+            (λ h. IsTrue (is_live_in (live_of heap.old.bytes) h) × (h ≢ block)) }
+        requires some { 0 < capacity }
+        requires within { count ≤ capacity }
+        ensures index { (handles : List ℕ) → AreLinks (bytes_of heap.old.bytes) block handles → count ≡ length handles
+            → AllByRecursion (λ h. h % 16 ≡ 0) handles → IsIndexIn heap.old heap.new (place_of self) block capacity handles }
+        ensures live { LaysOut current heap.new.bytes (unlinked heap.old (place_of self)) }
+        ensures keeps { KeepsRest heap.old heap.new (place_of self) (unlinked heap.old (place_of self)).extents }
+        ensures counted { steps.old ≤ steps.new }
+        ensures steps { steps.new ≤ steps.old + 128 * bits (length (gaps (live_of heap.old.bytes)) + 1) + 128 }
+    {
+        let place = self.place();
+        let old = heap.header_link(place);
+        heap.set_header_link(place, Some(block));
+        heap.set_header_word(place + 8, count);
+        heap.set_header_word(place + 16, capacity);
+        if let Some(old) = old {
+            heap.deallocate(old, steps);
+        }
+    }
+}
+
+/// The bytes of a link.
+pub const LINK: u64 = 8;
+
+/// The capacity that a full index grows to.
+pub fn grown(capacity: u64) -> u64
+    requires { capacity < 2 ^ 40 }
+    ensures { result ≡ grown_capacity capacity }
+{
+    max(4, 2 * capacity)
+}

@@ -1,0 +1,91 @@
+//! The two indexes of a heap, and what they answer.
+ghost use Rattle.std.specs.Prelude.{◌≡◌, ℕ, ◌+◌, ◌<◌, ◌≤◌, List, [], Some, length, slice_get};
+ghost use Rattle.raw_region.specs.Memory.{bytes_of};
+ghost use Rattle.link_tree.specs.Tree.{bits};
+ghost use Rattle.raw_region.specs.Format.{current};
+ghost use Rattle.best_fit.specs.Heap.{IsChanged};
+ghost use Rattle.best_fit.specs.Table.{Table as ATable, no_table};
+ghost use Rattle.seg_index.specs.Held.{HasIndex, IsIndexOf, capacity_at, entry_count, place_of};
+ghost use Rattle.seg_index.specs.Lookups.{HasKeys, IsPlace};
+
+use crate::keys::{Key, Lookup};
+use crate::searching::Comparisons;
+use best_fit::Heap;
+use raw_region::Steps;
+
+/// An index of a heap: three words in the header, and a block of links. Each call takes the heap anew, so that nothing is
+/// borrowed between two calls.
+#[derive(Clone, Copy, Debug, PartialEq, Eq)]
+pub enum Index {
+    /// Objects with names, by the bytes of their names.
+    Named,
+    /// The unique objects of kinds, by the codes of the kinds.
+    Unique,
+}
+
+impl Index {
+    /// Where its three words begin: the link to its block, the number of its entries, and its capacity.
+    pub(crate) fn place(self) -> u64
+        ensures { result ≡ place_of self }
+    {
+        match self {
+            Index::Named => 32,
+            Index::Unique => 56,
+        }
+    }
+
+    /// Makes it an index without a place, whatever its words were. A block that it had is not released.
+    pub fn start(self, heap: &mut Heap)
+        ensures index { IsIndexOf heap.new (place_of self) no_table [] }
+        ensures change { IsChanged current heap.old heap.new (place_of self) 24 }
+    {
+        let place = self.place();
+        heap.set_header_link(place, None);
+        heap.set_header_word(place + 8, 0);
+        heap.set_header_word(place + 16, 0);
+    }
+
+    /// The number of its entries.
+    pub fn len(self, heap: &Heap) -> u64
+        ensures word { result ≡ entry_count heap.now (place_of self) }
+        ensures len { (t : ATable) (handles : List ℕ) → IsIndexOf heap.now (place_of self) t handles → result ≡ length handles }
+    {
+        heap.header_word(self.place() + 8)
+    }
+
+    /// The number of its places. Without a block there are none.
+    pub fn capacity(self, heap: &Heap) -> u64
+        ensures word { result ≡ capacity_at heap.now (place_of self) }
+        ensures capacity { (t : ATable) (handles : List ℕ) → IsIndexOf heap.now (place_of self) t handles → result ≡ t.capacity }
+    {
+        heap.header_word(self.place() + 16)
+    }
+
+    /// The handle that the entry with `i` others before it leads to.
+    pub fn at(self, heap: &Heap, i: u64) -> u64
+        requires index { HasIndex heap.now (place_of self) }
+        requires below { i < entry_count heap.now (place_of self) }
+        ensures { (t : ATable) (handles : List ℕ) → IsIndexOf heap.now (place_of self) t handles → slice_get handles i ≡ Some result }
+    {
+        let block = heap.header_link(self.place()).unwrap_or(0);
+        heap.link(block, 8 * i).unwrap_or(0)
+    }
+
+    /// Where a key stands among the keys of the objects that the entries lead to, by binary search: each step is a
+    /// comparison of two keys.
+    pub fn lookup(self, heap: &Heap, key: Key<'_>, steps: &mut Steps) -> Lookup
+        requires keys { HasKeys heap.now (place_of self) key }
+        ensures place { (t : ATable) (handles : List ℕ) → IsIndexOf heap.now (place_of self) t handles
+            → IsPlace (bytes_of heap.now.bytes) key.entry handles result }
+        ensures counted { steps.old ≤ steps.new }
+        ensures steps { steps.new ≤ steps.old + bits (entry_count heap.now (place_of self)) }
+    {
+        let Some(block) = heap.header_link(self.place()) else {
+            return Lookup::Absent(0);
+        };
+        let mut comparisons = Comparisons::new(heap, key);
+        let result = comparisons.search(block, self.len(heap));
+        steps.add(comparisons.count());
+        result
+    }
+}

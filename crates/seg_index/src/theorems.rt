@@ -1,0 +1,12 @@
+//! What holds of indexes while their heap is used for other things.
+ghost use Rattle.seg_index.specs.Laws.{GrowthsStay, IndexesStay};
+
+/// An index stays where a block is taken, and where a block that is not its own is released or written.
+pub fn indexes_stay()
+    ensures { IndexesStay }
+{}
+
+/// What `prepare` answered may be given to `add` behind other calls of the heap that leave its block in use.
+pub fn growths_stay()
+    ensures { GrowthsStay }
+{}

@@ -1,6 +1,0 @@
--- The law is the lemma.
-use Rattle.seg_types.proofs.Spellings.{all_spell_one}
-use Rattle.seg_types.proofs.laws.values_spell_one.Goals as goal
-
-pub returns : goal.returns
-returns c = all_spell_one

@@ -1,0 +1,65 @@
+//! Names of objects.
+ghost use Rattle.std.specs.Prelude.{◌≡◌, ◌&&◌, Some, None, if◌then◌else◌, nat_le};
+ghost use Rattle.std.specs.List.{list_all};
+ghost use Rattle.seg_types.specs.Names.{is_printable_name};
+
+use std::marker::Model;
+
+/// The most bytes that a name has.
+pub const LONGEST_NAME: usize = 63;
+
+/// A name of the formats 0 and 1: 1 to 63 bytes, each from 0x20 to 0x7E. It holds its bytes in place and takes no memory.
+#[derive(Drop)]
+pub struct Name {
+    bytes: [u8; LONGEST_NAME],
+    len: usize,
+}
+
+impl Model for Name {
+    ghost use Rattle.std.specs.Prelude.{◌≤◌, List, ℕ, IsTrue, take};
+    ghost use Rattle.seg_types.specs.Names.{is_printable_name};
+
+    ghost Value = { List ℕ };
+
+    ghost view = { λ n. take n.len n.bytes };
+
+    ghost invariant = { λ n. (n.len ≤ 63) × IsTrue (is_printable_name (take n.len n.bytes)) };
+}
+
+impl Name {
+    /// The name of these bytes, or `None` where they are none.
+    pub fn new(bytes: &[u8]) -> Option<Name>
+        ensures { result ≡ (if is_printable_name bytes.now then Some bytes.now else None) }
+    {
+        if !is_name(bytes) {
+            return None;
+        }
+        let mut held = [0; LONGEST_NAME];
+        held[..bytes.len()].copy_from_slice(bytes);
+        Some(Name {
+            bytes: held,
+            len: bytes.len(),
+        })
+    }
+
+    /// The bytes of the name.
+    pub fn as_bytes(&self) -> &[u8]
+        ensures { result.now ≡ self.now }
+    {
+        &self.bytes[..self.len]
+    }
+}
+
+/// Whether these bytes are a name.
+fn is_name(bytes: &[u8]) -> bool
+    ensures { result ≡ is_printable_name bytes.now }
+{
+    !bytes.is_empty() && bytes.len() <= LONGEST_NAME && are_printable(bytes)
+}
+
+/// Whether each byte is from 0x20 to 0x7E.
+fn are_printable(bytes: &[u8]) -> bool
+    ensures { result ≡ list_all (λ c. nat_le 0x20 c && nat_le c 0x7E) bytes.now }
+{
+    bytes.iter().all(|byte| (0x20..=0x7E).contains(byte))
+}

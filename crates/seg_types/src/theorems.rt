@@ -1,0 +1,37 @@
+//! What holds of every value. The contract of each function is a law, and its body does no more than the law speaks of.
+ghost use Rattle.std.specs.Prelude.{◌≡◌, ◌↔◌, false, true, length, IsTrue, MatchOption};
+ghost use Rattle.byteorder.specs.Endian.{little_number};
+ghost use Rattle.seg_types.specs.Kinds.{AllSpellOne, is_spelling, size_of, value_of};
+
+use crate::plain::Plain;
+use crate::scalars::Scalar;
+
+/// A value is spelled in one way, by as many bytes as its kind has, and no other bytes spell it.
+pub fn values_spell_one()
+    ensures { AllSpellOne }
+{}
+
+/// What is written is read again: the `SIZE` bytes of `bytes` spell `value` then, and are read as it.
+pub fn written_is_read<T: Plain>(value: T, bytes: &mut [u8]) -> Option<T>
+    requires { length bytes.old ≡ T.SIZE }
+    ensures written { bytes.new ≡ T.spelling value }
+    ensures read { result ≡ Some value }
+{
+    value.write(bytes);
+    T::read(bytes)
+}
+
+/// The `SIZE` bytes of `from` are read as the whole number that they say, exactly where they spell one of the kind.
+pub fn scalar_is_number<T: Scalar>(from: &[u8]) -> Option<T>
+    requires { length from.now ≡ T.SIZE }
+    ensures { MatchOption result (is_spelling T.kind from.now ≡ false) (λ x. (is_spelling T.kind from.now ≡ true) × (T.whole x ≡ value_of T.kind (little_number (size_of T.kind) from.now))) }
+{
+    T::read(from)
+}
+
+/// Whether neither value stands before the other, which is so of a value and itself alone.
+pub fn unordered_are_same<T: Plain>(one: T, other: T) -> bool
+    ensures { IsTrue result ↔ (one ≡ other) }
+{
+    !one.precedes(other) && !other.precedes(one)
+}

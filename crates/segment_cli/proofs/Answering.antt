@@ -1,0 +1,97 @@
+-- A call of the segment is the step of its command.
+use Rattle.std.proofs.Common.{◌≡◌, refl, sym, ap, subst, ◌∙◌, ℕ, true, false, Result, Ok, Err, Option, Some, None}
+use Rattle.std.specs.Prelude.{OnOk, OnErr}
+use Rattle.best_fit.specs.Extents.{LiveSet}
+use Rattle.seg_types.specs.declared.refusals.Refusal.{Refusal}
+use Rattle.seg_types.specs.Names.{Key}
+use Rattle.seg_types.specs.Commands as asked
+use Rattle.seg_types.specs.Commands.{Command, is_changing}
+use Rattle.seg_types.specs.declared.keys.Key.{Key as CodeKey}
+use Rattle.seg_types.specs.Keys.{key_seen}
+use Rattle.segment_manager.specs.declared.modes.Mode.{Mode}
+use Rattle.segment_manager.specs.declared.modes.Mode.TheVariants.{Write, ReadOnly, CopyOnWrite}
+use Rattle.segment_manager.specs.Directory.{Directory, Object, live, object_at}
+use Rattle.segment_manager.specs.Answers.{Answer, Done, Number}
+use Rattle.segment_manager.specs.Calls.{HasZeroGaps}
+use Rattle.segment_manager.specs.State.{State, StandsFor, IsReply, IsStep, answer_of}
+use Rattle.segment_manager.specs.Plan.{perform}
+use Rattle.segment_manager.specs.Step.{effect, step}
+use Rattle.segment_manager.proofs.Laws.{step-reads}
+use Rattle.segment_cli.specs.declared.replies.Answer.{Answer as Reply}
+use Rattle.segment_cli.specs.declared.replies.Answer.TheVariants as said
+use Rattle.segment_cli.specs.Replies.{Replies, answer_seen, shown_at, shown_of}
+use Rattle.segment_cli.specs.ZeroGaps.{is_refused}
+
+-- ---- what only reads
+
+-- a command that changes nothing is refused in no mode
+pub performed-reads : (mode : Mode) (d : Directory) (c : Command) → is_changing c ≡ false → step mode d c ≡ perform d (live d) (effect d c)
+unfolding step
+performed-reads Write d c e = refl
+performed-reads ReadOnly d c e = rw e refl
+performed-reads CopyOnWrite d c e = refl
+
+answered-reads : (mode : Mode) (d : Directory) (c : Command) → is_changing c ≡ false → (step mode d c).0 ≡ (perform d (live d) (effect d c)).0
+answered-reads mode d c e = ap (λ (r : Answer × Directory). r.0) (performed-reads mode d c e)
+
+-- the size that is answered is the directory's
+pub size_is : (mode : Mode) (d : Directory) (n : ℕ) → Number n ≡ (step mode d asked.Size).0 → n ≡ d.size
+size_is mode d n e =
+    let same : Number n ≡ Number d.size = e ∙ answered-reads mode d asked.Size refl in
+    cc
+
+shown-found : (d : Directory) (l : LiveSet) (key : Key) (r : Option Object) → object_at d key ≡ r → shown_of r ≡ (perform d l (effect d (asked.Show key))).0
+shown-found d l key None e = rw (e, perform) refl
+shown-found d l key (Some o) e = rw (e, perform) refl
+
+-- what is shown of an object
+pub show-is : (mode : Mode) (d : Directory) (key : Key) → shown_at d key ≡ (step mode d (asked.Show key)).0
+show-is mode d key = shown-found d (live d) key (object_at d key) refl ∙ sym (answered-reads mode d (asked.Show key) refl)
+
+module _ (s : State) where
+  -- the directory stays, and the segment
+  reads : (c : Command) (reply : Reply) → is_changing c ≡ false → ((d : Directory) → StandsFor s.cut.bytes d → answer_seen d reply ≡ (step s.mode d c).0) → Replies s s c reply
+  reads c reply e says =
+      let same = λ (d : Directory). step-reads s.mode d c e in
+      record {
+        stays = record { mode = refl; place = record { before = refl; after = refl } };
+        answers = λ d h. ap (λ (x : Directory). answer_seen x reply) (same d) ∙ says d h;
+        denotes = λ d h. subst (StandsFor s.cut.bytes) (sym (same d)) h;
+        reads = λ _. refl;
+        refused = λ _ _ _. refl;
+        zeros = λ _ _ is _. absurd (cc (ap is_changing is));
+      }
+
+  -- a call that only reads, and answers as the machine does
+  pub replies-read : (c : Command) (reply : Reply) (answer : Answer) → is_changing c ≡ false → ((d : Directory) → answer_seen d reply ≡ answer) → IsReply s c answer → Replies s s c reply
+  replies-read c reply answer e same h = reads c reply e (λ d stands. same d ∙ h.answers d stands)
+
+  -- what is long is read later
+  pub replies-show : (key : CodeKey) → Replies s s (asked.Show (key_seen key)) (said.Shown key)
+  replies-show key = reads (asked.Show (key_seen key)) (said.Shown key) refl (λ d h. show-is s.mode d (key_seen key))
+
+  pub replies-blocks : Replies s s asked.ListBlocks said.Blocks
+  replies-blocks = reads asked.ListBlocks said.Blocks refl (λ d h. sym (answered-reads s.mode d asked.ListBlocks refl))
+
+-- ---- what may change the segment
+
+kept-refused : {A : Type 0} (f : A → Answer) → ((a : A) → is_refused (f a) ≡ false) → (result : Result A Refusal) (old new : State) → OnErr result (new ≡ old) → is_refused (answer_of f result) ≡ true → new ≡ old
+kept-refused f plain (Ok a) old new h e = absurd (cc (plain a))
+kept-refused f plain (Err r) old new h e = h
+
+done-zeros : {A : Type 0} (f : A → Answer) (result : Result A Refusal) (new : State) → OnOk result (HasZeroGaps new) → answer_of f result ≡ Done → HasZeroGaps new
+done-zeros f (Ok a) new h e = h
+done-zeros f (Err r) new h e = absurd (cc)
+
+-- a call that is a step, and where it is refused changes nothing
+pub replies-step : {A : Type 0} (f : A → Answer) → ((a : A) → is_refused (f a) ≡ false) → (old new : State) (c : Command) (result : Result A Refusal) (reply : Reply)
+    → is_changing c ≡ true → ((d : Directory) → answer_seen d reply ≡ answer_of f result) → IsStep old new c (answer_of f result) → OnErr result (new ≡ old)
+    → (c ≡ asked.ZeroFree → OnOk result (HasZeroGaps new)) → Replies old new c reply
+replies-step f plain old new c result reply e same h refused zeros = record {
+  stays = h.stays;
+  answers = λ d s. same (step old.mode d c).1 ∙ h.answers d s;
+  denotes = h.denotes;
+  reads = λ n. absurd (cc);
+  refused = λ d s r. kept-refused f plain result old new refused (ap is_refused (h.answers d s) ∙ r);
+  zeros = λ d s is done. done-zeros f result new (zeros is) (h.answers d s ∙ done);
+}

@@ -1,0 +1,17 @@
+-- What a call writes, said of the places for which it is owed.
+use Rattle.std.proofs.Common.{◌≡◌, List, ℕ, refl, subst}
+use Rattle.std.specs.Prelude.{Result, Ok, Err}
+use Rattle.std.specs.Result.{IsErr}
+use Rattle.raw_region.specs.Answers.{failures_in}
+use Rattle.raw_region.specs.Device.{Took, Writes}
+use Rattle.segment_cli.specs.Writing.{WritesFor}
+
+module _ {P A E : Type 0} (old new : Took) (result : Result A E) (Stands : P → Type 0) where
+  -- one text is owed wherever the machine stands
+  pub writes_owed : (text : List ℕ) (owed : P → List ℕ) → Writes old new result text → ((p : P) → Stands p → text ≡ owed p) → WritesFor old new result Stands owed
+  writes_owed text owed w same = record { writes = λ p s. subst (Writes old new result) (same p s) w; counted = w.counted }
+
+-- an error is one failure
+pub failures_in-err : {A E : Type 0} (result : Result A E) → IsErr result → failures_in result ≡ 1
+failures_in-err (Ok x) h = absurd (cc h)
+failures_in-err (Err e) h = refl

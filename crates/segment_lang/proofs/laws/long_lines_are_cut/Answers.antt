@@ -1,5 +1,0 @@
-use Rattle.segment_lang.proofs.LongLines.{long_lines_are_cut}
-use Rattle.segment_lang.proofs.laws.long_lines_are_cut.Goals as goal
-
-pub returns : goal.returns
-returns c = long_lines_are_cut

@@ -1,5 +1,0 @@
-use Rattle.segment_lang.proofs.Decimals.{numbers_are_decimals}
-use Rattle.segment_lang.proofs.laws.numbers_are_decimals.Goals as goal
-
-pub returns : goal.returns
-returns c = numbers_are_decimals

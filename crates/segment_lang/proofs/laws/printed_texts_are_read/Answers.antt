@@ -1,5 +1,0 @@
-use Rattle.segment_lang.proofs.TextSpelling.{printed_texts_are_read}
-use Rattle.segment_lang.proofs.laws.printed_texts_are_read.Goals as goal
-
-pub returns : goal.returns
-returns c = printed_texts_are_read

@@ -1,5 +1,0 @@
-use Rattle.segment_lang.proofs.TextSpelling.{texts_are_spelled}
-use Rattle.segment_lang.proofs.laws.texts_are_spelled.Goals as goal
-
-pub returns : goal.returns
-returns c = texts_are_spelled

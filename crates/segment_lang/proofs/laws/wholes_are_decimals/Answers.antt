@@ -1,5 +1,0 @@
-use Rattle.segment_lang.proofs.Decimals.{wholes_are_decimals}
-use Rattle.segment_lang.proofs.laws.wholes_are_decimals.Goals as goal
-
-pub returns : goal.returns
-returns c = wholes_are_decimals

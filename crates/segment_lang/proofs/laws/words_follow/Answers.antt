@@ -1,5 +1,0 @@
-use Rattle.segment_lang.proofs.WordList.{words_next}
-use Rattle.segment_lang.proofs.laws.words_follow.Goals as goal
-
-pub returns : goal.returns
-returns c = words_next

@@ -1,0 +1,5 @@
+use Rattle.segment_lang.proofs.WordList.{words_next}
+use Rattle.segment_lang.proofs.theorems.words_follow.Goals as goal
+
+pub returns : goal.returns
+returns c = words_next

@@ -1,0 +1,171 @@
+//! How numbers, values, texts, names and kinds are printed. Each call writes all of its text, or answers
+//! `DeviceFault` where the writer failed: what went out is then shorter than the text, and the text
+//! begins with it.
+
+ghost use Rattle.std.specs.Prelude.{◌≡◌, ◌==◌, ◌||◌, ◌-◌, ◌^◌, ◌<◌, decimal, flat_map};
+ghost use Rattle.std.specs.List.{list_all};
+ghost use Rattle.raw_region.specs.Device.{Writes};
+ghost use Rattle.seg_types.specs.Values.{kind_of_scalar, value_of_scalar};
+ghost use Rattle.segment_lang.specs.Words.{is_bare_name, is_digit, is_letter};
+ghost use Rattle.segment_lang.specs.Texts.{digit_text, item_text, kind_text, name_text, quoted_text, scalar_text, value_text};
+ghost use Rattle.segment_lang.specs.Pieces.{part_text};
+
+use crate::numbers::is_digit;
+use itoa::Buffer;
+use raw_region::{DeviceFault, Sink, write_all};
+use seg_types::{Kind, ScalarKind, ScalarValue};
+
+/// Writes a number in plain decimal.
+pub fn put_number<S: Sink>(out: &mut S, number: u64) -> Result<(), DeviceFault>
+    requires { (S.history out.old).failures < 2 ^ 64 - 1 }
+    ensures { Writes (S.history out.old) (S.history out.new) result (decimal number) }
+{
+    let mut buffer = Buffer::new();
+    write_all(out, buffer.format(number).as_bytes())
+}
+
+/// Writes a value: a whole number in plain decimal, with a minus sign below 0.
+pub fn put_value<S: Sink>(out: &mut S, value: ScalarValue) -> Result<(), DeviceFault>
+    requires { (S.history out.old).failures < 2 ^ 64 - 1 }
+    ensures { Writes (S.history out.old) (S.history out.new) result (value_text (kind_of_scalar value) (value_of_scalar value)) }
+{
+    let mut buffer = Buffer::new();
+    match value {
+        ScalarValue::I64(number) => write_all(out, buffer.format(number).as_bytes()),
+    }
+}
+
+/// The hexadecimal digit of a number below 16, in lower case.
+fn digit_text(digit: u8) -> u8
+    requires { digit < 16 }
+    ensures { result ≡ digit_text digit }
+{
+    if digit < 10 {
+        b'0' + digit
+    } else {
+        b'a' + (digit - 10)
+    }
+}
+
+/// Writes one byte of a text.
+fn put_item<S: Sink>(out: &mut S, byte: u8) -> Result<(), DeviceFault>
+    requires { (S.history out.old).failures < 2 ^ 64 - 1 }
+    ensures { Writes (S.history out.old) (S.history out.new) result (item_text byte) }
+{
+    if byte == b'"' || byte == b'\\' {
+        return write_all(out, &[b'\\', byte]);
+    }
+    if byte >= b' ' && byte <= b'~' {
+        return write_all(out, &[byte]);
+    }
+    write_all(
+        out,
+        &[b'\\', b'x', digit_text(byte / 16), digit_text(byte % 16)],
+    )
+}
+
+/// Writes the bytes of a text without its quotes.
+fn put_items<S: Sink>(out: &mut S, text: &[u8]) -> Result<(), DeviceFault>
+    requires { (S.history out.old).failures < 2 ^ 64 - 1 }
+    ensures { Writes (S.history out.old) (S.history out.new) result (flat_map item_text text.now) }
+{
+    'items: for byte in text {
+        put_item(out, *byte)?;
+    }
+    Ok(())
+}
+
+/// Writes a text in quotes.
+pub fn put_text<S: Sink>(out: &mut S, text: &[u8]) -> Result<(), DeviceFault>
+    requires { (S.history out.old).failures < 2 ^ 64 - 1 }
+    ensures { Writes (S.history out.old) (S.history out.new) result (quoted_text text.now) }
+{
+    write_all(out, b"\"")?;
+    put_items(out, text)?;
+    write_all(out, b"\"")
+}
+
+/// Whether a byte is a letter of ASCII.
+fn is_letter(byte: u8) -> bool
+    ensures { result ≡ is_letter byte }
+{
+    byte.is_ascii_alphabetic()
+}
+
+/// Whether a byte may stand in a bare name behind its first: a letter, a digit, `_` or `.`.
+fn is_name_byte(byte: u8) -> bool
+    ensures { result ≡ (is_letter byte || is_digit byte || (byte == 0x5F) || (byte == 0x2E)) }
+{
+    is_letter(byte) || is_digit(byte) || byte == b'_' || byte == b'.'
+}
+
+/// Whether a name may stand bare: a letter or `_`, then letters, digits, `_` and `.`.
+pub fn is_bare_name(name: &[u8]) -> bool
+    ensures { result ≡ is_bare_name name.now }
+{
+    let [first, rest @ ..] = name else {
+        return false;
+    };
+    (is_letter(*first) || *first == b'_') && are_name_bytes(rest)
+}
+
+/// Whether each byte may stand in a bare name behind its first.
+fn are_name_bytes(bytes: &[u8]) -> bool
+    ensures { result ≡ list_all (λ c. is_letter c || is_digit c || (c == 0x5F) || (c == 0x2E)) bytes.now }
+{
+    bytes.iter().all(|byte| is_name_byte(*byte))
+}
+
+/// Writes a name: bare where it can be spelled bare, else as a text in quotes.
+pub fn put_name<S: Sink>(out: &mut S, name: &[u8]) -> Result<(), DeviceFault>
+    requires { (S.history out.old).failures < 2 ^ 64 - 1 }
+    ensures { Writes (S.history out.old) (S.history out.new) result (name_text name.now) }
+{
+    if is_bare_name(name) {
+        return write_all(out, name);
+    }
+    put_text(out, name)
+}
+
+/// Writes slices, one behind another.
+pub fn put_parts<S: Sink>(out: &mut S, parts: &[&[u8]]) -> Result<(), DeviceFault>
+    requires { (S.history out.old).failures < 2 ^ 64 - 1 }
+    ensures { Writes (S.history out.old) (S.history out.new) result (flat_map part_text parts.now) }
+{
+    'parts: for part in parts {
+        write_all(out, part)?;
+    }
+    Ok(())
+}
+
+/// How a scalar kind is printed.
+pub fn scalar_text(kind: ScalarKind) -> &'static [u8]
+    ensures { result.now ≡ scalar_text kind }
+{
+    match kind {
+        ScalarKind::Bool => b"bool",
+        ScalarKind::U8 => b"u8",
+        ScalarKind::I32 => b"i32",
+        ScalarKind::I64 => b"i64",
+        ScalarKind::U64 => b"u64",
+    }
+}
+
+/// Writes a kind, without blanks.
+pub fn put_kind<S: Sink>(out: &mut S, kind: Kind) -> Result<(), DeviceFault>
+    requires { (S.history out.old).failures < 2 ^ 64 - 1 }
+    ensures { Writes (S.history out.old) (S.history out.new) result (kind_text kind) }
+{
+    match kind {
+        Kind::Scalar(kind) => write_all(out, scalar_text(kind)),
+        Kind::Text => write_all(out, b"string"),
+        Kind::Vector(kind) => put_parts(out, &[b"vec<", scalar_text(kind), b">"]),
+        Kind::Map(key, value) => {
+            put_parts(
+                out,
+                &[b"map<", scalar_text(key), b",", scalar_text(value), b">"],
+            )
+        }
+        Kind::Texts => write_all(out, b"vec<string>"),
+    }
+}

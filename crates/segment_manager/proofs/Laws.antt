@@ -1,0 +1,29 @@
+-- The laws of directories, and of the bytes that denote them, for other crates.
+
+-- lists of facts: of a part, and of two parts
+pub use Rattle.segment_manager.proofs.Words.{AllByRecursion-append, AllByRecursion-behind, AllByRecursion-front}
+-- extents by offset: a hole ends where it begins or later, a list that rises does so with an extent put in and from lower on,
+-- and what holds of each extent holds of each when they are sorted, and back
+pub use Rattle.segment_manager.proofs.Order.{all-sorted, all_of-sorted, hole-order, rising-insert, rising-weak}
+unfoldable pub use Rattle.segment_manager.proofs.Order.{Rising}
+-- the live set of a directory: its size and its extents, which rise
+pub use Rattle.segment_manager.proofs.Live.{live-extents, live-size}
+unfoldable pub use Rattle.segment_manager.proofs.Live.{tables_of}
+pub use Rattle.segment_manager.proofs.Order.{live-rises}
+-- objects put in by an order: which come first, that the whole list rises, and what holds of each
+pub use Rattle.segment_manager.proofs.Ranks.{IsRanked, IsStrict, after, all-insert_by, all-ordered, all_of-insert_by, before, insert_by-rises, ranked-sym, rises-pairwise, rises-tail}
+unfoldable pub use Rattle.segment_manager.proofs.Ranks.{AllRanked, Pairwise}
+-- the two indexes of a directory: each is its objects of a class by a strict order, and has a table with the places
+pub use Rattle.segment_manager.proofs.Indexes.{by_kind-strict, by_name-strict, index-parts}
+unfoldable pub use Rattle.segment_manager.proofs.Faces.{ordered}
+-- heads, names and values: what the words of a head say, how long a spelling is, which block a text has
+pub use Rattle.segment_manager.proofs.Blocks.{own-block, spelling-length}
+pub use Rattle.segment_manager.proofs.Heads.{Has-front, entry-name_len, good_name-short, object-entry}
+pub use Rattle.segment_manager.proofs.Elements.{IsNumber, name-length}
+pub use Rattle.segment_manager.proofs.NumberCalls.{fits-value_negsuc, fits-value_pos}
+-- bytes that denote a directory are a heap's, with the directory's live set
+pub use Rattle.segment_manager.proofs.Calling.{denotes-heap, denotes-live}
+-- what has come so far: the parts of the test, and an object that has come is one `i64`
+pub use Rattle.segment_manager.proofs.Supported.{IsSupported, supported-class, supported-number, supported-parts, number-of, parts-supported}
+-- a command that only reads leaves the directory
+pub use Rattle.segment_manager.proofs.Unchanged.{step-reads}

@@ -1,6 +1,0 @@
--- The law, object by object.
-use Rattle.segment_manager.proofs.Heads.{entries_say_objects}
-use Rattle.segment_manager.proofs.laws.entries_say_objects.Goals as goal
-
-pub returns : goal.returns
-returns c = entries_say_objects

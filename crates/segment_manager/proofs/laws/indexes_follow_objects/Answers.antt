@@ -1,6 +1,0 @@
--- The law is the lemma.
-use Rattle.segment_manager.proofs.Entries.{follows}
-use Rattle.segment_manager.proofs.laws.indexes_follow_objects.Goals as goal
-
-pub returns : goal.returns
-returns c = follows

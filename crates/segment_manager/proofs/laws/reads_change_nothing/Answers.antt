@@ -1,6 +1,0 @@
--- The law is the lemma.
-use Rattle.segment_manager.proofs.Unchanged.{step-reads, step_of_kind-reads}
-use Rattle.segment_manager.proofs.laws.reads_change_nothing.Goals as goal
-
-pub returns : goal.returns
-returns c = record { any = step-reads; of_kind = step_of_kind-reads }

@@ -1,6 +1,0 @@
--- The law, text by text.
-use Rattle.segment_manager.proofs.PlacedTexts.{texts_are_placed}
-use Rattle.segment_manager.proofs.laws.texts_are_placed.Goals as goal
-
-pub returns : goal.returns
-returns c = texts_are_placed

@@ -1,0 +1,13 @@
+-- The law is the lemma.
+use Rattle.std.proofs.Common.{refl}
+use Rattle.seg_types.specs.Commands.{Pop}
+use Rattle.segment_manager.specs.Answers.{TextElement}
+use Rattle.segment_manager.proofs.Unchanged.{step-leads, result-leads, refused-stays}
+use Rattle.segment_manager.proofs.theorems.steps_lead_on.Goals as goal
+
+pub returns : goal.returns
+returns c = record {
+  leads = step-leads;
+  popped = λ old new key result h. result-leads TextElement (λ bytes. refl) old new (Pop key) result h;
+  refused = refused-stays;
+}

@@ -1,0 +1,39 @@
+-- Where the words of a header and of an object's head stand, in bytes: of the header from the front of the segment, of an
+-- object from its handle.
+use Rattle.std.specs.Prelude.{ℕ}
+
+-- ---- the header
+
+abbrev pub magic_at : ℕ
+magic_at = 0
+
+abbrev pub format_at : ℕ
+format_at = 8
+
+abbrev pub size_at : ℕ
+size_at = 16
+
+-- the index of names
+abbrev pub named_at : ℕ
+named_at = 32
+
+-- the index of kinds
+abbrev pub unique_at : ℕ
+unique_at = 56
+
+-- zeros, up to the first block or gap
+abbrev pub reserved_at : ℕ
+reserved_at = 80
+
+abbrev pub header_len : ℕ
+header_len = 128
+
+-- ---- an object's head
+
+-- the length of the name and the class, behind the kind and the count
+abbrev pub name_class_at : ℕ
+name_class_at = 8
+
+-- then the name with its zeros, and then the value
+abbrev pub head_len : ℕ
+head_len = 16

@@ -1,0 +1,119 @@
+-- What a command does if it is not refused: which blocks it asks for, in which order, and what it does then.
+use Rattle.std.specs.Prelude.{ℕ, ◌*◌, Option, Some, None, Result, Ok, Err, List, [], ◌∷◌, length, ◌==◌, nat_lt, nat_le, if◌then◌else◌}
+use Rattle.block_tags.specs.declared.tile.Role.{Role}
+use Rattle.block_tags.specs.declared.tile.Role.TheVariants.{Object as ObjectRole, Index, Storage}
+use Rattle.best_fit.specs.Extents.{Extent, LiveSet}
+use Rattle.best_fit.specs.Fit.{place, resized, regrow}
+use Rattle.best_fit.specs.Table.{Table, no_table}
+use Rattle.seg_types.specs.declared.kinds.Class.{Class}
+use Rattle.seg_types.specs.declared.refusals.Refusal.{Refusal}
+use Rattle.seg_types.specs.declared.kinds.Class.TheVariants.{Anonymous, Named, Unique}
+use Rattle.seg_types.specs.declared.refusals.Refusal.TheVariants.{NoSpace}
+use Rattle.seg_types.specs.Kinds.{size_of}
+use Rattle.seg_types.specs.Names.{Key, ByName, ByKind, ByHandle, NoKey}
+use Rattle.seg_types.specs.Commands as asked
+use Rattle.seg_types.specs.Commands.{Command, Content, Literal, value_of_literal, is_changing}
+use Rattle.seg_vector.specs.Vector.{OwnedText}
+use Rattle.seg_index.specs.Index.{grown_capacity}
+use Rattle.segment_manager.specs.Directory.{Value, Numbers, Elements, Bytes, Pairs, Texts, Object, Directory, object_len, with_object, named_objects, unique_objects}
+use Rattle.segment_manager.specs.Answers.{Answer, Refused}
+
+-- a block to ask for: a new one, or one in the place of an old one
+pub data Need : Type 0 where
+  New : Role → ℕ → Need
+  Regrown : Option Extent → ℕ → Need
+
+-- What a command does if it is not refused: it asks for its blocks in order, and then it answers and leaves a directory.
+pub data Plan : Type 0 where
+  Refuse : Refusal → Plan
+  Request : Need → (Extent → Plan) → Plan
+  Reply : Answer → Directory → Plan
+
+abbrev pub met : LiveSet → Need → Option Extent
+met l (New role n) = place l n role
+met l (Regrown old n) = regrow l old n
+
+-- Blocks are taken in order. Where one has no fit nothing changes.
+abbrev pub perform : Directory → LiveSet → Plan → Answer × Directory
+perform d l (Refuse r) = (Refused r, d)
+perform d l (Reply answer after) = (answer, after)
+perform d l (Request need next) = elim (met l need) [ None ↦ (Refused NoSpace, d) | Some x ↦ perform d (resized l x) (next x) ]
+
+-- go on with what there is, or refuse
+abbrev pub with : {A : Type 0} → Result A Refusal → (A → Plan) → Plan
+with (Ok a) next = next a
+with (Err r) next = Refuse r
+
+-- ---- the blocks that commands ask for
+
+-- an index of so many places in a new block
+abbrev pub with_new_index : ℕ → (Table → Plan) → Plan
+with_new_index capacity next = Request (New Index (8 * capacity)) (λ x. next (record { capacity = capacity; extent = Some x }))
+
+-- an index that has so many entries, with a place for one more
+abbrev pub with_place : Table → ℕ → (Table → Plan) → Plan
+with_place t count next = if nat_lt count t.capacity then next t else with_new_index (grown_capacity t.capacity) next
+
+-- the directory with a place in the index of the class
+abbrev pub with_entry : Directory → Class → (Directory → Plan) → Plan
+with_entry d Anonymous next = next d
+with_entry d Named next = with_place d.named (length (named_objects d)) (λ t. next (record d { named = t }))
+with_entry d Unique next = with_place d.unique (length (unique_objects d)) (λ t. next (record d { unique = t }))
+
+-- storage for n elements, if there are any
+abbrev pub with_storage : ℕ → ℕ → (Table → Plan) → Plan
+with_storage each n next = if n == 0 then next no_table else Request (New Storage (each * n)) (λ x. next (record { capacity = n; extent = Some x }))
+
+-- storage for as many as the capacity says: as it is where there are so many places, else regrown
+abbrev pub with_capacity : ℕ → ℕ → Table → (Table → Plan) → Plan
+with_capacity each capacity t next =
+    if nat_le capacity t.capacity then next t
+    else Request (Regrown t.extent (each * capacity)) (λ x. next (record { capacity = capacity; extent = Some x }))
+
+-- ---- construction
+
+abbrev pub class_of : Key → Class
+class_of (ByName name) = Named
+class_of (ByKind kind) = Unique
+class_of (ByHandle h) = Anonymous
+class_of NoKey = Anonymous
+
+abbrev pub name_of : Key → List ℕ
+name_of (ByName name) = name
+name_of (ByKind kind) = []
+name_of (ByHandle h) = []
+name_of NoKey = []
+
+-- the value, but for its storage
+abbrev pub bare : Content → Value
+bare (asked.Numbers k zs) = Numbers k zs
+bare (asked.Elements k zs) = Elements k zs no_table
+bare (asked.Bytes bs) = Bytes bs no_table
+bare (asked.NoPairs k v) = Pairs k v []
+bare (asked.Strings bss) = Texts [] no_table
+
+-- texts in blocks of their own, where they are not empty
+abbrev pub with_owned_text : List ℕ → (OwnedText → Plan) → Plan
+with_owned_text bs next =
+    if length bs == 0 then next (record { bytes = bs; extent = None })
+    else Request (New Storage (length bs)) (λ x. next (record { bytes = bs; extent = Some x }))
+
+abbrev pub with_owned_texts : List (List ℕ) → (List OwnedText → Plan) → Plan
+with_owned_texts [] next = next []
+with_owned_texts (bs ∷ bss) next = with_owned_text bs (λ p. with_owned_texts bss (λ ps. next (p ∷ ps)))
+
+abbrev pub with_value : Content → (Value → Plan) → Plan
+with_value (asked.Numbers k zs) next = next (Numbers k zs)
+with_value (asked.Elements k zs) next = with_storage (size_of k) (length zs) (λ t. next (Elements k zs t))
+with_value (asked.Bytes bs) next = with_storage 1 (length bs) (λ t. next (Bytes bs t))
+with_value (asked.NoPairs k v) next = next (Pairs k v [])
+with_value (asked.Strings bss) next = with_storage 16 (length bss) (λ t. with_owned_texts bss (λ ps. next (Texts ps t)))
+
+-- index, object, storage
+abbrev pub with_new_object : Directory → Key → Content → (Object → Directory → Plan) → Plan
+with_new_object d key content next =
+    with_entry d (class_of key) (λ e.
+    Request (New ObjectRole (object_len (name_of key) (bare content))) (λ x.
+    with_value content (λ v.
+    let o : Object = record { class = class_of key; name = name_of key; value = v; extent = x } in
+    next o (with_object e o))))

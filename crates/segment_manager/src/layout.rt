@@ -1,0 +1,40 @@
+//! Where the words of a header and of an object's head stand, and what is written there.
+//!
+//! All is counted in bytes: of the header from the front of the segment, of an object from its handle. A word has 8.
+
+/// `MSEGFILE`, the lowest byte first.
+pub const MAGIC: u64 = 0x454C_4946_4745_534D;
+
+/// The format of the layout that is written.
+pub const FORMAT: u64 = 1;
+
+/// Where the header has the magic number.
+pub const MAGIC_AT: u64 = 0;
+
+/// Where it has the format.
+pub const FORMAT_AT: u64 = 8;
+
+/// Where it has the size of the segment in bytes.
+pub const SIZE_AT: u64 = 16;
+
+/// Where it has the index of names: the link to its block, then the number of its entries, then its capacity.
+pub const NAMED_AT: u64 = 32;
+
+/// Where it has the index of kinds, in the same three words.
+pub const UNIQUE_AT: u64 = 56;
+
+/// From where on it is reserved: these bytes are 0, up to the first block or gap.
+pub const RESERVED_AT: u64 = 80;
+
+/// Where the head of an object has its second word: the length of the name, and the class in the upper half. The first
+/// word has the code of the kind, and the count of the values in the upper half.
+pub const NAME_CLASS_AT: u64 = 8;
+
+/// The length of a head. Behind it stands the name with zeros up to a multiple of 8, and behind that the value.
+pub const HEAD_LEN: u64 = 16;
+
+/// The first word of the head of one `i64`.
+pub const ONE_I64: u64 = 0x1_0000_0004;
+
+/// The second word of the head of an anonymous object.
+pub const ANONYMOUS: u64 = 0;

@@ -4,11 +4,10 @@ ghost use Rattle.std.specs.Borrow.{sem};
 ghost use Rattle.raw_region.specs.Memory.{Has, bytes_of, read, whole, word_at};
 ghost use Rattle.raw_region.specs.Format.{current};
 ghost use Rattle.block_tags.specs.Format.{is_legal_size};
-ghost use Rattle.link_tree.specs.Tree.{bits};
-ghost use Rattle.best_fit.specs.Extents.{Extent, free_bytes as free_bytes_of, gaps as gaps_of_live, spans};
+ghost use Rattle.best_fit.specs.Extents.{Extent, free_bytes as free_bytes_of, spans};
 ghost use Rattle.block_tags.specs.Tiles.{tiles_of};
 ghost use Rattle.best_fit.specs.FreeTree.{span};
-ghost use Rattle.best_fit.specs.Heap.{Allocates, IsChanged, IsExtended, IsFresh, IsHeap, IsReleased, IsShortened, IsTileOf, IsZeroed, extent_at, has_room, is_live_in, live_of, payload_at, with_payload};
+ghost use Rattle.best_fit.specs.Heap.{Allocates, IsChanged, IsExtended, IsFresh, IsHeap, IsReleased, IsShortened, IsTileOf, IsZeroed, extent_at, has_room, heap_touches, is_live_in, live_of, payload_at, with_payload};
 ghost use Rattle.best_fit.specs.Pairs.{CallsOnTwo, TakesTwo};
 
 use crate::lending::on_two;
@@ -230,7 +229,7 @@ impl Heap {
     pub fn allocate(&mut self, n: u64, role: Role, steps: &mut Steps) -> Result<u64, NoSpace>
         ensures answer { Allocates current self.old self.new n role result }
         ensures counted { steps.old ≤ steps.new }
-        ensures steps { steps.new ≤ steps.old + 128 * bits (length (gaps_of_live (live_of self.old.bytes)) + 1) + 128 }
+        ensures steps { steps.new ≤ steps.old + heap_touches (live_of self.old.bytes) }
     {
         let mut touches = Touches::new(&mut self.gaps);
         let result = taking::allocate(&mut touches, n, role);
@@ -243,7 +242,7 @@ impl Heap {
         requires { IsTrue (is_live_in (live_of self.old.bytes) handle) }
         ensures released { IsReleased current self.old self.new handle }
         ensures counted { steps.old ≤ steps.new }
-        ensures steps { steps.new ≤ steps.old + 128 * bits (length (gaps_of_live (live_of self.old.bytes)) + 1) + 128 }
+        ensures steps { steps.new ≤ steps.old + heap_touches (live_of self.old.bytes) }
     {
         let mut touches = Touches::new(&mut self.gaps);
         releasing::release(&mut touches, handle - TAG);
@@ -257,7 +256,7 @@ impl Heap {
         requires { IsTrue (is_live_in (live_of self.old.bytes) handle) }
         ensures extended { IsExtended current self.old self.new handle n result }
         ensures counted { steps.old ≤ steps.new }
-        ensures steps { steps.new ≤ steps.old + 128 * bits (length (gaps_of_live (live_of self.old.bytes)) + 1) + 128 }
+        ensures steps { steps.new ≤ steps.old + heap_touches (live_of self.old.bytes) }
     {
         let mut touches = Touches::new(&mut self.gaps);
         let longer = resizing::extend(&mut touches, handle - TAG, n);
@@ -271,7 +270,7 @@ impl Heap {
         requires { IsTrue (is_live_in (live_of self.old.bytes) handle) }
         ensures shortened { IsShortened current self.old self.new handle n }
         ensures counted { steps.old ≤ steps.new }
-        ensures steps { steps.new ≤ steps.old + 128 * bits (length (gaps_of_live (live_of self.old.bytes)) + 1) + 128 }
+        ensures steps { steps.new ≤ steps.old + heap_touches (live_of self.old.bytes) }
     {
         let mut touches = Touches::new(&mut self.gaps);
         resizing::shorten(&mut touches, handle - TAG, n);

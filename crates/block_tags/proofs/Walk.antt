@@ -1,5 +1,5 @@
 -- The tags of a window, tested one tile after the other.
-use Rattle.std.proofs.Common.{◌≢◌, Some, None, is_some, is_none, ◌≡◌, refl, sym, ap, subst, ◌∙◌, ℕ, zero, suc, ◌+◌, ◌-◌, ◌*◌, ◌/◌, ◌<◌, ◌≤◌, Bool, true, false, List, [], ◌∷◌, arith, nat_lt, nat_le, ◌&&◌, not, IsTrue, ◌==◌}
+use Rattle.std.proofs.Common.{Some, None, is_some, is_none, ◌≡◌, refl, sym, ap, subst, ◌∙◌, ℕ, zero, suc, ◌+◌, ◌-◌, ◌*◌, ◌/◌, ◌<◌, ◌≤◌, Bool, true, false, List, [], ◌∷◌, arith, nat_lt, nat_le, ◌&&◌, not, IsTrue, ◌==◌}
 use Rattle.std.specs.Prelude.{Option}
 use mathlib.Core.Bool.{true≢false}
 use Rattle.std.proofs.lemmas.Bool.{eq-eqb}
@@ -168,24 +168,6 @@ pub ends : (m : Memory) (size end at before : ℕ) (free : Bool) → Walking m s
 ends m size end at before free w h =
     let reach = w.reach in let e : at ≡ end = omega arith in
     w.same ∙ ap (λ (k : ℕ). from_here w.more m k before free end) e ∙ end_here w.more m end before free
-
-module _ (m : Memory) (size end at before : ℕ) (free : Bool) (w : Walking m size end at before free) (h : end ≤ at) (x : ℕ) (e : x ≡ word_at m end) where
-  pub ends_short : x ≢ before → false ≡ has_tags current m size
-  ends_short n =
-      let f : (word_at m end == before) ≡ false = grind arith in
-      sym (ends m size end at before free w h ∙ ap (λ (b : Bool). b && (word_at m (end + 8) == 1)) f)
-
-  pub ends_unmarked : x ≡ before → (y : ℕ) → y ≡ word_at m (end + 8) → y ≢ 1 → false ≡ has_tags current m size
-  ends_unmarked n y f o =
-      let g : (word_at m end == before) ≡ true = eq-eqb (word_at m end) before (sym e ∙ n) in
-      let k : (word_at m (end + 8) == 1) ≡ false = grind arith in
-      sym (ends m size end at before free w h ∙ ap (λ (b : Bool). b && (word_at m (end + 8) == 1)) g ∙ k)
-
-  pub ends_well : x ≡ before → (y : ℕ) → y ≡ word_at m (end + 8) → y ≡ 1 → true ≡ has_tags current m size
-  ends_well n y f o =
-      let g : (word_at m end == before) ≡ true = eq-eqb (word_at m end) before (sym e ∙ n) in
-      let k : (word_at m (end + 8) == 1) ≡ true = eq-eqb (word_at m (end + 8)) 1 (sym f ∙ o) in
-      sym (ends m size end at before free w h ∙ ap (λ (b : Bool). b && (word_at m (end + 8) == 1)) g ∙ k)
 
 -- nothing is there exactly where something is not
 pub none_of : (o : Option Role) (b : Bool) → is_some o ≡ not b → is_none o ≡ b

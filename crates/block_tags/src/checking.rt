@@ -1,6 +1,6 @@
 //! Whether the tags of any window say tiles.
-ghost use Rattle.std.specs.Prelude.{◌≡◌, ◌+◌, ◌≤◌, ◌<◌, ◌^◌, IsTrue, is_ok, length};
-ghost use Rattle.raw_region.specs.Memory.{bytes_of};
+ghost use Rattle.std.specs.Prelude.{◌≡◌, ◌+◌, ◌*◌, ◌≤◌, ◌<◌, ◌^◌, ◌==◌, ◌&&◌, IsTrue, is_ok, length};
+ghost use Rattle.raw_region.specs.Memory.{bytes_of, word_at};
 ghost use Rattle.raw_region.specs.Format.{current};
 ghost use Rattle.block_tags.specs.Checks.{is_good_tile, is_tagged};
 ghost use Rattle.block_tags.specs.Format.{is_legal_size};
@@ -10,6 +10,15 @@ use crate::sizes::{FIRST, TAG};
 use crate::tile::{BadTag, Tile};
 use crate::words::{END_MARK, may_be_red, tag_word, tile_there};
 use raw_region::Window;
+
+/// Whether all tags of a window are right, and how many of them were read.
+#[derive(Clone, Copy, Debug, PartialEq, Eq)]
+pub struct Checked {
+    /// Whether the tags say tiles that fill the window.
+    pub are_good: bool,
+    /// How many tags were read, the end tag among them.
+    pub tags: u64,
+}
 
 /// Reads all tags of a window of 144 bytes, or of a multiple of 16 from 176 to 2 to the 30th, whatever its bytes are.
 ///
@@ -21,26 +30,51 @@ pub fn check(window: &Window) -> Result<(), BadTag>
     requires { IsTrue (is_legal_size (length window.now.bytes)) }
     ensures { is_ok result ≡ has_tags current (bytes_of window.now.bytes) (length window.now.bytes) }
 {
+    if check_counted(window).are_good {
+        Ok(())
+    } else {
+        Err(BadTag)
+    }
+}
+
+/// Reads all tags of such a window up to the first wrong one, and counts them: there is at most one for each 32 bytes behind the
+/// header.
+pub fn check_counted(window: &Window) -> Checked
+    requires { IsTrue (is_legal_size (length window.now.bytes)) }
+    ensures good { result.are_good ≡ has_tags current (bytes_of window.now.bytes) (length window.now.bytes) }
+    ensures few { 32 * result.tags + 112 ≤ length window.now.bytes }
+{
     let end = window.size() - TAG;
+    let mut tags = 1;
     let mut at = FIRST;
     let mut before = 0;
     let mut behind_free = false;
-    while at < end {
+    'tags: while at < end {
         if !is_good(window, at, before, behind_free, end) {
-            return Err(BadTag);
+            return Checked {
+                are_good: false,
+                tags,
+            };
         }
         let tile = tile_there(window, at);
+        tags += 1;
         at += tile.len;
         before = tile.len;
         behind_free = tile.use_of.is_none();
     }
-    if window.read_u64(end) != before {
-        return Err(BadTag);
+    Checked {
+        are_good: ends_well(window, end, before),
+        tags,
     }
-    if window.read_u64(end + 8) != END_MARK {
-        return Err(BadTag);
-    }
-    Ok(())
+}
+
+/// Whether the end tag stands at `end`, behind a tile of `before` bytes.
+fn ends_well(window: &Window, end: u64, before: u64) -> bool
+    requires small { end < 2 ^ 63 }
+    requires inside { end + TAG ≤ length window.now.bytes }
+    ensures { result ≡ ((word_at (bytes_of window.now.bytes) end == before) && (word_at (bytes_of window.now.bytes) (end + 8) == 1)) }
+{
+    window.read_u64(end) == before && window.read_u64(end + 8) == END_MARK
 }
 
 /// Whether a good tag stands at `at`, of a tile that ends by `end`, behind a tile of `before` bytes.

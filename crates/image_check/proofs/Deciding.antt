@@ -17,11 +17,11 @@ use Rattle.image_check.specs.Deciding.{decided, decided_by, AllDecided}
 -- ---- the first class that holds
 
 -- the first element is found where it passes
-find-here : (p : ImageClass → Bool) (c : ImageClass) (cs : List ImageClass) → p c ≡ true → find p (c ∷ cs) ≡ Some c
+pub find-here : (p : ImageClass → Bool) (c : ImageClass) (cs : List ImageClass) → p c ≡ true → find p (c ∷ cs) ≡ Some c
 find-here p c cs e = cond-true (p c) (Some c) (find p cs) e
 
 -- and passed over where it does not
-find-past : (p : ImageClass → Bool) (c : ImageClass) (cs : List ImageClass) → p c ≡ false → find p (c ∷ cs) ≡ find p cs
+pub find-past : (p : ImageClass → Bool) (c : ImageClass) (cs : List ImageClass) → p c ≡ false → find p (c ∷ cs) ≡ find p cs
 find-past p c cs e = cond-false (p c) (Some c) (find p cs) e
 
 -- what is found by the first test or behind it
@@ -39,7 +39,7 @@ abbrev later : List ImageClass
 later = BadReserved ∷ BadTag ∷ BadFreeTree ∷ BadIndex ∷ BadObject ∷ SharedBlock ∷ BadContainer ∷ OrphanBlock ∷ []
 
 -- the first class is the one of the bytes where it holds
-first_class : (p : ImageClass → Bool) → p Truncated ≡ true → find p classes ≡ Some Truncated
+pub first_class : (p : ImageClass → Bool) → p Truncated ≡ true → find p classes ≡ Some Truncated
 first_class p a = find-here p Truncated (BadMagic ∷ UnsupportedVersion ∷ BadSize ∷ later) a
 
 -- the second is where the first does not hold

@@ -11,7 +11,7 @@ use Rattle.seg_types.specs.declared.kinds.Class.TheVariants.{Anonymous}
 use Rattle.segment_manager.specs.Directory.{Numbers}
 use Rattle.image_check.specs.declared.classes.ImageClass.TheVariants.{BadObject}
 use Rattle.image_check.specs.Classes.{class_of}
-use Rattle.image_check.specs.SupportedImages.{is_supported_image, has_frame, supported_directory}
+use Rattle.image_check.specs.SupportedImages.{are_supported, is_supported_image, has_frame, supported_directory}
 
 -- bytes from words
 abbrev words : List ℕ → List ℕ
@@ -23,7 +23,7 @@ fresh = words (4993446653039301453 ∷ 1 ∷ 176 ∷ 120 ∷ 1 ∷ 0 ∷ 0 ∷ 1
 
 -- it passes
 fresh_is : is_supported_image fresh ≡ true
-unfolding is_supported_image has_frame word_at word_bytes half_word_at zeros current
+unfolding is_supported_image are_supported has_frame word_at word_bytes half_word_at zeros current
 fresh_is = refl
 
 -- the number -2 in 48 bytes, and a free tile behind it
@@ -32,7 +32,7 @@ one = words (4993446653039301453 ∷ 1 ∷ 224 ∷ 168 ∷ 1 ∷ 0 ∷ 0 ∷ 1 �
 
 -- it passes
 one_is : is_supported_image one ≡ true
-unfolding is_supported_image has_frame word_at word_bytes half_word_at zeros current
+unfolding is_supported_image are_supported has_frame word_at word_bytes half_word_at zeros current
 one_is = refl
 
 -- and has no class
@@ -51,7 +51,7 @@ other = words (4993446653039301453 ∷ 1 ∷ 224 ∷ 168 ∷ 1 ∷ 0 ∷ 0 ∷ 1
 
 -- it does not pass
 other_is : is_supported_image other ≡ false
-unfolding is_supported_image has_frame word_at word_bytes half_word_at zeros current
+unfolding is_supported_image are_supported has_frame word_at word_bytes half_word_at zeros current
 other_is = refl
 
 -- though its frame is right

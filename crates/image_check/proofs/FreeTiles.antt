@@ -30,7 +30,7 @@ use Rattle.image_check.proofs.WalkedTiles.{WalksAt, at-lies, at-meets, walk-few}
 
 -- ---- a tile's payload is a place
 
-handle_from : (size n : ℕ) → n % 16 ≡ 0 → 144 ≤ n → n + 32 ≤ size → is_handle_place size n ≡ true
+pub handle_from : (size n : ℕ) → n % 16 ≡ 0 → 144 ≤ n → n + 32 ≤ size → is_handle_place size n ≡ true
 handle_from size n a b c =
     and_from ((n % 16 == 0) && nat_le 144 n) (nat_le (n + 32) size) (and_from (n % 16 == 0) (nat_le 144 n) (eq-eqb (n % 16) 0 a) (le-leb 144 n b)) (le-leb (n + 32) size c)
 
@@ -103,11 +103,10 @@ none-free (t ∷ front) here e =
     ]
 
 -- so a count of the free ones stays small
-pub count-small : (c : Cut) (count : ℕ) (here : Tile) → IsTrue (is_legal_size (length c.bytes)) → WalksAt c (λ (ts : List Tile). count ≡ length (gaps_of ts)) here → count ≤ 1073741824
-count-small c count here legal a =
-    let few = walk-few c (λ (ts : List Tile). count ≡ length (gaps_of ts)) here a in
+pub count-small : (c : Cut) (Kept : List Tile → Type 0) (count : ℕ) (here : Tile) → IsTrue (is_legal_size (length c.bytes)) → (a : WalksAt c Kept here) → count ≡ length (gaps_of a.front) → count ≤ 1073741824
+count-small c Kept count here legal a is =
+    let few = walk-few c Kept here a in
     let free = few-free a.front in
-    let is = a.kept in
     let small = small_size (length c.bytes) legal in
     omega arith
 

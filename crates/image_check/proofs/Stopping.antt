@@ -15,9 +15,9 @@ use Rattle.image_check.specs.declared.errors.OpenError.TheVariants.{Image, ReadF
 use Rattle.image_check.specs.EarlyTests.{size_word, has_magic, has_version, has_front, has_size}
 use Rattle.image_check.specs.Classes.{holds}
 use Rattle.image_check.specs.Deciding.{decided, decided_by}
-use Rattle.image_check.specs.Opening.{IsTooSmallFor, holding, failed_reads}
+use Rattle.image_check.specs.Opening.{IsTooSmallFor, first, failed_reads}
 use Rattle.image_check.specs.Reading.{front_of, IsShort, GoesOn, Stops}
-use Rattle.image_check.proofs.Deciding.{decided-some, decided-none}
+use Rattle.image_check.proofs.Deciding.{decided-some, decided-none, first_class}
 use Rattle.image_check.proofs.Early.{short-Truncated, cut-Truncated}
 use Rattle.image_check.proofs.Fronts.{IsRight, IsRight-append, front_of-append, front-wrong, front-decided}
 
@@ -77,7 +77,7 @@ short_stops format b ended f f' base capacity cause t d n (inl e) g =
 short_stops format b ended f f' base capacity cause t d n (inr h) g =
     let same : f' ≡ f + 0 = g ∙ ap (λ c. f + rise c) h.0 in
     subst (Stops format (given b ended f f') base capacity) (sym h.0)
-    (record { why = record { sound = none_failed f f' same; right = inl (h.1, holding t) }; too_small = λ s. absurd (n s) })
+    (record { why = record { sound = none_failed f f' same; right = inl (h.1, first (first_class (holds format b) t)) }; too_small = λ s. absurd (n s) })
 
 -- ---- in the first 24 bytes, and in the others where these are wrong
 

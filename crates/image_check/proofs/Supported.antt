@@ -18,7 +18,7 @@ use Rattle.segment_manager.specs.Denotes.{Denotes, handles}
 use Rattle.segment_manager.specs.State.{StandsFor}
 use Rattle.segment_manager.proofs.Laws.{IsSupported, Rising, supported-parts, parts-supported}
 use Rattle.image_check.specs.Classes.{are_bytes}
-use Rattle.image_check.specs.SupportedImages.{has_frame, has_no_place, is_supported_tile, is_supported_image, supported_directory, SupportedImages}
+use Rattle.image_check.specs.SupportedImages.{are_supported, has_frame, has_no_place, is_supported_tile, is_supported_image, supported_directory, SupportedImages}
 use Rattle.image_check.specs.Meaning.{HasOneDirectory}
 use Rattle.image_check.proofs.Bytes.{AreSmall, are_bytes-AreSmall}
 use Rattle.image_check.proofs.Order.{extent_of, Rising-rises_from}
@@ -84,21 +84,20 @@ pub record IsSaidSupported (b : List ℕ) : Type 0 where
 
 -- a supported image passes each of its tests
 pub is_supported_image-IsSaidSupported : (b : List ℕ) → IsTrue (is_supported_image b) → IsSaidSupported b
-unfolding is_supported_image
+unfolding is_supported_image are_supported
 is_supported_image-IsSaidSupported b h =
-    let three = and_parts (has_frame b && has_no_place (bytes_of b) 32 && has_no_place (bytes_of b) 56) (list_all (is_supported_tile (bytes_of b)) (tiles_of (bytes_of b) (length b))) h in
-    let two = and_parts (has_frame b && has_no_place (bytes_of b) 32) (has_no_place (bytes_of b) 56) three.0 in
-    let one = and_parts (has_frame b) (has_no_place (bytes_of b) 32) two.0 in
-    record { frame = has_frame-IsFrame b one.0; named = one.1; unique = two.1; tiles = three.1 }
+    let three = and_parts (has_frame b) (are_supported b) h in
+    let two = and_parts (has_no_place (bytes_of b) 32 && has_no_place (bytes_of b) 56) (list_all (is_supported_tile (bytes_of b)) (tiles_of (bytes_of b) (length b))) three.1 in
+    let one = and_parts (has_no_place (bytes_of b) 32) (has_no_place (bytes_of b) 56) two.0 in
+    record { frame = has_frame-IsFrame b three.0; named = one.0; unique = one.1; tiles = two.1 }
 
 -- what passes each is a supported image
 pub IsSaidSupported-is_supported_image : (b : List ℕ) → IsSaidSupported b → IsTrue (is_supported_image b)
-unfolding is_supported_image
+unfolding is_supported_image are_supported
 IsSaidSupported-is_supported_image b s =
-    and_from (has_frame b && has_no_place (bytes_of b) 32 && has_no_place (bytes_of b) 56) (list_all (is_supported_tile (bytes_of b)) (tiles_of (bytes_of b) (length b)))
-    (and_from (has_frame b && has_no_place (bytes_of b) 32) (has_no_place (bytes_of b) 56)
-    (and_from (has_frame b) (has_no_place (bytes_of b) 32) (IsFrame-has_frame b s.frame) s.named) s.unique)
-    s.tiles
+    and_from (has_frame b) (are_supported b) (IsFrame-has_frame b s.frame)
+    (and_from (has_no_place (bytes_of b) 32 && has_no_place (bytes_of b) 56) (list_all (is_supported_tile (bytes_of b)) (tiles_of (bytes_of b) (length b)))
+    (and_from (has_no_place (bytes_of b) 32) (has_no_place (bytes_of b) 56) s.named s.unique) s.tiles)
 
 -- ---- from the words to the directory
 

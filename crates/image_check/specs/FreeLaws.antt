@@ -11,11 +11,11 @@ use Rattle.image_check.specs.FreeNodes.{is_place, placed, place_cells, len_at, s
 
 -- ---- there are few places
 
-multiples : ℕ → List ℕ
+pub multiples : ℕ → List ℕ
 multiples zero = []
 multiples (suc k) = 16 * k ∷ multiples k
 
-length-multiples : (k : ℕ) → length (multiples k) ≡ k
+pub length-multiples : (k : ℕ) → length (multiples k) ≡ k
 unfolding multiples
 length-multiples zero = refl
 length-multiples (suc k) = ap suc (length-multiples k)
@@ -50,7 +50,7 @@ pub is_place-from : (c : Cut) (n : ℕ) → IsTrue (is_legal_size (length c.byte
 unfolding is_place
 is_place-from c n size h = and_from (is_legal_size (length c.bytes)) (is_handle_place (length c.bytes) n) size h
 
-place_listed : (c : Cut) (n : ℕ) → Place c n → is_in n (multiples (length c.bytes / 16)) ≡ true
+pub place_listed : (c : Cut) (n : ℕ) → Place c n → is_in n (multiples (length c.bytes / 16)) ≡ true
 place_listed c n p =
     let whole = p.whole in
     let high = p.high in
@@ -69,7 +69,7 @@ places_finite c = by_test (cases_Bool (is_legal_size (length c.bytes)))
 
 -- ---- links lead to places
 
-placed_leads : (c : Cut) (link : Option ℕ) → IsTrue (is_legal_size (length c.bytes)) → leads (is_place c) (placed (length c.bytes) link) ≡ true
+pub placed_leads : (c : Cut) (link : Option ℕ) → IsTrue (is_legal_size (length c.bytes)) → leads (is_place c) (placed (length c.bytes) link) ≡ true
 unfolding placed
 placed_leads c None size = refl
 placed_leads c (Some n) size = by_test (cases_Bool (is_handle_place (length c.bytes) n))

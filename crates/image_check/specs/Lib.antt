@@ -9,3 +9,13 @@ pub mod SupportedImages
 pub mod Deciding
 pub mod FreeNodes
 pub mod FreeLaws
+pub mod Visits
+pub mod Passes
+pub mod Owners
+pub mod Checking
+pub mod Entered
+pub mod ObjectPasses
+pub mod MapNodes
+pub mod MapLaws
+pub mod Containers
+pub mod Sharing

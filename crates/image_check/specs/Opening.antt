@@ -1,7 +1,8 @@
 -- What opening an image may answer, from what its reader gave, where images of one format are read.
-use Rattle.std.specs.Prelude.{◌≡◌, ◌⊎◌, ◌<◌, ◌≤◌, ℕ, ◌+◌, true, false, ◌&&◌, List, length, IsTrue, nat_lt, Bool, Result, Ok, Err, MatchResult}
+use Rattle.std.specs.Prelude.{◌≡◌, ◌⊎◌, ◌<◌, ◌≤◌, ℕ, ◌+◌, ◌*◌, ◌/◌, true, false, ◌&&◌, List, length, IsTrue, nat_lt, Bool, Some, None, Result, Ok, Err, MatchResult, if◌then◌else◌}
 use Rattle.std.specs.List.{list_any}
 use Rattle.raw_region.specs.Memory.{SamePlace, cut_at}
+use Rattle.block_tags.specs.Format.{is_legal_size}
 use Rattle.raw_region.specs.Device.{Given}
 use Rattle.segment_manager.specs.declared.modes.Mode.{Mode}
 use Rattle.segment_manager.specs.Directory.{Directory}
@@ -13,7 +14,8 @@ use Rattle.image_check.specs.declared.errors.OpenError.TheVariants.{Image, Regio
 use Rattle.image_check.specs.declared.errors.OpenRefused.{OpenRefused}
 use Rattle.image_check.specs.declared.classes.ImageClass.{ImageClass}
 use Rattle.image_check.specs.EarlyTests.{has_front, size_word}
-use Rattle.image_check.specs.Classes.{holds, classes, number_of, DecidesClass}
+use Rattle.image_check.specs.Classes.{holds, classes, class_of, number_of, DecidesClass}
+use Rattle.image_check.specs.Passes.{has_block}
 
 -- ---- of the bytes
 
@@ -29,11 +31,11 @@ IsImage format b = (d : Directory) × IsImageOf format b d
 abbrev pub has_early_class : ℕ → List ℕ → Bool
 has_early_class format b = list_any (λ c. nat_lt (number_of c) 8 && holds format b c) classes
 
--- The class is right for these bytes: it holds. An image of a directory that has not come yet is refused by one of the last
--- five classes, whether that one holds or not.
+-- The class is right for these bytes: it is the first that holds. An image that is accepted, of a directory that has not come
+-- yet, is refused by one of the last five.
 pub data IsClassFor (format : ℕ) (b : List ℕ) (c : ImageClass) : Type 0 where
-  holding : IsTrue (holds format b c) → IsClassFor format b c
-  not_come : has_early_class format b ≡ false → 8 ≤ number_of c → (IsImage format b → ⊥) → IsClassFor format b c
+  first : class_of format b ≡ Some c → IsClassFor format b c
+  not_come : class_of format b ≡ None → 8 ≤ number_of c → (IsImage format b → ⊥) → IsClassFor format b c
 
 -- ---- of what the reader gave
 
@@ -58,6 +60,13 @@ pub record IsUndecided (format : ℕ) (image : Given) : Type 0 where
   pub failed : image.failed ≡ true
   pub open_class : (c : ImageClass) → DecidesClass format image.bytes c → ⊥
 
+-- There was no memory for the check of the blocks: the image was read to its end, none of the classes before the eighth holds,
+-- and a tile is in use.
+pub record IsOutOfMemory (format : ℕ) (image : Given) : Type 0 where
+  pub read : IsReadToEnd image
+  pub early : has_early_class format image.bytes ≡ false
+  pub used : IsTrue (has_block image.bytes)
+
 -- ---- the call
 
 -- the image was read to its end and is the segment's, in its place in the region, and it denotes a directory
@@ -68,11 +77,11 @@ pub record IsOpened (format : ℕ) (image : Given) (region : List ℕ) (base : �
   pub place : SamePlace (cut_at region base (length image.bytes)) s.cut
   pub denotes : IsImage format image.bytes
 
--- why no segment is opened; no memory is taken, so none is wanting
+-- why no segment is opened
 abbrev pub IsWhyNot : ℕ → Given → ℕ → ℕ → OpenError → Type 0
 IsWhyNot format image base capacity (Image c) = IsRefusedAs format image c
 IsWhyNot format image base capacity RegionTooSmall = IsTooSmallFor format image base capacity
-IsWhyNot format image base capacity OutOfMemory = ⊥
+IsWhyNot format image base capacity OutOfMemory = IsOutOfMemory format image
 IsWhyNot format image base capacity ReadFault = IsUndecided format image
 
 -- no segment is opened; the region comes back, with any bytes
@@ -98,3 +107,13 @@ pub record Opens (format : ℕ) (image : Given) (region : List ℕ) (base : ℕ)
 abbrev pub failed_reads : {T : Type 0} → Result T OpenError → ℕ
 failed_reads (Ok x) = 0
 failed_reads (Err cause) = elim cause [ Image c ↦ 0 | RegionTooSmall ↦ 0 | OutOfMemory ↦ 0 | ReadFault ↦ 1 ]
+
+-- ---- visits
+
+-- the size that the first words say, where it is one that a segment has, and else the least
+abbrev pub size_or_least : List ℕ → ℕ
+size_or_least b = if is_legal_size (size_word b) then size_word b else 144
+
+-- a count is raised by no more than 64 for each 16 bytes of the size, and 64
+abbrev pub IsRaisedFor : ℕ → ℕ → ℕ → Type 0
+IsRaisedFor size old new = (old ≤ new) × (new ≤ old + 64 * (size / 16 + 1))

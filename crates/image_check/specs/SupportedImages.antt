@@ -46,10 +46,13 @@ is_supported_block m x = serves x ObjectRole 24 && (word_at m (handle x) == 4294
 abbrev pub is_supported_tile : Memory → Tile → Bool
 is_supported_tile m t = elim (as_extent t) [ None ↦ true | Some x ↦ is_supported_block m x ]
 
+-- both indexes without a place, and all tiles such ones
+unfoldable pub are_supported : List ℕ → Bool
+are_supported b =
+    has_no_place (bytes_of b) 32 && has_no_place (bytes_of b) 56 && list_all (is_supported_tile (bytes_of b)) (tiles_of (bytes_of b) (length b))
+
 unfoldable pub is_supported_image : List ℕ → Bool
-is_supported_image b =
-    has_frame b && has_no_place (bytes_of b) 32 && has_no_place (bytes_of b) 56
-    && list_all (is_supported_tile (bytes_of b)) (tiles_of (bytes_of b) (length b))
+is_supported_image b = has_frame b && are_supported b
 
 -- ---- the directory
 

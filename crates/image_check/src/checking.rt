@@ -1,56 +1,113 @@
 //! Whether a whole image is that of a directory.
-ghost use Rattle.std.specs.Prelude.{◌≡◌, ◌+◌, ◌^◌, ◌<◌, ◌≤◌, IsTrue, MatchResult, length};
-ghost use Rattle.std.specs.List.{list_all};
-ghost use Rattle.raw_region.specs.Memory.{bytes_of};
+ghost use Rattle.std.specs.Prelude.{◌≡◌, ◌≤◌, IsTrue, None, Some, MatchResult, OnErr, OnOk, length};
 ghost use Rattle.raw_region.specs.Format.{current};
-ghost use Rattle.block_tags.specs.Format.{is_legal_size};
-ghost use Rattle.block_tags.specs.Tiles.{has_tags, tiles_of};
+ghost use Rattle.raw_region.specs.Memory.{bytes_of};
 ghost use Rattle.segment_manager.specs.State.{IsSegment};
-ghost use Rattle.image_check.specs.EarlyTests.{has_reserved as is_reserved, is_zero as are_zeros};
-ghost use Rattle.image_check.specs.Classes.{are_bytes};
-ghost use Rattle.image_check.specs.SupportedImages.{has_no_place as is_without_place, is_supported_tile};
-ghost use Rattle.image_check.specs.Opening.{IsClassFor};
+ghost use Rattle.image_check.specs.Checking.{FindsLate, IsWhyRefused};
+ghost use Rattle.image_check.specs.Classes.{are_bytes, class_of};
+ghost use Rattle.image_check.specs.EarlyTests.{has_reserved as is_reserved};
+ghost use Rattle.image_check.specs.Opening.{IsRaisedFor};
+ghost use Rattle.image_check.specs.Owners.{entries_of};
+ghost use Rattle.image_check.specs.Passes.{HasTiles, Spends, tiles_in};
 ghost use Rattle.image_check.specs.Reading.{HasFront};
+ghost use Rattle.image_check.specs.SupportedImages.{has_frame};
+ghost use Rattle.image_check.specs.Visits.{block_rates, frame_rates};
 
 use crate::classes::ImageClass;
+use crate::containers::check_containers;
+use crate::errors::CheckError;
 use crate::free_tree::has_free_tree;
-use block_tags::{FIRST, Role, TAG, Tile, first, next};
-use offset_link::NULL;
-use raw_region::{Window, word_in};
-use segment_manager::layout::{
-    ANONYMOUS, FORMAT_AT, HEAD_LEN, NAME_CLASS_AT, NAMED_AT, ONE_I64, RESERVED_AT, SIZE_AT,
-    UNIQUE_AT,
-};
+use crate::gathering::gather;
+use crate::heads::is_zero;
+use crate::indexes::check_indexes;
+use crate::object_walk::check_objects;
+use crate::orphans::check_orphans;
+use crate::owners::Owners;
+use crate::sharing::check_sharing;
+use crate::support::is_supported;
+use crate::visits::Visits;
+use block_tags::{FIRST, check_counted};
+use raw_region::Window;
+use segment_manager::layout::{FORMAT, FORMAT_AT, RESERVED_AT, SIZE_AT};
+use std::alloc::Global;
 
-/// How many bytes an object takes that is one number and has no name.
-const NUMBER_LEN: u64 = HEAD_LEN + 8;
-
-/// Whether a window whose first words are right is the image of a directory that a segment can keep: anonymous numbers of
-/// kind `i64`, and nothing in an index.
+/// Whether a window whose first words are right is the image of a directory that a segment can keep.
 ///
 /// # Errors
 ///
-/// The first of `BadReserved`, `BadTag` and `BadFreeTree` that holds, and `OrphanBlock` for each other image that is not
-/// such a one.
-pub fn check(window: &Window) -> Result<(), ImageClass>
+/// The first class that holds. `OrphanBlock` where none holds and the directory is not supported yet. `NoMemory` only where none
+/// of the classes before `BadIndex` holds and a tile is in use.
+pub fn check(alloc: Global, window: &Window, visits: &mut Visits) -> Result<(), CheckError>
     requires { HasFront current window.now }
-    ensures { MatchResult result (λ done. IsSegment window.now.bytes) (IsClassFor current window.now.bytes) }
+    ensures answers { MatchResult result (λ done. IsSegment window.now.bytes) (IsWhyRefused current window.now.bytes) }
+    ensures visits { IsRaisedFor (length window.now.bytes) visits.old visits.new }
 {
-    let bytes = all_bytes(window);
-    if !has_reserved(bytes) {
+    if let Err(class) = check_frame(window, visits) {
+        return Err(CheckError::Class(class));
+    }
+    let Ok(mut owners) = gather(alloc, window, visits) else {
+        return Err(CheckError::NoMemory);
+    };
+    if let Err(class) = check_blocks(window, &mut owners, visits) {
+        return Err(CheckError::Class(class));
+    }
+    if !is_supported(window, all_bytes(window), visits) {
+        return Err(CheckError::Class(ImageClass::OrphanBlock));
+    }
+    Ok(())
+}
+
+/// Whether the reserved bytes, the tags and the free tree of a window whose first words are right are right too.
+///
+/// # Errors
+///
+/// The first of `BadReserved`, `BadTag` and `BadFreeTree` that holds.
+fn check_frame(window: &Window, visits: &mut Visits) -> Result<(), ImageClass>
+    requires { HasFront current window.now }
+    ensures finds { MatchResult result (λ done. IsTrue (has_frame window.now.bytes)) (λ class. class_of current window.now.bytes ≡ Some class) }
+    ensures visits { OnOk result (Spends frame_rates 51 window.now.bytes visits.old visits.new) }
+    ensures most { OnErr result (IsRaisedFor (length window.now.bytes) visits.old visits.new) }
+{
+    if !has_reserved(all_bytes(window)) {
         return Err(ImageClass::BadReserved);
     }
-    if block_tags::check(window).is_err() {
+    let tags = check_counted(window);
+    visits.add(tags.tags);
+    if !tags.are_good {
         return Err(ImageClass::BadTag);
     }
-    if !has_free_tree(window) {
+    if !has_free_tree(window, visits) {
         return Err(ImageClass::BadFreeTree);
     }
-    if has_no_place(bytes, NAMED_AT) && has_no_place(bytes, UNIQUE_AT) && has_numbers(window) {
-        Ok(())
-    } else {
-        Err(ImageClass::OrphanBlock)
+    Ok(())
+}
+
+/// Looks for the classes that are about blocks, one after another, with the blocks in use as they were gathered.
+///
+/// # Errors
+///
+/// The first of `BadIndex`, `BadObject`, `SharedBlock`, `BadContainer` and `OrphanBlock` that holds.
+fn check_blocks(window: &Window, owners: &mut Owners, visits: &mut Visits) -> Result<(), ImageClass>
+    requires tiles { HasTiles window.now.bytes }
+    requires blocks { owners.old.blocks.entries ≡ entries_of (tiles_in window.now.bytes) }
+    requires pending { owners.old.pending ≡ None }
+    requires waiting { owners.old.waiting ≡ 0 }
+    ensures finds { FindsLate current window.now.bytes result }
+    ensures visits { Spends block_rates 62 window.now.bytes visits.old visits.new }
+{
+    if let Err(class) = check_indexes(window, owners, visits) {
+        return Err(class);
     }
+    if let Err(class) = check_objects(FORMAT, window, owners, visits) {
+        return Err(class);
+    }
+    if let Err(class) = check_sharing(FORMAT, window, owners, visits) {
+        return Err(class);
+    }
+    if let Err(class) = check_containers(FORMAT, window, owners, visits) {
+        return Err(class);
+    }
+    check_orphans(window, owners, visits)
 }
 
 /// All bytes of the window.
@@ -77,53 +134,4 @@ fn has_reserved(bytes: &[u8]) -> bool
     let upper_half = FORMAT_AT as usize + 4..SIZE_AT as usize;
     let behind_indexes = RESERVED_AT as usize..FIRST as usize;
     is_zero(&bytes[upper_half]) && is_zero(&bytes[behind_indexes])
-}
-
-fn is_zero(bytes: &[u8]) -> bool
-    ensures { result ≡ are_zeros bytes.now }
-{
-    bytes.iter().all(|byte| *byte == 0)
-}
-
-/// Whether the index whose link stands at `at` has neither a block nor an entry.
-fn has_no_place(bytes: &[u8], at: u64) -> bool
-    requires { at + 24 ≤ length bytes.now }
-    ensures { result ≡ is_without_place (bytes_of bytes.now) at }
-{
-    let at = at as usize;
-    word_in(bytes, at) == NULL && word_in(bytes, at + 8) == 0 && word_in(bytes, at + 16) == 0
-}
-
-/// Whether each tile is free or holds an anonymous object that is one number of kind `i64`.
-fn has_numbers(window: &Window) -> bool
-    requires size { IsTrue (is_legal_size (length window.now.bytes)) }
-    requires tags { IsTrue (has_tags current (bytes_of window.now.bytes) (length window.now.bytes)) }
-    ensures { result ≡ list_all (is_supported_tile (bytes_of window.now.bytes)) (tiles_of (bytes_of window.now.bytes) (length window.now.bytes)) }
-{
-    let mut tile = first(window);
-    'tiles: while let Some(here) = tile {
-        if !is_number(window, here) {
-            return false;
-        }
-        tile = next(window, here.offset);
-    }
-    true
-}
-
-/// Whether the tile is free or holds such an object.
-fn is_number(window: &Window, tile: Tile) -> bool
-    requires within { tile.offset + tile.len ≤ length window.now.bytes }
-    requires small { length window.now.bytes < 2 ^ 63 }
-    ensures { result ≡ is_supported_tile (bytes_of window.now.bytes) tile }
-{
-    match tile.use_of {
-        None => true,
-        Some(Role::Object) => {
-            let payload = tile.offset + TAG;
-            tile.len >= TAG + NUMBER_LEN
-                && window.read_u64(payload) == ONE_I64
-                && window.read_u64(payload + NAME_CLASS_AT) == ANONYMOUS
-        }
-        Some(_) => false,
-    }
 }

@@ -1,4 +1,6 @@
 //! Why no segment is opened.
+ghost use Rattle.std.specs.Prelude.{◌≡◌};
+ghost use Rattle.image_check.specs.Checking.{cause_for};
 
 use crate::classes::ImageClass;
 use raw_region::RawRegion;
@@ -28,4 +30,25 @@ pub struct OpenRefused {
     pub region: RawRegion,
     /// Why.
     pub cause: OpenError,
+}
+
+/// Why an image that stands in its window is not opened.
+#[derive(Clone, Copy)]
+pub enum CheckError {
+    /// It denotes no directory.
+    Class(ImageClass),
+    /// Memory for the check of its blocks was refused.
+    NoMemory,
+}
+
+impl CheckError {
+    /// The same as an answer to an opening.
+    pub fn into_cause(self) -> OpenError
+        ensures { result ≡ cause_for self }
+    {
+        match self {
+            CheckError::Class(class) => OpenError::Image(class),
+            CheckError::NoMemory => OpenError::OutOfMemory,
+        }
+    }
 }

@@ -1,5 +1,5 @@
 //! Whether the free tiles of a window make up the tree that the header's link leads to, whatever its links say.
-ghost use Rattle.std.specs.Prelude.{◌≡◌, ◌+◌, ◌≤◌, ◌%◌, true, IsTrue, length};
+ghost use Rattle.std.specs.Prelude.{◌≡◌, ◌+◌, ◌-◌, ◌≤◌, ◌<◌, ◌%◌, ◌^◌, true, IsTrue, length};
 ghost use Rattle.std.specs.List.{list_all};
 ghost use Rattle.raw_region.specs.Memory.{bytes_of};
 ghost use Rattle.offset_link.specs.Link.{link_at};
@@ -11,8 +11,11 @@ ghost use Rattle.block_tags.specs.Tiles.{has_tags, tiles_of};
 ghost use Rattle.best_fit.specs.GapNodes.{gaps_in, tiles_in};
 ghost use Rattle.image_check.specs.EarlyTests.{has_free_tree as has_tree};
 ghost use Rattle.image_check.specs.FreeNodes.{has_good_links, is_before, is_planted as is_planted_in, is_place, len_at as len_there, place_cells, placed, stands_before};
+ghost use Rattle.image_check.specs.Passes.{Spends};
+ghost use Rattle.image_check.specs.Visits.{counting_rates, planting_rates, planting_visits, tree_rates};
 ghost use Rattle.image_check.specs.FreeLaws.{before_agrees, before_irreflexive, before_transitive, places_finite, places_left, places_right};
 
+use crate::visits::Visits;
 use best_fit::{FREE_TREE, RIGHT};
 use block_tags::{TAG, Tile, first, next};
 use link_tree::{Nodes, check, find_first_not_before};
@@ -109,30 +112,35 @@ impl Nodes for Places<'_> {
 ///
 /// A tree of as many nodes as there are free tiles, in which each of them is found, has no other node. Each is searched for
 /// to the depth of a red-black tree of that size.
-pub fn has_free_tree(window: &Window) -> bool
+pub fn has_free_tree(window: &Window, visits: &mut Visits) -> bool
     requires size { IsTrue (is_legal_size (length window.now.bytes)) }
     requires tags { IsTrue (has_tags current (bytes_of window.now.bytes) (length window.now.bytes)) }
-    ensures { result ≡ has_tree current (bytes_of window.now.bytes) (tiles_of (bytes_of window.now.bytes) (length window.now.bytes)) }
+    ensures value { result ≡ has_tree current (bytes_of window.now.bytes) (tiles_of (bytes_of window.now.bytes) (length window.now.bytes)) }
+    ensures visits { Spends tree_rates 50 window.now.bytes visits.old visits.new }
 {
     let places = Places { window };
     let Ok(root) = checked(window, FREE_TREE) else {
         return false;
     };
-    let Some(nodes) = check(&places, root).nodes else {
+    let tree = check(&places, root);
+    visits.add(tree.steps);
+    let Some(nodes) = tree.nodes else {
         return false;
     };
-    nodes == count_free(window) && are_planted(&places, root)
+    nodes == count_free(window, visits) && are_planted(&places, root, visits)
 }
 
 /// The number of free tiles.
-fn count_free(window: &Window) -> u64
+fn count_free(window: &Window, visits: &mut Visits) -> u64
     requires size { IsTrue (is_legal_size (length window.now.bytes)) }
     requires tags { IsTrue (has_tags current (bytes_of window.now.bytes) (length window.now.bytes)) }
-    ensures { result ≡ length (gaps_in window.now) }
+    ensures value { result ≡ length (gaps_in window.now) }
+    ensures visits { Spends counting_rates 0 window.now.bytes visits.old visits.new }
 {
     let mut count = 0;
     let mut tile = first(window);
     'tiles: while let Some(here) = tile {
+        visits.visit();
         if here.use_of.is_none() {
             count += 1;
         }
@@ -142,17 +150,19 @@ fn count_free(window: &Window) -> u64
 }
 
 /// Whether each free tile is a node of the tree, and its links are good.
-fn are_planted(places: &Places<'_>, root: Option<u64>) -> bool
+fn are_planted(places: &Places<'_>, root: Option<u64>, visits: &mut Visits) -> bool
     requires size { IsTrue (is_legal_size (length places.now.window.now.bytes)) }
     requires tags { IsTrue (has_tags current (bytes_of places.now.window.now.bytes) (length places.now.window.now.bytes)) }
     requires root { leads (is_place places.now.window.now) root ≡ true }
-    requires tree { (t : Tree) × IsSearchTree (stands_before (bytes_of places.now.window.now.bytes)) (place_cells places.now.window.now) root t }
-    ensures { (t : Tree) → IsSearchTree (stands_before (bytes_of places.now.window.now.bytes)) (place_cells places.now.window.now) root t
+    requires tree { (t : Tree) × IsSearchTree (stands_before (bytes_of places.now.window.now.bytes)) (place_cells places.now.window.now) root t × (length (nodes_of t) < 2 ^ 26 - 1) }
+    ensures value { (t : Tree) → IsSearchTree (stands_before (bytes_of places.now.window.now.bytes)) (place_cells places.now.window.now) root t
         → result ≡ list_all (is_planted_in places.now.window.now (nodes_of t)) (tiles_in places.now.window.now) }
+    ensures visits { Spends planting_rates 0 places.now.window.now.bytes visits.old visits.new }
 {
     let mut tile = first(places.window);
     'tiles: while let Some(here) = tile {
-        if !is_planted(places, root, here) {
+        visits.visit();
+        if !is_planted(places, root, here, visits) {
             return false;
         }
         tile = next(places.window, here.offset);
@@ -161,37 +171,41 @@ fn are_planted(places: &Places<'_>, root: Option<u64>) -> bool
 }
 
 /// Whether the tile is in use, or a node of the tree with good links.
-fn is_planted(places: &Places<'_>, root: Option<u64>, tile: Tile) -> bool
+fn is_planted(places: &Places<'_>, root: Option<u64>, tile: Tile, visits: &mut Visits) -> bool
     requires place { is_place places.now.window.now (tile.offset + 16) ≡ true }
     requires len { len_there (bytes_of places.now.window.now.bytes) (tile.offset + 16) ≡ tile.len }
     requires root { leads (is_place places.now.window.now) root ≡ true }
-    requires tree { (t : Tree) × IsSearchTree (stands_before (bytes_of places.now.window.now.bytes)) (place_cells places.now.window.now) root t }
-    ensures { (t : Tree) → IsSearchTree (stands_before (bytes_of places.now.window.now.bytes)) (place_cells places.now.window.now) root t
+    requires tree { (t : Tree) × IsSearchTree (stands_before (bytes_of places.now.window.now.bytes)) (place_cells places.now.window.now) root t × (length (nodes_of t) < 2 ^ 26 - 1) }
+    ensures value { (t : Tree) → IsSearchTree (stands_before (bytes_of places.now.window.now.bytes)) (place_cells places.now.window.now) root t
         → result ≡ is_planted_in places.now.window.now (nodes_of t) tile }
+    ensures raised { visits.old ≤ visits.new }
+    ensures most { visits.new ≤ visits.old + planting_visits tile.use_of }
 {
     if tile.use_of.is_some() {
         return true;
     }
     let node = tile.offset + TAG;
-    is_reached(
-        places,
-        root,
-        Sought {
-            len: tile.len,
-            node,
-        },
-    ) && has_good_links(places.window, node)
+    visits.visit();
+    let sought = Sought {
+        len: tile.len,
+        node,
+    };
+    is_reached(places, root, sought, visits) && has_good_links(places.window, node)
 }
 
 /// Whether the node is one of the tree.
-fn is_reached(places: &Places<'_>, root: Option<u64>, sought: Sought) -> bool
+fn is_reached(places: &Places<'_>, root: Option<u64>, sought: Sought, visits: &mut Visits) -> bool
     requires len { len_there (bytes_of places.now.window.now.bytes) sought.node ≡ sought.len }
     requires root { leads (is_place places.now.window.now) root ≡ true }
-    requires tree { (t : Tree) × IsSearchTree (stands_before (bytes_of places.now.window.now.bytes)) (place_cells places.now.window.now) root t }
-    ensures { (t : Tree) → IsSearchTree (stands_before (bytes_of places.now.window.now.bytes)) (place_cells places.now.window.now) root t
+    requires tree { (t : Tree) × IsSearchTree (stands_before (bytes_of places.now.window.now.bytes)) (place_cells places.now.window.now) root t × (length (nodes_of t) < 2 ^ 26 - 1) }
+    ensures value { (t : Tree) → IsSearchTree (stands_before (bytes_of places.now.window.now.bytes)) (place_cells places.now.window.now) root t
         → result ≡ is_in sought.node (nodes_of t) }
+    ensures raised { visits.old ≤ visits.new }
+    ensures most { visits.new ≤ visits.old + 52 }
 {
-    match find_first_not_before(places, root, &sought).node {
+    let found = find_first_not_before(places, root, &sought);
+    visits.add(found.steps);
+    match found.node {
         Some(found) => found == sought.node,
         None => false,
     }

@@ -2,14 +2,31 @@
 //! by a named class.
 #![tactic(auto)]
 
+mod arrays;
 mod checking;
 mod classes;
+mod containers;
+mod entering;
 mod errors;
 mod free_tree;
+mod gathering;
 mod header;
+mod heads;
+mod indexes;
 pub mod laws;
+mod links;
+mod maps;
+mod marks;
+mod object_walk;
 mod opening;
+mod orphans;
+mod owners;
+mod ranks;
 mod reading;
+mod sharing;
+mod spellings;
+mod support;
+mod visits;
 
 pub use classes::ImageClass;
 pub use errors::{OpenError, OpenRefused};

@@ -2,23 +2,27 @@
 ghost use Rattle.std.specs.Prelude.{◌≡◌, ◌+◌, ◌-◌, ◌%◌, ◌^◌, ◌<◌, length};
 ghost use Rattle.raw_region.specs.Device.{Reads, given_since};
 ghost use Rattle.raw_region.specs.Format.{current};
-ghost use Rattle.image_check.specs.Opening.{Opens, cause_of, failed_reads};
+ghost use Rattle.image_check.specs.Opening.{IsRaisedFor, Opens, cause_of, failed_reads, size_or_least};
 
 use crate::checking::check;
-use crate::errors::{OpenError, OpenRefused};
+use crate::errors::OpenRefused;
 use crate::reading::read_image;
+use crate::visits::Visits;
 use raw_region::{RawRegion, Source, Steps};
 use segment_manager::{Mode, Segment};
 use std::alloc::Global;
+use std::mem;
 
 /// Reads an image into the region, from `base` on, which is a multiple of 16, and opens it.
 ///
 /// # Errors
 ///
 /// `RegionTooSmall` as soon as the magic, the version and a legal size are read and the region ends before base plus size. A
-/// class of the image where it denotes no directory and was read to its end, or where what was read decides it. `ReadFault`
-/// where the reader failed before that; it is not asked again after an error. `OutOfMemory` is not answered, since no memory is
-/// taken. The region comes back.
+/// class of the image where it denotes no directory, the first that holds, where it was read to its end or what was read decides it. `ReadFault`
+/// where the reader failed before that; it is not asked again after an error. `OutOfMemory` where memory for the check of the
+/// blocks was refused: only where no class before `BadIndex` holds and a tile is in use. The region comes back.
+///
+/// `steps` is raised by each visit of the check: by no more than 64 for each 16 bytes of the size, and 64.
 pub fn open<S: Source>(
     alloc: Global,
     reader: &mut S,
@@ -31,14 +35,17 @@ pub fn open<S: Source>(
     requires reader { (S.history reader.old).failures < 2 ^ 64 - 1 }
     ensures opens { Opens current (given_since (S.history reader.old) (S.history reader.new)) region base mode result }
     ensures history { Reads (S.history reader.old) (S.history reader.new) (failed_reads (cause_of result)) }
-    ensures steps { steps.new ≡ steps.old }
+    ensures steps { IsRaisedFor (size_or_least (given_since (S.history reader.old) (S.history reader.new)).bytes) steps.old steps.new }
 {
     let window = read_image(reader, region, base)?;
-    match check(&window) {
+    let mut visits = Visits::new(mem::replace(steps, Steps::new()));
+    let checked = check(alloc, &window, &mut visits);
+    *steps = visits.into_steps();
+    match checked {
         Ok(()) => Ok(Segment::adopt(window, mode)),
-        Err(class) => Err(OpenRefused {
+        Err(why) => Err(OpenRefused {
             region: window.into_region(),
-            cause: OpenError::Image(class),
+            cause: why.into_cause(),
         }),
     }
 }

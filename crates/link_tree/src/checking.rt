@@ -147,7 +147,7 @@ pub fn check<N: Nodes>(nodes: &N, root: Option<u64>) -> Checked
     // `ns` may be any list of nodes that has the root, and with each node those that its links lead to.
     ensures steps { (ns : List ℕ) → IsClosed (N.cells nodes.now) ns
         → leads (λ n. is_in n ns) root ≡ true
-        → result.steps ≤ 16 * length ns + 16 }
+        → result.steps ≤ 5 * length ns + 5 }
 {
     let mut visits = Visits::new(nodes);
     let Some(part) = check_below(&mut visits, root, None, None, true, MOST_LEVELS) else {

@@ -3,11 +3,10 @@ use Rattle.std.specs.Prelude.{◌≡◌, ℕ, ◌+◌, ◌*◌, ◌<◌, ◌≤�
 use Rattle.raw_region.specs.Format.{current}
 use Rattle.raw_region.specs.Memory.{Cut, bytes_of}
 use Rattle.block_tags.specs.declared.tile.Role.TheVariants.{Index as IndexRole}
-use Rattle.link_tree.specs.Tree.{bits}
 use Rattle.offset_link.specs.Link.{link_at}
-use Rattle.best_fit.specs.Extents.{Extent, LiveSet, gaps, handle}
+use Rattle.best_fit.specs.Extents.{Extent, LiveSet, handle}
 use Rattle.best_fit.specs.Fit.{added, place, released, resized, shorter}
-use Rattle.best_fit.specs.Heap.{IsRefused, LaysOut, live_of}
+use Rattle.best_fit.specs.Heap.{IsRefused, LaysOut, heap_touches, live_of}
 use Rattle.best_fit.specs.Table.{Table, cut_table}
 use Rattle.seg_index.specs.Growth.{KeepsRest, beside_table, unlinked, without_link}
 use Rattle.seg_index.specs.Held.{IsIndexOf, capacity_at}
@@ -29,13 +28,9 @@ abbrev pub Reserves : {T E : Type 0} → Cut → Cut → ℕ → ℕ → Result 
 Reserves old new at n result =
     MatchResult result (λ v. IsRoomy old new at n) (λ e. (capacity_at old at < n) × IsRefused old new (8 * n) IndexRole)
 
--- how many steps a call of the heap may take
-abbrev pub heap_steps : LiveSet → ℕ
-heap_steps live = 128 * bits (length (gaps live) + 1) + 128
-
 -- one for the request, and one for the release of the old block
 abbrev pub reserve_steps : LiveSet → ℕ → ℕ
-reserve_steps live n = heap_steps live + elim (place live (8 * n) IndexRole) [ None ↦ 0 | Some x ↦ heap_steps (added live x) ]
+reserve_steps live n = heap_touches live + elim (place live (8 * n) IndexRole) [ None ↦ 0 | Some x ↦ heap_touches (added live x) ]
 
 -- the live set where the block of a table is cut to n places
 abbrev pub with_cut : LiveSet → ℕ → Table → LiveSet

@@ -2,12 +2,10 @@
 ghost use Rattle.std.specs.Prelude.{◌≡◌, ℕ, ◌+◌, ◌-◌, ◌*◌, ◌%◌, ◌<◌, ◌≤◌, IsTrue, List, Some, insert, length};
 ghost use Rattle.raw_region.specs.Format.{current};
 ghost use Rattle.raw_region.specs.Memory.{bytes_of};
-ghost use Rattle.link_tree.specs.Tree.{bits};
 ghost use Rattle.offset_link.specs.Link.{link_at};
 ghost use Rattle.offset_link.specs.Relinked.{AreLinks, KeepTargets};
-ghost use Rattle.best_fit.specs.Extents.{gaps};
 ghost use Rattle.best_fit.specs.Fit.{others};
-ghost use Rattle.best_fit.specs.Heap.{IsChanged, IsHeap, LaysOut, has_room, live_of};
+ghost use Rattle.best_fit.specs.Heap.{IsChanged, IsHeap, LaysOut, has_room, heap_touches, live_of};
 ghost use Rattle.best_fit.specs.Table.{Table as ATable};
 ghost use Rattle.seg_index.specs.Growth.{AddKeeps, Adds, CanGrow, IsBlockFor, KeepsRest, beside_table, grown_live, unlinked};
 ghost use Rattle.seg_index.specs.Held.{HasIndex, IsIndexIn, IsIndexOf, capacity_at, entry_count, place_of};
@@ -32,7 +30,7 @@ impl Index {
         ensures keeps { (t : ATable) (handles : List ℕ) → IsIndexOf heap.old (place_of self) t handles
             → AddKeeps heap.old heap.new (place_of self) t growth.block }
         ensures counted { steps.old ≤ steps.new }
-        ensures steps { steps.new ≤ steps.old + 128 * bits (length (gaps (live_of heap.old.bytes)) + 1) + 128 }
+        ensures steps { steps.new ≤ steps.old + heap_touches (live_of heap.old.bytes) }
     {
         match growth.block {
             None => self.insert(heap, place, handle),
@@ -70,7 +68,7 @@ impl Index {
         ensures live { LaysOut current heap.new.bytes (unlinked heap.old (place_of self)) }
         ensures keeps { KeepsRest heap.old heap.new (place_of self) (others block (unlinked heap.old (place_of self)).extents) }
         ensures counted { steps.old ≤ steps.new }
-        ensures steps { steps.new ≤ steps.old + 128 * bits (length (gaps (live_of heap.old.bytes)) + 1) + 128 }
+        ensures steps { steps.new ≤ steps.old + heap_touches (live_of heap.old.bytes) }
     {
         let count = self.len(heap);
         let capacity = grown(self.capacity(heap));

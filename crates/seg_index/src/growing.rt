@@ -3,10 +3,8 @@ ghost use Rattle.std.specs.Prelude.{◌≡◌, ◌≢◌, ℕ, ◌+◌, ◌*◌,
 ghost use Rattle.std.specs.List.{AllByRecursion};
 ghost use Rattle.raw_region.specs.Format.{current};
 ghost use Rattle.raw_region.specs.Memory.{bytes_of};
-ghost use Rattle.link_tree.specs.Tree.{bits};
 ghost use Rattle.offset_link.specs.Link.{link_at};
-ghost use Rattle.best_fit.specs.Extents.{gaps};
-ghost use Rattle.best_fit.specs.Heap.{IsHeap, LaysOut, is_live_in, live_of};
+ghost use Rattle.best_fit.specs.Heap.{IsHeap, LaysOut, heap_touches, is_live_in, live_of};
 ghost use Rattle.seg_index.specs.Growth.{GivesBack, IsBlockFor, IsHeld, KeepsRest, Prepares, Restores, unlinked};
 ghost use Rattle.seg_index.specs.Held.{HasIndex, IsIndexIn, place_of};
 ghost use Rattle.seg_index.specs.Index.{AreLinks, grown_capacity};
@@ -34,7 +32,7 @@ impl Index {
         requires index { HasIndex heap.old (place_of self) }
         ensures growth { Prepares heap.old heap.new (place_of self) result }
         ensures counted { steps.old ≤ steps.new }
-        ensures steps { steps.new ≤ steps.old + 128 * bits (length (gaps (live_of heap.old.bytes)) + 1) + 128 }
+        ensures steps { steps.new ≤ steps.old + heap_touches (live_of heap.old.bytes) }
     {
         let capacity = self.capacity(heap);
         if self.len(heap) < capacity {
@@ -50,7 +48,7 @@ impl Index {
         ensures change { GivesBack heap.old heap.new growth.block }
         ensures restored { Restores heap.old heap.new growth }
         ensures counted { steps.old ≤ steps.new }
-        ensures steps { steps.new ≤ steps.old + 128 * bits (length (gaps (live_of heap.old.bytes)) + 1) + 128 }
+        ensures steps { steps.new ≤ steps.old + heap_touches (live_of heap.old.bytes) }
     {
         if let Some(block) = growth.block {
             heap.deallocate(block, steps);
@@ -77,7 +75,7 @@ impl Index {
         ensures live { LaysOut current heap.new.bytes (unlinked heap.old (place_of self)) }
         ensures keeps { KeepsRest heap.old heap.new (place_of self) (unlinked heap.old (place_of self)).extents }
         ensures counted { steps.old ≤ steps.new }
-        ensures steps { steps.new ≤ steps.old + 128 * bits (length (gaps (live_of heap.old.bytes)) + 1) + 128 }
+        ensures steps { steps.new ≤ steps.old + heap_touches (live_of heap.old.bytes) }
     {
         let place = self.place();
         let old = heap.header_link(place);

@@ -1,8 +1,6 @@
 //! An index with more places, or with no more than it has entries.
 ghost use Rattle.std.specs.Prelude.{◌≡◌, ◌+◌, ◌*◌, ℕ, ◌≤◌, List, length};
-ghost use Rattle.link_tree.specs.Tree.{bits};
-ghost use Rattle.best_fit.specs.Extents.{gaps};
-ghost use Rattle.best_fit.specs.Heap.{live_of};
+ghost use Rattle.best_fit.specs.Heap.{heap_touches, live_of};
 ghost use Rattle.best_fit.specs.Table.{Table as ATable};
 ghost use Rattle.seg_index.specs.Capacities.{IsShrunk, Reserves, reserve_steps};
 ghost use Rattle.seg_index.specs.Held.{HasIndex, IsIndexOf, place_of};
@@ -45,7 +43,7 @@ impl Index {
         ensures shrunk { (t : ATable) (handles : List ℕ) → IsIndexOf heap.old (place_of self) t handles
             → IsShrunk heap.old heap.new (place_of self) t handles }
         ensures counted { steps.old ≤ steps.new }
-        ensures steps { steps.new ≤ steps.old + 128 * bits (length (gaps (live_of heap.old.bytes)) + 1) + 128 }
+        ensures steps { steps.new ≤ steps.old + heap_touches (live_of heap.old.bytes) }
     {
         let place = self.place();
         let Some(block) = heap.header_link(place) else {

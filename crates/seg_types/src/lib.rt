@@ -12,7 +12,7 @@ mod values;
 
 pub use keys::{Handle, Key, NewKey};
 pub use kinds::{Class, Kind, ScalarKind};
-pub use names::{LONGEST_NAME, Name};
+pub use names::{LONGEST_NAME, Name, is_name};
 pub use plain::Plain;
 pub use refusals::Refusal;
 pub use scalars::Scalar;

@@ -1,12 +1,16 @@
 //! Names of objects.
-ghost use Rattle.std.specs.Prelude.{◌≡◌, ◌&&◌, Some, None, if◌then◌else◌, nat_le};
+ghost use Rattle.std.specs.Prelude.{◌≡◌, ◌&&◌, not, Some, None, if◌then◌else◌, nat_le};
 ghost use Rattle.std.specs.List.{list_all};
-ghost use Rattle.seg_types.specs.Names.{is_printable_name};
+ghost use Rattle.std.specs.Str.{chars};
+ghost use Rattle.seg_types.specs.Names.{is_control, is_name, is_printable_name, is_text_name};
 
 use std::marker::Model;
 
 /// The most bytes that a name has.
 pub const LONGEST_NAME: usize = 63;
+
+/// The most bytes that a name has from format 2 on.
+const LONGEST_TEXT_NAME: usize = 255;
 
 /// A name of the formats 0 and 1: 1 to 63 bytes, each from 0x20 to 0x7E. It holds its bytes in place and takes no memory.
 #[derive(Drop)]
@@ -31,7 +35,7 @@ impl Name {
     pub fn new(bytes: &[u8]) -> Option<Name>
         ensures { result ≡ (if is_printable_name bytes.now then Some bytes.now else None) }
     {
-        if !is_name(bytes) {
+        if !is_printable_name(bytes) {
             return None;
         }
         let mut held = [0; LONGEST_NAME];
@@ -50,8 +54,19 @@ impl Name {
     }
 }
 
-/// Whether these bytes are a name.
-fn is_name(bytes: &[u8]) -> bool
+/// Whether these bytes are a name of the format: 1 to 63 bytes from 0x20 to 0x7E in 0 and 1, and from 2 on 1 to 255
+/// bytes of UTF-8 without control characters.
+pub fn is_name(format: u64, bytes: &[u8]) -> bool
+    ensures { result ≡ is_name format bytes.now }
+{
+    match format {
+        0 | 1 => is_printable_name(bytes),
+        _ => is_text_name(bytes),
+    }
+}
+
+/// Whether these bytes are a name of the formats 0 and 1.
+fn is_printable_name(bytes: &[u8]) -> bool
     ensures { result ≡ is_printable_name bytes.now }
 {
     !bytes.is_empty() && bytes.len() <= LONGEST_NAME && are_printable(bytes)
@@ -62,4 +77,24 @@ fn are_printable(bytes: &[u8]) -> bool
     ensures { result ≡ list_all (λ c. nat_le 0x20 c && nat_le c 0x7E) bytes.now }
 {
     bytes.iter().all(|byte| (0x20..=0x7E).contains(byte))
+}
+
+/// Whether these bytes are a name from format 2 on.
+fn is_text_name(bytes: &[u8]) -> bool
+    ensures { result ≡ is_text_name bytes.now }
+{
+    if bytes.is_empty() || bytes.len() > LONGEST_TEXT_NAME {
+        return false;
+    }
+    match str::from_utf8(bytes) {
+        Ok(text) => is_without_control(text),
+        Err(_) => false,
+    }
+}
+
+/// Whether no character of the text is a control character.
+fn is_without_control(text: &str) -> bool
+    ensures { result ≡ list_all (λ c. not (is_control c)) (chars text.now) }
+{
+    text.chars().all(|c| !c.is_control())
 }

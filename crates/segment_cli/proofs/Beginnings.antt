@@ -78,7 +78,7 @@ opened region base mode image s h small =
 why_not_begun : (image : Given) (base capacity : ℕ) (cause : OpenError) → IsWhyNot current image base capacity cause → IsWhyNotBegun Image image base capacity (opened_fault cause)
 why_not_begun image base capacity (NoImage c) why = (refl, why)
 why_not_begun image base capacity NoRoomForImage why = why
-why_not_begun image base capacity NoMemory why = why
+why_not_begun image base capacity NoMemory why = (refl, why)
 why_not_begun image base capacity NotRead why = (refl, why)
 
 abbrev no_segment : OpenError → Result State SessionFault

@@ -9,7 +9,7 @@ use Rattle.segment_manager.specs.declared.modes.Mode.{Mode}
 use Rattle.segment_manager.specs.declared.modes.Mode.TheVariants.{Write}
 use Rattle.segment_manager.specs.Directory.{Directory}
 use Rattle.segment_manager.specs.State.{State, StandsFor}
-use Rattle.image_check.specs.Opening.{IsRefusedAs}
+use Rattle.image_check.specs.Opening.{IsOutOfMemory, IsRefusedAs}
 use Rattle.segment_lang.specs.Language.{supported}
 use Rattle.segment_cli.specs.declared.faults.Start.{Start}
 use Rattle.segment_cli.specs.declared.faults.Start.TheVariants.{Image}
@@ -81,7 +81,7 @@ module _ (start : Start) (mode : Mode) (base capacity : ℕ) (t : Traffic) where
   not_begun (Refused c) why script out saved = refused_before ((start ≡ Image) × IsRefusedAs current t.image c) why script out saved
   not_begun BadSize why script out saved = refused_before (IsSizeRefused start) why script out saved
   not_begun RegionTooSmall why script out saved = refused_before (IsTooSmall start t.image base capacity) why script out saved
-  not_begun OutOfMemory why script out saved = absurd why
+  not_begun OutOfMemory why script out saved = refused_before ((start ≡ Image) × IsOutOfMemory current t.image) why script out saved
   not_begun ReadFault why script out saved = inl (record {
     image = why.0;
     undecided = why.1;

@@ -10,7 +10,7 @@ use Rattle.segment_manager.specs.State.{State, StandsFor}
 use Rattle.segment_manager.specs.Calls.{HasZeroGaps}
 use Rattle.image_check.specs.declared.errors.OpenError.{OpenError}
 use Rattle.image_check.specs.declared.errors.OpenError.TheVariants.{Image as NoImage, RegionTooSmall as NoRoomForImage, OutOfMemory as NoMemory, ReadFault as NotRead}
-use Rattle.image_check.specs.Opening.{IsRefusedAs, IsUndecided}
+use Rattle.image_check.specs.Opening.{IsOutOfMemory, IsRefusedAs, IsUndecided}
 use Rattle.segment_cli.specs.declared.faults.Start.{Start}
 use Rattle.segment_cli.specs.declared.faults.Start.TheVariants.{Image}
 use Rattle.segment_cli.specs.declared.faults.RunFault.{RunFault}
@@ -44,12 +44,12 @@ pub record IsBegun (start : Start) (how : Mode) (image : Given) (s : State) : Ty
   pub zeros : BeginsWithZeros start image → HasZeroGaps s
   pub read : image.failed ≡ false
 
--- why there is no segment; for want of memory it never is
+-- why there is no segment
 abbrev pub IsWhyNotBegun : Start → Given → ℕ → ℕ → SessionFault → Type 0
 IsWhyNotBegun start image base capacity (Refused c) = (start ≡ Image) × IsRefusedAs current image c
 IsWhyNotBegun start image base capacity BadSize = IsSizeRefused start
 IsWhyNotBegun start image base capacity RegionTooSmall = IsTooSmall start image base capacity
-IsWhyNotBegun start image base capacity OutOfMemory = ⊥
+IsWhyNotBegun start image base capacity OutOfMemory = (start ≡ Image) × IsOutOfMemory current image
 IsWhyNotBegun start image base capacity ReadFault = (start ≡ Image) × IsUndecided current image
 IsWhyNotBegun start image base capacity WriteFault = ⊥
 IsWhyNotBegun start image base capacity ScriptTooLong = ⊥

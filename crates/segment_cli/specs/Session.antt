@@ -8,7 +8,7 @@ use Rattle.segment_manager.specs.declared.modes.Mode.TheVariants.{Write, ReadOnl
 use Rattle.segment_manager.specs.Directory.{Directory, empty}
 use Rattle.segment_manager.specs.State.{StandsFor}
 use Rattle.image_check.specs.Classes.{class_of}
-use Rattle.image_check.specs.Opening.{IsRefusedAs, IsTooSmallFor, IsUndecided}
+use Rattle.image_check.specs.Opening.{IsOutOfMemory, IsRefusedAs, IsTooSmallFor, IsUndecided}
 use Rattle.segment_lang.specs.Language.{supported}
 use Rattle.segment_lang.specs.Reading.{reading}
 use Rattle.segment_cli.specs.declared.faults.Start.{Start}
@@ -189,13 +189,13 @@ pub record IsRefusedBefore (t : Traffic) (cause : Type 0) : Type 0 where
   pub script : t.script.bytes ≡ []
   pub failed : failures t ≡ record none_failed { image = t.image.failed }
 
--- ---- what a session answers, in a region of this capacity; it takes no memory, and so it never wants any
+-- ---- what a session answers, in a region of this capacity; the check of an image alone takes memory
 
 abbrev pub AnswersFault : Start → Mode → ℕ → ℕ → Traffic → SessionFault → Type 0
 AnswersFault start mode base capacity t (Refused c) = IsRefusedBefore t ((start ≡ Image) × IsRefusedAs current t.image c)
 AnswersFault start mode base capacity t BadSize = IsRefusedBefore t (IsSizeRefused start)
 AnswersFault start mode base capacity t RegionTooSmall = IsRefusedBefore t (IsTooSmall start t.image base capacity)
-AnswersFault start mode base capacity t OutOfMemory = ⊥
+AnswersFault start mode base capacity t OutOfMemory = IsRefusedBefore t ((start ≡ Image) × IsOutOfMemory current t.image)
 AnswersFault start mode base capacity t ReadFault = IsImageUnread start t ⊎ IsScriptUnread start mode t
 AnswersFault start mode base capacity t WriteFault = IsAnswerUnwritten start mode t ⊎ IsImageUnwritten start mode t
 AnswersFault start mode base capacity t ScriptTooLong = IsScriptTooLong start mode t

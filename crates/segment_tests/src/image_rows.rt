@@ -118,25 +118,35 @@ fn images_of_other_lengths_are_refused(rt: HostRuntime) -> Result<(), Fail> {
 }
 
 #[test]
-fn what_has_not_come_is_refused(rt: HostRuntime) -> Result<(), Fail> {
+fn wrong_blocks_are_refused(rt: HostRuntime) -> Result<(), Fail> {
     let done = run_fresh(rt.alloc(), 1024, b"construct i64 - 5\n")?;
-    // an index with a place, another kind, a count of 2, a name, a class with an index, an index block
-    for (at, bytes) in [
-        (48, [1].as_slice()),
-        (144, &[5]),
-        (148, &[2]),
-        (152, &[1]),
-        (156, &[1]),
-        (136, &[53]),
+    // an index with a place and a null link, a name in no index, a class without its index, a block of an index that has no link
+    for (at, bytes, class) in [
+        (48, [1].as_slice(), ImageClass::BadIndex),
+        (152, &[1], ImageClass::BadObject),
+        (156, &[1], ImageClass::BadObject),
+        (136, &[53], ImageClass::OrphanBlock),
     ] {
         let mut image = copy_of(rt.alloc(), done.saved.taken())?;
         put(image.as_mut_slice(), at, bytes);
         let refused = run_image(rt.alloc(), Mode::Write, &image, b"size\n")?;
-        assert_eq!(rt;
-            refused.result,
-            Err(SessionFault::Image(ImageClass::OrphanBlock)),
-            "at {at}"
-        );
+        assert_eq!(rt; refused.result, Err(SessionFault::Image(class)), "at {at}");
+    }
+    Ok(())
+}
+
+#[test]
+fn what_has_not_come_is_refused(rt: HostRuntime) -> Result<(), Fail> {
+    let done = run_fresh(rt.alloc(), 1024, b"construct i64 - 5\n")?;
+    // another kind, a count of 2
+    for (at, byte) in [(144, 5), (148, 2)] {
+        let mut image = copy_of(rt.alloc(), done.saved.taken())?;
+        put(image.as_mut_slice(), at, &[byte]);
+        let refused = run_image(rt.alloc(), Mode::Write, &image, b"size\n")?;
+        match refused.result {
+            Err(SessionFault::Image(class)) => assert!(rt; class.number() >= 8, "at {at}: {class}"),
+            other => assert!(rt; false, "at {at}: {other:?}"),
+        }
     }
     Ok(())
 }

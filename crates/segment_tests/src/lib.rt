@@ -2,6 +2,8 @@
 #![tactic(auto)]
 
 #[cfg(test)]
+mod class_rows;
+#[cfg(test)]
 mod desk;
 #[cfg(test)]
 mod fault_rows;

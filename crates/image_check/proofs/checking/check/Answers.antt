@@ -1,53 +1,57 @@
-use Rattle.std.proofs.Common.{ℕ, List, ap, subst, sym, ◌∙◌}
+-- The frame, the blocks in use, their classes and the support, one after another, and what each of them spends.
+use Rattle.std.proofs.Common.{◌∙◌, sym, subst, ℕ, List, true}
 use Rattle.std.specs.Prelude.{IsTrue}
-use Rattle.raw_region.specs.Memory.{bytes_of}
-use Rattle.image_check.specs.EarlyTests.{has_reserved}
 use Rattle.image_check.specs.Classes.{are_bytes}
-use Rattle.image_check.specs.SupportedImages.{has_no_place}
-use Rattle.image_check.proofs.Checked.{IsChecked, checked-tree, checked-frame, checked-segment, named-class, unique-class, tiles-class}
+use Rattle.image_check.specs.Visits.{frame_rates, gathering_rates, block_rates, support_rates}
+use Rattle.image_check.proofs.Budget.{blocks-raised, frame-raised, gathered-raised, support-raised}
+use Rattle.image_check.proofs.Bytes.{fits-are_bytes}
+use Rattle.image_check.proofs.Early.{frame-no_early_class}
+use Rattle.image_check.proofs.Checked.{no-memory-used, blocks-class, blocks-not_come, blocks-segment, frame-tiles}
 use Rattle.image_check.proofs.checking.check.Goals as goal
-use Rattle.image_check.proofs.checking.check.Goals.{else-has_no_place-via-then-has_no_place+then-has_no_place-2+else-has_numbers, else-has_no_place-via-then-has_no_place+else-has_no_place-2, else-has_no_place-via-else-has_no_place}
 
-pub returns-then-not-has_free_tree : goal.returns-then-not-has_free_tree
-returns-then-not-has_free_tree c =
-    let w = c.args.window.now in
-    let all = c.all_bytes-bytes.ensures.all in
-    let h : IsChecked w = record {
-      front = c.requires;
-      reserved = ap has_reserved (sym all) ∙ sym c.has_reserved.ensures ∙ c.if-not-has_reserved.false;
-      tags = sym c.check.ensures ∙ c.if-is_err.ensures.negation;
-    } in
-    checked-tree w h (sym c.has_free_tree.ensures ∙ c.if-not-has_free_tree.true)
+pub gather-requires : goal.gather-requires
+gather-requires c = record { tiles = frame-tiles c.args.window.now.bytes c.in_default.ensures.finds }
 
-pub returns-then-has_numbers : goal.returns-then-has_numbers
-returns-then-has_numbers c =
-    let w = c.args.window.now in
-    let all = c.all_bytes-bytes.ensures.all in
-    let h : IsChecked w = record {
-      front = c.requires;
-      reserved = ap has_reserved (sym all) ∙ sym c.has_reserved.ensures ∙ c.if-not-has_reserved.false;
-      tags = sym c.check.ensures ∙ c.if-is_err.ensures.negation;
-    } in
-    let frame = checked-frame w h (sym c.has_free_tree.ensures ∙ c.if-not-has_free_tree.false) in
-    checked-segment w.bytes (subst (λ b. IsTrue (are_bytes b)) all c.all_bytes-bytes.ensures.bytes) frame
-    (ap (λ (b : List ℕ). has_no_place (bytes_of b) 32) (sym all) ∙ sym c.has_no_place.ensures ∙ c.if-has_no_place.true)
-    (ap (λ (b : List ℕ). has_no_place (bytes_of b) 56) (sym all) ∙ sym c.has_no_place-then-has_no_place.ensures ∙ c.if-has_no_place-2.true)
-    (sym c.has_numbers.ensures ∙ c.if-has_numbers.true)
+pub returns-in_default-gather-clause-answers : goal.returns-in_default-gather-clause-answers
+returns-in_default-gather-clause-answers c = (
+  frame-no_early_class c.args.window.now.bytes c.in_default.ensures.finds,
+  no-memory-used c.args.window.now.bytes c.gather.result c.gather.ensures.memory c.in_default-gather.not-Ok,
+)
 
-pub returns-else-has_no_place : goal.returns-else-has_no_place
-returns-else-has_no_place c =
-    let w = c.args.window.now in
-    let all = c.all_bytes-bytes.ensures.all in
-    let h : IsChecked w = record {
-      front = c.requires;
-      reserved = ap has_reserved (sym all) ∙ sym c.has_reserved.ensures ∙ c.if-not-has_reserved.false;
-      tags = sym c.check.ensures ∙ c.if-is_err.ensures.negation;
-    } in
-    let frame = checked-frame w h (sym c.has_free_tree.ensures ∙ c.if-not-has_free_tree.false) in
-    let small = subst (λ b. IsTrue (are_bytes b)) all c.all_bytes-bytes.ensures.bytes in
-    elim c.else-has_no_place.branch [
-      | else-has_no_place-via-then-has_no_place+then-has_no_place-2+else-has_numbers v ↦ tiles-class w.bytes small frame (sym v.has_numbers.ensures ∙ v.if-has_numbers.false)
-      | else-has_no_place-via-then-has_no_place+else-has_no_place-2 v ↦
-          unique-class w.bytes small frame (ap (λ (b : List ℕ). has_no_place (bytes_of b) 56) (sym all) ∙ sym v.has_no_place-then-has_no_place.ensures ∙ v.if-has_no_place-2.false)
-      | else-has_no_place-via-else-has_no_place v ↦ named-class w.bytes small frame (ap (λ (b : List ℕ). has_no_place (bytes_of b) 32) (sym all) ∙ sym c.has_no_place.ensures ∙ v.if-has_no_place.false)
-    ]
+pub returns-in_default-gather-clause-visits : goal.returns-in_default-gather-clause-visits
+returns-in_default-gather-clause-visits c =
+    gathered-raised c.args.window.now _ _ _ (frame-tiles c.args.window.now.bytes c.in_default.ensures.finds) c.in_default.ensures.visits c.in_default-gather.ensures.visits
+
+pub check_blocks-requires-clause-tiles : goal.check_blocks-requires-clause-tiles
+check_blocks-requires-clause-tiles c = frame-tiles c.args.window.now.bytes c.in_default.ensures.finds
+
+pub returns-in-Err-check_blocks-clause-answers : goal.returns-in-Err-check_blocks-clause-answers
+returns-in-Err-check_blocks-clause-answers c = blocks-class c.args.window.now.bytes c.in-Err-check_blocks.class c.in_default.ensures.finds c.in-Err-check_blocks.ensures.finds
+
+pub returns-in-Err-check_blocks-clause-visits : goal.returns-in-Err-check_blocks-clause-visits
+returns-in-Err-check_blocks-clause-visits c =
+    blocks-raised c.args.window.now _ _ _ (frame-tiles c.args.window.now.bytes c.in_default.ensures.finds) c.in_default.ensures.visits c.in-Ok.ensures.visits
+    _ c.in-Err-check_blocks.ensures.visits
+
+pub is_supported-requires-clause-tiles : goal.is_supported-requires-clause-tiles
+is_supported-requires-clause-tiles c = frame-tiles c.args.window.now.bytes c.in_default.ensures.finds
+
+pub returns-then-not-is_supported-clause-answers : goal.returns-then-not-is_supported-clause-answers
+returns-then-not-is_supported-clause-answers c =
+    let small = subst (λ (b : List ℕ). IsTrue (are_bytes b)) c.all_bytes.ensures.all c.all_bytes.ensures.bytes in
+    blocks-not_come c.args.window.now.bytes small c.in_default.ensures.finds c.in_default-check_blocks.ensures.finds (sym c.is_supported.ensures.value ∙ c.if-not-is_supported.true)
+
+pub returns-then-not-is_supported-clause-visits : goal.returns-then-not-is_supported-clause-visits
+returns-then-not-is_supported-clause-visits c =
+    support-raised c.args.window.now _ _ _ (frame-tiles c.args.window.now.bytes c.in_default.ensures.finds) c.in_default.ensures.visits c.in-Ok.ensures.visits
+    _ c.in_default-check_blocks.ensures.visits _ c.is_supported.ensures.visits
+
+pub returns-clause-answers : goal.returns-clause-answers
+returns-clause-answers c =
+    let small = subst (λ (b : List ℕ). IsTrue (are_bytes b)) c.all_bytes.ensures.all c.all_bytes.ensures.bytes in
+    blocks-segment c.args.window.now.bytes small c.in_default.ensures.finds (sym c.is_supported.ensures.value ∙ c.if-not-is_supported.false)
+
+pub returns-clause-visits : goal.returns-clause-visits
+returns-clause-visits c =
+    support-raised c.args.window.now _ _ _ (frame-tiles c.args.window.now.bytes c.in_default.ensures.finds) c.in_default.ensures.visits c.in-Ok.ensures.visits
+    _ c.in_default-check_blocks.ensures.visits _ c.is_supported.ensures.visits

@@ -1,6 +1,8 @@
 use Rattle.std.proofs.Common.{◌≡◌, refl, sym, ◌∙◌, List, length, arith}
 use Rattle.block_tags.specs.declared.tile.Tile.{Tile}
 use Rattle.best_fit.specs.GapNodes.{gaps_of}
+use Rattle.image_check.specs.Visits.{counting_rates}
+use Rattle.image_check.proofs.Budget.{two-for-tile, within-all, within-more, within-none}
 use Rattle.image_check.proofs.WalkedTiles.{at-meets, tags-IsTiled, walk-at, walk-end, walk-nearer, walk-on, walk-start}
 use Rattle.image_check.proofs.FreeTiles.{count-small, free-more, free-said, none-free, used-said}
 use Rattle.image_check.proofs.free_tree.count_free.Goals as goal
@@ -12,40 +14,46 @@ first-tile-requires c = tags-IsTiled c.args.window.now c.requires.size c.require
 pub tiles-init : goal.tiles-init
 tiles-init c =
     let w = c.args.window.now in
-    walk-start w (λ (ts : List Tile). 0 ≡ length (gaps_of ts)) c.first-tile.result (tags-IsTiled w c.requires.size c.requires.tags) c.first-tile.ensures refl
+    walk-start w _ c.first-tile.result (tags-IsTiled w c.requires.size c.requires.tags) c.first-tile.ensures (refl, within-none counting_rates _)
 
 pub overflow_add-count : goal.overflow_add-count
 overflow_add-count c =
     let w = c.args.window.now in
-    let small = count-small w c.tiles.count c.in-Some.here c.requires.size
-    (walk-at w (λ (ts : List Tile). c.tiles.count ≡ length (gaps_of ts)) c.tiles.tile c.in-Some.here c.tiles.invariant c.in-Some.is) in
+    let a = walk-at w _ c.tiles.tile c.in-Some.here c.tiles.invariant c.in-Some.is in
+    let small = count-small w _ c.tiles.count c.in-Some.here c.requires.size a a.kept.0 in
     omega arith
 
 pub next-tile-requires : goal.next-tile-requires
 next-tile-requires c =
-    let w = c.args.window.now in
-    let kept = λ (ts : List Tile). c.tiles.count ≡ length (gaps_of ts) in
-    (at-meets w kept c.in-Some.here (walk-at w kept c.tiles.tile c.in-Some.here c.tiles.invariant c.in-Some.is)).has
+    (at-meets c.args.window.now _ c.in-Some.here (walk-at c.args.window.now _ c.tiles.tile c.in-Some.here c.tiles.invariant c.in-Some.is)).has
 
 pub tiles-smaller : goal.tiles-smaller
 tiles-smaller c =
-    let w = c.args.window.now in
-    let kept = λ (ts : List Tile). c.tiles.count ≡ length (gaps_of ts) in
-    walk-nearer w kept c.tiles.tile c.in-Some.here c.next-tile.result (walk-at w kept c.tiles.tile c.in-Some.here c.tiles.invariant c.in-Some.is) c.in-Some.is c.next-tile.ensures
+    walk-nearer c.args.window.now _ c.tiles.tile c.in-Some.here c.next-tile.result (walk-at c.args.window.now _ c.tiles.tile c.in-Some.here c.tiles.invariant c.in-Some.is)
+    c.in-Some.is c.next-tile.ensures
 
 pub tiles-preserved : goal.tiles-preserved
 tiles-preserved c =
     let w = c.args.window.now in
-    let kept = λ (ts : List Tile). c.tiles.count ≡ length (gaps_of ts) in
-    let on = walk-on w kept (λ (ts : List Tile). c.if-is_none.count ≡ length (gaps_of ts)) c.in-Some.here c.next-tile.result
-    (walk-at w kept c.tiles.tile c.in-Some.here c.tiles.invariant c.in-Some.is) c.next-tile.ensures in
+    let here = c.in-Some.here in
+    let a = walk-at w _ c.tiles.tile here c.tiles.invariant c.in-Some.is in
+    let long = (at-meets w _ here a).long in
+    let two = two-for-tile here.use_of here.len long in
+    let one = c.visit.ensures in
     elim c.if-is_none.branch [
-      | then-is_none b ↦ on (λ front k.
-          let more = free-more front c.in-Some.here (free-said c.in-Some.here.use_of c.is_none.result c.is_none.ensures b.if-is_none.true) in
+      | then-is_none b ↦ walk-on w _ _ here c.next-tile.result a c.next-tile.ensures (λ front k.
+          let more = free-more front here (free-said here.use_of c.is_none.result c.is_none.ensures b.if-is_none.true) in
           let is = b.count-is in
-          omega arith)
-      | else-is_none b ↦ on (λ front k. b.count-is ∙ k ∙ sym (none-free front c.in-Some.here (used-said c.in-Some.here.use_of c.is_none.result c.is_none.ensures b.if-is_none.false)))
+          let was = k.0 in
+          (omega arith, within-more counting_rates _ c.tiles.visits _ front here k.1 (omega arith) (omega arith)))
+      | else-is_none b ↦ walk-on w _ _ here c.next-tile.result a c.next-tile.ensures (λ front k. (
+        b.count-is ∙ k.0 ∙ sym (none-free front here (used-said here.use_of c.is_none.result c.is_none.ensures b.if-is_none.false)),
+        within-more counting_rates _ c.tiles.visits _ front here k.1 (omega arith) (omega arith),
+      ))
     ]
 
-pub returns : goal.returns
-returns c = walk-end c.args.window.now (λ (ts : List Tile). c.tiles.count ≡ length (gaps_of ts)) c.tiles.tile c.tiles.invariant c.in_default.not-Some
+pub returns-clause-value : goal.returns-clause-value
+returns-clause-value c = (walk-end c.args.window.now _ c.tiles.tile c.tiles.invariant c.in_default.not-Some).0
+
+pub returns-clause-visits : goal.returns-clause-visits
+returns-clause-visits c = within-all c.args.window.now.bytes counting_rates _ _ (walk-end c.args.window.now _ c.tiles.tile c.tiles.invariant c.in_default.not-Some).1

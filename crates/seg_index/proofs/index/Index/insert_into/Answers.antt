@@ -3,11 +3,10 @@ use Rattle.std.proofs.Common.{◌≡◌, ap, sym, subst, ◌∙◌, ◌+◌, ◌
 use Rattle.std.specs.Prelude.{insert}
 use Rattle.raw_region.specs.Format.{current}
 use Rattle.raw_region.specs.Memory.{bytes_of}
-use Rattle.link_tree.specs.Tree.{bits}
 use Rattle.offset_link.specs.Link.{link_at}
 use Rattle.offset_link.specs.Relinked.{AreLinks}
-use Rattle.best_fit.specs.Extents.{LiveSet, gaps}
-use Rattle.best_fit.specs.Heap.{IsChanged, LaysOut, has_room, live_of, extent_at}
+use Rattle.best_fit.specs.Extents.{LiveSet}
+use Rattle.best_fit.specs.Heap.{IsChanged, LaysOut, extent_at, has_room, heap_touches, live_of}
 use Rattle.seg_index.specs.Growth.{IsBlockFor}
 use Rattle.seg_index.specs.Held.{HasIndex, IsIndexOf, capacity_at, place_of}
 use Rattle.seg_index.specs.Index.{grown_capacity}
@@ -353,4 +352,4 @@ returns-clause-steps c =
     let fD = offered A D (h + 0) (8 * c.len-count.result + 8) h cap all c.requires.block in
     let linkD : link_at (bytes_of D.bytes) at ≡ link_at (bytes_of A.bytes) at = same_link A D at q.table q.handles q.index iD in
     let capis : c.grown-capacity.result ≡ cap = c.grown-capacity.ensures ∙ ap grown_capacity c.capacity.ensures.word in
-    subst (λ (l : LiveSet). c.settle.new.steps ≤ c.args.steps.now + 128 * bits (length (gaps l) + 1) + 128) (same_live A D (h + 0) (8 * c.len-count.result + 8) all) c.settle.ensures.steps
+    subst (λ (l : LiveSet). c.settle.new.steps ≤ c.args.steps.now + heap_touches l) (same_live A D (h + 0) (8 * c.len-count.result + 8) all) c.settle.ensures.steps

@@ -9,9 +9,9 @@ use Rattle.offset_link.specs.Link.{link_at}
 use Rattle.offset_link.specs.Relinked.{AreLinks}
 use Rattle.best_fit.specs.Extents.{Extent, LiveSet}
 use Rattle.best_fit.specs.Fit.{added, place}
-use Rattle.best_fit.specs.Heap.{IsRefused, LaysOut, live_of, extent_at}
+use Rattle.best_fit.specs.Heap.{IsRefused, LaysOut, extent_at, heap_touches, live_of}
 use Rattle.best_fit.proofs.Laws.{allocated-live}
-use Rattle.seg_index.specs.Capacities.{IsReserved, IsRoomy, heap_steps}
+use Rattle.seg_index.specs.Capacities.{IsReserved, IsRoomy}
 use Rattle.seg_index.specs.Growth.{IsBlockFor, unlinked, without_link}
 use Rattle.seg_index.specs.Held.{IsIndexOf, capacity_at, place_of}
 use Rattle.seg_index.proofs.Changing.{same_live}
@@ -228,6 +228,6 @@ returns-clause-steps c =
     let linkD : link_at (bytes_of D.bytes) at ≡ link_at (bytes_of B.bytes) at = same_link B D at q.table q.handles iB iD in
     let live : live_of D.bytes ≡ added (live_of A.bytes) al.extent = same_live B D (h + 0) (8 * c.len-count.result) one ∙ allocated-live current A B c.saturating_mul.result IndexRole h al in
     let placed8 : place (live_of A.bytes) (8 * n) IndexRole ≡ Some al.extent = ap (λ j. place (live_of A.bytes) j IndexRole) (sym k) ∙ al.placed in
-    let second : c.settle.new.steps ≤ c.allocate.new.steps + heap_steps (added (live_of A.bytes) al.extent) = subst (λ (l : LiveSet). c.settle.new.steps ≤ c.allocate.new.steps + heap_steps l) live (omega (arith, c.settle.ensures.steps)) in
+    let second : c.settle.new.steps ≤ c.allocate.new.steps + heap_touches (added (live_of A.bytes) al.extent) = subst (λ (l : LiveSet). c.settle.new.steps ≤ c.allocate.new.steps + heap_touches l) live (omega (arith, c.settle.ensures.steps)) in
     let first = c.in_ok-block.ensures.steps in
-    subst (λ (o : Option Extent). c.settle.new.steps ≤ c.args.steps.now + (heap_steps (live_of A.bytes) + elim o [ None ↦ 0 | Some x ↦ heap_steps (added (live_of A.bytes) x) ])) (sym placed8) (omega arith)
+    subst (λ (o : Option Extent). c.settle.new.steps ≤ c.args.steps.now + (heap_touches (live_of A.bytes) + elim o [ None ↦ 0 | Some x ↦ heap_touches (added (live_of A.bytes) x) ])) (sym placed8) (omega arith)

@@ -1,13 +1,12 @@
 -- The words lead to the block, and the old one goes.
-use Rattle.std.proofs.Common.{◌≡◌, ap, sym, subst, ◌∙◌, ℕ, ◌+◌, ◌*◌, ◌≤◌, IsTrue, length}
+use Rattle.std.proofs.Common.{◌≡◌, ap, sym, subst, ◌∙◌, ℕ, ◌+◌, ◌≤◌, IsTrue}
 use Rattle.std.specs.Prelude.{IfSome, None, Option, Some}
 use Rattle.raw_region.specs.Format.{current}
 use Rattle.raw_region.specs.Memory.{bytes_of}
-use Rattle.link_tree.specs.Tree.{bits}
 use Rattle.offset_link.specs.Link.{link_at}
-use Rattle.best_fit.specs.Extents.{Extent, LiveSet, gaps}
+use Rattle.best_fit.specs.Extents.{Extent, LiveSet}
 use Rattle.best_fit.specs.Fit.{released}
-use Rattle.best_fit.specs.Heap.{LaysOut, is_live_in, live_of}
+use Rattle.best_fit.specs.Heap.{LaysOut, heap_touches, is_live_in, live_of}
 use Rattle.seg_index.specs.Growth.{KeepsRest, unlinked}
 use Rattle.seg_index.specs.Held.{IsIndexOf, place_of}
 use Rattle.seg_index.proofs.Changing.{same_live}
@@ -78,7 +77,7 @@ returns-in-Some-clause-steps c =
     (headed A c.set_header_link.new.self c.set_header_word.new.self D c.place-place.result (Some c.args.block) c.args.count c.args.capacity c.set_header_link.ensures.change
     c.set_header_link.ensures.leads c.set_header_word.ensures.change c.set_header_word.ensures.word c.set_header_word-2.ensures.change c.set_header_word-2.ensures.word) in
     let live : live_of D.bytes ≡ live_of A.bytes = same_live A D at 24 w.change in
-    subst (λ (l : LiveSet). c.deallocate.new.steps ≤ c.args.steps.now + 128 * bits (length (gaps l) + 1) + 128) live c.deallocate.ensures.steps
+    subst (λ (l : LiveSet). c.deallocate.new.steps ≤ c.args.steps.now + heap_touches l) live c.deallocate.ensures.steps
 
 pub returns-in_default-clause-index : goal.returns-in_default-clause-index
 returns-in_default-clause-index c = λ hs links long whole.

@@ -3,10 +3,9 @@ use Rattle.std.proofs.Common.{◌≡◌, ap, sym, subst, ◌∙◌, ◌+◌, ◌
 use Rattle.std.specs.Prelude.{None, Some}
 use Rattle.raw_region.specs.Format.{current}
 use Rattle.raw_region.specs.Memory.{bytes_of, word_at}
-use Rattle.link_tree.specs.Tree.{bits}
 use Rattle.offset_link.specs.Link.{link_at}
-use Rattle.best_fit.specs.Extents.{LiveSet, gaps}
-use Rattle.best_fit.specs.Heap.{IsChanged, IsShortened, is_live_in, live_of}
+use Rattle.best_fit.specs.Extents.{LiveSet}
+use Rattle.best_fit.specs.Heap.{IsChanged, IsShortened, heap_touches, is_live_in, live_of}
 use Rattle.seg_index.specs.Held.{place_of}
 use Rattle.seg_index.proofs.Changing.{same_live}
 use Rattle.seg_index.proofs.Entries.{capacity_small, place_behind, place_small, placed}
@@ -81,7 +80,7 @@ returns-then-count-eq0-clause-steps c =
     let nowhere : link_at (bytes_of C.bytes) at ≡ None = subst (λ k. link_at (bytes_of C.bytes) k ≡ None) c.place-place.ensures c.set_header_link.ensures.leads in
     let w : Headed A C at None 0 0 = emptied A B C at c.len-count.result one word two nowhere (sym c.len-count.ensures.word) c.if-count-eq0.true in
     let liveC : live_of C.bytes ≡ live_of A.bytes = same_live A C at 24 w.change in
-    subst (λ (l : LiveSet). c.deallocate.new.steps ≤ c.args.steps.now + 128 * bits (length (gaps l) + 1) + 128) liveC c.deallocate.ensures.steps
+    subst (λ (l : LiveSet). c.deallocate.new.steps ≤ c.args.steps.now + heap_touches l) liveC c.deallocate.ensures.steps
 
 pub returns-else-count-eq0-clause-shrunk : goal.returns-else-count-eq0-clause-shrunk
 returns-else-count-eq0-clause-shrunk c = λ t hs i.
@@ -103,4 +102,4 @@ returns-else-count-eq0-clause-steps c =
     let one : IsChanged current A B (at + 16) 8 = subst (λ k. IsChanged current A B (k + 16) 8) c.place-place.ensures c.set_header_word.ensures.change in
     let word : word_at (bytes_of B.bytes) (at + 16) ≡ c.len-count.result = subst (λ k. word_at (bytes_of B.bytes) (k + 16) ≡ c.len-count.result) c.place-place.ensures c.set_header_word.ensures.word in
     let live : live_of B.bytes ≡ live_of A.bytes = same_live A B (at + 16) 8 one in
-    subst (λ (l : LiveSet). c.shrink_in_place.new.steps ≤ c.args.steps.now + 128 * bits (length (gaps l) + 1) + 128) live c.shrink_in_place.ensures.steps
+    subst (λ (l : LiveSet). c.shrink_in_place.new.steps ≤ c.args.steps.now + heap_touches l) live c.shrink_in_place.ensures.steps

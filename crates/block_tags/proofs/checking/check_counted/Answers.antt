@@ -1,0 +1,34 @@
+use Rattle.std.proofs.Common.{◌-◌, ◌+◌, Bool, ap, sym, subst, ◌∙◌, length, arith}
+use Rattle.raw_region.specs.Memory.{bytes_of}
+use Rattle.block_tags.proofs.Walk.{Walking, starts, stops, goes_on, ends, none_of}
+use Rattle.block_tags.proofs.checking.check_counted.Goals as goal
+
+pub tags-init : goal.tags-init
+tags-init c = (starts _ _ _ c.requires (ap (λ n. n - 16) c.size-end.ensures), omega arith)
+
+pub returns-then-not-is_good-clause-good : goal.returns-then-not-is_good-clause-good
+returns-then-not-is_good-clause-good c = sym (stops _ _ _ _ _ _ c.tags.invariant.0 c.tags-test.true (sym c.is_good.ensures ∙ c.if-not-is_good.true))
+
+pub overflow_add-at : goal.overflow_add-at
+overflow_add-at c =
+    let g = goes_on _ _ _ _ _ _ c.tags.invariant.0 c.tags-test.true (sym c.is_good.ensures ∙ c.if-not-is_good.false) _ c.tile_there-tile.ensures in
+    let inside = g.inside in omega arith
+
+pub tags-smaller : goal.tags-smaller
+tags-smaller c =
+    let g = goes_on _ _ _ _ _ _ c.tags.invariant.0 c.tags-test.true (sym c.is_good.ensures ∙ c.if-not-is_good.false) _ c.tile_there-tile.ensures in
+    let inside = g.inside in let long = g.long in omega arith
+
+pub tags-preserved : goal.tags-preserved
+tags-preserved c =
+    let g = goes_on _ _ _ _ _ _ c.tags.invariant.0 c.tags-test.true (sym c.is_good.ensures ∙ c.if-not-is_good.false) _ c.tile_there-tile.ensures in
+    let t = c.tile_there-tile.result in
+    let b = c.args.window.now.bytes in
+    let few = c.tags.invariant.1 in
+    let long = g.long in (
+      subst (λ (f : Bool). Walking (bytes_of b) (length b) (c.size-end.result - 16) (c.tags.at + t.len) t.len f) (none_of t.use_of _ c.is_none-behind_free.ensures) g.next,
+      omega arith,
+    )
+
+pub returns-clause-good : goal.returns-clause-good
+returns-clause-good c = c.ends_well.ensures ∙ sym (ends _ _ _ _ _ _ c.tags.invariant.0 c.tags-test.false)

@@ -1,0 +1,304 @@
+-- Counts of visits: what tiles weigh, and that all passes together stay within 64 for each 16 bytes of the size, and 64.
+use Rattle.std.proofs.Common.{true, ◌≡◌, refl, sym, ap, subst, ◌∙◌, ℕ, zero, suc, ◌+◌, ◌-◌, ◌*◌, ◌/◌, ◌%◌, ◌^◌, ◌<◌, ◌≤◌, List, [], ◌∷◌, ◌++◌, length, arith}
+use Rattle.std.specs.Prelude.{IsTrue, Option, Some, None}
+use Rattle.raw_region.specs.Memory.{Cut, bytes_of}
+use Rattle.raw_region.specs.Format.{current}
+use Rattle.block_tags.specs.declared.tile.Role.{Role}
+use Rattle.block_tags.specs.declared.tile.Role.TheVariants.{Object, Index, Storage, Node}
+use Rattle.block_tags.specs.declared.tile.Tile.{Tile}
+use Rattle.block_tags.specs.Format.{is_legal_size}
+use Rattle.block_tags.specs.Tiles.{tiles_of}
+use Rattle.block_tags.specs.Windows.{SaysTiles}
+use Rattle.block_tags.proofs.Laws.{tiles_are_read_off}
+use Rattle.best_fit.proofs.Laws.{Row, legal_size, said_row}
+use Rattle.offset_link.specs.Link.{link_at}
+use Rattle.link_tree.specs.Tree.{bits}
+use Rattle.link_tree.specs.Nodes.{is_in, leads}
+use Rattle.link_tree.specs.Checking.{IsClosed}
+use Rattle.best_fit.specs.GapNodes.{gaps_in, gaps_of}
+use Rattle.std.proofs.lemmas.Int.Digits.{length-digits_of-le}
+use Rattle.image_check.specs.Opening.{IsRaisedFor}
+use Rattle.image_check.specs.Passes.{HasTiles, Spends, tiles_in}
+use Rattle.image_check.specs.Visits.{Rates, rate_of, weigh, both, tag_rates, step_rates, counting_rates, planting_visits, planting_rates, tree_rates, frame_rates, gathering_rates, block_rates, support_rates, all_rates}
+use Rattle.image_check.specs.FreeNodes.{is_place, placed, place_cells}
+use Rattle.image_check.specs.FreeLaws.{multiples, length-multiples, place_listed, placed_leads, is_place-Place, small_size}
+use Rattle.image_check.proofs.Framed.{few-free}
+use Rattle.image_check.proofs.WalkedTiles.{WalksAt, at-meets, tags-IsTiled}
+
+-- ---- what tiles weigh
+
+pub weigh-append : (r : Rates) (xs ys : List Tile) → weigh r (xs ++ ys) ≡ weigh r xs + weigh r ys
+weigh-append r [] ys = omega arith
+weigh-append r (t ∷ xs) ys = let more = weigh-append r xs ys in omega arith
+
+-- two rates together
+rate-both : (r s : Rates) (u : Option Role) → rate_of (both r s) u ≡ rate_of r u + rate_of s u
+rate-both r s None = refl
+rate-both r s (Some Object) = refl
+rate-both r s (Some Index) = refl
+rate-both r s (Some Storage) = refl
+rate-both r s (Some Node) = refl
+
+spread : (a b x n : ℕ) → x ≡ a + b → x * n ≡ a * n + b * n
+spread a b x n e = grind arith
+
+regroup : (a b c d x y : ℕ) → x ≡ a + b → y ≡ c + d → x + y ≡ (a + c) + (b + d)
+regroup a b c d x y e f = omega arith
+
+pub weigh-both : (r s : Rates) (ts : List Tile) → weigh (both r s) ts ≡ weigh r ts + weigh s ts
+weigh-both r s [] = refl
+weigh-both r s (t ∷ ts) =
+    regroup (rate_of r t.use_of * (t.len / 16)) (rate_of s t.use_of * (t.len / 16)) (weigh r ts) (weigh s ts) (rate_of (both r s) t.use_of * (t.len / 16)) (weigh (both r s) ts)
+    (spread (rate_of r t.use_of) (rate_of s t.use_of) (rate_of (both r s) t.use_of) (t.len / 16) (rate-both r s t.use_of)) (weigh-both r s ts)
+
+-- ---- the size in units of 16 bytes
+
+-- one for each 16 bytes
+abbrev pub units : List Tile → ℕ
+units = weigh tag_rates
+
+one-each : (u : Option Role) → rate_of tag_rates u ≡ 1
+one-each None = refl
+one-each (Some Object) = refl
+one-each (Some Index) = refl
+one-each (Some Storage) = refl
+one-each (Some Node) = refl
+
+five-each : (u : Option Role) → rate_of step_rates u ≡ 5
+five-each None = refl
+five-each (Some Object) = refl
+five-each (Some Index) = refl
+five-each (Some Storage) = refl
+five-each (Some Node) = refl
+
+by-rate : (a b n : ℕ) → a ≡ b → a * n ≡ b * n
+by-rate a b n e = ap (λ k. k * n) e
+
+row-units : (from : ℕ) (ts : List Tile) (to : ℕ) → Row from ts to → 16 * units ts + from ≡ to
+row-units from [] to row = let e = row in omega arith
+row-units from (t ∷ ts) to row =
+    let more = row-units (from + t.len) ts to row.3 in
+    let even = row.2 in
+    let here = by-rate (rate_of tag_rates t.use_of) 1 (t.len / 16) (one-each t.use_of) in
+    omega arith
+
+pub size-units : (c : Cut) → HasTiles c.bytes → 16 * units (tiles_in c.bytes) + 144 ≡ length c.bytes
+size-units c h =
+    let tiled = tags-IsTiled c h.size h.tags in
+    let row = row-units 128 tiled.tiles (length c.bytes - 16) (said_row c tiled.tiles tiled.said) in
+    let same = ap units (tiles_are_read_off c tiled.tiles tiled.said) in
+    let least = (legal_size (length c.bytes) h.size).low in
+    omega arith
+
+weigh-five : (ts : List Tile) → weigh step_rates ts ≡ 5 * units ts
+weigh-five [] = refl
+weigh-five (t ∷ ts) =
+    let more = weigh-five ts in
+    let here = by-rate (rate_of tag_rates t.use_of) 1 (t.len / 16) (one-each t.use_of) in
+    let five = by-rate (rate_of step_rates t.use_of) 5 (t.len / 16) (five-each t.use_of) in
+    omega arith
+
+-- ---- rates up to 64
+
+times-le : (a b n : ℕ) → a ≤ b → a * n ≤ b * n
+times-le a b n l = grind arith
+
+weigh-most : (r : Rates) → ((u : Option Role) → rate_of r u ≤ 64) → (ts : List Tile) → weigh r ts ≤ 64 * units ts
+weigh-most r most [] = omega arith
+weigh-most r most (t ∷ ts) =
+    let more = weigh-most r most ts in
+    let here = by-rate (rate_of tag_rates t.use_of) 1 (t.len / 16) (one-each t.use_of) in
+    let less = times-le (rate_of r t.use_of) 64 (t.len / 16) (most t.use_of) in
+    omega arith
+
+-- ---- a count over the tiles that a walk has passed
+
+abbrev pub Within : Rates → ℕ → ℕ → List Tile → Type 0
+Within r old now ts = (old ≤ now) × (now ≤ old + weigh r ts)
+
+pub within-none : (r : Rates) (old : ℕ) → Within r old old []
+within-none r old = (omega arith, omega arith)
+
+pub within-more : (r : Rates) (old now next : ℕ) (front : List Tile) (here : Tile) → Within r old now front → now ≤ next → next ≤ now + rate_of r here.use_of * (here.len / 16)
+    → Within r old next (front ++ here ∷ [])
+within-more r old now next front here w l m =
+    let low = w.0 in
+    let high = w.1 in
+    let both = weigh-append r front (here ∷ []) in
+    (omega arith, omega arith)
+
+-- the walk stops at a tile
+pub within-stop : (c : Cut) (r : Rates) (old now next : ℕ) (front : List Tile) (here : Tile) (back : List Tile) → SaysTiles c (front ++ here ∷ back) → Within r old now front
+    → now ≤ next → next ≤ now + rate_of r here.use_of * (here.len / 16) → Spends r 0 c.bytes old next
+within-stop c r old now next front here back said w l m =
+    let low = w.0 in
+    let high = w.1 in
+    let both = weigh-append r front (here ∷ back) in
+    let same = ap (weigh r) (tiles_are_read_off c (front ++ here ∷ back) said) in
+    (omega arith, omega arith)
+
+-- or has passed them all
+pub within-all : (b : List ℕ) (r : Rates) (old now : ℕ) → Within r old now (tiles_in b) → Spends r 0 b old now
+within-all b r old now w = let low = w.0 in let high = w.1 in (low, omega arith)
+
+-- ---- what a tile is worth
+
+pub two-for-tile : (u : Option Role) (n : ℕ) → 32 ≤ n → 2 ≤ rate_of tag_rates u * (n / 16)
+two-for-tile None n l = omega arith
+two-for-tile (Some Object) n l = omega arith
+two-for-tile (Some Index) n l = omega arith
+two-for-tile (Some Storage) n l = omega arith
+two-for-tile (Some Node) n l = omega arith
+
+pub search-for-tile : (u : Option Role) (n : ℕ) → 32 ≤ n → 1 + planting_visits u ≤ rate_of planting_rates u * (n / 16)
+search-for-tile None n l = omega arith
+search-for-tile (Some Object) n l = omega arith
+search-for-tile (Some Index) n l = omega arith
+search-for-tile (Some Storage) n l = omega arith
+search-for-tile (Some Node) n l = omega arith
+
+-- ---- the sums
+
+-- the tags, one for each 32 bytes and the end tag
+pub tags-spend : (c : Cut) (old tags new : ℕ) → HasTiles c.bytes → 32 * tags + 112 ≤ length c.bytes → new ≡ old + tags → Spends tag_rates 1 c.bytes old new
+tags-spend c old tags new h few e = let size = size-units c h in (omega arith, omega arith)
+
+-- the tree: its check, a walk that counts the gaps, and a walk that looks for them
+pub steps-spend : (c : Cut) (old steps new : ℕ) → HasTiles c.bytes → steps ≤ 5 * (length c.bytes / 16) + 5 → new ≡ old + steps → Spends step_rates 50 c.bytes old new
+steps-spend c old steps new h few e = let size = size-units c h in let five = weigh-five (tiles_in c.bytes) in (omega arith, omega arith)
+
+pub spend-both : (b : List ℕ) (r s : Rates) (m n old mid new : ℕ) → Spends r m b old mid → Spends s n b mid new → Spends (both r s) (m + n) b old new
+spend-both b r s m n old mid new x y =
+    let one = x.0 in
+    let two = x.1 in
+    let three = y.0 in
+    let four = y.1 in
+    let sum = weigh-both r s (tiles_in b) in
+    (omega arith, omega arith)
+
+-- less was spent
+pub spend-less : (b : List ℕ) (r s : Rates) (m n old new : ℕ) → Spends r m b old new → Spends (both r s) (m + n) b old new
+spend-less b r s m n old new x =
+    let one = x.0 in
+    let two = x.1 in
+    let sum = weigh-both r s (tiles_in b) in
+    (omega arith, omega arith)
+
+-- ---- the check of the free tree
+
+-- there are few gaps
+row-many : (from : ℕ) (ts : List Tile) (to : ℕ) → Row from ts to → 32 * length ts + from ≤ to
+row-many from [] to row = let e = row in omega arith
+row-many from (t ∷ ts) to row =
+    let more = row-many (from + t.len) ts to row.3 in
+    let long = row.1 in
+    omega arith
+
+pub gaps-few : (c : Cut) → HasTiles c.bytes → 32 * length (gaps_in c) + 144 ≤ length c.bytes
+gaps-few c h =
+    let tiled = tags-IsTiled c h.size h.tags in
+    let row = row-many 128 tiled.tiles (length c.bytes - 16) (said_row c tiled.tiles tiled.said) in
+    let same : length (gaps_in c) ≡ length (gaps_of tiled.tiles) = ap (λ (ts : List Tile). length (gaps_of ts)) (tiles_are_read_off c tiled.tiles tiled.said) in
+    let few = few-free tiled.tiles in
+    let least = (legal_size (length c.bytes) h.size).low in
+    omega arith
+
+pub nodes-few : (c : Cut) (nodes : ℕ) → HasTiles c.bytes → nodes ≡ length (gaps_in c) → nodes < 2 ^ 26 - 1
+nodes-few c nodes h e =
+    let few = gaps-few c h in
+    let small = small_size (length c.bytes) h.size in
+    omega arith
+
+-- so a search is short
+pub search-short : (n steps : ℕ) → n < 2 ^ 26 - 1 → steps ≤ 2 * bits (n + 1) → steps ≤ 52
+search-short n steps l s = let short = length-digits_of-le 2 26 (n + 1) (omega arith) (omega arith) in omega arith
+
+-- the places where a payload may begin are closed under links, and there is one for each 16 bytes at most
+listed-link : (c : Cut) (o : Option ℕ) → leads (is_place c) o ≡ true → leads (λ n. is_in n (multiples (length c.bytes / 16))) o ≡ true
+listed-link c None h = refl
+listed-link c (Some n) h = place_listed c n (is_place-Place c n h)
+
+places-closed : (c : Cut) → IsTrue (is_legal_size (length c.bytes)) → IsClosed (place_cells c) (multiples (length c.bytes / 16))
+unfolding place_cells
+places-closed c h = record {
+  left = λ n i. listed-link c (placed (length c.bytes) (link_at (bytes_of c.bytes) n)) (placed_leads c (link_at (bytes_of c.bytes) n) h);
+  right = λ n i. listed-link c (placed (length c.bytes) (link_at (bytes_of c.bytes) (n + 8))) (placed_leads c (link_at (bytes_of c.bytes) (n + 8)) h);
+}
+
+pub check-short : (c : Cut) (root : Option ℕ) (old steps new : ℕ) → HasTiles c.bytes → leads (is_place c) root ≡ true
+    → ((ns : List ℕ) → IsClosed (place_cells c) ns → leads (λ n. is_in n ns) root ≡ true → steps ≤ 5 * length ns + 5) → new ≡ old + steps
+    → Spends step_rates 50 c.bytes old new
+check-short c root old steps new h good most e =
+    let few = most (multiples (length c.bytes / 16)) (places-closed c h.size) (listed-link c root good) in
+    let count = length-multiples (length c.bytes / 16) in
+    steps-spend c old steps new h (omega arith) e
+
+-- the parts of the check of the free tree
+pub tree-steps : (c : Cut) (old stepped : ℕ) → Spends step_rates 50 c.bytes old stepped → Spends tree_rates 50 c.bytes old stepped
+tree-steps c old stepped x = spend-less c.bytes step_rates (both counting_rates planting_rates) 50 0 old stepped x
+
+pub tree-counted : (c : Cut) (old stepped counted : ℕ) → Spends step_rates 50 c.bytes old stepped → Spends counting_rates 0 c.bytes stepped counted → Spends tree_rates 50 c.bytes old counted
+tree-counted c old stepped counted x y =
+    spend-both c.bytes step_rates (both counting_rates planting_rates) 50 0 old stepped counted x (spend-less c.bytes counting_rates planting_rates 0 0 stepped counted y)
+
+pub tree-planted : (c : Cut) (old stepped counted planted : ℕ) → Spends step_rates 50 c.bytes old stepped → Spends counting_rates 0 c.bytes stepped counted
+    → Spends planting_rates 0 c.bytes counted planted → Spends tree_rates 50 c.bytes old planted
+tree-planted c old stepped counted planted x y z =
+    spend-both c.bytes step_rates (both counting_rates planting_rates) 50 0 old stepped planted x (spend-both c.bytes counting_rates planting_rates 0 0 stepped counted planted y z)
+
+-- nothing was spent
+pub tree-none : (b : List ℕ) (old : ℕ) → Spends tree_rates 50 b old old
+tree-none b old = (omega arith, omega arith)
+
+-- ---- the whole
+
+-- a part of all passes
+pub all-part : (c : Cut) (r : Rates) (m old new : ℕ) → HasTiles c.bytes → ((u : Option Role) → rate_of r u ≤ 64) → m ≤ 640 → Spends r m c.bytes old new → IsRaisedFor (length c.bytes) old new
+all-part c r m old new h most few x =
+    let one = x.0 in
+    let two = x.1 in
+    let size = size-units c h in
+    let weight = weigh-most r most (tiles_in c.bytes) in
+    (omega arith, omega arith)
+
+frame-most : (u : Option Role) → rate_of frame_rates u ≤ 64
+frame-most None = omega arith
+frame-most (Some Object) = omega arith
+frame-most (Some Index) = omega arith
+frame-most (Some Storage) = omega arith
+frame-most (Some Node) = omega arith
+
+all-most : (u : Option Role) → rate_of all_rates u ≤ 64
+all-most None = omega arith
+all-most (Some Object) = omega arith
+all-most (Some Index) = omega arith
+all-most (Some Storage) = omega arith
+all-most (Some Node) = omega arith
+
+pub frame-raised : (c : Cut) (old new : ℕ) → HasTiles c.bytes → Spends frame_rates 51 c.bytes old new → IsRaisedFor (length c.bytes) old new
+frame-raised c old new h x = all-part c frame_rates 51 old new h frame-most (omega arith) x
+
+-- after each pass
+module _ (c : Cut) (old framed gathered : ℕ) (h : HasTiles c.bytes) (x : Spends frame_rates 51 c.bytes old framed) (y : Spends gathering_rates 2 c.bytes framed gathered) where
+  pub gathered-raised : IsRaisedFor (length c.bytes) old gathered
+  gathered-raised =
+      all-part c all_rates 115 old gathered h all-most (omega arith)
+      (spend-both c.bytes frame_rates (both gathering_rates (both block_rates support_rates)) 51 64 old framed gathered x
+      (spend-less c.bytes gathering_rates (both block_rates support_rates) 2 62 framed gathered y))
+
+  module _ (blocked : ℕ) (z : Spends block_rates 62 c.bytes gathered blocked) where
+    pub blocks-raised : IsRaisedFor (length c.bytes) old blocked
+    blocks-raised =
+        all-part c all_rates 115 old blocked h all-most (omega arith)
+        (spend-both c.bytes frame_rates (both gathering_rates (both block_rates support_rates)) 51 64 old framed blocked x
+        (spend-both c.bytes gathering_rates (both block_rates support_rates) 2 62 framed gathered blocked y (spend-less c.bytes block_rates support_rates 62 0 gathered blocked z)))
+
+    pub support-raised : (new : ℕ) → Spends support_rates 0 c.bytes blocked new → IsRaisedFor (length c.bytes) old new
+    support-raised new u =
+        all-part c all_rates 115 old new h all-most (omega arith)
+        (spend-both c.bytes frame_rates (both gathering_rates (both block_rates support_rates)) 51 64 old framed new x
+        (spend-both c.bytes gathering_rates (both block_rates support_rates) 2 62 framed gathered new y (spend-both c.bytes block_rates support_rates 62 0 gathered blocked new z u)))
+
+-- where the tags are wrong, they alone were read
+pub tags-raised : (b : List ℕ) (old tags new : ℕ) → 32 * tags + 112 ≤ length b → new ≡ old + tags → IsRaisedFor (length b) old new
+tags-raised b old tags new few e = (omega arith, omega arith)

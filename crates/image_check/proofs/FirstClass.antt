@@ -1,0 +1,123 @@
+-- The first class that holds of an image whose first words are right: the parts of its frame in turn, and then the tests of blocks.
+use Rattle.std.proofs.Common.{◌≡◌, refl, sym, ap, ◌∙◌, ℕ, Bool, true, false, not, ◌&&◌, List, [], ◌∷◌, length, arith, cond}
+use Rattle.std.specs.Prelude.{IsTrue, Option, Some, None, find, nat_lt, nat_le}
+use Rattle.std.proofs.lemmas.Bool.{and_from, and_right, or_from, cond-true, cond-false, le-leb, le-ltb, not_from_true, not_from_false}
+use Rattle.raw_region.specs.Memory.{Memory, Cut, bytes_of}
+use Rattle.raw_region.specs.Format.{current}
+use Rattle.block_tags.specs.declared.tile.Tile.{Tile}
+use Rattle.block_tags.specs.Format.{is_legal_size}
+use Rattle.block_tags.specs.Tiles.{tiles_of}
+use Rattle.best_fit.proofs.Laws.{legal_size}
+use Rattle.image_check.specs.declared.classes.ImageClass.{ImageClass}
+use Rattle.image_check.specs.declared.classes.ImageClass.TheVariants.{Truncated, BadMagic, UnsupportedVersion, BadSize, BadReserved, BadTag, BadFreeTree, BadIndex, BadObject, SharedBlock, BadContainer, OrphanBlock}
+use Rattle.image_check.specs.EarlyTests.{size_word, has_magic, has_version, has_front, has_size, has_reserved, is_tiled, has_free_tree}
+use Rattle.image_check.specs.ObjectTests.{has_indexes, has_objects}
+use Rattle.image_check.specs.Fields.{is_shared, is_orphaned, has_containers}
+use Rattle.image_check.specs.Classes.{holds, classes, class_of}
+use Rattle.image_check.specs.Checking.{late_by, late_class}
+use Rattle.image_check.specs.Passes.{tiles_in}
+use Rattle.image_check.specs.Reading.{HasFront}
+use Rattle.image_check.specs.SupportedImages.{has_frame}
+use Rattle.image_check.proofs.Deciding.{find-here, find-past}
+use Rattle.image_check.proofs.Filled.{HasFront-IsRight}
+use Rattle.image_check.proofs.Frame.{IsFrame, has_frame-IsFrame, frame-clean, HasWholeSize, has_whole_size-HasWholeSize}
+use Rattle.image_check.proofs.Framed.{IsEarlyClean}
+
+-- ---- the first four classes hold of no window whose first words are right
+
+-- none of them holds
+pub record IsFrontClean (b : List ℕ) : Type 0 where
+  pub truncated : holds current b Truncated ≡ false
+  pub magic : holds current b BadMagic ≡ false
+  pub version : holds current b UnsupportedVersion ≡ false
+  pub size : holds current b BadSize ≡ false
+
+pub front-clean : (w : Cut) → HasFront current w → IsFrontClean w.bytes
+front-clean w h =
+    let b = w.bytes in
+    let r = HasFront-IsRight current w h in
+    let says = r.says in
+    let least = (legal_size (length b) r.legal).low in
+    record {
+      truncated = or_from (nat_lt (length b) 144) (has_front current b && nat_lt (length b) (size_word b)) (le-ltb (length b) 144 (omega arith))
+          (and_right (has_front current b) (nat_lt (length b) (size_word b)) (le-ltb (length b) (size_word b) (omega arith)));
+      magic = not_from_true (has_magic b) r.magic;
+      version = not_from_true (has_version current b) r.version;
+      size = not_from_true (has_size b) (and_from (is_legal_size (size_word b)) (nat_le (length b) (size_word b)) (ap is_legal_size says ∙ r.legal) (le-leb (length b) (size_word b) (omega arith)));
+    }
+
+-- ---- so one of the others is the first
+
+-- the classes from the eighth on, and those from the fifth on
+abbrev late : List ImageClass
+late = BadIndex ∷ BadObject ∷ SharedBlock ∷ BadContainer ∷ OrphanBlock ∷ []
+
+abbrev later : List ImageClass
+later = BadReserved ∷ BadTag ∷ BadFreeTree ∷ late
+
+past-four : (b : List ℕ) → IsFrontClean b → class_of current b ≡ find (holds current b) later
+past-four b f =
+    find-past (holds current b) Truncated (BadMagic ∷ UnsupportedVersion ∷ BadSize ∷ later) f.truncated
+    ∙ find-past (holds current b) BadMagic (UnsupportedVersion ∷ BadSize ∷ later) f.magic
+    ∙ find-past (holds current b) UnsupportedVersion (BadSize ∷ later) f.version
+    ∙ find-past (holds current b) BadSize later f.size
+
+pub first-reserved : (w : Cut) → HasFront current w → has_reserved w.bytes ≡ false → class_of current w.bytes ≡ Some BadReserved
+first-reserved w h e =
+    past-four w.bytes (front-clean w h)
+    ∙ find-here (holds current w.bytes) BadReserved (BadTag ∷ BadFreeTree ∷ late) (not_from_false (has_reserved w.bytes) e)
+
+pub first-tag : (w : Cut) → HasFront current w → has_reserved w.bytes ≡ true → is_tiled current w.bytes ≡ false → class_of current w.bytes ≡ Some BadTag
+first-tag w h r e =
+    past-four w.bytes (front-clean w h)
+    ∙ find-past (holds current w.bytes) BadReserved (BadTag ∷ BadFreeTree ∷ late) (not_from_true (has_reserved w.bytes) r)
+    ∙ find-here (holds current w.bytes) BadTag (BadFreeTree ∷ late) (not_from_false (is_tiled current w.bytes) e)
+
+pub first-tree : (w : Cut) → HasFront current w → has_reserved w.bytes ≡ true → is_tiled current w.bytes ≡ true → IsTrue (holds current w.bytes BadFreeTree) → class_of current w.bytes ≡ Some BadFreeTree
+first-tree w h r t e =
+    past-four w.bytes (front-clean w h)
+    ∙ find-past (holds current w.bytes) BadReserved (BadTag ∷ BadFreeTree ∷ late) (not_from_true (has_reserved w.bytes) r)
+    ∙ find-past (holds current w.bytes) BadTag (BadFreeTree ∷ late) (not_from_true (is_tiled current w.bytes) t)
+    ∙ find-here (holds current w.bytes) BadFreeTree late e
+
+-- ---- behind a right frame, the tests of the blocks
+
+-- the eight classes before them do not hold
+past-frame : (b : List ℕ) → IsEarlyClean current b → class_of current b ≡ find (holds current b) late
+past-frame b f =
+    past-four b (record { truncated = f.truncated; magic = f.magic; version = f.version; size = f.size })
+    ∙ find-past (holds current b) BadReserved (BadTag ∷ BadFreeTree ∷ late) f.reserved
+    ∙ find-past (holds current b) BadTag (BadFreeTree ∷ late) f.tags
+    ∙ find-past (holds current b) BadFreeTree late f.free_tree
+
+-- five tests one after another
+five : (i o s c r : Bool) → cond (not i) (Some BadIndex) (cond (not o) (Some BadObject) (cond s (Some SharedBlock) (cond (not c) (Some BadContainer) (cond r (Some OrphanBlock) None)))) ≡ late_by i o s c r
+five false o s c r = refl
+five true false s c r = refl
+five true true true c r = refl
+five true true false false r = refl
+five true true false true true = refl
+five true true false true false = refl
+
+found-late : (p : ImageClass → Bool) (i o s c r : Bool) → p BadIndex ≡ not i → p BadObject ≡ not o → p SharedBlock ≡ s → p BadContainer ≡ not c → p OrphanBlock ≡ r → find p late ≡ late_by i o s c r
+found-late p i o s c r d e f g h =
+    (λ k. cond (d k) (Some BadIndex) (cond (e k) (Some BadObject) (cond (f k) (Some SharedBlock) (cond (g k) (Some BadContainer) (cond (h k) (Some OrphanBlock) None))))) ∙ five i o s c r
+
+-- a test of the tiles, where the tags are good and the size is the length
+of-tiles : (t : Bool) (test : List Tile → Bool) (m : Memory) (n k : ℕ) → t ≡ true → n ≡ k → (t && test (tiles_of m n)) ≡ test (tiles_of m k)
+of-tiles t test m n k e f = (λ i. e i && test (tiles_of m (f i)))
+
+-- the class of an image whose frame is right
+pub late-class : (b : List ℕ) → IsTrue (has_frame b) → class_of current b ≡ late_class current (bytes_of b) (tiles_in b)
+unfolding late_class
+late-class b h =
+    let f = has_frame-IsFrame b h in
+    let same = (has_whole_size-HasWholeSize b f.size).same in
+    let m = bytes_of b in
+    past-frame b (frame-clean b f)
+    ∙ found-late (holds current b) (has_indexes m (tiles_in b)) (has_objects current m (tiles_in b)) (is_shared current m (tiles_in b)) (has_containers current m (tiles_in b)) (is_orphaned current m (tiles_in b))
+    (of-tiles (is_tiled current b) (λ ts. not (has_indexes m ts)) m (size_word b) (length b) f.tiled same)
+    (of-tiles (is_tiled current b) (λ ts. not (has_objects current m ts)) m (size_word b) (length b) f.tiled same)
+    (of-tiles (is_tiled current b) (λ ts. is_shared current m ts) m (size_word b) (length b) f.tiled same)
+    (of-tiles (is_tiled current b) (λ ts. not (has_containers current m ts)) m (size_word b) (length b) f.tiled same)
+    (of-tiles (is_tiled current b) (λ ts. is_orphaned current m ts) m (size_word b) (length b) f.tiled same)

@@ -1,0 +1,46 @@
+use Rattle.std.proofs.Common.{sym, ◌∙◌, arith, refl}
+use Rattle.raw_region.specs.Memory.{bytes_of}
+use Rattle.image_check.specs.Passes.{tiles_in}
+use Rattle.image_check.proofs.ContainerWalks.{containers-same, marked-followed, marked-ready}
+use Rattle.image_check.proofs.ContainerWeights.{blocks-weigh, both-weigh, few-blocks}
+use Rattle.image_check.proofs.CountedFields.{Contains-Mem}
+use Rattle.image_check.proofs.containers.check_containers.Goals as goal
+
+pub are_right-requires-clause-followed : goal.are_right-requires-clause-followed
+are_right-requires-clause-followed c =
+    let b = c.args.window.now.bytes in
+    marked-followed c.args.format (bytes_of b) (tiles_in b) c.args.owners.now.blocks.entries c.args.owners.now.waiting c.requires.whole
+
+pub are_right-requires-clause-ready : goal.are_right-requires-clause-ready
+are_right-requires-clause-ready c t k =
+    let b = c.args.window.now.bytes in
+    marked-ready c.args.format (bytes_of b) (tiles_in b) c.args.owners.now.blocks.entries c.args.owners.now.waiting c.requires.whole c.requires.objects t (Contains-Mem (tiles_in b) t k)
+
+pub are_right-requires-clause-few : goal.are_right-requires-clause-few
+are_right-requires-clause-few c =
+    let few = few-blocks c.args.window.now.bytes c.args.owners.now.blocks.entries c.requires.tiles c.requires.whole.marking.frame in
+    omega arith
+
+pub returns-then-are_right-clause-class : goal.returns-then-are_right-clause-class
+returns-then-are_right-clause-class c =
+    let b = c.args.window.now.bytes in
+    containers-same c.args.format (bytes_of b) (tiles_in b) ∙ (sym c.are_right.ensures.value ∙ c.if-are_right.true)
+
+pub returns-else-are_right-clause-class : goal.returns-else-are_right-clause-class
+returns-else-are_right-clause-class c =
+    let b = c.args.window.now.bytes in
+    (refl, containers-same c.args.format (bytes_of b) (tiles_in b) ∙ (sym c.are_right.ensures.value ∙ c.if-are_right.false))
+
+pub returns-then-are_right-clause-visits : goal.returns-then-are_right-clause-visits
+returns-then-are_right-clause-visits c =
+    let blocks = blocks-weigh (tiles_in c.args.window.now.bytes) c.args.owners.now.blocks.entries c.requires.whole.marking.frame in
+    let both = both-weigh (tiles_in c.args.window.now.bytes) in
+    let most = c.are_right.ensures.most in
+    (c.are_right.ensures.least, omega arith)
+
+pub returns-else-are_right-clause-visits : goal.returns-else-are_right-clause-visits
+returns-else-are_right-clause-visits c =
+    let blocks = blocks-weigh (tiles_in c.args.window.now.bytes) c.args.owners.now.blocks.entries c.requires.whole.marking.frame in
+    let both = both-weigh (tiles_in c.args.window.now.bytes) in
+    let most = c.are_right.ensures.most in
+    (c.are_right.ensures.least, omega arith)

@@ -1,0 +1,45 @@
+-- The entries lie in the tile of the index.
+use Rattle.std.proofs.Common.{◌+◌, ◌-◌, ◌*◌, ◌/◌, ◌≤◌, refl, sym, ◌∙◌, arith, length}
+use Rattle.raw_region.specs.Memory.{bytes_of, word_at}
+use Rattle.block_tags.specs.declared.tile.Role.TheVariants.{Index}
+use Rattle.image_check.specs.Passes.{tiles_in}
+use Rattle.image_check.specs.Visits.{index_rates, weigh}
+use Rattle.image_check.proofs.IndexPlaces.{IsIndexRoom, rows, in-row, room-of, weigh-one}
+use Rattle.image_check.proofs.indexes.enter_index.Goals as goal
+use Rattle.image_check.proofs.indexes.enter_index.Goals.{In-Some}
+
+room : (c : In-Some) → IsIndexRoom (tiles_in c.args.window.now.bytes) c.in-Some.block (word_at (bytes_of c.args.window.now.bytes) (c.args.at + 8))
+room c =
+    let w = c.args.window.now in
+    room-of (bytes_of w.bytes) (tiles_in w.bytes) c.args.at c.in-Some.block (sym c.has_places.ensures.is ∙ c.if-not-has_places.false) (sym c.load.ensures ∙ c.in-Some.is)
+
+pub enter_all-requires-clause-aligned : goal.enter_all-requires-clause-aligned
+enter_all-requires-clause-aligned c =
+    let w = c.args.window.now in
+    let r = room (goal.at.enter_all-requires-clause-aligned c).In-Some in
+    let i = in-row 128 (tiles_in w.bytes) (length w.bytes - 16) r.tile (rows w c.requires.tiles) r.mem in
+    let e = i.even refl in
+    let at = r.at in
+    omega arith
+
+pub enter_all-requires-clause-inside : goal.enter_all-requires-clause-inside
+enter_all-requires-clause-inside c =
+    let w = c.args.window.now in
+    let r = room (goal.at.enter_all-requires-clause-inside c).In-Some in
+    let i = in-row 128 (tiles_in w.bytes) (length w.bytes - 16) r.tile (rows w c.requires.tiles) r.mem in
+    let in_it = i.within in
+    let at = r.at in
+    let long = r.room in
+    let count = c.read_u64.ensures in
+    omega arith
+
+pub returns-in-Some-clause-spends : goal.returns-in-Some-clause-spends
+returns-in-Some-clause-spends c =
+    let w = c.args.window.now in
+    let r = room (goal.at.returns-in-Some-clause-spends c).In-Some in
+    let weight : 12 * (r.tile.len / 16) ≤ weigh index_rates (tiles_in w.bytes) = weigh-one index_rates (tiles_in w.bytes) r.tile Index r.mem r.use_of in
+    let long = r.room in
+    let count = c.read_u64.ensures in
+    let a = c.has_places.ensures.spends in
+    let b = c.enter_all.ensures.spends in
+    (omega arith, omega arith)

@@ -1,0 +1,60 @@
+-- The entries lie in the tile of the index.
+use Rattle.std.proofs.Common.{◌≡◌, ◌+◌, ◌-◌, ◌*◌, ◌/◌, ◌≤◌, refl, sym, ◌∙◌, Some, arith, length}
+use Rattle.raw_region.specs.Memory.{bytes_of, word_at}
+use Rattle.offset_link.specs.Link.{link_at}
+use Rattle.block_tags.specs.declared.tile.Role.TheVariants.{Index}
+use Rattle.image_check.specs.Passes.{tiles_in}
+use Rattle.image_check.specs.ObjectPasses.{entry_rates}
+use Rattle.image_check.specs.Visits.{weigh}
+use Rattle.image_check.proofs.IndexOrdered.{index-room, entry-some, entry-among}
+use Rattle.image_check.proofs.IndexPlaces.{IsIndexRoom, rows, in-row, weigh-one}
+use Rattle.image_check.proofs.ranks.has_order.Goals as goal
+use Rattle.image_check.proofs.ranks.has_order.Goals.{In-Some}
+
+leads : (c : In-Some) → link_at (bytes_of c.args.window.now.bytes) c.args.at ≡ Some c.in-Some.block
+leads c = sym c.load.ensures ∙ c.in-Some.is
+
+room : (c : In-Some) → IsIndexRoom (tiles_in c.args.window.now.bytes) c.in-Some.block (word_at (bytes_of c.args.window.now.bytes) (c.args.at + 8))
+room c = let b = c.args.window.now.bytes in index-room (bytes_of b) (tiles_in b) c.args.at c.in-Some.block c.requires.index (leads c)
+
+pub rise-requires-clause-aligned : goal.rise-requires-clause-aligned
+rise-requires-clause-aligned c =
+    let w = c.args.window.now in
+    let r = room (goal.at.rise-requires-clause-aligned c).In-Some in
+    let i = in-row 128 (tiles_in w.bytes) (length w.bytes - 16) r.tile (rows w c.requires.tiles) r.mem in
+    let e = i.even refl in
+    let at = r.at in
+    omega arith
+
+pub rise-requires-clause-inside : goal.rise-requires-clause-inside
+rise-requires-clause-inside c =
+    let w = c.args.window.now in
+    let r = room (goal.at.rise-requires-clause-inside c).In-Some in
+    let i = in-row 128 (tiles_in w.bytes) (length w.bytes - 16) r.tile (rows w c.requires.tiles) r.mem in
+    let in_it = i.within in
+    let at = r.at in
+    let long = r.room in
+    let count = c.read_u64.ensures in
+    omega arith
+
+pub rise-requires-clause-links : goal.rise-requires-clause-links
+rise-requires-clause-links c i l =
+    let b = c.args.window.now.bytes in
+    let count = c.read_u64.ensures in
+    entry-some (bytes_of b) (tiles_in b) c.args.at c.in-Some.block c.requires.index (leads (goal.at.rise-requires-clause-links c).In-Some) i (omega arith)
+
+pub rise-requires-clause-heads : goal.rise-requires-clause-heads
+rise-requires-clause-heads c i n l e =
+    let b = c.args.window.now.bytes in
+    let count = c.read_u64.ensures in
+    c.requires.heads n (entry-among (bytes_of b) (tiles_in b) c.args.at c.in-Some.block c.requires.index (leads (goal.at.rise-requires-clause-heads c).In-Some) i n (omega arith) e)
+
+pub returns-in-Some-clause-spends : goal.returns-in-Some-clause-spends
+returns-in-Some-clause-spends c =
+    let w = c.args.window.now in
+    let r = room (goal.at.returns-in-Some-clause-spends c).In-Some in
+    let weight : 12 * (r.tile.len / 16) ≤ weigh entry_rates (tiles_in w.bytes) = weigh-one entry_rates (tiles_in w.bytes) r.tile Index r.mem r.use_of in
+    let long = r.room in
+    let count = c.read_u64.ensures in
+    let a = c.rise.ensures.spends in
+    (omega arith, omega arith)

@@ -1,0 +1,251 @@
+-- The owners of blocks: what the map of them says, and what is known while links are gone through.
+use Rattle.std.specs.Prelude.{◌≡◌, ◌≢◌, ℕ, filter_map, map, ◌+◌, ◌*◌, ◌/◌, ◌%◌, ◌≤◌, ◌<◌, ◌⊎◌, ◌||◌, not, Bool, is_some, IsTrue, Contains, Option, Some, None, List, [], ◌∷◌, length, nat_eq, IsSome, if◌then◌else◌}
+use Rattle.std.specs.Map.{lookup}
+use Rattle.raw_region.specs.Memory.{Memory, bytes_of, word_at}
+use Rattle.offset_link.specs.Link.{link_at}
+use Rattle.block_tags.specs.declared.tile.Role.{Role}
+use Rattle.block_tags.specs.declared.tile.Role.TheVariants.{Object, Index, Storage, Node}
+use Rattle.block_tags.specs.declared.tile.Tile.{Tile}
+use Rattle.best_fit.specs.Table.{same_role}
+use Rattle.image_check.specs.declared.classes.ImageClass.{ImageClass}
+use Rattle.image_check.specs.declared.classes.ImageClass.TheVariants.{SharedBlock}
+use Rattle.image_check.specs.declared.owners.Block.{Block}
+use Rattle.image_check.specs.declared.owners.Owner.{Owner}
+use Rattle.seg_types.specs.declared.kinds.ScalarKind.{ScalarKind}
+use Rattle.seg_types.specs.declared.kinds.Kind.{Kind}
+use Rattle.seg_types.specs.declared.kinds.Kind.TheVariants.{Map, Texts}
+use Rattle.image_check.specs.ObjectTests.{tile_of, good_for, payload, index_capacity}
+use Rattle.image_check.specs.Fields.{values, has_storage, needs_owner}
+use Rattle.image_check.specs.Passes.{tiles_in}
+use Rattle.image_check.specs.Meaning.{LeadsTo, Counts, IsShared}
+
+-- the entries of the map
+abbrev pub Blocks : Type 0
+Blocks = List (ℕ × Block)
+
+abbrev pub block_at : Blocks → ℕ → Option Block
+block_at es n = lookup (nat_eq n) es
+
+abbrev pub owner_in : Option Block → Option Owner
+owner_in None = None
+owner_in (Some b) = if same_role b.role Object then None else b.owner
+
+abbrev pub entry_in : Option Block → Option Owner
+entry_in None = None
+entry_in (Some b) = if same_role b.role Object then b.owner else None
+
+-- the link that was met to lead to the payload of an index, a storage or a node
+abbrev pub owner_at : Blocks → ℕ → Option Owner
+owner_at es n = owner_in (block_at es n)
+
+-- the entry of an index that was met to lead to an object
+abbrev pub entry_at : Blocks → ℕ → Option Owner
+entry_at es n = entry_in (block_at es n)
+
+-- a tile of the role and length of this block
+pub record IsTileAt (ts : List Tile) (n : ℕ) (b : Block) : Type 0 where
+  pub tile : Tile
+  pub is : tile_of ts b.role n ≡ Some tile
+  pub len : tile.len ≡ b.len
+
+-- a block of the role and length of this tile
+pub record IsBlockAt (es : Blocks) (n : ℕ) (role : Role) (t : Tile) : Type 0 where
+  pub block : Block
+  pub is : block_at es n ≡ Some block
+  pub role_is : block.role ≡ role
+  pub len : block.len ≡ t.len
+
+-- the blocks are the tiles in use
+pub record AreBlocks (ts : List Tile) (es : Blocks) : Type 0 where
+  pub tiles : (n : ℕ) (b : Block) → block_at es n ≡ Some b → IsTileAt ts n b
+  pub blocks : (n : ℕ) (role : Role) (t : Tile) → tile_of ts role n ≡ Some t → IsBlockAt es n role t
+
+-- The visits that the links behind a block may take once a link is met to lead to it: six for a node, and three for each 16 bytes of
+-- storage.
+abbrev pub due : Role → ℕ → ℕ
+due Object len = 0
+due Index len = 0
+due Storage len = 3 * (len / 16)
+due Node len = 6
+
+abbrev pub due_of : Block → ℕ
+due_of b = elim b.owner [ None ↦ due b.role b.len | Some o ↦ 0 ]
+
+-- of all blocks that no link was met to lead to
+abbrev pub debt : Blocks → ℕ
+debt [] = 0
+debt (e ∷ es) = due_of e.1 + debt es
+
+abbrev pub tile_due : Tile → ℕ
+tile_due t = elim t.use_of [ None ↦ 0 | Some role ↦ due role t.len ]
+
+-- of all tiles
+abbrev pub debts : List Tile → ℕ
+debts [] = 0
+debts (t ∷ ts) = tile_due t + debts ts
+
+-- ---- the blocks of tiles, before a link was met
+
+abbrev pub new_block : Role → ℕ → Block
+new_block role len = record { role = role; len = len; owner = None; next = None }
+
+abbrev pub entry_of : Tile → Option (ℕ × Block)
+entry_of t = elim t.use_of [ None ↦ None | Some role ↦ Some (t.offset + 16, new_block role t.len) ]
+
+abbrev pub entries_of : List Tile → Blocks
+entries_of ts = filter_map entry_of ts
+
+-- role and length of each block, by payload
+abbrev pub frame_of : ℕ × Block → ℕ × Role × ℕ
+frame_of e = (e.0, e.1.role, e.1.len)
+
+abbrev pub frames : Blocks → List (ℕ × Role × ℕ)
+frames es = map frame_of es
+
+-- ---- the nodes whose links are to be followed
+
+pub record IsWaiting (es : Blocks) (n : ℕ) (next : Option ℕ) : Type 0 where
+  pub block : Block
+  pub is : block_at es n ≡ Some block
+  pub node : block.role ≡ Node
+  pub owned : IsSome block.owner
+  pub next_is : block.next ≡ next
+
+-- from the first of them each names the next
+abbrev pub IsChain : Blocks → Option ℕ → List ℕ → Type 0
+IsChain es head [] = head ≡ None
+IsChain es head (n ∷ ns) = (next : Option ℕ) × (head ≡ Some n) × IsWaiting es n next × IsChain es next ns
+
+abbrev pub Stands : ℕ → List ℕ → Type 0
+Stands n [] = ⊥
+Stands n (x ∷ xs) = (n ≡ x) ⊎ Stands n xs
+
+-- ---- links that are gone through
+
+-- a link of this role at this place would count
+abbrev pub MayCount : ℕ → Memory → List Tile → Role → ℕ → Type 0
+MayCount format m ts role at = (target : ℕ) → LeadsTo m ts role at target → Counts format m ts at target
+
+-- where a link stands to which the links from a start lead
+abbrev pub owner : ℕ → ℕ → Owner
+owner at root = record { at = at; root = root }
+
+-- the link at a place is noted, where it leads to a block of the role
+abbrev pub IsNoted : Memory → List Tile → Blocks → Role → ℕ → ℕ → Type 0
+IsNoted m ts es role at root = (target : ℕ) → LeadsTo m ts role at target → owner_at es target ≡ Some (owner at root)
+
+-- no link was met but those of entries of indexes
+pub record IsUnmarked (ts : List Tile) (es : Blocks) : Type 0 where
+  pub frame : frames es ≡ frames (entries_of ts)
+  pub none : (n : ℕ) → owner_at es n ≡ None
+
+-- both links of a node are noted, as led to from where the node is
+abbrev pub IsFollowed : Memory → List Tile → Blocks → ℕ → ℕ → Type 0
+IsFollowed m ts es n root = IsNoted m ts es Node n root × IsNoted m ts es Node (n + 8) root
+
+-- a place that is no link of a node
+abbrev pub IsStart : List Tile → ℕ → Type 0
+IsStart ts at = (n : ℕ) (t : Tile) → tile_of ts Node n ≡ Some t → (at ≢ n) × (at ≢ n + 8)
+
+-- a link of a node to which a link was noted to lead
+pub record IsBehind (ts : List Tile) (es : Blocks) (at : ℕ) : Type 0 where
+  pub node : ℕ
+  pub tile : Tile
+  pub is : tile_of ts Node node ≡ Some tile
+  pub led : Owner
+  pub noted : owner_at es node ≡ Some led
+  pub link : (at ≡ node) ⊎ (at ≡ node + 8)
+
+-- where the links begin that lead to a link: there, or where those begin that lead to its node
+abbrev pub IsRooted : List Tile → Blocks → Owner → Type 0
+IsRooted ts es o = (IsStart ts o.at × (o.root ≡ o.at)) ⊎ ((w : IsBehind ts es o.at) × (o.root ≡ w.led.root))
+
+-- nodes begin at multiples of 16
+abbrev pub AreAligned : List Tile → Type 0
+AreAligned ts = (n : ℕ) (t : Tile) → tile_of ts Node n ≡ Some t → n % 16 ≡ 0
+
+-- What is noted counts. The links of each node that is owned are noted, but of those that wait and of the one whose turn it is.
+pub record IsMarking (format : ℕ) (m : Memory) (ts : List Tile) (now : Option ℕ) (es : Blocks) (pending : Option ℕ) (waiting : ℕ) : Type 0 where
+  pub blocks : AreBlocks ts es
+  pub frame : frames es ≡ frames (entries_of ts)
+  pub aligned : AreAligned ts
+  pub counts : (n : ℕ) (o : Owner) → owner_at es n ≡ Some o → Counts format m ts o.at n
+  pub rooted : (n : ℕ) (o : Owner) → owner_at es n ≡ Some o → IsRooted ts es o
+  pub chain : List ℕ
+  pub linked : IsChain es pending chain
+  pub count : length chain ≡ waiting
+  pub room : 6 * waiting + debt es ≤ debts ts
+  pub followed : (n : ℕ) (o : Owner) (t : Tile) → tile_of ts Node n ≡ Some t → owner_at es n ≡ Some o → Stands n chain ⊎ ((now ≡ Some n) ⊎ IsFollowed m ts es n o.root)
+
+-- all that was noted stays noted
+abbrev pub Keeps : Blocks → Blocks → Type 0
+Keeps old es = (n : ℕ) (o : Owner) → owner_at old n ≡ Some o → owner_at es n ≡ Some o
+
+-- one link more is noted, and what was noted stays
+pub record IsMarked (format : ℕ) (m : Memory) (ts : List Tile) (now : Option ℕ) (role : Role) (link : Owner) (old : Blocks) (waited : ℕ) (es : Blocks) (pending : Option ℕ) (waiting : ℕ) : Type 0 where
+  pub marking : IsMarking format m ts now es pending waiting
+  pub noted : IsNoted m ts es role link.at link.root
+  pub keeps : Keeps old es
+  pub only : (n : ℕ) (o : Owner) → owner_at es n ≡ Some o → (owner_at old n ≡ Some o) ⊎ (o ≡ link)
+  pub less : 6 * waiting + debt es ≤ 6 * waited + debt old
+  -- what is due for storage that was met first is taken off
+  pub paid : role ≡ Storage → (target : ℕ) (t : Tile) → link_at m link.at ≡ Some target → tile_of ts Storage target ≡ Some t → owner_at old target ≡ None
+      → 6 * waiting + debt es + 3 * (t.len / 16) ≤ 6 * waited + debt old
+
+abbrev pub IsSharedClass : ℕ → Memory → List Tile → ImageClass → Type 0
+IsSharedClass format m ts class = (class ≡ SharedBlock) × IsShared format m ts
+
+-- ---- of an image
+
+abbrev pub IsMarkingOf : ℕ → List ℕ → Option ℕ → Blocks → Option ℕ → ℕ → Type 0
+IsMarkingOf format b now es pending waiting = IsMarking format (bytes_of b) (tiles_in b) now es pending waiting
+
+abbrev pub IsSharedIn : ℕ → List ℕ → ImageClass → Type 0
+IsSharedIn format b class = IsSharedClass format (bytes_of b) (tiles_in b) class
+
+abbrev pub next_in : Option Block → Option ℕ
+next_in None = None
+next_in (Some b) = b.next
+
+-- what waits behind a node
+abbrev pub next_at : Blocks → ℕ → Option ℕ
+next_at es n = next_in (block_at es n)
+
+-- where the first link stands of those that lead to a block
+abbrev pub root_in : Option Block → ℕ → ℕ
+root_in block n = elim (owner_in block) [ None ↦ n | Some o ↦ o.root ]
+
+-- one node's links were noted
+pub record IsTurn (format : ℕ) (b : List ℕ) (old : Blocks) (waited : ℕ) (es : Blocks) (pending : Option ℕ) (waiting : ℕ) : Type 0 where
+  pub marking : IsMarkingOf format b None es pending waiting
+  pub keeps : Keeps old es
+  pub less : 6 * waiting + debt es + 6 ≤ 6 * waited + debt old
+
+-- no node waits any more
+pub record IsAllFollowed (format : ℕ) (b : List ℕ) (old es : Blocks) (pending : Option ℕ) (waiting : ℕ) : Type 0 where
+  pub marking : IsMarkingOf format b None es pending waiting
+  pub none : pending ≡ None
+  pub keeps : Keeps old es
+
+-- ---- all fields that count
+
+-- The links of the indexes, of storage, of elements and of roots are noted, and those of the nodes that were met.
+pub record IsWholeMarking (format : ℕ) (m : Memory) (ts : List Tile) (es : Blocks) (waiting : ℕ) : Type 0 where
+  pub marking : IsMarking format m ts None es None waiting
+  pub named : 0 < index_capacity m 32 → IsNoted m ts es Index 32 32
+  pub unique : 0 < index_capacity m 56 → IsNoted m ts es Index 56 56
+  pub storage : (k : Kind) (at : ℕ) → Contains (values format m ts) (k, at) → IsTrue (has_storage k) → 0 < word_at m (at + 16) → IsNoted m ts es Storage at at
+  pub element : (array : Tile) (i at : ℕ) → Contains (values format m ts) (Texts, at) → 0 < word_at m (at + 16) → good_for ts Storage (link_at m at) ≡ Some array
+      → i < word_at m (at + 8) → 16 * i + 32 ≤ array.len → IsNoted m ts es Storage (payload array + 16 * i) (payload array + 16 * i)
+  pub root : (k v : ScalarKind) (at : ℕ) → Contains (values format m ts) (Map k v, at) → IsNoted m ts es Node at at
+
+abbrev pub IsWholeMarkingOf : ℕ → List ℕ → Blocks → ℕ → Type 0
+IsWholeMarkingOf format b es waiting = IsWholeMarking format (bytes_of b) (tiles_in b) es waiting
+
+-- a tile needs no owner or has one
+abbrev pub has_owner : Blocks → Tile → Bool
+has_owner es t = not (needs_owner t) || is_some (owner_at es (payload t))
+
+-- the offsets of the indexes in the header
+abbrev pub IsIndexPlace : ℕ → Type 0
+IsIndexPlace at = (at ≡ 32) ⊎ (at ≡ 56)

@@ -1,0 +1,30 @@
+-- What a pass over an image answers.
+use Rattle.std.specs.Prelude.{◌≡◌, ℕ, ◌+◌, ◌≤◌, Bool, true, false, List, length, is_some, IsTrue, Result, MatchResult}
+use Rattle.std.specs.List.{list_any}
+use Rattle.raw_region.specs.Memory.{Memory, bytes_of}
+use Rattle.raw_region.specs.Format.{current}
+use Rattle.block_tags.specs.Format.{is_legal_size}
+use Rattle.block_tags.specs.Tiles.{tiles_of, has_tags}
+use Rattle.block_tags.specs.declared.tile.Tile.{Tile}
+use Rattle.image_check.specs.declared.classes.ImageClass.{ImageClass}
+use Rattle.image_check.specs.Visits.{Rates, weigh}
+
+abbrev pub tiles_in : List ℕ → List Tile
+tiles_in b = tiles_of (bytes_of b) (length b)
+
+-- a tile is in use
+abbrev pub has_block : List ℕ → Bool
+has_block b = list_any (λ (t : Tile). is_some t.use_of) (tiles_in b)
+
+-- the tags of an image of a legal size are good
+pub record HasTiles (b : List ℕ) : Type 0 where
+  pub size : IsTrue (is_legal_size (length b))
+  pub tags : IsTrue (has_tags current (bytes_of b) (length b))
+
+-- a pass that answers its class exactly where its test fails
+abbrev pub Finds : {A : Type 0} → ImageClass → Bool → Result A ImageClass → Type 0
+Finds class fine result = MatchResult result (λ done. fine ≡ true) (λ c. (c ≡ class) × (fine ≡ false))
+
+-- a pass raises the count by no more than so many, and so many for each 16 bytes of a tile
+abbrev pub Spends : Rates → ℕ → List ℕ → ℕ → ℕ → Type 0
+Spends rates more b old new = (old ≤ new) × (new ≤ old + (more + weigh rates (tiles_in b)))

@@ -1,0 +1,86 @@
+-- How often an image is looked at while it is checked: so often for each 16 bytes of a tile, by what the tile is for.
+use Rattle.std.specs.Prelude.{ℕ, ◌≤◌, ◌+◌, ◌*◌, ◌/◌, Option, Some, None, List, [], ◌∷◌}
+use Rattle.block_tags.specs.declared.tile.Role.{Role}
+use Rattle.block_tags.specs.declared.tile.Role.TheVariants.{Object, Index, Storage, Node}
+use Rattle.block_tags.specs.declared.tile.Tile.{Tile}
+
+-- so many visits more at most
+abbrev pub Adds : ℕ → ℕ → ℕ → Type 0
+Adds n old new = (old ≤ new) × (new ≤ old + n)
+
+-- so often for each 16 bytes of a gap, and of a block in use by its role
+pub record Rates : Type 0 where
+  pub free : ℕ
+  pub object : ℕ
+  pub index : ℕ
+  pub storage : ℕ
+  pub node : ℕ
+
+abbrev pub rate_of : Rates → Option Role → ℕ
+rate_of r None = r.free
+rate_of r (Some Object) = r.object
+rate_of r (Some Index) = r.index
+rate_of r (Some Storage) = r.storage
+rate_of r (Some Node) = r.node
+
+-- all tiles together
+abbrev pub weigh : Rates → List Tile → ℕ
+weigh r [] = 0
+weigh r (t ∷ ts) = rate_of r t.use_of * (t.len / 16) + weigh r ts
+
+-- two passes together
+abbrev pub both : Rates → Rates → Rates
+both r s = record { free = r.free + s.free; object = r.object + s.object; index = r.index + s.index; storage = r.storage + s.storage; node = r.node + s.node }
+
+-- what each pass may take: the tags, the free tree with a search for each gap, and the passes over the blocks
+abbrev pub tag_rates : Rates
+tag_rates = record { free = 1; object = 1; index = 1; storage = 1; node = 1 }
+
+abbrev pub counting_rates : Rates
+counting_rates = tag_rates
+
+-- a search of the tree of at most 2^26 - 2 gaps goes to no more than 52 nodes
+abbrev pub planting_visits : Option Role → ℕ
+planting_visits None = 53
+planting_visits (Some role) = 0
+
+abbrev pub planting_rates : Rates
+planting_rates = record { free = 27; object = 1; index = 1; storage = 1; node = 1 }
+
+-- the steps of the check of the tree, over links that may be anything
+abbrev pub step_rates : Rates
+step_rates = record { free = 5; object = 5; index = 5; storage = 5; node = 5 }
+
+abbrev pub tree_rates : Rates
+tree_rates = both step_rates (both counting_rates planting_rates)
+
+abbrev pub index_rates : Rates
+index_rates = record { free = 0; object = 4; index = 12; storage = 0; node = 0 }
+
+abbrev pub object_rates : Rates
+object_rates = record { free = 1; object = 22; index = 13; storage = 1; node = 1 }
+
+abbrev pub gathering_rates : Rates
+gathering_rates = record { free = 2; object = 2; index = 2; storage = 2; node = 2 }
+
+abbrev pub sharing_rates : Rates
+sharing_rates = record { free = 1; object = 4; index = 1; storage = 6; node = 6 }
+
+abbrev pub container_rates : Rates
+container_rates = record { free = 1; object = 12; index = 1; storage = 24; node = 18 }
+
+abbrev pub orphan_rates : Rates
+orphan_rates = record { free = 1; object = 1; index = 1; storage = 1; node = 1 }
+
+abbrev pub support_rates : Rates
+support_rates = record { free = 1; object = 1; index = 1; storage = 1; node = 1 }
+
+-- the tags and the free tree, the passes over the blocks, and all passes behind the first words
+abbrev pub frame_rates : Rates
+frame_rates = both tag_rates tree_rates
+
+abbrev pub block_rates : Rates
+block_rates = both index_rates (both object_rates (both sharing_rates (both container_rates orphan_rates)))
+
+abbrev pub all_rates : Rates
+all_rates = both frame_rates (both gathering_rates (both block_rates support_rates))

@@ -1,0 +1,151 @@
+//! Whether the storage of vectors and strings is what their three words say: link, length and capacity.
+ghost use Rattle.std.specs.Prelude.{◌≡◌, ◌↔◌, ◌+◌, ◌≤◌, ◌<◌, ◌%◌, ◌*◌, IsTrue, List, length};
+ghost use Rattle.std.specs.List.{list_all};
+ghost use Rattle.raw_region.specs.Memory.{bytes_of, word_at};
+ghost use Rattle.block_tags.specs.declared.tile.Tile.{Tile};
+ghost use Rattle.block_tags.specs.declared.tile.Role.TheVariants.{Storage};
+ghost use Rattle.block_tags.specs.Format.{is_legal_size};
+ghost use Rattle.image_check.specs.ObjectTests.{is_table_link};
+ghost use Rattle.image_check.specs.Fields.{element_offsets, is_array_at, is_element_at, is_storage_at};
+ghost use Rattle.image_check.specs.Owners.{AreBlocks, IsNoted};
+ghost use Rattle.image_check.specs.Containers.{rooted_weight};
+ghost use Rattle.image_check.specs.Passes.{HasTiles, tiles_in};
+ghost use Rattle.image_check.specs.Visits.{Adds};
+
+use crate::owners::{Block, good_len};
+use crate::spellings::are_spellings;
+use crate::visits::Visits;
+use block_tags::{Role, TAG};
+use indexmap::IndexMap;
+use offset_link::load;
+use raw_region::Window;
+use seg_types::ScalarKind;
+
+/// The bytes of an element of an array of texts: a link and a length.
+const ELEMENT: u64 = 16;
+
+/// Whether the link is that of a storage block with `capacity` places of `each` bytes: null where there are none.
+fn is_table(
+    blocks: &IndexMap<u64, Block>,
+    visits: &mut Visits,
+    link: Option<u64>,
+    each: u64,
+    capacity: u64,
+) -> bool
+    ensures value { (ts : List Tile) → AreBlocks ts blocks.now.entries → result ≡ is_table_link ts Storage link each capacity }
+    ensures visits { Adds 1 visits.old visits.new }
+{
+    if capacity == 0 {
+        return link.is_none();
+    }
+    match good_len(blocks, Role::Storage, link, visits) {
+        Some(len) => has_room(len, each, capacity),
+        None => false,
+    }
+}
+
+/// Whether a tile of `len` bytes has room for `capacity` places of `each` bytes.
+fn has_room(len: u64, each: u64, capacity: u64) -> bool
+    ensures { IsTrue result ↔ (each * capacity + 16 ≤ len) }
+{
+    match each.checked_mul(capacity) {
+        Some(bytes) => bytes <= len && len - bytes >= TAG,
+        None => false,
+    }
+}
+
+/// Whether the three words at `at` are those of a string or a vector of this kind.
+pub(crate) fn is_storage(
+    window: &Window,
+    blocks: &IndexMap<u64, Block>,
+    visits: &mut Visits,
+    kind: ScalarKind,
+    at: u64,
+) -> bool
+    requires tiles { HasTiles window.now.bytes }
+    requires blocks { AreBlocks (tiles_in window.now.bytes) blocks.now.entries }
+    requires noted { 0 < word_at (bytes_of window.now.bytes) (at + 16) → IsNoted (bytes_of window.now.bytes) (tiles_in window.now.bytes) blocks.now.entries Storage at at }
+    requires aligned { at % 8 ≡ 0 }
+    requires inside { at + 24 ≤ length window.now.bytes }
+    ensures value { result ≡ is_storage_at (bytes_of window.now.bytes) (tiles_in window.now.bytes) kind at }
+    ensures visits { Adds (1 + rooted_weight at blocks.now.entries) visits.old visits.new }
+{
+    let len = window.read_u64(at + 8);
+    let capacity = window.read_u64(at + 16);
+    if len > capacity {
+        return false;
+    }
+    let link = load(window, at);
+    if !is_table(blocks, visits, link, kind.size(), capacity) {
+        return false;
+    }
+    match link {
+        Some(block) => are_spellings(window, visits, kind, block, len),
+        None => true,
+    }
+}
+
+/// Whether the element at `at` leads to a storage block with room for its text.
+fn is_element(window: &Window, blocks: &IndexMap<u64, Block>, visits: &mut Visits, at: u64) -> bool
+    requires size { IsTrue (is_legal_size (length window.now.bytes)) }
+    requires aligned { at % 8 ≡ 0 }
+    requires inside { at + 16 ≤ length window.now.bytes }
+    ensures value { (ts : List Tile) → AreBlocks ts blocks.now.entries → result ≡ is_element_at (bytes_of window.now.bytes) ts at }
+    ensures visits { Adds 2 visits.old visits.new }
+{
+    visits.visit();
+    is_table(blocks, visits, load(window, at), 1, window.read_u64(at + 8))
+}
+
+/// Whether the first `n` elements of the array at `at` lead to their texts.
+fn are_elements(
+    window: &Window,
+    blocks: &IndexMap<u64, Block>,
+    visits: &mut Visits,
+    at: u64,
+    n: u64,
+) -> bool
+    requires size { IsTrue (is_legal_size (length window.now.bytes)) }
+    requires blocks { (ts : List Tile) × AreBlocks ts blocks.now.entries }
+    requires aligned { at % 8 ≡ 0 }
+    requires inside { at + 16 * n ≤ length window.now.bytes }
+    ensures value { (ts : List Tile) → AreBlocks ts blocks.now.entries → result ≡ list_all (is_element_at (bytes_of window.now.bytes) ts) (element_offsets at n) }
+    ensures visits { Adds (2 * n) visits.old visits.new }
+{
+    'elements: for i in 0..n {
+        if !is_element(window, blocks, visits, at + ELEMENT * i) {
+            return false;
+        }
+    }
+    true
+}
+
+/// Whether the three words at `at` are those of an array of texts.
+pub(crate) fn is_array(
+    window: &Window,
+    blocks: &IndexMap<u64, Block>,
+    visits: &mut Visits,
+    at: u64,
+) -> bool
+    requires tiles { HasTiles window.now.bytes }
+    requires blocks { AreBlocks (tiles_in window.now.bytes) blocks.now.entries }
+    requires noted { 0 < word_at (bytes_of window.now.bytes) (at + 16) → IsNoted (bytes_of window.now.bytes) (tiles_in window.now.bytes) blocks.now.entries Storage at at }
+    requires aligned { at % 8 ≡ 0 }
+    requires inside { at + 24 ≤ length window.now.bytes }
+    ensures value { result ≡ is_array_at (bytes_of window.now.bytes) (tiles_in window.now.bytes) at }
+    ensures visits { Adds (1 + rooted_weight at blocks.now.entries) visits.old visits.new }
+{
+    let len = window.read_u64(at + 8);
+    let capacity = window.read_u64(at + 16);
+    if len > capacity {
+        return false;
+    }
+    let link = load(window, at);
+    if !is_table(blocks, visits, link, ELEMENT, capacity) {
+        return false;
+    }
+    match link {
+        Some(block) => are_elements(window, blocks, visits, block, len),
+        None => true,
+    }
+}

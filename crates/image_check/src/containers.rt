@@ -1,0 +1,141 @@
+//! Whether each container of an image is what the words of its object say.
+ghost use Rattle.std.specs.Prelude.{◌≡◌, ◌+◌, ◌<◌, ◌≤◌, ◌%◌, ◌^◌, Contains, true, false, length};
+ghost use Rattle.std.specs.List.{list_all};
+ghost use Rattle.raw_region.specs.Memory.{bytes_of};
+ghost use Rattle.image_check.specs.ObjectTests.{has_objects, is_use};
+ghost use Rattle.image_check.specs.Fields.{has_containers, is_container};
+ghost use Rattle.image_check.specs.Owners.{IsWholeMarkingOf};
+ghost use Rattle.image_check.specs.Containers.{AreFollowed, IsLinkNoted, IsReady, LiesInWindow, PaysFor, has_container, is_scalar, rooted_weight, walk_rates, weigh_blocks, weight_below};
+ghost use Rattle.image_check.specs.Passes.{Finds, HasTiles, Spends, tiles_in};
+ghost use Rattle.image_check.specs.Visits.{Adds, container_rates, weigh};
+ghost use Rattle.image_check.specs.declared.classes.ImageClass.TheVariants.{BadContainer};
+ghost use Rattle.block_tags.specs.declared.tile.Role.TheVariants.{Object};
+ghost use Rattle.block_tags.specs.declared.tile.Tile.{Tile};
+
+use crate::arrays::{is_array, is_storage};
+use crate::classes::ImageClass;
+use crate::heads::{kind_of, value_of};
+use crate::maps::is_map;
+use crate::owners::{Block, Owners, is_same};
+use crate::visits::Visits;
+use block_tags::{Role, TAG, Tile, first, next};
+use indexmap::IndexMap;
+use raw_region::Window;
+use seg_types::{Kind, ScalarKind};
+
+/// Whether the value of this kind at `at` is no container, or one whose words, link and elements are right.
+fn is_right(
+    window: &Window,
+    blocks: &IndexMap<u64, Block>,
+    visits: &mut Visits,
+    kind: Kind,
+    at: u64,
+) -> bool
+    requires tiles { HasTiles window.now.bytes }
+    requires followed { AreFollowed (bytes_of window.now.bytes) (tiles_in window.now.bytes) blocks.now.entries }
+    requires noted { IsLinkNoted (bytes_of window.now.bytes) (tiles_in window.now.bytes) blocks.now.entries kind at }
+    requires aligned { at % 8 ≡ 0 }
+    requires inside { is_scalar kind ≡ false → at + 24 ≤ length window.now.bytes }
+    requires few { rooted_weight at blocks.now.entries ≤ 2 ^ 40 }
+    ensures value { result ≡ is_container (bytes_of window.now.bytes) (tiles_in window.now.bytes) (kind, at) }
+    ensures scalar { is_scalar kind ≡ true → visits.new ≡ visits.old }
+    ensures visits { Adds (27 + rooted_weight at blocks.now.entries) visits.old visits.new }
+{
+    match kind {
+        Kind::Scalar(_) => true,
+        Kind::Text => is_storage(window, blocks, visits, ScalarKind::U8, at),
+        Kind::Vector(element) => is_storage(window, blocks, visits, element, at),
+        Kind::Map(key, value) => is_map(window, blocks, visits, key, value, at),
+        Kind::Texts => is_array(window, blocks, visits, at),
+    }
+}
+
+/// Whether the tile is that of an object.
+fn is_object(tile: Tile) -> bool
+    ensures { result ≡ is_use Object tile }
+{
+    match tile.use_of {
+        Some(role) => is_same(Role::Object, role),
+        None => false,
+    }
+}
+
+/// Whether the tile is no object's, or its value is no container, or one that is right.
+fn is_right_tile(
+    format: u64,
+    window: &Window,
+    blocks: &IndexMap<u64, Block>,
+    visits: &mut Visits,
+    tile: Tile,
+) -> bool
+    requires tiles { HasTiles window.now.bytes }
+    requires followed { AreFollowed (bytes_of window.now.bytes) (tiles_in window.now.bytes) blocks.now.entries }
+    requires lies { LiesInWindow (length window.now.bytes) tile }
+    requires ready { IsReady format (bytes_of window.now.bytes) (tiles_in window.now.bytes) blocks.now.entries tile }
+    requires few { weigh_blocks blocks.now.entries ≤ 2 ^ 40 }
+    ensures value { result ≡ has_container format (bytes_of window.now.bytes) (tiles_in window.now.bytes) tile }
+    ensures visits { PaysFor blocks.now.entries tile visits.old visits.new }
+{
+    // The tags of the tile.
+    visits.visit();
+    if !is_object(tile) {
+        return true;
+    }
+    let at = tile.offset + TAG;
+    // The object.
+    visits.visit();
+    match kind_of(format, window, at) {
+        Some(kind) => is_right(window, blocks, visits, kind, value_of(window, at)),
+        None => true,
+    }
+}
+
+/// Whether all containers of the image are right.
+fn are_right(
+    format: u64,
+    window: &Window,
+    blocks: &IndexMap<u64, Block>,
+    visits: &mut Visits,
+) -> bool
+    requires tiles { HasTiles window.now.bytes }
+    requires followed { AreFollowed (bytes_of window.now.bytes) (tiles_in window.now.bytes) blocks.now.entries }
+    requires ready { (t : Tile) → Contains (tiles_in window.now.bytes) t → IsReady format (bytes_of window.now.bytes) (tiles_in window.now.bytes) blocks.now.entries t }
+    requires few { weigh_blocks blocks.now.entries ≤ 2 ^ 40 }
+    ensures value { result ≡ list_all (has_container format (bytes_of window.now.bytes) (tiles_in window.now.bytes)) (tiles_in window.now.bytes) }
+    ensures least { visits.old ≤ visits.new }
+    ensures most { visits.new ≤ visits.old + (weigh walk_rates (tiles_in window.now.bytes) + weigh_blocks blocks.now.entries) }
+{
+    let mut tile = first(window);
+    'tiles: while let Some(here) = tile {
+        if !is_right_tile(format, window, blocks, visits, here) {
+            return false;
+        }
+        tile = next(window, here.offset);
+    }
+    true
+}
+
+/// Checks that each container of the image is what its words say: its storage has room for its capacity, its used elements are
+/// spelled, its map is an ordered red-black tree of as many pairs as it counts.
+///
+/// # Errors
+///
+/// `BadContainer` where one is not.
+pub(crate) fn check_containers(
+    format: u64,
+    window: &Window,
+    owners: &Owners,
+    visits: &mut Visits,
+) -> Result<(), ImageClass>
+    requires tiles { HasTiles window.now.bytes }
+    requires objects { has_objects format (bytes_of window.now.bytes) (tiles_in window.now.bytes) ≡ true }
+    requires whole { IsWholeMarkingOf format window.now.bytes owners.now.blocks.entries owners.now.waiting }
+    ensures class { Finds BadContainer (has_containers format (bytes_of window.now.bytes) (tiles_in window.now.bytes)) result }
+    ensures visits { Spends container_rates 20 window.now.bytes visits.old visits.new }
+{
+    if are_right(format, window, &owners.blocks, visits) {
+        Ok(())
+    } else {
+        Err(ImageClass::BadContainer)
+    }
+}

@@ -1,0 +1,46 @@
+//! Entries of indexes, noted in the map of owners at the objects that they lead to.
+ghost use Rattle.std.specs.Prelude.{◌≡◌, false, MatchBool};
+ghost use Rattle.image_check.specs.Visits.{Adds};
+ghost use Rattle.image_check.specs.Entered.{IsEntered, can_enter, is_new_block};
+
+use crate::owners::{Block, Owner, Owners, block_of, is_same, put};
+use crate::visits::Visits;
+use block_tags::Role;
+
+/// Notes the entry at `place` of the index whose own link stands at `root`, where the entry's link leads to an object that has
+/// no entry yet; whether it does.
+pub(crate) fn enter(
+    owners: &mut Owners,
+    visits: &mut Visits,
+    link: Option<u64>,
+    place: u64,
+    root: u64,
+) -> bool
+    ensures entered { MatchBool result (IsEntered owners.old.blocks.entries owners.new.blocks.entries link place root) (can_enter owners.old.blocks.entries link ≡ false) }
+    ensures pending { owners.new.pending ≡ owners.old.pending }
+    ensures waiting { owners.new.waiting ≡ owners.old.waiting }
+    ensures spends { Adds 2 visits.old visits.new }
+{
+    let Some(target) = link else {
+        return false;
+    };
+    let Some(block) = block_of(&owners.blocks, target, visits) else {
+        return false;
+    };
+    if !is_new(block) {
+        return false;
+    }
+    let entered = Block {
+        owner: Some(Owner { at: place, root }),
+        ..block
+    };
+    put(&mut owners.blocks, target, entered, visits);
+    true
+}
+
+/// Whether the block is an object that has no entry yet.
+fn is_new(block: Block) -> bool
+    ensures { result ≡ is_new_block block }
+{
+    is_same(block.role, Role::Object) && block.owner.is_none()
+}

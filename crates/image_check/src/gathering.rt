@@ -1,0 +1,100 @@
+//! Gathering the blocks in use.
+ghost use Rattle.std.specs.Prelude.{◌≡◌, ◌+◌, ◌++◌, ◌<◌, ◌≤◌, ◌^◌, IfOk, IsOk, None, [], length, option_to_list};
+ghost use Rattle.indexmap.specs.IndexMap.{spare};
+ghost use Rattle.image_check.specs.Owners.{block_at, entries_of, entry_of};
+ghost use Rattle.image_check.specs.Passes.{HasTiles, Spends, tiles_in};
+ghost use Rattle.image_check.specs.Visits.{Adds, gathering_rates};
+
+use crate::owners::{Block, Owners};
+use crate::visits::Visits;
+use block_tags::{Tile, first, next};
+use indexmap::IndexMap;
+use raw_region::Window;
+use std::alloc::{AllocError, Global};
+
+/// The blocks in use by payload, to none of which a link was met. Memory is asked for once, and not where no block is in use.
+///
+/// # Errors
+///
+/// Where there is no memory for them.
+pub(crate) fn gather(
+    alloc: Global,
+    window: &Window,
+    visits: &mut Visits,
+) -> Result<Owners, AllocError>
+    requires tiles { HasTiles window.now.bytes }
+    ensures entries { IfOk result (λ o. o.blocks.entries ≡ entries_of (tiles_in window.now.bytes)) }
+    ensures pending { IfOk result (λ o. o.pending ≡ None) }
+    ensures waiting { IfOk result (λ o. o.waiting ≡ 0) }
+    ensures memory { entries_of (tiles_in window.now.bytes) ≡ [] → IsOk result }
+    ensures visits { Spends gathering_rates 2 window.now.bytes visits.old visits.new }
+{
+    let count = count_used(window, visits);
+    match IndexMap::with_capacity(alloc, count) {
+        Ok(mut blocks) => {
+            add_all(window, &mut blocks, visits);
+            Ok(Owners {
+                blocks,
+                pending: None,
+                waiting: 0,
+            })
+        }
+        Err(error) => Err(error),
+    }
+}
+
+/// The number of blocks in use. One visit for each tile.
+fn count_used(window: &Window, visits: &mut Visits) -> usize
+    requires tiles { HasTiles window.now.bytes }
+    ensures count { result ≡ length (entries_of (tiles_in window.now.bytes)) }
+    ensures visits { visits.new ≡ visits.old + length (tiles_in window.now.bytes) }
+{
+    let mut count = 0;
+    let mut tile = first(window);
+    'tiles: while let Some(here) = tile {
+        visits.visit();
+        if here.use_of.is_some() {
+            count += 1;
+        }
+        tile = next(window, here.offset);
+    }
+    count
+}
+
+/// Adds the blocks in use to a map with room for them. At most two visits for each tile.
+fn add_all(window: &Window, blocks: &mut IndexMap<u64, Block>, visits: &mut Visits)
+    requires tiles { HasTiles window.now.bytes }
+    requires empty { blocks.old.entries ≡ [] }
+    requires room { length (entries_of (tiles_in window.now.bytes)) ≤ spare blocks.old }
+    ensures entries { blocks.new.entries ≡ entries_of (tiles_in window.now.bytes) }
+    ensures visits { Adds (length (tiles_in window.now.bytes) + length (tiles_in window.now.bytes)) visits.old visits.new }
+{
+    let mut tile = first(window);
+    'tiles: while let Some(here) = tile {
+        visits.visit();
+        add(blocks, here, visits);
+        tile = next(window, here.offset);
+    }
+}
+
+/// Adds the block of a tile, where it is in use, to a map with room for it. At most one visit.
+fn add(blocks: &mut IndexMap<u64, Block>, tile: Tile, visits: &mut Visits)
+    requires small { tile.offset < 2 ^ 63 }
+    requires absent { block_at blocks.old.entries (tile.offset + 16) ≡ None }
+    requires room { length (option_to_list (entry_of tile)) ≤ spare blocks.old }
+    ensures entries { blocks.new.entries ≡ blocks.old.entries ++ option_to_list (entry_of tile) }
+    ensures room { spare blocks.old ≤ spare blocks.new + length (option_to_list (entry_of tile)) }
+    ensures visits { Adds 1 visits.old visits.new }
+{
+    if let Some(role) = tile.use_of {
+        let block = Block {
+            role,
+            len: tile.len,
+            owner: None,
+            next: None,
+        };
+        visits.visit();
+        // There is room, so that no memory is asked for.
+        let _ = blocks.insert(tile.offset + 16, block);
+    }
+}

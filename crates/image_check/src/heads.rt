@@ -1,0 +1,168 @@
+//! What the head of an object says, and whether it and the value behind it are right, part by part.
+ghost use Rattle.std.specs.Prelude.{◌≡◌, ◌+◌, ◌^◌, ◌<◌, ◌≤◌, true, length};
+ghost use Rattle.raw_region.specs.Memory.{bytes_of};
+ghost use Rattle.seg_index.specs.Keys.{name_len_at};
+ghost use Rattle.image_check.specs.EarlyTests.{is_zero as are_zeros};
+ghost use Rattle.image_check.specs.ObjectTests.{has_name as is_named, has_padding as is_padded, is_indexed as is_listed, kind_at, value_offset};
+ghost use Rattle.image_check.specs.ObjectPasses.{is_spelled, is_value_room};
+ghost use Rattle.image_check.specs.Entered.{AreEntered, index_of as listing_index};
+ghost use Rattle.image_check.specs.Visits.{Adds};
+
+use crate::owners::{Block, block_of, is_same};
+use crate::spellings::are_spellings;
+use crate::visits::Visits;
+use block_tags::Role;
+use indexmap::IndexMap;
+use raw_region::Window;
+use seg_types::{Kind, is_name};
+use segment_manager::layout::{HEAD_LEN, NAME_CLASS_AT, NAMED_AT, UNIQUE_AT};
+
+/// A number in the low half of a word.
+pub(crate) const HALF: u64 = 4294967296;
+
+/// The longest name.
+const LONGEST: u64 = 255;
+
+/// The most scalars in an object.
+const MOST: u64 = 1048576;
+
+/// The bytes of the value of a vector, a string or a map.
+const CONTAINER_LEN: u64 = 24;
+
+/// The class of the objects with a name.
+pub(crate) const NAMED: u64 = 1;
+
+/// The class of the objects that are the only ones of their kind in the unique index.
+pub(crate) const UNIQUE: u64 = 2;
+
+/// The kind of the object at `at`, if it has one of the format.
+pub(crate) fn kind_of(format: u64, window: &Window, at: u64) -> Option<Kind>
+    requires { at + 8 ≤ length window.now.bytes }
+    ensures { result ≡ kind_at format (bytes_of window.now.bytes) at }
+{
+    let code = window.read_u64(at) % HALF;
+    match Kind::from_code(code as u32) {
+        Some(kind) if kind.is_of(format) => Some(kind),
+        _ => None,
+    }
+}
+
+/// How many bytes the name of the object at `at` has.
+pub(crate) fn name_len_of(window: &Window, at: u64) -> u64
+    requires small { at < 2 ^ 63 }
+    requires inside { at + 16 ≤ length window.now.bytes }
+    ensures len { result ≡ name_len_at (bytes_of window.now.bytes) at }
+    ensures small { result < 2 ^ 32 }
+{
+    window.read_u64(at + NAME_CLASS_AT) % HALF
+}
+
+/// Where the value of the object at `at` stands.
+pub(crate) fn value_of(window: &Window, at: u64) -> u64
+    requires small { at < 2 ^ 63 }
+    requires inside { at + 16 ≤ length window.now.bytes }
+    ensures { result ≡ value_offset (bytes_of window.now.bytes) at }
+{
+    at + HEAD_LEN + (name_len_of(window, at) + 7) / 8 * 8
+}
+
+/// Whether the count of a value is right for its kind, and the value lies before `end`.
+pub(crate) fn has_room(kind: Kind, count: u64, start: u64, end: u64) -> bool
+    requires { start < 2 ^ 63 + 2 ^ 33 }
+    ensures { result ≡ is_value_room kind count start end }
+{
+    match kind {
+        Kind::Scalar(scalar) => {
+            count >= 1 && count <= MOST && start + scalar.size() * count <= end
+        }
+        _ => count == 1 && start + CONTAINER_LEN <= end,
+    }
+}
+
+/// Whether the name and the class of the object at `at` are right.
+pub(crate) fn has_name(format: u64, window: &Window, at: u64) -> bool
+    requires small { length window.now.bytes < 2 ^ 63 }
+    requires inside { at + 16 + name_len_at (bytes_of window.now.bytes) at ≤ length window.now.bytes }
+    ensures { result ≡ is_named format (bytes_of window.now.bytes) at }
+{
+    let class = window.read_u64(at + NAME_CLASS_AT) / HALF;
+    let len = name_len_of(window, at);
+    if class == NAMED {
+        return len <= LONGEST && is_name(format, window.bytes(at + HEAD_LEN, len));
+    }
+    class <= UNIQUE && len == 0
+}
+
+/// Whether the bytes between the name and the value of the object at `at` are zero.
+pub(crate) fn has_padding(window: &Window, at: u64) -> bool
+    requires small { length window.now.bytes < 2 ^ 63 }
+    requires inside { value_offset (bytes_of window.now.bytes) at ≤ length window.now.bytes }
+    ensures { result ≡ is_padded (bytes_of window.now.bytes) at }
+{
+    let len = name_len_of(window, at);
+    is_zero(window.bytes(at + HEAD_LEN + len, (len + 7) / 8 * 8 - len))
+}
+
+/// Whether all bytes are 0.
+pub(crate) fn is_zero(bytes: &[u8]) -> bool
+    ensures { result ≡ are_zeros bytes.now }
+{
+    bytes.iter().all(|byte| *byte == 0)
+}
+
+/// Whether the value is no scalars, or each of them is spelled. One visit for each.
+pub(crate) fn has_spellings(
+    window: &Window,
+    visits: &mut Visits,
+    kind: Kind,
+    count: u64,
+    start: u64,
+) -> bool
+    requires small { length window.now.bytes < 2 ^ 63 }
+    requires room { is_value_room kind count start (length window.now.bytes) ≡ true }
+    ensures is { result ≡ is_spelled (bytes_of window.now.bytes) kind count start }
+    ensures spends { Adds count visits.old visits.new }
+{
+    match kind {
+        Kind::Scalar(scalar) => are_spellings(window, visits, scalar, start, count),
+        _ => true,
+    }
+}
+
+/// Where the index has its link that has an entry of the object at `at`.
+fn index_of(blocks: &IndexMap<u64, Block>, at: u64, visits: &mut Visits) -> Option<u64>
+    ensures is { result ≡ listing_index blocks.now.entries at }
+    ensures spends { Adds 1 visits.old visits.new }
+{
+    let block = block_of(blocks, at, visits)?;
+    if !is_same(block.role, Role::Object) {
+        return None;
+    }
+    match block.owner {
+        Some(owner) => Some(owner.root),
+        None => None,
+    }
+}
+
+/// Whether the object at `at` has an entry in the index of its class, if there is one.
+pub(crate) fn is_indexed(
+    window: &Window,
+    blocks: &IndexMap<u64, Block>,
+    visits: &mut Visits,
+    at: u64,
+) -> bool
+    requires small { at < 2 ^ 63 }
+    requires inside { at + 16 ≤ length window.now.bytes }
+    requires entered { AreEntered (bytes_of window.now.bytes) blocks.now.entries }
+    ensures is { result ≡ is_listed (bytes_of window.now.bytes) at }
+    ensures spends { Adds 1 visits.old visits.new }
+{
+    let class = window.read_u64(at + NAME_CLASS_AT) / HALF;
+    if class != NAMED && class != UNIQUE {
+        return true;
+    }
+    match index_of(blocks, at, visits) {
+        Some(index) => index == if class == NAMED { NAMED_AT } else { UNIQUE_AT },
+        None => false,
+    }
+}

@@ -1,0 +1,107 @@
+//! Noting the links of indexes, of storage and of elements.
+ghost use Rattle.std.specs.Prelude.{◌≡◌, ◌+◌, ◌*◌, ◌%◌, ◌<◌, ◌≤◌, ℕ, MatchResult, None, length};
+ghost use Rattle.raw_region.specs.Memory.{bytes_of, word_at};
+ghost use Rattle.image_check.specs.Owners.{IsIndexPlace, IsMarkingOf, IsSharedIn};
+ghost use Rattle.image_check.specs.Passes.{HasTiles};
+ghost use Rattle.image_check.specs.Sharing.{AreElementsNoted, IsIndexNoted, IsStorageNoted, IsStorageStart};
+ghost use Rattle.image_check.specs.Visits.{Adds};
+
+use crate::classes::ImageClass;
+use crate::marks::mark;
+use crate::owners::{Owner, Owners};
+use crate::visits::Visits;
+use block_tags::Role;
+use offset_link::load;
+use raw_region::Window;
+
+/// Notes the link of the index whose words stand at `at`, where it has places. At most two visits.
+///
+/// # Errors
+///
+/// `SharedBlock` where another link leads there.
+pub(crate) fn mark_index(
+    window: &Window,
+    owners: &mut Owners,
+    at: u64,
+    visits: &mut Visits,
+) -> Result<(), ImageClass>
+    ghost format: { ℕ }
+    requires tiles { HasTiles window.now.bytes }
+    requires place { IsIndexPlace at }
+    requires marking { IsMarkingOf format window.now.bytes None owners.old.blocks.entries owners.old.pending owners.old.waiting }
+    ensures noted { MatchResult result
+        (λ done. IsIndexNoted format window.now.bytes at owners.old.blocks.entries owners.old.waiting owners.new.blocks.entries owners.new.pending owners.new.waiting)
+        (IsSharedIn format window.now.bytes) }
+    ensures visits { Adds 2 visits.old visits.new }
+{
+    if window.read_u64(at + 16) == 0 {
+        return Ok(());
+    }
+    let link = Owner { at, root: at };
+    mark(owners, Role::Index, link, load(window, at), visits)
+}
+
+/// Notes the storage link of the value at `at`, where it has places. At most two visits.
+///
+/// # Errors
+///
+/// `SharedBlock` where another link leads there.
+pub(crate) fn mark_storage(
+    window: &Window,
+    owners: &mut Owners,
+    at: u64,
+    visits: &mut Visits,
+) -> Result<(), ImageClass>
+    ghost format: { ℕ }
+    requires tiles { HasTiles window.now.bytes }
+    requires marking { IsMarkingOf format window.now.bytes None owners.old.blocks.entries owners.old.pending owners.old.waiting }
+    requires inside { at + 24 ≤ length window.now.bytes }
+    requires aligned { at % 8 ≡ 0 }
+    requires start { 0 < word_at (bytes_of window.now.bytes) (at + 16) → IsStorageStart format window.now.bytes at }
+    ensures noted { MatchResult result
+        (λ done. IsStorageNoted format window.now.bytes at owners.old.blocks.entries owners.old.waiting owners.new.blocks.entries owners.new.pending owners.new.waiting)
+        (IsSharedIn format window.now.bytes) }
+    ensures visits { Adds 2 visits.old visits.new }
+{
+    if window.read_u64(at + 16) == 0 {
+        return Ok(());
+    }
+    let link = Owner { at, root: at };
+    mark(owners, Role::Storage, link, load(window, at), visits)
+}
+
+/// Notes the links of the first `count` elements of the array at `array`. At most three visits for each.
+///
+/// # Errors
+///
+/// `SharedBlock` where one of them leads to a block to which another link leads.
+pub(crate) fn mark_elements(
+    window: &Window,
+    owners: &mut Owners,
+    array: u64,
+    count: u64,
+    visits: &mut Visits,
+) -> Result<(), ImageClass>
+    ghost format: { ℕ }
+    requires tiles { HasTiles window.now.bytes }
+    requires marking { IsMarkingOf format window.now.bytes None owners.old.blocks.entries owners.old.pending owners.old.waiting }
+    requires inside { array + 16 * count ≤ length window.now.bytes }
+    requires aligned { array % 16 ≡ 0 }
+    requires starts { (i : ℕ) → i < count → IsStorageStart format window.now.bytes (array + 16 * i) }
+    ensures noted { MatchResult result
+        (λ done. AreElementsNoted format window.now.bytes array count owners.old.blocks.entries owners.old.waiting owners.new.blocks.entries owners.new.pending owners.new.waiting)
+        (IsSharedIn format window.now.bytes) }
+    ensures visits { Adds (3 * count) visits.old visits.new }
+{
+    let mut i = 0;
+    'elements: while i < count {
+        let at = array + 16 * i;
+        visits.visit();
+        let link = Owner { at, root: at };
+        if let Err(class) = mark(owners, Role::Storage, link, load(window, at), visits) {
+            return Err(class);
+        }
+        i += 1;
+    }
+    Ok(())
+}

@@ -1,0 +1,151 @@
+//! Noting the links that lead to blocks, and following those of the nodes that are met.
+ghost use Rattle.std.specs.Prelude.{◌≡◌, ◌+◌, ◌*◌, ◌<◌, ◌≤◌, ◌^◌, false, IsTrue, List, MatchResult, Option, Some, None, ℕ, length};
+ghost use Rattle.raw_region.specs.Memory.{Memory};
+ghost use Rattle.offset_link.specs.Link.{link_at};
+ghost use Rattle.block_tags.specs.declared.tile.Role.TheVariants.{Object as ObjectRole};
+ghost use Rattle.block_tags.specs.declared.tile.Tile.{Tile};
+ghost use Rattle.best_fit.specs.Table.{same_role};
+ghost use Rattle.image_check.specs.Owners.{IsAllFollowed, IsMarked, IsMarking, IsMarkingOf, IsRooted, IsSharedClass, IsSharedIn, IsTurn, MayCount, debt, next_in as next_there, root_in as root_there};
+ghost use Rattle.image_check.specs.Passes.{HasTiles};
+ghost use Rattle.image_check.specs.Visits.{Adds};
+
+use crate::classes::ImageClass;
+use crate::owners::{Block, Owner, Owners, block_of, is_same, put};
+use crate::visits::Visits;
+use block_tags::Role;
+use offset_link::load;
+use raw_region::Window;
+
+/// Notes that a link with this target leads to a block of the role, where it does. At most two visits.
+///
+/// # Errors
+///
+/// `SharedBlock` where a link at another place leads there.
+pub(crate) fn mark(
+    owners: &mut Owners,
+    role: Role,
+    link: Owner,
+    target: Option<u64>,
+    visits: &mut Visits,
+) -> Result<(), ImageClass>
+    requires room { owners.old.waiting + 1 < 2 ^ 64 }
+    requires role { same_role role ObjectRole ≡ false }
+    ensures marked { (format : ℕ) (m : Memory) (ts : List Tile) (now : Option ℕ)
+        → IsMarking format m ts now owners.old.blocks.entries owners.old.pending owners.old.waiting
+        → target ≡ link_at m link.at → MayCount format m ts role link.at → IsRooted ts owners.old.blocks.entries link
+        → MatchResult result
+        (λ done. IsMarked format m ts now role link owners.old.blocks.entries owners.old.waiting owners.new.blocks.entries owners.new.pending owners.new.waiting)
+        (IsSharedClass format m ts) }
+    ensures visits { Adds 2 visits.old visits.new }
+{
+    let Some(target) = target else {
+        return Ok(());
+    };
+    let Some(block) = block_of(&owners.blocks, target, visits) else {
+        return Ok(());
+    };
+    if !is_same(block.role, role) {
+        return Ok(());
+    }
+    if let Some(owner) = block.owner {
+        if owner.at == link.at {
+            return Ok(());
+        }
+        return Err(ImageClass::SharedBlock);
+    }
+    let owned = Block {
+        owner: Some(link),
+        next: owners.pending,
+        ..block
+    };
+    put(&mut owners.blocks, target, owned, visits);
+    if is_same(role, Role::Node) {
+        owners.pending = Some(target);
+        owners.waiting += 1;
+    }
+    Ok(())
+}
+
+/// The node that waits behind a block.
+fn next_in(block: Option<Block>) -> Option<u64>
+    ensures { result ≡ next_there block }
+{
+    match block {
+        Some(block) => block.next,
+        None => None,
+    }
+}
+
+/// Where the first link stands of those that lead to a block at `target`.
+fn root_in(block: Option<Block>, target: u64) -> u64
+    ensures { result ≡ root_there block target }
+{
+    match block {
+        Some(block) if !is_same(block.role, Role::Object) => match block.owner {
+            Some(owner) => owner.root,
+            None => target,
+        },
+        _ => target,
+    }
+}
+
+/// Takes the first node that waits, and notes its links. At most six visits.
+///
+/// # Errors
+///
+/// `SharedBlock` where one of them leads to a node to which another link leads.
+fn follow_next(
+    window: &Window,
+    owners: &mut Owners,
+    node: u64,
+    visits: &mut Visits,
+) -> Result<(), ImageClass>
+    ghost format: { ℕ }
+    requires tiles { HasTiles window.now.bytes }
+    requires marking { IsMarkingOf format window.now.bytes None owners.old.blocks.entries owners.old.pending owners.old.waiting }
+    requires node { owners.old.pending ≡ Some node }
+    ensures turn { MatchResult result
+        (λ done. IsTurn format window.now.bytes owners.old.blocks.entries owners.old.waiting owners.new.blocks.entries owners.new.pending owners.new.waiting)
+        (IsSharedIn format window.now.bytes) }
+    ensures visits { Adds 6 visits.old visits.new }
+{
+    let block = block_of(&owners.blocks, node, visits);
+    let root = root_in(block, node);
+    owners.pending = next_in(block);
+    owners.waiting -= 1;
+    visits.visit();
+    let left = Owner { at: node, root };
+    match mark(owners, Role::Node, left, load(window, node), visits) {
+        Err(class) => Err(class),
+        Ok(()) => {
+            let right = Owner { at: node + 8, root };
+            mark(owners, Role::Node, right, load(window, node + 8), visits)
+        }
+    }
+}
+
+/// Notes the links of all nodes that wait, and of the nodes that are met by them. At most six visits for each node that is met.
+///
+/// # Errors
+///
+/// `SharedBlock` where two of them lead to one node.
+pub(crate) fn follow(
+    window: &Window,
+    owners: &mut Owners,
+    visits: &mut Visits,
+) -> Result<(), ImageClass>
+    ghost format: { ℕ }
+    requires tiles { HasTiles window.now.bytes }
+    requires marking { IsMarkingOf format window.now.bytes None owners.old.blocks.entries owners.old.pending owners.old.waiting }
+    ensures followed { MatchResult result
+        (λ done. IsAllFollowed format window.now.bytes owners.old.blocks.entries owners.new.blocks.entries owners.new.pending owners.new.waiting)
+        (IsSharedIn format window.now.bytes) }
+    ensures visits { Adds (6 * owners.old.waiting + debt owners.old.blocks.entries) visits.old visits.new }
+{
+    'nodes: while let Some(node) = owners.pending {
+        if let Err(class) = follow_next(window, owners, node, visits) {
+            return Err(class);
+        }
+    }
+    Ok(())
+}

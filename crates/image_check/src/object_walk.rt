@@ -1,0 +1,135 @@
+//! Whether each object is right, and the entries of the indexes lead to objects of their class in order.
+ghost use Rattle.std.specs.Prelude.{◌≡◌, ◌+◌, ◌-◌, ◌*◌, ◌/◌, ◌%◌, ◌^◌, ◌<◌, ◌≤◌, true, length};
+ghost use Rattle.std.specs.List.{list_all};
+ghost use Rattle.raw_region.specs.Memory.{bytes_of};
+ghost use Rattle.image_check.specs.declared.classes.ImageClass.TheVariants.{BadObject};
+ghost use Rattle.image_check.specs.ObjectTests.{has_indexes, has_objects};
+ghost use Rattle.image_check.specs.ObjectPasses.{is_object_at, is_right_tile, walk_rates};
+ghost use Rattle.image_check.specs.Entered.{AreEntered};
+ghost use Rattle.image_check.specs.Passes.{HasTiles, Finds, Spends, tiles_in};
+ghost use Rattle.image_check.specs.Visits.{Adds, object_rates, rate_of};
+
+use crate::classes::ImageClass;
+use crate::heads::{
+    HALF, NAMED, UNIQUE, has_name, has_padding, has_room, has_spellings, is_indexed, kind_of,
+    value_of,
+};
+use crate::owners::{Block, Owners};
+use crate::ranks::has_order;
+use crate::visits::Visits;
+use block_tags::{Role, TAG, Tile, first, next};
+use indexmap::IndexMap;
+use raw_region::Window;
+use segment_manager::layout::{NAMED_AT, UNIQUE_AT};
+
+/// Checks each object by itself, then the order of the entries of each index. The indexes are those of class 8, and their
+/// entries are noted.
+///
+/// # Errors
+///
+/// `BadObject` where an object has a kind, class, count, name, padding or value that is wrong, or no entry in the index of
+/// its class; or where an index names an object of another class or its keys do not rise.
+pub(crate) fn check_objects(
+    format: u64,
+    window: &Window,
+    owners: &Owners,
+    visits: &mut Visits,
+) -> Result<(), ImageClass>
+    requires tiles { HasTiles window.now.bytes }
+    requires indexes { has_indexes (bytes_of window.now.bytes) (tiles_in window.now.bytes) ≡ true }
+    requires entered { AreEntered (bytes_of window.now.bytes) owners.now.blocks.entries }
+    ensures finds { Finds BadObject (has_objects format (bytes_of window.now.bytes) (tiles_in window.now.bytes)) result }
+    ensures spends { Spends object_rates 10 window.now.bytes visits.old visits.new }
+{
+    if !are_right(format, window, &owners.blocks, visits) {
+        return Err(ImageClass::BadObject);
+    }
+    if !has_order(window, visits, NAMED_AT, NAMED) {
+        return Err(ImageClass::BadObject);
+    }
+    if !has_order(window, visits, UNIQUE_AT, UNIQUE) {
+        return Err(ImageClass::BadObject);
+    }
+    Ok(())
+}
+
+/// Whether each tile is no object's or one of an object that is right.
+fn are_right(
+    format: u64,
+    window: &Window,
+    blocks: &IndexMap<u64, Block>,
+    visits: &mut Visits,
+) -> bool
+    requires tiles { HasTiles window.now.bytes }
+    requires entered { AreEntered (bytes_of window.now.bytes) blocks.now.entries }
+    ensures is { result ≡ list_all (is_right_tile format (bytes_of window.now.bytes)) (tiles_in window.now.bytes) }
+    ensures spends { Spends walk_rates 0 window.now.bytes visits.old visits.new }
+{
+    let mut tile = first(window);
+    'tiles: while let Some(here) = tile {
+        if !is_right(format, window, blocks, visits, here) {
+            return false;
+        }
+        tile = next(window, here.offset);
+    }
+    true
+}
+
+/// Whether the tile is no object's or one of an object that is right.
+fn is_right(
+    format: u64,
+    window: &Window,
+    blocks: &IndexMap<u64, Block>,
+    visits: &mut Visits,
+    tile: Tile,
+) -> bool
+    requires small { length window.now.bytes < 2 ^ 63 }
+    requires long { 32 ≤ tile.len }
+    requires within { tile.offset + tile.len ≤ length window.now.bytes }
+    requires entered { AreEntered (bytes_of window.now.bytes) blocks.now.entries }
+    ensures is { result ≡ is_right_tile format (bytes_of window.now.bytes) tile }
+    ensures spends { Adds (rate_of walk_rates tile.use_of * (tile.len / 16)) visits.old visits.new }
+{
+    visits.visit();
+    match tile.use_of {
+        Some(Role::Object) => {
+            let end = tile.offset + tile.len;
+            is_object(format, window, blocks, visits, tile.offset + TAG, end)
+        }
+        _ => true,
+    }
+}
+
+/// Whether the object at `at`, whose payload ends at `end`, is right. Two visits, and one for each scalar of its value.
+fn is_object(
+    format: u64,
+    window: &Window,
+    blocks: &IndexMap<u64, Block>,
+    visits: &mut Visits,
+    at: u64,
+    end: u64,
+) -> bool
+    requires small { length window.now.bytes < 2 ^ 63 }
+    requires head { at + 16 ≤ end }
+    requires inside { end ≤ length window.now.bytes }
+    requires entered { AreEntered (bytes_of window.now.bytes) blocks.now.entries }
+    ensures is { result ≡ is_object_at format (bytes_of window.now.bytes) at end }
+    ensures spends { Adds (2 + (end - at)) visits.old visits.new }
+{
+    visits.visit();
+    let Some(kind) = kind_of(format, window, at) else {
+        return false;
+    };
+    let start = value_of(window, at);
+    let count = window.read_u64(at) / HALF;
+    if !has_room(kind, count, start, end) {
+        return false;
+    }
+    if !has_name(format, window, at) || !has_padding(window, at) {
+        return false;
+    }
+    if !has_spellings(window, visits, kind, count, start) {
+        return false;
+    }
+    is_indexed(window, blocks, visits, at)
+}

@@ -1,0 +1,120 @@
+//! Whether the entries of an index lead to objects of its class, whose keys rise.
+ghost use Rattle.std.specs.Prelude.{◌≡◌, ℕ, ◌+◌, ◌*◌, ◌%◌, ◌^◌, ◌<◌, ◌≤◌, true, Some, IsSome, length, flat_map, option_to_list};
+ghost use Rattle.raw_region.specs.Memory.{bytes_of};
+ghost use Rattle.offset_link.specs.Link.{link_at};
+ghost use Rattle.seg_index.specs.Keys.{class_at, code_at, name_at, name_len_at};
+ghost use Rattle.image_check.specs.ObjectTests.{has_index, targets};
+ghost use Rattle.image_check.specs.ObjectPasses.{HaveHeads, LeadToHeads, are_ranked, entry_rates, follows as comes_behind, key_before};
+ghost use Rattle.image_check.specs.Owners.{IsIndexPlace};
+ghost use Rattle.image_check.specs.Entered.{links_in};
+ghost use Rattle.image_check.specs.Passes.{HasTiles, tiles_in};
+ghost use Rattle.image_check.specs.Visits.{Adds, weigh};
+
+use crate::heads::{HALF, NAMED, name_len_of};
+use crate::visits::Visits;
+use offset_link::load;
+use raw_region::Window;
+use segment_manager::layout::{HEAD_LEN, NAME_CLASS_AT};
+
+/// Whether the entries of the index whose words stand at `at` lead to objects of a class, whose keys rise.
+pub(crate) fn has_order(window: &Window, visits: &mut Visits, at: u64, class: u64) -> bool
+    requires tiles { HasTiles window.now.bytes }
+    requires place { IsIndexPlace at }
+    requires index { has_index (bytes_of window.now.bytes) (tiles_in window.now.bytes) at ≡ true }
+    requires heads { HaveHeads (bytes_of window.now.bytes) at (length window.now.bytes) }
+    ensures is { result ≡ are_ranked class (bytes_of window.now.bytes) (targets (bytes_of window.now.bytes) at) }
+    ensures spends { (visits.old ≤ visits.new) × (2 * visits.new ≤ 2 * visits.old + weigh entry_rates (tiles_in window.now.bytes)) }
+{
+    match load(window, at) {
+        None => true,
+        Some(block) => rise(window, visits, block, window.read_u64(at + 8), class),
+    }
+}
+
+/// Whether the links in the first `count` places of a block lead to objects of a class, whose keys rise.
+fn rise(window: &Window, visits: &mut Visits, block: u64, count: u64, class: u64) -> bool
+    requires small { length window.now.bytes < 2 ^ 63 }
+    requires aligned { block % 8 ≡ 0 }
+    requires inside { block + 8 * count ≤ length window.now.bytes }
+    requires links { (i : ℕ) → i < count → IsSome (link_at (bytes_of window.now.bytes) (block + 8 * i)) }
+    requires heads { LeadToHeads (bytes_of window.now.bytes) block count (length window.now.bytes) }
+    ensures is { result ≡ are_ranked class (bytes_of window.now.bytes) (flat_map option_to_list (links_in (bytes_of window.now.bytes) block count)) }
+    ensures spends { Adds (3 * count) visits.old visits.new }
+{
+    let mut last = None;
+    let mut i = 0;
+    'entries: while i < count {
+        let place = block + 8 * i;
+        visits.visit();
+        let Some(here) = load(window, place) else {
+            return false;
+        };
+        if !follows(window, visits, class, last, here) {
+            return false;
+        }
+        last = Some(here);
+        i += 1;
+    }
+    true
+}
+
+/// Whether an object is of the class, and its key stands behind that of the last one, if there was one. At most two visits.
+fn follows(window: &Window, visits: &mut Visits, class: u64, last: Option<u64>, here: u64) -> bool
+    requires small { length window.now.bytes < 2 ^ 63 }
+    requires here { here + 16 + name_len_at (bytes_of window.now.bytes) here ≤ length window.now.bytes }
+    requires last { (g : ℕ) → last ≡ Some g → g + 16 + name_len_at (bytes_of window.now.bytes) g ≤ length window.now.bytes }
+    ensures is { result ≡ comes_behind class (bytes_of window.now.bytes) last here }
+    ensures spends { Adds 2 visits.old visits.new }
+{
+    visits.visit();
+    if class_of(window, here) != class {
+        return false;
+    }
+    match last {
+        None => true,
+        Some(before) => {
+            visits.visit();
+            precedes(window, class, before, here)
+        }
+    }
+}
+
+/// Whether the key of an object stands before that of another, both of the class.
+fn precedes(window: &Window, class: u64, one: u64, other: u64) -> bool
+    requires small { length window.now.bytes < 2 ^ 63 }
+    requires one { one + 16 + name_len_at (bytes_of window.now.bytes) one ≤ length window.now.bytes }
+    requires other { other + 16 + name_len_at (bytes_of window.now.bytes) other ≤ length window.now.bytes }
+    ensures { result ≡ key_before class (bytes_of window.now.bytes) one other }
+{
+    if class == NAMED {
+        name_of(window, one).cmp(name_of(window, other)).is_lt()
+    } else {
+        code_of(window, one) < code_of(window, other)
+    }
+}
+
+/// The class of the object at `at`.
+fn class_of(window: &Window, at: u64) -> u64
+    requires small { at < 2 ^ 63 }
+    requires inside { at + 16 ≤ length window.now.bytes }
+    ensures { result ≡ class_at (bytes_of window.now.bytes) at }
+{
+    window.read_u64(at + NAME_CLASS_AT) / HALF
+}
+
+/// The code of the kind of the object at `at`.
+fn code_of(window: &Window, at: u64) -> u64
+    requires { at + 8 ≤ length window.now.bytes }
+    ensures { result ≡ code_at (bytes_of window.now.bytes) at }
+{
+    window.read_u64(at) % HALF
+}
+
+/// The name of the object at `at`.
+fn name_of(window: &Window, at: u64) -> &[u8]
+    requires small { length window.now.bytes < 2 ^ 63 }
+    requires inside { at + 16 + name_len_at (bytes_of window.now.bytes) at ≤ length window.now.bytes }
+    ensures { result.now ≡ name_at (bytes_of window.now.bytes) at }
+{
+    window.bytes(at + HEAD_LEN, name_len_of(window, at))
+}

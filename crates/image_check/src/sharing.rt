@@ -1,0 +1,268 @@
+//! Whether two links lead to one block.
+ghost use Rattle.std.specs.Prelude.{◌≡◌, ◌+◌, ◌*◌, ◌%◌, ◌<◌, ◌≤◌, ◌^◌, ℕ, IsTrue, MatchResult, None, OnOk, Some, not, true, length};
+ghost use Rattle.raw_region.specs.Memory.{bytes_of, word_at};
+ghost use Rattle.image_check.specs.declared.classes.ImageClass.TheVariants.{SharedBlock};
+ghost use Rattle.seg_types.specs.declared.kinds.Kind.TheVariants.{Texts as TextsKind};
+ghost use Rattle.image_check.specs.ObjectTests.{has_objects};
+ghost use Rattle.image_check.specs.Fields.{is_shared};
+ghost use Rattle.image_check.specs.Owners.{IsIndexPlace, IsMarkingOf, IsSharedIn, IsUnmarked, IsWholeMarkingOf, debt};
+ghost use Rattle.image_check.specs.Passes.{Finds, HasTiles, Spends, tiles_in};
+ghost use Rattle.image_check.specs.Sharing.{AllElements, AreElementsNoted, AreIndexesNoted, AreTextsNoted, AreValuesNoted, IsIndexNoted, IsStorageNoted, IsStorageStart, IsTileGrown, IsValueGrown, IsValueReady, OfObject, Pays, array_cost, object_cost, value_rates};
+ghost use Rattle.image_check.specs.Visits.{Adds, sharing_rates, weigh};
+ghost use Rattle.image_check.specs.ObjectTests.{is_use};
+ghost use Rattle.image_check.specs.Owners.{owner_at};
+ghost use Rattle.image_check.specs.declared.owners.Owner.{Owner as OwnerValue};
+ghost use Rattle.block_tags.specs.declared.tile.Role.TheVariants.{Object as ObjectRole};
+
+use crate::classes::ImageClass;
+use crate::heads::{kind_of, value_of};
+use crate::links::{mark_elements, mark_index, mark_storage};
+use crate::marks::{follow, mark};
+use crate::owners::{Owner, Owners, good_len, is_same};
+use crate::visits::Visits;
+use block_tags::{Role, TAG, Tile, first, next};
+use offset_link::load;
+use raw_region::Window;
+use seg_types::Kind;
+use segment_manager::layout::{NAMED_AT, UNIQUE_AT};
+
+/// How many of the first `length` elements of 16 bytes lie in a tile of `len` bytes.
+fn elements_in(length: u64, len: u64) -> u64
+    requires { 16 ≤ len }
+    ensures within { result ≤ length }
+    ensures room { 16 * result + 16 ≤ len }
+    ensures all { (i : ℕ) → i < length → 16 * i + 32 ≤ len → i < result }
+{
+    let room = (len - 16) / 16;
+    if length < room { length } else { room }
+}
+
+/// Notes the links of the elements of the vector of texts at `at`, where it has places.
+///
+/// # Errors
+///
+/// `SharedBlock` where one of them leads to a block to which another link leads.
+fn mark_texts(
+    window: &Window,
+    owners: &mut Owners,
+    at: u64,
+    visits: &mut Visits,
+) -> Result<(), ImageClass>
+    ghost format: { ℕ }
+    requires tiles { HasTiles window.now.bytes }
+    requires marking { IsMarkingOf format window.now.bytes None owners.old.blocks.entries owners.old.pending owners.old.waiting }
+    requires inside { at + 24 ≤ length window.now.bytes }
+    requires aligned { at % 8 ≡ 0 }
+    requires starts { AllElements (bytes_of window.now.bytes) (tiles_in window.now.bytes) at (IsStorageStart format window.now.bytes) }
+    ensures noted { MatchResult result
+        (λ done. AreTextsNoted format window.now.bytes at owners.old.blocks.entries owners.old.waiting owners.new.blocks.entries owners.new.pending owners.new.waiting)
+        (IsSharedIn format window.now.bytes) }
+    ensures visits { Adds (1 + array_cost (bytes_of window.now.bytes) (tiles_in window.now.bytes) at) visits.old visits.new }
+{
+    if window.read_u64(at + 16) == 0 {
+        return Ok(());
+    }
+    let Some(array) = load(window, at) else {
+        return Ok(());
+    };
+    let Some(len) = good_len(&owners.blocks, Role::Storage, Some(array), visits) else {
+        return Ok(());
+    };
+    let count = elements_in(window.read_u64(at + 8), len);
+    mark_elements(window, owners, array, count, visits)
+}
+
+/// Notes the storage link of the vector of texts at `at`, and the links of its elements.
+///
+/// # Errors
+///
+/// `SharedBlock` where one of them leads to a block to which another link leads.
+fn mark_array(
+    window: &Window,
+    owners: &mut Owners,
+    at: u64,
+    visits: &mut Visits,
+) -> Result<(), ImageClass>
+    ghost format: { ℕ }
+    requires tiles { HasTiles window.now.bytes }
+    requires marking { IsMarkingOf format window.now.bytes None owners.old.blocks.entries owners.old.pending owners.old.waiting }
+    requires ready { IsValueReady format window.now.bytes TextsKind at owners.old.blocks.entries }
+    ensures noted { MatchResult result
+        (λ done. IsValueGrown format window.now.bytes TextsKind at owners.old.blocks.entries owners.old.waiting owners.new.blocks.entries owners.new.pending owners.new.waiting)
+        (IsSharedIn format window.now.bytes) }
+    ensures visits { Pays 3 result visits.old (6 * owners.old.waiting + debt owners.old.blocks.entries) visits.new (6 * owners.new.waiting + debt owners.new.blocks.entries) }
+{
+    match mark_storage(window, owners, at, visits) {
+        Err(class) => Err(class),
+        Ok(()) => mark_texts(window, owners, at, visits),
+    }
+}
+
+/// Notes the links of a value, and those of its elements.
+///
+/// # Errors
+///
+/// `SharedBlock` where one of them leads to a block to which another link leads.
+fn mark_value(
+    window: &Window,
+    owners: &mut Owners,
+    kind: Kind,
+    at: u64,
+    visits: &mut Visits,
+) -> Result<(), ImageClass>
+    ghost format: { ℕ }
+    requires tiles { HasTiles window.now.bytes }
+    requires marking { IsMarkingOf format window.now.bytes None owners.old.blocks.entries owners.old.pending owners.old.waiting }
+    requires ready { IsValueReady format window.now.bytes kind at owners.old.blocks.entries }
+    ensures noted { MatchResult result
+        (λ done. IsValueGrown format window.now.bytes kind at owners.old.blocks.entries owners.old.waiting owners.new.blocks.entries owners.new.pending owners.new.waiting)
+        (IsSharedIn format window.now.bytes) }
+    ensures visits { Pays 3 result visits.old (6 * owners.old.waiting + debt owners.old.blocks.entries) visits.new (6 * owners.new.waiting + debt owners.new.blocks.entries) }
+{
+    match kind {
+        Kind::Scalar(_) => Ok(()),
+        Kind::Map(_, _) => mark(
+            owners,
+            Role::Node,
+            Owner { at, root: at },
+            load(window, at),
+            visits,
+        ),
+        Kind::Text => mark_storage(window, owners, at, visits),
+        Kind::Vector(_) => mark_storage(window, owners, at, visits),
+        Kind::Texts => mark_array(window, owners, at, visits),
+    }
+}
+
+/// Whether the tile is that of an object.
+fn is_object(tile: Tile) -> bool
+    ensures { result ≡ is_use ObjectRole tile }
+{
+    match tile.use_of {
+        Some(role) => is_same(Role::Object, role),
+        None => false,
+    }
+}
+
+/// Notes the links of the value of the object in a tile, where it is one.
+///
+/// # Errors
+///
+/// `SharedBlock` where one of them leads to a block to which another link leads.
+fn mark_object(
+    format: u64,
+    window: &Window,
+    owners: &mut Owners,
+    tile: Tile,
+    visits: &mut Visits,
+) -> Result<(), ImageClass>
+    ghost said: { ℕ }
+    requires tiles { HasTiles window.now.bytes }
+    requires format { said ≡ format }
+    requires inside { tile.offset + 32 ≤ length window.now.bytes }
+    requires marking { IsMarkingOf said window.now.bytes None owners.old.blocks.entries owners.old.pending owners.old.waiting }
+    requires ready { OfObject said (bytes_of window.now.bytes) tile (λ kind at. IsValueReady said window.now.bytes kind at owners.old.blocks.entries) }
+    ensures noted { MatchResult result
+        (λ done. IsTileGrown said window.now.bytes tile owners.old.blocks.entries owners.old.waiting owners.new.blocks.entries owners.new.pending owners.new.waiting)
+        (IsSharedIn said window.now.bytes) }
+    ensures visits { Pays (object_cost tile) result visits.old (6 * owners.old.waiting + debt owners.old.blocks.entries) visits.new (6 * owners.new.waiting + debt owners.new.blocks.entries) }
+{
+    if !is_object(tile) {
+        return Ok(());
+    }
+    visits.visit();
+    let object = tile.offset + TAG;
+    match kind_of(format, window, object) {
+        Some(kind) => {
+            let at = value_of(window, object);
+            mark_value(window, owners, kind, at, visits)
+        }
+        None => Ok(()),
+    }
+}
+
+/// Notes the links of the values of all objects.
+///
+/// # Errors
+///
+/// `SharedBlock` where one of them leads to a block to which another link leads.
+fn mark_values(
+    format: u64,
+    window: &Window,
+    owners: &mut Owners,
+    visits: &mut Visits,
+) -> Result<(), ImageClass>
+    ghost said: { ℕ }
+    requires tiles { HasTiles window.now.bytes }
+    requires format { said ≡ format }
+    requires objects { has_objects said (bytes_of window.now.bytes) (tiles_in window.now.bytes) ≡ true }
+    requires marking { IsMarkingOf said window.now.bytes None owners.old.blocks.entries owners.old.pending owners.old.waiting }
+    requires front { (n : ℕ) (o : OwnerValue) → owner_at owners.old.blocks.entries n ≡ Some o → o.at < 128 }
+    ensures noted { MatchResult result
+        (λ done. AreValuesNoted said window.now.bytes owners.old.blocks.entries owners.new.blocks.entries owners.new.pending owners.new.waiting)
+        (IsSharedIn said window.now.bytes) }
+    ensures visits { Pays (weigh value_rates (tiles_in window.now.bytes)) result visits.old (6 * owners.old.waiting + debt owners.old.blocks.entries) visits.new (6 * owners.new.waiting + debt owners.new.blocks.entries) }
+{
+    let mut tile = first(window);
+    'tiles: while let Some(here) = tile {
+        visits.visit();
+        if let Err(class) = mark_object(format, window, owners, here, visits) {
+            return Err(class);
+        }
+        tile = next(window, here.offset);
+    }
+    Ok(())
+}
+
+/// Notes the links of the two indexes.
+///
+/// # Errors
+///
+/// `SharedBlock` where both lead to one block.
+fn mark_indexes(window: &Window, owners: &mut Owners, visits: &mut Visits) -> Result<(), ImageClass>
+    ghost said: { ℕ }
+    requires tiles { HasTiles window.now.bytes }
+    requires unmarked { IsUnmarked (tiles_in window.now.bytes) owners.old.blocks.entries }
+    requires pending { owners.old.pending ≡ None }
+    requires waiting { owners.old.waiting ≡ 0 }
+    ensures noted { MatchResult result
+        (λ done. AreIndexesNoted said window.now.bytes owners.new.blocks.entries owners.new.pending owners.new.waiting)
+        (IsSharedIn said window.now.bytes) }
+    ensures visits { Adds 4 visits.old visits.new }
+{
+    match mark_index(window, owners, NAMED_AT, visits) {
+        Err(class) => Err(class),
+        Ok(()) => mark_index(window, owners, UNIQUE_AT, visits),
+    }
+}
+
+/// Checks that no two links lead to one block, and notes all links that count.
+///
+/// # Errors
+///
+/// `SharedBlock` where two lead to one.
+pub(crate) fn check_sharing(
+    format: u64,
+    window: &Window,
+    owners: &mut Owners,
+    visits: &mut Visits,
+) -> Result<(), ImageClass>
+    ghost said: { ℕ }
+    requires tiles { HasTiles window.now.bytes }
+    requires format { said ≡ format }
+    requires objects { has_objects said (bytes_of window.now.bytes) (tiles_in window.now.bytes) ≡ true }
+    requires unmarked { IsUnmarked (tiles_in window.now.bytes) owners.old.blocks.entries }
+    requires pending { owners.old.pending ≡ None }
+    requires waiting { owners.old.waiting ≡ 0 }
+    ensures finds { Finds SharedBlock (not (is_shared said (bytes_of window.now.bytes) (tiles_in window.now.bytes))) result }
+    ensures whole { OnOk result (IsWholeMarkingOf said window.now.bytes owners.new.blocks.entries owners.new.waiting) }
+    ensures visits { Spends sharing_rates 20 window.now.bytes visits.old visits.new }
+{
+    if let Err(class) = mark_indexes(window, owners, visits) {
+        return Err(class);
+    }
+    if let Err(class) = mark_values(format, window, owners, visits) {
+        return Err(class);
+    }
+    follow(window, owners, visits)
+}

@@ -1,0 +1,35 @@
+//! Whether the bytes of scalars in a row spell values of their kind.
+ghost use Rattle.std.specs.Prelude.{◌≡◌, ◌+◌, ◌*◌, ◌^◌, ◌<◌, ◌≤◌, length};
+ghost use Rattle.raw_region.specs.Memory.{bytes_of};
+ghost use Rattle.seg_types.specs.Kinds.{size_of};
+ghost use Rattle.image_check.specs.ObjectTests.{are_spellings as spell_values};
+ghost use Rattle.image_check.specs.Visits.{Adds};
+
+use crate::visits::Visits;
+use raw_region::Window;
+use seg_types::ScalarKind;
+
+/// Whether the `count` elements of a kind from `start` on spell values of it. One visit for each.
+pub(crate) fn are_spellings(
+    window: &Window,
+    visits: &mut Visits,
+    kind: ScalarKind,
+    start: u64,
+    count: u64,
+) -> bool
+    requires small { length window.now.bytes < 2 ^ 63 }
+    requires inside { start + size_of kind * count ≤ length window.now.bytes }
+    ensures is { result ≡ spell_values (bytes_of window.now.bytes) kind start count }
+    ensures spends { Adds count visits.old visits.new }
+{
+    let size = kind.size();
+    let mut i = 0;
+    'elements: while i < count {
+        visits.visit();
+        if !kind.is_spelling(window.bytes(start + size * i, size)) {
+            return false;
+        }
+        i += 1;
+    }
+    true
+}

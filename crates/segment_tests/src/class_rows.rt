@@ -1,0 +1,423 @@
+//! Images with one fault or two, each refused by the first class that holds, whatever the reader gives at once.
+ghost use Rattle.raw_region.specs.Regions.{IsCapacity};
+
+use crate::desk::{Place, SOUND, put, run_with};
+use image_check::{ImageClass, OpenError, open};
+use raw_region::fake::{Last, MemorySource};
+use raw_region::{RawRegion, Steps};
+use segment_cli::{SessionFault, Start};
+use segment_manager::Mode;
+use std::alloc::{AllocError, Global};
+use std::test::Fail;
+
+/// `MSEGFILE` as a word.
+const MAGIC: u64 = 4993446653039301453;
+
+/// An empty segment of 176 bytes: its words that are not zero, by offset.
+const EMPTY: [(usize, u64); 11] = [
+    (0, MAGIC),
+    (8, 1),
+    (16, 176),
+    (24, 120),
+    (32, 1),
+    (56, 1),
+    (136, 32),
+    (144, 1),
+    (152, 1),
+    (160, 32),
+    (168, 1),
+];
+
+/// 1024 bytes with `i64 a 5`: the index at 144, the object at 192.
+const NAMED: [(usize, u64); 22] = [
+    (0, MAGIC),
+    (8, 1),
+    (16, 1024),
+    (24, 216),
+    (32, 112),
+    (40, 1),
+    (48, 4),
+    (56, 1),
+    (136, 53),
+    (144, 48),
+    (176, 48),
+    (184, 49),
+    (192, 4294967300),
+    (200, 4294967297),
+    (208, 97),
+    (216, 5),
+    (224, 48),
+    (232, 784),
+    (240, 1),
+    (248, 1),
+    (1008, 784),
+    (1016, 1),
+];
+
+/// The same with `i64 b 6` behind it, at 240.
+const TWO_NAMES: [(usize, u64); 29] = [
+    (0, MAGIC),
+    (8, 1),
+    (16, 1024),
+    (24, 264),
+    (32, 112),
+    (40, 2),
+    (48, 4),
+    (56, 1),
+    (136, 53),
+    (144, 48),
+    (152, 88),
+    (176, 48),
+    (184, 49),
+    (192, 4294967300),
+    (200, 4294967297),
+    (208, 97),
+    (216, 5),
+    (224, 48),
+    (232, 49),
+    (240, 4294967300),
+    (248, 4294967297),
+    (256, 98),
+    (264, 6),
+    (272, 48),
+    (280, 736),
+    (288, 1),
+    (296, 1),
+    (1008, 736),
+    (1016, 1),
+];
+
+/// Two vectors of one `i64`: objects at 192 and 288, storage at 256 and 352.
+const VECTORS: [(usize, u64); 39] = [
+    (0, MAGIC),
+    (8, 1),
+    (16, 1024),
+    (24, 360),
+    (32, 112),
+    (40, 2),
+    (48, 4),
+    (56, 1),
+    (136, 53),
+    (144, 48),
+    (152, 136),
+    (176, 48),
+    (184, 65),
+    (192, 4295098372),
+    (200, 4294967297),
+    (208, 118),
+    (216, 40),
+    (224, 1),
+    (232, 1),
+    (240, 64),
+    (248, 41),
+    (256, 1),
+    (272, 32),
+    (280, 65),
+    (288, 4295098372),
+    (296, 4294967297),
+    (304, 119),
+    (312, 40),
+    (320, 1),
+    (328, 1),
+    (336, 64),
+    (344, 41),
+    (352, 2),
+    (368, 32),
+    (376, 640),
+    (384, 1),
+    (392, 1),
+    (1008, 640),
+    (1016, 1),
+];
+
+/// A map of one pair: the object at 192, the node at 256.
+const PAIR: [(usize, u64); 29] = [
+    (0, MAGIC),
+    (8, 1),
+    (16, 1024),
+    (24, 280),
+    (32, 112),
+    (40, 1),
+    (48, 4),
+    (56, 1),
+    (136, 53),
+    (144, 48),
+    (176, 48),
+    (184, 65),
+    (192, 4295164932),
+    (200, 4294967297),
+    (208, 109),
+    (216, 40),
+    (224, 1),
+    (240, 64),
+    (248, 61),
+    (256, 1),
+    (264, 1),
+    (272, 1),
+    (280, 10),
+    (288, 48),
+    (296, 720),
+    (304, 1),
+    (312, 1),
+    (1008, 720),
+    (1016, 1),
+];
+
+/// The image of so many bytes that has these words.
+fn image_of(alloc: Global, size: usize, words: &[(usize, u64)]) -> Result<Vec<u8>, AllocError> {
+    let mut image = Vec::new(alloc);
+    for _ in 0..size {
+        image.push(0)?;
+    }
+    for (at, word) in words {
+        put(image.as_mut_slice(), *at, &word.to_le_bytes());
+    }
+    Ok(image)
+}
+
+/// Puts the low bytes of numbers into an image: where, how many, and of which number.
+fn change(image: &mut [u8], changes: &[(usize, usize, u64)]) {
+    for (at, len, number) in changes {
+        let bytes = number.to_le_bytes();
+        put(image, *at, bytes.get(..*len).unwrap_or(&[]));
+    }
+}
+
+/// Why the bytes are not opened in a region of so many bytes, by a reader that gives so many at once.
+fn cause(
+    alloc: Global,
+    bytes: &[u8],
+    capacity: u64,
+    piece: usize,
+) -> Result<Option<OpenError>, Fail>
+    requires { IsCapacity capacity }
+{
+    let region = RawRegion::new(alloc, capacity)?;
+    let mut reader = MemorySource::new(bytes, piece, Last::Ends);
+    let result = open(
+        alloc,
+        &mut reader,
+        region,
+        0,
+        Mode::Write,
+        &mut Steps::new(),
+    );
+    Ok(result.err().map(|refused| refused.cause))
+}
+
+/// What a session over the image answers, in a region of 8192 bytes.
+fn answer(alloc: Global, bytes: &[u8]) -> Result<Result<(), SessionFault>, Fail> {
+    let place = Place::new(8192, 16);
+    let done = run_with(
+        alloc,
+        Start::Image,
+        Mode::Write,
+        bytes,
+        b"size\n",
+        place,
+        SOUND,
+    )?;
+    Ok(done.result)
+}
+
+#[test]
+fn an_empty_segment_is_damaged(rt: HostRuntime) -> Result<(), Fail> {
+    for (changes, class) in [
+        ([(0, 1, 0)].as_slice(), ImageClass::BadMagic),
+        ([(8, 4, 9)].as_slice(), ImageClass::UnsupportedVersion),
+        ([(16, 8, 160)].as_slice(), ImageClass::BadSize),
+        ([(80, 1, 1)].as_slice(), ImageClass::BadReserved),
+        ([(168, 8, 0)].as_slice(), ImageClass::BadTag),
+        ([(24, 8, 0)].as_slice(), ImageClass::BadFreeTree),
+        ([(0, 1, 0), (168, 8, 0)].as_slice(), ImageClass::BadMagic),
+        ([(144, 8, 0)].as_slice(), ImageClass::BadFreeTree),
+    ] {
+        let mut image = image_of(rt.alloc(), 176, &EMPTY)?;
+        change(image.as_mut_slice(), changes);
+        for piece in [1, 7, 4096] {
+            let found = cause(rt.alloc(), &image, 1024, piece)?;
+            assert_eq!(rt; found, Some(OpenError::Image(class)), "{changes:?}");
+        }
+        assert_eq!(rt;
+            answer(rt.alloc(), &image)?,
+            Err(SessionFault::Image(class))
+        );
+    }
+    Ok(())
+}
+
+#[test]
+fn a_name_is_damaged(rt: HostRuntime) -> Result<(), Fail> {
+    for (changes, class) in [
+        ([(192, 4, 99)].as_slice(), ImageClass::BadObject),
+        ([(0, 1, 0)].as_slice(), ImageClass::BadMagic),
+    ] {
+        let mut image = image_of(rt.alloc(), 1024, &NAMED)?;
+        change(image.as_mut_slice(), changes);
+        for piece in [1, 7, 4096] {
+            let found = cause(rt.alloc(), &image, 1024, piece)?;
+            assert_eq!(rt; found, Some(OpenError::Image(class)), "{changes:?}");
+        }
+        assert_eq!(rt;
+            answer(rt.alloc(), &image)?,
+            Err(SessionFault::Image(class))
+        );
+    }
+    Ok(())
+}
+
+#[test]
+fn two_names_are_damaged(rt: HostRuntime) -> Result<(), Fail> {
+    for (changes, class) in [
+        ([(152, 8, 40)].as_slice(), ImageClass::BadIndex),
+        (
+            [(152, 8, 40), (192, 4, 99)].as_slice(),
+            ImageClass::BadIndex,
+        ),
+    ] {
+        let mut image = image_of(rt.alloc(), 1024, &TWO_NAMES)?;
+        change(image.as_mut_slice(), changes);
+        for piece in [1, 7, 4096] {
+            let found = cause(rt.alloc(), &image, 1024, piece)?;
+            assert_eq!(rt; found, Some(OpenError::Image(class)), "{changes:?}");
+        }
+        assert_eq!(rt;
+            answer(rt.alloc(), &image)?,
+            Err(SessionFault::Image(class))
+        );
+    }
+    Ok(())
+}
+
+#[test]
+fn vectors_are_damaged(rt: HostRuntime) -> Result<(), Fail> {
+    for (changes, class) in [
+        (
+            [(312, 8, 18446744073709551560)].as_slice(),
+            ImageClass::SharedBlock,
+        ),
+        ([(224, 8, 2)].as_slice(), ImageClass::BadContainer),
+        (
+            [(216, 8, 1), (224, 8, 0), (232, 8, 0)].as_slice(),
+            ImageClass::OrphanBlock,
+        ),
+        (
+            [(192, 4, 99), (216, 8, 1), (224, 8, 0), (232, 8, 0)].as_slice(),
+            ImageClass::BadObject,
+        ),
+    ] {
+        let mut image = image_of(rt.alloc(), 1024, &VECTORS)?;
+        change(image.as_mut_slice(), changes);
+        for piece in [1, 7, 4096] {
+            let found = cause(rt.alloc(), &image, 1024, piece)?;
+            assert_eq!(rt; found, Some(OpenError::Image(class)), "{changes:?}");
+        }
+        assert_eq!(rt;
+            answer(rt.alloc(), &image)?,
+            Err(SessionFault::Image(class))
+        );
+    }
+    Ok(())
+}
+
+#[test]
+fn a_map_is_damaged(rt: HostRuntime) -> Result<(), Fail> {
+    for (changes, class) in [
+        ([(256, 8, 0)].as_slice(), ImageClass::SharedBlock),
+        ([(256, 8, 0), (209, 1, 1)].as_slice(), ImageClass::BadObject),
+        (
+            [(256, 8, 18446744073709551552)].as_slice(),
+            ImageClass::BadContainer,
+        ),
+        ([(224, 8, 2)].as_slice(), ImageClass::BadContainer),
+    ] {
+        let mut image = image_of(rt.alloc(), 1024, &PAIR)?;
+        change(image.as_mut_slice(), changes);
+        for piece in [1, 7, 4096] {
+            let found = cause(rt.alloc(), &image, 1024, piece)?;
+            assert_eq!(rt; found, Some(OpenError::Image(class)), "{changes:?}");
+        }
+        assert_eq!(rt;
+            answer(rt.alloc(), &image)?,
+            Err(SessionFault::Image(class))
+        );
+    }
+    Ok(())
+}
+
+#[test]
+fn what_has_not_come_is_refused_by_a_late_class(rt: HostRuntime) -> Result<(), Fail> {
+    for words in [
+        NAMED.as_slice(),
+        TWO_NAMES.as_slice(),
+        VECTORS.as_slice(),
+        PAIR.as_slice(),
+    ] {
+        let image = image_of(rt.alloc(), 1024, words)?;
+        match cause(rt.alloc(), &image, 1024, 4096)? {
+            Some(OpenError::Image(class)) => assert!(rt; class.number() >= 8, "{class}"),
+            other => assert!(rt; false, "{other:?}"),
+        }
+    }
+    Ok(())
+}
+
+#[test]
+fn an_empty_segment_is_opened(rt: HostRuntime) -> Result<(), Fail> {
+    let image = image_of(rt.alloc(), 176, &EMPTY)?;
+    for piece in [1, 7, 4096] {
+        assert_eq!(rt; cause(rt.alloc(), &image, 1024, piece)?, None);
+    }
+    assert_eq!(rt; answer(rt.alloc(), &image)?, Ok(()));
+    Ok(())
+}
+
+#[test]
+fn images_that_end_too_early_are_refused(rt: HostRuntime) -> Result<(), Fail> {
+    let truncated = Some(OpenError::Image(ImageClass::Truncated));
+    let small = image_of(rt.alloc(), 176, &EMPTY)?;
+    let front = small.as_slice().get(..143).unwrap_or(b"");
+    assert_eq!(rt; cause(rt.alloc(), front, 1024, 4096)?, truncated);
+    let mut image = image_of(rt.alloc(), 1024, &NAMED)?;
+    for len in 0..1024 {
+        let front = image.as_slice().get(..len).unwrap_or(b"");
+        assert_eq!(rt;
+            cause(rt.alloc(), front, 1024, 4096)?,
+            truncated,
+            "{len} bytes"
+        );
+        let small = if len < 24 {
+            truncated
+        } else {
+            Some(OpenError::RegionTooSmall)
+        };
+        assert_eq!(rt;
+            cause(rt.alloc(), front, 512, 4096)?,
+            small,
+            "{len} bytes of 512"
+        );
+    }
+    change(image.as_mut_slice(), &[(80, 1, 1)]);
+    let front = image.as_slice().get(..1000).unwrap_or(b"");
+    assert_eq!(rt; cause(rt.alloc(), front, 1024, 4096)?, truncated);
+    Ok(())
+}
+
+#[test]
+fn a_wrong_magic_comes_before_the_room(rt: HostRuntime) -> Result<(), Fail> {
+    let mut image = image_of(rt.alloc(), 1024, &NAMED)?;
+    change(image.as_mut_slice(), &[(0, 1, 0)]);
+    let found = cause(rt.alloc(), &image, 512, 4096)?;
+    assert_eq!(rt; found, Some(OpenError::Image(ImageClass::BadMagic)));
+    Ok(())
+}
+
+#[test]
+fn a_byte_behind_the_image_is_refused(rt: HostRuntime) -> Result<(), Fail> {
+    let image = image_of(rt.alloc(), 177, &EMPTY)?;
+    for piece in [1, 7, 4096] {
+        let found = cause(rt.alloc(), &image, 1024, piece)?;
+        assert_eq!(rt; found, Some(OpenError::Image(ImageClass::BadSize)));
+    }
+    Ok(())
+}

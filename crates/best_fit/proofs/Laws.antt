@@ -13,7 +13,7 @@ pub use Rattle.best_fit.proofs.Proper.{IsBlock, IsFirst, IsFirst-proper_from, in
 unfoldable pub use Rattle.best_fit.proofs.Proper.{IsHole}
 -- extents in order: one is put in or taken out
 pub use Rattle.best_fit.proofs.Order.{AllByRecursion-insert, AllByRecursion-insert_from, AllByRecursion-insert_new, AllByRecursion-others, insert-comm, list_any-insert, others-insert, others-insert_same}
-pub use Rattle.best_fit.proofs.Proper.{others-here, others-past}
+pub use Rattle.best_fit.proofs.Proper.{others-here, others-past, proper_from-hole, proper_from-reaches}
 -- what stays twice stays, and what of it is kept with a block less
 pub use Rattle.best_fit.proofs.Frames.{AllByRecursion-beside, IsBeside, SameBlock-trans, blocks-trans, keeps-insert, keeps-others, keeps-refl, keeps-trans}
 -- a block that was placed is live, with room for what was asked for, and so are those before it; and still where payloads change
@@ -37,8 +37,14 @@ pub use Rattle.best_fit.proofs.Replanting.{holds_closed}
 pub use Rattle.best_fit.proofs.Walks.{Here, Meets, first_here, meets, next_here, next_nearer, none_left, passed_on}
 unfoldable pub use Rattle.best_fit.proofs.Walks.{to_go}
 pub use Rattle.best_fit.proofs.Laid.{said_row}
+-- the fields of a node of a tree away from what changes
+pub use Rattle.best_fit.proofs.GapSetters.{cell_stays, beside_cell}
 -- the payload of a block in use: where it lies, what stays beside it, and bytes that lay out what they say
 pub use Rattle.best_fit.proofs.Linked.{block_aligned}
 pub use Rattle.best_fit.proofs.Writes.{block_payload, laid-heap, room_block}
 -- no gap is longer than the largest segment, and a number has no more digits than a greater one
 pub use Rattle.best_fit.proofs.Allocating.{bits-le, too_long}
+-- what stays and what is found where blocks are gone and others came
+pub use Rattle.best_fit.proofs.Spacing.{among, Differs, IsAlone, IsAmong, IsFresh, IsSound, Rising, all_of-insert, exchange-back, found-less, found-more, found-new, found-room, in_use-all, in_use-alone, keeps-all, live-rises, live-sound, read-same, rising-insert, room-less, same-trans, without-inserted, word-same, written-keeps}
+pub use Rattle.best_fit.proofs.Writes.{Room}
+pub use Rattle.best_fit.proofs.Exchanges.{IsRoomy, all-same-but, but-trans, exchanged-written, regrow-serves, regrown-live, roomy, written-but}

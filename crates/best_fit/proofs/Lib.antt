@@ -42,3 +42,5 @@ mod Writes
 mod Zeros
 mod Serving
 pub mod Laws
+mod Spacing
+mod Exchanges

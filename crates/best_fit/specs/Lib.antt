@@ -11,3 +11,4 @@ pub mod Table
 pub mod Tiling
 pub mod Pairs
 pub mod Requests
+pub mod Exchange

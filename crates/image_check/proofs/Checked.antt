@@ -1,8 +1,8 @@
 -- What the check of a whole image finds: its first class, or a supported directory.
-use Rattle.std.proofs.Common.{◌≡◌, refl, sym, ap, ◌∙◌, ℕ, ◌+◌, ◌≤◌, inl, inr, Bool, true, false, not, ◌&&◌, ◌||◌, List, [], ◌∷◌, length, arith}
+use Rattle.std.proofs.Common.{◌≡◌, refl, sym, ap, ◌∙◌, ℕ, inl, inr, Bool, true, false, not, ◌||◌, List, [], ◌∷◌, length, arith}
 use Rattle.std.specs.Prelude.{IsTrue, IsOk, is_some, Option, Some, None, Result, Ok, Err}
-use Rattle.std.specs.List.{list_all, list_any}
-use Rattle.std.proofs.lemmas.Bool.{and_from, and_left, and_right, both_ways, cases_Bool}
+use Rattle.std.specs.List.{list_any}
+use Rattle.std.proofs.lemmas.Bool.{both_ways, cases_Bool}
 use Rattle.raw_region.specs.Memory.{Cut, bytes_of}
 use Rattle.raw_region.specs.Format.{current}
 use Rattle.block_tags.specs.declared.tile.Role.{Role}
@@ -11,22 +11,22 @@ use Rattle.block_tags.specs.Format.{is_legal_size}
 use Rattle.block_tags.specs.Tiles.{has_tags, tiles_of}
 use Rattle.segment_manager.specs.State.{IsSegment}
 use Rattle.image_check.specs.declared.classes.ImageClass.{ImageClass}
-use Rattle.image_check.specs.declared.classes.ImageClass.TheVariants.{BadReserved, BadTag, BadFreeTree, BadIndex, BadObject, SharedBlock, BadContainer, OrphanBlock}
+use Rattle.image_check.specs.declared.classes.ImageClass.TheVariants.{BadTag, BadFreeTree, BadIndex, BadObject, SharedBlock, BadContainer, OrphanBlock}
 use Rattle.image_check.specs.EarlyTests.{has_free_tree, has_reserved, is_tiled}
 use Rattle.image_check.specs.ObjectTests.{has_indexes, has_objects}
 use Rattle.image_check.specs.Fields.{is_shared, is_orphaned, has_containers}
 use Rattle.image_check.specs.Checking.{FindsLate, late_by, late_class}
 use Rattle.image_check.specs.Classes.{are_bytes, class_of}
-use Rattle.image_check.specs.SupportedImages.{are_supported, has_frame, has_no_place, is_supported_image, is_supported_tile, supported_directory}
-use Rattle.image_check.specs.Opening.{IsClassFor, first, not_come, IsImage}
+use Rattle.image_check.specs.SupportedImages.{are_supported, has_frame}
+use Rattle.image_check.specs.Opening.{IsClassFor, first, not_come}
 use Rattle.image_check.specs.Owners.{entries_of}
 use Rattle.image_check.specs.Passes.{Finds, HasTiles, has_block, tiles_in}
 use Rattle.image_check.specs.Reading.{HasFront}
-use Rattle.image_check.proofs.Early.{tree-BadFreeTree, frame-no_early_class}
+use Rattle.image_check.proofs.Early.{tree-BadFreeTree}
 use Rattle.image_check.proofs.Filled.{HasFront-IsRight}
-use Rattle.image_check.proofs.FirstClass.{first-reserved, first-tag, first-tree, late-class}
+use Rattle.image_check.proofs.FirstClass.{first-tag, first-tree, late-class}
 use Rattle.image_check.proofs.Frame.{IsFrame-has_frame, has_frame-IsFrame, has_whole_size-HasWholeSize, HasWholeSize-has_whole_size}
-use Rattle.image_check.proofs.Supported.{supported_images, supported_image-complete}
+use Rattle.image_check.proofs.Supported.{tiles_tell_support}
 
 -- ---- the frame
 
@@ -131,31 +131,6 @@ module _ (b : List ℕ) where
   late-orphans d e f g (Ok u) h = late-none d e f g h
   late-orphans d e f g (Err k) h = late-orphan d e f g h.1 ∙ ap (λ (x : ImageClass). Some x) (sym h.0)
 
--- ---- the support
-
--- three tests
-module _ (b : List ℕ) where
-  abbrev p : Bool
-  p = has_no_place (bytes_of b) 32
-
-  abbrev q : Bool
-  q = has_no_place (bytes_of b) 56
-
-  abbrev t : Bool
-  t = list_all (is_supported_tile (bytes_of b)) (tiles_in b)
-
-  pub lacks-named : p ≡ false → false ≡ are_supported b
-  unfolding are_supported
-  lacks-named e = sym (and_left (p && q) t (and_left p q e))
-
-  pub lacks-unique : q ≡ false → false ≡ are_supported b
-  unfolding are_supported
-  lacks-unique e = sym (and_left (p && q) t (and_right p q e))
-
-  pub tiles-decide : p ≡ true → q ≡ true → t ≡ are_supported b
-  unfolding are_supported
-  tiles-decide e f = sym (ap (λ x. x && t) (and_from p q e f))
-
 -- ---- the memory
 
 -- tiles of which none is in use are no blocks
@@ -187,12 +162,10 @@ blocks-class b k h e = first (late-class b h ∙ e)
 
 -- an image that no class holds of, and whose directory has not come yet
 pub blocks-not_come : (b : List ℕ) → IsTrue (are_bytes b) → IsTrue (has_frame b) → late_class current (bytes_of b) (tiles_in b) ≡ None → are_supported b ≡ false → IsClassFor current b OrphanBlock
-unfolding is_supported_image
 blocks-not_come b small h e n =
     not_come (late-class b h ∙ e) (omega arith)
-    (λ d. both_ways (is_supported_image b) (and_right (has_frame b) (are_supported b) n) (supported_image-complete b d.0 small (record { denotes = d.1.denotes; supported = d.1.supported })))
+    (λ d. both_ways (are_supported b) n (sym ((tiles_tell_support b small).directory d.0 d.1.denotes) ∙ d.1.supported))
 
 -- and whose directory has
-pub blocks-segment : (b : List ℕ) → IsTrue (are_bytes b) → IsTrue (has_frame b) → are_supported b ≡ true → IsSegment b
-unfolding is_supported_image
-blocks-segment b small h e = (supported_directory b, (supported_images b small).sound (and_from (has_frame b) (are_supported b) h e))
+pub blocks-segment : (b : List ℕ) → IsTrue (are_bytes b) → IsTrue (has_frame b) → late_class current (bytes_of b) (tiles_in b) ≡ None → are_supported b ≡ true → IsSegment b
+blocks-segment b small h e k = (tiles_tell_support b small).segment.1 (late-class b h ∙ e, k)

@@ -13,7 +13,7 @@ use Rattle.image_check.specs.ObjectTests.{has_objects, is_object_tile, is_use, k
 use Rattle.image_check.specs.Fields.{has_containers, is_container, values}
 use Rattle.image_check.specs.Passes.{tiles_in, HasTiles}
 use Rattle.image_check.specs.Owners.{Blocks, IsWholeMarking}
-use Rattle.image_check.specs.Containers.{AreFollowed, IsReady, LiesInWindow, PaysFor, has_container, walk_rates, weigh_blocks, weight_below}
+use Rattle.image_check.specs.Containers.{AreFollowed, IsReady, LiesInWindow, PaysFor, has_container, container_walk_rates, weigh_blocks, weight_below}
 use Rattle.image_check.specs.Visits.{rate_of, weigh}
 use Rattle.image_check.proofs.ContainerWeights.{below-all}
 use Rattle.image_check.proofs.CountedFields.{Mem-Contains}
@@ -130,7 +130,7 @@ end-there at (t ∷ front) here back to row =
     let from : at + t.len ≡ t.offset + t.len = ap (λ n. n + t.len) (sym row.0) in
     end-there (t.offset + t.len) front here back to (subst (λ n. Row n (front ++ here ∷ back) to) from row.3)
 
-weigh-more : (front : List Tile) (here : Tile) (back : List Tile) → weigh walk_rates front + rate_of walk_rates here.use_of * (here.len / 16) ≤ weigh walk_rates (front ++ here ∷ back)
+weigh-more : (front : List Tile) (here : Tile) (back : List Tile) → weigh container_walk_rates front + rate_of container_walk_rates here.use_of * (here.len / 16) ≤ weigh container_walk_rates (front ++ here ∷ back)
 weigh-more [] here back = omega arith
 weigh-more (t ∷ front) here back = let rest = weigh-more front here back in omega arith
 
@@ -138,13 +138,13 @@ weigh-more (t ∷ front) here back = let rest = weigh-more front here back in om
 pub record IsPaid (format : ℕ) (c : Cut) (es : Blocks) (old now : ℕ) (front : List Tile) : Type 0 where
   pub right : list_all (has_container format (bytes_of c.bytes) (tiles_in c.bytes)) front ≡ true
   pub least : old ≤ now
-  pub most : now ≤ old + (weigh walk_rates front + weight_below (end_of 128 front) es)
+  pub most : now ≤ old + (weigh container_walk_rates front + weight_below (end_of 128 front) es)
 
 pub paid-start : (format : ℕ) (c : Cut) (es : Blocks) (old : ℕ) → IsPaid format c es old old []
 paid-start format c es old = record { right = refl; least = omega arith; most = omega arith }
 
 module _ (format : ℕ) (c : Cut) (es : Blocks) (old now new : ℕ) (here : Tile) (a : WalksAt c (IsPaid format c es old now) here) (p : PaysFor es here now new) where
-  here-paid : new ≤ old + (weigh walk_rates a.front + rate_of walk_rates here.use_of * (here.len / 16) + weight_below (here.offset + here.len) es)
+  here-paid : new ≤ old + (weigh container_walk_rates a.front + rate_of container_walk_rates here.use_of * (here.len / 16) + weight_below (here.offset + here.len) es)
   here-paid =
       let most = a.kept.most in
       let at : end_of 128 a.front ≡ here.offset = end-there 128 a.front here a.back (length c.bytes - 16) (said_row c (a.front ++ here ∷ a.back) a.said) in
@@ -161,12 +161,12 @@ module _ (format : ℕ) (c : Cut) (es : Blocks) (old now new : ℕ) (here : Tile
       let same : weight_below (end_of 128 (a.front ++ here ∷ [])) es ≡ weight_below (here.offset + here.len) es = ap (λ n. weight_below n es) (end-more 128 a.front here) in
       record { right = all-more (has_container format (bytes_of c.bytes) (tiles_in c.bytes)) a.front here a.kept.right h; least = omega arith; most = omega arith }
 
-  pub paid-stop : (old ≤ new) × (new ≤ old + (weigh walk_rates (tiles_in c.bytes) + weigh_blocks es))
+  pub paid-stop : (old ≤ new) × (new ≤ old + (weigh container_walk_rates (tiles_in c.bytes) + weigh_blocks es))
   paid-stop =
       let least = a.kept.least in
       let raised = p.0 in
       let paid = here-paid in
-      let all : weigh walk_rates (tiles_in c.bytes) ≡ weigh walk_rates (a.front ++ here ∷ a.back) = ap (weigh walk_rates) (tiles_are_read_off c (a.front ++ here ∷ a.back) a.said) in
+      let all : weigh container_walk_rates (tiles_in c.bytes) ≡ weigh container_walk_rates (a.front ++ here ∷ a.back) = ap (weigh container_walk_rates) (tiles_are_read_off c (a.front ++ here ∷ a.back) a.said) in
       let more = weigh-more a.front here a.back in
       let most = below-all (here.offset + here.len) es in
       (omega arith, omega arith)
@@ -176,7 +176,7 @@ module _ (format : ℕ) (c : Cut) (es : Blocks) (old now new : ℕ) (here : Tile
       let test = has_container format (bytes_of c.bytes) (tiles_in c.bytes) in
       ap (list_all test) (tiles_are_read_off c (a.front ++ here ∷ a.back) a.said) ∙ all-fails test a.front here a.back h
 
-pub paid-end : (format : ℕ) (c : Cut) (es : Blocks) (old now : ℕ) → IsPaid format c es old now (tiles_in c.bytes) → (old ≤ now) × (now ≤ old + (weigh walk_rates (tiles_in c.bytes) + weigh_blocks es))
+pub paid-end : (format : ℕ) (c : Cut) (es : Blocks) (old now : ℕ) → IsPaid format c es old now (tiles_in c.bytes) → (old ≤ now) × (now ≤ old + (weigh container_walk_rates (tiles_in c.bytes) + weigh_blocks es))
 paid-end format c es old now p =
     let least = p.least in
     let most = p.most in

@@ -13,7 +13,7 @@ use Rattle.image_check.specs.declared.owners.Owner.{Owner}
 use Rattle.image_check.specs.FreeLaws.{small_size}
 use Rattle.image_check.specs.Passes.{tiles_in, HasTiles}
 use Rattle.image_check.specs.Owners.{Blocks, entries_of, entry_of, frames, new_block}
-use Rattle.image_check.specs.Containers.{block_rates, block_weight, is_rooted_below, rooted_weight, walk_rates, weigh_blocks, weight_below}
+use Rattle.image_check.specs.Containers.{container_block_rates, block_weight, is_rooted_below, rooted_weight, container_walk_rates, weigh_blocks, weight_below}
 use Rattle.image_check.specs.MapNodes.{is_rooted}
 use Rattle.image_check.specs.Visits.{container_rates, rate_of, weigh}
 use Rattle.image_check.proofs.TilePlaces.{image-row}
@@ -71,7 +71,7 @@ rooted-all at (e ∷ es) =
 -- ---- and those are the tiles in use
 
 frame-weight : ℕ × Role × ℕ → ℕ
-frame-weight f = rate_of block_rates (Some f.1) * (f.2 / 16)
+frame-weight f = rate_of container_block_rates (Some f.1) * (f.2 / 16)
 
 weigh-frames : List (ℕ × Role × ℕ) → ℕ
 weigh-frames [] = 0
@@ -91,12 +91,12 @@ unfolding maybe-weight
 cons-weigh None es = omega arith
 cons-weigh (Some e) es = refl
 
-entry-weighs : (offset len : ℕ) (u : Option Role) → maybe-weight (elim u [ None ↦ None | Some role ↦ Some (offset + 16, new_block role len) ]) ≤ rate_of block_rates u * (len / 16)
+entry-weighs : (offset len : ℕ) (u : Option Role) → maybe-weight (elim u [ None ↦ None | Some role ↦ Some (offset + 16, new_block role len) ]) ≤ rate_of container_block_rates u * (len / 16)
 unfolding maybe-weight
 entry-weighs offset len None = omega arith
 entry-weighs offset len (Some role) = omega arith
 
-entries-weigh : (ts : List Tile) → weigh_blocks (entries_of ts) ≤ weigh block_rates ts
+entries-weigh : (ts : List Tile) → weigh_blocks (entries_of ts) ≤ weigh container_block_rates ts
 entries-weigh [] = omega arith
 entries-weigh (t ∷ ts) =
     let rest = entries-weigh ts in
@@ -104,7 +104,7 @@ entries-weigh (t ∷ ts) =
     let both = cons-weigh (entry_of t) (entries_of ts) in
     omega arith
 
-pub blocks-weigh : (ts : List Tile) (es : Blocks) → frames es ≡ frames (entries_of ts) → weigh_blocks es ≤ weigh block_rates ts
+pub blocks-weigh : (ts : List Tile) (es : Blocks) → frames es ≡ frames (entries_of ts) → weigh_blocks es ≤ weigh container_block_rates ts
 blocks-weigh ts es e =
     let same : weigh_blocks es ≡ weigh_blocks (entries_of ts) = by-frames es ∙ (ap weigh-frames e ∙ sym (by-frames (entries_of ts))) in
     let all = entries-weigh ts in
@@ -112,14 +112,14 @@ blocks-weigh ts es e =
 
 -- ---- which are no more than the image
 
-rate-most : (u : Option Role) → rate_of block_rates u ≤ 16
+rate-most : (u : Option Role) → rate_of container_block_rates u ≤ 16
 rate-most None = omega arith
 rate-most (Some Object) = omega arith
 rate-most (Some Index) = omega arith
 rate-most (Some Storage) = omega arith
 rate-most (Some Node) = omega arith
 
-rate-sum : (u : Option Role) → rate_of walk_rates u + rate_of block_rates u ≤ rate_of container_rates u
+rate-sum : (u : Option Role) → rate_of container_walk_rates u + rate_of container_block_rates u ≤ rate_of container_rates u
 rate-sum None = omega arith
 rate-sum (Some Object) = omega arith
 rate-sum (Some Index) = omega arith
@@ -135,11 +135,11 @@ times-sum r s t n l =
     let most = times-most (r + s) t n l in
     omega arith
 
-row-weigh : (from : ℕ) (ts : List Tile) (to : ℕ) → Row from ts to → from + weigh block_rates ts ≤ to
+row-weigh : (from : ℕ) (ts : List Tile) (to : ℕ) → Row from ts to → from + weigh container_block_rates ts ≤ to
 row-weigh from [] to row = omega arith
 row-weigh from (t ∷ ts) to row =
     let rest = row-weigh (from + t.len) ts to row.3 in
-    let here = times-most (rate_of block_rates t.use_of) 16 (t.len / 16) (rate-most t.use_of) in
+    let here = times-most (rate_of container_block_rates t.use_of) 16 (t.len / 16) (rate-most t.use_of) in
     omega arith
 
 pub few-blocks : (b : List ℕ) (es : Blocks) → HasTiles b → frames es ≡ frames (entries_of (tiles_in b)) → weigh_blocks es ≤ 1073741824
@@ -150,9 +150,9 @@ few-blocks b es h e =
     let least = (legal_size (length b) h.size).low in
     omega arith
 
-pub both-weigh : (ts : List Tile) → weigh walk_rates ts + weigh block_rates ts ≤ weigh container_rates ts
+pub both-weigh : (ts : List Tile) → weigh container_walk_rates ts + weigh container_block_rates ts ≤ weigh container_rates ts
 both-weigh [] = omega arith
 both-weigh (t ∷ ts) =
     let rest = both-weigh ts in
-    let here = times-sum (rate_of walk_rates t.use_of) (rate_of block_rates t.use_of) (rate_of container_rates t.use_of) (t.len / 16) (rate-sum t.use_of) in
+    let here = times-sum (rate_of container_walk_rates t.use_of) (rate_of container_block_rates t.use_of) (rate_of container_rates t.use_of) (t.len / 16) (rate-sum t.use_of) in
     omega arith

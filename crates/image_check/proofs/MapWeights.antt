@@ -11,8 +11,8 @@ use Rattle.block_tags.specs.declared.tile.Role.TheVariants.{Node}
 use Rattle.seg_types.specs.declared.kinds.ScalarKind.{ScalarKind}
 use Rattle.image_check.specs.declared.owners.Block.{Block}
 use Rattle.image_check.specs.Owners.{Blocks, block_at}
-use Rattle.image_check.specs.Containers.{block_rates, block_weight, rooted_weight}
-use Rattle.image_check.specs.Visits.{rate_of}
+use Rattle.image_check.specs.Containers.{container_block_rates, block_weight, rooted_weight}
+use Rattle.image_check.specs.Visits.{Adds, rate_of}
 use Rattle.image_check.specs.MapNodes.{is_node_block, is_pair, is_rooted, kept_link, pair_cells, pair_len}
 use Rattle.image_check.specs.MapLaws.{is_pair-Pair}
 use Rattle.image_check.proofs.MapPairs.{size-least}
@@ -70,7 +70,7 @@ node-weight root len b l h =
     let two = and_parts (same_role Node b.role && nat_le len b.len) (is_rooted root b.owner) h in
     let one = and_parts (same_role Node b.role) (nat_le len b.len) two.0 in
     let long = leb-true len b.len one.1 in
-    let weight : block_weight b ≡ 13 * (b.len / 16) = ap (λ r. rate_of block_rates (Some r) * (b.len / 16)) (sym (same_role-is Node b.role one.0)) in
+    let weight : block_weight b ≡ 13 * (b.len / 16) = ap (λ r. rate_of container_block_rates (Some r) * (b.len / 16)) (sym (same_role-is Node b.role one.0)) in
     let counted = cond-true (is_rooted root b.owner) (block_weight b) 0 two.1 in
     omega arith
 
@@ -99,3 +99,11 @@ check-visits c es root k v link steps l f =
     let b = size-least v in
     let weight = nodes-weigh root (pair_len k v) es (omega arith) in
     omega arith
+
+-- the two visits in front, and those of the check
+pub map-visits : (c : Cut) (es : Blocks) (root : ℕ) (k v : ScalarKind) (link : Option ℕ) (steps old first new : ℕ) → leads (is_pair c es root k v) link ≡ true
+    → ((ns : List ℕ) → IsClosed (pair_cells c es root k v) ns → leads (λ n. is_in n ns) link ≡ true → steps ≤ 5 * length ns + 5)
+    → first ≡ old + 2 → new ≡ first + 5 * steps → Adds (27 + rooted_weight root es) old new
+map-visits c es root k v link steps old first new l f two more =
+    let spent = check-visits c es root k v link steps l f in
+    (omega arith, omega arith)

@@ -11,7 +11,7 @@ use Rattle.seg_types.specs.declared.kinds.Kind.{Kind}
 use Rattle.seg_types.specs.declared.kinds.Kind.TheVariants.{Scalar, Text, Vector, Map, Texts}
 use Rattle.seg_index.specs.Keys.{count_at}
 use Rattle.image_check.specs.ObjectTests.{has_name, has_padding, is_indexed, is_object_tile, is_use, is_value_in, kind_at, payload, value_offset}
-use Rattle.image_check.specs.Containers.{is_scalar, walk_rates}
+use Rattle.image_check.specs.Containers.{is_scalar, container_walk_rates}
 use Rattle.image_check.specs.Visits.{rate_of}
 use Rattle.image_check.proofs.Standing.{same_role-is}
 
@@ -43,16 +43,16 @@ value-behind m at = omega arith
 
 -- ---- what the walk may take
 
-pub walk-least : (u : Option Role) (n : ℕ) → 1 ≤ n → 1 ≤ rate_of walk_rates u * n
+pub walk-least : (u : Option Role) (n : ℕ) → 1 ≤ n → 1 ≤ rate_of container_walk_rates u * n
 walk-least None n l = omega arith
 walk-least (Some Object) n l = omega arith
 walk-least (Some Index) n l = omega arith
 walk-least (Some Storage) n l = omega arith
 walk-least (Some Node) n l = omega arith
 
-object-rate : (u : Option Role) → elim u [ None ↦ false | Some r ↦ same_role Object r ] ≡ true → rate_of walk_rates u ≡ 12
+object-rate : (u : Option Role) → elim u [ None ↦ false | Some r ↦ same_role Object r ] ≡ true → rate_of container_walk_rates u ≡ 12
 object-rate None h = absurd (false≢true h)
-object-rate (Some r) h = ap (λ x. rate_of walk_rates (Some x)) (sym (same_role-is Object r h))
+object-rate (Some r) h = ap (λ x. rate_of container_walk_rates (Some x)) (sym (same_role-is Object r h))
 
-pub walk-object : (t : Tile) → is_use Object t ≡ true → rate_of walk_rates t.use_of * (t.len / 16) ≡ 12 * (t.len / 16)
+pub walk-object : (t : Tile) → is_use Object t ≡ true → rate_of container_walk_rates t.use_of * (t.len / 16) ≡ 12 * (t.len / 16)
 walk-object t h = ap (λ r. r * (t.len / 16)) (object-rate t.use_of h)

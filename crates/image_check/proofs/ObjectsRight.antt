@@ -11,7 +11,7 @@ use Rattle.block_tags.specs.declared.tile.Tile.{Tile}
 use Rattle.seg_types.specs.declared.kinds.Kind.{Kind}
 use Rattle.seg_index.specs.Keys.{class_at, code_before, count_at, name_before, name_len_at}
 use Rattle.image_check.specs.ObjectTests.{has_index, has_indexes, are_distinct, has_name, has_objects, has_padding, is_indexed, is_object_tile, is_use, is_value_in, kind_at, object_tiles, rise_by, targets, tile_of, value_offset}
-use Rattle.image_check.specs.ObjectPasses.{HaveHeads, are_ranked, entry_rates, has_value, is_right_tile, is_value_room, is_spelled, walk_rates}
+use Rattle.image_check.specs.ObjectPasses.{HaveHeads, are_ranked, entry_rates, has_value, is_right_tile, is_value_room, is_spelled, object_walk_rates}
 use Rattle.image_check.specs.Passes.{HasTiles, tiles_in}
 use Rattle.image_check.specs.Visits.{object_rates, rate_of, weigh}
 use Rattle.image_check.proofs.Indexed.{index-said}
@@ -132,7 +132,7 @@ unique-index m ts h = (and_parts (has_index m ts 32) (has_index m ts 56) (and_pa
 
 -- ---- visits
 
-rates-sum : (o : Option Role) (x : ℕ) → rate_of object_rates o * x ≡ rate_of walk_rates o * x + rate_of entry_rates o * x
+rates-sum : (o : Option Role) (x : ℕ) → rate_of object_rates o * x ≡ rate_of object_walk_rates o * x + rate_of entry_rates o * x
 rates-sum None x = omega arith
 rates-sum (Some Object) x = omega arith
 rates-sum (Some Index) x = omega arith
@@ -140,6 +140,6 @@ rates-sum (Some Storage) x = omega arith
 rates-sum (Some Node) x = omega arith
 
 -- the walk and the entries together
-pub weights-sum : (ts : List Tile) → weigh object_rates ts ≡ weigh walk_rates ts + weigh entry_rates ts
+pub weights-sum : (ts : List Tile) → weigh object_rates ts ≡ weigh object_walk_rates ts + weigh entry_rates ts
 weights-sum [] = refl
 weights-sum (t ∷ ts) = let h = rates-sum t.use_of (t.len / 16) in let r = weights-sum ts in omega arith

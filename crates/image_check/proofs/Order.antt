@@ -1,23 +1,10 @@
--- Extents that stand by offset are sorted already.
-use Rattle.std.proofs.Common.{◌≡◌, refl, ap, ◌∙◌, ℕ, ◌+◌, List, [], ◌∷◌, map, arith}
-use Rattle.std.specs.Prelude.{nat_lt, nat_le, IsTrue}
-use Rattle.std.proofs.lemmas.Bool.{cond-true, lt-ltb, and_parts, and_from, leb-true, le-leb}
+-- Objects that stand by offset, and the blocks that they are in.
+use Rattle.std.proofs.Common.{refl, ℕ, ◌+◌, List, [], ◌∷◌, map}
+use Rattle.std.specs.Prelude.{nat_le, IsTrue}
+use Rattle.std.proofs.lemmas.Bool.{and_parts, and_from, leb-true, le-leb}
 use Rattle.best_fit.specs.Extents.{Extent}
-use Rattle.best_fit.specs.Fit.{insert}
-use Rattle.segment_manager.specs.Directory.{Object, sorted, rises_from}
+use Rattle.segment_manager.specs.Directory.{Object, rises_from}
 use Rattle.segment_manager.proofs.Laws.{Rising}
-
--- an extent before all others is put first
-insert-first : (x : Extent) (xs : List Extent) → Rising (x.offset + 1) xs → insert x xs ≡ x ∷ xs
-insert-first x [] h = refl
-insert-first x (y ∷ ys) h = let before = h.0 in cond-true (nat_lt x.offset y.offset) (x ∷ y ∷ ys) (y ∷ insert x ys) (lt-ltb x.offset y.offset (omega arith))
-
--- extents that stand by offset are sorted
-pub sorted-rising : (n : ℕ) (xs : List Extent) → Rising n xs → sorted xs ≡ xs
-sorted-rising n [] h = refl
-sorted-rising n (x ∷ xs) h = ap (insert x) (sorted-rising (x.offset + 1) xs h.1) ∙ insert-first x xs h.1
-
--- ---- objects by offset
 
 -- the block of an object
 abbrev pub extent_of : Object → Extent

@@ -1,9 +1,9 @@
 -- The storage block of a container: where it lies, and what is counted for it.
-use Rattle.std.proofs.Common.{◌≡◌, refl, sym, ap, ◌∙◌, ℕ, ◌+◌, ◌*◌, ◌/◌, ◌%◌, ◌<◌, ◌≤◌, inl, inr, true, false, nat_eq, nat_le, List, [], ◌∷◌, length, arith, ◌==◌}
+use Rattle.std.proofs.Common.{◌≡◌, refl, sym, ap, subst, ◌∙◌, ℕ, Bool, ◌+◌, ◌*◌, ◌/◌, ◌%◌, ◌<◌, ◌≤◌, inl, inr, true, false, nat_eq, nat_le, List, [], ◌∷◌, length, arith, ◌==◌}
 use Rattle.std.specs.Prelude.{Option, Some, None, is_none, if◌then◌else◌}
 use Rattle.std.specs.Map.{lookup}
 use Rattle.std.proofs.lemmas.Bool.{false≢true, cases_Bool, eq-eqb, leb-true, cond-true, cond-false}
-use Rattle.raw_region.specs.Memory.{bytes_of}
+use Rattle.raw_region.specs.Memory.{bytes_of, word_at}
 use Rattle.offset_link.specs.Link.{link_at}
 use Rattle.block_tags.specs.declared.tile.Role.TheVariants.{Object, Storage}
 use Rattle.block_tags.specs.declared.tile.Tile.{Tile}
@@ -13,7 +13,7 @@ use Rattle.image_check.specs.ObjectTests.{is_table_link, leads_to, tile_of}
 use Rattle.image_check.specs.Passes.{tiles_in, HasTiles}
 use Rattle.image_check.specs.Owners.{Blocks, AreBlocks, IsNoted, block_at, owner_at, owner_in}
 use Rattle.image_check.specs.Owners as owners
-use Rattle.image_check.specs.Containers.{block_rates, block_weight, rooted_weight}
+use Rattle.image_check.specs.Containers.{container_block_rates, block_weight, rooted_weight}
 use Rattle.image_check.specs.Visits.{rate_of}
 use Rattle.image_check.specs.MapNodes.{is_rooted}
 use Rattle.image_check.proofs.TilePlaces.{named}
@@ -49,7 +49,7 @@ storage-tile b es at each capacity block (Some t) tiles a noted leads e h =
     let owned : w.block.owner ≡ Some (owners.owner at at) = sym (cond-false (same_role w.block.role Object) None w.block.owner (ap (λ r. same_role r Object) w.role_is)) ∙ (sym (ap owner_in w.is) ∙ met) in
     let rooted : is_rooted at w.block.owner ≡ true = ap (is_rooted at) owned ∙ eq-eqb at at refl in
     let most = one-weight at block w.block es w.is rooted in
-    let weight : block_weight w.block ≡ 16 * (w.block.len / 16) = ap (λ r. rate_of block_rates (Some r) * (w.block.len / 16)) w.role_is in
+    let weight : block_weight w.block ≡ 16 * (w.block.len / 16) = ap (λ r. rate_of container_block_rates (Some r) * (w.block.len / 16)) w.role_is in
     let len = w.len in
     let long = leb-true (each * capacity + 16) t.len h in
     let place = n.at in
@@ -69,3 +69,11 @@ storage-there b es at each capacity block tiles a noted leads h = elim (cases_Bo
   where
     positive : (n : ℕ) → (n == 0) ≡ false → 0 < n
     positive n h = grind arith
+
+-- the same of the words of a container as they were read
+pub storage-read : (b : List ℕ) (es : Blocks) (at each capacity block : ℕ) (link : Option ℕ) (is : Bool) → HasTiles b → AreBlocks (tiles_in b) es
+    → (0 < word_at (bytes_of b) (at + 16) → IsNoted (bytes_of b) (tiles_in b) es Storage at at) → capacity ≡ word_at (bytes_of b) (at + 16)
+    → link ≡ link_at (bytes_of b) at → link ≡ Some block → is ≡ is_table_link (tiles_in b) Storage link each capacity → is ≡ true → StorageThere b es at each capacity block
+storage-read b es at each capacity block link is tiles a noted read leads some value met =
+    storage-there b es at each capacity block tiles a (λ h. noted (subst (λ n. 0 < n) read h)) (sym leads ∙ some)
+    (ap (λ o. is_table_link (tiles_in b) Storage o each capacity) (sym some) ∙ (sym value ∙ met))

@@ -15,15 +15,15 @@ use Rattle.image_check.specs.Owners.{Blocks, AreBlocks, IsNoted, IsFollowed, own
 use Rattle.image_check.specs.Visits.{Rates, rate_of}
 
 -- what is counted for the blocks of containers, by the place from which links lead there
-abbrev pub block_rates : Rates
-block_rates = record { free = 0; object = 0; index = 0; storage = 16; node = 13 }
+abbrev pub container_block_rates : Rates
+container_block_rates = record { free = 0; object = 0; index = 0; storage = 16; node = 13 }
 
 -- and for the walk over the tiles and objects
-abbrev pub walk_rates : Rates
-walk_rates = record { free = 1; object = 12; index = 1; storage = 1; node = 1 }
+abbrev pub container_walk_rates : Rates
+container_walk_rates = record { free = 1; object = 12; index = 1; storage = 1; node = 1 }
 
 abbrev pub block_weight : Block → ℕ
-block_weight b = rate_of block_rates (Some b.role) * (b.len / 16)
+block_weight b = rate_of container_block_rates (Some b.role) * (b.len / 16)
 
 -- all blocks together
 abbrev pub weigh_blocks : Blocks → ℕ
@@ -82,4 +82,4 @@ pub record IsReady (format : ℕ) (m : Memory) (ts : List Tile) (es : Blocks) (t
 
 -- a look at a tile is paid by the tile and by the blocks to which links lead from it
 abbrev pub PaysFor : Blocks → Tile → ℕ → ℕ → Type 0
-PaysFor es t old new = (old ≤ new) × (new + weight_below t.offset es ≤ old + rate_of walk_rates t.use_of * (t.len / 16) + weight_below (t.offset + t.len) es)
+PaysFor es t old new = (old ≤ new) × (new + weight_below t.offset es ≤ old + rate_of container_walk_rates t.use_of * (t.len / 16) + weight_below (t.offset + t.len) es)

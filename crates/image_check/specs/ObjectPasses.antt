@@ -62,8 +62,8 @@ LeadToHeads m block count size = (i n : ℕ) → i < count → link_at m (block 
 -- ---- visits
 
 -- of the walk over the objects
-abbrev pub walk_rates : Rates
-walk_rates = record { free = 1; object = 22; index = 1; storage = 1; node = 1 }
+abbrev pub object_walk_rates : Rates
+object_walk_rates = record { free = 1; object = 22; index = 1; storage = 1; node = 1 }
 
 -- of both indexes
 abbrev pub entry_rates : Rates

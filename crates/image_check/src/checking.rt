@@ -51,7 +51,7 @@ pub fn check(alloc: Global, window: &Window, visits: &mut Visits) -> Result<(), 
     if let Err(class) = check_blocks(window, &mut owners, visits) {
         return Err(CheckError::Class(class));
     }
-    if !is_supported(window, all_bytes(window), visits) {
+    if !is_supported(window, visits) {
         return Err(CheckError::Class(ImageClass::OrphanBlock));
     }
     Ok(())
@@ -65,6 +65,7 @@ pub fn check(alloc: Global, window: &Window, visits: &mut Visits) -> Result<(), 
 fn check_frame(window: &Window, visits: &mut Visits) -> Result<(), ImageClass>
     requires { HasFront current window.now }
     ensures finds { MatchResult result (λ done. IsTrue (has_frame window.now.bytes)) (λ class. class_of current window.now.bytes ≡ Some class) }
+    ensures bytes { OnOk result (IsTrue (are_bytes window.now.bytes)) }
     ensures visits { OnOk result (Spends frame_rates 51 window.now.bytes visits.old visits.new) }
     ensures most { OnErr result (IsRaisedFor (length window.now.bytes) visits.old visits.new) }
 {

@@ -2,23 +2,22 @@
 ghost use Rattle.std.specs.Prelude.{◌≡◌, ◌+◌, ◌<◌, ◌≤◌, ◌%◌, ◌^◌, Contains, true, false, length};
 ghost use Rattle.std.specs.List.{list_all};
 ghost use Rattle.raw_region.specs.Memory.{bytes_of};
-ghost use Rattle.image_check.specs.ObjectTests.{has_objects, is_use};
+ghost use Rattle.image_check.specs.ObjectTests.{has_objects};
 ghost use Rattle.image_check.specs.Fields.{has_containers, is_container};
 ghost use Rattle.image_check.specs.Owners.{IsWholeMarkingOf};
-ghost use Rattle.image_check.specs.Containers.{AreFollowed, IsLinkNoted, IsReady, LiesInWindow, PaysFor, has_container, is_scalar, rooted_weight, walk_rates, weigh_blocks, weight_below};
+ghost use Rattle.image_check.specs.Containers.{AreFollowed, IsLinkNoted, IsReady, LiesInWindow, PaysFor, has_container, is_scalar, rooted_weight, container_walk_rates, weigh_blocks, weight_below};
 ghost use Rattle.image_check.specs.Passes.{Finds, HasTiles, Spends, tiles_in};
 ghost use Rattle.image_check.specs.Visits.{Adds, container_rates, weigh};
 ghost use Rattle.image_check.specs.declared.classes.ImageClass.TheVariants.{BadContainer};
-ghost use Rattle.block_tags.specs.declared.tile.Role.TheVariants.{Object};
 ghost use Rattle.block_tags.specs.declared.tile.Tile.{Tile};
 
 use crate::arrays::{is_array, is_storage};
 use crate::classes::ImageClass;
 use crate::heads::{kind_of, value_of};
 use crate::maps::is_map;
-use crate::owners::{Block, Owners, is_same};
+use crate::owners::{Block, Owners, is_object};
 use crate::visits::Visits;
-use block_tags::{Role, TAG, Tile, first, next};
+use block_tags::{TAG, Tile, first, next};
 use indexmap::IndexMap;
 use raw_region::Window;
 use seg_types::{Kind, ScalarKind};
@@ -47,16 +46,6 @@ fn is_right(
         Kind::Vector(element) => is_storage(window, blocks, visits, element, at),
         Kind::Map(key, value) => is_map(window, blocks, visits, key, value, at),
         Kind::Texts => is_array(window, blocks, visits, at),
-    }
-}
-
-/// Whether the tile is that of an object.
-fn is_object(tile: Tile) -> bool
-    ensures { result ≡ is_use Object tile }
-{
-    match tile.use_of {
-        Some(role) => is_same(Role::Object, role),
-        None => false,
     }
 }
 
@@ -103,7 +92,7 @@ fn are_right(
     requires few { weigh_blocks blocks.now.entries ≤ 2 ^ 40 }
     ensures value { result ≡ list_all (has_container format (bytes_of window.now.bytes) (tiles_in window.now.bytes)) (tiles_in window.now.bytes) }
     ensures least { visits.old ≤ visits.new }
-    ensures most { visits.new ≤ visits.old + (weigh walk_rates (tiles_in window.now.bytes) + weigh_blocks blocks.now.entries) }
+    ensures most { visits.new ≤ visits.old + (weigh container_walk_rates (tiles_in window.now.bytes) + weigh_blocks blocks.now.entries) }
 {
     let mut tile = first(window);
     'tiles: while let Some(here) = tile {

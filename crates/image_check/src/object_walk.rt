@@ -4,7 +4,7 @@ ghost use Rattle.std.specs.List.{list_all};
 ghost use Rattle.raw_region.specs.Memory.{bytes_of};
 ghost use Rattle.image_check.specs.declared.classes.ImageClass.TheVariants.{BadObject};
 ghost use Rattle.image_check.specs.ObjectTests.{has_indexes, has_objects};
-ghost use Rattle.image_check.specs.ObjectPasses.{is_object_at, is_right_tile, walk_rates};
+ghost use Rattle.image_check.specs.ObjectPasses.{is_object_at, is_right_tile, object_walk_rates};
 ghost use Rattle.image_check.specs.Entered.{AreEntered};
 ghost use Rattle.image_check.specs.Passes.{HasTiles, Finds, Spends, tiles_in};
 ghost use Rattle.image_check.specs.Visits.{Adds, object_rates, rate_of};
@@ -63,7 +63,7 @@ fn are_right(
     requires tiles { HasTiles window.now.bytes }
     requires entered { AreEntered (bytes_of window.now.bytes) blocks.now.entries }
     ensures is { result ≡ list_all (is_right_tile format (bytes_of window.now.bytes)) (tiles_in window.now.bytes) }
-    ensures spends { Spends walk_rates 0 window.now.bytes visits.old visits.new }
+    ensures spends { Spends object_walk_rates 0 window.now.bytes visits.old visits.new }
 {
     let mut tile = first(window);
     'tiles: while let Some(here) = tile {
@@ -88,7 +88,7 @@ fn is_right(
     requires within { tile.offset + tile.len ≤ length window.now.bytes }
     requires entered { AreEntered (bytes_of window.now.bytes) blocks.now.entries }
     ensures is { result ≡ is_right_tile format (bytes_of window.now.bytes) tile }
-    ensures spends { Adds (rate_of walk_rates tile.use_of * (tile.len / 16)) visits.old visits.new }
+    ensures spends { Adds (rate_of object_walk_rates tile.use_of * (tile.len / 16)) visits.old visits.new }
 {
     visits.visit();
     match tile.use_of {

@@ -3,12 +3,13 @@ ghost use Rattle.std.specs.Prelude.{◌≡◌, nat_eq, ◌+◌, IsSome, List, op
 ghost use Rattle.std.specs.Map.{set_value};
 ghost use Rattle.block_tags.specs.declared.tile.Tile.{Tile};
 ghost use Rattle.best_fit.specs.Table.{same_role};
-ghost use Rattle.image_check.specs.ObjectTests.{good_for};
+ghost use Rattle.block_tags.specs.declared.tile.Role.TheVariants.{Object};
+ghost use Rattle.image_check.specs.ObjectTests.{good_for, is_use};
 ghost use Rattle.image_check.specs.Owners.{AreBlocks, block_at};
 ghost use Rattle.image_check.specs.Visits.{Adds};
 
 use crate::visits::Visits;
-use block_tags::Role;
+use block_tags::{Role, Tile};
 use indexmap::IndexMap;
 
 /// A link that leads to a block.
@@ -75,6 +76,16 @@ pub(crate) fn is_same(a: Role, b: Role) -> bool
     ensures { result ≡ same_role a b }
 {
     a == b
+}
+
+/// Whether the tile is that of an object.
+pub(crate) fn is_object(tile: Tile) -> bool
+    ensures { result ≡ is_use Object tile }
+{
+    match tile.use_of {
+        Some(role) => is_same(Role::Object, role),
+        None => false,
+    }
 }
 
 /// How long the tile is that the link is good for, with its tag. At most one visit.

@@ -9,16 +9,14 @@ ghost use Rattle.image_check.specs.Owners.{IsIndexPlace, IsMarkingOf, IsSharedIn
 ghost use Rattle.image_check.specs.Passes.{Finds, HasTiles, Spends, tiles_in};
 ghost use Rattle.image_check.specs.Sharing.{AllElements, AreElementsNoted, AreIndexesNoted, AreTextsNoted, AreValuesNoted, IsIndexNoted, IsStorageNoted, IsStorageStart, IsTileGrown, IsValueGrown, IsValueReady, OfObject, Pays, array_cost, object_cost, value_rates};
 ghost use Rattle.image_check.specs.Visits.{Adds, sharing_rates, weigh};
-ghost use Rattle.image_check.specs.ObjectTests.{is_use};
 ghost use Rattle.image_check.specs.Owners.{owner_at};
 ghost use Rattle.image_check.specs.declared.owners.Owner.{Owner as OwnerValue};
-ghost use Rattle.block_tags.specs.declared.tile.Role.TheVariants.{Object as ObjectRole};
 
 use crate::classes::ImageClass;
 use crate::heads::{kind_of, value_of};
 use crate::links::{mark_elements, mark_index, mark_storage};
 use crate::marks::{follow, mark};
-use crate::owners::{Owner, Owners, good_len, is_same};
+use crate::owners::{Owner, Owners, good_len, is_object};
 use crate::visits::Visits;
 use block_tags::{Role, TAG, Tile, first, next};
 use offset_link::load;
@@ -131,16 +129,6 @@ fn mark_value(
         Kind::Text => mark_storage(window, owners, at, visits),
         Kind::Vector(_) => mark_storage(window, owners, at, visits),
         Kind::Texts => mark_array(window, owners, at, visits),
-    }
-}
-
-/// Whether the tile is that of an object.
-fn is_object(tile: Tile) -> bool
-    ensures { result ≡ is_use ObjectRole tile }
-{
-    match tile.use_of {
-        Some(role) => is_same(Role::Object, role),
-        None => false,
     }
 }
 

@@ -1,5 +1,5 @@
 -- A caller's own plain type, for the tests: a truth and a number of 16 bits, in three bytes.
-use Rattle.std.proofs.Common.{◌≡◌, ℕ, ◌+◌, ◌^◌, Bool, true, false, List, ◌∷◌, nat_lt, if◌then◌else◌, refl, arith}
+use Rattle.std.proofs.Common.{◌≡◌, ℕ, ◌+◌, ◌^◌, Bool, true, false, List, [], ◌∷◌, ◌*◌, ◌==◌, nat_lt, if◌then◌else◌, refl, arith}
 use Rattle.std.specs.Int.{bytes_low_first}
 
 -- the urgent ones by their numbers, and then the others
@@ -13,6 +13,15 @@ urgency true = 1
 abbrev pub ticket_bytes : Bool → ℕ → List ℕ
 ticket_bytes urgent number = urgency urgent ∷ bytes_low_first 0 2 number
 
+-- what three bytes say
+abbrev pub said_urgent : List ℕ → Bool
+said_urgent (a ∷ b) = a == 1
+said_urgent b = false
+
+abbrev pub said_number : List ℕ → ℕ
+said_number (a ∷ x ∷ y ∷ b) = x + 256 * y
+said_number b = 0
+
 abbrev pub is_number : ℕ → Bool
 is_number number = nat_lt number (2 ^ 16)
 
@@ -24,6 +33,10 @@ one_place true false n m h k e = absurd (grind arith)
 
 pub ticket_differs : (u v : Bool) (n m : ℕ) → is_number n ≡ true → is_number m ≡ true → ticket_bytes u n ≡ ticket_bytes v m → (u ≡ v) × (n ≡ m)
 ticket_differs u v n m h k e = grind arith
+
+pub ticket_reads : (u : Bool) (n : ℕ) → is_number n ≡ true → (said_urgent (ticket_bytes u n) ≡ u) × (said_number (ticket_bytes u n) ≡ n)
+ticket_reads false n h = (refl, grind arith)
+ticket_reads true n h = (refl, grind arith)
 
 pub ticket_irreflexive : (x : ℕ) → nat_lt x x ≡ false
 ticket_irreflexive x = grind arith

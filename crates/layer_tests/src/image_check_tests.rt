@@ -107,7 +107,17 @@ fn with_number(len: u8, kind: u8) -> [u8; 208]
 
 #[test]
 fn opens_a_number(rt: HostRuntime) -> Result<(), Fail> {
-    for (len, kind, opens) in [(48, 4, true), (64, 4, true), (48, 5, false)] {
+    // 7 is a number of each kind but the first, which has two values; there are five kinds of numbers
+    for (len, kind, opens) in [
+        (48, 4, true),
+        (64, 4, true),
+        (48, 2, true),
+        (48, 3, true),
+        (48, 5, true),
+        (48, 0, false),
+        (48, 1, false),
+        (48, 6, false),
+    ] {
         let image = with_number(len, kind);
         let bytes = &image[..144 + len as usize];
         let result = opened(rt.alloc(), bytes, Last::Ends)?;
@@ -175,8 +185,12 @@ fn refuses_what_has_not_come(rt: HostRuntime) -> Result<(), Fail> {
     // a count in an index without a place, and a block for an object that is none
     let mut no_object = with_byte(136, 33);
     no_object[24] = 1;
-    for image in [with_byte(40, 1), no_object] {
-        match cause(rt.alloc(), &image, Last::Ends)? {
+    // an empty string
+    let mut text = with_number(64, 0);
+    text[146] = 1;
+    text[160] = 1;
+    for image in [with_byte(40, 1).as_slice(), &no_object, &text] {
+        match cause(rt.alloc(), image, Last::Ends)? {
             Some(OpenError::Image(class)) => assert!(rt; late.contains(&class), "{class}"),
             other => assert!(rt; false, "{other:?}"),
         }

@@ -8,6 +8,8 @@ mod block_tags_tests;
 #[cfg(test)]
 mod image_check_tests;
 #[cfg(test)]
+mod library_example;
+#[cfg(test)]
 mod link_tree_tests;
 #[cfg(test)]
 mod node_tables;
@@ -22,8 +24,18 @@ mod seg_index_tests;
 #[cfg(test)]
 mod seg_types_tests;
 #[cfg(test)]
+mod segment_call_tests;
+#[cfg(test)]
+mod segment_index_tests;
+#[cfg(test)]
+mod segment_item_tests;
+#[cfg(test)]
+mod segment_key_tests;
+#[cfg(test)]
 mod segment_lang_tests;
 #[cfg(test)]
 mod segment_manager_tests;
 #[cfg(test)]
 mod segment_scalar_tests;
+#[cfg(test)]
+mod segments;

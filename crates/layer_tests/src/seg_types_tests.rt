@@ -1,13 +1,13 @@
 //! Values as bytes: those of the five scalar types, and those of a type that a caller gives the trait.
-ghost use Rattle.std.specs.Prelude.{◌≡◌, ◌≤◌, nat_lt, length, refl};
+ghost use Rattle.std.specs.Prelude.{◌≡◌, ◌≤◌, nat_lt, length, refl, Some};
 ghost use Rattle.std.proofs.Common.{lit≤};
-ghost use Rattle.layer_tests.specs.Tickets.{place, ticket_bytes, is_number};
+ghost use Rattle.layer_tests.specs.Tickets.{place, ticket_bytes, is_number, said_number, said_urgent};
 ghost use Rattle.layer_tests.specs.Tickets as laws;
 
 use seg_types::theorems::{
     scalar_is_number, unordered_are_same, values_spell_one, written_is_read,
 };
-use seg_types::{LONGEST_NAME, Name, Plain, Scalar, ScalarKind};
+use seg_types::{Kind, LONGEST_NAME, Name, Plain, Scalar, ScalarKind, ScalarValue, is_name};
 use std::fmt::Debug;
 use std::process::Abort;
 
@@ -31,15 +31,17 @@ impl Ticket {
 impl Plain for Ticket {
     const SIZE: u64 = 3;
 
-    const CODE: u32 = 0x8000_0001;
+    const CODE: u32 = 200;
 
     ghost SIZE = { 3 };
 
-    ghost CODE = { 0x8000_0001 };
+    ghost CODE = { 200 };
 
     ghost is_value = { λ t. is_number t.number };
 
     ghost spelling = { λ t. ticket_bytes t.urgent t.number };
+
+    ghost reading = { λ b. Some (record { urgent = said_urgent b; number = said_number b }) };
 
     ghost order = { λ s t. nat_lt (place s.urgent s.number) (place t.urgent t.number) };
 
@@ -65,6 +67,8 @@ impl Plain for Ticket {
     ghost sizes = { (lit≤ tt, lit≤ tt) };
 
     ghost spells = { λ t h. refl };
+
+    ghost reads = { λ t h. let same = laws.ticket_reads t.urgent t.number h in λ j. Some (record { urgent = same.0 j; number = same.1 j }) };
 
     ghost differs = { λ s t h k e. let same = laws.ticket_differs s.urgent t.urgent s.number t.number h k e in λ j. record { urgent = same.0 j; number = same.1 j } };
 
@@ -178,6 +182,7 @@ fn tickets(rt: HostRuntime) {
         urgent: false,
         number,
     };
+    assert_eq!(rt; (Ticket::SIZE, Ticket::CODE), (3, 200));
     check_spelled(&rt, urgent(258), &[1, 2, 1]);
     check_spelled(&rt, plain(65535), &[0, 255, 255]);
     check_rising(&rt, &[urgent(0), urgent(65535), plain(0), plain(1)]);
@@ -194,6 +199,7 @@ fn is_held(bytes: &[u8]) -> bool {
 
 #[test]
 fn names(rt: HostRuntime) {
+    assert_eq!(rt; LONGEST_NAME, 63);
     let long = [b'~'; LONGEST_NAME + 1];
     assert!(rt; is_held(b"a"));
     assert!(rt; is_held(b" with blanks, and \"quotes\""));
@@ -202,4 +208,93 @@ fn names(rt: HostRuntime) {
     assert!(rt; Name::new(b"").is_none());
     assert!(rt; Name::new(b"line\n").is_none());
     assert!(rt; Name::new(&[0x7F]).is_none());
+}
+
+#[test]
+fn kinds_have_codes(rt: HostRuntime) {
+    let rows = [
+        (1, Some(Kind::Scalar(ScalarKind::Bool))),
+        (5, Some(Kind::Scalar(ScalarKind::U64))),
+        (65536, Some(Kind::Text)),
+        (131075, Some(Kind::Vector(ScalarKind::I32))),
+        (197122, Some(Kind::Map(ScalarKind::U8, ScalarKind::U8))),
+        (262144, Some(Kind::Texts)),
+        (0, None),
+        (6, None),
+        (131072, None),
+        (196608, None),
+        (197894, None),
+        (4294967295, None),
+    ];
+    for (code, want) in rows {
+        let kind = Kind::from_code(code);
+        assert_eq!(rt; kind, want, "at {code}");
+        if let Some(kind) = kind {
+            assert_eq!(rt; kind.code(), code);
+        }
+    }
+    assert!(rt; !Kind::Texts.is_of(1));
+    assert!(rt; Kind::Texts.is_of(2));
+    assert!(rt; Kind::Text.is_of(0));
+}
+
+#[test]
+fn values_of_a_kind(rt: HostRuntime) {
+    let rows = [
+        (ScalarKind::Bool, 2, None),
+        (ScalarKind::Bool, 1, Some(ScalarValue::Bool(true))),
+        (ScalarKind::U8, -1, None),
+        (ScalarKind::U8, 255, Some(ScalarValue::U8(255))),
+        (ScalarKind::I32, 2147483648, None),
+        (
+            ScalarKind::I32,
+            -2147483648,
+            Some(ScalarValue::I32(-2147483648)),
+        ),
+        (ScalarKind::I64, -9223372036854775809, None),
+        (
+            ScalarKind::U64,
+            18446744073709551615,
+            Some(ScalarValue::U64(18446744073709551615)),
+        ),
+    ];
+    for (kind, number, want) in rows {
+        let value = ScalarValue::of_number(kind, number);
+        assert_eq!(rt; value, want, "at {number}");
+        if let Some(value) = value {
+            assert_eq!(rt; value.number(), number);
+            assert_eq!(rt; value.kind(), kind);
+        }
+    }
+    let mut bytes = [0; 4];
+    ScalarValue::I32(-2).write(&mut bytes);
+    assert_eq!(rt; bytes, [0xFE, 0xFF, 0xFF, 0xFF]);
+    assert_eq!(rt;
+        ScalarValue::read(ScalarKind::I32, &bytes),
+        Some(ScalarValue::I32(-2))
+    );
+    assert_eq!(rt; ScalarValue::read(ScalarKind::Bool, &[2]), None);
+    assert!(rt; !ScalarKind::Bool.is_spelling(&[2]));
+    assert!(rt; ScalarKind::U8.is_spelling(&[2]));
+    assert!(rt; ScalarKind::I32.precedes(&bytes, &[0, 0, 0, 0]));
+    assert!(rt; !ScalarKind::U64.precedes(&[255; 8], &[0; 8]));
+    assert!(rt; ScalarKind::I64.precedes(&[255; 8], &[0; 8]));
+}
+
+#[test]
+fn names_of_each_format(rt: HostRuntime) {
+    assert!(rt; is_name(0, b"a ~"));
+    assert!(rt; !is_name(1, "\u{e4}".as_bytes()));
+    assert!(rt; is_name(2, "\u{e4}\u{20ac}\u{1f600}".as_bytes()));
+    assert!(rt; !is_name(2, "a\u{85}".as_bytes()));
+    assert!(rt; !is_name(2, b"a\x7F"));
+    assert!(rt; !is_name(2, b"\xC3"));
+    assert!(rt; !is_name(2, b""));
+    assert!(rt; !is_name(2, "\u{9f}".as_bytes()));
+    assert!(rt; is_name(2, "\u{a0}".as_bytes()));
+    assert!(rt; !is_name(2, b"\x1F"));
+    assert!(rt; is_name(1, &[b'a'; 63]));
+    assert!(rt; !is_name(1, &[b'a'; 64]));
+    assert!(rt; is_name(2, &[b'a'; 255]));
+    assert!(rt; !is_name(2, &[b'a'; 256]));
 }

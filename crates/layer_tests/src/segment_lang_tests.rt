@@ -1,57 +1,237 @@
 //! The readings of lines and the texts of answers, by example.
 
 use raw_region::fake::{Last, MemorySink};
-use seg_types::{Key, Kind, NewKey, Refusal, ScalarKind, ScalarValue};
+use seg_types::{IndexKey, Key, Kind, Name, NewKey, Refusal, ScalarKind, ScalarValue};
 use segment_lang::{
-    Command, Content, LineError, Literal, Piece, Reading, Word, literal_of, next_word, number_of,
-    only_word, parse_line, put_line_error, put_name, put_number, put_pieces, put_text, put_value,
-    whole_of,
+    Command, Content, LineError, Literal, Piece, Reading, Values, Word, literal_of, next_word,
+    number_of, only_word, parse_line, put_line_error, put_name, put_number, put_pieces, put_text,
+    put_value, whole_of,
 };
+use std::alloc::{AllocError, Global};
 use std::test::Fail;
 
-fn construct(value: i64) -> Reading {
-    Reading::Asked(Command::Construct {
-        key: NewKey::Anonymous,
-        content: Content::Scalar(ScalarValue::I64(value)),
-    })
+/// The bytes of a name as text.
+fn text_of(name: &Name) -> &str {
+    str::from_utf8(name.as_bytes()).unwrap_or("no text")
 }
 
-fn show(handle: u64) -> Reading {
-    Reading::Asked(Command::Show(Key::Handle(handle)))
+fn told_key(alloc: Global, key: &Key) -> Result<String, AllocError> {
+    match key {
+        Key::Name(name) => format!(in alloc; "name {:?}", text_of(name)),
+        Key::Unique(kind) => format!(in alloc; "unique {kind:?}"),
+        Key::Handle(handle) => format!(in alloc; "handle {handle}"),
+        Key::Anonymous => String::from_str(alloc, "anonymous"),
+    }
+}
+
+fn told_new_key(alloc: Global, key: &NewKey) -> Result<String, AllocError> {
+    match key {
+        NewKey::Name(name) => format!(in alloc; "name {:?}", text_of(name)),
+        NewKey::Unique(kind) => format!(in alloc; "unique {kind:?}"),
+        NewKey::Anonymous => String::from_str(alloc, "anonymous"),
+    }
+}
+
+fn told_index_key(alloc: Global, key: &IndexKey) -> Result<String, AllocError> {
+    match key {
+        IndexKey::Name(name) => format!(in alloc; "name {:?}", text_of(name)),
+        IndexKey::Unique(kind) => format!(in alloc; "unique {kind:?}"),
+    }
+}
+
+fn told_content(alloc: Global, content: Content) -> Result<String, AllocError> {
+    let Content::Scalars { value, count } = content;
+    format!(in alloc; "{count} times {value:?}")
+}
+
+fn told_values(alloc: Global, values: Values<'_>) -> Result<String, AllocError> {
+    let mut text = format!(in alloc; "{:?}", values.kind())?;
+    for value in values {
+        write!(text, " {value:?}")?;
+    }
+    Ok(text)
+}
+
+fn told_literal(alloc: Global, literal: Literal<'_>) -> Result<String, AllocError> {
+    match literal {
+        Literal::Whole(number) => format!(in alloc; "{number}"),
+        Literal::Truth(truth) => format!(in alloc; "{truth}"),
+        Literal::Quoted(_) => String::from_str(alloc, "a text"),
+    }
+}
+
+/// The commands that make objects.
+fn told_making(alloc: Global, command: Command<'_>) -> Result<String, AllocError> {
+    match command {
+        Command::Construct { key, content } => {
+            let key = told_new_key(alloc, &key)?;
+            let content = told_content(alloc, content)?;
+            format!(in alloc; "construct {key}: {content}")
+        }
+        Command::ConstructIt { key, count, values } => {
+            let key = told_new_key(alloc, &key)?;
+            let values = told_values(alloc, values)?;
+            format!(in alloc; "construct_it {key}: {count} of {values}")
+        }
+        Command::FindOrConstruct { key, content } => {
+            let key = told_index_key(alloc, &key)?;
+            let content = told_content(alloc, content)?;
+            format!(in alloc; "find_or_construct {key}: {content}")
+        }
+        _ => String::from_str(alloc, "another command"),
+    }
+}
+
+/// The commands that are one word.
+fn told_word(command: &Command<'_>) -> &'static str {
+    match command {
+        Command::ListNames => "list",
+        Command::ListKinds => "unique",
+        Command::Blocks => "blocks",
+        Command::Size => "size",
+        Command::Free => "free",
+        Command::NumNamed => "num_named",
+        Command::NumUnique => "num_unique",
+        Command::ShrinkIndexes => "shrink_indexes",
+        Command::ZeroFree => "zero_free",
+        Command::Sanity => "sanity",
+        Command::AllDeallocated => "all_deallocated",
+        _ => "another command",
+    }
+}
+
+fn told_command(alloc: Global, command: Command<'_>) -> Result<String, AllocError> {
+    match command {
+        Command::Find { kind, key } => {
+            let key = told_index_key(alloc, &key)?;
+            format!(in alloc; "find {kind:?} {key}")
+        }
+        Command::Destroy(key) => {
+            let key = told_index_key(alloc, &key)?;
+            format!(in alloc; "destroy {key}")
+        }
+        Command::DestroyPtr(handle) => format!(in alloc; "destroy_ptr {handle}"),
+        Command::Show(key) => {
+            let key = told_key(alloc, &key)?;
+            format!(in alloc; "show {key}")
+        }
+        Command::Info(key) => {
+            let key = told_key(alloc, &key)?;
+            format!(in alloc; "info {key}")
+        }
+        Command::Get { key, index } => {
+            let key = told_key(alloc, &key)?;
+            format!(in alloc; "get {key} {index}")
+        }
+        Command::Set { key, index, value } => {
+            let key = told_key(alloc, &key)?;
+            let value = told_literal(alloc, value)?;
+            format!(in alloc; "set {key} {index} {value}")
+        }
+        Command::ReserveNamed(count) => format!(in alloc; "reserve_named {count}"),
+        Command::ReserveUnique(count) => format!(in alloc; "reserve_unique {count}"),
+        Command::Construct { .. } | Command::ConstructIt { .. } | Command::FindOrConstruct { .. } =>
+            told_making(alloc, command),
+        _ => String::from_str(alloc, told_word(&command)),
+    }
+}
+
+/// What a line is read as, in words.
+fn told(alloc: Global, line: &[u8]) -> Result<String, AllocError> {
+    match parse_line(line) {
+        Reading::Nothing => String::from_str(alloc, "nothing"),
+        Reading::Asked(command) => told_command(alloc, command),
+        Reading::Wrong(error) => format!(in alloc; "{error:?}"),
+    }
 }
 
 #[test]
-fn commands_are_read(rt: HostRuntime) {
+fn objects_are_made(rt: HostRuntime) -> Result<(), Fail> {
     let rows = [
-        ("construct i64 - 5", construct(5)),
-        ("construct i64 - 0", construct(0)),
-        ("construct i64 - -1", construct(-1)),
-        (
-            "construct i64 - 9223372036854775807",
-            construct(9223372036854775807),
-        ),
+        ("construct i64 - 5", "construct anonymous: 1 times I64(5)"),
         (
             "construct i64 - -9223372036854775808",
-            construct(-9223372036854775808),
+            "construct anonymous: 1 times I64(-9223372036854775808)",
         ),
-        ("  construct\ti64 \t -  7\t", construct(7)),
-        ("show #144", show(144)),
-        ("show #0", show(0)),
-        ("show #18446744073709551615", show(18446744073709551615)),
-        ("size", Reading::Asked(Command::Size)),
-        ("free", Reading::Asked(Command::Free)),
-        ("\t size \t", Reading::Asked(Command::Size)),
-        ("size\r", Reading::Asked(Command::Size)),
-        ("free \r", Reading::Asked(Command::Free)),
-        ("destroy_ptr #144", Reading::Asked(Command::DestroyPtr(144))),
-        ("destroy_ptr  #0 ", Reading::Asked(Command::DestroyPtr(0))),
-        ("blocks", Reading::Asked(Command::Blocks)),
-        ("zero_free", Reading::Asked(Command::ZeroFree)),
-        ("sanity", Reading::Asked(Command::Sanity)),
-        ("all_deallocated", Reading::Asked(Command::AllDeallocated)),
+        (
+            "  construct\ti64 \t -  7\t",
+            "construct anonymous: 1 times I64(7)",
+        ),
+        (
+            "construct u64[1048576] a.b_1 18446744073709551615",
+            "construct name \"a.b_1\": 1048576 times U64(18446744073709551615)",
+        ),
+        (
+            "construct bool \"-\" true",
+            "construct name \"-\": 1 times Bool(true)",
+        ),
+        (
+            "construct u8[2] @u8 255",
+            "construct unique Scalar(U8): 2 times U8(255)",
+        ),
+        (
+            "construct_it i32[3] _w -2147483648 0 2147483647",
+            "construct_it name \"_w\": 3 of I32 I32(-2147483648) I32(0) I32(2147483647)",
+        ),
+        (
+            "construct_it bool - false",
+            "construct_it anonymous: 1 of Bool Bool(false)",
+        ),
+        (
+            "find_or_construct i64[3] a 9",
+            "find_or_construct name \"a\": 3 times I64(9)",
+        ),
     ];
     for (line, want) in rows {
-        assert_eq!(rt; parse_line(line.as_bytes()), want, "at {line:?}");
+        let read = told(rt.alloc(), line.as_bytes())?;
+        assert_eq!(rt; read.as_str(), want, "at {line:?}");
+    }
+    Ok(())
+}
+
+#[test]
+fn commands_are_read(rt: HostRuntime) -> Result<(), Fail> {
+    let rows = [
+        ("find i64 a", "find Scalar(I64) name \"a\""),
+        ("find u64 @u64", "find Scalar(U64) unique Scalar(U64)"),
+        ("destroy \"a \\x41\"", "destroy name \"a A\""),
+        ("destroy_ptr  #0 ", "destroy_ptr 0"),
+        (
+            "show #18446744073709551615",
+            "show handle 18446744073709551615",
+        ),
+        ("show @bool", "show unique Scalar(Bool)"),
+        ("info a", "info name \"a\""),
+        ("get #144 0", "get handle 144 0"),
+        ("set a 1 -3", "set name \"a\" 1 -3"),
+        ("set @i32 1 true", "set unique Scalar(I32) 1 true"),
+        ("set a 1 \"3\"", "set name \"a\" 1 a text"),
+        ("list", "list"),
+        ("unique", "unique"),
+        ("blocks", "blocks"),
+        ("size\r", "size"),
+        ("\t free \t", "free"),
+        ("num_named", "num_named"),
+        ("num_unique", "num_unique"),
+        ("reserve_named 10", "reserve_named 10"),
+        ("reserve_unique 0", "reserve_unique 0"),
+        ("shrink_indexes", "shrink_indexes"),
+        ("zero_free", "zero_free"),
+        ("sanity", "sanity"),
+        ("all_deallocated", "all_deallocated"),
+    ];
+    for (line, want) in rows {
+        let read = told(rt.alloc(), line.as_bytes())?;
+        assert_eq!(rt; read.as_str(), want, "at {line:?}");
+    }
+    Ok(())
+}
+
+/// Whether a line is no command for this reason.
+fn is_wrong(line: &[u8], why: LineError) -> bool {
+    match parse_line(line) {
+        Reading::Wrong(error) => error == why,
+        _ => false,
     }
 }
 
@@ -60,9 +240,8 @@ fn comments_and_blanks_mean_nothing(rt: HostRuntime) {
     for line in [
         "", "\r", " \t ", " \r", "# note", "#size", "#", "#\"", "#\r",
     ] {
-        assert_eq!(rt;
-            parse_line(line.as_bytes()),
-            Reading::Nothing,
+        assert!(rt;
+            matches!(parse_line(line.as_bytes()), Reading::Nothing),
             "at {line:?}"
         );
     }
@@ -82,16 +261,14 @@ fn other_words_are_no_commands(rt: HostRuntime) {
         "size\x0b",
         "push v 1",
         "destroy_ptr#144",
-        "destroy #144",
         "zero_fre",
-        "construct_it i64 - 1",
-        "list",
+        "pop v",
+        "lists",
         "constructi64 - 5",
     ];
     for line in lines {
-        assert_eq!(rt;
-            parse_line(line.as_bytes()),
-            Reading::Wrong(LineError::UnknownCommand),
+        assert!(rt;
+            is_wrong(line.as_bytes(), LineError::UnknownCommand),
             "at {line:?}"
         );
     }
@@ -119,7 +296,6 @@ fn what_does_not_fit_is_bad_syntax(rt: HostRuntime) {
         "show #18446744073709551616",
         "show #1 #2",
         "show # 1",
-        "show \"#144\"",
         "show -",
         "construct",
         "construct i64",
@@ -137,14 +313,47 @@ fn what_does_not_fit_is_bad_syntax(rt: HostRuntime) {
         "construct i64[0] - 1",
         "construct I64 - 1",
         "construct \"i64\" - 1",
-        "construct i64 \"-\" 1",
         "construct i64 #144 5",
         "construct i64 - 5 # x",
+        "construct i64 1a 5",
+        "construct i64 \"\" 5",
+        "construct i64 \"\\x0a\" 5",
+        "construct i64 @u64 5",
+        "construct i64 @i64[1] 5",
+        "construct i64[1048577] a 5",
+        "construct i64[01] a 5",
+        "construct i64[1]] a 5",
+        "construct i64[1 a 5",
+        "construct [1] a 5",
+        "construct string s \"a\"",
+        "construct u8 x 256",
+        "construct u8 x -1",
+        "construct bool x 1",
+        "construct i32 x 2147483648",
+        "construct u64 x -1",
+        "construct_it i64[3] w 1 2",
+        "construct_it i64[3] w 1 2 3 4",
+        "construct_it u8[2] w 1 256",
+        "construct_it u8[2] w 1 \"",
+        "find i64[1] a",
+        "find i64 #144",
+        "find i64 -",
+        "find_or_construct i64 - 5",
+        "destroy #144",
+        "destroy a b",
+        "get a",
+        "get a -1",
+        "set a 1",
+        "set a 1 abc",
+        "set a 1 -0",
+        "reserve_named",
+        "reserve_named a",
+        "reserve_unique 1 2",
+        "list 1",
     ];
     for line in lines {
-        assert_eq!(rt;
-            parse_line(line.as_bytes()),
-            Reading::Wrong(LineError::BadSyntax),
+        assert!(rt;
+            is_wrong(line.as_bytes(), LineError::BadSyntax),
             "at {line:?}"
         );
     }
@@ -153,30 +362,15 @@ fn what_does_not_fit_is_bad_syntax(rt: HostRuntime) {
 #[test]
 fn a_line_has_4096_bytes_at_most(rt: HostRuntime) {
     let mut line = [b'a'; 4099];
-    assert_eq!(rt;
-        parse_line(&line[..4096]),
-        Reading::Wrong(LineError::UnknownCommand)
-    );
-    assert_eq!(rt;
-        parse_line(&line[..4097]),
-        Reading::Wrong(LineError::LineTooLong)
-    );
-    assert_eq!(rt; parse_line(&line), Reading::Wrong(LineError::LineTooLong));
+    assert!(rt; is_wrong(&line[..4096], LineError::UnknownCommand));
+    assert!(rt; is_wrong(&line[..4097], LineError::LineTooLong));
+    assert!(rt; is_wrong(&line, LineError::LineTooLong));
     line[4096] = b'\r';
-    assert_eq!(rt;
-        parse_line(&line[..4097]),
-        Reading::Wrong(LineError::UnknownCommand)
-    );
-    assert_eq!(rt;
-        parse_line(&line[..4098]),
-        Reading::Wrong(LineError::LineTooLong)
-    );
+    assert!(rt; is_wrong(&line[..4097], LineError::UnknownCommand));
+    assert!(rt; is_wrong(&line[..4098], LineError::LineTooLong));
     line[0] = b'#';
-    assert_eq!(rt; parse_line(&line[..4097]), Reading::Nothing);
-    assert_eq!(rt;
-        parse_line(&line[..4098]),
-        Reading::Wrong(LineError::LineTooLong)
-    );
+    assert!(rt; matches!(parse_line(&line[..4097]), Reading::Nothing));
+    assert!(rt; is_wrong(&line[..4098], LineError::LineTooLong));
 }
 
 #[test]
@@ -261,6 +455,11 @@ fn answers_are_printed(rt: HostRuntime) -> Result<(), Fail> {
         Piece::Kind(Kind::Map(ScalarKind::Bool, ScalarKind::U64)),
         Piece::Bytes(b" "),
         Piece::Value(ScalarValue::I64(-9223372036854775808)),
+        Piece::Value(ScalarValue::Bool(true)),
+        Piece::Value(ScalarValue::U8(255)),
+        Piece::Value(ScalarValue::I32(-1)),
+        Piece::Value(ScalarValue::U64(18446744073709551615)),
+        Piece::Value(ScalarValue::Bool(false)),
         Piece::Bytes(b"\n"),
         Piece::Refusal(Refusal::NoSpace),
         Piece::Bytes(b" #"),
@@ -273,7 +472,7 @@ fn answers_are_printed(rt: HostRuntime) -> Result<(), Fail> {
     ];
     put_pieces(&mut out, &pieces)?;
     let want =
-        b"map<bool,u64> -9223372036854775808\nerror 9 no space #18446744073709551615\"a\\\"\\\\ \\x0a\\xc3\"a_1.\"1 a\"vec<i32>error 2 line too long";
+        b"map<bool,u64> -9223372036854775808true255-118446744073709551615false\nerror 9 no space #18446744073709551615\"a\\\"\\\\ \\x0a\\xc3\"a_1.\"1 a\"vec<i32>error 2 line too long";
     assert_eq!(rt; out.taken(), want.as_slice());
     Ok(())
 }

@@ -1,2 +1,7 @@
 pub mod Map
 pub mod Numbers
+pub mod PairNodes
+pub mod PairLaws
+pub mod Places
+pub mod Linking
+pub mod Changing

@@ -1,2 +1,17 @@
 //! Ordered maps at a place in a heap, with a block for each pair.
 #![tactic(auto)]
+
+mod erasing;
+mod finding;
+mod heading;
+mod linking;
+mod maps;
+mod nodes;
+mod owned;
+mod places;
+mod putting;
+mod reading;
+mod releasing;
+
+pub use maps::SegMap;
+pub use places::Place;

@@ -1,3 +1,4 @@
 mod PlainReads
+mod ScalarNumbers
 mod EightBytes
 pub mod Laws

@@ -1,10 +1,11 @@
 -- What is read as a value of a plain type, and of a scalar type by the whole number that its bytes say.
-use Rattle.std.proofs.Common.{◌≡◌, sym, ap, ◌∙◌, ℕ, suc, ◌<◌, refl, Bool, true, false, List, [], ◌∷◌, length, get_or, Option, Some, None, MatchOption, ℤ}
+use Rattle.std.proofs.Common.{◌≡◌, sym, ap, subst, ◌∙◌, ℕ, suc, ◌<◌, refl, inl, inr, Bool, true, false, ◌&&◌, ◌==◌, if◌then◌else◌, List, [], ◌∷◌, length, get_or, Option, Some, None, MatchOption, ℤ}
+use Rattle.std.proofs.lemmas.Bool.{and_parts, and_from, cases_Bool, cond-true, cond-false, eq-eqb, eqb-true, false≢true}
 use Rattle.std.specs.List.{AllByRecursion}
 use Rattle.byteorder.specs.Endian.{little_number}
 use Rattle.seg_types.specs.declared.kinds.ScalarKind.{ScalarKind}
 use Rattle.seg_types.specs.Kinds.{size_of, is_value, value_of, spelling, is_spelling, SpellsOne}
-use Rattle.seg_types.specs.Plain.{Reads}
+use Rattle.seg_types.specs.Plain.{Reads, same_bytes, value_in}
 use Rattle.seg_types.specs.ScalarLaws.{all_spell_one}
 
 -- ---- plain types
@@ -15,6 +16,44 @@ pub written-read : {T : Type 0} (is_one : T → Bool) (spell : T → List ℕ)
     → (bytes : List ℕ) (r : Option T) → Reads is_one spell bytes r → (x : T) → is_one x ≡ true → spell x ≡ bytes → r ≡ Some x
 written-read is_one spell differs bytes (Some y) reads x one e = ap Some (differs y x reads.0 one (reads.1 ∙ sym e))
 written-read is_one spell differs bytes None none x one e = absurd (none x one e)
+
+same-refl : (xs : List ℕ) → same_bytes xs xs ≡ true
+same-refl [] = refl
+same-refl (x ∷ xs) = and_from (x == x) (same_bytes xs xs) (eq-eqb x x refl) (same-refl xs)
+
+same-equal : (xs ys : List ℕ) → same_bytes xs ys ≡ true → xs ≡ ys
+same-equal [] [] h = refl
+same-equal [] (y ∷ ys) h = absurd (false≢true h)
+same-equal (x ∷ xs) [] h = absurd (false≢true h)
+same-equal (x ∷ xs) (y ∷ ys) h =
+    let two = and_parts (x == y) (same_bytes xs ys) h in
+    let here = eqb-true x y two.0 in let rest = same-equal xs ys two.1 in
+    λ i. here i ∷ rest i
+
+-- the spelling of a value is read as it
+pub value-spelled : {T : Type 0} (reading : List ℕ → Option T) (is_one : T → Bool) (spell : T → List ℕ)
+    → ((x : T) → is_one x ≡ true → reading (spell x) ≡ Some x)
+    → (x : T) (bytes : List ℕ) → is_one x ≡ true → spell x ≡ bytes → value_in reading is_one spell bytes ≡ Some x
+unfolding value_in
+value-spelled {T} reading is_one spell reads x bytes one e =
+    subst (λ bs. value_in reading is_one spell bs ≡ Some x) e
+    (ap (λ (o : Option T). elim o as (λ _. Option T) [ None ↦ None | Some y ↦ if is_one y && same_bytes (spell y) (spell x) then Some y else None ]) (reads x one)
+    ∙ cond-true (is_one x && same_bytes (spell x) (spell x)) (Some x) None (and_from (is_one x) (same_bytes (spell x) (spell x)) one (same-refl (spell x))))
+
+-- what is read of bytes is the value that they spell
+pub read-value : {T : Type 0} (reading : List ℕ → Option T) (is_one : T → Bool) (spell : T → List ℕ)
+    → ((x : T) → is_one x ≡ true → reading (spell x) ≡ Some x)
+    → (bytes : List ℕ) (r : Option T) → Reads is_one spell bytes r → r ≡ value_in reading is_one spell bytes
+unfolding value_in
+read-value reading is_one spell reads bytes (Some x) h = sym (value-spelled reading is_one spell reads x bytes h.0 h.1)
+read-value {T} reading is_one spell reads bytes None h = by_reading (reading bytes)
+  where
+    by_reading : (o : Option T) → None ≡ (elim o as (λ _. Option T) [ None ↦ None | Some x ↦ if is_one x && same_bytes (spell x) bytes then Some x else None ])
+    by_reading None = refl
+    by_reading (Some x) = elim (cases_Bool (is_one x && same_bytes (spell x) bytes)) [
+      | inl t ↦ let two = and_parts (is_one x) (same_bytes (spell x) bytes) t in absurd (h x two.0 (same-equal (spell x) bytes two.1))
+      | inr f ↦ sym (cond-false (is_one x && same_bytes (spell x) bytes) (Some x) None f)
+    ]
 
 -- ---- scalar types
 

@@ -1,12 +1,26 @@
 -- What the keys of the code stand for.
 use Rattle.seg_types.specs.Names as name
 use Rattle.seg_types.specs.declared.keys.Key.{Key}
-use Rattle.seg_types.specs.declared.keys.Key.TheVariants.{Handle}
+use Rattle.seg_types.specs.declared.keys.Key.TheVariants as found
 use Rattle.seg_types.specs.declared.keys.NewKey.{NewKey}
-use Rattle.seg_types.specs.declared.keys.NewKey.TheVariants.{Anonymous}
+use Rattle.seg_types.specs.declared.keys.NewKey.TheVariants as new
+use Rattle.seg_types.specs.declared.keys.IndexKey.{IndexKey}
+use Rattle.seg_types.specs.declared.keys.IndexKey.TheVariants as indexed
 
+-- a key of any object
 abbrev pub key_seen : Key → name.Key
-key_seen (Handle n) = name.ByHandle n
+key_seen (found.Name bytes) = name.ByName bytes
+key_seen (found.Unique k) = name.ByKind k
+key_seen (found.Handle n) = name.ByHandle n
+key_seen found.Anonymous = name.NoKey
 
+-- a key of an object that is to be made
 abbrev pub new_key_seen : NewKey → name.Key
-new_key_seen Anonymous = name.NoKey
+new_key_seen (new.Name bytes) = name.ByName bytes
+new_key_seen (new.Unique k) = name.ByKind k
+new_key_seen new.Anonymous = name.NoKey
+
+-- a key of an entry of an index
+abbrev pub index_key_seen : IndexKey → name.Key
+index_key_seen (indexed.Name bytes) = name.ByName bytes
+index_key_seen (indexed.Unique k) = name.ByKind k

@@ -2,7 +2,7 @@
 -- stand the laws of the scalar types, which follow.
 use Rattle.std.proofs.Common.{◌≡◌, sym, ap, subst, ◌∙◌, ℕ, zero, suc, ◌+◌, ◌-◌, ◌*◌, ◌/◌, ◌%◌, ◌^◌, ◌<◌, ◌≤◌, ◌⊎◌, inl, inr, refl, List, [], ◌∷◌, length, arith, append-nil, lit≤, Bool, true, false}
 use Rattle.std.proofs.Math.Nat.{div-div-eq-div-mul, div-one, pow-succ'}
-use Rattle.std.specs.Prelude.{IsTrue, nat_lt, ℤ, pos, negsuc, int_lt}
+use Rattle.std.specs.Prelude.{IsTrue, nat_lt, ℤ, pos, negsuc, int_lt, Option, Some, None, if◌then◌else◌, ◌==◌}
 use Rattle.std.specs.List.{AllByRecursion}
 use Rattle.std.proofs.lemmas.Bool.{cases_lt, cond-true, cond-false, lt-ltb, le-ltb}
 use Rattle.std.specs.Int.{byte_at, bytes_low_first}
@@ -175,6 +175,13 @@ spells k z h = (all_spell_one k z h).len
 pub differs : (k : ScalarKind) (y z : ℤ) → is_value k y ≡ true → is_value k z ≡ true → spelling k y ≡ spelling k z → y ≡ z
 differs k y z h i e = sym (all_spell_one k y h).reads ∙ ap (λ bs. value_of k (little_number (size_of k) bs)) e ∙ (all_spell_one k z i).reads
 
+-- the value that bytes spell
+abbrev pub whole-reading : ScalarKind → List ℕ → Option ℤ
+whole-reading k b = Some (value_of k (little_number (size_of k) b))
+
+pub whole-reads : (k : ScalarKind) (z : ℤ) → is_value k z ≡ true → whole-reading k (spelling k z) ≡ Some z
+whole-reads k z h = ap Some (all_spell_one k z h).reads
+
 pub irreflexive : (x : ℤ) → int_lt x x ≡ false
 irreflexive (pos x) = grind arith
 irreflexive (negsuc x) = grind arith
@@ -189,6 +196,18 @@ total x y h i = grind arith
 
 pub same_number : (x y : ℕ) → pos x ≡ pos y → x ≡ y
 same_number x y e = cc
+
+abbrev pub u8-reading : List ℕ → Option ℕ
+u8-reading b = Some (little_number 1 b)
+
+pub u8-reads : (x : ℕ) → is_value U8 (pos x) ≡ true → u8-reading (spelling U8 (pos x)) ≡ Some x
+u8-reads x h = ap Some (same_number (little_number 1 (spelling U8 (pos x))) x (all_spell_one U8 (pos x) h).reads)
+
+abbrev pub u64-reading : List ℕ → Option ℕ
+u64-reading b = Some (little_number 8 b)
+
+pub u64-reads : (x : ℕ) → is_value U64 (pos x) ≡ true → u64-reading (spelling U64 (pos x)) ≡ Some x
+u64-reads x h = ap Some (same_number (little_number 8 (spelling U64 (pos x))) x (all_spell_one U64 (pos x) h).reads)
 
 pub reached-u8 : (z : ℤ) → is_value U8 z ≡ true → (x : ℕ) × (pos x ≡ z)
 reached-u8 (pos x) h = (x, refl)
@@ -212,6 +231,13 @@ same_truth false false e = refl
 same_truth true true e = refl
 same_truth false true e = grind arith
 same_truth true false e = grind arith
+
+abbrev pub bool-reading : List ℕ → Option Bool
+bool-reading b = if little_number 1 b == 0 then Some false else Some true
+
+pub bool-reads : (x : Bool) → true ≡ true → bool-reading (spelling BoolKind (truth_number x)) ≡ Some x
+bool-reads false h = refl
+bool-reads true h = refl
 
 pub reached-bool : (z : ℤ) → is_value BoolKind z ≡ true → (x : Bool) × (truth_number x ≡ z)
 reached-bool (pos zero) h = (false, refl)

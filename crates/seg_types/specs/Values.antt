@@ -1,12 +1,37 @@
 -- What the values of the code stand for.
-use Rattle.std.specs.Prelude.{ℤ}
+use Rattle.std.specs.Prelude.{◌≡◌, ℕ, ℤ, pos, nat_abs, nat_lt, true, false, List, Option, Some, None}
+use Rattle.byteorder.specs.Endian.{little_number}
 use Rattle.seg_types.specs.declared.kinds.ScalarKind.{ScalarKind}
 use Rattle.seg_types.specs.declared.kinds.ScalarKind.TheVariants as kind
 use Rattle.seg_types.specs.declared.values.ScalarValue.{ScalarValue}
-use Rattle.seg_types.specs.declared.values.ScalarValue.TheVariants.{I64}
+use Rattle.seg_types.specs.declared.values.ScalarValue.TheVariants.{Bool as Truth, U8, I32, I64, U64}
+use Rattle.seg_types.specs.Kinds.{is_spelling, is_value, size_of, truth_number, value_of}
 
+-- the kind of a value
 abbrev pub kind_of_scalar : ScalarValue → ScalarKind
+kind_of_scalar (Truth b) = kind.Bool
+kind_of_scalar (U8 n) = kind.U8
+kind_of_scalar (I32 z) = kind.I32
 kind_of_scalar (I64 z) = kind.I64
+kind_of_scalar (U64 n) = kind.U64
 
+-- the whole number that a value is
 abbrev pub value_of_scalar : ScalarValue → ℤ
+value_of_scalar (Truth b) = truth_number b
+value_of_scalar (U8 n) = pos n
+value_of_scalar (I32 z) = z
 value_of_scalar (I64 z) = z
+value_of_scalar (U64 n) = pos n
+
+-- the value of a kind that a number in its range is
+abbrev pub scalar_of : ScalarKind → ℤ → ScalarValue
+scalar_of kind.Bool z = Truth (nat_lt 0 (nat_abs z))
+scalar_of kind.U8 z = U8 (nat_abs z)
+scalar_of kind.I32 z = I32 z
+scalar_of kind.I64 z = I64 z
+scalar_of kind.U64 z = U64 (nat_abs z)
+
+-- the value of a kind that the bytes spell, or none where they spell no value of the kind
+abbrev pub SpelledBy : ScalarKind → List ℕ → Option ScalarValue → Type 0
+SpelledBy k bytes (Some v) = (is_spelling k bytes ≡ true) × (kind_of_scalar v ≡ k) × (value_of_scalar v ≡ value_of k (little_number (size_of k) bytes))
+SpelledBy k bytes None = is_spelling k bytes ≡ false

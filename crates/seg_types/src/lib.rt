@@ -10,7 +10,7 @@ mod scalars;
 pub mod theorems;
 mod values;
 
-pub use keys::{Handle, Key, NewKey};
+pub use keys::{Handle, IndexKey, Key, NewKey};
 pub use kinds::{Class, Kind, ScalarKind};
 pub use names::{LONGEST_NAME, Name, is_name};
 pub use plain::Plain;

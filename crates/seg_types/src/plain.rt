@@ -1,5 +1,5 @@
 //! Values of a fixed number of bytes, as containers keep them.
-ghost use Rattle.std.specs.Prelude.{◌≡◌, ℕ, ◌≤◌, Bool, true, false, List, length};
+ghost use Rattle.std.specs.Prelude.{◌≡◌, ℕ, ◌≤◌, Bool, true, false, List, Option, Some, length};
 ghost use Rattle.seg_types.specs.Plain.{Reads};
 
 /// A type whose values are spelled by a fixed number of bytes, each in one way, and stand in a strict total order.
@@ -26,6 +26,9 @@ pub trait Plain: Copy {
     // Whether the first value stands before the second.
     ghost order: { Self → Self → Bool };
 
+    // The value that these bytes spell. Of bytes that spell none it may say anything.
+    ghost reading: { List ℕ → Option Self };
+
     /// Spells the value into `to`, which has `SIZE` bytes: all of them are written.
     fn write(self, to: &mut [u8])
         requires { length to.old ≡ SIZE }
@@ -47,6 +50,9 @@ pub trait Plain: Copy {
 
     // Each value is spelled by as many.
     ghost spells: { (x : Self) → is_value x ≡ true → length (spelling x) ≡ SIZE };
+
+    // The spelling of a value says it.
+    ghost reads: { (x : Self) → is_value x ≡ true → reading (spelling x) ≡ Some x };
 
     // No two values have one spelling.
     ghost differs: { (x y : Self) → is_value x ≡ true → is_value y ≡ true → spelling x ≡ spelling y → x ≡ y };

@@ -1,8 +1,97 @@
 //! Single values.
+ghost use Rattle.std.specs.Prelude.{◌≡◌, length, true, Some, None, if◌then◌else◌};
+ghost use Rattle.seg_types.specs.Kinds.{is_value, size_of, spelling};
+ghost use Rattle.seg_types.specs.Values.{SpelledBy, kind_of_scalar, scalar_of, value_of_scalar};
+
+use crate::kinds::ScalarKind;
+use crate::plain::Plain;
+use crate::theorems::scalar_is_number;
 
 /// A value with its kind.
 #[derive(Clone, Copy, Debug, PartialEq, Eq)]
 pub enum ScalarValue {
+    /// `false` or `true`.
+    Bool(bool),
+    /// A whole number from 0 to 255.
+    U8(u8),
+    /// A whole number from -2147483648 to 2147483647.
+    I32(i32),
     /// A whole number from -9223372036854775808 to 9223372036854775807.
     I64(i64),
+    /// A whole number from 0 to 18446744073709551615.
+    U64(u64),
+}
+
+impl ScalarValue {
+    /// The kind.
+    pub fn kind(self) -> ScalarKind
+        ensures { result ≡ kind_of_scalar self }
+    {
+        match self {
+            ScalarValue::Bool(_) => ScalarKind::Bool,
+            ScalarValue::U8(_) => ScalarKind::U8,
+            ScalarValue::I32(_) => ScalarKind::I32,
+            ScalarValue::I64(_) => ScalarKind::I64,
+            ScalarValue::U64(_) => ScalarKind::U64,
+        }
+    }
+
+    /// The whole number that the value is: of the two truths, `false` is 0 and `true` is 1.
+    pub fn number(self) -> i128
+        ensures number { result ≡ value_of_scalar self }
+        ensures in_range { is_value (kind_of_scalar self) result ≡ true }
+    {
+        match self {
+            ScalarValue::Bool(truth) => i128::from(truth),
+            ScalarValue::U8(number) => i128::from(number),
+            ScalarValue::I32(number) => i128::from(number),
+            ScalarValue::I64(number) => i128::from(number),
+            ScalarValue::U64(number) => i128::from(number),
+        }
+    }
+
+    /// The value of the kind that this number is, or `None` where it is outside the range of the kind.
+    pub fn of_number(kind: ScalarKind, number: i128) -> Option<ScalarValue>
+        ensures { result ≡ (if is_value kind number then Some (scalar_of kind number) else None) }
+    {
+        match kind {
+            ScalarKind::Bool => match number {
+                0 => Some(ScalarValue::Bool(false)),
+                1 => Some(ScalarValue::Bool(true)),
+                _ => None,
+            },
+            ScalarKind::U8 => Some(ScalarValue::U8(u8::try_from(number).ok()?)),
+            ScalarKind::I32 => Some(ScalarValue::I32(i32::try_from(number).ok()?)),
+            ScalarKind::I64 => Some(ScalarValue::I64(i64::try_from(number).ok()?)),
+            ScalarKind::U64 => Some(ScalarValue::U64(u64::try_from(number).ok()?)),
+        }
+    }
+
+    /// The value of the kind that these bytes spell, as many as a value has, or `None` where they spell none.
+    pub fn read(kind: ScalarKind, bytes: &[u8]) -> Option<ScalarValue>
+        requires { length bytes.now ≡ size_of kind }
+        ensures { SpelledBy kind bytes.now result }
+    {
+        match kind {
+            ScalarKind::Bool => Some(ScalarValue::Bool(scalar_is_number::<bool>(bytes)?)),
+            ScalarKind::U8 => Some(ScalarValue::U8(scalar_is_number::<u8>(bytes)?)),
+            ScalarKind::I32 => Some(ScalarValue::I32(scalar_is_number::<i32>(bytes)?)),
+            ScalarKind::I64 => Some(ScalarValue::I64(scalar_is_number::<i64>(bytes)?)),
+            ScalarKind::U64 => Some(ScalarValue::U64(scalar_is_number::<u64>(bytes)?)),
+        }
+    }
+
+    /// Spells the value into `to`, which has as many bytes as a value of the kind: all of them are written.
+    pub fn write(self, to: &mut [u8])
+        requires { length to.old ≡ size_of (kind_of_scalar self) }
+        ensures { to.new ≡ spelling (kind_of_scalar self) (value_of_scalar self) }
+    {
+        match self {
+            ScalarValue::Bool(truth) => truth.write(to),
+            ScalarValue::U8(number) => number.write(to),
+            ScalarValue::I32(number) => number.write(to),
+            ScalarValue::I64(number) => number.write(to),
+            ScalarValue::U64(number) => number.write(to),
+        }
+    }
 }

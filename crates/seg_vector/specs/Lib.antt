@@ -1,1 +1,6 @@
 pub mod Vector
+pub mod Standing
+pub mod Elements
+pub mod VectorCalls
+pub mod TextCalls
+pub mod TextsCalls

@@ -4,7 +4,8 @@ use Rattle.std.specs.List.{AllByRecursion, list_all}
 use Rattle.raw_region.specs.Memory.{Memory, Has, word_at}
 use Rattle.offset_link.specs.Link.{link_at}
 use Rattle.block_tags.specs.declared.tile.Role.TheVariants.{Storage}
-use Rattle.best_fit.specs.Extents.{Extent, handle}
+use Rattle.best_fit.specs.Extents.{Extent, LiveSet, handle}
+use Rattle.best_fit.specs.Fit.{regrow}
 use Rattle.best_fit.specs.Table.{Table, is_table, table_link}
 use Rattle.seg_types.specs.declared.kinds.ScalarKind.{ScalarKind}
 use Rattle.seg_types.specs.Kinds.{spelling}
@@ -16,6 +17,13 @@ capacity_for_one len capacity = if nat_lt len capacity then capacity else max 4 
 -- the capacity that a text has for len bytes
 abbrev pub capacity_for_text : ℕ → ℕ → ℕ
 capacity_for_text len capacity = if nat_le len capacity then capacity else max (max 16 (2 * capacity)) len
+
+-- the table with so many places: as it is where it has them, else its block regrown
+unfoldable pub grown_table : LiveSet → ℕ → ℕ → Table → Option Table
+unfolding regrow
+grown_table live each n t =
+    if nat_le n t.capacity then Some t
+    else option_map (λ x. let u : Table = record { capacity = n; extent = Some x } in u) (regrow live t.extent (each * n))
 
 abbrev pub spelled : ScalarKind → List ℤ → List ℕ
 spelled k = flat_map (spelling k)

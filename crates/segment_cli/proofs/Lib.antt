@@ -5,8 +5,14 @@ mod Cuts
 mod SessionLaws
 mod Owed
 mod WrongLines
+mod Meant
+mod NewKinds
+mod ArrayCalls
 mod Answering
+mod PartLines
+mod SetElements
 mod ShownObjects
+mod ListedObjects
 mod BlockLines
 mod Endings
 mod Beginnings

@@ -1,109 +1,128 @@
--- What is shown of an object is its kind and its number, which is all its value.
-use Rattle.std.proofs.Common.{◌≡◌, refl, sym, ap, subst, ◌∙◌, ℕ, ℤ, Bool, true, false, Option, Some, None, Result, Ok, Err, List, [], ◌∷◌, cond, if◌then◌else◌}
-use Rattle.std.specs.Prelude.{IsTrue, find}
-use Rattle.std.specs.List.{list_all}
-use Rattle.std.proofs.lemmas.Bool.{and_parts}
-use Rattle.seg_types.specs.declared.kinds.ScalarKind.TheVariants.{I64}
-use Rattle.seg_types.specs.declared.kinds.Kind.{Kind}
+-- What is shown of an object is its kind and its numbers, one after another.
+use Rattle.std.proofs.Common.{◌≡◌, ℕ, ℤ, ◌+◌, List, [], ◌∷◌, ◌++◌, length, map, Option, Some, None, Result, Ok, Err, true, slice_get, refl, sym, ap, subst, ◌∙◌, append_assoc}
+use Rattle.std.specs.Prelude.{is_some}
+use Rattle.std.specs.List.{flat_map}
+use Rattle.raw_region.specs.Format.{current}
+use Rattle.seg_types.specs.declared.kinds.ScalarKind.{ScalarKind}
 use Rattle.seg_types.specs.declared.kinds.Kind.TheVariants.{Scalar}
 use Rattle.seg_types.specs.declared.refusals.Refusal.{Refusal}
-use Rattle.seg_types.specs.declared.refusals.Refusal.TheVariants.{NotFound, WrongKind}
-use Rattle.seg_types.specs.Kinds.{same_kind}
-use Rattle.seg_types.specs.Names.{Key, ByHandle}
+use Rattle.seg_types.specs.declared.refusals.Refusal.TheVariants.{NotFound, OutOfRange}
+use Rattle.seg_types.specs.declared.values.ScalarValue.{ScalarValue}
+use Rattle.seg_types.specs.Names.{ByHandle, Key}
 use Rattle.seg_types.specs.Commands as asked
+use Rattle.segment_lang.specs.Texts.{value_text}
 use Rattle.segment_manager.specs.declared.modes.Mode.{Mode}
-use Rattle.segment_manager.specs.declared.modes.Mode.TheVariants.{Write, ReadOnly, CopyOnWrite}
-use Rattle.segment_manager.specs.Directory.{Value, Numbers, Object, Directory, live, object_at, has_key, kind_of}
-use Rattle.segment_manager.specs.Supported.{is_supported, is_supported_object}
+use Rattle.segment_manager.specs.declared.telling.Instance.{Instance}
 use Rattle.segment_manager.specs.Answers.{Answer, Element, Refused, Shown}
-use Rattle.segment_manager.specs.Calls.{kind_at}
-use Rattle.segment_manager.specs.State.{element_answer}
-use Rattle.segment_manager.specs.Plan.{Plan, Refuse, perform, with}
-use Rattle.segment_manager.specs.Step.{get, step_of_kind}
-use Rattle.segment_manager.proofs.Laws.{IsNumber, supported-parts, number-of}
-use Rattle.segment_cli.specs.Answer.{answer_text}
-use Rattle.segment_cli.specs.Replies.{shown_at, shown_of, shown_line}
+use Rattle.segment_manager.specs.Calls.{elements_at, elements_of}
+use Rattle.segment_manager.specs.Directory.{Value, Numbers, Object, Directory, count_of, kind_of, live, object_at}
+use Rattle.segment_manager.specs.Found.{is_object_at}
+use Rattle.segment_manager.specs.Instances.{IsInstance, IsMissing, SaysOf}
+use Rattle.segment_manager.specs.Plan.{Plan, Reply, perform, with}
+use Rattle.segment_manager.specs.State.{Answers, IsReply, IsReplyOfKind, State, StandsFor, scalar_answer}
+use Rattle.segment_manager.specs.Step.{effect, get, step}
+use Rattle.segment_manager.proofs.Laws.{AreNumbers, any-replies, by-handle, found-supported, numbers-of}
+use Rattle.segment_cli.specs.Answer.{answer_text, line}
+use Rattle.segment_cli.specs.Parts.{element_part, part_of, parts_until}
+use Rattle.segment_cli.specs.Replies.{shown_at, shown_of}
+use Rattle.segment_cli.specs.Shown.{elements_text, front_text, value_line}
+use Rattle.segment_cli.proofs.Answering.{answered-reads}
+use Rattle.segment_cli.proofs.PartLines.{parts-all, parts-same}
 
--- ---- the number at index 0
+-- ---- one element
 
--- what is found, or not
-abbrev found : Option Object → Result Object Refusal
-found o = elim o [ None ↦ Err NotFound | Some o ↦ Ok o ]
+-- a number behind a blank
+abbrev element_text : ScalarKind → ℤ → List ℕ
+element_text k z = 0x20 ∷ value_text k z
 
-abbrev get_plan : Directory → Option Object → Value → Plan
-get_plan d r v = if same_kind (Scalar I64) (kind_of v) then with (found r) (λ p. get d p.value 0) else Refuse WrongKind
+-- what is answered for an element that there is, or not
+abbrev element_of : Directory → ScalarKind → Option ℤ → Plan
+element_of d k r = with (elim r as (λ _. Result ℤ Refusal) [ None ↦ Err OutOfRange | Some z ↦ Ok z ]) (λ z. Reply (Element k z) d)
 
--- the number at index 0 is asked for
-get-reads : (mode : Mode) (d : Directory) (key : Key)
-    → step_of_kind mode d key (Scalar I64) (asked.Get key 0) ≡ perform d (live d) (with (found (object_at d key)) (λ o. get_plan d (object_at d key) o.value))
-unfolding step_of_kind
-get-reads Write d key = refl
-get-reads ReadOnly d key = refl
-get-reads CopyOnWrite d key = refl
+element-if : (d : Directory) (k : ScalarKind) (r : Option ℤ) → element_part (perform d (live d) (element_of d k r)).0 ≡ part_of (element_text k) r
+element-if d k None = refl
+element-if d k (Some z) = refl
 
-get-found : (mode : Mode) (d : Directory) (key : Key) (o : Object) (z : ℤ) → object_at d key ≡ Some o → o.value ≡ Numbers I64 (z ∷ [])
-    → (step_of_kind mode d key (Scalar I64) (asked.Get key 0)).0 ≡ Element I64 z
-get-found mode d key o z e f =
-    ap (λ (r : Answer × Directory). r.0) (get-reads mode d key)
-    ∙ ap (λ (r : Option Object). (perform d (live d) (with (found r) (λ o. get_plan d r o.value))).0) e
-    ∙ ap (λ (v : Value). (perform d (live d) (if same_kind (Scalar I64) (kind_of v) then get d v 0 else Refuse WrongKind)).0) f
+abbrev get_of : Directory → ℕ → Option Object → Plan
+get_of d i r = with (elim r as (λ _. Result Object Refusal) [ None ↦ Err NotFound | Some o ↦ Ok o ]) (λ o. get d o.value i)
 
--- ---- an object that has come
+-- an element of numbers
+element-is : (mode : Mode) (d : Directory) (key : Key) (o : Object) (k : ScalarKind) (zs : List ℤ) (i : ℕ) → object_at d key ≡ Some o → o.value ≡ Numbers k zs
+    → element_part (step mode d (asked.Get key i)).0 ≡ part_of (element_text k) (slice_get zs i)
+element-is mode d key o k zs i e f =
+    ap element_part (answered-reads mode d (asked.Get key i) refl)
+    ∙ ap (λ (r : Option Object). element_part (perform d (live d) (get_of d i r)).0) e
+    ∙ ap (λ (v : Value). element_part (perform d (live d) (get d v i)).0) f
+    ∙ element-if d k (slice_get zs i)
 
-find-if : (q : Object → Bool) (b : Bool) (x o : Object) (rest : Option Object) → cond b (Some x) rest ≡ Some o → IsTrue (q x) → (rest ≡ Some o → IsTrue (q o)) → IsTrue (q o)
-find-if q true x o rest e h k = let same : x ≡ o = cc in subst (λ y. IsTrue (q y)) same h
-find-if q false x o rest e h k = k e
+-- ---- all of them
 
--- what is found passes the test that all pass
-find-test : (p q : Object → Bool) (os : List Object) (o : Object) → find p os ≡ Some o → IsTrue (list_all q os) → IsTrue (q o)
-find-test p q [] o e h = absurd (cc)
-find-test p q (x ∷ xs) o e h =
-    let both = and_parts (q x) (list_all q xs) h in
-    find-if q (p x) x o (find p xs) e both.0 (λ f. find-test p q xs o f both.1)
+line-words : (w : List ℕ) (k : ScalarKind) (zs : List ℤ) → line (w ∷ map (value_text k) zs) ≡ w ++ (flat_map (element_text k) zs ++ 0x0A ∷ [])
+line-words w k [] = refl
+line-words w k (z ∷ zs) =
+    ap (λ l. w ++ 0x20 ∷ l) (line-words (value_text k z) k zs)
+    ∙ ap (λ l. w ++ 0x20 ∷ l) (sym (append_assoc (value_text k z) (flat_map (element_text k) zs) (0x0A ∷ [])))
 
--- an object that is found has one number
-found-number : (d : Directory) (key : Key) (o : Object) → IsTrue (is_supported d) → object_at d key ≡ Some o → IsNumber o.value
-found-number d key o h e = number-of o (find-test (has_key key) is_supported_object d.objects o e (supported-parts d h).objects)
+shown-numbers : (mode : Mode) (d : Directory) (key : Key) (o : Object) (k : ScalarKind) (zs : List ℤ) → object_at d key ≡ Some o → o.value ≡ Numbers k zs
+    → value_line (Scalar k) (length zs) mode d key ≡ answer_text (Shown (Numbers k zs))
+shown-numbers mode d key o k zs e f =
+    ap (λ l. front_text (Scalar k) (length zs) ++ (l ++ 0x0A ∷ []))
+    (parts-same (λ i. element_part (step mode d (asked.Get key i)).0) (λ i. part_of (element_text k) (slice_get zs i)) (length zs) (λ i. element-is mode d key o k zs i e f)
+    ∙ parts-all (element_text k) zs)
+    ∙ sym (line-words (front_text (Scalar k) (length zs)) k zs)
 
--- ---- what is printed of it
+-- ---- the object of a key, by its handle
 
-abbrev kind_in : Option Object → Result Kind Refusal
-kind_in o = elim o [ None ↦ Err NotFound | Some o ↦ Ok (kind_of o.value) ]
+abbrev elements_in : Option Object → Result ScalarKind Refusal
+elements_in r = elim r as (λ _. Result ScalarKind Refusal) [ None ↦ Err NotFound | Some o ↦ elements_of (kind_of o.value) ]
 
-refused-of : (r : Option Object) (refusal : Refusal) → Err refusal ≡ kind_in r → (refusal ≡ NotFound) × (r ≡ None)
-refused-of None refusal e = (cc, refl)
-refused-of (Some o) refusal e = absurd (cc)
+has-object : (k : ScalarKind) (r : Option Object) → Ok k ≡ elements_in r → true ≡ is_some r
+has-object k None e = absurd (cc)
+has-object k (Some o) e = refl
 
-record IsFound (r : Option Object) (kind : Kind) : Type 0 where
-  object : Object
-  at : r ≡ Some object
-  same : kind ≡ kind_of object.value
+-- where there are elements there is an object
+pub is-object : (s : State) (h : ℕ) (k : ScalarKind) → Answers s (λ d. elements_at d (ByHandle h)) (Ok k) → Answers s (λ d. is_object_at d h) true
+is-object s h k a = record { answers = λ d st. has-object k (object_at d (ByHandle h)) (a.answers d st) }
 
-found-of : (r : Option Object) (kind : Kind) → Ok kind ≡ kind_in r → IsFound r kind
-found-of None kind e = absurd (cc)
-found-of (Some o) kind e = record { object = o; at = refl; same = cc }
+-- an element that is read at a handle is the command's
+pub element-read : (s : State) (h : ℕ) (k : ScalarKind) (i : ℕ) (r : Result ScalarValue Refusal) → Answers s (λ d. elements_at d (ByHandle h)) (Ok k)
+    → IsReplyOfKind s (ByHandle h) (Scalar k) (asked.Get (ByHandle h) i) (scalar_answer r) → IsReply s (asked.Get (ByHandle h) i) (scalar_answer r)
+element-read s h k i r a is = any-replies s (ByHandle h) k (asked.Get (ByHandle h) i) (scalar_answer r) a is
 
-module _ (mode : Mode) (d : Directory) (h : ℕ) where
-  -- the object is not found
-  pub shown-none : (r : Refusal) → Err r ≡ kind_at d (ByHandle h) → answer_text (Refused r) ≡ answer_text (shown_at d (ByHandle h))
-  shown-none r e =
-      let none = refused-of (object_at d (ByHandle h)) r e in
-      ap (λ (q : Refusal). answer_text (Refused q)) none.0 ∙ ap (λ (o : Option Object). answer_text (shown_of o)) (sym none.1)
+module _ (s : State) (key : Key) (said : Instance) (h : SaysOf s key said) where
+  at-handle : (d : Directory) (k : StandsFor s.cut.bytes d) → object_at d (ByHandle said.handle) ≡ Some (h.says d k).0
+  at-handle d k =
+      let f = h.says d k in
+      ap (λ n. object_at d (ByHandle n)) f.2.at ∙ by-handle current d key f.0 k.denotes.directory f.1
 
-  -- its kind and its number are printed, and it has one
-  pub shown-some : (kind : Kind) (r : Result ℤ Refusal) → IsTrue (is_supported d) → Ok kind ≡ kind_at d (ByHandle h)
-      → element_answer I64 r ≡ (step_of_kind mode d (ByHandle h) (Scalar I64) (asked.Get (ByHandle h) 0)).0
-      → shown_line kind r ≡ answer_text (shown_at d (ByHandle h))
-  shown-some kind (Ok z) supported e f =
-      let o : IsFound (object_at d (ByHandle h)) kind = found-of (object_at d (ByHandle h)) kind e in
-      let n : IsNumber o.object.value = found-number d (ByHandle h) o.object supported o.at in
-      let same : Element I64 z ≡ Element I64 n.number = f ∙ get-found mode d (ByHandle h) o.object n.number o.at n.is in
-      let kind_is : kind ≡ Scalar I64 = o.same ∙ ap kind_of n.is in
-      let number_is : z ≡ n.number = cc in
-      (λ i. shown_line (kind_is i) (Ok (number_is i)))
-      ∙ ap (λ (v : Value). answer_text (Shown v)) (sym n.is) ∙ ap (λ (o : Option Object). answer_text (shown_of o)) (sym o.at)
-  shown-some kind (Err r) supported e f =
-      let o : IsFound (object_at d (ByHandle h)) kind = found-of (object_at d (ByHandle h)) kind e in
-      let n : IsNumber o.object.value = found-number d (ByHandle h) o.object supported o.at in
-      let other : Refused r ≡ Element I64 n.number = f ∙ get-found mode d (ByHandle h) o.object n.number o.at n.is in
-      absurd (cc)
+  -- its elements are of the kind that it says
+  pub elements-said : (k : ScalarKind) → said.kind ≡ Scalar k → Answers s (λ d. elements_at d (ByHandle said.handle)) (Ok k)
+  elements-said k e = record {
+    answers = λ d st. ap elements_of (sym e ∙ (h.says d st).2.kind) ∙ sym (ap elements_in (at-handle d st));
+  }
+
+  -- it is shown
+  pub shown-said : (k : ScalarKind) → said.kind ≡ Scalar k → (d : Directory) → StandsFor s.cut.bytes d
+      → value_line (Scalar k) said.count s.mode d (ByHandle said.handle) ≡ answer_text (shown_at d key)
+  shown-said k e d st =
+      let f = h.says d st in
+      let o = f.0 in
+      let is = f.2 in
+      let n : AreNumbers o.value = numbers-of o (found-supported d key o st.supported f.1) in
+      let same : Scalar k ≡ kind_of o.value = sym e ∙ is.kind in
+      (λ j. value_line (same j) (is.count j) s.mode d (ByHandle said.handle))
+      ∙ ap (λ (v : Value). value_line (kind_of v) (count_of v) s.mode d (ByHandle said.handle)) n.is
+      ∙ shown-numbers s.mode d (ByHandle said.handle) o n.kind n.numbers (at-handle d st) n.is
+      ∙ ap (λ (v : Value). answer_text (Shown v)) (sym n.is)
+      ∙ ap (λ (r : Option Object). answer_text (shown_of r)) (sym f.1)
+
+  -- it has no other kind
+  pub no-other : ((k : ScalarKind) → said.kind ≡ Scalar k → ⊥) → (d : Directory) → StandsFor s.cut.bytes d → ⊥
+  no-other other d st =
+      let f = h.says d st in
+      let n : AreNumbers f.0.value = numbers-of f.0 (found-supported d key f.0 st.supported f.1) in
+      other n.kind (f.2.kind ∙ ap kind_of n.is)
+
+-- there is none
+pub shown-missing : (s : State) (key : Key) (r : Refusal) → IsMissing s key r → (d : Directory) → StandsFor s.cut.bytes d → answer_text (Refused r) ≡ answer_text (shown_at d key)
+shown-missing s key r h d k = ap (λ (q : Refusal). answer_text (Refused q)) h.is ∙ ap (λ (o : Option Object). answer_text (shown_of o)) (sym (h.missing d k))

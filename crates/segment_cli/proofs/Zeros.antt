@@ -13,11 +13,11 @@ use Rattle.segment_lang.specs.Reading.{reading}
 use Rattle.segment_manager.specs.declared.modes.Mode.{Mode}
 use Rattle.segment_manager.specs.declared.modes.Mode.TheVariants.{Write, ReadOnly, CopyOnWrite}
 use Rattle.segment_manager.specs.Directory.{Directory, empty, live}
-use Rattle.segment_manager.specs.Answers.{Done}
+use Rattle.segment_manager.specs.Answers.{Done, is_untouched}
 use Rattle.segment_manager.specs.State.{State, StandsFor}
 use Rattle.segment_manager.specs.Step.{step}
 use Rattle.segment_manager.specs.Calls.{HasZeroGaps, IsCreated}
-use Rattle.segment_cli.specs.ZeroGaps.{HasZeroGapsIn, is_refused, is_zero_free}
+use Rattle.segment_cli.specs.ZeroGaps.{HasZeroGapsIn, is_zero_free}
 use Rattle.segment_cli.specs.declared.replies.Answer.{Answer as Reply}
 use Rattle.segment_cli.specs.Replies.{Replies}
 use Rattle.segment_cli.specs.Segments.{Place, IsAt, place_after, answer_line}
@@ -65,7 +65,7 @@ zero_free-is : (c : Command) → is_zero_free c ≡ true → c ≡ ZeroFree
 zero_free-is ZeroFree e = refl
 zero_free-is c e = absurd (cc)
 
-zero_free-done : (mode : Mode) (d : Directory) → is_refused (step mode d ZeroFree).0 ≡ false → (step mode d ZeroFree).0 ≡ Done
+zero_free-done : (mode : Mode) (d : Directory) → is_untouched (step mode d ZeroFree).0 ≡ false → (step mode d ZeroFree).0 ≡ Done
 unfolding step
 zero_free-done Write d e = refl
 zero_free-done ReadOnly d e = absurd (cc)
@@ -87,12 +87,12 @@ executed old new c reply line e done at h =
     let place : IsAt new (place_after at (Asked c)) = record {
       mode = done.stays.mode ∙ m;
       denotes = subst (λ (n : Mode). StandsFor new.cut.bytes (step n d c).1) m (done.denotes d h.denotes);
-      zeros = zeros_held (is_refused (step at.mode d c).0) (is_changing c) (is_zero_free c) at.zeros old new
-          (λ r. done.refused d h.denotes (ap (λ (n : Mode). is_refused (step n d c).0) m ∙ r)) done.reads
+      zeros = zeros_held (is_untouched (step at.mode d c).0) (is_changing c) (is_zero_free c) at.zeros old new
+          (λ r. done.refused d h.denotes (ap (λ (n : Mode). is_untouched (step n d c).0) m ∙ r)) done.reads
           (λ z r. let is = zero_free-is c z in
           done.zeros d h.denotes is
           (ap (λ (x : Command). (step old.mode d x).0) is
-          ∙ zero_free-done old.mode d (ap (λ (x : Command). is_refused (step old.mode d x).0) (sym is) ∙ ap (λ (n : Mode). is_refused (step n d c).0) m ∙ r)))
+          ∙ zero_free-done old.mode d (ap (λ (x : Command). is_untouched (step old.mode d x).0) (sym is) ∙ ap (λ (n : Mode). is_untouched (step n d c).0) m ∙ r)))
           h.zeros;
     } in
     subst (λ (r : Reading). IsAt new (place_after at r)) e place

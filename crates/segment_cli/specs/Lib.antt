@@ -10,3 +10,6 @@ pub mod Segments
 pub mod Replies
 pub mod LongLines
 pub mod Beginning
+pub mod Parts
+pub mod Shown
+pub mod Settings

@@ -6,7 +6,7 @@ use Rattle.segment_lang.specs.Reading.{reading}
 use Rattle.segment_manager.specs.declared.modes.Mode.{Mode}
 use Rattle.segment_manager.specs.declared.modes.Mode.TheVariants.{Write}
 use Rattle.segment_manager.specs.Directory.{Directory}
-use Rattle.segment_manager.specs.Answers.{Answer, Refused}
+use Rattle.segment_manager.specs.Answers.{is_untouched}
 use Rattle.segment_manager.specs.Step.{step}
 use Rattle.segment_manager.specs.Calls.{HasZeroGaps}
 use Rattle.segment_cli.specs.Run.{lines, respond}
@@ -15,17 +15,13 @@ use Rattle.segment_cli.specs.Run.{lines, respond}
 abbrev pub HasZeroGapsIn : List ℕ → Type 0
 HasZeroGapsIn image = HasZeroGaps (record { cut = record { before = []; bytes = image; after = [] }; mode = Write })
 
-abbrev pub is_refused : Answer → Bool
-is_refused (Refused r) = true
-is_refused a = false
-
 abbrev pub is_zero_free : Command → Bool
 is_zero_free ZeroFree = true
 is_zero_free c = false
 
--- A command that is refused or changes nothing keeps what was known. Of those that may change something one leaves zeros.
+-- A command that changes nothing, or is refused before it asks for a block, keeps what was known. Of the others one leaves zeros.
 abbrev pub zeros_after : Mode → Directory → Reading → Bool → Bool
-zeros_after mode d (Asked c) known = if is_refused (step mode d c).0 then known else if is_changing c then is_zero_free c else known
+zeros_after mode d (Asked c) known = if is_untouched (step mode d c).0 then known else if is_changing c then is_zero_free c else known
 zeros_after mode d Nothing known = known
 zeros_after mode d UnknownCommand known = known
 zeros_after mode d LineTooLong known = known

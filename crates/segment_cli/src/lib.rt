@@ -11,7 +11,9 @@ mod saving;
 mod scripts;
 mod segments;
 mod sessions;
+mod setting;
 mod showing;
+mod telling;
 
 pub use faults::{RunFault, SessionFault, Start};
 pub use machine::Machine;

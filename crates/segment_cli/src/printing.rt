@@ -1,5 +1,7 @@
 //! The printing of answers: what is short goes out in one line, what is long as the segment tells it.
 ghost use Rattle.std.specs.Prelude.{◌≡◌, ◌-◌, ◌^◌, ◌<◌};
+ghost use Rattle.raw_region.specs.Device.{Writes};
+ghost use Rattle.segment_manager.specs.Answers.{Found, Made};
 ghost use Rattle.segment_manager.specs.State.{StandsFor};
 ghost use Rattle.segment_cli.specs.Answer.{answer_text, truth_word};
 ghost use Rattle.segment_cli.specs.Replies.{answer_seen};
@@ -8,8 +10,9 @@ ghost use Rattle.segment_cli.specs.Writing.{WritesFor};
 use crate::listing::put_blocks;
 use crate::replies::Answer;
 use crate::showing::put_shown;
+use crate::telling::{put_kinds, put_names, put_told};
 use raw_region::{DeviceFault, Sink};
-use seg_types::Key;
+use seg_types::Handle;
 use segment_lang::{Piece, put_pieces};
 use segment_manager::Segment;
 
@@ -25,26 +28,55 @@ pub fn put_answer<W: Sink>(
 {
     match answer {
         Answer::Done => put_pieces(out, &[Piece::Bytes(b"ok\n")]),
+        Answer::Absent => put_pieces(out, &[Piece::Bytes(b"none\n")]),
         Answer::Truth(truth) => {
             put_pieces(out, &[Piece::Bytes(truth_word(truth)), Piece::Bytes(b"\n")])
         }
         Answer::Number(number) => put_pieces(out, &[Piece::Number(number), Piece::Bytes(b"\n")]),
-        Answer::Made(handle) => {
-            put_pieces(
-                out,
-                &[
-                    Piece::Bytes(b"#"),
-                    Piece::Number(handle),
-                    Piece::Bytes(b"\n"),
-                ],
-            )
-        }
-        Answer::Shown(Key::Handle(handle)) => put_shown(segment, handle, out),
+        Answer::Made(handle) => put_handle(handle, out),
+        Answer::Found(handle, count) => put_found(handle, count, out),
+        Answer::Element(value) => put_pieces(out, &[Piece::Value(value), Piece::Bytes(b"\n")]),
+        Answer::Shown(key) => put_shown(segment, &key, out),
+        Answer::Told(key) => put_told(segment, &key, out),
+        Answer::Names => put_names(segment, out),
+        Answer::Kinds => put_kinds(segment, out),
         Answer::Blocks => put_blocks(segment, out),
         Answer::Refused(refusal) => {
             put_pieces(out, &[Piece::Refusal(refusal), Piece::Bytes(b"\n")])
         }
     }
+}
+
+/// Writes a handle.
+fn put_handle<W: Sink>(handle: Handle, out: &mut W) -> Result<(), DeviceFault>
+    requires { (W.history out.old).failures < 2 ^ 64 - 1 }
+    ensures { Writes (W.history out.old) (W.history out.new) result (answer_text (Made handle)) }
+{
+    put_pieces(
+        out,
+        &[
+            Piece::Bytes(b"#"),
+            Piece::Number(handle),
+            Piece::Bytes(b"\n"),
+        ],
+    )
+}
+
+/// Writes a handle and a count.
+fn put_found<W: Sink>(handle: Handle, count: u32, out: &mut W) -> Result<(), DeviceFault>
+    requires { (W.history out.old).failures < 2 ^ 64 - 1 }
+    ensures { Writes (W.history out.old) (W.history out.new) result (answer_text (Found handle count)) }
+{
+    put_pieces(
+        out,
+        &[
+            Piece::Bytes(b"#"),
+            Piece::Number(handle),
+            Piece::Bytes(b" "),
+            Piece::Number(u64::from(count)),
+            Piece::Bytes(b"\n"),
+        ],
+    )
 }
 
 /// The word for whether something holds.

@@ -1,46 +1,79 @@
 //! What a command is answered: each is executed by one call of the segment.
 ghost use Rattle.std.specs.Prelude.{◌≡◌, OnErr};
-ghost use Rattle.seg_types.specs.Commands.{Construct};
-ghost use Rattle.seg_types.specs.Keys.{new_key_seen};
+ghost use Rattle.seg_types.specs.Commands.{Construct, ConstructIt, Destroy, DestroyPtr, FindOrConstruct, ReserveNamed, ReserveUnique, ShrinkIndexes};
+ghost use Rattle.seg_types.specs.Keys.{index_key_seen, new_key_seen};
 ghost use Rattle.segment_lang.specs.Seen.{command_of, content_of};
 ghost use Rattle.segment_manager.specs.Directory.{Directory};
-ghost use Rattle.segment_manager.specs.State.{IsStep, done_answer, gone_answer, handle_answer};
-ghost use Rattle.segment_cli.specs.Replies.{Replies, answer_seen};
+ghost use Rattle.segment_manager.specs.Found.{found_answer, pair_answer};
+ghost use Rattle.segment_manager.specs.State.{IsStep, KeepsRefused, done_answer, gone_answer, handle_answer, scalar_answer, truth_answer};
+ghost use Rattle.segment_cli.specs.Replies.{IsContent, IsMeant, Replies, answer_seen};
 
-use seg_types::{Handle, Key, NewKey, Refusal, ScalarValue};
-use segment_lang::{Command, Content};
+use crate::setting::set;
+use seg_types::{Handle, IndexKey, Key, NewKey, Refusal, ScalarValue};
+use segment_lang::{Command, Content, Values};
 use segment_manager::Segment;
 
 /// What a command is answered: all of it where it is short, and where it is long, of what the segment is to be asked.
-#[derive(Clone, Copy, Debug, PartialEq, Eq)]
+#[derive(Drop)]
 pub enum Answer {
     /// The command is done.
     Done,
+    /// There is nothing.
+    Absent,
     /// Whether something holds.
     Truth(bool),
     /// A number.
     Number(u64),
     /// The handle of an object that was made.
     Made(Handle),
+    /// The handle of an object, and how many elements it has.
+    Found(Handle, u32),
+    /// An element of an object.
+    Element(ScalarValue),
     /// The kind and the value of the object of a key, or that there is none.
     Shown(Key),
+    /// What the object of a key says of itself, or that there is none.
+    Told(Key),
+    /// Each object with a name, by name.
+    Names,
+    /// Each unique object, by kind.
+    Kinds,
     /// Each block and gap by offset.
     Blocks,
-    /// Why the command is refused. Nothing changed.
+    /// Why the command is refused. The objects are as before.
     Refused(Refusal),
 }
 
 /// Executes a command by one call of the segment, and answers it.
-pub fn reply(segment: &mut Segment, command: Command) -> Answer
-    ensures { Replies segment.old segment.new (command_of command) result }
+pub fn reply(segment: &mut Segment, command: Command<'_>) -> Answer
+    requires { IsMeant (command_of command) }
+    ensures { Replies segment.old segment.new (command_of command.entry) result }
 {
     match command {
-        Command::Construct { key, content } => made(construct(segment, key, content)),
-        Command::DestroyPtr(handle) => gone(segment.destroy_ptr(handle)),
+        Command::Construct { key, content } => made(construct(segment, &key, content)),
+        Command::ConstructIt { key, count, values } => {
+            made(construct_it(segment, &key, count, values))
+        }
+        Command::Find { kind, key } => looked_up(segment.find_kind(&key.into_key(), kind)),
+        Command::FindOrConstruct { key, content } => {
+            found(find_or_construct(segment, &key, content))
+        }
+        Command::Destroy(key) => truth(destroy(segment, &key)),
+        Command::DestroyPtr(handle) => gone(destroy_ptr(segment, handle)),
         Command::Show(key) => Answer::Shown(key),
+        Command::Info(key) => Answer::Told(key),
+        Command::Get { key, index } => element(segment.get_any(&key, index)),
+        Command::Set { key, index, value } => done(set(segment, &key, index, value)),
+        Command::ListNames => Answer::Names,
+        Command::ListKinds => Answer::Kinds,
         Command::Blocks => Answer::Blocks,
         Command::Size => Answer::Number(segment.size()),
         Command::Free => Answer::Number(segment.free()),
+        Command::NumNamed => Answer::Number(segment.num_named()),
+        Command::NumUnique => Answer::Number(segment.num_unique()),
+        Command::ReserveNamed(count) => done(reserve_named(segment, count)),
+        Command::ReserveUnique(count) => done(reserve_unique(segment, count)),
+        Command::ShrinkIndexes => done(shrink_indexes(segment)),
         Command::ZeroFree => done(segment.zero_free()),
         Command::Sanity => Answer::Truth(segment.sanity()),
         Command::AllDeallocated => Answer::Truth(segment.all_deallocated()),
@@ -51,14 +84,115 @@ pub fn reply(segment: &mut Segment, command: Command) -> Answer
 ///
 /// # Errors
 ///
+/// As the segment's call. The objects are as before.
+#[tactic(auto, using(crate::proofs::NewKinds::content_kind, crate::proofs::NewKinds::content_some, crate::proofs::NewKinds::content_few))]
+fn construct(segment: &mut Segment, key: &NewKey, content: Content) -> Result<Handle, Refusal>
+    requires { IsContent (new_key_seen key.now) (content_of content) }
+    ensures step { IsStep segment.old segment.new (Construct (new_key_seen key.now) (content_of content)) (handle_answer result) }
+    ensures refused { KeepsRefused segment.old segment.new result }
+{
+    match content {
+        Content::Scalars { value, count } => segment.construct_value(key, count, value),
+    }
+}
+
+/// Makes an array of the values, and answers its handle.
+///
+/// # Errors
+///
+/// As the segment's call. The objects are as before.
+fn construct_it(
+    segment: &mut Segment,
+    key: &NewKey,
+    count: u32,
+    mut values: Values<'_>,
+) -> Result<Handle, Refusal>
+    requires { IsMeant (ConstructIt (new_key_seen key.now) values.kind count values.numbers) }
+    ensures step { IsStep segment.old segment.new (ConstructIt (new_key_seen key.now) values.entry.kind count values.entry.numbers) (handle_answer result) }
+    ensures refused { KeepsRefused segment.old segment.new result }
+{
+    let kind = values.kind();
+    segment.construct_values(key, kind, count, &mut values)
+}
+
+/// Finds an object, or makes it where there is none, and answers its handle and how many elements it has.
+///
+/// # Errors
+///
+/// As the segment's call. The objects are as before.
+#[tactic(auto, using(crate::proofs::NewKinds::index_kind, crate::proofs::NewKinds::index_some, crate::proofs::NewKinds::index_few))]
+fn find_or_construct(
+    segment: &mut Segment,
+    key: &IndexKey,
+    content: Content,
+) -> Result<(Handle, u32), Refusal>
+    requires { IsContent (index_key_seen key.now) (content_of content) }
+    ensures step { IsStep segment.old segment.new (FindOrConstruct (index_key_seen key.now) (content_of content)) (pair_answer result) }
+    ensures refused { KeepsRefused segment.old segment.new result }
+{
+    match content {
+        Content::Scalars { value, count } => segment.find_or_construct_value(key, count, value),
+    }
+}
+
+/// Destroys the object of an entry, and answers whether there was one.
+///
+/// # Errors
+///
 /// As the segment's call. Nothing changes.
-fn construct(segment: &mut Segment, key: NewKey, content: Content) -> Result<Handle, Refusal>
-    ensures step { IsStep segment.old segment.new (Construct (new_key_seen key) (content_of content)) (handle_answer result) }
+fn destroy(segment: &mut Segment, key: &IndexKey) -> Result<bool, Refusal>
+    ensures step { IsStep segment.old segment.new (Destroy (index_key_seen key.now)) (truth_answer result) }
     ensures refused { OnErr result (segment.new ≡ segment.old) }
 {
-    match (key, content) {
-        (NewKey::Anonymous, Content::Scalar(ScalarValue::I64(value))) => segment.construct(value),
-    }
+    segment.destroy(key)
+}
+
+/// Destroys the object of a handle.
+///
+/// # Errors
+///
+/// As the segment's call. Nothing changes.
+fn destroy_ptr(segment: &mut Segment, handle: Handle) -> Result<(), Refusal>
+    ensures step { IsStep segment.old segment.new (DestroyPtr handle) (gone_answer result) }
+    ensures refused { OnErr result (segment.new ≡ segment.old) }
+{
+    segment.destroy_ptr(handle)
+}
+
+/// Makes room in the index of names.
+///
+/// # Errors
+///
+/// As the segment's call. The objects are as before.
+fn reserve_named(segment: &mut Segment, count: u64) -> Result<(), Refusal>
+    ensures step { IsStep segment.old segment.new (ReserveNamed count) (done_answer result) }
+    ensures refused { KeepsRefused segment.old segment.new result }
+{
+    segment.reserve_named(count)
+}
+
+/// Makes room in the index of unique kinds.
+///
+/// # Errors
+///
+/// As the segment's call. The objects are as before.
+fn reserve_unique(segment: &mut Segment, count: u64) -> Result<(), Refusal>
+    ensures step { IsStep segment.old segment.new (ReserveUnique count) (done_answer result) }
+    ensures refused { KeepsRefused segment.old segment.new result }
+{
+    segment.reserve_unique(count)
+}
+
+/// Gives back the room of the indexes that no entry uses.
+///
+/// # Errors
+///
+/// As the segment's call. Nothing changes.
+fn shrink_indexes(segment: &mut Segment) -> Result<(), Refusal>
+    ensures step { IsStep segment.old segment.new ShrinkIndexes (done_answer result) }
+    ensures refused { OnErr result (segment.new ≡ segment.old) }
+{
+    segment.shrink_indexes()
 }
 
 /// The answer where an object was made, or not.
@@ -67,6 +201,47 @@ fn made(made: Result<Handle, Refusal>) -> Answer
 {
     match made {
         Ok(handle) => Answer::Made(handle),
+        Err(refusal) => Answer::Refused(refusal),
+    }
+}
+
+/// The answer where an object was found or made, or not.
+fn found(found: Result<(Handle, u32), Refusal>) -> Answer
+    ensures { (d : Directory) → answer_seen d result ≡ pair_answer found }
+{
+    match found {
+        Ok((handle, count)) => Answer::Found(handle, count),
+        Err(refusal) => Answer::Refused(refusal),
+    }
+}
+
+/// The answer where an object was looked for.
+fn looked_up(found: Result<Option<(Handle, u32)>, Refusal>) -> Answer
+    ensures { (d : Directory) → answer_seen d result ≡ found_answer found }
+{
+    match found {
+        Ok(Some((handle, count))) => Answer::Found(handle, count),
+        Ok(None) => Answer::Absent,
+        Err(refusal) => Answer::Refused(refusal),
+    }
+}
+
+/// The answer where an element was asked for.
+fn element(element: Result<ScalarValue, Refusal>) -> Answer
+    ensures { (d : Directory) → answer_seen d result ≡ scalar_answer element }
+{
+    match element {
+        Ok(value) => Answer::Element(value),
+        Err(refusal) => Answer::Refused(refusal),
+    }
+}
+
+/// The answer where something holds, or not.
+fn truth(truth: Result<bool, Refusal>) -> Answer
+    ensures { (d : Directory) → answer_seen d result ≡ truth_answer truth }
+{
+    match truth {
+        Ok(truth) => Answer::Truth(truth),
         Err(refusal) => Answer::Refused(refusal),
     }
 }

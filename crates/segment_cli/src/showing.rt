@@ -1,50 +1,111 @@
 //! An object that is shown: its kind and its value.
-ghost use Rattle.std.specs.Prelude.{◌-◌, ◌^◌, ◌<◌};
+ghost use Rattle.std.specs.Prelude.{◌-◌, ◌^◌, ◌<◌, ◌++◌, ◌∷◌, [], Ok};
 ghost use Rattle.raw_region.specs.Device.{Writes};
+ghost use Rattle.seg_types.specs.declared.kinds.Kind.TheVariants.{Scalar};
+ghost use Rattle.seg_types.specs.Commands.{Get};
+ghost use Rattle.seg_types.specs.Keys.{key_seen};
 ghost use Rattle.seg_types.specs.Names.{ByHandle};
-ghost use Rattle.segment_manager.specs.State.{StandsFor};
+ghost use Rattle.segment_manager.specs.Calls.{elements_at};
+ghost use Rattle.segment_manager.specs.State.{Answers, StandsFor};
+ghost use Rattle.segment_manager.specs.Step.{step};
 ghost use Rattle.segment_cli.specs.Answer.{answer_text};
-ghost use Rattle.segment_cli.specs.Replies.{shown_at, shown_line};
+ghost use Rattle.segment_cli.specs.Parts.{element_part, parts_until};
+ghost use Rattle.segment_cli.specs.Replies.{shown_at};
+ghost use Rattle.segment_cli.specs.Shown.{elements_text, front_text, value_line};
 ghost use Rattle.segment_cli.specs.Writing.{WritesFor};
 
 use raw_region::{DeviceFault, Sink};
-use seg_types::{Handle, Kind, Refusal, ScalarValue};
+use seg_types::{Handle, Key, Kind, ScalarKind};
 use segment_lang::{Piece, put_pieces};
 use segment_manager::Segment;
 
-/// Writes the kind and the value of the object of a handle, or that there is none.
-pub fn put_shown<W: Sink>(segment: &Segment, handle: Handle, out: &mut W) -> Result<(), DeviceFault>
+/// Writes the kind and the value of the object of a key, or that there is none. The object is looked for once.
+pub fn put_shown<W: Sink>(segment: &Segment, key: &Key, out: &mut W) -> Result<(), DeviceFault>
     requires { (W.history out.old).failures < 2 ^ 64 - 1 }
     ensures { WritesFor (W.history out.old) (W.history out.new) result (StandsFor segment.now.cut.bytes)
-        (λ d. answer_text (shown_at d (ByHandle handle))) }
+        (λ d. answer_text (shown_at d (key_seen key.now))) }
 {
-    match segment.kind_of(handle) {
-        Ok(kind) => put_number(out, kind, segment.get(handle, 0)),
+    match segment.instance(key) {
+        Ok(said) => match said.kind {
+            Kind::Scalar(kind) => put_value_line(segment, said.handle, kind, said.count, out),
+            // no objects of other kinds have come yet
+            _ => Ok(()),
+        },
         Err(refusal) => put_pieces(out, &[Piece::Refusal(refusal), Piece::Bytes(b"\n")]),
     }
 }
 
-/// Writes the kind and the number of an object, or why it has none.
-fn put_number<W: Sink>(
+/// Writes a kind, how many elements there are where there is not one alone, and as many elements of the object at a handle.
+fn put_value_line<W: Sink>(
+    segment: &Segment,
+    handle: Handle,
+    kind: ScalarKind,
+    count: u32,
     out: &mut W,
-    kind: Kind,
-    number: Result<i64, Refusal>,
 ) -> Result<(), DeviceFault>
-    requires { (W.history out.old).failures < 2 ^ 64 - 1 }
-    ensures { Writes (W.history out.old) (W.history out.new) result (shown_line kind number) }
+    requires writer { (W.history out.old).failures < 2 ^ 64 - 1 }
+    requires object { Answers segment.now (λ d. elements_at d (ByHandle handle)) (Ok kind) }
+    ensures { WritesFor (W.history out.old) (W.history out.new) result (StandsFor segment.now.cut.bytes)
+        (λ d. value_line (Scalar kind) count segment.now.mode d (ByHandle handle)) }
 {
-    match number {
-        Ok(number) => {
-            put_pieces(
-                out,
-                &[
-                    Piece::Kind(kind),
-                    Piece::Bytes(b" "),
-                    Piece::Value(ScalarValue::I64(number)),
-                    Piece::Bytes(b"\n"),
-                ],
-            )
-        }
-        Err(refusal) => put_pieces(out, &[Piece::Refusal(refusal), Piece::Bytes(b"\n")]),
+    put_front(Kind::Scalar(kind), count, out)?;
+    put_elements(segment, handle, kind, count, out)?;
+    put_pieces(out, &[Piece::Bytes(b"\n")])
+}
+
+/// Writes a kind, and how many elements there are where there is not one alone.
+fn put_front<W: Sink>(kind: Kind, count: u32, out: &mut W) -> Result<(), DeviceFault>
+    requires { (W.history out.old).failures < 2 ^ 64 - 1 }
+    ensures { Writes (W.history out.old) (W.history out.new) result (front_text kind count) }
+{
+    if count == 1 {
+        return put_pieces(out, &[Piece::Kind(kind)]);
+    }
+    put_pieces(
+        out,
+        &[
+            Piece::Kind(kind),
+            Piece::Bytes(b"["),
+            Piece::Number(u64::from(count)),
+            Piece::Bytes(b"]"),
+        ],
+    )
+}
+
+/// Writes as many elements of the object at a handle, each behind a blank.
+fn put_elements<W: Sink>(
+    segment: &Segment,
+    handle: Handle,
+    kind: ScalarKind,
+    count: u32,
+    out: &mut W,
+) -> Result<(), DeviceFault>
+    requires writer { (W.history out.old).failures < 2 ^ 64 - 1 }
+    requires object { Answers segment.now (λ d. elements_at d (ByHandle handle)) (Ok kind) }
+    ensures { WritesFor (W.history out.old) (W.history out.new) result (StandsFor segment.now.cut.bytes)
+        (λ d. elements_text segment.now.mode d (ByHandle handle) count) }
+{
+    'elements: for index in 0..u64::from(count) {
+        put_element(segment, handle, kind, index, out)?;
+    }
+    Ok(())
+}
+
+/// Writes the element at an index behind a blank, and nothing where there is none.
+fn put_element<W: Sink>(
+    segment: &Segment,
+    handle: Handle,
+    kind: ScalarKind,
+    index: u64,
+    out: &mut W,
+) -> Result<(), DeviceFault>
+    requires writer { (W.history out.old).failures < 2 ^ 64 - 1 }
+    requires object { Answers segment.now (λ d. elements_at d (ByHandle handle)) (Ok kind) }
+    ensures { WritesFor (W.history out.old) (W.history out.new) result (StandsFor segment.now.cut.bytes)
+        (λ d. element_part (step segment.now.mode d (Get (ByHandle handle) index)).0) }
+{
+    match segment.get_at(handle, kind, index) {
+        Ok(value) => put_pieces(out, &[Piece::Bytes(b" "), Piece::Value(value)]),
+        Err(_) => Ok(()),
     }
 }

@@ -4,5 +4,9 @@ mod LongLines
 mod WordList
 mod TextSpelling
 mod FormTables
-mod Readers
+mod WordReaders
+mod ArrayValues
+mod QuotedNames
+mod PrintedKeys
+mod CommandWords
 mod Rows

@@ -1,9 +1,11 @@
 -- Readings by example.
-use Rattle.std.proofs.Common.{◌≡◌, refl, negsuc, [], ◌∷◌, ◌++◌, Some, replicate}
+use Rattle.std.proofs.Common.{◌≡◌, refl, pos, negsuc, [], ◌∷◌, ◌++◌, Some, replicate}
 use lib.Chars.{codes}
-use Rattle.seg_types.specs.declared.kinds.ScalarKind.TheVariants.{I64}
-use Rattle.seg_types.specs.Names.{ByHandle, NoKey}
-use Rattle.seg_types.specs.Commands.{Nothing, Asked, UnknownCommand, LineTooLong, BadSyntax, Construct, Numbers, Show}
+use Rattle.raw_region.specs.Format.{current}
+use Rattle.seg_types.specs.declared.kinds.Kind.TheVariants.{Scalar}
+use Rattle.seg_types.specs.declared.kinds.ScalarKind.TheVariants.{Bool as BoolKind, U8, I32, I64, U64}
+use Rattle.seg_types.specs.Names.{ByHandle, ByKind, ByName, NoKey}
+use Rattle.seg_types.specs.Commands.{Nothing, Asked, UnknownCommand, LineTooLong, BadSyntax, Construct, ConstructIt, Find, FindOrConstruct, Get, Numbers, ReserveNamed, Set, Show, Whole}
 use Rattle.segment_lang.specs.Words.{Bare, Text}
 use Rattle.segment_lang.specs.Language.{supported}
 use Rattle.segment_lang.specs.Reading.{reading}
@@ -16,6 +18,59 @@ made = refl
 shown : reading supported (codes "\tshow #144 \r") ≡ Asked (Show (ByHandle 144))
 unfolding reading
 shown = refl
+
+array : reading supported (codes "construct u8[3] \"a b\" 7") ≡ Asked (Construct (ByName (codes "a b")) (Numbers U8 (pos 7 ∷ pos 7 ∷ pos 7 ∷ [])))
+unfolding reading current
+array = refl
+
+array_of_many : reading supported (codes "construct_it bool[2] @bool true false") ≡ Asked (ConstructIt (ByKind (Scalar BoolKind)) BoolKind 2 (pos 1 ∷ pos 0 ∷ []))
+unfolding reading current
+array_of_many = refl
+
+found : reading supported (codes "find u64 _a.1") ≡ Asked (Find (ByName (codes "_a.1")) (Scalar U64))
+unfolding reading current
+found = refl
+
+found_or_made : reading supported (codes "find_or_construct i32 @i32 -1") ≡ Asked (FindOrConstruct (ByKind (Scalar I32)) (Numbers I32 (negsuc 0 ∷ [])))
+unfolding reading current
+found_or_made = refl
+
+element : reading supported (codes "get a 18446744073709551615") ≡ Asked (Get (ByName (codes "a")) 18446744073709551615)
+unfolding reading current
+element = refl
+
+-- a literal that is no value of the element is for the command to refuse
+set : reading supported (codes "set #192 0 -3") ≡ Asked (Set (ByHandle 192) 0 (Whole (negsuc 2)))
+unfolding reading current
+set = refl
+
+room : reading supported (codes "reserve_named 10") ≡ Asked (ReserveNamed 10)
+unfolding reading
+room = refl
+
+other_kind : reading supported (codes "find u8 @u64") ≡ BadSyntax
+unfolding reading
+other_kind = refl
+
+too_few : reading supported (codes "construct_it i64[3] w 1 2") ≡ BadSyntax
+unfolding reading current
+too_few = refl
+
+no_elements : reading supported (codes "construct i64[0] w 1") ≡ BadSyntax
+unfolding reading current
+no_elements = refl
+
+no_value : reading supported (codes "construct u8 x 300") ≡ BadSyntax
+unfolding reading current
+no_value = refl
+
+no_name : reading supported (codes "construct u8 1x 3") ≡ BadSyntax
+unfolding reading current
+no_name = refl
+
+control_in_name : reading supported (codes "construct u8 \"\\x0a\" 3") ≡ BadSyntax
+unfolding reading current
+control_in_name = refl
 
 comment : reading supported (codes "#size") ≡ Nothing
 unfolding reading

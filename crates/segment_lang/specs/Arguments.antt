@@ -1,50 +1,86 @@
 -- What stands behind a command word, read one word after another.
-use Rattle.std.specs.Prelude.{ℕ, Bool, Option, Some, None, List, [], ◌∷◌, ◌==◌, option_and_then, if◌then◌else◌}
-use Rattle.std.specs.List.{list_any}
+use Rattle.std.specs.Prelude.{ℕ, ℤ, Bool, true, false, Option, Some, None, List, [], ◌∷◌, length, map, ◌==◌, option_and_then, unwrap_or, if◌then◌else◌}
 use Rattle.seg_types.specs.declared.kinds.Kind.{Kind}
-use Rattle.seg_types.specs.Kinds.{same_kind}
+use Rattle.seg_types.specs.declared.kinds.Kind.TheVariants.{Scalar}
 use Rattle.seg_types.specs.declared.kinds.ScalarKind.{ScalarKind}
+use Rattle.seg_types.specs.declared.values.ScalarValue.{ScalarValue}
 use Rattle.seg_types.specs.Names.{Key}
-use Rattle.seg_types.specs.Commands.{Command, Construct, Content, Numbers}
+use Rattle.seg_types.specs.Values.{scalar_of}
+use Rattle.seg_types.specs.Commands.{Command, Content}
 use Rattle.segment_lang.specs.Words.{Word, Bare, number_of, words}
 use Rattle.segment_lang.specs.Language.{Language, supported}
-use Rattle.segment_lang.specs.Reading.{content, counted_kind, key_of, new_key, value_for}
-use Rattle.segment_lang.specs.Tokens.{◌>>=◌, next_word, only_word}
+use Rattle.segment_lang.specs.Reading.{Reader, all, content, counted_kind, for_kind, new_key, items, value_for}
+use Rattle.segment_lang.specs.Tokens.{◌>>=◌, next_two, only_word, two_words, three_words}
 
--- a kind that has come
-abbrev pub has_kind : Language → Kind → Bool
-has_kind l kind = list_any (same_kind kind) l.kinds
+-- one scalar or an array of them
+abbrev pub is_scalar : Kind → Bool
+is_scalar (Scalar k) = true
+is_scalar k = false
 
--- one value of the kind
-unfoldable pub scalar_at : ScalarKind → List ℕ → Option Content
-scalar_at k bytes = do
-  word ← only_word bytes
-  z ← value_for k word
-  Some (Numbers k (z ∷ []))
-
--- a kind, a key, and what an object is made with
-unfoldable pub construct_at : List ℕ → Option Command
-construct_at bytes = do
-  kind ← next_word bytes
-  key ← next_word kind.1
-  k ← counted_kind supported kind.0
-  at ← new_key supported key.0
-  made_with ← option_and_then (content k.0 k.1) (words key.1)
-  Some (Construct at made_with)
+-- the kind of the elements, where they are scalars
+abbrev pub scalar_in : Kind → Option ScalarKind
+scalar_in (Scalar k) = Some k
+scalar_in k = None
 
 -- `#` and a handle
 abbrev pub handle_of : Word → Option ℕ
 handle_of (Bare (c ∷ cs)) = if c == 0x23 then number_of cs else None
 handle_of w = None
 
--- a handle
-unfoldable pub handle_at : List ℕ → Option ℕ
-handle_at bytes = do
-  word ← only_word bytes
-  handle_of word
+-- what one word asks for, what two do, and what three do
+abbrev pub of_one : Reader → List ℕ → Option Command
+of_one g bytes = option_and_then (λ x. g supported (x ∷ [])) (only_word bytes)
 
--- a key
-unfoldable pub key_at : List ℕ → Option Key
-key_at bytes = do
-  word ← only_word bytes
-  key_of supported word
+abbrev pub of_two : Reader → List ℕ → Option Command
+of_two g bytes = option_and_then (λ x. g supported (x.0 ∷ x.1 ∷ [])) (two_words bytes)
+
+abbrev pub of_three : Reader → List ℕ → Option Command
+of_three g bytes = option_and_then (λ x. g supported (x.0 ∷ x.1 ∷ x.2 ∷ [])) (three_words bytes)
+
+-- what scalars are made with: one value
+unfoldable pub scalar_at : ScalarKind → ℕ → List ℕ → Option Content
+scalar_at k n bytes = option_and_then (λ x. content (Scalar k) n (x ∷ [])) (only_word bytes)
+
+-- a kind, a key, and what an object is made with
+unfoldable pub making_at : (Key → Content → Command) → (Language → Word → Option Key) → List ℕ → Option Command
+making_at make key_in bytes = do
+  x ← next_two bytes
+  k ← counted_kind supported x.0
+  key ← for_kind k.0 (key_in supported x.1)
+  made_with ← option_and_then (content k.0 k.1) (words x.2)
+  Some (make key made_with)
+
+-- the numbers of a kind that all words are
+unfoldable pub numbers_at : ScalarKind → List ℕ → Option (List ℤ)
+numbers_at k bytes = option_and_then (all (value_for k)) (words bytes)
+
+-- values of one kind
+pub record Written : Type 0 where
+  pub kind : ScalarKind
+  pub numbers : List ℤ
+
+-- the values of a kind that the words are, which is none where a word is no such value
+abbrev pub values_in : ScalarKind → List ℕ → Written
+values_in k bytes = record { kind = k; numbers = unwrap_or (numbers_at k bytes) [] }
+
+-- these values of a kind
+abbrev pub written : ScalarKind → List ℤ → Written
+written k zs = record { kind = k; numbers = zs }
+
+-- the values of a kind that all words are, where they are as many
+abbrev pub counted_values : ScalarKind → ℕ → List ℕ → Option Written
+counted_values k n bytes = option_and_then (λ zs. if length zs == n then Some (written k zs) else None) (numbers_at k bytes)
+
+-- the values, each with its kind
+abbrev pub scalars_in : Written → List ScalarValue
+scalars_in w = map (scalar_of w.kind) w.numbers
+
+-- a scalar kind and how many, a key, and as many values
+unfoldable pub making_each_at : List ℕ → Option Command
+making_each_at bytes = do
+  x ← next_two bytes
+  k ← counted_kind supported x.0
+  key ← for_kind k.0 (new_key supported x.1)
+  kind ← scalar_in k.0
+  numbers ← numbers_at kind x.2
+  items k.1 kind key numbers

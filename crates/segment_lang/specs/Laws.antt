@@ -1,11 +1,14 @@
 -- What the definitions of words and numbers mean, by the spelling of what is read.
 use Rattle.std.specs.Prelude.{◌≡◌, ◌<◌, ◌^◌, ◌↔◌, ◌⊎◌, ℕ, ℤ, pos, negsuc, ◌≤ℤ◌, true, Some, List, [], ◌∷◌, ◌++◌, decimal, take, option_map, option_and_then, if◌then◌else◌}
-use Rattle.std.specs.List.{AllByRecursion}
+use Rattle.std.specs.List.{AllByRecursion, Contains}
 use Rattle.std.specs.Fmt.{signed_decimal}
-use Rattle.segment_lang.specs.Words.{Text, words, number_of, whole_of, is_plain, byte_of_digits}
-use Rattle.segment_lang.specs.Texts.{quoted_text}
+use Rattle.seg_types.specs.declared.kinds.Kind.{Kind}
+use Rattle.seg_types.specs.Names.{ByName, is_name}
+use Rattle.segment_lang.specs.Words.{words as words_of}
+use Rattle.segment_lang.specs.Words.{Text, Word, words, number_of, whole_of, is_plain, byte_of_digits}
+use Rattle.segment_lang.specs.Texts.{kind_text, name_text, quoted_text}
 use Rattle.segment_lang.specs.Language.{Language}
-use Rattle.segment_lang.specs.Reading.{reading}
+use Rattle.segment_lang.specs.Reading.{kind_named, name_key, reading}
 use Rattle.segment_lang.specs.Tokens.{at_end, ends_word, next_word, text_at}
 
 -- A word has a number exactly where it is the number's decimal text, and the number is below 2 ^ 64.
@@ -44,3 +47,18 @@ WordsFollow =
 -- Of a line that is too long, the first 4098 bytes say so: the others can be dropped.
 abbrev pub LongLinesAreCut : Type 0
 LongLinesAreCut = (language : Language) (line : List ℕ) → reading language (take 4098 line) ≡ reading language line
+
+-- A kind that has come and is printed is read as the kind.
+abbrev pub PrintedKindsAreRead : Type 0
+PrintedKindsAreRead = (l : Language) (k : Kind) → Contains l.kinds k → kind_named l (kind_text k) ≡ Some k
+
+-- what is printed is one word, which is the key of the name
+pub record IsReadAsName (l : Language) (name printed : List ℕ) : Type 0 where
+  pub word : Word
+  pub words : words_of printed ≡ Some (word ∷ [])
+  pub key : name_key l word ≡ Some (ByName name)
+
+-- A name that is printed is read as the key of the name.
+abbrev pub PrintedNamesAreRead : Type 0
+PrintedNamesAreRead =
+    (l : Language) (name : List ℕ) → AllByRecursion (λ b. b < 256) name → l.has_names ≡ true → is_name l.format name ≡ true → IsReadAsName l name (name_text name)

@@ -17,7 +17,7 @@ use Rattle.segment_lang.specs.Language.{Language}
 -- ---- kinds and keys
 
 -- the kind that is printed so, where it has come
-abbrev pub kind_named : Language → List ℕ → Option Kind
+unfoldable pub kind_named : Language → List ℕ → Option Kind
 kind_named l w = find (λ k. is w (kind_text k)) l.kinds
 
 abbrev pub kind_of_word : Language → Word → Option Kind
@@ -107,13 +107,14 @@ making make key_in l ws = None
 abbrev pub items : ℕ → ScalarKind → Key → List ℤ → Option Command
 items n k key zs = if length zs == n then Some (asked.ConstructIt key k n zs) else None
 
+-- values of a scalar kind
+abbrev pub each : List Word → Kind → ℕ → Key → Option Command
+each vs (Scalar k) n key = option_and_then (items n k key) (all (value_for k) vs)
+each vs k n key = None
+
 -- a scalar KIND[k], a key and k values
 abbrev pub making_each : Reader
-making_each l (kw ∷ key ∷ vs) = option_and_then (λ (k, n). option_and_then (λ key. each k n key) (for_kind k (new_key l key))) (counted_kind l kw)
-  where
-    each : Kind → ℕ → Key → Option Command
-    each (Scalar k) n key = option_and_then (items n k key) (all (value_for k) vs)
-    each k n key = None
+making_each l (kw ∷ key ∷ vs) = option_and_then (λ (k, n). option_and_then (λ key. each vs k n key) (for_kind k (new_key l key))) (counted_kind l kw)
 making_each l ws = None
 
 -- nothing, a key, a number, ..
@@ -239,7 +240,7 @@ without_return line = if slice_index line (length line - 1) == 0x0D then take (l
 
 -- a line without its end
 unfoldable pub reading : Language → List ℕ → Reading
-unfolding is_text_name
+unfolding is_text_name kind_named
 reading l line =
     let line = without_return line in
     if nat_lt 4096 (length line) then LineTooLong

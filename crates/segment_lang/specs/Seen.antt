@@ -1,19 +1,19 @@
 -- What the types of the code stand for.
-use Rattle.std.specs.Prelude.{ℕ, List, [], ◌∷◌, Option, option_map, find}
+use Rattle.std.specs.Prelude.{ℕ, List, Option, option_map, find, replicate}
 use Rattle.seg_types.specs.Commands as asked
-use Rattle.seg_types.specs.Keys.{key_seen, new_key_seen}
+use Rattle.seg_types.specs.Keys.{index_key_seen, key_seen, new_key_seen}
 use Rattle.seg_types.specs.Values.{kind_of_scalar, value_of_scalar}
 use Rattle.segment_lang.specs.Words as said
 use Rattle.segment_lang.specs.Words.{is}
-use Rattle.segment_lang.specs.Reading.{Reader, making, with_key, alone, destroying_ptr, new_key, key_of}
+use Rattle.segment_lang.specs.Reading.{Reader, making, making_each, finding, with_key, with_key_number, with_key_number_literal, with_number, alone, destroying_ptr, new_key, key_of, name_key}
 use Rattle.segment_lang.specs.declared.words.Word.{Word}
 use Rattle.segment_lang.specs.declared.words.Word.TheVariants.{Bare, Text}
 use Rattle.segment_lang.specs.declared.literals.Literal.{Literal}
 use Rattle.segment_lang.specs.declared.literals.Literal.TheVariants.{Whole, Truth, Quoted}
 use Rattle.segment_lang.specs.declared.commands.Content.{Content}
-use Rattle.segment_lang.specs.declared.commands.Content.TheVariants.{Scalar as OneScalar}
+use Rattle.segment_lang.specs.declared.commands.Content.TheVariants.{Scalars}
 use Rattle.segment_lang.specs.declared.commands.Command.{Command}
-use Rattle.segment_lang.specs.declared.commands.Command.TheVariants.{Construct, DestroyPtr, Show, Blocks, Size, Free, ZeroFree, Sanity, AllDeallocated}
+use Rattle.segment_lang.specs.declared.commands.Command.TheVariants.{Construct, ConstructIt, Find, FindOrConstruct, Destroy, DestroyPtr, Show, Info, Get, Set, ListNames, ListKinds, Blocks, Size, Free, NumNamed, NumUnique, ReserveNamed, ReserveUnique, ShrinkIndexes, ZeroFree, Sanity, AllDeallocated}
 use Rattle.segment_lang.specs.declared.commands.Reading.{Reading}
 use Rattle.segment_lang.specs.declared.commands.Reading.TheVariants.{Nothing, Asked, Wrong}
 use Rattle.segment_lang.specs.declared.errors.LineError.{LineError}
@@ -36,15 +36,29 @@ literal_of (Truth b) = asked.Truth b
 literal_of (Quoted t) = asked.Quoted t
 
 abbrev pub content_of : Content → asked.Content
-content_of (OneScalar s) = asked.Numbers (kind_of_scalar s) (value_of_scalar s ∷ [])
+content_of (Scalars s n) = asked.Numbers (kind_of_scalar s) (replicate n (value_of_scalar s))
 
 abbrev pub command_of : Command → asked.Command
 command_of (Construct key content) = asked.Construct (new_key_seen key) (content_of content)
+command_of (ConstructIt key count values) = asked.ConstructIt (new_key_seen key) values.kind count values.numbers
+command_of (Find kind key) = asked.Find (index_key_seen key) kind
+command_of (FindOrConstruct key content) = asked.FindOrConstruct (index_key_seen key) (content_of content)
+command_of (Destroy key) = asked.Destroy (index_key_seen key)
 command_of (DestroyPtr n) = asked.DestroyPtr n
 command_of (Show key) = asked.Show (key_seen key)
+command_of (Info key) = asked.Info (key_seen key)
+command_of (Get key i) = asked.Get (key_seen key) i
+command_of (Set key i value) = asked.Set (key_seen key) i (literal_of value)
+command_of ListNames = asked.ListNames
+command_of ListKinds = asked.ListKinds
 command_of Blocks = asked.ListBlocks
 command_of Size = asked.Size
 command_of Free = asked.Free
+command_of NumNamed = asked.NumNamed
+command_of NumUnique = asked.NumUnique
+command_of (ReserveNamed n) = asked.ReserveNamed n
+command_of (ReserveUnique n) = asked.ReserveUnique n
+command_of ShrinkIndexes = asked.ShrinkIndexes
 command_of ZeroFree = asked.ZeroFree
 command_of Sanity = asked.Sanity
 command_of AllDeallocated = asked.AllDeallocated
@@ -63,9 +77,28 @@ reading_of (Wrong e) = wrong_reading e
 -- the form of what stands behind a command word
 abbrev pub reader_of : CommandForm → Reader
 reader_of form.Construct = making asked.Construct new_key
+reader_of form.ConstructIt = making_each
+reader_of form.Find = finding
+reader_of form.FindOrConstruct = making asked.FindOrConstruct name_key
+reader_of form.Destroy = with_key asked.Destroy name_key
 reader_of form.DestroyPtr = destroying_ptr
 reader_of form.Show = with_key asked.Show key_of
-reader_of (form.Alone c) = alone (command_of c)
+reader_of form.Info = with_key asked.Info key_of
+reader_of form.Get = with_key_number asked.Get
+reader_of form.Set = with_key_number_literal asked.Set
+reader_of form.ListNames = alone asked.ListNames
+reader_of form.ListKinds = alone asked.ListKinds
+reader_of form.Blocks = alone asked.ListBlocks
+reader_of form.Size = alone asked.Size
+reader_of form.Free = alone asked.Free
+reader_of form.NumNamed = alone asked.NumNamed
+reader_of form.NumUnique = alone asked.NumUnique
+reader_of form.ReserveNamed = with_number asked.ReserveNamed
+reader_of form.ReserveUnique = with_number asked.ReserveUnique
+reader_of form.ShrinkIndexes = alone asked.ShrinkIndexes
+reader_of form.ZeroFree = alone asked.ZeroFree
+reader_of form.Sanity = alone asked.Sanity
+reader_of form.AllDeallocated = alone asked.AllDeallocated
 
 -- a command word and its form
 abbrev pub Row : Type 0

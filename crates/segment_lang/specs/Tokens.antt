@@ -101,3 +101,24 @@ unfoldable pub only_word : List ℕ → Option Word
 only_word bytes = do
   x ← next_word bytes
   if at_end x.1 then Some x.0 else None
+
+-- the only two words
+unfoldable pub two_words : List ℕ → Option (Word × Word)
+two_words bytes = do
+  x ← next_word bytes
+  y ← only_word x.1
+  Some (x.0, y)
+
+-- the only three words
+unfoldable pub three_words : List ℕ → Option (Word × Word × Word)
+three_words bytes = do
+  x ← next_word bytes
+  y ← two_words x.1
+  Some (x.0, y.0, y.1)
+
+-- the next two words, and what is behind them
+unfoldable pub next_two : List ℕ → Option (Word × Word × List ℕ)
+next_two bytes = do
+  x ← next_word bytes
+  y ← next_word x.1
+  Some (x.0, y.0, y.1)

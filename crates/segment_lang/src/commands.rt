@@ -1,18 +1,25 @@
-//! What a line asks for. The types hold what they say in place, and take no memory.
+//! What a line asks for. The types hold what they say in place or in the line, and take no memory.
 
 use crate::errors::LineError;
-use seg_types::{Handle, Key, NewKey, ScalarValue};
+use crate::literals::Literal;
+use crate::values::Values;
+use seg_types::{Handle, IndexKey, Key, Kind, NewKey, ScalarValue};
 
 /// What an object is made with.
 #[derive(Clone, Copy, Debug, PartialEq, Eq)]
 pub enum Content {
-    /// One scalar.
-    Scalar(ScalarValue),
+    /// Scalars of one value.
+    Scalars {
+        /// The value.
+        value: ScalarValue,
+        /// How many, from 1 to 1048576.
+        count: u32,
+    },
 }
 
 /// What a line asks for.
-#[derive(Clone, Copy, Debug, PartialEq, Eq)]
-pub enum Command {
+#[derive(Drop)]
+pub enum Command<'a> {
     /// Make an object.
     Construct {
         /// The key that it gets.
@@ -20,16 +27,73 @@ pub enum Command {
         /// What it is made with.
         content: Content,
     },
+    /// Make an array of different values.
+    ConstructIt {
+        /// The key that it gets.
+        key: NewKey,
+        /// How many values it has, from 1 to 1048576.
+        count: u32,
+        /// As many values.
+        values: Values<'a>,
+    },
+    /// Print the handle and the count of an object of a kind.
+    Find {
+        /// The kind.
+        kind: Kind,
+        /// The object's entry.
+        key: IndexKey,
+    },
+    /// Print the handle and the count of an object, which is made where there is none.
+    FindOrConstruct {
+        /// The object's entry.
+        key: IndexKey,
+        /// What it is made with.
+        content: Content,
+    },
+    /// Destroy the object of an entry.
+    Destroy(IndexKey),
     /// Destroy the object of a handle.
     DestroyPtr(Handle),
     /// Print an object's kind and value.
     Show(Key),
+    /// Print what an object is.
+    Info(Key),
+    /// Print one element of an object.
+    Get {
+        /// The object.
+        key: Key,
+        /// Which element, counted from 0.
+        index: u64,
+    },
+    /// Write one element of an object.
+    Set {
+        /// The object.
+        key: Key,
+        /// Which element, counted from 0.
+        index: u64,
+        /// What it becomes.
+        value: Literal<'a>,
+    },
+    /// Print the named objects by name.
+    ListNames,
+    /// Print the unique objects by kind.
+    ListKinds,
     /// Print the blocks and gaps by offset.
     Blocks,
     /// Print the segment's size in bytes.
     Size,
     /// Print how many bytes are free.
     Free,
+    /// Print how many named objects there are.
+    NumNamed,
+    /// Print how many unique objects there are.
+    NumUnique,
+    /// Make room in the index of names for as many entries.
+    ReserveNamed(u64),
+    /// Make room in the index of unique kinds for as many entries.
+    ReserveUnique(u64),
+    /// Give back the room of the indexes that no entry uses.
+    ShrinkIndexes,
     /// Make the free bytes zero.
     ZeroFree,
     /// Print whether the segment is whole.
@@ -39,12 +103,12 @@ pub enum Command {
 }
 
 /// What a line means.
-#[derive(Clone, Copy, Debug, PartialEq, Eq)]
-pub enum Reading {
+#[derive(Drop)]
+pub enum Reading<'a> {
     /// Nothing: it is a comment or has blanks only, and has no answer.
     Nothing,
     /// A command.
-    Asked(Command),
+    Asked(Command<'a>),
     /// No command, and why not.
     Wrong(LineError),
 }

@@ -1,49 +1,95 @@
 //! Command words, and the form of what stands behind each.
 
-ghost use Rattle.std.specs.Prelude.{◌≡◌, None, Some, if◌then◌else◌, option_and_then, option_map, map};
-ghost use Rattle.seg_types.specs.Commands.{DestroyPtr, Show};
+ghost use Rattle.std.specs.Prelude.{◌≡◌, option_and_then, option_map, map};
 ghost use Rattle.segment_lang.specs.Words.{words};
 ghost use Rattle.segment_lang.specs.Language.{supported};
 ghost use Rattle.segment_lang.specs.Reading.{form_of};
-ghost use Rattle.segment_lang.specs.Tokens.{at_end};
-ghost use Rattle.segment_lang.specs.Arguments.{construct_at, handle_at, key_at};
 ghost use Rattle.segment_lang.specs.Seen.{command_of, form_in, reader_of};
 
-use crate::blanks::at_end;
 use crate::commands::Command;
-use crate::contents::read_content;
-use crate::keys::{new_key, read_handle, read_key};
-use crate::kinds::counted_kind;
 use crate::literals::is;
-use crate::words::next_word;
+use crate::readers::{
+    read_alone, read_construct, read_construct_it, read_destroy, read_destroy_ptr, read_find,
+    read_find_or_construct, read_get, read_info, read_reserve_named, read_reserve_unique, read_set,
+    read_show,
+};
 
 /// How what stands behind a command word is written.
 #[derive(Clone, Copy, Debug, PartialEq, Eq)]
 pub enum CommandForm {
-    /// A kind, a key and what the object is made with.
+    /// A kind with a count, a key and one value.
     Construct,
+    /// A kind with a count, a key and as many values.
+    ConstructIt,
+    /// A kind and an entry of an index.
+    Find,
+    /// A kind with a count, an entry of an index and one value.
+    FindOrConstruct,
+    /// An entry of an index.
+    Destroy,
     /// A handle.
     DestroyPtr,
     /// A key.
     Show,
+    /// A key.
+    Info,
+    /// A key and a number.
+    Get,
+    /// A key, a number and a value.
+    Set,
     /// Nothing: the word alone is the command.
-    Alone(Command),
+    ListNames,
+    /// Nothing: the word alone is the command.
+    ListKinds,
+    /// Nothing: the word alone is the command.
+    Blocks,
+    /// Nothing: the word alone is the command.
+    Size,
+    /// Nothing: the word alone is the command.
+    Free,
+    /// Nothing: the word alone is the command.
+    NumNamed,
+    /// Nothing: the word alone is the command.
+    NumUnique,
+    /// A number.
+    ReserveNamed,
+    /// A number.
+    ReserveUnique,
+    /// Nothing: the word alone is the command.
+    ShrinkIndexes,
+    /// Nothing: the word alone is the command.
+    ZeroFree,
+    /// Nothing: the word alone is the command.
+    Sanity,
+    /// Nothing: the word alone is the command.
+    AllDeallocated,
 }
 
 /// The command words, each with its form.
-const FORMS: [(&[u8], CommandForm); 9] = [
+const FORMS: [(&[u8], CommandForm); 23] = [
     (b"construct", CommandForm::Construct),
+    (b"construct_it", CommandForm::ConstructIt),
+    (b"find", CommandForm::Find),
+    (b"find_or_construct", CommandForm::FindOrConstruct),
+    (b"destroy", CommandForm::Destroy),
     (b"destroy_ptr", CommandForm::DestroyPtr),
     (b"show", CommandForm::Show),
-    (b"blocks", CommandForm::Alone(Command::Blocks)),
-    (b"size", CommandForm::Alone(Command::Size)),
-    (b"free", CommandForm::Alone(Command::Free)),
-    (b"zero_free", CommandForm::Alone(Command::ZeroFree)),
-    (b"sanity", CommandForm::Alone(Command::Sanity)),
-    (
-        b"all_deallocated",
-        CommandForm::Alone(Command::AllDeallocated),
-    ),
+    (b"info", CommandForm::Info),
+    (b"get", CommandForm::Get),
+    (b"set", CommandForm::Set),
+    (b"list", CommandForm::ListNames),
+    (b"unique", CommandForm::ListKinds),
+    (b"blocks", CommandForm::Blocks),
+    (b"size", CommandForm::Size),
+    (b"free", CommandForm::Free),
+    (b"num_named", CommandForm::NumNamed),
+    (b"num_unique", CommandForm::NumUnique),
+    (b"reserve_named", CommandForm::ReserveNamed),
+    (b"reserve_unique", CommandForm::ReserveUnique),
+    (b"shrink_indexes", CommandForm::ShrinkIndexes),
+    (b"zero_free", CommandForm::ZeroFree),
+    (b"sanity", CommandForm::Sanity),
+    (b"all_deallocated", CommandForm::AllDeallocated),
 ];
 
 /// The form of the first row of a word.
@@ -60,53 +106,33 @@ pub fn form_of(word: &[u8]) -> Option<CommandForm>
     find_form(&FORMS, word)
 }
 
-/// A kind, a key and what the object is made with.
-#[tactic(auto, unfolding(crate::specs::Arguments::construct_at))]
-fn read_construct(bytes: &[u8]) -> Option<Command>
-    ensures { option_map command_of result ≡ construct_at bytes.now }
-{
-    let (kind, rest) = next_word(bytes)?;
-    let (key, rest) = next_word(rest)?;
-    let kind = counted_kind(kind)?;
-    let key = new_key(key)?;
-    let content = read_content(kind, rest)?;
-    Some(Command::Construct { key, content })
-}
-
-/// The command of a key, which stands alone.
-fn read_show(bytes: &[u8]) -> Option<Command>
-    ensures { option_map command_of result ≡ option_map Show (key_at bytes.now) }
-{
-    let key = read_key(bytes)?;
-    Some(Command::Show(key))
-}
-
-/// The command of a handle, which stands alone.
-fn read_destroy_ptr(bytes: &[u8]) -> Option<Command>
-    ensures { option_map command_of result ≡ option_map DestroyPtr (handle_at bytes.now) }
-{
-    let handle = read_handle(bytes)?;
-    Some(Command::DestroyPtr(handle))
-}
-
-/// The command, where nothing stands behind its word.
-fn read_alone(command: Command, bytes: &[u8]) -> Option<Command>
-    ensures { option_map command_of result ≡ (if at_end bytes.now then Some (command_of command) else None) }
-{
-    if !at_end(bytes) {
-        return None;
-    }
-    Some(command)
-}
-
 /// The command of what stands behind a command word of this form.
-pub fn read_command(form: CommandForm, bytes: &[u8]) -> Option<Command>
+pub fn read_command(form: CommandForm, bytes: &[u8]) -> Option<Command<'_>>
     ensures { option_map command_of result ≡ option_and_then (reader_of form supported) (words bytes.now) }
 {
     match form {
         CommandForm::Construct => read_construct(bytes),
+        CommandForm::ConstructIt => read_construct_it(bytes),
+        CommandForm::Find => read_find(bytes),
+        CommandForm::FindOrConstruct => read_find_or_construct(bytes),
+        CommandForm::Destroy => read_destroy(bytes),
         CommandForm::DestroyPtr => read_destroy_ptr(bytes),
         CommandForm::Show => read_show(bytes),
-        CommandForm::Alone(command) => read_alone(command, bytes),
+        CommandForm::Info => read_info(bytes),
+        CommandForm::Get => read_get(bytes),
+        CommandForm::Set => read_set(bytes),
+        CommandForm::ListNames => read_alone(Command::ListNames, bytes),
+        CommandForm::ListKinds => read_alone(Command::ListKinds, bytes),
+        CommandForm::Blocks => read_alone(Command::Blocks, bytes),
+        CommandForm::Size => read_alone(Command::Size, bytes),
+        CommandForm::Free => read_alone(Command::Free, bytes),
+        CommandForm::NumNamed => read_alone(Command::NumNamed, bytes),
+        CommandForm::NumUnique => read_alone(Command::NumUnique, bytes),
+        CommandForm::ReserveNamed => read_reserve_named(bytes),
+        CommandForm::ReserveUnique => read_reserve_unique(bytes),
+        CommandForm::ShrinkIndexes => read_alone(Command::ShrinkIndexes, bytes),
+        CommandForm::ZeroFree => read_alone(Command::ZeroFree, bytes),
+        CommandForm::Sanity => read_alone(Command::Sanity, bytes),
+        CommandForm::AllDeallocated => read_alone(Command::AllDeallocated, bytes),
     }
 }

@@ -1,29 +1,76 @@
 //! Keys and handles as a line writes them.
 
-ghost use Rattle.std.specs.Prelude.{◌≡◌, option_map};
-ghost use Rattle.seg_types.specs.Keys.{key_seen, new_key_seen};
+ghost use Rattle.std.specs.Prelude.{◌≡◌, ◌&&◌, option_map, Some, None, if◌then◌else◌};
+ghost use Rattle.raw_region.specs.Format.{current};
+ghost use Rattle.seg_types.specs.Names.{is_name};
+ghost use Rattle.seg_types.specs.Keys.{index_key_seen, key_seen, new_key_seen};
+ghost use Rattle.segment_lang.specs.Words.{is_bare_name};
 ghost use Rattle.segment_lang.specs.Language.{supported};
-ghost use Rattle.segment_lang.specs.Reading.{key_of, new_key};
-ghost use Rattle.segment_lang.specs.Arguments.{handle_at, handle_of, key_at};
+ghost use Rattle.segment_lang.specs.Reading.{agrees, for_kind, key_of, name_key, new_key};
+ghost use Rattle.segment_lang.specs.Arguments.{handle_of};
 ghost use Rattle.segment_lang.specs.Seen.{word_of};
 
+use crate::kinds::kind_named;
 use crate::literals::is;
 use crate::numbers::number_of;
-use crate::words::{Word, only_word};
-use seg_types::{Handle, Key, NewKey};
+use crate::texts::is_bare_name;
+use crate::words::Word;
+use seg_types::{Handle, IndexKey, Key, Kind, Name, NewKey};
 
-/// The key that a new object gets: `-`.
-pub fn new_key(word: Word<'_>) -> Option<NewKey>
-    ensures { option_map new_key_seen result ≡ new_key supported (word_of word.entry) }
+/// The name that a bare word is.
+fn bare_name(word: &[u8]) -> Option<Name>
+    ensures { result ≡ (if is_bare_name word.now && is_name current word.now then Some word.now else None) }
+{
+    if !is_bare_name(word) {
+        return None;
+    }
+    Name::new(word)
+}
+
+/// The entry of an index: a name, or `@` and a kind.
+pub fn index_key(word: Word<'_>) -> Option<IndexKey>
+    ensures { option_map index_key_seen result ≡ name_key supported (word_of word.entry) }
+{
+    match word {
+        Word::Bare([b'@', kind @ ..]) => Some(IndexKey::Unique(kind_named(kind)?)),
+        Word::Bare(name) => Some(IndexKey::Name(bare_name(name)?)),
+        Word::Text(text) => Some(IndexKey::Name(text.to_name()?)),
+    }
+}
+
+/// Whether an entry may hold an object of the kind: one of a unique kind holds that kind alone.
+fn agrees(kind: Kind, key: &IndexKey) -> bool
+    ensures { result ≡ agrees kind (index_key_seen key.now) }
+{
+    match key {
+        IndexKey::Unique(unique) => kind.code() == unique.code(),
+        IndexKey::Name(_) => true,
+    }
+}
+
+/// The entry that a word is, where it may hold an object of the kind.
+pub fn index_key_for(kind: Kind, word: Word<'_>) -> Option<IndexKey>
+    ensures { option_map index_key_seen result ≡ for_kind kind (name_key supported (word_of word.entry)) }
+{
+    let key = index_key(word)?;
+    if !agrees(kind, &key) {
+        return None;
+    }
+    Some(key)
+}
+
+/// The key that a new object of the kind gets: an entry, or `-`.
+pub fn new_key_for(kind: Kind, word: Word<'_>) -> Option<NewKey>
+    ensures { option_map new_key_seen result ≡ for_kind kind (new_key supported (word_of word.entry)) }
 {
     match word {
         Word::Bare(word) if is(word, b"-") => Some(NewKey::Anonymous),
-        _ => None,
+        _ => Some(index_key_for(kind, word)?.into_new_key()),
     }
 }
 
 /// The handle behind `#`.
-fn handle_of(word: Word<'_>) -> Option<Handle>
+pub fn handle_of(word: Word<'_>) -> Option<Handle>
     ensures { result ≡ handle_of (word_of word.entry) }
 {
     match word {
@@ -32,29 +79,12 @@ fn handle_of(word: Word<'_>) -> Option<Handle>
     }
 }
 
-/// The key of an object: `#` and its handle.
-#[tactic(auto, using(crate::proofs::Readers::key_word))]
-fn key_of(word: Word<'_>) -> Option<Key>
+/// The key of an object: its entry, or `#` and its handle.
+pub fn key_of(word: Word<'_>) -> Option<Key>
     ensures { option_map key_seen result ≡ key_of supported (word_of word.entry) }
 {
-    let handle = handle_of(word)?;
-    Some(Key::Handle(handle))
-}
-
-/// A handle, and nothing else.
-#[tactic(auto, unfolding(crate::specs::Arguments::handle_at))]
-pub fn read_handle(bytes: &[u8]) -> Option<Handle>
-    ensures { result ≡ handle_at bytes.now }
-{
-    let word = only_word(bytes)?;
-    handle_of(word)
-}
-
-/// A key, and nothing else.
-#[tactic(auto, unfolding(crate::specs::Arguments::key_at))]
-pub fn read_key(bytes: &[u8]) -> Option<Key>
-    ensures { option_map key_seen result ≡ key_at bytes.now }
-{
-    let word = only_word(bytes)?;
-    key_of(word)
+    match word {
+        Word::Bare([b'#', digits @ ..]) => Some(Key::Handle(number_of(digits)?)),
+        _ => Some(index_key(word)?.into_key()),
+    }
 }

@@ -1,31 +1,114 @@
 //! Kinds as a line writes them.
 
-ghost use Rattle.std.specs.Prelude.{◌≡◌, option_map};
+ghost use Rattle.std.specs.Prelude.{◌≡◌, ◌==◌, ◌+◌, not, length, drop, take, take_while, option_map, Some, None, IsTrue, IfSome, slice_index};
+ghost use Rattle.segment_lang.specs.Words.{Bare};
 ghost use Rattle.segment_lang.specs.Language.{supported};
-ghost use Rattle.segment_lang.specs.Reading.{counted_kind, kind_named};
+ghost use Rattle.segment_lang.specs.Reading.{bracketed, counted, counted_kind, kind_named, kind_of_word};
+ghost use Rattle.segment_lang.specs.Arguments.{is_scalar};
 ghost use Rattle.segment_lang.specs.Seen.{word_of};
 
 use crate::literals::is;
+use crate::numbers::number_of;
 use crate::texts::scalar_text;
 use crate::words::Word;
 use seg_types::{Kind, ScalarKind};
 
+/// The most elements that an array has.
+const MOST_ELEMENTS: u64 = 1048576;
+
+/// The kinds of single values.
+const SCALAR_KINDS: [ScalarKind; 5] = [
+    ScalarKind::Bool,
+    ScalarKind::U8,
+    ScalarKind::I32,
+    ScalarKind::I64,
+    ScalarKind::U64,
+];
+
 /// The kind that is printed so.
-fn kind_named(word: &[u8]) -> Option<Kind>
-    ensures { result ≡ kind_named supported word.now }
+#[tactic(auto, unfolding(crate::specs::Reading::kind_named))]
+pub fn kind_named(word: &[u8]) -> Option<Kind>
+    ensures named { result ≡ kind_named supported word.now }
+    ensures scalar { IfSome result (λ kind. IsTrue (is_scalar kind)) }
 {
-    if is(word, scalar_text(ScalarKind::I64)) {
-        return Some(Kind::Scalar(ScalarKind::I64));
-    }
-    None
+    let kind = SCALAR_KINDS
+        .iter()
+        .copied()
+        .find(|kind| is(word, scalar_text(*kind)))?;
+    Some(Kind::Scalar(kind))
 }
 
-/// The kind of the objects that are to be made.
-pub fn counted_kind(word: Word<'_>) -> Option<Kind>
-    ensures { option_map (λ kind. (kind, 1)) result ≡ counted_kind supported (word_of word.entry) }
+/// The kind that a word is.
+pub fn kind_of_word(word: Word<'_>) -> Option<Kind>
+    ensures { result ≡ kind_of_word supported (word_of word.entry) }
 {
     match word {
         Word::Bare(word) => kind_named(word),
+        Word::Text(_) => None,
+    }
+}
+
+/// What stands in front of the first `[`, and what behind it.
+fn split_bracket(word: &[u8]) -> (&[u8], &[u8])
+    ensures front { result.0.now ≡ take_while (λ c. not (c == 0x5B)) word.now }
+    ensures behind { result.1.now ≡ drop (length result.0.now + 1) word.now }
+{
+    let mut rest = word;
+    'front: while let [first, tail @ ..] = rest {
+        if *first == b'[' {
+            break;
+        }
+        rest = tail;
+    }
+    let (front, rest) = word.split_at(word.len() - rest.len());
+    match rest {
+        [_, behind @ ..] => (front, behind),
+        [] => (front, rest),
+    }
+}
+
+/// The number in front of `]`.
+fn bracketed(word: &[u8]) -> Option<u64>
+    ensures { result ≡ bracketed word.now }
+{
+    match word {
+        [digits @ .., b']'] => number_of(digits),
+        _ => None,
+    }
+}
+
+/// A scalar kind and a number of elements from 1 to 1048576.
+fn counted(kind: Kind, count: Option<u64>) -> Option<(Kind, u32)>
+    requires { IsTrue (is_scalar kind) }
+    ensures { result ≡ counted kind count }
+{
+    let count = count?;
+    if count == 0 || count > MOST_ELEMENTS {
+        return None;
+    }
+    Some((kind, count as u32))
+}
+
+/// The kind that a bare word is, and how many elements stand in brackets behind it: without them 1.
+fn counted_name(word: &[u8]) -> Option<(Kind, u32)>
+    ensures value { result ≡ counted_kind supported (Bare word.now) }
+    ensures scalar { IfSome result (λ kind. IsTrue (is_scalar kind.0)) }
+{
+    if let Some(kind) = kind_named(word) {
+        return Some((kind, 1));
+    }
+    let (front, behind) = split_bracket(word);
+    let kind = kind_named(front)?;
+    counted(kind, bracketed(behind))
+}
+
+/// The kind of the objects that are to be made, and how many elements each has.
+pub fn counted_kind(word: Word<'_>) -> Option<(Kind, u32)>
+    ensures value { result ≡ counted_kind supported (word_of word.entry) }
+    ensures scalar { IfSome result (λ kind. IsTrue (is_scalar kind.0)) }
+{
+    match word {
+        Word::Bare(word) => counted_name(word),
         Word::Text(_) => None,
     }
 }

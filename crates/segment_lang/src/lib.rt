@@ -12,11 +12,13 @@ mod words;
 mod contents;
 mod keys;
 mod kinds;
+mod values;
 
 // Commands.
 mod commands;
 mod forms;
 mod line;
+mod readers;
 
 // Answers.
 mod errors;
@@ -35,7 +37,8 @@ pub use numbers::{number_of, whole_of};
 pub use pieces::{Piece, put_pieces};
 pub use texts::{put_kind, put_name, put_number, put_text, put_value};
 pub use theorems::{
-    long_lines_are_cut, numbers_are_decimals, printed_texts_are_read, texts_are_spelled,
-    wholes_are_decimals, words_follow,
+    long_lines_are_cut, numbers_are_decimals, printed_kinds_are_read, printed_names_are_read,
+    printed_texts_are_read, texts_are_spelled, wholes_are_decimals, words_follow,
 };
+pub use values::Values;
 pub use words::{Quoted, Word, next_word, only_word};

@@ -35,7 +35,7 @@ fn is_comment(line: &[u8]) -> bool
 
 /// What a line means that has no blank in front, is not too long and is no comment. The first word
 /// decides which form the others must have.
-fn read_words(line: &[u8]) -> Reading
+fn read_words(line: &[u8]) -> Reading<'_>
     ensures { reading_of result ≡ command_line supported line.now }
 {
     if line.is_empty() {
@@ -54,7 +54,7 @@ fn read_words(line: &[u8]) -> Reading
 /// What a line means. It comes without its end, a line feed; one carriage return at its end is
 /// dropped.
 #[tactic(auto, unfolding(crate::specs::Reading::reading))]
-pub fn parse_line(line: &[u8]) -> Reading
+pub fn parse_line(line: &[u8]) -> Reading<'_>
     ensures { reading_of result ≡ reading supported line.now }
 {
     let line = without_return(line);

@@ -1,13 +1,16 @@
 //! Values as a line writes them.
 
 ghost use Rattle.std.specs.Prelude.{◌≡◌, option_map};
-ghost use Rattle.seg_types.specs.declared.kinds.ScalarKind.TheVariants.{I64};
+ghost use Rattle.std.specs.Result.{result_ok};
+ghost use Rattle.seg_types.specs.Commands.{Whole, Truth, value_of_literal};
+ghost use Rattle.seg_types.specs.Values.{scalar_of as scalar_in};
 ghost use Rattle.segment_lang.specs.Words.{Bare, is, literal_of_word};
 ghost use Rattle.segment_lang.specs.Reading.{value_for};
 ghost use Rattle.segment_lang.specs.Seen.{literal_of, word_of};
 
 use crate::numbers::whole_of;
 use crate::words::{Quoted, Word};
+use seg_types::{ScalarKind, ScalarValue};
 
 /// A value as a line writes it.
 #[derive(Drop)]
@@ -50,12 +53,33 @@ pub fn literal_of(word: Word<'_>) -> Option<Literal<'_>>
     }
 }
 
-/// The value of kind `i64` that a word spells.
-pub fn i64_of(word: Word<'_>) -> Option<i64>
-    ensures { result ≡ value_for I64 (word_of word.entry) }
+/// The value of the kind that a whole number is. `bool` has none.
+fn whole_scalar(kind: ScalarKind, number: i128) -> Option<ScalarValue>
+    ensures { result ≡ option_map (scalar_in kind) (result_ok (value_of_literal kind (Whole number))) }
+{
+    match kind {
+        ScalarKind::Bool => None,
+        _ => ScalarValue::of_number(kind, number),
+    }
+}
+
+/// The value of the kind that `true` or `false` is: `bool` alone has one.
+fn truth_scalar(kind: ScalarKind, truth: bool) -> Option<ScalarValue>
+    ensures { result ≡ option_map (scalar_in kind) (result_ok (value_of_literal kind (Truth truth))) }
+{
+    match kind {
+        ScalarKind::Bool => Some(ScalarValue::Bool(truth)),
+        _ => None,
+    }
+}
+
+/// The value of the kind that a word spells.
+pub fn scalar_of(kind: ScalarKind, word: Word<'_>) -> Option<ScalarValue>
+    ensures { result ≡ option_map (scalar_in kind) (value_for kind (word_of word.entry)) }
 {
     match literal_of(word)? {
-        Literal::Whole(number) => i64::try_from(number).ok(),
-        _ => None,
+        Literal::Whole(number) => whole_scalar(kind, number),
+        Literal::Truth(truth) => truth_scalar(kind, truth),
+        Literal::Quoted(_) => None,
     }
 }

@@ -3,6 +3,10 @@
 ghost use Rattle.std.specs.Prelude.{◌≡◌, ◌≤◌, ◌&&◌, IsTrue, Some, None, if◌then◌else◌, nat_le};
 ghost use Rattle.std.specs.List.{list_all};
 ghost use Rattle.segment_lang.specs.Words.{is_digit, is_numeral, number_after, number_of, negative_of, whole_of};
+ghost use Rattle.segment_lang.specs.Reading.{number};
+ghost use Rattle.segment_lang.specs.Seen.{word_of};
+
+use crate::words::Word;
 
 /// Whether a byte is one of `0` to `9`.
 pub fn is_digit(byte: u8) -> bool
@@ -79,5 +83,15 @@ pub fn whole_of(word: &[u8]) -> Option<i128>
     match word {
         [b'-', digits @ ..] => negative_of(digits),
         _ => Some(i128::from(number_of(word)?)),
+    }
+}
+
+/// The number that a word is.
+pub fn number(word: Word<'_>) -> Option<u64>
+    ensures { result ≡ number (word_of word.entry) }
+{
+    match word {
+        Word::Bare(word) => number_of(word),
+        Word::Text(_) => None,
     }
 }

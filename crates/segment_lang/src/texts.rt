@@ -24,14 +24,19 @@ pub fn put_number<S: Sink>(out: &mut S, number: u64) -> Result<(), DeviceFault>
     write_all(out, buffer.format(number).as_bytes())
 }
 
-/// Writes a value: a whole number in plain decimal, with a minus sign below 0.
+/// Writes a value: `true` or `false`, or a whole number in plain decimal, with a minus sign below 0.
 pub fn put_value<S: Sink>(out: &mut S, value: ScalarValue) -> Result<(), DeviceFault>
     requires { (S.history out.old).failures < 2 ^ 64 - 1 }
     ensures { Writes (S.history out.old) (S.history out.new) result (value_text (kind_of_scalar value) (value_of_scalar value)) }
 {
     let mut buffer = Buffer::new();
     match value {
+        ScalarValue::Bool(true) => write_all(out, b"true"),
+        ScalarValue::Bool(false) => write_all(out, b"false"),
+        ScalarValue::U8(number) => write_all(out, buffer.format(number).as_bytes()),
+        ScalarValue::I32(number) => write_all(out, buffer.format(number).as_bytes()),
         ScalarValue::I64(number) => write_all(out, buffer.format(number).as_bytes()),
+        ScalarValue::U64(number) => write_all(out, buffer.format(number).as_bytes()),
     }
 }
 

@@ -1,7 +1,7 @@
 //! Laws about the definitions that the contracts cite. These functions do nothing; what they ensure
 //! is proved.
 
-ghost use Rattle.segment_lang.specs.Laws.{LongLinesAreCut, NumbersAreDecimals, PrintedTextsAreRead, TextsAreSpelled, WholesAreDecimals, WordsFollow};
+ghost use Rattle.segment_lang.specs.Laws.{LongLinesAreCut, NumbersAreDecimals, PrintedKindsAreRead, PrintedNamesAreRead, PrintedTextsAreRead, TextsAreSpelled, WholesAreDecimals, WordsFollow};
 
 /// A word has a number exactly where it is the number's decimal text, and the number is below 2 ^ 64.
 pub fn numbers_are_decimals()
@@ -22,6 +22,16 @@ pub fn texts_are_spelled()
 /// A text that is printed is read as the bytes that it was printed for.
 pub fn printed_texts_are_read()
     ensures { PrintedTextsAreRead }
+{}
+
+/// A kind that has come and is printed is read as the kind.
+pub fn printed_kinds_are_read()
+    ensures { PrintedKindsAreRead }
+{}
+
+/// A name that is printed is read as the key of the name.
+pub fn printed_names_are_read()
+    ensures { PrintedNamesAreRead }
 {}
 
 /// All words of a line are those that are read one after another.

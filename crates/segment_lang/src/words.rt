@@ -1,13 +1,16 @@
 //! The words of a line, one after another.
 
-ghost use Rattle.std.specs.Prelude.{◌≡◌, ◌≤◌, ◌<◌, ◌+◌, ◌++◌, length, option_map, IfSome};
+ghost use Rattle.std.specs.Prelude.{◌≡◌, ◌≤◌, ◌<◌, ◌+◌, ◌++◌, length, option_map, IfSome, Some, None, if◌then◌else◌};
 ghost use Rattle.std.specs.List.{list_all};
+ghost use Rattle.raw_region.specs.Format.{current};
+ghost use Rattle.seg_types.specs.Names.{is_name};
 ghost use Rattle.segment_lang.specs.Words.{is_bare, is_plain, digit_of};
-ghost use Rattle.segment_lang.specs.Tokens.{bare_at, digits_at, ends_word, escape_at, item_at, next_word, only_word, text_at, behind_quote, behind_text, text_in, up_to_blank};
+ghost use Rattle.segment_lang.specs.Tokens.{bare_at, digits_at, ends_word, escape_at, item_at, next_two, next_word, only_word, three_words, two_words, text_at, behind_quote, behind_text, text_in, up_to_blank};
 ghost use Rattle.segment_lang.specs.Seen.{bytes_said, word_of};
 
 use crate::blanks::{at_end, is_blank, skip_blanks, split_word};
 use crate::buffer::Text;
+use seg_types::{LONGEST_NAME, Name};
 use std::marker::Model;
 
 /// The bytes that a text in quotes stands for. They are read from the line when they are asked for.
@@ -37,6 +40,24 @@ impl Quoted<'_> {
         let mut text = Text::new();
         self.append_to(&mut text);
         text
+    }
+
+    /// The name that the bytes are, or `None` where they are none.
+    pub fn to_name(&self) -> Option<Name>
+        ensures { result ≡ (if is_name current self.now then Some self.now else None) }
+    {
+        let mut held = [0; LONGEST_NAME];
+        let mut len = 0;
+        let mut rest = self.behind;
+        'items: while let Some((byte, tail)) = read_item(rest) {
+            if len == LONGEST_NAME {
+                return None;
+            }
+            held[len] = byte;
+            len += 1;
+            rest = tail;
+        }
+        Name::new(&held[..len])
     }
 
     /// Adds the bytes at the end of a text.
@@ -236,4 +257,34 @@ pub fn only_word(bytes: &[u8]) -> Option<Word<'_>>
         return None;
     }
     Some(word)
+}
+
+/// The only two words of the bytes.
+#[tactic(auto, unfolding(crate::specs::Tokens::two_words))]
+pub fn two_words(bytes: &[u8]) -> Option<(Word<'_>, Word<'_>)>
+    ensures { option_map (λ x. (word_of x.0, word_of x.1)) result ≡ two_words bytes.now }
+{
+    let (first, rest) = next_word(bytes)?;
+    let second = only_word(rest)?;
+    Some((first, second))
+}
+
+/// The only three words of the bytes.
+#[tactic(auto, unfolding(crate::specs::Tokens::three_words))]
+pub fn three_words(bytes: &[u8]) -> Option<(Word<'_>, Word<'_>, Word<'_>)>
+    ensures { option_map (λ x. (word_of x.0, word_of x.1, word_of x.2)) result ≡ three_words bytes.now }
+{
+    let (first, rest) = next_word(bytes)?;
+    let (second, third) = two_words(rest)?;
+    Some((first, second, third))
+}
+
+/// The next two words, and what is behind them.
+#[tactic(auto, unfolding(crate::specs::Tokens::next_two))]
+pub fn next_two(bytes: &[u8]) -> Option<(Word<'_>, Word<'_>, &[u8])>
+    ensures { option_map (λ x. (word_of x.0, word_of x.1, x.2.now)) result ≡ next_two bytes.now }
+{
+    let (first, rest) = next_word(bytes)?;
+    let (second, rest) = next_word(rest)?;
+    Some((first, second, rest))
 }

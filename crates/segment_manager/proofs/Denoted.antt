@@ -22,7 +22,7 @@ use Rattle.segment_manager.proofs.Objects.{all-put, all-remove, all-replace, lis
 
 -- ---- what stays
 
-handles-length : (os : List Object) → length (handles os) ≡ length os
+pub handles-length : (os : List Object) → length (handles os) ≡ length os
 handles-length [] = refl
 handles-length (o ∷ os) = ap suc (handles-length os)
 

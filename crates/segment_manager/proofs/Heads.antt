@@ -23,7 +23,7 @@ use Rattle.segment_manager.proofs.Words.{first, second}
 
 -- ---- the codes are below 2 ^ 32
 
-scalar-small : (k : ScalarKind) → scalar_code k ≤ 5
+pub scalar-small : (k : ScalarKind) → scalar_code k ≤ 5
 scalar-small BoolKind = omega arith
 scalar-small U8 = omega arith
 scalar-small I32 = omega arith
@@ -99,8 +99,8 @@ object-entry m o short a =
 -- ---- the law
 
 -- a good object has a good name
-named : (format : ℕ) (o : Object) → IsTrue (is_object format o) → IsTrue (has_good_name format o)
-named format o h =
+pub good-name : (format : ℕ) (o : Object) → IsTrue (is_object format o) → IsTrue (has_good_name format o)
+good-name format o h =
     first (has_good_name format o) (is_kind_of format (kind_of o.value))
     (first (has_good_name format o && is_kind_of format (kind_of o.value)) (is_good_value o.value)
     (first (has_good_name format o && is_kind_of format (kind_of o.value) && is_good_value o.value) (serves o.extent ObjectRole (object_len o.name o.value)) h))
@@ -108,7 +108,7 @@ named format o h =
 entries : (format : ℕ) (m : Memory) (os : List Object) → IsTrue (list_all (is_object format) os) → AllByRecursion (IsObjectAt m) os → AllByRecursion (IsEntry m) os
 entries format m [] h a = tt
 entries format m (o ∷ os) h a = (
-  object-entry m o (good_name-short format o (named format o (first (is_object format o) (list_all (is_object format) os) h))) a.0,
+  object-entry m o (good_name-short format o (good-name format o (first (is_object format o) (list_all (is_object format) os) h))) a.0,
   entries format m os (second (is_object format o) (list_all (is_object format) os) h) a.1,
 )
 

@@ -19,11 +19,21 @@ unfoldable pub use Rattle.segment_manager.proofs.Faces.{ordered}
 -- heads, names and values: what the words of a head say, how long a spelling is, which block a text has
 pub use Rattle.segment_manager.proofs.Blocks.{own-block, spelling-length}
 pub use Rattle.segment_manager.proofs.Heads.{Has-front, entry-name_len, good_name-short, object-entry}
-pub use Rattle.segment_manager.proofs.Elements.{IsNumber, name-length}
 pub use Rattle.segment_manager.proofs.NumberCalls.{fits-value_negsuc, fits-value_pos}
 -- bytes that denote a directory are a heap's, with the directory's live set
 pub use Rattle.segment_manager.proofs.Calling.{denotes-heap, denotes-live}
--- what has come so far: the parts of the test, and an object that has come is one `i64`
-pub use Rattle.segment_manager.proofs.Supported.{IsSupported, supported-class, supported-number, supported-parts, number-of, parts-supported}
+-- what has come so far: an object that has come is numbers of one kind, and has no block but its own
+pub use Rattle.segment_manager.proofs.Supported.{AreNumbers, found-supported, numbers-of, supported-alone, supported-numbers}
+-- bytes in rows: two behind one another, elements of one length each, read and written in their places, and what codes name
+pub use Rattle.segment_manager.proofs.Rows.{Has-append, Has-behind, Has-element, Has-set, flat-length}
+pub use Rattle.segment_manager.proofs.Codes.{code-read, numbers-only}
+-- the object of a key stands in its block
+pub use Rattle.segment_manager.proofs.Here.{IsHere, here, nothing-here, standing}
+-- a call for the kind that an object says its elements have is the command's step, also where its value was written as a literal
+pub use Rattle.segment_manager.proofs.AnyKind.{any-literal, any-missing, any-no_value, any-nowhere, any-replies, any-steps}
+-- the object of a key is found by its handle too
+pub use Rattle.segment_manager.proofs.Bridge.{by-handle}
 -- a command that only reads leaves the directory
 pub use Rattle.segment_manager.proofs.Unchanged.{step-reads}
+-- an index that is less than the number that was answered is below
+pub use Rattle.segment_manager.proofs.FindCalls.{named-below, unique-below}

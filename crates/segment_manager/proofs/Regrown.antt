@@ -14,7 +14,7 @@ use Rattle.segment_manager.proofs.Live.{adding, IsFound, IsIn, live-split, live-
 
 -- ---- one extent among others
 
-differs-flip : (x : Extent) (ys : List Extent) → AllByRecursion (λ y. Differs y (x ∷ [])) ys → Differs x ys
+pub differs-flip : (x : Extent) (ys : List Extent) → AllByRecursion (λ y. Differs y (x ∷ [])) ys → Differs x ys
 differs-flip x [] h = tt
 differs-flip x (y ∷ ys) h = ((λ e. h.0.0 (sym e)), differs-flip x ys h.1)
 
@@ -45,11 +45,11 @@ pub record InPlace (d : Directory) (o o' : Object) : Type 0 where
   pub proper : IsTrue (is_proper (live d))
 
 -- all extents but those of the object
-abbrev rest : Directory → Object → List Extent
+abbrev pub rest : Directory → Object → List Extent
 rest d o = (live (without_object d o)).extents
 
 -- the live set of these extents
-abbrev with_extents : Directory → Object → List Extent → LiveSet
+abbrev pub with_extents : Directory → Object → List Extent → LiveSet
 with_extents d o xs = adding (live (without_object d o)) xs
 
 split : (d : Directory) (o o' : Object) (xs : List Extent) → InPlace d o o' → extents_of o ≡ xs → live d ≡ with_extents d o' xs
@@ -78,12 +78,12 @@ live-more d o o' xs ys x p e e' h =
     joined d o o' (xs ++ x ∷ ys) p e' (subst (λ l. IsTrue (is_proper l)) (sym is) h') ∙ is ∙ ap (λ l. added l x) (sym was)
 
 -- what the live set is with the block, and without it
-record Parted (d : Directory) (o' : Object) (xs ys : List Extent) (x : Extent) : Type 0 where
-  was : live d ≡ added (with_extents d o' (xs ++ ys)) x
-  differs : Differs x (inserted (xs ++ ys) (rest d o'))
-  front : Differs x xs
+pub record Parted (d : Directory) (o' : Object) (xs ys : List Extent) (x : Extent) : Type 0 where
+  pub was : live d ≡ added (with_extents d o' (xs ++ ys)) x
+  pub differs : Differs x (inserted (xs ++ ys) (rest d o'))
+  pub front : Differs x xs
 
-parted : (d : Directory) (o o' : Object) (xs ys : List Extent) (x : Extent) → InPlace d o o' → extents_of o ≡ xs ++ x ∷ ys → Parted d o' xs ys x
+pub parted : (d : Directory) (o o' : Object) (xs ys : List Extent) (x : Extent) → InPlace d o o' → extents_of o ≡ xs ++ x ∷ ys → Parted d o' xs ys x
 parted d o o' xs ys x p e =
     let was : live d ≡ with_extents d o' (xs ++ x ∷ ys) = split d o o' (xs ++ x ∷ ys) p e in
     let r : Rising 128 (inserted (xs ++ x ∷ ys) (rest d o')) = live-rises (with_extents d o' (xs ++ x ∷ ys)) (subst (λ l. IsTrue (is_proper l)) was p.proper) in
@@ -92,7 +92,7 @@ parted d o o' xs ys x p e =
     rising-insert 128 x (inserted (xs ++ ys) (rest d o')) (subst (Rising 128) (inserted-middle xs ys (rest d o') x front) r) in
     record { was = was ∙ middle d o' xs ys x front; differs = f.differs; front = front }
 
-released-part : (d : Directory) (o' : Object) (xs ys : List Extent) (x : Extent) → Parted d o' xs ys x → released (live d) (handle x) ≡ with_extents d o' (xs ++ ys)
+pub released-part : (d : Directory) (o' : Object) (xs ys : List Extent) (x : Extent) → Parted d o' xs ys x → released (live d) (handle x) ≡ with_extents d o' (xs ++ ys)
 released-part d o' xs ys x q = ap (λ l. released l (handle x)) q.was ∙ ap (of_extents d o') (others-insert x (inserted (xs ++ ys) (rest d o')) q.differs)
 
 -- one block less

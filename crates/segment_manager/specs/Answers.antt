@@ -1,8 +1,9 @@
 -- What a command answers.
-use Rattle.std.specs.Prelude.{ℕ, ℤ, Bool, Option, Some, None, List}
+use Rattle.std.specs.Prelude.{ℕ, ℤ, Bool, true, false, Option, Some, None, List}
 use Rattle.best_fit.specs.Extents.{Span}
 use Rattle.seg_types.specs.declared.kinds.ScalarKind.{ScalarKind}
 use Rattle.seg_types.specs.declared.refusals.Refusal.{Refusal}
+use Rattle.seg_types.specs.declared.refusals.Refusal.TheVariants.{NoSpace}
 use Rattle.segment_manager.specs.Directory.{Value, Object}
 
 pub data Answer : Type 0 where
@@ -26,3 +27,10 @@ pub data Answer : Type 0 where
 abbrev pub refusal_of : Answer → Option Refusal
 refusal_of (Refused r) = Some r
 refusal_of answer = None
+
+-- A command was refused before it asked for a block, and changed nothing. Where a block has no fit, one that was taken before it
+-- is given back, and its tag may be left in the gap.
+abbrev pub is_untouched : Answer → Bool
+is_untouched (Refused NoSpace) = false
+is_untouched (Refused r) = true
+is_untouched a = false

@@ -8,9 +8,12 @@ use Rattle.block_tags.specs.Format.{is_legal_size}
 use Rattle.block_tags.specs.Tiles.{tiles_of}
 use Rattle.best_fit.specs.Extents.{Gap, Span as LiveSpan, gaps, spans}
 use Rattle.best_fit.specs.FreeTree.{gap_front, span as span_of}
+use Rattle.seg_types.specs.declared.kinds.ScalarKind.{ScalarKind}
+use Rattle.seg_types.specs.declared.kinds.ScalarKind.TheVariants.{U8}
 use Rattle.seg_types.specs.declared.kinds.Kind.{Kind}
+use Rattle.seg_types.specs.declared.kinds.Kind.TheVariants.{Scalar, Text, Vector, Map, Texts}
 use Rattle.seg_types.specs.declared.refusals.Refusal.{Refusal}
-use Rattle.seg_types.specs.declared.refusals.Refusal.TheVariants.{NotFound}
+use Rattle.seg_types.specs.declared.refusals.Refusal.TheVariants.{NotFound, WrongKind}
 use Rattle.seg_types.specs.Names.{Key}
 use Rattle.segment_manager.specs.declared.modes.Mode.{Mode}
 use Rattle.segment_manager.specs.declared.errors.CreateError.{CreateError}
@@ -18,7 +21,7 @@ use Rattle.segment_manager.specs.declared.errors.CreateError.TheVariants.{BadSiz
 use Rattle.segment_manager.specs.declared.errors.CreateRefused.{CreateRefused}
 use Rattle.segment_manager.specs.declared.tiles.Span.{Span}
 use Rattle.segment_manager.specs.Layout.{header_len}
-use Rattle.segment_manager.specs.Directory.{Directory, empty, kind_of, live, object_at}
+use Rattle.segment_manager.specs.Directory.{Object, Directory, empty, kind_of, live, object_at}
 use Rattle.segment_manager.specs.State.{Answers, State, StandsFor}
 
 -- a segment with nothing in it, in the window of the size at the base; its bytes are 0 but for the header's front, which
@@ -46,9 +49,24 @@ pub record IsNotCreated (region : List ℕ) (base size : ℕ) (refused : CreateR
 abbrev pub Creates : List ℕ → ℕ → ℕ → Mode → Result State CreateRefused → Type 0
 Creates region base size mode result = MatchResult result (IsCreated region base size mode) (IsNotCreated region base size)
 
+-- what is said of the object of a key
+abbrev pub told_at : {A : Type 0} → Directory → Key → (Object → A) → Result A Refusal
+told_at d key say = elim (object_at d key) [ None ↦ Err NotFound | Some o ↦ Ok (say o) ]
+
 -- the kind of an object
 abbrev pub kind_at : Directory → Key → Result Kind Refusal
-kind_at d key = elim (object_at d key) [ None ↦ Err NotFound | Some o ↦ Ok (kind_of o.value) ]
+kind_at d key = told_at d key (λ (o : Object). kind_of o.value)
+
+-- the kind of the elements of objects of a kind, and of the object of a key
+abbrev pub elements_of : Kind → Result ScalarKind Refusal
+elements_of (Scalar k) = Ok k
+elements_of Text = Ok U8
+elements_of (Vector k) = Ok k
+elements_of (Map k v) = Err WrongKind
+elements_of Texts = Err WrongKind
+
+abbrev pub elements_at : Directory → Key → Result ScalarKind Refusal
+elements_at d key = elim (object_at d key) [ None ↦ Err NotFound | Some o ↦ elements_of (kind_of o.value) ]
 
 -- an extent or a gap, as a call answers it
 abbrev pub as_span : Span → LiveSpan

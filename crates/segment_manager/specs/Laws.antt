@@ -1,15 +1,16 @@
 -- What holds of every step of the directory machine.
-use Rattle.std.specs.Prelude.{◌≡◌, ℕ, true, false, Some, List, Result}
+use Rattle.std.specs.Prelude.{◌≡◌, ◌<◌, ℕ, true, false, Some, List, Result, length}
 use Rattle.seg_types.specs.declared.refusals.Refusal.{Refusal}
 use Rattle.seg_types.specs.declared.refusals.Refusal.TheVariants.{ReadOnly}
 use Rattle.seg_types.specs.declared.kinds.Kind.{Kind}
 use Rattle.seg_types.specs.Names.{Key}
-use Rattle.seg_types.specs.Commands.{Command, Pop, is_changing}
+use Rattle.seg_types.specs.Commands.{Command, NumNamed, NumUnique, Pop, is_changing}
 use Rattle.segment_manager.specs.declared.modes.Mode.{Mode}
-use Rattle.segment_manager.specs.Directory.{Directory}
-use Rattle.segment_manager.specs.Answers.{Answer, Refused, TextElement, refusal_of}
+use Rattle.segment_manager.specs.Directory.{Directory, named_objects, unique_objects}
+use Rattle.segment_manager.specs.Answers.{Answer, Number, Refused, TextElement, refusal_of}
 use Rattle.segment_manager.specs.Step.{step, step_of_kind, is_read_only}
-use Rattle.segment_manager.specs.State.{State, StandsFor, IsStep, LeadsOn, answer_of, refusal_in}
+use Rattle.segment_manager.specs.State.{State, StandsFor, IsReply, IsStep, LeadsOn, answer_of, refusal_in}
+use Rattle.segment_manager.specs.Found.{IsBelow}
 
 -- what is refused leaves the directory as it was; a segment that is open for reading refuses what may change it
 pub record IsSafe (mode : Mode) (d : Directory) (c : Command) : Type 0 where
@@ -46,3 +47,8 @@ PoppedTextsLeadOn = (old new : State) (key : Key) (result : Result (List ℕ) Re
 -- and what leads on and is refused leaves the directory
 abbrev pub RefusedCallsStay : Type 0
 RefusedCallsStay = (old new : State) (c : Command) (r : Refusal) → LeadsOn old new c (Some r) → (d : Directory) → StandsFor old.cut.bytes d → StandsFor new.cut.bytes d
+
+-- the law: an index that is less than the number that was answered has an object
+pub record CountedAreBelow : Type 0 where
+  pub named : (s : State) (n i : ℕ) → IsReply s NumNamed (Number n) → i < n → IsBelow s (λ d. length (named_objects d)) i
+  pub unique : (s : State) (n i : ℕ) → IsReply s NumUnique (Number n) → i < n → IsBelow s (λ d. length (unique_objects d)) i

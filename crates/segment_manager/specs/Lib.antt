@@ -9,5 +9,14 @@ pub mod Denotes
 pub mod State
 pub mod Laws
 pub mod Calls
+pub mod Indexed
+pub mod Found
 pub mod OwnedTexts
 pub mod Heads
+pub mod NewObjects
+pub mod Items
+pub mod Begun
+pub mod Standing
+pub mod Destroyed
+pub mod Instances
+pub mod Listed

@@ -1,16 +1,18 @@
 -- What contracts see of a segment: its bytes, which denote one directory, how it is open, and where it lies.
-use Rattle.std.specs.Prelude.{◌≡◌, ℕ, ℤ, Bool, true, List, Option, Some, None, Result, Ok, Err, IsTrue}
+use Rattle.std.specs.Prelude.{◌≡◌, ℕ, ℤ, Bool, true, List, Option, Some, None, Result, Ok, Err, IfErr, IsTrue}
 use Rattle.raw_region.specs.Memory.{Cut, SamePlace}
 use Rattle.raw_region.specs.Format.{current}
 use Rattle.seg_types.specs.declared.kinds.ScalarKind.{ScalarKind}
 use Rattle.seg_types.specs.declared.kinds.Kind.{Kind}
 use Rattle.seg_types.specs.declared.refusals.Refusal.{Refusal}
+use Rattle.seg_types.specs.declared.values.ScalarValue.{ScalarValue}
 use Rattle.seg_types.specs.Names.{Key}
+use Rattle.seg_types.specs.Values.{kind_of_scalar, value_of_scalar}
 use Rattle.seg_types.specs.Commands.{Command}
 use Rattle.segment_manager.specs.declared.modes.Mode.{Mode}
 use Rattle.segment_manager.specs.Directory.{Directory}
 use Rattle.segment_manager.specs.Supported.{is_supported}
-use Rattle.segment_manager.specs.Answers.{Answer, Made, Truth, Element, Refused, Done, refusal_of}
+use Rattle.segment_manager.specs.Answers.{Answer, Made, Truth, Element, Refused, Done, is_untouched, refusal_of}
 use Rattle.segment_manager.specs.Step.{step, step_of_kind}
 use Rattle.segment_manager.specs.Denotes.{Denotes}
 
@@ -62,6 +64,10 @@ IsReply s c answer = Answers s (λ d. (step s.mode d c).0) answer
 abbrev pub IsReplyOfKind : State → Key → Kind → Command → Answer → Type 0
 IsReplyOfKind s key kind c answer = Answers s (λ d. (step_of_kind s.mode d key kind c).0) answer
 
+-- a call that was refused before it asked for a block changed nothing
+abbrev pub KeepsRefused : {A : Type 0} → State → State → Result A Refusal → Type 0
+KeepsRefused old new result = IfErr result (λ why. is_untouched (Refused why) ≡ true → new ≡ old)
+
 -- ---- what a call's result is as an answer
 
 abbrev pub answer_of : {A : Type 0} → (A → Answer) → Result A Refusal → Answer
@@ -88,3 +94,6 @@ truth_answer = answer_of Truth
 
 abbrev pub element_answer : ScalarKind → Result ℤ Refusal → Answer
 element_answer k = answer_of (Element k)
+
+abbrev pub scalar_answer : Result ScalarValue Refusal → Answer
+scalar_answer = answer_of (λ v. Element (kind_of_scalar v) (value_of_scalar v))

@@ -20,7 +20,7 @@ use raw_region::{RawRegion, Window};
 
 impl Segment {
     /// A segment with nothing in it: the `size` bytes of the region from `base` on, which is a multiple of 16. All of these
-    /// bytes become 0 but for the header and the tags; no other byte of the region changes.
+    /// bytes become 0 but for the header, the tags and the two null links of its gap; no other byte of the region changes.
     ///
     /// # Errors
     ///

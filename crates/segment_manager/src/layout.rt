@@ -1,6 +1,9 @@
 //! Where the words of a header and of an object's head stand, and what is written there.
 //!
 //! All is counted in bytes: of the header from the front of the segment, of an object from its handle. A word has 8.
+ghost use Rattle.std.specs.Prelude.{◌≡◌, ◌+◌, ◌<◌, ◌^◌};
+ghost use Rattle.segment_manager.specs.Directory.{padded as padded_of};
+ghost use Rattle.segment_manager.specs.Layout.{head_len};
 
 /// `MSEGFILE`, the lowest byte first.
 pub const MAGIC: u64 = 0x454C_4946_4745_534D;
@@ -33,8 +36,21 @@ pub const NAME_CLASS_AT: u64 = 8;
 /// The length of a head. Behind it stands the name with zeros up to a multiple of 8, and behind that the value.
 pub const HEAD_LEN: u64 = 16;
 
-/// The first word of the head of one `i64`.
-pub const ONE_I64: u64 = 0x1_0000_0004;
+/// What a word is in parts of: the upper half of a word counts so many.
+pub const HALF: u64 = 0x1_0000_0000;
 
-/// The second word of the head of an anonymous object.
-pub const ANONYMOUS: u64 = 0;
+/// A number of bytes, up to the next multiple of 8.
+pub fn padded(len: u64) -> u64
+    requires { len < 2 ^ 32 }
+    ensures { result ≡ padded_of len }
+{
+    (len + 7) / 8 * 8
+}
+
+/// Where the value of an object stands, behind a name of so many bytes.
+pub fn value_at(name_len: u64) -> u64
+    requires { name_len < 2 ^ 32 }
+    ensures { result ≡ head_len + padded_of name_len }
+{
+    HEAD_LEN + padded(name_len)
+}

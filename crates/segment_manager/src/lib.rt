@@ -4,16 +4,30 @@
 //! is one step of the directory machine: from the directory that the bytes denote to the one that they denote then.
 #![tactic(auto)]
 
+mod accessing;
+mod constructing;
+mod constructing_from;
 mod creating;
+mod destroying;
+mod element;
 mod errors;
+mod finding;
+mod finding_or_constructing;
+mod head;
+mod instances;
+mod keys;
 pub mod layout;
+mod making;
 mod modes;
-mod scalars;
+mod requesting;
+mod reserving;
 mod segment;
+mod telling;
 pub mod theorems;
 mod tiles;
 
 pub use errors::{CreateError, CreateRefused};
 pub use modes::Mode;
 pub use segment::Segment;
+pub use telling::Instance;
 pub use tiles::Span;

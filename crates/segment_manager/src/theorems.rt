@@ -1,6 +1,6 @@
 //! What holds of every command, whatever the segment holds. Each function here does nothing: its contract is the law.
 ghost use Rattle.segment_manager.specs.Entries.{IndexesFollowObjects};
-ghost use Rattle.segment_manager.specs.Laws.{ReadsChangeNothing, ReadsOfKindChangeNothing, PoppedTextsLeadOn, RefusalsChangeNothing, RefusalsOfKindChangeNothing, RefusedCallsStay, StepsLeadOn};
+ghost use Rattle.segment_manager.specs.Laws.{CountedAreBelow, ReadsChangeNothing, ReadsOfKindChangeNothing, PoppedTextsLeadOn, RefusalsChangeNothing, RefusalsOfKindChangeNothing, RefusedCallsStay, StepsLeadOn};
 ghost use Rattle.segment_manager.specs.Heads.{EntriesSayObjects};
 ghost use Rattle.segment_manager.specs.OwnedTexts.{TextsArePlaced};
 
@@ -41,4 +41,9 @@ pub fn texts_are_placed()
 /// class and its name.
 pub fn entries_say_objects()
     ensures { EntriesSayObjects }
+{}
+
+/// An index that is less than the number of objects that was answered has an object: so the calls by place may be made.
+pub fn counted_are_below()
+    ensures { CountedAreBelow }
 {}

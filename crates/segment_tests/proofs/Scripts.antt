@@ -1,5 +1,6 @@
 -- Whole scripts: what they print. Each is computed from the empty directory of a size.
 use Rattle.std.proofs.Common.{◌≡◌, refl, codes}
+use Rattle.raw_region.specs.Format.{current}
 use Rattle.segment_manager.specs.declared.modes.Mode.TheVariants.{Write, ReadOnly}
 use Rattle.segment_manager.specs.Directory.{empty}
 use Rattle.segment_lang.specs.Language.{whole, supported}
@@ -199,9 +200,15 @@ supported_first_run : (run supported Write (empty 1024) (codes "construct i64 - 
 unfolding run
 supported_first_run = refl
 
--- a word that has not come is unknown; a kind, key or count that has not come is bad syntax
-not_supported : (run supported Write (empty 1024) (codes "list\ndestroy_ptr #144\nconstruct i64 a 5\nconstruct i64 @i64 5\nconstruct u8 - 5\nconstruct i64[2] - 5\nshow a\n")).0
-    ≡ codes "error 1 unknown command\nerror 6 not found\nerror 3 bad syntax\nerror 3 bad syntax\nerror 3 bad syntax\nerror 3 bad syntax\nerror 3 bad syntax\n"
+-- and objects under keys
+supported_names : (run supported Write (empty 1024) (codes "construct i64 a 5\nfind_or_construct i64[3] a 9\nconstruct_it u8[2] @u8 7 8\nlist\nunique\nshow @u8\nget @u8 1\nset a 0 -1\ndestroy a\nnum_unique\n")).0
+    ≡ codes "#192\n#192 1\n#288\na i64 1 #192\nend\nu8 2 #288\nend\nu8[2] 7 8\n8\nok\ntrue\n1\n"
+unfolding run current
+supported_names = refl
+
+-- a word that has not come is unknown; a kind that has not come is bad syntax
+not_supported : (run supported Write (empty 1024) (codes "push v 1\npop v\nappend s \"a\"\nput m 1 2\nreserve v 3\nconstruct vec<i64> v\nconstruct string s \"a\"\nconstruct map<i64,i64> m\nfind string s\ninfo @string\n")).0
+    ≡ codes "error 1 unknown command\nerror 1 unknown command\nerror 1 unknown command\nerror 1 unknown command\nerror 1 unknown command\nerror 3 bad syntax\nerror 3 bad syntax\nerror 3 bad syntax\nerror 3 bad syntax\nerror 3 bad syntax\n"
 unfolding run
 not_supported = refl
 

@@ -1,7 +1,7 @@
 //! Images with one fault or two, each refused by the first class that holds, whatever the reader gives at once.
 ghost use Rattle.raw_region.specs.Regions.{IsCapacity};
 
-use crate::desk::{Place, SOUND, put, run_with};
+use crate::desk::{Place, SOUND, put, run_fresh, run_image, run_with};
 use image_check::{ImageClass, OpenError, open};
 use raw_region::fake::{Last, MemorySource};
 use raw_region::{RawRegion, Steps};
@@ -347,16 +347,51 @@ fn a_map_is_damaged(rt: HostRuntime) -> Result<(), Fail> {
 
 #[test]
 fn what_has_not_come_is_refused_by_a_late_class(rt: HostRuntime) -> Result<(), Fail> {
-    for words in [
-        NAMED.as_slice(),
-        TWO_NAMES.as_slice(),
-        VECTORS.as_slice(),
-        PAIR.as_slice(),
-    ] {
+    for words in [VECTORS.as_slice(), PAIR.as_slice()] {
         let image = image_of(rt.alloc(), 1024, words)?;
         match cause(rt.alloc(), &image, 1024, 4096)? {
             Some(OpenError::Image(class)) => assert!(rt; class.number() >= 8, "{class}"),
             other => assert!(rt; false, "{other:?}"),
+        }
+    }
+    Ok(())
+}
+
+#[test]
+fn names_are_opened(rt: HostRuntime) -> Result<(), Fail> {
+    for (words, script, answers) in [
+        (
+            NAMED.as_slice(),
+            b"show a\nlist\nconstruct i64 b 6\nfree\n".as_slice(),
+            b"i64 5\na i64 1 #192\nend\n#240\n736\n".as_slice(),
+        ),
+        (
+            &TWO_NAMES,
+            b"show a\nlist\ndestroy a\nfree\n",
+            b"i64 5\na i64 1 #192\nb i64 1 #240\nend\ntrue\n784\n",
+        ),
+    ] {
+        let image = image_of(rt.alloc(), 1024, words)?;
+        for piece in [1, 7, 4096] {
+            assert_eq!(rt; cause(rt.alloc(), &image, 1024, piece)?, None);
+        }
+        let done = run_image(rt.alloc(), Mode::Write, &image, script)?;
+        assert_eq!(rt; done.result, Ok(()));
+        assert_eq!(rt; done.answers.taken(), answers);
+    }
+    Ok(())
+}
+
+#[test]
+fn a_run_saves_these_words(rt: HostRuntime) -> Result<(), Fail> {
+    for (script, words) in [
+        (b"construct i64 a 5\n".as_slice(), NAMED.as_slice()),
+        (b"construct i64 a 5\nconstruct i64 b 6\n", &TWO_NAMES),
+    ] {
+        let done = run_fresh(rt.alloc(), 1024, script)?;
+        for (at, word) in words {
+            let saved = done.saved.taken().get(*at..at.saturating_add(8));
+            assert_eq!(rt; saved, Some(word.to_le_bytes().as_slice()), "at {at}");
         }
     }
     Ok(())

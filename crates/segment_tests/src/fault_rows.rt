@@ -5,6 +5,7 @@ use image_check::ImageClass;
 use raw_region::fake::Last;
 use segment_cli::{SessionFault, Start};
 use segment_manager::Mode;
+use std::alloc::{AllocError, Global};
 use std::test::Fail;
 
 #[test]
@@ -73,6 +74,37 @@ fn a_writer_of_answers_fails(rt: HostRuntime) -> Result<(), Fail> {
         );
         assert_eq!(rt; Some(cut.answers.taken()), answers.get(..answer_room));
         assert_eq!(rt; cut.saved.taken(), b"".as_slice());
+    }
+    Ok(())
+}
+
+#[test]
+fn a_writer_of_long_answers_fails(rt: HostRuntime) -> Result<(), Fail> {
+    let script = b"construct i64[3] v 7\nconstruct bool @bool true\nshow v\nlist\nunique\ninfo v\n";
+    let answers =
+        b"#192\n#304\ni64[3] 7 7 7\nv i64 3 #192\nend\nbool 1 #304\nend\nnamed v i64 3 #192\n";
+    for answer_room in 0..answers.len() + 1 {
+        let devices = Devices {
+            answer_room,
+            ..SOUND
+        };
+        let cut = run_with(
+            rt.alloc(),
+            Start::Fresh(1024),
+            Mode::Write,
+            &[],
+            script,
+            FRONT,
+            devices,
+        )?;
+        let result = if answer_room < answers.len() {
+            Err(SessionFault::WriteFault)
+        } else {
+            Ok(())
+        };
+        assert_eq!(rt; cut.result, result, "with room for {answer_room}");
+        assert_eq!(rt; Some(cut.answers.taken()), answers.get(..answer_room));
+        assert_eq!(rt; cut.saved.taken().is_empty(), result.is_err());
     }
     Ok(())
 }
@@ -155,14 +187,25 @@ fn a_reader_of_the_image_fails(rt: HostRuntime) -> Result<(), Fail> {
     Ok(())
 }
 
+/// A script of so many bytes: a command, and comments of 4095 bytes each.
+fn long_script(alloc: Global, len: usize) -> Result<Vec<u8>, AllocError> {
+    let mut script = copy_of(alloc, b"size\n")?;
+    script.resize(len, b'#')?;
+    for line in script.as_mut_slice().chunks_exact_mut(4096) {
+        if let Some(last) = line.last_mut() {
+            *last = b'\n';
+        }
+    }
+    Ok(script)
+}
+
 #[test]
 fn a_script_is_too_long(rt: HostRuntime) -> Result<(), Fail> {
-    for (ends, result) in [
-        (16777212, Ok(())),
-        (16777213, Err(SessionFault::ScriptTooLong)),
+    for (len, result) in [
+        (16777216, Ok(())),
+        (16777217, Err(SessionFault::ScriptTooLong)),
     ] {
-        let mut script = copy_of(rt.alloc(), b"size")?;
-        script.resize(4 + ends, b'\n')?;
+        let script = long_script(rt.alloc(), len)?;
         let done = run_fresh(rt.alloc(), 176, &script)?;
         assert_eq!(rt; done.result, result);
         assert_eq!(rt; done.answers.taken(), b"176\n".as_slice());

@@ -136,17 +136,27 @@ fn wrong_blocks_are_refused(rt: HostRuntime) -> Result<(), Fail> {
 }
 
 #[test]
-fn what_has_not_come_is_refused(rt: HostRuntime) -> Result<(), Fail> {
+fn another_kind_or_count_is_opened(rt: HostRuntime) -> Result<(), Fail> {
     let done = run_fresh(rt.alloc(), 1024, b"construct i64 - 5\n")?;
-    // another kind, a count of 2
-    for (at, byte) in [(144, 5), (148, 2)] {
+    for (at, byte, shown) in [
+        (144, 2, b"u8 5\n".as_slice()),
+        (144, 5, b"u64 5\n"),
+        (148, 2, b"i64[2] 5 6\n"),
+    ] {
+        let mut image = copy_of(rt.alloc(), done.saved.taken())?;
+        put(image.as_mut_slice(), 168, &[6, 0, 0, 0, 0, 0, 0, 0]);
+        put(image.as_mut_slice(), at, &[byte]);
+        let opened = run_image(rt.alloc(), Mode::Write, &image, b"show #144\n")?;
+        assert_eq!(rt; opened.result, Ok(()), "at {at}");
+        assert_eq!(rt; opened.answers.taken(), shown, "at {at}");
+    }
+    // no kind, no spelling, no element, more elements than the block has bytes
+    for (at, byte) in [(144, 6), (144, 1), (148, 0), (148, 3)] {
         let mut image = copy_of(rt.alloc(), done.saved.taken())?;
         put(image.as_mut_slice(), at, &[byte]);
         let refused = run_image(rt.alloc(), Mode::Write, &image, b"size\n")?;
-        match refused.result {
-            Err(SessionFault::Image(class)) => assert!(rt; class.number() >= 8, "at {at}: {class}"),
-            other => assert!(rt; false, "at {at}: {other:?}"),
-        }
+        let class = Err(SessionFault::Image(ImageClass::BadObject));
+        assert_eq!(rt; refused.result, class, "at {at}");
     }
     Ok(())
 }
@@ -250,6 +260,28 @@ fn sizes_are_refused(rt: HostRuntime) -> Result<(), Fail> {
         assert_eq!(rt; refused.result, Err(SessionFault::BadSize), "{size}");
         assert_eq!(rt; refused.answers.taken(), b"".as_slice());
         assert_eq!(rt; refused.saved.taken(), b"".as_slice());
+    }
+    Ok(())
+}
+
+#[test]
+fn sizes_are_refused_before_their_room(rt: HostRuntime) -> Result<(), Fail> {
+    for (size, fault) in [
+        (160, SessionFault::BadSize),
+        (1040, SessionFault::RegionTooSmall),
+    ] {
+        let place = Place::new(1024, 0);
+        let refused = run_with(
+            rt.alloc(),
+            Start::Fresh(size),
+            Mode::Write,
+            &[],
+            b"size\n",
+            place,
+            SOUND,
+        )?;
+        assert_eq!(rt; refused.result, Err(fault), "{size}");
+        assert_eq!(rt; refused.answers.taken(), b"".as_slice());
     }
     Ok(())
 }

@@ -14,4 +14,6 @@ mod line_rows;
 #[cfg(test)]
 mod machine_rows;
 #[cfg(test)]
+mod object_rows;
+#[cfg(test)]
 mod script_rows;

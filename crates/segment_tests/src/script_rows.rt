@@ -70,7 +70,7 @@ const ROWS: [Row; 11] = [
     },
     Row {
         size: 1024,
-        script: "construct i64 - 9223372036854775808\nconstruct i64 a 5\nshow 144\nsize 1\n  size\t\r\n",
+        script: "construct i64 - 9223372036854775808\nconstruct i64 9a 5\nshow 144\nsize 1\n  size\t\r\n",
         answers: "error 3 bad syntax\nerror 3 bad syntax\nerror 3 bad syntax\nerror 3 bad syntax\n1024\n",
     },
     Row {

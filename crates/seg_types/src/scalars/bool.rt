@@ -23,6 +23,8 @@ impl Plain for bool {
 
     ghost order = { λ x y. int_lt (truth_number x) (truth_number y) };
 
+    ghost reading = { laws.bool-reading };
+
     fn write(self, to: &mut [u8]) {
         to[0] = u8::from(self);
     }
@@ -42,6 +44,8 @@ impl Plain for bool {
     ghost sizes = { laws.sizes BoolKind };
 
     ghost spells = { λ x h. laws.spells BoolKind (truth_number x) (laws.truth-value x) };
+
+    ghost reads = { laws.bool-reads };
 
     ghost differs = { λ x y h k e. laws.same_truth x y (laws.differs BoolKind (truth_number x) (truth_number y) (laws.truth-value x) (laws.truth-value y) e) };
 

@@ -23,6 +23,8 @@ impl Plain for i32 {
 
     ghost order = { int_lt };
 
+    ghost reading = { laws.whole-reading I32 };
+
     fn write(self, to: &mut [u8]) {
         to.copy_from_slice(&self.to_le_bytes());
     }
@@ -38,6 +40,8 @@ impl Plain for i32 {
     ghost sizes = { laws.sizes I32 };
 
     ghost spells = { laws.spells I32 };
+
+    ghost reads = { laws.whole-reads I32 };
 
     ghost differs = { laws.differs I32 };
 

@@ -23,6 +23,8 @@ impl Plain for i64 {
 
     ghost order = { int_lt };
 
+    ghost reading = { laws.whole-reading I64 };
+
     fn write(self, to: &mut [u8]) {
         to.copy_from_slice(&self.to_le_bytes());
     }
@@ -38,6 +40,8 @@ impl Plain for i64 {
     ghost sizes = { laws.sizes I64 };
 
     ghost spells = { laws.spells I64 };
+
+    ghost reads = { laws.whole-reads I64 };
 
     ghost differs = { laws.differs I64 };
 

@@ -23,6 +23,8 @@ impl Plain for u64 {
 
     ghost order = { λ x y. int_lt (pos x) (pos y) };
 
+    ghost reading = { laws.u64-reading };
+
     fn write(self, to: &mut [u8]) {
         to.copy_from_slice(&self.to_le_bytes());
     }
@@ -38,6 +40,8 @@ impl Plain for u64 {
     ghost sizes = { laws.sizes U64 };
 
     ghost spells = { λ x. laws.spells U64 (pos x) };
+
+    ghost reads = { laws.u64-reads };
 
     ghost differs = { λ x y h k e. laws.same_number x y (laws.differs U64 (pos x) (pos y) h k e) };
 

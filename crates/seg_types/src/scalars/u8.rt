@@ -23,6 +23,8 @@ impl Plain for u8 {
 
     ghost order = { λ x y. int_lt (pos x) (pos y) };
 
+    ghost reading = { laws.u8-reading };
+
     fn write(self, to: &mut [u8]) {
         to.copy_from_slice(&self.to_le_bytes());
     }
@@ -38,6 +40,8 @@ impl Plain for u8 {
     ghost sizes = { laws.sizes U8 };
 
     ghost spells = { λ x. laws.spells U8 (pos x) };
+
+    ghost reads = { laws.u8-reads };
 
     ghost differs = { λ x y h k e. laws.same_number x y (laws.differs U8 (pos x) (pos y) h k e) };
 

@@ -1,48 +1,34 @@
-use Rattle.std.proofs.Common.{◌≡◌, sym, ap, subst, ◌∙◌, true, ◌*◌, ◌<◌, ◌≤◌, arith}
-use Rattle.std.specs.Prelude.{Some}
+use Rattle.std.proofs.Common.{◌≡◌, ap, ◌∙◌, ◌*◌, ◌≤◌, arith}
 use Rattle.std.proofs.Math.Nat.{mul-le-mul_left}
-use Rattle.raw_region.specs.Memory.{bytes_of}
-use Rattle.offset_link.specs.Link.{link_at}
 use Rattle.block_tags.specs.declared.tile.Role.TheVariants.{Storage}
 use Rattle.seg_types.specs.Kinds.{size_of}
 use Rattle.image_check.specs.ObjectTests.{is_table_link}
-use Rattle.image_check.specs.Owners.{IsNoted}
 use Rattle.image_check.specs.Passes.{tiles_in}
 use Rattle.image_check.proofs.MapPairs.{size-times}
-use Rattle.image_check.proofs.StorageBlocks.{storage-there}
+use Rattle.image_check.proofs.StorageBlocks.{storage-read}
 use Rattle.image_check.proofs.arrays.is_storage.Goals as goal
 
 pub are_spellings-requires-clause-inside : goal.are_spellings-requires-clause-inside
 are_spellings-requires-clause-inside c =
     let b = c.args.window.now.bytes in
-    let es = c.args.blocks.now.entries in
-    let leads : link_at (bytes_of b) c.args.at ≡ Some c.in-Some.block = sym c.load-link.ensures ∙ c.in-Some.is in
-    let noted : 0 < c.read_u64-capacity.result → IsNoted (bytes_of b) (tiles_in b) es Storage c.args.at c.args.at = λ some. c.requires.noted (subst (λ n. 0 < n) c.read_u64-capacity.ensures some) in
-    let table : is_table_link (tiles_in b) Storage (Some c.in-Some.block) (size_of c.args.kind) c.read_u64-capacity.result ≡ true =
-    ap (λ n. is_table_link (tiles_in b) Storage (Some c.in-Some.block) n c.read_u64-capacity.result) (sym c.size.ensures) ∙ (ap (λ o. is_table_link (tiles_in b) Storage o c.size.result c.read_u64-capacity.result) (sym c.in-Some.is) ∙ (sym (c.is_table.ensures.value (tiles_in b) c.requires.blocks) ∙ c.if-not-is_table.false)) in
-    let there = storage-there b es c.args.at (size_of c.args.kind) c.read_u64-capacity.result c.in-Some.block c.requires.tiles c.requires.blocks noted leads table in
-    let whole = there.whole in
+    let each = size_of c.args.kind in
+    let there = storage-read b c.args.blocks.now.entries c.args.at each c.read_u64-capacity.result c.in-Some.block c.load-link.result c.is_table.result c.requires.tiles c.requires.blocks c.requires.noted
+    c.read_u64-capacity.ensures c.load-link.ensures c.in-Some.is
+    (c.is_table.ensures.value (tiles_in b) c.requires.blocks ∙ ap (λ n. is_table_link (tiles_in b) Storage c.load-link.result n c.read_u64-capacity.result) c.size.ensures) c.if-not-is_table.false in
     let inside = there.inside in
-    let paid = there.paid in
-    let low = c.if-len-capacity.false in
-    let each = mul-le-mul_left (size_of c.args.kind) low in
+    let least = mul-le-mul_left each c.if-len-capacity.false in
     omega arith
 
 pub returns-in-Some-clause-visits : goal.returns-in-Some-clause-visits
 returns-in-Some-clause-visits c =
     let b = c.args.window.now.bytes in
-    let es = c.args.blocks.now.entries in
-    let leads : link_at (bytes_of b) c.args.at ≡ Some c.in-Some.block = sym c.load-link.ensures ∙ c.in-Some.is in
-    let noted : 0 < c.read_u64-capacity.result → IsNoted (bytes_of b) (tiles_in b) es Storage c.args.at c.args.at = λ some. c.requires.noted (subst (λ n. 0 < n) c.read_u64-capacity.ensures some) in
-    let table : is_table_link (tiles_in b) Storage (Some c.in-Some.block) (size_of c.args.kind) c.read_u64-capacity.result ≡ true =
-    ap (λ n. is_table_link (tiles_in b) Storage (Some c.in-Some.block) n c.read_u64-capacity.result) (sym c.size.ensures) ∙ (ap (λ o. is_table_link (tiles_in b) Storage o c.size.result c.read_u64-capacity.result) (sym c.in-Some.is) ∙ (sym (c.is_table.ensures.value (tiles_in b) c.requires.blocks) ∙ c.if-not-is_table.false)) in
-    let there = storage-there b es c.args.at (size_of c.args.kind) c.read_u64-capacity.result c.in-Some.block c.requires.tiles c.requires.blocks noted leads table in
-    let whole = there.whole in
-    let inside = there.inside in
+    let each = size_of c.args.kind in
+    let there = storage-read b c.args.blocks.now.entries c.args.at each c.read_u64-capacity.result c.in-Some.block c.load-link.result c.is_table.result c.requires.tiles c.requires.blocks c.requires.noted
+    c.read_u64-capacity.ensures c.load-link.ensures c.in-Some.is
+    (c.is_table.ensures.value (tiles_in b) c.requires.blocks ∙ ap (λ n. is_table_link (tiles_in b) Storage c.load-link.result n c.read_u64-capacity.result) c.size.ensures) c.if-not-is_table.false in
     let paid = there.paid in
-    let low = c.if-len-capacity.false in
-    let each = mul-le-mul_left (size_of c.args.kind) low in
-    let few : c.read_u64-len.result ≤ size_of c.args.kind * c.read_u64-len.result = size-times c.args.kind c.read_u64-len.result in
+    let least = mul-le-mul_left each c.if-len-capacity.false in
+    let few : c.read_u64-len.result ≤ each * c.read_u64-len.result = size-times c.args.kind c.read_u64-len.result in
     let first = c.is_table.ensures.visits in
     let second = c.are_spellings.ensures.spends in
     (omega arith, omega arith)

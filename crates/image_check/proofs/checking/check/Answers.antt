@@ -1,10 +1,6 @@
 -- The frame, the blocks in use, their classes and the support, one after another, and what each of them spends.
-use Rattle.std.proofs.Common.{◌∙◌, sym, subst, ℕ, List, true}
-use Rattle.std.specs.Prelude.{IsTrue}
-use Rattle.image_check.specs.Classes.{are_bytes}
-use Rattle.image_check.specs.Visits.{frame_rates, gathering_rates, block_rates, support_rates}
-use Rattle.image_check.proofs.Budget.{blocks-raised, frame-raised, gathered-raised, support-raised}
-use Rattle.image_check.proofs.Bytes.{fits-are_bytes}
+use Rattle.std.proofs.Common.{◌∙◌, sym}
+use Rattle.image_check.proofs.Budget.{blocks-raised, gathered-raised, support-raised}
 use Rattle.image_check.proofs.Early.{frame-no_early_class}
 use Rattle.image_check.proofs.Checked.{no-memory-used, blocks-class, blocks-not_come, blocks-segment, frame-tiles}
 use Rattle.image_check.proofs.checking.check.Goals as goal
@@ -33,13 +29,12 @@ returns-in-Err-check_blocks-clause-visits c =
     blocks-raised c.args.window.now _ _ _ (frame-tiles c.args.window.now.bytes c.in_default.ensures.finds) c.in_default.ensures.visits c.in-Ok.ensures.visits
     _ c.in-Err-check_blocks.ensures.visits
 
-pub is_supported-requires-clause-tiles : goal.is_supported-requires-clause-tiles
-is_supported-requires-clause-tiles c = frame-tiles c.args.window.now.bytes c.in_default.ensures.finds
+pub is_supported-requires : goal.is_supported-requires
+is_supported-requires c = frame-tiles c.args.window.now.bytes c.in_default.ensures.finds
 
 pub returns-then-not-is_supported-clause-answers : goal.returns-then-not-is_supported-clause-answers
 returns-then-not-is_supported-clause-answers c =
-    let small = subst (λ (b : List ℕ). IsTrue (are_bytes b)) c.all_bytes.ensures.all c.all_bytes.ensures.bytes in
-    blocks-not_come c.args.window.now.bytes small c.in_default.ensures.finds c.in_default-check_blocks.ensures.finds (sym c.is_supported.ensures.value ∙ c.if-not-is_supported.true)
+    blocks-not_come c.args.window.now.bytes c.in_default.ensures.bytes c.in_default.ensures.finds c.in_default-check_blocks.ensures.finds (sym c.is_supported.ensures.value ∙ c.if-not-is_supported.true)
 
 pub returns-then-not-is_supported-clause-visits : goal.returns-then-not-is_supported-clause-visits
 returns-then-not-is_supported-clause-visits c =
@@ -48,8 +43,7 @@ returns-then-not-is_supported-clause-visits c =
 
 pub returns-clause-answers : goal.returns-clause-answers
 returns-clause-answers c =
-    let small = subst (λ (b : List ℕ). IsTrue (are_bytes b)) c.all_bytes.ensures.all c.all_bytes.ensures.bytes in
-    blocks-segment c.args.window.now.bytes small c.in_default.ensures.finds (sym c.is_supported.ensures.value ∙ c.if-not-is_supported.false)
+    blocks-segment c.args.window.now.bytes c.in_default.ensures.bytes c.in_default.ensures.finds c.in_default-check_blocks.ensures.finds (sym c.is_supported.ensures.value ∙ c.if-not-is_supported.false)
 
 pub returns-clause-visits : goal.returns-clause-visits
 returns-clause-visits c =

@@ -1,5 +1,7 @@
-use Rattle.std.proofs.Common.{◌≡◌, ℕ, List, ap, sym, ◌∙◌, true, false, length, ◌+◌, ◌≤◌, arith}
+use Rattle.std.proofs.Common.{ℕ, List, ap, sym, subst, ◌∙◌}
 use Rattle.std.proofs.lemmas.Bool.{not-true, not-false}
+use Rattle.std.specs.Prelude.{IsTrue}
+use Rattle.image_check.specs.Classes.{are_bytes}
 use Rattle.image_check.specs.EarlyTests.{has_reserved}
 use Rattle.image_check.specs.Visits.{tag_rates, tree_rates}
 use Rattle.image_check.proofs.Budget.{frame-raised, spend-both, tags-raised, tags-spend}
@@ -50,6 +52,9 @@ returns-clause-finds c =
       tags = sym c.check_counted-tags.ensures.good ∙ not-false c.check_counted-tags.result.are_good c.if-not-tags.false;
     } in
     checked-frame w h (sym c.has_free_tree.ensures.value ∙ c.if-not-has_free_tree.false)
+
+pub returns-clause-bytes : goal.returns-clause-bytes
+returns-clause-bytes c = subst (λ (b : List ℕ). IsTrue (are_bytes b)) c.all_bytes.ensures.all c.all_bytes.ensures.bytes
 
 pub returns-clause-visits : goal.returns-clause-visits
 returns-clause-visits c =

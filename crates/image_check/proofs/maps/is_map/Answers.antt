@@ -7,7 +7,7 @@ use Rattle.link_tree.specs.Nodes.{leads}
 use Rattle.link_tree.proofs.Laws.{some_same}
 use Rattle.image_check.specs.MapNodes.{is_pair, key_before, pair_cells}
 use Rattle.image_check.proofs.MapFound.{found-map, not-map}
-use Rattle.image_check.proofs.MapWeights.{check-visits}
+use Rattle.image_check.proofs.MapWeights.{check-visits, map-visits}
 use Rattle.image_check.proofs.maps.is_map.Goals as goal
 
 pub returns-then-not-has_at-clause-value : goal.returns-then-not-has_at-clause-value
@@ -33,42 +33,18 @@ overflow_mul-checked c =
 
 pub returns-in_default-clause-visits : goal.returns-in_default-clause-visits
 returns-in_default-clause-visits c =
-    let w = c.args.window.now in
-    let es = c.args.blocks.now.entries in
-    let k = c.args.key in
-    let v = c.args.value in
-    let at = c.args.at in
-    let spent = check-visits w es at k v c.load-root.result c.check-checked.result.steps (sym c.has_at.ensures ∙ c.if-not-has_at.false) c.check-checked.ensures.steps in
-    let few = c.requires.few in
-    let first = c.add.ensures in
-    let second = c.add-2.ensures in
-    (omega arith, omega arith)
+    map-visits c.args.window.now c.args.blocks.now.entries c.args.at c.args.key c.args.value c.load-root.result c.check-checked.result.steps c.args.visits.now c.add.new.self c.add-2.new.self
+    (sym c.has_at.ensures ∙ c.if-not-has_at.false) c.check-checked.ensures.steps c.add.ensures c.add-2.ensures
 
 pub returns-then-count-read_u64-clause-visits : goal.returns-then-count-read_u64-clause-visits
 returns-then-count-read_u64-clause-visits c =
-    let w = c.args.window.now in
-    let es = c.args.blocks.now.entries in
-    let k = c.args.key in
-    let v = c.args.value in
-    let at = c.args.at in
-    let spent = check-visits w es at k v c.load-root.result c.check-checked.result.steps (sym c.has_at.ensures ∙ c.if-not-has_at.false) c.check-checked.ensures.steps in
-    let few = c.requires.few in
-    let first = c.add.ensures in
-    let second = c.add-2.ensures in
-    (omega arith, omega arith)
+    map-visits c.args.window.now c.args.blocks.now.entries c.args.at c.args.key c.args.value c.load-root.result c.check-checked.result.steps c.args.visits.now c.add.new.self c.add-2.new.self
+    (sym c.has_at.ensures ∙ c.if-not-has_at.false) c.check-checked.ensures.steps c.add.ensures c.add-2.ensures
 
 pub returns-else-count-read_u64-clause-visits : goal.returns-else-count-read_u64-clause-visits
 returns-else-count-read_u64-clause-visits c =
-    let w = c.args.window.now in
-    let es = c.args.blocks.now.entries in
-    let k = c.args.key in
-    let v = c.args.value in
-    let at = c.args.at in
-    let spent = check-visits w es at k v c.load-root.result c.check-checked.result.steps (sym c.has_at.ensures ∙ c.if-not-has_at.false) c.check-checked.ensures.steps in
-    let few = c.requires.few in
-    let first = c.add.ensures in
-    let second = c.add-2.ensures in
-    (omega arith, omega arith)
+    map-visits c.args.window.now c.args.blocks.now.entries c.args.at c.args.key c.args.value c.load-root.result c.check-checked.result.steps c.args.visits.now c.add.new.self c.add-2.new.self
+    (sym c.has_at.ensures ∙ c.if-not-has_at.false) c.check-checked.ensures.steps c.add.ensures c.add-2.ensures
 
 pub returns-in_default-clause-value : goal.returns-in_default-clause-value
 returns-in_default-clause-value c =

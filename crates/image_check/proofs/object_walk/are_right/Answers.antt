@@ -5,7 +5,7 @@ use Rattle.raw_region.specs.Memory.{Cut, bytes_of}
 use Rattle.block_tags.specs.declared.tile.Tile.{Tile}
 use Rattle.block_tags.proofs.Laws.{tiles_are_read_off}
 use Rattle.best_fit.proofs.Laws.{said_row}
-use Rattle.image_check.specs.ObjectPasses.{is_right_tile, walk_rates}
+use Rattle.image_check.specs.ObjectPasses.{is_right_tile, object_walk_rates}
 use Rattle.image_check.specs.Visits.{weigh}
 use Rattle.image_check.proofs.IndexPlaces.{InRow, in-row}
 use Rattle.image_check.proofs.Members.{mem_right}
@@ -16,7 +16,7 @@ use Rattle.image_check.proofs.object_walk.are_right.Goals.{In-Some}
 
 -- what is kept of the tiles behind the walk
 abbrev Kept : ℕ → Cut → ℕ → ℕ → List Tile → Type 0
-Kept format w before visits ts = (list_all (is_right_tile format (bytes_of w.bytes)) ts ≡ true) × (before ≤ visits) × (visits ≤ before + weigh walk_rates ts)
+Kept format w before visits ts = (list_all (is_right_tile format (bytes_of w.bytes)) ts ≡ true) × (before ≤ visits) × (visits ≤ before + weigh object_walk_rates ts)
 
 here : (c : In-Some) → WalksAt c.args.window.now (Kept c.args.format c.args.window.now c.args.visits.now c.tiles.visits) c.in-Some.here
 here c = walk-at c.args.window.now (Kept c.args.format c.args.window.now c.args.visits.now c.tiles.visits) c.tiles.tile c.in-Some.here c.tiles.invariant c.in-Some.is
@@ -53,8 +53,8 @@ pub returns-then-not-is_right-clause-spends : goal.returns-then-not-is_right-cla
 returns-then-not-is_right-clause-spends c =
     let w = c.args.window.now in
     let a = here (goal.at.returns-then-not-is_right-clause-spends c).In-Some in
-    let all = ap (weigh walk_rates) (tiles_are_read_off w (a.front ++ c.in-Some.here ∷ a.back) a.said) in
-    let part = weigh-front walk_rates a.front c.in-Some.here a.back in
+    let all = ap (weigh object_walk_rates) (tiles_are_read_off w (a.front ++ c.in-Some.here ∷ a.back) a.said) in
+    let part = weigh-front object_walk_rates a.front c.in-Some.here a.back in
     let k = a.kept in
     let s = c.is_right.ensures.spends in
     (omega arith, omega arith)
@@ -74,7 +74,7 @@ tiles-preserved c =
     let w = c.args.window.now in
     walk-on w (Kept c.args.format w c.args.visits.now c.tiles.visits) (Kept c.args.format w c.args.visits.now c.is_right.new.visits) c.in-Some.here c.next-tile.result (here (goal.at.tiles-preserved c).In-Some) c.next-tile.ensures
     (λ front k.
-    let more = weigh-more walk_rates front c.in-Some.here in
+    let more = weigh-more object_walk_rates front c.in-Some.here in
     let s = c.is_right.ensures.spends in (
       all-more (is_right_tile c.args.format (bytes_of w.bytes)) front c.in-Some.here k.0 (sym c.is_right.ensures.is ∙ c.if-not-is_right.false),
       omega arith,

@@ -1,12 +1,68 @@
-use Rattle.std.proofs.Common.{refl}
-use Rattle.seg_types.specs.Commands.{AllDeallocated, Free, Sanity, Size}
-use Rattle.segment_manager.specs.Answers.{Number, Truth}
+-- Each arm is one call, which is the step of its command.
+use Rattle.std.proofs.Common.{refl, subst, true}
+use Rattle.seg_types.specs.Commands.{AllDeallocated, Construct, ConstructIt, Destroy, DestroyPtr, Find, FindOrConstruct, Free, Get, NumNamed, NumUnique, ReserveNamed, ReserveUnique, Sanity, Set, ShrinkIndexes, Size, ZeroFree}
+use Rattle.seg_types.specs.Keys.{index_key_seen, key_seen, new_key_seen}
+use Rattle.seg_types.specs.Values.{kind_of_scalar, value_of_scalar}
+use Rattle.segment_lang.specs.Seen.{content_of, literal_of}
+use Rattle.segment_manager.specs.Answers.{Done, Element, Made, Number, Truth}
+use Rattle.segment_manager.specs.Found.{found_answer, pair_found}
+use Rattle.segment_manager.specs.State.{IsReply, scalar_answer}
 use Rattle.segment_cli.specs.declared.replies.Answer.TheVariants as said
-use Rattle.segment_cli.proofs.Answering.{replies-blocks, replies-read, replies-show}
+use Rattle.segment_cli.proofs.Answering.{keeps-refused, replies-blocks, replies-call, replies-info, replies-kinds, replies-names, replies-read, replies-show, replies-step}
 use Rattle.segment_cli.proofs.replies.reply.Goals as goal
+
+pub returns-in-Construct : goal.returns-in-Construct
+returns-in-Construct c =
+    rw c.in-Construct.is (replies-call Made (λ _. refl) c.args.segment.now c.construct.new.segment (Construct (new_key_seen c.in-Construct.key) (content_of c.in-Construct.content)) c.construct.result c.made.result
+    refl refl c.made.ensures c.construct.ensures.step c.construct.ensures.refused)
+
+pub returns-in-ConstructIt : goal.returns-in-ConstructIt
+returns-in-ConstructIt c =
+    rw c.in-ConstructIt.is (replies-call Made (λ _. refl) c.args.segment.now c.construct_it.new.segment
+    (ConstructIt (new_key_seen c.in-ConstructIt.key) c.in-ConstructIt.values.kind c.in-ConstructIt.count c.in-ConstructIt.values.numbers) c.construct_it.result c.made-in-ConstructIt.result
+    refl refl c.made-in-ConstructIt.ensures c.construct_it.ensures.step c.construct_it.ensures.refused)
+
+pub returns-in-Find : goal.returns-in-Find
+returns-in-Find c =
+    rw c.in-Find.is (replies-read c.args.segment.now (Find (index_key_seen c.in-Find.key) c.in-Find.kind) c.looked_up.result (found_answer c.find_kind.result) refl c.looked_up.ensures
+    (subst (λ k. IsReply c.args.segment.now (Find k c.in-Find.kind) (found_answer c.find_kind.result)) c.into_key.ensures c.find_kind.ensures))
+
+pub returns-in-FindOrConstruct : goal.returns-in-FindOrConstruct
+returns-in-FindOrConstruct c =
+    rw c.in-FindOrConstruct.is (replies-call pair_found (λ _. refl) c.args.segment.now c.find_or_construct.new.segment
+    (FindOrConstruct (index_key_seen c.in-FindOrConstruct.key) (content_of c.in-FindOrConstruct.content)) c.find_or_construct.result c.found.result
+    refl refl c.found.ensures c.find_or_construct.ensures.step c.find_or_construct.ensures.refused)
+
+pub returns-in-Destroy : goal.returns-in-Destroy
+returns-in-Destroy c =
+    rw c.in-Destroy.is (replies-call Truth (λ _. refl) c.args.segment.now c.destroy.new.segment (Destroy (index_key_seen c.in-Destroy.key)) c.destroy.result c.truth.result
+    refl refl c.truth.ensures c.destroy.ensures.step (keeps-refused c.args.segment.now c.destroy.new.segment c.destroy.result c.destroy.ensures.refused))
+
+pub returns-in-DestroyPtr : goal.returns-in-DestroyPtr
+returns-in-DestroyPtr c =
+    rw c.in-DestroyPtr.is (replies-call (λ _. Truth true) (λ _. refl) c.args.segment.now c.destroy_ptr.new.segment (DestroyPtr c.in-DestroyPtr.handle) c.destroy_ptr.result c.gone.result
+    refl refl c.gone.ensures c.destroy_ptr.ensures.step (keeps-refused c.args.segment.now c.destroy_ptr.new.segment c.destroy_ptr.result c.destroy_ptr.ensures.refused))
 
 pub returns-in-Show : goal.returns-in-Show
 returns-in-Show c = rw c.in-Show.is (replies-show c.args.segment.now c.in-Show.key)
+
+pub returns-in-Info : goal.returns-in-Info
+returns-in-Info c = rw c.in-Info.is (replies-info c.args.segment.now c.in-Info.key)
+
+pub returns-in-Get : goal.returns-in-Get
+returns-in-Get c =
+    rw c.in-Get.is (replies-read c.args.segment.now (Get (key_seen c.in-Get.key) c.in-Get.index) c.element.result (scalar_answer c.get_any.result) refl c.element.ensures c.get_any.ensures)
+
+pub returns-in-Set : goal.returns-in-Set
+returns-in-Set c =
+    rw c.in-Set.is (replies-call (λ _. Done) (λ _. refl) c.args.segment.now c.set.new.segment (Set (key_seen c.in-Set.key) c.in-Set.index (literal_of c.in-Set.value)) c.set.result c.done.result
+    refl refl c.done.ensures c.set.ensures.step (keeps-refused c.args.segment.now c.set.new.segment c.set.result c.set.ensures.refused))
+
+pub returns-in-ListNames : goal.returns-in-ListNames
+returns-in-ListNames c = rw c.in-ListNames.is (replies-names c.args.segment.now)
+
+pub returns-in-ListKinds : goal.returns-in-ListKinds
+returns-in-ListKinds c = rw c.in-ListKinds.is (replies-kinds c.args.segment.now)
 
 pub returns-in-Blocks : goal.returns-in-Blocks
 returns-in-Blocks c = rw c.in-Blocks.is (replies-blocks c.args.segment.now)
@@ -16,6 +72,12 @@ returns-in-Size c = rw c.in-Size.is (replies-read c.args.segment.now Size (said.
 
 pub returns-in-Free : goal.returns-in-Free
 returns-in-Free c = rw c.in-Free.is (replies-read c.args.segment.now Free (said.Number c.free.result) (Number c.free.result) refl (λ d. refl) c.free.ensures)
+
+pub returns-in-NumNamed : goal.returns-in-NumNamed
+returns-in-NumNamed c = rw c.in-NumNamed.is (replies-read c.args.segment.now NumNamed (said.Number c.num_named.result) (Number c.num_named.result) refl (λ d. refl) c.num_named.ensures)
+
+pub returns-in-NumUnique : goal.returns-in-NumUnique
+returns-in-NumUnique c = rw c.in-NumUnique.is (replies-read c.args.segment.now NumUnique (said.Number c.num_unique.result) (Number c.num_unique.result) refl (λ d. refl) c.num_unique.ensures)
 
 pub returns-in-Sanity : goal.returns-in-Sanity
 returns-in-Sanity c = rw c.in-Sanity.is (replies-read c.args.segment.now Sanity (said.Truth c.sanity.result) (Truth c.sanity.result) refl (λ d. refl) c.sanity.ensures)

@@ -1,16 +1,74 @@
 use Rattle.std.proofs.Common.{◌∙◌, sym}
-use Rattle.segment_lang.specs.Seen.{command_of}
-use Rattle.segment_lang.proofs.Readers.{alone_at_end, construct_words, destroy_handle, show_key}
+use Rattle.seg_types.specs.Commands as asked
+use Rattle.segment_lang.specs.Reading.{key_of, name_key, new_key}
+use Rattle.segment_lang.proofs.CommandWords.{alone_at_end, of_finding, of_handle, of_key, of_key_number, of_key_number_literal, of_making, of_making_each, of_number}
 use Rattle.segment_lang.proofs.forms.read_command.Goals as goal
 
 pub returns-in-Construct : goal.returns-in-Construct
-returns-in-Construct c = rw c.in-Construct.is (c.read_construct.ensures ∙ construct_words c.args.bytes.now)
+returns-in-Construct c = rw c.in-Construct.is (c.read_construct.ensures ∙ sym (of_making asked.Construct new_key c.args.bytes.now))
+
+pub returns-in-ConstructIt : goal.returns-in-ConstructIt
+returns-in-ConstructIt c = rw c.in-ConstructIt.is (c.read_construct_it.ensures ∙ sym (of_making_each c.args.bytes.now))
+
+pub returns-in-Find : goal.returns-in-Find
+returns-in-Find c = rw c.in-Find.is (c.read_find.ensures ∙ sym (of_finding c.args.bytes.now))
+
+pub returns-in-FindOrConstruct : goal.returns-in-FindOrConstruct
+returns-in-FindOrConstruct c = rw c.in-FindOrConstruct.is (c.read_find_or_construct.ensures ∙ sym (of_making asked.FindOrConstruct name_key c.args.bytes.now))
+
+pub returns-in-Destroy : goal.returns-in-Destroy
+returns-in-Destroy c = rw c.in-Destroy.is (c.read_destroy.ensures ∙ sym (of_key asked.Destroy name_key c.args.bytes.now))
 
 pub returns-in-DestroyPtr : goal.returns-in-DestroyPtr
-returns-in-DestroyPtr c = rw c.in-DestroyPtr.is (c.read_destroy_ptr.ensures ∙ sym (destroy_handle c.args.bytes.now))
+returns-in-DestroyPtr c = rw c.in-DestroyPtr.is (c.read_destroy_ptr.ensures ∙ sym (of_handle c.args.bytes.now))
 
 pub returns-in-Show : goal.returns-in-Show
-returns-in-Show c = rw c.in-Show.is (c.read_show.ensures ∙ sym (show_key c.args.bytes.now))
+returns-in-Show c = rw c.in-Show.is (c.read_show.ensures ∙ sym (of_key asked.Show key_of c.args.bytes.now))
 
-pub returns-in-Alone : goal.returns-in-Alone
-returns-in-Alone c = rw c.in-Alone.is (c.read_alone.ensures ∙ sym (alone_at_end (command_of c.in-Alone.command) c.args.bytes.now))
+pub returns-in-Info : goal.returns-in-Info
+returns-in-Info c = rw c.in-Info.is (c.read_info.ensures ∙ sym (of_key asked.Info key_of c.args.bytes.now))
+
+pub returns-in-Get : goal.returns-in-Get
+returns-in-Get c = rw c.in-Get.is (c.read_get.ensures ∙ sym (of_key_number asked.Get c.args.bytes.now))
+
+pub returns-in-Set : goal.returns-in-Set
+returns-in-Set c = rw c.in-Set.is (c.read_set.ensures ∙ sym (of_key_number_literal asked.Set c.args.bytes.now))
+
+pub returns-in-ReserveNamed : goal.returns-in-ReserveNamed
+returns-in-ReserveNamed c = rw c.in-ReserveNamed.is (c.read_reserve_named.ensures ∙ sym (of_number asked.ReserveNamed c.args.bytes.now))
+
+pub returns-in-ReserveUnique : goal.returns-in-ReserveUnique
+returns-in-ReserveUnique c = rw c.in-ReserveUnique.is (c.read_reserve_unique.ensures ∙ sym (of_number asked.ReserveUnique c.args.bytes.now))
+
+pub returns-in-ListNames : goal.returns-in-ListNames
+returns-in-ListNames c = rw c.in-ListNames.is (c.read_alone.ensures ∙ sym (alone_at_end asked.ListNames c.args.bytes.now))
+
+pub returns-in-ListKinds : goal.returns-in-ListKinds
+returns-in-ListKinds c = rw c.in-ListKinds.is (c.read_alone-in-ListKinds.ensures ∙ sym (alone_at_end asked.ListKinds c.args.bytes.now))
+
+pub returns-in-Blocks : goal.returns-in-Blocks
+returns-in-Blocks c = rw c.in-Blocks.is (c.read_alone-in-Blocks.ensures ∙ sym (alone_at_end asked.ListBlocks c.args.bytes.now))
+
+pub returns-in-Size : goal.returns-in-Size
+returns-in-Size c = rw c.in-Size.is (c.read_alone-in-Size.ensures ∙ sym (alone_at_end asked.Size c.args.bytes.now))
+
+pub returns-in-Free : goal.returns-in-Free
+returns-in-Free c = rw c.in-Free.is (c.read_alone-in-Free.ensures ∙ sym (alone_at_end asked.Free c.args.bytes.now))
+
+pub returns-in-NumNamed : goal.returns-in-NumNamed
+returns-in-NumNamed c = rw c.in-NumNamed.is (c.read_alone-in-NumNamed.ensures ∙ sym (alone_at_end asked.NumNamed c.args.bytes.now))
+
+pub returns-in-NumUnique : goal.returns-in-NumUnique
+returns-in-NumUnique c = rw c.in-NumUnique.is (c.read_alone-in-NumUnique.ensures ∙ sym (alone_at_end asked.NumUnique c.args.bytes.now))
+
+pub returns-in-ShrinkIndexes : goal.returns-in-ShrinkIndexes
+returns-in-ShrinkIndexes c = rw c.in-ShrinkIndexes.is (c.read_alone-in-ShrinkIndexes.ensures ∙ sym (alone_at_end asked.ShrinkIndexes c.args.bytes.now))
+
+pub returns-in-ZeroFree : goal.returns-in-ZeroFree
+returns-in-ZeroFree c = rw c.in-ZeroFree.is (c.read_alone-in-ZeroFree.ensures ∙ sym (alone_at_end asked.ZeroFree c.args.bytes.now))
+
+pub returns-in-Sanity : goal.returns-in-Sanity
+returns-in-Sanity c = rw c.in-Sanity.is (c.read_alone-in-Sanity.ensures ∙ sym (alone_at_end asked.Sanity c.args.bytes.now))
+
+pub returns-in-AllDeallocated : goal.returns-in-AllDeallocated
+returns-in-AllDeallocated c = rw c.in-AllDeallocated.is (c.read_alone-in-AllDeallocated.ensures ∙ sym (alone_at_end asked.AllDeallocated c.args.bytes.now))

@@ -1,6 +1,6 @@
 use Rattle.std.proofs.Common.{◌∙◌, sym}
 use Rattle.segment_lang.specs.Seen.{reader_of}
-use Rattle.segment_lang.proofs.Readers.{known_command}
+use Rattle.segment_lang.proofs.CommandWords.{known_command}
 use Rattle.segment_lang.proofs.line.read_words.Goals as goal
 
 pub returns-in-Some-read_command : goal.returns-in-Some-read_command

@@ -2,9 +2,13 @@ use Rattle.segment_lang.specs.Seen.{command_of}
 use Rattle.segment_cli.specs.Run.{error_line}
 use Rattle.segment_cli.specs.Segments.{IsAt, Place, answer_line}
 use Rattle.segment_cli.proofs.Owed.{writes_owed}
+use Rattle.segment_cli.proofs.Meant.{asked-meant}
 use Rattle.segment_cli.proofs.WrongLines.{wrong-owed, wrong-stays}
 use Rattle.segment_cli.proofs.Zeros.{executed}
 use Rattle.segment_cli.proofs.segments.SegmentMachine.answer.Goals as goal
+
+pub reply-answer-requires : goal.reply-answer-requires
+reply-answer-requires g c = asked-meant (command_of c.in-Asked.command) c.args.line.now c.in-Asked.ensures
 
 pub returns-in-Asked-clause-leads : goal.returns-in-Asked-clause-leads
 returns-in-Asked-clause-leads g c =

@@ -1,0 +1,61 @@
+//! More room for what a block holds: where it stands, or in a new block.
+ghost use Rattle.std.specs.Prelude.{◌≡◌, ◌-◌, ◌≤◌, IfSome, IsTrue, Some, option_map};
+ghost use Rattle.raw_region.specs.Format.{current};
+ghost use Rattle.best_fit.specs.Exchange.{Regrows, Replaces};
+ghost use Rattle.best_fit.specs.Extents.{Extent};
+ghost use Rattle.best_fit.specs.Heap.{IsHeap, extent_at, has_room, is_live_in, live_of};
+
+use crate::heap::Heap;
+use crate::refusal::NoSpace;
+use block_tags::{Role, TAG, tile_at};
+use raw_region::Steps;
+
+impl Heap {
+    /// The number of bytes that the block of a handle has room for.
+    pub fn room(&self, handle: u64) -> u64
+        requires { IsTrue (is_live_in (live_of self.now.bytes) handle) }
+        ensures { option_map (λ (x : Extent). x.len - 16) (extent_at (live_of self.now.bytes) handle) ≡ Some result }
+    {
+        tile_at(&self.gaps.window, handle - TAG).len - TAG
+    }
+
+    /// A block for `n` bytes in the place of the one of a handle, of which the first `used` bytes are kept: the same block
+    /// where it has the room, else the block lengthened where it stands, and else a new one of role storage, which is taken
+    /// before the old one is given back. Without a handle a new one. It answers the block's handle.
+    ///
+    /// # Errors
+    ///
+    /// `NoSpace` where a new block is needed and has no gap that is long enough. Nothing changes.
+    pub fn regrow(&mut self, storage: Option<u64>, n: u64, used: u64) -> Result<u64, NoSpace>
+        requires heap { IsHeap current self.old.bytes }
+        requires fits { used ≤ n }
+        requires room { IfSome storage (λ h. IsTrue (has_room (live_of self.old.bytes) h used)) }
+        ensures { Regrows current self.old self.new storage n used result }
+    {
+        match storage {
+            None => self.allocate(n, Role::Storage, &mut Steps::new()),
+            Some(handle) => {
+                if self.room(handle) >= n {
+                    return Ok(handle);
+                }
+                if self.try_extend(handle, n, &mut Steps::new()) {
+                    return Ok(handle);
+                }
+                self.replace(handle, n, used)
+            }
+        }
+    }
+
+    /// A new block in the place of one, of which the first `used` bytes are kept.
+    fn replace(&mut self, handle: u64, n: u64, used: u64) -> Result<u64, NoSpace>
+        requires heap { IsHeap current self.old.bytes }
+        requires fits { used ≤ n }
+        requires room { IsTrue (has_room (live_of self.old.bytes) handle used) }
+        ensures { Replaces current self.old self.new handle n used result }
+    {
+        let new = self.allocate(n, Role::Storage, &mut Steps::new())?;
+        self.copy(handle, 0, new, 0, used);
+        self.deallocate(handle, &mut Steps::new());
+        Ok(new)
+    }
+}

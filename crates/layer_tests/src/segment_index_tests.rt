@@ -1,0 +1,132 @@
+//! The two indexes of a segment, as they grow, are reserved and shrink.
+use crate::segments::{entry, fresh, named, named_handle, new_named, opened, unique_handle};
+use block_tags::Role;
+use seg_types::{Handle, Kind, NewKey, Refusal, ScalarKind};
+use segment_manager::{Mode, Segment, Span};
+use std::process::Abort;
+use std::test::Fail;
+
+/// Makes objects of one i64 under names of one letter, at these handles.
+fn make(rt: &impl Abort, segment: &mut Segment, objects: &[(u8, Handle)]) {
+    for &(letter, handle) in objects {
+        let made = segment.construct(&new_named(rt, &[letter]), 1, i64::from(letter));
+        assert_eq!(rt; made, Ok(handle));
+    }
+}
+
+#[test]
+fn names_rise(rt: HostRuntime) -> Result<(), Fail> {
+    let mut segment = fresh(&rt, rt.alloc(), 1024)?;
+    let objects = [
+        (b'e', 192),
+        (b'd', 240),
+        (b'c', 288),
+        (b'b', 336),
+        (b'a', 464),
+    ];
+    make(&rt, &mut segment, &objects);
+    assert_eq!(rt; segment.free(), 560);
+    assert_eq!(rt; segment.num_named(), 5);
+    for (i, handle) in [(0, 464), (1, 336), (2, 288), (3, 240), (4, 192)] {
+        assert_eq!(rt; named_handle(&rt, &segment, i), handle);
+    }
+    for (i, offset, len, use_of) in [
+        (0, 128, 48, None),
+        (1, 176, 48, Some(Role::Object)),
+        (2, 224, 48, Some(Role::Object)),
+        (3, 272, 48, Some(Role::Object)),
+        (4, 320, 48, Some(Role::Object)),
+        (5, 368, 80, Some(Role::Index)),
+        (6, 448, 48, Some(Role::Object)),
+        (7, 496, 512, None),
+    ] {
+        assert_eq!(rt;
+            segment.tile(i),
+            Some(Span {
+                offset,
+                len,
+                use_of
+            }),
+            "tile {i}"
+        );
+    }
+    assert_eq!(rt; segment.tile(8), None);
+    Ok(())
+}
+
+#[test]
+fn kinds_rise(rt: HostRuntime) -> Result<(), Fail> {
+    let mut segment = fresh(&rt, rt.alloc(), 1024)?;
+    let unique = |kind| NewKey::Unique(Kind::Scalar(kind));
+    assert_eq!(rt;
+        segment.construct(&unique(ScalarKind::U64), 1, 9u64),
+        Ok(192)
+    );
+    assert_eq!(rt;
+        segment.construct(&unique(ScalarKind::I64), 1, 8i64),
+        Ok(240)
+    );
+    assert_eq!(rt;
+        segment.construct(&unique(ScalarKind::I32), 1, 7i32),
+        Ok(288)
+    );
+    assert_eq!(rt; segment.construct(&unique(ScalarKind::U8), 1, 6u8), Ok(336));
+    assert_eq!(rt;
+        segment.construct(&unique(ScalarKind::Bool), 1, true),
+        Ok(464)
+    );
+    for (i, handle) in [(0, 464), (1, 336), (2, 288), (3, 240), (4, 192)] {
+        assert_eq!(rt; unique_handle(&rt, &segment, i), handle);
+    }
+    Ok(())
+}
+
+#[test]
+fn a_reserved_index_has_room(rt: HostRuntime) -> Result<(), Fail> {
+    let mut segment = fresh(&rt, rt.alloc(), 1024)?;
+    assert_eq!(rt; segment.reserve_named(10), Ok(()));
+    for (digit, handle) in (b'0'..=b'9').zip((240..=672).step_by(48)) {
+        let made = segment.construct(&new_named(&rt, &[b'n', digit]), 1, i64::from(digit));
+        assert_eq!(rt; made, Ok(handle));
+    }
+    assert_eq!(rt; segment.free(), 304);
+    assert_eq!(rt; segment.construct(&new_named(&rt, b"na"), 1, 1i64), Ok(896));
+    assert_eq!(rt; segment.free(), 176);
+    let mut read = opened(&rt, rt.alloc(), &segment, Mode::ReadOnly)?;
+    let made = read.construct(&new_named(&rt, b"z"), 1, 1i64);
+    assert_eq!(rt; made, Err(Refusal::ReadOnly));
+    assert_eq!(rt; read.destroy(&entry(&rt, b"q")), Err(Refusal::ReadOnly));
+    assert_eq!(rt; read.num_named(), 11);
+    assert_eq!(rt; read.get(&named(&rt, b"n9"), 0), Ok(57i64));
+    Ok(())
+}
+
+#[test]
+fn indexes_shrink(rt: HostRuntime) -> Result<(), Fail> {
+    let mut segment = fresh(&rt, rt.alloc(), 1024)?;
+    assert_eq!(rt; segment.reserve_named(5), Ok(()));
+    assert_eq!(rt; segment.reserve_unique(1), Ok(()));
+    make(
+        &rt,
+        &mut segment,
+        &[(b'a', 240), (b'b', 288), (b'c', 336), (b'd', 384)],
+    );
+    assert_eq!(rt; segment.free(), 592);
+    assert_eq!(rt; segment.shrink_indexes(), Ok(()));
+    assert_eq!(rt; segment.free(), 624);
+    assert_eq!(rt; segment.shrink_indexes(), Ok(()));
+    assert_eq!(rt; segment.free(), 640);
+    Ok(())
+}
+
+#[test]
+fn too_many_places_have_no_space(rt: HostRuntime) -> Result<(), Fail> {
+    let mut segment = fresh(&rt, rt.alloc(), 1024)?;
+    for n in [109, u64::MAX] {
+        assert_eq!(rt; segment.reserve_named(n), Err(Refusal::NoSpace));
+        assert_eq!(rt; segment.reserve_unique(n), Err(Refusal::NoSpace));
+    }
+    assert_eq!(rt; segment.reserve_named(108), Ok(()));
+    assert_eq!(rt; segment.free(), 0);
+    Ok(())
+}

@@ -1,0 +1,99 @@
+//! Objects found, told of and destroyed by each form of key.
+use crate::segments::{entry, fresh, named, new_named, unique_handle};
+use seg_types::{Class, IndexKey, Key, Kind, NewKey, Refusal, ScalarKind};
+use std::test::Fail;
+
+/// The kind of objects of u64.
+const U64: Kind = Kind::Scalar(ScalarKind::U64);
+
+#[test]
+fn an_object_is_found_by_name(rt: HostRuntime) -> Result<(), Fail> {
+    let mut segment = fresh(&rt, rt.alloc(), 1024)?;
+    assert_eq!(rt; segment.construct(&new_named(&rt, b"a"), 1, 5i64), Ok(192));
+    let a = named(&rt, b"a");
+    assert_eq!(rt; segment.find::<i64>(&a), Ok(Some((192, 1))));
+    assert_eq!(rt; segment.find::<u8>(&a), Err(Refusal::WrongKind));
+    assert_eq!(rt; segment.find_kind(&a, Kind::Text), Err(Refusal::WrongKind));
+    assert_eq!(rt; segment.find::<i64>(&named(&rt, b"b")), Ok(None));
+    let again = segment.construct(&new_named(&rt, b"a"), 1048576, 1u8);
+    assert_eq!(rt; again, Err(Refusal::Exists));
+    assert_eq!(rt; segment.destroy(&entry(&rt, b"a")), Ok(true));
+    assert_eq!(rt; segment.destroy(&entry(&rt, b"a")), Ok(false));
+    assert_eq!(rt; segment.free(), 832);
+    assert_eq!(rt; segment.kind_of(&a), Err(Refusal::NotFound));
+    Ok(())
+}
+
+#[test]
+fn an_object_is_the_only_one_of_its_kind(rt: HostRuntime) -> Result<(), Fail> {
+    let mut segment = fresh(&rt, rt.alloc(), 1024)?;
+    assert_eq!(rt; segment.construct(&NewKey::Unique(U64), 1, 9u64), Ok(192));
+    let again = segment.construct(&NewKey::Unique(U64), 1, 1u64);
+    assert_eq!(rt; again, Err(Refusal::Exists));
+    assert_eq!(rt; segment.num_unique(), 1);
+    assert_eq!(rt; unique_handle(&rt, &segment, 0), 192);
+    let key = Key::Unique(U64);
+    assert_eq!(rt; segment.find_kind(&key, U64), Ok(Some((192, 1))));
+    assert_eq!(rt; segment.get(&key, 0), Ok(9u64));
+    assert_eq!(rt; segment.destroy(&IndexKey::Unique(U64)), Ok(true));
+    assert_eq!(rt; segment.num_unique(), 0);
+    assert_eq!(rt; segment.free(), 832);
+    assert_eq!(rt; segment.shrink_indexes(), Ok(()));
+    assert!(rt; segment.all_deallocated() && segment.sanity());
+    assert_eq!(rt; segment.free(), 880);
+    Ok(())
+}
+
+#[test]
+fn an_object_tells_of_itself(rt: HostRuntime) -> Result<(), Fail> {
+    let mut segment = fresh(&rt, rt.alloc(), 1024)?;
+    assert_eq!(rt; segment.construct(&new_named(&rt, b"a"), 1, 5i64), Ok(192));
+    assert_eq!(rt; segment.construct(&NewKey::Unique(U64), 2, 9u64), Ok(288));
+    assert_eq!(rt; segment.construct(&NewKey::Anonymous, 3, true), Ok(336));
+    for (key, name, class, kind, count) in [
+        (
+            named(&rt, b"a"),
+            b"a".as_slice(),
+            Class::Named,
+            ScalarKind::I64,
+            1,
+        ),
+        (Key::Handle(192), b"a", Class::Named, ScalarKind::I64, 1),
+        (Key::Unique(U64), b"", Class::Unique, ScalarKind::U64, 2),
+        (Key::Handle(288), b"", Class::Unique, ScalarKind::U64, 2),
+        (Key::Handle(336), b"", Class::Anonymous, ScalarKind::Bool, 3),
+    ] {
+        assert_eq!(rt; segment.instance_name(&key), Ok(name));
+        assert_eq!(rt; segment.instance_class(&key), Ok(class));
+        assert_eq!(rt; segment.kind_of(&key), Ok(Kind::Scalar(kind)));
+        assert_eq!(rt; segment.element_kind(&key), Ok(kind));
+        assert_eq!(rt; segment.instance_length(&key), Ok(count));
+    }
+    Ok(())
+}
+
+#[test]
+fn no_object_has_the_key(rt: HostRuntime) -> Result<(), Fail> {
+    let mut segment = fresh(&rt, rt.alloc(), 1024)?;
+    assert_eq!(rt; segment.construct(&new_named(&rt, b"a"), 1, 5i64), Ok(192));
+    // the block at 144 is that of the index of names
+    for key in [
+        named(&rt, b"aa"),
+        Key::Unique(Kind::Scalar(ScalarKind::I64)),
+        Key::Handle(144),
+        Key::Handle(193),
+        Key::Handle(u64::MAX),
+        Key::Anonymous,
+    ] {
+        let missing = Refusal::NotFound;
+        assert_eq!(rt; segment.instance_name(&key), Err(missing));
+        assert_eq!(rt; segment.instance_class(&key), Err(missing));
+        assert_eq!(rt; segment.kind_of(&key), Err(missing));
+        assert_eq!(rt; segment.element_kind(&key), Err(missing));
+        assert_eq!(rt; segment.instance_length(&key), Err(missing));
+        assert_eq!(rt; segment.get::<i64>(&key, 0), Err(missing));
+        assert_eq!(rt; segment.set(&key, 0, 1i64), Err(missing));
+        assert_eq!(rt; segment.get_any(&key, 0), Err(missing));
+    }
+    Ok(())
+}

@@ -1,0 +1,256 @@
+-- A map is given up pair by pair.
+use Rattle.std.proofs.Common.{◌≡◌, refl, sym, ap, subst, ◌∙◌, ℕ, ◌+◌, ◌≤◌, ◌<◌, ◌≢◌, ◌⊎◌, inl, inr, Bool, true, false, ◌||◌, List, [], ◌∷◌, map, arith, ◌==◌, IsTrue}
+use Rattle.std.specs.Prelude.{Option, Some, None, find}
+use Rattle.std.specs.List.{AllByRecursion}
+use Rattle.std.proofs.lemmas.Bool.{both_ways, cases_Bool, cases_eq, cond-true, cond-false, eq-eqb, ne_eqb}
+use Rattle.raw_region.specs.Format.{current}
+use Rattle.raw_region.specs.Memory.{Cut, bytes_of, word_at}
+use Rattle.raw_region.proofs.Laws.{SamePlace-trans, Same-trans}
+use Rattle.offset_link.specs.Link.{link_at}
+use Rattle.link_tree.specs.Tree.{IsTree, Tree, fork, leaf, nodes_of, root_of}
+use Rattle.link_tree.specs.Nodes.{is_in}
+use Rattle.link_tree.proofs.Laws.{root_in}
+use Rattle.best_fit.specs.Exchange.{SameBlockBut, exchanged, without_all}
+use Rattle.best_fit.specs.Extents.{Extent, LiveSet, handle, is_proper}
+use Rattle.best_fit.specs.Fit.{others, released}
+use Rattle.best_fit.specs.FreeTree.{cells_of}
+use Rattle.best_fit.specs.Heap.{LaysOut, extent_at, live_of}
+use Rattle.best_fit.proofs.Laws.{AllByRecursion-others, found-less, lay_out_one, live-rises, others-here, others-past}
+use Rattle.seg_types.specs.declared.plain.Plain.{Ghosts as Plain}
+use Rattle.seg_map.specs.Map.{Pair, is_key, is_rising, pair_at, remove_pair}
+use Rattle.seg_map.specs.Places.{HoldsMap, nodes_of_pairs, pair_node}
+use Rattle.seg_map.specs.Changing.{IsBesideMap, IsErased, IsGivenUp}
+use Rattle.seg_map.proofs.Entering.{Laws}
+use Rattle.seg_map.proofs.FoundPairs.{either_right, neither, rising_rest}
+use Rattle.seg_map.proofs.Leaving.{in_from, nodes_in}
+use Rattle.seg_map.proofs.PairLists.{Below, in_nodes, removed_all, removed_length, rising_below}
+use Rattle.seg_map.proofs.Staying.{AtNode, at_node}
+
+-- ---- extents taken out one after another
+
+others-comm : (a b : ℕ) (zs : List Extent) → others a (others b zs) ≡ others b (others a zs)
+others-comm a b [] = refl
+others-comm a b (y ∷ ys) = by_place (others-comm a b ys) (cases_eq (handle y) a) (cases_eq (handle y) b)
+  where
+    by_place : others a (others b ys) ≡ others b (others a ys) → (handle y ≡ a) ⊎ (handle y ≡ a → ⊥) → (handle y ≡ b) ⊎ (handle y ≡ b → ⊥) → others a (others b (y ∷ ys)) ≡ others b (others a (y ∷ ys))
+    by_place rest (inl e) (inl f) = let same : a ≡ b = sym e ∙ f in ap (λ (k : ℕ). others k (others b (y ∷ ys))) same ∙ ap (λ (k : ℕ). others b (others k (y ∷ ys))) (sym same)
+    by_place rest (inl e) (inr o) = ap (others a) (others-past b y ys o) ∙ others-here a y (others b ys) e ∙ ap (others b) (sym (others-here a y ys e))
+    by_place rest (inr o) (inl f) = ap (others a) (others-here b y ys f) ∙ sym (others-here b y (others a ys) f) ∙ ap (others b) (sym (others-past a y ys o))
+    by_place rest (inr o) (inr n) =
+        ap (others a) (others-past b y ys n) ∙ others-past a y (others b ys) o ∙ ap (λ (zs : List Extent). y ∷ zs) rest
+        ∙ sym (others-past b y (others a ys) n) ∙ ap (others b) (sym (others-past a y ys o))
+
+abbrev blocks_of : {K V : Type 0} → List (Pair K V) → List Extent
+blocks_of {K} {V} ps = map (λ (p : Pair K V). p.node) ps
+
+module _ {K V : Type 0} (less : K → K → Bool) where
+  none_some : (p : Pair K V) → Some p ≡ None → ⊥
+  none_some p e = let o : Option (Pair K V) = None in let f : Some p ≡ o = e in cc
+
+  same_pair : (p q : Pair K V) → Some q ≡ Some p → q ≡ p
+  same_pair p q e = cc
+
+  -- one block and then those of the other pairs
+  without_removed : (qs : List (Pair K V)) (key : K) (p : Pair K V) (zs : List Extent) → pair_at less qs key ≡ Some p
+      → without_all (map (λ (q : Pair K V). q.node) (remove_pair less qs key)) (others (handle p.node) zs) ≡ without_all (map (λ (q : Pair K V). q.node) qs) zs
+  without_removed [] key p zs e = absurd (none_some p (sym e))
+  without_removed (q ∷ qs) key p zs e =
+      elim (cases_Bool (is_key less key q)) [
+        | inl y ↦
+            let same : q ≡ p = same_pair p q (sym (cond-true (is_key less key q) (Some q) (pair_at less qs key) y) ∙ e) in
+            ap (λ (l : List (Pair K V)). without_all (blocks_of l) (others (handle p.node) zs)) (cond-true (is_key less key q) qs (q ∷ remove_pair less qs key) y)
+            ∙ ap (λ (x : Pair K V). without_all (blocks_of qs) (others (handle x.node) zs)) (sym same)
+        | inr z ↦
+            ap (λ (l : List (Pair K V)). without_all (blocks_of l) (others (handle p.node) zs)) (cond-false (is_key less key q) qs (q ∷ remove_pair less qs key) z)
+            ∙ ap (without_all (blocks_of (remove_pair less qs key))) (others-comm (handle q.node) (handle p.node) zs)
+            ∙ without_removed qs key p (others (handle q.node) zs) (sym (cond-false (is_key less key q) (Some q) (pair_at less qs key) z) ∙ e)
+      ]
+
+  -- each pair is the one of its key
+  own_found : ((x : K) → less x x ≡ false) → ((x y z : K) → less x y ≡ true → less y z ≡ true → less x z ≡ true) → (qs : List (Pair K V)) → is_rising less qs ≡ true → AllByRecursion (λ (q : Pair K V). pair_at less qs q.key ≡ Some q) qs
+  own_found strict on [] r = tt
+  own_found strict on (q ∷ qs) r = (
+    cond-true (is_key less q.key q) (Some q) (pair_at less qs q.key) (neither (less q.key q.key) (less q.key q.key) (strict q.key) (strict q.key)),
+    behind qs (rising_below less on q qs r) (own_found strict on qs (rising_rest less on q qs r)),
+  )
+    where
+      behind : (xs : List (Pair K V)) → Below less q.key xs → AllByRecursion (λ (x : Pair K V). pair_at less qs x.key ≡ Some x) xs → AllByRecursion (λ (x : Pair K V). pair_at less (q ∷ qs) x.key ≡ Some x) xs
+      behind [] b a = tt
+      behind (x ∷ xs) b a = (cond-false (is_key less x.key q) (Some q) (pair_at less qs x.key) (either_right (less x.key q.key) (less q.key x.key) b.0) ∙ a.0, behind xs b.1 a.1)
+
+-- ---- extents in order
+
+abbrev Rises : ℕ → List Extent → Type 0
+Rises n [] = Unit {0}
+Rises n (x ∷ xs) = (n ≤ x.offset) × Rises (x.offset + 1) xs
+
+rises_more : (n m : ℕ) (zs : List Extent) → n ≤ m → Rises m zs → Rises n zs
+rises_more n m [] l r = tt
+rises_more n m (z ∷ zs) l r = (omega (arith, r.0), r.1)
+
+rises_above : (n : ℕ) (zs : List Extent) → Rises n zs → AllByRecursion (λ (x : Extent). n ≤ x.offset) zs
+rises_above n [] r = tt
+rises_above n (z ∷ zs) r = (r.0, rises_above n zs (rises_more n (z.offset + 1) zs (omega (arith, r.0)) r.1))
+
+rises_others : (n h : ℕ) (zs : List Extent) → Rises n zs → Rises n (others h zs)
+rises_others n h [] r = tt
+rises_others n h (z ∷ zs) r =
+    elim (cases_eq (handle z) h) [
+      | inl e ↦ subst (Rises n) (sym (others-here h z zs e)) (rises_more n (z.offset + 1) zs (omega (arith, r.0)) r.1)
+      | inr o ↦ subst (Rises n) (sym (others-past h z zs o)) (r.0, rises_others (z.offset + 1) h zs r.1)
+    ]
+
+-- the one that is taken out is gone
+others_apart : (n h : ℕ) (zs : List Extent) → Rises n zs → AllByRecursion (λ (x : Extent). handle x ≢ h) (others h zs)
+others_apart n h [] r = tt
+others_apart n h (z ∷ zs) r =
+    elim (cases_eq (handle z) h) [
+      | inl e ↦ subst (AllByRecursion (λ (x : Extent). handle x ≢ h)) (sym (others-here h z zs e)) (differ e zs (rises_above (z.offset + 1) zs r.1))
+      | inr o ↦ subst (AllByRecursion (λ (x : Extent). handle x ≢ h)) (sym (others-past h z zs o)) (o, others_apart (z.offset + 1) h zs r.1)
+    ]
+  where
+    differ : handle z ≡ h → (xs : List Extent) → AllByRecursion (λ (x : Extent). z.offset + 1 ≤ x.offset) xs → AllByRecursion (λ (x : Extent). handle x ≢ h) xs
+    differ e [] a = tt
+    differ e (x ∷ xs) a = ((λ f. omega (arith, a.0, e, f)), differ e xs a.1)
+
+without_keeps : (P : Extent → Type 0) (gone zs : List Extent) → AllByRecursion P zs → AllByRecursion P (without_all gone zs)
+without_keeps P [] zs a = a
+without_keeps P (x ∷ xs) zs a = without_keeps P xs (others (handle x) zs) (AllByRecursion-others P (handle x) zs a)
+
+-- what is left is none of those that are gone
+left_over : {K V : Type 0} (n : ℕ) (ps : List (Pair K V)) (zs : List Extent) → Rises n zs → AllByRecursion (λ (x : Extent). is_in (handle x) (nodes_of_pairs ps) ≡ false) (without_all (map (λ (p : Pair K V). p.node) ps) zs)
+left_over n [] zs r = each zs
+  where
+    each : (xs : List Extent) → AllByRecursion (λ (x : Extent). false ≡ false) xs
+    each [] = tt
+    each (x ∷ xs) = (refl, each xs)
+left_over {K} {V} n (p ∷ ps) zs r =
+    both (without_all (blocks_of ps) (others (handle p.node) zs)) (without_keeps (λ (x : Extent). handle x ≢ handle p.node) (blocks_of ps) (others (handle p.node) zs) (others_apart n (handle p.node) zs r))
+    (left_over n ps (others (handle p.node) zs) (rises_others n (handle p.node) zs r))
+  where
+    both : (xs : List Extent) → AllByRecursion (λ (x : Extent). handle x ≢ handle p.node) xs → AllByRecursion (λ (x : Extent). is_in (handle x) (nodes_of_pairs ps) ≡ false) xs
+        → AllByRecursion (λ (x : Extent). is_in (handle x) (nodes_of_pairs (p ∷ ps)) ≡ false) xs
+    both [] a b = tt
+    both (x ∷ xs) a b = (ap (λ (t : Bool). t || is_in (handle x) (nodes_of_pairs ps)) (ne_eqb (handle x) (handle p.node) a.0) ∙ b.0, both xs a.1 b.1)
+
+-- each extent is the one of its handle
+found_each : (n : ℕ) (zs : List Extent) → Rises n zs → AllByRecursion (λ (x : Extent). find (λ (w : Extent). handle w == handle x) zs ≡ Some x) zs
+found_each n [] r = tt
+found_each n (z ∷ zs) r = (
+  cond-true (handle z == handle z) (Some z) (find (λ (w : Extent). handle w == handle z) zs) (eq-eqb (handle z) (handle z) refl),
+  behind zs (rises_above (z.offset + 1) zs r.1) (found_each (z.offset + 1) zs r.1),
+)
+  where
+    behind : (xs : List Extent) → AllByRecursion (λ (x : Extent). z.offset + 1 ≤ x.offset) xs → AllByRecursion (λ (x : Extent). find (λ (w : Extent). handle w == handle x) zs ≡ Some x) xs
+        → AllByRecursion (λ (x : Extent). find (λ (w : Extent). handle w == handle x) (z ∷ zs) ≡ Some x) xs
+    behind [] a b = tt
+    behind (x ∷ xs) a b = (
+      cond-false (handle z == handle x) (Some z) (find (λ (w : Extent). handle w == handle x) zs) (ne_eqb (handle z) (handle x) (λ e. omega (arith, a.0, e))) ∙ b.0,
+      behind xs a.1 b.1,
+    )
+
+-- ---- the map on its way
+
+-- the pairs that are left, and what is beside them
+pub record IsGoing {K V : Type 0} (k : Plain K) (v : Plain V) (old now : Cut) (h at : ℕ) (ps : List (Pair K V)) : Type 0 where
+  pub pairs : List (Pair K V)
+  pub holds : HoldsMap k v now.bytes h at pairs
+  pub among : (m : ℕ) → is_in m (nodes_of_pairs pairs) ≡ true → is_in m (nodes_of_pairs ps) ≡ true
+  pub beside : IsBesideMap old now (h + at) (nodes_of_pairs ps)
+  pub there : (x : Extent) → extent_at (live_of old.bytes) (handle x) ≡ Some x → is_in (handle x) (nodes_of_pairs ps) ≡ false → extent_at (live_of now.bytes) (handle x) ≡ Some x
+  pub size : (live_of now.bytes).size ≡ (live_of old.bytes).size
+  pub left : without_all (map (λ (p : Pair K V). p.node) pairs) (live_of now.bytes).extents ≡ without_all (map (λ (p : Pair K V). p.node) ps) (live_of old.bytes).extents
+
+pub going_first : {K V : Type 0} (k : Plain K) (v : Plain V) (c : Cut) (h at : ℕ) (ps : List (Pair K V)) → HoldsMap k v c.bytes h at ps → IsGoing k v c c h at ps
+going_first k v c h at ps s =
+    record {
+      pairs = ps;
+      holds = s;
+      among = λ m i. i;
+      beside = record {
+        place = record { before = refl; after = refl };
+        front = record { at = λ n a b. refl };
+        behind = record { at = λ n a b. refl };
+        blocks = λ x f o. record { payload = λ n a b g. refl; colour = refl };
+      };
+      there = λ x f o. f;
+      size = refl;
+      left = refl;
+    }
+
+module _ {K V : Type 0} (k : Plain K) (v : Plain V) (kl : Laws k) (old now : Cut) (h at : ℕ) (ps : List (Pair K V)) (g : IsGoing k v old now h at ps) where
+  -- the node at the root is that of a pair
+  pub root_pair : (node : ℕ) → link_at (bytes_of now.bytes) (h + at) ≡ Some node → AtNode k v (λ (q : Pair K V). pair_at k.order g.pairs q.key ≡ Some q) node
+  root_pair node e =
+      let s = g.holds in
+      let i = root_in (cells_of (bytes_of now.bytes)) node s.map.tree.tree (subst (λ (o : Option ℕ). IsTree (cells_of (bytes_of now.bytes)) o s.map.tree.tree) e s.map.tree.linked) in
+      at_node k v (λ (q : Pair K V). pair_at k.order g.pairs q.key ≡ Some q) g.pairs node (ap (λ ms. is_in node ms) (sym s.map.tree.lists) ∙ i) (own_found k.order kl.irreflexive kl.transitive g.pairs s.rising)
+
+  module _ (new : Cut) (key : K) (p : Pair K V) (has : pair_at k.order g.pairs key ≡ Some p) (e : IsErased k v now new h at g.pairs p key) where
+    live_new : live_of new.bytes ≡ released (live_of now.bytes) (handle p.node)
+    live_new = lay_out_one current new.bytes (released (live_of now.bytes) (handle p.node)) e.live
+
+    off : (x : Extent) → is_in (handle x) (nodes_of_pairs ps) ≡ false → is_in (handle x) (nodes_of_pairs g.pairs) ≡ false
+    off x o = elim (cases_Bool (is_in (handle x) (nodes_of_pairs g.pairs))) [ inl t ↦ absurd (both_ways (is_in (handle x) (nodes_of_pairs ps)) o (g.among (handle x) t)) | inr f ↦ f ]
+
+    apart : (x : Extent) → is_in (handle x) (nodes_of_pairs ps) ≡ false → handle x ≢ handle p.node
+    apart x o f = both_ways (is_in (handle x) (nodes_of_pairs g.pairs)) (off x o) (ap (λ n. is_in n (nodes_of_pairs g.pairs)) f ∙ in_nodes k.order g.pairs key p has)
+
+    fewer_nodes : (m : ℕ) → is_in m (nodes_of_pairs (remove_pair k.order g.pairs key)) ≡ true → is_in m (nodes_of_pairs g.pairs) ≡ true
+    fewer_nodes =
+        in_from (nodes_of_pairs g.pairs) (remove_pair k.order g.pairs key)
+        (removed_all k.order (λ q. is_in (pair_node q) (nodes_of_pairs g.pairs) ≡ true) g.pairs key (nodes_in (nodes_of_pairs g.pairs) g.pairs (λ m i. i)))
+
+    pub going_on : IsGoing k v old new h at ps
+    going_on =
+        record {
+          pairs = remove_pair k.order g.pairs key;
+          holds = e.map;
+          among = λ m i. g.among m (fewer_nodes m i);
+          beside = record {
+            place = SamePlace-trans old now new g.beside.place e.beside.place;
+            front = Same-trans (bytes_of old.bytes) (bytes_of now.bytes) (bytes_of new.bytes) 0 24 g.beside.front e.beside.front;
+            behind = Same-trans (bytes_of old.bytes) (bytes_of now.bytes) (bytes_of new.bytes) 32 128 g.beside.behind e.beside.behind;
+            blocks = λ x f o.
+                let a = g.beside.blocks x f o in let b = e.beside.blocks x (g.there x f o) (off x o) in
+                record { payload = λ n low high z. b.payload n low high z ∙ a.payload n low high z; colour = b.colour ∙ a.colour };
+          };
+          there = λ x f o. subst (λ l. extent_at l (handle x) ≡ Some x) (sym live_new) (found-less (handle x) (handle p.node) x (live_of now.bytes).extents (apart x o) (g.there x f o));
+          size = ap (λ (l : LiveSet). l.size) live_new ∙ g.size;
+          left = ap (λ (l : LiveSet). without_all (blocks_of (remove_pair k.order g.pairs key)) l.extents) live_new ∙ without_removed k.order g.pairs key p (live_of now.bytes).extents has ∙ g.left;
+        }
+
+    -- there is a pair less
+    pub one_less : word_at (bytes_of new.bytes) (h + at + 8) < word_at (bytes_of now.bytes) (h + at + 8)
+    one_less =
+        let a = e.map.map.count in let b = g.holds.map.count in let l = removed_length k.order g.pairs key p has in
+        omega (arith, a, b, l)
+
+  no_pairs : (t : Tree) (qs : List (Pair K V)) → None ≡ root_of t → nodes_of t ≡ nodes_of_pairs qs → qs ≡ []
+  no_pairs leaf [] e f = refl
+  no_pairs leaf (q ∷ qs) e f = absurd (cc)
+  no_pairs (fork red left n right) qs e f = absurd (cc)
+
+  pub given_up : IsTrue (is_proper (live_of old.bytes)) → link_at (bytes_of now.bytes) (h + at) ≡ None → IsGivenUp k v old now h at ps
+  given_up proper e =
+      let none : g.pairs ≡ [] = no_pairs g.holds.map.tree.tree g.pairs (sym e ∙ g.holds.map.tree.linked.root) g.holds.map.tree.lists in
+      let rest : (live_of now.bytes).extents ≡ without_all (blocks_of ps) (live_of old.bytes).extents = ap (λ (qs : List (Pair K V)). without_all (blocks_of qs) (live_of now.bytes).extents) (sym none) ∙ g.left in
+      let live : live_of now.bytes ≡ exchanged (live_of old.bytes) (blocks_of ps) [] = λ i. record { size = g.size i; extents = rest i } in
+      let rises = live-rises (live_of old.bytes) proper in
+      record {
+        change = record {
+          live = subst (LaysOut current now.bytes) live g.holds.heap;
+          place = g.beside.place;
+          front = g.beside.front;
+          behind = g.beside.behind;
+          blocks = stay (without_all (blocks_of ps) (live_of old.bytes).extents)
+              (without_keeps (λ (x : Extent). extent_at (live_of old.bytes) (handle x) ≡ Some x) (blocks_of ps) (live_of old.bytes).extents (found_each 128 (live_of old.bytes).extents rises))
+              (left_over 128 ps (live_of old.bytes).extents rises);
+        };
+        empty = subst (λ (qs : List (Pair K V)). HoldsMap k v now.bytes h at qs) none g.holds;
+      }
+    where
+      stay : (xs : List Extent) → AllByRecursion (λ (x : Extent). extent_at (live_of old.bytes) (handle x) ≡ Some x) xs → AllByRecursion (λ (x : Extent). is_in (handle x) (nodes_of_pairs ps) ≡ false) xs
+          → AllByRecursion (SameBlockBut (bytes_of old.bytes) (bytes_of now.bytes) (h + at) 24) xs
+      stay [] a b = tt
+      stay (x ∷ xs) a b = (g.beside.blocks x a.0 b.0, stay xs a.1 b.1)

@@ -1,0 +1,195 @@
+-- The pairs of a map as a search tree.
+use Rattle.std.proofs.Common.{◌≡◌, refl, sym, ap, subst, ◌∙◌, ℕ, suc, ◌+◌, ◌^◌, ◌≤◌, ◌⊎◌, inl, inr, Bool, true, false, ◌&&◌, not, List, [], ◌∷◌, length, map, arith, ◌==◌, IsTrue}
+use Rattle.std.specs.Prelude.{Option, Some, None, find, option_map}
+use Rattle.std.specs.List.{AllByRecursion, list_all}
+use Rattle.std.proofs.lemmas.Bool.{and_parts, and_from, cases_Bool, cond-true, cond-false, eq-eqb, le-leb, leb-true}
+use Rattle.raw_region.specs.Memory.{Memory, Has, bytes_of, read}
+use Rattle.raw_region.specs.Memory.{Cut}
+use Rattle.block_tags.specs.declared.tile.Role.TheVariants.{Node}
+use Rattle.offset_link.specs.Link.{link_at}
+use Rattle.link_tree.specs.Tree.{Tree, IsTree, IsSearchTree, nodes_of, rises}
+use Rattle.link_tree.specs.Nodes.{first_not, is_in, leads}
+use Rattle.link_tree.proofs.Laws.{above_more, all_from, bits_most, bounds_height, reads_off, root_in, tree_limit, tree_same}
+use Rattle.best_fit.specs.Extents.{Extent, handle, holds, is_proper}
+use Rattle.best_fit.specs.FreeTree.{cells_of}
+use Rattle.best_fit.specs.Heap.{live_of}
+use Rattle.best_fit.specs.Table.{same_role, serves}
+use Rattle.best_fit.proofs.Laws.{holds_closed}
+use Rattle.seg_types.specs.declared.plain.Plain.{Ghosts as Plain}
+use Rattle.seg_types.specs.Plain.{value_in}
+use Rattle.seg_types.proofs.Laws.{value-spelled}
+use Rattle.seg_map.specs.Map.{Pair, IsPairAt, is_rising}
+use Rattle.seg_map.specs.Places.{HoldsMap, IsPairIn, first_pair, is_passed, nodes_of_pairs, pair_node}
+use Rattle.seg_map.specs.PairNodes.{before_key, comes_before, stands, is_block_in, is_pair_node, key_at, key_of, links_among, own_nodes, nodes_in, pair_cells, stands_before}
+use Rattle.seg_map.specs.PairLaws.{Good, In, PairNode-is_pair_node, cells_at, comes_irreflexive, comes_transitive, node_block, few_extents, handles_length, in_handles}
+use Rattle.seg_map.proofs.PairSteps.{any_at}
+
+-- the laws of a plain type
+pub record Laws {T : Type 0} (p : Plain T) : Type 0 where
+  pub spells : (x : T) → p.is_value x ≡ true → length (p.spelling x) ≡ p.SIZE
+  pub reads : (x : T) → p.is_value x ≡ true → p.reading (p.spelling x) ≡ Some x
+  pub irreflexive : (x : T) → p.order x x ≡ false
+  pub transitive : (x y z : T) → p.order x y ≡ true → p.order y z ≡ true → p.order x z ≡ true
+
+-- the value that bytes spell
+abbrev pub value_of : {T : Type 0} → Plain T → List ℕ → Option T
+value_of p = value_in p.reading p.is_value p.spelling
+
+-- a value that is spelled is read
+pub read_spelled : {T : Type 0} (p : Plain T) → Laws p → (m : Memory) (at : ℕ) (x : T) → p.is_value x ≡ true → Has m at (p.spelling x) → value_of p (read m at p.SIZE) ≡ Some x
+read_spelled p l m at x one h = value-spelled p.reading p.is_value p.spelling l.reads x (read m at p.SIZE) one (sym h ∙ ap (read m at) (l.spells x one))
+
+-- the block that is found is one of those
+pub found_in : (xs : List Extent) (h : ℕ) (x : Extent) → find (λ (y : Extent). handle y == h) xs ≡ Some x → In x xs
+found_in [] h x e = absurd (cc)
+found_in (y ∷ ys) h x e = by_test (λ f. found_in ys h x f) (cases_Bool (handle y == h))
+  where
+    by_test : (find (λ (z : Extent). handle z == h) ys ≡ Some x → In x ys) → ((handle y == h) ≡ true) ⊎ ((handle y == h) ≡ false) → (y ≡ x) ⊎ In x ys
+    by_test rest (inl t) = let f = sym (cond-true (handle y == h) (Some y) (find (λ (z : Extent). handle z == h) ys) t) ∙ e in inl (cc f)
+    by_test rest (inr f) = inr (rest (sym (cond-false (handle y == h) (Some y) (find (λ (z : Extent). handle z == h) ys) f) ∙ e))
+
+-- ---- lists of pairs
+
+-- the keys are those of the pairs
+abbrev pub HaveKeys : {K V : Type 0} → (ℕ → Option K) → List (Pair K V) → Type 0
+HaveKeys {K} {V} keys ps = AllByRecursion (λ (p : Pair K V). keys (pair_node p) ≡ Some p.key) ps
+
+module _ {K V : Type 0} (less : K → K → Bool) where
+  pub rising_nodes : ((x y z : K) → less x y ≡ true → less y z ≡ true → less x z ≡ true) → (keys : ℕ → Option K) (ps : List (Pair K V)) → HaveKeys keys ps → is_rising less ps ≡ true
+      → rises (comes_before less keys) (nodes_of_pairs ps) ≡ true
+  rising_nodes on keys [] k r = refl
+  rising_nodes on keys (p ∷ []) k r = refl
+  rising_nodes on keys (p ∷ q ∷ qs) k r =
+      let two = and_parts (less p.key q.key) (is_rising less (q ∷ qs)) r in
+      let rest = rising_nodes on keys (q ∷ qs) k.1 two.1 in
+      let parts = and_parts (list_all (comes_before less keys (pair_node q)) (nodes_of_pairs qs)) (rises (comes_before less keys) (nodes_of_pairs qs)) rest in
+      let below : comes_before less keys (pair_node p) (pair_node q) ≡ true = (λ i. before_key less (k.0 i) (k.1.0 i)) ∙ two.0 in
+      and_from (list_all (comes_before less keys (pair_node p)) (nodes_of_pairs (q ∷ qs))) (rises (comes_before less keys) (nodes_of_pairs (q ∷ qs)))
+      (and_from (comes_before less keys (pair_node p) (pair_node q)) (list_all (comes_before less keys (pair_node p)) (nodes_of_pairs qs)) below
+      (above_more (comes_before less keys) (comes_transitive less on keys) (pair_node p) (pair_node q) (nodes_of_pairs qs) below parts.0)) rest
+
+  -- the first node is that of the first pair
+  pub first_node : (keys : ℕ → Option K) (past : Bool) (key : K) (ps : List (Pair K V)) → HaveKeys keys ps
+      → first_not (stands_before less keys past key) (nodes_of_pairs ps) ≡ option_map pair_node (first_pair less past key ps)
+  first_node keys past key [] k = refl
+  first_node keys past key (p ∷ ps) k =
+      let rest = first_node keys past key ps k.1 in
+      let same : stands_before less keys past key (pair_node p) ≡ is_passed less past key p = ap (stands less past key) k.0 in
+      elim (cases_Bool (not (is_passed less past key p))) [
+        | inl e ↦ cond-true (not (stands_before less keys past key (pair_node p))) (Some (pair_node p)) (first_not (stands_before less keys past key) (nodes_of_pairs ps)) (ap not same ∙ e)
+            ∙ ap (option_map pair_node) (sym (cond-true (not (is_passed less past key p)) (Some p) (first_pair less past key ps) e))
+        | inr e ↦ cond-false (not (stands_before less keys past key (pair_node p))) (Some (pair_node p)) (first_not (stands_before less keys past key) (nodes_of_pairs ps)) (ap not same ∙ e)
+            ∙ rest ∙ ap (option_map pair_node) (sym (cond-false (not (is_passed less past key p)) (Some p) (first_pair less past key ps) e))
+      ]
+
+-- what holds of each pair
+pub pairs_all : {K V : Type 0} (P : ℕ → Bool) (Q : Pair K V → Type 0) (ps : List (Pair K V)) → ((p : Pair K V) → Q p → P (pair_node p) ≡ true) → AllByRecursion Q ps → list_all P (nodes_of_pairs ps) ≡ true
+pairs_all P Q [] f a = refl
+pairs_all P Q (p ∷ ps) f a = and_from (P (pair_node p)) (list_all P (nodes_of_pairs ps)) (f p a.0) (pairs_all P Q ps f a.1)
+
+pub length-nodes : {K V : Type 0} (ps : List (Pair K V)) → length (nodes_of_pairs ps) ≡ length ps
+length-nodes [] = refl
+length-nodes (p ∷ ps) = ap suc (length-nodes ps)
+
+-- ---- the tree of a map
+
+module _ {K V : Type 0} (kp : Plain K) (vp : Plain V) (laws : Laws kp) (c : Cut) (h at : ℕ) (ps : List (Pair K V)) (s : HoldsMap kp vp c.bytes h at ps) where
+  abbrev len : ℕ
+  len = 16 + kp.SIZE
+
+  abbrev t : Tree
+  t = s.map.tree.tree
+
+  abbrev ns : List ℕ
+  ns = nodes_of s.map.tree.tree
+
+  abbrev keys_in : ℕ → Option K
+  keys_in = key_of (value_of kp) kp.SIZE (nodes_of s.map.tree.tree) c
+
+  pub proper : IsTrue (is_proper (live_of c.bytes))
+  proper = s.heap.proper
+
+  pub listed : nodes_of s.map.tree.tree ≡ nodes_of_pairs ps
+  listed = s.map.tree.lists
+
+  pub pair_in : (p : Pair K V) → IsPairIn kp vp (live_of c.bytes) h p → In p.node (live_of c.bytes).extents
+  pair_in p i = found_in (live_of c.bytes).extents (handle p.node) p.node i.listed
+
+  pub pair_block : (p : Pair K V) → IsPairIn kp vp (live_of c.bytes) h p → is_block_in (16 + kp.SIZE) (live_of c.bytes) (pair_node p) ≡ true
+  pair_block p i =
+      let parts = and_parts (kp.is_value p.key && vp.is_value p.value) (serves p.node Node (16 + kp.SIZE + vp.SIZE)) i.good in
+      let two = and_parts (same_role p.node.role Node) (holds p.node (16 + kp.SIZE + vp.SIZE)) parts.1 in
+      let long = leb-true (16 + kp.SIZE + vp.SIZE + 16) p.node.len two.1 in
+      any_at (λ (x : Extent). (handle x == pair_node p) && serves x Node (16 + kp.SIZE)) (live_of c.bytes).extents p.node (pair_in p i)
+      (and_from (handle p.node == pair_node p) (serves p.node Node (16 + kp.SIZE)) (eq-eqb (handle p.node) (pair_node p) refl)
+      (and_from (same_role p.node.role Node) (holds p.node (16 + kp.SIZE)) two.0 (le-leb (16 + kp.SIZE + 16) p.node.len (omega arith))))
+
+  pub good : Good (16 + kp.SIZE) (nodes_of s.map.tree.tree) c
+  good =
+      record {
+        proper = s.heap.proper;
+        blocks = subst (λ (ms : List ℕ). list_all (is_block_in (16 + kp.SIZE) (live_of c.bytes)) ms ≡ true) (sym listed) (pairs_all (is_block_in (16 + kp.SIZE) (live_of c.bytes)) (IsPairIn kp vp (live_of c.bytes) h) ps pair_block s.pairs);
+        links = all_from (links_among (bytes_of c.bytes) ns) ns (λ m i.
+            let k = holds_closed (cells_of (bytes_of c.bytes)) t m s.map.tree.linked.holds i in
+            and_from (leads (λ j. is_in j ns) (cells_of (bytes_of c.bytes) m).left) (leads (λ j. is_in j ns) (cells_of (bytes_of c.bytes) m).right) k.left k.right);
+      }
+
+  pub node_here : (n : ℕ) → is_in n (nodes_of s.map.tree.tree) ≡ true → is_pair_node (16 + kp.SIZE) (nodes_of s.map.tree.tree) c n ≡ true
+  node_here n i = PairNode-is_pair_node len ns c n (record { good = good; listed = i })
+
+  key_read : (p : Pair K V) → is_in (pair_node p) (nodes_of s.map.tree.tree) ≡ true → IsPairIn kp vp (live_of c.bytes) h p → IsPairAt kp.SIZE kp.spelling vp.spelling (bytes_of c.bytes) p
+      → key_of (value_of kp) kp.SIZE (nodes_of s.map.tree.tree) c (pair_node p) ≡ Some p.key
+  unfolding key_of key_at
+  key_read p i k b =
+      let parts = and_parts (kp.is_value p.key && vp.is_value p.value) (serves p.node Node (16 + kp.SIZE + vp.SIZE)) k.good in
+      let values = and_parts (kp.is_value p.key) (vp.is_value p.value) parts.0 in
+      cond-true (is_pair_node len ns c (pair_node p)) (key_at (value_of kp) kp.SIZE (bytes_of c.bytes) (pair_node p)) None (node_here (pair_node p) i)
+      ∙ read_spelled kp laws (bytes_of c.bytes) (handle p.node + 16) p.key values.0 b.0
+
+  keys_from : (qs : List (Pair K V)) → list_all (λ n. is_in n (nodes_of s.map.tree.tree)) (nodes_of_pairs qs) ≡ true → AllByRecursion (IsPairIn kp vp (live_of c.bytes) h) qs
+      → AllByRecursion (IsPairAt kp.SIZE kp.spelling vp.spelling (bytes_of c.bytes)) qs → HaveKeys (key_of (value_of kp) kp.SIZE (nodes_of s.map.tree.tree) c) qs
+  keys_from [] i k b = tt
+  keys_from (q ∷ qs) i k b =
+      let two = and_parts (is_in (pair_node q) ns) (list_all (λ n. is_in n ns) (nodes_of_pairs qs)) i in
+      (key_read q two.0 k.0 b.0, keys_from qs two.1 k.1 b.1)
+
+  pub keys : HaveKeys (key_of (value_of kp) kp.SIZE (nodes_of s.map.tree.tree) c) ps
+  keys = keys_from ps (all_from (λ n. is_in n ns) (nodes_of_pairs ps) (λ m i. ap (λ ms. is_in m ms) listed ∙ i)) s.pairs s.map.pairs
+
+  pub ordered : rises (comes_before kp.order (key_of (value_of kp) kp.SIZE (nodes_of s.map.tree.tree) c)) (nodes_of s.map.tree.tree) ≡ true
+  ordered = ap (rises (comes_before kp.order keys_in)) listed ∙ rising_nodes kp.order laws.transitive keys_in ps keys s.rising
+
+  pub search_tree : IsSearchTree (comes_before kp.order (key_of (value_of kp) kp.SIZE (nodes_of s.map.tree.tree) c)) (pair_cells (16 + kp.SIZE) (nodes_of s.map.tree.tree) c) (link_at (bytes_of c.bytes) (h + at)) s.map.tree.tree
+  search_tree =
+      record {
+        tree = tree_same (cells_of (bytes_of c.bytes)) (pair_cells len ns c) (link_at (bytes_of c.bytes) (h + at)) t (λ m i. cells_at len ns c m (node_here m i)) s.map.tree.linked;
+        ordered = ordered;
+        red_black = s.map.tree.red_black;
+      }
+
+  pub few_pairs : length (nodes_of s.map.tree.tree) ≤ 2 ^ 30
+  few_pairs =
+      let xs = (live_of c.bytes).extents in
+      let l = tree_limit (comes_before kp.order keys_in) (comes_transitive kp.order laws.transitive keys_in) (comes_irreflexive kp.order laws.irreflexive keys_in) (map handle xs) t ordered (λ m i.
+      let b = node_block len ns c m (record { good = good; listed = i }) in in_handles xs b.extent m b.listed b.at) in
+      let f = few_extents (live_of c.bytes) s.heap.proper in let e = handles_length xs in omega arith
+
+  pub own : own_nodes c.bytes (link_at (bytes_of c.bytes) (h + at)) None ≡ nodes_of s.map.tree.tree
+  unfolding own_nodes
+  own =
+      let few = few_pairs in
+      let tall = bounds_height t s.map.tree.red_black in let most = bits_most (length ns) (omega arith) in
+      ap nodes_in (reads_off.whole 82 (λ n. true) (cells_of (bytes_of c.bytes)) (link_at (bytes_of c.bytes) (h + at)) t s.map.tree.linked (all_from (λ n. true) ns (λ m i. refl)) (omega arith))
+
+  pub root_leads : leads (is_pair_node (16 + kp.SIZE) (nodes_of s.map.tree.tree) c) (link_at (bytes_of c.bytes) (h + at)) ≡ true
+  root_leads = by_root (link_at (bytes_of c.bytes) (h + at)) s.map.tree.linked
+    where
+      by_root : (o : Option ℕ) → IsTree (cells_of (bytes_of c.bytes)) o s.map.tree.tree → leads (is_pair_node (16 + kp.SIZE) (nodes_of s.map.tree.tree) c) o ≡ true
+      by_root None k = refl
+      by_root (Some n) k = node_here n (root_in (cells_of (bytes_of c.bytes)) n t k)
+
+  pub found_pair : (past : Bool) (key : K) → first_not (stands_before kp.order (key_of (value_of kp) kp.SIZE (nodes_of s.map.tree.tree) c) past key) (nodes_of s.map.tree.tree) ≡ option_map pair_node (first_pair kp.order past key ps)
+  found_pair past key = ap (first_not (stands_before kp.order keys_in past key)) listed ∙ first_node kp.order keys_in past key ps keys
+
+  pub count_pairs : length (nodes_of s.map.tree.tree) ≡ length ps
+  count_pairs = ap length listed ∙ length-nodes ps

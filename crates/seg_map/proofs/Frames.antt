@@ -1,0 +1,125 @@
+-- What stays where a tree call changes the links and the colours of nodes alone.
+use Rattle.std.proofs.Common.{◌≡◌, refl, sym, ap, subst, ◌∙◌, ℕ, ◌+◌, ◌-◌, ◌%◌, ◌<◌, ◌≤◌, ◌⊎◌, inl, inr, true, false, ◌&&◌, ◌||◌, not, List, [], ◌∷◌, arith, nat_lt, nat_le, ◌==◌}
+use Rattle.std.specs.List.{AllByRecursion}
+use Rattle.std.proofs.lemmas.Bool.{false≢true, both_ways, cases_Bool, and_parts, and_from, or_cases, or_left, or_right, eq-eqb, leb-true, le-leb, ltb-true, lt-ltb, cond-true}
+use Rattle.raw_region.specs.Memory.{Cut, SamePlace, bytes_of, word_at}
+use Rattle.link_tree.specs.Nodes.{is_in}
+use Rattle.best_fit.specs.Extents.{Extent, LiveSet, handle, end_of}
+use Rattle.best_fit.specs.Heap.{Keeps, SameBlock, is_live_in, live_of}
+use Rattle.seg_map.specs.PairNodes.{Kept, is_kept, is_link_byte, is_other, kept_of, lies_in_block}
+use Rattle.seg_map.specs.PairLaws.{Good, In}
+use Rattle.seg_map.proofs.PairSteps.{any_at, block_apart}
+
+-- the live set is kept
+pub live_stays : (c d : Cut) (ns ms : List ℕ) → kept_of ms d ≡ kept_of ns c → live_of d.bytes ≡ live_of c.bytes
+unfolding kept_of
+live_stays c d ns ms e = ap (λ (k : Kept). k.live) e
+
+-- the list of nodes is kept
+pub own_stays : (c d : Cut) (ns ms : List ℕ) → kept_of ms d ≡ kept_of ns c → ms ≡ ns
+unfolding kept_of
+own_stays c d ns ms e = ap (λ (k : Kept). k.own) e
+
+-- a byte of a link is one of some node
+record OfNode (ns : List ℕ) (k : ℕ) : Type 0 where
+  node : ℕ
+  listed : is_in node ns ≡ true
+  low : node ≤ k
+  high : k < node + 16
+
+of_node : (ns : List ℕ) (k : ℕ) → is_link_byte ns k ≡ true → OfNode ns k
+of_node [] k h = absurd (false≢true h)
+of_node (n ∷ ns) k h =
+    elim (or_cases (nat_le n k && nat_lt k (n + 16)) (is_link_byte ns k) h) [
+      | inl e ↦
+          let two = and_parts (nat_le n k) (nat_lt k (n + 16)) e in
+          record { node = n; listed = or_left (n == n) (is_in n ns) (eq-eqb n n refl); low = leb-true n k two.0; high = ltb-true k (n + 16) two.1 }
+      | inr e ↦ let r = of_node ns k e in record { node = r.node; listed = or_right (r.node == n) (is_in r.node ns) r.listed; low = r.low; high = r.high }
+    ]
+
+-- a block in use that is no node
+pub record IsOther (ns : List ℕ) (live : LiveSet) (x : Extent) : Type 0 where
+  pub listed : In x live.extents
+  pub no_node : is_in (handle x) ns ≡ false
+
+module _ (len : ℕ) (ns : List ℕ) (c d : Cut) (long : 16 ≤ len) (good : Good len ns c) (same : kept_of ns d ≡ kept_of ns c) where
+  pub kept_live : live_of d.bytes ≡ live_of c.bytes
+  unfolding kept_of
+  kept_live = ap (λ (k : Kept). k.live) same
+
+  pub kept_place : SamePlace c d
+  unfolding kept_of
+  kept_place = record { before = ap (λ (k : Kept). k.before) same; after = ap (λ (k : Kept). k.after) same }
+
+  pub kept_byte : (k : ℕ) → is_kept ns (live_of c.bytes) k ≡ true → bytes_of d.bytes k ≡ bytes_of c.bytes k
+  unfolding kept_of
+  kept_byte k t =
+      sym (cond-true (is_kept ns (live_of d.bytes) k) (bytes_of d.bytes k) 0 (ap (λ (l : LiveSet). is_kept ns l k) kept_live ∙ t))
+      ∙ ap (λ (r : Kept). r.byte k) same ∙ cond-true (is_kept ns (live_of c.bytes) k) (bytes_of c.bytes k) 0 t
+
+  kept_colour : (h : ℕ) → is_other ns (live_of c.bytes) h ≡ true → word_at (bytes_of d.bytes) (h - 8) % 16 ≡ word_at (bytes_of c.bytes) (h - 8) % 16
+  unfolding kept_of
+  kept_colour h t =
+      sym (cond-true (is_other ns (live_of d.bytes) h) (word_at (bytes_of d.bytes) (h - 8) % 16) 0 (ap (λ (l : LiveSet). is_other ns l h) kept_live ∙ t))
+      ∙ ap (λ (r : Kept). r.colour h) same ∙ cond-true (is_other ns (live_of c.bytes) h) (word_at (bytes_of c.bytes) (h - 8) % 16) 0 t
+
+  pub no_link : (k : ℕ) → ((n : ℕ) → is_in n ns ≡ true → (k < n) ⊎ (n + 16 ≤ k)) → is_link_byte ns k ≡ false
+  no_link k off = elim (cases_Bool (is_link_byte ns k)) [
+    | inl t ↦ let o = of_node ns k t in let low = o.low in let high = o.high in absurd (elim (off o.node o.listed) [ inl l ↦ omega arith | inr l ↦ omega arith ])
+    | inr f ↦ f
+  ]
+
+  -- a header byte but word 24 stays
+  pub kept_header : (k : ℕ) → (k < 24) ⊎ ((32 ≤ k) × (k < 128)) → ((n : ℕ) → is_in n ns ≡ true → 144 ≤ n) → bytes_of d.bytes k ≡ bytes_of c.bytes k
+  kept_header k place low =
+      kept_byte k (and_from (nat_lt k 24 || (nat_le 32 k && nat_lt k 128) || lies_in_block (live_of c.bytes) k) (not (is_link_byte ns k)) (here place)
+      (ap not (no_link k (λ n i. let l = low n i in inl (below place n l)))))
+    where
+      here : (k < 24) ⊎ ((32 ≤ k) × (k < 128)) → (nat_lt k 24 || (nat_le 32 k && nat_lt k 128) || lies_in_block (live_of c.bytes) k) ≡ true
+      here (inl l) = or_left (nat_lt k 24 || (nat_le 32 k && nat_lt k 128)) (lies_in_block (live_of c.bytes) k) (or_left (nat_lt k 24) (nat_le 32 k && nat_lt k 128) (lt-ltb k 24 l))
+      here (inr p) =
+          or_left (nat_lt k 24 || (nat_le 32 k && nat_lt k 128)) (lies_in_block (live_of c.bytes) k)
+          (or_right (nat_lt k 24) (nat_le 32 k && nat_lt k 128) (and_from (nat_le 32 k) (nat_lt k 128) (le-leb 32 k p.0) (lt-ltb k 128 p.1)))
+
+      below : (k < 24) ⊎ ((32 ≤ k) × (k < 128)) → (n : ℕ) → 144 ≤ n → k < n
+      below (inl l) n low' = omega arith
+      below (inr p) n low' = let l = p.1 in omega arith
+
+  -- a block that is no node stays
+  pub kept_block : (x : Extent) → IsOther ns (live_of c.bytes) x → SameBlock (bytes_of c.bytes) (bytes_of d.bytes) x
+  kept_block x o =
+      let w : x.offset + 16 - 8 ≡ x.offset + 8 = omega arith in
+      record {
+        payload = record {
+          at = λ k low high.
+              kept_byte k (and_from (nat_lt k 24 || (nat_le 32 k && nat_lt k 128) || lies_in_block (live_of c.bytes) k) (not (is_link_byte ns k))
+              (or_right (nat_lt k 24 || (nat_le 32 k && nat_lt k 128)) (lies_in_block (live_of c.bytes) k)
+              (any_at (λ (y : Extent). nat_le (handle y) k && nat_lt k (end_of y)) (live_of c.bytes).extents x o.listed
+              (and_from (nat_le (handle x) k) (nat_lt k (end_of x)) (le-leb (handle x) k low) (lt-ltb k (end_of x) high))))
+              (ap not (no_link k (λ n i. apart n i k low high))));
+        };
+        colour = subst (λ a. word_at (bytes_of d.bytes) a % 16 ≡ word_at (bytes_of c.bytes) a % 16) w
+            (kept_colour (handle x) (and_from (is_live_in (live_of c.bytes) (handle x)) (not (is_in (handle x) ns))
+            (any_at (λ (y : Extent). handle y == handle x) (live_of c.bytes).extents x o.listed (eq-eqb (handle x) (handle x) refl)) (ap not o.no_node)));
+      }
+    where
+      apart : (n : ℕ) → is_in n ns ≡ true → (k : ℕ) → handle x ≤ k → k < end_of x → (k < n) ⊎ (n + 16 ≤ k)
+      apart n i k low high =
+          elim (block_apart len ns c n x (record { good = good; listed = i }) o.listed (λ e. both_ways (is_in (handle x) ns) o.no_node (ap (λ m. is_in m ns) e ∙ i))) [
+            | inl l ↦ inl (omega arith)
+            | inr l ↦ inr (omega arith)
+          ]
+
+  pub kept_blocks : (xs : List Extent) → AllByRecursion (IsOther ns (live_of c.bytes)) xs → AllByRecursion (SameBlock (bytes_of c.bytes) (bytes_of d.bytes)) xs
+  kept_blocks [] a = tt
+  kept_blocks (x ∷ xs) a = (kept_block x a.0, kept_blocks xs a.1)
+
+  -- all blocks but the nodes stay, and the header but word 24
+  pub kept_keeps : (xs : List Extent) → AllByRecursion (IsOther ns (live_of c.bytes)) xs → ((n : ℕ) → is_in n ns ≡ true → 144 ≤ n) → Keeps c d xs
+  kept_keeps xs a low =
+      record {
+        place = kept_place;
+        front = record { at = λ k l h. kept_header k (inl h) low };
+        behind = record { at = λ k l h. kept_header k (inr (l, h)) low };
+        blocks = kept_blocks xs a;
+      }

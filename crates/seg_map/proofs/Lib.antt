@@ -1,0 +1,19 @@
+mod PairSteps
+mod Payloads
+mod Entering
+mod Searching
+mod FoundPairs
+mod Frames
+mod Relinking
+mod Heads
+mod Staying
+mod Rewriting
+mod PairLists
+mod Leaving
+mod PutLists
+mod Planting
+mod Making
+mod NewPairs
+mod Overwriting
+mod Emptying
+pub mod Laws

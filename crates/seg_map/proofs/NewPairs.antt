@@ -1,0 +1,121 @@
+-- A new pair: its node is made, and enters the map.
+use Rattle.std.proofs.Common.{◌≡◌, refl, sym, ap, subst, ◌∙◌, ℕ, ◌+◌, ◌≢◌, Bool, true, false, ◌&&◌, ◌||◌, List, [], ◌∷◌, arith}
+use Rattle.std.specs.Prelude.{Some, None, Result, Ok, MatchOption, MatchResult}
+use Rattle.std.specs.List.{AllByRecursion}
+use Rattle.std.proofs.lemmas.Bool.{and_from, ne_eqb}
+use Rattle.raw_region.specs.Format.{current}
+use Rattle.raw_region.specs.Memory.{Cut, Has, bytes_of}
+use Rattle.raw_region.proofs.Laws.{SamePlace-trans, Same-trans}
+use Rattle.block_tags.specs.declared.tile.Role.TheVariants.{Node}
+use Rattle.offset_link.specs.Link.{link_at}
+use Rattle.link_tree.specs.Nodes.{is_in}
+use Rattle.best_fit.specs.Extents.{Extent, handle}
+use Rattle.best_fit.specs.Fit.{added}
+use Rattle.best_fit.specs.Heap.{LaysOut, SameBlock, extent_at, live_of}
+use Rattle.best_fit.specs.Table.{serves}
+use Rattle.best_fit.proofs.Laws.{Differs, allocated-live, allocated-room_before, found-more, found-new, laid-heap, live-rises, place-serves, rising-insert, roomy}
+use Rattle.seg_types.specs.declared.plain.Plain.{Ghosts as Plain}
+use Rattle.seg_map.specs.Map.{Pair, node_len, pair_at}
+use Rattle.seg_map.specs.Places.{HoldsMap, IsPairIn, nodes_of_pairs, pair_node}
+use Rattle.seg_map.specs.PairLaws.{In}
+use Rattle.seg_map.specs.Changing.{IsFull, IsLoose, IsMade, IsPlanted, IsPut, IsPutAgain}
+use Rattle.seg_map.proofs.Entering.{Laws, found_in}
+use Rattle.seg_map.proofs.Leaving.{match_none, match_some}
+use Rattle.seg_map.proofs.PairLists.{not_among}
+use Rattle.seg_map.proofs.PairSteps.{all_in}
+use Rattle.seg_map.proofs.Staying.{Still, map_stays}
+
+module _ {K V : Type 0} (kp : Plain K) (vp : Plain V) (kl : Laws kp) (vl : Laws vp) (c d : Cut) (h at : ℕ) (ps : List (Pair K V)) (s : HoldsMap kp vp c.bytes h at ps) (key : K) (value : V) (node : ℕ)
+    (absent : pair_at kp.order ps key ≡ None) (m : IsMade kp vp c d key value node) where
+  abbrev x : Extent
+  x = m.block.extent
+
+  live_d : live_of d.bytes ≡ added (live_of c.bytes) m.block.extent
+  live_d = allocated-live current c d (node_len kp.SIZE vp.SIZE) Node node m.block
+
+  differs : Differs m.block.extent (live_of c.bytes).extents
+  differs = (rising-insert 128 x (live_of c.bytes).extents (live-rises (added (live_of c.bytes) x) m.block.live.proper)).differs
+
+  -- no block was there
+  differs_at : (y : Extent) → In y (live_of c.bytes).extents → handle y ≢ handle m.block.extent
+  differs_at y i e = all_in (λ (z : Extent). x.offset ≢ z.offset) (live_of c.bytes).extents y differs i (omega (arith, e))
+
+  kept : (y : Extent) → In y (live_of c.bytes).extents → SameBlock (bytes_of c.bytes) (bytes_of d.bytes) y
+  kept y i = all_in (SameBlock (bytes_of c.bytes) (bytes_of d.bytes)) (live_of c.bytes).extents y m.block.keeps.blocks i
+
+  still_there : (y : Extent) → extent_at (live_of c.bytes) (handle y) ≡ Some y → extent_at (live_of d.bytes) (handle y) ≡ Some y
+  still_there y f =
+      subst (λ l. extent_at l (handle y) ≡ Some y) (sym live_d)
+      (found-more (handle y) x y (live_of c.bytes).extents (λ e. differs_at y (found_in (live_of c.bytes).extents (handle y) y f) (sym e)) f)
+
+  stills : (qs : List (Pair K V)) → AllByRecursion (IsPairIn kp vp (live_of c.bytes) h) qs → AllByRecursion (λ (q : Pair K V). Still c d q.node) qs
+  stills [] a = tt
+  stills (q ∷ qs) a = (record { found = still_there q.node a.0.listed; same = kept q.node (found_in (live_of c.bytes).extents (handle q.node) q.node a.0.listed) }, stills qs a.1)
+
+  others_differ : (qs : List (Pair K V)) → AllByRecursion (IsPairIn kp vp (live_of c.bytes) h) qs → AllByRecursion (λ (q : Pair K V). pair_node q ≢ handle m.block.extent) qs
+  others_differ [] a = tt
+  others_differ (q ∷ qs) a = (differs_at q.node (found_in (live_of c.bytes).extents (handle q.node) q.node a.0.listed), others_differ qs a.1)
+
+  -- the map is as it was, beside the new block
+  pub map_there : HoldsMap kp vp d.bytes h at ps
+  map_there =
+      let r = roomy c h (at + 24) s.heap s.room in let begins = r.at in let long = r.room in
+      let same = kept r.extent (found_in (live_of c.bytes).extents h r.extent r.found) in
+      map_stays kp vp kl vl c d h at ps s (laid-heap d.bytes (added (live_of c.bytes) x) m.block.live)
+      (allocated-room_before current c d (node_len kp.SIZE vp.SIZE) Node node h (at + 24) m.block s.room)
+      (record { at = λ n a b. same.payload.at n (omega arith) (omega arith) }) (stills ps s.pairs)
+
+  abbrev pub new_pair : Pair K V
+  new_pair = record { key = key; value = value; node = m.block.extent }
+
+  pub loose : IsLoose kp vp d.bytes h ps (record { key = key; value = value; node = m.block.extent })
+  loose =
+      let r = roomy c h (at + 24) s.heap s.room in let begins = r.at in
+      record {
+        absent = absent;
+        block = record {
+          good = and_from (kp.is_value key && vp.is_value value) (serves x Node (node_len kp.SIZE vp.SIZE)) (and_from (kp.is_value key) (vp.is_value value) m.is_a_key m.is_a_value)
+              (place-serves (live_of c.bytes) (node_len kp.SIZE vp.SIZE) Node x m.block.placed);
+          listed = subst (λ l. extent_at l (handle m.block.extent) ≡ Some m.block.extent) (sym live_d) (found-new x (live_of c.bytes).extents differs);
+          apart = λ e. differs_at r.extent (found_in (live_of c.bytes).extents h r.extent r.found) (begins ∙ sym e);
+        };
+        other = not_among (handle x) ps (others_differ ps s.pairs);
+        left = subst (λ k. link_at (bytes_of d.bytes) k ≡ None) m.block.at m.left;
+        right = subst (λ k. link_at (bytes_of d.bytes) (k + 8) ≡ None) m.block.at m.right;
+        bytes = (subst (λ k. Has (bytes_of d.bytes) (k + 16) (kp.spelling key)) m.block.at m.key_there, subst (λ k. Has (bytes_of d.bytes) (k + 16 + kp.SIZE) (vp.spelling value)) m.block.at m.value_there);
+      }
+
+  pub is_put : (e : Cut) → IsPlanted kp vp d e h at ps (record { key = key; value = value; node = m.block.extent }) → IsPut kp vp c e h at ps key value
+  is_put e q =
+      record {
+        extent = x;
+        placed = m.block.placed;
+        live = subst (LaysOut current e.bytes) live_d q.live;
+        beside = record {
+          place = SamePlace-trans c d e m.block.keeps.place q.beside.place;
+          front = Same-trans (bytes_of c.bytes) (bytes_of d.bytes) (bytes_of e.bytes) 0 24 m.block.keeps.front q.beside.front;
+          behind = Same-trans (bytes_of c.bytes) (bytes_of d.bytes) (bytes_of e.bytes) 32 128 m.block.keeps.behind q.beside.behind;
+          blocks = λ y f o.
+              let i = found_in (live_of c.bytes).extents (handle y) y f in
+              let k = kept y i in
+              let b = q.beside.blocks y (still_there y f) (ap (λ (t : Bool). t || is_in (handle y) (nodes_of_pairs ps)) (ne_eqb (handle y) (handle x) (differs_at y i)) ∙ o) in
+              record { payload = λ n low high g. b.payload n low high g ∙ k.payload.at n low high; colour = b.colour ∙ k.colour };
+        };
+        map = q.map;
+      }
+
+-- what is answered
+abbrev pub IsAnswered : {K V E : Type 0} → Plain K → Plain V → Cut → Cut → ℕ → ℕ → K → V → List (Pair K V) → Result Bool E → Type 0
+IsAnswered {K} {V} k v old new h at key value ps result =
+    MatchOption (pair_at k.order ps key) (MatchResult result (λ b. (b ≡ true) × IsPut k v old new h at ps key value) (λ e. IsFull k v old new))
+    (λ p. (result ≡ Ok false) × IsPutAgain k v old new h at ps p key value)
+
+module _ {K V E : Type 0} (kp : Plain K) (vp : Plain V) (c d : Cut) (h at : ℕ) (key : K) (value : V) (ps : List (Pair K V)) where
+  pub answer_new : (r : Result Bool E) → r ≡ Ok true → pair_at kp.order ps key ≡ None → IsPut kp vp c d h at ps key value → IsAnswered kp vp c d h at key value ps r
+  answer_new r is e p =
+      match_none (pair_at kp.order ps key) (MatchResult r (λ b. (b ≡ true) × IsPut kp vp c d h at ps key value) (λ x. IsFull kp vp c d)) (λ q. (r ≡ Ok false) × IsPutAgain kp vp c d h at ps q key value) e
+      (subst (λ (o : Result Bool E). MatchResult o (λ b. (b ≡ true) × IsPut kp vp c d h at ps key value) (λ x. IsFull kp vp c d)) (sym is) (refl, p))
+
+  pub answer_old : (p : Pair K V) (r : Result Bool E) → r ≡ Ok false → pair_at kp.order ps key ≡ Some p → IsPutAgain kp vp c d h at ps p key value → IsAnswered kp vp c d h at key value ps r
+  answer_old p r is e q =
+      match_some (pair_at kp.order ps key) (MatchResult r (λ b. (b ≡ true) × IsPut kp vp c d h at ps key value) (λ x. IsFull kp vp c d)) (λ z. (r ≡ Ok false) × IsPutAgain kp vp c d h at ps z key value) p e (is, q)

@@ -1,0 +1,174 @@
+-- Another value is written over that of a key.
+use Rattle.std.proofs.Common.{◌≡◌, refl, sym, ap, subst, ◌∙◌, ℕ, ◌+◌, ◌≢◌, ◌⊎◌, inl, inr, true, false, ◌&&◌, List, [], ◌∷◌, length, arith, IsTrue}
+use Rattle.std.specs.Prelude.{Option, Some}
+use Rattle.std.specs.List.{AllByRecursion}
+use Rattle.std.proofs.lemmas.Bool.{both_ways, and_parts, and_from, cases_eq}
+use Rattle.raw_region.specs.Format.{current}
+use Rattle.raw_region.specs.Memory.{Cut, Has, Same, bytes_of}
+use Rattle.raw_region.proofs.Laws.{Has-same, Same-word, SameBut-Same}
+use Rattle.block_tags.specs.declared.tile.Role.TheVariants.{Node}
+use Rattle.offset_link.proofs.Laws.{Same-link}
+use Rattle.link_tree.specs.Tree.{nodes_of}
+use Rattle.link_tree.specs.Nodes.{is_in}
+use Rattle.link_tree.proofs.Laws.{holds_same}
+use Rattle.best_fit.specs.Extents.{Extent, handle}
+use Rattle.best_fit.specs.Fit.{others}
+use Rattle.best_fit.specs.FreeTree.{cells_of}
+use Rattle.best_fit.specs.Heap.{IsChanged, Keeps, SameBlock, has_room, live_of}
+use Rattle.best_fit.specs.Table.{serves}
+use Rattle.best_fit.proofs.Laws.{beside_cell, changed-keeps, changed-live, changed-room, found-room, laid-heap, roomy}
+use Rattle.seg_types.specs.declared.plain.Plain.{Ghosts as Plain}
+use Rattle.seg_map.specs.Map.{Pair, IsPairAt, node_len, pair_at, put_pair}
+use Rattle.seg_map.specs.Places.{HoldsMap, IsPairIn, nodes_of_pairs, pair_node}
+use Rattle.seg_map.specs.PairLaws.{In, PairNode, node_place}
+use Rattle.seg_map.specs.Linking.{keys_in}
+use Rattle.seg_map.specs.Changing.{IsPutAgain}
+use Rattle.seg_map.proofs.Entering.{HaveKeys, Laws, found_in, good, keys, length-nodes}
+use Rattle.seg_map.proofs.PairLists.{in_nodes}
+use Rattle.seg_map.proofs.PairSteps.{all_in, in_others}
+use Rattle.seg_map.proofs.PutLists.{neither_parts, pair_of, replaced_all, replaced_nodes, replaced_rising}
+use Rattle.seg_map.proofs.Staying.{at_node, block_cells, lengths, pair_long, pair_stays}
+
+some_key : {K : Type 0} (x y : K) → Some x ≡ Some y → x ≡ y
+some_key x y e = cc
+
+module _ {K V : Type 0} (kp : Plain K) (vp : Plain V) (kl : Laws kp) (vl : Laws vp) (total : (x y : K) → kp.is_value x ≡ true → kp.is_value y ≡ true → kp.order x y ≡ false → kp.order y x ≡ false → x ≡ y)
+    (c d : Cut) (h at : ℕ) (ps : List (Pair K V)) (s : HoldsMap kp vp c.bytes h at ps) (key : K) (value : V) (p : Pair K V) (has : pair_at kp.order ps key ≡ Some p) where
+  own : IsPairIn kp vp (live_of c.bytes) h p
+  own = (pair_of kp.order (IsPairIn kp vp (live_of c.bytes) h) ps key p has s.pairs).0
+
+  -- its block has room for the value
+  pub value_room : IsTrue (has_room (live_of c.bytes) (handle p.node) (16 + kp.SIZE + vp.SIZE))
+  value_room = found-room (live_of c.bytes) (handle p.node) (16 + kp.SIZE + vp.SIZE) p.node own.listed (pair_long kp vp (live_of c.bytes) h p own)
+
+  module _ (is_key_value : kp.is_value key ≡ true) (is_value : vp.is_value value ≡ true) (change : IsChanged current c d (handle p.node + (16 + kp.SIZE)) vp.SIZE) (there : Has (bytes_of d.bytes) (handle p.node + (16 + kp.SIZE)) (vp.spelling value)) where
+    abbrev new : Pair K V
+    new = record { key = key; value = value; node = p.node }
+
+    same_key_is : key ≡ p.key
+    same_key_is =
+        let parts = and_parts (kp.is_value p.key && vp.is_value p.value) (serves p.node Node (node_len kp.SIZE vp.SIZE)) own.good in
+        let values = and_parts (kp.is_value p.key) (vp.is_value p.value) parts.0 in
+        let two = neither_parts (kp.order key p.key) (kp.order p.key key) (pair_of kp.order (IsPairIn kp vp (live_of c.bytes) h) ps key p has s.pairs).1 in
+        total key p.key is_key_value values.0 two.0 two.1
+
+    live_d : live_of d.bytes ≡ live_of c.bytes
+    live_d = changed-live current c d (handle p.node + (16 + kp.SIZE)) vp.SIZE change
+
+    keeps : Keeps c d (others (handle p.node) (live_of c.bytes).extents)
+    keeps = changed-keeps current c d (handle p.node) (16 + kp.SIZE) vp.SIZE change value_room
+
+    block_stays : (y : Extent) → In y (live_of c.bytes).extents → handle y ≢ handle p.node → SameBlock (bytes_of c.bytes) (bytes_of d.bytes) y
+    block_stays y i o = all_in (SameBlock (bytes_of c.bytes) (bytes_of d.bytes)) (others (handle p.node) (live_of c.bytes).extents) y keeps.blocks (in_others (handle p.node) y (live_of c.bytes).extents i o)
+
+    cells : (m : ℕ) → is_in m (nodes_of s.map.tree.tree) ≡ true → cells_of (bytes_of d.bytes) m ≡ cells_of (bytes_of c.bytes) m
+    cells m i = by_place (cases_eq m (handle p.node))
+      where
+        by_place : (m ≡ handle p.node) ⊎ (m ≡ handle p.node → ⊥) → cells_of (bytes_of d.bytes) m ≡ cells_of (bytes_of c.bytes) m
+        by_place (inl e) =
+            let g : PairNode (16 + kp.SIZE) (nodes_of s.map.tree.tree) c m = record { good = good kp vp kl c h at ps s; listed = i } in
+            beside_cell (bytes_of c.bytes) (bytes_of d.bytes) (handle p.node + (16 + kp.SIZE)) vp.SIZE m change.rest (node_place (16 + kp.SIZE) (nodes_of s.map.tree.tree) c m g).low (inl (omega (arith, e)))
+        by_place (inr o) =
+            let n = at_node kp vp (IsPairIn kp vp (live_of c.bytes) h) ps m (ap (λ ns. is_in m ns) (sym s.map.tree.lists) ∙ i) s.pairs in
+            let long = pair_long kp vp (live_of c.bytes) h n.pair n.holds in
+            let apart : handle n.pair.node ≢ handle p.node = λ e. o (sym n.at ∙ e) in
+            subst (λ k. cells_of (bytes_of d.bytes) k ≡ cells_of (bytes_of c.bytes) k) n.at
+            (block_cells (bytes_of c.bytes) (bytes_of d.bytes) n.pair.node (block_stays n.pair.node (found_in (live_of c.bytes).extents (handle n.pair.node) n.pair.node n.holds.listed) apart) (omega arith))
+
+    abbrev keys_of : ℕ → Option K
+    keys_of = keys_in kp (nodes_of s.map.tree.tree) c
+
+    -- the block, the bytes and the key of a pair
+    record Was (q : Pair K V) : Type 0 where
+      block : IsPairIn kp vp (live_of c.bytes) h q
+      bytes : IsPairAt kp.SIZE kp.spelling vp.spelling (bytes_of c.bytes) q
+      key_is : keys_in kp (nodes_of s.map.tree.tree) c (pair_node q) ≡ Some q.key
+
+    all_were : (qs : List (Pair K V)) → AllByRecursion (IsPairIn kp vp (live_of c.bytes) h) qs → AllByRecursion (IsPairAt kp.SIZE kp.spelling vp.spelling (bytes_of c.bytes)) qs
+        → HaveKeys (keys_in kp (nodes_of s.map.tree.tree) c) qs → AllByRecursion Was qs
+    all_were [] a b k = tt
+    all_were (q ∷ qs) a b k = (record { block = a.0; bytes = b.0; key_is = k.0 }, all_were qs a.1 b.1 k.1)
+
+    were : AllByRecursion Was ps
+    were = all_were ps s.pairs s.map.pairs (keys kp vp kl c h at ps s)
+
+    -- another pair has another node
+    other_node : (q : Pair K V) → Was q → (kp.order key q.key ≡ true) ⊎ (kp.order q.key key ≡ true) → handle q.node ≢ handle p.node
+    other_node q w o e =
+        let found = pair_of kp.order Was ps key p has were in
+        let is : q.key ≡ key = some_key q.key p.key (sym w.key_is ∙ ap keys_of e ∙ found.0.key_is) ∙ sym same_key_is in
+        elim o [
+          | inl l ↦ both_ways (kp.order key q.key) (ap (kp.order key) is ∙ kl.irreflexive key) l
+          | inr l ↦ both_ways (kp.order q.key key) (ap (λ k. kp.order k key) is ∙ kl.irreflexive key) l
+        ]
+
+    bytes_stay : (q : Pair K V) → Was q → (kp.order key q.key ≡ true) ⊎ (kp.order q.key key ≡ true) → IsPairAt kp.SIZE kp.spelling vp.spelling (bytes_of d.bytes) q
+    bytes_stay q w o =
+        let l = lengths kp vp kl vl (live_of c.bytes) h q w.block in let long = pair_long kp vp (live_of c.bytes) h q w.block in
+        let same = block_stays q.node (found_in (live_of c.bytes).extents (handle q.node) q.node w.block.listed) (other_node q w o) in
+        pair_stays kp vp (bytes_of c.bytes) (bytes_of d.bytes) q l.key l.value (record { at = λ k low high. same.payload.at k (omega arith) (omega arith) }) w.bytes
+
+    own_bytes : IsPairAt kp.SIZE kp.spelling vp.spelling (bytes_of d.bytes) (record { key = key; value = value; node = p.node })
+    own_bytes =
+        let found = pair_of kp.order Was ps key p has were in
+        let size = (lengths kp vp kl vl (live_of c.bytes) h p own).key in
+        let old = Has-same (bytes_of c.bytes) (bytes_of d.bytes) (handle p.node + 16) (handle p.node + 16 + kp.SIZE) (handle p.node + 16) (kp.spelling p.key)
+        (SameBut-Same (bytes_of c.bytes) (bytes_of d.bytes) (handle p.node + (16 + kp.SIZE)) vp.SIZE (handle p.node + 16) (handle p.node + 16 + kp.SIZE) change.rest (inl (omega arith))) (omega arith) (omega (arith, size)) found.0.bytes.0 in
+        let behind : handle p.node + (16 + kp.SIZE) ≡ handle p.node + 16 + kp.SIZE = omega arith in
+        (subst (λ k. Has (bytes_of d.bytes) (handle p.node + 16) (kp.spelling k)) (sym same_key_is) old, subst (λ k. Has (bytes_of d.bytes) k (vp.spelling value)) behind there)
+
+    own_block : IsPairIn kp vp (live_of c.bytes) h (record { key = key; value = value; node = p.node })
+    own_block =
+        let parts = and_parts (kp.is_value p.key && vp.is_value p.value) (serves p.node Node (node_len kp.SIZE vp.SIZE)) own.good in
+        record {
+          good = and_from (kp.is_value key && vp.is_value value) (serves p.node Node (node_len kp.SIZE vp.SIZE)) (and_from (kp.is_value key) (vp.is_value value) is_key_value is_value) parts.1;
+          listed = own.listed;
+          apart = own.apart;
+        }
+
+    nodes_same : nodes_of_pairs (put_pair kp.order (record { key = key; value = value; node = p.node }) ps) ≡ nodes_of_pairs ps
+    nodes_same = replaced_nodes kp.order kl.transitive p new same_key_is refl ps s.rising has
+
+    map_after : HoldsMap kp vp d.bytes h at (put_pair kp.order (record { key = key; value = value; node = p.node }) ps)
+    map_after =
+        let r = roomy c h (at + 24) s.heap s.room in let begins = r.at in let long = r.room in
+        let block = block_stays r.extent (found_in (live_of c.bytes).extents h r.extent r.found) (λ e. own.apart (sym e ∙ begins)) in
+        let words : Same (bytes_of c.bytes) (bytes_of d.bytes) (h + at) (h + at + 24) = record { at = λ n a b. block.payload.at n (omega arith) (omega arith) } in
+        let many : length ps ≡ length (put_pair kp.order new ps) = sym (length-nodes ps) ∙ ap (λ (ms : List ℕ). length ms) (sym nodes_same) ∙ length-nodes (put_pair kp.order new ps) in
+        record {
+          heap = laid-heap d.bytes (live_of c.bytes) change.live;
+          map = record {
+            count = Same-word (bytes_of c.bytes) (bytes_of d.bytes) (h + at) (h + at + 24) (h + at + 8) words (omega arith) (omega arith) ∙ s.map.count ∙ many;
+            third = Same-word (bytes_of c.bytes) (bytes_of d.bytes) (h + at) (h + at + 24) (h + at + 16) words (omega arith) (omega arith) ∙ s.map.third;
+            tree = record {
+              tree = s.map.tree.tree;
+              linked = record {
+                root = Same-link (bytes_of c.bytes) (bytes_of d.bytes) (h + at) (h + at + 24) (h + at) words (omega arith) (omega arith) ∙ s.map.tree.linked.root;
+                holds = holds_same (cells_of (bytes_of c.bytes)) (cells_of (bytes_of d.bytes)) s.map.tree.tree cells s.map.tree.linked.holds;
+              };
+              red_black = s.map.tree.red_black;
+              lists = s.map.tree.lists ∙ sym nodes_same;
+            };
+            pairs = replaced_all kp.order kl.transitive p new same_key_is Was (IsPairAt kp.SIZE kp.spelling vp.spelling (bytes_of d.bytes)) bytes_stay own_bytes ps s.rising has were;
+          };
+          aligned = s.aligned;
+          room = changed-room current c d (handle p.node + (16 + kp.SIZE)) vp.SIZE h (at + 24) change s.room;
+          rising = replaced_rising kp.order kl.transitive p new same_key_is ps s.rising has;
+          pairs = subst (λ l. AllByRecursion (IsPairIn kp vp l h) (put_pair kp.order new ps)) (sym live_d)
+              (replaced_all kp.order kl.transitive p new same_key_is (IsPairIn kp vp (live_of c.bytes) h) (IsPairIn kp vp (live_of c.bytes) h) (λ q a o. a) own_block ps s.rising has s.pairs);
+        }
+
+    pub is_put_again : IsPutAgain kp vp c d h at ps p key value
+    is_put_again =
+        record {
+          live = change.live;
+          beside = record {
+            place = change.place;
+            front = keeps.front;
+            behind = keeps.behind;
+            blocks = λ y f o.
+                let b = block_stays y (found_in (live_of c.bytes).extents (handle y) y f) (λ e. both_ways (is_in (handle y) (nodes_of_pairs ps)) o (ap (λ n. is_in n (nodes_of_pairs ps)) e ∙ in_nodes kp.order ps key p has)) in
+                record { payload = λ n low high g. b.payload.at n low high; colour = b.colour };
+          };
+          map = map_after;
+        }

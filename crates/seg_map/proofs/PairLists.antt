@@ -1,0 +1,131 @@
+-- Pairs that are put and removed, and their nodes.
+use Rattle.std.proofs.Common.{◌≡◌, refl, sym, ap, subst, ◌∙◌, ℕ, suc, ◌≢◌, inl, inr, Bool, true, false, ◌||◌, List, [], ◌∷◌, length, nat_eq, ◌==◌}
+use Rattle.std.specs.Prelude.{Option, Some, None}
+use Rattle.std.specs.List.{AllByRecursion}
+use Rattle.std.proofs.lemmas.Bool.{both_ways, cases_Bool, and_parts, and_from, or_left, or_right, or_parts, cond-true, cond-false, eq-eqb, ne_eqb}
+use Rattle.link_tree.specs.Nodes.{is_in, without}
+use Rattle.link_tree.proofs.Laws.{without_none}
+use Rattle.seg_map.specs.Map.{Pair, is_key, is_rising, pair_at, remove_pair}
+use Rattle.seg_map.specs.Places.{nodes_of_pairs, pair_node}
+use Rattle.seg_map.proofs.Entering.{HaveKeys}
+use Rattle.seg_map.proofs.FoundPairs.{rising_rest}
+
+-- ---- a node that is taken out
+
+pub none_left : (n : ℕ) (ns : List ℕ) → is_in n (without n ns) ≡ false
+none_left n [] = refl
+none_left n (m ∷ ms) =
+    let rest = none_left n ms in
+    elim (cases_Bool (nat_eq n m)) [
+      | inl t ↦ ap (is_in n) (cond-true (nat_eq n m) (without n ms) (m ∷ without n ms) t) ∙ rest
+      | inr f ↦ ap (is_in n) (cond-false (nat_eq n m) (without n ms) (m ∷ without n ms) f) ∙ ap (λ (b : Bool). b || is_in n (without n ms)) f ∙ rest
+    ]
+
+-- pairs whose nodes are others
+pub other_nodes : {K V : Type 0} (n : ℕ) (ps : List (Pair K V)) → is_in n (nodes_of_pairs ps) ≡ false → AllByRecursion (λ p. pair_node p ≢ n) ps
+other_nodes n [] h = tt
+other_nodes n (p ∷ ps) h =
+    let two = or_parts (n == pair_node p) (is_in n (nodes_of_pairs ps)) h in
+    ((λ e. both_ways (n == pair_node p) two.0 (eq-eqb n (pair_node p) (sym e))), other_nodes n ps two.1)
+
+pub not_among : {K V : Type 0} (n : ℕ) (ps : List (Pair K V)) → AllByRecursion (λ p. pair_node p ≢ n) ps → is_in n (nodes_of_pairs ps) ≡ false
+not_among n [] a = refl
+not_among n (p ∷ ps) a = ap (λ (b : Bool). b || is_in n (nodes_of_pairs ps)) (ne_eqb n (pair_node p) (λ e. a.0 (sym e))) ∙ not_among n ps a.1
+
+module _ {K V : Type 0} (less : K → K → Bool) where
+  same_pair : (p q : Pair K V) → Some q ≡ Some p → q ≡ p
+  same_pair p q e = cc
+
+  none_pair : (p : Pair K V) → Some p ≡ None → ⊥
+  none_pair p e = let o : Option (Pair K V) = None in let f : Some p ≡ o = e in cc
+
+  pub in_nodes : (ps : List (Pair K V)) (key : K) (p : Pair K V) → pair_at less ps key ≡ Some p → is_in (pair_node p) (nodes_of_pairs ps) ≡ true
+  in_nodes [] key p e = absurd (none_pair p (sym e))
+  in_nodes (q ∷ qs) key p e =
+      elim (cases_Bool (is_key less key q)) [
+        | inl y ↦
+            let same : q ≡ p = same_pair p q (sym (cond-true (is_key less key q) (Some q) (pair_at less qs key) y) ∙ e) in
+            or_left (pair_node p == pair_node q) (is_in (pair_node p) (nodes_of_pairs qs)) (eq-eqb (pair_node p) (pair_node q) (ap pair_node (sym same)))
+        | inr z ↦ or_right (pair_node p == pair_node q) (is_in (pair_node p) (nodes_of_pairs qs)) (in_nodes qs key p (sym (cond-false (is_key less key q) (Some q) (pair_at less qs key) z) ∙ e))
+      ]
+
+  -- what holds of all pairs holds of those that are left
+  pub removed_all : (P : Pair K V → Type 0) (ps : List (Pair K V)) (key : K) → AllByRecursion P ps → AllByRecursion P (remove_pair less ps key)
+  removed_all P [] key a = tt
+  removed_all P (q ∷ qs) key a =
+      elim (cases_Bool (is_key less key q)) [
+        | inl y ↦ subst (AllByRecursion P) (sym (cond-true (is_key less key q) qs (q ∷ remove_pair less qs key) y)) a.1
+        | inr z ↦ subst (AllByRecursion P) (sym (cond-false (is_key less key q) qs (q ∷ remove_pair less qs key) z)) (a.0, removed_all P qs key a.1)
+      ]
+
+  pub removed_length : (ps : List (Pair K V)) (key : K) (p : Pair K V) → pair_at less ps key ≡ Some p → length ps ≡ suc (length (remove_pair less ps key))
+  removed_length [] key p e = absurd (none_pair p (sym e))
+  removed_length (q ∷ qs) key p e =
+      elim (cases_Bool (is_key less key q)) [
+        | inl y ↦ ap (λ (l : List (Pair K V)). suc (length l)) (sym (cond-true (is_key less key q) qs (q ∷ remove_pair less qs key) y))
+        | inr z ↦ ap suc (removed_length qs key p (sym (cond-false (is_key less key q) (Some q) (pair_at less qs key) z) ∙ e))
+            ∙ ap (λ (l : List (Pair K V)). suc (length l)) (sym (cond-false (is_key less key q) qs (q ∷ remove_pair less qs key) z))
+      ]
+
+  -- ---- rising
+
+  abbrev pub Below : K → List (Pair K V) → Type 0
+  Below key ps = AllByRecursion (λ (p : Pair K V). less key p.key ≡ true) ps
+
+  pub rising_below : ((x y z : K) → less x y ≡ true → less y z ≡ true → less x z ≡ true) → (q : Pair K V) (qs : List (Pair K V)) → is_rising less (q ∷ qs) ≡ true → Below q.key qs
+  rising_below on q [] r = tt
+  rising_below on q (p ∷ ps) r =
+      let two = and_parts (less q.key p.key) (is_rising less (p ∷ ps)) r in
+      (two.0, further p.key ps two.0 (rising_below on p ps two.1))
+    where
+      further : (k : K) (rs : List (Pair K V)) → less q.key k ≡ true → Below k rs → Below q.key rs
+      further k [] l b = tt
+      further k (x ∷ rs) l b = (on q.key k x.key l b.0, further k rs l b.1)
+
+  pub below_rising : (q : Pair K V) (qs : List (Pair K V)) → Below q.key qs → is_rising less qs ≡ true → is_rising less (q ∷ qs) ≡ true
+  below_rising q [] b r = refl
+  below_rising q (p ∷ ps) b r = and_from (less q.key p.key) (is_rising less (p ∷ ps)) b.0 r
+
+  module _ (on : (x y z : K) → less x y ≡ true → less y z ≡ true → less x z ≡ true) where
+    pub removed_rising : (ps : List (Pair K V)) (key : K) → is_rising less ps ≡ true → is_rising less (remove_pair less ps key) ≡ true
+    removed_rising [] key r = refl
+    removed_rising (q ∷ qs) key r =
+        elim (cases_Bool (is_key less key q)) [
+          | inl y ↦ ap (is_rising less) (cond-true (is_key less key q) qs (q ∷ remove_pair less qs key) y) ∙ rising_rest less on q qs r
+          | inr z ↦ ap (is_rising less) (cond-false (is_key less key q) qs (q ∷ remove_pair less qs key) z)
+              ∙ below_rising q (remove_pair less qs key) (removed_all (λ (p : Pair K V). less q.key p.key ≡ true) qs key (rising_below on q qs r)) (removed_rising qs key (rising_rest less on q qs r))
+        ]
+
+-- behind a pair all nodes have greater keys
+none_behind : {K V : Type 0} (less : K → K → Bool) → ((x : K) → less x x ≡ false) → (keys : ℕ → Option K) (q : Pair K V) (qs : List (Pair K V)) → keys (pair_node q) ≡ Some q.key → HaveKeys keys qs
+    → Below less q.key qs → is_in (pair_node q) (nodes_of_pairs qs) ≡ false
+none_behind less strict keys q [] e k b = refl
+none_behind {K} {V} less strict keys q (p ∷ ps) e k b =
+    ap (λ (x : Bool). x || is_in (pair_node q) (nodes_of_pairs ps)) (ne_eqb (pair_node q) (pair_node p) differs) ∙ none_behind less strict keys q ps e k.1 b.1
+  where
+    differs : pair_node q ≡ pair_node p → ⊥
+    differs f =
+        let same : Some q.key ≡ Some p.key = sym e ∙ ap keys f ∙ k.0 in
+        let is : q.key ≡ p.key = cc same in
+        both_ways (less q.key p.key) (ap (less q.key) (sym is) ∙ strict q.key) b.0
+
+module _ {K V : Type 0} (less : K → K → Bool) (strict : (x : K) → less x x ≡ false) (on : (x y z : K) → less x y ≡ true → less y z ≡ true → less x z ≡ true) (keys : ℕ → Option K) where
+  pub without_nodes : (p : Pair K V) (key : K) (ps : List (Pair K V)) → HaveKeys keys ps → is_rising less ps ≡ true → pair_at less ps key ≡ Some p
+      → without (pair_node p) (nodes_of_pairs ps) ≡ nodes_of_pairs (remove_pair less ps key)
+  without_nodes p key [] k r h = absurd (cc)
+  without_nodes p key (q ∷ qs) k r h =
+      elim (cases_Bool (is_key less key q)) [
+        | inl y ↦
+            let found = sym (cond-true (is_key less key q) (Some q) (pair_at less qs key) y) ∙ h in
+            let same : q ≡ p = cc found in
+            let here : is_in (pair_node p) (nodes_of_pairs qs) ≡ false = ap (λ (x : Pair K V). is_in (pair_node x) (nodes_of_pairs qs)) (sym same) ∙ none_behind less strict keys q qs k.0 k.1 (rising_below less on q qs r) in
+            cond-true (nat_eq (pair_node p) (pair_node q)) (without (pair_node p) (nodes_of_pairs qs)) (pair_node q ∷ without (pair_node p) (nodes_of_pairs qs)) (eq-eqb (pair_node p) (pair_node q) (ap pair_node (sym same)))
+            ∙ without_none (pair_node p) (nodes_of_pairs qs) here ∙ ap nodes_of_pairs (sym (cond-true (is_key less key q) qs (q ∷ remove_pair less qs key) y))
+        | inr z ↦
+            let found = sym (cond-false (is_key less key q) (Some q) (pair_at less qs key) z) ∙ h in
+            let rest = without_nodes p key qs k.1 (rising_rest less on q qs r) found in
+            let behind = none_behind less strict keys q qs k.0 k.1 (rising_below less on q qs r) in
+            let differs : pair_node p ≡ pair_node q → ⊥ = λ e. both_ways (is_in (pair_node p) (nodes_of_pairs qs)) (ap (λ n. is_in n (nodes_of_pairs qs)) e ∙ behind) (in_nodes less qs key p found) in
+            cond-false (nat_eq (pair_node p) (pair_node q)) (without (pair_node p) (nodes_of_pairs qs)) (pair_node q ∷ without (pair_node p) (nodes_of_pairs qs)) (ne_eqb (pair_node p) (pair_node q) differs)
+            ∙ ap (λ ms. pair_node q ∷ ms) rest ∙ ap nodes_of_pairs (sym (cond-false (is_key less key q) qs (q ∷ remove_pair less qs key) z))
+      ]

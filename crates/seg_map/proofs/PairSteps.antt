@@ -1,0 +1,436 @@
+-- One field of one node changes.
+use Rattle.std.proofs.Common.{◌≡◌, refl, sym, ap, subst, ◌∙◌, ℕ, ◌+◌, ◌-◌, ◌%◌, ◌/◌, ◌<◌, ◌≤◌, ◌⊎◌, inl, inr, Bool, true, false, ◌&&◌, ◌||◌, not, List, [], ◌∷◌, arith, nat_lt, nat_le, ◌==◌, IsTrue}
+use Rattle.std.specs.Prelude.{Option, Some, None, IfSome, if◌then◌else◌}
+use Rattle.std.specs.List.{AllByRecursion, list_all, list_any}
+use Rattle.std.proofs.lemmas.Bool.{false≢true, both_ways, cases_Bool, cases_eq, cases_lt, and_parts, and_from, or_cases, or_left, or_right, eqb-true, eq-eqb, ne_eqb, leb-true, le-leb, ltb-true, lt-ltb, cond-true, cond-false}
+use Rattle.raw_region.specs.Memory.{Cut, Same, SamePlace, bytes_of, read, word_at}
+use Rattle.raw_region.specs.Format.{current}
+use Rattle.raw_region.proofs.Laws.{Same-read, SameBut-Same, SameBut-word}
+use Rattle.link_tree.specs.Tree.{Cell}
+use Rattle.link_tree.specs.Nodes.{is_in, leads, with_left, with_right, with_red}
+use Rattle.link_tree.proofs.Laws.{all_from}
+use Rattle.offset_link.specs.Link.{link_at}
+use Rattle.offset_link.proofs.Laws.{Same-link, SameBut-link}
+use Rattle.best_fit.specs.Extents.{Extent, LiveSet, handle, end_of, is_proper}
+use Rattle.best_fit.specs.Fit.{others}
+use Rattle.best_fit.specs.FreeTree.{cells_of, is_red}
+use Rattle.best_fit.specs.Heap.{IsChanged, IsRecoloured, SameBlock, is_live_in, is_node_in, is_node_role, has_room, live_of}
+use Rattle.best_fit.proofs.Laws.{beside_cell, cell_stays, is_proper-IsProper, lay_out_one, others-here, others-past}
+use Rattle.seg_map.specs.PairNodes.{comes_before, is_block_in, is_good, is_kept, is_link_byte, is_other, is_pair_node, kept_of, key_at, key_of, lies_in_block, links_among, pair_cells, stands_before}
+use Rattle.seg_map.specs.PairLaws.{Good, Good-is_good, In, PairNode, PairNode-is_pair_node, Place, cells_at, cells_off, disjoint, is_pair_node-PairNode, lies, links_at, node_block, node_place}
+
+-- what a setter does to the window
+pub record Changed (len : ℕ) (ns : List ℕ) (c d : Cut) (n : ℕ) : Type 0 where
+  pub place : SamePlace c d
+  pub live : live_of d.bytes ≡ live_of c.bytes
+  pub bytes : (k : ℕ) → is_kept ns (live_of c.bytes) k ≡ true → bytes_of d.bytes k ≡ bytes_of c.bytes k
+  pub colours : (x : Extent) → In x (live_of c.bytes).extents → (handle x ≡ n → ⊥) → word_at (bytes_of d.bytes) (x.offset + 8) % 16 ≡ word_at (bytes_of c.bytes) (x.offset + 8) % 16
+  pub links : links_among (bytes_of d.bytes) ns n ≡ true
+  pub others : (m : ℕ) → is_in m ns ≡ true → (m ≡ n → ⊥) → cells_of (bytes_of d.bytes) m ≡ cells_of (bytes_of c.bytes) m
+  pub keys : (m : ℕ) → is_in m ns ≡ true → Same (bytes_of c.bytes) (bytes_of d.bytes) (m + 16) (m + len)
+
+-- an extent of a live handle
+pub record LiveAt (xs : List Extent) (h : ℕ) : Type 0 where
+  pub extent : Extent
+  pub listed : In extent xs
+  pub at : handle extent ≡ h
+
+pub live_at : (xs : List Extent) (h : ℕ) → list_any (λ (x : Extent). handle x == h) xs ≡ true → LiveAt xs h
+live_at [] h i = absurd (false≢true i)
+live_at (x ∷ xs) h i =
+    elim (or_cases (handle x == h) (list_any (λ (y : Extent). handle y == h) xs) i) [
+      | inl e ↦ record { extent = x; listed = inl refl; at = eqb-true (handle x) h e }
+      | inr e ↦ let r = live_at xs h e in record { extent = r.extent; listed = inr r.listed; at = r.at }
+    ]
+
+not_true : (b : Bool) → not b ≡ true → b ≡ false
+not_true true h = absurd (false≢true h)
+not_true false h = refl
+
+in_own : (n : ℕ) (ns : List ℕ) → is_in n ns ≡ true → (h : ℕ) → is_in h ns ≡ false → h ≡ n → ⊥
+in_own n ns i h o e = both_ways (is_in n ns) (subst (λ k. is_in k ns ≡ false) e o) i
+
+module _ (len : ℕ) (ns : List ℕ) (c d : Cut) (n : ℕ) (g : PairNode len ns c n) (h : Changed len ns c d n) where
+  links_d : (m : ℕ) → is_in m ns ≡ true → links_among (bytes_of d.bytes) ns m ≡ true
+  links_d m i = by_place (cases_eq m n)
+    where
+      by_place : (m ≡ n) ⊎ (m ≡ n → ⊥) → links_among (bytes_of d.bytes) ns m ≡ true
+      by_place (inl e) = subst (λ k. links_among (bytes_of d.bytes) ns k ≡ true) (sym e) h.links
+      by_place (inr o) =
+          subst (λ (x : Cell). (leads (λ k. is_in k ns) x.left && leads (λ k. is_in k ns) x.right) ≡ true) (sym (h.others m i o))
+          (links_at len ns c m (record { good = g.good; listed = i }))
+
+  pub good_stays : Good len ns d
+  good_stays =
+      record {
+        proper = subst (λ (l : LiveSet). IsTrue (is_proper l)) (sym h.live) g.good.proper;
+        blocks = subst (λ (l : LiveSet). list_all (is_block_in len l) ns ≡ true) (sym h.live) g.good.blocks;
+        links = all_from (links_among (bytes_of d.bytes) ns) ns links_d;
+      }
+
+  pub nodes_stay : is_pair_node len ns d ≡ is_pair_node len ns c
+  unfolding is_pair_node
+  nodes_stay = let good : is_good len ns d ≡ is_good len ns c = Good-is_good len ns d good_stays ∙ sym (Good-is_good len ns c g.good) in λ i m. good i && is_in m ns
+
+  byte_stays : (k : ℕ) → (is_kept ns (live_of c.bytes) k ≡ true) ⊎ (is_kept ns (live_of c.bytes) k ≡ false)
+      → (if is_kept ns (live_of d.bytes) k then bytes_of d.bytes k else 0) ≡ (if is_kept ns (live_of c.bytes) k then bytes_of c.bytes k else 0)
+  byte_stays k (inl t) =
+      ap (λ (l : LiveSet). if is_kept ns l k then bytes_of d.bytes k else 0) h.live
+      ∙ cond-true (is_kept ns (live_of c.bytes) k) (bytes_of d.bytes k) 0 t ∙ h.bytes k t ∙ sym (cond-true (is_kept ns (live_of c.bytes) k) (bytes_of c.bytes k) 0 t)
+  byte_stays k (inr f) =
+      ap (λ (l : LiveSet). if is_kept ns l k then bytes_of d.bytes k else 0) h.live
+      ∙ cond-false (is_kept ns (live_of c.bytes) k) (bytes_of d.bytes k) 0 f ∙ sym (cond-false (is_kept ns (live_of c.bytes) k) (bytes_of c.bytes k) 0 f)
+
+  other_colour : (k : ℕ) → is_other ns (live_of c.bytes) k ≡ true → word_at (bytes_of d.bytes) (k - 8) % 16 ≡ word_at (bytes_of c.bytes) (k - 8) % 16
+  other_colour k t =
+      let two = and_parts (is_live_in (live_of c.bytes) k) (not (is_in k ns)) t in
+      let l = live_at (live_of c.bytes).extents k two.0 in
+      let far = in_own n ns g.listed k (not_true (is_in k ns) two.1) in
+      let at = l.at in
+      let w : l.extent.offset + 8 ≡ k - 8 = omega arith in
+      subst (λ a. word_at (bytes_of d.bytes) a % 16 ≡ word_at (bytes_of c.bytes) a % 16) w (h.colours l.extent l.listed (λ e. far (sym at ∙ e)))
+
+  colour_stays : (k : ℕ) → (is_other ns (live_of c.bytes) k ≡ true) ⊎ (is_other ns (live_of c.bytes) k ≡ false)
+      → (if is_other ns (live_of d.bytes) k then word_at (bytes_of d.bytes) (k - 8) % 16 else 0) ≡ (if is_other ns (live_of c.bytes) k then word_at (bytes_of c.bytes) (k - 8) % 16 else 0)
+  colour_stays k (inl t) =
+      ap (λ (l : LiveSet). if is_other ns l k then word_at (bytes_of d.bytes) (k - 8) % 16 else 0) h.live
+      ∙ cond-true (is_other ns (live_of c.bytes) k) (word_at (bytes_of d.bytes) (k - 8) % 16) 0 t ∙ other_colour k t
+      ∙ sym (cond-true (is_other ns (live_of c.bytes) k) (word_at (bytes_of c.bytes) (k - 8) % 16) 0 t)
+  colour_stays k (inr f) =
+      ap (λ (l : LiveSet). if is_other ns l k then word_at (bytes_of d.bytes) (k - 8) % 16 else 0) h.live
+      ∙ cond-false (is_other ns (live_of c.bytes) k) (word_at (bytes_of d.bytes) (k - 8) % 16) 0 f
+      ∙ sym (cond-false (is_other ns (live_of c.bytes) k) (word_at (bytes_of c.bytes) (k - 8) % 16) 0 f)
+
+  pub kept_stays : kept_of ns d ≡ kept_of ns c
+  unfolding kept_of
+  kept_stays =
+      let place = h.place in let live = h.live in
+      λ i. record {
+        own = ns;
+        before = place.before i;
+        after = place.after i;
+        live = live i;
+        byte = λ k. byte_stays k (cases_Bool (is_kept ns (live_of c.bytes) k)) i;
+        colour = λ k. colour_stays k (cases_Bool (is_other ns (live_of c.bytes) k)) i;
+      }
+
+  -- the cells, where one of them becomes another
+  pub one_cell : (f : Cell → Cell) → cells_of (bytes_of d.bytes) n ≡ f (cells_of (bytes_of c.bytes) n) → pair_cells len ns d ≡ (λ (m : ℕ). if m == n then f (pair_cells len ns c m) else pair_cells len ns c m)
+  one_cell f own = λ i m. at m (cases_eq m n) i
+    where
+      at_node : (m : ℕ) → is_pair_node len ns c m ≡ true → (m ≡ n → ⊥) → pair_cells len ns d m ≡ pair_cells len ns c m
+      at_node m e o =
+          cells_at len ns d m (ap (λ (p : ℕ → Bool). p m) nodes_stay ∙ e) ∙ h.others m (is_pair_node-PairNode len ns c m e).listed o ∙ sym (cells_at len ns c m e)
+
+      other : (m : ℕ) → (m ≡ n → ⊥) → (is_pair_node len ns c m ≡ true) ⊎ (is_pair_node len ns c m ≡ false) → pair_cells len ns d m ≡ pair_cells len ns c m
+      other m o (inl e) = at_node m e o
+      other m o (inr e) = cells_off len ns d m (ap (λ (p : ℕ → Bool). p m) nodes_stay ∙ e) ∙ sym (cells_off len ns c m e)
+
+      here : pair_cells len ns d n ≡ f (pair_cells len ns c n)
+      here =
+          let e = PairNode-is_pair_node len ns c n g in
+          cells_at len ns d n (ap (λ (p : ℕ → Bool). p n) nodes_stay ∙ e) ∙ own ∙ ap f (sym (cells_at len ns c n e))
+
+      at : (m : ℕ) → (m ≡ n) ⊎ (m ≡ n → ⊥) → pair_cells len ns d m ≡ (if m == n then f (pair_cells len ns c m) else pair_cells len ns c m)
+      at m (inl e) =
+          ap (λ k. pair_cells len ns d k) e ∙ here ∙ ap (λ k. f (pair_cells len ns c k)) (sym e)
+          ∙ sym (cond-true (m == n) (f (pair_cells len ns c m)) (pair_cells len ns c m) (eq-eqb m n e))
+      at m (inr o) = other m o (cases_Bool (is_pair_node len ns c m)) ∙ sym (cond-false (m == n) (f (pair_cells len ns c m)) (pair_cells len ns c m) (ne_eqb m n o))
+
+-- ---- the keys stay
+
+module _ {K : Type 0} (value : List ℕ → Option K) (size : ℕ) (ns : List ℕ) (c d : Cut) (n : ℕ) (g : PairNode (16 + size) ns c n) (h : Changed (16 + size) ns c d n) where
+  key_stays : (m : ℕ) → (is_pair_node (16 + size) ns c m ≡ true) ⊎ (is_pair_node (16 + size) ns c m ≡ false) → key_of value size ns d m ≡ key_of value size ns c m
+  unfolding key_of key_at
+  key_stays m (inl e) =
+      let e' = ap (λ (p : ℕ → Bool). p m) (nodes_stay (16 + size) ns c d n g h) ∙ e in
+      cond-true (is_pair_node (16 + size) ns d m) (key_at value size (bytes_of d.bytes) m) None e'
+      ∙ ap value (Same-read (bytes_of c.bytes) (bytes_of d.bytes) (m + 16) (m + (16 + size)) (m + 16) size (h.keys m (is_pair_node-PairNode (16 + size) ns c m e).listed) (omega arith) (omega arith))
+      ∙ sym (cond-true (is_pair_node (16 + size) ns c m) (key_at value size (bytes_of c.bytes) m) None e)
+  key_stays m (inr e) =
+      let e' = ap (λ (p : ℕ → Bool). p m) (nodes_stay (16 + size) ns c d n g h) ∙ e in
+      cond-false (is_pair_node (16 + size) ns d m) (key_at value size (bytes_of d.bytes) m) None e' ∙ sym (cond-false (is_pair_node (16 + size) ns c m) (key_at value size (bytes_of c.bytes) m) None e)
+
+  pub keys_stay : key_of value size ns d ≡ key_of value size ns c
+  keys_stay = λ i m. key_stays m (cases_Bool (is_pair_node (16 + size) ns c m)) i
+
+  pub order_stays : (less : K → K → Bool) → comes_before less (key_of value size ns d) ≡ comes_before less (key_of value size ns c)
+  order_stays less = ap (comes_before less) keys_stay
+
+  pub probes_stay : (less : K → K → Bool) (past : Bool) (key : K) → stands_before less (key_of value size ns d) past key ≡ stands_before less (key_of value size ns c) past key
+  probes_stay less past key = ap (λ (ks : ℕ → Option K). stands_before less ks past key) keys_stay
+
+-- ---- what a call of the heap needs of a node
+
+any_weaker : (p q : Extent → Bool) (xs : List Extent) → ((x : Extent) → p x ≡ true → q x ≡ true) → list_any p xs ≡ true → list_any q xs ≡ true
+any_weaker p q [] f h = absurd (false≢true h)
+any_weaker p q (x ∷ xs) f h =
+    elim (or_cases (p x) (list_any p xs) h) [
+      | inl e ↦ or_left (q x) (list_any q xs) (f x e)
+      | inr e ↦ or_right (q x) (list_any q xs) (any_weaker p q xs f e)
+    ]
+
+pub any_at : (q : Extent → Bool) (xs : List Extent) (x : Extent) → In x xs → q x ≡ true → list_any q xs ≡ true
+any_at q [] x i h = absurd i
+any_at q (y ∷ ys) x (inl e) h = or_left (q y) (list_any q ys) (ap q e ∙ h)
+any_at q (y ∷ ys) x (inr i) h = or_right (q y) (list_any q ys) (any_at q ys x i h)
+
+pub room_of : (len : ℕ) (c : Cut) (n k : ℕ) → Place len c n → k ≤ len → IsTrue (has_room (live_of c.bytes) n k)
+room_of len c n k p l =
+    let b = p.block in let enough = b.holds in
+    any_at (λ (x : Extent). (handle x == n) && nat_le (k + 16) x.len) (live_of c.bytes).extents b.extent b.listed
+    (and_from (handle b.extent == n) (nat_le (k + 16) b.extent.len) (eq-eqb (handle b.extent) n b.at) (le-leb (k + 16) b.extent.len (omega arith)))
+
+pub live_node : (len : ℕ) (c : Cut) (n : ℕ) → Place len c n → IsTrue (is_live_in (live_of c.bytes) n)
+live_node len c n p = let b = p.block in any_at (λ (x : Extent). handle x == n) (live_of c.bytes).extents b.extent b.listed (eq-eqb (handle b.extent) n b.at)
+
+pub node_live : (len : ℕ) (c : Cut) (n : ℕ) → Place len c n → IsTrue (is_node_in (live_of c.bytes) n)
+node_live len c n p =
+    let b = p.block in
+    any_at (λ (x : Extent). (handle x == n) && is_node_role x.role) (live_of c.bytes).extents b.extent b.listed
+    (and_from (handle b.extent == n) (is_node_role b.extent.role) (eq-eqb (handle b.extent) n b.at) (ap is_node_role b.node))
+
+pub target_whole : (len : ℕ) (ns : List ℕ) (c : Cut) (to : Option ℕ) → leads (is_pair_node len ns c) to ≡ true → IfSome to (λ t. t % 16 ≡ 0)
+target_whole len ns c None h = tt
+target_whole len ns c (Some n) h = (node_place len ns c n (is_pair_node-PairNode len ns c n h)).whole
+
+leads_in : (len : ℕ) (ns : List ℕ) (c : Cut) (to : Option ℕ) → leads (is_pair_node len ns c) to ≡ true → leads (λ k. is_in k ns) to ≡ true
+leads_in len ns c None h = refl
+leads_in len ns c (Some n) h = (is_pair_node-PairNode len ns c n h).listed
+
+-- ---- the bytes of a node
+
+-- a byte of a node's links is not kept
+kept_away : (ns : List ℕ) (live : LiveSet) (n k : ℕ) → is_in n ns ≡ true → is_kept ns live k ≡ true → (k < n) ⊎ (n + 16 ≤ k)
+kept_away ns live n k i t =
+    let two = and_parts (nat_lt k 24 || (nat_le 32 k && nat_lt k 128) || lies_in_block live k) (not (is_link_byte ns k)) t in
+    let off = not_true (is_link_byte ns k) two.1 in
+    elim (cases_lt k n) [
+      | inl l ↦ inl l
+      | inr l ↦ elim (cases_lt k (n + 16)) [
+        | inl m ↦ absurd (both_ways (is_link_byte ns k) off (link_byte ns i l m))
+        | inr m ↦ inr m
+      ]
+    ]
+  where
+    link_byte : (ms : List ℕ) → is_in n ms ≡ true → n ≤ k → k < n + 16 → is_link_byte ms k ≡ true
+    link_byte [] j l m = absurd (false≢true j)
+    link_byte (m' ∷ ms) j l m =
+        elim (or_cases (n == m') (is_in n ms) j) [
+          | inl e ↦ let e' = eqb-true n m' e in or_left (nat_le m' k && nat_lt k (m' + 16)) (is_link_byte ms k) (and_from (nat_le m' k) (nat_lt k (m' + 16)) (le-leb m' k (omega arith)) (lt-ltb k (m' + 16) (omega arith)))
+          | inr r ↦ or_right (nat_le m' k && nat_lt k (m' + 16)) (is_link_byte ms k) (link_byte ms r l m)
+        ]
+
+-- another block lies away from a node's payload
+pub block_apart : (len : ℕ) (ns : List ℕ) (c : Cut) (n : ℕ) (x : Extent) → PairNode len ns c n → In x (live_of c.bytes).extents → (handle x ≡ n → ⊥)
+    → (x.offset + x.len ≤ n - 16) ⊎ (n + len ≤ x.offset)
+block_apart len ns c n x g i o =
+    let p = node_place len ns c n g in let b = p.block in let at = b.at in let enough = b.holds in let low = p.low in
+    let r = is_proper-IsProper (live_of c.bytes) g.good.proper in
+    elim (disjoint 128 (live_of c.bytes).extents ((live_of c.bytes).size - 16) b.extent x r.list b.listed i) [
+      | inl e ↦ absurd (o (ap handle (sym e) ∙ at))
+      | inr d ↦ elim d [ inl l ↦ inr (omega arith) | inr l ↦ inl (omega arith) ]
+    ]
+
+pub nodes_apart : (len : ℕ) (ns : List ℕ) (c : Cut) (n m : ℕ) → PairNode len ns c n → PairNode len ns c m → (m ≡ n → ⊥) → (m + len ≤ n - 16) ⊎ (n + len ≤ m - 16)
+nodes_apart len ns c n m g h o =
+    let p = node_place len ns c m h in let b = p.block in let at = b.at in let enough = b.holds in
+    elim (block_apart len ns c n b.extent g b.listed (λ e. o (sym at ∙ e))) [ inl l ↦ inl (omega arith) | inr l ↦ inr (omega arith) ]
+
+-- ---- a link is set
+
+module _ (len : ℕ) (ns : List ℕ) (c d : Cut) (n from : ℕ) (to : Option ℕ) (long : 16 ≤ len) (g : PairNode len ns c n) (target : leads (is_pair_node len ns c) to ≡ true) (low : n ≤ from) (high : from + 8 ≤ n + 16)
+    (set : link_at (bytes_of d.bytes) from ≡ to) (change : IsChanged current c d from 8) where
+  p : Place len c n
+  p = node_place len ns c n g
+
+  other_cell : (m : ℕ) → is_in m ns ≡ true → (m ≡ n → ⊥) → cells_of (bytes_of d.bytes) m ≡ cells_of (bytes_of c.bytes) m
+  other_cell m i o =
+      let q : PairNode len ns c m = record { good = g.good; listed = i } in let least = (node_place len ns c m q).low in
+      beside_cell (bytes_of c.bytes) (bytes_of d.bytes) from 8 m change.rest least
+      (elim (nodes_apart len ns c n m g q o) [ inl l ↦ inl (omega arith) | inr l ↦ inr (omega arith) ])
+
+  link_changed : links_among (bytes_of d.bytes) ns n ≡ true → Changed len ns c d n
+  link_changed links =
+      record {
+        place = change.place;
+        live = lay_out_one current d.bytes (live_of c.bytes) change.live;
+        bytes = λ k t. change.rest.at k (elim (kept_away ns (live_of c.bytes) n k g.listed t) [ inl l ↦ inl (omega arith) | inr l ↦ inr (omega arith) ]);
+        colours = λ x i o. ap (λ w. w % 16) (SameBut-word (bytes_of c.bytes) (bytes_of d.bytes) from 8 (x.offset + 8) change.rest (tag_apart x i o));
+        links = links;
+        others = other_cell;
+        keys = λ m i. SameBut-Same (bytes_of c.bytes) (bytes_of d.bytes) from 8 (m + 16) (m + len) change.rest (key_apart m i (cases_eq m n));
+      }
+    where
+      tag_apart : (x : Extent) → In x (live_of c.bytes).extents → (handle x ≡ n → ⊥) → (x.offset + 8 + 8 ≤ from) ⊎ (from + 8 ≤ x.offset + 8)
+      tag_apart x i o =
+          let r = is_proper-IsProper (live_of c.bytes) g.good.proper in
+          let b = (lies 128 (live_of c.bytes).extents ((live_of c.bytes).size - 16) x r.list i).long in let least = p.low in
+          elim (block_apart len ns c n x g i o) [ inl l ↦ inl (omega arith) | inr l ↦ inr (omega arith) ]
+
+      key_apart : (m : ℕ) → is_in m ns ≡ true → (m ≡ n) ⊎ (m ≡ n → ⊥) → (m + len ≤ from) ⊎ (from + 8 ≤ m + 16)
+      key_apart m i (inl e) = inr (omega arith)
+      key_apart m i (inr o) =
+          let least = p.low in let least' = (node_place len ns c m (record { good = g.good; listed = i })).low in
+          elim (nodes_apart len ns c n m g (record { good = g.good; listed = i }) o) [ inl l ↦ inl (omega arith) | inr l ↦ inr (omega arith) ]
+
+module _ (len : ℕ) (ns : List ℕ) (c d : Cut) (n from : ℕ) (to : Option ℕ) (long : 16 ≤ len) (at : from ≡ n) (g : PairNode len ns c n) (target : leads (is_pair_node len ns c) to ≡ true)
+    (set : link_at (bytes_of d.bytes) from ≡ to) (change : IsChanged current c d from 8) where
+  left_own : cells_of (bytes_of d.bytes) n ≡ record (cells_of (bytes_of c.bytes) n) { left = to }
+  left_own =
+      let low = (node_place len ns c n g).low in
+      let left : link_at (bytes_of d.bytes) n ≡ to = subst (λ k. link_at (bytes_of d.bytes) k ≡ to) at set in
+      let right = SameBut-link (bytes_of c.bytes) (bytes_of d.bytes) from 8 (n + 8) change.rest (inr (omega arith)) in
+      let red = ap (λ w. w / 2 % 2 == 1) (SameBut-word (bytes_of c.bytes) (bytes_of d.bytes) from 8 (n - 8) change.rest (inl (omega arith))) in
+      λ i. record { left = left i; right = right i; red = red i }
+
+  pub left_changed : Changed len ns c d n
+  left_changed =
+      let two = and_parts (leads (λ k. is_in k ns) (cells_of (bytes_of c.bytes) n).left) (leads (λ k. is_in k ns) (cells_of (bytes_of c.bytes) n).right) (links_at len ns c n g) in
+      link_changed len ns c d n from to long g target (omega arith) (omega arith) set change
+      (subst (λ (x : Cell). (leads (λ k. is_in k ns) x.left && leads (λ k. is_in k ns) x.right) ≡ true) (sym left_own)
+      (and_from (leads (λ k. is_in k ns) to) (leads (λ k. is_in k ns) (cells_of (bytes_of c.bytes) n).right) (leads_in len ns c to target) two.1))
+
+  pub left_cells : pair_cells len ns d ≡ with_left (pair_cells len ns c) n to
+  unfolding with_left
+  left_cells = one_cell len ns c d n g left_changed (λ (x : Cell). record x { left = to }) left_own
+
+module _ (len : ℕ) (ns : List ℕ) (c d : Cut) (n from : ℕ) (to : Option ℕ) (long : 16 ≤ len) (at : from ≡ n + 8) (g : PairNode len ns c n) (target : leads (is_pair_node len ns c) to ≡ true)
+    (set : link_at (bytes_of d.bytes) from ≡ to) (change : IsChanged current c d from 8) where
+  right_own : cells_of (bytes_of d.bytes) n ≡ record (cells_of (bytes_of c.bytes) n) { right = to }
+  right_own =
+      let low = (node_place len ns c n g).low in
+      let left = SameBut-link (bytes_of c.bytes) (bytes_of d.bytes) from 8 n change.rest (inl (omega arith)) in
+      let right : link_at (bytes_of d.bytes) (n + 8) ≡ to = subst (λ k. link_at (bytes_of d.bytes) k ≡ to) at set in
+      let red = ap (λ w. w / 2 % 2 == 1) (SameBut-word (bytes_of c.bytes) (bytes_of d.bytes) from 8 (n - 8) change.rest (inl (omega arith))) in
+      λ i. record { left = left i; right = right i; red = red i }
+
+  pub right_changed : Changed len ns c d n
+  right_changed =
+      let two = and_parts (leads (λ k. is_in k ns) (cells_of (bytes_of c.bytes) n).left) (leads (λ k. is_in k ns) (cells_of (bytes_of c.bytes) n).right) (links_at len ns c n g) in
+      link_changed len ns c d n from to long g target (omega arith) (omega arith) set change
+      (subst (λ (x : Cell). (leads (λ k. is_in k ns) x.left && leads (λ k. is_in k ns) x.right) ≡ true) (sym right_own)
+      (and_from (leads (λ k. is_in k ns) (cells_of (bytes_of c.bytes) n).left) (leads (λ k. is_in k ns) to) two.0 (leads_in len ns c to target)))
+
+  pub right_cells : pair_cells len ns d ≡ with_right (pair_cells len ns c) n to
+  unfolding with_right
+  right_cells = one_cell len ns c d n g right_changed (λ (x : Cell). record x { right = to }) right_own
+
+-- ---- a colour is set
+
+pub in_others : (h : ℕ) (x : Extent) (xs : List Extent) → In x xs → (handle x ≡ h → ⊥) → In x (others h xs)
+in_others h x [] i o = absurd i
+in_others h x (y ∷ ys) i o = by_place (λ j. in_others h x ys j o) (cases_eq (handle y) h) i
+  where
+    by_place : (In x ys → In x (others h ys)) → (handle y ≡ h) ⊎ (handle y ≡ h → ⊥) → ((y ≡ x) ⊎ In x ys) → In x (others h (y ∷ ys))
+    by_place rest (inl e) (inl f) = absurd (o (ap handle (sym f) ∙ e))
+    by_place rest (inl e) (inr j) = subst (In x) (sym (others-here h y ys e)) j
+    by_place rest (inr n) (inl f) = subst (In x) (sym (others-past h y ys n)) (inl f)
+    by_place rest (inr n) (inr j) = subst (In x) (sym (others-past h y ys n)) (inr (rest j))
+
+pub all_in : (P : Extent → Type 0) (xs : List Extent) (x : Extent) → AllByRecursion P xs → In x xs → P x
+all_in P [] x a i = absurd i
+all_in P (y ∷ ys) x a (inl e) = subst P e a.0
+all_in P (y ∷ ys) x a (inr i) = all_in P ys x a.1 i
+
+pub same_red : (v w : ℕ) → w % 16 ≡ v % 16 → (w / 2 % 2 == 1) ≡ (v / 2 % 2 == 1)
+same_red v w e = let f : w / 2 % 2 ≡ v / 2 % 2 = omega arith in ap (λ k. k == 1) f
+
+-- a byte in the payload of a block
+record InBlock (xs : List Extent) (k : ℕ) : Type 0 where
+  extent : Extent
+  listed : In extent xs
+  low : handle extent ≤ k
+  high : k < end_of extent
+
+in_block : (xs : List Extent) (k : ℕ) → list_any (λ (x : Extent). nat_le (handle x) k && nat_lt k (end_of x)) xs ≡ true → InBlock xs k
+in_block [] k h = absurd (false≢true h)
+in_block (x ∷ xs) k h =
+    elim (or_cases (nat_le (handle x) k && nat_lt k (end_of x)) (list_any (λ (y : Extent). nat_le (handle y) k && nat_lt k (end_of y)) xs) h) [
+      | inl e ↦ let two = and_parts (nat_le (handle x) k) (nat_lt k (end_of x)) e in record { extent = x; listed = inl refl; low = leb-true (handle x) k two.0; high = ltb-true k (end_of x) two.1 }
+      | inr e ↦ let b = in_block xs k e in record { extent = b.extent; listed = inr b.listed; low = b.low; high = b.high }
+    ]
+
+module _ (len : ℕ) (ns : List ℕ) (c d : Cut) (n : ℕ) (red : Bool) (long : 16 ≤ len) (g : PairNode len ns c n) (change : IsRecoloured current c d n red) where
+  same_payload : (x : Extent) → In x (live_of c.bytes).extents → Same (bytes_of c.bytes) (bytes_of d.bytes) (handle x) (end_of x)
+  same_payload x i = all_in (λ (y : Extent). Same (bytes_of c.bytes) (bytes_of d.bytes) (handle y) (end_of y)) (live_of c.bytes).extents x change.payloads i
+
+  node_same : (m : ℕ) → PairNode len ns c m → Same (bytes_of c.bytes) (bytes_of d.bytes) m (m + len)
+  node_same m q =
+      let b = node_block len ns c m q in let at = b.at in let enough = b.holds in
+      let s = same_payload b.extent b.listed in
+      record { at = λ k l h. s.at k (omega arith) (omega arith) }
+
+  left_link : (m : ℕ) → PairNode len ns c m → link_at (bytes_of d.bytes) m ≡ link_at (bytes_of c.bytes) m
+  left_link m q = Same-link (bytes_of c.bytes) (bytes_of d.bytes) m (m + len) m (node_same m q) (omega arith) (omega arith)
+
+  right_link : (m : ℕ) → PairNode len ns c m → link_at (bytes_of d.bytes) (m + 8) ≡ link_at (bytes_of c.bytes) (m + 8)
+  right_link m q = Same-link (bytes_of c.bytes) (bytes_of d.bytes) m (m + len) (m + 8) (node_same m q) (omega arith) (omega arith)
+
+  red_own : cells_of (bytes_of d.bytes) n ≡ record (cells_of (bytes_of c.bytes) n) { red = red }
+  red_own = let a = left_link n g in let b = right_link n g in let r = change.colour in λ i. record { left = a i; right = b i; red = r i }
+
+  colour_at : (x : Extent) → In x (live_of c.bytes).extents → (handle x ≡ n → ⊥) → word_at (bytes_of d.bytes) (x.offset + 8) % 16 ≡ word_at (bytes_of c.bytes) (x.offset + 8) % 16
+  colour_at x i o =
+      (all_in (SameBlock (bytes_of c.bytes) (bytes_of d.bytes)) (others n (live_of c.bytes).extents) x change.keeps.blocks (in_others n x (live_of c.bytes).extents i o)).colour
+
+  other_red : (m : ℕ) → PairNode len ns c m → (m ≡ n → ⊥) → is_red (bytes_of d.bytes) m ≡ is_red (bytes_of c.bytes) m
+  other_red m q o =
+      let b = node_block len ns c m q in let at = b.at in
+      let w : b.extent.offset + 8 ≡ m - 8 = omega arith in
+      let e = subst (λ a. word_at (bytes_of d.bytes) a % 16 ≡ word_at (bytes_of c.bytes) a % 16) w (colour_at b.extent b.listed (λ f. o (sym at ∙ f))) in
+      same_red (word_at (bytes_of c.bytes) (m - 8)) (word_at (bytes_of d.bytes) (m - 8)) e
+
+  byte_kept : (k : ℕ) → is_kept ns (live_of c.bytes) k ≡ true → bytes_of d.bytes k ≡ bytes_of c.bytes k
+  byte_kept k t =
+      let two = and_parts (nat_lt k 24 || (nat_le 32 k && nat_lt k 128) || lies_in_block (live_of c.bytes) k) (not (is_link_byte ns k)) t in
+      elim (or_cases (nat_lt k 24 || (nat_le 32 k && nat_lt k 128)) (lies_in_block (live_of c.bytes) k) two.0) [
+        | inl e ↦ elim (or_cases (nat_lt k 24) (nat_le 32 k && nat_lt k 128) e) [
+          | inl l ↦ change.keeps.front.at k (omega arith) (ltb-true k 24 l)
+          | inr l ↦ let both = and_parts (nat_le 32 k) (nat_lt k 128) l in change.keeps.behind.at k (leb-true 32 k both.0) (ltb-true k 128 both.1)
+        ]
+        | inr e ↦ let b = in_block (live_of c.bytes).extents k e in (same_payload b.extent b.listed).at k b.low b.high
+      ]
+
+  pub red_changed : Changed len ns c d n
+  red_changed =
+      record {
+        place = change.keeps.place;
+        live = lay_out_one current d.bytes (live_of c.bytes) change.live;
+        bytes = byte_kept;
+        colours = colour_at;
+        links = subst (λ (x : Cell). (leads (λ k. is_in k ns) x.left && leads (λ k. is_in k ns) x.right) ≡ true) (sym red_own) (links_at len ns c n g);
+        others = λ m i o. let q : PairNode len ns c m = record { good = g.good; listed = i } in
+            cell_stays (bytes_of c.bytes) (bytes_of d.bytes) m (left_link m q) (right_link m q) (other_red m q o);
+        keys = λ m i. let s = node_same m (record { good = g.good; listed = i }) in record { at = λ k l h. s.at k (omega arith) h };
+      }
+
+  pub red_cells : pair_cells len ns d ≡ with_red (pair_cells len ns c) n red
+  unfolding with_red
+  red_cells = one_cell len ns c d n g red_changed (λ (x : Cell). record x { red = red }) red_own
+
+-- ---- what is asked and answered of a node
+
+module _ (len : ℕ) (ns : List ℕ) (c : Cut) (n : ℕ) (h : is_pair_node len ns c n ≡ true) where
+  pub place_of : Place len c n
+  place_of = node_place len ns c n (is_pair_node-PairNode len ns c n h)
+
+  pub proper_of : IsTrue (is_proper (live_of c.bytes))
+  proper_of = (is_pair_node-PairNode len ns c n h).good.proper
+
+  pub room_in : (k : ℕ) → k ≤ len → IsTrue (has_room (live_of c.bytes) n k)
+  room_in k l = room_of len c n k place_of l
+
+  pub left_is : link_at (bytes_of c.bytes) (n + 0) ≡ (pair_cells len ns c n).left
+  left_is = let e : n + 0 ≡ n = omega arith in ap (link_at (bytes_of c.bytes)) e ∙ ap (λ (x : Cell). x.left) (sym (cells_at len ns c n h))
+
+  pub right_is : link_at (bytes_of c.bytes) (n + 8) ≡ (pair_cells len ns c n).right
+  right_is = ap (λ (x : Cell). x.right) (sym (cells_at len ns c n h))
+
+  pub red_is : is_red (bytes_of c.bytes) n ≡ (pair_cells len ns c n).red
+  red_is = ap (λ (x : Cell). x.red) (sym (cells_at len ns c n h))
+
+-- the key that is read
+pub key_is : {K : Type 0} (value : List ℕ → Option K) (size : ℕ) (ns : List ℕ) (c : Cut) (n : ℕ) → is_pair_node (16 + size) ns c n ≡ true → value (read (bytes_of c.bytes) (n + 16) size) ≡ key_of value size ns c n
+unfolding key_of key_at
+key_is value size ns c n h = sym (cond-true (is_pair_node (16 + size) ns c n) (key_at value size (bytes_of c.bytes) n) None h)

@@ -1,0 +1,122 @@
+-- A map whose blocks stay stays.
+use Rattle.std.proofs.Common.{◌≡◌, sym, ap, subst, ◌∙◌, ℕ, ◌+◌, ◌-◌, ◌%◌, ◌≤◌, inl, inr, true, ◌&&◌, List, [], ◌∷◌, length, arith, ◌==◌, IsTrue}
+use Rattle.std.specs.Prelude.{Some}
+use Rattle.std.specs.List.{AllByRecursion}
+use Rattle.std.proofs.lemmas.Bool.{false≢true, and_parts, or_cases, eqb-true, leb-true}
+use Rattle.raw_region.specs.Format.{current}
+use Rattle.raw_region.specs.Memory.{Memory, Cut, Same, bytes_of, word_at}
+use Rattle.raw_region.proofs.Laws.{Has-same, Same-word}
+use Rattle.block_tags.specs.declared.tile.Role.TheVariants.{Node}
+use Rattle.offset_link.proofs.Laws.{Same-link}
+use Rattle.link_tree.specs.Tree.{nodes_of}
+use Rattle.link_tree.specs.Nodes.{is_in}
+use Rattle.link_tree.proofs.Laws.{holds_same}
+use Rattle.best_fit.specs.Extents.{Extent, LiveSet, handle, end_of, holds}
+use Rattle.best_fit.specs.FreeTree.{cells_of}
+use Rattle.best_fit.specs.Heap.{IsHeap, SameBlock, extent_at, has_room, live_of}
+use Rattle.best_fit.specs.Table.{same_role, serves}
+use Rattle.best_fit.proofs.Laws.{cell_stays}
+use Rattle.seg_types.specs.declared.plain.Plain.{Ghosts as Plain}
+use Rattle.seg_map.specs.Map.{Pair, IsPairAt}
+use Rattle.seg_map.specs.Places.{HoldsMap, IsPairIn, nodes_of_pairs, pair_node}
+use Rattle.seg_map.proofs.Entering.{Laws}
+use Rattle.seg_map.proofs.PairSteps.{same_red}
+
+-- the fields of a node in a block that stays
+pub block_cells : (m m' : Memory) (x : Extent) → SameBlock m m' x → 32 ≤ x.len → cells_of m' (handle x) ≡ cells_of m (handle x)
+block_cells m m' x s long =
+    let e : x.offset + 8 ≡ handle x - 8 = omega arith in
+    cell_stays m m' (handle x) (Same-link m m' (handle x) (end_of x) (handle x) s.payload (omega arith) (omega arith)) (Same-link m m' (handle x) (end_of x) (handle x + 8) s.payload (omega arith) (omega arith))
+    (same_red (word_at m (handle x - 8)) (word_at m' (handle x - 8)) (subst (λ a. word_at m' a % 16 ≡ word_at m a % 16) e s.colour))
+
+module _ {K V : Type 0} (kp : Plain K) (vp : Plain V) where
+  pub pair_long : (live : LiveSet) (h : ℕ) (p : Pair K V) → IsPairIn kp vp live h p → 16 + kp.SIZE + vp.SIZE + 16 ≤ p.node.len
+  pair_long live h p i =
+      let parts = and_parts (kp.is_value p.key && vp.is_value p.value) (serves p.node Node (16 + kp.SIZE + vp.SIZE)) i.good in
+      let two = and_parts (same_role p.node.role Node) (holds p.node (16 + kp.SIZE + vp.SIZE)) parts.1 in
+      leb-true (16 + kp.SIZE + vp.SIZE + 16) p.node.len two.1
+
+  -- the pair of a node
+  pub record AtNode (P : Pair K V → Type 0) (m : ℕ) : Type 0 where
+    pub pair : Pair K V
+    pub holds : P pair
+    pub at : pair_node pair ≡ m
+
+  pub at_node : (P : Pair K V → Type 0) (ps : List (Pair K V)) (m : ℕ) → is_in m (nodes_of_pairs ps) ≡ true → AllByRecursion P ps → AtNode P m
+  at_node P [] m i a = absurd (false≢true i)
+  at_node P (p ∷ ps) m i a =
+      elim (or_cases (m == pair_node p) (is_in m (nodes_of_pairs ps)) i) [
+        | inl e ↦ record { pair = p; holds = a.0; at = sym (eqb-true m (pair_node p) e) }
+        | inr e ↦ at_node P ps m e a.1
+      ]
+
+  -- the bytes of a pair stay
+  pub pair_stays : (m m' : Memory) (p : Pair K V) → length (kp.spelling p.key) ≡ kp.SIZE → length (vp.spelling p.value) ≡ vp.SIZE → Same m m' (handle p.node + 16) (handle p.node + (16 + kp.SIZE + vp.SIZE))
+      → IsPairAt kp.SIZE kp.spelling vp.spelling m p → IsPairAt kp.SIZE kp.spelling vp.spelling m' p
+  pair_stays m m' p el fl s h = (
+    Has-same m m' (handle p.node + 16) (handle p.node + (16 + kp.SIZE + vp.SIZE)) (handle p.node + 16) (kp.spelling p.key) s (omega arith) (omega arith) h.0,
+    Has-same m m' (handle p.node + 16) (handle p.node + (16 + kp.SIZE + vp.SIZE)) (handle p.node + 16 + kp.SIZE) (vp.spelling p.value) s (omega arith) (omega arith) h.1,
+  )
+
+  -- both values of a pair have the length of their types
+  pub record Lengths (p : Pair K V) : Type 0 where
+    pub key : length (kp.spelling p.key) ≡ kp.SIZE
+    pub value : length (vp.spelling p.value) ≡ vp.SIZE
+
+  pub lengths : Laws kp → Laws vp → (live : LiveSet) (h : ℕ) (p : Pair K V) → IsPairIn kp vp live h p → Lengths p
+  lengths kl vl live h p i =
+      let parts = and_parts (kp.is_value p.key && vp.is_value p.value) (serves p.node Node (16 + kp.SIZE + vp.SIZE)) i.good in
+      let values = and_parts (kp.is_value p.key) (vp.is_value p.value) parts.0 in
+      record { key = kl.spells p.key values.0; value = vl.spells p.value values.1 }
+
+-- a block that is still there, with its bytes
+pub record Still (c e : Cut) (x : Extent) : Type 0 where
+  pub found : extent_at (live_of e.bytes) (handle x) ≡ Some x
+  pub same : SameBlock (bytes_of c.bytes) (bytes_of e.bytes) x
+
+module _ {K V : Type 0} (kp : Plain K) (vp : Plain V) (kl : Laws kp) (vl : Laws vp) (c e : Cut) (h at : ℕ) (ps : List (Pair K V)) (s : HoldsMap kp vp c.bytes h at ps) (heap : IsHeap current e.bytes)
+    (room : IsTrue (has_room (live_of e.bytes) h (at + 24))) (words : Same (bytes_of c.bytes) (bytes_of e.bytes) (h + at) (h + at + 24))
+    (blocks : AllByRecursion (λ (p : Pair K V). Still c e p.node) ps) where
+  pairs_in : (qs : List (Pair K V)) → AllByRecursion (IsPairIn kp vp (live_of c.bytes) h) qs → AllByRecursion (λ (p : Pair K V). Still c e p.node) qs → AllByRecursion (IsPairIn kp vp (live_of e.bytes) h) qs
+  pairs_in [] a f = tt
+  pairs_in (q ∷ qs) a f = (record { good = a.0.good; listed = f.0.found; apart = a.0.apart }, pairs_in qs a.1 f.1)
+
+  pairs_at : (qs : List (Pair K V)) → AllByRecursion (IsPairIn kp vp (live_of c.bytes) h) qs → AllByRecursion (IsPairAt kp.SIZE kp.spelling vp.spelling (bytes_of c.bytes)) qs → AllByRecursion (λ (p : Pair K V). Still c e p.node) qs → AllByRecursion (IsPairAt kp.SIZE kp.spelling vp.spelling (bytes_of e.bytes)) qs
+  pairs_at [] a b f = tt
+  pairs_at (q ∷ qs) a b f =
+      let l = lengths kp vp kl vl (live_of c.bytes) h q a.0 in let long = pair_long kp vp (live_of c.bytes) h q a.0 in let same = f.0.same in
+      (pair_stays kp vp (bytes_of c.bytes) (bytes_of e.bytes) q l.key l.value (record { at = λ k low high. same.payload.at k (omega arith) (omega arith) }) b.0, pairs_at qs a.1 b.1 f.1)
+
+  with_blocks : (qs : List (Pair K V)) → AllByRecursion (IsPairIn kp vp (live_of c.bytes) h) qs → AllByRecursion (λ (p : Pair K V). Still c e p.node) qs → AllByRecursion (λ (p : Pair K V). IsPairIn kp vp (live_of c.bytes) h p × Still c e p.node) qs
+  with_blocks [] a f = tt
+  with_blocks (q ∷ qs) a f = ((a.0, f.0), with_blocks qs a.1 f.1)
+
+  cells : (m : ℕ) → is_in m (nodes_of s.map.tree.tree) ≡ true → cells_of (bytes_of e.bytes) m ≡ cells_of (bytes_of c.bytes) m
+  cells m i =
+      let n = at_node kp vp (λ (p : Pair K V). IsPairIn kp vp (live_of c.bytes) h p × Still c e p.node) ps m (ap (λ ns. is_in m ns) (sym s.map.tree.lists) ∙ i) (with_blocks ps s.pairs blocks) in
+      let long = pair_long kp vp (live_of c.bytes) h n.pair n.holds.0 in
+      subst (λ k. cells_of (bytes_of e.bytes) k ≡ cells_of (bytes_of c.bytes) k) n.at (block_cells (bytes_of c.bytes) (bytes_of e.bytes) n.pair.node n.holds.1.same (omega arith))
+
+  pub map_stays : HoldsMap kp vp e.bytes h at ps
+  map_stays =
+      record {
+        heap = heap;
+        map = record {
+          count = Same-word (bytes_of c.bytes) (bytes_of e.bytes) (h + at) (h + at + 24) (h + at + 8) words (omega arith) (omega arith) ∙ s.map.count;
+          third = Same-word (bytes_of c.bytes) (bytes_of e.bytes) (h + at) (h + at + 24) (h + at + 16) words (omega arith) (omega arith) ∙ s.map.third;
+          tree = record {
+            tree = s.map.tree.tree;
+            linked = record {
+              root = Same-link (bytes_of c.bytes) (bytes_of e.bytes) (h + at) (h + at + 24) (h + at) words (omega arith) (omega arith) ∙ s.map.tree.linked.root;
+              holds = holds_same (cells_of (bytes_of c.bytes)) (cells_of (bytes_of e.bytes)) s.map.tree.tree cells s.map.tree.linked.holds;
+            };
+            red_black = s.map.tree.red_black;
+            lists = s.map.tree.lists;
+          };
+          pairs = pairs_at ps s.pairs s.map.pairs blocks;
+        };
+        aligned = s.aligned;
+        room = room;
+        rising = s.rising;
+        pairs = pairs_in ps s.pairs blocks;
+      }

@@ -1,0 +1,36 @@
+-- Three words that follow each other.
+use Rattle.std.proofs.Common.{◌≡◌, subst, ◌+◌, arith}
+use Rattle.raw_region.specs.Format.{current}
+use Rattle.raw_region.specs.Memory.{bytes_of, word_at}
+use Rattle.best_fit.specs.Heap.{IsChanged, live_of}
+use Rattle.best_fit.proofs.Laws.{changed-room, room-less}
+use Rattle.seg_map.proofs.Heads.{headed}
+use Rattle.seg_map.proofs.Payloads.{small}
+use Rattle.seg_map.proofs.heading.write_head.Goals as goal
+
+pub set_link-requires-clause-room : goal.set_link-requires-clause-room
+set_link-requires-clause-room c = room-less (live_of c.args.heap.now.bytes) c.args.handle (c.args.at + 24) (c.args.at + 8) (omega arith) c.requires.room
+
+pub overflow_add-at : goal.overflow_add-at
+overflow_add-at c = let few = small c.args.heap.now.bytes c.args.handle (c.args.at + 24) c.requires.proper c.requires.room in omega arith
+
+pub set_word-requires : goal.set_word-requires
+set_word-requires c = changed-room current c.args.heap.now c.set_link.new.self (c.args.handle + c.args.at) 8 c.args.handle (c.args.at + 8 + 8) c.set_link.ensures.change
+    (room-less (live_of c.args.heap.now.bytes) c.args.handle (c.args.at + 24) (c.args.at + 8 + 8) (omega arith) c.requires.room)
+
+pub overflow_add-at-2 : goal.overflow_add-at-2
+overflow_add-at-2 c = let few = small c.args.heap.now.bytes c.args.handle (c.args.at + 24) c.requires.proper c.requires.room in omega arith
+
+pub set_word-requires-2 : goal.set_word-requires-2
+set_word-requires-2 c =
+    changed-room current c.set_link.new.self c.set_word.new.self (c.args.handle + (c.args.at + 8)) 8 c.args.handle (c.args.at + 16 + 8) c.set_word.ensures.change
+    (changed-room current c.args.heap.now c.set_link.new.self (c.args.handle + c.args.at) 8 c.args.handle (c.args.at + 16 + 8) c.set_link.ensures.change
+    (room-less (live_of c.args.heap.now.bytes) c.args.handle (c.args.at + 24) (c.args.at + 16 + 8) (omega arith) c.requires.room))
+
+pub returns : goal.returns
+returns c =
+    let at = c.args.handle + c.args.at in let B = c.set_link.new.self in let C = c.set_word.new.self in let D = c.set_word-2.new.self in
+    let second : c.args.handle + (c.args.at + 8) ≡ at + 8 = omega arith in let third : c.args.handle + (c.args.at + 16) ≡ at + 16 = omega arith in
+    headed c.args.heap.now B C D at c.args.root c.args.count c.set_link.ensures.change c.set_link.ensures.leads
+    (subst (λ k. IsChanged current B C k 8) second c.set_word.ensures.change) (subst (λ k. word_at (bytes_of C.bytes) k ≡ c.args.count) second c.set_word.ensures.word)
+    (subst (λ k. IsChanged current C D k 8) third c.set_word-2.ensures.change) (subst (λ k. word_at (bytes_of D.bytes) k ≡ 0) third c.set_word-2.ensures.word)

@@ -1,0 +1,67 @@
+-- A map at a place in a block of a heap.
+use Rattle.std.specs.Prelude.{◌≡◌, ◌≢◌, ℕ, ◌+◌, ◌*◌, ◌%◌, ◌≤◌, Bool, true, not, Option, Some, List, find, map, option_map, length, if◌then◌else◌, IsTrue}
+use Rattle.std.specs.List.{AllByRecursion}
+use Rattle.raw_region.specs.Format.{current}
+use Rattle.raw_region.specs.Memory.{bytes_of}
+use Rattle.link_tree.specs.Tree.{bits}
+use Rattle.best_fit.specs.Extents.{LiveSet, handle}
+use Rattle.best_fit.specs.Heap.{IsHeap, extent_at, has_room, live_of}
+use Rattle.seg_types.specs.declared.plain.Plain.{Ghosts as Plain}
+use Rattle.seg_map.specs.Map.{Pair, IsMapAt, is_pair, is_rising, pair_at}
+
+abbrev pub pair_node : {K V : Type 0} → Pair K V → ℕ
+pair_node p = handle p.node
+
+abbrev pub nodes_of_pairs : {K V : Type 0} → List (Pair K V) → List ℕ
+nodes_of_pairs ps = map (λ p. handle p.node) ps
+
+-- a pair whose node is a block in use, and not the one of the handle
+pub record IsPairIn {K V : Type 0} (k : Plain K) (v : Plain V) (live : LiveSet) (h : ℕ) (p : Pair K V) : Type 0 where
+  pub good : is_pair k.SIZE v.SIZE k.is_value v.is_value p ≡ true
+  pub listed : extent_at live (handle p.node) ≡ Some p.node
+  pub apart : handle p.node ≢ h
+
+-- the pairs of the map whose three words stand at an offset in the block of a handle
+pub record HoldsMap {K V : Type 0} (k : Plain K) (v : Plain V) (b : List ℕ) (h at : ℕ) (ps : List (Pair K V)) : Type 0 where
+  pub heap : IsHeap current b
+  pub map : IsMapAt k.SIZE k.spelling v.spelling (bytes_of b) (h + at) ps
+  pub aligned : at % 8 ≡ 0
+  pub room : IsTrue (has_room (live_of b) h (at + 24))
+  pub rising : is_rising k.order ps ≡ true
+  pub pairs : AllByRecursion (IsPairIn k v (live_of b) h) ps
+
+abbrev pub IsSomeMap : {K V : Type 0} → Plain K → Plain V → List ℕ → ℕ → ℕ → Type 0
+IsSomeMap {K} {V} k v b h at = (ps : List (Pair K V)) × HoldsMap k v b h at ps
+
+-- ---- what is found
+
+-- below the key, or not above it
+abbrev pub is_passed : {K V : Type 0} → (K → K → Bool) → Bool → K → Pair K V → Bool
+is_passed less past key p = if past then not (less key p.key) else less p.key key
+
+-- the first pair that is not below the key, or that is above it
+abbrev pub first_pair : {K V : Type 0} → (K → K → Bool) → Bool → K → List (Pair K V) → Option (Pair K V)
+first_pair less past key ps = find (λ p. not (is_passed less past key p)) ps
+
+-- what is answered of a pair
+abbrev pub item_of : {K V : Type 0} → Pair K V → K × V
+item_of p = (p.key, p.value)
+
+abbrev pub value_of_pair : {K V : Type 0} → Pair K V → V
+value_of_pair p = p.value
+
+abbrev pub FindsNode : {K V : Type 0} → Plain K → Plain V → List ℕ → ℕ → ℕ → Bool → K → Option ℕ → Type 0
+FindsNode {K} {V} k v b h at past key r = (ps : List (Pair K V)) → HoldsMap k v b h at ps → r ≡ option_map pair_node (first_pair k.order past key ps)
+
+abbrev pub FindsItem : {K V : Type 0} → Plain K → Plain V → List ℕ → ℕ → ℕ → Bool → K → Option (K × V) → Type 0
+FindsItem {K} {V} k v b h at past key r = (ps : List (Pair K V)) → HoldsMap k v b h at ps → r ≡ option_map item_of (first_pair k.order past key ps)
+
+abbrev pub FindsValue : {K V : Type 0} → Plain K → Plain V → List ℕ → ℕ → ℕ → K → Option V → Type 0
+FindsValue {K} {V} k v b h at key r = (ps : List (Pair K V)) → HoldsMap k v b h at ps → r ≡ option_map value_of_pair (pair_at k.order ps key)
+
+abbrev pub FindsKey : {K V : Type 0} → Plain K → Plain V → List ℕ → ℕ → ℕ → K → Option ℕ → Type 0
+FindsKey {K} {V} k v b h at key r = (ps : List (Pair K V)) → HoldsMap k v b h at ps → r ≡ option_map pair_node (pair_at k.order ps key)
+
+-- a search, and so many steps more
+abbrev pub SearchSteps : {K V : Type 0} → Plain K → Plain V → List ℕ → ℕ → ℕ → ℕ → ℕ → ℕ → Type 0
+SearchSteps {K} {V} k v b h at more before after = (ps : List (Pair K V)) → HoldsMap k v b h at ps → after ≤ before + 2 * bits (length ps + 1) + more

@@ -1,0 +1,52 @@
+//! Pairs that are erased.
+ghost use Rattle.std.specs.Prelude.{◌≡◌, ◌+◌, ◌≤◌};
+ghost use Rattle.seg_map.specs.Changing.{ChangeSteps, Erases, HasKeyNode, TakesOut, TreeSteps};
+ghost use Rattle.seg_map.specs.Places.{IsSomeMap};
+
+use crate::finding::find;
+use crate::heading::{COUNT, write_head};
+use crate::linking::unlink;
+use best_fit::Heap;
+use raw_region::Steps;
+use seg_types::Plain;
+
+/// Takes a pair out of the map. Its block is still in use.
+pub fn take_out<K: Plain, V: Plain>(
+    heap: &mut Heap,
+    handle: u64,
+    at: u64,
+    node: u64,
+    steps: &mut Steps,
+)
+    requires { HasKeyNode K.Plain V.Plain heap.old.bytes handle at node }
+    ensures taken { TakesOut K.Plain V.Plain heap.old heap.new handle at node }
+    ensures counted { steps.old ≤ steps.new }
+    ensures steps { TreeSteps K.Plain V.Plain heap.old handle at steps.old steps.new }
+{
+    let root = heap.link(handle, at);
+    let count = heap.word(handle, at + COUNT);
+    let changed = unlink::<K>(heap, root, node);
+    write_head(heap, handle, at, changed.root, count - 1);
+    steps.add(changed.steps);
+}
+
+/// Erases a key, and answers whether it was there. Its block is given back; all others keep theirs.
+pub fn erase<K: Plain, V: Plain>(
+    heap: &mut Heap,
+    handle: u64,
+    at: u64,
+    key: K,
+    steps: &mut Steps,
+) -> bool
+    requires { IsSomeMap K.Plain V.Plain heap.old.bytes handle at }
+    ensures erased { Erases K.Plain V.Plain heap.old heap.new handle at key result }
+    ensures counted { steps.old ≤ steps.new }
+    ensures steps { ChangeSteps K.Plain V.Plain heap.old handle at steps.old steps.new }
+{
+    let Some(node) = find::<K, V>(&*heap, handle, at, key, steps) else {
+        return false;
+    };
+    take_out::<K, V>(heap, handle, at, node, steps);
+    heap.deallocate(node, steps);
+    true
+}

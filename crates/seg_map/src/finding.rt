@@ -1,0 +1,134 @@
+//! Pairs that are looked for.
+ghost use Rattle.std.specs.Prelude.{◌≡◌, ◌+◌, ◌≤◌, true, false, Option, IfSome, IsTrue};
+ghost use Rattle.raw_region.specs.Memory.{bytes_of, read};
+ghost use Rattle.best_fit.specs.Extents.{is_proper};
+ghost use Rattle.best_fit.specs.Heap.{has_room, live_of};
+ghost use Rattle.seg_types.specs.Plain.{value_in};
+ghost use Rattle.seg_map.specs.PairNodes.{both};
+ghost use Rattle.seg_map.specs.Places.{FindsItem, FindsKey, FindsNode, FindsValue, IsSomeMap, SearchSteps};
+
+use crate::nodes::Reading;
+use crate::owned::Own;
+use crate::reading::{KEY, Sought, value_at};
+use best_fit::Heap;
+use link_tree::find_first_not_before;
+use raw_region::Steps;
+use seg_types::Plain;
+use std::marker::PhantomData;
+
+/// The node of the first pair that does not stand before what is looked for, in the map at `at` in the block of a handle.
+fn seek<K: Plain, V: Plain>(
+    heap: &Heap,
+    handle: u64,
+    at: u64,
+    sought: &Sought<K>,
+    steps: &mut Steps,
+) -> Option<u64>
+    requires map { IsSomeMap K.Plain V.Plain heap.now.bytes handle at }
+    ensures found { FindsNode K.Plain V.Plain heap.now.bytes handle at sought.now.past sought.now.key result }
+    ensures counted { steps.old ≤ steps.new }
+    ensures steps { SearchSteps K.Plain V.Plain heap.now.bytes handle at 0 steps.old steps.new }
+{
+    let root = heap.link(handle, at);
+    let pairs = Reading::<K> {
+        heap,
+        own: Own::new(heap, root, None),
+        keys: PhantomData,
+    };
+    let found = find_first_not_before(&pairs, root, sought);
+    steps.add(found.steps);
+    found.node
+}
+
+/// The node of a key.
+pub fn find<K: Plain, V: Plain>(
+    heap: &Heap,
+    handle: u64,
+    at: u64,
+    key: K,
+    steps: &mut Steps,
+) -> Option<u64>
+    requires map { IsSomeMap K.Plain V.Plain heap.now.bytes handle at }
+    ensures node { FindsKey K.Plain V.Plain heap.now.bytes handle at key result }
+    ensures value { IfSome result (λ node. K.is_value key ≡ true) }
+    ensures counted { steps.old ≤ steps.new }
+    ensures steps { SearchSteps K.Plain V.Plain heap.now.bytes handle at 1 steps.old steps.new }
+{
+    let node = seek::<K, V>(heap, handle, at, &Sought { key, past: false }, steps)?;
+    steps.add(1);
+    let found = value_at::<K>(heap, node, KEY)?;
+    if key.precedes(found) {
+        None
+    } else {
+        Some(node)
+    }
+}
+
+/// The key and the value of a node.
+fn item<K: Plain, V: Plain>(heap: &Heap, node: u64) -> Option<(K, V)>
+    requires proper { IsTrue (is_proper (live_of heap.now.bytes)) }
+    requires room { IsTrue (has_room (live_of heap.now.bytes) node (16 + K.SIZE + V.SIZE)) }
+    ensures { result ≡ both (value_in K.reading K.is_value K.spelling (read (bytes_of heap.now.bytes) (node + 16) K.SIZE))
+        (value_in V.reading V.is_value V.spelling (read (bytes_of heap.now.bytes) (node + (16 + K.SIZE)) V.SIZE)) }
+{
+    let key = value_at::<K>(heap, node, KEY)?;
+    let value = value_at::<V>(heap, node, KEY + K::SIZE)?;
+    Some((key, value))
+}
+
+/// The key and the value of the pair with the least key that is not below `key`.
+pub fn first_from<K: Plain, V: Plain>(
+    heap: &Heap,
+    handle: u64,
+    at: u64,
+    key: K,
+    steps: &mut Steps,
+) -> Option<(K, V)>
+    requires map { IsSomeMap K.Plain V.Plain heap.now.bytes handle at }
+    ensures item { FindsItem K.Plain V.Plain heap.now.bytes handle at false key result }
+    ensures counted { steps.old ≤ steps.new }
+    ensures steps { SearchSteps K.Plain V.Plain heap.now.bytes handle at 1 steps.old steps.new }
+{
+    let node = seek::<K, V>(heap, handle, at, &Sought { key, past: false }, steps)?;
+    steps.add(1);
+    item(heap, node)
+}
+
+/// The key and the value of the pair with the least key above `key`.
+pub fn next_after<K: Plain, V: Plain>(
+    heap: &Heap,
+    handle: u64,
+    at: u64,
+    key: K,
+    steps: &mut Steps,
+) -> Option<(K, V)>
+    requires map { IsSomeMap K.Plain V.Plain heap.now.bytes handle at }
+    ensures item { FindsItem K.Plain V.Plain heap.now.bytes handle at true key result }
+    ensures counted { steps.old ≤ steps.new }
+    ensures steps { SearchSteps K.Plain V.Plain heap.now.bytes handle at 1 steps.old steps.new }
+{
+    let node = seek::<K, V>(heap, handle, at, &Sought { key, past: true }, steps)?;
+    steps.add(1);
+    item(heap, node)
+}
+
+/// The value of a key.
+pub fn get<K: Plain, V: Plain>(
+    heap: &Heap,
+    handle: u64,
+    at: u64,
+    key: K,
+    steps: &mut Steps,
+) -> Option<V>
+    requires map { IsSomeMap K.Plain V.Plain heap.now.bytes handle at }
+    ensures value { FindsValue K.Plain V.Plain heap.now.bytes handle at key result }
+    ensures counted { steps.old ≤ steps.new }
+    ensures steps { SearchSteps K.Plain V.Plain heap.now.bytes handle at 1 steps.old steps.new }
+{
+    let (found, value) = first_from::<K, V>(heap, handle, at, key, steps)?;
+    if key.precedes(found) {
+        None
+    } else {
+        Some(value)
+    }
+}

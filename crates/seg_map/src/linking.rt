@@ -1,0 +1,61 @@
+//! Nodes that enter and leave the tree of a map.
+ghost use Rattle.std.specs.Prelude.{◌≡◌, Some, None};
+ghost use Rattle.seg_map.specs.PairNodes.{own_nodes};
+ghost use Rattle.seg_map.specs.Linking.{CanLink, CanUnlink, Linked, Unlinked};
+
+use crate::nodes::Pairs;
+use crate::owned::Own;
+use best_fit::Heap;
+use link_tree::{Changed, insert, remove};
+use seg_types::Plain;
+use std::marker::PhantomData;
+
+/// The pairs that a link leads to, and one node more, lent to a call of the tree.
+fn lend<'a, K: Plain>(heap: &'a mut Heap, root: Option<u64>, spare: Option<u64>) -> Pairs<'a, K>
+    ensures reference { result.heap.ghost_name ≡ heap.entry.ghost_name }
+    ensures heap { result.heap.now ≡ heap.old }
+    ensures own { result.own ≡ own_nodes heap.old.bytes root spare }
+{
+    let own = Own::new(&*heap, root, spare);
+    Pairs {
+        heap,
+        own,
+        keys: PhantomData,
+    }
+}
+
+/// `remove` of the tree, which keeps the heap's reference.
+fn uproot<K: Plain>(pairs: &mut Pairs<K>, root: Option<u64>, node: u64) -> Changed
+    requires { CanUnlink K.Plain pairs.old.own pairs.old.heap.now root node }
+    ensures reference { pairs.new.heap.ghost_name ≡ pairs.old.heap.ghost_name }
+    ensures change { Unlinked K.Plain pairs.old.own pairs.old.heap.now pairs.new.heap.now root node result.root result.steps }
+{
+    remove(pairs, root, node)
+}
+
+/// `insert` of the tree, which keeps the heap's reference.
+fn plant<K: Plain>(pairs: &mut Pairs<K>, root: Option<u64>, node: u64) -> Changed
+    requires { CanLink K.Plain pairs.old.own pairs.old.heap.now root node }
+    ensures reference { pairs.new.heap.ghost_name ≡ pairs.old.heap.ghost_name }
+    ensures change { Linked K.Plain pairs.old.own pairs.old.heap.now pairs.new.heap.now root node result.root result.steps }
+{
+    insert(pairs, root, node)
+}
+
+/// Takes a node out of the tree that a link leads to, and answers the new root and the steps.
+pub fn unlink<K: Plain>(heap: &mut Heap, root: Option<u64>, node: u64) -> Changed
+    requires { CanUnlink K.Plain (own_nodes heap.old.bytes root None) heap.old root node }
+    ensures { Unlinked K.Plain (own_nodes heap.old.bytes root None) heap.old heap.new root node result.root result.steps }
+{
+    let mut pairs = lend::<K>(heap, root, None);
+    uproot(&mut pairs, root, node)
+}
+
+/// Puts a node into the tree that a link leads to, and answers the new root and the steps.
+pub fn link<K: Plain>(heap: &mut Heap, root: Option<u64>, node: u64) -> Changed
+    requires { CanLink K.Plain (own_nodes heap.old.bytes root (Some node)) heap.old root node }
+    ensures { Linked K.Plain (own_nodes heap.old.bytes root (Some node)) heap.old heap.new root node result.root result.steps }
+{
+    let mut pairs = lend::<K>(heap, root, Some(node));
+    plant(&mut pairs, root, node)
+}

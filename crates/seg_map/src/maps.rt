@@ -1,0 +1,122 @@
+//! Maps from values of a fixed number of bytes to such values.
+ghost use Rattle.std.specs.Prelude.{◌≡◌, ◌+◌, ◌%◌, ◌≤◌, IsTrue, true, false};
+ghost use Rattle.best_fit.specs.Extents.{is_proper};
+ghost use Rattle.best_fit.specs.Heap.{has_room, live_of};
+ghost use Rattle.seg_map.specs.Changing.{ChangeSteps, CountsPairs, Erases, IsNew, Puts, Releases};
+ghost use Rattle.seg_map.specs.Places.{FindsItem, FindsValue, IsSomeMap, SearchSteps};
+
+use crate::places::Place;
+use crate::releasing::give_up_all;
+use crate::{erasing, finding, heading, putting};
+use best_fit::{Heap, NoSpace};
+use raw_region::Steps;
+use seg_types::Plain;
+use std::marker::PhantomData;
+
+/// A map at a place in a heap: three words there (the link to the root of a red-black tree, the number of pairs, and 0), and
+/// a block for each pair, which it keeps until its key is erased.
+///
+/// It is the place alone. Each call takes the heap anew, so that nothing is borrowed between two calls.
+#[derive(Clone, Copy)]
+pub struct SegMap<K: Plain, V: Plain> {
+    /// Where the three words stand.
+    pub place: Place,
+    keys: PhantomData<K>,
+    values: PhantomData<V>,
+}
+
+impl<K: Plain, V: Plain> SegMap<K, V> {
+    /// The map that stands at a place.
+    pub fn at(place: Place) -> SegMap<K, V>
+        ensures { result.place ≡ place }
+    {
+        SegMap {
+            place,
+            keys: PhantomData,
+            values: PhantomData,
+        }
+    }
+
+    /// Makes a map without pairs of the 24 bytes at a place: a multiple of 8 in a block in use.
+    pub fn new(heap: &mut Heap, place: Place) -> SegMap<K, V>
+        requires aligned { place.at % 8 ≡ 0 }
+        requires proper { IsTrue (is_proper (live_of heap.old.bytes)) }
+        requires room { IsTrue (has_room (live_of heap.old.bytes) place.handle (place.at + 24)) }
+        ensures place { result.place ≡ place }
+        ensures map { IsNew K.Plain V.Plain heap.old heap.new place.handle place.at }
+    {
+        heading::new::<K, V>(heap, place.handle, place.at);
+        SegMap::at(place)
+    }
+
+    /// The number of pairs.
+    pub fn len(self, heap: &Heap) -> u64
+        requires { IsSomeMap K.Plain V.Plain heap.now.bytes self.place.handle self.place.at }
+        ensures { CountsPairs K.Plain V.Plain heap.now.bytes self.place.handle self.place.at result }
+    {
+        heading::len::<K, V>(heap, self.place.handle, self.place.at)
+    }
+
+    /// The value of a key.
+    pub fn get(self, heap: &Heap, key: K, steps: &mut Steps) -> Option<V>
+        requires { IsSomeMap K.Plain V.Plain heap.now.bytes self.place.handle self.place.at }
+        ensures value { FindsValue K.Plain V.Plain heap.now.bytes self.place.handle self.place.at key result }
+        ensures counted { steps.old ≤ steps.new }
+        ensures steps { SearchSteps K.Plain V.Plain heap.now.bytes self.place.handle self.place.at 1 steps.old steps.new }
+    {
+        finding::get::<K, V>(heap, self.place.handle, self.place.at, key, steps)
+    }
+
+    /// The key and the value of the pair with the least key that is not below `key`.
+    pub fn first_from(self, heap: &Heap, key: K, steps: &mut Steps) -> Option<(K, V)>
+        requires { IsSomeMap K.Plain V.Plain heap.now.bytes self.place.handle self.place.at }
+        ensures item { FindsItem K.Plain V.Plain heap.now.bytes self.place.handle self.place.at false key result }
+        ensures counted { steps.old ≤ steps.new }
+        ensures steps { SearchSteps K.Plain V.Plain heap.now.bytes self.place.handle self.place.at 1 steps.old steps.new }
+    {
+        finding::first_from::<K, V>(heap, self.place.handle, self.place.at, key, steps)
+    }
+
+    /// The key and the value of the pair with the least key above `key`.
+    pub fn next_after(self, heap: &Heap, key: K, steps: &mut Steps) -> Option<(K, V)>
+        requires { IsSomeMap K.Plain V.Plain heap.now.bytes self.place.handle self.place.at }
+        ensures item { FindsItem K.Plain V.Plain heap.now.bytes self.place.handle self.place.at true key result }
+        ensures counted { steps.old ≤ steps.new }
+        ensures steps { SearchSteps K.Plain V.Plain heap.now.bytes self.place.handle self.place.at 1 steps.old steps.new }
+    {
+        finding::next_after::<K, V>(heap, self.place.handle, self.place.at, key, steps)
+    }
+
+    /// Puts the value of a key, and answers whether the key is new. All other pairs keep their blocks, and so does this one
+    /// where the key is not new.
+    ///
+    /// # Errors
+    ///
+    /// `NoSpace` where the key is new and no gap is long enough for its block. Nothing changes.
+    pub fn put(self, heap: &mut Heap, key: K, value: V, steps: &mut Steps) -> Result<bool, NoSpace>
+        requires { IsSomeMap K.Plain V.Plain heap.old.bytes self.place.handle self.place.at }
+        ensures put { Puts K.Plain V.Plain heap.old heap.new self.place.handle self.place.at key value result }
+        ensures counted { steps.old ≤ steps.new }
+        ensures steps { ChangeSteps K.Plain V.Plain heap.old self.place.handle self.place.at steps.old steps.new }
+    {
+        putting::put::<K, V>(heap, self.place.handle, self.place.at, key, value, steps)
+    }
+
+    /// Erases a key, and answers whether it was there. Its block is given back; all others keep theirs.
+    pub fn erase(self, heap: &mut Heap, key: K, steps: &mut Steps) -> bool
+        requires { IsSomeMap K.Plain V.Plain heap.old.bytes self.place.handle self.place.at }
+        ensures erased { Erases K.Plain V.Plain heap.old heap.new self.place.handle self.place.at key result }
+        ensures counted { steps.old ≤ steps.new }
+        ensures steps { ChangeSteps K.Plain V.Plain heap.old self.place.handle self.place.at steps.old steps.new }
+    {
+        erasing::erase::<K, V>(heap, self.place.handle, self.place.at, key, steps)
+    }
+
+    /// Gives the blocks of all pairs back. There is no pair then.
+    pub fn release(self, heap: &mut Heap)
+        requires { IsSomeMap K.Plain V.Plain heap.old.bytes self.place.handle self.place.at }
+        ensures { Releases K.Plain V.Plain heap.old heap.new self.place.handle self.place.at }
+    {
+        give_up_all::<K, V>(heap, self.place.handle, self.place.at);
+    }
+}

@@ -1,0 +1,115 @@
+//! Pairs that are put.
+ghost use Rattle.std.specs.Prelude.{◌≡◌, ◌+◌, ◌≤◌, IsTrue, true};
+ghost use Rattle.raw_region.specs.Format.{current};
+ghost use Rattle.raw_region.specs.Memory.{Has, bytes_of};
+ghost use Rattle.best_fit.specs.Heap.{IsChanged, has_room, heap_touches, live_of};
+ghost use Rattle.seg_map.specs.Changing.{ChangeSteps, HasLooseNode, Makes, Puts, PutsIn, TreeSteps};
+ghost use Rattle.seg_map.specs.Places.{IsSomeMap};
+
+use crate::finding::find;
+use crate::heading::{COUNT, write_head};
+use crate::linking::link;
+use crate::reading::KEY;
+use best_fit::{Heap, NoSpace, RIGHT};
+use block_tags::Role;
+use raw_region::Steps;
+use seg_types::Plain;
+
+/// Spellings of so many bytes go by way of a short buffer, and others by way of one for the longest.
+const SHORT: usize = 16;
+
+const LONGEST: usize = 4096;
+
+/// Writes a value at `at` in the block of a handle.
+fn write_value<T: Plain>(heap: &mut Heap, handle: u64, at: u64, value: T)
+    requires { IsTrue (has_room (live_of heap.old.bytes) handle (at + T.SIZE)) }
+    ensures value { T.is_value value ≡ true }
+    ensures change { IsChanged current heap.old heap.new (handle + at) T.SIZE }
+    ensures content { Has (bytes_of heap.new.bytes) (handle + at) (T.spelling value) }
+{
+    if T::SIZE as usize <= SHORT {
+        write_by::<T, SHORT>(heap, handle, at, value);
+    } else {
+        write_by::<T, LONGEST>(heap, handle, at, value);
+    }
+}
+
+/// The same by way of a buffer of `N` bytes.
+fn write_by<T: Plain, const N: usize>(heap: &mut Heap, handle: u64, at: u64, value: T)
+    requires buffer { T.SIZE ≤ N }
+    requires short { N ≤ 4096 }
+    requires room { IsTrue (has_room (live_of heap.old.bytes) handle (at + T.SIZE)) }
+    ensures value { T.is_value value ≡ true }
+    ensures change { IsChanged current heap.old heap.new (handle + at) T.SIZE }
+    ensures content { Has (bytes_of heap.new.bytes) (handle + at) (T.spelling value) }
+{
+    let mut buffer = [0u8; N];
+    let bytes = &mut buffer[..T::SIZE as usize];
+    value.write(bytes);
+    heap.write(handle, at, bytes);
+}
+
+/// Takes a block for a pair, with null links, the key and the value.
+///
+/// # Errors
+///
+/// `NoSpace` where no gap is long enough. Nothing changes.
+fn make_node<K: Plain, V: Plain>(
+    heap: &mut Heap,
+    key: K,
+    value: V,
+    steps: &mut Steps,
+) -> Result<u64, NoSpace>
+    ensures made { Makes K.Plain V.Plain heap.old heap.new key value result }
+    ensures counted { steps.old ≤ steps.new }
+    ensures steps { steps.new ≤ steps.old + heap_touches (live_of heap.old.bytes) }
+{
+    let node = heap.allocate(KEY + K::SIZE + V::SIZE, Role::Node, steps)?;
+    heap.set_link(node, 0, None);
+    heap.set_link(node, RIGHT, None);
+    write_value::<K>(heap, node, KEY, key);
+    write_value::<V>(heap, node, KEY + K::SIZE, value);
+    Ok(node)
+}
+
+/// Puts a pair into the map, whose node is made.
+fn put_in<K: Plain, V: Plain>(heap: &mut Heap, handle: u64, at: u64, node: u64, steps: &mut Steps)
+    requires { HasLooseNode K.Plain V.Plain heap.old.bytes handle at node }
+    ensures planted { PutsIn K.Plain V.Plain heap.old heap.new handle at node }
+    ensures counted { steps.old ≤ steps.new }
+    ensures steps { TreeSteps K.Plain V.Plain heap.old handle at steps.old steps.new }
+{
+    let root = heap.link(handle, at);
+    let count = heap.word(handle, at + COUNT);
+    let changed = link::<K>(heap, root, node);
+    write_head(heap, handle, at, changed.root, count + 1);
+    steps.add(changed.steps);
+}
+
+/// Puts the value of a key, and answers whether the key is new. All other pairs keep their blocks, and so does this one
+/// where the key is not new.
+///
+/// # Errors
+///
+/// `NoSpace` where the key is new and no gap is long enough for its block. Nothing changes.
+pub fn put<K: Plain, V: Plain>(
+    heap: &mut Heap,
+    handle: u64,
+    at: u64,
+    key: K,
+    value: V,
+    steps: &mut Steps,
+) -> Result<bool, NoSpace>
+    requires { IsSomeMap K.Plain V.Plain heap.old.bytes handle at }
+    ensures put { Puts K.Plain V.Plain heap.old heap.new handle at key value result }
+    ensures counted { steps.old ≤ steps.new }
+    ensures steps { ChangeSteps K.Plain V.Plain heap.old handle at steps.old steps.new }
+{
+    if let Some(node) = find::<K, V>(&*heap, handle, at, key, steps) {
+        write_value::<V>(heap, node, KEY + K::SIZE, value);
+        return Ok(false);
+    }
+    let node = make_node::<K, V>(heap, key, value, steps)?;
+    put_in::<K, V>(heap, handle, at, node, steps);
+    Ok(true)
+}

@@ -1,0 +1,11 @@
+pub mod Growth
+pub mod Append
+pub mod Pushing
+pub mod Rewriting
+pub mod Shifts
+pub mod Lists
+pub mod Emptying
+pub mod Cutting
+pub mod Extending
+pub mod Typed
+pub mod ReadTexts

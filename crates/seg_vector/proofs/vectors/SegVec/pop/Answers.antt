@@ -1,0 +1,14 @@
+-- The last value is read, and then left out.
+use Rattle.std.proofs.Common.{◌≡◌, subst, ◌-◌, arith, length, take}
+use Rattle.std.specs.Prelude.{slice_get, Some}
+use Rattle.seg_vector.specs.VectorCalls.{IsVectorNow}
+use Rattle.seg_vector.proofs.Typed.{cut-now}
+use Rattle.seg_vector.proofs.vectors.SegVec.pop.Goals as goal
+
+pub returns-in-Ok : goal.returns-in-Ok
+returns-in-Ok g c xs t v =
+    let is : c.len-len.result ≡ length xs = c.len-len.ensures xs t v in (
+      subst (λ n. slice_get xs (n - 1) ≡ Some c.in-Ok.value) is (c.in-Ok.ensures xs t v),
+      subst (λ n. IsVectorNow g.T.Plain.SIZE g.T.Plain.is_value g.T.Plain.spelling c.args.heap.now c.truncate.new.heap c.args.self.place t (take (n - 1) xs) t) is
+          (cut-now g.T.Plain.SIZE g.T.Plain.is_value g.T.Plain.spelling c.args.heap.now c.truncate.new.heap c.args.self.place c.SIZE.result xs t c.SIZE.ensures v (c.len-len.result - 1) g.met.T.Plain.spells (omega (arith, is)) c.truncate.ensures),
+    )

@@ -1,0 +1,66 @@
+-- The elements of a container that stands at a place: read, written over, and fewer or more of them in the places that there are.
+use Rattle.std.specs.Prelude.{◌≡◌, ℕ, ◌+◌, ◌-◌, ◌*◌, List, [], ◌++◌, length, take, drop, option_to_list}
+use Rattle.raw_region.specs.Memory.{Cut, part, patched}
+use Rattle.raw_region.specs.Format.{current}
+use Rattle.best_fit.specs.Exchange.{IsExchanged}
+use Rattle.best_fit.specs.Heap.{live_of}
+use Rattle.best_fit.specs.Table.{Table, cut_table, no_table}
+use Rattle.seg_vector.specs.declared.places.Place.{Place}
+use Rattle.seg_vector.specs.Standing.{Stands, place_at}
+
+-- the container has other elements in the places that there were; of all other blocks no byte changes but its own 24
+pub record IsRewritten (old new : Cut) (p : Place) (each len : ℕ) (t : Table) (bytes : List ℕ) : Type 0 where
+  pub change : IsExchanged current old new (place_at p) 24 (option_to_list t.extent) (option_to_list t.extent)
+  pub stands : Stands new.bytes p each len t bytes
+
+-- the bytes of all elements
+abbrev pub ReadsAll : List ℕ → Place → ℕ → List ℕ → Type 0
+ReadsAll b p each out = (len : ℕ) (t : Table) (bytes : List ℕ) → Stands b p each len t bytes → out ≡ bytes
+
+-- the bytes of the element with i others before it
+abbrev pub ReadsOne : List ℕ → Place → ℕ → ℕ → List ℕ → Type 0
+ReadsOne b p each i out = (len : ℕ) (t : Table) (bytes : List ℕ) → Stands b p each len t bytes → out ≡ part bytes (each * i) each
+
+-- the element with i others before it has these bytes now
+abbrev pub Overwrites : Cut → Cut → Place → ℕ → ℕ → List ℕ → Type 0
+Overwrites old new p each i more =
+    (len : ℕ) (t : Table) (bytes : List ℕ) → Stands old.bytes p each len t bytes → IsRewritten old new p each len t (patched bytes (each * i) more)
+
+-- the first n elements are left
+abbrev pub Truncates : Cut → Cut → Place → ℕ → ℕ → Type 0
+Truncates old new p each n =
+    (len : ℕ) (t : Table) (bytes : List ℕ) → Stands old.bytes p each len t bytes → IsRewritten old new p each n t (take (each * n) bytes)
+
+-- an element more, with i others before it
+abbrev pub Inserts : Cut → Cut → Place → ℕ → ℕ → List ℕ → Type 0
+Inserts old new p each i more =
+    (len : ℕ) (t : Table) (bytes : List ℕ) → Stands old.bytes p each len t bytes
+    → IsRewritten old new p each (len + 1) t (take (each * i) bytes ++ (more ++ drop (each * i) bytes))
+
+-- the element with i others before it is left out
+abbrev pub Erases : Cut → Cut → Place → ℕ → ℕ → Type 0
+Erases old new p each i =
+    (len : ℕ) (t : Table) (bytes : List ℕ) → Stands old.bytes p each len t bytes
+    → IsRewritten old new p each (len - 1) t (take (each * i) bytes ++ drop (each * i + each) bytes)
+
+-- bytes more, of elements of a byte each
+abbrev pub Extends : Cut → Cut → Place → List ℕ → Type 0
+Extends old new p more = (len : ℕ) (t : Table) (bytes : List ℕ) → Stands old.bytes p 1 len t bytes → IsRewritten old new p 1 (len + length more) t (bytes ++ more)
+
+-- ---- fewer places
+
+-- the container has no place, and its storage is given back
+pub record IsGivenBack (old new : Cut) (p : Place) (each : ℕ) (t : Table) : Type 0 where
+  pub change : IsExchanged current old new (place_at p) 24 (option_to_list t.extent) []
+  pub stands : Stands new.bytes p each 0 no_table []
+
+abbrev pub GivesBack : Cut → Cut → Place → ℕ → Type 0
+GivesBack old new p each = (len : ℕ) (t : Table) (bytes : List ℕ) → Stands old.bytes p each len t bytes → IsGivenBack old new p each t
+
+-- the container has as many places as elements: its storage is shortened, or given back where there is no element
+pub record IsFitted (old new : Cut) (p : Place) (each len : ℕ) (t : Table) (bytes : List ℕ) : Type 0 where
+  pub change : IsExchanged current old new (place_at p) 24 (option_to_list t.extent) (option_to_list (cut_table (live_of old.bytes) each len t).extent)
+  pub stands : Stands new.bytes p each len (cut_table (live_of old.bytes) each len t) bytes
+
+abbrev pub Fits : Cut → Cut → Place → ℕ → Type 0
+Fits old new p each = (len : ℕ) (t : Table) (bytes : List ℕ) → Stands old.bytes p each len t bytes → IsFitted old new p each len t bytes

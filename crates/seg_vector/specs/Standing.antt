@@ -1,0 +1,59 @@
+-- A container at a place in a heap: its three words in a block, and its storage, which is a block of its own.
+use Rattle.std.specs.Prelude.{◌≡◌, ◌≢◌, ℕ, ◌+◌, ◌*◌, ◌%◌, ◌≤◌, ⊤, IsTrue, Option, Some, None, Result, MatchResult, List, ◌++◌, length, option_to_list}
+use Rattle.raw_region.specs.Memory.{Cut, bytes_of}
+use Rattle.block_tags.specs.declared.tile.Role.TheVariants.{Storage}
+use Rattle.raw_region.specs.Format.{current}
+use Rattle.best_fit.specs.Exchange.{IsExchanged}
+use Rattle.best_fit.specs.Extents.{Extent, LiveSet, handle}
+use Rattle.best_fit.specs.Heap.{IsHeap, extent_at, has_room, live_of}
+use Rattle.best_fit.specs.Table.{Table, is_table}
+use Rattle.seg_vector.specs.declared.places.Place.{Place}
+use Rattle.seg_vector.specs.Vector.{IsContainerAt, grown_table}
+
+-- where the three words stand
+abbrev pub place_at : Place → ℕ
+place_at p = p.handle + p.at
+
+-- a block in use, and not the one of the handle
+abbrev pub IsOwnBlock : LiveSet → ℕ → Option Extent → Type 0
+IsOwnBlock live h None = ⊤
+IsOwnBlock live h (Some x) = (extent_at live (handle x) ≡ Some x) × (handle x ≢ h)
+
+-- a container of `len` elements of `each` bytes
+pub record Stands (b : List ℕ) (p : Place) (each len : ℕ) (t : Table) (bytes : List ℕ) : Type 0 where
+  pub heap : IsHeap current b
+  pub words : IsContainerAt (bytes_of b) (place_at p) len t bytes
+  pub aligned : p.at % 8 ≡ 0
+  pub room : IsTrue (has_room (live_of b) p.handle (p.at + 24))
+  pub table : IsTrue (is_table Storage each t)
+  pub fits : len ≤ t.capacity
+  pub long : length bytes ≡ each * len
+  pub own : IsOwnBlock (live_of b) p.handle t.extent
+
+abbrev pub IsStanding : List ℕ → Place → ℕ → Type 0
+IsStanding b p each = (len : ℕ) × ((t : Table) × ((bytes : List ℕ) × Stands b p each len t bytes))
+
+-- the same container with n places, or more; of all blocks that stay no byte changes but its own 24
+pub record IsGrown (old new : Cut) (p : Place) (each n len : ℕ) (t : Table) (bytes : List ℕ) : Type 0 where
+  pub table : Table
+  pub grown : grown_table (live_of old.bytes) each n t ≡ Some table
+  pub change : IsExchanged current old new (place_at p) 24 (option_to_list t.extent) (option_to_list table.extent)
+  pub stands : Stands new.bytes p each len table bytes
+
+-- there is no space for so many, and nothing changes
+pub record IsNotGrown (old new : Cut) (each n : ℕ) (t : Table) : Type 0 where
+  pub none : grown_table (live_of old.bytes) each n t ≡ None
+  pub same : new ≡ old
+
+abbrev pub Grows : {E : Type 0} → Cut → Cut → Place → ℕ → ℕ → Result (Unit {0}) E → Type 0
+Grows old new p each n result =
+    (len : ℕ) (t : Table) (bytes : List ℕ) → Stands old.bytes p each len t bytes → MatchResult result (λ u. IsGrown old new p each n len t bytes) (λ e. IsNotGrown old new each n t)
+
+-- one element more, in a place that there was
+pub record IsAppended (old new : Cut) (p : Place) (each len : ℕ) (t : Table) (bytes more : List ℕ) : Type 0 where
+  pub change : IsExchanged current old new (place_at p) 24 (option_to_list t.extent) (option_to_list t.extent)
+  pub stands : Stands new.bytes p each (len + 1) t (bytes ++ more)
+
+abbrev pub Appends : Cut → Cut → Place → ℕ → List ℕ → Type 0
+Appends old new p each more =
+    (len : ℕ) (t : Table) (bytes : List ℕ) → Stands old.bytes p each len t bytes → IsAppended old new p each len t bytes more

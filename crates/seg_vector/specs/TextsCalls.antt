@@ -1,0 +1,201 @@
+-- A vector of texts at a place: an array of links and lengths, and a block for each text that is not empty. Every block is asked for
+-- while those that it replaces are in use.
+use Rattle.std.specs.Prelude.{◌≡◌, ◌≢◌, ℕ, ◌+◌, ◌-◌, ◌*◌, ◌%◌, ◌<◌, ◌≤◌, ◌⊎◌, ⊤, ◌==◌, nat_lt, if◌then◌else◌, IsTrue, Option, Some, None, Result, Ok, MatchResult, List, [], ◌∷◌, ◌++◌, length, insert, remove, flat_map, slice_get, slice_set, option_map, option_to_list}
+use Rattle.std.specs.List.{AllByRecursion}
+use denote.Ref.{Bor}
+use Rattle.raw_region.specs.Memory.{Cut, bytes_of, word_at}
+use Rattle.raw_region.specs.Format.{current}
+use Rattle.block_tags.specs.declared.tile.Role.TheVariants.{Storage}
+use Rattle.offset_link.specs.Link.{link_at}
+use Rattle.best_fit.specs.Exchange.{IsExchanged}
+use Rattle.best_fit.specs.Extents.{Extent, LiveSet, handle}
+use Rattle.best_fit.specs.Fit.{place, resized}
+use Rattle.best_fit.specs.Heap.{IsHeap, extent_at, has_room, live_of}
+use Rattle.best_fit.specs.Table.{Table, cut_table, is_table, no_table, serves}
+use Rattle.seg_types.specs.declared.refusals.Refusal.{Refusal}
+use Rattle.seg_types.specs.declared.refusals.Refusal.TheVariants.{NoSpace}
+use Rattle.seg_vector.specs.declared.places.Place.{Place}
+use Rattle.seg_vector.specs.Standing.{IsOwnBlock, place_at}
+use Rattle.seg_vector.specs.Vector.{IsOwnedText, IsTextsAt, OwnedText, capacity_for_one, grown_table}
+use Rattle.seg_vector.specs.VectorCalls.{IsOutside}
+
+-- the blocks of texts
+abbrev pub text_blocks : List OwnedText → List Extent
+text_blocks ps = flat_map (λ (q : OwnedText). option_to_list q.extent) ps
+
+-- the block of a text is in use and holds it, and an empty one has none
+abbrev pub IsHeldText : LiveSet → OwnedText → Type 0
+IsHeldText live q = elim q.extent [ None ↦ q.bytes ≡ [] | Some x ↦ (extent_at live (handle x) ≡ Some x) × (0 < length q.bytes) × IsTrue (serves x Storage (length q.bytes)) ]
+
+-- no two of these are one block
+abbrev pub AreOthers : List Extent → Type 0
+AreOthers [] = ⊤
+AreOthers (x ∷ xs) = AllByRecursion (λ (y : Extent). handle x ≢ handle y) xs × AreOthers xs
+
+-- the vector at a place has these texts, each in a block of its own
+pub record IsTexts (b : List ℕ) (p : Place) (ps : List OwnedText) (t : Table) : Type 0 where
+  pub heap : IsHeap current b
+  pub words : IsTextsAt (bytes_of b) (place_at p) ps t
+  pub aligned : p.at % 8 ≡ 0
+  pub room : IsTrue (has_room (live_of b) p.handle (p.at + 24))
+  pub table : IsTrue (is_table Storage 16 t)
+  pub fits : length ps ≤ t.capacity
+  pub own : IsOwnBlock (live_of b) p.handle t.extent
+  pub held : AllByRecursion (IsHeldText (live_of b)) ps
+  pub apart : AllByRecursion (λ (x : Extent). handle x ≢ p.handle) (text_blocks ps)
+  pub others : AreOthers (option_to_list t.extent ++ text_blocks ps)
+
+abbrev pub IsSomeTexts : List ℕ → Place → Type 0
+IsSomeTexts b p = (ps : List OwnedText) × ((t : Table) × IsTexts b p ps t)
+
+-- The vector has these texts and this array. Some blocks are gone and others came; of all blocks that stay, those of the other
+-- texts among them, no byte changes but its own 24.
+pub record IsTextsNow (old new : Cut) (p : Place) (gone come : List Extent) (ps : List OwnedText) (t : Table) : Type 0 where
+  pub change : IsExchanged current old new (place_at p) 24 gone come
+  pub texts : IsTexts new.bytes p ps t
+
+-- ---- what is asked for
+
+-- the live set in which the array is grown: the old array is in use still, where it is not the new one
+abbrev pub with_array : LiveSet → Table → Table → LiveSet
+with_array live t u = if nat_lt t.capacity u.capacity then elim u.extent [ None ↦ live | Some x ↦ resized live x ] else live
+
+-- a text and the block that it takes, which an empty one does not
+abbrev pub placed_text : LiveSet → List ℕ → Option OwnedText
+placed_text live bytes =
+    if length bytes == 0 then Some (record { bytes = bytes; extent = None })
+    else option_map (λ (x : Extent). let q : OwnedText = record { bytes = bytes; extent = Some x } in q) (place live (length bytes) Storage)
+
+-- texts, one after another, each beside those before it
+abbrev pub with_text : LiveSet → OwnedText → LiveSet
+with_text live q = elim q.extent [ None ↦ live | Some x ↦ resized live x ]
+
+abbrev pub placed_texts : LiveSet → List (List ℕ) → Option (List OwnedText)
+placed_texts live [] = Some []
+placed_texts live (bytes ∷ more) = elim (placed_text live bytes) [ None ↦ None | Some q ↦ option_map (λ qs. q ∷ qs) (placed_texts (with_text live q) more) ]
+
+-- an array of so many places, in a new block
+abbrev pub new_array : LiveSet → ℕ → Option Table
+new_array live n = if n == 0 then Some no_table else option_map (λ (x : Extent). let u : Table = record { capacity = n; extent = Some x } in u) (place live (16 * n) Storage)
+
+-- ---- what calls answer and do
+
+abbrev pub CountsTexts : List ℕ → Place → ℕ → Type 0
+CountsTexts b p n = (ps : List OwnedText) (t : Table) → IsTexts b p ps t → n ≡ length ps
+
+abbrev pub CountsTextPlaces : List ℕ → Place → ℕ → Type 0
+CountsTextPlaces b p n = (ps : List OwnedText) (t : Table) → IsTexts b p ps t → n ≡ t.capacity
+
+-- a vector without a place, whatever stood there
+abbrev pub StartsTexts : Cut → Cut → Place → Type 0
+StartsTexts old new p = IsTextsNow old new p [] [] [] no_table
+
+-- the text with i others before it, or a refusal where there are no more
+abbrev pub GetsText : Cut → Place → ℕ → Result (Bor (List ℕ)) Refusal → Type 0
+GetsText c p i result =
+    (ps : List OwnedText) (t : Table) → IsTexts c.bytes p ps t
+    → MatchResult result (λ (r : Bor (List ℕ)). option_map (λ (q : OwnedText). q.bytes) (slice_get ps i) ≡ Some r.now) (IsOutside c c (length ps) i)
+
+-- 16 bytes at an offset in a block are the element of a text
+pub record IsTextElement (b : List ℕ) (array at : ℕ) (q : OwnedText) : Type 0 where
+  pub heap : IsHeap current b
+  pub aligned : at % 8 ≡ 0
+  pub room : IsTrue (has_room (live_of b) array (at + 16))
+  pub link : link_at (bytes_of b) (array + at) ≡ option_map handle q.extent
+  pub len_word : word_at (bytes_of b) (array + at + 8) ≡ length q.bytes
+  pub owned : IsOwnedText (bytes_of b) q
+  pub held : IsHeldText (live_of b) q
+
+-- there is no space, and nothing changes, a lengthened array included
+pub record IsWithoutFit {A : Type 0} (old new : Cut) (met : Option A) (e : Refusal) : Type 0 where
+  pub refusal : e ≡ NoSpace
+  pub none : met ≡ None
+  pub same : new ≡ old
+
+-- one more with i others before it: the array's growth is asked for first, and then the text's block
+pub record IsTextPutIn (old new : Cut) (p : Place) (ps : List OwnedText) (t : Table) (i : ℕ) (bytes : List ℕ) : Type 0 where
+  pub table : Table
+  pub grown : grown_table (live_of old.bytes) 16 (capacity_for_one (length ps) t.capacity) t ≡ Some table
+  pub text : OwnedText
+  pub placed : placed_text (with_array (live_of old.bytes) t table) bytes ≡ Some text
+  pub now : IsTextsNow old new p (option_to_list t.extent) (option_to_list table.extent ++ option_to_list text.extent) (insert ps i text) table
+
+abbrev pub one_more : LiveSet → List OwnedText → Table → List ℕ → Option OwnedText
+one_more live ps t bytes = elim (grown_table live 16 (capacity_for_one (length ps) t.capacity) t) [ None ↦ None | Some u ↦ placed_text (with_array live t u) bytes ]
+
+abbrev pub PushesText : Cut → Cut → Place → List ℕ → Result (Unit {0}) Refusal → Type 0
+PushesText old new p bytes result =
+    (ps : List OwnedText) (t : Table) → IsTexts old.bytes p ps t
+    → MatchResult result (λ u. IsTextPutIn old new p ps t (length ps) bytes) (IsWithoutFit old new (one_more (live_of old.bytes) ps t bytes))
+
+abbrev pub InsertsText : Cut → Cut → Place → ℕ → List ℕ → Result (Unit {0}) Refusal → Type 0
+InsertsText old new p i bytes result =
+    (ps : List OwnedText) (t : Table) → IsTexts old.bytes p ps t
+    → MatchResult result (λ u. (i ≤ length ps) × IsTextPutIn old new p ps t i bytes)
+    (λ e. IsOutside old new (length ps + 1) i e ⊎ ((i ≤ length ps) × IsWithoutFit old new (one_more (live_of old.bytes) ps t bytes) e))
+
+-- another in the place of one, whose block is released once there is the new one
+pub record IsTextSet (old new : Cut) (p : Place) (ps : List OwnedText) (t : Table) (i : ℕ) (bytes : List ℕ) : Type 0 where
+  pub before : OwnedText
+  pub found : slice_get ps i ≡ Some before
+  pub text : OwnedText
+  pub placed : placed_text (live_of old.bytes) bytes ≡ Some text
+  pub now : IsTextsNow old new p (option_to_list t.extent ++ option_to_list before.extent) (option_to_list t.extent ++ option_to_list text.extent) (slice_set ps i text) t
+
+abbrev pub SetsText : Cut → Cut → Place → ℕ → List ℕ → Result (Unit {0}) Refusal → Type 0
+SetsText old new p i bytes result =
+    (ps : List OwnedText) (t : Table) → IsTexts old.bytes p ps t
+    → MatchResult result (λ u. IsTextSet old new p ps t i bytes)
+    (λ e. IsOutside old new (length ps) i e ⊎ ((i < length ps) × IsWithoutFit old new (placed_text (live_of old.bytes) bytes) e))
+
+-- one less, and its block is released; the array stays
+pub record IsTextLeftOut (old new : Cut) (p : Place) (ps : List OwnedText) (t : Table) (i : ℕ) : Type 0 where
+  pub before : OwnedText
+  pub found : slice_get ps i ≡ Some before
+  pub now : IsTextsNow old new p (option_to_list t.extent ++ option_to_list before.extent) (option_to_list t.extent) (remove ps i) t
+
+abbrev pub ErasesText : Cut → Cut → Place → ℕ → Result (Unit {0}) Refusal → Type 0
+ErasesText old new p i result =
+    (ps : List OwnedText) (t : Table) → IsTexts old.bytes p ps t → MatchResult result (λ u. IsTextLeftOut old new p ps t i) (IsOutside old new (length ps) i)
+
+abbrev pub PopsText : Cut → Cut → Place → Result (Unit {0}) Refusal → Type 0
+PopsText old new p result =
+    (ps : List OwnedText) (t : Table) → IsTexts old.bytes p ps t → MatchResult result (λ u. IsTextLeftOut old new p ps t (length ps - 1)) (IsOutside old new (length ps) 0)
+
+abbrev pub ReservesTexts : Cut → Cut → Place → ℕ → Result (Unit {0}) Refusal → Type 0
+ReservesTexts old new p n result =
+    (ps : List OwnedText) (t : Table) → IsTexts old.bytes p ps t
+    → MatchResult result
+    (λ u. (w : Table) × (grown_table (live_of old.bytes) 16 n t ≡ Some w) × IsTextsNow old new p (option_to_list t.extent) (option_to_list w.extent) ps w)
+    (IsWithoutFit old new (grown_table (live_of old.bytes) 16 n t))
+
+abbrev pub ShrinksTexts : Cut → Cut → Place → Type 0
+ShrinksTexts old new p =
+    (ps : List OwnedText) (t : Table) → IsTexts old.bytes p ps t → let u = cut_table (live_of old.bytes) 16 (length ps) t in
+    IsTextsNow old new p (option_to_list t.extent) (option_to_list u.extent) ps u
+
+-- no text: their blocks are released, and the array stays
+abbrev pub ClearsTexts : Cut → Cut → Place → Type 0
+ClearsTexts old new p =
+    (ps : List OwnedText) (t : Table) → IsTexts old.bytes p ps t → IsTextsNow old new p (option_to_list t.extent ++ text_blocks ps) (option_to_list t.extent) [] t
+
+abbrev pub ReleasesTexts : Cut → Cut → Place → Type 0
+ReleasesTexts old new p =
+    (ps : List OwnedText) (t : Table) → IsTexts old.bytes p ps t → IsTextsNow old new p (option_to_list t.extent ++ text_blocks ps) [] [] no_table
+
+-- one or more texts: a new array for just so many and then the texts, and then the old ones are released
+pub record AreTextsAssigned (old new : Cut) (p : Place) (ps : List OwnedText) (t : Table) (more : List (List ℕ)) : Type 0 where
+  pub table : Table
+  pub array : new_array (live_of old.bytes) (length more) ≡ Some table
+  pub texts : List OwnedText
+  pub placed : placed_texts (elim table.extent [ None ↦ live_of old.bytes | Some x ↦ resized (live_of old.bytes) x ]) more ≡ Some texts
+  pub now : IsTextsNow old new p (option_to_list t.extent ++ text_blocks ps) (option_to_list table.extent ++ text_blocks texts) texts table
+
+abbrev pub all_texts : LiveSet → List (List ℕ) → Option (List OwnedText)
+all_texts live more = elim (new_array live (length more)) [ None ↦ None | Some u ↦ placed_texts (elim u.extent [ None ↦ live | Some x ↦ resized live x ]) more ]
+
+abbrev pub AssignsTexts : Cut → Cut → Place → List (List ℕ) → Result (Unit {0}) Refusal → Type 0
+AssignsTexts old new p [] result = (result ≡ Ok tt) × ClearsTexts old new p
+AssignsTexts old new p (bytes ∷ more) result =
+    (ps : List OwnedText) (t : Table) → IsTexts old.bytes p ps t
+    → MatchResult result (λ u. AreTextsAssigned old new p ps t (bytes ∷ more)) (IsWithoutFit old new (all_texts (live_of old.bytes) (bytes ∷ more)))

@@ -1,0 +1,190 @@
+//! Texts: any bytes, one after another.
+ghost use Rattle.std.specs.Prelude.{◌≡◌, ◌+◌, ◌*◌, ◌%◌, ◌<◌, ◌≤◌, IsTrue};
+ghost use Rattle.raw_region.specs.Format.{current};
+ghost use Rattle.best_fit.specs.Heap.{IsHeap, has_room, live_of};
+ghost use Rattle.seg_vector.specs.TextCalls.{AppendsText, AssignsText, ClearsText, CountsBytePlaces, CountsBytes, GetsByte, IsSomeText, ReadsText, ReleasesText, ReservesBytes, SetsByte, ShrinksText, StartsText};
+ghost use Rattle.seg_vector.specs.Vector.{capacity_for_text as places_for_text};
+
+use crate::accessing::{elements, set_element, truncate};
+use crate::appending::extend;
+use crate::fitting::fit;
+use crate::growing::{self, LIMIT};
+use crate::places::{CAPACITY, LEN, Place};
+use crate::starting::{give_back, start};
+use best_fit::{Heap, NoSpace};
+use seg_types::Refusal;
+
+/// A text at a place in a heap: three words there (the link to its storage, its length and its capacity), and a block of
+/// storage for as many bytes as its capacity says. Without a place for a byte it has no block.
+///
+/// It is the place alone. Each call takes the heap anew, so that nothing is borrowed between two calls.
+#[derive(Clone, Copy, Debug)]
+pub struct SegString {
+    /// Where the three words stand.
+    pub place: Place,
+}
+
+/// The capacity that a text has for `len` bytes.
+fn capacity_for_text(len: u64, capacity: u64) -> u64
+    requires { 2 * capacity < 18446744073709551616 }
+    ensures { result ≡ places_for_text len capacity }
+{
+    if len <= capacity {
+        capacity
+    } else {
+        (2 * capacity).max(16).max(len)
+    }
+}
+
+impl SegString {
+    /// Makes a text without a byte and without a place of the 24 bytes at a place: a multiple of 8 in a block in use.
+    pub fn new(heap: &mut Heap, place: Place) -> SegString
+        requires heap { IsHeap current heap.old.bytes }
+        requires aligned { place.at % 8 ≡ 0 }
+        requires room { IsTrue (has_room (live_of heap.old.bytes) place.handle (place.at + 24)) }
+        ensures place { result.place ≡ place }
+        ensures text { StartsText heap.old heap.new place }
+    {
+        start(heap, place);
+        SegString { place }
+    }
+
+    /// The number of bytes.
+    pub fn len(self, heap: &Heap) -> u64
+        requires { IsSomeText heap.now.bytes self.place }
+        ensures { CountsBytes heap.now.bytes self.place result }
+    {
+        heap.word(self.place.handle, self.place.at + LEN)
+    }
+
+    /// The number of bytes that the storage has places for.
+    pub fn capacity(self, heap: &Heap) -> u64
+        requires { IsSomeText heap.now.bytes self.place }
+        ensures { CountsBytePlaces heap.now.bytes self.place result }
+    {
+        heap.word(self.place.handle, self.place.at + CAPACITY)
+    }
+
+    /// All bytes.
+    pub fn as_bytes(self, heap: &Heap) -> &[u8]
+        requires { IsSomeText heap.now.bytes self.place }
+        ensures { ReadsText heap.now.bytes self.place result.now }
+    {
+        elements(heap, self.place, 1)
+    }
+
+    /// The byte with `index` others before it.
+    ///
+    /// # Errors
+    ///
+    /// `OutOfRange` where there are not so many.
+    pub fn get(self, heap: &Heap, index: u64) -> Result<u8, Refusal>
+        requires { IsSomeText heap.now.bytes self.place }
+        ensures { GetsByte heap.now self.place index result }
+    {
+        match self.as_bytes(heap).get(index as usize) {
+            None => Err(Refusal::OutOfRange),
+            Some(&byte) => Ok(byte),
+        }
+    }
+
+    /// Writes over the byte with `index` others before it.
+    ///
+    /// # Errors
+    ///
+    /// `OutOfRange` where there are not so many. Nothing changes.
+    pub fn set(self, heap: &mut Heap, index: u64, byte: u8) -> Result<(), Refusal>
+        requires { IsSomeText heap.old.bytes self.place }
+        ensures { SetsByte heap.old heap.new self.place index byte result }
+    {
+        if index >= self.len(heap) {
+            return Err(Refusal::OutOfRange);
+        }
+        set_element(heap, self.place, 1, index, &[byte]);
+        Ok(())
+    }
+
+    /// Makes places for `n` bytes, where there are fewer. The bytes stay.
+    ///
+    /// # Errors
+    ///
+    /// `NoSpace` where there are fewer and the storage cannot be regrown. Nothing changes.
+    pub fn reserve(self, heap: &mut Heap, n: u64) -> Result<(), Refusal>
+        requires { IsSomeText heap.old.bytes self.place }
+        ensures { ReservesBytes heap.old heap.new self.place n result }
+    {
+        match growing::reserve(heap, self.place, 1, n) {
+            Err(NoSpace) => Err(Refusal::NoSpace),
+            Ok(()) => Ok(()),
+        }
+    }
+
+    /// Leaves these bytes in place of those that there are. There are places for just so many, where there were fewer.
+    ///
+    /// # Errors
+    ///
+    /// `NoSpace` where there are fewer places and the storage cannot be regrown. Nothing changes.
+    pub fn assign(self, heap: &mut Heap, bytes: &[u8]) -> Result<(), Refusal>
+        requires { IsSomeText heap.old.bytes self.place }
+        ensures { AssignsText heap.old heap.new self.place bytes.now result }
+    {
+        match growing::reserve(heap, self.place, 1, bytes.len() as u64) {
+            Err(NoSpace) => Err(Refusal::NoSpace),
+            Ok(()) => {
+                self.clear(heap);
+                extend(heap, self.place, bytes);
+                Ok(())
+            }
+        }
+    }
+
+    /// Puts bytes behind the last one. Where there are not places for all of them, there are twice as many as before, and at
+    /// least 16, and as many as are needed.
+    ///
+    /// # Errors
+    ///
+    /// `NoSpace` where there are fewer places and the storage cannot be regrown. Nothing changes.
+    pub fn append(self, heap: &mut Heap, bytes: &[u8]) -> Result<(), Refusal>
+        requires { IsSomeText heap.old.bytes self.place }
+        ensures { AppendsText heap.old heap.new self.place bytes.now result }
+    {
+        let more = bytes.len() as u64;
+        if more > LIMIT {
+            return Err(Refusal::NoSpace);
+        }
+        let needed = self.len(heap) + more;
+        let wanted = capacity_for_text(needed, self.capacity(heap));
+        match growing::reserve(heap, self.place, 1, wanted) {
+            Err(NoSpace) => Err(Refusal::NoSpace),
+            Ok(()) => {
+                extend(heap, self.place, bytes);
+                Ok(())
+            }
+        }
+    }
+
+    /// Makes the capacity the number of bytes. The storage is shortened to it, as far as a block can be, and given back where
+    /// there is no byte.
+    pub fn shrink(self, heap: &mut Heap)
+        requires { IsSomeText heap.old.bytes self.place }
+        ensures { ShrinksText heap.old heap.new self.place }
+    {
+        fit(heap, self.place, 1);
+    }
+
+    /// Leaves no byte. The places stay.
+    pub fn clear(self, heap: &mut Heap)
+        requires { IsSomeText heap.old.bytes self.place }
+        ensures { ClearsText heap.old heap.new self.place }
+    {
+        truncate(heap, self.place, 1, 0);
+    }
+
+    /// Gives the storage back. There is no byte and no place then.
+    pub fn release(self, heap: &mut Heap)
+        requires { IsSomeText heap.old.bytes self.place }
+        ensures { ReleasesText heap.old heap.new self.place }
+    {
+        give_back(heap, self.place, 1);
+    }
+}

@@ -1,0 +1,117 @@
+//! What objects say of themselves: of one all of it, and of those under names or of unique kinds a line for each.
+ghost use Rattle.std.specs.Prelude.{◌≡◌, ◌-◌, ◌^◌, ◌<◌, ◌∷◌, ◌++◌};
+ghost use Rattle.raw_region.specs.Device.{Writes};
+ghost use Rattle.seg_types.specs.Keys.{key_seen};
+ghost use Rattle.segment_lang.specs.Texts.{name_text};
+ghost use Rattle.segment_manager.specs.Answers.{Kinds, Names};
+ghost use Rattle.segment_manager.specs.Directory.{Object, named_objects, unique_objects};
+ghost use Rattle.segment_manager.specs.State.{StandsFor};
+ghost use Rattle.segment_cli.specs.Answer.{answer_text, class_words, entry_words, line};
+ghost use Rattle.segment_cli.specs.Parts.{line_part, said_words};
+ghost use Rattle.segment_cli.specs.Replies.{told_at};
+ghost use Rattle.segment_cli.specs.Writing.{WritesFor};
+
+use raw_region::{DeviceFault, Sink};
+use seg_types::{Class, Key};
+use segment_lang::{Piece, put_pieces};
+use segment_manager::{Instance, Segment};
+
+/// Writes what the object of a key says of itself, or that there is none.
+pub fn put_told<W: Sink>(segment: &Segment, key: &Key, out: &mut W) -> Result<(), DeviceFault>
+    requires { (W.history out.old).failures < 2 ^ 64 - 1 }
+    ensures { WritesFor (W.history out.old) (W.history out.new) result (StandsFor segment.now.cut.bytes)
+        (λ d. answer_text (told_at d (key_seen key.now))) }
+{
+    match segment.instance(key) {
+        Ok(said) => put_instance(said, out),
+        Err(refusal) => put_pieces(out, &[Piece::Refusal(refusal), Piece::Bytes(b"\n")]),
+    }
+}
+
+/// Writes a class, a name or `-`, a kind, a count and a handle.
+fn put_instance<W: Sink>(said: Instance<'_>, out: &mut W) -> Result<(), DeviceFault>
+    requires { (W.history out.old).failures < 2 ^ 64 - 1 }
+    ensures { Writes (W.history out.old) (W.history out.new) result (line (class_words said.entry.class said.entry.name.now ++ said_words said.entry)) }
+{
+    let (class, name): (&[u8], Piece<'_>) = match said.class {
+        Class::Named => (b"named ", Piece::Name(said.name)),
+        Class::Unique => (b"unique ", Piece::Bytes(b"-")),
+        Class::Anonymous => (b"anonymous ", Piece::Bytes(b"-")),
+    };
+    put_pieces(
+        out,
+        &[
+            Piece::Bytes(class),
+            name,
+            Piece::Bytes(b" "),
+            Piece::Kind(said.kind),
+            Piece::Bytes(b" "),
+            Piece::Number(u64::from(said.count)),
+            Piece::Bytes(b" #"),
+            Piece::Number(said.handle),
+            Piece::Bytes(b"\n"),
+        ],
+    )
+}
+
+/// Writes a line for each object with a name, by name, and then `end`.
+pub fn put_names<W: Sink>(segment: &Segment, out: &mut W) -> Result<(), DeviceFault>
+    requires { (W.history out.old).failures < 2 ^ 64 - 1 }
+    ensures { WritesFor (W.history out.old) (W.history out.new) result (StandsFor segment.now.cut.bytes)
+        (λ d. answer_text (Names (named_objects d))) }
+{
+    'names: for index in 0..segment.num_named() {
+        put_named(segment.named_instance(index), out)?;
+    }
+    put_pieces(out, &[Piece::Bytes(b"end\n")])
+}
+
+/// Writes the line of an object with a name.
+fn put_named<W: Sink>(said: Instance<'_>, out: &mut W) -> Result<(), DeviceFault>
+    requires { (W.history out.old).failures < 2 ^ 64 - 1 }
+    ensures { Writes (W.history out.old) (W.history out.new) result (line (name_text said.entry.name.now ∷ said_words said.entry)) }
+{
+    put_pieces(
+        out,
+        &[
+            Piece::Name(said.name),
+            Piece::Bytes(b" "),
+            Piece::Kind(said.kind),
+            Piece::Bytes(b" "),
+            Piece::Number(u64::from(said.count)),
+            Piece::Bytes(b" #"),
+            Piece::Number(said.handle),
+            Piece::Bytes(b"\n"),
+        ],
+    )
+}
+
+/// Writes a line for each unique object, by kind, and then `end`.
+pub fn put_kinds<W: Sink>(segment: &Segment, out: &mut W) -> Result<(), DeviceFault>
+    requires { (W.history out.old).failures < 2 ^ 64 - 1 }
+    ensures { WritesFor (W.history out.old) (W.history out.new) result (StandsFor segment.now.cut.bytes)
+        (λ d. answer_text (Kinds (unique_objects d))) }
+{
+    'kinds: for index in 0..segment.num_unique() {
+        put_unique(segment.unique_instance(index), out)?;
+    }
+    put_pieces(out, &[Piece::Bytes(b"end\n")])
+}
+
+/// Writes the line of a unique object.
+fn put_unique<W: Sink>(said: Instance<'_>, out: &mut W) -> Result<(), DeviceFault>
+    requires { (W.history out.old).failures < 2 ^ 64 - 1 }
+    ensures { Writes (W.history out.old) (W.history out.new) result (line (said_words said.entry)) }
+{
+    put_pieces(
+        out,
+        &[
+            Piece::Kind(said.kind),
+            Piece::Bytes(b" "),
+            Piece::Number(u64::from(said.count)),
+            Piece::Bytes(b" #"),
+            Piece::Number(said.handle),
+            Piece::Bytes(b"\n"),
+        ],
+    )
+}

@@ -1,0 +1,178 @@
+-- What stands behind a command word, read one word after another.
+use Rattle.std.proofs.Common.{◌≡◌, ℕ, ℤ, Bool, true, false, cond, List, [], ◌∷◌, Option, Some, None, ap, sym, refl, ◌∙◌, ◌==◌, replicate, length}
+use Rattle.std.specs.Option.{option_map, option_and_then}
+use Rattle.seg_types.specs.declared.kinds.Kind.{Kind}
+use Rattle.seg_types.specs.declared.kinds.Kind.TheVariants.{Scalar, Text, Vector, Map, Texts}
+use Rattle.seg_types.specs.declared.kinds.ScalarKind.{ScalarKind}
+use Rattle.seg_types.specs.declared.values.ScalarValue.{ScalarValue}
+use Rattle.seg_types.specs.Names.{Key}
+use Rattle.seg_types.specs.Kinds.{is_value}
+use Rattle.seg_types.specs.Values.{kind_of_scalar, scalar_of, value_of_scalar}
+use Rattle.seg_types.proofs.Laws.{scalar_of-kind, scalar_of-value}
+use Rattle.seg_types.specs.Commands.{Command, ConstructIt, Content, Literal, Numbers, UnknownCommand, DestroyPtr}
+use Rattle.segment_lang.specs.Words as said
+use Rattle.segment_lang.specs.Words.{Word, Bare, literal_of_word, number_of, words}
+use Rattle.segment_lang.specs.Language.{Language, supported}
+use Rattle.segment_lang.specs.Reading.{Form, Reader, all, alone, as_reading, command_line, content, counted_kind, destroying_ptr, each, finding, for_kind, form_of, items, making, making_each, new_key, value_for, with_key, with_key_number, with_key_number_literal, with_number}
+use Rattle.segment_lang.specs.Tokens.{at_end, behind_word, next_two, only_word, up_to_blank}
+use Rattle.segment_lang.specs.Arguments.{Written, counted_values, handle_of, making_at, making_each_at, numbers_at, of_one, of_two, of_three, scalar_at, scalar_in, written}
+use Rattle.segment_lang.proofs.WordList.{take_end, take_only}
+use Rattle.segment_lang.proofs.ArrayValues.{word-value}
+use Rattle.segment_lang.proofs.WordReaders.{take_two, take_three, take_next_two}
+
+-- ---- nothing, one word, two, three
+
+pub alone_at_end : (c : Command) (bytes : List ℕ) → option_and_then (alone c supported) (words bytes) ≡ cond (at_end bytes) (Some c) None
+alone_at_end c bytes = take_end (alone c supported) (λ w ws. refl) bytes
+
+pub of_key : (f : Key → Command) (key_in : Language → Word → Option Key) (bytes : List ℕ) → option_and_then (with_key f key_in supported) (words bytes) ≡ of_one (with_key f key_in) bytes
+of_key f key_in bytes = take_only (with_key f key_in supported) refl (λ w v ws. refl) bytes
+
+pub of_number : (f : ℕ → Command) (bytes : List ℕ) → option_and_then (with_number f supported) (words bytes) ≡ of_one (with_number f) bytes
+of_number f bytes = take_only (with_number f supported) refl (λ w v ws. refl) bytes
+
+pub of_key_number : (f : Key → ℕ → Command) (bytes : List ℕ) → option_and_then (with_key_number f supported) (words bytes) ≡ of_two (with_key_number f) bytes
+of_key_number f bytes = take_two (with_key_number f supported) refl (λ w. refl) (λ w v u ws. refl) bytes
+
+pub of_finding : (bytes : List ℕ) → option_and_then (finding supported) (words bytes) ≡ of_two finding bytes
+of_finding bytes = take_two (finding supported) refl (λ w. refl) (λ w v u ws. refl) bytes
+
+pub of_key_number_literal : (f : Key → ℕ → Literal → Command) (bytes : List ℕ) → option_and_then (with_key_number_literal f supported) (words bytes) ≡ of_three (with_key_number_literal f) bytes
+of_key_number_literal f bytes = take_three (with_key_number_literal f supported) refl (λ w. refl) (λ w v. refl) (λ w v u t ws. refl) bytes
+
+-- ---- a handle
+
+no_ptr : (w v : Word) (ws : List Word) → destroying_ptr supported (w ∷ v ∷ ws) ≡ None
+no_ptr (said.Text bs) v ws = refl
+no_ptr (Bare []) v ws = refl
+no_ptr (Bare (c ∷ cs)) v ws = refl
+
+ptr_if : (b : Bool) (n : Option ℕ) → cond b (option_map DestroyPtr n) None ≡ option_map DestroyPtr (cond b n None)
+ptr_if true n = refl
+ptr_if false n = refl
+
+ptr_word : (w : Word) → destroying_ptr supported (w ∷ []) ≡ option_map DestroyPtr (handle_of w)
+ptr_word (said.Text bs) = refl
+ptr_word (Bare []) = refl
+ptr_word (Bare (c ∷ cs)) = ptr_if (c == 0x23) (number_of cs)
+
+ptr : (x : Option Word) → option_and_then (λ w. destroying_ptr supported (w ∷ [])) x ≡ option_map DestroyPtr (option_and_then handle_of x)
+ptr None = refl
+ptr (Some w) = ptr_word w
+
+pub of_handle : (bytes : List ℕ) → option_and_then (destroying_ptr supported) (words bytes) ≡ option_map DestroyPtr (option_and_then handle_of (only_word bytes))
+of_handle bytes = take_only (destroying_ptr supported) refl no_ptr bytes ∙ ptr (only_word bytes)
+
+-- ---- a value
+
+pub scalar_content : (k : ScalarKind) (n : ℕ) (bytes : List ℕ) → option_and_then (content (Scalar k) n) (words bytes) ≡ scalar_at k n bytes
+unfolding scalar_at
+scalar_content k n bytes = take_only (content (Scalar k) n) refl (λ w v ws. refl) bytes
+
+one_scalar : (k : ScalarKind) (n : ℕ) (o : Option ℤ) (v : ScalarValue) → Some v ≡ option_map (scalar_of k) o → ((z : ℤ) → o ≡ Some z → is_value k z ≡ true) → Some (Numbers (kind_of_scalar v) (replicate n (value_of_scalar v))) ≡ option_map (λ z. Numbers k (replicate n z)) o
+one_scalar k n None v h f = cc
+one_scalar k n (Some z) v h f =
+    let e : v ≡ scalar_of k z = cc in
+    let kind : kind_of_scalar v ≡ k = ap kind_of_scalar e ∙ scalar_of-kind k z in
+    let value : value_of_scalar v ≡ z = ap value_of_scalar e ∙ scalar_of-value k z (f z refl) in
+    ap (λ k. Some (Numbers k (replicate n (value_of_scalar v)))) kind ∙ ap (λ z. Some (Numbers k (replicate n z))) value
+
+-- the value that is read is what the scalars are made with
+pub scalar_read : (k : ScalarKind) (n : ℕ) (bytes : List ℕ) (w : Word) (v : ScalarValue) → Some w ≡ only_word bytes → Some v ≡ option_map (scalar_of k) (value_for k w) → Some (Numbers (kind_of_scalar v) (replicate n (value_of_scalar v))) ≡ scalar_at k n bytes
+unfolding scalar_at
+scalar_read k n bytes w v h e = one_scalar k n (value_for k w) v e (word-value k (literal_of_word w)) ∙ ap (option_and_then (λ x. content (Scalar k) n (x ∷ []))) h
+
+-- ---- a kind, a key, and what an object is made with
+
+made : (make : Key → Content → Command) (key : Key) (made_with : Option Content) → option_map (make key) made_with ≡ option_and_then (λ m. Some (make key m)) made_with
+made make key None = refl
+made make key (Some m) = refl
+
+made_under : (make : Key → Content → Command) (key : Option Key) (made_with : Option Content) → option_and_then (λ key. option_map (make key) made_with) key ≡ option_and_then (λ key. option_and_then (λ m. Some (make key m)) made_with) key
+made_under make None m = refl
+made_under make (Some key) m = made make key m
+
+nothing_made : (make : Key → Content → Command) (key : Option Key) → None ≡ option_and_then (λ key. option_and_then (λ m. Some (make key m)) None) key
+nothing_made make None = refl
+nothing_made make (Some key) = refl
+
+arguments : (make : Key → Content → Command) (args : Option (List Word)) (kind : Option (Kind × ℕ)) (key : Option Key) → option_and_then (λ args. option_and_then (λ (k, n). option_and_then (λ key. option_map (make key) (content k n args)) (for_kind k key)) kind) args ≡ option_and_then (λ k. option_and_then (λ key. option_and_then (λ m. Some (make key m)) (option_and_then (content k.0 k.1) args)) (for_kind k.0 key)) kind
+arguments make None None key = refl
+arguments make None (Some (k, n)) key = nothing_made make (for_kind k key)
+arguments make (Some args) None key = refl
+arguments make (Some args) (Some (k, n)) key = made_under make (for_kind k key) (content k n args)
+
+pub of_making : (make : Key → Content → Command) (key_in : Language → Word → Option Key) (bytes : List ℕ) → option_and_then (making make key_in supported) (words bytes) ≡ making_at make key_in bytes
+unfolding making_at
+of_making make key_in bytes = take_next_two (making make key_in supported) refl (λ w. refl) bytes ∙ go (next_two bytes)
+  where
+    go : (x : Option (Word × Word × List ℕ)) → option_and_then (λ x. option_and_then (λ ws. making make key_in supported (x.0 ∷ x.1 ∷ ws)) (words x.2)) x ≡ option_and_then (λ x. option_and_then (λ k. option_and_then (λ key. option_and_then (λ m. Some (make key m)) (option_and_then (content k.0 k.1) (words x.2))) (for_kind k.0 (key_in supported x.1))) (counted_kind supported x.0)) x
+    go None = refl
+    go (Some (kind, key, r)) = arguments make (words r) (counted_kind supported kind) (key_in supported key)
+
+-- ---- a scalar kind, a key, and as many values
+
+no_values : (k : Kind) (n : ℕ) (key : Key) → None ≡ option_and_then {U = Command} (λ kind. option_and_then (λ zs. items n kind key zs) None) (scalar_in k)
+no_values (Scalar k) n key = refl
+no_values Text n key = refl
+no_values (Vector k) n key = refl
+no_values (Map k v) n key = refl
+no_values Texts n key = refl
+
+the_values : (vs : List Word) (k : Kind) (n : ℕ) (key : Key) → each vs k n key ≡ option_and_then (λ kind. option_and_then (λ zs. items n kind key zs) (all (value_for kind) vs)) (scalar_in k)
+the_values vs (Scalar k) n key = refl
+the_values vs Text n key = refl
+the_values vs (Vector k) n key = refl
+the_values vs (Map k v) n key = refl
+the_values vs Texts n key = refl
+
+no_values_under : (k : Kind) (n : ℕ) (key : Option Key) → None ≡ option_and_then (λ key. option_and_then {U = Command} (λ kind. option_and_then (λ zs. items n kind key zs) None) (scalar_in k)) key
+no_values_under k n None = refl
+no_values_under k n (Some key) = no_values k n key
+
+the_values_under : (vs : List Word) (k : Kind) (n : ℕ) (key : Option Key) → option_and_then (λ key. each vs k n key) key ≡ option_and_then (λ key. option_and_then (λ kind. option_and_then (λ zs. items n kind key zs) (all (value_for kind) vs)) (scalar_in k)) key
+the_values_under vs k n None = refl
+the_values_under vs k n (Some key) = the_values vs k n key
+
+each_argument : (args : Option (List Word)) (kind : Option (Kind × ℕ)) (key : Option Key) → option_and_then (λ args. option_and_then (λ (k, n). option_and_then (λ key. each args k n key) (for_kind k key)) kind) args ≡ option_and_then (λ k. option_and_then (λ key. option_and_then (λ kind. option_and_then (λ zs. items k.1 kind key zs) (option_and_then (all (value_for kind)) args)) (scalar_in k.0)) (for_kind k.0 key)) kind
+each_argument None None key = refl
+each_argument None (Some (k, n)) key = no_values_under k n (for_kind k key)
+each_argument (Some args) None key = refl
+each_argument (Some args) (Some (k, n)) key = the_values_under args k n (for_kind k key)
+
+pub of_making_each : (bytes : List ℕ) → option_and_then (making_each supported) (words bytes) ≡ making_each_at bytes
+unfolding making_each_at numbers_at
+of_making_each bytes = take_next_two (making_each supported) refl (λ w. refl) bytes ∙ go (next_two bytes)
+  where
+    go : (x : Option (Word × Word × List ℕ)) → option_and_then (λ x. option_and_then (λ ws. making_each supported (x.0 ∷ x.1 ∷ ws)) (words x.2)) x ≡ option_and_then (λ x. option_and_then (λ k. option_and_then (λ key. option_and_then (λ kind. option_and_then (λ zs. items k.1 kind key zs) (option_and_then (all (value_for kind)) (words x.2))) (scalar_in k.0)) (for_kind k.0 (new_key supported x.1))) (counted_kind supported x.0)) x
+    go None = refl
+    go (Some (kind, key, r)) = each_argument (words r) (counted_kind supported kind) (new_key supported key)
+
+if_as_many : (b : Bool) (k : ScalarKind) (n : ℕ) (key : Key) (zs : List ℤ) (w : Written) → Some w ≡ cond b (Some (written k zs)) None → Some (ConstructIt key w.kind n w.numbers) ≡ cond b (Some (ConstructIt key k n zs)) None
+if_as_many true k n key zs w h = let e : w ≡ written k zs = cc in ap (λ (w : Written). Some (ConstructIt key w.kind n w.numbers)) e
+if_as_many false k n key zs w h = cc
+
+as_many : (k : ScalarKind) (n : ℕ) (key : Key) (o : Option (List ℤ)) (w : Written) → Some w ≡ option_and_then (λ zs. cond (length zs == n) (Some (written k zs)) None) o → Some (ConstructIt key w.kind n w.numbers) ≡ option_and_then (λ zs. items n k key zs) o
+as_many k n key None w h = cc
+as_many k n key (Some zs) w h = if_as_many (length zs == n) k n key zs w h
+
+-- what is read of each part is the command
+pub each_read : (bytes r : List ℕ) (w v : Word) (kind : Kind) (k : ScalarKind) (n : ℕ) (key : Key) (x : Written) → Some (w, v, r) ≡ next_two bytes → Some (kind, n) ≡ counted_kind supported w → Some key ≡ for_kind kind (new_key supported v) → kind ≡ Scalar k → Some x ≡ counted_values k n r → Some (ConstructIt key x.kind n x.numbers) ≡ making_each_at bytes
+unfolding making_each_at
+each_read bytes r w v kind k n key x a b d e f =
+    as_many k n key (numbers_at k r) x f
+    ∙ ap (λ kind. option_and_then (λ kind. option_and_then (λ zs. items n kind key zs) (numbers_at kind r)) (scalar_in kind)) (sym e)
+    ∙ ap (λ key. option_and_then (λ key. option_and_then (λ kind. option_and_then (λ zs. items n kind key zs) (numbers_at kind r)) (scalar_in kind)) key) d
+    ∙ ap (λ k. option_and_then (λ k. option_and_then (λ key. option_and_then (λ kind. option_and_then (λ zs. items k.1 kind key zs) (numbers_at kind r)) (scalar_in k.0)) (for_kind k.0 (new_key supported v))) k) b
+    ∙ ap (λ x. option_and_then (λ x. option_and_then (λ k. option_and_then (λ key. option_and_then (λ kind. option_and_then (λ zs. items k.1 kind key zs) (numbers_at kind x.2)) (scalar_in k.0)) (for_kind k.0 (new_key supported x.1))) (counted_kind supported x.0)) x) a
+
+-- ---- the command word
+
+known : (form : Option Form) (reader : Reader) (rest : List ℕ) → Some reader ≡ option_map (λ (f : Form). f.1) form → elim form [ None ↦ UnknownCommand | Some f ↦ as_reading (option_and_then (f.1 supported) (words rest)) ] ≡ as_reading (option_and_then (reader supported) (words rest))
+known None reader rest h = cc
+known (Some f) reader rest h = let e : reader ≡ f.1 = cc in sym (ap (λ (r : Reader). as_reading (option_and_then (r supported) (words rest))) e)
+
+-- a line that begins with a command word is read by the form of the command
+pub known_command : (line first rest : List ℕ) (reader : Reader) (x : Option Command) → (length line == 0) ≡ false → first ≡ up_to_blank line → rest ≡ behind_word line → Some reader ≡ option_map (λ (f : Form). f.1) (form_of supported first) → x ≡ option_and_then (reader supported) (words rest) → as_reading x ≡ command_line supported line
+known_command [] first rest reader x h f r k e = cc
+known_command (c ∷ cs) first rest reader x h f r k e = ap as_reading e ∙ ap (λ rest. as_reading (option_and_then (reader supported) (words rest))) r ∙ sym (known (form_of supported (up_to_blank (c ∷ cs))) reader (behind_word (c ∷ cs)) (k ∙ ap (λ first. option_map (λ (f : Form). f.1) (form_of supported first)) f))

@@ -1,0 +1,147 @@
+//! Commands by the form of what stands behind their word.
+
+ghost use Rattle.std.specs.Prelude.{◌≡◌, Some, None, option_and_then, option_map, if◌then◌else◌};
+ghost use Rattle.seg_types.specs.Commands as asked;
+ghost use Rattle.segment_lang.specs.Reading.{finding, key_of, name_key, new_key, with_key, with_key_number, with_key_number_literal, with_number};
+ghost use Rattle.segment_lang.specs.Tokens.{at_end, only_word};
+ghost use Rattle.segment_lang.specs.Arguments.{handle_of, making_at, making_each_at, of_one, of_three, of_two};
+ghost use Rattle.segment_lang.specs.Seen.{command_of};
+
+use crate::blanks::at_end;
+use crate::commands::Command;
+use crate::contents::read_content;
+use crate::keys::{handle_of, index_key, index_key_for, key_of, new_key_for};
+use crate::kinds::{counted_kind, kind_of_word};
+use crate::literals::literal_of;
+use crate::numbers::number;
+use crate::values::read_values;
+use crate::words::{next_two, only_word, three_words, two_words};
+use seg_types::Kind;
+
+/// A kind with a count, a key and one value.
+#[tactic(auto, unfolding(crate::specs::Arguments::making_at))]
+pub fn read_construct(bytes: &[u8]) -> Option<Command<'_>>
+    ensures { option_map command_of result ≡ making_at asked.Construct new_key bytes.now }
+{
+    let (kind, key, rest) = next_two(bytes)?;
+    let (kind, count) = counted_kind(kind)?;
+    let key = new_key_for(kind, key)?;
+    let content = read_content(kind, count, rest)?;
+    Some(Command::Construct { key, content })
+}
+
+/// A kind with a count, an entry of an index and one value.
+#[tactic(auto, unfolding(crate::specs::Arguments::making_at))]
+pub fn read_find_or_construct(bytes: &[u8]) -> Option<Command<'_>>
+    ensures { option_map command_of result ≡ making_at asked.FindOrConstruct name_key bytes.now }
+{
+    let (kind, key, rest) = next_two(bytes)?;
+    let (kind, count) = counted_kind(kind)?;
+    let key = index_key_for(kind, key)?;
+    let content = read_content(kind, count, rest)?;
+    Some(Command::FindOrConstruct { key, content })
+}
+
+/// A kind with a count, a key and as many values.
+#[tactic(auto, unfolding(crate::specs::Arguments::making_each_at))]
+pub fn read_construct_it(bytes: &[u8]) -> Option<Command<'_>>
+    ensures { option_map command_of result ≡ making_each_at bytes.now }
+{
+    let (kind, key, rest) = next_two(bytes)?;
+    let (kind, count) = counted_kind(kind)?;
+    let key = new_key_for(kind, key)?;
+    let Kind::Scalar(kind) = kind else {
+        return None;
+    };
+    let values = read_values(kind, count, rest)?;
+    Some(Command::ConstructIt { key, count, values })
+}
+
+/// A kind and an entry of an index.
+pub fn read_find(bytes: &[u8]) -> Option<Command<'_>>
+    ensures { option_map command_of result ≡ of_two finding bytes.now }
+{
+    let (kind, key) = two_words(bytes)?;
+    let kind = kind_of_word(kind)?;
+    let key = index_key_for(kind, key)?;
+    Some(Command::Find { kind, key })
+}
+
+/// An entry of an index.
+pub fn read_destroy(bytes: &[u8]) -> Option<Command<'_>>
+    ensures { option_map command_of result ≡ of_one (with_key asked.Destroy name_key) bytes.now }
+{
+    let word = only_word(bytes)?;
+    Some(Command::Destroy(index_key(word)?))
+}
+
+/// A handle.
+pub fn read_destroy_ptr(bytes: &[u8]) -> Option<Command<'_>>
+    ensures { option_map command_of result ≡ option_map asked.DestroyPtr (option_and_then handle_of (only_word bytes.now)) }
+{
+    let word = only_word(bytes)?;
+    Some(Command::DestroyPtr(handle_of(word)?))
+}
+
+/// A key, of an object that is shown.
+pub fn read_show(bytes: &[u8]) -> Option<Command<'_>>
+    ensures { option_map command_of result ≡ of_one (with_key asked.Show key_of) bytes.now }
+{
+    let word = only_word(bytes)?;
+    Some(Command::Show(key_of(word)?))
+}
+
+/// A key, of an object of which is told what it is.
+pub fn read_info(bytes: &[u8]) -> Option<Command<'_>>
+    ensures { option_map command_of result ≡ of_one (with_key asked.Info key_of) bytes.now }
+{
+    let word = only_word(bytes)?;
+    Some(Command::Info(key_of(word)?))
+}
+
+/// A key and a number.
+pub fn read_get(bytes: &[u8]) -> Option<Command<'_>>
+    ensures { option_map command_of result ≡ of_two (with_key_number asked.Get) bytes.now }
+{
+    let (key, index) = two_words(bytes)?;
+    let key = key_of(key)?;
+    let index = number(index)?;
+    Some(Command::Get { key, index })
+}
+
+/// A key, a number and a value.
+pub fn read_set(bytes: &[u8]) -> Option<Command<'_>>
+    ensures { option_map command_of result ≡ of_three (with_key_number_literal asked.Set) bytes.now }
+{
+    let (key, index, value) = three_words(bytes)?;
+    let key = key_of(key)?;
+    let index = number(index)?;
+    let value = literal_of(value)?;
+    Some(Command::Set { key, index, value })
+}
+
+/// A number, of entries in the index of names.
+pub fn read_reserve_named(bytes: &[u8]) -> Option<Command<'_>>
+    ensures { option_map command_of result ≡ of_one (with_number asked.ReserveNamed) bytes.now }
+{
+    let word = only_word(bytes)?;
+    Some(Command::ReserveNamed(number(word)?))
+}
+
+/// A number, of entries in the index of unique kinds.
+pub fn read_reserve_unique(bytes: &[u8]) -> Option<Command<'_>>
+    ensures { option_map command_of result ≡ of_one (with_number asked.ReserveUnique) bytes.now }
+{
+    let word = only_word(bytes)?;
+    Some(Command::ReserveUnique(number(word)?))
+}
+
+/// The command, where nothing stands behind its word.
+pub fn read_alone<'a>(command: Command<'a>, bytes: &[u8]) -> Option<Command<'a>>
+    ensures { option_map command_of result ≡ (if at_end bytes.now then Some (command_of command.entry) else None) }
+{
+    if !at_end(bytes) {
+        return None;
+    }
+    Some(command)
+}

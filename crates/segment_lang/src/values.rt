@@ -1,0 +1,86 @@
+//! The values of an array as a line writes them.
+
+ghost use Rattle.std.specs.Prelude.{◌≡◌, length, option_map, IsTrue};
+ghost use Rattle.std.specs.List.{AllByRecursion};
+ghost use Rattle.std.specs.Iterator.{YieldsFirst, item_count};
+ghost use Rattle.seg_types.specs.Kinds.{is_value};
+ghost use Rattle.segment_lang.specs.Arguments.{counted_values, numbers_at, scalars_in};
+
+use crate::blanks::at_end;
+use crate::literals::scalar_of;
+use crate::words::next_word;
+use seg_types::{ScalarKind, ScalarValue};
+use std::marker::Model;
+
+/// Values of one kind. They are read from the line when they are asked for, in order.
+#[derive(Drop)]
+pub struct Values<'a> {
+    kind: ScalarKind,
+    // What of the line is left: each word of it is a value of the kind.
+    behind: &'a [u8],
+}
+
+impl<'a> Model for Values<'a> {
+    ghost use Rattle.std.specs.Prelude.{IsSome};
+    ghost use Rattle.segment_lang.specs.Arguments.{Written, numbers_at, values_in};
+
+    ghost Value = { Written };
+
+    ghost view = { λ v. values_in v.kind v.behind.now };
+
+    ghost invariant = { λ v. IsSome (numbers_at v.kind v.behind.now) };
+}
+
+impl Values<'_> {
+    /// The kind of the values.
+    pub fn kind(&self) -> ScalarKind
+        ensures kind { result ≡ self.now.kind }
+        ensures values { AllByRecursion (λ z. IsTrue (is_value result z)) self.now.numbers }
+    {
+        self.kind
+    }
+}
+
+impl Iterator for Values<'_> {
+    type Item = ScalarValue;
+
+    ghost next_gives = { YieldsFirst scalars_in };
+
+    ghost remaining = { item_count scalars_in };
+
+    fn next(&mut self) -> Option<ScalarValue> {
+        let (word, rest) = next_word(self.behind)?;
+        self.behind = rest;
+        scalar_of(self.kind, word)
+    }
+}
+
+/// How many values of the kind the words are, or `None` where one is no such value.
+fn count_values(kind: ScalarKind, bytes: &[u8]) -> Option<usize>
+    ensures { result ≡ option_map length (numbers_at kind bytes.now) }
+{
+    let mut rest = bytes;
+    let mut count = 0;
+    'values: while let Some((word, tail)) = next_word(rest) {
+        scalar_of(kind, word)?;
+        rest = tail;
+        count += 1;
+    }
+    if !at_end(rest) {
+        return None;
+    }
+    Some(count)
+}
+
+/// The values of the kind that the words are, where they are as many.
+pub fn read_values(kind: ScalarKind, count: u32, bytes: &[u8]) -> Option<Values<'_>>
+    ensures { result ≡ counted_values kind count bytes.now }
+{
+    if count_values(kind, bytes)? as u64 != u64::from(count) {
+        return None;
+    }
+    Some(Values {
+        kind,
+        behind: bytes,
+    })
+}

@@ -1,0 +1,221 @@
+-- An object of numbers made under a key with an entry: what the bytes denote, and what the machine does.
+use Rattle.std.proofs.Common.{◌≡◌, refl, sym, ap, subst, ◌∙◌, ℕ, ◌*◌, ◌<◌, ◌≤◌, inl, inr, ℤ, Some, None, Option, List, length, arith}
+use Rattle.std.specs.Prelude.{IsTrue, insert}
+use Rattle.raw_region.specs.Memory.{Cut, bytes_of}
+use Rattle.raw_region.specs.Format.{current}
+use Rattle.block_tags.specs.declared.tile.Role.TheVariants.{Object as ObjectRole, Index as IndexRole}
+use Rattle.best_fit.specs.Extents.{Extent, LiveSet, handle}
+use Rattle.best_fit.specs.Fit.{added, place, resized}
+use Rattle.best_fit.specs.Heap.{IsAllocated, Keeps, LaysOut, live_of}
+use Rattle.best_fit.specs.Table.{Table, serves}
+use Rattle.best_fit.proofs.Laws.{AllByRecursion-insert, allocated-live, keeps-trans}
+use Rattle.seg_types.specs.declared.kinds.ScalarKind.{ScalarKind}
+use Rattle.seg_types.specs.Names as names
+use Rattle.seg_types.specs.Commands as asked
+use Rattle.seg_types.specs.Commands.{Content}
+use Rattle.seg_index.specs.declared.index.Index.{Index}
+use Rattle.seg_index.specs.declared.index.Index.TheVariants as index
+use Rattle.seg_index.specs.declared.keys.Key.{Key}
+use Rattle.seg_index.specs.declared.keys.Lookup.TheVariants.{Absent}
+use Rattle.seg_index.specs.Growth.{AddKeeps, Adds, IsGrowth, grown_bytes, grown_live}
+use Rattle.seg_index.specs.Held.{IsIndexOf, entry_count, place_of}
+use Rattle.seg_index.specs.Index.{grown_capacity}
+use Rattle.seg_index.specs.Lookups.{IsPlace}
+use Rattle.segment_manager.specs.Answers.{Refused}
+use Rattle.segment_manager.specs.Denotes.{Denotes, IsObjectAt}
+use Rattle.segment_manager.specs.Directory.{Numbers, Object, Directory, is_good_value, live, object_len, with_object}
+use Rattle.segment_manager.specs.Indexed.{class_of_index, entries_of, objects_of, table_of, with_table_of}
+use Rattle.segment_manager.specs.NewObjects.{FindsNone, IsAddedObject, IsNewKey, IsRequested, IsRestored, IsUnmet}
+use Rattle.segment_manager.specs.Plan.{Plan, New, Request, bare, class_of, name_of, perform, with_entry, with_new_object}
+use Rattle.segment_manager.specs.Supported.{is_supported, is_supported_object}
+use Rattle.seg_types.specs.declared.refusals.Refusal.TheVariants.{NoSpace}
+use Rattle.segment_manager.proofs.Added.{IsEntered, entered-denotes, entered-none, entered-some, grown_into}
+use Rattle.segment_manager.proofs.Bridge.{entry-added, lookup-absent}
+use Rattle.segment_manager.proofs.Calling.{denotes-live}
+use Rattle.segment_manager.proofs.HeldIndexes.{denotes-index, handles-length}
+use Rattle.segment_manager.proofs.Kept.{denotes-kept}
+use Rattle.segment_manager.proofs.Made.{IsMade, requested-taken}
+use Rattle.segment_manager.proofs.NewBlocks.{allocated-serves}
+use Rattle.segment_manager.proofs.NewKeys.{key-class, key-has, key-name, key-object, key-own, key-seeks, numbers_of}
+use Rattle.segment_manager.proofs.Requests.{entry-grows, entry-refused, entry-room}
+use Rattle.segment_manager.proofs.Steps.{perform-new, perform-no_space}
+use Rattle.segment_manager.proofs.Supported.{supported-with}
+use Rattle.segment_manager.proofs.Tables.{same-table}
+use Rattle.segment_manager.proofs.Taking.{IsReady, ready, written-taken}
+
+-- what is made is the object, in a directory that the new bytes denote; and so the machine goes on
+pub record IsNewObject (new : Cut) (d : Directory) (key : names.Key) (content : Content) (h : ℕ) : Type 0 where
+  pub object : Object
+  pub after : Directory
+  pub left : LiveSet
+  pub at : h ≡ handle object.extent
+  pub value : object.value ≡ bare content
+  pub met : (next : Object → Directory → Plan) → perform d (live d) (with_new_object d key content next) ≡ perform d left (next object after)
+  pub denotes : Denotes current new.bytes after
+  pub supported : IsTrue (is_supported d) → IsTrue (is_supported after)
+
+-- a request is refused, and so the machine refuses
+pub record IsNoObject (new : Cut) (d : Directory) (key : names.Key) (content : Content) : Type 0 where
+  pub refused : (next : Object → Directory → Plan) → perform d (live d) (with_new_object d key content next) ≡ (Refused NoSpace, d)
+  pub denotes : Denotes current new.bytes d
+
+-- the requests for such an object are met
+pub record IsMet (d : Directory) (key : names.Key) (content : Content) : Type 0 where
+  pub object : Object
+  pub after : Directory
+  pub left : LiveSet
+  pub met : (next : Object → Directory → Plan) → perform d (live d) (with_new_object d key content next) ≡ perform d left (next object after)
+
+-- ---- the index grows, or not
+
+-- the directory where its index has what it grew into
+abbrev pub grown : (i : Index) (d : Directory) (a b : Cut) (g : Option ℕ) → IsGrowth a b (place_of i) g → Directory
+grown i d a b None h = d
+grown i d a b (Some g) h = with_table_of i d (grown_into i d h.1.extent)
+
+count-is : (i : Index) (a : Cut) (d : Directory) → IsIndexOf a (place_of i) (table_of i d) (entries_of i d) → entry_count a (place_of i) ≡ length (objects_of i d)
+count-is i a d x = x.stands.count ∙ handles-length (objects_of i d)
+
+pub grows-performs : (i : Index) (a b : Cut) (d : Directory) (g : Option ℕ) (next : Directory → Plan) → Denotes current a.bytes d → (h : IsGrowth a b (place_of i) g)
+    → perform d (live d) (with_entry d (class_of_index i) next) ≡ perform d (live_of b.bytes) (next (grown i d a b g h))
+grows-performs i a b d None next k h =
+    let x : IsIndexOf a (place_of i) (table_of i d) (entries_of i d) = denotes-index i a d k in
+    let room : length (objects_of i d) < (table_of i d).capacity = omega (arith, h.0, count-is i a d x, x.stands.capacity) in
+    ap (perform d (live d)) (entry-room i d next room) ∙ ap (λ l. perform d l (next d)) (sym (denotes-live current a.bytes d k) ∙ ap (λ (c : Cut). live_of c.bytes) (sym h.1))
+grows-performs i a b d (Some g) next k h =
+    let x : IsIndexOf a (place_of i) (table_of i d) (entries_of i d) = denotes-index i a d k in
+    let full : (table_of i d).capacity ≤ length (objects_of i d) = omega (arith, h.0, count-is i a d x, x.stands.capacity) in
+    let placed : place (live d) (8 * grown_capacity (table_of i d).capacity) IndexRole ≡ Some h.1.extent =
+    sym (λ j. place (denotes-live current a.bytes d k j) (8 * grown_capacity (x.stands.capacity j)) IndexRole) ∙ h.1.placed in
+    entry-grows i d next h.1.extent k.directory.proper full placed
+    ∙ ap (λ l. perform d l (next (with_table_of i d (grown_into i d h.1.extent))))
+    (ap (λ l. added l h.1.extent) (sym (denotes-live current a.bytes d k)) ∙ sym (allocated-live current a b (grown_bytes a (place_of i)) IndexRole g h.1))
+
+-- what the directory had stays while the index takes its block and the object is made
+pub keeps-front : (b c : Cut) (x : Extent) (l : LiveSet) → Keeps b c (added l x).extents → Keeps b c l.extents
+keeps-front b c x l k = record { place = k.place; front = k.front; behind = k.behind; blocks = AllByRecursion-insert _ x l.extents k.blocks }
+
+pub grows-keeps : (i : Index) (a b c : Cut) (d : Directory) (g : Option ℕ) → Denotes current a.bytes d → IsGrowth a b (place_of i) g → Keeps b c (live_of b.bytes).extents → Keeps a c (live d).extents
+grows-keeps i a b c d None k h keeps =
+    subst (λ (l : LiveSet). Keeps a c l.extents) (denotes-live current a.bytes d k) (subst (λ (x : Cut). Keeps x c (live_of x.bytes).extents) h.1 keeps)
+grows-keeps i a b c d (Some g) k h keeps =
+    let front : Keeps b c (live_of a.bytes).extents =
+    keeps-front b c h.1.extent (live_of a.bytes) (subst (λ (l : LiveSet). Keeps b c l.extents) (allocated-live current a b (grown_bytes a (place_of i)) IndexRole g h.1) keeps) in
+    subst (λ (l : LiveSet). Keeps a c l.extents) (denotes-live current a.bytes d k) (keeps-trans a b c (live_of a.bytes).extents h.1.keeps front)
+
+-- ---- the entry is there
+
+-- the table that the index has then
+abbrev table_then : (i : Index) (d : Directory) (a b : Cut) (g : Option ℕ) → IsGrowth a b (place_of i) g → Table
+table_then i d a b None h = table_of i d
+table_then i d a b (Some g) h = grown_into i d h.1.extent
+
+grown-is : (i : Index) (d : Directory) (a b : Cut) (g : Option ℕ) (h : IsGrowth a b (place_of i) g) → grown i d a b g h ≡ with_table_of i d (table_then i d a b g h)
+grown-is i d a b None h = sym (same-table i d)
+grown-is i d a b (Some g) h = refl
+
+entered : (i : Index) (a b c e : Cut) (d : Directory) (o : Object) (at : ℕ) (g : Option ℕ) → Denotes current a.bytes d → (h : IsGrowth a b (place_of i) g) → IsMade b c o
+    → IsIndexOf c (place_of i) (table_of i d) (entries_of i d) → insert (entries_of i d) at (handle o.extent) ≡ entries_of i (with_object d o)
+    → Adds c e (place_of i) (table_of i d) (insert (entries_of i d) at (handle o.extent)) g → LaysOut current e.bytes (grown_live c (place_of i) g)
+    → AddKeeps c e (place_of i) (table_of i d) g → IsEntered i c e d (table_then i d a b g h) o
+entered i a b c e d o at None k h made x same adds laid keeps =
+    entered-none i a c e d o at k (subst (λ (s : Cut). IsMade s c o) h.1 made) x same adds laid keeps
+entered i a b c e d o at (Some g) k h made x same adds laid keeps = entered-some i a b c e d o at (grown_bytes a (place_of i)) g k h.1 made x same adds laid keeps
+
+-- ---- what the machine does
+
+-- the object's block is asked for, once the index has a place
+abbrev object_plan : Index → List ℕ → ScalarKind → List ℤ → (Object → Directory → Plan) → Directory → Plan
+object_plan i name k zs next e =
+    Request (New ObjectRole (object_len name (Numbers k zs))) (λ x. next (numbers_of i name k zs x) (with_object e (numbers_of i name k zs x)))
+
+-- the plan of numbers under a key of an index
+numbers-plan : (i : Index) (d : Directory) (key : names.Key) (name : List ℕ) (k : ScalarKind) (zs : List ℤ) (next : Object → Directory → Plan) → class_of key ≡ class_of_index i → name_of key ≡ name
+    → with_new_object d key (asked.Numbers k zs) next
+    ≡ with_entry d (class_of_index i) (object_plan i name k zs next)
+numbers-plan i d key name k zs next e f = λ j.
+    with_entry d (e j) (λ dir. Request (New ObjectRole (object_len (f j) (Numbers k zs))) (λ x.
+    let o : Object = record { class = e j; name = f j; value = Numbers k zs; extent = x } in next o (with_object dir o)))
+
+supported-more : (i : Index) (d : Directory) (t : Table) (o : Object) → IsTrue (is_supported d) → IsTrue (is_supported_object o) → IsTrue (is_supported (with_object (with_table_of i d t) o))
+supported-more index.Named d t o h s = supported-with d o h s
+supported-more index.Unique d t o h s = supported-with d o h s
+
+-- ---- both together
+
+module _ (i : Index) (a : Cut) (d : Directory) (e : Key) (key : names.Key) (name : List ℕ) (k : ScalarKind) (zs : List ℤ) (said : Denotes current a.bytes d) (new : IsNewKey i e key name k) where
+  -- its requests are met, it is written, and its entry is added
+  pub numbers-entered : (c : Cut) (at n h : ℕ) → IsTrue (is_good_value (Numbers k zs)) → n ≡ object_len name (Numbers k zs) → IsPlace (bytes_of a.bytes) e (entries_of i d) (Absent at)
+      → (r : IsAddedObject a c i at n h (λ m. (x : Extent) → h ≡ handle x → IsObjectAt m (numbers_of i name k zs x))) → IsNewObject c d key (asked.Numbers k zs) h
+  numbers-entered c at n h good len away r =
+      let took : IsAllocated current r.requested.between r.written n ObjectRole h = written-taken r.requested.between r.taken r.written n h r.requested.takes r.change in
+      let x : Extent = took.extent in
+      let o : Object = numbers_of i name k zs x in
+      let serving = subst (λ m. IsTrue (serves x ObjectRole m)) len (allocated-serves current r.requested.between r.written n ObjectRole h took) in
+      let is_there = key-object i e key name k zs x new good serving in
+      let made : IsMade r.requested.between r.written o = record { good = is_there; taken = requested-taken r.requested.between r.written n ObjectRole h took; at = r.said x took.at } in
+      let stands = denotes-index i a d said in
+      let ok : IsReady i r.written (table_of i d) (entries_of i d) r.growth = ready i a r.taken r.written n h r.growth (table_of i d) (entries_of i d) stands r.requested r.change in
+      let same : insert (entries_of i d) at (handle x) ≡ entries_of i (with_object d o) = entry-added i a d e key at o said (key-seeks i e key name k new) away (key-has i e key name k zs x new) in
+      let adds = subst (λ g. Adds r.written c (place_of i) (table_of i d) (insert (entries_of i d) at g) r.growth) took.at (r.adds (table_of i d) (entries_of i d) ok.index) in
+      let t : Table = table_then i d a r.requested.between r.growth r.requested.grows in
+      let there : IsEntered i r.written c d t o =
+      entered i a r.requested.between r.written c d o at r.growth said r.requested.grows made ok.index same adds r.live (r.keeps (table_of i d) (entries_of i d) ok.index) in
+      let none = (lookup-absent i a d e key said (key-seeks i e key name k new) at away).none in
+      let keeps = grows-keeps i a r.requested.between r.written d r.growth said r.requested.grows took.keeps in
+      record {
+        object = o;
+        after = with_object (with_table_of i d t) o;
+        left = resized (live_of r.requested.between.bytes) x;
+        at = took.at;
+        value = refl;
+        met = λ next.
+            ap (perform d (live d)) (numbers-plan i d key name k zs next (key-class i e key name k new) (key-name i e key name k new))
+            ∙ grows-performs i a r.requested.between d r.growth (object_plan i name k zs next) said r.requested.grows
+            ∙ perform-new d (live_of r.requested.between.bytes) ObjectRole (object_len name (Numbers k zs))
+            (λ y. let p : Object = numbers_of i name k zs y in next p (with_object (grown i d a r.requested.between r.growth r.requested.grows) p)) x (ap (λ m. place (live_of r.requested.between.bytes) m ObjectRole) (sym len) ∙ took.placed)
+            ∙ ap (λ dir. perform d (resized (live_of r.requested.between.bytes) x) (next o (with_object dir o))) (grown-is i d a r.requested.between r.growth r.requested.grows);
+        denotes = entered-denotes i a r.written c d t o said keeps is_there made.at refl (key-own i e key name k d zs x new none) there;
+        supported = λ s. supported-more i d t o s refl;
+      }
+
+  -- a request is refused
+  pub numbers-refused : (c : Cut) (n : ℕ) → n ≡ object_len name (Numbers k zs) → IsUnmet a c (place_of i) n → IsNoObject c d key (asked.Numbers k zs)
+  numbers-refused c n len r = record {
+    refused = λ next.
+        ap (perform d (live d)) (numbers-plan i d key name k zs next (key-class i e key name k new) (key-name i e key name k new)) ∙ none next r.none;
+    denotes = denotes-kept current a c d said (subst (LaysOut current c.bytes) (denotes-live current a.bytes d said) r.restored.laid)
+        (subst (λ (l : LiveSet). Keeps a c l.extents) (denotes-live current a.bytes d said) r.restored.keeps);
+  }
+    where
+      none : (next : Object → Directory → Plan) → FindsNone a (place_of i) n → perform d (live d) (with_entry d (class_of_index i) (object_plan i name k zs next)) ≡ (Refused NoSpace, d)
+      none next (inl full) =
+          let x = denotes-index i a d said in
+          entry-refused i d (object_plan i name k zs next) (omega (arith, full.0, count-is i a d x, x.stands.capacity))
+          (sym (λ j. place (denotes-live current a.bytes d said j) (8 * grown_capacity (x.stands.capacity j)) IndexRole) ∙ full.1)
+      none next (inr r) =
+          grows-performs i a r.1 d r.0 (object_plan i name k zs next) said r.2
+          ∙ perform-no_space d (live_of r.1.bytes) ObjectRole (object_len name (Numbers k zs))
+          (λ y. let p : Object = numbers_of i name k zs y in next p (with_object (grown i d a r.1 r.0 r.2) p)) (ap (λ m. place (live_of r.1.bytes) m ObjectRole) (sym len) ∙ r.3)
+
+  -- its requests are met
+  pub numbers-met : (m : Cut) (n h : ℕ) (g : Option ℕ) → n ≡ object_len name (Numbers k zs) → IsRequested a m (place_of i) n g h → IsMet d key (asked.Numbers k zs)
+  numbers-met m n h g len r =
+      let x : Extent = r.takes.extent in
+      let then : Directory = grown i d a r.between g r.grows in
+      record {
+        object = numbers_of i name k zs x;
+        after = with_object then (numbers_of i name k zs x);
+        left = resized (live_of r.between.bytes) x;
+        met = λ next.
+            ap (perform d (live d)) (numbers-plan i d key name k zs next (key-class i e key name k new) (key-name i e key name k new))
+            ∙ grows-performs i a r.between d g (object_plan i name k zs next) said r.grows
+            ∙ perform-new d (live_of r.between.bytes) ObjectRole (object_len name (Numbers k zs)) (λ y. let p : Object = numbers_of i name k zs y in next p (with_object then p)) x
+            (ap (λ j. place (live_of r.between.bytes) j ObjectRole) (sym len) ∙ r.takes.placed);
+      }
+
+-- the same blocks are in use, and nothing in them changed: the bytes denote the same directory
+pub restored-denotes : (a c : Cut) (d : Directory) → Denotes current a.bytes d → IsRestored a c → Denotes current c.bytes d
+restored-denotes a c d said r =
+    denotes-kept current a c d said (subst (LaysOut current c.bytes) (denotes-live current a.bytes d said) r.laid)
+    (subst (λ (l : LiveSet). Keeps a c l.extents) (denotes-live current a.bytes d said) r.keeps)

@@ -1,0 +1,103 @@
+-- Items taken from an iterator and written one behind another.
+use Rattle.std.proofs.Common.{◌≡◌, refl, sym, ap, subst, ◌∙◌, ℕ, ◌+◌, ◌*◌, ◌<◌, ℤ, Bool, true, false, Some, None, Option, List, [], ◌∷◌, ◌++◌, length, map, arith, length-append}
+use Rattle.std.specs.Prelude.{IsTrue}
+use Rattle.std.specs.List.{AllByRecursion, list_all}
+use Rattle.std.specs.Iterator.{HoldsAlong, Yields}
+use Rattle.std.proofs.lemmas.Bool.{and_from}
+use Rattle.std.proofs.lemmas.List.{flat_map_more, length-map, map_push}
+use Rattle.raw_region.specs.Memory.{Cut, Has, bytes_of}
+use Rattle.raw_region.specs.Format.{current}
+use Rattle.best_fit.specs.Heap.{IsChanged, IsHeap}
+use Rattle.seg_types.specs.declared.kinds.ScalarKind.{ScalarKind}
+use Rattle.seg_types.specs.Kinds.{is_value, size_of, spelling}
+use Rattle.seg_vector.specs.Vector.{spelled}
+use Rattle.segment_manager.specs.Begun.{Fills, IsItemWritten}
+use Rattle.segment_manager.proofs.Blocks.{spelled-length, spelling-length}
+use Rattle.segment_manager.proofs.NewBlocks.{changed-trans}
+use Rattle.segment_manager.proofs.Payloads.{bytes-stay, changed-none}
+use Rattle.segment_manager.proofs.Rows.{Has-append}
+use Rattle.segment_manager.proofs.Words.{AllByRecursion-behind, first, second}
+
+-- ---- calls, and then one more
+
+pub yields-more : {S A : Type 0} (steps : S → Option A → S → Type 0) (s t u : S) (xs : List A) (x : A) → Yields steps s xs t → steps t (Some x) u → Yields steps s (xs ++ x ∷ []) u
+yields-more steps s t u [] x e f = (u, subst (λ r. steps r (Some x) u) (sym e) f, refl)
+yields-more steps s t u (y ∷ ys) x h f = (h.0, h.1, yields-more steps h.0 t u ys x h.2 f)
+
+-- what holds of all items that may come holds of the last one
+pub last-holds : {S A : Type 0} (steps : S → Option A → S → Type 0) (P : A → Type 0) (s t u : S) (xs : List A) (x : A) → HoldsAlong steps s (AllByRecursion P) → Yields steps s xs t → steps t (Some x) u → P x
+last-holds steps P s t u xs x all h f = (AllByRecursion-behind P xs (x ∷ []) (all (xs ++ x ∷ []) u (yields-more steps s t u xs x h f))).0
+
+-- a test holds of one more
+all-more : (t : ℤ → Bool) (zs : List ℤ) (z : ℤ) → IsTrue (list_all t zs) → IsTrue (t z) → IsTrue (list_all t (zs ++ z ∷ []))
+all-more t [] z h e = and_from (t z) true e refl
+all-more t (y ∷ ys) z h e = and_from (t y) (list_all t (ys ++ z ∷ [])) (first (t y) (list_all t ys) h) (all-more t ys z (second (t y) (list_all t ys) h) e)
+
+-- ---- so many items were written
+
+pub record IsFilling {S A : Type 0} (gives : S → Option A → S → Type 0) (can : S → Type 0) (whole : A → ℤ) (old now : Cut) (k : ScalarKind) (from i : ℕ) (before at : S) : Type 0 where
+  pub items : List A
+  pub ran : Yields gives before items at
+  pub long : length items ≡ i
+  pub callable : can at
+  pub values : IsTrue (list_all (is_value k) (map whole items))
+  pub change : IsChanged current old now from (size_of k * i)
+  pub content : Has (bytes_of now.bytes) from (spelled k (map whole items))
+
+module _ (S A : Type 0) (gives : S → Option A → S → Type 0) (can : S → Type 0) (whole : A → ℤ) (old : Cut) (k : ScalarKind) (from : ℕ) (before : S) where
+  -- none yet
+  pub filling-none : IsHeap current old.bytes → can before → IsFilling gives can whole old old k from 0 before before
+  filling-none heap c = record {
+    items = [];
+    ran = refl;
+    long = refl;
+    callable = c;
+    values = refl;
+    change = subst (IsChanged current old old from) (omega arith) (changed-none old from heap);
+    content = refl;
+  }
+
+  -- and one more
+  pub filling-more : (b c : Cut) (i to : ℕ) (s t : S) → IsFilling gives can whole old b k from i before s → can t → to ≡ from + size_of k * i → IsItemWritten gives whole b c k to s t
+      → IsFilling gives can whole old c k from (i + 1) before t
+  filling-more b c i to s t f go at w =
+      let zs : List ℤ = map whole f.items in
+      let bytes : List ℕ = spelling k (whole w.item) in
+      let more : map whole (f.items ++ w.item ∷ []) ≡ zs ++ whole w.item ∷ [] = map_push whole f.items w.item in
+      let many : length zs ≡ i = length-map f.items whole ∙ f.long in
+      let each : length bytes ≡ size_of k = spelling-length k (whole w.item) in
+      let all : length (spelled k zs) ≡ size_of k * i = spelled-length k zs ∙ ap (λ m. size_of k * m) many in
+      let sum : size_of k * i + size_of k ≡ size_of k * (i + 1) = omega arith in
+      let change' : IsChanged current b c (from + size_of k * i) (size_of k) = subst (λ p. IsChanged current b c p (size_of k)) at w.change in
+      let front : Has (bytes_of c.bytes) from (spelled k zs) = bytes-stay b c from (from + size_of k * i) (size_of k) (spelled k zs) change' (omega arith) f.content in
+      let place : to ≡ from + length (spelled k zs) = omega arith in
+      record {
+        items = f.items ++ w.item ∷ [];
+        ran = yields-more gives before s t f.items w.item f.ran w.step;
+        long = length-append f.items (w.item ∷ []) ∙ ap (λ m. m + 1) f.long;
+        callable = go;
+        values = subst (λ ys. IsTrue (list_all (is_value k) ys)) (sym more) (all-more (is_value k) zs (whole w.item) f.values w.value);
+        change = subst (IsChanged current old c from) sum (changed-trans current old b c from (size_of k * i) (size_of k) f.change change');
+        content = subst (Has (bytes_of c.bytes) from) (flat_map_more (spelling k) [] zs (whole w.item) ∙ ap (spelled k) (sym more))
+            (Has-append (bytes_of c.bytes) from (spelled k zs) bytes front (subst (λ p. Has (bytes_of c.bytes) p bytes) place w.content));
+      }
+
+  -- as many as were asked for
+  pub filling-full : (b : Cut) (count : ℕ) (s : S) → IsFilling gives can whole old b k from count before s → Fills gives whole old b k from count before s true
+  filling-full b count s f = record {
+    items = f.items;
+    taken = (f.ran, f.long);
+    values = f.values;
+    change = subst (λ m. IsChanged current old b from (size_of k * m)) (sym f.long) f.change;
+    content = f.content;
+  }
+
+  -- or no more came
+  pub filling-short : (b : Cut) (i count : ℕ) (s t : S) → IsFilling gives can whole old b k from i before s → i < count → gives s None t → Fills gives whole old b k from count before t false
+  filling-short b i count s t f less none = record {
+    items = f.items;
+    taken = ((s, f.ran, none), omega (arith, f.long));
+    values = f.values;
+    change = subst (λ m. IsChanged current old b from (size_of k * m)) (sym f.long) f.change;
+    content = f.content;
+  }

@@ -1,0 +1,120 @@
+-- The calls that find an object of a kind and that walk the indexes, for each directory that the bytes stand for.
+use Rattle.std.proofs.Common.{◌≡◌, refl, sym, ap, subst, ◌∙◌, ℕ, ◌<◌, true, false, Option, Some, None, length, arith, if◌then◌else◌}
+use Rattle.std.specs.Prelude.{slice_get}
+use Rattle.std.proofs.lemmas.Bool.{eq-eqb, ne_eqb}
+use Rattle.seg_types.specs.declared.kinds.Kind.{Kind}
+use Rattle.seg_types.specs.declared.refusals.Refusal.TheVariants.{WrongKind}
+use Rattle.seg_types.specs.Kinds.{code_of, same_kind}
+use Rattle.seg_types.specs.Names.{Key}
+use Rattle.seg_types.specs.Commands as asked
+use Rattle.seg_index.specs.declared.index.Index.{Index}
+use Rattle.seg_index.specs.declared.index.Index.TheVariants.{Named, Unique}
+use Rattle.seg_index.specs.Held.{IsIndexOf, entry_count, place_of}
+use Rattle.segment_manager.specs.declared.head.Head.{Head}
+use Rattle.segment_manager.specs.Answers.{Absent, Answer, Found, Number, Refused}
+use Rattle.segment_manager.specs.Directory.{Object, Directory, kind_of, named_objects, unique_objects}
+use Rattle.segment_manager.specs.Found.{IsBelow, handle_at}
+use Rattle.segment_manager.specs.Indexed.{entries_of, objects_of, table_of}
+use Rattle.segment_manager.specs.Plan.{Plan, Refuse, Reply}
+use Rattle.segment_manager.specs.Standing.{IsHeadOf, StandsAt}
+use Rattle.segment_manager.specs.State.{Answers, IsReply, IsSegment, State, StandsFor}
+use Rattle.segment_manager.specs.Step.{found}
+use Rattle.segment_manager.proofs.Here.{IsHere, here, nothing-here}
+use Rattle.segment_manager.proofs.HeldIndexes.{denotes-index, handles-length}
+use Rattle.segment_manager.proofs.KeyCalls.{ForIndex, of-directory}
+use Rattle.segment_manager.proofs.Steps.{open-reading, step-refuse, step-reply}
+
+-- ---- an object of a kind
+
+-- what the plan is for what is found
+abbrev finds : Directory → Kind → Option Object → Plan
+finds d kind r = elim r as (λ _. Plan) [ None ↦ Reply Absent d | Some o ↦ if same_kind kind (kind_of o.value) then Reply (found o) d else Refuse WrongKind ]
+
+-- nothing has the key
+pub find-absent : (s : State) (key : Key) (kind : Kind) → Answers s (λ d. handle_at d key) None → IsReply s (asked.Find key kind) Absent
+find-absent s key kind a = record {
+  answers = λ d k.
+      sym (ap (λ (r : Answer × Directory). r.0)
+      (step-reply s.mode d (asked.Find key kind) Absent d (open-reading s.mode (asked.Find key kind) refl) (ap (finds d kind) (nothing-here d key (a.answers d k)))));
+}
+
+-- what was read of an object of the key
+abbrev pub IsRead : State → ℕ → Head → Type 0
+IsRead s h head = (o : Object) → StandsAt s.cut.bytes h o → IsHeadOf o head
+
+-- it is of another kind
+pub find-other : (s : State) (key : Key) (kind : Kind) (h a b : ℕ) (head : Head) → Answers s (λ d. handle_at d key) (Some h) → IsRead s h head
+    → a ≡ code_of head.kind → b ≡ code_of kind → (a ≡ b → ⊥) → IsReply s (asked.Find key kind) (Refused WrongKind)
+find-other s key kind h a b head w r e f n = record {
+  answers = λ d k.
+      let o : IsHere s.cut.bytes d key h = here s.cut.bytes d key h k.denotes (w.answers d k) in
+      let said : IsHeadOf o.object head = r o.object o.stands in
+      let other : same_kind kind (kind_of o.object.value) ≡ false =
+      ne_eqb (code_of kind) (code_of (kind_of o.object.value)) (λ g. n (e ∙ ap code_of said.kind ∙ sym g ∙ sym f)) in
+      sym (ap (λ (r : Answer × Directory). r.0)
+      (step-refuse s.mode d (asked.Find key kind) WrongKind (open-reading s.mode (asked.Find key kind) refl)
+      (ap (finds d kind) o.is ∙ ap (λ t. if t then Reply (found o.object) d else Refuse WrongKind) other)));
+}
+
+-- it is found
+pub find-found : (s : State) (key : Key) (kind : Kind) (h a b : ℕ) (head : Head) → Answers s (λ d. handle_at d key) (Some h) → IsRead s h head
+    → a ≡ code_of head.kind → b ≡ code_of kind → a ≡ b → IsReply s (asked.Find key kind) (Found h head.count)
+find-found s key kind h a b head w r e f n = record {
+  answers = λ d k.
+      let o : IsHere s.cut.bytes d key h = here s.cut.bytes d key h k.denotes (w.answers d k) in
+      let said : IsHeadOf o.object head = r o.object o.stands in
+      let same : same_kind kind (kind_of o.object.value) ≡ true =
+      eq-eqb (code_of kind) (code_of (kind_of o.object.value)) (sym f ∙ sym n ∙ e ∙ ap code_of said.kind) in
+      (λ i. Found (o.stands.at i) (said.count i))
+      ∙ sym (ap (λ (r : Answer × Directory). r.0)
+      (step-reply s.mode d (asked.Find key kind) (found o.object) d (open-reading s.mode (asked.Find key kind) refl)
+      (ap (finds d kind) o.is ∙ ap (λ t. if t then Reply (found o.object) d else Refuse WrongKind) same)));
+}
+
+-- ---- the entries of the indexes
+
+-- how many an index has
+index-counts : (s : State) (i : Index) (n : ℕ) → ForIndex s.cut i (λ hs. n ≡ length hs) → (d : Directory) → StandsFor s.cut.bytes d → n ≡ length (objects_of i d)
+index-counts s i n f d k = of-directory s i (λ hs. n ≡ length hs) d k f ∙ handles-length (objects_of i d)
+
+pub num_named-replies : (s : State) (n : ℕ) → ForIndex s.cut Named (λ hs. n ≡ length hs) → IsReply s asked.NumNamed (Number n)
+num_named-replies s n f = record {
+  answers = λ d k.
+      ap Number (index-counts s Named n f d k)
+      ∙ sym (ap (λ (r : Answer × Directory). r.0) (step-reply s.mode d asked.NumNamed (Number (length (objects_of Named d))) d (open-reading s.mode asked.NumNamed refl) refl));
+}
+
+pub num_unique-replies : (s : State) (n : ℕ) → ForIndex s.cut Unique (λ hs. n ≡ length hs) → IsReply s asked.NumUnique (Number n)
+num_unique-replies s n f = record {
+  answers = λ d k.
+      ap Number (index-counts s Unique n f d k)
+      ∙ sym (ap (λ (r : Answer × Directory). r.0) (step-reply s.mode d asked.NumUnique (Number (length (objects_of Unique d))) d (open-reading s.mode asked.NumUnique refl) refl));
+}
+
+-- a number below their count is a place
+pub below-count : (s : State) (i : Index) (n : ℕ) → IsSegment s.cut.bytes → IsBelow s (λ d. length (objects_of i d)) n → n < entry_count s.cut (place_of i)
+below-count s i n g b =
+    let stands : IsIndexOf s.cut (place_of i) (table_of i g.0) (entries_of i g.0) = denotes-index i s.cut g.0 g.1.denotes in
+    omega (arith, b.below g.0 g.1, stands.stands.count, handles-length (objects_of i g.0))
+
+-- and what stands there is an entry of the directory
+pub at-answers : (s : State) (i : Index) (n h : ℕ) → ForIndex s.cut i (λ hs. slice_get hs n ≡ Some h) → Answers s (λ d. slice_get (entries_of i d) n) (Some h)
+at-answers s i n h f = record { answers = λ d k. sym (of-directory s i (λ hs. slice_get hs n ≡ Some h) d k f) }
+
+-- ---- an index below that number
+
+pub named-below : (s : State) (n i : ℕ) → IsReply s asked.NumNamed (Number n) → i < n → IsBelow s (λ d. length (named_objects d)) i
+named-below s n i h l = record {
+  below = λ d st.
+      let e : Number n ≡ Number (length (named_objects d)) =
+      h.answers d st ∙ ap (λ (r : Answer × Directory). r.0) (step-reply s.mode d asked.NumNamed (Number (length (named_objects d))) d (open-reading s.mode asked.NumNamed refl) refl) in
+      let same : n ≡ length (named_objects d) = cc in subst (λ m. i < m) same l;
+}
+
+pub unique-below : (s : State) (n i : ℕ) → IsReply s asked.NumUnique (Number n) → i < n → IsBelow s (λ d. length (unique_objects d)) i
+unique-below s n i h l = record {
+  below = λ d st.
+      let e : Number n ≡ Number (length (unique_objects d)) =
+      h.answers d st ∙ ap (λ (r : Answer × Directory). r.0) (step-reply s.mode d asked.NumUnique (Number (length (unique_objects d))) d (open-reading s.mode asked.NumUnique refl) refl) in
+      let same : n ≡ length (unique_objects d) = cc in subst (λ m. i < m) same l;
+}

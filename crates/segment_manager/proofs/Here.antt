@@ -1,0 +1,74 @@
+-- The object of a key as it stands in its block, and what is said of it.
+use Rattle.std.proofs.Common.{◌≡◌, refl, sym, ap, subst, ◌∙◌, ℕ, ◌+◌, Option, Some, None, Result, Ok, Err, List}
+use Rattle.std.specs.Prelude.{IsTrue, option_map}
+use Rattle.std.proofs.lemmas.Bool.{le-leb}
+use Rattle.raw_region.specs.Format.{current}
+use Rattle.best_fit.specs.Extents.{handle}
+use Rattle.best_fit.specs.Heap.{has_room}
+use Rattle.seg_types.specs.declared.refusals.Refusal.{Refusal}
+use Rattle.seg_types.specs.declared.refusals.Refusal.TheVariants.{NotFound}
+use Rattle.seg_types.specs.Names.{Key}
+use Rattle.segment_manager.specs.Calls.{told_at}
+use Rattle.segment_manager.specs.Directory.{Object, Directory, has_key, is_object, object_at, object_len}
+use Rattle.segment_manager.specs.Denotes.{Denotes}
+use Rattle.segment_manager.specs.Found.{handle_at}
+use Rattle.segment_manager.specs.Standing.{HasObject, StandsAt}
+use Rattle.segment_manager.specs.State.{Answers, IsSegment, State}
+use Rattle.segment_manager.proofs.Calling.{denotes-live, object-at, object-room}
+use Rattle.segment_manager.proofs.Frame.{IsRoomy, object-roomy}
+use Rattle.segment_manager.proofs.Live.{IsIn}
+use Rattle.segment_manager.proofs.Objects.{all-found, each-true, key-found}
+
+-- ---- the object of a key
+
+-- it stands in its block
+pub standing : (b : List ℕ) (d : Directory) (key : Key) (o : Object) → Denotes current b d → object_at d key ≡ Some o → StandsAt b (handle o.extent) o
+standing b d key o k e =
+    let f : IsIn d o = key-found current d key o k.directory e in
+    let good : IsTrue (is_object current o) = all-found (λ p. IsTrue (is_object current p)) (has_key key) d.objects o (each-true (is_object current) d.objects k.directory.objects) e in
+    let roomy : IsRoomy o = object-roomy current o good in
+    let n : ℕ = object_len o.name o.value in
+    record {
+      at = refl;
+      good = good;
+      room = subst (λ l. IsTrue (has_room l (handle o.extent) n)) (sym (denotes-live current b d k)) (object-room d o n f k.directory.proper (le-leb (n + 16) o.extent.len roomy.room));
+      said = object-at current b d (handle o.extent) o k f;
+    }
+
+-- the object that has the handle which a key means
+pub record IsHere (b : List ℕ) (d : Directory) (key : Key) (h : ℕ) : Type 0 where
+  pub object : Object
+  pub is : object_at d key ≡ Some object
+  pub stands : StandsAt b h object
+
+here-if : (b : List ℕ) (d : Directory) (key : Key) (h : ℕ) (r : Option Object) → Denotes current b d → object_at d key ≡ r → Some h ≡ option_map (λ (o : Object). handle o.extent) r → IsHere b d key h
+here-if b d key h None k e f = absurd (cc)
+here-if b d key h (Some o) k e f =
+    let same : handle o.extent ≡ h = cc in
+    record { object = o; is = e; stands = subst (λ g. StandsAt b g o) same (standing b d key o k e) }
+
+pub here : (b : List ℕ) (d : Directory) (key : Key) (h : ℕ) → Denotes current b d → Some h ≡ handle_at d key → IsHere b d key h
+here b d key h k e = here-if b d key h (object_at d key) k refl e
+
+nothing-if : (r : Option Object) → None ≡ option_map (λ (o : Object). handle o.extent) r → r ≡ None
+nothing-if None e = refl
+nothing-if (Some o) e = absurd (cc)
+
+-- no object has the key
+pub nothing-here : (d : Directory) (key : Key) → None ≡ handle_at d key → object_at d key ≡ None
+nothing-here d key e = nothing-if (object_at d key) e
+
+-- some object stands at the handle that was found
+pub has-object : (s : State) (key : Key) (h : ℕ) → IsSegment s.cut.bytes → Answers s (λ d. handle_at d key) (Some h) → HasObject s.cut.bytes h
+has-object s key h i a =
+    let o : IsHere s.cut.bytes i.0 key h = here s.cut.bytes i.0 key h i.1.denotes (a.answers i.0 i.1) in
+    (o.object, o.stands)
+
+-- what is said of each object that stands there is said of the key's
+pub tells : {A : Type 0} (s : State) (key : Key) (h : ℕ) (say : Object → A) (x : A) → Answers s (λ d. handle_at d key) (Some h) → ((o : Object) → StandsAt s.cut.bytes h o → x ≡ say o)
+    → Answers s (λ d. told_at d key say) (Ok x)
+tells {A} s key h say x a each = record {
+  answers = λ d k.
+      let o : IsHere s.cut.bytes d key h = here s.cut.bytes d key h k.denotes (a.answers d k) in
+      ap Ok (each o.object o.stands) ∙ sym (ap (λ (r : Option Object). elim r as (λ _. Result A Refusal) [ None ↦ Err NotFound | Some p ↦ Ok (say p) ]) o.is);
+}

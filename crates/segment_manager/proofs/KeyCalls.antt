@@ -1,0 +1,170 @@
+-- The calls that find objects by their keys: what a look-up in an index, and a handle from outside, come to for each directory that the
+-- bytes stand for.
+use Rattle.std.proofs.Common.{◌≡◌, refl, sym, ap, subst, ◌∙◌, ℕ, ◌+◌, ◌<◌, Bool, true, false, ◌&&◌, ◌||◌, ◌==◌, Option, Some, None, List, [], ◌∷◌, arith, cond}
+use Rattle.std.specs.Prelude.{find, is_some, option_map, slice_get}
+use Rattle.std.specs.Bool.{then_some}
+use Rattle.std.specs.List.{list_any}
+use Rattle.std.proofs.lemmas.Bool.{eqb-true, ne_eqb}
+use Rattle.std.proofs.lemmas.Option.{none-some, same_Some, slice_get_within}
+use Rattle.raw_region.specs.Format.{current}
+use Rattle.raw_region.specs.Memory.{Cut, bytes_of}
+use Rattle.block_tags.specs.declared.tile.Role.{Role}
+use Rattle.block_tags.specs.declared.tile.Role.TheVariants.{Object as ObjectRole, Index as IndexRole, Storage, Node}
+use Rattle.block_tags.specs.contracts.tile.Role.{the_type}
+use denote.Enum.Bare.{sameb}
+use Rattle.best_fit.specs.Extents.{Extent, handle}
+use Rattle.best_fit.specs.Heap.{extent_at, is_live_in, live_of}
+use Rattle.best_fit.specs.Table.{Table, same_role}
+use Rattle.seg_types.specs.Names.{Key, ByHandle, NoKey}
+use Rattle.seg_index.specs.declared.index.Index.{Index}
+use Rattle.seg_index.specs.declared.keys.Key.{Key as Entry}
+use Rattle.seg_index.specs.declared.keys.Lookup.TheVariants.{Found, Absent}
+use Rattle.seg_index.specs.Held.{HasIndex, IsIndexOf, entry_count, place_of}
+use Rattle.seg_index.specs.Lookups.{HasKeys, IsPlace}
+use Rattle.segment_manager.specs.Directory.{Object, Directory, has_key, live, object_at}
+use Rattle.segment_manager.specs.Denotes.{Denotes}
+use Rattle.segment_manager.specs.Found.{handle_at, is_object_at}
+use Rattle.segment_manager.specs.Indexed.{Seeks, entries_of, table_of}
+use Rattle.segment_manager.specs.State.{Answers, IsSegment, State, StandsFor}
+use Rattle.segment_manager.proofs.Bridge.{IsEntryFor, IsNoEntryFor, lookup-absent, lookup-found}
+use Rattle.segment_manager.proofs.Calling.{denotes-live}
+use Rattle.segment_manager.proofs.Handles.{handle-is-object}
+use Rattle.segment_manager.proofs.HeldIndexes.{denotes-index, denotes-keys}
+use Rattle.segment_manager.proofs.Objects.{found-handle}
+use Rattle.segment_manager.proofs.Order.{Rising, live-rises}
+
+-- ---- a handle from outside
+
+-- whether a block passes, if there is one
+abbrev pub passes : (Extent → Bool) → Option Extent → Bool
+passes t None = false
+passes t (Some x) = t x
+
+-- what is looked for by its handle
+abbrev first_of : ℕ → List Extent → Option Extent
+first_of h xs = find (λ (x : Extent). handle x == h) xs
+
+or-false : (a b : Bool) → b ≡ false → (a || b) ≡ a
+or-false true b e = refl
+or-false false b e = e
+
+none-behind : (t : Extent → Bool) (h n : ℕ) (xs : List Extent) → h < n + 16 → Rising n xs → list_any (λ (x : Extent). (handle x == h) && t x) xs ≡ false
+none-behind t h n [] l r = refl
+none-behind t h n (x ∷ xs) l r =
+    ap (λ b. (b && t x) || list_any (λ (x : Extent). (handle x == h) && t x) xs) (ne_eqb (handle x) h (λ e. omega (arith, r.0, e)))
+    ∙ none-behind t h (x.offset + 1) xs (omega (arith, r.0)) r.1
+
+any-first-if : (t : Extent → Bool) (h : ℕ) (x : Extent) (xs : List Extent) (b : Bool) → (handle x == h) ≡ b → Rising (x.offset + 1) xs
+    → list_any (λ (x : Extent). (handle x == h) && t x) xs ≡ passes t (first_of h xs)
+    → ((b && t x) || list_any (λ (x : Extent). (handle x == h) && t x) xs) ≡ passes t (cond b (Some x) (first_of h xs))
+any-first-if t h x xs true e r k = or-false (t x) (list_any (λ (x : Extent). (handle x == h) && t x) xs) (none-behind t h (x.offset + 1) xs (omega (arith, eqb-true (handle x) h e)) r)
+any-first-if t h x xs false e r k = k
+
+-- of extents that rise the first of a handle is the only one
+any-first : (t : Extent → Bool) (h n : ℕ) (xs : List Extent) → Rising n xs → list_any (λ (x : Extent). (handle x == h) && t x) xs ≡ passes t (first_of h xs)
+any-first t h n [] r = refl
+any-first t h n (x ∷ xs) r = any-first-if t h x xs (handle x == h) refl r.1 (any-first t h (x.offset + 1) xs r.1)
+
+none-of-if : (h : ℕ) (x : Extent) (xs : List Extent) (b : Bool) → (list_any (λ (x : Extent). handle x == h) xs ≡ false → first_of h xs ≡ None)
+    → (b || list_any (λ (x : Extent). handle x == h) xs) ≡ false → cond b (Some x) (first_of h xs) ≡ None
+none-of-if h x xs true k e = absurd (cc)
+none-of-if h x xs false k e = k e
+
+none-first : (h : ℕ) (xs : List Extent) → list_any (λ (x : Extent). handle x == h) xs ≡ false → first_of h xs ≡ None
+none-first h [] e = refl
+none-first h (x ∷ xs) e = none-of-if h x xs (handle x == h) (none-first h xs) e
+
+-- a block for an object
+abbrev for_object : Extent → Bool
+for_object x = same_role x.role ObjectRole
+
+-- an object has the handle where its block is for one
+object-passes : (b : List ℕ) (d : Directory) (h : ℕ) → Denotes current b d → is_object_at d h ≡ passes for_object (extent_at (live_of b) h)
+object-passes b d h k =
+    sym (handle-is-object current d h k.directory) ∙ any-first for_object h 128 (live d).extents (live-rises (live d) k.directory.proper)
+    ∙ ap (λ l. passes for_object (extent_at l h)) (sym (denotes-live current b d k))
+
+same-test : (r : Role) → sameb the_type r ObjectRole ≡ same_role r ObjectRole
+same-test ObjectRole = refl
+same-test IndexRole = refl
+same-test Storage = refl
+same-test Node = refl
+
+of-role : (o : Option Extent) (r : Role) → option_map (λ (x : Extent). x.role) o ≡ Some r → passes for_object o ≡ same_role r ObjectRole
+of-role None r e = absurd (none-some r e)
+of-role (Some x) r e = ap (λ role. same_role role ObjectRole) (same_Some x.role r e)
+
+-- the answer of the two tests, for a block in use of this role
+pub role-answers : (s : State) (h : ℕ) (r : Role) (b : Bool) → option_map (λ (x : Extent). x.role) (extent_at (live_of s.cut.bytes) h) ≡ Some r → b ≡ sameb the_type r ObjectRole
+    → Answers s (λ d. is_object_at d h) b
+role-answers s h r b e f = record {
+  answers = λ d k. f ∙ same-test r ∙ sym (of-role (extent_at (live_of s.cut.bytes) h) r e) ∙ sym (object-passes s.cut.bytes d h k.denotes);
+}
+
+-- and where no block is in use
+pub dead-answers : (s : State) (h : ℕ) (b : Bool) → b ≡ is_live_in (live_of s.cut.bytes) h → b ≡ false → Answers s (λ d. is_object_at d h) b
+dead-answers s h b e f = record {
+  answers = λ d k. f ∙ sym (object-passes s.cut.bytes d h k.denotes ∙ ap (passes for_object) (none-first h (live_of s.cut.bytes).extents (sym e ∙ f)));
+}
+
+-- ---- an entry of an index
+
+pub segment-keys : (b : List ℕ) (c : Cut) (i : Index) (e : Entry) → c.bytes ≡ b → IsSegment b → HasKeys c (place_of i) e
+segment-keys b c i e same s = denotes-keys i c s.0 e (subst (λ bs. Denotes current bs s.0) (sym same) s.1.denotes)
+
+pub segment-index : (c : Cut) (i : Index) → IsSegment c.bytes → HasIndex c (place_of i)
+segment-index c i s = record { table = table_of i s.0; handles = entries_of i s.0; index = denotes-index i c s.0 s.1.denotes }
+
+-- what an index's call says of each table and handles that stand there
+abbrev pub ForIndex : Cut → Index → (List ℕ → Type 0) → Type 0
+ForIndex c i P = (t : Table) (hs : List ℕ) → IsIndexOf c (place_of i) t hs → P hs
+
+pub of-directory : (s : State) (i : Index) (P : List ℕ → Type 0) (d : Directory) → StandsFor s.cut.bytes d → ForIndex s.cut i P → P (entries_of i d)
+of-directory s i P d k f = f (table_of i d) (entries_of i d) (denotes-index i s.cut d k.denotes)
+
+-- an entry that was found is one of the index
+pub place-below : (c : Cut) (i : Index) (e : Entry) (place : ℕ) → IsSegment c.bytes → ForIndex c i (λ hs. IsPlace (bytes_of c.bytes) e hs (Found place)) → place < entry_count c (place_of i)
+place-below c i e place s f =
+    let stands : IsIndexOf c (place_of i) (table_of i s.0) (entries_of i s.0) = denotes-index i c s.0 s.1.denotes in
+    let at = f (table_of i s.0) (entries_of i s.0) stands in
+    omega (arith, slice_get_within (entries_of i s.0) place at.0 at.1, stands.stands.count)
+
+-- the object's handle is what the entry leads to
+pub found-answers : (s : State) (i : Index) (e : Entry) (place h : ℕ) → ForIndex s.cut i (λ hs. IsPlace (bytes_of s.cut.bytes) e hs (Found place))
+    → ForIndex s.cut i (λ hs. slice_get hs place ≡ Some h) → (key : Key) → Seeks i e key → Answers s (λ d. handle_at d key) (Some h)
+found-answers s i e place h f g key q = record {
+  answers = λ d k.
+      let there : IsEntryFor i d key place =
+      lookup-found i s.cut d e key k.denotes q place (of-directory s i (λ hs. IsPlace (bytes_of s.cut.bytes) e hs (Found place)) d k f) in
+      sym (of-directory s i (λ hs. slice_get hs place ≡ Some h) d k g) ∙ there.leads ∙ sym (ap (option_map (λ (o : Object). handle o.extent)) there.is);
+}
+
+-- or no object has the key
+pub absent-answers : (s : State) (i : Index) (e : Entry) (place : ℕ) → ForIndex s.cut i (λ hs. IsPlace (bytes_of s.cut.bytes) e hs (Absent place))
+    → (key : Key) → Seeks i e key → Answers s (λ d. handle_at d key) None
+absent-answers s i e place f key q = record {
+  answers = λ d k.
+      let away : IsNoEntryFor i d key place =
+      lookup-absent i s.cut d e key k.denotes q place (of-directory s i (λ hs. IsPlace (bytes_of s.cut.bytes) e hs (Absent place)) d k f) in
+      sym (ap (option_map (λ (o : Object). handle o.extent)) away.none);
+}
+
+-- ---- any key
+
+handle-if : (h : ℕ) (d : Directory) (r : Option Object) → object_at d (ByHandle h) ≡ r → then_some (is_some r) h ≡ option_map (λ (o : Object). handle o.extent) r
+handle-if h d None e = refl
+handle-if h d (Some o) e = ap Some (found-handle h d.objects o (record { is = e }))
+
+-- a handle means itself, where it is an object's
+pub handle-answers : (s : State) (h : ℕ) (b : Bool) → Answers s (λ d. is_object_at d h) b → Answers s (λ d. handle_at d (ByHandle h)) (then_some b h)
+handle-answers s h b a = record {
+  answers = λ d k. ap (λ t. then_some t h) (a.answers d k) ∙ handle-if h d (object_at d (ByHandle h)) refl;
+}
+
+no-key : (os : List Object) → find (has_key NoKey) os ≡ None
+no-key [] = refl
+no-key (o ∷ os) = no-key os
+
+-- no object is found without a key
+pub anonymous-answers : (s : State) → Answers s (λ d. handle_at d NoKey) None
+anonymous-answers s = record { answers = λ d k. sym (ap (option_map (λ (o : Object). handle o.extent)) (no-key d.objects)) }

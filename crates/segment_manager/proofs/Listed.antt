@@ -1,0 +1,110 @@
+-- The object of a handle, and its own entry.
+use Rattle.std.proofs.Common.{◌≡◌, refl, sym, ap, subst, ◌∙◌, ℕ, true, false, ◌==◌, Some, None, Option, List}
+use Rattle.std.specs.Prelude.{is_some}
+use Rattle.std.proofs.lemmas.Option.{none-some}
+use Rattle.raw_region.specs.Memory.{bytes_of}
+use Rattle.raw_region.specs.Format.{current}
+use Rattle.best_fit.specs.Extents.{handle}
+use Rattle.best_fit.specs.Heap.{is_live_in, live_of}
+use Rattle.seg_types.specs.declared.kinds.Class.{Class}
+use Rattle.seg_types.specs.declared.kinds.Class.TheVariants as class
+use Rattle.seg_types.specs.Kinds.{class_code, code_of}
+use Rattle.seg_types.specs.Names as names
+use Rattle.seg_index.specs.declared.index.Index.{Index}
+use Rattle.seg_index.specs.declared.index.Index.TheVariants as index
+use Rattle.seg_index.specs.declared.keys.Key.{Key}
+use Rattle.seg_index.specs.declared.keys.Key.TheVariants as entry
+use Rattle.seg_index.specs.declared.keys.Lookup.TheVariants.{Absent}
+use Rattle.seg_index.specs.Lookups.{IsPlace}
+use Rattle.segment_manager.specs.declared.head.Head.{Head}
+use Rattle.segment_manager.specs.Directory.{Object, Directory, is_class, kind_of, object_at}
+use Rattle.segment_manager.specs.Found.{handle_at, is_object_at}
+use Rattle.segment_manager.specs.Listed.{HasEntries, HasEntry, IsAnonymousAt}
+use Rattle.segment_manager.specs.State.{Answers, IsSegment, State, StandsFor}
+use Rattle.segment_manager.specs.Standing.{HasObject, IsHeadOf, StandsAt}
+use Rattle.segment_manager.proofs.Bridge.{lookup-absent, own-kind, own-name}
+use Rattle.segment_manager.proofs.Calling.{denotes-live, object-live}
+use Rattle.segment_manager.proofs.FindCalls.{IsRead}
+use Rattle.segment_manager.proofs.Here.{IsHere, has-object, here}
+use Rattle.segment_manager.proofs.KeyCalls.{ForIndex, handle-answers, of-directory}
+use Rattle.segment_manager.proofs.Objects.{key-found}
+
+-- ---- the object of a handle
+
+-- the handle means itself
+itself : (s : State) (h : ℕ) → Answers s (λ d. is_object_at d h) true → Answers s (λ d. handle_at d (names.ByHandle h)) (Some h)
+itself s h a = handle-answers s h true a
+
+pub object-here : (s : State) (h : ℕ) → Answers s (λ d. is_object_at d h) true → (d : Directory) → StandsFor s.cut.bytes d → IsHere s.cut.bytes d (names.ByHandle h) h
+object-here s h a d k = here s.cut.bytes d (names.ByHandle h) h k.denotes ((itself s h a).answers d k)
+
+pub has-own_object : (s : State) (h : ℕ) → IsSegment s.cut.bytes → Answers s (λ d. is_object_at d h) true → HasObject s.cut.bytes h
+has-own_object s h i a = has-object s (names.ByHandle h) h i (itself s h a)
+
+none-if : (r : Option Object) → false ≡ is_some r → r ≡ None
+none-if None e = refl
+none-if (Some o) e = absurd (cc)
+
+-- or no object has it
+pub no-object : (s : State) (h : ℕ) → Answers s (λ d. is_object_at d h) false → (d : Directory) → StandsFor s.cut.bytes d → object_at d (names.ByHandle h) ≡ None
+no-object s h a d k = none-if (object_at d (names.ByHandle h)) (a.answers d k)
+
+-- its block is in use
+pub own-live : (s : State) (h : ℕ) → IsSegment s.cut.bytes → Answers s (λ d. is_object_at d h) true → is_live_in (live_of s.cut.bytes) h ≡ true
+own-live s h i a =
+    let d = i.0 in
+    let k = i.1.denotes in
+    let o : IsHere s.cut.bytes d (names.ByHandle h) h = object-here s h a d i.1 in
+    (λ j. is_live_in (denotes-live current s.cut.bytes d k j) (o.stands.at j)) ∙ object-live d o.object (key-found current d (names.ByHandle h) o.object k.directory o.is) k.directory.proper
+
+-- ---- what its head says of its entry
+
+own-class : (c : Class) (o : Object) → o.class ≡ c → (class_code c == class_code c) ≡ true → is_class c o ≡ true
+own-class c o e f = ap (λ b. class_code c == class_code b) e ∙ f
+
+by-own_handle : (d : Directory) (h : ℕ) (o : Object) → h ≡ handle o.extent → object_at d (names.ByHandle h) ≡ Some o → object_at d (names.ByHandle (handle o.extent)) ≡ Some o
+by-own_handle d h o e f = subst (λ g. object_at d (names.ByHandle g) ≡ Some o) e f
+
+-- the entry is looked up by this name
+abbrev pub IsNamed : Key → List ℕ → Type 0
+IsNamed (entry.Name bytes) name = bytes.now ≡ name
+IsNamed (entry.Code n) name = ⊥
+
+module _ (s : State) (h : ℕ) (head : Head) (a : Answers s (λ d. is_object_at d h) true) (r : IsRead s h head) where
+  -- it has no key
+  pub listed-none : head.class ≡ class.Anonymous → IsAnonymousAt s h
+  listed-none e d k =
+      let o : IsHere s.cut.bytes d (names.ByHandle h) h = object-here s h a d k in
+      (o.object, o.is, sym (r o.object o.stands).class ∙ e)
+
+  -- it has a name
+  pub listed-name : (e : Key) → head.class ≡ class.Named → ((o : Object) → StandsAt s.cut.bytes h o → IsNamed e o.name) → HasEntries s index.Named e h
+  listed-name (entry.Name bytes) e n d k =
+      let o : IsHere s.cut.bytes d (names.ByHandle h) h = object-here s h a d k in
+      record {
+        object = o.object;
+        is = o.is;
+        key = names.ByName o.object.name;
+        seeks = n o.object o.stands;
+        found = own-name current d o.object k.denotes.directory (by-own_handle d h o.object o.stands.at o.is) (own-class class.Named o.object (sym (r o.object o.stands).class ∙ e) refl);
+      }
+  listed-name (entry.Code n) e m d k = absurd (m (object-here s h a d k).object (object-here s h a d k).stands)
+
+  -- it is the only one of its kind
+  pub listed-kind : (n : ℕ) → head.class ≡ class.Unique → n ≡ code_of head.kind → HasEntries s index.Unique (entry.Code n) h
+  listed-kind n e f d k =
+      let o : IsHere s.cut.bytes d (names.ByHandle h) h = object-here s h a d k in
+      let said : IsHeadOf o.object head = r o.object o.stands in
+      record {
+        object = o.object;
+        is = o.is;
+        key = names.ByKind (kind_of o.object.value);
+        seeks = f ∙ ap code_of said.kind;
+        found = own-kind current d o.object k.denotes.directory (by-own_handle d h o.object o.stands.at o.is) (own-class class.Unique o.object (sym said.class ∙ e) refl);
+      }
+
+-- an entry that an object has is found
+pub listed-found : (s : State) (i : Index) (e : Key) (h at : ℕ) → ForIndex s.cut i (λ hs. IsPlace (bytes_of s.cut.bytes) e hs (Absent at)) → HasEntries s i e h → IsAnonymousAt s h
+listed-found s i e h at f each d k =
+    let x : HasEntry i e d h = each d k in
+    absurd (none-some x.object (sym (lookup-absent i s.cut d e x.key k.denotes x.seeks at (of-directory s i (λ hs. IsPlace (bytes_of s.cut.bytes) e hs (Absent at)) d k f)).none ∙ x.found))

@@ -1,0 +1,87 @@
+-- The blocks of an object that no entry leads to yet: what an index wants to lead there, and how they are given back.
+use Rattle.std.proofs.Common.{◌≡◌, sym, subst, ℕ, ◌+◌, ◌*◌, ◌%◌, ◌≤◌, Some, None, Option, List, [], arith}
+use Rattle.std.specs.Prelude.{IfSome, IsTrue}
+use Rattle.raw_region.specs.Memory.{Cut}
+use Rattle.raw_region.specs.Format.{current}
+use Rattle.block_tags.specs.declared.tile.Role.TheVariants.{Object as ObjectRole}
+use Rattle.best_fit.specs.Extents.{LiveSet}
+use Rattle.best_fit.specs.Heap.{IsAllocated, IsHeap, IsReleased, has_room, is_live_in, live_of}
+use Rattle.best_fit.proofs.Laws.{allocated-is_live, allocated-room, changed-room, lay_out_one}
+use Rattle.seg_types.specs.declared.kinds.ScalarKind.{ScalarKind}
+use Rattle.seg_types.specs.declared.kinds.Class.{Class}
+use Rattle.seg_types.specs.declared.kinds.Class.TheVariants.{Anonymous}
+use Rattle.seg_types.specs.Kinds.{size_of}
+use Rattle.seg_types.specs.Names.{Key}
+use Rattle.seg_index.specs.Growth.{CanGrow, GivesBack}
+use Rattle.seg_index.specs.Held.{HasIndex, entry_count, place_of}
+use Rattle.segment_manager.specs.declared.constructing_from.NewEntry.{NewEntry}
+use Rattle.segment_manager.specs.Begun.{IsBegun, IsHeaded, IsLoose, IsLooseAlone, IsLooseEntry}
+use Rattle.segment_manager.specs.Indexed.{class_of_index}
+use Rattle.segment_manager.specs.NewObjects.{IsRestored}
+use Rattle.segment_manager.specs.Standing.{numbers_len}
+use Rattle.segment_manager.proofs.GivenBack.{request-back, taken-back}
+use Rattle.segment_manager.proofs.Made.{requested-taken}
+use Rattle.segment_manager.proofs.Payloads.{changed-heap}
+use Rattle.segment_manager.proofs.Taking.{growth-held, ready, ready-count, requested-aligned, written-taken}
+
+-- ---- begun: the elements have room behind the head
+
+headed-room : (a b : Cut) (k : ScalarKind) (class : Class) (name : List ℕ) (count h at : ℕ) → IsHeaded a b k class name count h at → IsTrue (has_room (live_of a.bytes) h (numbers_len k name count))
+    → IsTrue (has_room (live_of b.bytes) h (at + size_of k * count))
+headed-room a b k class name count h at p room =
+    subst (λ n. IsTrue (has_room (live_of b.bytes) h (n + size_of k * count))) (sym p.start) (changed-room current a b h _ h (numbers_len k name count) p.change room)
+
+pub begun-room : (entry : Option NewEntry) (a m : Cut) (key : Key) (k : ScalarKind) (count h at : ℕ) → IsBegun a m key k count h at entry → IsTrue (has_room (live_of m.bytes) h (at + size_of k * count))
+begun-room None a m key k count h at g =
+    headed-room g.taken m k Anonymous [] count h at g.headed (allocated-room current a g.taken (numbers_len k [] count) ObjectRole h (numbers_len k [] count) g.takes (omega arith))
+begun-room (Some e) a m key k count h at g =
+    headed-room g.taken m k (class_of_index e.index) g.name count h at g.headed
+    (allocated-room current g.requested.between g.taken (numbers_len k g.name count) ObjectRole h (numbers_len k g.name count) g.requested.takes (omega arith))
+
+pub begun-heap : (entry : Option NewEntry) (a m : Cut) (key : Key) (k : ScalarKind) (count h at : ℕ) → IsBegun a m key k count h at entry → IsHeap current m.bytes
+begun-heap None a m key k count h at g = changed-heap g.taken m h _ g.headed.change
+begun-heap (Some e) a m key k count h at g = changed-heap g.taken m h _ g.headed.change
+
+-- ---- an entry is to lead there
+
+pub record IsWanted (now : Cut) (h : ℕ) (e : NewEntry) : Type 0 where
+  pub index : HasIndex now (place_of e.index)
+  pub growth : CanGrow now (place_of e.index) e.growth.block
+  pub within : e.place ≤ entry_count now (place_of e.index)
+  pub aligned : h % 16 ≡ 0
+
+pub loose-wanted : (old now : Cut) (h : ℕ) (e : NewEntry) → IsLooseEntry old now h e → IsWanted now h e
+loose-wanted old now h e l =
+    let q = l.index in
+    let ok = ready e.index old l.taken now l.len h e.growth.block q.table q.handles q.index l.requested l.change in
+    record {
+      index = record { table = q.table; handles = q.handles; index = ok.index };
+      growth = ok.growth;
+      within = subst (λ n. e.place ≤ n) (sym (ready-count e.index old now q.table q.handles q.index ok.index)) l.within;
+      aligned = requested-aligned l.requested.between l.taken l.len h l.requested.takes;
+    }
+
+-- ---- all is given back
+
+-- the block is in use
+pub loose-live : (entry : Option NewEntry) (old now : Cut) (h : ℕ) → IsLoose old now h entry → IsTrue (is_live_in (live_of now.bytes) h)
+loose-live None old now h l = allocated-is_live current old now l.len ObjectRole h (written-taken old l.taken now l.len h l.takes l.change)
+loose-live (Some e) old now h l =
+    allocated-is_live current l.requested.between now l.len ObjectRole h (written-taken l.requested.between l.taken now l.len h l.requested.takes l.change)
+
+pub alone-back : (old now new : Cut) (h : ℕ) → IsLooseAlone old now h → IsReleased current now new h → IsRestored old new
+alone-back old now new h l gone =
+    let took : IsAllocated current old now l.len ObjectRole h = written-taken old l.taken now l.len h l.takes l.change in
+    taken-back old now new took.extent (requested-taken old now l.len ObjectRole h took) (subst (IsReleased current now new) took.at gone)
+
+-- once it is given back, what the index took is in use still
+pub loose-held : (old now new : Cut) (h : ℕ) (e : NewEntry) → IsLooseEntry old now h e → IsReleased current now new h → IfSome e.growth.block (λ g. IsTrue (is_live_in (live_of new.bytes) g))
+loose-held old now new h e l gone =
+    let r = l.requested in
+    let took : IsAllocated current r.between now l.len ObjectRole h = written-taken r.between l.taken now l.len h r.takes l.change in
+    let back : IsRestored r.between new = taken-back r.between now new took.extent (requested-taken r.between now l.len ObjectRole h took) (subst (IsReleased current now new) took.at gone) in
+    subst (λ (s : LiveSet). IfSome e.growth.block (λ g. IsTrue (is_live_in s g))) (sym (lay_out_one current new.bytes (live_of r.between.bytes) back.laid))
+    (growth-held old r.between (place_of e.index) e.growth.block r.grows)
+
+pub entry-back : (old now mid new : Cut) (h : ℕ) (e : NewEntry) → IsLooseEntry old now h e → IsReleased current now mid h → GivesBack mid new e.growth.block → IsRestored old new
+entry-back old now mid new h e l gone back = request-back old l.taken now mid new (place_of e.index) l.len h e.growth.block l.requested l.change gone back

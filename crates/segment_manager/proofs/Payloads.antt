@@ -1,0 +1,80 @@
+-- The payload of a block, as it is lent and as contracts count its room.
+use Rattle.std.proofs.Common.{◌≡◌, refl, sym, ap, subst, ◌∙◌, ℕ, ◌+◌, ◌-◌, ◌≤◌, ◌⊎◌, inl, inr, ◌&&◌, ◌==◌, true, List, [], ◌∷◌, length, arith}
+use Rattle.std.specs.Prelude.{IsTrue}
+use Rattle.std.specs.List.{list_any}
+use Rattle.std.proofs.lemmas.Bool.{or_cases, or_left, or_right}
+use Rattle.raw_region.specs.Memory.{Cut, Has, Same, bytes_of, part, read, word_at}
+use Rattle.raw_region.specs.Format.{current}
+use Rattle.best_fit.specs.Extents.{Extent, LiveSet, handle, holds}
+use Rattle.best_fit.specs.Heap.{IsChanged, IsHeap, LaysOut, has_room, is_live_in, live_of, payload_at}
+use Rattle.raw_region.proofs.Laws.{Has-same, Same-word, SameBut-Same, length-part, part-part, read-part}
+use Rattle.best_fit.proofs.Laws.{block_payload, changed-live, room_block}
+use Rattle.segment_manager.proofs.Words.{first}
+
+-- ---- blocks with room are in use
+
+live-if : (h n : ℕ) (x : Extent) (xs : List Extent) → (IsTrue (list_any (λ (y : Extent). (handle y == h) && holds y n) xs) → IsTrue (list_any (λ (y : Extent). handle y == h) xs))
+    → (((handle x == h) && holds x n) ≡ true) ⊎ (list_any (λ (y : Extent). (handle y == h) && holds y n) xs ≡ true) → IsTrue (list_any (λ (y : Extent). handle y == h) (x ∷ xs))
+live-if h n x xs rest (inl t) = or_left (handle x == h) (list_any (λ (y : Extent). handle y == h) xs) (first (handle x == h) (holds x n) t)
+live-if h n x xs rest (inr t) = or_right (handle x == h) (list_any (λ (y : Extent). handle y == h) xs) (rest t)
+
+live-in : (h n : ℕ) (xs : List Extent) → IsTrue (list_any (λ (x : Extent). (handle x == h) && holds x n) xs) → IsTrue (list_any (λ (x : Extent). handle x == h) xs)
+live-in h n [] t = t
+live-in h n (x ∷ xs) t = live-if h n x xs (live-in h n xs) (or_cases ((handle x == h) && holds x n) (list_any (λ (y : Extent). (handle y == h) && holds y n) xs) t)
+
+-- a block with room is in use
+pub room-live : (l : LiveSet) (h n : ℕ) → IsTrue (has_room l h n) → IsTrue (is_live_in l h)
+room-live l h n t = live-in h n l.extents t
+
+-- ---- what a block lends
+
+-- of its payload p, the first n bytes are those of the heap, and all offsets are small
+pub record Lent (c : Cut) (h n : ℕ) (p : List ℕ) : Type 0 where
+  pub long : n ≤ length p
+  pub content : (at len : ℕ) → at + len ≤ n → part p at len ≡ read (bytes_of c.bytes) (h + at) len
+
+pub lent : (c : Cut) (h n : ℕ) (p : List ℕ) → IsHeap current c.bytes → IsTrue (has_room (live_of c.bytes) h n) → p ≡ payload_at c.bytes (live_of c.bytes) h → Lent c h n p
+lent c h n p heap has e =
+    let r = room_block c h n heap has in let b = r.block in
+    let enough = r.enough in let o = b.at in let ends = b.inside in let size = b.size in
+    let is : p ≡ part c.bytes h (b.tile.len - 16) = e ∙ block_payload c h b in
+    let long : length p ≡ b.tile.len - 16 = ap (λ (l : List ℕ). length l) is ∙ length-part c.bytes h (b.tile.len - 16) (omega arith) in
+    record {
+      long = omega arith;
+      content = λ at len l.
+          ap (λ (q : List ℕ). part q at len) is ∙ part-part c.bytes h (b.tile.len - 16) at len (omega arith)
+          ∙ sym (read-part c.bytes (h + at) len (omega arith));
+    }
+
+-- a heap has no more than 2 ^ 30 bytes
+pub room-small : (c : Cut) (h n : ℕ) → IsHeap current c.bytes → IsTrue (has_room (live_of c.bytes) h n) → h + n ≤ 1073741824
+room-small c h n heap has =
+    let r = room_block c h n heap has in let b = r.block in
+    let enough = r.enough in let o = b.at in let ends = b.inside in let size = b.size in omega arith
+
+-- ---- no change
+
+-- what changes in no byte is a heap with the same live set
+pub changed-none : (c : Cut) (from : ℕ) → IsHeap current c.bytes → IsChanged current c c from 0
+changed-none c from heap = record {
+  place = record { before = refl; after = refl };
+  live = heap;
+  rest = record { at = λ k f. refl };
+}
+
+-- a heap stays one
+pub changed-heap : (a b : Cut) (from n : ℕ) → IsChanged current a b from n → IsHeap current b.bytes
+changed-heap a b from n c = subst (LaysOut current b.bytes) (sym (changed-live current a b from n c)) c.live
+
+-- ---- what stays in front of a change
+
+-- a word stays where bytes behind it change
+pub word-stays : (a b : Cut) (at from n : ℕ) → IsChanged current a b from n → at + 8 ≤ from → word_at (bytes_of b.bytes) at ≡ word_at (bytes_of a.bytes) at
+word-stays a b at from n c f =
+    Same-word (bytes_of a.bytes) (bytes_of b.bytes) at (at + 8) at (record { at = λ k l h. c.rest.at k (inl (omega arith)) }) (omega arith) (omega arith)
+
+-- bytes stay where others behind them change
+pub bytes-stay : (a b : Cut) (at from n : ℕ) (bytes : List ℕ) → IsChanged current a b from n → at + length bytes ≤ from → Has (bytes_of a.bytes) at bytes → Has (bytes_of b.bytes) at bytes
+bytes-stay a b at from n bytes c f h =
+    let s : Same (bytes_of a.bytes) (bytes_of b.bytes) at from = SameBut-Same (bytes_of a.bytes) (bytes_of b.bytes) from n at from c.rest (inl (omega arith)) in
+    Has-same (bytes_of a.bytes) (bytes_of b.bytes) at from at bytes s (omega arith) f h

@@ -1,0 +1,110 @@
+-- Reading an element of the object of a key: what the step answers, for each directory that the bytes denote.
+use Rattle.std.proofs.Common.{◌≡◌, refl, sym, ap, ◌∙◌, ℕ, ◌+◌, ◌≤◌, ℤ, true, false, Option, Some, None, Result, Ok, Err, List, length, arith}
+use Rattle.std.specs.Prelude.{IsTrue, MatchOption}
+use Rattle.std.specs.Option.{ok_or}
+use Rattle.std.proofs.lemmas.Bool.{eq-eqb, false≢true, ltb-false}
+use Rattle.std.proofs.lemmas.Option.{slice_get_past}
+use Rattle.byteorder.specs.Endian.{little_number}
+use Rattle.raw_region.specs.Memory.{bytes_of, read}
+use Rattle.best_fit.specs.Heap.{has_room, live_of}
+use Rattle.seg_types.specs.declared.kinds.ScalarKind.{ScalarKind}
+use Rattle.seg_types.specs.declared.kinds.Kind.TheVariants.{Scalar}
+use Rattle.seg_types.specs.declared.refusals.Refusal.{Refusal}
+use Rattle.seg_types.specs.declared.refusals.Refusal.TheVariants.{WrongKind}
+use Rattle.seg_types.specs.declared.values.ScalarValue.{ScalarValue}
+use Rattle.seg_types.specs.Kinds.{code_of, is_spelling, is_value, same_kind, size_of, spelling, value_of}
+use Rattle.seg_types.specs.Names.{Key}
+use Rattle.seg_types.specs.Commands as asked
+use Rattle.seg_types.specs.Commands.{Command}
+use Rattle.seg_types.specs.Values.{SpelledBy, value_of_scalar}
+use Rattle.segment_manager.specs.declared.accessing.Place.{Place}
+use Rattle.segment_manager.specs.declared.modes.Mode.{Mode}
+use Rattle.segment_manager.specs.Answers.{Answer, Element, Refused}
+use Rattle.segment_manager.specs.Directory.{Object, Directory, Numbers, count_of, kind_of, live, object_at}
+use Rattle.segment_manager.specs.Plan.{perform}
+use Rattle.segment_manager.specs.Standing.{place_at}
+use Rattle.segment_manager.specs.State.{Answers, IsReplyOfKind, IsSegment, State, answer_of, scalar_answer}
+use Rattle.segment_manager.specs.Step.{step_of_kind}
+use Rattle.seg_types.proofs.Laws.{all_spell_one}
+use Rattle.segment_manager.proofs.Codes.{numbers-only}
+use Rattle.segment_manager.proofs.Elements.{get-effect, get-past}
+use Rattle.segment_manager.proofs.Places.{ElementAt, Lacks, Other, Past, Missing, Nowhere, Within, element-found, element-missing, element-read, element-room}
+use Rattle.segment_manager.proofs.Steps.{open-reading, step_of_kind-found, step_of_kind-not_found, step_of_kind-other}
+
+-- ---- what the step is
+
+-- a kind is the same as itself
+pub same_scalar-refl : (k : ScalarKind) → same_kind (Scalar k) (Scalar k) ≡ true
+same_scalar-refl k = eq-eqb (code_of (Scalar k)) (code_of (Scalar k)) refl
+
+-- the object of an element is of its kind
+pub element-kind : (b : List ℕ) (d : Directory) (key : Key) (k : ScalarKind) (i : ℕ) (p : Place) → (e : ElementAt b d key k i p) → same_kind (Scalar k) (kind_of e.object.value) ≡ true
+element-kind b d key k i p e = ap (λ v. same_kind (Scalar k) (kind_of v)) e.value ∙ same_scalar-refl k
+
+-- an element is answered
+got : (mode : Mode) (b : List ℕ) (d : Directory) (key : Key) (k : ScalarKind) (i : ℕ) (p : Place) → (e : ElementAt b d key k i p)
+    → step_of_kind mode d key (Scalar k) (asked.Get key i) ≡ (Element k e.number, d)
+got mode b d key k i p e =
+    step_of_kind-found mode d key (Scalar k) (asked.Get key i) e.object (open-reading mode (asked.Get key i) refl) e.is (element-kind b d key k i p e)
+    ∙ ap (perform d (live d)) (get-effect d key e.object k e.numbers i e.number e.is e.value e.there)
+
+not_got-in : (mode : Mode) (d : Directory) (key : Key) (k : ScalarKind) (i : ℕ) (r : Refusal) (o : Object) → object_at d key ≡ Some o → Lacks o k i r
+    → step_of_kind mode d key (Scalar k) (asked.Get key i) ≡ (Refused r, d)
+not_got-in mode d key k i r o e (Other s f) =
+    step_of_kind-other mode d key (Scalar k) (asked.Get key i) o (open-reading mode (asked.Get key i) refl) e s ∙ (λ j. (Refused (sym f j), d))
+not_got-in mode d key k i r o e (Past s t f) =
+    let n : (zs : List ℤ) × (o.value ≡ Numbers k zs) = numbers-only k o.value s in
+    let many : count_of o.value ≡ length n.0 = ap count_of n.1 in
+    let past : length n.0 ≤ i = let l = ltb-false i (count_of o.value) t in omega arith in
+    step_of_kind-found mode d key (Scalar k) (asked.Get key i) o (open-reading mode (asked.Get key i) refl) e s
+    ∙ ap (perform d (live d)) (get-past d key o k n.0 i e n.1 (slice_get_past n.0 i past))
+    ∙ (λ j. (Refused (sym f j), d))
+
+-- or why there is none
+not_got : (mode : Mode) (d : Directory) (key : Key) (k : ScalarKind) (i : ℕ) (r : Refusal) → Missing d key k i r → step_of_kind mode d key (Scalar k) (asked.Get key i) ≡ (Refused r, d)
+not_got mode d key k i r (Nowhere e f) =
+    step_of_kind-not_found mode d key (Scalar k) (asked.Get key i) (open-reading mode (asked.Get key i) refl) e ∙ (λ j. (Refused (sym f j), d))
+not_got mode d key k i r (Within o e l) = not_got-in mode d key k i r o e l
+
+-- ---- the call
+
+-- where no element is found, the step says why
+pub replies-missing : (s : State) (key : Key) (k : ScalarKind) (i : ℕ) (r : Refusal) → Answers s (λ d. place_at d key k i) (Err r) → IsReplyOfKind s key (Scalar k) (asked.Get key i) (Refused r)
+replies-missing s key k i r a = record {
+  answers = λ d l. sym (ap (λ (n : Answer × Directory). n.0) (not_got s.mode d key k i r (element-missing d key k i r (a.answers d l))));
+}
+
+-- what the bytes of the element are read as is the step's answer
+pub replies-found : (s : State) (key : Key) (k : ScalarKind) (i : ℕ) (p : Place) (answer : Answer) → Answers s (λ d. place_at d key k i) (Ok p)
+    → ((z : ℤ) → IsTrue (is_value k z) → read (bytes_of s.cut.bytes) (p.handle + p.at) (size_of k) ≡ spelling k z → answer ≡ Element k z) → IsReplyOfKind s key (Scalar k) (asked.Get key i) answer
+replies-found s key k i p answer a reads = record {
+  answers = λ d l.
+      let e : ElementAt s.cut.bytes d key k i p = element-found s.cut.bytes d key k i p l.denotes (a.answers d l) in
+      reads e.number e.in_range (element-read s.cut.bytes d key k i p e) ∙ sym (ap (λ (n : Answer × Directory). n.0) (got s.mode s.cut.bytes d key k i p e));
+}
+
+-- the block has the room of the element
+pub place-room : (s : State) (key : Key) (k : ScalarKind) (i : ℕ) (p : Place) → IsSegment s.cut.bytes → Answers s (λ d. place_at d key k i) (Ok p) → IsTrue (has_room (live_of s.cut.bytes) p.handle (p.at + size_of k))
+place-room s key k i p t a =
+    element-room s.cut.bytes t.0 key k i p (element-found s.cut.bytes t.0 key k i p t.1.denotes (a.answers t.0 t.1))
+
+-- ---- what is read
+
+-- a value of a type whose number is the one that the bytes spell
+pub number-answer : {T : Type 0} (k : ScalarKind) (z : ℤ) (whole : T → ℤ) (bytes : List ℕ) (q : Option T) (r : Result T Refusal) → r ≡ ok_or q WrongKind → IsTrue (is_value k z) → bytes ≡ spelling k z
+    → MatchOption q (is_spelling k bytes ≡ false) (λ x. (is_spelling k bytes ≡ true) × (whole x ≡ value_of k (little_number (size_of k) bytes)))
+    → answer_of (λ x. Element k (whole x)) r ≡ Element k z
+number-answer k z whole bytes None r f v e h =
+    absurd (false≢true (sym h ∙ ap (is_spelling k) e ∙ (all_spell_one k z v).is_one))
+number-answer k z whole bytes (Some x) r f v e h =
+    ap (answer_of (λ x. Element k (whole x))) f
+    ∙ ap (Element k) (h.1 ∙ ap (λ (bs : List ℕ). value_of k (little_number (size_of k) bs)) e ∙ (all_spell_one k z v).reads)
+
+-- the same of a value with its kind
+pub scalar-answer : (k : ScalarKind) (z : ℤ) (bytes : List ℕ) (q : Option ScalarValue) (r : Result ScalarValue Refusal) → r ≡ ok_or q WrongKind → IsTrue (is_value k z) → bytes ≡ spelling k z → SpelledBy k bytes q
+    → scalar_answer r ≡ Element k z
+scalar-answer k z bytes None r f v e h =
+    absurd (false≢true (sym h ∙ ap (is_spelling k) e ∙ (all_spell_one k z v).is_one))
+scalar-answer k z bytes (Some x) r f v e h =
+    let number : value_of_scalar x ≡ z = h.2 ∙ ap (λ (bs : List ℕ). value_of k (little_number (size_of k) bs)) e ∙ (all_spell_one k z v).reads in
+    ap scalar_answer f ∙ (λ i. Element (h.1 i) (number i))

@@ -1,0 +1,118 @@
+-- The calls that give the indexes other capacities, as steps of the machine.
+use Rattle.std.proofs.Common.{◌≡◌, refl, sym, ap, subst, ◌∙◌, ℕ, ◌*◌, ◌<◌, ◌≤◌, ◌⊎◌, inl, inr, true, false, List, length, arith, if◌then◌else◌}
+use Rattle.std.specs.Prelude.{IsTrue, nat_le}
+use Rattle.std.proofs.lemmas.Bool.{cases_lt, le-leb, lt-leb}
+use Rattle.raw_region.specs.Memory.{Cut}
+use Rattle.raw_region.specs.Format.{current}
+use Rattle.raw_region.proofs.Laws.{SamePlace-trans}
+use Rattle.block_tags.specs.declared.tile.Role.TheVariants.{Index as IndexRole}
+use Rattle.best_fit.specs.Fit.{place}
+use Rattle.best_fit.specs.Heap.{IsRefused}
+use Rattle.best_fit.specs.Table.{Table, cut_table}
+use Rattle.seg_types.specs.declared.refusals.Refusal.TheVariants.{NoSpace}
+use Rattle.seg_types.specs.Commands as asked
+use Rattle.seg_types.specs.Commands.{is_changing}
+use Rattle.seg_index.specs.declared.index.Index.{Index}
+use Rattle.seg_index.specs.declared.index.Index.TheVariants as index
+use Rattle.seg_index.specs.Capacities.{IsReserved, IsRoomy, IsShrunk}
+use Rattle.seg_index.specs.Held.{HasIndex, IsIndexOf, capacity_at, place_of}
+use Rattle.segment_manager.specs.Answers.{Done, Refused}
+use Rattle.segment_manager.specs.Denotes.{Denotes}
+use Rattle.segment_manager.specs.Directory.{Directory, live}
+use Rattle.segment_manager.specs.Indexed.{entries_of, objects_of, reserve_of, table_of, with_table_of}
+use Rattle.segment_manager.specs.Plan.{Plan, New, Reply, Request}
+use Rattle.segment_manager.specs.State.{IsSegment, IsStep, State}
+use Rattle.segment_manager.specs.Step.{effect, is_read_only, shrunk_indexes, step}
+use Rattle.segment_manager.specs.Supported.{is_supported}
+use Rattle.segment_manager.proofs.Calling.{denotes-live}
+use Rattle.segment_manager.proofs.HeldIndexes.{denotes-index}
+use Rattle.segment_manager.proofs.Steps.{by_no_change, by_step, lands, open-writing, perform-new, perform-no_space, step-plan, step-reply}
+use Rattle.segment_manager.proofs.Tabled.{places_in, reserved-tabled, shrunk-tabled, tabled-denotes}
+
+pub reserve-changes : (i : Index) (n : ℕ) → is_changing (reserve_of i n) ≡ true
+reserve-changes index.Named n = refl
+reserve-changes index.Unique n = refl
+
+reserve-effect : (i : Index) (d : Directory) (n : ℕ)
+    → effect d (reserve_of i n) ≡ (if nat_le n (table_of i d).capacity then Reply Done d else Request (New IndexRole (8 * n)) (λ x. Reply Done (with_table_of i d (places_in n x))))
+reserve-effect index.Named d n = refl
+reserve-effect index.Unique d n = refl
+
+abbrev take_places : Index → Directory → ℕ → Plan
+take_places i d n = Request (New IndexRole (8 * n)) (λ x. Reply Done (with_table_of i d (places_in n x)))
+
+effect-roomy : (i : Index) (d : Directory) (n : ℕ) → n ≤ (table_of i d).capacity → effect d (reserve_of i n) ≡ Reply Done d
+effect-roomy i d n h = reserve-effect i d n ∙ ap (λ b. if b then Reply Done d else take_places i d n) (le-leb n (table_of i d).capacity h)
+
+effect-full : (i : Index) (d : Directory) (n : ℕ) → (table_of i d).capacity < n → effect d (reserve_of i n) ≡ take_places i d n
+effect-full i d n h = reserve-effect i d n ∙ ap (λ b. if b then Reply Done d else take_places i d n) (lt-leb n (table_of i d).capacity h)
+
+same-supported : (i : Index) (d : Directory) (t : Table) → IsTrue (is_supported d) → IsTrue (is_supported (with_table_of i d t))
+same-supported index.Named d t h = h
+same-supported index.Unique d t h = h
+
+-- there are so many places, or they are taken
+pub reserves : (s : State) (c : Cut) (i : Index) (n : ℕ) → is_read_only s.mode ≡ false → IsRoomy s.cut c (place_of i) n → IsStep s (record s { cut = c }) (reserve_of i n) Done
+reserves s c i n writing r = by_case (cases_lt (capacity_at s.cut (place_of i)) n)
+  where
+    by_case : (capacity_at s.cut (place_of i) < n) ⊎ (n ≤ capacity_at s.cut (place_of i)) → IsStep s (record s { cut = c }) (reserve_of i n) Done
+    by_case (inr h) =
+        subst (λ (x : Cut). IsStep s (record s { cut = x }) (reserve_of i n) Done) (sym (r.same h))
+        (by_no_change s (reserve_of i n) Done (λ d k.
+        let x = denotes-index i s.cut d k.denotes in
+        step-reply s.mode d (reserve_of i n) Done d (open-writing s.mode (reserve_of i n) writing) (effect-roomy i d n (omega (arith, h, x.stands.capacity)))))
+    by_case (inl h) =
+        by_step s (record s { cut = c }) (reserve_of i n) Done (record { mode = refl; place = (r.reserved h).keeps.place }) (λ d k.
+        let x = denotes-index i s.cut d k.denotes in
+        let t : IsReserved s.cut c (place_of i) n = r.reserved h in
+        lands (record s { cut = c }) (step s.mode d (reserve_of i n)) Done (with_table_of i d (places_in n t.extent)) (record {
+          is = step-plan s.mode d (reserve_of i n) (take_places i d n) (open-writing s.mode (reserve_of i n) writing) (effect-full i d n (omega (arith, h, x.stands.capacity)))
+              ∙ perform-new d (live d) IndexRole (8 * n) (λ y. Reply Done (with_table_of i d (places_in n y))) t.extent
+              (sym (ap (λ l. place l (8 * n) IndexRole) (denotes-live current s.cut.bytes d k.denotes)) ∙ t.placed);
+          denotes = tabled-denotes i s.cut c d (places_in n t.extent) k.denotes (reserved-tabled i s.cut c d n k.denotes t);
+        }) (same-supported i d (places_in n t.extent) k.supported))
+
+-- or their block is refused
+pub reserves-none : (s : State) (c : Cut) (i : Index) (n : ℕ) → is_read_only s.mode ≡ false → capacity_at s.cut (place_of i) < n → IsRefused s.cut c (8 * n) IndexRole
+    → IsStep s (record s { cut = c }) (reserve_of i n) (Refused NoSpace)
+reserves-none s c i n writing h r =
+    subst (λ (x : Cut). IsStep s (record s { cut = x }) (reserve_of i n) (Refused NoSpace)) (sym r.same)
+    (by_no_change s (reserve_of i n) (Refused NoSpace) (λ d k.
+    let x = denotes-index i s.cut d k.denotes in
+    step-plan s.mode d (reserve_of i n) (take_places i d n) (open-writing s.mode (reserve_of i n) writing) (effect-full i d n (omega (arith, h, x.stands.capacity)))
+    ∙ perform-no_space d (live d) IndexRole (8 * n) (λ y. Reply Done (with_table_of i d (places_in n y)))
+    (sym (ap (λ l. place l (8 * n) IndexRole) (denotes-live current s.cut.bytes d k.denotes)) ∙ r.none)))
+
+-- ---- both shrunk
+
+-- an index is shrunk, whichever directory the bytes denote
+abbrev pub Shrinks : Index → Cut → Cut → Type 0
+Shrinks i a c = (t : Table) (hs : List ℕ) → IsIndexOf a (place_of i) t hs → IsShrunk a c (place_of i) t hs
+
+-- an index of a directory with no more places than entries
+abbrev shrunk : Index → Directory → Directory
+shrunk i d = with_table_of i d (cut_table (live d) 8 (length (objects_of i d)) (table_of i d))
+
+pub shrunk-denotes : (i : Index) (a c : Cut) (d : Directory) → Denotes current a.bytes d → Shrinks i a c → Denotes current c.bytes (shrunk i d)
+shrunk-denotes i a c d k r =
+    tabled-denotes i a c d (cut_table (live d) 8 (length (objects_of i d)) (table_of i d)) k
+    (shrunk-tabled i a c d k (r (table_of i d) (entries_of i d) (denotes-index i a d k)))
+
+pub shrinks : (s : State) (b c : Cut) → is_read_only s.mode ≡ false → IsSegment s.cut.bytes → Shrinks index.Named s.cut b → Shrinks index.Unique b c
+    → IsStep s (record s { cut = c }) asked.ShrinkIndexes Done
+shrinks s b c writing g n u =
+    let k0 = g.1.denotes in
+    let first = n (table_of index.Named g.0) (entries_of index.Named g.0) (denotes-index index.Named s.cut g.0 k0) in
+    let e0 = shrunk index.Named g.0 in
+    let second = u (table_of index.Unique e0) (entries_of index.Unique e0) (denotes-index index.Unique b e0 (shrunk-denotes index.Named s.cut b g.0 k0 n)) in
+    by_step s (record s { cut = c }) asked.ShrinkIndexes Done (record { mode = refl; place = SamePlace-trans s.cut b c first.keeps.place second.keeps.place }) (λ d k.
+    lands (record s { cut = c }) (step s.mode d asked.ShrinkIndexes) Done (shrunk index.Unique (shrunk index.Named d)) (record {
+      is = step-reply s.mode d asked.ShrinkIndexes Done (shrunk_indexes d) (open-writing s.mode asked.ShrinkIndexes writing) refl;
+      denotes = shrunk-denotes index.Unique b c (shrunk index.Named d) (shrunk-denotes index.Named s.cut b d k.denotes n) u;
+    }) k.supported)
+
+-- the other index stands still where one is shrunk
+pub shrunk-index : (a b : Cut) → IsSegment a.bytes → Shrinks index.Named a b → HasIndex b (place_of index.Unique)
+shrunk-index a b g n =
+    let e = shrunk index.Named g.0 in
+    record { table = table_of index.Unique e; handles = entries_of index.Unique e; index = denotes-index index.Unique b e (shrunk-denotes index.Named a b g.0 g.1.denotes n) }

@@ -1,0 +1,192 @@
+-- Writing an element of the object of a key: what the step is, and what the bytes denote then.
+use Rattle.std.proofs.Common.{◌≡◌, refl, sym, ap, subst, ◌∙◌, ℕ, zero, suc, ◌+◌, ◌*◌, ◌<◌, ◌≤◌, inl, ℤ, pos, negsuc, Bool, true, false, ◌&&◌, Some, Ok, Err, Result, List, [], ◌∷◌, length, set, if◌then◌else◌, arith}
+use Rattle.std.specs.Prelude.{IsTrue, nat_le}
+use Rattle.std.specs.List.{list_all}
+use Rattle.std.proofs.Math.Nat.{mul-le-mul_left}
+use Rattle.std.proofs.lemmas.Bool.{and_from, ltb-false}
+use Rattle.std.proofs.lemmas.List.{length-set}
+use Rattle.std.proofs.lemmas.Option.{slice_get_past, slice_get_within}
+use Rattle.raw_region.specs.Format.{current}
+use Rattle.raw_region.specs.Memory.{Cut, Memory, Has, Same, SameBut, bytes_of}
+use Rattle.block_tags.specs.declared.tile.Role.TheVariants.{Object as ObjectRole}
+use Rattle.best_fit.specs.Extents.{handle}
+use Rattle.best_fit.specs.Heap.{IsChanged}
+use Rattle.best_fit.specs.Table.{serves}
+use Rattle.seg_types.specs.declared.kinds.ScalarKind.{ScalarKind}
+use Rattle.seg_types.specs.declared.kinds.ScalarKind.TheVariants.{Bool as BoolKind, U8, I32, I64, U64}
+use Rattle.seg_types.specs.declared.kinds.Kind.TheVariants.{Scalar}
+use Rattle.seg_types.specs.declared.refusals.Refusal.{Refusal}
+use Rattle.seg_types.specs.declared.refusals.Refusal.TheVariants.{OutOfRange}
+use Rattle.seg_types.specs.Kinds.{is_value, size_of, spelling}
+use Rattle.seg_types.specs.Names.{Key}
+use Rattle.seg_types.specs.Commands as asked
+use Rattle.seg_types.specs.Commands.{Literal, literal_of, value_of_literal}
+use Rattle.seg_vector.specs.Vector.{spelled}
+use Rattle.segment_manager.specs.declared.accessing.Place.{Place}
+use Rattle.segment_manager.specs.declared.modes.Mode.{Mode}
+use Rattle.segment_manager.specs.Answers.{Done, Refused}
+use Rattle.segment_manager.specs.Denotes.{Denotes, IsValueAt}
+use Rattle.segment_manager.specs.Directory.{Numbers, Object, Directory, count_of, has_good_name, is_object, kind_of, live, object_at, padded, value_extents, value_len, with_changed}
+use Rattle.segment_manager.specs.Plan.{perform}
+use Rattle.segment_manager.specs.Standing.{place_at}
+use Rattle.segment_manager.specs.State.{Answers, IsStepOfKind, State}
+use Rattle.segment_manager.specs.Step.{is_read_only, step_of_kind}
+use Rattle.raw_region.proofs.Laws.{SameBut-Same}
+use Rattle.segment_manager.proofs.Blocks.{spelling-length}
+use Rattle.segment_manager.proofs.Codes.{numbers-only}
+use Rattle.segment_manager.proofs.Elements.{set-effect, set-past}
+use Rattle.segment_manager.proofs.Frame.{IsRoomy, object-roomy}
+use Rattle.segment_manager.proofs.Live.{IsIn}
+use Rattle.segment_manager.proofs.Objects.{key-found}
+use Rattle.segment_manager.proofs.Places.{ElementAt, Lacks, Other, Past, Missing, Nowhere, Within, element-found, element-missing, numbers-good, numbers-stand}
+use Rattle.segment_manager.proofs.Replies.{element-kind}
+use Rattle.segment_manager.proofs.Rewritten.{SameFrame, denotes-rewritten, value_start, with_value}
+use Rattle.segment_manager.proofs.Rows.{Has-set}
+use Rattle.segment_manager.proofs.Steps.{by_no_change_of_kind, by_step_of_kind, lands, open-writing, step_of_kind-found, step_of_kind-not_found, step_of_kind-other}
+use Rattle.segment_manager.proofs.Supported.{supported-changed}
+use Rattle.segment_manager.proofs.Words.{first, second}
+
+-- ---- the literal of a value
+
+-- it is read as the value
+pub literal-read : (k : ScalarKind) (z : ℤ) → is_value k z ≡ true → value_of_literal k (literal_of k z) ≡ Ok z
+literal-read BoolKind (pos zero) h = refl
+literal-read BoolKind (pos (suc zero)) h = refl
+literal-read BoolKind (pos (suc (suc n))) h = absurd (grind arith)
+literal-read BoolKind (negsuc n) h = absurd (cc)
+literal-read U8 z h = ap (λ (b : Bool). let r : Result ℤ Refusal = if b then Ok z else Err OutOfRange in r) h
+literal-read I32 z h = ap (λ (b : Bool). let r : Result ℤ Refusal = if b then Ok z else Err OutOfRange in r) h
+literal-read I64 z h = ap (λ (b : Bool). let r : Result ℤ Refusal = if b then Ok z else Err OutOfRange in r) h
+literal-read U64 z h = ap (λ (b : Bool). let r : Result ℤ Refusal = if b then Ok z else Err OutOfRange in r) h
+
+-- ---- the numbers with another among them
+
+list_all-set : (t : ℤ → Bool) (zs : List ℤ) (i : ℕ) (z : ℤ) → IsTrue (list_all t zs) → IsTrue (t z) → IsTrue (list_all t (set zs i z))
+list_all-set t [] i z h v = h
+list_all-set t (y ∷ ys) zero z h v = and_from (t z) (list_all t ys) v (second (t y) (list_all t ys) h)
+list_all-set t (y ∷ ys) (suc i) z h v = and_from (t y) (list_all t (set ys i z)) (first (t y) (list_all t ys) h) (list_all-set t ys i z (second (t y) (list_all t ys) h) v)
+
+-- as many values make the object another
+numbers-object : (o : Object) (k : ScalarKind) (zs new : List ℤ) → IsTrue (is_object current o) → o.value ≡ Numbers k zs → length new ≡ length zs → IsTrue (list_all (is_value k) new)
+    → IsTrue (is_object current (with_value o (Numbers k new)))
+numbers-object o k zs new h e many all =
+    let h1 : IsTrue (is_object current (with_value o (Numbers k zs))) = subst (λ v. IsTrue (is_object current (with_value o v))) e h in
+    let named : Bool = has_good_name current o in
+    let serving : ℕ → Bool = λ n. serves o.extent ObjectRole (16 + padded (length o.name) + size_of k * n) in
+    let counted : ℕ → Bool = λ n. nat_le 1 n && nat_le n 1048576 in
+    let before : Bool = named && true && (counted (length zs) && list_all (is_value k) zs) in
+    let front : IsTrue (named && true) = first (named && true) (counted (length zs) && list_all (is_value k) zs) (first before (serving (length zs)) h1) in
+    let value : IsTrue (counted (length zs) && list_all (is_value k) zs) = second (named && true) (counted (length zs) && list_all (is_value k) zs) (first before (serving (length zs)) h1) in
+    let count : IsTrue (counted (length new)) = subst (λ n. IsTrue (counted n)) (sym many) (first (counted (length zs)) (list_all (is_value k) zs) value) in
+    let room : IsTrue (serving (length new)) = subst (λ n. IsTrue (serving n)) (sym many) (second before (serving (length zs)) h1) in
+    and_from (named && true && (counted (length new) && list_all (is_value k) new)) (serving (length new))
+    (and_from (named && true) (counted (length new) && list_all (is_value k) new) front (and_from (counted (length new)) (list_all (is_value k) new) count all)) room
+
+-- ---- the element is written
+
+module _ (old new : Cut) (d : Directory) (key : Key) (k : ScalarKind) (i : ℕ) (p : Place) (e : ElementAt old.bytes d key k i p) where
+  -- the object with the new number
+  abbrev pub with_number : ℤ → Object
+  with_number z = with_value e.object (Numbers k (set e.numbers i z))
+
+  -- where its numbers stand, and where the one does
+  start : value_start e.object ≡ p.handle + (16 + padded (length e.object.name))
+  start = let s = e.stands.at in omega arith
+
+  spot : p.handle + p.at ≡ value_start e.object + size_of k * i
+  spot = let s = e.stands.at in let f = e.at in omega arith
+
+  below : i < length e.numbers
+  below = slice_get_within e.numbers i e.number e.there
+
+  frame : (z : ℤ) → SameFrame e.object.value (Numbers k (set e.numbers i z))
+  frame z = record {
+    kind = ap kind_of (sym e.value);
+    count = length-set e.numbers i z ∙ ap count_of (sym e.value);
+    extents = ap value_extents (sym e.value);
+  }
+
+  good : (z : ℤ) → IsTrue (is_value k z) → IsTrue (is_object current (with_number z))
+  good z v =
+      numbers-object e.object k e.numbers (set e.numbers i z) e.stands.good e.value (length-set e.numbers i z)
+      (list_all-set (is_value k) e.numbers i z (numbers-good e.object k e.numbers e.stands.good e.value) v)
+
+  -- the numbers stand there
+  written : (z : ℤ) → SameBut (bytes_of old.bytes) (bytes_of new.bytes) (p.handle + p.at) (size_of k) → Has (bytes_of new.bytes) (p.handle + p.at) (spelling k z)
+      → IsValueAt (bytes_of new.bytes) (value_start e.object) (Numbers k (set e.numbers i z))
+  written z s w =
+      let m : Memory = bytes_of old.bytes in
+      let m' : Memory = bytes_of new.bytes in
+      let was : Has m (value_start e.object) (spelled k e.numbers) = subst (λ a. Has m a (spelled k e.numbers)) (sym start) (numbers-stand old.bytes d key k i p e) in
+      Has-set (spelling k) (size_of k) (spelling-length k) m m' (value_start e.object) e.numbers i z was below
+      (subst (λ a. SameBut m m' a (size_of k)) spot s) (subst (λ a. Has m' a (spelling k z)) spot w)
+
+  -- the bytes denote the directory with the new number
+  pub denotes-number : (z : ℤ) → Denotes current old.bytes d → IsTrue (is_value k z) → IsChanged current old new (p.handle + p.at) (size_of k) → Has (bytes_of new.bytes) (p.handle + p.at) (spelling k z)
+      → Denotes current new.bytes (with_changed d (with_number z))
+  denotes-number z h v c w =
+      let o : Object = e.object in
+      let f : IsIn d o = key-found current d key o h.directory e.is in
+      let roomy : IsRoomy o = object-roomy current o e.stands.good in
+      let room : 16 + padded (length o.name) + value_len o.value + 16 ≤ o.extent.len = roomy.room in
+      let long : value_len o.value ≡ size_of k * length e.numbers = ap value_len e.value in
+      let l = below in
+      let fits : size_of k * (i + 1) ≤ size_of k * length e.numbers = mul-le-mul_left (size_of k) (omega arith) in
+      let at = spot in
+      let front : Same (bytes_of old.bytes) (bytes_of new.bytes) (handle o.extent) (value_start o) =
+      SameBut-Same (bytes_of old.bytes) (bytes_of new.bytes) (p.handle + p.at) (size_of k) (handle o.extent) (value_start o) c.rest (inl (omega arith)) in
+      denotes-rewritten current old new d o (Numbers k (set e.numbers i z)) [] (value_extents o.value) o.extent (p.handle + p.at) (size_of k) h f e.stands.said (frame z) (good z v) refl c
+      (omega arith) (omega arith) front (written z c.rest w)
+
+-- ---- what the step is
+
+-- an element is set
+stored : (mode : Mode) (b : List ℕ) (d : Directory) (key : Key) (k : ScalarKind) (i : ℕ) (p : Place) (l : Literal) (z : ℤ) → (e : ElementAt b d key k i p) → is_read_only mode ≡ false → value_of_literal k l ≡ Ok z
+    → step_of_kind mode d key (Scalar k) (asked.Set key i l) ≡ (Done, with_changed d (with_value e.object (Numbers k (set e.numbers i z))))
+stored mode b d key k i p l z e writing f =
+    step_of_kind-found mode d key (Scalar k) (asked.Set key i l) e.object (open-writing mode (asked.Set key i l) writing) e.is (element-kind b d key k i p e)
+    ∙ ap (perform d (live d)) (set-effect d key e.object k e.numbers i l z e.number e.is e.value f e.there)
+
+not_stored-in : (mode : Mode) (d : Directory) (key : Key) (k : ScalarKind) (i : ℕ) (l : Literal) (z : ℤ) (r : Refusal) (o : Object) → is_read_only mode ≡ false → value_of_literal k l ≡ Ok z → object_at d key ≡ Some o
+    → Lacks o k i r → step_of_kind mode d key (Scalar k) (asked.Set key i l) ≡ (Refused r, d)
+not_stored-in mode d key k i l z r o writing v e (Other s f) =
+    step_of_kind-other mode d key (Scalar k) (asked.Set key i l) o (open-writing mode (asked.Set key i l) writing) e s ∙ (λ j. (Refused (sym f j), d))
+not_stored-in mode d key k i l z r o writing v e (Past s t f) =
+    let n : (zs : List ℤ) × (o.value ≡ Numbers k zs) = numbers-only k o.value s in
+    let many : count_of o.value ≡ length n.0 = ap count_of n.1 in
+    let past : length n.0 ≤ i = let m = ltb-false i (count_of o.value) t in omega arith in
+    step_of_kind-found mode d key (Scalar k) (asked.Set key i l) o (open-writing mode (asked.Set key i l) writing) e s
+    ∙ ap (perform d (live d)) (set-past d key o k n.0 i l z e n.1 v (slice_get_past n.0 i past))
+    ∙ (λ j. (Refused (sym f j), d))
+
+-- or why there is none
+not_stored : (mode : Mode) (d : Directory) (key : Key) (k : ScalarKind) (i : ℕ) (l : Literal) (z : ℤ) (r : Refusal) → is_read_only mode ≡ false → value_of_literal k l ≡ Ok z → Missing d key k i r
+    → step_of_kind mode d key (Scalar k) (asked.Set key i l) ≡ (Refused r, d)
+not_stored mode d key k i l z r writing v (Nowhere e f) =
+    step_of_kind-not_found mode d key (Scalar k) (asked.Set key i l) (open-writing mode (asked.Set key i l) writing) e ∙ (λ j. (Refused (sym f j), d))
+not_stored mode d key k i l z r writing v (Within o e m) = not_stored-in mode d key k i l z r o writing v e m
+
+-- ---- the call
+
+-- where no element is found, the step says why
+pub stores-nothing : (s : State) (key : Key) (k : ScalarKind) (i : ℕ) (z : ℤ) (r : Refusal) → is_read_only s.mode ≡ false → is_value k z ≡ true → Answers s (λ d. place_at d key k i) (Err r)
+    → IsStepOfKind s s key (Scalar k) (asked.Set key i (literal_of k z)) (Refused r)
+stores-nothing s key k i z r writing v a =
+    by_no_change_of_kind s key (Scalar k) (asked.Set key i (literal_of k z)) (Refused r)
+    (λ d l. not_stored s.mode d key k i (literal_of k z) z r writing (literal-read k z v) (element-missing d key k i r (a.answers d l)))
+
+-- a spelling was written at the place: the call is the step
+pub stores-number : (old : State) (new : Cut) (key : Key) (k : ScalarKind) (i : ℕ) (p : Place) (z : ℤ) (bytes : List ℕ) → is_read_only old.mode ≡ false → is_value k z ≡ true → bytes ≡ spelling k z
+    → Answers old (λ d. place_at d key k i) (Ok p) → IsChanged current old.cut new (p.handle + p.at) (length bytes) → Has (bytes_of new.bytes) (p.handle + p.at) bytes
+    → IsStepOfKind old (record old { cut = new }) key (Scalar k) (asked.Set key i (literal_of k z)) Done
+stores-number old new key k i p z bytes writing v f a c w =
+    let c' : IsChanged current old.cut new (p.handle + p.at) (size_of k) = subst (λ n. IsChanged current old.cut new (p.handle + p.at) n) (ap (λ (bs : List ℕ). length bs) f ∙ spelling-length k z) c in
+    by_step_of_kind old (record old { cut = new }) key (Scalar k) (asked.Set key i (literal_of k z)) Done (record { mode = refl; place = c.place })
+    (λ d l.
+    let e : ElementAt old.cut.bytes d key k i p = element-found old.cut.bytes d key k i p l.denotes (a.answers d l) in
+    let o' : Object = with_value e.object (Numbers k (set e.numbers i z)) in
+    lands (record old { cut = new }) (step_of_kind old.mode d key (Scalar k) (asked.Set key i (literal_of k z))) Done (with_changed d o')
+    (record {
+      is = stored old.mode old.cut.bytes d key k i p (literal_of k z) z e writing (literal-read k z v);
+      denotes = denotes-number old.cut new d key k i p e z l.denotes v c' (subst (Has (bytes_of new.bytes) (p.handle + p.at)) f w);
+    }) (supported-changed d o' l.supported refl))

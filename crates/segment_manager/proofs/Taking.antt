@@ -1,0 +1,87 @@
+-- The blocks of a new object: they are taken, or given back where one of them is refused.
+use Rattle.std.proofs.Common.{◌≡◌, sym, subst, ◌∙◌, ℕ, ◌+◌, ◌%◌, ◌≤◌, inr, Some, None, Option, List, arith}
+use Rattle.std.specs.Prelude.{IfSome, IsTrue}
+use Rattle.raw_region.specs.Memory.{Cut}
+use Rattle.raw_region.specs.Format.{current}
+use Rattle.block_tags.specs.declared.tile.Role.TheVariants.{Object as ObjectRole, Index as IndexRole}
+use Rattle.best_fit.specs.Heap.{IsAllocated, IsChanged, IsHeap, IsRefused, Keeps, LaysOut, is_live_in, live_of}
+use Rattle.best_fit.specs.Table.{Table}
+use Rattle.best_fit.specs.Fit.{added}
+use Rattle.best_fit.proofs.Laws.{allocated-is_live, allocated-room, block_aligned, keeps-refl, laid-heap, room_block, still_allocated-block}
+use Rattle.seg_index.specs.declared.index.Index.{Index}
+use Rattle.seg_index.specs.declared.index.Index.TheVariants as index
+use Rattle.seg_index.specs.Growth.{CanGrow, GivesBack, IsGrowth, grown_bytes}
+use Rattle.seg_index.specs.Held.{IsIndexOf, entry_count, place_of}
+use Rattle.seg_index.proofs.Laws.{prepared}
+use Rattle.segment_manager.specs.NewObjects.{IsRequested, IsRestored, IsUnmet}
+use Rattle.segment_manager.proofs.Made.{requested-taken, taken-growth, taken-index}
+
+-- ---- a request
+
+-- what an index has taken to grow into is in use
+pub growth-held : (a b : Cut) (at : ℕ) (g : Option ℕ) → IsGrowth a b at g → IfSome g (λ h. IsTrue (is_live_in (live_of b.bytes) h))
+growth-held a b at None h = tt
+growth-held a b at (Some g) h = allocated-is_live current a b _ IndexRole g h.1
+
+unchanged : (a b : Cut) → IsHeap current a.bytes → b ≡ a → IsRestored a b
+unchanged a b heap e = subst (IsRestored a) (sym e) (record { laid = heap; keeps = keeps-refl a (live_of a.bytes).extents })
+
+-- what was taken before a refusal is given back
+pub request-unmet : (a b c d : Cut) (at n : ℕ) (g : Option ℕ) → IsHeap current a.bytes → IsGrowth a b at g → IsRefused b c n ObjectRole → GivesBack c d g
+    → IfSome g (λ h. (before : Cut) (n : ℕ) → IsAllocated current before c n IndexRole h → LaysOut current d.bytes (live_of before.bytes) × Keeps before d (live_of before.bytes).extents)
+    → IsUnmet a d at n
+request-unmet a b c d at n None heap grows refused back restored = record {
+  restored = unchanged a d heap (back ∙ refused.same ∙ grows.1);
+  none = inr (None, b, grows, refused.none);
+}
+request-unmet a b c d at n (Some h) heap grows refused back restored =
+    let both = restored a (grown_bytes a at) (subst (λ (x : Cut). IsAllocated current a x (grown_bytes a at) IndexRole h) (sym refused.same) grows.1) in
+    record { restored = record { laid = both.0; keeps = both.1 }; none = inr (Some h, b, grows, refused.none) }
+
+-- ---- an index while an object is made
+
+place-low : (i : Index) → 32 ≤ place_of i
+place-low index.Named = omega arith
+place-low index.Unique = omega arith
+
+place-high : (i : Index) → place_of i + 24 ≤ 128
+place-high index.Named = omega arith
+place-high index.Unique = omega arith
+
+pub growth-index : (i : Index) (a b : Cut) (g : Option ℕ) (t : Table) (hs : List ℕ) → IsGrowth a b (place_of i) g → IsIndexOf a (place_of i) t hs → IsIndexOf b (place_of i) t hs
+growth-index i a b None t hs g x = subst (λ (c : Cut). IsIndexOf c (place_of i) t hs) (sym g.1) x
+growth-index i a b (Some h) t hs g x = taken-index a b _ (place_of i) t hs (requested-taken a b _ IndexRole h g.1) (place-low i) (place-high i) x
+
+-- the block is requested, and written where it was asked for
+pub written-taken : (a m b : Cut) (n h : ℕ) → IsAllocated current a m n ObjectRole h → IsChanged current m b h n → IsAllocated current a b n ObjectRole h
+written-taken a m b n h take change =
+    still_allocated-block current a m b n ObjectRole h h n n take change (allocated-room current a m n ObjectRole h n take (omega arith)) (omega arith) (omega arith)
+
+-- the same number of bytes
+pub meant : (a b : Cut) (at m n : ℕ) (g : Option ℕ) (h : ℕ) → m ≡ n → IsRequested a b at m g h → IsRequested a b at n g h
+meant a b at m n g h e r = subst (λ (k : ℕ). IsRequested a b at k g h) e r
+
+-- what `add` wants
+pub record IsReady (i : Index) (c : Cut) (t : Table) (hs : List ℕ) (g : Option ℕ) : Type 0 where
+  pub index : IsIndexOf c (place_of i) t hs
+  pub growth : CanGrow c (place_of i) g
+
+pub ready : (i : Index) (a m b : Cut) (n h : ℕ) (g : Option ℕ) (t : Table) (hs : List ℕ) → IsIndexOf a (place_of i) t hs → (r : IsRequested a m (place_of i) n g h)
+    → IsChanged current m b h n → IsReady i b t hs g
+ready i a m b n h g t hs x r change =
+    let mid : IsIndexOf r.between (place_of i) t hs = growth-index i a r.between g t hs r.grows x in
+    let took : IsAllocated current r.between b n ObjectRole h = written-taken r.between m b n h r.takes change in
+    let can : CanGrow r.between (place_of i) g = prepared a r.between (place_of i) g t hs x r.grows (place-low i) (place-high i) in
+    record {
+      index = taken-index r.between b _ (place_of i) t hs (requested-taken r.between b n ObjectRole h took) (place-low i) (place-high i) mid;
+      growth = taken-growth r.between b _ (place_of i) g (requested-taken r.between b n ObjectRole h took) (place-low i) (place-high i) can;
+    }
+
+-- and it has as many entries as before
+pub ready-count : (i : Index) (a b : Cut) (t : Table) (hs : List ℕ) → IsIndexOf a (place_of i) t hs → IsIndexOf b (place_of i) t hs → entry_count b (place_of i) ≡ entry_count a (place_of i)
+ready-count i a b t hs x y = y.stands.count ∙ sym x.stands.count
+
+-- the block of a request begins at a multiple of 16
+pub requested-aligned : (a b : Cut) (n h : ℕ) → IsAllocated current a b n ObjectRole h → h % 16 ≡ 0
+requested-aligned a b n h take =
+    block_aligned b h (room_block b h 0 (laid-heap b.bytes (added (live_of a.bytes) take.extent) take.live) (allocated-room current a b n ObjectRole h 0 take (omega arith))).block

@@ -1,0 +1,11 @@
+-- No two kinds have one code.
+use Rattle.std.proofs.Common.{ap, ◌∙◌, Option}
+use Rattle.std.specs.Option.{unwrap_or}
+use Rattle.seg_types.specs.declared.kinds.Kind.{Kind}
+use Rattle.seg_types.specs.declared.kinds.Kind.TheVariants.{Text}
+use Rattle.seg_types.specs.Kinds.{kind_of_code}
+use Rattle.segment_manager.proofs.Codes.{code-read}
+use Rattle.segment_manager.proofs.head.kind_of_code.Goals as goal
+
+pub returns : goal.returns
+returns c = λ k e. c.unwrap_or.ensures ∙ ap (λ (o : Option Kind). unwrap_or o Text) (c.from_code.ensures ∙ ap kind_of_code e ∙ code-read k)

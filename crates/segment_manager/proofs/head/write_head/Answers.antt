@@ -1,0 +1,49 @@
+-- Two words and the name, one after another.
+use Rattle.std.proofs.Common.{◌≡◌, ◌+◌, ◌∙◌, ap, arith, length, ℕ, IsTrue}
+use Rattle.raw_region.specs.Format.{current}
+use Rattle.raw_region.specs.Memory.{bytes_of, word_at}
+use Rattle.best_fit.specs.Heap.{has_room, live_of}
+use Rattle.best_fit.proofs.Laws.{changed-room}
+use Rattle.seg_types.specs.Kinds.{class_code, code_of}
+use Rattle.segment_manager.specs.Directory.{padded}
+use Rattle.segment_manager.specs.Denotes.{two_halves}
+use Rattle.segment_manager.proofs.NewBlocks.{room-less}
+use Rattle.segment_manager.proofs.Pieces.{HasHead, head-written}
+use Rattle.segment_manager.proofs.head.write_head.Goals as goal
+
+pub set_word-requires : goal.set_word-requires
+set_word-requires c = room-less (live_of c.args.heap.now.bytes) c.args.handle (16 + padded (length c.args.name.now)) 8 (omega arith) c.requires.room
+
+pub set_word-requires-2 : goal.set_word-requires-2
+set_word-requires-2 c =
+    changed-room current c.args.heap.now c.set_word.new.self (c.args.handle + 0) 8 c.args.handle 16 c.set_word.ensures.change
+    (room-less (live_of c.args.heap.now.bytes) c.args.handle (16 + padded (length c.args.name.now)) 16 (omega arith) c.requires.room)
+
+pub write_name-requires-clause-room : goal.write_name-requires-clause-room
+write_name-requires-clause-room c =
+    let n : ℕ = 16 + padded (length c.args.name.now) in
+    let room : IsTrue (has_room (live_of c.set_word.new.self.bytes) c.args.handle n) =
+    changed-room current c.args.heap.now c.set_word.new.self (c.args.handle + 0) 8 c.args.handle n c.set_word.ensures.change c.requires.room in
+    changed-room current c.set_word.new.self c.set_word-2.new.self (c.args.handle + 8) 8 c.args.handle n c.set_word-2.ensures.change room
+
+pub returns-clause-change : goal.returns-clause-change
+returns-clause-change c =
+    let kinds : word_at (bytes_of c.set_word.new.self.bytes) (c.args.handle + 0) ≡ two_halves (code_of c.args.kind) c.args.count =
+    c.set_word.ensures.word ∙ (λ i. two_halves ((c.from.ensures ∙ c.code.ensures) i) (c.from-2.ensures i)) in
+    let names : word_at (bytes_of c.set_word-2.new.self.bytes) (c.args.handle + 8) ≡ two_halves (length c.args.name.now) (class_code c.args.class) =
+    c.set_word-2.ensures.word ∙ ap (two_halves (length c.args.name.now)) (c.from-3.ensures ∙ c.code_of_class.ensures) in
+    let w : HasHead c.args.heap.now c.write_name.new.heap c.args.handle c.args.kind c.args.count c.args.class c.args.name.now =
+    head-written c.args.heap.now c.set_word.new.self c.set_word-2.new.self c.write_name.new.heap c.args.handle c.args.kind c.args.count c.args.class c.args.name.now
+    c.set_word.ensures.change kinds c.set_word-2.ensures.change names (record { change = c.write_name.ensures.change; content = c.write_name.ensures.name }) in
+    w.change
+
+pub returns-clause-head : goal.returns-clause-head
+returns-clause-head c =
+    let kinds : word_at (bytes_of c.set_word.new.self.bytes) (c.args.handle + 0) ≡ two_halves (code_of c.args.kind) c.args.count =
+    c.set_word.ensures.word ∙ (λ i. two_halves ((c.from.ensures ∙ c.code.ensures) i) (c.from-2.ensures i)) in
+    let names : word_at (bytes_of c.set_word-2.new.self.bytes) (c.args.handle + 8) ≡ two_halves (length c.args.name.now) (class_code c.args.class) =
+    c.set_word-2.ensures.word ∙ ap (two_halves (length c.args.name.now)) (c.from-3.ensures ∙ c.code_of_class.ensures) in
+    let w : HasHead c.args.heap.now c.write_name.new.heap c.args.handle c.args.kind c.args.count c.args.class c.args.name.now =
+    head-written c.args.heap.now c.set_word.new.self c.set_word-2.new.self c.write_name.new.heap c.args.handle c.args.kind c.args.count c.args.class c.args.name.now
+    c.set_word.ensures.change kinds c.set_word-2.ensures.change names (record { change = c.write_name.ensures.change; content = c.write_name.ensures.name }) in
+    w.head

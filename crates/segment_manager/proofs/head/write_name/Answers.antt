@@ -1,0 +1,41 @@
+-- The name, and zeros behind it.
+use Rattle.std.proofs.Common.{◌≡◌, ◌+◌, ◌-◌, ◌∙◌, ap, subst, arith, length, take, replicate, List, ℕ, IsTrue}
+use Rattle.std.proofs.lemmas.List.{length-replicate}
+use Rattle.raw_region.specs.Format.{current}
+use Rattle.best_fit.specs.Heap.{has_room, live_of}
+use Rattle.best_fit.proofs.Laws.{changed-room}
+use Rattle.segment_manager.specs.Directory.{padded}
+use Rattle.segment_manager.proofs.NewBlocks.{room-less}
+use Rattle.segment_manager.proofs.Pieces.{HasName, name-written, zeros-taken}
+use Rattle.segment_manager.proofs.head.write_name.Goals as goal
+
+pub write-requires : goal.write-requires
+write-requires c = room-less (live_of c.args.heap.now.bytes) c.args.handle (16 + padded (length c.args.name.now)) (16 + length c.args.name.now) (omega arith) c.requires.room
+
+pub write-requires-2 : goal.write-requires-2
+write-requires-2 c =
+    let n : ℕ = length c.args.name.now in
+    let e : c.padded.result - n ≡ padded n - n = ap (λ (k : ℕ). k - n) c.padded.ensures in
+    let long : length (take {A = ℕ} (c.padded.result - n) (replicate 8 0)) ≡ padded n - n = ap (λ (l : List ℕ). length l) (zeros-taken (c.padded.result - n) n e) ∙ length-replicate (padded n - n) 0 in
+    let sum : 16 + padded n ≡ 16 + n + length (take {A = ℕ} (c.padded.result - n) (replicate 8 0)) = omega arith in
+    let room : IsTrue (has_room (live_of c.write.new.self.bytes) c.args.handle (16 + padded n)) =
+    changed-room current c.args.heap.now c.write.new.self (c.args.handle + 16) n c.args.handle (16 + padded n) c.write.ensures.change c.requires.room in
+    subst (λ k. IsTrue (has_room (live_of c.write.new.self.bytes) c.args.handle k)) sum room
+
+pub returns-clause-change : goal.returns-clause-change
+returns-clause-change c =
+    let n : ℕ = length c.args.name.now in
+    let e : c.padded.result - n ≡ padded n - n = ap (λ (k : ℕ). k - n) c.padded.ensures in
+    let w : HasName c.args.heap.now c.write-2.new.self c.args.handle c.args.name.now =
+    name-written c.args.heap.now c.write.new.self c.write-2.new.self c.args.handle c.args.name.now (take {A = ℕ} (c.padded.result - n) (replicate 8 0)) (zeros-taken (c.padded.result - n) n e)
+    c.write.ensures.change c.write.ensures.content c.write-2.ensures.change c.write-2.ensures.content in
+    w.change
+
+pub returns-clause-name : goal.returns-clause-name
+returns-clause-name c =
+    let n : ℕ = length c.args.name.now in
+    let e : c.padded.result - n ≡ padded n - n = ap (λ (k : ℕ). k - n) c.padded.ensures in
+    let w : HasName c.args.heap.now c.write-2.new.self c.args.handle c.args.name.now =
+    name-written c.args.heap.now c.write.new.self c.write-2.new.self c.args.handle c.args.name.now (take {A = ℕ} (c.padded.result - n) (replicate 8 0)) (zeros-taken (c.padded.result - n) n e)
+    c.write.ensures.change c.write.ensures.content c.write-2.ensures.change c.write-2.ensures.content in
+    w.content

@@ -1,0 +1,26 @@
+-- Each form of key is looked for in its own way.
+use Rattle.std.proofs.Common.{sym, subst, None}
+use Rattle.seg_types.specs.Keys.{key_seen}
+use Rattle.seg_types.specs.Names.{ByName, ByKind, ByHandle}
+use Rattle.segment_manager.specs.Found.{handle_at}
+use Rattle.segment_manager.specs.State.{Answers}
+use Rattle.segment_manager.proofs.KeyCalls.{anonymous-answers, handle-answers}
+use Rattle.segment_manager.proofs.segment.Segment.handle_of.Goals as goal
+
+pub returns-in-Name : goal.returns-in-Name
+returns-in-Name c =
+    subst (λ k. Answers c.args.self.now (λ d. handle_at d (key_seen k)) c.look_up.result) (sym c.in-Name.is) (c.look_up.ensures (ByName c.in-Name.name) c.as_bytes.ensures.bytes)
+
+pub returns-in-Unique : goal.returns-in-Unique
+returns-in-Unique c =
+    subst (λ k. Answers c.args.self.now (λ d. handle_at d (key_seen k)) c.look_up-in-Unique.result) (sym c.in-Unique.is)
+    (c.look_up-in-Unique.ensures (ByKind c.in-Unique.kind) c.code.ensures)
+
+pub returns-in-Handle : goal.returns-in-Handle
+returns-in-Handle c =
+    subst (λ k. Answers c.args.self.now (λ d. handle_at d (key_seen k)) c.then_some.result) (sym c.in-Handle.is)
+    (subst (λ r. Answers c.args.self.now (λ d. handle_at d (ByHandle c.in-Handle.handle)) r) (sym c.then_some.ensures)
+    (handle-answers c.args.self.now c.in-Handle.handle c.is_object.result c.is_object.ensures))
+
+pub returns-in-Anonymous : goal.returns-in-Anonymous
+returns-in-Anonymous c = subst (λ k. Answers c.args.self.now (λ d. handle_at d (key_seen k)) None) (sym c.in-Anonymous.is) (anonymous-answers c.args.self.now)

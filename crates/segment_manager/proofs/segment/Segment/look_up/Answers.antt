@@ -1,0 +1,26 @@
+-- The index stands in the heap of the segment, and what is found there is the object of the key.
+use Rattle.std.proofs.Common.{refl, subst, Some, None}
+use Rattle.segment_manager.specs.Found.{handle_at}
+use Rattle.segment_manager.specs.State.{Answers, State}
+use Rattle.segment_manager.proofs.KeyCalls.{absent-answers, found-answers, place-below, segment-index, segment-keys}
+use Rattle.segment_manager.proofs.segment.Segment.look_up.Goals as goal
+
+pub lookup-requires : goal.lookup-requires
+lookup-requires c = record { keys = segment-keys c.self.inside.heap.bytes c.self.inside.heap c.args.index c.args.entry refl c.self.invariant }
+
+pub at-requires-clause-index : goal.at-requires-clause-index
+at-requires-clause-index c = segment-index c.self.inside.heap c.args.index c.self.invariant
+
+pub at-requires-clause-below : goal.at-requires-clause-below
+at-requires-clause-below c = place-below c.self.inside.heap c.args.index c.args.entry c.in-Found.place c.self.invariant c.in-Found.ensures.place
+
+pub returns-in-Found : goal.returns-in-Found
+returns-in-Found c = λ key q.
+    let s : State = record { cut = c.self.inside.heap; mode = c.self.inside.mode } in
+    subst (λ t. Answers t (λ d. handle_at d key) (Some c.at.result)) c.self.view_is
+    (found-answers s c.args.index c.args.entry c.in-Found.place c.at.result c.in-Found.ensures.place c.at.ensures key q)
+
+pub returns-in-Absent : goal.returns-in-Absent
+returns-in-Absent c = λ key q.
+    let s : State = record { cut = c.self.inside.heap; mode = c.self.inside.mode } in
+    subst (λ t. Answers t (λ d. handle_at d key) None) c.self.view_is (absent-answers s c.args.index c.args.entry c.in-Absent.field-0 c.in-Absent.ensures.place key q)

@@ -1,0 +1,35 @@
+-- What the calls answer that find objects.
+use Rattle.std.specs.Prelude.{ℕ, ◌<◌, Bool, Option, Some, None, Result, is_some, option_map}
+use Rattle.best_fit.specs.Extents.{handle}
+use Rattle.seg_types.specs.declared.refusals.Refusal.{Refusal}
+use Rattle.seg_types.specs.Names.{Key, ByHandle}
+use Rattle.segment_manager.specs.Directory.{Object, Directory, object_at}
+use Rattle.segment_manager.specs.Answers.{Answer, Absent, Found}
+use Rattle.segment_manager.specs.State.{State, StandsFor, answer_of}
+
+-- the handle of the object of a key
+abbrev pub handle_at : Directory → Key → Option ℕ
+handle_at d key = option_map (λ (o : Object). handle o.extent) (object_at d key)
+
+-- whether an object has the handle
+abbrev pub is_object_at : Directory → ℕ → Bool
+is_object_at d h = is_some (object_at d (ByHandle h))
+
+-- the number is below this one of the directory
+pub record IsBelow (s : State) (count : Directory → ℕ) (n : ℕ) : Type 0 where
+  pub below : (d : Directory) → StandsFor s.cut.bytes d → n < count d
+
+-- a handle and a count, or nothing, as an answer
+abbrev pub found_or_absent : Option (ℕ × ℕ) → Answer
+found_or_absent None = Absent
+found_or_absent (Some (h, n)) = Found h n
+
+abbrev pub found_answer : Result (Option (ℕ × ℕ)) Refusal → Answer
+found_answer = answer_of found_or_absent
+
+-- a handle and a count as an answer
+abbrev pub pair_found : ℕ × ℕ → Answer
+pair_found (h, n) = Found h n
+
+abbrev pub pair_answer : Result (ℕ × ℕ) Refusal → Answer
+pair_answer = answer_of pair_found

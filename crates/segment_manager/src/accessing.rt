@@ -1,0 +1,178 @@
+//! The elements of objects of scalars, read and written.
+ghost use Rattle.std.specs.Prelude.{◌≡◌, ℤ, OnErr, length, true};
+ghost use Rattle.seg_types.specs.declared.kinds.Kind.TheVariants.{Scalar as ScalarOf};
+ghost use Rattle.seg_types.specs.Commands.{Get, Set, literal_of};
+ghost use Rattle.seg_types.specs.Keys.{key_seen};
+ghost use Rattle.seg_types.specs.Kinds.{is_value, size_of, spelling as spelling_of};
+ghost use Rattle.seg_types.specs.Names.{ByHandle};
+ghost use Rattle.seg_types.specs.Values.{kind_of_scalar, value_of_scalar};
+ghost use Rattle.segment_manager.specs.Answers.{Element};
+ghost use Rattle.segment_manager.specs.Found.{is_object_at};
+ghost use Rattle.segment_manager.specs.Standing.{Spells, place_at};
+ghost use Rattle.segment_manager.specs.State.{Answers, IsReply, IsReplyOfKind, IsStepOfKind, answer_of, done_answer, scalar_answer};
+
+use crate::constructing::LONGEST;
+use crate::element::{element, place_of};
+use crate::segment::Segment;
+use seg_types::theorems::scalar_is_number;
+use seg_types::{Handle, Key, Refusal, Scalar, ScalarKind, ScalarValue};
+
+/// Where an element stands.
+#[derive(Clone, Copy, Debug, PartialEq, Eq)]
+pub(crate) struct Place {
+    /// The handle of its object.
+    pub(crate) handle: u64,
+    /// The offset in bytes from there.
+    pub(crate) at: u64,
+}
+
+impl Segment {
+    /// The element at `index` in the object of a key, an object of scalars of the type.
+    ///
+    /// # Errors
+    ///
+    /// `NotFound` where no object has the key, `WrongKind` where it is of another kind, `OutOfRange` where it has no element
+    /// there.
+    pub fn get<T: Scalar>(&self, key: &Key, index: u64) -> Result<T, Refusal>
+        ensures { IsReplyOfKind self.now (key_seen key.now) (ScalarOf T.kind) (Get (key_seen key.now) index) (answer_of (λ x. Element T.kind (T.whole x)) result) }
+    {
+        match self.find_element(key, T::kind(), index) {
+            Err(why) => Err(why),
+            Ok(place) => scalar_is_number::<T>(element(
+                &self.heap,
+                place.handle,
+                place.at,
+                T::SIZE,
+            )).ok_or(Refusal::WrongKind),
+        }
+    }
+
+    /// The element at `index` in the object of a key, an object of scalars of a kind.
+    ///
+    /// # Errors
+    ///
+    /// `NotFound` where no object has the key, `WrongKind` where it is of another kind, `OutOfRange` where it has no element
+    /// there.
+    pub fn get_value(&self, key: &Key, kind: ScalarKind, index: u64) -> Result<ScalarValue, Refusal>
+        ensures { IsReplyOfKind self.now (key_seen key.now) (ScalarOf kind) (Get (key_seen key.now) index) (scalar_answer result) }
+    {
+        match self.find_element(key, kind, index) {
+            Err(why) => Err(why),
+            Ok(place) => ScalarValue::read(
+                kind,
+                element(&self.heap, place.handle, place.at, kind.size()),
+            )
+            .ok_or(Refusal::WrongKind),
+        }
+    }
+
+    /// The element at `index` in the object of a key, whatever its kind is.
+    ///
+    /// # Errors
+    ///
+    /// `NotFound` where no object has the key, `WrongKind` where it has no elements, `OutOfRange` where it has none there.
+    pub fn get_any(&self, key: &Key, index: u64) -> Result<ScalarValue, Refusal>
+        ensures { IsReply self.now (Get (key_seen key.now) index) (scalar_answer result) }
+    {
+        match self.element_kind(key) {
+            Err(why) => Err(why),
+            // the objects that have come have no other elements
+            Ok(kind) => self.get_value(key, kind, index),
+        }
+    }
+
+    /// The element at `index` in the object at a handle, an object of scalars of a kind. There is such an object: it is not looked
+    /// for among the blocks.
+    ///
+    /// # Errors
+    ///
+    /// `WrongKind` where it is of another kind, `OutOfRange` where it has no element there.
+    pub fn get_at(
+        &self,
+        handle: Handle,
+        kind: ScalarKind,
+        index: u64,
+    ) -> Result<ScalarValue, Refusal>
+        requires { Answers self.now (λ d. is_object_at d handle) true }
+        ensures { IsReplyOfKind self.now (ByHandle handle) (ScalarOf kind) (Get (ByHandle handle) index) (scalar_answer result) }
+    {
+        match place_of(&self.heap, handle, kind, index) {
+            Err(why) => Err(why),
+            Ok(at) => ScalarValue::read(kind, element(&self.heap, handle, at, kind.size())).ok_or(
+                Refusal::WrongKind,
+            ),
+        }
+    }
+
+    /// Makes a value the element at `index` in the object of a key, an object of scalars of the type.
+    ///
+    /// # Errors
+    ///
+    /// `ReadOnly` where the segment is open for reading, and else `NotFound` where no object has the key, `WrongKind` where it
+    /// is of another kind, `OutOfRange` where it has no element there. Nothing changes.
+    pub fn set<T: Scalar>(&mut self, key: &Key, index: u64, value: T) -> Result<(), Refusal>
+        ensures step { IsStepOfKind self.old self.new (key_seen key.now) (ScalarOf T.kind) (Set (key_seen key.now) index (literal_of T.kind (T.whole value))) (done_answer result) }
+        ensures refused { OnErr result (self.new ≡ self.old) }
+    {
+        let mut bytes = [0; LONGEST];
+        let spelling = &mut bytes[..T::SIZE as usize];
+        value.write(spelling);
+        self.write_element(key, T::kind(), index, spelling)
+    }
+
+    /// Makes a value the element at `index` in the object of a key, an object of scalars of the value's kind.
+    ///
+    /// # Errors
+    ///
+    /// `ReadOnly` where the segment is open for reading, and else `NotFound` where no object has the key, `WrongKind` where it
+    /// is of another kind, `OutOfRange` where it has no element there. Nothing changes.
+    pub fn set_value(&mut self, key: &Key, index: u64, value: ScalarValue) -> Result<(), Refusal>
+        ensures step { IsStepOfKind self.old self.new (key_seen key.now) (ScalarOf (kind_of_scalar value))
+            (Set (key_seen key.now) index (literal_of (kind_of_scalar value) (value_of_scalar value))) (done_answer result) }
+        ensures refused { OnErr result (self.new ≡ self.old) }
+    {
+        let kind = value.kind();
+        let mut bytes = [0; LONGEST];
+        let spelling = &mut bytes[..kind.size() as usize];
+        value.write(spelling);
+        self.write_element(key, kind, index, spelling)
+    }
+
+    /// Writes the bytes that spell a value as an element.
+    fn write_element(
+        &mut self,
+        key: &Key,
+        kind: ScalarKind,
+        index: u64,
+        spelling: &[u8],
+    ) -> Result<(), Refusal>
+        requires { Spells kind spelling.now }
+        ensures step { (z : ℤ) → is_value kind z ≡ true → spelling.now ≡ spelling_of kind z
+            → IsStepOfKind self.old self.new (key_seen key.now) (ScalarOf kind) (Set (key_seen key.now) index (literal_of kind z)) (done_answer result) }
+        ensures refused { OnErr result (self.new ≡ self.old) }
+    {
+        if self.is_read_only() {
+            return Err(Refusal::ReadOnly);
+        }
+        match self.find_element(key, kind, index) {
+            Err(why) => Err(why),
+            Ok(place) => {
+                self.heap.write(place.handle, place.at, spelling);
+                Ok(())
+            }
+        }
+    }
+
+    /// Where the element at `index` stands in the object of a key, an object of scalars of a kind.
+    fn find_element(&self, key: &Key, kind: ScalarKind, index: u64) -> Result<Place, Refusal>
+        ensures { Answers self.now (λ d. place_at d (key_seen key.now) kind index) result }
+    {
+        let Some(handle) = self.handle_of(key) else {
+            return Err(Refusal::NotFound);
+        };
+        match place_of(&self.heap, handle, kind, index) {
+            Err(why) => Err(why),
+            Ok(at) => Ok(Place { handle, at }),
+        }
+    }
+}

@@ -1,0 +1,135 @@
+//! Objects destroyed.
+ghost use Rattle.std.specs.Prelude.{◌≡◌, ℕ, ◌<◌, OnErr, true, false};
+ghost use Rattle.seg_types.specs.Commands.{Destroy, DestroyPtr};
+ghost use Rattle.seg_types.specs.Keys.{index_key_seen};
+ghost use Rattle.seg_types.specs.Names.{Key as AnyKey};
+ghost use Rattle.seg_index.specs.Held.{HasIndex, entry_count, place_of};
+ghost use Rattle.segment_manager.specs.Answers.{Truth};
+ghost use Rattle.segment_manager.specs.Destroyed.{IsRemovedObject, LeadsToBlock};
+ghost use Rattle.segment_manager.specs.Found.{is_object_at};
+ghost use Rattle.segment_manager.specs.Indexed.{Seeks};
+ghost use Rattle.segment_manager.specs.Listed.{HasEntries, IsListed};
+ghost use Rattle.segment_manager.specs.State.{Answers, IsStep, gone_answer, truth_answer};
+ghost use Rattle.segment_manager.specs.Step.{is_read_only};
+
+use crate::head::{read_head, read_name};
+use crate::segment::Segment;
+use best_fit::Heap;
+use raw_region::Steps;
+use seg_index::{Index, Key as Entry, Lookup};
+use seg_types::{Class, Handle, IndexKey, Refusal};
+
+/// Where the entry of an object stands.
+#[derive(Clone, Copy, Debug, PartialEq, Eq)]
+pub(crate) struct Listed {
+    /// The index that has it.
+    pub(crate) index: Index,
+    /// Its place there, from 0 on.
+    pub(crate) place: u64,
+}
+
+impl Segment {
+    /// Destroys the object of a key, if there is one, and gives back its block. Answers whether there was one.
+    ///
+    /// # Errors
+    ///
+    /// `ReadOnly` where the segment is open for reading. Nothing changes.
+    pub fn destroy(&mut self, key: &IndexKey) -> Result<bool, Refusal>
+        ensures step { IsStep self.old self.new (Destroy (index_key_seen key.now)) (truth_answer result) }
+        ensures refused { OnErr result (self.new ≡ self.old) }
+    {
+        if self.is_read_only() {
+            return Err(Refusal::ReadOnly);
+        }
+        Ok(match key {
+            IndexKey::Name(name) => self.destroy_entered(
+                Index::Named,
+                Entry::Name(name.as_bytes()),
+            ),
+            IndexKey::Unique(kind) => self.destroy_entered(Index::Unique, Entry::Code(kind.code())),
+        })
+    }
+
+    /// The same under an entry of an index, in a segment that may be changed.
+    fn destroy_entered(&mut self, index: Index, entry: Entry<'_>) -> bool
+        requires writing { is_read_only self.old.mode ≡ false }
+        requires key { (key : AnyKey) × Seeks index entry key }
+        ensures step { (key : AnyKey) → Seeks index entry.entry key → IsStep self.old self.new (Destroy key) (Truth result) }
+    {
+        match index.lookup(&self.heap, entry, &mut Steps::new()) {
+            Lookup::Found(place) => {
+                remove_entered(&mut self.heap, index, place);
+                true
+            }
+            Lookup::Absent(_) => false,
+        }
+    }
+
+    /// Destroys the object of a handle, whatever its class, and gives back its block and its entry.
+    ///
+    /// # Errors
+    ///
+    /// `ReadOnly` where the segment is open for reading, and else `NotFound` where no object has the handle. Nothing changes.
+    pub fn destroy_ptr(&mut self, handle: Handle) -> Result<(), Refusal>
+        ensures step { IsStep self.old self.new (DestroyPtr handle) (gone_answer result) }
+        ensures refused { OnErr result (self.new ≡ self.old) }
+    {
+        if self.is_read_only() {
+            return Err(Refusal::ReadOnly);
+        }
+        if !self.is_object(handle) {
+            return Err(Refusal::NotFound);
+        }
+        self.destroy_object(handle);
+        Ok(())
+    }
+
+    /// The same where an object has the handle, in a segment that may be changed.
+    fn destroy_object(&mut self, handle: Handle)
+        requires writing { is_read_only self.old.mode ≡ false }
+        requires object { Answers self.old (λ d. is_object_at d handle) true }
+        ensures { IsStep self.old self.new (DestroyPtr handle) (Truth true) }
+    {
+        match self.listed(handle) {
+            Some(listed) => remove_entered(&mut self.heap, listed.index, listed.place),
+            None => self.heap.deallocate(handle, &mut Steps::new()),
+        }
+    }
+
+    /// Where the entry of the object of a handle stands, or nothing where it has no key.
+    fn listed(&self, handle: Handle) -> Option<Listed>
+        requires { Answers self.now (λ d. is_object_at d handle) true }
+        ensures { IsListed self.now handle result }
+    {
+        let head = read_head(&self.heap, handle);
+        match head.class {
+            Class::Anonymous => None,
+            Class::Named => {
+                self.listed_under(Index::Named, Entry::Name(read_name(&self.heap, handle)))
+            }
+            Class::Unique => self.listed_under(Index::Unique, Entry::Code(head.kind.code())),
+        }
+    }
+
+    /// Where an entry of an index stands that an object has.
+    fn listed_under(&self, index: Index, entry: Entry<'_>) -> Option<Listed>
+        ensures { (handle : ℕ) → HasEntries self.now index entry.entry handle → IsListed self.now handle result }
+    {
+        match index.lookup(&self.heap, entry, &mut Steps::new()) {
+            Lookup::Found(place) => Some(Listed { index, place }),
+            Lookup::Absent(_) => None,
+        }
+    }
+}
+
+/// Removes the entry at a place of an index, and gives back the block that it led to.
+fn remove_entered(heap: &mut Heap, index: Index, place: u64)
+    requires index { HasIndex heap.old (place_of index) }
+    requires below { place < entry_count heap.old (place_of index) }
+    requires leads { LeadsToBlock heap.old index place }
+    ensures { IsRemovedObject heap.old heap.new index place }
+{
+    let handle = index.at(heap, place);
+    index.remove(heap, place);
+    heap.deallocate(handle, &mut Steps::new());
+}

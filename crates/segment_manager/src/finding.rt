@@ -1,0 +1,80 @@
+//! Objects found by their keys, and the entries of the two indexes.
+ghost use Rattle.std.specs.Prelude.{length, slice_get, Some};
+ghost use Rattle.seg_types.specs.declared.kinds.Kind.TheVariants.{Scalar as ScalarOf};
+ghost use Rattle.seg_types.specs.Commands.{Find, NumNamed, NumUnique};
+ghost use Rattle.seg_types.specs.Keys.{key_seen};
+ghost use Rattle.segment_manager.specs.Answers.{Number};
+ghost use Rattle.segment_manager.specs.Denotes.{handles};
+ghost use Rattle.segment_manager.specs.Directory.{named_objects, unique_objects};
+ghost use Rattle.segment_manager.specs.Found.{IsBelow, found_answer};
+ghost use Rattle.segment_manager.specs.State.{Answers, IsReply};
+
+use crate::head::read_head;
+use crate::segment::Segment;
+use seg_index::Index;
+use seg_types::{Handle, Key, Kind, Refusal, Scalar};
+
+impl Segment {
+    /// The handle of the object of a key, and how many elements it has (1 where it is a container), or nothing where no
+    /// object has the key.
+    ///
+    /// # Errors
+    ///
+    /// `WrongKind` where the object is of another kind.
+    pub fn find_kind(&self, key: &Key, kind: Kind) -> Result<Option<(Handle, u32)>, Refusal>
+        ensures { IsReply self.now (Find (key_seen key.now) kind) (found_answer result) }
+    {
+        let Some(handle) = self.handle_of(key) else {
+            return Ok(None);
+        };
+        let head = read_head(&self.heap, handle);
+        if head.kind.code() != kind.code() {
+            return Err(Refusal::WrongKind);
+        }
+        Ok(Some((handle, head.count)))
+    }
+
+    /// The handle of the scalars of a key, one or an array of a type, and how many they are, or nothing where no object
+    /// has the key.
+    ///
+    /// # Errors
+    ///
+    /// `WrongKind` where the object is of another kind.
+    pub fn find<T: Scalar>(&self, key: &Key) -> Result<Option<(Handle, u32)>, Refusal>
+        ensures { IsReply self.now (Find (key_seen key.now) (ScalarOf T.kind)) (found_answer result) }
+    {
+        self.find_kind(key, Kind::Scalar(T::kind()))
+    }
+
+    /// The number of objects with names.
+    pub fn num_named(&self) -> u64
+        ensures { IsReply self.now NumNamed (Number result) }
+    {
+        Index::Named.len(&self.heap)
+    }
+
+    /// The number of kinds with a unique object.
+    pub fn num_unique(&self) -> u64
+        ensures { IsReply self.now NumUnique (Number result) }
+    {
+        Index::Unique.len(&self.heap)
+    }
+
+    /// The handle of the object with a name that has `i` others before it, in the order of the bytes of their names. There
+    /// are more than `i` of them.
+    pub fn named_at(&self, i: u64) -> Handle
+        requires { IsBelow self.now (λ d. length (named_objects d)) i }
+        ensures { Answers self.now (λ d. slice_get (handles (named_objects d)) i) (Some result) }
+    {
+        Index::Named.at(&self.heap, i)
+    }
+
+    /// The handle of the unique object that has `i` others before it, in the order of the codes of their kinds. There are
+    /// more than `i` of them.
+    pub fn unique_at(&self, i: u64) -> Handle
+        requires { IsBelow self.now (λ d. length (unique_objects d)) i }
+        ensures { Answers self.now (λ d. slice_get (handles (unique_objects d)) i) (Some result) }
+    {
+        Index::Unique.at(&self.heap, i)
+    }
+}

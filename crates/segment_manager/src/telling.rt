@@ -1,0 +1,91 @@
+//! What objects say of themselves all at once, by their keys and by their places in the two indexes.
+ghost use Rattle.std.specs.Prelude.{length, MatchResult};
+ghost use Rattle.raw_region.specs.Format.{current};
+ghost use Rattle.best_fit.specs.Heap.{IsHeap};
+ghost use Rattle.seg_index.specs.Held.{HasIndex, entry_count, place_of};
+ghost use Rattle.seg_types.specs.Keys.{key_seen};
+ghost use Rattle.segment_manager.specs.Directory.{Object, named_objects, unique_objects};
+ghost use Rattle.segment_manager.specs.Found.{IsBelow};
+ghost use Rattle.segment_manager.specs.Instances.{IsInstance, IsMissing, SaysAt, SaysOf};
+ghost use Rattle.segment_manager.specs.Indexed.{objects_of};
+ghost use Rattle.segment_manager.specs.Standing.{HasObject, StandsAt};
+
+use crate::head::{read_head, read_name};
+use crate::segment::Segment;
+use best_fit::Heap;
+use seg_index::Index;
+use seg_types::{Class, Handle, Key, Kind, Refusal};
+
+/// What an object says of itself.
+#[derive(Clone, Copy)]
+pub struct Instance<'a> {
+    /// How it is found again.
+    pub class: Class,
+    /// Its name. Only objects that are found by name have one: of others it is empty.
+    pub name: &'a [u8],
+    /// Its kind.
+    pub kind: Kind,
+    /// How many elements it has, and 1 where it is a container.
+    pub count: u32,
+    /// Its handle.
+    pub handle: Handle,
+}
+
+impl Segment {
+    /// What the object of a key says of itself.
+    ///
+    /// # Errors
+    ///
+    /// `NotFound` where no object has the key.
+    pub fn instance(&self, key: &Key) -> Result<Instance<'_>, Refusal>
+        ensures { MatchResult result (λ said. SaysOf self.now (key_seen key.now) said) (IsMissing self.now (key_seen key.now)) }
+    {
+        match self.handle_of(key) {
+            None => Err(Refusal::NotFound),
+            Some(handle) => Ok(read_instance(&self.heap, handle)),
+        }
+    }
+
+    /// What the object says of itself whose name has `i` others before it, in the order of their bytes. There are more than
+    /// `i` of them.
+    pub fn named_instance(&self, i: u64) -> Instance<'_>
+        requires { IsBelow self.now (λ d. length (named_objects d)) i }
+        ensures { SaysAt self.now named_objects i result }
+    {
+        self.entered(Index::Named, i)
+    }
+
+    /// What the unique object says of itself whose kind has `i` others before it, in the order of their codes. There are more
+    /// than `i` of them.
+    pub fn unique_instance(&self, i: u64) -> Instance<'_>
+        requires { IsBelow self.now (λ d. length (unique_objects d)) i }
+        ensures { SaysAt self.now unique_objects i result }
+    {
+        self.entered(Index::Unique, i)
+    }
+
+    /// The same of an index.
+    fn entered(&self, index: Index, i: u64) -> Instance<'_>
+        requires { IsBelow self.now (λ d. length (objects_of index d)) i }
+        ensures { SaysAt self.now (objects_of index) i result }
+    {
+        let handle = index.at(&self.heap, i);
+        read_instance(&self.heap, handle)
+    }
+}
+
+/// What the object at a handle says of itself.
+fn read_instance(heap: &Heap, handle: Handle) -> Instance<'_>
+    requires heap { IsHeap current heap.now.bytes }
+    requires object { HasObject heap.now.bytes handle }
+    ensures { (o : Object) → StandsAt heap.now.bytes handle o → IsInstance o result }
+{
+    let head = read_head(heap, handle);
+    Instance {
+        class: head.class,
+        name: read_name(heap, handle),
+        kind: head.kind,
+        count: head.count,
+        handle,
+    }
+}

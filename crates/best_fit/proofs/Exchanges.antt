@@ -1,10 +1,10 @@
 -- A block that comes in the place of another.
-use Rattle.std.proofs.Common.{◌≡◌, refl, sym, ap, subst, ◌∙◌, inl, inr, ℕ, ◌+◌, ◌-◌, ◌%◌, ◌/◌, ◌*◌, ◌<◌, ◌≤◌, Bool, true, false, ◌&&◌, ◌==◌, Option, Some, None, List, [], ◌∷◌, arith, if◌then◌else◌, cond}
+use Rattle.std.proofs.Common.{◌≡◌, refl, sym, ap, subst, ◌∙◌, inl, ℕ, ◌+◌, ◌-◌, ◌%◌, ◌<◌, ◌≤◌, Bool, true, false, ◌&&◌, ◌==◌, Option, Some, None, List, [], ◌∷◌, arith, if◌then◌else◌, cond}
 use Rattle.std.specs.Prelude.{IsTrue, IfSome, nat_le, nat_lt, filter, option_map, min, Result, Ok, Err, MatchResult}
 use Rattle.std.proofs.Math.Nat.{min-eq_left}
 use Rattle.std.proofs.lemmas.Bool.{and_from, and_parts, eq-eqb, le-leb, leb-true, ltb-true, lt-leb}
 use Rattle.std.specs.List.{AllByRecursion}
-use Rattle.raw_region.specs.Memory.{Memory, Cut, SameBut, bytes_of, read, word_at}
+use Rattle.raw_region.specs.Memory.{Memory, Cut, SameBut, bytes_of, read}
 use Rattle.block_tags.specs.declared.tile.Role.TheVariants.{Storage}
 use Rattle.raw_region.specs.Format.{current}
 use Rattle.best_fit.specs.Exchange.{exchanged, without_all, IsExchanged, SameBlockBut, IsRegrown, IsReplaced, IsGivenRoom, IsNotGivenRoom, Regrows, Replaces}
@@ -13,10 +13,10 @@ use Rattle.block_tags.specs.Tiles.{role_bits}
 use Rattle.block_tags.specs.declared.tile.Role.{Role}
 use Rattle.best_fit.specs.Extents.{Extent, Gap, LiveSet, gaps, handle, end_of, holds, is_proper}
 use Rattle.best_fit.specs.Fit.{insert, others, added, released, place, regrow, longer, fit, least, precedes, room, share, gap_after}
-use Rattle.best_fit.specs.Heap.{Allocates, IsAllocated, IsChanged, IsExtended, IsResized, IsHeap, IsReleased, LaysOut, SameBlock, Keeps, extent_at, has_room, is_live_in, live_of}
+use Rattle.best_fit.specs.Heap.{Allocates, IsAllocated, IsChanged, IsExtended, IsResized, IsHeap, IsReleased, LaysOut, SameBlock, Keeps, extent_at, has_room, live_of}
 use Rattle.best_fit.proofs.LayOut.{lay_out_one}
 use Rattle.best_fit.proofs.Writes.{Room, room_block}
-use Rattle.best_fit.proofs.Spacing.{all-insert, same-trans, word-same, Spaced, IsAlone, IsAmong, in_use, in_use-alone, in_use-all, exchange-back, exchange-moved, live-spaced, spaced-insert, all_of-insert, keeps-trans, keeps-of, keeps-all, written-keeps, read-same, room-less, room-live, room-new, any-more}
+use Rattle.best_fit.proofs.Spacing.{all-insert, same-trans, word-same, IsAlone, in_use, in_use-alone, in_use-all, exchange-back, exchange-moved, live-spaced, spaced-insert, all_of-insert, keeps-trans, keeps-of, keeps-all, written-keeps, read-same, room-new, any-more}
 
 -- the extent of a block with room
 pub record IsRoomy (l : LiveSet) (h n : ℕ) : Type 0 where

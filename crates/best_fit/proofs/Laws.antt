@@ -45,6 +45,10 @@ pub use Rattle.best_fit.proofs.Writes.{block_payload, laid-heap, room_block}
 -- no gap is longer than the largest segment, and a number has no more digits than a greater one
 pub use Rattle.best_fit.proofs.Allocating.{bits-le, too_long}
 -- what stays and what is found where blocks are gone and others came
-pub use Rattle.best_fit.proofs.Spacing.{among, Differs, IsAlone, IsAmong, IsFresh, IsSound, Rising, all_of-insert, exchange-back, found-less, found-more, found-new, found-room, in_use-all, in_use-alone, keeps-all, live-rises, live-sound, read-same, rising-insert, room-less, same-trans, without-inserted, word-same, written-keeps}
+pub use Rattle.best_fit.proofs.Spacing.{all_of-inserted, among, Differs, IsAlone, IsAmong, IsFresh, IsSound, Rising, all_of-insert, exchange-back, found-less, found-more, found-new, found-room, in_use-all, in_use-alone, keeps-all, live-rises, live-sound, read-same, rising-insert, room-less, same-trans, without-inserted, word-same, written-keeps}
 pub use Rattle.best_fit.proofs.Writes.{Room}
 pub use Rattle.best_fit.proofs.Exchanges.{IsRoomy, all-same-but, but-trans, exchanged-written, regrow-serves, regrown-live, roomy, written-but}
+-- several exchanges, one after another, and what stays through them
+pub use Rattle.best_fit.proofs.Exchanging.{AreInUse, IsFound, IsNone, SameSpread, all-found-in, all-in-use, back-again, but-apart, exchange-next, exchange-order, exchange-released, exchange-resized, exchange-same, exchange-taken, exchange-wide, exchange-written, exchanged-live, exchanged-twice, found-inserted, found-none, found-without, inserted-append, kept, kept-beside, kept-but, kept-found, last-first, middle-first, rest-rises, rising-others, spread-before, spread-behind, spread-refl, spread-trans, two-apart}
+-- a block that is lengthened where it stands, and how that is undone
+pub use Rattle.best_fit.proofs.Undone.{not-wide, taken-back, wide-longer, wide-same, widened-back}

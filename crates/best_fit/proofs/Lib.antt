@@ -44,3 +44,5 @@ mod Serving
 pub mod Laws
 mod Spacing
 mod Exchanges
+mod Exchanging
+mod Undone

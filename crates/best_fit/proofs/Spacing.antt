@@ -1,5 +1,5 @@
 -- Extents put in by offset, and how they stand: the order of the puts does not matter, what was put in can be taken out, and each is beside the others.
-use Rattle.std.proofs.Common.{◌≡◌, refl, sym, ap, subst, ◌∙◌, ℕ, zero, suc, ◌+◌, ◌-◌, ◌%◌, ◌<◌, ◌≤◌, ◌≢◌, Bool, true, false, ◌&&◌, ◌==◌, Option, Some, None, List, [], ◌∷◌, ◌++◌, arith, if◌then◌else◌, cond, inl, inr, length}
+use Rattle.std.proofs.Common.{◌≡◌, refl, sym, ap, subst, ◌∙◌, ℕ, zero, suc, ◌+◌, ◌-◌, ◌%◌, ◌<◌, ◌≤◌, ◌≢◌, Bool, true, false, ◌&&◌, ◌==◌, Some, None, List, [], ◌∷◌, arith, if◌then◌else◌, cond, inl, inr}
 use Rattle.std.specs.Prelude.{IsTrue, nat_lt, nat_le, ⊤, find}
 use Rattle.std.specs.List.{AllByRecursion, list_any}
 use Rattle.std.proofs.lemmas.Bool.{and_parts, leb-true, eqb-true, eq-eqb, ne_eqb, lt-ltb, le-ltb, le-leb, and_from, or_left, or_right, or_cases}
@@ -8,7 +8,7 @@ use Rattle.raw_region.specs.Memory.{Memory, Cut, Same, SameBut, SamePlace, read,
 use Rattle.best_fit.specs.Exchange.{inserted, without_all, exchanged}
 use Rattle.best_fit.specs.Extents.{Extent, LiveSet, handle, end_of, holds, is_hole, is_block, is_proper, proper_from}
 use Rattle.block_tags.specs.Format.{is_legal_size}
-use Rattle.best_fit.specs.Fit.{insert, others, added, released, resized}
+use Rattle.best_fit.specs.Fit.{insert, others, added}
 use Rattle.best_fit.specs.Heap.{SameBlock, Keeps, extent_at, has_room, is_live_in}
 
 first : (a b : Bool) → IsTrue (a && b) → IsTrue a

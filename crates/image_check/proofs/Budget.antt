@@ -1,13 +1,11 @@
 -- Counts of visits: what tiles weigh, and that all passes together stay within 64 for each 16 bytes of the size, and 64.
-use Rattle.std.proofs.Common.{true, ◌≡◌, refl, sym, ap, subst, ◌∙◌, ℕ, zero, suc, ◌+◌, ◌-◌, ◌*◌, ◌/◌, ◌%◌, ◌^◌, ◌<◌, ◌≤◌, List, [], ◌∷◌, ◌++◌, length, arith}
+use Rattle.std.proofs.Common.{true, ◌≡◌, refl, ap, ℕ, ◌+◌, ◌-◌, ◌*◌, ◌/◌, ◌^◌, ◌<◌, ◌≤◌, List, [], ◌∷◌, ◌++◌, length, arith}
 use Rattle.std.specs.Prelude.{IsTrue, Option, Some, None}
 use Rattle.raw_region.specs.Memory.{Cut, bytes_of}
-use Rattle.raw_region.specs.Format.{current}
 use Rattle.block_tags.specs.declared.tile.Role.{Role}
 use Rattle.block_tags.specs.declared.tile.Role.TheVariants.{Object, Index, Storage, Node}
 use Rattle.block_tags.specs.declared.tile.Tile.{Tile}
 use Rattle.block_tags.specs.Format.{is_legal_size}
-use Rattle.block_tags.specs.Tiles.{tiles_of}
 use Rattle.block_tags.specs.Windows.{SaysTiles}
 use Rattle.block_tags.proofs.Laws.{tiles_are_read_off}
 use Rattle.best_fit.proofs.Laws.{Row, legal_size, said_row}
@@ -23,7 +21,7 @@ use Rattle.image_check.specs.Visits.{Rates, rate_of, weigh, both, tag_rates, ste
 use Rattle.image_check.specs.FreeNodes.{is_place, placed, place_cells}
 use Rattle.image_check.specs.FreeLaws.{multiples, length-multiples, place_listed, placed_leads, is_place-Place, small_size}
 use Rattle.image_check.proofs.Framed.{few-free}
-use Rattle.image_check.proofs.WalkedTiles.{WalksAt, at-meets, tags-IsTiled}
+use Rattle.image_check.proofs.WalkedTiles.{tags-IsTiled}
 
 -- ---- what tiles weigh
 

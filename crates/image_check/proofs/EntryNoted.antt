@@ -1,8 +1,8 @@
 -- Noting one entry more at the object that it leads to.
 use Rattle.std.proofs.Common.{◌≡◌, ◌≢◌, refl, sym, ap, subst, ◌∙◌, ℕ, Bool, true, false, ◌||◌, ◌==◌, List, [], ◌∷◌, ◌++◌, cond}
-use Rattle.std.specs.Prelude.{Option, Some, None, nat_eq, IsSome, is_some, is_none}
+use Rattle.std.specs.Prelude.{Option, Some, None, nat_eq, is_some, is_none}
 use Rattle.std.specs.Map.{set_value}
-use Rattle.std.proofs.lemmas.Bool.{and_parts, cases_Bool, cond-false, cond-true, eqb-true, ne_eqb, cases_eq, false≢true}
+use Rattle.std.proofs.lemmas.Bool.{and_parts, cases_Bool, cond-false, cond-true, ne_eqb, cases_eq, false≢true}
 use Rattle.std.proofs.lemmas.List.Folds.{list_any-append}
 use mathlib.Core.Logic.{inl, inr}
 use Rattle.block_tags.specs.declared.tile.Role.{Role}

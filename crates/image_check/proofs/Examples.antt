@@ -1,13 +1,15 @@
--- Four small images, as their words: their class, what the tiles say of their directory, and what one of them says.
-use Rattle.std.proofs.Common.{◌≡◌, refl, ℕ, negsuc, List, [], ◌∷◌, ◌++◌, true, false}
+-- Five small images, as their words: their class, what the tiles say of their directory, and what one of them says.
+use Rattle.std.proofs.Common.{◌≡◌, refl, ℕ, negsuc, List, [], ◌∷◌, ◌++◌, true}
 use Rattle.std.specs.Prelude.{flat_map, Some, None}
 use Rattle.raw_region.specs.Memory.{word_bytes, word_at, half_word_at, zeros}
 use Rattle.raw_region.specs.Format.{current}
 use Rattle.best_fit.specs.Table.{no_table}
 use Rattle.block_tags.specs.declared.tile.Role.TheVariants.{Object as ObjectRole}
 use Rattle.seg_types.specs.declared.kinds.ScalarKind.TheVariants.{I64}
+use Rattle.seg_types.specs.declared.kinds.Kind.TheVariants.{Map, Text}
 use Rattle.seg_types.specs.declared.kinds.Class.TheVariants.{Anonymous}
 use Rattle.segment_manager.specs.Directory.{Numbers}
+use Rattle.segment_manager.specs.Supported.{is_supported_kind}
 use Rattle.image_check.specs.declared.classes.ImageClass.TheVariants.{BadObject}
 use Rattle.image_check.specs.Classes.{class_of}
 use Rattle.image_check.specs.SupportedImages.{are_supported}
@@ -19,7 +21,7 @@ words = flat_map word_bytes
 
 -- nothing in 176 bytes: one free tile
 abbrev fresh : List ℕ
-fresh = words (4993446653039301453 ∷ 1 ∷ 176 ∷ 120 ∷ 1 ∷ 0 ∷ 0 ∷ 1 ∷ 0 ∷ 0 ∷ []) ++ zeros 48 ++ words (0 ∷ 32 ∷ 1 ∷ 1 ∷ 32 ∷ 1 ∷ [])
+fresh = words (4993446653039301453 ∷ 2 ∷ 176 ∷ 120 ∷ 1 ∷ 0 ∷ 0 ∷ 1 ∷ 0 ∷ 0 ∷ []) ++ zeros 48 ++ words (0 ∷ 32 ∷ 1 ∷ 1 ∷ 32 ∷ 1 ∷ [])
 
 -- it has no class
 fresh_accepted : class_of current fresh ≡ None
@@ -33,7 +35,7 @@ fresh_is = refl
 
 -- the number -2 in 48 bytes, and a free tile behind it
 abbrev one : List ℕ
-one = words (4993446653039301453 ∷ 1 ∷ 224 ∷ 168 ∷ 1 ∷ 0 ∷ 0 ∷ 1 ∷ 0 ∷ 0 ∷ []) ++ zeros 48 ++ words (0 ∷ 49 ∷ 4294967300 ∷ 0 ∷ 18446744073709551614 ∷ 77 ∷ 48 ∷ 32 ∷ 1 ∷ 1 ∷ 32 ∷ 1 ∷ [])
+one = words (4993446653039301453 ∷ 2 ∷ 224 ∷ 168 ∷ 1 ∷ 0 ∷ 0 ∷ 1 ∷ 0 ∷ 0 ∷ []) ++ zeros 48 ++ words (0 ∷ 49 ∷ 4294967300 ∷ 0 ∷ 18446744073709551614 ∷ 77 ∷ 48 ∷ 32 ∷ 1 ∷ 1 ∷ 32 ∷ 1 ∷ [])
 
 -- it has no class
 one_accepted : class_of current one ≡ None
@@ -52,21 +54,35 @@ one_says = refl
 
 -- an empty text in 64 bytes, and a free tile behind it
 abbrev text : List ℕ
-text = words (4993446653039301453 ∷ 1 ∷ 240 ∷ 184 ∷ 1 ∷ 0 ∷ 0 ∷ 1 ∷ 0 ∷ 0 ∷ []) ++ zeros 48 ++ words (0 ∷ 65 ∷ 4295032832 ∷ 0 ∷ 1 ∷ 0 ∷ 0 ∷ 77 ∷ 64 ∷ 32 ∷ 1 ∷ 1 ∷ 32 ∷ 1 ∷ [])
+text = words (4993446653039301453 ∷ 2 ∷ 240 ∷ 184 ∷ 1 ∷ 0 ∷ 0 ∷ 1 ∷ 0 ∷ 0 ∷ []) ++ zeros 48 ++ words (0 ∷ 65 ∷ 4295032832 ∷ 0 ∷ 1 ∷ 0 ∷ 0 ∷ 77 ∷ 64 ∷ 32 ∷ 1 ∷ 1 ∷ 32 ∷ 1 ∷ [])
 
 -- it has no class
 text_accepted : class_of current text ≡ None
 unfolding word_at word_bytes half_word_at zeros current
 text_accepted = refl
 
--- but has not come: it is refused
-text_is : are_supported text ≡ false
+-- and has come where texts have: else it is refused
+text_is : are_supported text ≡ is_supported_kind Text
 unfolding are_supported word_at word_bytes half_word_at zeros current
 text_is = refl
 
+-- an empty map from numbers to numbers, in such a tile
+abbrev map : List ℕ
+map = words (4993446653039301453 ∷ 2 ∷ 240 ∷ 184 ∷ 1 ∷ 0 ∷ 0 ∷ 1 ∷ 0 ∷ 0 ∷ []) ++ zeros 48 ++ words (0 ∷ 65 ∷ 4295164932 ∷ 0 ∷ 1 ∷ 0 ∷ 0 ∷ 77 ∷ 64 ∷ 32 ∷ 1 ∷ 1 ∷ 32 ∷ 1 ∷ [])
+
+-- it has no class
+map_accepted : class_of current map ≡ None
+unfolding word_at word_bytes half_word_at zeros current
+map_accepted = refl
+
+-- and has come where such maps have
+map_is : are_supported map ≡ is_supported_kind (Map I64 I64)
+unfolding are_supported word_at word_bytes half_word_at zeros current
+map_is = refl
+
 -- a number behind its right kind, with a count of 0
 abbrev wrong : List ℕ
-wrong = words (4993446653039301453 ∷ 1 ∷ 224 ∷ 168 ∷ 1 ∷ 0 ∷ 0 ∷ 1 ∷ 0 ∷ 0 ∷ []) ++ zeros 48 ++ words (0 ∷ 49 ∷ 4 ∷ 0 ∷ 18446744073709551614 ∷ 77 ∷ 48 ∷ 32 ∷ 1 ∷ 1 ∷ 32 ∷ 1 ∷ [])
+wrong = words (4993446653039301453 ∷ 2 ∷ 224 ∷ 168 ∷ 1 ∷ 0 ∷ 0 ∷ 1 ∷ 0 ∷ 0 ∷ []) ++ zeros 48 ++ words (0 ∷ 49 ∷ 4 ∷ 0 ∷ 18446744073709551614 ∷ 77 ∷ 48 ∷ 32 ∷ 1 ∷ 1 ∷ 32 ∷ 1 ∷ [])
 
 -- it is no object
 wrong_class : class_of current wrong ≡ Some BadObject

@@ -1,7 +1,7 @@
 -- The first class that holds of an image whose first words are right: the parts of its frame in turn, and then the tests of blocks.
-use Rattle.std.proofs.Common.{◌≡◌, refl, sym, ap, ◌∙◌, ℕ, Bool, true, false, not, ◌&&◌, List, [], ◌∷◌, length, arith, cond}
-use Rattle.std.specs.Prelude.{IsTrue, Option, Some, None, find, nat_lt, nat_le}
-use Rattle.std.proofs.lemmas.Bool.{and_from, and_right, or_from, cond-true, cond-false, le-leb, le-ltb, not_from_true, not_from_false}
+use Rattle.std.proofs.Common.{◌≡◌, refl, ap, ◌∙◌, ℕ, Bool, true, false, not, ◌&&◌, List, [], ◌∷◌, length, arith, cond}
+use Rattle.std.specs.Prelude.{IsTrue, Some, None, find, nat_lt, nat_le}
+use Rattle.std.proofs.lemmas.Bool.{and_from, and_right, or_from, le-leb, le-ltb, not_from_true, not_from_false}
 use Rattle.raw_region.specs.Memory.{Memory, Cut, bytes_of}
 use Rattle.raw_region.specs.Format.{current}
 use Rattle.block_tags.specs.declared.tile.Tile.{Tile}
@@ -10,17 +10,17 @@ use Rattle.block_tags.specs.Tiles.{tiles_of}
 use Rattle.best_fit.proofs.Laws.{legal_size}
 use Rattle.image_check.specs.declared.classes.ImageClass.{ImageClass}
 use Rattle.image_check.specs.declared.classes.ImageClass.TheVariants.{Truncated, BadMagic, UnsupportedVersion, BadSize, BadReserved, BadTag, BadFreeTree, BadIndex, BadObject, SharedBlock, BadContainer, OrphanBlock}
-use Rattle.image_check.specs.EarlyTests.{size_word, has_magic, has_version, has_front, has_size, has_reserved, is_tiled, has_free_tree}
+use Rattle.image_check.specs.EarlyTests.{size_word, has_magic, has_version, has_front, has_size, has_reserved, is_tiled}
 use Rattle.image_check.specs.ObjectTests.{has_indexes, has_objects}
 use Rattle.image_check.specs.Fields.{is_shared, is_orphaned, has_containers}
-use Rattle.image_check.specs.Classes.{holds, classes, class_of}
+use Rattle.image_check.specs.Classes.{holds, class_of}
 use Rattle.image_check.specs.Checking.{late_by, late_class}
 use Rattle.image_check.specs.Passes.{tiles_in}
 use Rattle.image_check.specs.Reading.{HasFront}
 use Rattle.image_check.specs.SupportedImages.{has_frame}
 use Rattle.image_check.proofs.Deciding.{find-here, find-past}
 use Rattle.image_check.proofs.Filled.{HasFront-IsRight}
-use Rattle.image_check.proofs.Frame.{IsFrame, has_frame-IsFrame, frame-clean, HasWholeSize, has_whole_size-HasWholeSize}
+use Rattle.image_check.proofs.Frame.{has_frame-IsFrame, frame-clean, has_whole_size-HasWholeSize}
 use Rattle.image_check.proofs.Framed.{IsEarlyClean}
 
 -- ---- the first four classes hold of no window whose first words are right

@@ -270,11 +270,11 @@ wanted-is c = free-payloads (tiles_in c)
 -- it holds where the tree is there, and only there
 pub tree-true : (c : Cut) → IsTreeOf (bytes_of c.bytes) 24 (wanted c) → has_free_tree current (bytes_of c.bytes) (tiles_in c) ≡ true
 unfolding current
-tree-true c t = tree-passes 0 (bytes_of c.bytes) (tiles_in c) (subst (IsTreeOf (bytes_of c.bytes) 24) (sym (wanted-is c)) t)
+tree-true c t = tree-passes 1 (bytes_of c.bytes) (tiles_in c) (subst (IsTreeOf (bytes_of c.bytes) 24) (sym (wanted-is c)) t)
 
 pub tree-false : (c : Cut) → (IsTreeOf (bytes_of c.bytes) 24 (wanted c) → ⊥) → has_free_tree current (bytes_of c.bytes) (tiles_in c) ≡ false
 unfolding current
 tree-false c never = elim (cases_Bool (has_free_tree current (bytes_of c.bytes) (tiles_in c))) [
-  | inl e ↦ absurd (never (subst (IsTreeOf (bytes_of c.bytes) 24) (wanted-is c) (tree-said 0 (bytes_of c.bytes) (tiles_in c) e)))
+  | inl e ↦ absurd (never (subst (IsTreeOf (bytes_of c.bytes) 24) (wanted-is c) (tree-said 1 (bytes_of c.bytes) (tiles_in c) e)))
   | inr e ↦ e
 ]

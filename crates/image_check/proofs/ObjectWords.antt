@@ -6,15 +6,13 @@ use Rattle.raw_region.specs.Memory.{Memory}
 use Rattle.block_tags.specs.declared.tile.Role.TheVariants.{Object as ObjectRole}
 use Rattle.best_fit.specs.Extents.{handle}
 use Rattle.best_fit.specs.Table.{serves}
-use Rattle.seg_types.specs.declared.kinds.ScalarKind.TheVariants.{Bool as BoolKind, U8, I32, I64, U64}
 use Rattle.seg_types.specs.declared.kinds.Kind.{Kind}
-use Rattle.seg_types.specs.declared.kinds.Kind.TheVariants.{Scalar, Text, Vector, Map, Texts as TextsKind}
 use Rattle.seg_types.specs.declared.kinds.Class.{Class}
 use Rattle.seg_types.specs.declared.kinds.Class.TheVariants.{Anonymous, Named, Unique}
 use Rattle.seg_types.specs.Kinds.{code_of, class_code, kind_of_code, is_kind_of}
 use Rattle.segment_manager.specs.Directory.{Object, kind_of, count_of, padded, is_good_value, has_good_name, is_object, object_len}
 use Rattle.segment_manager.specs.Denotes.{IsObjectAt}
-use Rattle.segment_manager.proofs.Laws.{entry-name_len, good_name-short, object-entry}
+use Rattle.segment_manager.proofs.Laws.{code-read, entry-name_len, good_name-short, object-entry}
 use Rattle.image_check.specs.ObjectTests.{kind_at, value_offset}
 use Rattle.image_check.proofs.Bytes.{AreSmall}
 use Rattle.image_check.proofs.ReadOff.{class_from}
@@ -27,46 +25,6 @@ pub class-read : (c : Class) → class_from (class_code c) ≡ c
 class-read Anonymous = refl
 class-read Named = refl
 class-read Unique = refl
-
--- the kind of a kind code
-pub code-read : (k : Kind) → kind_of_code (code_of k) ≡ Some k
-code-read (Scalar BoolKind) = refl
-code-read (Scalar U8) = refl
-code-read (Scalar I32) = refl
-code-read (Scalar I64) = refl
-code-read (Scalar U64) = refl
-code-read Text = refl
-code-read TextsKind = refl
-code-read (Vector BoolKind) = refl
-code-read (Vector U8) = refl
-code-read (Vector I32) = refl
-code-read (Vector I64) = refl
-code-read (Vector U64) = refl
-code-read (Map BoolKind BoolKind) = refl
-code-read (Map BoolKind U8) = refl
-code-read (Map BoolKind I32) = refl
-code-read (Map BoolKind I64) = refl
-code-read (Map BoolKind U64) = refl
-code-read (Map U8 BoolKind) = refl
-code-read (Map U8 U8) = refl
-code-read (Map U8 I32) = refl
-code-read (Map U8 I64) = refl
-code-read (Map U8 U64) = refl
-code-read (Map I32 BoolKind) = refl
-code-read (Map I32 U8) = refl
-code-read (Map I32 I32) = refl
-code-read (Map I32 I64) = refl
-code-read (Map I32 U64) = refl
-code-read (Map I64 BoolKind) = refl
-code-read (Map I64 U8) = refl
-code-read (Map I64 I32) = refl
-code-read (Map I64 I64) = refl
-code-read (Map I64 U64) = refl
-code-read (Map U64 BoolKind) = refl
-code-read (Map U64 U8) = refl
-code-read (Map U64 I32) = refl
-code-read (Map U64 I64) = refl
-code-read (Map U64 U64) = refl
 
 -- ---- the parts of an object
 

@@ -1,5 +1,5 @@
 -- An image that was read and is refused, and why.
-use Rattle.std.proofs.Common.{◌≡◌, sym, ap, subst, ◌∙◌, inl, ℕ, ◌+◌, ◌<◌, ◌≤◌, List, length, arith, Err}
+use Rattle.std.proofs.Common.{◌≡◌, sym, ap, subst, ◌∙◌, inl, ℕ, List, length, arith, Err}
 use Rattle.raw_region.specs.Device.{Given}
 use Rattle.raw_region.specs.Memory.{Cut, whole}
 use Rattle.raw_region.specs.Format.{current}

@@ -1,6 +1,6 @@
 -- The tiles of bytes that denote a directory tell whether it has come so far: their codes are those of its values' kinds.
 use Rattle.std.proofs.Common.{◌≡◌, refl, sym, ap, ◌∙◌, ℕ, Bool, true, false, ◌&&◌, List, [], ◌∷◌, map, arith}
-use Rattle.std.specs.Prelude.{IsTrue, Some, None, if◌then◌else◌}
+use Rattle.std.specs.Prelude.{IsTrue, None, if◌then◌else◌}
 use Rattle.std.specs.List.{list_all}
 use mathlib.Core.Logic.{inl, inr}
 use Rattle.raw_region.specs.Memory.{Memory, bytes_of}
@@ -8,14 +8,14 @@ use Rattle.raw_region.specs.Format.{current}
 use Rattle.block_tags.specs.declared.tile.Role.TheVariants.{Object as ObjectRole}
 use Rattle.block_tags.specs.declared.tile.Tile.{Tile}
 use Rattle.best_fit.specs.Extents.{Extent, handle}
-use Rattle.segment_manager.specs.Directory.{Value, Numbers, Elements, Bytes, Pairs, Texts, Object, Directory, kind_of}
-use Rattle.segment_manager.specs.Supported.{is_supported, is_supported_object, is_supported_value}
+use Rattle.segment_manager.specs.Directory.{Object, Directory}
+use Rattle.segment_manager.specs.Supported.{is_supported, is_supported_object}
 use Rattle.segment_manager.specs.Denotes.{Denotes}
 use Rattle.segment_manager.specs.State.{IsSegment}
 use Rattle.image_check.specs.Classes.{class_of}
 use Rattle.image_check.specs.Meaning.{HasOneDirectory}
 use Rattle.image_check.specs.ObjectTests.{is_use, object_tiles, kind_at}
-use Rattle.image_check.specs.SupportedImages.{are_supported, is_supported_tile, says_scalars, TilesTellSupport}
+use Rattle.image_check.specs.SupportedImages.{are_supported, is_supported_tile, says_supported, TilesTellSupport}
 use Rattle.image_check.proofs.Bytes.{AreSmall, are_bytes-AreSmall}
 use Rattle.image_check.proofs.Law.{one_directory}
 use Rattle.image_check.proofs.Members.{Mem}
@@ -25,18 +25,18 @@ use Rattle.image_check.proofs.ReadOff.{object_block}
 
 -- ---- the tiles that are objects
 
--- the code in a block is that of a kind of scalars
-abbrev holds_scalars : Memory → Extent → Bool
-holds_scalars m x = says_scalars (kind_at current m (handle x))
+-- the code in a block is that of a kind that has come
+abbrev holds_supported : Memory → Extent → Bool
+holds_supported m x = says_supported (kind_at current m (handle x))
 
 -- one tile more, which is an object or not
-one-more : (m : Memory) (t : Tile) (fs : List Tile) (p r : Bool) → r ≡ list_all (holds_scalars m) (map object_block fs)
-    → ((if p then holds_scalars m (object_block t) else true) && r) ≡ list_all (holds_scalars m) (map object_block (if p then t ∷ fs else fs))
-one-more m t fs true r e = ap (λ x. holds_scalars m (object_block t) && x) e
+one-more : (m : Memory) (t : Tile) (fs : List Tile) (p r : Bool) → r ≡ list_all (holds_supported m) (map object_block fs)
+    → ((if p then holds_supported m (object_block t) else true) && r) ≡ list_all (holds_supported m) (map object_block (if p then t ∷ fs else fs))
+one-more m t fs true r e = ap (λ x. holds_supported m (object_block t) && x) e
 one-more m t fs false r e = e
 
 -- the test of all tiles is that of the objects' blocks
-tiles-blocks : (m : Memory) (ts : List Tile) → list_all (is_supported_tile m) ts ≡ list_all (holds_scalars m) (map object_block (object_tiles ts))
+tiles-blocks : (m : Memory) (ts : List Tile) → list_all (is_supported_tile m) ts ≡ list_all (holds_supported m) (map object_block (object_tiles ts))
 tiles-blocks m [] = refl
 tiles-blocks m (t ∷ ts) = one-more m t (object_tiles ts) (is_use ObjectRole t) (list_all (is_supported_tile m) ts) (tiles-blocks m ts)
 
@@ -47,23 +47,15 @@ supported-tiles b = refl
 
 -- ---- the objects of the directory
 
--- a value has come so far where its kind is one of scalars
-scalars-value : (v : Value) → says_scalars (Some (kind_of v)) ≡ is_supported_value v
-scalars-value (Numbers k zs) = refl
-scalars-value (Elements k zs t) = refl
-scalars-value (Bytes bs t) = refl
-scalars-value (Pairs k v ps) = refl
-scalars-value (Texts ps t) = refl
-
 module _ (b : List ℕ) (d : Directory) (s : AreSmall (bytes_of b)) (h : Denotes current b d) where
   abbrev m : Memory
   m = bytes_of b
 
-  -- the code of an object says the kind of its value
-  block-object : (o : Object) → Mem o d.objects → holds_scalars m o.extent ≡ is_supported_object o
-  block-object o k = ap says_scalars (words current b d s h o k).kind ∙ scalars-value o.value
+  -- the code of an object says the kind of its value, by which it has come or not
+  block-object : (o : Object) → Mem o d.objects → holds_supported m o.extent ≡ is_supported_object o
+  block-object o k = ap says_supported (words current b d s h o k).kind
 
-  blocks-objects : (os : List Object) → ((o : Object) → Mem o os → Mem o d.objects) → list_all (holds_scalars m) (map extent_of os) ≡ list_all is_supported_object os
+  blocks-objects : (os : List Object) → ((o : Object) → Mem o os → Mem o d.objects) → list_all (holds_supported m) (map extent_of os) ≡ list_all is_supported_object os
   blocks-objects [] f = refl
   blocks-objects (o ∷ os) f =
       let first = block-object o (f o (inl refl)) in
@@ -72,7 +64,7 @@ module _ (b : List ℕ) (d : Directory) (s : AreSmall (bytes_of b)) (h : Denotes
 
   -- the directory has come so far exactly where the tiles say so
   denoted-supported : is_supported d ≡ are_supported b
-  denoted-supported = sym (sym (supported-tiles b) ∙ tiles-blocks m (tiles_in b) ∙ ap (list_all (holds_scalars m)) (blocks-same current b d s h) ∙ blocks-objects d.objects (λ o k. k))
+  denoted-supported = sym (sym (supported-tiles b) ∙ tiles-blocks m (tiles_in b) ∙ ap (list_all (holds_supported m)) (blocks-same current b d s h) ∙ blocks-objects d.objects (λ o k. k))
 
 -- ---- the law, of which the law of all images says the rest: there is a directory where no class holds, and none where one does
 

@@ -1,8 +1,7 @@
 -- What the check of an image that stands in its window finds.
-use Rattle.std.specs.Prelude.{◌≡◌, ℕ, Bool, true, false, Option, Some, None, List, IsTrue, Result, MatchResult, if◌then◌else◌}
+use Rattle.std.specs.Prelude.{◌≡◌, ℕ, Bool, false, Option, Some, None, List, IsTrue, Result, MatchResult, if◌then◌else◌}
 use Rattle.raw_region.specs.Memory.{Memory, bytes_of}
 use Rattle.block_tags.specs.declared.tile.Tile.{Tile}
-use Rattle.segment_manager.specs.State.{IsSegment}
 use Rattle.image_check.specs.declared.classes.ImageClass.{ImageClass}
 use Rattle.image_check.specs.declared.classes.ImageClass.TheVariants.{BadIndex, BadObject, SharedBlock, BadContainer, OrphanBlock}
 use Rattle.image_check.specs.declared.errors.CheckError.{CheckError}

@@ -1,7 +1,7 @@
 -- What a pass over an image answers.
 use Rattle.std.specs.Prelude.{◌≡◌, ℕ, ◌+◌, ◌≤◌, Bool, true, false, List, length, is_some, IsTrue, Result, MatchResult}
 use Rattle.std.specs.List.{list_any}
-use Rattle.raw_region.specs.Memory.{Memory, bytes_of}
+use Rattle.raw_region.specs.Memory.{bytes_of}
 use Rattle.raw_region.specs.Format.{current}
 use Rattle.block_tags.specs.Format.{is_legal_size}
 use Rattle.block_tags.specs.Tiles.{tiles_of, has_tags}

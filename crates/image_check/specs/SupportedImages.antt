@@ -8,9 +8,8 @@ use Rattle.block_tags.specs.declared.tile.Tile.{Tile}
 use Rattle.block_tags.specs.Format.{is_legal_size}
 use Rattle.block_tags.specs.Tiles.{tiles_of}
 use Rattle.seg_types.specs.declared.kinds.Kind.{Kind}
-use Rattle.seg_types.specs.declared.kinds.Kind.TheVariants.{Scalar}
 use Rattle.segment_manager.specs.Directory.{Directory}
-use Rattle.segment_manager.specs.Supported.{is_supported}
+use Rattle.segment_manager.specs.Supported.{is_supported, is_supported_kind}
 use Rattle.segment_manager.specs.Denotes.{Denotes}
 use Rattle.segment_manager.specs.State.{IsSegment}
 use Rattle.image_check.specs.EarlyTests.{size_word, has_magic, has_version, has_reserved, is_tiled, has_free_tree}
@@ -33,14 +32,14 @@ has_frame b = has_magic b && has_version current b && has_whole_size b && has_re
 
 -- ---- the kinds of the objects
 
--- a kind of scalars
-abbrev pub says_scalars : Option Kind → Bool
-says_scalars (Some (Scalar k)) = true
-says_scalars k = false
+-- there is a kind, and it has come
+abbrev pub says_supported : Option Kind → Bool
+says_supported None = false
+says_supported (Some k) = is_supported_kind k
 
--- a tile that is no object, or one whose code is that of a kind of scalars
+-- a tile that is no object, or one whose code is that of a kind that has come
 abbrev pub is_supported_tile : Memory → Tile → Bool
-is_supported_tile m t = if is_use Object t then says_scalars (kind_at current m (payload t)) else true
+is_supported_tile m t = if is_use Object t then says_supported (kind_at current m (payload t)) else true
 
 -- All tiles are such ones. Of bytes that a class holds of, this says nothing.
 unfoldable pub are_supported : List ℕ → Bool

@@ -1,8 +1,9 @@
-//! Whether the directory of an image is one that a segment can keep so far: all of its objects are numbers of one kind each.
+//! Whether the directory of an image is one that a segment can keep so far: the kinds of all its objects have come.
 ghost use Rattle.std.specs.Prelude.{◌≡◌, ◌+◌, ◌^◌, ◌<◌, ◌≤◌, length};
 ghost use Rattle.raw_region.specs.Memory.{bytes_of};
+ghost use Rattle.segment_manager.specs.Supported.{is_supported_kind};
 ghost use Rattle.image_check.specs.Passes.{HasTiles, Spends};
-ghost use Rattle.image_check.specs.SupportedImages.{are_supported, is_supported_tile, says_scalars};
+ghost use Rattle.image_check.specs.SupportedImages.{are_supported, is_supported_tile};
 ghost use Rattle.image_check.specs.Visits.{Adds, support_rates};
 
 use crate::heads::kind_of;
@@ -12,7 +13,7 @@ use raw_region::Window;
 use seg_types::Kind;
 use segment_manager::layout::FORMAT;
 
-/// Whether each object is of a scalar kind. Where no class holds of the image, it is one of a segment exactly then.
+/// Whether each object is of a kind that has come. Where no class holds of the image, it is one of a segment exactly then.
 pub fn is_supported(window: &Window, visits: &mut Visits) -> bool
     requires { HasTiles window.now.bytes }
     ensures value { result ≡ are_supported window.now.bytes }
@@ -21,7 +22,7 @@ pub fn is_supported(window: &Window, visits: &mut Visits) -> bool
     let mut tile = first(window);
     'tiles: while let Some(here) = tile {
         visits.visit();
-        if !is_number(window, here, visits) {
+        if !holds_supported(window, here, visits) {
             return false;
         }
         tile = next(window, here.offset);
@@ -29,8 +30,8 @@ pub fn is_supported(window: &Window, visits: &mut Visits) -> bool
     true
 }
 
-/// Whether the tile is no object, or one of a scalar kind. One visit for an object.
-fn is_number(window: &Window, tile: Tile, visits: &mut Visits) -> bool
+/// Whether the tile is no object, or one of a kind that has come. One visit for an object.
+fn holds_supported(window: &Window, tile: Tile, visits: &mut Visits) -> bool
     requires within { tile.offset + tile.len ≤ length window.now.bytes }
     requires small { length window.now.bytes < 2 ^ 63 }
     requires long { 32 ≤ tile.len }
@@ -40,15 +41,24 @@ fn is_number(window: &Window, tile: Tile, visits: &mut Visits) -> bool
     match tile.use_of {
         Some(Role::Object) => {
             visits.visit();
-            is_scalar(kind_of(FORMAT, window, tile.offset + TAG))
+            match kind_of(FORMAT, window, tile.offset + TAG) {
+                Some(kind) => has_come(kind),
+                None => false,
+            }
         }
         _ => true,
     }
 }
 
-/// Whether there is a kind, and it is a scalar one.
-fn is_scalar(kind: Option<Kind>) -> bool
-    ensures { result ≡ says_scalars kind }
+/// Whether objects of the kind have come so far.
+fn has_come(kind: Kind) -> bool
+    ensures { result ≡ is_supported_kind kind }
 {
-    matches!(kind, Some(Kind::Scalar(_)))
+    match kind {
+        Kind::Scalar(_) => true,
+        Kind::Text => true,
+        Kind::Vector(_) => true,
+        Kind::Map(_, _) => false,
+        Kind::Texts => false,
+    }
 }

@@ -2,3 +2,4 @@ mod FreshWindows
 mod HeapCalls
 mod Indexed
 mod Tables
+mod Vectors

@@ -1,83 +1,12 @@
 //! Values as bytes: those of the five scalar types, and those of a type that a caller gives the trait.
-ghost use Rattle.std.specs.Prelude.{◌≡◌, ◌≤◌, nat_lt, length, refl, Some};
-ghost use Rattle.std.proofs.Common.{lit≤};
-ghost use Rattle.layer_tests.specs.Tickets.{place, ticket_bytes, is_number, said_number, said_urgent};
-ghost use Rattle.layer_tests.specs.Tickets as laws;
+ghost use Rattle.std.specs.Prelude.{◌≡◌, ◌≤◌, length};
 
+use crate::ticket::Ticket;
 use seg_types::theorems::{
     scalar_is_number, unordered_are_same, values_spell_one, written_is_read,
 };
 use seg_types::{Kind, LONGEST_NAME, Name, Plain, Scalar, ScalarKind, ScalarValue, is_name};
-use std::fmt::Debug;
 use std::process::Abort;
-
-/// A ticket of a queue, in three bytes: whether it is urgent, and its number. Urgent ones come first.
-#[derive(Clone, Copy, Debug, PartialEq)]
-struct Ticket {
-    urgent: bool,
-    number: u16,
-}
-
-impl Ticket {
-    /// The urgent ones by their numbers, and then the others.
-    fn place(self) -> u32
-        ensures { result ≡ place self.urgent self.number }
-    {
-        let group = if self.urgent { 0 } else { 65536 };
-        group + u32::from(self.number)
-    }
-}
-
-impl Plain for Ticket {
-    const SIZE: u64 = 3;
-
-    const CODE: u32 = 200;
-
-    ghost SIZE = { 3 };
-
-    ghost CODE = { 200 };
-
-    ghost is_value = { λ t. is_number t.number };
-
-    ghost spelling = { λ t. ticket_bytes t.urgent t.number };
-
-    ghost reading = { λ b. Some (record { urgent = said_urgent b; number = said_number b }) };
-
-    ghost order = { λ s t. nat_lt (place s.urgent s.number) (place t.urgent t.number) };
-
-    fn write(self, to: &mut [u8]) {
-        let [low, high] = self.number.to_le_bytes();
-        to.copy_from_slice(&[u8::from(self.urgent), low, high]);
-    }
-
-    fn read(from: &[u8]) -> Option<Ticket> {
-        let urgent = match from[0] {
-            0 => false,
-            1 => true,
-            _ => return None,
-        };
-        let number = u16::from_le_bytes([from[1], from[2]]);
-        Some(Ticket { urgent, number })
-    }
-
-    fn precedes(self, other: Ticket) -> bool {
-        self.place() < other.place()
-    }
-
-    ghost sizes = { (lit≤ tt, lit≤ tt) };
-
-    ghost spells = { λ t h. refl };
-
-    ghost reads = { λ t h. let same = laws.ticket_reads t.urgent t.number h in λ j. Some (record { urgent = same.0 j; number = same.1 j }) };
-
-    ghost differs = { λ s t h k e. let same = laws.ticket_differs s.urgent t.urgent s.number t.number h k e in λ j. record { urgent = same.0 j; number = same.1 j } };
-
-    ghost irreflexive = { λ t. laws.ticket_irreflexive (place t.urgent t.number) };
-
-    ghost transitive = { λ s t u. laws.ticket_transitive (place s.urgent s.number) (place t.urgent t.number) (place u.urgent u.number) };
-
-    ghost total = { λ s t h k e f. let same = laws.ticket_total s.urgent t.urgent s.number t.number h k e f in λ j. record { urgent = same.0 j; number = same.1 j } };
-}
 
 /// Asserts that the value is spelled by these bytes, that they are read as it, and that it does not stand before itself.
 fn check_spelled<T: Plain + PartialEq + Drop>(rt: &impl Abort, value: T, spelled: &[u8])
@@ -174,18 +103,18 @@ fn laws_are_called(rt: HostRuntime) {
 
 #[test]
 fn tickets(rt: HostRuntime) {
-    let urgent = |number| Ticket {
-        urgent: true,
-        number,
-    };
-    let plain = |number| Ticket {
-        urgent: false,
-        number,
-    };
     assert_eq!(rt; (Ticket::SIZE, Ticket::CODE), (3, 200));
-    check_spelled(&rt, urgent(258), &[1, 2, 1]);
-    check_spelled(&rt, plain(65535), &[0, 255, 255]);
-    check_rising(&rt, &[urgent(0), urgent(65535), plain(0), plain(1)]);
+    check_spelled(&rt, Ticket::urgent(258), &[1, 2, 1]);
+    check_spelled(&rt, Ticket::plain(65535), &[0, 255, 255]);
+    check_rising(
+        &rt,
+        &[
+            Ticket::urgent(0),
+            Ticket::urgent(65535),
+            Ticket::plain(0),
+            Ticket::plain(1),
+        ],
+    );
     assert_eq!(rt; Ticket::read(&[2, 0, 0]), None);
 }
 
@@ -199,15 +128,18 @@ fn is_held(bytes: &[u8]) -> bool {
 
 #[test]
 fn names(rt: HostRuntime) {
-    assert_eq!(rt; LONGEST_NAME, 63);
+    assert_eq!(rt; LONGEST_NAME, 255);
     let long = [b'~'; LONGEST_NAME + 1];
     assert!(rt; is_held(b"a"));
     assert!(rt; is_held(b" with blanks, and \"quotes\""));
+    assert!(rt; is_held("\u{e4}\u{20ac}\u{1f600}".as_bytes()));
     assert!(rt; is_held(&long[..LONGEST_NAME]));
     assert!(rt; Name::new(&long).is_none());
     assert!(rt; Name::new(b"").is_none());
     assert!(rt; Name::new(b"line\n").is_none());
     assert!(rt; Name::new(&[0x7F]).is_none());
+    assert!(rt; Name::new(b"\xFF").is_none());
+    assert!(rt; Name::new(b"\xC2\x85").is_none());
 }
 
 #[test]

@@ -3,9 +3,9 @@
 use raw_region::fake::{Last, MemorySink};
 use seg_types::{IndexKey, Key, Kind, Name, NewKey, Refusal, ScalarKind, ScalarValue};
 use segment_lang::{
-    Command, Content, LineError, Literal, Piece, Reading, Values, Word, literal_of, next_word,
-    number_of, only_word, parse_line, put_line_error, put_name, put_number, put_pieces, put_text,
-    put_value, whole_of,
+    Command, Content, LineError, Literal, Literals, Piece, Quoted, Reading, Texts, Values, Word,
+    literal_of, next_word, number_of, only_word, parse_line, put_line_error, put_name, put_number,
+    put_pieces, put_text, put_value, whole_of,
 };
 use std::alloc::{AllocError, Global};
 use std::test::Fail;
@@ -39,9 +39,33 @@ fn told_index_key(alloc: Global, key: &IndexKey) -> Result<String, AllocError> {
     }
 }
 
-fn told_content(alloc: Global, content: Content) -> Result<String, AllocError> {
-    let Content::Scalars { value, count } = content;
-    format!(in alloc; "{count} times {value:?}")
+fn told_content(alloc: Global, content: Content<'_>) -> Result<String, AllocError> {
+    match content {
+        Content::Scalars { value, count } => format!(in alloc; "{count} times {value:?}"),
+        Content::Elements(values) => {
+            let values = told_values(alloc, values)?;
+            format!(in alloc; "all of {values}")
+        }
+        Content::Text(text) => told_text(alloc, &text),
+        Content::Texts(texts) => told_texts(alloc, texts),
+    }
+}
+
+/// A text in quotes, as text.
+fn told_text(alloc: Global, text: &Quoted<'_>) -> Result<String, AllocError> {
+    match text.to_name() {
+        Some(name) => format!(in alloc; "text {:?}", text_of(&name)),
+        None => String::from_str(alloc, "a text that is no name"),
+    }
+}
+
+fn told_texts(alloc: Global, texts: Texts<'_>) -> Result<String, AllocError> {
+    let mut told = String::from_str(alloc, "texts")?;
+    for text in texts {
+        let text = told_text(alloc, &text)?;
+        write!(told, " {text}")?;
+    }
+    Ok(told)
 }
 
 fn told_values(alloc: Global, values: Values<'_>) -> Result<String, AllocError> {
@@ -56,8 +80,17 @@ fn told_literal(alloc: Global, literal: Literal<'_>) -> Result<String, AllocErro
     match literal {
         Literal::Whole(number) => format!(in alloc; "{number}"),
         Literal::Truth(truth) => format!(in alloc; "{truth}"),
-        Literal::Quoted(_) => String::from_str(alloc, "a text"),
+        Literal::Quoted(text) => told_text(alloc, &text),
     }
+}
+
+fn told_literals(alloc: Global, literals: Literals<'_>) -> Result<String, AllocError> {
+    let mut told = String::from_str(alloc, "values")?;
+    for literal in literals {
+        let literal = told_literal(alloc, literal)?;
+        write!(told, " {literal}")?;
+    }
+    Ok(told)
 }
 
 /// The commands that make objects.
@@ -100,6 +133,68 @@ fn told_word(command: &Command<'_>) -> &'static str {
     }
 }
 
+/// The commands that change the elements of an object.
+fn told_change(alloc: Global, command: Command<'_>) -> Result<String, AllocError> {
+    match command {
+        Command::Set { key, index, value } => {
+            let key = told_key(alloc, &key)?;
+            let value = told_literal(alloc, value)?;
+            format!(in alloc; "set {key} {index} {value}")
+        }
+        Command::Push { key, value } => {
+            let key = told_key(alloc, &key)?;
+            let value = told_literal(alloc, value)?;
+            format!(in alloc; "push {key} {value}")
+        }
+        Command::Insert { key, index, value } => {
+            let key = told_key(alloc, &key)?;
+            let value = told_literal(alloc, value)?;
+            format!(in alloc; "insert {key} {index} {value}")
+        }
+        Command::Assign { key, values } => {
+            let key = told_key(alloc, &key)?;
+            let values = told_literals(alloc, values)?;
+            format!(in alloc; "assign {key} {values}")
+        }
+        Command::Append { key, text } => {
+            let key = told_key(alloc, &key)?;
+            let text = told_text(alloc, &text)?;
+            format!(in alloc; "append {key} {text}")
+        }
+        _ => String::from_str(alloc, "another command"),
+    }
+}
+
+/// The commands that are a word, a key and perhaps a number.
+fn told_keyed(alloc: Global, command: &Command<'_>) -> Result<String, AllocError> {
+    match command {
+        Command::Show(key) => told_word_and_key(alloc, "show", key),
+        Command::Info(key) => told_word_and_key(alloc, "info", key),
+        Command::Pop(key) => told_word_and_key(alloc, "pop", key),
+        Command::Shrink(key) => told_word_and_key(alloc, "shrink", key),
+        Command::Clear(key) => told_word_and_key(alloc, "clear", key),
+        Command::Get { key, index } => told_word_and_place(alloc, "get", key, *index),
+        Command::Erase { key, index } => told_word_and_place(alloc, "erase", key, *index),
+        Command::Reserve { key, count } => told_word_and_place(alloc, "reserve", key, *count),
+        _ => String::from_str(alloc, told_word(command)),
+    }
+}
+
+fn told_word_and_key(alloc: Global, word: &str, key: &Key) -> Result<String, AllocError> {
+    let key = told_key(alloc, key)?;
+    format!(in alloc; "{word} {key}")
+}
+
+fn told_word_and_place(
+    alloc: Global,
+    word: &str,
+    key: &Key,
+    number: u64,
+) -> Result<String, AllocError> {
+    let key = told_key(alloc, key)?;
+    format!(in alloc; "{word} {key} {number}")
+}
+
 fn told_command(alloc: Global, command: Command<'_>) -> Result<String, AllocError> {
     match command {
         Command::Find { kind, key } => {
@@ -111,28 +206,16 @@ fn told_command(alloc: Global, command: Command<'_>) -> Result<String, AllocErro
             format!(in alloc; "destroy {key}")
         }
         Command::DestroyPtr(handle) => format!(in alloc; "destroy_ptr {handle}"),
-        Command::Show(key) => {
-            let key = told_key(alloc, &key)?;
-            format!(in alloc; "show {key}")
-        }
-        Command::Info(key) => {
-            let key = told_key(alloc, &key)?;
-            format!(in alloc; "info {key}")
-        }
-        Command::Get { key, index } => {
-            let key = told_key(alloc, &key)?;
-            format!(in alloc; "get {key} {index}")
-        }
-        Command::Set { key, index, value } => {
-            let key = told_key(alloc, &key)?;
-            let value = told_literal(alloc, value)?;
-            format!(in alloc; "set {key} {index} {value}")
-        }
         Command::ReserveNamed(count) => format!(in alloc; "reserve_named {count}"),
         Command::ReserveUnique(count) => format!(in alloc; "reserve_unique {count}"),
         Command::Construct { .. } | Command::ConstructIt { .. } | Command::FindOrConstruct { .. } =>
             told_making(alloc, command),
-        _ => String::from_str(alloc, told_word(&command)),
+        Command::Set { .. }
+        | Command::Push { .. }
+        | Command::Insert { .. }
+        | Command::Assign { .. }
+        | Command::Append { .. } => told_change(alloc, command),
+        _ => told_keyed(alloc, &command),
     }
 }
 
@@ -181,6 +264,23 @@ fn objects_are_made(rt: HostRuntime) -> Result<(), Fail> {
             "find_or_construct i64[3] a 9",
             "find_or_construct name \"a\": 3 times I64(9)",
         ),
+        ("construct vec<i64> v", "construct name \"v\": all of I64"),
+        (
+            "construct vec<bool> @vec<bool> true  false ",
+            "construct unique Vector(Bool): all of Bool Bool(true) Bool(false)",
+        ),
+        (
+            "find_or_construct vec<u8> v 0 255",
+            "find_or_construct name \"v\": all of U8 U8(0) U8(255)",
+        ),
+        (
+            "construct string - \"a \\x22b\"",
+            "construct anonymous: text \"a \\\"b\"",
+        ),
+        (
+            "find_or_construct string @string \"\"",
+            "find_or_construct unique Text: a text that is no name",
+        ),
     ];
     for (line, want) in rows {
         let read = told(rt.alloc(), line.as_bytes())?;
@@ -205,7 +305,26 @@ fn commands_are_read(rt: HostRuntime) -> Result<(), Fail> {
         ("get #144 0", "get handle 144 0"),
         ("set a 1 -3", "set name \"a\" 1 -3"),
         ("set @i32 1 true", "set unique Scalar(I32) 1 true"),
-        ("set a 1 \"3\"", "set name \"a\" 1 a text"),
+        ("set a 1 \"3\"", "set name \"a\" 1 text \"3\""),
+        ("find vec<i32> a", "find Vector(I32) name \"a\""),
+        ("find string @string", "find Text unique Text"),
+        ("push v -3", "push name \"v\" -3"),
+        ("push #240 \"3\"", "push handle 240 text \"3\""),
+        ("pop @vec<u8>", "pop unique Vector(U8)"),
+        ("insert v 0 true", "insert name \"v\" 0 true"),
+        ("erase v 7", "erase name \"v\" 7"),
+        (
+            "reserve v 18446744073709551615",
+            "reserve name \"v\" 18446744073709551615",
+        ),
+        ("shrink v", "shrink name \"v\""),
+        ("clear v", "clear name \"v\""),
+        ("assign v", "assign name \"v\" values"),
+        (
+            "assign v 1 true \"x\" -9223372036854775808",
+            "assign name \"v\" values 1 true text \"x\" -9223372036854775808",
+        ),
+        ("append \"a b\" \"c\"", "append name \"a b\" text \"c\""),
         ("list", "list"),
         ("unique", "unique"),
         ("blocks", "blocks"),
@@ -259,10 +378,13 @@ fn other_words_are_no_commands(rt: HostRuntime) {
         "siz",
         "size\r\r",
         "size\x0b",
-        "push v 1",
+        "put m 1 2",
+        "lookup m 1",
+        "remove m 1",
+        "pushv 1",
+        "push_back v 1",
         "destroy_ptr#144",
         "zero_fre",
-        "pop v",
         "lists",
         "constructi64 - 5",
     ];
@@ -325,7 +447,21 @@ fn what_does_not_fit_is_bad_syntax(rt: HostRuntime) {
         "construct i64[1]] a 5",
         "construct i64[1 a 5",
         "construct [1] a 5",
-        "construct string s \"a\"",
+        "construct string s",
+        "construct string s a",
+        "construct string s \"a\" \"b\"",
+        "construct string[1] s \"a\"",
+        "construct vec<i64>[2] v 1 2",
+        "construct vec<i64> v 1 true",
+        "construct vec<u8> v 256",
+        "construct vec<f32> v",
+        "construct vec<vec<u8>> v",
+        "construct map<i64,i64> m",
+        "construct vec<i64> @vec<u8> 1",
+        "construct_it string s \"a\"",
+        "construct_it vec<u8> v 1",
+        "find string[1] s",
+        "find_or_construct vec<u8> - 1",
         "construct u8 x 256",
         "construct u8 x -1",
         "construct bool x 1",
@@ -346,6 +482,30 @@ fn what_does_not_fit_is_bad_syntax(rt: HostRuntime) {
         "set a 1",
         "set a 1 abc",
         "set a 1 -0",
+        "push v",
+        "push v 1 2",
+        "push v x",
+        "push - 1",
+        "pop",
+        "pop v 1",
+        "insert v 1",
+        "insert v -1 1",
+        "insert v 1 1 1",
+        "erase v",
+        "erase v -1",
+        "reserve v",
+        "reserve v x",
+        "shrink",
+        "shrink v 1",
+        "clear v v",
+        "assign",
+        "assign v x",
+        "assign v 1 -0",
+        "assign v \"a",
+        "append s",
+        "append s a",
+        "append s 1",
+        "append s \"a\" \"b\"",
         "reserve_named",
         "reserve_named a",
         "reserve_unique 1 2",

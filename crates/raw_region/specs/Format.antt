@@ -3,4 +3,4 @@ use Rattle.std.specs.Prelude.{ℕ}
 
 -- The format that is written. Only a proof that says so sees which number it is.
 unfoldable pub current : ℕ
-current = 1
+current = 2

@@ -7,12 +7,12 @@ ghost use Rattle.seg_types.specs.Names.{is_control, is_name, is_printable_name, 
 use std::marker::Model;
 
 /// The most bytes that a name has.
-pub const LONGEST_NAME: usize = 63;
+pub const LONGEST_NAME: usize = 255;
 
-/// The most bytes that a name has from format 2 on.
-const LONGEST_TEXT_NAME: usize = 255;
+/// The most bytes that a name has in formats 0 and 1.
+const LONGEST_PRINTABLE_NAME: usize = 63;
 
-/// A name of the formats 0 and 1: 1 to 63 bytes, each from 0x20 to 0x7E. It holds its bytes in place and takes no memory.
+/// A name: 1 to 255 bytes of UTF-8 without control characters. It holds its bytes in place and takes no memory.
 #[derive(Drop)]
 pub struct Name {
     bytes: [u8; LONGEST_NAME],
@@ -21,21 +21,22 @@ pub struct Name {
 
 impl Model for Name {
     ghost use Rattle.std.specs.Prelude.{◌≤◌, List, ℕ, IsTrue, take};
-    ghost use Rattle.seg_types.specs.Names.{is_printable_name};
+    ghost use Rattle.seg_types.specs.Names.{is_text_name};
 
     ghost Value = { List ℕ };
 
     ghost view = { λ n. take n.len n.bytes };
 
-    ghost invariant = { λ n. (n.len ≤ 63) × IsTrue (is_printable_name (take n.len n.bytes)) };
+    ghost invariant = { λ n. (n.len ≤ 255) × IsTrue (is_text_name (take n.len n.bytes)) };
 }
 
 impl Name {
     /// The name of these bytes, or `None` where they are none.
+    #[tactic(auto, unfolding(crate::specs::Names::is_text_name))]
     pub fn new(bytes: &[u8]) -> Option<Name>
-        ensures { result ≡ (if is_printable_name bytes.now then Some bytes.now else None) }
+        ensures { result ≡ (if is_text_name bytes.now then Some bytes.now else None) }
     {
-        if !is_printable_name(bytes) {
+        if !is_text_name(bytes) {
             return None;
         }
         let mut held = [0; LONGEST_NAME];
@@ -49,7 +50,7 @@ impl Name {
     /// The bytes of the name.
     pub fn as_bytes(&self) -> &[u8]
         ensures bytes { result.now ≡ self.now }
-        ensures name { is_printable_name result.now ≡ true }
+        ensures name { is_text_name result.now ≡ true }
     {
         &self.bytes[..self.len]
     }
@@ -70,7 +71,7 @@ pub fn is_name(format: u64, bytes: &[u8]) -> bool
 fn is_printable_name(bytes: &[u8]) -> bool
     ensures { result ≡ is_printable_name bytes.now }
 {
-    !bytes.is_empty() && bytes.len() <= LONGEST_NAME && are_printable(bytes)
+    !bytes.is_empty() && bytes.len() <= LONGEST_PRINTABLE_NAME && are_printable(bytes)
 }
 
 /// Whether each byte is from 0x20 to 0x7E.
@@ -84,7 +85,7 @@ fn are_printable(bytes: &[u8]) -> bool
 fn is_text_name(bytes: &[u8]) -> bool
     ensures { result ≡ is_text_name bytes.now }
 {
-    if bytes.is_empty() || bytes.len() > LONGEST_TEXT_NAME {
+    if bytes.is_empty() || bytes.len() > LONGEST_NAME {
         return false;
     }
     match str::from_utf8(bytes) {

@@ -31,7 +31,7 @@ cut-none : (l : LiveSet) (each n : ℕ) (t : Table) → n ≡ 0 → cut_table l 
 unfolding cut_table
 cut-none l each n t e = cond-true (n == 0) no_table (record { capacity = n; extent = option_map (λ (x : Extent). shorter l x (each * n)) t.extent }) (eq-eqb n 0 e)
 
-cut-some : (l : LiveSet) (each n c : ℕ) (x : Extent) → 1 ≤ n → cut_table l each n (table c (Some x)) ≡ table n (Some (shorter l x (each * n)))
+pub cut-some : (l : LiveSet) (each n c : ℕ) (x : Extent) → 1 ≤ n → cut_table l each n (table c (Some x)) ≡ table n (Some (shorter l x (each * n)))
 unfolding cut_table
 cut-some l each n c x f = cond-false (n == 0) no_table (table n (Some (shorter l x (each * n)))) (ne_eqb n 0 (λ e. omega (arith, e, f)))
 

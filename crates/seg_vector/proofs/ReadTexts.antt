@@ -53,7 +53,7 @@ text-found [] i f = absurd (omega arith)
 text-found (x ∷ xs) zero f = (x, refl)
 text-found (x ∷ xs) (suc i) f = text-found xs i (omega arith)
 
-links-at : (m : Memory) (at : ℕ) (ps : List OwnedText) (i : ℕ) (q : OwnedText) → AreTextLinks m at ps → slice_get ps i ≡ Some q
+pub links-at : (m : Memory) (at : ℕ) (ps : List OwnedText) (i : ℕ) (q : OwnedText) → AreTextLinks m at ps → slice_get ps i ≡ Some q
     → (link_at m (at + 16 * i) ≡ option_map handle q.extent) × (word_at m (at + 16 * i + 8) ≡ length q.bytes)
 links-at m at [] i q a e = absurd (cc)
 links-at m at (x ∷ xs) zero q a e =

@@ -28,7 +28,7 @@ table c o = record { capacity = c; extent = o }
 
 -- ---- bytes that memory has
 
-length-read : (m : Memory) (at n : ℕ) → length (read m at n) ≡ n
+pub length-read : (m : Memory) (at n : ℕ) → length (read m at n) ≡ n
 length-read m at zero = refl
 length-read m at (suc n) = ap (λ k. suc k) (length-read m (at + 1) n)
 

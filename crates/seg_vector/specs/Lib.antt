@@ -4,3 +4,4 @@ pub mod Elements
 pub mod VectorCalls
 pub mod TextCalls
 pub mod TextsCalls
+pub mod TextParts

@@ -7,7 +7,7 @@ use Rattle.raw_region.specs.Memory.{Cut, bytes_of, word_at}
 use Rattle.raw_region.specs.Format.{current}
 use Rattle.block_tags.specs.declared.tile.Role.TheVariants.{Storage}
 use Rattle.offset_link.specs.Link.{link_at}
-use Rattle.best_fit.specs.Exchange.{IsExchanged}
+use Rattle.best_fit.specs.Exchange.{IsExchanged, IsRestored}
 use Rattle.best_fit.specs.Extents.{Extent, LiveSet, handle}
 use Rattle.best_fit.specs.Fit.{place, resized}
 use Rattle.best_fit.specs.Heap.{IsHeap, extent_at, has_room, live_of}
@@ -106,11 +106,18 @@ pub record IsTextElement (b : List ℕ) (array at : ℕ) (q : OwnedText) : Type 
   pub owned : IsOwnedText (bytes_of b) q
   pub held : IsHeldText (live_of b) q
 
--- there is no space, and nothing changes, a lengthened array included
+-- there is no space for the one block that is asked for, and nothing changes
 pub record IsWithoutFit {A : Type 0} (old new : Cut) (met : Option A) (e : Refusal) : Type 0 where
   pub refusal : e ≡ NoSpace
   pub none : met ≡ None
   pub same : new ≡ old
+
+-- One of several blocks has no space. Those before it are given back, and an array that was lengthened is shortened: the same blocks
+-- are in use as before, and nothing in them changed.
+pub record IsGivenUp {A : Type 0} (old new : Cut) (met : Option A) (e : Refusal) : Type 0 where
+  pub refusal : e ≡ NoSpace
+  pub none : met ≡ None
+  pub restored : IsRestored current old new
 
 -- one more with i others before it: the array's growth is asked for first, and then the text's block
 pub record IsTextPutIn (old new : Cut) (p : Place) (ps : List OwnedText) (t : Table) (i : ℕ) (bytes : List ℕ) : Type 0 where
@@ -126,13 +133,13 @@ one_more live ps t bytes = elim (grown_table live 16 (capacity_for_one (length p
 abbrev pub PushesText : Cut → Cut → Place → List ℕ → Result (Unit {0}) Refusal → Type 0
 PushesText old new p bytes result =
     (ps : List OwnedText) (t : Table) → IsTexts old.bytes p ps t
-    → MatchResult result (λ u. IsTextPutIn old new p ps t (length ps) bytes) (IsWithoutFit old new (one_more (live_of old.bytes) ps t bytes))
+    → MatchResult result (λ u. IsTextPutIn old new p ps t (length ps) bytes) (IsGivenUp old new (one_more (live_of old.bytes) ps t bytes))
 
 abbrev pub InsertsText : Cut → Cut → Place → ℕ → List ℕ → Result (Unit {0}) Refusal → Type 0
 InsertsText old new p i bytes result =
     (ps : List OwnedText) (t : Table) → IsTexts old.bytes p ps t
     → MatchResult result (λ u. (i ≤ length ps) × IsTextPutIn old new p ps t i bytes)
-    (λ e. IsOutside old new (length ps + 1) i e ⊎ ((i ≤ length ps) × IsWithoutFit old new (one_more (live_of old.bytes) ps t bytes) e))
+    (λ e. IsOutside old new (length ps + 1) i e ⊎ ((i ≤ length ps) × IsGivenUp old new (one_more (live_of old.bytes) ps t bytes) e))
 
 -- another in the place of one, whose block is released once there is the new one
 pub record IsTextSet (old new : Cut) (p : Place) (ps : List OwnedText) (t : Table) (i : ℕ) (bytes : List ℕ) : Type 0 where
@@ -198,4 +205,4 @@ abbrev pub AssignsTexts : Cut → Cut → Place → List (List ℕ) → Result (
 AssignsTexts old new p [] result = (result ≡ Ok tt) × ClearsTexts old new p
 AssignsTexts old new p (bytes ∷ more) result =
     (ps : List OwnedText) (t : Table) → IsTexts old.bytes p ps t
-    → MatchResult result (λ u. AreTextsAssigned old new p ps t (bytes ∷ more)) (IsWithoutFit old new (all_texts (live_of old.bytes) (bytes ∷ more)))
+    → MatchResult result (λ u. AreTextsAssigned old new p ps t (bytes ∷ more)) (IsGivenUp old new (all_texts (live_of old.bytes) (bytes ∷ more)))

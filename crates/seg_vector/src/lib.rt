@@ -6,11 +6,15 @@ mod appending;
 mod fitting;
 mod growing;
 mod moving;
+mod owning;
 mod places;
 mod sizing;
 mod starting;
 mod strings;
+mod text_arrays;
+mod text_elements;
 mod texts;
+mod texts_changing;
 mod values;
 mod vectors;
 

@@ -13,3 +13,6 @@ pub struct Place {
 pub const LEN: u64 = 8;
 
 pub const CAPACITY: u64 = 16;
+
+/// The bytes of an element of a vector of texts: the link to the block of its text, and the text's length.
+pub const ELEMENT: u64 = 16;

@@ -15,7 +15,7 @@ use best_fit::{Heap, NoSpace};
 use seg_types::{Plain, Refusal};
 
 /// The capacity that a vector has for one element more.
-fn capacity_for_one(len: u64, capacity: u64) -> u64
+pub fn capacity_for_one(len: u64, capacity: u64) -> u64
     requires { 2 * capacity < 18446744073709551616 }
     ensures { result ≡ places_for_one len capacity }
 {

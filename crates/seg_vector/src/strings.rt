@@ -1,7 +1,8 @@
 //! Texts: any bytes, one after another.
 ghost use Rattle.std.specs.Prelude.{◌≡◌, ◌+◌, ◌*◌, ◌%◌, ◌<◌, ◌≤◌, IsTrue};
 ghost use Rattle.raw_region.specs.Format.{current};
-ghost use Rattle.best_fit.specs.Heap.{IsHeap, has_room, live_of};
+ghost use Rattle.best_fit.specs.Heap.{IsChanged, IsHeap, has_room, live_of};
+ghost use Rattle.seg_vector.specs.Standing.{place_at};
 ghost use Rattle.seg_vector.specs.TextCalls.{AppendsText, AssignsText, ClearsText, CountsBytePlaces, CountsBytes, GetsByte, IsSomeText, ReadsText, ReleasesText, ReservesBytes, SetsByte, ShrinksText, StartsText};
 ghost use Rattle.seg_vector.specs.Vector.{capacity_for_text as places_for_text};
 
@@ -43,6 +44,7 @@ impl SegString {
         requires aligned { place.at % 8 ≡ 0 }
         requires room { IsTrue (has_room (live_of heap.old.bytes) place.handle (place.at + 24)) }
         ensures place { result.place ≡ place }
+        ensures change { IsChanged current heap.old heap.new (place_at place) 24 }
         ensures text { StartsText heap.old heap.new place }
     {
         start(heap, place);

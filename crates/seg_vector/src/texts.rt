@@ -1,17 +1,15 @@
 //! Vectors of texts: an array of links and lengths, and a block for each text that is not empty.
 ghost use Rattle.std.specs.Prelude.{◌≡◌, ◌+◌, ◌%◌, IsTrue};
 ghost use Rattle.raw_region.specs.Format.{current};
-ghost use Rattle.best_fit.specs.Heap.{IsHeap, has_room, live_of};
+ghost use Rattle.best_fit.specs.Heap.{IsChanged, IsHeap, has_room, live_of};
+ghost use Rattle.seg_vector.specs.Standing.{place_at};
 ghost use Rattle.seg_vector.specs.TextsCalls.{CountsTextPlaces, CountsTexts, GetsText, IsSomeTexts, IsTextElement, StartsTexts};
 ghost use Rattle.seg_vector.specs.Vector.{OwnedText};
 
-use crate::places::{CAPACITY, LEN, Place};
+use crate::places::{CAPACITY, ELEMENT, LEN, Place};
 use crate::starting::start;
 use best_fit::Heap;
 use seg_types::Refusal;
-
-/// The bytes of an element: the link to the block of its text, and the text's length.
-const ELEMENT: u64 = 16;
 
 /// A vector of texts at a place in a heap: three words there (the link to its array, its length and its capacity), an array
 /// with as many places as its capacity says, and a block for each text that is not empty.
@@ -30,6 +28,7 @@ impl SegTexts {
         requires aligned { place.at % 8 ≡ 0 }
         requires room { IsTrue (has_room (live_of heap.old.bytes) place.handle (place.at + 24)) }
         ensures place { result.place ≡ place }
+        ensures change { IsChanged current heap.old heap.new (place_at place) 24 }
         ensures texts { StartsTexts heap.old heap.new place }
     {
         start(heap, place);

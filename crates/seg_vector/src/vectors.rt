@@ -1,7 +1,8 @@
 //! Vectors of values of a fixed number of bytes.
 ghost use Rattle.std.specs.Prelude.{◌≡◌, ◌+◌, ◌%◌, IsTrue};
 ghost use Rattle.raw_region.specs.Format.{current};
-ghost use Rattle.best_fit.specs.Heap.{IsHeap, has_room, live_of};
+ghost use Rattle.best_fit.specs.Heap.{IsChanged, IsHeap, has_room, live_of};
+ghost use Rattle.seg_vector.specs.Standing.{place_at};
 ghost use Rattle.seg_vector.specs.VectorCalls.{Counts, CountsPlaces, ErasesFrom, Gets, IsSomeVector, Pops, Sets, Starts};
 
 use crate::accessing::{element, truncate};
@@ -41,6 +42,7 @@ impl<T: Plain> SegVec<T> {
         requires aligned { place.at % 8 ≡ 0 }
         requires room { IsTrue (has_room (live_of heap.old.bytes) place.handle (place.at + 24)) }
         ensures place { result.place ≡ place }
+        ensures change { IsChanged current heap.old heap.new (place_at place) 24 }
         ensures vector { Starts T.SIZE T.is_value T.spelling heap.old heap.new place }
     {
         start(heap, place);

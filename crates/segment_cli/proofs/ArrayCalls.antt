@@ -1,5 +1,5 @@
 -- An array that is made of the values of a line: as many are there as are taken.
-use Rattle.std.proofs.Common.{◌≡◌, refl, sym, ap, subst, ◌∙◌, ℕ, suc, ◌+◌, ◌*◌, ◌<◌, ◌≤◌, ℤ, Bool, true, false, if◌then◌else◌, Option, Some, None, Result, Ok, Err, List, [], ◌∷◌, ◌++◌, length, replicate, arith}
+use Rattle.std.proofs.Common.{◌≡◌, refl, sym, ap, subst, ◌∙◌, ℕ, suc, ◌+◌, ◌*◌, ◌≤◌, ℤ, Bool, true, false, if◌then◌else◌, Option, Some, None, Result, Ok, Err, List, [], ◌∷◌, ◌++◌, length, replicate, arith}
 use Rattle.std.specs.Prelude.{IsTrue, map, nat_lt, pos, take}
 use Rattle.std.specs.List.{AllByRecursion}
 use Rattle.std.specs.Iterator.{Yields, YieldsFirst, YieldsThen}
@@ -52,11 +52,11 @@ pub taken-kind : (w t : Written) (xs : List ScalarValue) → Yields (YieldsFirst
 taken-kind w t xs h =
     all-front (λ v. kind_of_scalar v ≡ w.kind) xs (scalars_in t) (subst (AllByRecursion (λ v. kind_of_scalar v ≡ w.kind)) (taken-front w t xs h) (of_kind w.kind w.numbers))
 
-length-scalars : (k : ScalarKind) (zs : List ℤ) → length (map (scalar_of k) zs) ≡ length zs
+pub length-scalars : (k : ScalarKind) (zs : List ℤ) → length (map (scalar_of k) zs) ≡ length zs
 length-scalars k [] = refl
 length-scalars k (z ∷ zs) = ap (λ n. suc n) (length-scalars k zs)
 
-numbers-back : (k : ScalarKind) (zs : List ℤ) → AllByRecursion (λ z. IsTrue (is_value k z)) zs → map value_of_scalar (map (scalar_of k) zs) ≡ zs
+pub numbers-back : (k : ScalarKind) (zs : List ℤ) → AllByRecursion (λ z. IsTrue (is_value k z)) zs → map value_of_scalar (map (scalar_of k) zs) ≡ zs
 numbers-back k [] h = refl
 numbers-back k (z ∷ zs) h = λ j. scalar_of-value k z h.0 j ∷ numbers-back k zs h.1 j
 

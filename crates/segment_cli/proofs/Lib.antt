@@ -11,6 +11,8 @@ mod ArrayCalls
 mod Answering
 mod PartLines
 mod SetElements
+mod ElementCalls
+mod RowValues
 mod ShownObjects
 mod ListedObjects
 mod BlockLines

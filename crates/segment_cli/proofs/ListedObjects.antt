@@ -1,21 +1,25 @@
 -- The lines of objects in a listing.
-use Rattle.std.proofs.Common.{◌≡◌, ℕ, List, [], ◌∷◌, ◌++◌, length, Option, Some, None, slice_get, refl, sym, ap, ◌∙◌, append_assoc}
+use Rattle.std.proofs.Common.{◌≡◌, ℕ, List, [], ◌∷◌, ◌++◌, length, Option, Some, None, Result, true, refl, sym, ap, ◌∙◌, append_assoc}
 use Rattle.std.specs.Prelude.{codes}
 use Rattle.std.specs.List.{flat_map}
-use Rattle.std.proofs.lemmas.List.{append-nil}
+use Rattle.std.specs.Result.{result_ok}
 use Rattle.seg_types.specs.declared.refusals.Refusal.{Refusal}
 use Rattle.seg_types.specs.Names.{Key}
 use Rattle.segment_lang.specs.Texts.{kind_text, name_text, number_text}
 use Rattle.segment_manager.specs.declared.telling.Instance.{Instance}
 use Rattle.segment_manager.specs.Answers.{Refused}
-use Rattle.segment_manager.specs.Directory.{Value, Object, Directory, object_at}
+use Rattle.segment_manager.specs.Directory.{Value, Numbers, Elements, Bytes, Pairs, Texts, Object, Directory}
 use Rattle.segment_manager.specs.Instances.{IsInstance, IsMissing, SaysAt, SaysOf}
-use Rattle.segment_manager.specs.State.{State, StandsFor}
-use Rattle.segment_manager.proofs.Laws.{AreNumbers, found-supported, numbers-of}
+use Rattle.segment_manager.specs.State.{Answers, State, StandsFor}
+use Rattle.segment_manager.specs.Contents.{sizes_at, sizes_of}
+use Rattle.segment_manager.specs.Supported.{is_supported_value}
+use Rattle.segment_manager.proofs.Laws.{found-supported}
 use Rattle.segment_cli.specs.Answer.{answer_text, class_words, entry_words, handle_text, line, listing, measure_words}
 use Rattle.segment_cli.specs.Replies.{told_at, told_of}
 use Rattle.segment_cli.specs.Parts.{line_part, part_of, parts_until, said_words}
+use Rattle.segment_cli.specs.Shown.{measured_words}
 use Rattle.segment_cli.proofs.PartLines.{parts-all}
+use Rattle.segment_cli.proofs.ShownObjects.{sizes_of_object}
 
 abbrev pub last_line : List ℕ
 last_line = line (codes "end" ∷ [])
@@ -49,18 +53,25 @@ said-part s words objects i said text h same d k =
 
 -- ---- one object
 
--- all that is told of an object of numbers
-pub told-said : (s : State) (key : Key) (said : Instance) → SaysOf s key said → (d : Directory) → StandsFor s.cut.bytes d
-    → line (class_words said.class said.name.now ++ said_words said) ≡ answer_text (told_at d key)
-told-said s key said h d k =
+-- what is measured of an object is said behind the others; maps, of which a length alone is told, have not come
+measure-said : (v : Value) → is_supported_value v ≡ true → measured_words (result_ok (sizes_of v)) ≡ measure_words v
+measure-said (Numbers k zs) h = refl
+measure-said (Elements k zs t) h = refl
+measure-said (Bytes bs t) h = refl
+measure-said (Pairs k v ps) h = absurd (cc)
+measure-said (Texts ps t) h = refl
+
+-- all that is told of an object
+pub told-said : (s : State) (key : Key) (said : Instance) → SaysOf s key said → (r : Result (ℕ × ℕ) Refusal) (measured : Option (ℕ × ℕ)) → measured ≡ result_ok r → Answers s (λ d. sizes_at d key) r
+    → (d : Directory) → StandsFor s.cut.bytes d → line (class_words said.class said.name.now ++ said_words said ++ measured_words measured) ≡ answer_text (told_at d key)
+told-said s key said h r measured e a d k =
     let f = h.says d k in
     let o = f.0 in
     let is = f.2 in
-    let n : AreNumbers o.value = numbers-of o (found-supported d key o k.supported f.1) in
-    (λ j. line (class_words (is.class j) (is.name j) ++ entry-said o said is j))
-    ∙ ap line (sym (append-nil (class_words o.class o.name ++ entry_words o)))
-    ∙ ap (λ (v : Value). line (class_words o.class o.name ++ entry_words o ++ measure_words v)) (sym n.is)
-    ∙ ap (λ (r : Option Object). answer_text (told_of r)) (sym f.1)
+    let sizes : r ≡ sizes_of o.value = a.answers d k ∙ ap sizes_of_object f.1 in
+    let words : measured_words measured ≡ measure_words o.value = ap measured_words e ∙ ap (λ q. measured_words (result_ok q)) sizes ∙ measure-said o.value (found-supported d key o k.supported f.1) in
+    (λ j. line (class_words (is.class j) (is.name j) ++ entry-said o said is j ++ words j))
+    ∙ ap (λ (q : Option Object). answer_text (told_of q)) (sym f.1)
 
 -- there is none
 pub told-missing : (s : State) (key : Key) (r : Refusal) → IsMissing s key r → (d : Directory) → StandsFor s.cut.bytes d → answer_text (Refused r) ≡ answer_text (told_at d key)

@@ -1,21 +1,28 @@
--- A line asks for no more than there can be: from 1 to 1048576 numbers, under a key that is for their kind.
-use Rattle.std.proofs.Common.{◌≡◌, refl, sym, ap, subst, ◌∙◌, ℕ, ℤ, ◌+◌, ◌≤◌, Bool, true, false, ◌&&◌, Option, Some, None, List, [], ◌∷◌, length, replicate, arith, if◌then◌else◌, ◌==◌, nat_le, nat_lt}
-use Rattle.std.specs.Prelude.{IsTrue, find, option_and_then, option_map, take_while, drop, not, slice_index, take, ⊤}
+-- A line asks for no more than there can be: from 1 to 1048576 numbers, or as many elements and bytes as it has, under a key that is for
+-- their kind.
+use Rattle.std.proofs.Common.{◌≡◌, refl, sym, subst, ℕ, ℤ, ◌+◌, ◌*◌, ◌≤◌, Bool, true, false, ◌&&◌, Option, Some, None, Result, List, [], ◌∷◌, length, replicate, arith, if◌then◌else◌, ◌==◌, nat_le, nat_lt}
+use Rattle.std.specs.Prelude.{IsTrue, codes, find, option_and_then, option_map, take_while, drop, not, slice_index, ⊤}
 use Rattle.std.specs.List.{AllByRecursion, list_any}
-use Rattle.std.proofs.lemmas.Bool.{and_parts, eqb-true, leb-true}
-use Rattle.std.proofs.lemmas.List.{length-replicate}
+use Rattle.std.specs.Result.{result_ok}
+use Rattle.std.proofs.lemmas.Bool.{and_parts, eqb-true, leb-true, ltb-false}
+use Rattle.std.proofs.lemmas.List.{length-drop, length-replicate}
 use Rattle.seg_types.specs.declared.kinds.ScalarKind.{ScalarKind}
+use Rattle.seg_types.specs.declared.refusals.Refusal.{Refusal}
 use Rattle.seg_types.specs.declared.kinds.Kind.{Kind}
 use Rattle.seg_types.specs.declared.kinds.Kind.TheVariants.{Scalar, Text, Vector, Map, Texts}
 use Rattle.seg_types.specs.Names.{Key}
 use Rattle.seg_types.specs.Commands as asked
-use Rattle.seg_types.specs.Commands.{Command, Content, Literal, Reading, Nothing, Asked, UnknownCommand, LineTooLong, BadSyntax}
+use Rattle.seg_types.specs.Commands.{Command, Content, Literal, Whole, Truth, Quoted, Reading, Nothing, Asked, UnknownCommand, LineTooLong, BadSyntax}
 use Rattle.segment_lang.specs.Words as word
-use Rattle.segment_lang.specs.Words.{Word, Bare, words, is, is_blank, literal_of_word, number_of}
+use Rattle.segment_lang.specs.Words.{Word, Bare, words, is, is_blank, literal_of_word, number_of, whole_of}
 use Rattle.segment_lang.specs.Language.{Language, supported}
 use Rattle.segment_lang.specs.Reading as reads
 use Rattle.segment_lang.specs.Reading.{Form, Reader, agrees, all, alone, as_reading, bracketed, command_line, content, counted, counted_kind, each, for_kind, form_of, forms, items, key_of, kind_named, kind_of_word, making, making_each, name_key, new_key, number, quoted_of, reading, reading_of_words, skip_blanks, value_for, with_key, with_key_literal, with_key_number, with_key_number_literal, with_number, without_return}
-use Rattle.segment_cli.specs.Replies.{IsContent, IsMeant}
+use Rattle.segment_lang.specs.Laws.{room}
+use Rattle.segment_lang.specs.Texts.{kind_text}
+use Rattle.segment_lang.proofs.Laws.{words_room}
+use Rattle.segment_cli.specs.Replies.{IsContent, IsMeant, bytes_taken}
+use Rattle.segment_cli.proofs.RowValues.{text-no_value}
 
 -- ---- what there is, if there is something
 
@@ -43,18 +50,88 @@ if-holds : {A : Type 0} (P : A → Type 0) (b : Bool) (a : A) → (b ≡ true �
 if-holds P true a h = h refl
 if-holds P false a h = tt
 
+-- ---- the room that words take
+
+-- a word takes a byte at the least
+room-tail : (w : Word) (ws : List Word) → room ws + 1 ≤ room (w ∷ ws)
+room-tail (Bare bs) ws = omega arith
+room-tail (word.Text bs) ws = omega arith
+
+-- two values take four bytes
+values-room : (k : ScalarKind) (ws : List Word) → Holds (λ (zs : List ℤ). 2 * length zs ≤ room ws) (all (value_for k) ws)
+values-room k [] = omega arith
+values-room k (Bare [] ∷ ws) = tt
+values-room k (Bare (c ∷ cs) ∷ ws) =
+    then-all (λ (zs : List ℤ). 2 * length zs ≤ room (Bare (c ∷ cs) ∷ ws)) (λ z. option_map (λ zs. z ∷ zs) (all (value_for k) ws)) (value_for k (Bare (c ∷ cs)))
+    (λ z. map-where (λ (zs : List ℤ). 2 * length zs ≤ room ws) (λ (zs : List ℤ). 2 * length zs ≤ room (Bare (c ∷ cs) ∷ ws)) (λ zs. z ∷ zs) (all (value_for k) ws) (values-room k ws)
+    (λ zs h. omega arith))
+values-room k (word.Text bs ∷ ws) =
+    subst (λ (r : Result ℤ Refusal). Holds (λ (zs : List ℤ). 2 * length zs ≤ room (word.Text bs ∷ ws)) (option_and_then (λ z. option_map (λ zs. z ∷ zs) (all (value_for k) ws)) (result_ok r)))
+    (sym (text-no_value k bs)) tt
+
+-- a bare word is no text
+abbrev IsBareValue : Literal → Type 0
+IsBareValue (Whole z) = ⊤
+IsBareValue (Truth b) = ⊤
+IsBareValue (Quoted bs) = ⊥
+
+bare-if : (b c : Bool) (r : Option ℤ) → Holds IsBareValue (if b then Some (Truth true) else if c then Some (Truth false) else option_map Whole r)
+bare-if true c r = tt
+bare-if false true r = tt
+bare-if false false r = map-holds IsBareValue Whole r (λ z. tt)
+
+bare-taken : (l : Literal) (ls : List Literal) → IsBareValue l → bytes_taken (l ∷ ls) ≡ 2 + bytes_taken ls
+bare-taken (Whole z) ls h = refl
+bare-taken (Truth b) ls h = refl
+bare-taken (Quoted bs) ls h = absurd h
+
+literals-room : (ws : List Word) → Holds (λ ls. bytes_taken ls ≤ room ws) (all literal_of_word ws)
+literals-room [] = omega arith
+literals-room (Bare [] ∷ ws) = tt
+literals-room (Bare (c ∷ cs) ∷ ws) =
+    then-holds IsBareValue (λ ls. bytes_taken ls ≤ room (Bare (c ∷ cs) ∷ ws)) (λ l. option_map (λ ls. l ∷ ls) (all literal_of_word ws)) (literal_of_word (Bare (c ∷ cs)))
+    (bare-if (is (c ∷ cs) (codes "true")) (is (c ∷ cs) (codes "false")) (whole_of (c ∷ cs)))
+    (λ l b. map-where (λ ls. bytes_taken ls ≤ room ws) (λ ls. bytes_taken ls ≤ room (Bare (c ∷ cs) ∷ ws)) (λ ls. l ∷ ls) (all literal_of_word ws) (literals-room ws)
+    (λ ls h. let e = bare-taken l ls b in omega arith))
+literals-room (word.Text bs ∷ ws) =
+    map-where (λ ls. bytes_taken ls ≤ room ws) (λ ls. bytes_taken ls ≤ room (word.Text bs ∷ ws)) (λ ls. Quoted bs ∷ ls) (all literal_of_word ws) (literals-room ws) (λ ls h. omega arith)
+
 -- ---- kinds, keys and contents
+
+-- vectors of texts and maps have not come
+abbrev IsThere : Kind → Type 0
+IsThere (Scalar k) = ⊤
+IsThere Text = ⊤
+IsThere (Vector k) = ⊤
+IsThere (Map k v) = ⊥
+IsThere Texts = ⊥
+
+there-first : (b : Bool) (k : Kind) (r : Option Kind) → IsThere k → Holds IsThere r → Holds IsThere (if b then Some k else r)
+there-first true k r h f = h
+there-first false k r h f = f
+
+there-found : (ks : List Kind) (w : List ℕ) → AllByRecursion IsThere ks → Holds IsThere (find (λ k. is w (kind_text k)) ks)
+there-found [] w h = tt
+there-found (k ∷ ks) w h = there-first (is w (kind_text k)) k (find (λ k. is w (kind_text k)) ks) h.0 (there-found ks w h.1)
+
+named-there : (w : List ℕ) → Holds IsThere (kind_named supported w)
+unfolding kind_named
+named-there w = there-found supported.kinds w (tt, (tt, (tt, (tt, (tt, (tt, (tt, (tt, (tt, (tt, (tt, tt)))))))))))
 
 abbrev IsCount : ℕ → Type 0
 IsCount n = (1 ≤ n) × (n ≤ 1048576)
 
+-- a kind that has come, and so many
+abbrev IsCounted : Kind × ℕ → Type 0
+IsCounted p = IsCount p.1 × IsThere p.0
+
 abbrev Counts : Option (Kind × ℕ) → Type 0
-Counts = Holds (λ (p : Kind × ℕ). IsCount p.1)
+Counts = Holds IsCounted
 
 counted-holds : (k : Kind) (r : Option ℕ) → Counts (counted k r)
 counted-holds (Scalar k) (Some n) =
-    if-holds (λ (p : Kind × ℕ). IsCount p.1) (nat_le 1 n && nat_le n 1048576) (Scalar k, n)
-    (λ e. let both = and_parts (nat_le 1 n) (nat_le n 1048576) e in (leb-true 1 n both.0, leb-true n 1048576 both.1))
+    if-holds IsCounted (nat_le 1 n && nat_le n 1048576) (Scalar k, n)
+    (λ e. let both = and_parts (nat_le 1 n) (nat_le n 1048576) e in ((leb-true 1 n both.0, leb-true n 1048576 both.1), tt))
 counted-holds (Scalar k) None = tt
 counted-holds Text r = tt
 counted-holds (Vector k) r = tt
@@ -62,125 +139,132 @@ counted-holds (Map k v) r = tt
 counted-holds Texts r = tt
 
 bracket-holds : (l : Language) (w : List ℕ) (b : Bool) → Counts (if b then option_and_then (λ k. counted k (bracketed (drop (length (take_while (λ c. not (c == 0x5B)) w) + 1) w))) (kind_named l (take_while (λ c. not (c == 0x5B)) w)) else None)
-bracket-holds l w true = then-all (λ (p : Kind × ℕ). IsCount p.1) _ (kind_named l (take_while (λ c. not (c == 0x5B)) w)) (λ k. counted-holds k _)
+bracket-holds l w true = then-all IsCounted _ (kind_named l (take_while (λ c. not (c == 0x5B)) w)) (λ k. counted-holds k _)
 bracket-holds l w false = tt
 
-kind-holds : (l : Language) (w : List ℕ) (r : Option Kind) → Counts (elim r as (λ _. Option (Kind × ℕ)) [
+kind-holds : (l : Language) (w : List ℕ) (r : Option Kind) → Holds IsThere r → Counts (elim r as (λ _. Option (Kind × ℕ)) [
   | Some k ↦ Some (k, 1)
   | None ↦ let front = take_while (λ c. not (c == 0x5B)) w in
       if l.has_counts then option_and_then (λ k. counted k (bracketed (drop (length front + 1) w))) (kind_named l front) else None
 ])
-kind-holds l w (Some k) = (omega arith, omega arith)
-kind-holds l w None = bracket-holds l w l.has_counts
+kind-holds l w (Some k) h = ((omega arith, omega arith), h)
+kind-holds l w None h = bracket-holds l w l.has_counts
 
-kinds-count : (l : Language) (w : Word) → Counts (counted_kind l w)
-kinds-count l (Bare w) = kind-holds l w (kind_named l w)
-kinds-count l (word.Text bs) = tt
+kinds-count : (w : Word) → Counts (counted_kind supported w)
+kinds-count (Bare w) = kind-holds supported w (kind_named supported w) (named-there w)
+kinds-count (word.Text bs) = tt
 
 key-agrees : (k : Kind) (key : Option Key) → Holds (λ (x : Key). IsTrue (agrees k x)) (for_kind k key)
 key-agrees k key = then-all (λ (x : Key). IsTrue (agrees k x)) _ key (λ x. if-holds (λ (y : Key). IsTrue (agrees k y)) (agrees k x) x (λ e. e))
 
-content-holds : (k : Kind) (n : ℕ) (ws : List Word) (key : Key) → IsCount n → IsTrue (agrees k key) → Holds (IsContent key) (content k n ws)
-content-holds (Scalar k) n [] key h a = tt
-content-holds (Scalar k) n (v ∷ []) key h a =
+content-holds : (k : Kind) (n : ℕ) (ws : List Word) (key : Key) → IsCounted (k, n) → room ws ≤ 4097 → IsTrue (agrees k key) → Holds (IsContent key) (content k n ws)
+content-holds (Scalar k) n [] key h f a = tt
+content-holds (Scalar k) n (v ∷ []) key h f a =
     map-holds (IsContent key) (λ z. asked.Numbers k (replicate n z)) (value_for k v)
-    (λ z. let e = length-replicate n z in (subst (λ m. 1 ≤ m) (sym e) h.0, subst (λ m. m ≤ 1048576) (sym e) h.1, a))
-content-holds (Scalar k) n (v ∷ w ∷ ws) key h a = tt
-content-holds (Vector k) n ws key h a = map-holds (IsContent key) (asked.Elements k) (all (value_for k) ws) (λ zs. tt)
-content-holds Text n [] key h a = tt
-content-holds Text n (Bare w ∷ ws) key h a = tt
-content-holds Text n (word.Text bs ∷ []) key h a = tt
-content-holds Text n (word.Text bs ∷ w ∷ ws) key h a = tt
-content-holds (Map k v) n [] key h a = tt
-content-holds (Map k v) n (w ∷ ws) key h a = tt
-content-holds Texts n ws key h a = map-holds (IsContent key) asked.Strings (all quoted_of ws) (λ bss. tt)
+    (λ z. let e = length-replicate n z in (subst (λ m. 1 ≤ m) (sym e) h.0.0, subst (λ m. m ≤ 1048576) (sym e) h.0.1, a))
+content-holds (Scalar k) n (v ∷ w ∷ ws) key h f a = tt
+content-holds (Vector k) n ws key h f a =
+    map-where (λ (zs : List ℤ). 2 * length zs ≤ room ws) (IsContent key) (asked.Elements k) (all (value_for k) ws) (values-room k ws) (λ zs r. (omega arith, a))
+content-holds Text n [] key h f a = tt
+content-holds Text n (Bare w ∷ ws) key h f a = tt
+content-holds Text n (word.Text bs ∷ []) key h f a = (omega arith, a)
+content-holds Text n (word.Text bs ∷ w ∷ ws) key h f a = tt
+content-holds (Map k v) n ws key h f a = absurd h.1
+content-holds Texts n ws key h f a = absurd h.1
 
 -- ---- the forms
 
 abbrev Meant : Reader → Type 0
-Meant r = (l : Language) (ws : List Word) → Holds IsMeant (r l ws)
+Meant r = (ws : List Word) → room ws ≤ 4097 → Holds IsMeant (r supported ws)
 
 alone-meant : (c : Command) → IsMeant c → Meant (alone c)
-alone-meant c h l [] = h
-alone-meant c h l (w ∷ ws) = tt
+alone-meant c h [] room_is = h
+alone-meant c h (w ∷ ws) room_is = tt
 
 key-meant : (f : Key → Command) (key_in : Language → Word → Option Key) → ((k : Key) → IsMeant (f k)) → Meant (with_key f key_in)
-key-meant f key_in h l [] = tt
-key-meant f key_in h l (w ∷ []) = map-holds IsMeant f (key_in l w) h
-key-meant f key_in h l (w ∷ v ∷ ws) = tt
+key-meant f key_in h [] room_is = tt
+key-meant f key_in h (w ∷ []) room_is = map-holds IsMeant f (key_in supported w) h
+key-meant f key_in h (w ∷ v ∷ ws) room_is = tt
 
 number-meant : (f : ℕ → Command) → ((n : ℕ) → IsMeant (f n)) → Meant (with_number f)
-number-meant f h l [] = tt
-number-meant f h l (w ∷ []) = map-holds IsMeant f (number w) h
-number-meant f h l (w ∷ v ∷ ws) = tt
+number-meant f h [] room_is = tt
+number-meant f h (w ∷ []) room_is = map-holds IsMeant f (number w) h
+number-meant f h (w ∷ v ∷ ws) room_is = tt
 
 key-number-meant : (f : Key → ℕ → Command) → ((k : Key) (n : ℕ) → IsMeant (f k n)) → Meant (with_key_number f)
-key-number-meant f h l [] = tt
-key-number-meant f h l (w ∷ []) = tt
-key-number-meant f h l (w ∷ v ∷ []) = then-all IsMeant (λ key. option_map (f key) (number v)) (key_of l w) (λ k. map-holds IsMeant (f k) (number v) (h k))
-key-number-meant f h l (w ∷ v ∷ u ∷ ws) = tt
+key-number-meant f h [] room_is = tt
+key-number-meant f h (w ∷ []) room_is = tt
+key-number-meant f h (w ∷ v ∷ []) room_is = then-all IsMeant (λ key. option_map (f key) (number v)) (key_of supported w) (λ k. map-holds IsMeant (f k) (number v) (h k))
+key-number-meant f h (w ∷ v ∷ u ∷ ws) room_is = tt
 
 key-literal-meant : (f : Key → Literal → Command) → ((k : Key) (m : Literal) → IsMeant (f k m)) → Meant (with_key_literal f)
-key-literal-meant f h l [] = tt
-key-literal-meant f h l (w ∷ []) = tt
-key-literal-meant f h l (w ∷ v ∷ []) = then-all IsMeant (λ key. option_map (f key) (literal_of_word v)) (key_of l w) (λ k. map-holds IsMeant (f k) (literal_of_word v) (h k))
-key-literal-meant f h l (w ∷ v ∷ u ∷ ws) = tt
+key-literal-meant f h [] room_is = tt
+key-literal-meant f h (w ∷ []) room_is = tt
+key-literal-meant f h (w ∷ v ∷ []) room_is = then-all IsMeant (λ key. option_map (f key) (literal_of_word v)) (key_of supported w) (λ k. map-holds IsMeant (f k) (literal_of_word v) (h k))
+key-literal-meant f h (w ∷ v ∷ u ∷ ws) room_is = tt
 
 key-number-literal-meant : (f : Key → ℕ → Literal → Command) → ((k : Key) (n : ℕ) (m : Literal) → IsMeant (f k n m)) → Meant (with_key_number_literal f)
-key-number-literal-meant f h l [] = tt
-key-number-literal-meant f h l (w ∷ []) = tt
-key-number-literal-meant f h l (w ∷ v ∷ []) = tt
-key-number-literal-meant f h l (w ∷ v ∷ u ∷ []) =
-    then-all IsMeant (λ key. option_and_then (λ n. option_map (f key n) (literal_of_word u)) (number v)) (key_of l w)
+key-number-literal-meant f h [] room_is = tt
+key-number-literal-meant f h (w ∷ []) room_is = tt
+key-number-literal-meant f h (w ∷ v ∷ []) room_is = tt
+key-number-literal-meant f h (w ∷ v ∷ u ∷ []) room_is =
+    then-all IsMeant (λ key. option_and_then (λ n. option_map (f key n) (literal_of_word u)) (number v)) (key_of supported w)
     (λ k. then-all IsMeant (λ n. option_map (f k n) (literal_of_word u)) (number v) (λ n. map-holds IsMeant (f k n) (literal_of_word u) (h k n)))
-key-number-literal-meant f h l (w ∷ v ∷ u ∷ t ∷ ws) = tt
+key-number-literal-meant f h (w ∷ v ∷ u ∷ t ∷ ws) room_is = tt
 
 assigning-meant : Meant reads.assigning
-assigning-meant l [] = tt
-assigning-meant l (w ∷ ws) = then-all IsMeant (λ key. option_map (asked.Assign key) (all literal_of_word ws)) (key_of l w) (λ k. map-holds IsMeant (asked.Assign k) (all literal_of_word ws) (λ ls. tt))
+assigning-meant [] room_is = tt
+assigning-meant (w ∷ ws) room_is =
+    let tail = room-tail w ws in
+    then-all IsMeant (λ key. option_map (asked.Assign key) (all literal_of_word ws)) (key_of supported w)
+    (λ k. map-where (λ ls. bytes_taken ls ≤ room ws) IsMeant (asked.Assign k) (all literal_of_word ws) (literals-room ws) (λ ls h. omega arith))
 
 putting-meant : Meant reads.putting
-putting-meant l [] = tt
-putting-meant l (w ∷ []) = tt
-putting-meant l (w ∷ v ∷ []) = tt
-putting-meant l (w ∷ v ∷ u ∷ []) =
-    then-all IsMeant (λ key. option_and_then (λ k. option_map (asked.Put key k) (literal_of_word u)) (literal_of_word v)) (key_of l w)
+putting-meant [] room_is = tt
+putting-meant (w ∷ []) room_is = tt
+putting-meant (w ∷ v ∷ []) room_is = tt
+putting-meant (w ∷ v ∷ u ∷ []) room_is =
+    then-all IsMeant (λ key. option_and_then (λ k. option_map (asked.Put key k) (literal_of_word u)) (literal_of_word v)) (key_of supported w)
     (λ key. then-all IsMeant (λ k. option_map (asked.Put key k) (literal_of_word u)) (literal_of_word v) (λ k. map-holds IsMeant (asked.Put key k) (literal_of_word u) (λ m. tt)))
-putting-meant l (w ∷ v ∷ u ∷ t ∷ ws) = tt
+putting-meant (w ∷ v ∷ u ∷ t ∷ ws) room_is = tt
 
 appending-meant : Meant reads.appending
-appending-meant l [] = tt
-appending-meant l (w ∷ []) = tt
-appending-meant l (w ∷ Bare b ∷ ws) = tt
-appending-meant l (w ∷ word.Text bs ∷ []) = map-holds IsMeant (λ key. asked.Append key bs) (key_of l w) (λ k. tt)
-appending-meant l (w ∷ word.Text bs ∷ v ∷ ws) = tt
+appending-meant [] room_is = tt
+appending-meant (w ∷ []) room_is = tt
+appending-meant (w ∷ Bare b ∷ ws) room_is = tt
+appending-meant (w ∷ word.Text bs ∷ []) room_is =
+    let tail = room-tail w (word.Text bs ∷ []) in
+    map-holds IsMeant (λ key. asked.Append key bs) (key_of supported w) (λ k. omega arith)
+appending-meant (w ∷ word.Text bs ∷ v ∷ ws) room_is = tt
 
 finding-meant : Meant reads.finding
-finding-meant l [] = tt
-finding-meant l (w ∷ []) = tt
-finding-meant l (w ∷ v ∷ []) =
-    then-all IsMeant (λ k. option_map (λ key. asked.Find key k) (for_kind k (name_key l v))) (kind_of_word l w)
-    (λ k. map-holds IsMeant (λ key. asked.Find key k) (for_kind k (name_key l v)) (λ key. tt))
-finding-meant l (w ∷ v ∷ u ∷ ws) = tt
+finding-meant [] room_is = tt
+finding-meant (w ∷ []) room_is = tt
+finding-meant (w ∷ v ∷ []) room_is =
+    then-all IsMeant (λ k. option_map (λ key. asked.Find key k) (for_kind k (name_key supported v))) (kind_of_word supported w)
+    (λ k. map-holds IsMeant (λ key. asked.Find key k) (for_kind k (name_key supported v)) (λ key. tt))
+finding-meant (w ∷ v ∷ u ∷ ws) room_is = tt
 
 handle-if : (b : Bool) (cs : List ℕ) → Holds IsMeant (if b then option_map asked.DestroyPtr (number_of cs) else None)
 handle-if true cs = map-holds IsMeant asked.DestroyPtr (number_of cs) (λ n. tt)
 handle-if false cs = tt
 
 destroying-meant : Meant reads.destroying_ptr
-destroying-meant l [] = tt
-destroying-meant l (Bare [] ∷ ws) = tt
-destroying-meant l (Bare (c ∷ cs) ∷ []) = handle-if (c == 0x23) cs
-destroying-meant l (Bare (c ∷ cs) ∷ w ∷ ws) = tt
-destroying-meant l (word.Text bs ∷ ws) = tt
+destroying-meant [] room_is = tt
+destroying-meant (Bare [] ∷ ws) room_is = tt
+destroying-meant (Bare (c ∷ cs) ∷ []) room_is = handle-if (c == 0x23) cs
+destroying-meant (Bare (c ∷ cs) ∷ w ∷ ws) room_is = tt
+destroying-meant (word.Text bs ∷ ws) room_is = tt
 
 making-meant : (make : Key → Content → Command) (key_in : Language → Word → Option Key) → ((key : Key) (x : Content) → IsContent key x → IsMeant (make key x)) → Meant (making make key_in)
-making-meant make key_in h l [] = tt
-making-meant make key_in h l (w ∷ []) = tt
-making-meant make key_in h l (w ∷ v ∷ args) =
-    then-holds (λ (p : Kind × ℕ). IsCount p.1) IsMeant (λ (k, n). option_and_then (λ key. option_map (make key) (content k n args)) (for_kind k (key_in l v))) (counted_kind l w) (kinds-count l w)
-    (λ p count. then-holds (λ (x : Key). IsTrue (agrees p.0 x)) IsMeant (λ key. option_map (make key) (content p.0 p.1 args)) (for_kind p.0 (key_in l v)) (key-agrees p.0 (key_in l v))
-    (λ key a. map-where (IsContent key) IsMeant (make key) (content p.0 p.1 args) (content-holds p.0 p.1 args key count a) (h key)))
+making-meant make key_in h [] room_is = tt
+making-meant make key_in h (w ∷ []) room_is = tt
+making-meant make key_in h (w ∷ v ∷ args) room_is =
+    let tail = room-tail w (v ∷ args) in
+    let fits = room-tail v args in
+    then-holds IsCounted IsMeant (λ (k, n). option_and_then (λ key. option_map (make key) (content k n args)) (for_kind k (key_in supported v))) (counted_kind supported w) (kinds-count w)
+    (λ p count. then-holds (λ (x : Key). IsTrue (agrees p.0 x)) IsMeant (λ key. option_map (make key) (content p.0 p.1 args)) (for_kind p.0 (key_in supported v)) (key-agrees p.0 (key_in supported v))
+    (λ key a. map-where (IsContent key) IsMeant (make key) (content p.0 p.1 args) (content-holds p.0 p.1 args key count (omega arith) a) (h key)))
 
 each-meant : (vs : List Word) (k : Kind) (n : ℕ) (key : Key) → IsCount n → IsTrue (agrees k key) → Holds IsMeant (each vs k n key)
 each-meant vs (Scalar k) n key h a =
@@ -192,12 +276,12 @@ each-meant vs (Map k v) n key h a = tt
 each-meant vs Texts n key h a = tt
 
 making_each-meant : Meant making_each
-making_each-meant l [] = tt
-making_each-meant l (w ∷ []) = tt
-making_each-meant l (w ∷ v ∷ vs) =
-    then-holds (λ (p : Kind × ℕ). IsCount p.1) IsMeant (λ (k, n). option_and_then (λ key. each vs k n key) (for_kind k (new_key l v))) (counted_kind l w) (kinds-count l w)
-    (λ p count. then-holds (λ (x : Key). IsTrue (agrees p.0 x)) IsMeant (λ key. each vs p.0 p.1 key) (for_kind p.0 (new_key l v)) (key-agrees p.0 (new_key l v))
-    (λ key a. each-meant vs p.0 p.1 key count a))
+making_each-meant [] room_is = tt
+making_each-meant (w ∷ []) room_is = tt
+making_each-meant (w ∷ v ∷ vs) room_is =
+    then-holds IsCounted IsMeant (λ (k, n). option_and_then (λ key. each vs k n key) (for_kind k (new_key supported v))) (counted_kind supported w) (kinds-count w)
+    (λ p count. then-holds (λ (x : Key). IsTrue (agrees p.0 x)) IsMeant (λ key. each vs p.0 p.1 key) (for_kind p.0 (new_key supported v)) (key-agrees p.0 (new_key supported v))
+    (λ key a. each-meant vs p.0 p.1 key count.0 a))
 
 abbrev IsFormMeant : Form → Type 0
 IsFormMeant f = Meant f.1
@@ -219,6 +303,10 @@ form-if false w = tt
 
 -- ---- the line
 
+words-fit : (rest : List ℕ) (r : Option (List Word)) → words rest ≡ r → length rest ≤ 4096 → Holds (λ ws. room ws ≤ 4097) r
+words-fit rest None e short = tt
+words-fit rest (Some ws) e short = omega (arith, words_room rest ws e)
+
 abbrev IsReadingMeant : Reading → Type 0
 IsReadingMeant (Asked c) = IsMeant c
 IsReadingMeant Nothing = ⊤
@@ -230,29 +318,41 @@ as-meant : (r : Option Command) → Holds IsMeant r → IsReadingMeant (as_readi
 as-meant None h = tt
 as-meant (Some c) h = h
 
-words-if : (l : Language) (rest : List ℕ) (r : Option Form) → Holds IsFormMeant r → IsReadingMeant (elim r as (λ _. Reading) [
+words-if : (rest : List ℕ) (r : Option Form) → length rest ≤ 4096 → Holds IsFormMeant r → IsReadingMeant (elim r as (λ _. Reading) [
   | None ↦ UnknownCommand
-  | Some form ↦ as_reading (option_and_then (form.1 l) (words rest))
+  | Some form ↦ as_reading (option_and_then (form.1 supported) (words rest))
 ])
-words-if l rest None h = tt
-words-if l rest (Some f) h = as-meant (option_and_then (f.1 l) (words rest)) (then-all IsMeant (f.1 l) (words rest) (λ ws. h l ws))
+words-if rest None short h = tt
+words-if rest (Some f) short h =
+    as-meant (option_and_then (f.1 supported) (words rest))
+    (then-holds (λ ws. room ws ≤ 4097) IsMeant (f.1 supported) (words rest) (words-fit rest (words rest) refl short) (λ ws fits. h ws fits))
 
-command-meant : (l : Language) (line : List ℕ) → IsReadingMeant (command_line l line)
-command-meant l [] = tt
-command-meant l (c ∷ cs) =
+command-meant : (line : List ℕ) → length line ≤ 4096 → IsReadingMeant (command_line supported line)
+command-meant [] short = tt
+command-meant (c ∷ cs) short =
     let first = take_while (λ c. not (is_blank c)) (c ∷ cs) in
-    words-if l (drop (length first) (c ∷ cs)) (form_of l first) (form-if (list_any (is first) l.commands) first)
+    words-if (drop (length first) (c ∷ cs)) (form_of supported first) (omega (arith, length-drop (length first) (c ∷ cs))) (form-if (list_any (is first) supported.commands) first)
 
-meant-if : (b : Bool) (x y : Reading) → IsReadingMeant x → IsReadingMeant y → IsReadingMeant (if b then x else y)
+meant-if : (b : Bool) (x y : Reading) → IsReadingMeant x → (b ≡ false → IsReadingMeant y) → IsReadingMeant (if b then x else y)
 meant-if true x y h k = h
-meant-if false x y h k = k
+meant-if false x y h k = k refl
 
-line-meant : (l : Language) (line : List ℕ) → IsReadingMeant (reading l line)
+blank-if : (b : Bool) (c : ℕ) (cs : List ℕ) → length (skip_blanks cs) ≤ length cs → length (if b then skip_blanks cs else c ∷ cs) ≤ length (c ∷ cs)
+blank-if true c cs h = omega arith
+blank-if false c cs h = omega arith
+
+blanks-short : (line : List ℕ) → length (skip_blanks line) ≤ length line
+blanks-short [] = omega arith
+blanks-short (c ∷ cs) = blank-if (is_blank c) c cs (blanks-short cs)
+
+line-meant : (line : List ℕ) → IsReadingMeant (reading supported line)
 unfolding reading
-line-meant l line =
+line-meant line =
     let line = without_return line in
-    meant-if (nat_lt 4096 (length line)) LineTooLong _ tt (meant-if (slice_index line 0 == 0x23) Nothing _ tt (command-meant l (skip_blanks line)))
+    meant-if (nat_lt 4096 (length line)) LineTooLong _ tt
+    (λ few. meant-if (slice_index line 0 == 0x23) Nothing _ tt
+    (λ _. command-meant (skip_blanks line) (omega (arith, blanks-short line, ltb-false 4096 (length line) few))))
 
 -- what a line asks for can be
 pub asked-meant : (c : Command) (line : List ℕ) → Asked c ≡ reading supported line → IsMeant c
-asked-meant c line e = subst IsReadingMeant (sym e) (line-meant supported line)
+asked-meant c line e = subst IsReadingMeant (sym e) (line-meant line)

@@ -3,10 +3,9 @@ use Rattle.std.proofs.Common.{◌≡◌, sym, ap, subst, ◌∙◌, ℕ, ℤ, �
 use Rattle.std.specs.Prelude.{IsTrue}
 use Rattle.std.proofs.lemmas.Bool.{eqb-true}
 use Rattle.std.proofs.lemmas.List.{length-replicate}
-use Rattle.std.proofs.lemmas.Option.{same_Some}
 use Rattle.seg_types.specs.declared.kinds.ScalarKind.{ScalarKind}
 use Rattle.seg_types.specs.declared.kinds.Kind.{Kind}
-use Rattle.seg_types.specs.declared.kinds.Kind.TheVariants.{Scalar}
+use Rattle.seg_types.specs.declared.kinds.Kind.TheVariants.{Scalar, Text, Vector}
 use Rattle.seg_types.specs.declared.keys.NewKey.{NewKey}
 use Rattle.seg_types.specs.declared.keys.NewKey.TheVariants as new
 use Rattle.seg_types.specs.declared.keys.IndexKey.{IndexKey}
@@ -15,7 +14,7 @@ use Rattle.seg_types.specs.Kinds.{code_of, kind_of_code, same_kind}
 use Rattle.seg_types.specs.Keys.{index_key_seen, new_key_seen}
 use Rattle.seg_types.specs.Commands as asked
 use Rattle.segment_lang.specs.Reading.{agrees}
-use Rattle.segment_manager.specs.NewObjects.{IsOfItsKind}
+use Rattle.segment_manager.specs.NewObjects.{IsOfItsKind, IsOfKind}
 use Rattle.segment_manager.proofs.Laws.{code-read}
 use Rattle.segment_cli.specs.Replies.{IsContent, IsMeant}
 
@@ -32,6 +31,16 @@ new-kind new.Anonymous k h = tt
 entry-kind : (key : IndexKey) (k : ScalarKind) → IsTrue (agrees (Scalar k) (index_key_seen key)) → IsOfItsKind (index_key_seen key) k
 entry-kind (entry.Name bytes) k h = tt
 entry-kind (entry.Unique u) k h = kind-same (Scalar k) u h
+
+-- the same of a key for any kind
+new-of : (key : NewKey) (kind : Kind) → IsTrue (agrees kind (new_key_seen key)) → IsOfKind (new_key_seen key) kind
+new-of (new.Name bytes) kind h = tt
+new-of (new.Unique u) kind h = kind-same kind u h
+new-of new.Anonymous kind h = tt
+
+entry-of : (key : IndexKey) (kind : Kind) → IsTrue (agrees kind (index_key_seen key)) → IsOfKind (index_key_seen key) kind
+entry-of (entry.Name bytes) kind h = tt
+entry-of (entry.Unique u) kind h = kind-same kind u h
 
 some : (n : ℕ) (z : ℤ) → 1 ≤ length (replicate n z) → 1 ≤ n
 some n z h = subst (λ m. 1 ≤ m) (length-replicate n z) h
@@ -62,6 +71,20 @@ module _ (key : IndexKey) (k : ScalarKind) (n : ℕ) (z : ℤ) (h : IsContent (i
 
   pub index_few : n ≤ 1048576
   index_few = few n z h.1
+
+-- ---- vectors and strings
+
+pub elements_kind : (key : NewKey) (k : ScalarKind) (zs : List ℤ) → IsContent (new_key_seen key) (asked.Elements k zs) → IsOfKind (new_key_seen key) (Vector k)
+elements_kind key k zs h = new-of key (Vector k) h.1
+
+pub bytes_kind : (key : NewKey) (bs : List ℕ) → IsContent (new_key_seen key) (asked.Bytes bs) → IsOfKind (new_key_seen key) Text
+bytes_kind key bs h = new-of key Text h.1
+
+pub index_elements_kind : (key : IndexKey) (k : ScalarKind) (zs : List ℤ) → IsContent (index_key_seen key) (asked.Elements k zs) → IsOfKind (index_key_seen key) (Vector k)
+index_elements_kind key k zs h = entry-of key (Vector k) h.1
+
+pub index_bytes_kind : (key : IndexKey) (bs : List ℕ) → IsContent (index_key_seen key) (asked.Bytes bs) → IsOfKind (index_key_seen key) Text
+index_bytes_kind key bs h = entry-of key Text h.1
 
 -- ---- an array
 

@@ -1,8 +1,6 @@
 -- An element that a line sets: when the segment is open for reading, and what the call for a kind comes to.
-use Rattle.std.proofs.Common.{◌≡◌, refl, sym, subst, ℕ, ℤ, true, false, Result, Ok}
-use Rattle.raw_region.specs.Memory.{SamePlace}
+use Rattle.std.proofs.Common.{◌≡◌, refl, sym, subst, ℕ, true, false, Ok}
 use Rattle.seg_types.specs.declared.kinds.ScalarKind.{ScalarKind}
-use Rattle.seg_types.specs.declared.kinds.Kind.TheVariants.{Scalar}
 use Rattle.seg_types.specs.declared.refusals.Refusal.TheVariants as refusal
 use Rattle.seg_types.specs.declared.values.ScalarValue.{ScalarValue}
 use Rattle.seg_types.specs.Kinds.{is_value}
@@ -15,9 +13,9 @@ use Rattle.segment_manager.specs.declared.modes.Mode.TheVariants.{Write, ReadOnl
 use Rattle.segment_manager.specs.Answers.{Answer, Refused}
 use Rattle.segment_manager.specs.Directory.{Directory}
 use Rattle.segment_manager.specs.Calls.{elements_at}
-use Rattle.segment_manager.specs.State.{Answers, IsStep, IsStepOfKind, State}
+use Rattle.segment_manager.specs.State.{Answers, IsStep, State}
 use Rattle.segment_manager.specs.Step.{is_read_only, step}
-use Rattle.segment_manager.proofs.Laws.{any-literal, any-steps}
+use Rattle.segment_manager.proofs.Laws.{any-literal}
 
 pub not-reading : (mode : Mode) → (mode ≡ ReadOnly → ⊥) → is_read_only mode ≡ false
 not-reading Write h = refl
@@ -39,8 +37,7 @@ reading-refuses s c e f = record {
 -- a value of the kind that the elements have
 pub set-step : (old new : State) (key : Key) (k : ScalarKind) (i : ℕ) (l : Literal) (v : ScalarValue) (answer : Answer) → Answers old (λ d. elements_at d key) (Ok k)
     → kind_of_scalar v ≡ k → value_of_literal k l ≡ Ok (value_of_scalar v) → is_value k (value_of_scalar v) ≡ true
-    → IsStepOfKind old new key (Scalar (kind_of_scalar v)) (asked.Set key i (literal_of (kind_of_scalar v) (value_of_scalar v))) answer → IsStep old new (asked.Set key i l) answer
+    → IsStep old new (asked.Set key i (literal_of (kind_of_scalar v) (value_of_scalar v))) answer → IsStep old new (asked.Set key i l) answer
 set-step old new key k i l v answer a same value range h =
     any-literal old new key k i l (value_of_scalar v) answer a value range
-    (any-steps old new key k (asked.Set key i (literal_of k (value_of_scalar v))) answer a
-    (subst (λ j. IsStepOfKind old new key (Scalar j) (asked.Set key i (literal_of j (value_of_scalar v))) answer) same h))
+    (subst (λ j. IsStep old new (asked.Set key i (literal_of j (value_of_scalar v))) answer) same h)

@@ -1,33 +1,45 @@
--- What is shown of an object is its kind and its numbers, one after another.
-use Rattle.std.proofs.Common.{◌≡◌, ℕ, ℤ, ◌+◌, List, [], ◌∷◌, ◌++◌, length, map, Option, Some, None, Result, Ok, Err, true, slice_get, refl, sym, ap, subst, ◌∙◌, append_assoc}
-use Rattle.std.specs.Prelude.{is_some}
+-- What is shown of an object: its kind, and its numbers one after another, or its bytes.
+use Rattle.std.proofs.Common.{◌≡◌, ℕ, ℤ, List, [], ◌∷◌, ◌++◌, length, map, Option, Some, None, Result, Ok, Err, true, slice_get, refl, sym, ap, subst, ◌∙◌, append_assoc}
 use Rattle.std.specs.List.{flat_map}
 use Rattle.raw_region.specs.Format.{current}
+use Rattle.best_fit.specs.Table.{Table}
 use Rattle.seg_types.specs.declared.kinds.ScalarKind.{ScalarKind}
-use Rattle.seg_types.specs.declared.kinds.Kind.TheVariants.{Scalar}
+use Rattle.seg_types.specs.declared.kinds.Kind.TheVariants.{Scalar, Text, Vector}
 use Rattle.seg_types.specs.declared.refusals.Refusal.{Refusal}
 use Rattle.seg_types.specs.declared.refusals.Refusal.TheVariants.{NotFound, OutOfRange}
-use Rattle.seg_types.specs.declared.values.ScalarValue.{ScalarValue}
 use Rattle.seg_types.specs.Names.{ByHandle, Key}
 use Rattle.seg_types.specs.Commands as asked
 use Rattle.segment_lang.specs.Texts.{value_text}
 use Rattle.segment_manager.specs.declared.modes.Mode.{Mode}
 use Rattle.segment_manager.specs.declared.telling.Instance.{Instance}
-use Rattle.segment_manager.specs.Answers.{Answer, Element, Refused, Shown}
-use Rattle.segment_manager.specs.Calls.{elements_at, elements_of}
-use Rattle.segment_manager.specs.Directory.{Value, Numbers, Object, Directory, count_of, kind_of, live, object_at}
-use Rattle.segment_manager.specs.Found.{is_object_at}
-use Rattle.segment_manager.specs.Instances.{IsInstance, IsMissing, SaysOf}
+use Rattle.segment_manager.specs.Answers.{Element, Refused, Shown}
+use Rattle.segment_manager.specs.Calls.{HasScalars, elements_of}
+use Rattle.segment_manager.specs.Contents.{bytes_at, sizes_at, sizes_of, text_bytes}
+use Rattle.segment_manager.specs.Directory.{Value, Numbers, Elements, Bytes, Pairs, Texts, Object, Directory, count_of, kind_of, live, object_at}
+use Rattle.segment_manager.specs.Instances.{IsMissing, SaysOf}
 use Rattle.segment_manager.specs.Plan.{Plan, Reply, perform, with}
-use Rattle.segment_manager.specs.State.{Answers, IsReply, IsReplyOfKind, State, StandsFor, scalar_answer}
-use Rattle.segment_manager.specs.Step.{effect, get, step}
-use Rattle.segment_manager.proofs.Laws.{AreNumbers, any-replies, by-handle, found-supported, numbers-of}
-use Rattle.segment_cli.specs.Answer.{answer_text, line}
-use Rattle.segment_cli.specs.Parts.{element_part, part_of, parts_until}
+use Rattle.segment_manager.specs.State.{Answers, State, StandsFor}
+use Rattle.segment_manager.specs.Step.{get, step}
+use Rattle.segment_manager.specs.Supported.{is_supported_value}
+use Rattle.segment_manager.proofs.Laws.{by-handle, found-supported}
+use Rattle.segment_cli.specs.Answer.{answer_text, line, shown_words}
+use Rattle.segment_cli.specs.Parts.{element_part, part_of}
 use Rattle.segment_cli.specs.Replies.{shown_at, shown_of}
-use Rattle.segment_cli.specs.Shown.{elements_text, front_text, value_line}
+use Rattle.segment_cli.specs.Shown.{front_text, length_in, string_line, value_line}
 use Rattle.segment_cli.proofs.Answering.{answered-reads}
+use Rattle.segment_cli.proofs.ElementCalls.{IsElements, IsText, text-if, vector-if}
 use Rattle.segment_cli.proofs.PartLines.{parts-all, parts-same}
+
+-- ---- what the calls say of the object of a key
+
+abbrev pub sizes_of_object : Option Object → Result (ℕ × ℕ) Refusal
+sizes_of_object r = elim r as (λ _. Result (ℕ × ℕ) Refusal) [ None ↦ Err NotFound | Some o ↦ sizes_of o.value ]
+
+abbrev elements_of_object : Option Object → Result ScalarKind Refusal
+elements_of_object r = elim r as (λ _. Result ScalarKind Refusal) [ None ↦ Err NotFound | Some o ↦ elements_of (kind_of o.value) ]
+
+abbrev bytes_of_object : Option Object → Result (List ℕ) Refusal
+bytes_of_object r = elim r as (λ _. Result (List ℕ) Refusal) [ None ↦ Err NotFound | Some o ↦ text_bytes o.value ]
 
 -- ---- one element
 
@@ -46,13 +58,24 @@ element-if d k (Some z) = refl
 abbrev get_of : Directory → ℕ → Option Object → Plan
 get_of d i r = with (elim r as (λ _. Result Object Refusal) [ None ↦ Err NotFound | Some o ↦ Ok o ]) (λ o. get d o.value i)
 
--- an element of numbers
-element-is : (mode : Mode) (d : Directory) (key : Key) (o : Object) (k : ScalarKind) (zs : List ℤ) (i : ℕ) → object_at d key ≡ Some o → o.value ≡ Numbers k zs
+-- numbers, alone or in a vector, by how they are read and shown
+record IsRow (v : Value) (k : ScalarKind) (zs : List ℤ) : Type 0 where
+  gets : (d : Directory) (i : ℕ) → get d v i ≡ element_of d k (slice_get zs i)
+  shows : shown_words v ≡ front_text (kind_of v) (length zs) ∷ map (value_text k) zs
+
+numbers-row : (k : ScalarKind) (zs : List ℤ) → IsRow (Numbers k zs) k zs
+numbers-row k zs = record { gets = λ d i. refl; shows = refl }
+
+vector-row : (k : ScalarKind) (zs : List ℤ) (t : Table) → IsRow (Elements k zs t) k zs
+vector-row k zs t = record { gets = λ d i. refl; shows = refl }
+
+-- an element of them
+element-is : (mode : Mode) (d : Directory) (key : Key) (o : Object) (k : ScalarKind) (zs : List ℤ) (i : ℕ) → object_at d key ≡ Some o → IsRow o.value k zs
     → element_part (step mode d (asked.Get key i)).0 ≡ part_of (element_text k) (slice_get zs i)
-element-is mode d key o k zs i e f =
+element-is mode d key o k zs i e row =
     ap element_part (answered-reads mode d (asked.Get key i) refl)
     ∙ ap (λ (r : Option Object). element_part (perform d (live d) (get_of d i r)).0) e
-    ∙ ap (λ (v : Value). element_part (perform d (live d) (get d v i)).0) f
+    ∙ ap (λ (p : Plan). element_part (perform d (live d) p).0) (row.gets d i)
     ∙ element-if d k (slice_get zs i)
 
 -- ---- all of them
@@ -63,31 +86,37 @@ line-words w k (z ∷ zs) =
     ap (λ l. w ++ 0x20 ∷ l) (line-words (value_text k z) k zs)
     ∙ ap (λ l. w ++ 0x20 ∷ l) (sym (append_assoc (value_text k z) (flat_map (element_text k) zs) (0x0A ∷ [])))
 
-shown-numbers : (mode : Mode) (d : Directory) (key : Key) (o : Object) (k : ScalarKind) (zs : List ℤ) → object_at d key ≡ Some o → o.value ≡ Numbers k zs
-    → value_line (Scalar k) (length zs) mode d key ≡ answer_text (Shown (Numbers k zs))
-shown-numbers mode d key o k zs e f =
-    ap (λ l. front_text (Scalar k) (length zs) ++ (l ++ 0x0A ∷ []))
-    (parts-same (λ i. element_part (step mode d (asked.Get key i)).0) (λ i. part_of (element_text k) (slice_get zs i)) (length zs) (λ i. element-is mode d key o k zs i e f)
+shown-row : (mode : Mode) (d : Directory) (key : Key) (o : Object) (k : ScalarKind) (zs : List ℤ) → object_at d key ≡ Some o → IsRow o.value k zs
+    → value_line (kind_of o.value) (length zs) mode d key ≡ answer_text (Shown o.value)
+shown-row mode d key o k zs e row =
+    ap (λ l. front_text (kind_of o.value) (length zs) ++ (l ++ 0x0A ∷ []))
+    (parts-same (λ i. element_part (step mode d (asked.Get key i)).0) (λ i. part_of (element_text k) (slice_get zs i)) (length zs) (λ i. element-is mode d key o k zs i e row)
     ∙ parts-all (element_text k) zs)
-    ∙ sym (line-words (front_text (Scalar k) (length zs)) k zs)
+    ∙ sym (line-words (front_text (kind_of o.value) (length zs)) k zs)
+    ∙ ap line (sym row.shows)
+
+-- ---- the kinds
+
+record IsNumbers (k : ScalarKind) (v : Value) : Type 0 where
+  numbers : List ℤ
+  is : v ≡ Numbers k numbers
+
+scalar-if : (k : ScalarKind) (v : Value) → kind_of v ≡ Scalar k → IsNumbers k v
+scalar-if k (Numbers l zs) e = let same : l ≡ k = cc in record { numbers = zs; is = λ i. Numbers (same i) zs }
+scalar-if k (Elements l zs t) e = absurd (cc)
+scalar-if k (Bytes bs t) e = absurd (cc)
+scalar-if k (Pairs l m ps) e = absurd (cc)
+scalar-if k (Texts ps t) e = absurd (cc)
+
+-- maps and vectors of texts have not come
+other-if : (v : Value) → is_supported_value v ≡ true → ((k : ScalarKind) → kind_of v ≡ Scalar k → ⊥) → ((k : ScalarKind) → kind_of v ≡ Vector k → ⊥) → (kind_of v ≡ Text → ⊥) → ⊥
+other-if (Numbers k zs) h n m t = n k refl
+other-if (Elements k zs u) h n m t = m k refl
+other-if (Bytes bs u) h n m t = t refl
+other-if (Pairs k v ps) h n m t = absurd (cc)
+other-if (Texts ps u) h n m t = absurd (cc)
 
 -- ---- the object of a key, by its handle
-
-abbrev elements_in : Option Object → Result ScalarKind Refusal
-elements_in r = elim r as (λ _. Result ScalarKind Refusal) [ None ↦ Err NotFound | Some o ↦ elements_of (kind_of o.value) ]
-
-has-object : (k : ScalarKind) (r : Option Object) → Ok k ≡ elements_in r → true ≡ is_some r
-has-object k None e = absurd (cc)
-has-object k (Some o) e = refl
-
--- where there are elements there is an object
-pub is-object : (s : State) (h : ℕ) (k : ScalarKind) → Answers s (λ d. elements_at d (ByHandle h)) (Ok k) → Answers s (λ d. is_object_at d h) true
-is-object s h k a = record { answers = λ d st. has-object k (object_at d (ByHandle h)) (a.answers d st) }
-
--- an element that is read at a handle is the command's
-pub element-read : (s : State) (h : ℕ) (k : ScalarKind) (i : ℕ) (r : Result ScalarValue Refusal) → Answers s (λ d. elements_at d (ByHandle h)) (Ok k)
-    → IsReplyOfKind s (ByHandle h) (Scalar k) (asked.Get (ByHandle h) i) (scalar_answer r) → IsReply s (asked.Get (ByHandle h) i) (scalar_answer r)
-element-read s h k i r a is = any-replies s (ByHandle h) k (asked.Get (ByHandle h) i) (scalar_answer r) a is
 
 module _ (s : State) (key : Key) (said : Instance) (h : SaysOf s key said) where
   at-handle : (d : Directory) (k : StandsFor s.cut.bytes d) → object_at d (ByHandle said.handle) ≡ Some (h.says d k).0
@@ -96,32 +125,49 @@ module _ (s : State) (key : Key) (said : Instance) (h : SaysOf s key said) where
       ap (λ n. object_at d (ByHandle n)) f.2.at ∙ by-handle current d key f.0 k.denotes.directory f.1
 
   -- its elements are of the kind that it says
-  pub elements-said : (k : ScalarKind) → said.kind ≡ Scalar k → Answers s (λ d. elements_at d (ByHandle said.handle)) (Ok k)
-  elements-said k e = record {
-    answers = λ d st. ap elements_of (sym e ∙ (h.says d st).2.kind) ∙ sym (ap elements_in (at-handle d st));
-  }
+  pub scalars-at : (k : ScalarKind) → elements_of said.kind ≡ Ok k → HasScalars s (ByHandle said.handle)
+  scalars-at k e = (k, record { answers = λ d st. sym e ∙ ap elements_of (h.says d st).2.kind ∙ sym (ap elements_of_object (at-handle d st)) })
 
-  -- it is shown
-  pub shown-said : (k : ScalarKind) → said.kind ≡ Scalar k → (d : Directory) → StandsFor s.cut.bytes d
-      → value_line (Scalar k) said.count s.mode d (ByHandle said.handle) ≡ answer_text (shown_at d key)
-  shown-said k e d st =
+  -- what is written of a row of numbers is what is shown of it
+  row-said : (d : Directory) (st : StandsFor s.cut.bytes d) (k : ScalarKind) (zs : List ℤ) (n : ℕ) → n ≡ length zs → IsRow (h.says d st).0.value k zs
+      → value_line said.kind n s.mode d (ByHandle said.handle) ≡ answer_text (shown_at d key)
+  row-said d st k zs n long row =
       let f = h.says d st in
-      let o = f.0 in
-      let is = f.2 in
-      let n : AreNumbers o.value = numbers-of o (found-supported d key o st.supported f.1) in
-      let same : Scalar k ≡ kind_of o.value = sym e ∙ is.kind in
-      (λ j. value_line (same j) (is.count j) s.mode d (ByHandle said.handle))
-      ∙ ap (λ (v : Value). value_line (kind_of v) (count_of v) s.mode d (ByHandle said.handle)) n.is
-      ∙ shown-numbers s.mode d (ByHandle said.handle) o n.kind n.numbers (at-handle d st) n.is
-      ∙ ap (λ (v : Value). answer_text (Shown v)) (sym n.is)
+      (λ j. value_line (f.2.kind j) (long j) s.mode d (ByHandle said.handle))
+      ∙ shown-row s.mode d (ByHandle said.handle) f.0 k zs (at-handle d st) row
       ∙ ap (λ (r : Option Object). answer_text (shown_of r)) (sym f.1)
 
-  -- it has no other kind
-  pub no-other : ((k : ScalarKind) → said.kind ≡ Scalar k → ⊥) → (d : Directory) → StandsFor s.cut.bytes d → ⊥
-  no-other other d st =
+  -- scalars
+  pub scalars-said : (k : ScalarKind) (n : ℕ) → said.kind ≡ Scalar k → n ≡ said.count → (d : Directory) → StandsFor s.cut.bytes d
+      → value_line said.kind n s.mode d (ByHandle said.handle) ≡ answer_text (shown_at d key)
+  scalars-said k n e c d st =
       let f = h.says d st in
-      let n : AreNumbers f.0.value = numbers-of f.0 (found-supported d key f.0 st.supported f.1) in
-      other n.kind (f.2.kind ∙ ap kind_of n.is)
+      let v : IsNumbers k f.0.value = scalar-if k f.0.value (sym f.2.kind ∙ e) in
+      row-said d st k v.numbers n (c ∙ f.2.count ∙ ap count_of v.is) (subst (λ w. IsRow w k v.numbers) (sym v.is) (numbers-row k v.numbers))
+
+  -- a vector of them
+  pub vector-said : (k : ScalarKind) (n : ℕ) → said.kind ≡ Vector k → Answers s (λ d. length_in (sizes_at d key)) n → (d : Directory) → StandsFor s.cut.bytes d
+      → value_line said.kind n s.mode d (ByHandle said.handle) ≡ answer_text (shown_at d key)
+  vector-said k n e a d st =
+      let f = h.says d st in
+      let v : IsElements k f.0.value = vector-if k f.0.value (sym f.2.kind ∙ e) in
+      row-said d st k v.numbers n
+      (a.answers d st ∙ ap (λ (r : Option Object). length_in (sizes_of_object r)) f.1 ∙ ap (λ w. length_in (sizes_of w)) v.is)
+      (subst (λ w. IsRow w k v.numbers) (sym v.is) (vector-row k v.numbers v.table))
+
+  -- a string
+  pub string-said : said.kind ≡ Text → (d : Directory) → StandsFor s.cut.bytes d → string_line (bytes_at d key) ≡ answer_text (shown_at d key)
+  string-said e d st =
+      let f = h.says d st in
+      let v : IsText f.0.value = text-if f.0.value (sym f.2.kind ∙ e) in
+      ap (λ (r : Option Object). string_line (bytes_of_object r)) f.1 ∙ ap (λ w. string_line (text_bytes w)) v.is
+      ∙ ap (λ w. answer_text (Shown w)) (sym v.is) ∙ ap (λ (r : Option Object). answer_text (shown_of r)) (sym f.1)
+
+  -- it has no other kind
+  pub no-other : ((k : ScalarKind) → said.kind ≡ Scalar k → ⊥) → ((k : ScalarKind) → said.kind ≡ Vector k → ⊥) → (said.kind ≡ Text → ⊥) → (d : Directory) → StandsFor s.cut.bytes d → ⊥
+  no-other n m t d st =
+      let f = h.says d st in
+      other-if f.0.value (found-supported d key f.0 st.supported f.1) (λ k e. n k (f.2.kind ∙ e)) (λ k e. m k (f.2.kind ∙ e)) (λ e. t (f.2.kind ∙ e))
 
 -- there is none
 pub shown-missing : (s : State) (key : Key) (r : Refusal) → IsMissing s key r → (d : Directory) → StandsFor s.cut.bytes d → answer_text (Refused r) ≡ answer_text (shown_at d key)

@@ -13,3 +13,4 @@ pub mod Beginning
 pub mod Parts
 pub mod Shown
 pub mod Settings
+pub mod Changes

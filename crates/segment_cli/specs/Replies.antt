@@ -1,11 +1,11 @@
 -- What a command is answered by a call, and the step of the directory machine that this is.
-use Rattle.std.specs.Prelude.{◌≡◌, ◌≤◌, ℕ, true, false, Option, Some, None, List, length, ⊤, IsTrue}
+use Rattle.std.specs.Prelude.{◌≡◌, ◌≤◌, ℕ, ◌+◌, true, false, Option, Some, None, List, [], ◌∷◌, length, ⊤, IsTrue}
 use Rattle.best_fit.specs.Extents.{spans}
-use Rattle.seg_types.specs.declared.kinds.Kind.TheVariants.{Scalar}
+use Rattle.seg_types.specs.declared.kinds.Kind.TheVariants.{Scalar, Text, Vector}
 use Rattle.seg_types.specs.declared.refusals.Refusal.TheVariants.{NotFound}
 use Rattle.seg_types.specs.Names.{Key}
 use Rattle.seg_types.specs.Commands as asked
-use Rattle.seg_types.specs.Commands.{Command, Content, ZeroFree, is_changing}
+use Rattle.seg_types.specs.Commands.{Command, Content, Literal, ZeroFree, is_changing}
 use Rattle.seg_types.specs.Keys.{key_seen}
 use Rattle.seg_types.specs.Values.{kind_of_scalar, value_of_scalar}
 use Rattle.segment_lang.specs.Reading.{agrees}
@@ -51,15 +51,28 @@ answer_seen d (said.Refused r) = Refused r
 
 -- ---- what a line can ask for
 
--- from 1 to 1048576 numbers, under a key that is for their kind
+-- from 1 to 1048576 numbers, or as many elements or bytes as a line has, under a key that is for their kind; kinds that have not
+-- come are not asked for
 abbrev pub IsContent : Key → Content → Type 0
 IsContent key (asked.Numbers k zs) = (1 ≤ length zs) × (length zs ≤ 1048576) × IsTrue (agrees (Scalar k) key)
-IsContent key c = ⊤
+IsContent key (asked.Elements k zs) = (length zs ≤ 2048) × IsTrue (agrees (Vector k) key)
+IsContent key (asked.Bytes bs) = (length bs ≤ 4096) × IsTrue (agrees Text key)
+IsContent key (asked.NoPairs k v) = ⊥
+IsContent key (asked.Strings bss) = ⊥
+
+-- how many bytes of a line values take at the least, with one behind each
+abbrev pub bytes_taken : List Literal → ℕ
+bytes_taken [] = 0
+bytes_taken (asked.Whole z ∷ ls) = 2 + bytes_taken ls
+bytes_taken (asked.Truth b ∷ ls) = 2 + bytes_taken ls
+bytes_taken (asked.Quoted bs ∷ ls) = 1 + length bs + bytes_taken ls
 
 abbrev pub IsMeant : Command → Type 0
 IsMeant (asked.Construct key c) = IsContent key c
 IsMeant (asked.ConstructIt key k n zs) = (1 ≤ n) × (n ≤ 1048576) × (length zs ≡ n) × IsTrue (agrees (Scalar k) key)
 IsMeant (asked.FindOrConstruct key c) = IsContent key c
+IsMeant (asked.Assign key ls) = bytes_taken ls ≤ 4097
+IsMeant (asked.Append key bs) = length bs ≤ 4096
 IsMeant c = ⊤
 
 -- The call is one step of the directory machine, and the reply stands for its answer in the directory behind it. Nothing changes

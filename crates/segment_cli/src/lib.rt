@@ -1,12 +1,15 @@
 //! Scripts and sessions: an image and a script in, answers and an image out.
 #![tactic(auto)]
 
+mod changing;
+mod constructing;
 mod faults;
 mod listing;
 mod machine;
 mod open_line;
 mod printing;
 mod replies;
+mod rows;
 mod saving;
 mod scripts;
 mod segments;

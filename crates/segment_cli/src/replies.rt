@@ -1,16 +1,18 @@
-//! What a command is answered: each is executed by one call of the segment.
+//! What a command is answered: each is executed by one call of the segment, for some by the kind of the object.
 ghost use Rattle.std.specs.Prelude.{◌≡◌, OnErr};
-ghost use Rattle.seg_types.specs.Commands.{Construct, ConstructIt, Destroy, DestroyPtr, FindOrConstruct, ReserveNamed, ReserveUnique, ShrinkIndexes};
-ghost use Rattle.seg_types.specs.Keys.{index_key_seen, new_key_seen};
-ghost use Rattle.segment_lang.specs.Seen.{command_of, content_of};
+ghost use Rattle.seg_types.specs.Commands.{Destroy, DestroyPtr, ReserveNamed, ReserveUnique, ShrinkIndexes};
+ghost use Rattle.seg_types.specs.Keys.{index_key_seen};
+ghost use Rattle.segment_lang.specs.Seen.{command_of};
 ghost use Rattle.segment_manager.specs.Directory.{Directory};
 ghost use Rattle.segment_manager.specs.Found.{found_answer, pair_answer};
 ghost use Rattle.segment_manager.specs.State.{IsStep, KeepsRefused, done_answer, gone_answer, handle_answer, scalar_answer, truth_answer};
-ghost use Rattle.segment_cli.specs.Replies.{IsContent, IsMeant, Replies, answer_seen};
+ghost use Rattle.segment_cli.specs.Replies.{IsMeant, Replies, answer_seen};
 
+use crate::changing::{append, assign, clear, erase, insert, pop, push, reserve, shrink};
+use crate::constructing::{construct, construct_it, find_or_construct};
 use crate::setting::set;
-use seg_types::{Handle, IndexKey, Key, NewKey, Refusal, ScalarValue};
-use segment_lang::{Command, Content, Values};
+use seg_types::{Handle, IndexKey, Key, Refusal, ScalarValue};
+use segment_lang::Command;
 use segment_manager::Segment;
 
 /// What a command is answered: all of it where it is short, and where it is long, of what the segment is to be asked.
@@ -44,7 +46,7 @@ pub enum Answer {
     Refused(Refusal),
 }
 
-/// Executes a command by one call of the segment, and answers it.
+/// Executes a command, and answers it.
 pub fn reply(segment: &mut Segment, command: Command<'_>) -> Answer
     requires { IsMeant (command_of command) }
     ensures { Replies segment.old segment.new (command_of command.entry) result }
@@ -64,6 +66,15 @@ pub fn reply(segment: &mut Segment, command: Command<'_>) -> Answer
         Command::Info(key) => Answer::Told(key),
         Command::Get { key, index } => element(segment.get_any(&key, index)),
         Command::Set { key, index, value } => done(set(segment, &key, index, value)),
+        Command::Push { key, value } => done(push(segment, &key, value)),
+        Command::Pop(key) => element(pop(segment, &key)),
+        Command::Insert { key, index, value } => done(insert(segment, &key, index, value)),
+        Command::Erase { key, index } => done(erase(segment, &key, index)),
+        Command::Reserve { key, count } => done(reserve(segment, &key, count)),
+        Command::Shrink(key) => done(shrink(segment, &key)),
+        Command::Clear(key) => done(clear(segment, &key)),
+        Command::Assign { key, values } => done(assign(segment, &key, values)),
+        Command::Append { key, text } => done(append(segment, &key, &text)),
         Command::ListNames => Answer::Names,
         Command::ListKinds => Answer::Kinds,
         Command::Blocks => Answer::Blocks,
@@ -77,61 +88,6 @@ pub fn reply(segment: &mut Segment, command: Command<'_>) -> Answer
         Command::ZeroFree => done(segment.zero_free()),
         Command::Sanity => Answer::Truth(segment.sanity()),
         Command::AllDeallocated => Answer::Truth(segment.all_deallocated()),
-    }
-}
-
-/// Makes an object, and answers its handle.
-///
-/// # Errors
-///
-/// As the segment's call. The objects are as before.
-#[tactic(auto, using(crate::proofs::NewKinds::content_kind, crate::proofs::NewKinds::content_some, crate::proofs::NewKinds::content_few))]
-fn construct(segment: &mut Segment, key: &NewKey, content: Content) -> Result<Handle, Refusal>
-    requires { IsContent (new_key_seen key.now) (content_of content) }
-    ensures step { IsStep segment.old segment.new (Construct (new_key_seen key.now) (content_of content)) (handle_answer result) }
-    ensures refused { KeepsRefused segment.old segment.new result }
-{
-    match content {
-        Content::Scalars { value, count } => segment.construct_value(key, count, value),
-    }
-}
-
-/// Makes an array of the values, and answers its handle.
-///
-/// # Errors
-///
-/// As the segment's call. The objects are as before.
-fn construct_it(
-    segment: &mut Segment,
-    key: &NewKey,
-    count: u32,
-    mut values: Values<'_>,
-) -> Result<Handle, Refusal>
-    requires { IsMeant (ConstructIt (new_key_seen key.now) values.kind count values.numbers) }
-    ensures step { IsStep segment.old segment.new (ConstructIt (new_key_seen key.now) values.entry.kind count values.entry.numbers) (handle_answer result) }
-    ensures refused { KeepsRefused segment.old segment.new result }
-{
-    let kind = values.kind();
-    segment.construct_values(key, kind, count, &mut values)
-}
-
-/// Finds an object, or makes it where there is none, and answers its handle and how many elements it has.
-///
-/// # Errors
-///
-/// As the segment's call. The objects are as before.
-#[tactic(auto, using(crate::proofs::NewKinds::index_kind, crate::proofs::NewKinds::index_some, crate::proofs::NewKinds::index_few))]
-fn find_or_construct(
-    segment: &mut Segment,
-    key: &IndexKey,
-    content: Content,
-) -> Result<(Handle, u32), Refusal>
-    requires { IsContent (index_key_seen key.now) (content_of content) }
-    ensures step { IsStep segment.old segment.new (FindOrConstruct (index_key_seen key.now) (content_of content)) (pair_answer result) }
-    ensures refused { KeepsRefused segment.old segment.new result }
-{
-    match content {
-        Content::Scalars { value, count } => segment.find_or_construct_value(key, count, value),
     }
 }
 

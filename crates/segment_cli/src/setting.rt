@@ -33,7 +33,7 @@ pub fn set(
         Err(why) => Err(why),
         Ok(kind) => match value_of(kind, literal) {
             Err(why) => Err(why),
-            Ok(value) => segment.set_value(key, index, value),
+            Ok(value) => segment.set_any(key, index, value),
         },
     }
 }
@@ -43,7 +43,7 @@ pub fn set(
 /// # Errors
 ///
 /// `WrongKind` where the literal has another form, `OutOfRange` where it is a number outside the range of the kind.
-fn value_of(kind: ScalarKind, literal: Literal<'_>) -> Result<ScalarValue, Refusal>
+pub fn value_of(kind: ScalarKind, literal: Literal<'_>) -> Result<ScalarValue, Refusal>
     ensures { IsValueOf kind (value_of_literal kind (literal_of literal.entry)) result }
 {
     match literal {

@@ -1,25 +1,25 @@
 //! An object that is shown: its kind and its value.
-ghost use Rattle.std.specs.Prelude.{◌-◌, ◌^◌, ◌<◌, ◌++◌, ◌∷◌, [], Ok};
+ghost use Rattle.std.specs.Prelude.{◌-◌, ◌^◌, ◌<◌, ◌++◌, ◌∷◌, []};
 ghost use Rattle.raw_region.specs.Device.{Writes};
-ghost use Rattle.seg_types.specs.declared.kinds.Kind.TheVariants.{Scalar};
 ghost use Rattle.seg_types.specs.Commands.{Get};
 ghost use Rattle.seg_types.specs.Keys.{key_seen};
 ghost use Rattle.seg_types.specs.Names.{ByHandle};
-ghost use Rattle.segment_manager.specs.Calls.{elements_at};
+ghost use Rattle.segment_manager.specs.Contents.{bytes_at, sizes_at};
+ghost use Rattle.segment_manager.specs.Calls.{HasScalars};
 ghost use Rattle.segment_manager.specs.State.{Answers, StandsFor};
 ghost use Rattle.segment_manager.specs.Step.{step};
 ghost use Rattle.segment_cli.specs.Answer.{answer_text};
 ghost use Rattle.segment_cli.specs.Parts.{element_part, parts_until};
 ghost use Rattle.segment_cli.specs.Replies.{shown_at};
-ghost use Rattle.segment_cli.specs.Shown.{elements_text, front_text, value_line};
+ghost use Rattle.segment_cli.specs.Shown.{counted_text, elements_text, front_text, length_in, string_line, value_line};
 ghost use Rattle.segment_cli.specs.Writing.{WritesFor};
 
 use raw_region::{DeviceFault, Sink};
-use seg_types::{Handle, Key, Kind, ScalarKind};
+use seg_types::{Handle, Key, Kind};
 use segment_lang::{Piece, put_pieces};
 use segment_manager::Segment;
 
-/// Writes the kind and the value of the object of a key, or that there is none. The object is looked for once.
+/// Writes the kind and the value of the object of a key, or that there is none.
 pub fn put_shown<W: Sink>(segment: &Segment, key: &Key, out: &mut W) -> Result<(), DeviceFault>
     requires { (W.history out.old).failures < 2 ^ 64 - 1 }
     ensures { WritesFor (W.history out.old) (W.history out.new) result (StandsFor segment.now.cut.bytes)
@@ -27,7 +27,19 @@ pub fn put_shown<W: Sink>(segment: &Segment, key: &Key, out: &mut W) -> Result<(
 {
     match segment.instance(key) {
         Ok(said) => match said.kind {
-            Kind::Scalar(kind) => put_value_line(segment, said.handle, kind, said.count, out),
+            Kind::Scalar(_) => {
+                put_value_line(segment, said.handle, said.kind, u64::from(said.count), out)
+            }
+            Kind::Vector(_) => {
+                put_value_line(
+                    segment,
+                    said.handle,
+                    said.kind,
+                    length_of(segment, key),
+                    out,
+                )
+            }
+            Kind::Text => put_string_line(segment, key, out),
             // no objects of other kinds have come yet
             _ => Ok(()),
         },
@@ -35,28 +47,70 @@ pub fn put_shown<W: Sink>(segment: &Segment, key: &Key, out: &mut W) -> Result<(
     }
 }
 
-/// Writes a kind, how many elements there are where there is not one alone, and as many elements of the object at a handle.
+/// How many elements the vector of a key has, and 0 where it is none.
+fn length_of(segment: &Segment, key: &Key) -> u64
+    ensures { Answers segment.now (λ d. length_in (sizes_at d (key_seen key.now))) result }
+{
+    match segment.measure(key) {
+        Ok((len, _)) => len,
+        Err(_) => 0,
+    }
+}
+
+/// Writes the kind and the bytes of the string of a key, and nothing where it is none.
+fn put_string_line<W: Sink>(segment: &Segment, key: &Key, out: &mut W) -> Result<(), DeviceFault>
+    requires { (W.history out.old).failures < 2 ^ 64 - 1 }
+    ensures { WritesFor (W.history out.old) (W.history out.new) result (StandsFor segment.now.cut.bytes)
+        (λ d. string_line (bytes_at d (key_seen key.now))) }
+{
+    match segment.string_bytes(key) {
+        Ok(bytes) => put_pieces(
+            out,
+            &[
+                Piece::Kind(Kind::Text),
+                Piece::Bytes(b" "),
+                Piece::Text(bytes),
+                Piece::Bytes(b"\n"),
+            ],
+        ),
+        Err(_) => Ok(()),
+    }
+}
+
+/// Writes a kind, how many elements there are where they are scalars and not one alone, and as many elements of the object at a
+/// handle.
 fn put_value_line<W: Sink>(
     segment: &Segment,
     handle: Handle,
-    kind: ScalarKind,
-    count: u32,
+    kind: Kind,
+    count: u64,
     out: &mut W,
 ) -> Result<(), DeviceFault>
     requires writer { (W.history out.old).failures < 2 ^ 64 - 1 }
-    requires object { Answers segment.now (λ d. elements_at d (ByHandle handle)) (Ok kind) }
+    requires object { HasScalars segment.now (ByHandle handle) }
     ensures { WritesFor (W.history out.old) (W.history out.new) result (StandsFor segment.now.cut.bytes)
-        (λ d. value_line (Scalar kind) count segment.now.mode d (ByHandle handle)) }
+        (λ d. value_line kind count segment.now.mode d (ByHandle handle)) }
 {
-    put_front(Kind::Scalar(kind), count, out)?;
-    put_elements(segment, handle, kind, count, out)?;
+    put_front(kind, count, out)?;
+    put_elements(segment, handle, count, out)?;
     put_pieces(out, &[Piece::Bytes(b"\n")])
 }
 
-/// Writes a kind, and how many elements there are where there is not one alone.
-fn put_front<W: Sink>(kind: Kind, count: u32, out: &mut W) -> Result<(), DeviceFault>
+/// Writes a kind, and how many elements there are where they are scalars and not one alone.
+fn put_front<W: Sink>(kind: Kind, count: u64, out: &mut W) -> Result<(), DeviceFault>
     requires { (W.history out.old).failures < 2 ^ 64 - 1 }
     ensures { Writes (W.history out.old) (W.history out.new) result (front_text kind count) }
+{
+    match kind {
+        Kind::Scalar(_) => put_counted(kind, count, out),
+        _ => put_pieces(out, &[Piece::Kind(kind)]),
+    }
+}
+
+/// Writes a kind, and how many there are where there is not one alone.
+fn put_counted<W: Sink>(kind: Kind, count: u64, out: &mut W) -> Result<(), DeviceFault>
+    requires { (W.history out.old).failures < 2 ^ 64 - 1 }
+    ensures { Writes (W.history out.old) (W.history out.new) result (counted_text kind count) }
 {
     if count == 1 {
         return put_pieces(out, &[Piece::Kind(kind)]);
@@ -66,7 +120,7 @@ fn put_front<W: Sink>(kind: Kind, count: u32, out: &mut W) -> Result<(), DeviceF
         &[
             Piece::Kind(kind),
             Piece::Bytes(b"["),
-            Piece::Number(u64::from(count)),
+            Piece::Number(count),
             Piece::Bytes(b"]"),
         ],
     )
@@ -76,17 +130,16 @@ fn put_front<W: Sink>(kind: Kind, count: u32, out: &mut W) -> Result<(), DeviceF
 fn put_elements<W: Sink>(
     segment: &Segment,
     handle: Handle,
-    kind: ScalarKind,
-    count: u32,
+    count: u64,
     out: &mut W,
 ) -> Result<(), DeviceFault>
     requires writer { (W.history out.old).failures < 2 ^ 64 - 1 }
-    requires object { Answers segment.now (λ d. elements_at d (ByHandle handle)) (Ok kind) }
+    requires object { HasScalars segment.now (ByHandle handle) }
     ensures { WritesFor (W.history out.old) (W.history out.new) result (StandsFor segment.now.cut.bytes)
         (λ d. elements_text segment.now.mode d (ByHandle handle) count) }
 {
-    'elements: for index in 0..u64::from(count) {
-        put_element(segment, handle, kind, index, out)?;
+    'elements: for index in 0..count {
+        put_element(segment, handle, index, out)?;
     }
     Ok(())
 }
@@ -95,16 +148,15 @@ fn put_elements<W: Sink>(
 fn put_element<W: Sink>(
     segment: &Segment,
     handle: Handle,
-    kind: ScalarKind,
     index: u64,
     out: &mut W,
 ) -> Result<(), DeviceFault>
     requires writer { (W.history out.old).failures < 2 ^ 64 - 1 }
-    requires object { Answers segment.now (λ d. elements_at d (ByHandle handle)) (Ok kind) }
+    requires object { HasScalars segment.now (ByHandle handle) }
     ensures { WritesFor (W.history out.old) (W.history out.new) result (StandsFor segment.now.cut.bytes)
         (λ d. element_part (step segment.now.mode d (Get (ByHandle handle) index)).0) }
 {
-    match segment.get_at(handle, kind, index) {
+    match segment.get_at(handle, index) {
         Ok(value) => put_pieces(out, &[Piece::Bytes(b" "), Piece::Value(value)]),
         Err(_) => Ok(()),
     }

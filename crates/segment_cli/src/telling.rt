@@ -9,6 +9,7 @@ ghost use Rattle.segment_manager.specs.State.{StandsFor};
 ghost use Rattle.segment_cli.specs.Answer.{answer_text, class_words, entry_words, line};
 ghost use Rattle.segment_cli.specs.Parts.{line_part, said_words};
 ghost use Rattle.segment_cli.specs.Replies.{told_at};
+ghost use Rattle.segment_cli.specs.Shown.{measured_words};
 ghost use Rattle.segment_cli.specs.Writing.{WritesFor};
 
 use raw_region::{DeviceFault, Sink};
@@ -23,16 +24,28 @@ pub fn put_told<W: Sink>(segment: &Segment, key: &Key, out: &mut W) -> Result<()
         (λ d. answer_text (told_at d (key_seen key.now))) }
 {
     match segment.instance(key) {
-        Ok(said) => put_instance(said, out),
+        Ok(said) => put_instance(said, segment.measure(key).ok(), out),
         Err(refusal) => put_pieces(out, &[Piece::Refusal(refusal), Piece::Bytes(b"\n")]),
     }
 }
 
-/// Writes a class, a name or `-`, a kind, a count and a handle.
-fn put_instance<W: Sink>(said: Instance<'_>, out: &mut W) -> Result<(), DeviceFault>
+/// Writes a class, a name or `-`, a kind, a count and a handle, and the length and capacity that were measured.
+fn put_instance<W: Sink>(
+    said: Instance<'_>,
+    measured: Option<(u64, u64)>,
+    out: &mut W,
+) -> Result<(), DeviceFault>
     requires { (W.history out.old).failures < 2 ^ 64 - 1 }
-    ensures { Writes (W.history out.old) (W.history out.new) result (line (class_words said.entry.class said.entry.name.now ++ said_words said.entry)) }
+    ensures { Writes (W.history out.old) (W.history out.new) result (line (class_words said.entry.class said.entry.name.now ++ said_words said.entry ++ measured_words measured)) }
 {
+    let (blank, len, capacity) = match measured {
+        Some((len, capacity)) => (
+            Piece::Bytes(b" "),
+            Piece::Number(len),
+            Piece::Number(capacity),
+        ),
+        None => (Piece::Bytes(b""), Piece::Bytes(b""), Piece::Bytes(b"")),
+    };
     let (class, name): (&[u8], Piece<'_>) = match said.class {
         Class::Named => (b"named ", Piece::Name(said.name)),
         Class::Unique => (b"unique ", Piece::Bytes(b"-")),
@@ -49,6 +62,10 @@ fn put_instance<W: Sink>(said: Instance<'_>, out: &mut W) -> Result<(), DeviceFa
             Piece::Number(u64::from(said.count)),
             Piece::Bytes(b" #"),
             Piece::Number(said.handle),
+            blank,
+            len,
+            blank,
+            capacity,
             Piece::Bytes(b"\n"),
         ],
     )

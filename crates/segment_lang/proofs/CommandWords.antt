@@ -9,14 +9,14 @@ use Rattle.seg_types.specs.Names.{Key}
 use Rattle.seg_types.specs.Kinds.{is_value}
 use Rattle.seg_types.specs.Values.{kind_of_scalar, scalar_of, value_of_scalar}
 use Rattle.seg_types.proofs.Laws.{scalar_of-kind, scalar_of-value}
-use Rattle.seg_types.specs.Commands.{Command, ConstructIt, Content, Literal, Numbers, UnknownCommand, DestroyPtr}
+use Rattle.seg_types.specs.Commands.{Assign, Bytes, Command, ConstructIt, Content, Elements, Literal, Numbers, Strings, UnknownCommand, DestroyPtr}
 use Rattle.segment_lang.specs.Words as said
 use Rattle.segment_lang.specs.Words.{Word, Bare, literal_of_word, number_of, words}
 use Rattle.segment_lang.specs.Language.{Language, supported}
-use Rattle.segment_lang.specs.Reading.{Form, Reader, all, alone, as_reading, command_line, content, counted_kind, destroying_ptr, each, finding, for_kind, form_of, items, making, making_each, new_key, value_for, with_key, with_key_number, with_key_number_literal, with_number}
-use Rattle.segment_lang.specs.Tokens.{at_end, behind_word, next_two, only_word, up_to_blank}
-use Rattle.segment_lang.specs.Arguments.{Written, counted_values, handle_of, making_at, making_each_at, numbers_at, of_one, of_two, of_three, scalar_at, scalar_in, written}
-use Rattle.segment_lang.proofs.WordList.{take_end, take_only}
+use Rattle.segment_lang.specs.Reading.{Form, Reader, all, alone, appending, as_reading, assigning, command_line, content, counted_kind, destroying_ptr, each, finding, for_kind, form_of, items, key_of, making, making_each, new_key, quoted_of, value_for, with_key, with_key_literal, with_key_number, with_key_number_literal, with_number}
+use Rattle.segment_lang.specs.Tokens.{at_end, behind_word, next_two, next_word, only_word, up_to_blank}
+use Rattle.segment_lang.specs.Arguments.{Written, assigning_at, counted_values, handle_of, literals_at, making_at, making_each_at, numbers_at, of_one, of_two, of_three, scalar_at, scalar_in, texts_at, written}
+use Rattle.segment_lang.proofs.WordList.{take_end, take_only, take_word}
 use Rattle.segment_lang.proofs.ArrayValues.{word-value}
 use Rattle.segment_lang.proofs.WordReaders.{take_two, take_three, take_next_two}
 
@@ -33,6 +33,34 @@ of_number f bytes = take_only (with_number f supported) refl (λ w v ws. refl) b
 
 pub of_key_number : (f : Key → ℕ → Command) (bytes : List ℕ) → option_and_then (with_key_number f supported) (words bytes) ≡ of_two (with_key_number f) bytes
 of_key_number f bytes = take_two (with_key_number f supported) refl (λ w. refl) (λ w v u ws. refl) bytes
+
+pub of_key_literal : (f : Key → Literal → Command) (bytes : List ℕ) → option_and_then (with_key_literal f supported) (words bytes) ≡ of_two (with_key_literal f) bytes
+of_key_literal f bytes = take_two (with_key_literal f supported) refl (λ w. refl) (λ w v u ws. refl) bytes
+
+no_appending : (w v u : Word) (ws : List Word) → appending supported (w ∷ v ∷ u ∷ ws) ≡ None
+no_appending w (said.Text bs) u ws = refl
+no_appending w (Bare bs) u ws = refl
+
+pub of_appending : (bytes : List ℕ) → option_and_then (appending supported) (words bytes) ≡ of_two appending bytes
+of_appending bytes = take_two (appending supported) refl (λ w. refl) no_appending bytes
+
+assign_given : (key : Option Key) (ws : Option (List Word)) → option_and_then (λ ws. option_and_then (λ key. option_map (Assign key) (all literal_of_word ws)) key) ws ≡ option_and_then (λ key. option_and_then (λ ls. Some (Assign key ls)) (option_and_then (all literal_of_word) ws)) key
+assign_given None None = refl
+assign_given (Some key) None = refl
+assign_given None (Some ws) = refl
+assign_given (Some key) (Some ws) = go (all literal_of_word ws)
+  where
+    go : (ls : Option (List Literal)) → option_map (Assign key) ls ≡ option_and_then (λ ls. Some (Assign key ls)) ls
+    go None = refl
+    go (Some ls) = refl
+
+pub of_assigning : (bytes : List ℕ) → option_and_then (assigning supported) (words bytes) ≡ assigning_at bytes
+unfolding assigning_at literals_at
+of_assigning bytes = take_word (assigning supported) refl bytes ∙ go (next_word bytes)
+  where
+    go : (x : Option (Word × List ℕ)) → option_and_then (λ x. option_and_then (λ ws. assigning supported (x.0 ∷ ws)) (words x.1)) x ≡ option_and_then (λ x. option_and_then (λ key. option_and_then (λ ls. Some (Assign key ls)) (option_and_then (all literal_of_word) (words x.1))) (key_of supported x.0)) x
+    go None = refl
+    go (Some (w, r)) = assign_given (key_of supported w) (words r)
 
 pub of_finding : (bytes : List ℕ) → option_and_then (finding supported) (words bytes) ≡ of_two finding bytes
 of_finding bytes = take_two (finding supported) refl (λ w. refl) (λ w v u ws. refl) bytes
@@ -68,6 +96,39 @@ of_handle bytes = take_only (destroying_ptr supported) refl no_ptr bytes ∙ ptr
 pub scalar_content : (k : ScalarKind) (n : ℕ) (bytes : List ℕ) → option_and_then (content (Scalar k) n) (words bytes) ≡ scalar_at k n bytes
 unfolding scalar_at
 scalar_content k n bytes = take_only (content (Scalar k) n) refl (λ w v ws. refl) bytes
+
+pub elements_content : (k : ScalarKind) (n : ℕ) (bytes : List ℕ) → option_and_then (content (Vector k) n) (words bytes) ≡ option_map (Elements k) (numbers_at k bytes)
+unfolding numbers_at
+elements_content k n bytes = go (words bytes)
+  where
+    go : (ws : Option (List Word)) → option_and_then (content (Vector k) n) ws ≡ option_map (Elements k) (option_and_then (all (value_for k)) ws)
+    go None = refl
+    go (Some ws) = refl
+
+no_text : (n : ℕ) (w v : Word) (ws : List Word) → content Text n (w ∷ v ∷ ws) ≡ None
+no_text n (said.Text bs) v ws = refl
+no_text n (Bare bs) v ws = refl
+
+one_text : (n : ℕ) (x : Option Word) → option_and_then (λ w. content Text n (w ∷ [])) x ≡ option_map Bytes (option_and_then quoted_of x)
+one_text n None = refl
+one_text n (Some (said.Text bs)) = refl
+one_text n (Some (Bare bs)) = refl
+
+pub text_content : (n : ℕ) (bytes : List ℕ) → option_and_then (content Text n) (words bytes) ≡ option_map Bytes (option_and_then quoted_of (only_word bytes))
+text_content n bytes = take_only (content Text n) refl (no_text n) bytes ∙ one_text n (only_word bytes)
+
+pub texts_content : (n : ℕ) (bytes : List ℕ) → option_and_then (content Texts n) (words bytes) ≡ option_map Strings (texts_at bytes)
+unfolding texts_at
+texts_content n bytes = go (words bytes)
+  where
+    go : (ws : Option (List Word)) → option_and_then (content Texts n) ws ≡ option_map Strings (option_and_then (all quoted_of) ws)
+    go None = refl
+    go (Some ws) = refl
+
+-- the values that are read are the elements
+pub elements_read : (k : ScalarKind) (o : Option (List ℤ)) (w : Written) → Some w ≡ option_map (written k) o → Some (Elements w.kind w.numbers) ≡ option_map (Elements k) o
+elements_read k None w h = cc
+elements_read k (Some zs) w h = let e : w ≡ written k zs = cc in ap (λ (w : Written). Some (Elements w.kind w.numbers)) e
 
 one_scalar : (k : ScalarKind) (n : ℕ) (o : Option ℤ) (v : ScalarValue) → Some v ≡ option_map (scalar_of k) o → ((z : ℤ) → o ≡ Some z → is_value k z ≡ true) → Some (Numbers (kind_of_scalar v) (replicate n (value_of_scalar v))) ≡ option_map (λ z. Numbers k (replicate n z)) o
 one_scalar k n None v h f = cc

@@ -4,9 +4,13 @@ mod LongLines
 mod WordList
 mod TextSpelling
 mod FormTables
+mod KindTables
 mod WordReaders
+mod WordRoom
 mod ArrayValues
+mod EachWord
 mod QuotedNames
 mod PrintedKeys
 mod CommandWords
 mod Rows
+pub mod Laws

@@ -1,11 +1,11 @@
 -- Readings by example.
-use Rattle.std.proofs.Common.{◌≡◌, refl, pos, negsuc, [], ◌∷◌, ◌++◌, Some, replicate}
+use Rattle.std.proofs.Common.{◌≡◌, refl, pos, negsuc, [], ◌∷◌, ◌++◌, Some, replicate, true}
 use lib.Chars.{codes}
 use Rattle.raw_region.specs.Format.{current}
-use Rattle.seg_types.specs.declared.kinds.Kind.TheVariants.{Scalar}
+use Rattle.seg_types.specs.declared.kinds.Kind.TheVariants.{Scalar, Vector}
 use Rattle.seg_types.specs.declared.kinds.ScalarKind.TheVariants.{Bool as BoolKind, U8, I32, I64, U64}
 use Rattle.seg_types.specs.Names.{ByHandle, ByKind, ByName, NoKey}
-use Rattle.seg_types.specs.Commands.{Nothing, Asked, UnknownCommand, LineTooLong, BadSyntax, Construct, ConstructIt, Find, FindOrConstruct, Get, Numbers, ReserveNamed, Set, Show, Whole}
+use Rattle.seg_types.specs.Commands.{Nothing, Asked, UnknownCommand, LineTooLong, BadSyntax, Construct, ConstructIt, Find, FindOrConstruct, Append, Assign, Bytes, Elements, Get, Insert, Numbers, Push, Quoted, ReserveNamed, Set, Show, Truth, Whole}
 use Rattle.segment_lang.specs.Words.{Bare, Text}
 use Rattle.segment_lang.specs.Language.{supported}
 use Rattle.segment_lang.specs.Reading.{reading}
@@ -47,6 +47,50 @@ set = refl
 room : reading supported (codes "reserve_named 10") ≡ Asked (ReserveNamed 10)
 unfolding reading
 room = refl
+
+vector : reading supported (codes "construct vec<i32> @vec<i32> 1 -2") ≡ Asked (Construct (ByKind (Vector I32)) (Elements I32 (pos 1 ∷ negsuc 1 ∷ [])))
+unfolding reading current
+vector = refl
+
+empty_vector : reading supported (codes "construct vec<u64> -") ≡ Asked (Construct NoKey (Elements U64 []))
+unfolding reading current
+empty_vector = refl
+
+string : reading supported (codes "construct string s \"a\\x00\"") ≡ Asked (Construct (ByName (codes "s")) (Bytes (97 ∷ 0 ∷ [])))
+unfolding reading current
+string = refl
+
+strings : reading supported (codes "construct vec<string> v \"a\" \"\"") ≡ BadSyntax
+unfolding reading current
+strings = refl
+
+pushed : reading supported (codes "push #192 300") ≡ Asked (Push (ByHandle 192) (Whole (pos 300)))
+unfolding reading current
+pushed = refl
+
+inserted : reading supported (codes "insert w 3 \"\"") ≡ Asked (Insert (ByName (codes "w")) 3 (Quoted []))
+unfolding reading current
+inserted = refl
+
+assigned : reading supported (codes "assign w 1 true \"b\"") ≡ Asked (Assign (ByName (codes "w")) (Whole (pos 1) ∷ Truth true ∷ Quoted (98 ∷ []) ∷ []))
+unfolding reading current
+assigned = refl
+
+appended : reading supported (codes "append s \"b\"") ≡ Asked (Append (ByName (codes "s")) (98 ∷ []))
+unfolding reading current
+appended = refl
+
+no_text : reading supported (codes "append s b") ≡ BadSyntax
+unfolding reading current
+no_text = refl
+
+counted_string : reading supported (codes "construct string[2] s \"a\"") ≡ BadSyntax
+unfolding reading current
+counted_string = refl
+
+not_yet : reading supported (codes "put m 1 2") ≡ UnknownCommand
+unfolding reading current
+not_yet = refl
 
 other_kind : reading supported (codes "find u8 @u64") ≡ BadSyntax
 unfolding reading

@@ -1,21 +1,21 @@
 -- What stands behind a command word, read one word after another.
 use Rattle.std.specs.Prelude.{ℕ, ℤ, Bool, true, false, Option, Some, None, List, [], ◌∷◌, length, map, ◌==◌, option_and_then, unwrap_or, if◌then◌else◌}
 use Rattle.seg_types.specs.declared.kinds.Kind.{Kind}
-use Rattle.seg_types.specs.declared.kinds.Kind.TheVariants.{Scalar}
+use Rattle.seg_types.specs.declared.kinds.Kind.TheVariants.{Scalar, Map}
 use Rattle.seg_types.specs.declared.kinds.ScalarKind.{ScalarKind}
 use Rattle.seg_types.specs.declared.values.ScalarValue.{ScalarValue}
 use Rattle.seg_types.specs.Names.{Key}
 use Rattle.seg_types.specs.Values.{scalar_of}
-use Rattle.seg_types.specs.Commands.{Command, Content}
-use Rattle.segment_lang.specs.Words.{Word, Bare, number_of, words}
+use Rattle.seg_types.specs.Commands.{Assign, Command, Content, Literal}
+use Rattle.segment_lang.specs.Words.{Word, Bare, literal_of_word, number_of, words}
 use Rattle.segment_lang.specs.Language.{Language, supported}
-use Rattle.segment_lang.specs.Reading.{Reader, all, content, counted_kind, for_kind, new_key, items, value_for}
-use Rattle.segment_lang.specs.Tokens.{◌>>=◌, next_two, only_word, two_words, three_words}
+use Rattle.segment_lang.specs.Reading.{Reader, all, content, counted_kind, for_kind, key_of, new_key, items, quoted_of, value_for}
+use Rattle.segment_lang.specs.Tokens.{◌>>=◌, next_two, next_word, only_word, two_words, three_words}
 
--- one scalar or an array of them
-abbrev pub is_scalar : Kind → Bool
-is_scalar (Scalar k) = true
-is_scalar k = false
+-- the kinds whose values are read: those that have come, and vectors of texts
+abbrev pub is_readable : Kind → Bool
+is_readable (Map k v) = false
+is_readable k = true
 
 -- the kind of the elements, where they are scalars
 abbrev pub scalar_in : Kind → Option ScalarKind
@@ -84,3 +84,31 @@ making_each_at bytes = do
   kind ← scalar_in k.0
   numbers ← numbers_at kind x.2
   items k.1 kind key numbers
+
+-- the values, of any form, that all words are
+unfoldable pub literals_at : List ℕ → Option (List Literal)
+literals_at bytes = option_and_then (all literal_of_word) (words bytes)
+
+-- the values that the words are, which is none where a word is no value
+abbrev pub literals_in : List ℕ → List Literal
+literals_in bytes = unwrap_or (literals_at bytes) []
+
+-- a key, and any number of values
+unfoldable pub assigning_at : List ℕ → Option Command
+assigning_at bytes = do
+  x ← next_word bytes
+  key ← key_of supported x.0
+  values ← literals_at x.1
+  Some (Assign key values)
+
+-- the texts that all words are
+unfoldable pub texts_at : List ℕ → Option (List (List ℕ))
+texts_at bytes = option_and_then (all quoted_of) (words bytes)
+
+-- the texts that the words are, which is none where a word is no text
+abbrev pub texts_in : List ℕ → List (List ℕ)
+texts_in bytes = unwrap_or (texts_at bytes) []
+
+-- the texts as they are
+abbrev pub texts_held : List (List ℕ) → List (List ℕ)
+texts_held ts = ts

@@ -1,11 +1,11 @@
 -- What the definitions of words and numbers mean, by the spelling of what is read.
-use Rattle.std.specs.Prelude.{◌≡◌, ◌<◌, ◌^◌, ◌↔◌, ◌⊎◌, ℕ, ℤ, pos, negsuc, ◌≤ℤ◌, true, Some, List, [], ◌∷◌, ◌++◌, decimal, take, option_map, option_and_then, if◌then◌else◌}
+use Rattle.std.specs.Prelude.{◌≡◌, ◌<◌, ◌≤◌, ◌+◌, length, ◌^◌, ◌↔◌, ◌⊎◌, ℕ, ℤ, pos, negsuc, ◌≤ℤ◌, true, Some, List, [], ◌∷◌, ◌++◌, decimal, take, option_map, option_and_then, if◌then◌else◌}
 use Rattle.std.specs.List.{AllByRecursion, Contains}
 use Rattle.std.specs.Fmt.{signed_decimal}
 use Rattle.seg_types.specs.declared.kinds.Kind.{Kind}
 use Rattle.seg_types.specs.Names.{ByName, is_name}
 use Rattle.segment_lang.specs.Words.{words as words_of}
-use Rattle.segment_lang.specs.Words.{Text, Word, words, number_of, whole_of, is_plain, byte_of_digits}
+use Rattle.segment_lang.specs.Words.{Bare, Text, Word, words, number_of, whole_of, is_plain, byte_of_digits}
 use Rattle.segment_lang.specs.Texts.{kind_text, name_text, quoted_text}
 use Rattle.segment_lang.specs.Language.{Language}
 use Rattle.segment_lang.specs.Reading.{kind_named, name_key, reading}
@@ -43,6 +43,16 @@ PrintedTextsAreRead = (bs : List ℕ) → AllByRecursion (λ b. b < 256) bs → 
 abbrev pub WordsFollow : Type 0
 WordsFollow =
     (bytes : List ℕ) → words bytes ≡ (if at_end bytes then Some [] else option_and_then (λ x. option_map (λ ws. x.0 ∷ ws) (words x.1)) (next_word bytes))
+
+-- how many words there are, and how many bytes they stand for
+abbrev pub room : List Word → ℕ
+room [] = 0
+room (Bare bs ∷ ws) = 1 + length bs + room ws
+room (Text bs ∷ ws) = 1 + length bs + room ws
+
+-- Words stand for no more bytes than they are spelled by, one byte behind each counted.
+abbrev pub WordsHaveRoom : Type 0
+WordsHaveRoom = (bytes : List ℕ) (ws : List Word) → words bytes ≡ Some ws → room ws ≤ length bytes + 1
 
 -- Of a line that is too long, the first 4098 bytes say so: the others can be dropped.
 abbrev pub LongLinesAreCut : Type 0

@@ -1,19 +1,19 @@
 -- What the types of the code stand for.
-use Rattle.std.specs.Prelude.{ℕ, List, Option, option_map, find, replicate}
+use Rattle.std.specs.Prelude.{ℕ, List, Option, option_map, map, find, replicate}
 use Rattle.seg_types.specs.Commands as asked
 use Rattle.seg_types.specs.Keys.{index_key_seen, key_seen, new_key_seen}
 use Rattle.seg_types.specs.Values.{kind_of_scalar, value_of_scalar}
 use Rattle.segment_lang.specs.Words as said
 use Rattle.segment_lang.specs.Words.{is}
-use Rattle.segment_lang.specs.Reading.{Reader, making, making_each, finding, with_key, with_key_number, with_key_number_literal, with_number, alone, destroying_ptr, new_key, key_of, name_key}
+use Rattle.segment_lang.specs.Reading.{Reader, making, making_each, finding, with_key, with_key_number, with_key_literal, with_key_number_literal, with_number, alone, appending, assigning, destroying_ptr, new_key, key_of, name_key}
 use Rattle.segment_lang.specs.declared.words.Word.{Word}
 use Rattle.segment_lang.specs.declared.words.Word.TheVariants.{Bare, Text}
 use Rattle.segment_lang.specs.declared.literals.Literal.{Literal}
 use Rattle.segment_lang.specs.declared.literals.Literal.TheVariants.{Whole, Truth, Quoted}
 use Rattle.segment_lang.specs.declared.commands.Content.{Content}
-use Rattle.segment_lang.specs.declared.commands.Content.TheVariants.{Scalars}
+use Rattle.segment_lang.specs.declared.commands.Content.TheVariants.{Scalars, Elements, Text as TextContent, Texts as TextsContent}
 use Rattle.segment_lang.specs.declared.commands.Command.{Command}
-use Rattle.segment_lang.specs.declared.commands.Command.TheVariants.{Construct, ConstructIt, Find, FindOrConstruct, Destroy, DestroyPtr, Show, Info, Get, Set, ListNames, ListKinds, Blocks, Size, Free, NumNamed, NumUnique, ReserveNamed, ReserveUnique, ShrinkIndexes, ZeroFree, Sanity, AllDeallocated}
+use Rattle.segment_lang.specs.declared.commands.Command.TheVariants.{Construct, ConstructIt, Find, FindOrConstruct, Destroy, DestroyPtr, Show, Info, Get, Set, Push, Pop, Insert, Erase, Reserve, Shrink, Clear, Assign, Append, ListNames, ListKinds, Blocks, Size, Free, NumNamed, NumUnique, ReserveNamed, ReserveUnique, ShrinkIndexes, ZeroFree, Sanity, AllDeallocated}
 use Rattle.segment_lang.specs.declared.commands.Reading.{Reading}
 use Rattle.segment_lang.specs.declared.commands.Reading.TheVariants.{Nothing, Asked, Wrong}
 use Rattle.segment_lang.specs.declared.errors.LineError.{LineError}
@@ -35,8 +35,20 @@ literal_of (Whole z) = asked.Whole z
 literal_of (Truth b) = asked.Truth b
 literal_of (Quoted t) = asked.Quoted t
 
+-- a value as the code has it
+abbrev pub literal_held : asked.Literal → Literal
+literal_held (asked.Whole z) = Whole z
+literal_held (asked.Truth b) = Truth b
+literal_held (asked.Quoted t) = Quoted t
+
+abbrev pub literals_held : List asked.Literal → List Literal
+literals_held ls = map literal_held ls
+
 abbrev pub content_of : Content → asked.Content
 content_of (Scalars s n) = asked.Numbers (kind_of_scalar s) (replicate n (value_of_scalar s))
+content_of (Elements values) = asked.Elements values.kind values.numbers
+content_of (TextContent t) = asked.Bytes t
+content_of (TextsContent ts) = asked.Strings ts
 
 abbrev pub command_of : Command → asked.Command
 command_of (Construct key content) = asked.Construct (new_key_seen key) (content_of content)
@@ -49,6 +61,15 @@ command_of (Show key) = asked.Show (key_seen key)
 command_of (Info key) = asked.Info (key_seen key)
 command_of (Get key i) = asked.Get (key_seen key) i
 command_of (Set key i value) = asked.Set (key_seen key) i (literal_of value)
+command_of (Push key value) = asked.Push (key_seen key) (literal_of value)
+command_of (Pop key) = asked.Pop (key_seen key)
+command_of (Insert key i value) = asked.Insert (key_seen key) i (literal_of value)
+command_of (Erase key i) = asked.Erase (key_seen key) i
+command_of (Reserve key n) = asked.Reserve (key_seen key) n
+command_of (Shrink key) = asked.Shrink (key_seen key)
+command_of (Clear key) = asked.Clear (key_seen key)
+command_of (Assign key values) = asked.Assign (key_seen key) values
+command_of (Append key t) = asked.Append (key_seen key) t
 command_of ListNames = asked.ListNames
 command_of ListKinds = asked.ListKinds
 command_of Blocks = asked.ListBlocks
@@ -86,6 +107,15 @@ reader_of form.Show = with_key asked.Show key_of
 reader_of form.Info = with_key asked.Info key_of
 reader_of form.Get = with_key_number asked.Get
 reader_of form.Set = with_key_number_literal asked.Set
+reader_of form.Push = with_key_literal asked.Push
+reader_of form.Pop = with_key asked.Pop key_of
+reader_of form.Insert = with_key_number_literal asked.Insert
+reader_of form.Erase = with_key_number asked.Erase
+reader_of form.Reserve = with_key_number asked.Reserve
+reader_of form.Shrink = with_key asked.Shrink key_of
+reader_of form.Clear = with_key asked.Clear key_of
+reader_of form.Assign = assigning
+reader_of form.Append = appending
 reader_of form.ListNames = alone asked.ListNames
 reader_of form.ListKinds = alone asked.ListKinds
 reader_of form.Blocks = alone asked.ListBlocks
@@ -100,10 +130,10 @@ reader_of form.ZeroFree = alone asked.ZeroFree
 reader_of form.Sanity = alone asked.Sanity
 reader_of form.AllDeallocated = alone asked.AllDeallocated
 
--- a command word and its form
-abbrev pub Row : Type 0
-Row = List ℕ × CommandForm
+-- a word, and what it is the word of
+abbrev pub Row : Type 0 → Type 0
+Row A = List ℕ × A
 
--- the form of the first row of a word
-abbrev pub form_in : List Row → List ℕ → Option CommandForm
-form_in rows w = option_map (λ (row : Row). row.1) (find (λ (row : Row). is w row.0) rows)
+-- what the first row of a word has
+abbrev pub found_in : {A : Type 0} → List (Row A) → List ℕ → Option A
+found_in {A} rows w = option_map (λ (row : Row A). row.1) (find (λ (row : Row A). is w row.0) rows)

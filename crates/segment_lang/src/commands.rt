@@ -1,13 +1,15 @@
 //! What a line asks for. The types hold what they say in place or in the line, and take no memory.
 
 use crate::errors::LineError;
+use crate::lists::{Literals, Texts};
 use crate::literals::Literal;
 use crate::values::Values;
+use crate::words::Quoted;
 use seg_types::{Handle, IndexKey, Key, Kind, NewKey, ScalarValue};
 
 /// What an object is made with.
-#[derive(Clone, Copy, Debug, PartialEq, Eq)]
-pub enum Content {
+#[derive(Drop)]
+pub enum Content<'a> {
     /// Scalars of one value.
     Scalars {
         /// The value.
@@ -15,6 +17,12 @@ pub enum Content {
         /// How many, from 1 to 1048576.
         count: u32,
     },
+    /// The elements of a vector.
+    Elements(Values<'a>),
+    /// The bytes of a string.
+    Text(Quoted<'a>),
+    /// The elements of a vector of strings.
+    Texts(Texts<'a>),
 }
 
 /// What a line asks for.
@@ -25,7 +33,7 @@ pub enum Command<'a> {
         /// The key that it gets.
         key: NewKey,
         /// What it is made with.
-        content: Content,
+        content: Content<'a>,
     },
     /// Make an array of different values.
     ConstructIt {
@@ -48,7 +56,7 @@ pub enum Command<'a> {
         /// The object's entry.
         key: IndexKey,
         /// What it is made with.
-        content: Content,
+        content: Content<'a>,
     },
     /// Destroy the object of an entry.
     Destroy(IndexKey),
@@ -73,6 +81,56 @@ pub enum Command<'a> {
         index: u64,
         /// What it becomes.
         value: Literal<'a>,
+    },
+    /// Add an element at the end of a vector.
+    Push {
+        /// The vector.
+        key: Key,
+        /// The new element.
+        value: Literal<'a>,
+    },
+    /// Take the last element off a vector and print it.
+    Pop(Key),
+    /// Put an element into a vector.
+    Insert {
+        /// The vector.
+        key: Key,
+        /// Where it stands then, counted from 0.
+        index: u64,
+        /// The new element.
+        value: Literal<'a>,
+    },
+    /// Take an element out of a vector.
+    Erase {
+        /// The vector.
+        key: Key,
+        /// Which element, counted from 0.
+        index: u64,
+    },
+    /// Make room in an object for as many elements.
+    Reserve {
+        /// The object.
+        key: Key,
+        /// How many.
+        count: u64,
+    },
+    /// Give back the room of an object that no element uses.
+    Shrink(Key),
+    /// Take all elements out of an object.
+    Clear(Key),
+    /// Put values in the place of all elements of an object.
+    Assign {
+        /// The object.
+        key: Key,
+        /// The new elements.
+        values: Literals<'a>,
+    },
+    /// Add bytes at the end of a string.
+    Append {
+        /// The string.
+        key: Key,
+        /// The bytes.
+        text: Quoted<'a>,
     },
     /// Print the named objects by name.
     ListNames,

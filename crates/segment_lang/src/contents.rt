@@ -1,19 +1,23 @@
 //! What an object is made with, as a line writes it.
 
 ghost use Rattle.std.specs.Prelude.{◌≡◌, IsTrue, option_and_then, option_map};
+ghost use Rattle.seg_types.specs.Commands.{Bytes, Elements, Strings};
 ghost use Rattle.segment_lang.specs.Words.{words};
-ghost use Rattle.segment_lang.specs.Reading.{content};
-ghost use Rattle.segment_lang.specs.Arguments.{is_scalar, scalar_at};
+ghost use Rattle.segment_lang.specs.Tokens.{only_word};
+ghost use Rattle.segment_lang.specs.Reading.{content, quoted_of};
+ghost use Rattle.segment_lang.specs.Arguments.{is_readable, numbers_at, scalar_at, texts_at};
 ghost use Rattle.segment_lang.specs.Seen.{content_of};
 
 use crate::commands::Content;
-use crate::literals::scalar_of;
+use crate::lists::read_texts;
+use crate::literals::{quoted_of, scalar_of};
+use crate::values::read_elements;
 use crate::words::only_word;
 use seg_types::{Kind, ScalarKind};
 
 /// One value of the kind, which all elements get.
 #[tactic(auto, unfolding(crate::specs::Arguments::scalar_at))]
-fn read_scalar(kind: ScalarKind, count: u32, bytes: &[u8]) -> Option<Content>
+fn read_scalar(kind: ScalarKind, count: u32, bytes: &[u8]) -> Option<Content<'_>>
     ensures { option_map content_of result ≡ scalar_at kind count bytes.now }
 {
     let word = only_word(bytes)?;
@@ -21,14 +25,41 @@ fn read_scalar(kind: ScalarKind, count: u32, bytes: &[u8]) -> Option<Content>
     Some(Content::Scalars { value, count })
 }
 
+/// Any number of values of the kind.
+fn read_vector(kind: ScalarKind, bytes: &[u8]) -> Option<Content<'_>>
+    ensures { option_map content_of result ≡ option_map (Elements kind) (numbers_at kind bytes.now) }
+{
+    let values = read_elements(kind, bytes)?;
+    Some(Content::Elements(values))
+}
+
+/// One text.
+fn read_string(bytes: &[u8]) -> Option<Content<'_>>
+    ensures { option_map content_of result ≡ option_map Bytes (option_and_then quoted_of (only_word bytes.now)) }
+{
+    let word = only_word(bytes)?;
+    let text = quoted_of(word)?;
+    Some(Content::Text(text))
+}
+
+/// Any number of texts.
+fn read_strings(bytes: &[u8]) -> Option<Content<'_>>
+    ensures { option_map content_of result ≡ option_map Strings (texts_at bytes.now) }
+{
+    let texts = read_texts(bytes)?;
+    Some(Content::Texts(texts))
+}
+
 /// What an object of the kind is made with.
-#[tactic(auto, using(crate::proofs::CommandWords::scalar_content))]
-pub fn read_content(kind: Kind, count: u32, bytes: &[u8]) -> Option<Content>
-    requires { IsTrue (is_scalar kind) }
+pub fn read_content(kind: Kind, count: u32, bytes: &[u8]) -> Option<Content<'_>>
+    requires { IsTrue (is_readable kind) }
     ensures { option_map content_of result ≡ option_and_then (content kind count) (words bytes.now) }
 {
     match kind {
         Kind::Scalar(kind) => read_scalar(kind, count, bytes),
-        _ => unreachable!(),
+        Kind::Vector(kind) => read_vector(kind, bytes),
+        Kind::Text => read_string(bytes),
+        Kind::Texts => read_strings(bytes),
+        Kind::Map(_, _) => unreachable!(),
     }
 }

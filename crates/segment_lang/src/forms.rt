@@ -4,9 +4,13 @@ ghost use Rattle.std.specs.Prelude.{◌≡◌, option_and_then, option_map, map}
 ghost use Rattle.segment_lang.specs.Words.{words};
 ghost use Rattle.segment_lang.specs.Language.{supported};
 ghost use Rattle.segment_lang.specs.Reading.{form_of};
-ghost use Rattle.segment_lang.specs.Seen.{command_of, form_in, reader_of};
+ghost use Rattle.segment_lang.specs.Seen.{command_of, found_in, reader_of};
 
 use crate::commands::Command;
+use crate::elements::{
+    read_append, read_assign, read_clear, read_erase, read_insert, read_pop, read_push,
+    read_reserve, read_shrink,
+};
 use crate::literals::is;
 use crate::readers::{
     read_alone, read_construct, read_construct_it, read_destroy, read_destroy_ptr, read_find,
@@ -37,6 +41,24 @@ pub enum CommandForm {
     Get,
     /// A key, a number and a value.
     Set,
+    /// A key and a value.
+    Push,
+    /// A key.
+    Pop,
+    /// A key, a number and a value.
+    Insert,
+    /// A key and a number.
+    Erase,
+    /// A key and a number.
+    Reserve,
+    /// A key.
+    Shrink,
+    /// A key.
+    Clear,
+    /// A key and any number of values.
+    Assign,
+    /// A key and a text.
+    Append,
     /// Nothing: the word alone is the command.
     ListNames,
     /// Nothing: the word alone is the command.
@@ -66,7 +88,7 @@ pub enum CommandForm {
 }
 
 /// The command words, each with its form.
-const FORMS: [(&[u8], CommandForm); 23] = [
+const FORMS: [(&[u8], CommandForm); 32] = [
     (b"construct", CommandForm::Construct),
     (b"construct_it", CommandForm::ConstructIt),
     (b"find", CommandForm::Find),
@@ -77,6 +99,15 @@ const FORMS: [(&[u8], CommandForm); 23] = [
     (b"info", CommandForm::Info),
     (b"get", CommandForm::Get),
     (b"set", CommandForm::Set),
+    (b"push", CommandForm::Push),
+    (b"pop", CommandForm::Pop),
+    (b"insert", CommandForm::Insert),
+    (b"erase", CommandForm::Erase),
+    (b"reserve", CommandForm::Reserve),
+    (b"shrink", CommandForm::Shrink),
+    (b"clear", CommandForm::Clear),
+    (b"assign", CommandForm::Assign),
+    (b"append", CommandForm::Append),
     (b"list", CommandForm::ListNames),
     (b"unique", CommandForm::ListKinds),
     (b"blocks", CommandForm::Blocks),
@@ -94,7 +125,7 @@ const FORMS: [(&[u8], CommandForm); 23] = [
 
 /// The form of the first row of a word.
 fn find_form(rows: &[(&[u8], CommandForm)], word: &[u8]) -> Option<CommandForm>
-    ensures { result ≡ form_in (map (λ row. (row.0.now, row.1)) rows.now) word.now }
+    ensures { result ≡ found_in (map (λ row. (row.0.now, row.1)) rows.now) word.now }
 {
     rows.iter().find(|row| is(word, row.0)).map(|row| row.1)
 }
@@ -121,6 +152,15 @@ pub fn read_command(form: CommandForm, bytes: &[u8]) -> Option<Command<'_>>
         CommandForm::Info => read_info(bytes),
         CommandForm::Get => read_get(bytes),
         CommandForm::Set => read_set(bytes),
+        CommandForm::Push => read_push(bytes),
+        CommandForm::Pop => read_pop(bytes),
+        CommandForm::Insert => read_insert(bytes),
+        CommandForm::Erase => read_erase(bytes),
+        CommandForm::Reserve => read_reserve(bytes),
+        CommandForm::Shrink => read_shrink(bytes),
+        CommandForm::Clear => read_clear(bytes),
+        CommandForm::Assign => read_assign(bytes),
+        CommandForm::Append => read_append(bytes),
         CommandForm::ListNames => read_alone(Command::ListNames, bytes),
         CommandForm::ListKinds => read_alone(Command::ListKinds, bytes),
         CommandForm::Blocks => read_alone(Command::Blocks, bytes),

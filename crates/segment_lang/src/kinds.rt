@@ -1,41 +1,48 @@
 //! Kinds as a line writes them.
 
-ghost use Rattle.std.specs.Prelude.{◌≡◌, ◌==◌, ◌+◌, not, length, drop, take, take_while, option_map, Some, None, IsTrue, IfSome, slice_index};
+ghost use Rattle.std.specs.Prelude.{◌≡◌, ◌==◌, ◌+◌, not, length, map, drop, take, take_while, option_map, Some, None, IsTrue, IfSome, slice_index};
 ghost use Rattle.segment_lang.specs.Words.{Bare};
 ghost use Rattle.segment_lang.specs.Language.{supported};
 ghost use Rattle.segment_lang.specs.Reading.{bracketed, counted, counted_kind, kind_named, kind_of_word};
-ghost use Rattle.segment_lang.specs.Arguments.{is_scalar};
-ghost use Rattle.segment_lang.specs.Seen.{word_of};
+ghost use Rattle.segment_lang.specs.Arguments.{is_readable};
+ghost use Rattle.segment_lang.specs.Seen.{found_in, word_of};
 
 use crate::literals::is;
 use crate::numbers::number_of;
-use crate::texts::scalar_text;
 use crate::words::Word;
 use seg_types::{Kind, ScalarKind};
 
 /// The most elements that an array has.
 const MOST_ELEMENTS: u64 = 1048576;
 
-/// The kinds of single values.
-const SCALAR_KINDS: [ScalarKind; 5] = [
-    ScalarKind::Bool,
-    ScalarKind::U8,
-    ScalarKind::I32,
-    ScalarKind::I64,
-    ScalarKind::U64,
+/// The kinds that have come, each behind how it is printed.
+const KINDS: [(&[u8], Kind); 11] = [
+    (b"bool", Kind::Scalar(ScalarKind::Bool)),
+    (b"u8", Kind::Scalar(ScalarKind::U8)),
+    (b"i32", Kind::Scalar(ScalarKind::I32)),
+    (b"i64", Kind::Scalar(ScalarKind::I64)),
+    (b"u64", Kind::Scalar(ScalarKind::U64)),
+    (b"string", Kind::Text),
+    (b"vec<bool>", Kind::Vector(ScalarKind::Bool)),
+    (b"vec<u8>", Kind::Vector(ScalarKind::U8)),
+    (b"vec<i32>", Kind::Vector(ScalarKind::I32)),
+    (b"vec<i64>", Kind::Vector(ScalarKind::I64)),
+    (b"vec<u64>", Kind::Vector(ScalarKind::U64)),
 ];
 
+/// The kind of the first row of a word.
+fn find_kind(rows: &[(&[u8], Kind)], word: &[u8]) -> Option<Kind>
+    ensures { result ≡ found_in (map (λ row. (row.0.now, row.1)) rows.now) word.now }
+{
+    rows.iter().find(|row| is(word, row.0)).map(|row| row.1)
+}
+
 /// The kind that is printed so.
-#[tactic(auto, unfolding(crate::specs::Reading::kind_named))]
 pub fn kind_named(word: &[u8]) -> Option<Kind>
     ensures named { result ≡ kind_named supported word.now }
-    ensures scalar { IfSome result (λ kind. IsTrue (is_scalar kind)) }
+    ensures readable { IfSome result (λ kind. IsTrue (is_readable kind)) }
 {
-    let kind = SCALAR_KINDS
-        .iter()
-        .copied()
-        .find(|kind| is(word, scalar_text(*kind)))?;
-    Some(Kind::Scalar(kind))
+    find_kind(&KINDS, word)
 }
 
 /// The kind that a word is.
@@ -79,9 +86,12 @@ fn bracketed(word: &[u8]) -> Option<u64>
 
 /// A scalar kind and a number of elements from 1 to 1048576.
 fn counted(kind: Kind, count: Option<u64>) -> Option<(Kind, u32)>
-    requires { IsTrue (is_scalar kind) }
-    ensures { result ≡ counted kind count }
+    ensures value { result ≡ counted kind count }
+    ensures readable { IfSome result (λ kind. IsTrue (is_readable kind.0)) }
 {
+    let Kind::Scalar(_) = kind else {
+        return None;
+    };
     let count = count?;
     if count == 0 || count > MOST_ELEMENTS {
         return None;
@@ -92,7 +102,7 @@ fn counted(kind: Kind, count: Option<u64>) -> Option<(Kind, u32)>
 /// The kind that a bare word is, and how many elements stand in brackets behind it: without them 1.
 fn counted_name(word: &[u8]) -> Option<(Kind, u32)>
     ensures value { result ≡ counted_kind supported (Bare word.now) }
-    ensures scalar { IfSome result (λ kind. IsTrue (is_scalar kind.0)) }
+    ensures readable { IfSome result (λ kind. IsTrue (is_readable kind.0)) }
 {
     if let Some(kind) = kind_named(word) {
         return Some((kind, 1));
@@ -105,7 +115,7 @@ fn counted_name(word: &[u8]) -> Option<(Kind, u32)>
 /// The kind of the objects that are to be made, and how many elements each has.
 pub fn counted_kind(word: Word<'_>) -> Option<(Kind, u32)>
     ensures value { result ≡ counted_kind supported (word_of word.entry) }
-    ensures scalar { IfSome result (λ kind. IsTrue (is_scalar kind.0)) }
+    ensures readable { IfSome result (λ kind. IsTrue (is_readable kind.0)) }
 {
     match word {
         Word::Bare(word) => counted_name(word),

@@ -12,10 +12,12 @@ mod words;
 mod contents;
 mod keys;
 mod kinds;
+mod lists;
 mod values;
 
 // Commands.
 mod commands;
+mod elements;
 mod forms;
 mod line;
 mod readers;
@@ -32,13 +34,14 @@ pub use buffer::Text;
 pub use commands::{Command, Content, Reading};
 pub use errors::{LineError, put_line_error, put_refusal};
 pub use line::{LONGEST_LINE, parse_line};
+pub use lists::{Literals, Texts};
 pub use literals::{Literal, literal_of};
 pub use numbers::{number_of, whole_of};
 pub use pieces::{Piece, put_pieces};
 pub use texts::{put_kind, put_name, put_number, put_text, put_value};
 pub use theorems::{
     long_lines_are_cut, numbers_are_decimals, printed_kinds_are_read, printed_names_are_read,
-    printed_texts_are_read, texts_are_spelled, wholes_are_decimals, words_follow,
+    printed_texts_are_read, texts_are_spelled, wholes_are_decimals, words_follow, words_have_room,
 };
 pub use values::Values;
 pub use words::{Quoted, Word, next_word, only_word};

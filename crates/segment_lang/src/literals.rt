@@ -5,7 +5,7 @@ ghost use Rattle.std.specs.Result.{result_ok};
 ghost use Rattle.seg_types.specs.Commands.{Whole, Truth, value_of_literal};
 ghost use Rattle.seg_types.specs.Values.{scalar_of as scalar_in};
 ghost use Rattle.segment_lang.specs.Words.{Bare, is, literal_of_word};
-ghost use Rattle.segment_lang.specs.Reading.{value_for};
+ghost use Rattle.segment_lang.specs.Reading.{quoted_of, value_for};
 ghost use Rattle.segment_lang.specs.Seen.{literal_of, word_of};
 
 use crate::numbers::whole_of;
@@ -50,6 +50,16 @@ pub fn literal_of(word: Word<'_>) -> Option<Literal<'_>>
     match word {
         Word::Bare(word) => bare_literal(word),
         Word::Text(text) => Some(Literal::Quoted(text)),
+    }
+}
+
+/// The bytes that a word stands for that is a text.
+pub fn quoted_of(word: Word<'_>) -> Option<Quoted<'_>>
+    ensures { result ≡ quoted_of (word_of word.entry) }
+{
+    match word {
+        Word::Bare(_) => None,
+        Word::Text(text) => Some(text),
     }
 }
 

@@ -1,7 +1,7 @@
 //! Laws about the definitions that the contracts cite. These functions do nothing; what they ensure
 //! is proved.
 
-ghost use Rattle.segment_lang.specs.Laws.{LongLinesAreCut, NumbersAreDecimals, PrintedKindsAreRead, PrintedNamesAreRead, PrintedTextsAreRead, TextsAreSpelled, WholesAreDecimals, WordsFollow};
+ghost use Rattle.segment_lang.specs.Laws.{LongLinesAreCut, NumbersAreDecimals, PrintedKindsAreRead, PrintedNamesAreRead, PrintedTextsAreRead, TextsAreSpelled, WholesAreDecimals, WordsFollow, WordsHaveRoom};
 
 /// A word has a number exactly where it is the number's decimal text, and the number is below 2 ^ 64.
 pub fn numbers_are_decimals()
@@ -37,6 +37,11 @@ pub fn printed_names_are_read()
 /// All words of a line are those that are read one after another.
 pub fn words_follow()
     ensures { WordsFollow }
+{}
+
+/// Words stand for no more bytes than they are spelled by, one byte behind each counted.
+pub fn words_have_room()
+    ensures { WordsHaveRoom }
 {}
 
 /// Of a line that is too long, the first 4098 bytes say so: the others can be dropped.

@@ -4,7 +4,7 @@ ghost use Rattle.std.specs.Prelude.{◌≡◌, length, option_map, IsTrue};
 ghost use Rattle.std.specs.List.{AllByRecursion};
 ghost use Rattle.std.specs.Iterator.{YieldsFirst, item_count};
 ghost use Rattle.seg_types.specs.Kinds.{is_value};
-ghost use Rattle.segment_lang.specs.Arguments.{counted_values, numbers_at, scalars_in};
+ghost use Rattle.segment_lang.specs.Arguments.{counted_values, numbers_at, scalars_in, written};
 
 use crate::blanks::at_end;
 use crate::literals::scalar_of;
@@ -70,6 +70,17 @@ fn count_values(kind: ScalarKind, bytes: &[u8]) -> Option<usize>
         return None;
     }
     Some(count)
+}
+
+/// The values of the kind that all words are.
+pub fn read_elements(kind: ScalarKind, bytes: &[u8]) -> Option<Values<'_>>
+    ensures { result ≡ option_map (written kind) (numbers_at kind bytes.now) }
+{
+    count_values(kind, bytes)?;
+    Some(Values {
+        kind,
+        behind: bytes,
+    })
 }
 
 /// The values of the kind that the words are, where they are as many.

@@ -1,135 +1,257 @@
 -- Calls on elements whose kind is what the object says: then the step of the kind is the command's own.
-use Rattle.std.proofs.Common.{◌≡◌, refl, sym, ap, subst, ◌∙◌, ℕ, ℤ, true, false, ◌&&◌, Option, Some, None, Result, Ok, Err, List, if◌then◌else◌}
-use Rattle.std.specs.Prelude.{IsTrue, slice_set}
+use Rattle.std.proofs.Common.{◌≡◌, refl, sym, ap, ◌∙◌, ℕ, ℤ, pos, true, false, Option, Some, None, Result, Ok, Err, List, map}
+use Rattle.std.specs.Prelude.{is_some, slice_set}
+use Rattle.std.proofs.lemmas.Bool.{eq-eqb}
+use Rattle.raw_region.specs.Format.{current}
+use Rattle.seg_types.specs.declared.kinds.Kind.{Kind}
+use Rattle.seg_types.specs.declared.kinds.Kind.TheVariants.{Scalar as ScalarOf, Text as TextKind, Vector as VectorKind, Map as MapKind, Texts as TextsKind}
 use Rattle.seg_types.specs.declared.kinds.ScalarKind.{ScalarKind}
-use Rattle.seg_types.specs.declared.kinds.Kind.TheVariants.{Scalar}
+use Rattle.seg_types.specs.declared.kinds.ScalarKind.TheVariants.{U8}
 use Rattle.seg_types.specs.declared.refusals.Refusal.{Refusal}
-use Rattle.seg_types.specs.declared.refusals.Refusal.TheVariants.{NotFound, ReadOnly}
-use Rattle.seg_types.specs.Kinds.{is_value, same_kind}
-use Rattle.seg_types.specs.Names.{Key}
+use Rattle.seg_types.specs.declared.refusals.Refusal.TheVariants.{NotFound, WrongKind}
+use Rattle.seg_types.specs.Kinds.{code_of, is_value}
+use Rattle.seg_types.specs.Names.{Key, ByHandle}
 use Rattle.seg_types.specs.Commands as asked
 use Rattle.seg_types.specs.Commands.{Command, Literal, literal_of, value_of_literal}
 use Rattle.segment_manager.specs.declared.modes.Mode.{Mode}
 use Rattle.segment_manager.specs.Answers.{Answer, Done, Refused}
-use Rattle.segment_manager.specs.Calls.{elements_at, elements_of}
-use Rattle.segment_manager.specs.Directory.{Numbers, Object, Directory, kind_of, live, object_at}
-use Rattle.segment_manager.specs.Plan.{Refuse, Reply, perform, with}
-use Rattle.segment_manager.specs.State.{Answers, IsReply, IsReplyOfKind, IsStep, IsStepOfKind, State, StandsFor}
-use Rattle.segment_manager.specs.Step.{changed, effect, element_at, get, is_read_only, set, step}
-use Rattle.segment_manager.specs.Supported.{is_supported, is_supported_object}
-use Rattle.segment_manager.proofs.Replies.{same_scalar-refl}
+use Rattle.seg_vector.specs.declared.places.Place.{Place}
+use Rattle.segment_manager.specs.Contents.{container_at, place_of_kind}
+use Rattle.segment_manager.specs.Standing.{StandsAt}
+use Rattle.segment_manager.proofs.KeyCalls.{handle-answers}
+use Rattle.segment_manager.proofs.Safely.{contains}
+use Rattle.segment_manager.specs.Calls.{elements_at, elements_of, kind_at, scalar_reply}
+use Rattle.segment_manager.specs.Directory.{Value, Numbers, Elements, Bytes, Pairs, Texts, Object, Directory, kind_of, live, object_at}
+use Rattle.segment_manager.specs.Found.{handle_at, is_object_at}
+use Rattle.segment_manager.specs.Plan.{Plan, Refuse, Reply, perform, with}
+use Rattle.segment_manager.specs.State.{Answers, IsReply, IsReplyOfKind, IsStep, State}
+use Rattle.segment_manager.specs.Step.{changed, effect, element_at, get, is_read_only, set, step, with_items}
+use Rattle.segment_manager.proofs.AnyStorage.{IsOfKindAt, kind-told}
+use Rattle.segment_manager.proofs.Bridge.{by-handle}
+use Rattle.segment_manager.proofs.Here.{IsHere, here, nothing-here}
+use Rattle.segment_manager.proofs.Refilled.{refused-steps}
+use Rattle.segment_manager.proofs.Steps.{open-reading, step-plan, step-refuse, step_of_kind-step, with-found, with-not_found}
 use Rattle.segment_manager.proofs.Stored.{literal-read}
-use Rattle.segment_manager.proofs.Codes.{numbers-only}
-use Rattle.segment_manager.proofs.Elements.{set-refused}
-use Rattle.segment_manager.proofs.Steps.{by_no_change, open-reading, open-writing, step-refuse, step_of_kind-step, with-found, with-not_found}
-use Rattle.segment_manager.proofs.Supported.{found-supported, numbers-of, supported-kind}
+use Rattle.segment_manager.proofs.Supported.{HasNoTexts, no-texts}
+use Rattle.segment_manager.proofs.VectorLiterals.{same_plan-steps}
 
 -- ---- what an object says of its elements
 
--- the object of a key has elements of a kind, and is of the kind of those scalars
+abbrev elements_in : Option Object → Result ScalarKind Refusal
+elements_in r = elim r as (λ _. Result ScalarKind Refusal) [ None ↦ Err NotFound | Some o ↦ elements_of (kind_of o.value) ]
+
+-- the object of a key has elements of a kind
 pub record HasElements (d : Directory) (key : Key) (k : ScalarKind) : Type 0 where
   pub object : Object
   pub is : object_at d key ≡ Some object
-  pub kind : same_kind (Scalar k) (kind_of object.value) ≡ true
+  pub elements : elements_of (kind_of object.value) ≡ Ok k
 
-has-if : (d : Directory) (key : Key) (k : ScalarKind) (r : Option Object) → IsTrue (is_supported d) → object_at d key ≡ r
-    → Ok k ≡ elim r as (λ _. Result ScalarKind Refusal) [ None ↦ Err NotFound | Some o ↦ elements_of (kind_of o.value) ] → HasElements d key k
-has-if d key k None l e f = absurd (cc)
-has-if d key k (Some o) l e f =
-    let h : IsTrue (is_supported_object o) = found-supported d key o l e in
-    let is : kind_of o.value ≡ Scalar (numbers-of o h).kind = supported-kind o h in
-    let both : Ok k ≡ elements_of (Scalar (numbers-of o h).kind) = f ∙ ap elements_of is in
-    let same : (numbers-of o h).kind ≡ k = cc in
-    record { object = o; is = e; kind = ap (same_kind (Scalar k)) (is ∙ ap Scalar same) ∙ same_scalar-refl k }
+has-if : (d : Directory) (key : Key) (k : ScalarKind) (r : Option Object) → object_at d key ≡ r → Ok k ≡ elements_in r → HasElements d key k
+has-if d key k None e f = absurd (cc)
+has-if d key k (Some o) e f = record { object = o; is = e; elements = sym f }
 
-pub has-elements : (d : Directory) (key : Key) (k : ScalarKind) → IsTrue (is_supported d) → Ok k ≡ elements_at d key → HasElements d key k
-has-elements d key k l e = has-if d key k (object_at d key) l refl e
+pub has-elements : (d : Directory) (key : Key) (k : ScalarKind) → Ok k ≡ elements_at d key → HasElements d key k
+has-elements d key k e = has-if d key k (object_at d key) refl e
 
--- where it says a refusal there is no object
-record HasNone (d : Directory) (key : Key) (r : Refusal) : Type 0 where
-  none : object_at d key ≡ None
-  why : r ≡ NotFound
+-- or there are none: no object has the key, or its elements are no scalars
+data HasNone (d : Directory) (key : Key) (r : Refusal) : Type 0 where
+  Nowhere : object_at d key ≡ None → NotFound ≡ r → HasNone d key r
+  Other : (o : Object) → object_at d key ≡ Some o → elements_of (kind_of o.value) ≡ Err r → HasNone d key r
 
-none-if : (d : Directory) (key : Key) (r : Refusal) (p : Option Object) → IsTrue (is_supported d) → object_at d key ≡ p
-    → Err r ≡ elim p as (λ _. Result ScalarKind Refusal) [ None ↦ Err NotFound | Some o ↦ elements_of (kind_of o.value) ] → HasNone d key r
-none-if d key r None l e f = record { none = e; why = cc }
-none-if d key r (Some o) l e f =
-    let h : IsTrue (is_supported_object o) = found-supported d key o l e in
-    let both : Err r ≡ elements_of (Scalar (numbers-of o h).kind) = f ∙ ap elements_of (supported-kind o h) in
-    absurd (cc)
+none-if : (d : Directory) (key : Key) (r : Refusal) (p : Option Object) → object_at d key ≡ p → Err r ≡ elements_in p → HasNone d key r
+none-if d key r None e f = let same : NotFound ≡ r = cc in Nowhere e same
+none-if d key r (Some o) e f = Other o e (sym f)
+
+has-none : (d : Directory) (key : Key) (r : Refusal) → Err r ≡ elements_at d key → HasNone d key r
+has-none d key r e = none-if d key r (object_at d key) refl e
+
+-- the object is of a kind
+elements-told : (d : Directory) (key : Key) (kind : Kind) → IsOfKindAt d key kind → elements_at d key ≡ elements_of kind
+elements-told d key kind e = ap elements_in e.is ∙ ap elements_of e.kind_is
 
 -- ---- reading
 
--- the element is that of the command
-pub any-replies : (s : State) (key : Key) (k : ScalarKind) (c : Command) (answer : Answer) → Answers s (λ d. elements_at d key) (Ok k) → IsReplyOfKind s key (Scalar k) c answer → IsReply s c answer
-any-replies s key k c answer a r = record {
+-- of an object whose elements are no scalars none is read
+not_read : (d : Directory) (v : Value) (i : ℕ) (r : Refusal) → elements_of (kind_of v) ≡ Err r → (kind_of v ≡ TextsKind → ⊥) → get d v i ≡ Refuse r
+not_read d (Numbers k zs) i r e n = absurd (cc)
+not_read d (Elements k zs t) i r e n = absurd (cc)
+not_read d (Bytes bs t) i r e n = absurd (cc)
+not_read d (Pairs k v ps) i r e n = let why : WrongKind ≡ r = cc in ap Refuse why
+not_read d (Texts ps t) i r e n = absurd (n refl)
+
+step-not_read : (mode : Mode) (d : Directory) (key : Key) (i : ℕ) (r : Refusal) → ((o : Object) → object_at d key ≡ Some o → kind_of o.value ≡ TextsKind → ⊥) → HasNone d key r
+    → step mode d (asked.Get key i) ≡ (Refused r, d)
+step-not_read mode d key i r n (Nowhere e f) =
+    step-refuse mode d (asked.Get key i) NotFound (open-reading mode (asked.Get key i) refl) (with-not_found d key (λ o. get d o.value i) e) ∙ (λ j. (Refused (f j), d))
+step-not_read mode d key i r n (Other o e f) =
+    step-refuse mode d (asked.Get key i) r (open-reading mode (asked.Get key i) refl) (with-found d key o (λ o. get d o.value i) e ∙ not_read d o.value i r f (n o e))
+
+abbrev reply_of : Mode → Directory → Command → Result ScalarKind Refusal → Answer
+reply_of mode d c q = elim q as (λ _. Answer) [ Err r ↦ Refused r | Ok k ↦ (step mode d c).0 ]
+
+machine-if : (mode : Mode) (d : Directory) (key : Key) (i : ℕ) (q : Result ScalarKind Refusal) → ((o : Object) → object_at d key ≡ Some o → kind_of o.value ≡ TextsKind → ⊥) → elements_at d key ≡ q
+    → reply_of mode d (asked.Get key i) q ≡ (step mode d (asked.Get key i)).0
+machine-if mode d key i (Ok k) n e = refl
+machine-if mode d key i (Err r) n e = sym (ap (λ (x : Answer × Directory). x.0) (step-not_read mode d key i r n (has-none d key r (sym e))))
+
+-- a call that reads scalars alone answers as the machine where there are no texts
+pub scalars-replies : (s : State) (key : Key) (i : ℕ) (answer : Answer) → HasNoTexts s key → Answers s (λ d. scalar_reply s.mode d key (asked.Get key i)) answer → IsReply s (asked.Get key i) answer
+scalars-replies s key i answer n r = record { answers = λ d l. r.answers d l ∙ machine-if s.mode d key i (elements_at d key) (n d l) refl }
+
+-- and where there are scalars
+pub any-replies : (s : State) (key : Key) (k : ScalarKind) (c : Command) (answer : Answer) → Answers s (λ d. elements_at d key) (Ok k) → Answers s (λ d. scalar_reply s.mode d key c) answer → IsReply s c answer
+any-replies s key k c answer a r = record { answers = λ d l. r.answers d l ∙ ap (reply_of s.mode d c) (sym (a.answers d l)) }
+
+-- the object of the key says its kind: the answer of that kind is it
+pub of_kind-replies : (s : State) (key : Key) (kind : Kind) (k : ScalarKind) (c : Command) (answer : Answer) → Answers s (λ d. kind_at d key) (Ok kind) → elements_of kind ≡ Ok k → IsReplyOfKind s key kind c answer
+    → Answers s (λ d. scalar_reply s.mode d key c) answer
+of_kind-replies s key kind k c answer a f r = record {
   answers = λ d l.
-      let e : HasElements d key k = has-elements d key k l.supported (a.answers d l) in
-      r.answers d l ∙ ap (λ (n : Answer × Directory). n.0) (step_of_kind-step s.mode d key (Scalar k) c e.object e.is e.kind);
+      let e : IsOfKindAt d key kind = kind-told d key kind (a.answers d l) in
+      r.answers d l
+      ∙ ap (λ (x : Answer × Directory). x.0) (step_of_kind-step s.mode d key kind c e.object e.is (eq-eqb (code_of kind) (code_of (kind_of e.object.value)) (ap code_of (sym e.kind_is))))
+      ∙ sym (ap (reply_of s.mode d c) (elements-told d key kind e ∙ f));
 }
 
--- or there is no object
-pub any-missing : (s : State) (key : Key) (i : ℕ) (r : Refusal) → Answers s (λ d. elements_at d key) (Err r) → IsReply s (asked.Get key i) (Refused r)
-any-missing s key i r a = record {
+-- it has no scalars
+pub of_kind-none : (s : State) (key : Key) (kind : Kind) (r : Refusal) (c : Command) → Answers s (λ d. kind_at d key) (Ok kind) → elements_of kind ≡ Err r → Answers s (λ d. scalar_reply s.mode d key c) (Refused r)
+of_kind-none s key kind r c a f = record {
   answers = λ d l.
-      let e : HasNone d key r = none-if d key r (object_at d key) l.supported refl (a.answers d l) in
-      ap Refused e.why
-      ∙ sym (ap (λ (n : Answer × Directory). n.0) (step-refuse s.mode d (asked.Get key i) NotFound (open-reading s.mode (asked.Get key i) refl) (with-not_found d key (λ o. get d o.value i) e.none)));
+      let e : IsOfKindAt d key kind = kind-told d key kind (a.answers d l) in
+      sym (ap (reply_of s.mode d c) (elements-told d key kind e ∙ f));
 }
 
--- ---- writing
+-- neither scalars nor a vector of them nor a string
+pub other-elements : (kind : Kind) → ((k : ScalarKind) → kind ≡ ScalarOf k → ⊥) → ((k : ScalarKind) → kind ≡ VectorKind k → ⊥) → (kind ≡ TextKind → ⊥) → elements_of kind ≡ Err WrongKind
+other-elements (ScalarOf k) n v t = absurd (n k refl)
+other-elements TextKind n v t = absurd (t refl)
+other-elements (VectorKind k) n v t = absurd (v k refl)
+other-elements (MapKind k m) n v t = refl
+other-elements TextsKind n v t = refl
 
--- the step of the kind is that of the command
-pub any-steps : (old new : State) (key : Key) (k : ScalarKind) (c : Command) (answer : Answer) → Answers old (λ d. elements_at d key) (Ok k) → IsStepOfKind old new key (Scalar k) c answer → IsStep old new c answer
-any-steps old new key k c answer a r = record {
-  stays = r.stays;
+-- what is read of the object by its handle is what is read by its key
+pub by_handle-replies : (s : State) (key : Key) (h i : ℕ) (answer : Answer) → Answers s (λ d. handle_at d key) (Some h) → Answers s (λ d. scalar_reply s.mode d (ByHandle h) (asked.Get (ByHandle h) i)) answer
+    → Answers s (λ d. scalar_reply s.mode d key (asked.Get key i)) answer
+by_handle-replies s key h i answer a r = record {
   answers = λ d l.
-      let e : HasElements d key k = has-elements d key k l.supported (a.answers d l) in
-      r.answers d l ∙ ap (λ (n : Answer × Directory). n.0) (step_of_kind-step old.mode d key (Scalar k) c e.object e.is e.kind);
-  denotes = λ d l.
-      let e : HasElements d key k = has-elements d key k l.supported (a.answers d l) in
-      subst (λ (n : Answer × Directory). StandsFor new.cut.bytes n.1) (step_of_kind-step old.mode d key (Scalar k) c e.object e.is e.kind) (r.denotes d l);
+      let o : IsHere s.cut.bytes d key h = here s.cut.bytes d key h l.denotes (a.answers d l) in
+      let there : object_at d (ByHandle h) ≡ Some o.object = ap (λ n. object_at d (ByHandle n)) o.stands.at ∙ by-handle current d key o.object l.denotes.directory o.is in
+      let elements : elements_at d (ByHandle h) ≡ elements_at d key = ap elements_in there ∙ sym (ap elements_in o.is) in
+      let read : Plan = get d o.object.value i in
+      let steps : step s.mode d (asked.Get (ByHandle h) i) ≡ step s.mode d (asked.Get key i) =
+      step-plan s.mode d (asked.Get (ByHandle h) i) read (open-reading s.mode (asked.Get (ByHandle h) i) refl) (with-found d (ByHandle h) o.object (λ o. get d o.value i) there)
+      ∙ sym (step-plan s.mode d (asked.Get key i) read (open-reading s.mode (asked.Get key i) refl) (with-found d key o.object (λ o. get d o.value i) o.is)) in
+      r.answers d l ∙ (λ j. elim (elements j) as (λ _. Answer) [ Err r ↦ Refused r | Ok k ↦ (steps j).0 ]);
 }
+
+-- no object has the key
+pub any-missing : (s : State) (key : Key) (i : ℕ) → Answers s (λ d. handle_at d key) None → IsReply s (asked.Get key i) (Refused NotFound)
+any-missing s key i a = record {
+  answers = λ d l.
+      sym (ap (λ (x : Answer × Directory). x.0)
+      (step-refuse s.mode d (asked.Get key i) NotFound (open-reading s.mode (asked.Get key i) refl) (with-not_found d key (λ o. get d o.value i) (nothing-here d key (a.answers d l)))));
+}
+
+-- an object that is found by a key is found by its handle
+pub found-object : (s : State) (key : Key) (h : ℕ) → Answers s (λ d. handle_at d key) (Some h) → Answers s (λ d. is_object_at d h) true
+found-object s key h a = record {
+  answers = λ d l.
+      let o : IsHere s.cut.bytes d key h = here s.cut.bytes d key h l.denotes (a.answers d l) in
+      let there : object_at d (ByHandle h) ≡ Some o.object = ap (λ n. object_at d (ByHandle n)) o.stands.at ∙ by-handle current d key o.object l.denotes.directory o.is in
+      sym (ap is_some there);
+}
+
+has-object : (k : ScalarKind) (r : Option Object) → Ok k ≡ elements_in r → true ≡ is_some r
+has-object k None e = absurd (cc)
+has-object k (Some o) e = refl
+
+-- where there are elements there is an object
+pub is-object : (s : State) (h : ℕ) (k : ScalarKind) → Answers s (λ d. elements_at d (ByHandle h)) (Ok k) → Answers s (λ d. is_object_at d h) true
+is-object s h k a = record { answers = λ d l. has-object k (object_at d (ByHandle h)) (a.answers d l) }
+
+-- where the container stands of the object at a handle is where that of the handle's key does
+pub contained : (s : State) (h : ℕ) (kind : Kind) (r : Result Place Refusal) → Answers s (λ d. is_object_at d h) true → ((o : Object) → StandsAt s.cut.bytes h o → r ≡ place_of_kind o kind)
+    → Answers s (λ d. container_at d (ByHandle h) kind) r
+contained s h kind r a each = contains s (ByHandle h) h kind r (handle-answers s h true a) each
+
+-- ---- writing: the kind of the object
+
+-- a vector of which it is known what its elements are
+pub vector-kind : (s : State) (key : Key) (l k : ScalarKind) → Answers s (λ d. kind_at d key) (Ok (VectorKind l)) → Answers s (λ d. elements_at d key) (Ok k) → Answers s (λ d. kind_at d key) (Ok (VectorKind k))
+vector-kind s key l k a b = record {
+  answers = λ d w.
+      let both : Ok k ≡ elements_of (VectorKind l) = b.answers d w ∙ elements-told d key (VectorKind l) (kind-told d key (VectorKind l) (a.answers d w)) in
+      let same : k ≡ l = cc in
+      ap (λ n. Ok (VectorKind n)) same ∙ a.answers d w;
+}
+
+left-kind : (kind : Kind) (k : ScalarKind) → Ok k ≡ elements_of kind → (kind ≡ TextKind → ⊥) → ((l : ScalarKind) → kind ≡ VectorKind l → ⊥) → ScalarOf k ≡ kind
+left-kind (ScalarOf j) k e t v = let same : k ≡ j = cc in ap ScalarOf same
+left-kind TextKind k e t v = absurd (t refl)
+left-kind (VectorKind j) k e t v = absurd (v j refl)
+left-kind (MapKind j m) k e t v = absurd (cc)
+left-kind TextsKind k e t v = absurd (cc)
+
+-- neither a text nor a vector: scalars
+pub scalar-kind : (s : State) (key : Key) (kind : Kind) (k : ScalarKind) → Answers s (λ d. kind_at d key) (Ok kind) → Answers s (λ d. elements_at d key) (Ok k) → (kind ≡ TextKind → ⊥)
+    → ((l : ScalarKind) → kind ≡ VectorKind l → ⊥) → Answers s (λ d. kind_at d key) (Ok (ScalarOf k))
+scalar-kind s key kind k a b t v = record {
+  answers = λ d w. ap Ok (left-kind kind k (b.answers d w ∙ elements-told d key kind (kind-told d key kind (a.answers d w))) t v) ∙ a.answers d w;
+}
+
+-- ---- writing: the literal
 
 -- the plan goes by what the literal is read as
-literal-plan : (d : Directory) (key : Key) (k : ScalarKind) (i : ℕ) (l : Literal) (z : ℤ) (o : Object) (zs : List ℤ) → object_at d key ≡ Some o → o.value ≡ Numbers k zs → value_of_literal k l ≡ Ok z
-    → effect d (asked.Set key i l) ≡ with (element_at zs i) (λ old. Reply Done (changed d o (Numbers k (slice_set zs i z))))
-literal-plan d key k i l z o zs e n f =
-    with-found d key o (λ o. set d o o.value i l) e ∙ ap (λ v. set d o v i l) n
-    ∙ ap (λ r. with r (λ z. with (element_at zs i) (λ old. Reply Done (changed d o (Numbers k (slice_set zs i z)))))) f
+abbrev set_with : Directory → Object → Value → ℕ → List ℤ → Result ℤ Refusal → Plan
+set_with d o v i zs r = with r (λ z. with (element_at zs i) (λ old. Reply Done (changed d o (with_items v (slice_set zs i z)))))
 
-same-step : (mode : Mode) (d : Directory) (key : Key) (k : ScalarKind) (i : ℕ) (l m : Literal) (z : ℤ) → HasElements d key k → value_of_literal k l ≡ Ok z → value_of_literal k m ≡ Ok z
-    → step mode d (asked.Set key i l) ≡ step mode d (asked.Set key i m)
-unfolding step
-same-step mode d key k i l m z e f g =
-    let n : (zs : List ℤ) × (e.object.value ≡ Numbers k zs) = numbers-only k e.object.value e.kind in
-    ap (λ p. perform d (live d) (if is_read_only mode && true then Refuse ReadOnly else p))
-    (literal-plan d key k i l z e.object n.0 e.is n.1 f ∙ sym (literal-plan d key k i m z e.object n.0 e.is n.1 g))
+set-plan : (d : Directory) (o : Object) (v : Value) (i : ℕ) (k : ScalarKind) → elements_of (kind_of v) ≡ Ok k → (zs : List ℤ) × ((l : Literal) → set d o v i l ≡ set_with d o v i zs (value_of_literal k l))
+set-plan d o (Numbers j zs) i k e = let same : j ≡ k = cc in (zs, λ l. ap (λ n. set_with d o (Numbers j zs) i zs (value_of_literal n l)) same)
+set-plan d o (Elements j zs t) i k e = let same : j ≡ k = cc in (zs, λ l. ap (λ n. set_with d o (Elements j zs t) i zs (value_of_literal n l)) same)
+set-plan d o (Bytes bs t) i k e = let same : U8 ≡ k = cc in (map pos bs, λ l. ap (λ n. set_with d o (Bytes bs t) i (map pos bs) (value_of_literal n l)) same)
+set-plan d o (Pairs j m ps) i k e = absurd (cc)
+set-plan d o (Texts ps t) i k e = absurd (cc)
+
+set-effect : (d : Directory) (key : Key) (k : ScalarKind) (i : ℕ) (l : Literal) (r : Result ℤ Refusal) (e : HasElements d key k) → value_of_literal k l ≡ r
+    → effect d (asked.Set key i l) ≡ set_with d e.object e.object.value i (set-plan d e.object e.object.value i k e.elements).0 r
+set-effect d key k i l r e f =
+    let p = set-plan d e.object e.object.value i k e.elements in
+    with-found d key e.object (λ o. set d o o.value i l) e.is ∙ p.1 l ∙ ap (set_with d e.object e.object.value i p.0) f
 
 -- a literal that is read as the value is as good as the value's own
 pub any-literal : (old new : State) (key : Key) (k : ScalarKind) (i : ℕ) (l : Literal) (z : ℤ) (answer : Answer) → Answers old (λ d. elements_at d key) (Ok k) → value_of_literal k l ≡ Ok z → is_value k z ≡ true
     → IsStep old new (asked.Set key i (literal_of k z)) answer → IsStep old new (asked.Set key i l) answer
-any-literal old new key k i l z answer a f v r = record {
-  stays = r.stays;
-  answers = λ d h. r.answers d h ∙ ap (λ (n : Answer × Directory). n.0) (same-step old.mode d key k i (literal_of k z) l z (has-elements d key k h.supported (a.answers d h)) (literal-read k z v) f);
-  denotes = λ d h.
-      subst (λ (n : Answer × Directory). StandsFor new.cut.bytes n.1) (same-step old.mode d key k i (literal_of k z) l z (has-elements d key k h.supported (a.answers d h)) (literal-read k z v) f) (r.denotes d h);
-}
+any-literal old new key k i l z answer a f v r =
+    same_plan-steps old new (asked.Set key i l) (asked.Set key i (literal_of k z)) answer refl
+    (λ d w.
+    let e : HasElements d key k = has-elements d key k (a.answers d w) in
+    set-effect d key k i l (Ok z) e f ∙ sym (set-effect d key k i (literal_of k z) (Ok z) e (literal-read k z v))) r
 
 -- one that is no value of the kind is refused
 pub any-no_value : (s : State) (key : Key) (k : ScalarKind) (i : ℕ) (l : Literal) (r : Refusal) → Answers s (λ d. elements_at d key) (Ok k) → is_read_only s.mode ≡ false → value_of_literal k l ≡ Err r
     → IsStep s s (asked.Set key i l) (Refused r)
 any-no_value s key k i l r a writing f =
-    by_no_change s (asked.Set key i l) (Refused r)
-    (λ d h.
-    let e : HasElements d key k = has-elements d key k h.supported (a.answers d h) in
-    let n : (zs : List ℤ) × (e.object.value ≡ Numbers k zs) = numbers-only k e.object.value e.kind in
-    step-refuse s.mode d (asked.Set key i l) r (open-writing s.mode (asked.Set key i l) writing) (set-refused d key e.object k n.0 i l r e.is n.1 f))
+    refused-steps s (asked.Set key i l) r writing (λ d w. ap (perform d (live d)) (set-effect d key k i l (Err r) (has-elements d key k (a.answers d w)) f))
 
--- where there is no object
+-- of an object whose elements are no scalars none is written
+not_set : (d : Directory) (o : Object) (v : Value) (i : ℕ) (l : Literal) (r : Refusal) → elements_of (kind_of v) ≡ Err r → (kind_of v ≡ TextsKind → ⊥) → set d o v i l ≡ Refuse r
+not_set d o (Numbers k zs) i l r e n = absurd (cc)
+not_set d o (Elements k zs t) i l r e n = absurd (cc)
+not_set d o (Bytes bs t) i l r e n = absurd (cc)
+not_set d o (Pairs k v ps) i l r e n = let why : WrongKind ≡ r = cc in ap Refuse why
+not_set d o (Texts ps t) i l r e n = absurd (n refl)
+
+effect-not_set : (d : Directory) (key : Key) (i : ℕ) (l : Literal) (r : Refusal) → ((o : Object) → object_at d key ≡ Some o → kind_of o.value ≡ TextsKind → ⊥) → HasNone d key r
+    → effect d (asked.Set key i l) ≡ Refuse r
+effect-not_set d key i l r n (Nowhere e f) = with-not_found d key (λ o. set d o o.value i l) e ∙ ap Refuse f
+effect-not_set d key i l r n (Other o e f) = with-found d key o (λ o. set d o o.value i l) e ∙ not_set d o o.value i l r f (n o e)
+
+-- where there are no scalars and no texts
+pub scalars-nowhere : (s : State) (key : Key) (i : ℕ) (l : Literal) (r : Refusal) → HasNoTexts s key → Answers s (λ d. elements_at d key) (Err r) → is_read_only s.mode ≡ false
+    → IsStep s s (asked.Set key i l) (Refused r)
+scalars-nowhere s key i l r n a writing =
+    refused-steps s (asked.Set key i l) r writing (λ d w. ap (perform d (live d)) (effect-not_set d key i l r (n d w) (has-none d key r (a.answers d w))))
+
+-- there are no texts yet
 pub any-nowhere : (s : State) (key : Key) (i : ℕ) (l : Literal) (r : Refusal) → Answers s (λ d. elements_at d key) (Err r) → is_read_only s.mode ≡ false → IsStep s s (asked.Set key i l) (Refused r)
-any-nowhere s key i l r a writing =
-    by_no_change s (asked.Set key i l) (Refused r)
-    (λ d h.
-    let e : HasNone d key r = none-if d key r (object_at d key) h.supported refl (a.answers d h) in
-    step-refuse s.mode d (asked.Set key i l) NotFound (open-writing s.mode (asked.Set key i l) writing) (with-not_found d key (λ o. set d o o.value i l) e.none) ∙ (λ j. (Refused (sym e.why j), d)))
+any-nowhere s key i l r a writing = scalars-nowhere s key i l r (no-texts s key) a writing

@@ -32,7 +32,7 @@ use Rattle.segment_manager.proofs.Indexes.{index-parts, named-more, named-remove
 use Rattle.segment_manager.proofs.InUse.{all-both}
 use Rattle.segment_manager.proofs.KeyOrder.{Says, code-of, kinds-apart, kinds-class, kinds-say, name-of, same-itself, names-apart, names-class, names-say}
 use Rattle.segment_manager.proofs.Live.{IsIn}
-use Rattle.segment_manager.proofs.Objects.{all-found, key-found, rises-rest}
+use Rattle.segment_manager.proofs.Objects.{all-found, rises-rest}
 use Rattle.segment_manager.proofs.EntryPlaces.{IsPlaceOf, all-at, all_of-ordered, ascends-at, at-all, at-handle, insert-at, none-found, of-class, own-found, remove-at, stands-at, StandsAt}
 use Rattle.segment_manager.proofs.Ranks.{IsRanked, all-ordered, found-filter, ordered-pairwise}
 
@@ -207,16 +207,12 @@ handles-differ format i d at j o p h f l g e =
     let itself : order_of i o o ≡ true = subst (λ r. order_of i r o ≡ true) (sym same) before in
     false≢true (sym ((order-strict i).asym o o itself) ∙ itself)
 
--- the object of a key of an index is the one that the entry leads to, and goes from there
-pub entry-removed : (i : Index) (c : Cut) (d : Directory) (e : Key) (key : names.Key) (at : ℕ) (o : Object) → Denotes current c.bytes d → Seeks i e key
-    → IsPlace (bytes_of c.bytes) e (entries_of i d) (Found at) → object_at d key ≡ Some o → remove (entries_of i d) at ≡ entries_of i (without_object d o)
-entry-removed i c d e key at o k q p h =
-    let there : IsEntryFor i d key at = lookup-found i c d e key k q at p in
-    let same : there.object ≡ o = same_Some there.object o (sym there.is ∙ h) in
-    let stands : slice_get (objects_of i d) at ≡ Some o = subst (λ r. slice_get (objects_of i d) at ≡ Some r) same there.stands in
-    let class : is_class (class_of_index i) o ≡ true = all-at (λ r. is_class (class_of_index i) r ≡ true) (objects_of i d) at o (in-class i d) stands in
-    remove-at o (objects_of i d) at stands (λ j r l f. handles-differ current i d at j o r k.directory stands l f)
-    ∙ sym (ap handles (objects-less current i d o k.directory (key-found current d key o k.directory h) class))
+-- an object goes with the entry that it has
+pub entry-removed : (i : Index) (d : Directory) (at : ℕ) (o : Object) → IsDirectory current d → slice_get (objects_of i d) at ≡ Some o → remove (entries_of i d) at ≡ entries_of i (without_object d o)
+entry-removed i d at o h e =
+    let f : IsIn d o = record { is = all-at (λ (p : Object). object_at d (names.ByHandle (handle p.extent)) ≡ Some p) (objects_of i d) at o (in-handles current i d h) e } in
+    let class : is_class (class_of_index i) o ≡ true = all-at (λ p. is_class (class_of_index i) p ≡ true) (objects_of i d) at o (in-class i d) e in
+    remove-at o (objects_of i d) at e (λ j p l g. handles-differ current i d at j o p h e l g) ∙ sym (ap handles (objects-less current i d o h f class))
 
 -- an object of another class goes without an entry
 pub no-entry-removed : (i : Index) (d : Directory) (o : Object) → object_at d (names.ByHandle (handle o.extent)) ≡ Some o → is_class (class_of_index i) o ≡ false

@@ -12,6 +12,7 @@ use Rattle.best_fit.specs.Heap.{IsAllocated, IsRefused}
 use Rattle.best_fit.specs.Table.{Table, serves}
 use Rattle.seg_types.specs.declared.kinds.ScalarKind.{ScalarKind}
 use Rattle.seg_types.specs.declared.kinds.Class.TheVariants.{Anonymous}
+use Rattle.seg_types.specs.declared.kinds.Kind.TheVariants.{Scalar}
 use Rattle.seg_types.specs.declared.refusals.Refusal.TheVariants.{Exists, NoSpace}
 use Rattle.seg_types.specs.Kinds.{size_of}
 use Rattle.seg_types.specs.Names as names
@@ -63,7 +64,7 @@ anonymous-new a c d k zs n h said good len r =
       after = with_object d o;
       left = resized (live d) x;
       at = took.at;
-      value = refl;
+      count = refl;
       met = λ next. perform-new d (live d) ObjectRole (object_len [] (Numbers k zs)) (λ y. next (numbers_in k zs y) (with_object d (numbers_in k zs y))) x placed;
       denotes = denotes-allocated current a c d o n h said took refl (numbers-good current k zs x good serving) (numbers-plain k zs x) (r.said x took.at);
       supported = λ s. supported-with d o s refl;
@@ -100,11 +101,11 @@ anonymous-refused s c k count z writing r =
 
 -- ---- under a key with an entry
 
-growth-place : (a b : Cut) (at : ℕ) (g : Option ℕ) → IsGrowth a b at g → SamePlace a b
+pub growth-place : (a b : Cut) (at : ℕ) (g : Option ℕ) → IsGrowth a b at g → SamePlace a b
 growth-place a b at None h = subst (SamePlace a) (sym h.1) (record { before = refl; after = refl })
 growth-place a b at (Some g) h = h.1.keeps.place
 
-keeps-place : (a b : Cut) (at : ℕ) (t : Table) (g : Option ℕ) → AddKeeps a b at t g → SamePlace a b
+pub keeps-place : (a b : Cut) (at : ℕ) (t : Table) (g : Option ℕ) → AddKeeps a b at t g → SamePlace a b
 keeps-place a b at t None k = k.place
 keeps-place a b at t (Some g) k = k.place
 
@@ -130,7 +131,7 @@ module _ (s : State) (b : IsSegment s.cut.bytes) (i : Index) (e : Key) (key : na
       → (d : Directory) → StandsFor s.cut.bytes d → (object_at d key ≡ None) × IsNewObject c d key (asked.Numbers k (replicate count z)) h
   entered-new c at count h z spelled low high v away r d st =
       let away' = away-in i s.cut d e at st.denotes away in (
-        (lookup-absent i s.cut d e key st.denotes (key-seeks i e key name k new) at away').none,
+        (lookup-absent i s.cut d e key st.denotes (key-seeks i e key name (Scalar k) new) at away').none,
         numbers-entered i s.cut d e key name k (replicate count z) st.denotes new c at (numbers_len k name count) h (equal-good k count z low high v.1) (equal-len k name count z) away' (record {
           growth = r.growth;
           taken = r.taken;
@@ -155,14 +156,14 @@ module _ (s : State) (b : IsSegment s.cut.bytes) (i : Index) (e : Key) (key : na
       → IsAddedObject s.cut c i at (numbers_len k name count) h (SaysEqual k (class_of_index i) name count spelled h)
       → IsStep s (record s { cut = c }) (asked.FindOrConstruct key (asked.Numbers k (replicate count z))) (FoundPair h count)
   entered-makes c at count h z spelled writing low high v away r =
-      makes-found s c key k (replicate count z) h count writing (added-place i s.cut c b.0 at (numbers_len k name count) h _ b.1.denotes r) (length-replicate count z)
+      makes-found s c key (asked.Numbers k (replicate count z)) h count writing (added-place i s.cut c b.0 at (numbers_len k name count) h _ b.1.denotes r) (length-replicate count z)
       (entered-new c at count h z spelled low high v away r)
 
   -- a request is refused
   entered-none : (c : Cut) (at count : ℕ) (z : ℤ) → IsAbsentAt s.cut i e at → IsUnmet s.cut c (place_of i) (numbers_len k name count)
       → (d : Directory) → StandsFor s.cut.bytes d → (object_at d key ≡ None) × IsNoObject c d key (asked.Numbers k (replicate count z))
   entered-none c at count z away r d st = (
-    (lookup-absent i s.cut d e key st.denotes (key-seeks i e key name k new) at (away-in i s.cut d e at st.denotes away)).none,
+    (lookup-absent i s.cut d e key st.denotes (key-seeks i e key name (Scalar k) new) at (away-in i s.cut d e at st.denotes away)).none,
     numbers-refused i s.cut d e key name k (replicate count z) st.denotes new c (numbers_len k name count) (equal-len k name count z) r,
   )
 
@@ -182,4 +183,4 @@ module _ (s : State) (b : IsSegment s.cut.bytes) (i : Index) (e : Key) (key : na
       → IsStep s s (asked.Construct key (asked.Numbers k (replicate count z))) (Refused Exists)
   entered-exists count z at writing there =
       constructs-exists s key (asked.Numbers k (replicate count z)) writing (λ d st.
-      let f = lookup-found i s.cut d e key st.denotes (key-seeks i e key name k new) at (there (table_of i d) (entries_of i d) (denotes-index i s.cut d st.denotes)) in (f.object, f.is))
+      let f = lookup-found i s.cut d e key st.denotes (key-seeks i e key name (Scalar k) new) at (there (table_of i d) (entries_of i d) (denotes-index i s.cut d st.denotes)) in (f.object, f.is))

@@ -1,4 +1,4 @@
--- An object of numbers made under a key with an entry: what the bytes denote, and what the machine does.
+-- An object made under a key with an entry: what the bytes denote, and what the machine does.
 use Rattle.std.proofs.Common.{◌≡◌, refl, sym, ap, subst, ◌∙◌, ℕ, ◌*◌, ◌<◌, ◌≤◌, inl, inr, ℤ, Some, None, Option, List, length, arith}
 use Rattle.std.specs.Prelude.{IsTrue, insert}
 use Rattle.raw_region.specs.Memory.{Cut, bytes_of}
@@ -9,6 +9,8 @@ use Rattle.best_fit.specs.Fit.{added, place, resized}
 use Rattle.best_fit.specs.Heap.{IsAllocated, Keeps, LaysOut, live_of}
 use Rattle.best_fit.specs.Table.{Table, serves}
 use Rattle.best_fit.proofs.Laws.{AllByRecursion-insert, allocated-live, keeps-trans}
+use Rattle.seg_types.specs.declared.kinds.Kind.{Kind}
+use Rattle.seg_types.specs.declared.kinds.Kind.TheVariants.{Scalar}
 use Rattle.seg_types.specs.declared.kinds.ScalarKind.{ScalarKind}
 use Rattle.seg_types.specs.Names as names
 use Rattle.seg_types.specs.Commands as asked
@@ -23,25 +25,25 @@ use Rattle.seg_index.specs.Index.{grown_capacity}
 use Rattle.seg_index.specs.Lookups.{IsPlace}
 use Rattle.segment_manager.specs.Answers.{Refused}
 use Rattle.segment_manager.specs.Denotes.{Denotes, IsObjectAt}
-use Rattle.segment_manager.specs.Directory.{Numbers, Object, Directory, is_good_value, live, object_len, with_object}
+use Rattle.segment_manager.specs.Directory.{Value, Numbers, Object, Directory, count_of, extents_of, is_good_value, kind_of, live, object_len, with_object}
 use Rattle.segment_manager.specs.Indexed.{class_of_index, entries_of, objects_of, table_of, with_table_of}
-use Rattle.segment_manager.specs.NewObjects.{FindsNone, IsAddedObject, IsNewKey, IsRequested, IsRestored, IsUnmet}
-use Rattle.segment_manager.specs.Plan.{Plan, New, Request, bare, class_of, name_of, perform, with_entry, with_new_object}
-use Rattle.segment_manager.specs.Supported.{is_supported, is_supported_object}
+use Rattle.segment_manager.specs.NewObjects.{FindsNone, IsAddedObject, IsNewKey, IsNewKeyOf, IsRequested, IsRestored, IsUnmet}
+use Rattle.segment_manager.specs.Plan.{Plan, New, Request, bare, class_of, name_of, perform, with_entry, with_new_object, with_value}
+use Rattle.segment_manager.specs.Supported.{is_supported, is_supported_object, is_supported_value}
 use Rattle.seg_types.specs.declared.refusals.Refusal.TheVariants.{NoSpace}
-use Rattle.segment_manager.proofs.Added.{IsEntered, entered-denotes, entered-none, entered-some, grown_into}
+use Rattle.segment_manager.proofs.Added.{IsEntered, entered-denotes, entered-none, entered-some, grown_into, place-low}
 use Rattle.segment_manager.proofs.Bridge.{entry-added, lookup-absent}
 use Rattle.segment_manager.proofs.Calling.{denotes-live}
 use Rattle.segment_manager.proofs.HeldIndexes.{denotes-index, handles-length}
 use Rattle.segment_manager.proofs.Kept.{denotes-kept}
-use Rattle.segment_manager.proofs.Made.{IsMade, requested-taken}
+use Rattle.segment_manager.proofs.Made.{IsMade, requested-taken, taken-index}
 use Rattle.segment_manager.proofs.NewBlocks.{allocated-serves}
-use Rattle.segment_manager.proofs.NewKeys.{key-class, key-has, key-name, key-object, key-own, key-seeks, numbers_of}
+use Rattle.segment_manager.proofs.NewKeys.{key-class, key-has, key-name, key-object, key-own, key-seeks, object_of}
 use Rattle.segment_manager.proofs.Requests.{entry-grows, entry-refused, entry-room}
 use Rattle.segment_manager.proofs.Steps.{perform-new, perform-no_space}
 use Rattle.segment_manager.proofs.Supported.{supported-with}
 use Rattle.segment_manager.proofs.Tables.{same-table}
-use Rattle.segment_manager.proofs.Taking.{IsReady, ready, written-taken}
+use Rattle.segment_manager.proofs.Taking.{growth-index, place-high, written-taken}
 
 -- what is made is the object, in a directory that the new bytes denote; and so the machine goes on
 pub record IsNewObject (new : Cut) (d : Directory) (key : names.Key) (content : Content) (h : ℕ) : Type 0 where
@@ -49,7 +51,7 @@ pub record IsNewObject (new : Cut) (d : Directory) (key : names.Key) (content : 
   pub after : Directory
   pub left : LiveSet
   pub at : h ≡ handle object.extent
-  pub value : object.value ≡ bare content
+  pub count : count_of object.value ≡ count_of (bare content)
   pub met : (next : Object → Directory → Plan) → perform d (live d) (with_new_object d key content next) ≡ perform d left (next object after)
   pub denotes : Denotes current new.bytes after
   pub supported : IsTrue (is_supported d) → IsTrue (is_supported after)
@@ -65,6 +67,12 @@ pub record IsMet (d : Directory) (key : names.Key) (content : Content) : Type 0 
   pub after : Directory
   pub left : LiveSet
   pub met : (next : Object → Directory → Plan) → perform d (live d) (with_new_object d key content next) ≡ perform d left (next object after)
+
+-- the same blocks are in use, and nothing in them changed: the bytes denote the same directory
+pub restored-denotes : (a c : Cut) (d : Directory) → Denotes current a.bytes d → IsRestored a c → Denotes current c.bytes d
+restored-denotes a c d said r =
+    denotes-kept current a c d said (subst (LaysOut current c.bytes) (denotes-live current a.bytes d said) r.laid)
+    (subst (λ (l : LiveSet). Keeps a c l.extents) (denotes-live current a.bytes d said) r.keeps)
 
 -- ---- the index grows, or not
 
@@ -124,18 +132,32 @@ entered i a b c e d o at (Some g) k h made x same adds laid keeps = entered-some
 
 -- ---- what the machine does
 
--- the object's block is asked for, once the index has a place
-abbrev object_plan : Index → List ℕ → ScalarKind → List ℤ → (Object → Directory → Plan) → Directory → Plan
-object_plan i name k zs next e =
-    Request (New ObjectRole (object_len name (Numbers k zs))) (λ x. next (numbers_of i name k zs x) (with_object e (numbers_of i name k zs x)))
+-- what a content asks for behind the object's own block, and the value that it becomes
+pub record IsGiven (d : Directory) (l : LiveSet) (content : Content) (v : Value) (left : LiveSet) : Type 0 where
+  pub met : (next : Value → Plan) → perform d l (with_value content next) ≡ perform d left (next v)
 
--- the plan of numbers under a key of an index
-numbers-plan : (i : Index) (d : Directory) (key : names.Key) (name : List ℕ) (k : ScalarKind) (zs : List ℤ) (next : Object → Directory → Plan) → class_of key ≡ class_of_index i → name_of key ≡ name
-    → with_new_object d key (asked.Numbers k zs) next
-    ≡ with_entry d (class_of_index i) (object_plan i name k zs next)
-numbers-plan i d key name k zs next e f = λ j.
-    with_entry d (e j) (λ dir. Request (New ObjectRole (object_len (f j) (Numbers k zs))) (λ x.
-    let o : Object = record { class = e j; name = f j; value = Numbers k zs; extent = x } in next o (with_object dir o)))
+-- numbers ask for nothing more
+pub numbers-given : (d : Directory) (l : LiveSet) (k : ScalarKind) (zs : List ℤ) → IsGiven d l (asked.Numbers k zs) (Numbers k zs) l
+numbers-given d l k zs = record { met = λ next. refl }
+
+-- what it asks for is refused
+abbrev pub IsDenied : Directory → LiveSet → Content → Type 0
+IsDenied d l content = (next : Value → Plan) → perform d l (with_value content next) ≡ (Refused NoSpace, d)
+
+-- the value, and then the object in its block
+abbrev value_plan : Index → List ℕ → Content → (Object → Directory → Plan) → Directory → Extent → Plan
+value_plan i name content next e x = with_value content (λ v. next (object_of i name v x) (with_object e (object_of i name v x)))
+
+-- the object's block is asked for, once the index has a place
+abbrev object_plan : Index → List ℕ → Content → (Object → Directory → Plan) → Directory → Plan
+object_plan i name content next e = Request (New ObjectRole (object_len name (bare content))) (value_plan i name content next e)
+
+-- the plan of an object under a key of an index
+content-plan : (i : Index) (d : Directory) (key : names.Key) (name : List ℕ) (content : Content) (next : Object → Directory → Plan) → class_of key ≡ class_of_index i → name_of key ≡ name
+    → with_new_object d key content next ≡ with_entry d (class_of_index i) (object_plan i name content next)
+content-plan i d key name content next e f = λ j.
+    with_entry d (e j) (λ dir. Request (New ObjectRole (object_len (f j) (bare content))) (λ x.
+    with_value content (λ v. let o : Object = record { class = e j; name = f j; value = v; extent = x } in next o (with_object dir o))))
 
 supported-more : (i : Index) (d : Directory) (t : Table) (o : Object) → IsTrue (is_supported d) → IsTrue (is_supported_object o) → IsTrue (is_supported (with_object (with_table_of i d t) o))
 supported-more index.Named d t o h s = supported-with d o h s
@@ -143,79 +165,110 @@ supported-more index.Unique d t o h s = supported-with d o h s
 
 -- ---- both together
 
-module _ (i : Index) (a : Cut) (d : Directory) (e : Key) (key : names.Key) (name : List ℕ) (k : ScalarKind) (zs : List ℤ) (said : Denotes current a.bytes d) (new : IsNewKey i e key name k) where
-  -- its requests are met, it is written, and its entry is added
-  pub numbers-entered : (c : Cut) (at n h : ℕ) → IsTrue (is_good_value (Numbers k zs)) → n ≡ object_len name (Numbers k zs) → IsPlace (bytes_of a.bytes) e (entries_of i d) (Absent at)
-      → (r : IsAddedObject a c i at n h (λ m. (x : Extent) → h ≡ handle x → IsObjectAt m (numbers_of i name k zs x))) → IsNewObject c d key (asked.Numbers k zs) h
-  numbers-entered c at n h good len away r =
-      let took : IsAllocated current r.requested.between r.written n ObjectRole h = written-taken r.requested.between r.taken r.written n h r.requested.takes r.change in
-      let x : Extent = took.extent in
-      let o : Object = numbers_of i name k zs x in
-      let serving = subst (λ m. IsTrue (serves x ObjectRole m)) len (allocated-serves current r.requested.between r.written n ObjectRole h took) in
-      let is_there = key-object i e key name k zs x new good serving in
-      let made : IsMade r.requested.between r.written o = record { good = is_there; taken = requested-taken r.requested.between r.written n ObjectRole h took; at = r.said x took.at } in
+-- an entry that leads to a handle was made in an index
+pub record IsLed (i : Index) (w c : Cut) (at h : ℕ) (g : Option ℕ) : Type 0 where
+  pub adds : (t : Table) (hs : List ℕ) → IsIndexOf w (place_of i) t hs → Adds w c (place_of i) t (insert hs at h) g
+  pub live : LaysOut current c.bytes (grown_live w (place_of i) g)
+  pub keeps : (t : Table) (hs : List ℕ) → IsIndexOf w (place_of i) t hs → AddKeeps w c (place_of i) t g
+
+module _ (i : Index) (a : Cut) (d : Directory) (e : Key) (key : names.Key) (name : List ℕ) (kind : Kind) (content : Content) (said : Denotes current a.bytes d) (new : IsNewKeyOf i e key name kind) where
+  abbrev plan-of : (next : Object → Directory → Plan) → with_new_object d key content next ≡ with_entry d (class_of_index i) (object_plan i name content next)
+  plan-of next = content-plan i d key name content next (key-class i e key name kind new) (key-name i e key name kind new)
+
+  -- the requests are met
+  pub content-met : (b : Cut) (x : Extent) (v : Value) (left : LiveSet) (g : Option ℕ) → (grows : IsGrowth a b (place_of i) g) → place (live_of b.bytes) (object_len name (bare content)) ObjectRole ≡ Some x
+      → IsGiven d (resized (live_of b.bytes) x) content v left → (next : Object → Directory → Plan)
+      → perform d (live d) (with_new_object d key content next) ≡ perform d left (next (object_of i name v x) (with_object (grown i d a b g grows) (object_of i name v x)))
+  content-met b x v left g grows placed given next =
+      let then : Directory = grown i d a b g grows in
+      ap (perform d (live d)) (plan-of next)
+      ∙ grows-performs i a b d g (object_plan i name content next) said grows
+      ∙ perform-new d (live_of b.bytes) ObjectRole (object_len name (bare content)) (value_plan i name content next then) x placed
+      ∙ given.met (λ v. next (object_of i name v x) (with_object then (object_of i name v x)))
+
+  -- the value's are refused
+  pub content-denied : (b : Cut) (x : Extent) (g : Option ℕ) → (grows : IsGrowth a b (place_of i) g) → place (live_of b.bytes) (object_len name (bare content)) ObjectRole ≡ Some x
+      → IsDenied d (resized (live_of b.bytes) x) content → (next : Object → Directory → Plan) → perform d (live d) (with_new_object d key content next) ≡ (Refused NoSpace, d)
+  content-denied b x g grows placed denied next =
+      let then : Directory = grown i d a b g grows in
+      ap (perform d (live d)) (plan-of next)
+      ∙ grows-performs i a b d g (object_plan i name content next) said grows
+      ∙ perform-new d (live_of b.bytes) ObjectRole (object_len name (bare content)) (value_plan i name content next then) x placed
+      ∙ denied (λ v. next (object_of i name v x) (with_object then (object_of i name v x)))
+
+  -- the index's or the object's are
+  pub content-none : (next : Object → Directory → Plan) (n : ℕ) → n ≡ object_len name (bare content) → FindsNone a (place_of i) n
+      → perform d (live d) (with_new_object d key content next) ≡ (Refused NoSpace, d)
+  content-none next n len (inl full) =
+      let x = denotes-index i a d said in
+      ap (perform d (live d)) (plan-of next)
+      ∙ entry-refused i d (object_plan i name content next) (omega (arith, full.0, count-is i a d x, x.stands.capacity))
+      (sym (λ j. place (denotes-live current a.bytes d said j) (8 * grown_capacity (x.stands.capacity j)) IndexRole) ∙ full.1)
+  content-none next n len (inr r) =
+      ap (perform d (live d)) (plan-of next)
+      ∙ grows-performs i a r.1 d r.0 (object_plan i name content next) said r.2
+      ∙ perform-no_space d (live_of r.1.bytes) ObjectRole (object_len name (bare content)) (value_plan i name content next (grown i d a r.1 r.0 r.2)) (ap (λ m. place (live_of r.1.bytes) m ObjectRole) (sym len) ∙ r.3)
+
+  -- the object is made, and its entry is added
+  pub content-entered : (b w c : Cut) (x : Extent) (v : Value) (left : LiveSet) (at h : ℕ) (g : Option ℕ) → IsGrowth a b (place_of i) g → place (live_of b.bytes) (object_len name (bare content)) ObjectRole ≡ Some x
+      → IsGiven d (resized (live_of b.bytes) x) content v left → kind_of v ≡ kind → count_of v ≡ count_of (bare content) → IsTrue (is_supported_value v) → IsMade b w (object_of i name v x) → h ≡ handle x
+      → IsPlace (bytes_of a.bytes) e (entries_of i d) (Absent at) → IsLed i w c at h g → IsNewObject c d key content h
+  content-entered b w c x v left at h g grows placed given is_kind counts come made is away led =
+      let o : Object = object_of i name v x in
+      let new' : IsNewKeyOf i e key name (kind_of v) = subst (IsNewKeyOf i e key name) (sym is_kind) new in
       let stands = denotes-index i a d said in
-      let ok : IsReady i r.written (table_of i d) (entries_of i d) r.growth = ready i a r.taken r.written n h r.growth (table_of i d) (entries_of i d) stands r.requested r.change in
-      let same : insert (entries_of i d) at (handle x) ≡ entries_of i (with_object d o) = entry-added i a d e key at o said (key-seeks i e key name k new) away (key-has i e key name k zs x new) in
-      let adds = subst (λ g. Adds r.written c (place_of i) (table_of i d) (insert (entries_of i d) at g) r.growth) took.at (r.adds (table_of i d) (entries_of i d) ok.index) in
-      let t : Table = table_then i d a r.requested.between r.growth r.requested.grows in
-      let there : IsEntered i r.written c d t o =
-      entered i a r.requested.between r.written c d o at r.growth said r.requested.grows made ok.index same adds r.live (r.keeps (table_of i d) (entries_of i d) ok.index) in
-      let none = (lookup-absent i a d e key said (key-seeks i e key name k new) at away).none in
-      let keeps = grows-keeps i a r.requested.between r.written d r.growth said r.requested.grows took.keeps in
+      let index : IsIndexOf w (place_of i) (table_of i d) (entries_of i d) =
+      taken-index b w (extents_of o) (place_of i) (table_of i d) (entries_of i d) made.taken (place-low i) (place-high i) (growth-index i a b g (table_of i d) (entries_of i d) grows stands) in
+      let same : insert (entries_of i d) at (handle x) ≡ entries_of i (with_object d o) = entry-added i a d e key at o said (key-seeks i e key name kind new) away (key-has i e key name v x new') in
+      let adds : Adds w c (place_of i) (table_of i d) (insert (entries_of i d) at (handle x)) g =
+      subst (λ n. Adds w c (place_of i) (table_of i d) (insert (entries_of i d) at n) g) is (led.adds (table_of i d) (entries_of i d) index) in
+      let t : Table = table_then i d a b g grows in
+      let there : IsEntered i w c d t o = entered i a b w c d o at g said grows made index same adds led.live (led.keeps (table_of i d) (entries_of i d) index) in
+      let none = (lookup-absent i a d e key said (key-seeks i e key name kind new) at away).none in
       record {
         object = o;
         after = with_object (with_table_of i d t) o;
-        left = resized (live_of r.requested.between.bytes) x;
-        at = took.at;
-        value = refl;
+        left = left;
+        at = is;
+        count = counts;
         met = λ next.
-            ap (perform d (live d)) (numbers-plan i d key name k zs next (key-class i e key name k new) (key-name i e key name k new))
-            ∙ grows-performs i a r.requested.between d r.growth (object_plan i name k zs next) said r.requested.grows
-            ∙ perform-new d (live_of r.requested.between.bytes) ObjectRole (object_len name (Numbers k zs))
-            (λ y. let p : Object = numbers_of i name k zs y in next p (with_object (grown i d a r.requested.between r.growth r.requested.grows) p)) x (ap (λ m. place (live_of r.requested.between.bytes) m ObjectRole) (sym len) ∙ took.placed)
-            ∙ ap (λ dir. perform d (resized (live_of r.requested.between.bytes) x) (next o (with_object dir o))) (grown-is i d a r.requested.between r.growth r.requested.grows);
-        denotes = entered-denotes i a r.written c d t o said keeps is_there made.at refl (key-own i e key name k d zs x new none) there;
-        supported = λ s. supported-more i d t o s refl;
+            content-met b x v left g grows placed given next
+            ∙ ap (λ dir. perform d left (next o (with_object dir o))) (grown-is i d a b g grows);
+        denotes = entered-denotes i a w c d t o said (grows-keeps i a b w d g said grows made.taken.keeps) made.good made.at refl (key-own i e key name v d x new' none) there;
+        supported = λ s. supported-more i d t o s come;
       }
+
+-- ---- numbers
+
+module _ (i : Index) (a : Cut) (d : Directory) (e : Key) (key : names.Key) (name : List ℕ) (k : ScalarKind) (zs : List ℤ) (said : Denotes current a.bytes d) (new : IsNewKey i e key name k) where
+  -- its requests are met, it is written, and its entry is added
+  pub numbers-entered : (c : Cut) (at n h : ℕ) → IsTrue (is_good_value (Numbers k zs)) → n ≡ object_len name (Numbers k zs) → IsPlace (bytes_of a.bytes) e (entries_of i d) (Absent at)
+      → (r : IsAddedObject a c i at n h (λ m. (x : Extent) → h ≡ handle x → IsObjectAt m (object_of i name (Numbers k zs) x))) → IsNewObject c d key (asked.Numbers k zs) h
+  numbers-entered c at n h good len away r =
+      let took : IsAllocated current r.requested.between r.written n ObjectRole h = written-taken r.requested.between r.taken r.written n h r.requested.takes r.change in
+      let x : Extent = took.extent in
+      let serving = subst (λ m. IsTrue (serves x ObjectRole m)) len (allocated-serves current r.requested.between r.written n ObjectRole h took) in
+      let made : IsMade r.requested.between r.written (object_of i name (Numbers k zs) x) =
+      record { good = key-object i e key name (Numbers k zs) x new refl good serving; taken = requested-taken r.requested.between r.written n ObjectRole h took; at = r.said x took.at } in
+      content-entered i a d e key name (Scalar k) (asked.Numbers k zs) said new r.requested.between r.written c x (Numbers k zs) (resized (live_of r.requested.between.bytes) x) at h r.growth r.requested.grows
+      (ap (λ m. place (live_of r.requested.between.bytes) m ObjectRole) (sym len) ∙ took.placed) (numbers-given d (resized (live_of r.requested.between.bytes) x) k zs) refl refl refl made took.at away
+      (record { adds = r.adds; live = r.live; keeps = r.keeps })
 
   -- a request is refused
   pub numbers-refused : (c : Cut) (n : ℕ) → n ≡ object_len name (Numbers k zs) → IsUnmet a c (place_of i) n → IsNoObject c d key (asked.Numbers k zs)
   numbers-refused c n len r = record {
-    refused = λ next.
-        ap (perform d (live d)) (numbers-plan i d key name k zs next (key-class i e key name k new) (key-name i e key name k new)) ∙ none next r.none;
-    denotes = denotes-kept current a c d said (subst (LaysOut current c.bytes) (denotes-live current a.bytes d said) r.restored.laid)
-        (subst (λ (l : LiveSet). Keeps a c l.extents) (denotes-live current a.bytes d said) r.restored.keeps);
+    refused = λ next. content-none i a d e key name (Scalar k) (asked.Numbers k zs) said new next n len r.none;
+    denotes = restored-denotes a c d said r.restored;
   }
-    where
-      none : (next : Object → Directory → Plan) → FindsNone a (place_of i) n → perform d (live d) (with_entry d (class_of_index i) (object_plan i name k zs next)) ≡ (Refused NoSpace, d)
-      none next (inl full) =
-          let x = denotes-index i a d said in
-          entry-refused i d (object_plan i name k zs next) (omega (arith, full.0, count-is i a d x, x.stands.capacity))
-          (sym (λ j. place (denotes-live current a.bytes d said j) (8 * grown_capacity (x.stands.capacity j)) IndexRole) ∙ full.1)
-      none next (inr r) =
-          grows-performs i a r.1 d r.0 (object_plan i name k zs next) said r.2
-          ∙ perform-no_space d (live_of r.1.bytes) ObjectRole (object_len name (Numbers k zs))
-          (λ y. let p : Object = numbers_of i name k zs y in next p (with_object (grown i d a r.1 r.0 r.2) p)) (ap (λ m. place (live_of r.1.bytes) m ObjectRole) (sym len) ∙ r.3)
 
   -- its requests are met
   pub numbers-met : (m : Cut) (n h : ℕ) (g : Option ℕ) → n ≡ object_len name (Numbers k zs) → IsRequested a m (place_of i) n g h → IsMet d key (asked.Numbers k zs)
   numbers-met m n h g len r =
       let x : Extent = r.takes.extent in
-      let then : Directory = grown i d a r.between g r.grows in
       record {
-        object = numbers_of i name k zs x;
-        after = with_object then (numbers_of i name k zs x);
+        object = object_of i name (Numbers k zs) x;
+        after = with_object (grown i d a r.between g r.grows) (object_of i name (Numbers k zs) x);
         left = resized (live_of r.between.bytes) x;
-        met = λ next.
-            ap (perform d (live d)) (numbers-plan i d key name k zs next (key-class i e key name k new) (key-name i e key name k new))
-            ∙ grows-performs i a r.between d g (object_plan i name k zs next) said r.grows
-            ∙ perform-new d (live_of r.between.bytes) ObjectRole (object_len name (Numbers k zs)) (λ y. let p : Object = numbers_of i name k zs y in next p (with_object then p)) x
-            (ap (λ j. place (live_of r.between.bytes) j ObjectRole) (sym len) ∙ r.takes.placed);
+        met = content-met i a d e key name (Scalar k) (asked.Numbers k zs) said new r.between x (Numbers k zs) (resized (live_of r.between.bytes) x) g r.grows
+            (ap (λ j. place (live_of r.between.bytes) j ObjectRole) (sym len) ∙ r.takes.placed) (numbers-given d (resized (live_of r.between.bytes) x) k zs);
       }
-
--- the same blocks are in use, and nothing in them changed: the bytes denote the same directory
-pub restored-denotes : (a c : Cut) (d : Directory) → Denotes current a.bytes d → IsRestored a c → Denotes current c.bytes d
-restored-denotes a c d said r =
-    denotes-kept current a c d said (subst (LaysOut current c.bytes) (denotes-live current a.bytes d said) r.laid)
-    (subst (λ (l : LiveSet). Keeps a c l.extents) (denotes-live current a.bytes d said) r.keeps)

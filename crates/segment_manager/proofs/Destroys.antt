@@ -1,13 +1,14 @@
 -- The calls that destroy objects, as the code makes them.
-use Rattle.std.proofs.Common.{◌≡◌, refl, sym, ap, subst, ◌∙◌, ℕ, true, false, ◌==◌, Some, None, Option, List, ◌∷◌, slice_get}
-use Rattle.std.specs.Prelude.{IsTrue}
-use Rattle.std.proofs.lemmas.Option.{same_Some}
+use Rattle.std.proofs.Common.{◌≡◌, refl, sym, ap, subst, ◌∙◌, ℕ, ◌<◌, true, false, ◌==◌, Some, None, Option, List, [], ◌∷◌, arith}
+use Rattle.std.specs.Prelude.{remove, slice_get}
+use Rattle.std.proofs.lemmas.Option.{same_Some, slice_get_within}
 use Rattle.raw_region.specs.Memory.{Cut, SamePlace, bytes_of}
 use Rattle.raw_region.specs.Format.{current}
 use Rattle.raw_region.proofs.Laws.{SamePlace-trans}
 use Rattle.best_fit.specs.Extents.{handle}
-use Rattle.best_fit.specs.Heap.{IsReleased, is_live_in}
+use Rattle.best_fit.specs.Heap.{IsReleased, LaysOut, is_live_in, live_of}
 use Rattle.best_fit.specs.Table.{Table}
+use Rattle.best_fit.proofs.Laws.{lay_out_one}
 use Rattle.seg_types.specs.declared.kinds.Class.{Class}
 use Rattle.seg_types.specs.declared.kinds.Class.TheVariants as class
 use Rattle.seg_types.specs.declared.refusals.Refusal.TheVariants.{NotFound}
@@ -17,30 +18,35 @@ use Rattle.seg_types.specs.Commands as asked
 use Rattle.seg_index.specs.declared.index.Index.{Index}
 use Rattle.seg_index.specs.declared.index.Index.TheVariants as index
 use Rattle.seg_index.specs.declared.keys.Key.{Key}
+use Rattle.seg_index.specs.declared.keys.Lookup.{Lookup}
 use Rattle.seg_index.specs.declared.keys.Lookup.TheVariants.{Absent, Found}
-use Rattle.seg_index.specs.Held.{IsIndexOf, place_of}
+use Rattle.seg_index.specs.Growth.{KeepsRest, beside_table}
+use Rattle.seg_index.specs.Held.{HasIndex, IsIndexOf, entry_count, place_of}
 use Rattle.seg_index.specs.Lookups.{IsPlace}
 use Rattle.segment_manager.specs.Answers.{Refused, Truth}
 use Rattle.segment_manager.specs.Denotes.{Denotes}
-use Rattle.segment_manager.specs.Destroyed.{IsRemovedObject, LeadsToBlock}
-use Rattle.segment_manager.specs.Directory.{Object, Directory, is_class, live, object_at, without_object}
+use Rattle.segment_manager.specs.Destroyed.{Becomes, Empties, HoldsEntry, HoldsObject, RemovesAnonymous, RemovesEntry, emptied}
+use Rattle.segment_manager.specs.Directory.{Object, Directory, is_class, object_at, without_object}
+use Rattle.segment_manager.specs.Found.{is_object_at}
 use Rattle.segment_manager.specs.Indexed.{Seeks, class_of_index, entries_of, objects_of, order_of, table_of}
-use Rattle.segment_manager.specs.Listed.{HasEntry}
+use Rattle.segment_manager.specs.Listed.{HasEntry, IsAnonymousAt}
 use Rattle.segment_manager.specs.Plan.{Plan, Reply}
-use Rattle.segment_manager.specs.State.{IsSegment, IsStep, StandsFor, State}
-use Rattle.segment_manager.specs.Step.{effect, is_read_only, step}
-use Rattle.segment_manager.specs.Supported.{is_supported_object}
-use Rattle.segment_manager.proofs.Bridge.{IsEntryFor, entry-removed, lookup-absent, lookup-found}
-use Rattle.segment_manager.proofs.Calling.{denotes-live, object-live}
+use Rattle.segment_manager.specs.State.{Answers, IsSegment, IsStep, StandsFor, State}
+use Rattle.segment_manager.specs.Step.{changed, effect, is_read_only, step}
+use Rattle.segment_manager.proofs.Bridge.{IsEntryFor, entry-removed, in-handles, lookup-absent, lookup-found}
+use Rattle.segment_manager.proofs.Calling.{denotes-live, denotes-released, object-live}
+use Rattle.segment_manager.proofs.Emptied.{changed-entries, changed-in, changed-others, emptied-alone, emptied-kind}
+use Rattle.segment_manager.proofs.EntryPlaces.{all-at, at-handle, of-class}
+use Rattle.segment_manager.proofs.Here.{IsHere}
 use Rattle.segment_manager.proofs.HeldIndexes.{denotes-index}
-use Rattle.segment_manager.proofs.Denoted.{IsPlain}
-use Rattle.segment_manager.proofs.Numbers.{destroyed}
-use Rattle.segment_manager.proofs.Objects.{key-found}
-use Rattle.segment_manager.proofs.EntryPlaces.{all-at, of-class}
+use Rattle.segment_manager.proofs.Listed.{object-here}
+use Rattle.segment_manager.proofs.Live.{IsIn}
+use Rattle.segment_manager.proofs.Objects.{found-handle, key-found}
 use Rattle.segment_manager.proofs.Ranks.{all-ordered}
-use Rattle.segment_manager.proofs.Removed.{IsGone, removed-denotes}
+use Rattle.segment_manager.proofs.Removed.{IsGone, IsLeft, removed-denotes}
+use Rattle.segment_manager.proofs.Rewritten.{with_value}
 use Rattle.segment_manager.proofs.Steps.{by_no_change, by_step, lands, open-writing, step-refuse, step-reply, with-found, with-not_found}
-use Rattle.segment_manager.proofs.Supported.{found-supported, supported-alone, supported-without}
+use Rattle.segment_manager.proofs.Supported.{supported-without}
 
 -- ---- an object with an entry
 
@@ -58,58 +64,168 @@ entry-class i d at o e =
     (all-at (λ p. is_class (class_of_index i) p ≡ true) (objects_of i d) at o
     (all-ordered (λ p. is_class (class_of_index i) p ≡ true) (class_of_index i) (order_of i) d.objects (of-class (class_of_index i) d.objects)) e)
 
--- its entry was removed and its block released: the directory without it is what the bytes denote
-pub removed-object : (i : Index) (a c : Cut) (d : Directory) (e : Key) (key : names.Key) (at : ℕ) (o : Object) → Denotes current a.bytes d → Seeks i e key
-    → IsPlace (bytes_of a.bytes) e (entries_of i d) (Found at) → object_at d key ≡ Some o → IsTrue (is_supported_object o) → IsRemovedObject a c i at → Denotes current c.bytes (without_object d o)
-removed-object i a c d e key at o k q p h s r =
-    let there : IsEntryFor i d key at = lookup-found i a d e key k q at p in
-    let same : there.object ≡ o = same_Some there.object o (sym there.is ∙ h) in
-    let x = denotes-index i a d k in
-    let leads : r.handle ≡ handle o.extent =
-    same_Some r.handle (handle o.extent) (sym (r.leads (table_of i d) (entries_of i d) x) ∙ there.leads ∙ ap (λ (y : Object). Some (handle y.extent)) same) in
-    let released : IsReleased current r.between c (handle o.extent) = subst (IsReleased current r.between c) leads r.released in
-    removed-denotes i a r.between c d o k (key-found current d key o k.directory h) (ap (λ (y : Object). y.class) (sym same) ∙ entry-class i d at there.object there.stands)
-    (record {
-      live = r.live;
-      stands = subst (IsIndexOf r.between (place_of i) (table_of i d)) (entry-removed i a d e key at o k q p h) (r.removes (table_of i d) (entries_of i d) x);
-      keeps = r.keeps (table_of i d) (entries_of i d) x;
-    })
-    (subst (IsGone r.between c) (ap (λ xs. o.extent ∷ xs) (sym (supported-alone o s))) (record { live = released.live; keeps = released.keeps }))
+-- it stands in the heap with the other entries
+pub entry-index : (c : Cut) (i : Index) (at : ℕ) → HoldsEntry c.bytes i at → HasIndex c (place_of i)
+entry-index c i at x = record { table = table_of i x.directory; handles = entries_of i x.directory; index = denotes-index i c x.directory x.stands.denotes }
 
-pub removed-place : (i : Index) (a c : Cut) (d : Directory) (at : ℕ) → Denotes current a.bytes d → IsRemovedObject a c i at → SamePlace a c
-removed-place i a c d at k r =
-    SamePlace-trans a r.between c (r.keeps (table_of i d) (entries_of i d) (denotes-index i a d k)).place r.released.keeps.place
+pub entry-below : (c : Cut) (i : Index) (at : ℕ) → HoldsEntry c.bytes i at → at < entry_count c (place_of i)
+entry-below c i at x =
+    let d : Directory = x.directory in
+    let stands : IsIndexOf c (place_of i) (table_of i d) (entries_of i d) = denotes-index i c d x.stands.denotes in
+    omega (arith, slice_get_within (entries_of i d) at (handle x.object.extent) (at-handle (objects_of i d) at x.object x.is), stands.stands.count)
 
--- the entry that was found leads to a block in use
-pub leads-to_block : (c : Cut) (b : IsSegment c.bytes) (i : Index) (e : Key) (key : names.Key) (at : ℕ) → Seeks i e key
-    → ((t : Table) (hs : List ℕ) → IsIndexOf c (place_of i) t hs → IsPlace (bytes_of c.bytes) e hs (Found at)) → LeadsToBlock c i at
-leads-to_block c b i e key at q p =
-    let d = b.0 in
-    let k = b.1.denotes in
-    let x = denotes-index i c d k in
-    let there : IsEntryFor i d key at = lookup-found i c d e key k q at (p (table_of i d) (entries_of i d) x) in
-    let alive : is_live_in (live d) (handle there.object.extent) ≡ true = object-live d there.object (key-found current d key there.object k.directory there.is) k.directory.proper in
-    (table_of i d, entries_of i d, handle there.object.extent, x, there.leads, ap (λ l. is_live_in l (handle there.object.extent)) (denotes-live current c.bytes d k) ∙ alive)
+-- a handle that stands at the entry
+abbrev pub LeadsTo : Cut → Index → ℕ → ℕ → Type 0
+LeadsTo c i at h = (t : Table) (hs : List ℕ) → IsIndexOf c (place_of i) t hs → slice_get hs at ≡ Some h
+
+module _ (a : Cut) (i : Index) (at h : ℕ) (leads : LeadsTo a i at h) where
+  -- is its object's
+  entry-handle : (d : Directory) (o : Object) → Denotes current a.bytes d → slice_get (objects_of i d) at ≡ Some o → h ≡ handle o.extent
+  entry-handle d o k e = same_Some h (handle o.extent) (sym (leads (table_of i d) (entries_of i d) (denotes-index i a d k)) ∙ at-handle (objects_of i d) at o e)
+
+  entry-found : (d : Directory) (o : Object) → Denotes current a.bytes d → slice_get (objects_of i d) at ≡ Some o → object_at d (names.ByHandle h) ≡ Some o
+  entry-found d o k e =
+      subst (λ g. object_at d (names.ByHandle g) ≡ Some o) (sym (entry-handle d o k e))
+      (all-at (λ (p : Object). object_at d (names.ByHandle (handle p.extent)) ≡ Some p) (objects_of i d) at o (in-handles current i d k.directory) e)
+
+  pub entry-object : HoldsEntry a.bytes i at → HoldsObject a.bytes h
+  entry-object x = record { directory = x.directory; stands = x.stands; object = x.object; is = entry-found x.directory x.object x.stands.denotes x.is }
+
+-- The entry at a place was removed. Its block stays, and so does all else.
+pub record IsUnlisted (i : Index) (old new : Cut) (at : ℕ) : Type 0 where
+  pub removes : (t : Table) (hs : List ℕ) → IsIndexOf old (place_of i) t hs → IsIndexOf new (place_of i) t (remove hs at)
+  pub live : LaysOut current new.bytes (live_of old.bytes)
+  pub keeps : (t : Table) (hs : List ℕ) → IsIndexOf old (place_of i) t hs → KeepsRest old new (place_of i) (beside_table t (live_of old.bytes).extents)
+
+-- ---- once its contents are released
+
+-- an object of a handle, and the directory with its value emptied, which the bytes denote then
+module _ (a b : Cut) (h : ℕ) (empties : Empties a b h) (d : Directory) (o : Object) (k : StandsFor a.bytes d) (e : object_at d (names.ByHandle h) ≡ Some o) where
+  abbrev emptied_object : Object
+  emptied_object = with_value o (emptied o.value)
+
+  abbrev emptied_directory : Directory
+  emptied_directory = changed d o (emptied o.value)
+
+  is-in : IsIn d o
+  is-in = key-found current d (names.ByHandle h) o k.denotes.directory e
+
+  emptied-in : IsIn emptied_directory emptied_object
+  emptied-in = changed-in d o is-in (emptied o.value)
+
+  emptied-denotes : Denotes current b.bytes emptied_directory
+  emptied-denotes = (empties d o k e).denotes
+
+  -- its own block is still in use
+  still-live : is_live_in (live_of b.bytes) h ≡ true
+  still-live =
+      let at : h ≡ handle o.extent = found-handle h d.objects o (record { is = e }) in
+      (λ j. is_live_in (denotes-live current b.bytes emptied_directory emptied-denotes j) (at j)) ∙ object-live emptied_directory emptied_object emptied-in emptied-denotes.directory.proper
+
+  -- an index has the entries that it had
+  emptied-index : (i : Index) → IsIndexOf b (place_of i) (table_of i emptied_directory) (entries_of i d)
+  emptied-index i =
+      subst (IsIndexOf b (place_of i) (table_of i emptied_directory)) (changed-entries d o is-in i (emptied o.value) (emptied-kind o.value)) (denotes-index i b emptied_directory emptied-denotes)
+
+  -- where its own block was released and nothing else, and it has no key
+  anonymous-gone : (c : Cut) → o.class ≡ class.Anonymous → IsReleased current b c h → Becomes a c (without_object d o)
+  anonymous-gone c is r =
+      let at : h ≡ handle o.extent = found-handle h d.objects o (record { is = e }) in
+      record {
+        place = SamePlace-trans a b c (empties d o k e).place r.keeps.place;
+        denotes = subst (Denotes current c.bytes) (changed-others d o is-in (emptied o.value))
+            (denotes-released current b c emptied_directory emptied_object emptied-denotes emptied-in (record { class = is; alone = emptied-alone o.value })
+            (subst (IsReleased current b c) at r));
+      }
+
+  -- where an entry was removed that it has, and then its own block was released
+  entry-gone : (c f : Cut) (i : Index) (at : ℕ) → slice_get (objects_of i d) at ≡ Some o → IsUnlisted i b c at → IsReleased current c f h → Becomes a f (without_object d o)
+  entry-gone c f i at there u r =
+      let t : Table = table_of i emptied_directory in
+      let own : h ≡ handle o.extent = found-handle h d.objects o (record { is = e }) in
+      let released : IsReleased current c f (handle o.extent) = subst (IsReleased current c f) own r in
+      let rest : without_object emptied_directory emptied_object ≡ without_object d o = changed-others d o is-in (emptied o.value) in
+      let before : IsIndexOf b (place_of i) t (entries_of i d) = emptied-index i in
+      let less : remove (entries_of i d) at ≡ entries_of i (without_object emptied_directory emptied_object) =
+      entry-removed i d at o k.denotes.directory there ∙ ap (entries_of i) (sym rest) in
+      let left : IsLeft i b c t (entries_of i (without_object emptied_directory emptied_object)) = record {
+        live = u.live;
+        stands = subst (IsIndexOf c (place_of i) t) less (u.removes t (entries_of i d) before);
+        keeps = u.keeps t (entries_of i d) before;
+      } in
+      let none : IsGone c f (o.extent ∷ []) = record { live = released.live; keeps = released.keeps } in
+      record {
+        place = SamePlace-trans a b f (empties d o k e).place (SamePlace-trans b c f (u.keeps t (entries_of i d) before).place r.keeps.place);
+        denotes = subst (Denotes current f.bytes) rest
+            (removed-denotes i b c f emptied_directory emptied_object emptied-denotes emptied-in (entry-class i d at o there) left
+            (subst (IsGone c f) (ap (λ xs. o.extent ∷ xs) (sym (emptied-alone o.value))) none));
+      }
+
+-- the same of the object that an entry leads to
+module _ (a b : Cut) (i : Index) (at h : ℕ) (leads : LeadsTo a i at h) (empties : Empties a b h) where
+  module _ (x : HoldsEntry a.bytes i at) where
+    abbrev held : object_at x.directory (names.ByHandle h) ≡ Some x.object
+    held = entry-found a i at h leads x.directory x.object x.stands.denotes x.is
+
+    index-there : IsIndexOf b (place_of i) (table_of i (changed x.directory x.object (emptied x.object.value))) (entries_of i x.directory)
+    index-there = emptied-index a b h empties x.directory x.object x.stands held i
+
+    pub index-still : HasIndex b (place_of i)
+    index-still = record { table = table_of i (changed x.directory x.object (emptied x.object.value)); handles = entries_of i x.directory; index = index-there }
+
+    pub below-still : at < entry_count b (place_of i)
+    below-still =
+        let d : Directory = x.directory in
+        omega (arith, slice_get_within (entries_of i d) at (handle x.object.extent) (at-handle (objects_of i d) at x.object x.is), index-there.stands.count)
+
+    -- its block is in use, also where the entry is removed
+    pub block-still : (c : Cut) → LaysOut current c.bytes (live_of b.bytes) → is_live_in (live_of c.bytes) h ≡ true
+    block-still c l =
+        ap (λ s. is_live_in s h) (lay_out_one current c.bytes (live_of b.bytes) l) ∙ still-live a b h empties x.directory x.object x.stands held
+
+  pub removes-entry : (c f : Cut) → IsUnlisted i b c at → IsReleased current c f h → RemovesEntry a f i at
+  removes-entry c f u r d o k there = entry-gone a b h empties d o k (entry-found a i at h leads d o k.denotes there) c f i at there u r
+
+-- and of one without a key
+module _ (a b : Cut) (h : ℕ) (empties : Empties a b h) where
+  pub own-still : HoldsObject a.bytes h → is_live_in (live_of b.bytes) h ≡ true
+  own-still x = still-live a b h empties x.directory x.object x.stands x.is
+
+  pub removes-anonymous : (c : Cut) → IsReleased current b c h → RemovesAnonymous a c h
+  removes-anonymous c r d o k e class = anonymous-gone a b h empties d o k e c class r
 
 -- ---- destroying by a key with an entry
 
+-- what a look-up ends with in the index of a heap
+abbrev pub Ends : Cut → Index → Key → Lookup → Type 0
+Ends c i e r = (t : Table) (hs : List ℕ) → IsIndexOf c (place_of i) t hs → IsPlace (bytes_of c.bytes) e hs r
+
+found-for : (c : Cut) (i : Index) (e : Key) (key : names.Key) (at : ℕ) (d : Directory) → Denotes current c.bytes d → Seeks i e key → Ends c i e (Found at) → IsEntryFor i d key at
+found-for c i e key at d k q p = lookup-found i c d e key k q at (p (table_of i d) (entries_of i d) (denotes-index i c d k))
+
+-- the entry that was found is an object's
+pub found-entry : (c : Cut) (b : IsSegment c.bytes) (i : Index) (e : Key) (key : names.Key) (at : ℕ) → Seeks i e key → Ends c i e (Found at) → HoldsEntry c.bytes i at
+found-entry c b i e key at q p =
+    let there : IsEntryFor i b.0 key at = found-for c i e key at b.0 b.1.denotes q p in record { directory = b.0; stands = b.1; object = there.object; is = there.stands }
+
+removed-place : (s : State) (c : Cut) (i : Index) (at : ℕ) → HoldsEntry s.cut.bytes i at → RemovesEntry s.cut c i at → SamePlace s.cut c
+removed-place s c i at x r = (r x.directory x.object x.stands x.is).place
+
 -- the look-up found its entry
 pub destroys-entered : (s : State) (c : Cut) (i : Index) (e : Key) (key : names.Key) (at : ℕ) → is_read_only s.mode ≡ false → IsSegment s.cut.bytes → Seeks i e key
-    → ((t : Table) (hs : List ℕ) → IsIndexOf s.cut (place_of i) t hs → IsPlace (bytes_of s.cut.bytes) e hs (Found at)) → IsRemovedObject s.cut c i at
-    → IsStep s (record s { cut = c }) (asked.Destroy key) (Truth true)
+    → Ends s.cut i e (Found at) → RemovesEntry s.cut c i at → IsStep s (record s { cut = c }) (asked.Destroy key) (Truth true)
 destroys-entered s c i e key at writing b q p r =
-    by_step s (record s { cut = c }) (asked.Destroy key) (Truth true) (record { mode = refl; place = removed-place i s.cut c b.0 at b.1.denotes r }) (λ d k.
-    let p' = p (table_of i d) (entries_of i d) (denotes-index i s.cut d k.denotes) in
-    let there : IsEntryFor i d key at = lookup-found i s.cut d e key k.denotes q at p' in
+    by_step s (record s { cut = c }) (asked.Destroy key) (Truth true)
+    (record { mode = refl; place = removed-place s c i at (found-entry s.cut b i e key at q p) r }) (λ d k.
+    let there : IsEntryFor i d key at = found-for s.cut i e key at d k.denotes q p in
     lands (record s { cut = c }) (step s.mode d (asked.Destroy key)) (Truth true) (without_object d there.object) (record {
       is = step-reply s.mode d (asked.Destroy key) (Truth true) (without_object d there.object) (open-writing s.mode (asked.Destroy key) writing)
           (ap (λ (r : Option Object). elim r as (λ _. Plan) [ None ↦ Reply (Truth false) d | Some o ↦ Reply (Truth true) (without_object d o) ]) there.is);
-      denotes = removed-object i s.cut c d e key at there.object k.denotes q p' there.is (found-supported d key there.object k.supported there.is) r;
+      denotes = (r d there.object k there.stands).denotes;
     }) (supported-without d there.object k.supported))
 
 -- or there is none
-pub destroys-none : (s : State) (i : Index) (e : Key) (key : names.Key) (at : ℕ) → is_read_only s.mode ≡ false → Seeks i e key
-    → ((t : Table) (hs : List ℕ) → IsIndexOf s.cut (place_of i) t hs → IsPlace (bytes_of s.cut.bytes) e hs (Absent at))
+pub destroys-none : (s : State) (i : Index) (e : Key) (key : names.Key) (at : ℕ) → is_read_only s.mode ≡ false → Seeks i e key → Ends s.cut i e (Absent at)
     → IsStep s s (asked.Destroy key) (Truth false)
 destroys-none s i e key at writing q p =
     by_no_change s (asked.Destroy key) (Truth false) (λ d k.
@@ -122,29 +238,44 @@ destroys-none s i e key at writing q p =
 ptr-plan : (d : Directory) (h : ℕ) (o : Object) → object_at d (names.ByHandle h) ≡ Some o → effect d (asked.DestroyPtr h) ≡ Reply (Truth true) (without_object d o)
 ptr-plan d h o e = with-found d (names.ByHandle h) o (λ o. Reply (Truth true) (without_object d o)) e
 
--- its entry was removed and its block released
-pub destroys-ptr : (s : State) (c : Cut) (i : Index) (e : Key) (h at : ℕ) → is_read_only s.mode ≡ false → IsSegment s.cut.bytes → ((d : Directory) → StandsFor s.cut.bytes d → HasEntry i e d h)
-    → ((t : Table) (hs : List ℕ) → IsIndexOf s.cut (place_of i) t hs → IsPlace (bytes_of s.cut.bytes) e hs (Found at)) → IsRemovedObject s.cut c i at
+-- the object of the handle is gone from each directory
+destroys-object : (s : State) (c : Cut) (h : ℕ) → is_read_only s.mode ≡ false → IsSegment s.cut.bytes
+    → ((d : Directory) → StandsFor s.cut.bytes d → (o : Object) × ((object_at d (names.ByHandle h) ≡ Some o) × Becomes s.cut c (without_object d o)))
     → IsStep s (record s { cut = c }) (asked.DestroyPtr h) (Truth true)
-destroys-ptr s c i e h at writing b each p r =
-    by_step s (record s { cut = c }) (asked.DestroyPtr h) (Truth true) (record { mode = refl; place = removed-place i s.cut c b.0 at b.1.denotes r }) (λ d k.
-    let x : HasEntry i e d h = each d k in
-    lands (record s { cut = c }) (step s.mode d (asked.DestroyPtr h)) (Truth true) (without_object d x.object) (record {
-      is = step-reply s.mode d (asked.DestroyPtr h) (Truth true) (without_object d x.object) (open-writing s.mode (asked.DestroyPtr h) writing) (ptr-plan d h x.object x.is);
-      denotes = removed-object i s.cut c d e x.key at x.object k.denotes x.seeks (p (table_of i d) (entries_of i d) (denotes-index i s.cut d k.denotes)) x.found
-          (found-supported d (names.ByHandle h) x.object k.supported x.is) r;
-    }) (supported-without d x.object k.supported))
-
--- the block of an object without a key was released
-pub destroys-anonymous : (s : State) (c : Cut) (h : ℕ) → is_read_only s.mode ≡ false
-    → ((d : Directory) → StandsFor s.cut.bytes d → (o : Object) × (object_at d (names.ByHandle h) ≡ Some o) × (o.class ≡ class.Anonymous)) → IsReleased current s.cut c h
-    → IsStep s (record s { cut = c }) (asked.DestroyPtr h) (Truth true)
-destroys-anonymous s c h writing each r =
-    by_step s (record s { cut = c }) (asked.DestroyPtr h) (Truth true) (record { mode = refl; place = r.keeps.place }) (λ d k.
+destroys-object s c h writing b each =
+    by_step s (record s { cut = c }) (asked.DestroyPtr h) (Truth true) (record { mode = refl; place = (each b.0 b.1).1.1.place }) (λ d k.
     let x = each d k in
-    let plain : IsPlain x.0 = record { class = x.2; alone = supported-alone x.0 (found-supported d (names.ByHandle h) x.0 k.supported x.1) } in
-    lands (record s { cut = c }) (step s.mode d (asked.DestroyPtr h)) (Truth true) (without_object d x.0) (destroyed s.mode s.cut c d h x.0 k.denotes writing x.1 plain r)
-    (supported-without d x.0 k.supported))
+    lands (record s { cut = c }) (step s.mode d (asked.DestroyPtr h)) (Truth true) (without_object d x.0) (record {
+      is = step-reply s.mode d (asked.DestroyPtr h) (Truth true) (without_object d x.0) (open-writing s.mode (asked.DestroyPtr h) writing) (ptr-plan d h x.0 x.1.0);
+      denotes = x.1.1.denotes;
+    }) (supported-without d x.0 k.supported))
+
+-- the entry of the object is found
+abbrev pub HasEntryIn : State → Index → Key → ℕ → Type 0
+HasEntryIn s i e h = (d : Directory) → StandsFor s.cut.bytes d → HasEntry i e d h
+
+pub own-entry : (s : State) (b : IsSegment s.cut.bytes) (i : Index) (e : Key) (h at : ℕ) → HasEntryIn s i e h → Ends s.cut i e (Found at) → HoldsEntry s.cut.bytes i at
+own-entry s b i e h at each p = let x : HasEntry i e b.0 h = each b.0 b.1 in found-entry s.cut b i e x.key at x.seeks p
+
+-- it went with its entry
+pub destroys-ptr : (s : State) (c : Cut) (i : Index) (e : Key) (h at : ℕ) → is_read_only s.mode ≡ false → IsSegment s.cut.bytes → HasEntryIn s i e h → Ends s.cut i e (Found at)
+    → RemovesEntry s.cut c i at → IsStep s (record s { cut = c }) (asked.DestroyPtr h) (Truth true)
+destroys-ptr s c i e h at writing b each p r =
+    destroys-object s c h writing b (λ d k.
+    let x : HasEntry i e d h = each d k in
+    let there : IsEntryFor i d x.key at = found-for s.cut i e x.key at d k.denotes x.seeks p in
+    let same : there.object ≡ x.object = same_Some there.object x.object (sym there.is ∙ x.found) in
+    (x.object, (x.is, subst (λ o. Becomes s.cut c (without_object d o)) same (r d there.object k there.stands))))
+
+-- or it had no key
+pub destroys-anonymous : (s : State) (c : Cut) (h : ℕ) → is_read_only s.mode ≡ false → IsSegment s.cut.bytes → IsAnonymousAt s h → RemovesAnonymous s.cut c h
+    → IsStep s (record s { cut = c }) (asked.DestroyPtr h) (Truth true)
+destroys-anonymous s c h writing b each r =
+    destroys-object s c h writing b (λ d k. let x = each d k in (x.0, (x.1, r d x.0 k x.1 x.2)))
+
+-- an object has the handle
+pub own-object : (s : State) (h : ℕ) → IsSegment s.cut.bytes → Answers s (λ d. is_object_at d h) true → HoldsObject s.cut.bytes h
+own-object s h b a = let x : IsHere s.cut.bytes b.0 (names.ByHandle h) h = object-here s h a b.0 b.1 in record { directory = b.0; stands = b.1; object = x.object; is = x.is }
 
 -- no object has the handle
 pub destroys-no_ptr : (s : State) (h : ℕ) → is_read_only s.mode ≡ false → ((d : Directory) → StandsFor s.cut.bytes d → object_at d (names.ByHandle h) ≡ None)

@@ -1,9 +1,7 @@
 -- An object found under a key, or constructed where there is none, as a step of the machine.
-use Rattle.std.proofs.Common.{◌≡◌, refl, sym, ap, ◌∙◌, ℕ, ℤ, Bool, true, false, Some, None, Option, Result, Ok, Err, List, length, if◌then◌else◌}
+use Rattle.std.proofs.Common.{◌≡◌, refl, sym, ap, ◌∙◌, ℕ, Bool, true, false, Some, None, Option, Result, Ok, Err, if◌then◌else◌}
 use Rattle.raw_region.specs.Memory.{Cut, SamePlace}
 use Rattle.best_fit.specs.Extents.{handle}
-use Rattle.seg_types.specs.declared.kinds.Kind.TheVariants.{Scalar}
-use Rattle.seg_types.specs.declared.kinds.ScalarKind.{ScalarKind}
 use Rattle.seg_types.specs.declared.refusals.Refusal.{Refusal}
 use Rattle.seg_types.specs.declared.refusals.Refusal.TheVariants.{NoSpace, WrongKind}
 use Rattle.seg_types.specs.Kinds.{same_kind}
@@ -14,7 +12,7 @@ use Rattle.segment_manager.specs.Answers.{Answer, Found, Refused}
 use Rattle.segment_manager.specs.Directory.{Object, Directory, count_of, kind_of, object_at}
 use Rattle.segment_manager.specs.Found.{handle_at, pair_answer}
 use Rattle.segment_manager.specs.Plan.{Plan, Refuse, Reply, bare, with_new_object}
-use Rattle.segment_manager.specs.Standing.{StandsAt, pair_in}
+use Rattle.segment_manager.specs.Standing.{StandsAt, pair_of_kind}
 use Rattle.segment_manager.specs.State.{Answers, IsStep, StandsFor, State}
 use Rattle.segment_manager.specs.Step.{found, is_read_only, step}
 use Rattle.segment_manager.proofs.Constructed.{IsNewObject, IsNoObject}
@@ -31,17 +29,17 @@ finds d key content r = elim r as (λ _. Plan) [
 -- ---- no object has the key
 
 -- one is made
-pub makes-found : (old : State) (new : Cut) (key : Key) (k : ScalarKind) (zs : List ℤ) (h count : ℕ) → is_read_only old.mode ≡ false → SamePlace old.cut new → length zs ≡ count
-    → ((d : Directory) → StandsFor old.cut.bytes d → (object_at d key ≡ None) × IsNewObject new d key (asked.Numbers k zs) h)
-    → IsStep old (record old { cut = new }) (asked.FindOrConstruct key (asked.Numbers k zs)) (Found h count)
-makes-found old new key k zs h count writing place many each =
-    let c = asked.FindOrConstruct key (asked.Numbers k zs) in
+pub makes-found : (old : State) (new : Cut) (key : Key) (content : Content) (h count : ℕ) → is_read_only old.mode ≡ false → SamePlace old.cut new → count_of (bare content) ≡ count
+    → ((d : Directory) → StandsFor old.cut.bytes d → (object_at d key ≡ None) × IsNewObject new d key content h)
+    → IsStep old (record old { cut = new }) (asked.FindOrConstruct key content) (Found h count)
+makes-found old new key content h count writing place many each =
+    let c = asked.FindOrConstruct key content in
     by_step old (record old { cut = new }) c (Found h count) (record { mode = refl; place = place }) (λ d st.
-    let both : (object_at d key ≡ None) × IsNewObject new d key (asked.Numbers k zs) h = each d st in
-    let n : IsNewObject new d key (asked.Numbers k zs) h = both.1 in
-    let said : found n.object ≡ Found h count = (λ j. Found (sym n.at j) (count_of (n.value j))) ∙ ap (Found h) many in
+    let both : (object_at d key ≡ None) × IsNewObject new d key content h = each d st in
+    let n : IsNewObject new d key content h = both.1 in
+    let said : found n.object ≡ Found h count = (λ j. Found (sym n.at j) (n.count j)) ∙ ap (Found h) many in
     lands (record old { cut = new }) (step old.mode d c) (Found h count) n.after (record {
-      is = step-plan old.mode d c (with_new_object d key (asked.Numbers k zs) (λ o e. Reply (found o) e)) (open-writing old.mode c writing) (ap (finds d key (asked.Numbers k zs)) both.0)
+      is = step-plan old.mode d c (with_new_object d key content (λ o e. Reply (found o) e)) (open-writing old.mode c writing) (ap (finds d key content) both.0)
           ∙ n.met (λ o e. Reply (found o) e) ∙ ap (λ (a : Answer). (a, n.after)) said;
       denotes = n.denotes;
     }) (n.supported st.supported))
@@ -62,22 +60,22 @@ makes-none old new key content writing place each =
 
 -- ---- an object has the key
 
-finds-if : (s : State) (d : Directory) (key : Key) (k : ScalarKind) (zs : List ℤ) (o : Object) (b : Bool) → is_read_only s.mode ≡ false → object_at d key ≡ Some o
-    → same_kind (Scalar k) (kind_of o.value) ≡ b → step s.mode d (asked.FindOrConstruct key (asked.Numbers k zs)) ≡ (pair_answer (if b then Ok (handle o.extent, count_of o.value) else Err WrongKind), d)
-finds-if s d key k zs o true writing is same =
-    let c = asked.FindOrConstruct key (asked.Numbers k zs) in
+finds-if : (s : State) (d : Directory) (key : Key) (content : Content) (o : Object) (b : Bool) → is_read_only s.mode ≡ false → object_at d key ≡ Some o
+    → same_kind (kind_of (bare content)) (kind_of o.value) ≡ b → step s.mode d (asked.FindOrConstruct key content) ≡ (pair_answer (if b then Ok (handle o.extent, count_of o.value) else Err WrongKind), d)
+finds-if s d key content o true writing is same =
+    let c = asked.FindOrConstruct key content in
     step-reply s.mode d c (found o) d (open-writing s.mode c writing)
-    (ap (finds d key (asked.Numbers k zs)) is ∙ ap (λ t. if t then Reply (found o) d else Refuse WrongKind) same)
-finds-if s d key k zs o false writing is same =
-    let c = asked.FindOrConstruct key (asked.Numbers k zs) in
+    (ap (finds d key content) is ∙ ap (λ t. if t then Reply (found o) d else Refuse WrongKind) same)
+finds-if s d key content o false writing is same =
+    let c = asked.FindOrConstruct key content in
     step-refuse s.mode d c WrongKind (open-writing s.mode c writing)
-    (ap (finds d key (asked.Numbers k zs)) is ∙ ap (λ t. if t then Reply (found o) d else Refuse WrongKind) same)
+    (ap (finds d key content) is ∙ ap (λ t. if t then Reply (found o) d else Refuse WrongKind) same)
 
 -- it is answered where it is of the kind
-pub found-there : (s : State) (key : Key) (k : ScalarKind) (zs : List ℤ) (h : ℕ) (result : Result (ℕ × ℕ) Refusal) → is_read_only s.mode ≡ false → Answers s (λ d. handle_at d key) (Some h)
-    → ((o : Object) → StandsAt s.cut.bytes h o → result ≡ pair_in o k) → IsStep s s (asked.FindOrConstruct key (asked.Numbers k zs)) (pair_answer result)
-found-there s key k zs h result writing a each =
-    by_no_change s (asked.FindOrConstruct key (asked.Numbers k zs)) (pair_answer result) (λ d st.
+pub found-there : (s : State) (key : Key) (content : Content) (h : ℕ) (result : Result (ℕ × ℕ) Refusal) → is_read_only s.mode ≡ false → Answers s (λ d. handle_at d key) (Some h)
+    → ((o : Object) → StandsAt s.cut.bytes h o → result ≡ pair_of_kind o (kind_of (bare content))) → IsStep s s (asked.FindOrConstruct key content) (pair_answer result)
+found-there s key content h result writing a each =
+    by_no_change s (asked.FindOrConstruct key content) (pair_answer result) (λ d st.
     let o : IsHere s.cut.bytes d key h = here s.cut.bytes d key h st.denotes (a.answers d st) in
-    finds-if s d key k zs o.object (same_kind (Scalar k) (kind_of o.object.value)) writing o.is refl
+    finds-if s d key content o.object (same_kind (kind_of (bare content)) (kind_of o.object.value)) writing o.is refl
     ∙ ap (λ (r : Result (ℕ × ℕ) Refusal). (pair_answer r, d)) (sym (each o.object o.stands)))

@@ -22,18 +22,25 @@ pub use Rattle.segment_manager.proofs.Heads.{Has-front, entry-name_len, good_nam
 pub use Rattle.segment_manager.proofs.NumberCalls.{fits-value_negsuc, fits-value_pos}
 -- bytes that denote a directory are a heap's, with the directory's live set
 pub use Rattle.segment_manager.proofs.Calling.{denotes-heap, denotes-live}
--- what has come so far: an object that has come is numbers of one kind, and has no block but its own
-pub use Rattle.segment_manager.proofs.Supported.{AreNumbers, found-supported, numbers-of, supported-alone, supported-numbers}
+-- what has come so far: an object that is found has come, one of its kind in its place has too, and no vector of texts has
+pub use Rattle.segment_manager.proofs.Supported.{HasNoTexts, found-supported, no-texts, supported-like}
 -- bytes in rows: two behind one another, elements of one length each, read and written in their places, and what codes name
 pub use Rattle.segment_manager.proofs.Rows.{Has-append, Has-behind, Has-element, Has-set, flat-length}
 pub use Rattle.segment_manager.proofs.Codes.{code-read, numbers-only}
 -- the object of a key stands in its block
 pub use Rattle.segment_manager.proofs.Here.{IsHere, here, nothing-here, standing}
--- a call for the kind that an object says its elements have is the command's step, also where its value was written as a literal
-pub use Rattle.segment_manager.proofs.AnyKind.{any-literal, any-missing, any-no_value, any-nowhere, any-replies, any-steps}
+-- a value that is written as a literal is as good as its own literal, of whatever kind the object is
+pub use Rattle.segment_manager.proofs.AnyKind.{any-literal, any-no_value, any-nowhere}
+-- the same where texts could be, for an object that is no vector of them
+pub use Rattle.segment_manager.proofs.AnyKind.{scalars-nowhere, scalars-replies}
+-- a call for objects of the kind that an object says is the command's step
+pub use Rattle.segment_manager.proofs.AnyStorage.{of_kind-steps}
 -- the object of a key is found by its handle too
 pub use Rattle.segment_manager.proofs.Bridge.{by-handle}
 -- a command that only reads leaves the directory
 pub use Rattle.segment_manager.proofs.Unchanged.{step-reads}
 -- an index that is less than the number that was answered is below
 pub use Rattle.segment_manager.proofs.FindCalls.{named-below, unique-below}
+-- the same of a call that answers less than the machine; and the texts that a vector of strings is assigned are those of their literals
+pub use Rattle.segment_manager.proofs.TextMoves.{of_kind-leads_on}
+pub use Rattle.segment_manager.proofs.TextListCalls.{texts-read}

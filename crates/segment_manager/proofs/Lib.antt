@@ -32,7 +32,6 @@ mod NewBlocks
 mod Constructed
 mod GivenBack
 mod Removed
-mod Destroys
 mod Tabled
 mod Reserves
 mod Constructs
@@ -42,6 +41,9 @@ mod ConstructCalls
 mod Filling
 mod Loose
 mod ItemCalls
+mod MadeContainers
+mod NewContainers
+mod ContainerCalls
 mod NumberCalls
 mod Heads
 mod Payloads
@@ -50,6 +52,32 @@ mod Codes
 mod Standings
 mod Pieces
 mod Rewritten
+mod Beside
+mod Exchanged
+mod ExchangedTwice
+mod Contained
+mod Grown
+mod ContentPlans
+mod Refilled
+mod VectorSteps
+mod VectorCalls
+mod TextSteps
+mod StorageSteps
+mod Safely
+mod TextAnswers
+mod VectorAnswers
+mod AnyStorage
+mod TextBlocks
+mod TextLists
+mod TextPlans
+mod TextsHeld
+mod TextMoves
+mod TextListCalls
+mod Whole
+mod Emptied
+mod Released
+mod Destroys
+mod VectorLiterals
 mod Here
 mod Places
 mod Replies
@@ -66,3 +94,4 @@ mod FindCalls
 mod Tellings
 mod Listed
 pub mod Laws
+pub mod ElementLaws

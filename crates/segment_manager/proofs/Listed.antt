@@ -5,7 +5,6 @@ use Rattle.std.proofs.lemmas.Option.{none-some}
 use Rattle.raw_region.specs.Memory.{bytes_of}
 use Rattle.raw_region.specs.Format.{current}
 use Rattle.best_fit.specs.Extents.{handle}
-use Rattle.best_fit.specs.Heap.{is_live_in, live_of}
 use Rattle.seg_types.specs.declared.kinds.Class.{Class}
 use Rattle.seg_types.specs.declared.kinds.Class.TheVariants as class
 use Rattle.seg_types.specs.Kinds.{class_code, code_of}
@@ -23,11 +22,9 @@ use Rattle.segment_manager.specs.Listed.{HasEntries, HasEntry, IsAnonymousAt}
 use Rattle.segment_manager.specs.State.{Answers, IsSegment, State, StandsFor}
 use Rattle.segment_manager.specs.Standing.{HasObject, IsHeadOf, StandsAt}
 use Rattle.segment_manager.proofs.Bridge.{lookup-absent, own-kind, own-name}
-use Rattle.segment_manager.proofs.Calling.{denotes-live, object-live}
 use Rattle.segment_manager.proofs.FindCalls.{IsRead}
 use Rattle.segment_manager.proofs.Here.{IsHere, has-object, here}
 use Rattle.segment_manager.proofs.KeyCalls.{ForIndex, handle-answers, of-directory}
-use Rattle.segment_manager.proofs.Objects.{key-found}
 
 -- ---- the object of a handle
 
@@ -48,14 +45,6 @@ none-if (Some o) e = absurd (cc)
 -- or no object has it
 pub no-object : (s : State) (h : ℕ) → Answers s (λ d. is_object_at d h) false → (d : Directory) → StandsFor s.cut.bytes d → object_at d (names.ByHandle h) ≡ None
 no-object s h a d k = none-if (object_at d (names.ByHandle h)) (a.answers d k)
-
--- its block is in use
-pub own-live : (s : State) (h : ℕ) → IsSegment s.cut.bytes → Answers s (λ d. is_object_at d h) true → is_live_in (live_of s.cut.bytes) h ≡ true
-own-live s h i a =
-    let d = i.0 in
-    let k = i.1.denotes in
-    let o : IsHere s.cut.bytes d (names.ByHandle h) h = object-here s h a d i.1 in
-    (λ j. is_live_in (denotes-live current s.cut.bytes d k j) (o.stands.at j)) ∙ object-live d o.object (key-found current d (names.ByHandle h) o.object k.directory o.is) k.directory.proper
 
 -- ---- what its head says of its entry
 

@@ -1,5 +1,5 @@
 -- The blocks of an object that no entry leads to yet: what an index wants to lead there, and how they are given back.
-use Rattle.std.proofs.Common.{◌≡◌, sym, subst, ℕ, ◌+◌, ◌*◌, ◌%◌, ◌≤◌, Some, None, Option, List, [], arith}
+use Rattle.std.proofs.Common.{◌≡◌, sym, subst, ℕ, ◌+◌, ◌%◌, ◌≤◌, Some, None, Option, List, [], length, arith}
 use Rattle.std.specs.Prelude.{IfSome, IsTrue}
 use Rattle.raw_region.specs.Memory.{Cut}
 use Rattle.raw_region.specs.Format.{current}
@@ -7,48 +7,47 @@ use Rattle.block_tags.specs.declared.tile.Role.TheVariants.{Object as ObjectRole
 use Rattle.best_fit.specs.Extents.{LiveSet}
 use Rattle.best_fit.specs.Heap.{IsAllocated, IsHeap, IsReleased, has_room, is_live_in, live_of}
 use Rattle.best_fit.proofs.Laws.{allocated-is_live, allocated-room, changed-room, lay_out_one}
-use Rattle.seg_types.specs.declared.kinds.ScalarKind.{ScalarKind}
+use Rattle.seg_types.specs.declared.kinds.Kind.{Kind}
 use Rattle.seg_types.specs.declared.kinds.Class.{Class}
 use Rattle.seg_types.specs.declared.kinds.Class.TheVariants.{Anonymous}
-use Rattle.seg_types.specs.Kinds.{size_of}
 use Rattle.seg_types.specs.Names.{Key}
-use Rattle.seg_index.specs.Growth.{CanGrow, GivesBack}
-use Rattle.seg_index.specs.Held.{HasIndex, entry_count, place_of}
+use Rattle.seg_index.specs.Growth.{GivesBack}
+use Rattle.seg_index.specs.Held.{place_of}
 use Rattle.segment_manager.specs.declared.constructing_from.NewEntry.{NewEntry}
-use Rattle.segment_manager.specs.Begun.{IsBegun, IsHeaded, IsLoose, IsLooseAlone, IsLooseEntry}
+use Rattle.segment_manager.specs.Begun.{IsBegun, IsHeaded, IsLoose, IsLooseAlone, IsLooseEntry, IsReadyFor, IsWanted}
+use Rattle.segment_manager.specs.Directory.{padded}
 use Rattle.segment_manager.specs.Indexed.{class_of_index}
 use Rattle.segment_manager.specs.NewObjects.{IsRestored}
-use Rattle.segment_manager.specs.Standing.{numbers_len}
+use Rattle.segment_manager.specs.Standing.{room_for}
 use Rattle.segment_manager.proofs.GivenBack.{request-back, taken-back}
 use Rattle.segment_manager.proofs.Made.{requested-taken}
 use Rattle.segment_manager.proofs.Payloads.{changed-heap}
 use Rattle.segment_manager.proofs.Taking.{growth-held, ready, ready-count, requested-aligned, written-taken}
 
--- ---- begun: the elements have room behind the head
+-- ---- begun: the value has room behind the head
 
-headed-room : (a b : Cut) (k : ScalarKind) (class : Class) (name : List ℕ) (count h at : ℕ) → IsHeaded a b k class name count h at → IsTrue (has_room (live_of a.bytes) h (numbers_len k name count))
-    → IsTrue (has_room (live_of b.bytes) h (at + size_of k * count))
-headed-room a b k class name count h at p room =
-    subst (λ n. IsTrue (has_room (live_of b.bytes) h (n + size_of k * count))) (sym p.start) (changed-room current a b h _ h (numbers_len k name count) p.change room)
+headed-room : (a b : Cut) (kind : Kind) (class : Class) (name : List ℕ) (count body h at : ℕ) → IsHeaded a b kind class name count h at → IsTrue (has_room (live_of a.bytes) h (room_for name body))
+    → IsTrue (has_room (live_of b.bytes) h (at + body))
+headed-room a b kind class name count body h at p room =
+    subst (λ n. IsTrue (has_room (live_of b.bytes) h (n + body))) (sym p.start) (changed-room current a b h _ h (room_for name body) p.change room)
 
-pub begun-room : (entry : Option NewEntry) (a m : Cut) (key : Key) (k : ScalarKind) (count h at : ℕ) → IsBegun a m key k count h at entry → IsTrue (has_room (live_of m.bytes) h (at + size_of k * count))
-begun-room None a m key k count h at g =
-    headed-room g.taken m k Anonymous [] count h at g.headed (allocated-room current a g.taken (numbers_len k [] count) ObjectRole h (numbers_len k [] count) g.takes (omega arith))
-begun-room (Some e) a m key k count h at g =
-    headed-room g.taken m k (class_of_index e.index) g.name count h at g.headed
-    (allocated-room current g.requested.between g.taken (numbers_len k g.name count) ObjectRole h (numbers_len k g.name count) g.requested.takes (omega arith))
+pub begun-room : (entry : Option NewEntry) (a m : Cut) (key : Key) (kind : Kind) (count body h at : ℕ) → IsBegun a m key kind count body h at entry → IsTrue (has_room (live_of m.bytes) h (at + body))
+begun-room None a m key kind count body h at g =
+    headed-room g.taken m kind Anonymous [] count body h at g.headed (allocated-room current a g.taken (room_for [] body) ObjectRole h (room_for [] body) g.takes (omega arith))
+begun-room (Some e) a m key kind count body h at g =
+    headed-room g.taken m kind (class_of_index e.index) g.name count body h at g.headed
+    (allocated-room current g.requested.between g.taken (room_for g.name body) ObjectRole h (room_for g.name body) g.requested.takes (omega arith))
 
-pub begun-heap : (entry : Option NewEntry) (a m : Cut) (key : Key) (k : ScalarKind) (count h at : ℕ) → IsBegun a m key k count h at entry → IsHeap current m.bytes
-begun-heap None a m key k count h at g = changed-heap g.taken m h _ g.headed.change
-begun-heap (Some e) a m key k count h at g = changed-heap g.taken m h _ g.headed.change
+pub begun-heap : (entry : Option NewEntry) (a m : Cut) (key : Key) (kind : Kind) (count body h at : ℕ) → IsBegun a m key kind count body h at entry → IsHeap current m.bytes
+begun-heap None a m key kind count body h at g = changed-heap g.taken m h _ g.headed.change
+begun-heap (Some e) a m key kind count body h at g = changed-heap g.taken m h _ g.headed.change
+
+-- it stands at a multiple of 8
+pub begun-aligned : (entry : Option NewEntry) (a m : Cut) (key : Key) (kind : Kind) (count body h at : ℕ) → IsBegun a m key kind count body h at entry → at % 8 ≡ 0
+begun-aligned None a m key kind count body h at g = let e : at ≡ 16 = g.headed.start in omega arith
+begun-aligned (Some e) a m key kind count body h at g = let s : at ≡ 16 + padded (length g.name) = g.headed.start in omega arith
 
 -- ---- an entry is to lead there
-
-pub record IsWanted (now : Cut) (h : ℕ) (e : NewEntry) : Type 0 where
-  pub index : HasIndex now (place_of e.index)
-  pub growth : CanGrow now (place_of e.index) e.growth.block
-  pub within : e.place ≤ entry_count now (place_of e.index)
-  pub aligned : h % 16 ≡ 0
 
 pub loose-wanted : (old now : Cut) (h : ℕ) (e : NewEntry) → IsLooseEntry old now h e → IsWanted now h e
 loose-wanted old now h e l =
@@ -60,6 +59,10 @@ loose-wanted old now h e l =
       within = subst (λ n. e.place ≤ n) (sym (ready-count e.index old now q.table q.handles q.index ok.index)) l.within;
       aligned = requested-aligned l.requested.between l.taken l.len h l.requested.takes;
     }
+
+pub loose-ready : (entry : Option NewEntry) (old now : Cut) (h : ℕ) → IsLoose old now h entry → IsReadyFor now h entry
+loose-ready None old now h l = tt
+loose-ready (Some e) old now h l = loose-wanted old now h e l
 
 -- ---- all is given back
 

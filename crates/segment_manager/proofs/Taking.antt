@@ -40,11 +40,11 @@ request-unmet a b c d at n (Some h) heap grows refused back restored =
 
 -- ---- an index while an object is made
 
-place-low : (i : Index) → 32 ≤ place_of i
+pub place-low : (i : Index) → 32 ≤ place_of i
 place-low index.Named = omega arith
 place-low index.Unique = omega arith
 
-place-high : (i : Index) → place_of i + 24 ≤ 128
+pub place-high : (i : Index) → place_of i + 24 ≤ 128
 place-high index.Named = omega arith
 place-high index.Unique = omega arith
 

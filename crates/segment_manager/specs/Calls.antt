@@ -15,6 +15,7 @@ use Rattle.seg_types.specs.declared.kinds.Kind.TheVariants.{Scalar, Text, Vector
 use Rattle.seg_types.specs.declared.refusals.Refusal.{Refusal}
 use Rattle.seg_types.specs.declared.refusals.Refusal.TheVariants.{NotFound, WrongKind}
 use Rattle.seg_types.specs.Names.{Key}
+use Rattle.seg_types.specs.Commands.{Command}
 use Rattle.segment_manager.specs.declared.modes.Mode.{Mode}
 use Rattle.segment_manager.specs.declared.errors.CreateError.{CreateError}
 use Rattle.segment_manager.specs.declared.errors.CreateError.TheVariants.{BadSize, RegionTooSmall}
@@ -22,7 +23,9 @@ use Rattle.segment_manager.specs.declared.errors.CreateRefused.{CreateRefused}
 use Rattle.segment_manager.specs.declared.tiles.Span.{Span}
 use Rattle.segment_manager.specs.Layout.{header_len}
 use Rattle.segment_manager.specs.Directory.{Object, Directory, empty, kind_of, live, object_at}
+use Rattle.segment_manager.specs.Answers.{Answer, Refused}
 use Rattle.segment_manager.specs.State.{Answers, State, StandsFor}
+use Rattle.segment_manager.specs.Step.{step}
 
 -- a segment with nothing in it, in the window of the size at the base; its bytes are 0 but for the header's front, which
 -- says the size, the free tree and two indexes without a place, the tags, and the links of the one gap
@@ -67,6 +70,14 @@ elements_of Texts = Err WrongKind
 
 abbrev pub elements_at : Directory → Key → Result ScalarKind Refusal
 elements_at d key = elim (object_at d key) [ None ↦ Err NotFound | Some o ↦ elements_of (kind_of o.value) ]
+
+-- the elements of the object of a key are scalars of some kind
+abbrev pub HasScalars : State → Key → Type 0
+HasScalars s key = (k : ScalarKind) × Answers s (λ d. elements_at d key) (Ok k)
+
+-- what a command answers for objects whose elements are scalars, and for others why there are none
+abbrev pub scalar_reply : Mode → Directory → Key → Command → Answer
+scalar_reply mode d key c = elim (elements_at d key) [ Err r ↦ Refused r | Ok k ↦ (step mode d c).0 ]
 
 -- an extent or a gap, as a call answers it
 abbrev pub as_span : Span → LiveSpan

@@ -1,24 +1,70 @@
--- How an object with an entry goes: the entry is removed, and then its block is released.
-use Rattle.std.specs.Prelude.{◌≡◌, ℕ, Some, List, remove, slice_get, IsTrue}
+-- How an object goes: first the blocks that its value has, then its entry, if it has one, and then the block of its own.
+use Rattle.std.specs.Prelude.{◌≡◌, ℕ, ℤ, Some, List, [], slice_get}
 use Rattle.raw_region.specs.Format.{current}
-use Rattle.raw_region.specs.Memory.{Cut}
-use Rattle.best_fit.specs.Heap.{IsReleased, LaysOut, is_live_in, live_of}
-use Rattle.best_fit.specs.Table.{Table}
+use Rattle.raw_region.specs.Memory.{Cut, SamePlace}
+use Rattle.best_fit.specs.Table.{Table, no_table}
+use Rattle.seg_types.specs.declared.kinds.Class.TheVariants.{Anonymous}
+use Rattle.seg_types.specs.declared.kinds.ScalarKind.{ScalarKind}
+use Rattle.seg_types.specs.Names.{ByHandle}
 use Rattle.seg_index.specs.declared.index.Index.{Index}
-use Rattle.seg_index.specs.Growth.{KeepsRest, beside_table}
-use Rattle.seg_index.specs.Held.{IsIndexOf, place_of}
+use Rattle.seg_vector.specs.declared.places.Place.{Place}
+use Rattle.segment_manager.specs.Contents.{IsNumbers, IsNumbersNow}
+use Rattle.segment_manager.specs.Denotes.{Denotes}
+use Rattle.segment_manager.specs.Directory.{Value, Numbers, Elements, Bytes, Pairs, Texts, Object, Directory, object_at, without_object}
+use Rattle.segment_manager.specs.Indexed.{objects_of}
+use Rattle.segment_manager.specs.State.{StandsFor}
+use Rattle.segment_manager.specs.Step.{changed}
 
--- the entry at a place leads to a block in use
-abbrev pub LeadsToBlock : Cut → Index → ℕ → Type 0
-LeadsToBlock c i place =
-    (t : Table) × (handles : List ℕ) × (h : ℕ) × IsIndexOf c (place_of i) t handles × (slice_get handles place ≡ Some h) × IsTrue (is_live_in (live_of c.bytes) h)
+-- the value without a block: a container with nothing in it and no place
+abbrev pub emptied : Value → Value
+emptied (Numbers k zs) = Numbers k zs
+emptied (Elements k zs t) = Elements k [] no_table
+emptied (Bytes bs t) = Bytes [] no_table
+emptied (Pairs k v ps) = Pairs k v []
+emptied (Texts ps t) = Texts [] no_table
 
--- the entry at a place is no longer there, and the block that it led to is no longer in use
-pub record IsRemovedObject (old new : Cut) (i : Index) (place : ℕ) : Type 0 where
-  pub handle : ℕ
-  pub between : Cut
-  pub leads : (t : Table) (handles : List ℕ) → IsIndexOf old (place_of i) t handles → slice_get handles place ≡ Some handle
-  pub removes : (t : Table) (handles : List ℕ) → IsIndexOf old (place_of i) t handles → IsIndexOf between (place_of i) t (remove handles place)
-  pub live : LaysOut current between.bytes (live_of old.bytes)
-  pub keeps : (t : Table) (handles : List ℕ) → IsIndexOf old (place_of i) t handles → KeepsRest old between (place_of i) (beside_table t (live_of old.bytes).extents)
-  pub released : IsReleased current between new handle
+-- the new bytes denote the directory, in the place of the old ones
+pub record Becomes (old new : Cut) (after : Directory) : Type 0 where
+  pub place : SamePlace old new
+  pub denotes : Denotes current new.bytes after
+
+-- ---- its contents
+
+-- an object has the handle
+pub record HoldsObject (b : List ℕ) (h : ℕ) : Type 0 where
+  pub directory : Directory
+  pub stands : StandsFor b directory
+  pub object : Object
+  pub is : object_at directory (ByHandle h) ≡ Some object
+
+-- it has an emptied value
+abbrev pub Empties : Cut → Cut → ℕ → Type 0
+Empties old new h =
+    (d : Directory) (o : Object) → StandsFor old.bytes d → object_at d (ByHandle h) ≡ Some o → Becomes old new (changed d o (emptied o.value))
+
+-- some vector of numbers of a kind stands at a place
+abbrev pub HasNumbers : ScalarKind → List ℕ → Place → Type 0
+HasNumbers k b p = (zs : List ℤ) × ((t : Table) × IsNumbers k b p zs t)
+
+-- it has no number and no place
+abbrev pub ReleasesNumbers : ScalarKind → Cut → Cut → Place → Type 0
+ReleasesNumbers k old new p = (zs : List ℤ) (t : Table) → IsNumbers k old.bytes p zs t → IsNumbersNow k old new p t [] no_table
+
+-- ---- the object
+
+-- an object has the entry at a place of an index
+pub record HoldsEntry (b : List ℕ) (i : Index) (at : ℕ) : Type 0 where
+  pub directory : Directory
+  pub stands : StandsFor b directory
+  pub object : Object
+  pub is : slice_get (objects_of i directory) at ≡ Some object
+
+-- it is gone with its entry
+abbrev pub RemovesEntry : Cut → Cut → Index → ℕ → Type 0
+RemovesEntry old new i at =
+    (d : Directory) (o : Object) → StandsFor old.bytes d → slice_get (objects_of i d) at ≡ Some o → Becomes old new (without_object d o)
+
+-- the object of a handle is gone, if it has no key
+abbrev pub RemovesAnonymous : Cut → Cut → ℕ → Type 0
+RemovesAnonymous old new h =
+    (d : Directory) (o : Object) → StandsFor old.bytes d → object_at d (ByHandle h) ≡ Some o → o.class ≡ Anonymous → Becomes old new (without_object d o)

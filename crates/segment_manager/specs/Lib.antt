@@ -16,7 +16,10 @@ pub mod Heads
 pub mod NewObjects
 pub mod Items
 pub mod Begun
+pub mod MadeContainers
 pub mod Standing
+pub mod Contents
 pub mod Destroyed
 pub mod Instances
 pub mod Listed
+pub mod TextLists

@@ -10,6 +10,7 @@ use Rattle.best_fit.specs.Table.{Table}
 use Rattle.seg_types.specs.declared.kinds.ScalarKind.{ScalarKind}
 use Rattle.seg_types.specs.declared.kinds.Class.{Class}
 use Rattle.seg_types.specs.declared.kinds.Class.TheVariants.{Anonymous}
+use Rattle.seg_types.specs.declared.kinds.Kind.{Kind}
 use Rattle.seg_types.specs.declared.kinds.Kind.TheVariants.{Scalar}
 use Rattle.seg_types.specs.Kinds.{code_of, is_value, spelling}
 use Rattle.seg_types.specs.Names as names
@@ -88,18 +89,26 @@ Stands old new k count spelled result =
 
 -- ---- keys of new objects
 
--- under which key an object of numbers gets its entry: by its name, or as the only one of its kind
+-- under which key an object of a kind gets its entry: by its name, or as the only one of its kind
+abbrev pub IsNewKeyOf : Index → Key → names.Key → List ℕ → Kind → Type 0
+IsNewKeyOf Named (Name s) (names.ByName n) name kind = (s.now ≡ n) × (name ≡ n) × IsTrue (is_name current n)
+IsNewKeyOf Unique (Code c) (names.ByKind u) name kind = (c ≡ code_of u) × (name ≡ []) × (u ≡ kind)
+IsNewKeyOf i e key name kind = ⊥
+
+-- the same of numbers
 abbrev pub IsNewKey : Index → Key → names.Key → List ℕ → ScalarKind → Type 0
-IsNewKey Named (Name s) (names.ByName n) name k = (s.now ≡ n) × (name ≡ n) × IsTrue (is_name current n)
-IsNewKey Unique (Code c) (names.ByKind u) name k = (c ≡ code_of u) × (name ≡ []) × (u ≡ Scalar k)
-IsNewKey i e key name k = ⊥
+IsNewKey i e key name k = IsNewKeyOf i e key name (Scalar k)
 
 -- a key that is a kind is this kind, and none is a handle
+abbrev pub IsOfKind : names.Key → Kind → Type 0
+IsOfKind (names.ByName name) kind = ⊤
+IsOfKind (names.ByKind u) kind = u ≡ kind
+IsOfKind (names.ByHandle h) kind = ⊥
+IsOfKind names.NoKey kind = ⊤
+
+-- the same of numbers
 abbrev pub IsOfItsKind : names.Key → ScalarKind → Type 0
-IsOfItsKind (names.ByName name) k = ⊤
-IsOfItsKind (names.ByKind u) k = u ≡ Scalar k
-IsOfItsKind (names.ByHandle h) k = ⊥
-IsOfItsKind names.NoKey k = ⊤
+IsOfItsKind key k = IsOfKind key (Scalar k)
 
 -- the bytes spell a value of the kind
 abbrev pub IsSpelled : ScalarKind → List ℕ → ℤ → Type 0

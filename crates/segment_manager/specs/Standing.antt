@@ -50,6 +50,10 @@ repeated n bytes = flat_map (λ each. each) (replicate n bytes)
 abbrev pub equal_numbers : ScalarKind → Class → List ℕ → ℕ → ℤ → Extent → Object
 equal_numbers k class name count z x = record { class = class; name = name; value = Numbers k (replicate count z); extent = x }
 
+-- the bytes of the payload of an object under a name, whose value takes so many
+abbrev pub room_for : List ℕ → ℕ → ℕ
+room_for name body = head_len + padded (length name) + body
+
 -- the bytes of the payload of so many numbers under a name
 abbrev pub numbers_len : ScalarKind → List ℕ → ℕ → ℕ
 numbers_len k name count = head_len + padded (length name) + size_of k * count
@@ -62,9 +66,9 @@ element_at k name i = head_len + padded (length name) + size_of k * i
 abbrev pub place_in : Object → ScalarKind → ℕ → Result ℕ Refusal
 place_in o k i = if same_kind (Scalar k) (kind_of o.value) then (if nat_lt i (count_of o.value) then Ok (element_at k o.name i) else Err OutOfRange) else Err WrongKind
 
--- the handle of an object of such numbers, and how many they are
-abbrev pub pair_in : Object → ScalarKind → Result (ℕ × ℕ) Refusal
-pair_in o k = if same_kind (Scalar k) (kind_of o.value) then Ok (handle o.extent, count_of o.value) else Err WrongKind
+-- the handle of an object of a kind, and how many elements it has
+abbrev pub pair_of_kind : Object → Kind → Result (ℕ × ℕ) Refusal
+pair_of_kind o kind = if same_kind kind (kind_of o.value) then Ok (handle o.extent, count_of o.value) else Err WrongKind
 
 -- where the element of an index stands in the object of a key, or why there is none
 abbrev pub place_at : Directory → Key → ScalarKind → ℕ → Result Place Refusal

@@ -1,21 +1,19 @@
 //! The elements of objects of scalars, read and written.
-ghost use Rattle.std.specs.Prelude.{◌≡◌, ℤ, OnErr, length, true};
+ghost use Rattle.std.specs.Prelude.{◌≡◌, ℤ, OnErr, true};
 ghost use Rattle.seg_types.specs.declared.kinds.Kind.TheVariants.{Scalar as ScalarOf};
 ghost use Rattle.seg_types.specs.Commands.{Get, Set, literal_of};
 ghost use Rattle.seg_types.specs.Keys.{key_seen};
-ghost use Rattle.seg_types.specs.Kinds.{is_value, size_of, spelling as spelling_of};
-ghost use Rattle.seg_types.specs.Names.{ByHandle};
+ghost use Rattle.seg_types.specs.Kinds.{is_value, spelling as spelling_of};
 ghost use Rattle.seg_types.specs.Values.{kind_of_scalar, value_of_scalar};
 ghost use Rattle.segment_manager.specs.Answers.{Element};
-ghost use Rattle.segment_manager.specs.Found.{is_object_at};
 ghost use Rattle.segment_manager.specs.Standing.{Spells, place_at};
-ghost use Rattle.segment_manager.specs.State.{Answers, IsReply, IsReplyOfKind, IsStepOfKind, answer_of, done_answer, scalar_answer};
+ghost use Rattle.segment_manager.specs.State.{Answers, IsReplyOfKind, IsStepOfKind, answer_of, done_answer, scalar_answer};
 
 use crate::constructing::LONGEST;
 use crate::element::{element, place_of};
 use crate::segment::Segment;
 use seg_types::theorems::scalar_is_number;
-use seg_types::{Handle, Key, Refusal, Scalar, ScalarKind, ScalarValue};
+use seg_types::{Key, Refusal, Scalar, ScalarKind, ScalarValue};
 
 /// Where an element stands.
 #[derive(Clone, Copy, Debug, PartialEq, Eq)]
@@ -63,44 +61,6 @@ impl Segment {
                 element(&self.heap, place.handle, place.at, kind.size()),
             )
             .ok_or(Refusal::WrongKind),
-        }
-    }
-
-    /// The element at `index` in the object of a key, whatever its kind is.
-    ///
-    /// # Errors
-    ///
-    /// `NotFound` where no object has the key, `WrongKind` where it has no elements, `OutOfRange` where it has none there.
-    pub fn get_any(&self, key: &Key, index: u64) -> Result<ScalarValue, Refusal>
-        ensures { IsReply self.now (Get (key_seen key.now) index) (scalar_answer result) }
-    {
-        match self.element_kind(key) {
-            Err(why) => Err(why),
-            // the objects that have come have no other elements
-            Ok(kind) => self.get_value(key, kind, index),
-        }
-    }
-
-    /// The element at `index` in the object at a handle, an object of scalars of a kind. There is such an object: it is not looked
-    /// for among the blocks.
-    ///
-    /// # Errors
-    ///
-    /// `WrongKind` where it is of another kind, `OutOfRange` where it has no element there.
-    pub fn get_at(
-        &self,
-        handle: Handle,
-        kind: ScalarKind,
-        index: u64,
-    ) -> Result<ScalarValue, Refusal>
-        requires { Answers self.now (λ d. is_object_at d handle) true }
-        ensures { IsReplyOfKind self.now (ByHandle handle) (ScalarOf kind) (Get (ByHandle handle) index) (scalar_answer result) }
-    {
-        match place_of(&self.heap, handle, kind, index) {
-            Err(why) => Err(why),
-            Ok(at) => ScalarValue::read(kind, element(&self.heap, handle, at, kind.size())).ok_or(
-                Refusal::WrongKind,
-            ),
         }
     }
 

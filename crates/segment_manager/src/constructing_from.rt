@@ -1,5 +1,5 @@
 //! Objects of numbers constructed from the items of an iterator.
-ghost use Rattle.std.specs.Prelude.{◌≡◌, ◌+◌, ◌*◌, ◌≤◌, IsTrue};
+ghost use Rattle.std.specs.Prelude.{◌≡◌, ◌+◌, ◌*◌, ◌^◌, ◌<◌, ◌≤◌, IsTrue, length};
 ghost use Rattle.std.specs.Bool.{OnTrue};
 ghost use Rattle.std.specs.Iterator.{HoldsAlong};
 ghost use Rattle.std.specs.List.{AllByRecursion};
@@ -10,9 +10,11 @@ ghost use Rattle.seg_types.specs.Keys.{new_key_seen};
 ghost use Rattle.seg_types.specs.Kinds.{size_of};
 ghost use Rattle.seg_types.specs.Names.{Key as AnyKey, NoKey};
 ghost use Rattle.seg_types.specs.Values.{kind_of_scalar, value_of_scalar};
-ghost use Rattle.segment_manager.specs.Begun.{Begins, Fills, Finishes, GivesAllBack, IsLoose, IsNextOfKind, LeadsThere, WritesNext};
+ghost use Rattle.seg_index.specs.declared.keys.Key.{Key as AnyEntry};
+ghost use Rattle.seg_index.specs.Held.{HasIndex, place_of};
+ghost use Rattle.segment_manager.specs.Begun.{Begins, BeginsEntry, BeginsNumbers, Ends, Fills, Finishes, GivesAllBack, IsEnding, IsLoose, IsNextOfKind, IsReadyFor, LeadsThere, WritesNext};
 ghost use Rattle.segment_manager.specs.Items.{TakesItems};
-ghost use Rattle.segment_manager.specs.NewObjects.{IsNewKey, IsOfItsKind};
+ghost use Rattle.segment_manager.specs.NewObjects.{IsNewKeyOf, IsOfItsKind, IsOfKind};
 ghost use Rattle.segment_manager.specs.State.{IsSegment};
 
 use crate::constructing::LONGEST;
@@ -68,7 +70,7 @@ impl Segment {
         if self.is_read_only() {
             return Err(Refusal::ReadOnly);
         }
-        let begun = begin(&mut self.heap, key, T::kind(), count)?;
+        let begun = begin_numbers(&mut self.heap, key, T::kind(), count)?;
         let enough = fill_items(&mut self.heap, begun.handle, begun.at, count, items);
         finish(&mut self.heap, begun, enough)
     }
@@ -96,7 +98,7 @@ impl Segment {
         if self.is_read_only() {
             return Err(Refusal::ReadOnly);
         }
-        let begun = begin(&mut self.heap, key, kind, count)?;
+        let begun = begin_numbers(&mut self.heap, key, kind, count)?;
         let enough = fill_values(&mut self.heap, begun.handle, begun.at, kind, count, items);
         finish(&mut self.heap, begun, enough)
     }
@@ -107,15 +109,49 @@ impl Segment {
 /// # Errors
 ///
 /// `Exists` where an object has the key, and else `NoSpace` where no gap is long enough. What the heap holds does not change.
-fn begin(heap: &mut Heap, key: &NewKey, kind: ScalarKind, count: u32) -> Result<Begun, Refusal>
+fn begin_numbers(
+    heap: &mut Heap,
+    key: &NewKey,
+    kind: ScalarKind,
+    count: u32,
+) -> Result<Begun, Refusal>
     requires segment { IsSegment heap.old.bytes }
     requires kind { IsOfItsKind (new_key_seen key.now) kind }
-    ensures { Begins heap.old heap.new (new_key_seen key.now) kind count result }
+    ensures { BeginsNumbers heap.old heap.new (new_key_seen key.now) kind count result }
+{
+    let body = kind.size() * u64::from(count);
+    begin(heap, key, Kind::Scalar(kind), count, body)
+}
+
+/// Takes the blocks of an object of a kind into use, with `body` bytes for its value, and writes its head.
+///
+/// # Errors
+///
+/// `Exists` where an object has the key, and else `NoSpace` where no gap is long enough. What the heap holds does not change.
+pub(crate) fn begin(
+    heap: &mut Heap,
+    key: &NewKey,
+    kind: Kind,
+    count: u32,
+    body: u64,
+) -> Result<Begun, Refusal>
+    requires segment { IsSegment heap.old.bytes }
+    requires kind { IsOfKind (new_key_seen key.now) kind }
+    requires small { body < 2 ^ 40 }
+    ensures { Begins heap.old heap.new (new_key_seen key.now) kind count body result }
 {
     match key {
         NewKey::Name(name) => {
             let bytes = name.as_bytes();
-            begin_entered(heap, Index::Named, Entry::Name(bytes), kind, bytes, count)
+            begin_entered(
+                heap,
+                Index::Named,
+                Entry::Name(bytes),
+                kind,
+                bytes,
+                count,
+                body,
+            )
         }
         NewKey::Unique(unique) => begin_entered(
             heap,
@@ -124,8 +160,9 @@ fn begin(heap: &mut Heap, key: &NewKey, kind: ScalarKind, count: u32) -> Result<
             kind,
             &[],
             count,
+            body,
         ),
-        NewKey::Anonymous => begin_alone(heap, kind, count),
+        NewKey::Anonymous => begin_alone(heap, kind, count, body),
     }
 }
 
@@ -134,24 +171,43 @@ fn begin_entered(
     heap: &mut Heap,
     index: Index,
     entry: Entry<'_>,
-    kind: ScalarKind,
+    kind: Kind,
     name: &[u8],
     count: u32,
+    body: u64,
 ) -> Result<Begun, Refusal>
     requires segment { IsSegment heap.old.bytes }
-    requires key { (key : AnyKey) × IsNewKey index entry key name.now kind }
-    ensures { (key : AnyKey) → IsNewKey index entry.entry key name.now kind → Begins heap.old heap.new key kind count result }
+    requires key { (key : AnyKey) × IsNewKeyOf index entry key name.now kind }
+    requires small { body < 2 ^ 40 }
+    ensures { (key : AnyKey) → IsNewKeyOf index entry.entry key name.now kind → Begins heap.old heap.new key kind count body result }
 {
-    let Lookup::Absent(place) = index.lookup(heap, entry, &mut Steps::new()) else {
-        return Err(Refusal::Exists);
-    };
+    match index.lookup(heap, entry, &mut Steps::new()) {
+        Lookup::Found(_) => Err(Refusal::Exists),
+        Lookup::Absent(place) => begin_at(heap, index, place, kind, name, count, body),
+    }
+}
+
+/// The same where no object has the key, whose entry would get a place of the index.
+pub(crate) fn begin_at(
+    heap: &mut Heap,
+    index: Index,
+    place: u64,
+    kind: Kind,
+    name: &[u8],
+    count: u32,
+    body: u64,
+) -> Result<Begun, Refusal>
+    requires index { HasIndex heap.old (place_of index) }
+    requires short { length name.now ≤ 255 }
+    requires small { body < 2 ^ 40 }
+    ensures { (key : AnyKey) (entry : AnyEntry) → BeginsEntry heap.old heap.new index place entry key name.now kind count body result }
+{
     let at = value_at(name.len() as u64);
-    let Ok(requested) = request(heap, index, at + kind.size() * u64::from(count)) else {
+    let Ok(requested) = request(heap, index, at + body) else {
         return Err(Refusal::NoSpace);
     };
     let handle = requested.handle;
-    let class = class_of(index);
-    write_head(heap, handle, Kind::Scalar(kind), count, class, name);
+    write_head(heap, handle, kind, count, class_of(index), name);
     let entry = Some(NewEntry {
         index,
         place,
@@ -161,21 +217,14 @@ fn begin_entered(
 }
 
 /// The same without a key.
-fn begin_alone(heap: &mut Heap, kind: ScalarKind, count: u32) -> Result<Begun, Refusal>
-    ensures { Begins heap.old heap.new NoKey kind count result }
+fn begin_alone(heap: &mut Heap, kind: Kind, count: u32, body: u64) -> Result<Begun, Refusal>
+    requires { body < 2 ^ 40 }
+    ensures { Begins heap.old heap.new NoKey kind count body result }
 {
-    let len = HEAD_LEN + kind.size() * u64::from(count);
-    let Ok(handle) = heap.allocate(len, Role::Object, &mut Steps::new()) else {
+    let Ok(handle) = heap.allocate(HEAD_LEN + body, Role::Object, &mut Steps::new()) else {
         return Err(Refusal::NoSpace);
     };
-    write_head(
-        heap,
-        handle,
-        Kind::Scalar(kind),
-        count,
-        Class::Anonymous,
-        &[],
-    );
+    write_head(heap, handle, kind, count, Class::Anonymous, &[]);
     Ok(Begun {
         handle,
         at: HEAD_LEN,
@@ -278,27 +327,52 @@ fn write_value<I: Iterator<Item = ScalarValue>>(
     true
 }
 
-/// Has the entry of an object lead to it that is filled, and answers its handle.
+/// Has the entry of an object lead to it where there were items enough, and answers its handle.
 ///
 /// # Errors
 ///
-/// `OutOfRange` where there were not items enough: all that was taken is given back.
+/// `OutOfRange` where there were not: all that was taken is given back.
 fn finish(heap: &mut Heap, begun: Begun, enough: bool) -> Result<Handle, Refusal>
     requires { (old : Cut) × IsLoose old heap.old begun.handle begun.entry }
     ensures { Finishes heap.old heap.new begun.handle begun.entry enough result }
 {
-    if !enough {
-        give_back(heap, begun.handle, begun.entry);
-        return Err(Refusal::OutOfRange);
+    if enough {
+        end(heap, begun, Ok(()))
+    } else {
+        end(heap, begun, Err(Refusal::OutOfRange))
     }
+}
+
+/// Has the entry of an object lead to it where it was filled, and answers its handle.
+///
+/// # Errors
+///
+/// Why it was not filled: all that was taken for it is given back.
+pub(crate) fn end(
+    heap: &mut Heap,
+    begun: Begun,
+    filled: Result<(), Refusal>,
+) -> Result<Handle, Refusal>
+    requires { IsEnding heap.old begun.handle begun.entry filled }
+    ensures { Ends heap.old heap.new begun.handle begun.entry filled result }
+{
     let handle = begun.handle;
-    enter(heap, handle, begun.entry);
-    Ok(handle)
+    let entry = begun.entry;
+    match filled {
+        Err(why) => {
+            give_back(heap, handle, entry);
+            Err(why)
+        }
+        Ok(()) => {
+            enter(heap, handle, entry);
+            Ok(handle)
+        }
+    }
 }
 
 /// Makes the entry that leads to an object, if it is to have one.
 fn enter(heap: &mut Heap, handle: u64, entry: Option<NewEntry>)
-    requires { (old : Cut) × IsLoose old heap.old handle entry }
+    requires { IsReadyFor heap.old handle entry }
     ensures { LeadsThere heap.old heap.new handle entry }
 {
     if let Some(new) = entry {

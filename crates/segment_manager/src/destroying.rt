@@ -1,11 +1,10 @@
 //! Objects destroyed.
-ghost use Rattle.std.specs.Prelude.{◌≡◌, ℕ, ◌<◌, OnErr, true, false};
+ghost use Rattle.std.specs.Prelude.{◌≡◌, ℕ, OnErr, true, false};
 ghost use Rattle.seg_types.specs.Commands.{Destroy, DestroyPtr};
 ghost use Rattle.seg_types.specs.Keys.{index_key_seen};
 ghost use Rattle.seg_types.specs.Names.{Key as AnyKey};
-ghost use Rattle.seg_index.specs.Held.{HasIndex, entry_count, place_of};
 ghost use Rattle.segment_manager.specs.Answers.{Truth};
-ghost use Rattle.segment_manager.specs.Destroyed.{IsRemovedObject, LeadsToBlock};
+ghost use Rattle.segment_manager.specs.Destroyed.{HoldsEntry, HoldsObject, RemovesAnonymous, RemovesEntry};
 ghost use Rattle.segment_manager.specs.Found.{is_object_at};
 ghost use Rattle.segment_manager.specs.Indexed.{Seeks};
 ghost use Rattle.segment_manager.specs.Listed.{HasEntries, IsListed};
@@ -13,6 +12,7 @@ ghost use Rattle.segment_manager.specs.State.{Answers, IsStep, gone_answer, trut
 ghost use Rattle.segment_manager.specs.Step.{is_read_only};
 
 use crate::head::{read_head, read_name};
+use crate::releasing::release_contents;
 use crate::segment::Segment;
 use best_fit::Heap;
 use raw_region::Steps;
@@ -29,7 +29,7 @@ pub(crate) struct Listed {
 }
 
 impl Segment {
-    /// Destroys the object of a key, if there is one, and gives back its block. Answers whether there was one.
+    /// Destroys the object of a key, if there is one, and gives back all its blocks. Answers whether there was one.
     ///
     /// # Errors
     ///
@@ -65,7 +65,7 @@ impl Segment {
         }
     }
 
-    /// Destroys the object of a handle, whatever its class, and gives back its block and its entry.
+    /// Destroys the object of a handle, whatever its class, and gives back its entry and all its blocks.
     ///
     /// # Errors
     ///
@@ -92,7 +92,7 @@ impl Segment {
     {
         match self.listed(handle) {
             Some(listed) => remove_entered(&mut self.heap, listed.index, listed.place),
-            None => self.heap.deallocate(handle, &mut Steps::new()),
+            None => remove_anonymous(&mut self.heap, handle),
         }
     }
 
@@ -122,14 +122,22 @@ impl Segment {
     }
 }
 
-/// Removes the entry at a place of an index, and gives back the block that it led to.
+/// Removes the entry at a place of an index, and gives back all blocks of the object that has it.
 fn remove_entered(heap: &mut Heap, index: Index, place: u64)
-    requires index { HasIndex heap.old (place_of index) }
-    requires below { place < entry_count heap.old (place_of index) }
-    requires leads { LeadsToBlock heap.old index place }
-    ensures { IsRemovedObject heap.old heap.new index place }
+    requires { HoldsEntry heap.old.bytes index place }
+    ensures { RemovesEntry heap.old heap.new index place }
 {
     let handle = index.at(heap, place);
+    release_contents(heap, handle);
     index.remove(heap, place);
     heap.deallocate(handle, &mut Steps::new());
+}
+
+/// Gives back all blocks of an object without a key.
+fn remove_anonymous(heap: &mut Heap, object: Handle)
+    requires { HoldsObject heap.old.bytes object }
+    ensures { RemovesAnonymous heap.old heap.new object }
+{
+    release_contents(heap, object);
+    heap.deallocate(object, &mut Steps::new());
 }

@@ -7,7 +7,7 @@ ghost use Rattle.seg_types.specs.Values.{kind_of_scalar, value_of_scalar};
 ghost use Rattle.segment_manager.specs.Directory.{Object};
 ghost use Rattle.segment_manager.specs.Found.{pair_answer};
 ghost use Rattle.segment_manager.specs.NewObjects.{IsNewKey, IsOfItsKind, IsSpelled};
-ghost use Rattle.segment_manager.specs.Standing.{HasObject, StandsAt, pair_in};
+ghost use Rattle.segment_manager.specs.Standing.{HasObject, StandsAt, pair_of_kind};
 ghost use Rattle.segment_manager.specs.State.{IsStep, KeepsRefused};
 ghost use Rattle.segment_manager.specs.Step.{is_read_only};
 
@@ -135,7 +135,7 @@ impl Segment {
     {
         let place = match index.lookup(&self.heap, entry, &mut Steps::new()) {
             Lookup::Found(place) => {
-                return found_as(&self.heap, index.at(&self.heap, place), kind);
+                return found_of(&self.heap, index.at(&self.heap, place), Kind::Scalar(kind));
             }
             Lookup::Absent(place) => place,
         };
@@ -146,17 +146,17 @@ impl Segment {
     }
 }
 
-/// The handle of an object of numbers of a kind, and how many they are.
+/// The handle of an object of a kind, and how many elements it has (1 where it is a container).
 ///
 /// # Errors
 ///
 /// `WrongKind` where the object is of another kind.
-fn found_as(heap: &Heap, handle: u64, kind: ScalarKind) -> Result<(Handle, u32), Refusal>
+pub(crate) fn found_of(heap: &Heap, handle: u64, kind: Kind) -> Result<(Handle, u32), Refusal>
     requires { HasObject heap.now.bytes handle }
-    ensures { (o : Object) → StandsAt heap.now.bytes handle o → result ≡ pair_in o kind }
+    ensures { (o : Object) → StandsAt heap.now.bytes handle o → result ≡ pair_of_kind o kind }
 {
     let head = read_head(heap, handle);
-    if head.kind != Kind::Scalar(kind) {
+    if head.kind.code() != kind.code() {
         return Err(Refusal::WrongKind);
     }
     Ok((handle, head.count))

@@ -9,7 +9,7 @@ ghost use Rattle.segment_manager.specs.Layout.{head_len};
 pub const MAGIC: u64 = 0x454C_4946_4745_534D;
 
 /// The format of the layout that is written.
-pub const FORMAT: u64 = 1;
+pub const FORMAT: u64 = 2;
 
 /// Where the header has the magic number.
 pub const MAGIC_AT: u64 = 0;

@@ -5,8 +5,11 @@
 #![tactic(auto)]
 
 mod accessing;
+mod any_elements;
 mod constructing;
+mod constructing_containers;
 mod constructing_from;
+mod containers;
 mod creating;
 mod destroying;
 mod element;
@@ -19,12 +22,17 @@ mod keys;
 pub mod layout;
 mod making;
 mod modes;
+mod releasing;
 mod requesting;
 mod reserving;
 mod segment;
+mod storage;
 mod telling;
+mod text_lists;
+mod texts;
 pub mod theorems;
 mod tiles;
+mod vectors;
 
 pub use errors::{CreateError, CreateRefused};
 pub use modes::Mode;

@@ -11,10 +11,10 @@ use Rattle.segment_tests.proofs.Images.{words, magic_word, fresh_image, named_im
 abbrev AreOf : ℕ → List (List ℕ × Option ImageClass) → Type 0
 AreOf format rows = map (λ row. class_of format row.0) rows ≡ map (λ row. row.1) rows
 
--- ---- format 1
+-- ---- format 2
 
 -- images of directories
-directories : AreOf 1 (
+directories : AreOf 2 (
     (fresh_image, None)
     ∷ (named_image, None)
     ∷ (two_names_image, None)
@@ -27,7 +27,7 @@ unfolding word_at half_word_at word_bytes half_word_bytes zeros is_text_name
 directories = refl
 
 -- images that end too early
-cut : AreOf 1 (
+cut : AreOf 2 (
     (take 143 fresh_image, Some Truncated)
     ∷ (take 1000 named_image, Some Truncated)
     ∷ []
@@ -36,9 +36,10 @@ unfolding word_at half_word_at word_bytes half_word_bytes zeros is_text_name
 cut = refl
 
 -- a wrong magic, another version, a byte more, an illegal size, a reserved byte
-headers : AreOf 1 (
+headers : AreOf 2 (
     (patched fresh_image 0 (0 ∷ []), Some BadMagic)
     ∷ (patched fresh_image 8 (half_word_bytes 9), Some UnsupportedVersion)
+    ∷ (patched fresh_image 8 (half_word_bytes 1), Some UnsupportedVersion)
     ∷ (fresh_image ++ 0 ∷ [], Some BadSize)
     ∷ (patched fresh_image 16 (word_bytes 160), Some BadSize)
     ∷ (patched fresh_image 80 (1 ∷ []), Some BadReserved)
@@ -48,7 +49,7 @@ unfolding word_at half_word_at word_bytes half_word_bytes zeros is_text_name
 headers = refl
 
 -- no end tag, a root that is its own link, a left link to its own node
-blocks : AreOf 1 (
+blocks : AreOf 2 (
     (patched fresh_image 168 (word_bytes 0), Some BadTag)
     ∷ (patched fresh_image 24 (word_bytes 0), Some BadFreeTree)
     ∷ (patched fresh_image 144 (word_bytes 0), Some BadFreeTree)
@@ -58,7 +59,7 @@ unfolding word_at half_word_at word_bytes half_word_bytes zeros is_text_name
 blocks = refl
 
 -- two entries with one target, an unknown kind
-objects : AreOf 1 (
+objects : AreOf 2 (
     (patched two_names_image 152 (word_bytes 40), Some BadIndex)
     ∷ (patched named_image 192 (half_word_bytes 99), Some BadObject)
     ∷ []
@@ -67,7 +68,7 @@ unfolding word_at half_word_at word_bytes half_word_bytes zeros is_text_name
 objects = refl
 
 -- two vectors with one block, a length above the capacity, a block of nothing
-containers : AreOf 1 (
+containers : AreOf 2 (
     (patched vectors_image 312 (word_bytes 18446744073709551560), Some SharedBlock)
     ∷ (patched vectors_image 224 (word_bytes 2), Some BadContainer)
     ∷ (patched vectors_image 216 (words (1 ∷ 0 ∷ 0 ∷ [])), Some OrphanBlock)
@@ -77,7 +78,7 @@ unfolding word_at half_word_at word_bytes half_word_bytes zeros is_text_name
 containers = refl
 
 -- a left link of a pair to its own node, one to an object, a wrong count
-maps : AreOf 1 (
+maps : AreOf 2 (
     (patched pair_image 256 (word_bytes 0), Some SharedBlock)
     ∷ (patched pair_image 256 (word_bytes 18446744073709551552), Some BadContainer)
     ∷ (patched pair_image 224 (word_bytes 2), Some BadContainer)
@@ -88,7 +89,7 @@ maps = refl
 
 -- two changes, of which the class that is looked at first is the answer: magic before tags, length before reserved bytes,
 -- index before object, object before a block of nothing, object before a cycle
-two_changes : AreOf 1 (
+two_changes : AreOf 2 (
     (patched (patched fresh_image 0 (0 ∷ [])) 168 (word_bytes 0), Some BadMagic)
     ∷ (take 1000 (patched named_image 80 (1 ∷ [])), Some Truncated)
     ∷ (patched (patched two_names_image 152 (word_bytes 40)) 192 (half_word_bytes 99), Some BadIndex)
@@ -134,7 +135,7 @@ plain_damaged : AreOf 0 (
 unfolding word_at half_word_at word_bytes half_word_bytes zeros is_text_name
 plain_damaged = refl
 
--- ---- format 2: a vector of strings
+-- ---- a vector of strings
 
 abbrev texts_image : List ℕ
 texts_image =
@@ -153,10 +154,16 @@ texts : AreOf 2 (
 unfolding word_at half_word_at word_bytes half_word_bytes zeros is_text_name
 texts = refl
 
--- format 1 knows no vectors of strings
-texts_in_format_1 : AreOf 1 (
-    (patched texts_image 8 (half_word_bytes 1), Some BadObject)
+-- ---- format 1
+
+-- the same images but for the version denote directories there, and it knows no vectors of strings
+in_format_1 : AreOf 1 (
+    (patched fresh_image 8 (half_word_bytes 1), None)
+    ∷ (patched named_image 8 (half_word_bytes 1), None)
+    ∷ (patched map_image 8 (half_word_bytes 1), None)
+    ∷ (patched texts_image 8 (half_word_bytes 1), Some BadObject)
+    ∷ (texts_image, Some UnsupportedVersion)
     ∷ []
     )
 unfolding word_at half_word_at word_bytes half_word_bytes zeros is_text_name
-texts_in_format_1 = refl
+in_format_1 = refl

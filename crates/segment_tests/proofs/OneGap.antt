@@ -25,12 +25,12 @@ one_node m at n root cell = record {
 -- what such images have in common: the tests of a directory, the zeros and the tags; the words and the links of the header; and the gap
 pub record IsFramed (image : List ℕ) (d : Directory) (gap : ℕ) : Type 0 where
   pub size : length image ≡ (live d).size
-  pub tests : is_proper (live d) ∷ list_all (is_object 1) d.objects ∷ rises_from 0 d.objects ∷ is_index d.named (named_objects d) by_name
-      ∷ is_index d.unique (unique_objects d) by_kind ∷ are_zero (bytes_of image) 80 48 ∷ has_tags 1 (bytes_of image) (live d).size ∷ []
+  pub tests : is_proper (live d) ∷ list_all (is_object 2) d.objects ∷ rises_from 0 d.objects ∷ is_index d.named (named_objects d) by_name
+      ∷ is_index d.unique (unique_objects d) by_kind ∷ are_zero (bytes_of image) 80 48 ∷ has_tags 2 (bytes_of image) (live d).size ∷ []
       ≡ true ∷ true ∷ true ∷ true ∷ true ∷ true ∷ true ∷ []
   pub numbers : word_at (bytes_of image) 0 ∷ word_at (bytes_of image) 8 ∷ word_at (bytes_of image) 16
       ∷ word_at (bytes_of image) 40 ∷ word_at (bytes_of image) 48 ∷ word_at (bytes_of image) 64 ∷ word_at (bytes_of image) 72 ∷ []
-      ≡ magic_number ∷ 1 ∷ d.size
+      ≡ magic_number ∷ 2 ∷ d.size
       ∷ length (handles (named_objects d)) ∷ d.named.capacity ∷ length (handles (unique_objects d)) ∷ d.unique.capacity ∷ []
   pub links : link_at (bytes_of image) 24 ∷ link_at (bytes_of image) 32 ∷ link_at (bytes_of image) 56 ∷ []
       ≡ Some gap ∷ table_link d.named ∷ table_link d.unique ∷ []
@@ -39,7 +39,7 @@ pub record IsFramed (image : List ℕ) (d : Directory) (gap : ℕ) : Type 0 wher
   pub listed : payloads (sorted_gaps (gaps (live d))) ≡ gap ∷ []
 
 pub denotes : (image : List ℕ) (d : Directory) (gap : ℕ) → IsFramed image d gap → AreEntries (bytes_of image) d.named (handles (named_objects d))
-    → AreEntries (bytes_of image) d.unique (handles (unique_objects d)) → AllByRecursion (IsObjectAt (bytes_of image)) d.objects → Denotes 1 image d
+    → AreEntries (bytes_of image) d.unique (handles (unique_objects d)) → AllByRecursion (IsObjectAt (bytes_of image)) d.objects → Denotes 2 image d
 denotes image d gap f named unique objects = record {
   directory = record { proper = cc; objects = cc; by_offset = cc; named = cc; unique = cc };
   header = record { magic = cc; version = cc; size_word = cc; zeros = zero_bytes (bytes_of image) 80 48 (cc) };

@@ -207,8 +207,8 @@ unfolding run current
 supported_names = refl
 
 -- a word that has not come is unknown; a kind that has not come is bad syntax
-not_supported : (run supported Write (empty 1024) (codes "push v 1\npop v\nappend s \"a\"\nput m 1 2\nreserve v 3\nconstruct vec<i64> v\nconstruct string s \"a\"\nconstruct map<i64,i64> m\nfind string s\ninfo @string\n")).0
-    ≡ codes "error 1 unknown command\nerror 1 unknown command\nerror 1 unknown command\nerror 1 unknown command\nerror 1 unknown command\nerror 3 bad syntax\nerror 3 bad syntax\nerror 3 bad syntax\nerror 3 bad syntax\nerror 3 bad syntax\n"
+not_supported : (run supported Write (empty 1024) (codes "put m 1 2\nlookup m 1\nremove m 1\nconstruct map<i64,i64> m\nconstruct vec<string> v \"a\"\nfind map<i64,i64> m\ninfo @vec<string>\n")).0
+    ≡ codes "error 1 unknown command\nerror 1 unknown command\nerror 1 unknown command\nerror 3 bad syntax\nerror 3 bad syntax\nerror 3 bad syntax\nerror 3 bad syntax\n"
 unfolding run
 not_supported = refl
 

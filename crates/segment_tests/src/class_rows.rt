@@ -16,7 +16,7 @@ const MAGIC: u64 = 4993446653039301453;
 /// An empty segment of 176 bytes: its words that are not zero, by offset.
 const EMPTY: [(usize, u64); 11] = [
     (0, MAGIC),
-    (8, 1),
+    (8, 2),
     (16, 176),
     (24, 120),
     (32, 1),
@@ -31,7 +31,7 @@ const EMPTY: [(usize, u64); 11] = [
 /// 1024 bytes with `i64 a 5`: the index at 144, the object at 192.
 const NAMED: [(usize, u64); 22] = [
     (0, MAGIC),
-    (8, 1),
+    (8, 2),
     (16, 1024),
     (24, 216),
     (32, 112),
@@ -57,7 +57,7 @@ const NAMED: [(usize, u64); 22] = [
 /// The same with `i64 b 6` behind it, at 240.
 const TWO_NAMES: [(usize, u64); 29] = [
     (0, MAGIC),
-    (8, 1),
+    (8, 2),
     (16, 1024),
     (24, 264),
     (32, 112),
@@ -90,7 +90,7 @@ const TWO_NAMES: [(usize, u64); 29] = [
 /// Two vectors of one `i64`: objects at 192 and 288, storage at 256 and 352.
 const VECTORS: [(usize, u64); 39] = [
     (0, MAGIC),
-    (8, 1),
+    (8, 2),
     (16, 1024),
     (24, 360),
     (32, 112),
@@ -133,7 +133,7 @@ const VECTORS: [(usize, u64); 39] = [
 /// A map of one pair: the object at 192, the node at 256.
 const PAIR: [(usize, u64); 29] = [
     (0, MAGIC),
-    (8, 1),
+    (8, 2),
     (16, 1024),
     (24, 280),
     (32, 112),
@@ -225,6 +225,8 @@ fn an_empty_segment_is_damaged(rt: HostRuntime) -> Result<(), Fail> {
     for (changes, class) in [
         ([(0, 1, 0)].as_slice(), ImageClass::BadMagic),
         ([(8, 4, 9)].as_slice(), ImageClass::UnsupportedVersion),
+        ([(8, 4, 0)].as_slice(), ImageClass::UnsupportedVersion),
+        ([(8, 4, 1)].as_slice(), ImageClass::UnsupportedVersion),
         ([(16, 8, 160)].as_slice(), ImageClass::BadSize),
         ([(80, 1, 1)].as_slice(), ImageClass::BadReserved),
         ([(168, 8, 0)].as_slice(), ImageClass::BadTag),
@@ -305,6 +307,28 @@ fn vectors_are_damaged(rt: HostRuntime) -> Result<(), Fail> {
             [(192, 4, 99), (216, 8, 1), (224, 8, 0), (232, 8, 0)].as_slice(),
             ImageClass::BadObject,
         ),
+        // no kind, and two vectors in one object
+        ([(192, 4, 131078)].as_slice(), ImageClass::BadObject),
+        ([(196, 4, 2)].as_slice(), ImageClass::BadObject),
+        // three places in 16 bytes, none for an element, none with a link, and one without
+        ([(232, 8, 3)].as_slice(), ImageClass::BadContainer),
+        ([(232, 8, 0)].as_slice(), ImageClass::BadContainer),
+        (
+            [(224, 8, 0), (232, 8, 0)].as_slice(),
+            ImageClass::BadContainer,
+        ),
+        ([(216, 8, 1)].as_slice(), ImageClass::BadContainer),
+        // links to the object itself, and into the middle of a block
+        (
+            [(216, 8, 18446744073709551592)].as_slice(),
+            ImageClass::BadContainer,
+        ),
+        ([(216, 8, 48)].as_slice(), ImageClass::BadContainer),
+        // a byte that is no truth
+        (
+            [(192, 4, 131073), (256, 1, 2)].as_slice(),
+            ImageClass::BadContainer,
+        ),
     ] {
         let mut image = image_of(rt.alloc(), 1024, &VECTORS)?;
         change(image.as_mut_slice(), changes);
@@ -347,12 +371,49 @@ fn a_map_is_damaged(rt: HostRuntime) -> Result<(), Fail> {
 
 #[test]
 fn what_has_not_come_is_refused_by_a_late_class(rt: HostRuntime) -> Result<(), Fail> {
-    for words in [VECTORS.as_slice(), PAIR.as_slice()] {
-        let image = image_of(rt.alloc(), 1024, words)?;
-        match cause(rt.alloc(), &image, 1024, 4096)? {
-            Some(OpenError::Image(class)) => assert!(rt; class.number() >= 8, "{class}"),
-            other => assert!(rt; false, "{other:?}"),
+    let image = image_of(rt.alloc(), 1024, &PAIR)?;
+    match cause(rt.alloc(), &image, 1024, 4096)? {
+        Some(OpenError::Image(class)) => assert!(rt; class.number() >= 8, "{class}"),
+        other => assert!(rt; false, "{other:?}"),
+    }
+    Ok(())
+}
+
+#[test]
+fn vectors_are_opened(rt: HostRuntime) -> Result<(), Fail> {
+    for (changes, answers) in [
+        (
+            [].as_slice(),
+            "vec<i64> 1\nnamed v vec<i64> 1 #192 1 1\nvec<i64> 2\nok\n",
+        ),
+        // two places in 16 bytes, no element, another kind of element, and a string
+        (
+            [(232, 8, 2)].as_slice(),
+            "vec<i64> 1\nnamed v vec<i64> 1 #192 1 2\nvec<i64> 2\nok\n",
+        ),
+        (
+            [(224, 8, 0)].as_slice(),
+            "vec<i64>\nnamed v vec<i64> 1 #192 0 1\nvec<i64> 2\nok\n",
+        ),
+        (
+            [(192, 4, 131073)].as_slice(),
+            "vec<bool> true\nnamed v vec<bool> 1 #192 1 1\nvec<i64> 2\nok\n",
+        ),
+        (
+            [(192, 4, 65536)].as_slice(),
+            "string \"\\x01\"\nnamed v string 1 #192 1 1\nvec<i64> 2\nok\n",
+        ),
+    ] {
+        let mut image = image_of(rt.alloc(), 1024, &VECTORS)?;
+        change(image.as_mut_slice(), changes);
+        for piece in [1, 7, 4096] {
+            let found = cause(rt.alloc(), &image, 1024, piece)?;
+            assert_eq!(rt; found, None, "{changes:?}");
         }
+        let script = b"show v\ninfo v\nshow w\nreserve v 4\n";
+        let done = run_image(rt.alloc(), Mode::Write, &image, script)?;
+        assert_eq!(rt; done.result, Ok(()));
+        assert_eq!(rt; done.answers.taken(), answers.as_bytes(), "{changes:?}");
     }
     Ok(())
 }
@@ -369,6 +430,17 @@ fn names_are_opened(rt: HostRuntime) -> Result<(), Fail> {
             &TWO_NAMES,
             b"show a\nlist\ndestroy a\nfree\n",
             b"i64 5\na i64 1 #192\nb i64 1 #240\nend\ntrue\n784\n",
+        ),
+        (
+            &VECTORS,
+            b"show v\nshow w\nlist\npop w\nfree\n",
+            b"vec<i64> 1\nvec<i64> 2\nv vec<i64> 1 #192\nw vec<i64> 1 #288\nend\n2\n640\n",
+        ),
+        // the new storage of v is taken behind w, and the old one is given back
+        (
+            &VECTORS,
+            b"show v\npush v 3\nshow v\nlist\nfree\n",
+            b"vec<i64> 1\nok\nvec<i64> 1 3\nv vec<i64> 1 #192\nw vec<i64> 1 #288\nend\n624\n",
         ),
     ] {
         let image = image_of(rt.alloc(), 1024, words)?;
@@ -387,6 +459,10 @@ fn a_run_saves_these_words(rt: HostRuntime) -> Result<(), Fail> {
     for (script, words) in [
         (b"construct i64 a 5\n".as_slice(), NAMED.as_slice()),
         (b"construct i64 a 5\nconstruct i64 b 6\n", &TWO_NAMES),
+        (
+            b"construct vec<i64> v 1\nconstruct vec<i64> w 2\n",
+            &VECTORS,
+        ),
     ] {
         let done = run_fresh(rt.alloc(), 1024, script)?;
         for (at, word) in words {

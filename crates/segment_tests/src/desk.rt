@@ -7,6 +7,7 @@ use raw_region::fake::{Last, MemorySink, MemorySource};
 use segment_cli::{SessionFault, Start, session};
 use segment_manager::Mode;
 use std::alloc::{AllocError, Global};
+use std::process::Abort;
 use std::test::Fail;
 
 /// More bytes than any answer or image of these tests has.
@@ -129,4 +130,63 @@ pub fn put(image: &mut [u8], at: usize, bytes: &[u8]) {
     if let Some(slot) = image.get_mut(at..at.saturating_add(bytes.len())) {
         slot.copy_from_slice(bytes);
     }
+}
+
+/// A session on a fresh segment of a size, line by line with what each prints; and a later one on what it saves.
+pub struct Row {
+    pub size: u64,
+    pub lines: &'static [(&'static str, &'static str)],
+    pub later: &'static [(&'static str, &'static str)],
+}
+
+/// The lines one after another.
+fn script_of(alloc: Global, lines: &[(&str, &str)]) -> Result<Vec<u8>, AllocError> {
+    let mut script = Vec::new(alloc);
+    for (line, _) in lines {
+        script.extend_from_slice(line.as_bytes())?;
+        script.push(b'\n')?;
+    }
+    Ok(script)
+}
+
+/// What the lines print, one after another.
+fn answers_of(alloc: Global, lines: &[(&str, &str)]) -> Result<Vec<u8>, AllocError> {
+    let mut answers = Vec::new(alloc);
+    for (_, answer) in lines {
+        answers.extend_from_slice(answer.as_bytes())?;
+        answers.push(b'\n')?;
+    }
+    Ok(answers)
+}
+
+/// Bytes as text, where they are text.
+fn text_of(bytes: &[u8]) -> &str {
+    str::from_utf8(bytes).unwrap_or("no text")
+}
+
+/// Runs a row: what its lines print, that the image is saved again as it is, and what is printed at another base.
+pub fn check_row(rt: &impl Abort, alloc: Global, row: &Row) -> Result<(), Fail> {
+    let done = run_fresh(alloc, row.size, &script_of(alloc, row.lines)?)?;
+    assert_eq!(rt; done.result, Ok(()), "{:?}", row.lines);
+    let want = answers_of(alloc, row.lines)?;
+    assert_eq!(rt; text_of(done.answers.taken()), text_of(&want));
+    let image = done.saved.taken();
+    let same = run_image(alloc, Mode::Write, image, b"")?;
+    assert_eq!(rt; same.result, Ok(()), "{:?}", row.lines);
+    assert_eq!(rt; same.saved.taken(), image, "{:?}", row.lines);
+    let later = script_of(alloc, row.later)?;
+    let place = Place::new(8192, 4096);
+    let moved = run_with(
+        alloc,
+        Start::Image,
+        Mode::Write,
+        image,
+        &later,
+        place,
+        SOUND,
+    )?;
+    assert_eq!(rt; moved.result, Ok(()), "{:?}", row.later);
+    let want = answers_of(alloc, row.later)?;
+    assert_eq!(rt; text_of(moved.answers.taken()), text_of(&want));
+    Ok(())
 }

@@ -17,3 +17,7 @@ mod machine_rows;
 mod object_rows;
 #[cfg(test)]
 mod script_rows;
+#[cfg(test)]
+mod string_rows;
+#[cfg(test)]
+mod vector_rows;

@@ -251,10 +251,12 @@ fn what_is_refused_is_saved_as_it_was(rt: HostRuntime) -> Result<(), Fail> {
 }
 
 #[test]
-fn a_name_has_63_bytes_at_most(rt: HostRuntime) -> Result<(), Fail> {
+fn a_name_has_255_bytes_at_most(rt: HostRuntime) -> Result<(), Fail> {
     for (len, answers) in [
         (63, b"#192\n720\n".as_slice()),
-        (64, b"error 3 bad syntax\n880\n"),
+        (64, b"#192\n720\n"),
+        (255, b"#192\n528\n"),
+        (256, b"error 3 bad syntax\n880\n"),
     ] {
         let mut script = Vec::new(rt.alloc());
         script.extend_from_slice(b"construct i64 ")?;
@@ -264,6 +266,19 @@ fn a_name_has_63_bytes_at_most(rt: HostRuntime) -> Result<(), Fail> {
         assert_eq!(rt; done.result, Ok(()));
         assert_eq!(rt; done.answers.taken(), answers, "{len} bytes");
     }
+    Ok(())
+}
+
+#[test]
+fn a_name_is_text_without_control_characters(rt: HostRuntime) -> Result<(), Fail> {
+    let script =
+        b"construct i64 \"\\xc3\\xa9\" 1\nshow \"\xc3\xa9\"\nlist\nconstruct i64 \"\\xff\" 1\nconstruct i64 \"\\xc2\\x85\" 1\n";
+    let done = run_fresh(rt.alloc(), 1024, script)?;
+    assert_eq!(rt; done.result, Ok(()));
+    assert_eq!(rt;
+        done.answers.taken(),
+        b"#192\ni64 1\n\"\\xc3\\xa9\" i64 1 #192\nend\nerror 3 bad syntax\nerror 3 bad syntax\n".as_slice()
+    );
     Ok(())
 }
 

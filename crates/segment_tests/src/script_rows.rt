@@ -198,7 +198,7 @@ fn a_long_line_is_refused(rt: HostRuntime) -> Result<(), Fail> {
 /// The words of the image that the first script saves; all others are 0.
 const FIRST_WORDS: [(usize, u64); 16] = [
     (0, 0x454c_4946_4745_534d),
-    (8, 1),
+    (8, 2),
     (16, 1024),
     (24, 168),
     (32, 1),
@@ -218,7 +218,7 @@ const FIRST_WORDS: [(usize, u64); 16] = [
 /// The words of a fresh image of 176 bytes; all others are 0.
 const FRESH_WORDS: [(usize, u64); 11] = [
     (0, 0x454c_4946_4745_534d),
-    (8, 1),
+    (8, 2),
     (16, 176),
     (24, 120),
     (32, 1),

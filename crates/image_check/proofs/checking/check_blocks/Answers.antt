@@ -1,11 +1,8 @@
 -- The first pass that fails has its class, and all passes together spend what each may.
 use Rattle.std.proofs.Common.{◌≡◌, refl, sym, ap, ◌∙◌}
-use Rattle.std.specs.Prelude.{Option, Some, Result}
+use Rattle.std.specs.Prelude.{Option, Some}
 use Rattle.raw_region.specs.Format.{current}
 use Rattle.image_check.specs.declared.classes.ImageClass.{ImageClass}
-use Rattle.image_check.specs.declared.classes.ImageClass.TheVariants.{OrphanBlock}
-use Rattle.image_check.specs.Checking.{FindsLate}
-use Rattle.image_check.specs.Passes.{Finds}
 use Rattle.image_check.specs.Visits.{both, index_rates, object_rates, sharing_rates, container_rates, orphan_rates}
 use Rattle.image_check.proofs.Budget.{spend-both, spend-less}
 use Rattle.image_check.proofs.Checked.{late-index, late-object, late-shared, late-container, late-orphans}

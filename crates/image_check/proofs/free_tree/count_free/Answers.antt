@@ -1,6 +1,4 @@
-use Rattle.std.proofs.Common.{◌≡◌, refl, sym, ◌∙◌, List, length, arith}
-use Rattle.block_tags.specs.declared.tile.Tile.{Tile}
-use Rattle.best_fit.specs.GapNodes.{gaps_of}
+use Rattle.std.proofs.Common.{refl, sym, ◌∙◌, arith}
 use Rattle.image_check.specs.Visits.{counting_rates}
 use Rattle.image_check.proofs.Budget.{two-for-tile, within-all, within-more, within-none}
 use Rattle.image_check.proofs.WalkedTiles.{at-meets, tags-IsTiled, walk-at, walk-end, walk-nearer, walk-on, walk-start}

@@ -18,29 +18,29 @@ tiles-init c =
     walk-start c.args.window.now _ c.first-tile.result (tags-IsTiled c.args.window.now c.requires.size c.requires.tags) c.first-tile.ensures
     (refl, within-none support_rates _)
 
-pub is_number-requires-clause-within : goal.is_number-requires-clause-within
-is_number-requires-clause-within c = at-within c.args.window.now _ c.in-Some.here (walk-at c.args.window.now _ c.tiles.tile c.in-Some.here c.tiles.invariant c.in-Some.is)
+pub holds_supported-requires-clause-within : goal.holds_supported-requires-clause-within
+holds_supported-requires-clause-within c = at-within c.args.window.now _ c.in-Some.here (walk-at c.args.window.now _ c.tiles.tile c.in-Some.here c.tiles.invariant c.in-Some.is)
 
-pub is_number-requires-clause-long : goal.is_number-requires-clause-long
-is_number-requires-clause-long c = (at-meets c.args.window.now _ c.in-Some.here (walk-at c.args.window.now _ c.tiles.tile c.in-Some.here c.tiles.invariant c.in-Some.is)).long
+pub holds_supported-requires-clause-long : goal.holds_supported-requires-clause-long
+holds_supported-requires-clause-long c = (at-meets c.args.window.now _ c.in-Some.here (walk-at c.args.window.now _ c.tiles.tile c.in-Some.here c.tiles.invariant c.in-Some.is)).long
 
-pub returns-then-not-is_number-clause-value : goal.returns-then-not-is_number-clause-value
-returns-then-not-is_number-clause-value c =
+pub returns-then-not-holds_supported-clause-value : goal.returns-then-not-holds_supported-clause-value
+returns-then-not-holds_supported-clause-value c =
     let w = c.args.window.now in
     let test = is_supported_tile (bytes_of w.bytes) in
     let a = walk-at w _ c.tiles.tile c.in-Some.here c.tiles.invariant c.in-Some.is in
-    let all : list_all test (a.front ++ c.in-Some.here ∷ a.back) ≡ false = all-fails test a.front c.in-Some.here a.back (sym c.is_number.ensures.value ∙ c.if-not-is_number.true) in
+    let all : list_all test (a.front ++ c.in-Some.here ∷ a.back) ≡ false = all-fails test a.front c.in-Some.here a.back (sym c.holds_supported.ensures.value ∙ c.if-not-holds_supported.true) in
     sym (sym (supported-tiles w.bytes) ∙ ap (list_all test) (tiles_are_read_off w (a.front ++ c.in-Some.here ∷ a.back) a.said) ∙ all)
 
-pub returns-then-not-is_number-clause-visits : goal.returns-then-not-is_number-clause-visits
-returns-then-not-is_number-clause-visits c =
+pub returns-then-not-holds_supported-clause-visits : goal.returns-then-not-holds_supported-clause-visits
+returns-then-not-holds_supported-clause-visits c =
     let w = c.args.window.now in
     let a = walk-at w _ c.tiles.tile c.in-Some.here c.tiles.invariant c.in-Some.is in
     let long = (at-meets w _ c.in-Some.here a).long in
     let two = two-for-tile c.in-Some.here.use_of c.in-Some.here.len long in
     let one = c.visit.ensures in
-    let less = c.is_number.ensures.visits.0 in
-    let more = c.is_number.ensures.visits.1 in
+    let less = c.holds_supported.ensures.visits.0 in
+    let more = c.holds_supported.ensures.visits.1 in
     within-stop w support_rates _ c.tiles.visits _ a.front c.in-Some.here a.back a.said a.kept.1 (omega arith) (omega arith)
 
 pub next-tile-requires : goal.next-tile-requires
@@ -60,11 +60,11 @@ tiles-preserved c =
     let long = (at-meets w _ c.in-Some.here a).long in
     let two = two-for-tile c.in-Some.here.use_of c.in-Some.here.len long in
     let one = c.visit.ensures in
-    let less = c.is_number.ensures.visits.0 in
-    let more = c.is_number.ensures.visits.1 in
+    let less = c.holds_supported.ensures.visits.0 in
+    let more = c.holds_supported.ensures.visits.1 in
     walk-on w _ _ c.in-Some.here c.next-tile.result a c.next-tile.ensures
     (λ front k. (
-      all-more test front c.in-Some.here k.0 (sym c.is_number.ensures.value ∙ c.if-not-is_number.false),
+      all-more test front c.in-Some.here k.0 (sym c.holds_supported.ensures.value ∙ c.if-not-holds_supported.false),
       within-more support_rates _ c.tiles.visits _ front c.in-Some.here k.1 (omega arith) (omega arith),
     ))
 

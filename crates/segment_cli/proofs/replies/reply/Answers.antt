@@ -1,6 +1,6 @@
 -- Each arm is one call, which is the step of its command.
 use Rattle.std.proofs.Common.{refl, subst, true}
-use Rattle.seg_types.specs.Commands.{AllDeallocated, Construct, ConstructIt, Destroy, DestroyPtr, Find, FindOrConstruct, Free, Get, NumNamed, NumUnique, ReserveNamed, ReserveUnique, Sanity, Set, ShrinkIndexes, Size, ZeroFree}
+use Rattle.seg_types.specs.Commands.{AllDeallocated, Append, Assign, Clear, Construct, ConstructIt, Destroy, DestroyPtr, Erase, Find, FindOrConstruct, Free, Get, Insert, NumNamed, NumUnique, Pop, Push, Reserve, Sanity, Set, Shrink, Size}
 use Rattle.seg_types.specs.Keys.{index_key_seen, key_seen, new_key_seen}
 use Rattle.seg_types.specs.Values.{kind_of_scalar, value_of_scalar}
 use Rattle.segment_lang.specs.Seen.{content_of, literal_of}
@@ -8,7 +8,7 @@ use Rattle.segment_manager.specs.Answers.{Done, Element, Made, Number, Truth}
 use Rattle.segment_manager.specs.Found.{found_answer, pair_found}
 use Rattle.segment_manager.specs.State.{IsReply, scalar_answer}
 use Rattle.segment_cli.specs.declared.replies.Answer.TheVariants as said
-use Rattle.segment_cli.proofs.Answering.{keeps-refused, replies-blocks, replies-call, replies-info, replies-kinds, replies-names, replies-read, replies-show, replies-step}
+use Rattle.segment_cli.proofs.Answering.{keeps-refused, replies-blocks, replies-call, replies-info, replies-kinds, replies-names, replies-read, replies-show}
 use Rattle.segment_cli.proofs.replies.reply.Goals as goal
 
 pub returns-in-Construct : goal.returns-in-Construct
@@ -57,6 +57,51 @@ pub returns-in-Set : goal.returns-in-Set
 returns-in-Set c =
     rw c.in-Set.is (replies-call (λ _. Done) (λ _. refl) c.args.segment.now c.set.new.segment (Set (key_seen c.in-Set.key) c.in-Set.index (literal_of c.in-Set.value)) c.set.result c.done.result
     refl refl c.done.ensures c.set.ensures.step (keeps-refused c.args.segment.now c.set.new.segment c.set.result c.set.ensures.refused))
+
+pub returns-in-Push : goal.returns-in-Push
+returns-in-Push c =
+    rw c.in-Push.is (replies-call (λ _. Done) (λ _. refl) c.args.segment.now c.push.new.segment (Push (key_seen c.in-Push.key) (literal_of c.in-Push.value)) c.push.result c.done-in-Push.result
+    refl refl c.done-in-Push.ensures c.push.ensures.step (keeps-refused c.args.segment.now c.push.new.segment c.push.result c.push.ensures.refused))
+
+pub returns-in-Pop : goal.returns-in-Pop
+returns-in-Pop c =
+    rw c.in-Pop.is (replies-call (λ v. Element (kind_of_scalar v) (value_of_scalar v)) (λ _. refl) c.args.segment.now c.pop.new.segment (Pop (key_seen c.in-Pop.key)) c.pop.result c.element-in-Pop.result
+    refl refl c.element-in-Pop.ensures c.pop.ensures.step (keeps-refused c.args.segment.now c.pop.new.segment c.pop.result c.pop.ensures.refused))
+
+pub returns-in-Insert : goal.returns-in-Insert
+returns-in-Insert c =
+    rw c.in-Insert.is (replies-call (λ _. Done) (λ _. refl) c.args.segment.now c.insert.new.segment (Insert (key_seen c.in-Insert.key) c.in-Insert.index (literal_of c.in-Insert.value)) c.insert.result c.done-in-Insert.result
+    refl refl c.done-in-Insert.ensures c.insert.ensures.step (keeps-refused c.args.segment.now c.insert.new.segment c.insert.result c.insert.ensures.refused))
+
+pub returns-in-Erase : goal.returns-in-Erase
+returns-in-Erase c =
+    rw c.in-Erase.is (replies-call (λ _. Done) (λ _. refl) c.args.segment.now c.erase.new.segment (Erase (key_seen c.in-Erase.key) c.in-Erase.index) c.erase.result c.done-in-Erase.result
+    refl refl c.done-in-Erase.ensures c.erase.ensures.step (keeps-refused c.args.segment.now c.erase.new.segment c.erase.result c.erase.ensures.refused))
+
+pub returns-in-Reserve : goal.returns-in-Reserve
+returns-in-Reserve c =
+    rw c.in-Reserve.is (replies-call (λ _. Done) (λ _. refl) c.args.segment.now c.reserve.new.segment (Reserve (key_seen c.in-Reserve.key) c.in-Reserve.count) c.reserve.result c.done-in-Reserve.result
+    refl refl c.done-in-Reserve.ensures c.reserve.ensures.step (keeps-refused c.args.segment.now c.reserve.new.segment c.reserve.result c.reserve.ensures.refused))
+
+pub returns-in-Shrink : goal.returns-in-Shrink
+returns-in-Shrink c =
+    rw c.in-Shrink.is (replies-call (λ _. Done) (λ _. refl) c.args.segment.now c.shrink.new.segment (Shrink (key_seen c.in-Shrink.key)) c.shrink.result c.done-in-Shrink.result
+    refl refl c.done-in-Shrink.ensures c.shrink.ensures.step (keeps-refused c.args.segment.now c.shrink.new.segment c.shrink.result c.shrink.ensures.refused))
+
+pub returns-in-Clear : goal.returns-in-Clear
+returns-in-Clear c =
+    rw c.in-Clear.is (replies-call (λ _. Done) (λ _. refl) c.args.segment.now c.clear.new.segment (Clear (key_seen c.in-Clear.key)) c.clear.result c.done-in-Clear.result
+    refl refl c.done-in-Clear.ensures c.clear.ensures.step (keeps-refused c.args.segment.now c.clear.new.segment c.clear.result c.clear.ensures.refused))
+
+pub returns-in-Assign : goal.returns-in-Assign
+returns-in-Assign c =
+    rw c.in-Assign.is (replies-call (λ _. Done) (λ _. refl) c.args.segment.now c.assign.new.segment (Assign (key_seen c.in-Assign.key) c.in-Assign.values) c.assign.result c.done-in-Assign.result
+    refl refl c.done-in-Assign.ensures c.assign.ensures.step (keeps-refused c.args.segment.now c.assign.new.segment c.assign.result c.assign.ensures.refused))
+
+pub returns-in-Append : goal.returns-in-Append
+returns-in-Append c =
+    rw c.in-Append.is (replies-call (λ _. Done) (λ _. refl) c.args.segment.now c.append.new.segment (Append (key_seen c.in-Append.key) c.in-Append.text) c.append.result c.done-in-Append.result
+    refl refl c.done-in-Append.ensures c.append.ensures.step (keeps-refused c.args.segment.now c.append.new.segment c.append.result c.append.ensures.refused))
 
 pub returns-in-ListNames : goal.returns-in-ListNames
 returns-in-ListNames c = rw c.in-ListNames.is (replies-names c.args.segment.now)

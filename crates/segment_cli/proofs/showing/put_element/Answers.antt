@@ -1,4 +1,4 @@
-use Rattle.std.proofs.Common.{◌∷◌, sym, ap, subst, Ok, Err, arith}
+use Rattle.std.proofs.Common.{◌∷◌, sym, ap, subst, arith}
 use Rattle.std.proofs.lemmas.List.{append-nil}
 use Rattle.raw_region.specs.Device.{Writes}
 use Rattle.seg_types.specs.Commands.{Get}
@@ -10,11 +10,7 @@ use Rattle.segment_manager.specs.State.{StandsFor}
 use Rattle.segment_manager.specs.Step.{step}
 use Rattle.segment_cli.specs.Parts.{element_part}
 use Rattle.segment_cli.proofs.Owed.{writes_none, writes_owed}
-use Rattle.segment_cli.proofs.ShownObjects.{element-read, is-object}
 use Rattle.segment_cli.proofs.showing.put_element.Goals as goal
-
-pub get_at-requires : goal.get_at-requires
-get_at-requires g c = is-object c.args.segment.now c.args.handle c.args.kind c.requires.object
 
 pub returns-in-Ok : goal.returns-in-Ok
 returns-in-Ok g c =
@@ -22,17 +18,15 @@ returns-in-Ok g c =
     let old = g.W.Sink.history c.args.out.now in
     let new = g.W.Sink.history c.put_pieces.new.out in
     let v = c.in-Ok.value in
-    let said = element-read s c.args.handle c.args.kind c.args.index (Ok v) c.requires.object c.in-Ok.ensures in
     writes_owed old new c.put_pieces.result (StandsFor s.cut.bytes) (0x20 ∷ value_text (kind_of_scalar v) (value_of_scalar v))
     (λ (d : Directory). element_part (step s.mode d (Get (ByHandle c.args.handle) c.args.index)).0)
     (subst (λ t. Writes old new c.put_pieces.result (0x20 ∷ t)) (append-nil (value_text (kind_of_scalar v) (value_of_scalar v))) c.put_pieces.ensures)
-    (λ d k. ap element_part (said.answers d k))
+    (λ d k. ap element_part (c.in-Ok.ensures.answers d k))
 
 pub returns-in-Err : goal.returns-in-Err
 returns-in-Err g c =
     let s = c.args.segment.now in
-    let said = element-read s c.args.handle c.args.kind c.args.index (Err c.in-Err.field-0) c.requires.object c.in-Err.ensures in
     record {
-      writes = λ d k. writes_none (g.W.Sink.history c.args.out.now) tt (element_part (step s.mode d (Get (ByHandle c.args.handle) c.args.index)).0) (sym (ap element_part (said.answers d k)));
+      writes = λ d k. writes_none (g.W.Sink.history c.args.out.now) tt (element_part (step s.mode d (Get (ByHandle c.args.handle) c.args.index)).0) (sym (ap element_part (c.in-Err.ensures.answers d k)));
       counted = omega arith;
     }

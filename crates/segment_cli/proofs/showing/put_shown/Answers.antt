@@ -1,28 +1,45 @@
-use Rattle.std.proofs.Common.{arith}
-use Rattle.seg_types.specs.declared.kinds.Kind.TheVariants.{Scalar}
+use Rattle.std.proofs.Common.{ap, arith}
 use Rattle.seg_types.specs.Keys.{key_seen}
 use Rattle.segment_manager.specs.Answers.{Refused}
+use Rattle.segment_manager.specs.Calls.{elements_of}
 use Rattle.segment_manager.specs.Directory.{Directory}
 use Rattle.segment_manager.specs.State.{StandsFor}
 use Rattle.segment_cli.specs.Answer.{answer_text}
 use Rattle.segment_cli.specs.Replies.{shown_at}
 use Rattle.segment_cli.proofs.Owed.{writes_owed, writes_same}
-use Rattle.segment_cli.proofs.ShownObjects.{elements-said, no-other, shown-missing, shown-said}
+use Rattle.segment_cli.proofs.ShownObjects.{no-other, scalars-at, scalars-said, shown-missing, string-said, vector-said}
 use Rattle.segment_cli.proofs.showing.put_shown.Goals as goal
 
 pub put_value_line-requires-clause-object : goal.put_value_line-requires-clause-object
-put_value_line-requires-clause-object g c = elements-said c.args.segment.now (key_seen c.args.key.now) c.in-Ok.said c.in-Ok.ensures c.in-Scalar.kind c.in-Scalar.is
+put_value_line-requires-clause-object g c = scalars-at c.args.segment.now (key_seen c.args.key.now) c.in-Ok.said c.in-Ok.ensures c.in-Scalar.field-0 (ap elements_of c.in-Scalar.is)
 
 pub returns-in-Scalar : goal.returns-in-Scalar
 returns-in-Scalar g c =
     let s = c.args.segment.now in
     writes_same (g.W.Sink.history c.args.out.now) (g.W.Sink.history c.put_value_line.new.out) c.put_value_line.result (StandsFor s.cut.bytes)
     _ (λ (d : Directory). answer_text (shown_at d (key_seen c.args.key.now))) c.put_value_line.ensures
-    (shown-said s (key_seen c.args.key.now) c.in-Ok.said c.in-Ok.ensures c.in-Scalar.kind c.in-Scalar.is)
+    (scalars-said s (key_seen c.args.key.now) c.in-Ok.said c.in-Ok.ensures c.in-Scalar.field-0 c.from.result c.in-Scalar.is c.from.ensures)
+
+pub put_value_line-requires-in-Vector-clause-object : goal.put_value_line-requires-in-Vector-clause-object
+put_value_line-requires-in-Vector-clause-object g c = scalars-at c.args.segment.now (key_seen c.args.key.now) c.in-Ok.said c.in-Ok.ensures c.in-Vector.field-0 (ap elements_of c.in-Vector.is)
+
+pub returns-in-Vector : goal.returns-in-Vector
+returns-in-Vector g c =
+    let s = c.args.segment.now in
+    writes_same (g.W.Sink.history c.args.out.now) (g.W.Sink.history c.put_value_line-in-Vector.new.out) c.put_value_line-in-Vector.result (StandsFor s.cut.bytes)
+    _ (λ (d : Directory). answer_text (shown_at d (key_seen c.args.key.now))) c.put_value_line-in-Vector.ensures
+    (vector-said s (key_seen c.args.key.now) c.in-Ok.said c.in-Ok.ensures c.in-Vector.field-0 c.length_of.result c.in-Vector.is c.length_of.ensures)
+
+pub returns-in-Text : goal.returns-in-Text
+returns-in-Text g c =
+    let s = c.args.segment.now in
+    writes_same (g.W.Sink.history c.args.out.now) (g.W.Sink.history c.put_string_line.new.out) c.put_string_line.result (StandsFor s.cut.bytes)
+    _ (λ (d : Directory). answer_text (shown_at d (key_seen c.args.key.now))) c.put_string_line.ensures
+    (string-said s (key_seen c.args.key.now) c.in-Ok.said c.in-Ok.ensures c.in-Text.is)
 
 pub returns-in_default : goal.returns-in_default
 returns-in_default g c = record {
-  writes = λ d k. absurd (no-other c.args.segment.now (key_seen c.args.key.now) c.in-Ok.said c.in-Ok.ensures c.in_default.not-Scalar d k);
+  writes = λ d k. absurd (no-other c.args.segment.now (key_seen c.args.key.now) c.in-Ok.said c.in-Ok.ensures c.in_default.not-Scalar c.in_default.not-Vector c.in_default.not-Text d k);
   counted = omega arith;
 }
 

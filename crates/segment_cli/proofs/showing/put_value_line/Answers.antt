@@ -1,5 +1,4 @@
 use Rattle.std.proofs.Common.{[], ◌∷◌, ◌++◌, arith}
-use Rattle.seg_types.specs.declared.kinds.Kind.TheVariants.{Scalar}
 use Rattle.seg_types.specs.Names.{ByHandle}
 use Rattle.raw_region.proofs.Laws.{writes-behind, writes-cut}
 use Rattle.segment_cli.specs.Shown.{elements_text, front_text}
@@ -15,7 +14,7 @@ returns-in_err-put_elements g c =
     let result = c.from_residual-in_err-put_elements.result in
     record {
       writes = λ d k.
-          writes-behind (g.W.Sink.history c.args.out.now) (g.W.Sink.history c.put_front.new.out) (g.W.Sink.history c.put_elements.new.out) result (front_text (Scalar c.args.kind) c.args.count)
+          writes-behind (g.W.Sink.history c.args.out.now) (g.W.Sink.history c.put_front.new.out) (g.W.Sink.history c.put_elements.new.out) result (front_text c.args.kind c.args.count)
           (elements_text s.mode d (ByHandle c.args.handle) c.args.count ++ 0x0A ∷ []) front.ok (omega (arith, front.counted))
           (writes-cut (g.W.Sink.history c.put_front.new.out) (g.W.Sink.history c.put_elements.new.out) _ result (elements_text s.mode d (ByHandle c.args.handle) c.args.count) (0x0A ∷ []) failed (cut.writes d k));
       counted = omega (arith, front.counted, cut.counted, failures_in-err result failed);
@@ -28,7 +27,7 @@ returns g c =
     let middle = c.in_ok-put_elements.ensures in
     record {
       writes = λ d k.
-          writes-behind (g.W.Sink.history c.args.out.now) (g.W.Sink.history c.put_front.new.out) (g.W.Sink.history c.put_pieces.new.out) c.put_pieces.result (front_text (Scalar c.args.kind) c.args.count)
+          writes-behind (g.W.Sink.history c.args.out.now) (g.W.Sink.history c.put_front.new.out) (g.W.Sink.history c.put_pieces.new.out) c.put_pieces.result (front_text c.args.kind c.args.count)
           (elements_text s.mode d (ByHandle c.args.handle) c.args.count ++ 0x0A ∷ []) front.ok (omega (arith, front.counted))
           (writes-behind (g.W.Sink.history c.put_front.new.out) (g.W.Sink.history c.put_elements.new.out) (g.W.Sink.history c.put_pieces.new.out) c.put_pieces.result
           (elements_text s.mode d (ByHandle c.args.handle) c.args.count) (0x0A ∷ []) (middle.writes d k).ok (omega (arith, middle.counted)) c.put_pieces.ensures);

@@ -1,7 +1,7 @@
-use Rattle.std.proofs.Common.{ℕ, ap, subst, ◌∙◌, ◌++◌, length, arith}
+use Rattle.std.proofs.Common.{ap, subst, ◌∙◌, ◌++◌, arith}
 use Rattle.raw_region.specs.Device.{Writes}
 use Rattle.raw_region.proofs.Laws.{writes-behind}
-use Rattle.segment_manager.specs.Directory.{Directory, unique_objects}
+use Rattle.segment_manager.specs.Directory.{unique_objects}
 use Rattle.segment_cli.specs.Answer.{entry_words, line}
 use Rattle.segment_cli.specs.Parts.{line_part, parts_until, said_words}
 use Rattle.segment_cli.proofs.Answering.{unique_is}

@@ -1,6 +1,5 @@
-use Rattle.std.proofs.Common.{◌≡◌, ◌∷◌, ◌++◌}
-use Rattle.segment_lang.specs.Texts.{name_text}
-use Rattle.segment_manager.specs.Directory.{Directory, Object, unique_objects}
+use Rattle.std.proofs.Common.{◌≡◌, ◌++◌}
+use Rattle.segment_manager.specs.Directory.{Directory, unique_objects}
 use Rattle.segment_manager.specs.State.{StandsFor}
 use Rattle.segment_cli.specs.Answer.{entry_words}
 use Rattle.segment_cli.specs.Parts.{line_part, parts_until}

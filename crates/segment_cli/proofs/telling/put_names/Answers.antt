@@ -1,8 +1,8 @@
-use Rattle.std.proofs.Common.{ℕ, ap, subst, ◌∙◌, ◌∷◌, ◌++◌, length, arith}
+use Rattle.std.proofs.Common.{ap, subst, ◌∙◌, ◌∷◌, ◌++◌, arith}
 use Rattle.raw_region.specs.Device.{Writes}
 use Rattle.raw_region.proofs.Laws.{writes-behind}
 use Rattle.segment_lang.specs.Texts.{name_text}
-use Rattle.segment_manager.specs.Directory.{Directory, Object, named_objects}
+use Rattle.segment_manager.specs.Directory.{Object, named_objects}
 use Rattle.segment_cli.specs.Answer.{entry_words, line}
 use Rattle.segment_cli.specs.Parts.{line_part, parts_until, said_words}
 use Rattle.segment_cli.proofs.Answering.{named_is}

@@ -12,7 +12,8 @@ pub returns-in-Ok : goal.returns-in-Ok
 returns-in-Ok g c =
     let s = c.args.segment.now in
     writes_owed (g.W.Sink.history c.args.out.now) (g.W.Sink.history c.put_instance.new.out) c.put_instance.result (StandsFor s.cut.bytes)
-    _ (λ (d : Directory). answer_text (told_at d (key_seen c.args.key.now))) c.put_instance.ensures (told-said s (key_seen c.args.key.now) c.in-Ok.said c.in-Ok.ensures)
+    _ (λ (d : Directory). answer_text (told_at d (key_seen c.args.key.now))) c.put_instance.ensures
+    (told-said s (key_seen c.args.key.now) c.in-Ok.said c.in-Ok.ensures c.measure.result c.ok.result c.ok.ensures.value c.measure.ensures)
 
 pub returns-in-Err : goal.returns-in-Err
 returns-in-Err g c =

@@ -1,7 +1,7 @@
 use Rattle.std.proofs.Common.{◌∙◌, sym}
 use Rattle.seg_types.specs.Commands as asked
 use Rattle.segment_lang.specs.Reading.{key_of, name_key, new_key}
-use Rattle.segment_lang.proofs.CommandWords.{alone_at_end, of_finding, of_handle, of_key, of_key_number, of_key_number_literal, of_making, of_making_each, of_number}
+use Rattle.segment_lang.proofs.CommandWords.{alone_at_end, of_appending, of_assigning, of_finding, of_handle, of_key, of_key_literal, of_key_number, of_key_number_literal, of_making, of_making_each, of_number}
 use Rattle.segment_lang.proofs.forms.read_command.Goals as goal
 
 pub returns-in-Construct : goal.returns-in-Construct
@@ -33,6 +33,33 @@ returns-in-Get c = rw c.in-Get.is (c.read_get.ensures ∙ sym (of_key_number ask
 
 pub returns-in-Set : goal.returns-in-Set
 returns-in-Set c = rw c.in-Set.is (c.read_set.ensures ∙ sym (of_key_number_literal asked.Set c.args.bytes.now))
+
+pub returns-in-Push : goal.returns-in-Push
+returns-in-Push c = rw c.in-Push.is (c.read_push.ensures ∙ sym (of_key_literal asked.Push c.args.bytes.now))
+
+pub returns-in-Pop : goal.returns-in-Pop
+returns-in-Pop c = rw c.in-Pop.is (c.read_pop.ensures ∙ sym (of_key asked.Pop key_of c.args.bytes.now))
+
+pub returns-in-Insert : goal.returns-in-Insert
+returns-in-Insert c = rw c.in-Insert.is (c.read_insert.ensures ∙ sym (of_key_number_literal asked.Insert c.args.bytes.now))
+
+pub returns-in-Erase : goal.returns-in-Erase
+returns-in-Erase c = rw c.in-Erase.is (c.read_erase.ensures ∙ sym (of_key_number asked.Erase c.args.bytes.now))
+
+pub returns-in-Reserve : goal.returns-in-Reserve
+returns-in-Reserve c = rw c.in-Reserve.is (c.read_reserve.ensures ∙ sym (of_key_number asked.Reserve c.args.bytes.now))
+
+pub returns-in-Shrink : goal.returns-in-Shrink
+returns-in-Shrink c = rw c.in-Shrink.is (c.read_shrink.ensures ∙ sym (of_key asked.Shrink key_of c.args.bytes.now))
+
+pub returns-in-Clear : goal.returns-in-Clear
+returns-in-Clear c = rw c.in-Clear.is (c.read_clear.ensures ∙ sym (of_key asked.Clear key_of c.args.bytes.now))
+
+pub returns-in-Assign : goal.returns-in-Assign
+returns-in-Assign c = rw c.in-Assign.is (c.read_assign.ensures ∙ sym (of_assigning c.args.bytes.now))
+
+pub returns-in-Append : goal.returns-in-Append
+returns-in-Append c = rw c.in-Append.is (c.read_append.ensures ∙ sym (of_appending c.args.bytes.now))
 
 pub returns-in-ReserveNamed : goal.returns-in-ReserveNamed
 returns-in-ReserveNamed c = rw c.in-ReserveNamed.is (c.read_reserve_named.ensures ∙ sym (of_number asked.ReserveNamed c.args.bytes.now))

@@ -1,15 +1,29 @@
--- The entry leads to a block in use, which is so still where the entry is removed.
-use Rattle.std.proofs.Common.{◌≡◌, sym, subst, ◌∙◌}
-use Rattle.std.specs.Prelude.{IsTrue}
-use Rattle.std.proofs.lemmas.Option.{same_Some}
-use Rattle.raw_region.specs.Format.{current}
-use Rattle.best_fit.specs.Heap.{is_live_in, live_of}
-use Rattle.best_fit.proofs.Laws.{lay_out_one}
+-- The entry leads to an object. Once its contents are released the index is as it was, and its own block is in use.
+use Rattle.segment_manager.proofs.Destroys.{block-still, below-still, entry-below, entry-index, entry-object, index-still, removes-entry}
 use Rattle.segment_manager.proofs.destroying.remove_entered.Goals as goal
+
+pub at-handle-requires-clause-index : goal.at-handle-requires-clause-index
+at-handle-requires-clause-index c = entry-index c.args.heap.now c.args.index c.args.place c.requires
+
+pub at-handle-requires-clause-below : goal.at-handle-requires-clause-below
+at-handle-requires-clause-below c = entry-below c.args.heap.now c.args.index c.args.place c.requires
+
+pub release_contents-requires : goal.release_contents-requires
+release_contents-requires c = entry-object c.args.heap.now c.args.index c.args.place c.at-handle.result c.at-handle.ensures c.requires
+
+pub remove-requires-clause-index : goal.remove-requires-clause-index
+remove-requires-clause-index c =
+    index-still c.args.heap.now c.release_contents.new.heap c.args.index c.args.place c.at-handle.result c.at-handle.ensures c.release_contents.ensures c.requires
+
+pub remove-requires-clause-below : goal.remove-requires-clause-below
+remove-requires-clause-below c =
+    below-still c.args.heap.now c.release_contents.new.heap c.args.index c.args.place c.at-handle.result c.at-handle.ensures c.release_contents.ensures c.requires
 
 pub deallocate-requires : goal.deallocate-requires
 deallocate-requires c =
-    let q = c.requires.leads in
-    let same : c.at-handle.result ≡ q.2 = same_Some c.at-handle.result q.2 (sym (c.at-handle.ensures q.0 q.1 q.3) ∙ q.4) in
-    subst (λ l. IsTrue (is_live_in l c.at-handle.result)) (sym (lay_out_one current c.remove.new.heap.bytes (live_of c.args.heap.now.bytes) c.remove.ensures.live))
-    (subst (λ h. IsTrue (is_live_in (live_of c.args.heap.now.bytes) h)) (sym same) q.5)
+    block-still c.args.heap.now c.release_contents.new.heap c.args.index c.args.place c.at-handle.result c.at-handle.ensures c.release_contents.ensures c.requires c.remove.new.heap c.remove.ensures.live
+
+pub returns : goal.returns
+returns c =
+    removes-entry c.args.heap.now c.release_contents.new.heap c.args.index c.args.place c.at-handle.result c.at-handle.ensures c.release_contents.ensures c.remove.new.heap c.deallocate.new.self
+    (record { removes = c.remove.ensures.index; live = c.remove.ensures.live; keeps = c.remove.ensures.keeps }) c.deallocate.ensures.released

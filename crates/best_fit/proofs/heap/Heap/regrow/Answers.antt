@@ -1,5 +1,5 @@
 -- The block has the room, or it is lengthened, or it is replaced.
-use Rattle.std.proofs.Common.{◌≡◌, sym, subst, Option, Some, None, ℕ, IsTrue}
+use Rattle.std.proofs.Common.{sym, subst, IsTrue}
 use Rattle.std.specs.Prelude.{IfSome}
 use Rattle.raw_region.specs.Memory.{Cut}
 use Rattle.raw_region.specs.Format.{current}

@@ -1,8 +1,8 @@
 -- The new block is taken while the old one is in use.
-use Rattle.std.proofs.Common.{◌≡◌, ℕ, ◌+◌, subst, sym, arith, IsTrue}
+use Rattle.std.proofs.Common.{◌≡◌, ◌+◌, subst, arith, IsTrue}
 use Rattle.raw_region.specs.Memory.{bytes_of, read}
 use Rattle.raw_region.specs.Format.{current}
-use Rattle.best_fit.specs.Heap.{IsAllocated, IsChanged, has_room, live_of}
+use Rattle.best_fit.specs.Heap.{IsChanged, has_room, live_of}
 use Rattle.best_fit.proofs.Exchanges.{allocated-fits, changed-room, kept-room, new-room, replaced}
 use Rattle.best_fit.proofs.Spacing.{room-live}
 use Rattle.best_fit.proofs.heap.Heap.replace.Goals as goal

@@ -7,8 +7,8 @@ abbrev pub invariant-items : goal.invariant-items
 invariant-items l = record {
   text : IsSome (text_at l.rest);
   copied : take l.len l.held ++ text_in l.rest ≡ l.self;
-  room : l.len ≤ 63;
-  size : length l.held ≡ 63;
+  room : l.len ≤ 255;
+  size : length l.held ≡ 255;
 }
 
 abbrev pub decreases-items : goal.decreases-items

@@ -1,5 +1,6 @@
 -- An entry has the key, or the object is made with one, or a block is refused.
-use Rattle.std.proofs.Common.{◌≡◌, sym, ap, subst, ◌∙◌, ℕ, ◌≤◌, [], false, Ok, Err, Result, replicate}
+use Rattle.std.proofs.Common.{◌≡◌, sym, ap, subst, ◌∙◌, ℕ, ◌≤◌, false, Ok, Err, Result, replicate}
+use Rattle.seg_types.specs.declared.kinds.Kind.TheVariants.{Scalar}
 use Rattle.seg_types.specs.declared.refusals.Refusal.{Refusal}
 use Rattle.seg_types.specs.declared.refusals.Refusal.TheVariants.{Exists, NoSpace}
 use Rattle.seg_types.specs.Commands.{Construct, Numbers}
@@ -9,7 +10,7 @@ use Rattle.segment_manager.specs.State.{IsStep, State, handle_answer}
 use Rattle.segment_manager.specs.Step.{is_read_only}
 use Rattle.segment_manager.proofs.ConstructCalls.{entered-constructs, entered-exists, entered-refused}
 use Rattle.segment_manager.proofs.HeldIndexes.{denotes-index, denotes-keys}
-use Rattle.segment_manager.proofs.NewKeys.{key-short, no-extent}
+use Rattle.segment_manager.proofs.NewKeys.{key-short}
 use Rattle.segment_manager.proofs.Steps.{step-segment}
 use Rattle.segment_manager.proofs.segment.Segment.construct_entered.Goals as goal
 use Rattle.segment_manager.proofs.segment.Segment.construct_entered.Goals.{in-Ok, in-Err}
@@ -37,7 +38,7 @@ make_entered-requires-clause-within c =
     subst (λ n. c.in-Absent.place ≤ n) (sym x.stands.count) (c.in-Absent.ensures.place (table_of c.args.index d) (entries_of c.args.index d) x).0
 
 pub make_entered-requires-clause-short : goal.make_entered-requires-clause-short
-make_entered-requires-clause-short c = key-short c.args.index c.args.entry c.requires.key.0 c.args.name.now c.args.kind [] no-extent c.requires.key.1
+make_entered-requires-clause-short c = key-short c.args.index c.args.entry c.requires.key.0 c.args.name.now (Scalar c.args.kind) c.requires.key.1
 
 pub invariant_of-self : goal.invariant_of-self
 invariant_of-self c =

@@ -4,10 +4,10 @@ use Rattle.seg_types.specs.declared.keys.NewKey.{NewKey}
 use Rattle.seg_types.specs.Keys.{new_key_seen}
 use Rattle.seg_types.specs.Commands.{Construct, Numbers}
 use Rattle.seg_types.specs.Names as names
-use Rattle.seg_types.specs.Names.{is_printable_name}
+use Rattle.seg_types.specs.Names.{is_text_name}
 use Rattle.segment_manager.specs.NewObjects.{IsOfItsKind}
 use Rattle.segment_manager.specs.State.{IsStep, handle_answer}
-use Rattle.segment_manager.proofs.NewKeys.{printable}
+use Rattle.segment_manager.proofs.NewKeys.{text-is_name}
 use Rattle.segment_manager.proofs.Steps.{refuses-read_only}
 use Rattle.segment_manager.proofs.segment.Segment.construct_spelled.Goals as goal
 
@@ -18,7 +18,7 @@ returns-then-is_read_only-clause-step c =
 pub construct_entered-requires-clause-key : goal.construct_entered-requires-clause-key
 construct_entered-requires-clause-key c =
     let b = c.as_bytes-bytes.ensures in
-    (names.ByName c.in-Name.name, (b.bytes, b.bytes, printable c.in-Name.name (subst (λ bs. is_printable_name bs ≡ true) b.bytes b.name)))
+    (names.ByName c.in-Name.name, (b.bytes, b.bytes, text-is_name c.in-Name.name (subst (λ bs. is_text_name bs ≡ true) b.bytes b.name)))
 
 pub construct_entered-requires-in-Unique-clause-key : goal.construct_entered-requires-in-Unique-clause-key
 construct_entered-requires-in-Unique-clause-key c =
@@ -31,7 +31,7 @@ returns-in-Name-clause-step c =
     subst (λ (k : NewKey). IsStep c.args.self.now c.construct_entered.new.self (Construct (new_key_seen k) (Numbers c.args.kind (replicate c.args.count z))) (handle_answer c.construct_entered.result))
     (sym c.in-Name.is)
     (c.construct_entered.ensures.step (names.ByName c.in-Name.name) z
-    (b.bytes, b.bytes, printable c.in-Name.name (subst (λ bs. is_printable_name bs ≡ true) b.bytes b.name)) v)
+    (b.bytes, b.bytes, text-is_name c.in-Name.name (subst (λ bs. is_text_name bs ≡ true) b.bytes b.name)) v)
 
 pub returns-in-Unique-clause-step : goal.returns-in-Unique-clause-step
 returns-in-Unique-clause-step c =

@@ -1,8 +1,10 @@
 -- The object is begun, filled and finished, or refused before.
-use Rattle.std.proofs.Common.{◌≡◌, sym, ap, subst, ◌∙◌, ℕ, false, Err, Result}
+use Rattle.std.proofs.Common.{◌≡◌, sym, ap, subst, ◌∙◌, ℕ, ◌*◌, false, Err, Result}
 use Rattle.std.proofs.lemmas.Result.{err_from_is_err_and}
+use Rattle.seg_types.specs.declared.kinds.Kind.TheVariants.{Scalar}
 use Rattle.seg_types.specs.declared.refusals.Refusal.{Refusal}
 use Rattle.seg_types.specs.Keys.{new_key_seen}
+use Rattle.seg_types.specs.Kinds.{size_of}
 use Rattle.seg_types.specs.Values.{value_of_scalar}
 use Rattle.segment_manager.specs.Begun.{IsBegun, IsNotBegun}
 use Rattle.segment_manager.specs.Items.{TakesItems}
@@ -21,44 +23,44 @@ pub invariant_of-self : goal.invariant_of-self
 invariant_of-self g c =
     let s : State = record { cut = c.self.inside.heap; mode = c.self.inside.mode } in
     let writing : is_read_only s.mode ≡ false = ap (λ (t : State). is_read_only t.mode) c.self.view_is ∙ sym c.is_read_only.ensures ∙ c.if-is_read_only.false in
-    let not : IsNotBegun s.cut c.begin.new.heap (new_key_seen c.args.key.now) c.args.kind c.args.count c.in_err-begun.field-0.0 =
+    let not : IsNotBegun s.cut c.begin_numbers.new.heap (new_key_seen c.args.key.now) (Scalar c.args.kind) (size_of c.args.kind * c.args.count) c.in_err-begun.field-0.0 =
     c.in_err-begun.ensures in
-    step-segment s (record s { cut = c.begin.new.heap }) _ _
-    (takes-none _ _ g.I.Iterator.next_gives value_of_scalar s (new_key_seen c.args.key.now) c.args.kind c.args.count c.args.items.now c.in_err-begun.field-0.0 c.begin.new.heap writing c.requires.some not).step c.self.invariant
+    step-segment s (record s { cut = c.begin_numbers.new.heap }) _ _
+    (takes-none _ _ g.I.Iterator.next_gives value_of_scalar s (new_key_seen c.args.key.now) c.args.kind c.args.count c.args.items.now c.in_err-begun.field-0.0 c.begin_numbers.new.heap writing c.requires.some not).step c.self.invariant
 
 pub returns-in_err-begun : goal.returns-in_err-begun
 returns-in_err-begun g c =
     let s : State = record { cut = c.self.inside.heap; mode = c.self.inside.mode } in
     let writing : is_read_only s.mode ≡ false = ap (λ (t : State). is_read_only t.mode) c.self.view_is ∙ sym c.is_read_only.ensures ∙ c.if-is_read_only.false in
-    let not : IsNotBegun s.cut c.begin.new.heap (new_key_seen c.args.key.now) c.args.kind c.args.count c.in_err-begun.field-0.0 =
+    let not : IsNotBegun s.cut c.begin_numbers.new.heap (new_key_seen c.args.key.now) (Scalar c.args.kind) (size_of c.args.kind * c.args.count) c.in_err-begun.field-0.0 =
     c.in_err-begun.ensures in
     let p = err_from_is_err_and c.from_residual.result c.from_residual.ensures.1 in
-    subst (λ (r : Result ℕ Refusal). TakesItems g.I.Iterator.next_gives value_of_scalar c.args.self.now (record s { cut = c.begin.new.heap }) (new_key_seen c.args.key.now) c.args.kind c.args.count c.args.items.now c.args.items.now r) (sym (p.1 ∙ ap Err p.2))
-    (subst (λ t. TakesItems g.I.Iterator.next_gives value_of_scalar t (record s { cut = c.begin.new.heap }) (new_key_seen c.args.key.now) c.args.kind c.args.count c.args.items.now c.args.items.now (Err c.in_err-begun.field-0.0)) c.self.view_is
-    (takes-none _ _ g.I.Iterator.next_gives value_of_scalar s (new_key_seen c.args.key.now) c.args.kind c.args.count c.args.items.now c.in_err-begun.field-0.0 c.begin.new.heap writing c.requires.some not))
+    subst (λ (r : Result ℕ Refusal). TakesItems g.I.Iterator.next_gives value_of_scalar c.args.self.now (record s { cut = c.begin_numbers.new.heap }) (new_key_seen c.args.key.now) c.args.kind c.args.count c.args.items.now c.args.items.now r) (sym (p.1 ∙ ap Err p.2))
+    (subst (λ t. TakesItems g.I.Iterator.next_gives value_of_scalar t (record s { cut = c.begin_numbers.new.heap }) (new_key_seen c.args.key.now) c.args.kind c.args.count c.args.items.now c.args.items.now (Err c.in_err-begun.field-0.0)) c.self.view_is
+    (takes-none _ _ g.I.Iterator.next_gives value_of_scalar s (new_key_seen c.args.key.now) c.args.kind c.args.count c.args.items.now c.in_err-begun.field-0.0 c.begin_numbers.new.heap writing c.requires.some not))
 
 pub fill_values-enough-requires-clause-heap : goal.fill_values-enough-requires-clause-heap
 fill_values-enough-requires-clause-heap g c =
-    let b = c.in_ok-begun.begun in begun-heap b.entry c.self.inside.heap c.begin.new.heap (new_key_seen c.args.key.now) c.args.kind c.args.count b.handle b.at c.in_ok-begun.ensures
+    let b = c.in_ok-begun.begun in begun-heap b.entry c.self.inside.heap c.begin_numbers.new.heap (new_key_seen c.args.key.now) (Scalar c.args.kind) c.args.count (size_of c.args.kind * c.args.count) b.handle b.at c.in_ok-begun.ensures
 
 pub fill_values-enough-requires-clause-room : goal.fill_values-enough-requires-clause-room
 fill_values-enough-requires-clause-room g c =
     let s : State = record { cut = c.self.inside.heap; mode = c.self.inside.mode } in
     let b = c.in_ok-begun.begun in
-    let begun : IsBegun s.cut c.begin.new.heap (new_key_seen c.args.key.now) c.args.kind c.args.count b.handle b.at b.entry =
+    let begun : IsBegun s.cut c.begin_numbers.new.heap (new_key_seen c.args.key.now) (Scalar c.args.kind) c.args.count (size_of c.args.kind * c.args.count) b.handle b.at b.entry =
     c.in_ok-begun.ensures in
-    begun-room b.entry s.cut c.begin.new.heap (new_key_seen c.args.key.now) c.args.kind c.args.count b.handle b.at begun
+    begun-room b.entry s.cut c.begin_numbers.new.heap (new_key_seen c.args.key.now) (Scalar c.args.kind) c.args.count (size_of c.args.kind * c.args.count) b.handle b.at begun
 
 pub finish-requires : goal.finish-requires
 finish-requires g c =
     let s : State = record { cut = c.self.inside.heap; mode = c.self.inside.mode } in
     let writing : is_read_only s.mode ≡ false = ap (λ (t : State). is_read_only t.mode) c.self.view_is ∙ sym c.is_read_only.ensures ∙ c.if-is_read_only.false in
     let b = c.in_ok-begun.begun in
-    let begun : IsBegun s.cut c.begin.new.heap (new_key_seen c.args.key.now) c.args.kind c.args.count b.handle b.at b.entry =
+    let begun : IsBegun s.cut c.begin_numbers.new.heap (new_key_seen c.args.key.now) (Scalar c.args.kind) c.args.count (size_of c.args.kind * c.args.count) b.handle b.at b.entry =
     c.in_ok-begun.ensures in (
       s.cut,
       loose _ _ g.I.Iterator.next_gives value_of_scalar s c.self.invariant (new_key_seen c.args.key.now) c.args.kind c.args.count writing c.requires.some c.requires.few c.args.items.now c.fill_values-enough.new.items b.entry c.fill_values-enough.result
-          c.begin.new.heap c.fill_values-enough.new.heap b.handle b.at begun c.fill_values-enough.ensures,
+          c.begin_numbers.new.heap c.fill_values-enough.new.heap b.handle b.at begun c.fill_values-enough.ensures,
     )
 
 pub invariant_of-self-2 : goal.invariant_of-self-2
@@ -66,19 +68,19 @@ invariant_of-self-2 g c =
     let s : State = record { cut = c.self.inside.heap; mode = c.self.inside.mode } in
     let writing : is_read_only s.mode ≡ false = ap (λ (t : State). is_read_only t.mode) c.self.view_is ∙ sym c.is_read_only.ensures ∙ c.if-is_read_only.false in
     let b = c.in_ok-begun.begun in
-    let begun : IsBegun s.cut c.begin.new.heap (new_key_seen c.args.key.now) c.args.kind c.args.count b.handle b.at b.entry =
+    let begun : IsBegun s.cut c.begin_numbers.new.heap (new_key_seen c.args.key.now) (Scalar c.args.kind) c.args.count (size_of c.args.kind * c.args.count) b.handle b.at b.entry =
     c.in_ok-begun.ensures in
     step-segment s (record s { cut = c.finish.new.heap }) _ _
     (takes _ _ g.I.Iterator.next_gives value_of_scalar s c.self.invariant (new_key_seen c.args.key.now) c.args.kind c.args.count writing c.requires.some c.requires.few c.args.items.now c.fill_values-enough.new.items b.entry c.fill_values-enough.result
-    c.begin.new.heap c.fill_values-enough.new.heap c.finish.new.heap b.handle b.at c.finish.result begun c.fill_values-enough.ensures c.finish.ensures).step c.self.invariant
+    c.begin_numbers.new.heap c.fill_values-enough.new.heap c.finish.new.heap b.handle b.at c.finish.result begun c.fill_values-enough.ensures c.finish.ensures).step c.self.invariant
 
 pub returns : goal.returns
 returns g c =
     let s : State = record { cut = c.self.inside.heap; mode = c.self.inside.mode } in
     let writing : is_read_only s.mode ≡ false = ap (λ (t : State). is_read_only t.mode) c.self.view_is ∙ sym c.is_read_only.ensures ∙ c.if-is_read_only.false in
     let b = c.in_ok-begun.begun in
-    let begun : IsBegun s.cut c.begin.new.heap (new_key_seen c.args.key.now) c.args.kind c.args.count b.handle b.at b.entry =
+    let begun : IsBegun s.cut c.begin_numbers.new.heap (new_key_seen c.args.key.now) (Scalar c.args.kind) c.args.count (size_of c.args.kind * c.args.count) b.handle b.at b.entry =
     c.in_ok-begun.ensures in
     subst (λ t. TakesItems g.I.Iterator.next_gives value_of_scalar t (record s { cut = c.finish.new.heap }) (new_key_seen c.args.key.now) c.args.kind c.args.count c.args.items.now c.fill_values-enough.new.items c.finish.result) c.self.view_is
     (takes _ _ g.I.Iterator.next_gives value_of_scalar s c.self.invariant (new_key_seen c.args.key.now) c.args.kind c.args.count writing c.requires.some c.requires.few c.args.items.now c.fill_values-enough.new.items b.entry c.fill_values-enough.result
-    c.begin.new.heap c.fill_values-enough.new.heap c.finish.new.heap b.handle b.at c.finish.result begun c.fill_values-enough.ensures c.finish.ensures)
+    c.begin_numbers.new.heap c.fill_values-enough.new.heap c.finish.new.heap b.handle b.at c.finish.result begun c.fill_values-enough.ensures c.finish.ensures)

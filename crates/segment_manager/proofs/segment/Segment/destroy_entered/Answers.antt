@@ -4,24 +4,17 @@ use Rattle.seg_types.specs.Commands.{Destroy}
 use Rattle.segment_manager.specs.Answers.{Truth}
 use Rattle.segment_manager.specs.State.{IsStep, State}
 use Rattle.segment_manager.specs.Step.{is_read_only}
-use Rattle.segment_manager.proofs.Destroys.{destroys-entered, destroys-none, leads-to_block}
+use Rattle.segment_manager.proofs.Destroys.{destroys-entered, destroys-none, found-entry}
 use Rattle.segment_manager.proofs.HeldIndexes.{denotes-keys}
-use Rattle.segment_manager.proofs.KeyCalls.{place-below, segment-index}
 use Rattle.segment_manager.proofs.Steps.{step-segment}
 use Rattle.segment_manager.proofs.segment.Segment.destroy_entered.Goals as goal
 
 pub lookup-requires : goal.lookup-requires
 lookup-requires c = record { keys = denotes-keys c.args.index c.self.inside.heap c.self.invariant.0 c.args.entry c.self.invariant.1.denotes }
 
-pub remove_entered-requires-clause-index : goal.remove_entered-requires-clause-index
-remove_entered-requires-clause-index c = segment-index c.self.inside.heap c.args.index c.self.invariant
-
-pub remove_entered-requires-clause-below : goal.remove_entered-requires-clause-below
-remove_entered-requires-clause-below c = place-below c.self.inside.heap c.args.index c.args.entry c.in-Found.place c.self.invariant c.in-Found.ensures.place
-
-pub remove_entered-requires-clause-leads : goal.remove_entered-requires-clause-leads
-remove_entered-requires-clause-leads c =
-    leads-to_block c.self.inside.heap c.self.invariant c.args.index c.args.entry c.requires.key.0 c.in-Found.place c.requires.key.1 c.in-Found.ensures.place
+pub remove_entered-requires : goal.remove_entered-requires
+remove_entered-requires c =
+    found-entry c.self.inside.heap c.self.invariant c.args.index c.args.entry c.requires.key.0 c.in-Found.place c.requires.key.1 c.in-Found.ensures.place
 
 pub invariant_of-self : goal.invariant_of-self
 invariant_of-self c =

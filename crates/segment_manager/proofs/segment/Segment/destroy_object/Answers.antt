@@ -6,29 +6,16 @@ use Rattle.segment_manager.specs.Found.{is_object_at}
 use Rattle.segment_manager.specs.Listed.{IsAnonymousAt, IsEntryAt}
 use Rattle.segment_manager.specs.State.{Answers, IsStep, State}
 use Rattle.segment_manager.specs.Step.{is_read_only}
-use Rattle.segment_manager.proofs.Destroys.{destroys-anonymous, destroys-ptr, leads-to_block}
-use Rattle.segment_manager.proofs.KeyCalls.{place-below, segment-index}
-use Rattle.segment_manager.proofs.Listed.{own-live}
+use Rattle.segment_manager.proofs.Destroys.{destroys-anonymous, destroys-ptr, own-entry, own-object}
 use Rattle.segment_manager.proofs.Steps.{step-segment}
 use Rattle.segment_manager.proofs.segment.Segment.destroy_object.Goals as goal
 
-pub remove_entered-requires-clause-index : goal.remove_entered-requires-clause-index
-remove_entered-requires-clause-index c = segment-index c.self.inside.heap c.in-Some.listed.index c.self.invariant
-
-pub remove_entered-requires-clause-below : goal.remove_entered-requires-clause-below
-remove_entered-requires-clause-below c =
+pub remove_entered-requires : goal.remove_entered-requires
+remove_entered-requires c =
     let s : State = record { cut = c.self.inside.heap; mode = c.self.inside.mode } in
     let l = c.in-Some.listed in
     let x : IsEntryAt s c.args.handle l.index l.place = subst (λ t. IsEntryAt t c.args.handle l.index l.place) (sym c.self.view_is) c.in-Some.ensures in
-    place-below c.self.inside.heap l.index x.entry l.place c.self.invariant x.found
-
-pub remove_entered-requires-clause-leads : goal.remove_entered-requires-clause-leads
-remove_entered-requires-clause-leads c =
-    let s : State = record { cut = c.self.inside.heap; mode = c.self.inside.mode } in
-    let l = c.in-Some.listed in
-    let x : IsEntryAt s c.args.handle l.index l.place = subst (λ t. IsEntryAt t c.args.handle l.index l.place) (sym c.self.view_is) c.in-Some.ensures in
-    let own = x.leads c.self.invariant.0 c.self.invariant.1 in
-    leads-to_block c.self.inside.heap c.self.invariant l.index x.entry own.key l.place own.seeks x.found
+    own-entry s c.self.invariant l.index x.entry c.args.handle l.place x.leads x.found
 
 pub invariant_of-self : goal.invariant_of-self
 invariant_of-self c =
@@ -39,18 +26,18 @@ invariant_of-self c =
     step-segment s (record s { cut = c.remove_entered.new.heap }) (DestroyPtr c.args.handle) (Truth true)
     (destroys-ptr s c.remove_entered.new.heap l.index x.entry c.args.handle l.place writing c.self.invariant x.leads x.found c.remove_entered.ensures) c.self.invariant
 
-pub deallocate-requires : goal.deallocate-requires
-deallocate-requires c =
+pub remove_anonymous-requires : goal.remove_anonymous-requires
+remove_anonymous-requires c =
     let s : State = record { cut = c.self.inside.heap; mode = c.self.inside.mode } in
-    own-live s c.args.handle c.self.invariant (subst (λ t. Answers t (λ d. is_object_at d c.args.handle) true) (sym c.self.view_is) c.requires.object)
+    own-object s c.args.handle c.self.invariant (subst (λ t. Answers t (λ d. is_object_at d c.args.handle) true) (sym c.self.view_is) c.requires.object)
 
 pub invariant_of-self-in-None : goal.invariant_of-self-in-None
 invariant_of-self-in-None c =
     let s : State = record { cut = c.self.inside.heap; mode = c.self.inside.mode } in
     let writing : is_read_only s.mode ≡ false = ap (λ (t : State). is_read_only t.mode) c.self.view_is ∙ c.requires.writing in
     let x : IsAnonymousAt s c.args.handle = subst (λ t. IsAnonymousAt t c.args.handle) (sym c.self.view_is) c.in-None.ensures in
-    step-segment s (record s { cut = c.deallocate.new.self }) (DestroyPtr c.args.handle) (Truth true)
-    (destroys-anonymous s c.deallocate.new.self c.args.handle writing x c.deallocate.ensures.released) c.self.invariant
+    step-segment s (record s { cut = c.remove_anonymous.new.heap }) (DestroyPtr c.args.handle) (Truth true)
+    (destroys-anonymous s c.remove_anonymous.new.heap c.args.handle writing c.self.invariant x c.remove_anonymous.ensures) c.self.invariant
 
 pub returns-in-Some : goal.returns-in-Some
 returns-in-Some c =
@@ -66,5 +53,5 @@ returns-in-None c =
     let s : State = record { cut = c.self.inside.heap; mode = c.self.inside.mode } in
     let writing : is_read_only s.mode ≡ false = ap (λ (t : State). is_read_only t.mode) c.self.view_is ∙ c.requires.writing in
     let x : IsAnonymousAt s c.args.handle = subst (λ t. IsAnonymousAt t c.args.handle) (sym c.self.view_is) c.in-None.ensures in
-    subst (λ t. IsStep t (record s { cut = c.deallocate.new.self }) (DestroyPtr c.args.handle) (Truth true)) c.self.view_is
-    (destroys-anonymous s c.deallocate.new.self c.args.handle writing x c.deallocate.ensures.released)
+    subst (λ t. IsStep t (record s { cut = c.remove_anonymous.new.heap }) (DestroyPtr c.args.handle) (Truth true)) c.self.view_is
+    (destroys-anonymous s c.remove_anonymous.new.heap c.args.handle writing c.self.invariant x c.remove_anonymous.ensures)

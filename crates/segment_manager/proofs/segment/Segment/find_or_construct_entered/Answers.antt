@@ -1,5 +1,6 @@
 -- An object is found under the entry, or made with one, or a block is refused.
-use Rattle.std.proofs.Common.{◌≡◌, sym, ap, subst, ◌∙◌, ℕ, ◌≤◌, [], false, Ok, Err, Result, replicate}
+use Rattle.std.proofs.Common.{◌≡◌, sym, ap, subst, ◌∙◌, ℕ, ◌≤◌, false, Ok, Err, Result, replicate}
+use Rattle.seg_types.specs.declared.kinds.Kind.TheVariants.{Scalar}
 use Rattle.seg_types.specs.declared.refusals.Refusal.{Refusal}
 use Rattle.seg_types.specs.declared.refusals.Refusal.TheVariants.{NoSpace}
 use Rattle.seg_types.specs.Commands.{FindOrConstruct, Numbers}
@@ -12,7 +13,7 @@ use Rattle.segment_manager.proofs.FoundOrMade.{found-there}
 use Rattle.segment_manager.proofs.Here.{has-object}
 use Rattle.segment_manager.proofs.HeldIndexes.{denotes-index, denotes-keys}
 use Rattle.segment_manager.proofs.KeyCalls.{found-answers, place-below, segment-index}
-use Rattle.segment_manager.proofs.NewKeys.{key-seeks, key-short, no-extent}
+use Rattle.segment_manager.proofs.NewKeys.{key-seeks, key-short}
 use Rattle.segment_manager.proofs.Steps.{step-segment}
 use Rattle.segment_manager.proofs.segment.Segment.find_or_construct_entered.Goals as goal
 use Rattle.segment_manager.proofs.segment.Segment.find_or_construct_entered.Goals.{in-Ok, in-Err}
@@ -26,22 +27,22 @@ at-requires-clause-index c = segment-index c.self.inside.heap c.args.index c.sel
 pub at-requires-clause-below : goal.at-requires-clause-below
 at-requires-clause-below c = place-below c.self.inside.heap c.args.index c.args.entry c.in-Found.place c.self.invariant c.in-Found.ensures.place
 
-pub found_as-requires : goal.found_as-requires
-found_as-requires c =
+pub found_of-requires : goal.found_of-requires
+found_of-requires c =
     let s : State = record { cut = c.self.inside.heap; mode = c.self.inside.mode } in
     let key = c.requires.key in
     has-object s key.0 c.at.result c.self.invariant
-    (found-answers s c.args.index c.args.entry c.in-Found.place c.at.result c.in-Found.ensures.place c.at.ensures key.0 (key-seeks c.args.index c.args.entry key.0 c.args.name.now c.args.kind key.1))
+    (found-answers s c.args.index c.args.entry c.in-Found.place c.at.result c.in-Found.ensures.place c.at.ensures key.0 (key-seeks c.args.index c.args.entry key.0 c.args.name.now (Scalar c.args.kind) key.1))
 
 pub returns-in-Found-clause-step : goal.returns-in-Found-clause-step
 returns-in-Found-clause-step c =
     λ key z n v.
     let s : State = record { cut = c.self.inside.heap; mode = c.self.inside.mode } in
     let writing : is_read_only s.mode ≡ false = ap (λ (t : State). is_read_only t.mode) c.self.view_is ∙ c.requires.writing in
-    subst (λ t. IsStep t t (FindOrConstruct key (Numbers c.args.kind (replicate c.args.count z))) (pair_answer c.found_as.result)) c.self.view_is
-    (found-there s key c.args.kind (replicate c.args.count z) c.at.result c.found_as.result writing
-    (found-answers s c.args.index c.args.entry c.in-Found.place c.at.result c.in-Found.ensures.place c.at.ensures key (key-seeks c.args.index c.args.entry key c.args.name.now c.args.kind n))
-    c.found_as.ensures)
+    subst (λ t. IsStep t t (FindOrConstruct key (Numbers c.args.kind (replicate c.args.count z))) (pair_answer c.found_of.result)) c.self.view_is
+    (found-there s key (Numbers c.args.kind (replicate c.args.count z)) c.at.result c.found_of.result writing
+    (found-answers s c.args.index c.args.entry c.in-Found.place c.at.result c.in-Found.ensures.place c.at.ensures key (key-seeks c.args.index c.args.entry key c.args.name.now (Scalar c.args.kind) n))
+    c.found_of.ensures)
 
 pub make_entered-requires-clause-index : goal.make_entered-requires-clause-index
 make_entered-requires-clause-index c =
@@ -55,7 +56,7 @@ make_entered-requires-clause-within c =
     subst (λ n. c.in-Absent.place ≤ n) (sym x.stands.count) (c.in-Absent.ensures.place (table_of c.args.index d) (entries_of c.args.index d) x).0
 
 pub make_entered-requires-clause-short : goal.make_entered-requires-clause-short
-make_entered-requires-clause-short c = key-short c.args.index c.args.entry c.requires.key.0 c.args.name.now c.args.kind [] no-extent c.requires.key.1
+make_entered-requires-clause-short c = key-short c.args.index c.args.entry c.requires.key.0 c.args.name.now (Scalar c.args.kind) c.requires.key.1
 
 pub invariant_of-self : goal.invariant_of-self
 invariant_of-self c =

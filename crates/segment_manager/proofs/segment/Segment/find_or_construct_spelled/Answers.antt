@@ -4,11 +4,11 @@ use Rattle.seg_types.specs.declared.keys.IndexKey.{IndexKey}
 use Rattle.seg_types.specs.Keys.{index_key_seen}
 use Rattle.seg_types.specs.Commands.{FindOrConstruct, Numbers}
 use Rattle.seg_types.specs.Names as names
-use Rattle.seg_types.specs.Names.{is_printable_name}
+use Rattle.seg_types.specs.Names.{is_text_name}
 use Rattle.segment_manager.specs.Found.{pair_answer}
 use Rattle.segment_manager.specs.NewObjects.{IsOfItsKind}
 use Rattle.segment_manager.specs.State.{IsStep}
-use Rattle.segment_manager.proofs.NewKeys.{printable}
+use Rattle.segment_manager.proofs.NewKeys.{text-is_name}
 use Rattle.segment_manager.proofs.Steps.{refuses-read_only}
 use Rattle.segment_manager.proofs.segment.Segment.find_or_construct_spelled.Goals as goal
 
@@ -19,7 +19,7 @@ returns-then-is_read_only-clause-step c =
 pub find_or_construct_entered-requires-clause-key : goal.find_or_construct_entered-requires-clause-key
 find_or_construct_entered-requires-clause-key c =
     let b = c.as_bytes-bytes.ensures in
-    (names.ByName c.in-Name.name, (b.bytes, b.bytes, printable c.in-Name.name (subst (λ bs. is_printable_name bs ≡ true) b.bytes b.name)))
+    (names.ByName c.in-Name.name, (b.bytes, b.bytes, text-is_name c.in-Name.name (subst (λ bs. is_text_name bs ≡ true) b.bytes b.name)))
 
 pub find_or_construct_entered-requires-in-Unique-clause-key : goal.find_or_construct_entered-requires-in-Unique-clause-key
 find_or_construct_entered-requires-in-Unique-clause-key c =
@@ -33,7 +33,7 @@ returns-in-Name-clause-step c =
     (pair_answer c.find_or_construct_entered.result))
     (sym c.in-Name.is)
     (c.find_or_construct_entered.ensures.step (names.ByName c.in-Name.name) z
-    (b.bytes, b.bytes, printable c.in-Name.name (subst (λ bs. is_printable_name bs ≡ true) b.bytes b.name)) v)
+    (b.bytes, b.bytes, text-is_name c.in-Name.name (subst (λ bs. is_text_name bs ≡ true) b.bytes b.name)) v)
 
 pub returns-in-Unique-clause-step : goal.returns-in-Unique-clause-step
 returns-in-Unique-clause-step c =

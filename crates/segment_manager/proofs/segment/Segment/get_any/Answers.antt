@@ -1,13 +1,17 @@
--- The kind is what the object says.
-use Rattle.seg_types.specs.Commands.{Get}
+-- The element of the object at the handle.
 use Rattle.seg_types.specs.Keys.{key_seen}
 use Rattle.segment_manager.specs.State.{scalar_answer}
-use Rattle.segment_manager.proofs.AnyKind.{any-missing, any-replies}
+use Rattle.segment_manager.proofs.AnyKind.{any-missing, by_handle-replies, found-object, scalars-replies}
+use Rattle.segment_manager.proofs.Supported.{no-texts}
 use Rattle.segment_manager.proofs.segment.Segment.get_any.Goals as goal
 
-pub returns-in-Err : goal.returns-in-Err
-returns-in-Err c = any-missing c.args.self.now (key_seen c.args.key.now) c.args.index c.in-Err.why c.in-Err.ensures
+pub element_in-requires : goal.element_in-requires
+element_in-requires c = found-object c.args.self.now (key_seen c.args.key.now) c.in-Some.handle c.in-Some.ensures
 
-pub returns-in-Ok : goal.returns-in-Ok
-returns-in-Ok c =
-    any-replies c.args.self.now (key_seen c.args.key.now) c.in-Ok.kind (Get (key_seen c.args.key.now) c.args.index) (scalar_answer c.get_value.result) c.in-Ok.ensures c.get_value.ensures
+pub returns-in-None : goal.returns-in-None
+returns-in-None c = any-missing c.args.self.now (key_seen c.args.key.now) c.args.index c.in-None.ensures
+
+pub returns-in-Some : goal.returns-in-Some
+returns-in-Some c =
+    scalars-replies c.args.self.now (key_seen c.args.key.now) c.args.index (scalar_answer c.element_in.result) (no-texts c.args.self.now (key_seen c.args.key.now))
+    (by_handle-replies c.args.self.now (key_seen c.args.key.now) c.in-Some.handle c.args.index (scalar_answer c.element_in.result) c.in-Some.ensures c.element_in.ensures)

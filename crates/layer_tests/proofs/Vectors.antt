@@ -1,0 +1,75 @@
+-- A vector stands wherever a call of it ends.
+use Rattle.std.proofs.Common.{◌≡◌, sym, subst, ℕ, Bool, List, [], ◌∷◌, ◌++◌, inl, inr}
+use Rattle.std.specs.Prelude.{Result, Ok, Err, insert, remove, take, slice_set, length, ◌-◌}
+use Rattle.raw_region.specs.Memory.{Cut}
+use Rattle.best_fit.specs.Heap.{live_of}
+use Rattle.best_fit.specs.Table.{Table, cut_table, no_table}
+use Rattle.seg_types.specs.declared.refusals.Refusal.{Refusal}
+use Rattle.seg_vector.specs.declared.places.Place.{Place}
+use Rattle.seg_vector.specs.VectorCalls.{Assigns, Clears, ErasesFrom, InsertsInto, IsSomeVector, Pops, Pushes, Releases, Reserves, Sets, Shrinks, Starts}
+
+pub after_start : {T : Type 0} → (size : ℕ) (v : T → Bool) (s : T → List ℕ) (a b : Cut) (p : Place) → Starts size v s a b p → IsSomeVector size v s b.bytes p
+after_start size v s a b p k = ([], (no_table, k.vector))
+
+same : {T : Type 0} → (size : ℕ) (v : T → Bool) (s : T → List ℕ) (a b : Cut) (p : Place) → b ≡ a → IsSomeVector size v s a.bytes p → IsSomeVector size v s b.bytes p
+same size v s a b p e q = subst (λ (c : Cut). IsSomeVector size v s c.bytes p) (sym e) q
+
+pub after_push :
+    {T : Type 0} → (size : ℕ) (v : T → Bool) (s : T → List ℕ) (a b : Cut) (p : Place) (x : T) (r : Result (Unit {0}) Refusal)
+    → IsSomeVector size v s a.bytes p → Pushes size v s a b p x r → IsSomeVector size v s b.bytes p
+after_push size v s a b p x (Ok u) q f = let k = f q.0 q.1.0 q.1.1 in (q.0 ++ x ∷ [], (k.table, k.now.vector))
+after_push size v s a b p x (Err e) q f = same size v s a b p (f q.0 q.1.0 q.1.1).same q
+
+pub after_insert :
+    {T : Type 0} → (size : ℕ) (v : T → Bool) (s : T → List ℕ) (a b : Cut) (p : Place) (i : ℕ) (x : T) (r : Result (Unit {0}) Refusal)
+    → IsSomeVector size v s a.bytes p → InsertsInto size v s a b p i x r → IsSomeVector size v s b.bytes p
+after_insert size v s a b p i x (Ok u) q f = let k = f q.0 q.1.0 q.1.1 in (insert q.0 i x, (k.1.table, k.1.now.vector))
+after_insert size v s a b p i x (Err e) q f = elim (f q.0 q.1.0 q.1.1) [
+  | inl k ↦ same size v s a b p k.same q
+  | inr k ↦ same size v s a b p k.1.same q
+]
+
+pub after_set :
+    {T : Type 0} → (size : ℕ) (v : T → Bool) (s : T → List ℕ) (a b : Cut) (p : Place) (i : ℕ) (x : T) (r : Result (Unit {0}) Refusal)
+    → IsSomeVector size v s a.bytes p → Sets size v s a b p i x r → IsSomeVector size v s b.bytes p
+after_set size v s a b p i x (Ok u) q f = let k = f q.0 q.1.0 q.1.1 in (slice_set q.0 i x, (q.1.0, k.1.vector))
+after_set size v s a b p i x (Err e) q f = same size v s a b p (f q.0 q.1.0 q.1.1).same q
+
+pub after_pop :
+    {T : Type 0} → (size : ℕ) (v : T → Bool) (s : T → List ℕ) (a b : Cut) (p : Place) (r : Result T Refusal)
+    → IsSomeVector size v s a.bytes p → Pops size v s a b p r → IsSomeVector size v s b.bytes p
+after_pop size v s a b p (Ok x) q f = let k = f q.0 q.1.0 q.1.1 in (take (length q.0 - 1) q.0, (q.1.0, k.1.vector))
+after_pop size v s a b p (Err e) q f = same size v s a b p (f q.0 q.1.0 q.1.1).same q
+
+pub after_erase :
+    {T : Type 0} → (size : ℕ) (v : T → Bool) (s : T → List ℕ) (a b : Cut) (p : Place) (i : ℕ) (r : Result (Unit {0}) Refusal)
+    → IsSomeVector size v s a.bytes p → ErasesFrom size v s a b p i r → IsSomeVector size v s b.bytes p
+after_erase size v s a b p i (Ok u) q f = let k = f q.0 q.1.0 q.1.1 in (remove q.0 i, (q.1.0, k.1.vector))
+after_erase size v s a b p i (Err e) q f = same size v s a b p (f q.0 q.1.0 q.1.1).same q
+
+pub after_reserve :
+    {T : Type 0} → (size : ℕ) (v : T → Bool) (s : T → List ℕ) (a b : Cut) (p : Place) (n : ℕ) (r : Result (Unit {0}) Refusal)
+    → IsSomeVector size v s a.bytes p → Reserves size v s a b p n r → IsSomeVector size v s b.bytes p
+after_reserve size v s a b p n (Ok u) q f = let k = f q.0 q.1.0 q.1.1 in (q.0, (k.table, k.now.vector))
+after_reserve size v s a b p n (Err e) q f = same size v s a b p (f q.0 q.1.0 q.1.1).same q
+
+pub after_assign :
+    {T : Type 0} → (size : ℕ) (v : T → Bool) (s : T → List ℕ) (a b : Cut) (p : Place) (ys : List T) (r : Result (Unit {0}) Refusal)
+    → IsSomeVector size v s a.bytes p → Assigns size v s a b p ys r → IsSomeVector size v s b.bytes p
+after_assign size v s a b p ys (Ok u) q f = let k = f q.0 q.1.0 q.1.1 in (ys, (k.table, k.now.vector))
+after_assign size v s a b p ys (Err e) q f = same size v s a b p (f q.0 q.1.0 q.1.1).same q
+
+pub after_shrink :
+    {T : Type 0} → (size : ℕ) (v : T → Bool) (s : T → List ℕ) (a b : Cut) (p : Place) → IsSomeVector size v s a.bytes p → Shrinks size v s a b p
+    → IsSomeVector size v s b.bytes p
+after_shrink size v s a b p q f = (q.0, (cut_table (live_of a.bytes) size (length q.0) q.1.0, (f q.0 q.1.0 q.1.1).vector))
+
+pub after_clear :
+    {T : Type 0} → (size : ℕ) (v : T → Bool) (s : T → List ℕ) (a b : Cut) (p : Place) → IsSomeVector size v s a.bytes p → Clears size v s a b p
+    → IsSomeVector size v s b.bytes p
+after_clear size v s a b p q f = ([], (q.1.0, (f q.0 q.1.0 q.1.1).vector))
+
+pub after_release :
+    {T : Type 0} → (size : ℕ) (v : T → Bool) (s : T → List ℕ) (a b : Cut) (p : Place) → IsSomeVector size v s a.bytes p → Releases size v s a b p
+    → IsSomeVector size v s b.bytes p
+after_release size v s a b p q f = ([], (no_table, (f q.0 q.1.0 q.1.1).vector))

@@ -1,0 +1,8 @@
+use Rattle.std.proofs.Common.{◌<◌, rules}
+use Rattle.segment_manager.proofs.Laws.{named-below}
+use Rattle.manager_tests.proofs.segments.named_handle.Goals as goal
+
+pub named_at-requires : goal.named_at-requires
+named_at-requires g c =
+    let below : c.args.i < c.num_named.result = search rules in
+    named-below c.args.segment.now c.num_named.result c.args.i c.num_named.ensures below

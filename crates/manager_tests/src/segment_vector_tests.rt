@@ -1,0 +1,149 @@
+//! Vectors of numbers as objects, through the library's calls.
+use crate::segments::{entry, fresh, named, new_named, opened};
+use seg_types::{Key, Kind, NewKey, Refusal, ScalarKind, ScalarValue};
+use segment_manager::Mode;
+use std::test::Fail;
+
+#[test]
+fn a_vector_grows_in_place(rt: HostRuntime) -> Result<(), Fail> {
+    let mut segment = fresh(&rt, rt.alloc(), 1024)?;
+    let made = segment.construct_vec::<i64>(&new_named(&rt, b"v"), &[]);
+    assert_eq!(rt; made, Ok(192));
+    let v = named(&rt, b"v");
+    for (value, sizes, free) in [
+        (10i64, (1, 4), 720),
+        (11, (2, 4), 720),
+        (12, (3, 4), 720),
+        (13, (4, 4), 720),
+        (14, (5, 8), 688),
+    ] {
+        assert_eq!(rt; segment.vec_push(&v, value), Ok(()));
+        assert_eq!(rt; segment.measure(&v), Ok(sizes), "at {value}");
+        assert_eq!(rt; segment.free(), free, "at {value}");
+    }
+    for (i, value) in [(0, Ok(10i64)), (4, Ok(14)), (5, Err(Refusal::OutOfRange))] {
+        assert_eq!(rt; segment.vec_get(&v, i), value, "element {i}");
+    }
+    Ok(())
+}
+
+#[test]
+fn elements_are_put_and_taken(rt: HostRuntime) -> Result<(), Fail> {
+    let mut segment = fresh(&rt, rt.alloc(), 1024)?;
+    let made = segment.construct_vec(&NewKey::Anonymous, &[1i32, 2, 3]);
+    assert_eq!(rt; made, Ok(144));
+    let w = Key::Handle(144);
+    assert_eq!(rt; segment.vec_insert(&w, 1, 9i32), Ok(()));
+    assert_eq!(rt; segment.measure(&w), Ok((4, 6)));
+    assert_eq!(rt; segment.vec_erase::<i32>(&w, 0), Ok(()));
+    assert_eq!(rt; segment.vec_pop(&w), Ok(3i32));
+    assert_eq!(rt; segment.vec_set(&w, 1, -7i32), Ok(()));
+    assert_eq!(rt; segment.vec_get(&w, 0), Ok(9i32));
+    assert_eq!(rt; segment.get_any(&w, 1), Ok(ScalarValue::I32(-7)));
+    assert_eq!(rt; segment.element_kind(&w), Ok(ScalarKind::I32));
+    Ok(())
+}
+
+#[test]
+fn places_come_and_go(rt: HostRuntime) -> Result<(), Fail> {
+    let mut segment = fresh(&rt, rt.alloc(), 1024)?;
+    let made = segment.construct_vec(&NewKey::Anonymous, &[1u8, 2, 3]);
+    assert_eq!(rt; made, Ok(144));
+    let v = Key::Handle(144);
+    assert_eq!(rt; segment.reserve(&v, 5000), Err(Refusal::NoSpace));
+    assert_eq!(rt; segment.reserve(&v, 17), Ok(()));
+    assert_eq!(rt; (segment.measure(&v), segment.free()), (Ok((3, 17)), 768));
+    assert_eq!(rt; segment.vec_assign(&v, &[4u8, 5]), Ok(()));
+    assert_eq!(rt; segment.shrink(&v), Ok(()));
+    assert_eq!(rt; (segment.measure(&v), segment.free()), (Ok((2, 2)), 784));
+    assert_eq!(rt; segment.clear(&v), Ok(()));
+    assert_eq!(rt; segment.measure(&v), Ok((0, 2)));
+    assert_eq!(rt; segment.destroy_ptr(144), Ok(()));
+    assert!(rt; segment.all_deallocated());
+    Ok(())
+}
+
+#[test]
+fn calls_on_no_vector_are_refused(rt: HostRuntime) -> Result<(), Fail> {
+    let mut segment = fresh(&rt, rt.alloc(), 1024)?;
+    let made = segment.construct_vec(&new_named(&rt, b"v"), &[1u8]);
+    assert_eq!(rt; made, Ok(192));
+    assert_eq!(rt; segment.construct(&new_named(&rt, b"a"), 1, 5i64), Ok(288));
+    // the storage is no object; a vector of bytes and a number are no vectors of i64
+    for (key, why) in [
+        (named(&rt, b"q"), Refusal::NotFound),
+        (Key::Handle(256), Refusal::NotFound),
+        (Key::Anonymous, Refusal::NotFound),
+        (named(&rt, b"a"), Refusal::WrongKind),
+        (named(&rt, b"v"), Refusal::WrongKind),
+    ] {
+        assert_eq!(rt; segment.vec_get::<i64>(&key, 0), Err(why));
+        assert_eq!(rt; segment.vec_set(&key, 9, 1i64), Err(why));
+        assert_eq!(rt; segment.vec_push(&key, 1i64), Err(why));
+        assert_eq!(rt; segment.vec_pop::<i64>(&key), Err(why));
+        assert_eq!(rt; segment.vec_insert(&key, 9, 1i64), Err(why));
+        assert_eq!(rt; segment.vec_erase::<i64>(&key, 9), Err(why));
+        assert_eq!(rt; segment.vec_assign(&key, &[1i64]), Err(why));
+    }
+    assert_eq!(rt; segment.vec_get(&named(&rt, b"v"), 0), Ok(1u8));
+    Ok(())
+}
+
+#[test]
+fn sizes_of_no_container_are_refused(rt: HostRuntime) -> Result<(), Fail> {
+    let mut segment = fresh(&rt, rt.alloc(), 1024)?;
+    assert_eq!(rt; segment.construct(&NewKey::Anonymous, 2, 5i64), Ok(144));
+    for (key, why) in [
+        (named(&rt, b"q"), Refusal::NotFound),
+        (Key::Handle(145), Refusal::NotFound),
+        (Key::Handle(144), Refusal::WrongKind),
+    ] {
+        assert_eq!(rt; segment.measure(&key), Err(why));
+        assert_eq!(rt; segment.reserve(&key, 0), Err(why));
+        assert_eq!(rt; segment.shrink(&key), Err(why));
+        assert_eq!(rt; segment.clear(&key), Err(why));
+    }
+    Ok(())
+}
+
+#[test]
+fn a_vector_is_found_or_made(rt: HostRuntime) -> Result<(), Fail> {
+    let mut segment = fresh(&rt, rt.alloc(), 288)?;
+    let v = entry(&rt, b"v");
+    let most = segment.find_or_construct_vec(&v, &[1i64, 2, 3]);
+    assert_eq!(rt; most, Err(Refusal::NoSpace));
+    assert!(rt; segment.all_deallocated());
+    assert_eq!(rt; segment.find_or_construct_vec(&v, &[1i64, 2]), Ok((192, 1)));
+    assert_eq!(rt; segment.find_or_construct_vec::<i64>(&v, &[]), Ok((192, 1)));
+    let other = segment.find_or_construct_vec(&v, &[1u8]);
+    assert_eq!(rt; other, Err(Refusal::WrongKind));
+    let again = segment.construct_vec(&new_named(&rt, b"v"), &[1u8]);
+    assert_eq!(rt; again, Err(Refusal::Exists));
+    let key = named(&rt, b"v");
+    assert_eq!(rt;
+        segment.find_kind(&key, Kind::Vector(ScalarKind::I64)),
+        Ok(Some((192, 1)))
+    );
+    assert_eq!(rt; segment.vec_push(&key, 3i64), Err(Refusal::NoSpace));
+    assert_eq!(rt; segment.measure(&key), Ok((2, 2)));
+    Ok(())
+}
+
+#[test]
+fn vectors_do_not_change_while_they_are_read(rt: HostRuntime) -> Result<(), Fail> {
+    let mut segment = fresh(&rt, rt.alloc(), 1024)?;
+    let made = segment.construct_vec(&new_named(&rt, b"v"), &[1i64]);
+    assert_eq!(rt; made, Ok(192));
+    let mut read = opened(&rt, rt.alloc(), &segment, Mode::ReadOnly)?;
+    for key in [named(&rt, b"v"), named(&rt, b"q")] {
+        assert_eq!(rt; read.vec_set(&key, 9, 1i64), Err(Refusal::ReadOnly));
+        assert_eq!(rt; read.vec_push(&key, 1u8), Err(Refusal::ReadOnly));
+        assert_eq!(rt; read.vec_pop::<i64>(&key), Err(Refusal::ReadOnly));
+        assert_eq!(rt; read.vec_assign(&key, &[1i64]), Err(Refusal::ReadOnly));
+        assert_eq!(rt; read.reserve(&key, 0), Err(Refusal::ReadOnly));
+        assert_eq!(rt; read.shrink(&key), Err(Refusal::ReadOnly));
+        assert_eq!(rt; read.clear(&key), Err(Refusal::ReadOnly));
+    }
+    assert_eq!(rt; read.vec_get(&named(&rt, b"v"), 0), Ok(1i64));
+    Ok(())
+}

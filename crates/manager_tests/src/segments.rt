@@ -1,0 +1,77 @@
+//! Segments in regions of 1024 bytes and keys of objects, for the tests.
+ghost use Rattle.std.specs.Prelude.{◌≡◌};
+ghost use Rattle.std.specs.Result.{IfOk};
+ghost use Rattle.seg_types.specs.declared.kinds.Kind.{Kind};
+ghost use Rattle.seg_types.specs.Keys.{index_key_seen, new_key_seen};
+ghost use Rattle.segment_manager.specs.NewObjects.{IsOfKind};
+
+use image_check::open;
+use raw_region::fake::{Last, MemorySource};
+use raw_region::{RawRegion, Steps};
+use seg_types::{Handle, IndexKey, Key, Name, NewKey};
+use segment_manager::{Mode, Segment};
+use std::alloc::Global;
+use std::process::Abort;
+use std::test::Fail;
+
+/// A segment of some bytes with nothing in it.
+pub fn fresh(rt: &impl Abort, alloc: Global, size: u64) -> Result<Segment, Fail> {
+    let region = RawRegion::new(alloc, 1024)?;
+    let Ok(segment) = Segment::create(region, 0, size, Mode::Write) else {
+        panic!(rt; "refused");
+    };
+    Ok(segment)
+}
+
+/// The bytes of a segment, opened as one in another region.
+pub fn opened(
+    rt: &impl Abort,
+    alloc: Global,
+    segment: &Segment,
+    mode: Mode,
+) -> Result<Segment, Fail> {
+    let mut reader = MemorySource::new(segment.as_bytes(), 4096, Last::Ends);
+    let region = RawRegion::new(alloc, 2048)?;
+    let Ok(opened) = open(alloc, &mut reader, region, 16, mode, &mut Steps::new()) else {
+        panic!(rt; "not opened");
+    };
+    Ok(opened)
+}
+
+fn name(rt: &impl Abort, bytes: &[u8]) -> Name {
+    let Some(name) = Name::new(bytes) else {
+        panic!(rt; "no name");
+    };
+    name
+}
+
+/// The key of the object of this name.
+pub fn named(rt: &impl Abort, bytes: &[u8]) -> Key {
+    Key::Name(name(rt, bytes))
+}
+
+/// The entry of the object of this name.
+pub fn entry(rt: &impl Abort, bytes: &[u8]) -> IndexKey
+    ensures { (kind : Kind) → IsOfKind (index_key_seen result) kind }
+{
+    IndexKey::Name(name(rt, bytes))
+}
+
+/// The key of an object that is to be made under this name.
+pub fn new_named(rt: &impl Abort, bytes: &[u8]) -> NewKey
+    ensures { (kind : Kind) → IsOfKind (new_key_seen result) kind }
+{
+    NewKey::Name(name(rt, bytes))
+}
+
+/// The handle of the object whose name has `i` others before it.
+pub fn named_handle(rt: &impl Abort, segment: &Segment, i: u64) -> Handle {
+    assert!(rt; i < segment.num_named());
+    segment.named_at(i)
+}
+
+/// The handle of the unique object whose kind has `i` others before it.
+pub fn unique_handle(rt: &impl Abort, segment: &Segment, i: u64) -> Handle {
+    assert!(rt; i < segment.num_unique());
+    segment.unique_at(i)
+}

@@ -1,0 +1,13 @@
+-- So many are put in their places, the last ones, and nothing else changed.
+use Rattle.std.proofs.Common.{◌+◌, ◌-◌, ◌*◌}
+use Rattle.raw_region.specs.Format.{current}
+use Rattle.raw_region.specs.Memory.{bytes_of}
+use Rattle.best_fit.specs.Heap.{IsChanged}
+use Rattle.seg_vector.proofs.Carrying.{AreUp}
+use Rattle.seg_vector.proofs.text_elements.carry_up.Given as goal
+
+abbrev pub invariant-loop-i : goal.invariant-loop-i
+invariant-loop-i l = record {
+  change : IsChanged current l.fn.heap l.heap (l.array + l.at + 16 + 16 * (l.n - l.i)) (16 * l.i);
+  carried : AreUp (bytes_of l.fn.heap.bytes) (bytes_of l.heap.bytes) (l.array + l.at) (l.n - l.i) l.n;
+}

@@ -1,0 +1,227 @@
+-- The parts of what the calls of a vector of texts do: elements of an array, and the blocks of texts.
+use Rattle.std.specs.Prelude.{◌≡◌, ◌≢◌, ℕ, ◌+◌, ◌-◌, ◌*◌, ◌%◌, ◌<◌, ◌≤◌, IsTrue, IfSome, Option, Some, None, List, [], ◌∷◌, insert, length, option_map, option_to_list, Result, MatchResult, slice_get}
+use Rattle.std.specs.List.{AllByRecursion}
+use Rattle.raw_region.specs.Memory.{Memory, Cut, bytes_of, word_at}
+use Rattle.raw_region.specs.Format.{current}
+use Rattle.offset_link.specs.Link.{link_at}
+use Rattle.best_fit.specs.Exchange.{IsExchanged, IsRestored, IsWidened}
+use Rattle.best_fit.specs.Extents.{Extent, handle}
+use Rattle.best_fit.specs.Fit.{regrow}
+use Rattle.best_fit.specs.Heap.{IsAllocated, IsChanged, IsHeap, SameBlock, extent_at, has_room, live_of}
+use Rattle.best_fit.specs.Table.{Table, is_table, serves}
+use Rattle.block_tags.specs.declared.tile.Role.TheVariants.{Storage}
+use Rattle.seg_vector.specs.declared.places.Place.{Place}
+use Rattle.seg_vector.specs.TextsCalls.{AreOthers, IsTextPutIn, IsTexts, IsTextsNow, one_more, placed_text, text_blocks}
+use Rattle.seg_vector.specs.Standing.{place_at}
+use Rattle.seg_vector.specs.Vector.{AreTextLinks, IsOwnedText, OwnedText, capacity_for_one, grown_table}
+
+-- blocks are gone and others came, and nothing in those that stay changes
+abbrev pub IsSwapped : Cut → Cut → List Extent → List Extent → Type 0
+IsSwapped old new gone come = IsExchanged current old new 0 0 gone come
+
+-- each of these is in use
+abbrev pub AreLive : List ℕ → List Extent → Type 0
+AreLive b xs = AllByRecursion (λ (x : Extent). extent_at (live_of b) (handle x) ≡ Some x) xs
+
+-- 16 bytes at an offset in a block begin with a link to the block of a text, which is in use
+pub record IsHeldElement (b : List ℕ) (array at : ℕ) (q : OwnedText) : Type 0 where
+  pub heap : IsHeap current b
+  pub aligned : at % 8 ≡ 0
+  pub room : IsTrue (has_room (live_of b) array (at + 16))
+  pub link : link_at (bytes_of b) (array + at) ≡ option_map handle q.extent
+  pub live : AreLive b (option_to_list q.extent)
+
+-- the elements of n texts in a block, and each text in another one
+pub record AreHeldElements (b : List ℕ) (array n : ℕ) (ps : List OwnedText) : Type 0 where
+  pub heap : IsHeap current b
+  pub room : IsTrue (has_room (live_of b) array (16 * n))
+  pub long : length ps ≡ n
+  pub links : AreTextLinks (bytes_of b) array ps
+  pub live : AreLive b (text_blocks ps)
+  pub apart : AllByRecursion (λ (x : Extent). handle x ≢ array) (text_blocks ps)
+  pub others : AreOthers (text_blocks ps)
+
+-- each of n links, 16 bytes from one to the next, leads to a multiple of 16, or nowhere
+abbrev pub AreEvenLinks : Memory → ℕ → ℕ → Type 0
+AreEvenLinks m at n = (j : ℕ) → j < n → IfSome (link_at m (at + 16 * j)) (λ target. target % 16 ≡ 0)
+
+-- the element at b says what the one at a said
+pub record IsSameElement (m m' : Memory) (a b : ℕ) : Type 0 where
+  pub link : link_at m' b ≡ link_at m a
+  pub len_word : word_at m' (b + 8) ≡ word_at m (a + 8)
+
+-- and so do n of them
+abbrev pub AreSameElements : Memory → Memory → ℕ → ℕ → ℕ → Type 0
+AreSameElements m m' a b n = (j : ℕ) → j < n → IsSameElement m m' (a + 16 * j) (b + 16 * j)
+
+-- ---- the block of a text
+
+-- it serves the text, and an empty one has none
+abbrev pub IsServed : OwnedText → Type 0
+IsServed q = elim q.extent [ None ↦ q.bytes ≡ [] | Some x ↦ (0 < length q.bytes) × IsTrue (serves x Storage (length q.bytes)) ]
+
+-- a block was taken into use, and the text stands in it
+pub record IsTextPlaced (old new : Cut) (bytes : List ℕ) (block : Option ℕ) : Type 0 where
+  pub text : OwnedText
+  pub placed : placed_text (live_of old.bytes) bytes ≡ Some text
+  pub same : text.bytes ≡ bytes
+  pub at : block ≡ option_map handle text.extent
+  pub change : IsSwapped old new [] (option_to_list text.extent)
+  pub owned : IsOwnedText (bytes_of new.bytes) text
+  pub served : IsServed text
+
+pub record IsTextNotPlaced (old new : Cut) (bytes : List ℕ) : Type 0 where
+  pub none : placed_text (live_of old.bytes) bytes ≡ None
+  pub same : new ≡ old
+
+abbrev pub PlacesText : {E : Type 0} → Cut → Cut → List ℕ → Result (Option ℕ) E → Type 0
+PlacesText old new bytes result = MatchResult result (IsTextPlaced old new bytes) (λ e. IsTextNotPlaced old new bytes)
+
+-- ---- an element that is written
+
+-- the text with i others before it is released, and its element is written
+pub record IsTextReplaced (old new : Cut) (p : Place) (t : Table) (i : ℕ) (before : OwnedText) (text : Option ℕ) (len : ℕ) : Type 0 where
+  pub mid : Cut
+  pub array : Extent
+  pub extent : t.extent ≡ Some array
+  pub released : IsSwapped old mid (option_to_list before.extent) []
+  pub written : IsChanged current mid new (handle array + 16 * i) 16
+  pub link : link_at (bytes_of new.bytes) (handle array + 16 * i) ≡ text
+  pub len_word : word_at (bytes_of new.bytes) (handle array + 16 * i + 8) ≡ len
+
+abbrev pub ReplacesText : Cut → Cut → Place → ℕ → Option ℕ → ℕ → Type 0
+ReplacesText old new p i text len =
+    (ps : List OwnedText) (t : Table) (before : OwnedText) → IsTexts old.bytes p ps t → slice_get ps i ≡ Some before → IsTextReplaced old new p t i before text len
+
+-- ---- an array with more places
+
+-- The old array has the room where it stands; or a new block was taken into use, beside the old one.
+pub data IsAsked (old new : Cut) (o : Option Extent) (n g : ℕ) : Type 0 where
+  widened : (w : IsWidened current old new g n) → o ≡ Some w.before → IsAsked old new o n g
+  taken : (a : IsAllocated current old new n Storage g) → regrow (live_of old.bytes) o n ≡ Some a.extent → IsAsked old new o n g
+
+pub record IsNotAsked (old new : Cut) (o : Option Extent) (n : ℕ) : Type 0 where
+  pub none : regrow (live_of old.bytes) o n ≡ None
+  pub same : new ≡ old
+
+abbrev pub AsksArray : {E : Type 0} → Cut → Cut → Place → ℕ → Result ℕ E → Type 0
+AsksArray old new p n result =
+    (ps : List OwnedText) (t : Table) → IsTexts old.bytes p ps t → MatchResult result (IsAsked old new t.extent (16 * n)) (λ e. IsNotAsked old new t.extent (16 * n))
+
+-- An array was asked for, and other blocks were taken into use since; the vector is as it was.
+pub record IsReady (now : Cut) (p : Place) (g n : ℕ) : Type 0 where
+  pub first : Cut
+  pub mid : Cut
+  pub ps : List OwnedText
+  pub t : Table
+  pub loose : List Extent
+  pub texts : IsTexts first.bytes p ps t
+  pub more : t.capacity < n
+  pub asked : IsAsked first mid t.extent (16 * n) g
+  pub since : IsSwapped mid now [] loose
+
+-- The vector has the array that was asked for, with n places. Its elements are the same, and the blocks taken since stay.
+pub record IsAdopted (first old new : Cut) (p : Place) (ps : List OwnedText) (t : Table) (g n : ℕ) (loose : List Extent) : Type 0 where
+  pub array : Extent
+  pub at : g ≡ handle array
+  pub grown : grown_table (live_of first.bytes) 16 n t ≡ Some (record { capacity = n; extent = Some array })
+  pub serves : IsTrue (serves array Storage (16 * n))
+  pub change : IsExchanged current first new (place_at p) 24 (option_to_list t.extent) (array ∷ loose)
+  pub link : link_at (bytes_of new.bytes) (place_at p) ≡ Some g
+  pub len_word : word_at (bytes_of new.bytes) (place_at p + 8) ≡ length ps
+  pub capacity : word_at (bytes_of new.bytes) (place_at p + 16) ≡ n
+  pub links : AreTextLinks (bytes_of new.bytes) g ps
+  pub stay : AllByRecursion (SameBlock (bytes_of old.bytes) (bytes_of new.bytes)) loose
+
+abbrev pub Adopts : Cut → Cut → Place → ℕ → ℕ → Type 0
+Adopts old new p g n =
+    (first mid : Cut) (ps : List OwnedText) (t : Table) (loose : List Extent) → IsTexts first.bytes p ps t → t.capacity < n → IsAsked first mid t.extent (16 * n) g → IsSwapped mid old [] loose
+    → IsAdopted first old new p ps t g n loose
+
+-- ---- one text more
+
+-- Since the first call blocks were exchanged: the array y, with m places, came, and the block of a text that is not in the vector yet.
+pub record IsPutReady (first now : Cut) (p : Place) (ps : List OwnedText) (t : Table) (y : Extent) (m : ℕ) (z : OwnedText) : Type 0 where
+  pub texts : IsTexts first.bytes p ps t
+  pub table : IsTrue (is_table Storage 16 (record { capacity = m; extent = Some y }))
+  pub space : length ps < m
+  pub change : IsExchanged current first now (place_at p) 24 (option_to_list t.extent) (y ∷ option_to_list z.extent)
+  pub link : link_at (bytes_of now.bytes) (place_at p) ≡ Some (handle y)
+  pub len_word : word_at (bytes_of now.bytes) (place_at p + 8) ≡ length ps
+  pub capacity : word_at (bytes_of now.bytes) (place_at p + 16) ≡ m
+  pub links : AreTextLinks (bytes_of now.bytes) (handle y) ps
+  pub owned : IsOwnedText (bytes_of now.bytes) z
+  pub served : IsServed z
+
+-- the element of this text is asked for at i
+pub record IsPutAsked (now : Cut) (p : Place) (i : ℕ) (block : Option ℕ) (len : ℕ) : Type 0 where
+  pub first : Cut
+  pub ps : List OwnedText
+  pub t : Table
+  pub y : Extent
+  pub m : ℕ
+  pub z : OwnedText
+  pub ready : IsPutReady first now p ps t y m z
+  pub inside : i ≤ length ps
+  pub at : block ≡ option_map handle z.extent
+
+abbrev pub PutsIn : Cut → Cut → Place → ℕ → Option ℕ → ℕ → Type 0
+PutsIn old new p i block len =
+    (first : Cut) (ps : List OwnedText) (t : Table) (y : Extent) (m : ℕ) (z : OwnedText) → IsPutReady first old p ps t y m z → i ≤ length ps → block ≡ option_map handle z.extent → len ≡ length z.bytes
+    → IsTextsNow first new p (option_to_list t.extent) (y ∷ option_to_list z.extent) (insert ps i z) (record { capacity = m; extent = Some y })
+
+-- ---- an array that is given up
+
+-- the room that the array has, as the vector's block says it
+abbrev pub room_of : Option Extent → ℕ
+room_of o = elim o [ None ↦ 0 | Some x ↦ x.len - 16 ]
+
+abbrev pub HasArrayRoom : List ℕ → Place → ℕ → Type 0
+HasArrayRoom b p room = (ps : List OwnedText) (t : Table) → IsTexts b p ps t → room ≡ room_of t.extent
+
+-- an array was asked for, and nothing else since
+pub record IsToBeGivenUp (now : Cut) (p : Place) (g room : ℕ) : Type 0 where
+  pub first : Cut
+  pub ps : List OwnedText
+  pub t : Table
+  pub n : ℕ
+  pub texts : IsTexts first.bytes p ps t
+  pub asked : IsAsked first now t.extent (16 * n) g
+  pub was : room ≡ room_of t.extent
+
+abbrev pub GivesUp : Cut → Cut → Place → ℕ → ℕ → Type 0
+GivesUp old new p g room =
+    (first : Cut) (ps : List OwnedText) (t : Table) (n : ℕ) → IsTexts first.bytes p ps t → IsAsked first old t.extent (16 * n) g → room ≡ room_of t.extent → IsRestored current first new
+
+-- ---- a text put in, once the index is known to be inside
+
+pub record IsRefusedPut (old new : Cut) (ps : List OwnedText) (t : Table) (bytes : List ℕ) : Type 0 where
+  pub none : one_more (live_of old.bytes) ps t bytes ≡ None
+  pub restored : IsRestored current old new
+
+abbrev pub PutsInto : {E : Type 0} → Cut → Cut → Place → List OwnedText → Table → ℕ → List ℕ → Result (Unit {0}) E → Type 0
+PutsInto old new p ps t i bytes result = MatchResult result (λ u. IsTextPutIn old new p ps t i bytes) (λ e. IsRefusedPut old new ps t bytes)
+
+-- there is a place for it
+pub record HasPlace (b : List ℕ) (p : Place) (i : ℕ) : Type 0 where
+  pub ps : List OwnedText
+  pub t : Table
+  pub texts : IsTexts b p ps t
+  pub inside : i ≤ length ps
+  pub space : length ps < t.capacity
+
+abbrev pub InsertsWithin : {E : Type 0} → Cut → Cut → Place → ℕ → List ℕ → Result (Unit {0}) E → Type 0
+InsertsWithin old new p i bytes result = (ps : List OwnedText) (t : Table) → IsTexts old.bytes p ps t → i ≤ length ps → length ps < t.capacity → PutsInto old new p ps t i bytes result
+
+-- there is none, and n places are asked for
+pub record IsFull (b : List ℕ) (p : Place) (i n : ℕ) : Type 0 where
+  pub ps : List OwnedText
+  pub t : Table
+  pub texts : IsTexts b p ps t
+  pub inside : i ≤ length ps
+  pub full : t.capacity ≤ length ps
+  pub wanted : n ≡ capacity_for_one (length ps) t.capacity
+
+abbrev pub InsertsGrowing : {E : Type 0} → Cut → Cut → Place → ℕ → List ℕ → ℕ → Result (Unit {0}) E → Type 0
+InsertsGrowing old new p i bytes n result =
+    (ps : List OwnedText) (t : Table) → IsTexts old.bytes p ps t → i ≤ length ps → t.capacity ≤ length ps → n ≡ capacity_for_one (length ps) t.capacity → PutsInto old new p ps t i bytes result

@@ -1,0 +1,329 @@
+//! Vectors and strings that a line changes: the kind of the object says which call it is.
+ghost use Rattle.std.specs.Prelude.{◌≡◌, ◌≤◌, List, MatchResult, OnErr, length};
+ghost use Rattle.seg_types.specs.declared.kinds.Kind.TheVariants.{Text as TextKind, Vector as VectorOf};
+ghost use Rattle.seg_types.specs.Commands.{Append, Assign, Clear, Erase, Insert, Literal as AskedLiteral, Pop, Push, Reserve, Shrink, literal_of as literal_for};
+ghost use Rattle.seg_types.specs.Keys.{key_seen};
+ghost use Rattle.seg_types.specs.Values.{kind_of_scalar, value_of_scalar};
+ghost use Rattle.segment_lang.specs.Seen.{literal_of};
+ghost use Rattle.segment_manager.specs.State.{IsStep, IsStepOfKind, done_answer, scalar_answer};
+ghost use Rattle.segment_cli.specs.Changes.{IsChangeable, IsElement, IsNoElement, IsUnchangeable, ReadsAs};
+ghost use Rattle.segment_cli.specs.Replies.{bytes_taken};
+
+use crate::rows::{Row, literal_row, only_text};
+use crate::setting::value_of;
+use seg_types::{Key, Kind, Refusal, Scalar, ScalarKind, ScalarValue};
+use segment_lang::{Literal, Literals, Quoted};
+use segment_manager::{Mode, Segment};
+
+/// The kind of the object of a key, which is to be changed.
+///
+/// # Errors
+///
+/// `ReadOnly` where the segment is open for reading, and else `NotFound` where no object has the key.
+fn kind_to_change(segment: &Segment, key: &Key) -> Result<Kind, Refusal>
+    ensures { MatchResult result (IsChangeable segment.now (key_seen key.now)) (IsUnchangeable segment.now (key_seen key.now)) }
+{
+    if segment.mode() == Mode::ReadOnly {
+        return Err(Refusal::ReadOnly);
+    }
+    segment.kind_of(key)
+}
+
+/// The value that a literal is for the vector of a key.
+///
+/// # Errors
+///
+/// `ReadOnly` where the segment is open for reading, and else `NotFound` where no object has the key, `WrongKind` where it is no
+/// vector or the literal has not the form of its elements, `OutOfRange` where the literal is not in their range.
+fn new_element(segment: &Segment, key: &Key, literal: Literal<'_>) -> Result<ScalarValue, Refusal>
+    ensures { MatchResult result (IsElement segment.now (key_seen key.now) (literal_of literal.entry)) (IsNoElement segment.now (key_seen key.now) (literal_of literal.entry)) }
+{
+    match kind_to_change(segment, key) {
+        Err(why) => Err(why),
+        Ok(kind) => match kind {
+            Kind::Vector(element) => value_of(element, literal),
+            _ => Err(Refusal::WrongKind),
+        },
+    }
+}
+
+/// Puts the value that a literal is behind the last element of the vector of a key.
+///
+/// # Errors
+///
+/// `ReadOnly` where the segment is open for reading, and else `NotFound` where no object has the key, `WrongKind` where it is no
+/// vector or the literal has not the form of its elements, `OutOfRange` where the literal is not in their range, `NoSpace` where
+/// the vector is full and its storage cannot be regrown. Nothing changes.
+pub fn push(segment: &mut Segment, key: &Key, literal: Literal<'_>) -> Result<(), Refusal>
+    ensures step { IsStep segment.old segment.new (Push (key_seen key.now) (literal_of literal.entry)) (done_answer result) }
+    ensures refused { OnErr result (segment.new ≡ segment.old) }
+{
+    match new_element(segment, key, literal) {
+        Err(why) => Err(why),
+        Ok(value) => push_value(segment, key, value),
+    }
+}
+
+/// Puts a value behind the last element of the vector of a key, a vector of the value's kind.
+fn push_value(segment: &mut Segment, key: &Key, value: ScalarValue) -> Result<(), Refusal>
+    ensures step { IsStepOfKind segment.old segment.new (key_seen key.now) (VectorOf (kind_of_scalar value))
+        (Push (key_seen key.now) (literal_for (kind_of_scalar value) (value_of_scalar value))) (done_answer result) }
+    ensures refused { OnErr result (segment.new ≡ segment.old) }
+{
+    match value {
+        ScalarValue::Bool(truth) => segment.vec_push(key, truth),
+        ScalarValue::U8(number) => segment.vec_push(key, number),
+        ScalarValue::I32(number) => segment.vec_push(key, number),
+        ScalarValue::I64(number) => segment.vec_push(key, number),
+        ScalarValue::U64(number) => segment.vec_push(key, number),
+    }
+}
+
+/// Puts the value that a literal is where `index` others stand before it in the vector of a key.
+///
+/// # Errors
+///
+/// `ReadOnly` where the segment is open for reading, and else `NotFound` where no object has the key, `WrongKind` where it is no
+/// vector or the literal has not the form of its elements, `OutOfRange` where the literal is not in their range or there are not
+/// so many others, `NoSpace` where the vector is full and its storage cannot be regrown. Nothing changes.
+pub fn insert(
+    segment: &mut Segment,
+    key: &Key,
+    index: u64,
+    literal: Literal<'_>,
+) -> Result<(), Refusal>
+    ensures step { IsStep segment.old segment.new (Insert (key_seen key.now) index (literal_of literal.entry)) (done_answer result) }
+    ensures refused { OnErr result (segment.new ≡ segment.old) }
+{
+    match new_element(segment, key, literal) {
+        Err(why) => Err(why),
+        Ok(value) => insert_value(segment, key, index, value),
+    }
+}
+
+/// Puts a value into the vector of a key, a vector of the value's kind.
+fn insert_value(
+    segment: &mut Segment,
+    key: &Key,
+    index: u64,
+    value: ScalarValue,
+) -> Result<(), Refusal>
+    ensures step { IsStepOfKind segment.old segment.new (key_seen key.now) (VectorOf (kind_of_scalar value))
+        (Insert (key_seen key.now) index (literal_for (kind_of_scalar value) (value_of_scalar value))) (done_answer result) }
+    ensures refused { OnErr result (segment.new ≡ segment.old) }
+{
+    match value {
+        ScalarValue::Bool(truth) => segment.vec_insert(key, index, truth),
+        ScalarValue::U8(number) => segment.vec_insert(key, index, number),
+        ScalarValue::I32(number) => segment.vec_insert(key, index, number),
+        ScalarValue::I64(number) => segment.vec_insert(key, index, number),
+        ScalarValue::U64(number) => segment.vec_insert(key, index, number),
+    }
+}
+
+/// Takes the last element out of the vector of a key.
+///
+/// # Errors
+///
+/// `ReadOnly` where the segment is open for reading, and else `NotFound` where no object has the key, `WrongKind` where it is no
+/// vector, `OutOfRange` where it is empty. Nothing changes.
+pub fn pop(segment: &mut Segment, key: &Key) -> Result<ScalarValue, Refusal>
+    ensures step { IsStep segment.old segment.new (Pop (key_seen key.now)) (scalar_answer result) }
+    ensures refused { OnErr result (segment.new ≡ segment.old) }
+{
+    match kind_to_change(segment, key) {
+        Err(why) => Err(why),
+        Ok(kind) => match kind {
+            Kind::Vector(element) => pop_element(segment, key, element),
+            _ => Err(Refusal::WrongKind),
+        },
+    }
+}
+
+/// Takes the last element out of the vector of a key, a vector of scalars of a kind.
+fn pop_element(segment: &mut Segment, key: &Key, kind: ScalarKind) -> Result<ScalarValue, Refusal>
+    ensures step { IsStepOfKind segment.old segment.new (key_seen key.now) (VectorOf kind) (Pop (key_seen key.now)) (scalar_answer result) }
+    ensures refused { OnErr result (segment.new ≡ segment.old) }
+{
+    match kind {
+        ScalarKind::Bool => match segment.vec_pop::<bool>(key) {
+            Ok(truth) => Ok(ScalarValue::Bool(truth)),
+            Err(why) => Err(why),
+        },
+        ScalarKind::U8 => match segment.vec_pop::<u8>(key) {
+            Ok(number) => Ok(ScalarValue::U8(number)),
+            Err(why) => Err(why),
+        },
+        ScalarKind::I32 => match segment.vec_pop::<i32>(key) {
+            Ok(number) => Ok(ScalarValue::I32(number)),
+            Err(why) => Err(why),
+        },
+        ScalarKind::I64 => match segment.vec_pop::<i64>(key) {
+            Ok(number) => Ok(ScalarValue::I64(number)),
+            Err(why) => Err(why),
+        },
+        ScalarKind::U64 => match segment.vec_pop::<u64>(key) {
+            Ok(number) => Ok(ScalarValue::U64(number)),
+            Err(why) => Err(why),
+        },
+    }
+}
+
+/// Leaves out the element at `index` in the vector of a key.
+///
+/// # Errors
+///
+/// `ReadOnly` where the segment is open for reading, and else `NotFound` where no object has the key, `WrongKind` where it is no
+/// vector, `OutOfRange` where it has no element there. Nothing changes.
+pub fn erase(segment: &mut Segment, key: &Key, index: u64) -> Result<(), Refusal>
+    ensures step { IsStep segment.old segment.new (Erase (key_seen key.now) index) (done_answer result) }
+    ensures refused { OnErr result (segment.new ≡ segment.old) }
+{
+    match kind_to_change(segment, key) {
+        Err(why) => Err(why),
+        Ok(kind) => match kind {
+            Kind::Vector(element) => erase_element(segment, key, element, index),
+            _ => Err(Refusal::WrongKind),
+        },
+    }
+}
+
+/// Leaves out an element of the vector of a key, a vector of scalars of a kind.
+fn erase_element(
+    segment: &mut Segment,
+    key: &Key,
+    kind: ScalarKind,
+    index: u64,
+) -> Result<(), Refusal>
+    ensures step { IsStepOfKind segment.old segment.new (key_seen key.now) (VectorOf kind) (Erase (key_seen key.now) index) (done_answer result) }
+    ensures refused { OnErr result (segment.new ≡ segment.old) }
+{
+    match kind {
+        ScalarKind::Bool => segment.vec_erase::<bool>(key, index),
+        ScalarKind::U8 => segment.vec_erase::<u8>(key, index),
+        ScalarKind::I32 => segment.vec_erase::<i32>(key, index),
+        ScalarKind::I64 => segment.vec_erase::<i64>(key, index),
+        ScalarKind::U64 => segment.vec_erase::<u64>(key, index),
+    }
+}
+
+/// Makes values those of the vector of a key, or one text the bytes of the string of a key.
+///
+/// # Errors
+///
+/// `ReadOnly` where the segment is open for reading, and else `NotFound` where no object has the key, `WrongKind` where it is
+/// neither or a value has not the form of its elements, `OutOfRange` where a value is not in their range, `NoSpace` where its
+/// storage cannot be regrown. Nothing changes.
+pub fn assign(segment: &mut Segment, key: &Key, values: Literals<'_>) -> Result<(), Refusal>
+    requires { bytes_taken values ≤ 4097 }
+    ensures step { IsStep segment.old segment.new (Assign (key_seen key.now) values.entry) (done_answer result) }
+    ensures refused { OnErr result (segment.new ≡ segment.old) }
+{
+    match kind_to_change(segment, key) {
+        Err(why) => Err(why),
+        Ok(kind) => match kind {
+            Kind::Vector(element) => assign_vector(segment, key, element, values),
+            Kind::Text => assign_string(segment, key, values),
+            _ => Err(Refusal::WrongKind),
+        },
+    }
+}
+
+/// Makes values those of the vector of a key, a vector of scalars of a kind.
+fn assign_vector(
+    segment: &mut Segment,
+    key: &Key,
+    kind: ScalarKind,
+    values: Literals<'_>,
+) -> Result<(), Refusal>
+    requires of_kind { IsChangeable segment.old (key_seen key.now) (VectorOf kind) }
+    requires few { bytes_taken values ≤ 4097 }
+    ensures step { IsStep segment.old segment.new (Assign (key_seen key.now) values.entry) (done_answer result) }
+    ensures refused { OnErr result (segment.new ≡ segment.old) }
+{
+    match kind {
+        ScalarKind::Bool => assign_row(segment, key, literal_row::<bool>(values)),
+        ScalarKind::U8 => assign_row(segment, key, literal_row::<u8>(values)),
+        ScalarKind::I32 => assign_row(segment, key, literal_row::<i32>(values)),
+        ScalarKind::I64 => assign_row(segment, key, literal_row::<i64>(values)),
+        ScalarKind::U64 => assign_row(segment, key, literal_row::<u64>(values)),
+    }
+}
+
+/// Makes the values that were read those of the vector of a key, a vector of the type.
+fn assign_row<T: Scalar>(
+    segment: &mut Segment,
+    key: &Key,
+    read: Result<Row<T>, Refusal>,
+) -> Result<(), Refusal>
+    requires { IsChangeable segment.old (key_seen key.now) (VectorOf T.kind) }
+    ensures step { (ls : List AskedLiteral) → ReadsAs T.kind T.whole ls read → IsStep segment.old segment.new (Assign (key_seen key.now) ls) (done_answer result) }
+    ensures refused { OnErr result (segment.new ≡ segment.old) }
+{
+    match read {
+        Err(why) => Err(why),
+        Ok(row) => segment.vec_assign(key, row.as_slice()),
+    }
+}
+
+/// Makes one text the bytes of the string of a key.
+fn assign_string(segment: &mut Segment, key: &Key, values: Literals<'_>) -> Result<(), Refusal>
+    requires of_kind { IsChangeable segment.old (key_seen key.now) TextKind }
+    requires few { bytes_taken values ≤ 4097 }
+    ensures step { IsStep segment.old segment.new (Assign (key_seen key.now) values.entry) (done_answer result) }
+    ensures refused { OnErr result (segment.new ≡ segment.old) }
+{
+    match only_text(values) {
+        Err(why) => Err(why),
+        Ok(text) => segment.string_assign(key, text.as_slice()),
+    }
+}
+
+/// Puts the bytes of a text behind those of the string of a key.
+///
+/// # Errors
+///
+/// As the segment's call. Nothing changes.
+pub fn append(segment: &mut Segment, key: &Key, text: &Quoted<'_>) -> Result<(), Refusal>
+    requires { length text.now ≤ 4096 }
+    ensures step { IsStep segment.old segment.new (Append (key_seen key.now) text.now) (done_answer result) }
+    ensures refused { OnErr result (segment.new ≡ segment.old) }
+{
+    segment.string_append(key, text.to_text().as_slice())
+}
+
+/// Makes room in the vector or string of a key.
+///
+/// # Errors
+///
+/// As the segment's call. Nothing changes.
+pub fn reserve(segment: &mut Segment, key: &Key, count: u64) -> Result<(), Refusal>
+    ensures step { IsStep segment.old segment.new (Reserve (key_seen key.now) count) (done_answer result) }
+    ensures refused { OnErr result (segment.new ≡ segment.old) }
+{
+    segment.reserve(key, count)
+}
+
+/// Gives back the room of the vector or string of a key that no element uses.
+///
+/// # Errors
+///
+/// As the segment's call. Nothing changes.
+pub fn shrink(segment: &mut Segment, key: &Key) -> Result<(), Refusal>
+    ensures step { IsStep segment.old segment.new (Shrink (key_seen key.now)) (done_answer result) }
+    ensures refused { OnErr result (segment.new ≡ segment.old) }
+{
+    segment.shrink(key)
+}
+
+/// Takes all elements out of the vector or string of a key.
+///
+/// # Errors
+///
+/// As the segment's call. Nothing changes.
+pub fn clear(segment: &mut Segment, key: &Key) -> Result<(), Refusal>
+    ensures step { IsStep segment.old segment.new (Clear (key_seen key.now)) (done_answer result) }
+    ensures refused { OnErr result (segment.new ≡ segment.old) }
+{
+    segment.clear(key)
+}

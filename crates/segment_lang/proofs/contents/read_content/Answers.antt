@@ -1,0 +1,15 @@
+use Rattle.std.proofs.Common.{◌∙◌, sym}
+use Rattle.segment_lang.proofs.CommandWords.{elements_content, scalar_content, text_content, texts_content}
+use Rattle.segment_lang.proofs.contents.read_content.Goals as goal
+
+pub returns-in-Scalar : goal.returns-in-Scalar
+returns-in-Scalar c = rw c.in-Scalar.is (c.read_scalar.ensures ∙ sym (scalar_content _ c.args.count c.args.bytes.now))
+
+pub returns-in-Vector : goal.returns-in-Vector
+returns-in-Vector c = rw c.in-Vector.is (c.read_vector.ensures ∙ sym (elements_content _ c.args.count c.args.bytes.now))
+
+pub returns-in-Text : goal.returns-in-Text
+returns-in-Text c = rw c.in-Text.is (c.read_string.ensures ∙ sym (text_content c.args.count c.args.bytes.now))
+
+pub returns-in-Texts : goal.returns-in-Texts
+returns-in-Texts c = rw c.in-Texts.is (c.read_strings.ensures ∙ sym (texts_content c.args.count c.args.bytes.now))

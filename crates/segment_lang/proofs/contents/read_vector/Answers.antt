@@ -1,0 +1,5 @@
+use Rattle.segment_lang.proofs.CommandWords.{elements_read}
+use Rattle.segment_lang.proofs.contents.read_vector.Goals as goal
+
+pub returns : goal.returns
+returns c = elements_read _ _ _ c.in_ok-values.ensures

@@ -1,0 +1,5 @@
+use Rattle.segment_lang.proofs.WordRoom.{words_room}
+use Rattle.segment_lang.proofs.theorems.words_have_room.Goals as goal
+
+pub returns : goal.returns
+returns c = words_room

@@ -1,0 +1,137 @@
+-- A call on whatever has storage: the kind of the object of the key says which call it is.
+use Rattle.std.proofs.Common.{◌≡◌, refl, sym, ap, subst, ◌∙◌, ℕ, Bool, true, false, Option, Some, None, Result, Ok, Err, if◌then◌else◌}
+use Rattle.std.proofs.lemmas.Bool.{eq-eqb}
+use Rattle.seg_types.specs.declared.kinds.Kind.{Kind}
+use Rattle.seg_types.specs.declared.kinds.Kind.TheVariants.{Scalar as ScalarOf, Text as TextKind, Vector as VectorKind, Map as MapKind, Texts as TextsKind}
+use Rattle.seg_types.specs.declared.kinds.ScalarKind.{ScalarKind}
+use Rattle.seg_types.specs.declared.refusals.Refusal.{Refusal}
+use Rattle.seg_types.specs.declared.refusals.Refusal.TheVariants.{NotFound, WrongKind}
+use Rattle.seg_types.specs.Kinds.{code_of, same_kind}
+use Rattle.seg_types.specs.Names.{Key}
+use Rattle.seg_types.specs.Commands.{Command}
+use Rattle.seg_vector.specs.declared.places.Place.{Place}
+use Rattle.segment_manager.specs.Answers.{Answer, Refused}
+use Rattle.segment_manager.specs.Calls.{kind_at}
+use Rattle.segment_manager.specs.Contents.{container_at, container_place, place_of_kind, sizes_at, sizes_at_kind, sizes_of, sizes_of_kind}
+use Rattle.segment_manager.specs.Directory.{Value, Numbers, Elements, Bytes, Pairs, Texts, Directory, Object, kind_of, live, object_at}
+use Rattle.segment_manager.specs.Plan.{Refuse, perform}
+use Rattle.segment_manager.specs.State.{Answers, IsStep, IsStepOfKind, State, StandsFor}
+use Rattle.segment_manager.specs.Step.{effect, is_read_only, step, step_of_kind}
+use Rattle.segment_manager.proofs.Refilled.{refused-steps}
+use Rattle.segment_manager.proofs.Steps.{step_of_kind-step}
+use Rattle.segment_manager.proofs.StorageSteps.{has_storage}
+
+-- the object of the key, which is of the kind
+pub record IsOfKindAt (d : Directory) (key : Key) (kind : Kind) : Type 0 where
+  pub object : Object
+  pub is : object_at d key ≡ Some object
+  pub kind_is : kind_of object.value ≡ kind
+
+told-if : (d : Directory) (key : Key) (kind : Kind) (r : Option Object) → object_at d key ≡ r
+    → Ok kind ≡ elim r as (λ _. Result Kind Refusal) [ None ↦ Err NotFound | Some o ↦ Ok (kind_of o.value) ] → IsOfKindAt d key kind
+told-if d key kind None e f = absurd (cc)
+told-if d key kind (Some o) e f = let same : kind_of o.value ≡ kind = cc in record { object = o; is = e; kind_is = same }
+
+pub kind-told : (d : Directory) (key : Key) (kind : Kind) → Ok kind ≡ kind_at d key → IsOfKindAt d key kind
+kind-told d key kind e = told-if d key kind (object_at d key) refl e
+
+nowhere-if : (d : Directory) (key : Key) (why : Refusal) (r : Option Object) → object_at d key ≡ r
+    → Err why ≡ elim r as (λ _. Result Kind Refusal) [ None ↦ Err NotFound | Some o ↦ Ok (kind_of o.value) ] → (object_at d key ≡ None) × (NotFound ≡ why)
+nowhere-if d key why None e f = let same : NotFound ≡ why = cc in (e, same)
+nowhere-if d key why (Some o) e f = absurd (cc)
+
+-- no object has the key: then the call is refused as the command is
+pub nowhere-steps : (s : State) (key : Key) (why : Refusal) (c : Command) → is_read_only s.mode ≡ false → Answers s (λ d. kind_at d key) (Err why)
+    → ((d : Directory) → object_at d key ≡ None → effect d c ≡ Refuse NotFound) → IsStep s s c (Refused why)
+nowhere-steps s key why c writing a none =
+    refused-steps s c why writing
+    (λ d l.
+    let n = nowhere-if d key why (object_at d key) refl (a.answers d l) in
+    ap (perform d (live d)) (none d n.0) ∙ (λ i. (Refused (n.1 i), d)))
+
+-- the step of the kind is the command's
+pub of_kind-steps : (old new : State) (key : Key) (kind : Kind) (c : Command) (answer : Answer) → Answers old (λ d. kind_at d key) (Ok kind) → IsStepOfKind old new key kind c answer → IsStep old new c answer
+of_kind-steps old new key kind c answer a r = record {
+  stays = r.stays;
+  answers = λ d k.
+      let e : IsOfKindAt d key kind = kind-told d key kind (a.answers d k) in
+      r.answers d k ∙ ap (λ (n : Answer × Directory). n.0) (same d e);
+  denotes = λ d k.
+      let e : IsOfKindAt d key kind = kind-told d key kind (a.answers d k) in
+      subst (λ (n : Answer × Directory). StandsFor new.cut.bytes n.1) (same d e) (r.denotes d k);
+}
+  where
+    same : (d : Directory) (e : IsOfKindAt d key kind) → step_of_kind old.mode d key kind c ≡ step old.mode d c
+    same d e = step_of_kind-step old.mode d key kind c e.object e.is (eq-eqb (code_of kind) (code_of (kind_of e.object.value)) (ap code_of (sym e.kind_is)))
+
+-- it has no storage
+pub kind-no_storage : (s : State) (key : Key) (kind : Kind) → has_storage kind ≡ false → Answers s (λ d. kind_at d key) (Ok kind)
+    → (d : Directory) → StandsFor s.cut.bytes d → (o : Object) × ((object_at d key ≡ Some o) × (has_storage (kind_of o.value) ≡ false))
+kind-no_storage s key kind h a d l =
+    let e : IsOfKindAt d key kind = kind-told d key kind (a.answers d l) in
+    (e.object, (e.is, ap has_storage e.kind_is ∙ h))
+
+-- ---- sizes
+
+sizes-missing-in : (o : Object) (kind : Kind) (why : Refusal) (t : Bool) → Err why ≡ (if t then Ok (container_place o) else Err WrongKind) → Err why ≡ (if t then sizes_of o.value else Err WrongKind)
+sizes-missing-in o kind why true e = absurd (cc)
+sizes-missing-in o kind why false e = let same : why ≡ WrongKind = cc in ap Err same
+
+sizes-missing-if : (kind : Kind) (why : Refusal) (r : Option Object)
+    → Err why ≡ elim r as (λ _. Result Place Refusal) [ None ↦ Err NotFound | Some o ↦ place_of_kind o kind ]
+    → Err why ≡ elim r as (λ _. Result (ℕ × ℕ) Refusal) [ None ↦ Err NotFound | Some o ↦ sizes_of_kind o kind ]
+sizes-missing-if kind why None e = let same : why ≡ NotFound = cc in ap Err same
+sizes-missing-if kind why (Some o) e = sizes-missing-in o kind why (same_kind kind (kind_of o.value)) e
+
+-- why there is no such container is why there are no sizes
+pub measures-nothing : (s : State) (key : Key) (kind : Kind) (why : Refusal) → Answers s (λ d. container_at d key kind) (Err why) → Answers s (λ d. sizes_at_kind d key kind) (Err why)
+measures-nothing s key kind why a = record { answers = λ d l. sizes-missing-if kind why (object_at d key) (a.answers d l) }
+
+-- the sizes of the object of the key, which is of the kind
+pub sizes-found : (d : Directory) (key : Key) (kind : Kind) (o : Object) → object_at d key ≡ Some o → kind_of o.value ≡ kind → sizes_at_kind d key kind ≡ sizes_of o.value
+sizes-found d key kind o e f =
+    ap (λ (r : Option Object). elim r as (λ _. Result (ℕ × ℕ) Refusal) [ None ↦ Err NotFound | Some o ↦ sizes_of_kind o kind ]) e
+    ∙ ap (λ (t : Bool). if t then sizes_of o.value else Err WrongKind) (eq-eqb (code_of kind) (code_of (kind_of o.value)) (ap code_of (sym f)))
+
+-- the sizes of the kind are the object's
+pub measures-kind : (s : State) (key : Key) (kind : Kind) (r : Result (ℕ × ℕ) Refusal) → Answers s (λ d. kind_at d key) (Ok kind) → Answers s (λ d. sizes_at_kind d key kind) r → Answers s (λ d. sizes_at d key) r
+measures-kind s key kind r a m = record {
+  answers = λ d l.
+      let e : IsOfKindAt d key kind = kind-told d key kind (a.answers d l) in
+      m.answers d l ∙ sizes-found d key kind e.object e.is e.kind_is
+      ∙ sym (ap (λ (q : Option Object). elim q as (λ _. Result (ℕ × ℕ) Refusal) [ None ↦ Err NotFound | Some o ↦ sizes_of o.value ]) e.is);
+}
+
+-- no object has the key
+pub measures-nowhere : (s : State) (key : Key) (why : Refusal) → Answers s (λ d. kind_at d key) (Err why) → Answers s (λ d. sizes_at d key) (Err why)
+measures-nowhere s key why a = record {
+  answers = λ d l.
+      let n = nowhere-if d key why (object_at d key) refl (a.answers d l) in
+      ap Err (sym n.1) ∙ sym (ap (λ (q : Option Object). elim q as (λ _. Result (ℕ × ℕ) Refusal) [ None ↦ Err NotFound | Some o ↦ sizes_of o.value ]) n.0);
+}
+
+no-sizes : (v : Value) → has_storage (kind_of v) ≡ false → sizes_of v ≡ Err WrongKind
+no-sizes (Numbers k zs) h = refl
+no-sizes (Elements k zs t) h = absurd (cc)
+no-sizes (Bytes bs t) h = absurd (cc)
+no-sizes (Pairs k v ps) h = refl
+no-sizes (Texts ps t) h = absurd (cc)
+
+-- it has no storage
+pub measures-other : (s : State) (key : Key) (kind : Kind) → has_storage kind ≡ false → Answers s (λ d. kind_at d key) (Ok kind) → Answers s (λ d. sizes_at d key) (Err WrongKind)
+measures-other s key kind h a = record {
+  answers = λ d l.
+      let e : IsOfKindAt d key kind = kind-told d key kind (a.answers d l) in
+      sym (no-sizes e.object.value (ap has_storage e.kind_is ∙ h))
+      ∙ sym (ap (λ (q : Option Object). elim q as (λ _. Result (ℕ × ℕ) Refusal) [ None ↦ Err NotFound | Some o ↦ sizes_of o.value ]) e.is);
+}
+
+-- ---- the kinds that are left
+
+-- neither a string nor a vector, of numbers or of strings: it has no storage
+pub otherwise-no_storage : (kind : Kind) → (kind ≡ TextKind → ⊥) → (kind ≡ TextsKind → ⊥) → ((k : ScalarKind) → kind ≡ VectorKind k → ⊥) → has_storage kind ≡ false
+otherwise-no_storage (ScalarOf k) n p m = refl
+otherwise-no_storage TextKind n p m = absurd (n refl)
+otherwise-no_storage (VectorKind k) n p m = absurd (m k refl)
+otherwise-no_storage (MapKind k v) n p m = refl
+otherwise-no_storage TextsKind n p m = absurd (p refl)

@@ -1,0 +1,192 @@
+-- A vector or text as the value of an object: it stands at its place as the calls of seg_vector see it, and what they do to it is what
+-- becomes of the object.
+use Rattle.std.proofs.Common.{◌≡◌, refl, sym, ap, subst, ◌∙◌, ℕ, ◌+◌, ◌*◌, ◌≤◌, ℤ, Bool, ◌&&◌, Option, Some, None, List, [], ◌∷◌, ◌++◌, length, append-nil, arith}
+use Rattle.std.specs.Prelude.{IsTrue, nat_le, nat_lt, option_to_list}
+use Rattle.std.specs.List.{list_all}
+use Rattle.std.proofs.lemmas.Bool.{and_from, le-leb}
+use Rattle.std.proofs.lemmas.Option.{same_Some}
+use Rattle.raw_region.specs.Format.{current}
+use Rattle.raw_region.specs.Memory.{Cut, Memory, bytes_of}
+use Rattle.block_tags.specs.declared.tile.Role.TheVariants.{Object as ObjectRole, Storage}
+use Rattle.best_fit.specs.Exchange.{IsExchanged}
+use Rattle.best_fit.specs.Extents.{Extent, LiveSet, handle}
+use Rattle.best_fit.specs.Heap.{extent_at, live_of}
+use Rattle.best_fit.specs.Table.{Table, is_table, serves}
+use Rattle.best_fit.proofs.Laws.{found-new}
+use Rattle.seg_types.specs.declared.kinds.ScalarKind.{ScalarKind}
+use Rattle.seg_types.specs.Kinds.{is_kind_of, is_value, size_of}
+use Rattle.seg_types.specs.Names.{Key}
+use Rattle.seg_vector.specs.Standing.{IsOwnBlock, Stands, place_at}
+use Rattle.seg_vector.specs.Vector.{IsContainerAt, spelled}
+use Rattle.segment_manager.specs.Contents.{Contents, IsRefilled, container_place, contents_of, has_values}
+use Rattle.segment_manager.specs.Directory.{Value, Numbers, Elements, Bytes, Pairs, Texts, Object, Directory, count_of, extents_of, has_good_name, is_good_value, is_object, kind_of, object_at, padded, value_extents, value_len}
+use Rattle.segment_manager.specs.Denotes.{Denotes, IsValueAt}
+use Rattle.segment_manager.specs.Standing.{StandsAt}
+use Rattle.segment_manager.specs.Step.{changed}
+use Rattle.segment_manager.proofs.Blocks.{spelled-length}
+use Rattle.segment_manager.proofs.Calling.{denotes-heap, denotes-live}
+use Rattle.segment_manager.proofs.Exchanged.{Exchange, between, denotes-container}
+use Rattle.segment_manager.proofs.Frame.{object-roomy}
+use Rattle.segment_manager.proofs.Here.{standing}
+use Rattle.segment_manager.proofs.Live.{IsIn}
+use Rattle.segment_manager.proofs.Objects.{key-found}
+use Rattle.segment_manager.proofs.Order.{inserted}
+use Rattle.segment_manager.proofs.Regrown.{InPlace, Parted, parted, rest}
+use Rattle.segment_manager.proofs.Rewritten.{value_start, with_value}
+use Rattle.segment_manager.proofs.Standings.{standing-room}
+use Rattle.segment_manager.proofs.Words.{first, second, no_more}
+
+-- ---- the value
+
+-- what is known of a good one
+pub record Fits (v : Value) (c : Contents) : Type 0 where
+  pub table : IsTrue (is_table Storage c.each c.table)
+  pub fits : c.len ≤ c.table.capacity
+  pub long : length c.bytes ≡ c.each * c.len
+  pub values : IsTrue (has_values v)
+
+-- and of any
+pub record Shape (v : Value) (c : Contents) : Type 0 where
+  pub extents : value_extents v ≡ option_to_list c.table.extent
+  pub len : value_len v ≡ 24
+  pub count : count_of v ≡ 1
+
+abbrev elements_in : ScalarKind → List ℤ → Table → Contents
+elements_in k zs t = record { each = size_of k; len = length zs; table = t; bytes = spelled k zs }
+
+abbrev bytes_in : List ℕ → Table → Contents
+bytes_in bs t = record { each = 1; len = length bs; table = t; bytes = bs }
+
+fits-elements : (k : ScalarKind) (zs : List ℤ) (t : Table) → IsTrue (is_good_value (Elements k zs t)) → Fits (Elements k zs t) (elements_in k zs t)
+fits-elements k zs t h =
+    let front : IsTrue (nat_le (length zs) t.capacity && is_table Storage (size_of k) t) = first (nat_le (length zs) t.capacity && is_table Storage (size_of k) t) (list_all (is_value k) zs) h in
+    record {
+      table = second (nat_le (length zs) t.capacity) (is_table Storage (size_of k) t) front;
+      fits = no_more (length zs) t.capacity (first (nat_le (length zs) t.capacity) (is_table Storage (size_of k) t) front);
+      long = spelled-length k zs;
+      values = second (nat_le (length zs) t.capacity && is_table Storage (size_of k) t) (list_all (is_value k) zs) h;
+    }
+
+fits-bytes : (bs : List ℕ) (t : Table) → IsTrue (is_good_value (Bytes bs t)) → Fits (Bytes bs t) (bytes_in bs t)
+fits-bytes bs t h =
+    let front : IsTrue (nat_le (length bs) t.capacity && is_table Storage 1 t) = first (nat_le (length bs) t.capacity && is_table Storage 1 t) (list_all (λ b. nat_lt b 256) bs) h in
+    record {
+      table = second (nat_le (length bs) t.capacity) (is_table Storage 1 t) front;
+      fits = no_more (length bs) t.capacity (first (nat_le (length bs) t.capacity) (is_table Storage 1 t) front);
+      long = omega arith;
+      values = second (nat_le (length bs) t.capacity && is_table Storage 1 t) (list_all (λ b. nat_lt b 256) bs) h;
+    }
+
+pub contents-fit : (v : Value) (c : Contents) → contents_of v ≡ Some c → IsTrue (is_good_value v) → Fits v c
+contents-fit (Numbers k zs) c e h = absurd (cc)
+contents-fit (Elements k zs t) c e h = subst (Fits (Elements k zs t)) (same_Some (elements_in k zs t) c e) (fits-elements k zs t h)
+contents-fit (Bytes bs t) c e h = subst (Fits (Bytes bs t)) (same_Some (bytes_in bs t) c e) (fits-bytes bs t h)
+contents-fit (Pairs k l ps) c e h = absurd (cc)
+contents-fit (Texts ps t) c e h = absurd (cc)
+
+pub contents-shape : (v : Value) (c : Contents) → contents_of v ≡ Some c → Shape v c
+contents-shape (Numbers k zs) c e = absurd (cc)
+contents-shape (Elements k zs t) c e = subst (Shape (Elements k zs t)) (same_Some (elements_in k zs t) c e) (record { extents = refl; len = refl; count = refl })
+contents-shape (Bytes bs t) c e = subst (Shape (Bytes bs t)) (same_Some (bytes_in bs t) c e) (record { extents = refl; len = refl; count = refl })
+contents-shape (Pairs k l ps) c e = absurd (cc)
+contents-shape (Texts ps t) c e = absurd (cc)
+
+-- the other way round: elements that have their places make a good value
+pub contents-good : (v : Value) (c : Contents) → contents_of v ≡ Some c → c.len ≤ c.table.capacity → IsTrue (is_table Storage c.each c.table) → IsTrue (has_values v) → IsTrue (is_good_value v)
+contents-good (Numbers k zs) c e f t h = absurd (cc)
+contents-good (Elements k zs u) c e f t h =
+    let same : c ≡ elements_in k zs u = sym (same_Some (elements_in k zs u) c e) in
+    let fits : length zs ≤ u.capacity = subst (λ (x : Contents). x.len ≤ x.table.capacity) same f in
+    let table : IsTrue (is_table Storage (size_of k) u) = subst (λ (x : Contents). IsTrue (is_table Storage x.each x.table)) same t in
+    and_from (nat_le (length zs) u.capacity && is_table Storage (size_of k) u) (list_all (is_value k) zs)
+    (and_from (nat_le (length zs) u.capacity) (is_table Storage (size_of k) u) (le-leb (length zs) u.capacity fits) table) h
+contents-good (Bytes bs u) c e f t h =
+    let same : c ≡ bytes_in bs u = sym (same_Some (bytes_in bs u) c e) in
+    let fits : length bs ≤ u.capacity = subst (λ (x : Contents). x.len ≤ x.table.capacity) same f in
+    let table : IsTrue (is_table Storage 1 u) = subst (λ (x : Contents). IsTrue (is_table Storage x.each x.table)) same t in
+    and_from (nat_le (length bs) u.capacity && is_table Storage 1 u) (list_all (λ b. nat_lt b 256) bs)
+    (and_from (nat_le (length bs) u.capacity) (is_table Storage 1 u) (le-leb (length bs) u.capacity fits) table) h
+contents-good (Pairs k l ps) c e f t h = absurd (cc)
+contents-good (Texts ps u) c e f t h = absurd (cc)
+
+-- what the bytes say of the value they say of its contents, and the other way round
+contents-said : (m : Memory) (at : ℕ) (v : Value) (c : Contents) → contents_of v ≡ Some c → IsValueAt m at v → IsContainerAt m at c.len c.table c.bytes
+contents-said m at (Numbers k zs) c e h = absurd (cc)
+contents-said m at (Elements k zs t) c e h = subst (λ (x : Contents). IsContainerAt m at x.len x.table x.bytes) (same_Some (elements_in k zs t) c e) h
+contents-said m at (Bytes bs t) c e h = subst (λ (x : Contents). IsContainerAt m at x.len x.table x.bytes) (same_Some (bytes_in bs t) c e) h
+contents-said m at (Pairs k l ps) c e h = absurd (cc)
+contents-said m at (Texts ps t) c e h = absurd (cc)
+
+pub value-said : (m : Memory) (at : ℕ) (v : Value) (c : Contents) → contents_of v ≡ Some c → IsContainerAt m at c.len c.table c.bytes → IsValueAt m at v
+value-said m at (Numbers k zs) c e h = absurd (cc)
+value-said m at (Elements k zs t) c e h = subst (λ (x : Contents). IsContainerAt m at x.len x.table x.bytes) (sym (same_Some (elements_in k zs t) c e)) h
+value-said m at (Bytes bs t) c e h = subst (λ (x : Contents). IsContainerAt m at x.len x.table x.bytes) (sym (same_Some (bytes_in bs t) c e)) h
+value-said m at (Pairs k l ps) c e h = absurd (cc)
+value-said m at (Texts ps t) c e h = absurd (cc)
+
+-- ---- the object
+
+-- it is good with another value of its kind and length
+pub good-with : (format : ℕ) (o : Object) (w : Value) → IsTrue (is_object format o) → kind_of w ≡ kind_of o.value → value_len w ≡ value_len o.value → IsTrue (is_good_value w)
+    → IsTrue (is_object format (with_value o w))
+good-with format o w h kind len good =
+    let serving : ℕ → Bool = λ n. serves o.extent ObjectRole (16 + padded (length o.name) + n) in
+    let named : Bool = has_good_name format o in
+    let front : IsTrue (named && is_kind_of format (kind_of o.value) && is_good_value o.value) = first (named && is_kind_of format (kind_of o.value) && is_good_value o.value) (serving (value_len o.value)) h in
+    let room : IsTrue (serving (value_len w)) = subst (λ n. IsTrue (serving n)) (sym len) (second (named && is_kind_of format (kind_of o.value) && is_good_value o.value) (serving (value_len o.value)) h) in
+    let kinds : IsTrue (named && is_kind_of format (kind_of w)) = subst (λ k. IsTrue (named && is_kind_of format k)) (sym kind) (first (named && is_kind_of format (kind_of o.value)) (is_good_value o.value) front) in
+    and_from (named && is_kind_of format (kind_of w) && is_good_value w) (serving (value_len w)) (and_from (named && is_kind_of format (kind_of w)) (is_good_value w) kinds good) room
+
+-- a block of its value is in use, and is not its own
+own-some : (format : ℕ) (b : List ℕ) (d : Directory) (o : Object) (x : Extent) → Denotes format b d → IsIn d o → value_extents o.value ≡ x ∷ [] → IsOwnBlock (live_of b) (handle o.extent) (Some x)
+own-some format b d o x k f e =
+    let p : InPlace d o o = record { found = f; extent = refl; proper = k.directory.proper } in
+    let all : extents_of o ≡ (o.extent ∷ []) ++ x ∷ [] = λ i. o.extent ∷ e i in
+    let q : Parted d o (o.extent ∷ []) [] x = parted d o o (o.extent ∷ []) [] x p all in
+    let others : List Extent = inserted ((o.extent ∷ []) ++ []) (rest d o) in
+    (ap (λ (l : LiveSet). extent_at l (handle x)) (denotes-live format b d k ∙ q.was) ∙ found-new x others q.differs, (λ g. q.front.0 (omega (arith, g))))
+
+own-block : (format : ℕ) (b : List ℕ) (d : Directory) (o : Object) (t : Option Extent) → Denotes format b d → IsIn d o → value_extents o.value ≡ option_to_list t → IsOwnBlock (live_of b) (handle o.extent) t
+own-block format b d o None k f e = tt
+own-block format b d o (Some x) k f e = own-some format b d o x k f e
+
+pub start-place : (o : Object) → value_start o ≡ place_at (container_place o)
+start-place o = omega arith
+
+-- its vector or text stands at its place
+pub contents-stand : (b : List ℕ) (d : Directory) (key : Key) (o : Object) (c : Contents) → Denotes current b d → object_at d key ≡ Some o → contents_of o.value ≡ Some c
+    → Stands b (container_place o) c.each c.len c.table c.bytes
+contents-stand b d key o c k e h =
+    let s : StandsAt b (handle o.extent) o = standing b d key o k e in
+    let f : IsIn d o = key-found current d key o k.directory e in
+    let good : Fits o.value c = contents-fit o.value c h (object-roomy current o s.good).value in
+    let shape : Shape o.value c = contents-shape o.value c h in
+    let len = shape.len in
+    record {
+      heap = denotes-heap current b d k;
+      words = subst (λ at. IsContainerAt (bytes_of b) at c.len c.table c.bytes) (start-place o) (contents-said (bytes_of b) (value_start o) o.value c h s.said.value);
+      aligned = omega arith;
+      room = standing-room b (handle o.extent) (16 + padded (length o.name) + 24) o s (omega (arith, len));
+      table = good.table;
+      fits = good.fits;
+      long = good.long;
+      own = own-block current b d o c.table.extent k f shape.extents;
+    }
+
+-- And what is done to it there comes to the directory with the other value.
+pub contents-changed : (old new : Cut) (d : Directory) (key : Key) (o : Object) (w : Value) (c c' : Contents) → Denotes current old.bytes d → object_at d key ≡ Some o
+    → contents_of o.value ≡ Some c → contents_of w ≡ Some c' → kind_of w ≡ kind_of o.value → IsTrue (has_values w) → IsRefilled old new (container_place o) c c' → Denotes current new.bytes (changed d o w)
+contents-changed old new d key o w c c' k e h h' kind values r =
+    let s : StandsAt old.bytes (handle o.extent) o = standing old.bytes d key o k e in
+    let f : IsIn d o = key-found current d key o k.directory e in
+    let was : Shape o.value c = contents-shape o.value c h in
+    let is : Shape w c' = contents-shape w c' h' in
+    let good : IsTrue (is_object current (with_value o w)) =
+    good-with current o w s.good kind (is.len ∙ sym was.len) (contents-good w c' h' r.stands.fits r.stands.table values) in
+    let x : Exchange o (with_value o w) (option_to_list c.table.extent) (option_to_list c'.table.extent) =
+    between o (with_value o w) [] (option_to_list c.table.extent) (option_to_list c'.table.extent) []
+    (was.extents ∙ sym (append-nil (option_to_list c.table.extent))) (is.extents ∙ sym (append-nil (option_to_list c'.table.extent))) in
+    let change : IsExchanged current old new (value_start o) 24 (option_to_list c.table.extent) (option_to_list c'.table.extent) =
+    subst (λ at. IsExchanged current old new at 24 (option_to_list c.table.extent) (option_to_list c'.table.extent)) (sym (start-place o)) r.change in
+    denotes-container current old new d o w (option_to_list c.table.extent) (option_to_list c'.table.extent) k f x kind (is.count ∙ sym was.count) was.len s.good good change
+    (subst (λ at. IsValueAt (bytes_of new.bytes) at w) (sym (start-place o)) (value-said (bytes_of new.bytes) (place_at (container_place o)) w c' h' r.stands.words))

@@ -1,0 +1,267 @@
+-- The plans of the commands on a vector of numbers or a text.
+use Rattle.std.proofs.Common.{◌≡◌, refl, ap, ◌∙◌, ℕ, ◌-◌, ℤ, pos, nat_abs, Bool, true, false, Option, Some, None, Result, Ok, Err, List, [], ◌∷◌, ◌++◌, length, map, take, if◌then◌else◌}
+use Rattle.std.specs.Prelude.{insert, remove, slice_get, slice_set, nat_lt}
+use Rattle.best_fit.specs.Table.{Table, cut_table}
+use Rattle.seg_types.specs.declared.kinds.ScalarKind.{ScalarKind}
+use Rattle.seg_types.specs.declared.kinds.ScalarKind.TheVariants.{U8}
+use Rattle.seg_types.specs.declared.refusals.Refusal.{Refusal}
+use Rattle.seg_types.specs.declared.refusals.Refusal.TheVariants.{OutOfRange, WrongKind}
+use Rattle.seg_types.specs.Kinds.{size_of}
+use Rattle.seg_types.specs.Names.{Key}
+use Rattle.seg_types.specs.Commands as asked
+use Rattle.seg_types.specs.Commands.{Literal, value_of_literal}
+use Rattle.seg_vector.specs.Vector.{capacity_for_one, capacity_for_text}
+use Rattle.segment_manager.specs.Answers.{Done, Element}
+use Rattle.segment_manager.specs.Directory.{Value, Numbers, Elements, Bytes, Pairs, Texts, Object, Directory, live, object_at}
+use Rattle.segment_manager.specs.Plan.{Plan, Refuse, Reply, with, with_capacity}
+use Rattle.segment_manager.specs.Step as step
+use Rattle.segment_manager.specs.Step.{changed, effect, storage_of, text_among, text_of, values_of, vector_of, with_items, with_table}
+use Rattle.segment_manager.proofs.Steps.{with-found}
+
+abbrev of_slice : Option ℤ → Result ℤ Refusal
+of_slice r = elim r as (λ _. Result ℤ Refusal) [ None ↦ Err OutOfRange | Some z ↦ Ok z ]
+
+-- ---- vectors of numbers
+
+module _ (d : Directory) (key : Key) (o : Object) (k : ScalarKind) (zs : List ℤ) (t : Table) (e : object_at d key ≡ Some o) (f : o.value ≡ Elements k zs t) where
+  -- an element more, behind the last
+  abbrev push_with : ℤ → Plan
+  push_with z = with_capacity (size_of k) (capacity_for_one (length zs) t.capacity) t (λ u. Reply Done (changed d o (Elements k (zs ++ z ∷ []) u)))
+
+  push-literal : (l : Literal) → effect d (asked.Push key l) ≡ with (value_of_literal k l) push_with
+  push-literal l = with-found d key o (λ o. step.push d o o.value l) e ∙ ap (λ v. step.push d o v l) f
+
+  pub push-plan : (l : Literal) (z : ℤ) → value_of_literal k l ≡ Ok z → effect d (asked.Push key l) ≡ push_with z
+  push-plan l z g = push-literal l ∙ ap (λ r. with r push_with) g
+
+  pub push-refused : (l : Literal) (r : Refusal) → value_of_literal k l ≡ Err r → effect d (asked.Push key l) ≡ Refuse r
+  push-refused l r g = push-literal l ∙ ap (λ r. with r push_with) g
+
+  -- the last is taken away
+  abbrev pop_with : ℤ → Plan
+  pop_with z = Reply (Element k z) (changed d o (Elements k (take (length zs - 1) zs) t))
+
+  pop-last : effect d (asked.Pop key) ≡ with (of_slice (slice_get zs (length zs - 1))) pop_with
+  pop-last = with-found d key o (λ o. step.pop d o o.value) e ∙ ap (λ v. step.pop d o v) f
+
+  pub pop-plan : (z : ℤ) → slice_get zs (length zs - 1) ≡ Some z → effect d (asked.Pop key) ≡ pop_with z
+  pop-plan z g = pop-last ∙ ap (λ r. with (of_slice r) pop_with) g
+
+  pub pop-empty : slice_get zs (length zs - 1) ≡ None → effect d (asked.Pop key) ≡ Refuse OutOfRange
+  pop-empty g = pop-last ∙ ap (λ r. with (of_slice r) pop_with) g
+
+  -- an element more, among the others
+  abbrev insert_with : ℕ → ℤ → Plan
+  insert_with i z = with_capacity (size_of k) (capacity_for_one (length zs) t.capacity) t (λ u. Reply Done (changed d o (Elements k (insert zs i z) u)))
+
+  insert-literal : (i : ℕ) (l : Literal) → effect d (asked.Insert key i l) ≡ with (value_of_literal k l) (λ z. if nat_lt (length zs) i then Refuse OutOfRange else insert_with i z)
+  insert-literal i l = with-found d key o (λ o. step.insert_at d o o.value i l) e ∙ ap (λ v. step.insert_at d o v i l) f
+
+  pub insert-plan : (i : ℕ) (l : Literal) (z : ℤ) → value_of_literal k l ≡ Ok z → nat_lt (length zs) i ≡ false → effect d (asked.Insert key i l) ≡ insert_with i z
+  insert-plan i l z g h = insert-literal i l ∙ (λ j. with (g j) (λ z. if h j then Refuse OutOfRange else insert_with i z))
+
+  pub insert-past : (i : ℕ) (l : Literal) (z : ℤ) → value_of_literal k l ≡ Ok z → nat_lt (length zs) i ≡ true → effect d (asked.Insert key i l) ≡ Refuse OutOfRange
+  insert-past i l z g h = insert-literal i l ∙ (λ j. with (g j) (λ z. if h j then Refuse OutOfRange else insert_with i z))
+
+  pub insert-refused : (i : ℕ) (l : Literal) (r : Refusal) → value_of_literal k l ≡ Err r → effect d (asked.Insert key i l) ≡ Refuse r
+  insert-refused i l r g = insert-literal i l ∙ ap (λ r. with r (λ z. if nat_lt (length zs) i then Refuse OutOfRange else insert_with i z)) g
+
+  -- one less among the others
+  abbrev erase_with : ℕ → ℤ → Plan
+  erase_with i z = Reply Done (changed d o (Elements k (remove zs i) t))
+
+  erase-at : (i : ℕ) → effect d (asked.Erase key i) ≡ with (of_slice (slice_get zs i)) (erase_with i)
+  erase-at i = with-found d key o (λ o. step.erase d o o.value i) e ∙ ap (λ v. step.erase d o v i) f
+
+  pub erase-plan : (i : ℕ) (z : ℤ) → slice_get zs i ≡ Some z → effect d (asked.Erase key i) ≡ Reply Done (changed d o (Elements k (remove zs i) t))
+  erase-plan i z g = erase-at i ∙ ap (λ r. with (of_slice r) (erase_with i)) g
+
+  pub erase-past : (i : ℕ) → slice_get zs i ≡ None → effect d (asked.Erase key i) ≡ Refuse OutOfRange
+  erase-past i g = erase-at i ∙ ap (λ r. with (of_slice r) (erase_with i)) g
+
+  -- others in the place of all
+  abbrev assign_with : List ℤ → Plan
+  assign_with new = with_capacity (size_of k) (length new) t (λ u. Reply Done (changed d o (Elements k new u)))
+
+  assign-literals : (ls : List Literal) → effect d (asked.Assign key ls) ≡ with (values_of k ls) assign_with
+  assign-literals ls = with-found d key o (λ o. step.assign d o o.value ls) e ∙ ap (λ v. step.assign d o v ls) f
+
+  pub assign-plan : (ls : List Literal) (new : List ℤ) → values_of k ls ≡ Ok new → effect d (asked.Assign key ls) ≡ assign_with new
+  assign-plan ls new g = assign-literals ls ∙ ap (λ r. with r assign_with) g
+
+  pub assign-refused : (ls : List Literal) (r : Refusal) → values_of k ls ≡ Err r → effect d (asked.Assign key ls) ≡ Refuse r
+  assign-refused ls r g = assign-literals ls ∙ ap (λ r. with r assign_with) g
+
+  -- one element read, and written over
+  abbrev get_with : ℤ → Plan
+  get_with z = Reply (Element k z) d
+
+  get-at : (i : ℕ) → effect d (asked.Get key i) ≡ with (of_slice (slice_get zs i)) get_with
+  get-at i = with-found d key o (λ o. step.get d o.value i) e ∙ ap (λ v. step.get d v i) f
+
+  pub get-plan : (i : ℕ) (z : ℤ) → slice_get zs i ≡ Some z → effect d (asked.Get key i) ≡ Reply (Element k z) d
+  get-plan i z g = get-at i ∙ ap (λ r. with (of_slice r) get_with) g
+
+  pub get-past : (i : ℕ) → slice_get zs i ≡ None → effect d (asked.Get key i) ≡ Refuse OutOfRange
+  get-past i g = get-at i ∙ ap (λ r. with (of_slice r) get_with) g
+
+  abbrev set_with : ℕ → ℤ → ℤ → Plan
+  set_with i z old = Reply Done (changed d o (Elements k (slice_set zs i z) t))
+
+  set-literal : (i : ℕ) (l : Literal) → effect d (asked.Set key i l) ≡ with (value_of_literal k l) (λ z. with (of_slice (slice_get zs i)) (set_with i z))
+  set-literal i l = with-found d key o (λ o. step.set d o o.value i l) e ∙ ap (λ v. step.set d o v i l) f
+
+  pub set-plan : (i : ℕ) (l : Literal) (z old : ℤ) → value_of_literal k l ≡ Ok z → slice_get zs i ≡ Some old → effect d (asked.Set key i l) ≡ Reply Done (changed d o (Elements k (slice_set zs i z) t))
+  set-plan i l z old g h = set-literal i l ∙ (λ j. with (g j) (λ z. with (of_slice (h j)) (set_with i z)))
+
+  pub set-past : (i : ℕ) (l : Literal) (z : ℤ) → value_of_literal k l ≡ Ok z → slice_get zs i ≡ None → effect d (asked.Set key i l) ≡ Refuse OutOfRange
+  set-past i l z g h = set-literal i l ∙ (λ j. with (g j) (λ z. with (of_slice (h j)) (set_with i z)))
+
+  pub set-refused : (i : ℕ) (l : Literal) (r : Refusal) → value_of_literal k l ≡ Err r → effect d (asked.Set key i l) ≡ Refuse r
+  set-refused i l r g = set-literal i l ∙ ap (λ r. with r (λ z. with (of_slice (slice_get zs i)) (set_with i z))) g
+
+-- ---- texts
+
+module _ (d : Directory) (key : Key) (o : Object) (bs : List ℕ) (t : Table) (e : object_at d key ≡ Some o) (f : o.value ≡ Bytes bs t) where
+  -- more bytes behind the last
+  pub append-plan : (more : List ℕ) → effect d (asked.Append key more) ≡ with_capacity 1 (capacity_for_text (length (bs ++ more)) t.capacity) t (λ u. Reply Done (changed d o (Bytes (bs ++ more) u)))
+  append-plan more =
+      with-found d key o (λ o. with (text_of o.value) (λ (bs, t). with_capacity 1 (capacity_for_text (length (bs ++ more)) t.capacity) t (λ u. Reply Done (changed d o (Bytes (bs ++ more) u))))) e
+      ∙ ap (λ v. with (text_of v) (λ (bs, t). with_capacity 1 (capacity_for_text (length (bs ++ more)) t.capacity) t (λ u. Reply Done (changed d o (Bytes (bs ++ more) u))))) f
+
+  -- others in the place of all
+  abbrev text_with : List ℕ → Plan
+  text_with new = with_capacity 1 (length new) t (λ u. Reply Done (changed d o (Bytes new u)))
+
+  text-literals : (ls : List Literal) → effect d (asked.Assign key ls) ≡ with (text_among ls) text_with
+  text-literals ls = with-found d key o (λ o. step.assign d o o.value ls) e ∙ ap (λ v. step.assign d o v ls) f
+
+  pub text-plan : (ls : List Literal) (new : List ℕ) → text_among ls ≡ Ok new → effect d (asked.Assign key ls) ≡ text_with new
+  text-plan ls new g = text-literals ls ∙ ap (λ r. with r text_with) g
+
+  pub text-refused : (ls : List Literal) (r : Refusal) → text_among ls ≡ Err r → effect d (asked.Assign key ls) ≡ Refuse r
+  text-refused ls r g = text-literals ls ∙ ap (λ r. with r text_with) g
+
+  -- one byte read, and written over
+  abbrev byte_with : ℤ → Plan
+  byte_with z = Reply (Element U8 z) d
+
+  byte-at : (i : ℕ) → effect d (asked.Get key i) ≡ with (of_slice (slice_get (map pos bs) i)) byte_with
+  byte-at i = with-found d key o (λ o. step.get d o.value i) e ∙ ap (λ v. step.get d v i) f
+
+  pub byte-plan : (i : ℕ) (z : ℤ) → slice_get (map pos bs) i ≡ Some z → effect d (asked.Get key i) ≡ Reply (Element U8 z) d
+  byte-plan i z g = byte-at i ∙ ap (λ r. with (of_slice r) byte_with) g
+
+  pub byte-past : (i : ℕ) → slice_get (map pos bs) i ≡ None → effect d (asked.Get key i) ≡ Refuse OutOfRange
+  byte-past i g = byte-at i ∙ ap (λ r. with (of_slice r) byte_with) g
+
+  abbrev put_byte : ℕ → ℤ → ℤ → Plan
+  put_byte i z old = Reply Done (changed d o (Bytes (map nat_abs (slice_set (map pos bs) i z)) t))
+
+  byte-literal : (i : ℕ) (l : Literal) → effect d (asked.Set key i l) ≡ with (value_of_literal U8 l) (λ z. with (of_slice (slice_get (map pos bs) i)) (put_byte i z))
+  byte-literal i l = with-found d key o (λ o. step.set d o o.value i l) e ∙ ap (λ v. step.set d o v i l) f
+
+  pub set_byte-plan : (i : ℕ) (l : Literal) (z old : ℤ) → value_of_literal U8 l ≡ Ok z → slice_get (map pos bs) i ≡ Some old
+      → effect d (asked.Set key i l) ≡ Reply Done (changed d o (Bytes (map nat_abs (slice_set (map pos bs) i z)) t))
+  set_byte-plan i l z old g h = byte-literal i l ∙ (λ j. with (g j) (λ z. with (of_slice (h j)) (put_byte i z)))
+
+  pub set_byte-past : (i : ℕ) (l : Literal) (z : ℤ) → value_of_literal U8 l ≡ Ok z → slice_get (map pos bs) i ≡ None → effect d (asked.Set key i l) ≡ Refuse OutOfRange
+  set_byte-past i l z g h = byte-literal i l ∙ (λ j. with (g j) (λ z. with (of_slice (h j)) (put_byte i z)))
+
+  pub set_byte-refused : (i : ℕ) (l : Literal) (r : Refusal) → value_of_literal U8 l ≡ Err r → effect d (asked.Set key i l) ≡ Refuse r
+  set_byte-refused i l r g = byte-literal i l ∙ ap (λ r. with r (λ z. with (of_slice (slice_get (map pos bs) i)) (put_byte i z))) g
+
+-- ---- whatever has storage
+
+module _ (d : Directory) (key : Key) (o : Object) (e : object_at d key ≡ Some o) where
+  abbrev reserve_with : ℕ → ℕ × ℕ × Table → Plan
+  reserve_with n (each, len, t) = with_capacity each n t (λ u. Reply Done (changed d o (with_table o.value u)))
+
+  pub reserve-plan : (n each len : ℕ) (t : Table) → storage_of o.value ≡ Ok (each, len, t) → effect d (asked.Reserve key n) ≡ with_capacity each n t (λ u. Reply Done (changed d o (with_table o.value u)))
+  reserve-plan n each len t f =
+      with-found d key o (λ o. with (storage_of o.value) (λ (each, len, t). with_capacity each n t (λ u. Reply Done (changed d o (with_table o.value u))))) e
+      ∙ ap (λ r. with r (reserve_with n)) f
+
+  pub reserve-refused : (n : ℕ) (r : Refusal) → storage_of o.value ≡ Err r → effect d (asked.Reserve key n) ≡ Refuse r
+  reserve-refused n r f =
+      with-found d key o (λ o. with (storage_of o.value) (λ (each, len, t). with_capacity each n t (λ u. Reply Done (changed d o (with_table o.value u))))) e
+      ∙ ap (λ r. with r (reserve_with n)) f
+
+  abbrev shrink_with : ℕ × ℕ × Table → Plan
+  shrink_with (each, len, t) = Reply Done (changed d o (with_table o.value (cut_table (live d) each len t)))
+
+  pub shrink-plan : (each len : ℕ) (t : Table) → storage_of o.value ≡ Ok (each, len, t) → effect d (asked.Shrink key) ≡ Reply Done (changed d o (with_table o.value (cut_table (live d) each len t)))
+  shrink-plan each len t f =
+      with-found d key o (λ o. with (storage_of o.value) (λ (each, len, t). Reply Done (changed d o (with_table o.value (cut_table (live d) each len t))))) e
+      ∙ ap (λ r. with r shrink_with) f
+
+  pub shrink-refused : (r : Refusal) → storage_of o.value ≡ Err r → effect d (asked.Shrink key) ≡ Refuse r
+  shrink-refused r f =
+      with-found d key o (λ o. with (storage_of o.value) (λ (each, len, t). Reply Done (changed d o (with_table o.value (cut_table (live d) each len t))))) e
+      ∙ ap (λ r. with r shrink_with) f
+
+  abbrev clear_with : ℕ × ℕ × Table → Plan
+  clear_with s = Reply Done (changed d o (with_items o.value []))
+
+  pub clear-plan : (s : ℕ × ℕ × Table) → storage_of o.value ≡ Ok s → effect d (asked.Clear key) ≡ Reply Done (changed d o (with_items o.value []))
+  clear-plan s f = with-found d key o (λ o. with (storage_of o.value) (λ s. Reply Done (changed d o (with_items o.value [])))) e ∙ ap (λ r. with r clear_with) f
+
+  pub clear-refused : (r : Refusal) → storage_of o.value ≡ Err r → effect d (asked.Clear key) ≡ Refuse r
+  clear-refused r f = with-found d key o (λ o. with (storage_of o.value) (λ s. Reply Done (changed d o (with_items o.value [])))) e ∙ ap (λ r. with r clear_with) f
+
+-- ---- an object of another kind
+
+-- it is no vector
+abbrev pub is_no_vector : Value → Bool
+is_no_vector (Numbers k zs) = true
+is_no_vector (Elements k zs t) = false
+is_no_vector (Bytes bs t) = true
+is_no_vector (Pairs k v ps) = true
+is_no_vector (Texts ps t) = false
+
+push-value : (d : Directory) (o : Object) (v : Value) (l : Literal) → is_no_vector v ≡ true → step.push d o v l ≡ Refuse WrongKind
+push-value d o (Numbers k zs) l h = refl
+push-value d o (Elements k zs t) l h = absurd (cc)
+push-value d o (Bytes bs t) l h = refl
+push-value d o (Pairs k v ps) l h = refl
+push-value d o (Texts ps t) l h = absurd (cc)
+
+pop-value : (d : Directory) (o : Object) (v : Value) → is_no_vector v ≡ true → step.pop d o v ≡ Refuse WrongKind
+pop-value d o (Numbers k zs) h = refl
+pop-value d o (Elements k zs t) h = absurd (cc)
+pop-value d o (Bytes bs t) h = refl
+pop-value d o (Pairs k v ps) h = refl
+pop-value d o (Texts ps t) h = absurd (cc)
+
+insert-value : (d : Directory) (o : Object) (v : Value) (i : ℕ) (l : Literal) → is_no_vector v ≡ true → step.insert_at d o v i l ≡ Refuse WrongKind
+insert-value d o (Numbers k zs) i l h = refl
+insert-value d o (Elements k zs t) i l h = absurd (cc)
+insert-value d o (Bytes bs t) i l h = refl
+insert-value d o (Pairs k v ps) i l h = refl
+insert-value d o (Texts ps t) i l h = absurd (cc)
+
+erase-value : (d : Directory) (o : Object) (v : Value) (i : ℕ) → is_no_vector v ≡ true → step.erase d o v i ≡ Refuse WrongKind
+erase-value d o (Numbers k zs) i h = refl
+erase-value d o (Elements k zs t) i h = absurd (cc)
+erase-value d o (Bytes bs t) i h = refl
+erase-value d o (Pairs k v ps) i h = refl
+erase-value d o (Texts ps t) i h = absurd (cc)
+
+module _ (d : Directory) (key : Key) (o : Object) (e : object_at d key ≡ Some o) (h : is_no_vector o.value ≡ true) where
+  pub push-other : (l : Literal) → effect d (asked.Push key l) ≡ Refuse WrongKind
+  push-other l = with-found d key o (λ o. step.push d o o.value l) e ∙ push-value d o o.value l h
+
+  pub pop-other : effect d (asked.Pop key) ≡ Refuse WrongKind
+  pop-other = with-found d key o (λ o. step.pop d o o.value) e ∙ pop-value d o o.value h
+
+  pub insert-other : (i : ℕ) (l : Literal) → effect d (asked.Insert key i l) ≡ Refuse WrongKind
+  insert-other i l = with-found d key o (λ o. step.insert_at d o o.value i l) e ∙ insert-value d o o.value i l h
+
+  pub erase-other : (i : ℕ) → effect d (asked.Erase key i) ≡ Refuse WrongKind
+  erase-other i = with-found d key o (λ o. step.erase d o o.value i) e ∙ erase-value d o o.value i h
+
+-- it is no text
+pub append-other : (d : Directory) (key : Key) (o : Object) (more : List ℕ) (r : Refusal) → object_at d key ≡ Some o → text_of o.value ≡ Err r → effect d (asked.Append key more) ≡ Refuse r
+append-other d key o more r e f =
+    with-found d key o (λ o. with (text_of o.value) (λ (bs, t). with_capacity 1 (capacity_for_text (length (bs ++ more)) t.capacity) t (λ u. Reply Done (changed d o (Bytes (bs ++ more) u))))) e
+    ∙ ap (λ q. with q (λ (bs, t). with_capacity 1 (capacity_for_text (length (bs ++ more)) t.capacity) t (λ u. Reply Done (changed d o (Bytes (bs ++ more) u))))) f

@@ -1,0 +1,123 @@
+-- The directory with an object's value emptied: the same but for that object, which has one block then.
+use Rattle.std.proofs.Common.{◌≡◌, refl, sym, ap, subst, ◌∙◌, Some, List, [], ◌∷◌, cond}
+use Rattle.std.specs.Prelude.{IsTrue, find}
+use Rattle.std.proofs.lemmas.Bool.{eq-eqb, ne_eqb}
+use Rattle.best_fit.specs.Extents.{handle}
+use Rattle.seg_types.specs.declared.kinds.Kind.TheVariants.{Scalar}
+use Rattle.seg_types.specs.declared.kinds.ScalarKind.{ScalarKind}
+use Rattle.seg_types.specs.Names.{ByHandle}
+use Rattle.seg_index.specs.declared.index.Index.{Index}
+use Rattle.seg_index.specs.declared.index.Index.TheVariants.{Named, Unique}
+use Rattle.segment_manager.specs.Destroyed.{emptied}
+use Rattle.segment_manager.specs.Directory.{Value, Numbers, Elements, Bytes, Pairs, Texts, Object, Directory, count_of, has_key, is_good_value, kind_of, remove_object, replace_object, value_extents, value_len, without_object}
+use Rattle.segment_manager.specs.Indexed.{entries_of}
+use Rattle.segment_manager.specs.Step.{changed}
+use Rattle.segment_manager.proofs.Faces.{named-changed, unique-changed}
+use Rattle.segment_manager.proofs.Live.{IsFound, IsIn, Place, behind, found-nothing, found-place, here, remove-behind, remove-here, replace-behind, replace-here}
+use Rattle.segment_manager.proofs.Rewritten.{with_value}
+
+-- ---- the value
+
+pub emptied-kind : (v : Value) → kind_of (emptied v) ≡ kind_of v
+emptied-kind (Numbers k zs) = refl
+emptied-kind (Elements k zs t) = refl
+emptied-kind (Bytes bs t) = refl
+emptied-kind (Pairs k v ps) = refl
+emptied-kind (Texts ps t) = refl
+
+pub emptied-count : (v : Value) → count_of (emptied v) ≡ count_of v
+emptied-count (Numbers k zs) = refl
+emptied-count (Elements k zs t) = refl
+emptied-count (Bytes bs t) = refl
+emptied-count (Pairs k v ps) = refl
+emptied-count (Texts ps t) = refl
+
+pub emptied-len : (v : Value) → value_len (emptied v) ≡ value_len v
+emptied-len (Numbers k zs) = refl
+emptied-len (Elements k zs t) = refl
+emptied-len (Bytes bs t) = refl
+emptied-len (Pairs k v ps) = refl
+emptied-len (Texts ps t) = refl
+
+pub emptied-good : (v : Value) → IsTrue (is_good_value v) → IsTrue (is_good_value (emptied v))
+emptied-good (Numbers k zs) h = h
+emptied-good (Elements k zs t) h = refl
+emptied-good (Bytes bs t) h = refl
+emptied-good (Pairs k v ps) h = refl
+emptied-good (Texts ps t) h = refl
+
+-- it has no block
+pub emptied-alone : (v : Value) → value_extents (emptied v) ≡ []
+emptied-alone (Numbers k zs) = refl
+emptied-alone (Elements k zs t) = refl
+emptied-alone (Bytes bs t) = refl
+emptied-alone (Pairs k v ps) = refl
+emptied-alone (Texts ps t) = refl
+
+-- numbers have none before
+pub emptied-numbers : (k : ScalarKind) (v : Value) → kind_of v ≡ Scalar k → emptied v ≡ v
+emptied-numbers k (Numbers l zs) e = refl
+emptied-numbers k (Elements l zs t) e = absurd (cc)
+emptied-numbers k (Bytes bs t) e = absurd (cc)
+emptied-numbers k (Pairs l v ps) e = absurd (cc)
+emptied-numbers k (Texts ps t) e = absurd (cc)
+
+-- ---- the objects, one of which has another value
+
+-- it stands among them
+found-here : (o : Object) (v : Value) (ps : List Object) → IsFound (handle o.extent) (with_value o v ∷ ps) (with_value o v)
+found-here o v ps = record { is = ap (λ b. cond b (Some (with_value o v)) (find (has_key (ByHandle (handle o.extent))) ps)) (eq-eqb (handle o.extent) (handle o.extent) refl) }
+
+found-at : (o : Object) (v : Value) (p : Object) (ps : List Object) → Place (handle o.extent) p ps o
+    → (IsFound (handle o.extent) ps o → IsFound (handle o.extent) (replace_object (with_value o v) ps) (with_value o v))
+    → IsFound (handle o.extent) (replace_object (with_value o v) (p ∷ ps)) (with_value o v)
+found-at o v p ps (here e f) k = subst (λ os. IsFound (handle o.extent) os (with_value o v)) (sym (replace-here (with_value o v) p ps e)) (found-here o v ps)
+found-at o v p ps (behind n f) k =
+    subst (λ os. IsFound (handle o.extent) os (with_value o v)) (sym (replace-behind (with_value o v) p ps n))
+    (record {
+      is = ap (λ b. cond b (Some p) (find (has_key (ByHandle (handle o.extent))) (replace_object (with_value o v) ps))) (ne_eqb (handle o.extent) (handle p.extent) n) ∙ (k f).is;
+    })
+
+found-replaced : (os : List Object) (o : Object) (v : Value) → IsFound (handle o.extent) os o → IsFound (handle o.extent) (replace_object (with_value o v) os) (with_value o v)
+found-replaced [] o v f = absurd (found-nothing (handle o.extent) o f)
+found-replaced (p ∷ ps) o v f = found-at o v p ps (found-place (handle o.extent) p ps o f) (found-replaced ps o v)
+
+-- the others are the same
+others-at : (o : Object) (v : Value) (p : Object) (ps : List Object) → Place (handle o.extent) p ps o
+    → (IsFound (handle o.extent) ps o → remove_object (handle o.extent) (replace_object (with_value o v) ps) ≡ remove_object (handle o.extent) ps)
+    → remove_object (handle o.extent) (replace_object (with_value o v) (p ∷ ps)) ≡ remove_object (handle o.extent) (p ∷ ps)
+others-at o v p ps (here e f) k =
+    ap (remove_object (handle o.extent)) (replace-here (with_value o v) p ps e) ∙ remove-here (handle o.extent) (with_value o v) ps refl ∙ sym (remove-here (handle o.extent) p ps e)
+others-at o v p ps (behind n f) k =
+    ap (remove_object (handle o.extent)) (replace-behind (with_value o v) p ps n) ∙ remove-behind (handle o.extent) p (replace_object (with_value o v) ps) n
+    ∙ ap (λ os. p ∷ os) (k f) ∙ sym (remove-behind (handle o.extent) p ps n)
+
+others-replaced : (os : List Object) (o : Object) (v : Value) → IsFound (handle o.extent) os o → remove_object (handle o.extent) (replace_object (with_value o v) os) ≡ remove_object (handle o.extent) os
+others-replaced [] o v f = absurd (found-nothing (handle o.extent) o f)
+others-replaced (p ∷ ps) o v f = others-at o v p ps (found-place (handle o.extent) p ps o f) (others-replaced ps o v)
+
+-- with the value that it had all are the same
+itself-at : (o p : Object) (ps : List Object) → Place (handle o.extent) p ps o → (IsFound (handle o.extent) ps o → replace_object o ps ≡ ps) → replace_object o (p ∷ ps) ≡ p ∷ ps
+itself-at o p ps (here e f) k = replace-here o p ps e ∙ ap (λ q. q ∷ ps) (sym f)
+itself-at o p ps (behind n f) k = replace-behind o p ps n ∙ ap (λ os. p ∷ os) (k f)
+
+itself-replaced : (os : List Object) (o : Object) → IsFound (handle o.extent) os o → replace_object o os ≡ os
+itself-replaced [] o f = refl
+itself-replaced (p ∷ ps) o f = itself-at o p ps (found-place (handle o.extent) p ps o f) (itself-replaced ps o)
+
+-- ---- the directory
+
+module _ (d : Directory) (o : Object) (f : IsIn d o) where
+  pub changed-in : (v : Value) → IsIn (changed d o v) (with_value o v)
+  changed-in v = found-replaced d.objects o v f
+
+  pub changed-others : (v : Value) → without_object (changed d o v) (with_value o v) ≡ without_object d o
+  changed-others v = ap (λ os. record d { objects = os }) (others-replaced d.objects o v f)
+
+  pub changed-itself : (v : Value) → v ≡ o.value → changed d o v ≡ d
+  changed-itself v e = ap (changed d o) e ∙ ap (λ os. record d { objects = os }) (itself-replaced d.objects o f)
+
+  -- the indexes are the same
+  pub changed-entries : (i : Index) (v : Value) → kind_of v ≡ kind_of o.value → entries_of i (changed d o v) ≡ entries_of i d
+  changed-entries Named v e = (named-changed d o (with_value o v) f (record { extent = refl; name = refl; class = refl; kind = e })).entries
+  changed-entries Unique v e = (unique-changed d o (with_value o v) f (record { extent = refl; name = refl; class = refl; kind = e })).entries

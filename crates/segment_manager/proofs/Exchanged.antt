@@ -1,0 +1,208 @@
+-- An object in the place of one like it, whose value has other blocks: the blocks of all other objects stay.
+use Rattle.std.proofs.Common.{◌≡◌, refl, sym, ap, subst, ◌∙◌, ℕ, ◌+◌, ◌≤◌, ◌≢◌, inl, inr, List, [], ◌∷◌, ◌++◌, length, arith}
+use Rattle.std.specs.Prelude.{IsTrue}
+use Rattle.std.specs.List.{AllByRecursion}
+use Rattle.raw_region.specs.Memory.{Memory, Cut, Same, bytes_of}
+use Rattle.best_fit.specs.Exchange as heap
+use Rattle.best_fit.specs.Exchange.{exchanged, SameBlockBut, IsExchanged}
+use Rattle.best_fit.specs.Extents.{Extent, LiveSet, handle, end_of, is_proper}
+use Rattle.best_fit.specs.Fit.{insert, others}
+use Rattle.best_fit.specs.Heap.{LaysOut, SameBlock, Keeps, live_of}
+use Rattle.seg_types.specs.Kinds.{code_of}
+use Rattle.segment_manager.specs.Directory.{Value, Object, Directory, live, extents_of, padded, count_of, kind_of, value_len, value_extents, is_object, remove_object, with_changed, without_object}
+use Rattle.segment_manager.specs.Denotes.{Denotes, IsObjectAt, IsValueAt, two_halves, padded_name}
+use Rattle.segment_manager.specs.Step.{changed}
+use Rattle.raw_region.proofs.Laws.{Has-same, Same-word}
+use Rattle.segment_manager.proofs.Beside.{LiesBeside, above, below, LiesAlone, live-spaced, spaced-insert}
+use Rattle.segment_manager.proofs.Calling.{denotes-live, object-at}
+use Rattle.segment_manager.proofs.Denoted.{denotes-replaced}
+use Rattle.segment_manager.proofs.Faces.{IsLike}
+use Rattle.segment_manager.proofs.Frame.{IsRoomy, object-roomy, padded_name-length}
+use Rattle.segment_manager.proofs.Live.{adding, IsFound, IsIn, live-split, live-changed}
+use Rattle.segment_manager.proofs.Order.{Apart, Rising, IsFresh, inserted, insert-inserted, inserted-comm, all_of-inserted, live-rises, rising-insert, apart-inserted, without_all, without-inserted}
+use Rattle.segment_manager.proofs.Regrown.{InPlace, differs-flip, rest, with_extents}
+use Rattle.segment_manager.proofs.Rewritten.{value_start, with_value}
+
+-- ---- extents among others
+
+-- the heap's words for extents put in and left out are those of the directory
+pub same-inserted : (xs zs : List Extent) → heap.inserted xs zs ≡ inserted xs zs
+same-inserted [] zs = refl
+same-inserted (x ∷ xs) zs = ap (insert x) (same-inserted xs zs)
+
+pub same-without : (xs zs : List Extent) → heap.without_all xs zs ≡ without_all xs zs
+same-without [] zs = refl
+same-without (x ∷ xs) zs = same-without xs (others (handle x) zs)
+
+-- Two lists of extents come to the same among others: their order does not matter, where no two begin at one place.
+pub record SameSpread (xs ys : List Extent) : Type 0 where
+  pub same : (zs : List Extent) → Rising 128 (inserted xs zs) → inserted xs zs ≡ inserted ys zs
+
+pub inserted-append : (xs ys zs : List Extent) → inserted (xs ++ ys) zs ≡ inserted xs (inserted ys zs)
+inserted-append [] ys zs = refl
+inserted-append (x ∷ xs) ys zs = ap (insert x) (inserted-append xs ys zs)
+
+inserted-three : (xs ys ws zs : List Extent) → inserted (xs ++ (ys ++ ws)) zs ≡ inserted xs (inserted ys (inserted ws zs))
+inserted-three xs ys ws zs = inserted-append xs (ys ++ ws) zs ∙ ap (inserted xs) (inserted-append ys ws zs)
+
+-- those in the middle come first
+pub middle-first : (xs ys ws : List Extent) → SameSpread (xs ++ (ys ++ ws)) (ys ++ (xs ++ ws))
+middle-first xs ys ws = record {
+  same = λ zs r.
+      let a : Apart xs ys = apart-inserted 128 xs ys (inserted ws zs) (subst (Rising 128) (inserted-three xs ys ws zs) r) in
+      inserted-three xs ys ws zs ∙ inserted-comm xs ys (inserted ws zs) a ∙ sym (inserted-three ys xs ws zs);
+}
+
+-- an extent before those that are put in, or after them
+put-last : (x : Extent) (ys zs : List Extent) → Rising 128 (insert x (inserted ys zs)) → insert x (inserted ys zs) ≡ inserted ys (insert x zs)
+put-last x ys zs r =
+    let f : IsFresh 128 x (inserted ys zs) = rising-insert 128 x (inserted ys zs) r in
+    insert-inserted x ys zs (all_of-inserted (λ (y : Extent). x.offset ≢ y.offset) ys zs f.differs).0
+
+pub put-first : (x : Extent) (ys zs : List Extent) → Rising 128 (inserted ys (insert x zs)) → inserted ys (insert x zs) ≡ insert x (inserted ys zs)
+put-first x ys zs r = sym (insert-inserted x ys zs (differs-flip x ys (apart-inserted 128 ys (x ∷ []) zs r)))
+
+-- ---- the live set
+
+-- An object and the one in its place: some blocks of the value are gone, others came, and the others are the same.
+pub record Exchange (o o' : Object) (gone come : List Extent) : Type 0 where
+  pub same : List Extent
+  pub was : SameSpread (value_extents o.value) (gone ++ same)
+  pub is : SameSpread (come ++ same) (value_extents o'.value)
+
+-- they stand between the others
+pub between : (o o' : Object) (front gone come back : List Extent) → value_extents o.value ≡ front ++ (gone ++ back) → value_extents o'.value ≡ front ++ (come ++ back) → Exchange o o' gone come
+between o o' front gone come back e f = record {
+  same = front ++ back;
+  was = subst (λ xs. SameSpread xs (gone ++ (front ++ back))) (sym e) (middle-first front gone back);
+  is = subst (SameSpread (come ++ (front ++ back))) (sym f) (middle-first come front back);
+}
+
+-- all that the object has but the gone ones, and the blocks of the other objects
+pub live-kept : (d : Directory) (o o' : Object) (gone come : List Extent) → InPlace d o o' → (x : Exchange o o' gone come)
+    → without_all gone (live d).extents ≡ inserted (o.extent ∷ x.same) (rest d o')
+live-kept d o o' gone come p x =
+    let r : List Extent = rest d o' in
+    let f : IsIn d o = subst (λ (e : Extent). IsFound (handle e) d.objects o) p.extent p.found in
+    let e : live d ≡ with_extents d o' (extents_of o) =
+    live-split d o f p.proper ∙ (λ i. adding (live (record d { objects = remove_object (handle (sym p.extent i)) d.objects })) (extents_of o)) in
+    let up : Rising 128 (insert o.extent (inserted (value_extents o.value) r)) = live-rises (with_extents d o' (extents_of o)) (subst (λ l. IsTrue (is_proper l)) e p.proper) in
+    let parts : inserted (value_extents o.value) r ≡ inserted gone (inserted x.same r) =
+    x.was.same r (rising-insert 128 o.extent (inserted (value_extents o.value) r) up).rest ∙ inserted-append gone x.same r in
+    let up' : Rising 128 (insert o.extent (inserted gone (inserted x.same r))) = subst (λ xs. Rising 128 (insert o.extent xs)) parts up in
+    let whole : (live d).extents ≡ inserted gone (inserted (o.extent ∷ x.same) r) =
+    ap (λ (l : LiveSet). l.extents) e ∙ ap (insert o.extent) parts ∙ put-last o.extent gone (inserted x.same r) up' in
+    ap (without_all gone) whole
+    ∙ without-inserted 128 gone (inserted (o.extent ∷ x.same) r) (subst (Rising 128) (put-last o.extent gone (inserted x.same r) up') up')
+
+abbrev of_extents : Directory → Object → List Extent → LiveSet
+of_extents d o xs = record (live (without_object d o)) { extents = xs }
+
+-- the live set of the directory with the other object is the one with the blocks exchanged
+pub live-exchanged : (d : Directory) (o o' : Object) (gone come : List Extent) → InPlace d o o' → Exchange o o' gone come
+    → IsTrue (is_proper (exchanged (live d) gone come)) → live (with_changed d o') ≡ exchanged (live d) gone come
+unfolding live
+live-exchanged d o o' gone come p x h =
+    let r : List Extent = rest d o' in
+    let kept : heap.inserted come (heap.without_all gone (live d).extents) ≡ inserted come (inserted (o.extent ∷ x.same) r) =
+    same-inserted come (heap.without_all gone (live d).extents) ∙ ap (inserted come) (same-without gone (live d).extents ∙ live-kept d o o' gone come p x) in
+    let e : exchanged (live d) gone come ≡ of_extents d o' (inserted come (insert o.extent (inserted x.same r))) = ap (of_extents d o') kept in
+    let up : Rising 128 (inserted come (insert o.extent (inserted x.same r))) =
+    live-rises (of_extents d o' (inserted come (insert o.extent (inserted x.same r)))) (subst (λ l. IsTrue (is_proper l)) e h) in
+    let front : inserted come (insert o.extent (inserted x.same r)) ≡ insert o.extent (inserted come (inserted x.same r)) = put-first o.extent come (inserted x.same r) up in
+    let inner : Rising 128 (inserted (come ++ x.same) r) =
+    subst (Rising 128) (sym (inserted-append come x.same r)) (rising-insert 128 o.extent (inserted come (inserted x.same r)) (subst (Rising 128) front up)).rest in
+    let own : inserted come (insert o.extent (inserted x.same r)) ≡ inserted (extents_of o') r =
+    front ∙ ap (insert o.extent) (sym (inserted-append come x.same r) ∙ x.is.same r inner) ∙ (λ i. insert (sym p.extent i) (inserted (value_extents o'.value) r)) in
+    let v : exchanged (live d) gone come ≡ with_extents d o' (extents_of o') = e ∙ ap (of_extents d o') own in
+    live-changed d o o' p.found (subst (λ l. IsTrue (is_proper l)) v h) ∙ sym v
+
+-- ---- what stays
+
+but-beside : (m m' : Memory) (from n : ℕ) (x y : Extent) → handle x ≤ from → from + n ≤ end_of x → LiesBeside x y → SameBlockBut m m' from n y → SameBlock m m' y
+but-beside m m' from n x y f g (above h) s = record { payload = record { at = λ k a b. s.payload k a b (inl (omega arith)) }; colour = s.colour }
+but-beside m m' from n x y f g (below h) s = record { payload = record { at = λ k a b. s.payload k a b (inr (omega arith)) }; colour = s.colour }
+
+pub all-but-beside : (m m' : Memory) (from n : ℕ) (x : Extent) (ys : List Extent) → handle x ≤ from → from + n ≤ end_of x → AllByRecursion (LiesBeside x) ys
+    → AllByRecursion (SameBlockBut m m' from n) ys → AllByRecursion (SameBlock m m') ys
+all-but-beside m m' from n x [] f g h s = tt
+all-but-beside m m' from n x (y ∷ ys) f g h s = (but-beside m m' from n x y f g h.0 s.0, all-but-beside m m' from n x ys f g h.1 s.1)
+
+-- what is said of all blocks that stay is said of the object's own, of those of its value that are the same, and of those of the others
+pub record Kept (P : Extent → Type 0) (d : Directory) (o o' : Object) (same : List Extent) : Type 0 where
+  pub own : P o.extent
+  pub value : AllByRecursion P same
+  pub rest : AllByRecursion P (rest d o')
+
+pub kept-each : (P : Extent → Type 0) (d : Directory) (o o' : Object) (gone come : List Extent) → InPlace d o o' → (x : Exchange o o' gone come)
+    → AllByRecursion P (heap.without_all gone (live d).extents) → Kept P d o o' x.same
+kept-each P d o o' gone come p x blocks =
+    let both = all_of-inserted P (o.extent ∷ x.same) (rest d o') (subst (AllByRecursion P) (same-without gone (live d).extents ∙ live-kept d o o' gone come p x) blocks) in
+    record { own = both.0.0; value = both.0.1; rest = both.1 }
+
+-- the blocks of the other objects lie beside the object's own
+others-beside : (d : Directory) (o o' : Object) → InPlace d o o' → AllByRecursion (LiesBeside o.extent) (rest d o')
+others-beside d o o' p =
+    let f : IsIn d o = subst (λ (e : Extent). IsFound (handle e) d.objects o) p.extent p.found in
+    let e : live d ≡ with_extents d o' (extents_of o) =
+    live-split d o f p.proper ∙ (λ i. adding (live (record d { objects = remove_object (handle (sym p.extent i)) d.objects })) (extents_of o)) in
+    let alone : LiesAlone 128 o.extent (inserted (value_extents o.value) (rest d o')) =
+    spaced-insert 128 o.extent (inserted (value_extents o.value) (rest d o')) (live-spaced (with_extents d o' (extents_of o)) (subst (λ l. IsTrue (is_proper l)) e p.proper)) in
+    (all_of-inserted (LiesBeside o.extent) (value_extents o.value) (rest d o') alone.beside).1
+
+-- ---- the directory
+
+-- What the bytes denote once an object's value has other blocks, whatever its class: a vector or text regrown, cut or released, texts
+-- put or gone, pairs put or removed. In its own block n bytes changed. A block of the value that is written in is gone, and comes.
+pub denotes-exchanged : (format : ℕ) (old new : Cut) (d : Directory) (o o' : Object) (from n : ℕ) (gone come : List Extent) → Denotes format old.bytes d
+    → IsFound (handle o'.extent) d.objects o → IsLike o o' → Exchange o o' gone come → IsTrue (is_object format o') → handle o.extent ≤ from → from + n ≤ end_of o.extent
+    → IsExchanged format old new from n gone come → IsObjectAt (bytes_of new.bytes) o' → Denotes format new.bytes (with_changed d o')
+denotes-exchanged format old new d o o' from n gone come k found like x good f g c at =
+    let m : Memory = bytes_of old.bytes in
+    let m' : Memory = bytes_of new.bytes in
+    let p : InPlace d o o' = record { found = found; extent = like.extent; proper = k.directory.proper } in
+    let l : live_of old.bytes ≡ live d = denotes-live format old.bytes d k in
+    let laid : LaysOut format new.bytes (exchanged (live d) gone come) = subst (λ (l : LiveSet). LaysOut format new.bytes (exchanged l gone come)) l c.live in
+    let blocks : Kept (SameBlockBut m m' from n) d o o' x.same =
+    kept-each (SameBlockBut m m' from n) d o o' gone come p x (subst (λ (l : LiveSet). AllByRecursion (SameBlockBut m m' from n) (heap.without_all gone l.extents)) l c.blocks) in
+    let keeps : Keeps old new (rest d o') = record {
+      place = c.place;
+      front = c.front;
+      behind = c.behind;
+      blocks = all-but-beside m m' from n o.extent (rest d o') f g (others-beside d o o' p) blocks.rest;
+    } in
+    denotes-replaced format old new d o o' k found like good (subst (LaysOut format new.bytes) (sym (live-exchanged d o o' gone come p x laid.proper)) laid) keeps at
+
+-- ---- the object of a container
+
+-- its head and name stay, and the value is another, of the same kind and count
+pub object-held : (m m' : Memory) (o : Object) (v : Value) → IsObjectAt m o → kind_of v ≡ kind_of o.value → count_of v ≡ count_of o.value → Same m m' (handle o.extent) (value_start o)
+    → IsValueAt m' (value_start o) v → IsObjectAt m' (with_value o v)
+object-held m m' o v h kind count s w = record {
+  kind_count = Same-word m m' (handle o.extent) (value_start o) (handle o.extent) s (omega arith) (omega arith) ∙ h.kind_count
+      ∙ (λ i. two_halves (code_of (sym kind i)) (sym count i));
+  name_class = Same-word m m' (handle o.extent) (value_start o) (handle o.extent + 8) s (omega arith) (omega arith) ∙ h.name_class;
+  name = Has-same m m' (handle o.extent) (value_start o) (handle o.extent + 16) (padded_name o.name) s (omega arith) (omega (arith, padded_name-length o.name)) h.name;
+  value = w;
+}
+
+-- So the calls of seg_vector and seg_map change a container of an object: blocks are exchanged, and its 24 bytes are written.
+pub denotes-container : (format : ℕ) (old new : Cut) (d : Directory) (o : Object) (v : Value) (gone come : List Extent) → Denotes format old.bytes d → IsIn d o
+    → Exchange o (with_value o v) gone come → kind_of v ≡ kind_of o.value → count_of v ≡ count_of o.value → value_len o.value ≡ 24 → IsTrue (is_object format o)
+    → IsTrue (is_object format (with_value o v)) → IsExchanged format old new (value_start o) 24 gone come → IsValueAt (bytes_of new.bytes) (value_start o) v
+    → Denotes format new.bytes (changed d o v)
+denotes-container format old new d o v gone come k found x kind count len was good c at =
+    let o' : Object = with_value o v in
+    let m : Memory = bytes_of old.bytes in
+    let m' : Memory = bytes_of new.bytes in
+    let from : ℕ = value_start o in
+    let like : IsLike o o' = record { extent = refl; name = refl; class = refl; kind = kind } in
+    let p : InPlace d o o' = record { found = found; extent = refl; proper = k.directory.proper } in
+    let roomy : IsRoomy o = object-roomy format o was in
+    let fits : 16 + padded (length o.name) + value_len o.value + 16 ≤ o.extent.len = roomy.room in
+    let l : live_of old.bytes ≡ live d = denotes-live format old.bytes d k in
+    let blocks : Kept (SameBlockBut m m' from 24) d o o' x.same =
+    kept-each (SameBlockBut m m' from 24) d o o' gone come p x (subst (λ (l : LiveSet). AllByRecursion (SameBlockBut m m' from 24) (heap.without_all gone l.extents)) l c.blocks) in
+    let s : Same m m' (handle o.extent) from = record { at = λ i a b. blocks.own.payload i a (omega (arith, len)) (inl b) } in
+    denotes-exchanged format old new d o o' from 24 gone come k found like x good (omega arith) (omega (arith, len)) c
+    (object-held m m' o v (object-at format old.bytes d (handle o.extent) o k found) kind count s at)

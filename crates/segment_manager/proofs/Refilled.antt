@@ -1,0 +1,149 @@
+-- A call that changes a vector or text of an object is one step of the directory machine.
+use Rattle.std.proofs.Common.{◌≡◌, refl, sym, ap, subst, ◌∙◌, ℕ, true, false, Bool, Option, Some, None, Result, Ok, Err, List, if◌then◌else◌}
+use Rattle.std.specs.Prelude.{IsTrue}
+use Rattle.raw_region.specs.Memory.{Cut}
+use Rattle.best_fit.specs.Heap.{live_of}
+use Rattle.best_fit.specs.Table.{Table}
+use Rattle.seg_types.specs.declared.kinds.Kind.{Kind}
+use Rattle.seg_types.specs.declared.refusals.Refusal.{Refusal}
+use Rattle.seg_types.specs.declared.refusals.Refusal.TheVariants.{NoSpace, NotFound, WrongKind}
+use Rattle.seg_types.specs.Kinds.{same_kind}
+use Rattle.seg_types.specs.Names.{Key}
+use Rattle.seg_types.specs.Commands.{Command}
+use Rattle.seg_vector.specs.declared.places.Place.{Place}
+use Rattle.seg_vector.specs.Vector.{grown_table}
+use Rattle.segment_manager.specs.declared.modes.Mode.{Mode}
+use Rattle.segment_manager.specs.Answers.{Answer, Refused}
+use Rattle.segment_manager.specs.Contents.{Contents, IsRefilled, container_at, container_place, contents_of, has_values}
+use Rattle.segment_manager.specs.Directory.{Value, Object, Directory, kind_of, live, object_at}
+use Rattle.segment_manager.specs.Denotes.{Denotes}
+use Rattle.segment_manager.specs.Plan.{Reply, perform, with_capacity}
+use Rattle.segment_manager.specs.State.{Answers, IsSegment, IsStep, IsStepOfKind, State, StandsFor}
+use Rattle.segment_manager.specs.Step.{changed, effect, is_read_only, step, step_of_kind}
+use Rattle.segment_manager.proofs.Calling.{denotes-live}
+use Rattle.segment_manager.proofs.Contained.{contents-changed}
+use Rattle.segment_manager.proofs.Grown.{answered, grows}
+use Rattle.segment_manager.proofs.Rewritten.{with_value}
+use Rattle.segment_manager.proofs.Steps.{IsMove, IsOpenFor, by_no_change, by_no_change_of_kind, by_step, by_step_of_kind, open-writing, step-effect, step_of_kind-found, step_of_kind-not_found, step_of_kind-other, step_of_kind-step}
+use Rattle.segment_manager.proofs.Supported.{found-supported, supported-changed, supported-like}
+
+-- ---- a directory
+
+-- For a directory that the old bytes denote: the object of the key, its next value, what was done to it, and what the command's plan
+-- comes to.
+pub record Refill (old new : Cut) (d : Directory) (key : Key) (c : Command) (answer : Answer) : Type 0 where
+  pub object : Object
+  pub is : object_at d key ≡ Some object
+  pub value : Value
+  pub kind : kind_of value ≡ kind_of object.value
+  pub was : Contents
+  pub held : contents_of object.value ≡ Some was
+  pub next : Contents
+  pub holds : contents_of value ≡ Some next
+  pub values : IsTrue (has_values value)
+  pub change : IsRefilled old new (container_place object) was next
+  pub outcome : perform d (live d) (effect d c) ≡ (answer, changed d object value)
+
+-- the plan answers at once
+pub replied : (d : Directory) (c : Command) (answer : Answer) (after : Directory) → effect d c ≡ Reply answer after → perform d (live d) (effect d c) ≡ (answer, after)
+replied d c answer after e = ap (perform d (live d)) e
+
+-- the plan asks for room: there is the room
+pub made_room : (format : ℕ) (b : List ℕ) (d : Directory) (c : Command) (each n : ℕ) (t u : Table) (answer : Answer) (next : Table → Directory) → Denotes format b d
+    → effect d c ≡ with_capacity each n t (λ u. Reply answer (next u)) → grown_table (live_of b) each n t ≡ Some u → perform d (live d) (effect d c) ≡ (answer, next u)
+made_room format b d c each n t u answer next k e g =
+    ap (perform d (live d)) e ∙ grows d (live d) each n t answer next
+    ∙ ap (answered d answer next) (ap (λ l. grown_table l each n t) (sym (denotes-live format b d k)) ∙ g)
+
+-- or there is no space
+pub no_room : (format : ℕ) (b : List ℕ) (d : Directory) (c : Command) (each n : ℕ) (t : Table) (answer : Answer) (next : Table → Directory) → Denotes format b d
+    → effect d c ≡ with_capacity each n t (λ u. Reply answer (next u)) → grown_table (live_of b) each n t ≡ None → perform d (live d) (effect d c) ≡ (Refused NoSpace, d)
+no_room format b d c each n t answer next k e g =
+    ap (perform d (live d)) e ∙ grows d (live d) each n t answer next
+    ∙ ap (answered d answer next) (ap (λ l. grown_table l each n t) (sym (denotes-live format b d k)) ∙ g)
+
+-- the new bytes stand for the directory with the next value
+pub refill-moves : (s : State) (new : Cut) (d : Directory) (key : Key) (c : Command) (answer : Answer) (next : Answer × Directory) → StandsFor s.cut.bytes d → (r : Refill s.cut new d key c answer)
+    → next ≡ perform d (live d) (effect d c) → IsMove (record s { cut = new }) answer next
+refill-moves s new d key c answer next k r e = record {
+  after = changed d r.object r.value;
+  is = e ∙ r.outcome;
+  stands = record {
+    denotes = contents-changed s.cut new d key r.object r.value r.was r.next k.denotes r.is r.held r.holds r.kind r.values r.change;
+    supported = supported-changed d (with_value r.object r.value) k.supported (supported-like r.object.value r.value r.kind (found-supported d key r.object k.supported r.is));
+  };
+}
+
+-- ---- the call
+
+-- it is the step, for each directory that the bytes stand for
+pub refill-steps : (s : State) (new : Cut) (key : Key) (c : Command) (answer : Answer) → is_read_only s.mode ≡ false → IsSegment s.cut.bytes
+    → ((d : Directory) → StandsFor s.cut.bytes d → Refill s.cut new d key c answer) → IsStep s (record s { cut = new }) c answer
+refill-steps s new key c answer writing b each =
+    by_step s (record s { cut = new }) c answer (record { mode = refl; place = (each b.0 b.1).change.change.place })
+    (λ d k. refill-moves s new d key c answer (step s.mode d c) k (each d k) (step-effect s.mode d c (open-writing s.mode c writing)))
+
+-- the same of a call for objects of one kind
+pub refill-steps_of_kind : (s : State) (new : Cut) (key : Key) (kind : Kind) (c : Command) (answer : Answer) → is_read_only s.mode ≡ false → IsSegment s.cut.bytes
+    → ((d : Directory) → StandsFor s.cut.bytes d → (r : Refill s.cut new d key c answer) × (same_kind kind (kind_of r.object.value) ≡ true)) → IsStepOfKind s (record s { cut = new }) key kind c answer
+refill-steps_of_kind s new key kind c answer writing b each =
+    by_step_of_kind s (record s { cut = new }) key kind c answer (record { mode = refl; place = (each b.0 b.1).0.change.change.place })
+    (λ d k.
+    let r = each d k in
+    refill-moves s new d key c answer (step_of_kind s.mode d key kind c) k r.0
+    (step_of_kind-found s.mode d key kind c r.0.object (open-writing s.mode c writing) r.0.is r.1))
+
+-- a plan that comes to a refusal
+pub refused-steps : (s : State) (c : Command) (r : Refusal) → is_read_only s.mode ≡ false → ((d : Directory) → StandsFor s.cut.bytes d → perform d (live d) (effect d c) ≡ (Refused r, d)) → IsStep s s c (Refused r)
+refused-steps s c r writing each = by_no_change s c (Refused r) (λ d k. step-effect s.mode d c (open-writing s.mode c writing) ∙ each d k)
+
+-- ---- the search
+
+-- the object of the key stands at the place, and is of the kind
+pub record HoldsAt (d : Directory) (key : Key) (kind : Kind) (p : Place) : Type 0 where
+  pub object : Object
+  pub is : object_at d key ≡ Some object
+  pub same : same_kind kind (kind_of object.value) ≡ true
+  pub at : container_place object ≡ p
+
+abbrev placed : Kind → Object → Bool → Result Place Refusal
+placed kind o b = if b then Ok (container_place o) else Err WrongKind
+
+holds-if : (d : Directory) (key : Key) (kind : Kind) (p : Place) (o : Object) (b : Bool) → object_at d key ≡ Some o → same_kind kind (kind_of o.value) ≡ b → Ok p ≡ placed kind o b → HoldsAt d key kind p
+holds-if d key kind p o true e f g = record { object = o; is = e; same = f; at = cc }
+holds-if d key kind p o false e f g = absurd (cc)
+
+holds-of : (d : Directory) (key : Key) (kind : Kind) (p : Place) (r : Option Object) → object_at d key ≡ r
+    → Ok p ≡ elim r as (λ _. Result Place Refusal) [ None ↦ Err NotFound | Some o ↦ if same_kind kind (kind_of o.value) then Ok (container_place o) else Err WrongKind ] → HoldsAt d key kind p
+holds-of d key kind p None e f = absurd (cc)
+holds-of d key kind p (Some o) e f = holds-if d key kind p o (same_kind kind (kind_of o.value)) e refl f
+
+pub holds-at : (d : Directory) (key : Key) (kind : Kind) (p : Place) → Ok p ≡ container_at d key kind → HoldsAt d key kind p
+holds-at d key kind p e = holds-of d key kind p (object_at d key) refl e
+
+missing-if : (mode : Mode) (d : Directory) (key : Key) (kind : Kind) (c : Command) (r : Refusal) (o : Object) (b : Bool) → IsOpenFor mode c → object_at d key ≡ Some o → same_kind kind (kind_of o.value) ≡ b → Err r ≡ placed kind o b
+    → step_of_kind mode d key kind c ≡ (Refused r, d)
+missing-if mode d key kind c r o true w e f g = absurd (cc)
+missing-if mode d key kind c r o false w e f g = let why : WrongKind ≡ r = cc in step_of_kind-other mode d key kind c o w e f ∙ (λ i. (Refused (why i), d))
+
+missing-of : (mode : Mode) (d : Directory) (key : Key) (kind : Kind) (c : Command) (r : Refusal) (q : Option Object) → IsOpenFor mode c → object_at d key ≡ q
+    → Err r ≡ elim q as (λ _. Result Place Refusal) [ None ↦ Err NotFound | Some o ↦ if same_kind kind (kind_of o.value) then Ok (container_place o) else Err WrongKind ]
+    → step_of_kind mode d key kind c ≡ (Refused r, d)
+missing-of mode d key kind c r None w e f = let why : NotFound ≡ r = cc in step_of_kind-not_found mode d key kind c w e ∙ (λ i. (Refused (why i), d))
+missing-of mode d key kind c r (Some o) w e f = missing-if mode d key kind c r o (same_kind kind (kind_of o.value)) w e refl f
+
+-- why there is no such container is why every call for the kind is refused
+pub finds-no_container : (s : State) (key : Key) (kind : Kind) (c : Command) (r : Refusal) → IsOpenFor s.mode c → Answers s (λ d. container_at d key kind) (Err r) → IsStepOfKind s s key kind c (Refused r)
+finds-no_container s key kind c r w a = by_no_change_of_kind s key kind c (Refused r) (λ d k. missing-of s.mode d key kind c r (object_at d key) w refl (a.answers d k))
+
+-- where there is one, the step of the kind is the command's
+pub any_container-steps : (old new : State) (key : Key) (kind : Kind) (p : Place) (c : Command) (answer : Answer) → Answers old (λ d. container_at d key kind) (Ok p) → IsStepOfKind old new key kind c answer → IsStep old new c answer
+any_container-steps old new key kind p c answer a r = record {
+  stays = r.stays;
+  answers = λ d k.
+      let e : HoldsAt d key kind p = holds-at d key kind p (a.answers d k) in
+      r.answers d k ∙ ap (λ (n : Answer × Directory). n.0) (step_of_kind-step old.mode d key kind c e.object e.is e.same);
+  denotes = λ d k.
+      let e : HoldsAt d key kind p = holds-at d key kind p (a.answers d k) in
+      subst (λ (n : Answer × Directory). StandsFor new.cut.bytes n.1) (step_of_kind-step old.mode d key kind c e.object e.is e.same) (r.denotes d k);
+}

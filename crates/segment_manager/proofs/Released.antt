@@ -1,0 +1,197 @@
+-- What becomes of an object whose contents are released, for each kind of value.
+use Rattle.std.proofs.Common.{◌≡◌, refl, sym, ap, subst, ◌∙◌, append-nil, ℕ, ◌+◌, ℤ, Bool, Option, Some, None, Result, Ok, Err, List, [], length, map, if◌then◌else◌}
+use Rattle.std.specs.Prelude.{IsTrue}
+use Rattle.std.proofs.lemmas.Bool.{eq-eqb}
+use Rattle.std.proofs.lemmas.Option.{same_Some}
+use Rattle.raw_region.specs.Format.{current}
+use Rattle.raw_region.specs.Memory.{Cut, bytes_of}
+use Rattle.best_fit.specs.Exchange.{IsExchanged}
+use Rattle.best_fit.specs.Extents.{Extent, handle}
+use Rattle.best_fit.specs.Table.{no_table}
+use Rattle.seg_types.specs.declared.kinds.Kind.{Kind}
+use Rattle.seg_types.specs.declared.kinds.Kind.TheVariants.{Scalar, Text, Vector, Map, Texts as TextsKind}
+use Rattle.seg_types.specs.declared.kinds.ScalarKind.{ScalarKind}
+use Rattle.seg_types.specs.declared.refusals.Refusal.{Refusal}
+use Rattle.seg_types.specs.declared.refusals.Refusal.TheVariants.{NotFound, WrongKind}
+use Rattle.seg_types.specs.Kinds.{code_of}
+use Rattle.seg_types.specs.Names.{ByHandle, Key}
+use Rattle.seg_vector.specs.declared.places.Place.{Place}
+use Rattle.seg_vector.specs.Standing.{place_at}
+use Rattle.seg_vector.specs.TextCalls.{IsSomeText, IsTextNow, ReleasesText}
+use Rattle.seg_vector.specs.TextsCalls.{IsSomeTexts, IsTextsNow, ReleasesTexts}
+use Rattle.seg_vector.specs.VectorCalls.{IsSomeVector, IsVectorNow, Releases}
+use Rattle.segment_manager.specs.declared.head.Head.{Head}
+use Rattle.segment_manager.specs.Contents.{IsNumbers, IsNumbersNow, container_at, container_place, place_of_kind}
+use Rattle.segment_manager.specs.Denotes.{Denotes, IsValueAt}
+use Rattle.segment_manager.specs.Destroyed.{Becomes, Empties, HasNumbers, HoldsObject, ReleasesNumbers, emptied}
+use Rattle.segment_manager.specs.Directory.{Value, Numbers, Elements, Bytes, Pairs, Texts, Object, Directory, has_key, is_object, kind_of, object_at, padded, value_extents, value_len}
+use Rattle.segment_manager.specs.Layout.{head_len}
+use Rattle.segment_manager.specs.Standing.{HasObject, IsHeadOf, StandsAt}
+use Rattle.segment_manager.specs.State.{StandsFor}
+use Rattle.segment_manager.specs.Step.{changed}
+use Rattle.segment_manager.specs.Supported.{is_supported_value}
+use Rattle.segment_manager.proofs.Contained.{good-with, start-place}
+use Rattle.segment_manager.proofs.Emptied.{changed-itself, emptied-alone, emptied-count, emptied-good, emptied-kind, emptied-len, emptied-numbers}
+use Rattle.segment_manager.proofs.Exchanged.{Exchange, between, denotes-container}
+use Rattle.segment_manager.proofs.Frame.{object-roomy}
+use Rattle.segment_manager.proofs.Here.{standing}
+use Rattle.segment_manager.proofs.Live.{IsIn}
+use Rattle.segment_manager.proofs.Objects.{all-found, each-true, found-handle, key-found}
+use Rattle.segment_manager.proofs.Rewritten.{value_start, with_value}
+use Rattle.segment_manager.proofs.Supported.{found-supported}
+use Rattle.segment_manager.proofs.TextSteps.{HoldsText, holds-text}
+use Rattle.segment_manager.proofs.TextsHeld.{HoldsTexts, holds-texts}
+use Rattle.segment_manager.proofs.VectorSteps.{HoldsVector, holds-vector}
+use Rattle.segment_manager.proofs.Whole.{IsOfKind, of-whole, stands-whole, whole-now, whole-reached}
+
+-- ---- the object of a handle
+
+pub held-stands : (b : List ℕ) (h : ℕ) (d : Directory) (o : Object) → StandsFor b d → object_at d (ByHandle h) ≡ Some o → StandsAt b h o
+held-stands b h d o k e = subst (λ g. StandsAt b g o) (sym (found-handle h d.objects o (record { is = e }))) (standing b d (ByHandle h) o k.denotes e)
+
+pub held-object : (b : List ℕ) (h : ℕ) → HoldsObject b h → HasObject b h
+held-object b h x = (x.object, held-stands b h x.directory x.object x.stands x.is)
+
+-- where its container stands, as its head says
+abbrev pub place_behind : ℕ → ℕ → Place
+place_behind h at = record { handle = h; at = at }
+
+pub behind-head : (b : List ℕ) (h at : ℕ) (o : Object) (head : Head) → StandsAt b h o → IsHeadOf o head → at ≡ head_len + padded head.name_len → container_place o ≡ place_behind h at
+behind-head b h at o head s said e =
+    let there : at ≡ head_len + padded (length o.name) = e ∙ ap (λ (n : ℕ). head_len + padded n) said.name_len in
+    λ i. record { handle = sym s.at i; at = sym there i }
+
+found-container : (d : Directory) (key : Key) (kind : Kind) (o : Object) (p : Place) → object_at d key ≡ Some o → kind_of o.value ≡ kind → container_place o ≡ p → Ok p ≡ container_at d key kind
+found-container d key kind o p e f g =
+    ap Ok (sym g)
+    ∙ ap (λ (t : Bool). if t then Ok (container_place o) else Err WrongKind) (sym (eq-eqb (code_of kind) (code_of (kind_of o.value)) (ap code_of (sym f))))
+    ∙ sym (ap (λ (q : Option Object). elim q as (λ _. Result Place Refusal) [ None ↦ Err NotFound | Some o ↦ place_of_kind o kind ]) e)
+
+-- ---- kinds that have not come
+
+map-unsupported : (k l : ScalarKind) (v : Value) → kind_of v ≡ Map k l → IsTrue (is_supported_value v) → ⊥
+map-unsupported k l (Numbers m zs) e h = absurd (cc)
+map-unsupported k l (Elements m zs t) e h = absurd (cc)
+map-unsupported k l (Bytes bs t) e h = absurd (cc)
+map-unsupported k l (Pairs m n ps) e h = absurd (cc)
+map-unsupported k l (Texts ps t) e h = absurd (cc)
+
+-- ---- what the head says
+
+-- it was read of each object that stands at the handle
+abbrev pub IsReadAt : List ℕ → ℕ → Head → Type 0
+IsReadAt b h head = (o : Object) → StandsAt b h o → IsHeadOf o head
+
+module _ (b : List ℕ) (h : ℕ) (head : Head) (x : HoldsObject b h) (said : IsReadAt b h head) where
+  held-kind : kind_of x.object.value ≡ head.kind
+  held-kind = sym (said x.object (held-stands b h x.directory x.object x.stands x.is)).kind
+
+  held-supported : IsTrue (is_supported_value x.object.value)
+  held-supported = found-supported x.directory (ByHandle h) x.object x.stands.supported x.is
+
+  -- no object is a map
+  pub no-map : (k l : ScalarKind) → head.kind ≡ Map k l → ⊥
+  no-map k l e = map-unsupported k l x.object.value (held-kind ∙ e) held-supported
+
+-- it says that a text stands behind it, or a vector of numbers or of texts
+module _ (b : List ℕ) (h at : ℕ) (head : Head) (said : IsReadAt b h head) (behind : at ≡ head_len + padded head.name_len) (d : Directory) (o : Object) (s : StandsFor b d) (e : object_at d (ByHandle h) ≡ Some o) where
+  read-place : (kind : Kind) → head.kind ≡ kind → Ok (place_behind h at) ≡ container_at d (ByHandle h) kind
+  read-place kind is =
+      let there : StandsAt b h o = held-stands b h d o s e in
+      found-container d (ByHandle h) kind o (place_behind h at) e (sym (said o there).kind ∙ is) (behind-head b h at o head there (said o there) behind)
+
+  read-text : head.kind ≡ Text → HoldsText b d (ByHandle h) (place_behind h at)
+  read-text is = holds-text b d (ByHandle h) (place_behind h at) s.denotes (read-place Text is)
+
+  read-vector : (k : ScalarKind) → head.kind ≡ Vector k → HoldsVector b d (ByHandle h) k (place_behind h at)
+  read-vector k is = holds-vector b d (ByHandle h) k (place_behind h at) s.denotes (read-place (Vector k) is)
+
+  read-texts : head.kind ≡ TextsKind → HoldsTexts b d (ByHandle h) (place_behind h at)
+  read-texts is = holds-texts b d (ByHandle h) (place_behind h at) s.denotes (read-place TextsKind is)
+
+module _ (b : List ℕ) (h at : ℕ) (head : Head) (x : HoldsObject b h) (said : IsReadAt b h head) (behind : at ≡ head_len + padded head.name_len) where
+  pub some-text : head.kind ≡ Text → IsSomeText b (place_behind h at)
+  some-text is = let t : HoldsText b x.directory (ByHandle h) (place_behind h at) = read-text b h at head said behind x.directory x.object x.stands x.is is in (t.bytes, (t.table, t.text.stands))
+
+  pub some-vector : (k : ScalarKind) → head.kind ≡ Vector k → HasNumbers k b (place_behind h at)
+  some-vector k is =
+      let v : HoldsVector b x.directory (ByHandle h) k (place_behind h at) = read-vector b h at head said behind x.directory x.object x.stands x.is k is in (v.numbers, (v.table, v.vector))
+
+  pub some-texts : head.kind ≡ TextsKind → IsSomeTexts b (place_behind h at)
+  some-texts is = let t : HoldsTexts b x.directory (ByHandle h) (place_behind h at) = read-texts b h at head said behind x.directory x.object x.stands x.is is in (t.texts, (t.table, t.stand))
+
+-- ---- what becomes of the object
+
+-- numbers have no block to give back
+pub number-contents : (old : Cut) (h : ℕ) (head : Head) → IsReadAt old.bytes h head → (k : ScalarKind) → head.kind ≡ Scalar k → Empties old old h
+number-contents old h head said k is d o s e =
+    let kind : kind_of o.value ≡ Scalar k = sym (said o (held-stands old.bytes h d o s e)).kind ∙ is in
+    let f : IsIn d o = key-found current d (ByHandle h) o s.denotes.directory e in
+    record {
+      place = record { before = refl; after = refl };
+      denotes = subst (Denotes current old.bytes) (sym (changed-itself d o f (emptied o.value) (emptied-numbers k o.value kind))) s.denotes;
+    }
+
+-- All blocks of the value of a container are gone and none came, and its 24 bytes say that nothing is in it.
+contents-released : (old new : Cut) (d : Directory) (o : Object) → Denotes current old.bytes d → IsIn d o → value_len o.value ≡ 24 → IsExchanged current old new (value_start o) 24 (value_extents o.value) []
+    → IsValueAt (bytes_of new.bytes) (value_start o) (emptied o.value) → Becomes old new (changed d o (emptied o.value))
+contents-released old new d o k f len change said =
+    let v : Value = emptied o.value in
+    let gone : List Extent = value_extents o.value in
+    let was : IsTrue (is_object current o) =
+    all-found (λ p. IsTrue (is_object current p)) (has_key (ByHandle (handle o.extent))) d.objects o (each-true (is_object current) d.objects k.directory.objects) f.is in
+    let good : IsTrue (is_object current (with_value o v)) = good-with current o v was (emptied-kind o.value) (emptied-len o.value) (emptied-good o.value (object-roomy current o was).value) in
+    let x : Exchange o (with_value o v) gone [] = between o (with_value o v) [] gone [] [] (sym (append-nil gone)) (emptied-alone o.value) in
+    record { place = change.place; denotes = denotes-container current old new d o v gone [] k f x (emptied-kind o.value) (emptied-count o.value) len was good change said }
+
+-- The same as a call says it of the container at a place: all that is to be known of a call that releases a kind of value.
+pub container-released : (old new : Cut) (d : Directory) (key : Key) (o : Object) (p : Place) (v : Value) → Denotes current old.bytes d → object_at d key ≡ Some o → o.value ≡ v → container_place o ≡ p
+    → value_len v ≡ 24 → IsExchanged current old new (place_at p) 24 (value_extents v) [] → IsValueAt (bytes_of new.bytes) (place_at p) (emptied v) → Becomes old new (changed d o (emptied o.value))
+container-released old new d key o p v k e is at len change said =
+    let start : value_start o ≡ place_at p = start-place o ∙ ap place_at at in
+    contents-released old new d o k (key-found current d key o k.directory e) (ap value_len is ∙ len)
+    (subst (λ from. IsExchanged current old new from 24 (value_extents o.value) []) (sym start) (subst (λ w. IsExchanged current old new (place_at p) 24 (value_extents w) []) (sym is) change))
+    (subst (λ from. IsValueAt (bytes_of new.bytes) from (emptied o.value)) (sym start) (subst (λ w. IsValueAt (bytes_of new.bytes) (place_at p) (emptied w)) (sym is) said))
+
+-- so it is of a text, and of a vector of numbers or of texts
+module _ (old new : Cut) (h at : ℕ) (head : Head) (said : IsReadAt old.bytes h head) (behind : at ≡ head_len + padded head.name_len) where
+  pub text-contents : head.kind ≡ Text → ReleasesText old new (place_behind h at) → Empties old new h
+  text-contents is released d o s e =
+      let x : HoldsText old.bytes d (ByHandle h) (place_behind h at) = read-text old.bytes h at head said behind d o s e is in
+      let same : x.object ≡ o = same_Some x.object o (sym x.is ∙ e) in
+      let now : IsTextNow old new (place_behind h at) x.table [] no_table = released x.bytes x.table x.text.stands in
+      subst (λ p. Becomes old new (changed d p (emptied p.value))) same
+      (container-released old new d (ByHandle h) x.object (place_behind h at) (Bytes x.bytes x.table) s.denotes x.is x.value x.at refl now.change now.text.words)
+
+  pub vector-contents : (k : ScalarKind) → head.kind ≡ Vector k → ReleasesNumbers k old new (place_behind h at) → Empties old new h
+  vector-contents k is released d o s e =
+      let x : HoldsVector old.bytes d (ByHandle h) k (place_behind h at) = read-vector old.bytes h at head said behind d o s e k is in
+      let same : x.object ≡ o = same_Some x.object o (sym x.is ∙ e) in
+      let now : IsNumbersNow k old new (place_behind h at) x.table [] no_table = released x.numbers x.table x.vector in
+      subst (λ p. Becomes old new (changed d p (emptied p.value))) same
+      (container-released old new d (ByHandle h) x.object (place_behind h at) (Elements k x.numbers x.table) s.denotes x.is x.value x.at refl now.change now.vector.stands.words)
+
+  pub texts-contents : head.kind ≡ TextsKind → ReleasesTexts old new (place_behind h at) → Empties old new h
+  texts-contents is released d o s e =
+      let x : HoldsTexts old.bytes d (ByHandle h) (place_behind h at) = read-texts old.bytes h at head said behind d o s e is in
+      let same : x.object ≡ o = same_Some x.object o (sym x.is ∙ e) in
+      let now : IsTextsNow old new (place_behind h at) (value_extents (Texts x.texts x.table)) [] [] no_table = released x.texts x.table x.stand in
+      subst (λ p. Becomes old new (changed d p (emptied p.value))) same
+      (container-released old new d (ByHandle h) x.object (place_behind h at) (Texts x.texts x.table) s.denotes x.is x.value x.at refl now.change now.texts.words)
+
+-- ---- vectors of a type
+
+module _ {T : Type 0} (k : ScalarKind) (w : T → ℤ) (size : ℕ) (test : T → Bool) (sp : T → List ℕ) (law : IsOfKind k w size test sp) where
+  pub some-values : (b : List ℕ) (p : Place) → HasNumbers k b p → IsSomeVector size test sp b p
+  some-values b p h =
+      let r : (xs : List T) × (map w xs ≡ h.0) = whole-reached k w size test sp law h.0 h.1.1.values in
+      let both = stands-whole k w size test sp law b p r.0 h.1.0 (subst (λ (ys : List ℤ). IsNumbers k b p ys h.1.0) (sym r.1) h.1.1) in
+      (r.0, (h.1.0, record { stands = both.0; values = both.1 }))
+
+  pub values-released : (old new : Cut) (p q : Place) → q ≡ p → Releases size test sp old new q → ReleasesNumbers k old new p
+  values-released old new p q same released =
+      of-whole k w size test sp law old.bytes p (λ zs t. IsNumbersNow k old new p t [] no_table)
+      (λ xs t s v.
+      let none : List T = [] in
+      let now : IsVectorNow size test sp old new p t none no_table = subst (λ (r : Place). Releases size test sp old new r) same released xs t (record { stands = s; values = v }) in
+      whole-now k w size test sp law old new p t no_table none now.change now.vector.stands now.vector.values)

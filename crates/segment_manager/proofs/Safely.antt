@@ -1,0 +1,77 @@
+-- A call on the container of an object that answers nothing: its step, and that it changes nothing where it is refused.
+use Rattle.std.proofs.Common.{◌≡◌, ℕ, ◌+◌, sym, ap, subst, ◌∙◌, Bool, true, false, Option, Some, None, Result, Ok, Err, length, if◌then◌else◌}
+use Rattle.std.specs.Prelude.{OnErr}
+use Rattle.std.proofs.lemmas.Bool.{eq-eqb, ne_eqb}
+use Rattle.raw_region.specs.Memory.{Cut}
+use Rattle.best_fit.specs.Extents.{handle}
+use Rattle.seg_types.specs.declared.kinds.Kind.{Kind}
+use Rattle.seg_types.specs.declared.refusals.Refusal.{Refusal}
+use Rattle.seg_types.specs.declared.refusals.Refusal.TheVariants.{NotFound, WrongKind}
+use Rattle.seg_types.specs.Kinds.{code_of, same_kind}
+use Rattle.seg_types.specs.Names.{Key}
+use Rattle.seg_types.specs.Commands.{Command}
+use Rattle.seg_vector.specs.declared.places.Place.{Place}
+use Rattle.segment_manager.specs.declared.head.Head.{Head}
+use Rattle.segment_manager.specs.Answers.{Refused}
+use Rattle.segment_manager.specs.Contents.{container_at, container_place, place_of_kind}
+use Rattle.segment_manager.specs.Directory.{Object, kind_of, padded}
+use Rattle.segment_manager.specs.Found.{handle_at}
+use Rattle.segment_manager.specs.Layout.{head_len}
+use Rattle.segment_manager.specs.Standing.{IsHeadOf, StandsAt}
+use Rattle.segment_manager.specs.State.{Answers, IsSegment, IsStepOfKind, State, done_answer}
+use Rattle.segment_manager.proofs.Here.{IsHere, here}
+use Rattle.segment_manager.proofs.Steps.{step_of_kind-segment}
+
+pub record StepsSafely (s : State) (new : Cut) (key : Key) (kind : Kind) (c : Command) (r : Result (Unit {0}) Refusal) : Type 0 where
+  pub step : IsStepOfKind s (record s { cut = new }) key kind c (done_answer r)
+  pub refused : OnErr r (new ≡ s.cut)
+
+-- it is refused, and nothing has changed
+pub stays : (s : State) (new : Cut) (key : Key) (kind : Kind) (c : Command) (e why : Refusal) → e ≡ why → new ≡ s.cut → IsStepOfKind s s key kind c (Refused why) → StepsSafely s new key kind c (Err e)
+stays s new key kind c e why is same step = record {
+  step = subst (λ (r : Refusal). IsStepOfKind s (record s { cut = new }) key kind c (Refused r)) (sym is)
+      (subst (λ (x : Cut). IsStepOfKind s (record s { cut = x }) key kind c (Refused why)) (sym same) step);
+  refused = same;
+}
+
+-- ---- the segment afterwards, as its view before the call is named
+
+module _ (s t : State) (view : s ≡ t) (new : Cut) (key : Key) (kind : Kind) (c : Command) (r : Result (Unit {0}) Refusal) (done : StepsSafely s new key kind c r) where
+  pub safe-step : IsStepOfKind t (record s { cut = new }) key kind c (done_answer r)
+  safe-step = subst (λ (u : State). IsStepOfKind u (record s { cut = new }) key kind c (done_answer r)) view done.step
+
+  pub safe-refused : OnErr r ((record s { cut = new }) ≡ t)
+  safe-refused = kept r done.refused
+    where
+      kept : (q : Result (Unit {0}) Refusal) → OnErr q (new ≡ s.cut) → OnErr q ((record s { cut = new }) ≡ t)
+      kept (Ok u) e = tt
+      kept (Err w) e = (λ i. record s { cut = e i }) ∙ view
+
+  pub safe-segment : IsSegment s.cut.bytes → IsSegment new.bytes
+  safe-segment b = step_of_kind-segment s (record s { cut = new }) key kind c (done_answer r) done.step b
+
+-- ---- the search
+
+-- where the container is of each object that stands at the handle is where that of the key's object is
+pub contains : (s : State) (key : Key) (h : ℕ) (kind : Kind) (r : Result Place Refusal) → Answers s (λ d. handle_at d key) (Some h)
+    → ((o : Object) → StandsAt s.cut.bytes h o → r ≡ place_of_kind o kind) → Answers s (λ d. container_at d key kind) r
+contains s key h kind r a each = record {
+  answers = λ d l.
+      let o : IsHere s.cut.bytes d key h = here s.cut.bytes d key h l.denotes (a.answers d l) in
+      each o.object o.stands
+      ∙ sym (ap (λ (q : Option Object). elim q as (λ _. Result Place Refusal) [ None ↦ Err NotFound | Some o ↦ place_of_kind o kind ]) o.is);
+}
+
+-- an object of another kind
+pub other-kind : (o : Object) (kind : Kind) (a b : ℕ) (head : Head) → IsHeadOf o head → a ≡ code_of head.kind → b ≡ code_of kind → (a ≡ b → ⊥) → Err WrongKind ≡ place_of_kind o kind
+other-kind o kind a b head said e f n =
+    let other : same_kind kind (kind_of o.value) ≡ false = ne_eqb (code_of kind) (code_of (kind_of o.value)) (λ g. n (e ∙ ap code_of said.kind ∙ sym g ∙ sym f)) in
+    ap (λ (t : Bool). if t then Ok (container_place o) else Err WrongKind) (sym other)
+
+-- and one of the kind, which stands at the handle
+pub of-kind : (o : Object) (kind : Kind) (a b h at : ℕ) (head : Head) → IsHeadOf o head → a ≡ code_of head.kind → b ≡ code_of kind → a ≡ b → h ≡ handle o.extent → at ≡ head_len + padded head.name_len
+    → Ok (record { handle = h; at = at }) ≡ place_of_kind o kind
+of-kind o kind a b h at head said e f n is there =
+    let same : same_kind kind (kind_of o.value) ≡ true = eq-eqb (code_of kind) (code_of (kind_of o.value)) (sym f ∙ sym n ∙ e ∙ ap code_of said.kind) in
+    let place : at ≡ head_len + padded (length o.name) = there ∙ ap (λ (n : ℕ). head_len + padded n) said.name_len in
+    (λ i. Ok (record { handle = is i; at = place i })) ∙ ap (λ (t : Bool). if t then Ok (container_place o) else Err WrongKind) (sym same)

@@ -1,0 +1,182 @@
+-- The calls on whatever has storage, each as one step: reserve, shrink and clear. And the refusals of an object that is not there.
+use Rattle.std.proofs.Common.{◌≡◌, refl, sym, ap, ◌∙◌, ℕ, ℤ, Bool, true, false, Some, None, Ok, Err, List, [], length}
+use Rattle.raw_region.specs.Format.{current}
+use Rattle.raw_region.specs.Memory.{Cut}
+use Rattle.best_fit.specs.Heap.{live_of}
+use Rattle.best_fit.specs.Table.{Table, cut_table}
+use Rattle.seg_types.specs.declared.kinds.ScalarKind.{ScalarKind}
+use Rattle.seg_types.specs.declared.kinds.Kind.{Kind}
+use Rattle.seg_types.specs.declared.kinds.Kind.TheVariants.{Scalar, Text, Vector, Map, Texts as TextsKind}
+use Rattle.seg_types.specs.declared.refusals.Refusal.TheVariants.{NoSpace, NotFound, WrongKind}
+use Rattle.seg_types.specs.Kinds.{size_of}
+use Rattle.seg_types.specs.Names.{Key}
+use Rattle.seg_types.specs.Commands as asked
+use Rattle.seg_types.specs.Commands.{Command, Literal}
+use Rattle.seg_vector.specs.declared.places.Place.{Place}
+use Rattle.segment_manager.specs.Answers.{Answer, Done, Refused}
+use Rattle.segment_manager.specs.Contents.{HasNoRoom, IsBytes, IsBytesGrown, IsBytesNow, IsNumbers, IsNumbersGrown, IsNumbersNow, container_at}
+use Rattle.segment_manager.specs.Directory.{Value, Numbers, Elements, Bytes, Pairs, Texts, Object, Directory, kind_of, live, object_at}
+use Rattle.segment_manager.specs.Plan.{Refuse, Reply, perform, with, with_capacity}
+use Rattle.segment_manager.specs.State.{Answers, IsReplyOfKind, IsSegment, IsStep, IsStepOfKind, State, StandsFor}
+use Rattle.segment_manager.specs.Step as step
+use Rattle.segment_manager.specs.Step.{changed, effect, is_read_only, storage_of, text_of, with_items, with_table}
+use Rattle.segment_manager.proofs.Calling.{denotes-live}
+use Rattle.segment_manager.proofs.ContentPlans.{clear-plan, clear-refused, reserve-plan, reserve-refused, shrink-plan, shrink-refused}
+use Rattle.segment_manager.proofs.Refilled.{refused-steps}
+use Rattle.segment_manager.proofs.Steps.{open-writing, with-not_found}
+use Rattle.segment_manager.proofs.TextSteps.{HoldsText, text-grown, text-not_grown, text-now, text-stays, text-steps}
+use Rattle.segment_manager.proofs.VectorSteps.{HoldsVector, vector-grown, vector-not_grown, vector-now, vector-stays, vector-steps}
+
+-- ---- vectors of numbers
+
+module _ (s : State) (key : Key) (k : ScalarKind) (p : Place) (b : IsSegment s.cut.bytes) (found : Answers s (λ d. container_at d key (Vector k)) (Ok p)) where
+  -- what is so of the numbers and the table of the vector at the place
+  abbrev OfVector : (List ℤ → Table → Type 0) → Type 0
+  OfVector P = (zs : List ℤ) (t : Table) → IsNumbers k s.cut.bytes p zs t → P zs t
+
+  reserve-vector : (d : Directory) (h : HoldsVector s.cut.bytes d key k p) (n : ℕ)
+      → effect d (asked.Reserve key n) ≡ with_capacity (size_of k) n h.table (λ u. Reply Done (changed d h.object (Elements k h.numbers u)))
+  reserve-vector d h n =
+      reserve-plan d key h.object h.is n (size_of k) (length h.numbers) h.table (ap storage_of h.value)
+      ∙ ap (λ v. with_capacity (size_of k) n h.table (λ u. Reply Done (changed d h.object (with_table v u)))) h.value
+
+  pub reserves-places : (new : Cut) (n : ℕ) → is_read_only s.mode ≡ false → OfVector (λ zs t. IsNumbersGrown k s.cut new p t n zs)
+      → IsStepOfKind s (record s { cut = new }) key (Vector k) (asked.Reserve key n) Done
+  reserves-places new n writing each =
+      vector-steps s key k p b found new (asked.Reserve key n) Done writing
+      (λ d den h. vector-grown s.cut new d key k p den h h.numbers n (asked.Reserve key n) Done (reserve-vector d h n) (each h.numbers h.table h.vector))
+
+  pub reserves-no_space : (n : ℕ) → is_read_only s.mode ≡ false → OfVector (λ zs t. HasNoRoom s.cut.bytes (size_of k) n t)
+      → IsStepOfKind s s key (Vector k) (asked.Reserve key n) (Refused NoSpace)
+  reserves-no_space n writing each =
+      vector-stays s key k p b found (asked.Reserve key n) (Refused NoSpace) (open-writing s.mode (asked.Reserve key n) writing)
+      (λ d den h. vector-not_grown s.cut s.cut d key k p den h h.numbers n (asked.Reserve key n) Done (reserve-vector d h n) (each h.numbers h.table h.vector))
+
+  pub shrinks-vector : (new : Cut) → is_read_only s.mode ≡ false
+      → OfVector (λ zs t. IsNumbersNow k s.cut new p t zs (cut_table (live_of s.cut.bytes) (size_of k) (length zs) t))
+      → IsStepOfKind s (record s { cut = new }) key (Vector k) (asked.Shrink key) Done
+  shrinks-vector new writing each =
+      vector-steps s key k p b found new (asked.Shrink key) Done writing
+      (λ d den h.
+      vector-now s.cut new d key k p den h h.numbers (cut_table (live_of s.cut.bytes) (size_of k) (length h.numbers) h.table) (asked.Shrink key) Done
+      (shrink-plan d key h.object h.is (size_of k) (length h.numbers) h.table (ap storage_of h.value)
+      ∙ ap (λ v. Reply Done (changed d h.object (with_table v (cut_table (live d) (size_of k) (length h.numbers) h.table)))) h.value
+      ∙ ap (λ l. Reply Done (changed d h.object (Elements k h.numbers (cut_table l (size_of k) (length h.numbers) h.table)))) (sym (denotes-live current s.cut.bytes d den)))
+      (each h.numbers h.table h.vector))
+
+  pub clears-vector : (new : Cut) → is_read_only s.mode ≡ false → OfVector (λ zs t. IsNumbersNow k s.cut new p t [] t)
+      → IsStepOfKind s (record s { cut = new }) key (Vector k) (asked.Clear key) Done
+  clears-vector new writing each =
+      vector-steps s key k p b found new (asked.Clear key) Done writing
+      (λ d den h.
+      vector-now s.cut new d key k p den h [] h.table (asked.Clear key) Done
+      (clear-plan d key h.object h.is (size_of k, length h.numbers, h.table) (ap storage_of h.value) ∙ ap (λ v. Reply Done (changed d h.object (with_items v []))) h.value)
+      (each h.numbers h.table h.vector))
+
+-- ---- texts
+
+module _ (s : State) (key : Key) (p : Place) (b : IsSegment s.cut.bytes) (found : Answers s (λ d. container_at d key Text) (Ok p)) where
+  -- what is so of the bytes and the table of the text at the place
+  abbrev OfText : (List ℕ → Table → Type 0) → Type 0
+  OfText P = (bs : List ℕ) (t : Table) → IsBytes s.cut.bytes p bs t → P bs t
+
+  reserve-text : (d : Directory) (h : HoldsText s.cut.bytes d key p) (n : ℕ)
+      → effect d (asked.Reserve key n) ≡ with_capacity 1 n h.table (λ u. Reply Done (changed d h.object (Bytes h.bytes u)))
+  reserve-text d h n =
+      reserve-plan d key h.object h.is n 1 (length h.bytes) h.table (ap storage_of h.value)
+      ∙ ap (λ v. with_capacity 1 n h.table (λ u. Reply Done (changed d h.object (with_table v u)))) h.value
+
+  pub reserves-bytes : (new : Cut) (n : ℕ) → is_read_only s.mode ≡ false → OfText (λ bs t. IsBytesGrown s.cut new p t n bs)
+      → IsStepOfKind s (record s { cut = new }) key Text (asked.Reserve key n) Done
+  reserves-bytes new n writing each =
+      text-steps s key p b found new (asked.Reserve key n) Done writing
+      (λ d den h. text-grown s.cut new d key p den h h.bytes n (asked.Reserve key n) Done (reserve-text d h n) (each h.bytes h.table h.text))
+
+  pub reserves_bytes-no_space : (n : ℕ) → is_read_only s.mode ≡ false → OfText (λ bs t. HasNoRoom s.cut.bytes 1 n t)
+      → IsStepOfKind s s key Text (asked.Reserve key n) (Refused NoSpace)
+  reserves_bytes-no_space n writing each =
+      text-stays s key p b found (asked.Reserve key n) (Refused NoSpace) (open-writing s.mode (asked.Reserve key n) writing)
+      (λ d den h. text-not_grown s.cut s.cut d key p den h h.bytes n (asked.Reserve key n) Done (reserve-text d h n) (each h.bytes h.table h.text))
+
+  pub shrinks-text : (new : Cut) → is_read_only s.mode ≡ false → OfText (λ bs t. IsBytesNow s.cut new p t bs (cut_table (live_of s.cut.bytes) 1 (length bs) t))
+      → IsStepOfKind s (record s { cut = new }) key Text (asked.Shrink key) Done
+  shrinks-text new writing each =
+      text-steps s key p b found new (asked.Shrink key) Done writing
+      (λ d den h.
+      text-now s.cut new d key p den h h.bytes (cut_table (live_of s.cut.bytes) 1 (length h.bytes) h.table) (asked.Shrink key) Done
+      (shrink-plan d key h.object h.is 1 (length h.bytes) h.table (ap storage_of h.value)
+      ∙ ap (λ v. Reply Done (changed d h.object (with_table v (cut_table (live d) 1 (length h.bytes) h.table)))) h.value
+      ∙ ap (λ l. Reply Done (changed d h.object (Bytes h.bytes (cut_table l 1 (length h.bytes) h.table)))) (sym (denotes-live current s.cut.bytes d den)))
+      (each h.bytes h.table h.text))
+
+  pub clears-text : (new : Cut) → is_read_only s.mode ≡ false → OfText (λ bs t. IsBytesNow s.cut new p t [] t) → IsStepOfKind s (record s { cut = new }) key Text (asked.Clear key) Done
+  clears-text new writing each =
+      text-steps s key p b found new (asked.Clear key) Done writing
+      (λ d den h.
+      text-now s.cut new d key p den h [] h.table (asked.Clear key) Done
+      (clear-plan d key h.object h.is (1, length h.bytes, h.table) (ap storage_of h.value) ∙ ap (λ v. Reply Done (changed d h.object (with_items v []))) h.value)
+      (each h.bytes h.table h.text))
+
+-- ---- refusals
+
+-- a kind whose objects have no storage
+abbrev pub has_storage : Kind → Bool
+has_storage k = elim k [ Scalar l ↦ false | Text ↦ true | Vector l ↦ true | Map l m ↦ false | TextsKind ↦ true ]
+
+pub no-storage : (v : Value) → has_storage (kind_of v) ≡ false → storage_of v ≡ Err WrongKind
+no-storage (Numbers k zs) h = refl
+no-storage (Elements k zs t) h = absurd (cc)
+no-storage (Bytes bs t) h = absurd (cc)
+no-storage (Pairs k v ps) h = refl
+no-storage (Texts ps t) h = absurd (cc)
+
+-- for each directory the object of the key is of a kind without storage
+abbrev HasNoStorage : State → Key → Type 0
+HasNoStorage s key = (d : Directory) → StandsFor s.cut.bytes d → (o : Object) × ((object_at d key ≡ Some o) × (has_storage (kind_of o.value) ≡ false))
+
+pub reserves-other : (s : State) (key : Key) (n : ℕ) → is_read_only s.mode ≡ false → HasNoStorage s key → IsStep s s (asked.Reserve key n) (Refused WrongKind)
+reserves-other s key n writing each =
+    refused-steps s (asked.Reserve key n) WrongKind writing
+    (λ d l. let x = each d l in ap (perform d (live d)) (reserve-refused d key x.0 x.1.0 n WrongKind (no-storage x.0.value x.1.1)))
+
+pub shrinks-other : (s : State) (key : Key) → is_read_only s.mode ≡ false → HasNoStorage s key → IsStep s s (asked.Shrink key) (Refused WrongKind)
+shrinks-other s key writing each =
+    refused-steps s (asked.Shrink key) WrongKind writing
+    (λ d l. let x = each d l in ap (perform d (live d)) (shrink-refused d key x.0 x.1.0 WrongKind (no-storage x.0.value x.1.1)))
+
+pub clears-other : (s : State) (key : Key) → is_read_only s.mode ≡ false → HasNoStorage s key → IsStep s s (asked.Clear key) (Refused WrongKind)
+clears-other s key writing each =
+    refused-steps s (asked.Clear key) WrongKind writing
+    (λ d l. let x = each d l in ap (perform d (live d)) (clear-refused d key x.0 x.1.0 WrongKind (no-storage x.0.value x.1.1)))
+
+-- no object has the key
+module _ (d : Directory) (key : Key) (e : object_at d key ≡ None) where
+  pub reserve-nowhere : (n : ℕ) → effect d (asked.Reserve key n) ≡ Refuse NotFound
+  reserve-nowhere n = with-not_found d key (λ o. with (storage_of o.value) (λ (each, len, t). with_capacity each n t (λ u. Reply Done (changed d o (with_table o.value u))))) e
+
+  pub shrink-nowhere : effect d (asked.Shrink key) ≡ Refuse NotFound
+  shrink-nowhere = with-not_found d key (λ o. with (storage_of o.value) (λ (each, len, t). Reply Done (changed d o (with_table o.value (cut_table (live d) each len t))))) e
+
+  pub clear-nowhere : effect d (asked.Clear key) ≡ Refuse NotFound
+  clear-nowhere = with-not_found d key (λ o. with (storage_of o.value) (λ s. Reply Done (changed d o (with_items o.value [])))) e
+
+  pub push-nowhere : (l : Literal) → effect d (asked.Push key l) ≡ Refuse NotFound
+  push-nowhere l = with-not_found d key (λ o. step.push d o o.value l) e
+
+  pub pop-nowhere : effect d (asked.Pop key) ≡ Refuse NotFound
+  pop-nowhere = with-not_found d key (λ o. step.pop d o o.value) e
+
+  pub insert-nowhere : (i : ℕ) (l : Literal) → effect d (asked.Insert key i l) ≡ Refuse NotFound
+  insert-nowhere i l = with-not_found d key (λ o. step.insert_at d o o.value i l) e
+
+  pub erase-nowhere : (i : ℕ) → effect d (asked.Erase key i) ≡ Refuse NotFound
+  erase-nowhere i = with-not_found d key (λ o. step.erase d o o.value i) e
+
+  pub assign-nowhere : (ls : List Literal) → effect d (asked.Assign key ls) ≡ Refuse NotFound
+  assign-nowhere ls = with-not_found d key (λ o. step.assign d o o.value ls) e
+
+-- ---- calls that read
+
+-- a step that leaves the segment is the machine's answer
+pub step_of_kind-reply : (s : State) (key : Key) (kind : Kind) (c : Command) (answer : Answer) → IsStepOfKind s s key kind c answer → IsReplyOfKind s key kind c answer
+step_of_kind-reply s key kind c answer r = record { answers = r.answers }

@@ -1,0 +1,53 @@
+-- Lists of texts with one more, one less, or another among them.
+use Rattle.std.proofs.Common.{◌≡◌, refl, sym, ap, ◌∙◌, ℕ, zero, suc, ◌-◌, ◌≤◌, Some, List, [], ◌∷◌, ◌++◌, length, take, drop, append-nil, arith}
+use Rattle.std.specs.Prelude.{insert, remove, slice_get, slice_set}
+use Rattle.std.proofs.Math.Seq.{take-length, drop-length}
+use Rattle.std.proofs.lemmas.List.{take-append-drop}
+use Rattle.seg_vector.specs.Vector.{OwnedText}
+use Rattle.segment_manager.proofs.TextBlocks.{IsPartOther}
+
+-- the text with i others before it, among them
+split-at : (ps : List OwnedText) (i : ℕ) (q : OwnedText) → slice_get ps i ≡ Some q → ps ≡ take i ps ++ q ∷ drop (suc i) ps
+split-at [] i q e = absurd (cc)
+split-at (p ∷ ps) zero q e = let same : p ≡ q = cc in ap (λ (r : OwnedText). r ∷ ps) same
+split-at (p ∷ ps) (suc i) q e = ap (λ (qs : List OwnedText). p ∷ qs) (split-at ps i q e)
+
+set-at : (ps : List OwnedText) (i : ℕ) (q r : OwnedText) → slice_get ps i ≡ Some q → slice_set ps i r ≡ take i ps ++ r ∷ drop (suc i) ps
+set-at [] i q r e = absurd (cc)
+set-at (p ∷ ps) zero q r e = refl
+set-at (p ∷ ps) (suc i) q r e = ap (λ (qs : List OwnedText). p ∷ qs) (set-at ps i q r e)
+
+-- one more
+pub part-inserted : (ps : List OwnedText) (i : ℕ) (q : OwnedText) → IsPartOther ps (insert ps i q) [] (q ∷ [])
+part-inserted ps i q = record { front = take i ps; back = drop i ps; was = sym (take-append-drop i ps); is = refl }
+
+-- another
+pub part-set : (ps : List OwnedText) (i : ℕ) (q r : OwnedText) → slice_get ps i ≡ Some q → IsPartOther ps (slice_set ps i r) (q ∷ []) (r ∷ [])
+part-set ps i q r e = record { front = take i ps; back = drop (suc i) ps; was = split-at ps i q e; is = set-at ps i q r e }
+
+-- one less
+pub part-removed : (ps : List OwnedText) (i : ℕ) (q : OwnedText) → slice_get ps i ≡ Some q → IsPartOther ps (remove ps i) (q ∷ []) []
+part-removed ps i q e = record { front = take i ps; back = drop (suc i) ps; was = split-at ps i q e; is = refl }
+
+-- all of them, and none
+pub part-all : (ps qs : List OwnedText) → IsPartOther ps qs ps qs
+part-all ps qs = record { front = []; back = []; was = sym (append-nil ps); is = sym (append-nil qs) }
+
+pub part-none : (ps : List OwnedText) → IsPartOther ps ps [] []
+part-none ps = record { front = []; back = ps; was = refl; is = refl }
+
+-- ---- at the end
+
+pub pushed-last : (ps : List OwnedText) (q : OwnedText) → insert ps (length ps) q ≡ ps ++ q ∷ []
+pushed-last ps q = λ i. take-length ps i ++ q ∷ drop-length ps i
+
+drop-past : (ps : List OwnedText) (n : ℕ) → length ps ≤ n → drop n ps ≡ []
+drop-past [] zero h = refl
+drop-past [] (suc n) h = refl
+drop-past (p ∷ ps) zero h = absurd (omega arith)
+drop-past (p ∷ ps) (suc n) h = drop-past ps n (omega arith)
+
+-- the last is left out
+pub removed-last : (ps : List OwnedText) → remove ps (length ps - 1) ≡ take (length ps - 1) ps
+removed-last ps =
+    ap (λ (qs : List OwnedText). take (length ps - 1) ps ++ qs) (drop-past ps (suc (length ps - 1)) (omega arith)) ∙ append-nil (take (length ps - 1) ps)

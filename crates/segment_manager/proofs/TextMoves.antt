@@ -1,0 +1,176 @@
+-- A call on a vector of texts is one step: what the calls of seg_vector ensure of the texts at its place comes to the directory.
+use Rattle.std.proofs.Common.{◌≡◌, refl, sym, ap, subst, ◌∙◌, true, false, Option, None, Result, Ok, Err, List, ◌++◌}
+use Rattle.std.specs.Prelude.{IfErr, OnErr, option_to_list}
+use Rattle.std.specs.List.{AllByRecursion}
+use Rattle.std.proofs.lemmas.Bool.{eq-eqb}
+use Rattle.raw_region.specs.Format.{current}
+use Rattle.raw_region.specs.Memory.{Cut}
+use Rattle.best_fit.specs.Exchange.{IsRestored}
+use Rattle.best_fit.specs.Extents.{Extent}
+use Rattle.best_fit.specs.Table.{Table}
+use Rattle.seg_types.specs.declared.kinds.Kind.{Kind}
+use Rattle.seg_types.specs.declared.kinds.Kind.TheVariants.{Texts as TextsKind}
+use Rattle.seg_types.specs.declared.refusals.Refusal.{Refusal}
+use Rattle.seg_types.specs.Kinds.{code_of, same_kind}
+use Rattle.seg_types.specs.Names.{Key}
+use Rattle.seg_types.specs.Commands.{Command}
+use Rattle.seg_vector.specs.declared.places.Place.{Place}
+use Rattle.seg_vector.specs.TextsCalls.{IsTextsNow, text_blocks}
+use Rattle.seg_vector.specs.Vector.{OwnedText}
+use Rattle.segment_manager.specs.Answers.{Answer, Refused, is_untouched, refusal_of}
+use Rattle.segment_manager.specs.Calls.{kind_at}
+use Rattle.segment_manager.specs.Contents.{container_at}
+use Rattle.segment_manager.specs.Directory.{Value, Texts, Directory, kind_of, live}
+use Rattle.segment_manager.specs.Plan.{perform}
+use Rattle.segment_manager.specs.State.{Answers, IsSegment, IsStepOfKind, LeadsOn, State, StandsFor, done_answer}
+use Rattle.segment_manager.specs.Step.{changed, effect, is_read_only, step, step_of_kind}
+use Rattle.segment_manager.specs.TextLists.{LeadsOnOfKind}
+use Rattle.segment_manager.proofs.AnyStorage.{IsOfKindAt, kind-told}
+use Rattle.segment_manager.proofs.Constructed.{restored-denotes}
+use Rattle.segment_manager.proofs.Rewritten.{with_value}
+use Rattle.segment_manager.proofs.Steps.{IsMove, IsOpenFor, by_no_change_of_kind, by_step_of_kind, open-writing, step_of_kind-found, step_of_kind-segment, step_of_kind-step}
+use Rattle.segment_manager.proofs.Supported.{found-supported, supported-changed, supported-like}
+use Rattle.segment_manager.proofs.TextBlocks.{IsPartOther}
+use Rattle.segment_manager.proofs.TextsHeld.{HasBytes, HoldsTexts, holds-texts, texts-changed}
+
+-- ---- one directory
+
+-- what a call did to the vector: which texts stand there now, in which array, and which part of them is another
+pub record IsTextsMove (old new : Cut) (p : Place) (ps : List OwnedText) (t : Table) (qs : List OwnedText) (u : Table) : Type 0 where
+  pub out : List OwnedText
+  pub in_place : List OwnedText
+  pub part : IsPartOther ps qs out in_place
+  pub bytes : AllByRecursion HasBytes in_place
+  pub gone : List Extent
+  pub come : List Extent
+  pub gone_is : gone ≡ option_to_list t.extent ++ text_blocks out
+  pub come_is : come ≡ option_to_list u.extent ++ text_blocks in_place
+  pub now : IsTextsNow old new p gone come qs u
+
+-- and what the command's plan comes to
+pub record TextsMove (old new : Cut) (d : Directory) (key : Key) (p : Place) (h : HoldsTexts old.bytes d key p) (c : Command) (answer : Answer) : Type 0 where
+  pub texts : List OwnedText
+  pub table : Table
+  pub move : IsTextsMove old new p h.texts h.table texts table
+  pub outcome : perform d (live d) (effect d c) ≡ (answer, changed d h.object (Texts texts table))
+
+module _ (s : State) (key : Key) (p : Place) (b : IsSegment s.cut.bytes) (found : Answers s (λ d. container_at d key TextsKind) (Ok p)) where
+  abbrev pub texts_in : (d : Directory) → StandsFor s.cut.bytes d → HoldsTexts s.cut.bytes d key p
+  texts_in d l = holds-texts s.cut.bytes d key p l.denotes (found.answers d l)
+
+  of-kind : (d : Directory) (l : StandsFor s.cut.bytes d) → same_kind TextsKind (kind_of (texts_in d l).object.value) ≡ true
+  of-kind d l = ap (λ (v : Value). same_kind TextsKind (kind_of v)) (texts_in d l).value
+
+  -- the new bytes stand for the directory with the other texts
+  pub texts-move : (new : Cut) (d : Directory) (l : StandsFor s.cut.bytes d) (c : Command) (answer : Answer) → is_read_only s.mode ≡ false → TextsMove s.cut new d key p (texts_in d l) c answer
+      → IsMove (record s { cut = new }) answer (step_of_kind s.mode d key TextsKind c)
+  texts-move new d l c answer writing r =
+      let h : HoldsTexts s.cut.bytes d key p = texts_in d l in
+      let m : IsTextsMove s.cut new p h.texts h.table r.texts r.table = r.move in
+      record {
+        after = changed d h.object (Texts r.texts r.table);
+        is = step_of_kind-found s.mode d key TextsKind c h.object (open-writing s.mode c writing) h.is (of-kind d l) ∙ r.outcome;
+        stands = record {
+          denotes = texts-changed s.cut new d key p l.denotes h r.texts m.out m.in_place r.table m.gone m.come m.part m.bytes m.gone_is m.come_is m.now;
+          supported = supported-changed d (with_value h.object (Texts r.texts r.table)) l.supported
+              (supported-like h.object.value (Texts r.texts r.table) (sym (ap kind_of h.value)) (found-supported d key h.object l.supported h.is));
+        };
+      }
+
+  -- ---- all directories
+
+  -- the call is the step
+  pub texts-steps : (new : Cut) (c : Command) (answer : Answer) → is_read_only s.mode ≡ false → ((d : Directory) (l : StandsFor s.cut.bytes d) → TextsMove s.cut new d key p (texts_in d l) c answer)
+      → IsStepOfKind s (record s { cut = new }) key TextsKind c answer
+  texts-steps new c answer writing each =
+      by_step_of_kind s (record s { cut = new }) key TextsKind c answer (record { mode = refl; place = (each b.0 b.1).move.now.change.place })
+      (λ d l. texts-move new d l c answer writing (each d l))
+
+  -- the same of a call that does not say what it took away
+  pub texts-lead-on : (new : Cut) (c : Command) (answer : (d : Directory) → StandsFor s.cut.bytes d → Answer) → is_read_only s.mode ≡ false
+      → ((d : Directory) (l : StandsFor s.cut.bytes d) → refusal_of (answer d l) ≡ None) → ((d : Directory) (l : StandsFor s.cut.bytes d) → TextsMove s.cut new d key p (texts_in d l) c (answer d l))
+      → LeadsOnOfKind s (record s { cut = new }) key TextsKind c None
+  texts-lead-on new c answer writing done each = record {
+    stays = record { mode = refl; place = (each b.0 b.1).move.now.change.place };
+    answers = λ d l.
+        let m : IsMove (record s { cut = new }) (answer d l) (step_of_kind s.mode d key TextsKind c) = texts-move new d l c (answer d l) writing (each d l) in
+        sym (ap (λ (r : Answer × Directory). refusal_of r.0) m.is ∙ done d l);
+    denotes = λ d l.
+        let m : IsMove (record s { cut = new }) (answer d l) (step_of_kind s.mode d key TextsKind c) = texts-move new d l c (answer d l) writing (each d l) in
+        subst (StandsFor new.bytes) (sym (ap (λ (r : Answer × Directory). r.1) m.is)) m.stands;
+  }
+
+  -- it answers so, and nothing changes
+  pub texts-stay : (c : Command) (answer : Answer) → IsOpenFor s.mode c
+      → ((d : Directory) (l : StandsFor s.cut.bytes d) → perform d (live d) (effect d c) ≡ (answer, d)) → IsStepOfKind s s key TextsKind c answer
+  texts-stay c answer may each =
+      by_no_change_of_kind s key TextsKind c answer
+      (λ d l. step_of_kind-found s.mode d key TextsKind c (texts_in d l).object may (texts_in d l).is (of-kind d l) ∙ each d l)
+
+  -- it answers so, and all blocks are as they were
+  pub texts-restored : (new : Cut) (c : Command) (answer : Answer) → IsOpenFor s.mode c → IsRestored current s.cut new
+      → ((d : Directory) (l : StandsFor s.cut.bytes d) → perform d (live d) (effect d c) ≡ (answer, d)) → IsStepOfKind s (record s { cut = new }) key TextsKind c answer
+  texts-restored new c answer may back each =
+      by_step_of_kind s (record s { cut = new }) key TextsKind c answer (record { mode = refl; place = back.keeps.place })
+      (λ d l. record {
+        after = d;
+        is = step_of_kind-found s.mode d key TextsKind c (texts_in d l).object may (texts_in d l).is (of-kind d l) ∙ each d l;
+        stands = record { denotes = restored-denotes s.cut new d l.denotes (record { laid = back.laid; keeps = back.keeps }); supported = l.supported };
+      })
+
+-- ---- a call that may ask for several blocks
+
+-- its step, and that it changes nothing where it is refused before it asks for one
+pub record StepsKeeping (s : State) (new : Cut) (key : Key) (c : Command) (r : Result (Unit {0}) Refusal) : Type 0 where
+  pub step : IsStepOfKind s (record s { cut = new }) key TextsKind c (done_answer r)
+  pub refused : IfErr r (λ why. is_untouched (Refused why) ≡ true → new ≡ s.cut)
+
+module _ (s t : State) (view : s ≡ t) (new : Cut) (key : Key) (c : Command) (r : Result (Unit {0}) Refusal) (done : StepsKeeping s new key c r) where
+  pub kept-step : IsStepOfKind t (record s { cut = new }) key TextsKind c (done_answer r)
+  kept-step = subst (λ (u : State). IsStepOfKind u (record s { cut = new }) key TextsKind c (done_answer r)) view done.step
+
+  pub kept-refused : IfErr r (λ why. is_untouched (Refused why) ≡ true → (record s { cut = new }) ≡ t)
+  kept-refused = kept r done.refused
+    where
+      kept : (q : Result (Unit {0}) Refusal) → IfErr q (λ why. is_untouched (Refused why) ≡ true → new ≡ s.cut) → IfErr q (λ why. is_untouched (Refused why) ≡ true → (record s { cut = new }) ≡ t)
+      kept (Ok u) e = tt
+      kept (Err w) e = λ h. (λ i. record s { cut = e h i }) ∙ view
+
+  pub kept-segment : IsSegment s.cut.bytes → IsSegment new.bytes
+  kept-segment b = step_of_kind-segment s (record s { cut = new }) key TextsKind c (done_answer r) done.step b
+
+-- ---- a call that answers nothing
+
+-- it leads on, and changes nothing where it is refused
+pub record LeadsSafely (s : State) (new : Cut) (key : Key) (c : Command) (r : Result (Unit {0}) Refusal) (why : Option Refusal) : Type 0 where
+  pub step : LeadsOnOfKind s (record s { cut = new }) key TextsKind c why
+  pub refused : OnErr r (new ≡ s.cut)
+
+module _ (s t : State) (view : s ≡ t) (new : Cut) (key : Key) (c : Command) (r : Result (Unit {0}) Refusal) (why : Option Refusal) (done : LeadsSafely s new key c r why) where
+  pub led-step : LeadsOnOfKind t (record s { cut = new }) key TextsKind c why
+  led-step = subst (λ (u : State). LeadsOnOfKind u (record s { cut = new }) key TextsKind c why) view done.step
+
+  pub led-refused : OnErr r ((record s { cut = new }) ≡ t)
+  led-refused = kept r done.refused
+    where
+      kept : (q : Result (Unit {0}) Refusal) → OnErr q (new ≡ s.cut) → OnErr q ((record s { cut = new }) ≡ t)
+      kept (Ok u) e = tt
+      kept (Err w) e = (λ i. record s { cut = e i }) ∙ view
+
+  pub led-segment : IsSegment s.cut.bytes → IsSegment new.bytes
+  led-segment b = ((step_of_kind s.mode b.0 key TextsKind c).1, done.step.denotes b.0 b.1)
+
+-- what is a step leads on, refused for the reason that it answers
+pub step-leads-on : (old new : State) (key : Key) (c : Command) (answer : Answer) → IsStepOfKind old new key TextsKind c answer → LeadsOnOfKind old new key TextsKind c (refusal_of answer)
+step-leads-on old new key c answer r = record { stays = r.stays; answers = λ d l. ap refusal_of (r.answers d l); denotes = r.denotes }
+
+-- where the object of the key says its kind, the step of the kind is the command's
+pub of_kind-leads_on : (old new : State) (key : Key) (kind : Kind) (c : Command) (why : Option Refusal) → Answers old (λ d. kind_at d key) (Ok kind) → LeadsOnOfKind old new key kind c why → LeadsOn old new c why
+of_kind-leads_on old new key kind c why a r = record {
+  stays = r.stays;
+  answers = λ d l. r.answers d l ∙ ap (λ (n : Answer × Directory). refusal_of n.0) (same d (kind-told d key kind (a.answers d l)));
+  denotes = λ d l. subst (λ (n : Answer × Directory). StandsFor new.cut.bytes n.1) (same d (kind-told d key kind (a.answers d l))) (r.denotes d l);
+}
+  where
+    same : (d : Directory) (e : IsOfKindAt d key kind) → step_of_kind old.mode d key kind c ≡ step old.mode d c
+    same d e = step_of_kind-step old.mode d key kind c e.object e.is (eq-eqb (code_of kind) (code_of (kind_of e.object.value)) (ap code_of (sym e.kind_is)))

@@ -1,0 +1,269 @@
+-- The plans of the commands on a vector of texts, and what they come to.
+use Rattle.std.proofs.Common.{◌≡◌, refl, sym, ap, ◌∙◌, ℕ, ◌-◌, ◌*◌, Bool, true, false, Option, Some, None, Result, Ok, Err, List, [], ◌∷◌, ◌++◌, length, take, arith, ◌==◌, if◌then◌else◌}
+use Rattle.std.specs.Prelude.{insert, remove, slice_get, slice_set, nat_le, nat_lt, option_map}
+use Rattle.std.proofs.lemmas.Bool.{le-ltb, leb-false, lt-ltb}
+use Rattle.block_tags.specs.declared.tile.Role.TheVariants.{Storage}
+use Rattle.best_fit.specs.Extents.{Extent, LiveSet}
+use Rattle.best_fit.specs.Fit.{place, regrow, resized}
+use Rattle.best_fit.specs.Table.{Table, cut_table, no_table}
+use Rattle.seg_types.specs.declared.refusals.Refusal.{Refusal}
+use Rattle.seg_types.specs.declared.refusals.Refusal.TheVariants.{NoSpace, OutOfRange}
+use Rattle.seg_types.specs.Names.{Key}
+use Rattle.seg_types.specs.Commands as asked
+use Rattle.seg_types.specs.Commands.{Literal}
+use Rattle.seg_vector.specs.TextsCalls.{all_texts, new_array, one_more, placed_text, placed_texts, with_array, with_text}
+use Rattle.seg_vector.specs.Vector.{OwnedText, capacity_for_one, grown_table}
+use Rattle.segment_manager.specs.Answers.{Answer, Done, Refused, TextElement}
+use Rattle.segment_manager.specs.Directory.{Texts, Object, Directory, live, object_at}
+use Rattle.segment_manager.specs.Plan.{New, Plan, Refuse, Regrown as RegrownNeed, Reply, Request, perform, with, with_capacity, with_owned_text, with_owned_texts, with_storage}
+use Rattle.segment_manager.specs.Step as step
+use Rattle.segment_manager.specs.Step.{changed, effect, storage_of, texts_of, with_items, with_table}
+use Rattle.segment_manager.proofs.ContentPlans.{clear-plan, reserve-plan, shrink-plan}
+use Rattle.segment_manager.proofs.Steps.{with-found}
+
+-- ---- what requests come to
+
+-- the block of a text
+abbrev pub then_text : Directory → LiveSet → (OwnedText → Plan) → Option OwnedText → Answer × Directory
+then_text d l next None = (Refused NoSpace, d)
+then_text d l next (Some q) = perform d (with_text l q) (next q)
+
+abbrev unplaced : List ℕ → OwnedText
+unplaced bs = record { bytes = bs; extent = None }
+
+abbrev in_block : List ℕ → Extent → OwnedText
+in_block bs x = record { bytes = bs; extent = Some x }
+
+text-met : (d : Directory) (l : LiveSet) (bs : List ℕ) (next : OwnedText → Plan) (r : Option Extent)
+    → elim r as (λ _. Answer × Directory) [ None ↦ (Refused NoSpace, d) | Some x ↦ perform d (resized l x) (next (in_block bs x)) ] ≡ then_text d l next (option_map (in_block bs) r)
+text-met d l bs next None = refl
+text-met d l bs next (Some x) = refl
+
+text-if : (d : Directory) (l : LiveSet) (bs : List ℕ) (next : OwnedText → Plan) (b : Bool)
+    → perform d l (if b then next (unplaced bs) else Request (New Storage (length bs)) (λ x. next (in_block bs x)))
+    ≡ then_text d l next (if b then Some (unplaced bs) else option_map (in_block bs) (place l (length bs) Storage))
+text-if d l bs next true = refl
+text-if d l bs next false = text-met d l bs next (place l (length bs) Storage)
+
+pub text-placed : (d : Directory) (l : LiveSet) (bs : List ℕ) (next : OwnedText → Plan) → perform d l (with_owned_text bs next) ≡ then_text d l next (placed_text l bs)
+text-placed d l bs next = text-if d l bs next (length bs == 0)
+
+-- those of several texts
+abbrev pub beside_texts : LiveSet → List OwnedText → LiveSet
+beside_texts l [] = l
+beside_texts l (q ∷ qs) = beside_texts (with_text l q) qs
+
+abbrev pub then_texts : Directory → LiveSet → (List OwnedText → Plan) → Option (List OwnedText) → Answer × Directory
+then_texts d l next None = (Refused NoSpace, d)
+then_texts d l next (Some qs) = perform d (beside_texts l qs) (next qs)
+
+texts-mapped : (d : Directory) (l : LiveSet) (next : List OwnedText → Plan) (q : OwnedText) (r : Option (List OwnedText))
+    → then_texts d (with_text l q) (λ qs. next (q ∷ qs)) r ≡ then_texts d l next (option_map (λ qs. q ∷ qs) r)
+texts-mapped d l next q None = refl
+texts-mapped d l next q (Some qs) = refl
+
+text-then : (d : Directory) (l : LiveSet) (bss : List (List ℕ)) (next : List OwnedText → Plan) (r : Option OwnedText)
+    → ((q : OwnedText) → perform d (with_text l q) (with_owned_texts bss (λ qs. next (q ∷ qs))) ≡ then_texts d (with_text l q) (λ qs. next (q ∷ qs)) (placed_texts (with_text l q) bss))
+    → then_text d l (λ q. with_owned_texts bss (λ qs. next (q ∷ qs))) r
+    ≡ then_texts d l next (elim r as (λ _. Option (List OwnedText)) [ None ↦ None | Some q ↦ option_map (λ qs. q ∷ qs) (placed_texts (with_text l q) bss) ])
+text-then d l bss next None more = refl
+text-then d l bss next (Some q) more = more q ∙ texts-mapped d l next q (placed_texts (with_text l q) bss)
+
+pub texts-placed : (d : Directory) (l : LiveSet) (bss : List (List ℕ)) (next : List OwnedText → Plan) → perform d l (with_owned_texts bss next) ≡ then_texts d l next (placed_texts l bss)
+texts-placed d l [] next = refl
+texts-placed d l (bs ∷ bss) next =
+    text-placed d l bs (λ q. with_owned_texts bss (λ qs. next (q ∷ qs)))
+    ∙ text-then d l bss next (placed_text l bs) (λ q. texts-placed d (with_text l q) bss (λ qs. next (q ∷ qs)))
+
+-- a new array
+abbrev pub then_array : Directory → LiveSet → (Table → Plan) → Option Table → Answer × Directory
+then_array d l next None = (Refused NoSpace, d)
+then_array d l next (Some u) = perform d (elim u.extent as (λ _. LiveSet) [ None ↦ l | Some x ↦ resized l x ]) (next u)
+
+abbrev of_places : ℕ → Extent → Table
+of_places n x = record { capacity = n; extent = Some x }
+
+array-met : (d : Directory) (l : LiveSet) (n : ℕ) (next : Table → Plan) (r : Option Extent)
+    → elim r as (λ _. Answer × Directory) [ None ↦ (Refused NoSpace, d) | Some x ↦ perform d (resized l x) (next (of_places n x)) ] ≡ then_array d l next (option_map (of_places n) r)
+array-met d l n next None = refl
+array-met d l n next (Some x) = refl
+
+array-if : (d : Directory) (l : LiveSet) (n : ℕ) (next : Table → Plan) (b : Bool)
+    → perform d l (if b then next no_table else Request (New Storage (16 * n)) (λ x. next (of_places n x)))
+    ≡ then_array d l next (if b then Some no_table else option_map (of_places n) (place l (16 * n) Storage))
+array-if d l n next true = refl
+array-if d l n next false = array-met d l n next (place l (16 * n) Storage)
+
+pub array-placed : (d : Directory) (l : LiveSet) (n : ℕ) (next : Table → Plan) → perform d l (with_storage 16 n next) ≡ then_array d l next (new_array l n)
+array-placed d l n next = array-if d l n next (n == 0)
+
+-- an array with so many places or more
+abbrev pub then_room : Directory → LiveSet → Table → (Table → Plan) → Option Table → Answer × Directory
+then_room d l t next None = (Refused NoSpace, d)
+then_room d l t next (Some u) = perform d (with_array l t u) (next u)
+
+abbrev grown_set : LiveSet → Table → Bool → LiveSet
+grown_set l u b = if b then elim u.extent as (λ _. LiveSet) [ None ↦ l | Some x ↦ resized l x ] else l
+
+room-met : (d : Directory) (l : LiveSet) (t : Table) (n : ℕ) (next : Table → Plan) (r : Option Extent) → nat_lt t.capacity n ≡ true
+    → elim r as (λ _. Answer × Directory) [ None ↦ (Refused NoSpace, d) | Some x ↦ perform d (resized l x) (next (of_places n x)) ] ≡ then_room d l t next (option_map (of_places n) r)
+room-met d l t n next None h = refl
+room-met d l t n next (Some x) h = ap (λ (b : Bool). perform d (grown_set l (of_places n x) b) (next (of_places n x))) (sym h)
+
+room-if : (d : Directory) (l : LiveSet) (t : Table) (n : ℕ) (next : Table → Plan) (b : Bool) → nat_le n t.capacity ≡ b
+    → perform d l (if b then next t else Request (RegrownNeed t.extent (16 * n)) (λ x. next (of_places n x)))
+    ≡ then_room d l t next (if b then Some t else option_map (of_places n) (regrow l t.extent (16 * n)))
+room-if d l t n next true h = ap (λ (b : Bool). perform d (grown_set l t b) (next t)) (sym (le-ltb t.capacity t.capacity (omega arith)))
+room-if d l t n next false h = room-met d l t n next (regrow l t.extent (16 * n)) (lt-ltb t.capacity n (leb-false n t.capacity h))
+
+pub room-grown : (d : Directory) (l : LiveSet) (t : Table) (n : ℕ) (next : Table → Plan) → perform d l (with_capacity 16 n t next) ≡ then_room d l t next (grown_table l 16 n t)
+unfolding grown_table
+room-grown d l t n next = room-if d l t n next (nat_le n t.capacity) refl
+
+-- ---- the array, and then a text
+
+module _ (d : Directory) (l : LiveSet) (ps : List OwnedText) (t : Table) (bs : List ℕ) (next : Table → OwnedText → Plan) where
+  abbrev one_more_plan : Plan
+  one_more_plan = with_capacity 16 (capacity_for_one (length ps) t.capacity) t (λ u. with_owned_text bs (next u))
+
+  pub one-more-met : (u : Table) (q : OwnedText) → grown_table l 16 (capacity_for_one (length ps) t.capacity) t ≡ Some u → placed_text (with_array l t u) bs ≡ Some q
+      → perform d l one_more_plan ≡ perform d (with_text (with_array l t u) q) (next u q)
+  one-more-met u q g h =
+      room-grown d l t (capacity_for_one (length ps) t.capacity) (λ u. with_owned_text bs (next u))
+      ∙ ap (then_room d l t (λ u. with_owned_text bs (next u))) g
+      ∙ text-placed d (with_array l t u) bs (next u)
+      ∙ ap (then_text d (with_array l t u) (next u)) h
+
+  none-if : (r : Option Table) → elim r as (λ _. Option OwnedText) [ None ↦ None | Some u ↦ placed_text (with_array l t u) bs ] ≡ None
+      → then_room d l t (λ u. with_owned_text bs (next u)) r ≡ (Refused NoSpace, d)
+  none-if None h = refl
+  none-if (Some u) h = text-placed d (with_array l t u) bs (next u) ∙ ap (then_text d (with_array l t u) (next u)) h
+
+  pub one-more-unmet : one_more l ps t bs ≡ None → perform d l one_more_plan ≡ (Refused NoSpace, d)
+  one-more-unmet h =
+      room-grown d l t (capacity_for_one (length ps) t.capacity) (λ u. with_owned_text bs (next u))
+      ∙ none-if (grown_table l 16 (capacity_for_one (length ps) t.capacity) t) h
+
+-- ---- a new array, and then texts
+
+-- the live set beside an array
+abbrev pub beside_array : LiveSet → Table → LiveSet
+beside_array l u = elim u.extent as (λ _. LiveSet) [ None ↦ l | Some x ↦ resized l x ]
+
+module _ (d : Directory) (l : LiveSet) (bss : List (List ℕ)) (next : Table → List OwnedText → Plan) where
+  abbrev all_plan : Plan
+  all_plan = with_storage 16 (length bss) (λ u. with_owned_texts bss (next u))
+
+  pub all-met : (u : Table) (qs : List OwnedText) → new_array l (length bss) ≡ Some u → placed_texts (beside_array l u) bss ≡ Some qs
+      → perform d l all_plan ≡ perform d (beside_texts (beside_array l u) qs) (next u qs)
+  all-met u qs g h =
+      array-placed d l (length bss) (λ u. with_owned_texts bss (next u))
+      ∙ ap (then_array d l (λ u. with_owned_texts bss (next u))) g
+      ∙ texts-placed d (beside_array l u) bss (next u)
+      ∙ ap (then_texts d (beside_array l u) (next u)) h
+
+  all-none-if : (r : Option Table) → elim r as (λ _. Option (List OwnedText)) [ None ↦ None | Some u ↦ placed_texts (beside_array l u) bss ] ≡ None
+      → then_array d l (λ u. with_owned_texts bss (next u)) r ≡ (Refused NoSpace, d)
+  all-none-if None h = refl
+  all-none-if (Some u) h = texts-placed d (beside_array l u) bss (next u) ∙ ap (then_texts d (beside_array l u) (next u)) h
+
+  pub all-unmet : all_texts l bss ≡ None → perform d l all_plan ≡ (Refused NoSpace, d)
+  all-unmet h = array-placed d l (length bss) (λ u. with_owned_texts bss (next u)) ∙ all-none-if (new_array l (length bss)) h
+
+-- ---- the commands
+
+abbrev text_in : Option OwnedText → Result OwnedText Refusal
+text_in r = elim r as (λ _. Result OwnedText Refusal) [ None ↦ Err OutOfRange | Some p ↦ Ok p ]
+
+module _ (d : Directory) (key : Key) (o : Object) (ps : List OwnedText) (t : Table) (e : object_at d key ≡ Some o) (f : o.value ≡ Texts ps t) where
+  abbrev pub texts_after : List OwnedText → Table → Directory
+  texts_after qs u = changed d o (Texts qs u)
+
+  -- one text read
+  got : (i : ℕ) → effect d (asked.Get key i) ≡ with (text_in (slice_get ps i)) (λ p. Reply (TextElement p.bytes) d)
+  got i = with-found d key o (λ o. step.get d o.value i) e ∙ ap (λ v. step.get d v i) f
+
+  pub got-text : (i : ℕ) (q : OwnedText) → slice_get ps i ≡ Some q → effect d (asked.Get key i) ≡ Reply (TextElement q.bytes) d
+  got-text i q g = got i ∙ ap (λ r. with (text_in r) (λ p. Reply (TextElement p.bytes) d)) g
+
+  pub got-past : (i : ℕ) → slice_get ps i ≡ None → effect d (asked.Get key i) ≡ Refuse OutOfRange
+  got-past i g = got i ∙ ap (λ r. with (text_in r) (λ p. Reply (TextElement p.bytes) d)) g
+
+  -- another in the place of one
+  abbrev set_in : ℕ → List ℕ → Plan
+  set_in i bs = with_owned_text bs (λ q. Reply Done (texts_after (slice_set ps i q) t))
+
+  set-in : (i : ℕ) (bs : List ℕ) → effect d (asked.Set key i (asked.Quoted bs)) ≡ with (text_in (slice_get ps i)) (λ old. set_in i bs)
+  set-in i bs = with-found d key o (λ o. step.set d o o.value i (asked.Quoted bs)) e ∙ ap (λ v. step.set d o v i (asked.Quoted bs)) f
+
+  pub set-text : (i : ℕ) (bs : List ℕ) (old : OwnedText) → slice_get ps i ≡ Some old → effect d (asked.Set key i (asked.Quoted bs)) ≡ set_in i bs
+  set-text i bs old g = set-in i bs ∙ ap (λ r. with (text_in r) (λ old. set_in i bs)) g
+
+  pub set_text-past : (i : ℕ) (bs : List ℕ) → slice_get ps i ≡ None → effect d (asked.Set key i (asked.Quoted bs)) ≡ Refuse OutOfRange
+  set_text-past i bs g = set-in i bs ∙ ap (λ r. with (text_in r) (λ old. set_in i bs)) g
+
+  -- one more, behind the last or among the others
+  pub push-text : (bs : List ℕ) → effect d (asked.Push key (asked.Quoted bs))
+      ≡ with_capacity 16 (capacity_for_one (length ps) t.capacity) t (λ u. with_owned_text bs (λ q. Reply Done (texts_after (ps ++ q ∷ []) u)))
+  push-text bs = with-found d key o (λ o. step.push d o o.value (asked.Quoted bs)) e ∙ ap (λ v. step.push d o v (asked.Quoted bs)) f
+
+  abbrev insert_in : ℕ → List ℕ → Plan
+  insert_in i bs = with_capacity 16 (capacity_for_one (length ps) t.capacity) t (λ u. with_owned_text bs (λ q. Reply Done (texts_after (insert ps i q) u)))
+
+  insert-in : (i : ℕ) (bs : List ℕ) → effect d (asked.Insert key i (asked.Quoted bs)) ≡ (if nat_lt (length ps) i then Refuse OutOfRange else insert_in i bs)
+  insert-in i bs = with-found d key o (λ o. step.insert_at d o o.value i (asked.Quoted bs)) e ∙ ap (λ v. step.insert_at d o v i (asked.Quoted bs)) f
+
+  pub insert-text : (i : ℕ) (bs : List ℕ) → nat_lt (length ps) i ≡ false → effect d (asked.Insert key i (asked.Quoted bs)) ≡ insert_in i bs
+  insert-text i bs g = insert-in i bs ∙ ap (λ (b : Bool). if b then Refuse OutOfRange else insert_in i bs) g
+
+  pub insert_text-past : (i : ℕ) (bs : List ℕ) → nat_lt (length ps) i ≡ true → effect d (asked.Insert key i (asked.Quoted bs)) ≡ Refuse OutOfRange
+  insert_text-past i bs g = insert-in i bs ∙ ap (λ (b : Bool). if b then Refuse OutOfRange else insert_in i bs) g
+
+  -- one less
+  abbrev erase_in : ℕ → Plan
+  erase_in i = Reply Done (texts_after (remove ps i) t)
+
+  erase-in : (i : ℕ) → effect d (asked.Erase key i) ≡ with (text_in (slice_get ps i)) (λ q. erase_in i)
+  erase-in i = with-found d key o (λ o. step.erase d o o.value i) e ∙ ap (λ v. step.erase d o v i) f
+
+  pub erase-text : (i : ℕ) (q : OwnedText) → slice_get ps i ≡ Some q → effect d (asked.Erase key i) ≡ erase_in i
+  erase-text i q g = erase-in i ∙ ap (λ r. with (text_in r) (λ q. erase_in i)) g
+
+  pub erase_text-past : (i : ℕ) → slice_get ps i ≡ None → effect d (asked.Erase key i) ≡ Refuse OutOfRange
+  erase_text-past i g = erase-in i ∙ ap (λ r. with (text_in r) (λ q. erase_in i)) g
+
+  -- the last
+  abbrev pop_in : OwnedText → Plan
+  pop_in q = Reply (TextElement q.bytes) (texts_after (take (length ps - 1) ps) t)
+
+  pop-in : effect d (asked.Pop key) ≡ with (text_in (slice_get ps (length ps - 1))) pop_in
+  pop-in = with-found d key o (λ o. step.pop d o o.value) e ∙ ap (λ v. step.pop d o v) f
+
+  pub pop-text : (q : OwnedText) → slice_get ps (length ps - 1) ≡ Some q → effect d (asked.Pop key) ≡ pop_in q
+  pop-text q g = pop-in ∙ ap (λ r. with (text_in r) pop_in) g
+
+  pub pop_text-past : slice_get ps (length ps - 1) ≡ None → effect d (asked.Pop key) ≡ Refuse OutOfRange
+  pop_text-past g = pop-in ∙ ap (λ r. with (text_in r) pop_in) g
+
+  -- others in the place of all: none, and one or more
+  pub assign-none : effect d (asked.Assign key []) ≡ Reply Done (texts_after [] t)
+  assign-none = with-found d key o (λ o. step.assign d o o.value []) e ∙ ap (λ v. step.assign d o v []) f
+
+  abbrev assign_in : List (List ℕ) → Plan
+  assign_in bss = with_storage 16 (length bss) (λ u. with_owned_texts bss (λ qs. Reply Done (texts_after qs u)))
+
+  pub assign-some : (l : Literal) (ls : List Literal) (bss : List (List ℕ)) → texts_of (l ∷ ls) ≡ Ok bss → effect d (asked.Assign key (l ∷ ls)) ≡ assign_in bss
+  assign-some l ls bss g =
+      with-found d key o (λ o. step.assign d o o.value (l ∷ ls)) e ∙ ap (λ v. step.assign d o v (l ∷ ls)) f ∙ ap (λ r. with r assign_in) g
+
+  -- places
+  pub reserve-texts : (n : ℕ) → effect d (asked.Reserve key n) ≡ with_capacity 16 n t (λ u. Reply Done (texts_after ps u))
+  reserve-texts n =
+      reserve-plan d key o e n 16 (length ps) t (ap storage_of f) ∙ ap (λ v. with_capacity 16 n t (λ u. Reply Done (changed d o (with_table v u)))) f
+
+  pub shrink-texts : effect d (asked.Shrink key) ≡ Reply Done (texts_after ps (cut_table (live d) 16 (length ps) t))
+  shrink-texts =
+      shrink-plan d key o e 16 (length ps) t (ap storage_of f) ∙ ap (λ v. Reply Done (changed d o (with_table v (cut_table (live d) 16 (length ps) t)))) f
+
+  pub clear-texts : effect d (asked.Clear key) ≡ Reply Done (texts_after [] t)
+  clear-texts = clear-plan d key o e (16, length ps, t) (ap storage_of f) ∙ ap (λ v. Reply Done (changed d o (with_items v []))) f

@@ -1,0 +1,45 @@
+-- The head says which value the object has, and where it stands.
+use Rattle.segment_manager.proofs.Released.{held-object, no-map, number-contents, some-text, some-texts, some-vector, text-contents, texts-contents, vector-contents}
+use Rattle.std.proofs.Common.{◌∙◌, ap, ℕ, ◌+◌}
+use Rattle.segment_manager.specs.Directory.{padded}
+use Rattle.segment_manager.specs.Layout.{head_len}
+use Rattle.segment_manager.proofs.releasing.release_contents.Goals as goal
+
+pub read_head-head-requires : goal.read_head-head-requires
+read_head-head-requires c = held-object c.args.heap.now.bytes c.args.handle c.requires
+
+pub release-requires : goal.release-requires
+release-requires c =
+    some-text c.args.heap.now.bytes c.args.handle c.value_at.result c.read_head-head.result c.requires c.read_head-head.ensures
+    (c.value_at.ensures ∙ ap (λ (n : ℕ). head_len + padded n) c.from.ensures) c.in-Text.is
+
+pub release_elements-requires : goal.release_elements-requires
+release_elements-requires c =
+    some-vector c.args.heap.now.bytes c.args.handle c.value_at.result c.read_head-head.result c.requires c.read_head-head.ensures
+    (c.value_at.ensures ∙ ap (λ (n : ℕ). head_len + padded n) c.from.ensures) c.in-Vector.element c.in-Vector.is
+
+pub unreachable-requires : goal.unreachable-requires
+unreachable-requires c = no-map c.args.heap.now.bytes c.args.handle c.read_head-head.result c.requires c.read_head-head.ensures c.in-Map.field-0 c.in-Map.field-1 c.in-Map.is
+
+pub release-requires-in-Texts : goal.release-requires-in-Texts
+release-requires-in-Texts c =
+    some-texts c.args.heap.now.bytes c.args.handle c.value_at.result c.read_head-head.result c.requires c.read_head-head.ensures
+    (c.value_at.ensures ∙ ap (λ (n : ℕ). head_len + padded n) c.from.ensures) c.in-Texts.is
+
+pub returns-in-Scalar : goal.returns-in-Scalar
+returns-in-Scalar c = number-contents c.args.heap.now c.args.handle c.read_head-head.result c.read_head-head.ensures c.in-Scalar.field-0 c.in-Scalar.is
+
+pub returns-in-Text : goal.returns-in-Text
+returns-in-Text c =
+    text-contents c.args.heap.now c.release.new.heap c.args.handle c.value_at.result c.read_head-head.result c.read_head-head.ensures
+    (c.value_at.ensures ∙ ap (λ (n : ℕ). head_len + padded n) c.from.ensures) c.in-Text.is c.release.ensures
+
+pub returns-in-Vector : goal.returns-in-Vector
+returns-in-Vector c =
+    vector-contents c.args.heap.now c.release_elements.new.heap c.args.handle c.value_at.result c.read_head-head.result c.read_head-head.ensures
+    (c.value_at.ensures ∙ ap (λ (n : ℕ). head_len + padded n) c.from.ensures) c.in-Vector.element c.in-Vector.is c.release_elements.ensures
+
+pub returns-in-Texts : goal.returns-in-Texts
+returns-in-Texts c =
+    texts-contents c.args.heap.now c.release-in-Texts.new.heap c.args.handle c.value_at.result c.read_head-head.result c.read_head-head.ensures
+    (c.value_at.ensures ∙ ap (λ (n : ℕ). head_len + padded n) c.from.ensures) c.in-Texts.is c.release-in-Texts.ensures

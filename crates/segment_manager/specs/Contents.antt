@@ -1,0 +1,136 @@
+-- Vectors of numbers and texts: what the two have in common as values of objects, and where they stand.
+use Rattle.std.specs.Prelude.{◌≡◌, ℕ, ◌+◌, ℤ, Bool, true, Option, Some, None, Result, Ok, Err, List, length, option_to_list, nat_lt, if◌then◌else◌, IsTrue}
+use Rattle.std.specs.List.{list_all}
+use Rattle.raw_region.specs.Format.{current}
+use Rattle.raw_region.specs.Memory.{Cut}
+use Rattle.best_fit.specs.Exchange.{IsExchanged}
+use Rattle.best_fit.specs.Extents.{handle}
+use Rattle.best_fit.specs.Heap.{live_of}
+use Rattle.best_fit.specs.Table.{Table}
+use Rattle.seg_types.specs.declared.kinds.Kind.{Kind}
+use Rattle.seg_types.specs.declared.kinds.ScalarKind.{ScalarKind}
+use Rattle.seg_types.specs.declared.refusals.Refusal.{Refusal}
+use Rattle.seg_types.specs.declared.refusals.Refusal.TheVariants.{NotFound, WrongKind}
+use Rattle.seg_types.specs.Kinds.{is_value, same_kind, size_of}
+use Rattle.seg_types.specs.Names.{Key}
+use Rattle.seg_vector.specs.declared.places.Place.{Place}
+use Rattle.seg_vector.specs.Standing.{Stands, place_at}
+use Rattle.seg_vector.specs.Vector.{grown_table, spelled}
+use Rattle.segment_manager.specs.Directory.{Value, Numbers, Elements, Bytes, Pairs, Texts, Object, Directory, kind_of, object_at, padded}
+use Rattle.segment_manager.specs.Layout.{head_len}
+
+-- the bytes of an element, how many elements there are, their storage, and the bytes that spell them
+pub record Contents : Type 0 where
+  pub each : ℕ
+  pub len : ℕ
+  pub table : Table
+  pub bytes : List ℕ
+
+-- those of a value that is a vector of numbers or a text
+abbrev pub contents_of : Value → Option Contents
+contents_of (Numbers k zs) = None
+contents_of (Elements k zs t) = Some (record { each = size_of k; len = length zs; table = t; bytes = spelled k zs })
+contents_of (Bytes bs t) = Some (record { each = 1; len = length bs; table = t; bytes = bs })
+contents_of (Pairs k v ps) = None
+contents_of (Texts ps t) = None
+
+abbrev pub are_bytes : List ℕ → Bool
+are_bytes = list_all (λ b. nat_lt b 256)
+
+-- each element is a value of its kind
+abbrev pub has_values : Value → Bool
+has_values (Numbers k zs) = true
+has_values (Elements k zs t) = list_all (is_value k) zs
+has_values (Bytes bs t) = are_bytes bs
+has_values (Pairs k v ps) = true
+has_values (Texts ps t) = true
+
+-- where the three words stand of an object that is a container
+abbrev pub container_place : Object → Place
+container_place o = record { handle = handle o.extent; at = head_len + padded (length o.name) }
+
+-- the same, if the object is of the kind
+abbrev pub place_of_kind : Object → Kind → Result Place Refusal
+place_of_kind o kind = if same_kind kind (kind_of o.value) then Ok (container_place o) else Err WrongKind
+
+-- the same for the object of a key
+abbrev pub container_at : Directory → Key → Kind → Result Place Refusal
+container_at d key kind = elim (object_at d key) [
+  | None ↦ Err NotFound
+  | Some o ↦ if same_kind kind (kind_of o.value) then Ok (container_place o) else Err WrongKind
+]
+
+-- the bytes of a text
+abbrev pub text_bytes : Value → Result (List ℕ) Refusal
+text_bytes (Numbers k zs) = Err WrongKind
+text_bytes (Elements k zs t) = Err WrongKind
+text_bytes (Bytes bs t) = Ok bs
+text_bytes (Pairs k v ps) = Err WrongKind
+text_bytes (Texts ps t) = Err WrongKind
+
+-- the same for the object of a key
+abbrev pub bytes_at : Directory → Key → Result (List ℕ) Refusal
+bytes_at d key = elim (object_at d key) [ None ↦ Err NotFound | Some o ↦ text_bytes o.value ]
+
+-- how many elements a container has, and how many places
+abbrev pub sizes_of : Value → Result (ℕ × ℕ) Refusal
+sizes_of (Numbers k zs) = Err WrongKind
+sizes_of (Elements k zs t) = Ok (length zs, t.capacity)
+sizes_of (Bytes bs t) = Ok (length bs, t.capacity)
+sizes_of (Pairs k v ps) = Err WrongKind
+sizes_of (Texts ps t) = Ok (length ps, t.capacity)
+
+-- the same for the object of a key, of whatever kind, and if it is of a kind
+abbrev pub sizes_at : Directory → Key → Result (ℕ × ℕ) Refusal
+sizes_at d key = elim (object_at d key) [ None ↦ Err NotFound | Some o ↦ sizes_of o.value ]
+
+abbrev pub sizes_of_kind : Object → Kind → Result (ℕ × ℕ) Refusal
+sizes_of_kind o kind = if same_kind kind (kind_of o.value) then sizes_of o.value else Err WrongKind
+
+abbrev pub sizes_at_kind : Directory → Key → Kind → Result (ℕ × ℕ) Refusal
+sizes_at_kind d key kind = elim (object_at d key) [ None ↦ Err NotFound | Some o ↦ sizes_of_kind o kind ]
+
+-- The contents of a container are others. Of all blocks that stay no byte changes but its own 24.
+pub record IsRefilled (old new : Cut) (p : Place) (was is : Contents) : Type 0 where
+  pub change : IsExchanged current old new (place_at p) 24 (option_to_list was.table.extent) (option_to_list is.table.extent)
+  pub stands : Stands new.bytes p is.each is.len is.table is.bytes
+
+-- ---- numbers of a kind
+
+-- a vector at a place has these numbers
+pub record IsNumbers (k : ScalarKind) (b : List ℕ) (p : Place) (zs : List ℤ) (t : Table) : Type 0 where
+  pub stands : Stands b p (size_of k) (length zs) t (spelled k zs)
+  pub values : IsTrue (list_all (is_value k) zs)
+
+-- the vector with these numbers and the table u is in the place of one with the table t
+pub record IsNumbersNow (k : ScalarKind) (old new : Cut) (p : Place) (t : Table) (zs : List ℤ) (u : Table) : Type 0 where
+  pub change : IsExchanged current old new (place_at p) 24 (option_to_list t.extent) (option_to_list u.extent)
+  pub vector : IsNumbers k new.bytes p zs u
+
+-- it has n places, or more
+pub record IsNumbersGrown (k : ScalarKind) (old new : Cut) (p : Place) (t : Table) (n : ℕ) (zs : List ℤ) : Type 0 where
+  pub table : Table
+  pub grown : grown_table (live_of old.bytes) (size_of k) n t ≡ Some table
+  pub now : IsNumbersNow k old new p t zs table
+
+-- ---- bytes
+
+-- a text at a place has these bytes
+pub record IsBytes (b : List ℕ) (p : Place) (bs : List ℕ) (t : Table) : Type 0 where
+  pub stands : Stands b p 1 (length bs) t bs
+  pub values : IsTrue (are_bytes bs)
+
+-- the text with these bytes and the table u is in the place of one with the table t
+pub record IsBytesNow (old new : Cut) (p : Place) (t : Table) (bs : List ℕ) (u : Table) : Type 0 where
+  pub change : IsExchanged current old new (place_at p) 24 (option_to_list t.extent) (option_to_list u.extent)
+  pub text : IsBytes new.bytes p bs u
+
+-- it has n places, or more
+pub record IsBytesGrown (old new : Cut) (p : Place) (t : Table) (n : ℕ) (bs : List ℕ) : Type 0 where
+  pub table : Table
+  pub grown : grown_table (live_of old.bytes) 1 n t ≡ Some table
+  pub now : IsBytesNow old new p t bs table
+
+-- in either: there is no space for n places of so many bytes
+abbrev pub HasNoRoom : List ℕ → ℕ → ℕ → Table → Type 0
+HasNoRoom b each n t = grown_table (live_of b) each n t ≡ None

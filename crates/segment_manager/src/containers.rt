@@ -1,0 +1,49 @@
+//! The containers of objects: where each stands in its object's block.
+ghost use Rattle.std.specs.Prelude.{◌≡◌};
+ghost use Rattle.seg_types.specs.Keys.{key_seen};
+ghost use Rattle.segment_manager.specs.Contents.{container_at, place_of_kind};
+ghost use Rattle.segment_manager.specs.Directory.{Object};
+ghost use Rattle.segment_manager.specs.Standing.{HasObject, StandsAt};
+ghost use Rattle.segment_manager.specs.State.{Answers};
+
+use crate::head::read_head;
+use crate::layout::value_at;
+use crate::segment::Segment;
+use best_fit::Heap;
+use seg_types::{Key, Kind, Refusal};
+use seg_vector::Place;
+
+impl Segment {
+    /// Where the container stands of the object of a key, an object of the kind.
+    ///
+    /// # Errors
+    ///
+    /// `NotFound` where no object has the key, `WrongKind` where it is of another kind.
+    pub(crate) fn find_container(&self, key: &Key, kind: Kind) -> Result<Place, Refusal>
+        ensures { Answers self.now (λ d. container_at d (key_seen key.now) kind) result }
+    {
+        match self.handle_of(key) {
+            None => Err(Refusal::NotFound),
+            Some(handle) => container_in(&self.heap, handle, kind),
+        }
+    }
+}
+
+/// Where the container stands in the block of an object of a kind.
+///
+/// # Errors
+///
+/// `WrongKind` where the object is of another kind.
+pub(crate) fn container_in(heap: &Heap, handle: u64, kind: Kind) -> Result<Place, Refusal>
+    requires { HasObject heap.now.bytes handle }
+    ensures { (o : Object) → StandsAt heap.now.bytes handle o → result ≡ place_of_kind o kind }
+{
+    let head = read_head(heap, handle);
+    if head.kind.code() != kind.code() {
+        return Err(Refusal::WrongKind);
+    }
+    Ok(Place {
+        handle,
+        at: value_at(u64::from(head.name_len)),
+    })
+}

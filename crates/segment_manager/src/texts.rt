@@ -1,0 +1,87 @@
+//! The bytes of objects that are strings, read and changed.
+ghost use Rattle.std.specs.Prelude.{◌≡◌, Ok, Err, MatchResult, [], ◌∷◌, OnErr, pos};
+ghost use Rattle.seg_types.specs.declared.kinds.Kind.TheVariants.{Text as TextKind};
+ghost use Rattle.seg_types.specs.declared.kinds.ScalarKind.TheVariants.{U8 as ByteKind};
+ghost use Rattle.seg_types.specs.Commands.{Append, Assign, Quoted, Set, literal_of};
+ghost use Rattle.seg_types.specs.Keys.{key_seen};
+ghost use Rattle.segment_manager.specs.Contents.{bytes_at};
+ghost use Rattle.segment_manager.specs.State.{Answers, IsStepOfKind, done_answer};
+
+use crate::segment::Segment;
+use seg_types::{Key, Kind, Refusal};
+use seg_vector::SegString;
+
+impl Segment {
+    /// The bytes of the string of a key.
+    ///
+    /// # Errors
+    ///
+    /// `NotFound` where no object has the key, `WrongKind` where it is no string.
+    pub fn string_bytes(&self, key: &Key) -> Result<&[u8], Refusal>
+        ensures { MatchResult result (λ bytes. Answers self.now (λ d. bytes_at d (key_seen key.now)) (Ok bytes.now))
+            (λ why. Answers self.now (λ d. bytes_at d (key_seen key.now)) (Err why)) }
+    {
+        match self.find_container(key, Kind::Text) {
+            Err(why) => Err(why),
+            Ok(place) => Ok(SegString { place }.as_bytes(&self.heap)),
+        }
+    }
+
+    /// Makes a byte the one at `index` in the string of a key.
+    ///
+    /// # Errors
+    ///
+    /// `ReadOnly` where the segment is open for reading, and else `NotFound` where no object has the key, `WrongKind` where it
+    /// is no string, `OutOfRange` where it has no byte there. Nothing changes.
+    pub fn string_set(&mut self, key: &Key, index: u64, byte: u8) -> Result<(), Refusal>
+        ensures step { IsStepOfKind self.old self.new (key_seen key.now) TextKind (Set (key_seen key.now) index (literal_of ByteKind (pos byte))) (done_answer result) }
+        ensures refused { OnErr result (self.new ≡ self.old) }
+    {
+        if self.is_read_only() {
+            return Err(Refusal::ReadOnly);
+        }
+        match self.find_container(key, Kind::Text) {
+            Err(why) => Err(why),
+            Ok(place) => SegString { place }.set(&mut self.heap, index, byte),
+        }
+    }
+
+    /// Puts bytes behind those of the string of a key. Where they do not fit, it gets twice its places first, at least 16, and
+    /// as many as are needed.
+    ///
+    /// # Errors
+    ///
+    /// `ReadOnly` where the segment is open for reading, and else `NotFound` where no object has the key, `WrongKind` where it
+    /// is no string, `NoSpace` where its storage cannot be regrown. Nothing changes.
+    pub fn string_append(&mut self, key: &Key, bytes: &[u8]) -> Result<(), Refusal>
+        ensures step { IsStepOfKind self.old self.new (key_seen key.now) TextKind (Append (key_seen key.now) bytes.now) (done_answer result) }
+        ensures refused { OnErr result (self.new ≡ self.old) }
+    {
+        if self.is_read_only() {
+            return Err(Refusal::ReadOnly);
+        }
+        match self.find_container(key, Kind::Text) {
+            Err(why) => Err(why),
+            Ok(place) => SegString { place }.append(&mut self.heap, bytes),
+        }
+    }
+
+    /// Makes bytes those of the string of a key. Where they do not fit, it gets as many places as are needed.
+    ///
+    /// # Errors
+    ///
+    /// `ReadOnly` where the segment is open for reading, and else `NotFound` where no object has the key, `WrongKind` where it
+    /// is no string, `NoSpace` where its storage cannot be regrown. Nothing changes.
+    pub fn string_assign(&mut self, key: &Key, bytes: &[u8]) -> Result<(), Refusal>
+        ensures step { IsStepOfKind self.old self.new (key_seen key.now) TextKind (Assign (key_seen key.now) (Quoted bytes.now ∷ [])) (done_answer result) }
+        ensures refused { OnErr result (self.new ≡ self.old) }
+    {
+        if self.is_read_only() {
+            return Err(Refusal::ReadOnly);
+        }
+        match self.find_container(key, Kind::Text) {
+            Err(why) => Err(why),
+            Ok(place) => SegString { place }.assign(&mut self.heap, bytes),
+        }
+    }
+}

@@ -1,0 +1,168 @@
+//! The elements of objects that are vectors of scalars, read and changed.
+ghost use Rattle.std.specs.Prelude.{◌≡◌, IsTrue, OnErr, map, true};
+ghost use Rattle.std.specs.List.{list_all};
+ghost use Rattle.seg_types.specs.declared.kinds.Kind.TheVariants.{Vector as VectorOf};
+ghost use Rattle.seg_types.specs.Commands.{Assign, Erase, Get, Insert, Pop, Push, Set, literal_of};
+ghost use Rattle.seg_types.specs.Keys.{key_seen};
+ghost use Rattle.segment_manager.specs.Answers.{Element};
+ghost use Rattle.segment_manager.specs.State.{IsReplyOfKind, IsStepOfKind, answer_of, done_answer};
+
+use crate::segment::Segment;
+use seg_types::{Key, Kind, Refusal, Scalar};
+use seg_vector::SegVec;
+
+impl Segment {
+    /// The element at `index` in the vector of a key, a vector of the type.
+    ///
+    /// # Errors
+    ///
+    /// `NotFound` where no object has the key, `WrongKind` where it is of another kind, `OutOfRange` where it has no element
+    /// there.
+    pub fn vec_get<T: Scalar>(&self, key: &Key, index: u64) -> Result<T, Refusal>
+        ensures { IsReplyOfKind self.now (key_seen key.now) (VectorOf T.kind) (Get (key_seen key.now) index) (answer_of (λ x. Element T.kind (T.whole x)) result) }
+    {
+        match self.find_container(key, Kind::Vector(T::kind())) {
+            Err(why) => Err(why),
+            Ok(place) => SegVec::<T>::at(place).get(&self.heap, index),
+        }
+    }
+
+    /// Makes a value the element at `index` in the vector of a key, a vector of the type.
+    ///
+    /// # Errors
+    ///
+    /// `ReadOnly` where the segment is open for reading, and else `NotFound` where no object has the key, `WrongKind` where it
+    /// is of another kind, `OutOfRange` where it has no element there. Nothing changes.
+    pub fn vec_set<T: Scalar>(&mut self, key: &Key, index: u64, value: T) -> Result<(), Refusal>
+        ensures step { IsStepOfKind self.old self.new (key_seen key.now) (VectorOf T.kind) (Set (key_seen key.now) index (literal_of T.kind (T.whole value))) (done_answer result) }
+        ensures refused { OnErr result (self.new ≡ self.old) }
+    {
+        if self.is_read_only() {
+            return Err(Refusal::ReadOnly);
+        }
+        judge(value);
+        match self.find_container(key, Kind::Vector(T::kind())) {
+            Err(why) => Err(why),
+            Ok(place) => SegVec::<T>::at(place).set(&mut self.heap, index, value),
+        }
+    }
+
+    /// Puts a value behind the last element of the vector of a key, a vector of the type. A full vector gets twice its places
+    /// first, and at least 4.
+    ///
+    /// # Errors
+    ///
+    /// `ReadOnly` where the segment is open for reading, and else `NotFound` where no object has the key, `WrongKind` where it
+    /// is of another kind, `NoSpace` where it is full and its storage cannot be regrown. Nothing changes.
+    pub fn vec_push<T: Scalar>(&mut self, key: &Key, value: T) -> Result<(), Refusal>
+        ensures step { IsStepOfKind self.old self.new (key_seen key.now) (VectorOf T.kind) (Push (key_seen key.now) (literal_of T.kind (T.whole value))) (done_answer result) }
+        ensures refused { OnErr result (self.new ≡ self.old) }
+    {
+        if self.is_read_only() {
+            return Err(Refusal::ReadOnly);
+        }
+        judge(value);
+        match self.find_container(key, Kind::Vector(T::kind())) {
+            Err(why) => Err(why),
+            Ok(place) => SegVec::<T>::at(place).push(&mut self.heap, value),
+        }
+    }
+
+    /// Makes values the elements of the vector of a key, a vector of the type. Where they do not fit, it gets as many places as
+    /// are needed.
+    ///
+    /// # Errors
+    ///
+    /// `ReadOnly` where the segment is open for reading, and else `NotFound` where no object has the key, `WrongKind` where it
+    /// is of another kind, `NoSpace` where its storage cannot be regrown. Nothing changes.
+    pub fn vec_assign<T: Scalar>(&mut self, key: &Key, values: &[T]) -> Result<(), Refusal>
+        ensures step { IsStepOfKind self.old self.new (key_seen key.now) (VectorOf T.kind) (Assign (key_seen key.now) (map (literal_of T.kind) (map T.whole values.now))) (done_answer result) }
+        ensures refused { OnErr result (self.new ≡ self.old) }
+    {
+        if self.is_read_only() {
+            return Err(Refusal::ReadOnly);
+        }
+        judge_all(values);
+        match self.find_container(key, Kind::Vector(T::kind())) {
+            Err(why) => Err(why),
+            Ok(place) => SegVec::<T>::at(place).assign(&mut self.heap, values),
+        }
+    }
+
+    /// Takes the last element out of the vector of a key, a vector of the type. The places stay.
+    ///
+    /// # Errors
+    ///
+    /// `ReadOnly` where the segment is open for reading, and else `NotFound` where no object has the key, `WrongKind` where it
+    /// is of another kind, `OutOfRange` where it is empty. Nothing changes.
+    pub fn vec_pop<T: Scalar>(&mut self, key: &Key) -> Result<T, Refusal>
+        ensures step { IsStepOfKind self.old self.new (key_seen key.now) (VectorOf T.kind) (Pop (key_seen key.now)) (answer_of (λ x. Element T.kind (T.whole x)) result) }
+        ensures refused { OnErr result (self.new ≡ self.old) }
+    {
+        if self.is_read_only() {
+            return Err(Refusal::ReadOnly);
+        }
+        match self.find_container(key, Kind::Vector(T::kind())) {
+            Err(why) => Err(why),
+            Ok(place) => SegVec::<T>::at(place).pop(&mut self.heap),
+        }
+    }
+
+    /// Puts a value where `index` others stand before it in the vector of a key, a vector of the type. Those from there on move
+    /// up. A full vector gets twice its places first, and at least 4.
+    ///
+    /// # Errors
+    ///
+    /// `ReadOnly` where the segment is open for reading, and else `NotFound` where no object has the key, `WrongKind` where it
+    /// is of another kind, `OutOfRange` where there are not so many others, `NoSpace` where it is full and its storage cannot be
+    /// regrown. Nothing changes.
+    pub fn vec_insert<T: Scalar>(&mut self, key: &Key, index: u64, value: T) -> Result<(), Refusal>
+        ensures step { IsStepOfKind self.old self.new (key_seen key.now) (VectorOf T.kind) (Insert (key_seen key.now) index (literal_of T.kind (T.whole value))) (done_answer result) }
+        ensures refused { OnErr result (self.new ≡ self.old) }
+    {
+        if self.is_read_only() {
+            return Err(Refusal::ReadOnly);
+        }
+        judge(value);
+        match self.find_container(key, Kind::Vector(T::kind())) {
+            Err(why) => Err(why),
+            Ok(place) => SegVec::<T>::at(place).insert(&mut self.heap, index, value),
+        }
+    }
+
+    /// Leaves out the element at `index` in the vector of a key, a vector of the type. Those behind it move down, and the places
+    /// stay.
+    ///
+    /// # Errors
+    ///
+    /// `ReadOnly` where the segment is open for reading, and else `NotFound` where no object has the key, `WrongKind` where it
+    /// is of another kind, `OutOfRange` where it has no element there. Nothing changes.
+    pub fn vec_erase<T: Scalar>(&mut self, key: &Key, index: u64) -> Result<(), Refusal>
+        ensures step { IsStepOfKind self.old self.new (key_seen key.now) (VectorOf T.kind) (Erase (key_seen key.now) index) (done_answer result) }
+        ensures refused { OnErr result (self.new ≡ self.old) }
+    {
+        if self.is_read_only() {
+            return Err(Refusal::ReadOnly);
+        }
+        match self.find_container(key, Kind::Vector(T::kind())) {
+            Err(why) => Err(why),
+            Ok(place) => SegVec::<T>::at(place).erase(&mut self.heap, index),
+        }
+    }
+}
+
+/// Says that a value is one, which no call on a vector says where it is refused. An order knows it of what it compares.
+fn judge<T: Scalar>(value: T)
+    ensures { T.is_value value ≡ true }
+{
+    let _ = value.precedes(value);
+}
+
+/// The same of each of some.
+fn judge_all<T: Scalar>(values: &[T])
+    ensures { IsTrue (list_all T.is_value values.now) }
+{
+    for value in values {
+        judge(*value);
+    }
+}

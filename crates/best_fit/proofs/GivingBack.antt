@@ -126,26 +126,27 @@ module _ (w : Cut) (at : ℕ) (heap : IsHeap current w.bytes) (b : Block w (at +
   pub first_tree : HasTree w ((init ++ last) ++ (first ++ tail))
   first_tree = subst (λ (hs : List Gap). HasTree w hs) all_gaps (heap_tree w heap)
 
-  -- the gap behind has left the tree, after this many touches
-  pub record HalfUprooted (d : Cut) (count : ℕ) : Type 0 where
+  -- the gap behind has left the tree, after so many touches from so many on
+  pub record HalfUprooted (d : Cut) (start count : ℕ) : Type 0 where
     pub tree : HasTree d (init ++ (last ++ tail))
     pub rest : Regrown w d
-    pub steps : count ≤ 32 * bits (length (gaps_in w) + 1) + 34
+    pub steps : count ≤ start + 32 * bits (length (gaps_in w) + 1) + 34
 
-  pub half_uprooted : (d : Cut) (n count : ℕ) → HasTree d ((init ++ last) ++ tail) → Regrown w d → n ≤ 2 → count ≤ n + 32 * bits (length ((init ++ last) ++ (first ++ tail)) + 1) + 32 → HalfUprooted d count
-  half_uprooted d n count tree rest low high =
+  pub half_uprooted : (d : Cut) (start n count : ℕ) → HasTree d ((init ++ last) ++ tail) → Regrown w d → n ≤ start + 2 → count ≤ n + 32 * bits (length ((init ++ last) ++ (first ++ tail)) + 1) + 32
+      → HalfUprooted d start count
+  half_uprooted d start n count tree rest low high =
       let few = first_tree.some.few in
       let b1 = bits-le (length ((init ++ last) ++ (first ++ tail)) + 1) (length (gaps_in w) + 1) (omega arith) in
       record { tree = subst (λ (hs : List Gap). HasTree d hs) (append_assoc init last tail) tree; rest = rest; steps = omega arith }
 
   -- and so has the gap before
-  pub record Uprooted (d : Cut) (count : ℕ) : Type 0 where
+  pub record Uprooted (d : Cut) (start count : ℕ) : Type 0 where
     pub tree : HasTree d (init ++ tail)
     pub rest : Regrown w d
-    pub steps : count ≤ 64 * bits (length (gaps_in w) + 1) + 66
+    pub steps : count ≤ start + 64 * bits (length (gaps_in w) + 1) + 66
 
-  pub uprooted : (d1 d : Cut) (n count : ℕ) → HalfUprooted d1 n → HasTree d (init ++ tail) → Regrown d1 d → count ≤ n + 32 * bits (length (init ++ (last ++ tail)) + 1) + 32 → Uprooted d count
-  uprooted d1 d n count half tree rest high =
+  pub uprooted : (d1 d : Cut) (start n count : ℕ) → HalfUprooted d1 start n → HasTree d (init ++ tail) → Regrown d1 d → count ≤ n + 32 * bits (length (init ++ (last ++ tail)) + 1) + 32 → Uprooted d start count
+  uprooted d1 d start n count half tree rest high =
       let few = half.tree.some.few in let low = half.steps in
       let same : length (gaps_in d1) ≡ length (gaps_in w) = ap (λ (hs : List Gap). length hs) (same_gaps (tiles_in w) (tiles_in d1) half.rest.tiles) in
       let b2 = bits-le (length (init ++ (last ++ tail)) + 1) (length (gaps_in w) + 1) (omega arith) in

@@ -17,7 +17,7 @@ pub use Rattle.best_fit.proofs.Proper.{others-here, others-past, proper_from-hol
 -- what stays twice stays, and what of it is kept with a block less
 pub use Rattle.best_fit.proofs.Frames.{AllByRecursion-beside, IsBeside, SameBlock-trans, blocks-trans, keeps-insert, keeps-others, keeps-refl, keeps-trans}
 -- a block that was placed is live, with room for what was asked for, and so are those before it; and still where payloads change
-pub use Rattle.best_fit.proofs.Allocated.{allocated-is_live, allocated-live, allocated-room, allocated-room_before, changed-keeps, changed-keeps_block, changed-live, changed-room, holds-fewer, is_red-payload, names-has_room, released-live, resized-live, still_allocated, still_allocated-block}
+pub use Rattle.best_fit.proofs.Allocated.{changed-header_blocks, allocated-is_live, allocated-live, allocated-room, allocated-room_before, changed-keeps, changed-keeps_block, changed-live, changed-room, holds-fewer, is_red-payload, names-has_room, released-live, resized-live, still_allocated, still_allocated-block}
 -- a tile is free or in use, and what the gaps and the live set of tiles are then
 pub use Rattle.best_fit.proofs.Rows.{Fill-Row, free-unused, gaps_of-append, gaps_of-free, gaps_of-used, span_between-none, span_between-some, spans_from-row, unused, use_cases, used}
 unfoldable pub use Rattle.best_fit.proofs.Rows.{Row, extents_of}
@@ -52,3 +52,7 @@ pub use Rattle.best_fit.proofs.Exchanges.{IsRoomy, all-same-but, but-trans, exch
 pub use Rattle.best_fit.proofs.Exchanging.{AreInUse, IsFound, IsNone, SameSpread, all-found-in, all-in-use, back-again, but-apart, exchange-next, exchange-order, exchange-released, exchange-resized, exchange-same, exchange-taken, exchange-wide, exchange-written, exchanged-live, exchanged-twice, found-inserted, found-none, found-without, inserted-append, kept, kept-beside, kept-but, kept-found, last-first, middle-first, rest-rises, rising-others, spread-before, spread-behind, spread-refl, spread-trans, two-apart}
 -- a block that is lengthened where it stands, and how that is undone
 pub use Rattle.best_fit.proofs.Undone.{not-wide, taken-back, wide-longer, wide-same, widened-back}
+-- the end of a window moves, and then bytes of it change
+pub use Rattle.best_fit.proofs.Carrying.{ends-then}
+-- a change of header words lays out the same live set
+pub use Rattle.best_fit.proofs.Writes.{header_changed}

@@ -1,6 +1,7 @@
 mod Allocated
 mod Allocating
 mod Around
+mod BesideGaps
 mod Changes
 mod Cuts
 mod Frames
@@ -22,8 +23,10 @@ mod NodesStay
 mod Order
 mod Payloads
 mod Placed
+mod Planted
 mod Placing
 mod Proper
+mod Rebuilt
 mod Recolours
 mod Recutting
 mod Regrowths
@@ -35,6 +38,7 @@ mod Rows
 mod Steps
 mod Sums
 mod Takes
+mod Turns
 mod TwoLent
 mod Uprooting
 mod Walks
@@ -46,3 +50,7 @@ mod Spacing
 mod Exchanges
 mod Exchanging
 mod Undone
+mod Carrying
+mod Appended
+mod Dropped
+mod LastGap

@@ -43,7 +43,7 @@ regrown_live c d r = let e = same_extents (tiles_in c) (tiles_in d) r.tiles in �
 -- ---- the blocks stay
 
 -- a tile in use is as it was
-plain_used : (t : Tile) → is_free t ≡ false → plain t ≡ t
+pub plain_used : (t : Tile) → is_free t ≡ false → plain t ≡ t
 plain_used t e = let red : (not (is_free t) && t.red) ≡ t.red = ap (λ (b : Bool). not b && t.red) e in λ i. record t { red = red i }
 
 in_plain : (t : Tile) (ts : List Tile) → In t ts → In (plain t) (map plain ts)
@@ -120,13 +120,13 @@ pub record SplitsAlike (us front : List Tile) (t : Tile) (back : List Tile) : Ty
   pub tiles : plain tile' ≡ plain t
   pub backs : map plain back' ≡ map plain back
 
-empty_not : (x : Tile) (xs : List Tile) → [] ≡ x ∷ xs → ⊥
+pub empty_not : (x : Tile) (xs : List Tile) → [] ≡ x ∷ xs → ⊥
 empty_not x xs e = let ys : List Tile = [] in let f : ys ≡ x ∷ xs = e in cc
 
-head_same : (x y : Tile) (xs ys : List Tile) → x ∷ xs ≡ y ∷ ys → x ≡ y
+pub head_same : (x y : Tile) (xs ys : List Tile) → x ∷ xs ≡ y ∷ ys → x ≡ y
 head_same x y xs ys e = cc
 
-tail_same : (x y : Tile) (xs ys : List Tile) → x ∷ xs ≡ y ∷ ys → xs ≡ ys
+pub tail_same : (x y : Tile) (xs ys : List Tile) → x ∷ xs ≡ y ∷ ys → xs ≡ ys
 tail_same x y xs ys e = cc
 
 pub splits_alike : (us front : List Tile) (t : Tile) (back : List Tile) → map plain us ≡ map plain (front ++ (t ∷ back)) → SplitsAlike us front t back

@@ -222,15 +222,10 @@ module _ (c a b : Cut) (xs : List Gap) (g : Gap) (ys : List Gap) (node : ℕ) (i
 
 -- ---- put in
 
-module _ (c b d e : Cut) (xs : List Gap) (g : Gap) (ys : List Gap) (node : ℕ) (is : node ≡ node_of g) (l : LacksOne c xs g ys) (h : HasTree b (xs ++ ys)) (cleared : kept_of b ≡ kept_of c) where
-  gaps_c : gaps_in b ≡ xs ++ (g ∷ ys)
-  gaps_c = kept_gaps c b cleared ∙ l.gaps
-
-  whole : AreSome (gaps_in b) (xs ++ (g ∷ ys))
-  whole = subst (λ (hs : List Gap). AreSome (gaps_in b) hs) gaps_c (all_gaps b (said_of b (is_good-Good b h.good)))
-
-  pub put_place : has_place (comes_before (gaps_in b)) node (nodes_of h.tree.tree) ≡ true
-  put_place =
+-- a gap is put into a tree of some others
+module _ (b d e : Cut) (xs : List Gap) (g : Gap) (ys : List Gap) (node : ℕ) (is : node ≡ node_of g) (whole : AreSome (gaps_in b) (xs ++ (g ∷ ys))) (h : HasTree b (xs ++ ys)) where
+  pub grown_place : has_place (comes_before (gaps_in b)) node (nodes_of h.tree.tree) ≡ true
+  grown_place =
       subst (λ (ns : List ℕ). has_place (comes_before (gaps_in b)) node ns ≡ true) (sym h.tree.lists)
       (subst (λ k. has_place (comes_before (gaps_in b)) k (payloads (sorted_gaps (xs ++ ys))) ≡ true) (sym is)
       (place_sorted (gaps_in b) g (xs ++ ys) (fits_one (gaps_in b) xs g ys whole.fits) h.some.fits (none_round 0 xs g ys whole.rises)))
@@ -247,14 +242,33 @@ module _ (c b d e : Cut) (xs : List Gap) (g : Gap) (ys : List Gap) (node : ℕ) 
       → (grown : Tree) × IsSearchTree (comes_before (gaps_in d)) (gap_cells d) root grown × (nodes_of grown ≡ put (comes_before (gaps_in b)) node (nodes_of t)))
       (node_there : is_gap_node b node ≡ true) (nodes : is_gap_node d ≡ is_gap_node b) (kept : kept_of d ≡ kept_of b)
       (leads_to : link_at (bytes_of e.bytes) 24 ≡ root) (size : length e.bytes ≡ length d.bytes) (same : SameBut (bytes_of d.bytes) (bytes_of e.bytes) 24 8) where
-    pub put_good : Good d
-    put_good = good_of d node (ap (λ (p : ℕ → Bool). p node) nodes ∙ node_there)
+    grown_good : Good d
+    grown_good = good_of d node (ap (λ (p : ℕ → Bool). p node) nodes ∙ node_there)
 
-    pub put_tree : HasTree e (xs ++ (g ∷ ys))
-    put_tree =
+    pub grown_tree : HasTree e (xs ++ (g ∷ ys))
+    grown_tree =
         let s = grows h.tree.tree (search_tree b (xs ++ ys) h) in
         let some = subst (λ (gs : List Gap). AreSome gs (xs ++ (g ∷ ys))) (sym (kept_gaps b d kept)) whole in
-        rooted d e (xs ++ (g ∷ ys)) s.0 root put_good some s.1 (s.2 ∙ grown_nodes) leads_to size same
+        rooted d e (xs ++ (g ∷ ys)) s.0 root grown_good some s.1 (s.2 ∙ grown_nodes) leads_to size same
+
+-- the only gap that is not in the tree is put in
+module _ (c b d e : Cut) (xs : List Gap) (g : Gap) (ys : List Gap) (node : ℕ) (is : node ≡ node_of g) (l : LacksOne c xs g ys) (h : HasTree b (xs ++ ys)) (cleared : kept_of b ≡ kept_of c) where
+  gaps_c : gaps_in b ≡ xs ++ (g ∷ ys)
+  gaps_c = kept_gaps c b cleared ∙ l.gaps
+
+  whole : AreSome (gaps_in b) (xs ++ (g ∷ ys))
+  whole = subst (λ (hs : List Gap). AreSome (gaps_in b) hs) gaps_c (all_gaps b (said_of b (is_good-Good b h.good)))
+
+  pub put_place : has_place (comes_before (gaps_in b)) node (nodes_of h.tree.tree) ≡ true
+  put_place = grown_place b d e xs g ys node is whole h
+
+  module _ (root : Option ℕ)
+      (grows : (t : Tree) → IsSearchTree (comes_before (gaps_in b)) (gap_cells b) (link_at (bytes_of b.bytes) 24) t
+      → (grown : Tree) × IsSearchTree (comes_before (gaps_in d)) (gap_cells d) root grown × (nodes_of grown ≡ put (comes_before (gaps_in b)) node (nodes_of t)))
+      (node_there : is_gap_node b node ≡ true) (nodes : is_gap_node d ≡ is_gap_node b) (kept : kept_of d ≡ kept_of b)
+      (leads_to : link_at (bytes_of e.bytes) 24 ≡ root) (size : length e.bytes ≡ length d.bytes) (same : SameBut (bytes_of d.bytes) (bytes_of e.bytes) 24 8) where
+    pub put_tree : HasTree e (xs ++ (g ∷ ys))
+    put_tree = grown_tree b d e xs g ys node is whole h root grows node_there nodes kept leads_to size same
 
 -- ---- what the calls ask and answer
 

@@ -12,3 +12,5 @@ pub mod Tiling
 pub mod Pairs
 pub mod Requests
 pub mod Exchange
+pub mod Ends
+pub mod Rebuilding

@@ -1,9 +1,10 @@
 //! The one way to the tiles of a heap and to the tree of its gaps: each touch is counted.
-ghost use Rattle.std.specs.Prelude.{◌≡◌, ℕ, ◌+◌, ◌*◌, ◌%◌, ◌^◌, ◌<◌, ◌≤◌, true, Option, Some, List, ◌∷◌, ◌++◌, length, filter, option_map, false};
+ghost use Rattle.std.specs.Prelude.{◌≡◌, ℕ, ◌+◌, ◌*◌, ◌%◌, ◌^◌, ◌<◌, ◌≤◌, true, ◌-◌, Option, Some, List, ◌∷◌, ◌++◌, length, filter, option_map, false};
+ghost use Rattle.raw_region.specs.Memory.{cut_at, whole};
 ghost use Rattle.block_tags.specs.declared.tile.Role.{Role as ARole};
 ghost use Rattle.block_tags.specs.declared.tile.Tile.{Tile as ATile};
-ghost use Rattle.block_tags.specs.Lists.{joined_at, next_in, previous_in, split_at, tile_in, with_red_at, with_use_at};
-ghost use Rattle.block_tags.specs.Windows.{CanSplit, HasFreeNext, HasTileAt, MayBeUsed, MayHaveColour, SameBesideTags, SaysTiles};
+ghost use Rattle.block_tags.specs.Lists.{joined_at, last_in, next_in, previous_in, split_at, tile_in, with_free, with_red_at, with_use_at, without_last};
+ghost use Rattle.block_tags.specs.Windows.{CanAppend, CanSplit, FrontSaysTiles, HasFreeLast, HasFreeNext, HasTileAt, IsTiled, MayBeUsed, MayHaveColour, SameBesideTags, SaysTiles};
 ghost use Rattle.link_tree.specs.Tree.{bits};
 ghost use Rattle.link_tree.specs.Nodes.{is_in};
 ghost use Rattle.best_fit.specs.Extents.{Gap};
@@ -13,7 +14,7 @@ ghost use Rattle.best_fit.specs.GapNodes.{is_gap_node, kept_of};
 ghost use Rattle.best_fit.specs.GapTrees.{HasTree, LacksOne, Regrown, is_long, node_of};
 
 use crate::nodes::{FREE_TREE, Gaps, RIGHT, set_link};
-use block_tags::{Role, Tile};
+use block_tags::{Role, TAG, Tile};
 use link_tree::{find_first_not_before, insert, remove};
 use offset_link::load;
 
@@ -178,6 +179,64 @@ impl<'a> Touches<'a> {
     {
         self.count += 1;
         block_tags::set_red(&mut self.gaps.window, at, false);
+    }
+
+    /// The number of bytes in the window.
+    pub fn size(&self) -> u64
+        ensures { result ≡ length self.now.gaps.now.window.bytes }
+    {
+        self.gaps.window.size()
+    }
+
+    /// Moves the window's end, to `size` bytes behind its base. No tile is touched.
+    pub fn resize(&mut self, size: u64)
+        requires inside { length self.old.gaps.now.window.before + size ≤ length (whole self.old.gaps.now.window) }
+        ensures cut { self.new.gaps.now.window ≡ cut_at (whole self.old.gaps.now.window) (length self.old.gaps.now.window.before) size }
+        ensures untouched { self.new.count ≡ self.old.count }
+        ensures reference { self.new.gaps.ghost_name ≡ self.old.gaps.ghost_name }
+    {
+        self.gaps.window.resize(size);
+    }
+
+    /// Adds a free tile where the tags fill the first `old_size` bytes of the window: it reaches to the window's end.
+    pub fn append_free(&mut self, old_size: u64)
+        requires fits { CanAppend self.old.gaps.now.window old_size }
+        requires room { self.old.count + 1 < 2 ^ 64 }
+        ensures tags { (ts : List ATile) → FrontSaysTiles self.old.gaps.now.window old_size ts
+            → SaysTiles self.new.gaps.now.window (with_free ts (old_size - TAG) (length self.old.gaps.now.window.bytes - TAG)) }
+        ensures rest { (ts : List ATile) → FrontSaysTiles self.old.gaps.now.window old_size ts
+            → SameBesideTags self.old.gaps.now.window self.new.gaps.now.window ts (with_free ts (old_size - TAG) (length self.old.gaps.now.window.bytes - TAG)) }
+        ensures touched { self.new.count ≡ self.old.count + 1 }
+        ensures reference { self.new.gaps.ghost_name ≡ self.old.gaps.ghost_name }
+    {
+        self.count += 1;
+        block_tags::append_free(&mut self.gaps.window, old_size);
+    }
+
+    /// The last tile.
+    pub fn last(&mut self) -> Option<Tile>
+        requires tiles { IsTiled self.old.gaps.now.window }
+        requires room { self.old.count + 1 < 2 ^ 64 }
+        ensures tile { (ts : List ATile) → SaysTiles self.old.gaps.now.window ts → result ≡ last_in ts }
+        ensures gaps { self.new.gaps.now ≡ self.old.gaps.now }
+        ensures touched { self.new.count ≡ self.old.count + 1 }
+        ensures reference { self.new.gaps.ghost_name ≡ self.old.gaps.ghost_name }
+    {
+        self.count += 1;
+        block_tags::last(&self.gaps.window)
+    }
+
+    /// Takes away the last tile, which is free, and answers the number of bytes that the window needs for the others.
+    pub fn drop_last(&mut self) -> u64
+        requires tile { HasFreeLast self.old.gaps.now.window }
+        requires room { self.old.count + 1 < 2 ^ 64 }
+        ensures tags { (ts : List ATile) → SaysTiles self.old.gaps.now.window ts → FrontSaysTiles self.new.gaps.now.window result (without_last ts) }
+        ensures rest { (ts : List ATile) → SaysTiles self.old.gaps.now.window ts → SameBesideTags self.old.gaps.now.window self.new.gaps.now.window ts (without_last ts) }
+        ensures touched { self.new.count ≡ self.old.count + 1 }
+        ensures reference { self.new.gaps.ghost_name ≡ self.old.gaps.ghost_name }
+    {
+        self.count += 1;
+        block_tags::drop_last(&mut self.gaps.window)
     }
 }
 

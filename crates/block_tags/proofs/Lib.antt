@@ -6,6 +6,7 @@ mod Changes
 mod Cutting
 mod Joining
 mod Limits
+mod Lasting
 mod Walk
 mod Lists
 mod Stays

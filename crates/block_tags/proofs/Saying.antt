@@ -88,7 +88,7 @@ module _ (c : Cut) (at : ℕ) (h : HasTileAt c at) (t : Tile) (e : t ≡ tile_at
   pub next_none : length c.bytes - 16 ≤ at + t.len → None ≡ next_in ts at
   next_none l = first_none current m (at + t.len) t.len s.behind end s.tags.4 l ∙ sym s.next
 
-before_none : (m : Memory) (at before : ℕ) (o : Option Tile) → IsBefore m at before o → before ≡ 0 → None ≡ o
+pub before_none : (m : Memory) (at before : ℕ) (o : Option Tile) → IsBefore m at before o → before ≡ 0 → None ≡ o
 before_none m at before None b z = refl
 before_none m at before (Some p) b z = let e = b.0 in let long = b.2 in absurd (omega arith)
 
@@ -97,7 +97,7 @@ pub record Found (m : Memory) (at before : ℕ) (o : Option Tile) : Type 0 where
   pub low : before ≤ at
   pub is : o ≡ Some (tile_at m (at - before))
 
-before_some : (m : Memory) (at before : ℕ) (o : Option Tile) → IsBefore m at before o → 0 < before → Found m at before o
+pub before_some : (m : Memory) (at before : ℕ) (o : Option Tile) → IsBefore m at before o → 0 < before → Found m at before o
 before_some m at before None b z = let e : before ≡ 0 = b in absurd (omega arith)
 before_some m at before (Some p) b z =
     let e = b.0 in let ends = b.1 in let long = b.2 in let o : p.offset ≡ at - before = omega arith in

@@ -1,7 +1,7 @@
 //! The tiles that the tags say. An offset is a number of bytes from the window's start.
 ghost use Rattle.std.specs.Prelude.{◌≡◌, Some, List};
 ghost use Rattle.block_tags.specs.declared.tile.Tile.{Tile};
-ghost use Rattle.block_tags.specs.Lists.{first_in, next_in, previous_in, tile_in};
+ghost use Rattle.block_tags.specs.Lists.{first_in, last_in, next_in, previous_in, tile_in};
 ghost use Rattle.block_tags.specs.Windows.{HasTileAt, IsTiled, SaysTiles};
 
 use crate::sizes::{FIRST, TAG};
@@ -26,6 +26,20 @@ pub fn first(window: &Window) -> Option<Tile>
         Some(tile_there(window, FIRST))
     } else {
         None
+    }
+}
+
+/// The tile before the end tag, or nothing where there is none.
+pub fn last(window: &Window) -> Option<Tile>
+    requires { IsTiled window.now }
+    ensures { (ts : List Tile) → SaysTiles window.now ts → result ≡ last_in ts }
+{
+    let end = window.size() - TAG;
+    let before = window.read_u64(end);
+    if before == 0 {
+        None
+    } else {
+        Some(tile_there(window, end - before))
     }
 }
 

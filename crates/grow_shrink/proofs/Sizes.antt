@@ -5,7 +5,8 @@ use Rattle.block_tags.specs.Format.{is_legal_size}
 use Rattle.best_fit.specs.Extents.{Extent, end_of, is_proper, proper_from}
 use Rattle.best_fit.proofs.Laws.{IsBlock, IsFirst, IsFirst-proper_from, IsHole, IsLegal, is_hole-IsHole, legal_size, proper_from-IsFirst}
 use Rattle.segment_manager.specs.Directory.{Directory, live}
-use Rattle.grow_shrink.specs.Resized.{GrownIsDirectory, ShrunkIsDirectory, ShrunkIsLeast, last_end}
+use Rattle.best_fit.specs.Ends.{last_end}
+use Rattle.grow_shrink.specs.Resized.{GrownIsDirectory, ShrunkIsDirectory, ShrunkIsLeast}
 
 -- ---- legal sizes
 

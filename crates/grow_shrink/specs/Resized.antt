@@ -1,23 +1,18 @@
 -- A directory in a larger or smaller segment.
-use Rattle.std.specs.Prelude.{◌≡◌, ℕ, ◌+◌, ◌%◌, ◌≤◌, not, ◌||◌, Option, Some, None, List, [], ◌∷◌, ◌==◌, nat_lt, if◌then◌else◌}
-use Rattle.best_fit.specs.Extents.{Extent, end_of}
+use Rattle.std.specs.Prelude.{◌≡◌, ℕ, ◌+◌, ◌-◌, ◌%◌, ◌≤◌, not, ◌||◌, Option, Some, None, Result, Ok, Err, ◌==◌, nat_lt, if◌then◌else◌, length}
+use Rattle.raw_region.specs.Memory.{Cut, whole}
 use Rattle.segment_manager.specs.declared.modes.Mode.{Mode}
-use Rattle.segment_manager.specs.Directory.{Directory, live, IsDirectory}
+use Rattle.segment_manager.specs.Directory.{Directory, IsDirectory}
+use Rattle.segment_manager.specs.State.{State, StandsFor}
 use Rattle.segment_manager.specs.Step.{is_read_only}
 use Rattle.grow_shrink.specs.declared.refusals.GrowError.{GrowError}
 use Rattle.grow_shrink.specs.declared.refusals.GrowError.TheVariants.{ReadOnly, BadGrow, TooLarge, RegionTooSmall}
+-- the directory with so many bytes more, and as far as its last extent and the end tag
+pub use Rattle.segment_manager.specs.Resized.{grown, shrunk}
 
-abbrev pub grown : Directory → ℕ → Directory
-grown d extra = record d { size = d.size + extra }
-
--- where the last of the extents ends, or an offset where there is none
-abbrev pub last_end : ℕ → List Extent → ℕ
-last_end from [] = from
-last_end from (x ∷ xs) = last_end (end_of x) xs
-
--- as far as the last extent, and the end tag
-abbrev pub shrunk : Directory → Directory
-shrunk d = record d { size = last_end 128 (live d).extents + 16 }
+-- how many bytes the region has from the segment's base on
+abbrev pub room_of : Cut → ℕ
+room_of c = length (whole c) - length c.before
 
 -- the first reason not to grow a segment of a size by extra bytes, where its region has so many bytes from its base on
 abbrev pub growth_refusal : Mode → ℕ → ℕ → ℕ → Option GrowError
@@ -27,6 +22,19 @@ growth_refusal mode size extra room =
     else if nat_lt 1073741824 (size + extra) then Some TooLarge
     else if nat_lt room (size + extra) then Some RegionTooSmall
     else None
+
+-- the one reason not to shrink it
+abbrev pub shrink_refusal : Mode → Option GrowError
+shrink_refusal mode = if is_read_only mode then Some ReadOnly else None
+
+-- why a call was refused, if it was
+abbrev pub refusal_of : Result (Unit {0}) GrowError → Option GrowError
+refusal_of (Ok u) = None
+refusal_of (Err why) = Some why
+
+-- the call is refused exactly where this says so of the directory, and for this reason
+pub record IsRefusedBy (old : State) (result : Result (Unit {0}) GrowError) (why : Directory → Option GrowError) : Type 0 where
+  pub refused : (d : Directory) → StandsFor old.cut.bytes d → refusal_of result ≡ why d
 
 -- the law: where a segment may be so much larger, its directory is one there
 abbrev pub GrownIsDirectory : Type 0

@@ -2,6 +2,8 @@
 #![tactic(auto)]
 
 mod refusals;
+mod resizing;
 pub mod theorems;
 
 pub use refusals::GrowError;
+pub use resizing::{grow, shrink_to_fit};

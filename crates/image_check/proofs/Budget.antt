@@ -17,7 +17,7 @@ use Rattle.best_fit.specs.GapNodes.{gaps_in, gaps_of}
 use Rattle.std.proofs.lemmas.Int.Digits.{length-digits_of-le}
 use Rattle.image_check.specs.Opening.{IsRaisedFor}
 use Rattle.image_check.specs.Passes.{HasTiles, Spends, tiles_in}
-use Rattle.image_check.specs.Visits.{Rates, rate_of, weigh, both, tag_rates, step_rates, counting_rates, planting_visits, planting_rates, tree_rates, frame_rates, gathering_rates, block_rates, support_rates, all_rates}
+use Rattle.image_check.specs.Visits.{Rates, rate_of, weigh, both, tag_rates, step_rates, counting_rates, planting_visits, planting_rates, tree_rates, frame_rates, gathering_rates, block_rates, all_rates}
 use Rattle.image_check.specs.FreeNodes.{is_place, placed, place_cells}
 use Rattle.image_check.specs.FreeLaws.{multiples, length-multiples, place_listed, placed_leads, is_place-Place, small_size}
 use Rattle.image_check.proofs.Framed.{few-free}
@@ -244,6 +244,13 @@ pub tree-planted : (c : Cut) (old stepped counted planted : ℕ) → Spends step
 tree-planted c old stepped counted planted x y z =
     spend-both c.bytes step_rates (both counting_rates planting_rates) 50 0 old stepped planted x (spend-both c.bytes counting_rates planting_rates 0 0 stepped counted planted y z)
 
+-- the tags, and in place of the tree a walk over the tiles
+steps-none : (b : List ℕ) (old : ℕ) → Spends step_rates 50 b old old
+steps-none b old = (omega arith, omega arith)
+
+pub treeless-spend : (c : Cut) (old tagged new : ℕ) → Spends tag_rates 1 c.bytes old tagged → Spends tag_rates 0 c.bytes tagged new → Spends frame_rates 51 c.bytes old new
+treeless-spend c old tagged new x y = spend-both c.bytes tag_rates tree_rates 1 50 old tagged new x (tree-counted c tagged tagged new (steps-none c.bytes tagged) y)
+
 -- nothing was spent
 pub tree-none : (b : List ℕ) (old : ℕ) → Spends tree_rates 50 b old old
 tree-none b old = (omega arith, omega arith)
@@ -281,21 +288,14 @@ module _ (c : Cut) (old framed gathered : ℕ) (h : HasTiles c.bytes) (x : Spend
   pub gathered-raised : IsRaisedFor (length c.bytes) old gathered
   gathered-raised =
       all-part c all_rates 115 old gathered h all-most (omega arith)
-      (spend-both c.bytes frame_rates (both gathering_rates (both block_rates support_rates)) 51 64 old framed gathered x
-      (spend-less c.bytes gathering_rates (both block_rates support_rates) 2 62 framed gathered y))
+      (spend-both c.bytes frame_rates (both gathering_rates block_rates) 51 64 old framed gathered x
+      (spend-less c.bytes gathering_rates block_rates 2 62 framed gathered y))
 
-  module _ (blocked : ℕ) (z : Spends block_rates 62 c.bytes gathered blocked) where
-    pub blocks-raised : IsRaisedFor (length c.bytes) old blocked
-    blocks-raised =
-        all-part c all_rates 115 old blocked h all-most (omega arith)
-        (spend-both c.bytes frame_rates (both gathering_rates (both block_rates support_rates)) 51 64 old framed blocked x
-        (spend-both c.bytes gathering_rates (both block_rates support_rates) 2 62 framed gathered blocked y (spend-less c.bytes block_rates support_rates 62 0 gathered blocked z)))
-
-    pub support-raised : (new : ℕ) → Spends support_rates 0 c.bytes blocked new → IsRaisedFor (length c.bytes) old new
-    support-raised new u =
-        all-part c all_rates 115 old new h all-most (omega arith)
-        (spend-both c.bytes frame_rates (both gathering_rates (both block_rates support_rates)) 51 64 old framed new x
-        (spend-both c.bytes gathering_rates (both block_rates support_rates) 2 62 framed gathered new y (spend-both c.bytes block_rates support_rates 62 0 gathered blocked new z u)))
+  pub blocks-raised : (new : ℕ) → Spends block_rates 62 c.bytes gathered new → IsRaisedFor (length c.bytes) old new
+  blocks-raised new z =
+      all-part c all_rates 115 old new h all-most (omega arith)
+      (spend-both c.bytes frame_rates (both gathering_rates block_rates) 51 64 old framed new x
+      (spend-both c.bytes gathering_rates block_rates 2 62 framed gathered new y z))
 
 -- where the tags are wrong, they alone were read
 pub tags-raised : (b : List ℕ) (old tags new : ℕ) → 32 * tags + 112 ≤ length b → new ≡ old + tags → IsRaisedFor (length b) old new

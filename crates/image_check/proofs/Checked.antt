@@ -1,15 +1,14 @@
--- What the check of a whole image finds: its first class, or a supported directory.
-use Rattle.std.proofs.Common.{◌≡◌, refl, sym, ap, ◌∙◌, ℕ, inl, inr, Bool, true, false, not, ◌||◌, List, [], ◌∷◌, length, arith}
-use Rattle.std.specs.Prelude.{IsTrue, IsOk, is_some, Option, Some, None, Result, Ok, Err}
+-- What the check of a whole image finds: its first class, or a directory.
+use Rattle.std.proofs.Common.{◌≡◌, refl, sym, ap, ◌∙◌, ℕ, ◌+◌, ◌<◌, ◌≤◌, inl, inr, Bool, true, false, not, ◌||◌, List, [], ◌∷◌, length, arith}
+use Rattle.std.specs.Prelude.{IsTrue, IsOk, is_some, Option, Some, None, Result, Ok, Err, MatchResult}
 use Rattle.std.specs.List.{list_any}
-use Rattle.std.proofs.lemmas.Bool.{both_ways, cases_Bool}
+use Rattle.std.proofs.lemmas.Bool.{cases_Bool}
 use Rattle.raw_region.specs.Memory.{Cut, bytes_of}
 use Rattle.raw_region.specs.Format.{current}
 use Rattle.block_tags.specs.declared.tile.Role.{Role}
 use Rattle.block_tags.specs.declared.tile.Tile.{Tile}
 use Rattle.block_tags.specs.Format.{is_legal_size}
 use Rattle.block_tags.specs.Tiles.{has_tags, tiles_of}
-use Rattle.segment_manager.specs.State.{IsSegment}
 use Rattle.image_check.specs.declared.classes.ImageClass.{ImageClass}
 use Rattle.image_check.specs.declared.classes.ImageClass.TheVariants.{BadTag, BadFreeTree, BadIndex, BadObject, SharedBlock, BadContainer, OrphanBlock}
 use Rattle.image_check.specs.EarlyTests.{has_free_tree, has_reserved, is_tiled}
@@ -17,61 +16,75 @@ use Rattle.image_check.specs.ObjectTests.{has_indexes, has_objects}
 use Rattle.image_check.specs.Fields.{is_shared, is_orphaned, has_containers}
 use Rattle.image_check.specs.Checking.{FindsLate, late_by, late_class}
 use Rattle.image_check.specs.Classes.{are_bytes, class_of}
-use Rattle.image_check.specs.SupportedImages.{are_supported, has_frame}
-use Rattle.image_check.specs.Opening.{IsClassFor, first, not_come}
+use Rattle.image_check.specs.Frame.{has_frame}
+use Rattle.image_check.specs.Meaning.{HasOneDirectory}
+use Rattle.image_check.specs.OlderFormats.{FindsWithoutTree}
+use Rattle.image_check.specs.Opening.{IsImage}
 use Rattle.image_check.specs.Owners.{entries_of}
 use Rattle.image_check.specs.Passes.{Finds, HasTiles, has_block, tiles_in}
 use Rattle.image_check.specs.Reading.{HasFront}
 use Rattle.image_check.proofs.Early.{tree-BadFreeTree}
 use Rattle.image_check.proofs.Filled.{HasFront-IsRight}
+use Rattle.image_check.proofs.FormatTags.{good-has_tags, later-has_tags, later-free_tree, wrong-has_tags}
 use Rattle.image_check.proofs.FirstClass.{first-tag, first-tree, late-class}
 use Rattle.image_check.proofs.Frame.{IsFrame-has_frame, has_frame-IsFrame, has_whole_size-HasWholeSize, HasWholeSize-has_whole_size}
-use Rattle.image_check.proofs.Supported.{tiles_tell_support}
+use Rattle.image_check.proofs.Law.{one_directory}
 
 -- ---- the frame
 
 -- what the check knows once the tags are right
-pub record IsChecked (w : Cut) : Type 0 where
-  pub front : HasFront current w
+pub record IsChecked (format : ℕ) (w : Cut) : Type 0 where
+  pub front : HasFront format w
   pub reserved : has_reserved w.bytes ≡ true
-  pub tags : has_tags current (bytes_of w.bytes) (length w.bytes) ≡ true
+  pub tags : has_tags format (bytes_of w.bytes) (length w.bytes) ≡ true
 
 -- the tags are those of the size that the first words say
-checked-tiled : (w : Cut) → IsChecked w → is_tiled current w.bytes ≡ true
-checked-tiled w h = ap (has_tags current (bytes_of w.bytes)) h.front.says ∙ h.tags
+checked-tiled : (format : ℕ) (w : Cut) → IsChecked format w → is_tiled format w.bytes ≡ true
+checked-tiled format w h = ap (has_tags format (bytes_of w.bytes)) h.front.says ∙ h.tags
 
-pub checked-tiles : (w : Cut) → IsChecked w → HasTiles w.bytes
-checked-tiles w h = record { size = (HasFront-IsRight current w h.front).legal; tags = h.tags }
+pub checked-tiles : (format : ℕ) (w : Cut) → IsChecked format w → HasTiles w.bytes
+checked-tiles format w h = record { size = (HasFront-IsRight format w h.front).legal; tags = good-has_tags format (bytes_of w.bytes) (length w.bytes) h.tags }
 
 -- the tags are wrong
-pub checked-tags : (w : Cut) → HasFront current w → has_reserved w.bytes ≡ true → has_tags current (bytes_of w.bytes) (length w.bytes) ≡ false → class_of current w.bytes ≡ Some BadTag
-checked-tags w h r e = first-tag w h r (ap (has_tags current (bytes_of w.bytes)) h.says ∙ e)
+pub checked-tags : (format : ℕ) (w : Cut) → HasFront format w → has_reserved w.bytes ≡ true → has_tags format (bytes_of w.bytes) (length w.bytes) ≡ false → class_of format w.bytes ≡ Some BadTag
+checked-tags format w h r e = first-tag format w h r (ap (has_tags format (bytes_of w.bytes)) h.says ∙ e)
+
+-- the tags that are good by the current format are those of each later than the first
+pub later-checked : (format : ℕ) (w : Cut) → 0 < format → HasFront format w → has_reserved w.bytes ≡ true → has_tags current (bytes_of w.bytes) (length w.bytes) ≡ true → IsChecked format w
+later-checked format w l h r e = record { front = h; reserved = r; tags = later-has_tags format (bytes_of w.bytes) (length w.bytes) l ∙ e }
 
 -- the free tree is not right
-pub checked-tree : (w : Cut) → IsChecked w → has_free_tree current (bytes_of w.bytes) (tiles_of (bytes_of w.bytes) (length w.bytes)) ≡ false → class_of current w.bytes ≡ Some BadFreeTree
-checked-tree w h e =
-    first-tree w h.front h.reserved (checked-tiled w h)
-    (tree-BadFreeTree w.bytes (checked-tiled w h) (ap (λ n. has_free_tree current (bytes_of w.bytes) (tiles_of (bytes_of w.bytes) n)) h.front.says ∙ e))
+pub checked-tree : (format : ℕ) (w : Cut) → IsChecked format w → has_free_tree format (bytes_of w.bytes) (tiles_of (bytes_of w.bytes) (length w.bytes)) ≡ false → class_of format w.bytes ≡ Some BadFreeTree
+checked-tree format w h e =
+    first-tree format w h.front h.reserved (checked-tiled format w h)
+    (tree-BadFreeTree format w.bytes (checked-tiled format w h) (ap (λ n. has_free_tree format (bytes_of w.bytes) (tiles_of (bytes_of w.bytes) n)) h.front.says ∙ e))
 
 -- or it is
-pub checked-frame : (w : Cut) → IsChecked w → has_free_tree current (bytes_of w.bytes) (tiles_of (bytes_of w.bytes) (length w.bytes)) ≡ true → IsTrue (has_frame w.bytes)
-checked-frame w h e =
-    let r = HasFront-IsRight current w h.front in
-    IsFrame-has_frame w.bytes (record {
+pub checked-frame : (format : ℕ) (w : Cut) → IsChecked format w → has_free_tree format (bytes_of w.bytes) (tiles_of (bytes_of w.bytes) (length w.bytes)) ≡ true → IsTrue (has_frame format w.bytes)
+checked-frame format w h e =
+    let r = HasFront-IsRight format w h.front in
+    IsFrame-has_frame format w.bytes (record {
       magic = r.magic;
       version = r.version;
       size = HasWholeSize-has_whole_size w.bytes (record { legal = ap is_legal_size r.says ∙ r.legal; same = r.says });
       reserved = h.reserved;
-      tiled = checked-tiled w h;
-      tree = ap (λ n. has_free_tree current (bytes_of w.bytes) (tiles_of (bytes_of w.bytes) n)) h.front.says ∙ e;
+      tiled = checked-tiled format w h;
+      tree = ap (λ n. has_free_tree format (bytes_of w.bytes) (tiles_of (bytes_of w.bytes) n)) h.front.says ∙ e;
     })
 
+-- where format 0 is read, the last parts of the frame are looked at together
+module _ (w : Cut) (h : HasFront 0 w) (r : has_reserved w.bytes ≡ true) where
+  pub treeless-finds : (k : Result (Unit {0}) ImageClass) → FindsWithoutTree w.bytes k → MatchResult k (λ done. IsTrue (has_frame 0 w.bytes)) (λ class. class_of 0 w.bytes ≡ Some class)
+  treeless-finds (Ok u) f = checked-frame 0 w (record { front = h; reserved = r; tags = f.tags }) f.no_tree
+  treeless-finds (Err k) (inl f) = checked-tags 0 w h r f.1 ∙ ap (λ (x : ImageClass). Some x) (sym f.0)
+  treeless-finds (Err k) (inr f) = checked-tree 0 w (record { front = h; reserved = r; tags = f.1 }) f.2 ∙ ap (λ (x : ImageClass). Some x) (sym f.0)
+
 -- good tags are a part of a frame
-pub frame-tiles : (b : List ℕ) → IsTrue (has_frame b) → HasTiles b
-frame-tiles b h =
-    let f = has_frame-IsFrame b h in
+pub frame-tiles : (format : ℕ) (b : List ℕ) → IsTrue (has_frame format b) → HasTiles b
+frame-tiles format b h =
+    let f = has_frame-IsFrame format b h in
     let s = has_whole_size-HasWholeSize b f.size in
-    record { size = ap is_legal_size (sym s.same) ∙ s.legal; tags = ap (has_tags current (bytes_of b)) (sym s.same) ∙ f.tiled }
+    record { size = ap is_legal_size (sym s.same) ∙ s.legal; tags = good-has_tags format (bytes_of b) (length b) (ap (has_tags format (bytes_of b)) (sym s.same) ∙ f.tiled) }
 
 -- ---- the blocks
 
@@ -83,24 +96,24 @@ shares : (s : Bool) → not s ≡ false → s ≡ true
 shares true e = refl
 shares false e = sym e
 
-module _ (b : List ℕ) where
+module _ (format : ℕ) (b : List ℕ) where
   abbrev i : Bool
   i = has_indexes (bytes_of b) (tiles_in b)
 
   abbrev o : Bool
-  o = has_objects current (bytes_of b) (tiles_in b)
+  o = has_objects format (bytes_of b) (tiles_in b)
 
   abbrev s : Bool
-  s = is_shared current (bytes_of b) (tiles_in b)
+  s = is_shared format (bytes_of b) (tiles_in b)
 
   abbrev c : Bool
-  c = has_containers current (bytes_of b) (tiles_in b)
+  c = has_containers format (bytes_of b) (tiles_in b)
 
   abbrev r : Bool
-  r = is_orphaned current (bytes_of b) (tiles_in b)
+  r = is_orphaned format (bytes_of b) (tiles_in b)
 
   abbrev class : Option ImageClass
-  class = late_class current (bytes_of b) (tiles_in b)
+  class = late_class format (bytes_of b) (tiles_in b)
 
   pub late-index : i ≡ false → class ≡ Some BadIndex
   unfolding late_class
@@ -127,7 +140,7 @@ module _ (b : List ℕ) where
   late-none d e f g h = λ k. late_by (d k) (e k) (unshared s f k) (g k) (unshared r h k)
 
   -- the last pass decides
-  pub late-orphans : i ≡ true → o ≡ true → not s ≡ true → c ≡ true → (k : Result (Unit {0}) ImageClass) → Finds OrphanBlock (not r) k → FindsLate current b k
+  pub late-orphans : i ≡ true → o ≡ true → not s ≡ true → c ≡ true → (k : Result (Unit {0}) ImageClass) → Finds OrphanBlock (not r) k → FindsLate format b k
   late-orphans d e f g (Ok u) h = late-none d e f g h
   late-orphans d e f g (Err k) h = late-orphan d e f g h.1 ∙ ap (λ (x : ImageClass). Some x) (sym h.0)
 
@@ -157,15 +170,11 @@ no-memory-used b r h n = elim (cases_Bool (has_block b)) [
 -- ---- the whole
 
 -- behind a right frame, the first class of the blocks is that of the image
-pub blocks-class : (b : List ℕ) (k : ImageClass) → IsTrue (has_frame b) → late_class current (bytes_of b) (tiles_in b) ≡ Some k → IsClassFor current b k
-blocks-class b k h e = first (late-class b h ∙ e)
+pub blocks-class : (format : ℕ) (b : List ℕ) (k : ImageClass) → IsTrue (has_frame format b) → late_class format (bytes_of b) (tiles_in b) ≡ Some k → class_of format b ≡ Some k
+blocks-class format b k h e = late-class format b h ∙ e
 
--- an image that no class holds of, and whose directory has not come yet
-pub blocks-not_come : (b : List ℕ) → IsTrue (are_bytes b) → IsTrue (has_frame b) → late_class current (bytes_of b) (tiles_in b) ≡ None → are_supported b ≡ false → IsClassFor current b OrphanBlock
-blocks-not_come b small h e n =
-    not_come (late-class b h ∙ e) (omega arith)
-    (λ d. both_ways (are_supported b) n (sym ((tiles_tell_support b small).directory d.0 d.1.denotes) ∙ d.1.supported))
-
--- and whose directory has
-pub blocks-segment : (b : List ℕ) → IsTrue (are_bytes b) → IsTrue (has_frame b) → late_class current (bytes_of b) (tiles_in b) ≡ None → are_supported b ≡ true → IsSegment b
-blocks-segment b small h e k = (tiles_tell_support b small).segment.1 (late-class b h ∙ e, k)
+-- or no class holds of it, so it denotes a directory
+pub blocks-image : (format : ℕ) (b : List ℕ) → format ≤ 2 → IsTrue (are_bytes b) → IsTrue (has_frame format b) → late_class format (bytes_of b) (tiles_in b) ≡ None → IsImage format b
+blocks-image format b few small h e =
+    let law : HasOneDirectory format b = one_directory format b (omega arith) small in
+    law.some (late-class format b h ∙ e)

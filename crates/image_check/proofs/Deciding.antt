@@ -74,7 +74,7 @@ unfolding word_at
 word_at-front b rest at l = ap (little_number 8) (read-front b rest at 8 l)
 
 -- a half word of the front
-half_word_at-front : (b rest : List ℕ) (at : ℕ) → at + 4 ≤ length b → half_word_at (bytes_of (b ++ rest)) at ≡ half_word_at (bytes_of b) at
+pub half_word_at-front : (b rest : List ℕ) (at : ℕ) → at + 4 ≤ length b → half_word_at (bytes_of (b ++ rest)) at ≡ half_word_at (bytes_of b) at
 unfolding half_word_at
 half_word_at-front b rest at l = ap (little_number 4) (read-front b rest at 4 l)
 
@@ -160,12 +160,12 @@ size-decides format b l e f (inr g) rest h =
 -- ---- where nothing is decided
 
 -- there are n zeros
-zeros-length : (n : ℕ) → length (zeros n) ≡ n
+pub zeros-length : (n : ℕ) → length (zeros n) ≡ n
 unfolding zeros
 zeros-length n = length-replicate n 0
 
 -- zeros are bytes
-zeros-are_bytes : (n : ℕ) → IsTrue (are_bytes (zeros n))
+pub zeros-are_bytes : (n : ℕ) → IsTrue (are_bytes (zeros n))
 unfolding zeros
 zeros-are_bytes zero = refl
 zeros-are_bytes (suc n) = zeros-are_bytes n

@@ -2,13 +2,12 @@
 use Rattle.std.proofs.Common.{◌≡◌, refl, ℕ, ◌<◌, Bool, false, not, ◌&&◌, ◌||◌, List, length}
 use Rattle.std.specs.Prelude.{IsTrue, nat_lt}
 use Rattle.std.proofs.lemmas.Bool.{and_from, or_from, or_left, or_right, lt-ltb, not_from_false}
-use Rattle.raw_region.specs.Format.{current}
 use Rattle.block_tags.specs.Format.{is_legal_size}
 use Rattle.image_check.specs.declared.classes.ImageClass.TheVariants.{Truncated, BadMagic, UnsupportedVersion, BadSize, BadReserved, BadTag, BadFreeTree}
 use Rattle.image_check.specs.EarlyTests.{size_word, has_magic, has_version, has_front, is_tiled}
 use Rattle.image_check.specs.Classes.{holds}
 use Rattle.image_check.specs.Opening.{has_early_class}
-use Rattle.image_check.specs.SupportedImages.{has_frame, has_tree}
+use Rattle.image_check.specs.Frame.{has_frame, has_tree}
 use Rattle.image_check.proofs.Frame.{has_frame-IsFrame, frame-clean}
 
 -- ---- a right frame has no early class
@@ -20,10 +19,10 @@ seven p q r s t u v a b c d e f g =
     (or_from s (t || (u || (v || false))) d (or_from t (u || (v || false)) e (or_from u (v || false) f (or_from v false g refl))))))
 
 -- an image whose frame is right has no early class
-pub frame-no_early_class : (b : List ℕ) → IsTrue (has_frame b) → has_early_class current b ≡ false
-frame-no_early_class b h =
-    let c = frame-clean b (has_frame-IsFrame b h) in
-    seven (holds current b Truncated) (holds current b BadMagic) (holds current b UnsupportedVersion) (holds current b BadSize) (holds current b BadReserved) (holds current b BadTag) (holds current b BadFreeTree)
+pub frame-no_early_class : (format : ℕ) (b : List ℕ) → IsTrue (has_frame format b) → has_early_class format b ≡ false
+frame-no_early_class format b h =
+    let c = frame-clean format b (has_frame-IsFrame format b h) in
+    seven (holds format b Truncated) (holds format b BadMagic) (holds format b UnsupportedVersion) (holds format b BadSize) (holds format b BadReserved) (holds format b BadTag) (holds format b BadFreeTree)
     c.truncated c.magic c.version c.size c.reserved c.tags c.free_tree
 
 -- ---- each wrong part of a frame has its class
@@ -41,5 +40,5 @@ cut-Truncated format b m v s l =
     (lt-ltb (length b) (size_word b) l))
 
 -- another tree than that of the free tiles, where the tags are whole
-pub tree-BadFreeTree : (b : List ℕ) → IsTrue (is_tiled current b) → has_tree b ≡ false → IsTrue (holds current b BadFreeTree)
-tree-BadFreeTree b t e = and_from (is_tiled current b) (not (has_tree b)) t (not_from_false (has_tree b) e)
+pub tree-BadFreeTree : (format : ℕ) (b : List ℕ) → IsTrue (is_tiled format b) → has_tree format b ≡ false → IsTrue (holds format b BadFreeTree)
+tree-BadFreeTree format b t e = and_from (is_tiled format b) (not (has_tree format b)) t (not_from_false (has_tree format b) e)

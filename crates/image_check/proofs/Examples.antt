@@ -1,18 +1,15 @@
--- Five small images, as their words: their class, what the tiles say of their directory, and what one of them says.
-use Rattle.std.proofs.Common.{◌≡◌, refl, ℕ, negsuc, List, [], ◌∷◌, ◌++◌, true}
+-- Six small images, as their words: their class, and what those of an object say.
+use Rattle.std.proofs.Common.{◌≡◌, refl, ℕ, negsuc, List, [], ◌∷◌, ◌++◌}
 use Rattle.std.specs.Prelude.{flat_map, Some, None}
 use Rattle.raw_region.specs.Memory.{word_bytes, word_at, half_word_at, zeros}
 use Rattle.raw_region.specs.Format.{current}
 use Rattle.best_fit.specs.Table.{no_table}
 use Rattle.block_tags.specs.declared.tile.Role.TheVariants.{Object as ObjectRole}
 use Rattle.seg_types.specs.declared.kinds.ScalarKind.TheVariants.{I64}
-use Rattle.seg_types.specs.declared.kinds.Kind.TheVariants.{Map, Text}
 use Rattle.seg_types.specs.declared.kinds.Class.TheVariants.{Anonymous}
-use Rattle.segment_manager.specs.Directory.{Numbers}
-use Rattle.segment_manager.specs.Supported.{is_supported_kind}
+use Rattle.segment_manager.specs.Directory.{Numbers, Bytes, Pairs, Texts}
 use Rattle.image_check.specs.declared.classes.ImageClass.TheVariants.{BadObject}
 use Rattle.image_check.specs.Classes.{class_of}
-use Rattle.image_check.specs.SupportedImages.{are_supported}
 use Rattle.image_check.proofs.ReadOff.{read_off}
 
 -- bytes from words
@@ -28,11 +25,6 @@ fresh_accepted : class_of current fresh ≡ None
 unfolding word_at word_bytes half_word_at zeros current
 fresh_accepted = refl
 
--- and has come
-fresh_is : are_supported fresh ≡ true
-unfolding are_supported word_at word_bytes half_word_at zeros current
-fresh_is = refl
-
 -- the number -2 in 48 bytes, and a free tile behind it
 abbrev one : List ℕ
 one = words (4993446653039301453 ∷ 2 ∷ 224 ∷ 168 ∷ 1 ∷ 0 ∷ 0 ∷ 1 ∷ 0 ∷ 0 ∷ []) ++ zeros 48 ++ words (0 ∷ 49 ∷ 4294967300 ∷ 0 ∷ 18446744073709551614 ∷ 77 ∷ 48 ∷ 32 ∷ 1 ∷ 1 ∷ 32 ∷ 1 ∷ [])
@@ -41,11 +33,6 @@ one = words (4993446653039301453 ∷ 2 ∷ 224 ∷ 168 ∷ 1 ∷ 0 ∷ 0 ∷ 1 �
 one_accepted : class_of current one ≡ None
 unfolding word_at word_bytes half_word_at zeros current
 one_accepted = refl
-
--- and has come
-one_is : are_supported one ≡ true
-unfolding are_supported word_at word_bytes half_word_at zeros current
-one_is = refl
 
 -- and says an anonymous object with -2
 one_says : read_off current one ≡ record { size = 224; objects = record { class = Anonymous; name = []; value = Numbers I64 (negsuc 1 ∷ []); extent = record { offset = 128; len = 48; role = ObjectRole } } ∷ []; named = no_table; unique = no_table }
@@ -61,10 +48,24 @@ text_accepted : class_of current text ≡ None
 unfolding word_at word_bytes half_word_at zeros current
 text_accepted = refl
 
--- and has come where texts have: else it is refused
-text_is : are_supported text ≡ is_supported_kind Text
-unfolding are_supported word_at word_bytes half_word_at zeros current
-text_is = refl
+-- and says that text
+text_says : read_off current text ≡ record { size = 240; objects = record { class = Anonymous; name = []; value = Bytes [] no_table; extent = record { offset = 128; len = 64; role = ObjectRole } } ∷ []; named = no_table; unique = no_table }
+unfolding read_off word_at word_bytes half_word_at zeros current
+text_says = refl
+
+-- an empty vector of texts in such a tile
+abbrev texts : List ℕ
+texts = words (4993446653039301453 ∷ 2 ∷ 240 ∷ 184 ∷ 1 ∷ 0 ∷ 0 ∷ 1 ∷ 0 ∷ 0 ∷ []) ++ zeros 48 ++ words (0 ∷ 65 ∷ 4295229440 ∷ 0 ∷ 1 ∷ 0 ∷ 0 ∷ 77 ∷ 64 ∷ 32 ∷ 1 ∷ 1 ∷ 32 ∷ 1 ∷ [])
+
+-- it has no class
+texts_accepted : class_of current texts ≡ None
+unfolding word_at word_bytes half_word_at zeros current
+texts_accepted = refl
+
+-- and says that vector
+texts_says : read_off current texts ≡ record { size = 240; objects = record { class = Anonymous; name = []; value = Texts [] no_table; extent = record { offset = 128; len = 64; role = ObjectRole } } ∷ []; named = no_table; unique = no_table }
+unfolding read_off word_at word_bytes half_word_at zeros current
+texts_says = refl
 
 -- an empty map from numbers to numbers, in such a tile
 abbrev map : List ℕ
@@ -75,10 +76,10 @@ map_accepted : class_of current map ≡ None
 unfolding word_at word_bytes half_word_at zeros current
 map_accepted = refl
 
--- and has come where such maps have
-map_is : are_supported map ≡ is_supported_kind (Map I64 I64)
-unfolding are_supported word_at word_bytes half_word_at zeros current
-map_is = refl
+-- and says that map
+map_says : read_off current map ≡ record { size = 240; objects = record { class = Anonymous; name = []; value = Pairs I64 I64 []; extent = record { offset = 128; len = 64; role = ObjectRole } } ∷ []; named = no_table; unique = no_table }
+unfolding read_off word_at word_bytes half_word_at zeros current
+map_says = refl
 
 -- a number behind its right kind, with a count of 0
 abbrev wrong : List ℕ

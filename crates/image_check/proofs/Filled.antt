@@ -64,12 +64,11 @@ filled_short format w start mid new ws n ended f f' cause h e l s a i g =
     (whole-room w) s a i g
 
 -- all came, and the reader does not end
-pub filled_whole : (format : ℕ) (w : Cut) (old mid new ws : List ℕ) (n : ℕ) (ended : Bool) (f g f' : ℕ) (r : Result (Unit {0}) OpenError) → HasFront format w → n ≡ length w.bytes → length ws ≡ n - 24 → mid ≡ old ++ ws → g ≡ f + 0
+pub filled_whole : (w : Cut) (old mid new ws : List ℕ) (n : ℕ) (ended : Bool) (f g f' : ℕ) (r : Result (Unit {0}) OpenError) → 144 ≤ length w.bytes → n ≡ length w.bytes → length ws ≡ n - 24 → mid ≡ old ++ ws → g ≡ f + 0
     → IfErr r (GoesOn mid new) → f' ≡ g + failed_reads r
-    → IfErr r (λ cause. (start : List ℕ) → old ≡ start ++ take 24 w.bytes → Stops format (read_since start new ended f f') (length w.before) (length (whole w)) cause)
-filled_whole format w old mid new ws n ended f g f' (Ok u) h e l s k a c = tt
-filled_whole format w old mid new ws n ended f g f' (Err cause) h e l s k a c = λ start t.
-    let least = HasFront-least format w h in
+    → IfErr r (λ cause. (format : ℕ) → HasFront format w → (start : List ℕ) → old ≡ start ++ take 24 w.bytes → Stops format (read_since start new ended f f') (length w.before) (length (whole w)) cause)
+filled_whole w old mid new ws n ended f g f' (Ok u) least e l s k a c = tt
+filled_whole w old mid new ws n ended f g f' (Err cause) least e l s k a c = λ format h start t.
     whole_stops format start mid new (take 24 w.bytes ++ ws) (length w.bytes) ended f f' (length w.before) (length (whole w)) cause
     (IsRight-append format (take 24 w.bytes) ws (length w.bytes) (IsRight-take format w.bytes (length w.bytes) (HasFront-IsRight format w h)))
     (front-length w.bytes ws n (omega arith) e l) (whole-room w) (both_added start old mid (take 24 w.bytes) ws t s) a (omega arith)

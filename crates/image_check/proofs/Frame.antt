@@ -3,23 +3,22 @@ use Rattle.std.proofs.Common.{◌≡◌, sym, subst, ℕ, Bool, not, ◌&&◌, �
 use Rattle.std.specs.Prelude.{IsTrue, nat_le, nat_lt}
 use Rattle.std.proofs.lemmas.Bool.{and_parts, and_from, and_right, or_from, eq-eqb, eqb-true, le-leb, le-ltb, not_from_true, not-false}
 use Rattle.raw_region.specs.Memory.{bytes_of}
-use Rattle.raw_region.specs.Format.{current}
 use Rattle.block_tags.specs.Format.{is_legal_size}
 use Rattle.block_tags.specs.Tiles.{tiles_of}
 use Rattle.best_fit.proofs.Laws.{legal_size}
 use Rattle.image_check.specs.EarlyTests.{size_word, has_magic, has_version, has_front, has_size, has_reserved, is_tiled, has_free_tree}
-use Rattle.image_check.specs.SupportedImages.{has_frame, has_whole_size, has_tree}
+use Rattle.image_check.specs.Frame.{has_frame, has_whole_size, has_tree}
 use Rattle.image_check.proofs.Bytes.{AreSmall}
 use Rattle.image_check.proofs.Framed.{IsFramed, IsEarlyClean, framed-clean, clean-framed}
 
 -- the tests of a frame, by name
-pub record IsFrame (b : List ℕ) : Type 0 where
+pub record IsFrame (format : ℕ) (b : List ℕ) : Type 0 where
   pub magic : IsTrue (has_magic b)
-  pub version : IsTrue (has_version current b)
+  pub version : IsTrue (has_version format b)
   pub size : IsTrue (has_whole_size b)
   pub reserved : IsTrue (has_reserved b)
-  pub tiled : IsTrue (is_tiled current b)
-  pub tree : IsTrue (has_tree b)
+  pub tiled : IsTrue (is_tiled format b)
+  pub tree : IsTrue (has_tree format b)
 
 -- six tests one after another
 six : (p q r s t u : Bool) → IsTrue (p && q && r && s && t && u) → IsTrue p × IsTrue q × IsTrue r × IsTrue s × IsTrue t × IsTrue u
@@ -37,17 +36,17 @@ from_six p q r s t u a b c d e f =
     and_from (p && q && r && s && t) u (and_from (p && q && r && s) t (and_from (p && q && r) s (and_from (p && q) r (and_from p q a b) c) d) e) f
 
 -- a frame passes each of its tests
-pub has_frame-IsFrame : (b : List ℕ) → IsTrue (has_frame b) → IsFrame b
+pub has_frame-IsFrame : (format : ℕ) (b : List ℕ) → IsTrue (has_frame format b) → IsFrame format b
 unfolding has_frame
-has_frame-IsFrame b h =
-    let parts = six (has_magic b) (has_version current b) (has_whole_size b) (has_reserved b) (is_tiled current b) (has_tree b) h in
+has_frame-IsFrame format b h =
+    let parts = six (has_magic b) (has_version format b) (has_whole_size b) (has_reserved b) (is_tiled format b) (has_tree format b) h in
     record { magic = parts.0; version = parts.1; size = parts.2; reserved = parts.3; tiled = parts.4; tree = parts.5 }
 
 -- what passes each is a frame
-pub IsFrame-has_frame : (b : List ℕ) → IsFrame b → IsTrue (has_frame b)
+pub IsFrame-has_frame : (format : ℕ) (b : List ℕ) → IsFrame format b → IsTrue (has_frame format b)
 unfolding has_frame
-IsFrame-has_frame b f =
-    from_six (has_magic b) (has_version current b) (has_whole_size b) (has_reserved b) (is_tiled current b) (has_tree b) f.magic f.version f.size f.reserved f.tiled f.tree
+IsFrame-has_frame format b f =
+    from_six (has_magic b) (has_version format b) (has_whole_size b) (has_reserved b) (is_tiled format b) (has_tree format b) f.magic f.version f.size f.reserved f.tiled f.tree
 
 -- ---- the size
 
@@ -69,36 +68,18 @@ HasWholeSize-has_whole_size b s = and_from (is_legal_size (size_word b)) (size_w
 -- ---- what it leaves of the classes
 
 -- none of the first seven classes holds of a frame
-pub frame-clean : (b : List ℕ) → IsFrame b → IsEarlyClean current b
-frame-clean b f =
+pub frame-clean : (format : ℕ) (b : List ℕ) → IsFrame format b → IsEarlyClean format b
+frame-clean format b f =
     let s = has_whole_size-HasWholeSize b f.size in
     let least = (legal_size (size_word b) s.legal).low in
     let same = s.same in
     record {
-      truncated = or_from (nat_lt (length b) 144) (has_front current b && nat_lt (length b) (size_word b)) (le-ltb (length b) 144 (omega arith))
-          (and_right (has_front current b) (nat_lt (length b) (size_word b)) (le-ltb (length b) (size_word b) (omega arith)));
+      truncated = or_from (nat_lt (length b) 144) (has_front format b && nat_lt (length b) (size_word b)) (le-ltb (length b) 144 (omega arith))
+          (and_right (has_front format b) (nat_lt (length b) (size_word b)) (le-ltb (length b) (size_word b) (omega arith)));
       magic = not_from_true (has_magic b) f.magic;
-      version = not_from_true (has_version current b) f.version;
+      version = not_from_true (has_version format b) f.version;
       size = not_from_true (has_size b) (and_from (is_legal_size (size_word b)) (nat_le (length b) (size_word b)) s.legal (le-leb (length b) (size_word b) (omega arith)));
       reserved = not_from_true (has_reserved b) f.reserved;
-      tags = not_from_true (is_tiled current b) f.tiled;
-      free_tree = and_right (is_tiled current b) (not (has_tree b)) (not_from_true (has_tree b) f.tree);
-    }
-
--- so header, tags and free tree are right
-pub frame-framed : (b : List ℕ) → AreSmall (bytes_of b) → IsFrame b → IsFramed current b
-frame-framed b small f = clean-framed current b small (frame-clean b f)
-
--- and where they are right, the bytes are a frame
-pub framed-frame : (b : List ℕ) → AreSmall (bytes_of b) → IsFramed current b → IsFrame b
-unfolding current
-framed-frame b small f =
-    let c = framed-clean current b (omega arith) small f in
-    record {
-      magic = not-false (has_magic b) c.magic;
-      version = not-false (has_version current b) c.version;
-      size = HasWholeSize-has_whole_size b (record { legal = subst (λ n. IsTrue (is_legal_size n)) (sym f.size) f.legal; same = f.size });
-      reserved = not-false (has_reserved b) c.reserved;
-      tiled = not-false (is_tiled current b) c.tags;
-      tree = subst (λ n. IsTrue (has_free_tree current (bytes_of b) (tiles_of (bytes_of b) n))) (sym f.size) f.free_tree;
+      tags = not_from_true (is_tiled format b) f.tiled;
+      free_tree = and_right (is_tiled format b) (not (has_tree format b)) (not_from_true (has_tree format b) f.tree);
     }

@@ -19,7 +19,7 @@ use Rattle.image_check.proofs.Deciding.{has_magic-front, has_version-front, size
 -- ---- what the code reads
 
 -- a half word is the number in four bytes
-half_word-part : (b : List ℕ) (at : ℕ) → at + 4 ≤ length b → little_number 4 (part b at 4) ≡ half_word_at (bytes_of b) at
+pub half_word-part : (b : List ℕ) (at : ℕ) → at + 4 ≤ length b → little_number 4 (part b at 4) ≡ half_word_at (bytes_of b) at
 unfolding half_word_at
 half_word-part b at h = ap (little_number 4) (sym (read-part b at 4 h))
 
@@ -31,30 +31,26 @@ front_by magic version legal size = if magic then (if version then (if legal the
 pub record IsReadOf (b : List ℕ) (magic version size : ℕ) : Type 0 where
   pub long : 24 ≤ length b
   pub magic_is : magic ≡ word_at (bytes_of b) 0
-  pub version_is : version ≡ little_number 4 (part b 8 4)
+  pub version_is : version ≡ half_word_at (bytes_of b) 8
   pub size_is : size ≡ word_at (bytes_of b) 16
 
 -- a right magic
 magic-true : (b : List ℕ) (m v n : ℕ) → IsReadOf b m v n → m ≡ magic_number → has_magic b ≡ true
 magic-true b m v n r e = eq-eqb (word_at (bytes_of b) 0) magic_number (sym r.magic_is ∙ e)
 
--- the version's half word
-version-is : (b : List ℕ) (m v n : ℕ) → IsReadOf b m v n → v ≡ half_word_at (bytes_of b) 8
-version-is b m v n r = let long = r.long in r.version_is ∙ half_word-part b 8 (omega arith)
-
 -- another version
-pub front-version : (format : ℕ) (b : List ℕ) (m v : ℕ) → 24 ≤ length b → m ≡ word_at (bytes_of b) 0 → v ≡ little_number 4 (part b 8 4) → m ≡ magic_number → (v ≡ format → ⊥)
+pub front-version : (format : ℕ) (b : List ℕ) (m v : ℕ) → 24 ≤ length b → m ≡ word_at (bytes_of b) 0 → v ≡ half_word_at (bytes_of b) 8 → m ≡ magic_number → (v ≡ format → ⊥)
     → Err UnsupportedVersion ≡ front_of format b
 front-version format b m v long p q e d =
     let r : IsReadOf b m v (word_at (bytes_of b) 16) = record { long = long; magic_is = p; version_is = q; size_is = refl } in
-    let f : has_version format b ≡ false = ne_eqb (half_word_at (bytes_of b) 8) format (λ h. d (version-is b m v (word_at (bytes_of b) 16) r ∙ h)) in
+    let f : has_version format b ≡ false = ne_eqb (half_word_at (bytes_of b) 8) format (λ h. d (q ∙ h)) in
     let g = magic-true b m v (word_at (bytes_of b) 16) r e in
     sym (λ i. front_by (g i) (f i) (is_legal_size (size_word b)) (size_word b))
 
 -- a size that no segment has
 pub front-size : (format : ℕ) (b : List ℕ) (m v n : ℕ) → IsReadOf b m v n → m ≡ magic_number → v ≡ format → is_legal_size n ≡ false → Err BadSize ≡ front_of format b
 front-size format b m v n r e d l =
-    let f : has_version format b ≡ true = eq-eqb (half_word_at (bytes_of b) 8) format (sym (version-is b m v n r) ∙ d) in
+    let f : has_version format b ≡ true = eq-eqb (half_word_at (bytes_of b) 8) format (sym r.version_is ∙ d) in
     let g = magic-true b m v n r e in
     let h : is_legal_size (size_word b) ≡ false = sym (ap is_legal_size r.size_is) ∙ l in
     sym (λ i. front_by (g i) (f i) (h i) (size_word b))
@@ -63,7 +59,7 @@ front-size format b m v n r e d l =
 pub front-right : (format : ℕ) (b : List ℕ) (m v n : ℕ) → IsReadOf b m v n → m ≡ magic_number → v ≡ format → is_legal_size n ≡ true → Ok n ≡ front_of format b
 front-right format b m v n r e d l =
     let size = sym r.size_is in
-    let f : has_version format b ≡ true = eq-eqb (half_word_at (bytes_of b) 8) format (sym (version-is b m v n r) ∙ d) in
+    let f : has_version format b ≡ true = eq-eqb (half_word_at (bytes_of b) 8) format (sym r.version_is ∙ d) in
     let g = magic-true b m v n r e in
     let h : is_legal_size (size_word b) ≡ true = sym (ap is_legal_size r.size_is) ∙ l in
     sym (λ i. front_by (g i) (f i) (h i) (size i))

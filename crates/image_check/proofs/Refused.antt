@@ -1,44 +1,44 @@
 -- An image that was read and is refused, and why.
-use Rattle.std.proofs.Common.{◌≡◌, sym, ap, subst, ◌∙◌, inl, ℕ, List, length, arith, Err}
+use Rattle.std.proofs.Common.{◌≡◌, sym, ap, subst, ◌∙◌, inl, ℕ, List, length, arith, Some, Err}
 use Rattle.raw_region.specs.Device.{Given}
 use Rattle.raw_region.specs.Memory.{Cut, whole}
-use Rattle.raw_region.specs.Format.{current}
 use Rattle.segment_manager.specs.declared.modes.Mode.{Mode}
 use Rattle.image_check.specs.declared.errors.OpenError.{OpenError}
 use Rattle.image_check.specs.declared.errors.CheckError.{CheckError}
 use Rattle.image_check.specs.declared.errors.CheckError.TheVariants.{Class, NoMemory}
 use Rattle.image_check.specs.EarlyTests.{size_word}
-use Rattle.image_check.specs.Opening.{IsClassFor, IsTooSmallFor, IsWhyNot, Opens, has_early_class}
+use Rattle.image_check.specs.Classes.{class_of}
+use Rattle.image_check.specs.Opening.{IsTooSmallFor, IsWhyNot, Opens, has_early_class}
 use Rattle.image_check.specs.Checking.{IsWhyRefused, cause_for}
 use Rattle.image_check.specs.Reading.{IsImageRead}
 use Rattle.image_check.specs.Passes.{has_block}
 use Rattle.std.specs.Prelude.{IsTrue, false}
 
-module _ (image : Given) (region : List ℕ) (base : ℕ) (w : Cut) (h : IsImageRead current image region base w) where
+module _ (format : ℕ) (image : Given) (region : List ℕ) (base : ℕ) (w : Cut) (h : IsImageRead format image region base w) where
   -- there was room for it
-  has_room : IsTooSmallFor current image base (length region) → ⊥
-  has_room t =
+  pub no-room : IsTooSmallFor format image base (length region) → ⊥
+  no-room t =
       let small = t.small in
       let room = h.room in
       let same = ap length h.bytes in
       let says : size_word image.bytes ≡ length w.bytes = sym (ap size_word h.bytes) ∙ h.front.says in
       omega arith
 
-  why-not : (why : CheckError) → IsWhyRefused current w.bytes why → IsWhyNot current image base (length region) (cause_for why)
-  why-not (Class c) x = record { sound = h.read.failed; right = inl (h.read.ended, subst (λ (b : List ℕ). IsClassFor current b c) h.bytes x) }
+  why-not : (why : CheckError) → IsWhyRefused format w.bytes why → IsWhyNot format image base (length region) (cause_for why)
+  why-not (Class c) x = record { sound = h.read.failed; right = inl (h.read.ended, subst (λ (b : List ℕ). class_of format b ≡ Some c) h.bytes x) }
   why-not NoMemory x = record {
     read = h.read;
-    early = subst (λ (b : List ℕ). has_early_class current b ≡ false) h.bytes x.0;
+    early = subst (λ (b : List ℕ). has_early_class format b ≡ false) h.bytes x.0;
     used = subst (λ (b : List ℕ). IsTrue (has_block b)) h.bytes x.1;
   }
 
   -- the answer of an opening
-  pub refused : (mode : Mode) (why : CheckError) (cause : OpenError) (back : List ℕ) → IsWhyRefused current w.bytes why → cause ≡ cause_for why → back ≡ whole w
-      → Opens current image region base mode (Err (record { region = back; cause = cause }))
+  pub refused : (mode : Mode) (why : CheckError) (cause : OpenError) (back : List ℕ) → IsWhyRefused format w.bytes why → cause ≡ cause_for why → back ≡ whole w
+      → Opens format image region base mode (Err (record { region = back; cause = cause }))
   refused mode why cause back x e f = record {
     answers = record {
-      why = subst (IsWhyNot current image base (length region)) (sym e) (why-not why x);
+      why = subst (IsWhyNot format image base (length region)) (sym e) (why-not why x);
       handed_back = ap length f ∙ h.capacity;
     };
-    too_small = λ t. absurd (has_room t);
+    too_small = λ t. absurd (no-room t);
   }

@@ -15,7 +15,7 @@ use Rattle.image_check.specs.declared.errors.OpenError.TheVariants.{Image, ReadF
 use Rattle.image_check.specs.EarlyTests.{size_word, has_magic, has_version, has_front, has_size}
 use Rattle.image_check.specs.Classes.{holds}
 use Rattle.image_check.specs.Deciding.{decided, decided_by}
-use Rattle.image_check.specs.Opening.{IsTooSmallFor, first, failed_reads}
+use Rattle.image_check.specs.Opening.{IsTooSmallFor, failed_reads}
 use Rattle.image_check.specs.Reading.{front_of, IsShort, GoesOn, Stops}
 use Rattle.image_check.proofs.Deciding.{decided-some, decided-none, first_class}
 use Rattle.image_check.proofs.Early.{short-Truncated, cut-Truncated}
@@ -46,7 +46,7 @@ stops_since format old new b ended f f' base capacity cause e s = subst (λ x. S
 -- ---- too few bytes
 
 -- fewer than 144 bytes decide nothing
-short-undecided : (format : ℕ) (b : List ℕ) → length b < 144 → decided format b ≡ None
+pub short-undecided : (format : ℕ) (b : List ℕ) → length b < 144 → decided format b ≡ None
 unfolding decided
 short-undecided format b l = ap (λ s. decided_by s (has_magic b) (has_version format b) (has_size b)) (lt-ltb (length b) 144 l)
 
@@ -77,7 +77,7 @@ short_stops format b ended f f' base capacity cause t d n (inl e) g =
 short_stops format b ended f f' base capacity cause t d n (inr h) g =
     let same : f' ≡ f + 0 = g ∙ ap (λ c. f + rise c) h.0 in
     subst (Stops format (given b ended f f') base capacity) (sym h.0)
-    (record { why = record { sound = none_failed f f' same; right = inl (h.1, first (first_class (holds format b) t)) }; too_small = λ s. absurd (n s) })
+    (record { why = record { sound = none_failed f f' same; right = inl (h.1, first_class (holds format b) t) }; too_small = λ s. absurd (n s) })
 
 -- ---- in the first 24 bytes, and in the others where these are wrong
 

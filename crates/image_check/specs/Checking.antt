@@ -11,7 +11,8 @@ use Rattle.image_check.specs.declared.errors.OpenError.TheVariants.{Image, OutOf
 use Rattle.image_check.specs.ObjectTests.{has_indexes, has_objects}
 use Rattle.image_check.specs.Fields.{is_shared, is_orphaned, has_containers}
 use Rattle.image_check.specs.Passes.{tiles_in, has_block}
-use Rattle.image_check.specs.Opening.{IsClassFor, has_early_class}
+use Rattle.image_check.specs.Classes.{class_of}
+use Rattle.image_check.specs.Opening.{has_early_class}
 
 -- the first class from the eighth on, by the five tests
 abbrev pub late_by : Bool → Bool → Bool → Bool → Bool → Option ImageClass
@@ -30,7 +31,7 @@ FindsLate format b result =
 
 -- why an image is not opened
 abbrev pub IsWhyRefused : ℕ → List ℕ → CheckError → Type 0
-IsWhyRefused format b (Class c) = IsClassFor format b c
+IsWhyRefused format b (Class c) = class_of format b ≡ Some c
 IsWhyRefused format b NoMemory = (has_early_class format b ≡ false) × IsTrue (has_block b)
 
 -- the same as an answer to an opening

@@ -4,6 +4,7 @@ use Rattle.image_check.specs.declared.classes.ImageClass.{ImageClass}
 use Rattle.image_check.specs.declared.classes.ImageClass.TheVariants.{BadMagic, UnsupportedVersion, BadSize}
 use Rattle.image_check.specs.EarlyTests.{has_magic, has_version, has_size}
 use Rattle.image_check.specs.Classes.{DecidesClass}
+use Rattle.image_check.specs.Formats.{DecidesAny, format_of}
 
 -- the class by these tests, one after another: too few bytes, the magic, the version, the size
 abbrev pub decided_by : Bool → Bool → Bool → Bool → Option ImageClass
@@ -23,3 +24,11 @@ pub record IsDecided (format : ℕ) (front : List ℕ) : Type 0 where
 
 abbrev pub AllDecided : Type 0
 AllDecided = (format : ℕ) (front : List ℕ) → IsDecided format front
+
+-- the same of images of any of the three formats
+pub record IsDecidedAny (front : List ℕ) : Type 0 where
+  pub some : (c : ImageClass) → decided (format_of front) front ≡ Some c → DecidesAny front c
+  pub none : decided (format_of front) front ≡ None → (c : ImageClass) → DecidesAny front c → ⊥
+
+abbrev pub AllDecidedAny : Type 0
+AllDecidedAny = (front : List ℕ) → IsDecidedAny front

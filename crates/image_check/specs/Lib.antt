@@ -5,7 +5,8 @@ pub mod Classes
 pub mod Meaning
 pub mod Opening
 pub mod Reading
-pub mod SupportedImages
+pub mod Frame
+pub mod Formats
 pub mod Deciding
 pub mod FreeNodes
 pub mod FreeLaws
@@ -19,3 +20,5 @@ pub mod MapNodes
 pub mod MapLaws
 pub mod Containers
 pub mod Sharing
+pub mod OlderFormats
+pub mod OpeningAny

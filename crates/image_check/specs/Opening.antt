@@ -1,12 +1,11 @@
 -- What opening an image may answer, from what its reader gave, where images of one format are read.
-use Rattle.std.specs.Prelude.{◌≡◌, ◌⊎◌, ◌<◌, ◌≤◌, ℕ, ◌+◌, ◌*◌, ◌/◌, true, false, ◌&&◌, List, length, IsTrue, nat_lt, Bool, Some, None, Result, Ok, Err, MatchResult, if◌then◌else◌}
+use Rattle.std.specs.Prelude.{◌≡◌, ◌⊎◌, ◌<◌, ◌≤◌, ℕ, ◌+◌, ◌*◌, ◌/◌, true, false, ◌&&◌, List, length, IsTrue, nat_lt, Bool, Some, Result, Ok, Err, MatchResult, if◌then◌else◌}
 use Rattle.std.specs.List.{list_any}
 use Rattle.raw_region.specs.Memory.{SamePlace, cut_at}
 use Rattle.block_tags.specs.Format.{is_legal_size}
 use Rattle.raw_region.specs.Device.{Given}
 use Rattle.segment_manager.specs.declared.modes.Mode.{Mode}
 use Rattle.segment_manager.specs.Directory.{Directory}
-use Rattle.segment_manager.specs.Supported.{is_supported}
 use Rattle.segment_manager.specs.Denotes.{Denotes}
 use Rattle.segment_manager.specs.State.{State}
 use Rattle.image_check.specs.declared.errors.OpenError.{OpenError}
@@ -19,23 +18,13 @@ use Rattle.image_check.specs.Passes.{has_block}
 
 -- ---- of the bytes
 
--- they denote this directory by the format, and it is made of what has come so far
-pub record IsImageOf (format : ℕ) (b : List ℕ) (d : Directory) : Type 0 where
-  pub denotes : Denotes format b d
-  pub supported : IsTrue (is_supported d)
-
+-- they denote a directory by the format
 abbrev pub IsImage : ℕ → List ℕ → Type 0
-IsImage format b = (d : Directory) × IsImageOf format b d
+IsImage format b = (d : Directory) × Denotes format b d
 
 -- one of the classes before the eighth holds
 abbrev pub has_early_class : ℕ → List ℕ → Bool
 has_early_class format b = list_any (λ c. nat_lt (number_of c) 8 && holds format b c) classes
-
--- The class is right for these bytes: it is the first that holds. An image that is accepted, of a directory that has not come
--- yet, is refused by one of the last five.
-pub data IsClassFor (format : ℕ) (b : List ℕ) (c : ImageClass) : Type 0 where
-  first : class_of format b ≡ Some c → IsClassFor format b c
-  not_come : class_of format b ≡ None → 8 ≤ number_of c → (IsImage format b → ⊥) → IsClassFor format b c
 
 -- ---- of what the reader gave
 
@@ -44,10 +33,10 @@ pub record IsReadToEnd (image : Given) : Type 0 where
   pub ended : image.ended ≡ true
   pub failed : image.failed ≡ false
 
--- no read failed, and the image was read to its end and the class is right for it, or what was read decides the class
+-- no read failed, and the image was read to its end and the class is the first that holds of it, or what was read decides the class
 pub record IsRefusedAs (format : ℕ) (image : Given) (c : ImageClass) : Type 0 where
   pub sound : image.failed ≡ false
-  pub right : ((image.ended ≡ true) × IsClassFor format image.bytes c) ⊎ DecidesClass format image.bytes c
+  pub right : ((image.ended ≡ true) × (class_of format image.bytes ≡ Some c)) ⊎ DecidesClass format image.bytes c
 
 -- the first 24 bytes are magic, version, any half word and a legal size word, and the region is too small for that size
 pub record IsTooSmallFor (format : ℕ) (image : Given) (base capacity : ℕ) : Type 0 where

@@ -8,6 +8,8 @@ use Rattle.image_check.specs.declared.errors.OpenError.TheVariants.{Image, Regio
 use Rattle.image_check.specs.declared.errors.OpenRefused.{OpenRefused}
 use Rattle.image_check.specs.declared.classes.ImageClass.{ImageClass}
 use Rattle.image_check.specs.declared.classes.ImageClass.TheVariants.{Truncated, BadMagic, UnsupportedVersion, BadSize}
+use Rattle.image_check.specs.declared.versions.Versions.{Versions}
+use Rattle.image_check.specs.Formats.{format_in}
 use Rattle.image_check.specs.EarlyTests.{has_magic, has_version, has_front, size_word}
 use Rattle.image_check.specs.Opening.{IsReadToEnd, IsWhyNot, IsTooSmallFor}
 
@@ -60,3 +62,14 @@ pub record IsImageRead (format : ℕ) (image : Given) (region : List ℕ) (base 
 pub record IsNotRead (format : ℕ) (image : Given) (region : List ℕ) (base : ℕ) (refused : OpenRefused) : Type 0 where
   pub stops : Stops format image base (length region) refused.cause
   pub handed_back : length refused.region ≡ length region
+
+-- ---- by the format that the first words say, where it is one of those that are read
+
+abbrev pub StopsBy : Versions → Given → ℕ → ℕ → OpenError → Type 0
+StopsBy versions image = Stops (format_in versions image.bytes) image
+
+abbrev pub IsReadBy : Versions → Given → List ℕ → ℕ → Cut → Type 0
+IsReadBy versions image = IsImageRead (format_in versions image.bytes) image
+
+abbrev pub IsNotReadBy : Versions → Given → List ℕ → ℕ → OpenRefused → Type 0
+IsNotReadBy versions image = IsNotRead (format_in versions image.bytes) image

@@ -72,9 +72,6 @@ container_rates = record { free = 1; object = 12; index = 1; storage = 24; node 
 abbrev pub orphan_rates : Rates
 orphan_rates = record { free = 1; object = 1; index = 1; storage = 1; node = 1 }
 
-abbrev pub support_rates : Rates
-support_rates = record { free = 1; object = 1; index = 1; storage = 1; node = 1 }
-
 -- the tags and the free tree, the passes over the blocks, and all passes behind the first words
 abbrev pub frame_rates : Rates
 frame_rates = both tag_rates tree_rates
@@ -83,4 +80,4 @@ abbrev pub block_rates : Rates
 block_rates = both index_rates (both object_rates (both sharing_rates (both container_rates orphan_rates)))
 
 abbrev pub all_rates : Rates
-all_rates = both frame_rates (both gathering_rates (both block_rates support_rates))
+all_rates = both frame_rates (both gathering_rates block_rates)

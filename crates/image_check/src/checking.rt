@@ -1,16 +1,13 @@
 //! Whether a whole image is that of a directory.
 ghost use Rattle.std.specs.Prelude.{◌≡◌, ◌≤◌, IsTrue, None, Some, MatchResult, OnErr, OnOk, length};
-ghost use Rattle.raw_region.specs.Format.{current};
-ghost use Rattle.raw_region.specs.Memory.{bytes_of};
-ghost use Rattle.segment_manager.specs.State.{IsSegment};
 ghost use Rattle.image_check.specs.Checking.{FindsLate, IsWhyRefused};
 ghost use Rattle.image_check.specs.Classes.{are_bytes, class_of};
 ghost use Rattle.image_check.specs.EarlyTests.{has_reserved as is_reserved};
-ghost use Rattle.image_check.specs.Opening.{IsRaisedFor};
+ghost use Rattle.image_check.specs.Frame.{has_frame};
+ghost use Rattle.image_check.specs.Opening.{IsImage, IsRaisedFor};
 ghost use Rattle.image_check.specs.Owners.{entries_of};
 ghost use Rattle.image_check.specs.Passes.{HasTiles, Spends, tiles_in};
 ghost use Rattle.image_check.specs.Reading.{HasFront};
-ghost use Rattle.image_check.specs.SupportedImages.{has_frame};
 ghost use Rattle.image_check.specs.Visits.{block_rates, frame_rates};
 
 use crate::classes::ImageClass;
@@ -24,35 +21,37 @@ use crate::object_walk::check_objects;
 use crate::orphans::check_orphans;
 use crate::owners::Owners;
 use crate::sharing::check_sharing;
-use crate::support::is_supported;
 use crate::visits::Visits;
+use crate::without_tree::check_without_tree;
 use block_tags::{FIRST, check_counted};
 use raw_region::Window;
-use segment_manager::layout::{FORMAT, FORMAT_AT, RESERVED_AT, SIZE_AT};
+use segment_manager::layout::{FORMAT_AT, RESERVED_AT, SIZE_AT};
 use std::alloc::Global;
 
-/// Whether a window whose first words are right is the image of a directory that a segment can keep.
+/// Whether a window whose first words are right by a format, from 0 to 2, is the image of a directory by it.
 ///
 /// # Errors
 ///
-/// The first class that holds. `OrphanBlock` where none holds and the directory is not supported yet. `NoMemory` only where none
-/// of the classes before `BadIndex` holds and a tile is in use.
-pub fn check(alloc: Global, window: &Window, visits: &mut Visits) -> Result<(), CheckError>
-    requires { HasFront current window.now }
-    ensures answers { MatchResult result (λ done. IsSegment window.now.bytes) (IsWhyRefused current window.now.bytes) }
+/// The first class that holds. `NoMemory` only where none of the classes before `BadIndex` holds and a tile is in use.
+pub fn check(
+    format: u64,
+    alloc: Global,
+    window: &Window,
+    visits: &mut Visits,
+) -> Result<(), CheckError>
+    requires format { format ≤ 2 }
+    requires front { HasFront format window.now }
+    ensures answers { MatchResult result (λ done. IsImage format window.now.bytes) (IsWhyRefused format window.now.bytes) }
     ensures visits { IsRaisedFor (length window.now.bytes) visits.old visits.new }
 {
-    if let Err(class) = check_frame(window, visits) {
+    if let Err(class) = check_frame(format, window, visits) {
         return Err(CheckError::Class(class));
     }
     let Ok(mut owners) = gather(alloc, window, visits) else {
         return Err(CheckError::NoMemory);
     };
-    if let Err(class) = check_blocks(window, &mut owners, visits) {
+    if let Err(class) = check_blocks(format, window, &mut owners, visits) {
         return Err(CheckError::Class(class));
-    }
-    if !is_supported(window, visits) {
-        return Err(CheckError::Class(ImageClass::OrphanBlock));
     }
     Ok(())
 }
@@ -62,9 +61,9 @@ pub fn check(alloc: Global, window: &Window, visits: &mut Visits) -> Result<(), 
 /// # Errors
 ///
 /// The first of `BadReserved`, `BadTag` and `BadFreeTree` that holds.
-fn check_frame(window: &Window, visits: &mut Visits) -> Result<(), ImageClass>
-    requires { HasFront current window.now }
-    ensures finds { MatchResult result (λ done. IsTrue (has_frame window.now.bytes)) (λ class. class_of current window.now.bytes ≡ Some class) }
+fn check_frame(format: u64, window: &Window, visits: &mut Visits) -> Result<(), ImageClass>
+    requires { HasFront format window.now }
+    ensures finds { MatchResult result (λ done. IsTrue (has_frame format window.now.bytes)) (λ class. class_of format window.now.bytes ≡ Some class) }
     ensures bytes { OnOk result (IsTrue (are_bytes window.now.bytes)) }
     ensures visits { OnOk result (Spends frame_rates 51 window.now.bytes visits.old visits.new) }
     ensures most { OnErr result (IsRaisedFor (length window.now.bytes) visits.old visits.new) }
@@ -77,6 +76,9 @@ fn check_frame(window: &Window, visits: &mut Visits) -> Result<(), ImageClass>
     if !tags.are_good {
         return Err(ImageClass::BadTag);
     }
+    if format == 0 {
+        return check_without_tree(window, visits);
+    }
     if !has_free_tree(window, visits) {
         return Err(ImageClass::BadFreeTree);
     }
@@ -88,31 +90,36 @@ fn check_frame(window: &Window, visits: &mut Visits) -> Result<(), ImageClass>
 /// # Errors
 ///
 /// The first of `BadIndex`, `BadObject`, `SharedBlock`, `BadContainer` and `OrphanBlock` that holds.
-fn check_blocks(window: &Window, owners: &mut Owners, visits: &mut Visits) -> Result<(), ImageClass>
+fn check_blocks(
+    format: u64,
+    window: &Window,
+    owners: &mut Owners,
+    visits: &mut Visits,
+) -> Result<(), ImageClass>
     requires tiles { HasTiles window.now.bytes }
     requires blocks { owners.old.blocks.entries ≡ entries_of (tiles_in window.now.bytes) }
     requires pending { owners.old.pending ≡ None }
     requires waiting { owners.old.waiting ≡ 0 }
-    ensures finds { FindsLate current window.now.bytes result }
+    ensures finds { FindsLate format window.now.bytes result }
     ensures visits { Spends block_rates 62 window.now.bytes visits.old visits.new }
 {
     if let Err(class) = check_indexes(window, owners, visits) {
         return Err(class);
     }
-    if let Err(class) = check_objects(FORMAT, window, owners, visits) {
+    if let Err(class) = check_objects(format, window, owners, visits) {
         return Err(class);
     }
-    if let Err(class) = check_sharing(FORMAT, window, owners, visits) {
+    if let Err(class) = check_sharing(format, window, owners, visits) {
         return Err(class);
     }
-    if let Err(class) = check_containers(FORMAT, window, owners, visits) {
+    if let Err(class) = check_containers(format, window, owners, visits) {
         return Err(class);
     }
     check_orphans(window, owners, visits)
 }
 
 /// All bytes of the window.
-fn all_bytes(window: &Window) -> &[u8]
+pub(crate) fn all_bytes(window: &Window) -> &[u8]
     ensures all { result.now ≡ window.now.bytes }
     ensures bytes { IsTrue (are_bytes result.now) }
 {

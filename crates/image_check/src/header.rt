@@ -1,13 +1,14 @@
 //! The first words of an image: magic, version and size.
 ghost use Rattle.std.specs.Prelude.{◌≡◌, ◌≤◌, length};
 ghost use Rattle.raw_region.specs.Format.{current};
+ghost use Rattle.image_check.specs.Formats.{format_in, format_of};
 ghost use Rattle.image_check.specs.Reading.{front_of};
 
 use crate::classes::ImageClass;
+use crate::versions::{Versions, version_in};
 use block_tags::{FIRST, TAG, is_legal_size};
-use byteorder::{ByteOrder, LittleEndian};
 use raw_region::word_in;
-use segment_manager::layout::{FORMAT, FORMAT_AT, MAGIC, MAGIC_AT, SIZE_AT};
+use segment_manager::layout::{MAGIC, MAGIC_AT, SIZE_AT};
 
 /// How many bytes at the front of an image say its magic, its version and its size.
 pub const FRONT: usize = SIZE_AT as usize + 8;
@@ -26,11 +27,34 @@ pub fn size_in(front: &[u8]) -> Result<u64, ImageClass>
     requires { 24 ≤ length front.now }
     ensures { result ≡ front_of current front.now }
 {
+    size_by(Versions::Current, front)
+}
+
+/// The same of an image of any of the three formats.
+///
+/// # Errors
+///
+/// As [`size_in`], and `UnsupportedVersion` for a version above the current one.
+pub fn size_in_any(front: &[u8]) -> Result<u64, ImageClass>
+    requires { 24 ≤ length front.now }
+    ensures { result ≡ front_of (format_of front.now) front.now }
+{
+    size_by(Versions::All, front)
+}
+
+/// The same where these versions are read.
+///
+/// # Errors
+///
+/// As [`size_in`].
+pub(crate) fn size_by(versions: Versions, front: &[u8]) -> Result<u64, ImageClass>
+    requires { 24 ≤ length front.now }
+    ensures { result ≡ front_of (format_in versions front.now) front.now }
+{
     if word_in(front, MAGIC_AT as usize) != MAGIC {
         return Err(ImageClass::BadMagic);
     }
-    let format = FORMAT_AT as usize;
-    if u64::from(LittleEndian::read_u32(&front[format..format + 4])) != FORMAT {
+    if !versions.has(version_in(front)) {
         return Err(ImageClass::UnsupportedVersion);
     }
     let size = word_in(front, SIZE_AT as usize);

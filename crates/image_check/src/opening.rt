@@ -7,8 +7,10 @@ ghost use Rattle.image_check.specs.Opening.{IsRaisedFor, Opens, cause_of, failed
 use crate::checking::check;
 use crate::errors::OpenRefused;
 use crate::reading::read_image;
+use crate::versions::Versions;
 use crate::visits::Visits;
 use raw_region::{RawRegion, Source, Steps};
+use segment_manager::layout::FORMAT;
 use segment_manager::{Mode, Segment};
 use std::alloc::Global;
 use std::mem;
@@ -37,9 +39,9 @@ pub fn open<S: Source>(
     ensures history { Reads (S.history reader.old) (S.history reader.new) (failed_reads (cause_of result)) }
     ensures steps { IsRaisedFor (size_or_least (given_since (S.history reader.old) (S.history reader.new)).bytes) steps.old steps.new }
 {
-    let window = read_image(reader, region, base)?;
+    let window = read_image(Versions::Current, reader, region, base)?;
     let mut visits = Visits::new(mem::replace(steps, Steps::new()));
-    let checked = check(alloc, &window, &mut visits);
+    let checked = check(FORMAT, alloc, &window, &mut visits);
     *steps = visits.into_steps();
     match checked {
         Ok(()) => Ok(Segment::adopt(window, mode)),

@@ -2,24 +2,26 @@
 ghost use Rattle.std.specs.Prelude.{◌≡◌, ◌+◌, ◌-◌, ◌%◌, ◌^◌, ◌<◌, ◌≤◌, List, ℕ, ◌++◌, true, length, take, drop, IfOk, OnOk, IfErr, MatchResult};
 ghost use Rattle.raw_region.specs.Answers.{AddsFront};
 ghost use Rattle.raw_region.specs.Device.{Reads, given_since};
-ghost use Rattle.raw_region.specs.Format.{current};
 ghost use Rattle.raw_region.specs.Memory.{whole};
 ghost use Rattle.raw_region.specs.Regions.{with_bytes};
+ghost use Rattle.image_check.specs.Formats.{format_in};
 ghost use Rattle.image_check.specs.Opening.{cause_of, failed_reads};
-ghost use Rattle.image_check.specs.Reading.{GoesOn, HasFront, IsFrontRead, IsImageRead, IsNotRead, IsShort, Stops};
+ghost use Rattle.image_check.specs.Reading.{GoesOn, HasFront, IsFrontRead, IsReadBy, IsNotReadBy, IsShort, Stops, StopsBy};
 
 use crate::classes::ImageClass;
 use crate::errors::{OpenError, OpenRefused};
-use crate::header::{FRONT, LEAST, size_in};
+use crate::header::{FRONT, LEAST, size_by};
+use crate::versions::Versions;
 use raw_region::{RawRegion, Source, Window, fill};
 
-/// Reads a whole image, which fills the window of the region from `base` on that it says.
+/// Reads a whole image of one of these versions, which fills the window of the region from `base` on that it says.
 ///
 /// # Errors
 ///
 /// `RegionTooSmall` as soon as the first words say a size for which there is no room. `Truncated`, or what is wrong with the
 /// first words, or `BadSize` where more bytes follow. `ReadFault` where the reader failed before that.
 pub fn read_image<S: Source>(
+    versions: Versions,
     reader: &mut S,
     region: RawRegion,
     base: u64,
@@ -27,12 +29,12 @@ pub fn read_image<S: Source>(
     requires aligned { base % 16 ≡ 0 }
     requires reader { (S.history reader.old).failures < 2 ^ 64 - 1 }
     ensures reads { MatchResult result
-        (IsImageRead current (given_since (S.history reader.old) (S.history reader.new)) region base)
-        (IsNotRead current (given_since (S.history reader.old) (S.history reader.new)) region base) }
+        (IsReadBy versions (given_since (S.history reader.old) (S.history reader.new)) region base)
+        (IsNotReadBy versions (given_since (S.history reader.old) (S.history reader.new)) region base) }
     ensures history { Reads (S.history reader.old) (S.history reader.new) (failed_reads (cause_of result)) }
 {
     let mut front = [0; FRONT];
-    let size = match read_front(reader, &mut front, &region, base) {
+    let size = match read_front(versions, reader, &mut front, &region, base) {
         Ok(size) => size,
         Err(cause) => return Err(OpenRefused { region, cause }),
     };
@@ -53,18 +55,19 @@ pub fn read_image<S: Source>(
 ///
 /// As `read_image`. Where the bytes begin no image, more are read, since fewer than 144 are too short whatever they are.
 fn read_front<S: Source>(
+    versions: Versions,
     reader: &mut S,
     front: &mut [u8; FRONT],
     region: &RawRegion,
     base: u64,
 ) -> Result<u64, OpenError>
     requires { (S.history reader.old).failures < 2 ^ 64 - 1 }
-    ensures ok { IfOk result (IsFrontRead current (S.history reader.old).bytes (S.history reader.new).bytes front.new base (length region.now)) }
-    ensures err { IfErr result (Stops current (given_since (S.history reader.old) (S.history reader.new)) base (length region.now)) }
+    ensures ok { IfOk result (IsFrontRead (format_in versions front.new) (S.history reader.old).bytes (S.history reader.new).bytes front.new base (length region.now)) }
+    ensures err { IfErr result (StopsBy versions (given_since (S.history reader.old) (S.history reader.new)) base (length region.now)) }
     ensures history { Reads (S.history reader.old) (S.history reader.new) (failed_reads result) }
 {
     read_all(reader, front)?;
-    match size_in(front) {
+    match size_by(versions, front) {
         Ok(size) if region.in_range(base, size) => Ok(size),
         Ok(_) => Err(OpenError::RegionTooSmall),
         Err(class) => {
@@ -81,11 +84,11 @@ fn read_front<S: Source>(
 /// As `read_image`.
 fn read_rest<S: Source>(reader: &mut S, window: &mut Window) -> Result<(), OpenError>
     requires reader { (S.history reader.old).failures < 2 ^ 64 - 1 }
-    requires front { HasFront current window.old }
+    requires long { 144 ≤ length window.old.bytes }
     ensures ok { OnOk result (window.new ≡ with_bytes window.old (take 24 window.old.bytes ++ drop (length (S.history reader.old).bytes) (S.history reader.new).bytes)) }
     ensures ended { OnOk result ((S.history reader.new).ended ≡ true) }
-    ensures err { IfErr result (λ cause. (start : List ℕ) → (S.history reader.old).bytes ≡ start ++ take 24 window.old.bytes
-        → Stops current (given_since (record (S.history reader.old) { bytes = start }) (S.history reader.new)) (length window.old.before) (length (whole window.old)) cause) }
+    ensures err { IfErr result (λ cause. (format : ℕ) → HasFront format window.old → (start : List ℕ) → (S.history reader.old).bytes ≡ start ++ take 24 window.old.bytes
+        → Stops format (given_since (record (S.history reader.old) { bytes = start }) (S.history reader.new)) (length window.old.before) (length (whole window.old)) cause) }
     ensures len { length (whole window.new) ≡ length (whole window.old) }
     ensures history { Reads (S.history reader.old) (S.history reader.new) (failed_reads result) }
 {

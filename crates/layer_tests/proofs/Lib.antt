@@ -3,3 +3,5 @@ mod HeapCalls
 mod Indexed
 mod Tables
 mod Vectors
+mod Maps
+mod Texts

@@ -19,6 +19,10 @@ mod raw_region_tests;
 #[cfg(test)]
 mod seg_index_tests;
 #[cfg(test)]
+mod seg_map_tests;
+#[cfg(test)]
+mod seg_texts_tests;
+#[cfg(test)]
 mod seg_types_tests;
 #[cfg(test)]
 mod seg_vector_tests;

@@ -4,10 +4,11 @@ use raw_region::fake::{Last, MemorySink};
 use seg_types::{IndexKey, Key, Kind, Name, NewKey, Refusal, ScalarKind, ScalarValue};
 use segment_lang::{
     Command, Content, LineError, Literal, Literals, Piece, Quoted, Reading, Texts, Values, Word,
-    literal_of, next_word, number_of, only_word, parse_line, put_line_error, put_name, put_number,
-    put_pieces, put_text, put_value, whole_of,
+    literal_of, next_word, number_of, only_word, parse_line, put_kind, put_line_error, put_name,
+    put_number, put_pieces, put_text, put_value, whole_of,
 };
 use std::alloc::{AllocError, Global};
+use std::process::Abort;
 use std::test::Fail;
 
 /// The bytes of a name as text.
@@ -48,6 +49,7 @@ fn told_content(alloc: Global, content: Content<'_>) -> Result<String, AllocErro
         }
         Content::Text(text) => told_text(alloc, &text),
         Content::Texts(texts) => told_texts(alloc, texts),
+        Content::NoPairs { key, value } => format!(in alloc; "no pairs of {key:?} and {value:?}"),
     }
 }
 
@@ -165,6 +167,29 @@ fn told_change(alloc: Global, command: Command<'_>) -> Result<String, AllocError
     }
 }
 
+/// The commands on the pairs of a map.
+fn told_pair(alloc: Global, command: Command<'_>) -> Result<String, AllocError> {
+    match command {
+        Command::Put { key, at, value } => {
+            let key = told_key(alloc, &key)?;
+            let at = told_literal(alloc, at)?;
+            let value = told_literal(alloc, value)?;
+            format!(in alloc; "put {key} {at} {value}")
+        }
+        Command::Lookup { key, at } => {
+            let key = told_key(alloc, &key)?;
+            let at = told_literal(alloc, at)?;
+            format!(in alloc; "lookup {key} {at}")
+        }
+        Command::Remove { key, at } => {
+            let key = told_key(alloc, &key)?;
+            let at = told_literal(alloc, at)?;
+            format!(in alloc; "remove {key} {at}")
+        }
+        _ => String::from_str(alloc, "another command"),
+    }
+}
+
 /// The commands that are a word, a key and perhaps a number.
 fn told_keyed(alloc: Global, command: &Command<'_>) -> Result<String, AllocError> {
     match command {
@@ -215,6 +240,9 @@ fn told_command(alloc: Global, command: Command<'_>) -> Result<String, AllocErro
         | Command::Insert { .. }
         | Command::Assign { .. }
         | Command::Append { .. } => told_change(alloc, command),
+        Command::Put { .. } | Command::Lookup { .. } | Command::Remove { .. } => told_pair(
+            alloc, command,
+        ),
         _ => told_keyed(alloc, &command),
     }
 }
@@ -281,6 +309,19 @@ fn objects_are_made(rt: HostRuntime) -> Result<(), Fail> {
             "find_or_construct string @string \"\"",
             "find_or_construct unique Text: a text that is no name",
         ),
+        ("construct vec<string> v", "construct name \"v\": texts"),
+        (
+            "construct vec<string> @vec<string> \"a\" \"b c\"",
+            "construct unique Texts: texts text \"a\" text \"b c\"",
+        ),
+        (
+            "construct map<u8,i64> m",
+            "construct name \"m\": no pairs of U8 and I64",
+        ),
+        (
+            "find_or_construct map<bool,u64> @map<bool,u64>",
+            "find_or_construct unique Map(Bool, U64): no pairs of Bool and U64",
+        ),
     ];
     for (line, want) in rows {
         let read = told(rt.alloc(), line.as_bytes())?;
@@ -325,6 +366,15 @@ fn commands_are_read(rt: HostRuntime) -> Result<(), Fail> {
             "assign name \"v\" values 1 true text \"x\" -9223372036854775808",
         ),
         ("append \"a b\" \"c\"", "append name \"a b\" text \"c\""),
+        ("find map<i32,bool> m", "find Map(I32, Bool) name \"m\""),
+        ("find vec<string> @vec<string>", "find Texts unique Texts"),
+        ("put m 4 -40", "put name \"m\" 4 -40"),
+        (
+            "put @map<i64,bool> \"k\" true",
+            "put unique Map(I64, Bool) text \"k\" true",
+        ),
+        ("lookup #192 false", "lookup handle 192 false"),
+        ("remove m 0", "remove name \"m\" 0"),
         ("list", "list"),
         ("unique", "unique"),
         ("blocks", "blocks"),
@@ -343,6 +393,67 @@ fn commands_are_read(rt: HostRuntime) -> Result<(), Fail> {
         let read = told(rt.alloc(), line.as_bytes())?;
         assert_eq!(rt; read.as_str(), want, "at {line:?}");
     }
+    Ok(())
+}
+
+/// The kinds of scalars and their spellings.
+const SCALARS: [(ScalarKind, &str); 5] = [
+    (ScalarKind::Bool, "bool"),
+    (ScalarKind::U8, "u8"),
+    (ScalarKind::I32, "i32"),
+    (ScalarKind::I64, "i64"),
+    (ScalarKind::U64, "u64"),
+];
+
+/// Fails where a kind is not spelled so in answers, and read so in a line and in a key.
+fn assert_kind(rt: &impl Abort, alloc: Global, kind: Kind, text: &str) -> Result<(), Fail> {
+    let mut out = MemorySink::new(alloc, 64, 64, Last::Fails)?;
+    put_kind(&mut out, kind)?;
+    assert_eq!(rt; out.taken(), text.as_bytes());
+    let asked = format!(in alloc; "find {text} @{text}")?;
+    let want = format!(in alloc; "find {kind:?} unique {kind:?}")?;
+    assert_eq!(rt; told(alloc, asked.as_bytes())?.as_str(), want.as_str());
+    Ok(())
+}
+
+#[test]
+fn each_kind_has_one_spelling(rt: HostRuntime) -> Result<(), Fail> {
+    let alloc = rt.alloc();
+    assert_kind(&rt, alloc, Kind::Text, "string")?;
+    assert_kind(&rt, alloc, Kind::Texts, "vec<string>")?;
+    for (key, key_text) in SCALARS {
+        assert_kind(&rt, alloc, Kind::Scalar(key), key_text)?;
+        let text = format!(in alloc; "vec<{key_text}>")?;
+        assert_kind(&rt, alloc, Kind::Vector(key), text.as_str())?;
+        for (value, value_text) in SCALARS {
+            let text = format!(in alloc; "map<{key_text},{value_text}>")?;
+            assert_kind(&rt, alloc, Kind::Map(key, value), text.as_str())?;
+        }
+    }
+    Ok(())
+}
+
+/// The name that a line asks to show.
+fn shown_name(line: &[u8]) -> Option<Name> {
+    match parse_line(line) {
+        Reading::Asked(Command::Show(Key::Name(name))) => Some(name),
+        _ => None,
+    }
+}
+
+// The bytes of a name come as they are, or as digits in a text; no bare word has a byte above 126.
+#[test]
+fn names_are_read(rt: HostRuntime) -> Result<(), Fail> {
+    for line in ["show \"\u{e9}\"", "show \"\\xc3\\xa9\""] {
+        let name = shown_name(line.as_bytes()).ok_or("no name")?;
+        assert_eq!(rt; name.as_bytes(), b"\xc3\xa9".as_slice());
+    }
+    let mut line = Vec::new(rt.alloc());
+    line.extend_from_slice(b"show ")?;
+    line.resize(5 + 255, b'n')?;
+    assert!(rt; shown_name(&line).is_some());
+    line.push(b'n')?;
+    assert!(rt; is_wrong(&line, LineError::BadSyntax));
     Ok(())
 }
 
@@ -378,9 +489,9 @@ fn other_words_are_no_commands(rt: HostRuntime) {
         "siz",
         "size\r\r",
         "size\x0b",
-        "put m 1 2",
-        "lookup m 1",
-        "remove m 1",
+        "puts m 1 2",
+        "look_up m 1",
+        "removes m 1",
         "pushv 1",
         "push_back v 1",
         "destroy_ptr#144",
@@ -440,6 +551,25 @@ fn what_does_not_fit_is_bad_syntax(rt: HostRuntime) {
         "construct i64 1a 5",
         "construct i64 \"\" 5",
         "construct i64 \"\\x0a\" 5",
+        "construct i64 \"\\xff\" 5",
+        "construct i64 \"\\xc2\\x85\" 5",
+        "construct i64 \"\\xc3\" 5",
+        "construct i64 \u{e9} 5",
+        "find map<u8,u8> @map<u8,i32>",
+        "find map<u8,u8>[1] m",
+        "find map<u8,> m",
+        "find map<,u8> m",
+        "find map<u8,u8>> m",
+        "find map<u8,u8,u8> m",
+        "find map<vec<u8>,u8> m",
+        "find vec<> v",
+        "find vec<string>> v",
+        "find_or_construct map<u8,u8> -",
+        "find_or_construct vec<string> - \"a\"",
+        "construct vec<string> v \"a\" 1",
+        "construct vec<string> v \"a\" \"",
+        "construct vec<string> @string \"a\"",
+        "construct_it vec<string> v \"a\"",
         "construct i64 @u64 5",
         "construct i64 @i64[1] 5",
         "construct i64[1048577] a 5",
@@ -456,7 +586,15 @@ fn what_does_not_fit_is_bad_syntax(rt: HostRuntime) {
         "construct vec<u8> v 256",
         "construct vec<f32> v",
         "construct vec<vec<u8>> v",
-        "construct map<i64,i64> m",
+        "construct vec<string> v a",
+        "construct vec<string>[2] v \"a\" \"b\"",
+        "construct map<i64,i64> m 1",
+        "construct map<i64,i64>[2] m",
+        "construct map<i64> m",
+        "construct map<i64,string> m",
+        "construct map<i64, i64> m",
+        "construct map<i64,u64> @map<u64,i64>",
+        "construct_it map<i64,i64> m",
         "construct vec<i64> @vec<u8> 1",
         "construct_it string s \"a\"",
         "construct_it vec<u8> v 1",
@@ -506,6 +644,17 @@ fn what_does_not_fit_is_bad_syntax(rt: HostRuntime) {
         "append s a",
         "append s 1",
         "append s \"a\" \"b\"",
+        "put",
+        "put m",
+        "put m 1",
+        "put m 1 2 3",
+        "put m x 1",
+        "put m 1 x",
+        "put - 1 2",
+        "lookup m",
+        "lookup m 1 2",
+        "remove m",
+        "remove m -0",
         "reserve_named",
         "reserve_named a",
         "reserve_unique 1 2",

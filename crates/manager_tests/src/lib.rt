@@ -16,9 +16,13 @@ mod segment_key_tests;
 #[cfg(test)]
 mod segment_manager_tests;
 #[cfg(test)]
+mod segment_map_tests;
+#[cfg(test)]
 mod segment_scalar_tests;
 #[cfg(test)]
 mod segment_string_tests;
+#[cfg(test)]
+mod segment_texts_tests;
 #[cfg(test)]
 mod segment_vector_tests;
 #[cfg(test)]

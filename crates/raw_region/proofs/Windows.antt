@@ -16,6 +16,16 @@ module _ (region : List ℕ) (base size : ℕ) (w : Cut) (view_is : cut_at regio
   pub is_whole : region ≡ whole w
   is_whole = sym (whole-cut_at region base size) ∙ ap whole view_is
 
+  -- the same from its base on, up to another end
+  base_is : length w.before ≡ base
+  base_is = let inside = window.inside in ap (λ (c : Cut). length c.before) (sym view_is) ∙ omega (arith, length-take base region)
+
+  pub resizes : (n : ℕ) → cut_at region base n ≡ cut_at (whole w) (length w.before) n
+  resizes n = ap (λ (l : List ℕ). cut_at l base n) is_whole ∙ ap (λ (b : ℕ). cut_at (whole w) b n) (sym base_is)
+
+  pub stays_whole : (n : ℕ) → whole (cut_at region base n) ≡ whole w
+  stays_whole n = whole-cut_at region base n ∙ is_whole
+
   pub reads : (from len : ℕ) → from + len ≤ length w.bytes → part region (base + from) len ≡ part w.bytes from len
   reads from len h = sym (part-part region base size from len (omega (arith, size_is))) ∙ ap (λ (l : List ℕ). part l from len) bytes_are
 

@@ -77,6 +77,17 @@ impl Window {
         self.region.capacity()
     }
 
+    /// Moves the window's end, to `size` bytes behind its base. No byte of the region changes.
+    pub fn resize(&mut self, size: u64)
+        requires inside { length self.old.before + size ≤ length (whole self.old) }
+        ensures cut { self.new ≡ cut_at (whole self.old) (length self.old.before) size }
+        ensures region { whole self.new ≡ whole self.old }
+        ensures size { length self.new.bytes ≡ size }
+        ensures base { self.new.before ≡ self.old.before }
+    {
+        self.size = size;
+    }
+
     /// Whether the `len` bytes from `from` on lie in the window.
     pub fn in_range(&self, from: u64, len: u64) -> bool
         ensures { IsTrue result ↔ (from + len ≤ length self.now.bytes) }

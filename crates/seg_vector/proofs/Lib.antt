@@ -28,3 +28,8 @@ pub mod TextReserves
 pub mod TextPuts
 pub mod TextUndone
 pub mod TextInserts
+pub mod TextsLaid
+pub mod TextsLaidOut
+pub mod TextsAssigned
+pub mod TextsRestored
+pub mod Laws

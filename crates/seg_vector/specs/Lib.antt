@@ -5,3 +5,4 @@ pub mod VectorCalls
 pub mod TextCalls
 pub mod TextsCalls
 pub mod TextParts
+pub mod TextLists

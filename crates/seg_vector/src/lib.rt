@@ -3,6 +3,7 @@
 
 mod accessing;
 mod appending;
+mod assigning;
 mod fitting;
 mod growing;
 mod moving;

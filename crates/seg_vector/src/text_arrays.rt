@@ -54,8 +54,8 @@ pub fn ask_array(heap: &mut Heap, place: Place, n: u64) -> Result<u64, NoSpace>
     }
 }
 
-/// Writes the link and the capacity of the container at a place.
-fn point_to(heap: &mut Heap, place: Place, array: u64, n: u64)
+/// Writes the link and the capacity of the container at a place. Its length stays.
+pub fn point_to(heap: &mut Heap, place: Place, array: u64, n: u64)
     requires heap { IsHeap current heap.old.bytes }
     requires aligned { place.at % 8 ≡ 0 }
     requires room { IsTrue (has_room (live_of heap.old.bytes) place.handle (place.at + 24)) }

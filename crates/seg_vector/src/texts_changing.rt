@@ -1,17 +1,18 @@
 //! Vectors of texts that change.
-ghost use Rattle.std.specs.Prelude.{◌≡◌, ◌%◌, ◌<◌, IfSome, List, length};
+ghost use Rattle.std.specs.Prelude.{◌≡◌, ◌%◌, ◌<◌, IfSome, List, length, map};
 ghost use Rattle.best_fit.specs.Table.{Table as ATable};
 ghost use Rattle.seg_vector.specs.TextParts.{ReplacesText};
-ghost use Rattle.seg_vector.specs.TextsCalls.{ClearsTexts, ErasesText, InsertsText, IsSomeTexts, IsTexts, PopsText, PushesText, ReleasesTexts, ReservesTexts, SetsText, ShrinksTexts};
+ghost use Rattle.seg_vector.specs.TextsCalls.{AssignsTexts, ClearsTexts, ErasesText, InsertsText, IsSomeTexts, IsTexts, PopsText, PushesText, ReleasesTexts, ReservesTexts, SetsText, ShrinksTexts};
 ghost use Rattle.seg_vector.specs.Vector.{OwnedText};
 
+use crate::assigning::lay_out;
 use crate::fitting::fit;
 use crate::growing::LIMIT;
 use crate::owning::{place_text, release_all, release_text};
 use crate::places::{ELEMENT, LEN, Place};
 use crate::sizing::capacity_for_one;
 use crate::starting::give_back;
-use crate::text_arrays::{adopt, ask_array, insert_growing, insert_within};
+use crate::text_arrays::{adopt, ask_array, insert_growing, insert_within, point_to};
 use crate::text_elements::{carry_down, put_element};
 use crate::texts::SegTexts;
 use best_fit::{Heap, NoSpace};
@@ -143,6 +144,33 @@ impl SegTexts {
             Err(NoSpace) => Err(Refusal::NoSpace),
             Ok(array) => {
                 adopt(heap, self.place, array, n);
+                Ok(())
+            }
+        }
+    }
+
+    /// Leaves these texts in place of those that there are. One or more get a new array of just so many places, and then their
+    /// blocks, all while the old ones are in use, which are given back then. Where there are none, the array stays.
+    ///
+    /// # Errors
+    ///
+    /// `NoSpace` where the array or a text has no gap that is long enough: the same blocks are in use as before, with the same
+    /// bytes.
+    pub fn assign(self, heap: &mut Heap, texts: &[&[u8]]) -> Result<(), Refusal>
+        requires { IsSomeTexts heap.old.bytes self.place }
+        ensures { AssignsTexts heap.old heap.new self.place (map (λ text. text.now) texts.now) result }
+    {
+        if texts.is_empty() {
+            self.clear(heap);
+            return Ok(());
+        }
+        match lay_out(heap, texts) {
+            Err(NoSpace) => Err(Refusal::NoSpace),
+            Ok(array) => {
+                self.release(heap);
+                let n = texts.len() as u64;
+                point_to(heap, self.place, array, n);
+                heap.set_word(self.place.handle, self.place.at + LEN, n);
                 Ok(())
             }
         }

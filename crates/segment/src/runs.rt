@@ -1,109 +1,164 @@
-//! A script run on the segment in a file.
+//! What each command of the program does.
 ghost use Rattle.std.specs.Prelude.{◌-◌, ◌^◌, ◌<◌};
-ghost use Rattle.raw_region.specs.Regions.{IsCapacity};
 
-use crate::command_line::{Origin, Run};
-use crate::fault::Fault;
 use crate::files::{Answers, ImageFile, Shared};
-use image_check::{FRONT, size_in};
+use crate::migrating::migrate_file;
+use crate::regions::{open_image, region_for, region_of_size};
+use crate::resizing::{Change, resize};
 use raw_region::stream::{Reading, Writing};
-use raw_region::{RawRegion, Source, fill};
-use segment_cli::{Start, session};
+use raw_region::{RawRegion, Sink, Source, write_all};
+use segment_cli::{Invocation, ModeName, ProgramFault, SessionFault, Start, session};
 use segment_manager::Mode;
-use std::fs::{self, OpenFile};
-use std::io::{self, BufWriter, Input};
+use std::fs;
+use std::io::{self, BufWriter, ErrorKind, Input, Read};
 use std::rt::Files;
 
-/// The most bytes that a segment has.
-const LARGEST: u64 = 1073741824;
-
-/// The fewest bytes of a segment with a block.
-const SMALLEST: u64 = 176;
-
-/// Where the script comes from and the answers go to, and all else that a run needs.
+/// Where scripts come from and answers go to, and files and memory.
 pub trait Host: Files + AllocGlobal + Input + Print {}
 
 impl<R: Files + AllocGlobal + Input + Print> Host for R {}
 
-/// The capacity of a region for a segment of so many bytes.
-fn capacity_for(bytes: u64) -> u64
-    ensures { IsCapacity result }
+/// A file or standard input can't be read.
+const READ_FAULT: ProgramFault = ProgramFault::Session(SessionFault::ReadFault);
+
+/// Does what the command line asks for.
+pub fn perform<R: Host>(rt: &R, asked: Invocation<'_>) -> Result<(), ProgramFault> {
+    match asked {
+        Invocation::Create(file, size) => create(rt, file, size),
+        Invocation::Run(file, mode, size) => run(rt, file, mode, size),
+        Invocation::Check(file) => check(rt, file),
+        Invocation::Grow(file, bytes) => resize(rt, file, Change::Grow(bytes)),
+        Invocation::Shrink(file) => resize(rt, file, Change::Shrink),
+        Invocation::Migrate(file) => migrate_file(rt, file),
+    }
+}
+
+/// Makes an empty segment in a file that is not there.
+fn create<R: Host>(rt: &R, path: &str, size: u64) -> Result<(), ProgramFault> {
+    run_created(rt, path, size, &mut Reading::new(io::empty()))
+}
+
+/// Runs the script of standard input on the segment in a file. A segment that is made needs a size.
+fn run<R: Host>(rt: &R, path: &str, mode: ModeName, size: Option<u64>) -> Result<(), ProgramFault> {
+    let mut script = Reading::new(rt.reader());
+    if is_made(rt, path, mode) {
+        return match size {
+            Some(size) => run_created(rt, path, size, &mut script),
+            None => Err(ProgramFault::Usage),
+        };
+    }
+    if !can_be_read(rt.reader()) {
+        return Err(READ_FAULT);
+    }
+    run_opened(rt, path, opened_as(mode), &mut script)
+}
+
+/// Whether a run in this mode makes the segment.
+fn is_made<R: Files>(files: &R, path: &str, mode: ModeName) -> bool {
+    match mode {
+        ModeName::CreateOnly => true,
+        ModeName::OpenOrCreate => is_missing(files, path),
+        ModeName::OpenOnly | ModeName::OpenReadOnly | ModeName::OpenCopyOnWrite => false,
+    }
+}
+
+/// How the segment of a file is open under the name of a mode.
+fn opened_as(mode: ModeName) -> Mode {
+    match mode {
+        ModeName::CreateOnly | ModeName::OpenOnly | ModeName::OpenOrCreate => Mode::Write,
+        ModeName::OpenReadOnly => Mode::ReadOnly,
+        ModeName::OpenCopyOnWrite => Mode::CopyOnWrite,
+    }
+}
+
+/// Whether a reader answers at all. A closed standard input does not, and a file that is opened then would take its place.
+fn can_be_read<S: Read + Drop>(mut reader: S) -> bool {
+    reader.read(&mut []).is_ok()
+}
+
+/// Tells whether a file holds a segment, and says `ok` where it does.
+fn check<R: Host>(rt: &R, path: &str) -> Result<(), ProgramFault> {
+    run_opened(rt, path, Mode::ReadOnly, &mut Reading::new(io::empty()))?;
+    say_ok(rt)
+}
+
+/// Says `ok` on standard output.
+pub fn say_ok<R: Host>(rt: &R) -> Result<(), ProgramFault> {
+    match write_all(&mut Writing::new(io::writer(rt)), b"ok\n") {
+        Ok(()) => Ok(()),
+        Err(_) => Err(ProgramFault::Session(SessionFault::WriteFault)),
+    }
+}
+
+/// Whether nothing is there under a path. Where that can't be known it is not missing.
+fn is_missing<R: Files>(files: &R, path: &str) -> bool {
+    match fs::symlink_metadata(files, path) {
+        Ok(_) => false,
+        Err(error) => error.kind() == ErrorKind::NotFound,
+    }
+}
+
+/// Runs the script on a new segment of this many bytes, in a file that is not there.
+fn run_created<R: Host, S: Source>(
+    rt: &R,
+    path: &str,
+    size: u64,
+    script: &mut S,
+) -> Result<(), ProgramFault>
+    requires { (S.history script.old).failures < 2 ^ 64 - 1 }
 {
-    bytes.clamp(SMALLEST, LARGEST).div_ceil(16) * 16
-}
-
-/// A region of 0 bytes for a segment of so many bytes.
-fn region_for<R: Host>(rt: &R, bytes: u64) -> Result<RawRegion, Fault> {
-    match RawRegion::new(rt.alloc(), capacity_for(bytes)) {
-        Ok(region) => Ok(region),
-        Err(_) => Err(Fault::OutOfMemory),
+    if fs::symlink_metadata(rt, path).is_ok() {
+        return Err(ProgramFault::Exists);
     }
-}
-
-/// The size that the front of an image says, or 0 where it is not the front of one.
-fn size_said<S: Source>(image: &mut S) -> u64
-    requires { (S.history image.old).failures < 2 ^ 64 - 1 }
-{
-    let mut front = [0u8; FRONT];
-    match fill(image, &mut front) {
-        Ok(FRONT) => size_in(&front).unwrap_or(0),
-        _ => 0,
-    }
-}
-
-/// How many bytes the image in a file has, or says that it has, if these are more.
-fn image_size<R: Host>(rt: &R, path: &str) -> io::Result<u64> {
-    let file = fs::open(rt, path)?;
-    let len = file.metadata()?.len();
-    Ok(len.max(size_said(&mut Reading::new(file))))
-}
-
-/// Runs the script on a new segment of this many bytes, in a file that does not exist yet.
-fn run_created<R: Host>(rt: &R, path: &str, size: u64) -> Result<(), Fault> {
-    if fs::exists(rt, path).unwrap_or(false) {
-        return Err(Fault::Exists);
-    }
-    let region = region_for(rt, if size <= LARGEST { size } else { 0 })?;
+    let region = region_of_size(rt.alloc(), size)?;
     let mut image = Reading::new(io::empty());
-    run_session(rt, Start::Fresh(size), &mut image, path, region)
+    let start = Start::Fresh(size);
+    Ok(run_session(rt, start, Mode::Write, &mut image, script, path, region)?)
 }
 
 /// Runs the script on the segment in a file.
-fn run_opened<R: Host>(rt: &R, path: &str) -> Result<(), Fault> {
-    let Ok(size) = image_size(rt, path) else {
-        return Err(Fault::Read);
+fn run_opened<R: Host, S: Source>(
+    rt: &R,
+    path: &str,
+    mode: Mode,
+    script: &mut S,
+) -> Result<(), ProgramFault>
+    requires { (S.history script.old).failures < 2 ^ 64 - 1 }
+{
+    let Ok((file, size)) = open_image(rt, path) else {
+        return Err(READ_FAULT);
     };
-    let region = region_for(rt, size)?;
-    let Ok(file) = fs::open(rt, path) else {
-        return Err(Fault::Read);
-    };
-    run_session(rt, Start::Image, &mut Reading::new(file), path, region)
+    let region = region_for(rt.alloc(), size)?;
+    let mut image = Reading::new(file);
+    Ok(run_session(rt, Start::Image, mode, &mut image, script, path, region)?)
 }
 
-/// Runs the script of standard input, writes its answers to standard output, and then the image into the file.
-fn run_session<R: Host, S: Source>(
+/// Runs the script, writes its answers to standard output, and then, in mode `Write`, the image into the file.
+fn run_session<R: Host, I: Source, S: Source>(
     rt: &R,
     start: Start,
-    image: &mut S,
+    mode: Mode,
+    image: &mut I,
+    script: &mut S,
     path: &str,
     region: RawRegion,
-) -> Result<(), Fault>
-    requires { (S.history image.old).failures < 2 ^ 64 - 1 }
+) -> Result<(), SessionFault>
+    requires image { (I.history image.old).failures < 2 ^ 64 - 1 }
+    requires script { (S.history script.old).failures < 2 ^ 64 - 1 }
 {
     let Ok(buffer) = BufWriter::new(rt.alloc(), io::writer(rt)) else {
-        return Err(Fault::OutOfMemory);
+        return Err(SessionFault::OutOfMemory);
     };
     let shared = Shared::new(buffer);
     let is_new = matches!(start, Start::Fresh(_));
     let mut out = Writing::new(Answers::new(&shared));
     let mut saved = Writing::new(ImageFile::new(rt, path, is_new, &shared));
-    let mut script = Reading::new(rt.reader());
     let result = session(
         rt.alloc(),
         start,
-        Mode::Write,
+        mode,
         image,
-        &mut script,
+        script,
         &mut out,
         &mut saved,
         region,
@@ -111,13 +166,5 @@ fn run_session<R: Host, S: Source>(
     );
     let flushed = shared.flush();
     result?;
-    flushed.map_err(|_| Fault::Write)
-}
-
-/// Does what the command line asks for.
-pub fn run<R: Host>(rt: &R, asked: Run<'_>) -> Result<(), Fault> {
-    match asked.origin {
-        Origin::Created(size) => run_created(rt, asked.file, size),
-        Origin::Opened => run_opened(rt, asked.file),
-    }
+    flushed.map_err(|_| SessionFault::WriteFault)
 }

@@ -1,39 +1,102 @@
-//! Files that are made, opened and refused, and command lines that are read.
+//! Files that are made, opened, changed and refused.
 
-use crate::command_line::{Misread, Origin, Run, read_words};
-use crate::fault::Fault;
-use crate::runs::run;
+use crate::runs::perform;
+use grow_shrink::GrowError;
 use image_check::ImageClass;
-use std::alloc::Global;
+use segment_cli::{Invocation, ModeName, ProgramFault, SessionFault};
 use std::fs;
 use std::test::Fail;
 
-fn created(file: &str, size: u64) -> Run<'_> {
-    Run {
-        file,
-        origin: Origin::Created(size),
-    }
-}
+const READ_FAULT: ProgramFault = ProgramFault::Session(SessionFault::ReadFault);
 
-fn opened(file: &str) -> Run<'_> {
-    Run {
-        file,
-        origin: Origin::Opened,
-    }
-}
+const WRITE_FAULT: ProgramFault = ProgramFault::Session(SessionFault::WriteFault);
+
+const SIZE_REFUSED: ProgramFault = ProgramFault::Session(SessionFault::BadSize);
+
+/// An image that is none.
+const TEXT: &[u8] = b"this is no image";
+
+/// All modes.
+const MODES: [ModeName; 5] = [
+    ModeName::CreateOnly,
+    ModeName::OpenOnly,
+    ModeName::OpenOrCreate,
+    ModeName::OpenReadOnly,
+    ModeName::OpenCopyOnWrite,
+];
 
 #[test]
 fn a_file_is_made_once(rt: HostRuntime) -> Result<(), Fail> {
     let file = "made.seg";
     let _ = fs::remove_file(&rt, file);
-    assert_eq!(rt; run(&rt, created(file, 160)), Err(Fault::Size));
-    assert_eq!(rt; fs::exists(&rt, file)?, false);
-    assert_eq!(rt; run(&rt, created(file, 176)), Ok(()));
+    for size in [0, 143, 160, 1073741840, 18446744073709551615] {
+        assert_eq!(rt;
+            perform(&rt, Invocation::Create(file, size)),
+            Err(SIZE_REFUSED)
+        );
+        let run = Invocation::Run(file, ModeName::CreateOnly, Some(size));
+        assert_eq!(rt; perform(&rt, run), Err(SIZE_REFUSED));
+        assert_eq!(rt; fs::exists(&rt, file)?, false, "size {size}");
+    }
+    assert_eq!(rt; perform(&rt, Invocation::Create(file, 1024)), Ok(()));
+    let image = fs::read(&rt, file)?;
+    assert_eq!(rt; image.len(), 1024);
+    for size in [160, 1024] {
+        assert_eq!(rt;
+            perform(&rt, Invocation::Create(file, size)),
+            Err(ProgramFault::Exists)
+        );
+        let run = Invocation::Run(file, ModeName::CreateOnly, Some(size));
+        assert_eq!(rt; perform(&rt, run), Err(ProgramFault::Exists));
+    }
+    assert_eq!(rt; fs::read(&rt, file)?, image);
+    fs::remove_file(&rt, file)?;
+    Ok(())
+}
+
+#[test]
+fn a_file_that_is_there_is_opened(rt: HostRuntime) -> Result<(), Fail> {
+    let file = "opened.seg";
+    let _ = fs::remove_file(&rt, file);
+    let run = Invocation::Run(file, ModeName::OpenOrCreate, Some(176));
+    assert_eq!(rt; perform(&rt, run), Ok(()));
     let image = fs::read(&rt, file)?;
     assert_eq!(rt; image.len(), 176);
-    assert_eq!(rt; run(&rt, created(file, 160)), Err(Fault::Exists));
-    assert_eq!(rt; run(&rt, opened(file)), Ok(()));
-    assert_eq!(rt; fs::read(&rt, file)?, image);
+    for mode in MODES {
+        let want = if mode == ModeName::CreateOnly {
+            Err(ProgramFault::Exists)
+        } else {
+            Ok(())
+        };
+        let run = Invocation::Run(file, mode, Some(1024));
+        assert_eq!(rt; perform(&rt, run), want, "{mode:?}");
+        assert_eq!(rt; fs::read(&rt, file)?, image, "{mode:?}");
+    }
+    assert_eq!(rt; perform(&rt, Invocation::Check(file)), Ok(()));
+    fs::remove_file(&rt, file)?;
+    Ok(())
+}
+
+#[test]
+fn a_file_grows_and_shrinks(rt: HostRuntime) -> Result<(), Fail> {
+    let file = "grown.seg";
+    let _ = fs::remove_file(&rt, file);
+    assert_eq!(rt; perform(&rt, Invocation::Create(file, 176)), Ok(()));
+    for bytes in [0, 16, 40] {
+        let refused = perform(&rt, Invocation::Grow(file, bytes));
+        assert_eq!(rt;
+            refused,
+            Err(ProgramFault::Growth(GrowError::BadGrow)),
+            "{bytes} bytes"
+        );
+        assert_eq!(rt; fs::read(&rt, file)?.len(), 176, "{bytes} bytes");
+    }
+    assert_eq!(rt; perform(&rt, Invocation::Grow(file, 32)), Ok(()));
+    assert_eq!(rt; fs::read(&rt, file)?.len(), 208);
+    assert_eq!(rt; perform(&rt, Invocation::Shrink(file)), Ok(()));
+    assert_eq!(rt; fs::read(&rt, file)?.len(), 144);
+    assert_eq!(rt; perform(&rt, Invocation::Shrink(file)), Ok(()));
+    assert_eq!(rt; perform(&rt, Invocation::Check(file)), Ok(()));
     fs::remove_file(&rt, file)?;
     Ok(())
 }
@@ -41,86 +104,49 @@ fn a_file_is_made_once(rt: HostRuntime) -> Result<(), Fail> {
 #[test]
 fn a_file_that_holds_no_image_stays(rt: HostRuntime) -> Result<(), Fail> {
     let file = "other.seg";
-    let text = b"this is no image";
-    fs::write(&rt, file, text.as_slice())?;
-    let truncated = Fault::Image {
-        number: 1,
-        class: ImageClass::Truncated,
-    };
-    assert_eq!(rt; run(&rt, opened(file)), Err(truncated));
-    assert_eq!(rt; fs::read(&rt, file)?.as_slice(), text.as_slice());
+    fs::write(&rt, file, TEXT)?;
+    let refused = Err(ProgramFault::Session(SessionFault::Image(ImageClass::Truncated)));
+    for mode in MODES {
+        if mode != ModeName::CreateOnly {
+            let run = Invocation::Run(file, mode, Some(176));
+            assert_eq!(rt; perform(&rt, run), refused, "{mode:?}");
+        }
+    }
+    for asked in [
+        Invocation::Check(file),
+        Invocation::Grow(file, 32),
+        Invocation::Shrink(file),
+    ] {
+        assert_eq!(rt; perform(&rt, asked), refused, "{asked:?}");
+    }
+    assert_eq!(rt; fs::read(&rt, file)?.as_slice(), TEXT);
     fs::remove_file(&rt, file)?;
-    assert_eq!(rt; run(&rt, opened(file)), Err(Fault::Read));
-    assert_eq!(rt;
-        run(&rt, created("no/such/folder.seg", 176)),
-        Err(Fault::Write)
-    );
     Ok(())
 }
 
 #[test]
-fn faults_have_a_line_and_a_status(rt: HostRuntime) -> Result<(), Fail> {
-    let class = ImageClass::BadTag;
-    for (fault, line, status) in [
-        (
-            Fault::Image { number: 6, class },
-            "image refused: 6 BadTag",
-            1,
-        ),
-        (Fault::Size, "size refused", 1),
-        (Fault::Exists, "file exists", 3),
-        (Fault::Read, "read fault", 3),
-        (Fault::Write, "write fault", 3),
-        (Fault::ScriptTooLong, "script too long", 3),
-        (Fault::OutOfMemory, "out of memory", 4),
+fn a_file_that_is_missing_is_a_fault(rt: HostRuntime) -> Result<(), Fail> {
+    let file = "missing.seg";
+    let _ = fs::remove_file(&rt, file);
+    for asked in [
+        Invocation::Check(file),
+        Invocation::Grow(file, 32),
+        Invocation::Shrink(file),
+        Invocation::Run(file, ModeName::OpenOnly, None),
+        Invocation::Run(file, ModeName::OpenReadOnly, None),
+        Invocation::Run(file, ModeName::OpenCopyOnWrite, Some(176)),
+        Invocation::Run(".", ModeName::OpenOrCreate, Some(176)),
     ] {
-        assert_eq!(rt; format!(in rt.alloc(); "{fault}")?.as_str(), line);
-        assert_eq!(rt; fault.status(), status, "{line}");
+        assert_eq!(rt; perform(&rt, asked), Err(READ_FAULT), "{asked:?}");
     }
-    Ok(())
-}
-
-/// What the words of a line ask for.
-fn read(alloc: Global, line: &str) -> Result<Option<Origin>, Fail> {
-    let mut words = Vec::new(alloc);
-    for word in line.split(' ') {
-        words.push(String::from_str(alloc, word)?)?;
-    }
-    match read_words(alloc, words.as_slice()) {
-        Ok(asked) => Ok(Some(asked.origin)),
-        Err(Misread::Mode | Misread::Words(_)) => Ok(None),
-    }
-}
-
-#[test]
-fn command_lines_are_read(rt: HostRuntime) -> Result<(), Fail> {
-    for (line, want) in [
-        (
-            "segment run a.seg --mode create_only --size 1024",
-            Some(Origin::Created(1024)),
-        ),
-        (
-            "segment run --size 160 --mode create_only a.seg",
-            Some(Origin::Created(160)),
-        ),
-        ("segment run a.seg --mode open_only", Some(Origin::Opened)),
-        ("segment", None),
-        ("segment run", None),
-        ("segment run a.seg", None),
-        ("segment run --mode open_only", None),
-        ("segment run a.seg --mode create_only", None),
-        ("segment run a.seg --mode create_only --size 0x10", None),
-        (
-            "segment run a.seg --mode create_only --size 18446744073709551616",
-            None,
-        ),
-        ("segment run a.seg --mode open_only --size 1024", None),
-        ("segment run a.seg --mode read", None),
-        ("segment run a.seg b.seg --mode open_only", None),
-        ("segment --help", None),
-        ("segment grow a.seg 32", None),
+    let nowhere = "no/such/folder.seg";
+    for asked in [
+        Invocation::Create(nowhere, 176),
+        Invocation::Run(nowhere, ModeName::CreateOnly, Some(176)),
+        Invocation::Run(nowhere, ModeName::OpenOrCreate, Some(176)),
     ] {
-        assert_eq!(rt; read(rt.alloc(), line)?, want, "{line}");
+        assert_eq!(rt; perform(&rt, asked), Err(WRITE_FAULT), "{asked:?}");
     }
+    assert_eq!(rt; fs::exists(&rt, file)?, false);
     Ok(())
 }

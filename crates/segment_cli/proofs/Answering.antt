@@ -15,7 +15,7 @@ use Rattle.segment_manager.specs.Answers.{Answer, Done, Number, is_untouched}
 use Rattle.segment_manager.specs.Calls.{HasZeroGaps}
 use Rattle.segment_manager.specs.State.{KeepsRefused, State, StandsFor, IsReply, IsStep, answer_of}
 use Rattle.segment_manager.specs.Plan.{perform}
-use Rattle.segment_manager.specs.Step.{effect, step}
+use Rattle.segment_manager.specs.Step.{effect, is_read_only, step}
 use Rattle.segment_manager.proofs.Laws.{step-reads}
 use Rattle.segment_cli.specs.declared.replies.Answer.{Answer as Reply}
 use Rattle.segment_cli.specs.declared.replies.Answer.TheVariants as said
@@ -30,6 +30,13 @@ unfolding step
 performed-reads Write d c e = refl
 performed-reads ReadOnly d c e = rw e refl
 performed-reads CopyOnWrite d c e = refl
+
+-- nor is any in a segment that may be changed
+pub performed : (mode : Mode) (d : Directory) (c : Command) → is_read_only mode ≡ false → step mode d c ≡ perform d (live d) (effect d c)
+unfolding step
+performed Write d c e = refl
+performed ReadOnly d c e = absurd (cc)
+performed CopyOnWrite d c e = refl
 
 pub answered-reads : (mode : Mode) (d : Directory) (c : Command) → is_changing c ≡ false → (step mode d c).0 ≡ (perform d (live d) (effect d c)).0
 answered-reads mode d c e = ap (λ (r : Answer × Directory). r.0) (performed-reads mode d c e)
@@ -69,7 +76,7 @@ told-is mode d key = told-found d (live d) key (object_at d key) refl ∙ sym (a
 
 module _ (s : State) where
   -- the directory stays, and the segment
-  reads : (c : Command) (reply : Reply) → is_changing c ≡ false → ((d : Directory) → StandsFor s.cut.bytes d → answer_seen d reply ≡ (step s.mode d c).0) → Replies s s c reply
+  pub reads : (c : Command) (reply : Reply) → is_changing c ≡ false → ((d : Directory) → StandsFor s.cut.bytes d → answer_seen d reply ≡ (step s.mode d c).0) → Replies s s c reply
   reads c reply e says =
       let same = λ (d : Directory). step-reads s.mode d c e in
       record {
@@ -103,7 +110,7 @@ module _ (s : State) where
 
 -- ---- what may change the segment
 
-kept-refused : {A : Type 0} (f : A → Answer) → ((a : A) → is_untouched (f a) ≡ false) → (result : Result A Refusal) (old new : State) → KeepsRefused old new result → is_untouched (answer_of f result) ≡ true → new ≡ old
+pub kept-refused : {A : Type 0} (f : A → Answer) → ((a : A) → is_untouched (f a) ≡ false) → (result : Result A Refusal) (old new : State) → KeepsRefused old new result → is_untouched (answer_of f result) ≡ true → new ≡ old
 kept-refused f plain (Ok a) old new h e = absurd (cc (plain a))
 kept-refused f plain (Err r) old new h e = h e
 

@@ -60,7 +60,7 @@ pub opened : (region : List ℕ) (base : ℕ) (mode : Mode) (image : Given) (s :
     → Starts Image mode base (length region) image (Ok s)
 opened region base mode image s h small =
     let d = h.denotes.0 in
-    let stands : StandsFor image.bytes d = record { denotes = h.denotes.1.denotes; supported = h.denotes.1.supported } in
+    let stands : StandsFor image.bytes d = record { denotes = h.denotes.1 } in
     record {
       answers = record {
         from = d;

@@ -4,7 +4,8 @@ use Rattle.std.specs.Prelude.{IsTrue, MatchResult, nat_lt}
 use Rattle.std.specs.List.{list_all}
 use Rattle.best_fit.specs.Table.{Table}
 use Rattle.seg_types.specs.declared.kinds.Kind.{Kind}
-use Rattle.seg_types.specs.declared.kinds.Kind.TheVariants.{Text, Vector}
+use Rattle.seg_vector.specs.Vector.{OwnedText}
+use Rattle.seg_types.specs.declared.kinds.Kind.TheVariants.{Text, Texts as TextsKind, Vector}
 use Rattle.seg_types.specs.declared.kinds.ScalarKind.{ScalarKind}
 use Rattle.seg_types.specs.declared.refusals.Refusal.{Refusal}
 use Rattle.seg_types.specs.declared.refusals.Refusal.TheVariants.{ReadOnly, WrongKind}
@@ -12,7 +13,7 @@ use Rattle.seg_types.specs.declared.values.ScalarValue.{ScalarValue}
 use Rattle.seg_types.specs.Kinds.{is_value, same_kind}
 use Rattle.seg_types.specs.Names.{Key}
 use Rattle.seg_types.specs.Commands as asked
-use Rattle.seg_types.specs.Commands.{Command, Literal, is_changing, literal_of, value_of_literal}
+use Rattle.seg_types.specs.Commands.{Literal, literal_of, value_of_literal}
 use Rattle.seg_types.specs.Values.{kind_of_scalar, value_of_scalar}
 use Rattle.segment_manager.specs.declared.modes.Mode.{Mode}
 use Rattle.segment_manager.specs.Answers.{Answer, Refused}
@@ -22,8 +23,6 @@ use Rattle.segment_manager.specs.Plan.{Plan, Refuse, perform, with}
 use Rattle.segment_manager.specs.State.{Answers, IsStep, IsStepOfKind, State, StandsFor}
 use Rattle.segment_manager.specs.Step as step
 use Rattle.segment_manager.specs.Step.{effect, found_at, is_read_only, step_of_kind, text_among, text_of, values_of}
-use Rattle.segment_manager.specs.Supported.{is_supported_value}
-use Rattle.segment_manager.proofs.Laws.{found-supported}
 use Rattle.segment_manager.proofs.ElementLaws.{IsOfKindAt, append-other, assign-plan, assign-refused, erase-other, insert-other, insert-past, insert-plan, insert-refused, is_no_vector, kind-told, literal-read, literals-read, nowhere-steps, of_kind-steps, pop-other, push-other, push-plan, push-refused, refused-steps, same_plan-steps, text-plan, text-refused, with-found, with-not_found}
 use Rattle.segment_cli.specs.Changes.{IsChangeable, IsElement, IsNoElement, IsUnchangeable}
 use Rattle.segment_cli.specs.Settings.{IsValueOf}
@@ -59,21 +58,33 @@ text-if (Bytes bs t) e = record { bytes = bs; table = t; is = refl }
 text-if (Pairs l m ps) e = absurd (cc)
 text-if (Texts ps t) e = absurd (cc)
 
--- no vector of numbers: then it is none at all, since vectors of texts have not come
-no_vector-if : (v : Value) → is_supported_value v ≡ true → ((k : ScalarKind) → kind_of v ≡ Vector k → ⊥) → is_no_vector v ≡ true
-no_vector-if (Numbers k zs) h n = refl
-no_vector-if (Elements k zs t) h n = absurd (n k refl)
-no_vector-if (Bytes bs t) h n = refl
-no_vector-if (Pairs k v ps) h n = refl
-no_vector-if (Texts ps t) h n = absurd (cc)
+pub record IsTexts (v : Value) : Type 0 where
+  pub texts : List OwnedText
+  pub table : Table
+  pub is : v ≡ Texts texts table
+
+pub texts-if : (v : Value) → kind_of v ≡ TextsKind → IsTexts v
+texts-if (Numbers l zs) e = absurd (cc)
+texts-if (Elements l zs t) e = absurd (cc)
+texts-if (Bytes bs t) e = absurd (cc)
+texts-if (Pairs l m ps) e = absurd (cc)
+texts-if (Texts ps t) e = record { texts = ps; table = t; is = refl }
+
+-- no vector, of numbers or of texts
+no_vector-if : (v : Value) → ((k : ScalarKind) → kind_of v ≡ Vector k → ⊥) → (kind_of v ≡ TextsKind → ⊥) → is_no_vector v ≡ true
+no_vector-if (Numbers k zs) n m = refl
+no_vector-if (Elements k zs t) n m = absurd (n k refl)
+no_vector-if (Bytes bs t) n m = refl
+no_vector-if (Pairs k v ps) n m = refl
+no_vector-if (Texts ps t) n m = absurd (m refl)
 
 -- and no text
-not_assigned : (d : Directory) (o : Object) (v : Value) (ls : List Literal) → is_supported_value v ≡ true → ((k : ScalarKind) → kind_of v ≡ Vector k → ⊥) → (kind_of v ≡ Text → ⊥) → step.assign d o v ls ≡ Refuse WrongKind
-not_assigned d o (Numbers k zs) ls h n m = refl
-not_assigned d o (Elements k zs t) ls h n m = absurd (n k refl)
-not_assigned d o (Bytes bs t) ls h n m = absurd (m refl)
-not_assigned d o (Pairs k v ps) ls h n m = refl
-not_assigned d o (Texts ps t) ls h n m = absurd (cc)
+not_assigned : (d : Directory) (o : Object) (v : Value) (ls : List Literal) → ((k : ScalarKind) → kind_of v ≡ Vector k → ⊥) → (kind_of v ≡ Text → ⊥) → (kind_of v ≡ TextsKind → ⊥) → step.assign d o v ls ≡ Refuse WrongKind
+not_assigned d o (Numbers k zs) ls n m t = refl
+not_assigned d o (Elements k zs u) ls n m t = absurd (n k refl)
+not_assigned d o (Bytes bs u) ls n m t = absurd (m refl)
+not_assigned d o (Pairs k v ps) ls n m t = refl
+not_assigned d o (Texts ps u) ls n m t = absurd (t refl)
 
 -- ---- the object of the key, of a kind
 
@@ -81,13 +92,10 @@ module _ (s : State) (key : Key) (kind : Kind) (a : Answers s (λ d. kind_at d k
   abbrev told : (d : Directory) → StandsFor s.cut.bytes d → IsOfKindAt d key kind
   told d st = kind-told d key kind (a.answers d st)
 
-  come : (d : Directory) (st : StandsFor s.cut.bytes d) → is_supported_value (told d st).object.value ≡ true
-  come d st = found-supported d key (told d st).object st.supported (told d st).is
-
   -- it is no vector
-  module _ (writing : is_read_only s.mode ≡ false) (other : (k : ScalarKind) → kind ≡ Vector k → ⊥) where
+  module _ (writing : is_read_only s.mode ≡ false) (other : (k : ScalarKind) → kind ≡ Vector k → ⊥) (no_texts : kind ≡ TextsKind → ⊥) where
     none : (d : Directory) (st : StandsFor s.cut.bytes d) → is_no_vector (told d st).object.value ≡ true
-    none d st = no_vector-if (told d st).object.value (come d st) (λ k e. other k (sym (told d st).kind_is ∙ e))
+    none d st = no_vector-if (told d st).object.value (λ k e. other k (sym (told d st).kind_is ∙ e)) (λ e. no_texts (sym (told d st).kind_is ∙ e))
 
     pub push-no_vector : (l : Literal) → IsStep s s (asked.Push key l) (Refused WrongKind)
     push-no_vector l = refused-steps s (asked.Push key l) WrongKind writing (λ d st. ap (perform d (live d)) (push-other d key (told d st).object (told d st).is (none d st) l))
@@ -109,7 +117,7 @@ module _ (s : State) (key : Key) (kind : Kind) (a : Answers s (λ d. kind_at d k
         let h : IsOfKindAt d key kind = told d st in
         ap (perform d (live d))
         (with-found d key h.object (λ o. step.assign d o o.value ls) h.is
-        ∙ not_assigned d h.object h.object.value ls (come d st) (λ k e. other k (sym h.kind_is ∙ e)) (λ e. no_text (sym h.kind_is ∙ e))))
+        ∙ not_assigned d h.object h.object.value ls (λ k e. other k (sym h.kind_is ∙ e)) (λ e. no_text (sym h.kind_is ∙ e)) (λ e. no_texts (sym h.kind_is ∙ e))))
 
 -- ---- a vector
 
@@ -181,14 +189,15 @@ module _ (s new : State) (key : Key) (l : Literal) (v : ScalarValue) (e : IsElem
   insert-element i r = insert-read s key (kind_of_scalar v) e.is new i l (value_of_scalar v) answer e.value e.range r
 
 -- what a literal is for the vector of the key
-pub element-read : (s : State) (key : Key) (kind : Kind) (k : ScalarKind) (l : Literal) (r : Result ScalarValue Refusal) → IsChangeable s key kind → kind ≡ Vector k → IsValueOf k (value_of_literal k l) r
-    → MatchResult r (IsElement s key l) (IsNoElement s key l)
-element-read s key kind k l (Ok v) h e (same, value, range) = record {
+pub element-read : (s : State) (key : Key) (kind : Kind) (k : ScalarKind) (l : Literal) (v : ScalarValue) → IsChangeable s key kind → kind ≡ Vector k → IsValueOf k (value_of_literal k l) (Ok v) → IsElement s key l v
+element-read s key kind k l v h e (same, value, range) = record {
   is = subst (λ j. Answers s (λ d. kind_at d key) (Ok j)) (e ∙ ap Vector (sym same)) h.is;
   value = subst (λ j. value_of_literal j l ≡ Ok (value_of_scalar v)) (sym same) value;
   range = subst (λ j. is_value j (value_of_scalar v) ≡ true) (sym same) range;
 }
-element-read s key kind k l (Err why) h e value = no_value-refused s key k (subst (λ j. Answers s (λ d. kind_at d key) (Ok j)) e h.is) l why h.writing value
+
+pub no_value-of : (s : State) (key : Key) (kind : Kind) (k : ScalarKind) (l : Literal) (why : Refusal) → IsChangeable s key kind → kind ≡ Vector k → value_of_literal k l ≡ Err why → IsNoElement s key l why
+no_value-of s key kind k l why h e value = no_value-refused s key k (subst (λ j. Answers s (λ d. kind_at d key) (Ok j)) e h.is) l why h.writing value
 
 -- no object that may be changed has the key
 pub unchangeable-element : (s : State) (key : Key) (l : Literal) (why : Refusal) → IsUnchangeable s key why → IsNoElement s key l why
@@ -198,10 +207,10 @@ unchangeable-element s key l why h = record {
 }
 
 -- it is no vector
-pub no_vector-element : (s : State) (key : Key) (l : Literal) (kind : Kind) → IsChangeable s key kind → ((k : ScalarKind) → kind ≡ Vector k → ⊥) → IsNoElement s key l WrongKind
-no_vector-element s key l kind h other = record {
-  push = push-no_vector s key kind h.is h.writing other l;
-  insert = λ i. insert-no_vector s key kind h.is h.writing other i l;
+pub no_vector-element : (s : State) (key : Key) (l : Literal) (kind : Kind) → IsChangeable s key kind → ((k : ScalarKind) → kind ≡ Vector k → ⊥) → (kind ≡ TextsKind → ⊥) → IsNoElement s key l WrongKind
+no_vector-element s key l kind h other no_texts = record {
+  push = push-no_vector s key kind h.is h.writing other no_texts l;
+  insert = λ i. insert-no_vector s key kind h.is h.writing other no_texts i l;
 }
 
 -- ---- a text

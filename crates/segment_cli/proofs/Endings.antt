@@ -10,7 +10,7 @@ use Rattle.segment_manager.specs.declared.modes.Mode.TheVariants.{Write}
 use Rattle.segment_manager.specs.Directory.{Directory}
 use Rattle.segment_manager.specs.State.{State, StandsFor}
 use Rattle.image_check.specs.Opening.{IsOutOfMemory, IsRefusedAs}
-use Rattle.segment_lang.specs.Language.{supported}
+use Rattle.segment_lang.specs.Language.{whole}
 use Rattle.segment_cli.specs.declared.faults.Start.{Start}
 use Rattle.segment_cli.specs.declared.faults.Start.TheVariants.{Image}
 use Rattle.segment_cli.specs.declared.faults.RunFault.{RunFault}
@@ -141,7 +141,7 @@ module _ (start : Start) (mode : Mode) (base capacity : ℕ) (t : Traffic) where
       let b = h.answers in
       let ran = leaves (first mode b.from) (at_first mode b.from s b.mode b.stands) in
       let last = stands_done mode b.from false t (IsAt s') ran in
-      let d = (run supported mode b.from t.script.bytes).1 in
+      let d = (run (whole current) mode b.from t.script.bytes).1 in
       begun_session s (Ok u) h (done start mode t b.from false b.begins (IsAt s') b.read saved ran (subst (λ (m : Mode). Saves m t.saved.bytes d) last.mode (saves d last.denotes))
       (λ writes. zeros_kept s s' b leaves t.saved.bytes (bytes (last.mode ∙ writes))))
 

@@ -1,23 +1,22 @@
 -- The lines of objects in a listing.
-use Rattle.std.proofs.Common.{◌≡◌, ℕ, List, [], ◌∷◌, ◌++◌, length, Option, Some, None, Result, true, refl, sym, ap, ◌∙◌, append_assoc}
+use Rattle.std.proofs.Common.{◌≡◌, ℕ, List, [], ◌∷◌, ◌++◌, length, Option, Some, None, Result, Ok, Err, refl, sym, ap, ◌∙◌, append_assoc}
 use Rattle.std.specs.Prelude.{codes}
 use Rattle.std.specs.List.{flat_map}
-use Rattle.std.specs.Result.{result_ok}
+use Rattle.seg_types.specs.declared.kinds.Kind.TheVariants.{Map}
+use Rattle.seg_types.specs.declared.kinds.ScalarKind.{ScalarKind}
 use Rattle.seg_types.specs.declared.refusals.Refusal.{Refusal}
 use Rattle.seg_types.specs.Names.{Key}
 use Rattle.segment_lang.specs.Texts.{kind_text, name_text, number_text}
 use Rattle.segment_manager.specs.declared.telling.Instance.{Instance}
 use Rattle.segment_manager.specs.Answers.{Refused}
-use Rattle.segment_manager.specs.Directory.{Value, Numbers, Elements, Bytes, Pairs, Texts, Object, Directory}
+use Rattle.segment_manager.specs.Directory.{Value, Numbers, Elements, Bytes, Pairs, Texts, Object, Directory, kind_of}
 use Rattle.segment_manager.specs.Instances.{IsInstance, IsMissing, SaysAt, SaysOf}
 use Rattle.segment_manager.specs.State.{Answers, State, StandsFor}
 use Rattle.segment_manager.specs.Contents.{sizes_at, sizes_of}
-use Rattle.segment_manager.specs.Supported.{is_supported_value}
-use Rattle.segment_manager.proofs.Laws.{found-supported}
 use Rattle.segment_cli.specs.Answer.{answer_text, class_words, entry_words, handle_text, line, listing, measure_words}
 use Rattle.segment_cli.specs.Replies.{told_at, told_of}
 use Rattle.segment_cli.specs.Parts.{line_part, part_of, parts_until, said_words}
-use Rattle.segment_cli.specs.Shown.{measured_words}
+use Rattle.segment_cli.specs.Shown.{length_in, number_words}
 use Rattle.segment_cli.proofs.PartLines.{parts-all}
 use Rattle.segment_cli.proofs.ShownObjects.{sizes_of_object}
 
@@ -53,25 +52,60 @@ said-part s words objects i said text h same d k =
 
 -- ---- one object
 
--- what is measured of an object is said behind the others; maps, of which a length alone is told, have not come
-measure-said : (v : Value) → is_supported_value v ≡ true → measured_words (result_ok (sizes_of v)) ≡ measure_words v
-measure-said (Numbers k zs) h = refl
-measure-said (Elements k zs t) h = refl
-measure-said (Bytes bs t) h = refl
-measure-said (Pairs k v ps) h = absurd (cc)
-measure-said (Texts ps t) h = refl
+abbrev capacity_in : Result (ℕ × ℕ) Refusal → ℕ
+capacity_in (Ok (len, capacity)) = capacity
+capacity_in (Err r) = 0
+
+-- what is measured of an object is said behind the others: length and capacity
+measure-said : (v : Value) → ((k w : ScalarKind) → kind_of v ≡ Map k w → ⊥) → (len capacity : ℕ) → Ok (len, capacity) ≡ sizes_of v → number_words (Some len) ++ number_words (Some capacity) ≡ measure_words v
+measure-said (Numbers k zs) n len capacity e = absurd (cc)
+measure-said (Elements k zs t) n len capacity e = let one : len ≡ length zs = ap length_in e in let two : capacity ≡ t.capacity = ap capacity_in e in λ i. number_text (one i) ∷ number_text (two i) ∷ []
+measure-said (Bytes bs t) n len capacity e = let one : len ≡ length bs = ap length_in e in let two : capacity ≡ t.capacity = ap capacity_in e in λ i. number_text (one i) ∷ number_text (two i) ∷ []
+measure-said (Pairs k w ps) n len capacity e = absurd (n k w refl)
+measure-said (Texts ps t) n len capacity e = let one : len ≡ length ps = ap length_in e in let two : capacity ≡ t.capacity = ap capacity_in e in λ i. number_text (one i) ∷ number_text (two i) ∷ []
+
+-- of a map the length alone
+measure-map : (v : Value) (k w : ScalarKind) → kind_of v ≡ Map k w → (len capacity : ℕ) → Ok (len, capacity) ≡ sizes_of v → number_words (Some len) ++ [] ≡ measure_words v
+measure-map (Numbers l zs) k w f len capacity e = absurd (cc)
+measure-map (Elements l zs t) k w f len capacity e = absurd (cc)
+measure-map (Bytes bs t) k w f len capacity e = absurd (cc)
+measure-map (Pairs l m ps) k w f len capacity e = let one : len ≡ length ps = ap length_in e in λ i. number_text (one i) ∷ []
+measure-map (Texts ps t) k w f len capacity e = absurd (cc)
+
+-- and of numbers nothing
+measure-none : (v : Value) (why : Refusal) → Err why ≡ sizes_of v → [] ≡ measure_words v
+measure-none (Numbers k zs) why e = refl
+measure-none (Elements k zs t) why e = absurd (cc)
+measure-none (Bytes bs t) why e = absurd (cc)
+measure-none (Pairs k w ps) why e = absurd (cc)
+measure-none (Texts ps t) why e = absurd (cc)
 
 -- all that is told of an object
-pub told-said : (s : State) (key : Key) (said : Instance) → SaysOf s key said → (r : Result (ℕ × ℕ) Refusal) (measured : Option (ℕ × ℕ)) → measured ≡ result_ok r → Answers s (λ d. sizes_at d key) r
-    → (d : Directory) → StandsFor s.cut.bytes d → line (class_words said.class said.name.now ++ said_words said ++ measured_words measured) ≡ answer_text (told_at d key)
-told-said s key said h r measured e a d k =
-    let f = h.says d k in
-    let o = f.0 in
-    let is = f.2 in
-    let sizes : r ≡ sizes_of o.value = a.answers d k ∙ ap sizes_of_object f.1 in
-    let words : measured_words measured ≡ measure_words o.value = ap measured_words e ∙ ap (λ q. measured_words (result_ok q)) sizes ∙ measure-said o.value (found-supported d key o k.supported f.1) in
-    (λ j. line (class_words (is.class j) (is.name j) ++ entry-said o said is j ++ words j))
-    ∙ ap (λ (q : Option Object). answer_text (told_of q)) (sym f.1)
+module _ (s : State) (key : Key) (said : Instance) (h : SaysOf s key said) where
+  words-said : (d : Directory) (st : StandsFor s.cut.bytes d) (words : List (List ℕ)) → words ≡ measure_words (h.says d st).0.value
+      → line (class_words said.class said.name.now ++ said_words said ++ words) ≡ answer_text (told_at d key)
+  words-said d st words e =
+      let f = h.says d st in
+      (λ j. line (class_words (f.2.class j) (f.2.name j) ++ entry-said f.0 said f.2 j ++ e j)) ∙ ap (λ (q : Option Object). answer_text (told_of q)) (sym f.1)
+
+  measured : (r : Result (ℕ × ℕ) Refusal) → Answers s (λ d. sizes_at d key) r → (d : Directory) (st : StandsFor s.cut.bytes d) → r ≡ sizes_of (h.says d st).0.value
+  measured r a d st = a.answers d st ∙ ap sizes_of_object (h.says d st).1
+
+  pub told-said : (len capacity : ℕ) → ((k w : ScalarKind) → said.kind ≡ Map k w → ⊥) → Answers s (λ d. sizes_at d key) (Ok (len, capacity)) → (d : Directory) → StandsFor s.cut.bytes d
+      → line (class_words said.class said.name.now ++ said_words said ++ (number_words (Some len) ++ number_words (Some capacity))) ≡ answer_text (told_at d key)
+  told-said len capacity n a d st =
+      let f = h.says d st in
+      words-said d st (number_words (Some len) ++ number_words (Some capacity)) (measure-said f.0.value (λ k w e. n k w (f.2.kind ∙ e)) len capacity (measured (Ok (len, capacity)) a d st))
+
+  pub told-map : (k w : ScalarKind) (len capacity : ℕ) → said.kind ≡ Map k w → Answers s (λ d. sizes_at d key) (Ok (len, capacity)) → (d : Directory) → StandsFor s.cut.bytes d
+      → line (class_words said.class said.name.now ++ said_words said ++ (number_words (Some len) ++ number_words None)) ≡ answer_text (told_at d key)
+  told-map k w len capacity e a d st =
+      let f = h.says d st in
+      words-said d st (number_words (Some len) ++ []) (measure-map f.0.value k w (sym f.2.kind ∙ e) len capacity (measured (Ok (len, capacity)) a d st))
+
+  pub told-numbers : (why : Refusal) → Answers s (λ d. sizes_at d key) (Err why) → (d : Directory) → StandsFor s.cut.bytes d
+      → line (class_words said.class said.name.now ++ said_words said ++ (number_words None ++ number_words None)) ≡ answer_text (told_at d key)
+  told-numbers why a d st = words-said d st [] (measure-none (h.says d st).0.value why (measured (Err why) a d st))
 
 -- there is none
 pub told-missing : (s : State) (key : Key) (r : Refusal) → IsMissing s key r → (d : Directory) → StandsFor s.cut.bytes d → answer_text (Refused r) ≡ answer_text (told_at d key)

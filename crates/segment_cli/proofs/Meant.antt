@@ -2,7 +2,7 @@
 -- their kind.
 use Rattle.std.proofs.Common.{◌≡◌, refl, sym, subst, ℕ, ℤ, ◌+◌, ◌*◌, ◌≤◌, Bool, true, false, ◌&&◌, Option, Some, None, Result, List, [], ◌∷◌, length, replicate, arith, if◌then◌else◌, ◌==◌, nat_le, nat_lt}
 use Rattle.std.specs.Prelude.{IsTrue, codes, find, option_and_then, option_map, take_while, drop, not, slice_index, ⊤}
-use Rattle.std.specs.List.{AllByRecursion, list_any}
+use Rattle.std.specs.List.{AllByRecursion}
 use Rattle.std.specs.Result.{result_ok}
 use Rattle.std.proofs.lemmas.Bool.{and_parts, eqb-true, leb-true, ltb-false}
 use Rattle.std.proofs.lemmas.List.{length-drop, length-replicate}
@@ -15,13 +15,13 @@ use Rattle.seg_types.specs.Commands as asked
 use Rattle.seg_types.specs.Commands.{Command, Content, Literal, Whole, Truth, Quoted, Reading, Nothing, Asked, UnknownCommand, LineTooLong, BadSyntax}
 use Rattle.segment_lang.specs.Words as word
 use Rattle.segment_lang.specs.Words.{Word, Bare, words, is, is_blank, literal_of_word, number_of, whole_of}
-use Rattle.segment_lang.specs.Language.{Language, supported}
+use Rattle.raw_region.specs.Format.{current}
+use Rattle.segment_lang.specs.Language.{Language, whole}
 use Rattle.segment_lang.specs.Reading as reads
-use Rattle.segment_lang.specs.Reading.{Form, Reader, agrees, all, alone, as_reading, bracketed, command_line, content, counted, counted_kind, each, for_kind, form_of, forms, items, key_of, kind_named, kind_of_word, making, making_each, name_key, new_key, number, quoted_of, reading, reading_of_words, skip_blanks, value_for, with_key, with_key_literal, with_key_number, with_key_number_literal, with_number, without_return}
+use Rattle.segment_lang.specs.Reading.{Form, Reader, agrees, all, alone, as_reading, bracketed, command_line, content, counted, counted_kind, each, for_kind, form_of, forms, items, key_of, kind_named, kind_of_word, making, making_each, name_key, new_key, number, quoted_of, reading, skip_blanks, value_for, with_key, with_key_literal, with_key_number, with_key_number_literal, with_number, without_return}
 use Rattle.segment_lang.specs.Laws.{room}
-use Rattle.segment_lang.specs.Texts.{kind_text}
 use Rattle.segment_lang.proofs.Laws.{words_room}
-use Rattle.segment_cli.specs.Replies.{IsContent, IsMeant, bytes_taken}
+use Rattle.segment_cli.specs.Replies.{IsContent, IsMeant, bytes_taken, texts_taken}
 use Rattle.segment_cli.proofs.RowValues.{text-no_value}
 
 -- ---- what there is, if there is something
@@ -45,6 +45,10 @@ then-all Q f (Some a) h = h a
 map-where : {A B : Type 0} (P : A → Type 0) (Q : B → Type 0) (f : A → B) (r : Option A) → Holds P r → ((a : A) → P a → Q (f a)) → Holds Q (option_map f r)
 map-where P Q f None p h = tt
 map-where P Q f (Some a) p h = h a p
+
+holds-map : {A : Type 0} (P Q : A → Type 0) (r : Option A) → Holds P r → ((a : A) → P a → Q a) → Holds Q r
+holds-map P Q None p h = tt
+holds-map P Q (Some a) p h = h a p
 
 if-holds : {A : Type 0} (P : A → Type 0) (b : Bool) (a : A) → (b ≡ true → P a) → Holds P (if b then Some a else None)
 if-holds P true a h = h refl
@@ -96,34 +100,28 @@ literals-room (Bare (c ∷ cs) ∷ ws) =
 literals-room (word.Text bs ∷ ws) =
     map-where (λ ls. bytes_taken ls ≤ room ws) (λ ls. bytes_taken ls ≤ room (word.Text bs ∷ ws)) (λ ls. Quoted bs ∷ ls) (all literal_of_word ws) (literals-room ws) (λ ls h. omega arith)
 
+texts-room : (ws : List Word) → Holds (λ (bss : List (List ℕ)). texts_taken bss ≤ room ws) (all quoted_of ws)
+texts-room [] = omega arith
+texts-room (Bare w ∷ ws) = tt
+texts-room (word.Text bs ∷ ws) =
+    map-where (λ (bss : List (List ℕ)). texts_taken bss ≤ room ws) (λ (bss : List (List ℕ)). texts_taken bss ≤ room (word.Text bs ∷ ws)) (λ bss. bs ∷ bss) (all quoted_of ws) (texts-room ws) (λ bss h. omega arith)
+
+-- one value takes no more than its word
+literal-room : (w : Word) → Holds (λ l. bytes_taken (l ∷ []) ≤ room (w ∷ [])) (literal_of_word w)
+literal-room (Bare []) = tt
+literal-room (Bare (c ∷ cs)) =
+    holds-map IsBareValue (λ l. bytes_taken (l ∷ []) ≤ room (Bare (c ∷ cs) ∷ [])) (literal_of_word (Bare (c ∷ cs))) (bare-if (is (c ∷ cs) (codes "true")) (is (c ∷ cs) (codes "false")) (whole_of (c ∷ cs)))
+    (λ l b. let e = bare-taken l [] b in omega arith)
+literal-room (word.Text bs) = omega arith
+
 -- ---- kinds, keys and contents
-
--- vectors of texts and maps have not come
-abbrev IsThere : Kind → Type 0
-IsThere (Scalar k) = ⊤
-IsThere Text = ⊤
-IsThere (Vector k) = ⊤
-IsThere (Map k v) = ⊥
-IsThere Texts = ⊥
-
-there-first : (b : Bool) (k : Kind) (r : Option Kind) → IsThere k → Holds IsThere r → Holds IsThere (if b then Some k else r)
-there-first true k r h f = h
-there-first false k r h f = f
-
-there-found : (ks : List Kind) (w : List ℕ) → AllByRecursion IsThere ks → Holds IsThere (find (λ k. is w (kind_text k)) ks)
-there-found [] w h = tt
-there-found (k ∷ ks) w h = there-first (is w (kind_text k)) k (find (λ k. is w (kind_text k)) ks) h.0 (there-found ks w h.1)
-
-named-there : (w : List ℕ) → Holds IsThere (kind_named supported w)
-unfolding kind_named
-named-there w = there-found supported.kinds w (tt, (tt, (tt, (tt, (tt, (tt, (tt, (tt, (tt, (tt, (tt, tt)))))))))))
 
 abbrev IsCount : ℕ → Type 0
 IsCount n = (1 ≤ n) × (n ≤ 1048576)
 
--- a kind that has come, and so many
+-- a kind, and so many
 abbrev IsCounted : Kind × ℕ → Type 0
-IsCounted p = IsCount p.1 × IsThere p.0
+IsCounted p = IsCount p.1
 
 abbrev Counts : Option (Kind × ℕ) → Type 0
 Counts = Holds IsCounted
@@ -131,27 +129,23 @@ Counts = Holds IsCounted
 counted-holds : (k : Kind) (r : Option ℕ) → Counts (counted k r)
 counted-holds (Scalar k) (Some n) =
     if-holds IsCounted (nat_le 1 n && nat_le n 1048576) (Scalar k, n)
-    (λ e. let both = and_parts (nat_le 1 n) (nat_le n 1048576) e in ((leb-true 1 n both.0, leb-true n 1048576 both.1), tt))
+    (λ e. let both = and_parts (nat_le 1 n) (nat_le n 1048576) e in (leb-true 1 n both.0, leb-true n 1048576 both.1))
 counted-holds (Scalar k) None = tt
 counted-holds Text r = tt
 counted-holds (Vector k) r = tt
 counted-holds (Map k v) r = tt
 counted-holds Texts r = tt
 
-bracket-holds : (l : Language) (w : List ℕ) (b : Bool) → Counts (if b then option_and_then (λ k. counted k (bracketed (drop (length (take_while (λ c. not (c == 0x5B)) w) + 1) w))) (kind_named l (take_while (λ c. not (c == 0x5B)) w)) else None)
-bracket-holds l w true = then-all IsCounted _ (kind_named l (take_while (λ c. not (c == 0x5B)) w)) (λ k. counted-holds k _)
-bracket-holds l w false = tt
-
-kind-holds : (l : Language) (w : List ℕ) (r : Option Kind) → Holds IsThere r → Counts (elim r as (λ _. Option (Kind × ℕ)) [
+kind-holds : (l : Language) (w : List ℕ) (r : Option Kind) → Counts (elim r as (λ _. Option (Kind × ℕ)) [
   | Some k ↦ Some (k, 1)
   | None ↦ let front = take_while (λ c. not (c == 0x5B)) w in
-      if l.has_counts then option_and_then (λ k. counted k (bracketed (drop (length front + 1) w))) (kind_named l front) else None
+      option_and_then (λ k. counted k (bracketed (drop (length front + 1) w))) (kind_named l front)
 ])
-kind-holds l w (Some k) h = ((omega arith, omega arith), h)
-kind-holds l w None h = bracket-holds l w l.has_counts
+kind-holds l w (Some k) = (omega arith, omega arith)
+kind-holds l w None = then-all IsCounted _ (kind_named l (take_while (λ c. not (c == 0x5B)) w)) (λ k. counted-holds k _)
 
-kinds-count : (w : Word) → Counts (counted_kind supported w)
-kinds-count (Bare w) = kind-holds supported w (kind_named supported w) (named-there w)
+kinds-count : (w : Word) → Counts (counted_kind (whole current) w)
+kinds-count (Bare w) = kind-holds (whole current) w (kind_named (whole current) w)
 kinds-count (word.Text bs) = tt
 
 key-agrees : (k : Kind) (key : Option Key) → Holds (λ (x : Key). IsTrue (agrees k x)) (for_kind k key)
@@ -161,7 +155,7 @@ content-holds : (k : Kind) (n : ℕ) (ws : List Word) (key : Key) → IsCounted 
 content-holds (Scalar k) n [] key h f a = tt
 content-holds (Scalar k) n (v ∷ []) key h f a =
     map-holds (IsContent key) (λ z. asked.Numbers k (replicate n z)) (value_for k v)
-    (λ z. let e = length-replicate n z in (subst (λ m. 1 ≤ m) (sym e) h.0.0, subst (λ m. m ≤ 1048576) (sym e) h.0.1, a))
+    (λ z. let e = length-replicate n z in (subst (λ m. 1 ≤ m) (sym e) h.0, subst (λ m. m ≤ 1048576) (sym e) h.1, a))
 content-holds (Scalar k) n (v ∷ w ∷ ws) key h f a = tt
 content-holds (Vector k) n ws key h f a =
     map-where (λ (zs : List ℤ). 2 * length zs ≤ room ws) (IsContent key) (asked.Elements k) (all (value_for k) ws) (values-room k ws) (λ zs r. (omega arith, a))
@@ -169,13 +163,15 @@ content-holds Text n [] key h f a = tt
 content-holds Text n (Bare w ∷ ws) key h f a = tt
 content-holds Text n (word.Text bs ∷ []) key h f a = (omega arith, a)
 content-holds Text n (word.Text bs ∷ w ∷ ws) key h f a = tt
-content-holds (Map k v) n ws key h f a = absurd h.1
-content-holds Texts n ws key h f a = absurd h.1
+content-holds (Map k v) n [] key h f a = a
+content-holds (Map k v) n (w ∷ ws) key h f a = tt
+content-holds Texts n ws key h f a =
+    map-where (λ (bss : List (List ℕ)). texts_taken bss ≤ room ws) (IsContent key) asked.Strings (all quoted_of ws) (texts-room ws) (λ bss r. (omega arith, a))
 
 -- ---- the forms
 
 abbrev Meant : Reader → Type 0
-Meant r = (ws : List Word) → room ws ≤ 4097 → Holds IsMeant (r supported ws)
+Meant r = (ws : List Word) → room ws ≤ 4097 → Holds IsMeant (r (whole current) ws)
 
 alone-meant : (c : Command) → IsMeant c → Meant (alone c)
 alone-meant c h [] room_is = h
@@ -183,7 +179,7 @@ alone-meant c h (w ∷ ws) room_is = tt
 
 key-meant : (f : Key → Command) (key_in : Language → Word → Option Key) → ((k : Key) → IsMeant (f k)) → Meant (with_key f key_in)
 key-meant f key_in h [] room_is = tt
-key-meant f key_in h (w ∷ []) room_is = map-holds IsMeant f (key_in supported w) h
+key-meant f key_in h (w ∷ []) room_is = map-holds IsMeant f (key_in (whole current) w) h
 key-meant f key_in h (w ∷ v ∷ ws) room_is = tt
 
 number-meant : (f : ℕ → Command) → ((n : ℕ) → IsMeant (f n)) → Meant (with_number f)
@@ -194,29 +190,35 @@ number-meant f h (w ∷ v ∷ ws) room_is = tt
 key-number-meant : (f : Key → ℕ → Command) → ((k : Key) (n : ℕ) → IsMeant (f k n)) → Meant (with_key_number f)
 key-number-meant f h [] room_is = tt
 key-number-meant f h (w ∷ []) room_is = tt
-key-number-meant f h (w ∷ v ∷ []) room_is = then-all IsMeant (λ key. option_map (f key) (number v)) (key_of supported w) (λ k. map-holds IsMeant (f k) (number v) (h k))
+key-number-meant f h (w ∷ v ∷ []) room_is = then-all IsMeant (λ key. option_map (f key) (number v)) (key_of (whole current) w) (λ k. map-holds IsMeant (f k) (number v) (h k))
 key-number-meant f h (w ∷ v ∷ u ∷ ws) room_is = tt
 
-key-literal-meant : (f : Key → Literal → Command) → ((k : Key) (m : Literal) → IsMeant (f k m)) → Meant (with_key_literal f)
+key-literal-meant : (f : Key → Literal → Command) → ((k : Key) (m : Literal) → bytes_taken (m ∷ []) ≤ 4097 → IsMeant (f k m)) → Meant (with_key_literal f)
 key-literal-meant f h [] room_is = tt
 key-literal-meant f h (w ∷ []) room_is = tt
-key-literal-meant f h (w ∷ v ∷ []) room_is = then-all IsMeant (λ key. option_map (f key) (literal_of_word v)) (key_of supported w) (λ k. map-holds IsMeant (f k) (literal_of_word v) (h k))
+key-literal-meant f h (w ∷ v ∷ []) room_is =
+    let tail = room-tail w (v ∷ []) in
+    then-all IsMeant (λ key. option_map (f key) (literal_of_word v)) (key_of (whole current) w)
+    (λ k. map-where (λ l. bytes_taken (l ∷ []) ≤ room (v ∷ [])) IsMeant (f k) (literal_of_word v) (literal-room v) (λ m few. h k m (omega arith)))
 key-literal-meant f h (w ∷ v ∷ u ∷ ws) room_is = tt
 
-key-number-literal-meant : (f : Key → ℕ → Literal → Command) → ((k : Key) (n : ℕ) (m : Literal) → IsMeant (f k n m)) → Meant (with_key_number_literal f)
+key-number-literal-meant : (f : Key → ℕ → Literal → Command) → ((k : Key) (n : ℕ) (m : Literal) → bytes_taken (m ∷ []) ≤ 4097 → IsMeant (f k n m)) → Meant (with_key_number_literal f)
 key-number-literal-meant f h [] room_is = tt
 key-number-literal-meant f h (w ∷ []) room_is = tt
 key-number-literal-meant f h (w ∷ v ∷ []) room_is = tt
 key-number-literal-meant f h (w ∷ v ∷ u ∷ []) room_is =
-    then-all IsMeant (λ key. option_and_then (λ n. option_map (f key n) (literal_of_word u)) (number v)) (key_of supported w)
-    (λ k. then-all IsMeant (λ n. option_map (f k n) (literal_of_word u)) (number v) (λ n. map-holds IsMeant (f k n) (literal_of_word u) (h k n)))
+    let first = room-tail w (v ∷ u ∷ []) in
+    let second = room-tail v (u ∷ []) in
+    then-all IsMeant (λ key. option_and_then (λ n. option_map (f key n) (literal_of_word u)) (number v)) (key_of (whole current) w)
+    (λ k. then-all IsMeant (λ n. option_map (f k n) (literal_of_word u)) (number v)
+    (λ n. map-where (λ l. bytes_taken (l ∷ []) ≤ room (u ∷ [])) IsMeant (f k n) (literal_of_word u) (literal-room u) (λ m few. h k n m (omega arith))))
 key-number-literal-meant f h (w ∷ v ∷ u ∷ t ∷ ws) room_is = tt
 
 assigning-meant : Meant reads.assigning
 assigning-meant [] room_is = tt
 assigning-meant (w ∷ ws) room_is =
     let tail = room-tail w ws in
-    then-all IsMeant (λ key. option_map (asked.Assign key) (all literal_of_word ws)) (key_of supported w)
+    then-all IsMeant (λ key. option_map (asked.Assign key) (all literal_of_word ws)) (key_of (whole current) w)
     (λ k. map-where (λ ls. bytes_taken ls ≤ room ws) IsMeant (asked.Assign k) (all literal_of_word ws) (literals-room ws) (λ ls h. omega arith))
 
 putting-meant : Meant reads.putting
@@ -224,7 +226,7 @@ putting-meant [] room_is = tt
 putting-meant (w ∷ []) room_is = tt
 putting-meant (w ∷ v ∷ []) room_is = tt
 putting-meant (w ∷ v ∷ u ∷ []) room_is =
-    then-all IsMeant (λ key. option_and_then (λ k. option_map (asked.Put key k) (literal_of_word u)) (literal_of_word v)) (key_of supported w)
+    then-all IsMeant (λ key. option_and_then (λ k. option_map (asked.Put key k) (literal_of_word u)) (literal_of_word v)) (key_of (whole current) w)
     (λ key. then-all IsMeant (λ k. option_map (asked.Put key k) (literal_of_word u)) (literal_of_word v) (λ k. map-holds IsMeant (asked.Put key k) (literal_of_word u) (λ m. tt)))
 putting-meant (w ∷ v ∷ u ∷ t ∷ ws) room_is = tt
 
@@ -234,15 +236,15 @@ appending-meant (w ∷ []) room_is = tt
 appending-meant (w ∷ Bare b ∷ ws) room_is = tt
 appending-meant (w ∷ word.Text bs ∷ []) room_is =
     let tail = room-tail w (word.Text bs ∷ []) in
-    map-holds IsMeant (λ key. asked.Append key bs) (key_of supported w) (λ k. omega arith)
+    map-holds IsMeant (λ key. asked.Append key bs) (key_of (whole current) w) (λ k. omega arith)
 appending-meant (w ∷ word.Text bs ∷ v ∷ ws) room_is = tt
 
 finding-meant : Meant reads.finding
 finding-meant [] room_is = tt
 finding-meant (w ∷ []) room_is = tt
 finding-meant (w ∷ v ∷ []) room_is =
-    then-all IsMeant (λ k. option_map (λ key. asked.Find key k) (for_kind k (name_key supported v))) (kind_of_word supported w)
-    (λ k. map-holds IsMeant (λ key. asked.Find key k) (for_kind k (name_key supported v)) (λ key. tt))
+    then-all IsMeant (λ k. option_map (λ key. asked.Find key k) (for_kind k (name_key (whole current) v))) (kind_of_word (whole current) w)
+    (λ k. map-holds IsMeant (λ key. asked.Find key k) (for_kind k (name_key (whole current) v)) (λ key. tt))
 finding-meant (w ∷ v ∷ u ∷ ws) room_is = tt
 
 handle-if : (b : Bool) (cs : List ℕ) → Holds IsMeant (if b then option_map asked.DestroyPtr (number_of cs) else None)
@@ -262,8 +264,8 @@ making-meant make key_in h (w ∷ []) room_is = tt
 making-meant make key_in h (w ∷ v ∷ args) room_is =
     let tail = room-tail w (v ∷ args) in
     let fits = room-tail v args in
-    then-holds IsCounted IsMeant (λ (k, n). option_and_then (λ key. option_map (make key) (content k n args)) (for_kind k (key_in supported v))) (counted_kind supported w) (kinds-count w)
-    (λ p count. then-holds (λ (x : Key). IsTrue (agrees p.0 x)) IsMeant (λ key. option_map (make key) (content p.0 p.1 args)) (for_kind p.0 (key_in supported v)) (key-agrees p.0 (key_in supported v))
+    then-holds IsCounted IsMeant (λ (k, n). option_and_then (λ key. option_map (make key) (content k n args)) (for_kind k (key_in (whole current) v))) (counted_kind (whole current) w) (kinds-count w)
+    (λ p count. then-holds (λ (x : Key). IsTrue (agrees p.0 x)) IsMeant (λ key. option_map (make key) (content p.0 p.1 args)) (for_kind p.0 (key_in (whole current) v)) (key-agrees p.0 (key_in (whole current) v))
     (λ key a. map-where (IsContent key) IsMeant (make key) (content p.0 p.1 args) (content-holds p.0 p.1 args key count (omega arith) a) (h key)))
 
 each-meant : (vs : List Word) (k : Kind) (n : ℕ) (key : Key) → IsCount n → IsTrue (agrees k key) → Holds IsMeant (each vs k n key)
@@ -279,15 +281,15 @@ making_each-meant : Meant making_each
 making_each-meant [] room_is = tt
 making_each-meant (w ∷ []) room_is = tt
 making_each-meant (w ∷ v ∷ vs) room_is =
-    then-holds IsCounted IsMeant (λ (k, n). option_and_then (λ key. each vs k n key) (for_kind k (new_key supported v))) (counted_kind supported w) (kinds-count w)
-    (λ p count. then-holds (λ (x : Key). IsTrue (agrees p.0 x)) IsMeant (λ key. each vs p.0 p.1 key) (for_kind p.0 (new_key supported v)) (key-agrees p.0 (new_key supported v))
-    (λ key a. each-meant vs p.0 p.1 key count.0 a))
+    then-holds IsCounted IsMeant (λ (k, n). option_and_then (λ key. each vs k n key) (for_kind k (new_key (whole current) v))) (counted_kind (whole current) w) (kinds-count w)
+    (λ p count. then-holds (λ (x : Key). IsTrue (agrees p.0 x)) IsMeant (λ key. each vs p.0 p.1 key) (for_kind p.0 (new_key (whole current) v)) (key-agrees p.0 (new_key (whole current) v))
+    (λ key a. each-meant vs p.0 p.1 key count a))
 
 abbrev IsFormMeant : Form → Type 0
 IsFormMeant f = Meant f.1
 
 forms-meant : AllByRecursion IsFormMeant forms
-forms-meant = (making-meant asked.Construct new_key (λ k x h. h), (making_each-meant, (finding-meant, (making-meant asked.FindOrConstruct name_key (λ k x h. h), (key-meant asked.Destroy name_key (λ k. tt), (destroying-meant, (key-meant asked.Show key_of (λ k. tt), (key-meant asked.Info key_of (λ k. tt), (key-number-meant asked.Get (λ k n. tt), (key-number-literal-meant asked.Set (λ k n m. tt), (key-literal-meant asked.Push (λ k m. tt), (key-meant asked.Pop key_of (λ k. tt), (key-number-literal-meant asked.Insert (λ k n m. tt), (key-number-meant asked.Erase (λ k n. tt), (key-number-meant asked.Reserve (λ k n. tt), (key-meant asked.Shrink key_of (λ k. tt), (key-meant asked.Clear key_of (λ k. tt), (assigning-meant, (appending-meant, (putting-meant, (key-literal-meant asked.Lookup (λ k m. tt), (key-literal-meant asked.Remove (λ k m. tt), (alone-meant asked.ListNames tt, (alone-meant asked.ListKinds tt, (alone-meant asked.ListBlocks tt, (alone-meant asked.Size tt, (alone-meant asked.Free tt, (alone-meant asked.NumNamed tt, (alone-meant asked.NumUnique tt, (number-meant asked.ReserveNamed (λ n. tt), (number-meant asked.ReserveUnique (λ n. tt), (alone-meant asked.ShrinkIndexes tt, (alone-meant asked.ZeroFree tt, (alone-meant asked.Sanity tt, (alone-meant asked.AllDeallocated tt, tt)))))))))))))))))))))))))))))))))))
+forms-meant = (making-meant asked.Construct new_key (λ k x h. h), (making_each-meant, (finding-meant, (making-meant asked.FindOrConstruct name_key (λ k x h. h), (key-meant asked.Destroy name_key (λ k. tt), (destroying-meant, (key-meant asked.Show key_of (λ k. tt), (key-meant asked.Info key_of (λ k. tt), (key-number-meant asked.Get (λ k n. tt), (key-number-literal-meant asked.Set (λ k n m few. few), (key-literal-meant asked.Push (λ k m few. few), (key-meant asked.Pop key_of (λ k. tt), (key-number-literal-meant asked.Insert (λ k n m few. few), (key-number-meant asked.Erase (λ k n. tt), (key-number-meant asked.Reserve (λ k n. tt), (key-meant asked.Shrink key_of (λ k. tt), (key-meant asked.Clear key_of (λ k. tt), (assigning-meant, (appending-meant, (putting-meant, (key-literal-meant asked.Lookup (λ k m few. tt), (key-literal-meant asked.Remove (λ k m few. tt), (alone-meant asked.ListNames tt, (alone-meant asked.ListKinds tt, (alone-meant asked.ListBlocks tt, (alone-meant asked.Size tt, (alone-meant asked.Free tt, (alone-meant asked.NumNamed tt, (alone-meant asked.NumUnique tt, (number-meant asked.ReserveNamed (λ n. tt), (number-meant asked.ReserveUnique (λ n. tt), (alone-meant asked.ShrinkIndexes tt, (alone-meant asked.ZeroFree tt, (alone-meant asked.Sanity tt, (alone-meant asked.AllDeallocated tt, tt)))))))))))))))))))))))))))))))))))
 
 find-if : (t : Form → Bool) (b : Bool) (f : Form) (r : Option Form) → IsFormMeant f → Holds IsFormMeant r → Holds IsFormMeant (if b then Some f else r)
 find-if t true f r h k = h
@@ -296,10 +298,6 @@ find-if t false f r h k = k
 found-meant : (t : Form → Bool) (fs : List Form) → AllByRecursion IsFormMeant fs → Holds IsFormMeant (find t fs)
 found-meant t [] h = tt
 found-meant t (f ∷ fs) h = find-if t (t f) f (find t fs) h.0 (found-meant t fs h.1)
-
-form-if : (b : Bool) (w : List ℕ) → Holds IsFormMeant (if b then find (λ (f : Form). is w f.0) forms else None)
-form-if true w = found-meant (λ (f : Form). is w f.0) forms forms-meant
-form-if false w = tt
 
 -- ---- the line
 
@@ -320,18 +318,18 @@ as-meant (Some c) h = h
 
 words-if : (rest : List ℕ) (r : Option Form) → length rest ≤ 4096 → Holds IsFormMeant r → IsReadingMeant (elim r as (λ _. Reading) [
   | None ↦ UnknownCommand
-  | Some form ↦ as_reading (option_and_then (form.1 supported) (words rest))
+  | Some form ↦ as_reading (option_and_then (form.1 (whole current)) (words rest))
 ])
 words-if rest None short h = tt
 words-if rest (Some f) short h =
-    as-meant (option_and_then (f.1 supported) (words rest))
-    (then-holds (λ ws. room ws ≤ 4097) IsMeant (f.1 supported) (words rest) (words-fit rest (words rest) refl short) (λ ws fits. h ws fits))
+    as-meant (option_and_then (f.1 (whole current)) (words rest))
+    (then-holds (λ ws. room ws ≤ 4097) IsMeant (f.1 (whole current)) (words rest) (words-fit rest (words rest) refl short) (λ ws fits. h ws fits))
 
-command-meant : (line : List ℕ) → length line ≤ 4096 → IsReadingMeant (command_line supported line)
+command-meant : (line : List ℕ) → length line ≤ 4096 → IsReadingMeant (command_line (whole current) line)
 command-meant [] short = tt
 command-meant (c ∷ cs) short =
     let first = take_while (λ c. not (is_blank c)) (c ∷ cs) in
-    words-if (drop (length first) (c ∷ cs)) (form_of supported first) (omega (arith, length-drop (length first) (c ∷ cs))) (form-if (list_any (is first) supported.commands) first)
+    words-if (drop (length first) (c ∷ cs)) (form_of first) (omega (arith, length-drop (length first) (c ∷ cs))) (found-meant (λ (f : Form). is first f.0) forms forms-meant)
 
 meant-if : (b : Bool) (x y : Reading) → IsReadingMeant x → (b ≡ false → IsReadingMeant y) → IsReadingMeant (if b then x else y)
 meant-if true x y h k = h
@@ -345,7 +343,7 @@ blanks-short : (line : List ℕ) → length (skip_blanks line) ≤ length line
 blanks-short [] = omega arith
 blanks-short (c ∷ cs) = blank-if (is_blank c) c cs (blanks-short cs)
 
-line-meant : (line : List ℕ) → IsReadingMeant (reading supported line)
+line-meant : (line : List ℕ) → IsReadingMeant (reading (whole current) line)
 unfolding reading
 line-meant line =
     let line = without_return line in
@@ -354,5 +352,5 @@ line-meant line =
     (λ _. command-meant (skip_blanks line) (omega (arith, blanks-short line, ltb-false 4096 (length line) few))))
 
 -- what a line asks for can be
-pub asked-meant : (c : Command) (line : List ℕ) → Asked c ≡ reading supported line → IsMeant c
+pub asked-meant : (c : Command) (line : List ℕ) → Asked c ≡ reading (whole current) line → IsMeant c
 asked-meant c line e = subst IsReadingMeant (sym e) (line-meant line)

@@ -2,7 +2,8 @@
 use Rattle.std.proofs.Common.{◌≡◌, ℕ, Bool, false, List, [], ◌∷◌, ◌++◌, take, refl, sym, ap, subst, ◌∙◌}
 use Rattle.std.proofs.lemmas.List.{take_all}
 use Rattle.raw_region.specs.Device.{IsProperPrefix}
-use Rattle.segment_lang.specs.Language.{supported}
+use Rattle.raw_region.specs.Format.{current}
+use Rattle.segment_lang.specs.Language.{whole}
 use Rattle.segment_lang.specs.Reading.{reading}
 use Rattle.segment_manager.specs.declared.modes.Mode.{Mode}
 use Rattle.segment_manager.specs.declared.modes.Mode.TheVariants.{Write}
@@ -22,32 +23,32 @@ place mode d known = record { mode = mode; directory = d; zeros = known }
 
 -- where lines lead
 abbrev behind : Mode → Directory → Bool → List (List ℕ) → Place
-behind mode d known ls = place mode (run_lines supported mode d ls).1 (zeros_after_lines supported mode d ls known)
+behind mode d known ls = place mode (run_lines (whole current) mode d ls).1 (zeros_after_lines (whole current) mode d ls known)
 
 -- the answers of a segment, and its last place
 pub answer_all-segment : (mode : Mode) (d : Directory) (known : Bool) (ls : List (List ℕ))
-    → answer_all answer_line (place mode d known) ls ≡ ((run_lines supported mode d ls).0, behind mode d known ls)
+    → answer_all answer_line (place mode d known) ls ≡ ((run_lines (whole current) mode d ls).0, behind mode d known ls)
 answer_all-segment mode d known [] = refl
 answer_all-segment mode d known (l ∷ ls) =
-    let asked = reading supported l in
+    let asked = reading (whole current) l in
     let first = respond mode d asked in
     ap (λ (r : List ℕ × Place). (first.0 ++ r.0, r.1)) (answer_all-segment mode first.1 (zeros_after mode d asked known) ls)
 
-printed-segment : (mode : Mode) (d : Directory) (known : Bool) (ls : List (List ℕ)) → (answer_all answer_line (place mode d known) ls).0 ≡ (run_lines supported mode d ls).0
+printed-segment : (mode : Mode) (d : Directory) (known : Bool) (ls : List (List ℕ)) → (answer_all answer_line (place mode d known) ls).0 ≡ (run_lines (whole current) mode d ls).0
 printed-segment mode d known ls = ap (λ (r : List ℕ × Place). r.0) (answer_all-segment mode d known ls)
 
 place-segment : (mode : Mode) (d : Directory) (known : Bool) (ls : List (List ℕ)) → (answer_all answer_line (place mode d known) ls).1 ≡ behind mode d known ls
 place-segment mode d known ls = ap (λ (r : List ℕ × Place). r.1) (answer_all-segment mode d known ls)
 
-run-lines : (mode : Mode) (d : Directory) (script : List ℕ) → run supported mode d script ≡ run_lines supported mode d (lines script)
+run-lines : (mode : Mode) (d : Directory) (script : List ℕ) → run (whole current) mode d script ≡ run_lines (whole current) mode d (lines script)
 unfolding run
 run-lines mode d script = refl
 
-run-ended : (mode : Mode) (d : Directory) (bytes : List ℕ) → run supported mode d (whole_lines bytes) ≡ run_lines supported mode d (ended_lines bytes)
+run-ended : (mode : Mode) (d : Directory) (bytes : List ℕ) → run (whole current) mode d (whole_lines bytes) ≡ run_lines (whole current) mode d (ended_lines bytes)
 unfolding ended_lines
 run-ended mode d bytes = run-lines mode d (whole_lines bytes)
 
-zeros-lines : (mode : Mode) (d : Directory) (script : List ℕ) (known : Bool) → zeros_after_run supported mode d script known ≡ zeros_after_lines supported mode d (lines script) known
+zeros-lines : (mode : Mode) (d : Directory) (script : List ℕ) (known : Bool) → zeros_after_run (whole current) mode d script known ≡ zeros_after_lines (whole current) mode d (lines script) known
 unfolding zeros_after_run
 zeros-lines mode d script known = refl
 
@@ -55,7 +56,7 @@ zeros-lines mode d script known = refl
 
 -- where it leads
 abbrev pub end_of : Mode → Directory → Bool → List ℕ → Place
-end_of mode from known script = place mode (run supported mode from script).1 (zeros_after_run supported mode from script known)
+end_of mode from known script = place mode (run (whole current) mode from script).1 (zeros_after_run (whole current) mode from script known)
 
 end-behind : (mode : Mode) (from : Directory) (known : Bool) (script : List ℕ) → end_of mode from known script ≡ behind mode from known (lines script)
 end-behind mode from known script = rw (run-lines mode from script, zeros-lines mode from script known) refl
@@ -66,13 +67,13 @@ module _ (mode : Mode) (from : Directory) (known : Bool) (t : Traffic) (Stands :
   stands_done h = subst Stands (place-segment mode from known (lines t.script.bytes) ∙ sym (end-behind mode from known t.script.bytes)) h.answers.stands
 
   -- and its answers
-  pub prints_done : RunsWhole answer_line (place mode from known) t.script t.out Stands → t.out.bytes ≡ (run supported mode from t.script.bytes).0
+  pub prints_done : RunsWhole answer_line (place mode from known) t.script t.out Stands → t.out.bytes ≡ (run (whole current) mode from t.script.bytes).0
   prints_done h = h.answers.prints ∙ printed-segment mode from known (lines t.script.bytes) ∙ ap (λ (r : List ℕ × Directory). r.0) (sym (run-lines mode from t.script.bytes))
 
 -- ---- what a session owes, where it began at this directory
 
 module _ (start : Start) (mode : Mode) (t : Traffic) (from : Directory) (known : Bool) (begins : Begins start t.image from) (Stands : Place → Type 0) (image : t.image.failed ≡ false) (saved : t.saved.failed ≡ false) where
-  pub done : RunsWhole answer_line (place mode from known) t.script t.out Stands → Saves mode t.saved.bytes (run supported mode from t.script.bytes).1
+  pub done : RunsWhole answer_line (place mode from known) t.script t.out Stands → Saves mode t.saved.bytes (run (whole current) mode from t.script.bytes).1
       → (mode ≡ Write → KeepsZeros start mode t.image from t.script.bytes t.saved.bytes) → IsDone start mode t
   done h saves zeros = record {
     from = from;

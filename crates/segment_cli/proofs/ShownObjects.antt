@@ -1,18 +1,19 @@
 -- What is shown of an object: its kind, and its numbers one after another, or its bytes.
-use Rattle.std.proofs.Common.{◌≡◌, ℕ, ℤ, List, [], ◌∷◌, ◌++◌, length, map, Option, Some, None, Result, Ok, Err, true, slice_get, refl, sym, ap, subst, ◌∙◌, append_assoc}
+use Rattle.std.proofs.Common.{◌≡◌, ℕ, ℤ, List, [], ◌∷◌, ◌++◌, length, map, Option, Some, None, Result, Ok, Err, slice_get, refl, sym, ap, subst, ◌∙◌, append_assoc}
 use Rattle.std.specs.List.{flat_map}
 use Rattle.raw_region.specs.Format.{current}
 use Rattle.best_fit.specs.Table.{Table}
 use Rattle.seg_types.specs.declared.kinds.ScalarKind.{ScalarKind}
-use Rattle.seg_types.specs.declared.kinds.Kind.TheVariants.{Scalar, Text, Vector}
+use Rattle.seg_vector.specs.Vector.{OwnedText}
+use Rattle.seg_types.specs.declared.kinds.Kind.TheVariants.{Scalar, Text, Texts as TextsKind, Vector}
 use Rattle.seg_types.specs.declared.refusals.Refusal.{Refusal}
 use Rattle.seg_types.specs.declared.refusals.Refusal.TheVariants.{NotFound, OutOfRange}
 use Rattle.seg_types.specs.Names.{ByHandle, Key}
 use Rattle.seg_types.specs.Commands as asked
-use Rattle.segment_lang.specs.Texts.{value_text}
+use Rattle.segment_lang.specs.Texts.{kind_text, quoted_text, value_text}
 use Rattle.segment_manager.specs.declared.modes.Mode.{Mode}
 use Rattle.segment_manager.specs.declared.telling.Instance.{Instance}
-use Rattle.segment_manager.specs.Answers.{Element, Refused, Shown}
+use Rattle.segment_manager.specs.Answers.{Answer, Element, Refused, Shown, TextElement}
 use Rattle.segment_manager.specs.Calls.{HasScalars, elements_of}
 use Rattle.segment_manager.specs.Contents.{bytes_at, sizes_at, sizes_of, text_bytes}
 use Rattle.segment_manager.specs.Directory.{Value, Numbers, Elements, Bytes, Pairs, Texts, Object, Directory, count_of, kind_of, live, object_at}
@@ -20,14 +21,13 @@ use Rattle.segment_manager.specs.Instances.{IsMissing, SaysOf}
 use Rattle.segment_manager.specs.Plan.{Plan, Reply, perform, with}
 use Rattle.segment_manager.specs.State.{Answers, State, StandsFor}
 use Rattle.segment_manager.specs.Step.{get, step}
-use Rattle.segment_manager.specs.Supported.{is_supported_value}
-use Rattle.segment_manager.proofs.Laws.{by-handle, found-supported}
+use Rattle.segment_manager.proofs.Laws.{by-handle}
 use Rattle.segment_cli.specs.Answer.{answer_text, line, shown_words}
 use Rattle.segment_cli.specs.Parts.{element_part, part_of}
-use Rattle.segment_cli.specs.Replies.{shown_at, shown_of}
-use Rattle.segment_cli.specs.Shown.{front_text, length_in, string_line, value_line}
+use Rattle.segment_cli.specs.Replies.{shown_at, shown_of, text_at, text_in, text_of}
+use Rattle.segment_cli.specs.Shown.{front_text, length_in, string_line, texts_line, value_line}
 use Rattle.segment_cli.proofs.Answering.{answered-reads}
-use Rattle.segment_cli.proofs.ElementCalls.{IsElements, IsText, text-if, vector-if}
+use Rattle.segment_cli.proofs.ElementCalls.{IsElements, IsText, IsTexts, text-if, texts-if, vector-if}
 use Rattle.segment_cli.proofs.PartLines.{parts-all, parts-same}
 
 -- ---- what the calls say of the object of a key
@@ -108,13 +108,30 @@ scalar-if k (Bytes bs t) e = absurd (cc)
 scalar-if k (Pairs l m ps) e = absurd (cc)
 scalar-if k (Texts ps t) e = absurd (cc)
 
--- maps and vectors of texts have not come
-other-if : (v : Value) → is_supported_value v ≡ true → ((k : ScalarKind) → kind_of v ≡ Scalar k → ⊥) → ((k : ScalarKind) → kind_of v ≡ Vector k → ⊥) → (kind_of v ≡ Text → ⊥) → ⊥
-other-if (Numbers k zs) h n m t = n k refl
-other-if (Elements k zs u) h n m t = m k refl
-other-if (Bytes bs u) h n m t = t refl
-other-if (Pairs k v ps) h n m t = absurd (cc)
-other-if (Texts ps u) h n m t = absurd (cc)
+-- ---- texts
+
+abbrev text_part : OwnedText → List ℕ
+text_part p = 0x20 ∷ quoted_text p.bytes
+
+text-part : (r : Option OwnedText) → element_part (elim r as (λ _. Answer) [ None ↦ Refused OutOfRange | Some p ↦ TextElement p.bytes ]) ≡ part_of text_part r
+text-part None = refl
+text-part (Some p) = refl
+
+texts-words : (w : List ℕ) (ps : List OwnedText) → line (w ∷ map (λ (p : OwnedText). quoted_text p.bytes) ps) ≡ w ++ (flat_map text_part ps ++ 0x0A ∷ [])
+texts-words w [] = refl
+texts-words w (p ∷ ps) =
+    ap (λ l. w ++ 0x20 ∷ l) (texts-words (quoted_text p.bytes) ps)
+    ∙ ap (λ l. w ++ 0x20 ∷ l) (sym (append_assoc (quoted_text p.bytes) (flat_map text_part ps) (0x0A ∷ [])))
+
+-- all texts of a vector of them
+shown-texts : (d : Directory) (key : Key) (o : Object) (ps : List OwnedText) (t : Table) → object_at d key ≡ Some o → o.value ≡ Texts ps t → texts_line d key (length ps) ≡ answer_text (Shown o.value)
+shown-texts d key o ps t e f =
+    ap (λ l. kind_text TextsKind ++ (l ++ 0x0A ∷ []))
+    (parts-same (λ i. element_part (text_at d key i)) (λ i. part_of text_part (slice_get ps i)) (length ps)
+    (λ i. ap (λ r. element_part (text_in r i)) e ∙ ap (λ v. element_part (text_of v i)) f ∙ text-part (slice_get ps i))
+    ∙ parts-all text_part ps)
+    ∙ sym (texts-words (kind_text TextsKind) ps)
+    ∙ ap (λ v. answer_text (Shown v)) (sym f)
 
 -- ---- the object of a key, by its handle
 
@@ -163,11 +180,14 @@ module _ (s : State) (key : Key) (said : Instance) (h : SaysOf s key said) where
       ap (λ (r : Option Object). string_line (bytes_of_object r)) f.1 ∙ ap (λ w. string_line (text_bytes w)) v.is
       ∙ ap (λ w. answer_text (Shown w)) (sym v.is) ∙ ap (λ (r : Option Object). answer_text (shown_of r)) (sym f.1)
 
-  -- it has no other kind
-  pub no-other : ((k : ScalarKind) → said.kind ≡ Scalar k → ⊥) → ((k : ScalarKind) → said.kind ≡ Vector k → ⊥) → (said.kind ≡ Text → ⊥) → (d : Directory) → StandsFor s.cut.bytes d → ⊥
-  no-other n m t d st =
+  -- a vector of strings
+  pub texts-said : (n : ℕ) → said.kind ≡ TextsKind → Answers s (λ d. length_in (sizes_at d key)) n → (d : Directory) → StandsFor s.cut.bytes d → texts_line d key n ≡ answer_text (shown_at d key)
+  texts-said n e a d st =
       let f = h.says d st in
-      other-if f.0.value (found-supported d key f.0 st.supported f.1) (λ k e. n k (f.2.kind ∙ e)) (λ k e. m k (f.2.kind ∙ e)) (λ e. t (f.2.kind ∙ e))
+      let v : IsTexts f.0.value = texts-if f.0.value (sym f.2.kind ∙ e) in
+      ap (λ m. texts_line d key m) (a.answers d st ∙ ap (λ (r : Option Object). length_in (sizes_of_object r)) f.1 ∙ ap (λ w. length_in (sizes_of w)) v.is)
+      ∙ shown-texts d key f.0 v.texts v.table f.1 v.is
+      ∙ ap (λ (r : Option Object). answer_text (shown_of r)) (sym f.1)
 
 -- there is none
 pub shown-missing : (s : State) (key : Key) (r : Refusal) → IsMissing s key r → (d : Directory) → StandsFor s.cut.bytes d → answer_text (Refused r) ≡ answer_text (shown_at d key)

@@ -3,7 +3,8 @@ use Rattle.std.proofs.Common.{◌≡◌, ℕ, List, refl, ap, subst, ◌∙◌}
 use Rattle.seg_types.specs.Commands.{Reading}
 use Rattle.segment_lang.specs.declared.errors.LineError.{LineError}
 use Rattle.segment_lang.specs.declared.errors.LineError.TheVariants.{UnknownCommand, LineTooLong, BadSyntax}
-use Rattle.segment_lang.specs.Language.{supported}
+use Rattle.raw_region.specs.Format.{current}
+use Rattle.segment_lang.specs.Language.{whole}
 use Rattle.segment_lang.specs.Reading.{reading}
 use Rattle.segment_lang.specs.Seen.{wrong_reading}
 use Rattle.segment_manager.specs.State.{State}
@@ -20,8 +21,8 @@ stays s at UnknownCommand h = record { mode = h.mode; denotes = h.denotes; zeros
 stays s at LineTooLong h = record { mode = h.mode; denotes = h.denotes; zeros = h.zeros }
 stays s at BadSyntax h = record { mode = h.mode; denotes = h.denotes; zeros = h.zeros }
 
-pub wrong-owed : (at : Place) (e : LineError) (line : List ℕ) → wrong_reading e ≡ reading supported line → error_line e ≡ (answer_line at line).0
+pub wrong-owed : (at : Place) (e : LineError) (line : List ℕ) → wrong_reading e ≡ reading (whole current) line → error_line e ≡ (answer_line at line).0
 wrong-owed at e line is = printed at e ∙ ap (λ (r : Reading). (respond at.mode at.directory r).0) is
 
-pub wrong-stays : (s : State) (e : LineError) (line : List ℕ) → wrong_reading e ≡ reading supported line → (at : Place) → IsAt s at → IsAt s (answer_line at line).1
+pub wrong-stays : (s : State) (e : LineError) (line : List ℕ) → wrong_reading e ≡ reading (whole current) line → (at : Place) → IsAt s at → IsAt s (answer_line at line).1
 wrong-stays s e line is at h = subst (λ (r : Reading). IsAt s (place_after at r)) is (stays s at e h)

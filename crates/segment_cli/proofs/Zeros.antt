@@ -7,8 +7,13 @@ use Rattle.raw_region.specs.Format.{current}
 use Rattle.best_fit.specs.Extents.{Gap, gaps, gap_between}
 use Rattle.best_fit.specs.FreeTree.{gap_front}
 use Rattle.best_fit.proofs.Laws.{lay_out_one}
-use Rattle.seg_types.specs.Commands.{Command, Reading, Asked, ZeroFree, is_changing}
-use Rattle.segment_lang.specs.Language.{supported}
+use Rattle.seg_types.specs.Names.{Key}
+use Rattle.seg_types.specs.Commands.{Command, Reading, Asked, Pop, ZeroFree, is_changing}
+use Rattle.segment_lang.specs.Language.{whole}
+use Rattle.seg_types.specs.declared.keys.Key.{Key as CodeKey}
+use Rattle.segment_lang.specs.declared.commands.Command.{Command as CodeCommand}
+use Rattle.segment_lang.specs.declared.commands.Command.TheVariants.{Pop as CodePop}
+use Rattle.segment_lang.specs.Seen.{command_of}
 use Rattle.segment_lang.specs.Reading.{reading}
 use Rattle.segment_manager.specs.declared.modes.Mode.{Mode}
 use Rattle.segment_manager.specs.declared.modes.Mode.TheVariants.{Write, ReadOnly, CopyOnWrite}
@@ -19,7 +24,10 @@ use Rattle.segment_manager.specs.Step.{step}
 use Rattle.segment_manager.specs.Calls.{HasZeroGaps, IsCreated}
 use Rattle.segment_cli.specs.ZeroGaps.{HasZeroGapsIn, is_zero_free}
 use Rattle.segment_cli.specs.declared.replies.Answer.{Answer as Reply}
-use Rattle.segment_cli.specs.Replies.{Replies}
+use Rattle.segment_cli.specs.Answer.{answer_text}
+use Rattle.segment_cli.specs.Changes.{Executes}
+use Rattle.segment_cli.specs.Replies.{Replies, is_pop}
+use Rattle.segment_cli.specs.Run.{respond}
 use Rattle.segment_cli.specs.Segments.{Place, IsAt, place_after, answer_line}
 
 -- ---- bytes
@@ -80,19 +88,34 @@ zeros_held false true zero_free known old new same stays zeros was e = zeros e r
 zeros_held false false zero_free known old new same stays zeros was e = subst HasZeroGaps (sym (stays refl)) (was e)
 
 -- a line that is a command leads to the place behind it
-pub executed : (old new : State) (c : Command) (reply : Reply) (line : List ℕ) → Asked c ≡ reading supported line → Replies old new c reply → (at : Place) → IsAt old at → IsAt new (answer_line at line).1
-executed old new c reply line e done at h =
-    let d = at.directory in
-    let m = h.mode in
-    let place : IsAt new (place_after at (Asked c)) = record {
-      mode = done.stays.mode ∙ m;
-      denotes = subst (λ (n : Mode). StandsFor new.cut.bytes (step n d c).1) m (done.denotes d h.denotes);
-      zeros = zeros_held (is_untouched (step at.mode d c).0) (is_changing c) (is_zero_free c) at.zeros old new
-          (λ r. done.refused d h.denotes (ap (λ (n : Mode). is_untouched (step n d c).0) m ∙ r)) done.reads
-          (λ z r. let is = zero_free-is c z in
-          done.zeros d h.denotes is
-          (ap (λ (x : Command). (step old.mode d x).0) is
-          ∙ zero_free-done old.mode d (ap (λ (x : Command). is_untouched (step old.mode d x).0) (sym is) ∙ ap (λ (n : Mode). is_untouched (step n d c).0) m ∙ r)))
-          h.zeros;
-    } in
-    subst (λ (r : Reading). IsAt new (place_after at r)) e place
+module _ (old new : State) (c : Command) (line : List ℕ) (e : Asked c ≡ reading (whole current) line) (done : Executes old new c) (reads : is_changing c ≡ false → new ≡ old) where
+  led : ((d : Directory) → StandsFor old.cut.bytes d → c ≡ ZeroFree → (step old.mode d c).0 ≡ Done → HasZeroGaps new) → (at : Place) → IsAt old at → IsAt new (answer_line at line).1
+  led zeros at h =
+      let d = at.directory in
+      let m = h.mode in
+      let place : IsAt new (place_after at (Asked c)) = record {
+        mode = done.stays.mode ∙ m;
+        denotes = subst (λ (n : Mode). StandsFor new.cut.bytes (step n d c).1) m (done.denotes d h.denotes);
+        zeros = zeros_held (is_untouched (step at.mode d c).0) (is_changing c) (is_zero_free c) at.zeros old new
+            (λ r. done.refused d h.denotes (ap (λ (n : Mode). is_untouched (step n d c).0) m ∙ r)) reads
+            (λ z r. let is = zero_free-is c z in
+            zeros d h.denotes is
+            (ap (λ (x : Command). (step old.mode d x).0) is
+            ∙ zero_free-done old.mode d (ap (λ (x : Command). is_untouched (step old.mode d x).0) (sym is) ∙ ap (λ (n : Mode). is_untouched (step n d c).0) m ∙ r)))
+            h.zeros;
+      } in
+      subst (λ (r : Reading). IsAt new (place_after at r)) e place
+
+pub executed : (old new : State) (c : Command) (reply : Reply) (line : List ℕ) → Asked c ≡ reading (whole current) line → Replies old new c reply → (at : Place) → IsAt old at → IsAt new (answer_line at line).1
+executed old new c reply line e done = led old new c line e (record { stays = done.stays; denotes = done.denotes; refused = done.refused }) done.reads done.zeros
+
+-- one that takes out an element too
+pub popped : (old new : State) (key : Key) (line : List ℕ) → Asked (Pop key) ≡ reading (whole current) line → Executes old new (Pop key) → (at : Place) → IsAt old at → IsAt new (answer_line at line).1
+popped old new key line e done = led old new (Pop key) line e done (λ n. absurd (cc)) (λ d st is. absurd (let other : is_zero_free (Pop key) ≡ true = ap is_zero_free is in cc))
+
+pub popped-owed : (old : State) (key : Key) (line : List ℕ) → Asked (Pop key) ≡ reading (whole current) line → (at : Place) → IsAt old at → answer_text (step old.mode at.directory (Pop key)).0 ≡ (answer_line at line).0
+popped-owed old key line e at h = ap (λ (n : Mode). answer_text (step n at.directory (Pop key)).0) h.mode ∙ ap (λ (r : Reading). (respond at.mode at.directory r).0) e
+
+pub not_pop : (c : CodeCommand) → ((key : CodeKey) → c ≡ CodePop key → ⊥) → is_pop (command_of c) ≡ false
+not_pop (CodePop key) n = absurd (n key refl)
+not_pop c n = refl

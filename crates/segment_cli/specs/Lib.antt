@@ -14,3 +14,8 @@ pub mod Parts
 pub mod Shown
 pub mod Settings
 pub mod Changes
+pub mod TextRows
+pub mod ShownPairs
+pub mod Invocations
+pub mod Reports
+pub mod Migration

@@ -4,7 +4,8 @@ use Rattle.std.proofs.Common.{◌≡◌, ◌==◌, ℕ, ◌-◌, ◌<◌, Bool, 
 use Rattle.std.proofs.lemmas.List.{length-take-le}
 use Rattle.std.proofs.lemmas.Bool.{lt-ltb}
 use Rattle.seg_types.specs.Commands.{Reading, LineTooLong}
-use Rattle.segment_lang.specs.Language.{Language, supported}
+use Rattle.raw_region.specs.Format.{current}
+use Rattle.segment_lang.specs.Language.{Language, whole}
 use Rattle.segment_lang.specs.Reading.{reading, without_return}
 use Rattle.segment_cli.specs.Run.{respond}
 use Rattle.segment_cli.specs.Segments.{Place, place_after, answer_line}
@@ -25,4 +26,4 @@ reading-long language line h =
     too_long language line h ∙ sym (too_long language (take 4098 line) (omega arith))
 
 pub answer_line-long : (at : Place) (line : List ℕ) → 4097 < length line → answer_line at line ≡ answer_line at (take 4098 line)
-answer_line-long at line h = ap (λ (r : Reading). ((respond at.mode at.directory r).0, place_after at r)) (reading-long supported line h)
+answer_line-long at line h = ap (λ (r : Reading). ((respond at.mode at.directory r).0, place_after at r)) (reading-long (whole current) line h)

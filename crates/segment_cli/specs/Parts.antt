@@ -1,8 +1,8 @@
 -- A text of numbered parts, one behind another.
 use Rattle.std.specs.Prelude.{ℕ, zero, suc, List, [], ◌∷◌, ◌++◌, Option, Some, None, slice_get}
-use Rattle.segment_lang.specs.Texts.{kind_text, number_text, value_text}
+use Rattle.segment_lang.specs.Texts.{kind_text, number_text, quoted_text, value_text}
 use Rattle.segment_manager.specs.declared.telling.Instance.{Instance}
-use Rattle.segment_manager.specs.Answers.{Answer, Element}
+use Rattle.segment_manager.specs.Answers.{Answer, Element, TextElement}
 use Rattle.segment_manager.specs.Directory.{Object}
 use Rattle.segment_cli.specs.Answer.{handle_text, line}
 
@@ -14,6 +14,7 @@ parts_until part (suc n) = parts_until part n ++ part n
 -- an element behind others, and nothing where there is none
 abbrev pub element_part : Answer → List ℕ
 element_part (Element k z) = 0x20 ∷ value_text k z
+element_part (TextElement bs) = 0x20 ∷ quoted_text bs
 element_part answer = []
 
 -- a text of what there is, and nothing where there is none

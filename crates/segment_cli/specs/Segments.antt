@@ -1,7 +1,8 @@
 -- A segment as what answers the lines of a script.
 use Rattle.std.specs.Prelude.{◌≡◌, ℕ, Bool, true, List}
 use Rattle.seg_types.specs.Commands.{Reading}
-use Rattle.segment_lang.specs.Language.{supported}
+use Rattle.raw_region.specs.Format.{current}
+use Rattle.segment_lang.specs.Language.{whole}
 use Rattle.segment_lang.specs.Reading.{reading}
 use Rattle.segment_manager.specs.declared.modes.Mode.{Mode}
 use Rattle.segment_manager.specs.Directory.{Directory}
@@ -33,4 +34,4 @@ place_after at asked = record {
 
 -- what a line prints from a place, and where it leads
 abbrev pub answer_line : Place → List ℕ → List ℕ × Place
-answer_line at line = let asked = reading supported line in ((respond at.mode at.directory asked).0, place_after at asked)
+answer_line at line = let asked = reading (whole current) line in ((respond at.mode at.directory asked).0, place_after at asked)

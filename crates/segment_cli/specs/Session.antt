@@ -9,7 +9,7 @@ use Rattle.segment_manager.specs.Directory.{Directory, empty}
 use Rattle.segment_manager.specs.State.{StandsFor}
 use Rattle.image_check.specs.Classes.{class_of}
 use Rattle.image_check.specs.Opening.{IsOutOfMemory, IsRefusedAs, IsTooSmallFor, IsUndecided}
-use Rattle.segment_lang.specs.Language.{supported}
+use Rattle.segment_lang.specs.Language.{whole as whole_language}
 use Rattle.segment_lang.specs.Reading.{reading}
 use Rattle.segment_cli.specs.declared.faults.Start.{Start}
 use Rattle.segment_cli.specs.declared.faults.Start.TheVariants.{Fresh, Image}
@@ -77,7 +77,7 @@ Saves CopyOnWrite saved d = saved ≡ []
 -- zero, or they were zero before it, and nothing may have undone it since.
 abbrev pub KeepsZeros : Start → Mode → Given → Directory → List ℕ → List ℕ → Type 0
 KeepsZeros start mode began from script image =
-    (known : Bool) → (known ≡ true → BeginsWithZeros start began) → zeros_after_run supported mode from script known ≡ true → HasZeroGapsIn image
+    (known : Bool) → (known ≡ true → BeginsWithZeros start began) → zeros_after_run (whole_language current) mode from script known ≡ true → HasZeroGapsIn image
 
 -- nothing went out
 pub record IsSilent (t : Traffic) : Type 0 where
@@ -103,8 +103,8 @@ pub record IsDone (start : Start) (mode : Mode) (t : Traffic) : Type 0 where
   pub begins : Begins start t.image from
   pub whole : t.script.ended ≡ true
   pub within : length t.script.bytes ≤ script_limit
-  pub prints : t.out.bytes ≡ (run supported mode from t.script.bytes).0
-  pub saves : Saves mode t.saved.bytes (run supported mode from t.script.bytes).1
+  pub prints : t.out.bytes ≡ (run (whole_language current) mode from t.script.bytes).0
+  pub saves : Saves mode t.saved.bytes (run (whole_language current) mode from t.script.bytes).1
   pub zeros : mode ≡ Write → KeepsZeros start mode t.image from t.script.bytes t.saved.bytes
   pub failed : failures t ≡ none_failed
 
@@ -117,7 +117,7 @@ whole_lines (c ∷ cs) = if (c == 0x0A) || nat_lt 0 (length (whole_lines cs)) th
 pub record IsCut (start : Start) (mode : Mode) (t : Traffic) : Type 0 where
   pub from : Directory
   pub begins : Begins start t.image from
-  pub prints : t.out.bytes ≡ (run supported mode from (whole_lines (take script_limit t.script.bytes))).0
+  pub prints : t.out.bytes ≡ (run (whole_language current) mode from (whole_lines (take script_limit t.script.bytes))).0
   pub saves : t.saved.bytes ≡ []
 
 -- the lines that may be executed: those that ended within the limit and, where the script ended within it, the last one
@@ -135,8 +135,8 @@ pub record IsCutInAnswer (start : Start) (mode : Mode) (t : Traffic) : Type 0 wh
   pub rest : List (List ℕ)
   pub script : executable t.script ≡ answered ++ next ∷ rest
   pub front : List ℕ
-  pub prints : t.out.bytes ≡ (run_lines supported mode from answered).0 ++ front
-  pub part : IsProperPrefix front (respond mode (run_lines supported mode from answered).1 (reading supported next)).0
+  pub prints : t.out.bytes ≡ (run_lines (whole_language current) mode from answered).0 ++ front
+  pub part : IsProperPrefix front (respond mode (run_lines (whole_language current) mode from answered).1 (reading (whole_language current) next)).0
   pub saves : t.saved.bytes ≡ []
 
 -- all was answered, and of an image of the last directory a proper prefix was written
@@ -146,9 +146,9 @@ pub record IsCutInImage (start : Start) (mode : Mode) (t : Traffic) : Type 0 whe
   pub begins : Begins start t.image from
   pub whole : t.script.ended ≡ true
   pub within : length t.script.bytes ≤ script_limit
-  pub prints : t.out.bytes ≡ (run supported mode from t.script.bytes).0
+  pub prints : t.out.bytes ≡ (run (whole_language current) mode from t.script.bytes).0
   pub image : List ℕ
-  pub denotes : StandsFor image (run supported mode from t.script.bytes).1
+  pub denotes : StandsFor image (run (whole_language current) mode from t.script.bytes).1
   pub zeros : KeepsZeros start mode t.image from t.script.bytes image
   pub part : IsProperPrefix t.saved.bytes image
 

@@ -1,7 +1,7 @@
 -- What is written of an object that is shown, part by part.
 use Rattle.std.specs.Prelude.{ℕ, List, [], ◌∷◌, ◌++◌, ◌==◌, if◌then◌else◌, Option, Some, None, Result, Ok, Err}
 use Rattle.seg_types.specs.declared.kinds.Kind.{Kind}
-use Rattle.seg_types.specs.declared.kinds.Kind.TheVariants.{Scalar, Text}
+use Rattle.seg_types.specs.declared.kinds.Kind.TheVariants.{Scalar, Text, Texts}
 use Rattle.seg_types.specs.declared.refusals.Refusal.{Refusal}
 use Rattle.seg_types.specs.Names.{Key}
 use Rattle.seg_types.specs.Commands.{Get}
@@ -10,6 +10,7 @@ use Rattle.segment_manager.specs.declared.modes.Mode.{Mode}
 use Rattle.segment_manager.specs.Directory.{Directory}
 use Rattle.segment_manager.specs.Step.{step}
 use Rattle.segment_cli.specs.Answer.{line}
+use Rattle.segment_cli.specs.Replies.{text_at}
 use Rattle.segment_cli.specs.Parts.{element_part, parts_until}
 
 -- a kind, and how many there are where there is not one alone
@@ -39,7 +40,15 @@ abbrev pub string_line : Result (List ℕ) Refusal → List ℕ
 string_line (Ok bs) = line (kind_text Text ∷ quoted_text bs ∷ [])
 string_line (Err r) = []
 
--- length and capacity, where there are such
-abbrev pub measured_words : Option (ℕ × ℕ) → List (List ℕ)
-measured_words None = []
-measured_words (Some (len, capacity)) = number_text len ∷ number_text capacity ∷ []
+-- a number, where there is one
+abbrev pub number_words : Option ℕ → List (List ℕ)
+number_words None = []
+number_words (Some n) = number_text n ∷ []
+
+-- the first n texts of the vector of strings of a key, each behind a blank
+abbrev pub texts_text : Directory → Key → ℕ → List ℕ
+texts_text d key n = parts_until (λ i. element_part (text_at d key i)) n
+
+-- the kind, them, and the end of the line
+abbrev pub texts_line : Directory → Key → ℕ → List ℕ
+texts_line d key n = kind_text Texts ++ (texts_text d key n ++ 0x0A ∷ [])

@@ -1,26 +1,36 @@
 //! Vectors and strings that a line changes: the kind of the object says which call it is.
-ghost use Rattle.std.specs.Prelude.{◌≡◌, ◌≤◌, List, MatchResult, OnErr, length};
-ghost use Rattle.seg_types.specs.declared.kinds.Kind.TheVariants.{Text as TextKind, Vector as VectorOf};
-ghost use Rattle.seg_types.specs.Commands.{Append, Assign, Clear, Erase, Insert, Literal as AskedLiteral, Pop, Push, Reserve, Shrink, literal_of as literal_for};
+ghost use Rattle.std.specs.Prelude.{◌≡◌, ◌≤◌, ◌∷◌, [], List, MatchResult, OnErr, length};
+ghost use Rattle.seg_types.specs.declared.kinds.Kind.TheVariants.{Text as TextKind, Texts as TextsKind, Vector as VectorOf};
+ghost use Rattle.seg_types.specs.Commands.{Append, Assign, Clear, Erase, Insert, Literal as AskedLiteral, Push, Reserve, Shrink, literal_of as literal_for};
 ghost use Rattle.seg_types.specs.Keys.{key_seen};
 ghost use Rattle.seg_types.specs.Values.{kind_of_scalar, value_of_scalar};
 ghost use Rattle.segment_lang.specs.Seen.{literal_of};
-ghost use Rattle.segment_manager.specs.State.{IsStep, IsStepOfKind, done_answer, scalar_answer};
-ghost use Rattle.segment_cli.specs.Changes.{IsChangeable, IsElement, IsNoElement, IsUnchangeable, ReadsAs};
+ghost use Rattle.segment_manager.specs.State.{IsStep, IsStepOfKind, KeepsRefused, done_answer};
+ghost use Rattle.segment_cli.specs.Changes.{IsChangeable, IsNew, IsNoElement, IsUnchangeable, ReadsAs};
 ghost use Rattle.segment_cli.specs.Replies.{bytes_taken};
 
 use crate::rows::{Row, literal_row, only_text};
 use crate::setting::value_of;
+use crate::text_rows::literal_texts;
 use seg_types::{Key, Kind, Refusal, Scalar, ScalarKind, ScalarValue};
 use segment_lang::{Literal, Literals, Quoted};
 use segment_manager::{Mode, Segment};
+
+/// A new element of a vector.
+#[derive(Drop)]
+pub enum NewElement<'a> {
+    /// A scalar, for a vector of scalars of its kind.
+    Scalar(ScalarValue),
+    /// A text, for a vector of strings.
+    Text(Quoted<'a>),
+}
 
 /// The kind of the object of a key, which is to be changed.
 ///
 /// # Errors
 ///
 /// `ReadOnly` where the segment is open for reading, and else `NotFound` where no object has the key.
-fn kind_to_change(segment: &Segment, key: &Key) -> Result<Kind, Refusal>
+pub fn kind_to_change(segment: &Segment, key: &Key) -> Result<Kind, Refusal>
     ensures { MatchResult result (IsChangeable segment.now (key_seen key.now)) (IsUnchangeable segment.now (key_seen key.now)) }
 {
     if segment.mode() == Mode::ReadOnly {
@@ -29,19 +39,30 @@ fn kind_to_change(segment: &Segment, key: &Key) -> Result<Kind, Refusal>
     segment.kind_of(key)
 }
 
-/// The value that a literal is for the vector of a key.
+/// What a literal is as an element of the vector of a key.
 ///
 /// # Errors
 ///
 /// `ReadOnly` where the segment is open for reading, and else `NotFound` where no object has the key, `WrongKind` where it is no
 /// vector or the literal has not the form of its elements, `OutOfRange` where the literal is not in their range.
-fn new_element(segment: &Segment, key: &Key, literal: Literal<'_>) -> Result<ScalarValue, Refusal>
-    ensures { MatchResult result (IsElement segment.now (key_seen key.now) (literal_of literal.entry)) (IsNoElement segment.now (key_seen key.now) (literal_of literal.entry)) }
+fn new_element<'a>(
+    segment: &Segment,
+    key: &Key,
+    literal: Literal<'a>,
+) -> Result<NewElement<'a>, Refusal>
+    ensures { MatchResult result (IsNew segment.now (key_seen key.now) (literal_of literal.entry)) (IsNoElement segment.now (key_seen key.now) (literal_of literal.entry)) }
 {
     match kind_to_change(segment, key) {
         Err(why) => Err(why),
         Ok(kind) => match kind {
-            Kind::Vector(element) => value_of(element, literal),
+            Kind::Vector(element) => match value_of(element, literal) {
+                Err(why) => Err(why),
+                Ok(value) => Ok(NewElement::Scalar(value)),
+            },
+            Kind::Texts => match literal {
+                Literal::Quoted(text) => Ok(NewElement::Text(text)),
+                _ => Err(Refusal::WrongKind),
+            },
             _ => Err(Refusal::WrongKind),
         },
     }
@@ -52,15 +73,17 @@ fn new_element(segment: &Segment, key: &Key, literal: Literal<'_>) -> Result<Sca
 /// # Errors
 ///
 /// `ReadOnly` where the segment is open for reading, and else `NotFound` where no object has the key, `WrongKind` where it is no
-/// vector or the literal has not the form of its elements, `OutOfRange` where the literal is not in their range, `NoSpace` where
-/// the vector is full and its storage cannot be regrown. Nothing changes.
+/// vector or the literal has not the form of its elements, `OutOfRange` where the literal is not in their range, and nothing
+/// changes; `NoSpace` where the vector is full and its storage cannot be regrown, or a text has no fit: the objects are as before.
 pub fn push(segment: &mut Segment, key: &Key, literal: Literal<'_>) -> Result<(), Refusal>
+    requires { bytes_taken (literal_of literal ∷ []) ≤ 4097 }
     ensures step { IsStep segment.old segment.new (Push (key_seen key.now) (literal_of literal.entry)) (done_answer result) }
-    ensures refused { OnErr result (segment.new ≡ segment.old) }
+    ensures refused { KeepsRefused segment.old segment.new result }
 {
     match new_element(segment, key, literal) {
         Err(why) => Err(why),
-        Ok(value) => push_value(segment, key, value),
+        Ok(NewElement::Scalar(value)) => push_value(segment, key, value),
+        Ok(NewElement::Text(text)) => segment.texts_push(key, text.to_text().as_slice()),
     }
 }
 
@@ -85,19 +108,22 @@ fn push_value(segment: &mut Segment, key: &Key, value: ScalarValue) -> Result<()
 ///
 /// `ReadOnly` where the segment is open for reading, and else `NotFound` where no object has the key, `WrongKind` where it is no
 /// vector or the literal has not the form of its elements, `OutOfRange` where the literal is not in their range or there are not
-/// so many others, `NoSpace` where the vector is full and its storage cannot be regrown. Nothing changes.
+/// so many others, and nothing changes; `NoSpace` where the vector is full and its storage cannot be regrown, or a text has no
+/// fit: the objects are as before.
 pub fn insert(
     segment: &mut Segment,
     key: &Key,
     index: u64,
     literal: Literal<'_>,
 ) -> Result<(), Refusal>
+    requires { bytes_taken (literal_of literal ∷ []) ≤ 4097 }
     ensures step { IsStep segment.old segment.new (Insert (key_seen key.now) index (literal_of literal.entry)) (done_answer result) }
-    ensures refused { OnErr result (segment.new ≡ segment.old) }
+    ensures refused { KeepsRefused segment.old segment.new result }
 {
     match new_element(segment, key, literal) {
         Err(why) => Err(why),
-        Ok(value) => insert_value(segment, key, index, value),
+        Ok(NewElement::Scalar(value)) => insert_value(segment, key, index, value),
+        Ok(NewElement::Text(text)) => segment.texts_insert(key, index, text.to_text().as_slice()),
     }
 }
 
@@ -121,54 +147,6 @@ fn insert_value(
     }
 }
 
-/// Takes the last element out of the vector of a key.
-///
-/// # Errors
-///
-/// `ReadOnly` where the segment is open for reading, and else `NotFound` where no object has the key, `WrongKind` where it is no
-/// vector, `OutOfRange` where it is empty. Nothing changes.
-pub fn pop(segment: &mut Segment, key: &Key) -> Result<ScalarValue, Refusal>
-    ensures step { IsStep segment.old segment.new (Pop (key_seen key.now)) (scalar_answer result) }
-    ensures refused { OnErr result (segment.new ≡ segment.old) }
-{
-    match kind_to_change(segment, key) {
-        Err(why) => Err(why),
-        Ok(kind) => match kind {
-            Kind::Vector(element) => pop_element(segment, key, element),
-            _ => Err(Refusal::WrongKind),
-        },
-    }
-}
-
-/// Takes the last element out of the vector of a key, a vector of scalars of a kind.
-fn pop_element(segment: &mut Segment, key: &Key, kind: ScalarKind) -> Result<ScalarValue, Refusal>
-    ensures step { IsStepOfKind segment.old segment.new (key_seen key.now) (VectorOf kind) (Pop (key_seen key.now)) (scalar_answer result) }
-    ensures refused { OnErr result (segment.new ≡ segment.old) }
-{
-    match kind {
-        ScalarKind::Bool => match segment.vec_pop::<bool>(key) {
-            Ok(truth) => Ok(ScalarValue::Bool(truth)),
-            Err(why) => Err(why),
-        },
-        ScalarKind::U8 => match segment.vec_pop::<u8>(key) {
-            Ok(number) => Ok(ScalarValue::U8(number)),
-            Err(why) => Err(why),
-        },
-        ScalarKind::I32 => match segment.vec_pop::<i32>(key) {
-            Ok(number) => Ok(ScalarValue::I32(number)),
-            Err(why) => Err(why),
-        },
-        ScalarKind::I64 => match segment.vec_pop::<i64>(key) {
-            Ok(number) => Ok(ScalarValue::I64(number)),
-            Err(why) => Err(why),
-        },
-        ScalarKind::U64 => match segment.vec_pop::<u64>(key) {
-            Ok(number) => Ok(ScalarValue::U64(number)),
-            Err(why) => Err(why),
-        },
-    }
-}
-
 /// Leaves out the element at `index` in the vector of a key.
 ///
 /// # Errors
@@ -183,6 +161,7 @@ pub fn erase(segment: &mut Segment, key: &Key, index: u64) -> Result<(), Refusal
         Err(why) => Err(why),
         Ok(kind) => match kind {
             Kind::Vector(element) => erase_element(segment, key, element, index),
+            Kind::Texts => segment.texts_erase(key, index),
             _ => Err(Refusal::WrongKind),
         },
     }
@@ -212,18 +191,19 @@ fn erase_element(
 /// # Errors
 ///
 /// `ReadOnly` where the segment is open for reading, and else `NotFound` where no object has the key, `WrongKind` where it is
-/// neither or a value has not the form of its elements, `OutOfRange` where a value is not in their range, `NoSpace` where its
-/// storage cannot be regrown. Nothing changes.
+/// neither or a value has not the form of its elements, `OutOfRange` where a value is not in their range, and nothing changes;
+/// `NoSpace` where its storage cannot be regrown or a text has no fit: the objects are as before.
 pub fn assign(segment: &mut Segment, key: &Key, values: Literals<'_>) -> Result<(), Refusal>
     requires { bytes_taken values ≤ 4097 }
     ensures step { IsStep segment.old segment.new (Assign (key_seen key.now) values.entry) (done_answer result) }
-    ensures refused { OnErr result (segment.new ≡ segment.old) }
+    ensures refused { KeepsRefused segment.old segment.new result }
 {
     match kind_to_change(segment, key) {
         Err(why) => Err(why),
         Ok(kind) => match kind {
             Kind::Vector(element) => assign_vector(segment, key, element, values),
             Kind::Text => assign_string(segment, key, values),
+            Kind::Texts => assign_texts(segment, key, values),
             _ => Err(Refusal::WrongKind),
         },
     }
@@ -276,6 +256,19 @@ fn assign_string(segment: &mut Segment, key: &Key, values: Literals<'_>) -> Resu
     match only_text(values) {
         Err(why) => Err(why),
         Ok(text) => segment.string_assign(key, text.as_slice()),
+    }
+}
+
+/// Makes texts those of the vector of strings of a key.
+fn assign_texts(segment: &mut Segment, key: &Key, values: Literals<'_>) -> Result<(), Refusal>
+    requires of_kind { IsChangeable segment.old (key_seen key.now) TextsKind }
+    requires few { bytes_taken values ≤ 4097 }
+    ensures step { IsStep segment.old segment.new (Assign (key_seen key.now) values.entry) (done_answer result) }
+    ensures refused { KeepsRefused segment.old segment.new result }
+{
+    match literal_texts(values) {
+        Err(why) => Err(why),
+        Ok(row) => segment.texts_assign(key, row.slices().as_slice()),
     }
 }
 

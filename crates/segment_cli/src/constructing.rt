@@ -1,7 +1,7 @@
 //! Objects made of what a line writes.
 ghost use Rattle.std.specs.Prelude.{◌≡◌};
 ghost use Rattle.seg_types.specs.declared.kinds.Kind.TheVariants.{Text as TextKind, Vector as VectorOf};
-ghost use Rattle.seg_types.specs.Commands.{Bytes, Construct, ConstructIt, Elements, FindOrConstruct};
+ghost use Rattle.seg_types.specs.Commands.{Bytes, Construct, ConstructIt, Elements, FindOrConstruct, Strings};
 ghost use Rattle.seg_types.specs.Keys.{index_key_seen, new_key_seen};
 ghost use Rattle.segment_lang.specs.Seen.{content_of};
 ghost use Rattle.segment_manager.specs.Found.{pair_answer};
@@ -9,8 +9,9 @@ ghost use Rattle.segment_manager.specs.State.{IsStep, KeepsRefused, handle_answe
 ghost use Rattle.segment_cli.specs.Replies.{IsContent, IsMeant};
 
 use crate::rows::value_row;
+use crate::text_rows::text_row;
 use seg_types::{Handle, IndexKey, NewKey, Refusal, ScalarKind};
-use segment_lang::{Content, Values};
+use segment_lang::{Content, Texts, Values};
 use segment_manager::Segment;
 
 /// Makes an object, and answers its handle.
@@ -32,7 +33,11 @@ pub fn construct(
         Content::Scalars { value, count } => segment.construct_value(key, count, value),
         Content::Elements(values) => construct_vector(segment, key, values),
         Content::Text(text) => segment.construct_string(key, text.to_text().as_slice()),
-        Content::Texts(_) => unreachable!(),
+        Content::Texts(texts) => construct_texts(segment, key, texts),
+        Content::NoPairs {
+            key: keys,
+            value: values,
+        } => segment.construct_map_of(key, keys, values),
     }
 }
 
@@ -53,6 +58,15 @@ fn construct_vector(
         ScalarKind::I64 => segment.construct_vec(key, value_row::<i64>(values).as_slice()),
         ScalarKind::U64 => segment.construct_vec(key, value_row::<u64>(values).as_slice()),
     }
+}
+
+/// Makes a vector of strings of the texts, and answers its handle.
+fn construct_texts(segment: &mut Segment, key: &NewKey, texts: Texts<'_>) -> Result<Handle, Refusal>
+    requires { IsContent (new_key_seen key.now) (Strings texts) }
+    ensures step { IsStep segment.old segment.new (Construct (new_key_seen key.now) (Strings texts.entry)) (handle_answer result) }
+    ensures refused { KeepsRefused segment.old segment.new result }
+{
+    segment.construct_texts(key, text_row(texts).slices().as_slice())
 }
 
 /// Makes an array of the values, and answers its handle.
@@ -93,7 +107,11 @@ pub fn find_or_construct(
         Content::Scalars { value, count } => segment.find_or_construct_value(key, count, value),
         Content::Elements(values) => find_or_construct_vector(segment, key, values),
         Content::Text(text) => segment.find_or_construct_string(key, text.to_text().as_slice()),
-        Content::Texts(_) => unreachable!(),
+        Content::Texts(texts) => find_or_construct_texts(segment, key, texts),
+        Content::NoPairs {
+            key: keys,
+            value: values,
+        } => segment.find_or_construct_map_of(key, keys, values),
     }
 }
 
@@ -117,4 +135,17 @@ fn find_or_construct_vector(
         ScalarKind::I64 => segment.find_or_construct_vec(key, value_row::<i64>(values).as_slice()),
         ScalarKind::U64 => segment.find_or_construct_vec(key, value_row::<u64>(values).as_slice()),
     }
+}
+
+/// Finds a vector of strings, or makes it of the texts where there is none.
+fn find_or_construct_texts(
+    segment: &mut Segment,
+    key: &IndexKey,
+    texts: Texts<'_>,
+) -> Result<(Handle, u32), Refusal>
+    requires { IsContent (index_key_seen key.now) (Strings texts) }
+    ensures step { IsStep segment.old segment.new (FindOrConstruct (index_key_seen key.now) (Strings texts.entry)) (pair_answer result) }
+    ensures refused { KeepsRefused segment.old segment.new result }
+{
+    segment.find_or_construct_texts(key, text_row(texts).slices().as_slice())
 }

@@ -1,17 +1,20 @@
 //! What a command is answered: each is executed by one call of the segment, for some by the kind of the object.
-ghost use Rattle.std.specs.Prelude.{◌≡◌, OnErr};
-ghost use Rattle.seg_types.specs.Commands.{Destroy, DestroyPtr, ReserveNamed, ReserveUnique, ShrinkIndexes};
-ghost use Rattle.seg_types.specs.Keys.{index_key_seen};
+ghost use Rattle.std.specs.Prelude.{◌≡◌, OnErr, false};
+ghost use Rattle.seg_types.specs.Commands.{Destroy, DestroyPtr, Get, ReserveNamed, ReserveUnique, ShrinkIndexes};
+ghost use Rattle.seg_types.specs.Keys.{index_key_seen, key_seen};
 ghost use Rattle.segment_lang.specs.Seen.{command_of};
 ghost use Rattle.segment_manager.specs.Directory.{Directory};
 ghost use Rattle.segment_manager.specs.Found.{found_answer, pair_answer};
-ghost use Rattle.segment_manager.specs.State.{IsStep, KeepsRefused, done_answer, gone_answer, handle_answer, scalar_answer, truth_answer};
-ghost use Rattle.segment_cli.specs.Replies.{IsMeant, Replies, answer_seen};
+ghost use Rattle.segment_manager.specs.Maps.{any_value_answer};
+ghost use Rattle.segment_manager.specs.State.{IsStep, KeepsRefused, StandsFor, done_answer, gone_answer, handle_answer, scalar_answer, truth_answer};
+ghost use Rattle.segment_manager.specs.Step.{step};
+ghost use Rattle.segment_cli.specs.Replies.{IsMeant, Replies, answer_seen, is_pop};
 
-use crate::changing::{append, assign, clear, erase, insert, pop, push, reserve, shrink};
+use crate::changing::{append, assign, clear, erase, insert, push, reserve, shrink};
 use crate::constructing::{construct, construct_it, find_or_construct};
+use crate::pairs::{lookup, put, remove};
 use crate::setting::set;
-use seg_types::{Handle, IndexKey, Key, Refusal, ScalarValue};
+use seg_types::{Handle, IndexKey, Key, Kind, Refusal, ScalarValue};
 use segment_lang::Command;
 use segment_manager::Segment;
 
@@ -32,6 +35,8 @@ pub enum Answer {
     Found(Handle, u32),
     /// An element of an object.
     Element(ScalarValue),
+    /// The text at an index in the vector of strings of a key, or why there is none.
+    TextElement(Key, u64),
     /// The kind and the value of the object of a key, or that there is none.
     Shown(Key),
     /// What the object of a key says of itself, or that there is none.
@@ -46,9 +51,10 @@ pub enum Answer {
     Refused(Refusal),
 }
 
-/// Executes a command, and answers it.
+/// Executes a command that takes out no element, and answers it.
 pub fn reply(segment: &mut Segment, command: Command<'_>) -> Answer
-    requires { IsMeant (command_of command) }
+    requires meant { IsMeant (command_of command) }
+    requires stays { is_pop (command_of command) ≡ false }
     ensures { Replies segment.old segment.new (command_of command.entry) result }
 {
     match command {
@@ -64,10 +70,10 @@ pub fn reply(segment: &mut Segment, command: Command<'_>) -> Answer
         Command::DestroyPtr(handle) => gone(destroy_ptr(segment, handle)),
         Command::Show(key) => Answer::Shown(key),
         Command::Info(key) => Answer::Told(key),
-        Command::Get { key, index } => element(segment.get_any(&key, index)),
+        Command::Get { key, index } => get(segment, key, index),
         Command::Set { key, index, value } => done(set(segment, &key, index, value)),
         Command::Push { key, value } => done(push(segment, &key, value)),
-        Command::Pop(key) => element(pop(segment, &key)),
+        Command::Pop(_) => unreachable!(),
         Command::Insert { key, index, value } => done(insert(segment, &key, index, value)),
         Command::Erase { key, index } => done(erase(segment, &key, index)),
         Command::Reserve { key, count } => done(reserve(segment, &key, count)),
@@ -75,6 +81,9 @@ pub fn reply(segment: &mut Segment, command: Command<'_>) -> Answer
         Command::Clear(key) => done(clear(segment, &key)),
         Command::Assign { key, values } => done(assign(segment, &key, values)),
         Command::Append { key, text } => done(append(segment, &key, &text)),
+        Command::Put { key, at, value } => truth(put(segment, &key, at, value)),
+        Command::Lookup { key, at } => value_found(lookup(segment, &key, at)),
+        Command::Remove { key, at } => truth(remove(segment, &key, at)),
         Command::ListNames => Answer::Names,
         Command::ListKinds => Answer::Kinds,
         Command::Blocks => Answer::Blocks,
@@ -88,6 +97,19 @@ pub fn reply(segment: &mut Segment, command: Command<'_>) -> Answer
         Command::ZeroFree => done(segment.zero_free()),
         Command::Sanity => Answer::Truth(segment.sanity()),
         Command::AllDeallocated => Answer::Truth(segment.all_deallocated()),
+    }
+}
+
+/// The element at `index` in the object of a key, or why there is none.
+fn get(segment: &Segment, key: Key, index: u64) -> Answer
+    ensures { (d : Directory) → StandsFor segment.now.cut.bytes d → answer_seen d result ≡ (step segment.now.mode d (Get (key_seen key) index)).0 }
+{
+    match segment.kind_of(&key) {
+        Ok(kind) => match kind {
+            Kind::Texts => Answer::TextElement(key, index),
+            _ => element(segment.get_any(&key, index)),
+        },
+        Err(refusal) => Answer::Refused(refusal),
     }
 }
 
@@ -183,11 +205,24 @@ fn looked_up(found: Result<Option<(Handle, u32)>, Refusal>) -> Answer
 }
 
 /// The answer where an element was asked for.
-fn element(element: Result<ScalarValue, Refusal>) -> Answer
+pub fn element(element: Result<ScalarValue, Refusal>) -> Answer
     ensures { (d : Directory) → answer_seen d result ≡ scalar_answer element }
 {
     match element {
         Ok(value) => Answer::Element(value),
+        Err(refusal) => Answer::Refused(refusal),
+    }
+}
+
+/// The answer where a value was looked for.
+fn value_found(found: Result<Option<ScalarValue>, Refusal>) -> Answer
+    ensures { (d : Directory) → answer_seen d result ≡ any_value_answer found }
+{
+    match found {
+        Ok(value) => match value {
+            Some(value) => Answer::Element(value),
+            None => Answer::Absent,
+        },
         Err(refusal) => Answer::Refused(refusal),
     }
 }

@@ -4,10 +4,11 @@ ghost use Rattle.segment_cli.specs.Segments.{IsAt, Place, answer_line};
 ghost use Rattle.segment_cli.specs.LongLines.{answer_line-long};
 
 use crate::machine::Machine;
+use crate::popping::pop;
 use crate::printing::put_answer;
 use crate::replies::reply;
 use raw_region::{DeviceFault, Sink};
-use segment_lang::{Piece, Reading, parse_line, put_pieces};
+use segment_lang::{Command, Piece, Reading, parse_line, put_pieces};
 use segment_manager::Segment;
 
 impl Machine for Segment {
@@ -20,10 +21,13 @@ impl Machine for Segment {
     fn answer<W: Sink>(&mut self, line: &[u8], out: &mut W) -> Result<(), DeviceFault> {
         match parse_line(line) {
             Reading::Nothing => Ok(()),
-            Reading::Asked(command) => {
-                let answer = reply(self, command);
-                put_answer(self, answer, out)
-            }
+            Reading::Asked(command) => match command {
+                Command::Pop(key) => pop(self, &key, out),
+                _ => {
+                    let answer = reply(self, command);
+                    put_answer(self, answer, out)
+                }
+            },
             Reading::Wrong(error) => {
                 put_pieces(out, &[Piece::LineError(error), Piece::Bytes(b"\n")])
             }

@@ -1,40 +1,85 @@
 //! An element that becomes what a line writes.
-ghost use Rattle.std.specs.Prelude.{◌≡◌, OnErr};
+ghost use Rattle.std.specs.Prelude.{◌≡◌, ◌≤◌, ◌∷◌, [], Ok, OnErr, false};
+ghost use Rattle.seg_types.specs.declared.kinds.Kind.TheVariants.{Texts as TextsKind};
 ghost use Rattle.seg_types.specs.Commands.{Set, value_of_literal};
 ghost use Rattle.seg_types.specs.Keys.{key_seen};
 ghost use Rattle.segment_lang.specs.Seen.{literal_of};
-ghost use Rattle.segment_manager.specs.State.{IsStep, done_answer};
+ghost use Rattle.segment_manager.specs.Calls.{elements_at};
+ghost use Rattle.segment_manager.specs.State.{Answers, IsStep, done_answer};
+ghost use Rattle.segment_manager.specs.Step.{is_read_only};
+ghost use Rattle.segment_cli.specs.Changes.{IsChangeable};
+ghost use Rattle.segment_cli.specs.Replies.{bytes_taken};
 ghost use Rattle.segment_cli.specs.Settings.{IsValueOf};
 
-use seg_types::{Key, Refusal, ScalarKind, ScalarValue};
+use crate::changing::kind_to_change;
+use seg_types::{Key, Kind, Refusal, ScalarKind, ScalarValue};
 use segment_lang::Literal;
-use segment_manager::{Mode, Segment};
+use segment_manager::Segment;
 
-/// Makes the value that a literal is the element at `index` in the object of a key.
+/// Makes what a literal is the element at `index` in the object of a key.
 ///
 /// # Errors
 ///
 /// `ReadOnly` where the segment is open for reading, and else `NotFound` where no object has the key, `WrongKind` where it has
 /// no elements or the literal has not their form, `OutOfRange` where the literal is not in their range or there is no such
-/// element. Nothing changes.
+/// element, `NoSpace` where a text has no fit. Nothing changes.
 pub fn set(
     segment: &mut Segment,
     key: &Key,
     index: u64,
     literal: Literal<'_>,
 ) -> Result<(), Refusal>
+    requires { bytes_taken (literal_of literal ∷ []) ≤ 4097 }
     ensures step { IsStep segment.old segment.new (Set (key_seen key.now) index (literal_of literal.entry)) (done_answer result) }
     ensures refused { OnErr result (segment.new ≡ segment.old) }
 {
-    if segment.mode() == Mode::ReadOnly {
-        return Err(Refusal::ReadOnly);
-    }
-    match segment.element_kind(key) {
+    match kind_to_change(segment, key) {
         Err(why) => Err(why),
-        Ok(kind) => match value_of(kind, literal) {
-            Err(why) => Err(why),
-            Ok(value) => segment.set_any(key, index, value),
+        Ok(kind) => match kind {
+            Kind::Scalar(element) | Kind::Vector(element) => {
+                set_scalar(segment, key, element, index, literal)
+            }
+            Kind::Text => set_scalar(segment, key, ScalarKind::U8, index, literal),
+            Kind::Texts => set_text(segment, key, index, literal),
+            Kind::Map(_, _) => Err(Refusal::WrongKind),
         },
+    }
+}
+
+/// Makes the value that a literal is the element at `index` in the object of a key, whose elements are scalars of a kind.
+fn set_scalar(
+    segment: &mut Segment,
+    key: &Key,
+    kind: ScalarKind,
+    index: u64,
+    literal: Literal<'_>,
+) -> Result<(), Refusal>
+    requires writing { is_read_only segment.old.mode ≡ false }
+    requires elements { Answers segment.old (λ d. elements_at d (key_seen key.now)) (Ok kind) }
+    ensures step { IsStep segment.old segment.new (Set (key_seen key.now) index (literal_of literal.entry)) (done_answer result) }
+    ensures refused { OnErr result (segment.new ≡ segment.old) }
+{
+    match value_of(kind, literal) {
+        Err(why) => Err(why),
+        Ok(value) => segment.set_any(key, index, value),
+    }
+}
+
+/// Makes what a literal is the text at `index` in the vector of strings of a key.
+fn set_text(
+    segment: &mut Segment,
+    key: &Key,
+    index: u64,
+    literal: Literal<'_>,
+) -> Result<(), Refusal>
+    requires of_kind { IsChangeable segment.old (key_seen key.now) TextsKind }
+    requires few { bytes_taken (literal_of literal ∷ []) ≤ 4097 }
+    ensures step { IsStep segment.old segment.new (Set (key_seen key.now) index (literal_of literal.entry)) (done_answer result) }
+    ensures refused { OnErr result (segment.new ≡ segment.old) }
+{
+    match literal {
+        Literal::Quoted(text) => segment.texts_set(key, index, text.to_text().as_slice()),
+        _ => Err(Refusal::WrongKind),
     }
 }
 

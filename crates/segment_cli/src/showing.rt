@@ -10,10 +10,11 @@ ghost use Rattle.segment_manager.specs.State.{Answers, StandsFor};
 ghost use Rattle.segment_manager.specs.Step.{step};
 ghost use Rattle.segment_cli.specs.Answer.{answer_text};
 ghost use Rattle.segment_cli.specs.Parts.{element_part, parts_until};
-ghost use Rattle.segment_cli.specs.Replies.{shown_at};
-ghost use Rattle.segment_cli.specs.Shown.{counted_text, elements_text, front_text, length_in, string_line, value_line};
+ghost use Rattle.segment_cli.specs.Replies.{shown_at, text_at};
+ghost use Rattle.segment_cli.specs.Shown.{counted_text, elements_text, front_text, length_in, string_line, texts_line, texts_text, value_line};
 ghost use Rattle.segment_cli.specs.Writing.{WritesFor};
 
+use crate::showing_maps::put_map_line;
 use raw_region::{DeviceFault, Sink};
 use seg_types::{Handle, Key, Kind};
 use segment_lang::{Piece, put_pieces};
@@ -40,15 +41,18 @@ pub fn put_shown<W: Sink>(segment: &Segment, key: &Key, out: &mut W) -> Result<(
                 )
             }
             Kind::Text => put_string_line(segment, key, out),
-            // no objects of other kinds have come yet
-            _ => Ok(()),
+            Kind::Texts => put_texts_line(segment, key, length_of(segment, key), out),
+            Kind::Map(keys, values) => {
+                let count = length_of(segment, key);
+                put_map_line(segment, said.handle, keys, values, count, out)
+            }
         },
         Err(refusal) => put_pieces(out, &[Piece::Refusal(refusal), Piece::Bytes(b"\n")]),
     }
 }
 
-/// How many elements the vector of a key has, and 0 where it is none.
-fn length_of(segment: &Segment, key: &Key) -> u64
+/// How many elements the vector, string or map of a key has, and 0 where it is none of these.
+pub fn length_of(segment: &Segment, key: &Key) -> u64
     ensures { Answers segment.now (λ d. length_in (sizes_at d (key_seen key.now))) result }
 {
     match segment.measure(key) {
@@ -159,5 +163,72 @@ fn put_element<W: Sink>(
     match segment.get_at(handle, index) {
         Ok(value) => put_pieces(out, &[Piece::Bytes(b" "), Piece::Value(value)]),
         Err(_) => Ok(()),
+    }
+}
+
+/// Writes the kind of vectors of strings, and as many texts of the vector of strings of a key.
+fn put_texts_line<W: Sink>(
+    segment: &Segment,
+    key: &Key,
+    count: u64,
+    out: &mut W,
+) -> Result<(), DeviceFault>
+    requires { (W.history out.old).failures < 2 ^ 64 - 1 }
+    ensures { WritesFor (W.history out.old) (W.history out.new) result (StandsFor segment.now.cut.bytes)
+        (λ d. texts_line d (key_seen key.now) count) }
+{
+    put_pieces(out, &[Piece::Kind(Kind::Texts)])?;
+    put_texts(segment, key, count, out)?;
+    put_pieces(out, &[Piece::Bytes(b"\n")])
+}
+
+/// Writes as many texts of the vector of strings of a key, each behind a blank.
+fn put_texts<W: Sink>(
+    segment: &Segment,
+    key: &Key,
+    count: u64,
+    out: &mut W,
+) -> Result<(), DeviceFault>
+    requires { (W.history out.old).failures < 2 ^ 64 - 1 }
+    ensures { WritesFor (W.history out.old) (W.history out.new) result (StandsFor segment.now.cut.bytes)
+        (λ d. texts_text d (key_seen key.now) count) }
+{
+    'texts: for index in 0..count {
+        put_text(segment, key, index, out)?;
+    }
+    Ok(())
+}
+
+/// Writes the text at an index behind a blank, and nothing where there is none.
+fn put_text<W: Sink>(
+    segment: &Segment,
+    key: &Key,
+    index: u64,
+    out: &mut W,
+) -> Result<(), DeviceFault>
+    requires { (W.history out.old).failures < 2 ^ 64 - 1 }
+    ensures { WritesFor (W.history out.old) (W.history out.new) result (StandsFor segment.now.cut.bytes)
+        (λ d. element_part (text_at d (key_seen key.now) index)) }
+{
+    match segment.texts_get(key, index) {
+        Ok(text) => put_pieces(out, &[Piece::Bytes(b" "), Piece::Text(text)]),
+        Err(_) => Ok(()),
+    }
+}
+
+/// Writes the text at an index in the vector of strings of a key, or why there is none.
+pub fn put_text_at<W: Sink>(
+    segment: &Segment,
+    key: &Key,
+    index: u64,
+    out: &mut W,
+) -> Result<(), DeviceFault>
+    requires { (W.history out.old).failures < 2 ^ 64 - 1 }
+    ensures { WritesFor (W.history out.old) (W.history out.new) result (StandsFor segment.now.cut.bytes)
+        (λ d. answer_text (text_at d (key_seen key.now) index)) }
+{
+    match segment.texts_get(key, index) {
+        Ok(text) => put_pieces(out, &[Piece::Text(text), Piece::Bytes(b"\n")]),
+        Err(refusal) => put_pieces(out, &[Piece::Refusal(refusal), Piece::Bytes(b"\n")]),
     }
 }

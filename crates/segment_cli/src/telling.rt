@@ -9,11 +9,11 @@ ghost use Rattle.segment_manager.specs.State.{StandsFor};
 ghost use Rattle.segment_cli.specs.Answer.{answer_text, class_words, entry_words, line};
 ghost use Rattle.segment_cli.specs.Parts.{line_part, said_words};
 ghost use Rattle.segment_cli.specs.Replies.{told_at};
-ghost use Rattle.segment_cli.specs.Shown.{measured_words};
+ghost use Rattle.segment_cli.specs.Shown.{number_words};
 ghost use Rattle.segment_cli.specs.Writing.{WritesFor};
 
 use raw_region::{DeviceFault, Sink};
-use seg_types::{Class, Key};
+use seg_types::{Class, Key, Kind};
 use segment_lang::{Piece, put_pieces};
 use segment_manager::{Instance, Segment};
 
@@ -24,27 +24,34 @@ pub fn put_told<W: Sink>(segment: &Segment, key: &Key, out: &mut W) -> Result<()
         (λ d. answer_text (told_at d (key_seen key.now))) }
 {
     match segment.instance(key) {
-        Ok(said) => put_instance(said, segment.measure(key).ok(), out),
+        Ok(said) => match segment.measure(key) {
+            Ok((len, capacity)) => match said.kind {
+                Kind::Map(_, _) => put_instance(said, Some(len), None, out),
+                _ => put_instance(said, Some(len), Some(capacity), out),
+            },
+            Err(_) => put_instance(said, None, None, out),
+        },
         Err(refusal) => put_pieces(out, &[Piece::Refusal(refusal), Piece::Bytes(b"\n")]),
     }
 }
 
-/// Writes a class, a name or `-`, a kind, a count and a handle, and the length and capacity that were measured.
+/// Writes a class, a name or `-`, a kind, a count and a handle, and the length and the capacity that were measured.
 fn put_instance<W: Sink>(
     said: Instance<'_>,
-    measured: Option<(u64, u64)>,
+    len: Option<u64>,
+    capacity: Option<u64>,
     out: &mut W,
 ) -> Result<(), DeviceFault>
     requires { (W.history out.old).failures < 2 ^ 64 - 1 }
-    ensures { Writes (W.history out.old) (W.history out.new) result (line (class_words said.entry.class said.entry.name.now ++ said_words said.entry ++ measured_words measured)) }
+    ensures { Writes (W.history out.old) (W.history out.new) result (line (class_words said.entry.class said.entry.name.now ++ said_words said.entry ++ (number_words len ++ number_words capacity))) }
 {
-    let (blank, len, capacity) = match measured {
-        Some((len, capacity)) => (
-            Piece::Bytes(b" "),
-            Piece::Number(len),
-            Piece::Number(capacity),
-        ),
-        None => (Piece::Bytes(b""), Piece::Bytes(b""), Piece::Bytes(b"")),
+    let (before_len, len) = match len {
+        Some(len) => (Piece::Bytes(b" "), Piece::Number(len)),
+        None => (Piece::Bytes(b""), Piece::Bytes(b"")),
+    };
+    let (before_capacity, capacity) = match capacity {
+        Some(capacity) => (Piece::Bytes(b" "), Piece::Number(capacity)),
+        None => (Piece::Bytes(b""), Piece::Bytes(b"")),
     };
     let (class, name): (&[u8], Piece<'_>) = match said.class {
         Class::Named => (b"named ", Piece::Name(said.name)),
@@ -62,9 +69,9 @@ fn put_instance<W: Sink>(
             Piece::Number(u64::from(said.count)),
             Piece::Bytes(b" #"),
             Piece::Number(said.handle),
-            blank,
+            before_len,
             len,
-            blank,
+            before_capacity,
             capacity,
             Piece::Bytes(b"\n"),
         ],

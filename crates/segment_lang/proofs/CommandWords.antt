@@ -1,6 +1,7 @@
 -- What stands behind a command word, read one word after another.
 use Rattle.std.proofs.Common.{◌≡◌, ℕ, ℤ, Bool, true, false, cond, List, [], ◌∷◌, Option, Some, None, ap, sym, refl, ◌∙◌, ◌==◌, replicate, length}
 use Rattle.std.specs.Option.{option_map, option_and_then}
+use Rattle.raw_region.specs.Format.{current}
 use Rattle.seg_types.specs.declared.kinds.Kind.{Kind}
 use Rattle.seg_types.specs.declared.kinds.Kind.TheVariants.{Scalar, Text, Vector, Map, Texts}
 use Rattle.seg_types.specs.declared.kinds.ScalarKind.{ScalarKind}
@@ -9,11 +10,11 @@ use Rattle.seg_types.specs.Names.{Key}
 use Rattle.seg_types.specs.Kinds.{is_value}
 use Rattle.seg_types.specs.Values.{kind_of_scalar, scalar_of, value_of_scalar}
 use Rattle.seg_types.proofs.Laws.{scalar_of-kind, scalar_of-value}
-use Rattle.seg_types.specs.Commands.{Assign, Bytes, Command, ConstructIt, Content, Elements, Literal, Numbers, Strings, UnknownCommand, DestroyPtr}
+use Rattle.seg_types.specs.Commands.{Assign, Bytes, Command, ConstructIt, Content, Elements, Literal, NoPairs, Numbers, Strings, UnknownCommand, DestroyPtr}
 use Rattle.segment_lang.specs.Words as said
 use Rattle.segment_lang.specs.Words.{Word, Bare, literal_of_word, number_of, words}
-use Rattle.segment_lang.specs.Language.{Language, supported}
-use Rattle.segment_lang.specs.Reading.{Form, Reader, all, alone, appending, as_reading, assigning, command_line, content, counted_kind, destroying_ptr, each, finding, for_kind, form_of, items, key_of, making, making_each, new_key, quoted_of, value_for, with_key, with_key_literal, with_key_number, with_key_number_literal, with_number}
+use Rattle.segment_lang.specs.Language.{Language, whole}
+use Rattle.segment_lang.specs.Reading.{Form, Reader, all, alone, appending, as_reading, assigning, command_line, content, counted_kind, destroying_ptr, each, finding, for_kind, form_of, items, key_of, making, making_each, new_key, putting, quoted_of, value_for, with_key, with_key_literal, with_key_number, with_key_number_literal, with_number}
 use Rattle.segment_lang.specs.Tokens.{at_end, behind_word, next_two, next_word, only_word, up_to_blank}
 use Rattle.segment_lang.specs.Arguments.{Written, assigning_at, counted_values, handle_of, literals_at, making_at, making_each_at, numbers_at, of_one, of_two, of_three, scalar_at, scalar_in, texts_at, written}
 use Rattle.segment_lang.proofs.WordList.{take_end, take_only, take_word}
@@ -22,27 +23,27 @@ use Rattle.segment_lang.proofs.WordReaders.{take_two, take_three, take_next_two}
 
 -- ---- nothing, one word, two, three
 
-pub alone_at_end : (c : Command) (bytes : List ℕ) → option_and_then (alone c supported) (words bytes) ≡ cond (at_end bytes) (Some c) None
-alone_at_end c bytes = take_end (alone c supported) (λ w ws. refl) bytes
+pub alone_at_end : (c : Command) (bytes : List ℕ) → option_and_then (alone c (whole current)) (words bytes) ≡ cond (at_end bytes) (Some c) None
+alone_at_end c bytes = take_end (alone c (whole current)) (λ w ws. refl) bytes
 
-pub of_key : (f : Key → Command) (key_in : Language → Word → Option Key) (bytes : List ℕ) → option_and_then (with_key f key_in supported) (words bytes) ≡ of_one (with_key f key_in) bytes
-of_key f key_in bytes = take_only (with_key f key_in supported) refl (λ w v ws. refl) bytes
+pub of_key : (f : Key → Command) (key_in : Language → Word → Option Key) (bytes : List ℕ) → option_and_then (with_key f key_in (whole current)) (words bytes) ≡ of_one (with_key f key_in) bytes
+of_key f key_in bytes = take_only (with_key f key_in (whole current)) refl (λ w v ws. refl) bytes
 
-pub of_number : (f : ℕ → Command) (bytes : List ℕ) → option_and_then (with_number f supported) (words bytes) ≡ of_one (with_number f) bytes
-of_number f bytes = take_only (with_number f supported) refl (λ w v ws. refl) bytes
+pub of_number : (f : ℕ → Command) (bytes : List ℕ) → option_and_then (with_number f (whole current)) (words bytes) ≡ of_one (with_number f) bytes
+of_number f bytes = take_only (with_number f (whole current)) refl (λ w v ws. refl) bytes
 
-pub of_key_number : (f : Key → ℕ → Command) (bytes : List ℕ) → option_and_then (with_key_number f supported) (words bytes) ≡ of_two (with_key_number f) bytes
-of_key_number f bytes = take_two (with_key_number f supported) refl (λ w. refl) (λ w v u ws. refl) bytes
+pub of_key_number : (f : Key → ℕ → Command) (bytes : List ℕ) → option_and_then (with_key_number f (whole current)) (words bytes) ≡ of_two (with_key_number f) bytes
+of_key_number f bytes = take_two (with_key_number f (whole current)) refl (λ w. refl) (λ w v u ws. refl) bytes
 
-pub of_key_literal : (f : Key → Literal → Command) (bytes : List ℕ) → option_and_then (with_key_literal f supported) (words bytes) ≡ of_two (with_key_literal f) bytes
-of_key_literal f bytes = take_two (with_key_literal f supported) refl (λ w. refl) (λ w v u ws. refl) bytes
+pub of_key_literal : (f : Key → Literal → Command) (bytes : List ℕ) → option_and_then (with_key_literal f (whole current)) (words bytes) ≡ of_two (with_key_literal f) bytes
+of_key_literal f bytes = take_two (with_key_literal f (whole current)) refl (λ w. refl) (λ w v u ws. refl) bytes
 
-no_appending : (w v u : Word) (ws : List Word) → appending supported (w ∷ v ∷ u ∷ ws) ≡ None
+no_appending : (w v u : Word) (ws : List Word) → appending (whole current) (w ∷ v ∷ u ∷ ws) ≡ None
 no_appending w (said.Text bs) u ws = refl
 no_appending w (Bare bs) u ws = refl
 
-pub of_appending : (bytes : List ℕ) → option_and_then (appending supported) (words bytes) ≡ of_two appending bytes
-of_appending bytes = take_two (appending supported) refl (λ w. refl) no_appending bytes
+pub of_appending : (bytes : List ℕ) → option_and_then (appending (whole current)) (words bytes) ≡ of_two appending bytes
+of_appending bytes = take_two (appending (whole current)) refl (λ w. refl) no_appending bytes
 
 assign_given : (key : Option Key) (ws : Option (List Word)) → option_and_then (λ ws. option_and_then (λ key. option_map (Assign key) (all literal_of_word ws)) key) ws ≡ option_and_then (λ key. option_and_then (λ ls. Some (Assign key ls)) (option_and_then (all literal_of_word) ws)) key
 assign_given None None = refl
@@ -54,23 +55,26 @@ assign_given (Some key) (Some ws) = go (all literal_of_word ws)
     go None = refl
     go (Some ls) = refl
 
-pub of_assigning : (bytes : List ℕ) → option_and_then (assigning supported) (words bytes) ≡ assigning_at bytes
+pub of_assigning : (bytes : List ℕ) → option_and_then (assigning (whole current)) (words bytes) ≡ assigning_at bytes
 unfolding assigning_at literals_at
-of_assigning bytes = take_word (assigning supported) refl bytes ∙ go (next_word bytes)
+of_assigning bytes = take_word (assigning (whole current)) refl bytes ∙ go (next_word bytes)
   where
-    go : (x : Option (Word × List ℕ)) → option_and_then (λ x. option_and_then (λ ws. assigning supported (x.0 ∷ ws)) (words x.1)) x ≡ option_and_then (λ x. option_and_then (λ key. option_and_then (λ ls. Some (Assign key ls)) (option_and_then (all literal_of_word) (words x.1))) (key_of supported x.0)) x
+    go : (x : Option (Word × List ℕ)) → option_and_then (λ x. option_and_then (λ ws. assigning (whole current) (x.0 ∷ ws)) (words x.1)) x ≡ option_and_then (λ x. option_and_then (λ key. option_and_then (λ ls. Some (Assign key ls)) (option_and_then (all literal_of_word) (words x.1))) (key_of (whole current) x.0)) x
     go None = refl
-    go (Some (w, r)) = assign_given (key_of supported w) (words r)
+    go (Some (w, r)) = assign_given (key_of (whole current) w) (words r)
 
-pub of_finding : (bytes : List ℕ) → option_and_then (finding supported) (words bytes) ≡ of_two finding bytes
-of_finding bytes = take_two (finding supported) refl (λ w. refl) (λ w v u ws. refl) bytes
+pub of_finding : (bytes : List ℕ) → option_and_then (finding (whole current)) (words bytes) ≡ of_two finding bytes
+of_finding bytes = take_two (finding (whole current)) refl (λ w. refl) (λ w v u ws. refl) bytes
 
-pub of_key_number_literal : (f : Key → ℕ → Literal → Command) (bytes : List ℕ) → option_and_then (with_key_number_literal f supported) (words bytes) ≡ of_three (with_key_number_literal f) bytes
-of_key_number_literal f bytes = take_three (with_key_number_literal f supported) refl (λ w. refl) (λ w v. refl) (λ w v u t ws. refl) bytes
+pub of_key_number_literal : (f : Key → ℕ → Literal → Command) (bytes : List ℕ) → option_and_then (with_key_number_literal f (whole current)) (words bytes) ≡ of_three (with_key_number_literal f) bytes
+of_key_number_literal f bytes = take_three (with_key_number_literal f (whole current)) refl (λ w. refl) (λ w v. refl) (λ w v u t ws. refl) bytes
+
+pub of_putting : (bytes : List ℕ) → option_and_then (putting (whole current)) (words bytes) ≡ of_three putting bytes
+of_putting bytes = take_three (putting (whole current)) refl (λ w. refl) (λ w v. refl) (λ w v u t ws. refl) bytes
 
 -- ---- a handle
 
-no_ptr : (w v : Word) (ws : List Word) → destroying_ptr supported (w ∷ v ∷ ws) ≡ None
+no_ptr : (w v : Word) (ws : List Word) → destroying_ptr (whole current) (w ∷ v ∷ ws) ≡ None
 no_ptr (said.Text bs) v ws = refl
 no_ptr (Bare []) v ws = refl
 no_ptr (Bare (c ∷ cs)) v ws = refl
@@ -79,17 +83,17 @@ ptr_if : (b : Bool) (n : Option ℕ) → cond b (option_map DestroyPtr n) None �
 ptr_if true n = refl
 ptr_if false n = refl
 
-ptr_word : (w : Word) → destroying_ptr supported (w ∷ []) ≡ option_map DestroyPtr (handle_of w)
+ptr_word : (w : Word) → destroying_ptr (whole current) (w ∷ []) ≡ option_map DestroyPtr (handle_of w)
 ptr_word (said.Text bs) = refl
 ptr_word (Bare []) = refl
 ptr_word (Bare (c ∷ cs)) = ptr_if (c == 0x23) (number_of cs)
 
-ptr : (x : Option Word) → option_and_then (λ w. destroying_ptr supported (w ∷ [])) x ≡ option_map DestroyPtr (option_and_then handle_of x)
+ptr : (x : Option Word) → option_and_then (λ w. destroying_ptr (whole current) (w ∷ [])) x ≡ option_map DestroyPtr (option_and_then handle_of x)
 ptr None = refl
 ptr (Some w) = ptr_word w
 
-pub of_handle : (bytes : List ℕ) → option_and_then (destroying_ptr supported) (words bytes) ≡ option_map DestroyPtr (option_and_then handle_of (only_word bytes))
-of_handle bytes = take_only (destroying_ptr supported) refl no_ptr bytes ∙ ptr (only_word bytes)
+pub of_handle : (bytes : List ℕ) → option_and_then (destroying_ptr (whole current)) (words bytes) ≡ option_map DestroyPtr (option_and_then handle_of (only_word bytes))
+of_handle bytes = take_only (destroying_ptr (whole current)) refl no_ptr bytes ∙ ptr (only_word bytes)
 
 -- ---- a value
 
@@ -124,6 +128,9 @@ texts_content n bytes = go (words bytes)
     go : (ws : Option (List Word)) → option_and_then (content Texts n) ws ≡ option_map Strings (option_and_then (all quoted_of) ws)
     go None = refl
     go (Some ws) = refl
+
+pub no_pairs_content : (k v : ScalarKind) (n : ℕ) (bytes : List ℕ) → option_and_then (content (Map k v) n) (words bytes) ≡ cond (at_end bytes) (Some (NoPairs k v)) None
+no_pairs_content k v n bytes = take_end (content (Map k v) n) (λ w ws. refl) bytes
 
 -- the values that are read are the elements
 pub elements_read : (k : ScalarKind) (o : Option (List ℤ)) (w : Written) → Some w ≡ option_map (written k) o → Some (Elements w.kind w.numbers) ≡ option_map (Elements k) o
@@ -163,13 +170,13 @@ arguments make None (Some (k, n)) key = nothing_made make (for_kind k key)
 arguments make (Some args) None key = refl
 arguments make (Some args) (Some (k, n)) key = made_under make (for_kind k key) (content k n args)
 
-pub of_making : (make : Key → Content → Command) (key_in : Language → Word → Option Key) (bytes : List ℕ) → option_and_then (making make key_in supported) (words bytes) ≡ making_at make key_in bytes
+pub of_making : (make : Key → Content → Command) (key_in : Language → Word → Option Key) (bytes : List ℕ) → option_and_then (making make key_in (whole current)) (words bytes) ≡ making_at make key_in bytes
 unfolding making_at
-of_making make key_in bytes = take_next_two (making make key_in supported) refl (λ w. refl) bytes ∙ go (next_two bytes)
+of_making make key_in bytes = take_next_two (making make key_in (whole current)) refl (λ w. refl) bytes ∙ go (next_two bytes)
   where
-    go : (x : Option (Word × Word × List ℕ)) → option_and_then (λ x. option_and_then (λ ws. making make key_in supported (x.0 ∷ x.1 ∷ ws)) (words x.2)) x ≡ option_and_then (λ x. option_and_then (λ k. option_and_then (λ key. option_and_then (λ m. Some (make key m)) (option_and_then (content k.0 k.1) (words x.2))) (for_kind k.0 (key_in supported x.1))) (counted_kind supported x.0)) x
+    go : (x : Option (Word × Word × List ℕ)) → option_and_then (λ x. option_and_then (λ ws. making make key_in (whole current) (x.0 ∷ x.1 ∷ ws)) (words x.2)) x ≡ option_and_then (λ x. option_and_then (λ k. option_and_then (λ key. option_and_then (λ m. Some (make key m)) (option_and_then (content k.0 k.1) (words x.2))) (for_kind k.0 (key_in (whole current) x.1))) (counted_kind (whole current) x.0)) x
     go None = refl
-    go (Some (kind, key, r)) = arguments make (words r) (counted_kind supported kind) (key_in supported key)
+    go (Some (kind, key, r)) = arguments make (words r) (counted_kind (whole current) kind) (key_in (whole current) key)
 
 -- ---- a scalar kind, a key, and as many values
 
@@ -201,13 +208,13 @@ each_argument None (Some (k, n)) key = no_values_under k n (for_kind k key)
 each_argument (Some args) None key = refl
 each_argument (Some args) (Some (k, n)) key = the_values_under args k n (for_kind k key)
 
-pub of_making_each : (bytes : List ℕ) → option_and_then (making_each supported) (words bytes) ≡ making_each_at bytes
+pub of_making_each : (bytes : List ℕ) → option_and_then (making_each (whole current)) (words bytes) ≡ making_each_at bytes
 unfolding making_each_at numbers_at
-of_making_each bytes = take_next_two (making_each supported) refl (λ w. refl) bytes ∙ go (next_two bytes)
+of_making_each bytes = take_next_two (making_each (whole current)) refl (λ w. refl) bytes ∙ go (next_two bytes)
   where
-    go : (x : Option (Word × Word × List ℕ)) → option_and_then (λ x. option_and_then (λ ws. making_each supported (x.0 ∷ x.1 ∷ ws)) (words x.2)) x ≡ option_and_then (λ x. option_and_then (λ k. option_and_then (λ key. option_and_then (λ kind. option_and_then (λ zs. items k.1 kind key zs) (option_and_then (all (value_for kind)) (words x.2))) (scalar_in k.0)) (for_kind k.0 (new_key supported x.1))) (counted_kind supported x.0)) x
+    go : (x : Option (Word × Word × List ℕ)) → option_and_then (λ x. option_and_then (λ ws. making_each (whole current) (x.0 ∷ x.1 ∷ ws)) (words x.2)) x ≡ option_and_then (λ x. option_and_then (λ k. option_and_then (λ key. option_and_then (λ kind. option_and_then (λ zs. items k.1 kind key zs) (option_and_then (all (value_for kind)) (words x.2))) (scalar_in k.0)) (for_kind k.0 (new_key (whole current) x.1))) (counted_kind (whole current) x.0)) x
     go None = refl
-    go (Some (kind, key, r)) = each_argument (words r) (counted_kind supported kind) (new_key supported key)
+    go (Some (kind, key, r)) = each_argument (words r) (counted_kind (whole current) kind) (new_key (whole current) key)
 
 if_as_many : (b : Bool) (k : ScalarKind) (n : ℕ) (key : Key) (zs : List ℤ) (w : Written) → Some w ≡ cond b (Some (written k zs)) None → Some (ConstructIt key w.kind n w.numbers) ≡ cond b (Some (ConstructIt key k n zs)) None
 if_as_many true k n key zs w h = let e : w ≡ written k zs = cc in ap (λ (w : Written). Some (ConstructIt key w.kind n w.numbers)) e
@@ -218,22 +225,22 @@ as_many k n key None w h = cc
 as_many k n key (Some zs) w h = if_as_many (length zs == n) k n key zs w h
 
 -- what is read of each part is the command
-pub each_read : (bytes r : List ℕ) (w v : Word) (kind : Kind) (k : ScalarKind) (n : ℕ) (key : Key) (x : Written) → Some (w, v, r) ≡ next_two bytes → Some (kind, n) ≡ counted_kind supported w → Some key ≡ for_kind kind (new_key supported v) → kind ≡ Scalar k → Some x ≡ counted_values k n r → Some (ConstructIt key x.kind n x.numbers) ≡ making_each_at bytes
+pub each_read : (bytes r : List ℕ) (w v : Word) (kind : Kind) (k : ScalarKind) (n : ℕ) (key : Key) (x : Written) → Some (w, v, r) ≡ next_two bytes → Some (kind, n) ≡ counted_kind (whole current) w → Some key ≡ for_kind kind (new_key (whole current) v) → kind ≡ Scalar k → Some x ≡ counted_values k n r → Some (ConstructIt key x.kind n x.numbers) ≡ making_each_at bytes
 unfolding making_each_at
 each_read bytes r w v kind k n key x a b d e f =
     as_many k n key (numbers_at k r) x f
     ∙ ap (λ kind. option_and_then (λ kind. option_and_then (λ zs. items n kind key zs) (numbers_at kind r)) (scalar_in kind)) (sym e)
     ∙ ap (λ key. option_and_then (λ key. option_and_then (λ kind. option_and_then (λ zs. items n kind key zs) (numbers_at kind r)) (scalar_in kind)) key) d
-    ∙ ap (λ k. option_and_then (λ k. option_and_then (λ key. option_and_then (λ kind. option_and_then (λ zs. items k.1 kind key zs) (numbers_at kind r)) (scalar_in k.0)) (for_kind k.0 (new_key supported v))) k) b
-    ∙ ap (λ x. option_and_then (λ x. option_and_then (λ k. option_and_then (λ key. option_and_then (λ kind. option_and_then (λ zs. items k.1 kind key zs) (numbers_at kind x.2)) (scalar_in k.0)) (for_kind k.0 (new_key supported x.1))) (counted_kind supported x.0)) x) a
+    ∙ ap (λ k. option_and_then (λ k. option_and_then (λ key. option_and_then (λ kind. option_and_then (λ zs. items k.1 kind key zs) (numbers_at kind r)) (scalar_in k.0)) (for_kind k.0 (new_key (whole current) v))) k) b
+    ∙ ap (λ x. option_and_then (λ x. option_and_then (λ k. option_and_then (λ key. option_and_then (λ kind. option_and_then (λ zs. items k.1 kind key zs) (numbers_at kind x.2)) (scalar_in k.0)) (for_kind k.0 (new_key (whole current) x.1))) (counted_kind (whole current) x.0)) x) a
 
 -- ---- the command word
 
-known : (form : Option Form) (reader : Reader) (rest : List ℕ) → Some reader ≡ option_map (λ (f : Form). f.1) form → elim form [ None ↦ UnknownCommand | Some f ↦ as_reading (option_and_then (f.1 supported) (words rest)) ] ≡ as_reading (option_and_then (reader supported) (words rest))
+known : (form : Option Form) (reader : Reader) (rest : List ℕ) → Some reader ≡ option_map (λ (f : Form). f.1) form → elim form [ None ↦ UnknownCommand | Some f ↦ as_reading (option_and_then (f.1 (whole current)) (words rest)) ] ≡ as_reading (option_and_then (reader (whole current)) (words rest))
 known None reader rest h = cc
-known (Some f) reader rest h = let e : reader ≡ f.1 = cc in sym (ap (λ (r : Reader). as_reading (option_and_then (r supported) (words rest))) e)
+known (Some f) reader rest h = let e : reader ≡ f.1 = cc in sym (ap (λ (r : Reader). as_reading (option_and_then (r (whole current)) (words rest))) e)
 
 -- a line that begins with a command word is read by the form of the command
-pub known_command : (line first rest : List ℕ) (reader : Reader) (x : Option Command) → (length line == 0) ≡ false → first ≡ up_to_blank line → rest ≡ behind_word line → Some reader ≡ option_map (λ (f : Form). f.1) (form_of supported first) → x ≡ option_and_then (reader supported) (words rest) → as_reading x ≡ command_line supported line
+pub known_command : (line first rest : List ℕ) (reader : Reader) (x : Option Command) → (length line == 0) ≡ false → first ≡ up_to_blank line → rest ≡ behind_word line → Some reader ≡ option_map (λ (f : Form). f.1) (form_of first) → x ≡ option_and_then (reader (whole current)) (words rest) → as_reading x ≡ command_line (whole current) line
 known_command [] first rest reader x h f r k e = cc
-known_command (c ∷ cs) first rest reader x h f r k e = ap as_reading e ∙ ap (λ rest. as_reading (option_and_then (reader supported) (words rest))) r ∙ sym (known (form_of supported (up_to_blank (c ∷ cs))) reader (behind_word (c ∷ cs)) (k ∙ ap (λ first. option_map (λ (f : Form). f.1) (form_of supported first)) f))
+known_command (c ∷ cs) first rest reader x h f r k e = ap as_reading e ∙ ap (λ rest. as_reading (option_and_then (reader (whole current)) (words rest))) r ∙ sym (known (form_of (up_to_blank (c ∷ cs))) reader (behind_word (c ∷ cs)) (k ∙ ap (λ first. option_map (λ (f : Form). f.1) (form_of first)) f))

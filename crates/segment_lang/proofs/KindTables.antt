@@ -1,13 +1,14 @@
 -- Tables of kinds as they are printed.
-use Rattle.std.proofs.Common.{◌≡◌, ℕ, Bool, true, false, cond, IsTrue, List, [], ◌∷◌, map, Option, Some, ap, refl, ◌∙◌}
-use Rattle.std.specs.Option.{option_map, IfSome}
+use Rattle.std.proofs.Common.{◌≡◌, ℕ, Bool, true, false, cond, List, [], ◌∷◌, map, Option, Some, ap, sym, refl, ◌∙◌}
+use Rattle.std.specs.Option.{option_map}
 use Rattle.std.specs.List.{find, AllByRecursion}
+use Rattle.raw_region.specs.Format.{current}
 use Rattle.seg_types.specs.declared.kinds.Kind.{Kind}
+use Rattle.seg_types.specs.Kinds.{kinds}
 use Rattle.segment_lang.specs.Words.{is}
 use Rattle.segment_lang.specs.Texts.{kind_text}
-use Rattle.segment_lang.specs.Language.{supported}
+use Rattle.segment_lang.specs.Language.{whole}
 use Rattle.segment_lang.specs.Reading.{kind_named}
-use Rattle.segment_lang.specs.Arguments.{is_readable}
 use Rattle.segment_lang.specs.Seen.{Row, found_in}
 
 -- each row has the kind that is printed as its word
@@ -24,22 +25,12 @@ kind_in_rows : (rows : List (Row Kind)) (w : List ℕ) → AreKinds rows → fou
 kind_in_rows [] w h = refl
 kind_in_rows (row ∷ rows) w h = first_row (is w row.0) (is w (kind_text row.1)) row (find (λ (row : Row Kind). is w row.0) rows) (find (λ k. is w (kind_text k)) (map (λ (row : Row Kind). row.1) rows)) (ap (is w) h.0) (kind_in_rows rows w h.1)
 
--- A table of the kinds that have come has for a word the kind that is printed so.
-pub kind_in_table : (rows : List (Row Kind)) (w : List ℕ) → map (λ (row : Row Kind). row.1) rows ≡ supported.kinds → AreKinds rows → found_in rows w ≡ kind_named supported w
+-- the current format has all kinds
+kinds_now : (whole current).kinds ≡ kinds
+unfolding current
+kinds_now = refl
+
+-- A table of all kinds has for a word the kind that is printed so.
+pub kind_in_table : (rows : List (Row Kind)) (w : List ℕ) → map (λ (row : Row Kind). row.1) rows ≡ kinds → AreKinds rows → found_in rows w ≡ kind_named (whole current) w
 unfolding kind_named
-kind_in_table rows w same h = kind_in_rows rows w h ∙ ap (find (λ k. is w (kind_text k))) same
-
-abbrev Come : Kind → Type 0
-Come k = IsTrue (is_readable k)
-
-come_first : (b : Bool) (k : Kind) (x : Option Kind) → Come k → IfSome x Come → IfSome (cond b (Some k) x) Come
-come_first true k x h f = h
-come_first false k x h f = f
-
-come_found : (ks : List Kind) (w : List ℕ) → AllByRecursion Come ks → IfSome (find (λ k. is w (kind_text k)) ks) Come
-come_found [] w h = tt
-come_found (k ∷ ks) w h = come_first (is w (kind_text k)) k (find (λ k. is w (kind_text k)) ks) h.0 (come_found ks w h.1)
-
-pub named_come : (w : List ℕ) → IfSome (kind_named supported w) Come
-unfolding kind_named
-named_come w = come_found supported.kinds w (refl, (refl, (refl, (refl, (refl, (refl, (refl, (refl, (refl, (refl, (refl, tt)))))))))))
+kind_in_table rows w same h = kind_in_rows rows w h ∙ ap (find (λ k. is w (kind_text k))) (same ∙ sym kinds_now)

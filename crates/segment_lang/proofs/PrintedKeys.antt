@@ -122,25 +122,25 @@ bare-word c cs h =
     let f = first-byte c p.0 in
     third (is_blank c) (c == 0x22) (is_bare c) (words cs) (text_word (in_text cs)) (bare_word c (in_bare cs)) None f.0 f.1 f.2 ∙ ap (bare_word c) (bare-bytes cs p.1)
 
-named : (b has bare name : Bool) (x : Option Key) (key : Key) → b ≡ false → has ≡ true → bare ≡ true → name ≡ true → cond b x (cond (has && bare && name) (Some key) None) ≡ Some key
-named b has bare name x key e f g h = rw (e, f, g, h) refl
+named : (b bare name : Bool) (x : Option Key) (key : Key) → b ≡ false → bare ≡ true → name ≡ true → cond b x (cond (bare && name) (Some key) None) ≡ Some key
+named b bare name x key e f g = rw (e, f, g) refl
 
-key-of-bare : (l : Language) (c : ℕ) (cs : List ℕ) → l.has_names ≡ true → is_name l.format (c ∷ cs) ≡ true → is_bare_name (c ∷ cs) ≡ true → name_key l (Bare (c ∷ cs)) ≡ Some (ByName (c ∷ cs))
-key-of-bare l c cs has name bare =
+key-of-bare : (l : Language) (c : ℕ) (cs : List ℕ) → is_name l.format (c ∷ cs) ≡ true → is_bare_name (c ∷ cs) ≡ true → name_key l (Bare (c ∷ cs)) ≡ Some (ByName (c ∷ cs))
+key-of-bare l c cs name bare =
     let p = and_parts (is_first c) (list_all is_name_byte cs) bare in
     let f = first-byte c p.0 in
-    named (c == 0x40) l.has_names (is_bare_name (c ∷ cs)) (is_name l.format (c ∷ cs)) (cond l.has_unique (option_map ByKind (kind_named l cs)) None) (ByName (c ∷ cs)) f.3 has bare name
+    named (c == 0x40) (is_bare_name (c ∷ cs)) (is_name l.format (c ∷ cs)) (option_map ByKind (kind_named l cs)) (ByName (c ∷ cs)) f.3 bare name
 
-read-bare : (l : Language) (name : List ℕ) → l.has_names ≡ true → is_name l.format name ≡ true → is_bare_name name ≡ true → IsReadAsName l name name
-read-bare l [] has name bare = absurd (false≢true bare)
-read-bare l (c ∷ cs) has name bare = record { word = Bare (c ∷ cs); words = bare-word c cs bare; key = key-of-bare l c cs has name bare }
+read-bare : (l : Language) (name : List ℕ) → is_name l.format name ≡ true → is_bare_name name ≡ true → IsReadAsName l name name
+read-bare l [] name bare = absurd (false≢true bare)
+read-bare l (c ∷ cs) name bare = record { word = Bare (c ∷ cs); words = bare-word c cs bare; key = key-of-bare l c cs name bare }
 
-read-quoted : (l : Language) (name : List ℕ) → AllByRecursion (λ b. b < 256) name → l.has_names ≡ true → is_name l.format name ≡ true → IsReadAsName l name (quoted_text name)
-read-quoted l name small has is = record { word = Text name; words = printed_texts_are_read name small; key = rw (has, is) refl }
+read-quoted : (l : Language) (name : List ℕ) → AllByRecursion (λ b. b < 256) name → is_name l.format name ≡ true → IsReadAsName l name (quoted_text name)
+read-quoted l name small is = record { word = Text name; words = printed_texts_are_read name small; key = rw is refl }
 
-read-name : (b : Bool) (l : Language) (name : List ℕ) → AllByRecursion (λ b. b < 256) name → l.has_names ≡ true → is_name l.format name ≡ true → is_bare_name name ≡ b → IsReadAsName l name (cond b name (quoted_text name))
-read-name true l name small has is bare = read-bare l name has is bare
-read-name false l name small has is bare = read-quoted l name small has is
+read-name : (b : Bool) (l : Language) (name : List ℕ) → AllByRecursion (λ b. b < 256) name → is_name l.format name ≡ true → is_bare_name name ≡ b → IsReadAsName l name (cond b name (quoted_text name))
+read-name true l name small is bare = read-bare l name is bare
+read-name false l name small is bare = read-quoted l name small is
 
 pub printed_names_are_read : PrintedNamesAreRead
-printed_names_are_read l name small has is = read-name (is_bare_name name) l name small has is refl
+printed_names_are_read l name small is = read-name (is_bare_name name) l name small is refl

@@ -1,21 +1,17 @@
 -- What stands behind a command word, read one word after another.
-use Rattle.std.specs.Prelude.{ℕ, ℤ, Bool, true, false, Option, Some, None, List, [], ◌∷◌, length, map, ◌==◌, option_and_then, unwrap_or, if◌then◌else◌}
+use Rattle.std.specs.Prelude.{ℕ, ℤ, Option, Some, None, List, [], ◌∷◌, length, map, ◌==◌, option_and_then, unwrap_or, if◌then◌else◌}
+use Rattle.raw_region.specs.Format.{current}
 use Rattle.seg_types.specs.declared.kinds.Kind.{Kind}
-use Rattle.seg_types.specs.declared.kinds.Kind.TheVariants.{Scalar, Map}
+use Rattle.seg_types.specs.declared.kinds.Kind.TheVariants.{Scalar}
 use Rattle.seg_types.specs.declared.kinds.ScalarKind.{ScalarKind}
 use Rattle.seg_types.specs.declared.values.ScalarValue.{ScalarValue}
 use Rattle.seg_types.specs.Names.{Key}
 use Rattle.seg_types.specs.Values.{scalar_of}
 use Rattle.seg_types.specs.Commands.{Assign, Command, Content, Literal}
 use Rattle.segment_lang.specs.Words.{Word, Bare, literal_of_word, number_of, words}
-use Rattle.segment_lang.specs.Language.{Language, supported}
+use Rattle.segment_lang.specs.Language.{Language, whole}
 use Rattle.segment_lang.specs.Reading.{Reader, all, content, counted_kind, for_kind, key_of, new_key, items, quoted_of, value_for}
 use Rattle.segment_lang.specs.Tokens.{◌>>=◌, next_two, next_word, only_word, two_words, three_words}
-
--- the kinds whose values are read: those that have come, and vectors of texts
-abbrev pub is_readable : Kind → Bool
-is_readable (Map k v) = false
-is_readable k = true
 
 -- the kind of the elements, where they are scalars
 abbrev pub scalar_in : Kind → Option ScalarKind
@@ -29,13 +25,13 @@ handle_of w = None
 
 -- what one word asks for, what two do, and what three do
 abbrev pub of_one : Reader → List ℕ → Option Command
-of_one g bytes = option_and_then (λ x. g supported (x ∷ [])) (only_word bytes)
+of_one g bytes = option_and_then (λ x. g (whole current) (x ∷ [])) (only_word bytes)
 
 abbrev pub of_two : Reader → List ℕ → Option Command
-of_two g bytes = option_and_then (λ x. g supported (x.0 ∷ x.1 ∷ [])) (two_words bytes)
+of_two g bytes = option_and_then (λ x. g (whole current) (x.0 ∷ x.1 ∷ [])) (two_words bytes)
 
 abbrev pub of_three : Reader → List ℕ → Option Command
-of_three g bytes = option_and_then (λ x. g supported (x.0 ∷ x.1 ∷ x.2 ∷ [])) (three_words bytes)
+of_three g bytes = option_and_then (λ x. g (whole current) (x.0 ∷ x.1 ∷ x.2 ∷ [])) (three_words bytes)
 
 -- what scalars are made with: one value
 unfoldable pub scalar_at : ScalarKind → ℕ → List ℕ → Option Content
@@ -45,8 +41,8 @@ scalar_at k n bytes = option_and_then (λ x. content (Scalar k) n (x ∷ [])) (o
 unfoldable pub making_at : (Key → Content → Command) → (Language → Word → Option Key) → List ℕ → Option Command
 making_at make key_in bytes = do
   x ← next_two bytes
-  k ← counted_kind supported x.0
-  key ← for_kind k.0 (key_in supported x.1)
+  k ← counted_kind (whole current) x.0
+  key ← for_kind k.0 (key_in (whole current) x.1)
   made_with ← option_and_then (content k.0 k.1) (words x.2)
   Some (make key made_with)
 
@@ -79,8 +75,8 @@ scalars_in w = map (scalar_of w.kind) w.numbers
 unfoldable pub making_each_at : List ℕ → Option Command
 making_each_at bytes = do
   x ← next_two bytes
-  k ← counted_kind supported x.0
-  key ← for_kind k.0 (new_key supported x.1)
+  k ← counted_kind (whole current) x.0
+  key ← for_kind k.0 (new_key (whole current) x.1)
   kind ← scalar_in k.0
   numbers ← numbers_at kind x.2
   items k.1 kind key numbers
@@ -97,7 +93,7 @@ literals_in bytes = unwrap_or (literals_at bytes) []
 unfoldable pub assigning_at : List ℕ → Option Command
 assigning_at bytes = do
   x ← next_word bytes
-  key ← key_of supported x.0
+  key ← key_of (whole current) x.0
   values ← literals_at x.1
   Some (Assign key values)
 

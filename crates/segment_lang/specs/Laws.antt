@@ -58,7 +58,7 @@ WordsHaveRoom = (bytes : List ℕ) (ws : List Word) → words bytes ≡ Some ws 
 abbrev pub LongLinesAreCut : Type 0
 LongLinesAreCut = (language : Language) (line : List ℕ) → reading language (take 4098 line) ≡ reading language line
 
--- A kind that has come and is printed is read as the kind.
+-- A kind of the language that is printed is read as the kind.
 abbrev pub PrintedKindsAreRead : Type 0
 PrintedKindsAreRead = (l : Language) (k : Kind) → Contains l.kinds k → kind_named l (kind_text k) ≡ Some k
 
@@ -71,4 +71,4 @@ pub record IsReadAsName (l : Language) (name printed : List ℕ) : Type 0 where
 -- A name that is printed is read as the key of the name.
 abbrev pub PrintedNamesAreRead : Type 0
 PrintedNamesAreRead =
-    (l : Language) (name : List ℕ) → AllByRecursion (λ b. b < 256) name → l.has_names ≡ true → is_name l.format name ≡ true → IsReadAsName l name (name_text name)
+    (l : Language) (name : List ℕ) → AllByRecursion (λ b. b < 256) name → is_name l.format name ≡ true → IsReadAsName l name (name_text name)

@@ -1,6 +1,5 @@
 -- What a line means: nothing, a command, or one of three errors.
 use Rattle.std.specs.Prelude.{ℕ, ◌+◌, ◌-◌, ℤ, Bool, true, not, ◌&&◌, Option, Some, None, List, [], ◌∷◌, length, find, replicate, option_map, option_and_then, ◌==◌, nat_lt, nat_le, if◌then◌else◌, codes, slice_index, take, take_while, drop}
-use Rattle.std.specs.List.{list_any}
 use Rattle.std.specs.Result.{result_ok}
 use Rattle.seg_types.specs.declared.kinds.ScalarKind.{ScalarKind}
 use Rattle.seg_types.specs.declared.kinds.Kind.{Kind}
@@ -16,7 +15,7 @@ use Rattle.segment_lang.specs.Language.{Language}
 
 -- ---- kinds and keys
 
--- the kind that is printed so, where it has come
+-- the kind that is printed so
 unfoldable pub kind_named : Language → List ℕ → Option Kind
 kind_named l w = find (λ k. is w (kind_text k)) l.kinds
 
@@ -37,16 +36,16 @@ counted_kind l (word.Text bs) = None
 counted_kind l (Bare w) = elim (kind_named l w) [
   | Some k ↦ Some (k, 1)
   | None ↦ let front = take_while (λ c. not (c == 0x5B)) w in
-      if l.has_counts then option_and_then (λ k. counted k (bracketed (drop (length front + 1) w))) (kind_named l front) else None
+      option_and_then (λ k. counted k (bracketed (drop (length front + 1) w))) (kind_named l front)
 ]
 
 -- a name or `@KIND`
 abbrev pub name_key : Language → Word → Option Key
-name_key l (word.Text bs) = if l.has_names && is_name l.format bs then Some (ByName bs) else None
+name_key l (word.Text bs) = if is_name l.format bs then Some (ByName bs) else None
 name_key l (Bare []) = None
 name_key l (Bare (c ∷ cs)) =
-    if c == 0x40 then (if l.has_unique then option_map ByKind (kind_named l cs) else None)
-    else if l.has_names && is_bare_name (c ∷ cs) && is_name l.format (c ∷ cs) then Some (ByName (c ∷ cs)) else None
+    if c == 0x40 then option_map ByKind (kind_named l cs)
+    else if is_bare_name (c ∷ cs) && is_name l.format (c ∷ cs) then Some (ByName (c ∷ cs)) else None
 
 -- a name, `@KIND` or `#n`
 abbrev pub key_of : Language → Word → Option Key
@@ -209,9 +208,9 @@ forms =
     ∷ (codes "all_deallocated", alone asked.AllDeallocated)
     ∷ []
 
--- a command word that has come
-abbrev pub form_of : Language → List ℕ → Option Form
-form_of l w = if list_any (is w) l.commands then find (λ (f : Form). is w f.0) forms else None
+-- what stands behind a command word
+abbrev pub form_of : List ℕ → Option Form
+form_of w = find (λ (f : Form). is w f.0) forms
 
 abbrev pub as_reading : Option Command → Reading
 as_reading None = BadSyntax
@@ -219,7 +218,7 @@ as_reading (Some c) = Asked c
 
 -- the first word, up to a blank, decides which form the others must have
 abbrev pub reading_of_words : Language → List ℕ → List ℕ → Reading
-reading_of_words l first rest = elim (form_of l first) [
+reading_of_words l first rest = elim (form_of first) [
   | None ↦ UnknownCommand
   | Some form ↦ as_reading (option_and_then (form.1 l) (words rest))
 ]

@@ -5,15 +5,15 @@ use Rattle.seg_types.specs.Keys.{index_key_seen, key_seen, new_key_seen}
 use Rattle.seg_types.specs.Values.{kind_of_scalar, value_of_scalar}
 use Rattle.segment_lang.specs.Words as said
 use Rattle.segment_lang.specs.Words.{is}
-use Rattle.segment_lang.specs.Reading.{Reader, making, making_each, finding, with_key, with_key_number, with_key_literal, with_key_number_literal, with_number, alone, appending, assigning, destroying_ptr, new_key, key_of, name_key}
+use Rattle.segment_lang.specs.Reading.{Reader, making, making_each, finding, with_key, with_key_number, with_key_literal, with_key_number_literal, with_number, alone, appending, assigning, destroying_ptr, putting, new_key, key_of, name_key}
 use Rattle.segment_lang.specs.declared.words.Word.{Word}
 use Rattle.segment_lang.specs.declared.words.Word.TheVariants.{Bare, Text}
 use Rattle.segment_lang.specs.declared.literals.Literal.{Literal}
 use Rattle.segment_lang.specs.declared.literals.Literal.TheVariants.{Whole, Truth, Quoted}
 use Rattle.segment_lang.specs.declared.commands.Content.{Content}
-use Rattle.segment_lang.specs.declared.commands.Content.TheVariants.{Scalars, Elements, Text as TextContent, Texts as TextsContent}
+use Rattle.segment_lang.specs.declared.commands.Content.TheVariants.{Scalars, Elements, Text as TextContent, Texts as TextsContent, NoPairs}
 use Rattle.segment_lang.specs.declared.commands.Command.{Command}
-use Rattle.segment_lang.specs.declared.commands.Command.TheVariants.{Construct, ConstructIt, Find, FindOrConstruct, Destroy, DestroyPtr, Show, Info, Get, Set, Push, Pop, Insert, Erase, Reserve, Shrink, Clear, Assign, Append, ListNames, ListKinds, Blocks, Size, Free, NumNamed, NumUnique, ReserveNamed, ReserveUnique, ShrinkIndexes, ZeroFree, Sanity, AllDeallocated}
+use Rattle.segment_lang.specs.declared.commands.Command.TheVariants.{Construct, ConstructIt, Find, FindOrConstruct, Destroy, DestroyPtr, Show, Info, Get, Set, Push, Pop, Insert, Erase, Reserve, Shrink, Clear, Assign, Append, Put, Lookup, Remove, ListNames, ListKinds, Blocks, Size, Free, NumNamed, NumUnique, ReserveNamed, ReserveUnique, ShrinkIndexes, ZeroFree, Sanity, AllDeallocated}
 use Rattle.segment_lang.specs.declared.commands.Reading.{Reading}
 use Rattle.segment_lang.specs.declared.commands.Reading.TheVariants.{Nothing, Asked, Wrong}
 use Rattle.segment_lang.specs.declared.errors.LineError.{LineError}
@@ -49,6 +49,7 @@ content_of (Scalars s n) = asked.Numbers (kind_of_scalar s) (replicate n (value_
 content_of (Elements values) = asked.Elements values.kind values.numbers
 content_of (TextContent t) = asked.Bytes t
 content_of (TextsContent ts) = asked.Strings ts
+content_of (NoPairs key value) = asked.NoPairs key value
 
 abbrev pub command_of : Command → asked.Command
 command_of (Construct key content) = asked.Construct (new_key_seen key) (content_of content)
@@ -70,6 +71,9 @@ command_of (Shrink key) = asked.Shrink (key_seen key)
 command_of (Clear key) = asked.Clear (key_seen key)
 command_of (Assign key values) = asked.Assign (key_seen key) values
 command_of (Append key t) = asked.Append (key_seen key) t
+command_of (Put key at value) = asked.Put (key_seen key) (literal_of at) (literal_of value)
+command_of (Lookup key at) = asked.Lookup (key_seen key) (literal_of at)
+command_of (Remove key at) = asked.Remove (key_seen key) (literal_of at)
 command_of ListNames = asked.ListNames
 command_of ListKinds = asked.ListKinds
 command_of Blocks = asked.ListBlocks
@@ -116,6 +120,9 @@ reader_of form.Shrink = with_key asked.Shrink key_of
 reader_of form.Clear = with_key asked.Clear key_of
 reader_of form.Assign = assigning
 reader_of form.Append = appending
+reader_of form.Put = putting
+reader_of form.Lookup = with_key_literal asked.Lookup
+reader_of form.Remove = with_key_literal asked.Remove
 reader_of form.ListNames = alone asked.ListNames
 reader_of form.ListKinds = alone asked.ListKinds
 reader_of form.Blocks = alone asked.ListBlocks

@@ -5,7 +5,7 @@ use crate::lists::{Literals, Texts};
 use crate::literals::Literal;
 use crate::values::Values;
 use crate::words::Quoted;
-use seg_types::{Handle, IndexKey, Key, Kind, NewKey, ScalarValue};
+use seg_types::{Handle, IndexKey, Key, Kind, NewKey, ScalarKind, ScalarValue};
 
 /// What an object is made with.
 #[derive(Drop)]
@@ -23,6 +23,13 @@ pub enum Content<'a> {
     Text(Quoted<'a>),
     /// The elements of a vector of strings.
     Texts(Texts<'a>),
+    /// A map without pairs.
+    NoPairs {
+        /// The kind of its keys.
+        key: ScalarKind,
+        /// The kind of its values.
+        value: ScalarKind,
+    },
 }
 
 /// What a line asks for.
@@ -131,6 +138,29 @@ pub enum Command<'a> {
         key: Key,
         /// The bytes.
         text: Quoted<'a>,
+    },
+    /// Put a pair into a map, in the place of the one with the same key.
+    Put {
+        /// The map.
+        key: Key,
+        /// The pair's key.
+        at: Literal<'a>,
+        /// The pair's value.
+        value: Literal<'a>,
+    },
+    /// Print the value that stands at a key of a map.
+    Lookup {
+        /// The map.
+        key: Key,
+        /// The pair's key.
+        at: Literal<'a>,
+    },
+    /// Take a pair out of a map.
+    Remove {
+        /// The map.
+        key: Key,
+        /// The pair's key.
+        at: Literal<'a>,
     },
     /// Print the named objects by name.
     ListNames,

@@ -1,13 +1,14 @@
 //! What an object is made with, as a line writes it.
 
-ghost use Rattle.std.specs.Prelude.{◌≡◌, IsTrue, option_and_then, option_map};
-ghost use Rattle.seg_types.specs.Commands.{Bytes, Elements, Strings};
+ghost use Rattle.std.specs.Prelude.{◌≡◌, Some, None, option_and_then, option_map, if◌then◌else◌};
+ghost use Rattle.seg_types.specs.Commands.{Bytes, Elements, NoPairs, Strings};
 ghost use Rattle.segment_lang.specs.Words.{words};
-ghost use Rattle.segment_lang.specs.Tokens.{only_word};
+ghost use Rattle.segment_lang.specs.Tokens.{at_end, only_word};
 ghost use Rattle.segment_lang.specs.Reading.{content, quoted_of};
-ghost use Rattle.segment_lang.specs.Arguments.{is_readable, numbers_at, scalar_at, texts_at};
+ghost use Rattle.segment_lang.specs.Arguments.{numbers_at, scalar_at, texts_at};
 ghost use Rattle.segment_lang.specs.Seen.{content_of};
 
+use crate::blanks::at_end;
 use crate::commands::Content;
 use crate::lists::read_texts;
 use crate::literals::{quoted_of, scalar_of};
@@ -50,9 +51,18 @@ fn read_strings(bytes: &[u8]) -> Option<Content<'_>>
     Some(Content::Texts(texts))
 }
 
+/// Nothing: a map begins without pairs.
+fn read_no_pairs(key: ScalarKind, value: ScalarKind, bytes: &[u8]) -> Option<Content<'_>>
+    ensures { option_map content_of result ≡ (if at_end bytes.now then Some (NoPairs key value) else None) }
+{
+    if !at_end(bytes) {
+        return None;
+    }
+    Some(Content::NoPairs { key, value })
+}
+
 /// What an object of the kind is made with.
 pub fn read_content(kind: Kind, count: u32, bytes: &[u8]) -> Option<Content<'_>>
-    requires { IsTrue (is_readable kind) }
     ensures { option_map content_of result ≡ option_and_then (content kind count) (words bytes.now) }
 {
     match kind {
@@ -60,6 +70,6 @@ pub fn read_content(kind: Kind, count: u32, bytes: &[u8]) -> Option<Content<'_>>
         Kind::Vector(kind) => read_vector(kind, bytes),
         Kind::Text => read_string(bytes),
         Kind::Texts => read_strings(bytes),
-        Kind::Map(_, _) => unreachable!(),
+        Kind::Map(key, value) => read_no_pairs(key, value, bytes),
     }
 }

@@ -1,8 +1,9 @@
 //! Command words, and the form of what stands behind each.
 
 ghost use Rattle.std.specs.Prelude.{◌≡◌, option_and_then, option_map, map};
+ghost use Rattle.raw_region.specs.Format.{current};
 ghost use Rattle.segment_lang.specs.Words.{words};
-ghost use Rattle.segment_lang.specs.Language.{supported};
+ghost use Rattle.segment_lang.specs.Language.{whole};
 ghost use Rattle.segment_lang.specs.Reading.{form_of};
 ghost use Rattle.segment_lang.specs.Seen.{command_of, found_in, reader_of};
 
@@ -12,6 +13,7 @@ use crate::elements::{
     read_reserve, read_shrink,
 };
 use crate::literals::is;
+use crate::pairs::{read_lookup, read_put, read_remove};
 use crate::readers::{
     read_alone, read_construct, read_construct_it, read_destroy, read_destroy_ptr, read_find,
     read_find_or_construct, read_get, read_info, read_reserve_named, read_reserve_unique, read_set,
@@ -59,6 +61,12 @@ pub enum CommandForm {
     Assign,
     /// A key and a text.
     Append,
+    /// A key and two values.
+    Put,
+    /// A key and a value.
+    Lookup,
+    /// A key and a value.
+    Remove,
     /// Nothing: the word alone is the command.
     ListNames,
     /// Nothing: the word alone is the command.
@@ -88,7 +96,7 @@ pub enum CommandForm {
 }
 
 /// The command words, each with its form.
-const FORMS: [(&[u8], CommandForm); 32] = [
+const FORMS: [(&[u8], CommandForm); 35] = [
     (b"construct", CommandForm::Construct),
     (b"construct_it", CommandForm::ConstructIt),
     (b"find", CommandForm::Find),
@@ -108,6 +116,9 @@ const FORMS: [(&[u8], CommandForm); 32] = [
     (b"clear", CommandForm::Clear),
     (b"assign", CommandForm::Assign),
     (b"append", CommandForm::Append),
+    (b"put", CommandForm::Put),
+    (b"lookup", CommandForm::Lookup),
+    (b"remove", CommandForm::Remove),
     (b"list", CommandForm::ListNames),
     (b"unique", CommandForm::ListKinds),
     (b"blocks", CommandForm::Blocks),
@@ -132,14 +143,14 @@ fn find_form(rows: &[(&[u8], CommandForm)], word: &[u8]) -> Option<CommandForm>
 
 /// The form of a command word. `None` is a word that is none.
 pub fn form_of(word: &[u8]) -> Option<CommandForm>
-    ensures { option_map reader_of result ≡ option_map (λ form. form.1) (form_of supported word.now) }
+    ensures { option_map reader_of result ≡ option_map (λ form. form.1) (form_of word.now) }
 {
     find_form(&FORMS, word)
 }
 
 /// The command of what stands behind a command word of this form.
 pub fn read_command(form: CommandForm, bytes: &[u8]) -> Option<Command<'_>>
-    ensures { option_map command_of result ≡ option_and_then (reader_of form supported) (words bytes.now) }
+    ensures { option_map command_of result ≡ option_and_then (reader_of form (whole current)) (words bytes.now) }
 {
     match form {
         CommandForm::Construct => read_construct(bytes),
@@ -161,6 +172,9 @@ pub fn read_command(form: CommandForm, bytes: &[u8]) -> Option<Command<'_>>
         CommandForm::Clear => read_clear(bytes),
         CommandForm::Assign => read_assign(bytes),
         CommandForm::Append => read_append(bytes),
+        CommandForm::Put => read_put(bytes),
+        CommandForm::Lookup => read_lookup(bytes),
+        CommandForm::Remove => read_remove(bytes),
         CommandForm::ListNames => read_alone(Command::ListNames, bytes),
         CommandForm::ListKinds => read_alone(Command::ListKinds, bytes),
         CommandForm::Blocks => read_alone(Command::Blocks, bytes),

@@ -5,7 +5,7 @@ ghost use Rattle.raw_region.specs.Format.{current};
 ghost use Rattle.seg_types.specs.Names.{is_name};
 ghost use Rattle.seg_types.specs.Keys.{index_key_seen, key_seen, new_key_seen};
 ghost use Rattle.segment_lang.specs.Words.{is_bare_name};
-ghost use Rattle.segment_lang.specs.Language.{supported};
+ghost use Rattle.segment_lang.specs.Language.{whole};
 ghost use Rattle.segment_lang.specs.Reading.{agrees, for_kind, key_of, name_key, new_key};
 ghost use Rattle.segment_lang.specs.Arguments.{handle_of};
 ghost use Rattle.segment_lang.specs.Seen.{word_of};
@@ -29,7 +29,7 @@ fn bare_name(word: &[u8]) -> Option<Name>
 
 /// The entry of an index: a name, or `@` and a kind.
 pub fn index_key(word: Word<'_>) -> Option<IndexKey>
-    ensures { option_map index_key_seen result ≡ name_key supported (word_of word.entry) }
+    ensures { option_map index_key_seen result ≡ name_key (whole current) (word_of word.entry) }
 {
     match word {
         Word::Bare([b'@', kind @ ..]) => Some(IndexKey::Unique(kind_named(kind)?)),
@@ -50,7 +50,7 @@ fn agrees(kind: Kind, key: &IndexKey) -> bool
 
 /// The entry that a word is, where it may hold an object of the kind.
 pub fn index_key_for(kind: Kind, word: Word<'_>) -> Option<IndexKey>
-    ensures { option_map index_key_seen result ≡ for_kind kind (name_key supported (word_of word.entry)) }
+    ensures { option_map index_key_seen result ≡ for_kind kind (name_key (whole current) (word_of word.entry)) }
 {
     let key = index_key(word)?;
     if !agrees(kind, &key) {
@@ -61,7 +61,7 @@ pub fn index_key_for(kind: Kind, word: Word<'_>) -> Option<IndexKey>
 
 /// The key that a new object of the kind gets: an entry, or `-`.
 pub fn new_key_for(kind: Kind, word: Word<'_>) -> Option<NewKey>
-    ensures { option_map new_key_seen result ≡ for_kind kind (new_key supported (word_of word.entry)) }
+    ensures { option_map new_key_seen result ≡ for_kind kind (new_key (whole current) (word_of word.entry)) }
 {
     match word {
         Word::Bare(word) if is(word, b"-") => Some(NewKey::Anonymous),
@@ -81,7 +81,7 @@ pub fn handle_of(word: Word<'_>) -> Option<Handle>
 
 /// The key of an object: its entry, or `#` and its handle.
 pub fn key_of(word: Word<'_>) -> Option<Key>
-    ensures { option_map key_seen result ≡ key_of supported (word_of word.entry) }
+    ensures { option_map key_seen result ≡ key_of (whole current) (word_of word.entry) }
 {
     match word {
         Word::Bare([b'#', digits @ ..]) => Some(Key::Handle(number_of(digits)?)),

@@ -1,10 +1,10 @@
 //! Kinds as a line writes them.
 
-ghost use Rattle.std.specs.Prelude.{◌≡◌, ◌==◌, ◌+◌, not, length, map, drop, take, take_while, option_map, Some, None, IsTrue, IfSome, slice_index};
+ghost use Rattle.std.specs.Prelude.{◌≡◌, ◌==◌, ◌+◌, not, length, map, drop, take, take_while, option_map, Some, None, slice_index};
+ghost use Rattle.raw_region.specs.Format.{current};
 ghost use Rattle.segment_lang.specs.Words.{Bare};
-ghost use Rattle.segment_lang.specs.Language.{supported};
+ghost use Rattle.segment_lang.specs.Language.{whole};
 ghost use Rattle.segment_lang.specs.Reading.{bracketed, counted, counted_kind, kind_named, kind_of_word};
-ghost use Rattle.segment_lang.specs.Arguments.{is_readable};
 ghost use Rattle.segment_lang.specs.Seen.{found_in, word_of};
 
 use crate::literals::is;
@@ -15,19 +15,66 @@ use seg_types::{Kind, ScalarKind};
 /// The most elements that an array has.
 const MOST_ELEMENTS: u64 = 1048576;
 
-/// The kinds that have come, each behind how it is printed.
-const KINDS: [(&[u8], Kind); 11] = [
+/// The kinds, each behind how it is printed.
+const KINDS: [(&[u8], Kind); 37] = [
     (b"bool", Kind::Scalar(ScalarKind::Bool)),
     (b"u8", Kind::Scalar(ScalarKind::U8)),
     (b"i32", Kind::Scalar(ScalarKind::I32)),
     (b"i64", Kind::Scalar(ScalarKind::I64)),
     (b"u64", Kind::Scalar(ScalarKind::U64)),
     (b"string", Kind::Text),
+    (b"vec<string>", Kind::Texts),
     (b"vec<bool>", Kind::Vector(ScalarKind::Bool)),
     (b"vec<u8>", Kind::Vector(ScalarKind::U8)),
     (b"vec<i32>", Kind::Vector(ScalarKind::I32)),
     (b"vec<i64>", Kind::Vector(ScalarKind::I64)),
     (b"vec<u64>", Kind::Vector(ScalarKind::U64)),
+    (
+        b"map<bool,bool>",
+        Kind::Map(ScalarKind::Bool, ScalarKind::Bool),
+    ),
+    (b"map<bool,u8>", Kind::Map(ScalarKind::Bool, ScalarKind::U8)),
+    (
+        b"map<bool,i32>",
+        Kind::Map(ScalarKind::Bool, ScalarKind::I32),
+    ),
+    (
+        b"map<bool,i64>",
+        Kind::Map(ScalarKind::Bool, ScalarKind::I64),
+    ),
+    (
+        b"map<bool,u64>",
+        Kind::Map(ScalarKind::Bool, ScalarKind::U64),
+    ),
+    (b"map<u8,bool>", Kind::Map(ScalarKind::U8, ScalarKind::Bool)),
+    (b"map<u8,u8>", Kind::Map(ScalarKind::U8, ScalarKind::U8)),
+    (b"map<u8,i32>", Kind::Map(ScalarKind::U8, ScalarKind::I32)),
+    (b"map<u8,i64>", Kind::Map(ScalarKind::U8, ScalarKind::I64)),
+    (b"map<u8,u64>", Kind::Map(ScalarKind::U8, ScalarKind::U64)),
+    (
+        b"map<i32,bool>",
+        Kind::Map(ScalarKind::I32, ScalarKind::Bool),
+    ),
+    (b"map<i32,u8>", Kind::Map(ScalarKind::I32, ScalarKind::U8)),
+    (b"map<i32,i32>", Kind::Map(ScalarKind::I32, ScalarKind::I32)),
+    (b"map<i32,i64>", Kind::Map(ScalarKind::I32, ScalarKind::I64)),
+    (b"map<i32,u64>", Kind::Map(ScalarKind::I32, ScalarKind::U64)),
+    (
+        b"map<i64,bool>",
+        Kind::Map(ScalarKind::I64, ScalarKind::Bool),
+    ),
+    (b"map<i64,u8>", Kind::Map(ScalarKind::I64, ScalarKind::U8)),
+    (b"map<i64,i32>", Kind::Map(ScalarKind::I64, ScalarKind::I32)),
+    (b"map<i64,i64>", Kind::Map(ScalarKind::I64, ScalarKind::I64)),
+    (b"map<i64,u64>", Kind::Map(ScalarKind::I64, ScalarKind::U64)),
+    (
+        b"map<u64,bool>",
+        Kind::Map(ScalarKind::U64, ScalarKind::Bool),
+    ),
+    (b"map<u64,u8>", Kind::Map(ScalarKind::U64, ScalarKind::U8)),
+    (b"map<u64,i32>", Kind::Map(ScalarKind::U64, ScalarKind::I32)),
+    (b"map<u64,i64>", Kind::Map(ScalarKind::U64, ScalarKind::I64)),
+    (b"map<u64,u64>", Kind::Map(ScalarKind::U64, ScalarKind::U64)),
 ];
 
 /// The kind of the first row of a word.
@@ -39,15 +86,14 @@ fn find_kind(rows: &[(&[u8], Kind)], word: &[u8]) -> Option<Kind>
 
 /// The kind that is printed so.
 pub fn kind_named(word: &[u8]) -> Option<Kind>
-    ensures named { result ≡ kind_named supported word.now }
-    ensures readable { IfSome result (λ kind. IsTrue (is_readable kind)) }
+    ensures { result ≡ kind_named (whole current) word.now }
 {
     find_kind(&KINDS, word)
 }
 
 /// The kind that a word is.
 pub fn kind_of_word(word: Word<'_>) -> Option<Kind>
-    ensures { result ≡ kind_of_word supported (word_of word.entry) }
+    ensures { result ≡ kind_of_word (whole current) (word_of word.entry) }
 {
     match word {
         Word::Bare(word) => kind_named(word),
@@ -86,8 +132,7 @@ fn bracketed(word: &[u8]) -> Option<u64>
 
 /// A scalar kind and a number of elements from 1 to 1048576.
 fn counted(kind: Kind, count: Option<u64>) -> Option<(Kind, u32)>
-    ensures value { result ≡ counted kind count }
-    ensures readable { IfSome result (λ kind. IsTrue (is_readable kind.0)) }
+    ensures { result ≡ counted kind count }
 {
     let Kind::Scalar(_) = kind else {
         return None;
@@ -101,8 +146,7 @@ fn counted(kind: Kind, count: Option<u64>) -> Option<(Kind, u32)>
 
 /// The kind that a bare word is, and how many elements stand in brackets behind it: without them 1.
 fn counted_name(word: &[u8]) -> Option<(Kind, u32)>
-    ensures value { result ≡ counted_kind supported (Bare word.now) }
-    ensures readable { IfSome result (λ kind. IsTrue (is_readable kind.0)) }
+    ensures { result ≡ counted_kind (whole current) (Bare word.now) }
 {
     if let Some(kind) = kind_named(word) {
         return Some((kind, 1));
@@ -114,8 +158,7 @@ fn counted_name(word: &[u8]) -> Option<(Kind, u32)>
 
 /// The kind of the objects that are to be made, and how many elements each has.
 pub fn counted_kind(word: Word<'_>) -> Option<(Kind, u32)>
-    ensures value { result ≡ counted_kind supported (word_of word.entry) }
-    ensures readable { IfSome result (λ kind. IsTrue (is_readable kind.0)) }
+    ensures { result ≡ counted_kind (whole current) (word_of word.entry) }
 {
     match word {
         Word::Bare(word) => counted_name(word),

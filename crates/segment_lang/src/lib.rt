@@ -20,6 +20,7 @@ mod commands;
 mod elements;
 mod forms;
 mod line;
+mod pairs;
 mod readers;
 
 // Answers.

@@ -1,7 +1,8 @@
 //! Lines.
 
 ghost use Rattle.std.specs.Prelude.{◌≡◌, ◌==◌, slice_index};
-ghost use Rattle.segment_lang.specs.Language.{supported};
+ghost use Rattle.raw_region.specs.Format.{current};
+ghost use Rattle.segment_lang.specs.Language.{whole};
 ghost use Rattle.segment_lang.specs.Reading.{command_line, reading, without_return};
 ghost use Rattle.segment_lang.specs.Seen.{reading_of};
 
@@ -36,7 +37,7 @@ fn is_comment(line: &[u8]) -> bool
 /// What a line means that has no blank in front, is not too long and is no comment. The first word
 /// decides which form the others must have.
 fn read_words(line: &[u8]) -> Reading<'_>
-    ensures { reading_of result ≡ command_line supported line.now }
+    ensures { reading_of result ≡ command_line (whole current) line.now }
 {
     if line.is_empty() {
         return Reading::Nothing;
@@ -55,7 +56,7 @@ fn read_words(line: &[u8]) -> Reading<'_>
 /// dropped.
 #[tactic(auto, unfolding(crate::specs::Reading::reading))]
 pub fn parse_line(line: &[u8]) -> Reading<'_>
-    ensures { reading_of result ≡ reading supported line.now }
+    ensures { reading_of result ≡ reading (whole current) line.now }
 {
     let line = without_return(line);
     if line.len() > LONGEST_LINE {

@@ -24,7 +24,7 @@ pub fn printed_texts_are_read()
     ensures { PrintedTextsAreRead }
 {}
 
-/// A kind that has come and is printed is read as the kind.
+/// A kind of the language that is printed is read as the kind.
 pub fn printed_kinds_are_read()
     ensures { PrintedKindsAreRead }
 {}

@@ -2,6 +2,7 @@
 use Rattle.std.proofs.Common.{◌≡◌, refl, sym, ap, ◌∙◌, ℕ, ℤ, pos, true, false, Option, Some, None, Result, Ok, Err, List, map}
 use Rattle.std.specs.Prelude.{is_some, slice_set}
 use Rattle.std.proofs.lemmas.Bool.{eq-eqb}
+use Rattle.std.proofs.lemmas.Option.{same_Some}
 use Rattle.raw_region.specs.Format.{current}
 use Rattle.seg_types.specs.declared.kinds.Kind.{Kind}
 use Rattle.seg_types.specs.declared.kinds.Kind.TheVariants.{Scalar as ScalarOf, Text as TextKind, Vector as VectorKind, Map as MapKind, Texts as TextsKind}
@@ -24,7 +25,7 @@ use Rattle.segment_manager.specs.Calls.{elements_at, elements_of, kind_at, scala
 use Rattle.segment_manager.specs.Directory.{Value, Numbers, Elements, Bytes, Pairs, Texts, Object, Directory, kind_of, live, object_at}
 use Rattle.segment_manager.specs.Found.{handle_at, is_object_at}
 use Rattle.segment_manager.specs.Plan.{Plan, Refuse, Reply, perform, with}
-use Rattle.segment_manager.specs.State.{Answers, IsReply, IsReplyOfKind, IsStep, State}
+use Rattle.segment_manager.specs.State.{Answers, IsReply, IsReplyOfKind, IsStep, State, StandsFor}
 use Rattle.segment_manager.specs.Step.{changed, effect, element_at, get, is_read_only, set, step, with_items}
 use Rattle.segment_manager.proofs.AnyStorage.{IsOfKindAt, kind-told}
 use Rattle.segment_manager.proofs.Bridge.{by-handle}
@@ -32,7 +33,6 @@ use Rattle.segment_manager.proofs.Here.{IsHere, here, nothing-here}
 use Rattle.segment_manager.proofs.Refilled.{refused-steps}
 use Rattle.segment_manager.proofs.Steps.{open-reading, step-plan, step-refuse, step_of_kind-step, with-found, with-not_found}
 use Rattle.segment_manager.proofs.Stored.{literal-read}
-use Rattle.segment_manager.proofs.Supported.{HasNoTexts, no-texts}
 use Rattle.segment_manager.proofs.VectorLiterals.{same_plan-steps}
 
 -- ---- what an object says of its elements
@@ -94,6 +94,10 @@ machine-if : (mode : Mode) (d : Directory) (key : Key) (i : ℕ) (q : Result Sca
 machine-if mode d key i (Ok k) n e = refl
 machine-if mode d key i (Err r) n e = sym (ap (λ (x : Answer × Directory). x.0) (step-not_read mode d key i r n (has-none d key r (sym e))))
 
+-- the object of a key is no vector of texts
+abbrev pub HasNoTexts : State → Key → Type 0
+HasNoTexts s key = (d : Directory) → StandsFor s.cut.bytes d → (o : Object) → object_at d key ≡ Some o → kind_of o.value ≡ TextsKind → ⊥
+
 -- a call that reads scalars alone answers as the machine where there are no texts
 pub scalars-replies : (s : State) (key : Key) (i : ℕ) (answer : Answer) → HasNoTexts s key → Answers s (λ d. scalar_reply s.mode d key (asked.Get key i)) answer → IsReply s (asked.Get key i) answer
 scalars-replies s key i answer n r = record { answers = λ d l. r.answers d l ∙ machine-if s.mode d key i (elements_at d key) (n d l) refl }
@@ -145,12 +149,8 @@ by_handle-replies s key h i answer a r = record {
 }
 
 -- no object has the key
-pub any-missing : (s : State) (key : Key) (i : ℕ) → Answers s (λ d. handle_at d key) None → IsReply s (asked.Get key i) (Refused NotFound)
-any-missing s key i a = record {
-  answers = λ d l.
-      sym (ap (λ (x : Answer × Directory). x.0)
-      (step-refuse s.mode d (asked.Get key i) NotFound (open-reading s.mode (asked.Get key i) refl) (with-not_found d key (λ o. get d o.value i) (nothing-here d key (a.answers d l)))));
-}
+pub any-missing : (s : State) (key : Key) (c : Command) → Answers s (λ d. handle_at d key) None → Answers s (λ d. scalar_reply s.mode d key c) (Refused NotFound)
+any-missing s key c a = record { answers = λ d l. sym (ap (reply_of s.mode d c) (ap elements_in (nothing-here d key (a.answers d l)))) }
 
 -- an object that is found by a key is found by its handle
 pub found-object : (s : State) (key : Key) (h : ℕ) → Answers s (λ d. handle_at d key) (Some h) → Answers s (λ d. is_object_at d h) true
@@ -252,6 +252,14 @@ pub scalars-nowhere : (s : State) (key : Key) (i : ℕ) (l : Literal) (r : Refus
 scalars-nowhere s key i l r n a writing =
     refused-steps s (asked.Set key i l) r writing (λ d w. ap (perform d (live d)) (effect-not_set d key i l r (n d w) (has-none d key r (a.answers d w))))
 
--- there are no texts yet
-pub any-nowhere : (s : State) (key : Key) (i : ℕ) (l : Literal) (r : Refusal) → Answers s (λ d. elements_at d key) (Err r) → is_read_only s.mode ≡ false → IsStep s s (asked.Set key i l) (Refused r)
-any-nowhere s key i l r a writing = scalars-nowhere s key i l r (no-texts s key) a writing
+-- ---- objects of other kinds than texts
+
+not-both : (a b : Kind) → a ≡ b → (b ≡ TextsKind → ⊥) → a ≡ TextsKind → ⊥
+not-both a b e n f = n (sym e ∙ f)
+
+-- the object of the key says another kind
+pub kind-no_texts : (s : State) (key : Key) (kind : Kind) → Answers s (λ d. kind_at d key) (Ok kind) → (kind ≡ TextsKind → ⊥) → HasNoTexts s key
+kind-no_texts s key kind a n d l o e =
+    let k : IsOfKindAt d key kind = kind-told d key kind (a.answers d l) in
+    let same : k.object ≡ o = same_Some k.object o (sym k.is ∙ e) in
+    not-both (kind_of o.value) kind (ap (λ (p : Object). kind_of p.value) (sym same) ∙ k.kind_is) n

@@ -110,19 +110,23 @@ measures-nowhere s key why a = record {
       ap Err (sym n.1) ∙ sym (ap (λ (q : Option Object). elim q as (λ _. Result (ℕ × ℕ) Refusal) [ None ↦ Err NotFound | Some o ↦ sizes_of o.value ]) n.0);
 }
 
-no-sizes : (v : Value) → has_storage (kind_of v) ≡ false → sizes_of v ≡ Err WrongKind
+-- whether objects of a kind are containers
+abbrev pub has_sizes : Kind → Bool
+has_sizes k = elim k [ ScalarOf l ↦ false | TextKind ↦ true | VectorKind l ↦ true | MapKind l m ↦ true | TextsKind ↦ true ]
+
+no-sizes : (v : Value) → has_sizes (kind_of v) ≡ false → sizes_of v ≡ Err WrongKind
 no-sizes (Numbers k zs) h = refl
 no-sizes (Elements k zs t) h = absurd (cc)
 no-sizes (Bytes bs t) h = absurd (cc)
-no-sizes (Pairs k v ps) h = refl
+no-sizes (Pairs k v ps) h = absurd (cc)
 no-sizes (Texts ps t) h = absurd (cc)
 
--- it has no storage
-pub measures-other : (s : State) (key : Key) (kind : Kind) → has_storage kind ≡ false → Answers s (λ d. kind_at d key) (Ok kind) → Answers s (λ d. sizes_at d key) (Err WrongKind)
+-- it is no container
+pub measures-other : (s : State) (key : Key) (kind : Kind) → has_sizes kind ≡ false → Answers s (λ d. kind_at d key) (Ok kind) → Answers s (λ d. sizes_at d key) (Err WrongKind)
 measures-other s key kind h a = record {
   answers = λ d l.
       let e : IsOfKindAt d key kind = kind-told d key kind (a.answers d l) in
-      sym (no-sizes e.object.value (ap has_storage e.kind_is ∙ h))
+      sym (no-sizes e.object.value (ap has_sizes e.kind_is ∙ h))
       ∙ sym (ap (λ (q : Option Object). elim q as (λ _. Result (ℕ × ℕ) Refusal) [ None ↦ Err NotFound | Some o ↦ sizes_of o.value ]) e.is);
 }
 
@@ -135,3 +139,11 @@ otherwise-no_storage TextKind n p m = absurd (n refl)
 otherwise-no_storage (VectorKind k) n p m = absurd (m k refl)
 otherwise-no_storage (MapKind k v) n p m = refl
 otherwise-no_storage TextsKind n p m = absurd (p refl)
+
+-- nor a map: it is no container
+pub otherwise-no_sizes : (kind : Kind) → (kind ≡ TextKind → ⊥) → (kind ≡ TextsKind → ⊥) → ((k : ScalarKind) → kind ≡ VectorKind k → ⊥) → ((k v : ScalarKind) → kind ≡ MapKind k v → ⊥) → has_sizes kind ≡ false
+otherwise-no_sizes (ScalarOf k) n p m q = refl
+otherwise-no_sizes TextKind n p m q = absurd (n refl)
+otherwise-no_sizes (VectorKind k) n p m q = absurd (m k refl)
+otherwise-no_sizes (MapKind k v) n p m q = absurd (q k v refl)
+otherwise-no_sizes TextsKind n p m q = absurd (p refl)

@@ -44,7 +44,6 @@ use Rattle.segment_manager.proofs.NewBlocks.{allocated-serves}
 use Rattle.segment_manager.proofs.NewKeys.{equal-good, key-seeks}
 use Rattle.segment_manager.proofs.Numbers.{no_key-none, numbers-good, numbers-plain, numbers_in}
 use Rattle.segment_manager.proofs.Steps.{perform-new, perform-no_space}
-use Rattle.segment_manager.proofs.Supported.{supported-with}
 use Rattle.segment_manager.proofs.Taking.{IsReady, ready, written-taken}
 
 -- ---- without a key
@@ -67,7 +66,6 @@ anonymous-new a c d k zs n h said good len r =
       count = refl;
       met = λ next. perform-new d (live d) ObjectRole (object_len [] (Numbers k zs)) (λ y. next (numbers_in k zs y) (with_object d (numbers_in k zs y))) x placed;
       denotes = denotes-allocated current a c d o n h said took refl (numbers-good current k zs x good serving) (numbers-plain k zs x) (r.said x took.at);
-      supported = λ s. supported-with d o s refl;
     }
 
 pub anonymous-none : (a c : Cut) (d : Directory) (k : ScalarKind) (zs : List ℤ) (n : ℕ) → Denotes current a.bytes d → n ≡ object_len [] (Numbers k zs) → IsRefused a c n ObjectRole

@@ -29,7 +29,6 @@ use Rattle.segment_manager.specs.Directory.{Value, Numbers, Object, Directory, c
 use Rattle.segment_manager.specs.Indexed.{class_of_index, entries_of, objects_of, table_of, with_table_of}
 use Rattle.segment_manager.specs.NewObjects.{FindsNone, IsAddedObject, IsNewKey, IsNewKeyOf, IsRequested, IsRestored, IsUnmet}
 use Rattle.segment_manager.specs.Plan.{Plan, New, Request, bare, class_of, name_of, perform, with_entry, with_new_object, with_value}
-use Rattle.segment_manager.specs.Supported.{is_supported, is_supported_object, is_supported_value}
 use Rattle.seg_types.specs.declared.refusals.Refusal.TheVariants.{NoSpace}
 use Rattle.segment_manager.proofs.Added.{IsEntered, entered-denotes, entered-none, entered-some, grown_into, place-low}
 use Rattle.segment_manager.proofs.Bridge.{entry-added, lookup-absent}
@@ -41,7 +40,6 @@ use Rattle.segment_manager.proofs.NewBlocks.{allocated-serves}
 use Rattle.segment_manager.proofs.NewKeys.{key-class, key-has, key-name, key-object, key-own, key-seeks, object_of}
 use Rattle.segment_manager.proofs.Requests.{entry-grows, entry-refused, entry-room}
 use Rattle.segment_manager.proofs.Steps.{perform-new, perform-no_space}
-use Rattle.segment_manager.proofs.Supported.{supported-with}
 use Rattle.segment_manager.proofs.Tables.{same-table}
 use Rattle.segment_manager.proofs.Taking.{growth-index, place-high, written-taken}
 
@@ -54,7 +52,6 @@ pub record IsNewObject (new : Cut) (d : Directory) (key : names.Key) (content : 
   pub count : count_of object.value ≡ count_of (bare content)
   pub met : (next : Object → Directory → Plan) → perform d (live d) (with_new_object d key content next) ≡ perform d left (next object after)
   pub denotes : Denotes current new.bytes after
-  pub supported : IsTrue (is_supported d) → IsTrue (is_supported after)
 
 -- a request is refused, and so the machine refuses
 pub record IsNoObject (new : Cut) (d : Directory) (key : names.Key) (content : Content) : Type 0 where
@@ -159,10 +156,6 @@ content-plan i d key name content next e f = λ j.
     with_entry d (e j) (λ dir. Request (New ObjectRole (object_len (f j) (bare content))) (λ x.
     with_value content (λ v. let o : Object = record { class = e j; name = f j; value = v; extent = x } in next o (with_object dir o))))
 
-supported-more : (i : Index) (d : Directory) (t : Table) (o : Object) → IsTrue (is_supported d) → IsTrue (is_supported_object o) → IsTrue (is_supported (with_object (with_table_of i d t) o))
-supported-more index.Named d t o h s = supported-with d o h s
-supported-more index.Unique d t o h s = supported-with d o h s
-
 -- ---- both together
 
 -- an entry that leads to a handle was made in an index
@@ -211,9 +204,9 @@ module _ (i : Index) (a : Cut) (d : Directory) (e : Key) (key : names.Key) (name
 
   -- the object is made, and its entry is added
   pub content-entered : (b w c : Cut) (x : Extent) (v : Value) (left : LiveSet) (at h : ℕ) (g : Option ℕ) → IsGrowth a b (place_of i) g → place (live_of b.bytes) (object_len name (bare content)) ObjectRole ≡ Some x
-      → IsGiven d (resized (live_of b.bytes) x) content v left → kind_of v ≡ kind → count_of v ≡ count_of (bare content) → IsTrue (is_supported_value v) → IsMade b w (object_of i name v x) → h ≡ handle x
+      → IsGiven d (resized (live_of b.bytes) x) content v left → kind_of v ≡ kind → count_of v ≡ count_of (bare content) → IsMade b w (object_of i name v x) → h ≡ handle x
       → IsPlace (bytes_of a.bytes) e (entries_of i d) (Absent at) → IsLed i w c at h g → IsNewObject c d key content h
-  content-entered b w c x v left at h g grows placed given is_kind counts come made is away led =
+  content-entered b w c x v left at h g grows placed given is_kind counts made is away led =
       let o : Object = object_of i name v x in
       let new' : IsNewKeyOf i e key name (kind_of v) = subst (IsNewKeyOf i e key name) (sym is_kind) new in
       let stands = denotes-index i a d said in
@@ -235,7 +228,6 @@ module _ (i : Index) (a : Cut) (d : Directory) (e : Key) (key : names.Key) (name
             content-met b x v left g grows placed given next
             ∙ ap (λ dir. perform d left (next o (with_object dir o))) (grown-is i d a b g grows);
         denotes = entered-denotes i a w c d t o said (grows-keeps i a b w d g said grows made.taken.keeps) made.good made.at refl (key-own i e key name v d x new' none) there;
-        supported = λ s. supported-more i d t o s come;
       }
 
 -- ---- numbers
@@ -251,7 +243,7 @@ module _ (i : Index) (a : Cut) (d : Directory) (e : Key) (key : names.Key) (name
       let made : IsMade r.requested.between r.written (object_of i name (Numbers k zs) x) =
       record { good = key-object i e key name (Numbers k zs) x new refl good serving; taken = requested-taken r.requested.between r.written n ObjectRole h took; at = r.said x took.at } in
       content-entered i a d e key name (Scalar k) (asked.Numbers k zs) said new r.requested.between r.written c x (Numbers k zs) (resized (live_of r.requested.between.bytes) x) at h r.growth r.requested.grows
-      (ap (λ m. place (live_of r.requested.between.bytes) m ObjectRole) (sym len) ∙ took.placed) (numbers-given d (resized (live_of r.requested.between.bytes) x) k zs) refl refl refl made took.at away
+      (ap (λ m. place (live_of r.requested.between.bytes) m ObjectRole) (sym len) ∙ took.placed) (numbers-given d (resized (live_of r.requested.between.bytes) x) k zs) refl refl made took.at away
       (record { adds = r.adds; live = r.live; keeps = r.keeps })
 
   -- a request is refused

@@ -37,7 +37,7 @@ constructs old new key content h writing place each =
       is = step-plan old.mode d (asked.Construct key content) (with_new_object d key content (λ o e. Reply (Made (handle o.extent)) e)) (open-writing old.mode (asked.Construct key content) writing)
           (effect-new d key content both.0) ∙ n.met (λ o e. Reply (Made (handle o.extent)) e) ∙ (λ j. (Made (sym n.at j), n.after));
       denotes = n.denotes;
-    }) (n.supported k.supported))
+    }))
 
 -- a request is refused
 pub constructs-none : (old : State) (new : Cut) (key : Key) (content : Content) → is_read_only old.mode ≡ false → SamePlace old.cut new
@@ -50,7 +50,7 @@ constructs-none old new key content writing place each =
       is = step-plan old.mode d (asked.Construct key content) (with_new_object d key content (λ o e. Reply (Made (handle o.extent)) e)) (open-writing old.mode (asked.Construct key content) writing)
           (effect-new d key content both.0) ∙ both.1.refused (λ o e. Reply (Made (handle o.extent)) e);
       denotes = both.1.denotes;
-    }) k.supported)
+    }))
 
 -- an object has the key
 pub constructs-exists : (s : State) (key : Key) (content : Content) → is_read_only s.mode ≡ false → ((d : Directory) → StandsFor s.cut.bytes d → (o : Object) × (object_at d key ≡ Some o))

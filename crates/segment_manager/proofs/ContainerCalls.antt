@@ -11,7 +11,7 @@ use Rattle.seg_types.specs.declared.kinds.Kind.{Kind}
 use Rattle.seg_types.specs.declared.kinds.Kind.TheVariants.{Text, Vector}
 use Rattle.seg_types.specs.declared.refusals.Refusal.{Refusal}
 use Rattle.seg_types.specs.declared.refusals.Refusal.TheVariants.{Exists, NoSpace}
-use Rattle.seg_types.specs.Kinds.{is_value, size_of}
+use Rattle.seg_types.specs.Kinds.{is_kind_of, is_value, size_of}
 use Rattle.seg_types.specs.Names as names
 use Rattle.seg_types.specs.Commands as asked
 use Rattle.seg_types.specs.Commands.{Content}
@@ -25,29 +25,47 @@ use Rattle.seg_vector.specs.VectorCalls.{Assigns, IsSomeVector, IsVectorGrown, I
 use Rattle.segment_manager.specs.declared.constructing_from.NewEntry.{NewEntry}
 use Rattle.segment_manager.specs.Answers.{Answer, Made, Refused, is_untouched}
 use Rattle.segment_manager.specs.Begun.{Ends, IsAbsentAt, IsBegun, IsNotBegun}
-use Rattle.segment_manager.specs.Contents.{IsNumbersGrown, are_bytes, has_values}
-use Rattle.segment_manager.specs.Directory.{Value, Elements, Bytes, Object, Directory, object_at}
+use Rattle.segment_manager.specs.Contents.{IsNumbersGrown, are_bytes, contents_of, has_values}
+use Rattle.segment_manager.specs.Directory.{Value, Elements, Bytes, Object, Directory, count_of, kind_of, object_at, value_len}
 use Rattle.segment_manager.specs.Found.{pair_answer, pair_found}
 use Rattle.segment_manager.specs.MadeContainers.{Builds, MakesContainer, with_one}
 use Rattle.segment_manager.specs.NewObjects.{IsNewKeyOf}
+use Rattle.segment_manager.specs.Plan.{Plan, bare, with_storage, with_value}
 use Rattle.segment_manager.specs.State.{IsSegment, IsStep, KeepsRefused, State, answer_of, handle_answer}
 use Rattle.segment_manager.specs.Step.{is_read_only}
+use Rattle.segment_manager.proofs.Contained.{contents-good, contents-shape, value-said}
 use Rattle.segment_manager.proofs.Bridge.{lookup-absent}
 use Rattle.segment_manager.proofs.ConstructCalls.{away-in}
 use Rattle.segment_manager.proofs.Constructs.{constructs, constructs-exists, constructs-none}
 use Rattle.segment_manager.proofs.FoundOrMade.{makes-found, makes-none}
-use Rattle.segment_manager.proofs.NewContainers.{IsContainerOf, IsMadeNever, IsMadeNow, built, none-begun, not_built, taken-object}
+use Rattle.segment_manager.proofs.NewContainers.{IsContainerOf, built, contents, held, not_built}
 use Rattle.segment_manager.proofs.NewKeys.{key-seeks}
+use Rattle.segment_manager.proofs.NewValues.{IsMadeNever, IsMadeNow, key-taken, value-not_begun}
 use Rattle.segment_manager.proofs.Steps.{step-segment}
 use Rattle.segment_manager.proofs.Whole.{IsOfKind, whole-grown, whole-length, whole-no_room}
 
 -- ---- the contents
 
+-- those of a value with storage
+storing : (content : Content) (kind : Kind) (each len : ℕ) (bytes : List ℕ) (v : Table → Value) → ((next : Value → Plan) → with_value content next ≡ with_storage each len (λ t. next (v t)))
+    → value_len (bare content) ≡ 24 → count_of (bare content) ≡ 1 → ((t : Table) → kind_of (v t) ≡ kind) → IsTrue (is_kind_of current kind)
+    → ((t : Table) → contents_of (v t) ≡ Some (contents each len bytes t)) → IsContainerOf content kind each len bytes v
+storing content kind each len bytes v asks long one is_kind known holds = record {
+  asks = asks;
+  long = long;
+  one = one;
+  is_kind = is_kind;
+  known = known;
+  shape = λ l t e. contents-shape (v t) (contents each len bytes t) (holds t);
+  good = λ t f g h. contents-good (v t) (contents each len bytes t) (holds t) f g h;
+  says = λ l m at t e w. value-said m at (v t) (contents each len bytes t) (holds t) w;
+}
+
 pub elements-content : (k : ScalarKind) (zs : List ℤ) → IsContainerOf (asked.Elements k zs) (Vector k) (size_of k) (length zs) (spelled k zs) (Elements k zs)
-elements-content k zs = record { asks = λ next. refl; long = refl; one = refl; is_kind = λ t. refl; known = refl; come = refl; holds = λ t. refl }
+elements-content k zs = storing (asked.Elements k zs) (Vector k) (size_of k) (length zs) (spelled k zs) (Elements k zs) (λ next. refl) refl refl (λ t. refl) refl (λ t. refl)
 
 pub bytes-content : (bs : List ℕ) → IsContainerOf (asked.Bytes bs) Text 1 (length bs) bs (Bytes bs)
-bytes-content bs = record { asks = λ next. refl; long = refl; one = refl; is_kind = λ t. refl; known = refl; come = refl; holds = λ t. refl }
+bytes-content bs = storing (asked.Bytes bs) Text 1 (length bs) bs (Bytes bs) (λ next. refl) refl refl (λ t. refl) refl (λ t. refl)
 
 -- ---- at a place
 
@@ -145,22 +163,22 @@ module _ (s : State) (b : IsSegment s.cut.bytes) (key : names.Key) (content : Co
   pub construct-not_begun : (why : Refusal) (c : Cut) → IsNotBegun s.cut c key kind 24 why → Constructs s c (asked.Construct key content) handle_answer (Err why)
   construct-not_begun Exists c t = record {
     step = subst (λ (u : Cut). IsStep s (record s { cut = u }) (asked.Construct key content) (Refused Exists)) (sym t.same)
-        (constructs-exists s key content writing (taken-object s b key content kind each len bytes v is c t));
+        (constructs-exists s key content writing (key-taken s b key content kind (held content kind each len bytes v is) c t));
     refused = λ e. ap (λ (u : Cut). let r : State = record s { cut = u } in r) t.same;
   }
   construct-not_begun NoSpace c t =
-      let d : IsMadeNever s.cut c key content = none-begun s b key content kind each len bytes v is c t in
+      let d : IsMadeNever s.cut c key content = value-not_begun s b key content kind (held content kind each len bytes v is) c t in
       no-space c Made (asked.Construct key content) NoSpace refl (constructs-none s c key content writing d.place d.each)
   construct-not_begun why c t = absurd t
 
   -- where no object has the key
   pub found-not_begun : (why : Refusal) (c : Cut) → object_at b.0 key ≡ None → IsNotBegun s.cut c key kind 24 why → Constructs s c (asked.FindOrConstruct key content) pair_answer (Err why)
-  found-not_begun Exists c none t = absurd (let o = taken-object s b key content kind each len bytes v is c t b.0 b.1 in not-both b.0 o.0 none o.1)
+  found-not_begun Exists c none t = absurd (let o = key-taken s b key content kind (held content kind each len bytes v is) c t b.0 b.1 in not-both b.0 o.0 none o.1)
     where
       not-both : (d : Directory) (o : Object) → object_at d key ≡ None → object_at d key ≡ Some o → ⊥
       not-both d o e f = cc
   found-not_begun NoSpace c none t =
-      let d : IsMadeNever s.cut c key content = none-begun s b key content kind each len bytes v is c t in
+      let d : IsMadeNever s.cut c key content = value-not_begun s b key content kind (held content kind each len bytes v is) c t in
       no-space c pair_found (asked.FindOrConstruct key content) NoSpace refl (makes-none s c key content writing d.place d.each)
   found-not_begun why c none t = absurd t
 

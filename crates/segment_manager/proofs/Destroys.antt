@@ -46,7 +46,6 @@ use Rattle.segment_manager.proofs.Ranks.{all-ordered}
 use Rattle.segment_manager.proofs.Removed.{IsGone, IsLeft, removed-denotes}
 use Rattle.segment_manager.proofs.Rewritten.{with_value}
 use Rattle.segment_manager.proofs.Steps.{by_no_change, by_step, lands, open-writing, step-refuse, step-reply, with-found, with-not_found}
-use Rattle.segment_manager.proofs.Supported.{supported-without}
 
 -- ---- an object with an entry
 
@@ -222,7 +221,7 @@ destroys-entered s c i e key at writing b q p r =
       is = step-reply s.mode d (asked.Destroy key) (Truth true) (without_object d there.object) (open-writing s.mode (asked.Destroy key) writing)
           (ap (λ (r : Option Object). elim r as (λ _. Plan) [ None ↦ Reply (Truth false) d | Some o ↦ Reply (Truth true) (without_object d o) ]) there.is);
       denotes = (r d there.object k there.stands).denotes;
-    }) (supported-without d there.object k.supported))
+    }))
 
 -- or there is none
 pub destroys-none : (s : State) (i : Index) (e : Key) (key : names.Key) (at : ℕ) → is_read_only s.mode ≡ false → Seeks i e key → Ends s.cut i e (Absent at)
@@ -248,7 +247,7 @@ destroys-object s c h writing b each =
     lands (record s { cut = c }) (step s.mode d (asked.DestroyPtr h)) (Truth true) (without_object d x.0) (record {
       is = step-reply s.mode d (asked.DestroyPtr h) (Truth true) (without_object d x.0) (open-writing s.mode (asked.DestroyPtr h) writing) (ptr-plan d h x.0 x.1.0);
       denotes = x.1.1.denotes;
-    }) (supported-without d x.0 k.supported))
+    }))
 
 -- the entry of the object is found
 abbrev pub HasEntryIn : State → Index → Key → ℕ → Type 0

@@ -3,7 +3,7 @@
 
 -- the object of a key, by its kind: the step of the kind is the command's, and where there is no object the command is refused
 pub use Rattle.segment_manager.proofs.AnyStorage.{IsOfKindAt, kind-told, nowhere-steps, of_kind-steps}
-pub use Rattle.segment_manager.proofs.Steps.{refuses-read_only, with-found, with-not_found}
+pub use Rattle.segment_manager.proofs.Steps.{refuses-read_only, step_of_kind-step, with-found, with-not_found}
 -- two commands with one plan, and a plan that comes to a refusal
 pub use Rattle.segment_manager.proofs.VectorLiterals.{same_plan-steps}
 pub use Rattle.segment_manager.proofs.Refilled.{refused-steps}

@@ -141,7 +141,7 @@ kept-each P d o o' gone come p x blocks =
     record { own = both.0.0; value = both.0.1; rest = both.1 }
 
 -- the blocks of the other objects lie beside the object's own
-others-beside : (d : Directory) (o o' : Object) → InPlace d o o' → AllByRecursion (LiesBeside o.extent) (rest d o')
+pub others-beside : (d : Directory) (o o' : Object) → InPlace d o o' → AllByRecursion (LiesBeside o.extent) (rest d o')
 others-beside d o o' p =
     let f : IsIn d o = subst (λ (e : Extent). IsFound (handle e) d.objects o) p.extent p.found in
     let e : live d ≡ with_extents d o' (extents_of o) =

@@ -42,7 +42,7 @@ makes-found old new key content h count writing place many each =
       is = step-plan old.mode d c (with_new_object d key content (λ o e. Reply (found o) e)) (open-writing old.mode c writing) (ap (finds d key content) both.0)
           ∙ n.met (λ o e. Reply (found o) e) ∙ ap (λ (a : Answer). (a, n.after)) said;
       denotes = n.denotes;
-    }) (n.supported st.supported))
+    }))
 
 -- a request is refused
 pub makes-none : (old : State) (new : Cut) (key : Key) (content : Content) → is_read_only old.mode ≡ false → SamePlace old.cut new
@@ -56,7 +56,7 @@ makes-none old new key content writing place each =
       is = step-plan old.mode d c (with_new_object d key content (λ o e. Reply (found o) e)) (open-writing old.mode c writing) (ap (finds d key content) both.0)
           ∙ both.1.refused (λ o e. Reply (found o) e);
       denotes = both.1.denotes;
-    }) st.supported)
+    }))
 
 -- ---- an object has the key
 

@@ -9,7 +9,7 @@ use Rattle.seg_types.specs.declared.kinds.ScalarKind.{ScalarKind}
 use Rattle.seg_types.specs.declared.refusals.Refusal.TheVariants.{Exists, NoSpace, OutOfRange}
 use Rattle.seg_types.specs.Names.{Key}
 use Rattle.seg_types.specs.Commands as asked
-use Rattle.seg_types.specs.Commands.{Command, Content}
+use Rattle.seg_types.specs.Commands.{Command}
 use Rattle.segment_manager.specs.Answers.{Made, Refused}
 use Rattle.segment_manager.specs.Denotes.{Denotes}
 use Rattle.segment_manager.specs.Directory.{Object, Directory, live, object_at}
@@ -57,7 +57,7 @@ module _ (old : State) (key : Key) (k : ScalarKind) (count : ℕ) (zs : List ℤ
         is = step-plan old.mode d c (by-items d key k count zs false) (open-writing old.mode c writing) (plan-of d false both.0 (le-ltb (length zs) count enough))
             ∙ n.met (λ o e. Reply (Made (handle o.extent)) e) ∙ (λ j. (Made (sym n.at j), n.after));
         denotes = n.denotes;
-      }) (n.supported st.supported))
+      }))
 
   -- there are too few: what was taken is given back
   pub items-few : (new : Cut) → SamePlace old.cut new → length zs < count
@@ -70,7 +70,7 @@ module _ (old : State) (key : Key) (k : ScalarKind) (count : ℕ) (zs : List ℤ
         is = step-plan old.mode d c (by-items d key k count zs true) (open-writing old.mode c writing) (plan-of d true all.0 (lt-ltb (length zs) count few))
             ∙ all.1.met (λ o e. Reply (Refused OutOfRange) d);
         denotes = all.2;
-      }) st.supported)
+      }))
 
   none-if : (d : Directory) (few : Bool) → object_at d key ≡ None → nat_lt (length zs) count ≡ few
       → ((next : Object → Directory → Plan) → perform d (live d) (with_new_object d key (asked.Numbers k (if few then replicate count (pos 0) else take count zs)) next) ≡ (Refused NoSpace, d))
@@ -87,4 +87,4 @@ module _ (old : State) (key : Key) (k : ScalarKind) (count : ℕ) (zs : List ℤ
       by_step old (record old { cut = new }) c (Refused NoSpace) (record { mode = refl; place = place }) (λ d st.
       let both : (object_at d key ≡ None) × IsNoObject new d key (asked.Numbers k (asked_for count zs)) = each d st in
       lands (record old { cut = new }) (step old.mode d c) (Refused NoSpace) d
-      (record { is = none-if d (nat_lt (length zs) count) both.0 refl both.1.refused; denotes = both.1.denotes }) st.supported)
+      (record { is = none-if d (nat_lt (length zs) count) both.0 refl both.1.refused; denotes = both.1.denotes }))

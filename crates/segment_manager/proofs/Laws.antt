@@ -22,17 +22,14 @@ pub use Rattle.segment_manager.proofs.Heads.{Has-front, entry-name_len, good_nam
 pub use Rattle.segment_manager.proofs.NumberCalls.{fits-value_negsuc, fits-value_pos}
 -- bytes that denote a directory are a heap's, with the directory's live set
 pub use Rattle.segment_manager.proofs.Calling.{denotes-heap, denotes-live}
--- what has come so far: an object that is found has come, one of its kind in its place has too, and no vector of texts has
-pub use Rattle.segment_manager.proofs.Supported.{HasNoTexts, found-supported, no-texts, supported-like}
 -- bytes in rows: two behind one another, elements of one length each, read and written in their places, and what codes name
 pub use Rattle.segment_manager.proofs.Rows.{Has-append, Has-behind, Has-element, Has-set, flat-length}
 pub use Rattle.segment_manager.proofs.Codes.{code-read, numbers-only}
 -- the object of a key stands in its block
 pub use Rattle.segment_manager.proofs.Here.{IsHere, here, nothing-here, standing}
--- a value that is written as a literal is as good as its own literal, of whatever kind the object is
-pub use Rattle.segment_manager.proofs.AnyKind.{any-literal, any-no_value, any-nowhere}
--- the same where texts could be, for an object that is no vector of them
-pub use Rattle.segment_manager.proofs.AnyKind.{scalars-nowhere, scalars-replies}
+-- a value that is written as a literal is as good as its own literal, of whatever kind the object is; the object of a key that is no
+-- vector of texts
+pub use Rattle.segment_manager.proofs.AnyKind.{HasNoTexts, any-literal, any-no_value, any-replies, kind-no_texts, scalars-nowhere, scalars-replies}
 -- a call for objects of the kind that an object says is the command's step
 pub use Rattle.segment_manager.proofs.AnyStorage.{of_kind-steps}
 -- the object of a key is found by its handle too
@@ -44,3 +41,8 @@ pub use Rattle.segment_manager.proofs.FindCalls.{named-below, unique-below}
 -- the same of a call that answers less than the machine; and the texts that a vector of strings is assigned are those of their literals
 pub use Rattle.segment_manager.proofs.TextMoves.{of_kind-leads_on}
 pub use Rattle.segment_manager.proofs.TextListCalls.{texts-read}
+-- a walk over the pairs of a map, each from the key before, meets all of them in order, one at each place
+pub use Rattle.segment_manager.proofs.MapWalks.{walk-goes_on, walk-starts}
+pub use Rattle.segment_manager.proofs.PairWalks.{first-at, pairs-rise, walk-next}
+-- what bytes denote by an older format, where the version, the tags and the free tree are made those of the current one
+pub use Rattle.segment_manager.proofs.Renewed.{StaysButVersion, denotes-later, directory-later}

@@ -1,6 +1,7 @@
 mod Refusals
 mod Unchanged
 mod Words
+mod PairNumbers
 mod Blocks
 mod Frame
 mod Order
@@ -8,7 +9,6 @@ mod Live
 mod Faces
 mod Objects
 mod Denoted
-mod Supported
 mod Calling
 mod Steps
 mod Ranks
@@ -43,6 +43,7 @@ mod Loose
 mod ItemCalls
 mod MadeContainers
 mod NewContainers
+mod NewMaps
 mod ContainerCalls
 mod NumberCalls
 mod Heads
@@ -59,6 +60,13 @@ mod Contained
 mod Grown
 mod ContentPlans
 mod Refilled
+mod MapBlocks
+mod MapSteps
+mod MapCalls
+mod MapAnswers
+mod MapExamples
+mod MapWalks
+mod PairWalks
 mod VectorSteps
 mod VectorCalls
 mod TextSteps
@@ -73,6 +81,8 @@ mod TextPlans
 mod TextsHeld
 mod TextMoves
 mod TextListCalls
+mod NewValues
+mod NewTexts
 mod Whole
 mod Emptied
 mod Released
@@ -95,3 +105,5 @@ mod Tellings
 mod Listed
 pub mod Laws
 pub mod ElementLaws
+mod Resizes
+mod Renewed

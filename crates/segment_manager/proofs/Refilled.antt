@@ -23,9 +23,7 @@ use Rattle.segment_manager.specs.Step.{changed, effect, is_read_only, step, step
 use Rattle.segment_manager.proofs.Calling.{denotes-live}
 use Rattle.segment_manager.proofs.Contained.{contents-changed}
 use Rattle.segment_manager.proofs.Grown.{answered, grows}
-use Rattle.segment_manager.proofs.Rewritten.{with_value}
 use Rattle.segment_manager.proofs.Steps.{IsMove, IsOpenFor, by_no_change, by_no_change_of_kind, by_step, by_step_of_kind, open-writing, step-effect, step_of_kind-found, step_of_kind-not_found, step_of_kind-other, step_of_kind-step}
-use Rattle.segment_manager.proofs.Supported.{found-supported, supported-changed, supported-like}
 
 -- ---- a directory
 
@@ -70,7 +68,6 @@ refill-moves s new d key c answer next k r e = record {
   is = e ∙ r.outcome;
   stands = record {
     denotes = contents-changed s.cut new d key r.object r.value r.was r.next k.denotes r.is r.held r.holds r.kind r.values r.change;
-    supported = supported-changed d (with_value r.object r.value) k.supported (supported-like r.object.value r.value r.kind (found-supported d key r.object k.supported r.is));
   };
 }
 

@@ -15,6 +15,8 @@ use Rattle.seg_types.specs.declared.refusals.Refusal.{Refusal}
 use Rattle.seg_types.specs.declared.refusals.Refusal.TheVariants.{NotFound, WrongKind}
 use Rattle.seg_types.specs.Kinds.{code_of}
 use Rattle.seg_types.specs.Names.{ByHandle, Key}
+use Rattle.seg_map.specs.declared.places.Place.{Place as MapPlace}
+use Rattle.seg_map.specs.Changing.{IsGivenUp}
 use Rattle.seg_vector.specs.declared.places.Place.{Place}
 use Rattle.seg_vector.specs.Standing.{place_at}
 use Rattle.seg_vector.specs.TextCalls.{IsSomeText, IsTextNow, ReleasesText}
@@ -26,19 +28,19 @@ use Rattle.segment_manager.specs.Denotes.{Denotes, IsValueAt}
 use Rattle.segment_manager.specs.Destroyed.{Becomes, Empties, HasNumbers, HoldsObject, ReleasesNumbers, emptied}
 use Rattle.segment_manager.specs.Directory.{Value, Numbers, Elements, Bytes, Pairs, Texts, Object, Directory, has_key, is_object, kind_of, object_at, padded, value_extents, value_len}
 use Rattle.segment_manager.specs.Layout.{head_len}
+use Rattle.segment_manager.specs.Maps.{HasPairs, ReleasesPairs, numbers_of}
 use Rattle.segment_manager.specs.Standing.{HasObject, IsHeadOf, StandsAt}
 use Rattle.segment_manager.specs.State.{StandsFor}
 use Rattle.segment_manager.specs.Step.{changed}
-use Rattle.segment_manager.specs.Supported.{is_supported_value}
 use Rattle.segment_manager.proofs.Contained.{good-with, start-place}
 use Rattle.segment_manager.proofs.Emptied.{changed-itself, emptied-alone, emptied-count, emptied-good, emptied-kind, emptied-len, emptied-numbers}
 use Rattle.segment_manager.proofs.Exchanged.{Exchange, between, denotes-container}
 use Rattle.segment_manager.proofs.Frame.{object-roomy}
 use Rattle.segment_manager.proofs.Here.{standing}
 use Rattle.segment_manager.proofs.Live.{IsIn}
+use Rattle.segment_manager.proofs.MapCalls.{HoldsPairs, as_map, holds-pairs}
 use Rattle.segment_manager.proofs.Objects.{all-found, each-true, found-handle, key-found}
 use Rattle.segment_manager.proofs.Rewritten.{value_start, with_value}
-use Rattle.segment_manager.proofs.Supported.{found-supported}
 use Rattle.segment_manager.proofs.TextSteps.{HoldsText, holds-text}
 use Rattle.segment_manager.proofs.TextsHeld.{HoldsTexts, holds-texts}
 use Rattle.segment_manager.proofs.VectorSteps.{HoldsVector, holds-vector}
@@ -56,6 +58,15 @@ held-object b h x = (x.object, held-stands b h x.directory x.object x.stands x.i
 abbrev pub place_behind : ℕ → ℕ → Place
 place_behind h at = record { handle = h; at = at }
 
+abbrev pub map_behind : ℕ → ℕ → MapPlace
+map_behind h at = record { handle = h; at = at }
+
+-- the same place, as the calls of seg_map name it
+pub as_map-place : (h at : ℕ) (p : Place) (q : MapPlace) → p ≡ place_behind h at → q.handle ≡ p.handle → q.at ≡ p.at → map_behind h at ≡ q
+as_map-place h at p q e f g =
+    let same : map_behind h at ≡ map_behind p.handle p.at = λ i. map_behind (sym e i).handle (sym e i).at in
+    same ∙ (λ i. record { handle = sym f i; at = sym g i })
+
 pub behind-head : (b : List ℕ) (h at : ℕ) (o : Object) (head : Head) → StandsAt b h o → IsHeadOf o head → at ≡ head_len + padded head.name_len → container_place o ≡ place_behind h at
 behind-head b h at o head s said e =
     let there : at ≡ head_len + padded (length o.name) = e ∙ ap (λ (n : ℕ). head_len + padded n) said.name_len in
@@ -67,33 +78,13 @@ found-container d key kind o p e f g =
     ∙ ap (λ (t : Bool). if t then Ok (container_place o) else Err WrongKind) (sym (eq-eqb (code_of kind) (code_of (kind_of o.value)) (ap code_of (sym f))))
     ∙ sym (ap (λ (q : Option Object). elim q as (λ _. Result Place Refusal) [ None ↦ Err NotFound | Some o ↦ place_of_kind o kind ]) e)
 
--- ---- kinds that have not come
-
-map-unsupported : (k l : ScalarKind) (v : Value) → kind_of v ≡ Map k l → IsTrue (is_supported_value v) → ⊥
-map-unsupported k l (Numbers m zs) e h = absurd (cc)
-map-unsupported k l (Elements m zs t) e h = absurd (cc)
-map-unsupported k l (Bytes bs t) e h = absurd (cc)
-map-unsupported k l (Pairs m n ps) e h = absurd (cc)
-map-unsupported k l (Texts ps t) e h = absurd (cc)
-
 -- ---- what the head says
 
 -- it was read of each object that stands at the handle
 abbrev pub IsReadAt : List ℕ → ℕ → Head → Type 0
 IsReadAt b h head = (o : Object) → StandsAt b h o → IsHeadOf o head
 
-module _ (b : List ℕ) (h : ℕ) (head : Head) (x : HoldsObject b h) (said : IsReadAt b h head) where
-  held-kind : kind_of x.object.value ≡ head.kind
-  held-kind = sym (said x.object (held-stands b h x.directory x.object x.stands x.is)).kind
-
-  held-supported : IsTrue (is_supported_value x.object.value)
-  held-supported = found-supported x.directory (ByHandle h) x.object x.stands.supported x.is
-
-  -- no object is a map
-  pub no-map : (k l : ScalarKind) → head.kind ≡ Map k l → ⊥
-  no-map k l e = map-unsupported k l x.object.value (held-kind ∙ e) held-supported
-
--- it says that a text stands behind it, or a vector of numbers or of texts
+-- it says that a text stands behind it, a vector of numbers or of texts, or a map
 module _ (b : List ℕ) (h at : ℕ) (head : Head) (said : IsReadAt b h head) (behind : at ≡ head_len + padded head.name_len) (d : Directory) (o : Object) (s : StandsFor b d) (e : object_at d (ByHandle h) ≡ Some o) where
   read-place : (kind : Kind) → head.kind ≡ kind → Ok (place_behind h at) ≡ container_at d (ByHandle h) kind
   read-place kind is =
@@ -109,6 +100,9 @@ module _ (b : List ℕ) (h at : ℕ) (head : Head) (said : IsReadAt b h head) (b
   read-texts : head.kind ≡ TextsKind → HoldsTexts b d (ByHandle h) (place_behind h at)
   read-texts is = holds-texts b d (ByHandle h) (place_behind h at) s.denotes (read-place TextsKind is)
 
+  read-pairs : (k l : ScalarKind) → head.kind ≡ Map k l → HoldsPairs b d (ByHandle h) k l (map_behind h at)
+  read-pairs k l is = holds-pairs b d (ByHandle h) k l (map_behind h at) s.denotes (ap as_map (read-place (Map k l) is))
+
 module _ (b : List ℕ) (h at : ℕ) (head : Head) (x : HoldsObject b h) (said : IsReadAt b h head) (behind : at ≡ head_len + padded head.name_len) where
   pub some-text : head.kind ≡ Text → IsSomeText b (place_behind h at)
   some-text is = let t : HoldsText b x.directory (ByHandle h) (place_behind h at) = read-text b h at head said behind x.directory x.object x.stands x.is is in (t.bytes, (t.table, t.text.stands))
@@ -119,6 +113,11 @@ module _ (b : List ℕ) (h at : ℕ) (head : Head) (x : HoldsObject b h) (said :
 
   pub some-texts : head.kind ≡ TextsKind → IsSomeTexts b (place_behind h at)
   some-texts is = let t : HoldsTexts b x.directory (ByHandle h) (place_behind h at) = read-texts b h at head said behind x.directory x.object x.stands x.is is in (t.texts, (t.table, t.stand))
+
+  pub some-pairs : (k l : ScalarKind) (p : MapPlace) → map_behind h at ≡ p → head.kind ≡ Map k l → HasPairs k l b p
+  some-pairs k l p there is =
+      let m : HoldsPairs b x.directory (ByHandle h) k l (map_behind h at) = read-pairs b h at head said behind x.directory x.object x.stands x.is k l is in
+      subst (HasPairs k l b) there (m.pairs, m.map)
 
 -- ---- what becomes of the object
 
@@ -153,7 +152,7 @@ container-released old new d key o p v k e is at len change said =
     (subst (λ from. IsExchanged current old new from 24 (value_extents o.value) []) (sym start) (subst (λ w. IsExchanged current old new (place_at p) 24 (value_extents w) []) (sym is) change))
     (subst (λ from. IsValueAt (bytes_of new.bytes) from (emptied o.value)) (sym start) (subst (λ w. IsValueAt (bytes_of new.bytes) (place_at p) (emptied w)) (sym is) said))
 
--- so it is of a text, and of a vector of numbers or of texts
+-- so it is of a text, of a vector of numbers or of texts, and of a map
 module _ (old new : Cut) (h at : ℕ) (head : Head) (said : IsReadAt old.bytes h head) (behind : at ≡ head_len + padded head.name_len) where
   pub text-contents : head.kind ≡ Text → ReleasesText old new (place_behind h at) → Empties old new h
   text-contents is released d o s e =
@@ -178,6 +177,15 @@ module _ (old new : Cut) (h at : ℕ) (head : Head) (said : IsReadAt old.bytes h
       let now : IsTextsNow old new (place_behind h at) (value_extents (Texts x.texts x.table)) [] [] no_table = released x.texts x.table x.stand in
       subst (λ p. Becomes old new (changed d p (emptied p.value))) same
       (container-released old new d (ByHandle h) x.object (place_behind h at) (Texts x.texts x.table) s.denotes x.is x.value x.at refl now.change now.texts.words)
+
+  pub pairs-contents : (k l : ScalarKind) (p : MapPlace) → map_behind h at ≡ p → head.kind ≡ Map k l → ReleasesPairs k l old new p → Empties old new h
+  pairs-contents k l p there is released d o s e =
+      let x : HoldsPairs old.bytes d (ByHandle h) k l (map_behind h at) = read-pairs old.bytes h at head said behind d o s e k l is in
+      let same : x.object ≡ o = same_Some x.object o (sym x.is ∙ e) in
+      let now : IsGivenUp (numbers_of k) (numbers_of l) old new h at x.pairs = subst (ReleasesPairs k l old new) (sym there) released x.pairs x.map in
+      let place : container_place x.object ≡ place_behind h at = ap (λ (q : MapPlace). place_behind q.handle q.at) x.at in
+      subst (λ p. Becomes old new (changed d p (emptied p.value))) same
+      (container-released old new d (ByHandle h) x.object (place_behind h at) (Pairs k l x.pairs) s.denotes x.is x.known.value place refl now.change now.empty.map)
 
 -- ---- vectors of a type
 

@@ -1,6 +1,6 @@
 -- The calls that give the indexes other capacities, as steps of the machine.
 use Rattle.std.proofs.Common.{◌≡◌, refl, sym, ap, subst, ◌∙◌, ℕ, ◌*◌, ◌<◌, ◌≤◌, ◌⊎◌, inl, inr, true, false, List, length, arith, if◌then◌else◌}
-use Rattle.std.specs.Prelude.{IsTrue, nat_le}
+use Rattle.std.specs.Prelude.{nat_le}
 use Rattle.std.proofs.lemmas.Bool.{cases_lt, le-leb, lt-leb}
 use Rattle.raw_region.specs.Memory.{Cut}
 use Rattle.raw_region.specs.Format.{current}
@@ -23,7 +23,6 @@ use Rattle.segment_manager.specs.Indexed.{entries_of, objects_of, reserve_of, ta
 use Rattle.segment_manager.specs.Plan.{Plan, New, Reply, Request}
 use Rattle.segment_manager.specs.State.{IsSegment, IsStep, State}
 use Rattle.segment_manager.specs.Step.{effect, is_read_only, shrunk_indexes, step}
-use Rattle.segment_manager.specs.Supported.{is_supported}
 use Rattle.segment_manager.proofs.Calling.{denotes-live}
 use Rattle.segment_manager.proofs.HeldIndexes.{denotes-index}
 use Rattle.segment_manager.proofs.Steps.{by_no_change, by_step, lands, open-writing, perform-new, perform-no_space, step-plan, step-reply}
@@ -47,10 +46,6 @@ effect-roomy i d n h = reserve-effect i d n ∙ ap (λ b. if b then Reply Done d
 effect-full : (i : Index) (d : Directory) (n : ℕ) → (table_of i d).capacity < n → effect d (reserve_of i n) ≡ take_places i d n
 effect-full i d n h = reserve-effect i d n ∙ ap (λ b. if b then Reply Done d else take_places i d n) (lt-leb n (table_of i d).capacity h)
 
-same-supported : (i : Index) (d : Directory) (t : Table) → IsTrue (is_supported d) → IsTrue (is_supported (with_table_of i d t))
-same-supported index.Named d t h = h
-same-supported index.Unique d t h = h
-
 -- there are so many places, or they are taken
 pub reserves : (s : State) (c : Cut) (i : Index) (n : ℕ) → is_read_only s.mode ≡ false → IsRoomy s.cut c (place_of i) n → IsStep s (record s { cut = c }) (reserve_of i n) Done
 reserves s c i n writing r = by_case (cases_lt (capacity_at s.cut (place_of i)) n)
@@ -70,7 +65,7 @@ reserves s c i n writing r = by_case (cases_lt (capacity_at s.cut (place_of i)) 
               ∙ perform-new d (live d) IndexRole (8 * n) (λ y. Reply Done (with_table_of i d (places_in n y))) t.extent
               (sym (ap (λ l. place l (8 * n) IndexRole) (denotes-live current s.cut.bytes d k.denotes)) ∙ t.placed);
           denotes = tabled-denotes i s.cut c d (places_in n t.extent) k.denotes (reserved-tabled i s.cut c d n k.denotes t);
-        }) (same-supported i d (places_in n t.extent) k.supported))
+        }))
 
 -- or their block is refused
 pub reserves-none : (s : State) (c : Cut) (i : Index) (n : ℕ) → is_read_only s.mode ≡ false → capacity_at s.cut (place_of i) < n → IsRefused s.cut c (8 * n) IndexRole
@@ -109,7 +104,7 @@ shrinks s b c writing g n u =
     lands (record s { cut = c }) (step s.mode d asked.ShrinkIndexes) Done (shrunk index.Unique (shrunk index.Named d)) (record {
       is = step-reply s.mode d asked.ShrinkIndexes Done (shrunk_indexes d) (open-writing s.mode asked.ShrinkIndexes writing) refl;
       denotes = shrunk-denotes index.Unique b c (shrunk index.Named d) (shrunk-denotes index.Named s.cut b d k.denotes n) u;
-    }) k.supported)
+    }))
 
 -- the other index stands still where one is shrunk
 pub shrunk-index : (a b : Cut) → IsSegment a.bytes → Shrinks index.Named a b → HasIndex b (place_of index.Unique)

@@ -43,7 +43,6 @@ use Rattle.segment_manager.proofs.Replies.{element-kind}
 use Rattle.segment_manager.proofs.Rewritten.{SameFrame, denotes-rewritten, value_start, with_value}
 use Rattle.segment_manager.proofs.Rows.{Has-set}
 use Rattle.segment_manager.proofs.Steps.{by_no_change_of_kind, by_step_of_kind, lands, open-writing, step_of_kind-found, step_of_kind-not_found, step_of_kind-other}
-use Rattle.segment_manager.proofs.Supported.{supported-changed}
 use Rattle.segment_manager.proofs.Words.{first, second}
 
 -- ---- the literal of a value
@@ -189,4 +188,4 @@ stores-number old new key k i p z bytes writing v f a c w =
     (record {
       is = stored old.mode old.cut.bytes d key k i p (literal_of k z) z e writing (literal-read k z v);
       denotes = denotes-number old.cut new d key k i p e z l.denotes v c' (subst (Has (bytes_of new.bytes) (p.handle + p.at)) f w);
-    }) (supported-changed d o' l.supported refl))
+    }))

@@ -27,9 +27,7 @@ use Rattle.segment_manager.specs.Step.{changed, effect, is_read_only, step, step
 use Rattle.segment_manager.specs.TextLists.{LeadsOnOfKind}
 use Rattle.segment_manager.proofs.AnyStorage.{IsOfKindAt, kind-told}
 use Rattle.segment_manager.proofs.Constructed.{restored-denotes}
-use Rattle.segment_manager.proofs.Rewritten.{with_value}
 use Rattle.segment_manager.proofs.Steps.{IsMove, IsOpenFor, by_no_change_of_kind, by_step_of_kind, open-writing, step_of_kind-found, step_of_kind-segment, step_of_kind-step}
-use Rattle.segment_manager.proofs.Supported.{found-supported, supported-changed, supported-like}
 use Rattle.segment_manager.proofs.TextBlocks.{IsPartOther}
 use Rattle.segment_manager.proofs.TextsHeld.{HasBytes, HoldsTexts, holds-texts, texts-changed}
 
@@ -72,8 +70,6 @@ module _ (s : State) (key : Key) (p : Place) (b : IsSegment s.cut.bytes) (found 
         is = step_of_kind-found s.mode d key TextsKind c h.object (open-writing s.mode c writing) h.is (of-kind d l) ∙ r.outcome;
         stands = record {
           denotes = texts-changed s.cut new d key p l.denotes h r.texts m.out m.in_place r.table m.gone m.come m.part m.bytes m.gone_is m.come_is m.now;
-          supported = supported-changed d (with_value h.object (Texts r.texts r.table)) l.supported
-              (supported-like h.object.value (Texts r.texts r.table) (sym (ap kind_of h.value)) (found-supported d key h.object l.supported h.is));
         };
       }
 
@@ -115,7 +111,7 @@ module _ (s : State) (key : Key) (p : Place) (b : IsSegment s.cut.bytes) (found 
       (λ d l. record {
         after = d;
         is = step_of_kind-found s.mode d key TextsKind c (texts_in d l).object may (texts_in d l).is (of-kind d l) ∙ each d l;
-        stands = record { denotes = restored-denotes s.cut new d l.denotes (record { laid = back.laid; keeps = back.keeps }); supported = l.supported };
+        stands = record { denotes = restored-denotes s.cut new d l.denotes (record { laid = back.laid; keeps = back.keeps }) };
       })
 
 -- ---- a call that may ask for several blocks

@@ -77,7 +77,7 @@ abbrev pub sizes_of : Value → Result (ℕ × ℕ) Refusal
 sizes_of (Numbers k zs) = Err WrongKind
 sizes_of (Elements k zs t) = Ok (length zs, t.capacity)
 sizes_of (Bytes bs t) = Ok (length bs, t.capacity)
-sizes_of (Pairs k v ps) = Err WrongKind
+sizes_of (Pairs k v ps) = Ok (length ps, 0)
 sizes_of (Texts ps t) = Ok (length ps, t.capacity)
 
 -- the same for the object of a key, of whatever kind, and if it is of a kind

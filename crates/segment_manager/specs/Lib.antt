@@ -1,7 +1,6 @@
 pub mod Layout
 pub mod Directory
 pub mod Entries
-pub mod Supported
 pub mod Answers
 pub mod Plan
 pub mod Step
@@ -21,5 +20,10 @@ pub mod Standing
 pub mod Contents
 pub mod Destroyed
 pub mod Instances
+pub mod Maps
 pub mod Listed
 pub mod TextLists
+pub mod MadeTexts
+pub mod Walks
+pub mod Resized
+pub mod Relocating

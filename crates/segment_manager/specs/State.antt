@@ -1,5 +1,5 @@
 -- What contracts see of a segment: its bytes, which denote one directory, how it is open, and where it lies.
-use Rattle.std.specs.Prelude.{◌≡◌, ℕ, ℤ, Bool, true, List, Option, Some, None, Result, Ok, Err, IfErr, IsTrue}
+use Rattle.std.specs.Prelude.{◌≡◌, ℕ, ℤ, Bool, true, List, Option, Some, None, Result, Ok, Err, IfErr}
 use Rattle.raw_region.specs.Memory.{Cut, SamePlace}
 use Rattle.raw_region.specs.Format.{current}
 use Rattle.seg_types.specs.declared.kinds.ScalarKind.{ScalarKind}
@@ -11,7 +11,6 @@ use Rattle.seg_types.specs.Values.{kind_of_scalar, value_of_scalar}
 use Rattle.seg_types.specs.Commands.{Command}
 use Rattle.segment_manager.specs.declared.modes.Mode.{Mode}
 use Rattle.segment_manager.specs.Directory.{Directory}
-use Rattle.segment_manager.specs.Supported.{is_supported}
 use Rattle.segment_manager.specs.Answers.{Answer, Made, Truth, Element, Refused, Done, is_untouched, refusal_of}
 use Rattle.segment_manager.specs.Step.{step, step_of_kind}
 use Rattle.segment_manager.specs.Denotes.{Denotes}
@@ -20,10 +19,9 @@ pub record State : Type 0 where
   pub cut : Cut
   pub mode : Mode
 
--- the bytes denote the directory, which is made of what has come so far
+-- the bytes denote the directory
 pub record StandsFor (b : List ℕ) (d : Directory) : Type 0 where
   pub denotes : Denotes current b d
-  pub supported : IsTrue (is_supported d)
 
 abbrev pub IsSegment : List ℕ → Type 0
 IsSegment b = (d : Directory) × StandsFor b d

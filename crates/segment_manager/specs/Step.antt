@@ -176,6 +176,14 @@ erase d o (Texts ps t) i = with (owned_text_at ps i) (λ p. Reply Done (changed 
 erase d o v i =
     with (vector_of v) (λ (k, zs, t). with (element_at zs i) (λ z. Reply Done (changed d o (Elements k (remove zs i) t))))
 
+abbrev pub put : Directory → Object → ScalarKind → ScalarKind → List NumberPair → List ℤ → Plan
+put d o k v ps (x ∷ y ∷ []) = elim (pair_at int_lt ps x) [
+  | Some p ↦ Reply (Truth false) (changed d o (Pairs k v (put_pair int_lt (record p { value = y }) ps)))
+  | None ↦ Request (New Node (node_len (size_of k) (size_of v))) (λ n.
+      Reply (Truth true) (changed d o (Pairs k v (put_pair int_lt (record { key = x; value = y; node = n }) ps))))
+]
+put d o k v ps other = Refuse WrongKind
+
 abbrev pub shrunk_indexes : Directory → Directory
 shrunk_indexes d =
     let e : Directory = record d { named = cut_table (live d) 8 (length (named_objects d)) d.named } in
@@ -229,14 +237,6 @@ effect d (asked.Append key more) =
     Reply Done (changed d o (Bytes (bs ++ more) u)))))
 effect d (asked.Put key l m) =
     with (found_at d key) (λ o. with (map_of o.value) (λ (k, v, ps). with (pair_of k v l m) (λ new. put d o k v ps new)))
-  where
-    put : Directory → Object → ScalarKind → ScalarKind → List NumberPair → List ℤ → Plan
-    put d o k v ps (x ∷ y ∷ []) = elim (pair_at int_lt ps x) [
-      | Some p ↦ Reply (Truth false) (changed d o (Pairs k v (put_pair int_lt (record p { value = y }) ps)))
-      | None ↦ Request (New Node (node_len (size_of k) (size_of v))) (λ n.
-          Reply (Truth true) (changed d o (Pairs k v (put_pair int_lt (record { key = x; value = y; node = n }) ps))))
-    ]
-    put d o k v ps other = Refuse WrongKind
 effect d (asked.Lookup key l) =
     with (found_at d key) (λ o. with (map_of o.value) (λ (k, v, ps). with (value_of_literal k l) (λ x.
     elim (pair_at int_lt ps x) [ None ↦ Reply Absent d | Some p ↦ Reply (Element v p.value) d ])))

@@ -25,7 +25,7 @@ impl Segment {
     /// `NotFound` where no object has the key, `WrongKind` where its elements are no scalars, `OutOfRange` where it has none
     /// there.
     pub fn get_any(&self, key: &Key, index: u64) -> Result<ScalarValue, Refusal>
-        ensures { IsReply self.now (Get (key_seen key.now) index) (scalar_answer result) }
+        ensures { Answers self.now (λ d. scalar_reply self.now.mode d (key_seen key.now) (Get (key_seen key.now) index)) (scalar_answer result) }
     {
         match self.handle_of(key) {
             None => Err(Refusal::NotFound),

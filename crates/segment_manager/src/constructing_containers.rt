@@ -26,7 +26,7 @@ use seg_types::{Handle, IndexKey, Kind, NewKey, Refusal, Scalar};
 use seg_vector::{Place, SegString, SegVec};
 
 /// The bytes of a container in its object: a link to its storage, its length and its capacity.
-const CONTAINER_LEN: u64 = 24;
+pub(crate) const CONTAINER_LEN: u64 = 24;
 
 impl Segment {
     /// Makes a vector of values with just so many places, and answers its handle. A key that is a kind is that of such vectors.
@@ -197,7 +197,7 @@ impl Segment {
 }
 
 /// A handle with 1 for the count of its object.
-fn counted(made: Result<Handle, Refusal>) -> Result<(Handle, u32), Refusal>
+pub(crate) fn counted(made: Result<Handle, Refusal>) -> Result<(Handle, u32), Refusal>
     ensures { result ≡ with_one made }
 {
     match made {

@@ -1,5 +1,6 @@
-//! Why no segment is made.
+//! Why no segment is made or moved.
 
+use crate::segment::Segment;
 use raw_region::RawRegion;
 use thiserror::Error;
 
@@ -21,4 +22,14 @@ pub struct CreateRefused {
     pub region: RawRegion,
     /// Why.
     pub cause: CreateError,
+}
+
+/// A region is too small for a segment that was to move into it: it ends before base plus the segment's size. Both come back as
+/// they were.
+#[derive(Drop)]
+pub struct RelocateRefused {
+    /// The segment that was to move.
+    pub segment: Segment,
+    /// The region that was handed in.
+    pub region: RawRegion,
 }

@@ -6,9 +6,12 @@
 
 mod accessing;
 mod any_elements;
+mod any_pairs;
 mod constructing;
 mod constructing_containers;
 mod constructing_from;
+mod constructing_maps;
+mod constructing_texts;
 mod containers;
 mod creating;
 mod destroying;
@@ -21,11 +24,14 @@ mod instances;
 mod keys;
 pub mod layout;
 mod making;
+mod maps;
 mod modes;
 mod releasing;
+mod relocating;
 mod requesting;
 mod reserving;
 mod segment;
+mod sizing;
 mod storage;
 mod telling;
 mod text_lists;
@@ -33,8 +39,9 @@ mod texts;
 pub mod theorems;
 mod tiles;
 mod vectors;
+mod walking_pairs;
 
-pub use errors::{CreateError, CreateRefused};
+pub use errors::{CreateError, CreateRefused, RelocateRefused};
 pub use modes::Mode;
 pub use segment::Segment;
 pub use telling::Instance;

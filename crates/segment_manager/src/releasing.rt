@@ -1,9 +1,12 @@
 //! What the values of objects have blocks for, given back.
 ghost use Rattle.segment_manager.specs.Destroyed.{Empties, HasNumbers, HoldsObject, ReleasesNumbers};
+ghost use Rattle.segment_manager.specs.Maps.{HasPairs, ReleasesPairs};
 
 use crate::head::read_head;
 use crate::layout::value_at;
+use crate::maps::map_place;
 use best_fit::Heap;
+use seg_map::{Place as MapPlace, SegMap};
 use seg_types::{Kind, Scalar, ScalarKind};
 use seg_vector::{Place, SegString, SegTexts, SegVec};
 
@@ -22,7 +25,7 @@ pub(crate) fn release_contents(heap: &mut Heap, handle: u64)
         Kind::Scalar(_) => {}
         Kind::Text => SegString { place }.release(heap),
         Kind::Vector(element) => release_elements(heap, place, element),
-        Kind::Map(_, _) => unreachable!(),
+        Kind::Map(keys, values) => release_pairs(heap, map_place(place), keys, values),
         Kind::Texts => SegTexts { place }.release(heap),
     }
 }
@@ -47,4 +50,40 @@ fn release_vector<T: Scalar>(heap: &mut Heap, place: Place)
     ensures { ReleasesNumbers T.kind heap.old heap.new place }
 {
     SegVec::<T>::at(place).release(heap);
+}
+
+/// Gives back the blocks of the pairs of a map of two kinds.
+fn release_pairs(heap: &mut Heap, place: MapPlace, keys: ScalarKind, values: ScalarKind)
+    requires { HasPairs keys values heap.old.bytes place }
+    ensures { ReleasesPairs keys values heap.old heap.new place }
+{
+    match keys {
+        ScalarKind::Bool => release_pairs_of::<bool>(heap, place, values),
+        ScalarKind::U8 => release_pairs_of::<u8>(heap, place, values),
+        ScalarKind::I32 => release_pairs_of::<i32>(heap, place, values),
+        ScalarKind::I64 => release_pairs_of::<i64>(heap, place, values),
+        ScalarKind::U64 => release_pairs_of::<u64>(heap, place, values),
+    }
+}
+
+/// The same of a map whose keys are of a type.
+fn release_pairs_of<K: Scalar>(heap: &mut Heap, place: MapPlace, values: ScalarKind)
+    requires { HasPairs K.kind values heap.old.bytes place }
+    ensures { ReleasesPairs K.kind values heap.old heap.new place }
+{
+    match values {
+        ScalarKind::Bool => release_map::<K, bool>(heap, place),
+        ScalarKind::U8 => release_map::<K, u8>(heap, place),
+        ScalarKind::I32 => release_map::<K, i32>(heap, place),
+        ScalarKind::I64 => release_map::<K, i64>(heap, place),
+        ScalarKind::U64 => release_map::<K, u64>(heap, place),
+    }
+}
+
+/// The same of a map of two types.
+fn release_map<K: Scalar, V: Scalar>(heap: &mut Heap, place: MapPlace)
+    requires { HasPairs K.kind V.kind heap.old.bytes place }
+    ensures { ReleasesPairs K.kind V.kind heap.old heap.new place }
+{
+    SegMap::<K, V>::at(place).release(heap);
 }

@@ -1,6 +1,6 @@
 //! The places of vectors and strings of objects, vectors of strings among them: reserved, given back and left empty.
 ghost use Rattle.std.specs.Prelude.{◌≡◌, OnErr, false};
-ghost use Rattle.seg_types.specs.declared.kinds.Kind.TheVariants.{Text as TextKind, Texts as TextsKind, Vector as VectorOf};
+ghost use Rattle.seg_types.specs.declared.kinds.Kind.TheVariants.{Map as MapOf, Text as TextKind, Texts as TextsKind, Vector as VectorOf};
 ghost use Rattle.seg_types.specs.Commands.{Clear, Reserve, Shrink};
 ghost use Rattle.seg_types.specs.Keys.{key_seen};
 ghost use Rattle.segment_manager.specs.Contents.{sizes_at, sizes_at_kind};
@@ -11,12 +11,15 @@ use crate::segment::Segment;
 use seg_types::{Key, Kind, Refusal, Scalar, ScalarKind};
 use seg_vector::{SegString, SegTexts, SegVec};
 
+/// Where the number of pairs stands in a map of any kinds.
+const PAIRS: u64 = 8;
+
 impl Segment {
-    /// How many elements the vector or string of a key has, and how many places.
+    /// How many elements the vector or string of a key has, and how many places; or how many pairs its map has, and 0.
     ///
     /// # Errors
     ///
-    /// `NotFound` where no object has the key, `WrongKind` where it has no storage.
+    /// `NotFound` where no object has the key, `WrongKind` where it is no container.
     pub fn measure(&self, key: &Key) -> Result<(u64, u64), Refusal>
         ensures { Answers self.now (λ d. sizes_at d (key_seen key.now)) result }
     {
@@ -26,6 +29,7 @@ impl Segment {
                 Kind::Text => self.measure_text(key),
                 Kind::Texts => self.measure_texts(key),
                 Kind::Vector(element) => self.measure_elements(key, element),
+                Kind::Map(keys, values) => self.measure_pairs(key, keys, values),
                 _ => Err(Refusal::WrongKind),
             },
         }
@@ -80,6 +84,21 @@ impl Segment {
                 let texts = SegTexts { place };
                 Ok((texts.len(&self.heap), texts.capacity(&self.heap)))
             }
+        }
+    }
+
+    /// The same of a map of two kinds.
+    fn measure_pairs(
+        &self,
+        key: &Key,
+        keys: ScalarKind,
+        values: ScalarKind,
+    ) -> Result<(u64, u64), Refusal>
+        ensures { Answers self.now (λ d. sizes_at_kind d (key_seen key.now) (MapOf keys values)) result }
+    {
+        match self.find_container(key, Kind::Map(keys, values)) {
+            Err(why) => Err(why),
+            Ok(place) => Ok((self.heap.word(place.handle, place.at + PAIRS), 0)),
         }
     }
 

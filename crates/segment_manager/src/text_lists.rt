@@ -1,9 +1,11 @@
 //! The texts of objects that are vectors of strings, read and changed.
-ghost use Rattle.std.specs.Prelude.{◌≡◌, OnErr};
+ghost use Rattle.std.specs.Prelude.{◌≡◌, IsTrue, OnErr, map};
+ghost use Rattle.std.specs.List.{list_all};
 ghost use Rattle.seg_types.specs.declared.kinds.Kind.TheVariants.{Texts as TextsKind};
-ghost use Rattle.seg_types.specs.Commands.{Erase, Get, Insert, Pop, Push, Quoted, Set};
+ghost use Rattle.seg_types.specs.Commands.{Assign, Erase, Get, Insert, Pop, Push, Quoted, Set};
 ghost use Rattle.seg_types.specs.Keys.{key_seen};
 ghost use Rattle.segment_manager.specs.Answers.{TextElement};
+ghost use Rattle.segment_manager.specs.Contents.{are_bytes};
 ghost use Rattle.segment_manager.specs.State.{IsReplyOfKind, IsStepOfKind, KeepsRefused, answer_of, done_answer, refusal_in};
 ghost use Rattle.segment_manager.specs.TextLists.{LeadsOnOfKind};
 
@@ -66,6 +68,28 @@ impl Segment {
         }
     }
 
+    /// Makes texts those of the vector of strings of a key. One or more get a new array of just so many places and then their
+    /// blocks, while the old ones are in use; none leave the array that there is.
+    ///
+    /// # Errors
+    ///
+    /// `ReadOnly` where the segment is open for reading, and else `NotFound` where no object has the key, `WrongKind` where it
+    /// is of another kind, and nothing changes; `NoSpace` where the array or a text has no fit: all objects and blocks are as
+    /// they were, but bytes of gaps may differ.
+    pub fn texts_assign(&mut self, key: &Key, texts: &[&[u8]]) -> Result<(), Refusal>
+        ensures step { IsStepOfKind self.old self.new (key_seen key.now) TextsKind (Assign (key_seen key.now) (map Quoted (map (λ text. text.now) texts.now))) (done_answer result) }
+        ensures refused { KeepsRefused self.old self.new result }
+    {
+        if self.is_read_only() {
+            return Err(Refusal::ReadOnly);
+        }
+        judge_all(texts);
+        match self.find_container(key, Kind::Texts) {
+            Err(why) => Err(why),
+            Ok(place) => SegTexts { place }.assign(&mut self.heap, texts),
+        }
+    }
+
     /// Takes the last text out of the vector of strings of a key, and gives back its block. The places stay.
     ///
     /// # Errors
@@ -124,5 +148,19 @@ impl Segment {
             Err(why) => Err(why),
             Ok(place) => SegTexts { place }.erase(&mut self.heap, index),
         }
+    }
+}
+
+/// Says that a text is of bytes. Its type knows it, and says it of one slice at a time.
+fn judge(text: &[u8])
+    ensures { IsTrue (are_bytes text.now) }
+{}
+
+/// The same of each of some.
+pub(crate) fn judge_all(texts: &[&[u8]])
+    ensures { IsTrue (list_all are_bytes (map (λ text. text.now) texts.now)) }
+{
+    for text in texts {
+        judge(text);
     }
 }

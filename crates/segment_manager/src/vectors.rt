@@ -152,7 +152,7 @@ impl Segment {
 }
 
 /// Says that a value is one, which no call on a vector says where it is refused. An order knows it of what it compares.
-fn judge<T: Scalar>(value: T)
+pub(crate) fn judge<T: Scalar>(value: T)
     ensures { T.is_value value ≡ true }
 {
     let _ = value.precedes(value);

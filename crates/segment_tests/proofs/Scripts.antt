@@ -3,7 +3,7 @@ use Rattle.std.proofs.Common.{◌≡◌, refl, codes}
 use Rattle.raw_region.specs.Format.{current}
 use Rattle.segment_manager.specs.declared.modes.Mode.TheVariants.{Write, ReadOnly}
 use Rattle.segment_manager.specs.Directory.{empty}
-use Rattle.segment_lang.specs.Language.{whole, supported}
+use Rattle.segment_lang.specs.Language.{whole}
 use Rattle.segment_cli.specs.Run.{run}
 
 -- the first run
@@ -194,23 +194,11 @@ printable_name : (run (whole 1) Write (empty 1024) (codes "construct i64 \"\\xc3
 unfolding run
 printable_name = refl
 
--- as much of the language as has come reads the first run
-supported_first_run : (run supported Write (empty 1024) (codes "construct i64 - 5\nshow #144\nfree\nsize\n")).0
-    ≡ codes "#144\ni64 5\n832\n1024\n"
-unfolding run
-supported_first_run = refl
-
--- and objects under keys
-supported_names : (run supported Write (empty 1024) (codes "construct i64 a 5\nfind_or_construct i64[3] a 9\nconstruct_it u8[2] @u8 7 8\nlist\nunique\nshow @u8\nget @u8 1\nset a 0 -1\ndestroy a\nnum_unique\n")).0
+-- objects under keys, in the current format
+current_names : (run (whole current) Write (empty 1024) (codes "construct i64 a 5\nfind_or_construct i64[3] a 9\nconstruct_it u8[2] @u8 7 8\nlist\nunique\nshow @u8\nget @u8 1\nset a 0 -1\ndestroy a\nnum_unique\n")).0
     ≡ codes "#192\n#192 1\n#288\na i64 1 #192\nend\nu8 2 #288\nend\nu8[2] 7 8\n8\nok\ntrue\n1\n"
 unfolding run current
-supported_names = refl
-
--- a word that has not come is unknown; a kind that has not come is bad syntax
-not_supported : (run supported Write (empty 1024) (codes "put m 1 2\nlookup m 1\nremove m 1\nconstruct map<i64,i64> m\nconstruct vec<string> v \"a\"\nfind map<i64,i64> m\ninfo @vec<string>\n")).0
-    ≡ codes "error 1 unknown command\nerror 1 unknown command\nerror 1 unknown command\nerror 3 bad syntax\nerror 3 bad syntax\nerror 3 bad syntax\nerror 3 bad syntax\n"
-unfolding run
-not_supported = refl
+current_names = refl
 
 -- a last line without an end is a line too, and nothing behind a last end is one
 no_last_line_end : (run (whole 2) Write (empty 176) (codes "size\nfree")).0

@@ -163,6 +163,45 @@ const PAIR: [(usize, u64); 29] = [
     (1016, 1),
 ];
 
+/// A map of two pairs: the object at 192, the root at 256, and the node to its right, a red one, at 304.
+const TWO_PAIRS: [(usize, u64); 35] = [
+    (0, MAGIC),
+    (8, 2),
+    (16, 1024),
+    (24, 328),
+    (32, 112),
+    (40, 1),
+    (48, 4),
+    (56, 1),
+    (136, 53),
+    (144, 48),
+    (176, 48),
+    (184, 65),
+    (192, 4295164932),
+    (200, 4294967297),
+    (208, 109),
+    (216, 40),
+    (224, 2),
+    (240, 64),
+    (248, 61),
+    (256, 1),
+    (264, 40),
+    (272, 1),
+    (280, 10),
+    (288, 48),
+    (296, 63),
+    (304, 1),
+    (312, 1),
+    (320, 2),
+    (328, 20),
+    (336, 48),
+    (344, 672),
+    (352, 1),
+    (360, 1),
+    (1008, 672),
+    (1016, 1),
+];
+
 /// The image of so many bytes that has these words.
 fn image_of(alloc: Global, size: usize, words: &[(usize, u64)]) -> Result<Vec<u8>, AllocError> {
     let mut image = Vec::new(alloc);
@@ -354,6 +393,39 @@ fn a_map_is_damaged(rt: HostRuntime) -> Result<(), Fail> {
             ImageClass::BadContainer,
         ),
         ([(224, 8, 2)].as_slice(), ImageClass::BadContainer),
+        // no kind, and two maps in one object
+        ([(192, 4, 196614)].as_slice(), ImageClass::BadObject),
+        ([(196, 4, 2)].as_slice(), ImageClass::BadObject),
+        // no root for one pair, no pair for a root, and neither
+        ([(216, 8, 1)].as_slice(), ImageClass::BadContainer),
+        ([(224, 8, 0)].as_slice(), ImageClass::BadContainer),
+        (
+            [(216, 8, 1), (224, 8, 0)].as_slice(),
+            ImageClass::OrphanBlock,
+        ),
+        // a third word
+        ([(232, 8, 1)].as_slice(), ImageClass::BadContainer),
+        // links to the object itself, and into the middle of a block
+        (
+            [(216, 8, 18446744073709551592)].as_slice(),
+            ImageClass::BadContainer,
+        ),
+        ([(216, 8, 48)].as_slice(), ImageClass::BadContainer),
+        // the right link to itself
+        (
+            [(264, 8, 18446744073709551608)].as_slice(),
+            ImageClass::SharedBlock,
+        ),
+        // a red root, a block of another use, and one of an object
+        ([(248, 8, 63)].as_slice(), ImageClass::BadContainer),
+        ([(248, 8, 57)].as_slice(), ImageClass::BadContainer),
+        ([(248, 8, 49)].as_slice(), ImageClass::BadObject),
+        // a key and a value that are no truths
+        (
+            [(192, 4, 196865), (272, 1, 2)].as_slice(),
+            ImageClass::BadContainer,
+        ),
+        ([(192, 4, 197633)].as_slice(), ImageClass::BadContainer),
     ] {
         let mut image = image_of(rt.alloc(), 1024, &PAIR)?;
         change(image.as_mut_slice(), changes);
@@ -370,11 +442,61 @@ fn a_map_is_damaged(rt: HostRuntime) -> Result<(), Fail> {
 }
 
 #[test]
-fn what_has_not_come_is_refused_by_a_late_class(rt: HostRuntime) -> Result<(), Fail> {
+fn a_map_is_opened(rt: HostRuntime) -> Result<(), Fail> {
     let image = image_of(rt.alloc(), 1024, &PAIR)?;
-    match cause(rt.alloc(), &image, 1024, 4096)? {
-        Some(OpenError::Image(class)) => assert!(rt; class.number() >= 8, "{class}"),
-        other => assert!(rt; false, "{other:?}"),
+    for piece in [1, 7, 4096] {
+        assert_eq!(rt; cause(rt.alloc(), &image, 1024, piece)?, None);
+    }
+    let script = b"lookup m 1\nlookup m 2\ninfo m\nput m 2 20\nlookup m 2\n";
+    let done = run_image(rt.alloc(), Mode::Write, &image, script)?;
+    assert_eq!(rt; done.result, Ok(()));
+    assert_eq!(rt;
+        done.answers.taken(),
+        b"10\nnone\nnamed m map<i64,i64> 1 #192 1\ntrue\n20\n".as_slice()
+    );
+    Ok(())
+}
+
+#[test]
+fn a_tree_is_damaged(rt: HostRuntime) -> Result<(), Fail> {
+    for (changes, class) in [
+        // equal keys, and falling ones
+        ([(272, 8, 2)].as_slice(), ImageClass::BadContainer),
+        ([(272, 8, 3)].as_slice(), ImageClass::BadContainer),
+        // the greater key to the left
+        (
+            [(256, 8, 48), (264, 8, 1)].as_slice(),
+            ImageClass::BadContainer,
+        ),
+        // both links to one node, and one back to the root
+        ([(256, 8, 48)].as_slice(), ImageClass::SharedBlock),
+        (
+            [(304, 8, 18446744073709551568)].as_slice(),
+            ImageClass::SharedBlock,
+        ),
+        // a black node on one side alone
+        ([(296, 8, 61)].as_slice(), ImageClass::BadContainer),
+        // a node that no link leads to
+        ([(264, 8, 1)].as_slice(), ImageClass::BadContainer),
+        (
+            [(264, 8, 1), (224, 8, 1)].as_slice(),
+            ImageClass::OrphanBlock,
+        ),
+        (
+            [(264, 8, 1), (224, 8, 1), (232, 8, 1)].as_slice(),
+            ImageClass::BadContainer,
+        ),
+    ] {
+        let mut image = image_of(rt.alloc(), 1024, &TWO_PAIRS)?;
+        change(image.as_mut_slice(), changes);
+        for piece in [1, 7, 4096] {
+            let found = cause(rt.alloc(), &image, 1024, piece)?;
+            assert_eq!(rt; found, Some(OpenError::Image(class)), "{changes:?}");
+        }
+        assert_eq!(rt;
+            answer(rt.alloc(), &image)?,
+            Err(SessionFault::Image(class))
+        );
     }
     Ok(())
 }
@@ -442,6 +564,16 @@ fn names_are_opened(rt: HostRuntime) -> Result<(), Fail> {
             b"show v\npush v 3\nshow v\nlist\nfree\n",
             b"vec<i64> 1\nok\nvec<i64> 1 3\nv vec<i64> 1 #192\nw vec<i64> 1 #288\nend\n624\n",
         ),
+        (
+            &PAIR,
+            b"show m\nput m 2 20\ninfo m\nfree\n",
+            b"map<i64,i64> 1=10\ntrue\nnamed m map<i64,i64> 1 #192 2\n672\n",
+        ),
+        (
+            &TWO_PAIRS,
+            b"show m\nremove m 1\nshow m\nfree\n",
+            b"map<i64,i64> 1=10 2=20\ntrue\nmap<i64,i64> 2=20\n720\n",
+        ),
     ] {
         let image = image_of(rt.alloc(), 1024, words)?;
         for piece in [1, 7, 4096] {
@@ -462,6 +594,11 @@ fn a_run_saves_these_words(rt: HostRuntime) -> Result<(), Fail> {
         (
             b"construct vec<i64> v 1\nconstruct vec<i64> w 2\n",
             &VECTORS,
+        ),
+        (b"construct map<i64,i64> m\nput m 1 10\n", &PAIR),
+        (
+            b"construct map<i64,i64> m\nput m 1 10\nput m 2 20\n",
+            &TWO_PAIRS,
         ),
     ] {
         let done = run_fresh(rt.alloc(), 1024, script)?;

@@ -45,7 +45,7 @@ pub const FRONT: Place = Place {
 };
 
 /// The devices of a session: how many bytes the readers give at once, and what comes behind their last byte; how many bytes the
-/// writers have room for.
+/// writers have room for, and what comes where it is full.
 #[derive(Clone, Copy, Debug)]
 pub struct Devices {
     pub piece: usize,
@@ -53,6 +53,7 @@ pub struct Devices {
     pub script_last: Last,
     pub answer_room: usize,
     pub image_room: usize,
+    pub writers_last: Last,
 }
 
 /// Devices that do not fail.
@@ -62,6 +63,7 @@ pub const SOUND: Devices = Devices {
     script_last: Last::Ends,
     answer_room: ROOM,
     image_room: ROOM,
+    writers_last: Last::Fails,
 };
 
 /// Runs a session.
@@ -80,8 +82,8 @@ pub fn run_with(
     let region = RawRegion::new(alloc, place.capacity)?;
     let mut image = MemorySource::new(image, devices.piece, devices.image_last);
     let mut script = MemorySource::new(script, devices.piece, devices.script_last);
-    let mut answers = MemorySink::new(alloc, devices.answer_room, 4096, Last::Fails)?;
-    let mut saved = MemorySink::new(alloc, devices.image_room, 4096, Last::Fails)?;
+    let mut answers = MemorySink::new(alloc, devices.answer_room, 4096, devices.writers_last)?;
+    let mut saved = MemorySink::new(alloc, devices.image_room, 4096, devices.writers_last)?;
     let result = session(
         alloc,
         start,
@@ -140,7 +142,7 @@ pub struct Row {
 }
 
 /// The lines one after another.
-fn script_of(alloc: Global, lines: &[(&str, &str)]) -> Result<Vec<u8>, AllocError> {
+pub fn script_of(alloc: Global, lines: &[(&str, &str)]) -> Result<Vec<u8>, AllocError> {
     let mut script = Vec::new(alloc);
     for (line, _) in lines {
         script.extend_from_slice(line.as_bytes())?;
@@ -150,7 +152,7 @@ fn script_of(alloc: Global, lines: &[(&str, &str)]) -> Result<Vec<u8>, AllocErro
 }
 
 /// What the lines print, one after another.
-fn answers_of(alloc: Global, lines: &[(&str, &str)]) -> Result<Vec<u8>, AllocError> {
+pub fn answers_of(alloc: Global, lines: &[(&str, &str)]) -> Result<Vec<u8>, AllocError> {
     let mut answers = Vec::new(alloc);
     for (_, answer) in lines {
         answers.extend_from_slice(answer.as_bytes())?;
@@ -160,7 +162,7 @@ fn answers_of(alloc: Global, lines: &[(&str, &str)]) -> Result<Vec<u8>, AllocErr
 }
 
 /// Bytes as text, where they are text.
-fn text_of(bytes: &[u8]) -> &str {
+pub fn text_of(bytes: &[u8]) -> &str {
     str::from_utf8(bytes).unwrap_or("no text")
 }
 

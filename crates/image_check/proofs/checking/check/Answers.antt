@@ -1,51 +1,37 @@
--- The frame, the blocks in use, their classes and the support, one after another, and what each of them spends.
-use Rattle.std.proofs.Common.{◌∙◌, sym}
-use Rattle.image_check.proofs.Budget.{blocks-raised, gathered-raised, support-raised}
+-- The frame, the blocks in use and their classes, one after another, and what each of them spends.
+use Rattle.image_check.proofs.Budget.{blocks-raised, gathered-raised}
 use Rattle.image_check.proofs.Early.{frame-no_early_class}
-use Rattle.image_check.proofs.Checked.{no-memory-used, blocks-class, blocks-not_come, blocks-segment, frame-tiles}
+use Rattle.image_check.proofs.Checked.{no-memory-used, blocks-class, blocks-image, frame-tiles}
 use Rattle.image_check.proofs.checking.check.Goals as goal
 
 pub gather-requires : goal.gather-requires
-gather-requires c = record { tiles = frame-tiles c.args.window.now.bytes c.in_default.ensures.finds }
+gather-requires c = record { tiles = frame-tiles c.args.format c.args.window.now.bytes c.in_default.ensures.finds }
 
 pub returns-in_default-gather-clause-answers : goal.returns-in_default-gather-clause-answers
 returns-in_default-gather-clause-answers c = (
-  frame-no_early_class c.args.window.now.bytes c.in_default.ensures.finds,
+  frame-no_early_class c.args.format c.args.window.now.bytes c.in_default.ensures.finds,
   no-memory-used c.args.window.now.bytes c.gather.result c.gather.ensures.memory c.in_default-gather.not-Ok,
 )
 
 pub returns-in_default-gather-clause-visits : goal.returns-in_default-gather-clause-visits
 returns-in_default-gather-clause-visits c =
-    gathered-raised c.args.window.now _ _ _ (frame-tiles c.args.window.now.bytes c.in_default.ensures.finds) c.in_default.ensures.visits c.in_default-gather.ensures.visits
+    gathered-raised c.args.window.now _ _ _ (frame-tiles c.args.format c.args.window.now.bytes c.in_default.ensures.finds) c.in_default.ensures.visits c.in_default-gather.ensures.visits
 
 pub check_blocks-requires-clause-tiles : goal.check_blocks-requires-clause-tiles
-check_blocks-requires-clause-tiles c = frame-tiles c.args.window.now.bytes c.in_default.ensures.finds
+check_blocks-requires-clause-tiles c = frame-tiles c.args.format c.args.window.now.bytes c.in_default.ensures.finds
 
 pub returns-in-Err-check_blocks-clause-answers : goal.returns-in-Err-check_blocks-clause-answers
-returns-in-Err-check_blocks-clause-answers c = blocks-class c.args.window.now.bytes c.in-Err-check_blocks.class c.in_default.ensures.finds c.in-Err-check_blocks.ensures.finds
+returns-in-Err-check_blocks-clause-answers c = blocks-class c.args.format c.args.window.now.bytes c.in-Err-check_blocks.class c.in_default.ensures.finds c.in-Err-check_blocks.ensures.finds
 
 pub returns-in-Err-check_blocks-clause-visits : goal.returns-in-Err-check_blocks-clause-visits
 returns-in-Err-check_blocks-clause-visits c =
-    blocks-raised c.args.window.now _ _ _ (frame-tiles c.args.window.now.bytes c.in_default.ensures.finds) c.in_default.ensures.visits c.in-Ok.ensures.visits
+    blocks-raised c.args.window.now _ _ _ (frame-tiles c.args.format c.args.window.now.bytes c.in_default.ensures.finds) c.in_default.ensures.visits c.in-Ok.ensures.visits
     _ c.in-Err-check_blocks.ensures.visits
 
-pub is_supported-requires : goal.is_supported-requires
-is_supported-requires c = frame-tiles c.args.window.now.bytes c.in_default.ensures.finds
-
-pub returns-then-not-is_supported-clause-answers : goal.returns-then-not-is_supported-clause-answers
-returns-then-not-is_supported-clause-answers c =
-    blocks-not_come c.args.window.now.bytes c.in_default.ensures.bytes c.in_default.ensures.finds c.in_default-check_blocks.ensures.finds (sym c.is_supported.ensures.value ∙ c.if-not-is_supported.true)
-
-pub returns-then-not-is_supported-clause-visits : goal.returns-then-not-is_supported-clause-visits
-returns-then-not-is_supported-clause-visits c =
-    support-raised c.args.window.now _ _ _ (frame-tiles c.args.window.now.bytes c.in_default.ensures.finds) c.in_default.ensures.visits c.in-Ok.ensures.visits
-    _ c.in_default-check_blocks.ensures.visits _ c.is_supported.ensures.visits
-
 pub returns-clause-answers : goal.returns-clause-answers
-returns-clause-answers c =
-    blocks-segment c.args.window.now.bytes c.in_default.ensures.bytes c.in_default.ensures.finds c.in_default-check_blocks.ensures.finds (sym c.is_supported.ensures.value ∙ c.if-not-is_supported.false)
+returns-clause-answers c = blocks-image c.args.format c.args.window.now.bytes c.requires.format c.in_default.ensures.bytes c.in_default.ensures.finds c.in_default-check_blocks.ensures.finds
 
 pub returns-clause-visits : goal.returns-clause-visits
 returns-clause-visits c =
-    support-raised c.args.window.now _ _ _ (frame-tiles c.args.window.now.bytes c.in_default.ensures.finds) c.in_default.ensures.visits c.in-Ok.ensures.visits
-    _ c.in_default-check_blocks.ensures.visits _ c.is_supported.ensures.visits
+    blocks-raised c.args.window.now _ _ _ (frame-tiles c.args.format c.args.window.now.bytes c.in_default.ensures.finds) c.in_default.ensures.visits c.in-Ok.ensures.visits
+    _ c.in_default-check_blocks.ensures.visits

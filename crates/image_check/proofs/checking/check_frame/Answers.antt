@@ -1,22 +1,29 @@
-use Rattle.std.proofs.Common.{ℕ, List, ap, sym, subst, ◌∙◌}
+use Rattle.std.proofs.Common.{◌≡◌, ℕ, ◌<◌, List, length, Ok, Err, Some, ap, arith, sym, subst, ◌∙◌}
 use Rattle.std.proofs.lemmas.Bool.{not-true, not-false}
-use Rattle.std.specs.Prelude.{IsTrue}
-use Rattle.image_check.specs.Classes.{are_bytes}
+use Rattle.std.specs.Prelude.{IsTrue, MatchResult, OnErr, OnOk, Result}
+use Rattle.image_check.specs.declared.classes.ImageClass.{ImageClass}
+use Rattle.image_check.specs.Classes.{are_bytes, class_of}
 use Rattle.image_check.specs.EarlyTests.{has_reserved}
+use Rattle.image_check.specs.Frame.{has_frame}
+use Rattle.image_check.specs.Passes.{HasTiles, tiles_in}
+use Rattle.raw_region.specs.Memory.{bytes_of}
+use Rattle.image_check.specs.Reading.{HasFront}
 use Rattle.image_check.specs.Visits.{tag_rates, tree_rates}
-use Rattle.image_check.proofs.Budget.{frame-raised, spend-both, tags-raised, tags-spend}
-use Rattle.image_check.proofs.Checked.{IsChecked, checked-tags, checked-tiles, checked-tree, checked-frame}
+use Rattle.image_check.proofs.Budget.{frame-raised, spend-both, tags-raised, tags-spend, treeless-spend}
+use Rattle.image_check.proofs.Checked.{later-checked, checked-tags, checked-tiles, checked-tree, checked-frame, treeless-finds}
+use Rattle.image_check.proofs.Filled.{HasFront-IsRight}
 use Rattle.image_check.proofs.FirstClass.{first-reserved}
+use Rattle.image_check.proofs.FormatTags.{later-free_tree, wrong-has_tags}
 use Rattle.image_check.proofs.checking.check_frame.Goals as goal
 
 pub returns-then-not-has_reserved-clause-finds : goal.returns-then-not-has_reserved-clause-finds
 returns-then-not-has_reserved-clause-finds c =
-    first-reserved c.args.window.now c.requires (ap has_reserved (sym c.all_bytes.ensures.all) ∙ sym c.has_reserved.ensures ∙ c.if-not-has_reserved.true)
+    first-reserved c.args.format c.args.window.now c.requires (ap has_reserved (sym c.all_bytes.ensures.all) ∙ sym c.has_reserved.ensures ∙ c.if-not-has_reserved.true)
 
 pub returns-then-not-tags-clause-finds : goal.returns-then-not-tags-clause-finds
 returns-then-not-tags-clause-finds c =
-    checked-tags c.args.window.now c.requires (ap has_reserved (sym c.all_bytes.ensures.all) ∙ sym c.has_reserved.ensures ∙ c.if-not-has_reserved.false)
-    (sym c.check_counted-tags.ensures.good ∙ not-true c.check_counted-tags.result.are_good c.if-not-tags.true)
+    checked-tags c.args.format c.args.window.now c.requires (ap has_reserved (sym c.all_bytes.ensures.all) ∙ sym c.has_reserved.ensures ∙ c.if-not-has_reserved.false)
+    (wrong-has_tags c.args.format (bytes_of c.args.window.now.bytes) (length c.args.window.now.bytes) (sym c.check_counted-tags.ensures.good ∙ not-true c.check_counted-tags.result.are_good c.if-not-tags.true))
 
 pub returns-then-not-tags-clause-most : goal.returns-then-not-tags-clause-most
 returns-then-not-tags-clause-most c = tags-raised c.args.window.now.bytes _ c.check_counted-tags.result.tags _ c.check_counted-tags.ensures.few c.add.ensures
@@ -24,34 +31,31 @@ returns-then-not-tags-clause-most c = tags-raised c.args.window.now.bytes _ c.ch
 pub returns-then-not-has_free_tree-clause-finds : goal.returns-then-not-has_free_tree-clause-finds
 returns-then-not-has_free_tree-clause-finds c =
     let w = c.args.window.now in
-    let h : IsChecked w = record {
-      front = c.requires;
-      reserved = ap has_reserved (sym c.all_bytes.ensures.all) ∙ sym c.has_reserved.ensures ∙ c.if-not-has_reserved.false;
-      tags = sym c.check_counted-tags.ensures.good ∙ not-false c.check_counted-tags.result.are_good c.if-not-tags.false;
-    } in
-    checked-tree w h (sym c.has_free_tree.ensures.value ∙ c.if-not-has_free_tree.true)
+    let some : 0 < c.args.format = (let not_zero = c.if-format-eq0.false in omega arith) in
+    let h =
+    later-checked c.args.format w some c.requires (ap has_reserved (sym c.all_bytes.ensures.all) ∙ sym c.has_reserved.ensures ∙ c.if-not-has_reserved.false)
+    (sym c.check_counted-tags.ensures.good ∙ not-false c.check_counted-tags.result.are_good c.if-not-tags.false) in
+    checked-tree c.args.format w h (later-free_tree c.args.format (bytes_of w.bytes) (tiles_in w.bytes) some ∙ sym c.has_free_tree.ensures.value ∙ c.if-not-has_free_tree.true)
 
 pub returns-then-not-has_free_tree-clause-most : goal.returns-then-not-has_free_tree-clause-most
 returns-then-not-has_free_tree-clause-most c =
     let w = c.args.window.now in
-    let h : IsChecked w = record {
-      front = c.requires;
-      reserved = ap has_reserved (sym c.all_bytes.ensures.all) ∙ sym c.has_reserved.ensures ∙ c.if-not-has_reserved.false;
-      tags = sym c.check_counted-tags.ensures.good ∙ not-false c.check_counted-tags.result.are_good c.if-not-tags.false;
-    } in
-    let tiles = checked-tiles w h in
+    let some : 0 < c.args.format = (let not_zero = c.if-format-eq0.false in omega arith) in
+    let h =
+    later-checked c.args.format w some c.requires (ap has_reserved (sym c.all_bytes.ensures.all) ∙ sym c.has_reserved.ensures ∙ c.if-not-has_reserved.false)
+    (sym c.check_counted-tags.ensures.good ∙ not-false c.check_counted-tags.result.are_good c.if-not-tags.false) in
+    let tiles = checked-tiles c.args.format w h in
     frame-raised w _ _ tiles
     (spend-both w.bytes tag_rates tree_rates 1 50 _ _ _ (tags-spend w _ c.check_counted-tags.result.tags c.add.new.self tiles c.check_counted-tags.ensures.few c.add.ensures) c.has_free_tree.ensures.visits)
 
 pub returns-clause-finds : goal.returns-clause-finds
 returns-clause-finds c =
     let w = c.args.window.now in
-    let h : IsChecked w = record {
-      front = c.requires;
-      reserved = ap has_reserved (sym c.all_bytes.ensures.all) ∙ sym c.has_reserved.ensures ∙ c.if-not-has_reserved.false;
-      tags = sym c.check_counted-tags.ensures.good ∙ not-false c.check_counted-tags.result.are_good c.if-not-tags.false;
-    } in
-    checked-frame w h (sym c.has_free_tree.ensures.value ∙ c.if-not-has_free_tree.false)
+    let some : 0 < c.args.format = (let not_zero = c.if-format-eq0.false in omega arith) in
+    let h =
+    later-checked c.args.format w some c.requires (ap has_reserved (sym c.all_bytes.ensures.all) ∙ sym c.has_reserved.ensures ∙ c.if-not-has_reserved.false)
+    (sym c.check_counted-tags.ensures.good ∙ not-false c.check_counted-tags.result.are_good c.if-not-tags.false) in
+    checked-frame c.args.format w h (later-free_tree c.args.format (bytes_of w.bytes) (tiles_in w.bytes) some ∙ sym c.has_free_tree.ensures.value ∙ c.if-not-has_free_tree.false)
 
 pub returns-clause-bytes : goal.returns-clause-bytes
 returns-clause-bytes c = subst (λ (b : List ℕ). IsTrue (are_bytes b)) c.all_bytes.ensures.all c.all_bytes.ensures.bytes
@@ -59,9 +63,63 @@ returns-clause-bytes c = subst (λ (b : List ℕ). IsTrue (are_bytes b)) c.all_b
 pub returns-clause-visits : goal.returns-clause-visits
 returns-clause-visits c =
     let w = c.args.window.now in
-    let h : IsChecked w = record {
-      front = c.requires;
-      reserved = ap has_reserved (sym c.all_bytes.ensures.all) ∙ sym c.has_reserved.ensures ∙ c.if-not-has_reserved.false;
+    let some : 0 < c.args.format = (let not_zero = c.if-format-eq0.false in omega arith) in
+    let h =
+    later-checked c.args.format w some c.requires (ap has_reserved (sym c.all_bytes.ensures.all) ∙ sym c.has_reserved.ensures ∙ c.if-not-has_reserved.false)
+    (sym c.check_counted-tags.ensures.good ∙ not-false c.check_counted-tags.result.are_good c.if-not-tags.false) in
+    spend-both w.bytes tag_rates tree_rates 1 50 _ _ _ (tags-spend w _ c.check_counted-tags.result.tags c.add.new.self (checked-tiles c.args.format w h) c.check_counted-tags.ensures.few c.add.ensures) c.has_free_tree.ensures.visits
+
+-- ---- format 0
+
+-- what holds anyway
+on-ok : (k : Result (Unit {0}) ImageClass) (X : Type 0) → X → OnOk k X
+on-ok (Ok u) X x = x
+on-ok (Err c) X x = tt
+
+on-err : (k : Result (Unit {0}) ImageClass) (X : Type 0) → X → OnErr k X
+on-err (Ok u) X x = tt
+on-err (Err c) X x = x
+
+pub check_without_tree-requires : goal.check_without_tree-requires
+check_without_tree-requires c =
+    let w = c.args.window.now in
+    record {
+      tiles = record {
+        size = (HasFront-IsRight c.args.format w c.requires).legal;
+        tags = sym c.check_counted-tags.ensures.good ∙ not-false c.check_counted-tags.result.are_good c.if-not-tags.false;
+      };
+    }
+
+pub returns-then-format-eq0-clause-finds : goal.returns-then-format-eq0-clause-finds
+returns-then-format-eq0-clause-finds c =
+    let w = c.args.window.now in
+    let b = w.bytes in
+    let k = c.check_without_tree.result in
+    subst (λ (f : ℕ). MatchResult k (λ done. IsTrue (has_frame f b)) (λ class. class_of f b ≡ Some class)) (sym c.if-format-eq0.true)
+    (treeless-finds w (subst (λ (f : ℕ). HasFront f w) c.if-format-eq0.true c.requires)
+    (ap has_reserved (sym c.all_bytes.ensures.all) ∙ sym c.has_reserved.ensures ∙ c.if-not-has_reserved.false) k c.check_without_tree.ensures.finds)
+
+pub returns-then-format-eq0-clause-bytes : goal.returns-then-format-eq0-clause-bytes
+returns-then-format-eq0-clause-bytes c =
+    on-ok c.check_without_tree.result (IsTrue (are_bytes c.args.window.now.bytes))
+    (subst (λ (b : List ℕ). IsTrue (are_bytes b)) c.all_bytes.ensures.all c.all_bytes.ensures.bytes)
+
+pub returns-then-format-eq0-clause-visits : goal.returns-then-format-eq0-clause-visits
+returns-then-format-eq0-clause-visits c =
+    let w = c.args.window.now in
+    let tiles : HasTiles w.bytes = record {
+      size = (HasFront-IsRight c.args.format w c.requires).legal;
       tags = sym c.check_counted-tags.ensures.good ∙ not-false c.check_counted-tags.result.are_good c.if-not-tags.false;
     } in
-    spend-both w.bytes tag_rates tree_rates 1 50 _ _ _ (tags-spend w _ c.check_counted-tags.result.tags c.add.new.self (checked-tiles w h) c.check_counted-tags.ensures.few c.add.ensures) c.has_free_tree.ensures.visits
+    on-ok c.check_without_tree.result _
+    (treeless-spend w _ _ _ (tags-spend w _ c.check_counted-tags.result.tags c.add.new.self tiles c.check_counted-tags.ensures.few c.add.ensures) c.check_without_tree.ensures.visits)
+
+pub returns-then-format-eq0-clause-most : goal.returns-then-format-eq0-clause-most
+returns-then-format-eq0-clause-most c =
+    let w = c.args.window.now in
+    let tiles : HasTiles w.bytes = record {
+      size = (HasFront-IsRight c.args.format w c.requires).legal;
+      tags = sym c.check_counted-tags.ensures.good ∙ not-false c.check_counted-tags.result.are_good c.if-not-tags.false;
+    } in
+    on-err c.check_without_tree.result _
+    (frame-raised w _ _ tiles (treeless-spend w _ _ _ (tags-spend w _ c.check_counted-tags.result.tags c.add.new.self tiles c.check_counted-tags.ensures.few c.add.ensures) c.check_without_tree.ensures.visits))

@@ -13,8 +13,11 @@ assign_vector-requires-clause-of_kind c = subst (IsChangeable c.args.segment.now
 pub assign_string-requires-clause-of_kind : goal.assign_string-requires-clause-of_kind
 assign_string-requires-clause-of_kind c = subst (IsChangeable c.args.segment.now (key_seen c.args.key.now)) c.in-Text.is c.in-Ok.ensures
 
+pub assign_texts-requires-clause-of_kind : goal.assign_texts-requires-clause-of_kind
+assign_texts-requires-clause-of_kind c = subst (IsChangeable c.args.segment.now (key_seen c.args.key.now)) c.in-Texts.is c.in-Ok.ensures
+
 pub returns-in_default : goal.returns-in_default
 returns-in_default c = record {
-  step = assign-neither c.args.segment.now (key_seen c.args.key.now) c.in-Ok.kind c.in-Ok.ensures.is c.in-Ok.ensures.writing c.in_default.not-Vector c.args.values c.in_default.not-Text;
-  refused = refl;
+  step = assign-neither c.args.segment.now (key_seen c.args.key.now) c.in-Ok.kind c.in-Ok.ensures.is c.in-Ok.ensures.writing c.in_default.not-Vector c.in_default.not-Texts c.args.values c.in_default.not-Text;
+  refused = λ _. refl;
 }

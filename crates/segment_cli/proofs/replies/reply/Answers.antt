@@ -1,14 +1,14 @@
 -- Each arm is one call, which is the step of its command.
 use Rattle.std.proofs.Common.{refl, subst, true}
-use Rattle.seg_types.specs.Commands.{AllDeallocated, Append, Assign, Clear, Construct, ConstructIt, Destroy, DestroyPtr, Erase, Find, FindOrConstruct, Free, Get, Insert, NumNamed, NumUnique, Pop, Push, Reserve, Sanity, Set, Shrink, Size}
+use Rattle.seg_types.specs.Commands.{AllDeallocated, Append, Assign, Clear, Construct, ConstructIt, Destroy, DestroyPtr, Erase, Find, FindOrConstruct, Free, Get, Insert, Lookup, NumNamed, NumUnique, Push, Put, Remove, Reserve, Sanity, Set, Shrink, Size}
 use Rattle.seg_types.specs.Keys.{index_key_seen, key_seen, new_key_seen}
-use Rattle.seg_types.specs.Values.{kind_of_scalar, value_of_scalar}
 use Rattle.segment_lang.specs.Seen.{content_of, literal_of}
-use Rattle.segment_manager.specs.Answers.{Done, Element, Made, Number, Truth}
+use Rattle.segment_manager.specs.Answers.{Done, Made, Number, Truth}
 use Rattle.segment_manager.specs.Found.{found_answer, pair_found}
-use Rattle.segment_manager.specs.State.{IsReply, scalar_answer}
+use Rattle.segment_manager.specs.Maps.{any_value_answer}
+use Rattle.segment_manager.specs.State.{IsReply}
 use Rattle.segment_cli.specs.declared.replies.Answer.TheVariants as said
-use Rattle.segment_cli.proofs.Answering.{keeps-refused, replies-blocks, replies-call, replies-info, replies-kinds, replies-names, replies-read, replies-show}
+use Rattle.segment_cli.proofs.Answering.{keeps-refused, reads, replies-blocks, replies-call, replies-info, replies-kinds, replies-names, replies-read, replies-show}
 use Rattle.segment_cli.proofs.replies.reply.Goals as goal
 
 pub returns-in-Construct : goal.returns-in-Construct
@@ -50,8 +50,7 @@ pub returns-in-Info : goal.returns-in-Info
 returns-in-Info c = rw c.in-Info.is (replies-info c.args.segment.now c.in-Info.key)
 
 pub returns-in-Get : goal.returns-in-Get
-returns-in-Get c =
-    rw c.in-Get.is (replies-read c.args.segment.now (Get (key_seen c.in-Get.key) c.in-Get.index) c.element.result (scalar_answer c.get_any.result) refl c.element.ensures c.get_any.ensures)
+returns-in-Get c = rw c.in-Get.is (reads c.args.segment.now (Get (key_seen c.in-Get.key) c.in-Get.index) c.get.result refl c.get.ensures)
 
 pub returns-in-Set : goal.returns-in-Set
 returns-in-Set c =
@@ -61,17 +60,12 @@ returns-in-Set c =
 pub returns-in-Push : goal.returns-in-Push
 returns-in-Push c =
     rw c.in-Push.is (replies-call (λ _. Done) (λ _. refl) c.args.segment.now c.push.new.segment (Push (key_seen c.in-Push.key) (literal_of c.in-Push.value)) c.push.result c.done-in-Push.result
-    refl refl c.done-in-Push.ensures c.push.ensures.step (keeps-refused c.args.segment.now c.push.new.segment c.push.result c.push.ensures.refused))
-
-pub returns-in-Pop : goal.returns-in-Pop
-returns-in-Pop c =
-    rw c.in-Pop.is (replies-call (λ v. Element (kind_of_scalar v) (value_of_scalar v)) (λ _. refl) c.args.segment.now c.pop.new.segment (Pop (key_seen c.in-Pop.key)) c.pop.result c.element-in-Pop.result
-    refl refl c.element-in-Pop.ensures c.pop.ensures.step (keeps-refused c.args.segment.now c.pop.new.segment c.pop.result c.pop.ensures.refused))
+    refl refl c.done-in-Push.ensures c.push.ensures.step c.push.ensures.refused)
 
 pub returns-in-Insert : goal.returns-in-Insert
 returns-in-Insert c =
     rw c.in-Insert.is (replies-call (λ _. Done) (λ _. refl) c.args.segment.now c.insert.new.segment (Insert (key_seen c.in-Insert.key) c.in-Insert.index (literal_of c.in-Insert.value)) c.insert.result c.done-in-Insert.result
-    refl refl c.done-in-Insert.ensures c.insert.ensures.step (keeps-refused c.args.segment.now c.insert.new.segment c.insert.result c.insert.ensures.refused))
+    refl refl c.done-in-Insert.ensures c.insert.ensures.step c.insert.ensures.refused)
 
 pub returns-in-Erase : goal.returns-in-Erase
 returns-in-Erase c =
@@ -96,12 +90,26 @@ returns-in-Clear c =
 pub returns-in-Assign : goal.returns-in-Assign
 returns-in-Assign c =
     rw c.in-Assign.is (replies-call (λ _. Done) (λ _. refl) c.args.segment.now c.assign.new.segment (Assign (key_seen c.in-Assign.key) c.in-Assign.values) c.assign.result c.done-in-Assign.result
-    refl refl c.done-in-Assign.ensures c.assign.ensures.step (keeps-refused c.args.segment.now c.assign.new.segment c.assign.result c.assign.ensures.refused))
+    refl refl c.done-in-Assign.ensures c.assign.ensures.step c.assign.ensures.refused)
 
 pub returns-in-Append : goal.returns-in-Append
 returns-in-Append c =
     rw c.in-Append.is (replies-call (λ _. Done) (λ _. refl) c.args.segment.now c.append.new.segment (Append (key_seen c.in-Append.key) c.in-Append.text) c.append.result c.done-in-Append.result
     refl refl c.done-in-Append.ensures c.append.ensures.step (keeps-refused c.args.segment.now c.append.new.segment c.append.result c.append.ensures.refused))
+
+pub returns-in-Put : goal.returns-in-Put
+returns-in-Put c =
+    rw c.in-Put.is (replies-call Truth (λ _. refl) c.args.segment.now c.put.new.segment (Put (key_seen c.in-Put.key) (literal_of c.in-Put.at) (literal_of c.in-Put.value)) c.put.result c.truth-in-Put.result
+    refl refl c.truth-in-Put.ensures c.put.ensures.step (keeps-refused c.args.segment.now c.put.new.segment c.put.result c.put.ensures.refused))
+
+pub returns-in-Lookup : goal.returns-in-Lookup
+returns-in-Lookup c =
+    rw c.in-Lookup.is (replies-read c.args.segment.now (Lookup (key_seen c.in-Lookup.key) (literal_of c.in-Lookup.at)) c.value_found.result (any_value_answer c.lookup.result) refl c.value_found.ensures c.lookup.ensures)
+
+pub returns-in-Remove : goal.returns-in-Remove
+returns-in-Remove c =
+    rw c.in-Remove.is (replies-call Truth (λ _. refl) c.args.segment.now c.remove.new.segment (Remove (key_seen c.in-Remove.key) (literal_of c.in-Remove.at)) c.remove.result c.truth-in-Remove.result
+    refl refl c.truth-in-Remove.ensures c.remove.ensures.step (keeps-refused c.args.segment.now c.remove.new.segment c.remove.result c.remove.ensures.refused))
 
 pub returns-in-ListNames : goal.returns-in-ListNames
 returns-in-ListNames c = rw c.in-ListNames.is (replies-names c.args.segment.now)

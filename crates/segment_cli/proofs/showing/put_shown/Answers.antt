@@ -1,4 +1,4 @@
-use Rattle.std.proofs.Common.{ap, arith}
+use Rattle.std.proofs.Common.{ap}
 use Rattle.seg_types.specs.Keys.{key_seen}
 use Rattle.segment_manager.specs.Answers.{Refused}
 use Rattle.segment_manager.specs.Calls.{elements_of}
@@ -7,7 +7,8 @@ use Rattle.segment_manager.specs.State.{StandsFor}
 use Rattle.segment_cli.specs.Answer.{answer_text}
 use Rattle.segment_cli.specs.Replies.{shown_at}
 use Rattle.segment_cli.proofs.Owed.{writes_owed, writes_same}
-use Rattle.segment_cli.proofs.ShownObjects.{no-other, scalars-at, scalars-said, shown-missing, string-said, vector-said}
+use Rattle.segment_cli.proofs.PairParts.{map-at, map-said}
+use Rattle.segment_cli.proofs.ShownObjects.{scalars-at, scalars-said, shown-missing, string-said, texts-said, vector-said}
 use Rattle.segment_cli.proofs.showing.put_shown.Goals as goal
 
 pub put_value_line-requires-clause-object : goal.put_value_line-requires-clause-object
@@ -37,11 +38,22 @@ returns-in-Text g c =
     _ (λ (d : Directory). answer_text (shown_at d (key_seen c.args.key.now))) c.put_string_line.ensures
     (string-said s (key_seen c.args.key.now) c.in-Ok.said c.in-Ok.ensures c.in-Text.is)
 
-pub returns-in_default : goal.returns-in_default
-returns-in_default g c = record {
-  writes = λ d k. absurd (no-other c.args.segment.now (key_seen c.args.key.now) c.in-Ok.said c.in-Ok.ensures c.in_default.not-Scalar c.in_default.not-Vector c.in_default.not-Text d k);
-  counted = omega arith;
-}
+pub returns-in-Texts : goal.returns-in-Texts
+returns-in-Texts g c =
+    let s = c.args.segment.now in
+    writes_same (g.W.Sink.history c.args.out.now) (g.W.Sink.history c.put_texts_line.new.out) c.put_texts_line.result (StandsFor s.cut.bytes)
+    _ (λ (d : Directory). answer_text (shown_at d (key_seen c.args.key.now))) c.put_texts_line.ensures
+    (texts-said s (key_seen c.args.key.now) c.in-Ok.said c.in-Ok.ensures c.length_of-in-Texts.result c.in-Texts.is c.length_of-in-Texts.ensures)
+
+pub put_map_line-requires-clause-object : goal.put_map_line-requires-clause-object
+put_map_line-requires-clause-object g c = map-at c.args.segment.now (key_seen c.args.key.now) c.in-Ok.said c.in-Ok.ensures c.in-Map.keys c.in-Map.values c.in-Map.is
+
+pub returns-in-Map : goal.returns-in-Map
+returns-in-Map g c =
+    let s = c.args.segment.now in
+    writes_same (g.W.Sink.history c.args.out.now) (g.W.Sink.history c.put_map_line.new.out) c.put_map_line.result (StandsFor s.cut.bytes)
+    _ (λ (d : Directory). answer_text (shown_at d (key_seen c.args.key.now))) c.put_map_line.ensures
+    (map-said s (key_seen c.args.key.now) c.in-Ok.said c.in-Ok.ensures c.in-Map.keys c.in-Map.values c.in-Map.is c.length_of-count.result c.length_of-count.ensures)
 
 pub returns-in-Err : goal.returns-in-Err
 returns-in-Err g c =

@@ -1,5 +1,5 @@
 use Rattle.std.proofs.Common.{◌∙◌, sym}
-use Rattle.segment_lang.proofs.CommandWords.{elements_content, scalar_content, text_content, texts_content}
+use Rattle.segment_lang.proofs.CommandWords.{elements_content, no_pairs_content, scalar_content, text_content, texts_content}
 use Rattle.segment_lang.proofs.contents.read_content.Goals as goal
 
 pub returns-in-Scalar : goal.returns-in-Scalar
@@ -13,3 +13,6 @@ returns-in-Text c = rw c.in-Text.is (c.read_string.ensures ∙ sym (text_content
 
 pub returns-in-Texts : goal.returns-in-Texts
 returns-in-Texts c = rw c.in-Texts.is (c.read_strings.ensures ∙ sym (texts_content c.args.count c.args.bytes.now))
+
+pub returns-in-Map : goal.returns-in-Map
+returns-in-Map c = rw c.in-Map.is (c.read_no_pairs.ensures ∙ sym (no_pairs_content _ _ c.args.count c.args.bytes.now))

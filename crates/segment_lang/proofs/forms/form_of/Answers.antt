@@ -1,4 +1,4 @@
-use Rattle.std.proofs.Common.{◌∙◌, ap, map, refl, rules}
+use Rattle.std.proofs.Common.{◌∙◌, ap, map, refl}
 use Rattle.std.specs.Option.{option_map}
 use Rattle.segment_lang.specs.Seen.{reader_of}
 use Rattle.segment_lang.specs.declared.forms.TheConstants.{FORMS}
@@ -7,4 +7,4 @@ use Rattle.segment_lang.proofs.forms.form_of.Goals as goal
 
 pub returns : goal.returns
 returns c =
-    ap (option_map reader_of) c.find_form.ensures ∙ form_in_table (map (λ row. (row.0.now, row.1)) FORMS) c.args.word.now refl (search rules)
+    ap (option_map reader_of) c.find_form.ensures ∙ form_in_table (map (λ row. (row.0.now, row.1)) FORMS) c.args.word.now refl

@@ -1,7 +1,7 @@
 use Rattle.std.proofs.Common.{◌∙◌, sym}
 use Rattle.seg_types.specs.Commands as asked
 use Rattle.segment_lang.specs.Reading.{key_of, name_key, new_key}
-use Rattle.segment_lang.proofs.CommandWords.{alone_at_end, of_appending, of_assigning, of_finding, of_handle, of_key, of_key_literal, of_key_number, of_key_number_literal, of_making, of_making_each, of_number}
+use Rattle.segment_lang.proofs.CommandWords.{alone_at_end, of_appending, of_assigning, of_finding, of_handle, of_key, of_key_literal, of_key_number, of_key_number_literal, of_making, of_making_each, of_number, of_putting}
 use Rattle.segment_lang.proofs.forms.read_command.Goals as goal
 
 pub returns-in-Construct : goal.returns-in-Construct
@@ -60,6 +60,15 @@ returns-in-Assign c = rw c.in-Assign.is (c.read_assign.ensures ∙ sym (of_assig
 
 pub returns-in-Append : goal.returns-in-Append
 returns-in-Append c = rw c.in-Append.is (c.read_append.ensures ∙ sym (of_appending c.args.bytes.now))
+
+pub returns-in-Put : goal.returns-in-Put
+returns-in-Put c = rw c.in-Put.is (c.read_put.ensures ∙ sym (of_putting c.args.bytes.now))
+
+pub returns-in-Lookup : goal.returns-in-Lookup
+returns-in-Lookup c = rw c.in-Lookup.is (c.read_lookup.ensures ∙ sym (of_key_literal asked.Lookup c.args.bytes.now))
+
+pub returns-in-Remove : goal.returns-in-Remove
+returns-in-Remove c = rw c.in-Remove.is (c.read_remove.ensures ∙ sym (of_key_literal asked.Remove c.args.bytes.now))
 
 pub returns-in-ReserveNamed : goal.returns-in-ReserveNamed
 returns-in-ReserveNamed c = rw c.in-ReserveNamed.is (c.read_reserve_named.ensures ∙ sym (of_number asked.ReserveNamed c.args.bytes.now))

@@ -28,7 +28,7 @@ end-requires c =
     let q = c.requires in
     let bs = c.args.bytes.now in
     ending (asked.Bytes bs) Text 1 (length bs) bs (Bytes bs) (bytes-content bs) q.0 c.args.heap.now q.1.0 b.handle b.at q.1.1.0 b.entry c.make_string-made.new.heap (IsTrue (are_bytes bs))
-    c.make_string-made.result q.1.1.1 c.make_string-made.ensures
+    c.make_string-made.result (λ h t. h) q.1.1.1 c.make_string-made.ensures
 
 pub returns : goal.returns
 returns c =

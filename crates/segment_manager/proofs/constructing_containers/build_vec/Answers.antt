@@ -32,7 +32,7 @@ end-requires g c =
     let k : ScalarKind = g.T.Scalar.kind in
     let zs = map g.T.Scalar.whole c.args.values.now in
     ending (asked.Elements k zs) (Vector k) (size_of k) _ (spelled k zs) (Elements k zs) (elements-content k zs) q.0 c.args.heap.now q.1.0 b.handle b.at q.1.1.0 b.entry c.make_vec-filled.new.heap
-    (IsTrue (list_all (is_value k) zs)) c.make_vec-filled.result q.1.1.1 c.make_vec-filled.ensures
+    (IsTrue (list_all (is_value k) zs)) c.make_vec-filled.result (λ h t. h) q.1.1.1 c.make_vec-filled.ensures
 
 pub returns : goal.returns
 returns g c =

@@ -1,6 +1,6 @@
 -- The head says which value the object has, and where it stands.
-use Rattle.segment_manager.proofs.Released.{held-object, no-map, number-contents, some-text, some-texts, some-vector, text-contents, texts-contents, vector-contents}
-use Rattle.std.proofs.Common.{◌∙◌, ap, ℕ, ◌+◌}
+use Rattle.segment_manager.proofs.Released.{as_map-place, held-object, number-contents, pairs-contents, some-pairs, some-text, some-texts, some-vector, text-contents, texts-contents, vector-contents}
+use Rattle.std.proofs.Common.{◌∙◌, refl, ap, ℕ, ◌+◌}
 use Rattle.segment_manager.specs.Directory.{padded}
 use Rattle.segment_manager.specs.Layout.{head_len}
 use Rattle.segment_manager.proofs.releasing.release_contents.Goals as goal
@@ -18,8 +18,11 @@ release_elements-requires c =
     some-vector c.args.heap.now.bytes c.args.handle c.value_at.result c.read_head-head.result c.requires c.read_head-head.ensures
     (c.value_at.ensures ∙ ap (λ (n : ℕ). head_len + padded n) c.from.ensures) c.in-Vector.element c.in-Vector.is
 
-pub unreachable-requires : goal.unreachable-requires
-unreachable-requires c = no-map c.args.heap.now.bytes c.args.handle c.read_head-head.result c.requires c.read_head-head.ensures c.in-Map.field-0 c.in-Map.field-1 c.in-Map.is
+pub release_pairs-requires : goal.release_pairs-requires
+release_pairs-requires c =
+    some-pairs c.args.heap.now.bytes c.args.handle c.value_at.result c.read_head-head.result c.requires c.read_head-head.ensures
+    (c.value_at.ensures ∙ ap (λ (n : ℕ). head_len + padded n) c.from.ensures) c.in-Map.keys c.in-Map.values c.map_place.result
+    (as_map-place c.args.handle c.value_at.result _ c.map_place.result refl c.map_place.ensures.handle c.map_place.ensures.at) c.in-Map.is
 
 pub release-requires-in-Texts : goal.release-requires-in-Texts
 release-requires-in-Texts c =
@@ -43,3 +46,9 @@ pub returns-in-Texts : goal.returns-in-Texts
 returns-in-Texts c =
     texts-contents c.args.heap.now c.release-in-Texts.new.heap c.args.handle c.value_at.result c.read_head-head.result c.read_head-head.ensures
     (c.value_at.ensures ∙ ap (λ (n : ℕ). head_len + padded n) c.from.ensures) c.in-Texts.is c.release-in-Texts.ensures
+
+pub returns-in-Map : goal.returns-in-Map
+returns-in-Map c =
+    pairs-contents c.args.heap.now c.release_pairs.new.heap c.args.handle c.value_at.result c.read_head-head.result c.read_head-head.ensures
+    (c.value_at.ensures ∙ ap (λ (n : ℕ). head_len + padded n) c.from.ensures) c.in-Map.keys c.in-Map.values c.map_place.result
+    (as_map-place c.args.handle c.value_at.result _ c.map_place.result refl c.map_place.ensures.handle c.map_place.ensures.at) c.in-Map.is c.release_pairs.ensures

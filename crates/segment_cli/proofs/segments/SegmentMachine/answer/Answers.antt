@@ -1,17 +1,36 @@
+use Rattle.std.proofs.Common.{◌∙◌, ap, subst, sym}
+use Rattle.seg_types.specs.Commands.{Asked}
+use Rattle.seg_types.specs.Keys.{key_seen}
+use Rattle.raw_region.specs.Device.{Writes}
 use Rattle.segment_lang.specs.Seen.{command_of}
 use Rattle.segment_cli.specs.Run.{error_line}
 use Rattle.segment_cli.specs.Segments.{IsAt, Place, answer_line}
 use Rattle.segment_cli.proofs.Owed.{writes_owed}
 use Rattle.segment_cli.proofs.Meant.{asked-meant}
 use Rattle.segment_cli.proofs.WrongLines.{wrong-owed, wrong-stays}
-use Rattle.segment_cli.proofs.Zeros.{executed}
+use Rattle.segment_cli.proofs.Zeros.{executed, not_pop, popped, popped-owed}
 use Rattle.segment_cli.proofs.segments.SegmentMachine.answer.Goals as goal
 
 pub reply-answer-requires : goal.reply-answer-requires
-reply-answer-requires g c = asked-meant (command_of c.in-Asked.command) c.args.line.now c.in-Asked.ensures
+reply-answer-requires g c = record {
+  meant = asked-meant (command_of c.in-Asked.command) c.args.line.now c.in-Asked.ensures;
+  stays = not_pop c.in-Asked.command c.in_default.not-Pop;
+}
 
-pub returns-in-Asked-clause-leads : goal.returns-in-Asked-clause-leads
-returns-in-Asked-clause-leads g c =
+pub returns-in-Pop-clause-leads : goal.returns-in-Pop-clause-leads
+returns-in-Pop-clause-leads g c =
+    popped c.args.self.now c.pop.new.segment (key_seen c.in-Pop.key) c.args.line.now (ap Asked (sym (ap command_of c.in-Pop.is)) ∙ c.in-Asked.ensures) c.pop.ensures.executed
+
+pub returns-in-Pop-clause-writes : goal.returns-in-Pop-clause-writes
+returns-in-Pop-clause-writes g c = record {
+  writes = λ at h.
+      subst (Writes (g.W.Sink.history c.args.out.now) (g.W.Sink.history c.pop.new.out) c.pop.result)
+      (popped-owed c.args.self.now (key_seen c.in-Pop.key) c.args.line.now (ap Asked (sym (ap command_of c.in-Pop.is)) ∙ c.in-Asked.ensures) at h) (c.pop.ensures.writes.writes at.directory h.denotes);
+  counted = c.pop.ensures.writes.counted;
+}
+
+pub returns-in_default-clause-leads : goal.returns-in_default-clause-leads
+returns-in_default-clause-leads g c =
     executed c.args.self.now c.reply-answer.new.segment (command_of c.in-Asked.command) c.reply-answer.result c.args.line.now c.in-Asked.ensures c.reply-answer.ensures
 
 pub returns-in-Wrong-clause-leads : goal.returns-in-Wrong-clause-leads

@@ -1,5 +1,5 @@
 -- The vector of strings that is found has the places.
-use Rattle.std.proofs.Common.{◌≡◌, sym, ap, subst, ◌∙◌, false, Ok, Err}
+use Rattle.std.proofs.Common.{◌≡◌, sym, ap, subst, ◌∙◌, false, Ok}
 use Rattle.seg_types.specs.declared.kinds.Kind.TheVariants.{Texts}
 use Rattle.seg_types.specs.Names.{Key}
 use Rattle.seg_types.specs.Commands.{Reserve}

@@ -1,5 +1,5 @@
 -- The text is put behind the last of the vector of strings that is found.
-use Rattle.std.proofs.Common.{◌≡◌, refl, sym, ap, subst, ◌∙◌, true, false, Ok, Err, arith}
+use Rattle.std.proofs.Common.{◌≡◌, refl, sym, ap, subst, ◌∙◌, false, Ok, arith}
 use Rattle.seg_types.specs.declared.kinds.Kind.TheVariants.{Texts}
 use Rattle.seg_types.specs.Names.{Key}
 use Rattle.seg_types.specs.Commands.{Push, Quoted}

@@ -1,0 +1,145 @@
+-- The gap at the end of a heap, where there is one: it leaves the tree and is dropped.
+use Rattle.std.proofs.Common.{◌≡◌, refl, sym, ap, subst, ◌∙◌, ℕ, ◌+◌, ◌-◌, ◌≤◌, true, false, List, [], ◌∷◌, ◌++◌, length, arith}
+use Rattle.std.specs.Prelude.{Option, Some, None, map}
+use Rattle.std.proofs.lemmas.Bool.{cond-false, cond-true}
+use Rattle.std.proofs.lemmas.List.{append-nil}
+use Rattle.std.proofs.lemmas.Option.{same_Some, none-some}
+use Rattle.raw_region.specs.Memory.{Cut, bytes_of}
+use Rattle.raw_region.specs.Format.{current}
+use Rattle.raw_region.proofs.Laws.{Same-refl}
+use Rattle.block_tags.specs.declared.tile.Tile.{Tile}
+use Rattle.block_tags.specs.Lists.{last_in}
+use Rattle.block_tags.specs.Tiles.{is_free}
+use Rattle.link_tree.specs.Nodes.{is_in}
+use Rattle.best_fit.specs.Ends.{HasEndMoved, KeepsTo, last_end, least_size, of_size}
+use Rattle.best_fit.specs.Extents.{Extent, Gap, LiveSet}
+use Rattle.best_fit.specs.FreeTree.{payloads}
+use Rattle.best_fit.specs.GapNodes.{gap_of, gaps_in, gaps_of, plain, tiles_in}
+use Rattle.best_fit.specs.GapTrees.{HasTree, Regrown, gap_offset, node_of}
+use Rattle.best_fit.specs.Heap.{IsHeap, LaysOut, live_of}
+use Rattle.best_fit.proofs.Allocating.{heap_tree}
+use Rattle.best_fit.proofs.Around.{last_in-EndsWith}
+use Rattle.best_fit.proofs.Carrying.{then-keeps_to}
+use Rattle.best_fit.proofs.Dropped.{EndsUsed, ends_used}
+use Rattle.best_fit.proofs.Frames.{blocks-refl}
+use Rattle.best_fit.proofs.GapSteps.{same_gaps}
+use Rattle.best_fit.proofs.Laid.{heap-says, legal_size, said_row}
+use Rattle.best_fit.proofs.Regrowths.{SplitsAlike, regrown_keeps, regrown_live, splits_alike, tree_says}
+use Rattle.best_fit.proofs.Rows.{extents_of, gaps_of-append, gaps_of-free, unused, used, use_cases, unused-free, used-not_free}
+use Rattle.best_fit.proofs.Uprooting.{One, one_listed, one_small}
+
+-- ---- there is one
+
+-- the last tile of a heap is free
+pub record LastGap (w : Cut) (at : ℕ) : Type 0 where
+  pub front : List Tile
+  pub tile : Tile
+  pub list : tiles_in w ≡ front ++ tile ∷ []
+  pub free : tile.use_of ≡ None
+  pub offset : tile.offset ≡ at
+
+pub last_gap : (w : Cut) (at : ℕ) (o : Option Tile) → o ≡ last_in (tiles_in w) → gap_offset o ≡ Some at → LastGap w at
+last_gap w at None e g = absurd (none-some at g)
+last_gap w at (Some t) e g =
+    elim (use_cases t) [
+      | unused f ↦
+          let ends = last_in-EndsWith (tiles_in w) t (sym e) in
+          let there : Some t.offset ≡ Some at = sym (cond-true (is_free t) (Some t.offset) None (unused-free t f)) ∙ g in
+          record { front = ends.front; tile = t; list = ends.list; free = f; offset = same_Some t.offset at there }
+      | used role f ↦ absurd (none-some at (sym (cond-false (is_free t) (Some t.offset) None (used-not_free t role f)) ∙ g))
+    ]
+
+cons_not : (x : Tile) (xs : List Tile) → x ∷ xs ≡ [] → ⊥
+cons_not x xs e = let ys : List Tile = [] in let f : x ∷ xs ≡ ys = e in cc
+
+none_plain : (ts : List Tile) → map plain ts ≡ [] → ts ≡ []
+none_plain [] e = refl
+none_plain (t ∷ ts) e = absurd (cons_not (plain t) (map plain ts) e)
+
+module _ (w : Cut) (heap : IsHeap current w.bytes) (at : ℕ) (l : LastGap w at) where
+  one : One (gap_of l.tile ∷ []) at
+  one = record { gap = gap_of l.tile; list = refl; offset = sym l.offset }
+
+  pub last_gaps : gaps_in w ≡ gaps_of l.front ++ (gap_of l.tile ∷ [])
+  last_gaps = ap gaps_of l.list ∙ gaps_of-append l.front (l.tile ∷ []) ∙ ap (λ (hs : List Gap). gaps_of l.front ++ hs) (gaps_of-free l.tile [] l.free)
+
+  -- the tree has it as the last
+  pub last_tree : HasTree w (gaps_of l.front ++ (gap_of l.tile ∷ []))
+  last_tree = subst (λ (hs : List Gap). HasTree w hs) last_gaps (heap_tree w heap)
+
+  pub last_small : at + 16 ≤ 1073741824
+  last_small = one_small w (gaps_of l.front) (gap_of l.tile ∷ []) [] at one last_tree
+
+  pub last_listed : is_in (at + 16) (payloads (gaps_of l.front ++ (gap_of l.tile ∷ []))) ≡ true
+  last_listed = one_listed w (gaps_of l.front) (gap_of l.tile ∷ []) [] at one last_tree
+
+  pub last_node : at + 16 ≡ node_of (gap_of l.tile)
+  last_node = ap (λ k. k + 16) (sym l.offset)
+
+  -- once it has left the tree
+  module _ (d : Cut) (tree : HasTree d (gaps_of l.front ++ [])) (r : Regrown w d) where
+    alike : SplitsAlike (tiles_in d) l.front l.tile []
+    alike = splits_alike (tiles_in d) l.front l.tile [] (r.tiles ∙ ap (λ (ts : List Tile). map plain ts) l.list)
+
+    -- what the drop needs
+    pub left_alone : (front : List Tile) × (t : Tile) × (tiles_in d ≡ front ++ t ∷ []) × (t.use_of ≡ None) × HasTree d (gaps_of front)
+    left_alone =
+        let s = alike in
+        let none : s.back' ≡ [] = none_plain s.back' s.backs in (
+          s.front',
+          s.tile',
+          s.list ∙ ap (λ (ts : List Tile). s.front' ++ s.tile' ∷ ts) none,
+          ap (λ (t : Tile). t.use_of) s.tiles ∙ l.free,
+          subst (λ (gs : List Gap). HasTree d gs) (append-nil (gaps_of l.front) ∙ sym (same_gaps l.front s.front' s.fronts)) tree,
+        )
+
+    live_same : live_of d.bytes ≡ live_of w.bytes
+    live_same = regrown_live w d r
+
+    pub end_cut : (e : Cut) → HasEndMoved current d e (least_size (live_of d.bytes)) → HasEndMoved current w e (least_size (live_of w.bytes))
+    end_cut e m =
+        let k : KeepsTo d e (least_size (live_of w.bytes)) (live_of w.bytes).extents = subst (λ (x : LiveSet). KeepsTo d e (least_size x) x.extents) live_same m.keeps in
+        record {
+          live = subst (λ (x : LiveSet). LaysOut current e.bytes (of_size x (least_size x))) live_same m.live;
+          keeps = then-keeps_to w d e (least_size (live_of w.bytes)) (live_of w.bytes).extents
+              (regrown_keeps w d (heap-says w heap).said (tree_says d (gaps_of l.front ++ []) tree).said r) r.size k;
+        }
+
+-- ---- there is none
+
+own_size : (w : Cut) → live_of w.bytes ≡ of_size (live_of w.bytes) (length w.bytes)
+unfolding live_of
+own_size w = refl
+
+own_extents : (w : Cut) → (live_of w.bytes).extents ≡ extents_of (tiles_in w)
+unfolding live_of
+own_extents w = refl
+
+-- the window ends where it ended
+same_end : (w : Cut) (n : ℕ) → IsHeap current w.bytes → length w.bytes ≡ n → HasEndMoved current w w n
+same_end w n heap e =
+    subst (λ k. HasEndMoved current w w k) e (record {
+      live = subst (LaysOut current w.bytes) (own_size w) heap;
+      keeps = record {
+        place = record { before = refl; bytes = refl; capacity = refl; after = refl };
+        front = Same-refl (bytes_of w.bytes) 0 24;
+        behind = Same-refl (bytes_of w.bytes) 32 128;
+        blocks = blocks-refl (bytes_of w.bytes) (live_of w.bytes).extents;
+      };
+    })
+
+no_gap : (o : Option Tile) → gap_offset o ≡ None → (t : Tile) → o ≡ Some t → is_free t ≡ false
+no_gap None g t e = absurd (none-some t e)
+no_gap (Some u) g t e =
+    elim (use_cases u) [
+      | unused f ↦ absurd (none-some u.offset (sym g ∙ cond-true (is_free u) (Some u.offset) None (unused-free u f)))
+      | used role f ↦ subst (λ (v : Tile). is_free v ≡ false) (same_Some u t e) (used-not_free u role f)
+    ]
+
+pub ends_there : (w : Cut) (o : Option Tile) → IsHeap current w.bytes → o ≡ last_in (tiles_in w) → gap_offset o ≡ None → HasEndMoved current w w (least_size (live_of w.bytes))
+ends_there w o heap e g =
+    let says = heap-says w heap in
+    let size = legal_size (length w.bytes) says.said.size in let low = size.low in
+    let uses : EndsUsed (tiles_in w) = λ t last. no_gap o g t (e ∙ last) in
+    let ends = ap (λ (xs : List Extent). last_end 128 xs) (own_extents w) ∙ ends_used (tiles_in w) (length w.bytes - 16) (said_row w (tiles_in w) says.said) uses in
+    same_end w (least_size (live_of w.bytes)) heap (omega arith)

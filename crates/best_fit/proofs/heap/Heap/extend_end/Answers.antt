@@ -1,0 +1,58 @@
+-- A block is put behind all others, and given back.
+use Rattle.std.proofs.Common.{◌≡◌, ap, subst, ◌+◌, ◌≤◌, List, length, arith}
+use Rattle.raw_region.specs.Memory.{Cut}
+use Rattle.raw_region.specs.Format.{current}
+use Rattle.link_tree.specs.Tree.{bits}
+use Rattle.best_fit.specs.Ends.{HasBlockBehind, HasEndMoved}
+use Rattle.best_fit.specs.Extents.{Gap}
+use Rattle.best_fit.specs.GapNodes.{gaps_in}
+use Rattle.best_fit.specs.Heap.{heap_touches, live_of}
+use Rattle.best_fit.proofs.Allocating.{heap_bits}
+use Rattle.best_fit.proofs.Appended.{behind_heap, behind_live, end_moved}
+use Rattle.best_fit.proofs.Writes.{laid-heap}
+use Rattle.best_fit.proofs.heap.Heap.extend_end.Goals as goal
+use Rattle.best_fit.proofs.heap.Heap.extend_end.Goals.{After-append_block-at}
+
+-- the block behind all others, and where it begins
+block : (c : After-append_block-at) → HasBlockBehind current c.self.inside.gaps.window c.append_block-at.new.touches.gaps.now.window c.args.extra
+block c =
+    let f : c.new-touches.result.gaps.now.window ≡ c.self.inside.gaps.window = cc in
+    subst (λ (v : Cut). HasBlockBehind current v c.append_block-at.new.touches.gaps.now.window c.args.extra) f c.append_block-at.ensures.block
+
+place : (c : After-append_block-at) → c.append_block-at.result + 16 ≡ length c.self.inside.gaps.window.bytes
+place c =
+    let f : c.new-touches.result.gaps.now.window ≡ c.self.inside.gaps.window = cc in
+    subst (λ (v : Cut). c.append_block-at.result + 16 ≡ length v.bytes) f c.append_block-at.ensures.at
+
+-- no gap more
+gaps : (c : After-append_block-at) → length (gaps_in c.append_block-at.new.touches.gaps.now.window) ≡ length (gaps_in c.self.inside.gaps.window)
+gaps c =
+    let f : c.new-touches.result.gaps.now.window ≡ c.self.inside.gaps.window = cc in
+    subst (λ (v : Cut). length (gaps_in c.append_block-at.new.touches.gaps.now.window) ≡ length (gaps_in v)) f
+    (ap (λ (gs : List Gap). length gs) c.append_block-at.ensures.gaps)
+
+pub release-requires-clause-heap : goal.release-requires-clause-heap
+release-requires-clause-heap c =
+    let p = (goal.at.release-requires-clause-heap c).After-append_block-at in
+    behind_heap c.self.inside.gaps.window c.append_block-at.new.touches.gaps.now.window c.args.extra c.append_block-at.result (block p) (place p)
+
+pub release-requires-clause-live : goal.release-requires-clause-live
+release-requires-clause-live c =
+    let p = (goal.at.release-requires-clause-live c).After-append_block-at in
+    behind_live c.self.inside.gaps.window c.append_block-at.new.touches.gaps.now.window c.args.extra c.append_block-at.result (block p) (place p)
+
+pub invariant_of-self : goal.invariant_of-self
+invariant_of-self c = laid-heap c.release.new.touches.gaps.now.window.bytes _ c.release.ensures.released.live
+
+pub returns-clause-moved : goal.returns-clause-moved
+returns-clause-moved c =
+    let p = (goal.at.returns-clause-moved c).After-append_block-at in let w = c.self.inside.gaps.window in let e : w ≡ c.args.self.now = cc in
+    subst (λ (v : Cut). HasEndMoved current v c.release.new.touches.gaps.now.window (length v.bytes + c.args.extra)) e
+    (end_moved w c.append_block-at.new.touches.gaps.now.window c.args.extra c.append_block-at.result (block p) (place p) c.release.new.touches.gaps.now.window c.release.ensures.released)
+
+pub returns-clause-steps : goal.returns-clause-steps
+returns-clause-steps c =
+    let p = (goal.at.returns-clause-steps c).After-append_block-at in let w = c.self.inside.gaps.window in let e : w ≡ c.args.self.now = cc in
+    let zero = c.new-touches.ensures.count in let two = c.append_block-at.ensures.touched in let more = c.release.ensures.steps in
+    let alike = ap (λ n. bits (n + 1)) (gaps p) in let same = heap_bits w c.self.invariant in let n = c.count.ensures in let added = c.add.ensures in
+    subst (λ (v : Cut). c.add.new.self ≤ c.args.steps.now + heap_touches (live_of v.bytes)) e (omega arith)

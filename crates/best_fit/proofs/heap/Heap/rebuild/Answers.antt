@@ -1,0 +1,19 @@
+-- An empty tree is written, and then one of all gaps.
+use Rattle.std.proofs.Common.{length}
+use Rattle.raw_region.specs.Memory.{bytes_of}
+use Rattle.best_fit.proofs.Planted.{rebuilt, rebuilt_heap}
+use Rattle.best_fit.proofs.Rebuilt.{tagged_says, tagged_too}
+use Rattle.best_fit.proofs.heap.Heap.rebuild.Goals as goal
+
+pub clear_gaps-requires-clause-tags : goal.clear_gaps-requires-clause-tags
+clear_gaps-requires-clause-tags c = let w = c.args.window in tagged_too (bytes_of w.bytes) (length w.bytes) c.requires.tags
+
+pub invariant_of-result : goal.invariant_of-result
+invariant_of-result c =
+    let w = c.args.window in
+    rebuilt_heap w c.clear_gaps.new.window c.plant_gaps.new.gaps.window (tagged_says w c.requires.size (tagged_too (bytes_of w.bytes) (length w.bytes) c.requires.tags)) c.clear_gaps.ensures.rest c.plant_gaps.ensures.rest c.plant_gaps.ensures.tree
+
+pub returns : goal.returns
+returns c =
+    let w = c.args.window in
+    rebuilt w c.clear_gaps.new.window c.plant_gaps.new.gaps.window (tagged_says w c.requires.size (tagged_too (bytes_of w.bytes) (length w.bytes) c.requires.tags)) c.clear_gaps.ensures.rest c.plant_gaps.ensures.rest c.plant_gaps.ensures.tree c.hold_window.ensures c.hold_window-2.ensures

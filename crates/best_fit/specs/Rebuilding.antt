@@ -1,0 +1,29 @@
+-- A tree of the gaps that is written anew.
+use Rattle.std.specs.Prelude.{◌≡◌, ℕ, ◌+◌, ◌<◌, ◌≤◌, ◌⊎◌, List, ◌∷◌, ◌++◌, length}
+use Rattle.std.specs.List.{AllByRecursion}
+use Rattle.raw_region.specs.Memory.{Cut, bytes_of}
+use Rattle.best_fit.specs.Extents.{Gap, gaps}
+use Rattle.best_fit.specs.GapNodes.{gaps_in}
+use Rattle.best_fit.specs.GapTrees.{HasTree}
+use Rattle.best_fit.specs.Heap.{Keeps, LaysOut, live_of}
+
+-- the tree has the gaps before this one, and not those from it on
+pub record IsNextGap (c : Cut) (xs : List Gap) (g : Gap) : Type 0 where
+  pub behind : List Gap
+  pub gaps : gaps_in c ≡ xs ++ (g ∷ behind)
+  pub tree : HasTree c xs
+
+-- elements of type u8
+abbrev pub AreBytes : List ℕ → Type 0
+AreBytes b = (k : ℕ) → bytes_of b k < 256
+
+-- the byte lies in no gap
+abbrev pub IsBesideGap : ℕ → Gap → Type 0
+IsBesideGap k g = (k < g.offset) ⊎ (g.offset + g.len ≤ k)
+
+-- The same blocks are in use, with the same bytes and colours, and there is a tree of the gaps. Nothing changes but word 24 and
+-- the bytes of gaps.
+pub record IsRebuilt (format : ℕ) (old new : Cut) : Type 0 where
+  pub live : LaysOut format new.bytes (live_of old.bytes)
+  pub keeps : Keeps old new (live_of old.bytes).extents
+  pub rest : (k : ℕ) → k < length old.bytes → (k < 24) ⊎ (32 ≤ k) → AllByRecursion (IsBesideGap k) (gaps (live_of old.bytes)) → bytes_of new.bytes k ≡ bytes_of old.bytes k

@@ -1,0 +1,65 @@
+-- An image of any of the three formats that was read, and is opened or refused.
+use Rattle.std.proofs.Common.{◌≡◌, sym, ap, subst, ◌∙◌, ℕ, ◌+◌, ◌≤◌, List, length, Err, Ok, arith}
+use Rattle.std.specs.Prelude.{Result, MatchResult}
+use Rattle.std.proofs.lemmas.Bool.{eqb-true}
+use Rattle.raw_region.specs.Device.{Given}
+use Rattle.raw_region.specs.Memory.{Cut, SamePlace, bytes_of, cut_at, half_word_at, whole}
+use Rattle.segment_manager.specs.declared.modes.Mode.{Mode}
+use Rattle.segment_manager.specs.State.{IsSegment, State}
+use Rattle.image_check.specs.declared.errors.CheckError.{CheckError}
+use Rattle.image_check.specs.declared.errors.OpenError.{OpenError}
+use Rattle.image_check.specs.declared.errors.OpenRefused.{OpenRefused}
+use Rattle.image_check.specs.Checking.{IsWhyRefused, cause_for}
+use Rattle.image_check.specs.Formats.{format_of, version_word}
+use Rattle.image_check.specs.Opening.{IsImage, Opens}
+use Rattle.image_check.specs.OpeningAny.{IsRenewed, OpensAny}
+use Rattle.image_check.specs.Reading.{HasFront, IsImageRead, IsNotRead}
+use Rattle.image_check.proofs.AnyFormat.{why-any}
+use Rattle.image_check.proofs.Filled.{HasFront-IsRight}
+use Rattle.image_check.proofs.ReadFormats.{format_of-few}
+use Rattle.image_check.proofs.Refused.{no-room, refused}
+
+-- a segment that stands for a directory by an older format stands for one
+pub renewed-segment : (format : ℕ) (old new : List ℕ) → IsImage format old → IsRenewed format old new → IsSegment new
+renewed-segment format old new image r = (image.0, r.denotes image.0 image.1)
+
+-- one that was not read
+pub unread-any : (image : Given) (region : List ℕ) (base : ℕ) (mode : Mode) (refused : OpenRefused) → IsNotRead (format_of image.bytes) image region base refused → OpensAny image region base mode (Err refused)
+unread-any image region base mode refused n = record {
+  answers = record { why = why-any image base (length region) refused.cause n.stops.why; handed_back = n.handed_back };
+  too_small = n.stops.too_small;
+}
+
+module _ (image : Given) (region : List ℕ) (base : ℕ) (w : Cut) (h : IsImageRead (format_of image.bytes) image region base w) (v : ℕ) (said : v ≡ version_word w.bytes) where
+  -- its format is the version that it says
+  format : v ≡ format_of image.bytes
+  format = said ∙ eqb-true (version_word w.bytes) (format_of image.bytes) (HasFront-IsRight (format_of image.bytes) w h.front).version
+
+  pub read-few : v ≤ 2
+  read-few = let same = format in let few = format_of-few image.bytes in omega arith
+
+  pub read-front : HasFront v w
+  read-front = subst (λ (f : ℕ). HasFront f w) (sym format) h.front
+
+  pub refused-any : (mode : Mode) (why : CheckError) (cause : OpenError) (back : List ℕ) → IsWhyRefused v w.bytes why → cause ≡ cause_for why → back ≡ whole w
+      → OpensAny image region base mode (Err (record { region = back; cause = cause }))
+  refused-any mode why cause back x e f =
+      let o : Opens (format_of image.bytes) image region base mode (Err (record { region = back; cause = cause })) =
+      refused (format_of image.bytes) image region base w h mode why cause back (subst (λ (n : ℕ). IsWhyRefused n w.bytes why) format x) e f in
+      record { answers = record { why = why-any image base (length region) cause o.answers.why; handed_back = o.answers.handed_back }; too_small = o.too_small }
+
+  pub opened-any : (mode : Mode) (new : Cut) (s : State) → IsImage v w.bytes → SamePlace w new → IsRenewed v w.bytes new.bytes → s.cut ≡ new → s.mode ≡ mode → OpensAny image region base mode (Ok s)
+  opened-any mode new s there place r e f = record {
+    answers = record {
+      read = h.read;
+      mode = f;
+      place = record {
+        before = ap (λ (c : Cut). c.before) e ∙ place.before ∙ h.place.before;
+        after = ap (λ (c : Cut). c.after) e ∙ place.after ∙ h.place.after;
+      };
+      denotes = subst (λ (b : List ℕ). IsImage (format_of image.bytes) b) h.bytes (subst (λ (n : ℕ). IsImage n w.bytes) format there);
+      renewed = subst (λ (c : Cut). IsRenewed (format_of image.bytes) image.bytes c.bytes) (sym e)
+          (subst (λ (b : List ℕ). IsRenewed (format_of image.bytes) b new.bytes) h.bytes (subst (λ (n : ℕ). IsRenewed n w.bytes new.bytes) format r));
+    };
+    too_small = λ t. absurd (no-room (format_of image.bytes) image region base w h t);
+  }

@@ -1,0 +1,5 @@
+use Rattle.image_check.proofs.AnyFormat.{all_decided_any}
+use Rattle.image_check.proofs.laws.fronts_decide_any.Goals as goal
+
+pub returns : goal.returns
+returns c = all_decided_any

@@ -1,0 +1,5 @@
+use Rattle.image_check.proofs.Renewed.{older_directories_stand}
+use Rattle.image_check.proofs.laws.older_directories_stand.Goals as goal
+
+pub returns : goal.returns
+returns c = older_directories_stand

@@ -1,0 +1,42 @@
+use Rattle.raw_region.specs.Device.{given_since}
+use Rattle.std.proofs.Common.{ap, ◌∙◌}
+use Rattle.std.proofs.lemmas.Result.{err_from_is_err_and}
+use Rattle.image_check.specs.Formats.{version_word}
+use Rattle.image_check.proofs.OpenedAny.{opened-any, read-few, read-front, refused-any, renewed-segment, unread-any}
+use Rattle.image_check.proofs.opening_any.open_any.Goals as goal
+
+pub check-checked-requires-clause-format : goal.check-checked-requires-clause-format
+check-checked-requires-clause-format g c =
+    read-few (given_since (g.S.Source.history c.args.reader.now) (g.S.Source.history c.read_image.new.reader)) c.args.region c.args.base c.in_ok-window.window
+    c.in_ok-window.ensures.reads c.version_in-format.result (c.version_in-format.ensures ∙ ap version_word c.all_bytes.ensures.all)
+
+pub check-checked-requires-clause-front : goal.check-checked-requires-clause-front
+check-checked-requires-clause-front g c =
+    read-front (given_since (g.S.Source.history c.args.reader.now) (g.S.Source.history c.read_image.new.reader)) c.args.region c.args.base c.in_ok-window.window
+    c.in_ok-window.ensures.reads c.version_in-format.result (c.version_in-format.ensures ∙ ap version_word c.all_bytes.ensures.all)
+
+pub renew-requires-clause-format : goal.renew-requires-clause-format
+renew-requires-clause-format g c =
+    read-few (given_since (g.S.Source.history c.args.reader.now) (g.S.Source.history c.read_image.new.reader)) c.args.region c.args.base c.in_ok-window.window
+    c.in_ok-window.ensures.reads c.version_in-format.result (c.version_in-format.ensures ∙ ap version_word c.all_bytes.ensures.all)
+
+pub returns-in_err-window-clause-opens : goal.returns-in_err-window-clause-opens
+returns-in_err-window-clause-opens g c =
+    let p = err_from_is_err_and c.from_residual.result c.from_residual.ensures.1 in
+    rw (p.1, p.2) (unread-any (given_since (g.S.Source.history c.args.reader.now) (g.S.Source.history c.read_image.new.reader)) c.args.region c.args.base c.args.mode
+    c.in_err-window.field-0.0 c.in_err-window.ensures.reads)
+
+pub adopt-requires : goal.adopt-requires
+adopt-requires g c = renewed-segment c.version_in-format.result c.in_ok-window.window.bytes c.renew.result.bytes c.in-Ok.ensures.answers c.renew.ensures.renewed
+
+pub returns-in-Ok-clause-opens : goal.returns-in-Ok-clause-opens
+returns-in-Ok-clause-opens g c =
+    opened-any (given_since (g.S.Source.history c.args.reader.now) (g.S.Source.history c.read_image.new.reader)) c.args.region c.args.base c.in_ok-window.window
+    c.in_ok-window.ensures.reads c.version_in-format.result (c.version_in-format.ensures ∙ ap version_word c.all_bytes.ensures.all)
+    c.args.mode c.renew.result c.adopt.result c.in-Ok.ensures.answers c.renew.ensures.place c.renew.ensures.renewed c.adopt.ensures.cut c.adopt.ensures.mode
+
+pub returns-in-Err-clause-opens : goal.returns-in-Err-clause-opens
+returns-in-Err-clause-opens g c =
+    refused-any (given_since (g.S.Source.history c.args.reader.now) (g.S.Source.history c.read_image.new.reader)) c.args.region c.args.base c.in_ok-window.window
+    c.in_ok-window.ensures.reads c.version_in-format.result (c.version_in-format.ensures ∙ ap version_word c.all_bytes.ensures.all)
+    c.args.mode c.in-Err.why c.into_cause.result c.into_region.result c.in-Err.ensures.answers c.into_cause.ensures c.into_region.ensures

@@ -1,0 +1,54 @@
+//! The opening of an image of any of the three formats.
+ghost use Rattle.std.specs.Prelude.{◌≡◌, ◌+◌, ◌-◌, ◌%◌, ◌^◌, ◌<◌, length};
+ghost use Rattle.raw_region.specs.Device.{Reads, given_since};
+ghost use Rattle.image_check.specs.Opening.{IsRaisedFor, cause_of, failed_reads, size_or_least};
+ghost use Rattle.image_check.specs.OpeningAny.{OpensAny};
+
+use crate::checking::{all_bytes, check};
+use crate::errors::OpenRefused;
+use crate::reading::read_image;
+use crate::renewing::renew;
+use crate::versions::{Versions, version_in};
+use crate::visits::Visits;
+use raw_region::{RawRegion, Source, Steps};
+use segment_manager::{Mode, Segment};
+use std::alloc::Global;
+use std::mem;
+
+/// Reads an image of any of the three formats into the region, from `base` on, which is a multiple of 16, and opens it as a
+/// segment of the current format with the same directory. The image is checked by the rules of the format that it says. One of
+/// the current format stays byte for byte. In one of format 1 the version alone changes, and from format 0 the gaps get a free
+/// tree as well.
+///
+/// # Errors
+///
+/// As [`open`](crate::open), where any of the three versions is taken for the current one.
+///
+/// `steps` is raised by each visit of the check, as there; the writing of a free tree is not counted.
+pub fn open_any<S: Source>(
+    alloc: Global,
+    reader: &mut S,
+    region: RawRegion,
+    base: u64,
+    mode: Mode,
+    steps: &mut Steps,
+) -> Result<Segment, OpenRefused>
+    requires aligned { base % 16 ≡ 0 }
+    requires reader { (S.history reader.old).failures < 2 ^ 64 - 1 }
+    ensures opens { OpensAny (given_since (S.history reader.old) (S.history reader.new)) region base mode result }
+    ensures history { Reads (S.history reader.old) (S.history reader.new) (failed_reads (cause_of result)) }
+    ensures steps { IsRaisedFor (size_or_least (given_since (S.history reader.old) (S.history reader.new)).bytes) steps.old steps.new }
+{
+    let window = read_image(Versions::All, reader, region, base)?;
+    let format = version_in(all_bytes(&window));
+    let mut visits = Visits::new(mem::replace(steps, Steps::new()));
+    let checked = check(format, alloc, &window, &mut visits);
+    *steps = visits.into_steps();
+    match checked {
+        Ok(()) => Ok(Segment::adopt(renew(format, window), mode)),
+        Err(why) => Err(OpenRefused {
+            region: window.into_region(),
+            cause: why.into_cause(),
+        }),
+    }
+}

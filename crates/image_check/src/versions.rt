@@ -1,0 +1,36 @@
+//! Which versions of the format are read.
+ghost use Rattle.std.specs.Prelude.{◌≡◌, ◌≤◌, length};
+ghost use Rattle.image_check.specs.Formats.{is_taken, version_word};
+
+use byteorder::{ByteOrder, LittleEndian};
+use segment_manager::layout::{FORMAT, FORMAT_AT};
+
+/// Which versions of the format are read.
+#[derive(Clone, Copy)]
+pub enum Versions {
+    /// The one that is written.
+    Current,
+    /// It and the two before it.
+    All,
+}
+
+impl Versions {
+    /// Whether a version is one of them.
+    pub fn has(self, version: u64) -> bool
+        ensures { result ≡ is_taken self version }
+    {
+        match self {
+            Versions::Current => version == FORMAT,
+            Versions::All => version <= FORMAT,
+        }
+    }
+}
+
+/// The version that the front of an image says.
+pub fn version_in(front: &[u8]) -> u64
+    requires { 12 ≤ length front.now }
+    ensures { result ≡ version_word front.now }
+{
+    let at = FORMAT_AT as usize;
+    u64::from(LittleEndian::read_u32(&front[at..at + 4]))
+}

@@ -1,0 +1,35 @@
+-- A map stands wherever a call of it ends.
+use Rattle.std.proofs.Common.{◌≡◌, sym, subst, ℕ, Bool, [], true, false}
+use Rattle.std.specs.Prelude.{Result, Ok, Err, Option, Some, None, MatchOption, MatchResult}
+use Rattle.raw_region.specs.Memory.{Cut}
+use Rattle.seg_types.specs.declared.plain.Plain.{Ghosts as Plain}
+use Rattle.seg_map.specs.Changing.{Erases, IsErased, IsFull, IsNew, IsPut, IsPutAgain, Puts, Releases}
+use Rattle.seg_map.specs.Map.{Pair, pair_at}
+use Rattle.seg_map.specs.Places.{IsSomeMap}
+
+pub begun : {K V : Type 0} → (k : Plain K) (v : Plain V) (a b : Cut) (h at : ℕ) → IsNew k v a b h at → IsSomeMap k v b.bytes h at
+begun k v a b h at n = ([], n.map)
+
+module _ {K V : Type 0} (k : Plain K) (v : Plain V) (a b : Cut) (h at : ℕ) where
+  same : b ≡ a → IsSomeMap k v a.bytes h at → IsSomeMap k v b.bytes h at
+  same e q = subst (λ (c : Cut). IsSomeMap k v c.bytes h at) (sym e) q
+
+  pub after_put : {E : Type 0} → (key : K) (value : V) (r : Result Bool E) → IsSomeMap k v a.bytes h at → Puts k v a b h at key value r → IsSomeMap k v b.bytes h at
+  after_put {E} key value r q f = by_pair (pair_at k.order q.0 key) r (f q.0 q.1)
+    where
+      by_pair : (o : Option (Pair K V)) (s : Result Bool E)
+          → MatchOption o (MatchResult s (λ c. (c ≡ true) × IsPut k v a b h at q.0 key value) (λ e. IsFull k v a b))
+          (λ p. (s ≡ Ok false) × IsPutAgain k v a b h at q.0 p key value) → IsSomeMap k v b.bytes h at
+      by_pair None (Ok c) m = (_, m.1.map)
+      by_pair None (Err e) m = same m.same q
+      by_pair (Some p) s m = (_, m.1.map)
+
+  pub after_erase : (key : K) (r : Bool) → IsSomeMap k v a.bytes h at → Erases k v a b h at key r → IsSomeMap k v b.bytes h at
+  after_erase key r q f = by_pair (pair_at k.order q.0 key) (f q.0 q.1)
+    where
+      by_pair : (o : Option (Pair K V)) → MatchOption o ((r ≡ false) × (b ≡ a)) (λ p. (r ≡ true) × IsErased k v a b h at q.0 p key) → IsSomeMap k v b.bytes h at
+      by_pair None m = same m.1 q
+      by_pair (Some p) m = (_, m.1.map)
+
+  pub after_release : IsSomeMap k v a.bytes h at → Releases k v a b h at → IsSomeMap k v b.bytes h at
+  after_release q f = ([], (f q.0 q.1).empty)

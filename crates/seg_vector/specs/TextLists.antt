@@ -1,0 +1,53 @@
+-- An array with texts, laid out beside all that a heap holds.
+use Rattle.std.specs.Prelude.{◌≡◌, ℕ, ◌*◌, ◌<◌, ◌≤◌, Some, None, Result, MatchResult, List, [], ◌∷◌, ◌++◌, drop, length, option_map}
+use Rattle.std.specs.List.{AllByRecursion}
+use Rattle.raw_region.specs.Memory.{Cut, bytes_of}
+use Rattle.raw_region.specs.Format.{current}
+use Rattle.block_tags.specs.declared.tile.Role.TheVariants.{Storage}
+use Rattle.best_fit.specs.Exchange.{IsRestored}
+use Rattle.best_fit.specs.Extents.{Extent, handle}
+use Rattle.best_fit.specs.Fit.{place, resized}
+use Rattle.best_fit.specs.Heap.{extent_at, live_of}
+use Rattle.seg_vector.specs.TextParts.{IsServed, IsSwapped}
+use Rattle.seg_vector.specs.TextsCalls.{all_texts, placed_texts, text_blocks}
+use Rattle.seg_vector.specs.Vector.{AreTextLinks, IsOwnedText, OwnedText}
+
+-- The first n texts are laid out: each has its element in the block of an array, and a block of its own, where it is not empty.
+pub record AreLaid (old now : Cut) (y : Extent) (n : ℕ) (more : List (List ℕ)) : Type 0 where
+  pub texts : List OwnedText
+  pub long : length texts ≡ n
+  pub placed : placed_texts (live_of old.bytes) more ≡ option_map (λ (qs : List OwnedText). texts ++ qs) (placed_texts (live_of now.bytes) (drop n more))
+  pub change : IsSwapped old now (y ∷ []) (y ∷ text_blocks texts)
+  pub links : AreTextLinks (bytes_of now.bytes) (handle y) texts
+  pub owned : AllByRecursion (IsOwnedText (bytes_of now.bytes)) texts
+  pub served : AllByRecursion IsServed texts
+
+-- all of them, or as many as there are before the first without a fit
+pub record AreLaidUpTo (old new : Cut) (y : Extent) (n : ℕ) (more : List (List ℕ)) : Type 0 where
+  pub laid : AreLaid old new y n more
+  pub within : n ≤ length more
+  pub stopped : n < length more → placed_texts (live_of new.bytes) (drop n more) ≡ None
+
+abbrev pub LaysTexts : Cut → Cut → ℕ → List (List ℕ) → ℕ → Type 0
+LaysTexts old new array more n = (y : Extent) → handle y ≡ array → extent_at (live_of old.bytes) array ≡ Some y → AreLaidUpTo old new y n more
+
+-- the array and the texts
+pub record AreLaidOut (old new : Cut) (more : List (List ℕ)) (array : ℕ) : Type 0 where
+  pub block : Extent
+  pub at : array ≡ handle block
+  pub fit : place (live_of old.bytes) (16 * length more) Storage ≡ Some block
+  pub texts : List OwnedText
+  pub long : length texts ≡ length more
+  pub placed : placed_texts (resized (live_of old.bytes) block) more ≡ Some texts
+  pub change : IsSwapped old new [] (block ∷ text_blocks texts)
+  pub links : AreTextLinks (bytes_of new.bytes) (handle block) texts
+  pub owned : AllByRecursion (IsOwnedText (bytes_of new.bytes)) texts
+  pub served : AllByRecursion IsServed texts
+
+-- one of them has no space
+pub record AreNotLaidOut (old new : Cut) (more : List (List ℕ)) : Type 0 where
+  pub none : all_texts (live_of old.bytes) more ≡ None
+  pub restored : IsRestored current old new
+
+abbrev pub LaysOut : {E : Type 0} → Cut → Cut → List (List ℕ) → Result ℕ E → Type 0
+LaysOut old new more result = MatchResult result (AreLaidOut old new more) (λ e. AreNotLaidOut old new more)

@@ -1,0 +1,65 @@
+use Rattle.std.proofs.Common.{ap, refl, subst}
+use Rattle.seg_types.specs.declared.refusals.Refusal.TheVariants.{WrongKind}
+use Rattle.seg_types.specs.Commands.{Pop}
+use Rattle.seg_types.specs.Keys.{key_seen}
+use Rattle.seg_types.specs.Values.{kind_of_scalar, value_of_scalar}
+use Rattle.segment_manager.specs.Answers.{Element, Refused}
+use Rattle.segment_manager.specs.Directory.{Directory}
+use Rattle.segment_manager.specs.State.{StandsFor, scalar_answer}
+use Rattle.segment_manager.specs.Step.{step}
+use Rattle.segment_cli.specs.Answer.{answer_text}
+use Rattle.segment_cli.specs.Changes.{IsChangeable}
+use Rattle.segment_cli.proofs.Answering.{keeps-refused, kept-refused}
+use Rattle.segment_cli.proofs.ElementCalls.{pop-no_vector, pop-steps, pop-unchangeable}
+use Rattle.segment_cli.proofs.Owed.{writes_owed}
+use Rattle.segment_cli.proofs.TextElements.{executes-step, step-writes}
+use Rattle.segment_cli.proofs.popping.pop.Goals as goal
+
+pub returns-in-Err-clause-executed : goal.returns-in-Err-clause-executed
+returns-in-Err-clause-executed g c =
+    let s = c.args.segment.now in
+    let key = key_seen c.args.key.now in
+    executes-step s s (Pop key) (Refused c.in-Err.why) (pop-unchangeable s key c.in-Err.why c.in-Err.ensures) (λ _. refl)
+
+pub returns-in-Err-clause-writes : goal.returns-in-Err-clause-writes
+returns-in-Err-clause-writes g c =
+    let s = c.args.segment.now in
+    let key = key_seen c.args.key.now in
+    writes_owed (g.W.Sink.history c.args.out.now) (g.W.Sink.history c.put_refusal.new.out) c.put_refusal.result (StandsFor s.cut.bytes) (answer_text (Refused c.in-Err.why))
+    (λ (d : Directory). answer_text (step s.mode d (Pop key)).0) c.put_refusal.ensures (λ d st. ap answer_text ((pop-unchangeable s key c.in-Err.why c.in-Err.ensures).answers d st))
+
+pub returns-in-Vector-clause-executed : goal.returns-in-Vector-clause-executed
+returns-in-Vector-clause-executed g c =
+    let s = c.args.segment.now in
+    let key = key_seen c.args.key.now in
+    let new = c.pop_element.new.segment in
+    let r = c.pop_element.result in
+    executes-step s new (Pop key) (scalar_answer r) (pop-steps s new key c.in-Ok.kind c.in-Vector.kind (scalar_answer r) c.in-Ok.ensures c.in-Vector.is c.pop_element.ensures.step)
+    (kept-refused (λ v. Element (kind_of_scalar v) (value_of_scalar v)) (λ _. refl) r s new (keeps-refused s new r c.pop_element.ensures.refused))
+
+pub returns-in-Vector-clause-writes : goal.returns-in-Vector-clause-writes
+returns-in-Vector-clause-writes g c =
+    let s = c.args.segment.now in
+    let key = key_seen c.args.key.now in
+    let new = c.pop_element.new.segment in
+    let r = c.pop_element.result in
+    step-writes s new (Pop key) (scalar_answer r) c.element-answer.result (g.W.Sink.history c.args.out.now) (g.W.Sink.history c.put_answer.new.out) c.put_answer.result
+    (pop-steps s new key c.in-Ok.kind c.in-Vector.kind (scalar_answer r) c.in-Ok.ensures c.in-Vector.is c.pop_element.ensures.step) c.element-answer.ensures c.put_answer.ensures
+
+pub pop_text-requires-clause-of_kind : goal.pop_text-requires-clause-of_kind
+pop_text-requires-clause-of_kind g c = subst (IsChangeable c.args.segment.now (key_seen c.args.key.now)) c.in-Texts.is c.in-Ok.ensures
+
+pub returns-in_default-clause-executed : goal.returns-in_default-clause-executed
+returns-in_default-clause-executed g c =
+    let s = c.args.segment.now in
+    let key = key_seen c.args.key.now in
+    executes-step s s (Pop key) (Refused WrongKind) (pop-no_vector s key c.in-Ok.kind c.in-Ok.ensures.is c.in-Ok.ensures.writing c.in_default.not-Vector c.in_default.not-Texts) (λ _. refl)
+
+pub returns-in_default-clause-writes : goal.returns-in_default-clause-writes
+returns-in_default-clause-writes g c =
+    let s = c.args.segment.now in
+    let key = key_seen c.args.key.now in
+    let last = c.put_refusal-in_default in
+    writes_owed (g.W.Sink.history c.args.out.now) (g.W.Sink.history last.new.out) last.result (StandsFor s.cut.bytes) (answer_text (Refused WrongKind))
+    (λ (d : Directory). answer_text (step s.mode d (Pop key)).0) last.ensures
+    (λ d st. ap answer_text ((pop-no_vector s key c.in-Ok.kind c.in-Ok.ensures.is c.in-Ok.ensures.writing c.in_default.not-Vector c.in_default.not-Texts).answers d st))

@@ -1,0 +1,51 @@
+-- What a migration owes: the image that it writes, and what each fault leaves.
+use Rattle.std.specs.Prelude.{◌≡◌, ℕ, true, false, List, [], None, Result, Err, MatchResult}
+use Rattle.raw_region.specs.Device.{Given, Taken, IsProperPrefix}
+use Rattle.raw_region.specs.Format.{current}
+use Rattle.image_check.specs.Classes.{class_of}
+use Rattle.image_check.specs.Formats.{format_of}
+use Rattle.image_check.specs.Opening.{IsImage, IsOutOfMemory, IsReadToEnd, IsTooSmallFor}
+use Rattle.image_check.specs.OpeningAny.{IsRefusedAsAny, IsRenewed, IsUndecidedAny}
+use Rattle.segment_cli.specs.declared.faults.SessionFault.{SessionFault}
+use Rattle.segment_cli.specs.declared.faults.SessionFault.TheVariants.{Image as Refused, BadSize, RegionTooSmall, OutOfMemory, ReadFault, WriteFault, ScriptTooLong}
+
+-- the image was read to its end and denotes a directory by its format, and the new image is that of this directory by the current one
+pub record IsNewImage (image : Given) (new : List ℕ) : Type 0 where
+  pub read : IsReadToEnd image
+  pub denotes : IsImage (format_of image.bytes) image.bytes
+  pub renewed : IsRenewed (format_of image.bytes) image.bytes new
+  -- which is accepted again
+  pub accepted : class_of current new ≡ None
+
+-- the new image went out
+pub record IsMigrated (image : Given) (saved : Taken) : Type 0 where
+  pub new : IsNewImage image saved.bytes
+  pub failed : saved.failed ≡ false
+
+-- the writer failed, and of the new image a proper prefix went out
+pub record IsUnmigrated (image : Given) (saved : Taken) : Type 0 where
+  pub image_of : List ℕ
+  pub new : IsNewImage image image_of
+  pub part : IsProperPrefix saved.bytes image_of
+  pub failed : saved.failed ≡ true
+
+-- nothing went out
+pub record IsNothingSaved (saved : Taken) (cause : Type 0) : Type 0 where
+  pub why : cause
+  pub bytes : saved.bytes ≡ []
+  pub failed : saved.failed ≡ false
+
+abbrev pub IsMigrationFault : ℕ → ℕ → Given → Taken → SessionFault → Type 0
+IsMigrationFault base capacity image saved (Refused c) = IsNothingSaved saved (IsRefusedAsAny image c)
+IsMigrationFault base capacity image saved BadSize = ⊥
+IsMigrationFault base capacity image saved RegionTooSmall = IsNothingSaved saved (IsTooSmallFor (format_of image.bytes) image base capacity)
+IsMigrationFault base capacity image saved OutOfMemory = IsNothingSaved saved (IsOutOfMemory (format_of image.bytes) image)
+IsMigrationFault base capacity image saved ReadFault = IsNothingSaved saved (IsUndecidedAny image)
+IsMigrationFault base capacity image saved WriteFault = IsUnmigrated image saved
+IsMigrationFault base capacity image saved ScriptTooLong = ⊥
+
+-- the answer of a migration in a region of this capacity
+pub record IsMigration (base capacity : ℕ) (image : Given) (saved : Taken) (result : Result (Unit {0}) SessionFault) : Type 0 where
+  pub answers : MatchResult result (λ u. IsMigrated image saved) (IsMigrationFault base capacity image saved)
+  -- this one is answered wherever it applies
+  pub too_small : IsTooSmallFor (format_of image.bytes) image base capacity → result ≡ Err RegionTooSmall

@@ -1,0 +1,72 @@
+//! A map that is shown: its kind and its pairs by rising keys.
+ghost use Rattle.std.specs.Prelude.{◌-◌, ◌^◌, ◌<◌};
+ghost use Rattle.raw_region.specs.Device.{Writes};
+ghost use Rattle.seg_types.specs.Names.{ByHandle};
+ghost use Rattle.segment_manager.specs.State.{StandsFor};
+ghost use Rattle.segment_manager.specs.Walks.{IsMap, item_seen};
+ghost use Rattle.segment_cli.specs.ShownPairs.{item_text, map_line, pairs_text};
+ghost use Rattle.segment_cli.specs.Writing.{WritesFor};
+
+use raw_region::{DeviceFault, Sink};
+use seg_types::{Handle, Kind, ScalarKind, ScalarValue};
+use segment_lang::{Piece, put_pieces};
+use segment_manager::Segment;
+
+/// Writes the kind of the map at a handle, and as many of its pairs by rising keys.
+pub fn put_map_line<W: Sink>(
+    segment: &Segment,
+    handle: Handle,
+    keys: ScalarKind,
+    values: ScalarKind,
+    count: u64,
+    out: &mut W,
+) -> Result<(), DeviceFault>
+    requires writer { (W.history out.old).failures < 2 ^ 64 - 1 }
+    requires object { IsMap segment.now (ByHandle handle) keys values }
+    ensures { WritesFor (W.history out.old) (W.history out.new) result (StandsFor segment.now.cut.bytes)
+        (λ d. map_line keys values d (ByHandle handle) count) }
+{
+    put_pieces(out, &[Piece::Kind(Kind::Map(keys, values))])?;
+    put_pairs(segment, handle, keys, values, count, out)?;
+    put_pieces(out, &[Piece::Bytes(b"\n")])
+}
+
+/// Writes as many pairs of the map at a handle by rising keys, each behind a blank.
+fn put_pairs<W: Sink>(
+    segment: &Segment,
+    handle: Handle,
+    keys: ScalarKind,
+    values: ScalarKind,
+    count: u64,
+    out: &mut W,
+) -> Result<(), DeviceFault>
+    requires writer { (W.history out.old).failures < 2 ^ 64 - 1 }
+    requires object { IsMap segment.now (ByHandle handle) keys values }
+    ensures { WritesFor (W.history out.old) (W.history out.new) result (StandsFor segment.now.cut.bytes)
+        (λ d. pairs_text keys values d (ByHandle handle) count) }
+{
+    let mut next = segment.first_pair_at(handle, keys, values);
+    'pairs: for _ in 0..count {
+        if let Some((key, value)) = next {
+            put_pair(key, value, out)?;
+            next = segment.next_pair_at(handle, key, values);
+        }
+    }
+    Ok(())
+}
+
+/// Writes a key and its value behind a blank.
+fn put_pair<W: Sink>(key: ScalarValue, value: ScalarValue, out: &mut W) -> Result<(), DeviceFault>
+    requires { (W.history out.old).failures < 2 ^ 64 - 1 }
+    ensures { Writes (W.history out.old) (W.history out.new) result (item_text (item_seen (key, value))) }
+{
+    put_pieces(
+        out,
+        &[
+            Piece::Bytes(b" "),
+            Piece::Value(key),
+            Piece::Bytes(b"="),
+            Piece::Value(value),
+        ],
+    )
+}

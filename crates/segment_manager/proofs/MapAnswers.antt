@@ -1,0 +1,107 @@
+-- What the calls of seg_map ensure of the map at the place that was found, as the steps of the calls on the object's map.
+use Rattle.std.proofs.Common.{◌≡◌, sym, ap, subst, ◌∙◌, ℕ, ◌+◌, ◌≤◌, ℤ, Bool, true, false, Option, Result, Ok, length, arith}
+use Rattle.std.specs.Prelude.{IsTrue, option_map}
+use Rattle.raw_region.specs.Format.{current}
+use Rattle.raw_region.specs.Memory.{Cut, bytes_of, word_at}
+use Rattle.best_fit.specs.Heap.{has_room, live_of}
+use Rattle.best_fit.proofs.Laws.{room-less}
+use Rattle.seg_types.specs.declared.kinds.Kind.TheVariants.{Map}
+use Rattle.seg_types.specs.declared.kinds.ScalarKind.{ScalarKind}
+use Rattle.seg_types.specs.declared.plain.Plain.{Ghosts as Plain}
+use Rattle.seg_types.specs.Kinds.{is_value}
+use Rattle.seg_types.specs.Names.{Key}
+use Rattle.seg_types.specs.Commands.{Lookup, Put, Remove, literal_of}
+use Rattle.seg_map.specs.declared.places.Place.{Place}
+use Rattle.seg_map.specs.Changing.{Erases, Puts}
+use Rattle.seg_map.specs.Places.{FindsItem, FindsValue, IsSomeMap}
+use Rattle.seg_vector.specs.declared.places.Place.{Place as ContainerPlace}
+use Rattle.segment_manager.specs.Contents.{container_at, sizes_at_kind, sizes_of}
+use Rattle.segment_manager.specs.Directory.{Directory, kind_of, padded}
+use Rattle.segment_manager.specs.Layout.{head_len}
+use Rattle.segment_manager.specs.Maps.{map_at, numbers_in, pair_above, pair_from, told_of_map, value_or_absent}
+use Rattle.segment_manager.specs.State.{Answers, IsReplyOfKind, IsSegment, State, StandsFor}
+use Rattle.segment_manager.specs.Step.{is_read_only}
+use Rattle.segment_manager.proofs.AnyStorage.{sizes-found}
+use Rattle.segment_manager.proofs.Heads.{good-name, good_name-short}
+use Rattle.segment_manager.proofs.MapCalls.{HoldsPairs, TellsSafely, as_map, holds-pairs, map-erased, map-got, map-put, map-told, put_result, stands-map}
+use Rattle.segment_manager.proofs.PairNumbers.{IsScalarOf, erases-numbers, finds-item, finds-value, puts-numbers, some-map}
+
+module _ {K V : Type 0} (k v : ScalarKind) (kp : Plain K) (vp : Plain V) (kw : K → ℤ) (vw : V → ℤ) (kl : IsScalarOf k kp kw) (vl : IsScalarOf v vp vw)
+    (s t : State) (view : s ≡ t) (key : Key) (p q : Place) (same : q ≡ p) (b : IsSegment s.cut.bytes) (found : Answers t (λ d. map_at d key k v) (Ok p)) where
+  found-there : Answers s (λ d. map_at d key k v) (Ok p)
+  found-there = subst (λ (u : State). Answers u (λ d. map_at d key k v) (Ok p)) (sym view) found
+
+  -- some map of the types stands there
+  pub some-there : IsSomeMap kp vp s.cut.bytes q.handle q.at
+  some-there =
+      subst (λ (r : Place). IsSomeMap kp vp s.cut.bytes r.handle r.at) (sym same)
+      (some-map k v kp vp kw vw kl vl s.cut.bytes p.handle p.at (stands-map s key k v p b found-there))
+
+  -- a key that is a value is a number of its kind
+  as-value : {T : Type 0} (j : ScalarKind) (tp : Plain T) (w : T → ℤ) → IsScalarOf j tp w → (x : T) → tp.is_value x ≡ true → is_value j (w x) ≡ true
+  as-value j tp w l x e = sym (l.values x) ∙ e
+
+  -- ---- what is read
+
+  pub got-there : (x : K) (r : Option V) → kp.is_value x ≡ true → FindsValue kp vp s.cut.bytes q.handle q.at x r
+      → IsReplyOfKind t key (Map k v) (Lookup key (literal_of k (kw x))) (value_or_absent v (option_map vw r))
+  got-there x r good each =
+      subst (λ (u : State). IsReplyOfKind u key (Map k v) (Lookup key (literal_of k (kw x))) (value_or_absent v (option_map vw r))) view
+      (map-got s key k v p b found-there (kw x) (option_map vw r) (as-value k kp kw kl x good)
+      (finds-value k v kp vp kw vw kl vl s.cut.bytes p.handle p.at x r (subst (λ (r' : Place). FindsValue kp vp s.cut.bytes r'.handle r'.at x r) same each)))
+
+  pub from-there : (x : K) (r : Option (K × V)) → FindsItem kp vp s.cut.bytes q.handle q.at false x r → Answers t (λ d. told_of_map d key k v (pair_from (kw x))) (Ok (numbers_in kw vw r))
+  from-there x r each =
+      subst (λ (u : State). Answers u (λ d. told_of_map d key k v (pair_from (kw x))) (Ok (numbers_in kw vw r))) view
+      (map-told s key k v p b found-there (pair_from (kw x)) (numbers_in kw vw r)
+      (finds-item k v kp vp kw vw kl vl s.cut.bytes p.handle p.at false x r (subst (λ (r' : Place). FindsItem kp vp s.cut.bytes r'.handle r'.at false x r) same each)))
+
+  pub above-there : (x : K) (r : Option (K × V)) → FindsItem kp vp s.cut.bytes q.handle q.at true x r → Answers t (λ d. told_of_map d key k v (pair_above (kw x))) (Ok (numbers_in kw vw r))
+  above-there x r each =
+      subst (λ (u : State). Answers u (λ d. told_of_map d key k v (pair_above (kw x))) (Ok (numbers_in kw vw r))) view
+      (map-told s key k v p b found-there (pair_above (kw x)) (numbers_in kw vw r)
+      (finds-item k v kp vp kw vw kl vl s.cut.bytes p.handle p.at true x r (subst (λ (r' : Place). FindsItem kp vp s.cut.bytes r'.handle r'.at true x r) same each)))
+
+  -- ---- what is changed
+
+  module _ (new : Cut) (writing : is_read_only t.mode ≡ false) where
+    writing-there : is_read_only s.mode ≡ false
+    writing-there = subst (λ (u : State). is_read_only u.mode ≡ false) (sym view) writing
+
+    pub put-there : {E : Type 0} (x : K) (y : V) (r : Result Bool E) → kp.is_value x ≡ true → vp.is_value y ≡ true → Puts kp vp s.cut new q.handle q.at x y r
+        → TellsSafely s new key (Map k v) (Put key (literal_of k (kw x)) (literal_of v (vw y))) (put_result r)
+    put-there x y r good fair each =
+        map-put s key k v p b found-there new writing-there (kw x) (vw y) r (as-value k kp kw kl x good) (as-value v vp vw vl y fair)
+        (puts-numbers k v kp vp kw vw kl vl s.cut new p.handle p.at x y r (subst (λ (r' : Place). Puts kp vp s.cut new r'.handle r'.at x y r) same each))
+
+    pub erased-there : (x : K) (r : Bool) → kp.is_value x ≡ true → Erases kp vp s.cut new q.handle q.at x r → TellsSafely s new key (Map k v) (Remove key (literal_of k (kw x))) (Ok r)
+    erased-there x r good each =
+        map-erased s key k v p b found-there new writing-there (kw x) r (as-value k kp kw kl x good)
+        (erases-numbers k v kp vp kw vw kl vl s.cut new p.handle p.at x r (subst (λ (r' : Place). Erases kp vp s.cut new r'.handle r'.at x r) same each))
+
+-- ---- how many pairs there are
+
+module _ (s : State) (key : Key) (k v : ScalarKind) (p : ContainerPlace) (found : Answers s (λ d. container_at d key (Map k v)) (Ok p)) where
+  pairs-in : (d : Directory) → StandsFor s.cut.bytes d → HoldsPairs s.cut.bytes d key k v (record { handle = p.handle; at = p.at })
+  pairs-in d l = holds-pairs s.cut.bytes d key k v (record { handle = p.handle; at = p.at }) l.denotes (ap as_map (found.answers d l))
+
+  -- no name is long
+  pub place-small : IsSegment s.cut.bytes → p.at + 8 ≤ 4096
+  place-small b =
+      let h : HoldsPairs s.cut.bytes b.0 key k v (record { handle = p.handle; at = p.at }) = pairs-in b.0 b.1 in
+      let short : length h.object.name ≤ 255 = good_name-short current h.object (good-name current h.object h.known.stands.good) in
+      let at : head_len + padded (length h.object.name) ≡ p.at = ap (λ (q : Place). q.at) h.at in
+      omega (arith, short, at)
+
+  -- their number stands in the object's block
+  pub count-room : (at : ℕ) → IsSegment s.cut.bytes → at ≡ p.at + 8 → IsTrue (has_room (live_of s.cut.bytes) p.handle (at + 8))
+  count-room at b e = room-less (live_of s.cut.bytes) p.handle (p.at + 24) (at + 8) (omega (arith, e)) (pairs-in b.0 b.1).map.room
+
+  pub pairs-measured : (n at : ℕ) → at ≡ p.at + 8 → n ≡ word_at (bytes_of s.cut.bytes) (p.handle + at) → Answers s (λ d. sizes_at_kind d key (Map k v)) (Ok (n, 0))
+  pairs-measured n at e f = record {
+    answers = λ d l.
+        let h : HoldsPairs s.cut.bytes d key k v (record { handle = p.handle; at = p.at }) = pairs-in d l in
+        let there : p.handle + at ≡ p.handle + p.at + 8 = omega (arith, e) in
+        let count : n ≡ length h.pairs = f ∙ ap (word_at (bytes_of s.cut.bytes)) there ∙ h.map.map.count in
+        (λ i. Ok (count i, 0)) ∙ sym (ap sizes_of h.known.value) ∙ sym (sizes-found d key (Map k v) h.object h.is (ap kind_of h.known.value));
+  }

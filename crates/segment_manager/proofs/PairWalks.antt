@@ -1,0 +1,161 @@
+-- A walk over the pairs of the object of a key, of whatever kinds they are: what each call of it answers, and that none is left out.
+use Rattle.std.proofs.Common.{◌≡◌, refl, sym, ap, subst, ◌∙◌, ℕ, zero, suc, ◌+◌, ℤ, Bool, true, ◌&&◌, Option, Some, None, Result, Ok, Err, List, [], ◌∷◌, ◌++◌, slice_get, arith, if◌then◌else◌}
+use Rattle.std.specs.Prelude.{IsTrue, int_lt, is_some, option_map}
+use Rattle.std.specs.List.{list_all}
+use Rattle.std.proofs.lemmas.Bool.{eq-eqb}
+use Rattle.raw_region.specs.Format.{current}
+use Rattle.block_tags.specs.declared.tile.Role.TheVariants.{Node, Object as ObjectRole}
+use Rattle.best_fit.specs.Table.{serves}
+use Rattle.seg_types.specs.declared.kinds.Kind.TheVariants.{Map}
+use Rattle.seg_types.specs.declared.kinds.ScalarKind.{ScalarKind}
+use Rattle.seg_types.specs.declared.refusals.Refusal.{Refusal}
+use Rattle.seg_types.specs.declared.refusals.Refusal.TheVariants.{NotFound, WrongKind}
+use Rattle.seg_types.specs.declared.values.ScalarValue.{ScalarValue}
+use Rattle.seg_types.specs.Kinds.{code_of, is_kind_of, is_value, lowest, same_kind, size_of}
+use Rattle.seg_types.specs.Names.{ByHandle, Key}
+use Rattle.seg_types.specs.Values.{value_of_scalar}
+use Rattle.seg_map.specs.Map.{is_rising, node_len}
+use Rattle.seg_map.specs.Numbers.{NumberPair, is_number_pair}
+use Rattle.seg_map.specs.Places.{item_of}
+use Rattle.segment_manager.specs.Denotes.{Denotes}
+use Rattle.segment_manager.specs.Directory.{Value, Numbers, Elements, Bytes, Pairs, Texts, Object, Directory, has_good_name, is_good_value, is_object, kind_of, object_at, object_len}
+use Rattle.segment_manager.specs.Found.{is_object_at}
+use Rattle.segment_manager.specs.Maps.{pair_above, pair_from, told_of, told_of_map}
+use Rattle.segment_manager.specs.State.{Answers, State, StandsFor}
+use Rattle.segment_manager.specs.Walks.{AreOfKinds, IsMap, first_of, item_of_kinds, item_seen, numbers_read, pairs_at, pairs_of}
+use Rattle.segment_manager.proofs.AnyStorage.{IsOfKindAt, kind-told}
+use Rattle.segment_manager.proofs.Here.{standing}
+use Rattle.segment_manager.proofs.MapSteps.{map-only}
+use Rattle.segment_manager.proofs.MapWalks.{walk-goes_on, walk-starts}
+use Rattle.segment_manager.proofs.Words.{first, second}
+
+-- ---- the pairs of a good value
+
+good-value : (o : Object) → IsTrue (is_object current o) → IsTrue (is_good_value o.value)
+good-value o h =
+    second (has_good_name current o && is_kind_of current (kind_of o.value)) (is_good_value o.value)
+    (first (has_good_name current o && is_kind_of current (kind_of o.value) && is_good_value o.value) (serves o.extent ObjectRole (object_len o.name o.value)) h)
+
+rising-if : (v : Value) → IsTrue (is_good_value v) → is_rising int_lt (pairs_of v) ≡ true
+rising-if (Numbers k zs) h = refl
+rising-if (Elements k zs t) h = refl
+rising-if (Bytes bs t) h = refl
+rising-if (Pairs k v ps) h = first (is_rising int_lt ps) (list_all (is_number_pair k v) ps) h
+rising-if (Texts ps t) h = refl
+
+-- the keys are values of their kind
+keys-are : (k v : ScalarKind) (ps : List NumberPair) → IsTrue (list_all (is_number_pair k v) ps) → IsTrue (list_all (λ (p : NumberPair). is_value k p.key) ps)
+keys-are k v [] h = refl
+keys-are k v (p ∷ ps) h =
+    let one : IsTrue (is_number_pair k v p) = first (is_number_pair k v p) (list_all (is_number_pair k v) ps) h in
+    let key : IsTrue (is_value k p.key) =
+    first (is_value k p.key) (is_value v p.value) (first (is_value k p.key && is_value v p.value) (serves p.node Node (node_len (size_of k) (size_of v))) one) in
+    both (is_value k p.key) (list_all (λ (q : NumberPair). is_value k q.key) ps) key (keys-are k v ps (second (is_number_pair k v p) (list_all (is_number_pair k v) ps) h))
+  where
+    both : (a b : Bool) → IsTrue a → IsTrue b → IsTrue (a && b)
+    both a b h g = grind arith
+
+-- ---- the pairs of the object of a key
+
+rises-if : (b : List ℕ) (d : Directory) (key : Key) (r : Option Object) → Denotes current b d → object_at d key ≡ r
+    → is_rising int_lt (elim r as (λ _. List NumberPair) [ None ↦ [] | Some o ↦ pairs_of o.value ]) ≡ true
+rises-if b d key None k e = refl
+rises-if b d key (Some o) k e = rising-if o.value (good-value o (standing b d key o k e).good)
+
+-- they stand by rising keys
+pub pairs-rise : (b : List ℕ) (d : Directory) (key : Key) → Denotes current b d → is_rising int_lt (pairs_at d key) ≡ true
+pairs-rise b d key k = rises-if b d key (object_at d key) k refl
+
+module _ (d : Directory) (key : Key) (k v : ScalarKind) (e : IsOfKindAt d key (Map k v)) where
+  same : same_kind (Map k v) (kind_of e.object.value) ≡ true
+  same = eq-eqb (code_of (Map k v)) (code_of (kind_of e.object.value)) (ap code_of (sym e.kind_is))
+
+  the-pairs : (ps : List NumberPair) × (e.object.value ≡ Pairs k v ps)
+  the-pairs = map-only k v e.object.value same
+
+  pairs-found : pairs_at d key ≡ the-pairs.0
+  pairs-found = ap (λ (r : Option Object). elim r as (λ _. List NumberPair) [ None ↦ [] | Some o ↦ pairs_of o.value ]) e.is ∙ ap pairs_of the-pairs.1
+
+  -- what is said of the map of the kinds is said of them
+  told-of-them : {A : Type 0} (say : List NumberPair → A) → told_of_map d key k v say ≡ Ok (say (pairs_at d key))
+  told-of-them {A} say =
+      ap (λ (r : Option Object). elim r as (λ _. Result A Refusal) [ None ↦ Err NotFound | Some o ↦ if same_kind (Map k v) (kind_of o.value) then told_of say o.value else Err WrongKind ]) e.is
+      ∙ ap (λ (t : Bool). let r : Result A Refusal = if t then told_of say e.object.value else Err WrongKind in r) same
+      ∙ ap (told_of say) the-pairs.1
+      ∙ sym (ap (λ (ps : List NumberPair). let r : Result A Refusal = Ok (say ps) in r) pairs-found)
+
+  -- from the least value of their kind on the first of them comes
+  starts : (b : List ℕ) → Denotes current b d → pair_from (lowest k) (pairs_at d key) ≡ option_map item_of (first_of (pairs_at d key))
+  starts b den =
+      let good : IsTrue (is_good_value (Pairs k v the-pairs.0)) =
+      subst (λ (w : Value). IsTrue (is_good_value w)) the-pairs.1 (good-value e.object (standing b d key e.object den e.is).good) in
+      subst (λ (ps : List NumberPair). pair_from (lowest k) ps ≡ option_map item_of (first_of ps)) (sym pairs-found)
+      (walk-starts k the-pairs.0 (keys-are k v the-pairs.0 (second (is_rising int_lt the-pairs.0) (list_all (is_number_pair k v) the-pairs.0) good)))
+
+-- ---- what the calls answer
+
+seen-if : (k v : ScalarKind) (o : Option (ScalarValue × ScalarValue)) (q : Option (ℤ × ℤ)) → AreOfKinds k v (Ok o)
+    → numbers_read value_of_scalar value_of_scalar (Ok o) ≡ Ok q → option_map item_seen o ≡ option_map (item_of_kinds k v) q
+seen-if k v None q h e = let is : None ≡ q = cc in ap (option_map (item_of_kinds k v)) is
+seen-if k v (Some (x, y)) q h e =
+    let is : Some (value_of_scalar x, value_of_scalar y) ≡ q = cc in
+    (λ i. Some ((h.0 i, value_of_scalar x), (h.1 i, value_of_scalar y))) ∙ ap (option_map (item_of_kinds k v)) is
+
+module _ (s : State) (key : Key) (k v : ScalarKind) (is : IsMap s key k v) where
+  map-known : (d : Directory) → StandsFor s.cut.bytes d → IsOfKindAt d key (Map k v)
+  map-known d l = kind-told d key (Map k v) (is.answers d l)
+
+  pub first-seen : (o : Option (ScalarValue × ScalarValue)) → AreOfKinds k v (Ok o)
+      → Answers s (λ d. told_of_map d key k v (pair_from (lowest k))) (numbers_read value_of_scalar value_of_scalar (Ok o))
+      → Answers s (λ d. option_map (item_of_kinds k v) (option_map item_of (first_of (pairs_at d key)))) (option_map item_seen o)
+  first-seen o h a = record {
+    answers = λ d l.
+        seen-if k v o (pair_from (lowest k) (pairs_at d key)) h (a.answers d l ∙ told-of-them d key k v (map-known d l) (pair_from (lowest k)))
+        ∙ ap (option_map (item_of_kinds k v)) (starts d key k v (map-known d l) s.cut.bytes l.denotes);
+  }
+
+  pub next-seen : (z : ℤ) (o : Option (ScalarValue × ScalarValue)) → AreOfKinds k v (Ok o)
+      → Answers s (λ d. told_of_map d key k v (pair_above z)) (numbers_read value_of_scalar value_of_scalar (Ok o))
+      → Answers s (λ d. option_map (item_of_kinds k v) (pair_above z (pairs_at d key))) (option_map item_seen o)
+  next-seen z o h a = record {
+    answers = λ d l. seen-if k v o (pair_above z (pairs_at d key)) h (a.answers d l ∙ told-of-them d key k v (map-known d l) (pair_above z));
+  }
+
+  -- it is a map of the kinds, so no call on it is refused
+  pub not-refused : {A B : Type 0} (say : List NumberPair → A) (why : Refusal) (about : Directory → B) (answer : B) → Answers s (λ d. told_of_map d key k v say) (Err why) → Answers s about answer
+  not-refused {A} say why about answer a = record {
+    answers = λ d l. let never : (let r : Result A Refusal = Err why in r) ≡ Ok (say (pairs_at d key)) = a.answers d l ∙ told-of-them d key k v (map-known d l) say in absurd (cc);
+  }
+
+-- there is an object
+pub map-object : (s : State) (h : ℕ) (k v : ScalarKind) → IsMap s (ByHandle h) k v → Answers s (λ d. is_object_at d h) true
+map-object s h k v is = record { answers = λ d l. sym (ap is_some (kind-told d (ByHandle h) (Map k v) (is.answers d l)).is) }
+
+-- ---- the places of the pairs
+
+-- the first stands at the first place
+pub first-at : (ps : List NumberPair) → slice_get ps 0 ≡ first_of ps
+first-at [] = refl
+first-at (p ∷ ps) = refl
+
+-- the pair at a place, and those behind it
+record IsSplitAt (ps : List NumberPair) (i : ℕ) (p : NumberPair) : Type 0 where
+  front : List NumberPair
+  back : List NumberPair
+  is : ps ≡ front ++ p ∷ back
+  next : slice_get ps (suc i) ≡ first_of back
+
+split-at : (ps : List NumberPair) (i : ℕ) (p : NumberPair) → slice_get ps i ≡ Some p → IsSplitAt ps i p
+split-at [] i p e = absurd (cc)
+split-at (q ∷ qs) zero p e = let one : q ≡ p = cc in record { front = []; back = qs; is = ap (λ (r : NumberPair). r ∷ qs) one; next = first-at qs }
+split-at (q ∷ qs) (suc i) p e = let s = split-at qs i p e in record { front = q ∷ s.front; back = s.back; is = ap (λ (ps : List NumberPair). q ∷ ps) s.is; next = s.next }
+
+-- above the key of the pair at a place comes the pair at the next
+pub walk-next : (b : List ℕ) (d : Directory) (key : Key) (i : ℕ) (p : NumberPair) → Denotes current b d → slice_get (pairs_at d key) i ≡ Some p
+    → pair_above p.key (pairs_at d key) ≡ option_map item_of (slice_get (pairs_at d key) (i + 1))
+walk-next b d key i p k e =
+    let s = split-at (pairs_at d key) i p e in
+    let rises : is_rising int_lt (s.front ++ p ∷ s.back) ≡ true = subst (λ (ps : List NumberPair). is_rising int_lt ps ≡ true) s.is (pairs-rise b d key k) in
+    let more : suc i ≡ i + 1 = omega arith in
+    ap (pair_above p.key) s.is ∙ walk-goes_on s.front p s.back rises ∙ ap (option_map item_of) (sym s.next)
+    ∙ ap (λ (m : ℕ). option_map item_of (slice_get (pairs_at d key) m)) more

@@ -1,0 +1,19 @@
+-- The kind says which type the keys are of.
+use Rattle.std.proofs.Common.{sym, subst}
+use Rattle.segment_manager.specs.Maps.{ReleasesPairs}
+use Rattle.segment_manager.proofs.releasing.release_pairs.Goals as goal
+
+pub returns-in-Bool : goal.returns-in-Bool
+returns-in-Bool c = subst (λ k. ReleasesPairs k c.args.values c.args.heap.now c.release_pairs_of.new.heap c.args.place) (sym c.in-Bool.is) c.release_pairs_of.ensures
+
+pub returns-in-U8 : goal.returns-in-U8
+returns-in-U8 c = subst (λ k. ReleasesPairs k c.args.values c.args.heap.now c.release_pairs_of-in-U8.new.heap c.args.place) (sym c.in-U8.is) c.release_pairs_of-in-U8.ensures
+
+pub returns-in-I32 : goal.returns-in-I32
+returns-in-I32 c = subst (λ k. ReleasesPairs k c.args.values c.args.heap.now c.release_pairs_of-in-I32.new.heap c.args.place) (sym c.in-I32.is) c.release_pairs_of-in-I32.ensures
+
+pub returns-in-I64 : goal.returns-in-I64
+returns-in-I64 c = subst (λ k. ReleasesPairs k c.args.values c.args.heap.now c.release_pairs_of-in-I64.new.heap c.args.place) (sym c.in-I64.is) c.release_pairs_of-in-I64.ensures
+
+pub returns-in-U64 : goal.returns-in-U64
+returns-in-U64 c = subst (λ k. ReleasesPairs k c.args.values c.args.heap.now c.release_pairs_of-in-U64.new.heap c.args.place) (sym c.in-U64.is) c.release_pairs_of-in-U64.ensures

@@ -1,0 +1,25 @@
+-- A segment that becomes longer or shorter at its end.
+use Rattle.std.specs.Prelude.{◌≡◌, ℕ, ◌+◌, ◌-◌, length}
+use Rattle.raw_region.specs.Memory.{Cut, whole}
+use Rattle.best_fit.specs.Ends.{EndsAt, least_size}
+use Rattle.segment_manager.specs.Directory.{Directory, live}
+use Rattle.segment_manager.specs.State.{State, StandsFor}
+
+-- with so many bytes more
+abbrev pub grown : Directory → ℕ → Directory
+grown d extra = record d { size = d.size + extra }
+
+-- as far as the last extent, and the end tag
+abbrev pub shrunk : Directory → Directory
+shrunk d = record d { size = least_size (live d) }
+
+-- how many bytes the region has behind the window
+abbrev pub room_behind : Cut → ℕ
+room_behind c = length (whole c) - (length c.before + length c.bytes)
+
+-- open as it was, and at its place in its region, of which nothing changes behind both ends; of each directory the bytes denote
+-- the next one
+pub record Resizes (old new : State) (next : Directory → Directory) : Type 0 where
+  pub mode : new.mode ≡ old.mode
+  pub place : EndsAt old.cut new.cut (length new.cut.bytes)
+  pub denotes : (d : Directory) → StandsFor old.cut.bytes d → StandsFor new.cut.bytes (next d)

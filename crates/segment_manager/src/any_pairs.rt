@@ -1,0 +1,159 @@
+//! The pairs of objects that are maps whose kinds are not known before.
+ghost use Rattle.std.specs.Prelude.{◌≡◌, OnErr, option_map};
+ghost use Rattle.seg_types.specs.declared.kinds.Kind.TheVariants.{Map as MapOf};
+ghost use Rattle.seg_types.specs.Commands.{Lookup, Put, Remove, literal_of};
+ghost use Rattle.seg_types.specs.Keys.{key_seen};
+ghost use Rattle.seg_types.specs.Values.{kind_of_scalar, value_of_scalar};
+ghost use Rattle.segment_manager.specs.Maps.{any_value_answer};
+ghost use Rattle.segment_manager.specs.State.{IsReplyOfKind, IsStepOfKind, truth_answer};
+
+use crate::segment::Segment;
+use seg_types::{Key, Refusal, Scalar, ScalarKind, ScalarValue};
+
+impl Segment {
+    /// The value of a key of the map of a key, a map with keys of the kind of `at` and values of a kind.
+    ///
+    /// # Errors
+    ///
+    /// `NotFound` where no object has the key, `WrongKind` where it is of another kind.
+    pub fn map_get_any(
+        &self,
+        key: &Key,
+        at: ScalarValue,
+        values: ScalarKind,
+    ) -> Result<Option<ScalarValue>, Refusal>
+        ensures { IsReplyOfKind self.now (key_seen key.now) (MapOf (kind_of_scalar at) values)
+            (Lookup (key_seen key.now) (literal_of (kind_of_scalar at) (value_of_scalar at))) (any_value_answer result) }
+    {
+        match at {
+            ScalarValue::Bool(truth) => self.get_by_key(key, truth, values),
+            ScalarValue::U8(number) => self.get_by_key(key, number, values),
+            ScalarValue::I32(number) => self.get_by_key(key, number, values),
+            ScalarValue::I64(number) => self.get_by_key(key, number, values),
+            ScalarValue::U64(number) => self.get_by_key(key, number, values),
+        }
+    }
+
+    /// The same of keys of a type.
+    fn get_by_key<K: Scalar>(
+        &self,
+        key: &Key,
+        at: K,
+        values: ScalarKind,
+    ) -> Result<Option<ScalarValue>, Refusal>
+        ensures { IsReplyOfKind self.now (key_seen key.now) (MapOf K.kind values) (Lookup (key_seen key.now) (literal_of K.kind (K.whole at))) (any_value_answer result) }
+    {
+        match values {
+            ScalarKind::Bool => match self.map_get::<K, bool>(key, at)? {
+                None => Ok(None),
+                Some(truth) => Ok(Some(ScalarValue::Bool(truth))),
+            },
+            ScalarKind::U8 => match self.map_get::<K, u8>(key, at)? {
+                None => Ok(None),
+                Some(number) => Ok(Some(ScalarValue::U8(number))),
+            },
+            ScalarKind::I32 => match self.map_get::<K, i32>(key, at)? {
+                None => Ok(None),
+                Some(number) => Ok(Some(ScalarValue::I32(number))),
+            },
+            ScalarKind::I64 => match self.map_get::<K, i64>(key, at)? {
+                None => Ok(None),
+                Some(number) => Ok(Some(ScalarValue::I64(number))),
+            },
+            ScalarKind::U64 => match self.map_get::<K, u64>(key, at)? {
+                None => Ok(None),
+                Some(number) => Ok(Some(ScalarValue::U64(number))),
+            },
+        }
+    }
+
+    /// Puts the value of a key into the map of a key, a map of the two values' kinds, and answers whether the key is new.
+    ///
+    /// # Errors
+    ///
+    /// `ReadOnly` where the segment is open for reading, and else `NotFound` where no object has the key, `WrongKind` where it
+    /// is of another kind, `NoSpace` where the key is new and no gap is long enough for its block. Nothing changes.
+    pub fn map_put_any(
+        &mut self,
+        key: &Key,
+        at: ScalarValue,
+        value: ScalarValue,
+    ) -> Result<bool, Refusal>
+        ensures step { IsStepOfKind self.old self.new (key_seen key.now) (MapOf (kind_of_scalar at) (kind_of_scalar value))
+            (Put (key_seen key.now) (literal_of (kind_of_scalar at) (value_of_scalar at)) (literal_of (kind_of_scalar value) (value_of_scalar value))) (truth_answer result) }
+        ensures refused { OnErr result (self.new ≡ self.old) }
+    {
+        match at {
+            ScalarValue::Bool(truth) => self.put_by_key(key, truth, value),
+            ScalarValue::U8(number) => self.put_by_key(key, number, value),
+            ScalarValue::I32(number) => self.put_by_key(key, number, value),
+            ScalarValue::I64(number) => self.put_by_key(key, number, value),
+            ScalarValue::U64(number) => self.put_by_key(key, number, value),
+        }
+    }
+
+    /// The same of a key of a type.
+    fn put_by_key<K: Scalar>(
+        &mut self,
+        key: &Key,
+        at: K,
+        value: ScalarValue,
+    ) -> Result<bool, Refusal>
+        ensures step { IsStepOfKind self.old self.new (key_seen key.now) (MapOf K.kind (kind_of_scalar value))
+            (Put (key_seen key.now) (literal_of K.kind (K.whole at)) (literal_of (kind_of_scalar value) (value_of_scalar value))) (truth_answer result) }
+        ensures refused { OnErr result (self.new ≡ self.old) }
+    {
+        match value {
+            ScalarValue::Bool(truth) => self.map_put(key, at, truth),
+            ScalarValue::U8(number) => self.map_put(key, at, number),
+            ScalarValue::I32(number) => self.map_put(key, at, number),
+            ScalarValue::I64(number) => self.map_put(key, at, number),
+            ScalarValue::U64(number) => self.map_put(key, at, number),
+        }
+    }
+
+    /// Erases a key from the map of a key, a map with keys of its kind and values of a kind, and answers whether it was there.
+    ///
+    /// # Errors
+    ///
+    /// `ReadOnly` where the segment is open for reading, and else `NotFound` where no object has the key, `WrongKind` where it
+    /// is of another kind. Nothing changes.
+    pub fn map_erase_any(
+        &mut self,
+        key: &Key,
+        at: ScalarValue,
+        values: ScalarKind,
+    ) -> Result<bool, Refusal>
+        ensures step { IsStepOfKind self.old self.new (key_seen key.now) (MapOf (kind_of_scalar at) values)
+            (Remove (key_seen key.now) (literal_of (kind_of_scalar at) (value_of_scalar at))) (truth_answer result) }
+        ensures refused { OnErr result (self.new ≡ self.old) }
+    {
+        match at {
+            ScalarValue::Bool(truth) => self.erase_by_key(key, truth, values),
+            ScalarValue::U8(number) => self.erase_by_key(key, number, values),
+            ScalarValue::I32(number) => self.erase_by_key(key, number, values),
+            ScalarValue::I64(number) => self.erase_by_key(key, number, values),
+            ScalarValue::U64(number) => self.erase_by_key(key, number, values),
+        }
+    }
+
+    /// The same of a key of a type.
+    fn erase_by_key<K: Scalar>(
+        &mut self,
+        key: &Key,
+        at: K,
+        values: ScalarKind,
+    ) -> Result<bool, Refusal>
+        ensures step { IsStepOfKind self.old self.new (key_seen key.now) (MapOf K.kind values)
+            (Remove (key_seen key.now) (literal_of K.kind (K.whole at))) (truth_answer result) }
+        ensures refused { OnErr result (self.new ≡ self.old) }
+    {
+        match values {
+            ScalarKind::Bool => self.map_erase::<K, bool>(key, at),
+            ScalarKind::U8 => self.map_erase::<K, u8>(key, at),
+            ScalarKind::I32 => self.map_erase::<K, i32>(key, at),
+            ScalarKind::I64 => self.map_erase::<K, i64>(key, at),
+            ScalarKind::U64 => self.map_erase::<K, u64>(key, at),
+        }
+    }
+}

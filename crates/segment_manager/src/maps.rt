@@ -1,0 +1,222 @@
+//! The pairs of objects that are maps, read and changed.
+ghost use Rattle.std.specs.Prelude.{◌≡◌, IsTrue, OnErr, true};
+ghost use Rattle.seg_types.specs.declared.kinds.Kind.TheVariants.{Map as MapOf};
+ghost use Rattle.seg_types.specs.Commands.{Lookup, Put, Remove, literal_of};
+ghost use Rattle.seg_types.specs.Keys.{key_seen};
+ghost use Rattle.seg_types.specs.Names.{ByHandle};
+ghost use Rattle.segment_manager.specs.Found.{is_object_at};
+ghost use Rattle.segment_manager.specs.Maps.{map_at, pair_above, pair_from, pair_result, told_of_map, value_answer};
+ghost use Rattle.segment_manager.specs.State.{Answers, IsReplyOfKind, IsStepOfKind, truth_answer};
+
+use crate::containers::container_in;
+use crate::segment::Segment;
+use crate::vectors::judge;
+use raw_region::Steps;
+use seg_map::{Place as MapPlace, SegMap};
+use seg_types::{Handle, Key, Kind, Refusal, Scalar};
+use seg_vector::Place;
+
+impl Segment {
+    /// The value of a key of the map of a key, a map of the types.
+    ///
+    /// # Errors
+    ///
+    /// `NotFound` where no object has the key, `WrongKind` where it is of another kind.
+    pub fn map_get<K: Scalar, V: Scalar>(&self, key: &Key, at: K) -> Result<Option<V>, Refusal>
+        ensures { IsReplyOfKind self.now (key_seen key.now) (MapOf K.kind V.kind) (Lookup (key_seen key.now) (literal_of K.kind (K.whole at))) (value_answer V.kind V.whole result) }
+    {
+        judge(at);
+        match self.find_map::<K, V>(key) {
+            Err(why) => Err(why),
+            Ok(place) => Ok(SegMap::<K, V>::at(place).get(&self.heap, at, &mut Steps::new())),
+        }
+    }
+
+    /// The pair with the least key that is not below `from`, of the map of a key, a map of the types.
+    ///
+    /// # Errors
+    ///
+    /// `NotFound` where no object has the key, `WrongKind` where it is of another kind.
+    pub fn map_first_from<K: Scalar, V: Scalar>(
+        &self,
+        key: &Key,
+        from: K,
+    ) -> Result<Option<(K, V)>, Refusal>
+        ensures { Answers self.now (λ d. told_of_map d (key_seen key.now) K.kind V.kind (pair_from (K.whole from))) (pair_result K.whole V.whole result) }
+    {
+        match self.find_map::<K, V>(key) {
+            Err(why) => Err(why),
+            Ok(place) => Ok(SegMap::<K, V>::at(place).first_from(
+                &self.heap,
+                from,
+                &mut Steps::new(),
+            )),
+        }
+    }
+
+    /// The pair with the least key above `after`, of the map of a key, a map of the types.
+    ///
+    /// # Errors
+    ///
+    /// `NotFound` where no object has the key, `WrongKind` where it is of another kind.
+    pub fn map_next_after<K: Scalar, V: Scalar>(
+        &self,
+        key: &Key,
+        after: K,
+    ) -> Result<Option<(K, V)>, Refusal>
+        ensures { Answers self.now (λ d. told_of_map d (key_seen key.now) K.kind V.kind (pair_above (K.whole after))) (pair_result K.whole V.whole result) }
+    {
+        match self.find_map::<K, V>(key) {
+            Err(why) => Err(why),
+            Ok(place) => Ok(SegMap::<K, V>::at(place).next_after(
+                &self.heap,
+                after,
+                &mut Steps::new(),
+            )),
+        }
+    }
+
+    /// Puts the value of a key into the map of a key, a map of the types, and answers whether the key is new. All other pairs
+    /// keep their blocks, and so does this one where the key is not new.
+    ///
+    /// # Errors
+    ///
+    /// `ReadOnly` where the segment is open for reading, and else `NotFound` where no object has the key, `WrongKind` where it
+    /// is of another kind, `NoSpace` where the key is new and no gap is long enough for its block. Nothing changes.
+    pub fn map_put<K: Scalar, V: Scalar>(
+        &mut self,
+        key: &Key,
+        at: K,
+        value: V,
+    ) -> Result<bool, Refusal>
+        ensures step { IsStepOfKind self.old self.new (key_seen key.now) (MapOf K.kind V.kind)
+            (Put (key_seen key.now) (literal_of K.kind (K.whole at)) (literal_of V.kind (V.whole value))) (truth_answer result) }
+        ensures refused { OnErr result (self.new ≡ self.old) }
+    {
+        if self.is_read_only() {
+            return Err(Refusal::ReadOnly);
+        }
+        judge(at);
+        judge(value);
+        match self.find_map::<K, V>(key) {
+            Err(why) => Err(why),
+            Ok(place) => match SegMap::<K, V>::at(place).put(
+                &mut self.heap,
+                at,
+                value,
+                &mut Steps::new(),
+            ) {
+                Err(_) => Err(Refusal::NoSpace),
+                Ok(new) => Ok(new),
+            },
+        }
+    }
+
+    /// Erases a key from the map of a key, a map of the types, and answers whether it was there. Its block is given back; all
+    /// other pairs keep theirs.
+    ///
+    /// # Errors
+    ///
+    /// `ReadOnly` where the segment is open for reading, and else `NotFound` where no object has the key, `WrongKind` where it
+    /// is of another kind. Nothing changes.
+    pub fn map_erase<K: Scalar, V: Scalar>(&mut self, key: &Key, at: K) -> Result<bool, Refusal>
+        ensures step { IsStepOfKind self.old self.new (key_seen key.now) (MapOf K.kind V.kind)
+            (Remove (key_seen key.now) (literal_of K.kind (K.whole at))) (truth_answer result) }
+        ensures refused { OnErr result (self.new ≡ self.old) }
+    {
+        if self.is_read_only() {
+            return Err(Refusal::ReadOnly);
+        }
+        judge(at);
+        match self.find_map::<K, V>(key) {
+            Err(why) => Err(why),
+            Ok(place) => Ok(SegMap::<K, V>::at(place).erase(&mut self.heap, at, &mut Steps::new())),
+        }
+    }
+
+    /// The pair with the least key that is not below `from`, of the map at a handle, a map of the types. There is an object at the
+    /// handle: it is not looked for among the blocks.
+    ///
+    /// # Errors
+    ///
+    /// `WrongKind` where it is of another kind.
+    pub fn map_first_at<K: Scalar, V: Scalar>(
+        &self,
+        handle: Handle,
+        from: K,
+    ) -> Result<Option<(K, V)>, Refusal>
+        requires { Answers self.now (λ d. is_object_at d handle) true }
+        ensures { Answers self.now (λ d. told_of_map d (ByHandle handle) K.kind V.kind (pair_from (K.whole from))) (pair_result K.whole V.whole result) }
+    {
+        match self.map_in::<K, V>(handle) {
+            Err(why) => Err(why),
+            Ok(place) => {
+                let map = SegMap::<K, V>::at(place);
+                Ok(map.first_from(&self.heap, from, &mut Steps::new()))
+            }
+        }
+    }
+
+    /// The pair with the least key above `after`, of the map at a handle, a map of the types. There is an object at the handle: it
+    /// is not looked for among the blocks. So all pairs are read in rising order, each in a walk from the root of the tree.
+    ///
+    /// # Errors
+    ///
+    /// `WrongKind` where it is of another kind.
+    pub fn map_next_at<K: Scalar, V: Scalar>(
+        &self,
+        handle: Handle,
+        after: K,
+    ) -> Result<Option<(K, V)>, Refusal>
+        requires { Answers self.now (λ d. is_object_at d handle) true }
+        ensures { Answers self.now (λ d. told_of_map d (ByHandle handle) K.kind V.kind (pair_above (K.whole after))) (pair_result K.whole V.whole result) }
+    {
+        match self.map_in::<K, V>(handle) {
+            Err(why) => Err(why),
+            Ok(place) => {
+                let map = SegMap::<K, V>::at(place);
+                Ok(map.next_after(&self.heap, after, &mut Steps::new()))
+            }
+        }
+    }
+
+    /// Where the map at a handle stands, a map of the types. There is an object at the handle.
+    ///
+    /// # Errors
+    ///
+    /// `WrongKind` where it is of another kind.
+    fn map_in<K: Scalar, V: Scalar>(&self, handle: Handle) -> Result<MapPlace, Refusal>
+        requires { Answers self.now (λ d. is_object_at d handle) true }
+        ensures { Answers self.now (λ d. map_at d (ByHandle handle) K.kind V.kind) result }
+    {
+        match container_in(&self.heap, handle, Kind::Map(K::kind(), V::kind())) {
+            Err(why) => Err(why),
+            Ok(place) => Ok(map_place(place)),
+        }
+    }
+
+    /// Where the map of a key stands, a map of the types.
+    ///
+    /// # Errors
+    ///
+    /// `NotFound` where no object has the key, `WrongKind` where it is of another kind.
+    fn find_map<K: Scalar, V: Scalar>(&self, key: &Key) -> Result<MapPlace, Refusal>
+        ensures { Answers self.now (λ d. map_at d (key_seen key.now) K.kind V.kind) result }
+    {
+        match self.find_container(key, Kind::Map(K::kind(), V::kind())) {
+            Err(why) => Err(why),
+            Ok(place) => Ok(map_place(place)),
+        }
+    }
+}
+
+/// Where a container stands, as the place of a map.
+pub(crate) fn map_place(place: Place) -> MapPlace
+    ensures handle { result.handle ≡ place.handle }
+    ensures at { result.at ≡ place.at }
+{
+    MapPlace {
+        handle: place.handle,
+        at: place.at,
+    }
+}

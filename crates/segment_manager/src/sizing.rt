@@ -1,0 +1,38 @@
+//! A segment whose end moves in its region.
+ghost use Rattle.std.specs.Prelude.{◌≡◌, ◌+◌, ◌%◌, ◌≤◌, false};
+ghost use Rattle.segment_manager.specs.Directory.{Directory};
+ghost use Rattle.segment_manager.specs.Resized.{Resizes, grown, room_behind, shrunk};
+ghost use Rattle.segment_manager.specs.State.{StandsFor};
+ghost use Rattle.segment_manager.specs.Step.{is_read_only};
+
+use crate::layout::SIZE_AT;
+use crate::segment::Segment;
+use raw_region::Steps;
+
+impl Segment {
+    /// Lengthens the segment by `extra` bytes of its region: a multiple of 16, at least 32. They are a gap, or part of the
+    /// gap that stood at the end. Every object keeps its handle and its value.
+    pub fn extend_end(&mut self, extra: u64)
+        requires writing { is_read_only self.old.mode ≡ false }
+        requires long { 32 ≤ extra }
+        requires multiple { extra % 16 ≡ 0 }
+        requires small { (d : Directory) → StandsFor self.old.cut.bytes d → d.size + extra ≤ 1073741824 }
+        requires inside { extra ≤ room_behind self.old.cut }
+        ensures { Resizes self.old self.new (λ d. grown d extra) }
+    {
+        self.heap.extend_end(extra, &mut Steps::new());
+        let size = self.heap.size();
+        self.heap.set_header_word(SIZE_AT, size);
+    }
+
+    /// Shortens the segment by the gap at its end, where there is one, so that it ends behind the last block. One without
+    /// blocks has 144 bytes then. Every object keeps its handle and its value.
+    pub fn cut_end(&mut self)
+        requires writing { is_read_only self.old.mode ≡ false }
+        ensures { Resizes self.old self.new (λ d. shrunk d) }
+    {
+        self.heap.cut_end(&mut Steps::new());
+        let size = self.heap.size();
+        self.heap.set_header_word(SIZE_AT, size);
+    }
+}

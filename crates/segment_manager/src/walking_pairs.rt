@@ -1,0 +1,206 @@
+//! The pairs of objects that are maps whose kinds are not known before, one after another by rising keys.
+ghost use Rattle.std.specs.Prelude.{option_map, true};
+ghost use Rattle.seg_types.specs.Kinds.{lowest};
+ghost use Rattle.seg_types.specs.Names.{ByHandle};
+ghost use Rattle.seg_types.specs.Values.{kind_of_scalar, value_of_scalar};
+ghost use Rattle.seg_map.specs.Places.{item_of};
+ghost use Rattle.segment_manager.specs.Found.{is_object_at};
+ghost use Rattle.segment_manager.specs.Maps.{pair_above, pair_from, told_of_map};
+ghost use Rattle.segment_manager.specs.State.{Answers};
+ghost use Rattle.segment_manager.specs.Walks.{AreOfKinds, HasValueOf, IsMap, first_of, item_of_kinds, item_seen, numbers_read, pairs_at};
+
+use crate::segment::Segment;
+use seg_types::{Handle, Refusal, Scalar, ScalarKind, ScalarValue};
+
+impl Segment {
+    /// The pair with the least key of the map at a handle, a map of the two kinds, or `None` where the map is empty.
+    pub fn first_pair_at(
+        &self,
+        handle: Handle,
+        keys: ScalarKind,
+        values: ScalarKind,
+    ) -> Option<(ScalarValue, ScalarValue)>
+        requires { IsMap self.now (ByHandle handle) keys values }
+        ensures { Answers self.now (λ d. option_map (item_of_kinds keys values) (option_map item_of (first_of (pairs_at d (ByHandle handle))))) (option_map item_seen result) }
+    {
+        match self.first_of_kinds(handle, keys, values) {
+            Ok(pair) => pair,
+            Err(_) => None,
+        }
+    }
+
+    /// The pair with the least key above `after` of the map at a handle, a map with keys of the kind of `after` and values of a
+    /// kind, or `None` where no key is above. So all pairs are read in rising order, each in a walk from the root of the tree.
+    pub fn next_pair_at(
+        &self,
+        handle: Handle,
+        after: ScalarValue,
+        values: ScalarKind,
+    ) -> Option<(ScalarValue, ScalarValue)>
+        requires { IsMap self.now (ByHandle handle) (kind_of_scalar after) values }
+        ensures { Answers self.now (λ d. option_map (item_of_kinds (kind_of_scalar after) values) (pair_above (value_of_scalar after) (pairs_at d (ByHandle handle)))) (option_map item_seen result) }
+    {
+        match self.next_of_kinds(handle, after, values) {
+            Ok(pair) => pair,
+            Err(_) => None,
+        }
+    }
+
+    /// The pair with the least key of the map at a handle, a map of the two kinds. There is an object at the handle: it is not
+    /// looked for among the blocks.
+    ///
+    /// # Errors
+    ///
+    /// `WrongKind` where it is of another kind.
+    fn first_of_kinds(
+        &self,
+        handle: Handle,
+        keys: ScalarKind,
+        values: ScalarKind,
+    ) -> Result<Option<(ScalarValue, ScalarValue)>, Refusal>
+        requires { Answers self.now (λ d. is_object_at d handle) true }
+        ensures pair { Answers self.now (λ d. told_of_map d (ByHandle handle) keys values (pair_from (lowest keys))) (numbers_read value_of_scalar value_of_scalar result) }
+        ensures kinds { AreOfKinds keys values result }
+    {
+        match keys {
+            ScalarKind::Bool => match self.first_by_key(handle, false, values)? {
+                None => Ok(None),
+                Some((truth, value)) => Ok(Some((ScalarValue::Bool(truth), value))),
+            },
+            ScalarKind::U8 => match self.first_by_key(handle, 0u8, values)? {
+                None => Ok(None),
+                Some((number, value)) => Ok(Some((ScalarValue::U8(number), value))),
+            },
+            ScalarKind::I32 => match self.first_by_key(handle, i32::MIN, values)? {
+                None => Ok(None),
+                Some((number, value)) => Ok(Some((ScalarValue::I32(number), value))),
+            },
+            ScalarKind::I64 => match self.first_by_key(handle, i64::MIN, values)? {
+                None => Ok(None),
+                Some((number, value)) => Ok(Some((ScalarValue::I64(number), value))),
+            },
+            ScalarKind::U64 => match self.first_by_key(handle, 0u64, values)? {
+                None => Ok(None),
+                Some((number, value)) => Ok(Some((ScalarValue::U64(number), value))),
+            },
+        }
+    }
+
+    /// The pair with the least key that is not below `from`, of keys of a type.
+    ///
+    /// # Errors
+    ///
+    /// `WrongKind` where the object at the handle is of another kind.
+    fn first_by_key<K: Scalar>(
+        &self,
+        handle: Handle,
+        from: K,
+        values: ScalarKind,
+    ) -> Result<Option<(K, ScalarValue)>, Refusal>
+        requires { Answers self.now (λ d. is_object_at d handle) true }
+        ensures pair { Answers self.now (λ d. told_of_map d (ByHandle handle) K.kind values (pair_from (K.whole from))) (numbers_read K.whole value_of_scalar result) }
+        ensures kind { HasValueOf values result }
+    {
+        match values {
+            ScalarKind::Bool => match self.map_first_at::<K, bool>(handle, from)? {
+                None => Ok(None),
+                Some((key, truth)) => Ok(Some((key, ScalarValue::Bool(truth)))),
+            },
+            ScalarKind::U8 => match self.map_first_at::<K, u8>(handle, from)? {
+                None => Ok(None),
+                Some((key, number)) => Ok(Some((key, ScalarValue::U8(number)))),
+            },
+            ScalarKind::I32 => match self.map_first_at::<K, i32>(handle, from)? {
+                None => Ok(None),
+                Some((key, number)) => Ok(Some((key, ScalarValue::I32(number)))),
+            },
+            ScalarKind::I64 => match self.map_first_at::<K, i64>(handle, from)? {
+                None => Ok(None),
+                Some((key, number)) => Ok(Some((key, ScalarValue::I64(number)))),
+            },
+            ScalarKind::U64 => match self.map_first_at::<K, u64>(handle, from)? {
+                None => Ok(None),
+                Some((key, number)) => Ok(Some((key, ScalarValue::U64(number)))),
+            },
+        }
+    }
+
+    /// The pair with the least key above `after` of the map at a handle, a map with keys of the kind of `after` and values of a
+    /// kind. There is an object at the handle: it is not looked for among the blocks.
+    ///
+    /// # Errors
+    ///
+    /// `WrongKind` where it is of another kind.
+    fn next_of_kinds(
+        &self,
+        handle: Handle,
+        after: ScalarValue,
+        values: ScalarKind,
+    ) -> Result<Option<(ScalarValue, ScalarValue)>, Refusal>
+        requires { Answers self.now (λ d. is_object_at d handle) true }
+        ensures pair { Answers self.now (λ d. told_of_map d (ByHandle handle) (kind_of_scalar after) values (pair_above (value_of_scalar after))) (numbers_read value_of_scalar value_of_scalar result) }
+        ensures kinds { AreOfKinds (kind_of_scalar after) values result }
+    {
+        match after {
+            ScalarValue::Bool(after) => match self.next_by_key(handle, after, values)? {
+                None => Ok(None),
+                Some((truth, value)) => Ok(Some((ScalarValue::Bool(truth), value))),
+            },
+            ScalarValue::U8(after) => match self.next_by_key(handle, after, values)? {
+                None => Ok(None),
+                Some((number, value)) => Ok(Some((ScalarValue::U8(number), value))),
+            },
+            ScalarValue::I32(after) => match self.next_by_key(handle, after, values)? {
+                None => Ok(None),
+                Some((number, value)) => Ok(Some((ScalarValue::I32(number), value))),
+            },
+            ScalarValue::I64(after) => match self.next_by_key(handle, after, values)? {
+                None => Ok(None),
+                Some((number, value)) => Ok(Some((ScalarValue::I64(number), value))),
+            },
+            ScalarValue::U64(after) => match self.next_by_key(handle, after, values)? {
+                None => Ok(None),
+                Some((number, value)) => Ok(Some((ScalarValue::U64(number), value))),
+            },
+        }
+    }
+
+    /// The pair with the least key above `after`, of keys of a type.
+    ///
+    /// # Errors
+    ///
+    /// `WrongKind` where the object at the handle is of another kind.
+    fn next_by_key<K: Scalar>(
+        &self,
+        handle: Handle,
+        after: K,
+        values: ScalarKind,
+    ) -> Result<Option<(K, ScalarValue)>, Refusal>
+        requires { Answers self.now (λ d. is_object_at d handle) true }
+        ensures pair { Answers self.now (λ d. told_of_map d (ByHandle handle) K.kind values (pair_above (K.whole after))) (numbers_read K.whole value_of_scalar result) }
+        ensures kind { HasValueOf values result }
+    {
+        match values {
+            ScalarKind::Bool => match self.map_next_at::<K, bool>(handle, after)? {
+                None => Ok(None),
+                Some((key, truth)) => Ok(Some((key, ScalarValue::Bool(truth)))),
+            },
+            ScalarKind::U8 => match self.map_next_at::<K, u8>(handle, after)? {
+                None => Ok(None),
+                Some((key, number)) => Ok(Some((key, ScalarValue::U8(number)))),
+            },
+            ScalarKind::I32 => match self.map_next_at::<K, i32>(handle, after)? {
+                None => Ok(None),
+                Some((key, number)) => Ok(Some((key, ScalarValue::I32(number)))),
+            },
+            ScalarKind::I64 => match self.map_next_at::<K, i64>(handle, after)? {
+                None => Ok(None),
+                Some((key, number)) => Ok(Some((key, ScalarValue::I64(number)))),
+            },
+            ScalarKind::U64 => match self.map_next_at::<K, u64>(handle, after)? {
+                None => Ok(None),
+                Some((key, number)) => Ok(Some((key, ScalarValue::U64(number)))),
+            },
+        }
+    }
+}

@@ -29,7 +29,9 @@ given b ended f f' = record { bytes = b; ended = ended; failed = nat_lt f f' }
 
 -- what was given in a call, from the bytes given before and after it, and the counts
 abbrev pub read_since : List ℕ → List ℕ → Bool → ℕ → ℕ → Given
-read_since old new ended f f' = given_since (record { bytes = old; ended = ended; failures = f }) (record { bytes = new; ended = ended; failures = f' })
+read_since old new ended f f' =
+    given_since (record { bytes = old; ended = ended; ends = 0; failures = f })
+    (record { bytes = new; ended = ended; ends = 0; failures = f' })
 
 -- by how much a cause raises the count of failed reads
 abbrev pub rise : OpenError → ℕ

@@ -5,7 +5,7 @@ use Rattle.std.proofs.lemmas.Bool.Decides.{nat_tests}
 use Rattle.std.proofs.Math.Seq.{take-add, take-append-add}
 use Rattle.std.specs.Prelude.{Ok}
 use borrow.Rule.Slice.PartMut.{put_mid}
-use Rattle.raw_region.specs.Answers.{write_failures_in}
+use Rattle.raw_region.specs.Answers.{ends_in, write_failures_in}
 
 pub took_more : (old mid new bytes : List ℕ) (i n : ℕ) → mid ≡ old ++ take i bytes → new ≡ mid ++ take n (take (length bytes - i) (drop i bytes)) → new ≡ old ++ take (i + n) bytes
 took_more old mid new bytes i n e f =
@@ -14,6 +14,9 @@ took_more old mid new bytes i n e f =
 
 pub took_some : (n len : ℕ) → (n ≡ 0 → ⊥) → write_failures_in {E = ℕ} (Ok n) len ≡ 0
 took_some n len h = grind (arith, nat_tests)
+
+pub gave_some : (n len : ℕ) → (n ≡ 0 → ⊥) → ends_in {E = ℕ} (Ok n) len ≡ 0
+gave_some n len h = grind (arith, nat_tests)
 
 pub not_zero : (n : ℕ) → (n ≡ 0 → ⊥) → (n == 0) ≡ false
 not_zero n h = grind (arith, nat_tests)

@@ -11,6 +11,16 @@ abbrev pub falls_short : {E : Type 0} → Result ℕ E → ℕ → Bool
 falls_short (Ok n) len = nat_lt n len
 falls_short (Err e) len = false
 
+-- how many ends the answer to a read of len bytes is: one where it gave none of some
+abbrev pub ends_in : {E : Type 0} → Result ℕ E → ℕ → ℕ
+ends_in (Ok n) len = if (n == 0) && nat_lt 0 len then 1 else 0
+ends_in (Err e) len = 0
+
+-- the same for all the reads that were to give len bytes: one where they gave fewer, and no error
+abbrev pub ends_short : {E : Type 0} → Result ℕ E → ℕ → ℕ
+ends_short (Ok n) len = if nat_lt n len then 1 else 0
+ends_short (Err e) len = 0
+
 -- how many failures an answer is
 abbrev pub failures_in : {T E : Type 0} → Result T E → ℕ
 failures_in (Ok x) = 0

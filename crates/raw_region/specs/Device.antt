@@ -1,13 +1,15 @@
 -- What readers and writers gave and took: so far, and in a call.
-use Rattle.std.specs.Prelude.{◌≡◌, ◌<◌, ℕ, ◌+◌, Bool, List, ◌++◌, length, drop, nat_lt, Result, OnOk, OnErr}
+use Rattle.std.specs.Prelude.{◌≡◌, ◌<◌, ◌≤◌, ℕ, ◌+◌, Bool, List, ◌++◌, length, drop, nat_lt, Result, OnOk, OnErr}
 use Rattle.raw_region.specs.Answers.{AddsFront, failures_in}
 
 -- ---- what a device did so far
 
--- the bytes that a reader gave, whether its last read of a slice that is not empty answered the end, and how many reads failed
+-- the bytes that a reader gave; whether its last read of a slice that is not empty answered the end, and how many reads
+-- did; and how many reads failed
 pub record Gave : Type 0 where
   pub bytes : List ℕ
   pub ended : Bool
+  pub ends : ℕ
   pub failures : ℕ
 
 -- the bytes that a writer took, and how many writes failed
@@ -51,6 +53,10 @@ Grows old new = new ≡ old ++ drop (length old) new
 pub record Reads (old new : Gave) (failed : ℕ) : Type 0 where
   pub grows : Grows old.bytes new.bytes
   pub counted : new.failures ≡ old.failures + failed
+
+-- A call asks a reader no more behind its end: at most one of its reads answered it.
+abbrev pub EndsAtMostOnce : Gave → Gave → Type 0
+EndsAtMostOnce old new = new.ends ≤ old.ends + 1
 
 -- front is what stands before some further byte of all
 abbrev pub IsProperPrefix : List ℕ → List ℕ → Type 0

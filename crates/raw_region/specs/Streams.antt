@@ -16,11 +16,17 @@ pub record TookTo (W : Type 0) : Type 0 where
 -- how they are stored
 abbrev pub gave_from_code : {R : Type 0} → Coded R → Coded (GaveFrom R)
 gave_from_code {R} r =
-    code_by (R × (List ℕ × (Bool × ℕ))) (coded× r (coded× (coded_list coded_ℕ) (coded× coded_bool coded_ℕ)))
-    (λ g. (g.inner, (g.history.bytes, (g.history.ended, g.history.failures))))
-    (λ p. record { inner = p.0; history = record { bytes = p.1.0; ended = p.1.1.0; failures = p.1.1.1 } }) (λ _. refl)
+    code_by (R × (List ℕ × (Bool × (ℕ × ℕ))))
+    (coded× r (coded× (coded_list coded_ℕ) (coded× coded_bool (coded× coded_ℕ coded_ℕ))))
+    (λ g. (g.inner, (g.history.bytes, (g.history.ended, (g.history.ends, g.history.failures)))))
+    (λ p. record {
+      inner = p.0;
+      history = record { bytes = p.1.0; ended = p.1.1.0; ends = p.1.1.1.0; failures = p.1.1.1.1 };
+    })
+    (λ _. refl)
 
 abbrev pub took_to_code : {W : Type 0} → Coded W → Coded (TookTo W)
 took_to_code {W} w =
     code_by (W × (List ℕ × ℕ)) (coded× w (coded× (coded_list coded_ℕ) coded_ℕ))
-    (λ t. (t.inner, (t.history.bytes, t.history.failures))) (λ p. record { inner = p.0; history = record { bytes = p.1.0; failures = p.1.1 } }) (λ _. refl)
+    (λ t. (t.inner, (t.history.bytes, t.history.failures)))
+    (λ p. record { inner = p.0; history = record { bytes = p.1.0; failures = p.1.1 } }) (λ _. refl)

@@ -1,7 +1,8 @@
 //! Readers and writers as the crates above are given them: contracts see every byte that they give
 //! or take, and count each failure.
 ghost use Rattle.std.specs.Prelude.{◌≡◌, ◌+◌, ◌-◌, ◌^◌, ◌<◌, ◌≤◌, ◌++◌, length, take, IfOk, OnErr};
-ghost use Rattle.raw_region.specs.Answers.{answers_end, falls_short, failures_in, write_failures_in, AddsFront};
+ghost use Rattle.raw_region.specs.Answers.{answers_end, falls_short, ends_in, ends_short, AddsFront};
+ghost use Rattle.raw_region.specs.Answers.{failures_in, write_failures_in};
 ghost use Rattle.raw_region.specs.Device.{Gave, Took, Writes};
 
 use thiserror::Error;
@@ -14,7 +15,7 @@ pub struct DeviceFault;
 /// A reader.
 pub trait Source {
     // What it did so far: all bytes that it gave, whether its last read of a slice that is not empty answered the end,
-    // and how many reads failed.
+    // how many reads did, and how many failed.
     ghost history: { Self → Gave };
 
     /// Reads into the front of the slice, and answers how many bytes. 0 for a slice that is not
@@ -26,6 +27,7 @@ pub trait Source {
         ensures no_bytes { OnErr result ((history self.new).bytes ≡ (history self.old).bytes) }
         ensures end { 0 < length into.old → (history self.new).ended ≡ answers_end result }
         ensures same_end { length into.old ≡ 0 → (history self.new).ended ≡ (history self.old).ended }
+        ensures ends { (history self.new).ends ≡ (history self.old).ends + ends_in result (length into.old) }
         ensures counted { (history self.new).failures ≡ (history self.old).failures + failures_in result };
 }
 
@@ -60,7 +62,7 @@ pub fn write_all<S: Sink>(sink: &mut S, bytes: &[u8]) -> Result<(), DeviceFault>
     Ok(())
 }
 
-/// Reads until the slice is full, the reader ends or fails, and answers how many bytes.
+/// Reads until the slice is full, the reader ends or fails, and answers how many bytes. It asks no more behind the end.
 pub fn fill<S: Source>(source: &mut S, into: &mut [u8]) -> Result<usize, DeviceFault>
     requires { (S.history source.old).failures < 2 ^ 64 - 1 }
     ensures count { IfOk result (λ n. n ≤ length into.new) }
@@ -68,6 +70,7 @@ pub fn fill<S: Source>(source: &mut S, into: &mut [u8]) -> Result<usize, DeviceF
     ensures err { OnErr result (AddsFront (S.history source.old).bytes (S.history source.new).bytes into.new) }
     ensures end { 0 < length into.old → (S.history source.new).ended ≡ falls_short result (length into.old) }
     ensures same_end { length into.old ≡ 0 → (S.history source.new).ended ≡ (S.history source.old).ended }
+    ensures ends { (S.history source.new).ends ≡ (S.history source.old).ends + ends_short result (length into.old) }
     ensures counted { (S.history source.new).failures ≡ (S.history source.old).failures + failures_in result }
 {
     let mut filled = 0;

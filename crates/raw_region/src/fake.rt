@@ -17,7 +17,7 @@ pub enum Last {
     Fails,
 }
 
-/// A reader of the given bytes, at most `piece` of them a read.
+/// A reader of the given bytes, at most `piece` of them a read. Its history counts the ends that it answered.
 #[derive(Drop)]
 pub struct MemorySource<'a> {
     rest: &'a [u8],
@@ -33,12 +33,17 @@ impl<'a> Model for MemorySource<'a> {
 
     ghost Value = { Gave };
 
-    ghost view = { λ r. record { bytes = r.history.bytes; ended = r.ended; failures = r.failures } };
+    ghost view = { λ r. record {
+      bytes = r.history.bytes;
+      ended = r.ended;
+      ends = r.history.count;
+      failures = r.failures;
+    } };
 }
 
 impl<'a> MemorySource<'a> {
     pub fn new(bytes: &'a [u8], piece: usize, last: Last) -> MemorySource<'a>
-        ensures { result ≡ record { bytes = []; ended = false; failures = 0 } }
+        ensures { result ≡ record { bytes = []; ended = false; ends = 0; failures = 0 } }
     {
         MemorySource {
             rest: bytes,
@@ -56,7 +61,8 @@ impl Source for MemorySource<'_> {
 
     fn read(&mut self, into: &mut [u8]) -> Result<usize, DeviceFault> {
         let count = into.len().min(self.rest.len()).min(self.piece);
-        if !into.is_empty() {
+        let asked = !into.is_empty();
+        if asked {
             if count == 0 && self.last == Last::Fails {
                 self.failures += 1;
                 self.ended = false;
@@ -66,7 +72,8 @@ impl Source for MemorySource<'_> {
         }
         into[..count].copy_from_slice(&self.rest[..count]);
         self.rest = &self.rest[count..];
-        self.history.record(&into[..count], 0);
+        self.history
+            .record(&into[..count], u64::from(asked && count == 0));
         Ok(count)
     }
 }

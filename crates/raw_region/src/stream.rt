@@ -1,7 +1,7 @@
 //! std's readers and writers as a `Source` and a `Sink`.
 ghost use Rattle.std.specs.Prelude.{◌≡◌, ◌+◌, ◌^◌, ◌-◌, ◌<◌, ◌≤◌, ◌++◌, ℕ, List, [], false, Result, IfOk, OnErr, length, take};
 ghost use Rattle.std.specs.Io.KnownBytes.{ReadConsumes, WriteAppends};
-ghost use Rattle.raw_region.specs.Answers.{answers_end, failures_in, write_failures_in};
+ghost use Rattle.raw_region.specs.Answers.{answers_end, ends_in, failures_in, write_failures_in};
 ghost use Rattle.raw_region.specs.declared.device.DeviceFault.{DeviceFault as Fault};
 
 use crate::device::{DeviceFault, Sink, Source};
@@ -53,7 +53,8 @@ impl<W: Write> WriteOnce for W {
     }
 }
 
-/// A reader of std. Each of its errors is a failure, also where the reader may be asked again.
+/// A reader of std. Each of its errors is a failure, also where the reader may be asked again. Its history counts the
+/// ends that it answered.
 #[derive(Drop)]
 pub struct Reading<R> {
     inner: R,
@@ -69,12 +70,18 @@ impl<R> Model for Reading<R> {
 
     ghost coded = { gave_from_code R.code };
 
-    ghost view = { λ r. record { inner = r.inner; history = record { bytes = r.history.bytes; ended = r.ended; failures = r.failures } } };
+    ghost view = { λ r. record {
+      inner = r.inner;
+      history = record { bytes = r.history.bytes; ended = r.ended; ends = r.history.count; failures = r.failures };
+    } };
 }
 
 impl<R: ReadOnce> Reading<R> {
     pub fn new(inner: R) -> Reading<R>
-        ensures { result ≡ record { inner = inner; history = record { bytes = []; ended = false; failures = 0 } } }
+        ensures { result ≡ record {
+          inner = inner;
+          history = record { bytes = []; ended = false; ends = 0; failures = 0 };
+        } }
     {
         Reading {
             inner,
@@ -97,13 +104,15 @@ impl<R: ReadOnce> Source for Reading<R> {
         ensures no_bytes { OnErr result (self.new.history.bytes ≡ self.old.history.bytes) }
         ensures end { 0 < length into.old → self.new.history.ended ≡ answers_end result }
         ensures same_end { length into.old ≡ 0 → self.new.history.ended ≡ self.old.history.ended }
+        ensures ends { self.new.history.ends ≡ self.old.history.ends + ends_in result (length into.old) }
         ensures counted { self.new.history.failures ≡ self.old.history.failures + failures_in result }
     {
         let asked = !into.is_empty();
         let answer = self.inner.read_once(into);
         match answer {
             Ok(count) => {
-                self.history.record(&into[..count], 0);
+                let ends = u64::from(asked && count == 0);
+                self.history.record(&into[..count], ends);
                 if asked {
                     self.ended = count == 0;
                 }

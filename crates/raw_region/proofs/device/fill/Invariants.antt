@@ -7,6 +7,7 @@ invariant-pieces g l = record {
   given : (g.S.Source.history l.source).bytes ≡ (g.S.Source.history l.initial.source).bytes ++ take l.filled l.into;
   some_read : 0 < l.filled → (g.S.Source.history l.source).ended ≡ false;
   none_read : l.filled ≡ 0 → (g.S.Source.history l.source).ended ≡ (g.S.Source.history l.initial.source).ended;
+  ends : (g.S.Source.history l.source).ends ≡ (g.S.Source.history l.initial.source).ends;
   failures : (g.S.Source.history l.source).failures ≡ (g.S.Source.history l.initial.source).failures;
 }
 

@@ -6,7 +6,6 @@ use Rattle.std.proofs.lemmas.Bool.{and_parts}
 use Rattle.std.proofs.lemmas.List.{drop_all, append-nil, length-append, length-take}
 use Rattle.raw_region.specs.Answers.{AddsFront}
 use Rattle.raw_region.specs.Memory.{Cut, part, patched, whole}
-use Rattle.raw_region.specs.Regions.{with_bytes}
 use Rattle.raw_region.proofs.Laws.{refill-all, both_added}
 use Rattle.block_tags.specs.Format.{is_legal_size}
 use Rattle.best_fit.proofs.Laws.{legal_size}
@@ -38,16 +37,7 @@ rest-filled b ws n l e f =
 pub front-length : (b ws : List ℕ) (n : ℕ) → 24 ≤ length b → n ≡ length b → length ws ≡ n - 24 → length (take 24 b ++ ws) ≡ length b
 front-length b ws n l e f = let both = length-append (take 24 b) ws in let cut = length-take 24 b in omega arith
 
--- a region is as long as before where its window is
-pub whole-length : (w : Cut) (xs : List ℕ) → length xs ≡ length w.bytes → length (whole (with_bytes w xs)) ≡ length (whole w)
-whole-length w xs e =
-    let a = length-append (w.before ++ xs) w.after in
-    let b = length-append w.before xs in
-    let c = length-append (w.before ++ w.bytes) w.after in
-    let d = length-append w.before w.bytes in
-    omega arith
-
--- and there is room for its window
+-- there is room in a region for its window
 pub whole-room : (w : Cut) → length w.before + length w.bytes ≤ length (whole w)
 whole-room w =
     let c = length-append (w.before ++ w.bytes) w.after in

@@ -1,16 +1,18 @@
 -- A whole image in its place in a region: its first 24 bytes are written, and the others are read behind them.
-use Rattle.std.proofs.Common.{◌≡◌, sym, ap, subst, ◌∙◌, ℕ, ◌+◌, ◌-◌, Bool, true, false, List, ◌++◌, length, take, drop, arith}
+use Rattle.std.proofs.Common.{◌≡◌, sym, ap, subst, ◌∙◌, ℕ, ◌+◌, ◌-◌, ◌≤◌, Bool, true, false, List, ◌++◌, length, take, drop, arith}
 use Rattle.std.specs.Prelude.{nat_lt}
 use Rattle.std.proofs.lemmas.Bool.{le-ltb}
 use Rattle.std.proofs.lemmas.List.{take_at, length-append, length-take, length-drop}
 use Rattle.raw_region.specs.Device.{Grows}
-use Rattle.raw_region.specs.Memory.{Cut, part, patched, whole, cut_at}
+use Rattle.raw_region.specs.Memory.{Cut, SamePlace, part, patched, whole, cut_at}
 use Rattle.raw_region.specs.Regions.{with_bytes}
 use Rattle.raw_region.proofs.Laws.{length-part, added, both_added}
 use Rattle.best_fit.proofs.Laws.{legal_size}
 use Rattle.image_check.specs.declared.errors.OpenError.{OpenError}
+use Rattle.image_check.specs.Opening.{IsHandedBack}
 use Rattle.image_check.specs.Reading.{HasFront, IsFrontRead, IsImageRead, IsNotRead, Stops}
 use Rattle.image_check.proofs.Fronts.{IsRight, has_front-IsRight, IsRight-has_front, IsRight-append}
+use Rattle.image_check.proofs.HandedBack.{written-back}
 use Rattle.image_check.proofs.Stopping.{read_since}
 
 -- the window of a region that the first 24 bytes say, with these in front
@@ -66,13 +68,38 @@ module _ (format : ℕ) (old mid front region : List ℕ) (base size : ℕ) (w :
       let d = length-append w.before w.bytes in
       omega arith
 
+  -- the region comes back where the window alone was written
+  begun-back : (new : List ℕ) (ended : Bool) (f h : ℕ) (v : Cut) (back : List ℕ) → Grows mid new → SamePlace w v
+      → length v.bytes ≡ length w.bytes → back ≡ whole v
+      → IsHandedBack format (read_since old new ended f h) region base back
+  begun-back new ended f h v back grows p l e =
+      let more : List ℕ = drop (length mid) new in
+      let said : drop (length old) new ≡ front ++ more = added old new (front ++ more) (both_added old mid new front more b.front_read.read grows) in
+      let right : IsRight format (drop (length old) new) size =
+      subst (λ x. IsRight format x size) (sym said) (IsRight-append format front more size front_right) in
+      let long = b.front_read.long in
+      let both = ap length said ∙ length-append front more in
+      written-back region base size v
+      (record {
+        room = b.front_read.room;
+        place = record { before = p.before ∙ ap (λ (c : Cut). c.before) b.is; after = p.after ∙ ap (λ (c : Cut). c.after) b.is };
+        long = l ∙ begun-length;
+      })
+      format (read_since old new ended f h) back
+      (record {
+        read = omega arith;
+        front = IsRight-has_front format (drop (length old) new) size right;
+        room = subst (λ n. base + n ≤ length region) (sym right.says) b.front_read.room;
+      })
+      right.says e
+
   -- no reading fails where no count rises
   none_failed : (f g h : ℕ) → g ≡ f + 0 → h ≡ g + 0 → nat_lt f h ≡ false
   none_failed f g h d e = le-ltb f h (omega arith)
 
   -- the rest is read too
   pub begun-read : (new : List ℕ) (ended : Bool) (f g h : ℕ) (v : Cut) → Grows mid new → g ≡ f + 0 → h ≡ g + 0 → ended ≡ true
-      → v ≡ with_bytes w (take 24 w.bytes ++ drop (length mid) new) → length (whole v) ≡ length (whole w)
+      → v ≡ with_bytes w (take 24 w.bytes ++ drop (length mid) new) → length v.bytes ≡ length w.bytes
       → IsImageRead format (read_since old new ended f h) region base v
   begun-read new ended f g h v grows d e i s l =
       let more : List ℕ = drop (length mid) new in
@@ -86,8 +113,7 @@ module _ (format : ℕ) (old mid front region : List ℕ) (base size : ℕ) (w :
       let now_front = length-append v.before v.bytes in
       let same_before = ap length before in
       let same_after = ap length after in
-      let size_is = begun-length in
-      let long : length v.bytes ≡ size = omega arith in
+      let long : length v.bytes ≡ size = l ∙ begun-length in
       let all : length (drop (length old) new) ≡ size = ap length (said ∙ sym bytes) ∙ long in
       let room = b.front_read.room in
       let right : IsRight format v.bytes size = subst (λ x. IsRight format x size) (sym bytes) (IsRight-append format front more size front_right) in
@@ -99,20 +125,21 @@ module _ (format : ℕ) (old mid front region : List ℕ) (base size : ℕ) (w :
           after = after ∙ ap (λ (c : Cut). c.after) b.is ∙ ap (λ n. drop (base + n) region) (sym all);
         };
         room = omega arith;
-        capacity = l ∙ begun-whole;
+        capacity = let kept : length (whole v) ≡ length (whole w) = omega arith in kept ∙ begun-whole;
         front = record { right = IsRight-has_front format v.bytes size right; says = right.says ∙ sym long };
       }
 
   -- or is not
-  pub begun-stops : (new : List ℕ) (ended : Bool) (f g h : ℕ) (v : Cut) (back : List ℕ) (cause : OpenError) → g ≡ f + 0 → back ≡ whole v → length (whole v) ≡ length (whole w)
+  pub begun-stops : (new : List ℕ) (ended : Bool) (f g h : ℕ) (v : Cut) (back : List ℕ) (cause : OpenError) → Grows mid new
+      → g ≡ f + 0 → back ≡ whole v → SamePlace w v → length v.bytes ≡ length w.bytes
       → ((start : List ℕ) → mid ≡ start ++ take 24 w.bytes → Stops format (read_since start new ended g h) (length w.before) (length (whole w)) cause)
       → IsNotRead format (read_since old new ended f h) region base (record { region = back; cause = cause })
-  begun-stops new ended f g h v back cause d e l s =
+  begun-stops new ended f g h v back cause grows d e p l s =
       let same : g ≡ f = omega arith in
       let stops = s old (b.front_read.read ∙ ap (λ x. old ++ x) (sym begun-take)) in
       record {
         stops = subst (λ k. Stops format (read_since old new ended k h) base (length region) cause) same
             (subst (λ k. Stops format (read_since old new ended g h) base k cause) begun-whole
             (subst (λ k. Stops format (read_since old new ended g h) k (length (whole w)) cause) begun-base stops));
-        handed_back = ap length e ∙ l ∙ begun-whole;
+        handed_back = begun-back new ended f h v back grows p l e;
       }

@@ -1,17 +1,19 @@
 -- An image that was read and is refused, and why.
-use Rattle.std.proofs.Common.{◌≡◌, sym, ap, subst, ◌∙◌, inl, ℕ, List, length, arith, Some, Err}
+use Rattle.std.proofs.Common.{◌≡◌, sym, ap, subst, ◌∙◌, inl, ℕ, ◌+◌, ◌≤◌, List, length, arith, Some, Err}
 use Rattle.raw_region.specs.Device.{Given}
 use Rattle.raw_region.specs.Memory.{Cut, whole}
 use Rattle.segment_manager.specs.declared.modes.Mode.{Mode}
 use Rattle.image_check.specs.declared.errors.OpenError.{OpenError}
 use Rattle.image_check.specs.declared.errors.CheckError.{CheckError}
 use Rattle.image_check.specs.declared.errors.CheckError.TheVariants.{Class, NoMemory}
-use Rattle.image_check.specs.EarlyTests.{size_word}
+use Rattle.image_check.specs.EarlyTests.{has_front, size_word}
 use Rattle.image_check.specs.Classes.{class_of}
-use Rattle.image_check.specs.Opening.{IsTooSmallFor, IsWhyNot, Opens, has_early_class}
+use Rattle.image_check.specs.Opening.{IsHandedBack, IsTooSmallFor, IsWhyNot, Opens, has_early_class}
 use Rattle.image_check.specs.Checking.{IsWhyRefused, cause_for}
 use Rattle.image_check.specs.Reading.{IsImageRead}
 use Rattle.image_check.specs.Passes.{has_block}
+use Rattle.image_check.proofs.Filled.{HasFront-IsRight, HasFront-least}
+use Rattle.image_check.proofs.HandedBack.{written-back}
 use Rattle.std.specs.Prelude.{IsTrue, false}
 
 module _ (format : ℕ) (image : Given) (region : List ℕ) (base : ℕ) (w : Cut) (h : IsImageRead format image region base w) where
@@ -32,13 +34,28 @@ module _ (format : ℕ) (image : Given) (region : List ℕ) (base : ℕ) (w : Cu
     used = subst (λ (b : List ℕ). IsTrue (has_block b)) h.bytes x.1;
   }
 
+  -- the window alone was written
+  back-from : (back : List ℕ) → back ≡ whole w → IsHandedBack format image region base back
+  back-from back f =
+      let right = HasFront-IsRight format w h.front in
+      let least = HasFront-least format w h.front in
+      let same = ap length h.bytes in
+      let says : size_word image.bytes ≡ length image.bytes = sym (ap size_word h.bytes) ∙ h.front.says ∙ same in
+      written-back region base (length image.bytes) w (record { room = h.room; place = h.place; long = same }) format image back
+      (record {
+        read = omega arith;
+        front = subst (λ (x : List ℕ). IsTrue (has_front format x)) h.bytes h.front.right;
+        room = subst (λ n. base + n ≤ length region) (sym says) h.room;
+      })
+      says f
+
   -- the answer of an opening
   pub refused : (mode : Mode) (why : CheckError) (cause : OpenError) (back : List ℕ) → IsWhyRefused format w.bytes why → cause ≡ cause_for why → back ≡ whole w
       → Opens format image region base mode (Err (record { region = back; cause = cause }))
   refused mode why cause back x e f = record {
     answers = record {
       why = subst (IsWhyNot format image base (length region)) (sym e) (why-not why x);
-      handed_back = ap length f ∙ h.capacity;
+      handed_back = back-from back f;
     };
     too_small = λ t. absurd (no-room t);
   }

@@ -1,5 +1,5 @@
 -- What opening an image may answer, from what its reader gave, where images of one format are read.
-use Rattle.std.specs.Prelude.{◌≡◌, ◌⊎◌, ◌<◌, ◌≤◌, ℕ, ◌+◌, ◌*◌, ◌/◌, true, false, ◌&&◌, List, length, IsTrue, nat_lt, Bool, Some, Result, Ok, Err, MatchResult, if◌then◌else◌}
+use Rattle.std.specs.Prelude.{◌≡◌, ◌⊎◌, ◌<◌, ◌≤◌, ℕ, ◌+◌, ◌*◌, ◌/◌, true, false, ◌&&◌, List, length, take, drop, IsTrue, nat_lt, Bool, Some, Result, Ok, Err, MatchResult, if◌then◌else◌}
 use Rattle.std.specs.List.{list_any}
 use Rattle.raw_region.specs.Memory.{SamePlace, cut_at}
 use Rattle.block_tags.specs.Format.{is_legal_size}
@@ -44,6 +44,12 @@ pub record IsTooSmallFor (format : ℕ) (image : Given) (base capacity : ℕ) : 
   pub front : IsTrue (has_front format image.bytes)
   pub small : capacity < base + size_word image.bytes
 
+-- the same, and there is room for that size
+pub record HasPlace (format : ℕ) (image : Given) (base capacity : ℕ) : Type 0 where
+  pub read : 24 ≤ length image.bytes
+  pub front : IsTrue (has_front format image.bytes)
+  pub room : base + size_word image.bytes ≤ capacity
+
 -- the reader failed before what it gave decided a class
 pub record IsUndecided (format : ℕ) (image : Given) : Type 0 where
   pub failed : image.failed ≡ true
@@ -73,10 +79,18 @@ IsWhyNot format image base capacity RegionTooSmall = IsTooSmallFor format image 
 IsWhyNot format image base capacity OutOfMemory = IsOutOfMemory format image
 IsWhyNot format image base capacity ReadFault = IsUndecided format image
 
--- no segment is opened; the region comes back, with any bytes
+-- The region comes back. The bytes before the base and those behind base and size are as they were, and where the image
+-- has no place in the region, so are all.
+pub record IsHandedBack (format : ℕ) (image : Given) (region : List ℕ) (base : ℕ) (back : List ℕ) : Type 0 where
+  pub capacity : length back ≡ length region
+  pub before : take base back ≡ take base region
+  pub behind : drop (base + size_word image.bytes) back ≡ drop (base + size_word image.bytes) region
+  pub untouched : (HasPlace format image base (length region) → ⊥) → back ≡ region
+
+-- no segment is opened; the region comes back
 pub record IsNotOpened (format : ℕ) (image : Given) (region : List ℕ) (base : ℕ) (refused : OpenRefused) : Type 0 where
   pub why : IsWhyNot format image base (length region) refused.cause
-  pub handed_back : length refused.region ≡ length region
+  pub handed_back : IsHandedBack format image region base refused.region
 
 -- why, as an answer of its own
 abbrev pub cause_of : {S : Type 0} → Result S OpenRefused → Result S OpenError

@@ -16,7 +16,7 @@ use Rattle.image_check.specs.declared.errors.OpenError.TheVariants.{Image, Regio
 use Rattle.image_check.specs.declared.errors.OpenRefused.{OpenRefused}
 use Rattle.image_check.specs.declared.classes.ImageClass.{ImageClass}
 use Rattle.image_check.specs.Formats.{DecidesAny, class_of_any, format_of}
-use Rattle.image_check.specs.Opening.{IsImage, IsOutOfMemory, IsReadToEnd, IsTooSmallFor, cause_of, is_too_small_answer}
+use Rattle.image_check.specs.Opening.{IsHandedBack, IsImage, IsOutOfMemory, IsReadToEnd, IsTooSmallFor, cause_of, is_too_small_answer}
 
 -- ---- what becomes of the bytes
 
@@ -91,10 +91,10 @@ IsWhyNotAny image base capacity RegionTooSmall = IsTooSmallFor (format_of image.
 IsWhyNotAny image base capacity OutOfMemory = IsOutOfMemory (format_of image.bytes) image
 IsWhyNotAny image base capacity ReadFault = IsUndecidedAny image
 
--- no segment is opened; the region comes back, with any bytes
+-- no segment is opened; the region comes back
 pub record IsNotOpenedAny (image : Given) (region : List ℕ) (base : ℕ) (refused : OpenRefused) : Type 0 where
   pub why : IsWhyNotAny image base (length region) refused.cause
-  pub handed_back : length refused.region ≡ length region
+  pub handed_back : IsHandedBack (format_of image.bytes) image region base refused.region
 
 pub record OpensAny (image : Given) (region : List ℕ) (base : ℕ) (mode : Mode) (result : Result State OpenRefused) : Type 0 where
   pub answers : MatchResult result (IsOpenedAny image region base mode) (IsNotOpenedAny image region base)

@@ -11,7 +11,7 @@ use Rattle.image_check.specs.declared.classes.ImageClass.TheVariants.{Truncated,
 use Rattle.image_check.specs.declared.versions.Versions.{Versions}
 use Rattle.image_check.specs.Formats.{format_in}
 use Rattle.image_check.specs.EarlyTests.{has_magic, has_version, has_front, size_word}
-use Rattle.image_check.specs.Opening.{IsReadToEnd, IsWhyNot, IsTooSmallFor}
+use Rattle.image_check.specs.Opening.{IsHandedBack, IsReadToEnd, IsWhyNot, IsTooSmallFor}
 
 -- ---- the first words
 
@@ -61,7 +61,7 @@ pub record IsImageRead (format : ℕ) (image : Given) (region : List ℕ) (base 
 -- no image is in the region, which comes back
 pub record IsNotRead (format : ℕ) (image : Given) (region : List ℕ) (base : ℕ) (refused : OpenRefused) : Type 0 where
   pub stops : Stops format image base (length region) refused.cause
-  pub handed_back : length refused.region ≡ length region
+  pub handed_back : IsHandedBack format image region base refused.region
 
 -- ---- by the format that the first words say, where it is one of those that are read
 

@@ -23,7 +23,8 @@ pub enum OpenError {
     ReadFault,
 }
 
-/// No segment is opened. The region comes back, with any bytes.
+/// No segment is opened. The region comes back. Its bytes are as they were but for those of the window from the base on that the
+/// first words of the image say, where they say one for which there is room.
 #[derive(Drop)]
 pub struct OpenRefused {
     /// The region that was handed in.

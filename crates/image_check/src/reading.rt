@@ -2,7 +2,7 @@
 ghost use Rattle.std.specs.Prelude.{◌≡◌, ◌+◌, ◌-◌, ◌%◌, ◌^◌, ◌<◌, ◌≤◌, List, ℕ, ◌++◌, true, length, take, drop, IfOk, OnOk, IfErr, MatchResult};
 ghost use Rattle.raw_region.specs.Answers.{AddsFront};
 ghost use Rattle.raw_region.specs.Device.{Reads, given_since};
-ghost use Rattle.raw_region.specs.Memory.{whole};
+ghost use Rattle.raw_region.specs.Memory.{SamePlace, whole};
 ghost use Rattle.raw_region.specs.Regions.{with_bytes};
 ghost use Rattle.image_check.specs.Formats.{format_in};
 ghost use Rattle.image_check.specs.Opening.{cause_of, failed_reads};
@@ -89,7 +89,8 @@ fn read_rest<S: Source>(reader: &mut S, window: &mut Window) -> Result<(), OpenE
     ensures ended { OnOk result ((S.history reader.new).ended ≡ true) }
     ensures err { IfErr result (λ cause. (format : ℕ) → HasFront format window.old → (start : List ℕ) → (S.history reader.old).bytes ≡ start ++ take 24 window.old.bytes
         → Stops format (given_since (record (S.history reader.old) { bytes = start }) (S.history reader.new)) (length window.old.before) (length (whole window.old)) cause) }
-    ensures len { length (whole window.new) ≡ length (whole window.old) }
+    ensures place { SamePlace window.old window.new }
+    ensures len { length window.new.bytes ≡ length window.old.bytes }
     ensures history { Reads (S.history reader.old) (S.history reader.new) (failed_reads result) }
 {
     let front = FRONT as u64;

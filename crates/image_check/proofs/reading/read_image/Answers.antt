@@ -51,5 +51,5 @@ returns-in-Err-read_rest-clause-reads g c =
     subst (λ (f : ℕ). IsNotRead f (given_since (g.S.Source.history c.args.reader.now) (g.S.Source.history c.read_rest.new.reader)) c.args.region c.args.base (record { region = c.into_region.result; cause = c.in-Err-read_rest.cause })) (sym by)
     (begun-stops f0 old mid front c.args.region c.args.base c.in-Ok.size c.write.new.self begun
     new _ (g.S.Source.history c.args.reader.now).failures (g.S.Source.history c.read_front.new.reader).failures (g.S.Source.history c.read_rest.new.reader).failures c.read_rest.new.window
-    c.into_region.result c.in-Err-read_rest.cause c.in-Ok.ensures.history.counted c.into_region.ensures was.len
+    c.into_region.result c.in-Err-read_rest.cause was.history.grows c.in-Ok.ensures.history.counted c.into_region.ensures was.place was.len
     (was.err f0 (begun-HasFront f0 old mid front c.args.region c.args.base c.in-Ok.size c.write.new.self begun)))

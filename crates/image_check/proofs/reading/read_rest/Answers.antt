@@ -1,6 +1,6 @@
 use Rattle.std.proofs.Common.{◌≡◌, ◌-◌, ap, ◌∙◌, length, arith}
 use Rattle.std.proofs.lemmas.Result.{err_from_is_err_and}
-use Rattle.image_check.proofs.Filled.{filled_short, filled_whole, rest-filled, front-length, whole-length}
+use Rattle.image_check.proofs.Filled.{filled_short, filled_whole, rest-filled, front-length}
 use Rattle.image_check.proofs.reading.read_rest.Goals as goal
 
 pub returns-in_err-read_all-clause-err : goal.returns-in_err-read_all-clause-err
@@ -17,7 +17,7 @@ returns-in_err-read_all-clause-len g c =
     let w = c.args.window.now in
     let least = c.requires.long in
     let long : length c.read_all.new.into ≡ c.size-size.result - 24 = let a = c.read_all.auto.into in let b = c.bytes_mut.ensures.len in omega arith in
-    whole-length w _ (ap length (rest-filled w.bytes c.read_all.new.into c.size-size.result (omega arith) c.size-size.ensures long) ∙ front-length w.bytes c.read_all.new.into c.size-size.result (omega arith) c.size-size.ensures long)
+    ap length (rest-filled w.bytes c.read_all.new.into c.size-size.result (omega arith) c.size-size.ensures long) ∙ front-length w.bytes c.read_all.new.into c.size-size.result (omega arith) c.size-size.ensures long
 
 pub returns-clause-err : goal.returns-clause-err
 returns-clause-err g c =
@@ -30,4 +30,4 @@ returns-clause-len g c =
     let w = c.args.window.now in
     let least = c.requires.long in
     let long : length c.read_all.new.into ≡ c.size-size.result - 24 = let a = c.read_all.auto.into in let b = c.bytes_mut.ensures.len in omega arith in
-    whole-length w _ (ap length (rest-filled w.bytes c.read_all.new.into c.size-size.result (omega arith) c.size-size.ensures long) ∙ front-length w.bytes c.read_all.new.into c.size-size.result (omega arith) c.size-size.ensures long)
+    ap length (rest-filled w.bytes c.read_all.new.into c.size-size.result (omega arith) c.size-size.ensures long) ∙ front-length w.bytes c.read_all.new.into c.size-size.result (omega arith) c.size-size.ensures long

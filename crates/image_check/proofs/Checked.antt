@@ -156,15 +156,15 @@ no-entries : (ts : List Tile) → list_any (λ (t : Tile). is_some t.use_of) ts 
 no-entries [] e = refl
 no-entries (t ∷ ts) e = one-more t.offset t.len t.use_of t.red ts (list_any (λ (u : Tile). is_some u.use_of) ts) e (no-entries ts)
 
-no_answer : {A E : Type 0} (r : Result A E) → IsOk r → ((a : A) → r ≡ Ok a → ⊥) → ⊥
-no_answer (Ok a) h n = n a refl
-no_answer (Err e) h n = absurd (cc)
+no_answer : {A E : Type 0} (r : Result A E) (e : E) → IsOk r → r ≡ Err e → ⊥
+no_answer r e h n = absurd (cc)
 
 -- so memory was refused only where one is
-pub no-memory-used : {A E : Type 0} (b : List ℕ) (r : Result A E) → (entries_of (tiles_in b) ≡ [] → IsOk r) → ((a : A) → r ≡ Ok a → ⊥) → IsTrue (has_block b)
-no-memory-used b r h n = elim (cases_Bool (has_block b)) [
-  | inl e ↦ e
-  | inr e ↦ absurd (no_answer r (h (no-entries (tiles_in b) e)) n)
+pub no-memory-used : {A E : Type 0} (b : List ℕ) (r : Result A E) (e : E) → (entries_of (tiles_in b) ≡ [] → IsOk r)
+    → r ≡ Err e → IsTrue (has_block b)
+no-memory-used b r e h n = elim (cases_Bool (has_block b)) [
+  | inl u ↦ u
+  | inr u ↦ absurd (no_answer r e (h (no-entries (tiles_in b) u)) n)
 ]
 
 -- ---- the whole

@@ -28,7 +28,7 @@ module _ (format : ℕ) (image : Given) (region : List ℕ) (base : ℕ) (w : Cu
 
   why-not : (why : CheckError) → IsWhyRefused format w.bytes why → IsWhyNot format image base (length region) (cause_for why)
   why-not (Class c) x = record { sound = h.read.failed; right = inl (h.read.ended, subst (λ (b : List ℕ). class_of format b ≡ Some c) h.bytes x) }
-  why-not NoMemory x = record {
+  why-not (NoMemory refusal) x = record {
     read = h.read;
     early = subst (λ (b : List ℕ). has_early_class format b ≡ false) h.bytes x.0;
     used = subst (λ (b : List ℕ). IsTrue (has_block b)) h.bytes x.1;

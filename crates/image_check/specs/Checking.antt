@@ -32,9 +32,9 @@ FindsLate format b result =
 -- why an image is not opened
 abbrev pub IsWhyRefused : ℕ → List ℕ → CheckError → Type 0
 IsWhyRefused format b (Class c) = class_of format b ≡ Some c
-IsWhyRefused format b NoMemory = (has_early_class format b ≡ false) × IsTrue (has_block b)
+IsWhyRefused format b (NoMemory refusal) = (has_early_class format b ≡ false) × IsTrue (has_block b)
 
 -- the same as an answer to an opening
 abbrev pub cause_for : CheckError → OpenError
 cause_for (Class c) = Image c
-cause_for NoMemory = OutOfMemory
+cause_for (NoMemory refusal) = OutOfMemory

@@ -3,7 +3,7 @@ use Rattle.std.specs.Prelude.{◌≡◌, ◌⊎◌, ◌<◌, ◌≤◌, ℕ, ◌
 use Rattle.std.specs.List.{list_any}
 use Rattle.raw_region.specs.Memory.{SamePlace, cut_at}
 use Rattle.block_tags.specs.Format.{is_legal_size}
-use Rattle.raw_region.specs.Device.{Given}
+use Rattle.raw_region.specs.Device.{Gave, Given}
 use Rattle.segment_manager.specs.declared.modes.Mode.{Mode}
 use Rattle.segment_manager.specs.Directory.{Directory}
 use Rattle.segment_manager.specs.Denotes.{Denotes}
@@ -110,6 +110,10 @@ pub record Opens (format : ℕ) (image : Given) (region : List ℕ) (base : ℕ)
 abbrev pub failed_reads : {T : Type 0} → Result T OpenError → ℕ
 failed_reads (Ok x) = 0
 failed_reads (Err cause) = elim cause [ Image c ↦ 0 | RegionTooSmall ↦ 0 | OutOfMemory ↦ 0 | ReadFault ↦ 1 ]
+
+-- a call asks a reader no more behind its end: where the last read answered it that one alone did, and else none
+abbrev pub AsksToTheEnd : Gave → Gave → Type 0
+AsksToTheEnd old new = new.ends ≡ old.ends + (if new.ended then 1 else 0)
 
 -- ---- visits
 

@@ -47,8 +47,9 @@ pub fn check(
     if let Err(class) = check_frame(format, window, visits) {
         return Err(CheckError::Class(class));
     }
-    let Ok(mut owners) = gather(alloc, window, visits) else {
-        return Err(CheckError::NoMemory);
+    let mut owners = match gather(alloc, window, visits) {
+        Ok(owners) => owners,
+        Err(refusal) => return Err(CheckError::NoMemory(refusal)),
     };
     if let Err(class) = check_blocks(format, window, &mut owners, visits) {
         return Err(CheckError::Class(class));

@@ -3,6 +3,7 @@ ghost use Rattle.std.specs.Prelude.{◌≡◌};
 ghost use Rattle.image_check.specs.Checking.{cause_for};
 
 use crate::classes::ImageClass;
+use crate::room::NoMemory;
 use raw_region::RawRegion;
 use thiserror::Error;
 
@@ -39,7 +40,7 @@ pub enum CheckError {
     /// It denotes no directory.
     Class(ImageClass),
     /// Memory for the check of its blocks was refused.
-    NoMemory,
+    NoMemory(NoMemory),
 }
 
 impl CheckError {
@@ -49,7 +50,7 @@ impl CheckError {
     {
         match self {
             CheckError::Class(class) => OpenError::Image(class),
-            CheckError::NoMemory => OpenError::OutOfMemory,
+            CheckError::NoMemory(_) => OpenError::OutOfMemory,
         }
     }
 }

@@ -6,11 +6,12 @@ ghost use Rattle.image_check.specs.Passes.{HasTiles, Spends, tiles_in};
 ghost use Rattle.image_check.specs.Visits.{Adds, gathering_rates};
 
 use crate::owners::{Block, Owners};
+use crate::room::{NoMemory, room_for};
 use crate::visits::Visits;
 use block_tags::{Tile, first, next};
 use indexmap::IndexMap;
 use raw_region::Window;
-use std::alloc::{AllocError, Global};
+use std::alloc::Global;
 
 /// The blocks in use by payload, to none of which a link was met. Memory is asked for once, and not where no block is in use.
 ///
@@ -21,7 +22,7 @@ pub(crate) fn gather(
     alloc: Global,
     window: &Window,
     visits: &mut Visits,
-) -> Result<Owners, AllocError>
+) -> Result<Owners, NoMemory>
     requires tiles { HasTiles window.now.bytes }
     ensures entries { IfOk result (λ o. o.blocks.entries ≡ entries_of (tiles_in window.now.bytes)) }
     ensures pending { IfOk result (λ o. o.pending ≡ None) }
@@ -30,7 +31,7 @@ pub(crate) fn gather(
     ensures visits { Spends gathering_rates 2 window.now.bytes visits.old visits.new }
 {
     let count = count_used(window, visits);
-    match IndexMap::with_capacity(alloc, count) {
+    match room_for(alloc, count) {
         Ok(mut blocks) => {
             add_all(window, &mut blocks, visits);
             Ok(Owners {
@@ -39,7 +40,7 @@ pub(crate) fn gather(
                 waiting: 0,
             })
         }
-        Err(error) => Err(error),
+        Err(refusal) => Err(refusal),
     }
 }
 

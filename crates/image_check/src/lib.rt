@@ -25,6 +25,7 @@ mod owners;
 mod ranks;
 mod reading;
 mod renewing;
+mod room;
 mod sharing;
 mod spellings;
 mod versions;

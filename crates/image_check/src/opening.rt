@@ -2,7 +2,7 @@
 ghost use Rattle.std.specs.Prelude.{◌≡◌, ◌+◌, ◌-◌, ◌%◌, ◌^◌, ◌<◌, length};
 ghost use Rattle.raw_region.specs.Device.{Reads, given_since};
 ghost use Rattle.raw_region.specs.Format.{current};
-ghost use Rattle.image_check.specs.Opening.{IsRaisedFor, Opens, cause_of, failed_reads, size_or_least};
+ghost use Rattle.image_check.specs.Opening.{AsksToTheEnd, IsRaisedFor, Opens, cause_of, failed_reads, size_or_least};
 
 use crate::checking::check;
 use crate::errors::OpenRefused;
@@ -21,7 +21,7 @@ use std::mem;
 ///
 /// `RegionTooSmall` as soon as the magic, the version and a legal size are read and the region ends before base plus size. A
 /// class of the image where it denotes no directory, the first that holds, where it was read to its end or what was read decides it. `ReadFault`
-/// where the reader failed before that; it is not asked again after an error. `OutOfMemory` where memory for the check of the
+/// where the reader failed before that; it is not asked again after an error, nor behind its end. `OutOfMemory` where memory for the check of the
 /// blocks was refused: only where no class before `BadIndex` holds and a tile is in use. The region comes back.
 ///
 /// `steps` is raised by each visit of the check: by no more than 64 for each 16 bytes of the size, and 64.
@@ -37,6 +37,7 @@ pub fn open<S: Source>(
     requires reader { (S.history reader.old).failures < 2 ^ 64 - 1 }
     ensures opens { Opens current (given_since (S.history reader.old) (S.history reader.new)) region base mode result }
     ensures history { Reads (S.history reader.old) (S.history reader.new) (failed_reads (cause_of result)) }
+    ensures ends { AsksToTheEnd (S.history reader.old) (S.history reader.new) }
     ensures steps { IsRaisedFor (size_or_least (given_since (S.history reader.old) (S.history reader.new)).bytes) steps.old steps.new }
 {
     let window = read_image(Versions::Current, reader, region, base)?;

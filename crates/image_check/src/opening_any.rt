@@ -1,7 +1,7 @@
 //! The opening of an image of any of the three formats.
 ghost use Rattle.std.specs.Prelude.{◌≡◌, ◌+◌, ◌-◌, ◌%◌, ◌^◌, ◌<◌, length};
 ghost use Rattle.raw_region.specs.Device.{Reads, given_since};
-ghost use Rattle.image_check.specs.Opening.{IsRaisedFor, cause_of, failed_reads, size_or_least};
+ghost use Rattle.image_check.specs.Opening.{AsksToTheEnd, IsRaisedFor, cause_of, failed_reads, size_or_least};
 ghost use Rattle.image_check.specs.OpeningAny.{OpensAny};
 
 use crate::checking::{all_bytes, check};
@@ -37,6 +37,7 @@ pub fn open_any<S: Source>(
     requires reader { (S.history reader.old).failures < 2 ^ 64 - 1 }
     ensures opens { OpensAny (given_since (S.history reader.old) (S.history reader.new)) region base mode result }
     ensures history { Reads (S.history reader.old) (S.history reader.new) (failed_reads (cause_of result)) }
+    ensures ends { AsksToTheEnd (S.history reader.old) (S.history reader.new) }
     ensures steps { IsRaisedFor (size_or_least (given_since (S.history reader.old) (S.history reader.new)).bytes) steps.old steps.new }
 {
     let window = read_image(Versions::All, reader, region, base)?;

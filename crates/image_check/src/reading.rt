@@ -1,11 +1,11 @@
 //! The reading of an image into its place in a region.
-ghost use Rattle.std.specs.Prelude.{◌≡◌, ◌+◌, ◌-◌, ◌%◌, ◌^◌, ◌<◌, ◌≤◌, List, ℕ, ◌++◌, true, length, take, drop, IfOk, OnOk, IfErr, MatchResult};
+ghost use Rattle.std.specs.Prelude.{◌≡◌, ◌+◌, ◌-◌, ◌%◌, ◌^◌, ◌<◌, ◌≤◌, List, ℕ, ◌++◌, true, false, length, take, drop, IfOk, OnOk, IfErr, MatchResult};
 ghost use Rattle.raw_region.specs.Answers.{AddsFront};
 ghost use Rattle.raw_region.specs.Device.{Reads, given_since};
 ghost use Rattle.raw_region.specs.Memory.{SamePlace, whole};
 ghost use Rattle.raw_region.specs.Regions.{with_bytes};
 ghost use Rattle.image_check.specs.Formats.{format_in};
-ghost use Rattle.image_check.specs.Opening.{cause_of, failed_reads};
+ghost use Rattle.image_check.specs.Opening.{AsksToTheEnd, cause_of, failed_reads};
 ghost use Rattle.image_check.specs.Reading.{GoesOn, HasFront, IsFrontRead, IsReadBy, IsNotReadBy, IsShort, Stops, StopsBy};
 
 use crate::classes::ImageClass;
@@ -32,6 +32,7 @@ pub fn read_image<S: Source>(
         (IsReadBy versions (given_since (S.history reader.old) (S.history reader.new)) region base)
         (IsNotReadBy versions (given_since (S.history reader.old) (S.history reader.new)) region base) }
     ensures history { Reads (S.history reader.old) (S.history reader.new) (failed_reads (cause_of result)) }
+    ensures ends { AsksToTheEnd (S.history reader.old) (S.history reader.new) }
 {
     let mut front = [0; FRONT];
     let size = match read_front(versions, reader, &mut front, &region, base) {
@@ -65,6 +66,8 @@ fn read_front<S: Source>(
     ensures ok { IfOk result (IsFrontRead (format_in versions front.new) (S.history reader.old).bytes (S.history reader.new).bytes front.new base (length region.now)) }
     ensures err { IfErr result (StopsBy versions (given_since (S.history reader.old) (S.history reader.new)) base (length region.now)) }
     ensures history { Reads (S.history reader.old) (S.history reader.new) (failed_reads result) }
+    ensures ends { AsksToTheEnd (S.history reader.old) (S.history reader.new) }
+    ensures more { OnOk result ((S.history reader.new).ended ≡ false) }
 {
     read_all(reader, front)?;
     match size_by(versions, front) {
@@ -92,6 +95,7 @@ fn read_rest<S: Source>(reader: &mut S, window: &mut Window) -> Result<(), OpenE
     ensures place { SamePlace window.old window.new }
     ensures len { length window.new.bytes ≡ length window.old.bytes }
     ensures history { Reads (S.history reader.old) (S.history reader.new) (failed_reads result) }
+    ensures ends { AsksToTheEnd (S.history reader.old) (S.history reader.new) }
 {
     let front = FRONT as u64;
     let size = window.size();
@@ -109,6 +113,8 @@ fn read_all<S: Source>(reader: &mut S, into: &mut [u8]) -> Result<(), OpenError>
     ensures ok { OnOk result ((S.history reader.new).bytes ≡ (S.history reader.old).bytes ++ into.new) }
     ensures err { IfErr result (λ cause. AddsFront (S.history reader.old).bytes (S.history reader.new).bytes into.new × IsShort (S.history reader.new).ended cause) }
     ensures counted { (S.history reader.new).failures ≡ (S.history reader.old).failures + failed_reads result }
+    ensures ends { 0 < length into.old → AsksToTheEnd (S.history reader.old) (S.history reader.new) }
+    ensures more { OnOk result (0 < length into.old → (S.history reader.new).ended ≡ false) }
 {
     let Ok(count) = fill(reader, into) else {
         return Err(OpenError::ReadFault);
@@ -130,6 +136,7 @@ fn find_end<S: Source>(reader: &mut S) -> Result<(), OpenError>
     ensures ended { OnOk result ((S.history reader.new).ended ≡ true) }
     ensures err { IfErr result (GoesOn (S.history reader.old).bytes (S.history reader.new).bytes) }
     ensures counted { (S.history reader.new).failures ≡ (S.history reader.old).failures + failed_reads result }
+    ensures ends { AsksToTheEnd (S.history reader.old) (S.history reader.new) }
 {
     match reader.read(&mut [0]) {
         Err(_) => Err(OpenError::ReadFault),

@@ -7,15 +7,17 @@ use Rattle.image_check.proofs.checking.check.Goals as goal
 pub gather-requires : goal.gather-requires
 gather-requires c = record { tiles = frame-tiles c.args.format c.args.window.now.bytes c.in_default.ensures.finds }
 
-pub returns-in_default-gather-clause-answers : goal.returns-in_default-gather-clause-answers
-returns-in_default-gather-clause-answers c = (
+pub returns-in-Err-gather-clause-answers : goal.returns-in-Err-gather-clause-answers
+returns-in-Err-gather-clause-answers c = (
   frame-no_early_class c.args.format c.args.window.now.bytes c.in_default.ensures.finds,
-  no-memory-used c.args.window.now.bytes c.gather.result c.gather.ensures.memory c.in_default-gather.not-Ok,
+  no-memory-used c.args.window.now.bytes c.gather.result c.in-Err-gather.refusal c.gather.ensures.memory c.in-Err-gather.is,
 )
 
-pub returns-in_default-gather-clause-visits : goal.returns-in_default-gather-clause-visits
-returns-in_default-gather-clause-visits c =
-    gathered-raised c.args.window.now _ _ _ (frame-tiles c.args.format c.args.window.now.bytes c.in_default.ensures.finds) c.in_default.ensures.visits c.in_default-gather.ensures.visits
+pub returns-in-Err-gather-clause-visits : goal.returns-in-Err-gather-clause-visits
+returns-in-Err-gather-clause-visits c =
+    gathered-raised c.args.window.now _ _ _
+    (frame-tiles c.args.format c.args.window.now.bytes c.in_default.ensures.finds)
+    c.in_default.ensures.visits c.in-Err-gather.ensures.visits
 
 pub check_blocks-requires-clause-tiles : goal.check_blocks-requires-clause-tiles
 check_blocks-requires-clause-tiles c = frame-tiles c.args.format c.args.window.now.bytes c.in_default.ensures.finds

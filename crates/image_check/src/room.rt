@@ -1,0 +1,29 @@
+//! Room for the blocks in use: the one request for memory that the check of an image makes.
+ghost use Rattle.std.specs.Prelude.{◌≡◌, ◌≤◌, IfOk, IsOk, []};
+ghost use Rattle.indexmap.specs.IndexMap.{spare};
+
+use crate::owners::Block;
+use indexmap::IndexMap;
+use std::alloc::{AllocError, Global};
+
+/// The allocator refused memory. Its field is private: only [`room_for`] makes one, from the allocator's refusal.
+#[derive(Clone, Copy)]
+pub struct NoMemory {
+    refusal: AllocError,
+}
+
+/// An empty map with room for so many blocks. Memory is asked for once, and not where they are none.
+///
+/// # Errors
+///
+/// Where the allocator refuses it.
+pub(crate) fn room_for(alloc: Global, count: usize) -> Result<IndexMap<u64, Block>, NoMemory>
+    ensures empty { IfOk result (λ blocks. blocks.entries ≡ []) }
+    ensures room { IfOk result (λ blocks. count ≤ spare blocks) }
+    ensures memory { count ≡ 0 → IsOk result }
+{
+    match IndexMap::with_capacity(alloc, count) {
+        Ok(blocks) => Ok(blocks),
+        Err(refusal) => Err(NoMemory { refusal }),
+    }
+}

@@ -3,7 +3,7 @@ use Rattle.std.proofs.Common.{◌≡◌, refl, sym, ap, subst, ◌∙◌, ℕ, �
 use Rattle.std.specs.Prelude.{Option, Some}
 use Rattle.std.specs.List.{AllByRecursion}
 use Rattle.std.proofs.lemmas.Option.{none-some}
-use Rattle.raw_region.specs.Memory.{Cut, Same, bytes_of, word_at}
+use Rattle.raw_region.specs.Memory.{Cut, Same, SameBut, bytes_of, word_at}
 use Rattle.block_tags.specs.declared.tile.Role.{Role}
 use Rattle.block_tags.specs.declared.tile.Role.TheVariants.{Node}
 use Rattle.block_tags.specs.declared.tile.Tile.{Tile}
@@ -45,7 +45,8 @@ node_may c h at red n e =
     colour false t u = refl
 
 module _ (c d : Cut) (h at : ℕ) (red : Bool) (heap : IsHeap current c.bytes) (b : Block c h) (e : at + 16 ≡ h)
-    (tags : (ts : List Tile) → SaysTiles c ts → SaysTiles d (with_red_at at red ts)) (rest : (ts : List Tile) → SaysTiles c ts → SameBesideTags c d ts (with_red_at at red ts)) where
+    (tags : (ts : List Tile) → SaysTiles c ts → SaysTiles d (with_red_at at red ts)) (rest : (ts : List Tile) → SaysTiles c ts → SameBesideTags c d ts (with_red_at at red ts))
+    (word : SameBut (bytes_of c.bytes) (bytes_of d.bytes) (at + 8) 8) where
   abbrev front : List Tile
   front = b.front
 
@@ -144,4 +145,5 @@ module _ (c d : Cut) (h at : ℕ) (red : Bool) (heap : IsHeap current c.bytes) (
         colour = tile_colour d painted painted_tile h said (one_tile_at_an_offset d front painted_tile back said) b.at;
         keeps = keeps;
         payloads = payloads;
+        rest = subst (λ k. SameBut (bytes_of c.bytes) (bytes_of d.bytes) k 8) (omega arith) word;
       }

@@ -1,6 +1,7 @@
 //! Tiles that are split, joined, and given another use or colour. Only tags are written: those of the tiles that are
 //! named, and the length before in the tag behind them, so that a tile is found from either side without a search.
-ghost use Rattle.std.specs.Prelude.{List};
+ghost use Rattle.std.specs.Prelude.{◌+◌, List};
+ghost use Rattle.raw_region.specs.Memory.{SameBut, bytes_of};
 ghost use Rattle.block_tags.specs.declared.tile.Tile.{Tile};
 ghost use Rattle.block_tags.specs.Lists.{joined_at, split_at, with_red_at, with_use_at};
 ghost use Rattle.block_tags.specs.Windows.{CanSplit, HasFreeNext, MayBeUsed, MayHaveColour, SameBesideTags, SaysTiles};
@@ -48,25 +49,28 @@ pub fn merge_next(window: &mut Window, at: u64)
     put_word(window, at + joined.len, joined.len);
 }
 
-/// Gives the tile at `at` another use, or none, in which it may have the colour that it has.
+/// Gives the tile at `at` another use, or none, in which it may have the colour that it has. No byte changes but the
+/// second word of its tag.
 pub fn set_use(window: &mut Window, at: u64, use_of: Option<Role>)
     requires { MayBeUsed window.old at use_of }
     ensures tags { (ts : List Tile) → SaysTiles window.old ts
         → SaysTiles window.new (with_use_at at use_of ts) }
     ensures rest { (ts : List Tile) → SaysTiles window.old ts
         → SameBesideTags window.old window.new ts (with_use_at at use_of ts) }
+    ensures word { SameBut (bytes_of window.old.bytes) (bytes_of window.new.bytes) (at + 8) 8 }
 {
     let tile = tile_there(window, at);
     put_word(window, at + 8, tag_word(Tile { use_of, ..tile }));
 }
 
-/// Makes the tile at `at` red, which only some tiles may be, or black.
+/// Makes the tile at `at` red, which only some tiles may be, or black. No byte changes but the second word of its tag.
 pub fn set_red(window: &mut Window, at: u64, red: bool)
     requires { MayHaveColour window.old at red }
     ensures tags { (ts : List Tile) → SaysTiles window.old ts
         → SaysTiles window.new (with_red_at at red ts) }
     ensures rest { (ts : List Tile) → SaysTiles window.old ts
         → SameBesideTags window.old window.new ts (with_red_at at red ts) }
+    ensures word { SameBut (bytes_of window.old.bytes) (bytes_of window.new.bytes) (at + 8) 8 }
 {
     let tile = tile_there(window, at);
     put_word(window, at + 8, tag_word(Tile { red, ..tile }));

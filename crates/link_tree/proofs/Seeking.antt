@@ -6,6 +6,7 @@ use Rattle.std.proofs.lemmas.Bool.{and_parts, not_from_true, not_from_false, tru
 use Rattle.std.proofs.lemmas.List.Folds.{find-append}
 use Rattle.link_tree.specs.Tree.{Cell, Tree, nodes_of, IsTree, IsSearchTree, rises, height}
 use Rattle.link_tree.specs.Nodes.{first_not}
+use Rattle.link_tree.specs.Searching.{path_length}
 use Rattle.link_tree.proofs.Orders.{rises_split, all_at, all_from, not_left, not_right}
 use Rattle.link_tree.proofs.Trees.{open_tree, root_in, some_same, no_tree}
 
@@ -42,6 +43,7 @@ pub record Seeking (lt : ℕ → ℕ → Bool) (h : ℕ → Cell) (before : ℕ 
   pub ordered : rises lt (nodes_of tree) ≡ true
   pub first : option_or (first_not before (nodes_of tree)) found ≡ first_not before (nodes_of whole)
   pub taken : steps + height tree ≤ height whole
+  pub path : steps + path_length before tree ≡ path_length before whole
   pub away : (m : ℕ) → link ≡ Some m → at ≡ Some m → ⊥
 
 or_none : (a : Option ℕ) → option_or a None ≡ a
@@ -56,6 +58,7 @@ module _ (lt : ℕ → ℕ → Bool) (h : ℕ → Cell) (before : ℕ → Bool) 
     ordered = s.ordered;
     first = or_none _;
     taken = omega arith;
+    path = omega arith;
     away = λ m e f. cc;
   }
 
@@ -65,10 +68,17 @@ module _ (lt : ℕ → ℕ → Bool) (h : ℕ → Cell) (before : ℕ → Bool) 
       let f = s.first in
       rw e at f
 
+  -- a search that has ended went down all of its path
+  pub seek_path : (found at : Option ℕ) (steps : ℕ) → Seeking lt h before whole None found at steps → steps ≡ path_length before whole
+  seek_path found at steps s =
+      let e = no_tree h s.tree s.is_tree in
+      let p = rw e at s.path in
+      omega arith
+
   module _ (transitive : (a b c : ℕ) → lt a b ≡ true → lt b c ≡ true → lt a c ≡ true) (irreflexive : (n : ℕ) → lt n n ≡ false) where
     pub seek_right : (n : ℕ) (found at at' : Option ℕ) (steps steps' : ℕ)
         → ((a b : ℕ) → lt a b ≡ true → before b ≡ true → before a ≡ true)
-        → Seeking lt h before whole (Some n) found at steps → before n ≡ true → steps' ≤ steps + 1 → at' ≡ Some n
+        → Seeking lt h before whole (Some n) found at steps → before n ≡ true → steps' ≡ steps + 1 → at' ≡ Some n
         → Seeking lt h before whole (h n).right found at' steps'
     seek_right n found at at' steps steps' agrees s b st e =
         let o = open_tree h n s.tree s.is_tree in
@@ -77,6 +87,7 @@ module _ (lt : ℕ → ℕ → Bool) (h : ℕ → Cell) (before : ℕ → Bool) 
         let sp = rises_split lt l n r (rw o.is at s.ordered) in
         let firsts = rw o.is at s.first in
         let taken = rw o.is at s.taken in
+        let path = rw b at (rw o.is at s.path) in
         let passed = all_from before l (λ m i. agrees m n (all_at (λ k. lt k n) l m sp.below i) b) in
         record {
           tree = o.right;
@@ -84,6 +95,7 @@ module _ (lt : ℕ → ℕ → Bool) (h : ℕ → Cell) (before : ℕ → Bool) 
           ordered = sp.right;
           first = ap (λ f. option_or f found) (sym (first_not-right before l n r passed b)) ∙ firsts;
           taken = omega arith;
+          path = omega arith;
           away = λ m f g.
               let k : m ≡ n = some_same m n (sym g ∙ e) in
               let w : IsTree h (Some n) o.right = record { root = sym (rw k at f) ∙ o.right_tree.root; holds = o.right_tree.holds } in
@@ -91,7 +103,7 @@ module _ (lt : ℕ → ℕ → Bool) (h : ℕ → Cell) (before : ℕ → Bool) 
         }
 
     pub seek_left : (n : ℕ) (found at at' : Option ℕ) (steps steps' : ℕ)
-        → Seeking lt h before whole (Some n) found at steps → before n ≡ false → steps' ≤ steps + 1 → at' ≡ Some n
+        → Seeking lt h before whole (Some n) found at steps → before n ≡ false → steps' ≡ steps + 1 → at' ≡ Some n
         → Seeking lt h before whole (h n).left (Some n) at' steps'
     seek_left n found at at' steps steps' s b st e =
         let o = open_tree h n s.tree s.is_tree in
@@ -100,12 +112,14 @@ module _ (lt : ℕ → ℕ → Bool) (h : ℕ → Cell) (before : ℕ → Bool) 
         let sp = rises_split lt l n r (rw o.is at s.ordered) in
         let firsts = rw o.is at s.first in
         let taken = rw o.is at s.taken in
+        let path = rw b at (rw o.is at s.path) in
         record {
           tree = o.left;
           is_tree = o.left_tree;
           ordered = sp.left;
           first = sym (ap (λ f. option_or f found) (first_not-left before l n r b) ∙ or_some (first_not before l) n found) ∙ firsts;
           taken = omega arith;
+          path = omega arith;
           away = λ m f g.
               let k : m ≡ n = some_same m n (sym g ∙ e) in
               let w : IsTree h (Some n) o.left = record { root = sym (rw k at f) ∙ o.left_tree.root; holds = o.left_tree.holds } in

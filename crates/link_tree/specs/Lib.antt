@@ -4,6 +4,7 @@ pub mod Between
 pub mod Sides
 pub mod Turning
 pub mod Growing
+pub mod Searching
 pub mod Shrinking
 pub mod Checking
 pub mod Walking

@@ -27,6 +27,8 @@ fn lay<N: NodesMut>(visits: &mut VisitsMut<N>, node: u64)
     ensures laid { Turned (N.cells visits.old.nodes.now) (N.cells visits.new.nodes.now) (node ∷ [])
         (Some node) (fork true leaf node leaf) }
     ensures most { visits.new.steps ≤ visits.old.steps + 3 }
+    ensures counted { visits.old.steps ≤ visits.new.steps }
+    ensures went { visits.old.at ≡ None → visits.old.steps < visits.new.steps }
     ensures reference { visits.new.nodes.ghost_name ≡ visits.old.nodes.ghost_name }
     ensures same { SameBesideCells N.Nodes visits.old.nodes.now visits.new.nodes.now }
 {
@@ -50,6 +52,8 @@ fn grow<N: NodesMut>(visits: &mut VisitsMut<N>, link: Option<u64>, node: u64) ->
         → Grows (N.order visits.old.nodes.now) (N.cells visits.old.nodes.now) link node t
         → visits.new.steps ≤ visits.old.steps + 13 * height t + 3 }
     ensures root { N.is_node visits.old.nodes.now result ≡ true }
+    ensures counted { visits.old.steps ≤ visits.new.steps }
+    ensures went { visits.old.at ≡ None → visits.old.steps < visits.new.steps }
     ensures reference { visits.new.nodes.ghost_name ≡ visits.old.nodes.ghost_name }
     ensures same { SameBesideCells N.Nodes visits.old.nodes.now visits.new.nodes.now }
 {
@@ -86,6 +90,7 @@ pub fn insert<N: NodesMut>(nodes: &mut N, root: Option<u64>, node: u64) -> Chang
     // `bits` counts binary digits, here of the number of nodes before the call and one.
     ensures steps { (t : Tree) → IsSearchTree (N.order nodes.old) (N.cells nodes.old) root t
         → result.steps ≤ 32 * bits (length (nodes_of t) + 1) + 32 }
+    ensures counted { 0 < result.steps }
     ensures root { leads (N.is_node nodes.new) result.root ≡ true }
     // Nothing but links and colours changed: the nodes, their order, the reference they are reached by, and what else there is stay.
     ensures same { SameBesideCells N.Nodes nodes.old nodes.new }

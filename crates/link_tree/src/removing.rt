@@ -36,6 +36,7 @@ fn redden<N: NodesMut>(visits: &mut VisitsMut<N>, link: Option<u64>)
         → Turned (N.cells visits.old.nodes.now) (N.cells visits.new.nodes.now) (nodes_of t) link
         (reddened t) }
     ensures most { visits.new.steps ≤ visits.old.steps + 1 }
+    ensures counted { visits.old.steps ≤ visits.new.steps }
     ensures reference { visits.new.nodes.ghost_name ≡ visits.old.nodes.ghost_name }
     ensures same { SameBesideCells N.Nodes visits.old.nodes.now visits.new.nodes.now }
 {
@@ -57,6 +58,7 @@ fn mend_red<N: NodesMut>(visits: &mut VisitsMut<N>, top: u64, heavy: u64, side: 
     ensures fell { result.fell ≡ false }
     ensures root { leads (N.is_node visits.old.nodes.now) result.root ≡ true }
     ensures most { visits.new.steps ≤ visits.old.steps + 18 }
+    ensures counted { visits.old.steps ≤ visits.new.steps }
     ensures reference { visits.new.nodes.ghost_name ≡ visits.old.nodes.ghost_name }
     ensures same { SameBesideCells N.Nodes visits.old.nodes.now visits.new.nodes.now }
 {
@@ -85,6 +87,7 @@ fn mend<N: NodesMut>(visits: &mut VisitsMut<N>, top: u64, side: Side) -> Leftove
         (nodes_of t) result.root result.fell (mended side t) }
     ensures root { leads (N.is_node visits.old.nodes.now) result.root ≡ true }
     ensures steps { visits.new.steps + spare result.fell ≤ visits.old.steps + 19 }
+    ensures counted { visits.old.steps ≤ visits.new.steps }
     ensures reference { visits.new.nodes.ghost_name ≡ visits.old.nodes.ghost_name }
     ensures same { SameBesideCells N.Nodes visits.old.nodes.now visits.new.nodes.now }
 {
@@ -130,6 +133,7 @@ fn settle<N: NodesMut>(
     ensures root { leads (N.is_node visits.old.nodes.now) result.root ≡ true }
     ensures steps { visits.new.steps + spare result.fell ≤ visits.old.steps + 13
         + spare below.fell }
+    ensures counted { visits.old.steps ≤ visits.new.steps }
     ensures reference { visits.new.nodes.ghost_name ≡ visits.old.nodes.ghost_name }
     ensures same { SameBesideCells N.Nodes visits.old.nodes.now visits.new.nodes.now }
 {
@@ -154,6 +158,7 @@ fn sink<N: NodesMut>(visits: &mut VisitsMut<N>, red: bool, link: Option<u64>) ->
     ensures root { leads (N.is_node visits.old.nodes.now) result.root ≡ true }
     // Where the tree fell, `spare` steps are kept in hand for mending it one level higher.
     ensures steps { visits.new.steps + spare result.fell ≤ visits.old.steps + 9 }
+    ensures counted { visits.old.steps ≤ visits.new.steps }
     ensures reference { visits.new.nodes.ghost_name ≡ visits.old.nodes.ghost_name }
     ensures same { SameBesideCells N.Nodes visits.old.nodes.now visits.new.nodes.now }
 {
@@ -196,6 +201,7 @@ fn take_least<N: NodesMut>(visits: &mut VisitsMut<N>, at: u64) -> Least
         → visits.new.steps + spare result.rest.fell ≤ visits.old.steps + 14 * height t + 9 }
     ensures is_node { N.is_node visits.old.nodes.now result.node ≡ true }
     ensures root { leads (N.is_node visits.old.nodes.now) result.rest.root ≡ true }
+    ensures counted { visits.old.steps ≤ visits.new.steps }
     ensures reference { visits.new.nodes.ghost_name ≡ visits.old.nodes.ghost_name }
     ensures same { SameBesideCells N.Nodes visits.old.nodes.now visits.new.nodes.now }
 {
@@ -228,6 +234,8 @@ fn uproot<N: NodesMut>(visits: &mut VisitsMut<N>, at: u64) -> Leftover
         → Shrinks (N.order visits.old.nodes.now) (N.cells visits.old.nodes.now) (Some at) t
         → visits.new.steps + spare result.fell ≤ visits.old.steps + 15 * height t + 10 }
     ensures root { leads (N.is_node visits.old.nodes.now) result.root ≡ true }
+    ensures counted { visits.old.steps ≤ visits.new.steps }
+    ensures went { visits.old.at ≡ None → visits.old.steps < visits.new.steps }
     ensures reference { visits.new.nodes.ghost_name ≡ visits.old.nodes.ghost_name }
     ensures same { SameBesideCells N.Nodes visits.old.nodes.now visits.new.nodes.now }
 {
@@ -257,6 +265,8 @@ fn cut<N: NodesMut>(visits: &mut VisitsMut<N>, link: Option<u64>, node: u64) -> 
         → Shrinks (N.order visits.old.nodes.now) (N.cells visits.old.nodes.now) link t
         → visits.new.steps + spare result.fell ≤ visits.old.steps + 15 * height t + 10 }
     ensures root { leads (N.is_node visits.old.nodes.now) result.root ≡ true }
+    ensures counted { visits.old.steps ≤ visits.new.steps }
+    ensures went { visits.old.at ≡ None → link ≢ None → visits.old.steps < visits.new.steps }
     ensures reference { visits.new.nodes.ghost_name ≡ visits.old.nodes.ghost_name }
     ensures same { SameBesideCells N.Nodes visits.old.nodes.now visits.new.nodes.now }
 {
@@ -295,6 +305,7 @@ pub fn remove<N: NodesMut>(nodes: &mut N, root: Option<u64>, node: u64) -> Chang
     // `bits` counts binary digits, here of the number of nodes before the call and one.
     ensures steps { (t : Tree) → IsSearchTree (N.order nodes.old) (N.cells nodes.old) root t
         → result.steps ≤ 32 * bits (length (nodes_of t) + 1) + 32 }
+    ensures counted { 0 < result.steps }
     ensures root { leads (N.is_node nodes.new) result.root ≡ true }
     // Nothing but links and colours changed: the nodes, their order, the reference they are reached by, and what else there is stay.
     ensures same { SameBesideCells N.Nodes nodes.old nodes.new }

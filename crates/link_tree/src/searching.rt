@@ -3,6 +3,7 @@
 ghost use Rattle.std.specs.Prelude.{◌≡◌, ℕ, ◌+◌, ◌*◌, ◌≤◌, Bool, true, false, Option, Some, None, List, length};
 ghost use Rattle.link_tree.specs.Tree.{Tree, IsSearchTree, nodes_of, bits};
 ghost use Rattle.link_tree.specs.Nodes.{leads, first_not};
+ghost use Rattle.link_tree.specs.Searching.{path_length};
 
 use crate::nodes::Nodes;
 use crate::visits::Visits;
@@ -18,8 +19,8 @@ pub struct Found {
 
 /// The first node of the tree that does not stand before the probe.
 ///
-/// A step is going to a node, with all that is read there before the search goes to another: no level of the tree
-/// takes more than one, so there are at most as many steps as the tree is high.
+/// A step is going to a node, with all that is read there before the search goes to another: it takes one for each node
+/// of the path that it goes down from the root, so there are at most as many steps as the tree is high.
 pub fn find_first_not_before<N: Nodes>(nodes: &N, root: Option<u64>, probe: &N::Probe) -> Found
     requires root { leads (N.is_node nodes.now) root ≡ true }
     requires tree { (t : Tree) × IsSearchTree (N.order nodes.now) (N.cells nodes.now) root t }
@@ -29,6 +30,8 @@ pub fn find_first_not_before<N: Nodes>(nodes: &N, root: Option<u64>, probe: &N::
     // `bits` counts binary digits: at most 2 log2 (n + 1) + 2 steps in a tree of n nodes.
     ensures steps { (t : Tree) → IsSearchTree (N.order nodes.now) (N.cells nodes.now) root t
         → result.steps ≤ 2 * bits (length (nodes_of t) + 1) }
+    ensures exact { (t : Tree) → IsSearchTree (N.order nodes.now) (N.cells nodes.now) root t
+        → result.steps ≡ path_length (N.before nodes.now probe.now) t }
 {
     let mut visits = Visits::new(nodes);
     let mut link = root;

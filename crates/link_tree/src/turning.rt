@@ -15,6 +15,7 @@ pub fn is_red<N: NodesMut>(visits: &mut VisitsMut<N>, link: Option<u64>) -> bool
     requires room { visits.old.steps + 1 < 2 ^ 64 }
     ensures value { (t : Tree) → IsTree (N.cells visits.old.nodes.now) link t
         → result ≡ is_red_tree t }
+    ensures counted { visits.old.steps ≤ visits.new.steps }
     ensures reference { visits.new.nodes.ghost_name ≡ visits.old.nodes.ghost_name }
     ensures nodes { visits.new.nodes.now ≡ visits.old.nodes.now }
     ensures most { visits.new.steps ≤ visits.old.steps + 1 }
@@ -34,6 +35,7 @@ pub fn blacken<N: NodesMut>(visits: &mut VisitsMut<N>, link: Option<u64>)
         → Turned (N.cells visits.old.nodes.now) (N.cells visits.new.nodes.now) (nodes_of t) link
         (blackened t) }
     ensures most { visits.new.steps ≤ visits.old.steps + 1 }
+    ensures counted { visits.old.steps ≤ visits.new.steps }
     ensures reference { visits.new.nodes.ghost_name ≡ visits.old.nodes.ghost_name }
     ensures same { SameBesideCells N.Nodes visits.old.nodes.now visits.new.nodes.now }
 {
@@ -54,6 +56,7 @@ pub fn lift<N: NodesMut>(visits: &mut VisitsMut<N>, top: u64, side: Side) -> u64
     ensures at { visits.new.at ≡ Some top }
     ensures most { visits.new.steps ≤ visits.old.steps + 3 }
     ensures stays { visits.old.at ≡ Some top → visits.new.steps ≤ visits.old.steps + 2 }
+    ensures counted { visits.old.steps ≤ visits.new.steps }
     ensures reference { visits.new.nodes.ghost_name ≡ visits.old.nodes.ghost_name }
     ensures same { SameBesideCells N.Nodes visits.old.nodes.now visits.new.nodes.now }
 {
@@ -80,6 +83,7 @@ pub fn balance<N: NodesMut>(visits: &mut VisitsMut<N>, top: u64, side: Side) -> 
     ensures node { N.is_node visits.old.nodes.now result ≡ true }
     ensures most { visits.new.steps ≤ visits.old.steps + 11 }
     ensures stays { visits.old.at ≡ Some top → visits.new.steps ≤ visits.old.steps + 10 }
+    ensures counted { visits.old.steps ≤ visits.new.steps }
     ensures reference { visits.new.nodes.ghost_name ≡ visits.old.nodes.ghost_name }
     ensures same { SameBesideCells N.Nodes visits.old.nodes.now visits.new.nodes.now }
 {

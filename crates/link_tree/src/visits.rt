@@ -182,6 +182,7 @@ impl<'a, N: NodesMut> VisitsMut<'a, N> {
         ensures reference { self.new.nodes.ghost_name ≡ self.old.nodes.ghost_name }
         ensures nodes { self.new.nodes.now ≡ self.old.nodes.now }
         ensures at { self.new.at ≡ Some node }
+        ensures counted { self.old.steps ≤ self.new.steps }
         ensures most { self.new.steps ≤ self.old.steps + 1 }
         ensures stays { self.old.at ≡ Some node → self.new.steps ≡ self.old.steps }
         ensures goes { self.old.at ≢ Some node → self.new.steps ≡ self.old.steps + 1 }
@@ -200,6 +201,7 @@ impl<'a, N: NodesMut> VisitsMut<'a, N> {
         ensures reference { self.new.nodes.ghost_name ≡ self.old.nodes.ghost_name }
         ensures nodes { self.new.nodes.now ≡ self.old.nodes.now }
         ensures at { self.new.at ≡ Some node }
+        ensures counted { self.old.steps ≤ self.new.steps }
         ensures most { self.new.steps ≤ self.old.steps + 1 }
         ensures stays { self.old.at ≡ Some node → self.new.steps ≡ self.old.steps }
         ensures goes { self.old.at ≢ Some node → self.new.steps ≡ self.old.steps + 1 }
@@ -218,8 +220,10 @@ impl<'a, N: NodesMut> VisitsMut<'a, N> {
         ensures reference { self.new.nodes.ghost_name ≡ self.old.nodes.ghost_name }
         ensures nodes { self.new.nodes.now ≡ self.old.nodes.now }
         ensures at { self.new.at ≡ Some node }
+        ensures counted { self.old.steps ≤ self.new.steps }
         ensures most { self.new.steps ≤ self.old.steps + 1 }
         ensures stays { self.old.at ≡ Some node → self.new.steps ≡ self.old.steps }
+        ensures went { self.old.at ≡ None → self.old.steps < self.new.steps }
     {
         self.go(node);
         self.nodes.red(node)
@@ -233,8 +237,10 @@ impl<'a, N: NodesMut> VisitsMut<'a, N> {
         ensures reference { self.new.nodes.ghost_name ≡ self.old.nodes.ghost_name }
         ensures nodes { self.new.nodes.now ≡ self.old.nodes.now }
         ensures at { self.new.at ≡ Some second }
+        ensures counted { self.old.steps ≤ self.new.steps }
         ensures most { self.new.steps ≤ self.old.steps + 2 }
         ensures goes { first ≢ second → self.old.steps < self.new.steps }
+        ensures went { self.old.at ≡ None → self.old.steps < self.new.steps }
     {
         self.go(first);
         self.go(second);
@@ -250,8 +256,10 @@ impl<'a, N: NodesMut> VisitsMut<'a, N> {
         ensures reference { self.new.nodes.ghost_name ≡ self.old.nodes.ghost_name }
         ensures same { SameBesideCells N.Nodes self.old.nodes.now self.new.nodes.now }
         ensures at { self.new.at ≡ Some node }
+        ensures counted { self.old.steps ≤ self.new.steps }
         ensures most { self.new.steps ≤ self.old.steps + 1 }
         ensures stays { self.old.at ≡ Some node → self.new.steps ≡ self.old.steps }
+        ensures went { self.old.at ≡ None → self.old.steps < self.new.steps }
     {
         self.go(node);
         match side {
@@ -268,6 +276,7 @@ impl<'a, N: NodesMut> VisitsMut<'a, N> {
         ensures reference { self.new.nodes.ghost_name ≡ self.old.nodes.ghost_name }
         ensures same { SameBesideCells N.Nodes self.old.nodes.now self.new.nodes.now }
         ensures at { self.new.at ≡ Some node }
+        ensures counted { self.old.steps ≤ self.new.steps }
         ensures most { self.new.steps ≤ self.old.steps + 1 }
         ensures stays { self.old.at ≡ Some node → self.new.steps ≡ self.old.steps }
     {

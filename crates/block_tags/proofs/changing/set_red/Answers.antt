@@ -21,3 +21,6 @@ returns-clause-tags c = coloured_says _ _ _ _ c.requires _ c.tile_there-tile.ens
 
 pub returns-clause-rest : goal.returns-clause-rest
 returns-clause-rest c = coloured_rest _ _ _ _ c.requires _ c.tile_there-tile.ensures _ c.tag_word.ensures c.put_word.ensures
+
+pub returns-clause-word : goal.returns-clause-word
+returns-clause-word c = let put = c.put_word.ensures in put.rest

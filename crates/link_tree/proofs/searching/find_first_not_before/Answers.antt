@@ -1,9 +1,9 @@
-use Rattle.std.proofs.Common.{◌≡◌, ℕ, ◌≤◌, true, false, Option, arith}
+use Rattle.std.proofs.Common.{◌≡◌, ◌∙◌, ℕ, ◌≤◌, true, false, Option, None, arith}
 use Rattle.link_tree.specs.Tree.{Tree, IsSearchTree}
 use Rattle.link_tree.specs.Nodes.{leads}
 use Rattle.link_tree.proofs.Heights.{bounds_height}
 use Rattle.link_tree.proofs.Limits.{height_limit}
-use Rattle.link_tree.proofs.Seeking.{Seeking, seek_start, seek_left, seek_right}
+use Rattle.link_tree.proofs.Seeking.{Seeking, seek_start, seek_left, seek_path, seek_right}
 use Rattle.link_tree.proofs.searching.find_first_not_before.Goals as goal
 use Rattle.link_tree.proofs.searching.find_first_not_before.Given.{Over}
 
@@ -67,6 +67,7 @@ loop-link-preserved-then-before_probe g c =
       same = cc;
       good = rw e (g.met.N.Nodes.right_closed s n here);
       seeks = λ t k.
+          let goes = c.before_probe.ensures.goes ((c.loop-link.invariant.seeks t k).away _ c.in-Some.is) in
           let seeking = rw c.in-Some.is at (c.loop-link.invariant.seeks t k) in
           rw e (seek_right (g.N.Nodes.order s) (g.N.Nodes.cells s) (g.N.Nodes.before s c.args.probe.now) t (g.met.N.Nodes.transitive s) (g.met.N.Nodes.irreflexive s)
           n c.loop-link.found c.loop-link.visits.at c.right-link.new.self.at c.loop-link.visits.steps c.right-link.new.self.steps
@@ -85,6 +86,7 @@ loop-link-preserved g c =
       same = cc;
       good = rw e (g.met.N.Nodes.left_closed s n here);
       seeks = λ t k.
+          let goes = c.before_probe.ensures.goes ((c.loop-link.invariant.seeks t k).away _ c.in-Some.is) in
           let seeking = rw c.in-Some.is at (c.loop-link.invariant.seeks t k) in
           rw e (seek_left (g.N.Nodes.order s) (g.N.Nodes.cells s) (g.N.Nodes.before s c.args.probe.now) t (g.met.N.Nodes.transitive s) (g.met.N.Nodes.irreflexive s)
           n c.loop-link.found c.loop-link.visits.at c.left-link.new.self.at c.loop-link.visits.steps c.left-link.new.self.steps
@@ -96,3 +98,9 @@ returns-clause-steps g c = λ t k.
     let taken = (c.loop-link.invariant.seeks t k).taken in
     let low = bounds_height t k.red_black in
     omega arith
+
+pub returns-clause-exact : goal.returns-clause-exact
+returns-clause-exact g c = λ t k.
+    let s = c.args.nodes.now in
+    let e : c.loop-link.link ≡ None = cc in
+    c.steps.ensures ∙ seek_path (g.N.Nodes.order s) (g.N.Nodes.cells s) (g.N.Nodes.before s c.args.probe.now) t _ _ _ (rw e at (c.loop-link.invariant.seeks t k))

@@ -16,10 +16,10 @@ set_red-requires c = let w = c.self.inside.gaps.window in let e : c.args.self.no
 pub invariant_of-self : goal.invariant_of-self
 invariant_of-self c =
     let w = c.self.inside.gaps.window in let d = c.set_red.new.window in let e : c.args.self.now ≡ w = cc in let is : IsTrue (is_node_in (live_of w.bytes) c.args.handle) = subst (λ (v : Cut). IsTrue (is_node_in (live_of v.bytes) c.args.handle)) e c.requires in let b = (node_block w c.args.handle c.self.invariant is).block in let o = b.at in
-    laid-heap d.bytes (live_of w.bytes) (recoloured w d c.args.handle (c.args.handle - 16) c.args.red c.self.invariant b (omega arith) c.set_red.ensures.tags c.set_red.ensures.rest).live
+    laid-heap d.bytes (live_of w.bytes) (recoloured w d c.args.handle (c.args.handle - 16) c.args.red c.self.invariant b (omega arith) c.set_red.ensures.tags c.set_red.ensures.rest c.set_red.ensures.word).live
 
 pub returns : goal.returns
 returns c =
     let w = c.self.inside.gaps.window in let d = c.set_red.new.window in let e : c.args.self.now ≡ w = cc in let is : IsTrue (is_node_in (live_of w.bytes) c.args.handle) = subst (λ (v : Cut). IsTrue (is_node_in (live_of v.bytes) c.args.handle)) e c.requires in let b = (node_block w c.args.handle c.self.invariant is).block in let o = b.at in
     subst (λ (v : Cut). IsRecoloured current v d c.args.handle c.args.red) (sym e)
-    (recoloured w d c.args.handle (c.args.handle - 16) c.args.red c.self.invariant b (omega arith) c.set_red.ensures.tags c.set_red.ensures.rest)
+    (recoloured w d c.args.handle (c.args.handle - 16) c.args.red c.self.invariant b (omega arith) c.set_red.ensures.tags c.set_red.ensures.rest c.set_red.ensures.word)

@@ -25,7 +25,7 @@ impl Heap {
         requires small { length self.old.bytes + extra ≤ 1073741824 }
         requires inside { length self.old.before + (length self.old.bytes + extra) ≤ length (whole self.old) }
         ensures moved { HasEndMoved current self.old self.new (length self.old.bytes + extra) }
-        ensures counted { steps.old ≤ steps.new }
+        ensures counted { steps.old < steps.new }
         ensures steps { steps.new ≤ steps.old + heap_touches (live_of self.old.bytes) }
     {
         let mut touches = Touches::new(&mut self.gaps);
@@ -38,7 +38,7 @@ impl Heap {
     /// without blocks has 144 bytes then. All blocks stay.
     pub fn cut_end(&mut self, steps: &mut Steps)
         ensures moved { HasEndMoved current self.old self.new (least_size (live_of self.old.bytes)) }
-        ensures counted { steps.old ≤ steps.new }
+        ensures counted { steps.old < steps.new }
         ensures steps { steps.new ≤ steps.old + heap_touches (live_of self.old.bytes) }
     {
         let mut touches = Touches::new(&mut self.gaps);
@@ -75,6 +75,7 @@ fn cut_gap(touches: &mut Touches)
     requires room { touches.old.count < 2 ^ 60 }
     ensures moved { HasEndMoved current touches.old.gaps.now.window touches.new.gaps.now.window (least_size (live_of touches.old.gaps.now.window.bytes)) }
     ensures steps { touches.new.count ≤ touches.old.count + 32 * bits (length (gaps_in touches.old.gaps.now.window) + 1) + 34 }
+    ensures counted { touches.old.count < touches.new.count }
     ensures reference { touches.new.gaps.ghost_name ≡ touches.old.gaps.ghost_name }
 {
     let last = touches.last();

@@ -1,5 +1,5 @@
 //! A heap: a window that blocks and gaps fill.
-ghost use Rattle.std.specs.Prelude.{◌≡◌, ◌≢◌, ◌-◌, ◌%◌, ◌<◌, ◌+◌, ◌*◌, ◌≤◌, IsTrue, List, Option, Some, ℕ, length, option_map, slice_get};
+ghost use Rattle.std.specs.Prelude.{◌≡◌, ◌≢◌, true, is_ok, ◌-◌, ◌%◌, ◌<◌, ◌+◌, ◌*◌, ◌≤◌, IsTrue, List, Option, Some, ℕ, length, option_map, slice_get};
 ghost use Rattle.std.specs.Borrow.{sem};
 ghost use Rattle.raw_region.specs.Memory.{Has, bytes_of, read, whole, word_at};
 ghost use Rattle.raw_region.specs.Format.{current};
@@ -229,6 +229,7 @@ impl Heap {
     pub fn allocate(&mut self, n: u64, role: Role, steps: &mut Steps) -> Result<u64, NoSpace>
         ensures answer { Allocates current self.old self.new n role result }
         ensures counted { steps.old ≤ steps.new }
+        ensures went { is_ok result ≡ true → steps.old < steps.new }
         ensures steps { steps.new ≤ steps.old + heap_touches (live_of self.old.bytes) }
     {
         let mut touches = Touches::new(&mut self.gaps);
@@ -241,7 +242,7 @@ impl Heap {
     pub fn deallocate(&mut self, handle: u64, steps: &mut Steps)
         requires { IsTrue (is_live_in (live_of self.old.bytes) handle) }
         ensures released { IsReleased current self.old self.new handle }
-        ensures counted { steps.old ≤ steps.new }
+        ensures counted { steps.old < steps.new }
         ensures steps { steps.new ≤ steps.old + heap_touches (live_of self.old.bytes) }
     {
         let mut touches = Touches::new(&mut self.gaps);
@@ -256,6 +257,7 @@ impl Heap {
         requires { IsTrue (is_live_in (live_of self.old.bytes) handle) }
         ensures extended { IsExtended current self.old self.new handle n result }
         ensures counted { steps.old ≤ steps.new }
+        ensures went { result ≡ true → steps.old < steps.new }
         ensures steps { steps.new ≤ steps.old + heap_touches (live_of self.old.bytes) }
     {
         let mut touches = Touches::new(&mut self.gaps);
@@ -270,6 +272,7 @@ impl Heap {
         requires { IsTrue (is_live_in (live_of self.old.bytes) handle) }
         ensures shortened { IsShortened current self.old self.new handle n }
         ensures counted { steps.old ≤ steps.new }
+        ensures went { self.new ≢ self.old → steps.old < steps.new }
         ensures steps { steps.new ≤ steps.old + heap_touches (live_of self.old.bytes) }
     {
         let mut touches = Touches::new(&mut self.gaps);

@@ -62,7 +62,7 @@ impl<'a> Touches<'a> {
         requires room { self.old.count < 2 ^ 63 }
         ensures tree { (xs : List Gap) (g : Gap) (ys : List Gap) → node ≡ node_of g → HasTree self.old.gaps.now.window (xs ++ g ∷ ys) → HasTree self.new.gaps.now.window (xs ++ ys) }
         ensures rest { Regrown self.old.gaps.now.window self.new.gaps.now.window }
-        ensures counted { self.old.count ≤ self.new.count }
+        ensures counted { self.old.count < self.new.count }
         ensures steps { (hs : List Gap) → HasTree self.old.gaps.now.window hs → self.new.count ≤ self.old.count + 32 * bits (length hs + 1) + 32 }
         ensures reference { self.new.gaps.ghost_name ≡ self.old.gaps.ghost_name }
     {
@@ -78,7 +78,7 @@ impl<'a> Touches<'a> {
         requires room { self.old.count < 2 ^ 63 }
         ensures tree { (xs : List Gap) (g : Gap) (ys : List Gap) → node ≡ node_of g → LacksOne self.old.gaps.now.window xs g ys → HasTree self.new.gaps.now.window (xs ++ g ∷ ys) }
         ensures rest { Regrown self.old.gaps.now.window self.new.gaps.now.window }
-        ensures counted { self.old.count ≤ self.new.count }
+        ensures counted { self.old.count < self.new.count }
         ensures steps { (xs : List Gap) (g : Gap) (ys : List Gap) → node ≡ node_of g → LacksOne self.old.gaps.now.window xs g ys → self.new.count ≤ self.old.count + 32 * bits (length (xs ++ ys) + 1) + 33 }
         ensures reference { self.new.gaps.ghost_name ≡ self.old.gaps.ghost_name }
     {

@@ -7,10 +7,11 @@ ghost use Rattle.block_tags.specs.Lists.{joined_at, last_in, next_in, previous_i
 ghost use Rattle.block_tags.specs.Windows.{CanAppend, CanSplit, FrontSaysTiles, HasFreeLast, HasFreeNext, HasTileAt, IsTiled, MayBeUsed, MayHaveColour, SameBesideTags, SaysTiles};
 ghost use Rattle.link_tree.specs.Tree.{bits};
 ghost use Rattle.link_tree.specs.Nodes.{is_in};
+ghost use Rattle.link_tree.specs.Searching.{path_length};
 ghost use Rattle.best_fit.specs.Extents.{Gap};
 ghost use Rattle.best_fit.specs.Fit.{least};
 ghost use Rattle.best_fit.specs.FreeTree.{payloads};
-ghost use Rattle.best_fit.specs.GapNodes.{is_gap_node, kept_of};
+ghost use Rattle.best_fit.specs.GapNodes.{gaps_in, is_gap_node, is_too_short, kept_of};
 ghost use Rattle.best_fit.specs.GapTrees.{HasTree, LacksOne, Regrown, is_long, node_of};
 
 use crate::nodes::{FREE_TREE, Gaps, RIGHT, set_link};
@@ -47,6 +48,8 @@ impl<'a> Touches<'a> {
         ensures first { (hs : List Gap) → HasTree self.old.gaps.now.window hs → result ≡ option_map node_of (least (filter (is_long wanted) hs)) }
         ensures counted { self.old.count ≤ self.new.count }
         ensures steps { (hs : List Gap) → HasTree self.old.gaps.now.window hs → self.new.count ≤ self.old.count + 2 * bits (length hs + 1) }
+        ensures exact { (hs : List Gap) (h : HasTree self.old.gaps.now.window hs)
+            → self.new.count ≡ self.old.count + path_length (is_too_short (gaps_in self.old.gaps.now.window) wanted) h.tree.tree }
         ensures gaps { self.new.gaps.now ≡ self.old.gaps.now }
         ensures reference { self.new.gaps.ghost_name ≡ self.old.gaps.ghost_name }
     {

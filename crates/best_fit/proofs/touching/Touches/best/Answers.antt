@@ -38,3 +38,10 @@ returns-clause-steps c = λ hs h.
     let s : IsSearchTree (comes_before (gaps_in w)) (gap_cells w) c.load-root.result h.tree.tree = rw c.load-root.ensures (search_tree w hs h) in
     let steps = rw (tree_size w hs h) at (c.find_first_not_before-found.ensures.steps h.tree.tree s) in
     omega arith
+
+pub returns-clause-exact : goal.returns-clause-exact
+returns-clause-exact c = λ hs h.
+    let w = c.args.self.now.gaps.now.window in
+    let s : IsSearchTree (comes_before (gaps_in w)) (gap_cells w) c.load-root.result h.tree.tree = rw c.load-root.ensures (search_tree w hs h) in
+    let exact = c.find_first_not_before-found.ensures.exact h.tree.tree s in
+    omega arith

@@ -11,7 +11,7 @@ use Rattle.block_tags.specs.declared.tile.Role.TheVariants.{Node}
 use Rattle.best_fit.specs.Extents.{Extent, LiveSet, Gap, handle}
 use Rattle.best_fit.specs.Fit.{room, share, fit, place}
 use Rattle.best_fit.specs.Heap.{live_of, has_room, is_node_in, is_node_role, IsAllocated, IsChanged, IsRecoloured}
-use Rattle.best_fit.proofs.Laws.{IfSome_is, allocated-live, allocated-room, allocated-room_before, changed-room, lay_out_one, list_any-insert}
+use Rattle.best_fit.proofs.Laws.{IfSome_is, allocated-live, allocated-room, changed-room, lay_out_one, list_any-insert}
 use Rattle.offset_link.proofs.Laws.{SameBut-link}
 
 -- ---- room
@@ -26,12 +26,6 @@ pub room_twice : (format : ℕ) (a b c d : Cut) (n : ℕ) (role : Role) (h from 
     → IsChanged format c d from2 k2 → wanted ≤ n → IsTrue (has_room (live_of d.bytes) h wanted)
 room_twice format a b c d n role h from k from2 k2 wanted new change change2 l =
     changed-room format c d from2 k2 h wanted change2 (room_once format a b c n role h from k wanted new change l)
-
--- a block has its room after another is taken and two changes
-pub room_before_two : (format : ℕ) (a b c d : Cut) (n : ℕ) (role : Role) (g h from k from2 k2 wanted : ℕ) → IsTrue (has_room (live_of a.bytes) g wanted) → IsAllocated format a b n role h
-    → IsChanged format b c from k → IsChanged format c d from2 k2 → IsTrue (has_room (live_of d.bytes) g wanted)
-room_before_two format a b c d n role g h from k from2 k2 wanted had new change change2 =
-    changed-room format c d from2 k2 g wanted change2 (changed-room format b c from k g wanted change (allocated-room_before format a b n role h g wanted new had))
 
 -- ---- a node block
 

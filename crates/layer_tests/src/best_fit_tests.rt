@@ -138,25 +138,6 @@ fn the_free_tree_lists_three_gaps(rt: HostRuntime) -> Result<(), Fail> {
 }
 
 #[test]
-fn a_fresh_heap_has_one_node(rt: HostRuntime) -> Result<(), Fail> {
-    let heap = Heap::fresh(Window::new(RawRegion::new(rt.alloc(), 176)?, 0, 176));
-    let window = heap.into_window();
-    assert!(rt; window.in_range(24, 8));
-    assert_eq!(rt; load(&window, 24), Some(144));
-    assert_eq!(rt; links(&rt, &window, 144), (None, None));
-    Ok(())
-}
-
-#[test]
-fn a_heap_of_144_bytes_has_no_node(rt: HostRuntime) -> Result<(), Fail> {
-    let heap = Heap::fresh(Window::new(RawRegion::new(rt.alloc(), 144)?, 0, 144));
-    let window = heap.into_window();
-    assert!(rt; window.in_range(24, 8));
-    assert_eq!(rt; load(&window, 24), None);
-    Ok(())
-}
-
-#[test]
 fn header_links_are_read_back(rt: HostRuntime) -> Result<(), Fail> {
     let mut heap = empty(rt.alloc())?;
     heap.set_header_link(32, Some(144));
@@ -193,32 +174,6 @@ fn links_of_a_block_move(rt: HostRuntime) -> Result<(), Fail> {
         (heap.link(handle, 8), heap.link(handle, 16)),
         (Some(144), None)
     );
-    Ok(())
-}
-
-#[test]
-fn links_move_to_a_block_before(rt: HostRuntime) -> Result<(), Fail> {
-    let mut heap = empty(rt.alloc())?;
-    let first = heap.allocate(32, Role::Node, &mut Steps::new())?;
-    let second = heap.allocate(32, Role::Node, &mut Steps::new())?;
-    heap.set_link(second, 0, Some(144));
-    heap.set_link(second, 8, None);
-    heap.shift_links(second, 0, first, 8, 2);
-    assert_eq!(rt;
-        (heap.link(first, 8), heap.link(first, 16)),
-        (Some(144), None)
-    );
-    Ok(())
-}
-
-#[test]
-fn a_red_block_is_red_once_gaps_are_zero(rt: HostRuntime) -> Result<(), Fail> {
-    let mut heap = empty(rt.alloc())?;
-    let handle = heap.allocate(32, Role::Node, &mut Steps::new())?;
-    heap.set_node_red(handle, true);
-    heap.zero_free();
-    assert!(rt; heap.is_live(handle) && heap.node_red(handle));
-    assert!(rt; heap.sanity());
     Ok(())
 }
 

@@ -81,15 +81,3 @@ fn each_write_asks_the_writer_once(rt: HostRuntime) -> Result<(), Fail> {
     assert_eq!(rt; writer.asked, 5);
     Ok(())
 }
-
-#[test]
-fn a_reader_of_bytes_gives_them(rt: HostRuntime) -> Result<(), Fail> {
-    let mut bytes = b"abcd".as_slice();
-    let mut into = [0u8; 3];
-    let mut source = Reading::new(&mut bytes);
-    assert_eq!(rt; source.read(&mut into)?, 3);
-    assert_eq!(rt; into.as_slice(), b"abc".as_slice());
-    assert_eq!(rt; source.read(&mut [])?, 0);
-    assert_eq!(rt; bytes, b"d".as_slice());
-    Ok(())
-}

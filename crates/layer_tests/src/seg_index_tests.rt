@@ -63,32 +63,6 @@ fn shrink(heap: &mut Heap)
     Index::Unique.shrink(heap, &mut Steps::new());
 }
 
-/// Puts so many entries more at the end. They lead to 160, 176 and so on.
-fn fill(rt: &impl Abort, heap: &mut Heap, n: u64) -> Result<(), NoSpace>
-    requires { HasIndex heap.old 56 }
-    ensures { HasIndex heap.new 56 }
-{
-    let first = Index::Unique.len(heap);
-    assert!(rt; first < 1000 && n < 1000);
-    for i in first..first + n {
-        add(rt, heap, i, 160 + 16 * i)?;
-    }
-    Ok(())
-}
-
-/// Whether the entries lead where `fill` made them lead.
-fn leads_on(rt: &impl Abort, heap: &Heap) -> bool
-    requires { HasIndex heap.now 56 }
-{
-    let n = Index::Unique.len(heap);
-    assert!(rt; n < 1000);
-    let mut all = true;
-    for i in 0..n {
-        all &= at(rt, heap, i) == 160 + 16 * i;
-    }
-    all
-}
-
 fn sizes(heap: &Heap) -> (u64, u64) {
     (Index::Unique.len(heap), Index::Unique.capacity(heap))
 }
@@ -96,65 +70,41 @@ fn sizes(heap: &Heap) -> (u64, u64) {
 #[test]
 fn a_full_index_doubles(rt: HostRuntime) -> Result<(), Fail> {
     let mut heap = empty(rt.alloc())?;
-    assert_eq!(rt; sizes(&heap), (0, 0));
-    fill(&rt, &mut heap, 1)?;
-    assert_eq!(rt; sizes(&heap), (1, 4));
-    fill(&rt, &mut heap, 3)?;
-    assert_eq!(rt; sizes(&heap), (4, 4));
-    fill(&rt, &mut heap, 1)?;
-    assert_eq!(rt; sizes(&heap), (5, 8));
-    fill(&rt, &mut heap, 4)?;
-    assert_eq!(rt; sizes(&heap), (9, 16));
-    assert!(rt; leads_on(&rt, &heap));
-    assert!(rt; heap.live_count() == 1 && heap.sanity());
+    for (place, handle, len_and_capacity) in [
+        (0, 160, (1, 4)),
+        (1, 176, (2, 4)),
+        (2, 192, (3, 4)),
+        (3, 208, (4, 4)),
+        (4, 224, (5, 8)),
+    ] {
+        add(&rt, &mut heap, place, handle)?;
+        assert_eq!(rt; sizes(&heap), len_and_capacity);
+    }
+    assert_eq!(rt; at(&rt, &heap, 4), 224);
     Ok(())
 }
 
 #[test]
 fn an_entry_is_put_between_two(rt: HostRuntime) -> Result<(), Fail> {
     let mut heap = empty(rt.alloc())?;
-    add(&rt, &mut heap, 0, 160)?;
-    add(&rt, &mut heap, 1, 224)?;
-    add(&rt, &mut heap, 1, 192)?;
-    add(&rt, &mut heap, 0, 144)?;
-    add(&rt, &mut heap, 2, 176)?;
-    remove(&rt, &mut heap, 3);
-    assert_eq!(rt; sizes(&heap), (4, 8));
-    assert_eq!(rt; (at(&rt, &heap, 0), at(&rt, &heap, 1)), (144, 160));
-    assert_eq!(rt; (at(&rt, &heap, 2), at(&rt, &heap, 3)), (176, 224));
-    Ok(())
-}
-
-#[test]
-fn a_request_beyond_all_gaps_is_refused(rt: HostRuntime) -> Result<(), Fail> {
-    let mut heap = empty(rt.alloc())?;
-    fill(&rt, &mut heap, 8)?;
-    assert_eq!(rt; reserve(&mut heap, 3), Ok(()));
-    assert_eq!(rt; sizes(&heap), (8, 8));
-    assert_eq!(rt; reserve(&mut heap, 20), Ok(()));
-    assert_eq!(rt; sizes(&heap), (8, 20));
-    assert_eq!(rt; reserve(&mut heap, 100), Err(NoSpace));
-    assert_eq!(rt; reserve(&mut heap, u64::MAX), Err(NoSpace));
-    assert_eq!(rt; sizes(&heap), (8, 20));
-    assert!(rt; leads_on(&rt, &heap));
+    for (place, handle) in [(0, 160), (1, 224), (1, 192), (0, 144)] {
+        add(&rt, &mut heap, place, handle)?;
+    }
+    remove(&rt, &mut heap, 2);
+    for (place, handle) in [(0, 144), (1, 160), (2, 224)] {
+        assert_eq!(rt; at(&rt, &heap, place), handle);
+    }
     Ok(())
 }
 
 #[test]
 fn an_index_shrinks_to_its_entries(rt: HostRuntime) -> Result<(), Fail> {
     let mut heap = empty(rt.alloc())?;
-    fill(&rt, &mut heap, 5)?;
+    assert_eq!(rt; reserve(&mut heap, 20), Ok(()));
+    add(&rt, &mut heap, 0, 160)?;
+    assert_eq!(rt; sizes(&heap), (1, 20));
     shrink(&mut heap);
-    assert_eq!(rt; sizes(&heap), (5, 5));
-    remove(&rt, &mut heap, 4);
-    remove(&rt, &mut heap, 3);
-    assert!(rt; leads_on(&rt, &heap));
-    remove(&rt, &mut heap, 0);
-    remove(&rt, &mut heap, 0);
-    remove(&rt, &mut heap, 0);
-    shrink(&mut heap);
-    assert_eq!(rt; sizes(&heap), (0, 0));
-    assert_eq!(rt; heap.live_count(), 0);
+    assert_eq!(rt; sizes(&heap), (1, 1));
     Ok(())
 }
 

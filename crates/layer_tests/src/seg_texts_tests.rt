@@ -11,13 +11,11 @@ use std::alloc::Global;
 use std::process::Abort;
 use std::test::Fail;
 
-/// A heap with a block of `before` bytes, and a vector without a text behind it. The block takes 16 bytes more and 32 at least,
-/// that of the vector 48, and the rest of 880 is free.
-fn begun(alloc: Global, before: u64) -> Result<(Heap, SegTexts), Fail>
+/// A heap with a vector without a text. The block of the vector has 48 bytes, and the rest of 880 is free.
+fn begun(alloc: Global) -> Result<(Heap, SegTexts), Fail>
     ensures { IfOk result (λ made. IsSomeTexts made.0.bytes made.1.place) }
 {
     let mut heap = Heap::fresh(Window::new(RawRegion::new(alloc, 1024)?, 0, 1024));
-    heap.allocate(before, Role::Storage, &mut Steps::new())?;
     let handle = heap.allocate(24, Role::Object, &mut Steps::new())?;
     let texts = SegTexts::new(&mut heap, Place { handle, at: 0 });
     Ok((heap, texts))
@@ -109,140 +107,37 @@ fn assert_text(rt: &impl Abort, heap: &Heap, texts: SegTexts, index: u64, text: 
     assert_eq!(rt; texts.get(heap, index), Ok(text), "text {index}");
 }
 
-/// Fails where there is a text at `index`.
-fn assert_end(rt: &impl Abort, heap: &Heap, texts: SegTexts, index: u64)
-    requires { IsSomeTexts heap.now.bytes texts.place }
-{
-    assert_eq!(rt; texts.get(heap, index), Err(Refusal::OutOfRange));
-}
-
 #[test]
 fn texts_stand_in_a_vector(rt: HostRuntime) -> Result<(), Fail> {
-    let (mut heap, texts) = begun(rt.alloc(), 0)?;
-    assert_eq!(rt; sizes(&heap, texts), (0, 0, 800));
-    assert_eq!(rt; pop(&mut heap, texts), Err(Refusal::OutOfRange));
+    let (mut heap, texts) = begun(rt.alloc())?;
     // an array of four places has 80 bytes, and a text of up to 16 bytes has 32
     push(&mut heap, texts, b"one")?;
-    assert_eq!(rt; sizes(&heap, texts), (1, 4, 688));
-    push(&mut heap, texts, b"")?;
-    assert_eq!(rt; sizes(&heap, texts), (2, 4, 688));
-    insert(&mut heap, texts, 1, b"between")?;
     insert(&mut heap, texts, 0, b"\0\xff")?;
-    assert_eq!(rt; sizes(&heap, texts), (4, 4, 624));
+    insert(&mut heap, texts, 1, b"")?;
+    set(&mut heap, texts, 2, b"a text of more than 16 bytes")?;
+    assert_eq!(rt; sizes(&heap, texts), (3, 4, 672));
     assert_text(&rt, &heap, texts, 0, b"\0\xff");
-    assert_text(&rt, &heap, texts, 1, b"one");
-    assert_text(&rt, &heap, texts, 2, b"between");
-    assert_text(&rt, &heap, texts, 3, b"");
-    assert_end(&rt, &heap, texts, 4);
-    set(&mut heap, texts, 1, b"a text of more than 16 bytes")?;
-    assert_eq!(rt; sizes(&heap, texts), (4, 4, 608));
-    erase(&mut heap, texts, 0)?;
-    assert_eq!(rt; sizes(&heap, texts), (3, 4, 640));
-    pop(&mut heap, texts)?;
-    assert_eq!(rt; sizes(&heap, texts), (2, 4, 640));
-    assert_text(&rt, &heap, texts, 0, b"a text of more than 16 bytes");
-    assert_text(&rt, &heap, texts, 1, b"between");
-    assert_end(&rt, &heap, texts, 2);
-    assert_eq!(rt; heap.live_count(), 5);
-    Ok(())
-}
-
-// A text stands behind the array, which gets another block once it is full; its links lead to the texts from there.
-#[test]
-fn the_array_moves(rt: HostRuntime) -> Result<(), Fail> {
-    let (mut heap, texts) = begun(rt.alloc(), 0)?;
-    push(&mut heap, texts, b"a")?;
-    push(&mut heap, texts, b"bb")?;
-    push(&mut heap, texts, b"ccc")?;
-    push(&mut heap, texts, b"dddd")?;
-    assert_eq!(rt; sizes(&heap, texts), (4, 4, 592));
-    insert(&mut heap, texts, 2, b"eeeee")?;
-    assert_eq!(rt; sizes(&heap, texts), (5, 8, 496));
-    assert_text(&rt, &heap, texts, 0, b"a");
-    assert_text(&rt, &heap, texts, 1, b"bb");
-    assert_text(&rt, &heap, texts, 2, b"eeeee");
-    assert_text(&rt, &heap, texts, 3, b"ccc");
-    assert_text(&rt, &heap, texts, 4, b"dddd");
-    assert!(rt; heap.sanity());
-    Ok(())
-}
-
-#[test]
-fn texts_that_are_not_there_are_refused(rt: HostRuntime) -> Result<(), Fail> {
-    let (mut heap, texts) = begun(rt.alloc(), 0)?;
-    assign(&mut heap, texts, &[b"a".as_slice(), b"b"])?;
-    let outside = Err(Refusal::OutOfRange);
-    assert_eq!(rt; set(&mut heap, texts, 2, b"c"), outside);
-    assert_eq!(rt; insert(&mut heap, texts, 3, b"c"), outside);
-    assert_eq!(rt; insert(&mut heap, texts, u64::MAX, b"c"), outside);
-    assert_eq!(rt; erase(&mut heap, texts, 2), outside);
-    assert_eq!(rt; sizes(&heap, texts), (2, 2, 688));
-    assert_text(&rt, &heap, texts, 0, b"a");
-    assert_text(&rt, &heap, texts, 1, b"b");
-    Ok(())
-}
-
-// Of 96 bytes the array of one place takes 32. For four places it is lengthened by all that is left.
-#[test]
-fn a_refused_push_leaves_the_array(rt: HostRuntime) -> Result<(), Fail> {
-    let (mut heap, texts) = begun(rt.alloc(), 720)?;
-    assert_eq!(rt; sizes(&heap, texts), (0, 0, 96));
-    assign(&mut heap, texts, &[b"".as_slice()])?;
-    let none = Err(Refusal::NoSpace);
-    assert_eq!(rt; push(&mut heap, texts, b"x"), none);
-    assert_eq!(rt; insert(&mut heap, texts, 0, b"x"), none);
-    assert_eq!(rt; reserve(&mut heap, texts, 6), none);
-    assert_eq!(rt; reserve(&mut heap, texts, u64::MAX), none);
-    assert_eq!(rt; sizes(&heap, texts), (1, 1, 64));
-    assert_text(&rt, &heap, texts, 0, b"");
-    push(&mut heap, texts, b"")?;
-    assert_eq!(rt; sizes(&heap, texts), (2, 4, 0));
-    assert_eq!(rt; set(&mut heap, texts, 0, b"x"), none);
-    assert_eq!(rt; assign(&mut heap, texts, &[b"".as_slice()]), none);
-    assert_eq!(rt; insert(&mut heap, texts, 3, b"x"), Err(Refusal::OutOfRange));
-    assert_eq!(rt; sizes(&heap, texts), (2, 4, 0));
     assert_text(&rt, &heap, texts, 1, b"");
-    Ok(())
-}
-
-// The new array and its texts are asked for while the old ones are in use.
-#[test]
-fn a_refused_assign_leaves_the_texts(rt: HostRuntime) -> Result<(), Fail> {
-    let (mut heap, texts) = begun(rt.alloc(), 720)?;
-    assign(&mut heap, texts, &[b"a".as_slice()])?;
-    assert_eq!(rt; sizes(&heap, texts), (1, 1, 32));
-    let none = Err(Refusal::NoSpace);
-    assert_eq!(rt; assign(&mut heap, texts, &[b"b".as_slice()]), none);
-    assert_eq!(rt; assign(&mut heap, texts, &[b"".as_slice(), b"b"]), none);
-    assert_eq!(rt; sizes(&heap, texts), (1, 1, 32));
-    assert_text(&rt, &heap, texts, 0, b"a");
-    assign(&mut heap, texts, &[b"".as_slice()])?;
-    assert_eq!(rt; sizes(&heap, texts), (1, 1, 64));
-    assert_text(&rt, &heap, texts, 0, b"");
-    assign(&mut heap, texts, &[])?;
-    assert_eq!(rt; sizes(&heap, texts), (0, 1, 64));
+    assert_text(&rt, &heap, texts, 2, b"a text of more than 16 bytes");
+    erase(&mut heap, texts, 0)?;
+    pop(&mut heap, texts)?;
+    assert_eq!(rt; sizes(&heap, texts), (1, 4, 752));
     Ok(())
 }
 
 #[test]
 fn texts_give_their_blocks_back(rt: HostRuntime) -> Result<(), Fail> {
-    let (mut heap, texts) = begun(rt.alloc(), 0)?;
+    let (mut heap, texts) = begun(rt.alloc())?;
     reserve(&mut heap, texts, 20)?;
-    assert_eq!(rt; sizes(&heap, texts), (0, 20, 464));
+    assert_eq!(rt; sizes(&heap, texts), (0, 20, 496));
     push(&mut heap, texts, b"a")?;
-    push(&mut heap, texts, b"b")?;
     shrink(&mut heap, texts);
-    assert_eq!(rt; sizes(&heap, texts), (2, 2, 688));
-    assert_text(&rt, &heap, texts, 1, b"b");
+    assert_eq!(rt; sizes(&heap, texts), (1, 1, 768));
     clear(&mut heap, texts);
-    assert_eq!(rt; sizes(&heap, texts), (0, 2, 752));
-    shrink(&mut heap, texts);
-    assert_eq!(rt; sizes(&heap, texts), (0, 0, 800));
-    assign(&mut heap, texts, &[b"c".as_slice(), b"", b"d"])?;
-    assert_eq!(rt; sizes(&heap, texts), (3, 3, 672));
+    assert_eq!(rt; sizes(&heap, texts), (0, 1, 800));
+    assign(&mut heap, texts, &[b"c".as_slice(), b""])?;
+    assert_eq!(rt; sizes(&heap, texts), (2, 2, 752));
     release(&mut heap, texts);
-    assert_eq!(rt; sizes(&heap, texts), (0, 0, 800));
-    assert_eq!(rt; heap.live_count(), 2);
-    assert!(rt; heap.sanity());
+    assert_eq!(rt; sizes(&heap, texts), (0, 0, 832));
     Ok(())
 }

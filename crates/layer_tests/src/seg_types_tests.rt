@@ -174,21 +174,8 @@ fn kinds_have_codes(rt: HostRuntime) {
 fn values_of_a_kind(rt: HostRuntime) {
     let rows = [
         (ScalarKind::Bool, 2, None),
-        (ScalarKind::Bool, 1, Some(ScalarValue::Bool(true))),
-        (ScalarKind::U8, -1, None),
         (ScalarKind::U8, 255, Some(ScalarValue::U8(255))),
         (ScalarKind::I32, 2147483648, None),
-        (
-            ScalarKind::I32,
-            -2147483648,
-            Some(ScalarValue::I32(-2147483648)),
-        ),
-        (ScalarKind::I64, -9223372036854775809, None),
-        (
-            ScalarKind::U64,
-            18446744073709551615,
-            Some(ScalarValue::U64(18446744073709551615)),
-        ),
     ];
     for (kind, number, want) in rows {
         let value = ScalarValue::of_number(kind, number);

@@ -1,4 +1,4 @@
-//! Vectors in a block of a heap of 1024 bytes: of tickets, a caller's own type, and of numbers.
+//! A vector in a block of a heap of 1024 bytes, of tickets, a caller's own type.
 ghost use Rattle.std.specs.Result.{IfOk};
 ghost use Rattle.seg_vector.specs.VectorCalls.{IsSomeVector};
 
@@ -103,52 +103,20 @@ fn sizes<T: Plain>(heap: &Heap, vector: SegVec<T>) -> (u64, u64)
 #[test]
 fn tickets_stand_in_a_vector(rt: HostRuntime) -> Result<(), Fail> {
     let (mut heap, tickets) = begun::<Ticket>(rt.alloc())?;
-    assert_eq!(rt; sizes(&heap, tickets), (0, 0));
-    assert_eq!(rt; pop(&mut heap, tickets), Err(Refusal::OutOfRange));
     push(&mut heap, tickets, Ticket::plain(258))?;
     push(&mut heap, tickets, Ticket::urgent(65535))?;
     insert(&mut heap, tickets, 1, Ticket::urgent(0))?;
-    assert_eq!(rt; sizes(&heap, tickets), (3, 4));
     set(&mut heap, tickets, 0, Ticket::plain(7))?;
-    assert_eq!(rt; tickets.get(&heap, 0), Ok(Ticket::plain(7)));
-    assert_eq!(rt; tickets.get(&heap, 1), Ok(Ticket::urgent(0)));
-    assert_eq!(rt; tickets.get(&heap, 2), Ok(Ticket::urgent(65535)));
-    assert_eq!(rt; tickets.get(&heap, 3), Err(Refusal::OutOfRange));
+    for (i, ticket) in [
+        (0, Ticket::plain(7)),
+        (1, Ticket::urgent(0)),
+        (2, Ticket::urgent(65535)),
+    ] {
+        assert_eq!(rt; tickets.get(&heap, i), Ok(ticket));
+    }
     erase(&mut heap, tickets, 0)?;
     assert_eq!(rt; pop(&mut heap, tickets), Ok(Ticket::urgent(65535)));
-    assert_eq!(rt; tickets.get(&heap, 0), Ok(Ticket::urgent(0)));
     assert_eq!(rt; sizes(&heap, tickets), (1, 4));
-    Ok(())
-}
-
-#[test]
-fn tickets_are_refused(rt: HostRuntime) -> Result<(), Fail> {
-    let (mut heap, tickets) = begun::<Ticket>(rt.alloc())?;
-    push(&mut heap, tickets, Ticket::plain(1))?;
-    let outside = Err(Refusal::OutOfRange);
-    assert_eq!(rt; set(&mut heap, tickets, 1, Ticket::plain(2)), outside);
-    assert_eq!(rt; insert(&mut heap, tickets, 2, Ticket::plain(2)), outside);
-    assert_eq!(rt; erase(&mut heap, tickets, 1), outside);
-    // the block of four tickets has 32 bytes, the gap behind it 800, and 273 tickets need 848
-    let none = Err(Refusal::NoSpace);
-    assert_eq!(rt; reserve(&mut heap, tickets, 273), none);
-    assert_eq!(rt; reserve(&mut heap, tickets, u64::MAX), none);
-    assert_eq!(rt; tickets.get(&heap, 0), Ok(Ticket::plain(1)));
-    assert_eq!(rt; sizes(&heap, tickets), (1, 4));
-    assert_eq!(rt; (heap.live_count(), heap.free_bytes()), (2, 800));
-    Ok(())
-}
-
-// Five tickets have 15 bytes, for which a block of 32 is enough, and ten have 30.
-#[test]
-fn the_storage_of_tickets_is_lengthened(rt: HostRuntime) -> Result<(), Fail> {
-    let (mut heap, tickets) = begun::<Ticket>(rt.alloc())?;
-    assign(&mut heap, tickets, &[Ticket::plain(3); 5])?;
-    assert_eq!(rt; (sizes(&heap, tickets), heap.free_bytes()), ((5, 5), 800));
-    push(&mut heap, tickets, Ticket::urgent(4))?;
-    assert_eq!(rt; (sizes(&heap, tickets), heap.free_bytes()), ((6, 10), 784));
-    assert_eq!(rt; tickets.get(&heap, 4), Ok(Ticket::plain(3)));
-    assert_eq!(rt; tickets.get(&heap, 5), Ok(Ticket::urgent(4)));
     Ok(())
 }
 
@@ -156,29 +124,13 @@ fn the_storage_of_tickets_is_lengthened(rt: HostRuntime) -> Result<(), Fail> {
 fn tickets_give_their_places_back(rt: HostRuntime) -> Result<(), Fail> {
     let (mut heap, tickets) = begun::<Ticket>(rt.alloc())?;
     reserve(&mut heap, tickets, 20)?;
-    assert_eq!(rt; (sizes(&heap, tickets), heap.free_bytes()), ((0, 20), 752));
     assign(&mut heap, tickets, &[Ticket::plain(3), Ticket::urgent(4)])?;
     assert_eq!(rt; sizes(&heap, tickets), (2, 20));
     shrink(&mut heap, tickets);
-    assert_eq!(rt; (sizes(&heap, tickets), heap.free_bytes()), ((2, 2), 800));
-    assert_eq!(rt; tickets.get(&heap, 1), Ok(Ticket::urgent(4)));
+    assert_eq!(rt; sizes(&heap, tickets), (2, 2));
     clear(&mut heap, tickets);
-    assert_eq!(rt; (sizes(&heap, tickets), heap.live_count()), ((0, 2), 2));
+    assert_eq!(rt; sizes(&heap, tickets), (0, 2));
     release(&mut heap, tickets);
-    assert_eq!(rt; (sizes(&heap, tickets), heap.live_count()), ((0, 0), 1));
-    assert!(rt; heap.sanity());
-    Ok(())
-}
-
-#[test]
-fn numbers_stand_in_a_vector(rt: HostRuntime) -> Result<(), Fail> {
-    let (mut heap, numbers) = begun::<i64>(rt.alloc())?;
-    assign(&mut heap, numbers, &[1, -2, i64::MAX])?;
-    push(&mut heap, numbers, i64::MIN)?;
-    assert_eq!(rt; sizes(&heap, numbers), (4, 6));
-    assert_eq!(rt; numbers.get(&heap, 2), Ok(i64::MAX));
-    assert_eq!(rt; numbers.get(&heap, 3), Ok(i64::MIN));
-    assert_eq!(rt; erase(&mut heap, numbers, 0), Ok(()));
-    assert_eq!(rt; numbers.get(&heap, 0), Ok(-2i64));
+    assert_eq!(rt; heap.live_count(), 1);
     Ok(())
 }

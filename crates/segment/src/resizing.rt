@@ -89,5 +89,5 @@ fn tell_and_save<O: Sink, W: Sink>(
             Piece::Bytes(b"\n"),
         ],
     )?;
-    save(segment.as_bytes(), image_out)
+    save(segment, image_out)
 }

@@ -1,7 +1,7 @@
 -- What a run of a script owes, over anything that answers lines: `respond place line` is the text
 -- that a line prints from a place, and the place to which it leads.
 use Rattle.std.specs.Prelude.{◌≡◌, ◌<◌, ◌≤◌, ℕ, ◌+◌, true, false, List, [], ◌∷◌, ◌++◌, length, take, Result, Ok, Err}
-use Rattle.raw_region.specs.Device.{Gave, Given, Took, Taken, Reads, IsProperPrefix}
+use Rattle.raw_region.specs.Device.{Gave, Given, Took, Taken, EndsAtMostOnce, Reads, IsProperPrefix}
 use Rattle.segment_cli.specs.declared.faults.RunFault.{RunFault}
 use Rattle.segment_cli.specs.declared.faults.RunFault.TheVariants.{ReadFault, WriteFault, ScriptTooLong}
 use Rattle.segment_cli.specs.Run.{lines}
@@ -84,9 +84,10 @@ failed_writes (Err WriteFault) = 1
 failed_writes (Err ScriptTooLong) = 0
 failed_writes (Ok u) = 0
 
--- what a run did with its devices, wherever it began: the script was read no further than a piece behind its limit, and each
--- failure is the one that the run answers
+-- what a run did with its devices, wherever it began: the script was read no further than a piece behind its limit, and
+-- asked no more behind its end; and each failure is the one that the run answers
 pub record UsesDevices (given given' : Gave) (taken taken' : Took) (result : Result (Unit {0}) RunFault) : Type 0 where
   pub reads : Reads given given' (failed_reads result)
   pub reads_no_further : length given'.bytes ≤ length given.bytes + script_limit + 4096
+  pub ends : EndsAtMostOnce given given'
   pub writes_counted : taken'.failures ≡ taken.failures + failed_writes result

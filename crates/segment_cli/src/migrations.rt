@@ -1,6 +1,6 @@
 //! The migration of an image of an older format.
 ghost use Rattle.std.specs.Prelude.{◌-◌, ◌%◌, ◌^◌, ◌<◌, ◌≡◌, length};
-ghost use Rattle.raw_region.specs.Device.{Grows, given_since, taken_since};
+ghost use Rattle.raw_region.specs.Device.{EndsAtMostOnce, Grows, given_since, taken_since};
 ghost use Rattle.segment_cli.specs.Migration.{IsMigration};
 
 use crate::faults::SessionFault;
@@ -35,10 +35,11 @@ pub fn migrate<I: Source, W: Sink>(
         (taken_since (W.history image_out.old) (W.history image_out.new))
         result }
     ensures image_grows { Grows (I.history image.old).bytes (I.history image.new).bytes }
+    ensures image_ends { EndsAtMostOnce (I.history image.old) (I.history image.new) }
     ensures saved_grows { Grows (W.history image_out.old).bytes (W.history image_out.new).bytes }
 {
     let segment = open_any(alloc, image, region, base, Mode::Write, &mut Steps::new())?;
-    match save(segment.as_bytes(), image_out) {
+    match save(&segment, image_out) {
         Ok(()) => Ok(()),
         Err(_) => Err(SessionFault::WriteFault),
     }

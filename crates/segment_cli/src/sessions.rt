@@ -1,7 +1,7 @@
 //! A session: a segment is made or opened, a script is run on it, and its image is saved.
 ghost use Rattle.std.specs.Prelude.{◌≡◌, ◌+◌, ◌-◌, ◌%◌, ◌^◌, ◌<◌, ◌≤◌, ◌++◌, length, drop, OnOk, OnErr};
 ghost use Rattle.raw_region.specs.Answers.{failures_in};
-ghost use Rattle.raw_region.specs.Device.{given_since, taken_since, Grows, IsProperPrefix};
+ghost use Rattle.raw_region.specs.Device.{given_since, taken_since, EndsAtMostOnce, Grows, IsProperPrefix};
 ghost use Rattle.segment_manager.specs.declared.modes.Mode.TheVariants.{Write};
 ghost use Rattle.segment_manager.specs.Directory.{Directory};
 ghost use Rattle.segment_manager.specs.State.{StandsFor};
@@ -32,6 +32,7 @@ fn begin<I: Source>(
         (given_since (I.history image.old) (I.history image.new))
         result }
     ensures image_grows { Grows (I.history image.old).bytes (I.history image.new).bytes }
+    ensures image_ends { EndsAtMostOnce (I.history image.old) (I.history image.new) }
 {
     match start {
         Start::Fresh(size) => Ok(Segment::create(region, base, size, mode)?),
@@ -56,8 +57,7 @@ fn save_segment<W: Sink>(segment: &Segment, image_out: &mut W) -> Result<(), Dev
         ≡ (W.history image_out.old).failures + failures_in result }
 {
     if segment.mode() == Mode::Write {
-        let image = segment.as_bytes();
-        save(image, image_out)?;
+        save(segment, image_out)?;
     }
     Ok(())
 }
@@ -99,7 +99,9 @@ pub fn session<I: Source, S: Source, O: Sink, W: Sink>(
         })
         result }
     ensures image_grows { Grows (I.history image.old).bytes (I.history image.new).bytes }
+    ensures image_ends { EndsAtMostOnce (I.history image.old) (I.history image.new) }
     ensures script_grows { Grows (S.history script.old).bytes (S.history script.new).bytes }
+    ensures script_ends { EndsAtMostOnce (S.history script.old) (S.history script.new) }
     ensures reads_no_further { length (S.history script.new).bytes
         ≤ length (S.history script.old).bytes + script_limit + 4096 }
     ensures out_grows { Grows (O.history out.old).bytes (O.history out.new).bytes }

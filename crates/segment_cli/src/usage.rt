@@ -3,6 +3,7 @@ ghost use Rattle.std.specs.Prelude.{◌≡◌};
 ghost use Rattle.clap.specs.Values.{kind_of};
 ghost use Rattle.clap.specs.declared.error.kind.ErrorKind.TheVariants.{OutOfMemory as NoMemory};
 ghost use Rattle.segment_cli.specs.declared.usage.InvocationFault.TheVariants.{OutOfMemory, Usage};
+ghost use Rattle.segment_cli.specs.declared.usage.UsageError.TheVariants.{Words};
 
 use clap::Error as Misread;
 use clap::error::ErrorKind;
@@ -52,7 +53,9 @@ impl From<UsageError> for InvocationFault {
 }
 
 impl From<Misread> for InvocationFault {
-    ghost from_gives = { λ error fault. kind_of error ≡ NoMemory → fault ≡ OutOfMemory };
+    ghost from_gives = { λ error fault.
+        (kind_of error ≡ NoMemory → fault ≡ OutOfMemory)
+        × ((kind_of error ≡ NoMemory → ⊥) → fault ≡ Usage (Words error)) };
 
     fn from(error: Misread) -> InvocationFault {
         if error.kind() == ErrorKind::OutOfMemory {

@@ -4,8 +4,9 @@ ghost use Rattle.std.specs.Prelude.{◌≡◌, ◌+◌, ◌/◌, ◌%◌, ◌∷
 ghost use Rattle.std.proofs.Common.{ap, arith, length-take};
 
 use raw_region::fake::{Last, MemorySink, MemorySource};
-use raw_region::{DeviceFault, Sink, write_all};
+use raw_region::{DeviceFault, RawRegion, Sink, write_all};
 use segment_cli::{Machine, RunFault, run, save};
+use segment_manager::{Mode, Segment};
 use std::alloc::{AllocError, Global};
 use std::test::Fail;
 
@@ -153,11 +154,14 @@ fn stops_at_the_limit(rt: HostRuntime) -> Result<(), Fail> {
 
 #[test]
 fn saves_until_the_writer_fails(rt: HostRuntime) -> Result<(), Fail> {
-    let image = b"an image";
-    for room in [0, 1, 7, 8] {
+    let region = RawRegion::new(rt.alloc(), 144)?;
+    let Ok(segment) = Segment::create(region, 0, 144, Mode::Write) else {
+        return Err(Fail::from("no segment is created"));
+    };
+    for room in [0, 1, 143, 144] {
         let mut out = MemorySink::new(rt.alloc(), room, 3, Last::Fails)?;
-        assert_eq!(rt; save(image, &mut out).is_ok(), room == 8);
-        assert_eq!(rt; out.taken(), &image[..room]);
+        assert_eq!(rt; save(&segment, &mut out).is_ok(), room == 144);
+        assert_eq!(rt; Some(out.taken()), segment.as_bytes().get(..room));
     }
     Ok(())
 }

@@ -14,7 +14,7 @@ returns-in_err-matches-clause-given c = λ a w.
     let words : List Text = map (λ s. s.now) c.args.words.now in
     let u = understood words a w in
     let p = err_from_is_err_and c.from_residual-in_err-matches.result c.from_residual-in_err-matches.ensures.1 in
-    rw p.1 (p.2 (c.in_err-matches.ensures.passes (ap (λ (x : App). takes x words) c.in_ok-command_line.ensures ∙ u.takes)))
+    rw p.1 (p.2.0 (c.in_err-matches.ensures.passes (ap (λ (x : App). takes x words) c.in_ok-command_line.ensures ∙ u.takes)))
 
 pub returns-in_err-read_command-in-Some-clause-given : goal.returns-in_err-read_command-in-Some-clause-given
 returns-in_err-read_command-in-Some-clause-given c = λ a w.

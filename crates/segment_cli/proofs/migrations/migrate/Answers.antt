@@ -1,10 +1,7 @@
-use Rattle.std.proofs.Common.{length, sym, subst, ◌∙◌, List, ℕ, arith}
+use Rattle.std.proofs.Common.{length, arith}
 use Rattle.std.proofs.lemmas.Result.{err_from_is_err_and}
 use Rattle.raw_region.specs.Device.{given_since, taken_since}
 use Rattle.raw_region.proofs.Laws.{added}
-use Rattle.segment_manager.specs.Directory.{Directory}
-use Rattle.segment_manager.specs.State.{StandsFor}
-use Rattle.segment_cli.specs.Session.{IsSaved}
 use Rattle.segment_cli.proofs.Cuts.{none_failed, one_failed}
 use Rattle.segment_cli.proofs.Endings.{front_added, not_written}
 use Rattle.segment_cli.proofs.Migrated.{migrated, not-migrated, unmigrated}
@@ -21,20 +18,18 @@ pub returns-in-Ok-clause-migrates : goal.returns-in-Ok-clause-migrates
 returns-in-Ok-clause-migrates g c =
     let old = g.W.Sink.history c.args.image_out.now in
     let new = g.W.Sink.history c.save.new.out in
-    let bytes = c.as_bytes.ensures.bytes in
-    migrated c.args.region c.args.base _ (given_since (g.I.Source.history c.args.image.now) (g.I.Source.history c.open_any.new.reader)) (taken_since old new)
-    c.in_ok-segment.segment c.in_ok-segment.ensures.opens
-    (subst (λ (b : List ℕ). (d : Directory) → StandsFor b d → IsSaved b d) bytes c.save.ensures.accepted)
-    (added old.bytes new.bytes c.as_bytes.result.now c.in-Ok.ensures.writes.ok ∙ bytes)
+    let image = given_since (g.I.Source.history c.args.image.now) (g.I.Source.history c.open_any.new.reader) in
+    let segment = c.in_ok-segment.segment in
+    migrated c.args.region c.args.base _ image (taken_since old new) segment c.in_ok-segment.ensures.opens
+    c.save.ensures.accepted (added old.bytes new.bytes segment.cut.bytes c.in-Ok.ensures.writes.ok)
     (none_failed _ _ (let counted = c.in-Ok.ensures.writes.counted in omega arith))
 
 pub returns-clause-migrates : goal.returns-clause-migrates
 returns-clause-migrates g c =
     let old = g.W.Sink.history c.args.image_out.now in
     let new = g.W.Sink.history c.save.new.out in
-    let bytes = c.as_bytes.ensures.bytes in
-    unmigrated c.args.region c.args.base _ (given_since (g.I.Source.history c.args.image.now) (g.I.Source.history c.open_any.new.reader)) (taken_since old new)
-    c.in_ok-segment.segment c.in_ok-segment.ensures.opens
-    (subst (λ (b : List ℕ). (d : Directory) → StandsFor b d → IsSaved b d) bytes c.save.ensures.accepted)
-    (rw (← bytes) (front_added old.bytes new.bytes c.as_bytes.result.now c.in-Err.ensures.writes.err))
+    let image = given_since (g.I.Source.history c.args.image.now) (g.I.Source.history c.open_any.new.reader) in
+    let segment = c.in_ok-segment.segment in
+    unmigrated c.args.region c.args.base _ image (taken_since old new) segment c.in_ok-segment.ensures.opens
+    c.save.ensures.accepted (front_added old.bytes new.bytes segment.cut.bytes c.in-Err.ensures.writes.err)
     (one_failed _ _ c.in-Err.ensures.writes.counted)

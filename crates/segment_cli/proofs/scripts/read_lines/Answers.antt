@@ -15,6 +15,7 @@ pieces-init g c =
       limit = rw none.read refl;
       passed = refl;
       behind = λ start s. rw (none.read, c.requires.fresh) (behind_none g.M.Machine.respond start (g.W.Sink.history c.args.out.now).bytes (g.M.Machine.stands c.args.machine.now) s);
+      ends = refl;
       reads = refl;
       writes = refl;
     }

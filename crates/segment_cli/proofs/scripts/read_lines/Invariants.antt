@@ -15,6 +15,7 @@ invariant-pieces g l =
       passed : length new + l.left ≡ length old + script_limit;
       behind : (start : g.M.Machine.Place) → g.M.Machine.stands l.initial.machine start
           → IsBehind g.M.Machine.respond start (g.W.Sink.history l.initial.out).bytes (drop (length old) new) (g.M.Machine.stands l.machine) l.line (g.W.Sink.history l.out).bytes;
+      ends : (g.S.Source.history l.script).ends ≡ (g.S.Source.history l.initial.script).ends;
       reads : (g.S.Source.history l.script).failures ≡ (g.S.Source.history l.initial.script).failures;
       writes : (g.W.Sink.history l.out).failures ≡ (g.W.Sink.history l.initial.out).failures;
     }

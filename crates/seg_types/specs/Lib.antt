@@ -5,3 +5,4 @@ pub mod Keys
 pub mod Commands
 pub mod Plain
 pub mod ScalarLaws
+pub mod Refusals

@@ -14,6 +14,6 @@ pub use keys::{Handle, IndexKey, Key, NewKey};
 pub use kinds::{Class, Kind, ScalarKind};
 pub use names::{LONGEST_NAME, Name, is_name};
 pub use plain::Plain;
-pub use refusals::Refusal;
+pub use refusals::{LineError, Refusal};
 pub use scalars::Scalar;
 pub use values::ScalarValue;

@@ -1,8 +1,8 @@
 -- A line that is no command prints its error, and leaves the segment where it is.
 use Rattle.std.proofs.Common.{◌≡◌, ℕ, List, refl, ap, subst, ◌∙◌}
 use Rattle.seg_types.specs.Commands.{Reading}
-use Rattle.segment_lang.specs.declared.errors.LineError.{LineError}
-use Rattle.segment_lang.specs.declared.errors.LineError.TheVariants.{UnknownCommand, LineTooLong, BadSyntax}
+use Rattle.seg_types.specs.declared.refusals.LineError.{LineError}
+use Rattle.seg_types.specs.declared.refusals.LineError.TheVariants.{UnknownCommand, LineTooLong, BadSyntax}
 use Rattle.raw_region.specs.Format.{current}
 use Rattle.segment_lang.specs.Language.{whole}
 use Rattle.segment_lang.specs.Reading.{reading}

@@ -2,8 +2,8 @@
 use Rattle.std.specs.Prelude.{ℕ, List, [], ◌∷◌, ◌++◌, ◌==◌, if◌then◌else◌}
 use Rattle.std.specs.Fmt.{digits}
 use Rattle.seg_types.specs.Commands.{Reading, Nothing, Asked, UnknownCommand, LineTooLong, BadSyntax}
-use Rattle.segment_lang.specs.declared.errors.LineError.{LineError}
-use Rattle.segment_lang.specs.declared.errors.LineError.TheVariants as wrong
+use Rattle.seg_types.specs.declared.refusals.LineError.{LineError}
+use Rattle.seg_types.specs.declared.refusals.LineError.TheVariants as wrong
 use Rattle.segment_lang.specs.Texts.{line_error_text}
 use Rattle.segment_lang.specs.Language.{Language}
 use Rattle.segment_lang.specs.Reading.{reading}

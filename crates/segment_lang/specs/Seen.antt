@@ -16,8 +16,8 @@ use Rattle.segment_lang.specs.declared.commands.Command.{Command}
 use Rattle.segment_lang.specs.declared.commands.Command.TheVariants.{Construct, ConstructIt, Find, FindOrConstruct, Destroy, DestroyPtr, Show, Info, Get, Set, Push, Pop, Insert, Erase, Reserve, Shrink, Clear, Assign, Append, Put, Lookup, Remove, ListNames, ListKinds, Blocks, Size, Free, NumNamed, NumUnique, ReserveNamed, ReserveUnique, ShrinkIndexes, ZeroFree, Sanity, AllDeallocated}
 use Rattle.segment_lang.specs.declared.commands.Reading.{Reading}
 use Rattle.segment_lang.specs.declared.commands.Reading.TheVariants.{Nothing, Asked, Wrong}
-use Rattle.segment_lang.specs.declared.errors.LineError.{LineError}
-use Rattle.segment_lang.specs.declared.errors.LineError.TheVariants.{UnknownCommand, LineTooLong, BadSyntax}
+use Rattle.seg_types.specs.declared.refusals.LineError.{LineError}
+use Rattle.seg_types.specs.declared.refusals.LineError.TheVariants.{UnknownCommand, LineTooLong, BadSyntax}
 use Rattle.segment_lang.specs.declared.forms.CommandForm.{CommandForm}
 use Rattle.segment_lang.specs.declared.forms.CommandForm.TheVariants as form
 

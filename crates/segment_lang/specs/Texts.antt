@@ -6,10 +6,9 @@ use Rattle.seg_types.specs.declared.kinds.Kind.{Kind}
 use Rattle.seg_types.specs.declared.refusals.Refusal.{Refusal}
 use Rattle.seg_types.specs.declared.kinds.ScalarKind.TheVariants.{Bool as BoolKind, U8, I32, I64, U64}
 use Rattle.seg_types.specs.declared.kinds.Kind.TheVariants.{Scalar, Text, Vector, Map, Texts}
-use Rattle.seg_types.specs.declared.refusals.Refusal.TheVariants.{ReadOnly, Exists, NotFound, WrongKind, OutOfRange, NoSpace}
+use Rattle.seg_types.specs.declared.refusals.LineError.{LineError}
+use Rattle.seg_types.specs.Refusals.{line_error_number, line_error_words, refusal_number, refusal_words}
 use Rattle.segment_lang.specs.Words.{is_bare_name, between}
-use Rattle.segment_lang.specs.declared.errors.LineError.{LineError}
-use Rattle.segment_lang.specs.declared.errors.LineError.TheVariants.{UnknownCommand, LineTooLong, BadSyntax}
 
 abbrev pub number_text : ℕ → List ℕ
 number_text n = decimal n
@@ -55,34 +54,8 @@ kind_text (Map k v) = codes "map<" ++ scalar_text k ++ codes "," ++ scalar_text 
 abbrev pub error_text : ℕ → List ℕ → List ℕ
 error_text n words = codes "error " ++ number_text n ++ 0x20 ∷ words
 
-abbrev pub line_error_number : LineError → ℕ
-line_error_number UnknownCommand = 1
-line_error_number LineTooLong = 2
-line_error_number BadSyntax = 3
-
-abbrev pub line_error_words : LineError → List ℕ
-line_error_words UnknownCommand = codes "unknown command"
-line_error_words LineTooLong = codes "line too long"
-line_error_words BadSyntax = codes "bad syntax"
-
 abbrev pub line_error_text : LineError → List ℕ
 line_error_text e = error_text (line_error_number e) (line_error_words e)
-
-abbrev pub refusal_number : Refusal → ℕ
-refusal_number ReadOnly = 4
-refusal_number Exists = 5
-refusal_number NotFound = 6
-refusal_number WrongKind = 7
-refusal_number OutOfRange = 8
-refusal_number NoSpace = 9
-
-abbrev pub refusal_words : Refusal → List ℕ
-refusal_words ReadOnly = codes "read only"
-refusal_words Exists = codes "already exists"
-refusal_words NotFound = codes "not found"
-refusal_words WrongKind = codes "wrong kind"
-refusal_words OutOfRange = codes "out of range"
-refusal_words NoSpace = codes "no space"
 
 abbrev pub refusal_text : Refusal → List ℕ
 refusal_text r = error_text (refusal_number r) (refusal_words r)

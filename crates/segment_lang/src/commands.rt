@@ -1,11 +1,10 @@
 //! What a line asks for. The types hold what they say in place or in the line, and take no memory.
 
-use crate::errors::LineError;
 use crate::lists::{Literals, Texts};
 use crate::literals::Literal;
 use crate::values::Values;
 use crate::words::Quoted;
-use seg_types::{Handle, IndexKey, Key, Kind, NewKey, ScalarKind, ScalarValue};
+use seg_types::{Handle, IndexKey, Key, Kind, LineError, NewKey, ScalarKind, ScalarValue};
 
 /// What an object is made with.
 #[derive(Drop)]

@@ -33,12 +33,13 @@ mod theorems;
 
 pub use buffer::Text;
 pub use commands::{Command, Content, Reading};
-pub use errors::{LineError, put_line_error, put_refusal};
+pub use errors::{put_line_error, put_refusal};
 pub use line::{LONGEST_LINE, parse_line};
 pub use lists::{Literals, Texts};
 pub use literals::{Literal, literal_of};
 pub use numbers::{number_of, whole_of};
 pub use pieces::{Piece, put_pieces};
+pub use seg_types::LineError;
 pub use texts::{put_kind, put_name, put_number, put_text, put_value};
 pub use theorems::{
     long_lines_are_cut, numbers_are_decimals, printed_kinds_are_read, printed_names_are_read,

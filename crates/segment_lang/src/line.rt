@@ -8,8 +8,8 @@ ghost use Rattle.segment_lang.specs.Seen.{reading_of};
 
 use crate::blanks::{skip_blanks, split_word};
 use crate::commands::Reading;
-use crate::errors::LineError;
 use crate::forms::{form_of, read_command};
+use seg_types::LineError;
 
 /// The longest line without its end, in bytes.
 pub const LONGEST_LINE: usize = 4096;

@@ -4,10 +4,10 @@ ghost use Rattle.std.specs.Prelude.{◌≡◌, ◌-◌, ◌^◌, ◌<◌, flat_m
 ghost use Rattle.raw_region.specs.Device.{Writes};
 ghost use Rattle.segment_lang.specs.Pieces.{piece_text};
 
-use crate::errors::{LineError, put_line_error, put_refusal};
+use crate::errors::{put_line_error, put_refusal};
 use crate::texts::{put_kind, put_name, put_number, put_text, put_value};
 use raw_region::{DeviceFault, Sink, write_all};
-use seg_types::{Kind, Refusal, ScalarValue};
+use seg_types::{Kind, LineError, Refusal, ScalarValue};
 
 /// A piece of an answer.
 #[derive(Clone, Copy)]

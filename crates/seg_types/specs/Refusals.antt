@@ -1,0 +1,37 @@
+-- The errors that a line is answered by, each by its number and its words.
+use Rattle.std.specs.Prelude.{ℕ, List, codes}
+use Rattle.seg_types.specs.declared.refusals.LineError.{LineError}
+use Rattle.seg_types.specs.declared.refusals.LineError.TheVariants.{UnknownCommand, LineTooLong, BadSyntax}
+use Rattle.seg_types.specs.declared.refusals.Refusal.{Refusal}
+use Rattle.seg_types.specs.declared.refusals.Refusal.TheVariants.{ReadOnly, Exists, NotFound}
+use Rattle.seg_types.specs.declared.refusals.Refusal.TheVariants.{WrongKind, OutOfRange, NoSpace}
+
+-- ---- 1 to 3: a line is no command
+
+abbrev pub line_error_number : LineError → ℕ
+line_error_number UnknownCommand = 1
+line_error_number LineTooLong = 2
+line_error_number BadSyntax = 3
+
+abbrev pub line_error_words : LineError → List ℕ
+line_error_words UnknownCommand = codes "unknown command"
+line_error_words LineTooLong = codes "line too long"
+line_error_words BadSyntax = codes "bad syntax"
+
+-- ---- 4 to 9: a command is refused
+
+abbrev pub refusal_number : Refusal → ℕ
+refusal_number ReadOnly = 4
+refusal_number Exists = 5
+refusal_number NotFound = 6
+refusal_number WrongKind = 7
+refusal_number OutOfRange = 8
+refusal_number NoSpace = 9
+
+abbrev pub refusal_words : Refusal → List ℕ
+refusal_words ReadOnly = codes "read only"
+refusal_words Exists = codes "already exists"
+refusal_words NotFound = codes "not found"
+refusal_words WrongKind = codes "wrong kind"
+refusal_words OutOfRange = codes "out of range"
+refusal_words NoSpace = codes "no space"

@@ -8,7 +8,7 @@ use image_check::{OpenError, open};
 use raw_region::fake::{Last, MemorySink, MemorySource};
 use raw_region::{RawRegion, Steps};
 use segment_cli::run;
-use segment_manager::{CreateError, Mode, Segment};
+use segment_manager::{Mode, Segment};
 use std::alloc::Global;
 use std::process::Abort;
 use std::test::Fail;
@@ -143,22 +143,6 @@ fn a_segment_stays_where_the_region_is_too_small(rt: HostRuntime) -> Result<(), 
         "show a\nfree\n",
         "i64 5\n784\n",
     )
-}
-
-#[test]
-fn a_size_that_is_refused_hands_the_region_back(rt: HostRuntime) -> Result<(), Fail> {
-    for (size, cause) in [
-        (160, CreateError::BadSize),
-        (1040, CreateError::RegionTooSmall),
-    ] {
-        let region = region_of_sevens(rt.alloc(), 1024)?;
-        let Err(refused) = Segment::create(region, 0, size, Mode::Write) else {
-            return Err(Fail::from("a segment is created"));
-        };
-        assert_eq!(rt; refused.cause, cause, "{size}");
-        assert!(rt; refused.region.capacity() == 1024 && are_sevens(&refused.region, 0, 1024));
-    }
-    Ok(())
 }
 
 #[test]
@@ -300,19 +284,5 @@ fn nothing_is_resized_that_is_only_read(rt: HostRuntime) -> Result<(), Fail> {
         "2032\ni64 5\n1792\n",
     )?;
     assert_eq!(rt; copied.region_left(), 0);
-    Ok(())
-}
-
-#[test]
-fn an_image_is_opened_in_any_place(rt: HostRuntime) -> Result<(), Fail> {
-    let segment = made(&rt, rt.alloc(), 1024, NUMBER)?;
-    let image = segment.as_bytes();
-    let script = "show a\nconstruct i64 b 6\nfree\n";
-    let answers = "i64 5\n#240\n736\n";
-    let mut front = opened(&rt, rt.alloc(), image, 1024, 0, Mode::Write)?;
-    says(&rt, rt.alloc(), &mut front, script, answers)?;
-    let mut behind = opened(&rt, rt.alloc(), image, 8192, 4096, Mode::Write)?;
-    says(&rt, rt.alloc(), &mut behind, script, answers)?;
-    assert_eq!(rt; behind.as_bytes(), front.as_bytes());
     Ok(())
 }

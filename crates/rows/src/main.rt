@@ -1,0 +1,62 @@
+//! The program `rows`: runs the rows of the files that its arguments name, and prints for each file how many there are.
+#![tactic(auto)]
+
+mod checks;
+mod cuts;
+mod directives;
+mod faults;
+mod forms;
+mod images;
+mod items;
+mod migrations;
+mod parts;
+mod places;
+mod placing;
+mod read_only;
+mod requesting;
+mod rows;
+mod scripts;
+mod sessions;
+mod spelling;
+
+use forms::read_items;
+use rows::Desk;
+use std::process::ExitCode;
+use std::{env, fs, io};
+
+/// Runs the files, and ends with status 1 where something differs from what they say.
+fn main(rt: HostRuntime) -> io::Result<ExitCode> {
+    let mut is_sound = true;
+    for name in env::args(&rt)?.skip(1) {
+        let text = fs::read_to_string(&rt, name.as_str())?;
+        if !run_file(&rt, name.as_str(), text.as_str())? {
+            is_sound = false;
+        }
+    }
+    Ok(ExitCode::from(u8::from(!is_sound)))
+}
+
+/// Runs the items of a file, and prints what they come to: whether all is as they say.
+fn run_file<R: Print + AllocGlobal>(rt: &R, name: &str, text: &str) -> io::Result<bool> {
+    let items = match read_items(rt.alloc(), text) {
+        Ok(items) => items,
+        Err(trouble) => {
+            println!(rt; "{name}: {trouble}")?;
+            return Ok(false);
+        }
+    };
+    let mut desk = Desk::new(rt.alloc());
+    let mut is_sound = true;
+    for item in &items {
+        if let Err(trouble) = desk.check(item) {
+            println!(rt; "{name}: {trouble}")?;
+            is_sound = false;
+        }
+    }
+    let counts = desk.counts;
+    println!(rt;
+        "{name}: {} rows, {} lines, {} cuts",
+        counts.rows, counts.lines, counts.cuts
+    )?;
+    Ok(is_sound)
+}

@@ -1,8 +1,8 @@
 //! The two indexes of a segment, as they grow, are reserved and shrink.
-use crate::segments::{entry, fresh, named, named_handle, new_named, opened, unique_handle};
+use crate::segments::{fresh, named_handle, new_named, unique_handle};
 use block_tags::Role;
-use seg_types::{Handle, Kind, NewKey, Refusal, ScalarKind};
-use segment_manager::{Mode, Segment, Span};
+use seg_types::{Handle, Kind, NewKey, ScalarKind};
+use segment_manager::{Segment, Span};
 use std::process::Abort;
 use std::test::Fail;
 
@@ -82,26 +82,6 @@ fn kinds_rise(rt: HostRuntime) -> Result<(), Fail> {
 }
 
 #[test]
-fn a_reserved_index_has_room(rt: HostRuntime) -> Result<(), Fail> {
-    let mut segment = fresh(&rt, rt.alloc(), 1024)?;
-    assert_eq!(rt; segment.reserve_named(10), Ok(()));
-    for (digit, handle) in (b'0'..=b'9').zip((240..=672).step_by(48)) {
-        let made = segment.construct(&new_named(&rt, &[b'n', digit]), 1, i64::from(digit));
-        assert_eq!(rt; made, Ok(handle));
-    }
-    assert_eq!(rt; segment.free(), 304);
-    assert_eq!(rt; segment.construct(&new_named(&rt, b"na"), 1, 1i64), Ok(896));
-    assert_eq!(rt; segment.free(), 176);
-    let mut read = opened(&rt, rt.alloc(), &segment, Mode::ReadOnly)?;
-    let made = read.construct(&new_named(&rt, b"z"), 1, 1i64);
-    assert_eq!(rt; made, Err(Refusal::ReadOnly));
-    assert_eq!(rt; read.destroy(&entry(&rt, b"q")), Err(Refusal::ReadOnly));
-    assert_eq!(rt; read.num_named(), 11);
-    assert_eq!(rt; read.get(&named(&rt, b"n9"), 0), Ok(57i64));
-    Ok(())
-}
-
-#[test]
 fn indexes_shrink(rt: HostRuntime) -> Result<(), Fail> {
     let mut segment = fresh(&rt, rt.alloc(), 1024)?;
     assert_eq!(rt; segment.reserve_named(5), Ok(()));
@@ -116,17 +96,5 @@ fn indexes_shrink(rt: HostRuntime) -> Result<(), Fail> {
     assert_eq!(rt; segment.free(), 624);
     assert_eq!(rt; segment.shrink_indexes(), Ok(()));
     assert_eq!(rt; segment.free(), 640);
-    Ok(())
-}
-
-#[test]
-fn too_many_places_have_no_space(rt: HostRuntime) -> Result<(), Fail> {
-    let mut segment = fresh(&rt, rt.alloc(), 1024)?;
-    for n in [109, u64::MAX] {
-        assert_eq!(rt; segment.reserve_named(n), Err(Refusal::NoSpace));
-        assert_eq!(rt; segment.reserve_unique(n), Err(Refusal::NoSpace));
-    }
-    assert_eq!(rt; segment.reserve_named(108), Ok(()));
-    assert_eq!(rt; segment.free(), 0);
     Ok(())
 }

@@ -4,7 +4,7 @@
 //! for memory is refused, and then the second try succeeds.
 
 use crate::desk::{copy_of, put};
-use image_check::{OpenError, open, open_any};
+use image_check::{ImageClass, OpenError, open, open_any};
 use raw_region::fake::{Last, MemorySink, MemorySource};
 use raw_region::{RawRegion, Steps};
 use segment_cli::{
@@ -75,6 +75,21 @@ fn open_image(rt: &impl Abort, alloc: Global) -> Option<Tried> {
             Some(Tried::Refused)
         }
     }
+}
+
+/// Refuses an image whose free tree begins at its own root's word. Its class is told without memory.
+fn refuse_damaged(rt: &impl Abort, alloc: Global) -> Option<Tried> {
+    let segment = map(rt, alloc)?;
+    let mut image = copy_of(alloc, segment.as_bytes()).ok()?;
+    put(image.as_mut_slice(), 24, &[0; 8]);
+    let region = RawRegion::new(alloc, 2048).ok()?;
+    let mut reader = MemorySource::new(image.as_slice(), 4096, Last::Ends);
+    let mut steps = Steps::new();
+    let Err(refused) = open(alloc, &mut reader, region, 1024, Mode::Write, &mut steps) else {
+        panic!(rt; "opened");
+    };
+    assert_eq!(rt; refused.cause, OpenError::Image(ImageClass::BadFreeTree));
+    Some(Tried::Done)
 }
 
 /// Runs a session on the image. Where memory is refused, nothing is printed and nothing saved.
@@ -190,6 +205,14 @@ fn take_region(rt: &impl Abort, alloc: Global) -> Tried {
 fn an_image_is_opened_once_there_is_memory(rt: HostRuntime) -> Result<(), Fail> {
     if open_image(&rt, rt.alloc()) != Some(Tried::Done) {
         assert_eq!(rt; open_image(&rt, rt.alloc()), Some(Tried::Done));
+    }
+    Ok(())
+}
+
+#[test]
+fn a_damaged_image_is_refused_by_its_class_without_memory(rt: HostRuntime) -> Result<(), Fail> {
+    if refuse_damaged(&rt, rt.alloc()) != Some(Tried::Done) {
+        assert_eq!(rt; refuse_damaged(&rt, rt.alloc()), Some(Tried::Done));
     }
     Ok(())
 }

@@ -1,7 +1,7 @@
 //! Vectors and strings that a line changes: the kind of the object says which call it is.
 ghost use Rattle.std.specs.Prelude.{◌≡◌, ◌≤◌, ◌∷◌, [], List, MatchResult, OnErr, length};
 ghost use Rattle.seg_types.specs.declared.kinds.Kind.TheVariants.{Text as TextKind, Texts as TextsKind, Vector as VectorOf};
-ghost use Rattle.seg_types.specs.Commands.{Append, Assign, Clear, Erase, Insert, Literal as AskedLiteral, Push, Reserve, Shrink, literal_of as literal_for};
+ghost use Rattle.seg_types.specs.Commands.{Append, Assign, Clear, Erase, Insert, Literal as AskedLiteral, Push, Quoted as AskedQuoted, Reserve, Shrink, literal_of as literal_for};
 ghost use Rattle.seg_types.specs.Keys.{key_seen};
 ghost use Rattle.seg_types.specs.Values.{kind_of_scalar, value_of_scalar};
 ghost use Rattle.segment_lang.specs.Seen.{literal_of};
@@ -83,7 +83,7 @@ pub fn push(segment: &mut Segment, key: &Key, literal: Literal<'_>) -> Result<()
     match new_element(segment, key, literal) {
         Err(why) => Err(why),
         Ok(NewElement::Scalar(value)) => push_value(segment, key, value),
-        Ok(NewElement::Text(text)) => segment.texts_push(key, text.to_text().as_slice()),
+        Ok(NewElement::Text(text)) => push_text(segment, key, &text),
     }
 }
 
@@ -100,6 +100,17 @@ fn push_value(segment: &mut Segment, key: &Key, value: ScalarValue) -> Result<()
         ScalarValue::I64(number) => segment.vec_push(key, number),
         ScalarValue::U64(number) => segment.vec_push(key, number),
     }
+}
+
+/// Puts a text behind the last one of the vector of strings of a key. Its bytes stand in this function's frame alone, so that no
+/// other line pays for them.
+#[inline(never)]
+fn push_text(segment: &mut Segment, key: &Key, text: &Quoted<'_>) -> Result<(), Refusal>
+    requires { length text.now ≤ 4096 }
+    ensures step { IsStepOfKind segment.old segment.new (key_seen key.now) TextsKind (Push (key_seen key.now) (AskedQuoted text.now)) (done_answer result) }
+    ensures refused { KeepsRefused segment.old segment.new result }
+{
+    segment.texts_push(key, text.to_text().as_slice())
 }
 
 /// Puts the value that a literal is where `index` others stand before it in the vector of a key.
@@ -123,7 +134,7 @@ pub fn insert(
     match new_element(segment, key, literal) {
         Err(why) => Err(why),
         Ok(NewElement::Scalar(value)) => insert_value(segment, key, index, value),
-        Ok(NewElement::Text(text)) => segment.texts_insert(key, index, text.to_text().as_slice()),
+        Ok(NewElement::Text(text)) => insert_text(segment, key, index, &text),
     }
 }
 
@@ -145,6 +156,21 @@ fn insert_value(
         ScalarValue::I64(number) => segment.vec_insert(key, index, number),
         ScalarValue::U64(number) => segment.vec_insert(key, index, number),
     }
+}
+
+/// Puts a text where `index` others stand before it in the vector of strings of a key.
+#[inline(never)]
+fn insert_text(
+    segment: &mut Segment,
+    key: &Key,
+    index: u64,
+    text: &Quoted<'_>,
+) -> Result<(), Refusal>
+    requires { length text.now ≤ 4096 }
+    ensures step { IsStepOfKind segment.old segment.new (key_seen key.now) TextsKind (Insert (key_seen key.now) index (AskedQuoted text.now)) (done_answer result) }
+    ensures refused { KeepsRefused segment.old segment.new result }
+{
+    segment.texts_insert(key, index, text.to_text().as_slice())
 }
 
 /// Leaves out the element at `index` in the vector of a key.
@@ -193,6 +219,7 @@ fn erase_element(
 /// `ReadOnly` where the segment is open for reading, and else `NotFound` where no object has the key, `WrongKind` where it is
 /// neither or a value has not the form of its elements, `OutOfRange` where a value is not in their range, and nothing changes;
 /// `NoSpace` where its storage cannot be regrown or a text has no fit: the objects are as before.
+#[inline(never)]
 pub fn assign(segment: &mut Segment, key: &Key, values: Literals<'_>) -> Result<(), Refusal>
     requires { bytes_taken values ≤ 4097 }
     ensures step { IsStep segment.old segment.new (Assign (key_seen key.now) values.entry) (done_answer result) }
@@ -210,6 +237,7 @@ pub fn assign(segment: &mut Segment, key: &Key, values: Literals<'_>) -> Result<
 }
 
 /// Makes values those of the vector of a key, a vector of scalars of a kind.
+#[inline(never)]
 fn assign_vector(
     segment: &mut Segment,
     key: &Key,
@@ -247,6 +275,7 @@ fn assign_row<T: Scalar>(
 }
 
 /// Makes one text the bytes of the string of a key.
+#[inline(never)]
 fn assign_string(segment: &mut Segment, key: &Key, values: Literals<'_>) -> Result<(), Refusal>
     requires of_kind { IsChangeable segment.old (key_seen key.now) TextKind }
     requires few { bytes_taken values ≤ 4097 }
@@ -260,6 +289,7 @@ fn assign_string(segment: &mut Segment, key: &Key, values: Literals<'_>) -> Resu
 }
 
 /// Makes texts those of the vector of strings of a key.
+#[inline(never)]
 fn assign_texts(segment: &mut Segment, key: &Key, values: Literals<'_>) -> Result<(), Refusal>
     requires of_kind { IsChangeable segment.old (key_seen key.now) TextsKind }
     requires few { bytes_taken values ≤ 4097 }
@@ -277,6 +307,7 @@ fn assign_texts(segment: &mut Segment, key: &Key, values: Literals<'_>) -> Resul
 /// # Errors
 ///
 /// As the segment's call. Nothing changes.
+#[inline(never)]
 pub fn append(segment: &mut Segment, key: &Key, text: &Quoted<'_>) -> Result<(), Refusal>
     requires { length text.now ≤ 4096 }
     ensures step { IsStep segment.old segment.new (Append (key_seen key.now) text.now) (done_answer result) }

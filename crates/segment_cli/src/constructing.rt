@@ -20,6 +20,7 @@ use segment_manager::Segment;
 ///
 /// As the segment's call. The objects are as before.
 #[tactic(auto, using(crate::proofs::NewKinds::content_kind, crate::proofs::NewKinds::content_some, crate::proofs::NewKinds::content_few))]
+#[inline(never)]
 pub fn construct(
     segment: &mut Segment,
     key: &NewKey,
@@ -42,6 +43,7 @@ pub fn construct(
 }
 
 /// Makes a vector of the values, and answers its handle.
+#[inline(never)]
 fn construct_vector(
     segment: &mut Segment,
     key: &NewKey,
@@ -61,6 +63,7 @@ fn construct_vector(
 }
 
 /// Makes a vector of strings of the texts, and answers its handle.
+#[inline(never)]
 fn construct_texts(segment: &mut Segment, key: &NewKey, texts: Texts<'_>) -> Result<Handle, Refusal>
     requires { IsContent (new_key_seen key.now) (Strings texts) }
     ensures step { IsStep segment.old segment.new (Construct (new_key_seen key.now) (Strings texts.entry)) (handle_answer result) }
@@ -74,6 +77,7 @@ fn construct_texts(segment: &mut Segment, key: &NewKey, texts: Texts<'_>) -> Res
 /// # Errors
 ///
 /// As the segment's call. The objects are as before.
+#[inline(never)]
 pub fn construct_it(
     segment: &mut Segment,
     key: &NewKey,
@@ -94,6 +98,7 @@ pub fn construct_it(
 ///
 /// As the segment's call. The objects are as before.
 #[tactic(auto, using(crate::proofs::NewKinds::index_kind, crate::proofs::NewKinds::index_some, crate::proofs::NewKinds::index_few))]
+#[inline(never)]
 pub fn find_or_construct(
     segment: &mut Segment,
     key: &IndexKey,
@@ -116,6 +121,7 @@ pub fn find_or_construct(
 }
 
 /// Finds a vector, or makes it of the values where there is none.
+#[inline(never)]
 fn find_or_construct_vector(
     segment: &mut Segment,
     key: &IndexKey,
@@ -138,6 +144,7 @@ fn find_or_construct_vector(
 }
 
 /// Finds a vector of strings, or makes it of the texts where there is none.
+#[inline(never)]
 fn find_or_construct_texts(
     segment: &mut Segment,
     key: &IndexKey,

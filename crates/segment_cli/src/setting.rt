@@ -66,6 +66,7 @@ fn set_scalar(
 }
 
 /// Makes what a literal is the text at `index` in the vector of strings of a key.
+#[inline(never)]
 fn set_text(
     segment: &mut Segment,
     key: &Key,

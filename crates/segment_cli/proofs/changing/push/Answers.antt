@@ -1,9 +1,7 @@
-use Rattle.std.proofs.Common.{◌∙◌, subst}
-use Rattle.seg_types.specs.declared.kinds.Kind.TheVariants.{Texts}
-use Rattle.seg_types.specs.Commands.{Push, Quoted}
+use Rattle.std.proofs.Common.{subst}
 use Rattle.seg_types.specs.Keys.{key_seen}
 use Rattle.segment_lang.specs.Seen.{literal_of}
-use Rattle.segment_manager.specs.State.{IsStepOfKind, done_answer}
+use Rattle.segment_manager.specs.State.{done_answer}
 use Rattle.segment_cli.specs.Changes.{IsNew, IsTextElement}
 use Rattle.segment_cli.proofs.ElementCalls.{push-element}
 use Rattle.segment_cli.proofs.TextElements.{push-text, quoted-fits}
@@ -16,8 +14,8 @@ pub returns-in-Ok-Scalar-clause-step : goal.returns-in-Ok-Scalar-clause-step
 returns-in-Ok-Scalar-clause-step c =
     push-element c.args.segment.now c.push_value.new.segment (key_seen c.args.key.now) (literal_of c.args.literal) c.in-Ok-Scalar.value (subst (IsNew c.args.segment.now (key_seen c.args.key.now) (literal_of c.args.literal)) c.in-Ok-Scalar.field-0-is c.in-Ok-Scalar.ensures) (done_answer c.push_value.result) c.push_value.ensures.step
 
-pub to_text-requires : goal.to_text-requires
-to_text-requires c =
+pub push_text-requires : goal.push_text-requires
+push_text-requires c =
     let e : IsTextElement c.args.segment.now (key_seen c.args.key.now) (literal_of c.args.literal) c.in-Ok-Text.text = subst (IsNew c.args.segment.now (key_seen c.args.key.now) (literal_of c.args.literal)) c.in-Ok-Text.field-0-is c.in-Ok-Text.ensures in
     quoted-fits (literal_of c.args.literal) c.in-Ok-Text.text e.is c.requires
 
@@ -25,5 +23,5 @@ pub returns-in-Ok-Text-clause-step : goal.returns-in-Ok-Text-clause-step
 returns-in-Ok-Text-clause-step c =
     let s = c.args.segment.now in
     let key = key_seen c.args.key.now in
-    push-text s c.texts_push.new.self key (literal_of c.args.literal) c.in-Ok-Text.text (done_answer c.texts_push.result) (subst (IsNew c.args.segment.now (key_seen c.args.key.now) (literal_of c.args.literal)) c.in-Ok-Text.field-0-is c.in-Ok-Text.ensures)
-    (subst (λ bs. IsStepOfKind s c.texts_push.new.self key Texts (Push key (Quoted bs)) (done_answer c.texts_push.result)) (c.as_slice.ensures ∙ c.to_text.ensures) c.texts_push.ensures.step)
+    push-text s c.push_text.new.segment key (literal_of c.args.literal) c.in-Ok-Text.text (done_answer c.push_text.result)
+    (subst (IsNew s key (literal_of c.args.literal)) c.in-Ok-Text.field-0-is c.in-Ok-Text.ensures) c.push_text.ensures.step

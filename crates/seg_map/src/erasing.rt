@@ -29,7 +29,7 @@ pub fn take_out<K: Plain, V: Plain>(
     write_head(heap, handle, at, top, count - 1);
 }
 
-/// Erases a key, and answers whether it was there. Its block is given back; all others keep theirs.
+/// Erases a key, and answers whether it was there: else nothing changes. Its block is given back; all others keep theirs.
 pub fn erase<K: Plain, V: Plain>(
     heap: &mut Heap,
     handle: u64,

@@ -106,7 +106,7 @@ impl<K: Plain, V: Plain> SegMap<K, V> {
         putting::put::<K, V>(heap, self.place.handle, self.place.at, key, value, steps)
     }
 
-    /// Erases a key, and answers whether it was there. Its block is given back; all others keep theirs.
+    /// Erases a key, and answers whether it was there: else nothing changes. Its block is given back; all others keep theirs.
     pub fn erase(self, heap: &mut Heap, key: K, steps: &mut Steps) -> bool
         requires { IsSomeMap K.Plain V.Plain heap.old.bytes self.place.handle self.place.at }
         ensures erased { Erases K.Plain V.Plain heap.old heap.new self.place.handle self.place.at key result }

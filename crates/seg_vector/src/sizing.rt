@@ -71,7 +71,7 @@ impl<T: Plain> SegVec<T> {
         }
     }
 
-    /// Makes places for `n` values, where there are fewer. The values stay.
+    /// Makes places for `n` values, where there are fewer, and else changes nothing. The values stay.
     ///
     /// # Errors
     ///

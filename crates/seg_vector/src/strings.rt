@@ -106,7 +106,7 @@ impl SegString {
         Ok(())
     }
 
-    /// Makes places for `n` bytes, where there are fewer. The bytes stay.
+    /// Makes places for `n` bytes, where there are fewer, and else changes nothing. The bytes stay.
     ///
     /// # Errors
     ///

@@ -47,7 +47,8 @@ impl SegTexts {
     /// # Errors
     ///
     /// `OutOfRange` where there are not so many others: nothing changes. Else `NoSpace` where the array or the text has no gap that
-    /// is long enough: the same blocks are in use as before, with the same bytes.
+    /// is long enough: the same blocks are in use as before, with the same bytes. Nothing changes where it is the block that is
+    /// asked for first: the text's, or the array's where the vector is full.
     pub fn insert(self, heap: &mut Heap, index: u64, text: &[u8]) -> Result<(), Refusal>
         requires { IsSomeTexts heap.old.bytes self.place }
         ensures inserted { InsertsText heap.old heap.new self.place index text.now result }
@@ -77,7 +78,7 @@ impl SegTexts {
     /// # Errors
     ///
     /// `NoSpace` where the array or the text has no gap that is long enough: the same blocks are in use as before, with the same
-    /// bytes.
+    /// bytes. Nothing changes where it is the block that is asked for first: the text's, or the array's where the vector is full.
     pub fn push(self, heap: &mut Heap, text: &[u8]) -> Result<(), Refusal>
         requires { IsSomeTexts heap.old.bytes self.place }
         ensures pushed { PushesText heap.old heap.new self.place text.now result }
@@ -128,7 +129,7 @@ impl SegTexts {
         self.erase(heap, len - 1)
     }
 
-    /// Makes places for `n` texts, where there are fewer. The texts stay.
+    /// Makes places for `n` texts, where there are fewer, and else changes nothing. The texts stay.
     ///
     /// # Errors
     ///
@@ -159,7 +160,7 @@ impl SegTexts {
     /// # Errors
     ///
     /// `NoSpace` where the array or a text has no gap that is long enough: the same blocks are in use as before, with the same
-    /// bytes.
+    /// bytes. Nothing changes where it is the array.
     pub fn assign(self, heap: &mut Heap, texts: &[&[u8]]) -> Result<(), Refusal>
         requires { IsSomeTexts heap.old.bytes self.place }
         ensures assigned { AssignsTexts heap.old heap.new self.place (map (λ text. text.now) texts.now) result }

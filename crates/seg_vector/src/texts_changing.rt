@@ -1,8 +1,9 @@
 //! Vectors of texts that change.
-ghost use Rattle.std.specs.Prelude.{◌≡◌, ◌%◌, ◌<◌, IfSome, List, length, map};
+ghost use Rattle.std.specs.Prelude.{◌≡◌, ◌%◌, ◌<◌, None, IfSome, List, length, map};
+ghost use Rattle.best_fit.specs.Heap.{live_of};
 ghost use Rattle.best_fit.specs.Table.{Table as ATable};
 ghost use Rattle.seg_vector.specs.TextParts.{ReplacesText};
-ghost use Rattle.seg_vector.specs.TextsCalls.{AssignsTexts, ClearsTexts, ErasesText, InsertsText, IsSomeTexts, IsTexts, PopsText, PushesText, ReleasesTexts, ReservesTexts, SetsText, ShrinksTexts};
+ghost use Rattle.seg_vector.specs.TextsCalls.{AssignsTexts, ClearsTexts, ErasesText, InsertsText, IsSomeTexts, IsTexts, PopsText, PushesText, ReleasesTexts, ReservesNoTexts, ReservesTexts, SetsText, ShrinksTexts, StaysAtFirst, new_array};
 ghost use Rattle.seg_vector.specs.Vector.{OwnedText};
 
 use crate::assigning::lay_out;
@@ -46,10 +47,12 @@ impl SegTexts {
     /// # Errors
     ///
     /// `OutOfRange` where there are not so many others: nothing changes. Else `NoSpace` where the array or the text has no gap that
-    /// is long enough: the same blocks are in use as before, with the same bytes.
+    /// is long enough: the same blocks are in use as before, with the same bytes. Nothing changes where it is the block that is
+    /// asked for first: the text's, or the array's where the vector is full.
     pub fn insert(self, heap: &mut Heap, index: u64, text: &[u8]) -> Result<(), Refusal>
         requires { IsSomeTexts heap.old.bytes self.place }
-        ensures { InsertsText heap.old heap.new self.place index text.now result }
+        ensures inserted { InsertsText heap.old heap.new self.place index text.now result }
+        ensures first { StaysAtFirst heap.old heap.new self.place text.now }
     {
         let len = self.len(heap);
         if index > len {
@@ -75,10 +78,11 @@ impl SegTexts {
     /// # Errors
     ///
     /// `NoSpace` where the array or the text has no gap that is long enough: the same blocks are in use as before, with the same
-    /// bytes.
+    /// bytes. Nothing changes where it is the block that is asked for first: the text's, or the array's where the vector is full.
     pub fn push(self, heap: &mut Heap, text: &[u8]) -> Result<(), Refusal>
         requires { IsSomeTexts heap.old.bytes self.place }
-        ensures { PushesText heap.old heap.new self.place text.now result }
+        ensures pushed { PushesText heap.old heap.new self.place text.now result }
+        ensures first { StaysAtFirst heap.old heap.new self.place text.now }
     {
         let len = self.len(heap);
         self.insert(heap, len, text)
@@ -125,14 +129,15 @@ impl SegTexts {
         self.erase(heap, len - 1)
     }
 
-    /// Makes places for `n` texts, where there are fewer. The texts stay.
+    /// Makes places for `n` texts, where there are fewer, and else changes nothing. The texts stay.
     ///
     /// # Errors
     ///
     /// `NoSpace` where there are fewer and the array cannot be lengthened and has no gap that is long enough. Nothing changes.
     pub fn reserve(self, heap: &mut Heap, n: u64) -> Result<(), Refusal>
         requires { IsSomeTexts heap.old.bytes self.place }
-        ensures { ReservesTexts heap.old heap.new self.place n result }
+        ensures reserved { ReservesTexts heap.old heap.new self.place n result }
+        ensures enough { ReservesNoTexts heap.old heap.new self.place n result }
     {
         if n <= self.capacity(heap) {
             return Ok(());
@@ -155,10 +160,11 @@ impl SegTexts {
     /// # Errors
     ///
     /// `NoSpace` where the array or a text has no gap that is long enough: the same blocks are in use as before, with the same
-    /// bytes.
+    /// bytes. Nothing changes where it is the array.
     pub fn assign(self, heap: &mut Heap, texts: &[&[u8]]) -> Result<(), Refusal>
         requires { IsSomeTexts heap.old.bytes self.place }
-        ensures { AssignsTexts heap.old heap.new self.place (map (λ text. text.now) texts.now) result }
+        ensures assigned { AssignsTexts heap.old heap.new self.place (map (λ text. text.now) texts.now) result }
+        ensures first { new_array (live_of heap.old.bytes) (length texts.now) ≡ None → heap.new ≡ heap.old }
     {
         if texts.is_empty() {
             self.clear(heap);

@@ -12,9 +12,9 @@ use Rattle.seg_index.specs.Lookups.{HasKey, Leads, order}
 abbrev pub middle : ℕ → ℕ → ℕ
 middle low high = low + (high - low) / 2
 
--- How many keys are compared among those from `low` on and below `high`, where `stands` says of each how it stands to the one that is
--- looked up: the middle one, and then as many as among those behind it, if it stands before, or among those before it, if it
--- stands behind. The first number is at least as many as the keys that are left.
+-- How many keys are compared among those from `low` on and below `high`, where `stands` says of each how it stands to
+-- the one that is looked up: the middle one, and then as many as among those behind it, if it stands before, or among
+-- those before it, if it stands behind. The first number is at least as many as the keys that are left.
 unfoldable pub comparisons_among : ℕ → (ℕ → Ordering) → ℕ → ℕ → ℕ
 comparisons_among zero stands low high = 0
 comparisons_among (suc most) stands low high =
@@ -29,7 +29,8 @@ comparisons_among (suc most) stands low high =
 
 -- the comparisons of a binary search for a key among the keys of the objects that these handles lead to
 abbrev pub comparisons : Memory → Key → List ℕ → ℕ
-comparisons m key handles = comparisons_among (length handles) (λ i. order m key (unwrap_or (slice_get handles i) 0)) 0 (length handles)
+comparisons m key handles =
+    comparisons_among (length handles) (λ i. order m key (unwrap_or (slice_get handles i) 0)) 0 (length handles)
 
 -- ---- the same over the links of a block
 

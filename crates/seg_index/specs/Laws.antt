@@ -42,11 +42,13 @@ own_codes at = if at % 16 == 0 then at else 0
 abbrev pub seven : List ℕ
 seven = 16 ∷ 32 ∷ 48 ∷ 64 ∷ 80 ∷ 96 ∷ 112 ∷ []
 
--- The law: how the keys stand to the one that is looked up alone decides how many are compared, and these are at most as many as
--- their number has binary digits. Counted by hand: of seven keys the fourth is compared first, then the second or the
--- sixth, then any other; and so two or three where the search ends between two keys.
+-- The law: how the keys stand to the one that is looked up alone decides how many are compared, and these are at most
+-- as many as their number has binary digits. Counted by hand: of seven keys the fourth is compared first, then the
+-- second or the sixth, then any other, and where the search ends between two keys it has compared three; of eight
+-- the fifth, the third, the second and the first.
 pub record SearchesHalve : Type 0 where
-  pub decided : (count : ℕ) (p q : ℕ → Ordering) → ((i : ℕ) → i < count → p i ≡ q i) → comparisons_among count p 0 count ≡ comparisons_among count q 0 count
+  pub decided : (count : ℕ) (p q : ℕ → Ordering) → ((i : ℕ) → i < count → p i ≡ q i)
+      → comparisons_among count p 0 count ≡ comparisons_among count q 0 count
   pub few : (count : ℕ) (stands : ℕ → Ordering) → comparisons_among count stands 0 count ≤ bits count
   pub of_none : comparisons own_codes (Code 64) [] ≡ 0
   pub fourth : comparisons own_codes (Code 64) seven ≡ 1

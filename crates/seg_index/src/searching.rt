@@ -14,9 +14,11 @@ pub fn search(comparisons: &mut Comparisons<'_>, count: u64) -> Lookup
     requires keys { AreKeys comparisons.old.heap.now comparisons.old.block count comparisons.old.key }
     requires few { count < 2 ^ 40 }
     requires none { comparisons.old.count ≡ 0 }
-    ensures place { IsPlaceIn (bytes_of comparisons.old.heap.now.bytes) comparisons.old.key comparisons.old.block count result }
+    ensures place { IsPlaceIn (bytes_of comparisons.old.heap.now.bytes) comparisons.old.key comparisons.old.block
+        count result }
     ensures count { comparisons.new.count ≤ bits count }
-    ensures exact { comparisons.new.count ≡ comparisons_in (bytes_of comparisons.old.heap.now.bytes) comparisons.old.key comparisons.old.block count }
+    ensures exact { comparisons.new.count
+        ≡ comparisons_in (bytes_of comparisons.old.heap.now.bytes) comparisons.old.key comparisons.old.block count }
 {
     let mut low = 0;
     let mut high = count;

@@ -10,9 +10,13 @@ use Rattle.seg_index.proofs.searching.search.Goals as goal
 
 pub compare-requires-clause-entry : goal.compare-requires-clause-entry
 compare-requires-clause-entry c =
-    let a = c.args.comparisons.now in let i = c.halves.invariant in let w = i.narrowed.within in let t = c.halves-test.true in
-    entry_at a.heap.now c.halves.comparisons.heap.now a.key c.halves.comparisons.key a.block c.halves.comparisons.block (middle c.halves.low c.halves.high)
-    (ap (λ b. b.now) i.heap) i.key i.block (entry_of a.heap.now a.key a.block c.args.count (middle c.halves.low c.halves.high) c.requires.keys (omega arith))
+    let a = c.args.comparisons.now in let i = c.halves.invariant in let w = i.narrowed.within in let t =
+    c.halves-test.true in
+    entry_at a.heap.now c.halves.comparisons.heap.now a.key c.halves.comparisons.key a.block c.halves.comparisons.block
+    (middle c.halves.low c.halves.high)
+    (ap (λ b. b.now) i.heap) i.key i.block
+    (entry_of a.heap.now a.key a.block c.args.count (middle c.halves.low c.halves.high) c.requires.keys
+    (omega arith))
 
 pub compare-requires-clause-room : goal.compare-requires-clause-room
 compare-requires-clause-room c =
@@ -22,7 +26,8 @@ pub halves-preserved-in-Less : goal.halves-preserved-in-Less
 halves-preserved-in-Less c =
     let a = c.args.comparisons.now in let i = c.halves.invariant in let n = i.narrowed in let t = c.halves-test.true in
     let low = c.halves.low in let high = c.halves.high in
-    let is = order_here a.heap.now c.halves.comparisons.heap.now a.key c.halves.comparisons.key a.block c.halves.comparisons.block (middle low high) c.compare.result Less
+    let is = order_here a.heap.now c.halves.comparisons.heap.now a.key c.halves.comparisons.key a.block
+    c.halves.comparisons.block (middle low high) c.compare.result Less
     (ap (λ b. b.now) i.heap) i.key i.block c.compare.ensures.order c.in-Less.is in
     let k = i.counted in let more = c.compare.ensures.count in
     let half = bits_half (high - low) (high - (middle low high + 1)) (omega arith) (omega arith) in
@@ -30,16 +35,20 @@ halves-preserved-in-Less c =
       heap = c.compare.ensures.heap ∙ i.heap;
       key = c.compare.ensures.key ∙ i.key;
       block = c.compare.ensures.block ∙ i.block;
-      narrowed = goes_up a.heap.now a.key a.block c.args.count low high (middle low high) c.requires.keys n (omega arith) (omega arith) is;
+      narrowed = goes_up a.heap.now a.key a.block c.args.count low high (middle low high) c.requires.keys n
+          (omega arith) (omega arith) is;
       counted = omega arith;
-      counting = rw more (counts_up (order_at (bytes_of a.heap.now.bytes) a.key a.block) c.args.count low high c.halves.comparisons.count i.counting t is);
+      counting = rw more (counts_up
+          (order_at (bytes_of a.heap.now.bytes) a.key a.block) c.args.count low high c.halves.comparisons.count
+          i.counting t is);
     }
 
 pub halves-preserved : goal.halves-preserved
 halves-preserved c =
     let a = c.args.comparisons.now in let i = c.halves.invariant in let n = i.narrowed in let t = c.halves-test.true in
     let low = c.halves.low in let high = c.halves.high in
-    let is = order_here a.heap.now c.halves.comparisons.heap.now a.key c.halves.comparisons.key a.block c.halves.comparisons.block (middle low high) c.compare.result Greater
+    let is = order_here a.heap.now c.halves.comparisons.heap.now a.key c.halves.comparisons.key a.block
+    c.halves.comparisons.block (middle low high) c.compare.result Greater
     (ap (λ b. b.now) i.heap) i.key i.block c.compare.ensures.order c.in-Greater.is in
     let k = i.counted in let more = c.compare.ensures.count in
     let half = bits_half (high - low) (middle low high - low) (omega arith) (omega arith) in
@@ -47,9 +56,12 @@ halves-preserved c =
       heap = c.compare.ensures.heap ∙ i.heap;
       key = c.compare.ensures.key ∙ i.key;
       block = c.compare.ensures.block ∙ i.block;
-      narrowed = goes_down a.heap.now a.key a.block c.args.count low high (middle low high) c.requires.keys n (omega arith) (omega arith) is;
+      narrowed = goes_down a.heap.now a.key a.block c.args.count low high (middle low high) c.requires.keys n
+          (omega arith) (omega arith) is;
       counted = omega arith;
-      counting = rw more (counts_down (order_at (bytes_of a.heap.now.bytes) a.key a.block) c.args.count low high c.halves.comparisons.count i.counting t is);
+      counting = rw more (counts_down
+          (order_at (bytes_of a.heap.now.bytes) a.key a.block) c.args.count low high c.halves.comparisons.count
+          i.counting t is);
     }
 
 pub returns-in-Equal-clause-count : goal.returns-in-Equal-clause-count
@@ -61,11 +73,17 @@ pub returns-in-Equal-clause-exact : goal.returns-in-Equal-clause-exact
 returns-in-Equal-clause-exact c =
     let a = c.args.comparisons.now in let i = c.halves.invariant in
     let low = c.halves.low in let high = c.halves.high in
-    let is = order_here a.heap.now c.halves.comparisons.heap.now a.key c.halves.comparisons.key a.block c.halves.comparisons.block (middle low high) c.compare.result Equal
+    let is = order_here a.heap.now c.halves.comparisons.heap.now a.key c.halves.comparisons.key a.block
+    c.halves.comparisons.block (middle low high) c.compare.result Equal
     (ap (λ b. b.now) i.heap) i.key i.block c.compare.ensures.order c.in-Equal.is in
-    c.compare.ensures.count ∙ counts_found (order_at (bytes_of a.heap.now.bytes) a.key a.block) c.args.count low high c.halves.comparisons.count i.counting c.halves-test.true is
+    c.compare.ensures.count
+    ∙ counts_found (order_at
+    (bytes_of a.heap.now.bytes) a.key a.block) c.args.count low high c.halves.comparisons.count i.counting
+    c.halves-test.true is
 
 pub returns-clause-exact : goal.returns-clause-exact
 returns-clause-exact c =
     let a = c.args.comparisons.now in let t = c.halves-test.false in
-    counts_none (order_at (bytes_of a.heap.now.bytes) a.key a.block) c.args.count c.halves.low c.halves.high c.halves.comparisons.count c.halves.invariant.counting (omega arith)
+    counts_none (order_at
+    (bytes_of a.heap.now.bytes) a.key a.block) c.args.count c.halves.low c.halves.high c.halves.comparisons.count
+    c.halves.invariant.counting (omega arith)

@@ -14,7 +14,9 @@ invariant-halves l = record {
   block : l.comparisons.block ≡ l.fn.comparisons.block;
   narrowed : Narrowed l.fn.comparisons.heap.now l.fn.comparisons.key l.fn.comparisons.block l.count l.low l.high;
   counted : l.comparisons.count + bits (l.high - l.low) ≤ bits l.count;
-  counting : Counting (order_at (bytes_of l.fn.comparisons.heap.now.bytes) l.fn.comparisons.key l.fn.comparisons.block) l.count l.low l.high l.comparisons.count;
+  counting : Counting (order_at
+      (bytes_of l.fn.comparisons.heap.now.bytes) l.fn.comparisons.key l.fn.comparisons.block) l.count l.low l.high
+      l.comparisons.count;
 }
 
 abbrev pub decreases-halves : goal.decreases-halves

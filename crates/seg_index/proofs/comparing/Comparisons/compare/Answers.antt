@@ -6,4 +6,5 @@ use Rattle.seg_index.proofs.comparing.Comparisons.compare.Goals as goal
 pub overflow_mul-i : goal.overflow_mul-i
 overflow_mul-i c =
     let e = c.requires.entry in
-    let small = room_small c.args.self.now.heap.now c.args.self.now.block (8 * c.args.i + 8) e.keyed.heap e.room in omega arith
+    let small = room_small c.args.self.now.heap.now c.args.self.now.block (8 * c.args.i + 8) e.keyed.heap e.room in
+    omega arith

@@ -18,7 +18,9 @@ use Rattle.seg_index.specs.Index.{AreLinks}
 use Rattle.seg_index.specs.declared.index.Index.{Index}
 use Rattle.seg_index.specs.declared.index.Index.TheVariants.{Named, Unique}
 use Rattle.seg_index.specs.Held.{IsIndexOf, place_of}
-use Rattle.seg_index.specs.Lookups.{AreKeys, HasKey, HasKeys, IsPlace, IsPlaceIn}
+use Rattle.seg_index.specs.Comparing.{comparisons, comparisons_in, order_at}
+use Rattle.seg_index.specs.Lookups.{AreKeys, HasKey, HasKeys, IsPlace, IsPlaceIn, order}
+use Rattle.seg_index.proofs.Counting.{none_left, same_comparisons}
 use Rattle.seg_index.proofs.Rooms.{found_room, has_room-less, room_small}
 
 none_some : (n : ℕ) → None ≡ Some n → ⊥
@@ -140,6 +142,18 @@ place_found c at key t hs block count (Absent j) i leads long p =
 
 pub place_none : (m : Memory) (key : Key) (hs : List ℕ) → length hs ≡ 0 → IsPlace m key hs (Absent 0)
 place_none m key hs z = (omega arith, λ rises k h e. let w = slice_get_within hs k h e in absurd (omega arith))
+
+-- the comparisons over the links of the block are those over the handles
+pub comparisons_found : (c : Cut) (at : ℕ) (key : Key) (t : Table) (hs : List ℕ) (block count : ℕ) → IsIndexOf c at t hs → link_at (bytes_of c.bytes) at ≡ Some block
+    → count ≡ length hs → comparisons_in (bytes_of c.bytes) key block count ≡ comparisons (bytes_of c.bytes) key hs
+comparisons_found c at key t hs block count i leads long =
+    let a = (placed c at t hs block i leads).links in
+    ap (λ n. comparisons_in (bytes_of c.bytes) key block n) long
+    ∙ same_comparisons (length hs) (order_at (bytes_of c.bytes) key block) (λ j. order (bytes_of c.bytes) key (unwrap_or (slice_get hs j) 0)) 0 (length hs)
+    (λ j l. ap (λ (o : Option ℕ). order (bytes_of c.bytes) key (unwrap_or o 0)) (entry_here (bytes_of c.bytes) block hs j a l ∙ sym (slice_get-get_or hs j 0 l)))
+
+pub comparisons_none : (m : Memory) (key : Key) (hs : List ℕ) → length hs ≡ 0 → comparisons m key hs ≡ 0
+comparisons_none m key hs z = none_left (length hs) (λ i. order m key (unwrap_or (slice_get hs i) 0)) 0 (length hs) (omega arith)
 
 pub entry_found : (c : Cut) (at : ℕ) (t : Table) (hs : List ℕ) (block j got : ℕ) (o : Option ℕ) → IsIndexOf c at t hs → link_at (bytes_of c.bytes) at ≡ Some block → j < length hs
     → o ≡ link_at (bytes_of c.bytes) (block + 8 * j) → got ≡ unwrap_or o 0 → slice_get hs j ≡ Some got

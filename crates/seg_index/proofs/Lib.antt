@@ -1,4 +1,5 @@
 mod Changing
+mod Counting
 mod Entries
 mod Finding
 mod Grows

@@ -1,12 +1,16 @@
 -- What holds of indexes beside other calls of their heap.
-use Rattle.std.specs.Prelude.{◌≡◌, ℕ, ◌+◌, Option, Some, List, IsTrue}
+use Rattle.std.specs.Prelude.{◌≡◌, ℕ, ◌+◌, ◌%◌, ◌<◌, ◌≤◌, ◌==◌, if◌then◌else◌, Option, Some, List, [], ◌∷◌, IsTrue}
+use Rattle.std.specs.declared.cmp.Ordering.{Ordering}
 use Rattle.raw_region.specs.Format.{current}
-use Rattle.raw_region.specs.Memory.{Cut, bytes_of}
+use Rattle.raw_region.specs.Memory.{Cut, Memory, bytes_of}
 use Rattle.block_tags.specs.declared.tile.Role.{Role}
+use Rattle.link_tree.specs.Tree.{bits}
 use Rattle.offset_link.specs.Link.{link_at}
 use Rattle.best_fit.specs.Heap.{IsAllocated, IsChanged, IsReleased, has_room, live_of}
 use Rattle.best_fit.specs.Table.{Table}
 use Rattle.seg_index.specs.declared.index.Index.{Index}
+use Rattle.seg_index.specs.declared.keys.Key.TheVariants.{Code}
+use Rattle.seg_index.specs.Comparing.{comparisons, comparisons_among}
 use Rattle.seg_index.specs.Growth.{CanGrow, IsGrowth}
 use Rattle.seg_index.specs.Held.{IsIndexOf, place_of}
 
@@ -30,3 +34,25 @@ pub record GrowthsStay : Type 0 where
   pub released : (i : Index) (a b : Cut) (g : Option ℕ) (h : ℕ) → CanGrow a (place_of i) g → IsReleased current a b h → (g ≡ Some h → ⊥) → CanGrow b (place_of i) g
   pub written : (i : Index) (a b : Cut) (g : Option ℕ) (h at n : ℕ) → CanGrow a (place_of i) g → IsChanged current a b (h + at) n
       → IsTrue (has_room (live_of a.bytes) h (at + n)) → CanGrow b (place_of i) g
+
+-- objects whose kinds have the places of the objects as their codes, and an index of seven
+abbrev pub own_codes : Memory
+own_codes at = if at % 16 == 0 then at else 0
+
+abbrev pub seven : List ℕ
+seven = 16 ∷ 32 ∷ 48 ∷ 64 ∷ 80 ∷ 96 ∷ 112 ∷ []
+
+-- The law: how the keys stand to the one that is looked up alone decides how many are compared, and these are at most
+-- as many as their number has binary digits. Counted by hand: of seven keys the fourth is compared first, then the
+-- second or the sixth, then any other, and where the search ends between two keys it has compared three; of eight
+-- the fifth, the third, the second and the first.
+pub record SearchesHalve : Type 0 where
+  pub decided : (count : ℕ) (p q : ℕ → Ordering) → ((i : ℕ) → i < count → p i ≡ q i)
+      → comparisons_among count p 0 count ≡ comparisons_among count q 0 count
+  pub few : (count : ℕ) (stands : ℕ → Ordering) → comparisons_among count stands 0 count ≤ bits count
+  pub of_none : comparisons own_codes (Code 64) [] ≡ 0
+  pub fourth : comparisons own_codes (Code 64) seven ≡ 1
+  pub second : comparisons own_codes (Code 32) seven ≡ 2
+  pub last : comparisons own_codes (Code 112) seven ≡ 3
+  pub between : comparisons own_codes (Code 33) seven ≡ 3
+  pub before_all : comparisons own_codes (Code 1) (16 ∷ seven) ≡ 4

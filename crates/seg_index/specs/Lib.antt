@@ -1,4 +1,5 @@
 pub mod Capacities
+pub mod Comparing
 pub mod Growth
 pub mod Held
 pub mod Index

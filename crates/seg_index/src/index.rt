@@ -5,11 +5,13 @@ ghost use Rattle.link_tree.specs.Tree.{bits};
 ghost use Rattle.raw_region.specs.Format.{current};
 ghost use Rattle.best_fit.specs.Heap.{IsChanged};
 ghost use Rattle.best_fit.specs.Table.{Table as ATable, no_table};
+ghost use Rattle.seg_index.specs.Comparing.{comparisons};
 ghost use Rattle.seg_index.specs.Held.{HasIndex, IsIndexOf, capacity_at, entry_count, place_of};
 ghost use Rattle.seg_index.specs.Lookups.{HasKeys, IsPlace};
 
+use crate::comparing::Comparisons;
 use crate::keys::{Key, Lookup};
-use crate::searching::Comparisons;
+use crate::searching::search;
 use best_fit::Heap;
 use raw_region::Steps;
 
@@ -79,12 +81,14 @@ impl Index {
             → IsPlace (bytes_of heap.now.bytes) key.entry handles result }
         ensures counted { steps.old ≤ steps.new }
         ensures steps { steps.new ≤ steps.old + bits (entry_count heap.now (place_of self)) }
+        ensures exact { (t : ATable) (handles : List ℕ) → IsIndexOf heap.now (place_of self) t handles
+            → steps.new ≡ steps.old + comparisons (bytes_of heap.now.bytes) key.entry handles }
     {
         let Some(block) = heap.header_link(self.place()) else {
             return Lookup::Absent(0);
         };
-        let mut comparisons = Comparisons::new(heap, key);
-        let result = comparisons.search(block, self.len(heap));
+        let mut comparisons = Comparisons::new(heap, key, block);
+        let result = search(&mut comparisons, self.len(heap));
         steps.add(comparisons.count());
         result
     }

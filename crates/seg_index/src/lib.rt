@@ -6,6 +6,7 @@
 #![tactic(auto)]
 
 mod adding;
+mod comparing;
 mod growing;
 mod index;
 mod keys;

@@ -4,7 +4,7 @@ use Rattle.raw_region.specs.Memory.{bytes_of, part}
 use Rattle.best_fit.specs.Heap.{live_of}
 use Rattle.seg_index.specs.Keys.{name_len_at}
 use Rattle.seg_index.proofs.Rooms.{has_room-less, has_room-live, lent}
-use Rattle.seg_index.proofs.searching.name_of.Goals as goal
+use Rattle.seg_index.proofs.comparing.name_of.Goals as goal
 
 pub word-len-requires : goal.word-len-requires
 word-len-requires c = has_room-less (live_of c.args.heap.now.bytes) c.args.handle 16 (16 + name_len_at (bytes_of c.args.heap.now.bytes) c.args.handle) (omega arith) c.requires.room

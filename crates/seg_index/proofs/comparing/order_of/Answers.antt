@@ -5,7 +5,7 @@ use Rattle.best_fit.specs.Heap.{has_room, live_of}
 use Rattle.seg_index.specs.declared.keys.Key.{Key}
 use Rattle.seg_index.specs.Lookups.{key_end}
 use Rattle.seg_index.proofs.Rooms.{has_room-less}
-use Rattle.seg_index.proofs.searching.order_of.Goals as goal
+use Rattle.seg_index.proofs.comparing.order_of.Goals as goal
 
 pub word-requires : goal.word-requires
 word-requires c =

@@ -1,0 +1,10 @@
+-- The link of the entry lies in the block.
+use Rattle.std.proofs.Common.{◌+◌, ◌*◌, arith}
+use Rattle.seg_index.proofs.Rooms.{room_small}
+use Rattle.seg_index.proofs.comparing.Comparisons.compare.Goals as goal
+
+pub overflow_mul-i : goal.overflow_mul-i
+overflow_mul-i c =
+    let e = c.requires.entry in
+    let small = room_small c.args.self.now.heap.now c.args.self.now.block (8 * c.args.i + 8) e.keyed.heap e.room in
+    omega arith

@@ -1,0 +1,21 @@
+-- What holds of each range of places holds of all.
+use Rattle.std.proofs.Common.{◌≡◌, refl, ◌-◌, ◌≤◌, subst, arith}
+use Rattle.link_tree.specs.Tree.{bits}
+use Rattle.seg_index.specs.Comparing.{comparisons_among}
+use Rattle.raw_region.specs.Memory.{word_at}
+use Rattle.seg_index.proofs.Counting.{few_comparisons, same_comparisons}
+use Rattle.seg_index.proofs.theorems.searches_halve.Goals as goal
+
+pub returns : goal.returns
+unfolding comparisons_among word_at
+returns c = record {
+  decided = λ n p q same. same_comparisons n p q 0 n same;
+  few = λ n stands. let all : n - 0 ≡ n = omega arith in
+      subst (λ k. comparisons_among n stands 0 n ≤ bits k) all (few_comparisons n stands 0 n);
+  of_none = refl;
+  fourth = refl;
+  second = refl;
+  last = refl;
+  between = refl;
+  before_all = refl;
+}

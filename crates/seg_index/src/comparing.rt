@@ -1,0 +1,85 @@
+//! The one way from an entry to the key that it leads to: each comparison is counted.
+ghost use Rattle.std.specs.Prelude.{◌≡◌, ℕ, ◌+◌, ◌*◌, ◌%◌, ◌^◌, ◌<◌, ◌≤◌, Some, IsTrue};
+ghost use Rattle.raw_region.specs.Memory.{bytes_of};
+ghost use Rattle.raw_region.specs.Format.{current};
+ghost use Rattle.best_fit.specs.Heap.{IsHeap, has_room, live_of};
+ghost use Rattle.seg_index.specs.Comparing.{HasEntry, order_at};
+ghost use Rattle.seg_index.specs.Lookups.{HasKey, order};
+ghost use Rattle.seg_index.specs.Keys.{name_at, name_len_at};
+
+use crate::keys::Key;
+use best_fit::Heap;
+use std::cmp::Ordering;
+
+/// A number in the low half of a word.
+const HALF: u64 = 4294967296;
+
+/// The entries of a block, and how often one of their keys was compared with the one that is looked up.
+#[derive(Drop)]
+pub struct Comparisons<'a> {
+    heap: &'a Heap,
+    key: Key<'a>,
+    block: u64,
+    count: u64,
+}
+
+impl<'a> Comparisons<'a> {
+    /// None yet.
+    pub fn new(heap: &'a Heap, key: Key<'a>, block: u64) -> Comparisons<'a>
+        ensures heap { result.heap.now ≡ heap.now }
+        ensures key { result.key ≡ key.entry }
+        ensures block { result.block ≡ block }
+        ensures count { result.count ≡ 0 }
+    {
+        Comparisons {
+            heap,
+            key,
+            block,
+            count: 0,
+        }
+    }
+
+    /// How many there were.
+    pub fn count(&self) -> u64
+        ensures { result ≡ self.now.count }
+    {
+        self.count
+    }
+
+    /// How the key that the entry with `i` others before it leads to stands to the key that is looked up.
+    pub fn compare(&mut self, i: u64) -> Ordering
+        requires entry { HasEntry self.old.heap.now self.old.key self.old.block i }
+        requires room { self.old.count < 2 ^ 63 }
+        ensures order { result ≡ order_at (bytes_of self.old.heap.now.bytes) self.old.key self.old.block i }
+        ensures count { self.new.count ≡ self.old.count + 1 }
+        ensures heap { self.new.heap ≡ self.old.heap }
+        ensures key { self.new.key ≡ self.old.key }
+        ensures block { self.new.block ≡ self.old.block }
+    {
+        self.count += 1;
+        let handle = self.heap.link(self.block, 8 * i).unwrap_or(0);
+        order_of(self.heap, self.key, handle)
+    }
+}
+
+/// How the key of an object stands to a key.
+fn order_of(heap: &Heap, key: Key<'_>, handle: u64) -> Ordering
+    requires key { HasKey heap.now key handle }
+    ensures { result ≡ order (bytes_of heap.now.bytes) key.entry handle }
+{
+    match key {
+        Key::Name(name) => name_of(heap, handle).cmp(name),
+        Key::Code(code) => (heap.word(handle, 0) % HALF).cmp(&u64::from(code)),
+    }
+}
+
+/// The name of an object.
+fn name_of(heap: &Heap, handle: u64) -> &[u8]
+    requires heap { IsHeap current heap.now.bytes }
+    requires room { IsTrue (has_room (live_of heap.now.bytes) handle (16 + name_len_at (bytes_of heap.now.bytes) handle)) }
+    ensures { result.now ≡ name_at (bytes_of heap.now.bytes) handle }
+{
+    let len = heap.word(handle, 8) % HALF;
+    let payload = heap.block(handle);
+    &payload[16..16 + len as usize]
+}

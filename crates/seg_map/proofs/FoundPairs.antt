@@ -12,6 +12,7 @@ use Rattle.seg_types.specs.declared.plain.Plain.{Ghosts as Plain}
 use Rattle.seg_map.specs.Map.{Pair, IsPairAt, is_key, is_rising, pair_at}
 use Rattle.seg_map.specs.PairNodes.{both}
 use Rattle.seg_map.specs.Places.{IsPairIn, first_pair, is_passed, item_of, pair_node, value_of_pair}
+use Rattle.seg_map.specs.Searches.{reading_steps}
 use Rattle.seg_map.proofs.Entering.{Laws, found_in, read_spelled, value_of}
 use Rattle.seg_map.proofs.PairSteps.{any_at}
 
@@ -198,6 +199,15 @@ key_at_node (Some p) node e = record { pair = p; is = refl; at = sym (some_same 
 
 pub key_absent : {K V : Type 0} (o : Option (Pair K V)) → None ≡ option_map pair_node o → o ≡ None
 key_absent = none_node
+
+-- what is not found is not read, and what is found is
+pub reads_none : {K V : Type 0} (o : Option (Pair K V)) → None ≡ option_map pair_node o → reading_steps o ≡ 0
+reads_none None e = refl
+reads_none (Some p) e = absurd (some_none (pair_node p) (sym e))
+
+pub reads_one : {K V : Type 0} (o : Option (Pair K V)) (node : ℕ) → Some node ≡ option_map pair_node o → reading_steps o ≡ 1
+reads_one None node e = absurd (some_none node e)
+reads_one (Some p) node e = refl
 
 -- no key is there, and one is
 pub no_key : {K : Type 0} (r : Option K) (k : K) → r ≡ None → r ≡ Some k → ⊥

@@ -1,5 +1,5 @@
 //! Pairs that are erased.
-ghost use Rattle.std.specs.Prelude.{◌≡◌, ◌+◌, ◌≤◌};
+ghost use Rattle.std.specs.Prelude.{◌≡◌, ◌+◌, ◌≤◌, false};
 ghost use Rattle.seg_map.specs.Changing.{ChangeSteps, Erases, HasKeyNode, TakesOut, TreeSteps};
 ghost use Rattle.seg_map.specs.Places.{IsSomeMap};
 
@@ -25,9 +25,8 @@ pub fn take_out<K: Plain, V: Plain>(
 {
     let root = heap.link(handle, at);
     let count = heap.word(handle, at + COUNT);
-    let changed = unlink::<K>(heap, root, node);
-    write_head(heap, handle, at, changed.root, count - 1);
-    steps.add(changed.steps);
+    let top = unlink::<K>(heap, root, node, steps);
+    write_head(heap, handle, at, top, count - 1);
 }
 
 /// Erases a key, and answers whether it was there. Its block is given back; all others keep theirs.
@@ -42,6 +41,7 @@ pub fn erase<K: Plain, V: Plain>(
     ensures erased { Erases K.Plain V.Plain heap.old heap.new handle at key result }
     ensures counted { steps.old ≤ steps.new }
     ensures steps { ChangeSteps K.Plain V.Plain heap.old handle at steps.old steps.new }
+    ensures absent { result ≡ false → heap.new ≡ heap.old }
 {
     let Some(node) = find::<K, V>(&*heap, handle, at, key, steps) else {
         return false;

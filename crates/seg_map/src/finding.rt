@@ -6,6 +6,7 @@ ghost use Rattle.best_fit.specs.Heap.{has_room, live_of};
 ghost use Rattle.seg_types.specs.Plain.{value_in};
 ghost use Rattle.seg_map.specs.PairNodes.{both};
 ghost use Rattle.seg_map.specs.Places.{FindsItem, FindsKey, FindsNode, FindsValue, IsSomeMap, SearchSteps};
+ghost use Rattle.seg_map.specs.Searches.{LookUpTakes, SearchTakes};
 
 use crate::nodes::Reading;
 use crate::owned::Own;
@@ -28,6 +29,7 @@ fn seek<K: Plain, V: Plain>(
     ensures found { FindsNode K.Plain V.Plain heap.now.bytes handle at sought.now.past sought.now.key result }
     ensures counted { steps.old ≤ steps.new }
     ensures steps { SearchSteps K.Plain V.Plain heap.now.bytes handle at 0 steps.old steps.new }
+    ensures exact { SearchTakes K.Plain V.Plain heap.now handle at sought.now.past sought.now.key steps.old steps.new }
 {
     let root = heap.link(handle, at);
     let pairs = Reading::<K> {
@@ -53,6 +55,7 @@ pub fn find<K: Plain, V: Plain>(
     ensures value { IfSome result (λ node. K.is_value key ≡ true) }
     ensures counted { steps.old ≤ steps.new }
     ensures steps { SearchSteps K.Plain V.Plain heap.now.bytes handle at 1 steps.old steps.new }
+    ensures exact { LookUpTakes K.Plain V.Plain heap.now handle at false key steps.old steps.new }
 {
     let node = seek::<K, V>(heap, handle, at, &Sought { key, past: false }, steps)?;
     steps.add(1);
@@ -88,6 +91,7 @@ pub fn first_from<K: Plain, V: Plain>(
     ensures item { FindsItem K.Plain V.Plain heap.now.bytes handle at false key result }
     ensures counted { steps.old ≤ steps.new }
     ensures steps { SearchSteps K.Plain V.Plain heap.now.bytes handle at 1 steps.old steps.new }
+    ensures exact { LookUpTakes K.Plain V.Plain heap.now handle at false key steps.old steps.new }
 {
     let node = seek::<K, V>(heap, handle, at, &Sought { key, past: false }, steps)?;
     steps.add(1);
@@ -106,6 +110,7 @@ pub fn next_after<K: Plain, V: Plain>(
     ensures item { FindsItem K.Plain V.Plain heap.now.bytes handle at true key result }
     ensures counted { steps.old ≤ steps.new }
     ensures steps { SearchSteps K.Plain V.Plain heap.now.bytes handle at 1 steps.old steps.new }
+    ensures exact { LookUpTakes K.Plain V.Plain heap.now handle at true key steps.old steps.new }
 {
     let node = seek::<K, V>(heap, handle, at, &Sought { key, past: true }, steps)?;
     steps.add(1);
@@ -124,6 +129,7 @@ pub fn get<K: Plain, V: Plain>(
     ensures value { FindsValue K.Plain V.Plain heap.now.bytes handle at key result }
     ensures counted { steps.old ≤ steps.new }
     ensures steps { SearchSteps K.Plain V.Plain heap.now.bytes handle at 1 steps.old steps.new }
+    ensures exact { LookUpTakes K.Plain V.Plain heap.now handle at false key steps.old steps.new }
 {
     let (found, value) = first_from::<K, V>(heap, handle, at, key, steps)?;
     if key.precedes(found) {

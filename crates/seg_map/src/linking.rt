@@ -1,12 +1,13 @@
 //! Nodes that enter and leave the tree of a map.
-ghost use Rattle.std.specs.Prelude.{◌≡◌, Some, None};
+ghost use Rattle.std.specs.Prelude.{◌≡◌, ◌-◌, ◌≤◌, Some, None};
 ghost use Rattle.seg_map.specs.PairNodes.{own_nodes};
 ghost use Rattle.seg_map.specs.Linking.{CanLink, CanUnlink, Linked, Unlinked};
 
 use crate::nodes::Pairs;
 use crate::owned::Own;
 use best_fit::Heap;
-use link_tree::{Changed, insert, remove};
+use link_tree::{insert, remove};
+use raw_region::Steps;
 use seg_types::Plain;
 use std::marker::PhantomData;
 
@@ -24,38 +25,66 @@ fn lend<'a, K: Plain>(heap: &'a mut Heap, root: Option<u64>, spare: Option<u64>)
     }
 }
 
-/// `remove` of the tree, which keeps the heap's reference.
-fn uproot<K: Plain>(pairs: &mut Pairs<K>, root: Option<u64>, node: u64) -> Changed
+/// `remove` of the tree, which keeps the heap's reference. What it takes is counted here, and nowhere else.
+fn uproot<K: Plain>(
+    pairs: &mut Pairs<K>,
+    root: Option<u64>,
+    node: u64,
+    steps: &mut Steps,
+) -> Option<u64>
     requires { CanUnlink K.Plain pairs.old.own pairs.old.heap.now root node }
     ensures reference { pairs.new.heap.ghost_name ≡ pairs.old.heap.ghost_name }
-    ensures change { Unlinked K.Plain pairs.old.own pairs.old.heap.now pairs.new.heap.now root node result.root result.steps }
+    ensures counted { steps.old ≤ steps.new }
+    ensures change { Unlinked K.Plain pairs.old.own pairs.old.heap.now pairs.new.heap.now root node result (steps.new - steps.old) }
 {
-    remove(pairs, root, node)
+    let changed = remove(pairs, root, node);
+    steps.add(changed.steps);
+    changed.root
 }
 
-/// `insert` of the tree, which keeps the heap's reference.
-fn plant<K: Plain>(pairs: &mut Pairs<K>, root: Option<u64>, node: u64) -> Changed
+/// `insert` of the tree, which keeps the heap's reference. What it takes is counted here, and nowhere else.
+fn plant<K: Plain>(
+    pairs: &mut Pairs<K>,
+    root: Option<u64>,
+    node: u64,
+    steps: &mut Steps,
+) -> Option<u64>
     requires { CanLink K.Plain pairs.old.own pairs.old.heap.now root node }
     ensures reference { pairs.new.heap.ghost_name ≡ pairs.old.heap.ghost_name }
-    ensures change { Linked K.Plain pairs.old.own pairs.old.heap.now pairs.new.heap.now root node result.root result.steps }
+    ensures counted { steps.old ≤ steps.new }
+    ensures change { Linked K.Plain pairs.old.own pairs.old.heap.now pairs.new.heap.now root node result (steps.new - steps.old) }
 {
-    insert(pairs, root, node)
+    let changed = insert(pairs, root, node);
+    steps.add(changed.steps);
+    changed.root
 }
 
-/// Takes a node out of the tree that a link leads to, and answers the new root and the steps.
-pub fn unlink<K: Plain>(heap: &mut Heap, root: Option<u64>, node: u64) -> Changed
+/// Takes a node out of the tree that a link leads to, and answers the new root.
+pub fn unlink<K: Plain>(
+    heap: &mut Heap,
+    root: Option<u64>,
+    node: u64,
+    steps: &mut Steps,
+) -> Option<u64>
     requires { CanUnlink K.Plain (own_nodes heap.old.bytes root None) heap.old root node }
-    ensures { Unlinked K.Plain (own_nodes heap.old.bytes root None) heap.old heap.new root node result.root result.steps }
+    ensures counted { steps.old ≤ steps.new }
+    ensures change { Unlinked K.Plain (own_nodes heap.old.bytes root None) heap.old heap.new root node result (steps.new - steps.old) }
 {
     let mut pairs = lend::<K>(heap, root, None);
-    uproot(&mut pairs, root, node)
+    uproot(&mut pairs, root, node, steps)
 }
 
-/// Puts a node into the tree that a link leads to, and answers the new root and the steps.
-pub fn link<K: Plain>(heap: &mut Heap, root: Option<u64>, node: u64) -> Changed
+/// Puts a node into the tree that a link leads to, and answers the new root.
+pub fn link<K: Plain>(
+    heap: &mut Heap,
+    root: Option<u64>,
+    node: u64,
+    steps: &mut Steps,
+) -> Option<u64>
     requires { CanLink K.Plain (own_nodes heap.old.bytes root (Some node)) heap.old root node }
-    ensures { Linked K.Plain (own_nodes heap.old.bytes root (Some node)) heap.old heap.new root node result.root result.steps }
+    ensures counted { steps.old ≤ steps.new }
+    ensures change { Linked K.Plain (own_nodes heap.old.bytes root (Some node)) heap.old heap.new root node result (steps.new - steps.old) }
 {
     let mut pairs = lend::<K>(heap, root, Some(node));
-    plant(&mut pairs, root, node)
+    plant(&mut pairs, root, node, steps)
 }

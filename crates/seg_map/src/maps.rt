@@ -4,6 +4,7 @@ ghost use Rattle.best_fit.specs.Extents.{is_proper};
 ghost use Rattle.best_fit.specs.Heap.{has_room, live_of};
 ghost use Rattle.seg_map.specs.Changing.{ChangeSteps, CountsPairs, Erases, IsNew, Puts, Releases};
 ghost use Rattle.seg_map.specs.Places.{FindsItem, FindsValue, IsSomeMap, SearchSteps};
+ghost use Rattle.seg_map.specs.Searches.{LookUpTakes};
 
 use crate::places::Place;
 use crate::releasing::give_up_all;
@@ -63,6 +64,7 @@ impl<K: Plain, V: Plain> SegMap<K, V> {
         ensures value { FindsValue K.Plain V.Plain heap.now.bytes self.place.handle self.place.at key result }
         ensures counted { steps.old ≤ steps.new }
         ensures steps { SearchSteps K.Plain V.Plain heap.now.bytes self.place.handle self.place.at 1 steps.old steps.new }
+        ensures exact { LookUpTakes K.Plain V.Plain heap.now self.place.handle self.place.at false key steps.old steps.new }
     {
         finding::get::<K, V>(heap, self.place.handle, self.place.at, key, steps)
     }
@@ -73,6 +75,7 @@ impl<K: Plain, V: Plain> SegMap<K, V> {
         ensures item { FindsItem K.Plain V.Plain heap.now.bytes self.place.handle self.place.at false key result }
         ensures counted { steps.old ≤ steps.new }
         ensures steps { SearchSteps K.Plain V.Plain heap.now.bytes self.place.handle self.place.at 1 steps.old steps.new }
+        ensures exact { LookUpTakes K.Plain V.Plain heap.now self.place.handle self.place.at false key steps.old steps.new }
     {
         finding::first_from::<K, V>(heap, self.place.handle, self.place.at, key, steps)
     }
@@ -83,6 +86,7 @@ impl<K: Plain, V: Plain> SegMap<K, V> {
         ensures item { FindsItem K.Plain V.Plain heap.now.bytes self.place.handle self.place.at true key result }
         ensures counted { steps.old ≤ steps.new }
         ensures steps { SearchSteps K.Plain V.Plain heap.now.bytes self.place.handle self.place.at 1 steps.old steps.new }
+        ensures exact { LookUpTakes K.Plain V.Plain heap.now self.place.handle self.place.at true key steps.old steps.new }
     {
         finding::next_after::<K, V>(heap, self.place.handle, self.place.at, key, steps)
     }
@@ -108,6 +112,7 @@ impl<K: Plain, V: Plain> SegMap<K, V> {
         ensures erased { Erases K.Plain V.Plain heap.old heap.new self.place.handle self.place.at key result }
         ensures counted { steps.old ≤ steps.new }
         ensures steps { ChangeSteps K.Plain V.Plain heap.old self.place.handle self.place.at steps.old steps.new }
+        ensures absent { result ≡ false → heap.new ≡ heap.old }
     {
         erasing::erase::<K, V>(heap, self.place.handle, self.place.at, key, steps)
     }

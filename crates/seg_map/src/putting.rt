@@ -81,9 +81,8 @@ fn put_in<K: Plain, V: Plain>(heap: &mut Heap, handle: u64, at: u64, node: u64, 
 {
     let root = heap.link(handle, at);
     let count = heap.word(handle, at + COUNT);
-    let changed = link::<K>(heap, root, node);
-    write_head(heap, handle, at, changed.root, count + 1);
-    steps.add(changed.steps);
+    let top = link::<K>(heap, root, node, steps);
+    write_head(heap, handle, at, top, count + 1);
 }
 
 /// Puts the value of a key, and answers whether the key is new. All other pairs keep their blocks, and so does this one

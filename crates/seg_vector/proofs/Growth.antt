@@ -65,6 +65,10 @@ pub grows-nothing : (old new : Cut) (each n : ℕ) (t : Table) → t.capacity < 
 grows-nothing old new each n t f p =
     record { none = grown-more (live_of old.bytes) each n t f ∙ ap (option_map (λ x. table n (Some x))) p.none; same = p.same }
 
+-- where there are so many places there is no such refusal
+pub not-refused : (old new : Cut) (each n : ℕ) (t : Table) → n ≤ t.capacity → IsNotGrown old new each n t → ⊥
+not-refused old new each n t f r = let none = sym (grown-same (live_of old.bytes) each n t f) ∙ r.none in cc
+
 -- ---- nothing to do
 
 pub back : (l : LiveSet) (h : ℕ) (o : Option Extent) → IsTrue (is_proper l) → IsOwnBlock l h o → exchanged l (option_to_list o) (option_to_list o) ≡ l
@@ -86,6 +90,7 @@ grows-not c p each n len t bytes heap f s =
         blocks = all-same-but (bytes_of c.bytes) (bytes_of c.bytes) (place_at p) 24 (without_all (option_to_list t.extent) l.extents) k.blocks;
       };
       stands = s;
+      enough = λ less. refl;
     }
 
 -- ---- the block of the container, once the storage is regrown
@@ -244,6 +249,7 @@ grows-more old mid s1 new p each n len g t bytes heap more s r c1 link c2 word =
         long = s.long;
         own = (ap (λ l. extent_at l (handle y)) after ∙ new_found, k.other);
       };
+      enough = λ less. absurd (omega (arith, less, more));
     }
 
 -- ---- what the calls of the heap say of the container

@@ -14,7 +14,7 @@ use Rattle.best_fit.proofs.Laws.{Differs, IsFresh, exchange-order, keeps-refl, l
 use Rattle.seg_vector.specs.declared.places.Place.{Place}
 use Rattle.seg_vector.specs.Standing.{place_at}
 use Rattle.seg_vector.specs.TextParts.{IsAdopted, IsAsked, IsNotAsked, IsPutReady, IsRefusedPut, IsTextNotPlaced, IsTextPlaced, taken, widened}
-use Rattle.seg_vector.specs.TextsCalls.{IsTextPutIn, IsTexts, IsTextsNow, placed_text, with_array}
+use Rattle.seg_vector.specs.TextsCalls.{IsStillAtFirst, IsTextPutIn, IsTexts, IsTextsNow, placed_text, with_array}
 use Rattle.seg_vector.specs.Vector.{AreTextLinks, OwnedText, capacity_for_one, grown_table}
 use Rattle.seg_vector.proofs.Pushing.{capacity-bytes}
 use Rattle.seg_vector.proofs.TextsShrunk.{raw, texts-stand}
@@ -96,11 +96,32 @@ after l t bytes o = elim o [ None ↦ None | Some u ↦ placed_text (with_array 
 pub restored-same : (a b : Cut) → IsHeap current a.bytes → b ≡ a → IsRestored current a b
 restored-same a b heap e = subst (IsRestored current a) (sym e) (record { laid = heap; keeps = keeps-refl a (live_of a.bytes).extents })
 
+-- where nothing changes, nothing does at first
+same-first : (old new : Cut) (ps : List OwnedText) (t : Table) (bytes : List ℕ) → new ≡ old → IsStillAtFirst old new ps t bytes
+same-first old new ps t bytes e = record { text = λ f none. e; array = λ none. e }
+
 pub within-err : (s0 s1 : Cut) (p : Place) (ps : List OwnedText) (t : Table) (bytes : List ℕ) → IsTexts s0.bytes p ps t → length ps < t.capacity → IsTextNotPlaced s0 s1 bytes → IsRefusedPut s0 s1 ps t bytes
 within-err s0 s1 p ps t bytes s space r = record {
   none = ap (after (live_of s0.bytes) t bytes) (same-grown-one (live_of s0.bytes) ps t space) ∙ ap (λ l. placed_text l bytes) (same-array (live_of s0.bytes) t) ∙ r.none;
   restored = restored-same s0 s1 s.heap r.same;
+  first = same-first s0 s1 ps t bytes r.same;
 }
+
+-- ---- the first block that is asked for
+
+-- a text that is put in had both
+pub first-put : (old new : Cut) (p : Place) (ps : List OwnedText) (t : Table) (i : ℕ) (bytes : List ℕ) → IsTextPutIn old new p ps t i bytes → IsStillAtFirst old new ps t bytes
+first-put old new p ps t i bytes w =
+    let l : LiveSet = live_of old.bytes in
+    record {
+      text = λ f none.
+          let tables : Some t ≡ Some w.table = sym (same-grown-one l ps t f) ∙ w.grown in
+          let same : t ≡ w.table = cc in
+          let placed : placed_text l bytes ≡ Some w.text = ap (λ s. placed_text s bytes) (sym (same-array l t)) ∙ ap (λ (u : Table). placed_text (with_array l t u) bytes) same ∙ w.placed in
+          let both = sym placed ∙ none in
+          absurd (cc);
+      array = λ none. let both = sym w.grown ∙ none in absurd (cc);
+    }
 
 -- ---- in an array with more places
 
@@ -173,16 +194,21 @@ pub growing-none : (s0 s1 : Cut) (p : Place) (ps : List OwnedText) (t : Table) (
 growing-none s0 s1 p ps t n bytes s more wanted r = record {
   none = ap (after (live_of s0.bytes) t bytes) (ap (λ k. grown_table (live_of s0.bytes) 16 k t) (sym wanted) ∙ not-grown (live_of s0.bytes) n t more r.none);
   restored = restored-same s0 s1 s.heap r.same;
+  first = same-first s0 s1 ps t bytes r.same;
 }
 
-pub growing-err : (s0 s1 s2 new : Cut) (ps : List OwnedText) (t : Table) (g n : ℕ) (bytes : List ℕ) → t.capacity < n → n ≡ capacity_for_one (length ps) t.capacity → IsAsked s0 s1 t.extent (16 * n) g → IsTextNotPlaced s1 s2 bytes
+pub growing-err : (s0 s1 s2 new : Cut) (ps : List OwnedText) (t : Table) (g n : ℕ) (bytes : List ℕ) → t.capacity < n → n ≡ capacity_for_one (length ps) t.capacity → t.capacity ≤ length ps → IsAsked s0 s1 t.extent (16 * n) g → IsTextNotPlaced s1 s2 bytes
     → IsRestored current s0 new → IsRefusedPut s0 new ps t bytes
-growing-err s0 s1 s2 new ps t g n bytes more wanted a r back =
+growing-err s0 s1 s2 new ps t g n bytes more wanted full a r back =
     let l : LiveSet = live_of s0.bytes in
     let x : IsAskedExtent s0 s1 t.extent (16 * n) = asked-extent s0 s1 t.extent (16 * n) g a in
     record {
       none = ap (after l t bytes) (ap (λ k. grown_table l 16 k t) (sym wanted) ∙ grown-to l n t x.extent more x.regrown) ∙ ap (λ (s : LiveSet). placed_text s bytes) (more-array l t n x.extent more ∙ sym x.live) ∙ r.none;
       restored = back;
+      first = record {
+        text = λ f none. absurd (omega (arith, f, full));
+        array = λ none. let both = sym (ap (λ k. grown_table l 16 k t) (sym wanted) ∙ grown-to l n t x.extent more x.regrown) ∙ none in absurd (cc);
+      };
     }
 
 full-if : (k c : ℕ) (b : Bool) → nat_lt k c ≡ b → c ≤ k → (if b then c else max 4 (2 * c)) ≡ max 4 (2 * c)

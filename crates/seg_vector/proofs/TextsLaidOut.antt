@@ -1,5 +1,5 @@
 -- An array that was taken into use, and the texts that are laid out in it: all of them, or none once it is given up.
-use Rattle.std.proofs.Common.{◌≡◌, ◌≢◌, sym, ap, subst, ◌∙◌, inr, ℕ, ◌+◌, ◌*◌, ◌<◌, ◌≤◌, Option, Some, None, List, [], ◌∷◌, ◌++◌, append-nil, arith, length, drop, if◌then◌else◌}
+use Rattle.std.proofs.Common.{◌≡◌, ◌≢◌, refl, sym, ap, subst, ◌∙◌, inr, ℕ, ◌+◌, ◌*◌, ◌<◌, ◌≤◌, Option, Some, None, List, [], ◌∷◌, ◌++◌, append-nil, arith, length, drop, if◌then◌else◌}
 use Rattle.std.specs.Prelude.{IsTrue, option_map}
 use Rattle.std.specs.List.{AllByRecursion}
 use Rattle.std.proofs.lemmas.Bool.{and_parts, leb-true, ne_eqb}
@@ -37,10 +37,16 @@ no-array l more f e = ap (texts_after l more) (new-array l (length more) f ∙ a
 in-array : (l : LiveSet) (more : List (List ℕ)) (y : Extent) → 0 < length more → place l (16 * length more) Storage ≡ Some y → all_texts l more ≡ placed_texts (resized l y) more
 in-array l more y f e = ap (texts_after l more) (new-array l (length more) f ∙ ap (option_map (λ (x : Extent). table (length more) (Some x))) e)
 
+-- an array that fits has space
+pub fitted : (l : LiveSet) (more : List (List ℕ)) (y : Extent) → 0 < length more → place l (16 * length more) Storage ≡ Some y → new_array l (length more) ≡ None → ⊥
+fitted l more y f e none =
+    let some : new_array l (length more) ≡ Some (table (length more) (Some y)) = new-array l (length more) f ∙ ap (option_map (λ (x : Extent). table (length more) (Some x))) e in
+    let both = sym some ∙ none in cc
+
 -- ---- nothing is laid out
 
 unchanged : (c : Cut) (more : List (List ℕ)) → IsHeap current c.bytes → all_texts (live_of c.bytes) more ≡ None → AreNotLaidOut c c more
-unchanged c more heap e = record { none = e; restored = record { laid = heap; keeps = keeps-refl c (live_of c.bytes).extents } }
+unchanged c more heap e = record { none = e; restored = record { laid = heap; keeps = keeps-refl c (live_of c.bytes).extents }; first = λ none. refl }
 
 pub out-of-reach : (c : Cut) (n : ℕ) (more : List (List ℕ)) → IsHeap current c.bytes → n ≡ length more → 1073741824 < n → AreNotLaidOut c c more
 out-of-reach c n more heap e f = unchanged c more heap (no-array (live_of c.bytes) more (omega (arith, e, f)) (too_long c (16 * length more) Storage heap (omega (arith, e, f))))
@@ -164,6 +170,7 @@ taken-off old mid new left last n k g more t e some w short x r =
           ∙ a.placed
           ∙ ap (option_map (λ (qs : List OwnedText). a.texts ++ qs)) (w.stopped (below k n (length more) short e w.within));
       restored = swapped-back old last (exchange-next current old left last 0 0 [] (y ∷ []) (y ∷ []) [] [] (spread-refl (y ∷ [])) alone gone);
+      first = λ none. absurd (fitted (live_of old.bytes) more y (omega (arith, e, some)) fit none);
     }
   where
     below : (k n m : ℕ) → k ≢ n → n ≡ m → k ≤ m → k < m

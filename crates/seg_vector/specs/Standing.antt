@@ -33,12 +33,13 @@ pub record Stands (b : List ℕ) (p : Place) (each len : ℕ) (t : Table) (bytes
 abbrev pub IsStanding : List ℕ → Place → ℕ → Type 0
 IsStanding b p each = (len : ℕ) × ((t : Table) × ((bytes : List ℕ) × Stands b p each len t bytes))
 
--- the same container with n places, or more; of all blocks that stay no byte changes but its own 24
+-- the same container with n places, or more; of all blocks that stay no byte changes but its own 24, and nothing does where it had them
 pub record IsGrown (old new : Cut) (p : Place) (each n len : ℕ) (t : Table) (bytes : List ℕ) : Type 0 where
   pub table : Table
   pub grown : grown_table (live_of old.bytes) each n t ≡ Some table
   pub change : IsExchanged current old new (place_at p) 24 (option_to_list t.extent) (option_to_list table.extent)
   pub stands : Stands new.bytes p each len table bytes
+  pub enough : n ≤ t.capacity → new ≡ old
 
 -- there is no space for so many, and nothing changes
 pub record IsNotGrown (old new : Cut) (each n : ℕ) (t : Table) : Type 0 where

@@ -1,5 +1,5 @@
 -- A text at a place, and what its calls answer and do: elements of a byte each, under their own bytes.
-use Rattle.std.specs.Prelude.{◌≡◌, ℕ, ◌<◌, Some, Result, MatchResult, List, [], ◌++◌, length, slice_get, slice_set, option_to_list}
+use Rattle.std.specs.Prelude.{◌≡◌, ℕ, ◌<◌, ◌≤◌, Some, Result, Ok, MatchResult, List, [], ◌++◌, length, slice_get, slice_set, option_to_list}
 use Rattle.raw_region.specs.Memory.{Cut}
 use Rattle.raw_region.specs.Format.{current}
 use Rattle.best_fit.specs.Exchange.{IsExchanged}
@@ -61,6 +61,10 @@ ClearsText old new p = (bytes : List ℕ) (t : Table) → IsText old.bytes p byt
 abbrev pub ReservesBytes : Cut → Cut → Place → ℕ → Result (Unit {0}) Refusal → Type 0
 ReservesBytes old new p n result =
     (bytes : List ℕ) (t : Table) → IsText old.bytes p bytes t → MatchResult result (λ u. IsTextGrown old new p t n bytes) (IsWithoutSpace old new 1 n t)
+
+-- where there are n places already, nothing changes
+abbrev pub ReservesNoBytes : Cut → Cut → Place → ℕ → Result (Unit {0}) Refusal → Type 0
+ReservesNoBytes old new p n result = (bytes : List ℕ) (t : Table) → IsText old.bytes p bytes t → n ≤ t.capacity → (result ≡ Ok tt) × (new ≡ old)
 
 abbrev pub AssignsText : Cut → Cut → Place → List ℕ → Result (Unit {0}) Refusal → Type 0
 AssignsText old new p more result =

@@ -11,7 +11,7 @@ use Rattle.best_fit.specs.Heap.{IsAllocated, IsChanged, IsHeap, SameBlock, exten
 use Rattle.best_fit.specs.Table.{Table, is_table, serves}
 use Rattle.block_tags.specs.declared.tile.Role.TheVariants.{Storage}
 use Rattle.seg_vector.specs.declared.places.Place.{Place}
-use Rattle.seg_vector.specs.TextsCalls.{AreOthers, IsTextPutIn, IsTexts, IsTextsNow, one_more, placed_text, text_blocks}
+use Rattle.seg_vector.specs.TextsCalls.{AreOthers, IsStillAtFirst, IsTextPutIn, IsTexts, IsTextsNow, one_more, placed_text, text_blocks}
 use Rattle.seg_vector.specs.Standing.{place_at}
 use Rattle.seg_vector.specs.Vector.{AreTextLinks, IsOwnedText, OwnedText, capacity_for_one, grown_table}
 
@@ -198,6 +198,7 @@ GivesUp old new p g room =
 pub record IsRefusedPut (old new : Cut) (ps : List OwnedText) (t : Table) (bytes : List ℕ) : Type 0 where
   pub none : one_more (live_of old.bytes) ps t bytes ≡ None
   pub restored : IsRestored current old new
+  pub first : IsStillAtFirst old new ps t bytes
 
 abbrev pub PutsInto : {E : Type 0} → Cut → Cut → Place → List OwnedText → Table → ℕ → List ℕ → Result (Unit {0}) E → Type 0
 PutsInto old new p ps t i bytes result = MatchResult result (λ u. IsTextPutIn old new p ps t i bytes) (λ e. IsRefusedPut old new ps t bytes)

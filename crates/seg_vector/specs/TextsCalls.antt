@@ -130,6 +130,14 @@ pub record IsTextPutIn (old new : Cut) (p : Place) (ps : List OwnedText) (t : Ta
 abbrev pub one_more : LiveSet → List OwnedText → Table → List ℕ → Option OwnedText
 one_more live ps t bytes = elim (grown_table live 16 (capacity_for_one (length ps) t.capacity) t) [ None ↦ None | Some u ↦ placed_text (with_array live t u) bytes ]
 
+-- Where the block that is asked for first has no space, nothing changes: it is the text's where there is a place, and else the array's.
+pub record IsStillAtFirst (old new : Cut) (ps : List OwnedText) (t : Table) (bytes : List ℕ) : Type 0 where
+  pub text : length ps < t.capacity → placed_text (live_of old.bytes) bytes ≡ None → new ≡ old
+  pub array : grown_table (live_of old.bytes) 16 (capacity_for_one (length ps) t.capacity) t ≡ None → new ≡ old
+
+abbrev pub StaysAtFirst : Cut → Cut → Place → List ℕ → Type 0
+StaysAtFirst old new p bytes = (ps : List OwnedText) (t : Table) → IsTexts old.bytes p ps t → IsStillAtFirst old new ps t bytes
+
 abbrev pub PushesText : Cut → Cut → Place → List ℕ → Result (Unit {0}) Refusal → Type 0
 PushesText old new p bytes result =
     (ps : List OwnedText) (t : Table) → IsTexts old.bytes p ps t
@@ -175,6 +183,10 @@ ReservesTexts old new p n result =
     → MatchResult result
     (λ u. (w : Table) × (grown_table (live_of old.bytes) 16 n t ≡ Some w) × IsTextsNow old new p (option_to_list t.extent) (option_to_list w.extent) ps w)
     (IsWithoutFit old new (grown_table (live_of old.bytes) 16 n t))
+
+-- where there are n places already, nothing changes
+abbrev pub ReservesNoTexts : Cut → Cut → Place → ℕ → Result (Unit {0}) Refusal → Type 0
+ReservesNoTexts old new p n result = (ps : List OwnedText) (t : Table) → IsTexts old.bytes p ps t → n ≤ t.capacity → (result ≡ Ok tt) × (new ≡ old)
 
 abbrev pub ShrinksTexts : Cut → Cut → Place → Type 0
 ShrinksTexts old new p =

@@ -1,5 +1,5 @@
 -- A vector at a place, of any type whose values are spelled by `size` bytes, and what its calls answer and do.
-use Rattle.std.specs.Prelude.{◌≡◌, ℕ, ◌+◌, ◌-◌, ◌<◌, ◌≤◌, ◌⊎◌, Bool, IsTrue, Some, None, Result, MatchResult, List, [], ◌∷◌, ◌++◌, length, take, insert, remove, slice_get, slice_set, flat_map, option_to_list}
+use Rattle.std.specs.Prelude.{◌≡◌, ℕ, ◌+◌, ◌-◌, ◌<◌, ◌≤◌, ◌⊎◌, Bool, IsTrue, Some, None, Result, Ok, MatchResult, List, [], ◌∷◌, ◌++◌, length, take, insert, remove, slice_get, slice_set, flat_map, option_to_list}
 use Rattle.std.specs.List.{list_all}
 use Rattle.raw_region.specs.Memory.{Cut}
 use Rattle.raw_region.specs.Format.{current}
@@ -102,6 +102,11 @@ abbrev pub Reserves : {T : Type 0} → ℕ → (T → Bool) → (T → List ℕ)
 Reserves {T} size is_value spelling old new p n result =
     (xs : List T) (t : Table) → IsVector size is_value spelling old.bytes p xs t
     → MatchResult result (λ u. IsVectorGrown size is_value spelling old new p t n xs) (IsWithoutSpace old new size n t)
+
+-- where there are n places already, nothing changes
+abbrev pub ReservesNothing : {T : Type 0} → ℕ → (T → Bool) → (T → List ℕ) → Cut → Cut → Place → ℕ → Result (Unit {0}) Refusal → Type 0
+ReservesNothing {T} size is_value spelling old new p n result =
+    (xs : List T) (t : Table) → IsVector size is_value spelling old.bytes p xs t → n ≤ t.capacity → (result ≡ Ok tt) × (new ≡ old)
 
 abbrev pub Assigns : {T : Type 0} → ℕ → (T → Bool) → (T → List ℕ) → Cut → Cut → Place → List T → Result (Unit {0}) Refusal → Type 0
 Assigns {T} size is_value spelling old new p ys result =

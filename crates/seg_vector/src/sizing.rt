@@ -2,7 +2,7 @@
 ghost use Rattle.std.specs.Prelude.{◌≡◌, ◌+◌, ◌*◌, ◌<◌, ◌≤◌, ◌++◌, length, List};
 ghost use Rattle.best_fit.specs.Table.{Table as ATable};
 ghost use Rattle.seg_vector.specs.Vector.{capacity_for_one as places_for_one};
-ghost use Rattle.seg_vector.specs.VectorCalls.{Assigns, Clears, InsertsInto, IsSomeVector, IsVector, IsVectorNow, Pushes, PutsAll, Releases, Reserves, Shrinks};
+ghost use Rattle.seg_vector.specs.VectorCalls.{Assigns, Clears, InsertsInto, IsSomeVector, IsVector, IsVectorNow, Pushes, PutsAll, Releases, Reserves, ReservesNothing, Shrinks};
 
 use crate::accessing::truncate;
 use crate::fitting::fit;
@@ -78,7 +78,8 @@ impl<T: Plain> SegVec<T> {
     /// `NoSpace` where there are fewer and the storage cannot be regrown. Nothing changes.
     pub fn reserve(self, heap: &mut Heap, n: u64) -> Result<(), Refusal>
         requires { IsSomeVector T.SIZE T.is_value T.spelling heap.old.bytes self.place }
-        ensures { Reserves T.SIZE T.is_value T.spelling heap.old heap.new self.place n result }
+        ensures reserved { Reserves T.SIZE T.is_value T.spelling heap.old heap.new self.place n result }
+        ensures enough { ReservesNothing T.SIZE T.is_value T.spelling heap.old heap.new self.place n result }
     {
         match growing::reserve(heap, self.place, T::SIZE, n) {
             Err(NoSpace) => Err(Refusal::NoSpace),

@@ -3,7 +3,7 @@ ghost use Rattle.std.specs.Prelude.{◌≡◌, ◌+◌, ◌*◌, ◌%◌, ◌<�
 ghost use Rattle.raw_region.specs.Format.{current};
 ghost use Rattle.best_fit.specs.Heap.{IsChanged, IsHeap, has_room, live_of};
 ghost use Rattle.seg_vector.specs.Standing.{place_at};
-ghost use Rattle.seg_vector.specs.TextCalls.{AppendsText, AssignsText, ClearsText, CountsBytePlaces, CountsBytes, GetsByte, IsSomeText, ReadsText, ReleasesText, ReservesBytes, SetsByte, ShrinksText, StartsText};
+ghost use Rattle.seg_vector.specs.TextCalls.{AppendsText, AssignsText, ClearsText, CountsBytePlaces, CountsBytes, GetsByte, IsSomeText, ReadsText, ReleasesText, ReservesBytes, ReservesNoBytes, SetsByte, ShrinksText, StartsText};
 ghost use Rattle.seg_vector.specs.Vector.{capacity_for_text as places_for_text};
 
 use crate::accessing::{elements, set_element, truncate};
@@ -113,7 +113,8 @@ impl SegString {
     /// `NoSpace` where there are fewer and the storage cannot be regrown. Nothing changes.
     pub fn reserve(self, heap: &mut Heap, n: u64) -> Result<(), Refusal>
         requires { IsSomeText heap.old.bytes self.place }
-        ensures { ReservesBytes heap.old heap.new self.place n result }
+        ensures reserved { ReservesBytes heap.old heap.new self.place n result }
+        ensures enough { ReservesNoBytes heap.old heap.new self.place n result }
     {
         match growing::reserve(heap, self.place, 1, n) {
             Err(NoSpace) => Err(Refusal::NoSpace),

@@ -1,8 +1,9 @@
 //! Vectors of texts that change.
-ghost use Rattle.std.specs.Prelude.{◌≡◌, ◌%◌, ◌<◌, IfSome, List, length, map};
+ghost use Rattle.std.specs.Prelude.{◌≡◌, ◌%◌, ◌<◌, None, IfSome, List, length, map};
+ghost use Rattle.best_fit.specs.Heap.{live_of};
 ghost use Rattle.best_fit.specs.Table.{Table as ATable};
 ghost use Rattle.seg_vector.specs.TextParts.{ReplacesText};
-ghost use Rattle.seg_vector.specs.TextsCalls.{AssignsTexts, ClearsTexts, ErasesText, InsertsText, IsSomeTexts, IsTexts, PopsText, PushesText, ReleasesTexts, ReservesTexts, SetsText, ShrinksTexts};
+ghost use Rattle.seg_vector.specs.TextsCalls.{AssignsTexts, ClearsTexts, ErasesText, InsertsText, IsSomeTexts, IsTexts, PopsText, PushesText, ReleasesTexts, ReservesNoTexts, ReservesTexts, SetsText, ShrinksTexts, StaysAtFirst, new_array};
 ghost use Rattle.seg_vector.specs.Vector.{OwnedText};
 
 use crate::assigning::lay_out;
@@ -49,7 +50,8 @@ impl SegTexts {
     /// is long enough: the same blocks are in use as before, with the same bytes.
     pub fn insert(self, heap: &mut Heap, index: u64, text: &[u8]) -> Result<(), Refusal>
         requires { IsSomeTexts heap.old.bytes self.place }
-        ensures { InsertsText heap.old heap.new self.place index text.now result }
+        ensures inserted { InsertsText heap.old heap.new self.place index text.now result }
+        ensures first { StaysAtFirst heap.old heap.new self.place text.now }
     {
         let len = self.len(heap);
         if index > len {
@@ -78,7 +80,8 @@ impl SegTexts {
     /// bytes.
     pub fn push(self, heap: &mut Heap, text: &[u8]) -> Result<(), Refusal>
         requires { IsSomeTexts heap.old.bytes self.place }
-        ensures { PushesText heap.old heap.new self.place text.now result }
+        ensures pushed { PushesText heap.old heap.new self.place text.now result }
+        ensures first { StaysAtFirst heap.old heap.new self.place text.now }
     {
         let len = self.len(heap);
         self.insert(heap, len, text)
@@ -132,7 +135,8 @@ impl SegTexts {
     /// `NoSpace` where there are fewer and the array cannot be lengthened and has no gap that is long enough. Nothing changes.
     pub fn reserve(self, heap: &mut Heap, n: u64) -> Result<(), Refusal>
         requires { IsSomeTexts heap.old.bytes self.place }
-        ensures { ReservesTexts heap.old heap.new self.place n result }
+        ensures reserved { ReservesTexts heap.old heap.new self.place n result }
+        ensures enough { ReservesNoTexts heap.old heap.new self.place n result }
     {
         if n <= self.capacity(heap) {
             return Ok(());
@@ -158,7 +162,8 @@ impl SegTexts {
     /// bytes.
     pub fn assign(self, heap: &mut Heap, texts: &[&[u8]]) -> Result<(), Refusal>
         requires { IsSomeTexts heap.old.bytes self.place }
-        ensures { AssignsTexts heap.old heap.new self.place (map (λ text. text.now) texts.now) result }
+        ensures assigned { AssignsTexts heap.old heap.new self.place (map (λ text. text.now) texts.now) result }
+        ensures first { new_array (live_of heap.old.bytes) (length texts.now) ≡ None → heap.new ≡ heap.old }
     {
         if texts.is_empty() {
             self.clear(heap);

@@ -4,4 +4,4 @@ use Rattle.layer_tests.proofs.Texts.{after_assign}
 use Rattle.layer_tests.proofs.seg_texts_tests.assign.Goals as goal
 
 pub returns : goal.returns
-returns c = after_assign c.args.heap.now c.assign.new.heap c.args.texts.place (map (λ text. text.now) c.args.values.now) c.assign.result c.requires c.assign.ensures
+returns c = after_assign c.args.heap.now c.assign.new.heap c.args.texts.place (map (λ text. text.now) c.args.values.now) c.assign.result c.requires c.assign.ensures.assigned

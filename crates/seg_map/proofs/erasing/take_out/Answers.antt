@@ -18,8 +18,8 @@ overflow_add-at g c = let few = small c.args.heap.now.bytes c.args.handle (c.arg
 pub word-count-requires : goal.word-count-requires
 word-count-requires g c = room-less (live_of c.args.heap.now.bytes) c.args.handle (c.args.at + 24) (c.args.at + 8 + 8) (omega arith) c.requires.map.room
 
-pub unlink-changed-requires : goal.unlink-changed-requires
-unlink-changed-requires g c =
+pub unlink-top-requires : goal.unlink-top-requires
+unlink-top-requires g c =
     let laws : Laws g.K.Plain = record { spells = g.met.K.Plain.spells; reads = g.met.K.Plain.reads; irreflexive = g.met.K.Plain.irreflexive; transitive = g.met.K.Plain.transitive } in
     let vaws : Laws g.V.Plain = record { spells = g.met.V.Plain.spells; reads = g.met.V.Plain.reads; irreflexive = g.met.V.Plain.irreflexive; transitive = g.met.V.Plain.transitive } in
     let r = c.requires in
@@ -31,7 +31,7 @@ write_head-requires-clause-proper g c =
     let vaws : Laws g.V.Plain = record { spells = g.met.V.Plain.spells; reads = g.met.V.Plain.reads; irreflexive = g.met.V.Plain.irreflexive; transitive = g.met.V.Plain.transitive } in
     let r = c.requires in
     subst (λ l. IsTrue (is_proper l)) (sym (live_left g.K.Plain g.V.Plain laws vaws c.args.heap.now c.args.handle c.args.at c.link-root.result r.pairs r.map c.link-root.ensures r.key r.pair r.found
-    c.unlink-changed.new.heap c.args.node r.is c.unlink-changed.result.root c.unlink-changed.result.steps c.unlink-changed.ensures)) r.map.heap.proper
+    c.unlink-top.new.heap c.args.node r.is c.unlink-top.result (c.unlink-top.new.steps - c.args.steps.now) c.unlink-top.ensures.change)) r.map.heap.proper
 
 pub write_head-requires-clause-room : goal.write_head-requires-clause-room
 write_head-requires-clause-room g c =
@@ -39,7 +39,7 @@ write_head-requires-clause-room g c =
     let vaws : Laws g.V.Plain = record { spells = g.met.V.Plain.spells; reads = g.met.V.Plain.reads; irreflexive = g.met.V.Plain.irreflexive; transitive = g.met.V.Plain.transitive } in
     let r = c.requires in
     subst (λ l. IsTrue (has_room l c.args.handle (c.args.at + 24))) (sym (live_left g.K.Plain g.V.Plain laws vaws c.args.heap.now c.args.handle c.args.at c.link-root.result r.pairs r.map c.link-root.ensures r.key r.pair r.found
-    c.unlink-changed.new.heap c.args.node r.is c.unlink-changed.result.root c.unlink-changed.result.steps c.unlink-changed.ensures)) r.map.room
+    c.unlink-top.new.heap c.args.node r.is c.unlink-top.result (c.unlink-top.new.steps - c.args.steps.now) c.unlink-top.ensures.change)) r.map.room
 
 pub write_head-requires-clause-root : goal.write_head-requires-clause-root
 write_head-requires-clause-root g c =
@@ -47,7 +47,7 @@ write_head-requires-clause-root g c =
     let vaws : Laws g.V.Plain = record { spells = g.met.V.Plain.spells; reads = g.met.V.Plain.reads; irreflexive = g.met.V.Plain.irreflexive; transitive = g.met.V.Plain.transitive } in
     let r = c.requires in
     top_whole g.K.Plain g.V.Plain laws vaws c.args.heap.now c.args.handle c.args.at c.link-root.result r.pairs r.map c.link-root.ensures r.key r.pair r.found
-    c.unlink-changed.new.heap c.args.node r.is c.unlink-changed.result.root c.unlink-changed.result.steps c.unlink-changed.ensures
+    c.unlink-top.new.heap c.args.node r.is c.unlink-top.result (c.unlink-top.new.steps - c.args.steps.now) c.unlink-top.ensures.change
 
 pub returns-clause-taken : goal.returns-clause-taken
 returns-clause-taken g c = λ ps key p s has is.
@@ -58,10 +58,10 @@ returns-clause-taken g c = λ ps key p s has is.
     let count : c.word-count.result ≡ length ps = c.word-count.ensures ∙ ap (word_at (bytes_of w.bytes)) place ∙ s.map.count in
     let some : 1 ≤ length ps = removed_one g.K.Plain.order ps key p has in
     taken g.K.Plain g.V.Plain laws vaws w c.args.handle c.args.at c.link-root.result ps s c.link-root.ensures key p has
-    c.unlink-changed.new.heap c.args.node is c.unlink-changed.result.root c.unlink-changed.result.steps c.unlink-changed.ensures c.write_head.new.heap (c.word-count.result - 1) (omega (arith, count, some)) c.write_head.ensures
+    c.unlink-top.new.heap c.args.node is c.unlink-top.result (c.unlink-top.new.steps - c.args.steps.now) c.unlink-top.ensures.change c.write_head.new.heap (c.word-count.result - 1) (omega (arith, count, some)) c.write_head.ensures
 
 pub returns-clause-steps : goal.returns-clause-steps
 returns-clause-steps g c = λ ps s.
     let laws : Laws g.K.Plain = record { spells = g.met.K.Plain.spells; reads = g.met.K.Plain.reads; irreflexive = g.met.K.Plain.irreflexive; transitive = g.met.K.Plain.transitive } in
-    let few = few_all g.K.Plain g.V.Plain laws c.args.heap.now c.args.handle c.args.at c.link-root.result ps s c.link-root.ensures c.unlink-changed.new.heap c.args.node c.unlink-changed.result.root c.unlink-changed.result.steps c.unlink-changed.ensures in
-    let sum = c.add.ensures in omega (arith, few, sum)
+    let few = few_all g.K.Plain g.V.Plain laws c.args.heap.now c.args.handle c.args.at c.link-root.result ps s c.link-root.ensures c.unlink-top.new.heap c.args.node c.unlink-top.result (c.unlink-top.new.steps - c.args.steps.now) c.unlink-top.ensures.change in
+    omega (arith, few, c.unlink-top.ensures.counted)

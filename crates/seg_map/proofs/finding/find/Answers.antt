@@ -3,8 +3,9 @@ use Rattle.std.proofs.Common.{◌≡◌, sym, ◌∙◌, ◌+◌, arith, false}
 use Rattle.std.specs.Prelude.{None}
 use Rattle.best_fit.specs.Heap.{live_of}
 use Rattle.best_fit.proofs.Laws.{room-less}
+use Rattle.seg_map.specs.Places.{first_pair}
 use Rattle.seg_map.proofs.Entering.{Laws}
-use Rattle.seg_map.proofs.FoundPairs.{found, found_key, found_room, key_above, key_here, key_none, no_key}
+use Rattle.seg_map.proofs.FoundPairs.{found, found_key, found_room, key_above, key_here, key_none, no_key, reads_none, reads_one}
 use Rattle.seg_map.proofs.finding.find.Goals as goal
 
 pub returns-in_err-node-clause-node : goal.returns-in_err-node-clause-node
@@ -40,3 +41,25 @@ returns-else-precedes-clause-node g c = λ ps s.
     let f = found g.K.Plain g.V.Plain c.args.heap.now c.args.handle false c.args.key ps c.in_ok-node.node s.pairs s.map.pairs (sym c.in_ok-node.was ∙ c.seek.ensures.found ps s) in
     let key = found_key g.K.Plain g.V.Plain c.args.heap.now c.args.handle kl false c.args.key ps c.in_ok-node.node c.value_at.result f c.value_at.ensures in
     key_here g.K.Plain g.V.Plain g.met.K.Plain.transitive c.args.key ps s.rising c.args.heap.now c.args.handle c.in_ok-node.node f c.in_ok-found.found (sym c.in_ok-found.was ∙ key) (sym c.precedes.ensures.answer ∙ c.if-precedes.false)
+
+pub returns-in_err-node-clause-exact : goal.returns-in_err-node-clause-exact
+returns-in_err-node-clause-exact g c =
+    let none : c.seek.result ≡ None = cc in
+    λ ps s.
+    let path = c.seek.ensures.exact ps s in let read = reads_none (first_pair g.K.Plain.order false c.args.key ps) (sym none ∙ c.seek.ensures.found ps s) in
+    omega (arith, path, read)
+
+pub returns-in_err-found-clause-exact : goal.returns-in_err-found-clause-exact
+returns-in_err-found-clause-exact g c = λ ps s.
+    let path = c.seek.ensures.exact ps s in let read = reads_one (first_pair g.K.Plain.order false c.args.key ps) c.in_ok-node.node (sym c.in_ok-node.was ∙ c.seek.ensures.found ps s) in
+    omega (arith, path, read, c.add.ensures)
+
+pub returns-then-precedes-clause-exact : goal.returns-then-precedes-clause-exact
+returns-then-precedes-clause-exact g c = λ ps s.
+    let path = c.seek.ensures.exact ps s in let read = reads_one (first_pair g.K.Plain.order false c.args.key ps) c.in_ok-node.node (sym c.in_ok-node.was ∙ c.seek.ensures.found ps s) in
+    omega (arith, path, read, c.add.ensures)
+
+pub returns-else-precedes-clause-exact : goal.returns-else-precedes-clause-exact
+returns-else-precedes-clause-exact g c = λ ps s.
+    let path = c.seek.ensures.exact ps s in let read = reads_one (first_pair g.K.Plain.order false c.args.key ps) c.in_ok-node.node (sym c.in_ok-node.was ∙ c.seek.ensures.found ps s) in
+    omega (arith, path, read, c.add.ensures)

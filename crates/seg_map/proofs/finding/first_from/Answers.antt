@@ -1,7 +1,9 @@
 -- The pair that is found is read.
-use Rattle.std.proofs.Common.{sym, ◌∙◌, false}
+use Rattle.std.proofs.Common.{◌≡◌, sym, ◌∙◌, false, arith}
+use Rattle.std.specs.Prelude.{None}
+use Rattle.seg_map.specs.Places.{first_pair}
 use Rattle.seg_map.proofs.Entering.{Laws}
-use Rattle.seg_map.proofs.FoundPairs.{found, found_item, found_room}
+use Rattle.seg_map.proofs.FoundPairs.{found, found_item, found_room, reads_none, reads_one}
 use Rattle.seg_map.proofs.finding.first_from.Goals as goal
 
 pub item-requires-clause-room : goal.item-requires-clause-room
@@ -17,3 +19,15 @@ returns-clause-item g c = λ ps s.
     let vl : Laws g.V.Plain = record { spells = g.met.V.Plain.spells; reads = g.met.V.Plain.reads; irreflexive = g.met.V.Plain.irreflexive; transitive = g.met.V.Plain.transitive } in
     found_item g.K.Plain g.V.Plain w c.args.handle kl vl false c.args.key ps c.in_ok-node.node c.item.result
     (found g.K.Plain g.V.Plain w c.args.handle false c.args.key ps c.in_ok-node.node s.pairs s.map.pairs (sym c.in_ok-node.was ∙ c.seek.ensures.found ps s)) c.item.ensures
+
+pub returns-in_err-node-clause-exact : goal.returns-in_err-node-clause-exact
+returns-in_err-node-clause-exact g c =
+    let none : c.seek.result ≡ None = cc in
+    λ ps s.
+    let path = c.seek.ensures.exact ps s in let read = reads_none (first_pair g.K.Plain.order false c.args.key ps) (sym none ∙ c.seek.ensures.found ps s) in
+    omega (arith, path, read)
+
+pub returns-clause-exact : goal.returns-clause-exact
+returns-clause-exact g c = λ ps s.
+    let path = c.seek.ensures.exact ps s in let read = reads_one (first_pair g.K.Plain.order false c.args.key ps) c.in_ok-node.node (sym c.in_ok-node.was ∙ c.seek.ensures.found ps s) in
+    omega (arith, path, read, c.add.ensures)

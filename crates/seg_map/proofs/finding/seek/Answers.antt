@@ -2,6 +2,7 @@
 use Rattle.std.proofs.Common.{ap, ◌∙◌, ◌+◌, arith}
 use Rattle.link_tree.specs.Tree.{nodes_of, bits}
 use Rattle.link_tree.specs.Nodes.{first_not}
+use Rattle.link_tree.specs.Searching.{path_length}
 use Rattle.best_fit.specs.Heap.{live_of}
 use Rattle.best_fit.proofs.Laws.{room-less}
 use Rattle.seg_map.specs.PairNodes.{key_of, stands_before}
@@ -39,3 +40,13 @@ returns-clause-steps g c = λ ps s.
     let most = c.find_first_not_before-found.ensures.steps s.map.tree.tree search in
     let n = ap (λ k. bits (k + 1)) (count_pairs p g.V.Plain laws w c.args.handle c.args.at ps s) in let sum = c.add.ensures in
     omega (arith, most, n, sum)
+
+pub returns-clause-exact : goal.returns-clause-exact
+returns-clause-exact g c = λ ps s.
+    let p = g.K.Plain in let w = c.args.heap.now in let own = c.new.result in let past = c.args.sought.now.past in let key = c.args.sought.now.key in
+    let laws : Laws g.K.Plain = record { spells = g.met.K.Plain.spells; reads = g.met.K.Plain.reads; irreflexive = g.met.K.Plain.irreflexive; transitive = g.met.K.Plain.transitive } in
+    let search = lent_tree p g.V.Plain laws w c.args.handle c.args.at ps s c.link-root.result own c.link-root.ensures c.new.ensures in
+    let same = lent_own p g.V.Plain laws w c.args.handle c.args.at ps s c.link-root.result own c.link-root.ensures c.new.ensures in
+    c.add.ensures
+    ∙ ap (λ n. c.args.steps.now + n) (c.find_first_not_before-found.ensures.exact s.map.tree.tree search
+    ∙ ap (λ ms. path_length (stands_before p.order (key_of (value_of p) p.SIZE ms w) past key) s.map.tree.tree) same)

@@ -1,5 +1,5 @@
 -- The node enters the tree, and the three words say so.
-use Rattle.std.proofs.Common.{◌≡◌, sym, ap, subst, ◌∙◌, ◌+◌, length, arith, IsTrue}
+use Rattle.std.proofs.Common.{◌≡◌, sym, ap, subst, ◌∙◌, ◌+◌, ◌-◌, length, arith, IsTrue}
 use Rattle.raw_region.specs.Memory.{bytes_of, word_at}
 use Rattle.link_tree.specs.Tree.{bits}
 use Rattle.best_fit.specs.Extents.{is_proper}
@@ -19,8 +19,8 @@ overflow_add-at g c = let few = small c.args.heap.now.bytes c.args.handle (c.arg
 pub word-count-requires : goal.word-count-requires
 word-count-requires g c = room-less (live_of c.args.heap.now.bytes) c.args.handle (c.args.at + 24) (c.args.at + 8 + 8) (omega arith) c.requires.map.room
 
-pub link-changed-requires : goal.link-changed-requires
-link-changed-requires g c =
+pub link-top-requires : goal.link-top-requires
+link-top-requires g c =
     let laws : Laws g.K.Plain = record { spells = g.met.K.Plain.spells; reads = g.met.K.Plain.reads; irreflexive = g.met.K.Plain.irreflexive; transitive = g.met.K.Plain.transitive } in
     let vaws : Laws g.V.Plain = record { spells = g.met.V.Plain.spells; reads = g.met.V.Plain.reads; irreflexive = g.met.V.Plain.irreflexive; transitive = g.met.V.Plain.transitive } in
     let r = c.requires in
@@ -41,7 +41,7 @@ write_head-requires-clause-proper g c =
     let vaws : Laws g.V.Plain = record { spells = g.met.V.Plain.spells; reads = g.met.V.Plain.reads; irreflexive = g.met.V.Plain.irreflexive; transitive = g.met.V.Plain.transitive } in
     let r = c.requires in
     subst (λ l. IsTrue (is_proper l)) (sym (live_put g.K.Plain g.V.Plain laws vaws c.args.heap.now c.args.handle c.args.at c.link-root.result r.pairs r.map c.link-root.ensures r.pair r.loose
-    c.link-changed.new.heap c.args.node r.is c.link-changed.result.root c.link-changed.result.steps c.link-changed.ensures)) r.map.heap.proper
+    c.link-top.new.heap c.args.node r.is c.link-top.result (c.link-top.new.steps - c.args.steps.now) c.link-top.ensures.change)) r.map.heap.proper
 
 pub write_head-requires-clause-room : goal.write_head-requires-clause-room
 write_head-requires-clause-room g c =
@@ -49,7 +49,7 @@ write_head-requires-clause-room g c =
     let vaws : Laws g.V.Plain = record { spells = g.met.V.Plain.spells; reads = g.met.V.Plain.reads; irreflexive = g.met.V.Plain.irreflexive; transitive = g.met.V.Plain.transitive } in
     let r = c.requires in
     subst (λ l. IsTrue (has_room l c.args.handle (c.args.at + 24))) (sym (live_put g.K.Plain g.V.Plain laws vaws c.args.heap.now c.args.handle c.args.at c.link-root.result r.pairs r.map c.link-root.ensures r.pair r.loose
-    c.link-changed.new.heap c.args.node r.is c.link-changed.result.root c.link-changed.result.steps c.link-changed.ensures)) r.map.room
+    c.link-top.new.heap c.args.node r.is c.link-top.result (c.link-top.new.steps - c.args.steps.now) c.link-top.ensures.change)) r.map.room
 
 pub write_head-requires-clause-root : goal.write_head-requires-clause-root
 write_head-requires-clause-root g c =
@@ -57,7 +57,7 @@ write_head-requires-clause-root g c =
     let vaws : Laws g.V.Plain = record { spells = g.met.V.Plain.spells; reads = g.met.V.Plain.reads; irreflexive = g.met.V.Plain.irreflexive; transitive = g.met.V.Plain.transitive } in
     let r = c.requires in
     top_put g.K.Plain g.V.Plain laws vaws c.args.heap.now c.args.handle c.args.at c.link-root.result r.pairs r.map c.link-root.ensures r.pair r.loose
-    c.link-changed.new.heap c.args.node r.is c.link-changed.result.root c.link-changed.result.steps c.link-changed.ensures
+    c.link-top.new.heap c.args.node r.is c.link-top.result (c.link-top.new.steps - c.args.steps.now) c.link-top.ensures.change
 
 pub returns-clause-planted : goal.returns-clause-planted
 returns-clause-planted g c = λ ps p s loose is.
@@ -67,7 +67,7 @@ returns-clause-planted g c = λ ps p s loose is.
     let place : c.args.handle + (c.args.at + 8) ≡ c.args.handle + c.args.at + 8 = omega arith in
     let count : c.word-count.result ≡ length ps = c.word-count.ensures ∙ ap (word_at (bytes_of w.bytes)) place ∙ s.map.count in
     planted g.K.Plain g.V.Plain laws vaws w c.args.handle c.args.at c.link-root.result ps s c.link-root.ensures p loose
-    c.link-changed.new.heap c.args.node is c.link-changed.result.root c.link-changed.result.steps c.link-changed.ensures c.write_head.new.heap (c.word-count.result + 1) (omega (arith, count)) c.write_head.ensures
+    c.link-top.new.heap c.args.node is c.link-top.result (c.link-top.new.steps - c.args.steps.now) c.link-top.ensures.change c.write_head.new.heap (c.word-count.result + 1) (omega (arith, count)) c.write_head.ensures
 
 pub returns-clause-steps : goal.returns-clause-steps
 returns-clause-steps g c = λ ps s.
@@ -75,7 +75,7 @@ returns-clause-steps g c = λ ps s.
     let vaws : Laws g.V.Plain = record { spells = g.met.V.Plain.spells; reads = g.met.V.Plain.reads; irreflexive = g.met.V.Plain.irreflexive; transitive = g.met.V.Plain.transitive } in
     let r = c.requires in
     let few = few_put g.K.Plain g.V.Plain laws vaws c.args.heap.now c.args.handle c.args.at c.link-root.result r.pairs r.map c.link-root.ensures r.pair r.loose
-    c.link-changed.new.heap c.args.node r.is c.link-changed.result.root c.link-changed.result.steps c.link-changed.ensures in
+    c.link-top.new.heap c.args.node r.is c.link-top.result (c.link-top.new.steps - c.args.steps.now) c.link-top.ensures.change in
     let same : length r.pairs ≡ length ps = sym r.map.map.count ∙ s.map.count in
     let digits = ap (λ n. bits (n + 1)) same in
-    let sum = c.add.ensures in omega (arith, few, digits, sum)
+    omega (arith, few, digits, c.link-top.ensures.counted)

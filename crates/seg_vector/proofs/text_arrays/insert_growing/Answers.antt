@@ -68,7 +68,7 @@ returns-in-Err-place_text c ps t s inside full wanted =
     let a = c.in-Ok.ensures ps t s in
     let asked : IsAsked c.args.heap.now c.place_text.new.heap t.extent (16 * c.args.n) c.in-Ok.array =
     subst (λ (k : Cut). IsAsked c.args.heap.now k t.extent (16 * c.args.n) c.in-Ok.array) (sym c.in-Err-place_text.ensures.same) a in
-    growing-err c.args.heap.now c.ask_array.new.heap c.place_text.new.heap c.give_up.new.heap ps t c.in-Ok.array c.args.n c.args.text.now (more-places c.args.heap.now c.args.place ps t c.args.n s full wanted).0 wanted a c.in-Err-place_text.ensures
+    growing-err c.args.heap.now c.ask_array.new.heap c.place_text.new.heap c.give_up.new.heap ps t c.in-Ok.array c.args.n c.args.text.now (more-places c.args.heap.now c.args.place ps t c.args.n s full wanted).0 wanted full a c.in-Err-place_text.ensures
     (c.give_up.ensures c.args.heap.now ps t c.args.n s asked (c.array_room-room.ensures ps t s))
 
 pub returns-in-Ok-place_text : goal.returns-in-Ok-place_text

@@ -10,4 +10,4 @@ assign-requires c = none-started c.args.heap.now c.new-vector.new.heap c.args.pl
 pub returns : goal.returns
 returns c =
     texts-made c.args.heap.now c.new-vector.new.heap c.assign.new.heap c.args.place c.new-vector.result.place (map (λ (text : Bor (List ℕ)). text.now) c.args.texts.now) c.assign.result c.judge_all.ensures c.new-vector.ensures.place
-    c.new-vector.ensures.change c.new-vector.ensures.texts c.assign.ensures
+    c.new-vector.ensures.change c.new-vector.ensures.texts c.assign.ensures.assigned

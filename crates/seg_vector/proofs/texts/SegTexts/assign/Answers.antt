@@ -1,11 +1,13 @@
 -- Other texts are laid out, then those before are released, and then the words are written.
-use Rattle.std.proofs.Common.{◌≡◌, sym, ◌+◌, ◌<◌, arith, length, map}
+use Rattle.std.proofs.Common.{◌≡◌, sym, ap, ◌∙◌, ◌+◌, ◌<◌, arith, length, map}
 use Rattle.std.proofs.lemmas.List.{length-map}
 use Rattle.raw_region.specs.Format.{current}
 use Rattle.best_fit.specs.Heap.{live_of}
 use Rattle.best_fit.proofs.Laws.{changed-room, room-less}
+use Rattle.seg_vector.specs.TextsCalls.{new_array}
 use Rattle.seg_vector.proofs.Growth.{room-small}
 use Rattle.seg_vector.proofs.TextsAssigned.{assigned, assigns-some, laid-even, laid-still, some-texts}
+use Rattle.seg_vector.proofs.TextsLaidOut.{fitted}
 use Rattle.seg_vector.proofs.texts.SegTexts.assign.Goals as goal
 
 pub release-requires : goal.release-requires
@@ -35,11 +37,23 @@ set_word-requires c =
     changed-room current c.release.new.heap c.point_to.new.heap (c.args.self.place.handle + c.args.self.place.at) 24 c.args.self.place.handle (c.args.self.place.at + 8 + 8) c.point_to.ensures.change
     (room-less (live_of c.release.new.heap.bytes) c.args.self.place.handle (c.args.self.place.at + 24) (c.args.self.place.at + 8 + 8) (omega arith) (c.release.ensures c.requires.0 c.requires.1.0 still).texts.room)
 
-pub returns-in-Ok : goal.returns-in-Ok
-returns-in-Ok c =
+pub returns-in-Ok-clause-assigned : goal.returns-in-Ok-clause-assigned
+returns-in-Ok-clause-assigned c =
     let more = map (λ text. text.now) c.args.texts.now in
     let long : length more ≡ length c.args.texts.now = length-map c.args.texts.now (λ text. text.now) in
     let some : 0 < length c.args.texts.now = some-texts (length c.args.texts.now) c.if-is_empty.ensures in
     assigns-some c.args.heap.now c.set_word.new.self c.args.self.place more (omega (arith, long, some))
     (λ ps t s. assigned c.args.heap.now c.lay_out.new.heap c.release.new.heap c.point_to.new.heap c.set_word.new.self c.args.self.place ps t c.in-Ok.array (length c.args.texts.now) more s c.in-Ok.ensures (sym long) some c.release.ensures
     c.point_to.ensures.change c.point_to.ensures.link c.point_to.ensures.capacity c.set_word.ensures.change c.set_word.ensures.word)
+
+pub returns-in-Ok-clause-first : goal.returns-in-Ok-clause-first
+returns-in-Ok-clause-first c = λ none.
+    let more = map (λ text. text.now) c.args.texts.now in
+    let long : length more ≡ length c.args.texts.now = length-map c.args.texts.now (λ text. text.now) in
+    let some : 0 < length c.args.texts.now = some-texts (length c.args.texts.now) c.if-is_empty.ensures in
+    absurd (fitted (live_of c.args.heap.now.bytes) more c.in-Ok.ensures.block (omega (arith, long, some)) c.in-Ok.ensures.fit (ap (new_array (live_of c.args.heap.now.bytes)) long ∙ none))
+
+pub returns-in-Err-clause-first : goal.returns-in-Err-clause-first
+returns-in-Err-clause-first c = λ none.
+    let long : length (map (λ text. text.now) c.args.texts.now) ≡ length c.args.texts.now = length-map c.args.texts.now (λ text. text.now) in
+    c.in-Err.ensures.first (ap (new_array (live_of c.args.heap.now.bytes)) long ∙ none)

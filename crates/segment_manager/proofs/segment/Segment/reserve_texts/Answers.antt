@@ -28,7 +28,7 @@ invariant_of-self c =
     let writing : is_read_only s.mode ≡ false = ap (λ (t : State). is_read_only t.mode) c.self.view_is ∙ c.requires in
     let found : Answers s (λ d. container_at d key Texts) (Ok c.in-Ok.place) = subst (λ (t : State). Answers t (λ d. container_at d key Texts) (Ok c.in-Ok.place)) (sym c.self.view_is) c.in-Ok.ensures in
     let done : StepsSafely s c.reserve.new.heap key Texts (Reserve key c.args.n) c.reserve.result =
-    texts-reserved s key c.in-Ok.place c.self.invariant found c.reserve.new.heap writing c.args.n c.reserve.result c.reserve.ensures in
+    texts-reserved s key c.in-Ok.place c.self.invariant found c.reserve.new.heap writing c.args.n c.reserve.result c.reserve.ensures.reserved in
     safe-segment s c.args.self.now c.self.view_is c.reserve.new.heap key Texts (Reserve key c.args.n) c.reserve.result done c.self.invariant
 
 pub returns-in-Err-clause-step : goal.returns-in-Err-clause-step
@@ -44,7 +44,7 @@ returns-in-Ok-clause-step c =
     let writing : is_read_only s.mode ≡ false = ap (λ (t : State). is_read_only t.mode) c.self.view_is ∙ c.requires in
     let found : Answers s (λ d. container_at d key Texts) (Ok c.in-Ok.place) = subst (λ (t : State). Answers t (λ d. container_at d key Texts) (Ok c.in-Ok.place)) (sym c.self.view_is) c.in-Ok.ensures in
     let done : StepsSafely s c.reserve.new.heap key Texts (Reserve key c.args.n) c.reserve.result =
-    texts-reserved s key c.in-Ok.place c.self.invariant found c.reserve.new.heap writing c.args.n c.reserve.result c.reserve.ensures in
+    texts-reserved s key c.in-Ok.place c.self.invariant found c.reserve.new.heap writing c.args.n c.reserve.result c.reserve.ensures.reserved in
     safe-step s c.args.self.now c.self.view_is c.reserve.new.heap key Texts (Reserve key c.args.n) c.reserve.result done
 
 pub returns-in-Ok-clause-refused : goal.returns-in-Ok-clause-refused
@@ -54,5 +54,5 @@ returns-in-Ok-clause-refused c =
     let writing : is_read_only s.mode ≡ false = ap (λ (t : State). is_read_only t.mode) c.self.view_is ∙ c.requires in
     let found : Answers s (λ d. container_at d key Texts) (Ok c.in-Ok.place) = subst (λ (t : State). Answers t (λ d. container_at d key Texts) (Ok c.in-Ok.place)) (sym c.self.view_is) c.in-Ok.ensures in
     let done : StepsSafely s c.reserve.new.heap key Texts (Reserve key c.args.n) c.reserve.result =
-    texts-reserved s key c.in-Ok.place c.self.invariant found c.reserve.new.heap writing c.args.n c.reserve.result c.reserve.ensures in
+    texts-reserved s key c.in-Ok.place c.self.invariant found c.reserve.new.heap writing c.args.n c.reserve.result c.reserve.ensures.reserved in
     safe-refused s c.args.self.now c.self.view_is c.reserve.new.heap key Texts (Reserve key c.args.n) c.reserve.result done

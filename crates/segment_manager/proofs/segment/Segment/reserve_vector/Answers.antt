@@ -36,7 +36,7 @@ invariant_of-self g c =
     record { long = g.met.T.Scalar.size; values = g.met.T.Scalar.values; spelled = g.met.T.Scalar.spelled; reached = g.met.T.Scalar.reached } in
     let found : Answers s (λ d. container_at d key (Vector k)) (Ok c.at.result.place) =
     found-at s key c.kind.result k c.in-Ok.place c.at.result.place c.kind.ensures c.at.ensures (subst (λ (t : State). Answers t (λ d. container_at d key (Vector c.kind.result)) (Ok c.in-Ok.place)) (sym c.self.view_is) c.in-Ok.ensures) in
-    let done : StepsSafely s c.reserve.new.heap key (Vector k) (Reserve key c.args.n) c.reserve.result = vector-reserved k g.T.Scalar.whole g.T.Plain.SIZE g.T.Plain.is_value g.T.Plain.spelling law s key c.at.result.place c.self.invariant found c.reserve.new.heap writing c.args.n c.reserve.result c.reserve.ensures in
+    let done : StepsSafely s c.reserve.new.heap key (Vector k) (Reserve key c.args.n) c.reserve.result = vector-reserved k g.T.Scalar.whole g.T.Plain.SIZE g.T.Plain.is_value g.T.Plain.spelling law s key c.at.result.place c.self.invariant found c.reserve.new.heap writing c.args.n c.reserve.result c.reserve.ensures.reserved in
     safe-segment s c.args.self.now c.self.view_is c.reserve.new.heap key (Vector k) (Reserve key c.args.n) c.reserve.result done c.self.invariant
 
 pub returns-in-Err-clause-step : goal.returns-in-Err-clause-step
@@ -55,7 +55,7 @@ returns-in-Ok-clause-step g c =
     record { long = g.met.T.Scalar.size; values = g.met.T.Scalar.values; spelled = g.met.T.Scalar.spelled; reached = g.met.T.Scalar.reached } in
     let found : Answers s (λ d. container_at d key (Vector k)) (Ok c.at.result.place) =
     found-at s key c.kind.result k c.in-Ok.place c.at.result.place c.kind.ensures c.at.ensures (subst (λ (t : State). Answers t (λ d. container_at d key (Vector c.kind.result)) (Ok c.in-Ok.place)) (sym c.self.view_is) c.in-Ok.ensures) in
-    let done : StepsSafely s c.reserve.new.heap key (Vector k) (Reserve key c.args.n) c.reserve.result = vector-reserved k g.T.Scalar.whole g.T.Plain.SIZE g.T.Plain.is_value g.T.Plain.spelling law s key c.at.result.place c.self.invariant found c.reserve.new.heap writing c.args.n c.reserve.result c.reserve.ensures in
+    let done : StepsSafely s c.reserve.new.heap key (Vector k) (Reserve key c.args.n) c.reserve.result = vector-reserved k g.T.Scalar.whole g.T.Plain.SIZE g.T.Plain.is_value g.T.Plain.spelling law s key c.at.result.place c.self.invariant found c.reserve.new.heap writing c.args.n c.reserve.result c.reserve.ensures.reserved in
     safe-step s c.args.self.now c.self.view_is c.reserve.new.heap key (Vector k) (Reserve key c.args.n) c.reserve.result done
 
 pub returns-in-Ok-clause-refused : goal.returns-in-Ok-clause-refused
@@ -68,5 +68,5 @@ returns-in-Ok-clause-refused g c =
     record { long = g.met.T.Scalar.size; values = g.met.T.Scalar.values; spelled = g.met.T.Scalar.spelled; reached = g.met.T.Scalar.reached } in
     let found : Answers s (λ d. container_at d key (Vector k)) (Ok c.at.result.place) =
     found-at s key c.kind.result k c.in-Ok.place c.at.result.place c.kind.ensures c.at.ensures (subst (λ (t : State). Answers t (λ d. container_at d key (Vector c.kind.result)) (Ok c.in-Ok.place)) (sym c.self.view_is) c.in-Ok.ensures) in
-    let done : StepsSafely s c.reserve.new.heap key (Vector k) (Reserve key c.args.n) c.reserve.result = vector-reserved k g.T.Scalar.whole g.T.Plain.SIZE g.T.Plain.is_value g.T.Plain.spelling law s key c.at.result.place c.self.invariant found c.reserve.new.heap writing c.args.n c.reserve.result c.reserve.ensures in
+    let done : StepsSafely s c.reserve.new.heap key (Vector k) (Reserve key c.args.n) c.reserve.result = vector-reserved k g.T.Scalar.whole g.T.Plain.SIZE g.T.Plain.is_value g.T.Plain.spelling law s key c.at.result.place c.self.invariant found c.reserve.new.heap writing c.args.n c.reserve.result c.reserve.ensures.reserved in
     safe-refused s c.args.self.now c.self.view_is c.reserve.new.heap key (Vector k) (Reserve key c.args.n) c.reserve.result done

@@ -33,7 +33,7 @@ invariant_of-self c =
     let writing : is_read_only s.mode ≡ false = ap (λ (t : State). is_read_only t.mode) c.self.view_is ∙ sym c.is_read_only.ensures ∙ c.if-is_read_only.false in
     let found : Answers s (λ d. container_at d key Texts) (Ok c.in-Ok.place) = subst (λ (t : State). Answers t (λ d. container_at d key Texts) (Ok c.in-Ok.place)) (sym c.self.view_is) c.in-Ok.ensures in
     let done : StepsKeeping s c.assign.new.heap key (Assign key (map Quoted (map (λ text. text.now) c.args.texts.now))) c.assign.result =
-    texts-assigned s key c.in-Ok.place c.self.invariant found c.assign.new.heap writing (map (λ text. text.now) c.args.texts.now) c.assign.result c.judge_all.ensures c.assign.ensures in
+    texts-assigned s key c.in-Ok.place c.self.invariant found c.assign.new.heap writing (map (λ text. text.now) c.args.texts.now) c.assign.result c.judge_all.ensures c.assign.ensures.assigned in
     kept-segment s c.args.self.now c.self.view_is c.assign.new.heap key (Assign key (map Quoted (map (λ text. text.now) c.args.texts.now))) c.assign.result done c.self.invariant
 
 pub returns-in-Err-clause-step : goal.returns-in-Err-clause-step
@@ -49,7 +49,7 @@ returns-in-Ok-clause-step c =
     let writing : is_read_only s.mode ≡ false = ap (λ (t : State). is_read_only t.mode) c.self.view_is ∙ sym c.is_read_only.ensures ∙ c.if-is_read_only.false in
     let found : Answers s (λ d. container_at d key Texts) (Ok c.in-Ok.place) = subst (λ (t : State). Answers t (λ d. container_at d key Texts) (Ok c.in-Ok.place)) (sym c.self.view_is) c.in-Ok.ensures in
     let done : StepsKeeping s c.assign.new.heap key (Assign key (map Quoted (map (λ text. text.now) c.args.texts.now))) c.assign.result =
-    texts-assigned s key c.in-Ok.place c.self.invariant found c.assign.new.heap writing (map (λ text. text.now) c.args.texts.now) c.assign.result c.judge_all.ensures c.assign.ensures in
+    texts-assigned s key c.in-Ok.place c.self.invariant found c.assign.new.heap writing (map (λ text. text.now) c.args.texts.now) c.assign.result c.judge_all.ensures c.assign.ensures.assigned in
     kept-step s c.args.self.now c.self.view_is c.assign.new.heap key (Assign key (map Quoted (map (λ text. text.now) c.args.texts.now))) c.assign.result done
 
 pub returns-in-Ok-clause-refused : goal.returns-in-Ok-clause-refused
@@ -59,5 +59,5 @@ returns-in-Ok-clause-refused c =
     let writing : is_read_only s.mode ≡ false = ap (λ (t : State). is_read_only t.mode) c.self.view_is ∙ sym c.is_read_only.ensures ∙ c.if-is_read_only.false in
     let found : Answers s (λ d. container_at d key Texts) (Ok c.in-Ok.place) = subst (λ (t : State). Answers t (λ d. container_at d key Texts) (Ok c.in-Ok.place)) (sym c.self.view_is) c.in-Ok.ensures in
     let done : StepsKeeping s c.assign.new.heap key (Assign key (map Quoted (map (λ text. text.now) c.args.texts.now))) c.assign.result =
-    texts-assigned s key c.in-Ok.place c.self.invariant found c.assign.new.heap writing (map (λ text. text.now) c.args.texts.now) c.assign.result c.judge_all.ensures c.assign.ensures in
+    texts-assigned s key c.in-Ok.place c.self.invariant found c.assign.new.heap writing (map (λ text. text.now) c.args.texts.now) c.assign.result c.judge_all.ensures c.assign.ensures.assigned in
     kept-refused s c.args.self.now c.self.view_is c.assign.new.heap key (Assign key (map Quoted (map (λ text. text.now) c.args.texts.now))) c.assign.result done

@@ -34,7 +34,7 @@ invariant_of-self c =
     let writing : is_read_only s.mode ≡ false = ap (λ (t : State). is_read_only t.mode) c.self.view_is ∙ sym c.is_read_only.ensures ∙ c.if-is_read_only.false in
     let found : Answers s (λ d. container_at d key Texts) (Ok c.in-Ok.place) = subst (λ (t : State). Answers t (λ d. container_at d key Texts) (Ok c.in-Ok.place)) (sym c.self.view_is) c.in-Ok.ensures in
     let done : StepsKeeping s c.push.new.heap key (Push key (Quoted c.args.text.now)) c.push.result =
-    text-pushed s key c.in-Ok.place c.self.invariant found c.push.new.heap writing c.args.text.now c.push.result (fits-bytes c.args.text.now (λ k. omega (arith, c.type_inv.text k))) c.push.ensures in
+    text-pushed s key c.in-Ok.place c.self.invariant found c.push.new.heap writing c.args.text.now c.push.result (fits-bytes c.args.text.now (λ k. omega (arith, c.type_inv.text k))) c.push.ensures.pushed in
     kept-segment s c.args.self.now c.self.view_is c.push.new.heap key (Push key (Quoted c.args.text.now)) c.push.result done c.self.invariant
 
 pub returns-in-Err-clause-step : goal.returns-in-Err-clause-step
@@ -50,7 +50,7 @@ returns-in-Ok-clause-step c =
     let writing : is_read_only s.mode ≡ false = ap (λ (t : State). is_read_only t.mode) c.self.view_is ∙ sym c.is_read_only.ensures ∙ c.if-is_read_only.false in
     let found : Answers s (λ d. container_at d key Texts) (Ok c.in-Ok.place) = subst (λ (t : State). Answers t (λ d. container_at d key Texts) (Ok c.in-Ok.place)) (sym c.self.view_is) c.in-Ok.ensures in
     let done : StepsKeeping s c.push.new.heap key (Push key (Quoted c.args.text.now)) c.push.result =
-    text-pushed s key c.in-Ok.place c.self.invariant found c.push.new.heap writing c.args.text.now c.push.result (fits-bytes c.args.text.now (λ k. omega (arith, c.type_inv.text k))) c.push.ensures in
+    text-pushed s key c.in-Ok.place c.self.invariant found c.push.new.heap writing c.args.text.now c.push.result (fits-bytes c.args.text.now (λ k. omega (arith, c.type_inv.text k))) c.push.ensures.pushed in
     kept-step s c.args.self.now c.self.view_is c.push.new.heap key (Push key (Quoted c.args.text.now)) c.push.result done
 
 pub returns-in-Ok-clause-refused : goal.returns-in-Ok-clause-refused
@@ -60,5 +60,5 @@ returns-in-Ok-clause-refused c =
     let writing : is_read_only s.mode ≡ false = ap (λ (t : State). is_read_only t.mode) c.self.view_is ∙ sym c.is_read_only.ensures ∙ c.if-is_read_only.false in
     let found : Answers s (λ d. container_at d key Texts) (Ok c.in-Ok.place) = subst (λ (t : State). Answers t (λ d. container_at d key Texts) (Ok c.in-Ok.place)) (sym c.self.view_is) c.in-Ok.ensures in
     let done : StepsKeeping s c.push.new.heap key (Push key (Quoted c.args.text.now)) c.push.result =
-    text-pushed s key c.in-Ok.place c.self.invariant found c.push.new.heap writing c.args.text.now c.push.result (fits-bytes c.args.text.now (λ k. omega (arith, c.type_inv.text k))) c.push.ensures in
+    text-pushed s key c.in-Ok.place c.self.invariant found c.push.new.heap writing c.args.text.now c.push.result (fits-bytes c.args.text.now (λ k. omega (arith, c.type_inv.text k))) c.push.ensures.pushed in
     kept-refused s c.args.self.now c.self.view_is c.push.new.heap key (Push key (Quoted c.args.text.now)) c.push.result done

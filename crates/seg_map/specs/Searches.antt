@@ -1,0 +1,29 @@
+-- The steps of a search in a map, one by one: those of its path, from the root of the tree of its pairs down.
+use Rattle.std.specs.Prelude.{◌≡◌, ℕ, ◌+◌, Bool, Option, Some, None, List}
+use Rattle.raw_region.specs.Memory.{Cut}
+use Rattle.link_tree.specs.Searching.{path_length}
+use Rattle.link_tree.specs.Tree.{Tree, nodes_of}
+use Rattle.seg_types.specs.declared.plain.Plain.{Ghosts as Plain}
+use Rattle.seg_map.specs.Linking.{keys_in}
+use Rattle.seg_map.specs.Map.{Pair}
+use Rattle.seg_map.specs.PairNodes.{stands_before}
+use Rattle.seg_map.specs.Places.{HoldsMap, first_pair}
+
+-- the nodes that a search goes to, for the first pair that is not below a key, or that is above it
+abbrev pub path_in : {K : Type 0} → Plain K → Cut → Bool → K → Tree → ℕ
+path_in k c past key t = path_length (stands_before k.order (keys_in k (nodes_of t) c) past key) t
+
+-- a search takes one step for each of them
+abbrev pub SearchTakes : {K V : Type 0} → Plain K → Plain V → Cut → ℕ → ℕ → Bool → K → ℕ → ℕ → Type 0
+SearchTakes {K} {V} k v c h at past key before after =
+    (ps : List (Pair K V)) (s : HoldsMap k v c.bytes h at ps) → after ≡ before + path_in k c past key s.map.tree.tree
+
+-- what is found is read, in one step
+abbrev pub reading_steps : {A : Type 0} → Option A → ℕ
+reading_steps None = 0
+reading_steps (Some x) = 1
+
+-- a look-up takes the steps of a search, and one more where there is such a pair
+abbrev pub LookUpTakes : {K V : Type 0} → Plain K → Plain V → Cut → ℕ → ℕ → Bool → K → ℕ → ℕ → Type 0
+LookUpTakes {K} {V} k v c h at past key before after =
+    (ps : List (Pair K V)) (s : HoldsMap k v c.bytes h at ps) → after ≡ before + path_in k c past key s.map.tree.tree + reading_steps (first_pair k.order past key ps)

@@ -2,6 +2,8 @@
 #![tactic(auto)]
 
 #[cfg(test)]
+mod create_error_tests;
+#[cfg(test)]
 mod image_check_tests;
 #[cfg(test)]
 mod library_example;

@@ -47,15 +47,27 @@ fn an_object_tells_of_itself(rt: HostRuntime) -> Result<(), Fail> {
     for (key, name, class, kind, count) in [
         (
             named(&rt, b"a"),
-            b"a".as_slice(),
+            Some(b"a".as_slice()),
             Class::Named,
             ScalarKind::I64,
             1,
         ),
-        (Key::Handle(192), b"a", Class::Named, ScalarKind::I64, 1),
-        (Key::Unique(U64), b"", Class::Unique, ScalarKind::U64, 2),
-        (Key::Handle(288), b"", Class::Unique, ScalarKind::U64, 2),
-        (Key::Handle(336), b"", Class::Anonymous, ScalarKind::Bool, 3),
+        (
+            Key::Handle(192),
+            Some(b"a"),
+            Class::Named,
+            ScalarKind::I64,
+            1,
+        ),
+        (Key::Unique(U64), None, Class::Unique, ScalarKind::U64, 2),
+        (Key::Handle(288), None, Class::Unique, ScalarKind::U64, 2),
+        (
+            Key::Handle(336),
+            None,
+            Class::Anonymous,
+            ScalarKind::Bool,
+            3,
+        ),
     ] {
         assert_eq!(rt; segment.instance_name(&key), Ok(name));
         assert_eq!(rt; segment.instance_class(&key), Ok(class));

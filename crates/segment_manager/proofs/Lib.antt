@@ -87,6 +87,7 @@ mod Whole
 mod Emptied
 mod Released
 mod Destroys
+mod Keeping
 mod VectorLiterals
 mod Here
 mod Places

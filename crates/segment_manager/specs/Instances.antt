@@ -1,12 +1,24 @@
 -- What objects say of themselves.
-use Rattle.std.specs.Prelude.{◌≡◌, ℕ, Some, None, List, slice_get}
+use Rattle.std.specs.Prelude.{◌≡◌, ℕ, Option, Some, None, List, slice_get}
 use Rattle.best_fit.specs.Extents.{handle}
+use Rattle.seg_types.specs.declared.kinds.Class.{Class}
+use Rattle.seg_types.specs.declared.kinds.Class.TheVariants.{Anonymous, Named, Unique}
 use Rattle.seg_types.specs.declared.refusals.Refusal.{Refusal}
 use Rattle.seg_types.specs.declared.refusals.Refusal.TheVariants.{NotFound}
 use Rattle.seg_types.specs.Names.{Key}
 use Rattle.segment_manager.specs.declared.telling.Instance.{Instance}
 use Rattle.segment_manager.specs.Directory.{Object, Directory, count_of, kind_of, object_at}
 use Rattle.segment_manager.specs.State.{State, StandsFor}
+
+-- a name, of an object of a class that has one
+abbrev pub name_in : Class → List ℕ → Option (List ℕ)
+name_in Anonymous name = None
+name_in Named name = Some name
+name_in Unique name = None
+
+-- the name of an object, where it has one
+abbrev pub own_name : Object → Option (List ℕ)
+own_name o = name_in o.class o.name
 
 -- all that is said is so of the object
 pub record IsInstance (o : Object) (said : Instance) : Type 0 where

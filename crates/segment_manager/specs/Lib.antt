@@ -6,6 +6,7 @@ pub mod Plan
 pub mod Step
 pub mod Denotes
 pub mod State
+pub mod Keeping
 pub mod Laws
 pub mod Calls
 pub mod Indexed

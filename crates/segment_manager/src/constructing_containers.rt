@@ -11,6 +11,8 @@ ghost use Rattle.seg_types.specs.Names.{Key as AnyKey};
 ghost use Rattle.seg_vector.specs.Vector.{spelled};
 ghost use Rattle.segment_manager.specs.Contents.{are_bytes};
 ghost use Rattle.segment_manager.specs.Found.{pair_answer};
+ghost use Rattle.segment_manager.specs.Indexed.{Seeks};
+ghost use Rattle.segment_manager.specs.Keeping.{HasKey, KeepsWhere};
 ghost use Rattle.segment_manager.specs.MadeContainers.{Builds, HasBegun, MakesContainer, with_one};
 ghost use Rattle.segment_manager.specs.NewObjects.{IsNewKeyOf, IsOfKind};
 ghost use Rattle.segment_manager.specs.State.{IsStep, KeepsRefused, handle_answer};
@@ -89,6 +91,7 @@ impl Segment {
         requires kind { IsOfKind (index_key_seen key.now) (VectorOf T.kind) }
         ensures step { IsStep self.old self.new (FindOrConstruct (index_key_seen key.now) (Elements T.kind (map T.whole values.now))) (pair_answer result) }
         ensures refused { KeepsRefused self.old self.new result }
+        ensures found { KeepsWhere self.old self.new (HasKey (index_key_seen key.now)) }
     {
         if self.is_read_only() {
             return Err(Refusal::ReadOnly);
@@ -119,6 +122,7 @@ impl Segment {
         requires kind { IsOfKind (index_key_seen key.now) TextKind }
         ensures step { IsStep self.old self.new (FindOrConstruct (index_key_seen key.now) (Bytes bytes.now)) (pair_answer result) }
         ensures refused { KeepsRefused self.old self.new result }
+        ensures found { KeepsWhere self.old self.new (HasKey (index_key_seen key.now)) }
     {
         if self.is_read_only() {
             return Err(Refusal::ReadOnly);
@@ -147,6 +151,7 @@ impl Segment {
         ensures step { (key : AnyKey) → IsNewKeyOf index entry.entry key name.now (VectorOf T.kind)
             → IsStep self.old self.new (FindOrConstruct key (Elements T.kind (map T.whole values.now))) (pair_answer result) }
         ensures refused { KeepsRefused self.old self.new result }
+        ensures found { (key : AnyKey) → Seeks index entry.entry key → KeepsWhere self.old self.new (HasKey key) }
     {
         let kind = Kind::Vector(T::kind());
         let place = match index.lookup(&self.heap, entry, &mut Steps::new()) {
@@ -174,6 +179,7 @@ impl Segment {
         ensures step { (key : AnyKey) → IsNewKeyOf index entry.entry key name.now TextKind
             → IsStep self.old self.new (FindOrConstruct key (Bytes bytes.now)) (pair_answer result) }
         ensures refused { KeepsRefused self.old self.new result }
+        ensures found { (key : AnyKey) → Seeks index entry.entry key → KeepsWhere self.old self.new (HasKey key) }
     {
         let place = match index.lookup(&self.heap, entry, &mut Steps::new()) {
             Lookup::Found(place) => {

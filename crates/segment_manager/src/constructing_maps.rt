@@ -8,6 +8,8 @@ ghost use Rattle.seg_types.specs.Commands.{Construct, FindOrConstruct, NoPairs};
 ghost use Rattle.seg_types.specs.Keys.{index_key_seen, new_key_seen};
 ghost use Rattle.seg_types.specs.Names.{Key as AnyKey};
 ghost use Rattle.segment_manager.specs.Found.{pair_answer};
+ghost use Rattle.segment_manager.specs.Indexed.{Seeks};
+ghost use Rattle.segment_manager.specs.Keeping.{HasKey, KeepsWhere};
 ghost use Rattle.segment_manager.specs.MadeContainers.{Builds, HasBegun, MakesContainer};
 ghost use Rattle.segment_manager.specs.NewObjects.{IsNewKeyOf, IsOfKind};
 ghost use Rattle.segment_manager.specs.State.{IsStep, KeepsRefused, handle_answer};
@@ -84,6 +86,7 @@ impl Segment {
         requires kind { IsOfKind (index_key_seen key.now) (MapOf K.kind V.kind) }
         ensures step { IsStep self.old self.new (FindOrConstruct (index_key_seen key.now) (NoPairs K.kind V.kind)) (pair_answer result) }
         ensures refused { KeepsRefused self.old self.new result }
+        ensures found { KeepsWhere self.old self.new (HasKey (index_key_seen key.now)) }
     {
         self.find_or_construct_map_of(key, K::kind(), V::kind())
     }
@@ -102,6 +105,7 @@ impl Segment {
         requires kind { IsOfKind (index_key_seen key.now) (MapOf keys values) }
         ensures step { IsStep self.old self.new (FindOrConstruct (index_key_seen key.now) (NoPairs keys values)) (pair_answer result) }
         ensures refused { KeepsRefused self.old self.new result }
+        ensures found { KeepsWhere self.old self.new (HasKey (index_key_seen key.now)) }
     {
         if self.is_read_only() {
             return Err(Refusal::ReadOnly);
@@ -131,6 +135,7 @@ impl Segment {
         ensures step { (key : AnyKey) → IsNewKeyOf index entry.entry key name.now (MapOf keys values)
             → IsStep self.old self.new (FindOrConstruct key (NoPairs keys values)) (pair_answer result) }
         ensures refused { KeepsRefused self.old self.new result }
+        ensures found { (key : AnyKey) → Seeks index entry.entry key → KeepsWhere self.old self.new (HasKey key) }
     {
         let kind = Kind::Map(keys, values);
         let place = match index.lookup(&self.heap, entry, &mut Steps::new()) {

@@ -7,6 +7,8 @@ ghost use Rattle.seg_types.specs.Commands.{Construct, FindOrConstruct, Strings};
 ghost use Rattle.seg_types.specs.Keys.{index_key_seen, new_key_seen};
 ghost use Rattle.seg_types.specs.Names.{Key as AnyKey};
 ghost use Rattle.segment_manager.specs.Found.{pair_answer};
+ghost use Rattle.segment_manager.specs.Indexed.{Seeks};
+ghost use Rattle.segment_manager.specs.Keeping.{HasKey, KeepsWhere};
 ghost use Rattle.segment_manager.specs.MadeContainers.{HasBegun};
 ghost use Rattle.segment_manager.specs.MadeTexts.{BuildsTexts, MakesTexts};
 ghost use Rattle.segment_manager.specs.NewObjects.{IsNewKeyOf, IsOfKind};
@@ -61,6 +63,7 @@ impl Segment {
         requires kind { IsOfKind (index_key_seen key.now) TextsKind }
         ensures step { IsStep self.old self.new (FindOrConstruct (index_key_seen key.now) (Strings (map (λ text. text.now) texts.now))) (pair_answer result) }
         ensures refused { KeepsRefused self.old self.new result }
+        ensures found { KeepsWhere self.old self.new (HasKey (index_key_seen key.now)) }
     {
         if self.is_read_only() {
             return Err(Refusal::ReadOnly);
@@ -89,6 +92,7 @@ impl Segment {
         ensures step { (key : AnyKey) → IsNewKeyOf index entry.entry key name.now TextsKind
             → IsStep self.old self.new (FindOrConstruct key (Strings (map (λ text. text.now) texts.now))) (pair_answer result) }
         ensures refused { KeepsRefused self.old self.new result }
+        ensures found { (key : AnyKey) → Seeks index entry.entry key → KeepsWhere self.old self.new (HasKey key) }
     {
         let place = match index.lookup(&self.heap, entry, &mut Steps::new()) {
             Lookup::Found(place) => {

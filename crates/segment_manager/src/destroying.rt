@@ -2,11 +2,12 @@
 ghost use Rattle.std.specs.Prelude.{◌≡◌, ℕ, OnErr, true, false};
 ghost use Rattle.seg_types.specs.Commands.{Destroy, DestroyPtr};
 ghost use Rattle.seg_types.specs.Keys.{index_key_seen};
-ghost use Rattle.seg_types.specs.Names.{Key as AnyKey};
+ghost use Rattle.seg_types.specs.Names.{ByHandle, Key as AnyKey};
 ghost use Rattle.segment_manager.specs.Answers.{Truth};
 ghost use Rattle.segment_manager.specs.Destroyed.{HoldsEntry, HoldsObject, RemovesAnonymous, RemovesEntry};
 ghost use Rattle.segment_manager.specs.Found.{is_object_at};
 ghost use Rattle.segment_manager.specs.Indexed.{Seeks};
+ghost use Rattle.segment_manager.specs.Keeping.{KeepsWhere, LacksKey};
 ghost use Rattle.segment_manager.specs.Listed.{HasEntries, IsListed};
 ghost use Rattle.segment_manager.specs.State.{Answers, IsStep, gone_answer, truth_answer};
 ghost use Rattle.segment_manager.specs.Step.{is_read_only};
@@ -37,6 +38,7 @@ impl Segment {
     pub fn destroy(&mut self, key: &IndexKey) -> Result<bool, Refusal>
         ensures step { IsStep self.old self.new (Destroy (index_key_seen key.now)) (truth_answer result) }
         ensures refused { OnErr result (self.new ≡ self.old) }
+        ensures absent { KeepsWhere self.old self.new (LacksKey (index_key_seen key.now)) }
     {
         if self.is_read_only() {
             return Err(Refusal::ReadOnly);
@@ -55,6 +57,7 @@ impl Segment {
         requires writing { is_read_only self.old.mode ≡ false }
         requires key { (key : AnyKey) × Seeks index entry key }
         ensures step { (key : AnyKey) → Seeks index entry.entry key → IsStep self.old self.new (Destroy key) (Truth result) }
+        ensures absent { (key : AnyKey) → Seeks index entry.entry key → KeepsWhere self.old self.new (LacksKey key) }
     {
         match index.lookup(&self.heap, entry, &mut Steps::new()) {
             Lookup::Found(place) => {
@@ -73,6 +76,7 @@ impl Segment {
     pub fn destroy_ptr(&mut self, handle: Handle) -> Result<(), Refusal>
         ensures step { IsStep self.old self.new (DestroyPtr handle) (gone_answer result) }
         ensures refused { OnErr result (self.new ≡ self.old) }
+        ensures absent { KeepsWhere self.old self.new (LacksKey (ByHandle handle)) }
     {
         if self.is_read_only() {
             return Err(Refusal::ReadOnly);

@@ -6,6 +6,8 @@ ghost use Rattle.seg_types.specs.Names.{Key as AnyKey};
 ghost use Rattle.seg_types.specs.Values.{kind_of_scalar, value_of_scalar};
 ghost use Rattle.segment_manager.specs.Directory.{Object};
 ghost use Rattle.segment_manager.specs.Found.{pair_answer};
+ghost use Rattle.segment_manager.specs.Indexed.{Seeks};
+ghost use Rattle.segment_manager.specs.Keeping.{HasKey, KeepsWhere};
 ghost use Rattle.segment_manager.specs.NewObjects.{IsNewKey, IsOfItsKind, IsSpelled};
 ghost use Rattle.segment_manager.specs.Standing.{HasObject, StandsAt, pair_of_kind};
 ghost use Rattle.segment_manager.specs.State.{IsStep, KeepsRefused};
@@ -40,6 +42,7 @@ impl Segment {
         requires few { count ≤ 1048576 }
         ensures step { IsStep self.old self.new (FindOrConstruct (index_key_seen key.now) (Numbers T.kind (replicate count (T.whole value)))) (pair_answer result) }
         ensures refused { KeepsRefused self.old self.new result }
+        ensures found { KeepsWhere self.old self.new (HasKey (index_key_seen key.now)) }
     {
         let mut bytes = [0; LONGEST];
         let spelling = &mut bytes[..T::SIZE as usize];
@@ -64,6 +67,7 @@ impl Segment {
         requires few { count ≤ 1048576 }
         ensures step { IsStep self.old self.new (FindOrConstruct (index_key_seen key.now) (Numbers (kind_of_scalar value) (replicate count (value_of_scalar value)))) (pair_answer result) }
         ensures refused { KeepsRefused self.old self.new result }
+        ensures found { KeepsWhere self.old self.new (HasKey (index_key_seen key.now)) }
     {
         let kind = value.kind();
         let mut bytes = [0; LONGEST];
@@ -87,6 +91,7 @@ impl Segment {
         ensures step { (z : ℤ) → IsSpelled kind spelling.now z
             → IsStep self.old self.new (FindOrConstruct (index_key_seen key.now) (Numbers kind (replicate count z))) (pair_answer result) }
         ensures refused { KeepsRefused self.old self.new result }
+        ensures found { KeepsWhere self.old self.new (HasKey (index_key_seen key.now)) }
     {
         if self.is_read_only() {
             return Err(Refusal::ReadOnly);
@@ -132,6 +137,7 @@ impl Segment {
         ensures step { (key : AnyKey) (z : ℤ) → IsNewKey index entry.entry key name.now kind → IsSpelled kind spelling.now z
             → IsStep self.old self.new (FindOrConstruct key (Numbers kind (replicate count z))) (pair_answer result) }
         ensures refused { KeepsRefused self.old self.new result }
+        ensures found { (key : AnyKey) → Seeks index entry.entry key → KeepsWhere self.old self.new (HasKey key) }
     {
         let place = match index.lookup(&self.heap, entry, &mut Steps::new()) {
             Lookup::Found(place) => {

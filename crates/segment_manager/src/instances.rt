@@ -1,13 +1,18 @@
 //! What an object says of itself: its kind, its name, how many elements it has, and its class.
-ghost use Rattle.std.specs.Prelude.{◌≡◌, Ok, Err, MatchResult};
+ghost use Rattle.std.specs.Prelude.{◌≡◌, Ok, Err, MatchResult, option_map};
+ghost use Rattle.raw_region.specs.Format.{current};
+ghost use Rattle.best_fit.specs.Heap.{IsHeap};
 ghost use Rattle.seg_types.specs.Keys.{key_seen};
 ghost use Rattle.segment_manager.specs.Calls.{elements_at, elements_of, kind_at, told_at};
 ghost use Rattle.segment_manager.specs.Directory.{Object, count_of};
+ghost use Rattle.segment_manager.specs.Instances.{own_name};
+ghost use Rattle.segment_manager.specs.Standing.{HasObject, StandsAt};
 ghost use Rattle.segment_manager.specs.State.{Answers};
 
 use crate::head::{read_head, read_name};
 use crate::segment::Segment;
-use seg_types::{Class, Key, Kind, Refusal, ScalarKind};
+use best_fit::Heap;
+use seg_types::{Class, Handle, Key, Kind, Refusal, ScalarKind};
 
 impl Segment {
     /// The kind of the object of a key.
@@ -38,18 +43,18 @@ impl Segment {
         }
     }
 
-    /// The name of the object of a key. Only objects that are found by name have one: of others it is empty.
+    /// The name of the object of a key, or nothing where it has none: only objects that are found by name have one.
     ///
     /// # Errors
     ///
     /// `NotFound` where no object has the key.
-    pub fn instance_name(&self, key: &Key) -> Result<&[u8], Refusal>
-        ensures { MatchResult result (λ name. Answers self.now (λ d. told_at d (key_seen key.now) (λ (o : Object). o.name)) (Ok name.now))
-            (λ why. Answers self.now (λ d. told_at d (key_seen key.now) (λ (o : Object). o.name)) (Err why)) }
+    pub fn instance_name(&self, key: &Key) -> Result<Option<&[u8]>, Refusal>
+        ensures { MatchResult result (λ name. Answers self.now (λ d. told_at d (key_seen key.now) own_name) (Ok (option_map (λ bytes. bytes.now) name)))
+            (λ why. Answers self.now (λ d. told_at d (key_seen key.now) own_name) (Err why)) }
     {
         match self.handle_of(key) {
             None => Err(Refusal::NotFound),
-            Some(handle) => Ok(read_name(&self.heap, handle)),
+            Some(handle) => Ok(name_at(&self.heap, handle)),
         }
     }
 
@@ -79,6 +84,18 @@ impl Segment {
             None => Err(Refusal::NotFound),
             Some(handle) => Ok(read_head(&self.heap, handle).class),
         }
+    }
+}
+
+/// The name of the object at a handle, or nothing where it is not found by name.
+fn name_at(heap: &Heap, handle: Handle) -> Option<&[u8]>
+    requires heap { IsHeap current heap.now.bytes }
+    requires object { HasObject heap.now.bytes handle }
+    ensures { (o : Object) → StandsAt heap.now.bytes handle o → option_map (λ bytes. bytes.now) result ≡ own_name o }
+{
+    match read_head(heap, handle).class {
+        Class::Named => Some(read_name(heap, handle)),
+        Class::Anonymous | Class::Unique => None,
     }
 }
 

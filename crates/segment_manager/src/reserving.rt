@@ -1,7 +1,8 @@
 //! Places of the two indexes, reserved and given back.
-ghost use Rattle.std.specs.Prelude.{◌≡◌, OnErr};
+ghost use Rattle.std.specs.Prelude.{◌≡◌, ◌≤◌, OnErr};
 ghost use Rattle.seg_types.specs.Commands.{ReserveNamed, ReserveUnique, ShrinkIndexes};
-ghost use Rattle.segment_manager.specs.Indexed.{reserve_of};
+ghost use Rattle.segment_manager.specs.Indexed.{reserve_of, table_of};
+ghost use Rattle.segment_manager.specs.Keeping.{KeepsWhere};
 ghost use Rattle.segment_manager.specs.State.{IsStep, KeepsRefused, done_answer};
 
 use crate::segment::Segment;
@@ -21,6 +22,7 @@ impl Segment {
     pub fn reserve_named(&mut self, n: u64) -> Result<(), Refusal>
         ensures step { IsStep self.old self.new (ReserveNamed n) (done_answer result) }
         ensures refused { KeepsRefused self.old self.new result }
+        ensures enough { KeepsWhere self.old self.new (λ d. n ≤ d.named.capacity) }
     {
         self.reserve_index(Index::Named, n)
     }
@@ -34,6 +36,7 @@ impl Segment {
     pub fn reserve_unique(&mut self, n: u64) -> Result<(), Refusal>
         ensures step { IsStep self.old self.new (ReserveUnique n) (done_answer result) }
         ensures refused { KeepsRefused self.old self.new result }
+        ensures enough { KeepsWhere self.old self.new (λ d. n ≤ d.unique.capacity) }
     {
         self.reserve_index(Index::Unique, n)
     }
@@ -42,6 +45,7 @@ impl Segment {
     fn reserve_index(&mut self, index: Index, n: u64) -> Result<(), Refusal>
         ensures step { IsStep self.old self.new (reserve_of index n) (done_answer result) }
         ensures refused { KeepsRefused self.old self.new result }
+        ensures enough { KeepsWhere self.old self.new (λ d. n ≤ (table_of index d).capacity) }
     {
         if self.is_read_only() {
             return Err(Refusal::ReadOnly);

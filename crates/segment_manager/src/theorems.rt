@@ -1,8 +1,17 @@
 //! What holds of every command, whatever the segment holds. Each function here does nothing: its contract is the law.
+ghost use Rattle.std.specs.Prelude.{◌≡◌};
+ghost use Rattle.raw_region.specs.Format.{current};
+ghost use Rattle.segment_manager.specs.Denotes.{magic_number, two_halves};
 ghost use Rattle.segment_manager.specs.Entries.{IndexesFollowObjects};
 ghost use Rattle.segment_manager.specs.Laws.{CountedAreBelow, ReadsChangeNothing, ReadsOfKindChangeNothing, PoppedTextsLeadOn, RefusalsChangeNothing, RefusalsOfKindChangeNothing, RefusedCallsStay, StepsLeadOn};
 ghost use Rattle.segment_manager.specs.Heads.{EntriesSayObjects};
+ghost use Rattle.segment_manager.specs.Layout.{format_at, head_len, magic_at, name_class_at, named_at, reserved_at, size_at, unique_at};
 ghost use Rattle.segment_manager.specs.OwnedTexts.{TextsArePlaced};
+
+use crate::layout::{
+    FORMAT, FORMAT_AT, HALF, HEAD_LEN, MAGIC, MAGIC_AT, NAME_CLASS_AT, NAMED_AT, RESERVED_AT,
+    SIZE_AT, UNIQUE_AT,
+};
 
 /// A command that is refused changes nothing, and a segment that is open for reading refuses each command that may
 /// change it.
@@ -46,4 +55,20 @@ pub fn entries_say_objects()
 /// An index that is less than the number of objects that was answered has an object: so the calls by place may be made.
 pub fn counted_are_below()
     ensures { CountedAreBelow }
+{}
+
+/// Each constant of `layout` is what the definition of the bytes of a segment names: what stands in its header and where, where
+/// the words of an object's head stand, and what the upper half of a word counts.
+pub fn layout_is_denoted()
+    ensures magic { MAGIC ≡ magic_number }
+    ensures format { FORMAT ≡ current }
+    ensures magic_at { MAGIC_AT ≡ magic_at }
+    ensures format_at { FORMAT_AT ≡ format_at }
+    ensures size_at { SIZE_AT ≡ size_at }
+    ensures named_at { NAMED_AT ≡ named_at }
+    ensures unique_at { UNIQUE_AT ≡ unique_at }
+    ensures reserved_at { RESERVED_AT ≡ reserved_at }
+    ensures name_class_at { NAME_CLASS_AT ≡ name_class_at }
+    ensures head_len { HEAD_LEN ≡ head_len }
+    ensures half { HALF ≡ two_halves 0 1 }
 {}

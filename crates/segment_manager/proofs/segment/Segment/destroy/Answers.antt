@@ -5,6 +5,7 @@ use Rattle.seg_types.specs.Commands.{Destroy}
 use Rattle.seg_types.specs.Keys.{index_key_seen}
 use Rattle.seg_types.specs.Names as names
 use Rattle.segment_manager.specs.Answers.{Truth}
+use Rattle.segment_manager.specs.Keeping.{KeepsWhere, LacksKey}
 use Rattle.segment_manager.specs.State.{IsStep}
 use Rattle.segment_manager.proofs.Steps.{refuses-read_only}
 use Rattle.segment_manager.proofs.segment.Segment.destroy.Goals as goal
@@ -27,3 +28,13 @@ pub returns-in-Unique-clause-step : goal.returns-in-Unique-clause-step
 returns-in-Unique-clause-step c =
     subst (λ (k : IndexKey). IsStep c.args.self.now c.destroy_entered-in-Unique.new.self (Destroy (index_key_seen k)) (Truth c.destroy_entered-in-Unique.result)) (sym c.in-Unique.is)
     (c.destroy_entered-in-Unique.ensures.step (names.ByKind c.in-Unique.kind) c.code.ensures)
+
+pub returns-in-Name-clause-absent : goal.returns-in-Name-clause-absent
+returns-in-Name-clause-absent c =
+    subst (λ (k : IndexKey). KeepsWhere c.args.self.now c.destroy_entered.new.self (LacksKey (index_key_seen k))) (sym c.in-Name.is)
+    (c.destroy_entered.ensures.absent (names.ByName c.in-Name.name) c.as_bytes.ensures.bytes)
+
+pub returns-in-Unique-clause-absent : goal.returns-in-Unique-clause-absent
+returns-in-Unique-clause-absent c =
+    subst (λ (k : IndexKey). KeepsWhere c.args.self.now c.destroy_entered-in-Unique.new.self (LacksKey (index_key_seen k))) (sym c.in-Unique.is)
+    (c.destroy_entered-in-Unique.ensures.absent (names.ByKind c.in-Unique.kind) c.code.ensures)

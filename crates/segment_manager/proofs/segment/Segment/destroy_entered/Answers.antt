@@ -1,5 +1,5 @@
 -- The entry is removed with its object, or there is none.
-use Rattle.std.proofs.Common.{◌≡◌, ap, subst, ◌∙◌, true, false}
+use Rattle.std.proofs.Common.{◌≡◌, refl, ap, subst, ◌∙◌, true, false}
 use Rattle.seg_types.specs.Commands.{Destroy}
 use Rattle.segment_manager.specs.Answers.{Truth}
 use Rattle.segment_manager.specs.State.{IsStep, State}
@@ -7,6 +7,7 @@ use Rattle.segment_manager.specs.Step.{is_read_only}
 use Rattle.segment_manager.proofs.Destroys.{destroys-entered, destroys-none, found-entry}
 use Rattle.segment_manager.proofs.HeldIndexes.{denotes-keys}
 use Rattle.segment_manager.proofs.Steps.{step-segment}
+use Rattle.segment_manager.proofs.Keeping.{keeps-found}
 use Rattle.segment_manager.proofs.segment.Segment.destroy_entered.Goals as goal
 
 pub lookup-requires : goal.lookup-requires
@@ -31,6 +32,9 @@ returns-in-Found c = record {
       let writing : is_read_only s.mode ≡ false = ap (λ (t : State). is_read_only t.mode) c.self.view_is ∙ c.requires.writing in
       subst (λ t. IsStep t (record s { cut = c.remove_entered.new.heap }) (Destroy key) (Truth true)) c.self.view_is
       (destroys-entered s c.remove_entered.new.heap c.args.index c.args.entry key c.in-Found.place writing c.self.invariant q c.in-Found.ensures.place c.remove_entered.ensures);
+  absent =
+      let s : State = record { cut = c.self.inside.heap; mode = c.self.inside.mode } in
+      keeps-found s c.args.self.now c.self.view_is (record s { cut = c.remove_entered.new.heap }) c.args.index c.args.entry c.in-Found.place c.in-Found.ensures.place;
 }
 
 pub returns-in-Absent : goal.returns-in-Absent
@@ -39,4 +43,5 @@ returns-in-Absent c = record {
       let s : State = record { cut = c.self.inside.heap; mode = c.self.inside.mode } in
       let writing : is_read_only s.mode ≡ false = ap (λ (t : State). is_read_only t.mode) c.self.view_is ∙ c.requires.writing in
       subst (λ t. IsStep t t (Destroy key) (Truth false)) c.self.view_is (destroys-none s c.args.index c.args.entry key c.in-Absent.field-0 writing q c.in-Absent.ensures.place);
+  absent = λ key q d k lacks. refl;
 }

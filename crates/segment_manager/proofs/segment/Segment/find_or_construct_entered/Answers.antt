@@ -15,6 +15,7 @@ use Rattle.segment_manager.proofs.HeldIndexes.{denotes-index, denotes-keys}
 use Rattle.segment_manager.proofs.KeyCalls.{found-answers, place-below, segment-index}
 use Rattle.segment_manager.proofs.NewKeys.{key-seeks, key-short}
 use Rattle.segment_manager.proofs.Steps.{step-segment}
+use Rattle.segment_manager.proofs.Keeping.{keeps-absent}
 use Rattle.segment_manager.proofs.segment.Segment.find_or_construct_entered.Goals as goal
 use Rattle.segment_manager.proofs.segment.Segment.find_or_construct_entered.Goals.{in-Ok, in-Err}
 
@@ -86,3 +87,8 @@ returns-clause-step c =
           (subst (λ t. IsStep t (record s { cut = c.make_entered.new.heap }) (FindOrConstruct key (Numbers c.args.kind (replicate c.args.count z))) (pair_answer (Err NoSpace))) c.self.view_is
           (entered-makes_none s c.self.invariant c.args.index c.args.entry key c.args.name.now c.args.kind n c.make_entered.new.heap c.in-Absent.place c.args.count z writing c.in-Absent.ensures.place w.in-Err.ensures))
     ]
+
+pub returns-clause-found : goal.returns-clause-found
+returns-clause-found c =
+    let s : State = record { cut = c.self.inside.heap; mode = c.self.inside.mode } in
+    keeps-absent s c.args.self.now c.self.view_is (record s { cut = c.make_entered.new.heap }) c.args.index c.args.entry c.in-Absent.place c.in-Absent.ensures.place

@@ -7,6 +7,7 @@ use Rattle.seg_types.specs.Names as names
 use Rattle.seg_types.specs.Names.{is_text_name}
 use Rattle.segment_manager.specs.Found.{pair_answer}
 use Rattle.segment_manager.specs.NewObjects.{IsOfItsKind}
+use Rattle.segment_manager.specs.Keeping.{HasKey, KeepsWhere}
 use Rattle.segment_manager.specs.State.{IsStep}
 use Rattle.segment_manager.proofs.NewKeys.{text-is_name}
 use Rattle.segment_manager.proofs.Steps.{refuses-read_only}
@@ -43,3 +44,13 @@ returns-in-Unique-clause-step c =
     (sym c.in-Unique.is)
     (c.find_or_construct_entered-in-Unique.ensures.step (names.ByKind c.in-Unique.unique) z
     (c.code.ensures, refl, subst (λ (k : IndexKey). IsOfItsKind (index_key_seen k) c.args.kind) c.in-Unique.is c.requires.kind) v)
+
+pub returns-in-Name-clause-found : goal.returns-in-Name-clause-found
+returns-in-Name-clause-found c =
+    subst (λ (k : IndexKey). KeepsWhere c.args.self.now c.find_or_construct_entered.new.self (HasKey (index_key_seen k))) (sym c.in-Name.is)
+    (c.find_or_construct_entered.ensures.found (names.ByName c.in-Name.name) c.as_bytes-bytes.ensures.bytes)
+
+pub returns-in-Unique-clause-found : goal.returns-in-Unique-clause-found
+returns-in-Unique-clause-found c =
+    subst (λ (k : IndexKey). KeepsWhere c.args.self.now c.find_or_construct_entered-in-Unique.new.self (HasKey (index_key_seen k))) (sym c.in-Unique.is)
+    (c.find_or_construct_entered-in-Unique.ensures.found (names.ByKind c.in-Unique.unique) c.code.ensures)

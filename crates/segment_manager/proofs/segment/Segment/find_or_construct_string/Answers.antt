@@ -8,6 +8,7 @@ use Rattle.seg_types.specs.Names as names
 use Rattle.seg_types.specs.Names.{is_text_name}
 use Rattle.segment_manager.specs.Found.{pair_answer}
 use Rattle.segment_manager.specs.NewObjects.{IsOfKind}
+use Rattle.segment_manager.specs.Keeping.{HasKey, KeepsWhere}
 use Rattle.segment_manager.specs.State.{IsStep}
 use Rattle.segment_manager.proofs.NewKeys.{text-is_name}
 use Rattle.segment_manager.proofs.Steps.{refuses-read_only}
@@ -36,3 +37,13 @@ pub returns-in-Unique-clause-step : goal.returns-in-Unique-clause-step
 returns-in-Unique-clause-step c =
     subst (λ (k : IndexKey). IsStep c.args.self.now c.string_of_entry-in-Unique.new.self (FindOrConstruct (index_key_seen k) (Bytes c.args.bytes.now)) (pair_answer c.string_of_entry-in-Unique.result)) (sym c.in-Unique.is)
     (c.string_of_entry-in-Unique.ensures.step (names.ByKind c.in-Unique.kind) (c.code.ensures, refl, subst (λ (k : IndexKey). IsOfKind (index_key_seen k) Text) c.in-Unique.is c.requires.kind))
+
+pub returns-in-Name-clause-found : goal.returns-in-Name-clause-found
+returns-in-Name-clause-found c =
+    subst (λ (k : IndexKey). KeepsWhere c.args.self.now c.string_of_entry.new.self (HasKey (index_key_seen k))) (sym c.in-Name.is)
+    (c.string_of_entry.ensures.found (names.ByName c.in-Name.name) c.as_bytes-name.ensures.bytes)
+
+pub returns-in-Unique-clause-found : goal.returns-in-Unique-clause-found
+returns-in-Unique-clause-found c =
+    subst (λ (k : IndexKey). KeepsWhere c.args.self.now c.string_of_entry-in-Unique.new.self (HasKey (index_key_seen k))) (sym c.in-Unique.is)
+    (c.string_of_entry-in-Unique.ensures.found (names.ByKind c.in-Unique.kind) c.code.ensures)

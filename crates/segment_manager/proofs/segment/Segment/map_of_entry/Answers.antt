@@ -18,6 +18,7 @@ use Rattle.segment_manager.proofs.HeldIndexes.{denotes-keys}
 use Rattle.segment_manager.proofs.KeyCalls.{found-answers, place-below, segment-index}
 use Rattle.segment_manager.proofs.NewKeys.{key-seeks, key-short}
 use Rattle.segment_manager.proofs.NewMaps.{pairs-content}
+use Rattle.segment_manager.proofs.Keeping.{keeps-absent}
 use Rattle.segment_manager.proofs.segment.Segment.map_of_entry.Goals as goal
 
 pub lookup-requires : goal.lookup-requires
@@ -128,3 +129,13 @@ returns-in-Ok-clause-refused c =
     found-ended s c.self.invariant key (asked.NoPairs c.args.keys c.args.values) (Map c.args.keys c.args.values) 1 0 [] (λ t. Pairs c.args.keys c.args.values []) (pairs-content c.args.keys c.args.values) writing b.entry c.begin_at.new.heap c.build_map.new.heap b.handle b.at ⊤ c.build_map.result (λ h t. refl) begun c.build_map.ensures in
     subst (λ (r : Result (ℕ × ℕ) Refusal). KeepsRefused c.args.self.now (record s { cut = c.build_map.new.heap }) r) (sym c.counted.ensures)
     (made-refused s c.args.self.now c.self.view_is c.build_map.new.heap (asked.FindOrConstruct key (asked.NoPairs c.args.keys c.args.values)) pair_answer (with_one c.build_map.result) done)
+
+pub returns-in-Err-clause-found : goal.returns-in-Err-clause-found
+returns-in-Err-clause-found c =
+    let s : State = record { cut = c.self.inside.heap; mode = c.self.inside.mode } in
+    keeps-absent s c.args.self.now c.self.view_is (record s { cut = c.begin_at.new.heap }) c.args.index c.args.entry c.in-Absent.place c.in-Absent.ensures.place
+
+pub returns-in-Ok-clause-found : goal.returns-in-Ok-clause-found
+returns-in-Ok-clause-found c =
+    let s : State = record { cut = c.self.inside.heap; mode = c.self.inside.mode } in
+    keeps-absent s c.args.self.now c.self.view_is (record s { cut = c.build_map.new.heap }) c.args.index c.args.entry c.in-Absent.place c.in-Absent.ensures.place

@@ -8,6 +8,7 @@ use Rattle.segment_manager.specs.Step.{is_read_only}
 use Rattle.segment_manager.proofs.KeyCalls.{segment-index}
 use Rattle.segment_manager.proofs.Reserves.{reserve-changes, reserves, reserves-none}
 use Rattle.segment_manager.proofs.Steps.{refuses-read_only, step-segment}
+use Rattle.segment_manager.proofs.Keeping.{keeps-fewer, keeps-places}
 use Rattle.segment_manager.proofs.segment.Segment.reserve_index.Goals as goal
 use Rattle.segment_manager.proofs.segment.Segment.reserve_index.Goals.{in-Ok, in-Err}
 
@@ -38,4 +39,12 @@ returns-clause-step c =
       | in-Err w ↦ subst (λ (r : Result (Unit {0}) Refusal). IsStep c.args.self.now (record s { cut = c.reserve.new.heap }) (reserve_of c.args.index c.args.n) (done_answer r)) (sym w.result-is)
           (subst (λ t. IsStep t (record s { cut = c.reserve.new.heap }) (reserve_of c.args.index c.args.n) (done_answer (Err NoSpace))) c.self.view_is
           (reserves-none s c.reserve.new.heap c.args.index c.args.n writing w.in-Err.ensures.reserved.0 w.in-Err.ensures.reserved.1))
+    ]
+
+pub returns-clause-enough : goal.returns-clause-enough
+returns-clause-enough c =
+    let s : State = record { cut = c.self.inside.heap; mode = c.self.inside.mode } in
+    elim c.match-reserve.branch [
+      | in-Ok w ↦ keeps-places s c.args.self.now c.self.view_is c.reserve.new.heap c.args.index c.args.n w.in-Ok.ensures.reserved
+      | in-Err w ↦ keeps-fewer s c.args.self.now c.self.view_is (record s { cut = c.reserve.new.heap }) c.args.index c.args.n w.in-Err.ensures.reserved.0
     ]

@@ -17,6 +17,7 @@ use Rattle.segment_manager.proofs.Here.{has-object}
 use Rattle.segment_manager.proofs.HeldIndexes.{denotes-keys}
 use Rattle.segment_manager.proofs.KeyCalls.{found-answers, place-below, segment-index}
 use Rattle.segment_manager.proofs.NewKeys.{key-seeks, key-short}
+use Rattle.segment_manager.proofs.Keeping.{keeps-absent}
 use Rattle.segment_manager.proofs.segment.Segment.texts_of_entry.Goals as goal
 
 pub lookup-requires : goal.lookup-requires
@@ -127,3 +128,13 @@ returns-in-Ok-clause-refused c =
     texts-found s c.self.invariant key (map (λ (text : Bor (List ℕ)). text.now) c.args.texts.now) writing b.entry c.begin_at.new.heap c.build_texts.new.heap b.handle b.at c.build_texts.result begun c.build_texts.ensures in
     subst (λ (r : Result (ℕ × ℕ) Refusal). KeepsRefused c.args.self.now (record s { cut = c.build_texts.new.heap }) r) (sym c.counted.ensures)
     (made-refused s c.args.self.now c.self.view_is c.build_texts.new.heap (asked.FindOrConstruct key (asked.Strings (map (λ (text : Bor (List ℕ)). text.now) c.args.texts.now))) pair_answer (with_one c.build_texts.result) done)
+
+pub returns-in-Err-clause-found : goal.returns-in-Err-clause-found
+returns-in-Err-clause-found c =
+    let s : State = record { cut = c.self.inside.heap; mode = c.self.inside.mode } in
+    keeps-absent s c.args.self.now c.self.view_is (record s { cut = c.begin_at.new.heap }) c.args.index c.args.entry c.in-Absent.place c.in-Absent.ensures.place
+
+pub returns-in-Ok-clause-found : goal.returns-in-Ok-clause-found
+returns-in-Ok-clause-found c =
+    let s : State = record { cut = c.self.inside.heap; mode = c.self.inside.mode } in
+    keeps-absent s c.args.self.now c.self.view_is (record s { cut = c.build_texts.new.heap }) c.args.index c.args.entry c.in-Absent.place c.in-Absent.ensures.place

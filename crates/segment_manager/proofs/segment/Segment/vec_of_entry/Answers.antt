@@ -22,6 +22,7 @@ use Rattle.segment_manager.proofs.Here.{has-object}
 use Rattle.segment_manager.proofs.HeldIndexes.{denotes-keys}
 use Rattle.segment_manager.proofs.KeyCalls.{found-answers, place-below, segment-index}
 use Rattle.segment_manager.proofs.NewKeys.{key-seeks, key-short}
+use Rattle.segment_manager.proofs.Keeping.{keeps-absent}
 use Rattle.segment_manager.proofs.segment.Segment.vec_of_entry.Goals as goal
 
 pub lookup-requires : goal.lookup-requires
@@ -132,3 +133,13 @@ returns-in-Ok-clause-refused g c =
     found-ended s c.self.invariant key (asked.Elements g.T.Scalar.kind (map g.T.Scalar.whole c.args.values.now)) (Vector g.T.Scalar.kind) (size_of g.T.Scalar.kind) _ (spelled g.T.Scalar.kind (map g.T.Scalar.whole c.args.values.now)) (Elements g.T.Scalar.kind (map g.T.Scalar.whole c.args.values.now)) (elements-content g.T.Scalar.kind (map g.T.Scalar.whole c.args.values.now)) writing b.entry c.begin_at.new.heap c.build_vec.new.heap b.handle b.at (IsTrue (list_all (is_value g.T.Scalar.kind) (map g.T.Scalar.whole c.args.values.now))) c.build_vec.result (λ h t. h) begun c.build_vec.ensures in
     subst (λ (r : Result (ℕ × ℕ) Refusal). KeepsRefused c.args.self.now (record s { cut = c.build_vec.new.heap }) r) (sym c.counted.ensures)
     (made-refused s c.args.self.now c.self.view_is c.build_vec.new.heap (asked.FindOrConstruct key (asked.Elements g.T.Scalar.kind (map g.T.Scalar.whole c.args.values.now))) pair_answer (with_one c.build_vec.result) done)
+
+pub returns-in-Err-clause-found : goal.returns-in-Err-clause-found
+returns-in-Err-clause-found g c =
+    let s : State = record { cut = c.self.inside.heap; mode = c.self.inside.mode } in
+    keeps-absent s c.args.self.now c.self.view_is (record s { cut = c.begin_at.new.heap }) c.args.index c.args.entry c.in-Absent.place c.in-Absent.ensures.place
+
+pub returns-in-Ok-clause-found : goal.returns-in-Ok-clause-found
+returns-in-Ok-clause-found g c =
+    let s : State = record { cut = c.self.inside.heap; mode = c.self.inside.mode } in
+    keeps-absent s c.args.self.now c.self.view_is (record s { cut = c.build_vec.new.heap }) c.args.index c.args.entry c.in-Absent.place c.in-Absent.ensures.place

@@ -12,13 +12,12 @@ ghost use Rattle.image_check.specs.Containers.{rooted_weight};
 ghost use Rattle.image_check.specs.Passes.{HasTiles, tiles_in};
 ghost use Rattle.image_check.specs.Visits.{Adds};
 
+use crate::image_window::ImageWindow;
 use crate::owners::{Block, good_len};
 use crate::spellings::are_spellings;
 use crate::visits::Visits;
 use block_tags::{Role, TAG};
 use indexmap::IndexMap;
-use offset_link::load;
-use raw_region::Window;
 use seg_types::ScalarKind;
 
 /// The bytes of an element of an array of texts: a link and a length.
@@ -56,7 +55,7 @@ fn has_room(len: u64, each: u64, capacity: u64) -> bool
 
 /// Whether the three words at `at` are those of a string or a vector of this kind.
 pub(crate) fn is_storage(
-    window: &Window,
+    window: &ImageWindow,
     blocks: &IndexMap<u64, Block>,
     visits: &mut Visits,
     kind: ScalarKind,
@@ -75,7 +74,7 @@ pub(crate) fn is_storage(
     if len > capacity {
         return false;
     }
-    let link = load(window, at);
+    let link = window.load(at);
     if !is_table(blocks, visits, link, kind.size(), capacity) {
         return false;
     }
@@ -86,7 +85,12 @@ pub(crate) fn is_storage(
 }
 
 /// Whether the element at `at` leads to a storage block with room for its text.
-fn is_element(window: &Window, blocks: &IndexMap<u64, Block>, visits: &mut Visits, at: u64) -> bool
+fn is_element(
+    window: &ImageWindow,
+    blocks: &IndexMap<u64, Block>,
+    visits: &mut Visits,
+    at: u64,
+) -> bool
     requires size { IsTrue (is_legal_size (length window.now.bytes)) }
     requires aligned { at % 8 ≡ 0 }
     requires inside { at + 16 ≤ length window.now.bytes }
@@ -94,12 +98,12 @@ fn is_element(window: &Window, blocks: &IndexMap<u64, Block>, visits: &mut Visit
     ensures visits { Adds 2 visits.old visits.new }
 {
     visits.visit();
-    is_table(blocks, visits, load(window, at), 1, window.read_u64(at + 8))
+    is_table(blocks, visits, window.load(at), 1, window.read_u64(at + 8))
 }
 
 /// Whether the first `n` elements of the array at `at` lead to their texts.
 fn are_elements(
-    window: &Window,
+    window: &ImageWindow,
     blocks: &IndexMap<u64, Block>,
     visits: &mut Visits,
     at: u64,
@@ -122,7 +126,7 @@ fn are_elements(
 
 /// Whether the three words at `at` are those of an array of texts.
 pub(crate) fn is_array(
-    window: &Window,
+    window: &ImageWindow,
     blocks: &IndexMap<u64, Block>,
     visits: &mut Visits,
     at: u64,
@@ -140,7 +144,7 @@ pub(crate) fn is_array(
     if len > capacity {
         return false;
     }
-    let link = load(window, at);
+    let link = window.load(at);
     if !is_table(blocks, visits, link, ELEMENT, capacity) {
         return false;
     }

@@ -16,6 +16,7 @@ use crate::errors::CheckError;
 use crate::free_tree::has_free_tree;
 use crate::gathering::gather;
 use crate::heads::is_zero;
+use crate::image_window::ImageWindow;
 use crate::indexes::check_indexes;
 use crate::object_walk::check_objects;
 use crate::orphans::check_orphans;
@@ -23,8 +24,7 @@ use crate::owners::Owners;
 use crate::sharing::check_sharing;
 use crate::visits::Visits;
 use crate::without_tree::check_without_tree;
-use block_tags::{FIRST, check_counted};
-use raw_region::Window;
+use block_tags::FIRST;
 use segment_manager::layout::{FORMAT_AT, RESERVED_AT, SIZE_AT};
 use std::alloc::Global;
 
@@ -36,7 +36,7 @@ use std::alloc::Global;
 pub fn check(
     format: u64,
     alloc: Global,
-    window: &Window,
+    window: &ImageWindow,
     visits: &mut Visits,
 ) -> Result<(), CheckError>
     requires format { format ≤ 2 }
@@ -62,7 +62,7 @@ pub fn check(
 /// # Errors
 ///
 /// The first of `BadReserved`, `BadTag` and `BadFreeTree` that holds.
-fn check_frame(format: u64, window: &Window, visits: &mut Visits) -> Result<(), ImageClass>
+fn check_frame(format: u64, window: &ImageWindow, visits: &mut Visits) -> Result<(), ImageClass>
     requires { HasFront format window.now }
     ensures finds { MatchResult result (λ done. IsTrue (has_frame format window.now.bytes)) (λ class. class_of format window.now.bytes ≡ Some class) }
     ensures bytes { OnOk result (IsTrue (are_bytes window.now.bytes)) }
@@ -72,7 +72,7 @@ fn check_frame(format: u64, window: &Window, visits: &mut Visits) -> Result<(), 
     if !has_reserved(all_bytes(window)) {
         return Err(ImageClass::BadReserved);
     }
-    let tags = check_counted(window);
+    let tags = window.check_counted();
     visits.add(tags.tags);
     if !tags.are_good {
         return Err(ImageClass::BadTag);
@@ -93,7 +93,7 @@ fn check_frame(format: u64, window: &Window, visits: &mut Visits) -> Result<(), 
 /// The first of `BadIndex`, `BadObject`, `SharedBlock`, `BadContainer` and `OrphanBlock` that holds.
 fn check_blocks(
     format: u64,
-    window: &Window,
+    window: &ImageWindow,
     owners: &mut Owners,
     visits: &mut Visits,
 ) -> Result<(), ImageClass>
@@ -120,7 +120,7 @@ fn check_blocks(
 }
 
 /// All bytes of the window.
-pub(crate) fn all_bytes(window: &Window) -> &[u8]
+pub(crate) fn all_bytes(window: &ImageWindow) -> &[u8]
     ensures all { result.now ≡ window.now.bytes }
     ensures bytes { IsTrue (are_bytes result.now) }
 {

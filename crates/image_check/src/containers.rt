@@ -14,17 +14,17 @@ ghost use Rattle.block_tags.specs.declared.tile.Tile.{Tile};
 use crate::arrays::{is_array, is_storage};
 use crate::classes::ImageClass;
 use crate::heads::{kind_of, value_of};
+use crate::image_window::ImageWindow;
 use crate::maps::is_map;
 use crate::owners::{Block, Owners, is_object};
 use crate::visits::Visits;
-use block_tags::{TAG, Tile, first, next};
+use block_tags::{TAG, Tile};
 use indexmap::IndexMap;
-use raw_region::Window;
 use seg_types::{Kind, ScalarKind};
 
 /// Whether the value of this kind at `at` is no container, or one whose words, link and elements are right.
 fn is_right(
-    window: &Window,
+    window: &ImageWindow,
     blocks: &IndexMap<u64, Block>,
     visits: &mut Visits,
     kind: Kind,
@@ -52,7 +52,7 @@ fn is_right(
 /// Whether the tile is no object's, or its value is no container, or one that is right.
 fn is_right_tile(
     format: u64,
-    window: &Window,
+    window: &ImageWindow,
     blocks: &IndexMap<u64, Block>,
     visits: &mut Visits,
     tile: Tile,
@@ -82,7 +82,7 @@ fn is_right_tile(
 /// Whether all containers of the image are right.
 fn are_right(
     format: u64,
-    window: &Window,
+    window: &ImageWindow,
     blocks: &IndexMap<u64, Block>,
     visits: &mut Visits,
 ) -> bool
@@ -94,12 +94,12 @@ fn are_right(
     ensures least { visits.old ≤ visits.new }
     ensures most { visits.new ≤ visits.old + (weigh container_walk_rates (tiles_in window.now.bytes) + weigh_blocks blocks.now.entries) }
 {
-    let mut tile = first(window);
+    let mut tile = window.first();
     'tiles: while let Some(here) = tile {
         if !is_right_tile(format, window, blocks, visits, here) {
             return false;
         }
-        tile = next(window, here.offset);
+        tile = window.next(here.offset);
     }
     true
 }
@@ -112,7 +112,7 @@ fn are_right(
 /// `BadContainer` where one is not.
 pub(crate) fn check_containers(
     format: u64,
-    window: &Window,
+    window: &ImageWindow,
     owners: &Owners,
     visits: &mut Visits,
 ) -> Result<(), ImageClass>

@@ -15,18 +15,17 @@ ghost use Rattle.image_check.specs.Passes.{Spends};
 ghost use Rattle.image_check.specs.Visits.{counting_rates, planting_rates, planting_visits, tree_rates};
 ghost use Rattle.image_check.specs.FreeLaws.{before_agrees, before_irreflexive, before_transitive, places_finite, places_left, places_right};
 
+use crate::image_window::ImageWindow;
 use crate::visits::Visits;
 use best_fit::{FREE_TREE, RIGHT};
-use block_tags::{TAG, Tile, first, next};
+use block_tags::{TAG, Tile};
 use link_tree::{Nodes, check, find_first_not_before};
-use offset_link::checked;
-use raw_region::Window;
 
 /// The places of a window where a payload may begin, as the nodes of a tree. A link that leads to no such place is read as
 /// null. A node precedes longer ones, and those as long that stand behind it, by the lengths in front of them.
 #[derive(Clone, Copy)]
 struct Places<'a> {
-    window: &'a Window,
+    window: &'a ImageWindow,
 }
 
 /// A node that is looked for in the tree: its length and its place.
@@ -47,12 +46,12 @@ impl Places<'_> {
 }
 
 /// Where the link at `at` leads, or nowhere where that is no place of a payload.
-fn placed_link(window: &Window, at: u64) -> Option<u64>
+fn placed_link(window: &ImageWindow, at: u64) -> Option<u64>
     requires aligned { at % 8 ≡ 0 }
     requires inside { at + 8 ≤ length window.now.bytes }
     ensures { result ≡ placed (length window.now.bytes) (link_at (bytes_of window.now.bytes) at) }
 {
-    match checked(window, at) {
+    match window.checked(at) {
         Ok(target) => target,
         Err(_) => None,
     }
@@ -112,14 +111,14 @@ impl Nodes for Places<'_> {
 ///
 /// A tree of as many nodes as there are free tiles, in which each of them is found, has no other node. Each is searched for
 /// to the depth of a red-black tree of that size.
-pub fn has_free_tree(window: &Window, visits: &mut Visits) -> bool
+pub fn has_free_tree(window: &ImageWindow, visits: &mut Visits) -> bool
     requires size { IsTrue (is_legal_size (length window.now.bytes)) }
     requires tags { IsTrue (has_tags current (bytes_of window.now.bytes) (length window.now.bytes)) }
     ensures value { result ≡ has_tree current (bytes_of window.now.bytes) (tiles_of (bytes_of window.now.bytes) (length window.now.bytes)) }
     ensures visits { Spends tree_rates 50 window.now.bytes visits.old visits.new }
 {
     let places = Places { window };
-    let Ok(root) = checked(window, FREE_TREE) else {
+    let Ok(root) = window.checked(FREE_TREE) else {
         return false;
     };
     let tree = check(&places, root);
@@ -131,20 +130,20 @@ pub fn has_free_tree(window: &Window, visits: &mut Visits) -> bool
 }
 
 /// The number of free tiles.
-fn count_free(window: &Window, visits: &mut Visits) -> u64
+fn count_free(window: &ImageWindow, visits: &mut Visits) -> u64
     requires size { IsTrue (is_legal_size (length window.now.bytes)) }
     requires tags { IsTrue (has_tags current (bytes_of window.now.bytes) (length window.now.bytes)) }
     ensures value { result ≡ length (gaps_in window.now) }
     ensures visits { Spends counting_rates 0 window.now.bytes visits.old visits.new }
 {
     let mut count = 0;
-    let mut tile = first(window);
+    let mut tile = window.first();
     'tiles: while let Some(here) = tile {
         visits.visit();
         if here.use_of.is_none() {
             count += 1;
         }
-        tile = next(window, here.offset);
+        tile = window.next(here.offset);
     }
     count
 }
@@ -159,13 +158,13 @@ fn are_planted(places: &Places<'_>, root: Option<u64>, visits: &mut Visits) -> b
         → result ≡ list_all (is_planted_in places.now.window.now (nodes_of t)) (tiles_in places.now.window.now) }
     ensures visits { Spends planting_rates 0 places.now.window.now.bytes visits.old visits.new }
 {
-    let mut tile = first(places.window);
+    let mut tile = places.window.first();
     'tiles: while let Some(here) = tile {
         visits.visit();
         if !is_planted(places, root, here, visits) {
             return false;
         }
-        tile = next(places.window, here.offset);
+        tile = places.window.next(here.offset);
     }
     true
 }
@@ -212,9 +211,9 @@ fn is_reached(places: &Places<'_>, root: Option<u64>, sought: Sought, visits: &m
 }
 
 /// Whether both links of a node are null or lead to places of payloads.
-fn has_good_links(window: &Window, node: u64) -> bool
+fn has_good_links(window: &ImageWindow, node: u64) -> bool
     requires { is_place window.now node ≡ true }
     ensures { result ≡ has_good_links window.now node }
 {
-    checked(window, node).is_ok() && checked(window, node + RIGHT).is_ok()
+    window.checked(node).is_ok() && window.checked(node + RIGHT).is_ok()
 }

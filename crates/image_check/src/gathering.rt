@@ -5,12 +5,12 @@ ghost use Rattle.image_check.specs.Owners.{block_at, entries_of, entry_of};
 ghost use Rattle.image_check.specs.Passes.{HasTiles, Spends, tiles_in};
 ghost use Rattle.image_check.specs.Visits.{Adds, gathering_rates};
 
+use crate::image_window::ImageWindow;
 use crate::owners::{Block, Owners};
 use crate::room::{NoMemory, room_for};
 use crate::visits::Visits;
-use block_tags::{Tile, first, next};
+use block_tags::Tile;
 use indexmap::IndexMap;
-use raw_region::Window;
 use std::alloc::Global;
 
 /// The blocks in use by payload, to none of which a link was met. Memory is asked for once, and not where no block is in use.
@@ -20,7 +20,7 @@ use std::alloc::Global;
 /// Where there is no memory for them.
 pub(crate) fn gather(
     alloc: Global,
-    window: &Window,
+    window: &ImageWindow,
     visits: &mut Visits,
 ) -> Result<Owners, NoMemory>
     requires tiles { HasTiles window.now.bytes }
@@ -45,36 +45,36 @@ pub(crate) fn gather(
 }
 
 /// The number of blocks in use. One visit for each tile.
-fn count_used(window: &Window, visits: &mut Visits) -> usize
+fn count_used(window: &ImageWindow, visits: &mut Visits) -> usize
     requires tiles { HasTiles window.now.bytes }
     ensures count { result ≡ length (entries_of (tiles_in window.now.bytes)) }
     ensures visits { visits.new ≡ visits.old + length (tiles_in window.now.bytes) }
 {
     let mut count = 0;
-    let mut tile = first(window);
+    let mut tile = window.first();
     'tiles: while let Some(here) = tile {
         visits.visit();
         if here.use_of.is_some() {
             count += 1;
         }
-        tile = next(window, here.offset);
+        tile = window.next(here.offset);
     }
     count
 }
 
 /// Adds the blocks in use to a map with room for them. At most two visits for each tile.
-fn add_all(window: &Window, blocks: &mut IndexMap<u64, Block>, visits: &mut Visits)
+fn add_all(window: &ImageWindow, blocks: &mut IndexMap<u64, Block>, visits: &mut Visits)
     requires tiles { HasTiles window.now.bytes }
     requires empty { blocks.old.entries ≡ [] }
     requires room { length (entries_of (tiles_in window.now.bytes)) ≤ spare blocks.old }
     ensures entries { blocks.new.entries ≡ entries_of (tiles_in window.now.bytes) }
     ensures visits { Adds (length (tiles_in window.now.bytes) + length (tiles_in window.now.bytes)) visits.old visits.new }
 {
-    let mut tile = first(window);
+    let mut tile = window.first();
     'tiles: while let Some(here) = tile {
         visits.visit();
         add(blocks, here, visits);
-        tile = next(window, here.offset);
+        tile = window.next(here.offset);
     }
 }
 

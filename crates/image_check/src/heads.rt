@@ -8,12 +8,12 @@ ghost use Rattle.image_check.specs.ObjectPasses.{is_spelled, is_value_room};
 ghost use Rattle.image_check.specs.Entered.{AreEntered, index_of as listing_index};
 ghost use Rattle.image_check.specs.Visits.{Adds};
 
+use crate::image_window::ImageWindow;
 use crate::owners::{Block, block_of, is_same};
 use crate::spellings::are_spellings;
 use crate::visits::Visits;
 use block_tags::Role;
 use indexmap::IndexMap;
-use raw_region::Window;
 use seg_types::{Kind, is_name};
 use segment_manager::layout::{HEAD_LEN, NAME_CLASS_AT, NAMED_AT, UNIQUE_AT};
 
@@ -36,7 +36,7 @@ pub(crate) const NAMED: u64 = 1;
 pub(crate) const UNIQUE: u64 = 2;
 
 /// The kind of the object at `at`, if it has one of the format.
-pub(crate) fn kind_of(format: u64, window: &Window, at: u64) -> Option<Kind>
+pub(crate) fn kind_of(format: u64, window: &ImageWindow, at: u64) -> Option<Kind>
     requires { at + 8 ≤ length window.now.bytes }
     ensures { result ≡ kind_at format (bytes_of window.now.bytes) at }
 {
@@ -48,7 +48,7 @@ pub(crate) fn kind_of(format: u64, window: &Window, at: u64) -> Option<Kind>
 }
 
 /// How many bytes the name of the object at `at` has.
-pub(crate) fn name_len_of(window: &Window, at: u64) -> u64
+pub(crate) fn name_len_of(window: &ImageWindow, at: u64) -> u64
     requires small { at < 2 ^ 63 }
     requires inside { at + 16 ≤ length window.now.bytes }
     ensures len { result ≡ name_len_at (bytes_of window.now.bytes) at }
@@ -58,7 +58,7 @@ pub(crate) fn name_len_of(window: &Window, at: u64) -> u64
 }
 
 /// Where the value of the object at `at` stands.
-pub(crate) fn value_of(window: &Window, at: u64) -> u64
+pub(crate) fn value_of(window: &ImageWindow, at: u64) -> u64
     requires small { at < 2 ^ 63 }
     requires inside { at + 16 ≤ length window.now.bytes }
     ensures { result ≡ value_offset (bytes_of window.now.bytes) at }
@@ -80,7 +80,7 @@ pub(crate) fn has_room(kind: Kind, count: u64, start: u64, end: u64) -> bool
 }
 
 /// Whether the name and the class of the object at `at` are right.
-pub(crate) fn has_name(format: u64, window: &Window, at: u64) -> bool
+pub(crate) fn has_name(format: u64, window: &ImageWindow, at: u64) -> bool
     requires small { length window.now.bytes < 2 ^ 63 }
     requires inside { at + 16 + name_len_at (bytes_of window.now.bytes) at ≤ length window.now.bytes }
     ensures { result ≡ is_named format (bytes_of window.now.bytes) at }
@@ -94,7 +94,7 @@ pub(crate) fn has_name(format: u64, window: &Window, at: u64) -> bool
 }
 
 /// Whether the bytes between the name and the value of the object at `at` are zero.
-pub(crate) fn has_padding(window: &Window, at: u64) -> bool
+pub(crate) fn has_padding(window: &ImageWindow, at: u64) -> bool
     requires small { length window.now.bytes < 2 ^ 63 }
     requires inside { value_offset (bytes_of window.now.bytes) at ≤ length window.now.bytes }
     ensures { result ≡ is_padded (bytes_of window.now.bytes) at }
@@ -112,7 +112,7 @@ pub(crate) fn is_zero(bytes: &[u8]) -> bool
 
 /// Whether the value is no scalars, or each of them is spelled. One visit for each.
 pub(crate) fn has_spellings(
-    window: &Window,
+    window: &ImageWindow,
     visits: &mut Visits,
     kind: Kind,
     count: u64,
@@ -146,7 +146,7 @@ fn index_of(blocks: &IndexMap<u64, Block>, at: u64, visits: &mut Visits) -> Opti
 
 /// Whether the object at `at` has an entry in the index of its class, if there is one.
 pub(crate) fn is_indexed(
-    window: &Window,
+    window: &ImageWindow,
     blocks: &IndexMap<u64, Block>,
     visits: &mut Visits,
     at: u64,

@@ -13,12 +13,11 @@ ghost use Rattle.image_check.specs.Entered.{AreAdded, AreEntered, are_enterable,
 
 use crate::classes::ImageClass;
 use crate::entering::enter;
+use crate::image_window::ImageWindow;
 use crate::owners::{Block, Owners, good_len};
 use crate::visits::Visits;
 use block_tags::Role;
 use indexmap::IndexMap;
-use offset_link::load;
-use raw_region::Window;
 use segment_manager::layout::{NAMED_AT, UNIQUE_AT};
 
 /// Checks both indexes, and notes their entries at the objects that they lead to.
@@ -28,7 +27,7 @@ use segment_manager::layout::{NAMED_AT, UNIQUE_AT};
 /// `BadIndex` where one has more entries than places, a block that is none or too short, a block but no place, or an entry
 /// that leads to no object or to one that has an entry already.
 pub(crate) fn check_indexes(
-    window: &Window,
+    window: &ImageWindow,
     owners: &mut Owners,
     visits: &mut Visits,
 ) -> Result<(), ImageClass>
@@ -55,7 +54,7 @@ pub(crate) fn check_indexes(
 
 /// Notes the entries of the index whose words stand at `at`; whether all is right with it, and its entries lead to objects
 /// that had none.
-fn enter_index(window: &Window, owners: &mut Owners, visits: &mut Visits, at: u64) -> bool
+fn enter_index(window: &ImageWindow, owners: &mut Owners, visits: &mut Visits, at: u64) -> bool
     requires tiles { HasTiles window.now.bytes }
     requires place { IsIndexPlace at }
     requires blocks { AreBlocks (tiles_in window.now.bytes) owners.old.blocks.entries }
@@ -70,14 +69,19 @@ fn enter_index(window: &Window, owners: &mut Owners, visits: &mut Visits, at: u6
     if !has_places(window, &owners.blocks, visits, at) {
         return false;
     }
-    match load(window, at) {
+    match window.load(at) {
         None => true,
         Some(block) => enter_all(window, owners, visits, block, window.read_u64(at + 8), at),
     }
 }
 
 /// Whether the index has no more entries than places, and a block with room for its places where it has any.
-fn has_places(window: &Window, blocks: &IndexMap<u64, Block>, visits: &mut Visits, at: u64) -> bool
+fn has_places(
+    window: &ImageWindow,
+    blocks: &IndexMap<u64, Block>,
+    visits: &mut Visits,
+    at: u64,
+) -> bool
     requires tiles { HasTiles window.now.bytes }
     requires place { IsIndexPlace at }
     requires blocks { AreBlocks (tiles_in window.now.bytes) blocks.now.entries }
@@ -90,7 +94,7 @@ fn has_places(window: &Window, blocks: &IndexMap<u64, Block>, visits: &mut Visit
     if window.read_u64(at + 8) > capacity {
         return false;
     }
-    let link = load(window, at);
+    let link = window.load(at);
     if capacity == 0 {
         return link.is_none();
     }
@@ -109,7 +113,7 @@ fn has_room(capacity: u64, len: u64) -> bool
 
 /// Notes the entries in the first `count` places of a block; whether each leads to an object that had none.
 fn enter_all(
-    window: &Window,
+    window: &ImageWindow,
     owners: &mut Owners,
     visits: &mut Visits,
     block: u64,
@@ -131,7 +135,7 @@ fn enter_all(
     'entries: while i < count {
         let place = block + 8 * i;
         visits.visit();
-        if !enter(owners, visits, load(window, place), place, root) {
+        if !enter(owners, visits, window.load(place), place, root) {
             return false;
         }
         i += 1;

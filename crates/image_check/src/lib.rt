@@ -12,6 +12,7 @@ mod free_tree;
 mod gathering;
 mod header;
 mod heads;
+mod image_window;
 mod indexes;
 pub mod laws;
 mod links;

@@ -7,12 +7,11 @@ ghost use Rattle.image_check.specs.Sharing.{AreElementsNoted, IsIndexNoted, IsSt
 ghost use Rattle.image_check.specs.Visits.{Adds};
 
 use crate::classes::ImageClass;
+use crate::image_window::ImageWindow;
 use crate::marks::mark;
 use crate::owners::{Owner, Owners};
 use crate::visits::Visits;
 use block_tags::Role;
-use offset_link::load;
-use raw_region::Window;
 
 /// Notes the link of the index whose words stand at `at`, where it has places. At most two visits.
 ///
@@ -20,7 +19,7 @@ use raw_region::Window;
 ///
 /// `SharedBlock` where another link leads there.
 pub(crate) fn mark_index(
-    window: &Window,
+    window: &ImageWindow,
     owners: &mut Owners,
     at: u64,
     visits: &mut Visits,
@@ -38,7 +37,7 @@ pub(crate) fn mark_index(
         return Ok(());
     }
     let link = Owner { at, root: at };
-    mark(owners, Role::Index, link, load(window, at), visits)
+    mark(owners, Role::Index, link, window.load(at), visits)
 }
 
 /// Notes the storage link of the value at `at`, where it has places. At most two visits.
@@ -47,7 +46,7 @@ pub(crate) fn mark_index(
 ///
 /// `SharedBlock` where another link leads there.
 pub(crate) fn mark_storage(
-    window: &Window,
+    window: &ImageWindow,
     owners: &mut Owners,
     at: u64,
     visits: &mut Visits,
@@ -67,7 +66,7 @@ pub(crate) fn mark_storage(
         return Ok(());
     }
     let link = Owner { at, root: at };
-    mark(owners, Role::Storage, link, load(window, at), visits)
+    mark(owners, Role::Storage, link, window.load(at), visits)
 }
 
 /// Notes the links of the first `count` elements of the array at `array`. At most three visits for each.
@@ -76,7 +75,7 @@ pub(crate) fn mark_storage(
 ///
 /// `SharedBlock` where one of them leads to a block to which another link leads.
 pub(crate) fn mark_elements(
-    window: &Window,
+    window: &ImageWindow,
     owners: &mut Owners,
     array: u64,
     count: u64,
@@ -98,7 +97,7 @@ pub(crate) fn mark_elements(
         let at = array + 16 * i;
         visits.visit();
         let link = Owner { at, root: at };
-        if let Err(class) = mark(owners, Role::Storage, link, load(window, at), visits) {
+        if let Err(class) = mark(owners, Role::Storage, link, window.load(at), visits) {
             return Err(class);
         }
         i += 1;

@@ -15,14 +15,13 @@ ghost use Rattle.image_check.specs.Fields.{is_map_at};
 ghost use Rattle.image_check.specs.Passes.{HasTiles, tiles_in};
 ghost use Rattle.image_check.specs.Visits.{Adds};
 
+use crate::image_window::ImageWindow;
 use crate::owners::{Block, is_same};
 use crate::visits::Visits;
 use best_fit::RIGHT;
 use block_tags::{Role, TAG};
 use indexmap::IndexMap;
 use link_tree::{Nodes, check};
-use offset_link::load;
-use raw_region::Window;
 use seg_types::ScalarKind;
 
 /// The two links of a pair, before its key.
@@ -34,7 +33,7 @@ const LINKS: u64 = 16;
 /// to its own node, which no ordered tree has.
 #[derive(Clone, Copy)]
 struct Pairs<'a> {
-    window: &'a Window,
+    window: &'a ImageWindow,
     blocks: &'a IndexMap<u64, Block>,
     root: u64,
     key: ScalarKind,
@@ -42,7 +41,7 @@ struct Pairs<'a> {
 }
 
 /// Whether the bytes at `at` spell a value of the kind.
-pub(crate) fn is_spelled(window: &Window, kind: ScalarKind, at: u64) -> bool
+pub(crate) fn is_spelled(window: &ImageWindow, kind: ScalarKind, at: u64) -> bool
     requires { at + size_of kind ≤ length window.now.bytes }
     ensures { result ≡ is_spelling_of kind (read (bytes_of window.now.bytes) at (size_of kind)) }
 {
@@ -51,7 +50,7 @@ pub(crate) fn is_spelled(window: &Window, kind: ScalarKind, at: u64) -> bool
 
 /// Whether a payload may begin there.
 #[tactic(auto, unfolding(crate::specs::FreeNodes::is_place))]
-fn is_place_in(window: &Window, node: u64) -> bool
+fn is_place_in(window: &ImageWindow, node: u64) -> bool
     requires { IsTrue (is_legal_size (length window.now.bytes)) }
     ensures { result ≡ is_place window.now node }
 {
@@ -101,7 +100,7 @@ impl Pairs<'_> {
         requires inside { at + 8 ≤ length self.now.window.now.bytes }
         ensures { result ≡ kept_link (is_pair self.now.window.now self.now.blocks.now.entries self.now.root self.now.key self.now.value) node (link_at (bytes_of self.now.window.now.bytes) at) }
     {
-        match load(self.window, at) {
+        match self.window.load(at) {
             Some(target) if self.is_pair(target) => Some(target),
             Some(_) => Some(node),
             None => None,
@@ -172,7 +171,7 @@ impl Nodes for Pairs<'_> {
 
 /// Whether the three words at `at` are those of a map: a tree of pairs, as many as are counted, and a zero.
 pub(crate) fn is_map(
-    window: &Window,
+    window: &ImageWindow,
     blocks: &IndexMap<u64, Block>,
     visits: &mut Visits,
     key: ScalarKind,
@@ -197,7 +196,7 @@ pub(crate) fn is_map(
     };
     // A look-up of the root, and reading it.
     visits.add(2);
-    let root = load(window, at);
+    let root = window.load(at);
     if !pairs.has_at(root) {
         return false;
     }

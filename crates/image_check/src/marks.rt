@@ -10,11 +10,10 @@ ghost use Rattle.image_check.specs.Passes.{HasTiles};
 ghost use Rattle.image_check.specs.Visits.{Adds};
 
 use crate::classes::ImageClass;
+use crate::image_window::ImageWindow;
 use crate::owners::{Block, Owner, Owners, block_of, is_same, put};
 use crate::visits::Visits;
 use block_tags::Role;
-use offset_link::load;
-use raw_region::Window;
 
 /// Notes that a link with this target leads to a block of the role, where it does. At most two visits.
 ///
@@ -95,7 +94,7 @@ fn root_in(block: Option<Block>, target: u64) -> u64
 ///
 /// `SharedBlock` where one of them leads to a node to which another link leads.
 fn follow_next(
-    window: &Window,
+    window: &ImageWindow,
     owners: &mut Owners,
     node: u64,
     visits: &mut Visits,
@@ -115,11 +114,11 @@ fn follow_next(
     owners.waiting -= 1;
     visits.visit();
     let left = Owner { at: node, root };
-    match mark(owners, Role::Node, left, load(window, node), visits) {
+    match mark(owners, Role::Node, left, window.load(node), visits) {
         Err(class) => Err(class),
         Ok(()) => {
             let right = Owner { at: node + 8, root };
-            mark(owners, Role::Node, right, load(window, node + 8), visits)
+            mark(owners, Role::Node, right, window.load(node + 8), visits)
         }
     }
 }
@@ -130,7 +129,7 @@ fn follow_next(
 ///
 /// `SharedBlock` where two of them lead to one node.
 pub(crate) fn follow(
-    window: &Window,
+    window: &ImageWindow,
     owners: &mut Owners,
     visits: &mut Visits,
 ) -> Result<(), ImageClass>

@@ -14,12 +14,12 @@ use crate::heads::{
     HALF, NAMED, UNIQUE, has_name, has_padding, has_room, has_spellings, is_indexed, kind_of,
     value_of,
 };
+use crate::image_window::ImageWindow;
 use crate::owners::{Block, Owners};
 use crate::ranks::has_order;
 use crate::visits::Visits;
-use block_tags::{Role, TAG, Tile, first, next};
+use block_tags::{Role, TAG, Tile};
 use indexmap::IndexMap;
-use raw_region::Window;
 use segment_manager::layout::{NAMED_AT, UNIQUE_AT};
 
 /// Checks each object by itself, then the order of the entries of each index. The indexes are those of class 8, and their
@@ -31,7 +31,7 @@ use segment_manager::layout::{NAMED_AT, UNIQUE_AT};
 /// its class; or where an index names an object of another class or its keys do not rise.
 pub(crate) fn check_objects(
     format: u64,
-    window: &Window,
+    window: &ImageWindow,
     owners: &Owners,
     visits: &mut Visits,
 ) -> Result<(), ImageClass>
@@ -56,7 +56,7 @@ pub(crate) fn check_objects(
 /// Whether each tile is no object's or one of an object that is right.
 fn are_right(
     format: u64,
-    window: &Window,
+    window: &ImageWindow,
     blocks: &IndexMap<u64, Block>,
     visits: &mut Visits,
 ) -> bool
@@ -65,12 +65,12 @@ fn are_right(
     ensures is { result ≡ list_all (is_right_tile format (bytes_of window.now.bytes)) (tiles_in window.now.bytes) }
     ensures spends { Spends object_walk_rates 0 window.now.bytes visits.old visits.new }
 {
-    let mut tile = first(window);
+    let mut tile = window.first();
     'tiles: while let Some(here) = tile {
         if !is_right(format, window, blocks, visits, here) {
             return false;
         }
-        tile = next(window, here.offset);
+        tile = window.next(here.offset);
     }
     true
 }
@@ -78,7 +78,7 @@ fn are_right(
 /// Whether the tile is no object's or one of an object that is right.
 fn is_right(
     format: u64,
-    window: &Window,
+    window: &ImageWindow,
     blocks: &IndexMap<u64, Block>,
     visits: &mut Visits,
     tile: Tile,
@@ -103,7 +103,7 @@ fn is_right(
 /// Whether the object at `at`, whose payload ends at `end`, is right. Two visits, and one for each scalar of its value.
 fn is_object(
     format: u64,
-    window: &Window,
+    window: &ImageWindow,
     blocks: &IndexMap<u64, Block>,
     visits: &mut Visits,
     at: u64,

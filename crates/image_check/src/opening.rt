@@ -45,7 +45,7 @@ pub fn open<S: Source>(
     let checked = check(FORMAT, alloc, &window, &mut visits);
     *steps = visits.into_steps();
     match checked {
-        Ok(()) => Ok(Segment::adopt(window, mode)),
+        Ok(()) => Ok(Segment::adopt(window.into_window(), mode)),
         Err(why) => Err(OpenRefused {
             region: window.into_region(),
             cause: why.into_cause(),

@@ -46,7 +46,7 @@ pub fn open_any<S: Source>(
     let checked = check(format, alloc, &window, &mut visits);
     *steps = visits.into_steps();
     match checked {
-        Ok(()) => Ok(Segment::adopt(renew(format, window), mode)),
+        Ok(()) => Ok(Segment::adopt(renew(format, window.into_window()), mode)),
         Err(why) => Err(OpenRefused {
             region: window.into_region(),
             cause: why.into_cause(),

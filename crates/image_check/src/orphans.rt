@@ -9,11 +9,11 @@ ghost use Rattle.image_check.specs.Passes.{Finds, HasTiles, Spends, tiles_in};
 ghost use Rattle.image_check.specs.Visits.{Adds, orphan_rates};
 
 use crate::classes::ImageClass;
+use crate::image_window::ImageWindow;
 use crate::owners::{Block, Owner, Owners, block_of, is_same};
 use crate::visits::Visits;
-use block_tags::{Role, Tile, first, next};
+use block_tags::{Role, Tile};
 use indexmap::IndexMap;
-use raw_region::Window;
 
 /// Checks that a link leads to each index, storage and node.
 ///
@@ -21,7 +21,7 @@ use raw_region::Window;
 ///
 /// `OrphanBlock` where none leads to one.
 pub(crate) fn check_orphans(
-    window: &Window,
+    window: &ImageWindow,
     owners: &Owners,
     visits: &mut Visits,
 ) -> Result<(), ImageClass>
@@ -38,18 +38,18 @@ pub(crate) fn check_orphans(
 }
 
 /// Whether each tile needs no owner or has one. At most two visits for each.
-fn are_owned(window: &Window, blocks: &IndexMap<u64, Block>, visits: &mut Visits) -> bool
+fn are_owned(window: &ImageWindow, blocks: &IndexMap<u64, Block>, visits: &mut Visits) -> bool
     requires tiles { HasTiles window.now.bytes }
     ensures owned { result ≡ list_all (has_owner blocks.now.entries) (tiles_in window.now.bytes) }
     ensures visits { Adds (2 * length (tiles_in window.now.bytes)) visits.old visits.new }
 {
-    let mut tile = first(window);
+    let mut tile = window.first();
     'tiles: while let Some(here) = tile {
         visits.visit();
         if !is_owned(blocks, here, visits) {
             return false;
         }
-        tile = next(window, here.offset);
+        tile = window.next(here.offset);
     }
     true
 }

@@ -11,13 +11,12 @@ ghost use Rattle.image_check.specs.Passes.{HasTiles, tiles_in};
 ghost use Rattle.image_check.specs.Visits.{Adds, weigh};
 
 use crate::heads::{HALF, NAMED, name_len_of};
+use crate::image_window::ImageWindow;
 use crate::visits::Visits;
-use offset_link::load;
-use raw_region::Window;
 use segment_manager::layout::{HEAD_LEN, NAME_CLASS_AT};
 
 /// Whether the entries of the index whose words stand at `at` lead to objects of a class, whose keys rise.
-pub(crate) fn has_order(window: &Window, visits: &mut Visits, at: u64, class: u64) -> bool
+pub(crate) fn has_order(window: &ImageWindow, visits: &mut Visits, at: u64, class: u64) -> bool
     requires tiles { HasTiles window.now.bytes }
     requires place { IsIndexPlace at }
     requires index { has_index (bytes_of window.now.bytes) (tiles_in window.now.bytes) at ≡ true }
@@ -25,14 +24,14 @@ pub(crate) fn has_order(window: &Window, visits: &mut Visits, at: u64, class: u6
     ensures is { result ≡ are_ranked class (bytes_of window.now.bytes) (targets (bytes_of window.now.bytes) at) }
     ensures spends { (visits.old ≤ visits.new) × (2 * visits.new ≤ 2 * visits.old + weigh entry_rates (tiles_in window.now.bytes)) }
 {
-    match load(window, at) {
+    match window.load(at) {
         None => true,
         Some(block) => rise(window, visits, block, window.read_u64(at + 8), class),
     }
 }
 
 /// Whether the links in the first `count` places of a block lead to objects of a class, whose keys rise.
-fn rise(window: &Window, visits: &mut Visits, block: u64, count: u64, class: u64) -> bool
+fn rise(window: &ImageWindow, visits: &mut Visits, block: u64, count: u64, class: u64) -> bool
     requires small { length window.now.bytes < 2 ^ 63 }
     requires aligned { block % 8 ≡ 0 }
     requires inside { block + 8 * count ≤ length window.now.bytes }
@@ -46,7 +45,7 @@ fn rise(window: &Window, visits: &mut Visits, block: u64, count: u64, class: u64
     'entries: while i < count {
         let place = block + 8 * i;
         visits.visit();
-        let Some(here) = load(window, place) else {
+        let Some(here) = window.load(place) else {
             return false;
         };
         if !follows(window, visits, class, last, here) {
@@ -59,7 +58,13 @@ fn rise(window: &Window, visits: &mut Visits, block: u64, count: u64, class: u64
 }
 
 /// Whether an object is of the class, and its key stands behind that of the last one, if there was one. At most two visits.
-fn follows(window: &Window, visits: &mut Visits, class: u64, last: Option<u64>, here: u64) -> bool
+fn follows(
+    window: &ImageWindow,
+    visits: &mut Visits,
+    class: u64,
+    last: Option<u64>,
+    here: u64,
+) -> bool
     requires small { length window.now.bytes < 2 ^ 63 }
     requires here { here + 16 + name_len_at (bytes_of window.now.bytes) here ≤ length window.now.bytes }
     requires last { (g : ℕ) → last ≡ Some g → g + 16 + name_len_at (bytes_of window.now.bytes) g ≤ length window.now.bytes }
@@ -80,7 +85,7 @@ fn follows(window: &Window, visits: &mut Visits, class: u64, last: Option<u64>, 
 }
 
 /// Whether the key of an object stands before that of another, both of the class.
-fn precedes(window: &Window, class: u64, one: u64, other: u64) -> bool
+fn precedes(window: &ImageWindow, class: u64, one: u64, other: u64) -> bool
     requires small { length window.now.bytes < 2 ^ 63 }
     requires one { one + 16 + name_len_at (bytes_of window.now.bytes) one ≤ length window.now.bytes }
     requires other { other + 16 + name_len_at (bytes_of window.now.bytes) other ≤ length window.now.bytes }
@@ -94,7 +99,7 @@ fn precedes(window: &Window, class: u64, one: u64, other: u64) -> bool
 }
 
 /// The class of the object at `at`.
-fn class_of(window: &Window, at: u64) -> u64
+fn class_of(window: &ImageWindow, at: u64) -> u64
     requires small { at < 2 ^ 63 }
     requires inside { at + 16 ≤ length window.now.bytes }
     ensures { result ≡ class_at (bytes_of window.now.bytes) at }
@@ -103,7 +108,7 @@ fn class_of(window: &Window, at: u64) -> u64
 }
 
 /// The code of the kind of the object at `at`.
-fn code_of(window: &Window, at: u64) -> u64
+fn code_of(window: &ImageWindow, at: u64) -> u64
     requires { at + 8 ≤ length window.now.bytes }
     ensures { result ≡ code_at (bytes_of window.now.bytes) at }
 {
@@ -111,7 +116,7 @@ fn code_of(window: &Window, at: u64) -> u64
 }
 
 /// The name of the object at `at`.
-fn name_of(window: &Window, at: u64) -> &[u8]
+fn name_of(window: &ImageWindow, at: u64) -> &[u8]
     requires small { length window.now.bytes < 2 ^ 63 }
     requires inside { at + 16 + name_len_at (bytes_of window.now.bytes) at ≤ length window.now.bytes }
     ensures { result.now ≡ name_at (bytes_of window.now.bytes) at }

@@ -11,6 +11,7 @@ ghost use Rattle.image_check.specs.Reading.{GoesOn, HasFront, IsFrontRead, IsRea
 use crate::classes::ImageClass;
 use crate::errors::{OpenError, OpenRefused};
 use crate::header::{FRONT, LEAST, size_by};
+use crate::image_window::ImageWindow;
 use crate::versions::Versions;
 use raw_region::{RawRegion, Source, Window, fill};
 
@@ -25,7 +26,7 @@ pub fn read_image<S: Source>(
     reader: &mut S,
     region: RawRegion,
     base: u64,
-) -> Result<Window, OpenRefused>
+) -> Result<ImageWindow, OpenRefused>
     requires aligned { base % 16 ≡ 0 }
     requires reader { (S.history reader.old).failures < 2 ^ 64 - 1 }
     ensures reads { MatchResult result
@@ -42,7 +43,7 @@ pub fn read_image<S: Source>(
     let mut window = Window::new(region, base, size);
     window.write(0, &front);
     match read_rest(reader, &mut window) {
-        Ok(()) => Ok(window),
+        Ok(()) => Ok(ImageWindow::new(window)),
         Err(cause) => Err(OpenRefused {
             region: window.into_region(),
             cause,

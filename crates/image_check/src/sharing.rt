@@ -14,13 +14,12 @@ ghost use Rattle.image_check.specs.declared.owners.Owner.{Owner as OwnerValue};
 
 use crate::classes::ImageClass;
 use crate::heads::{kind_of, value_of};
+use crate::image_window::ImageWindow;
 use crate::links::{mark_elements, mark_index, mark_storage};
 use crate::marks::{follow, mark};
 use crate::owners::{Owner, Owners, good_len, is_object};
 use crate::visits::Visits;
-use block_tags::{Role, TAG, Tile, first, next};
-use offset_link::load;
-use raw_region::Window;
+use block_tags::{Role, TAG, Tile};
 use seg_types::Kind;
 use segment_manager::layout::{NAMED_AT, UNIQUE_AT};
 
@@ -41,7 +40,7 @@ fn elements_in(length: u64, len: u64) -> u64
 ///
 /// `SharedBlock` where one of them leads to a block to which another link leads.
 fn mark_texts(
-    window: &Window,
+    window: &ImageWindow,
     owners: &mut Owners,
     at: u64,
     visits: &mut Visits,
@@ -60,7 +59,7 @@ fn mark_texts(
     if window.read_u64(at + 16) == 0 {
         return Ok(());
     }
-    let Some(array) = load(window, at) else {
+    let Some(array) = window.load(at) else {
         return Ok(());
     };
     let Some(len) = good_len(&owners.blocks, Role::Storage, Some(array), visits) else {
@@ -76,7 +75,7 @@ fn mark_texts(
 ///
 /// `SharedBlock` where one of them leads to a block to which another link leads.
 fn mark_array(
-    window: &Window,
+    window: &ImageWindow,
     owners: &mut Owners,
     at: u64,
     visits: &mut Visits,
@@ -102,7 +101,7 @@ fn mark_array(
 ///
 /// `SharedBlock` where one of them leads to a block to which another link leads.
 fn mark_value(
-    window: &Window,
+    window: &ImageWindow,
     owners: &mut Owners,
     kind: Kind,
     at: u64,
@@ -123,7 +122,7 @@ fn mark_value(
             owners,
             Role::Node,
             Owner { at, root: at },
-            load(window, at),
+            window.load(at),
             visits,
         ),
         Kind::Text => mark_storage(window, owners, at, visits),
@@ -139,7 +138,7 @@ fn mark_value(
 /// `SharedBlock` where one of them leads to a block to which another link leads.
 fn mark_object(
     format: u64,
-    window: &Window,
+    window: &ImageWindow,
     owners: &mut Owners,
     tile: Tile,
     visits: &mut Visits,
@@ -176,7 +175,7 @@ fn mark_object(
 /// `SharedBlock` where one of them leads to a block to which another link leads.
 fn mark_values(
     format: u64,
-    window: &Window,
+    window: &ImageWindow,
     owners: &mut Owners,
     visits: &mut Visits,
 ) -> Result<(), ImageClass>
@@ -191,13 +190,13 @@ fn mark_values(
         (IsSharedIn said window.now.bytes) }
     ensures visits { Pays (weigh value_rates (tiles_in window.now.bytes)) result visits.old (6 * owners.old.waiting + debt owners.old.blocks.entries) visits.new (6 * owners.new.waiting + debt owners.new.blocks.entries) }
 {
-    let mut tile = first(window);
+    let mut tile = window.first();
     'tiles: while let Some(here) = tile {
         visits.visit();
         if let Err(class) = mark_object(format, window, owners, here, visits) {
             return Err(class);
         }
-        tile = next(window, here.offset);
+        tile = window.next(here.offset);
     }
     Ok(())
 }
@@ -207,7 +206,11 @@ fn mark_values(
 /// # Errors
 ///
 /// `SharedBlock` where both lead to one block.
-fn mark_indexes(window: &Window, owners: &mut Owners, visits: &mut Visits) -> Result<(), ImageClass>
+fn mark_indexes(
+    window: &ImageWindow,
+    owners: &mut Owners,
+    visits: &mut Visits,
+) -> Result<(), ImageClass>
     ghost said: { ℕ }
     requires tiles { HasTiles window.now.bytes }
     requires unmarked { IsUnmarked (tiles_in window.now.bytes) owners.old.blocks.entries }
@@ -231,7 +234,7 @@ fn mark_indexes(window: &Window, owners: &mut Owners, visits: &mut Visits) -> Re
 /// `SharedBlock` where two lead to one.
 pub(crate) fn check_sharing(
     format: u64,
-    window: &Window,
+    window: &ImageWindow,
     owners: &mut Owners,
     visits: &mut Visits,
 ) -> Result<(), ImageClass>

@@ -5,13 +5,13 @@ ghost use Rattle.seg_types.specs.Kinds.{size_of};
 ghost use Rattle.image_check.specs.ObjectTests.{are_spellings as spell_values};
 ghost use Rattle.image_check.specs.Visits.{Adds};
 
+use crate::image_window::ImageWindow;
 use crate::visits::Visits;
-use raw_region::Window;
 use seg_types::ScalarKind;
 
 /// Whether the `count` elements of a kind from `start` on spell values of it. One visit for each.
 pub(crate) fn are_spellings(
-    window: &Window,
+    window: &ImageWindow,
     visits: &mut Visits,
     kind: ScalarKind,
     start: u64,

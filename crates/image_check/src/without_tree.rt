@@ -6,18 +6,21 @@ ghost use Rattle.image_check.specs.Passes.{HasTiles, Spends, tiles_in};
 ghost use Rattle.image_check.specs.Visits.{tag_rates};
 
 use crate::classes::ImageClass;
+use crate::image_window::ImageWindow;
 use crate::visits::Visits;
 use best_fit::FREE_TREE;
-use block_tags::{Tile, first, next};
+use block_tags::Tile;
 use offset_link::NULL;
-use raw_region::Window;
 
 /// Checks that no free tile is red, and that the link of the header leads to no tree.
 ///
 /// # Errors
 ///
 /// `BadTag` where one is red, and then `BadFreeTree`.
-pub(crate) fn check_without_tree(window: &Window, visits: &mut Visits) -> Result<(), ImageClass>
+pub(crate) fn check_without_tree(
+    window: &ImageWindow,
+    visits: &mut Visits,
+) -> Result<(), ImageClass>
     requires tiles { HasTiles window.now.bytes }
     ensures finds { FindsWithoutTree window.now.bytes result }
     ensures visits { Spends tag_rates 0 window.now.bytes visits.old visits.new }
@@ -32,18 +35,18 @@ pub(crate) fn check_without_tree(window: &Window, visits: &mut Visits) -> Result
 }
 
 /// Whether no free tile is red. One visit for each tile.
-fn are_plain(window: &Window, visits: &mut Visits) -> bool
+fn are_plain(window: &ImageWindow, visits: &mut Visits) -> bool
     requires tiles { HasTiles window.now.bytes }
     ensures value { result ≡ list_all is_plain_tile (tiles_in window.now.bytes) }
     ensures visits { Spends tag_rates 0 window.now.bytes visits.old visits.new }
 {
-    let mut tile = first(window);
+    let mut tile = window.first();
     'tiles: while let Some(here) = tile {
         visits.visit();
         if !is_plain(here) {
             return false;
         }
-        tile = next(window, here.offset);
+        tile = window.next(here.offset);
     }
     true
 }

@@ -9,7 +9,7 @@ check-checked-requires-clause-front g c = c.in_ok-window.ensures.reads.front
 
 pub adopt-requires : goal.adopt-requires
 unfolding current
-adopt-requires g c = let there = c.in-Ok.ensures.answers in (there.0, record { denotes = there.1 })
+adopt-requires g c = rw c.into_window.ensures (let there = c.in-Ok.ensures.answers in (there.0, record { denotes = there.1 }))
 
 pub returns-in-Err-clause-opens : goal.returns-in-Err-clause-opens
 unfolding current

@@ -1,7 +1,9 @@
 use Rattle.raw_region.specs.Device.{given_since}
-use Rattle.std.proofs.Common.{ap, ◌∙◌}
+use Rattle.std.proofs.Common.{ap, subst, ◌∙◌}
+use Rattle.raw_region.specs.Memory.{Cut, SamePlace}
 use Rattle.std.proofs.lemmas.Result.{err_from_is_err_and}
 use Rattle.image_check.specs.Formats.{version_word}
+use Rattle.image_check.specs.OpeningAny.{IsRenewed}
 use Rattle.image_check.proofs.OpenedAny.{opened-any, read-few, read-front, refused-any, renewed-segment, unread-any}
 use Rattle.image_check.proofs.opening_any.open_any.Goals as goal
 
@@ -27,13 +29,21 @@ returns-in_err-window-clause-opens g c =
     c.in_err-window.field-0.0 c.in_err-window.ensures.reads)
 
 pub adopt-requires : goal.adopt-requires
-adopt-requires g c = renewed-segment c.version_in-format.result c.in_ok-window.window.bytes c.renew.result.bytes c.in-Ok.ensures.answers c.renew.ensures.renewed
+adopt-requires g c =
+    let window = c.into_window.ensures in
+    let to = c.renew.result in
+    let renewed = subst (λ (v : Cut). IsRenewed c.version_in-format.result v.bytes to.bytes) window c.renew.ensures.renewed in
+    renewed-segment c.version_in-format.result c.in_ok-window.window.bytes to.bytes c.in-Ok.ensures.answers renewed
 
 pub returns-in-Ok-clause-opens : goal.returns-in-Ok-clause-opens
 returns-in-Ok-clause-opens g c =
+    let window = c.into_window.ensures in
+    let to = c.renew.result in
+    let place = subst (λ (v : Cut). SamePlace v to) window c.renew.ensures.place in
+    let renewed = subst (λ (v : Cut). IsRenewed c.version_in-format.result v.bytes to.bytes) window c.renew.ensures.renewed in
     opened-any (given_since (g.S.Source.history c.args.reader.now) (g.S.Source.history c.read_image.new.reader)) c.args.region c.args.base c.in_ok-window.window
     c.in_ok-window.ensures.reads c.version_in-format.result (c.version_in-format.ensures ∙ ap version_word c.all_bytes.ensures.all)
-    c.args.mode c.renew.result c.adopt.result c.in-Ok.ensures.answers c.renew.ensures.place c.renew.ensures.renewed c.adopt.ensures.cut c.adopt.ensures.mode
+    c.args.mode c.renew.result c.adopt.result c.in-Ok.ensures.answers place renewed c.adopt.ensures.cut c.adopt.ensures.mode
 
 pub returns-in-Err-clause-opens : goal.returns-in-Err-clause-opens
 returns-in-Err-clause-opens g c =

@@ -28,11 +28,11 @@ returns-in-Ok-read_rest-clause-reads g c =
     let long = read.long in
     let enough : 12 ≤ length front = omega arith in
     let by = since-format c.args.versions old mid new front (drop (length mid) new) enough read.read was.history.grows in
-    subst (λ (f : ℕ). IsImageRead f (given_since (g.S.Source.history c.args.reader.now) (g.S.Source.history c.read_rest.new.reader)) c.args.region c.args.base c.read_rest.new.window) (sym by)
+    rw c.new.ensures (subst (λ (f : ℕ). IsImageRead f (given_since (g.S.Source.history c.args.reader.now) (g.S.Source.history c.read_rest.new.reader)) c.args.region c.args.base c.read_rest.new.window) (sym by)
     (begun-read (format_in c.args.versions front) old mid front c.args.region c.args.base c.in-Ok.size c.write.new.self
     (record { front_read = read; is = c.write.ensures.written ∙ ap (λ (w : Cut). with_bytes w (patched w.bytes 0 front)) c.new-window.ensures.cut })
     new _ (g.S.Source.history c.args.reader.now).failures (g.S.Source.history c.read_front.new.reader).failures (g.S.Source.history c.read_rest.new.reader).failures c.read_rest.new.window
-    was.history.grows c.in-Ok.ensures.history.counted was.history.counted was.ended was.ok was.len)
+    was.history.grows c.in-Ok.ensures.history.counted was.history.counted was.ended was.ok was.len))
 
 pub returns-in-Err-read_rest-clause-reads : goal.returns-in-Err-read_rest-clause-reads
 returns-in-Err-read_rest-clause-reads g c =

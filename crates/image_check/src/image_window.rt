@@ -1,0 +1,132 @@
+//! The one way to the bytes of an image that is checked.
+ghost use Rattle.std.specs.Prelude.{◌≡◌, ◌+◌, ◌*◌, ◌%◌, ◌≤◌, ◌↔◌, IfOk, IsTrue, List, is_err, length};
+ghost use Rattle.raw_region.specs.Format.{current};
+ghost use Rattle.raw_region.specs.Memory.{bytes_of, part, whole, word_at};
+ghost use Rattle.offset_link.specs.Link.{link_at};
+ghost use Rattle.offset_link.specs.Relinked.{is_bad};
+ghost use Rattle.block_tags.specs.Format.{is_legal_size};
+ghost use Rattle.block_tags.specs.Lists.{first_in, next_in};
+ghost use Rattle.block_tags.specs.Tiles.{has_tags};
+ghost use Rattle.block_tags.specs.Windows.{HasTileAt, IsTiled, SaysTiles};
+ghost use Rattle.block_tags.specs.declared.tile.Tile.{Tile as ATile};
+
+use block_tags::{Checked, Tile, check_counted, first, next};
+use offset_link::{BadLink, checked, load};
+use raw_region::{RawRegion, Window};
+use std::marker::Model;
+
+/// The window of an image that is checked.
+#[derive(Drop)]
+pub struct ImageWindow {
+    window: Window,
+}
+
+impl Model for ImageWindow {
+    ghost use Rattle.raw_region.specs.Memory.{Cut};
+
+    ghost Value = { Cut };
+
+    ghost view = { λ i. i.window };
+}
+
+impl ImageWindow {
+    /// The image in a window.
+    pub fn new(window: Window) -> ImageWindow
+        ensures { result ≡ window }
+    {
+        ImageWindow { window }
+    }
+
+    /// The window, once the image was checked.
+    pub fn into_window(self) -> Window
+        ensures { result ≡ self }
+    {
+        self.window
+    }
+
+    /// The whole region, with the bytes that it has now.
+    pub fn into_region(self) -> RawRegion
+        ensures { result ≡ whole self }
+    {
+        self.window.into_region()
+    }
+
+    /// The number of bytes.
+    pub fn size(&self) -> u64
+        ensures { result ≡ length self.now.bytes }
+    {
+        self.window.size()
+    }
+
+    /// Whether `len` bytes from `from` on lie inside.
+    pub fn in_range(&self, from: u64, len: u64) -> bool
+        ensures { IsTrue result ↔ (from + len ≤ length self.now.bytes) }
+    {
+        self.window.in_range(from, len)
+    }
+
+    /// The `len` bytes from `from` on.
+    pub fn bytes(&self, from: u64, len: u64) -> &[u8]
+        requires { from + len ≤ length self.now.bytes }
+        ensures bytes { result.now ≡ part self.now.bytes from len }
+        ensures len { length result.now ≡ len }
+    {
+        self.window.bytes(from, len)
+    }
+
+    /// The number in the 8 bytes at `at`.
+    pub fn read_u64(&self, at: u64) -> u64
+        requires { at + 8 ≤ length self.now.bytes }
+        ensures { result ≡ word_at (bytes_of self.now.bytes) at }
+    {
+        self.window.read_u64(at)
+    }
+
+    /// Where the link at `at` leads.
+    pub fn load(&self, at: u64) -> Option<u64>
+        requires aligned { at % 8 ≡ 0 }
+        requires inside { at + 8 ≤ length self.now.bytes }
+        ensures { result ≡ link_at (bytes_of self.now.bytes) at }
+    {
+        load(&self.window, at)
+    }
+
+    /// The same, where that is nowhere or a place of a payload.
+    ///
+    /// # Errors
+    ///
+    /// `BadLink` where it is no place of a payload.
+    pub fn checked(&self, at: u64) -> Result<Option<u64>, BadLink>
+        requires aligned { at % 8 ≡ 0 }
+        requires inside { at + 8 ≤ length self.now.bytes }
+        ensures ok { IfOk result (λ target. target ≡ link_at (bytes_of self.now.bytes) at) }
+        ensures err { is_err result ≡ is_bad (length self.now.bytes) (link_at (bytes_of self.now.bytes) at) }
+    {
+        checked(&self.window, at)
+    }
+
+    /// Reads all tags up to the first wrong one, and counts them.
+    pub fn check_counted(&self) -> Checked
+        requires { IsTrue (is_legal_size (length self.now.bytes)) }
+        ensures good { result.are_good ≡ has_tags current (bytes_of self.now.bytes) (length self.now.bytes) }
+        ensures few { 32 * result.tags + 112 ≤ length self.now.bytes }
+    {
+        check_counted(&self.window)
+    }
+
+    /// The tile behind the header, or nothing where there is none.
+    pub fn first(&self) -> Option<Tile>
+        requires { IsTiled self.now }
+        ensures { (ts : List ATile) → SaysTiles self.now ts → result ≡ first_in ts }
+    {
+        first(&self.window)
+    }
+
+    /// The tile behind the one at `at`, or nothing where that is the last.
+    pub fn next(&self, at: u64) -> Option<Tile>
+        requires { HasTileAt self.now at }
+        ensures { (ts : List ATile) → SaysTiles self.now ts → result ≡ next_in ts at }
+    {
+        next(&self.window, at)
+    }
+}

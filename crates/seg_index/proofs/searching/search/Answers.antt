@@ -62,11 +62,6 @@ halves-preserved c =
       counting = rw more (counts_down stands c.args.count low high s.count i.counting t is);
     }
 
-pub returns-in-Equal-clause-count : goal.returns-in-Equal-clause-count
-returns-in-Equal-clause-count c =
-    let t = c.halves-test.true in let k = c.halves.invariant.counted in let more = c.compare.ensures.count in
-    let half = bits_half (c.halves.high - c.halves.low) 0 (omega arith) (omega arith) in omega arith
-
 pub returns-in-Equal-clause-exact : goal.returns-in-Equal-clause-exact
 returns-in-Equal-clause-exact c =
     let a = c.args.comparisons.now in let s = c.halves.comparisons in let i = c.halves.invariant in
@@ -76,6 +71,11 @@ returns-in-Equal-clause-exact c =
     (ap (λ b. b.now) i.heap) i.key i.block c.compare.ensures.order c.in-Equal.is in
     let stands = order_at (bytes_of a.heap.now.bytes) a.key a.block in
     c.compare.ensures.count ∙ counts_found stands c.args.count low high s.count i.counting c.halves-test.true is
+
+pub returns-in-Equal-clause-count : goal.returns-in-Equal-clause-count
+returns-in-Equal-clause-count c =
+    let t = c.halves-test.true in let k = c.halves.invariant.counted in let more = c.compare.ensures.count in
+    let half = bits_half (c.halves.high - c.halves.low) 0 (omega arith) (omega arith) in omega arith
 
 pub returns-clause-exact : goal.returns-clause-exact
 returns-clause-exact c =

@@ -88,6 +88,7 @@ mod Emptied
 mod Released
 mod Destroys
 mod Keeping
+mod KeptContainers
 mod VectorLiterals
 mod Here
 mod Places

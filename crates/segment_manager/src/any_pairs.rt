@@ -4,6 +4,7 @@ ghost use Rattle.seg_types.specs.declared.kinds.Kind.TheVariants.{Map as MapOf};
 ghost use Rattle.seg_types.specs.Commands.{Lookup, Put, Remove, literal_of};
 ghost use Rattle.seg_types.specs.Keys.{key_seen};
 ghost use Rattle.seg_types.specs.Values.{kind_of_scalar, value_of_scalar};
+ghost use Rattle.segment_manager.specs.Keeping.{KeepsWhere, LacksPair};
 ghost use Rattle.segment_manager.specs.Maps.{any_value_answer};
 ghost use Rattle.segment_manager.specs.State.{IsReplyOfKind, IsStepOfKind, truth_answer};
 
@@ -127,6 +128,7 @@ impl Segment {
         ensures step { IsStepOfKind self.old self.new (key_seen key.now) (MapOf (kind_of_scalar at) values)
             (Remove (key_seen key.now) (literal_of (kind_of_scalar at) (value_of_scalar at))) (truth_answer result) }
         ensures refused { OnErr result (self.new ≡ self.old) }
+        ensures absent { KeepsWhere self.old self.new (LacksPair (key_seen key.now) (value_of_scalar at)) }
     {
         match at {
             ScalarValue::Bool(truth) => self.erase_by_key(key, truth, values),
@@ -147,6 +149,7 @@ impl Segment {
         ensures step { IsStepOfKind self.old self.new (key_seen key.now) (MapOf K.kind values)
             (Remove (key_seen key.now) (literal_of K.kind (K.whole at))) (truth_answer result) }
         ensures refused { OnErr result (self.new ≡ self.old) }
+        ensures absent { KeepsWhere self.old self.new (LacksPair (key_seen key.now) (K.whole at)) }
     {
         match values {
             ScalarKind::Bool => self.map_erase::<K, bool>(key, at),

@@ -5,6 +5,7 @@ ghost use Rattle.seg_types.specs.Commands.{Lookup, Put, Remove, literal_of};
 ghost use Rattle.seg_types.specs.Keys.{key_seen};
 ghost use Rattle.seg_types.specs.Names.{ByHandle};
 ghost use Rattle.segment_manager.specs.Found.{is_object_at};
+ghost use Rattle.segment_manager.specs.Keeping.{KeepsWhere, LacksPair};
 ghost use Rattle.segment_manager.specs.Maps.{map_at, pair_above, pair_from, pair_result, told_of_map, value_answer};
 ghost use Rattle.segment_manager.specs.State.{Answers, IsReplyOfKind, IsStepOfKind, truth_answer};
 
@@ -123,6 +124,7 @@ impl Segment {
         ensures step { IsStepOfKind self.old self.new (key_seen key.now) (MapOf K.kind V.kind)
             (Remove (key_seen key.now) (literal_of K.kind (K.whole at))) (truth_answer result) }
         ensures refused { OnErr result (self.new ≡ self.old) }
+        ensures absent { KeepsWhere self.old self.new (LacksPair (key_seen key.now) (K.whole at)) }
     {
         if self.is_read_only() {
             return Err(Refusal::ReadOnly);

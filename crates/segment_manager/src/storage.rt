@@ -4,6 +4,7 @@ ghost use Rattle.seg_types.specs.declared.kinds.Kind.TheVariants.{Map as MapOf, 
 ghost use Rattle.seg_types.specs.Commands.{Clear, Reserve, Shrink};
 ghost use Rattle.seg_types.specs.Keys.{key_seen};
 ghost use Rattle.segment_manager.specs.Contents.{sizes_at, sizes_at_kind};
+ghost use Rattle.segment_manager.specs.Keeping.{HasPlaces, KeepsWhere};
 ghost use Rattle.segment_manager.specs.State.{Answers, IsStep, IsStepOfKind, done_answer};
 ghost use Rattle.segment_manager.specs.Step.{is_read_only};
 
@@ -111,6 +112,7 @@ impl Segment {
     pub fn reserve(&mut self, key: &Key, n: u64) -> Result<(), Refusal>
         ensures step { IsStep self.old self.new (Reserve (key_seen key.now) n) (done_answer result) }
         ensures refused { OnErr result (self.new ≡ self.old) }
+        ensures enough { KeepsWhere self.old self.new (HasPlaces (key_seen key.now) n) }
     {
         if self.is_read_only() {
             return Err(Refusal::ReadOnly);
@@ -131,6 +133,7 @@ impl Segment {
         requires { is_read_only self.old.mode ≡ false }
         ensures step { IsStepOfKind self.old self.new (key_seen key.now) (VectorOf kind) (Reserve (key_seen key.now) n) (done_answer result) }
         ensures refused { OnErr result (self.new ≡ self.old) }
+        ensures enough { KeepsWhere self.old self.new (HasPlaces (key_seen key.now) n) }
     {
         match kind {
             ScalarKind::Bool => self.reserve_vector::<bool>(key, n),
@@ -146,6 +149,7 @@ impl Segment {
         requires { is_read_only self.old.mode ≡ false }
         ensures step { IsStepOfKind self.old self.new (key_seen key.now) (VectorOf T.kind) (Reserve (key_seen key.now) n) (done_answer result) }
         ensures refused { OnErr result (self.new ≡ self.old) }
+        ensures enough { KeepsWhere self.old self.new (HasPlaces (key_seen key.now) n) }
     {
         match self.find_container(key, Kind::Vector(T::kind())) {
             Err(why) => Err(why),
@@ -158,6 +162,7 @@ impl Segment {
         requires { is_read_only self.old.mode ≡ false }
         ensures step { IsStepOfKind self.old self.new (key_seen key.now) TextKind (Reserve (key_seen key.now) n) (done_answer result) }
         ensures refused { OnErr result (self.new ≡ self.old) }
+        ensures enough { KeepsWhere self.old self.new (HasPlaces (key_seen key.now) n) }
     {
         match self.find_container(key, Kind::Text) {
             Err(why) => Err(why),
@@ -170,6 +175,7 @@ impl Segment {
         requires { is_read_only self.old.mode ≡ false }
         ensures step { IsStepOfKind self.old self.new (key_seen key.now) TextsKind (Reserve (key_seen key.now) n) (done_answer result) }
         ensures refused { OnErr result (self.new ≡ self.old) }
+        ensures enough { KeepsWhere self.old self.new (HasPlaces (key_seen key.now) n) }
     {
         match self.find_container(key, Kind::Texts) {
             Err(why) => Err(why),

@@ -9,6 +9,7 @@ use Rattle.segment_manager.proofs.MapAnswers.{erased-there, some-there}
 use Rattle.segment_manager.proofs.MapCalls.{TellsSafely, finds-no_map, tells-refused, tells-segment, tells-step}
 use Rattle.segment_manager.proofs.PairNumbers.{IsScalarOf}
 use Rattle.segment_manager.proofs.Steps.{open-writing, refuses_of_kind-read_only}
+use Rattle.segment_manager.proofs.KeptContainers.{map-kept}
 use Rattle.segment_manager.proofs.segment.Segment.map_erase.Goals as goal
 
 pub returns-then-is_read_only-clause-step : goal.returns-then-is_read_only-clause-step
@@ -68,3 +69,13 @@ returns-in-Ok-clause-refused g c =
     let done : TellsSafely s c.erase.new.heap (key_seen c.args.key.now) (Map g.K.Scalar.kind g.V.Scalar.kind) asked (Ok c.erase.result) =
     erased-there g.K.Scalar.kind g.V.Scalar.kind g.K.Plain g.V.Plain g.K.Scalar.whole g.V.Scalar.whole kl vl s c.args.self.now c.self.view_is (key_seen c.args.key.now) c.in-Ok.place c.at.result.place c.at.ensures c.self.invariant c.in-Ok.ensures c.erase.new.heap writing c.args.at c.erase.result c.judge.ensures c.erase.ensures.erased in
     tells-refused s c.args.self.now c.self.view_is c.erase.new.heap (key_seen c.args.key.now) (Map g.K.Scalar.kind g.V.Scalar.kind) asked (Ok c.erase.result) done
+
+pub returns-in-Ok-clause-absent : goal.returns-in-Ok-clause-absent
+returns-in-Ok-clause-absent g c =
+    let kl : IsScalarOf g.K.Scalar.kind g.K.Plain g.K.Scalar.whole =
+    record { long = g.met.K.Scalar.size; values = g.met.K.Scalar.values; spelled = g.met.K.Scalar.spelled; ordered = g.met.K.Scalar.ordered; reached = g.met.K.Scalar.reached } in
+    let vl : IsScalarOf g.V.Scalar.kind g.V.Plain g.V.Scalar.whole =
+    record { long = g.met.V.Scalar.size; values = g.met.V.Scalar.values; spelled = g.met.V.Scalar.spelled; ordered = g.met.V.Scalar.ordered; reached = g.met.V.Scalar.reached } in
+    let s : State = record { cut = c.self.inside.heap; mode = c.self.inside.mode } in
+    map-kept g.K.Scalar.kind g.V.Scalar.kind g.K.Plain g.V.Plain g.K.Scalar.whole g.V.Scalar.whole kl vl s c.args.self.now c.self.view_is (key_seen c.args.key.now) c.in-Ok.place c.at.result.place c.at.ensures c.in-Ok.ensures
+    c.erase.new.heap c.args.at c.erase.result c.erase.ensures.erased

@@ -12,6 +12,7 @@ use Rattle.segment_manager.proofs.Safely.{StepsSafely, safe-refused, safe-segmen
 use Rattle.segment_manager.proofs.Steps.{open-writing}
 use Rattle.segment_manager.proofs.TextListCalls.{texts-reserved}
 use Rattle.segment_manager.proofs.TextsHeld.{some-texts}
+use Rattle.segment_manager.proofs.KeptContainers.{texts-kept}
 use Rattle.segment_manager.proofs.segment.Segment.reserve_texts.Goals as goal
 
 pub reserve-requires : goal.reserve-requires
@@ -56,3 +57,11 @@ returns-in-Ok-clause-refused c =
     let done : StepsSafely s c.reserve.new.heap key Texts (Reserve key c.args.n) c.reserve.result =
     texts-reserved s key c.in-Ok.place c.self.invariant found c.reserve.new.heap writing c.args.n c.reserve.result c.reserve.ensures.reserved in
     safe-refused s c.args.self.now c.self.view_is c.reserve.new.heap key Texts (Reserve key c.args.n) c.reserve.result done
+
+pub returns-in-Ok-clause-enough : goal.returns-in-Ok-clause-enough
+returns-in-Ok-clause-enough c =
+    let s : State = record { cut = c.self.inside.heap; mode = c.self.inside.mode } in
+    let key : Key = key_seen c.args.key.now in
+    let found : Answers s (λ d. container_at d key Texts) (Ok c.in-Ok.place) =
+    subst (λ (t : State). Answers t (λ d. container_at d key Texts) (Ok c.in-Ok.place)) (sym c.self.view_is) c.in-Ok.ensures in
+    texts-kept s c.args.self.now c.self.view_is key c.in-Ok.place c.reserve.new.heap c.args.n c.reserve.result found c.reserve.ensures.enough

@@ -13,6 +13,7 @@ use Rattle.segment_manager.proofs.Safely.{StepsSafely, safe-refused, safe-segmen
 use Rattle.segment_manager.proofs.Steps.{open-writing}
 use Rattle.segment_manager.proofs.VectorAnswers.{found-at, some-vector, vector-reserved}
 use Rattle.segment_manager.proofs.Whole.{IsOfKind}
+use Rattle.segment_manager.proofs.KeptContainers.{vector-kept}
 use Rattle.segment_manager.proofs.segment.Segment.reserve_vector.Goals as goal
 
 pub reserve-requires : goal.reserve-requires
@@ -70,3 +71,14 @@ returns-in-Ok-clause-refused g c =
     found-at s key c.kind.result k c.in-Ok.place c.at.result.place c.kind.ensures c.at.ensures (subst (λ (t : State). Answers t (λ d. container_at d key (Vector c.kind.result)) (Ok c.in-Ok.place)) (sym c.self.view_is) c.in-Ok.ensures) in
     let done : StepsSafely s c.reserve.new.heap key (Vector k) (Reserve key c.args.n) c.reserve.result = vector-reserved k g.T.Scalar.whole g.T.Plain.SIZE g.T.Plain.is_value g.T.Plain.spelling law s key c.at.result.place c.self.invariant found c.reserve.new.heap writing c.args.n c.reserve.result c.reserve.ensures.reserved in
     safe-refused s c.args.self.now c.self.view_is c.reserve.new.heap key (Vector k) (Reserve key c.args.n) c.reserve.result done
+
+pub returns-in-Ok-clause-enough : goal.returns-in-Ok-clause-enough
+returns-in-Ok-clause-enough g c =
+    let s : State = record { cut = c.self.inside.heap; mode = c.self.inside.mode } in
+    let key : Key = key_seen c.args.key.now in
+    let k : ScalarKind = g.T.Scalar.kind in
+    let law : IsOfKind k g.T.Scalar.whole g.T.Plain.SIZE g.T.Plain.is_value g.T.Plain.spelling =
+    record { long = g.met.T.Scalar.size; values = g.met.T.Scalar.values; spelled = g.met.T.Scalar.spelled; reached = g.met.T.Scalar.reached } in
+    let found : Answers s (λ d. container_at d key (Vector k)) (Ok c.at.result.place) =
+    found-at s key c.kind.result k c.in-Ok.place c.at.result.place c.kind.ensures c.at.ensures (subst (λ (t : State). Answers t (λ d. container_at d key (Vector c.kind.result)) (Ok c.in-Ok.place)) (sym c.self.view_is) c.in-Ok.ensures) in
+    vector-kept s c.args.self.now c.self.view_is key c.at.result.place c.reserve.new.heap c.args.n c.reserve.result k g.T.Scalar.whole g.T.Plain.SIZE g.T.Plain.is_value g.T.Plain.spelling law found c.reserve.ensures.enough

@@ -1,0 +1,89 @@
+-- What calls on vectors, strings and maps leave to the last byte.
+use Rattle.std.proofs.Common.{◌≡◌, sym, ap, subst, ◌∙◌, ℕ, ◌≤◌, ℤ, Bool, true, false, Option, Some, None, Result, Ok, Err, List, []}
+use Rattle.std.specs.Prelude.{MatchOption, int_lt}
+use Rattle.std.proofs.lemmas.Option.{none-some}
+use Rattle.raw_region.specs.Memory.{Cut}
+use Rattle.best_fit.specs.Table.{Table}
+use Rattle.seg_types.specs.declared.kinds.ScalarKind.{ScalarKind}
+use Rattle.seg_types.specs.declared.kinds.Kind.TheVariants.{Text, Texts as TextsKind, Vector}
+use Rattle.seg_types.specs.declared.plain.Plain.{Ghosts as Plain}
+use Rattle.seg_types.specs.declared.refusals.Refusal.{Refusal}
+use Rattle.seg_types.specs.declared.refusals.Refusal.TheVariants.{NotFound}
+use Rattle.seg_types.specs.Names.{Key}
+use Rattle.seg_map.specs.declared.places.Place.{Place as MapPlace}
+use Rattle.seg_map.specs.Changing.{Erases, IsErased}
+use Rattle.seg_map.specs.Map.{pair_at}
+use Rattle.seg_map.specs.Numbers.{NumberPair}
+use Rattle.seg_vector.specs.declared.places.Place.{Place}
+use Rattle.seg_vector.specs.TextCalls.{ReservesNoBytes}
+use Rattle.seg_vector.specs.TextsCalls.{ReservesNoTexts}
+use Rattle.seg_vector.specs.VectorCalls.{ReservesNothing}
+use Rattle.segment_manager.specs.Contents.{IsNumbers, container_at, sizes_of}
+use Rattle.segment_manager.specs.Directory.{Object, Directory, object_at}
+use Rattle.segment_manager.specs.Keeping.{HasPlaces, KeepsWhere, LacksPair}
+use Rattle.segment_manager.specs.Maps.{map_at, numbers_of}
+use Rattle.segment_manager.specs.State.{Answers, State, StandsFor}
+use Rattle.segment_manager.specs.Walks.{pairs_of}
+use Rattle.segment_manager.proofs.MapCalls.{HoldsPairs, holds-pairs}
+use Rattle.segment_manager.proofs.PairNumbers.{IsScalarOf, erases-numbers}
+use Rattle.segment_manager.proofs.TextSteps.{HoldsText, holds-text}
+use Rattle.segment_manager.proofs.TextsHeld.{HoldsTexts, holds-texts}
+use Rattle.segment_manager.proofs.VectorSteps.{HoldsVector, holds-vector}
+use Rattle.segment_manager.proofs.Whole.{IsOfKind, of-whole}
+
+-- the window is as it was, and so is the segment
+keeps-cut : (s t : State) (view : s ≡ t) (new : Cut) (P : Directory → Type 0) → ((d : Directory) → StandsFor s.cut.bytes d → P d → new ≡ s.cut) → KeepsWhere t (record s { cut = new }) P
+keeps-cut s t view new P each = subst (λ (u : State). KeepsWhere u (record s { cut = new }) P) view (λ d l has. let e = each d l has in λ j. record s { cut = e j })
+
+-- ---- places
+
+abbrev places_in : Result (ℕ × ℕ) Refusal → ℕ
+places_in (Ok (len, capacity)) = capacity
+places_in (Err r) = 0
+
+-- those of the object that the key has
+enough-places : (d : Directory) (key : Key) (o : Object) (n len capacity : ℕ) → object_at d key ≡ Some o → sizes_of o.value ≡ Ok (len, capacity) → HasPlaces key n d → n ≤ capacity
+enough-places d key o n len capacity is sizes has =
+    let same : Ok (has.len, has.capacity) ≡ Ok (len, capacity) =
+    sym has.says ∙ ap (λ (r : Option Object). elim r as (λ _. Result (ℕ × ℕ) Refusal) [ None ↦ Err NotFound | Some p ↦ sizes_of p.value ]) is ∙ sizes in
+    subst (λ m. n ≤ m) (ap places_in same) has.enough
+
+module _ (s t : State) (view : s ≡ t) (key : Key) (p : Place) (new : Cut) (n : ℕ) (r : Result (Unit {0}) Refusal) where
+  pub text-kept : Answers s (λ d. container_at d key Text) (Ok p) → ReservesNoBytes s.cut new p n r → KeepsWhere t (record s { cut = new }) (HasPlaces key n)
+  text-kept found each =
+      keeps-cut s t view new (HasPlaces key n) (λ d l has.
+      let h : HoldsText s.cut.bytes d key p = holds-text s.cut.bytes d key p l.denotes (found.answers d l) in
+      (each h.bytes h.table h.text.stands (enough-places d key h.object n _ h.table.capacity h.is (ap sizes_of h.value) has)).1)
+
+  pub texts-kept : Answers s (λ d. container_at d key TextsKind) (Ok p) → ReservesNoTexts s.cut new p n r → KeepsWhere t (record s { cut = new }) (HasPlaces key n)
+  texts-kept found each =
+      keeps-cut s t view new (HasPlaces key n) (λ d l has.
+      let h : HoldsTexts s.cut.bytes d key p = holds-texts s.cut.bytes d key p l.denotes (found.answers d l) in
+      (each h.texts h.table h.stand (enough-places d key h.object n _ h.table.capacity h.is (ap sizes_of h.value) has)).1)
+
+  pub vector-kept : {T : Type 0} (k : ScalarKind) (w : T → ℤ) (size : ℕ) (test : T → Bool) (sp : T → List ℕ) → IsOfKind k w size test sp → Answers s (λ d. container_at d key (Vector k)) (Ok p)
+      → ReservesNothing size test sp s.cut new p n r → KeepsWhere t (record s { cut = new }) (HasPlaces key n)
+  vector-kept k w size test sp law found each =
+      keeps-cut s t view new (HasPlaces key n) (λ d l has.
+      let h : HoldsVector s.cut.bytes d key k p = holds-vector s.cut.bytes d key k p l.denotes (found.answers d l) in
+      of-whole k w size test sp law s.cut.bytes p (λ zs u. n ≤ u.capacity → new ≡ s.cut) (λ xs u stands values e. (each xs u (record { stands = stands; values = values }) e).1) h.numbers h.table h.vector
+      (enough-places d key h.object n _ h.table.capacity h.is (ap sizes_of h.value) has))
+
+-- ---- pairs
+
+none-erased : (P : Type 0) (Q : NumberPair → Type 0) (o : Option NumberPair) → o ≡ None → MatchOption o P Q → P
+none-erased P Q None e m = m
+none-erased P Q (Some q) e m = absurd (none-some q (sym e))
+
+pub map-kept : {K V : Type 0} (k v : ScalarKind) (kp : Plain K) (vp : Plain V) (kw : K → ℤ) (vw : V → ℤ) → IsScalarOf k kp kw → IsScalarOf v vp vw
+    → (s t : State) (view : s ≡ t) (key : Key) (p q : MapPlace) → q ≡ p → Answers t (λ d. map_at d key k v) (Ok p)
+    → (new : Cut) (x : K) (r : Bool) → Erases kp vp s.cut new q.handle q.at x r → KeepsWhere t (record s { cut = new }) (LacksPair key (kw x))
+map-kept k v kp vp kw vw kl vl s t view key p q same found new x r each =
+    let there : Answers s (λ d. map_at d key k v) (Ok p) = subst (λ (u : State). Answers u (λ d. map_at d key k v) (Ok p)) (sym view) found in
+    let erases : Erases (numbers_of k) (numbers_of v) s.cut new p.handle p.at (kw x) r =
+    erases-numbers k v kp vp kw vw kl vl s.cut new p.handle p.at x r (subst (λ (r' : MapPlace). Erases kp vp s.cut new r'.handle r'.at x r) same each) in
+    keeps-cut s t view new (LacksPair key (kw x)) (λ d l lacks.
+    let h : HoldsPairs s.cut.bytes d key k v p = holds-pairs s.cut.bytes d key k v p l.denotes (there.answers d l) in
+    let pairs : (elim (object_at d key) as (λ _. List NumberPair) [ None ↦ [] | Some o ↦ pairs_of o.value ]) ≡ h.pairs =
+    ap (λ (o : Option Object). elim o as (λ _. List NumberPair) [ None ↦ [] | Some o ↦ pairs_of o.value ]) h.is ∙ ap pairs_of h.known.value in
+    (none-erased ((r ≡ false) × (new ≡ s.cut)) (λ e. (r ≡ true) × IsErased (numbers_of k) (numbers_of v) s.cut new p.handle p.at h.pairs e (kw x)) (pair_at int_lt h.pairs (kw x)) (sym (ap (λ ps. pair_at int_lt ps (kw x)) pairs) ∙ lacks) (erases h.pairs h.map)).1)

@@ -10,6 +10,7 @@ ghost use Rattle.block_tags.specs.Tiles.{has_tags};
 ghost use Rattle.block_tags.specs.Windows.{HasTileAt, IsTiled, SaysTiles};
 ghost use Rattle.block_tags.specs.declared.tile.Tile.{Tile as ATile};
 
+use crate::visits::Visits;
 use block_tags::{Checked, Tile, check_counted, first, next};
 use offset_link::{BadLink, checked, load};
 use raw_region::{RawRegion, Window};
@@ -105,28 +106,62 @@ impl ImageWindow {
         checked(&self.window, at)
     }
 
-    /// Reads all tags up to the first wrong one, and counts them.
-    pub fn check_counted(&self) -> Checked
+    /// Reads all tags up to the first wrong one. One visit for each.
+    pub fn check_counted(&self, visits: &mut Visits) -> Checked
         requires { IsTrue (is_legal_size (length self.now.bytes)) }
         ensures good { result.are_good ≡ has_tags current (bytes_of self.now.bytes) (length self.now.bytes) }
         ensures few { 32 * result.tags + 112 ≤ length self.now.bytes }
+        ensures visits { visits.new ≡ visits.old + result.tags }
     {
-        check_counted(&self.window)
+        let tags = check_counted(&self.window);
+        visits.add(tags.tags);
+        tags
     }
 
     /// The tile behind the header, or nothing where there is none.
-    pub fn first(&self) -> Option<Tile>
+    pub fn first(&self) -> Option<Unread>
         requires { IsTiled self.now }
         ensures { (ts : List ATile) → SaysTiles self.now ts → result ≡ first_in ts }
     {
-        first(&self.window)
+        match first(&self.window) {
+            Some(tile) => Some(Unread { tile }),
+            None => None,
+        }
     }
 
     /// The tile behind the one at `at`, or nothing where that is the last.
-    pub fn next(&self, at: u64) -> Option<Tile>
+    pub fn next(&self, at: u64) -> Option<Unread>
         requires { HasTileAt self.now at }
         ensures { (ts : List ATile) → SaysTiles self.now ts → result ≡ next_in ts at }
     {
-        next(&self.window, at)
+        match next(&self.window, at) {
+            Some(tile) => Some(Unread { tile }),
+            None => None,
+        }
+    }
+}
+
+/// A tile whose tags nobody has looked at. What they say is told by `read` alone, which counts it.
+#[derive(Drop)]
+pub struct Unread {
+    tile: Tile,
+}
+
+impl Model for Unread {
+    ghost use Rattle.block_tags.specs.declared.tile.Tile.{Tile};
+
+    ghost Value = { Tile };
+
+    ghost view = { λ u. u.tile };
+}
+
+impl Unread {
+    /// What the tags say. One visit.
+    pub fn read(self, visits: &mut Visits) -> Tile
+        ensures tile { result ≡ self }
+        ensures visits { visits.new ≡ visits.old + 1 }
+    {
+        visits.visit();
+        self.tile
     }
 }

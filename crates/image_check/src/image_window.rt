@@ -106,6 +106,40 @@ impl ImageWindow {
         checked(&self.window, at)
     }
 
+    /// The `len` bytes of an element at `from`. One visit.
+    pub fn element(&self, from: u64, len: u64, visits: &mut Visits) -> &[u8]
+        requires { from + len ≤ length self.now.bytes }
+        ensures bytes { result.now ≡ part self.now.bytes from len }
+        ensures len { length result.now ≡ len }
+        ensures visits { visits.new ≡ visits.old + 1 }
+    {
+        visits.visit();
+        self.window.bytes(from, len)
+    }
+
+    /// Where the entry of an index or the element at `at` leads, which is a link or begins with one. One visit.
+    pub fn link(&self, at: u64, visits: &mut Visits) -> Option<u64>
+        requires aligned { at % 8 ≡ 0 }
+        requires inside { at + 8 ≤ length self.now.bytes }
+        ensures link { result ≡ link_at (bytes_of self.now.bytes) at }
+        ensures visits { visits.new ≡ visits.old + 1 }
+    {
+        visits.visit();
+        load(&self.window, at)
+    }
+
+    /// Where the element at `at` of an array of texts leads, and the length of its text. One visit.
+    pub fn text(&self, at: u64, visits: &mut Visits) -> (Option<u64>, u64)
+        requires size { IsTrue (is_legal_size (length self.now.bytes)) }
+        requires aligned { at % 8 ≡ 0 }
+        requires inside { at + 16 ≤ length self.now.bytes }
+        ensures link { result.0 ≡ link_at (bytes_of self.now.bytes) at }
+        ensures len { result.1 ≡ word_at (bytes_of self.now.bytes) (at + 8) }
+        ensures visits { visits.new ≡ visits.old + 1 }
+    {
+        (self.link(at, visits), self.window.read_u64(at + 8))
+    }
+
     /// Reads all tags up to the first wrong one. One visit for each.
     pub fn check_counted(&self, visits: &mut Visits) -> Checked
         requires { IsTrue (is_legal_size (length self.now.bytes)) }

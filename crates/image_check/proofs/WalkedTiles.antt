@@ -123,3 +123,7 @@ all-fails test (t ∷ front) here back h = elim (cases_Bool (test t)) [
   | inl e ↦ ap (λ b. b && list_all test (front ++ here ∷ back)) e ∙ all-fails test front here back h
   | inr e ↦ ap (λ b. b && list_all test (front ++ here ∷ back)) e
 ]
+
+-- where a walk stands at a tile, it stands at what was read of it
+pub walk-read : (o : Option Tile) (unread here : Tile) → o ≡ Some unread → here ≡ unread → o ≡ Some here
+walk-read o unread here is same = is ∙ ap (λ (t : Tile). Some t) (sym same)

@@ -97,8 +97,8 @@ fn is_element(
     ensures value { (ts : List Tile) → AreBlocks ts blocks.now.entries → result ≡ is_element_at (bytes_of window.now.bytes) ts at }
     ensures visits { Adds 2 visits.old visits.new }
 {
-    visits.visit();
-    is_table(blocks, visits, window.load(at), 1, window.read_u64(at + 8))
+    let (link, len) = window.text(at, visits);
+    is_table(blocks, visits, link, 1, len)
 }
 
 /// Whether the first `n` elements of the array at `at` lead to their texts.

@@ -72,8 +72,7 @@ fn check_frame(format: u64, window: &ImageWindow, visits: &mut Visits) -> Result
     if !has_reserved(all_bytes(window)) {
         return Err(ImageClass::BadReserved);
     }
-    let tags = window.check_counted();
-    visits.add(tags.tags);
+    let tags = window.check_counted(visits);
     if !tags.are_good {
         return Err(ImageClass::BadTag);
     }

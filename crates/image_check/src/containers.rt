@@ -1,5 +1,5 @@
 //! Whether each container of an image is what the words of its object say.
-ghost use Rattle.std.specs.Prelude.{◌≡◌, ◌+◌, ◌<◌, ◌≤◌, ◌%◌, ◌^◌, Contains, true, false, length};
+ghost use Rattle.std.specs.Prelude.{◌≡◌, ◌+◌, ◌<◌, ◌≤◌, ◌%◌, ◌^◌, Contains, true, false, length, ℕ};
 ghost use Rattle.std.specs.List.{list_all};
 ghost use Rattle.raw_region.specs.Memory.{bytes_of};
 ghost use Rattle.image_check.specs.ObjectTests.{has_objects};
@@ -49,7 +49,7 @@ fn is_right(
     }
 }
 
-/// Whether the tile is no object's, or its value is no container, or one that is right.
+/// Whether the tile, whose tags were read, is no object's, or its value is no container, or one that is right.
 fn is_right_tile(
     format: u64,
     window: &ImageWindow,
@@ -63,10 +63,8 @@ fn is_right_tile(
     requires ready { IsReady format (bytes_of window.now.bytes) (tiles_in window.now.bytes) blocks.now.entries tile }
     requires few { weigh_blocks blocks.now.entries ≤ 2 ^ 40 }
     ensures value { result ≡ has_container format (bytes_of window.now.bytes) (tiles_in window.now.bytes) tile }
-    ensures visits { PaysFor blocks.now.entries tile visits.old visits.new }
+    ensures visits { (before : ℕ) → visits.old ≡ before + 1 → PaysFor blocks.now.entries tile before visits.new }
 {
-    // The tags of the tile.
-    visits.visit();
     if !is_object(tile) {
         return true;
     }
@@ -95,7 +93,8 @@ fn are_right(
     ensures most { visits.new ≤ visits.old + (weigh container_walk_rates (tiles_in window.now.bytes) + weigh_blocks blocks.now.entries) }
 {
     let mut tile = window.first();
-    'tiles: while let Some(here) = tile {
+    'tiles: while let Some(unread) = tile {
+        let here = unread.read(visits);
         if !is_right_tile(format, window, blocks, visits, here) {
             return false;
         }

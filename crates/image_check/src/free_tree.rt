@@ -138,8 +138,8 @@ fn count_free(window: &ImageWindow, visits: &mut Visits) -> u64
 {
     let mut count = 0;
     let mut tile = window.first();
-    'tiles: while let Some(here) = tile {
-        visits.visit();
+    'tiles: while let Some(unread) = tile {
+        let here = unread.read(visits);
         if here.use_of.is_none() {
             count += 1;
         }
@@ -159,8 +159,8 @@ fn are_planted(places: &Places<'_>, root: Option<u64>, visits: &mut Visits) -> b
     ensures visits { Spends planting_rates 0 places.now.window.now.bytes visits.old visits.new }
 {
     let mut tile = places.window.first();
-    'tiles: while let Some(here) = tile {
-        visits.visit();
+    'tiles: while let Some(unread) = tile {
+        let here = unread.read(visits);
         if !is_planted(places, root, here, visits) {
             return false;
         }

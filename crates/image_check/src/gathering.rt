@@ -52,8 +52,8 @@ fn count_used(window: &ImageWindow, visits: &mut Visits) -> usize
 {
     let mut count = 0;
     let mut tile = window.first();
-    'tiles: while let Some(here) = tile {
-        visits.visit();
+    'tiles: while let Some(unread) = tile {
+        let here = unread.read(visits);
         if here.use_of.is_some() {
             count += 1;
         }
@@ -71,8 +71,8 @@ fn add_all(window: &ImageWindow, blocks: &mut IndexMap<u64, Block>, visits: &mut
     ensures visits { Adds (length (tiles_in window.now.bytes) + length (tiles_in window.now.bytes)) visits.old visits.new }
 {
     let mut tile = window.first();
-    'tiles: while let Some(here) = tile {
-        visits.visit();
+    'tiles: while let Some(unread) = tile {
+        let here = unread.read(visits);
         add(blocks, here, visits);
         tile = window.next(here.offset);
     }

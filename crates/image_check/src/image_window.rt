@@ -10,6 +10,7 @@ ghost use Rattle.block_tags.specs.Tiles.{has_tags};
 ghost use Rattle.block_tags.specs.Windows.{HasTileAt, IsTiled, SaysTiles};
 ghost use Rattle.block_tags.specs.declared.tile.Tile.{Tile as ATile};
 
+use crate::visits::Visits;
 use block_tags::{Checked, Tile, check_counted, first, next};
 use offset_link::{BadLink, checked, load};
 use raw_region::{RawRegion, Window};
@@ -105,28 +106,96 @@ impl ImageWindow {
         checked(&self.window, at)
     }
 
-    /// Reads all tags up to the first wrong one, and counts them.
-    pub fn check_counted(&self) -> Checked
+    /// The `len` bytes of an element at `from`. One visit.
+    pub fn element(&self, from: u64, len: u64, visits: &mut Visits) -> &[u8]
+        requires { from + len ≤ length self.now.bytes }
+        ensures bytes { result.now ≡ part self.now.bytes from len }
+        ensures len { length result.now ≡ len }
+        ensures visits { visits.new ≡ visits.old + 1 }
+    {
+        visits.visit();
+        self.window.bytes(from, len)
+    }
+
+    /// Where the entry of an index or the element at `at` leads, which is a link or begins with one. One visit.
+    pub fn link(&self, at: u64, visits: &mut Visits) -> Option<u64>
+        requires aligned { at % 8 ≡ 0 }
+        requires inside { at + 8 ≤ length self.now.bytes }
+        ensures link { result ≡ link_at (bytes_of self.now.bytes) at }
+        ensures visits { visits.new ≡ visits.old + 1 }
+    {
+        visits.visit();
+        load(&self.window, at)
+    }
+
+    /// Where the element at `at` of an array of texts leads, and the length of its text. One visit.
+    pub fn text(&self, at: u64, visits: &mut Visits) -> (Option<u64>, u64)
+        requires size { IsTrue (is_legal_size (length self.now.bytes)) }
+        requires aligned { at % 8 ≡ 0 }
+        requires inside { at + 16 ≤ length self.now.bytes }
+        ensures link { result.0 ≡ link_at (bytes_of self.now.bytes) at }
+        ensures len { result.1 ≡ word_at (bytes_of self.now.bytes) (at + 8) }
+        ensures visits { visits.new ≡ visits.old + 1 }
+    {
+        (self.link(at, visits), self.window.read_u64(at + 8))
+    }
+
+    /// Reads all tags up to the first wrong one. One visit for each.
+    pub fn check_counted(&self, visits: &mut Visits) -> Checked
         requires { IsTrue (is_legal_size (length self.now.bytes)) }
         ensures good { result.are_good ≡ has_tags current (bytes_of self.now.bytes) (length self.now.bytes) }
         ensures few { 32 * result.tags + 112 ≤ length self.now.bytes }
+        ensures visits { visits.new ≡ visits.old + result.tags }
     {
-        check_counted(&self.window)
+        let tags = check_counted(&self.window);
+        visits.add(tags.tags);
+        tags
     }
 
     /// The tile behind the header, or nothing where there is none.
-    pub fn first(&self) -> Option<Tile>
+    pub fn first(&self) -> Option<Unread>
         requires { IsTiled self.now }
         ensures { (ts : List ATile) → SaysTiles self.now ts → result ≡ first_in ts }
     {
-        first(&self.window)
+        match first(&self.window) {
+            Some(tile) => Some(Unread { tile }),
+            None => None,
+        }
     }
 
     /// The tile behind the one at `at`, or nothing where that is the last.
-    pub fn next(&self, at: u64) -> Option<Tile>
+    pub fn next(&self, at: u64) -> Option<Unread>
         requires { HasTileAt self.now at }
         ensures { (ts : List ATile) → SaysTiles self.now ts → result ≡ next_in ts at }
     {
-        next(&self.window, at)
+        match next(&self.window, at) {
+            Some(tile) => Some(Unread { tile }),
+            None => None,
+        }
+    }
+}
+
+/// A tile whose tags nobody has looked at. What they say is told by `read` alone, which counts it.
+#[derive(Drop)]
+pub struct Unread {
+    tile: Tile,
+}
+
+impl Model for Unread {
+    ghost use Rattle.block_tags.specs.declared.tile.Tile.{Tile};
+
+    ghost Value = { Tile };
+
+    ghost view = { λ u. u.tile };
+}
+
+impl Unread {
+    /// What the tags say. One visit.
+    pub fn read(self, visits: &mut Visits) -> Tile
+        ensures tile { result ≡ self }
+        ensures visits { visits.new ≡ visits.old + 1 }
+    {
+        visits.visit();
+        self.tile
     }
 }

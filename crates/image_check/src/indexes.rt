@@ -134,8 +134,8 @@ fn enter_all(
     let mut i = 0;
     'entries: while i < count {
         let place = block + 8 * i;
-        visits.visit();
-        if !enter(owners, visits, window.load(place), place, root) {
+        let link = window.link(place, visits);
+        if !enter(owners, visits, link, place, root) {
             return false;
         }
         i += 1;

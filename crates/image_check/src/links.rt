@@ -95,9 +95,9 @@ pub(crate) fn mark_elements(
     let mut i = 0;
     'elements: while i < count {
         let at = array + 16 * i;
-        visits.visit();
+        let target = window.link(at, visits);
         let link = Owner { at, root: at };
-        if let Err(class) = mark(owners, Role::Storage, link, window.load(at), visits) {
+        if let Err(class) = mark(owners, Role::Storage, link, target, visits) {
             return Err(class);
         }
         i += 1;

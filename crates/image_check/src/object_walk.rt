@@ -1,5 +1,5 @@
 //! Whether each object is right, and the entries of the indexes lead to objects of their class in order.
-ghost use Rattle.std.specs.Prelude.{◌≡◌, ◌+◌, ◌-◌, ◌*◌, ◌/◌, ◌%◌, ◌^◌, ◌<◌, ◌≤◌, true, length};
+ghost use Rattle.std.specs.Prelude.{◌≡◌, ℕ, ◌+◌, ◌-◌, ◌*◌, ◌/◌, ◌%◌, ◌^◌, ◌<◌, ◌≤◌, true, length};
 ghost use Rattle.std.specs.List.{list_all};
 ghost use Rattle.raw_region.specs.Memory.{bytes_of};
 ghost use Rattle.image_check.specs.declared.classes.ImageClass.TheVariants.{BadObject};
@@ -66,7 +66,8 @@ fn are_right(
     ensures spends { Spends object_walk_rates 0 window.now.bytes visits.old visits.new }
 {
     let mut tile = window.first();
-    'tiles: while let Some(here) = tile {
+    'tiles: while let Some(unread) = tile {
+        let here = unread.read(visits);
         if !is_right(format, window, blocks, visits, here) {
             return false;
         }
@@ -75,7 +76,7 @@ fn are_right(
     true
 }
 
-/// Whether the tile is no object's or one of an object that is right.
+/// Whether the tile, whose tags were read, is no object's or one of an object that is right.
 fn is_right(
     format: u64,
     window: &ImageWindow,
@@ -88,9 +89,8 @@ fn is_right(
     requires within { tile.offset + tile.len ≤ length window.now.bytes }
     requires entered { AreEntered (bytes_of window.now.bytes) blocks.now.entries }
     ensures is { result ≡ is_right_tile format (bytes_of window.now.bytes) tile }
-    ensures spends { Adds (rate_of object_walk_rates tile.use_of * (tile.len / 16)) visits.old visits.new }
+    ensures spends { (before : ℕ) → visits.old ≡ before + 1 → Adds (rate_of object_walk_rates tile.use_of * (tile.len / 16)) before visits.new }
 {
-    visits.visit();
     match tile.use_of {
         Some(Role::Object) => {
             let end = tile.offset + tile.len;

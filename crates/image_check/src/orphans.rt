@@ -44,8 +44,8 @@ fn are_owned(window: &ImageWindow, blocks: &IndexMap<u64, Block>, visits: &mut V
     ensures visits { Adds (2 * length (tiles_in window.now.bytes)) visits.old visits.new }
 {
     let mut tile = window.first();
-    'tiles: while let Some(here) = tile {
-        visits.visit();
+    'tiles: while let Some(unread) = tile {
+        let here = unread.read(visits);
         if !is_owned(blocks, here, visits) {
             return false;
         }

@@ -44,8 +44,7 @@ fn rise(window: &ImageWindow, visits: &mut Visits, block: u64, count: u64, class
     let mut i = 0;
     'entries: while i < count {
         let place = block + 8 * i;
-        visits.visit();
-        let Some(here) = window.load(place) else {
+        let Some(here) = window.link(place, visits) else {
             return false;
         };
         if !follows(window, visits, class, last, here) {

@@ -191,8 +191,8 @@ fn mark_values(
     ensures visits { Pays (weigh value_rates (tiles_in window.now.bytes)) result visits.old (6 * owners.old.waiting + debt owners.old.blocks.entries) visits.new (6 * owners.new.waiting + debt owners.new.blocks.entries) }
 {
     let mut tile = window.first();
-    'tiles: while let Some(here) = tile {
-        visits.visit();
+    'tiles: while let Some(unread) = tile {
+        let here = unread.read(visits);
         if let Err(class) = mark_object(format, window, owners, here, visits) {
             return Err(class);
         }

@@ -25,8 +25,7 @@ pub(crate) fn are_spellings(
     let size = kind.size();
     let mut i = 0;
     'elements: while i < count {
-        visits.visit();
-        if !kind.is_spelling(window.bytes(start + size * i, size)) {
+        if !kind.is_spelling(window.element(start + size * i, size, visits)) {
             return false;
         }
         i += 1;

@@ -41,8 +41,8 @@ fn are_plain(window: &ImageWindow, visits: &mut Visits) -> bool
     ensures visits { Spends tag_rates 0 window.now.bytes visits.old visits.new }
 {
     let mut tile = window.first();
-    'tiles: while let Some(here) = tile {
-        visits.visit();
+    'tiles: while let Some(unread) = tile {
+        let here = unread.read(visits);
         if !is_plain(here) {
             return false;
         }

@@ -26,7 +26,7 @@ returns-then-not-tags-clause-finds c =
     (wrong-has_tags c.args.format (bytes_of c.args.window.now.bytes) (length c.args.window.now.bytes) (sym c.check_counted-tags.ensures.good ∙ not-true c.check_counted-tags.result.are_good c.if-not-tags.true))
 
 pub returns-then-not-tags-clause-most : goal.returns-then-not-tags-clause-most
-returns-then-not-tags-clause-most c = tags-raised c.args.window.now.bytes _ c.check_counted-tags.result.tags _ c.check_counted-tags.ensures.few c.add.ensures
+returns-then-not-tags-clause-most c = tags-raised c.args.window.now.bytes _ c.check_counted-tags.result.tags _ c.check_counted-tags.ensures.few c.check_counted-tags.ensures.visits
 
 pub returns-then-not-has_free_tree-clause-finds : goal.returns-then-not-has_free_tree-clause-finds
 returns-then-not-has_free_tree-clause-finds c =
@@ -46,7 +46,7 @@ returns-then-not-has_free_tree-clause-most c =
     (sym c.check_counted-tags.ensures.good ∙ not-false c.check_counted-tags.result.are_good c.if-not-tags.false) in
     let tiles = checked-tiles c.args.format w h in
     frame-raised w _ _ tiles
-    (spend-both w.bytes tag_rates tree_rates 1 50 _ _ _ (tags-spend w _ c.check_counted-tags.result.tags c.add.new.self tiles c.check_counted-tags.ensures.few c.add.ensures) c.has_free_tree.ensures.visits)
+    (spend-both w.bytes tag_rates tree_rates 1 50 _ _ _ (tags-spend w _ c.check_counted-tags.result.tags c.check_counted-tags.new.visits tiles c.check_counted-tags.ensures.few c.check_counted-tags.ensures.visits) c.has_free_tree.ensures.visits)
 
 pub returns-clause-finds : goal.returns-clause-finds
 returns-clause-finds c =
@@ -67,7 +67,7 @@ returns-clause-visits c =
     let h =
     later-checked c.args.format w some c.requires (ap has_reserved (sym c.all_bytes.ensures.all) ∙ sym c.has_reserved.ensures ∙ c.if-not-has_reserved.false)
     (sym c.check_counted-tags.ensures.good ∙ not-false c.check_counted-tags.result.are_good c.if-not-tags.false) in
-    spend-both w.bytes tag_rates tree_rates 1 50 _ _ _ (tags-spend w _ c.check_counted-tags.result.tags c.add.new.self (checked-tiles c.args.format w h) c.check_counted-tags.ensures.few c.add.ensures) c.has_free_tree.ensures.visits
+    spend-both w.bytes tag_rates tree_rates 1 50 _ _ _ (tags-spend w _ c.check_counted-tags.result.tags c.check_counted-tags.new.visits (checked-tiles c.args.format w h) c.check_counted-tags.ensures.few c.check_counted-tags.ensures.visits) c.has_free_tree.ensures.visits
 
 -- ---- format 0
 
@@ -112,7 +112,7 @@ returns-then-format-eq0-clause-visits c =
       tags = sym c.check_counted-tags.ensures.good ∙ not-false c.check_counted-tags.result.are_good c.if-not-tags.false;
     } in
     on-ok c.check_without_tree.result _
-    (treeless-spend w _ _ _ (tags-spend w _ c.check_counted-tags.result.tags c.add.new.self tiles c.check_counted-tags.ensures.few c.add.ensures) c.check_without_tree.ensures.visits)
+    (treeless-spend w _ _ _ (tags-spend w _ c.check_counted-tags.result.tags c.check_counted-tags.new.visits tiles c.check_counted-tags.ensures.few c.check_counted-tags.ensures.visits) c.check_without_tree.ensures.visits)
 
 pub returns-then-format-eq0-clause-most : goal.returns-then-format-eq0-clause-most
 returns-then-format-eq0-clause-most c =
@@ -122,4 +122,4 @@ returns-then-format-eq0-clause-most c =
       tags = sym c.check_counted-tags.ensures.good ∙ not-false c.check_counted-tags.result.are_good c.if-not-tags.false;
     } in
     on-err c.check_without_tree.result _
-    (frame-raised w _ _ tiles (treeless-spend w _ _ _ (tags-spend w _ c.check_counted-tags.result.tags c.add.new.self tiles c.check_counted-tags.ensures.few c.add.ensures) c.check_without_tree.ensures.visits))
+    (frame-raised w _ _ tiles (treeless-spend w _ _ _ (tags-spend w _ c.check_counted-tags.result.tags c.check_counted-tags.new.visits tiles c.check_counted-tags.ensures.few c.check_counted-tags.ensures.visits) c.check_without_tree.ensures.visits))

@@ -9,9 +9,8 @@ use Rattle.image_check.proofs.ObjectValues.{container-room, value-behind, walk-l
 use Rattle.image_check.proofs.containers.is_right_tile.Goals as goal
 
 pub returns-then-not-is_object-clause-visits : goal.returns-then-not-is_object-clause-visits
-returns-then-not-is_object-clause-visits c =
+returns-then-not-is_object-clause-visits c before one =
     let t = c.args.tile in
-    let one = c.visit.ensures in
     let long = c.requires.lies.long in
     let more = below-more t.offset (t.offset + t.len) c.args.blocks.now.entries (omega arith) in
     let least = walk-least t.use_of (t.len / 16) (omega arith) in
@@ -34,14 +33,13 @@ is_right-requires-clause-few c =
     omega arith
 
 pub returns-in-Some-clause-visits : goal.returns-in-Some-clause-visits
-returns-in-Some-clause-visits c =
+returns-in-Some-clause-visits c before one =
     let t = c.args.tile in
     let es = c.args.blocks.now.entries in
     let m = bytes_of c.args.window.now.bytes in
     let object : is_use Object t ≡ true = sym c.is_object.ensures ∙ c.if-not-is_object.false in
     let walk = walk-object t object in
-    let one = c.visit.ensures in
-    let two = c.visit-2.ensures in
+    let two = c.visit.ensures in
     let long = c.requires.lies.long in
     let spent = c.is_right.ensures.visits in
     elim (cases_Bool (is_scalar c.in-Some.kind)) [

@@ -1,7 +1,7 @@
 use Rattle.std.proofs.Common.{refl, sym, ◌∙◌, arith}
 use Rattle.image_check.specs.Visits.{counting_rates}
 use Rattle.image_check.proofs.Budget.{two-for-tile, within-all, within-more, within-none}
-use Rattle.image_check.proofs.WalkedTiles.{at-meets, tags-IsTiled, walk-at, walk-end, walk-nearer, walk-on, walk-start}
+use Rattle.image_check.proofs.WalkedTiles.{at-meets, tags-IsTiled, walk-at, walk-end, walk-nearer, walk-on, walk-read, walk-start}
 use Rattle.image_check.proofs.FreeTiles.{count-small, free-more, free-said, none-free, used-said}
 use Rattle.image_check.proofs.free_tree.count_free.Goals as goal
 use Rattle.image_check.proofs.free_tree.count_free.Goals.{then-is_none, else-is_none}
@@ -17,27 +17,27 @@ tiles-init c =
 pub overflow_add-count : goal.overflow_add-count
 overflow_add-count c =
     let w = c.args.window.now in
-    let a = walk-at w _ c.tiles.tile c.in-Some.here c.tiles.invariant c.in-Some.is in
-    let small = count-small w _ c.tiles.count c.in-Some.here c.requires.size a a.kept.0 in
+    let a = walk-at w _ c.tiles.tile c.read-here.result c.tiles.invariant (walk-read c.tiles.tile c.in-Some.unread c.read-here.result c.in-Some.is c.read-here.ensures.tile) in
+    let small = count-small w _ c.tiles.count c.read-here.result c.requires.size a a.kept.0 in
     omega arith
 
 pub next-tile-requires : goal.next-tile-requires
 next-tile-requires c =
-    (at-meets c.args.window.now _ c.in-Some.here (walk-at c.args.window.now _ c.tiles.tile c.in-Some.here c.tiles.invariant c.in-Some.is)).has
+    (at-meets c.args.window.now _ c.read-here.result (walk-at c.args.window.now _ c.tiles.tile c.read-here.result c.tiles.invariant (walk-read c.tiles.tile c.in-Some.unread c.read-here.result c.in-Some.is c.read-here.ensures.tile))).has
 
 pub tiles-smaller : goal.tiles-smaller
 tiles-smaller c =
-    walk-nearer c.args.window.now _ c.tiles.tile c.in-Some.here c.next-tile.result (walk-at c.args.window.now _ c.tiles.tile c.in-Some.here c.tiles.invariant c.in-Some.is)
-    c.in-Some.is c.next-tile.ensures
+    walk-nearer c.args.window.now _ c.tiles.tile c.read-here.result c.next-tile.result (walk-at c.args.window.now _ c.tiles.tile c.read-here.result c.tiles.invariant (walk-read c.tiles.tile c.in-Some.unread c.read-here.result c.in-Some.is c.read-here.ensures.tile))
+    (walk-read c.tiles.tile c.in-Some.unread c.read-here.result c.in-Some.is c.read-here.ensures.tile) c.next-tile.ensures
 
 pub tiles-preserved : goal.tiles-preserved
 tiles-preserved c =
     let w = c.args.window.now in
-    let here = c.in-Some.here in
-    let a = walk-at w _ c.tiles.tile here c.tiles.invariant c.in-Some.is in
+    let here = c.read-here.result in
+    let a = walk-at w _ c.tiles.tile here c.tiles.invariant (walk-read c.tiles.tile c.in-Some.unread c.read-here.result c.in-Some.is c.read-here.ensures.tile) in
     let long = (at-meets w _ here a).long in
     let two = two-for-tile here.use_of here.len long in
-    let one = c.visit.ensures in
+    let one = c.read-here.ensures.visits in
     elim c.if-is_none.branch [
       | then-is_none b ↦ walk-on w _ _ here c.next-tile.result a c.next-tile.ensures (λ front k.
           let more = free-more front here (free-said here.use_of c.is_none.result c.is_none.ensures b.if-is_none.true) in

@@ -1,7 +1,7 @@
 use Rattle.std.proofs.Common.{length, arith}
 use Rattle.indexmap.specs.IndexMap.{spare}
 use Rattle.image_check.proofs.Inside.{legal-small}
-use Rattle.image_check.proofs.WalkedTiles.{at-meets, at-within, tags-IsTiled, walk-at, walk-end, walk-nearer, walk-on, walk-start}
+use Rattle.image_check.proofs.WalkedTiles.{at-meets, at-within, tags-IsTiled, walk-at, walk-end, walk-nearer, walk-on, walk-read, walk-start}
 use Rattle.image_check.proofs.Gathered.{Gathering, gathering-absent, gathering-more, gathering-room}
 use Rattle.image_check.proofs.gathering.add_all.Goals as goal
 
@@ -19,7 +19,7 @@ pub add-requires-clause-small : goal.add-requires-clause-small
 add-requires-clause-small c =
     let w = c.args.window.now in
     let kept = Gathering c.args.visits.now c.tiles.visits (spare c.args.blocks.now) (spare c.tiles.blocks) c.tiles.blocks.entries in
-    let in_it = at-within w kept c.in-Some.here (walk-at w kept c.tiles.tile c.in-Some.here c.tiles.invariant c.in-Some.is) in
+    let in_it = at-within w kept c.read-here.result (walk-at w kept c.tiles.tile c.read-here.result c.tiles.invariant (walk-read c.tiles.tile c.in-Some.unread c.read-here.result c.in-Some.is c.read-here.ensures.tile)) in
     let small = legal-small (length w.bytes) c.requires.tiles.size in
     omega arith
 
@@ -27,38 +27,38 @@ pub add-requires-clause-absent : goal.add-requires-clause-absent
 add-requires-clause-absent c =
     let w = c.args.window.now in
     let kept = Gathering c.args.visits.now c.tiles.visits (spare c.args.blocks.now) (spare c.tiles.blocks) c.tiles.blocks.entries in
-    gathering-absent w c.args.visits.now c.tiles.visits (spare c.args.blocks.now) (spare c.tiles.blocks) c.tiles.blocks.entries c.in-Some.here
-    (walk-at w kept c.tiles.tile c.in-Some.here c.tiles.invariant c.in-Some.is)
+    gathering-absent w c.args.visits.now c.tiles.visits (spare c.args.blocks.now) (spare c.tiles.blocks) c.tiles.blocks.entries c.read-here.result
+    (walk-at w kept c.tiles.tile c.read-here.result c.tiles.invariant (walk-read c.tiles.tile c.in-Some.unread c.read-here.result c.in-Some.is c.read-here.ensures.tile))
 
 pub add-requires-clause-room : goal.add-requires-clause-room
 add-requires-clause-room c =
     let w = c.args.window.now in
     let kept = Gathering c.args.visits.now c.tiles.visits (spare c.args.blocks.now) (spare c.tiles.blocks) c.tiles.blocks.entries in
-    gathering-room w c.args.visits.now c.tiles.visits (spare c.args.blocks.now) (spare c.tiles.blocks) c.tiles.blocks.entries c.in-Some.here
-    (walk-at w kept c.tiles.tile c.in-Some.here c.tiles.invariant c.in-Some.is) c.requires.room
+    gathering-room w c.args.visits.now c.tiles.visits (spare c.args.blocks.now) (spare c.tiles.blocks) c.tiles.blocks.entries c.read-here.result
+    (walk-at w kept c.tiles.tile c.read-here.result c.tiles.invariant (walk-read c.tiles.tile c.in-Some.unread c.read-here.result c.in-Some.is c.read-here.ensures.tile)) c.requires.room
 
 pub next-tile-requires : goal.next-tile-requires
 next-tile-requires c =
     let w = c.args.window.now in
     let kept = Gathering c.args.visits.now c.tiles.visits (spare c.args.blocks.now) (spare c.tiles.blocks) c.tiles.blocks.entries in
-    (at-meets w kept c.in-Some.here (walk-at w kept c.tiles.tile c.in-Some.here c.tiles.invariant c.in-Some.is)).has
+    (at-meets w kept c.read-here.result (walk-at w kept c.tiles.tile c.read-here.result c.tiles.invariant (walk-read c.tiles.tile c.in-Some.unread c.read-here.result c.in-Some.is c.read-here.ensures.tile))).has
 
 pub tiles-smaller : goal.tiles-smaller
 tiles-smaller c =
     let w = c.args.window.now in
     let kept = Gathering c.args.visits.now c.tiles.visits (spare c.args.blocks.now) (spare c.tiles.blocks) c.tiles.blocks.entries in
-    walk-nearer w kept c.tiles.tile c.in-Some.here c.next-tile.result (walk-at w kept c.tiles.tile c.in-Some.here c.tiles.invariant c.in-Some.is) c.in-Some.is c.next-tile.ensures
+    walk-nearer w kept c.tiles.tile c.read-here.result c.next-tile.result (walk-at w kept c.tiles.tile c.read-here.result c.tiles.invariant (walk-read c.tiles.tile c.in-Some.unread c.read-here.result c.in-Some.is c.read-here.ensures.tile)) (walk-read c.tiles.tile c.in-Some.unread c.read-here.result c.in-Some.is c.read-here.ensures.tile) c.next-tile.ensures
 
 pub tiles-preserved : goal.tiles-preserved
 tiles-preserved c =
     let w = c.args.window.now in
     let kept = Gathering c.args.visits.now c.tiles.visits (spare c.args.blocks.now) (spare c.tiles.blocks) c.tiles.blocks.entries in
-    let seen = c.visit.ensures in
+    let seen = c.read-here.ensures.visits in
     let lo = c.add.ensures.visits.0 in
     let hi = c.add.ensures.visits.1 in
-    walk-on w kept (Gathering c.args.visits.now c.add.new.visits (spare c.args.blocks.now) (spare c.add.new.blocks) c.add.new.blocks.entries) c.in-Some.here c.next-tile.result
-    (walk-at w kept c.tiles.tile c.in-Some.here c.tiles.invariant c.in-Some.is) c.next-tile.ensures
-    (λ front k. gathering-more c.args.visits.now c.tiles.visits (spare c.args.blocks.now) (spare c.tiles.blocks) c.tiles.blocks.entries front c.in-Some.here c.add.new.visits (spare c.add.new.blocks) c.add.new.blocks.entries k
+    walk-on w kept (Gathering c.args.visits.now c.add.new.visits (spare c.args.blocks.now) (spare c.add.new.blocks) c.add.new.blocks.entries) c.read-here.result c.next-tile.result
+    (walk-at w kept c.tiles.tile c.read-here.result c.tiles.invariant (walk-read c.tiles.tile c.in-Some.unread c.read-here.result c.in-Some.is c.read-here.ensures.tile)) c.next-tile.ensures
+    (λ front k. gathering-more c.args.visits.now c.tiles.visits (spare c.args.blocks.now) (spare c.tiles.blocks) c.tiles.blocks.entries front c.read-here.result c.add.new.visits (spare c.add.new.blocks) c.add.new.blocks.entries k
     (omega arith) (omega arith) c.add.ensures.entries c.add.ensures.room)
 
 pub returns-clause-entries : goal.returns-clause-entries

@@ -1,7 +1,7 @@
 use Rattle.std.proofs.Common.{refl, sym, ◌∙◌, [], ◌∷◌, length, arith}
 use Rattle.std.proofs.lemmas.List.{length-append}
 use Rattle.image_check.proofs.Inside.{legal-small}
-use Rattle.image_check.proofs.WalkedTiles.{at-meets, tags-IsTiled, walk-at, walk-end, walk-few, walk-nearer, walk-on, walk-start}
+use Rattle.image_check.proofs.WalkedTiles.{at-meets, tags-IsTiled, walk-at, walk-end, walk-few, walk-nearer, walk-on, walk-read, walk-start}
 use Rattle.image_check.proofs.Gathered.{Counted, count-free, count-most, count-push, count-used}
 use Rattle.image_check.proofs.gathering.count_used.Goals as goal
 use Rattle.image_check.proofs.gathering.count_used.Goals.{then-is_some, else-is_some}
@@ -18,8 +18,8 @@ pub overflow_add-count : goal.overflow_add-count
 overflow_add-count c =
     let w = c.args.window.now in
     let kept = Counted c.args.visits.now c.tiles.visits c.tiles.count in
-    let a = walk-at w kept c.tiles.tile c.in-Some.here c.tiles.invariant c.in-Some.is in
-    let few = walk-few w kept c.in-Some.here a in
+    let a = walk-at w kept c.tiles.tile c.read-here.result c.tiles.invariant (walk-read c.tiles.tile c.in-Some.unread c.read-here.result c.in-Some.is c.read-here.ensures.tile) in
+    let few = walk-few w kept c.read-here.result a in
     let most = count-most a.front in
     let is = a.kept.counts in
     let small = legal-small (length w.bytes) c.requires.tiles.size in
@@ -29,34 +29,34 @@ pub next-tile-requires : goal.next-tile-requires
 next-tile-requires c =
     let w = c.args.window.now in
     let kept = Counted c.args.visits.now c.tiles.visits c.tiles.count in
-    (at-meets w kept c.in-Some.here (walk-at w kept c.tiles.tile c.in-Some.here c.tiles.invariant c.in-Some.is)).has
+    (at-meets w kept c.read-here.result (walk-at w kept c.tiles.tile c.read-here.result c.tiles.invariant (walk-read c.tiles.tile c.in-Some.unread c.read-here.result c.in-Some.is c.read-here.ensures.tile))).has
 
 pub tiles-smaller : goal.tiles-smaller
 tiles-smaller c =
     let w = c.args.window.now in
     let kept = Counted c.args.visits.now c.tiles.visits c.tiles.count in
-    walk-nearer w kept c.tiles.tile c.in-Some.here c.next-tile.result (walk-at w kept c.tiles.tile c.in-Some.here c.tiles.invariant c.in-Some.is) c.in-Some.is c.next-tile.ensures
+    walk-nearer w kept c.tiles.tile c.read-here.result c.next-tile.result (walk-at w kept c.tiles.tile c.read-here.result c.tiles.invariant (walk-read c.tiles.tile c.in-Some.unread c.read-here.result c.in-Some.is c.read-here.ensures.tile)) (walk-read c.tiles.tile c.in-Some.unread c.read-here.result c.in-Some.is c.read-here.ensures.tile) c.next-tile.ensures
 
 pub tiles-preserved : goal.tiles-preserved
 tiles-preserved c =
     let w = c.args.window.now in
     let kept = Counted c.args.visits.now c.tiles.visits c.tiles.count in
-    let seen = c.visit.ensures in
-    let on = walk-on w kept (Counted c.args.visits.now c.visit.new.self c.if-is_some.count) c.in-Some.here c.next-tile.result
-    (walk-at w kept c.tiles.tile c.in-Some.here c.tiles.invariant c.in-Some.is) c.next-tile.ensures in
+    let seen = c.read-here.ensures.visits in
+    let on = walk-on w kept (Counted c.args.visits.now c.read-here.new.visits c.if-is_some.count) c.read-here.result c.next-tile.result
+    (walk-at w kept c.tiles.tile c.read-here.result c.tiles.invariant (walk-read c.tiles.tile c.in-Some.unread c.read-here.result c.in-Some.is c.read-here.ensures.tile)) c.next-tile.ensures in
     elim c.if-is_some.branch [
       | then-is_some b ↦ on (λ front k.
-          let push = count-push front c.in-Some.here in
-          let one = count-used c.in-Some.here (sym c.is_some.ensures ∙ b.if-is_some.true) in
-          let len = length-append front (c.in-Some.here ∷ []) in
+          let push = count-push front c.read-here.result in
+          let one = count-used c.read-here.result (sym c.is_some.ensures ∙ b.if-is_some.true) in
+          let len = length-append front (c.read-here.result ∷ []) in
           let is = b.count-is in
           let x = k.counts in
           let y = k.visited in
           record { counts = omega arith; visited = omega arith })
       | else-is_some b ↦ on (λ front k.
-          let push = count-push front c.in-Some.here in
-          let one = count-free c.in-Some.here (sym c.is_some.ensures ∙ b.if-is_some.false) in
-          let len = length-append front (c.in-Some.here ∷ []) in
+          let push = count-push front c.read-here.result in
+          let one = count-free c.read-here.result (sym c.is_some.ensures ∙ b.if-is_some.false) in
+          let len = length-append front (c.read-here.result ∷ []) in
           let is = b.count-is in
           let x = k.counts in
           let y = k.visited in

@@ -23,7 +23,7 @@ returns-then-not-enter-clause-entered c ts b =
     let i = c.entries.invariant.entered ts b in
     ap (are_enterable ts c.args.owners.now.blocks.entries) s.all
     ∙ wrong-entry ts c.args.owners.now.blocks.entries c.entries.owners.blocks.entries c.args.root (links_in m c.args.block c.entries.i) i.1 (f c.entries.i) s.back
-    (ap (can_enter c.entries.owners.blocks.entries) (sym c.load.ensures) ∙ c.if-not-enter.ensures.entered)
+    (ap (can_enter c.entries.owners.blocks.entries) (sym c.link-link.ensures.link) ∙ c.if-not-enter.ensures.entered)
 
 pub entries-preserved : goal.entries-preserved
 entries-preserved c =
@@ -31,7 +31,7 @@ entries-preserved c =
     let f : ℕ → Option ℕ = λ i. link_at m (c.args.block + 8 * i) in
     let t = c.entries-test.true in
     let s = c.enter.ensures.spends in
-    let v = c.visit.ensures in
+    let v = c.link-link.ensures.visits in
     let inv = c.entries.invariant in
     let more = map-range_with_len_more f 0 c.entries.i c.entries.i (omega arith) in
     record {
@@ -41,8 +41,8 @@ entries-preserved c =
           let new = c.enter.new.owners.blocks.entries in
           let i = inv.entered ts b in
           let front : List (Option ℕ) = links_in m c.args.block c.entries.i in
-          let here : front ++ c.load.result ∷ [] ≡ links_in m c.args.block (c.entries.i + 1) = ap (λ l. front ++ l ∷ []) c.load.ensures ∙ sym more in
-          let r = one-entered ts old c.entries.owners.blocks.entries c.args.root (c.args.block + 8 * c.entries.i) front c.load.result i.1 i.0 new c.if-not-enter.ensures.entered in
+          let here : front ++ c.link-link.result ∷ [] ≡ links_in m c.args.block (c.entries.i + 1) = ap (λ l. front ++ l ∷ []) c.link-link.ensures.link ∙ sym more in
+          let r = one-entered ts old c.entries.owners.blocks.entries c.args.root (c.args.block + 8 * c.entries.i) front c.link-link.result i.1 i.0 new c.if-not-enter.ensures.entered in
           (ap (are_enterable ts old) (sym here) ∙ r.0, subst (λ (ls : List (Option ℕ)). AreAdded ts old new c.args.root (targets_of ls)) here r.1);
       pending = cc;
       waiting = cc;

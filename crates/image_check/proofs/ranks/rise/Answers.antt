@@ -19,7 +19,7 @@ returns-then-not-follows-clause-is c =
     let f : ℕ → Option ℕ = λ i. link_at m (c.args.block + 8 * i) in
     let s = split f 0 c.entries.i c.args.count c.entries.i (omega arith) c.entries-test.true in
     let front : List (Option ℕ) = links_in m c.args.block c.entries.i in
-    let all = ap targets_of s.all ∙ targets-split front s.back (f c.entries.i) c.in-Some.here (sym c.load.ensures ∙ c.in-Some.is) in
+    let all = ap targets_of s.all ∙ targets-split front s.back (f c.entries.i) c.in-Some.here (sym c.link.ensures.link ∙ c.in-Some.is) in
     let off : follows c.args.class m (last_of (targets_of front)) c.in-Some.here ≡ false = ap (λ l. follows c.args.class m l c.in-Some.here) (sym c.entries.invariant.last) ∙ sym c.follows.ensures.is ∙ c.if-not-follows.true in
     sym (ap (are_ranked c.args.class m) all ∙ ranked-broken c.args.class m (targets_of front) c.in-Some.here (targets_of s.back) off)
 
@@ -29,11 +29,11 @@ entries-preserved c =
     let f : ℕ → Option ℕ = λ i. link_at m (c.args.block + 8 * i) in
     let front : List (Option ℕ) = links_in m c.args.block c.entries.i in
     let all : targets_of (links_in m c.args.block (c.entries.i + 1)) ≡ targets_of front ++ c.in-Some.here ∷ [] =
-    ap targets_of (map-range_with_len_more f 0 c.entries.i c.entries.i (omega arith)) ∙ targets-split front [] (f c.entries.i) c.in-Some.here (sym c.load.ensures ∙ c.in-Some.is) in
+    ap targets_of (map-range_with_len_more f 0 c.entries.i c.entries.i (omega arith)) ∙ targets-split front [] (f c.entries.i) c.in-Some.here (sym c.link.ensures.link ∙ c.in-Some.is) in
     let on : follows c.args.class m (last_of (targets_of front)) c.in-Some.here ≡ true = ap (λ l. follows c.args.class m l c.in-Some.here) (sym c.entries.invariant.last) ∙ sym c.follows.ensures.is ∙ c.if-not-follows.false in
     let inv = c.entries.invariant in
     let t = c.entries-test.true in
-    let v = c.visit.ensures in
+    let v = c.link.ensures.visits in
     let s = c.follows.ensures.spends in
     record {
       within = omega arith;
@@ -41,7 +41,7 @@ entries-preserved c =
       last = sym (ap last_of all ∙ last-of-more (targets_of front) c.in-Some.here);
       head = λ g e.
           subst (λ h. h + 16 + name_len_at m h ≤ length c.args.window.now.bytes) (some_same c.in-Some.here g e)
-          (c.requires.heads c.entries.i c.in-Some.here t (sym c.load.ensures ∙ c.in-Some.is));
+          (c.requires.heads c.entries.i c.in-Some.here t (sym c.link.ensures.link ∙ c.in-Some.is));
       more = omega arith;
       most = omega arith;
     }

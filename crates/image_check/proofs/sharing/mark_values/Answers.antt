@@ -3,7 +3,7 @@ use Rattle.image_check.specs.Owners.{IsSharedIn, debt}
 use Rattle.image_check.specs.Sharing.{IsTileGrown, object_cost}
 use Rattle.image_check.proofs.Following.{of-err, of-ok}
 use Rattle.image_check.proofs.NotedTiles.{Noting, noting-end, noting-on, noting-refused, noting-start, ready-here, room-here}
-use Rattle.image_check.proofs.WalkedTiles.{at-meets, tags-IsTiled, walk-at, walk-end, walk-nearer, walk-start}
+use Rattle.image_check.proofs.WalkedTiles.{at-meets, tags-IsTiled, walk-at, walk-end, walk-nearer, walk-read, walk-start}
 use Rattle.image_check.proofs.NotedTiles.{walk-past}
 use Rattle.image_check.proofs.sharing.mark_values.Goals as goal
 
@@ -21,30 +21,30 @@ pub mark_object-requires : goal.mark_object-requires
 mark_object-requires g c =
     let w = c.args.window.now in
     let kept = Noting g.said c.args.window.now.bytes c.args.owners.now.blocks.entries (6 * c.args.owners.now.waiting + debt c.args.owners.now.blocks.entries) c.args.visits.now c.tiles.owners.blocks.entries c.tiles.owners.pending c.tiles.owners.waiting c.tiles.visits in
-    (c.requires.0, (c.requires.1.0, (room-here g.said w c.in-Some.here c.requires.0 c.requires.1.1.0 c.args.owners.now.blocks.entries (6 * c.args.owners.now.waiting + debt c.args.owners.now.blocks.entries) c.args.visits.now c.tiles.owners.blocks.entries c.tiles.owners.pending c.tiles.owners.waiting c.tiles.visits (walk-at w kept c.tiles.tile c.in-Some.here c.tiles.invariant c.in-Some.is), ((walk-at w kept c.tiles.tile c.in-Some.here c.tiles.invariant c.in-Some.is).kept.marking, ready-here g.said w c.in-Some.here c.requires.0 c.requires.1.1.0 c.args.owners.now.blocks.entries (6 * c.args.owners.now.waiting + debt c.args.owners.now.blocks.entries) c.args.visits.now c.tiles.owners.blocks.entries c.tiles.owners.pending c.tiles.owners.waiting c.tiles.visits (walk-at w kept c.tiles.tile c.in-Some.here c.tiles.invariant c.in-Some.is)))))
+    (c.requires.0, (c.requires.1.0, (room-here g.said w c.read-here.result c.requires.0 c.requires.1.1.0 c.args.owners.now.blocks.entries (6 * c.args.owners.now.waiting + debt c.args.owners.now.blocks.entries) c.args.visits.now c.tiles.owners.blocks.entries c.tiles.owners.pending c.tiles.owners.waiting c.tiles.visits (walk-at w kept c.tiles.tile c.read-here.result c.tiles.invariant (walk-read c.tiles.tile c.in-Some.unread c.read-here.result c.in-Some.is c.read-here.ensures.tile)), ((walk-at w kept c.tiles.tile c.read-here.result c.tiles.invariant (walk-read c.tiles.tile c.in-Some.unread c.read-here.result c.in-Some.is c.read-here.ensures.tile)).kept.marking, ready-here g.said w c.read-here.result c.requires.0 c.requires.1.1.0 c.args.owners.now.blocks.entries (6 * c.args.owners.now.waiting + debt c.args.owners.now.blocks.entries) c.args.visits.now c.tiles.owners.blocks.entries c.tiles.owners.pending c.tiles.owners.waiting c.tiles.visits (walk-at w kept c.tiles.tile c.read-here.result c.tiles.invariant (walk-read c.tiles.tile c.in-Some.unread c.read-here.result c.in-Some.is c.read-here.ensures.tile))))))
 
 pub returns-in-Err-clause-visits : goal.returns-in-Err-clause-visits
 returns-in-Err-clause-visits g c =
     let w = c.args.window.now in
     let kept = Noting g.said c.args.window.now.bytes c.args.owners.now.blocks.entries (6 * c.args.owners.now.waiting + debt c.args.owners.now.blocks.entries) c.args.visits.now c.tiles.owners.blocks.entries c.tiles.owners.pending c.tiles.owners.waiting c.tiles.visits in
-    let seen = c.visit.ensures in
+    let seen = c.read-here.ensures.visits in
     let n = c.mark_object.new.owners in
     let lo = c.mark_object.ensures.visits.0 in
-    let hi = of-err (λ x. c.mark_object.new.visits + (6 * n.waiting + debt n.blocks.entries) ≤ c.visit.new.self + (6 * c.tiles.owners.waiting + debt c.tiles.owners.blocks.entries + object_cost c.in-Some.here))
-    (λ x. c.mark_object.new.visits ≤ c.visit.new.self + (6 * c.tiles.owners.waiting + debt c.tiles.owners.blocks.entries + object_cost c.in-Some.here)) c.mark_object.result c.in-Err.class c.in-Err.is c.mark_object.ensures.visits.1 in
-    noting-refused g.said w c.in-Some.here c.requires.0 c.requires.1.1.0 c.args.owners.now.blocks.entries (6 * c.args.owners.now.waiting + debt c.args.owners.now.blocks.entries) c.args.visits.now c.tiles.owners.blocks.entries c.tiles.owners.pending c.tiles.owners.waiting c.tiles.visits (walk-at w kept c.tiles.tile c.in-Some.here c.tiles.invariant c.in-Some.is) c.mark_object.new.visits (omega arith) (omega arith)
+    let hi = of-err (λ x. c.mark_object.new.visits + (6 * n.waiting + debt n.blocks.entries) ≤ c.read-here.new.visits + (6 * c.tiles.owners.waiting + debt c.tiles.owners.blocks.entries + object_cost c.read-here.result))
+    (λ x. c.mark_object.new.visits ≤ c.read-here.new.visits + (6 * c.tiles.owners.waiting + debt c.tiles.owners.blocks.entries + object_cost c.read-here.result)) c.mark_object.result c.in-Err.class c.in-Err.is c.mark_object.ensures.visits.1 in
+    noting-refused g.said w c.read-here.result c.requires.0 c.requires.1.1.0 c.args.owners.now.blocks.entries (6 * c.args.owners.now.waiting + debt c.args.owners.now.blocks.entries) c.args.visits.now c.tiles.owners.blocks.entries c.tiles.owners.pending c.tiles.owners.waiting c.tiles.visits (walk-at w kept c.tiles.tile c.read-here.result c.tiles.invariant (walk-read c.tiles.tile c.in-Some.unread c.read-here.result c.in-Some.is c.read-here.ensures.tile)) c.mark_object.new.visits (omega arith) (omega arith)
 
 pub next-tile-requires : goal.next-tile-requires
 next-tile-requires g c =
     let w = c.args.window.now in
     let kept = Noting g.said c.args.window.now.bytes c.args.owners.now.blocks.entries (6 * c.args.owners.now.waiting + debt c.args.owners.now.blocks.entries) c.args.visits.now c.tiles.owners.blocks.entries c.tiles.owners.pending c.tiles.owners.waiting c.tiles.visits in
-    (at-meets w kept c.in-Some.here (walk-at w kept c.tiles.tile c.in-Some.here c.tiles.invariant c.in-Some.is)).has
+    (at-meets w kept c.read-here.result (walk-at w kept c.tiles.tile c.read-here.result c.tiles.invariant (walk-read c.tiles.tile c.in-Some.unread c.read-here.result c.in-Some.is c.read-here.ensures.tile))).has
 
 pub tiles-smaller : goal.tiles-smaller
 tiles-smaller g c =
     let w = c.args.window.now in
     let kept = Noting g.said c.args.window.now.bytes c.args.owners.now.blocks.entries (6 * c.args.owners.now.waiting + debt c.args.owners.now.blocks.entries) c.args.visits.now c.tiles.owners.blocks.entries c.tiles.owners.pending c.tiles.owners.waiting c.tiles.visits in
-    walk-nearer w kept c.tiles.tile c.in-Some.here c.next-tile.result (walk-at w kept c.tiles.tile c.in-Some.here c.tiles.invariant c.in-Some.is) c.in-Some.is c.next-tile.ensures
+    walk-nearer w kept c.tiles.tile c.read-here.result c.next-tile.result (walk-at w kept c.tiles.tile c.read-here.result c.tiles.invariant (walk-read c.tiles.tile c.in-Some.unread c.read-here.result c.in-Some.is c.read-here.ensures.tile)) (walk-read c.tiles.tile c.in-Some.unread c.read-here.result c.in-Some.is c.read-here.ensures.tile) c.next-tile.ensures
 
 pub tiles-preserved : goal.tiles-preserved
 tiles-preserved g c =
@@ -52,14 +52,14 @@ tiles-preserved g c =
     let kept = Noting g.said c.args.window.now.bytes c.args.owners.now.blocks.entries (6 * c.args.owners.now.waiting + debt c.args.owners.now.blocks.entries) c.args.visits.now c.tiles.owners.blocks.entries c.tiles.owners.pending c.tiles.owners.waiting c.tiles.visits in
     let o = c.args.owners.now in
     let n = c.mark_object.new.owners in
-    let seen = c.visit.ensures in
+    let seen = c.read-here.ensures.visits in
     let lo = c.mark_object.ensures.visits.0 in
-    let hi = of-ok (λ x. c.mark_object.new.visits + (6 * n.waiting + debt n.blocks.entries) ≤ c.visit.new.self + (6 * c.tiles.owners.waiting + debt c.tiles.owners.blocks.entries + object_cost c.in-Some.here))
-    (λ x. c.mark_object.new.visits ≤ c.visit.new.self + (6 * c.tiles.owners.waiting + debt c.tiles.owners.blocks.entries + object_cost c.in-Some.here)) c.mark_object.result _ c.in_default-mark_object.is c.mark_object.ensures.visits.1 in
-    let d = of-ok (λ x. IsTileGrown g.said w.bytes c.in-Some.here c.tiles.owners.blocks.entries c.tiles.owners.waiting n.blocks.entries n.pending n.waiting) (IsSharedIn g.said w.bytes) c.mark_object.result _ c.in_default-mark_object.is c.mark_object.ensures.noted in
-    let a = walk-at w kept c.tiles.tile c.in-Some.here c.tiles.invariant c.in-Some.is in
-    walk-past w kept (Noting g.said w.bytes o.blocks.entries (6 * o.waiting + debt o.blocks.entries) c.args.visits.now n.blocks.entries n.pending n.waiting c.mark_object.new.visits) c.in-Some.here c.next-tile.result a c.next-tile.ensures
-    (noting-on g.said w c.in-Some.here c.requires.0 c.requires.1.1.0 c.args.owners.now.blocks.entries (6 * c.args.owners.now.waiting + debt c.args.owners.now.blocks.entries) c.args.visits.now c.tiles.owners.blocks.entries c.tiles.owners.pending c.tiles.owners.waiting c.tiles.visits (walk-at w kept c.tiles.tile c.in-Some.here c.tiles.invariant c.in-Some.is) n.blocks.entries n.pending n.waiting c.mark_object.new.visits d (omega arith) (omega arith))
+    let hi = of-ok (λ x. c.mark_object.new.visits + (6 * n.waiting + debt n.blocks.entries) ≤ c.read-here.new.visits + (6 * c.tiles.owners.waiting + debt c.tiles.owners.blocks.entries + object_cost c.read-here.result))
+    (λ x. c.mark_object.new.visits ≤ c.read-here.new.visits + (6 * c.tiles.owners.waiting + debt c.tiles.owners.blocks.entries + object_cost c.read-here.result)) c.mark_object.result _ c.in_default-mark_object.is c.mark_object.ensures.visits.1 in
+    let d = of-ok (λ x. IsTileGrown g.said w.bytes c.read-here.result c.tiles.owners.blocks.entries c.tiles.owners.waiting n.blocks.entries n.pending n.waiting) (IsSharedIn g.said w.bytes) c.mark_object.result _ c.in_default-mark_object.is c.mark_object.ensures.noted in
+    let a = walk-at w kept c.tiles.tile c.read-here.result c.tiles.invariant (walk-read c.tiles.tile c.in-Some.unread c.read-here.result c.in-Some.is c.read-here.ensures.tile) in
+    walk-past w kept (Noting g.said w.bytes o.blocks.entries (6 * o.waiting + debt o.blocks.entries) c.args.visits.now n.blocks.entries n.pending n.waiting c.mark_object.new.visits) c.read-here.result c.next-tile.result a c.next-tile.ensures
+    (noting-on g.said w c.read-here.result c.requires.0 c.requires.1.1.0 c.args.owners.now.blocks.entries (6 * c.args.owners.now.waiting + debt c.args.owners.now.blocks.entries) c.args.visits.now c.tiles.owners.blocks.entries c.tiles.owners.pending c.tiles.owners.waiting c.tiles.visits (walk-at w kept c.tiles.tile c.read-here.result c.tiles.invariant (walk-read c.tiles.tile c.in-Some.unread c.read-here.result c.in-Some.is c.read-here.ensures.tile)) n.blocks.entries n.pending n.waiting c.mark_object.new.visits d (omega arith) (omega arith))
 
 pub returns-clause-noted : goal.returns-clause-noted
 returns-clause-noted g c =

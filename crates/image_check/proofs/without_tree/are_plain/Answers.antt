@@ -5,7 +5,7 @@ use Rattle.block_tags.proofs.Laws.{tiles_are_read_off}
 use Rattle.image_check.specs.OlderFormats.{is_plain}
 use Rattle.image_check.specs.Visits.{tag_rates}
 use Rattle.image_check.proofs.Budget.{two-for-tile, within-all, within-more, within-none, within-stop}
-use Rattle.image_check.proofs.WalkedTiles.{all-fails, all-more, at-meets, tags-IsTiled, walk-at, walk-end, walk-nearer, walk-on, walk-start}
+use Rattle.image_check.proofs.WalkedTiles.{all-fails, all-more, at-meets, tags-IsTiled, walk-at, walk-end, walk-nearer, walk-on, walk-read, walk-start}
 use Rattle.image_check.proofs.without_tree.are_plain.Goals as goal
 
 pub first-tile-requires : goal.first-tile-requires
@@ -19,36 +19,36 @@ tiles-init c =
 pub returns-then-not-is_plain-clause-value : goal.returns-then-not-is_plain-clause-value
 returns-then-not-is_plain-clause-value c =
     let w = c.args.window.now in
-    let here = c.in-Some.here in
-    let a = walk-at w _ c.tiles.tile here c.tiles.invariant c.in-Some.is in
+    let here = c.read-here.result in
+    let a = walk-at w _ c.tiles.tile here c.tiles.invariant (walk-read c.tiles.tile c.in-Some.unread c.read-here.result c.in-Some.is c.read-here.ensures.tile) in
     let all : list_all is_plain (a.front ++ here ∷ a.back) ≡ false = all-fails is_plain a.front here a.back (sym c.is_plain.ensures ∙ c.if-not-is_plain.true) in
     sym (ap (list_all is_plain) (tiles_are_read_off w (a.front ++ here ∷ a.back) a.said) ∙ all)
 
 pub returns-then-not-is_plain-clause-visits : goal.returns-then-not-is_plain-clause-visits
 returns-then-not-is_plain-clause-visits c =
     let w = c.args.window.now in
-    let here = c.in-Some.here in
-    let a = walk-at w _ c.tiles.tile here c.tiles.invariant c.in-Some.is in
+    let here = c.read-here.result in
+    let a = walk-at w _ c.tiles.tile here c.tiles.invariant (walk-read c.tiles.tile c.in-Some.unread c.read-here.result c.in-Some.is c.read-here.ensures.tile) in
     let two = two-for-tile here.use_of here.len (at-meets w _ here a).long in
-    let one = c.visit.ensures in
+    let one = c.read-here.ensures.visits in
     within-stop w tag_rates _ c.tiles.visits _ a.front here a.back a.said a.kept.1 (omega arith) (omega arith)
 
 pub next-tile-requires : goal.next-tile-requires
 next-tile-requires c =
-    (at-meets c.args.window.now _ c.in-Some.here (walk-at c.args.window.now _ c.tiles.tile c.in-Some.here c.tiles.invariant c.in-Some.is)).has
+    (at-meets c.args.window.now _ c.read-here.result (walk-at c.args.window.now _ c.tiles.tile c.read-here.result c.tiles.invariant (walk-read c.tiles.tile c.in-Some.unread c.read-here.result c.in-Some.is c.read-here.ensures.tile))).has
 
 pub tiles-smaller : goal.tiles-smaller
 tiles-smaller c =
-    walk-nearer c.args.window.now _ c.tiles.tile c.in-Some.here c.next-tile.result (walk-at c.args.window.now _ c.tiles.tile c.in-Some.here c.tiles.invariant c.in-Some.is)
-    c.in-Some.is c.next-tile.ensures
+    walk-nearer c.args.window.now _ c.tiles.tile c.read-here.result c.next-tile.result (walk-at c.args.window.now _ c.tiles.tile c.read-here.result c.tiles.invariant (walk-read c.tiles.tile c.in-Some.unread c.read-here.result c.in-Some.is c.read-here.ensures.tile))
+    (walk-read c.tiles.tile c.in-Some.unread c.read-here.result c.in-Some.is c.read-here.ensures.tile) c.next-tile.ensures
 
 pub tiles-preserved : goal.tiles-preserved
 tiles-preserved c =
     let w = c.args.window.now in
-    let here = c.in-Some.here in
-    let a = walk-at w _ c.tiles.tile here c.tiles.invariant c.in-Some.is in
+    let here = c.read-here.result in
+    let a = walk-at w _ c.tiles.tile here c.tiles.invariant (walk-read c.tiles.tile c.in-Some.unread c.read-here.result c.in-Some.is c.read-here.ensures.tile) in
     let two = two-for-tile here.use_of here.len (at-meets w _ here a).long in
-    let one = c.visit.ensures in
+    let one = c.read-here.ensures.visits in
     walk-on w _ _ here c.next-tile.result a c.next-tile.ensures (λ front k. (
       all-more is_plain front here k.0 (sym c.is_plain.ensures ∙ c.if-not-is_plain.false),
       within-more tag_rates _ c.tiles.visits _ front here k.1 (omega arith) (omega arith),

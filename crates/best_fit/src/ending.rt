@@ -10,9 +10,9 @@ ghost use Rattle.best_fit.specs.GapTrees.{HasTree};
 ghost use Rattle.best_fit.specs.Heap.{IsHeap, heap_touches, live_of};
 
 use crate::heap::Heap;
+use crate::heap::touching::Touches;
 use crate::releasing;
 use crate::sizes::LEAST;
-use crate::touching::Touches;
 use block_tags::{Role, TAG};
 use raw_region::Steps;
 

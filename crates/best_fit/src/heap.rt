@@ -1,5 +1,5 @@
 //! A heap: a window that blocks and gaps fill.
-ghost use Rattle.std.specs.Prelude.{◌≡◌, ◌≢◌, true, is_ok, ◌-◌, ◌%◌, ◌<◌, ◌+◌, ◌*◌, ◌≤◌, IsTrue, List, Option, Some, ℕ, length, option_map, slice_get};
+ghost use Rattle.std.specs.Prelude.{◌≡◌, ◌≢◌, ◌-◌, ◌%◌, ◌<◌, ◌+◌, ◌≤◌, IsTrue, List, Option, Some, ℕ, length, option_map, slice_get};
 ghost use Rattle.std.specs.Borrow.{sem};
 ghost use Rattle.raw_region.specs.Memory.{Has, bytes_of, read, whole, word_at};
 ghost use Rattle.raw_region.specs.Format.{current};
@@ -7,16 +7,20 @@ ghost use Rattle.block_tags.specs.Format.{is_legal_size};
 ghost use Rattle.best_fit.specs.Extents.{Extent, free_bytes as free_bytes_of, spans};
 ghost use Rattle.block_tags.specs.Tiles.{tiles_of};
 ghost use Rattle.best_fit.specs.FreeTree.{span};
-ghost use Rattle.best_fit.specs.Heap.{Allocates, IsChanged, IsExtended, IsFresh, IsHeap, IsReleased, IsShortened, IsTileOf, IsZeroed, extent_at, has_room, heap_touches, is_live_in, live_of, payload_at, with_payload};
+ghost use Rattle.best_fit.specs.Heap.{IsChanged, IsFresh, IsHeap, IsTileOf, IsZeroed, extent_at, has_room, is_live_in, live_of, payload_at, with_payload};
 ghost use Rattle.best_fit.specs.Pairs.{CallsOnTwo, TakesTwo};
 
+mod links;
+pub mod nodes;
+mod planting;
+mod summing;
+pub mod touching;
+
 use crate::lending::on_two;
-use crate::nodes::{FREE_TREE, Gaps, plant_first};
-use crate::refusal::NoSpace;
-use crate::touching::Touches;
-use crate::{releasing, resizing, summing, taking, walking, zeroing};
+use crate::{walking, zeroing};
 use block_tags::{FIRST, Role, TAG, Tile};
-use raw_region::{Span, Steps, Window};
+use nodes::{FREE_TREE, Gaps, plant_first};
+use raw_region::{Span, Window};
 use std::marker::Model;
 
 /// A window that blocks and gaps fill from byte 128 to its end tag of 16 bytes. The header before them is the caller's,
@@ -139,6 +143,14 @@ impl Heap {
             .unwrap_or(Role::Object)
     }
 
+    /// The number of bytes that the block of a handle has room for.
+    pub fn room(&self, handle: u64) -> u64
+        requires { IsTrue (is_live_in (live_of self.now.bytes) handle) }
+        ensures { option_map (λ (x : Extent). x.len - 16) (extent_at (live_of self.now.bytes) handle) ≡ Some result }
+    {
+        block_tags::tile_at(&self.gaps.window, handle - TAG).len - TAG
+    }
+
     /// The word at `at` in the block of a handle.
     pub fn word(&self, handle: u64, at: u64) -> u64
         requires { IsTrue (has_room (live_of self.now.bytes) handle (at + 8)) }
@@ -218,66 +230,6 @@ impl Heap {
             len: other - TAG,
         };
         on_two(bytes, a, b, change);
-    }
-
-    /// Takes a block for `n` bytes into use and answers its handle: the front of the least gap that is long enough, or
-    /// all of it where less than 32 bytes would be left. Of gaps as long the first one is taken.
-    ///
-    /// # Errors
-    ///
-    /// `NoSpace` where no gap is long enough, as for each `n` above 1073741824. Nothing changes.
-    pub fn allocate(&mut self, n: u64, role: Role, steps: &mut Steps) -> Result<u64, NoSpace>
-        ensures answer { Allocates current self.old self.new n role result }
-        ensures counted { steps.old ≤ steps.new }
-        ensures went { is_ok result ≡ true → steps.old < steps.new }
-        ensures steps { steps.new ≤ steps.old + heap_touches (live_of self.old.bytes) }
-    {
-        let mut touches = Touches::new(&mut self.gaps);
-        let result = taking::allocate(&mut touches, n, role);
-        steps.add(touches.count());
-        result
-    }
-
-    /// Gives back the block of a handle: it becomes one gap with those before and behind it.
-    pub fn deallocate(&mut self, handle: u64, steps: &mut Steps)
-        requires { IsTrue (is_live_in (live_of self.old.bytes) handle) }
-        ensures released { IsReleased current self.old self.new handle }
-        ensures counted { steps.old < steps.new }
-        ensures steps { steps.new ≤ steps.old + heap_touches (live_of self.old.bytes) }
-    {
-        let mut touches = Touches::new(&mut self.gaps);
-        releasing::release(&mut touches, handle - TAG);
-        steps.add(touches.count());
-    }
-
-    /// Lengthens the block of a handle where it stands, to hold `n` bytes, and answers whether it did: the block is too
-    /// short, and it is long enough with the gap behind it. All of the gap is taken where less than 32 bytes would be
-    /// left. Else nothing changes.
-    pub fn try_extend(&mut self, handle: u64, n: u64, steps: &mut Steps) -> bool
-        requires { IsTrue (is_live_in (live_of self.old.bytes) handle) }
-        ensures extended { IsExtended current self.old self.new handle n result }
-        ensures counted { steps.old ≤ steps.new }
-        ensures went { result ≡ true → steps.old < steps.new }
-        ensures steps { steps.new ≤ steps.old + heap_touches (live_of self.old.bytes) }
-    {
-        let mut touches = Touches::new(&mut self.gaps);
-        let longer = resizing::extend(&mut touches, handle - TAG, n);
-        steps.add(touches.count());
-        longer
-    }
-
-    /// Shortens the block of a handle where it stands, to hold `n` bytes, where it is longer and a gap stands behind it or
-    /// at least 32 bytes are cut off. Else nothing changes.
-    pub fn shrink_in_place(&mut self, handle: u64, n: u64, steps: &mut Steps)
-        requires { IsTrue (is_live_in (live_of self.old.bytes) handle) }
-        ensures shortened { IsShortened current self.old self.new handle n }
-        ensures counted { steps.old ≤ steps.new }
-        ensures went { self.new ≢ self.old → steps.old < steps.new }
-        ensures steps { steps.new ≤ steps.old + heap_touches (live_of self.old.bytes) }
-    {
-        let mut touches = Touches::new(&mut self.gaps);
-        resizing::shorten(&mut touches, handle - TAG, n);
-        steps.add(touches.count());
     }
 
     /// The block or gap that stands first, or nothing where there is none.

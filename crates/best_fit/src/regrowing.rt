@@ -1,24 +1,15 @@
 //! More room for what a block holds: where it stands, or in a new block.
-ghost use Rattle.std.specs.Prelude.{◌≡◌, ◌-◌, ◌≤◌, IfSome, IsTrue, Some, option_map};
+ghost use Rattle.std.specs.Prelude.{◌≤◌, IfSome, IsTrue};
 ghost use Rattle.raw_region.specs.Format.{current};
 ghost use Rattle.best_fit.specs.Exchange.{Regrows, Replaces};
-ghost use Rattle.best_fit.specs.Extents.{Extent};
-ghost use Rattle.best_fit.specs.Heap.{IsHeap, extent_at, has_room, is_live_in, live_of};
+ghost use Rattle.best_fit.specs.Heap.{IsHeap, has_room, live_of};
 
 use crate::heap::Heap;
 use crate::refusal::NoSpace;
-use block_tags::{Role, TAG, tile_at};
+use block_tags::Role;
 use raw_region::Steps;
 
 impl Heap {
-    /// The number of bytes that the block of a handle has room for.
-    pub fn room(&self, handle: u64) -> u64
-        requires { IsTrue (is_live_in (live_of self.now.bytes) handle) }
-        ensures { option_map (λ (x : Extent). x.len - 16) (extent_at (live_of self.now.bytes) handle) ≡ Some result }
-    {
-        tile_at(&self.gaps.window, handle - TAG).len - TAG
-    }
-
     /// A block for `n` bytes in the place of the one of a handle, of which the first `used` bytes are kept: the same block
     /// where it has the room, else the block lengthened where it stands, and else a new one of role storage, which is taken
     /// before the old one is given back. Without a handle a new one. It answers the block's handle.

@@ -1,0 +1,28 @@
+-- The tag of a gap lies before its payload, and tells the length of its tile.
+use Rattle.std.proofs.Common.{◌≡◌, false, Bool, IsTrue, ◌+◌, ◌-◌, ◌*◌, ◌/◌, ap, subst, sym, ◌∙◌, arith}
+use Rattle.std.proofs.lemmas.Bool.{false≢true}
+use Rattle.raw_region.specs.Memory.{bytes_of, word_at}
+use Rattle.block_tags.specs.declared.tile.Tile.{Tile}
+use Rattle.block_tags.specs.Tiles.{tile_at}
+use Rattle.block_tags.proofs.Laws.{tile_is_read_off}
+use Rattle.best_fit.specs.GapLaws.{is_gap_node-GapNode}
+use Rattle.best_fit.specs.GapNodes.{tiles_in}
+use Rattle.best_fit.proofs.GapFacts.{node_at, node_len}
+use Rattle.best_fit.proofs.heap.summing.len_before.Goals as goal
+use Rattle.best_fit.proofs.heap.summing.len_before.Goals.{then-node-lt-TAG-via-then-node-lt-TAG, then-node-lt-TAG-via-else-node-lt-TAG+then-not-in_range}
+
+pub returns-then-node-lt-TAG : goal.returns-then-node-lt-TAG
+returns-then-node-lt-TAG c = λ node.
+    let w = c.args.window.now in let d = node_at w c.args.node (is_gap_node-GapNode w c.args.node node) in let low = d.low in let ends = d.ends in
+    elim c.then-node-lt-TAG.branch [
+      | then-node-lt-TAG-via-then-node-lt-TAG v ↦ let small = v.if-node-lt-TAG.true in absurd (omega arith)
+      | then-node-lt-TAG-via-else-node-lt-TAG+then-not-in_range v ↦ let long = d.long in let no : IsTrue false = subst (λ (b : Bool). IsTrue b) v.if-not-in_range.true (v.in_range.ensures.1 (omega arith)) in absurd (false≢true no)
+    ]
+
+pub returns : goal.returns
+returns c = λ node.
+    let w = c.args.window.now in let d = node_at w c.args.node (is_gap_node-GapNode w c.args.node node) in let low = d.low in let at = d.free_tile.at in
+    let read : tile_at (bytes_of w.bytes) d.free_tile.tile.offset ≡ d.free_tile.tile = tile_is_read_off w (tiles_in w) d.free_tile.tile.offset d.free_tile.tile d.said d.stands in
+    let word : d.free_tile.tile.offset + 8 ≡ c.args.node - 16 + 8 = omega arith in
+    ap (λ k. k / 16 * 16) (c.read_u64.ensures ∙ ap (word_at (bytes_of w.bytes)) (sym word))
+    ∙ ap (λ (t : Tile). t.len) read ∙ sym (node_len w c.args.node d)

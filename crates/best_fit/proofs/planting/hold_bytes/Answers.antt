@@ -1,6 +1,0 @@
--- A byte fits in eight bits.
-use Rattle.std.proofs.Common.{arith}
-use Rattle.best_fit.proofs.planting.hold_bytes.Goals as goal
-
-pub returns : goal.returns
-returns c = λ k. omega (arith, c.type_inv.bytes k)

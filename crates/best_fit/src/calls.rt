@@ -1,0 +1,74 @@
+//! The calls of a heap that take blocks, give them back and change their sizes. No window is in reach here: what they do, they
+//! do through `Touches`, which counts it.
+ghost use Rattle.std.specs.Prelude.{◌≡◌, ◌≢◌, true, is_ok, ◌<◌, ◌+◌, ◌≤◌, IsTrue};
+ghost use Rattle.raw_region.specs.Format.{current};
+ghost use Rattle.best_fit.specs.Heap.{Allocates, IsExtended, IsReleased, IsShortened, heap_touches, is_live_in, live_of};
+
+use crate::heap::Heap;
+use crate::heap::touching::Touches;
+use crate::refusal::NoSpace;
+use crate::{releasing, resizing, taking};
+use block_tags::{Role, TAG};
+use raw_region::Steps;
+
+impl Heap {
+    /// Takes a block for `n` bytes into use and answers its handle: the front of the least gap that is long enough, or
+    /// all of it where less than 32 bytes would be left. Of gaps as long the first one is taken.
+    ///
+    /// # Errors
+    ///
+    /// `NoSpace` where no gap is long enough, as for each `n` above 1073741824. Nothing changes.
+    pub fn allocate(&mut self, n: u64, role: Role, steps: &mut Steps) -> Result<u64, NoSpace>
+        ensures answer { Allocates current self.old self.new n role result }
+        ensures counted { steps.old ≤ steps.new }
+        ensures went { is_ok result ≡ true → steps.old < steps.new }
+        ensures steps { steps.new ≤ steps.old + heap_touches (live_of self.old.bytes) }
+    {
+        let mut touches = Touches::new(&mut self.gaps);
+        let result = taking::allocate(&mut touches, n, role);
+        steps.add(touches.count());
+        result
+    }
+
+    /// Gives back the block of a handle: it becomes one gap with those before and behind it.
+    pub fn deallocate(&mut self, handle: u64, steps: &mut Steps)
+        requires { IsTrue (is_live_in (live_of self.old.bytes) handle) }
+        ensures released { IsReleased current self.old self.new handle }
+        ensures counted { steps.old < steps.new }
+        ensures steps { steps.new ≤ steps.old + heap_touches (live_of self.old.bytes) }
+    {
+        let mut touches = Touches::new(&mut self.gaps);
+        releasing::release(&mut touches, handle - TAG);
+        steps.add(touches.count());
+    }
+
+    /// Lengthens the block of a handle where it stands, to hold `n` bytes, and answers whether it did: the block is too
+    /// short, and it is long enough with the gap behind it. All of the gap is taken where less than 32 bytes would be
+    /// left. Else nothing changes.
+    pub fn try_extend(&mut self, handle: u64, n: u64, steps: &mut Steps) -> bool
+        requires { IsTrue (is_live_in (live_of self.old.bytes) handle) }
+        ensures extended { IsExtended current self.old self.new handle n result }
+        ensures counted { steps.old ≤ steps.new }
+        ensures went { result ≡ true → steps.old < steps.new }
+        ensures steps { steps.new ≤ steps.old + heap_touches (live_of self.old.bytes) }
+    {
+        let mut touches = Touches::new(&mut self.gaps);
+        let longer = resizing::extend(&mut touches, handle - TAG, n);
+        steps.add(touches.count());
+        longer
+    }
+
+    /// Shortens the block of a handle where it stands, to hold `n` bytes, where it is longer and a gap stands behind it or
+    /// at least 32 bytes are cut off. Else nothing changes.
+    pub fn shrink_in_place(&mut self, handle: u64, n: u64, steps: &mut Steps)
+        requires { IsTrue (is_live_in (live_of self.old.bytes) handle) }
+        ensures shortened { IsShortened current self.old self.new handle n }
+        ensures counted { steps.old ≤ steps.new }
+        ensures went { self.new ≢ self.old → steps.old < steps.new }
+        ensures steps { steps.new ≤ steps.old + heap_touches (live_of self.old.bytes) }
+    {
+        let mut touches = Touches::new(&mut self.gaps);
+        resizing::shorten(&mut touches, handle - TAG, n);
+        steps.add(touches.count());
+    }
+}

@@ -1,0 +1,106 @@
+//! Links in the header and in blocks, and the colours of node blocks.
+ghost use Rattle.std.specs.Prelude.{◌≡◌, ◌≢◌, ◌+◌, ◌*◌, ◌%◌, ◌<◌, ◌≤◌, IfSome, IsTrue, length};
+ghost use Rattle.raw_region.specs.Memory.{bytes_of, patched};
+ghost use Rattle.raw_region.specs.Regions.{with_bytes};
+ghost use Rattle.offset_link.specs.Link.{link_at};
+ghost use Rattle.offset_link.specs.Relinked.{AreLinks, KeepTargets, relinked};
+ghost use Rattle.raw_region.specs.Format.{current};
+ghost use Rattle.best_fit.specs.FreeTree.{is_red};
+ghost use Rattle.best_fit.specs.Heap.{IsChanged, IsRecoloured, has_room, is_live_in, is_node_in, live_of};
+
+use crate::heap::Heap;
+use crate::heap::nodes::{FREE_TREE, set_link};
+use block_tags::{FIRST, TAG, set_red, tile_at};
+use offset_link::{Places, load, shift};
+use raw_region::Window;
+
+impl Heap {
+    /// Where the header's link at `at` leads: a multiple of 8 below 128, and not 24.
+    pub fn header_link(&self, at: u64) -> Option<u64>
+        requires whole { at % 8 ≡ 0 }
+        requires below { at < FIRST }
+        requires other { at ≢ FREE_TREE }
+        ensures { result ≡ link_at (bytes_of self.now.bytes) at }
+    {
+        load(&self.gaps.window, at)
+    }
+
+    /// Makes the header's link at `at`, a multiple of 8 below 128 and not 24, lead to a multiple of 16, or nowhere.
+    pub fn set_header_link(&mut self, at: u64, to: Option<u64>)
+        requires whole { at % 8 ≡ 0 }
+        requires below { at < FIRST }
+        requires other { at ≢ FREE_TREE }
+        requires target { IfSome to (λ target. target % 16 ≡ 0) }
+        ensures change { IsChanged current self.old self.new at 8 }
+        ensures leads { link_at (bytes_of self.new.bytes) at ≡ to }
+    {
+        set_link(&mut self.gaps.window, at, to);
+    }
+
+    /// Where the link at `at` in the block of a handle leads.
+    pub fn link(&self, handle: u64, at: u64) -> Option<u64>
+        requires whole { at % 8 ≡ 0 }
+        requires room { IsTrue (has_room (live_of self.now.bytes) handle (at + 8)) }
+        ensures { result ≡ link_at (bytes_of self.now.bytes) (handle + at) }
+    {
+        load(&self.gaps.window, handle + at)
+    }
+
+    /// Makes the link at `at` in the block of a handle lead to a multiple of 16, or nowhere.
+    pub fn set_link(&mut self, handle: u64, at: u64, to: Option<u64>)
+        requires whole { at % 8 ≡ 0 }
+        requires room { IsTrue (has_room (live_of self.old.bytes) handle (at + 8)) }
+        requires target { IfSome to (λ target. target % 16 ≡ 0) }
+        ensures change { IsChanged current self.old self.new (handle + at) 8 }
+        ensures leads { link_at (bytes_of self.new.bytes) (handle + at) ≡ to }
+    {
+        set_link(&mut self.gaps.window, handle + at, to);
+    }
+
+    /// Makes the `n` links from `to_at` on in the block `to` lead where those from `from_at` on in the block `from` lead.
+    /// It may be one block, and the two ranges may overlap.
+    pub fn shift_links(&mut self, from: u64, from_at: u64, to: u64, to_at: u64, n: u64)
+        requires from_whole { from_at % 8 ≡ 0 }
+        requires to_whole { to_at % 8 ≡ 0 }
+        requires source { IsTrue (has_room (live_of self.old.bytes) from (from_at + 8 * n)) }
+        requires target { IsTrue (has_room (live_of self.old.bytes) to (to_at + 8 * n)) }
+        requires links { AreLinks (bytes_of self.old.bytes) (from + from_at) n }
+        ensures change { IsChanged current self.old self.new (to + to_at) (8 * n) }
+        ensures lead { KeepTargets (bytes_of self.old.bytes) (bytes_of self.new.bytes) (from + from_at) (to + to_at) n }
+    {
+        move_to(&mut self.gaps.window, from + from_at, to + to_at, n);
+    }
+
+    /// Whether the block of a handle is red. Only a node block may be.
+    pub fn node_red(&self, handle: u64) -> bool
+        requires { IsTrue (is_live_in (live_of self.now.bytes) handle) }
+        ensures { result ≡ is_red (bytes_of self.now.bytes) handle }
+    {
+        tile_at(&self.gaps.window, handle - TAG).red
+    }
+
+    /// Makes the node block of a handle red, or black.
+    pub fn set_node_red(&mut self, handle: u64, red: bool)
+        requires { IsTrue (is_node_in (live_of self.old.bytes) handle) }
+        ensures { IsRecoloured current self.old self.new handle red }
+    {
+        set_red(&mut self.gaps.window, handle - TAG, red);
+    }
+}
+
+/// Makes the `n` links from `target` on lead where those from `source` on lead.
+fn move_to(window: &mut Window, source: u64, target: u64, n: u64)
+    requires source_whole { source % 8 ≡ 0 }
+    requires target_whole { target % 8 ≡ 0 }
+    requires source { source + 8 * n ≤ length window.old.bytes }
+    requires target { target + 8 * n ≤ length window.old.bytes }
+    requires links { AreLinks (bytes_of window.old.bytes) source n }
+    ensures lead { KeepTargets (bytes_of window.old.bytes) (bytes_of window.new.bytes) source target n }
+    ensures written { window.new ≡ with_bytes window.old (patched window.old.bytes target (relinked (bytes_of window.old.bytes) source target n)) }
+{
+    if target >= source {
+        shift(window, source, n, Places::Up((target - source) / 8));
+    } else {
+        shift(window, source, n, Places::Down((source - target) / 8));
+    }
+}

@@ -1,0 +1,133 @@
+//! The gaps of a window as the nodes of a tree.
+ghost use Rattle.std.specs.Prelude.{◌≡◌, ◌+◌, ◌%◌, ◌≤◌, IfSome, length};
+ghost use Rattle.std.specs.List.{AllByRecursion};
+ghost use Rattle.raw_region.specs.Memory.{Same, SameBut, SamePlace, bytes_of};
+ghost use Rattle.raw_region.specs.Format.{current};
+ghost use Rattle.block_tags.specs.Lists.{laid};
+ghost use Rattle.block_tags.specs.Windows.{SaysTiles};
+ghost use Rattle.best_fit.specs.Extents.{gaps};
+ghost use Rattle.best_fit.specs.Heap.{HasNullLinks, LaysOut, no_blocks};
+ghost use Rattle.offset_link.specs.Link.{link_at};
+ghost use Rattle.best_fit.specs.GapNodes.{Kept as WhatStays, comes_before, gap_cells, gaps_in, is_gap_node, is_too_short, kept_of};
+ghost use Rattle.best_fit.specs.GapLaws.{comes_agrees, comes_irreflexive, comes_transitive, gaps_finite, gaps_left, gaps_right};
+
+use block_tags::{FIRST, TAG, tile_at};
+use link_tree::{Nodes, NodesMut};
+use offset_link::{load, store, store_null};
+use raw_region::Window;
+
+/// Where the right link of a node of a tree stands behind the left one, in bytes.
+pub const RIGHT: u64 = 8;
+
+/// The offset of the header's word that links to the root of the free tree.
+pub const FREE_TREE: u64 = 24;
+
+/// The payload of the first tile.
+const FIRST_GAP: u64 = FIRST + TAG;
+
+/// A window whose gaps are nodes, each named by its payload: its links are the first two words there, and its colour is
+/// that of its tile. A gap precedes longer ones, and those as long that stand behind it.
+#[derive(Drop)]
+pub struct Gaps {
+    pub(super) window: Window,
+}
+
+impl Nodes for Gaps {
+    type Probe = u64;
+
+    ghost cells = { λ s. gap_cells s.window };
+
+    ghost is_node = { λ s. is_gap_node s.window };
+
+    ghost order = { λ s. comes_before (gaps_in s.window) };
+
+    ghost before = { λ s wanted. is_too_short (gaps_in s.window) wanted };
+
+    ghost Kept = { WhatStays };
+
+    ghost kept = { λ s. kept_of s.window };
+
+    fn left(&self, node: u64) -> Option<u64> {
+        load(&self.window, node)
+    }
+
+    fn right(&self, node: u64) -> Option<u64> {
+        load(&self.window, node + RIGHT)
+    }
+
+    fn red(&self, node: u64) -> bool {
+        tile_at(&self.window, node - TAG).red
+    }
+
+    fn precedes(&self, a: u64, b: u64) -> bool {
+        let first = tile_at(&self.window, a - TAG).len;
+        let second = tile_at(&self.window, b - TAG).len;
+        first < second || (first == second && a < b)
+    }
+
+    fn before_probe(&self, node: u64, probe: &u64) -> bool {
+        tile_at(&self.window, node - TAG).len < *probe
+    }
+
+    ghost finite = { λ s. gaps_finite s.window };
+
+    ghost left_closed = { λ s. gaps_left s.window };
+
+    ghost right_closed = { λ s. gaps_right s.window };
+
+    ghost irreflexive = { λ s. comes_irreflexive (gaps_in s.window) };
+
+    ghost transitive = { λ s. comes_transitive (gaps_in s.window) };
+
+    ghost agrees = { λ s. comes_agrees (gaps_in s.window) };
+}
+
+impl NodesMut for Gaps {
+    fn set_left(&mut self, node: u64, to: Option<u64>) {
+        set_link(&mut self.window, node, to);
+    }
+
+    fn set_right(&mut self, node: u64, to: Option<u64>) {
+        set_link(&mut self.window, node + RIGHT, to);
+    }
+
+    fn set_red(&mut self, node: u64, red: bool) {
+        block_tags::set_red(&mut self.window, node - TAG, red);
+    }
+}
+
+/// Makes the link at `at` lead to a multiple of 16, or nowhere.
+pub fn set_link(window: &mut Window, at: u64, to: Option<u64>)
+    requires aligned { at % 8 ≡ 0 }
+    requires inside { at + 8 ≤ length window.old.bytes }
+    requires target { IfSome to (λ target. target % 16 ≡ 0) }
+    ensures leads { link_at (bytes_of window.new.bytes) at ≡ to }
+    ensures len { length window.new.bytes ≡ length window.old.bytes }
+    ensures place { SamePlace window.old window.new }
+    ensures rest { SameBut (bytes_of window.old.bytes) (bytes_of window.new.bytes) at 8 }
+{
+    match to {
+        Some(target) => store(window, at, target),
+        None => store_null(window, at),
+    }
+}
+
+/// Makes the one gap of a window the tree, or no gap where there is none.
+pub fn plant_first(window: &mut Window)
+    requires laid { SaysTiles window.old (laid (length window.old.bytes)) }
+    ensures live { LaysOut current window.new.bytes (no_blocks (length window.old.bytes)) }
+    ensures links { AllByRecursion (HasNullLinks current (bytes_of window.new.bytes)) (gaps (no_blocks (length window.old.bytes))) }
+    ensures place { SamePlace window.old window.new }
+    ensures size { length window.new.bytes ≡ length window.old.bytes }
+    ensures front { Same (bytes_of window.old.bytes) (bytes_of window.new.bytes) 0 24 }
+    ensures behind { Same (bytes_of window.old.bytes) (bytes_of window.new.bytes) 32 144 }
+    ensures rest { Same (bytes_of window.old.bytes) (bytes_of window.new.bytes) 160 (length window.old.bytes) }
+{
+    if window.size() > FIRST_GAP {
+        set_link(window, FIRST_GAP, None);
+        set_link(window, FIRST_GAP + RIGHT, None);
+        set_link(window, FREE_TREE, Some(FIRST_GAP));
+    } else {
+        set_link(window, FREE_TREE, None);
+    }
+}

@@ -1,0 +1,39 @@
+//! The bytes of all gaps, from the tree of the gaps: no block in use is gone to.
+ghost use Rattle.std.specs.Prelude.{◌≡◌, true};
+ghost use Rattle.raw_region.specs.Format.{current};
+ghost use Rattle.best_fit.specs.Extents.{free_bytes as free_bytes_of};
+ghost use Rattle.best_fit.specs.GapNodes.{gaps_in, is_gap_node, len_in};
+ghost use Rattle.best_fit.specs.Heap.{IsHeap, live_of};
+
+use crate::heap::nodes::{FREE_TREE, Gaps};
+use block_tags::TAG;
+use link_tree::walk;
+use offset_link::load;
+use raw_region::Window;
+
+/// Where the word that tells a gap's length stands in its tag; its lowest four bits tell the use and the colour.
+const LENGTH: u64 = 8;
+
+/// The length of the gap that has this payload. Any number may be asked for.
+fn len_before(window: &Window, node: u64) -> u64
+    ensures { is_gap_node window.now node ≡ true → result ≡ len_in (gaps_in window.now) node }
+{
+    if node < TAG || !window.in_range(node - TAG, TAG) {
+        return 0;
+    }
+    window.read_u64(node - TAG + LENGTH) / 16 * 16
+}
+
+/// The bytes of all gaps.
+pub fn free_bytes(gaps: &Gaps) -> u64
+    requires { IsHeap current gaps.now.window.bytes }
+    ensures { result ≡ free_bytes_of (live_of gaps.now.window.bytes) }
+{
+    let root = load(&gaps.window, FREE_TREE);
+    let mut total = 0u64;
+    let mut add = |node: u64| {
+        total = total.wrapping_add(len_before(&gaps.window, node));
+    };
+    walk(gaps, root, &mut add);
+    total
+}

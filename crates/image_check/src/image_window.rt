@@ -140,6 +140,18 @@ impl ImageWindow {
         (self.link(at, visits), self.window.read_u64(at + 8))
     }
 
+    /// Where the two links of the node at `at` lead. One visit.
+    pub fn links(&self, at: u64, visits: &mut Visits) -> (Option<u64>, Option<u64>)
+        requires size { IsTrue (is_legal_size (length self.now.bytes)) }
+        requires aligned { at % 8 ≡ 0 }
+        requires inside { at + 16 ≤ length self.now.bytes }
+        ensures left { result.0 ≡ link_at (bytes_of self.now.bytes) at }
+        ensures right { result.1 ≡ link_at (bytes_of self.now.bytes) (at + 8) }
+        ensures visits { visits.new ≡ visits.old + 1 }
+    {
+        (self.link(at, visits), load(&self.window, at + 8))
+    }
+
     /// Reads all tags up to the first wrong one. One visit for each.
     pub fn check_counted(&self, visits: &mut Visits) -> Checked
         requires { IsTrue (is_legal_size (length self.now.bytes)) }

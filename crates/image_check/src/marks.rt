@@ -112,13 +112,13 @@ fn follow_next(
     let root = root_in(block, node);
     owners.pending = next_in(block);
     owners.waiting -= 1;
-    visits.visit();
+    let children = window.links(node, visits);
     let left = Owner { at: node, root };
-    match mark(owners, Role::Node, left, window.load(node), visits) {
+    match mark(owners, Role::Node, left, children.0, visits) {
         Err(class) => Err(class),
         Ok(()) => {
             let right = Owner { at: node + 8, root };
-            mark(owners, Role::Node, right, window.load(node + 8), visits)
+            mark(owners, Role::Node, right, children.1, visits)
         }
     }
 }

@@ -19,13 +19,16 @@ node-inside format b es pending waiting h k n e = (
   legal-small (length b) h.size,
 )
 
-pub load-requires-clause-aligned : goal.load-requires-clause-aligned
-load-requires-clause-aligned g c =
+pub links-children-requires-clause-size : goal.links-children-requires-clause-size
+links-children-requires-clause-size g c = c.requires.0.size
+
+pub links-children-requires-clause-aligned : goal.links-children-requires-clause-aligned
+links-children-requires-clause-aligned g c =
     let w = node-inside g.format c.args.window.now.bytes c.args.owners.now.blocks.entries c.args.owners.now.pending c.args.owners.now.waiting c.requires.0 c.requires.1.0 c.args.node c.requires.1.1 in
     let x = w.0.aligned in omega arith
 
-pub load-requires-clause-inside : goal.load-requires-clause-inside
-load-requires-clause-inside g c =
+pub links-children-requires-clause-inside : goal.links-children-requires-clause-inside
+links-children-requires-clause-inside g c =
     let w = node-inside g.format c.args.window.now.bytes c.args.owners.now.blocks.entries c.args.owners.now.pending c.args.owners.now.waiting c.requires.0 c.requires.1.0 c.args.node c.requires.1.1 in
     let x = w.0.high in omega arith
 
@@ -33,21 +36,6 @@ pub overflow_add-right : goal.overflow_add-right
 overflow_add-right g c =
     let w = node-inside g.format c.args.window.now.bytes c.args.owners.now.blocks.entries c.args.owners.now.pending c.args.owners.now.waiting c.requires.0 c.requires.1.0 c.args.node c.requires.1.1 in
     let x = w.0.high in let y = w.1 in omega arith
-
-pub overflow_add-node : goal.overflow_add-node
-overflow_add-node g c =
-    let w = node-inside g.format c.args.window.now.bytes c.args.owners.now.blocks.entries c.args.owners.now.pending c.args.owners.now.waiting c.requires.0 c.requires.1.0 c.args.node c.requires.1.1 in
-    let x = w.0.high in let y = w.1 in omega arith
-
-pub load-requires-in-Ok-clause-aligned : goal.load-requires-in-Ok-clause-aligned
-load-requires-in-Ok-clause-aligned g c =
-    let w = node-inside g.format c.args.window.now.bytes c.args.owners.now.blocks.entries c.args.owners.now.pending c.args.owners.now.waiting c.requires.0 c.requires.1.0 c.args.node c.requires.1.1 in
-    let x = w.0.aligned in omega arith
-
-pub load-requires-in-Ok-clause-inside : goal.load-requires-in-Ok-clause-inside
-load-requires-in-Ok-clause-inside g c =
-    let w = node-inside g.format c.args.window.now.bytes c.args.owners.now.blocks.entries c.args.owners.now.pending c.args.owners.now.waiting c.requires.0 c.requires.1.0 c.args.node c.requires.1.1 in
-    let x = w.0.high in omega arith
 
 -- it is the node's turn
 its-turn : (format : ℕ) (b : List ℕ) (es : Blocks) (pending : Option ℕ) (waiting : ℕ) (k : IsMarkingOf format b None es pending waiting) (n : ℕ) (e : pending ≡ Some n) (block : Option Block) (next : Option ℕ)
@@ -65,7 +53,7 @@ mark-requires-in-Ok-clause-room g c =
     let o = c.args.owners.now in
     let k = its-turn g.format b o.blocks.entries o.pending o.waiting c.requires.1.0 c.args.node c.requires.1.1 c.block_of-block.result c.next_in-owners.result c.block_of-block.ensures.value c.next_in-owners.ensures in
     let r = its-root g.format b o.blocks.entries o.pending o.waiting c.requires.1.0 c.args.node c.requires.1.1 c.block_of-block.result c.root_in-root.result c.block_of-block.ensures.value c.root_in-root.ensures in
-    let first = c.mark.ensures.marked g.format (bytes_of b) (tiles_in b) (Some c.args.node) k c.load.ensures (left-counts g.format (bytes_of b) (tiles_in b) o.blocks.entries o.pending o.waiting c.requires.1.0 c.args.node c.requires.1.1)
+    let first = c.mark.ensures.marked g.format (bytes_of b) (tiles_in b) (Some c.args.node) k c.links-children.ensures.left (left-counts g.format (bytes_of b) (tiles_in b) o.blocks.entries o.pending o.waiting c.requires.1.0 c.args.node c.requires.1.1)
     (left-rooted g.format (bytes_of b) (tiles_in b) o.blocks.entries o.pending o.waiting c.requires.1.0 c.args.node c.requires.1.1 c.root_in-root.result r) in
     let done = of-ok (λ done. IsMarked g.format (bytes_of b) (tiles_in b) (Some c.args.node) Node (owner c.args.node c.root_in-root.result) o.blocks.entries (o.waiting - 1) c.mark.new.owners.blocks.entries c.mark.new.owners.pending c.mark.new.owners.waiting) (IsSharedIn g.format b) c.mark.result _ c.in-Ok.is first in
     let room = done.marking.room in
@@ -78,7 +66,7 @@ returns-in-Err-clause-turn g c =
     let o = c.args.owners.now in
     let k = its-turn g.format b o.blocks.entries o.pending o.waiting c.requires.1.0 c.args.node c.requires.1.1 c.block_of-block.result c.next_in-owners.result c.block_of-block.ensures.value c.next_in-owners.ensures in
     let r = its-root g.format b o.blocks.entries o.pending o.waiting c.requires.1.0 c.args.node c.requires.1.1 c.block_of-block.result c.root_in-root.result c.block_of-block.ensures.value c.root_in-root.ensures in
-    let first = c.mark.ensures.marked g.format (bytes_of b) (tiles_in b) (Some c.args.node) k c.load.ensures (left-counts g.format (bytes_of b) (tiles_in b) o.blocks.entries o.pending o.waiting c.requires.1.0 c.args.node c.requires.1.1)
+    let first = c.mark.ensures.marked g.format (bytes_of b) (tiles_in b) (Some c.args.node) k c.links-children.ensures.left (left-counts g.format (bytes_of b) (tiles_in b) o.blocks.entries o.pending o.waiting c.requires.1.0 c.args.node c.requires.1.1)
     (left-rooted g.format (bytes_of b) (tiles_in b) o.blocks.entries o.pending o.waiting c.requires.1.0 c.args.node c.requires.1.1 c.root_in-root.result r) in
     of-err (λ done. IsMarked g.format (bytes_of b) (tiles_in b) (Some c.args.node) Node (owner c.args.node c.root_in-root.result) o.blocks.entries (o.waiting - 1) c.mark.new.owners.blocks.entries c.mark.new.owners.pending c.mark.new.owners.waiting) (IsSharedIn g.format b) c.mark.result c.in-Err.class c.in-Err.is first
 
@@ -91,10 +79,10 @@ returns-in-Ok-clause-turn g c =
     let root = c.root_in-root.result in
     let k = its-turn g.format b o.blocks.entries o.pending o.waiting c.requires.1.0 c.args.node c.requires.1.1 c.block_of-block.result c.next_in-owners.result c.block_of-block.ensures.value c.next_in-owners.ensures in
     let r = its-root g.format b o.blocks.entries o.pending o.waiting c.requires.1.0 c.args.node c.requires.1.1 c.block_of-block.result c.root_in-root.result c.block_of-block.ensures.value c.root_in-root.ensures in
-    let first = c.mark.ensures.marked g.format (bytes_of b) (tiles_in b) (Some c.args.node) k c.load.ensures (left-counts g.format (bytes_of b) (tiles_in b) o.blocks.entries o.pending o.waiting c.requires.1.0 c.args.node c.requires.1.1)
+    let first = c.mark.ensures.marked g.format (bytes_of b) (tiles_in b) (Some c.args.node) k c.links-children.ensures.left (left-counts g.format (bytes_of b) (tiles_in b) o.blocks.entries o.pending o.waiting c.requires.1.0 c.args.node c.requires.1.1)
     (left-rooted g.format (bytes_of b) (tiles_in b) o.blocks.entries o.pending o.waiting c.requires.1.0 c.args.node c.requires.1.1 root r) in
     let one = of-ok (λ done. IsMarked g.format (bytes_of b) (tiles_in b) (Some c.args.node) Node (owner c.args.node root) o.blocks.entries (o.waiting - 1) m1.blocks.entries m1.pending m1.waiting) (IsSharedIn g.format b) c.mark.result _ c.in-Ok.is first in
-    let second = c.mark-in-Ok.ensures.marked g.format (bytes_of b) (tiles_in b) (Some c.args.node) one.marking c.load-in-Ok.ensures (right-counts g.format (bytes_of b) (tiles_in b) o.blocks.entries o.pending o.waiting c.requires.1.0 c.args.node c.requires.1.1)
+    let second = c.mark-in-Ok.ensures.marked g.format (bytes_of b) (tiles_in b) (Some c.args.node) one.marking c.links-children.ensures.right (right-counts g.format (bytes_of b) (tiles_in b) o.blocks.entries o.pending o.waiting c.requires.1.0 c.args.node c.requires.1.1)
     (right-rooted g.format (bytes_of b) (tiles_in b) o.blocks.entries o.pending o.waiting c.requires.1.0 c.args.node c.requires.1.1 root r m1.blocks.entries one.keeps) in
     map-ok _ _ (IsSharedIn g.format b) c.mark-in-Ok.result
     (λ x two. record {

@@ -43,9 +43,22 @@ take_least-below-requires g t c =
     let tree : (u : Tree) × Shrinks (g.N.Nodes.order c.child.new.self.nodes.now)
     (g.N.Nodes.cells c.child.new.self.nodes.now) (Some left) u
     × (c.child.new.self.steps + 14 * height u + 40 < 2 ^ 64) = (b.tree, rw e b.shrinks, omega arith) in
-    λ κs lives. (omega (arith, c.decreases),
-    (search rules, (search rules, (search rules, (λ k. b.apart (some_same left c.args.at (sym k ∙ c.child.ensures.at)),
-    tree)))))
+    λ κs lives. (
+      omega (arith, c.decreases),
+      (
+        search rules,
+        (
+          search rules,
+          (
+            search rules,
+            (
+              λ k. b.apart (some_same left c.args.at (sym k ∙ c.child.ensures.at)),
+              tree,
+            ),
+          ),
+        ),
+      ),
+    )
 
 pub settle-requires-clause-room : goal.settle-requires-clause-room
 settle-requires-clause-room g t c =

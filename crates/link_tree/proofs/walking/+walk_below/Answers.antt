@@ -1,4 +1,5 @@
-use Rattle.std.proofs.Common.{◌≡◌, ◌≢◌, false, ℕ, ◌+◌, ◌-◌, ◌<◌, ◌^◌, true, Option, Some, length, sym, ap, ◌∙◌, arith, rules, of_calls}
+use Rattle.std.proofs.Common.{◌≡◌, ◌≢◌, false, ℕ, ◌+◌, ◌-◌, ◌<◌, ◌^◌, true}
+use Rattle.std.proofs.Common.{Option, Some, length, sym, ap, ◌∙◌, arith, rules, of_calls}
 use Rattle.link_tree.specs.Tree.{Tree, nodes_of}
 use Rattle.link_tree.specs.Nodes.{is_in, leads}
 use Rattle.link_tree.specs.Walking.{IsAhead}
@@ -32,8 +33,10 @@ walk_below-requires g t c =
     (p.left, rw (e, left) (p.left_ahead c.right-right.new.self.at c.right-right.ensures.at), omega arith) in
     let good : leads (g.N.Nodes.is_node c.right-right.new.self.nodes.now) c.left-left.result ≡ true = rw (e, left)
     (g.met.N.Nodes.left_closed s n (rw c.in-Some.is at c.requires.link)) in
-    λ κs lives. (omega (arith, c.decreases),
-    (search rules, (search rules, (search rules, (c.requires.callable, (good, tree))))))
+    λ κs lives. (
+      omega (arith, c.decreases),
+      (search rules, (search rules, (search rules, (c.requires.callable, (good, tree))))),
+    )
 
 -- what is ahead of the two calls, of which the first leaves the walk at `later`
 both : (g : Over) (s s' s'' : g.row.N.Denot) (n levels : ℕ) (link left here right later before : Option ℕ) (t : Tree) →
@@ -68,9 +71,22 @@ walk_below-requires-2 g t c =
     let positive = b.positive in
     let good : leads (g.N.Nodes.is_node c.walk_below.new.visits.nodes.now) c.right-right.result ≡ true = rw (e, right)
     (g.met.N.Nodes.right_closed _ _ (rw c.in-Some.is at c.requires.link)) in
-    λ κs lives. (omega (arith, c.decreases),
-    (search rules, (search rules, (search rules, (search (of_calls, c.walk_below.ensures.callable, c.visit.ensures),
-    (good, (b.right, b.right_ahead, omega arith)))))))
+    λ κs lives. (
+      omega (arith, c.decreases),
+      (
+        search rules,
+        (
+          search rules,
+          (
+            search rules,
+            (
+              search (of_calls, c.walk_below.ensures.callable, c.visit.ensures),
+              (good, (b.right, b.right_ahead, omega arith)),
+            ),
+          ),
+        ),
+      ),
+    )
 
 pub returns-clause-walked : goal.returns-clause-walked
 returns-clause-walked g t c = λ u a.

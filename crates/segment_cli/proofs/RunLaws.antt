@@ -1,35 +1,15 @@
 -- What a run has answered, line by line.
-use Rattle.std.proofs.Common.{◌≡◌, ◌==◌, ℕ, ◌+◌, ◌<◌, inl, inr, true, List, [], ◌∷◌, ◌++◌, length, take, refl, sym, ap, ap₂, subst, ◌∙◌, arith}
-use Rattle.std.specs.List.{between}
+use Rattle.std.proofs.Common.{◌≡◌, ◌==◌, ℕ, ◌<◌, inl, inr, true, List, [], ◌∷◌, ◌++◌, length, take, refl, sym, ap, subst, ◌∙◌, arith}
 use Rattle.std.proofs.lemmas.Bool.{eqb-true}
-use Rattle.std.proofs.lemmas.List.{append-nil, append_assoc, take_all, take-append-drop, drop_more, nil_from_length}
-use Rattle.std.proofs.lemmas.Slice.{between_to_end}
-use Rattle.memchr.specs.Find.{Nowhere, NoneBefore, Passes, is_byte}
+use Rattle.std.proofs.lemmas.List.{append-nil, append_assoc, take_all, nil_from_length}
 use Rattle.raw_region.specs.Answers.{AddsFront}
 use Rattle.segment_cli.specs.Leaves.{answer_all}
 use Rattle.segment_cli.specs.Behind.{kept, HasAnswered, HasStopped, IsBehind, IsStoppedIn}
 use Rattle.segment_cli.specs.Lines.{ended_lines, open_line}
 use Rattle.segment_cli.specs.Session.{whole_lines}
 use Rattle.segment_cli.proofs.Kept.{at_most_or_more, kept_more}
-use Rattle.segment_cli.proofs.LineLaws.{none_ends, ended_lines-end, ended_lines-open, open_line-end, open_line-open, ended-nil, open-nil}
-
--- a line ends in what is left of a piece
-pub record BeginsWithEnd (rest end more : List ℕ) : Type 0 where
-  pub parts : rest ≡ end ++ 0x0A ∷ more
-  pub unended : whole_lines end ≡ []
-
--- it ends at the first line end
-pub first_end : (rest : List ℕ) (n : ℕ) → NoneBefore (Passes (is_byte 0x0A) rest) 0 (length rest) n → Passes (is_byte 0x0A) rest n
-    → BeginsWithEnd rest (take n rest) (between (n + 1) (length rest) rest)
-first_end rest n first is = record {
-  parts = sym (take-append-drop n rest) ∙ ap (λ (l : List ℕ). take n rest ++ l)
-      (drop_more rest n 0 first.high ∙ ap₂ (λ (b : ℕ) (l : List ℕ). b ∷ l) (eqb-true _ 0x0A is) (sym (between_to_end rest (n + 1) (length rest) (omega arith))));
-  unended = none_ends rest n (λ i k. first.before i (omega arith) k);
-}
-
--- or none does
-pub no_end : (rest : List ℕ) → Nowhere (Passes (is_byte 0x0A) rest) 0 (length rest) → whole_lines rest ≡ []
-no_end rest none = ap whole_lines (sym (take_all (length rest) rest (omega arith))) ∙ none_ends rest (length rest) (λ i k. none i (omega arith) k)
+use Rattle.segment_cli.proofs.LineEnds.{BeginsWithEnd}
+use Rattle.segment_cli.proofs.LineLaws.{ended_lines-end, ended_lines-open, open_line-end, open_line-open, ended-nil, open-nil}
 
 module _ {P : Type 0} (respond : P → List ℕ → List ℕ × P) where
   pub answer_all-text : (place : P) (ls : List (List ℕ)) (l : List ℕ) → (answer_all respond place (ls ++ l ∷ [])).0 ≡ (answer_all respond place ls).0 ++ (respond (answer_all respond place ls).1 l).0

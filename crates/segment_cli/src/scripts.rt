@@ -1,5 +1,6 @@
 //! The running of a script: read in pieces, parted into lines, each line answered at its end.
 ghost use Rattle.std.specs.Prelude.{◌≡◌, ◌+◌, ◌-◌, ◌^◌, ◌<◌, ℕ, List, [], ◌++◌, take, OnOk, OnErr, IfErr};
+ghost use Rattle.memchr.specs.Find.{IsFirstByte, is_byte};
 ghost use Rattle.raw_region.specs.Answers.{failures_in};
 ghost use Rattle.raw_region.specs.Device.{given_since, taken_since, Grows};
 ghost use Rattle.segment_cli.specs.Run.{lines};
@@ -10,7 +11,7 @@ ghost use Rattle.segment_cli.specs.Behind.{IsBehind, IsStoppedIn, IsAtEnd, IsSto
 use crate::faults::RunFault;
 use crate::machine::Machine;
 use crate::open_line::OpenLine;
-use memchr::memchr;
+use memchr::memchr_iter;
 use raw_region::{DeviceFault, Sink, Source};
 
 /// How many bytes of a script are read at once, at most.
@@ -18,6 +19,13 @@ const PIECE: usize = 65536;
 
 /// The most bytes that a script may have.
 const SCRIPT_LIMIT: usize = 16777216;
+
+/// Where the first line end is. It looks at 32 bytes first, since most lines are short.
+fn line_end(bytes: &[u8]) -> Option<usize>
+    ensures { IsFirstByte (is_byte 0x0A) bytes.now result }
+{
+    memchr_iter(b'\n', bytes).next()
+}
 
 /// Answers the open line, which ends with these bytes. One that has no others is not copied.
 fn answer_ended<M: Machine, W: Sink>(
@@ -62,7 +70,7 @@ fn feed<M: Machine, W: Sink>(
     ensures counted { (W.history out.new).failures ≡ (W.history out.old).failures + failures_in result }
 {
     let mut rest = piece;
-    'lines: while let Some(len) = memchr(b'\n', rest) {
+    'lines: while let Some(len) = line_end(rest) {
         answer_ended(machine, line, &rest[..len], out)?;
         rest = &rest[len + 1..];
     }

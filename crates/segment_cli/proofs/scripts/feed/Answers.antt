@@ -2,7 +2,8 @@ use Rattle.std.proofs.Common.{◌≡◌, [], ◌∷◌, ◌++◌, take, sym, sub
 use Rattle.std.proofs.lemmas.List.{append_assoc}
 use Rattle.std.proofs.lemmas.Result.{err_from_is_err_and}
 use Rattle.segment_cli.specs.Behind.{IsBehind}
-use Rattle.segment_cli.proofs.RunLaws.{behind_line, behind_open, first_end, no_end, stopped_in}
+use Rattle.segment_cli.proofs.LineEnds.{first_end, no_end}
+use Rattle.segment_cli.proofs.RunLaws.{behind_line, behind_open, stopped_in}
 use Rattle.segment_cli.proofs.scripts.feed.Goals as goal
 
 pub returns-in_err-answer_ended-clause-err : goal.returns-in_err-answer_ended-clause-err

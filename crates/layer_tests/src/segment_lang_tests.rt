@@ -3,7 +3,7 @@
 use raw_region::fake::{Last, MemorySink};
 use seg_types::{Kind, Refusal, ScalarKind, ScalarValue};
 use segment_lang::{
-    Command, Content, LineError, Literal, Piece, Reading, Word, literal_of, next_word, number_of,
+    Command, Content, LineError, Literal, Piece, Reading, Text, Word, literal_of, next_word, number_of,
     only_word, parse_line, put_kind, put_line_error, put_name, put_number, put_pieces, put_text,
     put_value, whole_of,
 };
@@ -13,7 +13,8 @@ use std::test::Fail;
 
 /// Whether a line is a command.
 fn is_asked(line: &[u8]) -> bool {
-    matches!(parse_line(line), Reading::Asked(_))
+    let mut scratch = Text::new();
+    matches!(parse_line(line, &mut scratch), Reading::Asked(_))
 }
 
 #[test]
@@ -101,7 +102,8 @@ fn assert_kind(rt: &impl Abort, alloc: Global, kind: Kind, text: &str) -> Result
     put_kind(&mut out, kind)?;
     assert_eq!(rt; out.taken(), text.as_bytes());
     let line = format!(in alloc; "find {text} @{text}")?;
-    match parse_line(line.as_bytes()) {
+    let mut scratch = Text::new();
+    match parse_line(line.as_bytes(), &mut scratch) {
         Reading::Asked(Command::Find { kind: found, .. }) => assert_eq!(rt; found, kind),
         _ => assert!(rt; false, "at {line:?}"),
     }
@@ -127,7 +129,8 @@ fn each_kind_has_one_spelling(rt: HostRuntime) -> Result<(), Fail> {
 
 /// Whether a line is no command for this reason.
 fn is_wrong(line: &[u8], why: LineError) -> bool {
-    match parse_line(line) {
+    let mut scratch = Text::new();
+    match parse_line(line, &mut scratch) {
         Reading::Wrong(error) => error == why,
         _ => false,
     }
@@ -135,11 +138,12 @@ fn is_wrong(line: &[u8], why: LineError) -> bool {
 
 #[test]
 fn comments_and_blanks_mean_nothing(rt: HostRuntime) {
+    let mut scratch = Text::new();
     for line in [
         "", "\r", " \t ", " \r", "# note", "#size", "#", "#\"", "#\r",
     ] {
         assert!(rt;
-            matches!(parse_line(line.as_bytes()), Reading::Nothing),
+            matches!(parse_line(line.as_bytes(), &mut scratch), Reading::Nothing),
             "at {line:?}"
         );
     }
@@ -346,7 +350,8 @@ fn a_line_has_4096_bytes_at_most(rt: HostRuntime) {
     assert!(rt; is_wrong(&line[..4097], LineError::UnknownCommand));
     assert!(rt; is_wrong(&line[..4098], LineError::LineTooLong));
     line[0] = b'#';
-    assert!(rt; matches!(parse_line(&line[..4097]), Reading::Nothing));
+    let mut scratch = Text::new();
+    assert!(rt; matches!(parse_line(&line[..4097], &mut scratch), Reading::Nothing));
     assert!(rt; is_wrong(&line[..4098], LineError::LineTooLong));
 }
 
@@ -374,7 +379,8 @@ fn words_that_do_not_fit_are_none(rt: HostRuntime) {
 
 #[test]
 fn numbers_are_read_one_after_another(rt: HostRuntime) {
-    match parse_line(b"construct vec<i32> v -1 7") {
+    let mut scratch = Text::new();
+    match parse_line(b"construct vec<i32> v -1 7", &mut scratch) {
         Reading::Asked(
             Command::Construct {
                 content: Content::Elements(mut values),
@@ -392,7 +398,8 @@ fn numbers_are_read_one_after_another(rt: HostRuntime) {
 
 #[test]
 fn texts_are_read_one_after_another(rt: HostRuntime) {
-    match parse_line(b"construct vec<string> v \"a\"") {
+    let mut scratch = Text::new();
+    match parse_line(b"construct vec<string> v \"a\"", &mut scratch) {
         Reading::Asked(
             Command::Construct {
                 content: Content::Texts(mut texts),
@@ -400,7 +407,10 @@ fn texts_are_read_one_after_another(rt: HostRuntime) {
             },
         ) => {
             match texts.next() {
-                Some(text) => assert!(rt; text.to_name().is_some()),
+                Some(text) => {
+                    let mut name = Text::new();
+                    assert!(rt; text.to_name(&mut name).is_some());
+                }
                 None => assert!(rt; false, "no text"),
             }
             assert!(rt; texts.next().is_none());
@@ -411,7 +421,8 @@ fn texts_are_read_one_after_another(rt: HostRuntime) {
 
 #[test]
 fn literals_are_read_one_after_another(rt: HostRuntime) {
-    match parse_line(b"assign v 5 true") {
+    let mut scratch = Text::new();
+    match parse_line(b"assign v 5 true", &mut scratch) {
         Reading::Asked(Command::Assign { mut values, .. }) => {
             assert!(rt; matches!(values.next(), Some(Literal::Whole(5))));
             assert!(rt; matches!(values.next(), Some(Literal::Truth(true))));

@@ -3,9 +3,9 @@
 use raw_region::fake::{Last, MemorySink};
 use seg_types::{Kind, Refusal, ScalarKind, ScalarValue};
 use segment_lang::{
-    Command, Content, LineError, Literal, Piece, Reading, Word, literal_of, next_word, number_of,
-    only_word, parse_line, put_kind, put_line_error, put_name, put_number, put_pieces, put_text,
-    put_value, whole_of,
+    Command, Content, LineError, Literal, Piece, Reading, Text, Word, literal_of, next_word,
+    number_of, only_word, parse_line, put_kind, put_line_error, put_name, put_number, put_pieces,
+    put_text, put_value, whole_of,
 };
 use std::test::Fail;
 
@@ -33,7 +33,8 @@ fn words_that_do_not_fit_are_none(rt: HostRuntime) {
 
 #[test]
 fn numbers_are_read_one_after_another(rt: HostRuntime) {
-    match parse_line(b"construct vec<i32> v -1 7") {
+    let mut scratch = Text::new();
+    match parse_line(b"construct vec<i32> v -1 7", &mut scratch) {
         Reading::Asked(
             Command::Construct {
                 content: Content::Elements(mut values),
@@ -51,7 +52,8 @@ fn numbers_are_read_one_after_another(rt: HostRuntime) {
 
 #[test]
 fn texts_are_read_one_after_another(rt: HostRuntime) {
-    match parse_line(b"construct vec<string> v \"a\"") {
+    let mut scratch = Text::new();
+    match parse_line(b"construct vec<string> v \"a\"", &mut scratch) {
         Reading::Asked(
             Command::Construct {
                 content: Content::Texts(mut texts),
@@ -59,7 +61,10 @@ fn texts_are_read_one_after_another(rt: HostRuntime) {
             },
         ) => {
             match texts.next() {
-                Some(text) => assert!(rt; text.to_name().is_some()),
+                Some(text) => {
+                    let mut name = Text::new();
+                    assert!(rt; text.to_name(&mut name).is_some());
+                }
                 None => assert!(rt; false, "no text"),
             }
             assert!(rt; texts.next().is_none());
@@ -70,7 +75,8 @@ fn texts_are_read_one_after_another(rt: HostRuntime) {
 
 #[test]
 fn literals_are_read_one_after_another(rt: HostRuntime) {
-    match parse_line(b"assign v 5 true") {
+    let mut scratch = Text::new();
+    match parse_line(b"assign v 5 true", &mut scratch) {
         Reading::Asked(Command::Assign { mut values, .. }) => {
             assert!(rt; matches!(values.next(), Some(Literal::Whole(5))));
             assert!(rt; matches!(values.next(), Some(Literal::Truth(true))));

@@ -19,12 +19,12 @@ use segment_manager::Segment;
 /// Writes an answer about a segment. A fault leaves a proper prefix of it written.
 pub fn put_answer<W: Sink>(
     segment: &Segment,
-    answer: Answer,
+    answer: Answer<'_>,
     out: &mut W,
 ) -> Result<(), DeviceFault>
     requires { (W.history out.old).failures < 2 ^ 64 - 1 }
     ensures { WritesFor (W.history out.old) (W.history out.new) result (StandsFor segment.now.cut.bytes)
-        (λ d. answer_text (answer_seen d answer)) }
+        (λ d. answer_text (answer_seen d answer.entry)) }
 {
     match answer {
         Answer::Done => put_pieces(out, &[Piece::Bytes(b"ok\n")]),

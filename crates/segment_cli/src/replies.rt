@@ -20,7 +20,7 @@ use segment_manager::Segment;
 
 /// What a command is answered: all of it where it is short, and where it is long, of what the segment is to be asked.
 #[derive(Drop)]
-pub enum Answer {
+pub enum Answer<'a> {
     /// The command is done.
     Done,
     /// There is nothing.
@@ -36,11 +36,11 @@ pub enum Answer {
     /// An element of an object.
     Element(ScalarValue),
     /// The text at an index in the vector of strings of a key, or why there is none.
-    TextElement(Key, u64),
+    TextElement(Key<'a>, u64),
     /// The kind and the value of the object of a key, or that there is none.
-    Shown(Key),
+    Shown(Key<'a>),
     /// What the object of a key says of itself, or that there is none.
-    Told(Key),
+    Told(Key<'a>),
     /// Each object with a name, by name.
     Names,
     /// Each unique object, by kind.
@@ -52,7 +52,7 @@ pub enum Answer {
 }
 
 /// Executes a command that takes out no element, and answers it.
-pub fn reply(segment: &mut Segment, command: Command<'_>) -> Answer
+pub fn reply<'a>(segment: &mut Segment, command: Command<'a>) -> Answer<'a>
     requires meant { IsMeant (command_of command) }
     requires stays { is_pop (command_of command) ≡ false }
     ensures { Replies segment.old segment.new (command_of command.entry) result }
@@ -101,8 +101,8 @@ pub fn reply(segment: &mut Segment, command: Command<'_>) -> Answer
 }
 
 /// The element at `index` in the object of a key, or why there is none.
-fn get(segment: &Segment, key: Key, index: u64) -> Answer
-    ensures { (d : Directory) → StandsFor segment.now.cut.bytes d → answer_seen d result ≡ (step segment.now.mode d (Get (key_seen key) index)).0 }
+fn get<'a>(segment: &Segment, key: Key<'a>, index: u64) -> Answer<'a>
+    ensures { (d : Directory) → StandsFor segment.now.cut.bytes d → answer_seen d result ≡ (step segment.now.mode d (Get (key_seen key.entry) index)).0 }
 {
     match segment.kind_of(&key) {
         Ok(kind) => match kind {
@@ -174,7 +174,7 @@ fn shrink_indexes(segment: &mut Segment) -> Result<(), Refusal>
 }
 
 /// The answer where an object was made, or not.
-fn made(made: Result<Handle, Refusal>) -> Answer
+fn made<'a>(made: Result<Handle, Refusal>) -> Answer<'a>
     ensures { (d : Directory) → answer_seen d result ≡ handle_answer made }
 {
     match made {
@@ -184,7 +184,7 @@ fn made(made: Result<Handle, Refusal>) -> Answer
 }
 
 /// The answer where an object was found or made, or not.
-fn found(found: Result<(Handle, u32), Refusal>) -> Answer
+fn found<'a>(found: Result<(Handle, u32), Refusal>) -> Answer<'a>
     ensures { (d : Directory) → answer_seen d result ≡ pair_answer found }
 {
     match found {
@@ -194,7 +194,7 @@ fn found(found: Result<(Handle, u32), Refusal>) -> Answer
 }
 
 /// The answer where an object was looked for.
-fn looked_up(found: Result<Option<(Handle, u32)>, Refusal>) -> Answer
+fn looked_up<'a>(found: Result<Option<(Handle, u32)>, Refusal>) -> Answer<'a>
     ensures { (d : Directory) → answer_seen d result ≡ found_answer found }
 {
     match found {
@@ -205,7 +205,7 @@ fn looked_up(found: Result<Option<(Handle, u32)>, Refusal>) -> Answer
 }
 
 /// The answer where an element was asked for.
-pub fn element(element: Result<ScalarValue, Refusal>) -> Answer
+pub fn element<'a>(element: Result<ScalarValue, Refusal>) -> Answer<'a>
     ensures { (d : Directory) → answer_seen d result ≡ scalar_answer element }
 {
     match element {
@@ -215,7 +215,7 @@ pub fn element(element: Result<ScalarValue, Refusal>) -> Answer
 }
 
 /// The answer where a value was looked for.
-fn value_found(found: Result<Option<ScalarValue>, Refusal>) -> Answer
+fn value_found<'a>(found: Result<Option<ScalarValue>, Refusal>) -> Answer<'a>
     ensures { (d : Directory) → answer_seen d result ≡ any_value_answer found }
 {
     match found {
@@ -228,7 +228,7 @@ fn value_found(found: Result<Option<ScalarValue>, Refusal>) -> Answer
 }
 
 /// The answer where something holds, or not.
-fn truth(truth: Result<bool, Refusal>) -> Answer
+fn truth<'a>(truth: Result<bool, Refusal>) -> Answer<'a>
     ensures { (d : Directory) → answer_seen d result ≡ truth_answer truth }
 {
     match truth {
@@ -238,7 +238,7 @@ fn truth(truth: Result<bool, Refusal>) -> Answer
 }
 
 /// The answer where an object is gone, or not.
-fn gone(gone: Result<(), Refusal>) -> Answer
+fn gone<'a>(gone: Result<(), Refusal>) -> Answer<'a>
     ensures { (d : Directory) → answer_seen d result ≡ gone_answer gone }
 {
     match gone {
@@ -248,7 +248,7 @@ fn gone(gone: Result<(), Refusal>) -> Answer
 }
 
 /// The answer where a command is done, or not.
-fn done(done: Result<(), Refusal>) -> Answer
+fn done<'a>(done: Result<(), Refusal>) -> Answer<'a>
     ensures { (d : Directory) → answer_seen d result ≡ done_answer done }
 {
     match done {

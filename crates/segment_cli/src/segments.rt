@@ -8,7 +8,7 @@ use crate::popping::pop;
 use crate::printing::put_answer;
 use crate::replies::reply;
 use raw_region::{DeviceFault, Sink};
-use segment_lang::{Command, Piece, Reading, parse_line, put_pieces};
+use segment_lang::{Command, Piece, Reading, Text, parse_line, put_pieces};
 use segment_manager::Segment;
 
 impl Machine for Segment {
@@ -19,7 +19,8 @@ impl Machine for Segment {
     ghost stands = { λ s at. IsAt s at };
 
     fn answer<W: Sink>(&mut self, line: &[u8], out: &mut W) -> Result<(), DeviceFault> {
-        match parse_line(line) {
+        let mut scratch = Text::new();
+        match parse_line(line, &mut scratch) {
             Reading::Nothing => Ok(()),
             Reading::Asked(command) => match command {
                 Command::Pop(key) => pop(self, &key, out),

@@ -7,6 +7,7 @@ ghost use Rattle.segment_lang.specs.Language.{whole};
 ghost use Rattle.segment_lang.specs.Reading.{form_of};
 ghost use Rattle.segment_lang.specs.Seen.{command_of, found_in, reader_of};
 
+use crate::buffer::Text;
 use crate::commands::Command;
 use crate::elements::{
     read_append, read_assign, read_clear, read_erase, read_insert, read_pop, read_push,
@@ -149,32 +150,36 @@ pub fn form_of(word: &[u8]) -> Option<CommandForm>
 }
 
 /// The command of what stands behind a command word of this form.
-pub fn read_command(form: CommandForm, bytes: &[u8]) -> Option<Command<'_>>
+pub fn read_command<'a>(
+    form: CommandForm,
+    bytes: &'a [u8],
+    scratch: &'a mut Text,
+) -> Option<Command<'a>>
     ensures { option_map command_of result ≡ option_and_then (reader_of form (whole current)) (words bytes.now) }
 {
     match form {
-        CommandForm::Construct => read_construct(bytes),
-        CommandForm::ConstructIt => read_construct_it(bytes),
-        CommandForm::Find => read_find(bytes),
-        CommandForm::FindOrConstruct => read_find_or_construct(bytes),
-        CommandForm::Destroy => read_destroy(bytes),
+        CommandForm::Construct => read_construct(bytes, scratch),
+        CommandForm::ConstructIt => read_construct_it(bytes, scratch),
+        CommandForm::Find => read_find(bytes, scratch),
+        CommandForm::FindOrConstruct => read_find_or_construct(bytes, scratch),
+        CommandForm::Destroy => read_destroy(bytes, scratch),
         CommandForm::DestroyPtr => read_destroy_ptr(bytes),
-        CommandForm::Show => read_show(bytes),
-        CommandForm::Info => read_info(bytes),
-        CommandForm::Get => read_get(bytes),
-        CommandForm::Set => read_set(bytes),
-        CommandForm::Push => read_push(bytes),
-        CommandForm::Pop => read_pop(bytes),
-        CommandForm::Insert => read_insert(bytes),
-        CommandForm::Erase => read_erase(bytes),
-        CommandForm::Reserve => read_reserve(bytes),
-        CommandForm::Shrink => read_shrink(bytes),
-        CommandForm::Clear => read_clear(bytes),
-        CommandForm::Assign => read_assign(bytes),
-        CommandForm::Append => read_append(bytes),
-        CommandForm::Put => read_put(bytes),
-        CommandForm::Lookup => read_lookup(bytes),
-        CommandForm::Remove => read_remove(bytes),
+        CommandForm::Show => read_show(bytes, scratch),
+        CommandForm::Info => read_info(bytes, scratch),
+        CommandForm::Get => read_get(bytes, scratch),
+        CommandForm::Set => read_set(bytes, scratch),
+        CommandForm::Push => read_push(bytes, scratch),
+        CommandForm::Pop => read_pop(bytes, scratch),
+        CommandForm::Insert => read_insert(bytes, scratch),
+        CommandForm::Erase => read_erase(bytes, scratch),
+        CommandForm::Reserve => read_reserve(bytes, scratch),
+        CommandForm::Shrink => read_shrink(bytes, scratch),
+        CommandForm::Clear => read_clear(bytes, scratch),
+        CommandForm::Assign => read_assign(bytes, scratch),
+        CommandForm::Append => read_append(bytes, scratch),
+        CommandForm::Put => read_put(bytes, scratch),
+        CommandForm::Lookup => read_lookup(bytes, scratch),
+        CommandForm::Remove => read_remove(bytes, scratch),
         CommandForm::ListNames => read_alone(Command::ListNames, bytes),
         CommandForm::ListKinds => read_alone(Command::ListKinds, bytes),
         CommandForm::Blocks => read_alone(Command::Blocks, bytes),

@@ -1,4 +1,5 @@
 mod LineLaws
+mod LineEnds
 mod Kept
 mod RunLaws
 mod Cuts

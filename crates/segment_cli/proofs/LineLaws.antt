@@ -1,7 +1,7 @@
 -- The lines of a script, byte by byte.
-use Rattle.std.proofs.Common.{◌≡◌, ◌==◌, ℕ, ◌<◌, ◌≤◌, inl, inr, Bool, true, false, ◌||◌, nat_lt, List, [], ◌∷◌, ◌++◌, length, refl, sym, ap, ◌∙◌, arith, length-append}
+use Rattle.std.proofs.Common.{◌≡◌, ◌==◌, ℕ, zero, suc, ◌<◌, ◌≤◌, inl, inr, Bool, true, false, ◌||◌, nat_lt, List, [], ◌∷◌, ◌++◌, length, take, get_or, refl, sym, ap, ◌∙◌, arith, length-append}
 use Rattle.std.proofs.lemmas.List.{drop-append-le, drop_all}
-use Rattle.std.proofs.lemmas.Bool.{cases_Bool, lt-ltb}
+use Rattle.std.proofs.lemmas.Bool.{cases_Bool, false_from_ne_true, lt-ltb}
 use Rattle.std.proofs.Math.Bool.{or-true}
 use Rattle.segment_cli.specs.Run.{lines, onto_first}
 use Rattle.segment_cli.specs.Session.{whole_lines}
@@ -25,9 +25,18 @@ whole_lines-end (c ∷ cs) more =
     whole-counted c (cs ++ 0x0A ∷ more) (ap (λ (l : List ℕ). (c == 0x0A) || nat_lt 0 (length l)) rest ∙ ap (λ (b : Bool). (c == 0x0A) || b) (some_behind cs (whole_lines more) 0x0A) ∙ or-true (c == 0x0A))
     ∙ ap (λ (l : List ℕ). c ∷ l) rest
 
-pub whole_lines-byte : (xs : List ℕ) (d : ℕ) → (d == 0x0A) ≡ false → whole_lines (xs ++ d ∷ []) ≡ whole_lines xs
-whole_lines-byte [] d e = rw e refl
-whole_lines-byte (c ∷ cs) d e = rw (whole_lines-byte cs d e) refl
+-- no line ends in the first n bytes, where none of them is a line end
+pub none_ends : (xs : List ℕ) (n : ℕ) → ((i : ℕ) → i < n → (get_or xs i 0 == 0x0A) ≡ true → ⊥) → whole_lines (take n xs) ≡ []
+none_ends xs zero h = refl
+none_ends [] (suc n) h = refl
+none_ends (c ∷ cs) (suc n) h =
+    let other : (c == 0x0A) ≡ false = false_from_ne_true _ (h 0 (omega arith)) in
+    let rest : whole_lines (take n cs) ≡ [] = none_ends cs n (λ i k. h (suc i) (omega arith)) in
+    whole-open c (take n cs) (rw (other, rest) refl)
+
+whole_lines-open : (xs part : List ℕ) → whole_lines part ≡ [] → whole_lines (xs ++ part) ≡ whole_lines xs
+whole_lines-open [] part e = e
+whole_lines-open (c ∷ cs) part e = rw (whole_lines-open cs part e) refl
 
 pub whole_lines-le : (xs : List ℕ) → length (whole_lines xs) ≤ length xs
 whole_lines-le [] = omega arith
@@ -70,13 +79,14 @@ pub open_line-end : (xs : List ℕ) → open_line (xs ++ 0x0A ∷ []) ≡ []
 unfolding open_line
 open_line-end xs = rw (whole_lines-end xs []) (drop_all (length (xs ++ 0x0A ∷ [])) (xs ++ 0x0A ∷ []) (omega arith))
 
-pub open_line-byte : (xs : List ℕ) (d : ℕ) → (d == 0x0A) ≡ false → open_line (xs ++ d ∷ []) ≡ open_line xs ++ d ∷ []
+-- behind bytes in which no line ends the same lines ended, and the open one is longer
+pub open_line-open : (xs part : List ℕ) → whole_lines part ≡ [] → open_line (xs ++ part) ≡ open_line xs ++ part
 unfolding open_line
-open_line-byte xs d e = rw (whole_lines-byte xs d e) (drop-append-le (length (whole_lines xs)) xs (d ∷ []) (whole_lines-le xs))
+open_line-open xs part e = rw (whole_lines-open xs part e) (drop-append-le (length (whole_lines xs)) xs part (whole_lines-le xs))
 
-pub ended_lines-byte : (xs : List ℕ) (d : ℕ) → (d == 0x0A) ≡ false → ended_lines (xs ++ d ∷ []) ≡ ended_lines xs
+pub ended_lines-open : (xs part : List ℕ) → whole_lines part ≡ [] → ended_lines (xs ++ part) ≡ ended_lines xs
 unfolding ended_lines
-ended_lines-byte xs d e = ap lines (whole_lines-byte xs d e)
+ended_lines-open xs part e = ap lines (whole_lines-open xs part e)
 
 onto_first-append : (c : ℕ) (xs : List ℕ) (ls : List (List ℕ)) → nat_lt 0 (length xs) ≡ true → onto_first c (lines xs ++ ls) ≡ onto_first c (lines xs) ++ ls
 onto_first-append c [] ls h = absurd (cc)

@@ -1,12 +1,15 @@
 -- What a run has answered, line by line.
-use Rattle.std.proofs.Common.{◌≡◌, ◌==◌, ℕ, ◌+◌, ◌<◌, inl, inr, false, get_or, List, [], ◌∷◌, ◌++◌, length, take, drop, refl, sym, ap, subst, ◌∙◌, arith}
-use Rattle.std.proofs.lemmas.List.{append-nil, append_assoc, take_all, take_more, take-append-drop, drop_more}
+use Rattle.std.proofs.Common.{◌≡◌, ◌==◌, ℕ, ◌<◌, inl, inr, true, List, [], ◌∷◌, ◌++◌, length, take, refl, sym, ap, subst, ◌∙◌, arith}
+use Rattle.std.proofs.lemmas.Bool.{eqb-true}
+use Rattle.std.proofs.lemmas.List.{append-nil, append_assoc, take_all, nil_from_length}
 use Rattle.raw_region.specs.Answers.{AddsFront}
 use Rattle.segment_cli.specs.Leaves.{answer_all}
 use Rattle.segment_cli.specs.Behind.{kept, HasAnswered, HasStopped, IsBehind, IsStoppedIn}
 use Rattle.segment_cli.specs.Lines.{ended_lines, open_line}
+use Rattle.segment_cli.specs.Session.{whole_lines}
 use Rattle.segment_cli.proofs.Kept.{at_most_or_more, kept_more}
-use Rattle.segment_cli.proofs.LineLaws.{ended_lines-end, ended_lines-byte, open_line-end, open_line-byte, ended-nil, open-nil}
+use Rattle.segment_cli.proofs.LineEnds.{BeginsWithEnd}
+use Rattle.segment_cli.proofs.LineLaws.{ended_lines-end, ended_lines-open, open_line-end, open_line-open, ended-nil, open-nil}
 
 module _ {P : Type 0} (respond : P → List ℕ → List ℕ × P) where
   pub answer_all-text : (place : P) (ls : List (List ℕ)) (l : List ℕ) → (answer_all respond place (ls ++ l ∷ [])).0 ≡ (answer_all respond place ls).0 ++ (respond (answer_all respond place ls).1 l).0
@@ -66,13 +69,14 @@ module _ {P : Type 0} (respond : P → List ℕ → List ℕ × P) where
   pub same_line : (start : P) (before read : List ℕ) (Stands : P → Type 0) (line line' taken : List ℕ) → IsBehind respond start before read Stands line taken → line' ≡ line → IsBehind respond start before read Stands line' taken
   same_line start before read Stands line line' taken h e = record { answered = h.answered; line_kept = e ∙ h.line_kept }
 
-  pub behind_byte : (start : P) (before read : List ℕ) (Stands : P → Type 0) (line line' taken : List ℕ) (c : ℕ)
+  -- bytes came in which no line ends
+  pub behind_open : (start : P) (before read part : List ℕ) (Stands : P → Type 0) (line line' taken : List ℕ)
       → IsBehind respond start before read Stands line taken
-      → (c == 0x0A) ≡ false → line' ≡ take kept (line ++ c ∷ [])
-      → IsBehind respond start before (read ++ c ∷ []) Stands line' taken
-  behind_byte start before read Stands line line' taken c h e new = record {
-    answered = subst (λ (ls : List (List ℕ)). HasAnswered respond start before ls Stands taken) (sym (ended_lines-byte read c e)) h.answered;
-    line_kept = new ∙ kept_more kept line (open_line read) c h.line_kept ∙ ap (take kept) (sym (open_line-byte read c e));
+      → whole_lines part ≡ [] → line' ≡ take kept (line ++ part)
+      → IsBehind respond start before (read ++ part) Stands line' taken
+  behind_open start before read part Stands line line' taken h none new = record {
+    answered = subst (λ (ls : List (List ℕ)). HasAnswered respond start before ls Stands taken) (sym (ended_lines-open read part none)) h.answered;
+    line_kept = new ∙ kept_more kept line (open_line read) part h.line_kept ∙ ap (take kept) (sym (open_line-open read part none));
   }
 
   pub behind_end : ((place : P) (line : List ℕ) → 4097 < length line → respond place line ≡ respond place (take kept line))
@@ -93,25 +97,46 @@ module _ {P : Type 0} (respond : P → List ℕ → List ℕ × P) where
         line_kept = new ∙ sym (ap (take kept) (open_line-end read));
       }
 
+  -- the first line that ends in what is left of a piece was answered
+  pub behind_line : ((place : P) (line : List ℕ) → 4097 < length line → respond place line ≡ respond place (take kept line))
+      → (start : P) (before read done rest end more : List ℕ) (Stands Stands' : P → Type 0) (line line' taken taken' : List ℕ)
+      → IsBehind respond start before (read ++ done) Stands line taken
+      → BeginsWithEnd rest end more
+      → ((p : P) → Stands p → Stands' (respond p (take kept (line ++ end))).1)
+      → ((p : P) → Stands p → taken' ≡ taken ++ (respond p (take kept (line ++ end))).0)
+      → line' ≡ []
+      → IsBehind respond start before (read ++ (done ++ end ++ 0x0A ∷ [])) Stands' line' taken'
+  behind_line long start before read done rest end more Stands Stands' line line' taken taken' h ends leads ok new =
+      let all : (read ++ done) ++ end ++ 0x0A ∷ [] ≡ read ++ (done ++ end ++ 0x0A ∷ []) = simp append_assoc in
+      subst (λ (l : List ℕ). IsBehind respond start before l Stands' line' taken') all
+      (behind_end long start before ((read ++ done) ++ end) Stands Stands' (take kept (line ++ end)) line' taken taken'
+      (behind_open start before (read ++ done) end Stands line (take kept (line ++ end)) taken h ends.unended refl) leads ok new)
+
+  -- and its answer was cut
   pub stopped_in : ((place : P) (line : List ℕ) → 4097 < length line → respond place line ≡ respond place (take kept line))
-      → (start : P) (before read piece : List ℕ) (i : ℕ) (Stands Stands' : P → Type 0) (line taken taken' : List ℕ)
-      → IsBehind respond start before (read ++ take i piece) Stands line taken
-      → i < length piece → get_or piece i 0 ≡ 0x0A
-      → ((p : P) → Stands p → Stands' (respond p line).1)
-      → ((p : P) → Stands p → AddsFront taken taken' (respond p line).0)
+      → (start : P) (before read piece done rest end more : List ℕ) (Stands Stands' : P → Type 0) (line taken taken' : List ℕ)
+      → IsBehind respond start before (read ++ done) Stands line taken
+      → piece ≡ done ++ rest → BeginsWithEnd rest end more
+      → ((p : P) → Stands p → Stands' (respond p (take kept (line ++ end))).1)
+      → ((p : P) → Stands p → AddsFront taken taken' (respond p (take kept (line ++ end))).0)
       → IsStoppedIn respond start before read piece Stands' taken'
-  stopped_in long start before read piece i Stands Stands' line taken taken' h within end leads err =
-      let line_read = read ++ take i piece in
-      let same = same_answer long line (open_line line_read) h.line_kept in
+  stopped_in long start before read piece done rest end more Stands Stands' line taken taken' h parts ends leads err =
+      let front : List ℕ = read ++ (done ++ end) in
+      let all : (read ++ done) ++ end ≡ front = append_assoc read done end in
+      let was = subst (λ (l : List ℕ). IsBehind respond start before l Stands (take kept (line ++ end)) taken) all (behind_open start before (read ++ done) end Stands line (take kept (line ++ end)) taken h ends.unended refl) in
+      let same = same_answer long (take kept (line ++ end)) (open_line front) was.line_kept in
       record {
-        front = take i piece;
-        more = drop (i + 1) piece;
-        parts = sym (take-append-drop i piece) ∙ ap (λ (l : List ℕ). take i piece ++ l) (drop_more piece i 0 within ∙ ap (λ (b : ℕ). b ∷ drop (i + 1) piece) end);
-        stopped = stops_at start before (ended_lines line_read) (open_line line_read) Stands Stands' taken taken' h.answered
+        front = done ++ end;
+        more = more;
+        parts = parts ∙ ap (λ (l : List ℕ). done ++ l) ends.parts ∙ sym (append_assoc done end (0x0A ∷ more));
+        stopped = stops_at start before (ended_lines front) (open_line front) Stands Stands' taken taken' was.answered
             (λ p s. subst (λ (r : List ℕ × P). Stands' r.1) (same p) (leads p s))
             (λ p s. subst (λ (r : List ℕ × P). AddsFront taken taken' r.0) (same p) (err p s));
       }
 
--- one byte more of a piece
-pub read_more : (read piece : List ℕ) (i : ℕ) → i < length piece → read ++ take (i + 1) piece ≡ (read ++ take i piece) ++ get_or piece i 0 ∷ []
-read_more read piece i h = ap (λ (l : List ℕ). read ++ l) (take_more piece i 0 h) ∙ sym (append_assoc read (take i piece) (get_or piece i 0 ∷ []))
+  -- bytes behind no open line are all of their line
+  pub whole_line : ((place : P) (line : List ℕ) → 4097 < length line → respond place line ≡ respond place (take kept line))
+      → (place : P) (line end : List ℕ) → (length line == 0) ≡ true → respond place end ≡ respond place (take kept (line ++ end))
+  whole_line long place line end none =
+      let empty : line ≡ [] = nil_from_length line (eqb-true _ 0 none) in
+      sym (ap (λ (l : List ℕ). respond place (take kept (l ++ end))) empty ∙ respond-kept long place end)

@@ -1,5 +1,5 @@
 //! The line of a script that has not ended yet.
-ghost use Rattle.std.specs.Prelude.{◌≡◌, ◌==◌, ◌≤◌, [], ◌∷◌, ◌++◌, ℕ, List, length, take};
+ghost use Rattle.std.specs.Prelude.{◌≡◌, ◌==◌, ◌≤◌, [], ◌++◌, ℕ, List, length, take};
 
 use std::marker::Model;
 
@@ -31,20 +31,26 @@ impl OpenLine {
         }
     }
 
+    pub fn is_empty(&self) -> bool
+        ensures { result ≡ (length self.now == 0) }
+    {
+        self.len == 0
+    }
+
     pub fn as_slice(&self) -> &[u8]
         ensures { result.now ≡ self.now }
     {
         &self.bytes[..self.len]
     }
 
-    /// One byte more, which is dropped where the line is full.
-    pub fn push(&mut self, byte: u8)
-        ensures { self.new ≡ take 4098 (self.old ++ byte ∷ []) }
+    /// More bytes, of which those are dropped for which there is no room.
+    pub fn extend(&mut self, more: &[u8])
+        ensures { self.new ≡ take 4098 (self.old ++ more.now) }
     {
-        if self.len < KEPT {
-            self.bytes[self.len] = byte;
-            self.len += 1;
-        }
+        let count = (KEPT - self.len).min(more.len());
+        let end = self.len + count;
+        self.bytes[self.len..end].copy_from_slice(&more[..count]);
+        self.len = end;
     }
 
     pub fn clear(&mut self)

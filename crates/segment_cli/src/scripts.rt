@@ -1,24 +1,57 @@
 //! The running of a script: read in pieces, parted into lines, each line answered at its end.
-ghost use Rattle.std.specs.Prelude.{◌≡◌, ◌+◌, ◌-◌, ◌^◌, ◌<◌, ℕ, List, [], ◌++◌, OnOk, OnErr, IfErr};
+ghost use Rattle.std.specs.Prelude.{◌≡◌, ◌+◌, ◌-◌, ◌^◌, ◌<◌, ℕ, List, [], ◌++◌, take, OnOk, OnErr, IfErr};
+ghost use Rattle.memchr.specs.Find.{IsFirstByte, is_byte};
 ghost use Rattle.raw_region.specs.Answers.{failures_in};
 ghost use Rattle.raw_region.specs.Device.{given_since, taken_since, Grows};
 ghost use Rattle.segment_cli.specs.Run.{lines};
 ghost use Rattle.segment_cli.specs.Leaves.{Leaves, LeavesFault, UsesDevices};
+ghost use Rattle.segment_cli.specs.Writing.{WritesFor};
 ghost use Rattle.segment_cli.specs.Behind.{IsBehind, IsStoppedIn, IsAtEnd, IsStoppedAtLast, HasAnswered};
 
 use crate::faults::RunFault;
 use crate::machine::Machine;
 use crate::open_line::OpenLine;
+use memchr::memchr_iter;
 use raw_region::{DeviceFault, Sink, Source};
 
-/// How many bytes of a script are read at once.
-const PIECE: usize = 4096;
+/// How many bytes of a script are read at once, at most.
+const PIECE: usize = 65536;
 
 /// The most bytes that a script may have.
 const SCRIPT_LIMIT: usize = 16777216;
 
-/// Executes the lines that end in the piece, the first of which began before it, and keeps the
-/// line that is still open behind it.
+/// Where the first line end is. It looks at 32 bytes first, since most lines are short.
+fn line_end(bytes: &[u8]) -> Option<usize>
+    ensures { IsFirstByte (is_byte 0x0A) bytes.now result }
+{
+    memchr_iter(b'\n', bytes).next()
+}
+
+/// Answers the open line, which ends with these bytes. One that has no others is not copied.
+fn answer_ended<M: Machine, W: Sink>(
+    machine: &mut M,
+    line: &mut OpenLine,
+    end: &[u8],
+    out: &mut W,
+) -> Result<(), DeviceFault>
+    requires { (W.history out.old).failures < 2 ^ 64 - 1 }
+    ensures leads { (place : M.Place) → M.stands machine.old place
+        → M.stands machine.new (M.respond place (take 4098 (line.old ++ end.now))).1 }
+    ensures writes { WritesFor (W.history out.old) (W.history out.new) result (M.stands machine.old)
+        (λ place. (M.respond place (take 4098 (line.old ++ end.now))).0) }
+    ensures cleared { line.new ≡ [] }
+{
+    if line.is_empty() {
+        return machine.answer(end, out);
+    }
+    line.extend(end);
+    let answered = machine.answer(line.as_slice(), out);
+    line.clear();
+    answered
+}
+
+/// Executes the lines that end in the piece, the first of which may have begun before it, and keeps
+/// the line that is still open behind it.
 fn feed<M: Machine, W: Sink>(
     machine: &mut M,
     line: &mut OpenLine,
@@ -36,14 +69,12 @@ fn feed<M: Machine, W: Sink>(
         (W.history out.new).bytes) }
     ensures counted { (W.history out.new).failures ≡ (W.history out.old).failures + failures_in result }
 {
-    for byte in piece {
-        if *byte == b'\n' {
-            machine.answer(line.as_slice(), out)?;
-            line.clear();
-        } else {
-            line.push(*byte);
-        }
+    let mut rest = piece;
+    'lines: while let Some(len) = line_end(rest) {
+        answer_ended(machine, line, &rest[..len], out)?;
+        rest = &rest[len + 1..];
     }
+    line.extend(rest);
     Ok(())
 }
 
@@ -74,7 +105,9 @@ fn read_lines<M: Machine, S: Source, W: Sink>(
     let mut piece = [0u8; PIECE];
     let mut left = SCRIPT_LIMIT;
     'pieces: loop {
-        let count = match script.read(&mut piece) {
+        // one byte behind the limit says that the script is too long
+        let room = &mut piece[..PIECE.min(left + 1)];
+        let count = match script.read(room) {
             Ok(count) => count,
             Err(_) => return Err(RunFault::ReadFault),
         };
@@ -82,7 +115,7 @@ fn read_lines<M: Machine, S: Source, W: Sink>(
             return Ok(());
         }
         let within = count.min(left);
-        match feed(machine, line, &piece[..within], out) {
+        match feed(machine, line, &room[..within], out) {
             Ok(()) => {}
             Err(_) => return Err(RunFault::WriteFault),
         }

@@ -103,7 +103,7 @@ pub fn session<I: Source, S: Source, O: Sink, W: Sink>(
     ensures script_grows { Grows (S.history script.old).bytes (S.history script.new).bytes }
     ensures script_ends { EndsAtMostOnce (S.history script.old) (S.history script.new) }
     ensures reads_no_further { length (S.history script.new).bytes
-        ≤ length (S.history script.old).bytes + script_limit + 4096 }
+        ≤ length (S.history script.old).bytes + script_limit + 1 }
     ensures out_grows { Grows (O.history out.old).bytes (O.history out.new).bytes }
     ensures saved_grows { Grows (W.history image_out.old).bytes (W.history image_out.new).bytes }
 {

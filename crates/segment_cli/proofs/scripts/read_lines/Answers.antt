@@ -1,4 +1,4 @@
-use Rattle.std.proofs.Common.{◌≡◌, ◌<◌, false, length, take, drop, refl, ◌∙◌, arith}
+use Rattle.std.proofs.Common.{◌≡◌, ◌<◌, false, length, length-take, take, drop, refl, ◌∙◌, arith}
 use Rattle.std.proofs.lemmas.Bool.{ne_eqb}
 use Rattle.raw_region.specs.Device.{given_since}
 use Rattle.segment_cli.proofs.Cuts.{since-more, none_failed, one_failed, cut_in, cut_at_limit, beyond_limit, nothing_yet}
@@ -30,7 +30,7 @@ returns-in-Err-feed-clause-fault g c = λ start s.
     let read = drop (length old) mid in
     let count = c.in-Ok.count in
     let piece = c.read.new.into in
-    let asked : 0 < length c.pieces.piece = omega (arith, was.buffer) in
+    let asked : 0 < length (take c.min.result c.pieces.piece) = simp length-take (omega (arith, was.buffer, c.min.ensures)) in
     let unended : (g.S.Source.history c.read.new.self).ended ≡ false = c.in-Ok.ensures.end asked ∙ ne_eqb count 0 c.if-count-eq0.false in
     let script = given_since (g.S.Source.history c.args.script.now) (g.S.Source.history c.read.new.self) in
     record {

@@ -9,7 +9,7 @@ invariant-pieces g l =
     let old = (g.S.Source.history l.initial.script).bytes in
     let new = (g.S.Source.history l.script).bytes in
     record {
-      buffer : length l.piece ≡ 4096;
+      buffer : length l.piece ≡ 65536;
       grows : Grows old new;
       limit : length (drop (length old) new) + l.left ≡ script_limit;
       passed : length new + l.left ≡ length old + script_limit;

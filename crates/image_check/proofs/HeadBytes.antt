@@ -3,14 +3,13 @@ use Rattle.std.proofs.Common.{◌≡◌, sym, ap, ◌∙◌, ℕ, ◌+◌, ◌-�
 use Rattle.std.specs.Prelude.{nat_le, if◌then◌else◌}
 use Rattle.std.proofs.Math.Nat.{mul-le-mul_left}
 use Rattle.std.proofs.lemmas.Bool.{cond-true, eq-eqb, le-leb}
-use Rattle.raw_region.specs.Memory.{bytes_of, part, read}
+use Rattle.raw_region.specs.Memory.{Memory, bytes_of, part, read}
 use Rattle.raw_region.proofs.Laws.{read-part}
 use Rattle.seg_types.specs.declared.kinds.ScalarKind.{ScalarKind}
 use Rattle.seg_types.specs.Kinds.{is_spelling, size_of}
 use Rattle.seg_types.specs.Names.{is_name}
 use Rattle.seg_index.specs.Keys.{class_at, name_at, name_len_at}
-use Rattle.image_check.specs.EarlyTests.{is_zero}
-use Rattle.image_check.specs.ObjectTests.{has_name, has_padding, value_offset}
+use Rattle.image_check.specs.ObjectTests.{has_name, padding_at, value_offset}
 
 one-more : (i n : ℕ) → i < n → i + 1 ≤ n
 one-more i n l = omega arith
@@ -24,21 +23,18 @@ element-spelled b k start i count size bytes h l e p =
     ap (is_spelling k) (p ∙ ap (λ n. part b (start + n * i) n) e ∙ sym (read-part b (start + size_of k * i) (size_of k) within))
 
 -- the bytes behind the name
-pub padding-zero : (b : List ℕ) (at len : ℕ) (bytes : List ℕ) → len ≡ name_len_at (bytes_of b) at → value_offset (bytes_of b) at ≤ length b → bytes ≡ part b (at + 16 + len) ((len + 7) / 8 * 8 - len)
-    → is_zero bytes ≡ has_padding (bytes_of b) at
-padding-zero b at len bytes e h p =
+pub padding-read : (b : List ℕ) (at len : ℕ) (bytes : List ℕ) → len ≡ name_len_at (bytes_of b) at → value_offset (bytes_of b) at ≤ length b → bytes ≡ part b (at + 16 + len) ((len + 7) / 8 * 8 - len)
+    → bytes ≡ padding_at (bytes_of b) at
+padding-read b at len bytes e h p =
     let n : ℕ = name_len_at (bytes_of b) at in
     let room : at + 16 + (n + 7) / 8 * 8 ≤ length b = h in
     let within : at + 16 + n + ((n + 7) / 8 * 8 - n) ≤ length b = omega arith in
-    ap is_zero (p ∙ ap (λ n. part b (at + 16 + n) ((n + 7) / 8 * 8 - n)) e ∙ sym (read-part b (at + 16 + n) ((n + 7) / 8 * 8 - n) within))
+    p ∙ ap (λ n. part b (at + 16 + n) ((n + 7) / 8 * 8 - n)) e ∙ sym (read-part b (at + 16 + n) ((n + 7) / 8 * 8 - n) within)
 
 -- the name of an object of class 1
-pub named-right : (format : ℕ) (b : List ℕ) (at len : ℕ) (bytes : List ℕ) → class_at (bytes_of b) at ≡ 1 → len ≡ name_len_at (bytes_of b) at → len ≤ 255 → at + 16 + name_len_at (bytes_of b) at ≤ length b
-    → bytes ≡ part b (at + 16) len → is_name format bytes ≡ has_name format (bytes_of b) at
-named-right format b at len bytes c e l h p =
-    let m = bytes_of b in
+pub named-right : (format : ℕ) (m : Memory) (at len : ℕ) (name : List ℕ) → class_at m at ≡ 1 → len ≡ name_len_at m at → len ≤ 255 → name ≡ name_at m at → is_name format name ≡ has_name format m at
+named-right format m at len name c e l p =
     let n : ℕ = name_len_at m at in
     let short : n ≤ 255 = omega arith in
-    ap (is_name format) (p ∙ ap (part b (at + 16)) e ∙ sym (read-part b (at + 16) n h))
-    ∙ sym (cond-true (nat_le n 255) (is_name format (name_at m at)) false (le-leb n 255 short))
+    ap (is_name format) p ∙ sym (cond-true (nat_le n 255) (is_name format (name_at m at)) false (le-leb n 255 short))
     ∙ sym (cond-true (class_at m at == 1) (if nat_le n 255 then is_name format (name_at m at) else false) (nat_le (class_at m at) 2 && (n == 0)) (eq-eqb (class_at m at) 1 c))

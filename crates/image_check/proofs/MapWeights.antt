@@ -12,7 +12,7 @@ use Rattle.seg_types.specs.declared.kinds.ScalarKind.{ScalarKind}
 use Rattle.image_check.specs.declared.owners.Block.{Block}
 use Rattle.image_check.specs.Owners.{Blocks, block_at}
 use Rattle.image_check.specs.Containers.{container_block_rates, block_weight, rooted_weight}
-use Rattle.image_check.specs.Visits.{Adds, rate_of}
+use Rattle.image_check.specs.Visits.{rate_of}
 use Rattle.image_check.specs.MapNodes.{is_node_block, is_pair, is_rooted, kept_link, pair_cells, pair_len}
 use Rattle.image_check.specs.MapLaws.{is_pair-Pair}
 use Rattle.image_check.proofs.MapPairs.{size-least}
@@ -99,11 +99,3 @@ check-visits c es root k v link steps l f =
     let b = size-least v in
     let weight = nodes-weigh root (pair_len k v) es (omega arith) in
     omega arith
-
--- the two visits in front, and those of the check
-pub map-visits : (c : Cut) (es : Blocks) (root : ℕ) (k v : ScalarKind) (link : Option ℕ) (steps old first new : ℕ) → leads (is_pair c es root k v) link ≡ true
-    → ((ns : List ℕ) → IsClosed (pair_cells c es root k v) ns → leads (λ n. is_in n ns) link ≡ true → steps ≤ 5 * length ns + 5)
-    → first ≡ old + 2 → new ≡ first + 5 * steps → Adds (27 + rooted_weight root es) old new
-map-visits c es root k v link steps old first new l f two more =
-    let spent = check-visits c es root k v link steps l f in
-    (omega arith, omega arith)

@@ -1,22 +1,30 @@
 -- Links of indexes, of storage and of elements, noted one by one.
 use Rattle.std.proofs.Common.{◌≡◌, refl, sym, ap, subst, ℕ, ◌+◌, ◌*◌, ◌^◌, ◌≤◌, ◌<◌, List, length, arith}
-use Rattle.std.specs.Prelude.{Option, None}
+use Rattle.std.specs.Prelude.{MatchResult, Option, None, Result}
 use Rattle.std.proofs.lemmas.Bool.{cases_eq}
 use mathlib.Core.Logic.{inl, inr}
 use Rattle.raw_region.specs.Memory.{Memory, bytes_of}
 use Rattle.raw_region.specs.Format.{current}
+use Rattle.offset_link.specs.Link.{link_at}
 use Rattle.block_tags.specs.declared.tile.Role.{Role}
 use Rattle.block_tags.specs.declared.tile.Role.TheVariants.{Index, Storage, Node}
 use Rattle.block_tags.specs.declared.tile.Tile.{Tile}
+use Rattle.image_check.specs.declared.classes.ImageClass.{ImageClass}
 use Rattle.image_check.specs.declared.owners.Owner.{Owner}
 use Rattle.image_check.specs.ObjectTests.{index_capacity}
 use Rattle.image_check.specs.Meaning.{Counts}
-use Rattle.image_check.specs.Owners.{Blocks, IsIndexPlace, IsMarked, IsMarkingOf, IsNoted, IsStart, MayCount, owner}
+use Rattle.image_check.specs.Owners.{Blocks, IsIndexPlace, IsMarked, IsMarkingOf, IsNoted, IsRooted, IsSharedIn, IsStart, MayCount, owner}
 use Rattle.image_check.specs.Passes.{HasTiles, tiles_in}
 use Rattle.image_check.specs.Sharing.{AreElementsNoted, IsElementPlace, IsGrown, IsIndexNoted, IsStorageNoted}
 use Rattle.image_check.specs.Visits.{Adds}
 use Rattle.image_check.proofs.Following.{debts-small}
 use Rattle.image_check.proofs.Inside.{payload-inside}
+
+-- what noting a link at a place does, where no other link leads to it
+abbrev pub Marks : ℕ → List ℕ → Role → Option ℕ → Blocks → ℕ → Blocks → Option ℕ → ℕ → Result (Unit {0}) ImageClass → ℕ → Type 0
+Marks format b role target old waited es pending waiting r at =
+    target ≡ link_at (bytes_of b) at → MayCount format (bytes_of b) (tiles_in b) role at → IsRooted (tiles_in b) old (owner at at)
+    → MatchResult r (λ done. IsMarked format (bytes_of b) (tiles_in b) None role (owner at at) old waited es pending waiting) (IsSharedIn format b)
 
 -- few nodes wait
 pub few-wait : (format : ℕ) (b : List ℕ) (now : Option ℕ) (es : Blocks) (pending : Option ℕ) (waiting : ℕ) → HasTiles b → IsMarkingOf format b now es pending waiting → waiting + 1 < 2 ^ 64

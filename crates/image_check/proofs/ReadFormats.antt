@@ -1,8 +1,8 @@
 -- The format that bytes say, and that of bytes which begin with them.
-use Rattle.std.proofs.Common.{◌≡◌, refl, sym, ap, ◌∙◌, ℕ, ◌+◌, ◌≤◌, inl, inr, Bool, true, false, ◌==◌, List, ◌++◌, length, drop, arith}
+use Rattle.std.proofs.Common.{◌≡◌, refl, sym, ap, ◌∙◌, ℕ, ◌+◌, ◌≤◌, inl, inr, Bool, true, false, ◌==◌, List, ◌++◌, length, take, drop, arith}
 use Rattle.std.specs.Prelude.{nat_le, if◌then◌else◌}
 use Rattle.std.proofs.lemmas.Bool.{cases_Bool, eqb-true, eq-eqb, leb-true, le-leb, both_ways}
-use Rattle.std.proofs.lemmas.List.{length-append}
+use Rattle.std.proofs.lemmas.List.{length-append, take-append-drop}
 use Rattle.byteorder.specs.Endian.{little_number}
 use Rattle.raw_region.specs.Memory.{bytes_of, part, half_word_at}
 use Rattle.raw_region.specs.Format.{current}
@@ -16,6 +16,12 @@ use Rattle.image_check.proofs.Deciding.{half_word_at-front}
 
 pub version-front : (b rest : List ℕ) → 12 ≤ length b → version_word (b ++ rest) ≡ version_word b
 version-front b rest l = half_word_at-front b rest 8 l
+
+-- the first 24 bytes tell
+pub version-part : (b xs : List ℕ) (v : ℕ) → v ≡ version_word xs → xs ≡ part b 0 24 → length xs ≡ 24 → v ≡ version_word b
+version-part b xs v e p l =
+    let long = sym (ap (λ (ys : List ℕ). length ys) p) ∙ l in
+    e ∙ ap version_word p ∙ sym (version-front (take 24 b) (drop 24 b) (omega arith)) ∙ ap version_word (take-append-drop 24 b)
 
 pub format_of-front : (b rest : List ℕ) → 12 ≤ length b → format_of (b ++ rest) ≡ format_of b
 format_of-front b rest l = ap (λ v. if nat_le v 2 then v else current) (version-front b rest l)

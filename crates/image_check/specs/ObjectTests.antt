@@ -91,8 +91,12 @@ has_name format m at =
     if class_at m at == 1 then (if nat_le (name_len_at m at) 255 then is_name format (name_at m at) else false)
     else nat_le (class_at m at) 2 && (name_len_at m at == 0)
 
+-- the bytes between the name and the value
+abbrev pub padding_at : Memory → ℕ → List ℕ
+padding_at m at = let n = name_len_at m at in read m (at + 16 + n) (padded n - n)
+
 abbrev pub has_padding : Memory → ℕ → Bool
-has_padding m at = let n = name_len_at m at in is_zero (read m (at + 16 + n) (padded n - n))
+has_padding m at = is_zero (padding_at m at)
 
 -- a class 1 object is in the named index and a class 2 object in the unique one
 abbrev pub is_indexed : Memory → ℕ → Bool

@@ -23,6 +23,11 @@ use Rattle.image_check.specs.Meaning.{LeadsTo, Counts, IsShared}
 abbrev pub Blocks : Type 0
 Blocks = List (ℕ × Block)
 
+-- the map: its entries, and how many more it has room for
+pub record BlockMap : Type 0 where
+  pub entries : Blocks
+  pub room : ℕ
+
 abbrev pub block_at : Blocks → ℕ → Option Block
 block_at es n = lookup (nat_eq n) es
 

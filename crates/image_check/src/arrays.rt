@@ -12,12 +12,11 @@ ghost use Rattle.image_check.specs.Containers.{rooted_weight};
 ghost use Rattle.image_check.specs.Passes.{HasTiles, tiles_in};
 ghost use Rattle.image_check.specs.Visits.{Adds};
 
-use crate::image_window::ImageWindow;
-use crate::owners::{Block, good_len};
+use crate::checking::Visits;
+use crate::image_window::{Blocks, ImageWindow, Value};
+use crate::owners::good_len;
 use crate::spellings::are_spellings;
-use crate::visits::Visits;
 use block_tags::{Role, TAG};
-use indexmap::IndexMap;
 use seg_types::ScalarKind;
 
 /// The bytes of an element of an array of texts: a link and a length.
@@ -25,7 +24,7 @@ const ELEMENT: u64 = 16;
 
 /// Whether the link is that of a storage block with `capacity` places of `each` bytes: null where there are none.
 fn is_table(
-    blocks: &IndexMap<u64, Block>,
+    blocks: &Blocks,
     visits: &mut Visits,
     link: Option<u64>,
     each: u64,
@@ -53,28 +52,28 @@ fn has_room(len: u64, each: u64, capacity: u64) -> bool
     }
 }
 
-/// Whether the three words at `at` are those of a string or a vector of this kind.
+/// Whether the three words of the value are those of a string or a vector of this kind.
 pub(crate) fn is_storage(
     window: &ImageWindow,
-    blocks: &IndexMap<u64, Block>,
+    blocks: &Blocks,
     visits: &mut Visits,
     kind: ScalarKind,
-    at: u64,
+    value: Value,
 ) -> bool
     requires tiles { HasTiles window.now.bytes }
     requires blocks { AreBlocks (tiles_in window.now.bytes) blocks.now.entries }
-    requires noted { 0 < word_at (bytes_of window.now.bytes) (at + 16) → IsNoted (bytes_of window.now.bytes) (tiles_in window.now.bytes) blocks.now.entries Storage at at }
-    requires aligned { at % 8 ≡ 0 }
-    requires inside { at + 24 ≤ length window.now.bytes }
-    ensures value { result ≡ is_storage_at (bytes_of window.now.bytes) (tiles_in window.now.bytes) kind at }
-    ensures visits { Adds (1 + rooted_weight at blocks.now.entries) visits.old visits.new }
+    requires noted { 0 < word_at (bytes_of window.now.bytes) (value.at + 16) → IsNoted (bytes_of window.now.bytes) (tiles_in window.now.bytes) blocks.now.entries Storage value.at value.at }
+    requires aligned { value.at % 8 ≡ 0 }
+    requires inside { value.at + 24 ≤ length window.now.bytes }
+    ensures value { result ≡ is_storage_at (bytes_of window.now.bytes) (tiles_in window.now.bytes) kind value.at }
+    ensures visits { Adds (1 + rooted_weight value.at blocks.now.entries) visits.old visits.new }
 {
-    let len = window.read_u64(at + 8);
-    let capacity = window.read_u64(at + 16);
+    let len = value.len(window);
+    let capacity = value.capacity(window);
     if len > capacity {
         return false;
     }
-    let link = window.load(at);
+    let link = value.link(window);
     if !is_table(blocks, visits, link, kind.size(), capacity) {
         return false;
     }
@@ -85,12 +84,7 @@ pub(crate) fn is_storage(
 }
 
 /// Whether the element at `at` leads to a storage block with room for its text.
-fn is_element(
-    window: &ImageWindow,
-    blocks: &IndexMap<u64, Block>,
-    visits: &mut Visits,
-    at: u64,
-) -> bool
+fn is_element(window: &ImageWindow, blocks: &Blocks, visits: &mut Visits, at: u64) -> bool
     requires size { IsTrue (is_legal_size (length window.now.bytes)) }
     requires aligned { at % 8 ≡ 0 }
     requires inside { at + 16 ≤ length window.now.bytes }
@@ -102,13 +96,7 @@ fn is_element(
 }
 
 /// Whether the first `n` elements of the array at `at` lead to their texts.
-fn are_elements(
-    window: &ImageWindow,
-    blocks: &IndexMap<u64, Block>,
-    visits: &mut Visits,
-    at: u64,
-    n: u64,
-) -> bool
+fn are_elements(window: &ImageWindow, blocks: &Blocks, visits: &mut Visits, at: u64, n: u64) -> bool
     requires size { IsTrue (is_legal_size (length window.now.bytes)) }
     requires blocks { (ts : List Tile) × AreBlocks ts blocks.now.entries }
     requires aligned { at % 8 ≡ 0 }
@@ -124,27 +112,27 @@ fn are_elements(
     true
 }
 
-/// Whether the three words at `at` are those of an array of texts.
+/// Whether the three words of the value are those of an array of texts.
 pub(crate) fn is_array(
     window: &ImageWindow,
-    blocks: &IndexMap<u64, Block>,
+    blocks: &Blocks,
     visits: &mut Visits,
-    at: u64,
+    value: Value,
 ) -> bool
     requires tiles { HasTiles window.now.bytes }
     requires blocks { AreBlocks (tiles_in window.now.bytes) blocks.now.entries }
-    requires noted { 0 < word_at (bytes_of window.now.bytes) (at + 16) → IsNoted (bytes_of window.now.bytes) (tiles_in window.now.bytes) blocks.now.entries Storage at at }
-    requires aligned { at % 8 ≡ 0 }
-    requires inside { at + 24 ≤ length window.now.bytes }
-    ensures value { result ≡ is_array_at (bytes_of window.now.bytes) (tiles_in window.now.bytes) at }
-    ensures visits { Adds (1 + rooted_weight at blocks.now.entries) visits.old visits.new }
+    requires noted { 0 < word_at (bytes_of window.now.bytes) (value.at + 16) → IsNoted (bytes_of window.now.bytes) (tiles_in window.now.bytes) blocks.now.entries Storage value.at value.at }
+    requires aligned { value.at % 8 ≡ 0 }
+    requires inside { value.at + 24 ≤ length window.now.bytes }
+    ensures value { result ≡ is_array_at (bytes_of window.now.bytes) (tiles_in window.now.bytes) value.at }
+    ensures visits { Adds (1 + rooted_weight value.at blocks.now.entries) visits.old visits.new }
 {
-    let len = window.read_u64(at + 8);
-    let capacity = window.read_u64(at + 16);
+    let len = value.len(window);
+    let capacity = value.capacity(window);
     if len > capacity {
         return false;
     }
-    let link = window.load(at);
+    let link = value.link(window);
     if !is_table(blocks, visits, link, ELEMENT, capacity) {
         return false;
     }

@@ -10,6 +10,8 @@ ghost use Rattle.image_check.specs.Passes.{HasTiles, Spends, tiles_in};
 ghost use Rattle.image_check.specs.Reading.{HasFront};
 ghost use Rattle.image_check.specs.Visits.{block_rates, frame_rates};
 
+mod visits;
+
 use crate::classes::ImageClass;
 use crate::containers::check_containers;
 use crate::errors::CheckError;
@@ -22,18 +24,42 @@ use crate::object_walk::check_objects;
 use crate::orphans::check_orphans;
 use crate::owners::Owners;
 use crate::sharing::check_sharing;
-use crate::visits::Visits;
 use crate::without_tree::check_without_tree;
 use block_tags::FIRST;
-use segment_manager::layout::{FORMAT_AT, RESERVED_AT, SIZE_AT};
+use raw_region::Steps;
+use segment_manager::layout::{FORMAT_AT, RESERVED_AT};
 use std::alloc::Global;
+use std::mem;
+pub(crate) use visits::Visits;
 
-/// Whether a window whose first words are right by a format, from 0 to 2, is the image of a directory by it.
+/// Whether a window whose first words are right by a format, from 0 to 2, is the image of a directory by it. A visit is a step.
 ///
 /// # Errors
 ///
 /// The first class that holds. `NoMemory` only where none of the classes before `BadIndex` holds and a tile is in use.
 pub fn check(
+    format: u64,
+    alloc: Global,
+    window: &ImageWindow,
+    steps: &mut Steps,
+) -> Result<(), CheckError>
+    requires format { format ≤ 2 }
+    requires front { HasFront format window.now }
+    ensures answers { MatchResult result (λ done. IsImage format window.now.bytes) (IsWhyRefused format window.now.bytes) }
+    ensures steps { IsRaisedFor (length window.now.bytes) steps.old steps.new }
+{
+    let mut visits = Visits::new(mem::replace(steps, Steps::new()));
+    let checked = check_counted(format, alloc, window, &mut visits);
+    *steps = visits.into_steps();
+    checked
+}
+
+/// The same, where each visit is counted.
+///
+/// # Errors
+///
+/// As [`check`].
+fn check_counted(
     format: u64,
     alloc: Global,
     window: &ImageWindow,
@@ -69,7 +95,8 @@ fn check_frame(format: u64, window: &ImageWindow, visits: &mut Visits) -> Result
     ensures visits { OnOk result (Spends frame_rates 51 window.now.bytes visits.old visits.new) }
     ensures most { OnErr result (IsRaisedFor (length window.now.bytes) visits.old visits.new) }
 {
-    if !has_reserved(all_bytes(window)) {
+    window.hold_bytes();
+    if !has_reserved(window) {
         return Err(ImageClass::BadReserved);
     }
     let tags = window.check_counted(visits);
@@ -118,28 +145,12 @@ fn check_blocks(
     check_orphans(window, owners, visits)
 }
 
-/// All bytes of the window.
-pub(crate) fn all_bytes(window: &ImageWindow) -> &[u8]
-    ensures all { result.now ≡ window.now.bytes }
-    ensures bytes { IsTrue (are_bytes result.now) }
-{
-    let bytes = window.bytes(0, window.size());
-    hold_bytes(bytes);
-    bytes
-}
-
-/// Elements of type `u8` are below 256. Nothing is done.
-fn hold_bytes(bytes: &[u8])
-    ensures { IsTrue (are_bytes bytes.now) }
-{}
-
 /// Whether all bytes of the header that are kept for later are zero: the upper half of the word of the format, and those
 /// behind the indexes.
-fn has_reserved(bytes: &[u8]) -> bool
-    requires { 128 ≤ length bytes.now }
-    ensures { result ≡ is_reserved bytes.now }
+fn has_reserved(window: &ImageWindow) -> bool
+    requires { 128 ≤ length window.now.bytes }
+    ensures { result ≡ is_reserved window.now.bytes }
 {
-    let upper_half = FORMAT_AT as usize + 4..SIZE_AT as usize;
-    let behind_indexes = RESERVED_AT as usize..FIRST as usize;
-    is_zero(&bytes[upper_half]) && is_zero(&bytes[behind_indexes])
+    is_zero(window.header(FORMAT_AT + 4, 4))
+        && is_zero(window.header(RESERVED_AT, FIRST - RESERVED_AT))
 }

@@ -12,40 +12,39 @@ ghost use Rattle.image_check.specs.declared.classes.ImageClass.TheVariants.{BadC
 ghost use Rattle.block_tags.specs.declared.tile.Tile.{Tile};
 
 use crate::arrays::{is_array, is_storage};
+use crate::checking::Visits;
 use crate::classes::ImageClass;
-use crate::heads::{kind_of, value_of};
-use crate::image_window::ImageWindow;
+use crate::heads::kind_of;
+use crate::image_window::{Blocks, ImageWindow, Object, Value};
 use crate::maps::is_map;
-use crate::owners::{Block, Owners, is_object};
-use crate::visits::Visits;
+use crate::owners::{Owners, is_object};
 use block_tags::{TAG, Tile};
-use indexmap::IndexMap;
 use seg_types::{Kind, ScalarKind};
 
-/// Whether the value of this kind at `at` is no container, or one whose words, link and elements are right.
+/// Whether the value of this kind is no container, or one whose words, link and elements are right.
 fn is_right(
     window: &ImageWindow,
-    blocks: &IndexMap<u64, Block>,
+    blocks: &Blocks,
     visits: &mut Visits,
     kind: Kind,
-    at: u64,
+    value: Value,
 ) -> bool
     requires tiles { HasTiles window.now.bytes }
     requires followed { AreFollowed (bytes_of window.now.bytes) (tiles_in window.now.bytes) blocks.now.entries }
-    requires noted { IsLinkNoted (bytes_of window.now.bytes) (tiles_in window.now.bytes) blocks.now.entries kind at }
-    requires aligned { at % 8 ≡ 0 }
-    requires inside { is_scalar kind ≡ false → at + 24 ≤ length window.now.bytes }
-    requires few { rooted_weight at blocks.now.entries ≤ 2 ^ 40 }
-    ensures value { result ≡ is_container (bytes_of window.now.bytes) (tiles_in window.now.bytes) (kind, at) }
+    requires noted { IsLinkNoted (bytes_of window.now.bytes) (tiles_in window.now.bytes) blocks.now.entries kind value.at }
+    requires aligned { value.at % 8 ≡ 0 }
+    requires inside { is_scalar kind ≡ false → value.at + 24 ≤ length window.now.bytes }
+    requires few { rooted_weight value.at blocks.now.entries ≤ 2 ^ 40 }
+    ensures value { result ≡ is_container (bytes_of window.now.bytes) (tiles_in window.now.bytes) (kind, value.at) }
     ensures scalar { is_scalar kind ≡ true → visits.new ≡ visits.old }
-    ensures visits { Adds (27 + rooted_weight at blocks.now.entries) visits.old visits.new }
+    ensures visits { Adds (27 + rooted_weight value.at blocks.now.entries) visits.old visits.new }
 {
     match kind {
         Kind::Scalar(_) => true,
-        Kind::Text => is_storage(window, blocks, visits, ScalarKind::U8, at),
-        Kind::Vector(element) => is_storage(window, blocks, visits, element, at),
-        Kind::Map(key, value) => is_map(window, blocks, visits, key, value, at),
-        Kind::Texts => is_array(window, blocks, visits, at),
+        Kind::Text => is_storage(window, blocks, visits, ScalarKind::U8, value),
+        Kind::Vector(element) => is_storage(window, blocks, visits, element, value),
+        Kind::Map(key, of) => is_map(window, blocks, visits, key, of, value),
+        Kind::Texts => is_array(window, blocks, visits, value),
     }
 }
 
@@ -53,7 +52,7 @@ fn is_right(
 fn is_right_tile(
     format: u64,
     window: &ImageWindow,
-    blocks: &IndexMap<u64, Block>,
+    blocks: &Blocks,
     visits: &mut Visits,
     tile: Tile,
 ) -> bool
@@ -68,22 +67,15 @@ fn is_right_tile(
     if !is_object(tile) {
         return true;
     }
-    let at = tile.offset + TAG;
-    // The object.
-    visits.visit();
-    match kind_of(format, window, at) {
-        Some(kind) => is_right(window, blocks, visits, kind, value_of(window, at)),
+    let object = Object::visit(tile.offset + TAG, visits);
+    match kind_of(format, window, object) {
+        Some(kind) => is_right(window, blocks, visits, kind, object.value(window)),
         None => true,
     }
 }
 
 /// Whether all containers of the image are right.
-fn are_right(
-    format: u64,
-    window: &ImageWindow,
-    blocks: &IndexMap<u64, Block>,
-    visits: &mut Visits,
-) -> bool
+fn are_right(format: u64, window: &ImageWindow, blocks: &Blocks, visits: &mut Visits) -> bool
     requires tiles { HasTiles window.now.bytes }
     requires followed { AreFollowed (bytes_of window.now.bytes) (tiles_in window.now.bytes) blocks.now.entries }
     requires ready { (t : Tile) → Contains (tiles_in window.now.bytes) t → IsReady format (bytes_of window.now.bytes) (tiles_in window.now.bytes) blocks.now.entries t }

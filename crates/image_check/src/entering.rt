@@ -3,8 +3,8 @@ ghost use Rattle.std.specs.Prelude.{◌≡◌, false, MatchBool};
 ghost use Rattle.image_check.specs.Visits.{Adds};
 ghost use Rattle.image_check.specs.Entered.{IsEntered, can_enter, is_new_block};
 
-use crate::owners::{Block, Owner, Owners, block_of, is_same, put};
-use crate::visits::Visits;
+use crate::checking::Visits;
+use crate::owners::{Block, Owner, Owners, is_same};
 use block_tags::Role;
 
 /// Notes the entry at `place` of the index whose own link stands at `root`, where the entry's link leads to an object that has
@@ -24,7 +24,7 @@ pub(crate) fn enter(
     let Some(target) = link else {
         return false;
     };
-    let Some(block) = block_of(&owners.blocks, target, visits) else {
+    let Some(block) = owners.blocks.block_of(target, visits) else {
         return false;
     };
     if !is_new(block) {
@@ -34,7 +34,7 @@ pub(crate) fn enter(
         owner: Some(Owner { at: place, root }),
         ..block
     };
-    put(&mut owners.blocks, target, entered, visits);
+    owners.blocks.put(target, entered, visits);
     true
 }
 

@@ -1,16 +1,14 @@
 //! Gathering the blocks in use.
 ghost use Rattle.std.specs.Prelude.{◌≡◌, ◌+◌, ◌++◌, ◌<◌, ◌≤◌, ◌^◌, IfOk, IsOk, None, [], length, option_to_list};
-ghost use Rattle.indexmap.specs.IndexMap.{spare};
 ghost use Rattle.image_check.specs.Owners.{block_at, entries_of, entry_of};
 ghost use Rattle.image_check.specs.Passes.{HasTiles, Spends, tiles_in};
 ghost use Rattle.image_check.specs.Visits.{Adds, gathering_rates};
 
-use crate::image_window::ImageWindow;
+use crate::checking::Visits;
+use crate::image_window::{Blocks, ImageWindow};
 use crate::owners::{Block, Owners};
 use crate::room::{NoMemory, room_for};
-use crate::visits::Visits;
 use block_tags::Tile;
-use indexmap::IndexMap;
 use std::alloc::Global;
 
 /// The blocks in use by payload, to none of which a link was met. Memory is asked for once, and not where no block is in use.
@@ -63,10 +61,10 @@ fn count_used(window: &ImageWindow, visits: &mut Visits) -> usize
 }
 
 /// Adds the blocks in use to a map with room for them. At most two visits for each tile.
-fn add_all(window: &ImageWindow, blocks: &mut IndexMap<u64, Block>, visits: &mut Visits)
+fn add_all(window: &ImageWindow, blocks: &mut Blocks, visits: &mut Visits)
     requires tiles { HasTiles window.now.bytes }
     requires empty { blocks.old.entries ≡ [] }
-    requires room { length (entries_of (tiles_in window.now.bytes)) ≤ spare blocks.old }
+    requires room { length (entries_of (tiles_in window.now.bytes)) ≤ blocks.old.room }
     ensures entries { blocks.new.entries ≡ entries_of (tiles_in window.now.bytes) }
     ensures visits { Adds (length (tiles_in window.now.bytes) + length (tiles_in window.now.bytes)) visits.old visits.new }
 {
@@ -79,12 +77,12 @@ fn add_all(window: &ImageWindow, blocks: &mut IndexMap<u64, Block>, visits: &mut
 }
 
 /// Adds the block of a tile, where it is in use, to a map with room for it. At most one visit.
-fn add(blocks: &mut IndexMap<u64, Block>, tile: Tile, visits: &mut Visits)
+fn add(blocks: &mut Blocks, tile: Tile, visits: &mut Visits)
     requires small { tile.offset < 2 ^ 63 }
     requires absent { block_at blocks.old.entries (tile.offset + 16) ≡ None }
-    requires room { length (option_to_list (entry_of tile)) ≤ spare blocks.old }
+    requires room { length (option_to_list (entry_of tile)) ≤ blocks.old.room }
     ensures entries { blocks.new.entries ≡ blocks.old.entries ++ option_to_list (entry_of tile) }
-    ensures room { spare blocks.old ≤ spare blocks.new + length (option_to_list (entry_of tile)) }
+    ensures room { blocks.old.room ≤ blocks.new.room + length (option_to_list (entry_of tile)) }
     ensures visits { Adds 1 visits.old visits.new }
 {
     if let Some(role) = tile.use_of {
@@ -94,8 +92,6 @@ fn add(blocks: &mut IndexMap<u64, Block>, tile: Tile, visits: &mut Visits)
             owner: None,
             next: None,
         };
-        visits.visit();
-        // There is room, so that no memory is asked for.
-        let _ = blocks.insert(tile.offset + 16, block);
+        blocks.add(tile.offset + 16, block, visits);
     }
 }

@@ -8,17 +8,13 @@ ghost use Rattle.image_check.specs.ObjectPasses.{is_spelled, is_value_room};
 ghost use Rattle.image_check.specs.Entered.{AreEntered, index_of as listing_index};
 ghost use Rattle.image_check.specs.Visits.{Adds};
 
-use crate::image_window::ImageWindow;
-use crate::owners::{Block, block_of, is_same};
+use crate::checking::Visits;
+use crate::image_window::{Blocks, ImageWindow, Object};
+use crate::owners::is_same;
 use crate::spellings::are_spellings;
-use crate::visits::Visits;
 use block_tags::Role;
-use indexmap::IndexMap;
 use seg_types::{Kind, is_name};
-use segment_manager::layout::{HEAD_LEN, NAME_CLASS_AT, NAMED_AT, UNIQUE_AT};
-
-/// A number in the low half of a word.
-pub(crate) const HALF: u64 = 4294967296;
+use segment_manager::layout::{NAMED_AT, UNIQUE_AT};
 
 /// The longest name.
 const LONGEST: u64 = 255;
@@ -35,35 +31,15 @@ pub(crate) const NAMED: u64 = 1;
 /// The class of the objects that are the only ones of their kind in the unique index.
 pub(crate) const UNIQUE: u64 = 2;
 
-/// The kind of the object at `at`, if it has one of the format.
-pub(crate) fn kind_of(format: u64, window: &ImageWindow, at: u64) -> Option<Kind>
-    requires { at + 8 ≤ length window.now.bytes }
-    ensures { result ≡ kind_at format (bytes_of window.now.bytes) at }
+/// The kind of the object, if it has one of the format.
+pub(crate) fn kind_of(format: u64, window: &ImageWindow, object: Object) -> Option<Kind>
+    requires { object.at + 8 ≤ length window.now.bytes }
+    ensures { result ≡ kind_at format (bytes_of window.now.bytes) object.at }
 {
-    let code = window.read_u64(at) % HALF;
-    match Kind::from_code(code as u32) {
+    match Kind::from_code(object.code(window) as u32) {
         Some(kind) if kind.is_of(format) => Some(kind),
         _ => None,
     }
-}
-
-/// How many bytes the name of the object at `at` has.
-pub(crate) fn name_len_of(window: &ImageWindow, at: u64) -> u64
-    requires small { at < 2 ^ 63 }
-    requires inside { at + 16 ≤ length window.now.bytes }
-    ensures len { result ≡ name_len_at (bytes_of window.now.bytes) at }
-    ensures small { result < 2 ^ 32 }
-{
-    window.read_u64(at + NAME_CLASS_AT) % HALF
-}
-
-/// Where the value of the object at `at` stands.
-pub(crate) fn value_of(window: &ImageWindow, at: u64) -> u64
-    requires small { at < 2 ^ 63 }
-    requires inside { at + 16 ≤ length window.now.bytes }
-    ensures { result ≡ value_offset (bytes_of window.now.bytes) at }
-{
-    at + HEAD_LEN + (name_len_of(window, at) + 7) / 8 * 8
 }
 
 /// Whether the count of a value is right for its kind, and the value lies before `end`.
@@ -79,28 +55,27 @@ pub(crate) fn has_room(kind: Kind, count: u64, start: u64, end: u64) -> bool
     }
 }
 
-/// Whether the name and the class of the object at `at` are right.
-pub(crate) fn has_name(format: u64, window: &ImageWindow, at: u64) -> bool
+/// Whether the name and the class of the object are right.
+pub(crate) fn has_name(format: u64, window: &ImageWindow, object: Object) -> bool
     requires small { length window.now.bytes < 2 ^ 63 }
-    requires inside { at + 16 + name_len_at (bytes_of window.now.bytes) at ≤ length window.now.bytes }
-    ensures { result ≡ is_named format (bytes_of window.now.bytes) at }
+    requires inside { object.at + 16 + name_len_at (bytes_of window.now.bytes) object.at ≤ length window.now.bytes }
+    ensures { result ≡ is_named format (bytes_of window.now.bytes) object.at }
 {
-    let class = window.read_u64(at + NAME_CLASS_AT) / HALF;
-    let len = name_len_of(window, at);
+    let class = object.class(window);
+    let len = object.name_len(window);
     if class == NAMED {
-        return len <= LONGEST && is_name(format, window.bytes(at + HEAD_LEN, len));
+        return len <= LONGEST && is_name(format, object.name(window));
     }
     class <= UNIQUE && len == 0
 }
 
-/// Whether the bytes between the name and the value of the object at `at` are zero.
-pub(crate) fn has_padding(window: &ImageWindow, at: u64) -> bool
+/// Whether the bytes between the name and the value of the object are zero.
+pub(crate) fn has_padding(window: &ImageWindow, object: Object) -> bool
     requires small { length window.now.bytes < 2 ^ 63 }
-    requires inside { value_offset (bytes_of window.now.bytes) at ≤ length window.now.bytes }
-    ensures { result ≡ is_padded (bytes_of window.now.bytes) at }
+    requires inside { value_offset (bytes_of window.now.bytes) object.at ≤ length window.now.bytes }
+    ensures { result ≡ is_padded (bytes_of window.now.bytes) object.at }
 {
-    let len = name_len_of(window, at);
-    is_zero(window.bytes(at + HEAD_LEN + len, (len + 7) / 8 * 8 - len))
+    is_zero(object.padding(window))
 }
 
 /// Whether all bytes are 0.
@@ -130,11 +105,11 @@ pub(crate) fn has_spellings(
 }
 
 /// Where the index has its link that has an entry of the object at `at`.
-fn index_of(blocks: &IndexMap<u64, Block>, at: u64, visits: &mut Visits) -> Option<u64>
+fn index_of(blocks: &Blocks, at: u64, visits: &mut Visits) -> Option<u64>
     ensures is { result ≡ listing_index blocks.now.entries at }
     ensures spends { Adds 1 visits.old visits.new }
 {
-    let block = block_of(blocks, at, visits)?;
+    let block = blocks.block_of(at, visits)?;
     if !is_same(block.role, Role::Object) {
         return None;
     }
@@ -144,24 +119,24 @@ fn index_of(blocks: &IndexMap<u64, Block>, at: u64, visits: &mut Visits) -> Opti
     }
 }
 
-/// Whether the object at `at` has an entry in the index of its class, if there is one.
+/// Whether the object has an entry in the index of its class, if there is one.
 pub(crate) fn is_indexed(
     window: &ImageWindow,
-    blocks: &IndexMap<u64, Block>,
+    blocks: &Blocks,
     visits: &mut Visits,
-    at: u64,
+    object: Object,
 ) -> bool
-    requires small { at < 2 ^ 63 }
-    requires inside { at + 16 ≤ length window.now.bytes }
+    requires small { object.at < 2 ^ 63 }
+    requires inside { object.at + 16 ≤ length window.now.bytes }
     requires entered { AreEntered (bytes_of window.now.bytes) blocks.now.entries }
-    ensures is { result ≡ is_listed (bytes_of window.now.bytes) at }
+    ensures is { result ≡ is_listed (bytes_of window.now.bytes) object.at }
     ensures spends { Adds 1 visits.old visits.new }
 {
-    let class = window.read_u64(at + NAME_CLASS_AT) / HALF;
+    let class = object.class(window);
     if class != NAMED && class != UNIQUE {
         return true;
     }
-    match index_of(blocks, at, visits) {
+    match index_of(blocks, object.at(), visits) {
         Some(index) => index == if class == NAMED { NAMED_AT } else { UNIQUE_AT },
         None => false,
     }

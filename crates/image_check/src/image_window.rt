@@ -1,4 +1,5 @@
-//! The one way to the bytes of an image that is checked.
+//! The one way to the bytes of an image that is checked, and to its blocks in use: calls that count what they reach. Bytes that
+//! nobody counts are seen by this module and those in it alone.
 ghost use Rattle.std.specs.Prelude.{◌≡◌, ◌+◌, ◌*◌, ◌%◌, ◌≤◌, ◌↔◌, IfOk, IsTrue, List, is_err, length};
 ghost use Rattle.raw_region.specs.Format.{current};
 ghost use Rattle.raw_region.specs.Memory.{bytes_of, part, whole, word_at};
@@ -9,10 +10,20 @@ ghost use Rattle.block_tags.specs.Lists.{first_in, next_in};
 ghost use Rattle.block_tags.specs.Tiles.{has_tags};
 ghost use Rattle.block_tags.specs.Windows.{HasTileAt, IsTiled, SaysTiles};
 ghost use Rattle.block_tags.specs.declared.tile.Tile.{Tile as ATile};
+ghost use Rattle.image_check.specs.Classes.{are_bytes};
 
-use crate::visits::Visits;
+mod blocks;
+mod objects;
+mod pairs;
+mod places;
+
+use crate::checking::Visits;
 use block_tags::{Checked, Tile, check_counted, first, next};
+pub(crate) use blocks::Blocks;
+pub(crate) use objects::{HALF, Object, Value};
 use offset_link::{BadLink, checked, load};
+pub(crate) use pairs::check_pairs;
+pub(crate) use places::{Sought, check_places, find_place, has_good_links};
 use raw_region::{RawRegion, Window};
 use std::marker::Model;
 
@@ -67,7 +78,7 @@ impl ImageWindow {
     }
 
     /// The `len` bytes from `from` on.
-    pub fn bytes(&self, from: u64, len: u64) -> &[u8]
+    fn bytes(&self, from: u64, len: u64) -> &[u8]
         requires { from + len ≤ length self.now.bytes }
         ensures bytes { result.now ≡ part self.now.bytes from len }
         ensures len { length result.now ≡ len }
@@ -76,7 +87,7 @@ impl ImageWindow {
     }
 
     /// The number in the 8 bytes at `at`.
-    pub fn read_u64(&self, at: u64) -> u64
+    fn read_u64(&self, at: u64) -> u64
         requires { at + 8 ≤ length self.now.bytes }
         ensures { result ≡ word_at (bytes_of self.now.bytes) at }
     {
@@ -84,7 +95,7 @@ impl ImageWindow {
     }
 
     /// Where the link at `at` leads.
-    pub fn load(&self, at: u64) -> Option<u64>
+    fn load(&self, at: u64) -> Option<u64>
         requires aligned { at % 8 ≡ 0 }
         requires inside { at + 8 ≤ length self.now.bytes }
         ensures { result ≡ link_at (bytes_of self.now.bytes) at }
@@ -97,13 +108,64 @@ impl ImageWindow {
     /// # Errors
     ///
     /// `BadLink` where it is no place of a payload.
-    pub fn checked(&self, at: u64) -> Result<Option<u64>, BadLink>
+    fn checked(&self, at: u64) -> Result<Option<u64>, BadLink>
         requires aligned { at % 8 ≡ 0 }
         requires inside { at + 8 ≤ length self.now.bytes }
         ensures ok { IfOk result (λ target. target ≡ link_at (bytes_of self.now.bytes) at) }
         ensures err { is_err result ≡ is_bad (length self.now.bytes) (link_at (bytes_of self.now.bytes) at) }
     {
         checked(&self.window, at)
+    }
+
+    /// The `len` bytes of the header from `from` on.
+    pub fn header(&self, from: u64, len: u64) -> &[u8]
+        requires header { from + len ≤ 128 }
+        requires inside { from + len ≤ length self.now.bytes }
+        ensures bytes { result.now ≡ part self.now.bytes from len }
+        ensures len { length result.now ≡ len }
+    {
+        self.window.bytes(from, len)
+    }
+
+    /// The number in the 8 bytes of the header at `at`.
+    pub fn header_word(&self, at: u64) -> u64
+        requires header { at + 8 ≤ 128 }
+        requires inside { at + 8 ≤ length self.now.bytes }
+        ensures { result ≡ word_at (bytes_of self.now.bytes) at }
+    {
+        self.window.read_u64(at)
+    }
+
+    /// Where the link of the header at `at` leads.
+    pub fn header_link(&self, at: u64) -> Option<u64>
+        requires header { at + 8 ≤ 128 }
+        requires aligned { at % 8 ≡ 0 }
+        requires inside { at + 8 ≤ length self.now.bytes }
+        ensures { result ≡ link_at (bytes_of self.now.bytes) at }
+    {
+        load(&self.window, at)
+    }
+
+    /// The same, where that is nowhere or a place of a payload.
+    ///
+    /// # Errors
+    ///
+    /// `BadLink` where it is no place of a payload.
+    pub fn checked_header_link(&self, at: u64) -> Result<Option<u64>, BadLink>
+        requires header { at + 8 ≤ 128 }
+        requires aligned { at % 8 ≡ 0 }
+        requires inside { at + 8 ≤ length self.now.bytes }
+        ensures ok { IfOk result (λ target. target ≡ link_at (bytes_of self.now.bytes) at) }
+        ensures err { is_err result ≡ is_bad (length self.now.bytes) (link_at (bytes_of self.now.bytes) at) }
+    {
+        checked(&self.window, at)
+    }
+
+    /// Bytes are below 256. None is read.
+    pub fn hold_bytes(&self)
+        ensures { IsTrue (are_bytes self.now.bytes) }
+    {
+        hold_bytes(self.window.bytes(0, self.window.size()));
     }
 
     /// The `len` bytes of an element at `from`. One visit.
@@ -186,6 +248,11 @@ impl ImageWindow {
         }
     }
 }
+
+/// Elements of type `u8` are below 256. Nothing is done.
+fn hold_bytes(bytes: &[u8])
+    ensures { IsTrue (are_bytes bytes.now) }
+{}
 
 /// A tile whose tags nobody has looked at. What they say is told by `read` alone, which counts it.
 #[derive(Drop)]

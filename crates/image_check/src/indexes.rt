@@ -11,13 +11,12 @@ ghost use Rattle.image_check.specs.Passes.{HasTiles, Finds, Spends, tiles_in};
 ghost use Rattle.image_check.specs.Visits.{Adds, index_rates, weigh};
 ghost use Rattle.image_check.specs.Entered.{AreAdded, AreEntered, are_enterable, is_enterable, links_in};
 
+use crate::checking::Visits;
 use crate::classes::ImageClass;
 use crate::entering::enter;
-use crate::image_window::ImageWindow;
-use crate::owners::{Block, Owners, good_len};
-use crate::visits::Visits;
+use crate::image_window::{Blocks, ImageWindow};
+use crate::owners::{Owners, good_len};
 use block_tags::Role;
-use indexmap::IndexMap;
 use segment_manager::layout::{NAMED_AT, UNIQUE_AT};
 
 /// Checks both indexes, and notes their entries at the objects that they lead to.
@@ -69,19 +68,21 @@ fn enter_index(window: &ImageWindow, owners: &mut Owners, visits: &mut Visits, a
     if !has_places(window, &owners.blocks, visits, at) {
         return false;
     }
-    match window.load(at) {
+    match window.header_link(at) {
         None => true,
-        Some(block) => enter_all(window, owners, visits, block, window.read_u64(at + 8), at),
+        Some(block) => enter_all(
+            window,
+            owners,
+            visits,
+            block,
+            window.header_word(at + 8),
+            at,
+        ),
     }
 }
 
 /// Whether the index has no more entries than places, and a block with room for its places where it has any.
-fn has_places(
-    window: &ImageWindow,
-    blocks: &IndexMap<u64, Block>,
-    visits: &mut Visits,
-    at: u64,
-) -> bool
+fn has_places(window: &ImageWindow, blocks: &Blocks, visits: &mut Visits, at: u64) -> bool
     requires tiles { HasTiles window.now.bytes }
     requires place { IsIndexPlace at }
     requires blocks { AreBlocks (tiles_in window.now.bytes) blocks.now.entries }
@@ -90,11 +91,11 @@ fn has_places(
     ensures spends { Adds 2 visits.old visits.new }
 {
     visits.visit();
-    let capacity = window.read_u64(at + 16);
-    if window.read_u64(at + 8) > capacity {
+    let capacity = window.header_word(at + 16);
+    if window.header_word(at + 8) > capacity {
         return false;
     }
-    let link = window.load(at);
+    let link = window.header_link(at);
     if capacity == 0 {
         return link.is_none();
     }

@@ -30,7 +30,6 @@ mod room;
 mod sharing;
 mod spellings;
 mod versions;
-mod visits;
 mod without_tree;
 
 pub use classes::ImageClass;

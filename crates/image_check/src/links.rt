@@ -6,11 +6,11 @@ ghost use Rattle.image_check.specs.Passes.{HasTiles};
 ghost use Rattle.image_check.specs.Sharing.{AreElementsNoted, IsIndexNoted, IsStorageNoted, IsStorageStart};
 ghost use Rattle.image_check.specs.Visits.{Adds};
 
+use crate::checking::Visits;
 use crate::classes::ImageClass;
-use crate::image_window::ImageWindow;
+use crate::image_window::{ImageWindow, Value};
 use crate::marks::mark;
 use crate::owners::{Owner, Owners};
-use crate::visits::Visits;
 use block_tags::Role;
 
 /// Notes the link of the index whose words stand at `at`, where it has places. At most two visits.
@@ -33,14 +33,14 @@ pub(crate) fn mark_index(
         (IsSharedIn format window.now.bytes) }
     ensures visits { Adds 2 visits.old visits.new }
 {
-    if window.read_u64(at + 16) == 0 {
+    if window.header_word(at + 16) == 0 {
         return Ok(());
     }
     let link = Owner { at, root: at };
-    mark(owners, Role::Index, link, window.load(at), visits)
+    mark(owners, Role::Index, link, window.header_link(at), visits)
 }
 
-/// Notes the storage link of the value at `at`, where it has places. At most two visits.
+/// Notes the storage link of the value, where it has places. At most two visits.
 ///
 /// # Errors
 ///
@@ -48,25 +48,26 @@ pub(crate) fn mark_index(
 pub(crate) fn mark_storage(
     window: &ImageWindow,
     owners: &mut Owners,
-    at: u64,
+    value: Value,
     visits: &mut Visits,
 ) -> Result<(), ImageClass>
     ghost format: { ℕ }
     requires tiles { HasTiles window.now.bytes }
     requires marking { IsMarkingOf format window.now.bytes None owners.old.blocks.entries owners.old.pending owners.old.waiting }
-    requires inside { at + 24 ≤ length window.now.bytes }
-    requires aligned { at % 8 ≡ 0 }
-    requires start { 0 < word_at (bytes_of window.now.bytes) (at + 16) → IsStorageStart format window.now.bytes at }
+    requires inside { value.at + 24 ≤ length window.now.bytes }
+    requires aligned { value.at % 8 ≡ 0 }
+    requires start { 0 < word_at (bytes_of window.now.bytes) (value.at + 16) → IsStorageStart format window.now.bytes value.at }
     ensures noted { MatchResult result
-        (λ done. IsStorageNoted format window.now.bytes at owners.old.blocks.entries owners.old.waiting owners.new.blocks.entries owners.new.pending owners.new.waiting)
+        (λ done. IsStorageNoted format window.now.bytes value.at owners.old.blocks.entries owners.old.waiting owners.new.blocks.entries owners.new.pending owners.new.waiting)
         (IsSharedIn format window.now.bytes) }
     ensures visits { Adds 2 visits.old visits.new }
 {
-    if window.read_u64(at + 16) == 0 {
+    if value.capacity(window) == 0 {
         return Ok(());
     }
-    let link = Owner { at, root: at };
-    mark(owners, Role::Storage, link, window.load(at), visits)
+    let at = value.at();
+    let owner = Owner { at, root: at };
+    mark(owners, Role::Storage, owner, value.link(window), visits)
 }
 
 /// Notes the links of the first `count` elements of the array at `array`. At most three visits for each.

@@ -1,210 +1,37 @@
 //! Whether the pairs of a map are an ordered red-black tree, whatever its links say.
-ghost use Rattle.std.specs.Prelude.{◌≡◌, ◌+◌, ◌≤◌, ◌<◌, ◌%◌, ◌*◌, ◌^◌, true, false, IsTrue, length};
-ghost use Rattle.raw_region.specs.Memory.{bytes_of, read};
-ghost use Rattle.offset_link.specs.Link.{link_at};
-ghost use Rattle.link_tree.specs.Nodes.{leads};
-ghost use Rattle.block_tags.specs.Format.{is_legal_size};
-ghost use Rattle.seg_types.specs.Kinds.{size_of, is_spelling as is_spelling_of};
-ghost use Rattle.image_check.specs.FreeNodes.{is_place};
-ghost use Rattle.image_check.specs.MapNodes.{is_node_block, is_pair, kept_link, key_before, pair_cells, pair_len};
-ghost use Rattle.image_check.specs.MapLaws.{keys_irreflexive, keys_transitive, nothing_before, pairs_finite, pairs_left, pairs_right};
-ghost use Rattle.image_check.specs.Owners.{IsNoted, block_at};
+ghost use Rattle.std.specs.Prelude.{◌≡◌, ◌+◌, ◌≤◌, ◌%◌, ◌^◌, length};
+ghost use Rattle.raw_region.specs.Memory.{bytes_of};
+ghost use Rattle.image_check.specs.Owners.{IsNoted};
 ghost use Rattle.block_tags.specs.declared.tile.Role.TheVariants.{Node as RoleNode};
 ghost use Rattle.image_check.specs.Containers.{AreFollowed, rooted_weight};
 ghost use Rattle.image_check.specs.Fields.{is_map_at};
 ghost use Rattle.image_check.specs.Passes.{HasTiles, tiles_in};
 ghost use Rattle.image_check.specs.Visits.{Adds};
 
-use crate::image_window::ImageWindow;
-use crate::owners::{Block, is_same};
-use crate::visits::Visits;
-use best_fit::RIGHT;
-use block_tags::{Role, TAG};
-use indexmap::IndexMap;
-use link_tree::{Nodes, check};
+use crate::checking::Visits;
+use crate::image_window::{Blocks, ImageWindow, Value, check_pairs};
 use seg_types::ScalarKind;
 
-/// The two links of a pair, before its key.
-const LINKS: u64 = 16;
-
-/// The pairs of the map whose root link stands at `root`, as the nodes of a tree, ordered by key.
-///
-/// A pair is a node of the map with room for a key and a value, both of them spelled. A link that leads to no pair is read as one
-/// to its own node, which no ordered tree has.
-#[derive(Clone, Copy)]
-struct Pairs<'a> {
-    window: &'a ImageWindow,
-    blocks: &'a IndexMap<u64, Block>,
-    root: u64,
-    key: ScalarKind,
-    value: ScalarKind,
-}
-
-/// Whether the bytes at `at` spell a value of the kind.
-pub(crate) fn is_spelled(window: &ImageWindow, kind: ScalarKind, at: u64) -> bool
-    requires { at + size_of kind ≤ length window.now.bytes }
-    ensures { result ≡ is_spelling_of kind (read (bytes_of window.now.bytes) at (size_of kind)) }
-{
-    kind.is_spelling(window.bytes(at, kind.size()))
-}
-
-/// Whether a payload may begin there.
-#[tactic(auto, unfolding(crate::specs::FreeNodes::is_place))]
-fn is_place_in(window: &ImageWindow, node: u64) -> bool
-    requires { IsTrue (is_legal_size (length window.now.bytes)) }
-    ensures { result ≡ is_place window.now node }
-{
-    if node % 16 != 0 || node < 144 {
-        return false;
-    }
-    window.in_range(node, 32)
-}
-
-impl Pairs<'_> {
-    /// Whether the payload is that of a node of this map, with room for a key and a value.
-    fn has_node(&self, node: u64) -> bool
-        ensures { result ≡ is_node_block self.now.root (pair_len self.now.key self.now.value) (block_at self.now.blocks.now.entries node) }
-    {
-        let Some(block) = self.blocks.get(&node).copied() else {
-            return false;
-        };
-        if !is_same(Role::Node, block.role) {
-            return false;
-        }
-        if block.len < LINKS + self.key.size() + self.value.size() + TAG {
-            return false;
-        }
-        match block.owner {
-            Some(owner) => owner.root == self.root,
-            None => false,
-        }
-    }
-
-    /// Whether the number is a pair.
-    #[tactic(auto, unfolding(crate::specs::MapNodes::is_pair))]
-    fn is_pair(&self, node: u64) -> bool
-        requires { IsTrue (is_legal_size (length self.now.window.now.bytes)) }
-        ensures { result ≡ is_pair self.now.window.now self.now.blocks.now.entries self.now.root self.now.key self.now.value node }
-    {
-        if !is_place_in(self.window, node) || !self.has_node(node) {
-            return false;
-        }
-        is_spelled(self.window, self.key, node + LINKS)
-            && is_spelled(self.window, self.value, node + LINKS + self.key.size())
-    }
-
-    /// Where the link of a node at `at` leads.
-    fn child(&self, node: u64, at: u64) -> Option<u64>
-        requires size { IsTrue (is_legal_size (length self.now.window.now.bytes)) }
-        requires aligned { at % 8 ≡ 0 }
-        requires inside { at + 8 ≤ length self.now.window.now.bytes }
-        ensures { result ≡ kept_link (is_pair self.now.window.now self.now.blocks.now.entries self.now.root self.now.key self.now.value) node (link_at (bytes_of self.now.window.now.bytes) at) }
-    {
-        match self.window.load(at) {
-            Some(target) if self.is_pair(target) => Some(target),
-            Some(_) => Some(node),
-            None => None,
-        }
-    }
-
-    /// Whether the link leads to a pair or nowhere.
-    fn has_at(&self, link: Option<u64>) -> bool
-        requires { IsTrue (is_legal_size (length self.now.window.now.bytes)) }
-        ensures { result ≡ leads (is_pair self.now.window.now self.now.blocks.now.entries self.now.root self.now.key self.now.value) link }
-    {
-        match link {
-            Some(target) => self.is_pair(target),
-            None => true,
-        }
-    }
-}
-
-impl Nodes for Pairs<'_> {
-    type Probe = ();
-
-    ghost cells = { λ s. pair_cells s.window.now s.blocks.now.entries s.root s.key s.value };
-
-    ghost is_node = { λ s. is_pair s.window.now s.blocks.now.entries s.root s.key s.value };
-
-    ghost order = { λ s. key_before (bytes_of s.window.now.bytes) s.key };
-
-    ghost before = { λ s sought n. false };
-
-    ghost kept = { λ s. tt };
-
-    fn left(&self, node: u64) -> Option<u64> {
-        self.child(node, node)
-    }
-
-    fn right(&self, node: u64) -> Option<u64> {
-        self.child(node, node + RIGHT)
-    }
-
-    fn red(&self, node: u64) -> bool {
-        self.window.read_u64(node - 8) / 2 % 2 == 1
-    }
-
-    fn precedes(&self, a: u64, b: u64) -> bool {
-        let len = self.key.size();
-        self.key.precedes(
-            self.window.bytes(a + LINKS, len),
-            self.window.bytes(b + LINKS, len),
-        )
-    }
-
-    fn before_probe(&self, _node: u64, _probe: &()) -> bool {
-        false
-    }
-
-    ghost finite = { λ s. pairs_finite s.window.now s.blocks.now.entries s.root s.key s.value };
-
-    ghost left_closed = { λ s. pairs_left s.window.now s.blocks.now.entries s.root s.key s.value };
-
-    ghost right_closed = { λ s. pairs_right s.window.now s.blocks.now.entries s.root s.key s.value };
-
-    ghost irreflexive = { λ s. keys_irreflexive (bytes_of s.window.now.bytes) s.key };
-
-    ghost transitive = { λ s. keys_transitive (bytes_of s.window.now.bytes) s.key };
-
-    ghost agrees = { λ s sought a b x y. y };
-}
-
-/// Whether the three words at `at` are those of a map: a tree of pairs, as many as are counted, and a zero.
+/// Whether the three words of the value are those of a map: a tree of pairs, as many as are counted, and a zero.
 pub(crate) fn is_map(
     window: &ImageWindow,
-    blocks: &IndexMap<u64, Block>,
+    blocks: &Blocks,
     visits: &mut Visits,
     key: ScalarKind,
     value: ScalarKind,
-    at: u64,
+    map: Value,
 ) -> bool
     requires tiles { HasTiles window.now.bytes }
     requires followed { AreFollowed (bytes_of window.now.bytes) (tiles_in window.now.bytes) blocks.now.entries }
-    requires noted { IsNoted (bytes_of window.now.bytes) (tiles_in window.now.bytes) blocks.now.entries RoleNode at at }
-    requires aligned { at % 8 ≡ 0 }
-    requires inside { at + 24 ≤ length window.now.bytes }
-    requires few { rooted_weight at blocks.now.entries ≤ 2 ^ 40 }
-    ensures value { result ≡ is_map_at (bytes_of window.now.bytes) (tiles_in window.now.bytes) key value at }
-    ensures visits { Adds (27 + rooted_weight at blocks.now.entries) visits.old visits.new }
+    requires noted { IsNoted (bytes_of window.now.bytes) (tiles_in window.now.bytes) blocks.now.entries RoleNode map.at map.at }
+    requires aligned { map.at % 8 ≡ 0 }
+    requires inside { map.at + 24 ≤ length window.now.bytes }
+    requires few { rooted_weight map.at blocks.now.entries ≤ 2 ^ 40 }
+    ensures value { result ≡ is_map_at (bytes_of window.now.bytes) (tiles_in window.now.bytes) key value map.at }
+    ensures visits { Adds (27 + rooted_weight map.at blocks.now.entries) visits.old visits.new }
 {
-    let pairs = Pairs {
-        window,
-        blocks,
-        root: at,
-        key,
-        value,
-    };
-    // A look-up of the root, and reading it.
-    visits.add(2);
-    let root = window.load(at);
-    if !pairs.has_at(root) {
-        return false;
-    }
-    // A step reads a node, and looks up and reads the nodes of its two links.
-    let checked = check(&pairs, root);
-    visits.add(5 * checked.steps);
-    let Some(count) = checked.nodes else {
+    let Some(count) = check_pairs(window, blocks, visits, key, value, map).nodes else {
         return false;
     };
-    count == window.read_u64(at + 8) && window.read_u64(at + 16) == 0
+    count == map.len(window) && map.capacity(window) == 0
 }

@@ -9,10 +9,10 @@ ghost use Rattle.image_check.specs.Owners.{IsAllFollowed, IsMarked, IsMarking, I
 ghost use Rattle.image_check.specs.Passes.{HasTiles};
 ghost use Rattle.image_check.specs.Visits.{Adds};
 
+use crate::checking::Visits;
 use crate::classes::ImageClass;
 use crate::image_window::ImageWindow;
-use crate::owners::{Block, Owner, Owners, block_of, is_same, put};
-use crate::visits::Visits;
+use crate::owners::{Block, Owner, Owners, is_same};
 use block_tags::Role;
 
 /// Notes that a link with this target leads to a block of the role, where it does. At most two visits.
@@ -40,7 +40,7 @@ pub(crate) fn mark(
     let Some(target) = target else {
         return Ok(());
     };
-    let Some(block) = block_of(&owners.blocks, target, visits) else {
+    let Some(block) = owners.blocks.block_of(target, visits) else {
         return Ok(());
     };
     if !is_same(block.role, role) {
@@ -57,7 +57,7 @@ pub(crate) fn mark(
         next: owners.pending,
         ..block
     };
-    put(&mut owners.blocks, target, owned, visits);
+    owners.blocks.put(target, owned, visits);
     if is_same(role, Role::Node) {
         owners.pending = Some(target);
         owners.waiting += 1;
@@ -108,7 +108,7 @@ fn follow_next(
         (IsSharedIn format window.now.bytes) }
     ensures visits { Adds 6 visits.old visits.new }
 {
-    let block = block_of(&owners.blocks, node, visits);
+    let block = owners.blocks.block_of(node, visits);
     let root = root_in(block, node);
     owners.pending = next_in(block);
     owners.waiting -= 1;

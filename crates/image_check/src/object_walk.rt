@@ -9,17 +9,15 @@ ghost use Rattle.image_check.specs.Entered.{AreEntered};
 ghost use Rattle.image_check.specs.Passes.{HasTiles, Finds, Spends, tiles_in};
 ghost use Rattle.image_check.specs.Visits.{Adds, object_rates, rate_of};
 
+use crate::checking::Visits;
 use crate::classes::ImageClass;
 use crate::heads::{
-    HALF, NAMED, UNIQUE, has_name, has_padding, has_room, has_spellings, is_indexed, kind_of,
-    value_of,
+    NAMED, UNIQUE, has_name, has_padding, has_room, has_spellings, is_indexed, kind_of,
 };
-use crate::image_window::ImageWindow;
-use crate::owners::{Block, Owners};
+use crate::image_window::{Blocks, ImageWindow, Object};
+use crate::owners::Owners;
 use crate::ranks::has_order;
-use crate::visits::Visits;
 use block_tags::{Role, TAG, Tile};
-use indexmap::IndexMap;
 use segment_manager::layout::{NAMED_AT, UNIQUE_AT};
 
 /// Checks each object by itself, then the order of the entries of each index. The indexes are those of class 8, and their
@@ -54,12 +52,7 @@ pub(crate) fn check_objects(
 }
 
 /// Whether each tile is no object's or one of an object that is right.
-fn are_right(
-    format: u64,
-    window: &ImageWindow,
-    blocks: &IndexMap<u64, Block>,
-    visits: &mut Visits,
-) -> bool
+fn are_right(format: u64, window: &ImageWindow, blocks: &Blocks, visits: &mut Visits) -> bool
     requires tiles { HasTiles window.now.bytes }
     requires entered { AreEntered (bytes_of window.now.bytes) blocks.now.entries }
     ensures is { result ≡ list_all (is_right_tile format (bytes_of window.now.bytes)) (tiles_in window.now.bytes) }
@@ -80,7 +73,7 @@ fn are_right(
 fn is_right(
     format: u64,
     window: &ImageWindow,
-    blocks: &IndexMap<u64, Block>,
+    blocks: &Blocks,
     visits: &mut Visits,
     tile: Tile,
 ) -> bool
@@ -94,42 +87,42 @@ fn is_right(
     match tile.use_of {
         Some(Role::Object) => {
             let end = tile.offset + tile.len;
-            is_object(format, window, blocks, visits, tile.offset + TAG, end)
+            let object = Object::visit(tile.offset + TAG, visits);
+            is_object(format, window, blocks, visits, object, end)
         }
         _ => true,
     }
 }
 
-/// Whether the object at `at`, whose payload ends at `end`, is right. Two visits, and one for each scalar of its value.
+/// Whether the object, whose payload ends at `end`, is right. One visit, and one for each scalar of its value.
 fn is_object(
     format: u64,
     window: &ImageWindow,
-    blocks: &IndexMap<u64, Block>,
+    blocks: &Blocks,
     visits: &mut Visits,
-    at: u64,
+    object: Object,
     end: u64,
 ) -> bool
     requires small { length window.now.bytes < 2 ^ 63 }
-    requires head { at + 16 ≤ end }
+    requires head { object.at + 16 ≤ end }
     requires inside { end ≤ length window.now.bytes }
     requires entered { AreEntered (bytes_of window.now.bytes) blocks.now.entries }
-    ensures is { result ≡ is_object_at format (bytes_of window.now.bytes) at end }
-    ensures spends { Adds (2 + (end - at)) visits.old visits.new }
+    ensures is { result ≡ is_object_at format (bytes_of window.now.bytes) object.at end }
+    ensures spends { Adds (1 + (end - object.at)) visits.old visits.new }
 {
-    visits.visit();
-    let Some(kind) = kind_of(format, window, at) else {
+    let Some(kind) = kind_of(format, window, object) else {
         return false;
     };
-    let start = value_of(window, at);
-    let count = window.read_u64(at) / HALF;
+    let start = object.value(window).at();
+    let count = object.count(window);
     if !has_room(kind, count, start, end) {
         return false;
     }
-    if !has_name(format, window, at) || !has_padding(window, at) {
+    if !has_name(format, window, object) || !has_padding(window, object) {
         return false;
     }
     if !has_spellings(window, visits, kind, count, start) {
         return false;
     }
-    is_indexed(window, blocks, visits, at)
+    is_indexed(window, blocks, visits, object)
 }

@@ -8,12 +8,10 @@ use crate::checking::check;
 use crate::errors::OpenRefused;
 use crate::reading::read_image;
 use crate::versions::Versions;
-use crate::visits::Visits;
 use raw_region::{RawRegion, Source, Steps};
 use segment_manager::layout::FORMAT;
 use segment_manager::{Mode, Segment};
 use std::alloc::Global;
-use std::mem;
 
 /// Reads an image into the region, from `base` on, which is a multiple of 16, and opens it.
 ///
@@ -41,10 +39,7 @@ pub fn open<S: Source>(
     ensures steps { IsRaisedFor (size_or_least (given_since (S.history reader.old) (S.history reader.new)).bytes) steps.old steps.new }
 {
     let window = read_image(Versions::Current, reader, region, base)?;
-    let mut visits = Visits::new(mem::replace(steps, Steps::new()));
-    let checked = check(FORMAT, alloc, &window, &mut visits);
-    *steps = visits.into_steps();
-    match checked {
+    match check(FORMAT, alloc, &window, steps) {
         Ok(()) => Ok(Segment::adopt(window.into_window(), mode)),
         Err(why) => Err(OpenRefused {
             region: window.into_region(),

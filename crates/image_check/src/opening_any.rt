@@ -4,16 +4,15 @@ ghost use Rattle.raw_region.specs.Device.{Reads, given_since};
 ghost use Rattle.image_check.specs.Opening.{AsksToTheEnd, IsRaisedFor, cause_of, failed_reads, size_or_least};
 ghost use Rattle.image_check.specs.OpeningAny.{OpensAny};
 
-use crate::checking::{all_bytes, check};
+use crate::checking::check;
 use crate::errors::OpenRefused;
+use crate::header::FRONT;
 use crate::reading::read_image;
 use crate::renewing::renew;
 use crate::versions::{Versions, version_in};
-use crate::visits::Visits;
 use raw_region::{RawRegion, Source, Steps};
 use segment_manager::{Mode, Segment};
 use std::alloc::Global;
-use std::mem;
 
 /// Reads an image of any of the three formats into the region, from `base` on, which is a multiple of 16, and opens it as a
 /// segment of the current format with the same directory. The image is checked by the rules of the format that it says. One of
@@ -41,11 +40,8 @@ pub fn open_any<S: Source>(
     ensures steps { IsRaisedFor (size_or_least (given_since (S.history reader.old) (S.history reader.new)).bytes) steps.old steps.new }
 {
     let window = read_image(Versions::All, reader, region, base)?;
-    let format = version_in(all_bytes(&window));
-    let mut visits = Visits::new(mem::replace(steps, Steps::new()));
-    let checked = check(format, alloc, &window, &mut visits);
-    *steps = visits.into_steps();
-    match checked {
+    let format = version_in(window.header(0, FRONT as u64));
+    match check(format, alloc, &window, steps) {
         Ok(()) => Ok(Segment::adopt(renew(format, window.into_window()), mode)),
         Err(why) => Err(OpenRefused {
             region: window.into_region(),

@@ -8,12 +8,11 @@ ghost use Rattle.image_check.specs.Owners.{IsWholeMarkingOf, has_owner, owner_at
 ghost use Rattle.image_check.specs.Passes.{Finds, HasTiles, Spends, tiles_in};
 ghost use Rattle.image_check.specs.Visits.{Adds, orphan_rates};
 
+use crate::checking::Visits;
 use crate::classes::ImageClass;
-use crate::image_window::ImageWindow;
-use crate::owners::{Block, Owner, Owners, block_of, is_same};
-use crate::visits::Visits;
+use crate::image_window::{Blocks, ImageWindow};
+use crate::owners::{Owner, Owners, is_same};
 use block_tags::{Role, Tile};
-use indexmap::IndexMap;
 
 /// Checks that a link leads to each index, storage and node.
 ///
@@ -38,7 +37,7 @@ pub(crate) fn check_orphans(
 }
 
 /// Whether each tile needs no owner or has one. At most two visits for each.
-fn are_owned(window: &ImageWindow, blocks: &IndexMap<u64, Block>, visits: &mut Visits) -> bool
+fn are_owned(window: &ImageWindow, blocks: &Blocks, visits: &mut Visits) -> bool
     requires tiles { HasTiles window.now.bytes }
     ensures owned { result ≡ list_all (has_owner blocks.now.entries) (tiles_in window.now.bytes) }
     ensures visits { Adds (2 * length (tiles_in window.now.bytes)) visits.old visits.new }
@@ -55,7 +54,7 @@ fn are_owned(window: &ImageWindow, blocks: &IndexMap<u64, Block>, visits: &mut V
 }
 
 /// Whether the tile needs no owner or has one. At most one visit.
-fn is_owned(blocks: &IndexMap<u64, Block>, tile: Tile, visits: &mut Visits) -> bool
+fn is_owned(blocks: &Blocks, tile: Tile, visits: &mut Visits) -> bool
     requires { tile.offset < 2 ^ 63 }
     ensures owned { result ≡ has_owner blocks.now.entries tile }
     ensures visits { Adds 1 visits.old visits.new }
@@ -67,11 +66,11 @@ fn is_owned(blocks: &IndexMap<u64, Block>, tile: Tile, visits: &mut Visits) -> b
 }
 
 /// The link that was met to lead to the index, storage or node whose payload begins at `target`. One visit.
-fn owner_of(blocks: &IndexMap<u64, Block>, target: u64, visits: &mut Visits) -> Option<Owner>
+fn owner_of(blocks: &Blocks, target: u64, visits: &mut Visits) -> Option<Owner>
     ensures owner { result ≡ owner_at blocks.now.entries target }
     ensures visits { visits.new ≡ visits.old + 1 }
 {
-    match block_of(blocks, target, visits) {
+    match blocks.block_of(target, visits) {
         Some(block) if !is_same(block.role, Role::Object) => block.owner,
         _ => None,
     }

@@ -1,16 +1,15 @@
 //! The owners of the blocks in use: by the payload of each its role, its length, and the link that was met to lead to it.
-ghost use Rattle.std.specs.Prelude.{◌≡◌, nat_eq, ◌+◌, IsSome, List, option_map};
-ghost use Rattle.std.specs.Map.{set_value};
+ghost use Rattle.std.specs.Prelude.{◌≡◌, ◌+◌, List, option_map};
 ghost use Rattle.block_tags.specs.declared.tile.Tile.{Tile};
 ghost use Rattle.best_fit.specs.Table.{same_role};
 ghost use Rattle.block_tags.specs.declared.tile.Role.TheVariants.{Object};
 ghost use Rattle.image_check.specs.ObjectTests.{good_for, is_use};
-ghost use Rattle.image_check.specs.Owners.{AreBlocks, block_at};
+ghost use Rattle.image_check.specs.Owners.{AreBlocks};
 ghost use Rattle.image_check.specs.Visits.{Adds};
 
-use crate::visits::Visits;
+use crate::checking::Visits;
+use crate::image_window::Blocks;
 use block_tags::{Role, Tile};
-use indexmap::IndexMap;
 
 /// A link that leads to a block.
 #[derive(Clone, Copy, Debug, PartialEq, Eq)]
@@ -39,36 +38,11 @@ pub(crate) struct Block {
 #[derive(Drop)]
 pub(crate) struct Owners {
     /// The blocks, by offset of the payload.
-    pub(crate) blocks: IndexMap<u64, Block>,
+    pub(crate) blocks: Blocks,
     /// The node whose turn is next.
     pub(crate) pending: Option<u64>,
     /// How many nodes wait.
     pub(crate) waiting: u64,
-}
-
-/// The block whose payload begins at `target`. One visit.
-pub(crate) fn block_of(
-    blocks: &IndexMap<u64, Block>,
-    target: u64,
-    visits: &mut Visits,
-) -> Option<Block>
-    ensures value { result ≡ block_at blocks.now.entries target }
-    ensures visits { visits.new ≡ visits.old + 1 }
-{
-    visits.visit();
-    blocks.get(&target).copied()
-}
-
-/// Puts another block in the place of the one at `target`. One visit.
-pub(crate) fn put(blocks: &mut IndexMap<u64, Block>, target: u64, block: Block, visits: &mut Visits)
-    requires { IsSome (block_at blocks.old.entries target) }
-    ensures value { blocks.new.entries ≡ set_value (nat_eq target) blocks.old.entries block }
-    ensures visits { visits.new ≡ visits.old + 1 }
-{
-    visits.visit();
-    if let Some(place) = blocks.get_mut(&target) {
-        *place = block;
-    }
 }
 
 /// Whether two roles are one.
@@ -90,7 +64,7 @@ pub(crate) fn is_object(tile: Tile) -> bool
 
 /// How long the tile is that the link is good for, with its tag. At most one visit.
 pub(crate) fn good_len(
-    blocks: &IndexMap<u64, Block>,
+    blocks: &Blocks,
     role: Role,
     link: Option<u64>,
     visits: &mut Visits,
@@ -99,7 +73,7 @@ pub(crate) fn good_len(
     ensures visits { Adds 1 visits.old visits.new }
 {
     let target = link?;
-    match block_of(blocks, target, visits) {
+    match blocks.block_of(target, visits) {
         Some(block) if is_same(block.role, role) => Some(block.len),
         _ => None,
     }

@@ -2,7 +2,7 @@
 ghost use Rattle.std.specs.Prelude.{◌≡◌, ℕ, ◌+◌, ◌*◌, ◌%◌, ◌^◌, ◌<◌, ◌≤◌, true, Some, IsSome, length, flat_map, option_to_list};
 ghost use Rattle.raw_region.specs.Memory.{bytes_of};
 ghost use Rattle.offset_link.specs.Link.{link_at};
-ghost use Rattle.seg_index.specs.Keys.{class_at, code_at, name_at, name_len_at};
+ghost use Rattle.seg_index.specs.Keys.{name_len_at};
 ghost use Rattle.image_check.specs.ObjectTests.{has_index, targets};
 ghost use Rattle.image_check.specs.ObjectPasses.{HaveHeads, LeadToHeads, are_ranked, entry_rates, follows as comes_behind, key_before};
 ghost use Rattle.image_check.specs.Owners.{IsIndexPlace};
@@ -10,10 +10,9 @@ ghost use Rattle.image_check.specs.Entered.{links_in};
 ghost use Rattle.image_check.specs.Passes.{HasTiles, tiles_in};
 ghost use Rattle.image_check.specs.Visits.{Adds, weigh};
 
-use crate::heads::{HALF, NAMED, name_len_of};
-use crate::image_window::ImageWindow;
-use crate::visits::Visits;
-use segment_manager::layout::{HEAD_LEN, NAME_CLASS_AT};
+use crate::checking::Visits;
+use crate::heads::NAMED;
+use crate::image_window::{ImageWindow, Object};
 
 /// Whether the entries of the index whose words stand at `at` lead to objects of a class, whose keys rise.
 pub(crate) fn has_order(window: &ImageWindow, visits: &mut Visits, at: u64, class: u64) -> bool
@@ -24,9 +23,9 @@ pub(crate) fn has_order(window: &ImageWindow, visits: &mut Visits, at: u64, clas
     ensures is { result ≡ are_ranked class (bytes_of window.now.bytes) (targets (bytes_of window.now.bytes) at) }
     ensures spends { (visits.old ≤ visits.new) × (2 * visits.new ≤ 2 * visits.old + weigh entry_rates (tiles_in window.now.bytes)) }
 {
-    match window.load(at) {
+    match window.header_link(at) {
         None => true,
-        Some(block) => rise(window, visits, block, window.read_u64(at + 8), class),
+        Some(block) => rise(window, visits, block, window.header_word(at + 8), class),
     }
 }
 
@@ -70,55 +69,26 @@ fn follows(
     ensures is { result ≡ comes_behind class (bytes_of window.now.bytes) last here }
     ensures spends { Adds 2 visits.old visits.new }
 {
-    visits.visit();
-    if class_of(window, here) != class {
+    let object = Object::visit(here, visits);
+    if object.class(window) != class {
         return false;
     }
     match last {
         None => true,
-        Some(before) => {
-            visits.visit();
-            precedes(window, class, before, here)
-        }
+        Some(last) => precedes(window, class, Object::visit(last, visits), object),
     }
 }
 
 /// Whether the key of an object stands before that of another, both of the class.
-fn precedes(window: &ImageWindow, class: u64, one: u64, other: u64) -> bool
+fn precedes(window: &ImageWindow, class: u64, one: Object, other: Object) -> bool
     requires small { length window.now.bytes < 2 ^ 63 }
-    requires one { one + 16 + name_len_at (bytes_of window.now.bytes) one ≤ length window.now.bytes }
-    requires other { other + 16 + name_len_at (bytes_of window.now.bytes) other ≤ length window.now.bytes }
-    ensures { result ≡ key_before class (bytes_of window.now.bytes) one other }
+    requires one { one.at + 16 + name_len_at (bytes_of window.now.bytes) one.at ≤ length window.now.bytes }
+    requires other { other.at + 16 + name_len_at (bytes_of window.now.bytes) other.at ≤ length window.now.bytes }
+    ensures { result ≡ key_before class (bytes_of window.now.bytes) one.at other.at }
 {
     if class == NAMED {
-        name_of(window, one).cmp(name_of(window, other)).is_lt()
+        one.name(window).cmp(other.name(window)).is_lt()
     } else {
-        code_of(window, one) < code_of(window, other)
+        one.code(window) < other.code(window)
     }
-}
-
-/// The class of the object at `at`.
-fn class_of(window: &ImageWindow, at: u64) -> u64
-    requires small { at < 2 ^ 63 }
-    requires inside { at + 16 ≤ length window.now.bytes }
-    ensures { result ≡ class_at (bytes_of window.now.bytes) at }
-{
-    window.read_u64(at + NAME_CLASS_AT) / HALF
-}
-
-/// The code of the kind of the object at `at`.
-fn code_of(window: &ImageWindow, at: u64) -> u64
-    requires { at + 8 ≤ length window.now.bytes }
-    ensures { result ≡ code_at (bytes_of window.now.bytes) at }
-{
-    window.read_u64(at) % HALF
-}
-
-/// The name of the object at `at`.
-fn name_of(window: &ImageWindow, at: u64) -> &[u8]
-    requires small { length window.now.bytes < 2 ^ 63 }
-    requires inside { at + 16 + name_len_at (bytes_of window.now.bytes) at ≤ length window.now.bytes }
-    ensures { result.now ≡ name_at (bytes_of window.now.bytes) at }
-{
-    window.bytes(at + HEAD_LEN, name_len_of(window, at))
 }

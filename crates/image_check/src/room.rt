@@ -1,8 +1,7 @@
 //! Room for the blocks in use: the one request for memory that the check of an image makes.
 ghost use Rattle.std.specs.Prelude.{◌≡◌, ◌≤◌, IfOk, IsOk, []};
-ghost use Rattle.indexmap.specs.IndexMap.{spare};
 
-use crate::owners::Block;
+use crate::image_window::Blocks;
 use indexmap::IndexMap;
 use std::alloc::{AllocError, Global};
 
@@ -17,13 +16,13 @@ pub struct NoMemory {
 /// # Errors
 ///
 /// Where the allocator refuses it.
-pub(crate) fn room_for(alloc: Global, count: usize) -> Result<IndexMap<u64, Block>, NoMemory>
+pub(crate) fn room_for(alloc: Global, count: usize) -> Result<Blocks, NoMemory>
     ensures empty { IfOk result (λ blocks. blocks.entries ≡ []) }
-    ensures room { IfOk result (λ blocks. count ≤ spare blocks) }
+    ensures room { IfOk result (λ blocks. count ≤ blocks.room) }
     ensures memory { count ≡ 0 → IsOk result }
 {
     match IndexMap::with_capacity(alloc, count) {
-        Ok(blocks) => Ok(blocks),
+        Ok(map) => Ok(Blocks::new(map)),
         Err(refusal) => Err(NoMemory { refusal }),
     }
 }

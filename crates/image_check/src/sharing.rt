@@ -12,13 +12,13 @@ ghost use Rattle.image_check.specs.Visits.{Adds, sharing_rates, weigh};
 ghost use Rattle.image_check.specs.Owners.{owner_at};
 ghost use Rattle.image_check.specs.declared.owners.Owner.{Owner as OwnerValue};
 
+use crate::checking::Visits;
 use crate::classes::ImageClass;
-use crate::heads::{kind_of, value_of};
-use crate::image_window::ImageWindow;
+use crate::heads::kind_of;
+use crate::image_window::{ImageWindow, Object, Value};
 use crate::links::{mark_elements, mark_index, mark_storage};
 use crate::marks::{follow, mark};
 use crate::owners::{Owner, Owners, good_len, is_object};
-use crate::visits::Visits;
 use block_tags::{Role, TAG, Tile};
 use seg_types::Kind;
 use segment_manager::layout::{NAMED_AT, UNIQUE_AT};
@@ -34,7 +34,7 @@ fn elements_in(length: u64, len: u64) -> u64
     if length < room { length } else { room }
 }
 
-/// Notes the links of the elements of the vector of texts at `at`, where it has places.
+/// Notes the links of the elements of a vector of texts, where it has places.
 ///
 /// # Errors
 ///
@@ -42,34 +42,34 @@ fn elements_in(length: u64, len: u64) -> u64
 fn mark_texts(
     window: &ImageWindow,
     owners: &mut Owners,
-    at: u64,
+    value: Value,
     visits: &mut Visits,
 ) -> Result<(), ImageClass>
     ghost format: { ℕ }
     requires tiles { HasTiles window.now.bytes }
     requires marking { IsMarkingOf format window.now.bytes None owners.old.blocks.entries owners.old.pending owners.old.waiting }
-    requires inside { at + 24 ≤ length window.now.bytes }
-    requires aligned { at % 8 ≡ 0 }
-    requires starts { AllElements (bytes_of window.now.bytes) (tiles_in window.now.bytes) at (IsStorageStart format window.now.bytes) }
+    requires inside { value.at + 24 ≤ length window.now.bytes }
+    requires aligned { value.at % 8 ≡ 0 }
+    requires starts { AllElements (bytes_of window.now.bytes) (tiles_in window.now.bytes) value.at (IsStorageStart format window.now.bytes) }
     ensures noted { MatchResult result
-        (λ done. AreTextsNoted format window.now.bytes at owners.old.blocks.entries owners.old.waiting owners.new.blocks.entries owners.new.pending owners.new.waiting)
+        (λ done. AreTextsNoted format window.now.bytes value.at owners.old.blocks.entries owners.old.waiting owners.new.blocks.entries owners.new.pending owners.new.waiting)
         (IsSharedIn format window.now.bytes) }
-    ensures visits { Adds (1 + array_cost (bytes_of window.now.bytes) (tiles_in window.now.bytes) at) visits.old visits.new }
+    ensures visits { Adds (1 + array_cost (bytes_of window.now.bytes) (tiles_in window.now.bytes) value.at) visits.old visits.new }
 {
-    if window.read_u64(at + 16) == 0 {
+    if value.capacity(window) == 0 {
         return Ok(());
     }
-    let Some(array) = window.load(at) else {
+    let Some(array) = value.link(window) else {
         return Ok(());
     };
     let Some(len) = good_len(&owners.blocks, Role::Storage, Some(array), visits) else {
         return Ok(());
     };
-    let count = elements_in(window.read_u64(at + 8), len);
+    let count = elements_in(value.len(window), len);
     mark_elements(window, owners, array, count, visits)
 }
 
-/// Notes the storage link of the vector of texts at `at`, and the links of its elements.
+/// Notes the storage link of a vector of texts, and the links of its elements.
 ///
 /// # Errors
 ///
@@ -77,21 +77,21 @@ fn mark_texts(
 fn mark_array(
     window: &ImageWindow,
     owners: &mut Owners,
-    at: u64,
+    value: Value,
     visits: &mut Visits,
 ) -> Result<(), ImageClass>
     ghost format: { ℕ }
     requires tiles { HasTiles window.now.bytes }
     requires marking { IsMarkingOf format window.now.bytes None owners.old.blocks.entries owners.old.pending owners.old.waiting }
-    requires ready { IsValueReady format window.now.bytes TextsKind at owners.old.blocks.entries }
+    requires ready { IsValueReady format window.now.bytes TextsKind value.at owners.old.blocks.entries }
     ensures noted { MatchResult result
-        (λ done. IsValueGrown format window.now.bytes TextsKind at owners.old.blocks.entries owners.old.waiting owners.new.blocks.entries owners.new.pending owners.new.waiting)
+        (λ done. IsValueGrown format window.now.bytes TextsKind value.at owners.old.blocks.entries owners.old.waiting owners.new.blocks.entries owners.new.pending owners.new.waiting)
         (IsSharedIn format window.now.bytes) }
     ensures visits { Pays 3 result visits.old (6 * owners.old.waiting + debt owners.old.blocks.entries) visits.new (6 * owners.new.waiting + debt owners.new.blocks.entries) }
 {
-    match mark_storage(window, owners, at, visits) {
+    match mark_storage(window, owners, value, visits) {
         Err(class) => Err(class),
-        Ok(()) => mark_texts(window, owners, at, visits),
+        Ok(()) => mark_texts(window, owners, value, visits),
     }
 }
 
@@ -104,30 +104,28 @@ fn mark_value(
     window: &ImageWindow,
     owners: &mut Owners,
     kind: Kind,
-    at: u64,
+    value: Value,
     visits: &mut Visits,
 ) -> Result<(), ImageClass>
     ghost format: { ℕ }
     requires tiles { HasTiles window.now.bytes }
     requires marking { IsMarkingOf format window.now.bytes None owners.old.blocks.entries owners.old.pending owners.old.waiting }
-    requires ready { IsValueReady format window.now.bytes kind at owners.old.blocks.entries }
+    requires ready { IsValueReady format window.now.bytes kind value.at owners.old.blocks.entries }
     ensures noted { MatchResult result
-        (λ done. IsValueGrown format window.now.bytes kind at owners.old.blocks.entries owners.old.waiting owners.new.blocks.entries owners.new.pending owners.new.waiting)
+        (λ done. IsValueGrown format window.now.bytes kind value.at owners.old.blocks.entries owners.old.waiting owners.new.blocks.entries owners.new.pending owners.new.waiting)
         (IsSharedIn format window.now.bytes) }
     ensures visits { Pays 3 result visits.old (6 * owners.old.waiting + debt owners.old.blocks.entries) visits.new (6 * owners.new.waiting + debt owners.new.blocks.entries) }
 {
     match kind {
         Kind::Scalar(_) => Ok(()),
-        Kind::Map(_, _) => mark(
-            owners,
-            Role::Node,
-            Owner { at, root: at },
-            window.load(at),
-            visits,
-        ),
-        Kind::Text => mark_storage(window, owners, at, visits),
-        Kind::Vector(_) => mark_storage(window, owners, at, visits),
-        Kind::Texts => mark_array(window, owners, at, visits),
+        Kind::Map(_, _) => {
+            let at = value.at();
+            let owner = Owner { at, root: at };
+            mark(owners, Role::Node, owner, value.link(window), visits)
+        }
+        Kind::Text => mark_storage(window, owners, value, visits),
+        Kind::Vector(_) => mark_storage(window, owners, value, visits),
+        Kind::Texts => mark_array(window, owners, value, visits),
     }
 }
 
@@ -157,13 +155,9 @@ fn mark_object(
     if !is_object(tile) {
         return Ok(());
     }
-    visits.visit();
-    let object = tile.offset + TAG;
+    let object = Object::visit(tile.offset + TAG, visits);
     match kind_of(format, window, object) {
-        Some(kind) => {
-            let at = value_of(window, object);
-            mark_value(window, owners, kind, at, visits)
-        }
+        Some(kind) => mark_value(window, owners, kind, object.value(window), visits),
         None => Ok(()),
     }
 }

@@ -5,8 +5,8 @@ ghost use Rattle.seg_types.specs.Kinds.{size_of};
 ghost use Rattle.image_check.specs.ObjectTests.{are_spellings as spell_values};
 ghost use Rattle.image_check.specs.Visits.{Adds};
 
+use crate::checking::Visits;
 use crate::image_window::ImageWindow;
-use crate::visits::Visits;
 use seg_types::ScalarKind;
 
 /// Whether the `count` elements of a kind from `start` on spell values of it. One visit for each.

@@ -5,9 +5,9 @@ ghost use Rattle.image_check.specs.OlderFormats.{FindsWithoutTree, is_plain as i
 ghost use Rattle.image_check.specs.Passes.{HasTiles, Spends, tiles_in};
 ghost use Rattle.image_check.specs.Visits.{tag_rates};
 
+use crate::checking::Visits;
 use crate::classes::ImageClass;
 use crate::image_window::ImageWindow;
-use crate::visits::Visits;
 use best_fit::FREE_TREE;
 use block_tags::Tile;
 use offset_link::NULL;
@@ -28,7 +28,7 @@ pub(crate) fn check_without_tree(
     if !are_plain(window, visits) {
         return Err(ImageClass::BadTag);
     }
-    if window.read_u64(FREE_TREE) != NULL {
+    if window.header_word(FREE_TREE) != NULL {
         return Err(ImageClass::BadFreeTree);
     }
     Ok(())

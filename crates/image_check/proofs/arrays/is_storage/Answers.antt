@@ -12,9 +12,9 @@ pub are_spellings-requires-clause-inside : goal.are_spellings-requires-clause-in
 are_spellings-requires-clause-inside c =
     let b = c.args.window.now.bytes in
     let each = size_of c.args.kind in
-    let there = storage-read b c.args.blocks.now.entries c.args.at each c.read_u64-capacity.result c.in-Some.block c.load-link.result c.is_table.result c.requires.tiles c.requires.blocks c.requires.noted
-    c.read_u64-capacity.ensures c.load-link.ensures c.in-Some.is
-    (c.is_table.ensures.value (tiles_in b) c.requires.blocks ∙ ap (λ n. is_table_link (tiles_in b) Storage c.load-link.result n c.read_u64-capacity.result) c.size.ensures) c.if-not-is_table.false in
+    let there = storage-read b c.args.blocks.now.entries c.args.value.at each c.capacity-capacity.result c.in-Some.block c.link-link.result c.is_table.result c.requires.tiles c.requires.blocks c.requires.noted
+    c.capacity-capacity.ensures c.link-link.ensures c.in-Some.is
+    (c.is_table.ensures.value (tiles_in b) c.requires.blocks ∙ ap (λ n. is_table_link (tiles_in b) Storage c.link-link.result n c.capacity-capacity.result) c.size.ensures) c.if-not-is_table.false in
     let inside = there.inside in
     let least = mul-le-mul_left each c.if-len-capacity.false in
     omega arith
@@ -23,12 +23,12 @@ pub returns-in-Some-clause-visits : goal.returns-in-Some-clause-visits
 returns-in-Some-clause-visits c =
     let b = c.args.window.now.bytes in
     let each = size_of c.args.kind in
-    let there = storage-read b c.args.blocks.now.entries c.args.at each c.read_u64-capacity.result c.in-Some.block c.load-link.result c.is_table.result c.requires.tiles c.requires.blocks c.requires.noted
-    c.read_u64-capacity.ensures c.load-link.ensures c.in-Some.is
-    (c.is_table.ensures.value (tiles_in b) c.requires.blocks ∙ ap (λ n. is_table_link (tiles_in b) Storage c.load-link.result n c.read_u64-capacity.result) c.size.ensures) c.if-not-is_table.false in
+    let there = storage-read b c.args.blocks.now.entries c.args.value.at each c.capacity-capacity.result c.in-Some.block c.link-link.result c.is_table.result c.requires.tiles c.requires.blocks c.requires.noted
+    c.capacity-capacity.ensures c.link-link.ensures c.in-Some.is
+    (c.is_table.ensures.value (tiles_in b) c.requires.blocks ∙ ap (λ n. is_table_link (tiles_in b) Storage c.link-link.result n c.capacity-capacity.result) c.size.ensures) c.if-not-is_table.false in
     let paid = there.paid in
     let least = mul-le-mul_left each c.if-len-capacity.false in
-    let few : c.read_u64-len.result ≤ each * c.read_u64-len.result = size-times c.args.kind c.read_u64-len.result in
+    let few : c.len-len.result ≤ each * c.len-len.result = size-times c.args.kind c.len-len.result in
     let first = c.is_table.ensures.visits in
     let second = c.are_spellings.ensures.spends in
     (omega arith, omega arith)

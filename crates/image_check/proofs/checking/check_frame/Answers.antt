@@ -18,11 +18,11 @@ use Rattle.image_check.proofs.checking.check_frame.Goals as goal
 
 pub returns-then-not-has_reserved-clause-finds : goal.returns-then-not-has_reserved-clause-finds
 returns-then-not-has_reserved-clause-finds c =
-    first-reserved c.args.format c.args.window.now c.requires (ap has_reserved (sym c.all_bytes.ensures.all) ∙ sym c.has_reserved.ensures ∙ c.if-not-has_reserved.true)
+    first-reserved c.args.format c.args.window.now c.requires (sym c.has_reserved.ensures ∙ c.if-not-has_reserved.true)
 
 pub returns-then-not-tags-clause-finds : goal.returns-then-not-tags-clause-finds
 returns-then-not-tags-clause-finds c =
-    checked-tags c.args.format c.args.window.now c.requires (ap has_reserved (sym c.all_bytes.ensures.all) ∙ sym c.has_reserved.ensures ∙ c.if-not-has_reserved.false)
+    checked-tags c.args.format c.args.window.now c.requires (sym c.has_reserved.ensures ∙ c.if-not-has_reserved.false)
     (wrong-has_tags c.args.format (bytes_of c.args.window.now.bytes) (length c.args.window.now.bytes) (sym c.check_counted-tags.ensures.good ∙ not-true c.check_counted-tags.result.are_good c.if-not-tags.true))
 
 pub returns-then-not-tags-clause-most : goal.returns-then-not-tags-clause-most
@@ -33,7 +33,7 @@ returns-then-not-has_free_tree-clause-finds c =
     let w = c.args.window.now in
     let some : 0 < c.args.format = (let not_zero = c.if-format-eq0.false in omega arith) in
     let h =
-    later-checked c.args.format w some c.requires (ap has_reserved (sym c.all_bytes.ensures.all) ∙ sym c.has_reserved.ensures ∙ c.if-not-has_reserved.false)
+    later-checked c.args.format w some c.requires (sym c.has_reserved.ensures ∙ c.if-not-has_reserved.false)
     (sym c.check_counted-tags.ensures.good ∙ not-false c.check_counted-tags.result.are_good c.if-not-tags.false) in
     checked-tree c.args.format w h (later-free_tree c.args.format (bytes_of w.bytes) (tiles_in w.bytes) some ∙ sym c.has_free_tree.ensures.value ∙ c.if-not-has_free_tree.true)
 
@@ -42,7 +42,7 @@ returns-then-not-has_free_tree-clause-most c =
     let w = c.args.window.now in
     let some : 0 < c.args.format = (let not_zero = c.if-format-eq0.false in omega arith) in
     let h =
-    later-checked c.args.format w some c.requires (ap has_reserved (sym c.all_bytes.ensures.all) ∙ sym c.has_reserved.ensures ∙ c.if-not-has_reserved.false)
+    later-checked c.args.format w some c.requires (sym c.has_reserved.ensures ∙ c.if-not-has_reserved.false)
     (sym c.check_counted-tags.ensures.good ∙ not-false c.check_counted-tags.result.are_good c.if-not-tags.false) in
     let tiles = checked-tiles c.args.format w h in
     frame-raised w _ _ tiles
@@ -53,19 +53,19 @@ returns-clause-finds c =
     let w = c.args.window.now in
     let some : 0 < c.args.format = (let not_zero = c.if-format-eq0.false in omega arith) in
     let h =
-    later-checked c.args.format w some c.requires (ap has_reserved (sym c.all_bytes.ensures.all) ∙ sym c.has_reserved.ensures ∙ c.if-not-has_reserved.false)
+    later-checked c.args.format w some c.requires (sym c.has_reserved.ensures ∙ c.if-not-has_reserved.false)
     (sym c.check_counted-tags.ensures.good ∙ not-false c.check_counted-tags.result.are_good c.if-not-tags.false) in
     checked-frame c.args.format w h (later-free_tree c.args.format (bytes_of w.bytes) (tiles_in w.bytes) some ∙ sym c.has_free_tree.ensures.value ∙ c.if-not-has_free_tree.false)
 
 pub returns-clause-bytes : goal.returns-clause-bytes
-returns-clause-bytes c = subst (λ (b : List ℕ). IsTrue (are_bytes b)) c.all_bytes.ensures.all c.all_bytes.ensures.bytes
+returns-clause-bytes c = c.hold_bytes.ensures
 
 pub returns-clause-visits : goal.returns-clause-visits
 returns-clause-visits c =
     let w = c.args.window.now in
     let some : 0 < c.args.format = (let not_zero = c.if-format-eq0.false in omega arith) in
     let h =
-    later-checked c.args.format w some c.requires (ap has_reserved (sym c.all_bytes.ensures.all) ∙ sym c.has_reserved.ensures ∙ c.if-not-has_reserved.false)
+    later-checked c.args.format w some c.requires (sym c.has_reserved.ensures ∙ c.if-not-has_reserved.false)
     (sym c.check_counted-tags.ensures.good ∙ not-false c.check_counted-tags.result.are_good c.if-not-tags.false) in
     spend-both w.bytes tag_rates tree_rates 1 50 _ _ _ (tags-spend w _ c.check_counted-tags.result.tags c.check_counted-tags.new.visits (checked-tiles c.args.format w h) c.check_counted-tags.ensures.few c.check_counted-tags.ensures.visits) c.has_free_tree.ensures.visits
 
@@ -97,12 +97,12 @@ returns-then-format-eq0-clause-finds c =
     let k = c.check_without_tree.result in
     subst (λ (f : ℕ). MatchResult k (λ done. IsTrue (has_frame f b)) (λ class. class_of f b ≡ Some class)) (sym c.if-format-eq0.true)
     (treeless-finds w (subst (λ (f : ℕ). HasFront f w) c.if-format-eq0.true c.requires)
-    (ap has_reserved (sym c.all_bytes.ensures.all) ∙ sym c.has_reserved.ensures ∙ c.if-not-has_reserved.false) k c.check_without_tree.ensures.finds)
+    (sym c.has_reserved.ensures ∙ c.if-not-has_reserved.false) k c.check_without_tree.ensures.finds)
 
 pub returns-then-format-eq0-clause-bytes : goal.returns-then-format-eq0-clause-bytes
 returns-then-format-eq0-clause-bytes c =
     on-ok c.check_without_tree.result (IsTrue (are_bytes c.args.window.now.bytes))
-    (subst (λ (b : List ℕ). IsTrue (are_bytes b)) c.all_bytes.ensures.all c.all_bytes.ensures.bytes)
+    (c.hold_bytes.ensures)
 
 pub returns-then-format-eq0-clause-visits : goal.returns-then-format-eq0-clause-visits
 returns-then-format-eq0-clause-visits c =

@@ -1,8 +1,8 @@
-use Rattle.std.proofs.Common.{◌≡◌, sym, ◌∙◌, arith, true, ◌+◌, ◌/◌, inl, inr}
+use Rattle.std.proofs.Common.{◌≡◌, sym, ap, ◌∙◌, arith, true, ◌+◌, ◌/◌, inl, inr}
 use Rattle.std.proofs.lemmas.Bool.{cases_Bool}
 use Rattle.raw_region.specs.Memory.{bytes_of}
 use Rattle.block_tags.specs.declared.tile.Role.TheVariants.{Object}
-use Rattle.image_check.specs.ObjectTests.{is_use}
+use Rattle.image_check.specs.ObjectTests.{is_use, kind_at, value_offset}
 use Rattle.image_check.specs.Containers.{is_scalar}
 use Rattle.image_check.proofs.ContainerWeights.{below-more, below-step, rooted-all}
 use Rattle.image_check.proofs.ObjectValues.{container-room, value-behind, walk-least, walk-object}
@@ -21,14 +21,14 @@ is_right-requires-clause-inside c s =
     let t = c.args.tile in
     let m = bytes_of c.args.window.now.bytes in
     let object : is_use Object t ≡ true = sym c.is_object.ensures ∙ c.if-not-is_object.false in
-    let room = container-room c.args.format m t c.in-Some.kind (c.requires.ready.object object) (sym c.kind_of.ensures ∙ c.in-Some.is) s in
-    let place = c.value_of.ensures in
+    let room = container-room c.args.format m t c.in-Some.kind (c.requires.ready.object object) (ap (kind_at c.args.format m) (sym c.visit-object.ensures.at) ∙ sym c.kind_of.ensures ∙ c.in-Some.is) s in
+    let place : c.value.result.at ≡ value_offset m (t.offset + 16) = c.value.ensures ∙ ap (value_offset m) c.visit-object.ensures.at in
     let high = c.requires.lies.high in
     omega arith
 
 pub is_right-requires-clause-few : goal.is_right-requires-clause-few
 is_right-requires-clause-few c =
-    let all = rooted-all c.value_of.result c.args.blocks.now.entries in
+    let all = rooted-all c.value.result.at c.args.blocks.now.entries in
     let few = c.requires.few in
     omega arith
 
@@ -39,7 +39,7 @@ returns-in-Some-clause-visits c before one =
     let m = bytes_of c.args.window.now.bytes in
     let object : is_use Object t ≡ true = sym c.is_object.ensures ∙ c.if-not-is_object.false in
     let walk = walk-object t object in
-    let two = c.visit.ensures in
+    let two = c.visit-object.ensures.visits in
     let long = c.requires.lies.long in
     let spent = c.is_right.ensures.visits in
     elim (cases_Bool (is_scalar c.in-Some.kind)) [
@@ -48,9 +48,9 @@ returns-in-Some-clause-visits c before one =
           let more = below-more t.offset (t.offset + t.len) es (omega arith) in
           (omega arith, omega arith)
       | inr s ↦
-          let room = container-room c.args.format m t c.in-Some.kind (c.requires.ready.object object) (sym c.kind_of.ensures ∙ c.in-Some.is) s in
+          let room = container-room c.args.format m t c.in-Some.kind (c.requires.ready.object object) (ap (kind_at c.args.format m) (sym c.visit-object.ensures.at) ∙ sym c.kind_of.ensures ∙ c.in-Some.is) s in
           let behind = value-behind m (t.offset + 16) in
-          let place = c.value_of.ensures in
-          let step = below-step t.offset c.value_of.result (t.offset + t.len) es (omega arith) (omega arith) in
+          let place : c.value.result.at ≡ value_offset m (t.offset + 16) = c.value.ensures ∙ ap (value_offset m) c.visit-object.ensures.at in
+          let step = below-step t.offset c.value.result.at (t.offset + t.len) es (omega arith) (omega arith) in
           (omega arith, omega arith)
     ]

@@ -12,9 +12,9 @@ use Rattle.image_check.proofs.free_tree.are_planted.Given as goal
 -- all tiles that the walk has passed are planted in each tree at the root, and the visits to them are counted
 abbrev pub invariant-tiles : goal.invariant-tiles
 invariant-tiles l =
-    ((t : Tree) → IsSearchTree (stands_before (bytes_of l.places.window.now.bytes)) (place_cells l.places.window.now) l.root t
-    → Walks l.places.window.now (λ (ts : List Tile). list_all (is_planted l.places.window.now (nodes_of t)) ts ≡ true) l.tile)
-    × Walks l.places.window.now (λ (ts : List Tile). Within planting_rates l.initial.visits l.visits ts) l.tile
+    ((t : Tree) → IsSearchTree (stands_before (bytes_of l.window.bytes)) (place_cells l.window) l.root t
+    → Walks l.window (λ (ts : List Tile). list_all (is_planted l.window (nodes_of t)) ts ≡ true) l.tile)
+    × Walks l.window (λ (ts : List Tile). Within planting_rates l.initial.visits l.visits ts) l.tile
 
 abbrev pub decreases-tiles : goal.decreases-tiles
-decreases-tiles l = left_from l.places.window.now l.tile
+decreases-tiles l = left_from l.window l.tile

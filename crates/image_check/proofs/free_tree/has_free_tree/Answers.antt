@@ -19,8 +19,8 @@ returns-in_default-clause-value c =
     sym (tree-false w (λ t.
     both_ways (is_bad (length w.bytes) (link_at (bytes_of w.bytes) 24)) (planted w (tagged w c.requires.size c.requires.tags) t).root (sym c.in_default.ensures.err)))
 
-pub check-tree-requires : goal.check-tree-requires
-check-tree-requires c =
+pub check_places-tree-requires : goal.check_places-tree-requires
+check_places-tree-requires c =
     let w = c.args.window.now in
     good-leads w c.in-Ok.root c.requires.size (ap (is_bad (length w.bytes)) c.in-Ok.ensures.ok ∙ sym c.in-Ok.ensures.err)
 
@@ -31,7 +31,7 @@ returns-in_default-nodes-clause-value c =
     sym (tree-false w (λ t.
     let p = planted w (tagged w c.requires.size c.requires.tags) t in
     let s = subst (λ (o : Option ℕ). IsSearchTree (stands_before m) (place_cells w) o p.tree) (sym c.in-Ok.ensures.ok) p.search in
-    c.in_default-nodes.not-Some (length (nodes_of p.tree)) ((c.check-tree.ensures.counts (length (nodes_of p.tree))).1 (p.tree, s, refl))))
+    c.in_default-nodes.not-Some (length (nodes_of p.tree)) ((c.check_places-tree.ensures.counts (length (nodes_of p.tree))).1 (p.tree, s, refl))))
 
 pub are_planted-requires-clause-root : goal.are_planted-requires-clause-root
 are_planted-requires-clause-root c =
@@ -41,7 +41,7 @@ are_planted-requires-clause-root c =
 pub are_planted-requires-clause-tree : goal.are_planted-requires-clause-tree
 are_planted-requires-clause-tree c =
     let w = c.args.window.now in
-    let x = (c.check-tree.ensures.counts c.in-Some.nodes).0 c.in-Some.is in
+    let x = (c.check_places-tree.ensures.counts c.in-Some.nodes).0 c.in-Some.is in
     (x.0, x.1, nodes-few w (length (nodes_of x.0)) (record { size = c.requires.size; tags = c.requires.tags }) (x.2 ∙ c.if-nodes-count_free.true ∙ c.count_free.ensures.value))
 
 pub returns-then-nodes-count_free-clause-value : goal.returns-then-nodes-count_free-clause-value
@@ -49,7 +49,7 @@ returns-then-nodes-count_free-clause-value c =
     let w = c.args.window.now in
     let m = bytes_of w.bytes in
     let g = tagged w c.requires.size c.requires.tags in
-    let x = (c.check-tree.ensures.counts c.in-Some.nodes).0 c.in-Some.is in
+    let x = (c.check_places-tree.ensures.counts c.in-Some.nodes).0 c.in-Some.is in
     elim (cases_Bool c.are_planted.result) [
       | inl e ↦ e ∙ sym (tree-true w
           (unplanted w x.0 g (subst (λ (o : Option ℕ). IsSearchTree (stands_before m) (place_cells w) o x.0) c.in-Ok.ensures.ok x.1)
@@ -68,26 +68,26 @@ returns-else-nodes-count_free-clause-value c =
     ∙ sym (tree-false w (λ t.
     let p = planted w (tagged w c.requires.size c.requires.tags) t in
     let s = subst (λ (o : Option ℕ). IsSearchTree (stands_before m) (place_cells w) o p.tree) (sym c.in-Ok.ensures.ok) p.search in
-    let n = some_same c.in-Some.nodes (length (nodes_of p.tree)) (sym c.in-Some.is ∙ (c.check-tree.ensures.counts (length (nodes_of p.tree))).1 (p.tree, s, refl)) in
+    let n = some_same c.in-Some.nodes (length (nodes_of p.tree)) (sym c.in-Some.is ∙ (c.check_places-tree.ensures.counts (length (nodes_of p.tree))).1 (p.tree, s, refl)) in
     c.if-nodes-count_free.false (n ∙ p.few ∙ sym c.count_free.ensures.value)))
 
 pub returns-in_default-nodes-clause-visits : goal.returns-in_default-nodes-clause-visits
 returns-in_default-nodes-clause-visits c =
     let w = c.args.window.now in
     let good = good-leads w c.in-Ok.root c.requires.size (ap (is_bad (length w.bytes)) c.in-Ok.ensures.ok ∙ sym c.in-Ok.ensures.err) in
-    let steps = check-short w c.in-Ok.root _ c.check-tree.result.steps c.add.new.self (record { size = c.requires.size; tags = c.requires.tags }) good c.check-tree.ensures.steps c.add.ensures in
-    tree-steps w _ c.add.new.self steps
+    let steps = check-short w c.in-Ok.root _ c.check_places-tree.result.steps c.check_places-tree.new.visits (record { size = c.requires.size; tags = c.requires.tags }) good c.check_places-tree.ensures.steps c.check_places-tree.ensures.visits in
+    tree-steps w _ c.check_places-tree.new.visits steps
 
 pub returns-then-nodes-count_free-clause-visits : goal.returns-then-nodes-count_free-clause-visits
 returns-then-nodes-count_free-clause-visits c =
     let w = c.args.window.now in
     let good = good-leads w c.in-Ok.root c.requires.size (ap (is_bad (length w.bytes)) c.in-Ok.ensures.ok ∙ sym c.in-Ok.ensures.err) in
-    let steps = check-short w c.in-Ok.root _ c.check-tree.result.steps c.add.new.self (record { size = c.requires.size; tags = c.requires.tags }) good c.check-tree.ensures.steps c.add.ensures in
-    tree-planted w _ c.add.new.self _ _ steps c.count_free.ensures.visits c.are_planted.ensures.visits
+    let steps = check-short w c.in-Ok.root _ c.check_places-tree.result.steps c.check_places-tree.new.visits (record { size = c.requires.size; tags = c.requires.tags }) good c.check_places-tree.ensures.steps c.check_places-tree.ensures.visits in
+    tree-planted w _ c.check_places-tree.new.visits _ _ steps c.count_free.ensures.visits c.are_planted.ensures.visits
 
 pub returns-else-nodes-count_free-clause-visits : goal.returns-else-nodes-count_free-clause-visits
 returns-else-nodes-count_free-clause-visits c =
     let w = c.args.window.now in
     let good = good-leads w c.in-Ok.root c.requires.size (ap (is_bad (length w.bytes)) c.in-Ok.ensures.ok ∙ sym c.in-Ok.ensures.err) in
-    let steps = check-short w c.in-Ok.root _ c.check-tree.result.steps c.add.new.self (record { size = c.requires.size; tags = c.requires.tags }) good c.check-tree.ensures.steps c.add.ensures in
-    tree-counted w _ c.add.new.self _ steps c.count_free.ensures.visits
+    let steps = check-short w c.in-Ok.root _ c.check_places-tree.result.steps c.check_places-tree.new.visits (record { size = c.requires.size; tags = c.requires.tags }) good c.check_places-tree.ensures.steps c.check_places-tree.ensures.visits in
+    tree-counted w _ c.check_places-tree.new.visits _ steps c.count_free.ensures.visits

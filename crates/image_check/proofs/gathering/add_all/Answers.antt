@@ -1,5 +1,4 @@
 use Rattle.std.proofs.Common.{length, arith}
-use Rattle.indexmap.specs.IndexMap.{spare}
 use Rattle.image_check.proofs.Inside.{legal-small}
 use Rattle.image_check.proofs.WalkedTiles.{at-meets, at-within, tags-IsTiled, walk-at, walk-end, walk-nearer, walk-on, walk-read, walk-start}
 use Rattle.image_check.proofs.Gathered.{Gathering, gathering-absent, gathering-more, gathering-room}
@@ -11,14 +10,14 @@ first-tile-requires c = tags-IsTiled c.args.window.now c.requires.tiles.size c.r
 pub tiles-init : goal.tiles-init
 tiles-init c =
     let w = c.args.window.now in
-    walk-start w (Gathering c.args.visits.now c.args.visits.now (spare c.args.blocks.now) (spare c.args.blocks.now) c.args.blocks.now.entries) c.first-tile.result
+    walk-start w (Gathering c.args.visits.now c.args.visits.now c.args.blocks.now.room c.args.blocks.now.room c.args.blocks.now.entries) c.first-tile.result
     (tags-IsTiled w c.requires.tiles.size c.requires.tiles.tags) c.first-tile.ensures
     (record { entries = c.requires.empty; spare = omega arith; more = omega arith; most = omega arith })
 
 pub add-requires-clause-small : goal.add-requires-clause-small
 add-requires-clause-small c =
     let w = c.args.window.now in
-    let kept = Gathering c.args.visits.now c.tiles.visits (spare c.args.blocks.now) (spare c.tiles.blocks) c.tiles.blocks.entries in
+    let kept = Gathering c.args.visits.now c.tiles.visits c.args.blocks.now.room c.tiles.blocks.room c.tiles.blocks.entries in
     let in_it = at-within w kept c.read-here.result (walk-at w kept c.tiles.tile c.read-here.result c.tiles.invariant (walk-read c.tiles.tile c.in-Some.unread c.read-here.result c.in-Some.is c.read-here.ensures.tile)) in
     let small = legal-small (length w.bytes) c.requires.tiles.size in
     omega arith
@@ -26,46 +25,46 @@ add-requires-clause-small c =
 pub add-requires-clause-absent : goal.add-requires-clause-absent
 add-requires-clause-absent c =
     let w = c.args.window.now in
-    let kept = Gathering c.args.visits.now c.tiles.visits (spare c.args.blocks.now) (spare c.tiles.blocks) c.tiles.blocks.entries in
-    gathering-absent w c.args.visits.now c.tiles.visits (spare c.args.blocks.now) (spare c.tiles.blocks) c.tiles.blocks.entries c.read-here.result
+    let kept = Gathering c.args.visits.now c.tiles.visits c.args.blocks.now.room c.tiles.blocks.room c.tiles.blocks.entries in
+    gathering-absent w c.args.visits.now c.tiles.visits c.args.blocks.now.room c.tiles.blocks.room c.tiles.blocks.entries c.read-here.result
     (walk-at w kept c.tiles.tile c.read-here.result c.tiles.invariant (walk-read c.tiles.tile c.in-Some.unread c.read-here.result c.in-Some.is c.read-here.ensures.tile))
 
 pub add-requires-clause-room : goal.add-requires-clause-room
 add-requires-clause-room c =
     let w = c.args.window.now in
-    let kept = Gathering c.args.visits.now c.tiles.visits (spare c.args.blocks.now) (spare c.tiles.blocks) c.tiles.blocks.entries in
-    gathering-room w c.args.visits.now c.tiles.visits (spare c.args.blocks.now) (spare c.tiles.blocks) c.tiles.blocks.entries c.read-here.result
+    let kept = Gathering c.args.visits.now c.tiles.visits c.args.blocks.now.room c.tiles.blocks.room c.tiles.blocks.entries in
+    gathering-room w c.args.visits.now c.tiles.visits c.args.blocks.now.room c.tiles.blocks.room c.tiles.blocks.entries c.read-here.result
     (walk-at w kept c.tiles.tile c.read-here.result c.tiles.invariant (walk-read c.tiles.tile c.in-Some.unread c.read-here.result c.in-Some.is c.read-here.ensures.tile)) c.requires.room
 
 pub next-tile-requires : goal.next-tile-requires
 next-tile-requires c =
     let w = c.args.window.now in
-    let kept = Gathering c.args.visits.now c.tiles.visits (spare c.args.blocks.now) (spare c.tiles.blocks) c.tiles.blocks.entries in
+    let kept = Gathering c.args.visits.now c.tiles.visits c.args.blocks.now.room c.tiles.blocks.room c.tiles.blocks.entries in
     (at-meets w kept c.read-here.result (walk-at w kept c.tiles.tile c.read-here.result c.tiles.invariant (walk-read c.tiles.tile c.in-Some.unread c.read-here.result c.in-Some.is c.read-here.ensures.tile))).has
 
 pub tiles-smaller : goal.tiles-smaller
 tiles-smaller c =
     let w = c.args.window.now in
-    let kept = Gathering c.args.visits.now c.tiles.visits (spare c.args.blocks.now) (spare c.tiles.blocks) c.tiles.blocks.entries in
+    let kept = Gathering c.args.visits.now c.tiles.visits c.args.blocks.now.room c.tiles.blocks.room c.tiles.blocks.entries in
     walk-nearer w kept c.tiles.tile c.read-here.result c.next-tile.result (walk-at w kept c.tiles.tile c.read-here.result c.tiles.invariant (walk-read c.tiles.tile c.in-Some.unread c.read-here.result c.in-Some.is c.read-here.ensures.tile)) (walk-read c.tiles.tile c.in-Some.unread c.read-here.result c.in-Some.is c.read-here.ensures.tile) c.next-tile.ensures
 
 pub tiles-preserved : goal.tiles-preserved
 tiles-preserved c =
     let w = c.args.window.now in
-    let kept = Gathering c.args.visits.now c.tiles.visits (spare c.args.blocks.now) (spare c.tiles.blocks) c.tiles.blocks.entries in
+    let kept = Gathering c.args.visits.now c.tiles.visits c.args.blocks.now.room c.tiles.blocks.room c.tiles.blocks.entries in
     let seen = c.read-here.ensures.visits in
     let lo = c.add.ensures.visits.0 in
     let hi = c.add.ensures.visits.1 in
-    walk-on w kept (Gathering c.args.visits.now c.add.new.visits (spare c.args.blocks.now) (spare c.add.new.blocks) c.add.new.blocks.entries) c.read-here.result c.next-tile.result
+    walk-on w kept (Gathering c.args.visits.now c.add.new.visits c.args.blocks.now.room c.add.new.blocks.room c.add.new.blocks.entries) c.read-here.result c.next-tile.result
     (walk-at w kept c.tiles.tile c.read-here.result c.tiles.invariant (walk-read c.tiles.tile c.in-Some.unread c.read-here.result c.in-Some.is c.read-here.ensures.tile)) c.next-tile.ensures
-    (λ front k. gathering-more c.args.visits.now c.tiles.visits (spare c.args.blocks.now) (spare c.tiles.blocks) c.tiles.blocks.entries front c.read-here.result c.add.new.visits (spare c.add.new.blocks) c.add.new.blocks.entries k
+    (λ front k. gathering-more c.args.visits.now c.tiles.visits c.args.blocks.now.room c.tiles.blocks.room c.tiles.blocks.entries front c.read-here.result c.add.new.visits c.add.new.blocks.room c.add.new.blocks.entries k
     (omega arith) (omega arith) c.add.ensures.entries c.add.ensures.room)
 
 pub returns-clause-entries : goal.returns-clause-entries
 returns-clause-entries c =
-    (walk-end c.args.window.now (Gathering c.args.visits.now c.tiles.visits (spare c.args.blocks.now) (spare c.tiles.blocks) c.tiles.blocks.entries) c.tiles.tile c.tiles.invariant c.in_default.not-Some).entries
+    (walk-end c.args.window.now (Gathering c.args.visits.now c.tiles.visits c.args.blocks.now.room c.tiles.blocks.room c.tiles.blocks.entries) c.tiles.tile c.tiles.invariant c.in_default.not-Some).entries
 
 pub returns-clause-visits : goal.returns-clause-visits
 returns-clause-visits c =
-    let all = walk-end c.args.window.now (Gathering c.args.visits.now c.tiles.visits (spare c.args.blocks.now) (spare c.tiles.blocks) c.tiles.blocks.entries) c.tiles.tile c.tiles.invariant c.in_default.not-Some in
+    let all = walk-end c.args.window.now (Gathering c.args.visits.now c.tiles.visits c.args.blocks.now.room c.tiles.blocks.room c.tiles.blocks.entries) c.tiles.tile c.tiles.invariant c.in_default.not-Some in
     (all.more, all.most)

@@ -11,7 +11,7 @@ use Rattle.image_check.proofs.indexes.enter_index.Goals.{In-Some}
 room : (c : In-Some) → IsIndexRoom (tiles_in c.args.window.now.bytes) c.in-Some.block (word_at (bytes_of c.args.window.now.bytes) (c.args.at + 8))
 room c =
     let w = c.args.window.now in
-    room-of (bytes_of w.bytes) (tiles_in w.bytes) c.args.at c.in-Some.block (sym c.has_places.ensures.is ∙ c.if-not-has_places.false) (sym c.load.ensures ∙ c.in-Some.is)
+    room-of (bytes_of w.bytes) (tiles_in w.bytes) c.args.at c.in-Some.block (sym c.has_places.ensures.is ∙ c.if-not-has_places.false) (sym c.header_link.ensures ∙ c.in-Some.is)
 
 pub enter_all-requires-clause-aligned : goal.enter_all-requires-clause-aligned
 enter_all-requires-clause-aligned c =
@@ -30,7 +30,7 @@ enter_all-requires-clause-inside c =
     let in_it = i.within in
     let at = r.at in
     let long = r.room in
-    let count = c.read_u64.ensures in
+    let count = c.header_word.ensures in
     omega arith
 
 pub returns-in-Some-clause-spends : goal.returns-in-Some-clause-spends
@@ -39,7 +39,7 @@ returns-in-Some-clause-spends c =
     let r = room (goal.at.returns-in-Some-clause-spends c).In-Some in
     let weight : 12 * (r.tile.len / 16) ≤ weigh index_rates (tiles_in w.bytes) = weigh-one index_rates (tiles_in w.bytes) r.tile Index r.mem r.use_of in
     let long = r.room in
-    let count = c.read_u64.ensures in
+    let count = c.header_word.ensures in
     let a = c.has_places.ensures.spends in
     let b = c.enter_all.ensures.spends in
     (omega arith, omega arith)

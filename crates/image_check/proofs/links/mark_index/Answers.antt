@@ -19,9 +19,9 @@ returns-clause-noted g c =
     let b = c.args.window.now.bytes in
     let o = c.args.owners.now in
     let n = c.mark.new.owners in
-    let some : 0 < index_capacity (bytes_of b) c.args.at = let e = c.read_u64.ensures in let d = c.if-read_u64-eq0.false in omega (arith, e, d) in
+    let some : 0 < index_capacity (bytes_of b) c.args.at = let e = c.header_word.ensures in let d = c.if-header_word-eq0.false in omega (arith, e, d) in
     map-ok (λ done. IsMarked g.format (bytes_of b) (tiles_in b) None Index (owner c.args.at c.args.at) o.blocks.entries o.waiting n.blocks.entries n.pending n.waiting)
     (λ done. IsIndexNoted g.format b c.args.at o.blocks.entries o.waiting n.blocks.entries n.pending n.waiting) (IsSharedIn g.format b) c.mark.result
     (λ x d. marked-index g.format b o.blocks.entries o.waiting n.blocks.entries n.pending n.waiting c.args.at d)
-    (c.mark.ensures.marked g.format (bytes_of b) (tiles_in b) None c.requires.1.1 c.load.ensures (index-may g.format (bytes_of b) (tiles_in b) c.args.at c.requires.1.0 some)
+    (c.mark.ensures.marked g.format (bytes_of b) (tiles_in b) None c.requires.1.1 c.header_link.ensures (index-may g.format (bytes_of b) (tiles_in b) c.args.at c.requires.1.0 some)
     (inl (index-start b c.args.at c.requires.0 c.requires.1.0, refl)))

@@ -1,13 +1,12 @@
-use Rattle.std.proofs.Common.{◌+◌, ◌<◌, None, arith}
+use Rattle.std.proofs.Common.{◌+◌, ◌<◌, None, arith, refl, subst}
 use mathlib.Core.Logic.{inl}
-use Rattle.std.proofs.Common.{refl}
 use Rattle.raw_region.specs.Memory.{bytes_of, word_at}
 use Rattle.block_tags.specs.declared.tile.Role.TheVariants.{Storage}
 use Rattle.image_check.specs.Owners.{IsMarked, IsSharedIn, owner}
 use Rattle.image_check.specs.Passes.{tiles_in}
 use Rattle.image_check.specs.Sharing.{IsStorageNoted}
 use Rattle.image_check.proofs.Following.{map-ok}
-use Rattle.image_check.proofs.NotedLinks.{few-wait, marked-storage}
+use Rattle.image_check.proofs.NotedLinks.{Marks, few-wait, marked-storage}
 use Rattle.image_check.proofs.links.mark_storage.Goals as goal
 
 pub mark-requires-clause-room : goal.mark-requires-clause-room
@@ -16,11 +15,12 @@ mark-requires-clause-room g c = few-wait g.format c.args.window.now.bytes None c
 pub returns-clause-noted : goal.returns-clause-noted
 returns-clause-noted g c =
     let b = c.args.window.now.bytes in
+    let at = c.args.value.at in
     let o = c.args.owners.now in
     let n = c.mark.new.owners in
-    let some : 0 < word_at (bytes_of b) (c.args.at + 16) = let e = c.read_u64.ensures in let d = c.if-read_u64-eq0.false in omega (arith, e, d) in
+    let some : 0 < word_at (bytes_of b) (at + 16) = let e = c.capacity.ensures in let d = c.if-capacity-eq0.false in omega (arith, e, d) in
     let start = c.requires.1.1.1.1 some in
-    map-ok (λ done. IsMarked g.format (bytes_of b) (tiles_in b) None Storage (owner c.args.at c.args.at) o.blocks.entries o.waiting n.blocks.entries n.pending n.waiting)
-    (λ done. IsStorageNoted g.format b c.args.at o.blocks.entries o.waiting n.blocks.entries n.pending n.waiting) (IsSharedIn g.format b) c.mark.result
-    (λ x d. marked-storage g.format b o.blocks.entries o.waiting n.blocks.entries n.pending n.waiting c.args.at d)
-    (c.mark.ensures.marked g.format (bytes_of b) (tiles_in b) None c.requires.1.0 c.load.ensures start.1 (inl (start.0, refl)))
+    let marks = subst (Marks g.format b Storage c.link.result o.blocks.entries o.waiting n.blocks.entries n.pending n.waiting c.mark.result) c.at-at.ensures (c.mark.ensures.marked g.format (bytes_of b) (tiles_in b) None c.requires.1.0) in
+    map-ok (λ done. IsMarked g.format (bytes_of b) (tiles_in b) None Storage (owner at at) o.blocks.entries o.waiting n.blocks.entries n.pending n.waiting)
+    (λ done. IsStorageNoted g.format b at o.blocks.entries o.waiting n.blocks.entries n.pending n.waiting) (IsSharedIn g.format b) c.mark.result
+    (λ x d. marked-storage g.format b o.blocks.entries o.waiting n.blocks.entries n.pending n.waiting at d) (marks c.link.ensures start.1 (inl (start.0, refl)))

@@ -6,15 +6,15 @@ use Rattle.image_check.proofs.object_walk.is_object.Goals as goal
 
 pub returns-then-not-has_room-clause-is : goal.returns-then-not-has_room-clause-is
 returns-then-not-has_room-clause-is c =
-    no-room c.args.format (bytes_of c.args.window.now.bytes) c.args.at c.args.end c.in-Some.kind (sym c.in-Some.is ∙ c.kind_of.ensures) (c.read_u64-count.result / 4294967296) c.value_of-start.result
-    (ap (λ n. n / 4294967296) c.read_u64-count.ensures) c.value_of-start.ensures (sym c.has_room.ensures ∙ c.if-not-has_room.true)
+    no-room c.args.format (bytes_of c.args.window.now.bytes) c.args.object.at c.args.end c.in-Some.kind (sym c.in-Some.is ∙ c.kind_of.ensures) c.count-count.result c.at-start.result
+    c.count-count.ensures.count (c.at-start.ensures ∙ c.value.ensures) (sym c.has_room.ensures ∙ c.if-not-has_room.true)
 
 pub has_room-requires : goal.has_room-requires
 has_room-requires c =
     let m = bytes_of c.args.window.now.bytes in
-    let e : c.value_of-start.result ≡ c.args.at + 16 + (word_at m (c.args.at + 8) % 4294967296 + 7) / 8 * 8 = c.value_of-start.ensures in
+    let e : c.at-start.result ≡ c.args.object.at + 16 + (word_at m (c.args.object.at + 8) % 4294967296 + 7) / 8 * 8 = c.at-start.ensures ∙ c.value.ensures in
     omega arith
 
 pub has_spellings-requires-clause-room : goal.has_spellings-requires-clause-room
 has_spellings-requires-clause-room c =
-    room-wider c.in-Some.kind (c.read_u64-count.result / 4294967296) c.value_of-start.result c.args.end (length c.args.window.now.bytes) (sym c.has_room.ensures ∙ c.if-not-has_room.false) c.requires.inside
+    room-wider c.in-Some.kind c.count-count.result c.at-start.result c.args.end (length c.args.window.now.bytes) (sym c.has_room.ensures ∙ c.if-not-has_room.false) c.requires.inside

@@ -3,9 +3,9 @@ use Rattle.raw_region.specs.Format.{current}
 use Rattle.image_check.proofs.Refused.{refused}
 use Rattle.image_check.proofs.opening.open.Goals as goal
 
-pub check-checked-requires-clause-front : goal.check-checked-requires-clause-front
+pub check-requires-clause-front : goal.check-requires-clause-front
 unfolding current
-check-checked-requires-clause-front g c = c.in_ok-window.ensures.reads.front
+check-requires-clause-front g c = c.in_ok-window.ensures.reads.front
 
 pub adopt-requires : goal.adopt-requires
 unfolding current

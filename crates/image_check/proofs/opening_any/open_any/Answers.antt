@@ -1,26 +1,34 @@
 use Rattle.raw_region.specs.Device.{given_since}
-use Rattle.std.proofs.Common.{ap, subst, ◌∙◌}
+use Rattle.std.proofs.Common.{subst, arith}
 use Rattle.raw_region.specs.Memory.{Cut, SamePlace}
 use Rattle.std.proofs.lemmas.Result.{err_from_is_err_and}
-use Rattle.image_check.specs.Formats.{version_word}
+use Rattle.image_check.specs.Formats.{format_of}
 use Rattle.image_check.specs.OpeningAny.{IsRenewed}
 use Rattle.image_check.proofs.OpenedAny.{opened-any, read-few, read-front, refused-any, renewed-segment, unread-any}
+use Rattle.image_check.proofs.Filled.{HasFront-IsRight}
+use Rattle.image_check.proofs.ReadFormats.{version-part}
 use Rattle.image_check.proofs.opening_any.open_any.Goals as goal
 
-pub check-checked-requires-clause-format : goal.check-checked-requires-clause-format
-check-checked-requires-clause-format g c =
-    read-few (given_since (g.S.Source.history c.args.reader.now) (g.S.Source.history c.read_image.new.reader)) c.args.region c.args.base c.in_ok-window.window
-    c.in_ok-window.ensures.reads c.version_in-format.result (c.version_in-format.ensures ∙ ap version_word c.all_bytes.ensures.all)
+pub header-requires-clause-inside : goal.header-requires-clause-inside
+header-requires-clause-inside g c =
+    let given = given_since (g.S.Source.history c.args.reader.now) (g.S.Source.history c.read_image.new.reader) in
+    let long = (HasFront-IsRight (format_of given.bytes) c.in_ok-window.window c.in_ok-window.ensures.reads.front).long in
+    omega arith
 
-pub check-checked-requires-clause-front : goal.check-checked-requires-clause-front
-check-checked-requires-clause-front g c =
+pub check-requires-clause-format : goal.check-requires-clause-format
+check-requires-clause-format g c =
+    read-few (given_since (g.S.Source.history c.args.reader.now) (g.S.Source.history c.read_image.new.reader)) c.args.region c.args.base c.in_ok-window.window
+    c.in_ok-window.ensures.reads c.version_in-format.result (version-part c.in_ok-window.window.bytes c.header.result.now c.version_in-format.result c.version_in-format.ensures c.header.ensures.bytes c.header.ensures.len)
+
+pub check-requires-clause-front : goal.check-requires-clause-front
+check-requires-clause-front g c =
     read-front (given_since (g.S.Source.history c.args.reader.now) (g.S.Source.history c.read_image.new.reader)) c.args.region c.args.base c.in_ok-window.window
-    c.in_ok-window.ensures.reads c.version_in-format.result (c.version_in-format.ensures ∙ ap version_word c.all_bytes.ensures.all)
+    c.in_ok-window.ensures.reads c.version_in-format.result (version-part c.in_ok-window.window.bytes c.header.result.now c.version_in-format.result c.version_in-format.ensures c.header.ensures.bytes c.header.ensures.len)
 
 pub renew-requires-clause-format : goal.renew-requires-clause-format
 renew-requires-clause-format g c =
     read-few (given_since (g.S.Source.history c.args.reader.now) (g.S.Source.history c.read_image.new.reader)) c.args.region c.args.base c.in_ok-window.window
-    c.in_ok-window.ensures.reads c.version_in-format.result (c.version_in-format.ensures ∙ ap version_word c.all_bytes.ensures.all)
+    c.in_ok-window.ensures.reads c.version_in-format.result (version-part c.in_ok-window.window.bytes c.header.result.now c.version_in-format.result c.version_in-format.ensures c.header.ensures.bytes c.header.ensures.len)
 
 pub returns-in_err-window-clause-opens : goal.returns-in_err-window-clause-opens
 returns-in_err-window-clause-opens g c =
@@ -42,11 +50,11 @@ returns-in-Ok-clause-opens g c =
     let place = subst (λ (v : Cut). SamePlace v to) window c.renew.ensures.place in
     let renewed = subst (λ (v : Cut). IsRenewed c.version_in-format.result v.bytes to.bytes) window c.renew.ensures.renewed in
     opened-any (given_since (g.S.Source.history c.args.reader.now) (g.S.Source.history c.read_image.new.reader)) c.args.region c.args.base c.in_ok-window.window
-    c.in_ok-window.ensures.reads c.version_in-format.result (c.version_in-format.ensures ∙ ap version_word c.all_bytes.ensures.all)
+    c.in_ok-window.ensures.reads c.version_in-format.result (version-part c.in_ok-window.window.bytes c.header.result.now c.version_in-format.result c.version_in-format.ensures c.header.ensures.bytes c.header.ensures.len)
     c.args.mode c.renew.result c.adopt.result c.in-Ok.ensures.answers place renewed c.adopt.ensures.cut c.adopt.ensures.mode
 
 pub returns-in-Err-clause-opens : goal.returns-in-Err-clause-opens
 returns-in-Err-clause-opens g c =
     refused-any (given_since (g.S.Source.history c.args.reader.now) (g.S.Source.history c.read_image.new.reader)) c.args.region c.args.base c.in_ok-window.window
-    c.in_ok-window.ensures.reads c.version_in-format.result (c.version_in-format.ensures ∙ ap version_word c.all_bytes.ensures.all)
+    c.in_ok-window.ensures.reads c.version_in-format.result (version-part c.in_ok-window.window.bytes c.header.result.now c.version_in-format.result c.version_in-format.ensures c.header.ensures.bytes c.header.ensures.len)
     c.args.mode c.in-Err.why c.into_cause.result c.into_region.result c.in-Err.ensures.answers c.into_cause.ensures c.into_region.ensures

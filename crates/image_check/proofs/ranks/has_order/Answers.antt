@@ -12,7 +12,7 @@ use Rattle.image_check.proofs.ranks.has_order.Goals as goal
 use Rattle.image_check.proofs.ranks.has_order.Goals.{In-Some}
 
 leads : (c : In-Some) → link_at (bytes_of c.args.window.now.bytes) c.args.at ≡ Some c.in-Some.block
-leads c = sym c.load.ensures ∙ c.in-Some.is
+leads c = sym c.header_link.ensures ∙ c.in-Some.is
 
 room : (c : In-Some) → IsIndexRoom (tiles_in c.args.window.now.bytes) c.in-Some.block (word_at (bytes_of c.args.window.now.bytes) (c.args.at + 8))
 room c = let b = c.args.window.now.bytes in index-room (bytes_of b) (tiles_in b) c.args.at c.in-Some.block c.requires.index (leads c)
@@ -34,19 +34,19 @@ rise-requires-clause-inside c =
     let in_it = i.within in
     let at = r.at in
     let long = r.room in
-    let count = c.read_u64.ensures in
+    let count = c.header_word.ensures in
     omega arith
 
 pub rise-requires-clause-links : goal.rise-requires-clause-links
 rise-requires-clause-links c i l =
     let b = c.args.window.now.bytes in
-    let count = c.read_u64.ensures in
+    let count = c.header_word.ensures in
     entry-some (bytes_of b) (tiles_in b) c.args.at c.in-Some.block c.requires.index (leads (goal.at.rise-requires-clause-links c).In-Some) i (omega arith)
 
 pub rise-requires-clause-heads : goal.rise-requires-clause-heads
 rise-requires-clause-heads c i n l e =
     let b = c.args.window.now.bytes in
-    let count = c.read_u64.ensures in
+    let count = c.header_word.ensures in
     c.requires.heads n (entry-among (bytes_of b) (tiles_in b) c.args.at c.in-Some.block c.requires.index (leads (goal.at.rise-requires-clause-heads c).In-Some) i n (omega arith) e)
 
 pub returns-in-Some-clause-spends : goal.returns-in-Some-clause-spends
@@ -55,6 +55,6 @@ returns-in-Some-clause-spends c =
     let r = room (goal.at.returns-in-Some-clause-spends c).In-Some in
     let weight : 12 * (r.tile.len / 16) ≤ weigh entry_rates (tiles_in w.bytes) = weigh-one entry_rates (tiles_in w.bytes) r.tile Index r.mem r.use_of in
     let long = r.room in
-    let count = c.read_u64.ensures in
+    let count = c.header_word.ensures in
     let a = c.rise.ensures.spends in
     (omega arith, omega arith)

@@ -7,7 +7,7 @@ use Rattle.image_check.specs.Owners.{IsMarked, IsSharedIn, debt, owner}
 use Rattle.image_check.specs.Passes.{tiles_in}
 use Rattle.image_check.specs.Sharing.{IsStorageNoted, IsValueGrown, IsValueReady, has_link}
 use Rattle.image_check.proofs.Following.{map-ok}
-use Rattle.image_check.proofs.NotedLinks.{few-wait}
+use Rattle.image_check.proofs.NotedLinks.{Marks, few-wait}
 use Rattle.image_check.proofs.NotedValues.{map-value, pays-from, root-may, storage-may, text-value, vector-value}
 use Rattle.image_check.proofs.sharing.mark_value.Goals as goal
 
@@ -18,49 +18,51 @@ pub mark_storage-requires : goal.mark_storage-requires
 mark_storage-requires g c =
     let ready = c.requires.1.1 in
     let is = c.in-Text.is in
-    (c.requires.0, (c.requires.1.0, (ready.inside (ap has_link is), (ready.aligned, storage-may g.format c.args.window.now.bytes c.args.kind c.args.at c.args.owners.now.blocks.entries ready (ap has_storage is) (ap has_link is)))))
+    (c.requires.0, (c.requires.1.0, (ready.inside (ap has_link is), (ready.aligned, storage-may g.format c.args.window.now.bytes c.args.kind c.args.value.at c.args.owners.now.blocks.entries ready (ap has_storage is) (ap has_link is)))))
 
 pub mark_storage-requires-in-Vector : goal.mark_storage-requires-in-Vector
 mark_storage-requires-in-Vector g c =
     let ready = c.requires.1.1 in
     let is = c.in-Vector.is in
-    (c.requires.0, (c.requires.1.0, (ready.inside (ap has_link is), (ready.aligned, storage-may g.format c.args.window.now.bytes c.args.kind c.args.at c.args.owners.now.blocks.entries ready (ap has_storage is) (ap has_link is)))))
+    (c.requires.0, (c.requires.1.0, (ready.inside (ap has_link is), (ready.aligned, storage-may g.format c.args.window.now.bytes c.args.kind c.args.value.at c.args.owners.now.blocks.entries ready (ap has_storage is) (ap has_link is)))))
 
 pub returns-in-Map-clause-noted : goal.returns-in-Map-clause-noted
 returns-in-Map-clause-noted g c =
     let b = c.args.window.now.bytes in
-    let at = c.args.at in
+    let at = c.args.value.at in
     let o = c.args.owners.now in
     let m = c.mark.new.owners in
     let ready = c.requires.1.1 in
     let is = c.in-Map.is in
+    let marks = subst (Marks g.format b Node c.link.result o.blocks.entries o.waiting m.blocks.entries m.pending m.waiting c.mark.result) c.at-at.ensures (c.mark.ensures.marked g.format (bytes_of b) (tiles_in b) None c.requires.1.0) in
     map-ok (λ x. IsMarked g.format (bytes_of b) (tiles_in b) None Node (owner at at) o.blocks.entries o.waiting m.blocks.entries m.pending m.waiting)
     (λ x. IsValueGrown g.format b c.args.kind at o.blocks.entries o.waiting m.blocks.entries m.pending m.waiting) (IsSharedIn g.format b) c.mark.result
     (λ x d. subst (λ k. IsValueGrown g.format b k at o.blocks.entries o.waiting m.blocks.entries m.pending m.waiting) (sym is)
     (map-value g.format b at o.blocks.entries o.waiting m.blocks.entries m.pending m.waiting c.in-Map.field-0 c.in-Map.field-1 d))
-    (c.mark.ensures.marked g.format (bytes_of b) (tiles_in b) None c.requires.1.0 c.load.ensures
+    (marks c.link.ensures
     (root-may g.format b c.in-Map.field-0 c.in-Map.field-1 at o.blocks.entries (subst (λ k. IsValueReady g.format b k at o.blocks.entries) is ready)) (inl (ready.start (ap has_link is), refl)))
 
 pub returns-in-Map-clause-visits : goal.returns-in-Map-clause-visits
 returns-in-Map-clause-visits g c =
     let b = c.args.window.now.bytes in
-    let at = c.args.at in
+    let at = c.args.value.at in
     let o = c.args.owners.now in
     let m = c.mark.new.owners in
     let ready = c.requires.1.1 in
     let is = c.in-Map.is in
     let lo = c.mark.ensures.visits.0 in
     let hi = c.mark.ensures.visits.1 in
+    let marks = subst (Marks g.format b Node c.link.result o.blocks.entries o.waiting m.blocks.entries m.pending m.waiting c.mark.result) c.at-at.ensures (c.mark.ensures.marked g.format (bytes_of b) (tiles_in b) None c.requires.1.0) in
     pays-from (λ x. IsMarked g.format (bytes_of b) (tiles_in b) None Node (owner at at) o.blocks.entries o.waiting m.blocks.entries m.pending m.waiting) (IsSharedIn g.format b)
     3 c.mark.result c.args.visits.now (6 * o.waiting + debt o.blocks.entries) c.mark.new.visits (6 * m.waiting + debt m.blocks.entries)
-    (c.mark.ensures.marked g.format (bytes_of b) (tiles_in b) None c.requires.1.0 c.load.ensures
+    (marks c.link.ensures
     (root-may g.format b c.in-Map.field-0 c.in-Map.field-1 at o.blocks.entries (subst (λ k. IsValueReady g.format b k at o.blocks.entries) is ready)) (inl (ready.start (ap has_link is), refl)))
     (omega arith) (omega arith) (λ x d. d.less)
 
 pub returns-in-Text-clause-noted : goal.returns-in-Text-clause-noted
 returns-in-Text-clause-noted g c =
     let b = c.args.window.now.bytes in
-    let at = c.args.at in
+    let at = c.args.value.at in
     let o = c.args.owners.now in
     let m = c.mark_storage.new.owners in
     map-ok (λ x. IsStorageNoted g.format b at o.blocks.entries o.waiting m.blocks.entries m.pending m.waiting)
@@ -71,7 +73,7 @@ returns-in-Text-clause-noted g c =
 pub returns-in-Vector-clause-noted : goal.returns-in-Vector-clause-noted
 returns-in-Vector-clause-noted g c =
     let b = c.args.window.now.bytes in
-    let at = c.args.at in
+    let at = c.args.value.at in
     let o = c.args.owners.now in
     let m = c.mark_storage-in-Vector.new.owners in
     map-ok (λ x. IsStorageNoted g.format b at o.blocks.entries o.waiting m.blocks.entries m.pending m.waiting)

@@ -8,16 +8,16 @@ pub returns-then-not-are_plain-clause-finds : goal.returns-then-not-are_plain-cl
 returns-then-not-are_plain-clause-finds c =
     inl (refl, plain-tiles c.args.window.now.bytes c.requires.tiles ∙ sym c.are_plain.ensures.value ∙ c.if-not-are_plain.true)
 
-pub returns-then-read_u64-ne-NULL-clause-finds : goal.returns-then-read_u64-ne-NULL-clause-finds
-returns-then-read_u64-ne-NULL-clause-finds c =
+pub returns-then-header_word-ne-NULL-clause-finds : goal.returns-then-header_word-ne-NULL-clause-finds
+returns-then-header_word-ne-NULL-clause-finds c =
     inr (
       refl,
       plain-tiles c.args.window.now.bytes c.requires.tiles ∙ sym c.are_plain.ensures.value ∙ c.if-not-are_plain.false,
-      ne_eqb (word_at (bytes_of c.args.window.now.bytes) 24) 1 (λ e. c.if-read_u64-ne-NULL.true (c.read_u64.ensures ∙ e)),
+      ne_eqb (word_at (bytes_of c.args.window.now.bytes) 24) 1 (λ e. c.if-header_word-ne-NULL.true (c.header_word.ensures ∙ e)),
     )
 
 pub returns-clause-finds : goal.returns-clause-finds
 returns-clause-finds c = record {
   tags = plain-tiles c.args.window.now.bytes c.requires.tiles ∙ sym c.are_plain.ensures.value ∙ c.if-not-are_plain.false;
-  no_tree = eq-eqb (word_at (bytes_of c.args.window.now.bytes) 24) 1 (sym c.read_u64.ensures ∙ c.if-read_u64-ne-NULL.false);
+  no_tree = eq-eqb (word_at (bytes_of c.args.window.now.bytes) 24) 1 (sym c.header_word.ensures ∙ c.if-header_word-ne-NULL.false);
 }

@@ -1,0 +1,145 @@
+//! Objects that were visited, each with its head, its name, the padding behind it and the three words of its value.
+ghost use Rattle.std.specs.Prelude.{◌≡◌, ◌+◌, ◌%◌, ◌^◌, ◌<◌, ◌≤◌, length};
+ghost use Rattle.raw_region.specs.Memory.{bytes_of, word_at};
+ghost use Rattle.offset_link.specs.Link.{link_at};
+ghost use Rattle.seg_index.specs.Keys.{class_at, code_at, count_at, name_at, name_len_at};
+ghost use Rattle.image_check.specs.ObjectTests.{padding_at, value_offset};
+
+use super::ImageWindow;
+use crate::checking::Visits;
+use segment_manager::layout::{HEAD_LEN, NAME_CLASS_AT};
+
+/// A number in the low half of a word.
+pub(crate) const HALF: u64 = 4294967296;
+
+/// The place of an object that was visited.
+#[derive(Clone, Copy)]
+pub(crate) struct Object {
+    at: u64,
+}
+
+/// The place of the value of an object that was visited. Of it the three words are read that those but scalars have.
+#[derive(Clone, Copy)]
+pub(crate) struct Value {
+    pub(super) at: u64,
+}
+
+impl Object {
+    /// The object at `at`. One visit.
+    pub(crate) fn visit(at: u64, visits: &mut Visits) -> Object
+        ensures at { result.at ≡ at }
+        ensures visits { visits.new ≡ visits.old + 1 }
+    {
+        visits.visit();
+        Object { at }
+    }
+
+    /// Where it stands.
+    pub(crate) fn at(self) -> u64
+        ensures { result ≡ self.at }
+    {
+        self.at
+    }
+
+    /// The code of its kind.
+    pub(crate) fn code(self, window: &ImageWindow) -> u64
+        requires { self.at + 8 ≤ length window.now.bytes }
+        ensures code { result ≡ code_at (bytes_of window.now.bytes) self.at }
+        ensures small { result < 2 ^ 32 }
+    {
+        window.read_u64(self.at) % HALF
+    }
+
+    /// How many values it has.
+    pub(crate) fn count(self, window: &ImageWindow) -> u64
+        requires { self.at + 8 ≤ length window.now.bytes }
+        ensures count { result ≡ count_at (bytes_of window.now.bytes) self.at }
+        ensures small { result < 2 ^ 32 }
+    {
+        window.read_u64(self.at) / HALF
+    }
+
+    /// Its class.
+    pub(crate) fn class(self, window: &ImageWindow) -> u64
+        requires small { self.at < 2 ^ 63 }
+        requires inside { self.at + 16 ≤ length window.now.bytes }
+        ensures { result ≡ class_at (bytes_of window.now.bytes) self.at }
+    {
+        window.read_u64(self.at + NAME_CLASS_AT) / HALF
+    }
+
+    /// How many bytes its name has.
+    pub(crate) fn name_len(self, window: &ImageWindow) -> u64
+        requires small { self.at < 2 ^ 63 }
+        requires inside { self.at + 16 ≤ length window.now.bytes }
+        ensures len { result ≡ name_len_at (bytes_of window.now.bytes) self.at }
+        ensures small { result < 2 ^ 32 }
+    {
+        window.read_u64(self.at + NAME_CLASS_AT) % HALF
+    }
+
+    /// Its name.
+    pub(crate) fn name(self, window: &ImageWindow) -> &[u8]
+        requires small { length window.now.bytes < 2 ^ 63 }
+        requires inside { self.at + 16 + name_len_at (bytes_of window.now.bytes) self.at ≤ length window.now.bytes }
+        ensures { result.now ≡ name_at (bytes_of window.now.bytes) self.at }
+    {
+        window.bytes(self.at + HEAD_LEN, self.name_len(window))
+    }
+
+    /// The bytes between its name and its value.
+    pub(crate) fn padding(self, window: &ImageWindow) -> &[u8]
+        requires small { length window.now.bytes < 2 ^ 63 }
+        requires inside { value_offset (bytes_of window.now.bytes) self.at ≤ length window.now.bytes }
+        ensures { result.now ≡ padding_at (bytes_of window.now.bytes) self.at }
+    {
+        let len = self.name_len(window);
+        window.bytes(self.at + HEAD_LEN + len, (len + 7) / 8 * 8 - len)
+    }
+
+    /// Its value.
+    pub(crate) fn value(self, window: &ImageWindow) -> Value
+        requires small { self.at < 2 ^ 63 }
+        requires inside { self.at + 16 ≤ length window.now.bytes }
+        ensures { result.at ≡ value_offset (bytes_of window.now.bytes) self.at }
+    {
+        let at = self.at + HEAD_LEN + (self.name_len(window) + 7) / 8 * 8;
+        Value { at }
+    }
+}
+
+impl Value {
+    /// Where it stands.
+    pub(crate) fn at(self) -> u64
+        ensures { result ≡ self.at }
+    {
+        self.at
+    }
+
+    /// Where its link leads.
+    pub(crate) fn link(self, window: &ImageWindow) -> Option<u64>
+        requires aligned { self.at % 8 ≡ 0 }
+        requires inside { self.at + 8 ≤ length window.now.bytes }
+        ensures { result ≡ link_at (bytes_of window.now.bytes) self.at }
+    {
+        window.load(self.at)
+    }
+
+    /// The second word: how many elements or pairs it has.
+    pub(crate) fn len(self, window: &ImageWindow) -> u64
+        requires small { self.at < 2 ^ 63 }
+        requires inside { self.at + 16 ≤ length window.now.bytes }
+        ensures { result ≡ word_at (bytes_of window.now.bytes) (self.at + 8) }
+    {
+        window.read_u64(self.at + 8)
+    }
+
+    /// The third word: how many places it has.
+    pub(crate) fn capacity(self, window: &ImageWindow) -> u64
+        requires small { self.at < 2 ^ 63 }
+        requires inside { self.at + 24 ≤ length window.now.bytes }
+        ensures { result ≡ word_at (bytes_of window.now.bytes) (self.at + 16) }
+    {
+        window.read_u64(self.at + 16)
+    }
+}

@@ -1,0 +1,143 @@
+//! The places of an image where a payload may begin, as the nodes of the free tree: the calls that go over them, each of which counts
+//! the steps that it took.
+ghost use Rattle.std.specs.Prelude.{◌≡◌, ◌↔◌, ◌+◌, ◌-◌, ◌*◌, ◌%◌, ◌≤◌, true, ℕ, List, Some, length};
+ghost use Rattle.raw_region.specs.Memory.{bytes_of};
+ghost use Rattle.offset_link.specs.Link.{link_at};
+ghost use Rattle.link_tree.specs.Checking.{IsClosed};
+ghost use Rattle.link_tree.specs.Nodes.{first_not, is_in, leads};
+ghost use Rattle.link_tree.specs.Tree.{Tree, IsSearchTree, bits, nodes_of};
+ghost use Rattle.image_check.specs.FreeNodes.{has_good_links, is_before, is_place, len_at as len_there, place_cells, placed, stands_before};
+ghost use Rattle.image_check.specs.FreeLaws.{before_agrees, before_irreflexive, before_transitive, places_finite, places_left, places_right};
+
+use super::ImageWindow;
+use crate::checking::Visits;
+use best_fit::RIGHT;
+use link_tree::{Checked, Found, Nodes, check, find_first_not_before};
+
+/// The places of a window where a payload may begin, as the nodes of a tree. A link that leads to no such place is read as
+/// null. A node precedes longer ones, and those as long that stand behind it, by the lengths in front of them.
+#[derive(Clone, Copy)]
+struct Places<'a> {
+    window: &'a ImageWindow,
+}
+
+/// A node that is looked for in the tree: its length and its place.
+#[derive(Clone, Copy)]
+pub(crate) struct Sought {
+    pub(crate) len: u64,
+    pub(crate) node: u64,
+}
+
+impl Places<'_> {
+    /// The length that the tag of a node says.
+    fn len_at(&self, node: u64) -> u64
+        requires { is_place self.now.window.now node ≡ true }
+        ensures { result ≡ len_there (bytes_of self.now.window.now.bytes) node }
+    {
+        self.window.read_u64(node - 8) / 16 * 16
+    }
+}
+
+/// Where the link at `at` leads, or nowhere where that is no place of a payload.
+fn placed_link(window: &ImageWindow, at: u64) -> Option<u64>
+    requires aligned { at % 8 ≡ 0 }
+    requires inside { at + 8 ≤ length window.now.bytes }
+    ensures { result ≡ placed (length window.now.bytes) (link_at (bytes_of window.now.bytes) at) }
+{
+    match window.checked(at) {
+        Ok(target) => target,
+        Err(_) => None,
+    }
+}
+
+impl Nodes for Places<'_> {
+    type Probe = Sought;
+
+    ghost cells = { λ s. place_cells s.window.now };
+
+    ghost is_node = { λ s. is_place s.window.now };
+
+    ghost order = { λ s. stands_before (bytes_of s.window.now.bytes) };
+
+    ghost before = { λ s sought. is_before (bytes_of s.window.now.bytes) sought.len sought.node };
+
+    ghost kept = { λ s. tt };
+
+    fn left(&self, node: u64) -> Option<u64> {
+        placed_link(self.window, node)
+    }
+
+    fn right(&self, node: u64) -> Option<u64> {
+        placed_link(self.window, node + RIGHT)
+    }
+
+    fn red(&self, node: u64) -> bool {
+        self.window.read_u64(node - 8) / 2 % 2 == 1
+    }
+
+    fn precedes(&self, a: u64, b: u64) -> bool {
+        let first = self.len_at(a);
+        let second = self.len_at(b);
+        first < second || (first == second && a < b)
+    }
+
+    fn before_probe(&self, node: u64, probe: &Sought) -> bool {
+        let len = self.len_at(node);
+        len < probe.len || (len == probe.len && node < probe.node)
+    }
+
+    ghost finite = { λ s. places_finite s.window.now };
+
+    ghost left_closed = { λ s. places_left s.window.now };
+
+    ghost right_closed = { λ s. places_right s.window.now };
+
+    ghost irreflexive = { λ s. before_irreflexive (bytes_of s.window.now.bytes) };
+
+    ghost transitive = { λ s. before_transitive (bytes_of s.window.now.bytes) };
+
+    ghost agrees = { λ s sought. before_agrees (bytes_of s.window.now.bytes) sought.len sought.node };
+}
+
+/// The check of the links below `root`, as those of a tree. One visit for each step.
+pub(crate) fn check_places(window: &ImageWindow, root: Option<u64>, visits: &mut Visits) -> Checked
+    requires { leads (is_place window.now) root ≡ true }
+    ensures counts { (n : ℕ) → (result.nodes ≡ Some n)
+        ↔ ((t : Tree) × IsSearchTree (stands_before (bytes_of window.now.bytes)) (place_cells window.now) root t × (length (nodes_of t) ≡ n)) }
+    ensures steps { (ns : List ℕ) → IsClosed (place_cells window.now) ns → leads (λ n. is_in n ns) root ≡ true → result.steps ≤ 5 * length ns + 5 }
+    ensures visits { visits.new ≡ visits.old + result.steps }
+{
+    let checked = check(&Places { window }, root);
+    visits.add(checked.steps);
+    checked
+}
+
+/// The first node of the tree that does not stand before the one that is sought. One visit for each step.
+pub(crate) fn find_place(
+    window: &ImageWindow,
+    root: Option<u64>,
+    sought: Sought,
+    visits: &mut Visits,
+) -> Found
+    requires root { leads (is_place window.now) root ≡ true }
+    requires tree { (t : Tree) × IsSearchTree (stands_before (bytes_of window.now.bytes)) (place_cells window.now) root t }
+    ensures first { (t : Tree) → IsSearchTree (stands_before (bytes_of window.now.bytes)) (place_cells window.now) root t
+        → result.node ≡ first_not (is_before (bytes_of window.now.bytes) sought.len sought.node) (nodes_of t) }
+    ensures steps { (t : Tree) → IsSearchTree (stands_before (bytes_of window.now.bytes)) (place_cells window.now) root t
+        → result.steps ≤ 2 * bits (length (nodes_of t) + 1) }
+    ensures visits { visits.new ≡ visits.old + result.steps }
+{
+    let found = find_first_not_before(&Places { window }, root, &sought);
+    visits.add(found.steps);
+    found
+}
+
+/// Whether both links of a node are null or lead to places of payloads. One visit.
+pub(crate) fn has_good_links(window: &ImageWindow, node: u64, visits: &mut Visits) -> bool
+    requires { is_place window.now node ≡ true }
+    ensures value { result ≡ has_good_links window.now node }
+    ensures visits { visits.new ≡ visits.old + 1 }
+{
+    visits.visit();
+    window.checked(node).is_ok() && window.checked(node + RIGHT).is_ok()
+}

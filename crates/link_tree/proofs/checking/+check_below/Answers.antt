@@ -1,288 +1,429 @@
-use Rattle.std.proofs.Common.{◌≡◌, ℕ, suc, length, ap, is_some, if◌then◌else◌, ◌+◌, ◌*◌, ◌<◌, ◌≤◌, ◌^◌, Bool, true, false, cond, Option, Some, List, ◌∷◌, refl, sym, ◌∙◌, subst, arith, rules, add-one, length-append}
+use Rattle.std.proofs.Common.{◌≡◌, ℕ, suc, ◌+◌, ◌-◌, ◌*◌, ◌<◌, ◌≤◌, ◌^◌, Bool, true, false, cond}
+use Rattle.std.proofs.Common.{if◌then◌else◌, Option, Some, is_some, List, ◌∷◌, length, length-append, refl, sym, ◌∙◌, ap}
+use Rattle.std.proofs.Common.{subst, arith, add-one, Fits, w64}
 use Rattle.std.proofs.lemmas.Bool.{true≢false}
-use Rattle.link_tree.specs.Tree.{Cell, Tree, fork, height, nodes_of}
+use Rattle.link_tree.specs.Tree.{Tree, fork, height, nodes_of}
 use Rattle.link_tree.specs.Nodes.{is_in, leads}
 use Rattle.link_tree.specs.Between.{is_above, is_below, count_between}
 use Rattle.link_tree.specs.Checking.{IsClosed, IsSound}
 use Rattle.link_tree.proofs.Soundness.{sound_fork, parts_of, HasParts, one_height, closed_link, counts_split, part_size}
 use Rattle.link_tree.proofs.checking.+check_below.Goals as goal
-use Rattle.link_tree.proofs.checking.+check_below.Goals.{else-red-via-then-red+else-red_above, else-red-via-else-red}
+use Rattle.link_tree.proofs.checking.+check_below.Goals.{After-right-right, else-red-via-then-red+else-red_above}
+use Rattle.link_tree.proofs.checking.+check_below.Goals.{else-red-via-else-red}
 use Rattle.link_tree.proofs.checking.+check_below.Given.{Over}
 
--- a node between the bounds parts the closed list
-split : (g : Over) (s : g.row.N.Denot) (ns : List ℕ) (link : Option ℕ) (n : ℕ) (low high : Option ℕ) → link ≡ Some n → leads (λ m. is_in m ns) link ≡ true
-    → is_above (g.N.Nodes.order s) low n ≡ true → is_below (g.N.Nodes.order s) n high ≡ true
-    → count_between (g.N.Nodes.order s) low (Some n) ns + count_between (g.N.Nodes.order s) (Some n) high ns + 1 ≤ count_between (g.N.Nodes.order s) low high ns
-split g s ns link n low high e k a b =
-    counts_split (g.N.Nodes.order s) (g.met.N.Nodes.transitive s) (g.met.N.Nodes.irreflexive s) (g.N.Nodes.cells s) ns n low high
-    (closed_link (g.N.Nodes.order s) (g.met.N.Nodes.transitive s) (g.met.N.Nodes.irreflexive s) (g.N.Nodes.cells s) ns n link e k) a b
+-- ---- arithmetic: `a` steps before, `b` once the node is read, `d` and `e` after its parts
 
-parts : (g : Over) (s : g.row.N.Denot) (link : Option ℕ) (n : ℕ) (low high : Option ℕ) (red_above : Bool) (t : Tree) (b : ℕ) → link ≡ Some n
-    → IsSound (g.N.Nodes.order s) (g.N.Nodes.cells s) link low high red_above t b
-    → HasParts (g.N.Nodes.order s) (g.met.N.Nodes.transitive s) (g.met.N.Nodes.irreflexive s) (g.N.Nodes.cells s) n low high red_above t b
-parts g s link n low high red_above t b e k =
-    parts_of (g.N.Nodes.order s) (g.met.N.Nodes.transitive s) (g.met.N.Nodes.irreflexive s) (g.N.Nodes.cells s) n low high red_above t b
-    (subst (λ (o : Option ℕ). IsSound (g.N.Nodes.order s) (g.N.Nodes.cells s) o low high red_above t b) e k)
+five : (a b c d e f : ℕ) → b ≤ a + 2 → c ≤ b + 2 → d ≤ c + 1 → e ≡ d → f ≡ e → f ≤ a + 5
+five a b c d e f above below red left right = omega arith
 
-closed_left : (h : ℕ → Cell) (ns : List ℕ) (link : Option ℕ) (n : ℕ) → IsClosed h ns → link ≡ Some n → leads (λ m. is_in m ns) link ≡ true → leads (λ m. is_in m ns) (h n).left ≡ true
-closed_left h ns link n closed e k = closed.left n (subst (λ (o : Option ℕ). leads (λ m. is_in m ns) o ≡ true) e k)
+room_read : (a b c d A B C : ℕ) → b ≤ a + 2 → c ≤ b + 2 → d ≤ c + 1 → A + B + 1 ≤ C
+    → a + 5 * C + 5 < 2 ^ 64 → d + 1 < 2 ^ 64
+room_read a b c d A B C above below red parts room = omega arith
 
-closed_right : (h : ℕ → Cell) (ns : List ℕ) (link : Option ℕ) (n : ℕ) → IsClosed h ns → link ≡ Some n → leads (λ m. is_in m ns) link ≡ true → leads (λ m. is_in m ns) (h n).right ≡ true
-closed_right h ns link n closed e k = closed.right n (subst (λ (o : Option ℕ). leads (λ m. is_in m ns) o ≡ true) e k)
+room_left : (a b A B C : ℕ) → b ≤ a + 5 → A + B + 1 ≤ C → a + 5 * C + 5 < 2 ^ 64 → b + 5 * A + 5 < 2 ^ 64
+room_left a b A B C few parts room = omega arith
 
--- a part that a call below has found is one where the call is made
-found : (g : Over) (s s' : g.row.N.Denot) (link link' low high : Option ℕ) (red red' : Bool) (b k : ℕ)
-    → ((t : Tree) × IsSound (g.N.Nodes.order s') (g.N.Nodes.cells s') link' low high red' t b × (length (nodes_of t) ≡ k)) → s' ≡ s → link' ≡ link → red' ≡ red
-    → (t : Tree) × IsSound (g.N.Nodes.order s) (g.N.Nodes.cells s) link low high red t b × (length (nodes_of t) ≡ k)
-found g s s' link link' low high red red' b k w e l r = rw (e, l, r) at w
+room_right : (a b d A B C : ℕ) → b ≤ a + 5 → d ≤ b + 5 * A + 0 → A + B + 1 ≤ C → a + 5 * C + 5 < 2 ^ 64
+    → d + 5 * B + 5 < 2 ^ 64
+room_right a b d A B C few left parts room = omega arith
 
--- and one that is there is found by a call below
-there : (g : Over) (s s' : g.row.N.Denot) (link link' low high : Option ℕ) (red red' : Bool) (t : Tree) (b levels : ℕ) (is_found : Bool)
-    → ((u : Tree) (a : ℕ) → IsSound (g.N.Nodes.order s') (g.N.Nodes.cells s') link' low high red' u a → height u ≤ levels → is_found ≡ true) → s' ≡ s → link' ≡ link → red' ≡ red
-    → IsSound (g.N.Nodes.order s) (g.N.Nodes.cells s) link low high red t b → height t ≤ levels → is_found ≡ true
-there g s s' link link' low high red red' t b levels is_found complete e l r k lower = complete t b (rw (e, l, r) k) lower
+steps_left : (a b d A B C : ℕ) → b ≤ a + 5 → d ≤ b + 5 * A + 5 → A + B + 1 ≤ C → d ≤ a + 5 * C + 5
+steps_left a b d A B C few left parts = omega arith
 
--- the steps of a call below
-spent : (g : Over) (s s' : g.row.N.Denot) (ns : List ℕ) (link link' low high : Option ℕ) (steps steps' : ℕ) (is_found has_found : Bool)
-    → ((xs : List ℕ) → IsClosed (g.N.Nodes.cells s') xs → leads (λ m. is_in m xs) link' ≡ true
-    → steps' ≤ steps + 5 * count_between (g.N.Nodes.order s') low high xs + (if is_found then 0 else 5))
-    → s' ≡ s → link' ≡ link → IsClosed (g.N.Nodes.cells s) ns → leads (λ m. is_in m ns) link ≡ true → is_found ≡ has_found
-    → steps' ≤ steps + 5 * count_between (g.N.Nodes.order s) low high ns + (if has_found then 0 else 5)
-spent g s s' ns link link' low high steps steps' is_found has_found told e l closed k found = let here = rw (e, l, found) at told in here ns closed k
+steps_right : (a b d e k A B C : ℕ) → b ≤ a + 5 → d ≤ b + 5 * A + 0 → e ≤ d + 5 * B + k → A + B + 1 ≤ C
+    → e ≤ a + 5 * C + k
+steps_right a b d e k A B C few left right parts = omega arith
 
--- two parts have no more nodes than the closed list has on both sides of the node
-sizes : (g : Over) (s : g.row.N.Denot) (ns : List ℕ) (link : Option ℕ) (n : ℕ) (low high : Option ℕ) (b b' k k' : ℕ) → IsClosed (g.N.Nodes.cells s) ns → link ≡ Some n
-    → leads (λ m. is_in m ns) link ≡ true
-    → ((t : Tree) × IsSound (g.N.Nodes.order s) (g.N.Nodes.cells s) (g.N.Nodes.cells s n).left low (Some n) (g.N.Nodes.cells s n).red t b × (length (nodes_of t) ≡ k))
-    → ((t : Tree) × IsSound (g.N.Nodes.order s) (g.N.Nodes.cells s) (g.N.Nodes.cells s n).right (Some n) high (g.N.Nodes.cells s n).red t b' × (length (nodes_of t) ≡ k'))
-    → k + k' ≤ count_between (g.N.Nodes.order s) low (Some n) ns + count_between (g.N.Nodes.order s) (Some n) high ns
-sizes g s ns link n low high b b' k k' closed e l before behind =
-    let h = g.N.Nodes.cells s in
-    let size = part_size (g.N.Nodes.order s) (g.met.N.Nodes.transitive s) (g.met.N.Nodes.irreflexive s) h ns closed (h n).left low (Some n) (h n).red before.0 b (closed_left h ns link n closed e l) before.1 in
-    let size' = part_size (g.N.Nodes.order s) (g.met.N.Nodes.transitive s) (g.met.N.Nodes.irreflexive s) h ns closed (h n).right (Some n) high (h n).red behind.0 b' (closed_right h ns link n closed e l) behind.1 in
-    let is = before.2 in
-    let is' = behind.2 in
-    omega arith
+more : (e m : ℕ) → e ≤ m + 0 → e ≤ m + 5
+more e m h = omega arith
 
--- two parts and the node between them
-joined : (g : Over) (s : g.row.N.Denot) (link : Option ℕ) (n : ℕ) (low high : Option ℕ) (red_above red : Bool) (b b' k k' level : ℕ) → link ≡ Some n
-    → ((t : Tree) × IsSound (g.N.Nodes.order s) (g.N.Nodes.cells s) (g.N.Nodes.cells s n).left low (Some n) (g.N.Nodes.cells s n).red t b × (length (nodes_of t) ≡ k))
-    → ((t : Tree) × IsSound (g.N.Nodes.order s) (g.N.Nodes.cells s) (g.N.Nodes.cells s n).right (Some n) high (g.N.Nodes.cells s n).red t b' × (length (nodes_of t) ≡ k'))
-    → b ≡ b' → is_above (g.N.Nodes.order s) low n ≡ true → is_below (g.N.Nodes.order s) n high ≡ true → red ≡ (g.N.Nodes.cells s n).red
-    → (red ≡ true → red_above ≡ true → ⊥) → cond red b (suc b) ≡ level
-    → (t : Tree) × IsSound (g.N.Nodes.order s) (g.N.Nodes.cells s) link low high red_above t level × (length (nodes_of t) ≡ k + k' + 1)
-joined g s link n low high red_above red b b' k k' level e before behind same above below is_red free blacks =
-    let h = g.N.Nodes.cells s in
-    let second = subst (λ (a : ℕ). IsSound (g.N.Nodes.order s) h (h n).right (Some n) high (h n).red behind.0 a) (sym same) behind.1 in
-    let whole = sound_fork (g.N.Nodes.order s) (g.met.N.Nodes.transitive s) (g.met.N.Nodes.irreflexive s) h n low high red_above (h n).red before.0 behind.0 b before.1 second above below refl
-    (λ x y. free (is_red ∙ x) y) in
-    let is = before.2 in
-    let is' = behind.2 in
-    let size = length-append (nodes_of before.0) (n ∷ nodes_of behind.0) in
-    let t = fork (h n).red before.0 n behind.0 in
-    let black : cond (h n).red b (suc b) ≡ level = rw (← is_red) blacks in
-    (t, rw e (subst (λ (a : ℕ). IsSound (g.N.Nodes.order s) h (Some n) low high red_above t a) black whole), omega arith)
+fits_nodes : (a k k' A B C : ℕ) → k + k' ≤ A + B → A + B + 1 ≤ C → a + 5 * C + 5 < 2 ^ 64 → Fits w64 (k + k' + 1)
+fits_nodes a k k' A B C few parts room = omega arith
+
+fits_less : (k : ℕ) → Fits w64 (k + 1) → Fits w64 k
+fits_less k h = omega arith
+
+sum_most : (a b c d : ℕ) → a ≤ c → b ≤ d → a + b ≤ c + d
+sum_most a b c d p q = omega arith
+
+lower_than : (h u l : ℕ) → h + 1 ≤ u → u ≤ l → h ≤ l - 1
+lower_than h u l below most = omega arith
+
+falls : (l t : ℕ) → l ≡ t → (l ≡ 0 → ⊥) → l - 1 < t
+falls l t is some = omega arith
+
+level_red : (red : Bool) (b : ℕ) → red ≡ true → cond red b (suc b) ≡ b
+level_red red b e = rw e refl
+
+level_black : (red : Bool) (b : ℕ) → red ≡ false → cond red b (suc b) ≡ b + 1
+level_black red b e = rw (e, add-one) refl
+
+count_fork : (red : Bool) (l r : Tree) (n k k' : ℕ) → length (nodes_of l) ≡ k → length (nodes_of r) ≡ k'
+    → length (nodes_of (fork red l n r)) ≡ k + k' + 1
+count_fork red l r n k k' p q = omega (arith, length-append (nodes_of l) (n ∷ nodes_of r))
+
+-- ---- the node that is read
+
+abbrev Sound : (g : Over) → g.row.N.Denot → (link low high : Option ℕ) → Bool → Tree → ℕ → Type 0
+Sound g s = IsSound (g.N.Nodes.order s) (g.N.Nodes.cells s)
+
+-- a part of so many black levels and nodes
+abbrev Found : (g : Over) → g.row.N.Denot → (link low high : Option ℕ) → Bool → ℕ → ℕ → Type 0
+Found g s link low high red b k = (t : Tree) × Sound g s link low high red t b × (length (nodes_of t) ≡ k)
+
+-- such a part is found
+abbrev Finds : (g : Over) → g.row.N.Denot → (link low high : Option ℕ) → Bool → ℕ → Bool → Type 0
+Finds g s link low high red levels found =
+    (t : Tree) (b : ℕ) → Sound g s link low high red t b → height t ≤ levels → found ≡ true
+
+abbrev count : (g : Over) → g.row.N.Denot → (low high : Option ℕ) → List ℕ → ℕ
+count g s = count_between (g.N.Nodes.order s)
+
+abbrev Room : (g : Over) → g.row.N.Denot → (link low high : Option ℕ) → ℕ → Type 0
+Room g s link low high steps = (ns : List ℕ) × IsClosed (g.N.Nodes.cells s) ns × (leads (λ m. is_in m ns) link ≡ true)
+    × (steps + 5 * count g s low high ns + 5 < 2 ^ 64)
+
+abbrev Spends : (g : Over) → g.row.N.Denot → (link low high : Option ℕ) → ℕ → ℕ → Bool → Type 0
+Spends g s link low high steps steps' found =
+    (ns : List ℕ) → IsClosed (g.N.Nodes.cells s) ns → leads (λ m. is_in m ns) link ≡ true
+    → steps' ≤ steps + 5 * count g s low high ns + (if found then 0 else 5)
+
+-- what is known of a node that stands between the bounds, once it is read
+record IsRead (g : Over) (s now : g.row.N.Denot) (link : Option ℕ) (n : ℕ) (low high left right : Option ℕ) (red : Bool)
+    (start end : ℕ) : Type 0 where
+  is : link ≡ Some n
+  here : now ≡ s
+  above : is_above (g.N.Nodes.order s) low n ≡ true
+  below : is_below (g.N.Nodes.order s) n high ≡ true
+  left_is : left ≡ (g.N.Nodes.cells s n).left
+  right_is : right ≡ (g.N.Nodes.cells s n).right
+  red_is : red ≡ (g.N.Nodes.cells s n).red
+  few : end ≤ start + 5
+
+is_below_at : (g : Over) (s s' : g.row.N.Denot) (n : ℕ) (high : Option ℕ) (b : Bool) → s' ≡ s
+    → b ≡ is_below (g.N.Nodes.order s') n high → b ≡ true → is_below (g.N.Nodes.order s) n high ≡ true
+is_below_at g s s' n high b e v k =
+    subst (λ (x : g.row.N.Denot). is_below (g.N.Nodes.order x) n high ≡ true) e (sym v ∙ k)
+
+read : (g : Over) (t : ℕ) (c : After-right-right g t)
+    → IsRead g c.args.visits.now.nodes.now c.right-right.new.self.nodes.now c.args.link c.in-Some.node c.args.low
+    c.args.high c.left-left.result c.right-right.result c.red-red.result c.args.visits.now.steps
+    c.right-right.new.self.steps
+read g t c =
+    let s = c.args.visits.now.nodes.now in
+    let n = c.in-Some.node in
+    let e1 : c.stands_above.new.visits.nodes.now ≡ s = c.stands_above.ensures.nodes in
+    let e2 : c.stands_below.new.visits.nodes.now ≡ s = c.stands_below.ensures.nodes ∙ e1 in
+    let e3 : c.red-red.new.self.nodes.now ≡ s = c.red-red.ensures.nodes ∙ e2 in
+    let e4 : c.left-left.new.self.nodes.now ≡ s = c.left-left.ensures.nodes ∙ e3 in
+    record {
+      is = c.in-Some.is;
+      here = c.right-right.ensures.nodes ∙ e4;
+      above = sym c.stands_above.ensures.value ∙ c.if-not-stands_above.false;
+      below = is_below_at g s c.stands_above.new.visits.nodes.now n c.args.high c.stands_below.result e1
+          c.stands_below.ensures.value c.if-not-stands_below.false;
+      left_is = c.left-left.ensures.value ∙ ap (λ (x : g.row.N.Denot). (g.N.Nodes.cells x n).left) e3;
+      right_is = c.right-right.ensures.value ∙ ap (λ (x : g.row.N.Denot). (g.N.Nodes.cells x n).right) e4;
+      red_is = c.red-red.ensures.value ∙ ap (λ (x : g.row.N.Denot). (g.N.Nodes.cells x n).red) e2;
+      few = five _ _ _ _ _ _ c.stands_above.ensures.most c.stands_below.ensures.most c.red-red.ensures.most
+          (c.left-left.ensures.stays c.red-red.ensures.at) (c.right-right.ensures.stays c.left-left.ensures.at);
+    }
+
+-- ---- what the node says of the parts below it, which calls see through equal values
+
+module _ {g : Over} {s now : g.row.N.Denot} {link : Option ℕ} {n : ℕ} {low high left right : Option ℕ} {red : Bool}
+    {start end : ℕ} (r : IsRead g s now link n low high left right red start end) where
+  -- it parts a closed list
+  split : (ns : List ℕ) → leads (λ m. is_in m ns) link ≡ true
+      → count g s low (Some n) ns + count g s (Some n) high ns + 1 ≤ count g s low high ns
+  split ns k =
+      let order = g.N.Nodes.order s in
+      let h = g.N.Nodes.cells s in
+      let listed = closed_link order (g.met.N.Nodes.transitive s) (g.met.N.Nodes.irreflexive s) h ns n link r.is k in
+      counts_split order (g.met.N.Nodes.transitive s) (g.met.N.Nodes.irreflexive s) h ns n low high listed r.above
+      r.below
+
+  parts : (red_above : Bool) (t : Tree) (b : ℕ) → Sound g s link low high red_above t b
+      → HasParts (g.N.Nodes.order s) (g.met.N.Nodes.transitive s) (g.met.N.Nodes.irreflexive s) (g.N.Nodes.cells s) n
+      low high red_above t b
+  parts red_above t b k =
+      parts_of (g.N.Nodes.order s) (g.met.N.Nodes.transitive s) (g.met.N.Nodes.irreflexive s) (g.N.Nodes.cells s) n low
+      high red_above t b (subst (λ (o : Option ℕ). Sound g s o low high red_above t b) r.is k)
+
+  closed_left : (ns : List ℕ) → IsClosed (g.N.Nodes.cells s) ns → leads (λ m. is_in m ns) link ≡ true
+      → leads (λ m. is_in m ns) (g.N.Nodes.cells s n).left ≡ true
+  closed_left ns closed k = closed.left n (subst (λ (o : Option ℕ). leads (λ m. is_in m ns) o ≡ true) r.is k)
+
+  closed_right : (ns : List ℕ) → IsClosed (g.N.Nodes.cells s) ns → leads (λ m. is_in m ns) link ≡ true
+      → leads (λ m. is_in m ns) (g.N.Nodes.cells s n).right ≡ true
+  closed_right ns closed k = closed.right n (subst (λ (o : Option ℕ). leads (λ m. is_in m ns) o ≡ true) r.is k)
+
+  asked_left : leads (g.N.Nodes.is_node s) link ≡ true → leads (g.N.Nodes.is_node s) low ≡ true
+      → Room g s link low high start
+      → (leads (g.N.Nodes.is_node now) left ≡ true) × ((leads (g.N.Nodes.is_node now) low ≡ true)
+      × ((g.N.Nodes.is_node now n ≡ true) × Room g now left low (Some n) end))
+  asked_left good good_low room =
+      let node : g.N.Nodes.is_node s n ≡ true = rw r.is at good in
+      let fits = room_left _ _ _ _ _ r.few (split room.0 room.2) room.3 in
+      rw (r.here, r.left_is)
+      (g.met.N.Nodes.left_closed s n node, (good_low, (node, (room.0, room.1, closed_left room.0 room.1 room.2, fits))))
+
+  asked_right : (later : g.row.N.Denot) (end' : ℕ) → later ≡ now → leads (g.N.Nodes.is_node s) link ≡ true
+      → leads (g.N.Nodes.is_node s) high ≡ true → (room : Room g s link low high start)
+      → end' ≤ end + 5 * count g s low (Some n) room.0 + 0
+      → (leads (g.N.Nodes.is_node later) right ≡ true) × ((g.N.Nodes.is_node later n ≡ true)
+      × ((leads (g.N.Nodes.is_node later) high ≡ true) × Room g later right (Some n) high end'))
+  asked_right later end' e good good_high room spent =
+      let node : g.N.Nodes.is_node s n ≡ true = rw r.is at good in
+      let fits = room_right _ _ _ _ _ _ r.few spent (split room.0 room.2) room.3 in
+      rw (e, r.here, r.right_is)
+      (g.met.N.Nodes.right_closed s n node,
+      (node, (good_high, (room.0, room.1, closed_right room.0 room.1 room.2, fits))))
+
+  found_left : (b k : ℕ) → Found g now left low (Some n) red b k
+      → Found g s (g.N.Nodes.cells s n).left low (Some n) (g.N.Nodes.cells s n).red b k
+  found_left b k w = rw (r.here, r.left_is, r.red_is) at w
+
+  found_right : (later : g.row.N.Denot) (b k : ℕ) → later ≡ now → Found g later right (Some n) high red b k
+      → Found g s (g.N.Nodes.cells s n).right (Some n) high (g.N.Nodes.cells s n).red b k
+  found_right later b k e w = rw (e, r.here, r.right_is, r.red_is) at w
+
+  finds_left : (levels : ℕ) (found : Bool) → Finds g now left low (Some n) red levels found
+      → Finds g s (g.N.Nodes.cells s n).left low (Some n) (g.N.Nodes.cells s n).red levels found
+  finds_left levels found finds = rw (r.here, r.left_is, r.red_is) at finds
+
+  finds_right : (later : g.row.N.Denot) (levels : ℕ) (found : Bool) → later ≡ now
+      → Finds g later right (Some n) high red levels found
+      → Finds g s (g.N.Nodes.cells s n).right (Some n) high (g.N.Nodes.cells s n).red levels found
+  finds_right later levels found e finds = rw (e, r.here, r.right_is, r.red_is) at finds
+
+  spent_left : (ns : List ℕ) (end' : ℕ) (found is : Bool) → IsClosed (g.N.Nodes.cells s) ns
+      → leads (λ m. is_in m ns) link ≡ true → found ≡ is → Spends g now left low (Some n) end end' found
+      → end' ≤ end + 5 * count g s low (Some n) ns + (if is then 0 else 5)
+  spent_left ns end' found is closed k f told =
+      let here = rw (r.here, r.left_is, f) at told in here ns closed (closed_left ns closed k)
+
+  spent_right : (later : g.row.N.Denot) (ns : List ℕ) (end' end'' : ℕ) (found is : Bool) → later ≡ now
+      → IsClosed (g.N.Nodes.cells s) ns → leads (λ m. is_in m ns) link ≡ true → found ≡ is
+      → Spends g later right (Some n) high end' end'' found
+      → end'' ≤ end' + 5 * count g s (Some n) high ns + (if is then 0 else 5)
+  spent_right later ns end' end'' found is e closed k f told =
+      let here = rw (e, r.here, r.right_is, f) at told in here ns closed (closed_right ns closed k)
+
+  -- two parts have no more nodes than the closed list has on both sides of the node
+  sizes : (ns : List ℕ) (b b' k k' : ℕ) → IsClosed (g.N.Nodes.cells s) ns → leads (λ m. is_in m ns) link ≡ true
+      → Found g s (g.N.Nodes.cells s n).left low (Some n) (g.N.Nodes.cells s n).red b k
+      → Found g s (g.N.Nodes.cells s n).right (Some n) high (g.N.Nodes.cells s n).red b' k'
+      → k + k' ≤ count g s low (Some n) ns + count g s (Some n) high ns
+  sizes ns b b' k k' closed l before behind =
+      let order = g.N.Nodes.order s in
+      let h = g.N.Nodes.cells s in
+      let size = part_size order (g.met.N.Nodes.transitive s) (g.met.N.Nodes.irreflexive s) h ns closed (h n).left low
+      (Some n) (h n).red before.0 b (closed_left ns closed l) before.1 in
+      let size' = part_size order (g.met.N.Nodes.transitive s) (g.met.N.Nodes.irreflexive s) h ns closed (h n).right
+      (Some n) high (h n).red behind.0 b' (closed_right ns closed l) behind.1 in
+      rw (← before.2, ← behind.2) (sum_most _ _ _ _ size size')
+
+  -- two parts and the node between them
+  joined : (red_above : Bool) (b b' k k' level : ℕ)
+      → Found g s (g.N.Nodes.cells s n).left low (Some n) (g.N.Nodes.cells s n).red b k
+      → Found g s (g.N.Nodes.cells s n).right (Some n) high (g.N.Nodes.cells s n).red b' k'
+      → b ≡ b' → (red ≡ true → red_above ≡ true → ⊥) → cond red b (suc b) ≡ level
+      → Found g s link low high red_above level (k + k' + 1)
+  joined red_above b b' k k' level before behind same free blacks =
+      let h = g.N.Nodes.cells s in
+      let second = subst (λ (a : ℕ). Sound g s (h n).right (Some n) high (h n).red behind.0 a) (sym same) behind.1 in
+      let whole = sound_fork (g.N.Nodes.order s) (g.met.N.Nodes.transitive s) (g.met.N.Nodes.irreflexive s) h n low high
+      red_above (h n).red before.0 behind.0 b before.1 second r.above r.below refl (λ x y. free (r.red_is ∙ x) y) in
+      let t = fork (h n).red before.0 n behind.0 in
+      let black : cond (h n).red b (suc b) ≡ level = rw (← r.red_is) blacks in
+      (t, rw r.is (subst (λ (a : ℕ). Sound g s (Some n) low high red_above t a) black whole),
+      count_fork (h n).red before.0 behind.0 n k k' before.2 behind.2)
+
+-- ---- answers
 
 pub returns-then-not-stands_above-clause-complete : goal.returns-then-not-stands_above-clause-complete
 returns-then-not-stands_above-clause-complete g t c = λ u b k lower.
-    let p = parts g c.args.visits.now.nodes.now c.args.link c.in-Some.node c.args.low c.args.high c.args.red_above u b c.in-Some.is k in
-    sym c.if-not-stands_above.true ∙ c.stands_above.ensures.value ∙ p.above
+    let s = c.args.visits.now.nodes.now in
+    let here = subst (λ (o : Option ℕ). Sound g s o c.args.low c.args.high c.args.red_above u b) c.in-Some.is k in
+    let p = parts_of (g.N.Nodes.order s) (g.met.N.Nodes.transitive s) (g.met.N.Nodes.irreflexive s) (g.N.Nodes.cells s)
+    c.in-Some.node c.args.low c.args.high c.args.red_above u b here in
+    sym c.if-not-stands_above.true ∙ (c.stands_above.ensures.value ∙ p.above)
 
 pub left-left-requires-clause-room : goal.left-left-requires-clause-room
 left-left-requires-clause-room g t c =
     let s = c.args.visits.now.nodes.now in
     let n = c.in-Some.node in
-    let counts = split g s c.requires.room.0 c.args.link n c.args.low c.args.high c.in-Some.is c.requires.room.2 (sym c.stands_above.ensures.value ∙ c.if-not-stands_above.false) (cc) in
-    let room = c.requires.room.3 in
-    omega arith
+    let ns = c.requires.room.0 in
+    let order = g.N.Nodes.order s in
+    let listed = closed_link order (g.met.N.Nodes.transitive s) (g.met.N.Nodes.irreflexive s) (g.N.Nodes.cells s) ns n
+    c.args.link c.in-Some.is c.requires.room.2 in
+    let below = is_below_at g s c.stands_above.new.visits.nodes.now n c.args.high c.stands_below.result
+    c.stands_above.ensures.nodes c.stands_below.ensures.value c.if-not-stands_below.false in
+    let counts = counts_split order (g.met.N.Nodes.transitive s) (g.met.N.Nodes.irreflexive s) (g.N.Nodes.cells s) ns n
+    c.args.low c.args.high listed (sym c.stands_above.ensures.value ∙ c.if-not-stands_above.false) below in
+    room_read _ _ _ _ _ _ _ c.stands_above.ensures.most c.stands_below.ensures.most c.red-red.ensures.most
+    counts c.requires.room.3
 
 pub right-right-requires-clause-room : goal.right-right-requires-clause-room
 right-right-requires-clause-room g t c =
     let s = c.args.visits.now.nodes.now in
     let n = c.in-Some.node in
-    let counts = split g s c.requires.room.0 c.args.link n c.args.low c.args.high c.in-Some.is c.requires.room.2 (sym c.stands_above.ensures.value ∙ c.if-not-stands_above.false) (cc) in
-    let room = c.requires.room.3 in
-    let stays1 = c.left-left.ensures.stays c.red-red.ensures.at in
-    omega arith
+    let ns = c.requires.room.0 in
+    let order = g.N.Nodes.order s in
+    let listed = closed_link order (g.met.N.Nodes.transitive s) (g.met.N.Nodes.irreflexive s) (g.N.Nodes.cells s) ns n
+    c.args.link c.in-Some.is c.requires.room.2 in
+    let below = is_below_at g s c.stands_above.new.visits.nodes.now n c.args.high c.stands_below.result
+    c.stands_above.ensures.nodes c.stands_below.ensures.value c.if-not-stands_below.false in
+    let counts = counts_split order (g.met.N.Nodes.transitive s) (g.met.N.Nodes.irreflexive s) (g.N.Nodes.cells s) ns n
+    c.args.low c.args.high listed (sym c.stands_above.ensures.value ∙ c.if-not-stands_above.false) below in
+    room_read _ _ _ _ _ _ _ c.stands_above.ensures.most c.stands_below.ensures.most 
+    (rw (c.left-left.ensures.stays c.red-red.ensures.at) c.red-red.ensures.most) counts c.requires.room.3
 
 pub check_below-requires : goal.check_below-requires
 check_below-requires g t c =
-    let s = c.args.visits.now.nodes.now in
-    let n = c.in-Some.node in
-    let ns = c.requires.room.0 in
-    let closed = c.requires.room.1 in
-    let room = c.requires.room.3 in
-    let counts = split g s ns c.args.link n c.args.low c.args.high c.in-Some.is c.requires.room.2 (sym c.stands_above.ensures.value ∙ c.if-not-stands_above.false) (cc) in
-    let stays1 = c.left-left.ensures.stays c.red-red.ensures.at in
-    let stays2 = c.right-right.ensures.stays c.left-left.ensures.at in
-    let left : c.left-left.result ≡ (g.N.Nodes.cells s n).left = cc in
-    let e : c.right-right.new.self.nodes.now ≡ s = cc in
-    let listed : (xs : List ℕ) × IsClosed (g.N.Nodes.cells c.right-right.new.self.nodes.now) xs × (leads (λ m. is_in m xs) c.left-left.result ≡ true)
-    × (c.right-right.new.self.steps + 5 * count_between (g.N.Nodes.order c.right-right.new.self.nodes.now) c.args.low (Some n) xs + 5 < 2 ^ 64) =
-    (ns, rw e closed, rw left (closed_left (g.N.Nodes.cells s) ns c.args.link n closed c.in-Some.is c.requires.room.2), rw e (omega arith)) in
-    let good : leads (g.N.Nodes.is_node c.right-right.new.self.nodes.now) c.left-left.result ≡ true = rw (e, left) (g.met.N.Nodes.left_closed s n (rw c.in-Some.is at c.requires.link)) in
-    λ κs lives. (omega (arith, c.decreases, c.if-levels-eq0.false), (search rules, (search rules, (good, (search rules, (search rules, listed))))))
+    let r = read g t (goal.at.check_below-requires g t c).After-right-right in
+    let asked = asked_left r c.requires.link c.requires.low c.requires.room in
+    λ κs lives. (falls _ _ c.decreases c.if-levels-eq0.false, (lives.0, (lives.1, asked)))
 
 pub returns-in_default-check_below-clause-complete : goal.returns-in_default-check_below-clause-complete
 returns-in_default-check_below-clause-complete g t c = λ u b k lower.
-    let s = c.args.visits.now.nodes.now in
-    let n = c.in-Some.node in
-    let p = parts g s c.args.link n c.args.low c.args.high c.args.red_above u b c.in-Some.is k in
-    let lower_left = p.left_lower in
-    rw c.in_default-check_below.is at (there g s _ (g.N.Nodes.cells s n).left _ _ _ (g.N.Nodes.cells s n).red _ p.left p.level _ _ c.check_below.ensures.complete (cc) (cc) (cc) p.left_sound
-    (omega (arith, c.if-levels-eq0.false)))
+    let r = read g t (goal.at.returns-in_default-check_below-clause-complete g t c).After-right-right in
+    let p = parts r c.args.red_above u b k in
+    let finds = finds_left r _ _ c.check_below.ensures.complete in
+    sym (ap is_some c.in_default-check_below.is)
+    ∙ finds p.left p.level p.left_sound (lower_than _ _ _ p.left_lower lower)
 
 pub returns-in_default-check_below-clause-steps : goal.returns-in_default-check_below-clause-steps
 returns-in_default-check_below-clause-steps g t c = λ ns closed k.
-    let s = c.args.visits.now.nodes.now in
-    let n = c.in-Some.node in
-    let counts = split g s ns c.args.link n c.args.low c.args.high c.in-Some.is k (sym c.stands_above.ensures.value ∙ c.if-not-stands_above.false) (cc) in
-    let stays1 = c.left-left.ensures.stays c.red-red.ensures.at in
-    let stays2 = c.right-right.ensures.stays c.left-left.ensures.at in
-    let first = spent g s c.right-right.new.self.nodes.now ns (g.N.Nodes.cells s n).left c.left-left.result c.args.low (Some n) c.right-right.new.self.steps c.check_below.new.visits.steps _ false c.check_below.ensures.steps (cc) (cc) closed
-    (closed_left (g.N.Nodes.cells s) ns c.args.link n closed c.in-Some.is k) (ap is_some c.in_default-check_below.is) in
-    omega arith
+    let r = read g t (goal.at.returns-in_default-check_below-clause-steps g t c).After-right-right in
+    let first = spent_left r ns c.check_below.new.visits.steps _ false closed k (ap is_some c.in_default-check_below.is)
+    c.check_below.ensures.steps in
+    steps_left _ _ _ _ _ _ r.few first (split r ns k)
 
 pub check_below-requires-2 : goal.check_below-requires-2
 check_below-requires-2 g t c =
-    let s = c.args.visits.now.nodes.now in
-    let n = c.in-Some.node in
+    let r = read g t (goal.at.check_below-requires-2 g t c).After-right-right in
     let ns = c.requires.room.0 in
     let closed = c.requires.room.1 in
     let k = c.requires.room.2 in
-    let room = c.requires.room.3 in
-    let counts = split g s ns c.args.link n c.args.low c.args.high c.in-Some.is k (sym c.stands_above.ensures.value ∙ c.if-not-stands_above.false) (cc) in
-    let stays1 = c.left-left.ensures.stays c.red-red.ensures.at in
-    let stays2 = c.right-right.ensures.stays c.left-left.ensures.at in
-    let first = spent g s c.right-right.new.self.nodes.now ns (g.N.Nodes.cells s n).left c.left-left.result c.args.low (Some n) c.right-right.new.self.steps c.check_below.new.visits.steps _ true c.check_below.ensures.steps (cc) (cc) closed
-    (closed_left (g.N.Nodes.cells s) ns c.args.link n closed c.in-Some.is k) (ap is_some c.in-Some-check_below.is) in
-    let right : c.right-right.result ≡ (g.N.Nodes.cells s n).right = cc in
-    let e : c.check_below.new.visits.nodes.now ≡ s = cc in
-    let listed : (xs : List ℕ) × IsClosed (g.N.Nodes.cells c.check_below.new.visits.nodes.now) xs × (leads (λ m. is_in m xs) c.right-right.result ≡ true)
-    × (c.check_below.new.visits.steps + 5 * count_between (g.N.Nodes.order c.check_below.new.visits.nodes.now) (Some n) c.args.high xs + 5 < 2 ^ 64) =
-    (ns, rw e closed, rw right (closed_right (g.N.Nodes.cells s) ns c.args.link n closed c.in-Some.is k), rw e (omega arith)) in
-    let good : leads (g.N.Nodes.is_node c.check_below.new.visits.nodes.now) c.right-right.result ≡ true = rw (e, right) (g.met.N.Nodes.right_closed s n (rw c.in-Some.is at c.requires.link)) in
-    λ κs lives. (omega (arith, c.decreases, c.if-levels-eq0.false), (search rules, (search rules, (good, (search rules, (search rules, listed))))))
+    let first = spent_left r ns c.check_below.new.visits.steps _ true closed k (ap is_some c.in-Some-check_below.is)
+    c.check_below.ensures.steps in
+    let asked = asked_right r c.check_below.new.visits.nodes.now c.check_below.new.visits.steps
+    c.check_below.ensures.nodes c.requires.link c.requires.high c.requires.room first in
+    λ κs lives. (falls _ _ c.decreases c.if-levels-eq0.false, (lives.0, (lives.1, asked)))
 
 pub returns-in_default-check_below-2-clause-complete : goal.returns-in_default-check_below-2-clause-complete
 returns-in_default-check_below-2-clause-complete g t c = λ u b k lower.
-    let s = c.args.visits.now.nodes.now in
-    let n = c.in-Some.node in
-    let p = parts g s c.args.link n c.args.low c.args.high c.args.red_above u b c.in-Some.is k in
-    let lower_right = p.right_lower in
-    rw c.in_default-check_below-2.is at (there g s _ (g.N.Nodes.cells s n).right _ _ _ (g.N.Nodes.cells s n).red _ p.right p.level _ _ c.check_below-2.ensures.complete (cc) (cc) (cc) p.right_sound
-    (omega (arith, c.if-levels-eq0.false)))
+    let r = read g t (goal.at.returns-in_default-check_below-2-clause-complete g t c).After-right-right in
+    let p = parts r c.args.red_above u b k in
+    let finds = finds_right r c.check_below.new.visits.nodes.now _ _ c.check_below.ensures.nodes
+    c.check_below-2.ensures.complete in
+    sym (ap is_some c.in_default-check_below-2.is)
+    ∙ finds p.right p.level p.right_sound (lower_than _ _ _ p.right_lower lower)
 
 pub returns-in_default-check_below-2-clause-steps : goal.returns-in_default-check_below-2-clause-steps
 returns-in_default-check_below-2-clause-steps g t c = λ ns closed k.
-    let s = c.args.visits.now.nodes.now in
-    let n = c.in-Some.node in
-    let counts = split g s ns c.args.link n c.args.low c.args.high c.in-Some.is k (sym c.stands_above.ensures.value ∙ c.if-not-stands_above.false) (cc) in
-    let stays1 = c.left-left.ensures.stays c.red-red.ensures.at in
-    let stays2 = c.right-right.ensures.stays c.left-left.ensures.at in
-    let first = spent g s c.right-right.new.self.nodes.now ns (g.N.Nodes.cells s n).left c.left-left.result c.args.low (Some n) c.right-right.new.self.steps c.check_below.new.visits.steps _ true c.check_below.ensures.steps (cc) (cc) closed
-    (closed_left (g.N.Nodes.cells s) ns c.args.link n closed c.in-Some.is k) (ap is_some c.in-Some-check_below.is) in
-    let second = spent g s c.check_below.new.visits.nodes.now ns (g.N.Nodes.cells s n).right c.right-right.result (Some n) c.args.high c.check_below.new.visits.steps c.check_below-2.new.visits.steps _ false c.check_below-2.ensures.steps (cc) (cc) closed
-    (closed_right (g.N.Nodes.cells s) ns c.args.link n closed c.in-Some.is k) (ap is_some c.in_default-check_below-2.is) in
-    omega arith
+    let r = read g t (goal.at.returns-in_default-check_below-2-clause-steps g t c).After-right-right in
+    let first = spent_left r ns c.check_below.new.visits.steps _ true closed k (ap is_some c.in-Some-check_below.is)
+    c.check_below.ensures.steps in
+    let second = spent_right r c.check_below.new.visits.nodes.now ns c.check_below.new.visits.steps
+    c.check_below-2.new.visits.steps _ false c.check_below.ensures.nodes closed k
+    (ap is_some c.in_default-check_below-2.is) c.check_below-2.ensures.steps in
+    steps_right _ _ _ _ 5 _ _ _ r.few first second (split r ns k)
 
 pub returns-then-before-behind-clause-complete : goal.returns-then-before-behind-clause-complete
 returns-then-before-behind-clause-complete g t c = λ u b k lower.
+    let r = read g t (goal.at.returns-then-before-behind-clause-complete g t c).After-right-right in
     let s = c.args.visits.now.nodes.now in
-    let n = c.in-Some.node in
     let h = g.N.Nodes.cells s in
-    let before = found g s _ (g.N.Nodes.cells s n).left _ _ _ (g.N.Nodes.cells s n).red _ _ _ c.in-Some-check_below.ensures.sound (cc) (cc) (cc) in
-    let behind = found g s _ (g.N.Nodes.cells s n).right _ _ _ (g.N.Nodes.cells s n).red _ _ _ c.in-Some-check_below-2.ensures.sound (cc) (cc) (cc) in
-    let p = parts g s c.args.link n c.args.low c.args.high c.args.red_above u b c.in-Some.is k in
-    let same1 = one_height (g.N.Nodes.order s) (g.met.N.Nodes.transitive s) (g.met.N.Nodes.irreflexive s) h (h n).left _ _ _ _ _ _ before.0 p.left _ p.level before.1 p.left_sound in
-    let same2 = one_height (g.N.Nodes.order s) (g.met.N.Nodes.transitive s) (g.met.N.Nodes.irreflexive s) h (h n).right _ _ _ _ _ _ behind.0 p.right _ p.level behind.1 p.right_sound in
+    let node = c.in-Some.node in
+    let before = found_left r c.in-Some-check_below.before.blacks c.in-Some-check_below.before.nodes
+    c.in-Some-check_below.ensures.sound in
+    let behind = found_right r c.check_below.new.visits.nodes.now c.in-Some-check_below-2.behind.blacks
+    c.in-Some-check_below-2.behind.nodes c.check_below.ensures.nodes c.in-Some-check_below-2.ensures.sound in
+    let p = parts r c.args.red_above u b k in
+    let same1 = one_height (g.N.Nodes.order s) (g.met.N.Nodes.transitive s) (g.met.N.Nodes.irreflexive s) h
+    (h node).left c.args.low (Some node) c.args.low (Some node) (h node).red (h node).red before.0 p.left _ p.level
+    before.1 p.left_sound in
+    let same2 = one_height (g.N.Nodes.order s) (g.met.N.Nodes.transitive s) (g.met.N.Nodes.irreflexive s) h
+    (h node).right (Some node) c.args.high (Some node) c.args.high (h node).red (h node).red behind.0 p.right _ p.level
+    behind.1 p.right_sound in
     absurd (c.if-before-behind.true (same1 ∙ sym same2))
 
 pub returns-then-before-behind-clause-steps : goal.returns-then-before-behind-clause-steps
 returns-then-before-behind-clause-steps g t c = λ ns closed k.
-    let s = c.args.visits.now.nodes.now in
-    let n = c.in-Some.node in
-    let counts = split g s ns c.args.link n c.args.low c.args.high c.in-Some.is k (sym c.stands_above.ensures.value ∙ c.if-not-stands_above.false) (cc) in
-    let stays1 = c.left-left.ensures.stays c.red-red.ensures.at in
-    let stays2 = c.right-right.ensures.stays c.left-left.ensures.at in
-    let first = spent g s c.right-right.new.self.nodes.now ns (g.N.Nodes.cells s n).left c.left-left.result c.args.low (Some n) c.right-right.new.self.steps c.check_below.new.visits.steps _ true c.check_below.ensures.steps (cc) (cc) closed
-    (closed_left (g.N.Nodes.cells s) ns c.args.link n closed c.in-Some.is k) (ap is_some c.in-Some-check_below.is) in
-    let second = spent g s c.check_below.new.visits.nodes.now ns (g.N.Nodes.cells s n).right c.right-right.result (Some n) c.args.high c.check_below.new.visits.steps c.check_below-2.new.visits.steps _ true c.check_below-2.ensures.steps (cc) (cc) closed
-    (closed_right (g.N.Nodes.cells s) ns c.args.link n closed c.in-Some.is k) (ap is_some c.in-Some-check_below-2.is) in
-    omega arith
+    let r = read g t (goal.at.returns-then-before-behind-clause-steps g t c).After-right-right in
+    let first = spent_left r ns c.check_below.new.visits.steps _ true closed k (ap is_some c.in-Some-check_below.is)
+    c.check_below.ensures.steps in
+    let second = spent_right r c.check_below.new.visits.nodes.now ns c.check_below.new.visits.steps
+    c.check_below-2.new.visits.steps _ true c.check_below.ensures.nodes closed k
+    (ap is_some c.in-Some-check_below-2.is) c.check_below-2.ensures.steps in
+    more _ _ (steps_right _ _ _ _ 0 _ _ _ r.few first second (split r ns k))
 
 pub overflow_add-nodes : goal.overflow_add-nodes
 overflow_add-nodes g t c =
-    let s = c.args.visits.now.nodes.now in
-    let n = c.in-Some.node in
-    let ns = c.requires.room.0 in
-    let room = c.requires.room.3 in
-    let counts = split g s ns c.args.link n c.args.low c.args.high c.in-Some.is c.requires.room.2 (sym c.stands_above.ensures.value ∙ c.if-not-stands_above.false) (cc) in
-    let before = found g s _ (g.N.Nodes.cells s n).left _ _ _ (g.N.Nodes.cells s n).red _ _ _ c.in-Some-check_below.ensures.sound (cc) (cc) (cc) in
-    let behind = found g s _ (g.N.Nodes.cells s n).right _ _ _ (g.N.Nodes.cells s n).red _ _ _ c.in-Some-check_below-2.ensures.sound (cc) (cc) (cc) in
-    let few = sizes g s ns c.args.link n _ _ _ _ _ _ c.requires.room.1 c.in-Some.is c.requires.room.2 before behind in
-    omega arith
+    let r = read g t (goal.at.overflow_add-nodes g t c).After-right-right in
+    let before = found_left r c.in-Some-check_below.before.blacks c.in-Some-check_below.before.nodes
+    c.in-Some-check_below.ensures.sound in
+    let behind = found_right r c.check_below.new.visits.nodes.now c.in-Some-check_below-2.behind.blacks
+    c.in-Some-check_below-2.behind.nodes c.check_below.ensures.nodes c.in-Some-check_below-2.ensures.sound in
+    let few = sizes r c.requires.room.0 _ _ _ _ c.requires.room.1 c.requires.room.2 before behind in
+    fits_less _ (fits_nodes _ _ _ _ _ _ few (split r c.requires.room.0 c.requires.room.2) c.requires.room.3)
 
 pub overflow_add-nodes-2 : goal.overflow_add-nodes-2
 overflow_add-nodes-2 g t c =
-    let s = c.args.visits.now.nodes.now in
-    let n = c.in-Some.node in
-    let ns = c.requires.room.0 in
-    let room = c.requires.room.3 in
-    let counts = split g s ns c.args.link n c.args.low c.args.high c.in-Some.is c.requires.room.2 (sym c.stands_above.ensures.value ∙ c.if-not-stands_above.false) (cc) in
-    let before = found g s _ (g.N.Nodes.cells s n).left _ _ _ (g.N.Nodes.cells s n).red _ _ _ c.in-Some-check_below.ensures.sound (cc) (cc) (cc) in
-    let behind = found g s _ (g.N.Nodes.cells s n).right _ _ _ (g.N.Nodes.cells s n).red _ _ _ c.in-Some-check_below-2.ensures.sound (cc) (cc) (cc) in
-    let few = sizes g s ns c.args.link n _ _ _ _ _ _ c.requires.room.1 c.in-Some.is c.requires.room.2 before behind in
-    omega arith
+    let r = read g t (goal.at.overflow_add-nodes-2 g t c).After-right-right in
+    let before = found_left r c.in-Some-check_below.before.blacks c.in-Some-check_below.before.nodes
+    c.in-Some-check_below.ensures.sound in
+    let behind = found_right r c.check_below.new.visits.nodes.now c.in-Some-check_below-2.behind.blacks
+    c.in-Some-check_below-2.behind.nodes c.check_below.ensures.nodes c.in-Some-check_below-2.ensures.sound in
+    let few = sizes r c.requires.room.0 _ _ _ _ c.requires.room.1 c.requires.room.2 before behind in
+    fits_nodes _ _ _ _ _ _ few (split r c.requires.room.0 c.requires.room.2) c.requires.room.3
 
 pub returns-then-red-2-clause-sound : goal.returns-then-red-2-clause-sound
 returns-then-red-2-clause-sound g t c =
-    let s = c.args.visits.now.nodes.now in
-    let n = c.in-Some.node in
-    let before = found g s _ (g.N.Nodes.cells s n).left _ _ _ (g.N.Nodes.cells s n).red _ _ _ c.in-Some-check_below.ensures.sound (cc) (cc) (cc) in
-    let behind = found g s _ (g.N.Nodes.cells s n).right _ _ _ (g.N.Nodes.cells s n).red _ _ _ c.in-Some-check_below-2.ensures.sound (cc) (cc) (cc) in
-    let whole = joined g s c.args.link n _ _ c.args.red_above c.red-red.result _ _ _ _ _ c.in-Some.is before behind c.if-before-behind.false (sym c.stands_above.ensures.value ∙ c.if-not-stands_above.false) (cc) (cc)
+    let r = read g t (goal.at.returns-then-red-2-clause-sound g t c).After-right-right in
+    let before = found_left r c.in-Some-check_below.before.blacks c.in-Some-check_below.before.nodes
+    c.in-Some-check_below.ensures.sound in
+    let behind = found_right r c.check_below.new.visits.nodes.now c.in-Some-check_below-2.behind.blacks
+    c.in-Some-check_below-2.behind.nodes c.check_below.ensures.nodes c.in-Some-check_below-2.ensures.sound in
+    joined r c.args.red_above _ _ _ _ _ before behind c.if-before-behind.false
     (λ x y. elim c.else-red.branch as (λ _. ⊥) [
       | else-red-via-then-red+else-red_above w ↦ true≢false (sym y ∙ w.if-red_above.false)
       | else-red-via-else-red w ↦ true≢false (sym x ∙ w.if-red.false)
-    ]) (rw c.if-red-2.true refl) in
-    (whole.0, whole.1, whole.2)
+    ]) (level_red _ _ c.if-red-2.true)
 
 pub returns-clause-sound : goal.returns-clause-sound
 returns-clause-sound g t c =
-    let s = c.args.visits.now.nodes.now in
-    let n = c.in-Some.node in
-    let before = found g s _ (g.N.Nodes.cells s n).left _ _ _ (g.N.Nodes.cells s n).red _ _ _ c.in-Some-check_below.ensures.sound (cc) (cc) (cc) in
-    let behind = found g s _ (g.N.Nodes.cells s n).right _ _ _ (g.N.Nodes.cells s n).red _ _ _ c.in-Some-check_below-2.ensures.sound (cc) (cc) (cc) in
-    let whole = joined g s c.args.link n _ _ c.args.red_above c.red-red.result _ _ _ _ _ c.in-Some.is before behind c.if-before-behind.false (sym c.stands_above.ensures.value ∙ c.if-not-stands_above.false) (cc) (cc)
+    let r = read g t (goal.at.returns-clause-sound g t c).After-right-right in
+    let before = found_left r c.in-Some-check_below.before.blacks c.in-Some-check_below.before.nodes
+    c.in-Some-check_below.ensures.sound in
+    let behind = found_right r c.check_below.new.visits.nodes.now c.in-Some-check_below-2.behind.blacks
+    c.in-Some-check_below-2.behind.nodes c.check_below.ensures.nodes c.in-Some-check_below-2.ensures.sound in
+    joined r c.args.red_above _ _ _ _ _ before behind c.if-before-behind.false
     (λ x y. elim c.else-red.branch as (λ _. ⊥) [
       | else-red-via-then-red+else-red_above w ↦ true≢false (sym y ∙ w.if-red_above.false)
       | else-red-via-else-red w ↦ true≢false (sym x ∙ w.if-red.false)
-    ]) (rw (c.if-red-2.false, add-one) refl) in
-    (whole.0, whole.1, whole.2)
+    ]) (level_black _ _ c.if-red-2.false)
 
 pub returns-then-red-2-clause-steps : goal.returns-then-red-2-clause-steps
 returns-then-red-2-clause-steps g t c = λ ns closed k.
-    let s = c.args.visits.now.nodes.now in
-    let n = c.in-Some.node in
-    let counts = split g s ns c.args.link n c.args.low c.args.high c.in-Some.is k (sym c.stands_above.ensures.value ∙ c.if-not-stands_above.false) (cc) in
-    let stays1 = c.left-left.ensures.stays c.red-red.ensures.at in
-    let stays2 = c.right-right.ensures.stays c.left-left.ensures.at in
-    let first = spent g s c.right-right.new.self.nodes.now ns (g.N.Nodes.cells s n).left c.left-left.result c.args.low (Some n) c.right-right.new.self.steps c.check_below.new.visits.steps _ true c.check_below.ensures.steps (cc) (cc) closed
-    (closed_left (g.N.Nodes.cells s) ns c.args.link n closed c.in-Some.is k) (ap is_some c.in-Some-check_below.is) in
-    let second = spent g s c.check_below.new.visits.nodes.now ns (g.N.Nodes.cells s n).right c.right-right.result (Some n) c.args.high c.check_below.new.visits.steps c.check_below-2.new.visits.steps _ true c.check_below-2.ensures.steps (cc) (cc) closed
-    (closed_right (g.N.Nodes.cells s) ns c.args.link n closed c.in-Some.is k) (ap is_some c.in-Some-check_below-2.is) in
-    omega arith
+    let r = read g t (goal.at.returns-then-red-2-clause-steps g t c).After-right-right in
+    let first = spent_left r ns c.check_below.new.visits.steps _ true closed k (ap is_some c.in-Some-check_below.is)
+    c.check_below.ensures.steps in
+    let second = spent_right r c.check_below.new.visits.nodes.now ns c.check_below.new.visits.steps
+    c.check_below-2.new.visits.steps _ true c.check_below.ensures.nodes closed k
+    (ap is_some c.in-Some-check_below-2.is) c.check_below-2.ensures.steps in
+    steps_right _ _ _ _ 0 _ _ _ r.few first second (split r ns k)
 
 pub returns-clause-steps : goal.returns-clause-steps
 returns-clause-steps g t c = λ ns closed k.
-    let s = c.args.visits.now.nodes.now in
-    let n = c.in-Some.node in
-    let counts = split g s ns c.args.link n c.args.low c.args.high c.in-Some.is k (sym c.stands_above.ensures.value ∙ c.if-not-stands_above.false) (cc) in
-    let stays1 = c.left-left.ensures.stays c.red-red.ensures.at in
-    let stays2 = c.right-right.ensures.stays c.left-left.ensures.at in
-    let first = spent g s c.right-right.new.self.nodes.now ns (g.N.Nodes.cells s n).left c.left-left.result c.args.low (Some n) c.right-right.new.self.steps c.check_below.new.visits.steps _ true c.check_below.ensures.steps (cc) (cc) closed
-    (closed_left (g.N.Nodes.cells s) ns c.args.link n closed c.in-Some.is k) (ap is_some c.in-Some-check_below.is) in
-    let second = spent g s c.check_below.new.visits.nodes.now ns (g.N.Nodes.cells s n).right c.right-right.result (Some n) c.args.high c.check_below.new.visits.steps c.check_below-2.new.visits.steps _ true c.check_below-2.ensures.steps (cc) (cc) closed
-    (closed_right (g.N.Nodes.cells s) ns c.args.link n closed c.in-Some.is k) (ap is_some c.in-Some-check_below-2.is) in
-    omega arith
+    let r = read g t (goal.at.returns-clause-steps g t c).After-right-right in
+    let first = spent_left r ns c.check_below.new.visits.steps _ true closed k (ap is_some c.in-Some-check_below.is)
+    c.check_below.ensures.steps in
+    let second = spent_right r c.check_below.new.visits.nodes.now ns c.check_below.new.visits.steps
+    c.check_below-2.new.visits.steps _ true c.check_below.ensures.nodes closed k
+    (ap is_some c.in-Some-check_below-2.is) c.check_below-2.ensures.steps in
+    steps_right _ _ _ _ 0 _ _ _ r.few first second (split r ns k)

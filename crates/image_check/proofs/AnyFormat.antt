@@ -1,5 +1,5 @@
 -- What is decided of images of any of the three formats, and why none is opened.
-use Rattle.std.proofs.Common.{◌≡◌, sym, ap, subst, ◌∙◌, ℕ, ◌+◌, ◌<◌, ◌≤◌, ◌⊎◌, inl, inr, List, ◌++◌, length, arith}
+use Rattle.std.proofs.Common.{◌≡◌, sym, ap, ◌∙◌, ℕ, ◌<◌, ◌≤◌, ◌⊎◌, inl, inr, List, ◌++◌, length, arith}
 use Rattle.std.specs.Prelude.{IsTrue, Some, None}
 use Rattle.std.proofs.lemmas.Bool.{and_from, cases_lt}
 use Rattle.std.proofs.lemmas.List.{append_assoc, length-append}

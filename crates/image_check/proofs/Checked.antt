@@ -1,5 +1,5 @@
 -- What the check of a whole image finds: its first class, or a directory.
-use Rattle.std.proofs.Common.{◌≡◌, refl, sym, ap, ◌∙◌, ℕ, ◌+◌, ◌<◌, ◌≤◌, inl, inr, Bool, true, false, not, ◌||◌, List, [], ◌∷◌, length, arith}
+use Rattle.std.proofs.Common.{◌≡◌, refl, sym, ap, ◌∙◌, ℕ, ◌<◌, ◌≤◌, inl, inr, Bool, true, false, not, ◌||◌, List, [], ◌∷◌, length, arith}
 use Rattle.std.specs.Prelude.{IsTrue, IsOk, is_some, Option, Some, None, Result, Ok, Err, MatchResult}
 use Rattle.std.specs.List.{list_any}
 use Rattle.std.proofs.lemmas.Bool.{cases_Bool}
@@ -25,7 +25,7 @@ use Rattle.image_check.specs.Passes.{Finds, HasTiles, has_block, tiles_in}
 use Rattle.image_check.specs.Reading.{HasFront}
 use Rattle.image_check.proofs.Early.{tree-BadFreeTree}
 use Rattle.image_check.proofs.Filled.{HasFront-IsRight}
-use Rattle.image_check.proofs.FormatTags.{good-has_tags, later-has_tags, later-free_tree, wrong-has_tags}
+use Rattle.image_check.proofs.FormatTags.{good-has_tags, later-has_tags}
 use Rattle.image_check.proofs.FirstClass.{first-tag, first-tree, late-class}
 use Rattle.image_check.proofs.Frame.{IsFrame-has_frame, has_frame-IsFrame, has_whole_size-HasWholeSize, HasWholeSize-has_whole_size}
 use Rattle.image_check.proofs.Law.{one_directory}

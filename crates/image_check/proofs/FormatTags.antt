@@ -1,6 +1,6 @@
 -- Good tags in each format: those of format 0 are those of the others where no free tile is red.
-use Rattle.std.proofs.Common.{◌≡◌, refl, sym, ap, subst, ◌∙◌, ℕ, zero, suc, ◌+◌, ◌-◌, ◌%◌, ◌<◌, inl, inr, Bool, true, false, not, ◌&&◌, ◌||◌, List, [], ◌∷◌, length, arith}
-use Rattle.std.specs.Prelude.{IsTrue, Option, Some, None, is_none, ◌==◌, nat_le}
+use Rattle.std.proofs.Common.{◌≡◌, refl, sym, ap, ◌∙◌, ℕ, zero, suc, ◌+◌, ◌-◌, ◌%◌, ◌<◌, inl, inr, Bool, true, false, not, ◌&&◌, ◌||◌, List, [], ◌∷◌, length, arith}
+use Rattle.std.specs.Prelude.{Option, Some, None, is_none, ◌==◌, nat_le}
 use Rattle.std.specs.List.{list_all}
 use Rattle.std.proofs.lemmas.Bool.{and_parts, cases_Bool, both_ways}
 use Rattle.raw_region.specs.Memory.{Memory, bytes_of, word_at}
@@ -8,7 +8,7 @@ use Rattle.raw_region.specs.Format.{current}
 use Rattle.block_tags.specs.declared.tile.Role.{Role}
 use Rattle.block_tags.specs.declared.tile.Role.TheVariants.{Object, Index, Storage, Node}
 use Rattle.block_tags.specs.declared.tile.Tile.{Tile}
-use Rattle.block_tags.specs.Tiles.{are_tags, has_tags, is_free, is_merged, is_tile, may_be_red, tag_word, tiles_of}
+use Rattle.block_tags.specs.Tiles.{are_tags, has_tags, is_merged, is_tile, may_be_red, tag_word, tiles_of}
 use Rattle.image_check.specs.EarlyTests.{has_free_tree}
 use Rattle.image_check.specs.OlderFormats.{is_plain}
 use Rattle.image_check.specs.Passes.{HasTiles, tiles_in}

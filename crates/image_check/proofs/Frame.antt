@@ -1,15 +1,12 @@
 -- The frame of an image: header, tags and free tree. What its tests say, and what passes them.
-use Rattle.std.proofs.Common.{◌≡◌, sym, subst, ℕ, Bool, not, ◌&&◌, ◌==◌, List, length, arith}
+use Rattle.std.proofs.Common.{◌≡◌, ℕ, Bool, not, ◌&&◌, ◌==◌, List, length, arith}
 use Rattle.std.specs.Prelude.{IsTrue, nat_le, nat_lt}
-use Rattle.std.proofs.lemmas.Bool.{and_parts, and_from, and_right, or_from, eq-eqb, eqb-true, le-leb, le-ltb, not_from_true, not-false}
-use Rattle.raw_region.specs.Memory.{bytes_of}
+use Rattle.std.proofs.lemmas.Bool.{and_parts, and_from, and_right, or_from, eq-eqb, eqb-true, le-leb, le-ltb, not_from_true}
 use Rattle.block_tags.specs.Format.{is_legal_size}
-use Rattle.block_tags.specs.Tiles.{tiles_of}
 use Rattle.best_fit.proofs.Laws.{legal_size}
-use Rattle.image_check.specs.EarlyTests.{size_word, has_magic, has_version, has_front, has_size, has_reserved, is_tiled, has_free_tree}
+use Rattle.image_check.specs.EarlyTests.{size_word, has_magic, has_version, has_front, has_size, has_reserved, is_tiled}
 use Rattle.image_check.specs.Frame.{has_frame, has_whole_size, has_tree}
-use Rattle.image_check.proofs.Bytes.{AreSmall}
-use Rattle.image_check.proofs.Framed.{IsFramed, IsEarlyClean, framed-clean, clean-framed}
+use Rattle.image_check.proofs.Framed.{IsEarlyClean}
 
 -- the tests of a frame, by name
 pub record IsFrame (format : ℕ) (b : List ℕ) : Type 0 where

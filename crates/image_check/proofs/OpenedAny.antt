@@ -1,9 +1,8 @@
 -- An image of any of the three formats that was read, and is opened or refused.
-use Rattle.std.proofs.Common.{◌≡◌, sym, ap, subst, ◌∙◌, ℕ, ◌+◌, ◌≤◌, List, length, Err, Ok, arith}
-use Rattle.std.specs.Prelude.{Result, MatchResult}
+use Rattle.std.proofs.Common.{◌≡◌, sym, ap, subst, ◌∙◌, ℕ, ◌≤◌, List, length, Err, Ok, arith}
 use Rattle.std.proofs.lemmas.Bool.{eqb-true}
 use Rattle.raw_region.specs.Device.{Given}
-use Rattle.raw_region.specs.Memory.{Cut, SamePlace, bytes_of, cut_at, half_word_at, whole}
+use Rattle.raw_region.specs.Memory.{Cut, SamePlace, whole}
 use Rattle.segment_manager.specs.declared.modes.Mode.{Mode}
 use Rattle.segment_manager.specs.State.{IsSegment, State}
 use Rattle.image_check.specs.declared.errors.CheckError.{CheckError}

@@ -1,10 +1,9 @@
 -- The format that bytes say, and that of bytes which begin with them.
-use Rattle.std.proofs.Common.{◌≡◌, refl, sym, ap, ◌∙◌, ℕ, ◌+◌, ◌≤◌, inl, inr, Bool, true, false, ◌==◌, List, ◌++◌, length, take, drop, arith}
+use Rattle.std.proofs.Common.{◌≡◌, refl, sym, ap, ◌∙◌, ℕ, ◌≤◌, inl, inr, Bool, true, false, ◌==◌, List, ◌++◌, length, take, drop, arith}
 use Rattle.std.specs.Prelude.{nat_le, if◌then◌else◌}
 use Rattle.std.proofs.lemmas.Bool.{cases_Bool, eqb-true, eq-eqb, leb-true, le-leb, both_ways}
-use Rattle.std.proofs.lemmas.List.{length-append, take-append-drop}
-use Rattle.byteorder.specs.Endian.{little_number}
-use Rattle.raw_region.specs.Memory.{bytes_of, part, half_word_at}
+use Rattle.std.proofs.lemmas.List.{take-append-drop}
+use Rattle.raw_region.specs.Memory.{part}
 use Rattle.raw_region.specs.Format.{current}
 use Rattle.raw_region.proofs.Laws.{added, both_added}
 use Rattle.image_check.specs.declared.versions.Versions.{Versions}

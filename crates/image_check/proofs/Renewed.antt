@@ -1,5 +1,5 @@
 -- An image of an older format whose tags and free tree are made those of the current one, and then its version.
-use Rattle.std.proofs.Common.{◌≡◌, refl, sym, ap, subst, ◌∙◌, ℕ, zero, suc, ◌+◌, ◌<◌, ◌≤◌, ◌⊎◌, inl, inr, List, [], length, arith}
+use Rattle.std.proofs.Common.{◌≡◌, refl, sym, subst, ◌∙◌, ℕ, zero, suc, ◌<◌, ◌≤◌, ◌⊎◌, inl, inr, List, [], length, arith}
 use Rattle.std.specs.Prelude.{IsTrue}
 use Rattle.std.specs.List.{AllByRecursion}
 use Rattle.std.proofs.lemmas.Bool.{cases_lt}
@@ -15,7 +15,7 @@ use Rattle.best_fit.proofs.Laws.{blocks-trans, changed-header_blocks, header_cha
 use Rattle.segment_manager.specs.Denotes.{Denotes}
 use Rattle.segment_manager.specs.Directory.{Directory}
 use Rattle.segment_manager.specs.State.{StandsFor}
-use Rattle.segment_manager.proofs.Laws.{StaysButVersion, denotes-heap, denotes-later, denotes-live, directory-later}
+use Rattle.segment_manager.proofs.Laws.{denotes-heap, denotes-later, denotes-live, directory-later}
 use Rattle.image_check.specs.Opening.{IsImage}
 use Rattle.image_check.specs.OpeningAny.{HasNewVersion, IsRenewed, IsReplanted, NewVersionsStand, OlderDirectoriesStand, ReplantedStand}
 use Rattle.image_check.proofs.Bytes.{AreZero-half_word_at, half_word_at-AreZero}

@@ -1,9 +1,8 @@
-use Rattle.std.proofs.Common.{◌≡◌, ℕ, ◌<◌, List, length, Ok, Err, Some, ap, arith, sym, subst, ◌∙◌}
+use Rattle.std.proofs.Common.{◌≡◌, ℕ, ◌<◌, length, Ok, Err, Some, arith, sym, subst, ◌∙◌}
 use Rattle.std.proofs.lemmas.Bool.{not-true, not-false}
 use Rattle.std.specs.Prelude.{IsTrue, MatchResult, OnErr, OnOk, Result}
 use Rattle.image_check.specs.declared.classes.ImageClass.{ImageClass}
 use Rattle.image_check.specs.Classes.{are_bytes, class_of}
-use Rattle.image_check.specs.EarlyTests.{has_reserved}
 use Rattle.image_check.specs.Frame.{has_frame}
 use Rattle.image_check.specs.Passes.{HasTiles, tiles_in}
 use Rattle.raw_region.specs.Memory.{bytes_of}

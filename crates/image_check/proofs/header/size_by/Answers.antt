@@ -1,4 +1,4 @@
-use Rattle.std.proofs.Common.{sym, arith, ◌∙◌}
+use Rattle.std.proofs.Common.{sym, ◌∙◌}
 use Rattle.image_check.specs.Formats.{format_in}
 use Rattle.image_check.proofs.Fronts.{IsReadOf, front-version, front-size, front-right}
 use Rattle.image_check.proofs.ReadFormats.{other-format, taken-format}

@@ -1,4 +1,4 @@
-use Rattle.std.proofs.Common.{refl, sym, ◌∙◌, inl, inr, length, arith}
+use Rattle.std.proofs.Common.{refl, sym, ◌∙◌, inl, inr, length}
 use Rattle.std.specs.Prelude.{nat_eq}
 use Rattle.std.proofs.lemmas.Bool.{both_ways, cases_Bool, eqb-true, eq-eqb, ne_eqb}
 use Rattle.link_tree.specs.Tree.{nodes_of}

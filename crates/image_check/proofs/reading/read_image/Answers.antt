@@ -1,4 +1,4 @@
-use Rattle.std.proofs.Common.{◌≡◌, ℕ, ◌≤◌, List, length, drop, sym, subst, ap, ◌∙◌, arith}
+use Rattle.std.proofs.Common.{ℕ, ◌≤◌, length, drop, sym, subst, ap, ◌∙◌, arith}
 use Rattle.raw_region.specs.Device.{given_since}
 use Rattle.raw_region.specs.Memory.{Cut, patched}
 use Rattle.raw_region.specs.Regions.{with_bytes}

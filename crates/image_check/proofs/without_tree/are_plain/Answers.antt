@@ -1,6 +1,5 @@
-use Rattle.std.proofs.Common.{◌≡◌, refl, sym, ap, ◌∙◌, false, List, ◌++◌, ◌∷◌, arith}
+use Rattle.std.proofs.Common.{◌≡◌, refl, sym, ap, ◌∙◌, false, ◌++◌, ◌∷◌, arith}
 use Rattle.std.specs.List.{list_all}
-use Rattle.block_tags.specs.declared.tile.Tile.{Tile}
 use Rattle.block_tags.proofs.Laws.{tiles_are_read_off}
 use Rattle.image_check.specs.OlderFormats.{is_plain}
 use Rattle.image_check.specs.Visits.{tag_rates}

@@ -1,4 +1,3 @@
-use Rattle.std.proofs.Common.{◌∙◌}
 use Rattle.image_check.proofs.HeadBytes.{padding-read}
 use Rattle.image_check.proofs.image_window.objects.Object.padding.Goals as goal
 

@@ -1,6 +1,6 @@
 use Rattle.std.proofs.Common.{◌≡◌, ℕ, suc, ◌+◌, ◌-◌, ◌*◌, ◌<◌, ◌≤◌, ◌^◌, Bool, true, false, cond}
-use Rattle.std.proofs.Common.{if◌then◌else◌, Option, Some, is_some, List, ◌∷◌, length, length-append, refl, sym, ◌∙◌, ap}
-use Rattle.std.proofs.Common.{subst, arith, add-one, Fits, w64}
+use Rattle.std.proofs.Common.{if◌then◌else◌, Option, Some, is_some, List, ◌∷◌, length, length-append, refl, sym, ◌∙◌}
+use Rattle.std.proofs.Common.{ap, subst, arith, add-one, Fits, w64}
 use Rattle.std.proofs.lemmas.Bool.{true≢false}
 use Rattle.link_tree.specs.Tree.{Tree, fork, height, nodes_of}
 use Rattle.link_tree.specs.Nodes.{is_in, leads}

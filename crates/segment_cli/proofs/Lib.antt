@@ -25,7 +25,6 @@ mod Zeros
 mod SavedImages
 mod TextParts
 mod TextElements
-mod Unfound
 mod PlainWords
 mod Leaves
 mod CommandLines

@@ -1,20 +1,19 @@
 //! What a command is answered: each is executed by one call of the segment, for some by the kind of the object.
 ghost use Rattle.std.specs.Prelude.{◌≡◌, OnErr, false};
-ghost use Rattle.seg_types.specs.Commands.{Destroy, DestroyPtr, Get, ReserveNamed, ReserveUnique, ShrinkIndexes};
-ghost use Rattle.seg_types.specs.Keys.{index_key_seen, key_seen};
+ghost use Rattle.seg_types.specs.Commands.{Destroy, DestroyPtr, ReserveNamed, ReserveUnique, ShrinkIndexes};
+ghost use Rattle.seg_types.specs.Keys.{index_key_seen};
 ghost use Rattle.segment_lang.specs.Seen.{command_of};
 ghost use Rattle.segment_manager.specs.Directory.{Directory};
 ghost use Rattle.segment_manager.specs.Found.{found_answer, pair_answer};
 ghost use Rattle.segment_manager.specs.Maps.{any_value_answer};
-ghost use Rattle.segment_manager.specs.State.{IsStep, KeepsRefused, StandsFor, done_answer, gone_answer, handle_answer, scalar_answer, truth_answer};
-ghost use Rattle.segment_manager.specs.Step.{step};
-ghost use Rattle.segment_cli.specs.Replies.{IsMeant, Replies, answer_seen, is_pop};
+ghost use Rattle.segment_manager.specs.State.{IsStep, KeepsRefused, done_answer, gone_answer, handle_answer, scalar_answer, truth_answer};
+ghost use Rattle.segment_cli.specs.Replies.{IsMeant, Replies, answer_seen, has_element};
 
 use crate::changing::{append, assign, clear, erase, insert, push, reserve, shrink};
 use crate::constructing::{construct, construct_it, find_or_construct};
 use crate::pairs::{lookup, put, remove};
 use crate::setting::set;
-use seg_types::{Handle, IndexKey, Key, Kind, Refusal, ScalarValue};
+use seg_types::{Handle, IndexKey, Key, Refusal, ScalarValue};
 use segment_lang::Command;
 use segment_manager::Segment;
 
@@ -33,10 +32,8 @@ pub enum Answer<'a> {
     Made(Handle),
     /// The handle of an object, and how many elements it has.
     Found(Handle, u32),
-    /// An element of an object.
+    /// An element of an object, or a value of a map.
     Element(ScalarValue),
-    /// The text at an index in the vector of strings of a key, or why there is none.
-    TextElement(Key<'a>, u64),
     /// The kind and the value of the object of a key, or that there is none.
     Shown(Key<'a>),
     /// What the object of a key says of itself, or that there is none.
@@ -51,10 +48,10 @@ pub enum Answer<'a> {
     Refused(Refusal),
 }
 
-/// Executes a command that takes out no element, and answers it.
+/// Executes a command that reads no element and takes none out, and answers it.
 pub fn reply<'a>(segment: &mut Segment, command: Command<'a>) -> Answer<'a>
     requires meant { IsMeant (command_of command) }
-    requires stays { is_pop (command_of command) ≡ false }
+    requires short { has_element (command_of command) ≡ false }
     ensures { Replies segment.old segment.new (command_of command.entry) result }
 {
     match command {
@@ -70,7 +67,7 @@ pub fn reply<'a>(segment: &mut Segment, command: Command<'a>) -> Answer<'a>
         Command::DestroyPtr(handle) => gone(destroy_ptr(segment, handle)),
         Command::Show(key) => Answer::Shown(key),
         Command::Info(key) => Answer::Told(key),
-        Command::Get { key, index } => get(segment, key, index),
+        Command::Get { .. } => unreachable!(),
         Command::Set { key, index, value } => done(set(segment, &key, index, value)),
         Command::Push { key, value } => done(push(segment, &key, value)),
         Command::Pop(_) => unreachable!(),
@@ -97,19 +94,6 @@ pub fn reply<'a>(segment: &mut Segment, command: Command<'a>) -> Answer<'a>
         Command::ZeroFree => done(segment.zero_free()),
         Command::Sanity => Answer::Truth(segment.sanity()),
         Command::AllDeallocated => Answer::Truth(segment.all_deallocated()),
-    }
-}
-
-/// The element at `index` in the object of a key, or why there is none.
-fn get<'a>(segment: &Segment, key: Key<'a>, index: u64) -> Answer<'a>
-    ensures { (d : Directory) → StandsFor segment.now.cut.bytes d → answer_seen d result ≡ (step segment.now.mode d (Get (key_seen key.entry) index)).0 }
-{
-    match segment.kind_of(&key) {
-        Ok(kind) => match kind {
-            Kind::Texts => Answer::TextElement(key, index),
-            _ => element(segment.get_any(&key, index)),
-        },
-        Err(refusal) => Answer::Refused(refusal),
     }
 }
 

@@ -7,6 +7,7 @@ use crate::machine::Machine;
 use crate::popping::pop;
 use crate::printing::put_answer;
 use crate::replies::reply;
+use crate::showing::put_got;
 use raw_region::{DeviceFault, Sink};
 use segment_lang::{Command, Piece, Reading, Text, parse_line, put_pieces};
 use segment_manager::Segment;
@@ -23,6 +24,7 @@ impl Machine for Segment {
         match parse_line(line, &mut scratch) {
             Reading::Nothing => Ok(()),
             Reading::Asked(command) => match command {
+                Command::Get { key, index } => put_got(self, &key, index, out),
                 Command::Pop(key) => pop(self, &key, out),
                 _ => {
                     let answer = reply(self, command);

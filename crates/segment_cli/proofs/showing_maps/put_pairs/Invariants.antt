@@ -12,8 +12,8 @@ use Rattle.segment_cli.proofs.showing_maps.put_pairs.Given as goal
 abbrev pub invariant-pairs : goal.invariant-pairs
 invariant-pairs g l = record {
   told : (d : Directory) → StandsFor l.segment.cut.bytes d
-      → (g.W.Sink.history l.out).bytes ≡ (g.W.Sink.history l.initial.out).bytes ++ pairs_text l.fn.keys l.values d (ByHandle l.handle) l.counter;
+      → (g.W.Sink.history l.out).bytes ≡ (g.W.Sink.history l.initial.out).bytes ++ pairs_text l.fn.keys l.values d (ByHandle l.object.handle) l.counter;
   next : (d : Directory) → StandsFor l.segment.cut.bytes d
-      → option_map item_seen l.next ≡ option_map (item_of_kinds l.fn.keys l.values) (option_map item_of (slice_get (pairs_at d (ByHandle l.handle)) l.counter));
+      → option_map item_seen l.next ≡ option_map (item_of_kinds l.fn.keys l.values) (option_map item_of (slice_get (pairs_at d (ByHandle l.object.handle)) l.counter));
   failures : (g.W.Sink.history l.out).failures ≡ (g.W.Sink.history l.initial.out).failures;
 }

@@ -1,5 +1,5 @@
-use Rattle.std.proofs.Common.{◌∙◌, ap, subst, sym}
-use Rattle.seg_types.specs.Commands.{Asked}
+use Rattle.std.proofs.Common.{◌∙◌, ap, refl, subst, sym}
+use Rattle.seg_types.specs.Commands.{Asked, Get, Pop}
 use Rattle.seg_types.specs.Keys.{key_seen}
 use Rattle.raw_region.specs.Device.{Writes}
 use Rattle.segment_lang.specs.Seen.{command_of}
@@ -8,13 +8,25 @@ use Rattle.segment_cli.specs.Segments.{IsAt, Place, answer_line}
 use Rattle.segment_cli.proofs.Owed.{writes_owed}
 use Rattle.segment_cli.proofs.Meant.{asked-meant}
 use Rattle.segment_cli.proofs.WrongLines.{wrong-owed, wrong-stays}
-use Rattle.segment_cli.proofs.Zeros.{executed, not_pop, popped, popped-owed}
+use Rattle.segment_cli.proofs.Zeros.{answered, asked-owed, executed, no_element, popped}
 use Rattle.segment_cli.proofs.segments.SegmentMachine.answer.Goals as goal
 
 pub reply-answer-requires : goal.reply-answer-requires
 reply-answer-requires g c = record {
   meant = asked-meant (command_of c.in-Asked.command) c.args.line.now c.in-Asked.ensures;
-  stays = not_pop c.in-Asked.command c.in_default.not-Pop;
+  short = no_element c.in-Asked.command c.in_default.not-Get c.in_default.not-Pop;
+}
+
+pub returns-in-Get-clause-leads : goal.returns-in-Get-clause-leads
+returns-in-Get-clause-leads g c =
+    answered c.args.self.now (Get (key_seen c.in-Get.key) c.in-Get.index) c.args.line.now refl (ap Asked (sym (ap command_of c.in-Get.is)) ∙ c.in-Asked.ensures)
+
+pub returns-in-Get-clause-writes : goal.returns-in-Get-clause-writes
+returns-in-Get-clause-writes g c = record {
+  writes = λ at h.
+      subst (Writes (g.W.Sink.history c.args.out.now) (g.W.Sink.history c.put_got.new.out) c.put_got.result)
+      (asked-owed c.args.self.now (Get (key_seen c.in-Get.key) c.in-Get.index) c.args.line.now (ap Asked (sym (ap command_of c.in-Get.is)) ∙ c.in-Asked.ensures) at h) (c.put_got.ensures.writes at.directory h.denotes);
+  counted = c.put_got.ensures.counted;
 }
 
 pub returns-in-Pop-clause-leads : goal.returns-in-Pop-clause-leads
@@ -25,7 +37,7 @@ pub returns-in-Pop-clause-writes : goal.returns-in-Pop-clause-writes
 returns-in-Pop-clause-writes g c = record {
   writes = λ at h.
       subst (Writes (g.W.Sink.history c.args.out.now) (g.W.Sink.history c.pop.new.out) c.pop.result)
-      (popped-owed c.args.self.now (key_seen c.in-Pop.key) c.args.line.now (ap Asked (sym (ap command_of c.in-Pop.is)) ∙ c.in-Asked.ensures) at h) (c.pop.ensures.writes.writes at.directory h.denotes);
+      (asked-owed c.args.self.now (Pop (key_seen c.in-Pop.key)) c.args.line.now (ap Asked (sym (ap command_of c.in-Pop.is)) ∙ c.in-Asked.ensures) at h) (c.pop.ensures.writes.writes at.directory h.denotes);
   counted = c.pop.ensures.writes.counted;
 }
 

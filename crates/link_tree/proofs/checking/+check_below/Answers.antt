@@ -177,9 +177,10 @@ module _ {g : Over} {s now : g.row.N.Denot} {link : Option ℕ} {n : ℕ} {low h
   asked_right later end' e good good_high room spent =
       let node : g.N.Nodes.is_node s n ≡ true = rw r.is at good in
       let fits = room_right _ _ _ _ _ _ r.few spent (split room.0 room.2) room.3 in
-      rw (e, r.here, r.right_is)
-      (g.met.N.Nodes.right_closed s n node,
-      (node, (good_high, (room.0, room.1, closed_right room.0 room.1 room.2, fits))))
+      rw (e, r.here, r.right_is) (
+        g.met.N.Nodes.right_closed s n node,
+        (node, (good_high, (room.0, room.1, closed_right room.0 room.1 room.2, fits))),
+      )
 
   found_left : (b k : ℕ) → Found g now left low (Some n) red b k
       → Found g s (g.N.Nodes.cells s n).left low (Some n) (g.N.Nodes.cells s n).red b k
@@ -237,9 +238,11 @@ module _ {g : Over} {s now : g.row.N.Denot} {link : Option ℕ} {n : ℕ} {low h
       let whole = sound_fork (g.N.Nodes.order s) (g.met.N.Nodes.transitive s) (g.met.N.Nodes.irreflexive s) h n low high
       red_above (h n).red before.0 behind.0 b before.1 second r.above r.below refl (λ x y. free (r.red_is ∙ x) y) in
       let t = fork (h n).red before.0 n behind.0 in
-      let black : cond (h n).red b (suc b) ≡ level = rw (← r.red_is) blacks in
-      (t, rw r.is (subst (λ (a : ℕ). Sound g s (Some n) low high red_above t a) black whole),
-      count_fork (h n).red before.0 behind.0 n k k' before.2 behind.2)
+      let black : cond (h n).red b (suc b) ≡ level = rw (← r.red_is) blacks in (
+        t,
+        rw r.is (subst (λ (a : ℕ). Sound g s (Some n) low high red_above t a) black whole),
+        count_fork (h n).red before.0 behind.0 n k k' before.2 behind.2,
+      )
 
 -- ---- answers
 
@@ -278,7 +281,7 @@ right-right-requires-clause-room g t c =
     c.stands_above.ensures.nodes c.stands_below.ensures.value c.if-not-stands_below.false in
     let counts = counts_split order (g.met.N.Nodes.transitive s) (g.met.N.Nodes.irreflexive s) (g.N.Nodes.cells s) ns n
     c.args.low c.args.high listed (sym c.stands_above.ensures.value ∙ c.if-not-stands_above.false) below in
-    room_read _ _ _ _ _ _ _ c.stands_above.ensures.most c.stands_below.ensures.most 
+    room_read _ _ _ _ _ _ _ c.stands_above.ensures.most c.stands_below.ensures.most
     (rw (c.left-left.ensures.stays c.red-red.ensures.at) c.red-red.ensures.most) counts c.requires.room.3
 
 pub check_below-requires : goal.check_below-requires

@@ -1,4 +1,4 @@
-use Rattle.std.proofs.Common.{◌≡◌, ℕ, ◌+◌, ◌*◌, ◌<◌, ◌^◌, Some, sym, ◌∙◌, arith, rules}
+use Rattle.std.proofs.Common.{◌≡◌, ℕ, ◌+◌, ◌*◌, ◌<◌, ◌^◌, Some, sym, ap, ◌∙◌, arith, rules}
 use Rattle.link_tree.specs.Tree.{Tree, height}
 use Rattle.link_tree.specs.Shrinking.{Shrinks}
 use Rattle.link_tree.proofs.Trees.{some_same}
@@ -6,43 +6,67 @@ use Rattle.link_tree.proofs.TakingLeast.{take_last, take_more, left_of, HasLeft}
 use Rattle.link_tree.proofs.removing.+take_least.Goals as goal
 use Rattle.link_tree.proofs.removing.+take_least.Given.{Over}
 
-below : (g : Over) (s : g.row.N.Denot) (at left : ℕ) (t : Tree) → Shrinks (g.N.Nodes.order s) (g.N.Nodes.cells s) (Some at) t → (g.N.Nodes.cells s at).left ≡ Some left
-    → HasLeft (g.N.Nodes.order s) (g.met.N.Nodes.transitive s) (g.met.N.Nodes.irreflexive s) (g.N.Nodes.cells s) at left t
-below g s at left t w e = left_of (g.N.Nodes.order s) (g.met.N.Nodes.transitive s) (g.met.N.Nodes.irreflexive s) (g.N.Nodes.cells s) at left t w.tree w.ordered e
+below : (g : Over) (s : g.row.N.Denot) (at left : ℕ) (t : Tree) → Shrinks (g.N.Nodes.order s) (g.N.Nodes.cells s)
+    (Some at) t → (g.N.Nodes.cells s at).left ≡ Some left
+    → HasLeft (g.N.Nodes.order s) (g.met.N.Nodes.transitive s) (g.met.N.Nodes.irreflexive s) (g.N.Nodes.cells s) at
+    left t
+below g s at left t w e = left_of (g.N.Nodes.order s) (g.met.N.Nodes.transitive s) (g.met.N.Nodes.irreflexive s)
+    (g.N.Nodes.cells s) at left t w.tree w.ordered e
 
 pub returns-in_default-clause-rest : goal.returns-in_default-clause-rest
 returns-in_default-clause-rest g t c = λ u w.
     let s = c.args.visits.now.nodes.now in
     let h = g.N.Nodes.cells s in
-    let e : c.child-right.new.self.nodes.now ≡ s = cc in
-    let right : c.child-right.result ≡ (h c.args.at).right = cc in
-    let red : c.red-red.result ≡ (h c.args.at).red = cc in
+    let e1 : c.red-red.new.self.nodes.now ≡ s = c.red-red.ensures.nodes ∙ c.child.ensures.nodes in
+    let e : c.child-right.new.self.nodes.now ≡ s = c.child-right.ensures.nodes ∙ e1 in
+    let right : c.child-right.result ≡ (h c.args.at).right =
+    c.child-right.ensures.value ∙ ap (λ (x : g.row.N.Denot). (g.N.Nodes.cells x c.args.at).right) e1 in
+    let red : c.red-red.result ≡ (h c.args.at).red =
+    c.red-red.ensures.value ∙ ap (λ (x : g.row.N.Denot). (g.N.Nodes.cells x c.args.at).red) c.child.ensures.nodes in
     let sink = rw (e, right, red) at c.sink.ensures.sunk in
-    take_last (g.N.Nodes.order s) (g.met.N.Nodes.transitive s) (g.met.N.Nodes.irreflexive s) h (g.N.Nodes.cells c.sink.new.visits.nodes.now)
-    c.args.at c.sink.result.root c.sink.result.fell u w.tree (cc) w.ordered sink
+    take_last (g.N.Nodes.order s) (g.met.N.Nodes.transitive s) (g.met.N.Nodes.irreflexive s) h
+    (g.N.Nodes.cells c.sink.new.visits.nodes.now)
+    c.args.at c.sink.result.root c.sink.result.fell u w.tree (sym c.child.ensures.value ∙ c.in_default.is) w.ordered
+    sink
 
 pub take_least-below-requires : goal.take_least-below-requires
 take_least-below-requires g t c =
     let s = c.args.visits.now.nodes.now in
     let h = g.N.Nodes.cells s in
     let left = c.in-Some.left in
-    let is_left : (h c.args.at).left ≡ Some left = cc in
+    let is_left : (h c.args.at).left ≡ Some left = sym c.child.ensures.value ∙ c.in-Some.is in
     let b = below g s c.args.at left c.requires.tree.0 c.requires.tree.1 is_left in
-    let e : c.child.new.self.nodes.now ≡ s = cc in
+    let e : c.child.new.self.nodes.now ≡ s = c.child.ensures.nodes in
     let room = c.requires.tree.2 in
     let goes = c.child.ensures.goes c.requires.away in
     let lower = b.lower in
-    let tree : (u : Tree) × Shrinks (g.N.Nodes.order c.child.new.self.nodes.now) (g.N.Nodes.cells c.child.new.self.nodes.now) (Some left) u
+    let tree : (u : Tree) × Shrinks (g.N.Nodes.order c.child.new.self.nodes.now)
+    (g.N.Nodes.cells c.child.new.self.nodes.now) (Some left) u
     × (c.child.new.self.steps + 14 * height u + 40 < 2 ^ 64) = (b.tree, rw e b.shrinks, omega arith) in
-    λ κs lives. (omega (arith, c.decreases), (search rules, (search rules, (search rules, (λ k. b.apart (some_same left c.args.at (sym k ∙ c.child.ensures.at)), tree)))))
+    λ κs lives. (
+      omega (arith, c.decreases),
+      (
+        search rules,
+        (
+          search rules,
+          (
+            search rules,
+            (
+              λ k. b.apart (some_same left c.args.at (sym k ∙ c.child.ensures.at)),
+              tree,
+            ),
+          ),
+        ),
+      ),
+    )
 
 pub settle-requires-clause-room : goal.settle-requires-clause-room
 settle-requires-clause-room g t c =
     let s = c.args.visits.now.nodes.now in
     let left = c.in-Some.left in
-    let is_left : (g.N.Nodes.cells s c.args.at).left ≡ Some left = cc in
+    let is_left : (g.N.Nodes.cells s c.args.at).left ≡ Some left = sym c.child.ensures.value ∙ c.in-Some.is in
     let b = below g s c.args.at left c.requires.tree.0 c.requires.tree.1 is_left in
-    let e : c.child.new.self.nodes.now ≡ s = cc in
+    let e : c.child.new.self.nodes.now ≡ s = c.child.ensures.nodes in
     let room = c.requires.tree.2 in
     let steps = rw e at c.take_least-below.ensures.steps in
     let lower = b.lower in
@@ -52,9 +76,9 @@ pub returns-clause-node : goal.returns-clause-node
 returns-clause-node g t c = λ u w.
     let s = c.args.visits.now.nodes.now in
     let left = c.in-Some.left in
-    let is_left : (g.N.Nodes.cells s c.args.at).left ≡ Some left = cc in
+    let is_left : (g.N.Nodes.cells s c.args.at).left ≡ Some left = sym c.child.ensures.value ∙ c.in-Some.is in
     let b = below g s c.args.at left u w is_left in
-    let e : c.child.new.self.nodes.now ≡ s = cc in
+    let e : c.child.new.self.nodes.now ≡ s = c.child.ensures.nodes in
     let node = rw e at c.take_least-below.ensures.node in
     node b.tree b.shrinks ∙ sym b.least
 
@@ -63,22 +87,24 @@ returns-clause-rest g t c = λ u w.
     let s = c.args.visits.now.nodes.now in
     let h = g.N.Nodes.cells s in
     let left = c.in-Some.left in
-    let is_left : (h c.args.at).left ≡ Some left = cc in
-    let e : c.child.new.self.nodes.now ≡ s = cc in
-    let eo : g.N.Nodes.order c.take_least-below.new.visits.nodes.now ≡ g.N.Nodes.order s = cc in
+    let is_left : (h c.args.at).left ≡ Some left = sym c.child.ensures.value ∙ c.in-Some.is in
+    let e : c.child.new.self.nodes.now ≡ s = c.child.ensures.nodes in
+    let eo : g.N.Nodes.order c.take_least-below.new.visits.nodes.now ≡ g.N.Nodes.order s =
+    c.take_least-below.ensures.same.order ∙ ap (λ (x : g.row.N.Denot). g.N.Nodes.order x) e in
     let take = rw e at c.take_least-below.ensures.rest in
     let settle = rw eo at c.settle.ensures.settled in
     take_more (g.N.Nodes.order s) (g.met.N.Nodes.transitive s) (g.met.N.Nodes.irreflexive s) h
     (g.N.Nodes.cells c.take_least-below.new.visits.nodes.now) (g.N.Nodes.cells c.settle.new.visits.nodes.now)
-    c.args.at left c.take_least-below.result.rest.root c.settle.result.root c.take_least-below.result.rest.fell c.settle.result.fell u w.tree w.ordered is_left take settle
+    c.args.at left c.take_least-below.result.rest.root c.settle.result.root c.take_least-below.result.rest.fell
+    c.settle.result.fell u w.tree w.ordered is_left take settle
 
 pub returns-clause-steps : goal.returns-clause-steps
 returns-clause-steps g t c = λ u w.
     let s = c.args.visits.now.nodes.now in
     let left = c.in-Some.left in
-    let is_left : (g.N.Nodes.cells s c.args.at).left ≡ Some left = cc in
+    let is_left : (g.N.Nodes.cells s c.args.at).left ≡ Some left = sym c.child.ensures.value ∙ c.in-Some.is in
     let b = below g s c.args.at left u w is_left in
-    let e : c.child.new.self.nodes.now ≡ s = cc in
+    let e : c.child.new.self.nodes.now ≡ s = c.child.ensures.nodes in
     let steps = rw e at c.take_least-below.ensures.steps in
     let lower = b.lower in
     omega (arith, steps b.tree b.shrinks)

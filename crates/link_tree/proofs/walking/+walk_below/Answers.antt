@@ -1,4 +1,5 @@
-use Rattle.std.proofs.Common.{◌≡◌, ◌≢◌, false, ℕ, ◌+◌, ◌-◌, ◌<◌, ◌^◌, true, Option, Some, length, sym, ◌∙◌, arith, rules, of_calls}
+use Rattle.std.proofs.Common.{◌≡◌, ◌≢◌, false, ℕ, ◌+◌, ◌-◌, ◌<◌, ◌^◌, true}
+use Rattle.std.proofs.Common.{Option, Some, length, sym, ap, ◌∙◌, arith, rules, of_calls}
 use Rattle.link_tree.specs.Tree.{Tree, nodes_of}
 use Rattle.link_tree.specs.Nodes.{is_in, leads}
 use Rattle.link_tree.specs.Walking.{IsAhead}
@@ -18,54 +19,103 @@ pub walk_below-requires : goal.walk_below-requires
 walk_below-requires g t c =
     let s = c.args.visits.now.nodes.now in
     let n = c.in-Some.node in
-    let p = ahead g s n c.args.levels c.args.link c.args.visits.now.at c.requires.tree.0 c.in-Some.is c.requires.tree.1 in
-    let e : c.right-right.new.self.nodes.now ≡ s = cc in
-    let left : c.left-left.result ≡ (g.N.Nodes.cells s n).left = cc in
+    let p = ahead g s n c.args.levels c.args.link c.args.visits.now.at c.requires.tree.0 c.in-Some.is c.requires.tree.1
+    in
+    let e : c.right-right.new.self.nodes.now ≡ s = c.right-right.ensures.nodes ∙ c.left-left.ensures.nodes in
+    let left : c.left-left.result ≡ (g.N.Nodes.cells s n).left = c.left-left.ensures.value in
     let stays = c.right-right.ensures.stays c.left-left.ensures.at in
     let room = c.requires.tree.2 in
     let size = p.size in
     let positive = p.positive in
-    let tree : (u : Tree) × IsAhead (g.N.Nodes.order c.right-right.new.self.nodes.now) (g.N.Nodes.cells c.right-right.new.self.nodes.now) c.left-left.result (c.args.levels - 1) c.right-right.new.self.at u × (c.right-right.new.self.steps + length (nodes_of u) + 1 < 2 ^ 64) =
+    let tree : (u : Tree) × IsAhead (g.N.Nodes.order c.right-right.new.self.nodes.now)
+    (g.N.Nodes.cells c.right-right.new.self.nodes.now) c.left-left.result (c.args.levels - 1) c.right-right.new.self.at
+    u × (c.right-right.new.self.steps + length (nodes_of u) + 1 < 2 ^ 64) =
     (p.left, rw (e, left) (p.left_ahead c.right-right.new.self.at c.right-right.ensures.at), omega arith) in
-    let good : leads (g.N.Nodes.is_node c.right-right.new.self.nodes.now) c.left-left.result ≡ true = rw (e, left) (g.met.N.Nodes.left_closed s n (rw c.in-Some.is at c.requires.link)) in
-    λ κs lives. (omega (arith, c.decreases), (search rules, (search rules, (search rules, (c.requires.callable, (good, tree))))))
+    let good : leads (g.N.Nodes.is_node c.right-right.new.self.nodes.now) c.left-left.result ≡ true = rw (e, left)
+    (g.met.N.Nodes.left_closed s n (rw c.in-Some.is at c.requires.link)) in
+    λ κs lives. (
+      omega (arith, c.decreases),
+      (search rules, (search rules, (search rules, (c.requires.callable, (good, tree))))),
+    )
 
 -- what is ahead of the two calls, of which the first leaves the walk at `later`
-both : (g : Over) (s s' s'' : g.row.N.Denot) (n levels : ℕ) (link left here right later before : Option ℕ) (t : Tree) → link ≡ Some n
+both : (g : Over) (s s' s'' : g.row.N.Denot) (n levels : ℕ) (link left here right later before : Option ℕ) (t : Tree) →
+    link ≡ Some n
     → IsAhead (g.N.Nodes.order s) (g.N.Nodes.cells s) link levels before t → here ≡ Some n
-    → ((u : Tree) → IsAhead (g.N.Nodes.order s') (g.N.Nodes.cells s') left (levels - 1) here u → (m : ℕ) → is_in m (nodes_of u) ≡ false → here ≢ Some m → later ≢ Some m)
+    → ((u : Tree) → IsAhead (g.N.Nodes.order s') (g.N.Nodes.cells s') left (levels - 1) here u → (m : ℕ) → is_in m
+    (nodes_of u) ≡ false → here ≢ Some m → later ≢ Some m)
     → s' ≡ s → s'' ≡ s → left ≡ (g.N.Nodes.cells s n).left → right ≡ (g.N.Nodes.cells s n).right
     → BothAhead g.N.Nodes.order g.N.Nodes.cells n levels (nodes_of t) s' s'' left here right later
 both g s s' s'' n levels link left here right later before t is a =
-    both_ahead g.N.Nodes.order g.N.Nodes.cells n levels (nodes_of t) s s' s'' left here right later before (ahead g s n levels link before t is a)
+    both_ahead g.N.Nodes.order g.N.Nodes.cells n levels (nodes_of t) s s' s'' left here right later before
+    (ahead g s n levels link before t is a)
 
 pub walk_below-requires-2 : goal.walk_below-requires-2
 walk_below-requires-2 g t c =
-    let b = both g c.args.visits.now.nodes.now c.right-right.new.self.nodes.now c.walk_below.new.visits.nodes.now c.in-Some.node c.args.levels c.args.link c.left-left.result c.right-right.new.self.at c.right-right.result
-    c.walk_below.new.visits.at c.args.visits.now.at c.requires.tree.0 c.in-Some.is c.requires.tree.1 c.right-right.ensures.at c.walk_below.ensures.at (cc) (cc) (cc) (cc) in
-    let e : c.walk_below.new.visits.nodes.now ≡ c.args.visits.now.nodes.now = cc in
-    let right : c.right-right.result ≡ (g.N.Nodes.cells c.args.visits.now.nodes.now c.in-Some.node).right = cc in
+    let same : c.right-right.new.self.nodes.now ≡ c.args.visits.now.nodes.now = c.right-right.ensures.nodes ∙
+    c.left-left.ensures.nodes in
+    let b = both g c.args.visits.now.nodes.now c.right-right.new.self.nodes.now c.walk_below.new.visits.nodes.now
+    c.in-Some.node c.args.levels c.args.link c.left-left.result c.right-right.new.self.at c.right-right.result
+    c.walk_below.new.visits.at c.args.visits.now.at c.requires.tree.0 c.in-Some.is c.requires.tree.1
+    c.right-right.ensures.at c.walk_below.ensures.at same (c.walk_below.ensures.nodes ∙ same)
+    c.left-left.ensures.value (c.right-right.ensures.value ∙ ap
+    (λ (x : g.row.N.Denot). (g.N.Nodes.cells x c.in-Some.node).right) c.left-left.ensures.nodes) in
+    let e : c.walk_below.new.visits.nodes.now ≡ c.args.visits.now.nodes.now = c.walk_below.ensures.nodes ∙ same in
+    let right : c.right-right.result ≡ (g.N.Nodes.cells c.args.visits.now.nodes.now c.in-Some.node).right =
+    c.right-right.ensures.value ∙ ap (λ (x : g.row.N.Denot). (g.N.Nodes.cells x c.in-Some.node).right)
+    c.left-left.ensures.nodes in
     let spent = c.walk_below.ensures.steps b.left b.left_ahead in
     let stays = c.right-right.ensures.stays c.left-left.ensures.at in
     let room = c.requires.tree.2 in
     let size = b.size in
     let positive = b.positive in
-    let good : leads (g.N.Nodes.is_node c.walk_below.new.visits.nodes.now) c.right-right.result ≡ true = rw (e, right) (g.met.N.Nodes.right_closed _ _ (rw c.in-Some.is at c.requires.link)) in
-    λ κs lives. (omega (arith, c.decreases), (search rules, (search rules, (search rules, (search (of_calls, c.walk_below.ensures.callable, c.visit.ensures), (good, (b.right, b.right_ahead, omega arith)))))))
+    let good : leads (g.N.Nodes.is_node c.walk_below.new.visits.nodes.now) c.right-right.result ≡ true = rw (e, right)
+    (g.met.N.Nodes.right_closed _ _ (rw c.in-Some.is at c.requires.link)) in
+    λ κs lives. (
+      omega (arith, c.decreases),
+      (
+        search rules,
+        (
+          search rules,
+          (
+            search rules,
+            (
+              search (of_calls, c.walk_below.ensures.callable, c.visit.ensures),
+              (good, (b.right, b.right_ahead, omega arith)),
+            ),
+          ),
+        ),
+      ),
+    )
 
 pub returns-clause-walked : goal.returns-clause-walked
 returns-clause-walked g t c = λ u a.
-    let b = both g c.args.visits.now.nodes.now c.right-right.new.self.nodes.now c.walk_below.new.visits.nodes.now c.in-Some.node c.args.levels c.args.link c.left-left.result c.right-right.new.self.at c.right-right.result
-    c.walk_below.new.visits.at c.args.visits.now.at u c.in-Some.is a c.right-right.ensures.at c.walk_below.ensures.at (cc) (cc) (cc) (cc) in
+    let same : c.right-right.new.self.nodes.now ≡ c.args.visits.now.nodes.now = c.right-right.ensures.nodes ∙
+    c.left-left.ensures.nodes in
+    let b = both g c.args.visits.now.nodes.now c.right-right.new.self.nodes.now c.walk_below.new.visits.nodes.now
+    c.in-Some.node c.args.levels c.args.link c.left-left.result c.right-right.new.self.at c.right-right.result
+    c.walk_below.new.visits.at c.args.visits.now.at u c.in-Some.is a c.right-right.ensures.at c.walk_below.ensures.at
+    same (c.walk_below.ensures.nodes ∙ same)
+    c.left-left.ensures.value (c.right-right.ensures.value ∙ ap
+    (λ (x : g.row.N.Denot). (g.N.Nodes.cells x c.in-Some.node).right) c.left-left.ensures.nodes) in
     rw b.nodes
-    (folds_join (λ x k y. goal.F-step g x k tt y) c.args.visit.now (nodes_of b.left) c.walk_below.new.visit c.in-Some.node c.visit.new.self (nodes_of b.right) c.walk_below-2.new.visit
-    (c.walk_below.ensures.walked b.left b.left_ahead) (search (rules, c.visit.ensures)) (c.walk_below-2.ensures.walked b.right b.right_ahead))
+    (folds_join (λ x k y. goal.F-step g x k tt y) c.args.visit.now (nodes_of b.left) c.walk_below.new.visit
+    c.in-Some.node c.visit.new.self (nodes_of b.right) c.walk_below-2.new.visit
+    (c.walk_below.ensures.walked b.left b.left_ahead) (search (rules, c.visit.ensures))
+    (c.walk_below-2.ensures.walked b.right b.right_ahead))
 
 pub returns-clause-steps : goal.returns-clause-steps
 returns-clause-steps g t c = λ u a.
-    let b = both g c.args.visits.now.nodes.now c.right-right.new.self.nodes.now c.walk_below.new.visits.nodes.now c.in-Some.node c.args.levels c.args.link c.left-left.result c.right-right.new.self.at c.right-right.result
-    c.walk_below.new.visits.at c.args.visits.now.at u c.in-Some.is a c.right-right.ensures.at c.walk_below.ensures.at (cc) (cc) (cc) (cc) in
-    let comes = (ahead g c.args.visits.now.nodes.now c.in-Some.node c.args.levels c.args.link c.args.visits.now.at u c.in-Some.is a).comes in
+    let same : c.right-right.new.self.nodes.now ≡ c.args.visits.now.nodes.now = c.right-right.ensures.nodes ∙
+    c.left-left.ensures.nodes in
+    let b = both g c.args.visits.now.nodes.now c.right-right.new.self.nodes.now c.walk_below.new.visits.nodes.now
+    c.in-Some.node c.args.levels c.args.link c.left-left.result c.right-right.new.self.at c.right-right.result
+    c.walk_below.new.visits.at c.args.visits.now.at u c.in-Some.is a c.right-right.ensures.at c.walk_below.ensures.at
+    same (c.walk_below.ensures.nodes ∙ same)
+    c.left-left.ensures.value (c.right-right.ensures.value ∙ ap
+    (λ (x : g.row.N.Denot). (g.N.Nodes.cells x c.in-Some.node).right) c.left-left.ensures.nodes) in
+    let comes = (ahead g c.args.visits.now.nodes.now c.in-Some.node c.args.levels c.args.link c.args.visits.now.at u
+    c.in-Some.is a).comes in
     let goes = c.left-left.ensures.goes comes in
     let stays = c.right-right.ensures.stays c.left-left.ensures.at in
     let spent = c.walk_below.ensures.steps b.left b.left_ahead in
@@ -76,8 +126,15 @@ returns-clause-steps g t c = λ u a.
 pub returns-clause-at : goal.returns-clause-at
 returns-clause-at g t c = λ u a m out here.
     let n = c.in-Some.node in
-    let b = both g c.args.visits.now.nodes.now c.right-right.new.self.nodes.now c.walk_below.new.visits.nodes.now c.in-Some.node c.args.levels c.args.link c.left-left.result c.right-right.new.self.at c.right-right.result
-    c.walk_below.new.visits.at c.args.visits.now.at u c.in-Some.is a c.right-right.ensures.at c.walk_below.ensures.at (cc) (cc) (cc) (cc) in
+    let same : c.right-right.new.self.nodes.now ≡ c.args.visits.now.nodes.now = c.right-right.ensures.nodes ∙
+    c.left-left.ensures.nodes in
+    let b = both g c.args.visits.now.nodes.now c.right-right.new.self.nodes.now c.walk_below.new.visits.nodes.now
+    c.in-Some.node c.args.levels c.args.link c.left-left.result c.right-right.new.self.at c.right-right.result
+    c.walk_below.new.visits.at c.args.visits.now.at u c.in-Some.is a c.right-right.ensures.at c.walk_below.ensures.at
+    same (c.walk_below.ensures.nodes ∙ same)
+    c.left-left.ensures.value (c.right-right.ensures.value ∙ ap
+    (λ (x : g.row.N.Denot). (g.N.Nodes.cells x c.in-Some.node).right) c.left-left.ensures.nodes) in
     let o = outside_parts m (nodes_of b.left) n (nodes_of b.right) (rw b.nodes at out) in
     let at_node = c.right-right.ensures.at in
-    c.walk_below-2.ensures.at b.right b.right_ahead m o.right (c.walk_below.ensures.at b.left b.left_ahead m o.left (λ f. o.middle (some_same m n (sym f ∙ at_node))))
+    c.walk_below-2.ensures.at b.right b.right_ahead m o.right (c.walk_below.ensures.at b.left b.left_ahead m o.left
+    (λ f. o.middle (some_same m n (sym f ∙ at_node))))

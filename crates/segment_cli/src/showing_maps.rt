@@ -1,10 +1,12 @@
 //! A map that is shown: its kind and its pairs by rising keys.
-ghost use Rattle.std.specs.Prelude.{◌-◌, ◌^◌, ◌<◌};
+ghost use Rattle.std.specs.Prelude.{◌≡◌, ◌-◌, ◌^◌, ◌<◌, option_map, true};
 ghost use Rattle.raw_region.specs.Device.{Writes};
 ghost use Rattle.seg_types.specs.Names.{ByHandle};
+ghost use Rattle.seg_types.specs.Values.{kind_of_scalar, value_of_scalar};
 ghost use Rattle.segment_manager.specs.Located.{IsObject};
-ghost use Rattle.segment_manager.specs.State.{StandsFor};
-ghost use Rattle.segment_manager.specs.Walks.{IsMap, item_seen};
+ghost use Rattle.segment_manager.specs.Maps.{pair_above};
+ghost use Rattle.segment_manager.specs.State.{Answers, StandsFor};
+ghost use Rattle.segment_manager.specs.Walks.{IsMap, item_of_kinds, item_seen, pairs_at};
 ghost use Rattle.segment_cli.specs.ShownPairs.{item_text, map_line, pairs_text};
 ghost use Rattle.segment_cli.specs.Writing.{WritesFor};
 
@@ -49,13 +51,32 @@ fn put_pairs<W: Sink>(
         (λ d. pairs_text keys values d (ByHandle object.handle) count) }
 {
     let mut next = segment.first_pair(&object, keys, values);
-    'pairs: for _ in 0..count {
+    'pairs: for index in 0..count {
         if let Some((key, value)) = next {
             put_pair(key, value, out)?;
-            next = segment.next_pair(&object, key, values);
+            next = pair_behind(segment, object, key, values, index + 1 < count);
         }
     }
     Ok(())
+}
+
+/// The pair above a key of a map, where there is one more to write.
+fn pair_behind(
+    segment: &Segment,
+    object: Object,
+    key: ScalarValue,
+    values: ScalarKind,
+    more: bool,
+) -> Option<(ScalarValue, ScalarValue)>
+    requires object { IsObject object segment.now }
+    requires map { IsMap segment.now (ByHandle object.handle) (kind_of_scalar key) values }
+    ensures { more ≡ true → Answers segment.now (λ d. option_map (item_of_kinds (kind_of_scalar key) values) (pair_above (value_of_scalar key) (pairs_at d (ByHandle object.handle)))) (option_map item_seen result) }
+{
+    if more {
+        segment.next_pair(&object, key, values)
+    } else {
+        None
+    }
 }
 
 /// Writes a key and its value behind a blank.

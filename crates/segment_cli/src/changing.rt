@@ -13,7 +13,7 @@ use crate::rows::{Row, literal_row, only_text};
 use crate::setting::value_of;
 use crate::text_rows::literal_texts;
 use seg_types::{Key, Kind, Refusal, Scalar, ScalarKind, ScalarValue};
-use segment_lang::{Literal, Literals, Quoted};
+use segment_lang::{Literal, Literals, Quoted, Text};
 use segment_manager::{Mode, Segment};
 
 /// A new element of a vector.
@@ -75,7 +75,12 @@ fn new_element<'a>(
 /// `ReadOnly` where the segment is open for reading, and else `NotFound` where no object has the key, `WrongKind` where it is no
 /// vector or the literal has not the form of its elements, `OutOfRange` where the literal is not in their range, and nothing
 /// changes; `NoSpace` where the vector is full and its storage cannot be regrown, or a text has no fit: the objects are as before.
-pub fn push(segment: &mut Segment, key: &Key, literal: Literal<'_>) -> Result<(), Refusal>
+pub fn push(
+    segment: &mut Segment,
+    key: &Key,
+    literal: Literal<'_>,
+    scratch: &mut Text,
+) -> Result<(), Refusal>
     requires { bytes_taken (literal_of literal ∷ []) ≤ 4097 }
     ensures step { IsStep segment.old segment.new (Push (key_seen key.now) (literal_of literal.entry)) (done_answer result) }
     ensures refused { KeepsRefused segment.old segment.new result }
@@ -83,7 +88,7 @@ pub fn push(segment: &mut Segment, key: &Key, literal: Literal<'_>) -> Result<()
     match new_element(segment, key, literal) {
         Err(why) => Err(why),
         Ok(NewElement::Scalar(value)) => push_value(segment, key, value),
-        Ok(NewElement::Text(text)) => push_text(segment, key, &text),
+        Ok(NewElement::Text(text)) => push_text(segment, key, text, scratch),
     }
 }
 
@@ -102,15 +107,18 @@ fn push_value(segment: &mut Segment, key: &Key, value: ScalarValue) -> Result<()
     }
 }
 
-/// Puts a text behind the last one of the vector of strings of a key. Its bytes stand in this function's frame alone, so that no
-/// other line pays for them.
-#[inline(never)]
-fn push_text(segment: &mut Segment, key: &Key, text: &Quoted<'_>) -> Result<(), Refusal>
-    requires { length text.now ≤ 4096 }
-    ensures step { IsStepOfKind segment.old segment.new (key_seen key.now) TextsKind (Push (key_seen key.now) (AskedQuoted text.now)) (done_answer result) }
+/// Puts a text behind the last one of the vector of strings of a key.
+fn push_text(
+    segment: &mut Segment,
+    key: &Key,
+    text: Quoted<'_>,
+    scratch: &mut Text,
+) -> Result<(), Refusal>
+    requires { length text ≤ 4096 }
+    ensures step { IsStepOfKind segment.old segment.new (key_seen key.now) TextsKind (Push (key_seen key.now) (AskedQuoted text.entry)) (done_answer result) }
     ensures refused { KeepsRefused segment.old segment.new result }
 {
-    segment.texts_push(key, text.to_text().as_slice())
+    segment.texts_push(key, text.bytes(scratch))
 }
 
 /// Puts the value that a literal is where `index` others stand before it in the vector of a key.
@@ -126,6 +134,7 @@ pub fn insert(
     key: &Key,
     index: u64,
     literal: Literal<'_>,
+    scratch: &mut Text,
 ) -> Result<(), Refusal>
     requires { bytes_taken (literal_of literal ∷ []) ≤ 4097 }
     ensures step { IsStep segment.old segment.new (Insert (key_seen key.now) index (literal_of literal.entry)) (done_answer result) }
@@ -134,7 +143,7 @@ pub fn insert(
     match new_element(segment, key, literal) {
         Err(why) => Err(why),
         Ok(NewElement::Scalar(value)) => insert_value(segment, key, index, value),
-        Ok(NewElement::Text(text)) => insert_text(segment, key, index, &text),
+        Ok(NewElement::Text(text)) => insert_text(segment, key, index, text, scratch),
     }
 }
 
@@ -159,18 +168,18 @@ fn insert_value(
 }
 
 /// Puts a text where `index` others stand before it in the vector of strings of a key.
-#[inline(never)]
 fn insert_text(
     segment: &mut Segment,
     key: &Key,
     index: u64,
-    text: &Quoted<'_>,
+    text: Quoted<'_>,
+    scratch: &mut Text,
 ) -> Result<(), Refusal>
-    requires { length text.now ≤ 4096 }
-    ensures step { IsStepOfKind segment.old segment.new (key_seen key.now) TextsKind (Insert (key_seen key.now) index (AskedQuoted text.now)) (done_answer result) }
+    requires { length text ≤ 4096 }
+    ensures step { IsStepOfKind segment.old segment.new (key_seen key.now) TextsKind (Insert (key_seen key.now) index (AskedQuoted text.entry)) (done_answer result) }
     ensures refused { KeepsRefused segment.old segment.new result }
 {
-    segment.texts_insert(key, index, text.to_text().as_slice())
+    segment.texts_insert(key, index, text.bytes(scratch))
 }
 
 /// Leaves out the element at `index` in the vector of a key.
@@ -220,7 +229,12 @@ fn erase_element(
 /// neither or a value has not the form of its elements, `OutOfRange` where a value is not in their range, and nothing changes;
 /// `NoSpace` where its storage cannot be regrown or a text has no fit: the objects are as before.
 #[inline(never)]
-pub fn assign(segment: &mut Segment, key: &Key, values: Literals<'_>) -> Result<(), Refusal>
+pub fn assign(
+    segment: &mut Segment,
+    key: &Key,
+    values: Literals<'_>,
+    scratch: &mut Text,
+) -> Result<(), Refusal>
     requires { bytes_taken values ≤ 4097 }
     ensures step { IsStep segment.old segment.new (Assign (key_seen key.now) values.entry) (done_answer result) }
     ensures refused { KeepsRefused segment.old segment.new result }
@@ -229,7 +243,7 @@ pub fn assign(segment: &mut Segment, key: &Key, values: Literals<'_>) -> Result<
         Err(why) => Err(why),
         Ok(kind) => match kind {
             Kind::Vector(element) => assign_vector(segment, key, element, values),
-            Kind::Text => assign_string(segment, key, values),
+            Kind::Text => assign_string(segment, key, values, scratch),
             Kind::Texts => assign_texts(segment, key, values),
             _ => Err(Refusal::WrongKind),
         },
@@ -275,16 +289,20 @@ fn assign_row<T: Scalar>(
 }
 
 /// Makes one text the bytes of the string of a key.
-#[inline(never)]
-fn assign_string(segment: &mut Segment, key: &Key, values: Literals<'_>) -> Result<(), Refusal>
+fn assign_string(
+    segment: &mut Segment,
+    key: &Key,
+    values: Literals<'_>,
+    scratch: &mut Text,
+) -> Result<(), Refusal>
     requires of_kind { IsChangeable segment.old (key_seen key.now) TextKind }
     requires few { bytes_taken values ≤ 4097 }
     ensures step { IsStep segment.old segment.new (Assign (key_seen key.now) values.entry) (done_answer result) }
     ensures refused { OnErr result (segment.new ≡ segment.old) }
 {
-    match only_text(values) {
+    match only_text(values, scratch) {
         Err(why) => Err(why),
-        Ok(text) => segment.string_assign(key, text.as_slice()),
+        Ok(text) => segment.string_assign(key, text),
     }
 }
 
@@ -307,13 +325,17 @@ fn assign_texts(segment: &mut Segment, key: &Key, values: Literals<'_>) -> Resul
 /// # Errors
 ///
 /// As the segment's call. Nothing changes.
-#[inline(never)]
-pub fn append(segment: &mut Segment, key: &Key, text: &Quoted<'_>) -> Result<(), Refusal>
-    requires { length text.now ≤ 4096 }
-    ensures step { IsStep segment.old segment.new (Append (key_seen key.now) text.now) (done_answer result) }
+pub fn append(
+    segment: &mut Segment,
+    key: &Key,
+    text: Quoted<'_>,
+    scratch: &mut Text,
+) -> Result<(), Refusal>
+    requires { length text ≤ 4096 }
+    ensures step { IsStep segment.old segment.new (Append (key_seen key.now) text.entry) (done_answer result) }
     ensures refused { OnErr result (segment.new ≡ segment.old) }
 {
-    segment.string_append(key, text.to_text().as_slice())
+    segment.string_append(key, text.bytes(scratch))
 }
 
 /// Makes room in the vector or string of a key.

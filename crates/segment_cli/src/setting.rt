@@ -13,7 +13,7 @@ ghost use Rattle.segment_cli.specs.Settings.{IsValueOf};
 
 use crate::changing::kind_to_change;
 use seg_types::{Key, Kind, Refusal, ScalarKind, ScalarValue};
-use segment_lang::Literal;
+use segment_lang::{Literal, Text};
 use segment_manager::Segment;
 
 /// Makes what a literal is the element at `index` in the object of a key.
@@ -28,6 +28,7 @@ pub fn set(
     key: &Key,
     index: u64,
     literal: Literal<'_>,
+    scratch: &mut Text,
 ) -> Result<(), Refusal>
     requires { bytes_taken (literal_of literal ∷ []) ≤ 4097 }
     ensures step { IsStep segment.old segment.new (Set (key_seen key.now) index (literal_of literal.entry)) (done_answer result) }
@@ -40,7 +41,7 @@ pub fn set(
                 set_scalar(segment, key, element, index, literal)
             }
             Kind::Text => set_scalar(segment, key, ScalarKind::U8, index, literal),
-            Kind::Texts => set_text(segment, key, index, literal),
+            Kind::Texts => set_text(segment, key, index, literal, scratch),
             Kind::Map(_, _) => Err(Refusal::WrongKind),
         },
     }
@@ -66,12 +67,12 @@ fn set_scalar(
 }
 
 /// Makes what a literal is the text at `index` in the vector of strings of a key.
-#[inline(never)]
 fn set_text(
     segment: &mut Segment,
     key: &Key,
     index: u64,
     literal: Literal<'_>,
+    scratch: &mut Text,
 ) -> Result<(), Refusal>
     requires of_kind { IsChangeable segment.old (key_seen key.now) TextsKind }
     requires few { bytes_taken (literal_of literal ∷ []) ≤ 4097 }
@@ -79,7 +80,7 @@ fn set_text(
     ensures refused { OnErr result (segment.new ≡ segment.old) }
 {
     match literal {
-        Literal::Quoted(text) => segment.texts_set(key, index, text.to_text().as_slice()),
+        Literal::Quoted(text) => segment.texts_set(key, index, text.bytes(scratch)),
         _ => Err(Refusal::WrongKind),
     }
 }

@@ -15,7 +15,7 @@ use crate::rows::{Row, literal_row, only_text};
 use crate::setting::value_of;
 use crate::text_rows::literal_texts;
 use seg_types::{Key, Kind, Refusal, Scalar, ScalarKind, ScalarValue};
-use segment_lang::{Literal, Literals, Quoted};
+use segment_lang::{Literal, Literals, Quoted, Text};
 use segment_manager::{Mode, Object, Segment};
 
 /// A new element of a vector.
@@ -77,7 +77,12 @@ fn new_element<'a>(
 /// `ReadOnly` where the segment is open for reading, and else `NotFound` where no object has the key, `WrongKind` where it is no
 /// vector or the literal has not the form of its elements, `OutOfRange` where the literal is not in their range, and nothing
 /// changes; `NoSpace` where the vector is full and its storage cannot be regrown, or a text has no fit: the objects are as before.
-pub fn push(segment: &mut Segment, key: &Key, literal: Literal<'_>) -> Result<(), Refusal>
+pub fn push(
+    segment: &mut Segment,
+    key: &Key,
+    literal: Literal<'_>,
+    scratch: &mut Text,
+) -> Result<(), Refusal>
     requires { bytes_taken (literal_of literal ∷ []) ≤ 4097 }
     ensures step { IsStep segment.old segment.new (Push (key_seen key.now) (literal_of literal.entry)) (done_answer result) }
     ensures refused { KeepsRefused segment.old segment.new result }
@@ -86,7 +91,7 @@ pub fn push(segment: &mut Segment, key: &Key, literal: Literal<'_>) -> Result<()
         Err(why) => Err(why),
         Ok((object, element)) => match element {
             NewElement::Scalar(value) => push_value(segment, object, value),
-            NewElement::Text(text) => push_text(segment, object, &text),
+            NewElement::Text(text) => push_text(segment, object, text, scratch),
         },
     }
 }
@@ -107,16 +112,19 @@ fn push_value(segment: &mut Segment, object: Object, value: ScalarValue) -> Resu
     }
 }
 
-/// Puts a text behind the last one of the vector of strings of a key. Its bytes stand in this function's frame alone, so that no
-/// other line pays for them.
-#[inline(never)]
-fn push_text(segment: &mut Segment, object: Object, text: &Quoted<'_>) -> Result<(), Refusal>
+/// Puts a text behind the last one of the vector of strings of a key.
+fn push_text(
+    segment: &mut Segment,
+    object: Object,
+    text: Quoted<'_>,
+    scratch: &mut Text,
+) -> Result<(), Refusal>
     requires object { IsObject object segment.old }
-    requires few { length text.now ≤ 4096 }
-    ensures step { IsStepOfKind segment.old segment.new (ByHandle object.handle) TextsKind (Push (ByHandle object.handle) (AskedQuoted text.now)) (done_answer result) }
+    requires few { length text ≤ 4096 }
+    ensures step { IsStepOfKind segment.old segment.new (ByHandle object.handle) TextsKind (Push (ByHandle object.handle) (AskedQuoted text.entry)) (done_answer result) }
     ensures refused { KeepsRefused segment.old segment.new result }
 {
-    segment.texts_push(&object, text.to_text().as_slice())
+    segment.texts_push(&object, text.bytes(scratch))
 }
 
 /// Puts the value that a literal is where `index` others stand before it in the vector of a key.
@@ -132,6 +140,7 @@ pub fn insert(
     key: &Key,
     index: u64,
     literal: Literal<'_>,
+    scratch: &mut Text,
 ) -> Result<(), Refusal>
     requires { bytes_taken (literal_of literal ∷ []) ≤ 4097 }
     ensures step { IsStep segment.old segment.new (Insert (key_seen key.now) index (literal_of literal.entry)) (done_answer result) }
@@ -141,7 +150,7 @@ pub fn insert(
         Err(why) => Err(why),
         Ok((object, element)) => match element {
             NewElement::Scalar(value) => insert_value(segment, object, index, value),
-            NewElement::Text(text) => insert_text(segment, object, index, &text),
+            NewElement::Text(text) => insert_text(segment, object, index, text, scratch),
         },
     }
 }
@@ -168,19 +177,19 @@ fn insert_value(
 }
 
 /// Puts a text where `index` others stand before it in the vector of strings.
-#[inline(never)]
 fn insert_text(
     segment: &mut Segment,
     object: Object,
     index: u64,
-    text: &Quoted<'_>,
+    text: Quoted<'_>,
+    scratch: &mut Text,
 ) -> Result<(), Refusal>
     requires object { IsObject object segment.old }
-    requires few { length text.now ≤ 4096 }
-    ensures step { IsStepOfKind segment.old segment.new (ByHandle object.handle) TextsKind (Insert (ByHandle object.handle) index (AskedQuoted text.now)) (done_answer result) }
+    requires few { length text ≤ 4096 }
+    ensures step { IsStepOfKind segment.old segment.new (ByHandle object.handle) TextsKind (Insert (ByHandle object.handle) index (AskedQuoted text.entry)) (done_answer result) }
     ensures refused { KeepsRefused segment.old segment.new result }
 {
-    segment.texts_insert(&object, index, text.to_text().as_slice())
+    segment.texts_insert(&object, index, text.bytes(scratch))
 }
 
 /// Leaves out the element at `index` in the vector of a key.
@@ -231,7 +240,12 @@ fn erase_element(
 /// neither or a value has not the form of its elements, `OutOfRange` where a value is not in their range, and nothing changes;
 /// `NoSpace` where its storage cannot be regrown or a text has no fit: the objects are as before.
 #[inline(never)]
-pub fn assign(segment: &mut Segment, key: &Key, values: Literals<'_>) -> Result<(), Refusal>
+pub fn assign(
+    segment: &mut Segment,
+    key: &Key,
+    values: Literals<'_>,
+    scratch: &mut Text,
+) -> Result<(), Refusal>
     requires { bytes_taken values ≤ 4097 }
     ensures step { IsStep segment.old segment.new (Assign (key_seen key.now) values.entry) (done_answer result) }
     ensures refused { KeepsRefused segment.old segment.new result }
@@ -240,7 +254,7 @@ pub fn assign(segment: &mut Segment, key: &Key, values: Literals<'_>) -> Result<
         Err(why) => Err(why),
         Ok(object) => match object.kind {
             Kind::Vector(element) => assign_vector(segment, object, element, values),
-            Kind::Text => assign_string(segment, object, values),
+            Kind::Text => assign_string(segment, object, values, scratch),
             Kind::Texts => assign_texts(segment, object, values),
             _ => Err(Refusal::WrongKind),
         },
@@ -288,17 +302,21 @@ fn assign_row<T: Scalar>(
 }
 
 /// Makes one text the bytes of a string.
-#[inline(never)]
-fn assign_string(segment: &mut Segment, object: Object, values: Literals<'_>) -> Result<(), Refusal>
+fn assign_string(
+    segment: &mut Segment,
+    object: Object,
+    values: Literals<'_>,
+    scratch: &mut Text,
+) -> Result<(), Refusal>
     requires object { IsObject object segment.old }
     requires of_kind { IsChangeable segment.old (ByHandle object.handle) TextKind }
     requires few { bytes_taken values ≤ 4097 }
     ensures step { IsStep segment.old segment.new (Assign (ByHandle object.handle) values.entry) (done_answer result) }
     ensures refused { OnErr result (segment.new ≡ segment.old) }
 {
-    match only_text(values) {
+    match only_text(values, scratch) {
         Err(why) => Err(why),
-        Ok(text) => segment.string_assign(&object, text.as_slice()),
+        Ok(text) => segment.string_assign(&object, text),
     }
 }
 
@@ -322,13 +340,17 @@ fn assign_texts(segment: &mut Segment, object: Object, values: Literals<'_>) -> 
 /// # Errors
 ///
 /// As the segment's call. Nothing changes.
-#[inline(never)]
-pub fn append(segment: &mut Segment, key: &Key, text: &Quoted<'_>) -> Result<(), Refusal>
-    requires { length text.now ≤ 4096 }
-    ensures step { IsStep segment.old segment.new (Append (key_seen key.now) text.now) (done_answer result) }
+pub fn append(
+    segment: &mut Segment,
+    key: &Key,
+    text: Quoted<'_>,
+    scratch: &mut Text,
+) -> Result<(), Refusal>
+    requires { length text ≤ 4096 }
+    ensures step { IsStep segment.old segment.new (Append (key_seen key.now) text.entry) (done_answer result) }
     ensures refused { OnErr result (segment.new ≡ segment.old) }
 {
-    segment.string_append(key, text.to_text().as_slice())
+    segment.string_append(key, text.bytes(scratch))
 }
 
 /// Makes room in the vector or string of a key.

@@ -15,7 +15,7 @@ ghost use Rattle.segment_cli.specs.Settings.{IsValueOf};
 
 use crate::changing::object_to_change;
 use seg_types::{Key, Kind, Refusal, ScalarKind, ScalarValue};
-use segment_lang::Literal;
+use segment_lang::{Literal, Text};
 use segment_manager::{Object, Segment};
 
 /// Makes what a literal is the element at `index` in the object of a key.
@@ -30,6 +30,7 @@ pub fn set(
     key: &Key,
     index: u64,
     literal: Literal<'_>,
+    scratch: &mut Text,
 ) -> Result<(), Refusal>
     requires { bytes_taken (literal_of literal ∷ []) ≤ 4097 }
     ensures step { IsStep segment.old segment.new (Set (key_seen key.now) index (literal_of literal.entry)) (done_answer result) }
@@ -42,7 +43,7 @@ pub fn set(
                 set_scalar(segment, object, element, index, literal)
             }
             Kind::Text => set_scalar(segment, object, ScalarKind::U8, index, literal),
-            Kind::Texts => set_text(segment, object, index, literal),
+            Kind::Texts => set_text(segment, object, index, literal, scratch),
             Kind::Map(_, _) => Err(Refusal::WrongKind),
         },
     }
@@ -69,12 +70,12 @@ fn set_scalar(
 }
 
 /// Makes what a literal is the text at `index` in the vector of strings of a key.
-#[inline(never)]
 fn set_text(
     segment: &mut Segment,
     object: Object,
     index: u64,
     literal: Literal<'_>,
+    scratch: &mut Text,
 ) -> Result<(), Refusal>
     requires object { IsObject object segment.old }
     requires of_kind { IsChangeable segment.old (ByHandle object.handle) TextsKind }
@@ -83,7 +84,7 @@ fn set_text(
     ensures refused { OnErr result (segment.new ≡ segment.old) }
 {
     match literal {
-        Literal::Quoted(text) => segment.texts_set(&object, index, text.to_text().as_slice()),
+        Literal::Quoted(text) => segment.texts_set(&object, index, text.bytes(scratch)),
         _ => Err(Refusal::WrongKind),
     }
 }

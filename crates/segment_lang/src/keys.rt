@@ -50,11 +50,7 @@ fn agrees(kind: Kind, key: &IndexKey<'_>) -> bool
 }
 
 /// The entry that a word is, where it may hold an object of the kind.
-pub fn index_key_for<'a>(
-    kind: Kind,
-    word: Word<'a>,
-    scratch: &'a mut Text,
-) -> Option<IndexKey<'a>>
+pub fn index_key_for<'a>(kind: Kind, word: Word<'a>, scratch: &'a mut Text) -> Option<IndexKey<'a>>
     ensures { option_map index_key_seen result ≡ for_kind kind (name_key (whole current) (word_of word.entry)) }
 {
     let key = index_key(word, scratch)?;
@@ -65,11 +61,7 @@ pub fn index_key_for<'a>(
 }
 
 /// The key that a new object of the kind gets: an entry, or `-`.
-pub fn new_key_for<'a>(
-    kind: Kind,
-    word: Word<'a>,
-    scratch: &'a mut Text,
-) -> Option<NewKey<'a>>
+pub fn new_key_for<'a>(kind: Kind, word: Word<'a>, scratch: &'a mut Text) -> Option<NewKey<'a>>
     ensures { option_map new_key_seen result ≡ for_kind kind (new_key (whole current) (word_of word.entry)) }
 {
     match word {

@@ -34,14 +34,19 @@ impl<'a> Model for Quoted<'a> {
 impl<'a> Quoted<'a> {
     ghost use Rattle.seg_types.specs.Keys.{name_seen};
 
-    /// The bytes as a text of its own.
-    pub fn to_text(&self) -> Text
+    /// The bytes. They are lent from the line, or decoded into `scratch` where the line escapes one, whatever it held.
+    pub fn bytes(&self, scratch: &'a mut Text) -> &'a [u8]
         requires { length self.now ≤ 4096 }
-        ensures { result ≡ self.now }
+        ensures { result.now ≡ self.now }
     {
-        let mut text = Text::new();
-        self.append_to(&mut text);
-        text
+        match self.lent() {
+            Some(bytes) => bytes,
+            None => {
+                scratch.clear();
+                self.append_to(scratch);
+                scratch.as_slice()
+            }
+        }
     }
 
     /// The bytes as the line spells them, or `None` where one is escaped.

@@ -1,8 +1,5 @@
-use Rattle.std.proofs.Common.{◌∷◌, [], subst}
-use Rattle.seg_types.specs.declared.kinds.Kind.TheVariants.{Text}
-use Rattle.seg_types.specs.Commands.{Assign, Quoted}
 use Rattle.seg_types.specs.Names.{ByHandle}
-use Rattle.segment_manager.specs.State.{IsStepOfKind, done_answer}
+use Rattle.segment_manager.specs.State.{done_answer}
 use Rattle.segment_cli.proofs.ElementCalls.{no_text-refused, text-read}
 use Rattle.segment_cli.proofs.changing.assign_string.Goals as goal
 
@@ -12,6 +9,5 @@ returns-in-Err-clause-step c =
 
 pub returns-in-Ok-clause-step : goal.returns-in-Ok-clause-step
 returns-in-Ok-clause-step c =
-    text-read c.args.segment.now (ByHandle c.args.object.handle) c.requires.of_kind.is c.string_assign.new.self c.args.values c.in-Ok.text (done_answer c.string_assign.result) c.in-Ok.ensures
-    (subst (λ bs. IsStepOfKind c.args.segment.now c.string_assign.new.self (ByHandle c.args.object.handle) Text (Assign (ByHandle c.args.object.handle) (Quoted bs ∷ [])) (done_answer c.string_assign.result))
-    c.as_slice.ensures c.string_assign.ensures.step)
+    text-read c.args.segment.now (ByHandle c.args.object.handle) c.requires.of_kind.is c.string_assign.new.self c.args.values c.in-Ok.text.now (done_answer c.string_assign.result) c.in-Ok.ensures
+    c.string_assign.ensures.step

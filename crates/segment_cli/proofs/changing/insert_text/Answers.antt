@@ -9,4 +9,4 @@ pub returns-clause-step : goal.returns-clause-step
 returns-clause-step c =
     let key = ByHandle c.args.object.handle in
     subst (λ bs. IsStepOfKind c.args.segment.now c.texts_insert.new.self key Texts (Insert key c.args.index (Quoted bs)) (done_answer c.texts_insert.result))
-    (c.as_slice.ensures ∙ c.to_text.ensures) c.texts_insert.ensures.step
+    c.bytes.ensures c.texts_insert.ensures.step

@@ -9,4 +9,4 @@ pub returns-clause-step : goal.returns-clause-step
 returns-clause-step c =
     let key = ByHandle c.args.object.handle in
     subst (λ bs. IsStepOfKind c.args.segment.now c.texts_push.new.self key Texts (Push key (Quoted bs)) (done_answer c.texts_push.result))
-    (c.as_slice.ensures ∙ c.to_text.ensures) c.texts_push.ensures.step
+    c.bytes.ensures c.texts_push.ensures.step

@@ -13,7 +13,7 @@ returns-in-Quoted-clause-step c =
     let key = ByHandle c.args.object.handle in
     let i = c.args.index in
     rw c.in-Quoted.is (of_kind-steps s c.texts_set.new.self key Texts (Set key i (Quoted c.in-Quoted.text)) (done_answer c.texts_set.result) c.requires.of_kind.is
-    (subst (λ bs. IsStepOfKind s c.texts_set.new.self key Texts (Set key i (Quoted bs)) (done_answer c.texts_set.result)) (c.as_slice.ensures ∙ c.to_text.ensures) c.texts_set.ensures.step))
+    (subst (λ bs. IsStepOfKind s c.texts_set.new.self key Texts (Set key i (Quoted bs)) (done_answer c.texts_set.result)) c.bytes.ensures c.texts_set.ensures.step))
 
 pub returns-in_default : goal.returns-in_default
 returns-in_default c = record {

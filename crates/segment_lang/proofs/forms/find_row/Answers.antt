@@ -4,7 +4,7 @@ use Rattle.std.proofs.lemmas.Iterator.Search.{find_from_yields_List}
 use Rattle.segment_lang.specs.Words.{is}
 use Rattle.segment_lang.specs.declared.forms.CommandForm.{CommandForm}
 use Rattle.segment_lang.proofs.FormTables.{LentRow, found_row}
-use Rattle.segment_lang.proofs.forms.find_form.Goals as goal
+use Rattle.segment_lang.proofs.forms.find_row.Goals as goal
 
 pub returns : goal.returns
 returns c =

@@ -17,7 +17,7 @@ use seg_types::{Kind, is_name};
 use segment_manager::layout::{NAMED_AT, UNIQUE_AT};
 
 /// The longest name.
-const LONGEST: u64 = 255;
+const LONGEST: usize = 255;
 
 /// The most scalars in an object.
 const MOST: u64 = 1048576;
@@ -62,11 +62,11 @@ pub(crate) fn has_name(format: u64, window: &ImageWindow, object: Object) -> boo
     ensures { result ≡ is_named format (bytes_of window.now.bytes) object.at }
 {
     let class = object.class(window);
-    let len = object.name_len(window);
     if class == NAMED {
-        return len <= LONGEST && is_name(format, object.name(window));
+        let name = object.name(window);
+        return name.len() <= LONGEST && is_name(format, name);
     }
-    class <= UNIQUE && len == 0
+    class <= UNIQUE && object.name_len(window) == 0
 }
 
 /// Whether the bytes between the name and the value of the object are zero.

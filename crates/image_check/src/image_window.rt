@@ -168,9 +168,10 @@ impl ImageWindow {
         hold_bytes(self.window.bytes(0, self.window.size()));
     }
 
-    /// The `len` bytes of an element at `from`. One visit.
+    /// The `len` bytes of an element at `from`, at most 8. One visit.
     pub fn element(&self, from: u64, len: u64, visits: &mut Visits) -> &[u8]
-        requires { from + len ≤ length self.now.bytes }
+        requires short { len ≤ 8 }
+        requires inside { from + len ≤ length self.now.bytes }
         ensures bytes { result.now ≡ part self.now.bytes from len }
         ensures len { length result.now ≡ len }
         ensures visits { visits.new ≡ visits.old + 1 }

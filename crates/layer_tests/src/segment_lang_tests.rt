@@ -1,13 +1,21 @@
 //! The readings of lines and the texts of answers, by example.
 
 use raw_region::fake::{Last, MemorySink};
-use seg_types::{Kind, Refusal, ScalarKind, ScalarValue};
+use seg_types::{IndexKey, Key, Kind, Name, NewKey, Refusal, ScalarKind, ScalarValue};
 use segment_lang::{
-    Command, Content, LineError, Literal, Piece, Reading, Word, literal_of, next_word, number_of,
-    only_word, parse_line, put_kind, put_line_error, put_name, put_number, put_pieces, put_text,
-    put_value, whole_of,
+    Command, Content, LineError, Literal, Piece, Reading, Text, Word, literal_of, next_word,
+    number_of, only_word, parse_line, put_kind, put_line_error, put_name, put_number, put_pieces,
+    put_text, put_value, whole_of,
 };
+use std::mem::size_of;
 use std::test::Fail;
+
+// A command is moved as it is, so it is small.
+const _: () = prove!(size_of::<Key<'static>>() <= 24);
+
+const _: () = prove!(size_of::<Literal<'static>>() <= 48);
+
+const _: () = prove!(size_of::<Command<'static>>() <= 112);
 
 #[test]
 fn words_that_do_not_fit_are_none(rt: HostRuntime) {
@@ -33,7 +41,8 @@ fn words_that_do_not_fit_are_none(rt: HostRuntime) {
 
 #[test]
 fn numbers_are_read_one_after_another(rt: HostRuntime) {
-    match parse_line(b"construct vec<i32> v -1 7") {
+    let mut scratch = Text::new();
+    match parse_line(b"construct vec<i32> v -1 7", &mut scratch) {
         Reading::Asked(
             Command::Construct {
                 content: Content::Elements(mut values),
@@ -51,7 +60,8 @@ fn numbers_are_read_one_after_another(rt: HostRuntime) {
 
 #[test]
 fn texts_are_read_one_after_another(rt: HostRuntime) {
-    match parse_line(b"construct vec<string> v \"a\"") {
+    let mut scratch = Text::new();
+    match parse_line(b"construct vec<string> v \"a\"", &mut scratch) {
         Reading::Asked(
             Command::Construct {
                 content: Content::Texts(mut texts),
@@ -59,7 +69,10 @@ fn texts_are_read_one_after_another(rt: HostRuntime) {
             },
         ) => {
             match texts.next() {
-                Some(text) => assert!(rt; text.to_name().is_some()),
+                Some(text) => {
+                    let mut name = Text::new();
+                    assert!(rt; text.to_name(&mut name).is_some());
+                }
                 None => assert!(rt; false, "no text"),
             }
             assert!(rt; texts.next().is_none());
@@ -70,7 +83,8 @@ fn texts_are_read_one_after_another(rt: HostRuntime) {
 
 #[test]
 fn literals_are_read_one_after_another(rt: HostRuntime) {
-    match parse_line(b"assign v 5 true") {
+    let mut scratch = Text::new();
+    match parse_line(b"assign v 5 true", &mut scratch) {
         Reading::Asked(Command::Assign { mut values, .. }) => {
             assert!(rt; matches!(values.next(), Some(Literal::Whole(5))));
             assert!(rt; matches!(values.next(), Some(Literal::Truth(true))));
@@ -98,9 +112,40 @@ fn a_text_has_bytes(rt: HostRuntime) -> Result<(), Fail> {
     let Some((Word::Text(text), _)) = next_word(b"\"c \\\"\\\\\\x0a\xc3\"") else {
         return Err("no text")?;
     };
-    let text = text.to_text();
-    assert_eq!(rt; text.as_slice(), b"c \"\\\n\xc3".as_slice());
-    assert!(rt; text.len() == 6 && !text.is_empty());
+    let mut scratch = Text::new();
+    scratch.push(b'x');
+    assert!(rt; scratch.len() == 1 && !scratch.is_empty());
+    assert_eq!(rt; text.bytes(&mut scratch), b"c \"\\\n\xc3".as_slice());
+    Ok(())
+}
+
+/// Whether a line shows the object of this name.
+fn shows(line: &[u8], name: &[u8], scratch: &mut Text) -> bool {
+    match parse_line(line, scratch) {
+        Reading::Asked(Command::Show(key)) => match key {
+            Key::Name(shown) => shown.as_bytes() == name,
+            _ => false,
+        },
+        _ => false,
+    }
+}
+
+#[test]
+fn a_name_is_lent_or_decoded(rt: HostRuntime) {
+    let mut scratch = Text::new();
+    assert!(rt; shows(b"show \"\\\"a\\x41\"", b"\"aA", &mut scratch));
+    assert!(rt; shows(b"show \"\\\\\"", b"\\", &mut scratch));
+    assert!(rt; shows(b"show \"a b\"", b"a b", &mut scratch));
+    assert!(rt; shows(b"show a_1.", b"a_1.", &mut scratch));
+}
+
+#[test]
+fn names_may_be_copied(rt: HostRuntime) -> Result<(), Fail> {
+    let name = Name::new(b"a").ok_or("no name")?;
+    let entry = IndexKey::Name(name);
+    assert!(rt; entry.into_key() == Key::Name(name));
+    assert!(rt; entry.into_new_key() == NewKey::Name(name));
+    assert!(rt; entry != IndexKey::Unique(Kind::Text));
     Ok(())
 }
 

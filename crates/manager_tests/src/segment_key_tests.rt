@@ -72,7 +72,6 @@ fn an_object_tells_of_itself(rt: HostRuntime) -> Result<(), Fail> {
         assert_eq!(rt; segment.instance_name(&key), Ok(name));
         assert_eq!(rt; segment.instance_class(&key), Ok(class));
         assert_eq!(rt; segment.kind_of(&key), Ok(Kind::Scalar(kind)));
-        assert_eq!(rt; segment.element_kind(&key), Ok(kind));
         assert_eq!(rt; segment.instance_length(&key), Ok(count));
     }
     Ok(())

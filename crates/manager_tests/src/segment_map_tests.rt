@@ -17,7 +17,7 @@ fn assert_pairs<K: Scalar + PartialEq + Debug, V: Scalar + PartialEq + Debug>(
     from: K,
     pairs: &[(K, V)],
 ) {
-    let mut next = segment.map_first_from::<K, V>(key, from);
+    let mut next = segment.map_first_from::<K, V, _>(key, from);
     for &(at, value) in pairs {
         assert_eq!(rt; next, Ok(Some((at, value))));
         assert_eq!(rt; segment.map_get(key, at), Ok(Some(value)));
@@ -52,7 +52,7 @@ fn pairs_rise(rt: HostRuntime) -> Result<(), Fail> {
         (7, 70),
     ];
     put_all(&rt, &mut segment, &m, &pairs);
-    assert_eq!(rt; segment.map_erase::<i64, i64>(&m, 4), Ok(true));
+    assert_eq!(rt; segment.map_erase::<i64, i64, _>(&m, 4), Ok(true));
     let left = [(1, 10i64), (2, 20), (3, 30), (5, 50), (6, 60), (7, 70)];
     assert_pairs(&rt, &segment, &m, i64::MIN, &left);
     assert_pairs(&rt, &segment, &m, 4, &left[3..]);
@@ -60,8 +60,8 @@ fn pairs_rise(rt: HostRuntime) -> Result<(), Fail> {
     assert_eq!(rt; (segment.measure(&m), segment.free()), (Ok((6, 0)), 480));
     assert_eq!(rt; segment.map_put(&m, 1i64, 11i64), Ok(false));
     assert_eq!(rt; segment.map_get(&m, 1i64), Ok(Some(11i64)));
-    assert_eq!(rt; segment.map_get::<i64, i64>(&m, 4), Ok(None));
-    assert_eq!(rt; segment.map_erase::<i64, i64>(&m, 4), Ok(false));
+    assert_eq!(rt; segment.map_get::<i64, i64, _>(&m, 4), Ok(None));
+    assert_eq!(rt; segment.map_erase::<i64, i64, _>(&m, 4), Ok(false));
     Ok(())
 }
 

@@ -1,6 +1,6 @@
 //! Numbers and arrays of them, as their answers come out.
 use crate::segments::{fresh, named, new_named};
-use seg_types::{Key, NewKey, Refusal, ScalarValue};
+use seg_types::{Key, Kind, NewKey, Refusal, ScalarValue};
 use std::test::Fail;
 
 #[test]
@@ -51,9 +51,9 @@ fn values_carry_their_kinds(rt: HostRuntime) -> Result<(), Fail> {
         assert_eq!(rt; made, Ok(handle));
         let key = Key::Handle(handle);
         assert_eq!(rt; segment.set_value(&key, 1, other), Ok(()));
-        assert_eq!(rt; segment.get_value(&key, value.kind(), 0), Ok(value));
+        assert_eq!(rt; segment.get_any(&key, 0), Ok(value));
         assert_eq!(rt; segment.get_any(&key, 1), Ok(other));
-        assert_eq!(rt; segment.element_kind(&key), Ok(value.kind()));
+        assert_eq!(rt; segment.kind_of(&key), Ok(Kind::Scalar(value.kind())));
     }
     Ok(())
 }

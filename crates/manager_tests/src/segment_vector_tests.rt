@@ -34,12 +34,11 @@ fn elements_are_put_and_taken(rt: HostRuntime) -> Result<(), Fail> {
     let w = Key::Handle(144);
     assert_eq!(rt; segment.vec_insert(&w, 1, 9i32), Ok(()));
     assert_eq!(rt; segment.measure(&w), Ok((4, 6)));
-    assert_eq!(rt; segment.vec_erase::<i32>(&w, 0), Ok(()));
+    assert_eq!(rt; segment.vec_erase::<i32, _>(&w, 0), Ok(()));
     assert_eq!(rt; segment.vec_pop(&w), Ok(3i32));
     assert_eq!(rt; segment.vec_set(&w, 1, -7i32), Ok(()));
     assert_eq!(rt; segment.vec_get(&w, 0), Ok(9i32));
     assert_eq!(rt; segment.get_any(&w, 1), Ok(ScalarValue::I32(-7)));
-    assert_eq!(rt; segment.element_kind(&w), Ok(ScalarKind::I32));
     Ok(())
 }
 

@@ -38,7 +38,7 @@ pub fn opened(
     Ok(opened)
 }
 
-fn name(rt: &impl Abort, bytes: &[u8]) -> Name {
+fn name<'a>(rt: &impl Abort, bytes: &'a [u8]) -> Name<'a> {
     let Some(name) = Name::new(bytes) else {
         panic!(rt; "no name");
     };
@@ -46,19 +46,19 @@ fn name(rt: &impl Abort, bytes: &[u8]) -> Name {
 }
 
 /// The key of the object of this name.
-pub fn named(rt: &impl Abort, bytes: &[u8]) -> Key {
+pub fn named<'a>(rt: &impl Abort, bytes: &'a [u8]) -> Key<'a> {
     Key::Name(name(rt, bytes))
 }
 
 /// The entry of the object of this name.
-pub fn entry(rt: &impl Abort, bytes: &[u8]) -> IndexKey
+pub fn entry<'a>(rt: &impl Abort, bytes: &'a [u8]) -> IndexKey<'a>
     ensures { (kind : Kind) → IsOfKind (index_key_seen result) kind }
 {
     IndexKey::Name(name(rt, bytes))
 }
 
 /// The key of an object that is to be made under this name.
-pub fn new_named(rt: &impl Abort, bytes: &[u8]) -> NewKey
+pub fn new_named<'a>(rt: &impl Abort, bytes: &'a [u8]) -> NewKey<'a>
     ensures { (kind : Kind) → IsOfKind (new_key_seen result) kind }
 {
     NewKey::Name(name(rt, bytes))

@@ -11,10 +11,10 @@ use crate::names::Name;
 pub type Handle = u64;
 
 /// Which object a command means.
-#[derive(Drop)]
-pub enum Key {
+#[derive(Clone, Copy, Debug, PartialEq, Eq)]
+pub enum Key<'a> {
     /// The one of this name.
-    Name(Name),
+    Name(Name<'a>),
     /// The only one of its kind in the unique index.
     Unique(Kind),
     /// The one of this handle, whatever its class.
@@ -24,10 +24,10 @@ pub enum Key {
 }
 
 /// Under which key an object is made.
-#[derive(Drop)]
-pub enum NewKey {
+#[derive(Clone, Copy, Debug, PartialEq, Eq)]
+pub enum NewKey<'a> {
     /// Under a name.
-    Name(Name),
+    Name(Name<'a>),
     /// As the only one of its kind in the unique index.
     Unique(Kind),
     /// Under none: it is found again by its handle alone.
@@ -35,18 +35,18 @@ pub enum NewKey {
 }
 
 /// Under which entry of an index an object is looked up.
-#[derive(Drop)]
-pub enum IndexKey {
+#[derive(Clone, Copy, Debug, PartialEq, Eq)]
+pub enum IndexKey<'a> {
     /// Its name.
-    Name(Name),
+    Name(Name<'a>),
     /// Its kind.
     Unique(Kind),
 }
 
-impl IndexKey {
+impl<'a> IndexKey<'a> {
     /// The key of the object that the entry leads to.
-    pub fn into_key(self) -> Key
-        ensures { key_seen result ≡ index_key_seen self }
+    pub fn into_key(self) -> Key<'a>
+        ensures { key_seen result ≡ index_key_seen self.entry }
     {
         match self {
             IndexKey::Name(name) => Key::Name(name),
@@ -55,8 +55,8 @@ impl IndexKey {
     }
 
     /// The key of an object that is to be made under this entry.
-    pub fn into_new_key(self) -> NewKey
-        ensures { new_key_seen result ≡ index_key_seen self }
+    pub fn into_new_key(self) -> NewKey<'a>
+        ensures { new_key_seen result ≡ index_key_seen self.entry }
     {
         match self {
             IndexKey::Name(name) => NewKey::Name(name),

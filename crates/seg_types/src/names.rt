@@ -1,10 +1,8 @@
 //! Names of objects.
-ghost use Rattle.std.specs.Prelude.{◌≡◌, ◌&&◌, not, true, Some, None, if◌then◌else◌, nat_le};
+ghost use Rattle.std.specs.Prelude.{◌≡◌, ◌&&◌, not, true, Some, None, if◌then◌else◌, nat_le, option_map};
 ghost use Rattle.std.specs.List.{list_all};
 ghost use Rattle.std.specs.Str.{chars};
 ghost use Rattle.seg_types.specs.Names.{is_control, is_name, is_printable_name, is_text_name};
-
-use std::marker::Model;
 
 /// The most bytes that a name has.
 pub const LONGEST_NAME: usize = 255;
@@ -12,47 +10,32 @@ pub const LONGEST_NAME: usize = 255;
 /// The most bytes that a name has in formats 0 and 1.
 const LONGEST_PRINTABLE_NAME: usize = 63;
 
-/// A name: 1 to 255 bytes of UTF-8 without control characters. It holds its bytes in place and takes no memory.
-#[derive(Drop)]
-pub struct Name {
-    bytes: [u8; LONGEST_NAME],
-    len: usize,
+/// A name: 1 to 255 bytes of UTF-8 without control characters. It borrows them, and may be copied.
+#[derive(Clone, Copy, Debug, PartialEq, Eq)]
+pub struct Name<'a> {
+    bytes: &'a [u8],
+    ghost text: { is_text_name bytes.now ≡ true },
 }
 
-impl Model for Name {
-    ghost use Rattle.std.specs.Prelude.{◌≤◌, List, ℕ, IsTrue, take};
-    ghost use Rattle.seg_types.specs.Names.{is_text_name};
+impl<'a> Name<'a> {
+    ghost use Rattle.seg_types.specs.Keys.{name_seen};
 
-    ghost Value = { List ℕ };
-
-    ghost view = { λ n. take n.len n.bytes };
-
-    ghost invariant = { λ n. (n.len ≤ 255) × IsTrue (is_text_name (take n.len n.bytes)) };
-}
-
-impl Name {
     /// The name of these bytes, or `None` where they are none.
-    #[tactic(auto, unfolding(crate::specs::Names::is_text_name))]
-    pub fn new(bytes: &[u8]) -> Option<Name>
-        ensures { result ≡ (if is_text_name bytes.now then Some bytes.now else None) }
+    pub fn new(bytes: &'a [u8]) -> Option<Name<'a>>
+        ensures { option_map name_seen result ≡ (if is_text_name bytes.now then Some bytes.now else None) }
     {
         if !is_text_name(bytes) {
             return None;
         }
-        let mut held = [0; LONGEST_NAME];
-        held[..bytes.len()].copy_from_slice(bytes);
-        Some(Name {
-            bytes: held,
-            len: bytes.len(),
-        })
+        Some(Name { bytes })
     }
 
     /// The bytes of the name.
-    pub fn as_bytes(&self) -> &[u8]
-        ensures bytes { result.now ≡ self.now }
+    pub fn as_bytes(&self) -> &'a [u8]
+        ensures bytes { result.now ≡ name_seen self.now }
         ensures name { is_text_name result.now ≡ true }
     {
-        &self.bytes[..self.len]
+        self.bytes
     }
 }
 

@@ -11,27 +11,39 @@ use Rattle.seg_types.specs.declared.refusals.Refusal.{Refusal}
 use Rattle.seg_types.specs.declared.refusals.Refusal.TheVariants.{ReadOnly, WrongKind}
 use Rattle.seg_types.specs.declared.values.ScalarValue.{ScalarValue}
 use Rattle.seg_types.specs.Kinds.{is_value, same_kind}
-use Rattle.seg_types.specs.Names.{Key}
+use Rattle.seg_types.specs.Names.{Key, ByHandle}
 use Rattle.seg_types.specs.Commands as asked
 use Rattle.seg_types.specs.Commands.{Literal, literal_of, value_of_literal}
 use Rattle.seg_types.specs.Values.{kind_of_scalar, value_of_scalar}
 use Rattle.segment_manager.specs.declared.modes.Mode.{Mode}
+use Rattle.segment_manager.specs.declared.targets.Object.{Object as Located}
 use Rattle.segment_manager.specs.Answers.{Answer, Refused}
 use Rattle.segment_manager.specs.Calls.{kind_at}
 use Rattle.segment_manager.specs.Directory.{Value, Numbers, Elements, Bytes, Pairs, Texts, Object, Directory, kind_of, live, object_at}
+use Rattle.segment_manager.specs.Instances.{IsMissing}
+use Rattle.segment_manager.specs.Located.{IsLocated}
 use Rattle.segment_manager.specs.Plan.{Plan, Refuse, perform, with}
 use Rattle.segment_manager.specs.State.{Answers, IsStep, IsStepOfKind, State, StandsFor}
 use Rattle.segment_manager.specs.Step as step
 use Rattle.segment_manager.specs.Step.{effect, found_at, is_read_only, step_of_kind, text_among, text_of, values_of}
 use Rattle.segment_manager.proofs.ElementLaws.{IsOfKindAt, append-other, assign-plan, assign-refused, erase-other, insert-other, insert-past, insert-plan, insert-refused, is_no_vector, kind-told, literal-read, literals-read, nowhere-steps, of_kind-steps, pop-other, push-other, push-plan, push-refused, refused-steps, same_plan-steps, text-plan, text-refused, with-found, with-not_found}
-use Rattle.segment_cli.specs.Changes.{IsChangeable, IsElement, IsNoElement, IsUnchangeable}
+use Rattle.segment_manager.proofs.Laws.{kind-by_key, located-here}
+use Rattle.segment_cli.specs.Changes.{IsChangeable, IsElement, IsNoElement, IsToChange, IsUnchangeable}
 use Rattle.segment_cli.specs.Settings.{IsValueOf}
 
 -- ---- the kind of the object of a key
 
-pub changeable : (s : State) (key : Key) (r : Result Kind Refusal) → is_read_only s.mode ≡ false → Answers s (λ d. kind_at d key) r → MatchResult r (IsChangeable s key) (IsUnchangeable s key)
-changeable s key (Ok kind) writing a = record { writing = writing; is = a }
-changeable s key (Err why) writing a = record { refuses = λ c changes none. nowhere-steps s key why c writing a none }
+pub changeable : (s : State) (key : Key) (r : Result Located Refusal) → is_read_only s.mode ≡ false → MatchResult r (IsLocated s key) (IsMissing s key) → MatchResult r (IsToChange s key) (IsUnchangeable s key)
+changeable s key (Ok o) writing l = record { writing = writing; located = l }
+changeable s key (Err why) writing m = record { refuses = λ c changes none. nowhere-steps s key why c writing m none }
+
+-- the object is of the kind that it was located with, under its key and under its handle
+module _ (s : State) (key : Key) (o : Located) (h : IsToChange s key o) (kind : Kind) (e : o.kind ≡ kind) where
+  pub to-change : IsChangeable s key kind
+  to-change = record { writing = h.writing; is = subst (λ k. Answers s (λ d. kind_at d key) (Ok k)) e (kind-by_key s key o h.located) }
+
+  pub handle-to-change : IsChangeable s (ByHandle o.handle) kind
+  handle-to-change = record { writing = h.writing; is = subst (λ k. Answers s (λ d. kind_at d (ByHandle o.handle)) (Ok k)) e (kind-by_key s (ByHandle o.handle) o (located-here s key o h.located)) }
 
 -- a vector of numbers of a kind, or a text
 pub record IsElements (k : ScalarKind) (v : Value) : Type 0 where
@@ -267,12 +279,6 @@ append-steps old new key bs answer r = record {
 }
 
 -- ---- the last element, or one among others
-
-pub pop-steps : (s new : State) (key : Key) (kind : Kind) (k : ScalarKind) (answer : Answer) → IsChangeable s key kind → kind ≡ Vector k → IsStepOfKind s new key (Vector k) (asked.Pop key) answer → IsStep s new (asked.Pop key) answer
-pop-steps s new key kind k answer h e r = of_kind-steps s new key (Vector k) (asked.Pop key) answer (subst (λ j. Answers s (λ d. kind_at d key) (Ok j)) e h.is) r
-
-pub erase-steps : (s new : State) (key : Key) (kind : Kind) (k : ScalarKind) (i : ℕ) (answer : Answer) → IsChangeable s key kind → kind ≡ Vector k → IsStepOfKind s new key (Vector k) (asked.Erase key i) answer → IsStep s new (asked.Erase key i) answer
-erase-steps s new key kind k i answer h e r = of_kind-steps s new key (Vector k) (asked.Erase key i) answer (subst (λ j. Answers s (λ d. kind_at d key) (Ok j)) e h.is) r
 
 module _ (s : State) (key : Key) (why : Refusal) (h : IsUnchangeable s key why) where
   pub pop-unchangeable : IsStep s s (asked.Pop key) (Refused why)

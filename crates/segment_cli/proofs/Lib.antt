@@ -26,7 +26,6 @@ mod Zeros
 mod SavedImages
 mod TextParts
 mod TextElements
-mod Unfound
 mod PlainWords
 mod Leaves
 mod CommandLines

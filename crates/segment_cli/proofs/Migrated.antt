@@ -1,18 +1,15 @@
 -- What a migration answers, from what opening the image answered.
-use Rattle.std.proofs.Common.{◌≡◌, ℕ, false, true, List, [], length, Result, Ok, Err, refl, sym, ap, subst, ◌∙◌}
+use Rattle.std.proofs.Common.{◌≡◌, ℕ, false, true, List, length, Result, Ok, Err, sym, ap, subst}
 use Rattle.raw_region.specs.Device.{Given, Taken, IsProperPrefix}
-use Rattle.raw_region.specs.Format.{current}
 use Rattle.segment_manager.specs.declared.modes.Mode.{Mode}
 use Rattle.segment_manager.specs.Directory.{Directory}
 use Rattle.segment_manager.specs.State.{State, StandsFor}
 use Rattle.image_check.specs.declared.errors.OpenError.{OpenError}
 use Rattle.image_check.specs.declared.errors.OpenError.TheVariants.{Image as NoImage, RegionTooSmall as NoRoomForImage, OutOfMemory as NoMemory, ReadFault as NotRead}
 use Rattle.image_check.specs.declared.errors.OpenRefused.{OpenRefused}
-use Rattle.image_check.specs.Formats.{format_of}
-use Rattle.image_check.specs.Opening.{IsTooSmallFor}
-use Rattle.image_check.specs.OpeningAny.{IsNotOpenedAny, IsOpenedAny, IsWhyNotAny, OpensAny}
+use Rattle.image_check.specs.OpeningAny.{IsWhyNotAny, OpensAny}
 use Rattle.segment_cli.specs.declared.faults.SessionFault.{SessionFault}
-use Rattle.segment_cli.specs.declared.faults.SessionFault.TheVariants.{RegionTooSmall, WriteFault}
+use Rattle.segment_cli.specs.declared.faults.SessionFault.TheVariants.{WriteFault}
 use Rattle.segment_cli.specs.Beginning.{opened_fault}
 use Rattle.segment_cli.specs.Migration.{IsMigration, IsMigrationFault, IsNewImage}
 use Rattle.segment_cli.specs.Session.{IsSaved}

@@ -6,7 +6,7 @@ use Rattle.seg_types.specs.declared.kinds.Kind.{Kind}
 use Rattle.seg_types.specs.declared.kinds.Kind.TheVariants.{Map}
 use Rattle.seg_types.specs.declared.kinds.ScalarKind.{ScalarKind}
 use Rattle.seg_types.specs.declared.refusals.Refusal.{Refusal}
-use Rattle.seg_types.specs.declared.refusals.Refusal.TheVariants.{NotFound, WrongKind}
+use Rattle.seg_types.specs.declared.refusals.Refusal.TheVariants.{WrongKind}
 use Rattle.seg_types.specs.declared.values.ScalarValue.{ScalarValue}
 use Rattle.seg_types.specs.Kinds.{code_of, is_value}
 use Rattle.seg_types.specs.Names.{Key}
@@ -18,6 +18,7 @@ use Rattle.seg_map.specs.Numbers.{NumberPair}
 use Rattle.segment_manager.specs.Answers.{Answer, Absent, Element, Refused, Truth}
 use Rattle.segment_manager.specs.Calls.{kind_at}
 use Rattle.segment_manager.specs.Directory.{Value, Numbers, Elements, Bytes, Pairs, Texts, Object, Directory, kind_of, live, object_at}
+use Rattle.segment_manager.specs.Instances.{IsMissing}
 use Rattle.segment_manager.specs.Plan.{Plan, Refuse, Reply, perform, with}
 use Rattle.segment_manager.specs.State.{Answers, IsReply, IsReplyOfKind, IsStep, IsStepOfKind, State, StandsFor}
 use Rattle.segment_manager.specs.Step as step
@@ -208,11 +209,7 @@ pub remove-unchangeable : (s : State) (key : Key) (l : Literal) (why : Refusal) 
 remove-unchangeable s key l why h = h.refuses (asked.Remove key l) refl (λ d n. with-not_found d key (λ o. with (map_of o.value) (removes d o l)) n)
 
 -- none has it
-nowhere-if : (d : Directory) (key : Key) (l : Literal) (why : Refusal) (r : Option Object) → object_at d key ≡ r
-    → Err why ≡ elim r as (λ _. Result Kind Refusal) [ None ↦ Err NotFound | Some o ↦ Ok (kind_of o.value) ] → effect d (asked.Lookup key l) ≡ Refuse why
-nowhere-if d key l why None e f = let same : NotFound ≡ why = cc in with-not_found d key (λ o. with (map_of o.value) (looks_up d l)) e ∙ ap Refuse same
-nowhere-if d key l why (Some o) e f = absurd (cc)
-
-pub lookup-nowhere : (s : State) (key : Key) (l : Literal) (why : Refusal) → Answers s (λ d. kind_at d key) (Err why) → IsReply s (asked.Lookup key l) (Refused why)
-lookup-nowhere s key l why a =
-    reads-as s (asked.Lookup key l) (Refused why) refl (λ d st. answered d (effect d (asked.Lookup key l)) why (nowhere-if d key l why (object_at d key) refl (a.answers d st)))
+pub lookup-nowhere : (s : State) (key : Key) (l : Literal) (why : Refusal) → IsMissing s key why → IsReply s (asked.Lookup key l) (Refused why)
+lookup-nowhere s key l why m =
+    reads-as s (asked.Lookup key l) (Refused why) refl
+    (λ d st. answered d (effect d (asked.Lookup key l)) why (with-not_found d key (λ o. with (map_of o.value) (looks_up d l)) (m.missing d st) ∙ ap Refuse (sym m.is)))

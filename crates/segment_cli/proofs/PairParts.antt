@@ -3,7 +3,6 @@ use Rattle.std.proofs.Common.{◌≡◌, ℕ, zero, suc, ◌+◌, List, [], ◌�
 use Rattle.std.specs.Prelude.{option_map}
 use Rattle.std.specs.List.{flat_map}
 use Rattle.raw_region.specs.Device.{Took, Writes}
-use Rattle.raw_region.specs.Format.{current}
 use Rattle.seg_types.specs.declared.kinds.Kind.{Kind}
 use Rattle.seg_types.specs.declared.kinds.Kind.TheVariants.{Map}
 use Rattle.seg_types.specs.declared.kinds.ScalarKind.{ScalarKind}
@@ -15,15 +14,15 @@ use Rattle.seg_types.specs.Values.{kind_of_scalar, value_of_scalar}
 use Rattle.seg_map.specs.Numbers.{NumberPair}
 use Rattle.seg_map.specs.Places.{item_of}
 use Rattle.segment_lang.specs.Texts.{kind_text}
-use Rattle.segment_manager.specs.declared.telling.Instance.{Instance}
+use Rattle.segment_manager.specs.declared.targets.Object.{Object as Located}
 use Rattle.segment_manager.specs.Answers.{Shown}
 use Rattle.segment_manager.specs.Contents.{sizes_at, sizes_of}
 use Rattle.segment_manager.specs.Directory.{Value, Numbers, Elements, Bytes, Pairs, Texts, Object, Directory, kind_of, object_at}
-use Rattle.segment_manager.specs.Instances.{SaysOf}
+use Rattle.segment_manager.specs.Located.{IsLocated}
 use Rattle.segment_manager.specs.Maps.{pair_above}
 use Rattle.segment_manager.specs.State.{Answers, State, StandsFor}
 use Rattle.segment_manager.specs.Walks.{IsMap, first_of, item_of_kinds, item_seen, pairs_at, pairs_of}
-use Rattle.segment_manager.proofs.Laws.{by-handle, first-at, walk-next}
+use Rattle.segment_manager.proofs.Laws.{first-at, said-at, same-object, walk-next}
 use Rattle.segment_cli.specs.Answer.{answer_text, line, pair_text}
 use Rattle.segment_cli.specs.Parts.{part_of, parts_until}
 use Rattle.segment_cli.specs.Replies.{shown_at, shown_of}
@@ -130,29 +129,30 @@ pairs-if k v (Texts ps t) e = absurd (cc)
 abbrev sizes_of_object : Option Object → Result (ℕ × ℕ) Refusal
 sizes_of_object r = elim r as (λ _. Result (ℕ × ℕ) Refusal) [ None ↦ Err NotFound | Some o ↦ sizes_of o.value ]
 
-module _ (s : State) (key : Key) (said : Instance) (h : SaysOf s key said) (k v : ScalarKind) (e : said.kind ≡ Map k v) where
-  at-handle : (d : Directory) (st : StandsFor s.cut.bytes d) → object_at d (ByHandle said.handle) ≡ Some (h.says d st).0
-  at-handle d st =
-      let f = h.says d st in
-      ap (λ n. object_at d (ByHandle n)) f.2.at ∙ by-handle current d key f.0 st.denotes.directory f.1
+module _ (s : State) (key : Key) (o : Located) (l : IsLocated s key o) (k v : ScalarKind) (e : o.kind ≡ Map k v) where
+  at-handle : (d : Directory) (st : StandsFor s.cut.bytes d) → object_at d (ByHandle o.handle) ≡ Some (said-at s key o l d st).object
+  at-handle d st = sym (same-object s key o l d st) ∙ (said-at s key o l d st).is
+
+  kind-said : (d : Directory) (st : StandsFor s.cut.bytes d) → o.kind ≡ kind_of (said-at s key o l d st).object.value
+  kind-said d st = ap (λ (q : Located). q.kind) (said-at s key o l d st).said
 
   -- it is the map that it says it is
-  pub map-at : IsMap s (ByHandle said.handle) k v
+  pub map-at : IsMap s (ByHandle o.handle) k v
   map-at = record {
     answers = λ d st.
-        ap Ok (sym e ∙ (h.says d st).2.kind)
+        ap Ok (sym e ∙ kind-said d st)
         ∙ sym (ap (λ (r : Option Object). elim r as (λ _. Result Kind Refusal) [ None ↦ Err NotFound | Some o ↦ Ok (kind_of o.value) ]) (at-handle d st));
   }
 
   -- what is written of it is what is shown of it
-  pub map-said : (n : ℕ) → Answers s (λ d. length_in (sizes_at d key)) n → (d : Directory) → StandsFor s.cut.bytes d → map_line k v d (ByHandle said.handle) n ≡ answer_text (shown_at d key)
+  pub map-said : (n : ℕ) → Answers s (λ d. length_in (sizes_at d (ByHandle o.handle))) n → (d : Directory) → StandsFor s.cut.bytes d → map_line k v d (ByHandle o.handle) n ≡ answer_text (shown_at d key)
   map-said n a d st =
-      let f = h.says d st in
-      let w : ArePairs k v f.0.value = pairs-if k v f.0.value (sym f.2.kind ∙ e) in
-      let long : n ≡ length w.pairs = a.answers d st ∙ ap (λ (r : Option Object). length_in (sizes_of_object r)) f.1 ∙ ap (λ u. length_in (sizes_of u)) w.is in
-      let are : pairs_at d (ByHandle said.handle) ≡ w.pairs =
+      let f = said-at s key o l d st in
+      let w : ArePairs k v f.object.value = pairs-if k v f.object.value (sym (kind-said d st) ∙ e) in
+      let long : n ≡ length w.pairs = a.answers d st ∙ ap (λ (r : Option Object). length_in (sizes_of_object r)) (at-handle d st) ∙ ap (λ u. length_in (sizes_of u)) w.is in
+      let are : pairs_at d (ByHandle o.handle) ≡ w.pairs =
       ap (λ (r : Option Object). elim r as (λ _. List NumberPair) [ None ↦ [] | Some o ↦ pairs_of o.value ]) (at-handle d st) ∙ ap pairs_of w.is in
       (λ i. kind_text (Map k v) ++ (parts_until (λ j. part_of (pair_part k v) (slice_get (are i) j)) (long i) ++ 0x0A ∷ []))
       ∙ ap (λ l. kind_text (Map k v) ++ (l ++ 0x0A ∷ [])) (parts-all (pair_part k v) w.pairs)
       ∙ sym (pairs-words (kind_text (Map k v)) k v w.pairs)
-      ∙ ap (λ u. answer_text (Shown u)) (sym w.is) ∙ ap (λ (r : Option Object). answer_text (shown_of r)) (sym f.1)
+      ∙ ap (λ u. answer_text (Shown u)) (sym w.is) ∙ ap (λ (r : Option Object). answer_text (shown_of r)) (sym f.is)

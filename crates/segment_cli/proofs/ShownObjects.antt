@@ -1,7 +1,6 @@
 -- What is shown of an object: its kind, and its numbers one after another, or its bytes.
 use Rattle.std.proofs.Common.{◌≡◌, ℕ, ℤ, List, [], ◌∷◌, ◌++◌, length, map, Option, Some, None, Result, Ok, Err, slice_get, refl, sym, ap, subst, ◌∙◌, append_assoc}
 use Rattle.std.specs.List.{flat_map}
-use Rattle.raw_region.specs.Format.{current}
 use Rattle.best_fit.specs.Table.{Table}
 use Rattle.seg_types.specs.declared.kinds.ScalarKind.{ScalarKind}
 use Rattle.seg_vector.specs.Vector.{OwnedText}
@@ -12,16 +11,17 @@ use Rattle.seg_types.specs.Names.{ByHandle, Key}
 use Rattle.seg_types.specs.Commands as asked
 use Rattle.segment_lang.specs.Texts.{kind_text, quoted_text, value_text}
 use Rattle.segment_manager.specs.declared.modes.Mode.{Mode}
-use Rattle.segment_manager.specs.declared.telling.Instance.{Instance}
+use Rattle.segment_manager.specs.declared.targets.Object.{Object as Located}
 use Rattle.segment_manager.specs.Answers.{Answer, Element, Refused, Shown, TextElement}
 use Rattle.segment_manager.specs.Calls.{HasScalars, elements_of}
 use Rattle.segment_manager.specs.Contents.{bytes_at, sizes_at, sizes_of, text_bytes}
 use Rattle.segment_manager.specs.Directory.{Value, Numbers, Elements, Bytes, Pairs, Texts, Object, Directory, count_of, kind_of, live, object_at}
-use Rattle.segment_manager.specs.Instances.{IsMissing, SaysOf}
+use Rattle.segment_manager.specs.Instances.{IsMissing}
+use Rattle.segment_manager.specs.Located.{IsLocated}
 use Rattle.segment_manager.specs.Plan.{Plan, Reply, perform, with}
 use Rattle.segment_manager.specs.State.{Answers, State, StandsFor}
 use Rattle.segment_manager.specs.Step.{get, step}
-use Rattle.segment_manager.proofs.Laws.{by-handle}
+use Rattle.segment_manager.proofs.Laws.{said-at, same-object}
 use Rattle.segment_cli.specs.Answer.{answer_text, line, shown_words}
 use Rattle.segment_cli.specs.Parts.{element_part, part_of}
 use Rattle.segment_cli.specs.Replies.{shown_at, shown_of, text_at, text_in, text_of}
@@ -135,59 +135,60 @@ shown-texts d key o ps t e f =
 
 -- ---- the object of a key, by its handle
 
-module _ (s : State) (key : Key) (said : Instance) (h : SaysOf s key said) where
-  at-handle : (d : Directory) (k : StandsFor s.cut.bytes d) → object_at d (ByHandle said.handle) ≡ Some (h.says d k).0
-  at-handle d k =
-      let f = h.says d k in
-      ap (λ n. object_at d (ByHandle n)) f.2.at ∙ by-handle current d key f.0 k.denotes.directory f.1
+module _ (s : State) (key : Key) (o : Located) (l : IsLocated s key o) where
+  at-handle : (d : Directory) (st : StandsFor s.cut.bytes d) → object_at d (ByHandle o.handle) ≡ Some (said-at s key o l d st).object
+  at-handle d st = sym (same-object s key o l d st) ∙ (said-at s key o l d st).is
+
+  kind-said : (d : Directory) (st : StandsFor s.cut.bytes d) → o.kind ≡ kind_of (said-at s key o l d st).object.value
+  kind-said d st = ap (λ (q : Located). q.kind) (said-at s key o l d st).said
 
   -- its elements are of the kind that it says
-  pub scalars-at : (k : ScalarKind) → elements_of said.kind ≡ Ok k → HasScalars s (ByHandle said.handle)
-  scalars-at k e = (k, record { answers = λ d st. sym e ∙ ap elements_of (h.says d st).2.kind ∙ sym (ap elements_of_object (at-handle d st)) })
+  pub scalars-at : (k : ScalarKind) → elements_of o.kind ≡ Ok k → HasScalars s (ByHandle o.handle)
+  scalars-at k e = (k, record { answers = λ d st. sym e ∙ ap elements_of (kind-said d st) ∙ sym (ap elements_of_object (at-handle d st)) })
 
   -- what is written of a row of numbers is what is shown of it
-  row-said : (d : Directory) (st : StandsFor s.cut.bytes d) (k : ScalarKind) (zs : List ℤ) (n : ℕ) → n ≡ length zs → IsRow (h.says d st).0.value k zs
-      → value_line said.kind n s.mode d (ByHandle said.handle) ≡ answer_text (shown_at d key)
+  row-said : (d : Directory) (st : StandsFor s.cut.bytes d) (k : ScalarKind) (zs : List ℤ) (n : ℕ) → n ≡ length zs → IsRow (said-at s key o l d st).object.value k zs
+      → value_line o.kind n s.mode d (ByHandle o.handle) ≡ answer_text (shown_at d key)
   row-said d st k zs n long row =
-      let f = h.says d st in
-      (λ j. value_line (f.2.kind j) (long j) s.mode d (ByHandle said.handle))
-      ∙ shown-row s.mode d (ByHandle said.handle) f.0 k zs (at-handle d st) row
-      ∙ ap (λ (r : Option Object). answer_text (shown_of r)) (sym f.1)
+      let f = said-at s key o l d st in
+      (λ j. value_line (kind-said d st j) (long j) s.mode d (ByHandle o.handle))
+      ∙ shown-row s.mode d (ByHandle o.handle) f.object k zs (at-handle d st) row
+      ∙ ap (λ (r : Option Object). answer_text (shown_of r)) (sym f.is)
 
   -- scalars
-  pub scalars-said : (k : ScalarKind) (n : ℕ) → said.kind ≡ Scalar k → n ≡ said.count → (d : Directory) → StandsFor s.cut.bytes d
-      → value_line said.kind n s.mode d (ByHandle said.handle) ≡ answer_text (shown_at d key)
+  pub scalars-said : (k : ScalarKind) (n : ℕ) → o.kind ≡ Scalar k → n ≡ o.count → (d : Directory) → StandsFor s.cut.bytes d
+      → value_line o.kind n s.mode d (ByHandle o.handle) ≡ answer_text (shown_at d key)
   scalars-said k n e c d st =
-      let f = h.says d st in
-      let v : IsNumbers k f.0.value = scalar-if k f.0.value (sym f.2.kind ∙ e) in
-      row-said d st k v.numbers n (c ∙ f.2.count ∙ ap count_of v.is) (subst (λ w. IsRow w k v.numbers) (sym v.is) (numbers-row k v.numbers))
+      let f = said-at s key o l d st in
+      let v : IsNumbers k f.object.value = scalar-if k f.object.value (sym (kind-said d st) ∙ e) in
+      row-said d st k v.numbers n (c ∙ ap (λ (q : Located). q.count) f.said ∙ ap count_of v.is) (subst (λ w. IsRow w k v.numbers) (sym v.is) (numbers-row k v.numbers))
 
   -- a vector of them
-  pub vector-said : (k : ScalarKind) (n : ℕ) → said.kind ≡ Vector k → Answers s (λ d. length_in (sizes_at d key)) n → (d : Directory) → StandsFor s.cut.bytes d
-      → value_line said.kind n s.mode d (ByHandle said.handle) ≡ answer_text (shown_at d key)
+  pub vector-said : (k : ScalarKind) (n : ℕ) → o.kind ≡ Vector k → Answers s (λ d. length_in (sizes_at d (ByHandle o.handle))) n → (d : Directory) → StandsFor s.cut.bytes d
+      → value_line o.kind n s.mode d (ByHandle o.handle) ≡ answer_text (shown_at d key)
   vector-said k n e a d st =
-      let f = h.says d st in
-      let v : IsElements k f.0.value = vector-if k f.0.value (sym f.2.kind ∙ e) in
+      let f = said-at s key o l d st in
+      let v : IsElements k f.object.value = vector-if k f.object.value (sym (kind-said d st) ∙ e) in
       row-said d st k v.numbers n
-      (a.answers d st ∙ ap (λ (r : Option Object). length_in (sizes_of_object r)) f.1 ∙ ap (λ w. length_in (sizes_of w)) v.is)
+      (a.answers d st ∙ ap (λ (r : Option Object). length_in (sizes_of_object r)) (at-handle d st) ∙ ap (λ w. length_in (sizes_of w)) v.is)
       (subst (λ w. IsRow w k v.numbers) (sym v.is) (vector-row k v.numbers v.table))
 
   -- a string
-  pub string-said : said.kind ≡ Text → (d : Directory) → StandsFor s.cut.bytes d → string_line (bytes_at d key) ≡ answer_text (shown_at d key)
+  pub string-said : o.kind ≡ Text → (d : Directory) → StandsFor s.cut.bytes d → string_line (bytes_at d (ByHandle o.handle)) ≡ answer_text (shown_at d key)
   string-said e d st =
-      let f = h.says d st in
-      let v : IsText f.0.value = text-if f.0.value (sym f.2.kind ∙ e) in
-      ap (λ (r : Option Object). string_line (bytes_of_object r)) f.1 ∙ ap (λ w. string_line (text_bytes w)) v.is
-      ∙ ap (λ w. answer_text (Shown w)) (sym v.is) ∙ ap (λ (r : Option Object). answer_text (shown_of r)) (sym f.1)
+      let f = said-at s key o l d st in
+      let v : IsText f.object.value = text-if f.object.value (sym (kind-said d st) ∙ e) in
+      ap (λ (r : Option Object). string_line (bytes_of_object r)) (at-handle d st) ∙ ap (λ w. string_line (text_bytes w)) v.is
+      ∙ ap (λ w. answer_text (Shown w)) (sym v.is) ∙ ap (λ (r : Option Object). answer_text (shown_of r)) (sym f.is)
 
   -- a vector of strings
-  pub texts-said : (n : ℕ) → said.kind ≡ TextsKind → Answers s (λ d. length_in (sizes_at d key)) n → (d : Directory) → StandsFor s.cut.bytes d → texts_line d key n ≡ answer_text (shown_at d key)
+  pub texts-said : (n : ℕ) → o.kind ≡ TextsKind → Answers s (λ d. length_in (sizes_at d (ByHandle o.handle))) n → (d : Directory) → StandsFor s.cut.bytes d → texts_line d (ByHandle o.handle) n ≡ answer_text (shown_at d key)
   texts-said n e a d st =
-      let f = h.says d st in
-      let v : IsTexts f.0.value = texts-if f.0.value (sym f.2.kind ∙ e) in
-      ap (λ m. texts_line d key m) (a.answers d st ∙ ap (λ (r : Option Object). length_in (sizes_of_object r)) f.1 ∙ ap (λ w. length_in (sizes_of w)) v.is)
-      ∙ shown-texts d key f.0 v.texts v.table f.1 v.is
-      ∙ ap (λ (r : Option Object). answer_text (shown_of r)) (sym f.1)
+      let f = said-at s key o l d st in
+      let v : IsTexts f.object.value = texts-if f.object.value (sym (kind-said d st) ∙ e) in
+      ap (λ m. texts_line d (ByHandle o.handle) m) (a.answers d st ∙ ap (λ (r : Option Object). length_in (sizes_of_object r)) (at-handle d st) ∙ ap (λ w. length_in (sizes_of w)) v.is)
+      ∙ shown-texts d (ByHandle o.handle) f.object v.texts v.table (at-handle d st) v.is
+      ∙ ap (λ (r : Option Object). answer_text (shown_of r)) (sym f.is)
 
 -- there is none
 pub shown-missing : (s : State) (key : Key) (r : Refusal) → IsMissing s key r → (d : Directory) → StandsFor s.cut.bytes d → answer_text (Refused r) ≡ answer_text (shown_at d key)

@@ -9,7 +9,7 @@ use Rattle.seg_types.specs.declared.refusals.Refusal.{Refusal}
 use Rattle.seg_types.specs.declared.refusals.Refusal.TheVariants as refusal
 use Rattle.seg_types.specs.declared.refusals.Refusal.TheVariants.{NotFound, OutOfRange, WrongKind}
 use Rattle.seg_types.specs.Kinds.{same_kind}
-use Rattle.seg_types.specs.Names.{Key}
+use Rattle.seg_types.specs.Names.{Key, ByHandle}
 use Rattle.seg_types.specs.Commands as asked
 use Rattle.seg_types.specs.Commands.{Command, Literal, Quoted, Truth, Whole}
 use Rattle.seg_vector.specs.Vector.{OwnedText}
@@ -17,15 +17,20 @@ use Rattle.segment_lang.specs.declared.literals.Literal.{Literal as CodeLiteral}
 use Rattle.segment_lang.specs.declared.literals.Literal.TheVariants.{Whole as CodeWhole, Truth as CodeTruth, Quoted as CodeQuoted}
 use Rattle.segment_lang.specs.Seen.{literal_of}
 use Rattle.segment_manager.specs.declared.modes.Mode.{Mode}
+use Rattle.segment_manager.specs.declared.targets.Object.{Object as Located}
 use Rattle.segment_manager.specs.Answers.{Answer, Done, Refused, TextElement, is_untouched, refusal_of}
 use Rattle.segment_manager.specs.Calls.{elements_at, elements_of, kind_at}
 use Rattle.segment_manager.specs.Contents.{sizes_at, sizes_of}
 use Rattle.segment_manager.specs.Directory.{Value, Numbers, Elements, Bytes, Pairs, Texts, Object, Directory, kind_of, live, object_at}
+use Rattle.segment_manager.specs.Instances.{IsMissing}
+use Rattle.segment_manager.specs.Laws.{at_key}
+use Rattle.segment_manager.specs.Located.{IsLocated}
 use Rattle.segment_manager.specs.Plan.{Plan, Refuse, Reply, perform, with, with_owned_texts, with_storage}
 use Rattle.segment_manager.specs.State.{Answers, IsReplyOfKind, IsStep, IsStepOfKind, LeadsOn, State, StandsFor, refusal_in}
 use Rattle.segment_manager.specs.Step as step
 use Rattle.segment_manager.specs.Step.{changed, effect, is_read_only, step_of_kind, texts_of}
 use Rattle.segment_manager.proofs.ElementLaws.{IsOfKindAt, kind-told, of_kind-steps, refused-steps, with-found, with-not_found}
+use Rattle.segment_manager.proofs.Laws.{step-same}
 use Rattle.segment_cli.specs.Changes.{Executes, IsChangeable, IsNoElement, IsTextElement, IsUnchangeable}
 use Rattle.segment_cli.specs.declared.replies.Answer.{Answer as Said}
 use Rattle.segment_cli.specs.Answer.{answer_text}
@@ -255,6 +260,11 @@ set-map s key kind i l k m h e =
 pub set-unchangeable : (s : State) (key : Key) (why : Refusal) (i : ℕ) (l : Literal) → IsUnchangeable s key why → IsStep s s (asked.Set key i l) (Refused why)
 set-unchangeable s key why i l h = h.refuses (asked.Set key i l) refl (λ d n. with-not_found d key (λ o. step.set d o o.value i l) n)
 
+-- no object has the key
+pub get-missing : (s : State) (key : Key) (why : Refusal) → IsMissing s key why → (i : ℕ) (d : Directory) → StandsFor s.cut.bytes d → Refused why ≡ (step.step s.mode d (asked.Get key i)).0
+get-missing s key why m i d st =
+    ap Refused m.is ∙ sym (answered-reads s.mode d (asked.Get key i) refl ∙ ap (λ (p : Plan). (perform d (live d) p).0) (with-not_found d key (λ o. step.get d o.value i) (m.missing d st)))
+
 -- ---- a command that is executed
 
 pub executes-step : (old new : State) (c : Command) (answer : Answer) → IsStep old new c answer → (is_untouched answer ≡ true → new ≡ old) → Executes old new c
@@ -273,6 +283,14 @@ executes-leading old new c r h same = record {
   stays = h.stays;
   denotes = h.denotes;
   refused = λ d st e. let w = untouched-refused (step.step old.mode d c).0 e in same-if old new r w.0 same (h.answers d st ∙ w.1);
+}
+
+-- under the handle of an object that was located
+pub executes-by_key : (old : State) (key : Key) (o : Located) (l : IsLocated old key o) (new : State) (c : Command) → Executes old new (at_key (ByHandle o.handle) c) → Executes old new (at_key key c)
+executes-by_key old key o l new c h = record {
+  stays = h.stays;
+  denotes = λ d st. subst (λ (n : Answer × Directory). StandsFor new.cut.bytes n.1) (step-same old key o l c d st) (h.denotes d st);
+  refused = λ d st e. h.refused d st (ap (λ (n : Answer × Directory). is_untouched n.0) (step-same old key o l c d st) ∙ e);
 }
 
 -- what is written of the answer of a step

@@ -12,7 +12,7 @@ use Rattle.seg_types.specs.Commands.{Command, Reading, Asked, Pop, ZeroFree, is_
 use Rattle.segment_lang.specs.Language.{whole}
 use Rattle.seg_types.specs.declared.keys.Key.{Key as CodeKey}
 use Rattle.segment_lang.specs.declared.commands.Command.{Command as CodeCommand}
-use Rattle.segment_lang.specs.declared.commands.Command.TheVariants.{Pop as CodePop}
+use Rattle.segment_lang.specs.declared.commands.Command.TheVariants.{Get as CodeGet, Pop as CodePop}
 use Rattle.segment_lang.specs.Seen.{command_of}
 use Rattle.segment_lang.specs.Reading.{reading}
 use Rattle.segment_manager.specs.declared.modes.Mode.{Mode}
@@ -22,11 +22,12 @@ use Rattle.segment_manager.specs.Answers.{Done, is_untouched}
 use Rattle.segment_manager.specs.State.{State, StandsFor}
 use Rattle.segment_manager.specs.Step.{step}
 use Rattle.segment_manager.specs.Calls.{HasZeroGaps, IsCreated}
+use Rattle.segment_manager.proofs.Laws.{step-reads}
 use Rattle.segment_cli.specs.ZeroGaps.{HasZeroGapsIn, is_zero_free}
 use Rattle.segment_cli.specs.declared.replies.Answer.{Answer as Reply}
 use Rattle.segment_cli.specs.Answer.{answer_text}
 use Rattle.segment_cli.specs.Changes.{Executes}
-use Rattle.segment_cli.specs.Replies.{Replies, is_pop}
+use Rattle.segment_cli.specs.Replies.{Replies, has_element}
 use Rattle.segment_cli.specs.Run.{respond}
 use Rattle.segment_cli.specs.Segments.{Place, IsAt, place_after, answer_line}
 
@@ -113,9 +114,22 @@ executed old new c reply line e done = led old new c line e (record { stays = do
 pub popped : (old new : State) (key : Key) (line : List ℕ) → Asked (Pop key) ≡ reading (whole current) line → Executes old new (Pop key) → (at : Place) → IsAt old at → IsAt new (answer_line at line).1
 popped old new key line e done = led old new (Pop key) line e done (λ n. absurd (cc)) (λ d st is. absurd (let other : is_zero_free (Pop key) ≡ true = ap is_zero_free is in cc))
 
-pub popped-owed : (old : State) (key : Key) (line : List ℕ) → Asked (Pop key) ≡ reading (whole current) line → (at : Place) → IsAt old at → answer_text (step old.mode at.directory (Pop key)).0 ≡ (answer_line at line).0
-popped-owed old key line e at h = ap (λ (n : Mode). answer_text (step n at.directory (Pop key)).0) h.mode ∙ ap (λ (r : Reading). (respond at.mode at.directory r).0) e
+-- one that only reads
+pub answered : (s : State) (c : Command) (line : List ℕ) → is_changing c ≡ false → Asked c ≡ reading (whole current) line → (at : Place) → IsAt s at → IsAt s (answer_line at line).1
+answered s c line r e =
+    led s s c line e
+    (record {
+      stays = record { mode = refl; place = record { before = refl; after = refl } };
+      denotes = λ d st. subst (StandsFor s.cut.bytes) (sym (step-reads s.mode d c r)) st;
+      refused = λ _ _ _. refl;
+    })
+    (λ _. refl) (λ d st is _. absurd (let other : is_changing ZeroFree ≡ false = ap is_changing (sym is) ∙ r in cc))
 
-pub not_pop : (c : CodeCommand) → ((key : CodeKey) → c ≡ CodePop key → ⊥) → is_pop (command_of c) ≡ false
-not_pop (CodePop key) n = absurd (n key refl)
-not_pop c n = refl
+pub asked-owed : (old : State) (c : Command) (line : List ℕ) → Asked c ≡ reading (whole current) line → (at : Place) → IsAt old at
+    → answer_text (step old.mode at.directory c).0 ≡ (answer_line at line).0
+asked-owed old c line e at h = ap (λ (n : Mode). answer_text (step n at.directory c).0) h.mode ∙ ap (λ (r : Reading). (respond at.mode at.directory r).0) e
+
+pub no_element : (c : CodeCommand) → ((key : CodeKey) (i : ℕ) → c ≡ CodeGet key i → ⊥) → ((key : CodeKey) → c ≡ CodePop key → ⊥) → has_element (command_of c) ≡ false
+no_element (CodeGet key i) m n = absurd (m key i refl)
+no_element (CodePop key) m n = absurd (n key refl)
+no_element c m n = refl

@@ -11,9 +11,11 @@ use Rattle.seg_types.specs.Kinds.{is_value}
 use Rattle.seg_types.specs.Names.{Key}
 use Rattle.seg_types.specs.Commands.{Command, Insert, Literal, Push, Quoted, is_changing, value_of_literal}
 use Rattle.seg_types.specs.Values.{kind_of_scalar, value_of_scalar}
+use Rattle.segment_manager.specs.declared.targets.Object.{Object}
 use Rattle.segment_manager.specs.Answers.{Refused, is_untouched}
 use Rattle.segment_manager.specs.Calls.{kind_at}
 use Rattle.segment_manager.specs.Directory.{Directory, object_at}
+use Rattle.segment_manager.specs.Located.{IsLocated}
 use Rattle.segment_manager.specs.Plan.{Refuse}
 use Rattle.segment_manager.specs.State.{Answers, IsStep, State, StandsFor, Stays}
 use Rattle.segment_cli.specs.declared.changing.NewElement.{NewElement}
@@ -24,6 +26,11 @@ use Rattle.segment_manager.specs.Step.{effect, is_read_only, step, values_of}
 pub record IsChangeable (s : State) (key : Key) (kind : Kind) : Type 0 where
   pub writing : is_read_only s.mode ≡ false
   pub is : Answers s (λ d. kind_at d key) (Ok kind)
+
+-- the same of an object of the key, which was located
+pub record IsToChange (s : State) (key : Key) (o : Object) : Type 0 where
+  pub writing : is_read_only s.mode ≡ false
+  pub located : IsLocated s key o
 
 -- for this reason each command is refused that changes an object, and needs one of the key
 pub record IsUnchangeable (s : State) (key : Key) (why : Refusal) : Type 0 where
@@ -40,9 +47,13 @@ pub record IsTextElement (s : State) (key : Key) (l : Literal) (bs : List ℕ) :
   pub of_kind : IsChangeable s key Texts
   pub is : l ≡ Quoted bs
 
-abbrev pub IsNew : State → Key → Literal → NewElement → Type 0
-IsNew s key l (ScalarElement v) = IsElement s key l v
-IsNew s key l (TextElement bs) = IsTextElement s key l bs
+abbrev pub IsNewElement : State → Key → Literal → NewElement → Type 0
+IsNewElement s key l (ScalarElement v) = IsElement s key l v
+IsNewElement s key l (TextElement bs) = IsTextElement s key l bs
+
+-- with the vector
+abbrev pub IsNew : State → Key → Literal → Object × NewElement → Type 0
+IsNew s key l (o, e) = IsLocated s key o × IsNewElement s key l e
 
 -- or for this reason it can be no new element
 pub record IsNoElement (s : State) (key : Key) (l : Literal) (why : Refusal) : Type 0 where

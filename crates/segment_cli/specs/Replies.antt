@@ -54,7 +54,6 @@ answer_seen d (said.Number n) = Number n
 answer_seen d (said.Made h) = Made h
 answer_seen d (said.Found h n) = Found h n
 answer_seen d (said.Element v) = Element (kind_of_scalar v) (value_of_scalar v)
-answer_seen d (said.TextElement key i) = text_at d (key_seen key) i
 answer_seen d (said.Shown key) = shown_at d (key_seen key)
 answer_seen d (said.Told key) = told_at d (key_seen key)
 answer_seen d said.Names = Names (named_objects d)
@@ -95,10 +94,11 @@ IsMeant (asked.Assign key ls) = bytes_taken ls ≤ 4097
 IsMeant (asked.Append key bs) = length bs ≤ 4096
 IsMeant c = ⊤
 
--- a command that takes out an element, which is written first
-abbrev pub is_pop : Command → Bool
-is_pop (asked.Pop key) = true
-is_pop c = false
+-- a command that answers an element, which is written while the segment lends it
+abbrev pub has_element : Command → Bool
+has_element (asked.Get key i) = true
+has_element (asked.Pop key) = true
+has_element c = false
 
 -- The call is one step of the directory machine, and the reply stands for its answer in the directory behind it. Nothing changes
 -- where the command only reads or is refused before it asks for a block, and gaps that were made zero are.

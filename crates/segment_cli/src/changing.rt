@@ -3,18 +3,20 @@ ghost use Rattle.std.specs.Prelude.{◌≡◌, ◌≤◌, ◌∷◌, [], List, M
 ghost use Rattle.seg_types.specs.declared.kinds.Kind.TheVariants.{Text as TextKind, Texts as TextsKind, Vector as VectorOf};
 ghost use Rattle.seg_types.specs.Commands.{Append, Assign, Clear, Erase, Insert, Literal as AskedLiteral, Push, Quoted as AskedQuoted, Reserve, Shrink, literal_of as literal_for};
 ghost use Rattle.seg_types.specs.Keys.{key_seen};
+ghost use Rattle.seg_types.specs.Names.{ByHandle};
 ghost use Rattle.seg_types.specs.Values.{kind_of_scalar, value_of_scalar};
 ghost use Rattle.segment_lang.specs.Seen.{literal_of};
+ghost use Rattle.segment_manager.specs.Located.{IsObject};
 ghost use Rattle.segment_manager.specs.State.{IsStep, IsStepOfKind, KeepsRefused, done_answer};
-ghost use Rattle.segment_cli.specs.Changes.{IsChangeable, IsNew, IsNoElement, IsUnchangeable, ReadsAs};
+ghost use Rattle.segment_cli.specs.Changes.{IsChangeable, IsNew, IsNoElement, IsToChange, IsUnchangeable, ReadsAs};
 ghost use Rattle.segment_cli.specs.Replies.{bytes_taken};
 
 use crate::rows::{Row, literal_row, only_text};
 use crate::setting::value_of;
 use crate::text_rows::literal_texts;
 use seg_types::{Key, Kind, Refusal, Scalar, ScalarKind, ScalarValue};
-use segment_lang::{Literal, Literals, Quoted};
-use segment_manager::{Mode, Segment};
+use segment_lang::{Literal, Literals, Quoted, Text};
+use segment_manager::{Mode, Object, Segment};
 
 /// A new element of a vector.
 #[derive(Drop)]
@@ -25,21 +27,21 @@ pub enum NewElement<'a> {
     Text(Quoted<'a>),
 }
 
-/// The kind of the object of a key, which is to be changed.
+/// The object of a key, which is to be changed.
 ///
 /// # Errors
 ///
 /// `ReadOnly` where the segment is open for reading, and else `NotFound` where no object has the key.
-pub fn kind_to_change(segment: &Segment, key: &Key) -> Result<Kind, Refusal>
-    ensures { MatchResult result (IsChangeable segment.now (key_seen key.now)) (IsUnchangeable segment.now (key_seen key.now)) }
+pub fn object_to_change(segment: &Segment, key: &Key) -> Result<Object, Refusal>
+    ensures { MatchResult result (IsToChange segment.now (key_seen key.now)) (IsUnchangeable segment.now (key_seen key.now)) }
 {
     if segment.mode() == Mode::ReadOnly {
         return Err(Refusal::ReadOnly);
     }
-    segment.kind_of(key)
+    segment.locate(key)
 }
 
-/// What a literal is as an element of the vector of a key.
+/// The vector of a key, and what a literal is as an element of it.
 ///
 /// # Errors
 ///
@@ -49,18 +51,18 @@ fn new_element<'a>(
     segment: &Segment,
     key: &Key,
     literal: Literal<'a>,
-) -> Result<NewElement<'a>, Refusal>
+) -> Result<(Object, NewElement<'a>), Refusal>
     ensures { MatchResult result (IsNew segment.now (key_seen key.now) (literal_of literal.entry)) (IsNoElement segment.now (key_seen key.now) (literal_of literal.entry)) }
 {
-    match kind_to_change(segment, key) {
+    match object_to_change(segment, key) {
         Err(why) => Err(why),
-        Ok(kind) => match kind {
+        Ok(object) => match object.kind {
             Kind::Vector(element) => match value_of(element, literal) {
                 Err(why) => Err(why),
-                Ok(value) => Ok(NewElement::Scalar(value)),
+                Ok(value) => Ok((object, NewElement::Scalar(value))),
             },
             Kind::Texts => match literal {
-                Literal::Quoted(text) => Ok(NewElement::Text(text)),
+                Literal::Quoted(text) => Ok((object, NewElement::Text(text))),
                 _ => Err(Refusal::WrongKind),
             },
             _ => Err(Refusal::WrongKind),
@@ -75,42 +77,54 @@ fn new_element<'a>(
 /// `ReadOnly` where the segment is open for reading, and else `NotFound` where no object has the key, `WrongKind` where it is no
 /// vector or the literal has not the form of its elements, `OutOfRange` where the literal is not in their range, and nothing
 /// changes; `NoSpace` where the vector is full and its storage cannot be regrown, or a text has no fit: the objects are as before.
-pub fn push(segment: &mut Segment, key: &Key, literal: Literal<'_>) -> Result<(), Refusal>
+pub fn push(
+    segment: &mut Segment,
+    key: &Key,
+    literal: Literal<'_>,
+    scratch: &mut Text,
+) -> Result<(), Refusal>
     requires { bytes_taken (literal_of literal ∷ []) ≤ 4097 }
     ensures step { IsStep segment.old segment.new (Push (key_seen key.now) (literal_of literal.entry)) (done_answer result) }
     ensures refused { KeepsRefused segment.old segment.new result }
 {
     match new_element(segment, key, literal) {
         Err(why) => Err(why),
-        Ok(NewElement::Scalar(value)) => push_value(segment, key, value),
-        Ok(NewElement::Text(text)) => push_text(segment, key, &text),
+        Ok((object, element)) => match element {
+            NewElement::Scalar(value) => push_value(segment, object, value),
+            NewElement::Text(text) => push_text(segment, object, text, scratch),
+        },
     }
 }
 
-/// Puts a value behind the last element of the vector of a key, a vector of the value's kind.
-fn push_value(segment: &mut Segment, key: &Key, value: ScalarValue) -> Result<(), Refusal>
-    ensures step { IsStepOfKind segment.old segment.new (key_seen key.now) (VectorOf (kind_of_scalar value))
-        (Push (key_seen key.now) (literal_for (kind_of_scalar value) (value_of_scalar value))) (done_answer result) }
+/// Puts a value behind the last element of a vector, a vector of the value's kind.
+fn push_value(segment: &mut Segment, object: Object, value: ScalarValue) -> Result<(), Refusal>
+    requires { IsObject object segment.old }
+    ensures step { IsStepOfKind segment.old segment.new (ByHandle object.handle) (VectorOf (kind_of_scalar value))
+        (Push (ByHandle object.handle) (literal_for (kind_of_scalar value) (value_of_scalar value))) (done_answer result) }
     ensures refused { OnErr result (segment.new ≡ segment.old) }
 {
     match value {
-        ScalarValue::Bool(truth) => segment.vec_push(key, truth),
-        ScalarValue::U8(number) => segment.vec_push(key, number),
-        ScalarValue::I32(number) => segment.vec_push(key, number),
-        ScalarValue::I64(number) => segment.vec_push(key, number),
-        ScalarValue::U64(number) => segment.vec_push(key, number),
+        ScalarValue::Bool(truth) => segment.vec_push(&object, truth),
+        ScalarValue::U8(number) => segment.vec_push(&object, number),
+        ScalarValue::I32(number) => segment.vec_push(&object, number),
+        ScalarValue::I64(number) => segment.vec_push(&object, number),
+        ScalarValue::U64(number) => segment.vec_push(&object, number),
     }
 }
 
-/// Puts a text behind the last one of the vector of strings of a key. Its bytes stand in this function's frame alone, so that no
-/// other line pays for them.
-#[inline(never)]
-fn push_text(segment: &mut Segment, key: &Key, text: &Quoted<'_>) -> Result<(), Refusal>
-    requires { length text.now ≤ 4096 }
-    ensures step { IsStepOfKind segment.old segment.new (key_seen key.now) TextsKind (Push (key_seen key.now) (AskedQuoted text.now)) (done_answer result) }
+/// Puts a text behind the last one of the vector of strings of a key.
+fn push_text(
+    segment: &mut Segment,
+    object: Object,
+    text: Quoted<'_>,
+    scratch: &mut Text,
+) -> Result<(), Refusal>
+    requires object { IsObject object segment.old }
+    requires few { length text ≤ 4096 }
+    ensures step { IsStepOfKind segment.old segment.new (ByHandle object.handle) TextsKind (Push (ByHandle object.handle) (AskedQuoted text.entry)) (done_answer result) }
     ensures refused { KeepsRefused segment.old segment.new result }
 {
-    segment.texts_push(key, text.to_text().as_slice())
+    segment.texts_push(&object, text.bytes(scratch))
 }
 
 /// Puts the value that a literal is where `index` others stand before it in the vector of a key.
@@ -126,6 +140,7 @@ pub fn insert(
     key: &Key,
     index: u64,
     literal: Literal<'_>,
+    scratch: &mut Text,
 ) -> Result<(), Refusal>
     requires { bytes_taken (literal_of literal ∷ []) ≤ 4097 }
     ensures step { IsStep segment.old segment.new (Insert (key_seen key.now) index (literal_of literal.entry)) (done_answer result) }
@@ -133,44 +148,48 @@ pub fn insert(
 {
     match new_element(segment, key, literal) {
         Err(why) => Err(why),
-        Ok(NewElement::Scalar(value)) => insert_value(segment, key, index, value),
-        Ok(NewElement::Text(text)) => insert_text(segment, key, index, &text),
+        Ok((object, element)) => match element {
+            NewElement::Scalar(value) => insert_value(segment, object, index, value),
+            NewElement::Text(text) => insert_text(segment, object, index, text, scratch),
+        },
     }
 }
 
-/// Puts a value into the vector of a key, a vector of the value's kind.
+/// Puts a value into a vector, a vector of the value's kind.
 fn insert_value(
     segment: &mut Segment,
-    key: &Key,
+    object: Object,
     index: u64,
     value: ScalarValue,
 ) -> Result<(), Refusal>
-    ensures step { IsStepOfKind segment.old segment.new (key_seen key.now) (VectorOf (kind_of_scalar value))
-        (Insert (key_seen key.now) index (literal_for (kind_of_scalar value) (value_of_scalar value))) (done_answer result) }
+    requires { IsObject object segment.old }
+    ensures step { IsStepOfKind segment.old segment.new (ByHandle object.handle) (VectorOf (kind_of_scalar value))
+        (Insert (ByHandle object.handle) index (literal_for (kind_of_scalar value) (value_of_scalar value))) (done_answer result) }
     ensures refused { OnErr result (segment.new ≡ segment.old) }
 {
     match value {
-        ScalarValue::Bool(truth) => segment.vec_insert(key, index, truth),
-        ScalarValue::U8(number) => segment.vec_insert(key, index, number),
-        ScalarValue::I32(number) => segment.vec_insert(key, index, number),
-        ScalarValue::I64(number) => segment.vec_insert(key, index, number),
-        ScalarValue::U64(number) => segment.vec_insert(key, index, number),
+        ScalarValue::Bool(truth) => segment.vec_insert(&object, index, truth),
+        ScalarValue::U8(number) => segment.vec_insert(&object, index, number),
+        ScalarValue::I32(number) => segment.vec_insert(&object, index, number),
+        ScalarValue::I64(number) => segment.vec_insert(&object, index, number),
+        ScalarValue::U64(number) => segment.vec_insert(&object, index, number),
     }
 }
 
-/// Puts a text where `index` others stand before it in the vector of strings of a key.
-#[inline(never)]
+/// Puts a text where `index` others stand before it in the vector of strings.
 fn insert_text(
     segment: &mut Segment,
-    key: &Key,
+    object: Object,
     index: u64,
-    text: &Quoted<'_>,
+    text: Quoted<'_>,
+    scratch: &mut Text,
 ) -> Result<(), Refusal>
-    requires { length text.now ≤ 4096 }
-    ensures step { IsStepOfKind segment.old segment.new (key_seen key.now) TextsKind (Insert (key_seen key.now) index (AskedQuoted text.now)) (done_answer result) }
+    requires object { IsObject object segment.old }
+    requires few { length text ≤ 4096 }
+    ensures step { IsStepOfKind segment.old segment.new (ByHandle object.handle) TextsKind (Insert (ByHandle object.handle) index (AskedQuoted text.entry)) (done_answer result) }
     ensures refused { KeepsRefused segment.old segment.new result }
 {
-    segment.texts_insert(key, index, text.to_text().as_slice())
+    segment.texts_insert(&object, index, text.bytes(scratch))
 }
 
 /// Leaves out the element at `index` in the vector of a key.
@@ -183,32 +202,33 @@ pub fn erase(segment: &mut Segment, key: &Key, index: u64) -> Result<(), Refusal
     ensures step { IsStep segment.old segment.new (Erase (key_seen key.now) index) (done_answer result) }
     ensures refused { OnErr result (segment.new ≡ segment.old) }
 {
-    match kind_to_change(segment, key) {
+    match object_to_change(segment, key) {
         Err(why) => Err(why),
-        Ok(kind) => match kind {
-            Kind::Vector(element) => erase_element(segment, key, element, index),
-            Kind::Texts => segment.texts_erase(key, index),
+        Ok(object) => match object.kind {
+            Kind::Vector(element) => erase_element(segment, object, element, index),
+            Kind::Texts => segment.texts_erase(&object, index),
             _ => Err(Refusal::WrongKind),
         },
     }
 }
 
-/// Leaves out an element of the vector of a key, a vector of scalars of a kind.
+/// Leaves out an element of a vector, a vector of scalars of a kind.
 fn erase_element(
     segment: &mut Segment,
-    key: &Key,
+    object: Object,
     kind: ScalarKind,
     index: u64,
 ) -> Result<(), Refusal>
-    ensures step { IsStepOfKind segment.old segment.new (key_seen key.now) (VectorOf kind) (Erase (key_seen key.now) index) (done_answer result) }
+    requires { IsObject object segment.old }
+    ensures step { IsStepOfKind segment.old segment.new (ByHandle object.handle) (VectorOf kind) (Erase (ByHandle object.handle) index) (done_answer result) }
     ensures refused { OnErr result (segment.new ≡ segment.old) }
 {
     match kind {
-        ScalarKind::Bool => segment.vec_erase::<bool>(key, index),
-        ScalarKind::U8 => segment.vec_erase::<u8>(key, index),
-        ScalarKind::I32 => segment.vec_erase::<i32>(key, index),
-        ScalarKind::I64 => segment.vec_erase::<i64>(key, index),
-        ScalarKind::U64 => segment.vec_erase::<u64>(key, index),
+        ScalarKind::Bool => segment.vec_erase::<bool, Object>(&object, index),
+        ScalarKind::U8 => segment.vec_erase::<u8, Object>(&object, index),
+        ScalarKind::I32 => segment.vec_erase::<i32, Object>(&object, index),
+        ScalarKind::I64 => segment.vec_erase::<i64, Object>(&object, index),
+        ScalarKind::U64 => segment.vec_erase::<u64, Object>(&object, index),
     }
 }
 
@@ -220,85 +240,98 @@ fn erase_element(
 /// neither or a value has not the form of its elements, `OutOfRange` where a value is not in their range, and nothing changes;
 /// `NoSpace` where its storage cannot be regrown or a text has no fit: the objects are as before.
 #[inline(never)]
-pub fn assign(segment: &mut Segment, key: &Key, values: Literals<'_>) -> Result<(), Refusal>
+pub fn assign(
+    segment: &mut Segment,
+    key: &Key,
+    values: Literals<'_>,
+    scratch: &mut Text,
+) -> Result<(), Refusal>
     requires { bytes_taken values ≤ 4097 }
     ensures step { IsStep segment.old segment.new (Assign (key_seen key.now) values.entry) (done_answer result) }
     ensures refused { KeepsRefused segment.old segment.new result }
 {
-    match kind_to_change(segment, key) {
+    match object_to_change(segment, key) {
         Err(why) => Err(why),
-        Ok(kind) => match kind {
-            Kind::Vector(element) => assign_vector(segment, key, element, values),
-            Kind::Text => assign_string(segment, key, values),
-            Kind::Texts => assign_texts(segment, key, values),
+        Ok(object) => match object.kind {
+            Kind::Vector(element) => assign_vector(segment, object, element, values),
+            Kind::Text => assign_string(segment, object, values, scratch),
+            Kind::Texts => assign_texts(segment, object, values),
             _ => Err(Refusal::WrongKind),
         },
     }
 }
 
-/// Makes values those of the vector of a key, a vector of scalars of a kind.
+/// Makes values those of a vector, a vector of scalars of a kind.
 #[inline(never)]
 fn assign_vector(
     segment: &mut Segment,
-    key: &Key,
+    object: Object,
     kind: ScalarKind,
     values: Literals<'_>,
 ) -> Result<(), Refusal>
-    requires of_kind { IsChangeable segment.old (key_seen key.now) (VectorOf kind) }
+    requires object { IsObject object segment.old }
+    requires of_kind { IsChangeable segment.old (ByHandle object.handle) (VectorOf kind) }
     requires few { bytes_taken values ≤ 4097 }
-    ensures step { IsStep segment.old segment.new (Assign (key_seen key.now) values.entry) (done_answer result) }
+    ensures step { IsStep segment.old segment.new (Assign (ByHandle object.handle) values.entry) (done_answer result) }
     ensures refused { OnErr result (segment.new ≡ segment.old) }
 {
     match kind {
-        ScalarKind::Bool => assign_row(segment, key, literal_row::<bool>(values)),
-        ScalarKind::U8 => assign_row(segment, key, literal_row::<u8>(values)),
-        ScalarKind::I32 => assign_row(segment, key, literal_row::<i32>(values)),
-        ScalarKind::I64 => assign_row(segment, key, literal_row::<i64>(values)),
-        ScalarKind::U64 => assign_row(segment, key, literal_row::<u64>(values)),
+        ScalarKind::Bool => assign_row(segment, object, literal_row::<bool>(values)),
+        ScalarKind::U8 => assign_row(segment, object, literal_row::<u8>(values)),
+        ScalarKind::I32 => assign_row(segment, object, literal_row::<i32>(values)),
+        ScalarKind::I64 => assign_row(segment, object, literal_row::<i64>(values)),
+        ScalarKind::U64 => assign_row(segment, object, literal_row::<u64>(values)),
     }
 }
 
-/// Makes the values that were read those of the vector of a key, a vector of the type.
+/// Makes the values that were read those of a vector, a vector of the type.
 fn assign_row<T: Scalar>(
     segment: &mut Segment,
-    key: &Key,
+    object: Object,
     read: Result<Row<T>, Refusal>,
 ) -> Result<(), Refusal>
-    requires { IsChangeable segment.old (key_seen key.now) (VectorOf T.kind) }
-    ensures step { (ls : List AskedLiteral) → ReadsAs T.kind T.whole ls read → IsStep segment.old segment.new (Assign (key_seen key.now) ls) (done_answer result) }
+    requires object { IsObject object segment.old }
+    requires of_kind { IsChangeable segment.old (ByHandle object.handle) (VectorOf T.kind) }
+    ensures step { (ls : List AskedLiteral) → ReadsAs T.kind T.whole ls read → IsStep segment.old segment.new (Assign (ByHandle object.handle) ls) (done_answer result) }
     ensures refused { OnErr result (segment.new ≡ segment.old) }
 {
     match read {
         Err(why) => Err(why),
-        Ok(row) => segment.vec_assign(key, row.as_slice()),
+        Ok(row) => segment.vec_assign(&object, row.as_slice()),
     }
 }
 
-/// Makes one text the bytes of the string of a key.
-#[inline(never)]
-fn assign_string(segment: &mut Segment, key: &Key, values: Literals<'_>) -> Result<(), Refusal>
-    requires of_kind { IsChangeable segment.old (key_seen key.now) TextKind }
+/// Makes one text the bytes of a string.
+fn assign_string(
+    segment: &mut Segment,
+    object: Object,
+    values: Literals<'_>,
+    scratch: &mut Text,
+) -> Result<(), Refusal>
+    requires object { IsObject object segment.old }
+    requires of_kind { IsChangeable segment.old (ByHandle object.handle) TextKind }
     requires few { bytes_taken values ≤ 4097 }
-    ensures step { IsStep segment.old segment.new (Assign (key_seen key.now) values.entry) (done_answer result) }
+    ensures step { IsStep segment.old segment.new (Assign (ByHandle object.handle) values.entry) (done_answer result) }
     ensures refused { OnErr result (segment.new ≡ segment.old) }
 {
-    match only_text(values) {
+    match only_text(values, scratch) {
         Err(why) => Err(why),
-        Ok(text) => segment.string_assign(key, text.as_slice()),
+        Ok(text) => segment.string_assign(&object, text),
     }
 }
 
-/// Makes texts those of the vector of strings of a key.
+/// Makes texts those of the vector of strings.
 #[inline(never)]
-fn assign_texts(segment: &mut Segment, key: &Key, values: Literals<'_>) -> Result<(), Refusal>
-    requires of_kind { IsChangeable segment.old (key_seen key.now) TextsKind }
+fn assign_texts(segment: &mut Segment, object: Object, values: Literals<'_>) -> Result<(), Refusal>
+    requires object { IsObject object segment.old }
+    requires of_kind { IsChangeable segment.old (ByHandle object.handle) TextsKind }
     requires few { bytes_taken values ≤ 4097 }
-    ensures step { IsStep segment.old segment.new (Assign (key_seen key.now) values.entry) (done_answer result) }
+    ensures step { IsStep segment.old segment.new (Assign (ByHandle object.handle) values.entry) (done_answer result) }
     ensures refused { KeepsRefused segment.old segment.new result }
 {
     match literal_texts(values) {
         Err(why) => Err(why),
-        Ok(row) => segment.texts_assign(key, row.slices().as_slice()),
+        Ok(row) => segment.texts_assign(&object, row.slices().as_slice()),
     }
 }
 
@@ -307,13 +340,17 @@ fn assign_texts(segment: &mut Segment, key: &Key, values: Literals<'_>) -> Resul
 /// # Errors
 ///
 /// As the segment's call. Nothing changes.
-#[inline(never)]
-pub fn append(segment: &mut Segment, key: &Key, text: &Quoted<'_>) -> Result<(), Refusal>
-    requires { length text.now ≤ 4096 }
-    ensures step { IsStep segment.old segment.new (Append (key_seen key.now) text.now) (done_answer result) }
+pub fn append(
+    segment: &mut Segment,
+    key: &Key,
+    text: Quoted<'_>,
+    scratch: &mut Text,
+) -> Result<(), Refusal>
+    requires { length text ≤ 4096 }
+    ensures step { IsStep segment.old segment.new (Append (key_seen key.now) text.entry) (done_answer result) }
     ensures refused { OnErr result (segment.new ≡ segment.old) }
 {
-    segment.string_append(key, text.to_text().as_slice())
+    segment.string_append(key, text.bytes(scratch))
 }
 
 /// Makes room in the vector or string of a key.

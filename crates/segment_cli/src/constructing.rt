@@ -11,7 +11,7 @@ ghost use Rattle.segment_cli.specs.Replies.{IsContent, IsMeant};
 use crate::rows::value_row;
 use crate::text_rows::text_row;
 use seg_types::{Handle, IndexKey, NewKey, Refusal, ScalarKind};
-use segment_lang::{Content, Texts, Values};
+use segment_lang::{Content, Text, Texts, Values};
 use segment_manager::Segment;
 
 /// Makes an object, and answers its handle.
@@ -25,6 +25,7 @@ pub fn construct(
     segment: &mut Segment,
     key: &NewKey,
     content: Content<'_>,
+    scratch: &mut Text,
 ) -> Result<Handle, Refusal>
     requires { IsContent (new_key_seen key.now) (content_of content) }
     ensures step { IsStep segment.old segment.new (Construct (new_key_seen key.now) (content_of content.entry)) (handle_answer result) }
@@ -33,7 +34,7 @@ pub fn construct(
     match content {
         Content::Scalars { value, count } => segment.construct_value(key, count, value),
         Content::Elements(values) => construct_vector(segment, key, values),
-        Content::Text(text) => segment.construct_string(key, text.to_text().as_slice()),
+        Content::Text(text) => segment.construct_string(key, text.bytes(scratch)),
         Content::Texts(texts) => construct_texts(segment, key, texts),
         Content::NoPairs {
             key: keys,
@@ -103,6 +104,7 @@ pub fn find_or_construct(
     segment: &mut Segment,
     key: &IndexKey,
     content: Content<'_>,
+    scratch: &mut Text,
 ) -> Result<(Handle, u32), Refusal>
     requires { IsContent (index_key_seen key.now) (content_of content) }
     ensures step { IsStep segment.old segment.new (FindOrConstruct (index_key_seen key.now) (content_of content.entry)) (pair_answer result) }
@@ -111,7 +113,7 @@ pub fn find_or_construct(
     match content {
         Content::Scalars { value, count } => segment.find_or_construct_value(key, count, value),
         Content::Elements(values) => find_or_construct_vector(segment, key, values),
-        Content::Text(text) => segment.find_or_construct_string(key, text.to_text().as_slice()),
+        Content::Text(text) => segment.find_or_construct_string(key, text.bytes(scratch)),
         Content::Texts(texts) => find_or_construct_texts(segment, key, texts),
         Content::NoPairs {
             key: keys,

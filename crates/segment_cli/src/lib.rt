@@ -38,5 +38,6 @@ pub use program_faults::ProgramFault;
 pub use reports::report;
 pub use saving::save;
 pub use scripts::run;
+pub use segments::Interpreter;
 pub use sessions::session;
 pub use usage::{InvocationFault, UsageError};

@@ -8,7 +8,7 @@ ghost use Rattle.segment_manager.specs.State.{IsReply, IsStep, truth_answer};
 ghost use Rattle.segment_manager.specs.Step.{pair_of};
 ghost use Rattle.segment_cli.specs.Settings.{IsPairOf};
 
-use crate::changing::kind_to_change;
+use crate::changing::object_to_change;
 use crate::setting::value_of;
 use seg_types::{Key, Kind, Refusal, ScalarKind, ScalarValue};
 use segment_lang::Literal;
@@ -30,12 +30,12 @@ pub fn put(
     ensures step { IsStep segment.old segment.new (Put (key_seen key.now) (literal_of at.entry) (literal_of value.entry)) (truth_answer result) }
     ensures refused { OnErr result (segment.new ≡ segment.old) }
 {
-    match kind_to_change(segment, key) {
+    match object_to_change(segment, key) {
         Err(why) => Err(why),
-        Ok(kind) => match kind {
+        Ok(object) => match object.kind {
             Kind::Map(keys, values) => match new_pair(keys, values, at, value) {
                 Err(why) => Err(why),
-                Ok((new_key, new_value)) => segment.map_put_any(key, new_key, new_value),
+                Ok((new_key, new_value)) => segment.map_put_any(&object, new_key, new_value),
             },
             _ => Err(Refusal::WrongKind),
         },
@@ -51,12 +51,12 @@ pub fn put(
 pub fn lookup(segment: &Segment, key: &Key, at: Literal<'_>) -> Result<Option<ScalarValue>, Refusal>
     ensures { IsReply segment.now (Lookup (key_seen key.now) (literal_of at.entry)) (any_value_answer result) }
 {
-    match segment.kind_of(key) {
+    match segment.locate(key) {
         Err(why) => Err(why),
-        Ok(kind) => match kind {
+        Ok(object) => match object.kind {
             Kind::Map(keys, values) => match value_of(keys, at) {
                 Err(why) => Err(why),
-                Ok(wanted) => segment.map_get_any(key, wanted, values),
+                Ok(wanted) => segment.map_get_any(&object, wanted, values),
             },
             _ => Err(Refusal::WrongKind),
         },
@@ -73,12 +73,12 @@ pub fn remove(segment: &mut Segment, key: &Key, at: Literal<'_>) -> Result<bool,
     ensures step { IsStep segment.old segment.new (Remove (key_seen key.now) (literal_of at.entry)) (truth_answer result) }
     ensures refused { OnErr result (segment.new ≡ segment.old) }
 {
-    match kind_to_change(segment, key) {
+    match object_to_change(segment, key) {
         Err(why) => Err(why),
-        Ok(kind) => match kind {
+        Ok(object) => match object.kind {
             Kind::Map(keys, values) => match value_of(keys, at) {
                 Err(why) => Err(why),
-                Ok(gone) => segment.map_erase_any(key, gone, values),
+                Ok(gone) => segment.map_erase_any(&object, gone, values),
             },
             _ => Err(Refusal::WrongKind),
         },

@@ -9,7 +9,7 @@ ghost use Rattle.segment_cli.specs.Writing.{WritesFor};
 
 use crate::listing::put_blocks;
 use crate::replies::Answer;
-use crate::showing::{put_shown, put_text_at};
+use crate::showing::put_shown;
 use crate::telling::{put_kinds, put_names, put_told};
 use raw_region::{DeviceFault, Sink};
 use seg_types::Handle;
@@ -19,12 +19,12 @@ use segment_manager::Segment;
 /// Writes an answer about a segment. A fault leaves a proper prefix of it written.
 pub fn put_answer<W: Sink>(
     segment: &Segment,
-    answer: Answer,
+    answer: Answer<'_>,
     out: &mut W,
 ) -> Result<(), DeviceFault>
     requires { (W.history out.old).failures < 2 ^ 64 - 1 }
     ensures { WritesFor (W.history out.old) (W.history out.new) result (StandsFor segment.now.cut.bytes)
-        (λ d. answer_text (answer_seen d answer)) }
+        (λ d. answer_text (answer_seen d answer.entry)) }
 {
     match answer {
         Answer::Done => put_pieces(out, &[Piece::Bytes(b"ok\n")]),
@@ -36,7 +36,6 @@ pub fn put_answer<W: Sink>(
         Answer::Made(handle) => put_handle(handle, out),
         Answer::Found(handle, count) => put_found(handle, count, out),
         Answer::Element(value) => put_pieces(out, &[Piece::Value(value), Piece::Bytes(b"\n")]),
-        Answer::TextElement(key, index) => put_text_at(segment, &key, index, out),
         Answer::Shown(key) => put_shown(segment, &key, out),
         Answer::Told(key) => put_told(segment, &key, out),
         Answer::Names => put_names(segment, out),

@@ -1,26 +1,25 @@
 //! What a command is answered: each is executed by one call of the segment, for some by the kind of the object.
 ghost use Rattle.std.specs.Prelude.{◌≡◌, OnErr, false};
-ghost use Rattle.seg_types.specs.Commands.{Destroy, DestroyPtr, Get, ReserveNamed, ReserveUnique, ShrinkIndexes};
-ghost use Rattle.seg_types.specs.Keys.{index_key_seen, key_seen};
+ghost use Rattle.seg_types.specs.Commands.{Destroy, DestroyPtr, ReserveNamed, ReserveUnique, ShrinkIndexes};
+ghost use Rattle.seg_types.specs.Keys.{index_key_seen};
 ghost use Rattle.segment_lang.specs.Seen.{command_of};
 ghost use Rattle.segment_manager.specs.Directory.{Directory};
 ghost use Rattle.segment_manager.specs.Found.{found_answer, pair_answer};
 ghost use Rattle.segment_manager.specs.Maps.{any_value_answer};
-ghost use Rattle.segment_manager.specs.State.{IsStep, KeepsRefused, StandsFor, done_answer, gone_answer, handle_answer, scalar_answer, truth_answer};
-ghost use Rattle.segment_manager.specs.Step.{step};
-ghost use Rattle.segment_cli.specs.Replies.{IsMeant, Replies, answer_seen, is_pop};
+ghost use Rattle.segment_manager.specs.State.{IsStep, KeepsRefused, done_answer, gone_answer, handle_answer, scalar_answer, truth_answer};
+ghost use Rattle.segment_cli.specs.Replies.{IsMeant, Replies, answer_seen, has_element};
 
 use crate::changing::{append, assign, clear, erase, insert, push, reserve, shrink};
 use crate::constructing::{construct, construct_it, find_or_construct};
 use crate::pairs::{lookup, put, remove};
 use crate::setting::set;
-use seg_types::{Handle, IndexKey, Key, Kind, Refusal, ScalarValue};
-use segment_lang::Command;
+use seg_types::{Handle, IndexKey, Key, Refusal, ScalarValue};
+use segment_lang::{Command, Text};
 use segment_manager::Segment;
 
 /// What a command is answered: all of it where it is short, and where it is long, of what the segment is to be asked.
 #[derive(Drop)]
-pub enum Answer {
+pub enum Answer<'a> {
     /// The command is done.
     Done,
     /// There is nothing.
@@ -33,14 +32,12 @@ pub enum Answer {
     Made(Handle),
     /// The handle of an object, and how many elements it has.
     Found(Handle, u32),
-    /// An element of an object.
+    /// An element of an object, or a value of a map.
     Element(ScalarValue),
-    /// The text at an index in the vector of strings of a key, or why there is none.
-    TextElement(Key, u64),
     /// The kind and the value of the object of a key, or that there is none.
-    Shown(Key),
+    Shown(Key<'a>),
     /// What the object of a key says of itself, or that there is none.
-    Told(Key),
+    Told(Key<'a>),
     /// Each object with a name, by name.
     Names,
     /// Each unique object, by kind.
@@ -51,36 +48,37 @@ pub enum Answer {
     Refused(Refusal),
 }
 
-/// Executes a command that takes out no element, and answers it.
-pub fn reply(segment: &mut Segment, command: Command<'_>) -> Answer
+/// Executes a command that reads no element and takes none out, and answers it. A text that the line escapes is decoded into
+/// `scratch`.
+pub fn reply<'a>(segment: &mut Segment, command: Command<'a>, scratch: &mut Text) -> Answer<'a>
     requires meant { IsMeant (command_of command) }
-    requires stays { is_pop (command_of command) ≡ false }
+    requires short { has_element (command_of command) ≡ false }
     ensures { Replies segment.old segment.new (command_of command.entry) result }
 {
     match command {
-        Command::Construct { key, content } => made(construct(segment, &key, content)),
+        Command::Construct { key, content } => made(construct(segment, &key, content, scratch)),
         Command::ConstructIt { key, count, values } => {
             made(construct_it(segment, &key, count, values))
         }
         Command::Find { kind, key } => looked_up(segment.find_kind(&key.into_key(), kind)),
         Command::FindOrConstruct { key, content } => {
-            found(find_or_construct(segment, &key, content))
+            found(find_or_construct(segment, &key, content, scratch))
         }
         Command::Destroy(key) => truth(destroy(segment, &key)),
         Command::DestroyPtr(handle) => gone(destroy_ptr(segment, handle)),
         Command::Show(key) => Answer::Shown(key),
         Command::Info(key) => Answer::Told(key),
-        Command::Get { key, index } => get(segment, key, index),
-        Command::Set { key, index, value } => done(set(segment, &key, index, value)),
-        Command::Push { key, value } => done(push(segment, &key, value)),
+        Command::Get { .. } => unreachable!(),
+        Command::Set { key, index, value } => done(set(segment, &key, index, value, scratch)),
+        Command::Push { key, value } => done(push(segment, &key, value, scratch)),
         Command::Pop(_) => unreachable!(),
-        Command::Insert { key, index, value } => done(insert(segment, &key, index, value)),
+        Command::Insert { key, index, value } => done(insert(segment, &key, index, value, scratch)),
         Command::Erase { key, index } => done(erase(segment, &key, index)),
         Command::Reserve { key, count } => done(reserve(segment, &key, count)),
         Command::Shrink(key) => done(shrink(segment, &key)),
         Command::Clear(key) => done(clear(segment, &key)),
-        Command::Assign { key, values } => done(assign(segment, &key, values)),
-        Command::Append { key, text } => done(append(segment, &key, &text)),
+        Command::Assign { key, values } => done(assign(segment, &key, values, scratch)),
+        Command::Append { key, text } => done(append(segment, &key, text, scratch)),
         Command::Put { key, at, value } => truth(put(segment, &key, at, value)),
         Command::Lookup { key, at } => value_found(lookup(segment, &key, at)),
         Command::Remove { key, at } => truth(remove(segment, &key, at)),
@@ -97,19 +95,6 @@ pub fn reply(segment: &mut Segment, command: Command<'_>) -> Answer
         Command::ZeroFree => done(segment.zero_free()),
         Command::Sanity => Answer::Truth(segment.sanity()),
         Command::AllDeallocated => Answer::Truth(segment.all_deallocated()),
-    }
-}
-
-/// The element at `index` in the object of a key, or why there is none.
-fn get(segment: &Segment, key: Key, index: u64) -> Answer
-    ensures { (d : Directory) → StandsFor segment.now.cut.bytes d → answer_seen d result ≡ (step segment.now.mode d (Get (key_seen key) index)).0 }
-{
-    match segment.kind_of(&key) {
-        Ok(kind) => match kind {
-            Kind::Texts => Answer::TextElement(key, index),
-            _ => element(segment.get_any(&key, index)),
-        },
-        Err(refusal) => Answer::Refused(refusal),
     }
 }
 
@@ -174,7 +159,7 @@ fn shrink_indexes(segment: &mut Segment) -> Result<(), Refusal>
 }
 
 /// The answer where an object was made, or not.
-fn made(made: Result<Handle, Refusal>) -> Answer
+fn made<'a>(made: Result<Handle, Refusal>) -> Answer<'a>
     ensures { (d : Directory) → answer_seen d result ≡ handle_answer made }
 {
     match made {
@@ -184,7 +169,7 @@ fn made(made: Result<Handle, Refusal>) -> Answer
 }
 
 /// The answer where an object was found or made, or not.
-fn found(found: Result<(Handle, u32), Refusal>) -> Answer
+fn found<'a>(found: Result<(Handle, u32), Refusal>) -> Answer<'a>
     ensures { (d : Directory) → answer_seen d result ≡ pair_answer found }
 {
     match found {
@@ -194,7 +179,7 @@ fn found(found: Result<(Handle, u32), Refusal>) -> Answer
 }
 
 /// The answer where an object was looked for.
-fn looked_up(found: Result<Option<(Handle, u32)>, Refusal>) -> Answer
+fn looked_up<'a>(found: Result<Option<(Handle, u32)>, Refusal>) -> Answer<'a>
     ensures { (d : Directory) → answer_seen d result ≡ found_answer found }
 {
     match found {
@@ -205,7 +190,7 @@ fn looked_up(found: Result<Option<(Handle, u32)>, Refusal>) -> Answer
 }
 
 /// The answer where an element was asked for.
-pub fn element(element: Result<ScalarValue, Refusal>) -> Answer
+pub fn element<'a>(element: Result<ScalarValue, Refusal>) -> Answer<'a>
     ensures { (d : Directory) → answer_seen d result ≡ scalar_answer element }
 {
     match element {
@@ -215,7 +200,7 @@ pub fn element(element: Result<ScalarValue, Refusal>) -> Answer
 }
 
 /// The answer where a value was looked for.
-fn value_found(found: Result<Option<ScalarValue>, Refusal>) -> Answer
+fn value_found<'a>(found: Result<Option<ScalarValue>, Refusal>) -> Answer<'a>
     ensures { (d : Directory) → answer_seen d result ≡ any_value_answer found }
 {
     match found {
@@ -228,7 +213,7 @@ fn value_found(found: Result<Option<ScalarValue>, Refusal>) -> Answer
 }
 
 /// The answer where something holds, or not.
-fn truth(truth: Result<bool, Refusal>) -> Answer
+fn truth<'a>(truth: Result<bool, Refusal>) -> Answer<'a>
     ensures { (d : Directory) → answer_seen d result ≡ truth_answer truth }
 {
     match truth {
@@ -238,7 +223,7 @@ fn truth(truth: Result<bool, Refusal>) -> Answer
 }
 
 /// The answer where an object is gone, or not.
-fn gone(gone: Result<(), Refusal>) -> Answer
+fn gone<'a>(gone: Result<(), Refusal>) -> Answer<'a>
     ensures { (d : Directory) → answer_seen d result ≡ gone_answer gone }
 {
     match gone {
@@ -248,7 +233,7 @@ fn gone(gone: Result<(), Refusal>) -> Answer
 }
 
 /// The answer where a command is done, or not.
-fn done(done: Result<(), Refusal>) -> Answer
+fn done<'a>(done: Result<(), Refusal>) -> Answer<'a>
     ensures { (d : Directory) → answer_seen d result ≡ done_answer done }
 {
     match done {

@@ -136,9 +136,9 @@ pub fn literal_row<T: Scalar>(literals: Literals<'_>) -> Result<Row<T>, Refusal>
 /// # Errors
 ///
 /// `WrongKind` where there is none, or more than one, or a value of another form.
-pub fn only_text(mut literals: Literals<'_>) -> Result<Text, Refusal>
+pub fn only_text<'a>(mut literals: Literals<'a>, scratch: &'a mut Text) -> Result<&'a [u8], Refusal>
     requires { bytes_taken literals ≤ 4097 }
-    ensures { MatchResult result (λ text. text_among literals.entry ≡ Ok text) (λ why. text_among literals.entry ≡ Err why) }
+    ensures { MatchResult result (λ text. text_among literals.entry ≡ Ok text.now) (λ why. text_among literals.entry ≡ Err why) }
 {
     let Some(Literal::Quoted(text)) = literals.next() else {
         return Err(Refusal::WrongKind);
@@ -146,5 +146,5 @@ pub fn only_text(mut literals: Literals<'_>) -> Result<Text, Refusal>
     if literals.next().is_some() {
         return Err(Refusal::WrongKind);
     }
-    Ok(text.to_text())
+    Ok(text.bytes(scratch))
 }

@@ -3,18 +3,20 @@ ghost use Rattle.std.specs.Prelude.{◌≡◌, ◌≤◌, ◌∷◌, [], Ok, OnE
 ghost use Rattle.seg_types.specs.declared.kinds.Kind.TheVariants.{Texts as TextsKind};
 ghost use Rattle.seg_types.specs.Commands.{Set, value_of_literal};
 ghost use Rattle.seg_types.specs.Keys.{key_seen};
+ghost use Rattle.seg_types.specs.Names.{ByHandle};
 ghost use Rattle.segment_lang.specs.Seen.{literal_of};
 ghost use Rattle.segment_manager.specs.Calls.{elements_at};
+ghost use Rattle.segment_manager.specs.Located.{IsObject};
 ghost use Rattle.segment_manager.specs.State.{Answers, IsStep, done_answer};
 ghost use Rattle.segment_manager.specs.Step.{is_read_only};
 ghost use Rattle.segment_cli.specs.Changes.{IsChangeable};
 ghost use Rattle.segment_cli.specs.Replies.{bytes_taken};
 ghost use Rattle.segment_cli.specs.Settings.{IsValueOf};
 
-use crate::changing::kind_to_change;
+use crate::changing::object_to_change;
 use seg_types::{Key, Kind, Refusal, ScalarKind, ScalarValue};
-use segment_lang::Literal;
-use segment_manager::Segment;
+use segment_lang::{Literal, Text};
+use segment_manager::{Object, Segment};
 
 /// Makes what a literal is the element at `index` in the object of a key.
 ///
@@ -28,19 +30,20 @@ pub fn set(
     key: &Key,
     index: u64,
     literal: Literal<'_>,
+    scratch: &mut Text,
 ) -> Result<(), Refusal>
     requires { bytes_taken (literal_of literal ∷ []) ≤ 4097 }
     ensures step { IsStep segment.old segment.new (Set (key_seen key.now) index (literal_of literal.entry)) (done_answer result) }
     ensures refused { OnErr result (segment.new ≡ segment.old) }
 {
-    match kind_to_change(segment, key) {
+    match object_to_change(segment, key) {
         Err(why) => Err(why),
-        Ok(kind) => match kind {
+        Ok(object) => match object.kind {
             Kind::Scalar(element) | Kind::Vector(element) => {
-                set_scalar(segment, key, element, index, literal)
+                set_scalar(segment, object, element, index, literal)
             }
-            Kind::Text => set_scalar(segment, key, ScalarKind::U8, index, literal),
-            Kind::Texts => set_text(segment, key, index, literal),
+            Kind::Text => set_scalar(segment, object, ScalarKind::U8, index, literal),
+            Kind::Texts => set_text(segment, object, index, literal, scratch),
             Kind::Map(_, _) => Err(Refusal::WrongKind),
         },
     }
@@ -49,37 +52,39 @@ pub fn set(
 /// Makes the value that a literal is the element at `index` in the object of a key, whose elements are scalars of a kind.
 fn set_scalar(
     segment: &mut Segment,
-    key: &Key,
+    object: Object,
     kind: ScalarKind,
     index: u64,
     literal: Literal<'_>,
 ) -> Result<(), Refusal>
+    requires object { IsObject object segment.old }
     requires writing { is_read_only segment.old.mode ≡ false }
-    requires elements { Answers segment.old (λ d. elements_at d (key_seen key.now)) (Ok kind) }
-    ensures step { IsStep segment.old segment.new (Set (key_seen key.now) index (literal_of literal.entry)) (done_answer result) }
+    requires elements { Answers segment.old (λ d. elements_at d (ByHandle object.handle)) (Ok kind) }
+    ensures step { IsStep segment.old segment.new (Set (ByHandle object.handle) index (literal_of literal.entry)) (done_answer result) }
     ensures refused { OnErr result (segment.new ≡ segment.old) }
 {
     match value_of(kind, literal) {
         Err(why) => Err(why),
-        Ok(value) => segment.set_any(key, index, value),
+        Ok(value) => segment.set_any(&object, index, value),
     }
 }
 
 /// Makes what a literal is the text at `index` in the vector of strings of a key.
-#[inline(never)]
 fn set_text(
     segment: &mut Segment,
-    key: &Key,
+    object: Object,
     index: u64,
     literal: Literal<'_>,
+    scratch: &mut Text,
 ) -> Result<(), Refusal>
-    requires of_kind { IsChangeable segment.old (key_seen key.now) TextsKind }
+    requires object { IsObject object segment.old }
+    requires of_kind { IsChangeable segment.old (ByHandle object.handle) TextsKind }
     requires few { bytes_taken (literal_of literal ∷ []) ≤ 4097 }
-    ensures step { IsStep segment.old segment.new (Set (key_seen key.now) index (literal_of literal.entry)) (done_answer result) }
+    ensures step { IsStep segment.old segment.new (Set (ByHandle object.handle) index (literal_of literal.entry)) (done_answer result) }
     ensures refused { OnErr result (segment.new ≡ segment.old) }
 {
     match literal {
-        Literal::Quoted(text) => segment.texts_set(key, index, text.to_text().as_slice()),
+        Literal::Quoted(text) => segment.texts_set(&object, index, text.bytes(scratch)),
         _ => Err(Refusal::WrongKind),
     }
 }

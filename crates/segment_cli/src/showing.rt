@@ -6,6 +6,7 @@ ghost use Rattle.seg_types.specs.Keys.{key_seen};
 ghost use Rattle.seg_types.specs.Names.{ByHandle};
 ghost use Rattle.segment_manager.specs.Contents.{bytes_at, sizes_at};
 ghost use Rattle.segment_manager.specs.Calls.{HasScalars};
+ghost use Rattle.segment_manager.specs.Located.{IsObject};
 ghost use Rattle.segment_manager.specs.State.{Answers, StandsFor};
 ghost use Rattle.segment_manager.specs.Step.{step};
 ghost use Rattle.segment_cli.specs.Answer.{answer_text};
@@ -14,11 +15,13 @@ ghost use Rattle.segment_cli.specs.Replies.{shown_at, text_at};
 ghost use Rattle.segment_cli.specs.Shown.{counted_text, elements_text, front_text, length_in, string_line, texts_line, texts_text, value_line};
 ghost use Rattle.segment_cli.specs.Writing.{WritesFor};
 
+use crate::printing::put_answer;
+use crate::replies::element;
 use crate::showing_maps::put_map_line;
 use raw_region::{DeviceFault, Sink};
-use seg_types::{Handle, Key, Kind};
+use seg_types::{Key, Kind};
 use segment_lang::{Piece, put_pieces};
-use segment_manager::Segment;
+use segment_manager::{Object, Segment};
 
 /// Writes the kind and the value of the object of a key, or that there is none.
 pub fn put_shown<W: Sink>(segment: &Segment, key: &Key, out: &mut W) -> Result<(), DeviceFault>
@@ -26,48 +29,44 @@ pub fn put_shown<W: Sink>(segment: &Segment, key: &Key, out: &mut W) -> Result<(
     ensures { WritesFor (W.history out.old) (W.history out.new) result (StandsFor segment.now.cut.bytes)
         (λ d. answer_text (shown_at d (key_seen key.now))) }
 {
-    match segment.instance(key) {
-        Ok(said) => match said.kind {
-            Kind::Scalar(_) => {
-                put_value_line(segment, said.handle, said.kind, u64::from(said.count), out)
-            }
-            Kind::Vector(_) => {
-                put_value_line(
-                    segment,
-                    said.handle,
-                    said.kind,
-                    length_of(segment, key),
-                    out,
-                )
-            }
-            Kind::Text => put_string_line(segment, key, out),
-            Kind::Texts => put_texts_line(segment, key, length_of(segment, key), out),
+    match segment.locate(key) {
+        Ok(object) => match object.kind {
+            Kind::Scalar(_) => put_value_line(segment, object, u64::from(object.count), out),
+            Kind::Vector(_) => put_value_line(segment, object, length_of(segment, object), out),
+            Kind::Text => put_string_line(segment, object, out),
+            Kind::Texts => put_texts_line(segment, object, length_of(segment, object), out),
             Kind::Map(keys, values) => {
-                let count = length_of(segment, key);
-                put_map_line(segment, said.handle, keys, values, count, out)
+                let count = length_of(segment, object);
+                put_map_line(segment, object, keys, values, count, out)
             }
         },
         Err(refusal) => put_pieces(out, &[Piece::Refusal(refusal), Piece::Bytes(b"\n")]),
     }
 }
 
-/// How many elements the vector, string or map of a key has, and 0 where it is none of these.
-pub fn length_of(segment: &Segment, key: &Key) -> u64
-    ensures { Answers segment.now (λ d. length_in (sizes_at d (key_seen key.now))) result }
+/// How many elements a vector, string or map has, and 0 where the object is none of these.
+pub fn length_of(segment: &Segment, object: Object) -> u64
+    requires { IsObject object segment.now }
+    ensures { Answers segment.now (λ d. length_in (sizes_at d (ByHandle object.handle))) result }
 {
-    match segment.measure(key) {
+    match segment.measure(&object) {
         Ok((len, _)) => len,
         Err(_) => 0,
     }
 }
 
-/// Writes the kind and the bytes of the string of a key, and nothing where it is none.
-fn put_string_line<W: Sink>(segment: &Segment, key: &Key, out: &mut W) -> Result<(), DeviceFault>
-    requires { (W.history out.old).failures < 2 ^ 64 - 1 }
+/// Writes the kind and the bytes of a string, and nothing where the object is none.
+fn put_string_line<W: Sink>(
+    segment: &Segment,
+    object: Object,
+    out: &mut W,
+) -> Result<(), DeviceFault>
+    requires writer { (W.history out.old).failures < 2 ^ 64 - 1 }
+    requires object { IsObject object segment.now }
     ensures { WritesFor (W.history out.old) (W.history out.new) result (StandsFor segment.now.cut.bytes)
-        (λ d. string_line (bytes_at d (key_seen key.now))) }
+        (λ d. string_line (bytes_at d (ByHandle object.handle))) }
 {
-    match segment.string_bytes(key) {
+    match segment.string_bytes(&object) {
         Ok(bytes) => put_pieces(
             out,
             &[
@@ -81,22 +80,21 @@ fn put_string_line<W: Sink>(segment: &Segment, key: &Key, out: &mut W) -> Result
     }
 }
 
-/// Writes a kind, how many elements there are where they are scalars and not one alone, and as many elements of the object at a
-/// handle.
+/// Writes the kind of an object, how many elements it has where they are scalars and not one alone, and as many of them.
 fn put_value_line<W: Sink>(
     segment: &Segment,
-    handle: Handle,
-    kind: Kind,
+    object: Object,
     count: u64,
     out: &mut W,
 ) -> Result<(), DeviceFault>
     requires writer { (W.history out.old).failures < 2 ^ 64 - 1 }
-    requires object { HasScalars segment.now (ByHandle handle) }
+    requires object { IsObject object segment.now }
+    requires elements { HasScalars segment.now (ByHandle object.handle) }
     ensures { WritesFor (W.history out.old) (W.history out.new) result (StandsFor segment.now.cut.bytes)
-        (λ d. value_line kind count segment.now.mode d (ByHandle handle)) }
+        (λ d. value_line object.kind count segment.now.mode d (ByHandle object.handle)) }
 {
-    put_front(kind, count, out)?;
-    put_elements(segment, handle, count, out)?;
+    put_front(object.kind, count, out)?;
+    put_elements(segment, object, count, out)?;
     put_pieces(out, &[Piece::Bytes(b"\n")])
 }
 
@@ -130,20 +128,21 @@ fn put_counted<W: Sink>(kind: Kind, count: u64, out: &mut W) -> Result<(), Devic
     )
 }
 
-/// Writes as many elements of the object at a handle, each behind a blank.
+/// Writes as many elements of an object, each behind a blank.
 fn put_elements<W: Sink>(
     segment: &Segment,
-    handle: Handle,
+    object: Object,
     count: u64,
     out: &mut W,
 ) -> Result<(), DeviceFault>
     requires writer { (W.history out.old).failures < 2 ^ 64 - 1 }
-    requires object { HasScalars segment.now (ByHandle handle) }
+    requires object { IsObject object segment.now }
+    requires elements { HasScalars segment.now (ByHandle object.handle) }
     ensures { WritesFor (W.history out.old) (W.history out.new) result (StandsFor segment.now.cut.bytes)
-        (λ d. elements_text segment.now.mode d (ByHandle handle) count) }
+        (λ d. elements_text segment.now.mode d (ByHandle object.handle) count) }
 {
     'elements: for index in 0..count {
-        put_element(segment, handle, index, out)?;
+        put_element(segment, object, index, out)?;
     }
     Ok(())
 }
@@ -151,50 +150,53 @@ fn put_elements<W: Sink>(
 /// Writes the element at an index behind a blank, and nothing where there is none.
 fn put_element<W: Sink>(
     segment: &Segment,
-    handle: Handle,
+    object: Object,
     index: u64,
     out: &mut W,
 ) -> Result<(), DeviceFault>
     requires writer { (W.history out.old).failures < 2 ^ 64 - 1 }
-    requires object { HasScalars segment.now (ByHandle handle) }
+    requires object { IsObject object segment.now }
+    requires elements { HasScalars segment.now (ByHandle object.handle) }
     ensures { WritesFor (W.history out.old) (W.history out.new) result (StandsFor segment.now.cut.bytes)
-        (λ d. element_part (step segment.now.mode d (Get (ByHandle handle) index)).0) }
+        (λ d. element_part (step segment.now.mode d (Get (ByHandle object.handle) index)).0) }
 {
-    match segment.get_at(handle, index) {
+    match segment.get_any(&object, index) {
         Ok(value) => put_pieces(out, &[Piece::Bytes(b" "), Piece::Value(value)]),
         Err(_) => Ok(()),
     }
 }
 
-/// Writes the kind of vectors of strings, and as many texts of the vector of strings of a key.
+/// Writes the kind of vectors of strings, and as many texts of a vector of strings.
 fn put_texts_line<W: Sink>(
     segment: &Segment,
-    key: &Key,
+    object: Object,
     count: u64,
     out: &mut W,
 ) -> Result<(), DeviceFault>
-    requires { (W.history out.old).failures < 2 ^ 64 - 1 }
+    requires writer { (W.history out.old).failures < 2 ^ 64 - 1 }
+    requires object { IsObject object segment.now }
     ensures { WritesFor (W.history out.old) (W.history out.new) result (StandsFor segment.now.cut.bytes)
-        (λ d. texts_line d (key_seen key.now) count) }
+        (λ d. texts_line d (ByHandle object.handle) count) }
 {
     put_pieces(out, &[Piece::Kind(Kind::Texts)])?;
-    put_texts(segment, key, count, out)?;
+    put_texts(segment, object, count, out)?;
     put_pieces(out, &[Piece::Bytes(b"\n")])
 }
 
-/// Writes as many texts of the vector of strings of a key, each behind a blank.
+/// Writes as many texts of a vector of strings, each behind a blank.
 fn put_texts<W: Sink>(
     segment: &Segment,
-    key: &Key,
+    object: Object,
     count: u64,
     out: &mut W,
 ) -> Result<(), DeviceFault>
-    requires { (W.history out.old).failures < 2 ^ 64 - 1 }
+    requires writer { (W.history out.old).failures < 2 ^ 64 - 1 }
+    requires object { IsObject object segment.now }
     ensures { WritesFor (W.history out.old) (W.history out.new) result (StandsFor segment.now.cut.bytes)
-        (λ d. texts_text d (key_seen key.now) count) }
+        (λ d. texts_text d (ByHandle object.handle) count) }
 {
     'texts: for index in 0..count {
-        put_text(segment, key, index, out)?;
+        put_text(segment, object, index, out)?;
     }
     Ok(())
 }
@@ -202,22 +204,23 @@ fn put_texts<W: Sink>(
 /// Writes the text at an index behind a blank, and nothing where there is none.
 fn put_text<W: Sink>(
     segment: &Segment,
-    key: &Key,
+    object: Object,
     index: u64,
     out: &mut W,
 ) -> Result<(), DeviceFault>
-    requires { (W.history out.old).failures < 2 ^ 64 - 1 }
+    requires writer { (W.history out.old).failures < 2 ^ 64 - 1 }
+    requires object { IsObject object segment.now }
     ensures { WritesFor (W.history out.old) (W.history out.new) result (StandsFor segment.now.cut.bytes)
-        (λ d. element_part (text_at d (key_seen key.now) index)) }
+        (λ d. element_part (text_at d (ByHandle object.handle) index)) }
 {
-    match segment.texts_get(key, index) {
+    match segment.texts_get(&object, index) {
         Ok(text) => put_pieces(out, &[Piece::Bytes(b" "), Piece::Text(text)]),
         Err(_) => Ok(()),
     }
 }
 
-/// Writes the text at an index in the vector of strings of a key, or why there is none.
-pub fn put_text_at<W: Sink>(
+/// Writes the element at an index in the object of a key, or why there is none.
+pub fn put_got<W: Sink>(
     segment: &Segment,
     key: &Key,
     index: u64,
@@ -225,9 +228,30 @@ pub fn put_text_at<W: Sink>(
 ) -> Result<(), DeviceFault>
     requires { (W.history out.old).failures < 2 ^ 64 - 1 }
     ensures { WritesFor (W.history out.old) (W.history out.new) result (StandsFor segment.now.cut.bytes)
-        (λ d. answer_text (text_at d (key_seen key.now) index)) }
+        (λ d. answer_text (step segment.now.mode d (Get (key_seen key.now) index)).0) }
 {
-    match segment.texts_get(key, index) {
+    match segment.locate(key) {
+        Ok(object) => match object.kind {
+            Kind::Texts => put_text_at(segment, object, index, out),
+            _ => put_answer(segment, element(segment.get_any(&object, index)), out),
+        },
+        Err(refusal) => put_pieces(out, &[Piece::Refusal(refusal), Piece::Bytes(b"\n")]),
+    }
+}
+
+/// Writes the text at an index in a vector of strings, or why there is none.
+pub fn put_text_at<W: Sink>(
+    segment: &Segment,
+    object: Object,
+    index: u64,
+    out: &mut W,
+) -> Result<(), DeviceFault>
+    requires writer { (W.history out.old).failures < 2 ^ 64 - 1 }
+    requires object { IsObject object segment.now }
+    ensures { WritesFor (W.history out.old) (W.history out.new) result (StandsFor segment.now.cut.bytes)
+        (λ d. answer_text (text_at d (ByHandle object.handle) index)) }
+{
+    match segment.texts_get(&object, index) {
         Ok(text) => put_pieces(out, &[Piece::Text(text), Piece::Bytes(b"\n")]),
         Err(refusal) => put_pieces(out, &[Piece::Refusal(refusal), Piece::Bytes(b"\n")]),
     }

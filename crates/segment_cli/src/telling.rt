@@ -2,9 +2,11 @@
 ghost use Rattle.std.specs.Prelude.{◌≡◌, ◌-◌, ◌^◌, ◌<◌, ◌∷◌, ◌++◌};
 ghost use Rattle.raw_region.specs.Device.{Writes};
 ghost use Rattle.seg_types.specs.Keys.{key_seen};
+ghost use Rattle.seg_types.specs.Names.{ByHandle};
 ghost use Rattle.segment_lang.specs.Texts.{name_text};
 ghost use Rattle.segment_manager.specs.Answers.{Kinds, Names};
 ghost use Rattle.segment_manager.specs.Directory.{Object, named_objects, unique_objects};
+ghost use Rattle.segment_manager.specs.Located.{IsObject};
 ghost use Rattle.segment_manager.specs.State.{StandsFor};
 ghost use Rattle.segment_cli.specs.Answer.{answer_text, class_words, entry_words, line};
 ghost use Rattle.segment_cli.specs.Parts.{line_part, said_words};
@@ -15,7 +17,7 @@ ghost use Rattle.segment_cli.specs.Writing.{WritesFor};
 use raw_region::{DeviceFault, Sink};
 use seg_types::{Class, Key, Kind};
 use segment_lang::{Piece, put_pieces};
-use segment_manager::{Instance, Segment};
+use segment_manager::{Instance, Object, Segment};
 
 /// Writes what the object of a key says of itself, or that there is none.
 pub fn put_told<W: Sink>(segment: &Segment, key: &Key, out: &mut W) -> Result<(), DeviceFault>
@@ -23,8 +25,21 @@ pub fn put_told<W: Sink>(segment: &Segment, key: &Key, out: &mut W) -> Result<()
     ensures { WritesFor (W.history out.old) (W.history out.new) result (StandsFor segment.now.cut.bytes)
         (λ d. answer_text (told_at d (key_seen key.now))) }
 {
-    match segment.instance(key) {
-        Ok(said) => match segment.measure(key) {
+    match segment.locate(key) {
+        Ok(object) => put_object(segment, object, out),
+        Err(refusal) => put_pieces(out, &[Piece::Refusal(refusal), Piece::Bytes(b"\n")]),
+    }
+}
+
+/// Writes what an object says of itself.
+fn put_object<W: Sink>(segment: &Segment, object: Object, out: &mut W) -> Result<(), DeviceFault>
+    requires writer { (W.history out.old).failures < 2 ^ 64 - 1 }
+    requires object { IsObject object segment.now }
+    ensures { WritesFor (W.history out.old) (W.history out.new) result (StandsFor segment.now.cut.bytes)
+        (λ d. answer_text (told_at d (ByHandle object.handle))) }
+{
+    match segment.instance(&object) {
+        Ok(said) => match segment.measure(&object) {
             Ok((len, capacity)) => match said.kind {
                 Kind::Map(_, _) => put_instance(said, Some(len), None, out),
                 _ => put_instance(said, Some(len), Some(capacity), out),

@@ -1,10 +1,12 @@
 -- A text item by item.
-use Rattle.std.proofs.Common.{◌≡◌, ℕ, Bool, true, false, cond, List, [], ◌∷◌, Option, Some, None, ap, subst, sym, refl, ◌∙◌, arith, ◌==◌, ◌||◌, length, ◌≤◌, ◌+◌, ◌++◌, append_assoc, append-nil, length-append}
+use Rattle.std.proofs.Common.{◌≡◌, ℕ, Bool, true, false, cond, List, [], ◌∷◌, Option, Some, None, ap, subst, sym, refl, ◌∙◌, arith, ◌==◌, ◌||◌, length, ◌≤◌, ◌+◌, ◌++◌, append_assoc, append-nil, length-append, drop, get_or, not}
+use Rattle.std.specs.List.{take_while}
 use Rattle.std.specs.Option.{option_map, option_and_then, unwrap_or, IsSome}
 use Rattle.std.proofs.lemmas.Bool.Decides.{nat_tests}
+use Rattle.std.proofs.lemmas.List.Sums.{take_while-cons}
 use Rattle.std.proofs.lemmas.Option.{some_pair_parts}
 use Rattle.segment_lang.specs.Words.{is_plain, byte_of_digits}
-use Rattle.segment_lang.specs.Tokens.{text_at, escaped_at, high_digit_at, item_at, escape_at, digits_at, longer, closed_at, quote_at, behind_quote, ends_word, behind_text, text_in}
+use Rattle.segment_lang.specs.Tokens.{text_at, escaped_at, high_digit_at, item_at, escape_at, digits_at, longer, closed_at, quote_at, behind_quote, ends_word, behind_text, is_unescaped, text_in}
 
 -- ---- an item in front
 
@@ -157,3 +159,36 @@ moved_room b done done' left left' d l h = omega (arith, ap length d, ap length 
 
 pub last_byte : (done left all : List ℕ) → left ≡ [] → done ++ left ≡ all → done ≡ all
 last_byte done left all l h = sym (append-nil done) ∙ sym (ap (λ xs. done ++ xs) l) ∙ h
+
+-- ---- a text with nothing escaped
+
+unescaped_byte : (q e p : Bool) (c : ℕ) (front cs : List ℕ) → (q || e) ≡ false → (IsSome (text_at cs) → bytes_in (text_at cs) ≡ front) → IsSome (cond q (closed_at cs) (cond e (escaped_at cs) (cond p (longer c (text_at cs)) None))) → bytes_in (cond q (closed_at cs) (cond e (escaped_at cs) (cond p (longer c (text_at cs)) None))) ≡ c ∷ front
+unescaped_byte true e p c front cs u f s = cc
+unescaped_byte false true p c front cs u f s = cc
+unescaped_byte false false true c front cs u f s = let l = longer_in c (text_at cs) s in l.1 ∙ ap (λ bs. c ∷ bs) (f l.0)
+unescaped_byte false false false c front cs u f s = cc
+
+quote_closes : (q e : Bool) (cs : List ℕ) (other : Option (List ℕ × List ℕ)) → q ≡ true → bytes_in (cond q (cond e (nothing_before cs) None) other) ≡ []
+quote_closes true true cs other h = refl
+quote_closes true false cs other h = refl
+quote_closes false e cs other h = cc
+
+not-false : (b : Bool) → not b ≡ true → b ≡ false
+not-false true h = cc
+not-false false h = refl
+
+unescaped_step : (u : Bool) (c : ℕ) (cs rest : List ℕ) → is_unescaped c ≡ u → (drop (length (take_while is_unescaped cs)) cs ≡ 0x22 ∷ rest → IsSome (text_at cs) → text_in cs ≡ take_while is_unescaped cs) → drop (length (cond u (c ∷ take_while is_unescaped cs) [])) (c ∷ cs) ≡ 0x22 ∷ rest → IsSome (text_at (c ∷ cs)) → text_in (c ∷ cs) ≡ cond u (c ∷ take_while is_unescaped cs) []
+unfolding text_at
+unescaped_step true c cs rest u f d s = unescaped_byte (c == 0x22) (c == 0x5C) (is_plain c) c (take_while is_unescaped cs) cs (not-false ((c == 0x22) || (c == 0x5C)) u) (f d) s
+unescaped_step false c cs rest u f d s = let q : c ≡ 0x22 = cc in quote_closes (c == 0x22) (ends_word cs) cs _ (grind (arith, nat_tests))
+
+pub quote_in_front : (bytes : List ℕ) → 1 ≤ length bytes → get_or bytes 0 0 ≡ 0x22 → bytes ≡ 0x22 ∷ drop 1 bytes
+quote_in_front [] some h = absurd (omega arith)
+quote_in_front (c ∷ cs) some h = ap (λ c. c ∷ cs) h
+
+-- where nothing is escaped up to the quote that ends a text, the text stands for the very bytes in front of the quote
+pub unescaped_text : (bytes rest : List ℕ) → drop (length (take_while is_unescaped bytes)) bytes ≡ 0x22 ∷ rest → IsSome (text_at bytes) → text_in bytes ≡ take_while is_unescaped bytes
+unescaped_text [] rest d s = cc
+unescaped_text (c ∷ cs) rest d s =
+    let front = take_while-cons is_unescaped c cs in
+    unescaped_step (is_unescaped c) c cs rest refl (unescaped_text cs rest) (subst (λ front. drop (length front) (c ∷ cs) ≡ 0x22 ∷ rest) front d) s ∙ sym front

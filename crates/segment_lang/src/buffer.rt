@@ -4,7 +4,7 @@ ghost use Rattle.std.specs.Prelude.{◌≡◌, ◌≤◌, ◌<◌, ◌++◌, ◌
 
 use std::marker::Model;
 
-/// Up to 4096 bytes, as many as a line has.
+/// Up to 4096 bytes, as many as a line has. What stands behind them means nothing.
 #[derive(Drop)]
 pub struct Text {
     bytes: [u8; 4096],
@@ -28,6 +28,13 @@ impl Text {
             bytes: [0; 4096],
             len: 0,
         }
+    }
+
+    /// Takes all bytes out. It costs nothing: what it held is not looked at again.
+    pub fn clear(&mut self)
+        ensures { self.new ≡ [] }
+    {
+        self.len = 0;
     }
 
     /// How many bytes it has.

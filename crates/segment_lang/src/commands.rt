@@ -37,14 +37,14 @@ pub enum Command<'a> {
     /// Make an object.
     Construct {
         /// The key that it gets.
-        key: NewKey,
+        key: NewKey<'a>,
         /// What it is made with.
         content: Content<'a>,
     },
     /// Make an array of different values.
     ConstructIt {
         /// The key that it gets.
-        key: NewKey,
+        key: NewKey<'a>,
         /// How many values it has, from 1 to 1048576.
         count: u32,
         /// As many values.
@@ -55,34 +55,34 @@ pub enum Command<'a> {
         /// The kind.
         kind: Kind,
         /// The object's entry.
-        key: IndexKey,
+        key: IndexKey<'a>,
     },
     /// Print the handle and the count of an object, which is made where there is none.
     FindOrConstruct {
         /// The object's entry.
-        key: IndexKey,
+        key: IndexKey<'a>,
         /// What it is made with.
         content: Content<'a>,
     },
     /// Destroy the object of an entry.
-    Destroy(IndexKey),
+    Destroy(IndexKey<'a>),
     /// Destroy the object of a handle.
     DestroyPtr(Handle),
     /// Print an object's kind and value.
-    Show(Key),
+    Show(Key<'a>),
     /// Print what an object is.
-    Info(Key),
+    Info(Key<'a>),
     /// Print one element of an object.
     Get {
         /// The object.
-        key: Key,
+        key: Key<'a>,
         /// Which element, counted from 0.
         index: u64,
     },
     /// Write one element of an object.
     Set {
         /// The object.
-        key: Key,
+        key: Key<'a>,
         /// Which element, counted from 0.
         index: u64,
         /// What it becomes.
@@ -91,16 +91,16 @@ pub enum Command<'a> {
     /// Add an element at the end of a vector.
     Push {
         /// The vector.
-        key: Key,
+        key: Key<'a>,
         /// The new element.
         value: Literal<'a>,
     },
     /// Take the last element off a vector and print it.
-    Pop(Key),
+    Pop(Key<'a>),
     /// Put an element into a vector.
     Insert {
         /// The vector.
-        key: Key,
+        key: Key<'a>,
         /// Where it stands then, counted from 0.
         index: u64,
         /// The new element.
@@ -109,39 +109,39 @@ pub enum Command<'a> {
     /// Take an element out of a vector.
     Erase {
         /// The vector.
-        key: Key,
+        key: Key<'a>,
         /// Which element, counted from 0.
         index: u64,
     },
     /// Make room in an object for as many elements.
     Reserve {
         /// The object.
-        key: Key,
+        key: Key<'a>,
         /// How many.
         count: u64,
     },
     /// Give back the room of an object that no element uses.
-    Shrink(Key),
+    Shrink(Key<'a>),
     /// Take all elements out of an object.
-    Clear(Key),
+    Clear(Key<'a>),
     /// Put values in the place of all elements of an object.
     Assign {
         /// The object.
-        key: Key,
+        key: Key<'a>,
         /// The new elements.
         values: Literals<'a>,
     },
     /// Add bytes at the end of a string.
     Append {
         /// The string.
-        key: Key,
+        key: Key<'a>,
         /// The bytes.
         text: Quoted<'a>,
     },
     /// Put a pair into a map, in the place of the one with the same key.
     Put {
         /// The map.
-        key: Key,
+        key: Key<'a>,
         /// The pair's key.
         at: Literal<'a>,
         /// The pair's value.
@@ -150,14 +150,14 @@ pub enum Command<'a> {
     /// Print the value that stands at a key of a map.
     Lookup {
         /// The map.
-        key: Key,
+        key: Key<'a>,
         /// The pair's key.
         at: Literal<'a>,
     },
     /// Take a pair out of a map.
     Remove {
         /// The map.
-        key: Key,
+        key: Key<'a>,
         /// The pair's key.
         at: Literal<'a>,
     },

@@ -6,6 +6,7 @@ ghost use Rattle.segment_lang.specs.Reading.{appending, key_of, with_key, with_k
 ghost use Rattle.segment_lang.specs.Arguments.{assigning_at, of_one, of_three, of_two};
 ghost use Rattle.segment_lang.specs.Seen.{command_of};
 
+use crate::buffer::Text;
 use crate::commands::Command;
 use crate::keys::key_of;
 use crate::lists::read_literals;
@@ -14,87 +15,87 @@ use crate::numbers::number;
 use crate::words::{next_word, only_word, three_words, two_words};
 
 /// A key and a value, of a new last element.
-pub fn read_push(bytes: &[u8]) -> Option<Command<'_>>
+pub fn read_push<'a>(bytes: &'a [u8], scratch: &'a mut Text) -> Option<Command<'a>>
     ensures { option_map command_of result ≡ of_two (with_key_literal asked.Push) bytes.now }
 {
     let (key, value) = two_words(bytes)?;
-    let key = key_of(key)?;
+    let key = key_of(key, scratch)?;
     let value = literal_of(value)?;
     Some(Command::Push { key, value })
 }
 
 /// A key, of a vector that loses its last element.
-pub fn read_pop(bytes: &[u8]) -> Option<Command<'_>>
+pub fn read_pop<'a>(bytes: &'a [u8], scratch: &'a mut Text) -> Option<Command<'a>>
     ensures { option_map command_of result ≡ of_one (with_key asked.Pop key_of) bytes.now }
 {
     let word = only_word(bytes)?;
-    Some(Command::Pop(key_of(word)?))
+    Some(Command::Pop(key_of(word, scratch)?))
 }
 
 /// A key, a number and a value, of a new element.
-pub fn read_insert(bytes: &[u8]) -> Option<Command<'_>>
+pub fn read_insert<'a>(bytes: &'a [u8], scratch: &'a mut Text) -> Option<Command<'a>>
     ensures { option_map command_of result ≡ of_three (with_key_number_literal asked.Insert) bytes.now }
 {
     let (key, index, value) = three_words(bytes)?;
-    let key = key_of(key)?;
+    let key = key_of(key, scratch)?;
     let index = number(index)?;
     let value = literal_of(value)?;
     Some(Command::Insert { key, index, value })
 }
 
 /// A key and a number, of an element that goes.
-pub fn read_erase(bytes: &[u8]) -> Option<Command<'_>>
+pub fn read_erase<'a>(bytes: &'a [u8], scratch: &'a mut Text) -> Option<Command<'a>>
     ensures { option_map command_of result ≡ of_two (with_key_number asked.Erase) bytes.now }
 {
     let (key, index) = two_words(bytes)?;
-    let key = key_of(key)?;
+    let key = key_of(key, scratch)?;
     let index = number(index)?;
     Some(Command::Erase { key, index })
 }
 
 /// A key and a number, of elements that there is to be room for.
-pub fn read_reserve(bytes: &[u8]) -> Option<Command<'_>>
+pub fn read_reserve<'a>(bytes: &'a [u8], scratch: &'a mut Text) -> Option<Command<'a>>
     ensures { option_map command_of result ≡ of_two (with_key_number asked.Reserve) bytes.now }
 {
     let (key, count) = two_words(bytes)?;
-    let key = key_of(key)?;
+    let key = key_of(key, scratch)?;
     let count = number(count)?;
     Some(Command::Reserve { key, count })
 }
 
 /// A key, of an object that gives back the room that it does not use.
-pub fn read_shrink(bytes: &[u8]) -> Option<Command<'_>>
+pub fn read_shrink<'a>(bytes: &'a [u8], scratch: &'a mut Text) -> Option<Command<'a>>
     ensures { option_map command_of result ≡ of_one (with_key asked.Shrink key_of) bytes.now }
 {
     let word = only_word(bytes)?;
-    Some(Command::Shrink(key_of(word)?))
+    Some(Command::Shrink(key_of(word, scratch)?))
 }
 
 /// A key, of an object that loses all its elements.
-pub fn read_clear(bytes: &[u8]) -> Option<Command<'_>>
+pub fn read_clear<'a>(bytes: &'a [u8], scratch: &'a mut Text) -> Option<Command<'a>>
     ensures { option_map command_of result ≡ of_one (with_key asked.Clear key_of) bytes.now }
 {
     let word = only_word(bytes)?;
-    Some(Command::Clear(key_of(word)?))
+    Some(Command::Clear(key_of(word, scratch)?))
 }
 
 /// A key and any number of values, of all new elements.
 #[tactic(auto, unfolding(crate::specs::Arguments::assigning_at))]
-pub fn read_assign(bytes: &[u8]) -> Option<Command<'_>>
+pub fn read_assign<'a>(bytes: &'a [u8], scratch: &'a mut Text) -> Option<Command<'a>>
     ensures { option_map command_of result ≡ assigning_at bytes.now }
 {
     let (key, rest) = next_word(bytes)?;
-    let key = key_of(key)?;
+    let key = key_of(key, scratch)?;
     let values = read_literals(rest)?;
     Some(Command::Assign { key, values })
 }
 
 /// A key and a text, of new last bytes.
-pub fn read_append(bytes: &[u8]) -> Option<Command<'_>>
+pub fn read_append<'a>(bytes: &'a [u8], scratch: &'a mut Text) -> Option<Command<'a>>
     ensures { option_map command_of result ≡ of_two appending bytes.now }
 {
     let (key, text) = two_words(bytes)?;
-    let key = key_of(key)?;
+    let key = key_of(key, scratch)?;
     let text = quoted_of(text)?;
     Some(Command::Append { key, text })
 }

@@ -1,12 +1,13 @@
 //! Command words, and the form of what stands behind each.
 
-ghost use Rattle.std.specs.Prelude.{◌≡◌, option_and_then, option_map, map};
+ghost use Rattle.std.specs.Prelude.{◌≡◌, ◌<◌, [], length, option_and_then, option_map, map, slice_index_or};
 ghost use Rattle.raw_region.specs.Format.{current};
 ghost use Rattle.segment_lang.specs.Words.{words};
 ghost use Rattle.segment_lang.specs.Language.{whole};
 ghost use Rattle.segment_lang.specs.Reading.{form_of};
 ghost use Rattle.segment_lang.specs.Seen.{command_of, found_in, reader_of};
 
+use crate::buffer::Text;
 use crate::commands::Command;
 use crate::elements::{
     read_append, read_assign, read_clear, read_erase, read_insert, read_pop, read_push,
@@ -95,86 +96,120 @@ pub enum CommandForm {
     AllDeallocated,
 }
 
-/// The command words, each with its form.
-const FORMS: [(&[u8], CommandForm); 35] = [
-    (b"construct", CommandForm::Construct),
-    (b"construct_it", CommandForm::ConstructIt),
-    (b"find", CommandForm::Find),
-    (b"find_or_construct", CommandForm::FindOrConstruct),
-    (b"destroy", CommandForm::Destroy),
-    (b"destroy_ptr", CommandForm::DestroyPtr),
-    (b"show", CommandForm::Show),
-    (b"info", CommandForm::Info),
-    (b"get", CommandForm::Get),
-    (b"set", CommandForm::Set),
-    (b"push", CommandForm::Push),
-    (b"pop", CommandForm::Pop),
-    (b"insert", CommandForm::Insert),
-    (b"erase", CommandForm::Erase),
-    (b"reserve", CommandForm::Reserve),
-    (b"shrink", CommandForm::Shrink),
-    (b"clear", CommandForm::Clear),
-    (b"assign", CommandForm::Assign),
-    (b"append", CommandForm::Append),
-    (b"put", CommandForm::Put),
-    (b"lookup", CommandForm::Lookup),
-    (b"remove", CommandForm::Remove),
-    (b"list", CommandForm::ListNames),
-    (b"unique", CommandForm::ListKinds),
-    (b"blocks", CommandForm::Blocks),
-    (b"size", CommandForm::Size),
-    (b"free", CommandForm::Free),
-    (b"num_named", CommandForm::NumNamed),
-    (b"num_unique", CommandForm::NumUnique),
-    (b"reserve_named", CommandForm::ReserveNamed),
-    (b"reserve_unique", CommandForm::ReserveUnique),
-    (b"shrink_indexes", CommandForm::ShrinkIndexes),
-    (b"zero_free", CommandForm::ZeroFree),
-    (b"sanity", CommandForm::Sanity),
-    (b"all_deallocated", CommandForm::AllDeallocated),
+/// The command words of each length, each with its form.
+static FORMS: [&[(&[u8], CommandForm)]; 18] = [
+    &[],
+    &[],
+    &[],
+    &[
+        (b"get", CommandForm::Get),
+        (b"set", CommandForm::Set),
+        (b"pop", CommandForm::Pop),
+        (b"put", CommandForm::Put),
+    ],
+    &[
+        (b"find", CommandForm::Find),
+        (b"show", CommandForm::Show),
+        (b"info", CommandForm::Info),
+        (b"push", CommandForm::Push),
+        (b"list", CommandForm::ListNames),
+        (b"size", CommandForm::Size),
+        (b"free", CommandForm::Free),
+    ],
+    &[
+        (b"erase", CommandForm::Erase),
+        (b"clear", CommandForm::Clear),
+    ],
+    &[
+        (b"insert", CommandForm::Insert),
+        (b"shrink", CommandForm::Shrink),
+        (b"assign", CommandForm::Assign),
+        (b"append", CommandForm::Append),
+        (b"lookup", CommandForm::Lookup),
+        (b"remove", CommandForm::Remove),
+        (b"unique", CommandForm::ListKinds),
+        (b"blocks", CommandForm::Blocks),
+        (b"sanity", CommandForm::Sanity),
+    ],
+    &[
+        (b"destroy", CommandForm::Destroy),
+        (b"reserve", CommandForm::Reserve),
+    ],
+    &[],
+    &[
+        (b"construct", CommandForm::Construct),
+        (b"num_named", CommandForm::NumNamed),
+        (b"zero_free", CommandForm::ZeroFree),
+    ],
+    &[(b"num_unique", CommandForm::NumUnique)],
+    &[(b"destroy_ptr", CommandForm::DestroyPtr)],
+    &[(b"construct_it", CommandForm::ConstructIt)],
+    &[(b"reserve_named", CommandForm::ReserveNamed)],
+    &[
+        (b"reserve_unique", CommandForm::ReserveUnique),
+        (b"shrink_indexes", CommandForm::ShrinkIndexes),
+    ],
+    &[(b"all_deallocated", CommandForm::AllDeallocated)],
+    &[],
+    &[(b"find_or_construct", CommandForm::FindOrConstruct)],
 ];
 
 /// The form of the first row of a word.
-fn find_form(rows: &[(&[u8], CommandForm)], word: &[u8]) -> Option<CommandForm>
+fn find_row(rows: &[(&[u8], CommandForm)], word: &[u8]) -> Option<CommandForm>
     ensures { result ≡ found_in (map (λ row. (row.0.now, row.1)) rows.now) word.now }
 {
     rows.iter().find(|row| is(word, row.0)).map(|row| row.1)
+}
+
+/// The form of the first row of a word in the table of its length.
+fn find_form(tables: &[&[(&[u8], CommandForm)]], word: &[u8]) -> Option<CommandForm>
+    requires { length word.now < length tables.now }
+    ensures { result ≡ found_in (slice_index_or (map (λ rows. map (λ row. (row.0.now, row.1)) rows.now) tables.now) (length word.now) []) word.now }
+{
+    find_row(tables[word.len()], word)
 }
 
 /// The form of a command word. `None` is a word that is none.
 pub fn form_of(word: &[u8]) -> Option<CommandForm>
     ensures { option_map reader_of result ≡ option_map (λ form. form.1) (form_of word.now) }
 {
+    if word.len() >= FORMS.len() {
+        return None;
+    }
     find_form(&FORMS, word)
 }
 
 /// The command of what stands behind a command word of this form.
-pub fn read_command(form: CommandForm, bytes: &[u8]) -> Option<Command<'_>>
+pub fn read_command<'a>(
+    form: CommandForm,
+    bytes: &'a [u8],
+    scratch: &'a mut Text,
+) -> Option<Command<'a>>
     ensures { option_map command_of result ≡ option_and_then (reader_of form (whole current)) (words bytes.now) }
 {
     match form {
-        CommandForm::Construct => read_construct(bytes),
-        CommandForm::ConstructIt => read_construct_it(bytes),
-        CommandForm::Find => read_find(bytes),
-        CommandForm::FindOrConstruct => read_find_or_construct(bytes),
-        CommandForm::Destroy => read_destroy(bytes),
+        CommandForm::Construct => read_construct(bytes, scratch),
+        CommandForm::ConstructIt => read_construct_it(bytes, scratch),
+        CommandForm::Find => read_find(bytes, scratch),
+        CommandForm::FindOrConstruct => read_find_or_construct(bytes, scratch),
+        CommandForm::Destroy => read_destroy(bytes, scratch),
         CommandForm::DestroyPtr => read_destroy_ptr(bytes),
-        CommandForm::Show => read_show(bytes),
-        CommandForm::Info => read_info(bytes),
-        CommandForm::Get => read_get(bytes),
-        CommandForm::Set => read_set(bytes),
-        CommandForm::Push => read_push(bytes),
-        CommandForm::Pop => read_pop(bytes),
-        CommandForm::Insert => read_insert(bytes),
-        CommandForm::Erase => read_erase(bytes),
-        CommandForm::Reserve => read_reserve(bytes),
-        CommandForm::Shrink => read_shrink(bytes),
-        CommandForm::Clear => read_clear(bytes),
-        CommandForm::Assign => read_assign(bytes),
-        CommandForm::Append => read_append(bytes),
-        CommandForm::Put => read_put(bytes),
-        CommandForm::Lookup => read_lookup(bytes),
-        CommandForm::Remove => read_remove(bytes),
+        CommandForm::Show => read_show(bytes, scratch),
+        CommandForm::Info => read_info(bytes, scratch),
+        CommandForm::Get => read_get(bytes, scratch),
+        CommandForm::Set => read_set(bytes, scratch),
+        CommandForm::Push => read_push(bytes, scratch),
+        CommandForm::Pop => read_pop(bytes, scratch),
+        CommandForm::Insert => read_insert(bytes, scratch),
+        CommandForm::Erase => read_erase(bytes, scratch),
+        CommandForm::Reserve => read_reserve(bytes, scratch),
+        CommandForm::Shrink => read_shrink(bytes, scratch),
+        CommandForm::Clear => read_clear(bytes, scratch),
+        CommandForm::Assign => read_assign(bytes, scratch),
+        CommandForm::Append => read_append(bytes, scratch),
+        CommandForm::Put => read_put(bytes, scratch),
+        CommandForm::Lookup => read_lookup(bytes, scratch),
+        CommandForm::Remove => read_remove(bytes, scratch),
         CommandForm::ListNames => read_alone(Command::ListNames, bytes),
         CommandForm::ListKinds => read_alone(Command::ListKinds, bytes),
         CommandForm::Blocks => read_alone(Command::Blocks, bytes),

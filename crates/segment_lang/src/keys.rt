@@ -3,13 +3,14 @@
 ghost use Rattle.std.specs.Prelude.{◌≡◌, ◌&&◌, option_map, Some, None, if◌then◌else◌};
 ghost use Rattle.raw_region.specs.Format.{current};
 ghost use Rattle.seg_types.specs.Names.{is_name};
-ghost use Rattle.seg_types.specs.Keys.{index_key_seen, key_seen, new_key_seen};
+ghost use Rattle.seg_types.specs.Keys.{index_key_seen, key_seen, name_seen, new_key_seen};
 ghost use Rattle.segment_lang.specs.Words.{is_bare_name};
 ghost use Rattle.segment_lang.specs.Language.{whole};
 ghost use Rattle.segment_lang.specs.Reading.{agrees, for_kind, key_of, name_key, new_key};
 ghost use Rattle.segment_lang.specs.Arguments.{handle_of};
 ghost use Rattle.segment_lang.specs.Seen.{word_of};
 
+use crate::buffer::Text;
 use crate::kinds::kind_named;
 use crate::literals::is;
 use crate::numbers::number_of;
@@ -18,8 +19,8 @@ use crate::words::Word;
 use seg_types::{Handle, IndexKey, Key, Kind, Name, NewKey};
 
 /// The name that a bare word is.
-fn bare_name(word: &[u8]) -> Option<Name>
-    ensures { result ≡ (if is_bare_name word.now && is_name current word.now then Some word.now else None) }
+fn bare_name(word: &[u8]) -> Option<Name<'_>>
+    ensures { option_map name_seen result ≡ (if is_bare_name word.now && is_name current word.now then Some word.now else None) }
 {
     if !is_bare_name(word) {
         return None;
@@ -28,18 +29,18 @@ fn bare_name(word: &[u8]) -> Option<Name>
 }
 
 /// The entry of an index: a name, or `@` and a kind.
-pub fn index_key(word: Word<'_>) -> Option<IndexKey>
+pub fn index_key<'a>(word: Word<'a>, scratch: &'a mut Text) -> Option<IndexKey<'a>>
     ensures { option_map index_key_seen result ≡ name_key (whole current) (word_of word.entry) }
 {
     match word {
         Word::Bare([b'@', kind @ ..]) => Some(IndexKey::Unique(kind_named(kind)?)),
         Word::Bare(name) => Some(IndexKey::Name(bare_name(name)?)),
-        Word::Text(text) => Some(IndexKey::Name(text.to_name()?)),
+        Word::Text(text) => Some(IndexKey::Name(text.to_name(scratch)?)),
     }
 }
 
 /// Whether an entry may hold an object of the kind: one of a unique kind holds that kind alone.
-fn agrees(kind: Kind, key: &IndexKey) -> bool
+fn agrees(kind: Kind, key: &IndexKey<'_>) -> bool
     ensures { result ≡ agrees kind (index_key_seen key.now) }
 {
     match key {
@@ -49,10 +50,10 @@ fn agrees(kind: Kind, key: &IndexKey) -> bool
 }
 
 /// The entry that a word is, where it may hold an object of the kind.
-pub fn index_key_for(kind: Kind, word: Word<'_>) -> Option<IndexKey>
+pub fn index_key_for<'a>(kind: Kind, word: Word<'a>, scratch: &'a mut Text) -> Option<IndexKey<'a>>
     ensures { option_map index_key_seen result ≡ for_kind kind (name_key (whole current) (word_of word.entry)) }
 {
-    let key = index_key(word)?;
+    let key = index_key(word, scratch)?;
     if !agrees(kind, &key) {
         return None;
     }
@@ -60,12 +61,12 @@ pub fn index_key_for(kind: Kind, word: Word<'_>) -> Option<IndexKey>
 }
 
 /// The key that a new object of the kind gets: an entry, or `-`.
-pub fn new_key_for(kind: Kind, word: Word<'_>) -> Option<NewKey>
+pub fn new_key_for<'a>(kind: Kind, word: Word<'a>, scratch: &'a mut Text) -> Option<NewKey<'a>>
     ensures { option_map new_key_seen result ≡ for_kind kind (new_key (whole current) (word_of word.entry)) }
 {
     match word {
         Word::Bare(word) if is(word, b"-") => Some(NewKey::Anonymous),
-        _ => Some(index_key_for(kind, word)?.into_new_key()),
+        _ => Some(index_key_for(kind, word, scratch)?.into_new_key()),
     }
 }
 
@@ -80,11 +81,11 @@ pub fn handle_of(word: Word<'_>) -> Option<Handle>
 }
 
 /// The key of an object: its entry, or `#` and its handle.
-pub fn key_of(word: Word<'_>) -> Option<Key>
+pub fn key_of<'a>(word: Word<'a>, scratch: &'a mut Text) -> Option<Key<'a>>
     ensures { option_map key_seen result ≡ key_of (whole current) (word_of word.entry) }
 {
     match word {
         Word::Bare([b'#', digits @ ..]) => Some(Key::Handle(number_of(digits)?)),
-        _ => Some(index_key(word)?.into_key()),
+        _ => Some(index_key(word, scratch)?.into_key()),
     }
 }

@@ -7,6 +7,7 @@ ghost use Rattle.segment_lang.specs.Reading.{command_line, reading, without_retu
 ghost use Rattle.segment_lang.specs.Seen.{reading_of};
 
 use crate::blanks::{skip_blanks, split_word};
+use crate::buffer::Text;
 use crate::commands::Reading;
 use crate::forms::{form_of, read_command};
 use seg_types::LineError;
@@ -36,7 +37,7 @@ fn is_comment(line: &[u8]) -> bool
 
 /// What a line means that has no blank in front, is not too long and is no comment. The first word
 /// decides which form the others must have.
-fn read_words(line: &[u8]) -> Reading<'_>
+fn read_words<'a>(line: &'a [u8], scratch: &'a mut Text) -> Reading<'a>
     ensures { reading_of result ≡ command_line (whole current) line.now }
 {
     if line.is_empty() {
@@ -46,16 +47,16 @@ fn read_words(line: &[u8]) -> Reading<'_>
     let Some(form) = form_of(word) else {
         return Reading::Wrong(LineError::UnknownCommand);
     };
-    match read_command(form, rest) {
+    match read_command(form, rest, scratch) {
         Some(command) => Reading::Asked(command),
         None => Reading::Wrong(LineError::BadSyntax),
     }
 }
 
 /// What a line means. It comes without its end, a line feed; one carriage return at its end is
-/// dropped.
+/// dropped. A name that is spelled with escapes is decoded into `scratch`, whatever it held; all else is lent from the line.
 #[tactic(auto, unfolding(crate::specs::Reading::reading))]
-pub fn parse_line(line: &[u8]) -> Reading<'_>
+pub fn parse_line<'a>(line: &'a [u8], scratch: &'a mut Text) -> Reading<'a>
     ensures { reading_of result ≡ reading (whole current) line.now }
 {
     let line = without_return(line);
@@ -65,5 +66,5 @@ pub fn parse_line(line: &[u8]) -> Reading<'_>
     if is_comment(line) {
         return Reading::Nothing;
     }
-    read_words(skip_blanks(line))
+    read_words(skip_blanks(line), scratch)
 }

@@ -6,38 +6,39 @@ ghost use Rattle.segment_lang.specs.Reading.{putting, with_key_literal};
 ghost use Rattle.segment_lang.specs.Arguments.{of_three, of_two};
 ghost use Rattle.segment_lang.specs.Seen.{command_of};
 
+use crate::buffer::Text;
 use crate::commands::Command;
 use crate::keys::key_of;
 use crate::literals::literal_of;
 use crate::words::{three_words, two_words};
 
 /// A key and two values, of a pair that is put in.
-pub fn read_put(bytes: &[u8]) -> Option<Command<'_>>
+pub fn read_put<'a>(bytes: &'a [u8], scratch: &'a mut Text) -> Option<Command<'a>>
     ensures { option_map command_of result ≡ of_three putting bytes.now }
 {
     let (key, at, value) = three_words(bytes)?;
-    let key = key_of(key)?;
+    let key = key_of(key, scratch)?;
     let at = literal_of(at)?;
     let value = literal_of(value)?;
     Some(Command::Put { key, at, value })
 }
 
 /// A key and a value, of a pair that is looked up.
-pub fn read_lookup(bytes: &[u8]) -> Option<Command<'_>>
+pub fn read_lookup<'a>(bytes: &'a [u8], scratch: &'a mut Text) -> Option<Command<'a>>
     ensures { option_map command_of result ≡ of_two (with_key_literal asked.Lookup) bytes.now }
 {
     let (key, at) = two_words(bytes)?;
-    let key = key_of(key)?;
+    let key = key_of(key, scratch)?;
     let at = literal_of(at)?;
     Some(Command::Lookup { key, at })
 }
 
 /// A key and a value, of a pair that goes.
-pub fn read_remove(bytes: &[u8]) -> Option<Command<'_>>
+pub fn read_remove<'a>(bytes: &'a [u8], scratch: &'a mut Text) -> Option<Command<'a>>
     ensures { option_map command_of result ≡ of_two (with_key_literal asked.Remove) bytes.now }
 {
     let (key, at) = two_words(bytes)?;
-    let key = key_of(key)?;
+    let key = key_of(key, scratch)?;
     let at = literal_of(at)?;
     Some(Command::Remove { key, at })
 }

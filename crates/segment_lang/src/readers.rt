@@ -8,6 +8,7 @@ ghost use Rattle.segment_lang.specs.Arguments.{handle_of, making_at, making_each
 ghost use Rattle.segment_lang.specs.Seen.{command_of};
 
 use crate::blanks::at_end;
+use crate::buffer::Text;
 use crate::commands::Command;
 use crate::contents::read_content;
 use crate::keys::{handle_of, index_key, index_key_for, key_of, new_key_for};
@@ -20,36 +21,36 @@ use seg_types::Kind;
 
 /// A kind with a count, a key and one value.
 #[tactic(auto, unfolding(crate::specs::Arguments::making_at))]
-pub fn read_construct(bytes: &[u8]) -> Option<Command<'_>>
+pub fn read_construct<'a>(bytes: &'a [u8], scratch: &'a mut Text) -> Option<Command<'a>>
     ensures { option_map command_of result ≡ making_at asked.Construct new_key bytes.now }
 {
     let (kind, key, rest) = next_two(bytes)?;
     let (kind, count) = counted_kind(kind)?;
-    let key = new_key_for(kind, key)?;
+    let key = new_key_for(kind, key, scratch)?;
     let content = read_content(kind, count, rest)?;
     Some(Command::Construct { key, content })
 }
 
 /// A kind with a count, an entry of an index and one value.
 #[tactic(auto, unfolding(crate::specs::Arguments::making_at))]
-pub fn read_find_or_construct(bytes: &[u8]) -> Option<Command<'_>>
+pub fn read_find_or_construct<'a>(bytes: &'a [u8], scratch: &'a mut Text) -> Option<Command<'a>>
     ensures { option_map command_of result ≡ making_at asked.FindOrConstruct name_key bytes.now }
 {
     let (kind, key, rest) = next_two(bytes)?;
     let (kind, count) = counted_kind(kind)?;
-    let key = index_key_for(kind, key)?;
+    let key = index_key_for(kind, key, scratch)?;
     let content = read_content(kind, count, rest)?;
     Some(Command::FindOrConstruct { key, content })
 }
 
 /// A kind with a count, a key and as many values.
 #[tactic(auto, unfolding(crate::specs::Arguments::making_each_at))]
-pub fn read_construct_it(bytes: &[u8]) -> Option<Command<'_>>
+pub fn read_construct_it<'a>(bytes: &'a [u8], scratch: &'a mut Text) -> Option<Command<'a>>
     ensures { option_map command_of result ≡ making_each_at bytes.now }
 {
     let (kind, key, rest) = next_two(bytes)?;
     let (kind, count) = counted_kind(kind)?;
-    let key = new_key_for(kind, key)?;
+    let key = new_key_for(kind, key, scratch)?;
     let Kind::Scalar(kind) = kind else {
         return None;
     };
@@ -58,21 +59,21 @@ pub fn read_construct_it(bytes: &[u8]) -> Option<Command<'_>>
 }
 
 /// A kind and an entry of an index.
-pub fn read_find(bytes: &[u8]) -> Option<Command<'_>>
+pub fn read_find<'a>(bytes: &'a [u8], scratch: &'a mut Text) -> Option<Command<'a>>
     ensures { option_map command_of result ≡ of_two finding bytes.now }
 {
     let (kind, key) = two_words(bytes)?;
     let kind = kind_of_word(kind)?;
-    let key = index_key_for(kind, key)?;
+    let key = index_key_for(kind, key, scratch)?;
     Some(Command::Find { kind, key })
 }
 
 /// An entry of an index.
-pub fn read_destroy(bytes: &[u8]) -> Option<Command<'_>>
+pub fn read_destroy<'a>(bytes: &'a [u8], scratch: &'a mut Text) -> Option<Command<'a>>
     ensures { option_map command_of result ≡ of_one (with_key asked.Destroy name_key) bytes.now }
 {
     let word = only_word(bytes)?;
-    Some(Command::Destroy(index_key(word)?))
+    Some(Command::Destroy(index_key(word, scratch)?))
 }
 
 /// A handle.
@@ -84,37 +85,37 @@ pub fn read_destroy_ptr(bytes: &[u8]) -> Option<Command<'_>>
 }
 
 /// A key, of an object that is shown.
-pub fn read_show(bytes: &[u8]) -> Option<Command<'_>>
+pub fn read_show<'a>(bytes: &'a [u8], scratch: &'a mut Text) -> Option<Command<'a>>
     ensures { option_map command_of result ≡ of_one (with_key asked.Show key_of) bytes.now }
 {
     let word = only_word(bytes)?;
-    Some(Command::Show(key_of(word)?))
+    Some(Command::Show(key_of(word, scratch)?))
 }
 
 /// A key, of an object of which is told what it is.
-pub fn read_info(bytes: &[u8]) -> Option<Command<'_>>
+pub fn read_info<'a>(bytes: &'a [u8], scratch: &'a mut Text) -> Option<Command<'a>>
     ensures { option_map command_of result ≡ of_one (with_key asked.Info key_of) bytes.now }
 {
     let word = only_word(bytes)?;
-    Some(Command::Info(key_of(word)?))
+    Some(Command::Info(key_of(word, scratch)?))
 }
 
 /// A key and a number.
-pub fn read_get(bytes: &[u8]) -> Option<Command<'_>>
+pub fn read_get<'a>(bytes: &'a [u8], scratch: &'a mut Text) -> Option<Command<'a>>
     ensures { option_map command_of result ≡ of_two (with_key_number asked.Get) bytes.now }
 {
     let (key, index) = two_words(bytes)?;
-    let key = key_of(key)?;
+    let key = key_of(key, scratch)?;
     let index = number(index)?;
     Some(Command::Get { key, index })
 }
 
 /// A key, a number and a value.
-pub fn read_set(bytes: &[u8]) -> Option<Command<'_>>
+pub fn read_set<'a>(bytes: &'a [u8], scratch: &'a mut Text) -> Option<Command<'a>>
     ensures { option_map command_of result ≡ of_three (with_key_number_literal asked.Set) bytes.now }
 {
     let (key, index, value) = three_words(bytes)?;
-    let key = key_of(key)?;
+    let key = key_of(key, scratch)?;
     let index = number(index)?;
     let value = literal_of(value)?;
     Some(Command::Set { key, index, value })

@@ -1,11 +1,11 @@
 //! The words of a line, one after another.
 
-ghost use Rattle.std.specs.Prelude.{◌≡◌, ◌≤◌, ◌<◌, ◌+◌, ◌++◌, length, option_map, IfSome, Some, None, if◌then◌else◌};
+ghost use Rattle.std.specs.Prelude.{◌≡◌, ◌≤◌, ◌<◌, ◌+◌, ◌++◌, drop, length, option_map, take_while, IfSome, Some, None, if◌then◌else◌};
 ghost use Rattle.std.specs.List.{list_all};
 ghost use Rattle.raw_region.specs.Format.{current};
 ghost use Rattle.seg_types.specs.Names.{is_name};
 ghost use Rattle.segment_lang.specs.Words.{is_bare, is_plain, digit_of};
-ghost use Rattle.segment_lang.specs.Tokens.{bare_at, digits_at, ends_word, escape_at, item_at, next_two, next_word, only_word, three_words, two_words, text_at, behind_quote, behind_text, text_in, up_to_blank};
+ghost use Rattle.segment_lang.specs.Tokens.{bare_at, digits_at, ends_word, escape_at, item_at, next_two, is_unescaped, next_word, only_word, three_words, two_words, text_at, behind_quote, behind_text, text_in, up_to_blank};
 ghost use Rattle.segment_lang.specs.Seen.{bytes_said, word_of};
 
 use crate::blanks::{at_end, is_blank, skip_blanks, split_word};
@@ -31,33 +31,63 @@ impl<'a> Model for Quoted<'a> {
     ghost invariant = { λ q. IsSome (text_at q.behind.now) };
 }
 
-impl Quoted<'_> {
-    /// The bytes as a text of its own.
-    pub fn to_text(&self) -> Text
+impl<'a> Quoted<'a> {
+    ghost use Rattle.seg_types.specs.Keys.{name_seen};
+
+    /// The bytes. They are lent from the line, or decoded into `scratch` where the line escapes one, whatever it held.
+    pub fn bytes(&self, scratch: &'a mut Text) -> &'a [u8]
         requires { length self.now ≤ 4096 }
-        ensures { result ≡ self.now }
+        ensures { result.now ≡ self.now }
     {
-        let mut text = Text::new();
-        self.append_to(&mut text);
-        text
+        match self.lent() {
+            Some(bytes) => bytes,
+            None => {
+                scratch.clear();
+                self.append_to(scratch);
+                scratch.as_slice()
+            }
+        }
     }
 
-    /// The name that the bytes are, or `None` where they are none.
-    pub fn to_name(&self) -> Option<Name>
-        ensures { result ≡ (if is_name current self.now then Some self.now else None) }
+    /// The bytes as the line spells them, or `None` where one is escaped.
+    fn lent(&self) -> Option<&'a [u8]>
+        ensures { IfSome result (λ bytes. bytes.now ≡ self.now) }
     {
-        let mut held = [0; LONGEST_NAME];
-        let mut len = 0;
+        let (bytes, rest) = split_unescaped(self.behind);
+        let [end, ..] = rest else {
+            return None;
+        };
+        if *end != b'"' {
+            return None;
+        }
+        Some(bytes)
+    }
+
+    /// The name that the bytes are, or `None` where they are none. It is lent from the line, or decoded into `scratch` where the
+    /// line escapes a byte of it.
+    pub fn to_name(&self, scratch: &'a mut Text) -> Option<Name<'a>>
+        ensures { option_map name_seen result ≡ (if is_name current self.now then Some self.now else None) }
+    {
+        match self.lent() {
+            Some(bytes) => Name::new(bytes),
+            None => self.decode_name(scratch),
+        }
+    }
+
+    /// The name that the bytes are, decoded into `scratch`.
+    fn decode_name(&self, scratch: &'a mut Text) -> Option<Name<'a>>
+        ensures { option_map name_seen result ≡ (if is_name current self.now then Some self.now else None) }
+    {
+        scratch.clear();
         let mut rest = self.behind;
         'items: while let Some((byte, tail)) = read_item(rest) {
-            if len == LONGEST_NAME {
+            if scratch.len() == LONGEST_NAME {
                 return None;
             }
-            held[len] = byte;
-            len += 1;
+            scratch.push(byte);
             rest = tail;
         }
-        Name::new(&held[..len])
+        Name::new(scratch.as_slice())
     }
 
     /// Adds the bytes at the end of a text.
@@ -175,6 +205,21 @@ fn read_item(bytes: &[u8]) -> Option<(u8, &[u8])>
         return None;
     }
     Some((*byte, rest))
+}
+
+/// The bytes in front of the first quote or backslash, and what is from there on.
+fn split_unescaped(bytes: &[u8]) -> (&[u8], &[u8])
+    ensures front { result.0.now ≡ take_while is_unescaped bytes.now }
+    ensures rest { result.1.now ≡ drop (length (take_while is_unescaped bytes.now)) bytes.now }
+{
+    let mut rest = bytes;
+    'front: while let [first, tail @ ..] = rest {
+        if *first == b'"' || *first == b'\\' {
+            break;
+        }
+        rest = tail;
+    }
+    bytes.split_at(bytes.len() - rest.len())
 }
 
 /// Whether a word may end here: a blank or the end of the line follows.

@@ -1,9 +1,8 @@
 -- Calls on elements whose kind is what the object says: then the step of the kind is the command's own.
-use Rattle.std.proofs.Common.{◌≡◌, refl, sym, ap, ◌∙◌, ℕ, ℤ, pos, true, false, Option, Some, None, Result, Ok, Err, List, map}
-use Rattle.std.specs.Prelude.{is_some, slice_set}
+use Rattle.std.proofs.Common.{◌≡◌, refl, sym, ap, subst, ◌∙◌, ℕ, ℤ, pos, true, false, Option, Some, None, Result, Ok, Err, List, map}
+use Rattle.std.specs.Prelude.{slice_set}
 use Rattle.std.proofs.lemmas.Bool.{eq-eqb}
 use Rattle.std.proofs.lemmas.Option.{same_Some}
-use Rattle.raw_region.specs.Format.{current}
 use Rattle.seg_types.specs.declared.kinds.Kind.{Kind}
 use Rattle.seg_types.specs.declared.kinds.Kind.TheVariants.{Scalar as ScalarOf, Text as TextKind, Vector as VectorKind, Map as MapKind, Texts as TextsKind}
 use Rattle.seg_types.specs.declared.kinds.ScalarKind.{ScalarKind}
@@ -15,23 +14,19 @@ use Rattle.seg_types.specs.Names.{Key, ByHandle}
 use Rattle.seg_types.specs.Commands as asked
 use Rattle.seg_types.specs.Commands.{Command, Literal, literal_of, value_of_literal}
 use Rattle.segment_manager.specs.declared.modes.Mode.{Mode}
+use Rattle.segment_manager.specs.declared.targets.Object.{Object as Located}
 use Rattle.segment_manager.specs.Answers.{Answer, Done, Refused}
-use Rattle.seg_vector.specs.declared.places.Place.{Place}
-use Rattle.segment_manager.specs.Contents.{container_at, place_of_kind}
-use Rattle.segment_manager.specs.Standing.{StandsAt}
-use Rattle.segment_manager.proofs.KeyCalls.{handle-answers}
-use Rattle.segment_manager.proofs.Safely.{contains}
 use Rattle.segment_manager.specs.Calls.{elements_at, elements_of, kind_at, scalar_reply}
 use Rattle.segment_manager.specs.Directory.{Value, Numbers, Elements, Bytes, Pairs, Texts, Object, Directory, kind_of, live, object_at}
-use Rattle.segment_manager.specs.Found.{handle_at, is_object_at}
+use Rattle.segment_manager.specs.Instances.{IsMissing}
+use Rattle.segment_manager.specs.Located.{IsLocated}
 use Rattle.segment_manager.specs.Plan.{Plan, Refuse, Reply, perform, with}
 use Rattle.segment_manager.specs.State.{Answers, IsReply, IsReplyOfKind, IsStep, State, StandsFor}
 use Rattle.segment_manager.specs.Step.{changed, effect, element_at, get, is_read_only, set, step, with_items}
 use Rattle.segment_manager.proofs.AnyStorage.{IsOfKindAt, kind-told}
-use Rattle.segment_manager.proofs.Bridge.{by-handle}
-use Rattle.segment_manager.proofs.Here.{IsHere, here, nothing-here}
+use Rattle.segment_manager.proofs.Locating.{kind-by_key, reply_of_kind-by_key}
 use Rattle.segment_manager.proofs.Refilled.{refused-steps}
-use Rattle.segment_manager.proofs.Steps.{open-reading, step-plan, step-refuse, step_of_kind-step, with-found, with-not_found}
+use Rattle.segment_manager.proofs.Steps.{open-reading, step-refuse, step_of_kind-step, with-found, with-not_found}
 use Rattle.segment_manager.proofs.Stored.{literal-read}
 use Rattle.segment_manager.proofs.VectorLiterals.{same_plan-steps}
 
@@ -133,46 +128,15 @@ other-elements (VectorKind k) n v t = absurd (v k refl)
 other-elements (MapKind k m) n v t = refl
 other-elements TextsKind n v t = refl
 
--- what is read of the object by its handle is what is read by its key
-pub by_handle-replies : (s : State) (key : Key) (h i : ℕ) (answer : Answer) → Answers s (λ d. handle_at d key) (Some h) → Answers s (λ d. scalar_reply s.mode d (ByHandle h) (asked.Get (ByHandle h) i)) answer
-    → Answers s (λ d. scalar_reply s.mode d key (asked.Get key i)) answer
-by_handle-replies s key h i answer a r = record {
-  answers = λ d l.
-      let o : IsHere s.cut.bytes d key h = here s.cut.bytes d key h l.denotes (a.answers d l) in
-      let there : object_at d (ByHandle h) ≡ Some o.object = ap (λ n. object_at d (ByHandle n)) o.stands.at ∙ by-handle current d key o.object l.denotes.directory o.is in
-      let elements : elements_at d (ByHandle h) ≡ elements_at d key = ap elements_in there ∙ sym (ap elements_in o.is) in
-      let read : Plan = get d o.object.value i in
-      let steps : step s.mode d (asked.Get (ByHandle h) i) ≡ step s.mode d (asked.Get key i) =
-      step-plan s.mode d (asked.Get (ByHandle h) i) read (open-reading s.mode (asked.Get (ByHandle h) i) refl) (with-found d (ByHandle h) o.object (λ o. get d o.value i) there)
-      ∙ sym (step-plan s.mode d (asked.Get key i) read (open-reading s.mode (asked.Get key i) refl) (with-found d key o.object (λ o. get d o.value i) o.is)) in
-      r.answers d l ∙ (λ j. elim (elements j) as (λ _. Answer) [ Err r ↦ Refused r | Ok k ↦ (steps j).0 ]);
-}
+-- an object that was located is of a kind that has scalars
+pub located-replies : (s : State) (key : Key) (o : Located) (l : IsLocated s key o) (kind : Kind) (k : ScalarKind) (i : ℕ) (answer : Answer) → o.kind ≡ kind → elements_of kind ≡ Ok k
+    → IsReplyOfKind s (ByHandle o.handle) kind (asked.Get (ByHandle o.handle) i) answer → Answers s (λ d. scalar_reply s.mode d key (asked.Get key i)) answer
+located-replies s key o l kind k i answer is f r =
+    of_kind-replies s key kind k (asked.Get key i) answer (subst (λ (n : Kind). Answers s (λ d. kind_at d key) (Ok n)) is (kind-by_key s key o l)) f (reply_of_kind-by_key s key o l kind (asked.Get key i) answer r)
 
 -- no object has the key
-pub any-missing : (s : State) (key : Key) (c : Command) → Answers s (λ d. handle_at d key) None → Answers s (λ d. scalar_reply s.mode d key c) (Refused NotFound)
-any-missing s key c a = record { answers = λ d l. sym (ap (reply_of s.mode d c) (ap elements_in (nothing-here d key (a.answers d l)))) }
-
--- an object that is found by a key is found by its handle
-pub found-object : (s : State) (key : Key) (h : ℕ) → Answers s (λ d. handle_at d key) (Some h) → Answers s (λ d. is_object_at d h) true
-found-object s key h a = record {
-  answers = λ d l.
-      let o : IsHere s.cut.bytes d key h = here s.cut.bytes d key h l.denotes (a.answers d l) in
-      let there : object_at d (ByHandle h) ≡ Some o.object = ap (λ n. object_at d (ByHandle n)) o.stands.at ∙ by-handle current d key o.object l.denotes.directory o.is in
-      sym (ap is_some there);
-}
-
-has-object : (k : ScalarKind) (r : Option Object) → Ok k ≡ elements_in r → true ≡ is_some r
-has-object k None e = absurd (cc)
-has-object k (Some o) e = refl
-
--- where there are elements there is an object
-pub is-object : (s : State) (h : ℕ) (k : ScalarKind) → Answers s (λ d. elements_at d (ByHandle h)) (Ok k) → Answers s (λ d. is_object_at d h) true
-is-object s h k a = record { answers = λ d l. has-object k (object_at d (ByHandle h)) (a.answers d l) }
-
--- where the container stands of the object at a handle is where that of the handle's key does
-pub contained : (s : State) (h : ℕ) (kind : Kind) (r : Result Place Refusal) → Answers s (λ d. is_object_at d h) true → ((o : Object) → StandsAt s.cut.bytes h o → r ≡ place_of_kind o kind)
-    → Answers s (λ d. container_at d (ByHandle h) kind) r
-contained s h kind r a each = contains s (ByHandle h) h kind r (handle-answers s h true a) each
+pub any-missing : (s : State) (key : Key) (c : Command) (why : Refusal) → IsMissing s key why → Answers s (λ d. scalar_reply s.mode d key c) (Refused why)
+any-missing s key c why m = record { answers = λ d l. ap Refused m.is ∙ sym (ap (reply_of s.mode d c) (ap elements_in (m.missing d l))) }
 
 -- ---- writing: the kind of the object
 

@@ -14,6 +14,7 @@ use Rattle.segment_manager.specs.Answers.{Answer, Refused}
 use Rattle.segment_manager.specs.Calls.{kind_at}
 use Rattle.segment_manager.specs.Contents.{container_at, container_place, place_of_kind, sizes_at, sizes_at_kind, sizes_of, sizes_of_kind}
 use Rattle.segment_manager.specs.Directory.{Value, Numbers, Elements, Bytes, Pairs, Texts, Directory, Object, kind_of, live, object_at}
+use Rattle.segment_manager.specs.Instances.{IsMissing}
 use Rattle.segment_manager.specs.Plan.{Refuse, perform}
 use Rattle.segment_manager.specs.State.{Answers, IsStep, IsStepOfKind, State, StandsFor}
 use Rattle.segment_manager.specs.Step.{effect, is_read_only, step, step_of_kind}
@@ -35,19 +36,10 @@ told-if d key kind (Some o) e f = let same : kind_of o.value ≡ kind = cc in re
 pub kind-told : (d : Directory) (key : Key) (kind : Kind) → Ok kind ≡ kind_at d key → IsOfKindAt d key kind
 kind-told d key kind e = told-if d key kind (object_at d key) refl e
 
-nowhere-if : (d : Directory) (key : Key) (why : Refusal) (r : Option Object) → object_at d key ≡ r
-    → Err why ≡ elim r as (λ _. Result Kind Refusal) [ None ↦ Err NotFound | Some o ↦ Ok (kind_of o.value) ] → (object_at d key ≡ None) × (NotFound ≡ why)
-nowhere-if d key why None e f = let same : NotFound ≡ why = cc in (e, same)
-nowhere-if d key why (Some o) e f = absurd (cc)
-
 -- no object has the key: then the call is refused as the command is
-pub nowhere-steps : (s : State) (key : Key) (why : Refusal) (c : Command) → is_read_only s.mode ≡ false → Answers s (λ d. kind_at d key) (Err why)
+pub nowhere-steps : (s : State) (key : Key) (why : Refusal) (c : Command) → is_read_only s.mode ≡ false → IsMissing s key why
     → ((d : Directory) → object_at d key ≡ None → effect d c ≡ Refuse NotFound) → IsStep s s c (Refused why)
-nowhere-steps s key why c writing a none =
-    refused-steps s c why writing
-    (λ d l.
-    let n = nowhere-if d key why (object_at d key) refl (a.answers d l) in
-    ap (perform d (live d)) (none d n.0) ∙ (λ i. (Refused (n.1 i), d)))
+nowhere-steps s key why c writing m none = refused-steps s c why writing (λ d l. ap (perform d (live d)) (none d (m.missing d l)) ∙ (λ i. (Refused (sym m.is i), d)))
 
 -- the step of the kind is the command's
 pub of_kind-steps : (old new : State) (key : Key) (kind : Kind) (c : Command) (answer : Answer) → Answers old (λ d. kind_at d key) (Ok kind) → IsStepOfKind old new key kind c answer → IsStep old new c answer
@@ -103,11 +95,9 @@ measures-kind s key kind r a m = record {
 }
 
 -- no object has the key
-pub measures-nowhere : (s : State) (key : Key) (why : Refusal) → Answers s (λ d. kind_at d key) (Err why) → Answers s (λ d. sizes_at d key) (Err why)
-measures-nowhere s key why a = record {
-  answers = λ d l.
-      let n = nowhere-if d key why (object_at d key) refl (a.answers d l) in
-      ap Err (sym n.1) ∙ sym (ap (λ (q : Option Object). elim q as (λ _. Result (ℕ × ℕ) Refusal) [ None ↦ Err NotFound | Some o ↦ sizes_of o.value ]) n.0);
+pub measures-nowhere : (s : State) (key : Key) (why : Refusal) → IsMissing s key why → Answers s (λ d. sizes_at d key) (Err why)
+measures-nowhere s key why m = record {
+  answers = λ d l. ap Err m.is ∙ sym (ap (λ (q : Option Object). elim q as (λ _. Result (ℕ × ℕ) Refusal) [ None ↦ Err NotFound | Some o ↦ sizes_of o.value ]) (m.missing d l));
 }
 
 -- whether objects of a kind are containers

@@ -16,7 +16,6 @@ use Rattle.seg_types.specs.Names as names
 use Rattle.seg_types.specs.Commands as asked
 use Rattle.seg_types.specs.Commands.{Content}
 use Rattle.seg_index.specs.declared.index.Index.{Index}
-use Rattle.seg_index.specs.declared.index.Index.TheVariants as index
 use Rattle.seg_index.specs.declared.keys.Key.{Key}
 use Rattle.seg_index.specs.declared.keys.Lookup.TheVariants.{Absent}
 use Rattle.seg_index.specs.Growth.{AddKeeps, Adds, IsGrowth, grown_bytes, grown_live}

@@ -3,7 +3,6 @@ use Rattle.std.proofs.Common.{◌≡◌, sym, ap, subst, ◌∙◌, ℕ, ◌≤�
 use Rattle.std.specs.Prelude.{MatchOption, int_lt}
 use Rattle.std.proofs.lemmas.Option.{none-some}
 use Rattle.raw_region.specs.Memory.{Cut}
-use Rattle.best_fit.specs.Table.{Table}
 use Rattle.seg_types.specs.declared.kinds.ScalarKind.{ScalarKind}
 use Rattle.seg_types.specs.declared.kinds.Kind.TheVariants.{Text, Texts as TextsKind, Vector}
 use Rattle.seg_types.specs.declared.plain.Plain.{Ghosts as Plain}
@@ -18,7 +17,7 @@ use Rattle.seg_vector.specs.declared.places.Place.{Place}
 use Rattle.seg_vector.specs.TextCalls.{ReservesNoBytes}
 use Rattle.seg_vector.specs.TextsCalls.{ReservesNoTexts}
 use Rattle.seg_vector.specs.VectorCalls.{ReservesNothing}
-use Rattle.segment_manager.specs.Contents.{IsNumbers, container_at, sizes_of}
+use Rattle.segment_manager.specs.Contents.{container_at, sizes_of}
 use Rattle.segment_manager.specs.Directory.{Object, Directory, object_at}
 use Rattle.segment_manager.specs.Keeping.{HasPlaces, KeepsWhere, LacksPair}
 use Rattle.segment_manager.specs.Maps.{map_at, numbers_of}

@@ -32,6 +32,8 @@ pub use Rattle.segment_manager.proofs.Here.{IsHere, here, nothing-here, standing
 pub use Rattle.segment_manager.proofs.AnyKind.{HasNoTexts, any-literal, any-no_value, any-replies, kind-no_texts, scalars-nowhere, scalars-replies}
 -- a call for objects of the kind that an object says is the command's step
 pub use Rattle.segment_manager.proofs.AnyStorage.{of_kind-steps}
+-- an object that was located is that of its key, and what is done under its handle is done under the key
+pub use Rattle.segment_manager.proofs.Locating.{IsSaidAt, kind-by_key, leads_on-by_key, located-here, located-steps, reply-by_key, reply_of_kind-by_key, said-at, same-object, step-by_key, step-same, step_of_kind-by_key, told-by_key}
 -- the object of a key is found by its handle too
 pub use Rattle.segment_manager.proofs.Bridge.{by-handle}
 -- a command that only reads leaves the directory

@@ -102,6 +102,7 @@ mod KeyOrder
 mod HeldIndexes
 mod Bridge
 mod KeyCalls
+mod Locating
 mod FindCalls
 mod Tellings
 mod Listed

@@ -1,6 +1,6 @@
 -- A walk over the pairs of the object of a key, of whatever kinds they are: what each call of it answers, and that none is left out.
 use Rattle.std.proofs.Common.{◌≡◌, refl, sym, ap, subst, ◌∙◌, ℕ, zero, suc, ◌+◌, ℤ, Bool, true, ◌&&◌, Option, Some, None, Result, Ok, Err, List, [], ◌∷◌, ◌++◌, slice_get, arith, if◌then◌else◌}
-use Rattle.std.specs.Prelude.{IsTrue, int_lt, is_some, option_map}
+use Rattle.std.specs.Prelude.{IsTrue, int_lt, option_map}
 use Rattle.std.specs.List.{list_all}
 use Rattle.std.proofs.lemmas.Bool.{eq-eqb}
 use Rattle.raw_region.specs.Format.{current}
@@ -12,14 +12,13 @@ use Rattle.seg_types.specs.declared.refusals.Refusal.{Refusal}
 use Rattle.seg_types.specs.declared.refusals.Refusal.TheVariants.{NotFound, WrongKind}
 use Rattle.seg_types.specs.declared.values.ScalarValue.{ScalarValue}
 use Rattle.seg_types.specs.Kinds.{code_of, is_kind_of, is_value, lowest, same_kind, size_of}
-use Rattle.seg_types.specs.Names.{ByHandle, Key}
+use Rattle.seg_types.specs.Names.{Key}
 use Rattle.seg_types.specs.Values.{value_of_scalar}
 use Rattle.seg_map.specs.Map.{is_rising, node_len}
 use Rattle.seg_map.specs.Numbers.{NumberPair, is_number_pair}
 use Rattle.seg_map.specs.Places.{item_of}
 use Rattle.segment_manager.specs.Denotes.{Denotes}
 use Rattle.segment_manager.specs.Directory.{Value, Numbers, Elements, Bytes, Pairs, Texts, Object, Directory, has_good_name, is_good_value, is_object, kind_of, object_at, object_len}
-use Rattle.segment_manager.specs.Found.{is_object_at}
 use Rattle.segment_manager.specs.Maps.{pair_above, pair_from, told_of, told_of_map}
 use Rattle.segment_manager.specs.State.{Answers, State, StandsFor}
 use Rattle.segment_manager.specs.Walks.{AreOfKinds, IsMap, first_of, item_of_kinds, item_seen, numbers_read, pairs_at, pairs_of}
@@ -126,10 +125,6 @@ module _ (s : State) (key : Key) (k v : ScalarKind) (is : IsMap s key k v) where
   not-refused {A} say why about answer a = record {
     answers = λ d l. let never : (let r : Result A Refusal = Err why in r) ≡ Ok (say (pairs_at d key)) = a.answers d l ∙ told-of-them d key k v (map-known d l) say in absurd (cc);
   }
-
--- there is an object
-pub map-object : (s : State) (h : ℕ) (k v : ScalarKind) → IsMap s (ByHandle h) k v → Answers s (λ d. is_object_at d h) true
-map-object s h k v is = record { answers = λ d l. sym (ap is_some (kind-told d (ByHandle h) (Map k v) (is.answers d l)).is) }
 
 -- ---- the places of the pairs
 

@@ -26,7 +26,7 @@ use Rattle.segment_manager.specs.declared.head.Head.{Head}
 use Rattle.segment_manager.specs.Contents.{IsNumbers, IsNumbersNow, container_at, container_place, place_of_kind}
 use Rattle.segment_manager.specs.Denotes.{Denotes, IsValueAt}
 use Rattle.segment_manager.specs.Destroyed.{Becomes, Empties, HasNumbers, HoldsObject, ReleasesNumbers, emptied}
-use Rattle.segment_manager.specs.Directory.{Value, Numbers, Elements, Bytes, Pairs, Texts, Object, Directory, has_key, is_object, kind_of, object_at, padded, value_extents, value_len}
+use Rattle.segment_manager.specs.Directory.{Value, Elements, Bytes, Pairs, Texts, Object, Directory, has_key, is_object, kind_of, object_at, padded, value_extents, value_len}
 use Rattle.segment_manager.specs.Layout.{head_len}
 use Rattle.segment_manager.specs.Maps.{HasPairs, ReleasesPairs, numbers_of}
 use Rattle.segment_manager.specs.Standing.{HasObject, IsHeadOf, StandsAt}

@@ -1,12 +1,12 @@
 -- What bytes denote by an older format they denote by the current one, where version, tags and free tree are those of the current one.
-use Rattle.std.proofs.Common.{◌≡◌, refl, sym, ap, ◌∙◌, ℕ, zero, suc, ◌+◌, ◌<◌, ◌≤◌, Bool, true, false, not, ◌&&◌, ◌||◌, ◌==◌, List, [], ◌∷◌, length, arith}
-use Rattle.std.specs.Prelude.{IsTrue, nat_le, nat_lt, slice_index, if◌then◌else◌}
+use Rattle.std.proofs.Common.{◌≡◌, refl, ap, ◌∙◌, ℕ, zero, suc, Bool, true, false, not, ◌&&◌, ◌==◌, List, [], ◌∷◌, length, arith}
+use Rattle.std.specs.Prelude.{IsTrue, nat_le, nat_lt, if◌then◌else◌}
 use Rattle.std.specs.List.{AllByRecursion, list_all}
 use Rattle.std.specs.Str.{IsAscii, chars, is_utf8}
-use Rattle.std.proofs.lemmas.Bool.{and_from, and_parts, and_left, and_right, le-leb, leb-true, lt-leb, le-ltb, or_from, not_from_false}
+use Rattle.std.proofs.lemmas.Bool.{and_from, and_parts, and_left, le-leb, leb-true, lt-leb, le-ltb, or_from, not_from_false}
 use Rattle.std.proofs.lemmas.Str.{IsUtf8-from_ascii, chars-IsAscii, is_utf8-from_IsUtf8}
 use Rattle.raw_region.specs.Format.{current}
-use Rattle.raw_region.specs.Memory.{Cut, Memory, Same, bytes_of, word_at}
+use Rattle.raw_region.specs.Memory.{Memory, Same, bytes_of, word_at}
 use Rattle.raw_region.proofs.Laws.{Same-part, Same-word}
 use Rattle.best_fit.specs.Heap.{LaysOut, SameBlock}
 use Rattle.seg_types.specs.declared.kinds.Kind.{Kind}

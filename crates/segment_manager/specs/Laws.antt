@@ -3,14 +3,17 @@ use Rattle.std.specs.Prelude.{◌≡◌, ◌<◌, ℕ, true, false, Some, List, 
 use Rattle.seg_types.specs.declared.refusals.Refusal.{Refusal}
 use Rattle.seg_types.specs.declared.refusals.Refusal.TheVariants.{ReadOnly}
 use Rattle.seg_types.specs.declared.kinds.Kind.{Kind}
-use Rattle.seg_types.specs.Names.{Key}
+use Rattle.seg_types.specs.Names.{Key, ByHandle}
+use Rattle.seg_types.specs.Commands as asked
 use Rattle.seg_types.specs.Commands.{Command, NumNamed, NumUnique, Pop, is_changing}
 use Rattle.segment_manager.specs.declared.modes.Mode.{Mode}
-use Rattle.segment_manager.specs.Directory.{Directory, named_objects, unique_objects}
+use Rattle.segment_manager.specs.declared.targets.Object.{Object as Located}
+use Rattle.segment_manager.specs.Directory.{Directory, named_objects, object_at, unique_objects}
 use Rattle.segment_manager.specs.Answers.{Answer, Number, Refused, TextElement, refusal_of}
 use Rattle.segment_manager.specs.Step.{step, step_of_kind, is_read_only}
 use Rattle.segment_manager.specs.State.{State, StandsFor, IsReply, IsStep, LeadsOn, answer_of, refusal_in}
 use Rattle.segment_manager.specs.Found.{IsBelow}
+use Rattle.segment_manager.specs.Located.{IsLocated}
 
 -- what is refused leaves the directory as it was; a segment that is open for reading refuses what may change it
 pub record IsSafe (mode : Mode) (d : Directory) (c : Command) : Type 0 where
@@ -52,3 +55,35 @@ RefusedCallsStay = (old new : State) (c : Command) (r : Refusal) → LeadsOn old
 pub record CountedAreBelow : Type 0 where
   pub named : (s : State) (n i : ℕ) → IsReply s NumNamed (Number n) → i < n → IsBelow s (λ d. length (named_objects d)) i
   pub unique : (s : State) (n i : ℕ) → IsReply s NumUnique (Number n) → i < n → IsBelow s (λ d. length (unique_objects d)) i
+
+-- a command on the object of a key, as one on that of another key
+abbrev pub at_key : Key → Command → Command
+at_key key (asked.Show old) = asked.Show key
+at_key key (asked.Info old) = asked.Info key
+at_key key (asked.Get old i) = asked.Get key i
+at_key key (asked.Set old i l) = asked.Set key i l
+at_key key (asked.Push old l) = asked.Push key l
+at_key key (asked.Pop old) = asked.Pop key
+at_key key (asked.Insert old i l) = asked.Insert key i l
+at_key key (asked.Erase old i) = asked.Erase key i
+at_key key (asked.Reserve old n) = asked.Reserve key n
+at_key key (asked.Shrink old) = asked.Shrink key
+at_key key (asked.Clear old) = asked.Clear key
+at_key key (asked.Assign old ls) = asked.Assign key ls
+at_key key (asked.Append old bs) = asked.Append key bs
+at_key key (asked.Put old l m) = asked.Put key l m
+at_key key (asked.Lookup old l) = asked.Lookup key l
+at_key key (asked.Remove old l) = asked.Remove key l
+at_key key c = c
+
+-- the law: of two keys of one object one is as good as the other
+abbrev pub KeysMeanObjects : Type 0
+KeysMeanObjects = (mode : Mode) (d : Directory) (key other : Key) (c : Command) → object_at d key ≡ object_at d other → step mode d (at_key key c) ≡ step mode d (at_key other c)
+
+abbrev pub KeysOfKindMeanObjects : Type 0
+KeysOfKindMeanObjects = (mode : Mode) (d : Directory) (key other : Key) (kind : Kind) (c : Command) → object_at d key ≡ object_at d other
+    → step_of_kind mode d key kind (at_key key c) ≡ step_of_kind mode d other kind (at_key other c)
+
+-- and an object that was located has its handle for a key
+abbrev pub HandlesMeanObjects : Type 0
+HandlesMeanObjects = (s : State) (key : Key) (o : Located) → IsLocated s key o → (d : Directory) → StandsFor s.cut.bytes d → object_at d key ≡ object_at d (ByHandle o.handle)

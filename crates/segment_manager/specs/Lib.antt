@@ -11,6 +11,7 @@ pub mod Laws
 pub mod Calls
 pub mod Indexed
 pub mod Found
+pub mod Located
 pub mod OwnedTexts
 pub mod Heads
 pub mod NewObjects

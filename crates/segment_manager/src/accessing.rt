@@ -2,7 +2,6 @@
 ghost use Rattle.std.specs.Prelude.{◌≡◌, ℤ, OnErr, true};
 ghost use Rattle.seg_types.specs.declared.kinds.Kind.TheVariants.{Scalar as ScalarOf};
 ghost use Rattle.seg_types.specs.Commands.{Get, Set, literal_of};
-ghost use Rattle.seg_types.specs.Keys.{key_seen};
 ghost use Rattle.seg_types.specs.Kinds.{is_value, spelling as spelling_of};
 ghost use Rattle.seg_types.specs.Values.{kind_of_scalar, value_of_scalar};
 ghost use Rattle.segment_manager.specs.Answers.{Element};
@@ -12,8 +11,9 @@ ghost use Rattle.segment_manager.specs.State.{Answers, IsReplyOfKind, IsStepOfKi
 use crate::constructing::LONGEST;
 use crate::element::{element, place_of};
 use crate::segment::Segment;
+use crate::targets::Target;
 use seg_types::theorems::scalar_is_number;
-use seg_types::{Key, Refusal, Scalar, ScalarKind, ScalarValue};
+use seg_types::{Refusal, Scalar, ScalarKind, ScalarValue};
 
 /// Where an element stands.
 #[derive(Clone, Copy, Debug, PartialEq, Eq)]
@@ -31,8 +31,9 @@ impl Segment {
     ///
     /// `NotFound` where no object has the key, `WrongKind` where it is of another kind, `OutOfRange` where it has no element
     /// there.
-    pub fn get<T: Scalar>(&self, key: &Key, index: u64) -> Result<T, Refusal>
-        ensures { IsReplyOfKind self.now (key_seen key.now) (ScalarOf T.kind) (Get (key_seen key.now) index) (answer_of (λ x. Element T.kind (T.whole x)) result) }
+    pub fn get<T: Scalar, O: Target>(&self, key: &O, index: u64) -> Result<T, Refusal>
+        requires { O.stands key.now self.now }
+        ensures { IsReplyOfKind self.now (O.key key.now) (ScalarOf T.kind) (Get (O.key key.now) index) (answer_of (λ x. Element T.kind (T.whole x)) result) }
     {
         match self.find_element(key, T::kind(), index) {
             Err(why) => Err(why),
@@ -51,8 +52,14 @@ impl Segment {
     ///
     /// `NotFound` where no object has the key, `WrongKind` where it is of another kind, `OutOfRange` where it has no element
     /// there.
-    pub fn get_value(&self, key: &Key, kind: ScalarKind, index: u64) -> Result<ScalarValue, Refusal>
-        ensures { IsReplyOfKind self.now (key_seen key.now) (ScalarOf kind) (Get (key_seen key.now) index) (scalar_answer result) }
+    pub(crate) fn get_value<O: Target>(
+        &self,
+        key: &O,
+        kind: ScalarKind,
+        index: u64,
+    ) -> Result<ScalarValue, Refusal>
+        requires { O.stands key.now self.now }
+        ensures { IsReplyOfKind self.now (O.key key.now) (ScalarOf kind) (Get (O.key key.now) index) (scalar_answer result) }
     {
         match self.find_element(key, kind, index) {
             Err(why) => Err(why),
@@ -70,8 +77,14 @@ impl Segment {
     ///
     /// `ReadOnly` where the segment is open for reading, and else `NotFound` where no object has the key, `WrongKind` where it
     /// is of another kind, `OutOfRange` where it has no element there. Nothing changes.
-    pub fn set<T: Scalar>(&mut self, key: &Key, index: u64, value: T) -> Result<(), Refusal>
-        ensures step { IsStepOfKind self.old self.new (key_seen key.now) (ScalarOf T.kind) (Set (key_seen key.now) index (literal_of T.kind (T.whole value))) (done_answer result) }
+    pub fn set<T: Scalar, O: Target>(
+        &mut self,
+        key: &O,
+        index: u64,
+        value: T,
+    ) -> Result<(), Refusal>
+        requires { O.stands key.now self.old }
+        ensures step { IsStepOfKind self.old self.new (O.key key.now) (ScalarOf T.kind) (Set (O.key key.now) index (literal_of T.kind (T.whole value))) (done_answer result) }
         ensures refused { OnErr result (self.new ≡ self.old) }
     {
         let mut bytes = [0; LONGEST];
@@ -86,9 +99,15 @@ impl Segment {
     ///
     /// `ReadOnly` where the segment is open for reading, and else `NotFound` where no object has the key, `WrongKind` where it
     /// is of another kind, `OutOfRange` where it has no element there. Nothing changes.
-    pub fn set_value(&mut self, key: &Key, index: u64, value: ScalarValue) -> Result<(), Refusal>
-        ensures step { IsStepOfKind self.old self.new (key_seen key.now) (ScalarOf (kind_of_scalar value))
-            (Set (key_seen key.now) index (literal_of (kind_of_scalar value) (value_of_scalar value))) (done_answer result) }
+    pub fn set_value<O: Target>(
+        &mut self,
+        key: &O,
+        index: u64,
+        value: ScalarValue,
+    ) -> Result<(), Refusal>
+        requires { O.stands key.now self.old }
+        ensures step { IsStepOfKind self.old self.new (O.key key.now) (ScalarOf (kind_of_scalar value))
+            (Set (O.key key.now) index (literal_of (kind_of_scalar value) (value_of_scalar value))) (done_answer result) }
         ensures refused { OnErr result (self.new ≡ self.old) }
     {
         let kind = value.kind();
@@ -99,16 +118,17 @@ impl Segment {
     }
 
     /// Writes the bytes that spell a value as an element.
-    fn write_element(
+    fn write_element<O: Target>(
         &mut self,
-        key: &Key,
+        key: &O,
         kind: ScalarKind,
         index: u64,
         spelling: &[u8],
     ) -> Result<(), Refusal>
-        requires { Spells kind spelling.now }
+        requires target { O.stands key.now self.old }
+        requires spells { Spells kind spelling.now }
         ensures step { (z : ℤ) → is_value kind z ≡ true → spelling.now ≡ spelling_of kind z
-            → IsStepOfKind self.old self.new (key_seen key.now) (ScalarOf kind) (Set (key_seen key.now) index (literal_of kind z)) (done_answer result) }
+            → IsStepOfKind self.old self.new (O.key key.now) (ScalarOf kind) (Set (O.key key.now) index (literal_of kind z)) (done_answer result) }
         ensures refused { OnErr result (self.new ≡ self.old) }
     {
         if self.is_read_only() {
@@ -124,10 +144,16 @@ impl Segment {
     }
 
     /// Where the element at `index` stands in the object of a key, an object of scalars of a kind.
-    fn find_element(&self, key: &Key, kind: ScalarKind, index: u64) -> Result<Place, Refusal>
-        ensures { Answers self.now (λ d. place_at d (key_seen key.now) kind index) result }
+    fn find_element<O: Target>(
+        &self,
+        key: &O,
+        kind: ScalarKind,
+        index: u64,
+    ) -> Result<Place, Refusal>
+        requires { O.stands key.now self.now }
+        ensures { Answers self.now (λ d. place_at d (O.key key.now) kind index) result }
     {
-        let Some(handle) = self.handle_of(key) else {
+        let Some(handle) = key.handle_in(self) else {
             return Err(Refusal::NotFound);
         };
         match place_of(&self.heap, handle, kind, index) {

@@ -1,21 +1,15 @@
 //! The elements of objects whose kind is not known before: of scalars, of vectors of scalars, and of strings.
-ghost use Rattle.std.specs.Prelude.{◌≡◌, Ok, OnErr, true};
-ghost use Rattle.seg_types.specs.declared.kinds.Kind.TheVariants.{Scalar as ScalarOf, Text as TextKind, Vector as VectorOf};
+ghost use Rattle.std.specs.Prelude.{◌≡◌, Ok, OnErr};
+ghost use Rattle.seg_types.specs.declared.kinds.Kind.TheVariants.{Text as TextKind, Vector as VectorOf};
 ghost use Rattle.seg_types.specs.Commands.{Get, Set, literal_of};
-ghost use Rattle.seg_types.specs.Keys.{key_seen};
-ghost use Rattle.seg_types.specs.Names.{ByHandle};
 ghost use Rattle.seg_types.specs.Values.{kind_of_scalar, value_of_scalar};
-ghost use Rattle.segment_manager.specs.Answers.{Element};
-ghost use Rattle.segment_manager.specs.Calls.{HasScalars, elements_at, scalar_reply};
-ghost use Rattle.segment_manager.specs.Found.{is_object_at};
-ghost use Rattle.segment_manager.specs.State.{Answers, IsReply, IsReplyOfKind, IsStep, IsStepOfKind, answer_of, done_answer, scalar_answer};
+ghost use Rattle.segment_manager.specs.Calls.{elements_at, scalar_reply};
+ghost use Rattle.segment_manager.specs.State.{Answers, IsReplyOfKind, IsStep, IsStepOfKind, done_answer, scalar_answer};
 
-use crate::containers::container_in;
-use crate::element::{element, place_of};
-use crate::head::read_head;
 use crate::segment::Segment;
-use seg_types::{Handle, Key, Kind, Refusal, Scalar, ScalarKind, ScalarValue};
-use seg_vector::{SegString, SegVec};
+use crate::targets::Target;
+use seg_types::{Kind, Refusal, ScalarKind, ScalarValue};
+use seg_vector::SegString;
 
 impl Segment {
     /// The element at `index` in the object of a key: of scalars, of a vector of scalars, or of a string, which has bytes.
@@ -24,25 +18,52 @@ impl Segment {
     ///
     /// `NotFound` where no object has the key, `WrongKind` where its elements are no scalars, `OutOfRange` where it has none
     /// there.
-    pub fn get_any(&self, key: &Key, index: u64) -> Result<ScalarValue, Refusal>
-        ensures { Answers self.now (λ d. scalar_reply self.now.mode d (key_seen key.now) (Get (key_seen key.now) index)) (scalar_answer result) }
+    pub fn get_any<O: Target>(&self, key: &O, index: u64) -> Result<ScalarValue, Refusal>
+        requires { O.stands key.now self.now }
+        ensures { Answers self.now (λ d. scalar_reply self.now.mode d (O.key key.now) (Get (O.key key.now) index)) (scalar_answer result) }
     {
-        match self.handle_of(key) {
-            None => Err(Refusal::NotFound),
-            Some(handle) => self.element_in(handle, index),
+        match self.locate(key) {
+            Err(why) => Err(why),
+            Ok(object) => match object.kind {
+                Kind::Scalar(kind) => self.get_value(&object, kind, index),
+                Kind::Vector(kind) => self.get_in_vector(&object, kind, index),
+                Kind::Text => self.get_in_string(&object, index),
+                _ => Err(Refusal::WrongKind),
+            },
         }
     }
 
-    /// The same of the object at a handle, which has such elements: it is not looked for among the blocks.
-    ///
-    /// # Errors
-    ///
-    /// `OutOfRange` where it has no element there.
-    pub fn get_at(&self, handle: Handle, index: u64) -> Result<ScalarValue, Refusal>
-        requires { HasScalars self.now (ByHandle handle) }
-        ensures { IsReply self.now (Get (ByHandle handle) index) (scalar_answer result) }
+    /// The same of a vector of scalars of a kind.
+    fn get_in_vector<O: Target>(
+        &self,
+        key: &O,
+        kind: ScalarKind,
+        index: u64,
+    ) -> Result<ScalarValue, Refusal>
+        requires { O.stands key.now self.now }
+        ensures { IsReplyOfKind self.now (O.key key.now) (VectorOf kind) (Get (O.key key.now) index) (scalar_answer result) }
     {
-        self.element_in(handle, index)
+        Ok(match kind {
+            ScalarKind::Bool => ScalarValue::Bool(self.vec_get(key, index)?),
+            ScalarKind::U8 => ScalarValue::U8(self.vec_get(key, index)?),
+            ScalarKind::I32 => ScalarValue::I32(self.vec_get(key, index)?),
+            ScalarKind::I64 => ScalarValue::I64(self.vec_get(key, index)?),
+            ScalarKind::U64 => ScalarValue::U64(self.vec_get(key, index)?),
+        })
+    }
+
+    /// The same of a string.
+    fn get_in_string<O: Target>(&self, key: &O, index: u64) -> Result<ScalarValue, Refusal>
+        requires { O.stands key.now self.now }
+        ensures { IsReplyOfKind self.now (O.key key.now) TextKind (Get (O.key key.now) index) (scalar_answer result) }
+    {
+        match self.find_container(key, Kind::Text) {
+            Err(why) => Err(why),
+            Ok(place) => match (SegString { place }).get(&self.heap, index) {
+                Err(why) => Err(why),
+                Ok(byte) => Ok(ScalarValue::U8(byte)),
+            },
+        }
     }
 
     /// Makes a value the element at `index` in the object of a key, whose elements are of the value's kind: of scalars, of a
@@ -51,99 +72,26 @@ impl Segment {
     /// # Errors
     ///
     /// `ReadOnly` where the segment is open for reading, and else `OutOfRange` where it has no element there. Nothing changes.
-    pub fn set_any(&mut self, key: &Key, index: u64, value: ScalarValue) -> Result<(), Refusal>
-        requires of_kind { Answers self.old (λ d. elements_at d (key_seen key.now)) (Ok (kind_of_scalar value)) }
-        ensures step { IsStep self.old self.new (Set (key_seen key.now) index (literal_of (kind_of_scalar value) (value_of_scalar value))) (done_answer result) }
+    pub fn set_any<O: Target>(
+        &mut self,
+        key: &O,
+        index: u64,
+        value: ScalarValue,
+    ) -> Result<(), Refusal>
+        requires target { O.stands key.now self.old }
+        requires of_kind { Answers self.old (λ d. elements_at d (O.key key.now)) (Ok (kind_of_scalar value)) }
+        ensures step { IsStep self.old self.new (Set (O.key key.now) index (literal_of (kind_of_scalar value) (value_of_scalar value))) (done_answer result) }
         ensures refused { OnErr result (self.new ≡ self.old) }
     {
-        match self.kind_of(key) {
+        match self.locate(key) {
             Err(why) => Err(why),
-            Ok(kind) => match kind {
+            Ok(object) => match object.kind {
                 Kind::Text => match value {
-                    ScalarValue::U8(byte) => self.string_set(key, index, byte),
+                    ScalarValue::U8(byte) => self.string_set(&object, index, byte),
                     _ => Err(Refusal::WrongKind),
                 },
-                Kind::Vector(_) => self.set_in_vector(key, index, value),
-                _ => self.set_value(key, index, value),
-            },
-        }
-    }
-
-    /// The element at `index` in the object at a handle. There is such an object: it is not looked for among the blocks.
-    ///
-    /// # Errors
-    ///
-    /// `WrongKind` where its elements are no scalars, `OutOfRange` where it has none there.
-    fn element_in(&self, handle: Handle, index: u64) -> Result<ScalarValue, Refusal>
-        requires { Answers self.now (λ d. is_object_at d handle) true }
-        ensures { Answers self.now (λ d. scalar_reply self.now.mode d (ByHandle handle) (Get (ByHandle handle) index)) (scalar_answer result) }
-    {
-        match read_head(&self.heap, handle).kind {
-            Kind::Scalar(kind) => self.number_in(handle, kind, index),
-            Kind::Vector(kind) => self.vector_element_in(handle, kind, index),
-            Kind::Text => self.byte_in(handle, index),
-            _ => Err(Refusal::WrongKind),
-        }
-    }
-
-    /// The same of an object of scalars of a kind.
-    fn number_in(
-        &self,
-        handle: Handle,
-        kind: ScalarKind,
-        index: u64,
-    ) -> Result<ScalarValue, Refusal>
-        requires { Answers self.now (λ d. is_object_at d handle) true }
-        ensures { IsReplyOfKind self.now (ByHandle handle) (ScalarOf kind) (Get (ByHandle handle) index) (scalar_answer result) }
-    {
-        match place_of(&self.heap, handle, kind, index) {
-            Err(why) => Err(why),
-            Ok(at) => ScalarValue::read(kind, element(&self.heap, handle, at, kind.size())).ok_or(
-                Refusal::WrongKind,
-            ),
-        }
-    }
-
-    /// The same of a vector of scalars of a kind.
-    fn vector_element_in(
-        &self,
-        handle: Handle,
-        kind: ScalarKind,
-        index: u64,
-    ) -> Result<ScalarValue, Refusal>
-        requires { Answers self.now (λ d. is_object_at d handle) true }
-        ensures { IsReplyOfKind self.now (ByHandle handle) (VectorOf kind) (Get (ByHandle handle) index) (scalar_answer result) }
-    {
-        Ok(match kind {
-            ScalarKind::Bool => ScalarValue::Bool(self.vector_value_in(handle, index)?),
-            ScalarKind::U8 => ScalarValue::U8(self.vector_value_in(handle, index)?),
-            ScalarKind::I32 => ScalarValue::I32(self.vector_value_in(handle, index)?),
-            ScalarKind::I64 => ScalarValue::I64(self.vector_value_in(handle, index)?),
-            ScalarKind::U64 => ScalarValue::U64(self.vector_value_in(handle, index)?),
-        })
-    }
-
-    /// The same of a vector of a type.
-    fn vector_value_in<T: Scalar>(&self, handle: Handle, index: u64) -> Result<T, Refusal>
-        requires { Answers self.now (λ d. is_object_at d handle) true }
-        ensures { IsReplyOfKind self.now (ByHandle handle) (VectorOf T.kind) (Get (ByHandle handle) index) (answer_of (λ x. Element T.kind (T.whole x)) result) }
-    {
-        match container_in(&self.heap, handle, Kind::Vector(T::kind())) {
-            Err(why) => Err(why),
-            Ok(place) => SegVec::<T>::at(place).get(&self.heap, index),
-        }
-    }
-
-    /// The same of a string.
-    fn byte_in(&self, handle: Handle, index: u64) -> Result<ScalarValue, Refusal>
-        requires { Answers self.now (λ d. is_object_at d handle) true }
-        ensures { IsReplyOfKind self.now (ByHandle handle) TextKind (Get (ByHandle handle) index) (scalar_answer result) }
-    {
-        match container_in(&self.heap, handle, Kind::Text) {
-            Err(why) => Err(why),
-            Ok(place) => match (SegString { place }).get(&self.heap, index) {
-                Err(why) => Err(why),
-                Ok(byte) => Ok(ScalarValue::U8(byte)),
+                Kind::Vector(_) => self.set_in_vector(&object, index, value),
+                _ => self.set_value(&object, index, value),
             },
         }
     }
@@ -154,9 +102,15 @@ impl Segment {
     ///
     /// `ReadOnly` where the segment is open for reading, and else `NotFound` where no object has the key, `WrongKind` where it
     /// is of another kind, `OutOfRange` where it has no element there. Nothing changes.
-    fn set_in_vector(&mut self, key: &Key, index: u64, value: ScalarValue) -> Result<(), Refusal>
-        ensures step { IsStepOfKind self.old self.new (key_seen key.now) (VectorOf (kind_of_scalar value))
-            (Set (key_seen key.now) index (literal_of (kind_of_scalar value) (value_of_scalar value))) (done_answer result) }
+    fn set_in_vector<O: Target>(
+        &mut self,
+        key: &O,
+        index: u64,
+        value: ScalarValue,
+    ) -> Result<(), Refusal>
+        requires { O.stands key.now self.old }
+        ensures step { IsStepOfKind self.old self.new (O.key key.now) (VectorOf (kind_of_scalar value))
+            (Set (O.key key.now) index (literal_of (kind_of_scalar value) (value_of_scalar value))) (done_answer result) }
         ensures refused { OnErr result (self.new ≡ self.old) }
     {
         match value {

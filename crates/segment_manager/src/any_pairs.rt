@@ -2,14 +2,14 @@
 ghost use Rattle.std.specs.Prelude.{◌≡◌, OnErr, option_map};
 ghost use Rattle.seg_types.specs.declared.kinds.Kind.TheVariants.{Map as MapOf};
 ghost use Rattle.seg_types.specs.Commands.{Lookup, Put, Remove, literal_of};
-ghost use Rattle.seg_types.specs.Keys.{key_seen};
 ghost use Rattle.seg_types.specs.Values.{kind_of_scalar, value_of_scalar};
 ghost use Rattle.segment_manager.specs.Keeping.{KeepsWhere, LacksPair};
 ghost use Rattle.segment_manager.specs.Maps.{any_value_answer};
 ghost use Rattle.segment_manager.specs.State.{IsReplyOfKind, IsStepOfKind, truth_answer};
 
 use crate::segment::Segment;
-use seg_types::{Key, Refusal, Scalar, ScalarKind, ScalarValue};
+use crate::targets::Target;
+use seg_types::{Refusal, Scalar, ScalarKind, ScalarValue};
 
 impl Segment {
     /// The value of a key of the map of a key, a map with keys of the kind of `at` and values of a kind.
@@ -17,14 +17,15 @@ impl Segment {
     /// # Errors
     ///
     /// `NotFound` where no object has the key, `WrongKind` where it is of another kind.
-    pub fn map_get_any(
+    pub fn map_get_any<O: Target>(
         &self,
-        key: &Key,
+        key: &O,
         at: ScalarValue,
         values: ScalarKind,
     ) -> Result<Option<ScalarValue>, Refusal>
-        ensures { IsReplyOfKind self.now (key_seen key.now) (MapOf (kind_of_scalar at) values)
-            (Lookup (key_seen key.now) (literal_of (kind_of_scalar at) (value_of_scalar at))) (any_value_answer result) }
+        requires { O.stands key.now self.now }
+        ensures { IsReplyOfKind self.now (O.key key.now) (MapOf (kind_of_scalar at) values)
+            (Lookup (O.key key.now) (literal_of (kind_of_scalar at) (value_of_scalar at))) (any_value_answer result) }
     {
         match at {
             ScalarValue::Bool(truth) => self.get_by_key(key, truth, values),
@@ -36,32 +37,33 @@ impl Segment {
     }
 
     /// The same of keys of a type.
-    fn get_by_key<K: Scalar>(
+    fn get_by_key<K: Scalar, O: Target>(
         &self,
-        key: &Key,
+        key: &O,
         at: K,
         values: ScalarKind,
     ) -> Result<Option<ScalarValue>, Refusal>
-        ensures { IsReplyOfKind self.now (key_seen key.now) (MapOf K.kind values) (Lookup (key_seen key.now) (literal_of K.kind (K.whole at))) (any_value_answer result) }
+        requires { O.stands key.now self.now }
+        ensures { IsReplyOfKind self.now (O.key key.now) (MapOf K.kind values) (Lookup (O.key key.now) (literal_of K.kind (K.whole at))) (any_value_answer result) }
     {
         match values {
-            ScalarKind::Bool => match self.map_get::<K, bool>(key, at)? {
+            ScalarKind::Bool => match self.map_get::<K, bool, O>(key, at)? {
                 None => Ok(None),
                 Some(truth) => Ok(Some(ScalarValue::Bool(truth))),
             },
-            ScalarKind::U8 => match self.map_get::<K, u8>(key, at)? {
+            ScalarKind::U8 => match self.map_get::<K, u8, O>(key, at)? {
                 None => Ok(None),
                 Some(number) => Ok(Some(ScalarValue::U8(number))),
             },
-            ScalarKind::I32 => match self.map_get::<K, i32>(key, at)? {
+            ScalarKind::I32 => match self.map_get::<K, i32, O>(key, at)? {
                 None => Ok(None),
                 Some(number) => Ok(Some(ScalarValue::I32(number))),
             },
-            ScalarKind::I64 => match self.map_get::<K, i64>(key, at)? {
+            ScalarKind::I64 => match self.map_get::<K, i64, O>(key, at)? {
                 None => Ok(None),
                 Some(number) => Ok(Some(ScalarValue::I64(number))),
             },
-            ScalarKind::U64 => match self.map_get::<K, u64>(key, at)? {
+            ScalarKind::U64 => match self.map_get::<K, u64, O>(key, at)? {
                 None => Ok(None),
                 Some(number) => Ok(Some(ScalarValue::U64(number))),
             },
@@ -74,14 +76,15 @@ impl Segment {
     ///
     /// `ReadOnly` where the segment is open for reading, and else `NotFound` where no object has the key, `WrongKind` where it
     /// is of another kind, `NoSpace` where the key is new and no gap is long enough for its block. Nothing changes.
-    pub fn map_put_any(
+    pub fn map_put_any<O: Target>(
         &mut self,
-        key: &Key,
+        key: &O,
         at: ScalarValue,
         value: ScalarValue,
     ) -> Result<bool, Refusal>
-        ensures step { IsStepOfKind self.old self.new (key_seen key.now) (MapOf (kind_of_scalar at) (kind_of_scalar value))
-            (Put (key_seen key.now) (literal_of (kind_of_scalar at) (value_of_scalar at)) (literal_of (kind_of_scalar value) (value_of_scalar value))) (truth_answer result) }
+        requires { O.stands key.now self.old }
+        ensures step { IsStepOfKind self.old self.new (O.key key.now) (MapOf (kind_of_scalar at) (kind_of_scalar value))
+            (Put (O.key key.now) (literal_of (kind_of_scalar at) (value_of_scalar at)) (literal_of (kind_of_scalar value) (value_of_scalar value))) (truth_answer result) }
         ensures refused { OnErr result (self.new ≡ self.old) }
     {
         match at {
@@ -94,14 +97,15 @@ impl Segment {
     }
 
     /// The same of a key of a type.
-    fn put_by_key<K: Scalar>(
+    fn put_by_key<K: Scalar, O: Target>(
         &mut self,
-        key: &Key,
+        key: &O,
         at: K,
         value: ScalarValue,
     ) -> Result<bool, Refusal>
-        ensures step { IsStepOfKind self.old self.new (key_seen key.now) (MapOf K.kind (kind_of_scalar value))
-            (Put (key_seen key.now) (literal_of K.kind (K.whole at)) (literal_of (kind_of_scalar value) (value_of_scalar value))) (truth_answer result) }
+        requires { O.stands key.now self.old }
+        ensures step { IsStepOfKind self.old self.new (O.key key.now) (MapOf K.kind (kind_of_scalar value))
+            (Put (O.key key.now) (literal_of K.kind (K.whole at)) (literal_of (kind_of_scalar value) (value_of_scalar value))) (truth_answer result) }
         ensures refused { OnErr result (self.new ≡ self.old) }
     {
         match value {
@@ -119,16 +123,17 @@ impl Segment {
     ///
     /// `ReadOnly` where the segment is open for reading, and else `NotFound` where no object has the key, `WrongKind` where it
     /// is of another kind. Nothing changes.
-    pub fn map_erase_any(
+    pub fn map_erase_any<O: Target>(
         &mut self,
-        key: &Key,
+        key: &O,
         at: ScalarValue,
         values: ScalarKind,
     ) -> Result<bool, Refusal>
-        ensures step { IsStepOfKind self.old self.new (key_seen key.now) (MapOf (kind_of_scalar at) values)
-            (Remove (key_seen key.now) (literal_of (kind_of_scalar at) (value_of_scalar at))) (truth_answer result) }
+        requires { O.stands key.now self.old }
+        ensures step { IsStepOfKind self.old self.new (O.key key.now) (MapOf (kind_of_scalar at) values)
+            (Remove (O.key key.now) (literal_of (kind_of_scalar at) (value_of_scalar at))) (truth_answer result) }
         ensures refused { OnErr result (self.new ≡ self.old) }
-        ensures absent { KeepsWhere self.old self.new (LacksPair (key_seen key.now) (value_of_scalar at)) }
+        ensures absent { KeepsWhere self.old self.new (LacksPair (O.key key.now) (value_of_scalar at)) }
     {
         match at {
             ScalarValue::Bool(truth) => self.erase_by_key(key, truth, values),
@@ -140,23 +145,24 @@ impl Segment {
     }
 
     /// The same of a key of a type.
-    fn erase_by_key<K: Scalar>(
+    fn erase_by_key<K: Scalar, O: Target>(
         &mut self,
-        key: &Key,
+        key: &O,
         at: K,
         values: ScalarKind,
     ) -> Result<bool, Refusal>
-        ensures step { IsStepOfKind self.old self.new (key_seen key.now) (MapOf K.kind values)
-            (Remove (key_seen key.now) (literal_of K.kind (K.whole at))) (truth_answer result) }
+        requires { O.stands key.now self.old }
+        ensures step { IsStepOfKind self.old self.new (O.key key.now) (MapOf K.kind values)
+            (Remove (O.key key.now) (literal_of K.kind (K.whole at))) (truth_answer result) }
         ensures refused { OnErr result (self.new ≡ self.old) }
-        ensures absent { KeepsWhere self.old self.new (LacksPair (key_seen key.now) (K.whole at)) }
+        ensures absent { KeepsWhere self.old self.new (LacksPair (O.key key.now) (K.whole at)) }
     {
         match values {
-            ScalarKind::Bool => self.map_erase::<K, bool>(key, at),
-            ScalarKind::U8 => self.map_erase::<K, u8>(key, at),
-            ScalarKind::I32 => self.map_erase::<K, i32>(key, at),
-            ScalarKind::I64 => self.map_erase::<K, i64>(key, at),
-            ScalarKind::U64 => self.map_erase::<K, u64>(key, at),
+            ScalarKind::Bool => self.map_erase::<K, bool, O>(key, at),
+            ScalarKind::U8 => self.map_erase::<K, u8, O>(key, at),
+            ScalarKind::I32 => self.map_erase::<K, i32, O>(key, at),
+            ScalarKind::I64 => self.map_erase::<K, i64, O>(key, at),
+            ScalarKind::U64 => self.map_erase::<K, u64, O>(key, at),
         }
     }
 }

@@ -1,6 +1,5 @@
 //! The containers of objects: where each stands in its object's block.
 ghost use Rattle.std.specs.Prelude.{◌≡◌};
-ghost use Rattle.seg_types.specs.Keys.{key_seen};
 ghost use Rattle.segment_manager.specs.Contents.{container_at, place_of_kind};
 ghost use Rattle.segment_manager.specs.Directory.{Object};
 ghost use Rattle.segment_manager.specs.Standing.{HasObject, StandsAt};
@@ -9,8 +8,9 @@ ghost use Rattle.segment_manager.specs.State.{Answers};
 use crate::head::read_head;
 use crate::layout::value_at;
 use crate::segment::Segment;
+use crate::targets::Target;
 use best_fit::Heap;
-use seg_types::{Key, Kind, Refusal};
+use seg_types::{Kind, Refusal};
 use seg_vector::Place;
 
 impl Segment {
@@ -19,10 +19,11 @@ impl Segment {
     /// # Errors
     ///
     /// `NotFound` where no object has the key, `WrongKind` where it is of another kind.
-    pub(crate) fn find_container(&self, key: &Key, kind: Kind) -> Result<Place, Refusal>
-        ensures { Answers self.now (λ d. container_at d (key_seen key.now) kind) result }
+    pub(crate) fn find_container<O: Target>(&self, key: &O, kind: Kind) -> Result<Place, Refusal>
+        requires { O.stands key.now self.now }
+        ensures { Answers self.now (λ d. container_at d (O.key key.now) kind) result }
     {
-        match self.handle_of(key) {
+        match key.handle_in(self) {
             None => Err(Refusal::NotFound),
             Some(handle) => container_in(&self.heap, handle, kind),
         }

@@ -3,7 +3,7 @@ ghost use Rattle.std.specs.Prelude.{◌≡◌, Ok, Err, MatchResult, option_map}
 ghost use Rattle.raw_region.specs.Format.{current};
 ghost use Rattle.best_fit.specs.Heap.{IsHeap};
 ghost use Rattle.seg_types.specs.Keys.{key_seen};
-ghost use Rattle.segment_manager.specs.Calls.{elements_at, elements_of, kind_at, told_at};
+ghost use Rattle.segment_manager.specs.Calls.{kind_at, told_at};
 ghost use Rattle.segment_manager.specs.Directory.{Object, count_of};
 ghost use Rattle.segment_manager.specs.Instances.{own_name};
 ghost use Rattle.segment_manager.specs.Standing.{HasObject, StandsAt};
@@ -12,7 +12,7 @@ ghost use Rattle.segment_manager.specs.State.{Answers};
 use crate::head::{read_head, read_name};
 use crate::segment::Segment;
 use best_fit::Heap;
-use seg_types::{Class, Handle, Key, Kind, Refusal, ScalarKind};
+use seg_types::{Class, Handle, Key, Kind, Refusal};
 
 impl Segment {
     /// The kind of the object of a key.
@@ -26,20 +26,6 @@ impl Segment {
         match self.handle_of(key) {
             None => Err(Refusal::NotFound),
             Some(handle) => Ok(read_head(&self.heap, handle).kind),
-        }
-    }
-
-    /// The kind of the elements of the object of a key: of scalars, of a vector of scalars, or of a string, which has bytes.
-    ///
-    /// # Errors
-    ///
-    /// `NotFound` where no object has the key, `WrongKind` where the object is a map or a vector of strings.
-    pub fn element_kind(&self, key: &Key) -> Result<ScalarKind, Refusal>
-        ensures { Answers self.now (λ d. elements_at d (key_seen key.now)) result }
-    {
-        match self.kind_of(key) {
-            Err(why) => Err(why),
-            Ok(kind) => kind_of_elements(kind),
         }
     }
 
@@ -96,16 +82,5 @@ fn name_at(heap: &Heap, handle: Handle) -> Option<&[u8]>
     match read_head(heap, handle).class {
         Class::Named => Some(read_name(heap, handle)),
         Class::Anonymous | Class::Unique => None,
-    }
-}
-
-/// The kind of the elements of objects of a kind.
-fn kind_of_elements(kind: Kind) -> Result<ScalarKind, Refusal>
-    ensures { result ≡ elements_of kind }
-{
-    match kind {
-        Kind::Scalar(element) | Kind::Vector(element) => Ok(element),
-        Kind::Text => Ok(ScalarKind::U8),
-        Kind::Map(_, _) | Kind::Texts => Err(Refusal::WrongKind),
     }
 }

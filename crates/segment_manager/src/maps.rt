@@ -1,20 +1,17 @@
 //! The pairs of objects that are maps, read and changed.
-ghost use Rattle.std.specs.Prelude.{◌≡◌, IsTrue, OnErr, true};
+ghost use Rattle.std.specs.Prelude.{◌≡◌, OnErr};
 ghost use Rattle.seg_types.specs.declared.kinds.Kind.TheVariants.{Map as MapOf};
 ghost use Rattle.seg_types.specs.Commands.{Lookup, Put, Remove, literal_of};
-ghost use Rattle.seg_types.specs.Keys.{key_seen};
-ghost use Rattle.seg_types.specs.Names.{ByHandle};
-ghost use Rattle.segment_manager.specs.Found.{is_object_at};
 ghost use Rattle.segment_manager.specs.Keeping.{KeepsWhere, LacksPair};
 ghost use Rattle.segment_manager.specs.Maps.{map_at, pair_above, pair_from, pair_result, told_of_map, value_answer};
 ghost use Rattle.segment_manager.specs.State.{Answers, IsReplyOfKind, IsStepOfKind, truth_answer};
 
-use crate::containers::container_in;
 use crate::segment::Segment;
+use crate::targets::Target;
 use crate::vectors::judge;
 use raw_region::Steps;
 use seg_map::{Place as MapPlace, SegMap};
-use seg_types::{Handle, Key, Kind, Refusal, Scalar};
+use seg_types::{Kind, Refusal, Scalar};
 use seg_vector::Place;
 
 impl Segment {
@@ -23,11 +20,16 @@ impl Segment {
     /// # Errors
     ///
     /// `NotFound` where no object has the key, `WrongKind` where it is of another kind.
-    pub fn map_get<K: Scalar, V: Scalar>(&self, key: &Key, at: K) -> Result<Option<V>, Refusal>
-        ensures { IsReplyOfKind self.now (key_seen key.now) (MapOf K.kind V.kind) (Lookup (key_seen key.now) (literal_of K.kind (K.whole at))) (value_answer V.kind V.whole result) }
+    pub fn map_get<K: Scalar, V: Scalar, O: Target>(
+        &self,
+        key: &O,
+        at: K,
+    ) -> Result<Option<V>, Refusal>
+        requires { O.stands key.now self.now }
+        ensures { IsReplyOfKind self.now (O.key key.now) (MapOf K.kind V.kind) (Lookup (O.key key.now) (literal_of K.kind (K.whole at))) (value_answer V.kind V.whole result) }
     {
         judge(at);
-        match self.find_map::<K, V>(key) {
+        match self.find_map::<K, V, O>(key) {
             Err(why) => Err(why),
             Ok(place) => Ok(SegMap::<K, V>::at(place).get(&self.heap, at, &mut Steps::new())),
         }
@@ -38,14 +40,15 @@ impl Segment {
     /// # Errors
     ///
     /// `NotFound` where no object has the key, `WrongKind` where it is of another kind.
-    pub fn map_first_from<K: Scalar, V: Scalar>(
+    pub fn map_first_from<K: Scalar, V: Scalar, O: Target>(
         &self,
-        key: &Key,
+        key: &O,
         from: K,
     ) -> Result<Option<(K, V)>, Refusal>
-        ensures { Answers self.now (λ d. told_of_map d (key_seen key.now) K.kind V.kind (pair_from (K.whole from))) (pair_result K.whole V.whole result) }
+        requires { O.stands key.now self.now }
+        ensures { Answers self.now (λ d. told_of_map d (O.key key.now) K.kind V.kind (pair_from (K.whole from))) (pair_result K.whole V.whole result) }
     {
-        match self.find_map::<K, V>(key) {
+        match self.find_map::<K, V, O>(key) {
             Err(why) => Err(why),
             Ok(place) => Ok(SegMap::<K, V>::at(place).first_from(
                 &self.heap,
@@ -60,14 +63,15 @@ impl Segment {
     /// # Errors
     ///
     /// `NotFound` where no object has the key, `WrongKind` where it is of another kind.
-    pub fn map_next_after<K: Scalar, V: Scalar>(
+    pub fn map_next_after<K: Scalar, V: Scalar, O: Target>(
         &self,
-        key: &Key,
+        key: &O,
         after: K,
     ) -> Result<Option<(K, V)>, Refusal>
-        ensures { Answers self.now (λ d. told_of_map d (key_seen key.now) K.kind V.kind (pair_above (K.whole after))) (pair_result K.whole V.whole result) }
+        requires { O.stands key.now self.now }
+        ensures { Answers self.now (λ d. told_of_map d (O.key key.now) K.kind V.kind (pair_above (K.whole after))) (pair_result K.whole V.whole result) }
     {
-        match self.find_map::<K, V>(key) {
+        match self.find_map::<K, V, O>(key) {
             Err(why) => Err(why),
             Ok(place) => Ok(SegMap::<K, V>::at(place).next_after(
                 &self.heap,
@@ -84,14 +88,15 @@ impl Segment {
     ///
     /// `ReadOnly` where the segment is open for reading, and else `NotFound` where no object has the key, `WrongKind` where it
     /// is of another kind, `NoSpace` where the key is new and no gap is long enough for its block. Nothing changes.
-    pub fn map_put<K: Scalar, V: Scalar>(
+    pub fn map_put<K: Scalar, V: Scalar, O: Target>(
         &mut self,
-        key: &Key,
+        key: &O,
         at: K,
         value: V,
     ) -> Result<bool, Refusal>
-        ensures step { IsStepOfKind self.old self.new (key_seen key.now) (MapOf K.kind V.kind)
-            (Put (key_seen key.now) (literal_of K.kind (K.whole at)) (literal_of V.kind (V.whole value))) (truth_answer result) }
+        requires { O.stands key.now self.old }
+        ensures step { IsStepOfKind self.old self.new (O.key key.now) (MapOf K.kind V.kind)
+            (Put (O.key key.now) (literal_of K.kind (K.whole at)) (literal_of V.kind (V.whole value))) (truth_answer result) }
         ensures refused { OnErr result (self.new ≡ self.old) }
     {
         if self.is_read_only() {
@@ -99,7 +104,7 @@ impl Segment {
         }
         judge(at);
         judge(value);
-        match self.find_map::<K, V>(key) {
+        match self.find_map::<K, V, O>(key) {
             Err(why) => Err(why),
             Ok(place) => match SegMap::<K, V>::at(place).put(
                 &mut self.heap,
@@ -120,80 +125,24 @@ impl Segment {
     ///
     /// `ReadOnly` where the segment is open for reading, and else `NotFound` where no object has the key, `WrongKind` where it
     /// is of another kind. Nothing changes.
-    pub fn map_erase<K: Scalar, V: Scalar>(&mut self, key: &Key, at: K) -> Result<bool, Refusal>
-        ensures step { IsStepOfKind self.old self.new (key_seen key.now) (MapOf K.kind V.kind)
-            (Remove (key_seen key.now) (literal_of K.kind (K.whole at))) (truth_answer result) }
+    pub fn map_erase<K: Scalar, V: Scalar, O: Target>(
+        &mut self,
+        key: &O,
+        at: K,
+    ) -> Result<bool, Refusal>
+        requires { O.stands key.now self.old }
+        ensures step { IsStepOfKind self.old self.new (O.key key.now) (MapOf K.kind V.kind)
+            (Remove (O.key key.now) (literal_of K.kind (K.whole at))) (truth_answer result) }
         ensures refused { OnErr result (self.new ≡ self.old) }
-        ensures absent { KeepsWhere self.old self.new (LacksPair (key_seen key.now) (K.whole at)) }
+        ensures absent { KeepsWhere self.old self.new (LacksPair (O.key key.now) (K.whole at)) }
     {
         if self.is_read_only() {
             return Err(Refusal::ReadOnly);
         }
         judge(at);
-        match self.find_map::<K, V>(key) {
+        match self.find_map::<K, V, O>(key) {
             Err(why) => Err(why),
             Ok(place) => Ok(SegMap::<K, V>::at(place).erase(&mut self.heap, at, &mut Steps::new())),
-        }
-    }
-
-    /// The pair with the least key that is not below `from`, of the map at a handle, a map of the types. There is an object at the
-    /// handle: it is not looked for among the blocks.
-    ///
-    /// # Errors
-    ///
-    /// `WrongKind` where it is of another kind.
-    pub fn map_first_at<K: Scalar, V: Scalar>(
-        &self,
-        handle: Handle,
-        from: K,
-    ) -> Result<Option<(K, V)>, Refusal>
-        requires { Answers self.now (λ d. is_object_at d handle) true }
-        ensures { Answers self.now (λ d. told_of_map d (ByHandle handle) K.kind V.kind (pair_from (K.whole from))) (pair_result K.whole V.whole result) }
-    {
-        match self.map_in::<K, V>(handle) {
-            Err(why) => Err(why),
-            Ok(place) => {
-                let map = SegMap::<K, V>::at(place);
-                Ok(map.first_from(&self.heap, from, &mut Steps::new()))
-            }
-        }
-    }
-
-    /// The pair with the least key above `after`, of the map at a handle, a map of the types. There is an object at the handle: it
-    /// is not looked for among the blocks. So all pairs are read in rising order, each in a walk from the root of the tree.
-    ///
-    /// # Errors
-    ///
-    /// `WrongKind` where it is of another kind.
-    pub fn map_next_at<K: Scalar, V: Scalar>(
-        &self,
-        handle: Handle,
-        after: K,
-    ) -> Result<Option<(K, V)>, Refusal>
-        requires { Answers self.now (λ d. is_object_at d handle) true }
-        ensures { Answers self.now (λ d. told_of_map d (ByHandle handle) K.kind V.kind (pair_above (K.whole after))) (pair_result K.whole V.whole result) }
-    {
-        match self.map_in::<K, V>(handle) {
-            Err(why) => Err(why),
-            Ok(place) => {
-                let map = SegMap::<K, V>::at(place);
-                Ok(map.next_after(&self.heap, after, &mut Steps::new()))
-            }
-        }
-    }
-
-    /// Where the map at a handle stands, a map of the types. There is an object at the handle.
-    ///
-    /// # Errors
-    ///
-    /// `WrongKind` where it is of another kind.
-    fn map_in<K: Scalar, V: Scalar>(&self, handle: Handle) -> Result<MapPlace, Refusal>
-        requires { Answers self.now (λ d. is_object_at d handle) true }
-        ensures { Answers self.now (λ d. map_at d (ByHandle handle) K.kind V.kind) result }
-    {
-        match container_in(&self.heap, handle, Kind::Map(K::kind(), V::kind())) {
-            Err(why) => Err(why),
-            Ok(place) => Ok(map_place(place)),
         }
     }
 
@@ -202,8 +151,9 @@ impl Segment {
     /// # Errors
     ///
     /// `NotFound` where no object has the key, `WrongKind` where it is of another kind.
-    fn find_map<K: Scalar, V: Scalar>(&self, key: &Key) -> Result<MapPlace, Refusal>
-        ensures { Answers self.now (λ d. map_at d (key_seen key.now) K.kind V.kind) result }
+    fn find_map<K: Scalar, V: Scalar, O: Target>(&self, key: &O) -> Result<MapPlace, Refusal>
+        requires { O.stands key.now self.now }
+        ensures { Answers self.now (λ d. map_at d (O.key key.now) K.kind V.kind) result }
     {
         match self.find_container(key, Kind::Map(K::kind(), V::kind())) {
             Err(why) => Err(why),

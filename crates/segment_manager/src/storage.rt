@@ -2,14 +2,14 @@
 ghost use Rattle.std.specs.Prelude.{◌≡◌, OnErr, false};
 ghost use Rattle.seg_types.specs.declared.kinds.Kind.TheVariants.{Map as MapOf, Text as TextKind, Texts as TextsKind, Vector as VectorOf};
 ghost use Rattle.seg_types.specs.Commands.{Clear, Reserve, Shrink};
-ghost use Rattle.seg_types.specs.Keys.{key_seen};
 ghost use Rattle.segment_manager.specs.Contents.{sizes_at, sizes_at_kind};
 ghost use Rattle.segment_manager.specs.Keeping.{HasPlaces, KeepsWhere};
 ghost use Rattle.segment_manager.specs.State.{Answers, IsStep, IsStepOfKind, done_answer};
 ghost use Rattle.segment_manager.specs.Step.{is_read_only};
 
 use crate::segment::Segment;
-use seg_types::{Key, Kind, Refusal, Scalar, ScalarKind};
+use crate::targets::Target;
+use seg_types::{Kind, Refusal, Scalar, ScalarKind};
 use seg_vector::{SegString, SegTexts, SegVec};
 
 /// Where the number of pairs stands in a map of any kinds.
@@ -21,37 +21,40 @@ impl Segment {
     /// # Errors
     ///
     /// `NotFound` where no object has the key, `WrongKind` where it is no container.
-    pub fn measure(&self, key: &Key) -> Result<(u64, u64), Refusal>
-        ensures { Answers self.now (λ d. sizes_at d (key_seen key.now)) result }
+    pub fn measure<O: Target>(&self, key: &O) -> Result<(u64, u64), Refusal>
+        requires { O.stands key.now self.now }
+        ensures { Answers self.now (λ d. sizes_at d (O.key key.now)) result }
     {
-        match self.kind_of(key) {
+        match self.locate(key) {
             Err(why) => Err(why),
-            Ok(kind) => match kind {
-                Kind::Text => self.measure_text(key),
-                Kind::Texts => self.measure_texts(key),
-                Kind::Vector(element) => self.measure_elements(key, element),
-                Kind::Map(keys, values) => self.measure_pairs(key, keys, values),
+            Ok(object) => match object.kind {
+                Kind::Text => self.measure_text(&object),
+                Kind::Texts => self.measure_texts(&object),
+                Kind::Vector(element) => self.measure_elements(&object, element),
+                Kind::Map(keys, values) => self.measure_pairs(&object, keys, values),
                 _ => Err(Refusal::WrongKind),
             },
         }
     }
 
     /// The same of a vector of scalars of a kind.
-    fn measure_elements(&self, key: &Key, kind: ScalarKind) -> Result<(u64, u64), Refusal>
-        ensures { Answers self.now (λ d. sizes_at_kind d (key_seen key.now) (VectorOf kind)) result }
+    fn measure_elements<O: Target>(&self, key: &O, kind: ScalarKind) -> Result<(u64, u64), Refusal>
+        requires { O.stands key.now self.now }
+        ensures { Answers self.now (λ d. sizes_at_kind d (O.key key.now) (VectorOf kind)) result }
     {
         match kind {
-            ScalarKind::Bool => self.measure_vector::<bool>(key),
-            ScalarKind::U8 => self.measure_vector::<u8>(key),
-            ScalarKind::I32 => self.measure_vector::<i32>(key),
-            ScalarKind::I64 => self.measure_vector::<i64>(key),
-            ScalarKind::U64 => self.measure_vector::<u64>(key),
+            ScalarKind::Bool => self.measure_vector::<bool, O>(key),
+            ScalarKind::U8 => self.measure_vector::<u8, O>(key),
+            ScalarKind::I32 => self.measure_vector::<i32, O>(key),
+            ScalarKind::I64 => self.measure_vector::<i64, O>(key),
+            ScalarKind::U64 => self.measure_vector::<u64, O>(key),
         }
     }
 
     /// The same of a vector of a type.
-    fn measure_vector<T: Scalar>(&self, key: &Key) -> Result<(u64, u64), Refusal>
-        ensures { Answers self.now (λ d. sizes_at_kind d (key_seen key.now) (VectorOf T.kind)) result }
+    fn measure_vector<T: Scalar, O: Target>(&self, key: &O) -> Result<(u64, u64), Refusal>
+        requires { O.stands key.now self.now }
+        ensures { Answers self.now (λ d. sizes_at_kind d (O.key key.now) (VectorOf T.kind)) result }
     {
         match self.find_container(key, Kind::Vector(T::kind())) {
             Err(why) => Err(why),
@@ -63,8 +66,9 @@ impl Segment {
     }
 
     /// The same of a string.
-    fn measure_text(&self, key: &Key) -> Result<(u64, u64), Refusal>
-        ensures { Answers self.now (λ d. sizes_at_kind d (key_seen key.now) TextKind) result }
+    fn measure_text<O: Target>(&self, key: &O) -> Result<(u64, u64), Refusal>
+        requires { O.stands key.now self.now }
+        ensures { Answers self.now (λ d. sizes_at_kind d (O.key key.now) TextKind) result }
     {
         match self.find_container(key, Kind::Text) {
             Err(why) => Err(why),
@@ -76,8 +80,9 @@ impl Segment {
     }
 
     /// The same of a vector of strings.
-    fn measure_texts(&self, key: &Key) -> Result<(u64, u64), Refusal>
-        ensures { Answers self.now (λ d. sizes_at_kind d (key_seen key.now) TextsKind) result }
+    fn measure_texts<O: Target>(&self, key: &O) -> Result<(u64, u64), Refusal>
+        requires { O.stands key.now self.now }
+        ensures { Answers self.now (λ d. sizes_at_kind d (O.key key.now) TextsKind) result }
     {
         match self.find_container(key, Kind::Texts) {
             Err(why) => Err(why),
@@ -89,13 +94,14 @@ impl Segment {
     }
 
     /// The same of a map of two kinds.
-    fn measure_pairs(
+    fn measure_pairs<O: Target>(
         &self,
-        key: &Key,
+        key: &O,
         keys: ScalarKind,
         values: ScalarKind,
     ) -> Result<(u64, u64), Refusal>
-        ensures { Answers self.now (λ d. sizes_at_kind d (key_seen key.now) (MapOf keys values)) result }
+        requires { O.stands key.now self.now }
+        ensures { Answers self.now (λ d. sizes_at_kind d (O.key key.now) (MapOf keys values)) result }
     {
         match self.find_container(key, Kind::Map(keys, values)) {
             Err(why) => Err(why),
@@ -109,47 +115,55 @@ impl Segment {
     ///
     /// `ReadOnly` where the segment is open for reading, and else `NotFound` where no object has the key, `WrongKind` where it
     /// has no storage, `NoSpace` where its storage cannot be regrown. Nothing changes.
-    pub fn reserve(&mut self, key: &Key, n: u64) -> Result<(), Refusal>
-        ensures step { IsStep self.old self.new (Reserve (key_seen key.now) n) (done_answer result) }
+    pub fn reserve<O: Target>(&mut self, key: &O, n: u64) -> Result<(), Refusal>
+        requires { O.stands key.now self.old }
+        ensures step { IsStep self.old self.new (Reserve (O.key key.now) n) (done_answer result) }
         ensures refused { OnErr result (self.new ≡ self.old) }
-        ensures enough { KeepsWhere self.old self.new (HasPlaces (key_seen key.now) n) }
+        ensures enough { KeepsWhere self.old self.new (HasPlaces (O.key key.now) n) }
     {
         if self.is_read_only() {
             return Err(Refusal::ReadOnly);
         }
-        match self.kind_of(key) {
+        match self.locate(key) {
             Err(why) => Err(why),
-            Ok(kind) => match kind {
-                Kind::Text => self.reserve_text(key, n),
-                Kind::Texts => self.reserve_texts(key, n),
-                Kind::Vector(element) => self.reserve_elements(key, element, n),
+            Ok(object) => match object.kind {
+                Kind::Text => self.reserve_text(&object, n),
+                Kind::Texts => self.reserve_texts(&object, n),
+                Kind::Vector(element) => self.reserve_elements(&object, element, n),
                 _ => Err(Refusal::WrongKind),
             },
         }
     }
 
     /// The same of a vector of scalars of a kind, in a segment that may be changed.
-    fn reserve_elements(&mut self, key: &Key, kind: ScalarKind, n: u64) -> Result<(), Refusal>
-        requires { is_read_only self.old.mode ≡ false }
-        ensures step { IsStepOfKind self.old self.new (key_seen key.now) (VectorOf kind) (Reserve (key_seen key.now) n) (done_answer result) }
+    fn reserve_elements<O: Target>(
+        &mut self,
+        key: &O,
+        kind: ScalarKind,
+        n: u64,
+    ) -> Result<(), Refusal>
+        requires target { O.stands key.now self.old }
+        requires writing { is_read_only self.old.mode ≡ false }
+        ensures step { IsStepOfKind self.old self.new (O.key key.now) (VectorOf kind) (Reserve (O.key key.now) n) (done_answer result) }
         ensures refused { OnErr result (self.new ≡ self.old) }
-        ensures enough { KeepsWhere self.old self.new (HasPlaces (key_seen key.now) n) }
+        ensures enough { KeepsWhere self.old self.new (HasPlaces (O.key key.now) n) }
     {
         match kind {
-            ScalarKind::Bool => self.reserve_vector::<bool>(key, n),
-            ScalarKind::U8 => self.reserve_vector::<u8>(key, n),
-            ScalarKind::I32 => self.reserve_vector::<i32>(key, n),
-            ScalarKind::I64 => self.reserve_vector::<i64>(key, n),
-            ScalarKind::U64 => self.reserve_vector::<u64>(key, n),
+            ScalarKind::Bool => self.reserve_vector::<bool, O>(key, n),
+            ScalarKind::U8 => self.reserve_vector::<u8, O>(key, n),
+            ScalarKind::I32 => self.reserve_vector::<i32, O>(key, n),
+            ScalarKind::I64 => self.reserve_vector::<i64, O>(key, n),
+            ScalarKind::U64 => self.reserve_vector::<u64, O>(key, n),
         }
     }
 
     /// The same of a vector of a type.
-    fn reserve_vector<T: Scalar>(&mut self, key: &Key, n: u64) -> Result<(), Refusal>
-        requires { is_read_only self.old.mode ≡ false }
-        ensures step { IsStepOfKind self.old self.new (key_seen key.now) (VectorOf T.kind) (Reserve (key_seen key.now) n) (done_answer result) }
+    fn reserve_vector<T: Scalar, O: Target>(&mut self, key: &O, n: u64) -> Result<(), Refusal>
+        requires target { O.stands key.now self.old }
+        requires writing { is_read_only self.old.mode ≡ false }
+        ensures step { IsStepOfKind self.old self.new (O.key key.now) (VectorOf T.kind) (Reserve (O.key key.now) n) (done_answer result) }
         ensures refused { OnErr result (self.new ≡ self.old) }
-        ensures enough { KeepsWhere self.old self.new (HasPlaces (key_seen key.now) n) }
+        ensures enough { KeepsWhere self.old self.new (HasPlaces (O.key key.now) n) }
     {
         match self.find_container(key, Kind::Vector(T::kind())) {
             Err(why) => Err(why),
@@ -158,11 +172,12 @@ impl Segment {
     }
 
     /// The same of a string.
-    fn reserve_text(&mut self, key: &Key, n: u64) -> Result<(), Refusal>
-        requires { is_read_only self.old.mode ≡ false }
-        ensures step { IsStepOfKind self.old self.new (key_seen key.now) TextKind (Reserve (key_seen key.now) n) (done_answer result) }
+    fn reserve_text<O: Target>(&mut self, key: &O, n: u64) -> Result<(), Refusal>
+        requires target { O.stands key.now self.old }
+        requires writing { is_read_only self.old.mode ≡ false }
+        ensures step { IsStepOfKind self.old self.new (O.key key.now) TextKind (Reserve (O.key key.now) n) (done_answer result) }
         ensures refused { OnErr result (self.new ≡ self.old) }
-        ensures enough { KeepsWhere self.old self.new (HasPlaces (key_seen key.now) n) }
+        ensures enough { KeepsWhere self.old self.new (HasPlaces (O.key key.now) n) }
     {
         match self.find_container(key, Kind::Text) {
             Err(why) => Err(why),
@@ -171,11 +186,12 @@ impl Segment {
     }
 
     /// The same of a vector of strings.
-    fn reserve_texts(&mut self, key: &Key, n: u64) -> Result<(), Refusal>
-        requires { is_read_only self.old.mode ≡ false }
-        ensures step { IsStepOfKind self.old self.new (key_seen key.now) TextsKind (Reserve (key_seen key.now) n) (done_answer result) }
+    fn reserve_texts<O: Target>(&mut self, key: &O, n: u64) -> Result<(), Refusal>
+        requires target { O.stands key.now self.old }
+        requires writing { is_read_only self.old.mode ≡ false }
+        ensures step { IsStepOfKind self.old self.new (O.key key.now) TextsKind (Reserve (O.key key.now) n) (done_answer result) }
         ensures refused { OnErr result (self.new ≡ self.old) }
-        ensures enough { KeepsWhere self.old self.new (HasPlaces (key_seen key.now) n) }
+        ensures enough { KeepsWhere self.old self.new (HasPlaces (O.key key.now) n) }
     {
         match self.find_container(key, Kind::Texts) {
             Err(why) => Err(why),
@@ -189,43 +205,46 @@ impl Segment {
     ///
     /// `ReadOnly` where the segment is open for reading, and else `NotFound` where no object has the key, `WrongKind` where it
     /// has no storage. Nothing changes.
-    pub fn shrink(&mut self, key: &Key) -> Result<(), Refusal>
-        ensures step { IsStep self.old self.new (Shrink (key_seen key.now)) (done_answer result) }
+    pub fn shrink<O: Target>(&mut self, key: &O) -> Result<(), Refusal>
+        requires { O.stands key.now self.old }
+        ensures step { IsStep self.old self.new (Shrink (O.key key.now)) (done_answer result) }
         ensures refused { OnErr result (self.new ≡ self.old) }
     {
         if self.is_read_only() {
             return Err(Refusal::ReadOnly);
         }
-        match self.kind_of(key) {
+        match self.locate(key) {
             Err(why) => Err(why),
-            Ok(kind) => match kind {
-                Kind::Text => self.shrink_text(key),
-                Kind::Texts => self.shrink_texts(key),
-                Kind::Vector(element) => self.shrink_elements(key, element),
+            Ok(object) => match object.kind {
+                Kind::Text => self.shrink_text(&object),
+                Kind::Texts => self.shrink_texts(&object),
+                Kind::Vector(element) => self.shrink_elements(&object, element),
                 _ => Err(Refusal::WrongKind),
             },
         }
     }
 
     /// The same of a vector of scalars of a kind, in a segment that may be changed.
-    fn shrink_elements(&mut self, key: &Key, kind: ScalarKind) -> Result<(), Refusal>
-        requires { is_read_only self.old.mode ≡ false }
-        ensures step { IsStepOfKind self.old self.new (key_seen key.now) (VectorOf kind) (Shrink (key_seen key.now)) (done_answer result) }
+    fn shrink_elements<O: Target>(&mut self, key: &O, kind: ScalarKind) -> Result<(), Refusal>
+        requires target { O.stands key.now self.old }
+        requires writing { is_read_only self.old.mode ≡ false }
+        ensures step { IsStepOfKind self.old self.new (O.key key.now) (VectorOf kind) (Shrink (O.key key.now)) (done_answer result) }
         ensures refused { OnErr result (self.new ≡ self.old) }
     {
         match kind {
-            ScalarKind::Bool => self.shrink_vector::<bool>(key),
-            ScalarKind::U8 => self.shrink_vector::<u8>(key),
-            ScalarKind::I32 => self.shrink_vector::<i32>(key),
-            ScalarKind::I64 => self.shrink_vector::<i64>(key),
-            ScalarKind::U64 => self.shrink_vector::<u64>(key),
+            ScalarKind::Bool => self.shrink_vector::<bool, O>(key),
+            ScalarKind::U8 => self.shrink_vector::<u8, O>(key),
+            ScalarKind::I32 => self.shrink_vector::<i32, O>(key),
+            ScalarKind::I64 => self.shrink_vector::<i64, O>(key),
+            ScalarKind::U64 => self.shrink_vector::<u64, O>(key),
         }
     }
 
     /// The same of a vector of a type.
-    fn shrink_vector<T: Scalar>(&mut self, key: &Key) -> Result<(), Refusal>
-        requires { is_read_only self.old.mode ≡ false }
-        ensures step { IsStepOfKind self.old self.new (key_seen key.now) (VectorOf T.kind) (Shrink (key_seen key.now)) (done_answer result) }
+    fn shrink_vector<T: Scalar, O: Target>(&mut self, key: &O) -> Result<(), Refusal>
+        requires target { O.stands key.now self.old }
+        requires writing { is_read_only self.old.mode ≡ false }
+        ensures step { IsStepOfKind self.old self.new (O.key key.now) (VectorOf T.kind) (Shrink (O.key key.now)) (done_answer result) }
         ensures refused { OnErr result (self.new ≡ self.old) }
     {
         match self.find_container(key, Kind::Vector(T::kind())) {
@@ -238,9 +257,10 @@ impl Segment {
     }
 
     /// The same of a string.
-    fn shrink_text(&mut self, key: &Key) -> Result<(), Refusal>
-        requires { is_read_only self.old.mode ≡ false }
-        ensures step { IsStepOfKind self.old self.new (key_seen key.now) TextKind (Shrink (key_seen key.now)) (done_answer result) }
+    fn shrink_text<O: Target>(&mut self, key: &O) -> Result<(), Refusal>
+        requires target { O.stands key.now self.old }
+        requires writing { is_read_only self.old.mode ≡ false }
+        ensures step { IsStepOfKind self.old self.new (O.key key.now) TextKind (Shrink (O.key key.now)) (done_answer result) }
         ensures refused { OnErr result (self.new ≡ self.old) }
     {
         match self.find_container(key, Kind::Text) {
@@ -253,9 +273,10 @@ impl Segment {
     }
 
     /// The same of a vector of strings.
-    fn shrink_texts(&mut self, key: &Key) -> Result<(), Refusal>
-        requires { is_read_only self.old.mode ≡ false }
-        ensures step { IsStepOfKind self.old self.new (key_seen key.now) TextsKind (Shrink (key_seen key.now)) (done_answer result) }
+    fn shrink_texts<O: Target>(&mut self, key: &O) -> Result<(), Refusal>
+        requires target { O.stands key.now self.old }
+        requires writing { is_read_only self.old.mode ≡ false }
+        ensures step { IsStepOfKind self.old self.new (O.key key.now) TextsKind (Shrink (O.key key.now)) (done_answer result) }
         ensures refused { OnErr result (self.new ≡ self.old) }
     {
         match self.find_container(key, Kind::Texts) {
@@ -273,43 +294,46 @@ impl Segment {
     ///
     /// `ReadOnly` where the segment is open for reading, and else `NotFound` where no object has the key, `WrongKind` where it
     /// has no storage. Nothing changes.
-    pub fn clear(&mut self, key: &Key) -> Result<(), Refusal>
-        ensures step { IsStep self.old self.new (Clear (key_seen key.now)) (done_answer result) }
+    pub fn clear<O: Target>(&mut self, key: &O) -> Result<(), Refusal>
+        requires { O.stands key.now self.old }
+        ensures step { IsStep self.old self.new (Clear (O.key key.now)) (done_answer result) }
         ensures refused { OnErr result (self.new ≡ self.old) }
     {
         if self.is_read_only() {
             return Err(Refusal::ReadOnly);
         }
-        match self.kind_of(key) {
+        match self.locate(key) {
             Err(why) => Err(why),
-            Ok(kind) => match kind {
-                Kind::Text => self.clear_text(key),
-                Kind::Texts => self.clear_texts(key),
-                Kind::Vector(element) => self.clear_elements(key, element),
+            Ok(object) => match object.kind {
+                Kind::Text => self.clear_text(&object),
+                Kind::Texts => self.clear_texts(&object),
+                Kind::Vector(element) => self.clear_elements(&object, element),
                 _ => Err(Refusal::WrongKind),
             },
         }
     }
 
     /// The same of a vector of scalars of a kind, in a segment that may be changed.
-    fn clear_elements(&mut self, key: &Key, kind: ScalarKind) -> Result<(), Refusal>
-        requires { is_read_only self.old.mode ≡ false }
-        ensures step { IsStepOfKind self.old self.new (key_seen key.now) (VectorOf kind) (Clear (key_seen key.now)) (done_answer result) }
+    fn clear_elements<O: Target>(&mut self, key: &O, kind: ScalarKind) -> Result<(), Refusal>
+        requires target { O.stands key.now self.old }
+        requires writing { is_read_only self.old.mode ≡ false }
+        ensures step { IsStepOfKind self.old self.new (O.key key.now) (VectorOf kind) (Clear (O.key key.now)) (done_answer result) }
         ensures refused { OnErr result (self.new ≡ self.old) }
     {
         match kind {
-            ScalarKind::Bool => self.clear_vector::<bool>(key),
-            ScalarKind::U8 => self.clear_vector::<u8>(key),
-            ScalarKind::I32 => self.clear_vector::<i32>(key),
-            ScalarKind::I64 => self.clear_vector::<i64>(key),
-            ScalarKind::U64 => self.clear_vector::<u64>(key),
+            ScalarKind::Bool => self.clear_vector::<bool, O>(key),
+            ScalarKind::U8 => self.clear_vector::<u8, O>(key),
+            ScalarKind::I32 => self.clear_vector::<i32, O>(key),
+            ScalarKind::I64 => self.clear_vector::<i64, O>(key),
+            ScalarKind::U64 => self.clear_vector::<u64, O>(key),
         }
     }
 
     /// The same of a vector of a type.
-    fn clear_vector<T: Scalar>(&mut self, key: &Key) -> Result<(), Refusal>
-        requires { is_read_only self.old.mode ≡ false }
-        ensures step { IsStepOfKind self.old self.new (key_seen key.now) (VectorOf T.kind) (Clear (key_seen key.now)) (done_answer result) }
+    fn clear_vector<T: Scalar, O: Target>(&mut self, key: &O) -> Result<(), Refusal>
+        requires target { O.stands key.now self.old }
+        requires writing { is_read_only self.old.mode ≡ false }
+        ensures step { IsStepOfKind self.old self.new (O.key key.now) (VectorOf T.kind) (Clear (O.key key.now)) (done_answer result) }
         ensures refused { OnErr result (self.new ≡ self.old) }
     {
         match self.find_container(key, Kind::Vector(T::kind())) {
@@ -322,9 +346,10 @@ impl Segment {
     }
 
     /// The same of a string.
-    fn clear_text(&mut self, key: &Key) -> Result<(), Refusal>
-        requires { is_read_only self.old.mode ≡ false }
-        ensures step { IsStepOfKind self.old self.new (key_seen key.now) TextKind (Clear (key_seen key.now)) (done_answer result) }
+    fn clear_text<O: Target>(&mut self, key: &O) -> Result<(), Refusal>
+        requires target { O.stands key.now self.old }
+        requires writing { is_read_only self.old.mode ≡ false }
+        ensures step { IsStepOfKind self.old self.new (O.key key.now) TextKind (Clear (O.key key.now)) (done_answer result) }
         ensures refused { OnErr result (self.new ≡ self.old) }
     {
         match self.find_container(key, Kind::Text) {
@@ -337,9 +362,10 @@ impl Segment {
     }
 
     /// The same of a vector of strings.
-    fn clear_texts(&mut self, key: &Key) -> Result<(), Refusal>
-        requires { is_read_only self.old.mode ≡ false }
-        ensures step { IsStepOfKind self.old self.new (key_seen key.now) TextsKind (Clear (key_seen key.now)) (done_answer result) }
+    fn clear_texts<O: Target>(&mut self, key: &O) -> Result<(), Refusal>
+        requires target { O.stands key.now self.old }
+        requires writing { is_read_only self.old.mode ≡ false }
+        ensures step { IsStepOfKind self.old self.new (O.key key.now) TextsKind (Clear (O.key key.now)) (done_answer result) }
         ensures refused { OnErr result (self.new ≡ self.old) }
     {
         match self.find_container(key, Kind::Texts) {

@@ -3,7 +3,6 @@ ghost use Rattle.std.specs.Prelude.{length, MatchResult};
 ghost use Rattle.raw_region.specs.Format.{current};
 ghost use Rattle.best_fit.specs.Heap.{IsHeap};
 ghost use Rattle.seg_index.specs.Held.{HasIndex, entry_count, place_of};
-ghost use Rattle.seg_types.specs.Keys.{key_seen};
 ghost use Rattle.segment_manager.specs.Directory.{Object, named_objects, unique_objects};
 ghost use Rattle.segment_manager.specs.Found.{IsBelow};
 ghost use Rattle.segment_manager.specs.Instances.{IsInstance, IsMissing, SaysAt, SaysOf};
@@ -12,9 +11,10 @@ ghost use Rattle.segment_manager.specs.Standing.{HasObject, StandsAt};
 
 use crate::head::{read_head, read_name};
 use crate::segment::Segment;
+use crate::targets::Target;
 use best_fit::Heap;
 use seg_index::Index;
-use seg_types::{Class, Handle, Key, Kind, Refusal};
+use seg_types::{Class, Handle, Kind, Refusal};
 
 /// What an object says of itself.
 #[derive(Clone, Copy)]
@@ -37,10 +37,11 @@ impl Segment {
     /// # Errors
     ///
     /// `NotFound` where no object has the key.
-    pub fn instance(&self, key: &Key) -> Result<Instance<'_>, Refusal>
-        ensures { MatchResult result (λ said. SaysOf self.now (key_seen key.now) said) (IsMissing self.now (key_seen key.now)) }
+    pub fn instance<O: Target>(&self, key: &O) -> Result<Instance<'_>, Refusal>
+        requires { O.stands key.now self.now }
+        ensures { MatchResult result (λ said. SaysOf self.now (O.key key.now) said) (IsMissing self.now (O.key key.now)) }
     {
-        match self.handle_of(key) {
+        match key.handle_in(self) {
             None => Err(Refusal::NotFound),
             Some(handle) => Ok(read_instance(&self.heap, handle)),
         }

@@ -3,14 +3,14 @@ ghost use Rattle.std.specs.Prelude.{◌≡◌, IsTrue, OnErr, map};
 ghost use Rattle.std.specs.List.{list_all};
 ghost use Rattle.seg_types.specs.declared.kinds.Kind.TheVariants.{Texts as TextsKind};
 ghost use Rattle.seg_types.specs.Commands.{Assign, Erase, Get, Insert, Pop, Push, Quoted, Set};
-ghost use Rattle.seg_types.specs.Keys.{key_seen};
 ghost use Rattle.segment_manager.specs.Answers.{TextElement};
 ghost use Rattle.segment_manager.specs.Contents.{are_bytes};
 ghost use Rattle.segment_manager.specs.State.{IsReplyOfKind, IsStepOfKind, KeepsRefused, answer_of, done_answer, refusal_in};
 ghost use Rattle.segment_manager.specs.TextLists.{LeadsOnOfKind};
 
 use crate::segment::Segment;
-use seg_types::{Key, Kind, Refusal};
+use crate::targets::Target;
+use seg_types::{Kind, Refusal};
 use seg_vector::SegTexts;
 
 impl Segment {
@@ -19,8 +19,9 @@ impl Segment {
     /// # Errors
     ///
     /// `NotFound` where no object has the key, `WrongKind` where it is of another kind, `OutOfRange` where it has no text there.
-    pub fn texts_get(&self, key: &Key, index: u64) -> Result<&[u8], Refusal>
-        ensures { IsReplyOfKind self.now (key_seen key.now) TextsKind (Get (key_seen key.now) index) (answer_of (λ text. TextElement text.now) result) }
+    pub fn texts_get<O: Target>(&self, key: &O, index: u64) -> Result<&[u8], Refusal>
+        requires { O.stands key.now self.now }
+        ensures { IsReplyOfKind self.now (O.key key.now) TextsKind (Get (O.key key.now) index) (answer_of (λ text. TextElement text.now) result) }
     {
         match self.find_container(key, Kind::Texts) {
             Err(why) => Err(why),
@@ -34,8 +35,9 @@ impl Segment {
     ///
     /// `ReadOnly` where the segment is open for reading, and else `NotFound` where no object has the key, `WrongKind` where it
     /// is of another kind, `OutOfRange` where it has no text there, `NoSpace` where the text has no fit. Nothing changes.
-    pub fn texts_set(&mut self, key: &Key, index: u64, text: &[u8]) -> Result<(), Refusal>
-        ensures step { IsStepOfKind self.old self.new (key_seen key.now) TextsKind (Set (key_seen key.now) index (Quoted text.now)) (done_answer result) }
+    pub fn texts_set<O: Target>(&mut self, key: &O, index: u64, text: &[u8]) -> Result<(), Refusal>
+        requires { O.stands key.now self.old }
+        ensures step { IsStepOfKind self.old self.new (O.key key.now) TextsKind (Set (O.key key.now) index (Quoted text.now)) (done_answer result) }
         ensures refused { OnErr result (self.new ≡ self.old) }
     {
         if self.is_read_only() {
@@ -55,8 +57,9 @@ impl Segment {
     /// `ReadOnly` where the segment is open for reading, and else `NotFound` where no object has the key, `WrongKind` where it
     /// is of another kind, and nothing changes; `NoSpace` where it is full and its array cannot be regrown, or the text has no
     /// fit: all objects and blocks are as they were, but bytes of gaps may differ.
-    pub fn texts_push(&mut self, key: &Key, text: &[u8]) -> Result<(), Refusal>
-        ensures step { IsStepOfKind self.old self.new (key_seen key.now) TextsKind (Push (key_seen key.now) (Quoted text.now)) (done_answer result) }
+    pub fn texts_push<O: Target>(&mut self, key: &O, text: &[u8]) -> Result<(), Refusal>
+        requires { O.stands key.now self.old }
+        ensures step { IsStepOfKind self.old self.new (O.key key.now) TextsKind (Push (O.key key.now) (Quoted text.now)) (done_answer result) }
         ensures refused { KeepsRefused self.old self.new result }
     {
         if self.is_read_only() {
@@ -76,8 +79,9 @@ impl Segment {
     /// `ReadOnly` where the segment is open for reading, and else `NotFound` where no object has the key, `WrongKind` where it
     /// is of another kind, and nothing changes; `NoSpace` where the array or a text has no fit: all objects and blocks are as
     /// they were, but bytes of gaps may differ.
-    pub fn texts_assign(&mut self, key: &Key, texts: &[&[u8]]) -> Result<(), Refusal>
-        ensures step { IsStepOfKind self.old self.new (key_seen key.now) TextsKind (Assign (key_seen key.now) (map Quoted (map (λ text. text.now) texts.now))) (done_answer result) }
+    pub fn texts_assign<O: Target>(&mut self, key: &O, texts: &[&[u8]]) -> Result<(), Refusal>
+        requires { O.stands key.now self.old }
+        ensures step { IsStepOfKind self.old self.new (O.key key.now) TextsKind (Assign (O.key key.now) (map Quoted (map (λ text. text.now) texts.now))) (done_answer result) }
         ensures refused { KeepsRefused self.old self.new result }
     {
         if self.is_read_only() {
@@ -96,8 +100,9 @@ impl Segment {
     ///
     /// `ReadOnly` where the segment is open for reading, and else `NotFound` where no object has the key, `WrongKind` where it
     /// is of another kind, `OutOfRange` where it is empty. Nothing changes.
-    pub fn texts_pop(&mut self, key: &Key) -> Result<(), Refusal>
-        ensures step { LeadsOnOfKind self.old self.new (key_seen key.now) TextsKind (Pop (key_seen key.now)) (refusal_in result) }
+    pub fn texts_pop<O: Target>(&mut self, key: &O) -> Result<(), Refusal>
+        requires { O.stands key.now self.old }
+        ensures step { LeadsOnOfKind self.old self.new (O.key key.now) TextsKind (Pop (O.key key.now)) (refusal_in result) }
         ensures refused { OnErr result (self.new ≡ self.old) }
     {
         if self.is_read_only() {
@@ -117,8 +122,14 @@ impl Segment {
     /// `ReadOnly` where the segment is open for reading, and else `NotFound` where no object has the key, `WrongKind` where it
     /// is of another kind, `OutOfRange` where there are not so many others, and nothing changes; `NoSpace` where it is full and
     /// its array cannot be regrown, or the text has no fit: all objects and blocks are as they were, but bytes of gaps may differ.
-    pub fn texts_insert(&mut self, key: &Key, index: u64, text: &[u8]) -> Result<(), Refusal>
-        ensures step { IsStepOfKind self.old self.new (key_seen key.now) TextsKind (Insert (key_seen key.now) index (Quoted text.now)) (done_answer result) }
+    pub fn texts_insert<O: Target>(
+        &mut self,
+        key: &O,
+        index: u64,
+        text: &[u8],
+    ) -> Result<(), Refusal>
+        requires { O.stands key.now self.old }
+        ensures step { IsStepOfKind self.old self.new (O.key key.now) TextsKind (Insert (O.key key.now) index (Quoted text.now)) (done_answer result) }
         ensures refused { KeepsRefused self.old self.new result }
     {
         if self.is_read_only() {
@@ -137,8 +148,9 @@ impl Segment {
     ///
     /// `ReadOnly` where the segment is open for reading, and else `NotFound` where no object has the key, `WrongKind` where it
     /// is of another kind, `OutOfRange` where it has no text there. Nothing changes.
-    pub fn texts_erase(&mut self, key: &Key, index: u64) -> Result<(), Refusal>
-        ensures step { IsStepOfKind self.old self.new (key_seen key.now) TextsKind (Erase (key_seen key.now) index) (done_answer result) }
+    pub fn texts_erase<O: Target>(&mut self, key: &O, index: u64) -> Result<(), Refusal>
+        requires { O.stands key.now self.old }
+        ensures step { IsStepOfKind self.old self.new (O.key key.now) TextsKind (Erase (O.key key.now) index) (done_answer result) }
         ensures refused { OnErr result (self.new ≡ self.old) }
     {
         if self.is_read_only() {

@@ -3,12 +3,12 @@ ghost use Rattle.std.specs.Prelude.{◌≡◌, Ok, Err, MatchResult, [], ◌∷�
 ghost use Rattle.seg_types.specs.declared.kinds.Kind.TheVariants.{Text as TextKind};
 ghost use Rattle.seg_types.specs.declared.kinds.ScalarKind.TheVariants.{U8 as ByteKind};
 ghost use Rattle.seg_types.specs.Commands.{Append, Assign, Quoted, Set, literal_of};
-ghost use Rattle.seg_types.specs.Keys.{key_seen};
 ghost use Rattle.segment_manager.specs.Contents.{bytes_at};
 ghost use Rattle.segment_manager.specs.State.{Answers, IsStepOfKind, done_answer};
 
 use crate::segment::Segment;
-use seg_types::{Key, Kind, Refusal};
+use crate::targets::Target;
+use seg_types::{Kind, Refusal};
 use seg_vector::SegString;
 
 impl Segment {
@@ -17,9 +17,10 @@ impl Segment {
     /// # Errors
     ///
     /// `NotFound` where no object has the key, `WrongKind` where it is no string.
-    pub fn string_bytes(&self, key: &Key) -> Result<&[u8], Refusal>
-        ensures { MatchResult result (λ bytes. Answers self.now (λ d. bytes_at d (key_seen key.now)) (Ok bytes.now))
-            (λ why. Answers self.now (λ d. bytes_at d (key_seen key.now)) (Err why)) }
+    pub fn string_bytes<O: Target>(&self, key: &O) -> Result<&[u8], Refusal>
+        requires { O.stands key.now self.now }
+        ensures { MatchResult result (λ bytes. Answers self.now (λ d. bytes_at d (O.key key.now)) (Ok bytes.now))
+            (λ why. Answers self.now (λ d. bytes_at d (O.key key.now)) (Err why)) }
     {
         match self.find_container(key, Kind::Text) {
             Err(why) => Err(why),
@@ -33,8 +34,9 @@ impl Segment {
     ///
     /// `ReadOnly` where the segment is open for reading, and else `NotFound` where no object has the key, `WrongKind` where it
     /// is no string, `OutOfRange` where it has no byte there. Nothing changes.
-    pub fn string_set(&mut self, key: &Key, index: u64, byte: u8) -> Result<(), Refusal>
-        ensures step { IsStepOfKind self.old self.new (key_seen key.now) TextKind (Set (key_seen key.now) index (literal_of ByteKind (pos byte))) (done_answer result) }
+    pub fn string_set<O: Target>(&mut self, key: &O, index: u64, byte: u8) -> Result<(), Refusal>
+        requires { O.stands key.now self.old }
+        ensures step { IsStepOfKind self.old self.new (O.key key.now) TextKind (Set (O.key key.now) index (literal_of ByteKind (pos byte))) (done_answer result) }
         ensures refused { OnErr result (self.new ≡ self.old) }
     {
         if self.is_read_only() {
@@ -53,8 +55,9 @@ impl Segment {
     ///
     /// `ReadOnly` where the segment is open for reading, and else `NotFound` where no object has the key, `WrongKind` where it
     /// is no string, `NoSpace` where its storage cannot be regrown. Nothing changes.
-    pub fn string_append(&mut self, key: &Key, bytes: &[u8]) -> Result<(), Refusal>
-        ensures step { IsStepOfKind self.old self.new (key_seen key.now) TextKind (Append (key_seen key.now) bytes.now) (done_answer result) }
+    pub fn string_append<O: Target>(&mut self, key: &O, bytes: &[u8]) -> Result<(), Refusal>
+        requires { O.stands key.now self.old }
+        ensures step { IsStepOfKind self.old self.new (O.key key.now) TextKind (Append (O.key key.now) bytes.now) (done_answer result) }
         ensures refused { OnErr result (self.new ≡ self.old) }
     {
         if self.is_read_only() {
@@ -72,8 +75,9 @@ impl Segment {
     ///
     /// `ReadOnly` where the segment is open for reading, and else `NotFound` where no object has the key, `WrongKind` where it
     /// is no string, `NoSpace` where its storage cannot be regrown. Nothing changes.
-    pub fn string_assign(&mut self, key: &Key, bytes: &[u8]) -> Result<(), Refusal>
-        ensures step { IsStepOfKind self.old self.new (key_seen key.now) TextKind (Assign (key_seen key.now) (Quoted bytes.now ∷ [])) (done_answer result) }
+    pub fn string_assign<O: Target>(&mut self, key: &O, bytes: &[u8]) -> Result<(), Refusal>
+        requires { O.stands key.now self.old }
+        ensures step { IsStepOfKind self.old self.new (O.key key.now) TextKind (Assign (O.key key.now) (Quoted bytes.now ∷ [])) (done_answer result) }
         ensures refused { OnErr result (self.new ≡ self.old) }
     {
         if self.is_read_only() {

@@ -3,7 +3,7 @@ ghost use Rattle.std.specs.Prelude.{◌≡◌};
 ghost use Rattle.raw_region.specs.Format.{current};
 ghost use Rattle.segment_manager.specs.Denotes.{magic_number, two_halves};
 ghost use Rattle.segment_manager.specs.Entries.{IndexesFollowObjects};
-ghost use Rattle.segment_manager.specs.Laws.{CountedAreBelow, ReadsChangeNothing, ReadsOfKindChangeNothing, PoppedTextsLeadOn, RefusalsChangeNothing, RefusalsOfKindChangeNothing, RefusedCallsStay, StepsLeadOn};
+ghost use Rattle.segment_manager.specs.Laws.{CountedAreBelow, HandlesMeanObjects, KeysMeanObjects, KeysOfKindMeanObjects, ReadsChangeNothing, ReadsOfKindChangeNothing, PoppedTextsLeadOn, RefusalsChangeNothing, RefusalsOfKindChangeNothing, RefusedCallsStay, StepsLeadOn};
 ghost use Rattle.segment_manager.specs.Heads.{EntriesSayObjects};
 ghost use Rattle.segment_manager.specs.Layout.{format_at, head_len, magic_at, name_class_at, named_at, reserved_at, size_at, unique_at};
 ghost use Rattle.segment_manager.specs.OwnedTexts.{TextsArePlaced};
@@ -32,6 +32,13 @@ pub fn steps_lead_on()
     ensures leads { StepsLeadOn }
     ensures popped { PoppedTextsLeadOn }
     ensures refused { RefusedCallsStay }
+{}
+
+/// A command on an object is the same under each key that means it, and the handle of an object that was located is such a key.
+pub fn keys_mean_objects()
+    ensures any { KeysMeanObjects }
+    ensures of_kind { KeysOfKindMeanObjects }
+    ensures handle { HandlesMeanObjects }
 {}
 
 /// Each index follows its objects: one that is put in or taken out is one entry more or less, and another value changes no

@@ -3,12 +3,12 @@ ghost use Rattle.std.specs.Prelude.{◌≡◌, IsTrue, OnErr, map, true};
 ghost use Rattle.std.specs.List.{list_all};
 ghost use Rattle.seg_types.specs.declared.kinds.Kind.TheVariants.{Vector as VectorOf};
 ghost use Rattle.seg_types.specs.Commands.{Assign, Erase, Get, Insert, Pop, Push, Set, literal_of};
-ghost use Rattle.seg_types.specs.Keys.{key_seen};
 ghost use Rattle.segment_manager.specs.Answers.{Element};
 ghost use Rattle.segment_manager.specs.State.{IsReplyOfKind, IsStepOfKind, answer_of, done_answer};
 
 use crate::segment::Segment;
-use seg_types::{Key, Kind, Refusal, Scalar};
+use crate::targets::Target;
+use seg_types::{Kind, Refusal, Scalar};
 use seg_vector::SegVec;
 
 impl Segment {
@@ -18,8 +18,9 @@ impl Segment {
     ///
     /// `NotFound` where no object has the key, `WrongKind` where it is of another kind, `OutOfRange` where it has no element
     /// there.
-    pub fn vec_get<T: Scalar>(&self, key: &Key, index: u64) -> Result<T, Refusal>
-        ensures { IsReplyOfKind self.now (key_seen key.now) (VectorOf T.kind) (Get (key_seen key.now) index) (answer_of (λ x. Element T.kind (T.whole x)) result) }
+    pub fn vec_get<T: Scalar, O: Target>(&self, key: &O, index: u64) -> Result<T, Refusal>
+        requires { O.stands key.now self.now }
+        ensures { IsReplyOfKind self.now (O.key key.now) (VectorOf T.kind) (Get (O.key key.now) index) (answer_of (λ x. Element T.kind (T.whole x)) result) }
     {
         match self.find_container(key, Kind::Vector(T::kind())) {
             Err(why) => Err(why),
@@ -33,8 +34,14 @@ impl Segment {
     ///
     /// `ReadOnly` where the segment is open for reading, and else `NotFound` where no object has the key, `WrongKind` where it
     /// is of another kind, `OutOfRange` where it has no element there. Nothing changes.
-    pub fn vec_set<T: Scalar>(&mut self, key: &Key, index: u64, value: T) -> Result<(), Refusal>
-        ensures step { IsStepOfKind self.old self.new (key_seen key.now) (VectorOf T.kind) (Set (key_seen key.now) index (literal_of T.kind (T.whole value))) (done_answer result) }
+    pub fn vec_set<T: Scalar, O: Target>(
+        &mut self,
+        key: &O,
+        index: u64,
+        value: T,
+    ) -> Result<(), Refusal>
+        requires { O.stands key.now self.old }
+        ensures step { IsStepOfKind self.old self.new (O.key key.now) (VectorOf T.kind) (Set (O.key key.now) index (literal_of T.kind (T.whole value))) (done_answer result) }
         ensures refused { OnErr result (self.new ≡ self.old) }
     {
         if self.is_read_only() {
@@ -54,8 +61,9 @@ impl Segment {
     ///
     /// `ReadOnly` where the segment is open for reading, and else `NotFound` where no object has the key, `WrongKind` where it
     /// is of another kind, `NoSpace` where it is full and its storage cannot be regrown. Nothing changes.
-    pub fn vec_push<T: Scalar>(&mut self, key: &Key, value: T) -> Result<(), Refusal>
-        ensures step { IsStepOfKind self.old self.new (key_seen key.now) (VectorOf T.kind) (Push (key_seen key.now) (literal_of T.kind (T.whole value))) (done_answer result) }
+    pub fn vec_push<T: Scalar, O: Target>(&mut self, key: &O, value: T) -> Result<(), Refusal>
+        requires { O.stands key.now self.old }
+        ensures step { IsStepOfKind self.old self.new (O.key key.now) (VectorOf T.kind) (Push (O.key key.now) (literal_of T.kind (T.whole value))) (done_answer result) }
         ensures refused { OnErr result (self.new ≡ self.old) }
     {
         if self.is_read_only() {
@@ -75,8 +83,9 @@ impl Segment {
     ///
     /// `ReadOnly` where the segment is open for reading, and else `NotFound` where no object has the key, `WrongKind` where it
     /// is of another kind, `NoSpace` where its storage cannot be regrown. Nothing changes.
-    pub fn vec_assign<T: Scalar>(&mut self, key: &Key, values: &[T]) -> Result<(), Refusal>
-        ensures step { IsStepOfKind self.old self.new (key_seen key.now) (VectorOf T.kind) (Assign (key_seen key.now) (map (literal_of T.kind) (map T.whole values.now))) (done_answer result) }
+    pub fn vec_assign<T: Scalar, O: Target>(&mut self, key: &O, values: &[T]) -> Result<(), Refusal>
+        requires { O.stands key.now self.old }
+        ensures step { IsStepOfKind self.old self.new (O.key key.now) (VectorOf T.kind) (Assign (O.key key.now) (map (literal_of T.kind) (map T.whole values.now))) (done_answer result) }
         ensures refused { OnErr result (self.new ≡ self.old) }
     {
         if self.is_read_only() {
@@ -95,8 +104,9 @@ impl Segment {
     ///
     /// `ReadOnly` where the segment is open for reading, and else `NotFound` where no object has the key, `WrongKind` where it
     /// is of another kind, `OutOfRange` where it is empty. Nothing changes.
-    pub fn vec_pop<T: Scalar>(&mut self, key: &Key) -> Result<T, Refusal>
-        ensures step { IsStepOfKind self.old self.new (key_seen key.now) (VectorOf T.kind) (Pop (key_seen key.now)) (answer_of (λ x. Element T.kind (T.whole x)) result) }
+    pub fn vec_pop<T: Scalar, O: Target>(&mut self, key: &O) -> Result<T, Refusal>
+        requires { O.stands key.now self.old }
+        ensures step { IsStepOfKind self.old self.new (O.key key.now) (VectorOf T.kind) (Pop (O.key key.now)) (answer_of (λ x. Element T.kind (T.whole x)) result) }
         ensures refused { OnErr result (self.new ≡ self.old) }
     {
         if self.is_read_only() {
@@ -116,8 +126,14 @@ impl Segment {
     /// `ReadOnly` where the segment is open for reading, and else `NotFound` where no object has the key, `WrongKind` where it
     /// is of another kind, `OutOfRange` where there are not so many others, `NoSpace` where it is full and its storage cannot be
     /// regrown. Nothing changes.
-    pub fn vec_insert<T: Scalar>(&mut self, key: &Key, index: u64, value: T) -> Result<(), Refusal>
-        ensures step { IsStepOfKind self.old self.new (key_seen key.now) (VectorOf T.kind) (Insert (key_seen key.now) index (literal_of T.kind (T.whole value))) (done_answer result) }
+    pub fn vec_insert<T: Scalar, O: Target>(
+        &mut self,
+        key: &O,
+        index: u64,
+        value: T,
+    ) -> Result<(), Refusal>
+        requires { O.stands key.now self.old }
+        ensures step { IsStepOfKind self.old self.new (O.key key.now) (VectorOf T.kind) (Insert (O.key key.now) index (literal_of T.kind (T.whole value))) (done_answer result) }
         ensures refused { OnErr result (self.new ≡ self.old) }
     {
         if self.is_read_only() {
@@ -137,8 +153,9 @@ impl Segment {
     ///
     /// `ReadOnly` where the segment is open for reading, and else `NotFound` where no object has the key, `WrongKind` where it
     /// is of another kind, `OutOfRange` where it has no element there. Nothing changes.
-    pub fn vec_erase<T: Scalar>(&mut self, key: &Key, index: u64) -> Result<(), Refusal>
-        ensures step { IsStepOfKind self.old self.new (key_seen key.now) (VectorOf T.kind) (Erase (key_seen key.now) index) (done_answer result) }
+    pub fn vec_erase<T: Scalar, O: Target>(&mut self, key: &O, index: u64) -> Result<(), Refusal>
+        requires { O.stands key.now self.old }
+        ensures step { IsStepOfKind self.old self.new (O.key key.now) (VectorOf T.kind) (Erase (O.key key.now) index) (done_answer result) }
         ensures refused { OnErr result (self.new ≡ self.old) }
     {
         if self.is_read_only() {

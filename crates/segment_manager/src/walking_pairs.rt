@@ -1,85 +1,85 @@
 //! The pairs of objects that are maps whose kinds are not known before, one after another by rising keys.
-ghost use Rattle.std.specs.Prelude.{option_map, true};
+ghost use Rattle.std.specs.Prelude.{option_map};
 ghost use Rattle.seg_types.specs.Kinds.{lowest};
-ghost use Rattle.seg_types.specs.Names.{ByHandle};
 ghost use Rattle.seg_types.specs.Values.{kind_of_scalar, value_of_scalar};
 ghost use Rattle.seg_map.specs.Places.{item_of};
-ghost use Rattle.segment_manager.specs.Found.{is_object_at};
 ghost use Rattle.segment_manager.specs.Maps.{pair_above, pair_from, told_of_map};
 ghost use Rattle.segment_manager.specs.State.{Answers};
 ghost use Rattle.segment_manager.specs.Walks.{AreOfKinds, HasValueOf, IsMap, first_of, item_of_kinds, item_seen, numbers_read, pairs_at};
 
 use crate::segment::Segment;
-use seg_types::{Handle, Refusal, Scalar, ScalarKind, ScalarValue};
+use crate::targets::Target;
+use seg_types::{Refusal, Scalar, ScalarKind, ScalarValue};
 
 impl Segment {
-    /// The pair with the least key of the map at a handle, a map of the two kinds, or `None` where the map is empty.
-    pub fn first_pair_at(
+    /// The pair with the least key of the map of a key, a map of the two kinds, or `None` where the map is empty.
+    pub fn first_pair<O: Target>(
         &self,
-        handle: Handle,
+        key: &O,
         keys: ScalarKind,
         values: ScalarKind,
     ) -> Option<(ScalarValue, ScalarValue)>
-        requires { IsMap self.now (ByHandle handle) keys values }
-        ensures { Answers self.now (λ d. option_map (item_of_kinds keys values) (option_map item_of (first_of (pairs_at d (ByHandle handle))))) (option_map item_seen result) }
+        requires target { O.stands key.now self.now }
+        requires map { IsMap self.now (O.key key.now) keys values }
+        ensures { Answers self.now (λ d. option_map (item_of_kinds keys values) (option_map item_of (first_of (pairs_at d (O.key key.now))))) (option_map item_seen result) }
     {
-        match self.first_of_kinds(handle, keys, values) {
+        match self.first_of_kinds(key, keys, values) {
             Ok(pair) => pair,
             Err(_) => None,
         }
     }
 
-    /// The pair with the least key above `after` of the map at a handle, a map with keys of the kind of `after` and values of a
+    /// The pair with the least key above `after` of the map of a key, a map with keys of the kind of `after` and values of a
     /// kind, or `None` where no key is above. So all pairs are read in rising order, each in a walk from the root of the tree.
-    pub fn next_pair_at(
+    pub fn next_pair<O: Target>(
         &self,
-        handle: Handle,
+        key: &O,
         after: ScalarValue,
         values: ScalarKind,
     ) -> Option<(ScalarValue, ScalarValue)>
-        requires { IsMap self.now (ByHandle handle) (kind_of_scalar after) values }
-        ensures { Answers self.now (λ d. option_map (item_of_kinds (kind_of_scalar after) values) (pair_above (value_of_scalar after) (pairs_at d (ByHandle handle)))) (option_map item_seen result) }
+        requires target { O.stands key.now self.now }
+        requires map { IsMap self.now (O.key key.now) (kind_of_scalar after) values }
+        ensures { Answers self.now (λ d. option_map (item_of_kinds (kind_of_scalar after) values) (pair_above (value_of_scalar after) (pairs_at d (O.key key.now)))) (option_map item_seen result) }
     {
-        match self.next_of_kinds(handle, after, values) {
+        match self.next_of_kinds(key, after, values) {
             Ok(pair) => pair,
             Err(_) => None,
         }
     }
 
-    /// The pair with the least key of the map at a handle, a map of the two kinds. There is an object at the handle: it is not
-    /// looked for among the blocks.
+    /// The pair with the least key of the map of a key, a map of the two kinds.
     ///
     /// # Errors
     ///
     /// `WrongKind` where it is of another kind.
-    fn first_of_kinds(
+    fn first_of_kinds<O: Target>(
         &self,
-        handle: Handle,
+        key: &O,
         keys: ScalarKind,
         values: ScalarKind,
     ) -> Result<Option<(ScalarValue, ScalarValue)>, Refusal>
-        requires { Answers self.now (λ d. is_object_at d handle) true }
-        ensures pair { Answers self.now (λ d. told_of_map d (ByHandle handle) keys values (pair_from (lowest keys))) (numbers_read value_of_scalar value_of_scalar result) }
+        requires { O.stands key.now self.now }
+        ensures pair { Answers self.now (λ d. told_of_map d (O.key key.now) keys values (pair_from (lowest keys))) (numbers_read value_of_scalar value_of_scalar result) }
         ensures kinds { AreOfKinds keys values result }
     {
         match keys {
-            ScalarKind::Bool => match self.first_by_key(handle, false, values)? {
+            ScalarKind::Bool => match self.first_by_key(key, false, values)? {
                 None => Ok(None),
                 Some((truth, value)) => Ok(Some((ScalarValue::Bool(truth), value))),
             },
-            ScalarKind::U8 => match self.first_by_key(handle, 0u8, values)? {
+            ScalarKind::U8 => match self.first_by_key(key, 0u8, values)? {
                 None => Ok(None),
                 Some((number, value)) => Ok(Some((ScalarValue::U8(number), value))),
             },
-            ScalarKind::I32 => match self.first_by_key(handle, i32::MIN, values)? {
+            ScalarKind::I32 => match self.first_by_key(key, i32::MIN, values)? {
                 None => Ok(None),
                 Some((number, value)) => Ok(Some((ScalarValue::I32(number), value))),
             },
-            ScalarKind::I64 => match self.first_by_key(handle, i64::MIN, values)? {
+            ScalarKind::I64 => match self.first_by_key(key, i64::MIN, values)? {
                 None => Ok(None),
                 Some((number, value)) => Ok(Some((ScalarValue::I64(number), value))),
             },
-            ScalarKind::U64 => match self.first_by_key(handle, 0u64, values)? {
+            ScalarKind::U64 => match self.first_by_key(key, 0u64, values)? {
                 None => Ok(None),
                 Some((number, value)) => Ok(Some((ScalarValue::U64(number), value))),
             },
@@ -90,75 +90,75 @@ impl Segment {
     ///
     /// # Errors
     ///
-    /// `WrongKind` where the object at the handle is of another kind.
-    fn first_by_key<K: Scalar>(
+    /// `WrongKind` where the object is of another kind.
+    fn first_by_key<K: Scalar, O: Target>(
         &self,
-        handle: Handle,
+        key: &O,
         from: K,
         values: ScalarKind,
     ) -> Result<Option<(K, ScalarValue)>, Refusal>
-        requires { Answers self.now (λ d. is_object_at d handle) true }
-        ensures pair { Answers self.now (λ d. told_of_map d (ByHandle handle) K.kind values (pair_from (K.whole from))) (numbers_read K.whole value_of_scalar result) }
+        requires { O.stands key.now self.now }
+        ensures pair { Answers self.now (λ d. told_of_map d (O.key key.now) K.kind values (pair_from (K.whole from))) (numbers_read K.whole value_of_scalar result) }
         ensures kind { HasValueOf values result }
     {
         match values {
-            ScalarKind::Bool => match self.map_first_at::<K, bool>(handle, from)? {
+            ScalarKind::Bool => match self.map_first_from::<K, bool, O>(key, from)? {
                 None => Ok(None),
-                Some((key, truth)) => Ok(Some((key, ScalarValue::Bool(truth)))),
+                Some((at, truth)) => Ok(Some((at, ScalarValue::Bool(truth)))),
             },
-            ScalarKind::U8 => match self.map_first_at::<K, u8>(handle, from)? {
+            ScalarKind::U8 => match self.map_first_from::<K, u8, O>(key, from)? {
                 None => Ok(None),
-                Some((key, number)) => Ok(Some((key, ScalarValue::U8(number)))),
+                Some((at, number)) => Ok(Some((at, ScalarValue::U8(number)))),
             },
-            ScalarKind::I32 => match self.map_first_at::<K, i32>(handle, from)? {
+            ScalarKind::I32 => match self.map_first_from::<K, i32, O>(key, from)? {
                 None => Ok(None),
-                Some((key, number)) => Ok(Some((key, ScalarValue::I32(number)))),
+                Some((at, number)) => Ok(Some((at, ScalarValue::I32(number)))),
             },
-            ScalarKind::I64 => match self.map_first_at::<K, i64>(handle, from)? {
+            ScalarKind::I64 => match self.map_first_from::<K, i64, O>(key, from)? {
                 None => Ok(None),
-                Some((key, number)) => Ok(Some((key, ScalarValue::I64(number)))),
+                Some((at, number)) => Ok(Some((at, ScalarValue::I64(number)))),
             },
-            ScalarKind::U64 => match self.map_first_at::<K, u64>(handle, from)? {
+            ScalarKind::U64 => match self.map_first_from::<K, u64, O>(key, from)? {
                 None => Ok(None),
-                Some((key, number)) => Ok(Some((key, ScalarValue::U64(number)))),
+                Some((at, number)) => Ok(Some((at, ScalarValue::U64(number)))),
             },
         }
     }
 
-    /// The pair with the least key above `after` of the map at a handle, a map with keys of the kind of `after` and values of a
-    /// kind. There is an object at the handle: it is not looked for among the blocks.
+    /// The pair with the least key above `after` of the map of a key, a map with keys of the kind of `after` and values of a
+    /// kind.
     ///
     /// # Errors
     ///
     /// `WrongKind` where it is of another kind.
-    fn next_of_kinds(
+    fn next_of_kinds<O: Target>(
         &self,
-        handle: Handle,
+        key: &O,
         after: ScalarValue,
         values: ScalarKind,
     ) -> Result<Option<(ScalarValue, ScalarValue)>, Refusal>
-        requires { Answers self.now (λ d. is_object_at d handle) true }
-        ensures pair { Answers self.now (λ d. told_of_map d (ByHandle handle) (kind_of_scalar after) values (pair_above (value_of_scalar after))) (numbers_read value_of_scalar value_of_scalar result) }
+        requires { O.stands key.now self.now }
+        ensures pair { Answers self.now (λ d. told_of_map d (O.key key.now) (kind_of_scalar after) values (pair_above (value_of_scalar after))) (numbers_read value_of_scalar value_of_scalar result) }
         ensures kinds { AreOfKinds (kind_of_scalar after) values result }
     {
         match after {
-            ScalarValue::Bool(after) => match self.next_by_key(handle, after, values)? {
+            ScalarValue::Bool(after) => match self.next_by_key(key, after, values)? {
                 None => Ok(None),
                 Some((truth, value)) => Ok(Some((ScalarValue::Bool(truth), value))),
             },
-            ScalarValue::U8(after) => match self.next_by_key(handle, after, values)? {
+            ScalarValue::U8(after) => match self.next_by_key(key, after, values)? {
                 None => Ok(None),
                 Some((number, value)) => Ok(Some((ScalarValue::U8(number), value))),
             },
-            ScalarValue::I32(after) => match self.next_by_key(handle, after, values)? {
+            ScalarValue::I32(after) => match self.next_by_key(key, after, values)? {
                 None => Ok(None),
                 Some((number, value)) => Ok(Some((ScalarValue::I32(number), value))),
             },
-            ScalarValue::I64(after) => match self.next_by_key(handle, after, values)? {
+            ScalarValue::I64(after) => match self.next_by_key(key, after, values)? {
                 None => Ok(None),
                 Some((number, value)) => Ok(Some((ScalarValue::I64(number), value))),
             },
-            ScalarValue::U64(after) => match self.next_by_key(handle, after, values)? {
+            ScalarValue::U64(after) => match self.next_by_key(key, after, values)? {
                 None => Ok(None),
                 Some((number, value)) => Ok(Some((ScalarValue::U64(number), value))),
             },
@@ -169,37 +169,37 @@ impl Segment {
     ///
     /// # Errors
     ///
-    /// `WrongKind` where the object at the handle is of another kind.
-    fn next_by_key<K: Scalar>(
+    /// `WrongKind` where the object is of another kind.
+    fn next_by_key<K: Scalar, O: Target>(
         &self,
-        handle: Handle,
+        key: &O,
         after: K,
         values: ScalarKind,
     ) -> Result<Option<(K, ScalarValue)>, Refusal>
-        requires { Answers self.now (λ d. is_object_at d handle) true }
-        ensures pair { Answers self.now (λ d. told_of_map d (ByHandle handle) K.kind values (pair_above (K.whole after))) (numbers_read K.whole value_of_scalar result) }
+        requires { O.stands key.now self.now }
+        ensures pair { Answers self.now (λ d. told_of_map d (O.key key.now) K.kind values (pair_above (K.whole after))) (numbers_read K.whole value_of_scalar result) }
         ensures kind { HasValueOf values result }
     {
         match values {
-            ScalarKind::Bool => match self.map_next_at::<K, bool>(handle, after)? {
+            ScalarKind::Bool => match self.map_next_after::<K, bool, O>(key, after)? {
                 None => Ok(None),
-                Some((key, truth)) => Ok(Some((key, ScalarValue::Bool(truth)))),
+                Some((at, truth)) => Ok(Some((at, ScalarValue::Bool(truth)))),
             },
-            ScalarKind::U8 => match self.map_next_at::<K, u8>(handle, after)? {
+            ScalarKind::U8 => match self.map_next_after::<K, u8, O>(key, after)? {
                 None => Ok(None),
-                Some((key, number)) => Ok(Some((key, ScalarValue::U8(number)))),
+                Some((at, number)) => Ok(Some((at, ScalarValue::U8(number)))),
             },
-            ScalarKind::I32 => match self.map_next_at::<K, i32>(handle, after)? {
+            ScalarKind::I32 => match self.map_next_after::<K, i32, O>(key, after)? {
                 None => Ok(None),
-                Some((key, number)) => Ok(Some((key, ScalarValue::I32(number)))),
+                Some((at, number)) => Ok(Some((at, ScalarValue::I32(number)))),
             },
-            ScalarKind::I64 => match self.map_next_at::<K, i64>(handle, after)? {
+            ScalarKind::I64 => match self.map_next_after::<K, i64, O>(key, after)? {
                 None => Ok(None),
-                Some((key, number)) => Ok(Some((key, ScalarValue::I64(number)))),
+                Some((at, number)) => Ok(Some((at, ScalarValue::I64(number)))),
             },
-            ScalarKind::U64 => match self.map_next_at::<K, u64>(handle, after)? {
+            ScalarKind::U64 => match self.map_next_after::<K, u64, O>(key, after)? {
                 None => Ok(None),
-                Some((key, number)) => Ok(Some((key, ScalarValue::U64(number)))),
+                Some((at, number)) => Ok(Some((at, ScalarValue::U64(number)))),
             },
         }
     }

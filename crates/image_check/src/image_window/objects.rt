@@ -82,7 +82,8 @@ impl Object {
     pub(crate) fn name(self, window: &ImageWindow) -> &[u8]
         requires small { length window.now.bytes < 2 ^ 63 }
         requires inside { self.at + 16 + name_len_at (bytes_of window.now.bytes) self.at ≤ length window.now.bytes }
-        ensures { result.now ≡ name_at (bytes_of window.now.bytes) self.at }
+        ensures name { result.now ≡ name_at (bytes_of window.now.bytes) self.at }
+        ensures len { length result.now ≡ name_len_at (bytes_of window.now.bytes) self.at }
     {
         window.bytes(self.at + HEAD_LEN, self.name_len(window))
     }

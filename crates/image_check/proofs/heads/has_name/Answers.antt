@@ -1,10 +1,10 @@
-use Rattle.std.proofs.Common.{sym, ◌∙◌}
+use Rattle.std.proofs.Common.{sym, ◌∙◌, length}
 use Rattle.raw_region.specs.Memory.{bytes_of}
 use Rattle.image_check.proofs.HeadBytes.{named-right}
 use Rattle.image_check.proofs.heads.has_name.Goals as goal
 
-pub returns-then-len-le-LONGEST : goal.returns-then-len-le-LONGEST
-returns-then-len-le-LONGEST c =
+pub returns-then-name-le-LONGEST : goal.returns-then-name-le-LONGEST
+returns-then-name-le-LONGEST c =
     c.is_name.ensures
-    ∙ named-right c.args.format (bytes_of c.args.window.now.bytes) c.args.object.at c.name_len-len.result c.name.result.now (sym c.class-class.ensures ∙ c.if-class-eq-NAMED.true)
-    c.name_len-len.ensures.len c.if-len-le-LONGEST.true c.name.ensures
+    ∙ named-right c.args.format (bytes_of c.args.window.now.bytes) c.args.object.at (length c.name-name.result.now) c.name-name.result.now (sym c.class-class.ensures ∙ c.if-class-eq-NAMED.true)
+    c.name-name.ensures.len c.if-name-le-LONGEST.true c.name-name.ensures.name

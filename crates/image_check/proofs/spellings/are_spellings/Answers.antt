@@ -3,8 +3,15 @@ use Rattle.std.proofs.Common.{◌+◌, ◌*◌, sym, ◌∙◌, ℕ, Bool, arith
 use Rattle.raw_region.specs.Memory.{bytes_of, read}
 use Rattle.seg_types.specs.Kinds.{is_spelling, size_of}
 use Rattle.image_check.proofs.HeadBytes.{element-spelled}
+use Rattle.image_check.proofs.MapPairs.{size-most}
 use Rattle.image_check.proofs.Ranges.{all-further, all-broken}
 use Rattle.image_check.proofs.spellings.are_spellings.Goals as goal
+
+pub element-requires-clause-short : goal.element-requires-clause-short
+element-requires-clause-short c =
+    let most = size-most c.args.kind in
+    let size = c.size-size.ensures in
+    omega arith
 
 pub returns-then-not-is_spelling-clause-is : goal.returns-then-not-is_spelling-clause-is
 returns-then-not-is_spelling-clause-is c =

@@ -8,6 +8,6 @@ use Rattle.segment_cli.proofs.changing.append.Goals as goal
 
 pub returns-clause-step : goal.returns-clause-step
 returns-clause-step c =
-    append-steps c.args.segment.now c.string_append.new.self (key_seen c.args.key.now) c.args.text.now (done_answer c.string_append.result)
+    append-steps c.args.segment.now c.string_append.new.self (key_seen c.args.key.now) c.args.text (done_answer c.string_append.result)
     (subst (λ bs. IsStepOfKind c.args.segment.now c.string_append.new.self (key_seen c.args.key.now) Text (Append (key_seen c.args.key.now) bs) (done_answer c.string_append.result))
-    (c.as_slice.ensures ∙ c.to_text.ensures) c.string_append.ensures.step)
+    c.bytes.ensures c.string_append.ensures.step)

@@ -1,17 +1,13 @@
-use Rattle.std.proofs.Common.{◌∷◌, [], subst}
-use Rattle.seg_types.specs.declared.kinds.Kind.TheVariants.{Text}
-use Rattle.seg_types.specs.Commands.{Assign, Quoted}
-use Rattle.seg_types.specs.Keys.{key_seen}
-use Rattle.segment_manager.specs.State.{IsStepOfKind, done_answer}
+use Rattle.seg_types.specs.Names.{ByHandle}
+use Rattle.segment_manager.specs.State.{done_answer}
 use Rattle.segment_cli.proofs.ElementCalls.{no_text-refused, text-read}
 use Rattle.segment_cli.proofs.changing.assign_string.Goals as goal
 
 pub returns-in-Err-clause-step : goal.returns-in-Err-clause-step
 returns-in-Err-clause-step c =
-    no_text-refused c.args.segment.now (key_seen c.args.key.now) c.requires.of_kind.is c.args.values c.in-Err.why c.requires.of_kind.writing c.in-Err.ensures
+    no_text-refused c.args.segment.now (ByHandle c.args.object.handle) c.requires.of_kind.is c.args.values c.in-Err.why c.requires.of_kind.writing c.in-Err.ensures
 
 pub returns-in-Ok-clause-step : goal.returns-in-Ok-clause-step
 returns-in-Ok-clause-step c =
-    text-read c.args.segment.now (key_seen c.args.key.now) c.requires.of_kind.is c.string_assign.new.self c.args.values c.in-Ok.text (done_answer c.string_assign.result) c.in-Ok.ensures
-    (subst (λ bs. IsStepOfKind c.args.segment.now c.string_assign.new.self (key_seen c.args.key.now) Text (Assign (key_seen c.args.key.now) (Quoted bs ∷ [])) (done_answer c.string_assign.result))
-    c.as_slice.ensures c.string_assign.ensures.step)
+    text-read c.args.segment.now (ByHandle c.args.object.handle) c.requires.of_kind.is c.string_assign.new.self c.args.values c.in-Ok.text.now (done_answer c.string_assign.result) c.in-Ok.ensures
+    c.string_assign.ensures.step

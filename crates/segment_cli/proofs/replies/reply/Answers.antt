@@ -1,6 +1,6 @@
 -- Each arm is one call, which is the step of its command.
 use Rattle.std.proofs.Common.{refl, subst, true}
-use Rattle.seg_types.specs.Commands.{AllDeallocated, Append, Assign, Clear, Construct, ConstructIt, Destroy, DestroyPtr, Erase, Find, FindOrConstruct, Free, Get, Insert, Lookup, NumNamed, NumUnique, Push, Put, Remove, Reserve, Sanity, Set, Shrink, Size}
+use Rattle.seg_types.specs.Commands.{AllDeallocated, Append, Assign, Clear, Construct, ConstructIt, Destroy, DestroyPtr, Erase, Find, FindOrConstruct, Free, Insert, Lookup, NumNamed, NumUnique, Push, Put, Remove, Reserve, Sanity, Set, Shrink, Size}
 use Rattle.seg_types.specs.Keys.{index_key_seen, key_seen, new_key_seen}
 use Rattle.segment_lang.specs.Seen.{content_of, literal_of}
 use Rattle.segment_manager.specs.Answers.{Done, Made, Number, Truth}
@@ -8,7 +8,7 @@ use Rattle.segment_manager.specs.Found.{found_answer, pair_found}
 use Rattle.segment_manager.specs.Maps.{any_value_answer}
 use Rattle.segment_manager.specs.State.{IsReply}
 use Rattle.segment_cli.specs.declared.replies.Answer.TheVariants as said
-use Rattle.segment_cli.proofs.Answering.{keeps-refused, reads, replies-blocks, replies-call, replies-info, replies-kinds, replies-names, replies-read, replies-show}
+use Rattle.segment_cli.proofs.Answering.{keeps-refused, replies-blocks, replies-call, replies-info, replies-kinds, replies-names, replies-read, replies-show}
 use Rattle.segment_cli.proofs.replies.reply.Goals as goal
 
 pub returns-in-Construct : goal.returns-in-Construct
@@ -48,9 +48,6 @@ returns-in-Show c = rw c.in-Show.is (replies-show c.args.segment.now c.in-Show.k
 
 pub returns-in-Info : goal.returns-in-Info
 returns-in-Info c = rw c.in-Info.is (replies-info c.args.segment.now c.in-Info.key)
-
-pub returns-in-Get : goal.returns-in-Get
-returns-in-Get c = rw c.in-Get.is (reads c.args.segment.now (Get (key_seen c.in-Get.key) c.in-Get.index) c.get.result refl c.get.ensures)
 
 pub returns-in-Set : goal.returns-in-Set
 returns-in-Set c =

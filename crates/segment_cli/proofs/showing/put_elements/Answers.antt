@@ -13,7 +13,7 @@ returns-in_err-put_element g c =
     let was = c.elements.invariant in
     record {
       writes = λ d k.
-          part-cut (λ i. element_part (step s.mode d (Get (ByHandle c.args.handle) i)).0) (g.W.Sink.history c.args.out.now) (g.W.Sink.history c.elements.out) (g.W.Sink.history c.put_element.new.out) c.elements.index
+          part-cut (λ i. element_part (step s.mode d (Get (ByHandle c.args.object.handle) i)).0) (g.W.Sink.history c.args.out.now) (g.W.Sink.history c.elements.out) (g.W.Sink.history c.put_element.new.out) c.elements.index
           (was.told d k) was.failures c.args.count (omega (arith, c.elements-test.true)) _ (c.in_err-put_element.ensures.writes d k) c.from_residual.result c.from_residual.ensures.0;
       counted = omega (arith, c.in_err-put_element.ensures.counted, failures_in-err c.from_residual.result c.from_residual.ensures.0, was.failures);
     }

@@ -8,6 +8,6 @@ use Rattle.segment_cli.proofs.showing.put_elements.Given as goal
 abbrev pub invariant-elements : goal.invariant-elements
 invariant-elements g l = record {
   told : (d : Directory) → StandsFor l.segment.cut.bytes d
-      → (g.W.Sink.history l.out).bytes ≡ (g.W.Sink.history l.initial.out).bytes ++ elements_text l.segment.mode d (ByHandle l.handle) l.index;
+      → (g.W.Sink.history l.out).bytes ≡ (g.W.Sink.history l.initial.out).bytes ++ elements_text l.segment.mode d (ByHandle l.object.handle) l.index;
   failures : (g.W.Sink.history l.out).failures ≡ (g.W.Sink.history l.initial.out).failures;
 }

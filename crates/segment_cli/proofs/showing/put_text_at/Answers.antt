@@ -1,5 +1,5 @@
 use Rattle.std.proofs.Common.{ap}
-use Rattle.seg_types.specs.Keys.{key_seen}
+use Rattle.seg_types.specs.Names.{ByHandle}
 use Rattle.segment_manager.specs.Answers.{Refused, TextElement}
 use Rattle.segment_manager.specs.Directory.{Directory}
 use Rattle.segment_manager.specs.State.{StandsFor}
@@ -13,12 +13,12 @@ pub returns-in-Ok : goal.returns-in-Ok
 returns-in-Ok g c =
     let s = c.args.segment.now in
     writes_owed (g.W.Sink.history c.args.out.now) (g.W.Sink.history c.put_pieces.new.out) c.put_pieces.result (StandsFor s.cut.bytes)
-    (answer_text (TextElement c.in-Ok.text.now)) (λ (d : Directory). answer_text (text_at d (key_seen c.args.key.now) c.args.index)) c.put_pieces.ensures
-    (λ d k. ap answer_text (text-asked s (key_seen c.args.key.now) c.args.index _ c.in-Ok.ensures d k))
+    (answer_text (TextElement c.in-Ok.text.now)) (λ (d : Directory). answer_text (text_at d (ByHandle c.args.object.handle) c.args.index)) c.put_pieces.ensures
+    (λ d k. ap answer_text (text-asked s (ByHandle c.args.object.handle) c.args.index _ c.in-Ok.ensures d k))
 
 pub returns-in-Err : goal.returns-in-Err
 returns-in-Err g c =
     let s = c.args.segment.now in
     writes_owed (g.W.Sink.history c.args.out.now) (g.W.Sink.history c.put_pieces-in-Err.new.out) c.put_pieces-in-Err.result (StandsFor s.cut.bytes)
-    (answer_text (Refused c.in-Err.refusal)) (λ (d : Directory). answer_text (text_at d (key_seen c.args.key.now) c.args.index)) c.put_pieces-in-Err.ensures
-    (λ d k. ap answer_text (text-asked s (key_seen c.args.key.now) c.args.index _ c.in-Err.ensures d k))
+    (answer_text (Refused c.in-Err.refusal)) (λ (d : Directory). answer_text (text_at d (ByHandle c.args.object.handle) c.args.index)) c.put_pieces-in-Err.ensures
+    (λ d k. ap answer_text (text-asked s (ByHandle c.args.object.handle) c.args.index _ c.in-Err.ensures d k))

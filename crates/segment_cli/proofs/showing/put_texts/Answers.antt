@@ -1,5 +1,5 @@
 use Rattle.std.proofs.Common.{arith}
-use Rattle.seg_types.specs.Keys.{key_seen}
+use Rattle.seg_types.specs.Names.{ByHandle}
 use Rattle.segment_cli.specs.Parts.{element_part}
 use Rattle.segment_cli.specs.Replies.{text_at}
 use Rattle.segment_cli.proofs.Owed.{failures_in-err}
@@ -11,7 +11,7 @@ returns-in_err-put_text g c =
     let was = c.texts.invariant in
     record {
       writes = λ d k.
-          part-cut (λ i. element_part (text_at d (key_seen c.args.key.now) i)) (g.W.Sink.history c.args.out.now) (g.W.Sink.history c.texts.out) (g.W.Sink.history c.put_text.new.out) c.texts.index
+          part-cut (λ i. element_part (text_at d (ByHandle c.args.object.handle) i)) (g.W.Sink.history c.args.out.now) (g.W.Sink.history c.texts.out) (g.W.Sink.history c.put_text.new.out) c.texts.index
           (was.told d k) was.failures c.args.count (omega (arith, c.texts-test.true)) _ (c.in_err-put_text.ensures.writes d k) c.from_residual.result c.from_residual.ensures.0;
       counted = omega (arith, c.in_err-put_text.ensures.counted, failures_in-err c.from_residual.result c.from_residual.ensures.0, was.failures);
     }

@@ -1,7 +1,7 @@
 use Rattle.std.proofs.Common.{[], ◌∷◌, ◌++◌, arith}
 use Rattle.raw_region.proofs.Laws.{writes-behind, writes-cut}
 use Rattle.seg_types.specs.declared.kinds.Kind.TheVariants.{Texts}
-use Rattle.seg_types.specs.Keys.{key_seen}
+use Rattle.seg_types.specs.Names.{ByHandle}
 use Rattle.segment_lang.specs.Texts.{kind_text}
 use Rattle.segment_cli.specs.Shown.{texts_text}
 use Rattle.segment_cli.proofs.Owed.{failures_in-err}
@@ -14,7 +14,7 @@ returns-in_err-put_pieces g c =
     let result = c.from_residual.result in
     record {
       writes = λ d k.
-          writes-cut (g.W.Sink.history c.args.out.now) (g.W.Sink.history c.put_pieces.new.out) _ result (kind_text Texts) (texts_text d (key_seen c.args.key.now) c.args.count ++ 0x0A ∷ []) failed cut;
+          writes-cut (g.W.Sink.history c.args.out.now) (g.W.Sink.history c.put_pieces.new.out) _ result (kind_text Texts) (texts_text d (ByHandle c.args.object.handle) c.args.count ++ 0x0A ∷ []) failed cut;
       counted = omega (arith, cut.counted, failures_in-err result failed);
     }
 
@@ -27,8 +27,8 @@ returns-in_err-put_texts g c =
     record {
       writes = λ d k.
           writes-behind (g.W.Sink.history c.args.out.now) (g.W.Sink.history c.put_pieces.new.out) (g.W.Sink.history c.put_texts.new.out) result (kind_text Texts)
-          (texts_text d (key_seen c.args.key.now) c.args.count ++ 0x0A ∷ []) front.ok (omega (arith, front.counted))
-          (writes-cut (g.W.Sink.history c.put_pieces.new.out) (g.W.Sink.history c.put_texts.new.out) _ result (texts_text d (key_seen c.args.key.now) c.args.count) (0x0A ∷ []) failed (cut.writes d k));
+          (texts_text d (ByHandle c.args.object.handle) c.args.count ++ 0x0A ∷ []) front.ok (omega (arith, front.counted))
+          (writes-cut (g.W.Sink.history c.put_pieces.new.out) (g.W.Sink.history c.put_texts.new.out) _ result (texts_text d (ByHandle c.args.object.handle) c.args.count) (0x0A ∷ []) failed (cut.writes d k));
       counted = omega (arith, front.counted, cut.counted, failures_in-err result failed);
     }
 
@@ -40,8 +40,8 @@ returns g c =
     record {
       writes = λ d k.
           writes-behind (g.W.Sink.history c.args.out.now) (g.W.Sink.history c.put_pieces.new.out) (g.W.Sink.history last.new.out) last.result (kind_text Texts)
-          (texts_text d (key_seen c.args.key.now) c.args.count ++ 0x0A ∷ []) front.ok (omega (arith, front.counted))
+          (texts_text d (ByHandle c.args.object.handle) c.args.count ++ 0x0A ∷ []) front.ok (omega (arith, front.counted))
           (writes-behind (g.W.Sink.history c.put_pieces.new.out) (g.W.Sink.history c.put_texts.new.out) (g.W.Sink.history last.new.out) last.result
-          (texts_text d (key_seen c.args.key.now) c.args.count) (0x0A ∷ []) (middle.writes d k).ok (omega (arith, middle.counted)) last.ensures);
+          (texts_text d (ByHandle c.args.object.handle) c.args.count) (0x0A ∷ []) (middle.writes d k).ok (omega (arith, middle.counted)) last.ensures);
       counted = omega (arith, front.counted, middle.counted, last.ensures.counted);
     }

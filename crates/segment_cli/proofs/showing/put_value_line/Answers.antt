@@ -14,9 +14,9 @@ returns-in_err-put_elements g c =
     let result = c.from_residual-in_err-put_elements.result in
     record {
       writes = λ d k.
-          writes-behind (g.W.Sink.history c.args.out.now) (g.W.Sink.history c.put_front.new.out) (g.W.Sink.history c.put_elements.new.out) result (front_text c.args.kind c.args.count)
-          (elements_text s.mode d (ByHandle c.args.handle) c.args.count ++ 0x0A ∷ []) front.ok (omega (arith, front.counted))
-          (writes-cut (g.W.Sink.history c.put_front.new.out) (g.W.Sink.history c.put_elements.new.out) _ result (elements_text s.mode d (ByHandle c.args.handle) c.args.count) (0x0A ∷ []) failed (cut.writes d k));
+          writes-behind (g.W.Sink.history c.args.out.now) (g.W.Sink.history c.put_front.new.out) (g.W.Sink.history c.put_elements.new.out) result (front_text c.args.object.kind c.args.count)
+          (elements_text s.mode d (ByHandle c.args.object.handle) c.args.count ++ 0x0A ∷ []) front.ok (omega (arith, front.counted))
+          (writes-cut (g.W.Sink.history c.put_front.new.out) (g.W.Sink.history c.put_elements.new.out) _ result (elements_text s.mode d (ByHandle c.args.object.handle) c.args.count) (0x0A ∷ []) failed (cut.writes d k));
       counted = omega (arith, front.counted, cut.counted, failures_in-err result failed);
     }
 
@@ -27,9 +27,9 @@ returns g c =
     let middle = c.in_ok-put_elements.ensures in
     record {
       writes = λ d k.
-          writes-behind (g.W.Sink.history c.args.out.now) (g.W.Sink.history c.put_front.new.out) (g.W.Sink.history c.put_pieces.new.out) c.put_pieces.result (front_text c.args.kind c.args.count)
-          (elements_text s.mode d (ByHandle c.args.handle) c.args.count ++ 0x0A ∷ []) front.ok (omega (arith, front.counted))
+          writes-behind (g.W.Sink.history c.args.out.now) (g.W.Sink.history c.put_front.new.out) (g.W.Sink.history c.put_pieces.new.out) c.put_pieces.result (front_text c.args.object.kind c.args.count)
+          (elements_text s.mode d (ByHandle c.args.object.handle) c.args.count ++ 0x0A ∷ []) front.ok (omega (arith, front.counted))
           (writes-behind (g.W.Sink.history c.put_front.new.out) (g.W.Sink.history c.put_elements.new.out) (g.W.Sink.history c.put_pieces.new.out) c.put_pieces.result
-          (elements_text s.mode d (ByHandle c.args.handle) c.args.count) (0x0A ∷ []) (middle.writes d k).ok (omega (arith, middle.counted)) c.put_pieces.ensures);
+          (elements_text s.mode d (ByHandle c.args.object.handle) c.args.count) (0x0A ∷ []) (middle.writes d k).ok (omega (arith, middle.counted)) c.put_pieces.ensures);
       counted = omega (arith, front.counted, middle.counted, c.put_pieces.ensures.counted);
     }

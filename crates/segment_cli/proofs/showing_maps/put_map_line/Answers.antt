@@ -19,7 +19,7 @@ returns-in_err-put_pieces g c =
     let result = c.from_residual.result in
     record {
       writes = λ d k.
-          let rest = pairs_text c.args.keys c.args.values d (ByHandle c.args.handle) c.args.count ++ 0x0A ∷ [] in
+          let rest = pairs_text c.args.keys c.args.values d (ByHandle c.args.object.handle) c.args.count ++ 0x0A ∷ [] in
           subst (λ t. Writes old new result (t ++ rest)) (append-nil kind) (writes-cut old new _ result (kind ++ []) rest failed cut);
       counted = omega (arith, cut.counted, failures_in-err result failed);
     }
@@ -33,8 +33,8 @@ returns-in_err-put_pairs g c =
     record {
       writes = λ d k.
           writes-behind (g.W.Sink.history c.args.out.now) (g.W.Sink.history c.put_pieces.new.out) (g.W.Sink.history c.put_pairs.new.out) result (kind_text (Map c.args.keys c.args.values))
-          (pairs_text c.args.keys c.args.values d (ByHandle c.args.handle) c.args.count ++ 0x0A ∷ []) (front.ok ∙ ap (λ t. (g.W.Sink.history c.args.out.now).bytes ++ t) (append-nil (kind_text (Map c.args.keys c.args.values)))) (omega (arith, front.counted))
-          (writes-cut (g.W.Sink.history c.put_pieces.new.out) (g.W.Sink.history c.put_pairs.new.out) _ result (pairs_text c.args.keys c.args.values d (ByHandle c.args.handle) c.args.count) (0x0A ∷ []) failed (cut.writes d k));
+          (pairs_text c.args.keys c.args.values d (ByHandle c.args.object.handle) c.args.count ++ 0x0A ∷ []) (front.ok ∙ ap (λ t. (g.W.Sink.history c.args.out.now).bytes ++ t) (append-nil (kind_text (Map c.args.keys c.args.values)))) (omega (arith, front.counted))
+          (writes-cut (g.W.Sink.history c.put_pieces.new.out) (g.W.Sink.history c.put_pairs.new.out) _ result (pairs_text c.args.keys c.args.values d (ByHandle c.args.object.handle) c.args.count) (0x0A ∷ []) failed (cut.writes d k));
       counted = omega (arith, front.counted, cut.counted, failures_in-err result failed);
     }
 
@@ -46,8 +46,8 @@ returns g c =
     record {
       writes = λ d k.
           writes-behind (g.W.Sink.history c.args.out.now) (g.W.Sink.history c.put_pieces.new.out) (g.W.Sink.history last.new.out) last.result (kind_text (Map c.args.keys c.args.values))
-          (pairs_text c.args.keys c.args.values d (ByHandle c.args.handle) c.args.count ++ 0x0A ∷ []) (front.ok ∙ ap (λ t. (g.W.Sink.history c.args.out.now).bytes ++ t) (append-nil (kind_text (Map c.args.keys c.args.values)))) (omega (arith, front.counted))
+          (pairs_text c.args.keys c.args.values d (ByHandle c.args.object.handle) c.args.count ++ 0x0A ∷ []) (front.ok ∙ ap (λ t. (g.W.Sink.history c.args.out.now).bytes ++ t) (append-nil (kind_text (Map c.args.keys c.args.values)))) (omega (arith, front.counted))
           (writes-behind (g.W.Sink.history c.put_pieces.new.out) (g.W.Sink.history c.put_pairs.new.out) (g.W.Sink.history last.new.out) last.result
-          (pairs_text c.args.keys c.args.values d (ByHandle c.args.handle) c.args.count) (0x0A ∷ []) (middle.writes d k).ok (omega (arith, middle.counted)) last.ensures);
+          (pairs_text c.args.keys c.args.values d (ByHandle c.args.object.handle) c.args.count) (0x0A ∷ []) (middle.writes d k).ok (omega (arith, middle.counted)) last.ensures);
       counted = omega (arith, front.counted, middle.counted, last.ensures.counted);
     }

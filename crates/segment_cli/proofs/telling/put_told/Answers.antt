@@ -1,37 +1,25 @@
+use Rattle.std.proofs.Common.{ap, sym}
 use Rattle.seg_types.specs.Keys.{key_seen}
 use Rattle.segment_manager.specs.Answers.{Refused}
 use Rattle.segment_manager.specs.Directory.{Directory}
 use Rattle.segment_manager.specs.State.{StandsFor}
+use Rattle.segment_manager.proofs.Laws.{same-object}
 use Rattle.segment_cli.specs.Answer.{answer_text}
-use Rattle.segment_cli.specs.Replies.{told_at}
-use Rattle.segment_cli.proofs.Owed.{writes_owed}
-use Rattle.segment_cli.proofs.ListedObjects.{told-map, told-missing, told-numbers, told-said}
+use Rattle.segment_cli.specs.Replies.{told_at, told_of}
+use Rattle.segment_cli.proofs.ListedObjects.{told-missing}
+use Rattle.segment_cli.proofs.Owed.{writes_owed, writes_same}
 use Rattle.segment_cli.proofs.telling.put_told.Goals as goal
 
-pub returns-in-Map : goal.returns-in-Map
-returns-in-Map g c =
+pub returns-in-Ok : goal.returns-in-Ok
+returns-in-Ok g c =
     let s = c.args.segment.now in
-    writes_owed (g.W.Sink.history c.args.out.now) (g.W.Sink.history c.put_instance.new.out) c.put_instance.result (StandsFor s.cut.bytes)
-    _ (λ (d : Directory). answer_text (told_at d (key_seen c.args.key.now))) c.put_instance.ensures
-    (told-map s (key_seen c.args.key.now) c.in-Ok.said c.in-Ok.ensures c.in-Map.field-0 c.in-Map.field-1 c.in-Ok-measure.len c.in-Ok-measure.capacity c.in-Map.is c.in-Ok-measure.ensures)
-
-pub returns-in_default : goal.returns-in_default
-returns-in_default g c =
-    let s = c.args.segment.now in
-    writes_owed (g.W.Sink.history c.args.out.now) (g.W.Sink.history c.put_instance-in_default.new.out) c.put_instance-in_default.result (StandsFor s.cut.bytes)
-    _ (λ (d : Directory). answer_text (told_at d (key_seen c.args.key.now))) c.put_instance-in_default.ensures
-    (told-said s (key_seen c.args.key.now) c.in-Ok.said c.in-Ok.ensures c.in-Ok-measure.len c.in-Ok-measure.capacity c.in_default.not-Map c.in-Ok-measure.ensures)
-
-pub returns-in-Err-measure : goal.returns-in-Err-measure
-returns-in-Err-measure g c =
-    let s = c.args.segment.now in
-    writes_owed (g.W.Sink.history c.args.out.now) (g.W.Sink.history c.put_instance-in-Err-measure.new.out) c.put_instance-in-Err-measure.result (StandsFor s.cut.bytes)
-    _ (λ (d : Directory). answer_text (told_at d (key_seen c.args.key.now))) c.put_instance-in-Err-measure.ensures
-    (told-numbers s (key_seen c.args.key.now) c.in-Ok.said c.in-Ok.ensures c.in-Err-measure.field-0 c.in-Err-measure.ensures)
+    let key = key_seen c.args.key.now in
+    writes_same (g.W.Sink.history c.args.out.now) (g.W.Sink.history c.put_object.new.out) c.put_object.result (StandsFor s.cut.bytes)
+    _ (λ (d : Directory). answer_text (told_at d key)) c.put_object.ensures (λ d k. ap (λ r. answer_text (told_of r)) (sym (same-object s key c.in-Ok.object c.in-Ok.ensures d k)))
 
 pub returns-in-Err : goal.returns-in-Err
 returns-in-Err g c =
     let s = c.args.segment.now in
+    let key = key_seen c.args.key.now in
     writes_owed (g.W.Sink.history c.args.out.now) (g.W.Sink.history c.put_pieces.new.out) c.put_pieces.result (StandsFor s.cut.bytes)
-    (answer_text (Refused c.in-Err.refusal)) (λ (d : Directory). answer_text (told_at d (key_seen c.args.key.now))) c.put_pieces.ensures
-    (told-missing s (key_seen c.args.key.now) c.in-Err.refusal c.in-Err.ensures)
+    (answer_text (Refused c.in-Err.refusal)) (λ (d : Directory). answer_text (told_at d key)) c.put_pieces.ensures (told-missing s key c.in-Err.refusal c.in-Err.ensures)

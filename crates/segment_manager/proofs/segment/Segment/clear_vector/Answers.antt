@@ -4,7 +4,6 @@ use Rattle.seg_types.specs.declared.kinds.ScalarKind.{ScalarKind}
 use Rattle.seg_types.specs.declared.kinds.Kind.TheVariants.{Vector}
 use Rattle.seg_types.specs.Names.{Key}
 use Rattle.seg_types.specs.Commands.{Clear}
-use Rattle.seg_types.specs.Keys.{key_seen}
 use Rattle.segment_manager.specs.Contents.{container_at}
 use Rattle.segment_manager.specs.State.{Answers, State}
 use Rattle.segment_manager.specs.Step.{is_read_only}
@@ -18,7 +17,7 @@ use Rattle.segment_manager.proofs.segment.Segment.clear_vector.Goals as goal
 pub clear-requires : goal.clear-requires
 clear-requires g c =
     let s : State = record { cut = c.self.inside.heap; mode = c.self.inside.mode } in
-    let key : Key = key_seen c.args.key.now in
+    let key : Key = g.O.Target.key c.args.key.now in
     let k : ScalarKind = g.T.Scalar.kind in
     let law : IsOfKind k g.T.Scalar.whole g.T.Plain.SIZE g.T.Plain.is_value g.T.Plain.spelling =
     record { long = g.met.T.Scalar.size; values = g.met.T.Scalar.values; spelled = g.met.T.Scalar.spelled; reached = g.met.T.Scalar.reached } in
@@ -29,9 +28,9 @@ clear-requires g c =
 pub invariant_of-self : goal.invariant_of-self
 invariant_of-self g c =
     let s : State = record { cut = c.self.inside.heap; mode = c.self.inside.mode } in
-    let key : Key = key_seen c.args.key.now in
+    let key : Key = g.O.Target.key c.args.key.now in
     let k : ScalarKind = g.T.Scalar.kind in
-    let writing : is_read_only s.mode ≡ false = ap (λ (t : State). is_read_only t.mode) c.self.view_is ∙ c.requires in
+    let writing : is_read_only s.mode ≡ false = ap (λ (t : State). is_read_only t.mode) c.self.view_is ∙ c.requires.writing in
     let law : IsOfKind k g.T.Scalar.whole g.T.Plain.SIZE g.T.Plain.is_value g.T.Plain.spelling =
     record { long = g.met.T.Scalar.size; values = g.met.T.Scalar.values; spelled = g.met.T.Scalar.spelled; reached = g.met.T.Scalar.reached } in
     let found : Answers s (λ d. container_at d key (Vector k)) (Ok c.at.result.place) =
@@ -41,16 +40,16 @@ invariant_of-self g c =
 
 pub returns-in-Err-clause-step : goal.returns-in-Err-clause-step
 returns-in-Err-clause-step g c =
-    let key : Key = key_seen c.args.key.now in
+    let key : Key = g.O.Target.key c.args.key.now in
     let k : ScalarKind = g.T.Scalar.kind in
-    finds-no_container c.args.self.now key (Vector k) (Clear key) c.in-Err.why (open-writing c.args.self.now.mode (Clear key) c.requires) (subst (λ (l : ScalarKind). Answers c.args.self.now (λ d. container_at d key (Vector l)) (Err c.in-Err.why)) c.kind.ensures c.in-Err.ensures)
+    finds-no_container c.args.self.now key (Vector k) (Clear key) c.in-Err.why (open-writing c.args.self.now.mode (Clear key) c.requires.writing) (subst (λ (l : ScalarKind). Answers c.args.self.now (λ d. container_at d key (Vector l)) (Err c.in-Err.why)) c.kind.ensures c.in-Err.ensures)
 
 pub returns-in-Ok-clause-step : goal.returns-in-Ok-clause-step
 returns-in-Ok-clause-step g c =
     let s : State = record { cut = c.self.inside.heap; mode = c.self.inside.mode } in
-    let key : Key = key_seen c.args.key.now in
+    let key : Key = g.O.Target.key c.args.key.now in
     let k : ScalarKind = g.T.Scalar.kind in
-    let writing : is_read_only s.mode ≡ false = ap (λ (t : State). is_read_only t.mode) c.self.view_is ∙ c.requires in
+    let writing : is_read_only s.mode ≡ false = ap (λ (t : State). is_read_only t.mode) c.self.view_is ∙ c.requires.writing in
     let law : IsOfKind k g.T.Scalar.whole g.T.Plain.SIZE g.T.Plain.is_value g.T.Plain.spelling =
     record { long = g.met.T.Scalar.size; values = g.met.T.Scalar.values; spelled = g.met.T.Scalar.spelled; reached = g.met.T.Scalar.reached } in
     let found : Answers s (λ d. container_at d key (Vector k)) (Ok c.at.result.place) =

@@ -18,7 +18,7 @@ returns-then-is_read_only-clause-step c =
 pub construct_entered-requires-clause-key : goal.construct_entered-requires-clause-key
 construct_entered-requires-clause-key c =
     let b = c.as_bytes-bytes.ensures in
-    (names.ByName c.in-Name.name, (b.bytes, b.bytes, text-is_name c.in-Name.name (subst (λ bs. is_text_name bs ≡ true) b.bytes b.name)))
+    (names.ByName c.in-Name.name.bytes.now, (b.bytes, b.bytes, text-is_name c.in-Name.name.bytes.now (subst (λ bs. is_text_name bs ≡ true) b.bytes b.name)))
 
 pub construct_entered-requires-in-Unique-clause-key : goal.construct_entered-requires-in-Unique-clause-key
 construct_entered-requires-in-Unique-clause-key c =
@@ -30,8 +30,8 @@ returns-in-Name-clause-step c =
     λ z v.
     subst (λ (k : NewKey). IsStep c.args.self.now c.construct_entered.new.self (Construct (new_key_seen k) (Numbers c.args.kind (replicate c.args.count z))) (handle_answer c.construct_entered.result))
     (sym c.in-Name.is)
-    (c.construct_entered.ensures.step (names.ByName c.in-Name.name) z
-    (b.bytes, b.bytes, text-is_name c.in-Name.name (subst (λ bs. is_text_name bs ≡ true) b.bytes b.name)) v)
+    (c.construct_entered.ensures.step (names.ByName c.in-Name.name.bytes.now) z
+    (b.bytes, b.bytes, text-is_name c.in-Name.name.bytes.now (subst (λ bs. is_text_name bs ≡ true) b.bytes b.name)) v)
 
 pub returns-in-Unique-clause-step : goal.returns-in-Unique-clause-step
 returns-in-Unique-clause-step c =

@@ -20,7 +20,7 @@ returns-then-is_read_only-clause-step c =
 pub find_or_construct_entered-requires-clause-key : goal.find_or_construct_entered-requires-clause-key
 find_or_construct_entered-requires-clause-key c =
     let b = c.as_bytes-bytes.ensures in
-    (names.ByName c.in-Name.name, (b.bytes, b.bytes, text-is_name c.in-Name.name (subst (λ bs. is_text_name bs ≡ true) b.bytes b.name)))
+    (names.ByName c.in-Name.name.bytes.now, (b.bytes, b.bytes, text-is_name c.in-Name.name.bytes.now (subst (λ bs. is_text_name bs ≡ true) b.bytes b.name)))
 
 pub find_or_construct_entered-requires-in-Unique-clause-key : goal.find_or_construct_entered-requires-in-Unique-clause-key
 find_or_construct_entered-requires-in-Unique-clause-key c =
@@ -33,8 +33,8 @@ returns-in-Name-clause-step c =
     subst (λ (k : IndexKey). IsStep c.args.self.now c.find_or_construct_entered.new.self (FindOrConstruct (index_key_seen k) (Numbers c.args.kind (replicate c.args.count z)))
     (pair_answer c.find_or_construct_entered.result))
     (sym c.in-Name.is)
-    (c.find_or_construct_entered.ensures.step (names.ByName c.in-Name.name) z
-    (b.bytes, b.bytes, text-is_name c.in-Name.name (subst (λ bs. is_text_name bs ≡ true) b.bytes b.name)) v)
+    (c.find_or_construct_entered.ensures.step (names.ByName c.in-Name.name.bytes.now) z
+    (b.bytes, b.bytes, text-is_name c.in-Name.name.bytes.now (subst (λ bs. is_text_name bs ≡ true) b.bytes b.name)) v)
 
 pub returns-in-Unique-clause-step : goal.returns-in-Unique-clause-step
 returns-in-Unique-clause-step c =
@@ -48,7 +48,7 @@ returns-in-Unique-clause-step c =
 pub returns-in-Name-clause-found : goal.returns-in-Name-clause-found
 returns-in-Name-clause-found c =
     subst (λ (k : IndexKey). KeepsWhere c.args.self.now c.find_or_construct_entered.new.self (HasKey (index_key_seen k))) (sym c.in-Name.is)
-    (c.find_or_construct_entered.ensures.found (names.ByName c.in-Name.name) c.as_bytes-bytes.ensures.bytes)
+    (c.find_or_construct_entered.ensures.found (names.ByName c.in-Name.name.bytes.now) c.as_bytes-bytes.ensures.bytes)
 
 pub returns-in-Unique-clause-found : goal.returns-in-Unique-clause-found
 returns-in-Unique-clause-found c =

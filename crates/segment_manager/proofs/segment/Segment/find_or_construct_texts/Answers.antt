@@ -22,7 +22,7 @@ returns-then-is_read_only-clause-step c =
 pub texts_of_entry-requires-clause-key : goal.texts_of_entry-requires-clause-key
 texts_of_entry-requires-clause-key c =
     let b = c.as_bytes-name.ensures in
-    (names.ByName c.in-Name.name, (b.bytes, b.bytes, text-is_name c.in-Name.name (subst (λ bs. is_text_name bs ≡ true) b.bytes b.name)))
+    (names.ByName c.in-Name.name.bytes.now, (b.bytes, b.bytes, text-is_name c.in-Name.name.bytes.now (subst (λ bs. is_text_name bs ≡ true) b.bytes b.name)))
 
 pub texts_of_entry-requires-in-Unique-clause-key : goal.texts_of_entry-requires-in-Unique-clause-key
 texts_of_entry-requires-in-Unique-clause-key c =
@@ -32,7 +32,7 @@ pub returns-in-Name-clause-step : goal.returns-in-Name-clause-step
 returns-in-Name-clause-step c =
     let b = c.as_bytes-name.ensures in
     subst (λ (k : IndexKey). IsStep c.args.self.now c.texts_of_entry.new.self (FindOrConstruct (index_key_seen k) (Strings (map (λ (text : Bor (List ℕ)). text.now) c.args.texts.now))) (pair_answer c.texts_of_entry.result)) (sym c.in-Name.is)
-    (c.texts_of_entry.ensures.step (names.ByName c.in-Name.name) (b.bytes, b.bytes, text-is_name c.in-Name.name (subst (λ bs. is_text_name bs ≡ true) b.bytes b.name)))
+    (c.texts_of_entry.ensures.step (names.ByName c.in-Name.name.bytes.now) (b.bytes, b.bytes, text-is_name c.in-Name.name.bytes.now (subst (λ bs. is_text_name bs ≡ true) b.bytes b.name)))
 
 pub returns-in-Unique-clause-step : goal.returns-in-Unique-clause-step
 returns-in-Unique-clause-step c =
@@ -42,7 +42,7 @@ returns-in-Unique-clause-step c =
 pub returns-in-Name-clause-found : goal.returns-in-Name-clause-found
 returns-in-Name-clause-found c =
     subst (λ (k : IndexKey). KeepsWhere c.args.self.now c.texts_of_entry.new.self (HasKey (index_key_seen k))) (sym c.in-Name.is)
-    (c.texts_of_entry.ensures.found (names.ByName c.in-Name.name) c.as_bytes-name.ensures.bytes)
+    (c.texts_of_entry.ensures.found (names.ByName c.in-Name.name.bytes.now) c.as_bytes-name.ensures.bytes)
 
 pub returns-in-Unique-clause-found : goal.returns-in-Unique-clause-found
 returns-in-Unique-clause-found c =

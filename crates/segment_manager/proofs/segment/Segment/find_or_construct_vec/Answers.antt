@@ -21,7 +21,7 @@ returns-then-is_read_only-clause-step g c =
 pub vec_of_entry-requires-clause-key : goal.vec_of_entry-requires-clause-key
 vec_of_entry-requires-clause-key g c =
     let b = c.as_bytes-bytes.ensures in
-    (names.ByName c.in-Name.name, (b.bytes, b.bytes, text-is_name c.in-Name.name (subst (λ bs. is_text_name bs ≡ true) b.bytes b.name)))
+    (names.ByName c.in-Name.name.bytes.now, (b.bytes, b.bytes, text-is_name c.in-Name.name.bytes.now (subst (λ bs. is_text_name bs ≡ true) b.bytes b.name)))
 
 pub vec_of_entry-requires-in-Unique-clause-key : goal.vec_of_entry-requires-in-Unique-clause-key
 vec_of_entry-requires-in-Unique-clause-key g c =
@@ -31,7 +31,7 @@ pub returns-in-Name-clause-step : goal.returns-in-Name-clause-step
 returns-in-Name-clause-step g c =
     let b = c.as_bytes-bytes.ensures in
     subst (λ (k : IndexKey). IsStep c.args.self.now c.vec_of_entry.new.self (FindOrConstruct (index_key_seen k) (Elements g.T.Scalar.kind (map g.T.Scalar.whole c.args.values.now))) (pair_answer c.vec_of_entry.result)) (sym c.in-Name.is)
-    (c.vec_of_entry.ensures.step (names.ByName c.in-Name.name) (b.bytes, b.bytes, text-is_name c.in-Name.name (subst (λ bs. is_text_name bs ≡ true) b.bytes b.name)))
+    (c.vec_of_entry.ensures.step (names.ByName c.in-Name.name.bytes.now) (b.bytes, b.bytes, text-is_name c.in-Name.name.bytes.now (subst (λ bs. is_text_name bs ≡ true) b.bytes b.name)))
 
 pub returns-in-Unique-clause-step : goal.returns-in-Unique-clause-step
 returns-in-Unique-clause-step g c =
@@ -41,7 +41,7 @@ returns-in-Unique-clause-step g c =
 pub returns-in-Name-clause-found : goal.returns-in-Name-clause-found
 returns-in-Name-clause-found g c =
     subst (λ (k : IndexKey). KeepsWhere c.args.self.now c.vec_of_entry.new.self (HasKey (index_key_seen k))) (sym c.in-Name.is)
-    (c.vec_of_entry.ensures.found (names.ByName c.in-Name.name) c.as_bytes-bytes.ensures.bytes)
+    (c.vec_of_entry.ensures.found (names.ByName c.in-Name.name.bytes.now) c.as_bytes-bytes.ensures.bytes)
 
 pub returns-in-Unique-clause-found : goal.returns-in-Unique-clause-found
 returns-in-Unique-clause-found g c =

@@ -1,15 +1,34 @@
--- The element of the object at the handle.
+-- The kind of the object that was located says which call it is.
+use Rattle.std.proofs.Common.{refl}
+use Rattle.seg_types.specs.declared.kinds.ScalarKind.TheVariants.{U8}
+use Rattle.seg_types.specs.declared.kinds.Kind.TheVariants.{Scalar, Text, Vector}
+use Rattle.seg_types.specs.declared.refusals.Refusal.TheVariants.{WrongKind}
 use Rattle.seg_types.specs.Commands.{Get}
-use Rattle.seg_types.specs.Keys.{key_seen}
+use Rattle.seg_types.specs.Names.{Key}
 use Rattle.segment_manager.specs.State.{scalar_answer}
-use Rattle.segment_manager.proofs.AnyKind.{any-missing, by_handle-replies, found-object}
+use Rattle.segment_manager.proofs.AnyKind.{any-missing, located-replies, of_kind-none, other-elements}
+use Rattle.segment_manager.proofs.Locating.{kind-by_key}
 use Rattle.segment_manager.proofs.segment.Segment.get_any.Goals as goal
 
-pub element_in-requires : goal.element_in-requires
-element_in-requires c = found-object c.args.self.now (key_seen c.args.key.now) c.in-Some.handle c.in-Some.ensures
+pub returns-in-Err : goal.returns-in-Err
+returns-in-Err g c = let key : Key = g.O.Target.key c.args.key.now in any-missing c.args.self.now key (Get key c.args.index) c.in-Err.why c.in-Err.ensures
 
-pub returns-in-None : goal.returns-in-None
-returns-in-None c = any-missing c.args.self.now (key_seen c.args.key.now) (Get (key_seen c.args.key.now) c.args.index) c.in-None.ensures
+pub returns-in-Scalar : goal.returns-in-Scalar
+returns-in-Scalar g c =
+    located-replies c.args.self.now (g.O.Target.key c.args.key.now) c.in-Ok.object c.in-Ok.ensures (Scalar c.in-Scalar.kind) c.in-Scalar.kind c.args.index (scalar_answer c.get_value.result) c.in-Scalar.is refl
+    c.get_value.ensures
 
-pub returns-in-Some : goal.returns-in-Some
-returns-in-Some c = by_handle-replies c.args.self.now (key_seen c.args.key.now) c.in-Some.handle c.args.index (scalar_answer c.element_in.result) c.in-Some.ensures c.element_in.ensures
+pub returns-in-Vector : goal.returns-in-Vector
+returns-in-Vector g c =
+    located-replies c.args.self.now (g.O.Target.key c.args.key.now) c.in-Ok.object c.in-Ok.ensures (Vector c.in-Vector.kind) c.in-Vector.kind c.args.index (scalar_answer c.get_in_vector.result) c.in-Vector.is refl
+    c.get_in_vector.ensures
+
+pub returns-in-Text : goal.returns-in-Text
+returns-in-Text g c =
+    located-replies c.args.self.now (g.O.Target.key c.args.key.now) c.in-Ok.object c.in-Ok.ensures Text U8 c.args.index (scalar_answer c.get_in_string.result) c.in-Text.is refl c.get_in_string.ensures
+
+pub returns-in_default : goal.returns-in_default
+returns-in_default g c =
+    let key : Key = g.O.Target.key c.args.key.now in
+    of_kind-none c.args.self.now key c.in-Ok.object.kind WrongKind (Get key c.args.index) (kind-by_key c.args.self.now key c.in-Ok.object c.in-Ok.ensures)
+    (other-elements c.in-Ok.object.kind c.in_default.not-Scalar c.in_default.not-Vector c.in_default.not-Text)

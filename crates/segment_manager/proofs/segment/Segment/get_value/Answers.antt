@@ -7,7 +7,6 @@ use Rattle.seg_types.specs.declared.kinds.ScalarKind.{ScalarKind}
 use Rattle.seg_types.specs.Kinds.{size_of}
 use Rattle.seg_types.specs.declared.kinds.Kind.TheVariants.{Scalar}
 use Rattle.seg_types.specs.Commands.{Get}
-use Rattle.seg_types.specs.Keys.{key_seen}
 use Rattle.segment_manager.specs.Standing.{place_at}
 use Rattle.segment_manager.specs.State.{Answers, IsReplyOfKind, State, scalar_answer}
 use Rattle.segment_manager.proofs.Calling.{denotes-heap}
@@ -15,26 +14,26 @@ use Rattle.segment_manager.proofs.Replies.{place-room, replies-found, replies-mi
 use Rattle.segment_manager.proofs.segment.Segment.get_value.Goals as goal
 
 pub element-requires-clause-heap : goal.element-requires-clause-heap
-element-requires-clause-heap c = denotes-heap current c.self.inside.heap.bytes c.self.invariant.0 c.self.invariant.1.denotes
+element-requires-clause-heap g c = denotes-heap current c.self.inside.heap.bytes c.self.invariant.0 c.self.invariant.1.denotes
 
 pub element-requires-clause-room : goal.element-requires-clause-room
-element-requires-clause-room c =
+element-requires-clause-room g c =
     let s : State = record { cut = c.self.inside.heap; mode = c.self.inside.mode } in
     subst (λ n. IsTrue (has_room (live_of c.self.inside.heap.bytes) c.in-Ok.place.handle (c.in-Ok.place.at + n))) (sym c.size.ensures)
-    (place-room s (key_seen c.args.key.now) c.args.kind c.args.index c.in-Ok.place c.self.invariant
-    (subst (λ t. Answers t (λ d. place_at d (key_seen c.args.key.now) c.args.kind c.args.index) (Ok c.in-Ok.place)) (sym c.self.view_is) c.in-Ok.ensures))
+    (place-room s (g.O.Target.key c.args.key.now) c.args.kind c.args.index c.in-Ok.place c.self.invariant
+    (subst (λ t. Answers t (λ d. place_at d (g.O.Target.key c.args.key.now) c.args.kind c.args.index) (Ok c.in-Ok.place)) (sym c.self.view_is) c.in-Ok.ensures))
 
 pub returns-in-Err : goal.returns-in-Err
-returns-in-Err c = replies-missing c.args.self.now (key_seen c.args.key.now) c.args.kind c.args.index c.in-Err.why c.in-Err.ensures
+returns-in-Err g c = replies-missing c.args.self.now (g.O.Target.key c.args.key.now) c.args.kind c.args.index c.in-Err.why c.in-Err.ensures
 
 pub returns-in-Ok : goal.returns-in-Ok
-returns-in-Ok c =
+returns-in-Ok g c =
     let s : State = record { cut = c.self.inside.heap; mode = c.self.inside.mode } in
     let k : ScalarKind = c.args.kind in
-    let found : Answers s (λ d. place_at d (key_seen c.args.key.now) k c.args.index) (Ok c.in-Ok.place) =
-    subst (λ t. Answers t (λ d. place_at d (key_seen c.args.key.now) k c.args.index) (Ok c.in-Ok.place)) (sym c.self.view_is) c.in-Ok.ensures in
+    let found : Answers s (λ d. place_at d (g.O.Target.key c.args.key.now) k c.args.index) (Ok c.in-Ok.place) =
+    subst (λ t. Answers t (λ d. place_at d (g.O.Target.key c.args.key.now) k c.args.index) (Ok c.in-Ok.place)) (sym c.self.view_is) c.in-Ok.ensures in
     let bytes : c.element.result.now ≡ read (bytes_of c.self.inside.heap.bytes) (c.in-Ok.place.handle + c.in-Ok.place.at) (size_of k) =
     c.element.ensures.bytes ∙ ap (λ n. read (bytes_of c.self.inside.heap.bytes) (c.in-Ok.place.handle + c.in-Ok.place.at) n) c.size.ensures in
-    subst (λ t. IsReplyOfKind t (key_seen c.args.key.now) (Scalar k) (Get (key_seen c.args.key.now) c.args.index) (scalar_answer c.ok_or.result)) c.self.view_is
-    (replies-found s (key_seen c.args.key.now) k c.args.index c.in-Ok.place (scalar_answer c.ok_or.result) found
+    subst (λ t. IsReplyOfKind t (g.O.Target.key c.args.key.now) (Scalar k) (Get (g.O.Target.key c.args.key.now) c.args.index) (scalar_answer c.ok_or.result)) c.self.view_is
+    (replies-found s (g.O.Target.key c.args.key.now) k c.args.index c.in-Ok.place (scalar_answer c.ok_or.result) found
     (λ z v e. scalar-answer k z c.element.result.now c.read.result c.ok_or.result c.ok_or.ensures.value v (bytes ∙ e) c.read.ensures))

@@ -1,7 +1,6 @@
 -- The object of the key is read.
 use Rattle.std.proofs.Common.{sym, subst, Some}
 use Rattle.raw_region.specs.Format.{current}
-use Rattle.seg_types.specs.Keys.{key_seen}
 use Rattle.segment_manager.specs.Found.{handle_at}
 use Rattle.segment_manager.specs.Instances.{SaysOf}
 use Rattle.segment_manager.specs.State.{Answers, State}
@@ -11,19 +10,19 @@ use Rattle.segment_manager.proofs.Tellings.{key-missing, key-says}
 use Rattle.segment_manager.proofs.segment.Segment.instance.Goals as goal
 
 pub returns-in-None : goal.returns-in-None
-returns-in-None c = key-missing c.args.self.now (key_seen c.args.key.now) c.in-None.ensures
+returns-in-None g c = key-missing c.args.self.now (g.O.Target.key c.args.key.now) c.in-None.ensures
 
 pub read_instance-requires-clause-heap : goal.read_instance-requires-clause-heap
-read_instance-requires-clause-heap c = denotes-heap current c.self.inside.heap.bytes c.self.invariant.0 c.self.invariant.1.denotes
+read_instance-requires-clause-heap g c = denotes-heap current c.self.inside.heap.bytes c.self.invariant.0 c.self.invariant.1.denotes
 
 pub read_instance-requires-clause-object : goal.read_instance-requires-clause-object
-read_instance-requires-clause-object c =
+read_instance-requires-clause-object g c =
     let s : State = record { cut = c.self.inside.heap; mode = c.self.inside.mode } in
-    has-object s (key_seen c.args.key.now) c.in-Some.handle c.self.invariant (subst (λ t. Answers t (λ d. handle_at d (key_seen c.args.key.now)) (Some c.in-Some.handle)) (sym c.self.view_is) c.in-Some.ensures)
+    has-object s (g.O.Target.key c.args.key.now) c.in-Some.handle c.self.invariant (subst (λ t. Answers t (λ d. handle_at d (g.O.Target.key c.args.key.now)) (Some c.in-Some.handle)) (sym c.self.view_is) c.in-Some.ensures)
 
 pub returns-in-Some : goal.returns-in-Some
-returns-in-Some c =
+returns-in-Some g c =
     let s : State = record { cut = c.self.inside.heap; mode = c.self.inside.mode } in
-    subst (λ t. SaysOf t (key_seen c.args.key.now) c.read_instance.result) c.self.view_is
-    (key-says s (key_seen c.args.key.now) c.in-Some.handle c.read_instance.result
-    (subst (λ t. Answers t (λ d. handle_at d (key_seen c.args.key.now)) (Some c.in-Some.handle)) (sym c.self.view_is) c.in-Some.ensures) c.read_instance.ensures)
+    subst (λ t. SaysOf t (g.O.Target.key c.args.key.now) c.read_instance.result) c.self.view_is
+    (key-says s (g.O.Target.key c.args.key.now) c.in-Some.handle c.read_instance.result
+    (subst (λ t. Answers t (λ d. handle_at d (g.O.Target.key c.args.key.now)) (Some c.in-Some.handle)) (sym c.self.view_is) c.in-Some.ensures) c.read_instance.ensures)

@@ -1,5 +1,4 @@
 -- The pair is looked for in the map that is found.
-use Rattle.seg_types.specs.Keys.{key_seen}
 use Rattle.segment_manager.specs.Maps.{pair_above}
 use Rattle.segment_manager.specs.State.{State}
 use Rattle.segment_manager.proofs.MapAnswers.{above-there, some-there}
@@ -14,10 +13,10 @@ next_after-requires g c =
     let vl : IsScalarOf g.V.Scalar.kind g.V.Plain g.V.Scalar.whole =
     record { long = g.met.V.Scalar.size; values = g.met.V.Scalar.values; spelled = g.met.V.Scalar.spelled; ordered = g.met.V.Scalar.ordered; reached = g.met.V.Scalar.reached } in
     let s : State = record { cut = c.self.inside.heap; mode = c.self.inside.mode } in
-    some-there g.K.Scalar.kind g.V.Scalar.kind g.K.Plain g.V.Plain g.K.Scalar.whole g.V.Scalar.whole kl vl s c.args.self.now c.self.view_is (key_seen c.args.key.now) c.in-Ok.place c.at.result.place c.at.ensures c.self.invariant c.in-Ok.ensures
+    some-there g.K.Scalar.kind g.V.Scalar.kind g.K.Plain g.V.Plain g.K.Scalar.whole g.V.Scalar.whole kl vl s c.args.self.now c.self.view_is (g.O.Target.key c.args.key.now) c.in-Ok.place c.at.result.place c.at.ensures c.self.invariant c.in-Ok.ensures
 
 pub returns-in-Err : goal.returns-in-Err
-returns-in-Err g c = tells-nothing c.args.self.now (key_seen c.args.key.now) g.K.Scalar.kind g.V.Scalar.kind (pair_above (g.K.Scalar.whole c.args.after)) c.in-Err.why c.in-Err.ensures
+returns-in-Err g c = tells-nothing c.args.self.now (g.O.Target.key c.args.key.now) g.K.Scalar.kind g.V.Scalar.kind (pair_above (g.K.Scalar.whole c.args.after)) c.in-Err.why c.in-Err.ensures
 
 pub returns-in-Ok : goal.returns-in-Ok
 returns-in-Ok g c =
@@ -26,4 +25,4 @@ returns-in-Ok g c =
     let vl : IsScalarOf g.V.Scalar.kind g.V.Plain g.V.Scalar.whole =
     record { long = g.met.V.Scalar.size; values = g.met.V.Scalar.values; spelled = g.met.V.Scalar.spelled; ordered = g.met.V.Scalar.ordered; reached = g.met.V.Scalar.reached } in
     let s : State = record { cut = c.self.inside.heap; mode = c.self.inside.mode } in
-    above-there g.K.Scalar.kind g.V.Scalar.kind g.K.Plain g.V.Plain g.K.Scalar.whole g.V.Scalar.whole kl vl s c.args.self.now c.self.view_is (key_seen c.args.key.now) c.in-Ok.place c.at.result.place c.at.ensures c.self.invariant c.in-Ok.ensures c.args.after c.next_after.result c.next_after.ensures.item
+    above-there g.K.Scalar.kind g.V.Scalar.kind g.K.Plain g.V.Plain g.K.Scalar.whole g.V.Scalar.whole kl vl s c.args.self.now c.self.view_is (g.O.Target.key c.args.key.now) c.in-Ok.place c.at.result.place c.at.ensures c.self.invariant c.in-Ok.ensures c.args.after c.next_after.result c.next_after.ensures.item

@@ -1,7 +1,6 @@
 -- The number of pairs stands in the map that is found.
 use Rattle.std.proofs.Common.{refl, sym, subst, ◌+◌, ◌≤◌, Ok, arith}
 use Rattle.seg_types.specs.declared.kinds.Kind.TheVariants.{Map}
-use Rattle.seg_types.specs.Keys.{key_seen}
 use Rattle.segment_manager.specs.Contents.{container_at, sizes_at_kind}
 use Rattle.segment_manager.specs.State.{Answers, State}
 use Rattle.segment_manager.proofs.AnyStorage.{measures-nothing}
@@ -9,26 +8,26 @@ use Rattle.segment_manager.proofs.MapAnswers.{count-room, pairs-measured, place-
 use Rattle.segment_manager.proofs.segment.Segment.measure_pairs.Goals as goal
 
 pub overflow_add-place : goal.overflow_add-place
-overflow_add-place c =
+overflow_add-place g c =
     let s : State = record { cut = c.self.inside.heap; mode = c.self.inside.mode } in
     let small : c.in-Ok.place.at + 8 ≤ 4096 =
-    place-small s (key_seen c.args.key.now) c.args.keys c.args.values c.in-Ok.place
-    (subst (λ (t : State). Answers t (λ d. container_at d (key_seen c.args.key.now) (Map c.args.keys c.args.values)) (Ok c.in-Ok.place)) (sym c.self.view_is) c.in-Ok.ensures) c.self.invariant in
+    place-small s (g.O.Target.key c.args.key.now) c.args.keys c.args.values c.in-Ok.place
+    (subst (λ (t : State). Answers t (λ d. container_at d (g.O.Target.key c.args.key.now) (Map c.args.keys c.args.values)) (Ok c.in-Ok.place)) (sym c.self.view_is) c.in-Ok.ensures) c.self.invariant in
     omega (arith, small)
 
 pub word-requires : goal.word-requires
-word-requires c =
+word-requires g c =
     let s : State = record { cut = c.self.inside.heap; mode = c.self.inside.mode } in
-    count-room s (key_seen c.args.key.now) c.args.keys c.args.values c.in-Ok.place
-    (subst (λ (t : State). Answers t (λ d. container_at d (key_seen c.args.key.now) (Map c.args.keys c.args.values)) (Ok c.in-Ok.place)) (sym c.self.view_is) c.in-Ok.ensures) _ c.self.invariant refl
+    count-room s (g.O.Target.key c.args.key.now) c.args.keys c.args.values c.in-Ok.place
+    (subst (λ (t : State). Answers t (λ d. container_at d (g.O.Target.key c.args.key.now) (Map c.args.keys c.args.values)) (Ok c.in-Ok.place)) (sym c.self.view_is) c.in-Ok.ensures) _ c.self.invariant refl
 
 pub returns-in-Err : goal.returns-in-Err
-returns-in-Err c = measures-nothing c.args.self.now (key_seen c.args.key.now) (Map c.args.keys c.args.values) c.in-Err.why c.in-Err.ensures
+returns-in-Err g c = measures-nothing c.args.self.now (g.O.Target.key c.args.key.now) (Map c.args.keys c.args.values) c.in-Err.why c.in-Err.ensures
 
 pub returns-in-Ok : goal.returns-in-Ok
-returns-in-Ok c =
+returns-in-Ok g c =
     let s : State = record { cut = c.self.inside.heap; mode = c.self.inside.mode } in
-    subst (λ (t : State). Answers t (λ d. sizes_at_kind d (key_seen c.args.key.now) (Map c.args.keys c.args.values)) (Ok (c.word.result, 0))) c.self.view_is
-    (pairs-measured s (key_seen c.args.key.now) c.args.keys c.args.values c.in-Ok.place
-    (subst (λ (t : State). Answers t (λ d. container_at d (key_seen c.args.key.now) (Map c.args.keys c.args.values)) (Ok c.in-Ok.place)) (sym c.self.view_is) c.in-Ok.ensures)
+    subst (λ (t : State). Answers t (λ d. sizes_at_kind d (g.O.Target.key c.args.key.now) (Map c.args.keys c.args.values)) (Ok (c.word.result, 0))) c.self.view_is
+    (pairs-measured s (g.O.Target.key c.args.key.now) c.args.keys c.args.values c.in-Ok.place
+    (subst (λ (t : State). Answers t (λ d. container_at d (g.O.Target.key c.args.key.now) (Map c.args.keys c.args.values)) (Ok c.in-Ok.place)) (sym c.self.view_is) c.in-Ok.ensures)
     c.word.result _ refl c.word.ensures)

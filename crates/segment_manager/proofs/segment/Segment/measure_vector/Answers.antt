@@ -2,7 +2,6 @@
 use Rattle.std.proofs.Common.{sym, subst, Ok, Err}
 use Rattle.seg_types.specs.declared.kinds.ScalarKind.{ScalarKind}
 use Rattle.seg_types.specs.declared.kinds.Kind.TheVariants.{Vector}
-use Rattle.seg_types.specs.Keys.{key_seen}
 use Rattle.seg_types.specs.Names.{Key}
 use Rattle.segment_manager.specs.Contents.{container_at, sizes_at_kind}
 use Rattle.segment_manager.specs.State.{Answers, State}
@@ -14,7 +13,7 @@ use Rattle.segment_manager.proofs.segment.Segment.measure_vector.Goals as goal
 pub len-requires : goal.len-requires
 len-requires g c =
     let s : State = record { cut = c.self.inside.heap; mode = c.self.inside.mode } in
-    let key : Key = key_seen c.args.key.now in
+    let key : Key = g.O.Target.key c.args.key.now in
     let k : ScalarKind = g.T.Scalar.kind in
     let law : IsOfKind k g.T.Scalar.whole g.T.Plain.SIZE g.T.Plain.is_value g.T.Plain.spelling =
     record { long = g.met.T.Scalar.size; values = g.met.T.Scalar.values; spelled = g.met.T.Scalar.spelled; reached = g.met.T.Scalar.reached } in
@@ -25,7 +24,7 @@ len-requires g c =
 pub capacity-requires : goal.capacity-requires
 capacity-requires g c =
     let s : State = record { cut = c.self.inside.heap; mode = c.self.inside.mode } in
-    let key : Key = key_seen c.args.key.now in
+    let key : Key = g.O.Target.key c.args.key.now in
     let k : ScalarKind = g.T.Scalar.kind in
     let law : IsOfKind k g.T.Scalar.whole g.T.Plain.SIZE g.T.Plain.is_value g.T.Plain.spelling =
     record { long = g.met.T.Scalar.size; values = g.met.T.Scalar.values; spelled = g.met.T.Scalar.spelled; reached = g.met.T.Scalar.reached } in
@@ -35,7 +34,7 @@ capacity-requires g c =
 
 pub returns-in-Err : goal.returns-in-Err
 returns-in-Err g c =
-    let key : Key = key_seen c.args.key.now in
+    let key : Key = g.O.Target.key c.args.key.now in
     let k : ScalarKind = g.T.Scalar.kind in
     measures-nothing c.args.self.now key (Vector k) c.in-Err.why
     (subst (λ (l : ScalarKind). Answers c.args.self.now (λ d. container_at d key (Vector l)) (Err c.in-Err.why)) c.kind.ensures c.in-Err.ensures)
@@ -43,7 +42,7 @@ returns-in-Err g c =
 pub returns-in-Ok : goal.returns-in-Ok
 returns-in-Ok g c =
     let s : State = record { cut = c.self.inside.heap; mode = c.self.inside.mode } in
-    let key : Key = key_seen c.args.key.now in
+    let key : Key = g.O.Target.key c.args.key.now in
     let k : ScalarKind = g.T.Scalar.kind in
     let law : IsOfKind k g.T.Scalar.whole g.T.Plain.SIZE g.T.Plain.is_value g.T.Plain.spelling =
     record { long = g.met.T.Scalar.size; values = g.met.T.Scalar.values; spelled = g.met.T.Scalar.spelled; reached = g.met.T.Scalar.reached } in

@@ -4,7 +4,6 @@ use Rattle.seg_types.specs.declared.kinds.ScalarKind.{ScalarKind}
 use Rattle.seg_types.specs.declared.kinds.Kind.TheVariants.{Vector}
 use Rattle.seg_types.specs.Names.{Key}
 use Rattle.seg_types.specs.Commands.{Reserve}
-use Rattle.seg_types.specs.Keys.{key_seen}
 use Rattle.segment_manager.specs.Contents.{container_at}
 use Rattle.segment_manager.specs.State.{Answers, State}
 use Rattle.segment_manager.specs.Step.{is_read_only}
@@ -19,7 +18,7 @@ use Rattle.segment_manager.proofs.segment.Segment.reserve_vector.Goals as goal
 pub reserve-requires : goal.reserve-requires
 reserve-requires g c =
     let s : State = record { cut = c.self.inside.heap; mode = c.self.inside.mode } in
-    let key : Key = key_seen c.args.key.now in
+    let key : Key = g.O.Target.key c.args.key.now in
     let k : ScalarKind = g.T.Scalar.kind in
     let law : IsOfKind k g.T.Scalar.whole g.T.Plain.SIZE g.T.Plain.is_value g.T.Plain.spelling =
     record { long = g.met.T.Scalar.size; values = g.met.T.Scalar.values; spelled = g.met.T.Scalar.spelled; reached = g.met.T.Scalar.reached } in
@@ -30,9 +29,9 @@ reserve-requires g c =
 pub invariant_of-self : goal.invariant_of-self
 invariant_of-self g c =
     let s : State = record { cut = c.self.inside.heap; mode = c.self.inside.mode } in
-    let key : Key = key_seen c.args.key.now in
+    let key : Key = g.O.Target.key c.args.key.now in
     let k : ScalarKind = g.T.Scalar.kind in
-    let writing : is_read_only s.mode ≡ false = ap (λ (t : State). is_read_only t.mode) c.self.view_is ∙ c.requires in
+    let writing : is_read_only s.mode ≡ false = ap (λ (t : State). is_read_only t.mode) c.self.view_is ∙ c.requires.writing in
     let law : IsOfKind k g.T.Scalar.whole g.T.Plain.SIZE g.T.Plain.is_value g.T.Plain.spelling =
     record { long = g.met.T.Scalar.size; values = g.met.T.Scalar.values; spelled = g.met.T.Scalar.spelled; reached = g.met.T.Scalar.reached } in
     let found : Answers s (λ d. container_at d key (Vector k)) (Ok c.at.result.place) =
@@ -42,16 +41,16 @@ invariant_of-self g c =
 
 pub returns-in-Err-clause-step : goal.returns-in-Err-clause-step
 returns-in-Err-clause-step g c =
-    let key : Key = key_seen c.args.key.now in
+    let key : Key = g.O.Target.key c.args.key.now in
     let k : ScalarKind = g.T.Scalar.kind in
-    finds-no_container c.args.self.now key (Vector k) (Reserve key c.args.n) c.in-Err.why (open-writing c.args.self.now.mode (Reserve key c.args.n) c.requires) (subst (λ (l : ScalarKind). Answers c.args.self.now (λ d. container_at d key (Vector l)) (Err c.in-Err.why)) c.kind.ensures c.in-Err.ensures)
+    finds-no_container c.args.self.now key (Vector k) (Reserve key c.args.n) c.in-Err.why (open-writing c.args.self.now.mode (Reserve key c.args.n) c.requires.writing) (subst (λ (l : ScalarKind). Answers c.args.self.now (λ d. container_at d key (Vector l)) (Err c.in-Err.why)) c.kind.ensures c.in-Err.ensures)
 
 pub returns-in-Ok-clause-step : goal.returns-in-Ok-clause-step
 returns-in-Ok-clause-step g c =
     let s : State = record { cut = c.self.inside.heap; mode = c.self.inside.mode } in
-    let key : Key = key_seen c.args.key.now in
+    let key : Key = g.O.Target.key c.args.key.now in
     let k : ScalarKind = g.T.Scalar.kind in
-    let writing : is_read_only s.mode ≡ false = ap (λ (t : State). is_read_only t.mode) c.self.view_is ∙ c.requires in
+    let writing : is_read_only s.mode ≡ false = ap (λ (t : State). is_read_only t.mode) c.self.view_is ∙ c.requires.writing in
     let law : IsOfKind k g.T.Scalar.whole g.T.Plain.SIZE g.T.Plain.is_value g.T.Plain.spelling =
     record { long = g.met.T.Scalar.size; values = g.met.T.Scalar.values; spelled = g.met.T.Scalar.spelled; reached = g.met.T.Scalar.reached } in
     let found : Answers s (λ d. container_at d key (Vector k)) (Ok c.at.result.place) =
@@ -62,9 +61,9 @@ returns-in-Ok-clause-step g c =
 pub returns-in-Ok-clause-refused : goal.returns-in-Ok-clause-refused
 returns-in-Ok-clause-refused g c =
     let s : State = record { cut = c.self.inside.heap; mode = c.self.inside.mode } in
-    let key : Key = key_seen c.args.key.now in
+    let key : Key = g.O.Target.key c.args.key.now in
     let k : ScalarKind = g.T.Scalar.kind in
-    let writing : is_read_only s.mode ≡ false = ap (λ (t : State). is_read_only t.mode) c.self.view_is ∙ c.requires in
+    let writing : is_read_only s.mode ≡ false = ap (λ (t : State). is_read_only t.mode) c.self.view_is ∙ c.requires.writing in
     let law : IsOfKind k g.T.Scalar.whole g.T.Plain.SIZE g.T.Plain.is_value g.T.Plain.spelling =
     record { long = g.met.T.Scalar.size; values = g.met.T.Scalar.values; spelled = g.met.T.Scalar.spelled; reached = g.met.T.Scalar.reached } in
     let found : Answers s (λ d. container_at d key (Vector k)) (Ok c.at.result.place) =
@@ -75,7 +74,7 @@ returns-in-Ok-clause-refused g c =
 pub returns-in-Ok-clause-enough : goal.returns-in-Ok-clause-enough
 returns-in-Ok-clause-enough g c =
     let s : State = record { cut = c.self.inside.heap; mode = c.self.inside.mode } in
-    let key : Key = key_seen c.args.key.now in
+    let key : Key = g.O.Target.key c.args.key.now in
     let k : ScalarKind = g.T.Scalar.kind in
     let law : IsOfKind k g.T.Scalar.whole g.T.Plain.SIZE g.T.Plain.is_value g.T.Plain.spelling =
     record { long = g.met.T.Scalar.size; values = g.met.T.Scalar.values; spelled = g.met.T.Scalar.spelled; reached = g.met.T.Scalar.reached } in

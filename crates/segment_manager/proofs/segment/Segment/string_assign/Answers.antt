@@ -3,7 +3,6 @@ use Rattle.std.proofs.Common.{◌≡◌, refl, sym, ap, subst, ◌∙◌, [], �
 use Rattle.seg_types.specs.declared.kinds.Kind.TheVariants.{Text}
 use Rattle.seg_types.specs.Names.{Key}
 use Rattle.seg_types.specs.Commands.{Assign, Quoted}
-use Rattle.seg_types.specs.Keys.{key_seen}
 use Rattle.segment_manager.specs.Contents.{container_at}
 use Rattle.segment_manager.specs.State.{Answers, State}
 use Rattle.segment_manager.specs.Step.{is_read_only}
@@ -14,21 +13,21 @@ use Rattle.segment_manager.proofs.TextAnswers.{fits-bytes, text-assigned, some-t
 use Rattle.segment_manager.proofs.segment.Segment.string_assign.Goals as goal
 
 pub returns-then-is_read_only-clause-step : goal.returns-then-is_read_only-clause-step
-returns-then-is_read_only-clause-step c =
-    let key : Key = key_seen c.args.key.now in
+returns-then-is_read_only-clause-step g c =
+    let key : Key = g.O.Target.key c.args.key.now in
     refuses_of_kind-read_only c.args.self.now key Text (Assign key (Quoted c.args.bytes.now ∷ [])) (sym c.is_read_only.ensures ∙ c.if-is_read_only.true) refl
 
 pub assign-requires : goal.assign-requires
-assign-requires c =
+assign-requires g c =
     let s : State = record { cut = c.self.inside.heap; mode = c.self.inside.mode } in
-    let key : Key = key_seen c.args.key.now in
+    let key : Key = g.O.Target.key c.args.key.now in
     let writing : is_read_only s.mode ≡ false = ap (λ (t : State). is_read_only t.mode) c.self.view_is ∙ sym c.is_read_only.ensures ∙ c.if-is_read_only.false in
     some-text s key c.in-Ok.place c.self.invariant (subst (λ (t : State). Answers t (λ d. container_at d key Text) (Ok c.in-Ok.place)) (sym c.self.view_is) c.in-Ok.ensures) c.self.inside.heap writing
 
 pub invariant_of-self : goal.invariant_of-self
-invariant_of-self c =
+invariant_of-self g c =
     let s : State = record { cut = c.self.inside.heap; mode = c.self.inside.mode } in
-    let key : Key = key_seen c.args.key.now in
+    let key : Key = g.O.Target.key c.args.key.now in
     let writing : is_read_only s.mode ≡ false = ap (λ (t : State). is_read_only t.mode) c.self.view_is ∙ sym c.is_read_only.ensures ∙ c.if-is_read_only.false in
     let found : Answers s (λ d. container_at d key Text) (Ok c.in-Ok.place) = subst (λ (t : State). Answers t (λ d. container_at d key Text) (Ok c.in-Ok.place)) (sym c.self.view_is) c.in-Ok.ensures in
     let done : StepsSafely s c.assign.new.heap key Text (Assign key (Quoted c.args.bytes.now ∷ [])) c.assign.result =
@@ -36,15 +35,15 @@ invariant_of-self c =
     safe-segment s c.args.self.now c.self.view_is c.assign.new.heap key Text (Assign key (Quoted c.args.bytes.now ∷ [])) c.assign.result done c.self.invariant
 
 pub returns-in-Err-clause-step : goal.returns-in-Err-clause-step
-returns-in-Err-clause-step c =
-    let key : Key = key_seen c.args.key.now in
+returns-in-Err-clause-step g c =
+    let key : Key = g.O.Target.key c.args.key.now in
     let writing : is_read_only c.args.self.now.mode ≡ false = sym c.is_read_only.ensures ∙ c.if-is_read_only.false in
     finds-no_container c.args.self.now key Text (Assign key (Quoted c.args.bytes.now ∷ [])) c.in-Err.why (open-writing c.args.self.now.mode (Assign key (Quoted c.args.bytes.now ∷ [])) writing) c.in-Err.ensures
 
 pub returns-in-Ok-clause-step : goal.returns-in-Ok-clause-step
-returns-in-Ok-clause-step c =
+returns-in-Ok-clause-step g c =
     let s : State = record { cut = c.self.inside.heap; mode = c.self.inside.mode } in
-    let key : Key = key_seen c.args.key.now in
+    let key : Key = g.O.Target.key c.args.key.now in
     let writing : is_read_only s.mode ≡ false = ap (λ (t : State). is_read_only t.mode) c.self.view_is ∙ sym c.is_read_only.ensures ∙ c.if-is_read_only.false in
     let found : Answers s (λ d. container_at d key Text) (Ok c.in-Ok.place) = subst (λ (t : State). Answers t (λ d. container_at d key Text) (Ok c.in-Ok.place)) (sym c.self.view_is) c.in-Ok.ensures in
     let done : StepsSafely s c.assign.new.heap key Text (Assign key (Quoted c.args.bytes.now ∷ [])) c.assign.result =
@@ -52,9 +51,9 @@ returns-in-Ok-clause-step c =
     safe-step s c.args.self.now c.self.view_is c.assign.new.heap key Text (Assign key (Quoted c.args.bytes.now ∷ [])) c.assign.result done
 
 pub returns-in-Ok-clause-refused : goal.returns-in-Ok-clause-refused
-returns-in-Ok-clause-refused c =
+returns-in-Ok-clause-refused g c =
     let s : State = record { cut = c.self.inside.heap; mode = c.self.inside.mode } in
-    let key : Key = key_seen c.args.key.now in
+    let key : Key = g.O.Target.key c.args.key.now in
     let writing : is_read_only s.mode ≡ false = ap (λ (t : State). is_read_only t.mode) c.self.view_is ∙ sym c.is_read_only.ensures ∙ c.if-is_read_only.false in
     let found : Answers s (λ d. container_at d key Text) (Ok c.in-Ok.place) = subst (λ (t : State). Answers t (λ d. container_at d key Text) (Ok c.in-Ok.place)) (sym c.self.view_is) c.in-Ok.ensures in
     let done : StepsSafely s c.assign.new.heap key Text (Assign key (Quoted c.args.bytes.now ∷ [])) c.assign.result =

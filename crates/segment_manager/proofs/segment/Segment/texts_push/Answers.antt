@@ -3,7 +3,6 @@ use Rattle.std.proofs.Common.{◌≡◌, refl, sym, ap, subst, ◌∙◌, false,
 use Rattle.seg_types.specs.declared.kinds.Kind.TheVariants.{Texts}
 use Rattle.seg_types.specs.Names.{Key}
 use Rattle.seg_types.specs.Commands.{Push, Quoted}
-use Rattle.seg_types.specs.Keys.{key_seen}
 use Rattle.segment_manager.specs.Contents.{container_at}
 use Rattle.segment_manager.specs.State.{Answers, State}
 use Rattle.segment_manager.specs.Step.{is_read_only}
@@ -16,21 +15,21 @@ use Rattle.segment_manager.proofs.TextsHeld.{some-texts}
 use Rattle.segment_manager.proofs.segment.Segment.texts_push.Goals as goal
 
 pub returns-then-is_read_only-clause-step : goal.returns-then-is_read_only-clause-step
-returns-then-is_read_only-clause-step c =
-    let key : Key = key_seen c.args.key.now in
+returns-then-is_read_only-clause-step g c =
+    let key : Key = g.O.Target.key c.args.key.now in
     refuses_of_kind-read_only c.args.self.now key Texts (Push key (Quoted c.args.text.now)) (sym c.is_read_only.ensures ∙ c.if-is_read_only.true) refl
 
 pub push-requires : goal.push-requires
-push-requires c =
+push-requires g c =
     let s : State = record { cut = c.self.inside.heap; mode = c.self.inside.mode } in
-    let key : Key = key_seen c.args.key.now in
+    let key : Key = g.O.Target.key c.args.key.now in
     let found : Answers s (λ d. container_at d key Texts) (Ok c.in-Ok.place) = subst (λ (t : State). Answers t (λ d. container_at d key Texts) (Ok c.in-Ok.place)) (sym c.self.view_is) c.in-Ok.ensures in
     some-texts s key c.in-Ok.place c.self.invariant found
 
 pub invariant_of-self : goal.invariant_of-self
-invariant_of-self c =
+invariant_of-self g c =
     let s : State = record { cut = c.self.inside.heap; mode = c.self.inside.mode } in
-    let key : Key = key_seen c.args.key.now in
+    let key : Key = g.O.Target.key c.args.key.now in
     let writing : is_read_only s.mode ≡ false = ap (λ (t : State). is_read_only t.mode) c.self.view_is ∙ sym c.is_read_only.ensures ∙ c.if-is_read_only.false in
     let found : Answers s (λ d. container_at d key Texts) (Ok c.in-Ok.place) = subst (λ (t : State). Answers t (λ d. container_at d key Texts) (Ok c.in-Ok.place)) (sym c.self.view_is) c.in-Ok.ensures in
     let done : StepsKeeping s c.push.new.heap key (Push key (Quoted c.args.text.now)) c.push.result =
@@ -38,15 +37,15 @@ invariant_of-self c =
     kept-segment s c.args.self.now c.self.view_is c.push.new.heap key (Push key (Quoted c.args.text.now)) c.push.result done c.self.invariant
 
 pub returns-in-Err-clause-step : goal.returns-in-Err-clause-step
-returns-in-Err-clause-step c =
-    let key : Key = key_seen c.args.key.now in
+returns-in-Err-clause-step g c =
+    let key : Key = g.O.Target.key c.args.key.now in
     let writing : is_read_only c.args.self.now.mode ≡ false = sym c.is_read_only.ensures ∙ c.if-is_read_only.false in
     finds-no_container c.args.self.now key Texts (Push key (Quoted c.args.text.now)) c.in-Err.why (open-writing c.args.self.now.mode (Push key (Quoted c.args.text.now)) writing) c.in-Err.ensures
 
 pub returns-in-Ok-clause-step : goal.returns-in-Ok-clause-step
-returns-in-Ok-clause-step c =
+returns-in-Ok-clause-step g c =
     let s : State = record { cut = c.self.inside.heap; mode = c.self.inside.mode } in
-    let key : Key = key_seen c.args.key.now in
+    let key : Key = g.O.Target.key c.args.key.now in
     let writing : is_read_only s.mode ≡ false = ap (λ (t : State). is_read_only t.mode) c.self.view_is ∙ sym c.is_read_only.ensures ∙ c.if-is_read_only.false in
     let found : Answers s (λ d. container_at d key Texts) (Ok c.in-Ok.place) = subst (λ (t : State). Answers t (λ d. container_at d key Texts) (Ok c.in-Ok.place)) (sym c.self.view_is) c.in-Ok.ensures in
     let done : StepsKeeping s c.push.new.heap key (Push key (Quoted c.args.text.now)) c.push.result =
@@ -54,9 +53,9 @@ returns-in-Ok-clause-step c =
     kept-step s c.args.self.now c.self.view_is c.push.new.heap key (Push key (Quoted c.args.text.now)) c.push.result done
 
 pub returns-in-Ok-clause-refused : goal.returns-in-Ok-clause-refused
-returns-in-Ok-clause-refused c =
+returns-in-Ok-clause-refused g c =
     let s : State = record { cut = c.self.inside.heap; mode = c.self.inside.mode } in
-    let key : Key = key_seen c.args.key.now in
+    let key : Key = g.O.Target.key c.args.key.now in
     let writing : is_read_only s.mode ≡ false = ap (λ (t : State). is_read_only t.mode) c.self.view_is ∙ sym c.is_read_only.ensures ∙ c.if-is_read_only.false in
     let found : Answers s (λ d. container_at d key Texts) (Ok c.in-Ok.place) = subst (λ (t : State). Answers t (λ d. container_at d key Texts) (Ok c.in-Ok.place)) (sym c.self.view_is) c.in-Ok.ensures in
     let done : StepsKeeping s c.push.new.heap key (Push key (Quoted c.args.text.now)) c.push.result =

@@ -4,7 +4,6 @@ use Rattle.seg_types.specs.declared.kinds.ScalarKind.{ScalarKind}
 use Rattle.seg_types.specs.declared.kinds.Kind.TheVariants.{Vector}
 use Rattle.seg_types.specs.Names.{Key}
 use Rattle.seg_types.specs.Commands.{Get}
-use Rattle.seg_types.specs.Keys.{key_seen}
 use Rattle.segment_manager.specs.Answers.{Element, Refused}
 use Rattle.segment_manager.specs.Contents.{container_at}
 use Rattle.segment_manager.specs.State.{Answers, IsReplyOfKind, State, answer_of}
@@ -19,7 +18,7 @@ pub get-requires : goal.get-requires
 get-requires g c =
     let s : State = record { cut = c.self.inside.heap; mode = c.self.inside.mode } in
     let k : ScalarKind = g.T.Scalar.kind in
-    let key : Key = key_seen c.args.key.now in
+    let key : Key = g.O.Target.key c.args.key.now in
     let law : IsOfKind k g.T.Scalar.whole g.T.Plain.SIZE g.T.Plain.is_value g.T.Plain.spelling =
     record { long = g.met.T.Scalar.size; values = g.met.T.Scalar.values; spelled = g.met.T.Scalar.spelled; reached = g.met.T.Scalar.reached } in
     let found : Answers s (λ d. container_at d key (Vector k)) (Ok c.at.result.place) =
@@ -29,7 +28,7 @@ get-requires g c =
 pub returns-in-Err : goal.returns-in-Err
 returns-in-Err g c =
     let k : ScalarKind = g.T.Scalar.kind in
-    let key : Key = key_seen c.args.key.now in
+    let key : Key = g.O.Target.key c.args.key.now in
     step_of_kind-reply c.args.self.now key (Vector k) (Get key c.args.index) (Refused c.in-Err.why)
     (finds-no_container c.args.self.now key (Vector k) (Get key c.args.index) c.in-Err.why (open-reading c.args.self.now.mode (Get key c.args.index) refl)
     (subst (λ (l : ScalarKind). Answers c.args.self.now (λ d. container_at d key (Vector l)) (Err c.in-Err.why)) c.kind.ensures c.in-Err.ensures))
@@ -38,7 +37,7 @@ pub returns-in-Ok : goal.returns-in-Ok
 returns-in-Ok g c =
     let s : State = record { cut = c.self.inside.heap; mode = c.self.inside.mode } in
     let k : ScalarKind = g.T.Scalar.kind in
-    let key : Key = key_seen c.args.key.now in
+    let key : Key = g.O.Target.key c.args.key.now in
     let law : IsOfKind k g.T.Scalar.whole g.T.Plain.SIZE g.T.Plain.is_value g.T.Plain.spelling =
     record { long = g.met.T.Scalar.size; values = g.met.T.Scalar.values; spelled = g.met.T.Scalar.spelled; reached = g.met.T.Scalar.reached } in
     let found : Answers s (λ d. container_at d key (Vector k)) (Ok c.at.result.place) =

@@ -4,7 +4,6 @@ use Rattle.seg_types.specs.declared.kinds.ScalarKind.{ScalarKind}
 use Rattle.seg_types.specs.declared.kinds.Kind.TheVariants.{Vector}
 use Rattle.seg_types.specs.Names.{Key}
 use Rattle.seg_types.specs.Commands.{Pop}
-use Rattle.seg_types.specs.Keys.{key_seen}
 use Rattle.segment_manager.specs.Contents.{container_at}
 use Rattle.segment_manager.specs.State.{Answers, State}
 use Rattle.segment_manager.specs.Step.{is_read_only}
@@ -16,7 +15,7 @@ use Rattle.segment_manager.proofs.segment.Segment.vec_pop.Goals as goal
 
 pub returns-then-is_read_only-clause-step : goal.returns-then-is_read_only-clause-step
 returns-then-is_read_only-clause-step g c =
-    let key : Key = key_seen c.args.key.now in
+    let key : Key = g.O.Target.key c.args.key.now in
     let k : ScalarKind = g.T.Scalar.kind in
     refuses_of_kind-read_only c.args.self.now key (Vector k) (Pop key) (sym c.is_read_only.ensures ∙ c.if-is_read_only.true) refl
 
@@ -24,7 +23,7 @@ pub pop-requires : goal.pop-requires
 pop-requires g c =
     let s : State = record { cut = c.self.inside.heap; mode = c.self.inside.mode } in
     let k : ScalarKind = g.T.Scalar.kind in
-    let key : Key = key_seen c.args.key.now in
+    let key : Key = g.O.Target.key c.args.key.now in
     let law : IsOfKind k g.T.Scalar.whole g.T.Plain.SIZE g.T.Plain.is_value g.T.Plain.spelling =
     record { long = g.met.T.Scalar.size; values = g.met.T.Scalar.values; spelled = g.met.T.Scalar.spelled; reached = g.met.T.Scalar.reached } in
     let found : Answers s (λ d. container_at d key (Vector k)) (Ok c.at.result.place) =
@@ -35,7 +34,7 @@ pub invariant_of-self : goal.invariant_of-self
 invariant_of-self g c =
     let s : State = record { cut = c.self.inside.heap; mode = c.self.inside.mode } in
     let k : ScalarKind = g.T.Scalar.kind in
-    let key : Key = key_seen c.args.key.now in
+    let key : Key = g.O.Target.key c.args.key.now in
     let writing : is_read_only s.mode ≡ false = ap (λ (t : State). is_read_only t.mode) c.self.view_is ∙ sym c.is_read_only.ensures ∙ c.if-is_read_only.false in
     let law : IsOfKind k g.T.Scalar.whole g.T.Plain.SIZE g.T.Plain.is_value g.T.Plain.spelling =
     record { long = g.met.T.Scalar.size; values = g.met.T.Scalar.values; spelled = g.met.T.Scalar.spelled; reached = g.met.T.Scalar.reached } in
@@ -47,7 +46,7 @@ invariant_of-self g c =
 
 pub returns-in-Err-clause-step : goal.returns-in-Err-clause-step
 returns-in-Err-clause-step g c =
-    let key : Key = key_seen c.args.key.now in
+    let key : Key = g.O.Target.key c.args.key.now in
     let k : ScalarKind = g.T.Scalar.kind in
     let writing : is_read_only c.args.self.now.mode ≡ false = sym c.is_read_only.ensures ∙ c.if-is_read_only.false in
     finds-no_container c.args.self.now key (Vector k) (Pop key) c.in-Err.why (open-writing c.args.self.now.mode (Pop key) writing)
@@ -57,7 +56,7 @@ pub returns-in-Ok-clause-step : goal.returns-in-Ok-clause-step
 returns-in-Ok-clause-step g c =
     let s : State = record { cut = c.self.inside.heap; mode = c.self.inside.mode } in
     let k : ScalarKind = g.T.Scalar.kind in
-    let key : Key = key_seen c.args.key.now in
+    let key : Key = g.O.Target.key c.args.key.now in
     let writing : is_read_only s.mode ≡ false = ap (λ (t : State). is_read_only t.mode) c.self.view_is ∙ sym c.is_read_only.ensures ∙ c.if-is_read_only.false in
     let law : IsOfKind k g.T.Scalar.whole g.T.Plain.SIZE g.T.Plain.is_value g.T.Plain.spelling =
     record { long = g.met.T.Scalar.size; values = g.met.T.Scalar.values; spelled = g.met.T.Scalar.spelled; reached = g.met.T.Scalar.reached } in
@@ -71,7 +70,7 @@ pub returns-in-Ok-clause-refused : goal.returns-in-Ok-clause-refused
 returns-in-Ok-clause-refused g c =
     let s : State = record { cut = c.self.inside.heap; mode = c.self.inside.mode } in
     let k : ScalarKind = g.T.Scalar.kind in
-    let key : Key = key_seen c.args.key.now in
+    let key : Key = g.O.Target.key c.args.key.now in
     let writing : is_read_only s.mode ≡ false = ap (λ (t : State). is_read_only t.mode) c.self.view_is ∙ sym c.is_read_only.ensures ∙ c.if-is_read_only.false in
     let law : IsOfKind k g.T.Scalar.whole g.T.Plain.SIZE g.T.Plain.is_value g.T.Plain.spelling =
     record { long = g.met.T.Scalar.size; values = g.met.T.Scalar.values; spelled = g.met.T.Scalar.spelled; reached = g.met.T.Scalar.reached } in

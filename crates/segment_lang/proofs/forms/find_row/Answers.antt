@@ -1,0 +1,12 @@
+use Rattle.std.proofs.Common.{rules, tests}
+use Rattle.std.proofs.lemmas.Iterator.{YieldsList-from_slice}
+use Rattle.std.proofs.lemmas.Iterator.Search.{find_from_yields_List}
+use Rattle.segment_lang.specs.Words.{is}
+use Rattle.segment_lang.specs.declared.forms.CommandForm.{CommandForm}
+use Rattle.segment_lang.proofs.FormTables.{LentRow, found_row}
+use Rattle.segment_lang.proofs.forms.find_row.Goals as goal
+
+pub returns : goal.returns
+returns c =
+    let found = find_from_yields_List (λ (row : LentRow CommandForm). is c.args.word.now row.0.now) _ _ c.find.result c.find.ensures.ran (YieldsList-from_slice c.args.rows.now c.iter.ensures.rest) (λ x b q k. search (rules, tests)) in
+    found_row c.args.rows.now c.args.word.now c.find.result c.map.result found (search rules)

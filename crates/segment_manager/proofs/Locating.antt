@@ -1,0 +1,186 @@
+-- An object that was located: it is that of the key, and what a command does under its handle it does under the key.
+use Rattle.std.proofs.Common.{◌≡◌, refl, sym, ap, subst, ◌∙◌, ℕ, ◌&&◌, Option, Some, None, Result, Ok, Err, if◌then◌else◌}
+use Rattle.std.specs.Prelude.{is_some, option_map}
+use Rattle.std.proofs.lemmas.Option.{same_Some}
+use Rattle.raw_region.specs.Format.{current}
+use Rattle.seg_types.specs.declared.kinds.Kind.{Kind}
+use Rattle.seg_types.specs.declared.refusals.Refusal.{Refusal}
+use Rattle.seg_types.specs.declared.refusals.Refusal.TheVariants.{NotFound, ReadOnly, WrongKind}
+use Rattle.seg_types.specs.Kinds.{same_kind}
+use Rattle.seg_types.specs.Names.{Key, ByHandle}
+use Rattle.seg_types.specs.Commands as asked
+use Rattle.seg_types.specs.Commands.{Command, is_changing}
+use Rattle.segment_manager.specs.declared.head.Head.{Head}
+use Rattle.segment_manager.specs.declared.targets.Object.{Object as Located}
+use Rattle.segment_manager.specs.Answers.{Answer, refusal_of}
+use Rattle.segment_manager.specs.Calls.{kind_at}
+use Rattle.segment_manager.specs.Contents.{sizes_at, sizes_at_kind, sizes_of, sizes_of_kind}
+use Rattle.segment_manager.specs.Directory.{Object, Directory, kind_of, live, object_at}
+use Rattle.segment_manager.specs.Found.{handle_at}
+use Rattle.segment_manager.specs.Keeping.{HasPlaces, KeepsWhere}
+use Rattle.segment_manager.specs.Laws.{HandlesMeanObjects, KeysMeanObjects, KeysOfKindMeanObjects, at_key}
+use Rattle.segment_manager.specs.Located.{IsLocated, located}
+use Rattle.segment_manager.specs.Plan.{Plan, Refuse, perform, with}
+use Rattle.segment_manager.specs.Standing.{IsHeadOf, StandsAt}
+use Rattle.segment_manager.specs.State.{Answers, IsReply, IsReplyOfKind, IsStep, IsStepOfKind, Moves, State, StandsFor}
+use Rattle.segment_manager.specs.Step.{effect, is_read_only, step, step_of_kind}
+use Rattle.segment_manager.specs.TextLists.{LeadsOnOfKind}
+use Rattle.segment_manager.proofs.AnyStorage.{measures-kind, of_kind-steps}
+use Rattle.segment_manager.proofs.Bridge.{by-handle}
+use Rattle.segment_manager.proofs.Here.{IsHere, here}
+
+-- ---- the object
+
+-- what the head of the object at the handle says is what is located
+pub locates : (s : State) (key : Key) (h : ℕ) (head : Head) → Answers s (λ d. handle_at d key) (Some h) → ((o : Object) → StandsAt s.cut.bytes h o → IsHeadOf o head)
+    → IsLocated s key (record { handle = h; kind = head.kind; count = head.count })
+locates s key h head a says = record {
+  at = record {
+    answers = λ d k.
+        let o : IsHere s.cut.bytes d key h = here s.cut.bytes d key h k.denotes (a.answers d k) in
+        let said : IsHeadOf o.object head = says o.object o.stands in
+        (λ i. Some (record { handle = o.stands.at i; kind = said.kind i; count = said.count i })) ∙ sym (ap (option_map located) o.is);
+  };
+  here = record {
+    answers = λ d k.
+        let o : IsHere s.cut.bytes d key h = here s.cut.bytes d key h k.denotes (a.answers d k) in
+        sym (ap is_some (ap (λ n. object_at d (ByHandle n)) o.stands.at ∙ by-handle current d key o.object k.denotes.directory o.is));
+  };
+}
+
+-- the object of the key, of which this is said
+pub record IsSaidAt (d : Directory) (key : Key) (o : Located) : Type 0 where
+  pub object : Object
+  pub is : object_at d key ≡ Some object
+  pub said : o ≡ located object
+
+said-if : (d : Directory) (key : Key) (o : Located) (r : Option Object) → object_at d key ≡ r → Some o ≡ option_map located r → IsSaidAt d key o
+said-if d key o None e f = absurd (cc)
+said-if d key o (Some p) e f = record { object = p; is = e; said = same_Some o (located p) f }
+
+pub said-at : (s : State) (key : Key) (o : Located) → IsLocated s key o → (d : Directory) → StandsFor s.cut.bytes d → IsSaidAt d key o
+said-at s key o l d k = said-if d key o (object_at d key) refl (l.at.answers d k)
+
+pub same-object : HandlesMeanObjects
+same-object s key o l d k =
+    let p : IsSaidAt d key o = said-at s key o l d k in
+    p.is ∙ sym (ap (λ (q : Located). object_at d (ByHandle q.handle)) p.said ∙ by-handle current d key p.object k.denotes.directory p.is)
+
+-- ---- two keys of one object
+
+abbrev going_on : (Object → Plan) → Option Object → Plan
+going_on next r = with (elim r as (λ _. Result Object Refusal) [ None ↦ Err NotFound | Some o ↦ Ok o ]) next
+
+effect-same : (d : Directory) (key other : Key) (c : Command) → object_at d key ≡ object_at d other → effect d (at_key key c) ≡ effect d (at_key other c)
+effect-same d key other (asked.Show old) e = ap (going_on _) e
+effect-same d key other (asked.Info old) e = ap (going_on _) e
+effect-same d key other (asked.Get old i) e = ap (going_on _) e
+effect-same d key other (asked.Set old i l) e = ap (going_on _) e
+effect-same d key other (asked.Push old l) e = ap (going_on _) e
+effect-same d key other (asked.Pop old) e = ap (going_on _) e
+effect-same d key other (asked.Insert old i l) e = ap (going_on _) e
+effect-same d key other (asked.Erase old i) e = ap (going_on _) e
+effect-same d key other (asked.Reserve old n) e = ap (going_on _) e
+effect-same d key other (asked.Shrink old) e = ap (going_on _) e
+effect-same d key other (asked.Clear old) e = ap (going_on _) e
+effect-same d key other (asked.Assign old ls) e = ap (going_on _) e
+effect-same d key other (asked.Append old bs) e = ap (going_on _) e
+effect-same d key other (asked.Put old l m) e = ap (going_on _) e
+effect-same d key other (asked.Lookup old l) e = ap (going_on _) e
+effect-same d key other (asked.Remove old l) e = ap (going_on _) e
+effect-same d key other c e = refl
+
+changing-same : (key other : Key) (c : Command) → is_changing (at_key key c) ≡ is_changing (at_key other c)
+changing-same key other (asked.Show old) = refl
+changing-same key other c = refl
+
+pub keys-same : KeysMeanObjects
+unfolding step
+keys-same mode d key other c e = λ i. perform d (live d) (if is_read_only mode && changing-same key other c i then Refuse ReadOnly else effect-same d key other c e i)
+
+pub keys_of_kind-same : KeysOfKindMeanObjects
+unfolding step_of_kind
+keys_of_kind-same mode d key other kind c e =
+    λ i. perform d (live d) (if is_read_only mode && changing-same key other c i then Refuse ReadOnly else
+    going_on (λ o. if same_kind kind (kind_of o.value) then effect-same d key other c e i else Refuse WrongKind) (e i))
+
+-- ---- a call by the handle is one by the key
+
+moves-same : {A : Type 0} (old new : State) (answer : A) (next other : Directory → A × Directory) → ((d : Directory) → StandsFor old.cut.bytes d → next d ≡ other d)
+    → Moves old new answer next → Moves old new answer other
+moves-same {A} old new answer next other each m = record {
+  stays = m.stays;
+  answers = λ d k. m.answers d k ∙ ap (λ (n : A × Directory). n.0) (each d k);
+  denotes = λ d k. subst (λ (n : A × Directory). StandsFor new.cut.bytes n.1) (each d k) (m.denotes d k);
+}
+
+module _ (old : State) (key : Key) (o : Located) (l : IsLocated old key o) where
+  abbrev same : (d : Directory) → StandsFor old.cut.bytes d → object_at d (ByHandle o.handle) ≡ object_at d key
+  same d k = sym (same-object old key o l d k)
+
+  -- it is located by its handle too
+  pub located-here : IsLocated old (ByHandle o.handle) o
+  located-here = record { at = record { answers = λ d k. l.at.answers d k ∙ sym (ap (option_map located) (same d k)) }; here = l.here }
+
+  -- what is said of the object
+  pub told-by_key : {A : Type 0} (say : Directory → Option Object → A) (r : A) → Answers old (λ d. say d (object_at d (ByHandle o.handle))) r → Answers old (λ d. say d (object_at d key)) r
+  told-by_key say r a = record { answers = λ d k. a.answers d k ∙ ap (say d) (same d k) }
+
+  pub kind-by_key : Answers old (λ d. kind_at d key) (Ok o.kind)
+  kind-by_key = record {
+    answers = λ d k.
+        let p : IsSaidAt d key o = said-at old key o l d k in
+        ap (λ (q : Located). Ok q.kind) p.said ∙ sym (ap (λ (r : Option Object). elim r as (λ _. Result Kind Refusal) [ None ↦ Err NotFound | Some q ↦ Ok (kind_of q.value) ]) p.is);
+  }
+
+  pub step-same : (c : Command) (d : Directory) → StandsFor old.cut.bytes d → step old.mode d (at_key (ByHandle o.handle) c) ≡ step old.mode d (at_key key c)
+  step-same c d k = keys-same old.mode d (ByHandle o.handle) key c (same d k)
+
+  pub step-by_key : (new : State) (c : Command) (answer : Answer) → IsStep old new (at_key (ByHandle o.handle) c) answer → IsStep old new (at_key key c) answer
+  step-by_key new c answer m =
+      moves-same old new answer (λ d. step old.mode d (at_key (ByHandle o.handle) c)) (λ d. step old.mode d (at_key key c))
+      (step-same c) m
+
+  pub step_of_kind-by_key : (new : State) (kind : Kind) (c : Command) (answer : Answer) → IsStepOfKind old new (ByHandle o.handle) kind (at_key (ByHandle o.handle) c) answer
+      → IsStepOfKind old new key kind (at_key key c) answer
+  step_of_kind-by_key new kind c answer m =
+      moves-same old new answer (λ d. step_of_kind old.mode d (ByHandle o.handle) kind (at_key (ByHandle o.handle) c)) (λ d. step_of_kind old.mode d key kind (at_key key c))
+      (λ d k. keys_of_kind-same old.mode d (ByHandle o.handle) key kind c (same d k)) m
+
+  pub leads_on-by_key : (new : State) (kind : Kind) (c : Command) (r : Option Refusal) → LeadsOnOfKind old new (ByHandle o.handle) kind (at_key (ByHandle o.handle) c) r
+      → LeadsOnOfKind old new key kind (at_key key c) r
+  leads_on-by_key new kind c r m =
+      let after : Answer × Directory → Option Refusal × Directory = λ n. (refusal_of n.0, n.1) in
+      moves-same old new r (λ d. after (step_of_kind old.mode d (ByHandle o.handle) kind (at_key (ByHandle o.handle) c))) (λ d. after (step_of_kind old.mode d key kind (at_key key c)))
+      (λ d k. ap after (keys_of_kind-same old.mode d (ByHandle o.handle) key kind c (same d k))) m
+
+  pub reply-by_key : (c : Command) (answer : Answer) → IsReply old (at_key (ByHandle o.handle) c) answer → IsReply old (at_key key c) answer
+  reply-by_key c answer a = record {
+    answers = λ d k. a.answers d k ∙ ap (λ (n : Answer × Directory). n.0) (step-same c d k);
+  }
+
+  pub reply_of_kind-by_key : (kind : Kind) (c : Command) (answer : Answer) → IsReplyOfKind old (ByHandle o.handle) kind (at_key (ByHandle o.handle) c) answer → IsReplyOfKind old key kind (at_key key c) answer
+  reply_of_kind-by_key kind c answer a = record {
+    answers = λ d k. a.answers d k ∙ ap (λ (n : Answer × Directory). n.0) (keys_of_kind-same old.mode d (ByHandle o.handle) key kind c (same d k));
+  }
+
+  -- ---- it says of which kind it is
+
+  pub located-steps : (new : State) (kind : Kind) (c : Command) (answer : Answer) → o.kind ≡ kind → IsStepOfKind old new (ByHandle o.handle) kind (at_key (ByHandle o.handle) c) answer
+      → IsStep old new (at_key key c) answer
+  located-steps new kind c answer is m =
+      of_kind-steps old new key kind (at_key key c) answer (subst (λ (n : Kind). Answers old (λ d. kind_at d key) (Ok n)) is kind-by_key) (step_of_kind-by_key new kind c answer m)
+
+  pub located-measures : (kind : Kind) (r : Result (ℕ × ℕ) Refusal) → o.kind ≡ kind → Answers old (λ d. sizes_at_kind d (ByHandle o.handle) kind) r → Answers old (λ d. sizes_at d key) r
+  located-measures kind r is m =
+      measures-kind old key kind r (subst (λ (n : Kind). Answers old (λ d. kind_at d key) (Ok n)) is kind-by_key)
+      (told-by_key (λ d q. elim q as (λ _. Result (ℕ × ℕ) Refusal) [ None ↦ Err NotFound | Some p ↦ sizes_of_kind p kind ]) r m)
+
+  -- what is left as it is where there are so many places
+  pub places-by_key : (new : State) (n : ℕ) → KeepsWhere old new (HasPlaces (ByHandle o.handle) n) → KeepsWhere old new (HasPlaces key n)
+  places-by_key new n m = λ d k p. m d k (record {
+    len = p.len;
+    capacity = p.capacity;
+    says = ap (λ (r : Option Object). elim r as (λ _. Result (ℕ × ℕ) Refusal) [ None ↦ Err NotFound | Some q ↦ sizes_of q.value ]) (same d k) ∙ p.says;
+    enough = p.enough;
+  })

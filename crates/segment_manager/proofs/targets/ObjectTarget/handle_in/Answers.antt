@@ -1,0 +1,7 @@
+-- The handle means itself.
+use Rattle.std.proofs.Common.{true}
+use Rattle.segment_manager.proofs.KeyCalls.{handle-answers}
+use Rattle.segment_manager.proofs.targets.ObjectTarget.handle_in.Goals as goal
+
+pub returns : goal.returns
+returns c = handle-answers c.args._segment.now c.args.self.now.handle true c.requires

@@ -1,0 +1,6 @@
+-- The law is the lemma.
+use Rattle.segment_manager.proofs.Locating.{keys-same, keys_of_kind-same, same-object}
+use Rattle.segment_manager.proofs.theorems.keys_mean_objects.Goals as goal
+
+pub returns : goal.returns
+returns c = record { any = keys-same; of_kind = keys_of_kind-same; handle = same-object }

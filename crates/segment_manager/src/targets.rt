@@ -1,0 +1,83 @@
+//! What says which object a call means: a key, which is looked up, or an object that was located before.
+ghost use Rattle.std.specs.Prelude.{⊤, MatchResult};
+ghost use Rattle.seg_types.specs.Keys.{key_seen};
+ghost use Rattle.seg_types.specs.Names.{ByHandle, Key as AnyKey};
+ghost use Rattle.segment_manager.specs.Found.{handle_at};
+ghost use Rattle.segment_manager.specs.Instances.{IsMissing};
+ghost use Rattle.segment_manager.specs.Located.{IsLocated, IsObject};
+ghost use Rattle.segment_manager.specs.State.{Answers, State};
+
+use crate::head::read_head;
+use crate::segment::Segment;
+use seg_types::{Handle, Key, Kind, Refusal};
+
+/// An object of a segment as it was located. It goes on standing for the object of its handle until that is destroyed.
+#[derive(Clone, Copy, Debug, PartialEq, Eq)]
+pub struct Object {
+    /// Its handle.
+    pub handle: Handle,
+    /// Its kind.
+    pub kind: Kind,
+    /// How many elements it has, and 1 where it is a container.
+    pub count: u32,
+}
+
+/// What says which object a call means. A key is looked up at each call; an object that was located is not.
+pub trait Target {
+    // The key by which commands name the object.
+    ghost key: { Self → AnyKey };
+
+    // Whether it may be used in a segment.
+    ghost stands: { Self → State → Type 0 };
+
+    /// The handle of the object in a segment, or nothing where it has no such object.
+    fn handle_in(&self, segment: &Segment) -> Option<Handle>
+        requires { stands self.now segment.now }
+        ensures { Answers segment.now (λ d. handle_at d (key self.now)) result };
+}
+
+impl Target for Key<'_> {
+    ghost key = { key_seen };
+
+    // A key may be asked for anywhere.
+    ghost stands = { λ key s. ⊤ };
+
+    fn handle_in(&self, segment: &Segment) -> Option<Handle> {
+        segment.handle_of(self)
+    }
+}
+
+impl Target for Object {
+    ghost key = { λ o. ByHandle o.handle };
+
+    // An object of the segment has its handle.
+    ghost stands = { λ o s. IsObject o s };
+
+    fn handle_in(&self, _segment: &Segment) -> Option<Handle> {
+        Some(self.handle)
+    }
+}
+
+impl Segment {
+    /// The object of a key as it stands in the segment. Calls that take it look nothing up.
+    ///
+    /// # Errors
+    ///
+    /// `NotFound` where no object has the key.
+    pub fn locate<O: Target>(&self, key: &O) -> Result<Object, Refusal>
+        requires { O.stands key.now self.now }
+        ensures { MatchResult result (IsLocated self.now (O.key key.now)) (IsMissing self.now (O.key key.now)) }
+    {
+        match key.handle_in(self) {
+            None => Err(Refusal::NotFound),
+            Some(handle) => {
+                let head = read_head(&self.heap, handle);
+                Ok(Object {
+                    handle,
+                    kind: head.kind,
+                    count: head.count,
+                })
+            }
+        }
+    }
+}

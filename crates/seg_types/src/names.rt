@@ -71,6 +71,9 @@ fn is_text_name(bytes: &[u8]) -> bool
     if bytes.is_empty() || bytes.len() > LONGEST_NAME {
         return false;
     }
+    if are_printable(bytes) {
+        return true;
+    }
     match str::from_utf8(bytes) {
         Ok(text) => is_without_control(text),
         Err(_) => false,

@@ -16,7 +16,7 @@ use seg_types::{Kind, ScalarKind};
 const MOST_ELEMENTS: u64 = 1048576;
 
 /// The kinds, each behind how it is printed.
-const KINDS: [(&[u8], Kind); 37] = [
+static KINDS: [(&[u8], Kind); 37] = [
     (b"bool", Kind::Scalar(ScalarKind::Bool)),
     (b"u8", Kind::Scalar(ScalarKind::U8)),
     (b"i32", Kind::Scalar(ScalarKind::I32)),

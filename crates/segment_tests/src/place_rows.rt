@@ -7,7 +7,7 @@ use grow_shrink::{GrowError, grow, shrink_to_fit};
 use image_check::{OpenError, open};
 use raw_region::fake::{Last, MemorySink, MemorySource};
 use raw_region::{RawRegion, Steps};
-use segment_cli::run;
+use segment_cli::{Interpreter, run};
 use segment_manager::{Mode, Segment};
 use std::alloc::Global;
 use std::process::Abort;
@@ -18,29 +18,31 @@ fn made(rt: &impl Abort, alloc: Global, size: u64, script: &str) -> Result<Segme
     requires { IsCapacity size }
 {
     let region = RawRegion::new(alloc, size)?;
-    let Ok(mut segment) = Segment::create(region, 0, size, Mode::Write) else {
+    let Ok(segment) = Segment::create(region, 0, size, Mode::Write) else {
         return Err(Fail::from("no segment is created"));
     };
+    let mut machine = Interpreter::new(segment);
     let mut script = MemorySource::new(script.as_bytes(), 4096, Last::Ends);
     let mut out = MemorySink::new(alloc, 1024, 1024, Last::Fails)?;
-    assert_eq!(rt; run(&mut segment, &mut script, &mut out), Ok(()));
+    assert_eq!(rt; run(&mut machine, &mut script, &mut out), Ok(()));
     assert!(rt; !text_of(out.taken()).contains("error"));
-    Ok(segment)
+    Ok(machine.into_segment())
 }
 
-/// Runs a script and compares what it prints.
+/// Runs a script, compares what it prints, and hands the segment back.
 fn says(
     rt: &impl Abort,
     alloc: Global,
-    segment: &mut Segment,
+    segment: Segment,
     script: &str,
     want: &str,
-) -> Result<(), Fail> {
+) -> Result<Segment, Fail> {
+    let mut machine = Interpreter::new(segment);
     let mut script = MemorySource::new(script.as_bytes(), 4096, Last::Ends);
     let mut out = MemorySink::new(alloc, 1024, 1024, Last::Fails)?;
-    assert_eq!(rt; run(segment, &mut script, &mut out), Ok(()));
+    assert_eq!(rt; run(&mut machine, &mut script, &mut out), Ok(()));
     assert_eq!(rt; text_of(out.taken()), want);
-    Ok(())
+    Ok(machine.into_segment())
 }
 
 /// A region of so many bytes, each of them 7.
@@ -82,11 +84,11 @@ const LIST: &str = "a i64 1 #464\nb i64 1 #336\nc i64 1 #288\nd i64 1 #240\ne i6
 
 #[test]
 fn a_segment_moves_into_another_region(rt: HostRuntime) -> Result<(), Fail> {
-    let mut segment = made(&rt, rt.alloc(), 1024, NAMES)?;
-    says(
+    let made = made(&rt, rt.alloc(), 1024, NAMES)?;
+    let segment = says(
         &rt,
         rt.alloc(),
-        &mut segment,
+        made,
         "free\nlist\n",
         &format!(in rt.alloc(); "560\n{LIST}")?,
     )?;
@@ -98,21 +100,22 @@ fn a_segment_moves_into_another_region(rt: HostRuntime) -> Result<(), Fail> {
     assert_eq!(rt; moved.as_bytes(), bytes.as_slice());
     assert_eq!(rt; left.capacity(), 1024);
     assert_eq!(rt; bytes_of(&left, 0, 1024), bytes.as_slice());
-    says(&rt, rt.alloc(), &mut moved, "list\n", LIST)?;
-    says(&rt, rt.alloc(), &mut moved, "construct i64 f 6\n", "#144\n")?;
+    moved = says(&rt, rt.alloc(), moved, "list\n", LIST)?;
+    moved = says(&rt, rt.alloc(), moved, "construct i64 f 6\n", "#144\n")?;
     assert_eq!(rt; moved.region_left(), 864);
     // and leaves what stood round it
-    let Ok((mut back, region)) = moved.relocate(left, 0) else {
+    let Ok((back, region)) = moved.relocate(left, 0) else {
         return Err(Fail::from("the segment does not move back"));
     };
     assert!(rt; are_sevens(&region, 0, 160) && are_sevens(&region, 1184, 864));
     says(
         &rt,
         rt.alloc(),
-        &mut back,
+        back,
         "show f\nshow e\nsanity\n",
         "i64 6\ni64 1\ntrue\n",
-    )
+    )?;
+    Ok(())
 }
 
 #[test]
@@ -136,41 +139,36 @@ fn a_segment_stays_where_the_region_is_too_small(rt: HostRuntime) -> Result<(), 
     };
     assert_eq!(rt; moved.as_bytes(), bytes.as_slice());
     assert_eq!(rt; left.capacity(), 1024);
-    says(
-        &rt,
-        rt.alloc(),
-        &mut moved,
-        "show a\nfree\n",
-        "i64 5\n784\n",
-    )
+    says(&rt, rt.alloc(), moved, "show a\nfree\n", "i64 5\n784\n")?;
+    Ok(())
 }
 
 #[test]
 fn a_segment_shrinks_and_grows(rt: HostRuntime) -> Result<(), Fail> {
     let mut segment = made(&rt, rt.alloc(), 1024, NUMBER)?;
     assert_eq!(rt; shrink_to_fit(&mut segment), Ok(()));
-    says(
+    segment = says(
         &rt,
         rt.alloc(),
-        &mut segment,
+        segment,
         "size\nfree\nshow a\n",
         "240\n0\ni64 5\n",
     )?;
     assert_eq!(rt; grow(&mut segment, 32), Ok(()));
-    says(
+    segment = says(
         &rt,
         rt.alloc(),
-        &mut segment,
+        segment,
         "size\nfree\nfind i64 a\n",
         "272\n32\n#192 1\n",
     )?;
     assert_eq!(rt; segment.as_bytes().len(), 272);
     let mut empty = made(&rt, rt.alloc(), 1024, "")?;
     assert_eq!(rt; shrink_to_fit(&mut empty), Ok(()));
-    says(
+    empty = says(
         &rt,
         rt.alloc(),
-        &mut empty,
+        empty,
         "size\nfree\nblocks\n",
         "144\n0\nend\n",
     )?;
@@ -178,10 +176,11 @@ fn a_segment_shrinks_and_grows(rt: HostRuntime) -> Result<(), Fail> {
     says(
         &rt,
         rt.alloc(),
-        &mut empty,
+        empty,
         "size\nfree\nblocks\n",
         "1024\n880\n128 880 free\nend\n",
-    )
+    )?;
+    Ok(())
 }
 
 /// Sees that a segment does not grow by so many bytes, and is as before.
@@ -218,13 +217,8 @@ fn growth_is_refused(rt: HostRuntime) -> Result<(), Fail> {
             GrowError::RegionTooSmall,
         )?;
     }
-    says(
-        &rt,
-        rt.alloc(),
-        &mut segment,
-        "show a\nfree\n",
-        "i64 5\n784\n",
-    )
+    says(&rt, rt.alloc(), segment, "show a\nfree\n", "i64 5\n784\n")?;
+    Ok(())
 }
 
 /// The image of a segment, opened in a place.
@@ -276,10 +270,10 @@ fn nothing_is_resized_that_is_only_read(rt: HostRuntime) -> Result<(), Fail> {
         Mode::CopyOnWrite,
     )?;
     assert_eq!(rt; grow(&mut copied, 1008), Ok(()));
-    says(
+    copied = says(
         &rt,
         rt.alloc(),
-        &mut copied,
+        copied,
         "size\nshow a\nfree\n",
         "2032\ni64 5\n1792\n",
     )?;

@@ -21,6 +21,9 @@ impl<R: Files + AllocGlobal + Input + Print> Host for R {}
 /// A file or standard input can't be read.
 const READ_FAULT: ProgramFault = ProgramFault::Session(SessionFault::ReadFault);
 
+/// How many bytes of answers go out at once, at most.
+const PIECE: usize = 65536;
+
 /// Does what the command line asks for.
 pub fn perform<R: Host>(rt: &R, asked: Invocation<'_>) -> Result<(), ProgramFault> {
     match asked {
@@ -146,7 +149,7 @@ fn run_session<R: Host, I: Source, S: Source>(
     requires image { (I.history image.old).failures < 2 ^ 64 - 1 }
     requires script { (S.history script.old).failures < 2 ^ 64 - 1 }
 {
-    let Ok(buffer) = BufWriter::new(rt.alloc(), io::writer(rt)) else {
+    let Ok(buffer) = BufWriter::with_capacity(rt.alloc(), PIECE, io::writer(rt)) else {
         return Err(SessionFault::OutOfMemory);
     };
     let shared = Shared::new(buffer);

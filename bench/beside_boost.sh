@@ -1,0 +1,77 @@
+#!/usr/bin/env bash
+# The program beside Boost.Interprocess's managed_mapped_file on the same scripts: instructions, counted by valgrind's
+# callgrind, and seconds, the least of seven runs, taken in turn. Run it at the top of the repository, once `rt run` has
+# built crates/segment/out/segment; it needs g++, valgrind and Boost (Debian's libboost1.81-dev), makes Boost's side of
+# bench/boost/script.cpp, and writes into a folder of its own, which it removes. Words pick some of the scripts.
+set -euo pipefail
+cd "$(dirname "$0")/.."
+program=$PWD/crates/segment/out/segment
+peer=$PWD/bench/boost/script.cpp
+room=$(mktemp -d -p "${TMPDIR:-/dev/shm}")
+trap 'rm -rf "$room"' EXIT
+cd "$room"
+g++ -std=c++17 -O2 -DNDEBUG -o peer "$peer"
+
+# the scripts of so many elements, pairs or objects; the order of keys is one that jumps about, as n is no multiple of 7919
+pushes_and_gets() {
+  echo 'construct vec<i64> v'
+  awk -v n="$1" 'BEGIN { for (i = 0; i < n; i++) print "push v", i % 1000
+    for (i = 0; i < n * 2 / 5; i++) print "get v", (i * 7919) % n }'
+}
+pairs() {
+  local word
+  echo 'construct map<i64,i64> m'
+  for word in put lookup remove; do
+    awk -v n="$1" -v word="$word" 'BEGIN { for (i = 0; i < n; i++) print word, "m", (i * 7919) % n, word == "put" ? i : "" }'
+  done
+}
+names() {
+  awk -v n="$1" 'BEGIN { for (i = 0; i < n; i++) printf "construct i64 n%06d %d\n", (i * 7919) % n, i
+    for (i = 0; i < n; i++) printf "find i64 n%06d\n", (i * 104729) % n
+    for (i = 0; i < n; i++) printf "destroy n%06d\n", (i * 1299709) % n
+    print "num_named" }'
+}
+strings() {
+  awk -v n="$1" 'BEGIN { text = sprintf("%200s", ""); gsub(/ /, "x", text); live = n / 8
+    for (i = 0; i < n; i++) {
+      printf "construct string n%06d \"%s\"\n", i, substr(text, 1, (i * 7919) % 150 + 1)
+      if (i >= live) printf "destroy n%06d\n", i - live } }'
+}
+sizes() { yes size | head -n "$1"; }
+
+# of_program FILE, of_peer FILE: a run of the script on a new segment
+of_program() { "${before[@]}" "$program" run segment.seg --mode create_only --size 33554432 < "$1"; }
+of_peer() { "${before[@]}" ./peer segment.seg 33554432 < "$1"; }
+
+# instructions WHOSE FILE
+instructions() {
+  local before=(valgrind --tool=callgrind --callgrind-out-file=/dev/null)
+  rm -f segment.seg
+  "$1" "$2" 2>&1 > "$1.answers" | sed -n 's/.*Collected : *//p'
+}
+
+# seconds WHOSE FILE: of one run
+seconds() {
+  local before=() TIMEFORMAT=%R
+  rm -f segment.seg
+  { time "$1" "$2" > /dev/null; } 2>&1
+}
+
+echo '| Script | Instructions | of Boost | Ratio | Seconds | of Boost | Ratio |'
+echo '|---|---|---|---|---|---|---|'
+for kind in ${*:-sizes pushes_and_gets pairs names strings}; do
+  case $kind in
+    sizes) count=1000000 ;;
+    pushes_and_gets) count=1000000 ;;
+    names) count=25000 ;;
+    *) count=100000 ;;
+  esac
+  $kind $count > script
+  ours=$(instructions of_program script) theirs=$(instructions of_peer script)
+  # a handle is a number of the one program's own
+  cmp -s <(sed 's/^#[0-9]*/#/' of_program.answers) <(sed 's/^#[0-9]*/#/' of_peer.answers) || echo "the answers to $kind differ" >&2
+  for _ in 1 2 3 4 5 6 7; do seconds of_program script >> ours.$kind; seconds of_peer script >> theirs.$kind; done
+  awk -v kind="$kind" -v lines="$(wc -l < script)" -v a="$ours" -v b="$theirs" \
+    -v s="$(sort -n ours.$kind | head -n 1)" -v t="$(sort -n theirs.$kind | head -n 1)" 'BEGIN {
+      printf "| %s, %d lines | %.0f million | %.0f million | %.2f | %.3f | %.3f | %.2f |\n", kind, lines, a / 1e6, b / 1e6, a / b, s, t, s / t }'
+done

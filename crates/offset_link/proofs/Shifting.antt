@@ -3,7 +3,7 @@ use Rattle.std.proofs.Common.{◌≡◌, ℕ, zero, suc, ◌+◌, ◌*◌, ◌%�
 use Rattle.std.specs.Prelude.{Option, Some, None, IfSome, if◌then◌else◌}
 use Rattle.std.proofs.lemmas.List.{append-nil, append_assoc, take_all}
 use Rattle.std.specs.List.{refill}
-use Rattle.raw_region.specs.Memory.{Memory, bytes_of, part, patched, word_at}
+use Rattle.raw_region.specs.Memory.{Memory, bytes_of, part, patched, word_at, word_bytes}
 use Rattle.raw_region.proofs.Laws.{length-patched, length-word, patched-all, patched-append, patched-prepend, refill-all, word-after, word-before, word-behind, word-first, word-inside}
 use Rattle.offset_link.specs.Link.{target_of, link_at, link_word, link}
 use Rattle.offset_link.specs.Relinked.{relinked, AreLinks, KeepTargets}
@@ -27,6 +27,24 @@ relinked-last m at to (suc n) =
     let e : to + 8 * suc n ≡ to + 8 + 8 * n = omega arith in let f : at + 8 * suc n ≡ at + 8 + 8 * n = omega arith in
     append_assoc L R (link (to + 8 * suc n) (link_at m (at + 8 * suc n))) ∙ ap₂ (λ (t a : ℕ). L ++ (R ++ link t (link_at m a))) e f
     ∙ ap (λ (l : List ℕ). L ++ l) (relinked-last m (at + 8) (to + 8) n)
+
+-- links followed by more links
+pub relinked-append : (m : Memory) (at to r n : ℕ) → relinked m at to r ++ relinked m (at + 8 * r) (to + 8 * r) n ≡ relinked m at to (r + n)
+relinked-append m at to zero n =
+    let e : at + 8 * 0 ≡ at = omega arith in let f : to + 8 * 0 ≡ to = omega arith in
+    let g : n ≡ 0 + n = omega arith in ap₂ (λ (a t : ℕ). relinked m a t n) e f ∙ ap (λ (k : ℕ). relinked m at to k) g
+relinked-append m at to (suc r) n =
+    let L = link to (link_at m at) in let R = relinked m (at + 8) (to + 8) r in let g : suc (r + n) ≡ suc r + n = omega arith in
+    let e : at + 8 * suc r ≡ at + 8 + 8 * r = omega arith in let f : to + 8 * suc r ≡ to + 8 + 8 * r = omega arith in
+    append_assoc L R (relinked m (at + 8 * suc r) (to + 8 * suc r) n) ∙ ap₂ (λ (a t : ℕ). L ++ (R ++ relinked m a t n)) e f
+    ∙ ap (λ (l : List ℕ). L ++ l) (relinked-append m (at + 8) (to + 8) r n) ∙ ap (λ (k : ℕ). relinked m at to k) g
+
+-- the same words are the same links
+pub relinked-same : (m m' : Memory) (at to n : ℕ) → ((a : ℕ) → at ≤ a → a + 8 ≤ at + 8 * n → word_at m' a ≡ word_at m a) → relinked m' at to n ≡ relinked m at to n
+relinked-same m m' at to zero same = refl
+relinked-same m m' at to (suc n) same =
+    ap₂ (λ (w : ℕ) (l : List ℕ). link to (target_of at w) ++ l) (same at (omega arith) (omega arith))
+    (relinked-same m m' (at + 8) (to + 8) n (λ a low high. same a (omega (arith, low)) (omega (arith, high))))
 
 module _ (b cur new : List ℕ) where
   abbrev m : Memory
@@ -53,6 +71,43 @@ module _ (b cur new : List ℕ) where
       let start : to + 8 * n ≡ to + length T = omega (arith, long) in
       f ∙ ap₂ (λ (l : List ℕ) (t : Option ℕ). patched l (to + 8 * n) (link (to + 8 * n) t)) e same ∙ ap (λ (k : ℕ). patched (patched b to T) k L) start
       ∙ patched-append b to T L (omega (arith, long, eight)) ∙ ap (λ (l : List ℕ). patched b to l) (relinked-last m from to n)
+
+  -- a run of links before those that moved towards the end
+  pub run_before : (from to r n : ℕ) → to + 8 * r + 8 * n ≤ length b → from ≤ to → cur ≡ patched b (to + 8 * r) (relinked m (from + 8 * r) (to + 8 * r) n)
+      → new ≡ patched cur to (relinked (bytes_of cur) from to r) → new ≡ patched b to (relinked m from to (r + n))
+  run_before from to r n within below e f =
+      let T = relinked m (from + 8 * r) (to + 8 * r) n in let long = length-relinked m (from + 8 * r) (to + 8 * r) n in let L = relinked m from to r in let front = length-relinked m from to r in
+      let inside : to + 8 * r + length T ≤ length b = omega (arith, long) in
+      let same : relinked (bytes_of cur) from to r ≡ L = relinked-same m (bytes_of cur) from to r (λ a low high.
+      ap (λ (l : List ℕ). word_at (bytes_of l) a) e ∙ word-before b (to + 8 * r) T inside a (omega (arith, below, high))) in
+      let start : to + 8 * r ≡ to + length L = omega (arith, front) in
+      f ∙ ap₂ (λ (l ws : List ℕ). patched l to ws) e same ∙ ap (λ (k : ℕ). patched (patched b k T) to L) start
+      ∙ patched-prepend b to L T (omega (arith, long, front)) ∙ ap (λ (l : List ℕ). patched b to l) (relinked-append m from to r n)
+
+  -- a run of links after those that moved towards the start
+  pub run_after : (from to n r : ℕ) → from + 8 * n + 8 * r ≤ length b → to ≤ from → cur ≡ patched b to (relinked m from to n)
+      → new ≡ patched cur (to + 8 * n) (relinked (bytes_of cur) (from + 8 * n) (to + 8 * n) r) → new ≡ patched b to (relinked m from to (n + r))
+  run_after from to n r within above e f =
+      let T = relinked m from to n in let long = length-relinked m from to n in let L = relinked m (from + 8 * n) (to + 8 * n) r in let back = length-relinked m (from + 8 * n) (to + 8 * n) r in
+      let inside : to + length T ≤ length b = omega (arith, long) in
+      let same : relinked (bytes_of cur) (from + 8 * n) (to + 8 * n) r ≡ L = relinked-same m (bytes_of cur) (from + 8 * n) (to + 8 * n) r (λ a low high.
+      ap (λ (l : List ℕ). word_at (bytes_of l) a) e ∙ word-after b to T inside a (omega (arith, above, low, long))) in
+      let start : to + 8 * n ≡ to + length T = omega (arith, long) in
+      f ∙ ap₂ (λ (l ws : List ℕ). patched l (to + 8 * n) ws) e same ∙ ap (λ (k : ℕ). patched (patched b to T) k L) start
+      ∙ patched-append b to T L (omega (arith, long, back)) ∙ ap (λ (l : List ℕ). patched b to l) (relinked-append m from to n r)
+
+-- ---- links that are read before one is written
+pub put_first : (m : Memory) (b new : List ℕ) (from to w : ℕ) → new ≡ patched b to (word_bytes w) → w ≡ link_word to (link_at m from) → new ≡ patched b to (relinked m from to 1)
+put_first m b new from to w e f =
+    e ∙ ap (λ (x : ℕ). patched b to (word_bytes x)) f ∙ ap (λ (l : List ℕ). patched b to l) (sym (append-nil (link to (link_at m from))))
+
+pub put_next : (m : Memory) (b cur new : List ℕ) (from to k w : ℕ) → to + 8 * k + 8 ≤ length b → cur ≡ patched b to (relinked m from to k)
+    → new ≡ patched cur (to + 8 * k) (word_bytes w) → w ≡ link_word (to + 8 * k) (link_at m (from + 8 * k)) → new ≡ patched b to (relinked m from to (suc k))
+put_next m b cur new from to k w within e f g =
+    let T = relinked m from to k in let long = length-relinked m from to k in let L = link (to + 8 * k) (link_at m (from + 8 * k)) in let eight = length-link (to + 8 * k) (link_at m (from + 8 * k)) in
+    let start : to + 8 * k ≡ to + length T = omega (arith, long) in
+    f ∙ ap₂ (λ (l : List ℕ) (x : ℕ). patched l (to + 8 * k) (word_bytes x)) e g ∙ ap (λ (j : ℕ). patched (patched b to T) j L) start
+    ∙ patched-append b to T L (omega (arith, within, long, eight)) ∙ ap (λ (l : List ℕ). patched b to l) (relinked-last m from to k)
 
 -- ---- where they lead
 some_fits : (null : Bool) (t : ℕ) → t < 2 ^ 64 → IfSome (if null then None else Some t) (λ u. u < 2 ^ 64)

@@ -2,7 +2,7 @@
 ghost use Rattle.std.specs.Prelude.{◌≡◌, ◌↔◌, IsTrue, ◌+◌, ◌-◌, ◌*◌, ◌%◌, ◌≤◌, length};
 ghost use Rattle.raw_region.specs.Memory.{bytes_of, patched};
 ghost use Rattle.raw_region.specs.Regions.{with_bytes};
-ghost use Rattle.offset_link.specs.Link.{link_at, link};
+ghost use Rattle.offset_link.specs.Link.{link_at, link, link_word};
 ghost use Rattle.offset_link.specs.Relinked.{relinked, AreLinks, KeepTargets};
 ghost use Rattle.offset_link.specs.Moves.{moved_to, StaysInside};
 
@@ -56,8 +56,34 @@ pub fn shift(w: &mut Window, at: u64, n: u64, by: Places)
     }
 }
 
-/// From the last link on, so that none is overwritten before it has moved.
+/// The links a run of which moves at once.
+const RUN: usize = 8;
+
+/// From the last run on, and then from the last link of the rest on, so that none is overwritten before it has moved.
 fn move_up(bytes: &mut [u8], at: usize, n: usize, by: usize)
+    requires { at + by + 8 * n ≤ length bytes.old }
+    ensures { bytes.new ≡ patched bytes.old (at + by) (relinked (bytes_of bytes.old) at (at + by) n) }
+{
+    let rest = n % RUN;
+    runs_up(bytes, at + 8 * rest, n / RUN, by);
+    links_up(bytes, at, rest, by);
+}
+
+/// The runs, the last of them first.
+fn runs_up(bytes: &mut [u8], at: usize, n: usize, by: usize)
+    requires { at + by + 64 * n ≤ length bytes.old }
+    ensures { bytes.new ≡ patched bytes.old (at + by) (relinked (bytes_of bytes.old) at (at + by) (8 * n)) }
+{
+    let mut left = n;
+    'runs: while left > 0 {
+        left -= 1;
+        let from = at + 64 * left;
+        move_run(bytes, from, from + by);
+    }
+}
+
+/// The links one by one, the last of them first.
+fn links_up(bytes: &mut [u8], at: usize, n: usize, by: usize)
     requires { at + by + 8 * n ≤ length bytes.old }
     ensures { bytes.new ≡ patched bytes.old (at + by) (relinked (bytes_of bytes.old) at (at + by) n) }
 {
@@ -69,8 +95,31 @@ fn move_up(bytes: &mut [u8], at: usize, n: usize, by: usize)
     }
 }
 
-/// From the first link on.
+/// From the first run on, and then from the first link of the rest on.
 fn move_down(bytes: &mut [u8], at: usize, n: usize, by: usize)
+    requires source { at + 8 * n ≤ length bytes.old }
+    requires inside { by ≤ at }
+    ensures { bytes.new ≡ patched bytes.old (at - by) (relinked (bytes_of bytes.old) at (at - by) n) }
+{
+    let runs = n / RUN;
+    runs_down(bytes, at, runs, by);
+    links_down(bytes, at + 64 * runs, n % RUN, by);
+}
+
+/// The runs, the first of them first.
+fn runs_down(bytes: &mut [u8], at: usize, n: usize, by: usize)
+    requires source { at + 64 * n ≤ length bytes.old }
+    requires inside { by ≤ at }
+    ensures { bytes.new ≡ patched bytes.old (at - by) (relinked (bytes_of bytes.old) at (at - by) (8 * n)) }
+{
+    'runs: for i in 0..n {
+        let from = at + 64 * i;
+        move_run(bytes, from, from - by);
+    }
+}
+
+/// The links one by one, the first of them first.
+fn links_down(bytes: &mut [u8], at: usize, n: usize, by: usize)
     requires source { at + 8 * n ≤ length bytes.old }
     requires inside { by ≤ at }
     ensures { bytes.new ≡ patched bytes.old (at - by) (relinked (bytes_of bytes.old) at (at - by) n) }
@@ -81,16 +130,51 @@ fn move_down(bytes: &mut [u8], at: usize, n: usize, by: usize)
     }
 }
 
+/// Makes the eight words from `to` on links that lead where those from `from` on lead. All are read before one is
+/// written, and none takes a branch.
+fn move_run(bytes: &mut [u8], from: usize, to: usize)
+    requires from_inside { from + 64 ≤ length bytes.old }
+    requires to_inside { to + 64 ≤ length bytes.old }
+    ensures { bytes.new ≡ patched bytes.old to (relinked (bytes_of bytes.old) from to 8) }
+{
+    let a = moved(bytes, from, to);
+    let b = moved(bytes, from + 8, to + 8);
+    let c = moved(bytes, from + 16, to + 16);
+    let d = moved(bytes, from + 24, to + 24);
+    let e = moved(bytes, from + 32, to + 32);
+    let f = moved(bytes, from + 40, to + 40);
+    let g = moved(bytes, from + 48, to + 48);
+    let h = moved(bytes, from + 56, to + 56);
+    set_word_in(bytes, to, a);
+    set_word_in(bytes, to + 8, b);
+    set_word_in(bytes, to + 16, c);
+    set_word_in(bytes, to + 24, d);
+    set_word_in(bytes, to + 32, e);
+    set_word_in(bytes, to + 40, f);
+    set_word_in(bytes, to + 48, g);
+    set_word_in(bytes, to + 56, h);
+}
+
 /// Makes the word at `to` a link that leads where the one at `from` leads.
 fn move_one(bytes: &mut [u8], from: usize, to: usize)
     requires from_inside { from + 8 ≤ length bytes.old }
     requires to_inside { to + 8 ≤ length bytes.old }
     ensures { bytes.new ≡ patched bytes.old to (link to (link_at (bytes_of bytes.old) from)) }
 {
+    let word = moved(bytes, from, to);
+    set_word_in(bytes, to, word);
+}
+
+/// The word at `to` of a link that leads where the one at `from` leads.
+#[inline(always)]
+fn moved(bytes: &[u8], from: usize, to: usize) -> u64
+    requires inside { from + 8 ≤ length bytes.now }
+    ensures { result ≡ link_word to (link_at (bytes_of bytes.now) from) }
+{
     let word = word_in(bytes, from);
     if word == NULL {
-        return set_word_in(bytes, to, NULL);
+        return NULL;
     }
     let target = (from as u64).wrapping_add(word);
-    set_word_in(bytes, to, target.wrapping_sub(to as u64));
+    target.wrapping_sub(to as u64)
 }

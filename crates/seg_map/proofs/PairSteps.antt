@@ -19,6 +19,82 @@ use Rattle.best_fit.proofs.Laws.{beside_cell, cell_stays, is_proper-IsProper, la
 use Rattle.seg_map.specs.PairNodes.{comes_before, is_block_in, is_good, is_kept, is_link_byte, is_other, is_pair_node, kept_of, key_at, key_of, lies_in_block, links_among, pair_cells, stands_before}
 use Rattle.seg_map.specs.PairLaws.{Good, Good-is_good, In, PairNode, PairNode-is_pair_node, Place, cells_at, cells_off, disjoint, is_pair_node-PairNode, lies, links_at, node_block, node_place}
 
+-- ---- numbers, of which each lemma names all that it needs
+
+equal_le : (k : ℕ) → k ≤ k
+equal_le k = omega arith
+
+chain : (a b c : ℕ) → a ≤ b → b ≤ c → a ≤ c
+chain a b c h g = omega arith
+
+lower : (k n from : ℕ) → k < n → n ≤ from → k < from
+lower k n from h g = omega arith
+
+tag_at : (o k : ℕ) → o + 16 ≡ k → o + 8 ≡ k - 8
+tag_at o k e = omega arith
+
+widened : (k len l : ℕ) → len + 16 ≤ l → k ≤ len → k + 16 ≤ l
+widened k len l h g = omega arith
+
+own_low : (n k m : ℕ) → n ≤ k → n ≡ m → m ≤ k
+own_low n k m h e = omega arith
+
+own_high : (n k m : ℕ) → k < n + 16 → n ≡ m → k < m + 16
+own_high n k m h e = omega arith
+
+-- a block of l bytes at o, with a payload of len bytes at n
+ends_past : (o l n len to : ℕ) → o + 16 ≡ n → len + 16 ≤ l → o + l ≤ to → n + len ≤ to
+ends_past o l n len to e h g = omega arith
+
+begins_behind : (end o n : ℕ) → o + 16 ≡ n → end ≤ o → end ≤ n - 16
+begins_behind end o n e h = omega arith
+
+payload_low : (o n k : ℕ) → o + 16 ≡ n → n ≤ k → o + 16 ≤ k
+payload_low o n k e h = omega arith
+
+payload_high : (o l n len k : ℕ) → o + 16 ≡ n → len + 16 ≤ l → k < n + len → k < o + l
+payload_high o l n len k e h g = omega arith
+
+-- the 8 bytes of a link at from, in the 16 of a node at n
+cell_before : (m len n from : ℕ) → 16 ≤ len → m + len ≤ n - 16 → n ≤ from → m + 16 ≤ from
+cell_before m len n from w h g = omega arith
+
+cell_behind : (m len n from : ℕ) → 16 ≤ len → 144 ≤ m → n + len ≤ m - 16 → from + 8 ≤ n + 16 → from + 8 ≤ m - 8
+cell_behind m len n from w f h g = omega arith
+
+key_before : (m len n from : ℕ) → m + len ≤ n - 16 → n ≤ from → m + len ≤ from
+key_before m len n from h g = omega arith
+
+key_behind : (m len n from : ℕ) → 16 ≤ len → n + len ≤ m - 16 → from + 8 ≤ n + 16 → from + 8 ≤ m + 16
+key_behind m len n from w h g = omega arith
+
+tag_before : (o l n from : ℕ) → 32 ≤ l → o + l ≤ n - 16 → n ≤ from → o + 8 + 8 ≤ from
+tag_before o l n from w h g = omega arith
+
+tag_behind : (o len n from : ℕ) → 16 ≤ len → n + len ≤ o → from + 8 ≤ n + 16 → from + 8 ≤ o + 8
+tag_behind o len n from w h g = omega arith
+
+left_low : (n from : ℕ) → from ≡ n → n ≤ from
+left_low n from e = omega arith
+
+left_end : (n from : ℕ) → from ≡ n → from + 8 ≤ n + 8
+left_end n from e = omega arith
+
+left_high : (n from : ℕ) → from ≡ n → from + 8 ≤ n + 16
+left_high n from e = omega arith
+
+right_low : (n from : ℕ) → from ≡ n + 8 → n ≤ from
+right_low n from e = omega arith
+
+right_start : (n from : ℕ) → from ≡ n + 8 → n + 8 ≤ from
+right_start n from e = omega arith
+
+right_high : (n from : ℕ) → from ≡ n + 8 → from + 8 ≤ n + 16
+right_high n from e = omega arith
+
+tag_end : (n from : ℕ) → 144 ≤ n → n ≤ from → n - 8 + 8 ≤ from
+tag_end n from f h = omega arith
+
 -- what a setter does to the window
 pub record Changed (len : ℕ) (ns : List ℕ) (c d : Cut) (n : ℕ) : Type 0 where
   pub place : SamePlace c d
@@ -87,7 +163,7 @@ module _ (len : ℕ) (ns : List ℕ) (c d : Cut) (n : ℕ) (g : PairNode len ns 
       let l = live_at (live_of c.bytes).extents k two.0 in
       let far = in_own n ns g.listed k (not_true (is_in k ns) two.1) in
       let at = l.at in
-      let w : l.extent.offset + 8 ≡ k - 8 = omega arith in
+      let w : l.extent.offset + 8 ≡ k - 8 = tag_at l.extent.offset k at in
       subst (λ a. word_at (bytes_of d.bytes) a % 16 ≡ word_at (bytes_of c.bytes) a % 16) w (h.colours l.extent l.listed (λ e. far (sym at ∙ e)))
 
   colour_stays : (k : ℕ) → (is_other ns (live_of c.bytes) k ≡ true) ⊎ (is_other ns (live_of c.bytes) k ≡ false)
@@ -139,13 +215,16 @@ module _ (len : ℕ) (ns : List ℕ) (c d : Cut) (n : ℕ) (g : PairNode len ns 
 
 -- ---- the keys stay
 
+key_ends : (m size : ℕ) → m + 16 + size ≤ m + (16 + size)
+key_ends m size = omega arith
+
 module _ {K : Type 0} (value : List ℕ → Option K) (size : ℕ) (ns : List ℕ) (c d : Cut) (n : ℕ) (g : PairNode (16 + size) ns c n) (h : Changed (16 + size) ns c d n) where
   key_stays : (m : ℕ) → (is_pair_node (16 + size) ns c m ≡ true) ⊎ (is_pair_node (16 + size) ns c m ≡ false) → key_of value size ns d m ≡ key_of value size ns c m
   unfolding key_of key_at
   key_stays m (inl e) =
       let e' = ap (λ (p : ℕ → Bool). p m) (nodes_stay (16 + size) ns c d n g h) ∙ e in
       cond-true (is_pair_node (16 + size) ns d m) (key_at value size (bytes_of d.bytes) m) None e'
-      ∙ ap value (Same-read (bytes_of c.bytes) (bytes_of d.bytes) (m + 16) (m + (16 + size)) (m + 16) size (h.keys m (is_pair_node-PairNode (16 + size) ns c m e).listed) (omega arith) (omega arith))
+      ∙ ap value (Same-read (bytes_of c.bytes) (bytes_of d.bytes) (m + 16) (m + (16 + size)) (m + 16) size (h.keys m (is_pair_node-PairNode (16 + size) ns c m e).listed) (equal_le (m + 16)) (key_ends m size))
       ∙ sym (cond-true (is_pair_node (16 + size) ns c m) (key_at value size (bytes_of c.bytes) m) None e)
   key_stays m (inr e) =
       let e' = ap (λ (p : ℕ → Bool). p m) (nodes_stay (16 + size) ns c d n g h) ∙ e in
@@ -179,7 +258,7 @@ pub room_of : (len : ℕ) (c : Cut) (n k : ℕ) → Place len c n → k ≤ len 
 room_of len c n k p l =
     let b = p.block in let enough = b.holds in
     any_at (λ (x : Extent). (handle x == n) && nat_le (k + 16) x.len) (live_of c.bytes).extents b.extent b.listed
-    (and_from (handle b.extent == n) (nat_le (k + 16) b.extent.len) (eq-eqb (handle b.extent) n b.at) (le-leb (k + 16) b.extent.len (omega arith)))
+    (and_from (handle b.extent == n) (nat_le (k + 16) b.extent.len) (eq-eqb (handle b.extent) n b.at) (le-leb (k + 16) b.extent.len (widened k len b.extent.len enough l)))
 
 pub live_node : (len : ℕ) (c : Cut) (n : ℕ) → Place len c n → IsTrue (is_live_in (live_of c.bytes) n)
 live_node len c n p = let b = p.block in any_at (λ (x : Extent). handle x == n) (live_of c.bytes).extents b.extent b.listed (eq-eqb (handle b.extent) n b.at)
@@ -217,7 +296,7 @@ kept_away ns live n k i t =
     link_byte [] j l m = absurd (false≢true j)
     link_byte (m' ∷ ms) j l m =
         elim (or_cases (n == m') (is_in n ms) j) [
-          | inl e ↦ let e' = eqb-true n m' e in or_left (nat_le m' k && nat_lt k (m' + 16)) (is_link_byte ms k) (and_from (nat_le m' k) (nat_lt k (m' + 16)) (le-leb m' k (omega arith)) (lt-ltb k (m' + 16) (omega arith)))
+          | inl e ↦ let e' = eqb-true n m' e in or_left (nat_le m' k && nat_lt k (m' + 16)) (is_link_byte ms k) (and_from (nat_le m' k) (nat_lt k (m' + 16)) (le-leb m' k (own_low n k m' l e')) (lt-ltb k (m' + 16) (own_high n k m' m e')))
           | inr r ↦ or_right (nat_le m' k && nat_lt k (m' + 16)) (is_link_byte ms k) (link_byte ms r l m)
         ]
 
@@ -229,13 +308,19 @@ block_apart len ns c n x g i o =
     let r = is_proper-IsProper (live_of c.bytes) g.good.proper in
     elim (disjoint 128 (live_of c.bytes).extents ((live_of c.bytes).size - 16) b.extent x r.list b.listed i) [
       | inl e ↦ absurd (o (ap handle (sym e) ∙ at))
-      | inr d ↦ elim d [ inl l ↦ inr (omega arith) | inr l ↦ inl (omega arith) ]
+      | inr d ↦ elim d [
+        | inl l ↦ inr (ends_past b.extent.offset b.extent.len n len x.offset at enough l)
+        | inr l ↦ inl (begins_behind (x.offset + x.len) b.extent.offset n at l)
+      ]
     ]
 
 pub nodes_apart : (len : ℕ) (ns : List ℕ) (c : Cut) (n m : ℕ) → PairNode len ns c n → PairNode len ns c m → (m ≡ n → ⊥) → (m + len ≤ n - 16) ⊎ (n + len ≤ m - 16)
 nodes_apart len ns c n m g h o =
     let p = node_place len ns c m h in let b = p.block in let at = b.at in let enough = b.holds in
-    elim (block_apart len ns c n b.extent g b.listed (λ e. o (sym at ∙ e))) [ inl l ↦ inl (omega arith) | inr l ↦ inr (omega arith) ]
+    elim (block_apart len ns c n b.extent g b.listed (λ e. o (sym at ∙ e))) [
+      | inl l ↦ inl (ends_past b.extent.offset b.extent.len m len (n - 16) at enough l)
+      | inr l ↦ inr (begins_behind (n + len) b.extent.offset m at l)
+    ]
 
 -- ---- a link is set
 
@@ -248,14 +333,17 @@ module _ (len : ℕ) (ns : List ℕ) (c d : Cut) (n from : ℕ) (to : Option ℕ
   other_cell m i o =
       let q : PairNode len ns c m = record { good = g.good; listed = i } in let least = (node_place len ns c m q).low in
       beside_cell (bytes_of c.bytes) (bytes_of d.bytes) from 8 m change.rest least
-      (elim (nodes_apart len ns c n m g q o) [ inl l ↦ inl (omega arith) | inr l ↦ inr (omega arith) ])
+      (elim (nodes_apart len ns c n m g q o) [
+        | inl l ↦ inl (cell_before m len n from long l low)
+        | inr l ↦ inr (cell_behind m len n from long least l high)
+      ])
 
   link_changed : links_among (bytes_of d.bytes) ns n ≡ true → Changed len ns c d n
   link_changed links =
       record {
         place = change.place;
         live = lay_out_one current d.bytes (live_of c.bytes) change.live;
-        bytes = λ k t. change.rest.at k (elim (kept_away ns (live_of c.bytes) n k g.listed t) [ inl l ↦ inl (omega arith) | inr l ↦ inr (omega arith) ]);
+        bytes = λ k t. change.rest.at k (elim (kept_away ns (live_of c.bytes) n k g.listed t) [ inl l ↦ inl (lower k n from l low) | inr l ↦ inr (chain (from + 8) (n + 16) k high l) ]);
         colours = λ x i o. ap (λ w. w % 16) (SameBut-word (bytes_of c.bytes) (bytes_of d.bytes) from 8 (x.offset + 8) change.rest (tag_apart x i o));
         links = links;
         others = other_cell;
@@ -265,14 +353,19 @@ module _ (len : ℕ) (ns : List ℕ) (c d : Cut) (n from : ℕ) (to : Option ℕ
       tag_apart : (x : Extent) → In x (live_of c.bytes).extents → (handle x ≡ n → ⊥) → (x.offset + 8 + 8 ≤ from) ⊎ (from + 8 ≤ x.offset + 8)
       tag_apart x i o =
           let r = is_proper-IsProper (live_of c.bytes) g.good.proper in
-          let b = (lies 128 (live_of c.bytes).extents ((live_of c.bytes).size - 16) x r.list i).long in let least = p.low in
-          elim (block_apart len ns c n x g i o) [ inl l ↦ inl (omega arith) | inr l ↦ inr (omega arith) ]
+          let b = (lies 128 (live_of c.bytes).extents ((live_of c.bytes).size - 16) x r.list i).long in
+          elim (block_apart len ns c n x g i o) [
+            | inl l ↦ inl (tag_before x.offset x.len n from b l low)
+            | inr l ↦ inr (tag_behind x.offset len n from long l high)
+          ]
 
       key_apart : (m : ℕ) → is_in m ns ≡ true → (m ≡ n) ⊎ (m ≡ n → ⊥) → (m + len ≤ from) ⊎ (from + 8 ≤ m + 16)
-      key_apart m i (inl e) = inr (omega arith)
+      key_apart m i (inl e) = inr (subst (λ k. from + 8 ≤ k + 16) (sym e) high)
       key_apart m i (inr o) =
-          let least = p.low in let least' = (node_place len ns c m (record { good = g.good; listed = i })).low in
-          elim (nodes_apart len ns c n m g (record { good = g.good; listed = i }) o) [ inl l ↦ inl (omega arith) | inr l ↦ inr (omega arith) ]
+          elim (nodes_apart len ns c n m g (record { good = g.good; listed = i }) o) [
+            | inl l ↦ inl (key_before m len n from l low)
+            | inr l ↦ inr (key_behind m len n from long l high)
+          ]
 
 module _ (len : ℕ) (ns : List ℕ) (c d : Cut) (n from : ℕ) (to : Option ℕ) (long : 16 ≤ len) (at : from ≡ n) (g : PairNode len ns c n) (target : leads (is_pair_node len ns c) to ≡ true)
     (set : link_at (bytes_of d.bytes) from ≡ to) (change : IsChanged current c d from 8) where
@@ -280,14 +373,14 @@ module _ (len : ℕ) (ns : List ℕ) (c d : Cut) (n from : ℕ) (to : Option ℕ
   left_own =
       let low = (node_place len ns c n g).low in
       let left : link_at (bytes_of d.bytes) n ≡ to = subst (λ k. link_at (bytes_of d.bytes) k ≡ to) at set in
-      let right = SameBut-link (bytes_of c.bytes) (bytes_of d.bytes) from 8 (n + 8) change.rest (inr (omega arith)) in
-      let red = ap (λ w. w / 2 % 2 == 1) (SameBut-word (bytes_of c.bytes) (bytes_of d.bytes) from 8 (n - 8) change.rest (inl (omega arith))) in
+      let right = SameBut-link (bytes_of c.bytes) (bytes_of d.bytes) from 8 (n + 8) change.rest (inr (left_end n from at)) in
+      let red = ap (λ w. w / 2 % 2 == 1) (SameBut-word (bytes_of c.bytes) (bytes_of d.bytes) from 8 (n - 8) change.rest (inl (tag_end n from low (left_low n from at)))) in
       λ i. record { left = left i; right = right i; red = red i }
 
   pub left_changed : Changed len ns c d n
   left_changed =
       let two = and_parts (leads (λ k. is_in k ns) (cells_of (bytes_of c.bytes) n).left) (leads (λ k. is_in k ns) (cells_of (bytes_of c.bytes) n).right) (links_at len ns c n g) in
-      link_changed len ns c d n from to long g target (omega arith) (omega arith) set change
+      link_changed len ns c d n from to long g target (left_low n from at) (left_high n from at) set change
       (subst (λ (x : Cell). (leads (λ k. is_in k ns) x.left && leads (λ k. is_in k ns) x.right) ≡ true) (sym left_own)
       (and_from (leads (λ k. is_in k ns) to) (leads (λ k. is_in k ns) (cells_of (bytes_of c.bytes) n).right) (leads_in len ns c to target) two.1))
 
@@ -300,15 +393,15 @@ module _ (len : ℕ) (ns : List ℕ) (c d : Cut) (n from : ℕ) (to : Option ℕ
   right_own : cells_of (bytes_of d.bytes) n ≡ record (cells_of (bytes_of c.bytes) n) { right = to }
   right_own =
       let low = (node_place len ns c n g).low in
-      let left = SameBut-link (bytes_of c.bytes) (bytes_of d.bytes) from 8 n change.rest (inl (omega arith)) in
+      let left = SameBut-link (bytes_of c.bytes) (bytes_of d.bytes) from 8 n change.rest (inl (right_start n from at)) in
       let right : link_at (bytes_of d.bytes) (n + 8) ≡ to = subst (λ k. link_at (bytes_of d.bytes) k ≡ to) at set in
-      let red = ap (λ w. w / 2 % 2 == 1) (SameBut-word (bytes_of c.bytes) (bytes_of d.bytes) from 8 (n - 8) change.rest (inl (omega arith))) in
+      let red = ap (λ w. w / 2 % 2 == 1) (SameBut-word (bytes_of c.bytes) (bytes_of d.bytes) from 8 (n - 8) change.rest (inl (tag_end n from low (right_low n from at)))) in
       λ i. record { left = left i; right = right i; red = red i }
 
   pub right_changed : Changed len ns c d n
   right_changed =
       let two = and_parts (leads (λ k. is_in k ns) (cells_of (bytes_of c.bytes) n).left) (leads (λ k. is_in k ns) (cells_of (bytes_of c.bytes) n).right) (links_at len ns c n g) in
-      link_changed len ns c d n from to long g target (omega arith) (omega arith) set change
+      link_changed len ns c d n from to long g target (right_low n from at) (right_high n from at) set change
       (subst (λ (x : Cell). (leads (λ k. is_in k ns) x.left && leads (λ k. is_in k ns) x.right) ≡ true) (sym right_own)
       (and_from (leads (λ k. is_in k ns) (cells_of (bytes_of c.bytes) n).left) (leads (λ k. is_in k ns) to) two.0 (leads_in len ns c to target)))
 
@@ -336,6 +429,18 @@ all_in P (y ∷ ys) x a (inr i) = all_in P ys x a.1 i
 pub same_red : (v w : ℕ) → w % 16 ≡ v % 16 → (w / 2 % 2 == 1) ≡ (v / 2 % 2 == 1)
 same_red v w e = let f : w / 2 % 2 ≡ v / 2 % 2 = omega arith in ap (λ k. k == 1) f
 
+left_inside : (m len : ℕ) → 16 ≤ len → m + 8 ≤ m + len
+left_inside m len h = omega arith
+
+right_inside : (m len : ℕ) → 16 ≤ len → m + 8 + 8 ≤ m + len
+right_inside m len h = omega arith
+
+none_below : (k : ℕ) → 0 ≤ k
+none_below k = omega arith
+
+more : (m k : ℕ) → m ≤ m + k
+more m k = omega arith
+
 -- a byte in the payload of a block
 record InBlock (xs : List Extent) (k : ℕ) : Type 0 where
   extent : Extent
@@ -359,13 +464,13 @@ module _ (len : ℕ) (ns : List ℕ) (c d : Cut) (n : ℕ) (red : Bool) (long : 
   node_same m q =
       let b = node_block len ns c m q in let at = b.at in let enough = b.holds in
       let s = same_payload b.extent b.listed in
-      record { at = λ k l h. s.at k (omega arith) (omega arith) }
+      record { at = λ k l h. s.at k (payload_low b.extent.offset m k at l) (payload_high b.extent.offset b.extent.len m len k at enough h) }
 
   left_link : (m : ℕ) → PairNode len ns c m → link_at (bytes_of d.bytes) m ≡ link_at (bytes_of c.bytes) m
-  left_link m q = Same-link (bytes_of c.bytes) (bytes_of d.bytes) m (m + len) m (node_same m q) (omega arith) (omega arith)
+  left_link m q = Same-link (bytes_of c.bytes) (bytes_of d.bytes) m (m + len) m (node_same m q) (equal_le m) (left_inside m len long)
 
   right_link : (m : ℕ) → PairNode len ns c m → link_at (bytes_of d.bytes) (m + 8) ≡ link_at (bytes_of c.bytes) (m + 8)
-  right_link m q = Same-link (bytes_of c.bytes) (bytes_of d.bytes) m (m + len) (m + 8) (node_same m q) (omega arith) (omega arith)
+  right_link m q = Same-link (bytes_of c.bytes) (bytes_of d.bytes) m (m + len) (m + 8) (node_same m q) (more m 8) (right_inside m len long)
 
   red_own : cells_of (bytes_of d.bytes) n ≡ record (cells_of (bytes_of c.bytes) n) { red = red }
   red_own = let a = left_link n g in let b = right_link n g in let r = change.colour in λ i. record { left = a i; right = b i; red = r i }
@@ -377,7 +482,7 @@ module _ (len : ℕ) (ns : List ℕ) (c d : Cut) (n : ℕ) (red : Bool) (long : 
   other_red : (m : ℕ) → PairNode len ns c m → (m ≡ n → ⊥) → is_red (bytes_of d.bytes) m ≡ is_red (bytes_of c.bytes) m
   other_red m q o =
       let b = node_block len ns c m q in let at = b.at in
-      let w : b.extent.offset + 8 ≡ m - 8 = omega arith in
+      let w : b.extent.offset + 8 ≡ m - 8 = tag_at b.extent.offset m at in
       let e = subst (λ a. word_at (bytes_of d.bytes) a % 16 ≡ word_at (bytes_of c.bytes) a % 16) w (colour_at b.extent b.listed (λ f. o (sym at ∙ f))) in
       same_red (word_at (bytes_of c.bytes) (m - 8)) (word_at (bytes_of d.bytes) (m - 8)) e
 
@@ -386,7 +491,7 @@ module _ (len : ℕ) (ns : List ℕ) (c d : Cut) (n : ℕ) (red : Bool) (long : 
       let two = and_parts (nat_lt k 24 || (nat_le 32 k && nat_lt k 128) || lies_in_block (live_of c.bytes) k) (not (is_link_byte ns k)) t in
       elim (or_cases (nat_lt k 24 || (nat_le 32 k && nat_lt k 128)) (lies_in_block (live_of c.bytes) k) two.0) [
         | inl e ↦ elim (or_cases (nat_lt k 24) (nat_le 32 k && nat_lt k 128) e) [
-          | inl l ↦ change.keeps.front.at k (omega arith) (ltb-true k 24 l)
+          | inl l ↦ change.keeps.front.at k (none_below k) (ltb-true k 24 l)
           | inr l ↦ let both = and_parts (nat_le 32 k) (nat_lt k 128) l in change.keeps.behind.at k (leb-true 32 k both.0) (ltb-true k 128 both.1)
         ]
         | inr e ↦ let b = in_block (live_of c.bytes).extents k e in (same_payload b.extent b.listed).at k b.low b.high
@@ -402,7 +507,7 @@ module _ (len : ℕ) (ns : List ℕ) (c d : Cut) (n : ℕ) (red : Bool) (long : 
         links = subst (λ (x : Cell). (leads (λ k. is_in k ns) x.left && leads (λ k. is_in k ns) x.right) ≡ true) (sym red_own) (links_at len ns c n g);
         others = λ m i o. let q : PairNode len ns c m = record { good = g.good; listed = i } in
             cell_stays (bytes_of c.bytes) (bytes_of d.bytes) m (left_link m q) (right_link m q) (other_red m q o);
-        keys = λ m i. let s = node_same m (record { good = g.good; listed = i }) in record { at = λ k l h. s.at k (omega arith) h };
+        keys = λ m i. let s = node_same m (record { good = g.good; listed = i }) in record { at = λ k l h. s.at k (chain m (m + 16) k (more m 16) l) h };
       }
 
   pub red_cells : pair_cells len ns d ≡ with_red (pair_cells len ns c) n red

@@ -1,19 +1,21 @@
-use Rattle.std.proofs.Common.{◌≡◌, ℕ, ◌+◌, ◌-◌, ◌*◌, ◌<◌, ◌≤◌, List, length, ap, sym, ◌∙◌, arith, add-one}
+use Rattle.std.proofs.Common.{◌≡◌, ℕ, ◌+◌, ◌-◌, ◌*◌, ◌/◌, ◌%◌, ◌≤◌, List, length, ap, ◌∙◌, arith}
 use Rattle.raw_region.specs.Memory.{bytes_of, patched}
-use Rattle.offset_link.specs.Link.{link, link_at}
 use Rattle.offset_link.specs.Relinked.{relinked}
-use Rattle.offset_link.proofs.Shifting.{one_after}
+use Rattle.offset_link.proofs.Shifting.{run_after}
 use Rattle.offset_link.proofs.moves.move_down.Goals as goal
 
-step : (b cur new : List ℕ) (at by n i : ℕ) → at + 8 * n ≤ length b → by ≤ at → i < n
-    → cur ≡ patched b (at - by) (relinked (bytes_of b) at (at - by) i)
-    → new ≡ patched cur (at + 8 * i - by) (link (at + 8 * i - by) (link_at (bytes_of cur) (at + 8 * i)))
-    → new ≡ patched b (at - by) (relinked (bytes_of b) at (at - by) (i + 1))
-step b cur new at by n i within inside few e f =
-    let to = at - by in let same : at + 8 * i - by ≡ to + 8 * i = omega arith in
-    one_after b cur new at to i (omega arith) (omega arith) e (f ∙ ap (λ (k : ℕ). patched cur k (link k (link_at (bytes_of cur) (at + 8 * i)))) same)
-    ∙ ap (λ (j : ℕ). patched b to (relinked (bytes_of b) at to j)) (sym (add-one i))
+both : (b cur new : List ℕ) (at by n : ℕ) → at + 8 * n ≤ length b → by ≤ at
+    → cur ≡ patched b (at - by) (relinked (bytes_of b) at (at - by) (8 * (n / 8)))
+    → new ≡ patched cur (at + 64 * (n / 8) - by) (relinked (bytes_of cur) (at + 64 * (n / 8)) (at + 64 * (n / 8) - by) (n % 8))
+    → new ≡ patched b (at - by) (relinked (bytes_of b) at (at - by) n)
+both b cur new at by n within inside e f =
+    let to = at - by in let k = 8 * (n / 8) in let r = n % 8 in
+    let a : at + 64 * (n / 8) ≡ at + 8 * k = omega arith in let t : at + 64 * (n / 8) - by ≡ to + 8 * k = omega arith in
+    let g : k + r ≡ n = omega arith in
+    run_after b cur new at to k r (omega arith) (omega arith) e
+    (f ∙ (λ j. patched cur (t j) (relinked (bytes_of cur) (a j) (t j) r)))
+    ∙ ap (λ (j : ℕ). patched b to (relinked (bytes_of b) at to j)) g
 
-pub links-preserved : goal.links-preserved
-links-preserved c =
-    step c.args.bytes.now c.links.bytes c.move_one.new.bytes c.args.at c.args.by c.args.n c.links.i c.requires.source c.requires.inside (omega arith) c.links.invariant c.move_one.ensures
+pub returns : goal.returns
+returns c =
+    both c.args.bytes.now c.runs_down.new.bytes c.links_down.new.bytes c.args.at c.args.by c.args.n c.requires.source c.requires.inside c.runs_down.ensures c.links_down.ensures

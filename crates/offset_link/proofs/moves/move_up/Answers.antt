@@ -1,25 +1,18 @@
-use Rattle.std.proofs.Common.{◌≡◌, ℕ, suc, ◌+◌, ◌-◌, ◌*◌, ◌<◌, ◌≤◌, List, length, ap, ◌∙◌, arith}
+use Rattle.std.proofs.Common.{◌≡◌, ℕ, ◌+◌, ◌*◌, ◌/◌, ◌%◌, ◌≤◌, List, length, ap, ◌∙◌, arith}
 use Rattle.raw_region.specs.Memory.{bytes_of, patched}
-use Rattle.offset_link.specs.Link.{link, link_at}
 use Rattle.offset_link.specs.Relinked.{relinked}
-use Rattle.offset_link.proofs.Shifting.{one_before}
+use Rattle.offset_link.proofs.Shifting.{run_before}
 use Rattle.offset_link.proofs.moves.move_up.Goals as goal
 
-step : (b cur new : List ℕ) (at by n left : ℕ) → at + by + 8 * n ≤ length b → 0 < left → left ≤ n
-    → cur ≡ patched b (at + by + 8 * left) (relinked (bytes_of b) (at + 8 * left) (at + by + 8 * left) (n - left))
-    → new ≡ patched cur (at + 8 * (left - 1) + by) (link (at + 8 * (left - 1) + by) (link_at (bytes_of cur) (at + 8 * (left - 1))))
-    → new ≡ patched b (at + by + 8 * (left - 1)) (relinked (bytes_of b) (at + 8 * (left - 1)) (at + by + 8 * (left - 1)) (n - (left - 1)))
-step b cur new at by n left within some few e f =
-    let k = left - 1 in let from = at + 8 * k in let to = at + by + 8 * k in
-    let e₁ : at + by + 8 * left ≡ to + 8 = omega arith in let e₂ : at + 8 * left ≡ from + 8 = omega arith in
-    let f₁ : from + by ≡ to = omega arith in let g : suc (n - left) ≡ n - k = omega arith in
-    one_before b cur new from to (n - left) (omega arith) (omega arith)
-    (e ∙ (λ i. patched b (e₁ i) (relinked (bytes_of b) (e₂ i) (e₁ i) (n - left))))
-    (f ∙ (λ i. patched cur (f₁ i) (link (f₁ i) (link_at (bytes_of cur) from))))
-    ∙ ap (λ (j : ℕ). patched b to (relinked (bytes_of b) from to j)) g
+both : (b cur new : List ℕ) (at by n : ℕ) → at + by + 8 * n ≤ length b
+    → cur ≡ patched b (at + 8 * (n % 8) + by) (relinked (bytes_of b) (at + 8 * (n % 8)) (at + 8 * (n % 8) + by) (8 * (n / 8)))
+    → new ≡ patched cur (at + by) (relinked (bytes_of cur) at (at + by) (n % 8)) → new ≡ patched b (at + by) (relinked (bytes_of b) at (at + by) n)
+both b cur new at by n within e f =
+    let to = at + by in let r = n % 8 in
+    let t : at + 8 * r + by ≡ to + 8 * r = omega arith in let g : r + 8 * (n / 8) ≡ n = omega arith in
+    run_before b cur new at to r (8 * (n / 8)) (omega arith) (omega arith)
+    (e ∙ (λ j. patched b (t j) (relinked (bytes_of b) (at + 8 * r) (t j) (8 * (n / 8))))) f
+    ∙ ap (λ (j : ℕ). patched b to (relinked (bytes_of b) at to j)) g
 
-pub links-preserved : goal.links-preserved
-links-preserved c = record {
-  some = omega arith;
-  moved = step c.args.bytes.now c.links.bytes c.move_one.new.bytes c.args.at c.args.by c.args.n c.links.left c.requires (omega arith) c.links.invariant.some c.links.invariant.moved c.move_one.ensures;
-}
+pub returns : goal.returns
+returns c = both c.args.bytes.now c.runs_up.new.bytes c.links_up.new.bytes c.args.at c.args.by c.args.n c.requires c.runs_up.ensures c.links_up.ensures

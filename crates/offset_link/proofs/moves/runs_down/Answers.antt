@@ -1,0 +1,21 @@
+use Rattle.std.proofs.Common.{◌≡◌, ℕ, ◌+◌, ◌-◌, ◌*◌, ◌<◌, ◌≤◌, List, length, ap, ◌∙◌, arith}
+use Rattle.raw_region.specs.Memory.{bytes_of, patched}
+use Rattle.offset_link.specs.Relinked.{relinked}
+use Rattle.offset_link.proofs.Shifting.{run_after}
+use Rattle.offset_link.proofs.moves.runs_down.Goals as goal
+
+step : (b cur new : List ℕ) (at by n i : ℕ) → at + 64 * n ≤ length b → by ≤ at → i < n
+    → cur ≡ patched b (at - by) (relinked (bytes_of b) at (at - by) (8 * i))
+    → new ≡ patched cur (at + 64 * i - by) (relinked (bytes_of cur) (at + 64 * i) (at + 64 * i - by) 8)
+    → new ≡ patched b (at - by) (relinked (bytes_of b) at (at - by) (8 * (i + 1)))
+step b cur new at by n i within inside few e f =
+    let to = at - by in let k = 8 * i in
+    let a : at + 64 * i ≡ at + 8 * k = omega arith in let t : at + 64 * i - by ≡ to + 8 * k = omega arith in
+    let g : k + 8 ≡ 8 * (i + 1) = omega arith in
+    run_after b cur new at to k 8 (omega arith) (omega arith) e
+    (f ∙ (λ j. patched cur (t j) (relinked (bytes_of cur) (a j) (t j) 8)))
+    ∙ ap (λ (j : ℕ). patched b to (relinked (bytes_of b) at to j)) g
+
+pub runs-preserved : goal.runs-preserved
+runs-preserved c =
+    step c.args.bytes.now c.runs.bytes c.move_run.new.bytes c.args.at c.args.by c.args.n c.runs.i c.requires.source c.requires.inside (omega arith) c.runs.invariant c.move_run.ensures

@@ -7,7 +7,7 @@ use crate::scripts::Script;
 use image_check::open;
 use raw_region::fake::{Last, MemorySink, MemorySource};
 use raw_region::{RawRegion, Steps};
-use segment_cli::{Interpreter, Start, run};
+use segment_cli::{Start, run};
 use segment_manager::{Mode, Segment};
 use std::alloc::AllocError;
 
@@ -23,13 +23,12 @@ pub fn check_surroundings(
 ) -> Result<(), Trouble> {
     let place = Place::around(saved.len() as u64);
     let mut region = marked_region(trial, place)?;
-    let Some(segment) = begun(trial, region, place) else {
+    let Some(mut segment) = begun(trial, region, place) else {
         return differs(trial, "no segment is begun among other bytes");
     };
     let mut reader = MemorySource::new(&script.text, 4096, Last::Ends);
     let mut out = MemorySink::new(trial.alloc, script.answers.len(), 4096, Last::Fails)?;
-    let mut machine = Interpreter::new(segment);
-    if run(&mut machine, &mut reader, &mut out).is_err()
+    if run(&mut segment, &mut reader, &mut out).is_err()
         || out.taken() != script.answers.as_slice()
     {
         return differs(trial, "the answers are others among other bytes");
@@ -37,7 +36,7 @@ pub fn check_surroundings(
     let Ok(room) = RawRegion::new(trial.alloc, place.capacity) else {
         return Err(Trouble::Memory(AllocError));
     };
-    let Ok((moved, left)) = machine.into_segment().relocate(room, 0) else {
+    let Ok((moved, left)) = segment.relocate(room, 0) else {
         return differs(trial, "the segment does not move");
     };
     region = left;

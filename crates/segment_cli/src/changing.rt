@@ -77,6 +77,7 @@ fn new_element<'a>(
 /// `ReadOnly` where the segment is open for reading, and else `NotFound` where no object has the key, `WrongKind` where it is no
 /// vector or the literal has not the form of its elements, `OutOfRange` where the literal is not in their range, and nothing
 /// changes; `NoSpace` where the vector is full and its storage cannot be regrown, or a text has no fit: the objects are as before.
+#[inline(never)]
 pub fn push(
     segment: &mut Segment,
     key: &Key,
@@ -135,6 +136,7 @@ fn push_text(
 /// vector or the literal has not the form of its elements, `OutOfRange` where the literal is not in their range or there are not
 /// so many others, and nothing changes; `NoSpace` where the vector is full and its storage cannot be regrown, or a text has no
 /// fit: the objects are as before.
+#[inline(never)]
 pub fn insert(
     segment: &mut Segment,
     key: &Key,
@@ -198,6 +200,7 @@ fn insert_text(
 ///
 /// `ReadOnly` where the segment is open for reading, and else `NotFound` where no object has the key, `WrongKind` where it is no
 /// vector, `OutOfRange` where it has no element there. Nothing changes.
+#[inline(never)]
 pub fn erase(segment: &mut Segment, key: &Key, index: u64) -> Result<(), Refusal>
     ensures step { IsStep segment.old segment.new (Erase (key_seen key.now) index) (done_answer result) }
     ensures refused { OnErr result (segment.new ≡ segment.old) }
@@ -340,6 +343,7 @@ fn assign_texts(segment: &mut Segment, object: Object, values: Literals<'_>) -> 
 /// # Errors
 ///
 /// As the segment's call. Nothing changes.
+#[inline(never)]
 pub fn append(
     segment: &mut Segment,
     key: &Key,
@@ -358,6 +362,7 @@ pub fn append(
 /// # Errors
 ///
 /// As the segment's call. Nothing changes.
+#[inline(never)]
 pub fn reserve(segment: &mut Segment, key: &Key, count: u64) -> Result<(), Refusal>
     ensures step { IsStep segment.old segment.new (Reserve (key_seen key.now) count) (done_answer result) }
     ensures refused { OnErr result (segment.new ≡ segment.old) }
@@ -370,6 +375,7 @@ pub fn reserve(segment: &mut Segment, key: &Key, count: u64) -> Result<(), Refus
 /// # Errors
 ///
 /// As the segment's call. Nothing changes.
+#[inline(never)]
 pub fn shrink(segment: &mut Segment, key: &Key) -> Result<(), Refusal>
     ensures step { IsStep segment.old segment.new (Shrink (key_seen key.now)) (done_answer result) }
     ensures refused { OnErr result (segment.new ≡ segment.old) }
@@ -382,6 +388,7 @@ pub fn shrink(segment: &mut Segment, key: &Key) -> Result<(), Refusal>
 /// # Errors
 ///
 /// As the segment's call. Nothing changes.
+#[inline(never)]
 pub fn clear(segment: &mut Segment, key: &Key) -> Result<(), Refusal>
     ensures step { IsStep segment.old segment.new (Clear (key_seen key.now)) (done_answer result) }
     ensures refused { OnErr result (segment.new ≡ segment.old) }

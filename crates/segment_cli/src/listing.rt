@@ -15,6 +15,7 @@ use segment_lang::{Piece, put_pieces};
 use segment_manager::Segment;
 
 /// Writes a line for each block and gap by offset, and then `end`.
+#[inline(never)]
 pub fn put_blocks<W: Sink>(segment: &Segment, out: &mut W) -> Result<(), DeviceFault>
     requires { (W.history out.old).failures < 2 ^ 64 - 1 }
     ensures { WritesFor (W.history out.old) (W.history out.new) result (StandsFor segment.now.cut.bytes)

@@ -3,6 +3,14 @@ ghost use Rattle.std.specs.Prelude.{◌≡◌, ◌-◌, ◌^◌, ◌<◌, ℕ, L
 ghost use Rattle.segment_cli.specs.Writing.{WritesFor};
 
 use raw_region::{DeviceFault, Sink};
+use segment_lang::Text;
+
+/// Room for a name and for a text that a line escapes. It is made once for all lines, and what it held means nothing.
+#[derive(Drop)]
+pub struct Scratch {
+    pub(crate) name: Text,
+    pub(crate) text: Text,
+}
 
 /// A machine that answers the lines of a script.
 pub trait Machine {
@@ -17,7 +25,12 @@ pub trait Machine {
 
     /// Executes the line, which has no line end, and writes its answer. A fault leaves the line
     /// executed, and a proper prefix of its answer written.
-    fn answer<W: Sink>(&mut self, line: &[u8], out: &mut W) -> Result<(), DeviceFault>
+    fn answer<W: Sink>(
+        &mut self,
+        scratch: &mut Scratch,
+        line: &[u8],
+        out: &mut W,
+    ) -> Result<(), DeviceFault>
         requires { (W.history out.old).failures < 2 ^ 64 - 1 }
         ensures leads { (place : Place) → stands self.old place
             → stands self.new (respond place line.now).1 }

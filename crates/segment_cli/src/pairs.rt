@@ -21,6 +21,7 @@ use segment_manager::Segment;
 /// `ReadOnly` where the segment is open for reading, and else `NotFound` where no object has the key, `WrongKind` where it is no
 /// map or a literal has not the form of its kind, `OutOfRange` where a literal is not in the range of its kind, `NoSpace` where
 /// the key is new and no gap is long enough for its block. Nothing changes.
+#[inline(never)]
 pub fn put(
     segment: &mut Segment,
     key: &Key,
@@ -48,6 +49,7 @@ pub fn put(
 ///
 /// `NotFound` where no object has the key, `WrongKind` where it is no map or the literal has not the form of its keys,
 /// `OutOfRange` where the literal is not in their range.
+#[inline(never)]
 pub fn lookup(segment: &Segment, key: &Key, at: Literal<'_>) -> Result<Option<ScalarValue>, Refusal>
     ensures { IsReply segment.now (Lookup (key_seen key.now) (literal_of at.entry)) (any_value_answer result) }
 {
@@ -69,6 +71,7 @@ pub fn lookup(segment: &Segment, key: &Key, at: Literal<'_>) -> Result<Option<Sc
 ///
 /// `ReadOnly` where the segment is open for reading, and else `NotFound` where no object has the key, `WrongKind` where it is no
 /// map or the literal has not the form of its keys, `OutOfRange` where the literal is not in their range. Nothing changes.
+#[inline(never)]
 pub fn remove(segment: &mut Segment, key: &Key, at: Literal<'_>) -> Result<bool, Refusal>
     ensures step { IsStep segment.old segment.new (Remove (key_seen key.now) (literal_of at.entry)) (truth_answer result) }
     ensures refused { OnErr result (segment.new ≡ segment.old) }

@@ -25,6 +25,7 @@ use segment_manager::{Object, Segment};
 /// Takes the last element out of the vector of a key, and writes it, or why there is none: `ReadOnly` where the segment is open
 /// for reading, and else `NotFound` where no object has the key, `WrongKind` where it is no vector, `OutOfRange` where it is
 /// empty. A fault leaves the element taken out, and a proper prefix of it written.
+#[inline(never)]
 pub fn pop<W: Sink>(segment: &mut Segment, key: &Key, out: &mut W) -> Result<(), DeviceFault>
     requires { (W.history out.old).failures < 2 ^ 64 - 1 }
     ensures executed { Executes segment.old segment.new (Pop (key_seen key.now)) }

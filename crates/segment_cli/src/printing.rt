@@ -1,9 +1,9 @@
 //! The printing of answers: what is short goes out in one line, what is long as the segment tells it.
 ghost use Rattle.std.specs.Prelude.{◌≡◌, ◌-◌, ◌^◌, ◌<◌};
 ghost use Rattle.raw_region.specs.Device.{Writes};
-ghost use Rattle.segment_manager.specs.Answers.{Found, Made};
+ghost use Rattle.segment_manager.specs.Answers.{Found};
 ghost use Rattle.segment_manager.specs.State.{StandsFor};
-ghost use Rattle.segment_cli.specs.Answer.{answer_text, truth_word};
+ghost use Rattle.segment_cli.specs.Answer.{answer_text};
 ghost use Rattle.segment_cli.specs.Replies.{answer_seen};
 ghost use Rattle.segment_cli.specs.Writing.{WritesFor};
 
@@ -11,9 +11,9 @@ use crate::listing::put_blocks;
 use crate::replies::Answer;
 use crate::showing::put_shown;
 use crate::telling::{put_kinds, put_names, put_told};
-use raw_region::{DeviceFault, Sink};
+use raw_region::{DeviceFault, Sink, write_all};
 use seg_types::Handle;
-use segment_lang::{Piece, put_pieces};
+use segment_lang::{Piece, put_number_line, put_pieces, put_value_line};
 use segment_manager::Segment;
 
 /// Writes an answer about a segment. A fault leaves a proper prefix of it written.
@@ -27,15 +27,14 @@ pub fn put_answer<W: Sink>(
         (λ d. answer_text (answer_seen d answer.entry)) }
 {
     match answer {
-        Answer::Done => put_pieces(out, &[Piece::Bytes(b"ok\n")]),
-        Answer::Absent => put_pieces(out, &[Piece::Bytes(b"none\n")]),
-        Answer::Truth(truth) => {
-            put_pieces(out, &[Piece::Bytes(truth_word(truth)), Piece::Bytes(b"\n")])
-        }
-        Answer::Number(number) => put_pieces(out, &[Piece::Number(number), Piece::Bytes(b"\n")]),
-        Answer::Made(handle) => put_handle(handle, out),
+        Answer::Done => write_all(out, b"ok\n"),
+        Answer::Absent => write_all(out, b"none\n"),
+        Answer::Truth(true) => write_all(out, b"true\n"),
+        Answer::Truth(false) => write_all(out, b"false\n"),
+        Answer::Number(number) => put_number_line(out, b"", number),
+        Answer::Made(handle) => put_number_line(out, b"#", handle),
         Answer::Found(handle, count) => put_found(handle, count, out),
-        Answer::Element(value) => put_pieces(out, &[Piece::Value(value), Piece::Bytes(b"\n")]),
+        Answer::Element(value) => put_value_line(out, value),
         Answer::Shown(key) => put_shown(segment, &key, out),
         Answer::Told(key) => put_told(segment, &key, out),
         Answer::Names => put_names(segment, out),
@@ -47,22 +46,8 @@ pub fn put_answer<W: Sink>(
     }
 }
 
-/// Writes a handle.
-fn put_handle<W: Sink>(handle: Handle, out: &mut W) -> Result<(), DeviceFault>
-    requires { (W.history out.old).failures < 2 ^ 64 - 1 }
-    ensures { Writes (W.history out.old) (W.history out.new) result (answer_text (Made handle)) }
-{
-    put_pieces(
-        out,
-        &[
-            Piece::Bytes(b"#"),
-            Piece::Number(handle),
-            Piece::Bytes(b"\n"),
-        ],
-    )
-}
-
 /// Writes a handle and a count.
+#[inline(never)]
 fn put_found<W: Sink>(handle: Handle, count: u32, out: &mut W) -> Result<(), DeviceFault>
     requires { (W.history out.old).failures < 2 ^ 64 - 1 }
     ensures { Writes (W.history out.old) (W.history out.new) result (answer_text (Found handle count)) }
@@ -77,11 +62,4 @@ fn put_found<W: Sink>(handle: Handle, count: u32, out: &mut W) -> Result<(), Dev
             Piece::Bytes(b"\n"),
         ],
     )
-}
-
-/// The word for whether something holds.
-fn truth_word(truth: bool) -> &'static [u8]
-    ensures { result.now ≡ truth_word truth }
-{
-    if truth { b"true" } else { b"false" }
 }

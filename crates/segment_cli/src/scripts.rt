@@ -9,10 +9,11 @@ ghost use Rattle.segment_cli.specs.Writing.{WritesFor};
 ghost use Rattle.segment_cli.specs.Behind.{IsBehind, IsStoppedIn, IsAtEnd, IsStoppedAtLast, HasAnswered};
 
 use crate::faults::RunFault;
-use crate::machine::Machine;
+use crate::machine::{Machine, Scratch};
 use crate::open_line::OpenLine;
 use memchr::memchr_iter;
 use raw_region::{DeviceFault, Sink, Source};
+use segment_lang::Text;
 
 /// How many bytes of a script are read at once, at most.
 const PIECE: usize = 65536;
@@ -30,6 +31,7 @@ fn line_end(bytes: &[u8]) -> Option<usize>
 /// Answers the open line, which ends with these bytes. One that has no others is not copied.
 fn answer_ended<M: Machine, W: Sink>(
     machine: &mut M,
+    scratch: &mut Scratch,
     line: &mut OpenLine,
     end: &[u8],
     out: &mut W,
@@ -42,10 +44,10 @@ fn answer_ended<M: Machine, W: Sink>(
     ensures cleared { line.new ≡ [] }
 {
     if line.is_empty() {
-        return machine.answer(end, out);
+        return machine.answer(scratch, end, out);
     }
     line.extend(end);
-    let answered = machine.answer(line.as_slice(), out);
+    let answered = machine.answer(scratch, line.as_slice(), out);
     line.clear();
     answered
 }
@@ -54,6 +56,7 @@ fn answer_ended<M: Machine, W: Sink>(
 /// the line that is still open behind it.
 fn feed<M: Machine, W: Sink>(
     machine: &mut M,
+    scratch: &mut Scratch,
     line: &mut OpenLine,
     piece: &[u8],
     out: &mut W,
@@ -71,7 +74,7 @@ fn feed<M: Machine, W: Sink>(
 {
     let mut rest = piece;
     'lines: while let Some(len) = line_end(rest) {
-        answer_ended(machine, line, &rest[..len], out)?;
+        answer_ended(machine, scratch, line, &rest[..len], out)?;
         rest = &rest[len + 1..];
     }
     line.extend(rest);
@@ -81,6 +84,7 @@ fn feed<M: Machine, W: Sink>(
 /// Reads the script in pieces, and executes the lines that end in it.
 fn read_lines<M: Machine, S: Source, W: Sink>(
     machine: &mut M,
+    scratch: &mut Scratch,
     script: &mut S,
     line: &mut OpenLine,
     out: &mut W,
@@ -115,7 +119,7 @@ fn read_lines<M: Machine, S: Source, W: Sink>(
             return Ok(());
         }
         let within = count.min(left);
-        match feed(machine, line, &room[..within], out) {
+        match feed(machine, scratch, line, &room[..within], out) {
             Ok(()) => {}
             Err(_) => return Err(RunFault::WriteFault),
         }
@@ -129,6 +133,7 @@ fn read_lines<M: Machine, S: Source, W: Sink>(
 /// Answers the line that is open where the script ends, if it has a byte.
 fn answer_last<M: Machine, W: Sink>(
     machine: &mut M,
+    scratch: &mut Scratch,
     line: &OpenLine,
     out: &mut W,
 ) -> Result<(), DeviceFault>
@@ -144,7 +149,7 @@ fn answer_last<M: Machine, W: Sink>(
 {
     let last = line.as_slice();
     if !last.is_empty() {
-        machine.answer(last, out)?;
+        machine.answer(scratch, last, out)?;
     }
     Ok(())
 }
@@ -170,9 +175,13 @@ pub fn run<M: Machine, S: Source, W: Sink>(
     ensures devices { UsesDevices (S.history script.old) (S.history script.new)
         (W.history out.old) (W.history out.new) result }
 {
+    let mut scratch = Scratch {
+        name: Text::new(),
+        text: Text::new(),
+    };
     let mut line = OpenLine::new();
-    read_lines(machine, script, &mut line, out)?;
-    match answer_last(machine, &line, out) {
+    read_lines(machine, &mut scratch, script, &mut line, out)?;
+    match answer_last(machine, &mut scratch, &line, out) {
         Ok(()) => Ok(()),
         Err(_) => Err(RunFault::WriteFault),
     }

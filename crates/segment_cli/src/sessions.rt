@@ -11,10 +11,8 @@ ghost use Rattle.segment_cli.specs.Session.{IsSession, Saves, script_limit};
 use crate::faults::{SessionFault, Start};
 use crate::saving::save;
 use crate::scripts::run;
-use crate::segments::Interpreter;
 use image_check::open;
 use raw_region::{DeviceFault, RawRegion, Sink, Source, Steps};
-use segment_lang::Text;
 use segment_manager::{Mode, Segment};
 use std::alloc::Global;
 
@@ -109,14 +107,9 @@ pub fn session<I: Source, S: Source, O: Sink, W: Sink>(
     ensures out_grows { Grows (O.history out.old).bytes (O.history out.new).bytes }
     ensures saved_grows { Grows (W.history image_out.old).bytes (W.history image_out.new).bytes }
 {
-    let segment = begin(alloc, start, mode, image, region, base)?;
-    let mut machine = Interpreter {
-        segment,
-        name: Text::new(),
-        text: Text::new(),
-    };
-    run(&mut machine, script, out)?;
-    match save_segment(&machine.segment, image_out) {
+    let mut segment = begin(alloc, start, mode, image, region, base)?;
+    run(&mut segment, script, out)?;
+    match save_segment(&segment, image_out) {
         Ok(()) => Ok(()),
         Err(_) => Err(SessionFault::WriteFault),
     }

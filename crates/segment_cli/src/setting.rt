@@ -25,6 +25,7 @@ use segment_manager::{Object, Segment};
 /// `ReadOnly` where the segment is open for reading, and else `NotFound` where no object has the key, `WrongKind` where it has
 /// no elements or the literal has not their form, `OutOfRange` where the literal is not in their range or there is no such
 /// element, `NoSpace` where a text has no fit. Nothing changes.
+#[inline(never)]
 pub fn set(
     segment: &mut Segment,
     key: &Key,

@@ -24,6 +24,7 @@ use segment_lang::{Piece, put_pieces};
 use segment_manager::{Object, Segment};
 
 /// Writes the kind and the value of the object of a key, or that there is none.
+#[inline(never)]
 pub fn put_shown<W: Sink>(segment: &Segment, key: &Key, out: &mut W) -> Result<(), DeviceFault>
     requires { (W.history out.old).failures < 2 ^ 64 - 1 }
     ensures { WritesFor (W.history out.old) (W.history out.new) result (StandsFor segment.now.cut.bytes)
@@ -220,6 +221,7 @@ fn put_text<W: Sink>(
 }
 
 /// Writes the element at an index in the object of a key, or why there is none.
+#[inline(never)]
 pub fn put_got<W: Sink>(
     segment: &Segment,
     key: &Key,

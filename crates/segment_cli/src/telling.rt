@@ -20,6 +20,7 @@ use segment_lang::{Piece, put_pieces};
 use segment_manager::{Instance, Object, Segment};
 
 /// Writes what the object of a key says of itself, or that there is none.
+#[inline(never)]
 pub fn put_told<W: Sink>(segment: &Segment, key: &Key, out: &mut W) -> Result<(), DeviceFault>
     requires { (W.history out.old).failures < 2 ^ 64 - 1 }
     ensures { WritesFor (W.history out.old) (W.history out.new) result (StandsFor segment.now.cut.bytes)
@@ -94,6 +95,7 @@ fn put_instance<W: Sink>(
 }
 
 /// Writes a line for each object with a name, by name, and then `end`.
+#[inline(never)]
 pub fn put_names<W: Sink>(segment: &Segment, out: &mut W) -> Result<(), DeviceFault>
     requires { (W.history out.old).failures < 2 ^ 64 - 1 }
     ensures { WritesFor (W.history out.old) (W.history out.new) result (StandsFor segment.now.cut.bytes)
@@ -126,6 +128,7 @@ fn put_named<W: Sink>(said: Instance<'_>, out: &mut W) -> Result<(), DeviceFault
 }
 
 /// Writes a line for each unique object, by kind, and then `end`.
+#[inline(never)]
 pub fn put_kinds<W: Sink>(segment: &Segment, out: &mut W) -> Result<(), DeviceFault>
     requires { (W.history out.old).failures < 2 ^ 64 - 1 }
     ensures { WritesFor (W.history out.old) (W.history out.new) result (StandsFor segment.now.cut.bytes)

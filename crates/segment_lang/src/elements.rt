@@ -15,6 +15,7 @@ use crate::numbers::number;
 use crate::words::{next_word, only_word, three_words, two_words};
 
 /// A key and a value, of a new last element.
+#[inline(never)]
 pub fn read_push<'a>(bytes: &'a [u8], scratch: &'a mut Text) -> Option<Command<'a>>
     ensures { option_map command_of result ≡ of_two (with_key_literal asked.Push) bytes.now }
 {
@@ -25,6 +26,7 @@ pub fn read_push<'a>(bytes: &'a [u8], scratch: &'a mut Text) -> Option<Command<'
 }
 
 /// A key, of a vector that loses its last element.
+#[inline(never)]
 pub fn read_pop<'a>(bytes: &'a [u8], scratch: &'a mut Text) -> Option<Command<'a>>
     ensures { option_map command_of result ≡ of_one (with_key asked.Pop key_of) bytes.now }
 {
@@ -33,6 +35,7 @@ pub fn read_pop<'a>(bytes: &'a [u8], scratch: &'a mut Text) -> Option<Command<'a
 }
 
 /// A key, a number and a value, of a new element.
+#[inline(never)]
 pub fn read_insert<'a>(bytes: &'a [u8], scratch: &'a mut Text) -> Option<Command<'a>>
     ensures { option_map command_of result ≡ of_three (with_key_number_literal asked.Insert) bytes.now }
 {
@@ -44,6 +47,7 @@ pub fn read_insert<'a>(bytes: &'a [u8], scratch: &'a mut Text) -> Option<Command
 }
 
 /// A key and a number, of an element that goes.
+#[inline(never)]
 pub fn read_erase<'a>(bytes: &'a [u8], scratch: &'a mut Text) -> Option<Command<'a>>
     ensures { option_map command_of result ≡ of_two (with_key_number asked.Erase) bytes.now }
 {
@@ -54,6 +58,7 @@ pub fn read_erase<'a>(bytes: &'a [u8], scratch: &'a mut Text) -> Option<Command<
 }
 
 /// A key and a number, of elements that there is to be room for.
+#[inline(never)]
 pub fn read_reserve<'a>(bytes: &'a [u8], scratch: &'a mut Text) -> Option<Command<'a>>
     ensures { option_map command_of result ≡ of_two (with_key_number asked.Reserve) bytes.now }
 {
@@ -64,6 +69,7 @@ pub fn read_reserve<'a>(bytes: &'a [u8], scratch: &'a mut Text) -> Option<Comman
 }
 
 /// A key, of an object that gives back the room that it does not use.
+#[inline(never)]
 pub fn read_shrink<'a>(bytes: &'a [u8], scratch: &'a mut Text) -> Option<Command<'a>>
     ensures { option_map command_of result ≡ of_one (with_key asked.Shrink key_of) bytes.now }
 {
@@ -72,6 +78,7 @@ pub fn read_shrink<'a>(bytes: &'a [u8], scratch: &'a mut Text) -> Option<Command
 }
 
 /// A key, of an object that loses all its elements.
+#[inline(never)]
 pub fn read_clear<'a>(bytes: &'a [u8], scratch: &'a mut Text) -> Option<Command<'a>>
     ensures { option_map command_of result ≡ of_one (with_key asked.Clear key_of) bytes.now }
 {
@@ -81,6 +88,7 @@ pub fn read_clear<'a>(bytes: &'a [u8], scratch: &'a mut Text) -> Option<Command<
 
 /// A key and any number of values, of all new elements.
 #[tactic(auto, unfolding(crate::specs::Arguments::assigning_at))]
+#[inline(never)]
 pub fn read_assign<'a>(bytes: &'a [u8], scratch: &'a mut Text) -> Option<Command<'a>>
     ensures { option_map command_of result ≡ assigning_at bytes.now }
 {
@@ -91,6 +99,7 @@ pub fn read_assign<'a>(bytes: &'a [u8], scratch: &'a mut Text) -> Option<Command
 }
 
 /// A key and a text, of new last bytes.
+#[inline(never)]
 pub fn read_append<'a>(bytes: &'a [u8], scratch: &'a mut Text) -> Option<Command<'a>>
     ensures { option_map command_of result ≡ of_two appending bytes.now }
 {

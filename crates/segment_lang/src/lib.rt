@@ -26,6 +26,7 @@ mod readers;
 // Answers.
 mod errors;
 mod pieces;
+mod short_lines;
 mod texts;
 
 // Laws of the definitions.
@@ -40,7 +41,9 @@ pub use literals::{Literal, literal_of};
 pub use numbers::{number_of, whole_of};
 pub use pieces::{Piece, put_pieces};
 pub use seg_types::LineError;
-pub use texts::{put_kind, put_name, put_number, put_text, put_value};
+pub use texts::{
+    put_kind, put_line, put_name, put_number, put_number_line, put_text, put_value, put_value_line,
+};
 pub use theorems::{
     long_lines_are_cut, numbers_are_decimals, printed_kinds_are_read, printed_names_are_read,
     printed_texts_are_read, texts_are_spelled, wholes_are_decimals, words_follow, words_have_room,

@@ -13,6 +13,7 @@ use crate::literals::literal_of;
 use crate::words::{three_words, two_words};
 
 /// A key and two values, of a pair that is put in.
+#[inline(never)]
 pub fn read_put<'a>(bytes: &'a [u8], scratch: &'a mut Text) -> Option<Command<'a>>
     ensures { option_map command_of result ≡ of_three putting bytes.now }
 {
@@ -24,6 +25,7 @@ pub fn read_put<'a>(bytes: &'a [u8], scratch: &'a mut Text) -> Option<Command<'a
 }
 
 /// A key and a value, of a pair that is looked up.
+#[inline(never)]
 pub fn read_lookup<'a>(bytes: &'a [u8], scratch: &'a mut Text) -> Option<Command<'a>>
     ensures { option_map command_of result ≡ of_two (with_key_literal asked.Lookup) bytes.now }
 {
@@ -34,6 +36,7 @@ pub fn read_lookup<'a>(bytes: &'a [u8], scratch: &'a mut Text) -> Option<Command
 }
 
 /// A key and a value, of a pair that goes.
+#[inline(never)]
 pub fn read_remove<'a>(bytes: &'a [u8], scratch: &'a mut Text) -> Option<Command<'a>>
     ensures { option_map command_of result ≡ of_two (with_key_literal asked.Remove) bytes.now }
 {

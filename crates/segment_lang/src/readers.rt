@@ -21,6 +21,7 @@ use seg_types::Kind;
 
 /// A kind with a count, a key and one value.
 #[tactic(auto, unfolding(crate::specs::Arguments::making_at))]
+#[inline(never)]
 pub fn read_construct<'a>(bytes: &'a [u8], scratch: &'a mut Text) -> Option<Command<'a>>
     ensures { option_map command_of result ≡ making_at asked.Construct new_key bytes.now }
 {
@@ -33,6 +34,7 @@ pub fn read_construct<'a>(bytes: &'a [u8], scratch: &'a mut Text) -> Option<Comm
 
 /// A kind with a count, an entry of an index and one value.
 #[tactic(auto, unfolding(crate::specs::Arguments::making_at))]
+#[inline(never)]
 pub fn read_find_or_construct<'a>(bytes: &'a [u8], scratch: &'a mut Text) -> Option<Command<'a>>
     ensures { option_map command_of result ≡ making_at asked.FindOrConstruct name_key bytes.now }
 {
@@ -45,6 +47,7 @@ pub fn read_find_or_construct<'a>(bytes: &'a [u8], scratch: &'a mut Text) -> Opt
 
 /// A kind with a count, a key and as many values.
 #[tactic(auto, unfolding(crate::specs::Arguments::making_each_at))]
+#[inline(never)]
 pub fn read_construct_it<'a>(bytes: &'a [u8], scratch: &'a mut Text) -> Option<Command<'a>>
     ensures { option_map command_of result ≡ making_each_at bytes.now }
 {
@@ -59,6 +62,7 @@ pub fn read_construct_it<'a>(bytes: &'a [u8], scratch: &'a mut Text) -> Option<C
 }
 
 /// A kind and an entry of an index.
+#[inline(never)]
 pub fn read_find<'a>(bytes: &'a [u8], scratch: &'a mut Text) -> Option<Command<'a>>
     ensures { option_map command_of result ≡ of_two finding bytes.now }
 {
@@ -69,6 +73,7 @@ pub fn read_find<'a>(bytes: &'a [u8], scratch: &'a mut Text) -> Option<Command<'
 }
 
 /// An entry of an index.
+#[inline(never)]
 pub fn read_destroy<'a>(bytes: &'a [u8], scratch: &'a mut Text) -> Option<Command<'a>>
     ensures { option_map command_of result ≡ of_one (with_key asked.Destroy name_key) bytes.now }
 {
@@ -77,6 +82,7 @@ pub fn read_destroy<'a>(bytes: &'a [u8], scratch: &'a mut Text) -> Option<Comman
 }
 
 /// A handle.
+#[inline(never)]
 pub fn read_destroy_ptr(bytes: &[u8]) -> Option<Command<'_>>
     ensures { option_map command_of result ≡ option_map asked.DestroyPtr (option_and_then handle_of (only_word bytes.now)) }
 {
@@ -85,6 +91,7 @@ pub fn read_destroy_ptr(bytes: &[u8]) -> Option<Command<'_>>
 }
 
 /// A key, of an object that is shown.
+#[inline(never)]
 pub fn read_show<'a>(bytes: &'a [u8], scratch: &'a mut Text) -> Option<Command<'a>>
     ensures { option_map command_of result ≡ of_one (with_key asked.Show key_of) bytes.now }
 {
@@ -93,6 +100,7 @@ pub fn read_show<'a>(bytes: &'a [u8], scratch: &'a mut Text) -> Option<Command<'
 }
 
 /// A key, of an object of which is told what it is.
+#[inline(never)]
 pub fn read_info<'a>(bytes: &'a [u8], scratch: &'a mut Text) -> Option<Command<'a>>
     ensures { option_map command_of result ≡ of_one (with_key asked.Info key_of) bytes.now }
 {
@@ -101,6 +109,7 @@ pub fn read_info<'a>(bytes: &'a [u8], scratch: &'a mut Text) -> Option<Command<'
 }
 
 /// A key and a number.
+#[inline(never)]
 pub fn read_get<'a>(bytes: &'a [u8], scratch: &'a mut Text) -> Option<Command<'a>>
     ensures { option_map command_of result ≡ of_two (with_key_number asked.Get) bytes.now }
 {
@@ -111,6 +120,7 @@ pub fn read_get<'a>(bytes: &'a [u8], scratch: &'a mut Text) -> Option<Command<'a
 }
 
 /// A key, a number and a value.
+#[inline(never)]
 pub fn read_set<'a>(bytes: &'a [u8], scratch: &'a mut Text) -> Option<Command<'a>>
     ensures { option_map command_of result ≡ of_three (with_key_number_literal asked.Set) bytes.now }
 {
@@ -122,6 +132,7 @@ pub fn read_set<'a>(bytes: &'a [u8], scratch: &'a mut Text) -> Option<Command<'a
 }
 
 /// A number, of entries in the index of names.
+#[inline(never)]
 pub fn read_reserve_named(bytes: &[u8]) -> Option<Command<'_>>
     ensures { option_map command_of result ≡ of_one (with_number asked.ReserveNamed) bytes.now }
 {
@@ -130,6 +141,7 @@ pub fn read_reserve_named(bytes: &[u8]) -> Option<Command<'_>>
 }
 
 /// A number, of entries in the index of unique kinds.
+#[inline(never)]
 pub fn read_reserve_unique(bytes: &[u8]) -> Option<Command<'_>>
     ensures { option_map command_of result ≡ of_one (with_number asked.ReserveUnique) bytes.now }
 {

@@ -2,7 +2,7 @@
 //! `DeviceFault` where the writer failed: what went out is then shorter than the text, and the text
 //! begins with it.
 
-ghost use Rattle.std.specs.Prelude.{◌≡◌, ◌==◌, ◌||◌, ◌-◌, ◌^◌, ◌<◌, decimal, flat_map};
+ghost use Rattle.std.specs.Prelude.{◌≡◌, ◌==◌, ◌||◌, ◌-◌, ◌^◌, ◌<◌, ◌++◌, ◌∷◌, [], decimal, flat_map};
 ghost use Rattle.std.specs.List.{list_all};
 ghost use Rattle.raw_region.specs.Device.{Writes};
 ghost use Rattle.seg_types.specs.Values.{kind_of_scalar, value_of_scalar};
@@ -11,6 +11,7 @@ ghost use Rattle.segment_lang.specs.Texts.{digit_text, item_text, kind_text, nam
 ghost use Rattle.segment_lang.specs.Pieces.{part_text};
 
 use crate::numbers::is_digit;
+use crate::short_lines::ShortLine;
 use itoa::Buffer;
 use raw_region::{DeviceFault, Sink, write_all};
 use seg_types::{Kind, ScalarKind, ScalarValue};
@@ -37,6 +38,45 @@ pub fn put_value<S: Sink>(out: &mut S, value: ScalarValue) -> Result<(), DeviceF
         ScalarValue::I32(number) => write_all(out, buffer.format(number).as_bytes()),
         ScalarValue::I64(number) => write_all(out, buffer.format(number).as_bytes()),
         ScalarValue::U64(number) => write_all(out, buffer.format(number).as_bytes()),
+    }
+}
+
+/// Writes two texts, one behind the other, and the end of the line: at once where they are short.
+pub fn put_line<S: Sink>(out: &mut S, front: &[u8], text: &[u8]) -> Result<(), DeviceFault>
+    requires { (S.history out.old).failures < 2 ^ 64 - 1 }
+    ensures { Writes (S.history out.old) (S.history out.new) result (front.now ++ text.now ++ 0x0A ∷ []) }
+{
+    if front.len() > 3 || text.len() > 28 {
+        return put_parts(out, &[front, text, b"\n"]);
+    }
+    let mut line = ShortLine::new();
+    line.extend(front);
+    line.extend(text);
+    line.extend(b"\n");
+    write_all(out, line.as_slice())
+}
+
+/// Writes a number behind a text, and the end of the line.
+pub fn put_number_line<S: Sink>(out: &mut S, front: &[u8], number: u64) -> Result<(), DeviceFault>
+    requires { (S.history out.old).failures < 2 ^ 64 - 1 }
+    ensures { Writes (S.history out.old) (S.history out.new) result (front.now ++ decimal number ++ 0x0A ∷ []) }
+{
+    put_line(out, front, Buffer::new().format(number).as_bytes())
+}
+
+/// Writes a value and the end of the line.
+pub fn put_value_line<S: Sink>(out: &mut S, value: ScalarValue) -> Result<(), DeviceFault>
+    requires { (S.history out.old).failures < 2 ^ 64 - 1 }
+    ensures { Writes (S.history out.old) (S.history out.new) result (value_text (kind_of_scalar value) (value_of_scalar value) ++ 0x0A ∷ []) }
+{
+    let mut buffer = Buffer::new();
+    match value {
+        ScalarValue::Bool(true) => write_all(out, b"true\n"),
+        ScalarValue::Bool(false) => write_all(out, b"false\n"),
+        ScalarValue::U8(number) => put_line(out, b"", buffer.format(number).as_bytes()),
+        ScalarValue::I32(number) => put_line(out, b"", buffer.format(number).as_bytes()),
+        ScalarValue::I64(number) => put_line(out, b"", buffer.format(number).as_bytes()),
+        ScalarValue::U64(number) => put_line(out, b"", buffer.format(number).as_bytes()),
     }
 }
 

@@ -2,7 +2,7 @@
 
 use raw_region::RawRegion;
 use raw_region::fake::{Last, MemorySink, MemorySource};
-use segment_cli::{Interpreter, RunFault, run};
+use segment_cli::{RunFault, run};
 use segment_manager::{Mode, Segment};
 use std::test::Fail;
 
@@ -15,16 +15,15 @@ fn executes_the_line_whose_answer_is_cut(rt: HostRuntime) -> Result<(), Fail> {
     // how many bytes the writer takes, and how many are free afterwards
     for (room, free) in [(0, 880), (4, 880), (5, 832), (9, 832), (13, 832)] {
         let region = RawRegion::new(rt.alloc(), 1024)?;
-        let Ok(segment) = Segment::create(region, 0, 1024, Mode::Write) else {
+        let Ok(mut segment) = Segment::create(region, 0, 1024, Mode::Write) else {
             return Err(Fail::from("no segment is created"));
         };
         let mut script = MemorySource::new(SCRIPT, 4096, Last::Ends);
         let mut out = MemorySink::new(rt.alloc(), room, 3, Last::Fails)?;
-        let mut machine = Interpreter::new(segment);
-        let result = run(&mut machine, &mut script, &mut out);
+        let result = run(&mut segment, &mut script, &mut out);
         assert_eq!(rt; result, Err(RunFault::WriteFault), "with room for {room}");
         assert_eq!(rt; out.taken(), &ANSWERS[..room]);
-        assert_eq!(rt; machine.into_segment().free(), free);
+        assert_eq!(rt; segment.free(), free);
     }
     Ok(())
 }

@@ -5,7 +5,7 @@ ghost use Rattle.std.proofs.Common.{ap, arith, length-take};
 
 use raw_region::fake::{Last, MemorySink, MemorySource};
 use raw_region::{DeviceFault, RawRegion, Sink, write_all};
-use segment_cli::{Machine, RunFault, run, save};
+use segment_cli::{Machine, RunFault, Scratch, run, save};
 use segment_manager::{Mode, Segment};
 use std::alloc::{AllocError, Global};
 use std::test::Fail;
@@ -24,7 +24,12 @@ impl Machine for Lengths {
 
     ghost stands = { λ machine count. machine.count ≡ count };
 
-    fn answer<W: Sink>(&mut self, line: &[u8], out: &mut W) -> Result<(), DeviceFault> {
+    fn answer<W: Sink>(
+        &mut self,
+        _scratch: &mut Scratch,
+        line: &[u8],
+        out: &mut W,
+    ) -> Result<(), DeviceFault> {
         let len = line.len().min(4098);
         let answer = [self.count, (len / 256) as u8, (len % 256) as u8];
         self.count = self.count.wrapping_add(1);

@@ -8,8 +8,7 @@ use image_check::{ImageClass, OpenError, open, open_any};
 use raw_region::fake::{Last, MemorySink, MemorySource};
 use raw_region::{RawRegion, Steps};
 use segment_cli::{
-    Interpreter, Invocation, InvocationFault, ModeName, SessionFault, Start, invocation, migrate,
-    run, session,
+    Invocation, InvocationFault, ModeName, SessionFault, Start, invocation, migrate, run, session,
 };
 use segment_manager::{Mode, Segment};
 use std::alloc::Global;
@@ -41,14 +40,13 @@ enum Tried {
 /// A segment of 1024 bytes with the map, at the front of its region.
 fn map(rt: &impl Abort, alloc: Global) -> Option<Segment> {
     let region = RawRegion::new(alloc, 1024).ok()?;
-    let Ok(segment) = Segment::create(region, 0, 1024, Mode::Write) else {
+    let Ok(mut segment) = Segment::create(region, 0, 1024, Mode::Write) else {
         panic!(rt; "no segment");
     };
-    let mut machine = Interpreter::new(segment);
     let mut out = MemorySink::new(alloc, ROOM, 4096, Last::Fails).ok()?;
     let mut script = MemorySource::new(SCRIPT, 4096, Last::Ends);
-    assert_eq!(rt; run(&mut machine, &mut script, &mut out), Ok(()));
-    Some(machine.into_segment())
+    assert_eq!(rt; run(&mut segment, &mut script, &mut out), Ok(()));
+    Some(segment)
 }
 
 /// Opens the image in a region, of which it takes the last 1024 bytes. Where memory is refused, the region comes back, and
@@ -60,11 +58,10 @@ fn open_image(rt: &impl Abort, alloc: Global) -> Option<Tried> {
     let mut reader = MemorySource::new(image.as_bytes(), 4096, Last::Ends);
     let mut steps = Steps::new();
     match open(alloc, &mut reader, region, 1024, Mode::Write, &mut steps) {
-        Ok(opened) => {
+        Ok(mut opened) => {
             assert_eq!(rt; opened.as_bytes(), image.as_bytes());
-            let mut machine = Interpreter::new(opened);
             let mut script = MemorySource::new(ASKED, 4096, Last::Ends);
-            assert_eq!(rt; run(&mut machine, &mut script, &mut out), Ok(()));
+            assert_eq!(rt; run(&mut opened, &mut script, &mut out), Ok(()));
             assert_eq!(rt; out.taken(), SAID);
             Some(Tried::Done)
         }

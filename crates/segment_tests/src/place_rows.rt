@@ -7,7 +7,7 @@ use grow_shrink::{GrowError, grow, shrink_to_fit};
 use image_check::{OpenError, open};
 use raw_region::fake::{Last, MemorySink, MemorySource};
 use raw_region::{RawRegion, Steps};
-use segment_cli::{Interpreter, run};
+use segment_cli::run;
 use segment_manager::{Mode, Segment};
 use std::alloc::Global;
 use std::process::Abort;
@@ -18,31 +18,29 @@ fn made(rt: &impl Abort, alloc: Global, size: u64, script: &str) -> Result<Segme
     requires { IsCapacity size }
 {
     let region = RawRegion::new(alloc, size)?;
-    let Ok(segment) = Segment::create(region, 0, size, Mode::Write) else {
+    let Ok(mut segment) = Segment::create(region, 0, size, Mode::Write) else {
         return Err(Fail::from("no segment is created"));
     };
-    let mut machine = Interpreter::new(segment);
     let mut script = MemorySource::new(script.as_bytes(), 4096, Last::Ends);
     let mut out = MemorySink::new(alloc, 1024, 1024, Last::Fails)?;
-    assert_eq!(rt; run(&mut machine, &mut script, &mut out), Ok(()));
+    assert_eq!(rt; run(&mut segment, &mut script, &mut out), Ok(()));
     assert!(rt; !text_of(out.taken()).contains("error"));
-    Ok(machine.into_segment())
+    Ok(segment)
 }
 
 /// Runs a script, compares what it prints, and hands the segment back.
 fn says(
     rt: &impl Abort,
     alloc: Global,
-    segment: Segment,
+    mut segment: Segment,
     script: &str,
     want: &str,
 ) -> Result<Segment, Fail> {
-    let mut machine = Interpreter::new(segment);
     let mut script = MemorySource::new(script.as_bytes(), 4096, Last::Ends);
     let mut out = MemorySink::new(alloc, 1024, 1024, Last::Fails)?;
-    assert_eq!(rt; run(&mut machine, &mut script, &mut out), Ok(()));
+    assert_eq!(rt; run(&mut segment, &mut script, &mut out), Ok(()));
     assert_eq!(rt; text_of(out.taken()), want);
-    Ok(machine.into_segment())
+    Ok(segment)
 }
 
 /// A region of so many bytes, each of them 7.

@@ -35,7 +35,7 @@ returns-in_err-run-clause-session g c =
       out = taken_since (Answers.history a.out.now) (Answers.history c.run.new.out);
       saved = taken_since (Saved.history a.image_out.now) (Saved.history a.image_out.now);
     })
-    c.in_ok-segment.segment c.run.new.machine.segment c.in_err-run.field-0.0 c.in_ok-segment.ensures.starts c.in_err-run.ensures.leaves
+    c.in_ok-segment.segment c.run.new.machine c.in_err-run.field-0.0 c.in_ok-segment.ensures.starts c.in_err-run.ensures.leaves
     (not_written (Saved.history a.image_out.now)))
 
 pub returns-in_err-run-clause-out_grows : goal.returns-in_err-run-clause-out_grows
@@ -54,8 +54,8 @@ returns-in-Ok-clause-session g c =
       out = taken_since (Answers.history a.out.now) (Answers.history c.run.new.out);
       saved = taken_since (Saved.history a.image_out.now) (Saved.history c.save_segment.new.image_out);
     })
-    c.in_ok-segment.segment c.run.new.machine.segment tt c.in_ok-segment.ensures.starts c.in_ok-run.ensures.leaves c.in-Ok.ensures.ok
-    (λ writes. added (Saved.history a.image_out.now).bytes (Saved.history c.save_segment.new.image_out).bytes c.run.new.machine.segment.cut.bytes (c.in-Ok.ensures.bytes writes))
+    c.in_ok-segment.segment c.run.new.machine tt c.in_ok-segment.ensures.starts c.in_ok-run.ensures.leaves c.in-Ok.ensures.ok
+    (λ writes. added (Saved.history a.image_out.now).bytes (Saved.history c.save_segment.new.image_out).bytes c.run.new.machine.cut.bytes (c.in-Ok.ensures.bytes writes))
     (none_failed _ _ (omega (arith, c.in-Ok.ensures.counted)))
 
 pub returns-in-Ok-clause-out_grows : goal.returns-in-Ok-clause-out_grows
@@ -75,7 +75,7 @@ returns-clause-session g c =
       out = taken_since (Answers.history a.out.now) (Answers.history c.run.new.out);
       saved = taken_since (Saved.history a.image_out.now) (Saved.history c.save_segment.new.image_out);
     })
-    c.in_ok-segment.segment c.run.new.machine.segment c.in_ok-segment.ensures.starts c.in_ok-run.ensures.leaves unsaved.0 unsaved.1
+    c.in_ok-segment.segment c.run.new.machine c.in_ok-segment.ensures.starts c.in_ok-run.ensures.leaves unsaved.0 unsaved.1
     (one_failed _ _ c.in-Err.ensures.counted)
 
 pub returns-clause-out_grows : goal.returns-clause-out_grows

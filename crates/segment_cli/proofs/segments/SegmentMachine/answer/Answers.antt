@@ -9,7 +9,7 @@ use Rattle.segment_cli.proofs.Owed.{writes_owed}
 use Rattle.segment_cli.proofs.Meant.{asked-meant}
 use Rattle.segment_cli.proofs.WrongLines.{wrong-owed, wrong-stays}
 use Rattle.segment_cli.proofs.Zeros.{answered, asked-owed, executed, no_element, popped}
-use Rattle.segment_cli.proofs.segments.InterpreterMachine.answer.Goals as goal
+use Rattle.segment_cli.proofs.segments.SegmentMachine.answer.Goals as goal
 
 pub reply-answer-requires : goal.reply-answer-requires
 reply-answer-requires g c = record {
@@ -19,36 +19,36 @@ reply-answer-requires g c = record {
 
 pub returns-in-Get-clause-leads : goal.returns-in-Get-clause-leads
 returns-in-Get-clause-leads g c =
-    answered c.args.self.now.segment (Get (key_seen c.in-Get.key) c.in-Get.index) c.args.line.now refl (ap Asked (sym (ap command_of c.in-Get.is)) ∙ c.in-Asked.ensures)
+    answered c.args.self.now (Get (key_seen c.in-Get.key) c.in-Get.index) c.args.line.now refl (ap Asked (sym (ap command_of c.in-Get.is)) ∙ c.in-Asked.ensures)
 
 pub returns-in-Get-clause-writes : goal.returns-in-Get-clause-writes
 returns-in-Get-clause-writes g c = record {
   writes = λ at h.
       subst (Writes (g.W.Sink.history c.args.out.now) (g.W.Sink.history c.put_got.new.out) c.put_got.result)
-      (asked-owed c.args.self.now.segment (Get (key_seen c.in-Get.key) c.in-Get.index) c.args.line.now (ap Asked (sym (ap command_of c.in-Get.is)) ∙ c.in-Asked.ensures) at h) (c.put_got.ensures.writes at.directory h.denotes);
+      (asked-owed c.args.self.now (Get (key_seen c.in-Get.key) c.in-Get.index) c.args.line.now (ap Asked (sym (ap command_of c.in-Get.is)) ∙ c.in-Asked.ensures) at h) (c.put_got.ensures.writes at.directory h.denotes);
   counted = c.put_got.ensures.counted;
 }
 
 pub returns-in-Pop-clause-leads : goal.returns-in-Pop-clause-leads
 returns-in-Pop-clause-leads g c =
-    popped c.args.self.now.segment c.pop.new.segment (key_seen c.in-Pop.key) c.args.line.now (ap Asked (sym (ap command_of c.in-Pop.is)) ∙ c.in-Asked.ensures) c.pop.ensures.executed
+    popped c.args.self.now c.pop.new.segment (key_seen c.in-Pop.key) c.args.line.now (ap Asked (sym (ap command_of c.in-Pop.is)) ∙ c.in-Asked.ensures) c.pop.ensures.executed
 
 pub returns-in-Pop-clause-writes : goal.returns-in-Pop-clause-writes
 returns-in-Pop-clause-writes g c = record {
   writes = λ at h.
       subst (Writes (g.W.Sink.history c.args.out.now) (g.W.Sink.history c.pop.new.out) c.pop.result)
-      (asked-owed c.args.self.now.segment (Pop (key_seen c.in-Pop.key)) c.args.line.now (ap Asked (sym (ap command_of c.in-Pop.is)) ∙ c.in-Asked.ensures) at h) (c.pop.ensures.writes.writes at.directory h.denotes);
+      (asked-owed c.args.self.now (Pop (key_seen c.in-Pop.key)) c.args.line.now (ap Asked (sym (ap command_of c.in-Pop.is)) ∙ c.in-Asked.ensures) at h) (c.pop.ensures.writes.writes at.directory h.denotes);
   counted = c.pop.ensures.writes.counted;
 }
 
 pub returns-in_default-clause-leads : goal.returns-in_default-clause-leads
 returns-in_default-clause-leads g c =
-    executed c.args.self.now.segment c.reply-answer.new.segment (command_of c.in-Asked.command) c.reply-answer.result c.args.line.now c.in-Asked.ensures c.reply-answer.ensures
+    executed c.args.self.now c.reply-answer.new.segment (command_of c.in-Asked.command) c.reply-answer.result c.args.line.now c.in-Asked.ensures c.reply-answer.ensures
 
 pub returns-in-Wrong-clause-leads : goal.returns-in-Wrong-clause-leads
-returns-in-Wrong-clause-leads g c = wrong-stays c.args.self.now.segment c.in-Wrong.error c.args.line.now c.in-Wrong.ensures
+returns-in-Wrong-clause-leads g c = wrong-stays c.args.self.now c.in-Wrong.error c.args.line.now c.in-Wrong.ensures
 
 pub returns-in-Wrong-clause-writes : goal.returns-in-Wrong-clause-writes
 returns-in-Wrong-clause-writes g c =
-    writes_owed (g.W.Sink.history c.args.out.now) (g.W.Sink.history c.put_pieces.new.out) c.put_pieces.result (IsAt c.args.self.now.segment)
+    writes_owed (g.W.Sink.history c.args.out.now) (g.W.Sink.history c.put_pieces.new.out) c.put_pieces.result (IsAt c.args.self.now)
     (error_line c.in-Wrong.error) (λ (at : Place). (answer_line at c.args.line.now).0) c.put_pieces.ensures (λ at h. wrong-owed at c.in-Wrong.error c.args.line.now c.in-Wrong.ensures)

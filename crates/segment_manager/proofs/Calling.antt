@@ -39,8 +39,6 @@ object-room d o n f p h =
 pub object-at : (format : ℕ) (b : List ℕ) (d : Directory) (h : ℕ) (o : Object) → Denotes format b d → IsFound h d.objects o → IsObjectAt (bytes_of b) o
 object-at format b d h o k f = all-found (IsObjectAt (bytes_of b)) (has_key (ByHandle h)) d.objects o k.objects f.is
 
--- ---- writing in one block
-
 -- ---- what the bytes denote after the heap's calls
 
 -- the heap's live set is that of the directory

@@ -205,17 +205,6 @@ not_set d o (Bytes bs t) i l r e n = absurd (cc)
 not_set d o (Pairs k v ps) i l r e n = let why : WrongKind ≡ r = cc in ap Refuse why
 not_set d o (Texts ps t) i l r e n = absurd (n refl)
 
-effect-not_set : (d : Directory) (key : Key) (i : ℕ) (l : Literal) (r : Refusal) → ((o : Object) → object_at d key ≡ Some o → kind_of o.value ≡ TextsKind → ⊥) → HasNone d key r
-    → effect d (asked.Set key i l) ≡ Refuse r
-effect-not_set d key i l r n (Nowhere e f) = with-not_found d key (λ o. set d o o.value i l) e ∙ ap Refuse f
-effect-not_set d key i l r n (Other o e f) = with-found d key o (λ o. set d o o.value i l) e ∙ not_set d o o.value i l r f (n o e)
-
--- where there are no scalars and no texts
-pub scalars-nowhere : (s : State) (key : Key) (i : ℕ) (l : Literal) (r : Refusal) → HasNoTexts s key → Answers s (λ d. elements_at d key) (Err r) → is_read_only s.mode ≡ false
-    → IsStep s s (asked.Set key i l) (Refused r)
-scalars-nowhere s key i l r n a writing =
-    refused-steps s (asked.Set key i l) r writing (λ d w. ap (perform d (live d)) (effect-not_set d key i l r (n d w) (has-none d key r (a.answers d w))))
-
 -- ---- objects of other kinds than texts
 
 not-both : (a b : Kind) → a ≡ b → (b ≡ TextsKind → ⊥) → a ≡ TextsKind → ⊥

@@ -26,7 +26,7 @@ use Rattle.segment_manager.specs.Denotes.{Denotes, handles}
 use Rattle.segment_manager.specs.Heads.{IsEntry}
 use Rattle.segment_manager.specs.Indexed.{Seeks, class_of_index, entries_of, objects_of, order_of, table_of}
 use Rattle.segment_manager.proofs.Words.{first}
-use Rattle.segment_manager.proofs.Faces.{named-with, named-without, unique-with, unique-without}
+use Rattle.segment_manager.proofs.Faces.{named-without, unique-without}
 use Rattle.segment_manager.proofs.HeldIndexes.{IsSort, all-in, denotes-rises, directory-index, entries-in, handles-length, objects-ascend, order-strict}
 use Rattle.segment_manager.proofs.Indexes.{index-parts, named-more, named-removed, rises-above, unique-more, unique-removed}
 use Rattle.segment_manager.proofs.InUse.{all-both}
@@ -150,10 +150,6 @@ module _ (i : Index) (c : Cut) (d : Directory) (e : Key) (key : names.Key) (k : 
     within = p.0;
   }
 
-  pub lookup-means : (r : Lookup) → IsPlace (bytes_of c.bytes) e (entries_of i d) r → Means i d key r
-  lookup-means (Found at) p = lookup-found at p
-  lookup-means (Absent at) p = lookup-absent at p
-
 -- ---- one entry more
 
 -- where the look-up says that an object of the key belongs
@@ -181,11 +177,6 @@ entry-added i c d e key at o k q p h =
     let away : IsNoEntryFor i d key at = lookup-absent i c d e key k q at p in
     insert-at (order_of i) o (objects_of i d) at (omega (arith, away.within, handles-length (objects_of i d))) (place-of i c d e key at o k q p h)
     ∙ sym (ap handles (objects-more i d e key o q h away.none))
-
--- an object of another class comes in without an entry
-pub no-entry-added : (i : Index) (d : Directory) (o : Object) → is_class (class_of_index i) o ≡ false → entries_of i (with_object d o) ≡ entries_of i d
-no-entry-added Named d o e = ap handles (named-with d o e)
-no-entry-added Unique d o e = ap handles (unique-with d o e)
 
 -- ---- one entry less
 

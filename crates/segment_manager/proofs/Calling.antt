@@ -2,24 +2,20 @@
 use Rattle.std.proofs.Common.{◌≡◌, refl, sym, ap, subst, ◌∙◌, ℕ, ◌+◌, ◌≤◌, inl, Bool, true, ◌&&◌, ◌==◌, List, [], ◌∷◌, length, arith, ◌-◌}
 use Rattle.std.specs.Prelude.{IsTrue}
 use Rattle.std.specs.List.{list_any}
-use Rattle.std.proofs.lemmas.Bool.{eq-eqb, and_from, le-leb}
-use Rattle.raw_region.specs.Memory.{Memory, Cut, Same, SameBut, Has, bytes_of, word_at}
+use Rattle.std.proofs.lemmas.Bool.{eq-eqb, and_from}
+use Rattle.raw_region.specs.Memory.{Cut, bytes_of}
 use Rattle.block_tags.specs.declared.tile.Role.TheVariants.{Object as ObjectRole}
-use Rattle.best_fit.specs.Extents.{Extent, LiveSet, handle, end_of, holds, is_proper}
+use Rattle.best_fit.specs.Extents.{Extent, LiveSet, handle, holds, is_proper}
 use Rattle.best_fit.specs.Fit.{added, released}
-use Rattle.best_fit.specs.Heap.{LaysOut, live_of, is_live_in, has_room, Keeps, IsAllocated, IsReleased, IsChanged}
+use Rattle.best_fit.specs.Heap.{LaysOut, live_of, is_live_in, has_room, Keeps, IsAllocated, IsReleased}
 use Rattle.seg_types.specs.Names.{ByHandle}
-use Rattle.seg_types.specs.Kinds.{class_code, code_of}
-use Rattle.segment_manager.specs.Directory.{Object, Directory, live, value_extents, padded, count_of, kind_of, is_object, has_key, with_object, with_changed, without_object}
-use Rattle.segment_manager.specs.Denotes.{Denotes, IsObjectAt, IsValueAt, two_halves, padded_name}
-use Rattle.raw_region.proofs.Laws.{Has-same, Same-word, SameBut-Same}
-use Rattle.segment_manager.proofs.Frame.{padded_name-length}
+use Rattle.segment_manager.specs.Directory.{Object, Directory, live, value_extents, is_object, has_key, with_object, without_object}
+use Rattle.segment_manager.specs.Denotes.{Denotes, IsObjectAt}
 use Rattle.segment_manager.proofs.Order.{inserted}
-use Rattle.segment_manager.proofs.Live.{IsFound, IsIn, live-split, removing}
-use Rattle.segment_manager.proofs.Faces.{IsLike}
+use Rattle.segment_manager.proofs.Live.{IsFound, IsIn, live-split}
 use Rattle.segment_manager.proofs.Objects.{all-found}
-use Rattle.best_fit.proofs.Laws.{changed-keeps_block, lay_out_one, list_any-insert}
-use Rattle.segment_manager.proofs.Denoted.{IsPlain, denotes-added, denotes-removed, denotes-changed}
+use Rattle.best_fit.proofs.Laws.{lay_out_one, list_any-insert}
+use Rattle.segment_manager.proofs.Denoted.{IsPlain, denotes-added, denotes-removed}
 
 -- ---- objects are live blocks
 
@@ -42,29 +38,6 @@ object-room d o n f p h =
 -- the bytes say an object that is found
 pub object-at : (format : ℕ) (b : List ℕ) (d : Directory) (h : ℕ) (o : Object) → Denotes format b d → IsFound h d.objects o → IsObjectAt (bytes_of b) o
 object-at format b d h o k f = all-found (IsObjectAt (bytes_of b)) (has_key (ByHandle h)) d.objects o k.objects f.is
-
--- ---- writing in one block
-
--- an object whose value alone is written
-pub object-written : (m m' : Memory) (o o' : Object) (n : ℕ) → IsObjectAt m o → IsLike o o' → count_of o'.value ≡ count_of o.value
-    → SameBut m m' (handle o.extent + 16 + padded (length o.name)) n → IsValueAt m' (handle o.extent + 16 + padded (length o.name)) o'.value → IsObjectAt m' o'
-object-written m m' o o' n h like c s v =
-    let start : ℕ = handle o.extent + 16 + padded (length o.name) in
-    let front : Same m m' 0 start = SameBut-Same m m' start n 0 start s (inl (omega arith)) in
-    let kinds : word_at m' (handle o.extent) ≡ two_halves (code_of (kind_of o.value)) (count_of o.value) =
-    Same-word m m' 0 start (handle o.extent) front (omega arith) (omega arith) ∙ h.kind_count in
-    let names : word_at m' (handle o.extent + 8) ≡ two_halves (length o.name) (class_code o.class) =
-    Same-word m m' 0 start (handle o.extent + 8) front (omega arith) (omega arith) ∙ h.name_class in
-    let name : Has m' (handle o.extent + 16) (padded_name o.name) =
-    Has-same m m' 0 start (handle o.extent + 16) (padded_name o.name) front (omega arith) (omega (arith, padded_name-length o.name)) h.name in
-    record {
-      kind_count = ap (λ (x : Extent). word_at m' (handle x)) like.extent ∙ kinds ∙ (λ i. two_halves (code_of (sym like.kind i)) (sym c i));
-      name_class = ap (λ (x : Extent). word_at m' (handle x + 8)) like.extent ∙ names ∙ (λ i. two_halves (length (sym like.name i)) (class_code (sym like.class i)));
-      name = subst (λ (bs : List ℕ). Has m' (handle o'.extent + 16) (padded_name bs)) (sym like.name)
-          (subst (λ (x : Extent). Has m' (handle x + 16) (padded_name o.name)) (sym like.extent) name);
-      value = subst (λ (bs : List ℕ). IsValueAt m' (handle o'.extent + 16 + padded (length bs)) o'.value) (sym like.name)
-          (subst (λ (x : Extent). IsValueAt m' (handle x + 16 + padded (length o.name)) o'.value) (sym like.extent) v);
-    }
 
 -- ---- what the bytes denote after the heap's calls
 
@@ -93,20 +66,3 @@ denotes-released format old new d o k f plain r =
     denotes-removed format old new d o k f plain
     (subst (LaysOut format new.bytes) (ap (λ l. released l (handle o.extent)) same) r.live)
     (subst (λ (l : LiveSet). Keeps old new (released l (handle o.extent)).extents) same r.keeps)
-
--- an object of any class whose value was written in its one block
-pub denotes-written : (format : ℕ) (old new : Cut) (d : Directory) (o o' : Object) (from n : ℕ) → Denotes format old.bytes d → IsFound (handle o'.extent) d.objects o → IsLike o o'
-    → value_extents o.value ≡ [] → value_extents o'.value ≡ [] → IsTrue (is_object format o') → IsChanged format old new from n → handle o.extent ≤ from → from + n ≤ end_of o.extent
-    → IsObjectAt (bytes_of new.bytes) o' → Denotes format new.bytes (with_changed d o')
-denotes-written format old new d o o' from n k f like alone alone' is_there c low high at =
-    let same : live_of old.bytes ≡ live d = denotes-live format old.bytes d k in
-    let f' : IsIn d o = subst (λ (x : Extent). IsFound (handle x) d.objects o) like.extent f in
-    let len : ℕ = from + n - handle o.extent in
-    let room : IsTrue (has_room (live_of old.bytes) (handle o.extent) len) =
-    subst (λ l. IsTrue (has_room l (handle o.extent) len)) (sym same)
-    (object-room d o len f' k.directory.proper (le-leb (len + 16) o.extent.len (omega arith))) in
-    let kept : Keeps old new (released (live d) (handle o.extent)).extents =
-    subst (λ (l : LiveSet). Keeps old new (released l (handle o.extent)).extents) same
-    (changed-keeps_block format old new from n (handle o.extent) len c room (omega arith) (omega arith)) in
-    denotes-changed format old new d o o' k f like (alone' ∙ sym alone) is_there (subst (LaysOut format new.bytes) same c.live)
-    (subst (λ xs. Keeps old new (removing (live d) (o.extent ∷ xs)).extents) (sym alone) kept) at

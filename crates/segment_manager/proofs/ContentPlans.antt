@@ -168,9 +168,6 @@ module _ (d : Directory) (key : Key) (o : Object) (bs : List ℕ) (t : Table) (e
   pub set_byte-past : (i : ℕ) (l : Literal) (z : ℤ) → value_of_literal U8 l ≡ Ok z → slice_get (map pos bs) i ≡ None → effect d (asked.Set key i l) ≡ Refuse OutOfRange
   set_byte-past i l z g h = byte-literal i l ∙ (λ j. with (g j) (λ z. with (of_slice (h j)) (put_byte i z)))
 
-  pub set_byte-refused : (i : ℕ) (l : Literal) (r : Refusal) → value_of_literal U8 l ≡ Err r → effect d (asked.Set key i l) ≡ Refuse r
-  set_byte-refused i l r g = byte-literal i l ∙ ap (λ r. with r (λ z. with (of_slice (slice_get (map pos bs) i)) (put_byte i z))) g
-
 -- ---- whatever has storage
 
 module _ (d : Directory) (key : Key) (o : Object) (e : object_at d key ≡ Some o) where

@@ -16,7 +16,7 @@ use Rattle.raw_region.proofs.Laws.{Same-part}
 use Rattle.segment_manager.proofs.Words.{first, second, no_more}
 use Rattle.segment_manager.proofs.Frame.{any_objects-same, any_index-same, header-same}
 use Rattle.segment_manager.proofs.Order.{Differs, IsFresh, inserted, live-rises, rising-insert, all_of-inserted}
-use Rattle.segment_manager.proofs.Live.{adding, removing, OfEach, of_each, IsFound, IsIn, live-put, live-without, live-same}
+use Rattle.segment_manager.proofs.Live.{adding, removing, OfEach, of_each, IsFound, IsIn, live-put, live-without}
 use Rattle.segment_manager.proofs.Faces.{IsLike, SameIndex, replace-rises, named-changed, unique-changed, named-with, unique-with, named-without, unique-without, anonymous-named, anonymous-unique}
 use Rattle.segment_manager.proofs.Objects.{all-put, all-remove, all-replace, list_all-put, list_all-remove, list_all-replace, stands_apart, put-rises, remove-rises}
 
@@ -171,15 +171,3 @@ denotes-replaced format old new d o o' h f like is_there l k at =
           (list_all-remove (is_object format) (handle o'.extent) d.objects h.directory.objects) blocks.objects
           (all-remove (IsObjectAt (bytes_of old.bytes)) (handle o'.extent) d.objects h.objects));
     }
-
--- its extents are the same
-pub denotes-changed : (format : ℕ) (old new : Cut) (d : Directory) (o o' : Object) → Denotes format old.bytes d → IsFound (handle o'.extent) d.objects o → IsLike o o'
-    → value_extents o'.value ≡ value_extents o.value → IsTrue (is_object format o') → LaysOut format new.bytes (live d) → Keeps old new (removing (live d) (extents_of o)).extents
-    → IsObjectAt (bytes_of new.bytes) o' → Denotes format new.bytes (with_changed d o')
-denotes-changed format old new d o o' h f like e is_there l k at =
-    let f' : IsIn d o = subst (λ (x : Extent). IsFound (handle x) d.objects o) like.extent f in
-    let same : live (with_changed d o') ≡ live d = live-same d o o' f (λ i. like.extent i ∷ e i) in
-    let others : live (without_object d o') ≡ removing (live d) (extents_of o) =
-    ap (λ (x : Extent). live (record d { objects = remove_object (handle x) d.objects })) like.extent ∙ live-without d o f' h.directory.proper in
-    denotes-replaced format old new d o o' h f like is_there (subst (LaysOut format new.bytes) (sym same) l)
-    (subst (λ (s : LiveSet). Keeps old new s.extents) (sym others) k) at

@@ -7,14 +7,14 @@ use Rattle.std.proofs.lemmas.Bool.{and_from}
 use Rattle.std.proofs.lemmas.List.{flat_map_more, length-map, map_push}
 use Rattle.raw_region.specs.Memory.{Cut, Has, bytes_of}
 use Rattle.raw_region.specs.Format.{current}
-use Rattle.best_fit.specs.Heap.{IsChanged, IsHeap}
+use Rattle.best_fit.specs.Heap.{IsChanged}
 use Rattle.seg_types.specs.declared.kinds.ScalarKind.{ScalarKind}
 use Rattle.seg_types.specs.Kinds.{is_value, size_of, spelling}
 use Rattle.seg_vector.specs.Vector.{spelled}
-use Rattle.segment_manager.specs.Begun.{Fills, IsItemWritten}
+use Rattle.segment_manager.specs.Begun.{IsItemWritten}
 use Rattle.segment_manager.proofs.Blocks.{spelled-length, spelling-length}
 use Rattle.segment_manager.proofs.NewBlocks.{changed-trans}
-use Rattle.segment_manager.proofs.Payloads.{bytes-stay, changed-none}
+use Rattle.segment_manager.proofs.Payloads.{bytes-stay}
 use Rattle.segment_manager.proofs.Rows.{Has-append}
 use Rattle.segment_manager.proofs.Words.{AllByRecursion-behind, first, second}
 
@@ -45,18 +45,6 @@ pub record IsFilling {S A : Type 0} (gives : S → Option A → S → Type 0) (c
   pub content : Has (bytes_of now.bytes) from (spelled k (map whole items))
 
 module _ (S A : Type 0) (gives : S → Option A → S → Type 0) (can : S → Type 0) (whole : A → ℤ) (old : Cut) (k : ScalarKind) (from : ℕ) (before : S) where
-  -- none yet
-  pub filling-none : IsHeap current old.bytes → can before → IsFilling gives can whole old old k from 0 before before
-  filling-none heap c = record {
-    items = [];
-    ran = refl;
-    long = refl;
-    callable = c;
-    values = refl;
-    change = subst (IsChanged current old old from) (omega arith) (changed-none old from heap);
-    content = refl;
-  }
-
   -- and one more
   pub filling-more : (b c : Cut) (i to : ℕ) (s t : S) → IsFilling gives can whole old b k from i before s → can t → to ≡ from + size_of k * i → IsItemWritten gives whole b c k to s t
       → IsFilling gives can whole old c k from (i + 1) before t
@@ -81,23 +69,3 @@ module _ (S A : Type 0) (gives : S → Option A → S → Type 0) (can : S → T
         content = subst (Has (bytes_of c.bytes) from) (flat_map_more (spelling k) [] zs (whole w.item) ∙ ap (spelled k) (sym more))
             (Has-append (bytes_of c.bytes) from (spelled k zs) bytes front (subst (λ p. Has (bytes_of c.bytes) p bytes) place w.content));
       }
-
-  -- as many as were asked for
-  pub filling-full : (b : Cut) (count : ℕ) (s : S) → IsFilling gives can whole old b k from count before s → Fills gives whole old b k from count before s true
-  filling-full b count s f = record {
-    items = f.items;
-    taken = (f.ran, f.long);
-    values = f.values;
-    change = subst (λ m. IsChanged current old b from (size_of k * m)) (sym f.long) f.change;
-    content = f.content;
-  }
-
-  -- or no more came
-  pub filling-short : (b : Cut) (i count : ℕ) (s t : S) → IsFilling gives can whole old b k from i before s → i < count → gives s None t → Fills gives whole old b k from count before t false
-  filling-short b i count s t f less none = record {
-    items = f.items;
-    taken = ((s, f.ran, none), omega (arith, f.long));
-    values = f.values;
-    change = subst (λ m. IsChanged current old b from (size_of k * m)) (sym f.long) f.change;
-    content = f.content;
-  }

@@ -19,7 +19,6 @@ unfoldable pub use Rattle.segment_manager.proofs.Faces.{ordered}
 -- heads, names and values: what the words of a head say, how long a spelling is, which block a text has
 pub use Rattle.segment_manager.proofs.Blocks.{own-block, spelling-length}
 pub use Rattle.segment_manager.proofs.Heads.{Has-front, entry-name_len, good_name-short, object-entry}
-pub use Rattle.segment_manager.proofs.NumberCalls.{fits-value_negsuc, fits-value_pos}
 -- bytes that denote a directory are a heap's, with the directory's live set
 pub use Rattle.segment_manager.proofs.Calling.{denotes-heap, denotes-live}
 -- bytes in rows: two behind one another, elements of one length each, read and written in their places, and what codes name
@@ -29,11 +28,11 @@ pub use Rattle.segment_manager.proofs.Codes.{code-read, numbers-only}
 pub use Rattle.segment_manager.proofs.Here.{IsHere, here, nothing-here, standing}
 -- a value that is written as a literal is as good as its own literal, of whatever kind the object is; the object of a key that is no
 -- vector of texts
-pub use Rattle.segment_manager.proofs.AnyKind.{HasNoTexts, any-literal, any-no_value, any-replies, kind-no_texts, scalars-nowhere, scalars-replies}
+pub use Rattle.segment_manager.proofs.AnyKind.{HasNoTexts, any-literal, any-no_value, any-replies, kind-no_texts, scalars-replies}
 -- a call for objects of the kind that an object says is the command's step
 pub use Rattle.segment_manager.proofs.AnyStorage.{of_kind-steps}
 -- an object that was located is that of its key, and what is done under its handle is done under the key
-pub use Rattle.segment_manager.proofs.Locating.{IsSaidAt, kind-by_key, leads_on-by_key, located-here, located-steps, reply-by_key, reply_of_kind-by_key, said-at, same-object, step-by_key, step-same, step_of_kind-by_key, told-by_key}
+pub use Rattle.segment_manager.proofs.Locating.{IsSaidAt, kind-by_key, located-here, located-steps, reply_of_kind-by_key, said-at, same-object, step-by_key, step-same, step_of_kind-by_key, told-by_key}
 -- the object of a key is found by its handle too
 pub use Rattle.segment_manager.proofs.Bridge.{by-handle}
 -- a command that only reads leaves the directory

@@ -45,7 +45,6 @@ mod MadeContainers
 mod NewContainers
 mod NewMaps
 mod ContainerCalls
-mod NumberCalls
 mod Heads
 mod Payloads
 mod Rows

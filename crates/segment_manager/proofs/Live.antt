@@ -4,9 +4,8 @@ use Rattle.std.specs.Prelude.{IsTrue, nat_lt, find, flat_map}
 use Rattle.std.specs.List.{AllByRecursion}
 use Rattle.std.proofs.lemmas.Bool.{eqb-true, eq-eqb, ne_eqb}
 use Rattle.best_fit.specs.Extents.{Extent, LiveSet, handle, is_proper}
-use Rattle.best_fit.specs.Fit.{added, released}
 use Rattle.seg_types.specs.Names.{ByHandle}
-use Rattle.segment_manager.specs.Directory.{Object, Directory, sorted, live, extents_of, value_extents, table_extents, has_key, put_object, remove_object, replace_object, with_object, with_changed, without_object}
+use Rattle.segment_manager.specs.Directory.{Object, Directory, sorted, live, extents_of, table_extents, has_key, put_object, remove_object, replace_object, with_object, with_changed, without_object}
 use Rattle.segment_manager.proofs.Words.{AllByRecursion-front, AllByRecursion-behind}
 use Rattle.segment_manager.proofs.Order.{Apart, Rising, inserted, inserted-comm, sorted-append, all_of-sorted, live-rises, rising-inserted, apart-inserted, without_all, without-inserted}
 
@@ -61,12 +60,6 @@ unfolding live
 live-put d o h =
     ap (λ (xs : List Extent). let l : LiveSet = record { size = d.size; extents = xs } in l)
     (spread-put 128 o d.objects (tables_of d) (live-rises (adding (live d) (extents_of o)) h))
-
--- an object that has no other extent
-pub live-with : (d : Directory) (o : Object) → value_extents o.value ≡ [] → IsTrue (is_proper (added (live d) o.extent)) → live (with_object d o) ≡ added (live d) o.extent
-live-with d o e h =
-    let same : adding (live d) (extents_of o) ≡ added (live d) o.extent = ap (λ xs. adding (live d) (o.extent ∷ xs)) e in
-    live-put d o (subst (λ l. IsTrue (is_proper l)) (sym same) h) ∙ same
 
 -- ---- one less
 
@@ -151,10 +144,6 @@ live-without d o f h =
     ap (λ (xs : List Extent). let l : LiveSet = record { size = (live (without_object d o)).size; extents = xs } in l)
     (sym (without-inserted 128 (extents_of o) (live (without_object d o)).extents r))
     ∙ ap (λ l. removing l (extents_of o)) (sym whole)
-
--- an object that has no other extent
-pub live-released : (d : Directory) (o : Object) → IsIn d o → value_extents o.value ≡ [] → IsTrue (is_proper (live d)) → live (without_object d o) ≡ released (live d) (handle o.extent)
-live-released d o f e h = live-without d o f h ∙ ap (λ xs. removing (live d) (o.extent ∷ xs)) e
 
 -- ---- one changed
 

@@ -12,7 +12,7 @@ use Rattle.seg_types.specs.Commands as asked
 use Rattle.seg_types.specs.Commands.{Command, is_changing}
 use Rattle.segment_manager.specs.declared.head.Head.{Head}
 use Rattle.segment_manager.specs.declared.targets.Object.{Object as Located}
-use Rattle.segment_manager.specs.Answers.{Answer, refusal_of}
+use Rattle.segment_manager.specs.Answers.{Answer}
 use Rattle.segment_manager.specs.Calls.{kind_at}
 use Rattle.segment_manager.specs.Contents.{sizes_at, sizes_at_kind, sizes_of, sizes_of_kind}
 use Rattle.segment_manager.specs.Directory.{Object, Directory, kind_of, live, object_at}
@@ -22,9 +22,8 @@ use Rattle.segment_manager.specs.Laws.{HandlesMeanObjects, KeysMeanObjects, Keys
 use Rattle.segment_manager.specs.Located.{IsLocated, located}
 use Rattle.segment_manager.specs.Plan.{Plan, Refuse, perform, with}
 use Rattle.segment_manager.specs.Standing.{IsHeadOf, StandsAt}
-use Rattle.segment_manager.specs.State.{Answers, IsReply, IsReplyOfKind, IsStep, IsStepOfKind, Moves, State, StandsFor}
+use Rattle.segment_manager.specs.State.{Answers, IsReplyOfKind, IsStep, IsStepOfKind, Moves, State, StandsFor}
 use Rattle.segment_manager.specs.Step.{effect, is_read_only, step, step_of_kind}
-use Rattle.segment_manager.specs.TextLists.{LeadsOnOfKind}
 use Rattle.segment_manager.proofs.AnyStorage.{measures-kind, of_kind-steps}
 use Rattle.segment_manager.proofs.Bridge.{by-handle}
 use Rattle.segment_manager.proofs.Here.{IsHere, here}
@@ -146,18 +145,6 @@ module _ (old : State) (key : Key) (o : Located) (l : IsLocated old key o) where
   step_of_kind-by_key new kind c answer m =
       moves-same old new answer (λ d. step_of_kind old.mode d (ByHandle o.handle) kind (at_key (ByHandle o.handle) c)) (λ d. step_of_kind old.mode d key kind (at_key key c))
       (λ d k. keys_of_kind-same old.mode d (ByHandle o.handle) key kind c (same d k)) m
-
-  pub leads_on-by_key : (new : State) (kind : Kind) (c : Command) (r : Option Refusal) → LeadsOnOfKind old new (ByHandle o.handle) kind (at_key (ByHandle o.handle) c) r
-      → LeadsOnOfKind old new key kind (at_key key c) r
-  leads_on-by_key new kind c r m =
-      let after : Answer × Directory → Option Refusal × Directory = λ n. (refusal_of n.0, n.1) in
-      moves-same old new r (λ d. after (step_of_kind old.mode d (ByHandle o.handle) kind (at_key (ByHandle o.handle) c))) (λ d. after (step_of_kind old.mode d key kind (at_key key c)))
-      (λ d k. ap after (keys_of_kind-same old.mode d (ByHandle o.handle) key kind c (same d k))) m
-
-  pub reply-by_key : (c : Command) (answer : Answer) → IsReply old (at_key (ByHandle o.handle) c) answer → IsReply old (at_key key c) answer
-  reply-by_key c answer a = record {
-    answers = λ d k. a.answers d k ∙ ap (λ (n : Answer × Directory). n.0) (step-same c d k);
-  }
 
   pub reply_of_kind-by_key : (kind : Kind) (c : Command) (answer : Answer) → IsReplyOfKind old (ByHandle o.handle) kind (at_key (ByHandle o.handle) c) answer → IsReplyOfKind old key kind (at_key key c) answer
   reply_of_kind-by_key kind c answer a = record {

@@ -83,10 +83,6 @@ holds-pairs b d key k v p den e =
 pub finds-no_map : (s : State) (key : Key) (k v : ScalarKind) (c : Command) (r : Refusal) → IsOpenFor s.mode c → Answers s (λ d. map_at d key k v) (Err r) → IsStepOfKind s s key (Map k v) c (Refused r)
 finds-no_map s key k v c r w a = finds-no_container s key (Map k v) c r w (record { answers = λ d l. nowhere-if (container_at d key (Map k v)) r (a.answers d l) })
 
--- the place of the container is that of the map, as the calls of seg_map name it
-pub finds-map : (s : State) (key : Key) (k v : ScalarKind) (r : Result ContainerPlace Refusal) → Answers s (λ d. container_at d key (Map k v)) r → Answers s (λ d. map_at d key k v) (as_map r)
-finds-map s key k v r a = record { answers = λ d l. ap as_map (a.answers d l) }
-
 -- ---- what the plans come to
 
 module _ (d : Directory) (key : Key) (o : Object) (k v : ScalarKind) (ps : List NumberPair) (e : object_at d key ≡ Some o) (f : o.value ≡ Pairs k v ps) where

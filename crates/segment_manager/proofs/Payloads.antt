@@ -54,14 +54,6 @@ room-small c h n heap has =
 
 -- ---- no change
 
--- what changes in no byte is a heap with the same live set
-pub changed-none : (c : Cut) (from : ℕ) → IsHeap current c.bytes → IsChanged current c c from 0
-changed-none c from heap = record {
-  place = record { before = refl; after = refl };
-  live = heap;
-  rest = record { at = λ k f. refl };
-}
-
 -- a heap stays one
 pub changed-heap : (a b : Cut) (from n : ℕ) → IsChanged current a b from n → IsHeap current b.bytes
 changed-heap a b from n c = subst (LaysOut current b.bytes) (sym (changed-live current a b from n c)) c.live

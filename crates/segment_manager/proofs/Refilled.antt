@@ -19,11 +19,11 @@ use Rattle.segment_manager.specs.Directory.{Value, Object, Directory, kind_of, l
 use Rattle.segment_manager.specs.Denotes.{Denotes}
 use Rattle.segment_manager.specs.Plan.{Reply, perform, with_capacity}
 use Rattle.segment_manager.specs.State.{Answers, IsSegment, IsStep, IsStepOfKind, State, StandsFor}
-use Rattle.segment_manager.specs.Step.{changed, effect, is_read_only, step, step_of_kind}
+use Rattle.segment_manager.specs.Step.{changed, effect, is_read_only, step_of_kind}
 use Rattle.segment_manager.proofs.Calling.{denotes-live}
 use Rattle.segment_manager.proofs.Contained.{contents-changed}
 use Rattle.segment_manager.proofs.Grown.{answered, grows}
-use Rattle.segment_manager.proofs.Steps.{IsMove, IsOpenFor, by_no_change, by_no_change_of_kind, by_step, by_step_of_kind, open-writing, step-effect, step_of_kind-found, step_of_kind-not_found, step_of_kind-other, step_of_kind-step}
+use Rattle.segment_manager.proofs.Steps.{IsMove, IsOpenFor, by_no_change, by_no_change_of_kind, by_step_of_kind, open-writing, step-effect, step_of_kind-found, step_of_kind-not_found, step_of_kind-other, step_of_kind-step}
 
 -- ---- a directory
 
@@ -72,13 +72,6 @@ refill-moves s new d key c answer next k r e = record {
 }
 
 -- ---- the call
-
--- it is the step, for each directory that the bytes stand for
-pub refill-steps : (s : State) (new : Cut) (key : Key) (c : Command) (answer : Answer) → is_read_only s.mode ≡ false → IsSegment s.cut.bytes
-    → ((d : Directory) → StandsFor s.cut.bytes d → Refill s.cut new d key c answer) → IsStep s (record s { cut = new }) c answer
-refill-steps s new key c answer writing b each =
-    by_step s (record s { cut = new }) c answer (record { mode = refl; place = (each b.0 b.1).change.change.place })
-    (λ d k. refill-moves s new d key c answer (step s.mode d c) k (each d k) (step-effect s.mode d c (open-writing s.mode c writing)))
 
 -- the same of a call for objects of one kind
 pub refill-steps_of_kind : (s : State) (new : Cut) (key : Key) (kind : Kind) (c : Command) (answer : Answer) → is_read_only s.mode ≡ false → IsSegment s.cut.bytes

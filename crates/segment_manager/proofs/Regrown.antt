@@ -4,12 +4,11 @@ use Rattle.std.specs.Prelude.{IsTrue}
 use Rattle.std.specs.List.{AllByRecursion}
 use Rattle.raw_region.specs.Memory.{Cut, bytes_of}
 use Rattle.best_fit.specs.Extents.{Extent, LiveSet, handle, is_proper}
-use Rattle.best_fit.specs.Fit.{insert, others, added, released, resized}
+use Rattle.best_fit.specs.Fit.{insert, added, released}
 use Rattle.best_fit.specs.Heap.{SameBlock, Keeps}
 use Rattle.segment_manager.specs.Directory.{Object, Directory, live, extents_of, remove_object, with_changed, without_object}
 use Rattle.segment_manager.proofs.Words.{AllByRecursion-front}
-use Rattle.best_fit.proofs.Laws.{AllByRecursion-insert_from, insert-comm}
-use Rattle.segment_manager.proofs.Order.{Differs, Rising, IsFresh, inserted, insert-inserted, all_of-insert, all_of-inserted, live-rises, rising-insert, apart-inserted, others-insert}
+use Rattle.segment_manager.proofs.Order.{Differs, Rising, IsFresh, inserted, insert-inserted, all_of-inserted, live-rises, rising-insert, apart-inserted, others-insert}
 use Rattle.segment_manager.proofs.Live.{adding, IsFound, IsIn, live-split, live-changed}
 
 -- ---- one extent among others
@@ -101,35 +100,6 @@ pub live-less : (d : Directory) (o o' : Object) (xs ys : List Extent) (x : Exten
 live-less d o o' xs ys x p e e' h =
     let less : released (live d) (handle x) ≡ with_extents d o' (xs ++ ys) = released-part d o' xs ys x (parted d o o' xs ys x p e) in
     joined d o o' (xs ++ ys) p e' (subst (λ l. IsTrue (is_proper l)) less h) ∙ sym less
-
--- a block regrown where it begins
-pub live-regrown : (d : Directory) (o o' : Object) (xs ys : List Extent) (x y : Extent) → InPlace d o o' → extents_of o ≡ xs ++ x ∷ ys → extents_of o' ≡ xs ++ y ∷ ys → y.offset ≡ x.offset
-    → IsTrue (is_proper (resized (live d) y)) → live (with_changed d o') ≡ resized (live d) y
-live-regrown d o o' xs ys x y p e e' f h =
-    let q : Parted d o' xs ys x = parted d o o' xs ys x p e in
-    let less : released (live d) (handle y) ≡ with_extents d o' (xs ++ ys) = ap (λ (n : ℕ). released (live d) (n + 16)) f ∙ released-part d o' xs ys x q in
-    let h' : IsTrue (is_proper (added (with_extents d o' (xs ++ ys)) y)) = subst (λ l. IsTrue (is_proper (added l y))) less h in
-    let is : with_extents d o' (xs ++ y ∷ ys) ≡ added (with_extents d o' (xs ++ ys)) y =
-    middle d o' xs ys y (fresh-differs 128 xs ys (rest d o') y (live-rises (added (with_extents d o' (xs ++ ys)) y) h')) in
-    joined d o o' (xs ++ y ∷ ys) p e' (subst (λ l. IsTrue (is_proper l)) (sym is) h') ∙ is ∙ ap (λ l. added l y) (sym less)
-
--- a new block taken beside an old one, which is released then
-pub live-moved : (d : Directory) (o o' : Object) (xs ys : List Extent) (x y : Extent) → InPlace d o o' → extents_of o ≡ xs ++ x ∷ ys → extents_of o' ≡ xs ++ y ∷ ys
-    → IsTrue (is_proper (added (live d) y)) → IsTrue (is_proper (released (added (live d) y) (handle x))) → live (with_changed d o') ≡ released (added (live d) y) (handle x)
-live-moved d o o' xs ys x y p e e' g h =
-    let q : Parted d o' xs ys x = parted d o o' xs ys x p e in
-    let v : List Extent = inserted (xs ++ ys) (rest d o') in
-    let r : Rising 128 (insert y (insert x v)) = live-rises (added (added (with_extents d o' (xs ++ ys)) x) y) (subst (λ l. IsTrue (is_proper (added l y))) q.was g) in
-    let f : IsFresh 128 y (insert x v) = rising-insert 128 y (insert x v) r in
-    let both : (y.offset ≢ x.offset) × Differs y v = all_of-insert (λ (z : Extent). y.offset ≢ z.offset) x v f.differs in
-    let apart : Differs x (insert y v) = AllByRecursion-insert_from (λ (z : Extent). x.offset ≢ z.offset) y v (λ s. both.0 (sym s)) q.differs in
-    let left : released (added (live d) y) (handle x) ≡ added (with_extents d o' (xs ++ ys)) y =
-    ap (λ l. released (added l y) (handle x)) q.was
-    ∙ ap (λ zs. of_extents d o' (others (handle x) zs)) (insert-comm y x v both.0)
-    ∙ ap (of_extents d o') (others-insert x (insert y v) apart) in
-    let is : with_extents d o' (xs ++ y ∷ ys) ≡ added (with_extents d o' (xs ++ ys)) y =
-    middle d o' xs ys y (AllByRecursion-front (λ (z : Extent). y.offset ≢ z.offset) xs ys (all_of-inserted (λ (z : Extent). y.offset ≢ z.offset) (xs ++ ys) (rest d o') both.1).0) in
-    joined d o o' (xs ++ y ∷ ys) p e' (subst (λ l. IsTrue (is_proper l)) (left ∙ sym is) h) ∙ is ∙ sym left
 
 -- what is kept of all blocks but one of an object's is kept of those of the others
 pub keeps-others : (old new : Cut) (d : Directory) (o o' : Object) (xs ys : List Extent) (x : Extent) → InPlace d o o' → extents_of o ≡ xs ++ x ∷ ys

@@ -2,12 +2,11 @@
 -- one has another value. The blocks stay.
 use Rattle.std.proofs.Common.{◌≡◌, refl, sym, subst, ◌∙◌, ℕ, ◌+◌, ◌-◌, ◌≤◌, true, ◌&&◌, ◌==◌, List, ◌∷◌, ◌++◌, length, arith}
 use Rattle.std.specs.Prelude.{IsTrue}
-use Rattle.std.specs.List.{AllByRecursion}
 use Rattle.std.proofs.lemmas.Bool.{and_from, eq-eqb, le-leb}
 use Rattle.raw_region.specs.Memory.{Cut, Memory, Same, bytes_of}
 use Rattle.best_fit.specs.Extents.{Extent, LiveSet, handle, end_of, holds}
 use Rattle.best_fit.specs.Fit.{released}
-use Rattle.best_fit.specs.Heap.{IsChanged, Keeps, LaysOut, SameBlock, has_room, live_of}
+use Rattle.best_fit.specs.Heap.{IsChanged, Keeps, LaysOut, has_room, live_of}
 use Rattle.seg_types.specs.Kinds.{code_of}
 use Rattle.segment_manager.specs.Directory.{Value, Object, Directory, count_of, extents_of, is_object, kind_of, live, padded, value_extents, with_changed, without_object}
 use Rattle.segment_manager.specs.Denotes.{Denotes, IsObjectAt, IsValueAt, padded_name, two_halves}
@@ -18,8 +17,7 @@ use Rattle.segment_manager.proofs.Denoted.{denotes-replaced}
 use Rattle.segment_manager.proofs.Faces.{IsLike}
 use Rattle.segment_manager.proofs.Frame.{padded_name-length}
 use Rattle.segment_manager.proofs.Live.{IsIn, live-same}
-use Rattle.segment_manager.proofs.Order.{all_of-inserted}
-use Rattle.segment_manager.proofs.Regrown.{InPlace, Parted, keeps-others, parted, released-part, rest, with_extents}
+use Rattle.segment_manager.proofs.Regrown.{InPlace, Parted, keeps-others, parted, with_extents}
 
 -- where the value of an object stands
 abbrev pub value_start : Object → ℕ
@@ -71,16 +69,6 @@ pub changed-others : (format : ℕ) (old new : Cut) (d : Directory) (o o' : Obje
     → extents_of o ≡ xs ++ x ∷ ys → IsChanged format old new from n → handle x ≤ from → from + n ≤ end_of x → Keeps old new (live (without_object d o')).extents
 changed-others format old new d o o' xs ys x from n k p e c low high =
     keeps-others old new d o o' xs ys x p e (kept-beside format old new d o o' xs ys x from n k p e c low high)
-
--- and its own others: where storage is written, the object's own block stays
-pub changed-own : (format : ℕ) (old new : Cut) (d : Directory) (o o' : Object) (xs ys : List Extent) (x : Extent) (from n : ℕ) → Denotes format old.bytes d → InPlace d o o'
-    → extents_of o ≡ xs ++ x ∷ ys → IsChanged format old new from n → handle x ≤ from → from + n ≤ end_of x → AllByRecursion (SameBlock (bytes_of old.bytes) (bytes_of new.bytes)) (xs ++ ys)
-changed-own format old new d o o' xs ys x from n k p e c low high =
-    let P : Extent → Type 0 = SameBlock (bytes_of old.bytes) (bytes_of new.bytes) in
-    let less : released (live d) (handle x) ≡ with_extents d o' (xs ++ ys) = released-part d o' xs ys x (parted d o o' xs ys x p e) in
-    let kept : AllByRecursion P (with_extents d o' (xs ++ ys)).extents =
-    subst (λ (l : LiveSet). AllByRecursion P l.extents) less (kept-beside format old new d o o' xs ys x from n k p e c low high).blocks in
-    (all_of-inserted P (xs ++ ys) (rest d o') kept).0
 
 -- ---- the directory
 

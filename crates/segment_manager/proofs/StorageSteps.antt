@@ -11,7 +11,7 @@ use Rattle.seg_types.specs.declared.refusals.Refusal.TheVariants.{NoSpace, NotFo
 use Rattle.seg_types.specs.Kinds.{size_of}
 use Rattle.seg_types.specs.Names.{Key}
 use Rattle.seg_types.specs.Commands as asked
-use Rattle.seg_types.specs.Commands.{Command, Literal}
+use Rattle.seg_types.specs.Commands.{Command}
 use Rattle.seg_vector.specs.declared.places.Place.{Place}
 use Rattle.segment_manager.specs.Answers.{Answer, Done, Refused}
 use Rattle.segment_manager.specs.Contents.{HasNoRoom, IsBytes, IsBytesGrown, IsBytesNow, IsNumbers, IsNumbersGrown, IsNumbersNow, container_at}
@@ -159,21 +159,6 @@ module _ (d : Directory) (key : Key) (e : object_at d key ≡ None) where
 
   pub clear-nowhere : effect d (asked.Clear key) ≡ Refuse NotFound
   clear-nowhere = with-not_found d key (λ o. with (storage_of o.value) (λ s. Reply Done (changed d o (with_items o.value [])))) e
-
-  pub push-nowhere : (l : Literal) → effect d (asked.Push key l) ≡ Refuse NotFound
-  push-nowhere l = with-not_found d key (λ o. step.push d o o.value l) e
-
-  pub pop-nowhere : effect d (asked.Pop key) ≡ Refuse NotFound
-  pop-nowhere = with-not_found d key (λ o. step.pop d o o.value) e
-
-  pub insert-nowhere : (i : ℕ) (l : Literal) → effect d (asked.Insert key i l) ≡ Refuse NotFound
-  insert-nowhere i l = with-not_found d key (λ o. step.insert_at d o o.value i l) e
-
-  pub erase-nowhere : (i : ℕ) → effect d (asked.Erase key i) ≡ Refuse NotFound
-  erase-nowhere i = with-not_found d key (λ o. step.erase d o o.value i) e
-
-  pub assign-nowhere : (ls : List Literal) → effect d (asked.Assign key ls) ≡ Refuse NotFound
-  assign-nowhere ls = with-not_found d key (λ o. step.assign d o o.value ls) e
 
 -- ---- calls that read
 

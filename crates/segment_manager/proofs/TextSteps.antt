@@ -13,7 +13,7 @@ use Rattle.seg_types.specs.Names.{Key}
 use Rattle.seg_types.specs.Commands as asked
 use Rattle.seg_types.specs.Commands.{Command, is_changing, literal_of}
 use Rattle.seg_vector.specs.declared.places.Place.{Place}
-use Rattle.seg_vector.specs.Standing.{IsStanding, Stands}
+use Rattle.seg_vector.specs.Standing.{Stands}
 use Rattle.seg_vector.specs.Vector.{capacity_for_text}
 use Rattle.segment_manager.specs.Answers.{Answer, Done, Element, Refused}
 use Rattle.segment_manager.specs.Contents.{Contents, HasNoRoom, IsBytes, IsBytesGrown, IsBytesNow, IsRefilled, container_at, container_place, contents_of, has_values}
@@ -80,12 +80,6 @@ text-of b d key p den h =
 -- where the search ended, there it is
 pub holds-text : (b : List ℕ) (d : Directory) (key : Key) (p : Place) → Denotes current b d → Ok p ≡ container_at d key Text → HoldsText b d key p
 holds-text b d key p den e = text-of b d key p den (holds-at d key Text p e)
-
--- so some bytes stand there
-pub stands-text : (s : State) (key : Key) (p : Place) → IsSegment s.cut.bytes → Answers s (λ d. container_at d key Text) (Ok p) → IsStanding s.cut.bytes p 1
-stands-text s key p b a =
-    let h : HoldsText s.cut.bytes b.0 key p = holds-text s.cut.bytes b.0 key p b.1.denotes (a.answers b.0 b.1) in
-    (length h.bytes, (h.table, (h.bytes, h.text.stands)))
 
 -- ---- one directory
 

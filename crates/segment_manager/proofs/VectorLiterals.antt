@@ -5,7 +5,7 @@ use Rattle.std.specs.List.{list_all}
 use Rattle.seg_types.specs.declared.kinds.ScalarKind.{ScalarKind}
 use Rattle.seg_types.specs.declared.kinds.Kind.TheVariants.{Vector}
 use Rattle.seg_types.specs.declared.refusals.Refusal.{Refusal}
-use Rattle.seg_types.specs.declared.refusals.Refusal.TheVariants.{NotFound, ReadOnly, WrongKind}
+use Rattle.seg_types.specs.declared.refusals.Refusal.TheVariants.{ReadOnly, WrongKind}
 use Rattle.seg_types.specs.Kinds.{is_value}
 use Rattle.seg_types.specs.Names.{Key}
 use Rattle.seg_types.specs.Commands as asked
@@ -18,9 +18,8 @@ use Rattle.segment_manager.specs.Directory.{Object, Directory, live, object_at}
 use Rattle.segment_manager.specs.Plan.{Refuse, perform}
 use Rattle.segment_manager.specs.State.{Answers, IsSegment, IsStep, IsStepOfKind, State, StandsFor}
 use Rattle.segment_manager.specs.Step.{effect, is_read_only, step, values_of}
-use Rattle.segment_manager.proofs.ContentPlans.{assign-plan, assign-refused, insert-refused, is_no_vector, push-other, push-plan, push-refused, set-refused}
+use Rattle.segment_manager.proofs.ContentPlans.{assign-plan, assign-refused, is_no_vector, push-other, push-plan}
 use Rattle.segment_manager.proofs.Refilled.{any_container-steps, refused-steps}
-use Rattle.segment_manager.proofs.StorageSteps.{push-nowhere}
 use Rattle.segment_manager.proofs.Stored.{literal-read}
 use Rattle.segment_manager.proofs.VectorCalls.{literals-read}
 use Rattle.segment_manager.proofs.VectorSteps.{HoldsVector, holds-vector}
@@ -56,22 +55,6 @@ module _ (s : State) (key : Key) (k : ScalarKind) (p : Place) (b : IsSegment s.c
       push-plan d key h.object k h.numbers h.table h.is h.value l z e ∙ sym (push-plan d key h.object k h.numbers h.table h.is h.value (literal_of k z) z (literal-read k z v)))
       (any_container-steps s new key (Vector k) p (asked.Push key (literal_of k z)) answer found r)
 
-  -- one that is no value of the kind is refused
-  pub push-no_value : (l : Literal) (r : Refusal) → is_read_only s.mode ≡ false → value_of_literal k l ≡ Err r → IsStep s s (asked.Push key l) (Refused r)
-  push-no_value l r writing e =
-      refused-steps s (asked.Push key l) r writing
-      (λ d w. let h : HoldsVector s.cut.bytes d key k p = held d w in ap (perform d (live d)) (push-refused d key h.object k h.numbers h.table h.is h.value l r e))
-
-  pub insert-no_value : (i : ℕ) (l : Literal) (r : Refusal) → is_read_only s.mode ≡ false → value_of_literal k l ≡ Err r → IsStep s s (asked.Insert key i l) (Refused r)
-  insert-no_value i l r writing e =
-      refused-steps s (asked.Insert key i l) r writing
-      (λ d w. let h : HoldsVector s.cut.bytes d key k p = held d w in ap (perform d (live d)) (insert-refused d key h.object k h.numbers h.table h.is h.value i l r e))
-
-  pub set-no_value : (i : ℕ) (l : Literal) (r : Refusal) → is_read_only s.mode ≡ false → value_of_literal k l ≡ Err r → IsStep s s (asked.Set key i l) (Refused r)
-  set-no_value i l r writing e =
-      refused-steps s (asked.Set key i l) r writing
-      (λ d w. let h : HoldsVector s.cut.bytes d key k p = held d w in ap (perform d (live d)) (set-refused d key h.object k h.numbers h.table h.is h.value i l r e))
-
   pub assign-literals : (new : State) (ls : List Literal) (ys : List ℤ) (answer : Answer) → values_of k ls ≡ Ok ys → IsTrue (list_all (is_value k) ys)
       → IsStepOfKind s new key (Vector k) (asked.Assign key (map (literal_of k) ys)) answer → IsStep s new (asked.Assign key ls) answer
   assign-literals new ls ys answer e v r =
@@ -93,7 +76,3 @@ module _ (s : State) (key : Key) (k : ScalarKind) (p : Place) (b : IsSegment s.c
 pub push-no_vector : (s : State) (key : Key) (l : Literal) → is_read_only s.mode ≡ false
     → ((d : Directory) → StandsFor s.cut.bytes d → (o : Object) × ((object_at d key ≡ Some o) × (is_no_vector o.value ≡ true))) → IsStep s s (asked.Push key l) (Refused WrongKind)
 push-no_vector s key l writing each = refused-steps s (asked.Push key l) WrongKind writing (λ d w. let x = each d w in ap (perform d (live d)) (push-other d key x.0 x.1.0 x.1.1 l))
-
--- there is no object
-pub push-not_found : (s : State) (key : Key) (l : Literal) → is_read_only s.mode ≡ false → ((d : Directory) → StandsFor s.cut.bytes d → object_at d key ≡ None) → IsStep s s (asked.Push key l) (Refused NotFound)
-push-not_found s key l writing each = refused-steps s (asked.Push key l) NotFound writing (λ d w. ap (perform d (live d)) (push-nowhere d key (each d w) l))

@@ -1,5 +1,6 @@
 -- Counts of visits: what tiles weigh, and that all passes together stay within 64 for each 16 bytes of the size, and 64.
-use Rattle.std.proofs.Common.{true, ◌≡◌, refl, ap, ℕ, ◌+◌, ◌-◌, ◌*◌, ◌/◌, ◌^◌, ◌<◌, ◌≤◌, List, [], ◌∷◌, ◌++◌, length, arith}
+use Rattle.std.proofs.Common.{true, ◌≡◌, refl, ap, ◌∙◌, ℕ, ◌+◌, ◌-◌, ◌*◌, ◌/◌, ◌^◌, ◌<◌, ◌≤◌, List, [], ◌∷◌, ◌++◌, length, arith}
+use Rattle.std.proofs.Math.Nat.{add-mul, mul-le-mul_right}
 use Rattle.std.specs.Prelude.{IsTrue, Option, Some, None}
 use Rattle.raw_region.specs.Memory.{Cut, bytes_of}
 use Rattle.block_tags.specs.declared.tile.Role.{Role}
@@ -38,7 +39,7 @@ rate-both r s (Some Storage) = refl
 rate-both r s (Some Node) = refl
 
 spread : (a b x n : ℕ) → x ≡ a + b → x * n ≡ a * n + b * n
-spread a b x n e = grind arith
+spread a b x n e = ap (λ k. k * n) e ∙ add-mul a b n
 
 regroup : (a b c d x y : ℕ) → x ≡ a + b → y ≡ c + d → x + y ≡ (a + c) + (b + d)
 regroup a b c d x y e f = omega arith
@@ -99,7 +100,7 @@ weigh-five (t ∷ ts) =
 -- ---- rates up to 64
 
 times-le : (a b n : ℕ) → a ≤ b → a * n ≤ b * n
-times-le a b n l = grind arith
+times-le a b n l = mul-le-mul_right n l
 
 weigh-most : (r : Rates) → ((u : Option Role) → rate_of r u ≤ 64) → (ts : List Tile) → weigh r ts ≤ 64 * units ts
 weigh-most r most [] = omega arith

@@ -1,5 +1,6 @@
 -- Counts of visits: what tiles weigh, and that all passes together stay within 64 for each 16 bytes of the size, and 64.
-use Rattle.std.proofs.Common.{true, ◌≡◌, refl, ap, ℕ, ◌+◌, ◌-◌, ◌*◌, ◌/◌, ◌^◌, ◌<◌, ◌≤◌, List, [], ◌∷◌, ◌++◌, length, arith}
+use Rattle.std.proofs.Common.{true, ◌≡◌, refl, ap, ◌∙◌, ℕ, ◌+◌, ◌-◌, ◌*◌, ◌/◌, ◌%◌, ◌^◌, ◌<◌, ◌≤◌, suc, List, [], ◌∷◌, ◌++◌, length, arith}
+use Rattle.std.proofs.Math.Nat.{add-mul, mul-le-mul_right}
 use Rattle.std.specs.Prelude.{IsTrue, Option, Some, None}
 use Rattle.raw_region.specs.Memory.{Cut, bytes_of}
 use Rattle.block_tags.specs.declared.tile.Role.{Role}
@@ -23,11 +24,59 @@ use Rattle.image_check.specs.FreeLaws.{multiples, length-multiples, place_listed
 use Rattle.image_check.proofs.Framed.{few-free}
 use Rattle.image_check.proofs.WalkedTiles.{tags-IsTiled}
 
+-- ---- sums of plain numbers
+
+on : (a b c : ℕ) → a ≤ b → b ≤ c → a ≤ c
+on a b c l m = omega arith
+
+behind : (p a b w : ℕ) → w ≡ a + b → p + w ≡ p + a + b
+behind p a b w e = omega arith
+
+-- a tile more of a row
+row-step : (p u from len to : ℕ) → p ≡ 1 * (len / 16) → len % 16 ≡ 0 → 16 * u + (from + len) ≡ to → 16 * (p + u) + from ≡ to
+row-step p u from len to e even more = omega arith
+
+row-size : (u v n : ℕ) → 16 * v + 128 ≡ n - 16 → u ≡ v → 144 ≤ n → 16 * u + 144 ≡ n
+row-size u v n row same least = omega arith
+
+five-step : (p f q u w : ℕ) → p ≡ 1 * q → f ≡ 5 * q → w ≡ 5 * u → f + w ≡ 5 * (p + u)
+five-step p f q u w e g more = omega arith
+
+most-step : (p l q u w : ℕ) → p ≡ 1 * q → l ≤ 64 * q → w ≤ 64 * u → l + w ≤ 64 * (p + u)
+most-step p l q u w e less more = omega arith
+
+more-paid : (old now next p w all : ℕ) → now ≤ old + w → next ≤ now + p → all ≡ w + (p + 0) → next ≤ old + all
+more-paid old now next p w all high m e = omega arith
+
+stop-paid : (old now next p q w v all : ℕ) → now ≤ old + w → next ≤ now + p → v ≡ w + (p + q) → all ≡ v → next ≤ old + (0 + all)
+stop-paid old now next p q w v all high m e same = omega arith
+
+tags-paid : (old tags new u n : ℕ) → 16 * u + 144 ≡ n → 32 * tags + 112 ≤ n → new ≡ old + tags → (old ≤ new) × (new ≤ old + (1 + u))
+tags-paid old tags new u n size few e = (omega arith, omega arith)
+
+steps-paid : (old steps new u w n : ℕ) → 16 * u + 144 ≡ n → w ≡ 5 * u → steps ≤ 5 * (n / 16) + 5 → new ≡ old + steps → (old ≤ new) × (new ≤ old + (50 + w))
+steps-paid old steps new u w n size five few e = (omega arith, omega arith)
+
+both-paid : (old mid new m n r s w : ℕ) → mid ≤ old + (m + r) → new ≤ mid + (n + s) → w ≡ r + s → new ≤ old + (m + n + w)
+both-paid old mid new m n r s w a b e = omega arith
+
+less-paid : (old new m n r s w : ℕ) → new ≤ old + (m + r) → w ≡ r + s → new ≤ old + (m + n + w)
+less-paid old new m n r s w a e = omega arith
+
+part-paid : (old new m u w n : ℕ) → new ≤ old + (m + w) → m ≤ 640 → 16 * u + 144 ≡ n → w ≤ 64 * u → new ≤ old + 64 * (n / 16 + 1)
+part-paid old new m u w n a few size weight = omega arith
+
+many-step : (k from len to : ℕ) → 32 ≤ len → 32 * k + (from + len) ≤ to → 32 * suc k + from ≤ to
+many-step k from len to long more = omega arith
+
+gaps-sum : (g h k n : ℕ) → 32 * k + 128 ≤ n - 16 → g ≡ h → h ≤ k → 144 ≤ n → 32 * g + 144 ≤ n
+gaps-sum g h k n row same few least = omega arith
+
 -- ---- what tiles weigh
 
 pub weigh-append : (r : Rates) (xs ys : List Tile) → weigh r (xs ++ ys) ≡ weigh r xs + weigh r ys
 weigh-append r [] ys = omega arith
-weigh-append r (t ∷ xs) ys = let more = weigh-append r xs ys in omega arith
+weigh-append r (t ∷ xs) ys = behind (rate_of r t.use_of * (t.len / 16)) (weigh r xs) (weigh r ys) (weigh r (xs ++ ys)) (weigh-append r xs ys)
 
 -- two rates together
 rate-both : (r s : Rates) (u : Option Role) → rate_of (both r s) u ≡ rate_of r u + rate_of s u
@@ -38,7 +87,7 @@ rate-both r s (Some Storage) = refl
 rate-both r s (Some Node) = refl
 
 spread : (a b x n : ℕ) → x ≡ a + b → x * n ≡ a * n + b * n
-spread a b x n e = grind arith
+spread a b x n e = ap (λ k. k * n) e ∙ add-mul a b n
 
 regroup : (a b c d x y : ℕ) → x ≡ a + b → y ≡ c + d → x + y ≡ (a + c) + (b + d)
 regroup a b c d x y e f = omega arith
@@ -75,39 +124,31 @@ by-rate a b n e = ap (λ k. k * n) e
 row-units : (from : ℕ) (ts : List Tile) (to : ℕ) → Row from ts to → 16 * units ts + from ≡ to
 row-units from [] to row = let e = row in omega arith
 row-units from (t ∷ ts) to row =
-    let more = row-units (from + t.len) ts to row.3 in
-    let even = row.2 in
-    let here = by-rate (rate_of tag_rates t.use_of) 1 (t.len / 16) (one-each t.use_of) in
-    omega arith
+    row-step (rate_of tag_rates t.use_of * (t.len / 16)) (units ts) from t.len to (by-rate (rate_of tag_rates t.use_of) 1 (t.len / 16) (one-each t.use_of)) row.2
+    (row-units (from + t.len) ts to row.3)
 
 pub size-units : (c : Cut) → HasTiles c.bytes → 16 * units (tiles_in c.bytes) + 144 ≡ length c.bytes
 size-units c h =
     let tiled = tags-IsTiled c h.size h.tags in
-    let row = row-units 128 tiled.tiles (length c.bytes - 16) (said_row c tiled.tiles tiled.said) in
-    let same = ap units (tiles_are_read_off c tiled.tiles tiled.said) in
-    let least = (legal_size (length c.bytes) h.size).low in
-    omega arith
+    row-size (units (tiles_in c.bytes)) (units tiled.tiles) (length c.bytes) (row-units 128 tiled.tiles (length c.bytes - 16) (said_row c tiled.tiles tiled.said))
+    (ap units (tiles_are_read_off c tiled.tiles tiled.said)) (legal_size (length c.bytes) h.size).low
 
 weigh-five : (ts : List Tile) → weigh step_rates ts ≡ 5 * units ts
 weigh-five [] = refl
 weigh-five (t ∷ ts) =
-    let more = weigh-five ts in
-    let here = by-rate (rate_of tag_rates t.use_of) 1 (t.len / 16) (one-each t.use_of) in
-    let five = by-rate (rate_of step_rates t.use_of) 5 (t.len / 16) (five-each t.use_of) in
-    omega arith
+    five-step (rate_of tag_rates t.use_of * (t.len / 16)) (rate_of step_rates t.use_of * (t.len / 16)) (t.len / 16) (units ts) (weigh step_rates ts)
+    (by-rate (rate_of tag_rates t.use_of) 1 (t.len / 16) (one-each t.use_of)) (by-rate (rate_of step_rates t.use_of) 5 (t.len / 16) (five-each t.use_of)) (weigh-five ts)
 
 -- ---- rates up to 64
 
 times-le : (a b n : ℕ) → a ≤ b → a * n ≤ b * n
-times-le a b n l = grind arith
+times-le a b n l = mul-le-mul_right n l
 
 weigh-most : (r : Rates) → ((u : Option Role) → rate_of r u ≤ 64) → (ts : List Tile) → weigh r ts ≤ 64 * units ts
 weigh-most r most [] = omega arith
 weigh-most r most (t ∷ ts) =
-    let more = weigh-most r most ts in
-    let here = by-rate (rate_of tag_rates t.use_of) 1 (t.len / 16) (one-each t.use_of) in
-    let less = times-le (rate_of r t.use_of) 64 (t.len / 16) (most t.use_of) in
-    omega arith
+    most-step (rate_of tag_rates t.use_of * (t.len / 16)) (rate_of r t.use_of * (t.len / 16)) (t.len / 16) (units ts) (weigh r ts)
+    (by-rate (rate_of tag_rates t.use_of) 1 (t.len / 16) (one-each t.use_of)) (times-le (rate_of r t.use_of) 64 (t.len / 16) (most t.use_of)) (weigh-most r most ts)
 
 -- ---- a count over the tiles that a walk has passed
 
@@ -120,20 +161,16 @@ within-none r old = (omega arith, omega arith)
 pub within-more : (r : Rates) (old now next : ℕ) (front : List Tile) (here : Tile) → Within r old now front → now ≤ next → next ≤ now + rate_of r here.use_of * (here.len / 16)
     → Within r old next (front ++ here ∷ [])
 within-more r old now next front here w l m =
-    let low = w.0 in
-    let high = w.1 in
-    let both = weigh-append r front (here ∷ []) in
-    (omega arith, omega arith)
+    (on old now next w.0 l, more-paid old now next (rate_of r here.use_of * (here.len / 16)) (weigh r front) (weigh r (front ++ here ∷ [])) w.1 m (weigh-append r front (here ∷ [])))
 
 -- the walk stops at a tile
 pub within-stop : (c : Cut) (r : Rates) (old now next : ℕ) (front : List Tile) (here : Tile) (back : List Tile) → SaysTiles c (front ++ here ∷ back) → Within r old now front
     → now ≤ next → next ≤ now + rate_of r here.use_of * (here.len / 16) → Spends r 0 c.bytes old next
 within-stop c r old now next front here back said w l m =
-    let low = w.0 in
-    let high = w.1 in
-    let both = weigh-append r front (here ∷ back) in
-    let same = ap (weigh r) (tiles_are_read_off c (front ++ here ∷ back) said) in
-    (omega arith, omega arith)
+    let paid =
+    stop-paid old now next (rate_of r here.use_of * (here.len / 16)) (weigh r back) (weigh r front) (weigh r (front ++ here ∷ back)) (weigh r (tiles_in c.bytes)) w.1 m
+    (weigh-append r front (here ∷ back)) (ap (weigh r) (tiles_are_read_off c (front ++ here ∷ back) said)) in
+    (on old now next w.0 l, paid)
 
 -- or has passed them all
 pub within-all : (b : List ℕ) (r : Rates) (old now : ℕ) → Within r old now (tiles_in b) → Spends r 0 b old now
@@ -159,28 +196,23 @@ search-for-tile (Some Node) n l = omega arith
 
 -- the tags, one for each 32 bytes and the end tag
 pub tags-spend : (c : Cut) (old tags new : ℕ) → HasTiles c.bytes → 32 * tags + 112 ≤ length c.bytes → new ≡ old + tags → Spends tag_rates 1 c.bytes old new
-tags-spend c old tags new h few e = let size = size-units c h in (omega arith, omega arith)
+tags-spend c old tags new h few e = tags-paid old tags new (units (tiles_in c.bytes)) (length c.bytes) (size-units c h) few e
 
 -- the tree: its check, a walk that counts the gaps, and a walk that looks for them
 pub steps-spend : (c : Cut) (old steps new : ℕ) → HasTiles c.bytes → steps ≤ 5 * (length c.bytes / 16) + 5 → new ≡ old + steps → Spends step_rates 50 c.bytes old new
-steps-spend c old steps new h few e = let size = size-units c h in let five = weigh-five (tiles_in c.bytes) in (omega arith, omega arith)
+steps-spend c old steps new h few e =
+    steps-paid old steps new (units (tiles_in c.bytes)) (weigh step_rates (tiles_in c.bytes)) (length c.bytes) (size-units c h) (weigh-five (tiles_in c.bytes)) few e
 
 pub spend-both : (b : List ℕ) (r s : Rates) (m n old mid new : ℕ) → Spends r m b old mid → Spends s n b mid new → Spends (both r s) (m + n) b old new
 spend-both b r s m n old mid new x y =
-    let one = x.0 in
-    let two = x.1 in
-    let three = y.0 in
-    let four = y.1 in
-    let sum = weigh-both r s (tiles_in b) in
-    (omega arith, omega arith)
+    let ts = tiles_in b in
+    (on old mid new x.0 y.0, both-paid old mid new m n (weigh r ts) (weigh s ts) (weigh (both r s) ts) x.1 y.1 (weigh-both r s ts))
 
 -- less was spent
 pub spend-less : (b : List ℕ) (r s : Rates) (m n old new : ℕ) → Spends r m b old new → Spends (both r s) (m + n) b old new
 spend-less b r s m n old new x =
-    let one = x.0 in
-    let two = x.1 in
-    let sum = weigh-both r s (tiles_in b) in
-    (omega arith, omega arith)
+    let ts = tiles_in b in
+    (x.0, less-paid old new m n (weigh r ts) (weigh s ts) (weigh (both r s) ts) x.1 (weigh-both r s ts))
 
 -- ---- the check of the free tree
 
@@ -188,18 +220,14 @@ spend-less b r s m n old new x =
 row-many : (from : ℕ) (ts : List Tile) (to : ℕ) → Row from ts to → 32 * length ts + from ≤ to
 row-many from [] to row = let e = row in omega arith
 row-many from (t ∷ ts) to row =
-    let more = row-many (from + t.len) ts to row.3 in
-    let long = row.1 in
-    omega arith
+    many-step (length ts) from t.len to row.1 (row-many (from + t.len) ts to row.3)
 
 pub gaps-few : (c : Cut) → HasTiles c.bytes → 32 * length (gaps_in c) + 144 ≤ length c.bytes
 gaps-few c h =
     let tiled = tags-IsTiled c h.size h.tags in
     let row = row-many 128 tiled.tiles (length c.bytes - 16) (said_row c tiled.tiles tiled.said) in
     let same : length (gaps_in c) ≡ length (gaps_of tiled.tiles) = ap (λ (ts : List Tile). length (gaps_of ts)) (tiles_are_read_off c tiled.tiles tiled.said) in
-    let few = few-free tiled.tiles in
-    let least = (legal_size (length c.bytes) h.size).low in
-    omega arith
+    gaps-sum (length (gaps_in c)) (length (gaps_of tiled.tiles)) (length tiled.tiles) (length c.bytes) row same (few-free tiled.tiles) (legal_size (length c.bytes) h.size).low
 
 pub nodes-few : (c : Cut) (nodes : ℕ) → HasTiles c.bytes → nodes ≡ length (gaps_in c) → nodes < 2 ^ 26 - 1
 nodes-few c nodes h e =
@@ -260,11 +288,8 @@ tree-none b old = (omega arith, omega arith)
 -- a part of all passes
 pub all-part : (c : Cut) (r : Rates) (m old new : ℕ) → HasTiles c.bytes → ((u : Option Role) → rate_of r u ≤ 64) → m ≤ 640 → Spends r m c.bytes old new → IsRaisedFor (length c.bytes) old new
 all-part c r m old new h most few x =
-    let one = x.0 in
-    let two = x.1 in
-    let size = size-units c h in
-    let weight = weigh-most r most (tiles_in c.bytes) in
-    (omega arith, omega arith)
+    let ts = tiles_in c.bytes in
+    (x.0, part-paid old new m (units ts) (weigh r ts) (length c.bytes) x.1 few (size-units c h) (weigh-most r most ts))
 
 frame-most : (u : Option Role) → rate_of frame_rates u ≤ 64
 frame-most None = omega arith

@@ -1,7 +1,7 @@
 -- What is counted for the blocks of containers, all together.
 use Rattle.std.proofs.Common.{◌≡◌, refl, sym, ap, ◌∙◌, ℕ, ◌+◌, ◌-◌, ◌*◌, ◌/◌, ◌<◌, ◌≤◌, Bool, true, false, nat_lt, ◌==◌, List, [], ◌∷◌, length, arith}
 use Rattle.std.specs.Prelude.{Option, Some, None, if◌then◌else◌}
-use Rattle.std.proofs.Math.Nat.{add-mul}
+use Rattle.std.proofs.Math.Nat.{add-mul, mul-le-mul_right}
 use Rattle.std.specs.List.{cons_option}
 use Rattle.std.proofs.lemmas.Bool.Decides.{nat_tests}
 use Rattle.block_tags.specs.declared.tile.Role.{Role}
@@ -127,7 +127,7 @@ rate-sum (Some Storage) = omega arith
 rate-sum (Some Node) = omega arith
 
 times-most : (r s n : ℕ) → r ≤ s → r * n ≤ s * n
-times-most r s n l = grind arith
+times-most r s n l = mul-le-mul_right n l
 
 times-sum : (r s t n : ℕ) → r + s ≤ t → r * n + s * n ≤ t * n
 times-sum r s t n l =

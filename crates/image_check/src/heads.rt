@@ -1,7 +1,8 @@
 //! What the head of an object says, and whether it and the value behind it are right, part by part.
-ghost use Rattle.std.specs.Prelude.{◌≡◌, ◌+◌, ◌^◌, ◌<◌, ◌≤◌, true, length};
+ghost use Rattle.std.specs.Prelude.{◌≡◌, ◌+◌, ◌^◌, ◌<◌, ◌≤◌, IfSome, true, length};
 ghost use Rattle.raw_region.specs.Memory.{bytes_of};
 ghost use Rattle.seg_index.specs.Keys.{name_len_at};
+ghost use Rattle.seg_types.specs.Kinds.{kind_of_code as code_kind, scalar_code};
 ghost use Rattle.image_check.specs.EarlyTests.{is_zero as are_zeros};
 ghost use Rattle.image_check.specs.ObjectTests.{has_name as is_named, has_padding as is_padded, is_indexed as is_listed, kind_at, value_offset};
 ghost use Rattle.image_check.specs.ObjectPasses.{is_spelled, is_value_room};
@@ -13,7 +14,7 @@ use crate::image_window::{Blocks, ImageWindow, Object};
 use crate::owners::is_same;
 use crate::spellings::are_spellings;
 use block_tags::Role;
-use seg_types::{Kind, is_name};
+use seg_types::{Kind, ScalarKind, is_name};
 use segment_manager::layout::{NAMED_AT, UNIQUE_AT};
 
 /// The longest name.
@@ -36,8 +37,45 @@ pub(crate) fn kind_of(format: u64, window: &ImageWindow, object: Object) -> Opti
     requires { object.at + 8 ≤ length window.now.bytes }
     ensures { result ≡ kind_at format (bytes_of window.now.bytes) object.at }
 {
-    match Kind::from_code(object.code(window) as u32) {
+    match kind_of_code(object.code(window) as u32) {
         Some(kind) if kind.is_of(format) => Some(kind),
+        _ => None,
+    }
+}
+
+/// The kind of this code, or `None` where no kind has it. The code of an object is looked for among all only where the kind that
+/// its parts name has another.
+fn kind_of_code(code: u32) -> Option<Kind>
+    ensures { result ≡ code_kind code }
+{
+    match named_kind(code) {
+        Some(kind) if kind.code() == code => Some(kind),
+        _ => Kind::from_code(code),
+    }
+}
+
+/// The kind that the parts of a code name. Its own code may be another one.
+fn named_kind(code: u32) -> Option<Kind> {
+    match code / 65536 {
+        0 => Some(Kind::Scalar(named_scalar(code)?)),
+        1 => Some(Kind::Text),
+        2 => Some(Kind::Vector(named_scalar(code % 256)?)),
+        3 => Some(Kind::Map(named_scalar(code / 256 % 256)?, named_scalar(code % 256)?)),
+        4 => Some(Kind::Texts),
+        _ => None,
+    }
+}
+
+/// The scalar of a code.
+fn named_scalar(code: u32) -> Option<ScalarKind>
+    ensures { IfSome result (λ scalar. scalar_code scalar ≡ code) }
+{
+    match code {
+        1 => Some(ScalarKind::Bool),
+        2 => Some(ScalarKind::U8),
+        3 => Some(ScalarKind::I32),
+        4 => Some(ScalarKind::I64),
+        5 => Some(ScalarKind::U64),
         _ => None,
     }
 }
@@ -104,12 +142,12 @@ pub(crate) fn has_spellings(
     }
 }
 
-/// Where the index has its link that has an entry of the object at `at`.
-fn index_of(blocks: &Blocks, at: u64, visits: &mut Visits) -> Option<u64>
+/// Where the index has its link that has an entry of the object at `at`, whose block may be that of number `guess`.
+fn index_of(blocks: &Blocks, guess: usize, at: u64, visits: &mut Visits) -> Option<u64>
     ensures is { result ≡ listing_index blocks.now.entries at }
     ensures spends { Adds 1 visits.old visits.new }
 {
-    let block = blocks.block_of(at, visits)?;
+    let block = blocks.block_near(guess, at, visits)?;
     if !is_same(block.role, Role::Object) {
         return None;
     }
@@ -119,10 +157,11 @@ fn index_of(blocks: &Blocks, at: u64, visits: &mut Visits) -> Option<u64>
     }
 }
 
-/// Whether the object has an entry in the index of its class, if there is one.
+/// Whether the object, whose block may be that of number `guess`, has an entry in the index of its class, if there is one.
 pub(crate) fn is_indexed(
     window: &ImageWindow,
     blocks: &Blocks,
+    guess: usize,
     visits: &mut Visits,
     object: Object,
 ) -> bool
@@ -136,7 +175,7 @@ pub(crate) fn is_indexed(
     if class != NAMED && class != UNIQUE {
         return true;
     }
-    match index_of(blocks, object.at(), visits) {
+    match index_of(blocks, guess, object.at(), visits) {
         Some(index) => index == if class == NAMED { NAMED_AT } else { UNIQUE_AT },
         None => false,
     }

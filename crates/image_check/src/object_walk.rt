@@ -15,7 +15,7 @@ use crate::heads::{
     NAMED, UNIQUE, has_name, has_padding, has_room, has_spellings, is_indexed, kind_of,
 };
 use crate::image_window::{Blocks, ImageWindow, Object};
-use crate::owners::Owners;
+use crate::owners::{Owners, past};
 use crate::ranks::has_order;
 use block_tags::{Role, TAG, Tile};
 use segment_manager::layout::{NAMED_AT, UNIQUE_AT};
@@ -58,22 +58,26 @@ fn are_right(format: u64, window: &ImageWindow, blocks: &Blocks, visits: &mut Vi
     ensures is { result ≡ list_all (is_right_tile format (bytes_of window.now.bytes)) (tiles_in window.now.bytes) }
     ensures spends { Spends object_walk_rates 0 window.now.bytes visits.old visits.new }
 {
+    let mut used = 0;
     let mut tile = window.first();
     'tiles: while let Some(unread) = tile {
         let here = unread.read(visits);
-        if !is_right(format, window, blocks, visits, here) {
+        if !is_right(format, window, blocks, used, visits, here) {
             return false;
         }
+        used = past(used, here);
         tile = window.next(here.offset);
     }
     true
 }
 
-/// Whether the tile, whose tags were read, is no object's or one of an object that is right.
+/// Whether the tile, whose tags were read, is no object's or one of an object that is right. Its block may be that of number
+/// `guess`.
 fn is_right(
     format: u64,
     window: &ImageWindow,
     blocks: &Blocks,
+    guess: usize,
     visits: &mut Visits,
     tile: Tile,
 ) -> bool
@@ -88,17 +92,19 @@ fn is_right(
         Some(Role::Object) => {
             let end = tile.offset + tile.len;
             let object = Object::visit(tile.offset + TAG, visits);
-            is_object(format, window, blocks, visits, object, end)
+            is_object(format, window, blocks, guess, visits, object, end)
         }
         _ => true,
     }
 }
 
-/// Whether the object, whose payload ends at `end`, is right. One visit, and one for each scalar of its value.
+/// Whether the object, whose payload ends at `end` and whose block may be that of number `guess`, is right. One visit, and one for
+/// each scalar of its value.
 fn is_object(
     format: u64,
     window: &ImageWindow,
     blocks: &Blocks,
+    guess: usize,
     visits: &mut Visits,
     object: Object,
     end: u64,
@@ -124,5 +130,5 @@ fn is_object(
     if !has_spellings(window, visits, kind, count, start) {
         return false;
     }
-    is_indexed(window, blocks, visits, object)
+    is_indexed(window, blocks, guess, visits, object)
 }

@@ -11,7 +11,7 @@ ghost use Rattle.image_check.specs.Visits.{Adds, orphan_rates};
 use crate::checking::Visits;
 use crate::classes::ImageClass;
 use crate::image_window::{Blocks, ImageWindow};
-use crate::owners::{Owner, Owners, is_same};
+use crate::owners::{Owner, Owners, is_same, past};
 use block_tags::{Role, Tile};
 
 /// Checks that a link leads to each index, storage and node.
@@ -42,35 +42,38 @@ fn are_owned(window: &ImageWindow, blocks: &Blocks, visits: &mut Visits) -> bool
     ensures owned { result ≡ list_all (has_owner blocks.now.entries) (tiles_in window.now.bytes) }
     ensures visits { Adds (2 * length (tiles_in window.now.bytes)) visits.old visits.new }
 {
+    let mut used = 0;
     let mut tile = window.first();
     'tiles: while let Some(unread) = tile {
         let here = unread.read(visits);
-        if !is_owned(blocks, here, visits) {
+        if !is_owned(blocks, used, here, visits) {
             return false;
         }
+        used = past(used, here);
         tile = window.next(here.offset);
     }
     true
 }
 
-/// Whether the tile needs no owner or has one. At most one visit.
-fn is_owned(blocks: &Blocks, tile: Tile, visits: &mut Visits) -> bool
+/// Whether the tile, whose block may be that of number `guess`, needs no owner or has one. At most one visit.
+fn is_owned(blocks: &Blocks, guess: usize, tile: Tile, visits: &mut Visits) -> bool
     requires { tile.offset < 2 ^ 63 }
     ensures owned { result ≡ has_owner blocks.now.entries tile }
     ensures visits { Adds 1 visits.old visits.new }
 {
     match tile.use_of {
         None | Some(Role::Object) => true,
-        Some(_) => owner_of(blocks, tile.offset + 16, visits).is_some(),
+        Some(_) => owner_of(blocks, guess, tile.offset + 16, visits).is_some(),
     }
 }
 
-/// The link that was met to lead to the index, storage or node whose payload begins at `target`. One visit.
-fn owner_of(blocks: &Blocks, target: u64, visits: &mut Visits) -> Option<Owner>
+/// The link that was met to lead to the index, storage or node whose payload begins at `target`, and whose block may be that of
+/// number `guess`. One visit.
+fn owner_of(blocks: &Blocks, guess: usize, target: u64, visits: &mut Visits) -> Option<Owner>
     ensures owner { result ≡ owner_at blocks.now.entries target }
     ensures visits { visits.new ≡ visits.old + 1 }
 {
-    match blocks.block_of(target, visits) {
+    match blocks.block_near(guess, target, visits) {
         Some(block) if !is_same(block.role, Role::Object) => block.owner,
         _ => None,
     }

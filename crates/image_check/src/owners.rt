@@ -1,5 +1,5 @@
 //! The owners of the blocks in use: by the payload of each its role, its length, and the link that was met to lead to it.
-ghost use Rattle.std.specs.Prelude.{◌≡◌, ◌+◌, List, option_map};
+ghost use Rattle.std.specs.Prelude.{◌≡◌, ◌+◌, List, None, option_map};
 ghost use Rattle.block_tags.specs.declared.tile.Tile.{Tile};
 ghost use Rattle.best_fit.specs.Table.{same_role};
 ghost use Rattle.block_tags.specs.declared.tile.Role.TheVariants.{Object};
@@ -59,6 +59,17 @@ pub(crate) fn is_object(tile: Tile) -> bool
     match tile.use_of {
         Some(role) => is_same(Role::Object, role),
         None => false,
+    }
+}
+
+/// The number of the block behind that of a tile, if one has it, where `number` blocks stand before the tile. Past the last number
+/// of 64 bits it begins again.
+pub(crate) fn past(number: usize, tile: Tile) -> usize
+    ensures { tile.use_of ≡ None → result ≡ number }
+{
+    match tile.use_of {
+        Some(_) => number.wrapping_add(1),
+        None => number,
     }
 }
 

@@ -42,6 +42,19 @@ impl Blocks {
         self.map.get(&target).copied()
     }
 
+    /// The same. It is quick where the block is that of number `guess`, in the order of the blocks, and right whatever the guess is.
+    /// One visit.
+    pub(crate) fn block_near(&self, guess: usize, target: u64, visits: &mut Visits) -> Option<Block>
+        ensures value { result ≡ block_at self.now.entries target }
+        ensures visits { visits.new ≡ visits.old + 1 }
+    {
+        visits.visit();
+        match self.map.get_index(guess) {
+            Some((payload, block)) if *payload == target => Some(*block),
+            _ => self.map.get(&target).copied(),
+        }
+    }
+
     /// Puts another block in the place of the one at `target`. One visit.
     pub(crate) fn put(&mut self, target: u64, block: Block, visits: &mut Visits)
         requires { IsSome (block_at self.old.entries target) }

@@ -1,6 +1,6 @@
 use Rattle.std.proofs.Common.{◌≡◌, ℕ, ◌<◌, length, Ok, Err, Some, arith, sym, subst, ◌∙◌}
 use Rattle.std.proofs.lemmas.Bool.{not-true, not-false}
-use Rattle.std.specs.Prelude.{IsTrue, MatchResult, OnErr, OnOk, Result}
+use Rattle.std.specs.Prelude.{◌≢◌, IsTrue, MatchResult, OnErr, OnOk, Result}
 use Rattle.image_check.specs.declared.classes.ImageClass.{ImageClass}
 use Rattle.image_check.specs.Classes.{are_bytes, class_of}
 use Rattle.image_check.specs.Frame.{has_frame}
@@ -14,6 +14,10 @@ use Rattle.image_check.proofs.Filled.{HasFront-IsRight}
 use Rattle.image_check.proofs.FirstClass.{first-reserved}
 use Rattle.image_check.proofs.FormatTags.{later-free_tree, wrong-has_tags}
 use Rattle.image_check.proofs.checking.check_frame.Goals as goal
+
+-- a format that is not 0 is one of the later ones
+later-some : (f : ℕ) → f ≢ 0 → 0 < f
+later-some f e = omega arith
 
 pub returns-then-not-has_reserved-clause-finds : goal.returns-then-not-has_reserved-clause-finds
 returns-then-not-has_reserved-clause-finds c =
@@ -30,7 +34,7 @@ returns-then-not-tags-clause-most c = tags-raised c.args.window.now.bytes _ c.ch
 pub returns-then-not-has_free_tree-clause-finds : goal.returns-then-not-has_free_tree-clause-finds
 returns-then-not-has_free_tree-clause-finds c =
     let w = c.args.window.now in
-    let some : 0 < c.args.format = (let not_zero = c.if-format-eq0.false in omega arith) in
+    let some = later-some c.args.format c.if-format-eq0.false in
     let h =
     later-checked c.args.format w some c.requires (sym c.has_reserved.ensures ∙ c.if-not-has_reserved.false)
     (sym c.check_counted-tags.ensures.good ∙ not-false c.check_counted-tags.result.are_good c.if-not-tags.false) in
@@ -39,7 +43,7 @@ returns-then-not-has_free_tree-clause-finds c =
 pub returns-then-not-has_free_tree-clause-most : goal.returns-then-not-has_free_tree-clause-most
 returns-then-not-has_free_tree-clause-most c =
     let w = c.args.window.now in
-    let some : 0 < c.args.format = (let not_zero = c.if-format-eq0.false in omega arith) in
+    let some = later-some c.args.format c.if-format-eq0.false in
     let h =
     later-checked c.args.format w some c.requires (sym c.has_reserved.ensures ∙ c.if-not-has_reserved.false)
     (sym c.check_counted-tags.ensures.good ∙ not-false c.check_counted-tags.result.are_good c.if-not-tags.false) in
@@ -50,7 +54,7 @@ returns-then-not-has_free_tree-clause-most c =
 pub returns-clause-finds : goal.returns-clause-finds
 returns-clause-finds c =
     let w = c.args.window.now in
-    let some : 0 < c.args.format = (let not_zero = c.if-format-eq0.false in omega arith) in
+    let some = later-some c.args.format c.if-format-eq0.false in
     let h =
     later-checked c.args.format w some c.requires (sym c.has_reserved.ensures ∙ c.if-not-has_reserved.false)
     (sym c.check_counted-tags.ensures.good ∙ not-false c.check_counted-tags.result.are_good c.if-not-tags.false) in
@@ -62,7 +66,7 @@ returns-clause-bytes c = c.hold_bytes.ensures
 pub returns-clause-visits : goal.returns-clause-visits
 returns-clause-visits c =
     let w = c.args.window.now in
-    let some : 0 < c.args.format = (let not_zero = c.if-format-eq0.false in omega arith) in
+    let some = later-some c.args.format c.if-format-eq0.false in
     let h =
     later-checked c.args.format w some c.requires (sym c.has_reserved.ensures ∙ c.if-not-has_reserved.false)
     (sym c.check_counted-tags.ensures.good ∙ not-false c.check_counted-tags.result.are_good c.if-not-tags.false) in

@@ -1,11 +1,11 @@
-use Rattle.std.proofs.Common.{◌≡◌, sym, ap, subst, ◌∙◌, ℕ, ◌-◌, ◌≤◌, List, length, Some, None, arith}
+use Rattle.std.proofs.Common.{◌≡◌, sym, ap, subst, ◌∙◌, ℕ, ◌+◌, ◌-◌, ◌≤◌, List, length, Some, None, arith}
 use Rattle.std.specs.Prelude.{Option}
 use Rattle.raw_region.specs.Memory.{bytes_of}
 use Rattle.block_tags.specs.declared.tile.Role.TheVariants.{Node}
 use Rattle.raw_region.specs.Format.{current}
 use Rattle.image_check.specs.declared.owners.Block.{Block}
 use Rattle.image_check.specs.Passes.{HasTiles, tiles_in}
-use Rattle.image_check.specs.Owners.{IsMarkingOf, IsMarked, IsSharedIn, Blocks, block_at, next_in, root_in, owner}
+use Rattle.image_check.specs.Owners.{IsMarkingOf, IsMarked, IsSharedIn, IsTurn, Blocks, block_at, next_in, root_in, owner}
 use Rattle.image_check.proofs.Inside.{IsInside, legal-small, payload-inside}
 use Rattle.image_check.proofs.Following.{leader, left-counts, left-rooted, map-ok, node-there, node-tile, of-err, of-ok, right-counts, right-rooted, root-is, taken, turn-keeps, turn-less, turned}
 use Rattle.image_check.proofs.Following.{debts-small}
@@ -84,7 +84,10 @@ returns-in-Ok-clause-turn g c =
     let one = of-ok (λ done. IsMarked g.format (bytes_of b) (tiles_in b) (Some c.args.node) Node (owner c.args.node root) o.blocks.entries (o.waiting - 1) m1.blocks.entries m1.pending m1.waiting) (IsSharedIn g.format b) c.mark.result _ c.in-Ok.is first in
     let second = c.mark-in-Ok.ensures.marked g.format (bytes_of b) (tiles_in b) (Some c.args.node) one.marking c.links-children.ensures.right (right-counts g.format (bytes_of b) (tiles_in b) o.blocks.entries o.pending o.waiting c.requires.1.0 c.args.node c.requires.1.1)
     (right-rooted g.format (bytes_of b) (tiles_in b) o.blocks.entries o.pending o.waiting c.requires.1.0 c.args.node c.requires.1.1 root r m1.blocks.entries one.keeps) in
-    map-ok _ _ (IsSharedIn g.format b) c.mark-in-Ok.result
+    map-ok
+    (λ done. IsMarked g.format (bytes_of b) (tiles_in b) (Some c.args.node) Node (owner (c.args.node + 8) root) m1.blocks.entries m1.waiting m2.blocks.entries m2.pending m2.waiting)
+    (λ done. IsTurn g.format b o.blocks.entries o.waiting m2.blocks.entries m2.pending m2.waiting)
+    (IsSharedIn g.format b) c.mark-in-Ok.result
     (λ x two. record {
       marking = turned g.format (bytes_of b) (tiles_in b) o.blocks.entries o.pending o.waiting c.requires.1.0 c.args.node c.requires.1.1 root r m1.blocks.entries m1.pending m1.waiting one m2.blocks.entries m2.pending m2.waiting two;
       keeps = turn-keeps g.format (bytes_of b) (tiles_in b) o.blocks.entries o.pending o.waiting c.requires.1.0 c.args.node c.requires.1.1 root r m1.blocks.entries m1.pending m1.waiting one m2.blocks.entries m2.pending m2.waiting two;

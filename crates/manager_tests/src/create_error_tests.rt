@@ -1,4 +1,5 @@
 //! What is printed of why no segment is created.
+use crate::checks::same;
 use segment_manager::CreateError;
 use std::test::Fail;
 
@@ -8,7 +9,7 @@ fn each_reason_has_its_words(rt: HostRuntime) -> Result<(), Fail> {
         (CreateError::BadSize, "size refused"),
         (CreateError::RegionTooSmall, "region too small"),
     ] {
-        assert_eq!(rt; format!(in rt.alloc(); "{reason}")?.as_str(), words);
+        same(&rt, format!(in rt.alloc(); "{reason}")?.as_str(), words);
     }
     Ok(())
 }

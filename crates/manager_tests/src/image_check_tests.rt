@@ -1,4 +1,5 @@
 //! Images opened in regions, as a region is seen from outside before and after.
+use crate::checks::same;
 use image_check::{OpenError, open};
 use raw_region::fake::{Last, MemorySource};
 use raw_region::{RawRegion, Steps};
@@ -38,8 +39,8 @@ fn opens_in_place(rt: HostRuntime) -> Result<(), Fail> {
                 &mut Steps::new(),
             ) {
                 Ok(segment) => {
-                    assert_eq!(rt; segment.as_bytes(), image.as_slice());
-                    assert_eq!(rt; segment.mode(), Mode::ReadOnly);
+                    same(&rt, segment.as_bytes(), image.as_slice());
+                    same(&rt, segment.mode(), Mode::ReadOnly);
                 }
                 Err(refused) => assert!(rt; false, "{}", refused.cause),
             }
@@ -65,8 +66,8 @@ fn hands_back_a_region_that_is_too_small(rt: HostRuntime) -> Result<(), Fail> {
         ) {
             Ok(_) => assert!(rt; false, "opened at {base}"),
             Err(refused) => {
-                assert_eq!(rt; refused.cause, OpenError::RegionTooSmall);
-                assert_eq!(rt; refused.region.capacity(), capacity);
+                same(&rt, refused.cause, OpenError::RegionTooSmall);
+                same(&rt, refused.region.capacity(), capacity);
             }
         }
     }

@@ -2,6 +2,10 @@
 #![tactic(auto)]
 
 #[cfg(test)]
+mod bench;
+#[cfg(test)]
+mod checks;
+#[cfg(test)]
 mod create_error_tests;
 #[cfg(test)]
 mod image_check_tests;

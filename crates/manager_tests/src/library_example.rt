@@ -1,4 +1,5 @@
 //! How a program keeps numbers in a segment, saves it and opens it somewhere else.
+use crate::checks::same;
 use crate::segments::{named, new_named};
 use image_check::open;
 use raw_region::fake::{Last, MemorySource};
@@ -36,10 +37,10 @@ fn objects_move_with_their_segment(rt: HostRuntime) -> Result<(), Fail> {
         panic!(rt; "not opened");
     };
     let samples = named(&rt, b"samples");
-    assert_eq!(rt; opened.instance_length(&samples), Ok(3));
-    assert_eq!(rt; opened.get(&samples, 0), Ok(7i64));
-    assert_eq!(rt; opened.get(&samples, 2), Ok(-1i64));
-    assert_eq!(rt; opened.get(&named(&rt, b"width"), 0), Ok(640i32));
-    assert_eq!(rt; opened.get(&named(&rt, b"height"), 0), Ok(480i32));
+    same(&rt, opened.instance_length(&samples), Ok(3));
+    same(&rt, opened.get(&samples, 0), Ok(7i64));
+    same(&rt, opened.get(&samples, 2), Ok(-1i64));
+    same(&rt, opened.get(&named(&rt, b"width"), 0), Ok(640i32));
+    same(&rt, opened.get(&named(&rt, b"height"), 0), Ok(480i32));
     Ok(())
 }

@@ -1,16 +1,18 @@
 //! The two indexes of a segment, as they grow, are reserved and shrink.
+use crate::bench::Bench;
+use crate::checks::{same, same_at};
 use crate::segments::{fresh, named_handle, new_named, unique_handle};
 use block_tags::Role;
 use seg_types::{Handle, Kind, NewKey, ScalarKind};
-use segment_manager::{Segment, Span};
+use segment_manager::Span;
 use std::process::Abort;
 use std::test::Fail;
 
 /// Makes objects of one i64 under names of one letter, at these handles.
-fn make(rt: &impl Abort, segment: &mut Segment, objects: &[(u8, Handle)]) {
+fn make(rt: &impl Abort, segment: &mut Bench, objects: &[(u8, Handle)]) {
     for &(letter, handle) in objects {
         let made = segment.construct(&new_named(rt, &[letter]), 1, i64::from(letter));
-        assert_eq!(rt; made, Ok(handle));
+        same(rt, made, Ok(handle));
     }
 }
 
@@ -25,10 +27,10 @@ fn names_rise(rt: HostRuntime) -> Result<(), Fail> {
         (b'a', 464),
     ];
     make(&rt, &mut segment, &objects);
-    assert_eq!(rt; segment.free(), 560);
-    assert_eq!(rt; segment.num_named(), 5);
+    same(&rt, segment.free(), 560);
+    same(&rt, segment.num_named(), 5);
     for (i, handle) in [(0, 464), (1, 336), (2, 288), (3, 240), (4, 192)] {
-        assert_eq!(rt; named_handle(&rt, &segment, i), handle);
+        same(&rt, named_handle(&rt, &segment, i), handle);
     }
     for (i, offset, len, use_of) in [
         (0, 128, 48, None),
@@ -40,17 +42,18 @@ fn names_rise(rt: HostRuntime) -> Result<(), Fail> {
         (6, 448, 48, Some(Role::Object)),
         (7, 496, 512, None),
     ] {
-        assert_eq!(rt;
+        same_at(
+            &rt,
+            i,
             segment.tile(i),
             Some(Span {
                 offset,
                 len,
-                use_of
+                use_of,
             }),
-            "tile {i}"
         );
     }
-    assert_eq!(rt; segment.tile(8), None);
+    same(&rt, segment.tile(8), None);
     Ok(())
 }
 
@@ -58,25 +61,33 @@ fn names_rise(rt: HostRuntime) -> Result<(), Fail> {
 fn kinds_rise(rt: HostRuntime) -> Result<(), Fail> {
     let mut segment = fresh(&rt, rt.alloc(), 1024)?;
     let unique = |kind| NewKey::Unique(Kind::Scalar(kind));
-    assert_eq!(rt;
+    same(
+        &rt,
         segment.construct(&unique(ScalarKind::U64), 1, 9u64),
-        Ok(192)
+        Ok(192),
     );
-    assert_eq!(rt;
+    same(
+        &rt,
         segment.construct(&unique(ScalarKind::I64), 1, 8i64),
-        Ok(240)
+        Ok(240),
     );
-    assert_eq!(rt;
+    same(
+        &rt,
         segment.construct(&unique(ScalarKind::I32), 1, 7i32),
-        Ok(288)
+        Ok(288),
     );
-    assert_eq!(rt; segment.construct(&unique(ScalarKind::U8), 1, 6u8), Ok(336));
-    assert_eq!(rt;
+    same(
+        &rt,
+        segment.construct(&unique(ScalarKind::U8), 1, 6u8),
+        Ok(336),
+    );
+    same(
+        &rt,
         segment.construct(&unique(ScalarKind::Bool), 1, true),
-        Ok(464)
+        Ok(464),
     );
     for (i, handle) in [(0, 464), (1, 336), (2, 288), (3, 240), (4, 192)] {
-        assert_eq!(rt; unique_handle(&rt, &segment, i), handle);
+        same(&rt, unique_handle(&rt, &segment, i), handle);
     }
     Ok(())
 }
@@ -84,17 +95,17 @@ fn kinds_rise(rt: HostRuntime) -> Result<(), Fail> {
 #[test]
 fn indexes_shrink(rt: HostRuntime) -> Result<(), Fail> {
     let mut segment = fresh(&rt, rt.alloc(), 1024)?;
-    assert_eq!(rt; segment.reserve_named(5), Ok(()));
-    assert_eq!(rt; segment.reserve_unique(1), Ok(()));
+    same(&rt, segment.reserve_named(5), Ok(()));
+    same(&rt, segment.reserve_unique(1), Ok(()));
     make(
         &rt,
         &mut segment,
         &[(b'a', 240), (b'b', 288), (b'c', 336), (b'd', 384)],
     );
-    assert_eq!(rt; segment.free(), 592);
-    assert_eq!(rt; segment.shrink_indexes(), Ok(()));
-    assert_eq!(rt; segment.free(), 624);
-    assert_eq!(rt; segment.shrink_indexes(), Ok(()));
-    assert_eq!(rt; segment.free(), 640);
+    same(&rt, segment.free(), 592);
+    same(&rt, segment.shrink_indexes(), Ok(()));
+    same(&rt, segment.free(), 624);
+    same(&rt, segment.shrink_indexes(), Ok(()));
+    same(&rt, segment.free(), 640);
     Ok(())
 }

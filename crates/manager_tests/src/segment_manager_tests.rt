@@ -1,4 +1,5 @@
 //! Segments in regions of 1024 bytes, as their numbers come out.
+use crate::checks::{holds, same};
 use raw_region::RawRegion;
 use seg_types::Refusal;
 use segment_manager::{CreateError, Mode, Segment, Span};
@@ -19,16 +20,17 @@ fn a_segment_is_made(rt: HostRuntime) -> Result<(), Fail> {
     let Ok(segment) = Segment::create(region, 16, 176, Mode::Write) else {
         panic!(rt; "refused");
     };
-    assert_eq!(rt; segment.as_bytes().len(), 176);
-    assert!(rt;
+    same(&rt, segment.as_bytes().len(), 176);
+    holds(
+        &rt,
         segment
             .as_bytes()
-            .starts_with(b"MSEGFILE\x02\0\0\0\0\0\0\0\xB0")
+            .starts_with(b"MSEGFILE\x02\0\0\0\0\0\0\0\xB0"),
     );
-    assert_eq!(rt; segment.region_left(), 832);
-    assert_eq!(rt; segment.tile(0), Some(free(32)));
-    assert_eq!(rt; segment.tile(1), None);
-    assert!(rt; segment.all_deallocated() && segment.sanity());
+    same(&rt, segment.region_left(), 832);
+    same(&rt, segment.tile(0), Some(free(32)));
+    same(&rt, segment.tile(1), None);
+    holds(&rt, segment.all_deallocated() && segment.sanity());
     Ok(())
 }
 
@@ -39,15 +41,15 @@ fn a_segment_fills_its_region(rt: HostRuntime) -> Result<(), Fail> {
     let Ok(mut segment) = Segment::create(region, 16, 1008, Mode::CopyOnWrite) else {
         panic!(rt; "refused");
     };
-    assert_eq!(rt; segment.region_left(), 0);
-    assert_eq!(rt; segment.tile(0), Some(free(864)));
-    assert_eq!(rt; segment.zero_free(), Ok(()));
+    same(&rt, segment.region_left(), 0);
+    same(&rt, segment.tile(0), Some(free(864)));
+    same(&rt, segment.zero_free(), Ok(()));
     let smallest = RawRegion::new(rt.alloc(), 144)?;
     let Ok(mut segment) = Segment::create(smallest, 0, 144, Mode::ReadOnly) else {
         panic!(rt; "refused");
     };
-    assert_eq!(rt; segment.tile(0), None);
-    assert_eq!(rt; segment.zero_free(), Err(Refusal::ReadOnly));
+    same(&rt, segment.tile(0), None);
+    same(&rt, segment.zero_free(), Err(Refusal::ReadOnly));
     Ok(())
 }
 
@@ -58,11 +60,11 @@ fn a_refused_region_comes_back(rt: HostRuntime) -> Result<(), Fail> {
     let Err(refused) = Segment::create(region, 0, 160, Mode::Write) else {
         panic!(rt; "made");
     };
-    assert_eq!(rt; refused.cause, CreateError::BadSize);
+    same(&rt, refused.cause, CreateError::BadSize);
     let Err(refused) = Segment::create(refused.region, 0, 1040, Mode::Write) else {
         panic!(rt; "made");
     };
-    assert_eq!(rt; refused.cause, CreateError::RegionTooSmall);
-    assert_eq!(rt; refused.region.bytes(0, 1024), [7u8; 1024].as_slice());
+    same(&rt, refused.cause, CreateError::RegionTooSmall);
+    same(&rt, refused.region.bytes(0, 1024), [7u8; 1024].as_slice());
     Ok(())
 }

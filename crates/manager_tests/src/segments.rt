@@ -5,6 +5,7 @@ ghost use Rattle.seg_types.specs.declared.kinds.Kind.{Kind};
 ghost use Rattle.seg_types.specs.Keys.{index_key_seen, new_key_seen};
 ghost use Rattle.segment_manager.specs.NewObjects.{IsOfKind};
 
+use crate::bench::Bench;
 use image_check::open;
 use raw_region::fake::{Last, MemorySource};
 use raw_region::{RawRegion, Steps};
@@ -15,27 +16,22 @@ use std::process::Abort;
 use std::test::Fail;
 
 /// A segment of some bytes with nothing in it.
-pub fn fresh(rt: &impl Abort, alloc: Global, size: u64) -> Result<Segment, Fail> {
+pub fn fresh(rt: &impl Abort, alloc: Global, size: u64) -> Result<Bench, Fail> {
     let region = RawRegion::new(alloc, 1024)?;
     let Ok(segment) = Segment::create(region, 0, size, Mode::Write) else {
         panic!(rt; "refused");
     };
-    Ok(segment)
+    Ok(Bench { segment })
 }
 
 /// The bytes of a segment, opened as one in another region.
-pub fn opened(
-    rt: &impl Abort,
-    alloc: Global,
-    segment: &Segment,
-    mode: Mode,
-) -> Result<Segment, Fail> {
-    let mut reader = MemorySource::new(segment.as_bytes(), 4096, Last::Ends);
+pub fn opened(rt: &impl Abort, alloc: Global, bench: &Bench, mode: Mode) -> Result<Bench, Fail> {
+    let mut reader = MemorySource::new(bench.segment.as_bytes(), 4096, Last::Ends);
     let region = RawRegion::new(alloc, 2048)?;
-    let Ok(opened) = open(alloc, &mut reader, region, 16, mode, &mut Steps::new()) else {
+    let Ok(segment) = open(alloc, &mut reader, region, 16, mode, &mut Steps::new()) else {
         panic!(rt; "not opened");
     };
-    Ok(opened)
+    Ok(Bench { segment })
 }
 
 fn name<'a>(rt: &impl Abort, bytes: &'a [u8]) -> Name<'a> {
@@ -65,13 +61,15 @@ pub fn new_named<'a>(rt: &impl Abort, bytes: &'a [u8]) -> NewKey<'a>
 }
 
 /// The handle of the object whose name has `i` others before it.
-pub fn named_handle(rt: &impl Abort, segment: &Segment, i: u64) -> Handle {
+pub fn named_handle(rt: &impl Abort, bench: &Bench, i: u64) -> Handle {
+    let segment = &bench.segment;
     assert!(rt; i < segment.num_named());
     segment.named_at(i)
 }
 
 /// The handle of the unique object whose kind has `i` others before it.
-pub fn unique_handle(rt: &impl Abort, segment: &Segment, i: u64) -> Handle {
+pub fn unique_handle(rt: &impl Abort, bench: &Bench, i: u64) -> Handle {
+    let segment = &bench.segment;
     assert!(rt; i < segment.num_unique());
     segment.unique_at(i)
 }

@@ -5,4 +5,4 @@ use Rattle.manager_tests.proofs.segments.named_handle.Goals as goal
 pub named_at-requires : goal.named_at-requires
 named_at-requires g c =
     let below : c.args.i < c.num_named.result = search rules in
-    named-below c.args.segment.now c.num_named.result c.args.i c.num_named.ensures below
+    named-below _ c.num_named.result c.args.i c.num_named.ensures below

@@ -5,4 +5,4 @@ use Rattle.manager_tests.proofs.segments.unique_handle.Goals as goal
 pub unique_at-requires : goal.unique_at-requires
 unique_at-requires g c =
     let below : c.args.i < c.num_unique.result = search rules in
-    unique-below c.args.segment.now c.num_unique.result c.args.i c.num_unique.ensures below
+    unique-below _ c.num_unique.result c.args.i c.num_unique.ensures below

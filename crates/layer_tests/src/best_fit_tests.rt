@@ -1,4 +1,5 @@
 //! A heap in a window of 1024 bytes, as its numbers come out: blocks, gaps, and the tree of the gaps in their payloads.
+use crate::checks::{holds, same};
 use best_fit::{Heap, NoSpace};
 use block_tags::Role;
 use offset_link::load;
@@ -52,12 +53,28 @@ fn links(rt: &impl Abort, window: &Window, node: u64) -> (Option<u64>, Option<u6
 #[test]
 fn blocks_follow_one_another(rt: HostRuntime) -> Result<(), Fail> {
     let mut heap = empty(rt.alloc())?;
-    assert_eq!(rt; heap.size(), 1024);
-    assert_eq!(rt; heap.region_left(), 0);
-    assert_eq!(rt; heap.allocate(64, Role::Object, &mut Steps::new())?, 144);
-    assert_eq!(rt; heap.allocate(16, Role::Object, &mut Steps::new())?, 224);
-    assert_eq!(rt; heap.allocate(32, Role::Object, &mut Steps::new())?, 256);
-    assert_eq!(rt; heap.allocate(16, Role::Object, &mut Steps::new())?, 304);
+    same(&rt, heap.size(), 1024);
+    same(&rt, heap.region_left(), 0);
+    same(
+        &rt,
+        heap.allocate(64, Role::Object, &mut Steps::new())?,
+        144,
+    );
+    same(
+        &rt,
+        heap.allocate(16, Role::Object, &mut Steps::new())?,
+        224,
+    );
+    same(
+        &rt,
+        heap.allocate(32, Role::Object, &mut Steps::new())?,
+        256,
+    );
+    same(
+        &rt,
+        heap.allocate(16, Role::Object, &mut Steps::new())?,
+        304,
+    );
     Ok(())
 }
 
@@ -65,32 +82,38 @@ fn blocks_follow_one_another(rt: HostRuntime) -> Result<(), Fail> {
 fn the_least_gap_is_taken(rt: HostRuntime) -> Result<(), Fail> {
     let mut heap = with_three_blocks(&rt, rt.alloc())?;
     free(&rt, &mut heap, 256);
-    assert_eq!(rt; heap.allocate(32, Role::Object, &mut Steps::new())?, 256);
-    assert_eq!(rt; heap.free_bytes(), 768);
-    assert_eq!(rt; heap.live_count(), 3);
-    assert_eq!(rt;
+    same(
+        &rt,
+        heap.allocate(32, Role::Object, &mut Steps::new())?,
+        256,
+    );
+    same(&rt, heap.free_bytes(), 768);
+    same(&rt, heap.live_count(), 3);
+    same(
+        &rt,
         heap.allocate(2000, Role::Object, &mut Steps::new()),
-        Err(NoSpace)
+        Err(NoSpace),
     );
-    assert_eq!(rt;
+    same(
+        &rt,
         heap.allocate(1073741825, Role::Object, &mut Steps::new()),
-        Err(NoSpace)
+        Err(NoSpace),
     );
-    assert!(rt; heap.sanity());
+    holds(&rt, heap.sanity());
     Ok(())
 }
 
 #[test]
 fn blocks_change_their_length(rt: HostRuntime) -> Result<(), Fail> {
     let mut heap = with_three_blocks(&rt, rt.alloc())?;
-    assert!(rt; extends(&rt, &mut heap, 304, 40));
-    assert_eq!(rt; heap.free_bytes(), 736);
-    assert!(rt; !extends(&rt, &mut heap, 224, 40));
+    holds(&rt, extends(&rt, &mut heap, 304, 40));
+    same(&rt, heap.free_bytes(), 736);
+    holds(&rt, !extends(&rt, &mut heap, 224, 40));
     shrink(&rt, &mut heap, 256, 16);
-    assert_eq!(rt; block_len(&rt, &heap, 256), 32);
+    same(&rt, block_len(&rt, &heap, 256), 32);
     shrink(&rt, &mut heap, 304, 16);
-    assert_eq!(rt; block_len(&rt, &heap, 304), 16);
-    assert_eq!(rt; heap.free_bytes(), 768);
+    same(&rt, block_len(&rt, &heap, 304), 16);
+    same(&rt, heap.free_bytes(), 768);
     Ok(())
 }
 
@@ -99,10 +122,10 @@ fn header_words_are_read_back(rt: HostRuntime) -> Result<(), Fail> {
     let mut heap = empty(rt.alloc())?;
     heap.set_header_word(40, 7);
     heap.zero_free();
-    assert_eq!(rt; heap.header_word(40), 7);
+    same(&rt, heap.header_word(40), 7);
     let again = Heap::adopt(heap.into_window());
-    assert_eq!(rt; again.as_bytes().len(), 1024);
-    assert_eq!(rt; again.tile(1), None);
+    same(&rt, again.as_bytes().len(), 1024);
+    same(&rt, again.tile(1), None);
     Ok(())
 }
 
@@ -112,10 +135,10 @@ fn a_block_is_read_back(rt: HostRuntime) -> Result<(), Fail> {
     let handle = heap.allocate(32, Role::Storage, &mut Steps::new())?;
     heap.set_word(handle, 8, 5);
     heap.write(handle, 24, b"of bytes");
-    assert_eq!(rt; heap.word(handle, 8), 5);
+    same(&rt, heap.word(handle, 8), 5);
     assert!(rt; heap.is_live(handle));
-    assert_eq!(rt; heap.role(handle), Role::Storage);
-    assert!(rt; heap.block(handle).ends_with(b"of bytes"));
+    same(&rt, heap.role(handle), Role::Storage);
+    holds(&rt, heap.block(handle).ends_with(b"of bytes"));
     Ok(())
 }
 
@@ -123,17 +146,21 @@ fn a_block_is_read_back(rt: HostRuntime) -> Result<(), Fail> {
 fn the_free_tree_lists_three_gaps(rt: HostRuntime) -> Result<(), Fail> {
     let mut heap = empty(rt.alloc())?;
     for handle in [144, 192, 240, 288] {
-        assert_eq!(rt; heap.allocate(24, Role::Object, &mut Steps::new())?, handle);
+        same(
+            &rt,
+            heap.allocate(24, Role::Object, &mut Steps::new())?,
+            handle,
+        );
     }
     free(&rt, &mut heap, 144);
     free(&rt, &mut heap, 240);
     let window = heap.into_window();
     // In order: 144, 240, 336.
     assert!(rt; window.in_range(24, 8));
-    assert_eq!(rt; load(&window, 24), Some(240));
-    assert_eq!(rt; links(&rt, &window, 240), (Some(144), Some(336)));
-    assert_eq!(rt; links(&rt, &window, 144), (None, None));
-    assert_eq!(rt; links(&rt, &window, 336), (None, None));
+    same(&rt, load(&window, 24), Some(240));
+    same(&rt, links(&rt, &window, 240), (Some(144), Some(336)));
+    same(&rt, links(&rt, &window, 144), (None, None));
+    same(&rt, links(&rt, &window, 336), (None, None));
     Ok(())
 }
 
@@ -142,9 +169,10 @@ fn header_links_are_read_back(rt: HostRuntime) -> Result<(), Fail> {
     let mut heap = empty(rt.alloc())?;
     heap.set_header_link(32, Some(144));
     heap.set_header_link(40, None);
-    assert_eq!(rt;
+    same(
+        &rt,
         (heap.header_link(32), heap.header_link(40)),
-        (Some(144), None)
+        (Some(144), None),
     );
     Ok(())
 }
@@ -155,9 +183,10 @@ fn links_of_a_block_are_read_back(rt: HostRuntime) -> Result<(), Fail> {
     let handle = heap.allocate(32, Role::Node, &mut Steps::new())?;
     heap.set_link(handle, 0, Some(144));
     heap.set_link(handle, 8, None);
-    assert_eq!(rt;
+    same(
+        &rt,
         (heap.link(handle, 0), heap.link(handle, 8)),
-        (Some(144), None)
+        (Some(144), None),
     );
     Ok(())
 }
@@ -169,10 +198,11 @@ fn links_of_a_block_move(rt: HostRuntime) -> Result<(), Fail> {
     heap.set_link(handle, 0, Some(144));
     heap.set_link(handle, 8, None);
     heap.shift_links(handle, 0, handle, 8, 2);
-    assert_eq!(rt; heap.link(handle, 0), Some(144));
-    assert_eq!(rt;
+    same(&rt, heap.link(handle, 0), Some(144));
+    same(
+        &rt,
         (heap.link(handle, 8), heap.link(handle, 16)),
-        (Some(144), None)
+        (Some(144), None),
     );
     Ok(())
 }
@@ -186,7 +216,7 @@ fn a_node_block_has_a_colour(rt: HostRuntime) -> Result<(), Fail> {
     assert!(rt; heap.is_live(handle) && heap.node_red(handle));
     heap.set_node_red(handle, false);
     assert!(rt; heap.is_live(handle) && !heap.node_red(handle));
-    assert!(rt; heap.sanity());
+    holds(&rt, heap.sanity());
     Ok(())
 }
 
@@ -197,7 +227,7 @@ fn a_block_is_written_through_a_loan(rt: HostRuntime) -> Result<(), Fail> {
     assert!(rt; heap.is_live(handle));
     heap.block_mut(handle).fill(7);
     assert!(rt; heap.is_live(handle));
-    assert_eq!(rt; heap.block(handle), [7u8; 32].as_slice());
+    same(&rt, heap.block(handle), [7u8; 32].as_slice());
     Ok(())
 }
 
@@ -207,8 +237,8 @@ fn bytes_of_a_block_are_copied(rt: HostRuntime) -> Result<(), Fail> {
     let handle = heap.allocate(32, Role::Storage, &mut Steps::new())?;
     heap.set_word(handle, 0, 0x0807060504030201);
     heap.copy(handle, 0, handle, 4, 8);
-    assert_eq!(rt; heap.word(handle, 0), 0x0403020104030201);
-    assert_eq!(rt; heap.word(handle, 4), 0x0807060504030201);
+    same(&rt, heap.word(handle, 0), 0x0403020104030201);
+    same(&rt, heap.word(handle, 4), 0x0807060504030201);
     Ok(())
 }
 
@@ -226,7 +256,7 @@ fn two_blocks_are_lent_together(rt: HostRuntime) -> Result<(), Fail> {
         }
     });
     assert!(rt; heap.is_live(first) && heap.is_live(second));
-    assert_eq!(rt; heap.block(first), [5u8; 32].as_slice());
-    assert_eq!(rt; heap.block(second), [5u8; 16].as_slice());
+    same(&rt, heap.block(first), [5u8; 32].as_slice());
+    same(&rt, heap.block(second), [5u8; 16].as_slice());
     Ok(())
 }

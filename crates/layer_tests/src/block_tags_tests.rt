@@ -3,6 +3,7 @@ ghost use Rattle.std.specs.Prelude.{IfOk, [], ◌∷◌};
 ghost use Rattle.block_tags.specs.Lists.{free_tile};
 ghost use Rattle.block_tags.specs.Windows.{SaysTiles};
 
+use crate::checks::{holds, same};
 use block_tags::{
     BadTag, Role, Tile, append_free, check, drop_last, first, lay, merge_next, next, previous, red,
     set_red, set_use, split, tile_at,
@@ -33,13 +34,13 @@ fn free(offset: u64, len: u64) -> Tile {
 #[test]
 fn splits_and_joins(rt: HostRuntime) -> Result<(), Fail> {
     let mut window = laid_window(rt.alloc())?;
-    assert_eq!(rt; first(&window), Some(free(128, 880)));
+    same(&rt, first(&window), Some(free(128, 880)));
     split(&mut window, 128, 64);
-    assert_eq!(rt; next(&window, 128), Some(free(192, 816)));
-    assert_eq!(rt; previous(&window, 192), Some(free(128, 64)));
-    assert_eq!(rt; check(&window), Err(BadTag), "two free neighbours");
+    same(&rt, next(&window, 128), Some(free(192, 816)));
+    same(&rt, previous(&window, 192), Some(free(128, 64)));
+    same(&rt, check(&window), Err(BadTag));
     merge_next(&mut window, 128);
-    assert_eq!(rt; first(&window), Some(free(128, 880)));
+    same(&rt, first(&window), Some(free(128, 880)));
     Ok(())
 }
 
@@ -47,17 +48,17 @@ fn splits_and_joins(rt: HostRuntime) -> Result<(), Fail> {
 fn gives_use_and_colour(rt: HostRuntime) -> Result<(), Fail> {
     let mut window = laid_window(rt.alloc())?;
     set_use(&mut window, 128, Some(Role::Node));
-    assert!(rt; !red(&window, 128));
+    holds(&rt, !red(&window, 128));
     set_red(&mut window, 128, true);
-    assert!(rt; red(&window, 128));
+    holds(&rt, red(&window, 128));
     let wanted = Tile {
         offset: 128,
         len: 880,
         use_of: Some(Role::Node),
         red: true,
     };
-    assert_eq!(rt; tile_at(&window, 128), wanted);
-    assert_eq!(rt; check(&window), Ok(()));
+    same(&rt, tile_at(&window, 128), wanted);
+    same(&rt, check(&window), Ok(()));
     Ok(())
 }
 
@@ -65,8 +66,8 @@ fn gives_use_and_colour(rt: HostRuntime) -> Result<(), Fail> {
 fn moves_the_end(rt: HostRuntime) -> Result<(), Fail> {
     let mut window = laid_window(rt.alloc())?;
     let size = drop_last(&mut window);
-    assert_eq!(rt; size, 144);
+    same(&rt, size, 144);
     append_free(&mut window, size);
-    assert_eq!(rt; first(&window), Some(free(128, 880)));
+    same(&rt, first(&window), Some(free(128, 880)));
     Ok(())
 }

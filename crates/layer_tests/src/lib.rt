@@ -7,6 +7,8 @@ mod best_fit_tests;
 #[cfg(test)]
 mod block_tags_tests;
 #[cfg(test)]
+mod checks;
+#[cfg(test)]
 mod link_tree_tests;
 #[cfg(test)]
 mod node_tables;

@@ -4,6 +4,7 @@ ghost use Rattle.std.specs.Prelude.{◌≡◌, ◌≢◌, ℕ, ◌+◌, ◌<◌,
 ghost use Rattle.link_tree.specs.Tree.{Tree, IsSearchTree, nodes_of};
 ghost use Rattle.link_tree.specs.Nodes.{leads, is_in, has_place};
 
+use crate::checks::same;
 use crate::node_tables::{Lent, Numbered, empty_table};
 use link_tree::{NodesMut, check, find_first_not_before, insert, remove, walk};
 use std::process::Abort;
@@ -126,12 +127,12 @@ fn fill_and_empty<R: Abort, N: Numbered>(rt: &R, nodes: &mut N, step: u64, back:
     let mut most = Most::none();
     for i in 0..64u64 {
         root = put(rt, nodes, root, i * step % 64, &mut most);
-        assert_eq!(rt; check(nodes, root).nodes, Some(i + 1));
+        same(rt, check(nodes, root).nodes, Some(i + 1));
     }
     assert!(rt; meets_all(rt, nodes, root, 64, &mut most));
     for i in 0..64u64 {
         root = take(rt, nodes, root, i * back % 64, &mut most);
-        assert_eq!(rt; check(nodes, root).nodes, Some(63 - i));
+        same(rt, check(nodes, root).nodes, Some(63 - i));
     }
     most
 }
@@ -161,17 +162,17 @@ fn through_a_reference(rt: HostRuntime) {
 fn no_trees(rt: HostRuntime) {
     let mut cycle = empty_table();
     cycle.set_left(0, Some(0));
-    assert_eq!(rt; check(&cycle, Some(0)).nodes, None);
+    same(&rt, check(&cycle, Some(0)).nodes, None);
     let mut wide_cycle = empty_table();
     wide_cycle.set_left(4, Some(2));
     wide_cycle.set_right(2, Some(4));
-    assert_eq!(rt; check(&wide_cycle, Some(4)).nodes, None);
+    same(&rt, check(&wide_cycle, Some(4)).nodes, None);
     let mut shared = empty_table();
     shared.set_left(4, Some(2));
     shared.set_right(4, Some(6));
     shared.set_right(2, Some(3));
     shared.set_red(3, true);
-    assert_eq!(rt; check(&shared, Some(4)).nodes, Some(4));
+    same(&rt, check(&shared, Some(4)).nodes, Some(4));
     shared.set_left(6, Some(3));
-    assert_eq!(rt; check(&shared, Some(4)).nodes, None);
+    same(&rt, check(&shared, Some(4)).nodes, None);
 }

@@ -1,3 +1,4 @@
+use crate::checks::{holds, same};
 use offset_link::{Places, are_links, checked, copy, load, shift, store, store_null};
 use raw_region::{RawRegion, Window};
 use std::test::Fail;
@@ -6,17 +7,18 @@ use std::test::Fail;
 fn a_link_stores_its_distance(rt: HostRuntime) -> Result<(), Fail> {
     let mut w = Window::new(RawRegion::new(rt.alloc(), 512)?, 64, 400);
     store(&mut w, 24, 144);
-    assert_eq!(rt; load(&w, 24), Some(144));
-    assert_eq!(rt; w.bytes(24, 8), [120u8, 0, 0, 0, 0, 0, 0, 0].as_slice());
+    same(&rt, load(&w, 24), Some(144));
+    same(&rt, w.bytes(24, 8), [120u8, 0, 0, 0, 0, 0, 0, 0].as_slice());
     store(&mut w, 160, 144);
-    assert_eq!(rt; load(&w, 160), Some(144));
-    assert_eq!(rt;
+    same(&rt, load(&w, 160), Some(144));
+    same(
+        &rt,
         w.bytes(160, 8),
-        [240u8, 255, 255, 255, 255, 255, 255, 255].as_slice()
+        [240u8, 255, 255, 255, 255, 255, 255, 255].as_slice(),
     );
     store_null(&mut w, 24);
-    assert_eq!(rt; load(&w, 24), None);
-    assert_eq!(rt; w.bytes(24, 8), [1u8, 0, 0, 0, 0, 0, 0, 0].as_slice());
+    same(&rt, load(&w, 24), None);
+    same(&rt, w.bytes(24, 8), [1u8, 0, 0, 0, 0, 0, 0, 0].as_slice());
     Ok(())
 }
 
@@ -25,10 +27,10 @@ fn a_copy_leads_where_its_source_leads(rt: HostRuntime) -> Result<(), Fail> {
     let mut w = Window::new(RawRegion::new(rt.alloc(), 512)?, 64, 400);
     store(&mut w, 32, 176);
     copy(&mut w, 32, 200);
-    assert_eq!(rt; (load(&w, 32), load(&w, 200)), (Some(176), Some(176)));
+    same(&rt, (load(&w, 32), load(&w, 200)), (Some(176), Some(176)));
     store_null(&mut w, 32);
     copy(&mut w, 32, 200);
-    assert_eq!(rt; load(&w, 200), None);
+    same(&rt, load(&w, 200), None);
     Ok(())
 }
 
@@ -40,11 +42,12 @@ fn links_move_over_one_another(rt: HostRuntime) -> Result<(), Fail> {
     store(&mut w, 40, 352);
     assert!(rt; are_links(&w, 24, 3));
     shift(&mut w, 24, 3, Places::Up(1));
-    assert_eq!(rt;
+    same(
+        &rt,
         (load(&w, 32), load(&w, 40), load(&w, 48)),
-        (Some(144), None, Some(352))
+        (Some(144), None, Some(352)),
     );
-    assert_eq!(rt; load(&w, 24), Some(144));
+    same(&rt, load(&w, 24), Some(144));
     Ok(())
 }
 
@@ -55,7 +58,7 @@ fn links_move_back(rt: HostRuntime) -> Result<(), Fail> {
     store(&mut w, 32, 160);
     assert!(rt; are_links(&w, 24, 2));
     shift(&mut w, 24, 2, Places::Down(2));
-    assert_eq!(rt; (load(&w, 8), load(&w, 16)), (Some(144), Some(160)));
+    same(&rt, (load(&w, 8), load(&w, 16)), (Some(144), Some(160)));
     w.write_u64(24, 4);
     assert!(rt; !are_links(&w, 24, 2));
     Ok(())
@@ -65,16 +68,16 @@ fn links_move_back(rt: HostRuntime) -> Result<(), Fail> {
 fn a_checked_link_leads_to_a_block(rt: HostRuntime) -> Result<(), Fail> {
     let mut w = Window::new(RawRegion::new(rt.alloc(), 512)?, 64, 400);
     store_null(&mut w, 24);
-    assert_eq!(rt; checked(&w, 24)?, None);
+    same(&rt, checked(&w, 24)?, None);
     for target in [144, 160, 368] {
         assert!(rt; w.in_range(24, 8));
         w.write_u64(24, target - 24);
-        assert_eq!(rt; checked(&w, 24)?, Some(target));
+        same(&rt, checked(&w, 24)?, Some(target));
     }
     for target in [24, 128, 152, 376, 384, 400] {
         assert!(rt; w.in_range(24, 8));
         w.write_u64(24, target - 24);
-        assert!(rt; checked(&w, 24).is_err());
+        holds(&rt, checked(&w, 24).is_err());
     }
     Ok(())
 }

@@ -1,3 +1,4 @@
+use crate::checks::{holds, same};
 use raw_region::stream::{Reading, Writing};
 use raw_region::{Sink, Source, write_all};
 use std::io::{self, ErrorKind, Read, Write};
@@ -56,12 +57,12 @@ fn each_read_asks_the_reader_once(rt: HostRuntime) -> Result<(), Fail> {
     let mut reader = Counting { asked: 0 };
     let mut into = *b"........";
     let mut source = Reading::new(&mut reader);
-    assert_eq!(rt; source.read(&mut into[..4])?, 2);
-    assert!(rt; source.read(&mut into[2..]).is_err());
-    assert_eq!(rt; source.read(&mut into[2..])?, 2);
-    assert_eq!(rt; source.read(&mut into[4..])?, 0);
-    assert_eq!(rt; into.as_slice(), b"abcd....".as_slice());
-    assert_eq!(rt; reader.asked, 4);
+    same(&rt, source.read(&mut into[..4])?, 2);
+    holds(&rt, source.read(&mut into[2..]).is_err());
+    same(&rt, source.read(&mut into[2..])?, 2);
+    same(&rt, source.read(&mut into[4..])?, 0);
+    same(&rt, into.as_slice(), b"abcd....".as_slice());
+    same(&rt, reader.asked, 4);
     Ok(())
 }
 
@@ -72,12 +73,12 @@ fn each_write_asks_the_writer_once(rt: HostRuntime) -> Result<(), Fail> {
         kept: [0; 4],
     };
     let mut sink = Writing::new(&mut writer);
-    assert_eq!(rt; sink.write(b"abc")?, 2);
-    assert!(rt; sink.write(b"cd").is_err());
-    assert_eq!(rt; sink.write(b"cd")?, 2);
-    assert_eq!(rt; sink.write(b"e")?, 0);
-    assert!(rt; write_all(&mut sink, b"e").is_err());
-    assert_eq!(rt; writer.kept.as_slice(), b"abcd".as_slice());
-    assert_eq!(rt; writer.asked, 5);
+    same(&rt, sink.write(b"abc")?, 2);
+    holds(&rt, sink.write(b"cd").is_err());
+    same(&rt, sink.write(b"cd")?, 2);
+    same(&rt, sink.write(b"e")?, 0);
+    holds(&rt, write_all(&mut sink, b"e").is_err());
+    same(&rt, writer.kept.as_slice(), b"abcd".as_slice());
+    same(&rt, writer.asked, 5);
     Ok(())
 }

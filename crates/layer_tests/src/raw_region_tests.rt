@@ -1,3 +1,4 @@
+use crate::checks::{holds, same};
 use raw_region::fake::{Last, MemorySink, MemorySource};
 use raw_region::stream::{Reading, Writing};
 use raw_region::{
@@ -11,8 +12,8 @@ const TEXT: &[u8; 9] = b"one\ntwo\n3";
 #[test]
 fn a_new_region_is_zero(rt: HostRuntime) -> Result<(), Fail> {
     let region = RawRegion::new(rt.alloc(), 64)?;
-    assert_eq!(rt; region.capacity(), 64);
-    assert_eq!(rt; region.bytes(0, 64), [0u8; 64].as_slice());
+    same(&rt, region.capacity(), 64);
+    same(&rt, region.bytes(0, 64), [0u8; 64].as_slice());
     assert!(rt; region.in_range(64, 0) && !region.in_range(u64::MAX, 2));
     Ok(())
 }
@@ -21,9 +22,13 @@ fn a_new_region_is_zero(rt: HostRuntime) -> Result<(), Fail> {
 fn words_have_their_lowest_byte_first(rt: HostRuntime) -> Result<(), Fail> {
     let mut region = RawRegion::new(rt.alloc(), 64)?;
     region.write_u64(8, 0x0102_0304_0506_0708);
-    assert_eq!(rt; region.bytes(8, 8), [8u8, 7, 6, 5, 4, 3, 2, 1].as_slice());
-    assert_eq!(rt; region.read_u64(8), 0x0102_0304_0506_0708);
-    assert_eq!(rt; region.read_u64(9), 0x0001_0203_0405_0607);
+    same(
+        &rt,
+        region.bytes(8, 8),
+        [8u8, 7, 6, 5, 4, 3, 2, 1].as_slice(),
+    );
+    same(&rt, region.read_u64(8), 0x0102_0304_0506_0708);
+    same(&rt, region.read_u64(9), 0x0001_0203_0405_0607);
     Ok(())
 }
 
@@ -31,12 +36,12 @@ fn words_have_their_lowest_byte_first(rt: HostRuntime) -> Result<(), Fail> {
 fn bytes_are_filled_and_written(rt: HostRuntime) -> Result<(), Fail> {
     let mut region = RawRegion::new(rt.alloc(), 64)?;
     region.fill(15, 2, 9);
-    assert_eq!(rt; region.bytes(14, 4), [0u8, 9, 9, 0].as_slice());
+    same(&rt, region.bytes(14, 4), [0u8, 9, 9, 0].as_slice());
     region.write(60, b"last");
-    assert_eq!(rt; region.bytes(59, 5), b"\0last".as_slice());
+    same(&rt, region.bytes(59, 5), b"\0last".as_slice());
     region.bytes_mut(61, 2).copy_from_slice(b"os");
     assert!(rt; region.in_range(60, 4));
-    assert_eq!(rt; region.bytes(60, 4), b"lost".as_slice());
+    same(&rt, region.bytes(60, 4), b"lost".as_slice());
     Ok(())
 }
 
@@ -45,19 +50,19 @@ fn bytes_move_over_an_overlap(rt: HostRuntime) -> Result<(), Fail> {
     let mut region = RawRegion::new(rt.alloc(), 16)?;
     region.write(0, b"abcdefgh");
     region.move_within(0, 2, 8);
-    assert_eq!(rt; region.bytes(0, 11), b"ababcdefgh\0".as_slice());
+    same(&rt, region.bytes(0, 11), b"ababcdefgh\0".as_slice());
     region.move_within(2, 1, 8);
-    assert_eq!(rt; region.bytes(0, 11), b"aabcdefghh\0".as_slice());
+    same(&rt, region.bytes(0, 11), b"aabcdefghh\0".as_slice());
     Ok(())
 }
 
 #[test]
 fn the_smallest_region_and_a_gibibyte(rt: HostRuntime) -> Result<(), Fail> {
     let small = RawRegion::new(rt.alloc(), 16)?;
-    assert_eq!(rt; small.capacity(), 16);
+    same(&rt, small.capacity(), 16);
     let large = RawRegion::new(rt.alloc(), 1_073_741_824)?;
-    assert_eq!(rt; large.capacity(), 1_073_741_824);
-    assert_eq!(rt; large.read_u64(1_073_741_816), 0);
+    same(&rt, large.capacity(), 1_073_741_824);
+    same(&rt, large.read_u64(1_073_741_816), 0);
     Ok(())
 }
 
@@ -65,10 +70,11 @@ fn the_smallest_region_and_a_gibibyte(rt: HostRuntime) -> Result<(), Fail> {
 #[test]
 fn refused_memory_is_answered(rt: HostRuntime) -> Result<(), Fail> {
     match RawRegion::new(rt.alloc(), 4096) {
-        Ok(region) => assert_eq!(rt; region.capacity(), 4096),
-        Err(error) => assert_eq!(rt;
+        Ok(region) => same(&rt, region.capacity(), 4096),
+        Err(error) => same(
+            &rt,
             format!(in rt.alloc(); "{error}")?.as_str(),
-            "out of memory"
+            "out of memory",
         ),
     }
     Ok(())
@@ -79,23 +85,25 @@ fn a_window_is_read_from_its_base(rt: HostRuntime) -> Result<(), Fail> {
     let mut region = RawRegion::new(rt.alloc(), 96)?;
     region.fill(0, 96, 7);
     let mut window = Window::new(region, 32, 48);
-    assert_eq!(rt;
+    same(
+        &rt,
         (window.base(), window.size(), window.capacity()),
-        (32, 48, 96)
+        (32, 48, 96),
     );
     assert!(rt; window.in_range(0, 48) && !window.in_range(0, 49));
     window.fill(0, 48, 0);
     window.write_u64(40, 258);
     window.write(0, b"front");
     window.move_within(0, 8, 5);
-    assert_eq!(rt; window.read_u64(40), 258);
-    assert_eq!(rt; window.bytes(8, 5), b"front".as_slice());
+    same(&rt, window.read_u64(40), 258);
+    same(&rt, window.bytes(8, 5), b"front".as_slice());
     window.bytes_mut(5, 1).copy_from_slice(b"!");
     let region = window.into_region();
-    assert_eq!(rt; region.bytes(31, 7), b"\x07front!".as_slice());
-    assert_eq!(rt;
+    same(&rt, region.bytes(31, 7), b"\x07front!".as_slice());
+    same(
+        &rt,
         region.bytes(72, 9),
-        [2u8, 1, 0, 0, 0, 0, 0, 0, 7].as_slice()
+        [2u8, 1, 0, 0, 0, 0, 0, 0, 7].as_slice(),
     );
     Ok(())
 }
@@ -104,30 +112,32 @@ fn a_window_is_read_from_its_base(rt: HostRuntime) -> Result<(), Fail> {
 fn two_ranges_are_lent_together(rt: HostRuntime) {
     let mut bytes = *b"0123456789";
     let (front, back) = (Span { from: 1, len: 3 }, Span { from: 4, len: 3 });
-    assert!(rt; apart(front, back) && apart(back, front));
-    assert!(rt; !apart(front, Span { from: 3, len: 1 }));
-    assert!(rt;
+    holds(&rt, apart(front, back) && apart(back, front));
+    holds(&rt, !apart(front, Span { from: 3, len: 1 }));
+    holds(
+        &rt,
         !apart(
             Span {
                 from: 0,
-                len: u64::MAX
+                len: u64::MAX,
             },
-            front
-        )
+            front,
+        ),
     );
     let (a, b) = two_mut(&mut bytes, back, front);
     a.copy_from_slice(b);
-    assert_eq!(rt; bytes.as_slice(), b"0123123789".as_slice());
+    same(&rt, bytes.as_slice(), b"0123123789".as_slice());
 }
 
 #[test]
 fn words_of_a_slice(rt: HostRuntime) {
     let mut bytes = [0u8; 12];
     set_word_in(&mut bytes, 3, 513);
-    assert_eq!(rt; word_in(&bytes, 3), 513);
-    assert_eq!(rt;
+    same(&rt, word_in(&bytes, 3), 513);
+    same(
+        &rt,
         bytes.as_slice(),
-        [0u8, 0, 0, 1, 2, 0, 0, 0, 0, 0, 0, 0].as_slice()
+        [0u8, 0, 0, 1, 2, 0, 0, 0, 0, 0, 0, 0].as_slice(),
     );
 }
 
@@ -136,11 +146,11 @@ fn a_reader_gives_its_pieces_and_ends(rt: HostRuntime) -> Result<(), Fail> {
     for piece in 1..10 {
         let mut source = MemorySource::new(TEXT, piece, Last::Ends);
         let mut into = [0u8; 5];
-        assert_eq!(rt; fill(&mut source, &mut into)?, 5);
-        assert_eq!(rt; into.as_slice(), b"one\nt".as_slice());
-        assert_eq!(rt; fill(&mut source, &mut into)?, 4);
-        assert_eq!(rt; into.as_slice(), b"wo\n3t".as_slice());
-        assert_eq!(rt; fill(&mut source, &mut into)?, 0);
+        same(&rt, fill(&mut source, &mut into)?, 5);
+        same(&rt, into.as_slice(), b"one\nt".as_slice());
+        same(&rt, fill(&mut source, &mut into)?, 4);
+        same(&rt, into.as_slice(), b"wo\n3t".as_slice());
+        same(&rt, fill(&mut source, &mut into)?, 0);
     }
     Ok(())
 }
@@ -150,8 +160,8 @@ fn a_reader_fails_after_each_byte(rt: HostRuntime) {
     for good in 0..9 {
         let mut source = MemorySource::new(&TEXT[..good], 2, Last::Fails);
         let mut into = [0u8; 9];
-        assert!(rt; fill(&mut source, &mut into).is_err());
-        assert_eq!(rt; &into[..good], &TEXT[..good]);
+        holds(&rt, fill(&mut source, &mut into).is_err());
+        same(&rt, &into[..good], &TEXT[..good]);
     }
 }
 
@@ -160,7 +170,7 @@ fn a_writer_takes_pieces(rt: HostRuntime) -> Result<(), Fail> {
     for piece in 1..10 {
         let mut sink = MemorySink::new(rt.alloc(), 9, piece, Last::Fails)?;
         write_all(&mut sink, TEXT)?;
-        assert_eq!(rt; sink.taken(), TEXT.as_slice());
+        same(&rt, sink.taken(), TEXT.as_slice());
     }
     Ok(())
 }
@@ -170,8 +180,8 @@ fn a_writer_fails_or_takes_none_after_each_byte(rt: HostRuntime) -> Result<(), F
     for room in 0..9 {
         for last in [Last::Fails, Last::Ends] {
             let mut sink = MemorySink::new(rt.alloc(), room, 2, last)?;
-            assert!(rt; write_all(&mut sink, TEXT).is_err());
-            assert_eq!(rt; sink.taken(), &TEXT[..room]);
+            holds(&rt, write_all(&mut sink, TEXT).is_err());
+            same(&rt, sink.taken(), &TEXT[..room]);
         }
     }
     Ok(())
@@ -181,12 +191,12 @@ fn a_writer_fails_or_takes_none_after_each_byte(rt: HostRuntime) -> Result<(), F
 fn readers_and_writers_of_std(rt: HostRuntime) -> Result<(), Fail> {
     let mut source = Reading::new(TEXT.as_slice());
     let mut into = [0u8; 12];
-    assert_eq!(rt; source.read(&mut into)?, 9);
-    assert_eq!(rt; source.read(&mut into)?, 0);
+    same(&rt, source.read(&mut into)?, 9);
+    same(&rt, source.read(&mut into)?, 0);
     let mut room = [0u8; 4];
     let mut sink = Writing::new(room.as_mut_slice());
-    assert_eq!(rt; sink.write(TEXT)?, 4);
-    assert_eq!(rt; sink.write(TEXT)?, 0);
+    same(&rt, sink.write(TEXT)?, 4);
+    same(&rt, sink.write(TEXT)?, 0);
     Ok(())
 }
 

@@ -5,6 +5,7 @@ ghost use Rattle.best_fit.specs.Table.{no_table};
 ghost use Rattle.seg_index.specs.Held.{HasIndex, IsIndexOf};
 ghost use Rattle.layer_tests.specs.OneEntry.{HasOneEntry};
 
+use crate::checks::same;
 use best_fit::{Heap, NoSpace};
 use block_tags::Role;
 use raw_region::{RawRegion, Steps, Window};
@@ -78,9 +79,9 @@ fn a_full_index_doubles(rt: HostRuntime) -> Result<(), Fail> {
         (4, 224, (5, 8)),
     ] {
         add(&rt, &mut heap, place, handle)?;
-        assert_eq!(rt; sizes(&heap), len_and_capacity);
+        same(&rt, sizes(&heap), len_and_capacity);
     }
-    assert_eq!(rt; at(&rt, &heap, 4), 224);
+    same(&rt, at(&rt, &heap, 4), 224);
     Ok(())
 }
 
@@ -92,7 +93,7 @@ fn an_entry_is_put_between_two(rt: HostRuntime) -> Result<(), Fail> {
     }
     remove(&rt, &mut heap, 2);
     for (place, handle) in [(0, 144), (1, 160), (2, 224)] {
-        assert_eq!(rt; at(&rt, &heap, place), handle);
+        same(&rt, at(&rt, &heap, place), handle);
     }
     Ok(())
 }
@@ -100,11 +101,11 @@ fn an_entry_is_put_between_two(rt: HostRuntime) -> Result<(), Fail> {
 #[test]
 fn an_index_shrinks_to_its_entries(rt: HostRuntime) -> Result<(), Fail> {
     let mut heap = empty(rt.alloc())?;
-    assert_eq!(rt; reserve(&mut heap, 20), Ok(()));
+    same(&rt, reserve(&mut heap, 20), Ok(()));
     add(&rt, &mut heap, 0, 160)?;
-    assert_eq!(rt; sizes(&heap), (1, 20));
+    same(&rt, sizes(&heap), (1, 20));
     shrink(&mut heap);
-    assert_eq!(rt; sizes(&heap), (1, 1));
+    same(&rt, sizes(&heap), (1, 1));
     Ok(())
 }
 
@@ -112,10 +113,10 @@ fn an_index_shrinks_to_its_entries(rt: HostRuntime) -> Result<(), Fail> {
 fn a_growth_is_given_back(rt: HostRuntime) -> Result<(), Fail> {
     let mut heap = empty(rt.alloc())?;
     let growth = Index::Unique.prepare(&mut heap, &mut Steps::new())?;
-    assert_eq!(rt; heap.live_count(), 1);
+    same(&rt, heap.live_count(), 1);
     Index::give_back(growth, &mut heap, &mut Steps::new());
-    assert_eq!(rt; heap.live_count(), 0);
-    assert_eq!(rt; sizes(&heap), (0, 0));
+    same(&rt, heap.live_count(), 0);
+    same(&rt, sizes(&heap), (0, 0));
     Ok(())
 }
 
@@ -145,9 +146,9 @@ fn a_kind_is_found_by_its_code(rt: HostRuntime) -> Result<(), Fail> {
     heap.set_word(object, 0, 3);
     Index::Unique.start(&mut heap);
     add_first(&rt, &mut heap, object)?;
-    assert_eq!(rt; find(&rt, &heap, 2), Lookup::Absent(0));
-    assert_eq!(rt; find(&rt, &heap, 3), Lookup::Found(0));
-    assert_eq!(rt; find(&rt, &heap, 4), Lookup::Absent(1));
+    same(&rt, find(&rt, &heap, 2), Lookup::Absent(0));
+    same(&rt, find(&rt, &heap, 3), Lookup::Found(0));
+    same(&rt, find(&rt, &heap, 4), Lookup::Absent(1));
     Ok(())
 }
 
@@ -155,9 +156,10 @@ fn a_kind_is_found_by_its_code(rt: HostRuntime) -> Result<(), Fail> {
 fn nothing_is_found_without_entries(rt: HostRuntime) -> Result<(), Fail> {
     let mut heap = Heap::fresh(Window::new(RawRegion::new(rt.alloc(), 1024)?, 0, 1024));
     Index::Named.start(&mut heap);
-    assert_eq!(rt;
+    same(
+        &rt,
         Index::Named.lookup(&heap, Key::Name(b"name"), &mut Steps::new()),
-        Lookup::Absent(0)
+        Lookup::Absent(0),
     );
     Ok(())
 }

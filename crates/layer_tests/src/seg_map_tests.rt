@@ -2,6 +2,7 @@
 ghost use Rattle.std.specs.Result.{IfOk};
 ghost use Rattle.seg_map.specs.Places.{IsSomeMap};
 
+use crate::checks::{holds, same};
 use crate::ticket::Ticket;
 use best_fit::{Heap, NoSpace};
 use block_tags::Role;
@@ -79,18 +80,18 @@ fn sizes<K: Plain, V: Plain>(heap: &Heap, map: SegMap<K, V>) -> (u64, u64)
 fn tickets_lead_to_tickets(rt: HostRuntime) -> Result<(), Fail> {
     let (mut heap, map) = begun::<Ticket, Ticket>(rt.alloc())?;
     let (one, two) = (Ticket::plain(1), Ticket::urgent(2));
-    assert_eq!(rt; put(&mut heap, map, one, Ticket::plain(10))?, true);
-    assert_eq!(rt; put(&mut heap, map, two, Ticket::plain(20))?, true);
-    assert_eq!(rt; put(&mut heap, map, one, Ticket::urgent(40))?, false);
-    assert_eq!(rt; get(&heap, map, one), Some(Ticket::urgent(40)));
+    same(&rt, put(&mut heap, map, one, Ticket::plain(10))?, true);
+    same(&rt, put(&mut heap, map, two, Ticket::plain(20))?, true);
+    same(&rt, put(&mut heap, map, one, Ticket::urgent(40))?, false);
+    same(&rt, get(&heap, map, one), Some(Ticket::urgent(40)));
     let first = first_from(&heap, map, Ticket::urgent(0));
-    assert_eq!(rt; first, Some((two, Ticket::plain(20))));
+    same(&rt, first, Some((two, Ticket::plain(20))));
     let next = next_after(&heap, map, two);
-    assert_eq!(rt; next, Some((one, Ticket::urgent(40))));
-    assert!(rt; erase(&mut heap, map, two));
+    same(&rt, next, Some((one, Ticket::urgent(40))));
+    holds(&rt, erase(&mut heap, map, two));
     // the pair has a block of 48 bytes
-    assert_eq!(rt; sizes(&heap, map), (1, 784));
+    same(&rt, sizes(&heap, map), (1, 784));
     release(&mut heap, map);
-    assert_eq!(rt; sizes(&heap, map), (0, 832));
+    same(&rt, sizes(&heap, map), (0, 832));
     Ok(())
 }

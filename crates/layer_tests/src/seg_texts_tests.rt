@@ -2,6 +2,7 @@
 ghost use Rattle.std.specs.Result.{IfOk};
 ghost use Rattle.seg_vector.specs.TextsCalls.{IsSomeTexts};
 
+use crate::checks::{same, same_at};
 use best_fit::Heap;
 use block_tags::Role;
 use raw_region::{RawRegion, Steps, Window};
@@ -104,7 +105,7 @@ fn sizes(heap: &Heap, texts: SegTexts) -> (u64, u64, u64)
 fn assert_text(rt: &impl Abort, heap: &Heap, texts: SegTexts, index: u64, text: &[u8])
     requires { IsSomeTexts heap.now.bytes texts.place }
 {
-    assert_eq!(rt; texts.get(heap, index), Ok(text), "text {index}");
+    same_at(rt, index, texts.get(heap, index), Ok(text));
 }
 
 #[test]
@@ -115,13 +116,13 @@ fn texts_stand_in_a_vector(rt: HostRuntime) -> Result<(), Fail> {
     insert(&mut heap, texts, 0, b"\0\xff")?;
     insert(&mut heap, texts, 1, b"")?;
     set(&mut heap, texts, 2, b"a text of more than 16 bytes")?;
-    assert_eq!(rt; sizes(&heap, texts), (3, 4, 672));
+    same(&rt, sizes(&heap, texts), (3, 4, 672));
     assert_text(&rt, &heap, texts, 0, b"\0\xff");
     assert_text(&rt, &heap, texts, 1, b"");
     assert_text(&rt, &heap, texts, 2, b"a text of more than 16 bytes");
     erase(&mut heap, texts, 0)?;
     pop(&mut heap, texts)?;
-    assert_eq!(rt; sizes(&heap, texts), (1, 4, 752));
+    same(&rt, sizes(&heap, texts), (1, 4, 752));
     Ok(())
 }
 
@@ -129,15 +130,15 @@ fn texts_stand_in_a_vector(rt: HostRuntime) -> Result<(), Fail> {
 fn texts_give_their_blocks_back(rt: HostRuntime) -> Result<(), Fail> {
     let (mut heap, texts) = begun(rt.alloc())?;
     reserve(&mut heap, texts, 20)?;
-    assert_eq!(rt; sizes(&heap, texts), (0, 20, 496));
+    same(&rt, sizes(&heap, texts), (0, 20, 496));
     push(&mut heap, texts, b"a")?;
     shrink(&mut heap, texts);
-    assert_eq!(rt; sizes(&heap, texts), (1, 1, 768));
+    same(&rt, sizes(&heap, texts), (1, 1, 768));
     clear(&mut heap, texts);
-    assert_eq!(rt; sizes(&heap, texts), (0, 1, 800));
+    same(&rt, sizes(&heap, texts), (0, 1, 800));
     assign(&mut heap, texts, &[b"c".as_slice(), b""])?;
-    assert_eq!(rt; sizes(&heap, texts), (2, 2, 752));
+    same(&rt, sizes(&heap, texts), (2, 2, 752));
     release(&mut heap, texts);
-    assert_eq!(rt; sizes(&heap, texts), (0, 0, 832));
+    same(&rt, sizes(&heap, texts), (0, 0, 832));
     Ok(())
 }

@@ -1,6 +1,7 @@
 //! Values as bytes: those of the five scalar types, and those of a type that a caller gives the trait.
 ghost use Rattle.std.specs.Prelude.{◌≡◌, ◌≤◌, length};
 
+use crate::checks::{holds, same, same_at};
 use crate::ticket::Ticket;
 use seg_types::theorems::{
     scalar_is_number, unordered_are_same, values_spell_one, written_is_read,
@@ -33,20 +34,25 @@ fn check_rising<T: Plain>(rt: &impl Abort, values: &[T]) {
 
 #[test]
 fn truths(rt: HostRuntime) {
-    assert_eq!(rt;
+    same(
+        &rt,
         (bool::SIZE, bool::CODE, bool::kind()),
-        (1, 1, ScalarKind::Bool)
+        (1, 1, ScalarKind::Bool),
     );
     check_spelled(&rt, false, &[0]);
     check_spelled(&rt, true, &[1]);
     check_rising(&rt, &[false, true]);
-    assert_eq!(rt; bool::read(&[2]), None);
-    assert_eq!(rt; bool::read(&[255]), None);
+    same(&rt, bool::read(&[2]), None);
+    same(&rt, bool::read(&[255]), None);
 }
 
 #[test]
 fn bytes(rt: HostRuntime) {
-    assert_eq!(rt; (u8::SIZE, u8::CODE, u8::kind()), (1, 2, ScalarKind::U8));
+    same(
+        &rt,
+        (u8::SIZE, u8::CODE, u8::kind()),
+        (1, 2, ScalarKind::U8),
+    );
     check_spelled(&rt, 0u8, &[0]);
     check_spelled(&rt, 255u8, &[255]);
     check_rising(&rt, &[0u8, 127, 128, 255]);
@@ -54,9 +60,10 @@ fn bytes(rt: HostRuntime) {
 
 #[test]
 fn numbers_of_four_bytes(rt: HostRuntime) {
-    assert_eq!(rt;
+    same(
+        &rt,
         (i32::SIZE, i32::CODE, i32::kind()),
-        (4, 3, ScalarKind::I32)
+        (4, 3, ScalarKind::I32),
     );
     check_spelled(&rt, 0i32, &[0; 4]);
     check_spelled(&rt, -1i32, &[255; 4]);
@@ -68,9 +75,10 @@ fn numbers_of_four_bytes(rt: HostRuntime) {
 
 #[test]
 fn numbers_of_eight_bytes(rt: HostRuntime) {
-    assert_eq!(rt;
+    same(
+        &rt,
         (i64::SIZE, i64::CODE, i64::kind()),
-        (8, 4, ScalarKind::I64)
+        (8, 4, ScalarKind::I64),
     );
     check_spelled(&rt, -2i64, &[254, 255, 255, 255, 255, 255, 255, 255]);
     check_spelled(&rt, 578437695752307201i64, &[1, 2, 3, 4, 5, 6, 7, 8]);
@@ -81,9 +89,10 @@ fn numbers_of_eight_bytes(rt: HostRuntime) {
 
 #[test]
 fn numbers_without_a_sign(rt: HostRuntime) {
-    assert_eq!(rt;
+    same(
+        &rt,
         (u64::SIZE, u64::CODE, u64::kind()),
-        (8, 5, ScalarKind::U64)
+        (8, 5, ScalarKind::U64),
     );
     check_spelled(&rt, 578437695752307201u64, &[1, 2, 3, 4, 5, 6, 7, 8]);
     check_spelled(&rt, u64::MAX, &[255; 8]);
@@ -96,14 +105,18 @@ fn numbers_without_a_sign(rt: HostRuntime) {
 #[test]
 fn laws_are_called(rt: HostRuntime) {
     values_spell_one();
-    assert_eq!(rt; scalar_is_number::<bool>(&[2]), None);
-    assert_eq!(rt; scalar_is_number::<i32>(&[0, 0, 0, 128]), Some(i32::MIN));
-    assert!(rt; !unordered_are_same(1u8, 2u8));
+    same(&rt, scalar_is_number::<bool>(&[2]), None);
+    same(
+        &rt,
+        scalar_is_number::<i32>(&[0, 0, 0, 128]),
+        Some(i32::MIN),
+    );
+    holds(&rt, !unordered_are_same(1u8, 2u8));
 }
 
 #[test]
 fn tickets(rt: HostRuntime) {
-    assert_eq!(rt; (Ticket::SIZE, Ticket::CODE), (3, 200));
+    same(&rt, (Ticket::SIZE, Ticket::CODE), (3, 200));
     check_spelled(&rt, Ticket::urgent(258), &[1, 2, 1]);
     check_spelled(&rt, Ticket::plain(65535), &[0, 255, 255]);
     check_rising(
@@ -115,7 +128,7 @@ fn tickets(rt: HostRuntime) {
             Ticket::plain(1),
         ],
     );
-    assert_eq!(rt; Ticket::read(&[2, 0, 0]), None);
+    same(&rt, Ticket::read(&[2, 0, 0]), None);
 }
 
 /// Whether these bytes are a name, which then holds them.
@@ -128,18 +141,18 @@ fn is_held(bytes: &[u8]) -> bool {
 
 #[test]
 fn names(rt: HostRuntime) {
-    assert_eq!(rt; LONGEST_NAME, 255);
+    same(&rt, LONGEST_NAME, 255);
     let long = [b'~'; LONGEST_NAME + 1];
-    assert!(rt; is_held(b"a"));
-    assert!(rt; is_held(b" with blanks, and \"quotes\""));
-    assert!(rt; is_held("\u{e4}\u{20ac}\u{1f600}".as_bytes()));
-    assert!(rt; is_held(&long[..LONGEST_NAME]));
-    assert!(rt; Name::new(&long).is_none());
-    assert!(rt; Name::new(b"").is_none());
-    assert!(rt; Name::new(b"line\n").is_none());
-    assert!(rt; Name::new(&[0x7F]).is_none());
-    assert!(rt; Name::new(b"\xFF").is_none());
-    assert!(rt; Name::new(b"\xC2\x85").is_none());
+    holds(&rt, is_held(b"a"));
+    holds(&rt, is_held(b" with blanks, and \"quotes\""));
+    holds(&rt, is_held("\u{e4}\u{20ac}\u{1f600}".as_bytes()));
+    holds(&rt, is_held(&long[..LONGEST_NAME]));
+    holds(&rt, Name::new(&long).is_none());
+    holds(&rt, Name::new(b"").is_none());
+    holds(&rt, Name::new(b"line\n").is_none());
+    holds(&rt, Name::new(&[0x7F]).is_none());
+    holds(&rt, Name::new(b"\xFF").is_none());
+    holds(&rt, Name::new(b"\xC2\x85").is_none());
 }
 
 #[test]
@@ -160,14 +173,14 @@ fn kinds_have_codes(rt: HostRuntime) {
     ];
     for (code, want) in rows {
         let kind = Kind::from_code(code);
-        assert_eq!(rt; kind, want, "at {code}");
+        same_at(&rt, code, kind, want);
         if let Some(kind) = kind {
-            assert_eq!(rt; kind.code(), code);
+            same(&rt, kind.code(), code);
         }
     }
-    assert!(rt; !Kind::Texts.is_of(1));
-    assert!(rt; Kind::Texts.is_of(2));
-    assert!(rt; Kind::Text.is_of(0));
+    holds(&rt, !Kind::Texts.is_of(1));
+    holds(&rt, Kind::Texts.is_of(2));
+    holds(&rt, Kind::Text.is_of(0));
 }
 
 #[test]
@@ -179,41 +192,42 @@ fn values_of_a_kind(rt: HostRuntime) {
     ];
     for (kind, number, want) in rows {
         let value = ScalarValue::of_number(kind, number);
-        assert_eq!(rt; value, want, "at {number}");
+        same_at(&rt, number, value, want);
         if let Some(value) = value {
-            assert_eq!(rt; value.number(), number);
-            assert_eq!(rt; value.kind(), kind);
+            same(&rt, value.number(), number);
+            same(&rt, value.kind(), kind);
         }
     }
     let mut bytes = [0; 4];
     ScalarValue::I32(-2).write(&mut bytes);
-    assert_eq!(rt; bytes, [0xFE, 0xFF, 0xFF, 0xFF]);
-    assert_eq!(rt;
+    same(&rt, bytes, [0xFE, 0xFF, 0xFF, 0xFF]);
+    same(
+        &rt,
         ScalarValue::read(ScalarKind::I32, &bytes),
-        Some(ScalarValue::I32(-2))
+        Some(ScalarValue::I32(-2)),
     );
-    assert_eq!(rt; ScalarValue::read(ScalarKind::Bool, &[2]), None);
-    assert!(rt; !ScalarKind::Bool.is_spelling(&[2]));
-    assert!(rt; ScalarKind::U8.is_spelling(&[2]));
-    assert!(rt; ScalarKind::I32.precedes(&bytes, &[0, 0, 0, 0]));
-    assert!(rt; !ScalarKind::U64.precedes(&[255; 8], &[0; 8]));
-    assert!(rt; ScalarKind::I64.precedes(&[255; 8], &[0; 8]));
+    same(&rt, ScalarValue::read(ScalarKind::Bool, &[2]), None);
+    holds(&rt, !ScalarKind::Bool.is_spelling(&[2]));
+    holds(&rt, ScalarKind::U8.is_spelling(&[2]));
+    holds(&rt, ScalarKind::I32.precedes(&bytes, &[0, 0, 0, 0]));
+    holds(&rt, !ScalarKind::U64.precedes(&[255; 8], &[0; 8]));
+    holds(&rt, ScalarKind::I64.precedes(&[255; 8], &[0; 8]));
 }
 
 #[test]
 fn names_of_each_format(rt: HostRuntime) {
-    assert!(rt; is_name(0, b"a ~"));
-    assert!(rt; !is_name(1, "\u{e4}".as_bytes()));
-    assert!(rt; is_name(2, "\u{e4}\u{20ac}\u{1f600}".as_bytes()));
-    assert!(rt; !is_name(2, "a\u{85}".as_bytes()));
-    assert!(rt; !is_name(2, b"a\x7F"));
-    assert!(rt; !is_name(2, b"\xC3"));
-    assert!(rt; !is_name(2, b""));
-    assert!(rt; !is_name(2, "\u{9f}".as_bytes()));
-    assert!(rt; is_name(2, "\u{a0}".as_bytes()));
-    assert!(rt; !is_name(2, b"\x1F"));
-    assert!(rt; is_name(1, &[b'a'; 63]));
-    assert!(rt; !is_name(1, &[b'a'; 64]));
-    assert!(rt; is_name(2, &[b'a'; 255]));
-    assert!(rt; !is_name(2, &[b'a'; 256]));
+    holds(&rt, is_name(0, b"a ~"));
+    holds(&rt, !is_name(1, "\u{e4}".as_bytes()));
+    holds(&rt, is_name(2, "\u{e4}\u{20ac}\u{1f600}".as_bytes()));
+    holds(&rt, !is_name(2, "a\u{85}".as_bytes()));
+    holds(&rt, !is_name(2, b"a\x7F"));
+    holds(&rt, !is_name(2, b"\xC3"));
+    holds(&rt, !is_name(2, b""));
+    holds(&rt, !is_name(2, "\u{9f}".as_bytes()));
+    holds(&rt, is_name(2, "\u{a0}".as_bytes()));
+    holds(&rt, !is_name(2, b"\x1F"));
+    holds(&rt, is_name(1, &[b'a'; 63]));
+    holds(&rt, !is_name(1, &[b'a'; 64]));
+    holds(&rt, is_name(2, &[b'a'; 255]));
+    holds(&rt, !is_name(2, &[b'a'; 256]));
 }

@@ -2,6 +2,7 @@
 ghost use Rattle.std.specs.Result.{IfOk};
 ghost use Rattle.seg_vector.specs.VectorCalls.{IsSomeVector};
 
+use crate::checks::same;
 use crate::ticket::Ticket;
 use best_fit::Heap;
 use block_tags::Role;
@@ -112,11 +113,11 @@ fn tickets_stand_in_a_vector(rt: HostRuntime) -> Result<(), Fail> {
         (1, Ticket::urgent(0)),
         (2, Ticket::urgent(65535)),
     ] {
-        assert_eq!(rt; tickets.get(&heap, i), Ok(ticket));
+        same(&rt, tickets.get(&heap, i), Ok(ticket));
     }
     erase(&mut heap, tickets, 0)?;
-    assert_eq!(rt; pop(&mut heap, tickets), Ok(Ticket::urgent(65535)));
-    assert_eq!(rt; sizes(&heap, tickets), (1, 4));
+    same(&rt, pop(&mut heap, tickets), Ok(Ticket::urgent(65535)));
+    same(&rt, sizes(&heap, tickets), (1, 4));
     Ok(())
 }
 
@@ -125,12 +126,12 @@ fn tickets_give_their_places_back(rt: HostRuntime) -> Result<(), Fail> {
     let (mut heap, tickets) = begun::<Ticket>(rt.alloc())?;
     reserve(&mut heap, tickets, 20)?;
     assign(&mut heap, tickets, &[Ticket::plain(3), Ticket::urgent(4)])?;
-    assert_eq!(rt; sizes(&heap, tickets), (2, 20));
+    same(&rt, sizes(&heap, tickets), (2, 20));
     shrink(&mut heap, tickets);
-    assert_eq!(rt; sizes(&heap, tickets), (2, 2));
+    same(&rt, sizes(&heap, tickets), (2, 2));
     clear(&mut heap, tickets);
-    assert_eq!(rt; sizes(&heap, tickets), (0, 2));
+    same(&rt, sizes(&heap, tickets), (0, 2));
     release(&mut heap, tickets);
-    assert_eq!(rt; heap.live_count(), 1);
+    same(&rt, heap.live_count(), 1);
     Ok(())
 }

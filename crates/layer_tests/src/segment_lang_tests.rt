@@ -1,5 +1,6 @@
 //! The readings of lines and the texts of answers, by example.
 
+use crate::checks::{holds, same, same_at};
 use raw_region::fake::{Last, MemorySink};
 use seg_types::{IndexKey, Key, Kind, Name, NewKey, Refusal, ScalarKind, ScalarValue};
 use segment_lang::{
@@ -49,10 +50,10 @@ fn numbers_are_read_one_after_another(rt: HostRuntime) {
                 ..
             },
         ) => {
-            assert!(rt; values.kind() == ScalarKind::I32);
-            assert!(rt; values.next() == Some(ScalarValue::I32(-1)));
-            assert!(rt; values.next() == Some(ScalarValue::I32(7)));
-            assert!(rt; values.next().is_none());
+            holds(&rt, values.kind() == ScalarKind::I32);
+            holds(&rt, values.next() == Some(ScalarValue::I32(-1)));
+            holds(&rt, values.next() == Some(ScalarValue::I32(7)));
+            holds(&rt, values.next().is_none());
         }
         _ => assert!(rt; false, "another command"),
     }
@@ -71,11 +72,11 @@ fn texts_are_read_one_after_another(rt: HostRuntime) {
             match texts.next() {
                 Some(text) => {
                     let mut name = Text::new();
-                    assert!(rt; text.to_name(&mut name).is_some());
+                    holds(&rt, text.to_name(&mut name).is_some());
                 }
                 None => assert!(rt; false, "no text"),
             }
-            assert!(rt; texts.next().is_none());
+            holds(&rt, texts.next().is_none());
         }
         _ => assert!(rt; false, "another command"),
     }
@@ -86,9 +87,9 @@ fn literals_are_read_one_after_another(rt: HostRuntime) {
     let mut scratch = Text::new();
     match parse_line(b"assign v 5 true", &mut scratch) {
         Reading::Asked(Command::Assign { mut values, .. }) => {
-            assert!(rt; matches!(values.next(), Some(Literal::Whole(5))));
-            assert!(rt; matches!(values.next(), Some(Literal::Truth(true))));
-            assert!(rt; values.next().is_none());
+            holds(&rt, matches!(values.next(), Some(Literal::Whole(5))));
+            holds(&rt, matches!(values.next(), Some(Literal::Truth(true))));
+            holds(&rt, values.next().is_none());
         }
         _ => assert!(rt; false, "another command"),
     }
@@ -97,13 +98,13 @@ fn literals_are_read_one_after_another(rt: HostRuntime) {
 #[test]
 fn words_come_one_after_another(rt: HostRuntime) -> Result<(), Fail> {
     let (word, rest) = next_word(b" ab\t-7 \"true\" true ").ok_or("no word")?;
-    assert!(rt; matches!(&word, Word::Bare(b"ab")));
+    holds(&rt, matches!(&word, Word::Bare(b"ab")));
     let (word, rest) = next_word(rest).ok_or("no number")?;
-    assert!(rt; matches!(literal_of(word), Some(Literal::Whole(-7))));
+    holds(&rt, matches!(literal_of(word), Some(Literal::Whole(-7))));
     let (word, rest) = next_word(rest).ok_or("no text")?;
-    assert!(rt; matches!(literal_of(word), Some(Literal::Quoted(_))));
+    holds(&rt, matches!(literal_of(word), Some(Literal::Quoted(_))));
     let word = only_word(rest).ok_or("no last word")?;
-    assert!(rt; matches!(literal_of(word), Some(Literal::Truth(true))));
+    holds(&rt, matches!(literal_of(word), Some(Literal::Truth(true))));
     Ok(())
 }
 
@@ -114,8 +115,8 @@ fn a_text_has_bytes(rt: HostRuntime) -> Result<(), Fail> {
     };
     let mut scratch = Text::new();
     scratch.push(b'x');
-    assert!(rt; scratch.len() == 1 && !scratch.is_empty());
-    assert_eq!(rt; text.bytes(&mut scratch), b"c \"\\\n\xc3".as_slice());
+    holds(&rt, scratch.len() == 1 && !scratch.is_empty());
+    same(&rt, text.bytes(&mut scratch), b"c \"\\\n\xc3".as_slice());
     Ok(())
 }
 
@@ -133,19 +134,19 @@ fn shows(line: &[u8], name: &[u8], scratch: &mut Text) -> bool {
 #[test]
 fn a_name_is_lent_or_decoded(rt: HostRuntime) {
     let mut scratch = Text::new();
-    assert!(rt; shows(b"show \"\\\"a\\x41\"", b"\"aA", &mut scratch));
-    assert!(rt; shows(b"show \"\\\\\"", b"\\", &mut scratch));
-    assert!(rt; shows(b"show \"a b\"", b"a b", &mut scratch));
-    assert!(rt; shows(b"show a_1.", b"a_1.", &mut scratch));
+    holds(&rt, shows(b"show \"\\\"a\\x41\"", b"\"aA", &mut scratch));
+    holds(&rt, shows(b"show \"\\\\\"", b"\\", &mut scratch));
+    holds(&rt, shows(b"show \"a b\"", b"a b", &mut scratch));
+    holds(&rt, shows(b"show a_1.", b"a_1.", &mut scratch));
 }
 
 #[test]
 fn names_may_be_copied(rt: HostRuntime) -> Result<(), Fail> {
     let name = Name::new(b"a").ok_or("no name")?;
     let entry = IndexKey::Name(name);
-    assert!(rt; entry.into_key() == Key::Name(name));
-    assert!(rt; entry.into_new_key() == NewKey::Name(name));
-    assert!(rt; entry != IndexKey::Unique(Kind::Text));
+    holds(&rt, entry.into_key() == Key::Name(name));
+    holds(&rt, entry.into_new_key() == NewKey::Name(name));
+    holds(&rt, entry != IndexKey::Unique(Kind::Text));
     Ok(())
 }
 
@@ -158,7 +159,7 @@ fn numbers_have_one_spelling(rt: HostRuntime) {
         (b"", None),
         (b"01", None),
     ] {
-        assert_eq!(rt; number_of(word), want, "at {word:?}");
+        same_at(&rt, word, number_of(word), want);
     }
     for (word, want) in [
         (
@@ -169,7 +170,7 @@ fn numbers_have_one_spelling(rt: HostRuntime) {
         (b"-0", None),
         (b"18446744073709551615", Some(18446744073709551615)),
     ] {
-        assert_eq!(rt; whole_of(word), want, "at {word:?}");
+        same_at(&rt, word, whole_of(word), want);
     }
 }
 
@@ -198,7 +199,7 @@ fn answers_are_printed(rt: HostRuntime) -> Result<(), Fail> {
     put_pieces(&mut out, &pieces)?;
     let want =
         b"map<bool,u64> -9223372036854775808true255-118446744073709551615false\nerror 9 no space #18446744073709551615\"a\\\"\\\\ \\x0a\\xc3\"a_1.\"1 a\"vec<i32>error 2 line too long";
-    assert_eq!(rt; out.taken(), want.as_slice());
+    same(&rt, out.taken(), want.as_slice());
     Ok(())
 }
 
@@ -209,10 +210,13 @@ fn a_writer_that_fails_took_the_front(rt: HostRuntime) -> Result<(), Fail> {
     put_value(&mut out, ScalarValue::I64(-1))?;
     put_name(&mut out, b"_")?;
     put_kind(&mut out, Kind::Text)?;
-    assert!(rt; put_text(&mut out, b"\x00\x01").is_err());
-    assert_eq!(rt; out.taken(), b"10-1_string\"\\x0".as_slice());
+    holds(&rt, put_text(&mut out, b"\x00\x01").is_err());
+    same(&rt, out.taken(), b"10-1_string\"\\x0".as_slice());
     let mut out = MemorySink::new(rt.alloc(), 3, 9, Last::Ends)?;
-    assert!(rt; put_line_error(&mut out, LineError::UnknownCommand).is_err());
-    assert_eq!(rt; out.taken(), b"err".as_slice());
+    holds(
+        &rt,
+        put_line_error(&mut out, LineError::UnknownCommand).is_err(),
+    );
+    same(&rt, out.taken(), b"err".as_slice());
     Ok(())
 }

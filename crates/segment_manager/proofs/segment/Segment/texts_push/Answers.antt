@@ -13,6 +13,23 @@ use Rattle.segment_manager.proofs.TextListCalls.{text-pushed}
 use Rattle.segment_manager.proofs.TextMoves.{StepsKeeping, kept-refused, kept-segment, kept-step}
 use Rattle.segment_manager.proofs.TextsHeld.{some-texts}
 use Rattle.segment_manager.proofs.segment.Segment.texts_push.Goals as goal
+use Rattle.segment_manager.proofs.segment.Segment.texts_push.Goals.{After-push}
+use Rattle.segment_manager.proofs.segment.Segment.texts_push.Given.{Over}
+
+-- what the call does, in each goal behind it
+done : (g : Over) (c : After-push g) → StepsKeeping (record { cut = c.self.inside.heap; mode = c.self.inside.mode })
+    c.push.new.heap (g.O.Target.key c.args.key.now) (Push (g.O.Target.key c.args.key.now) (Quoted c.args.text.now))
+    c.push.result
+done g c =
+    let s : State = record { cut = c.self.inside.heap; mode = c.self.inside.mode } in
+    let key : Key = g.O.Target.key c.args.key.now in
+    let writing : is_read_only s.mode ≡ false =
+    ap (λ (t : State). is_read_only t.mode) c.self.view_is ∙ sym c.is_read_only.ensures ∙ c.if-is_read_only.false in
+    let found : Answers s (λ d. container_at d key Texts) (Ok c.in-Ok.place) =
+    subst (λ (t : State). Answers t (λ d. container_at d key Texts) (Ok c.in-Ok.place)) (sym c.self.view_is)
+    c.in-Ok.ensures in
+    text-pushed s key c.in-Ok.place c.self.invariant found c.push.new.heap writing c.args.text.now c.push.result
+    (fits-bytes c.args.text.now (λ k. omega (arith, c.type_inv.text k))) c.push.ensures.pushed
 
 pub returns-then-is_read_only-clause-step : goal.returns-then-is_read_only-clause-step
 returns-then-is_read_only-clause-step g c =
@@ -28,13 +45,7 @@ push-requires g c =
 
 pub invariant_of-self : goal.invariant_of-self
 invariant_of-self g c =
-    let s : State = record { cut = c.self.inside.heap; mode = c.self.inside.mode } in
-    let key : Key = g.O.Target.key c.args.key.now in
-    let writing : is_read_only s.mode ≡ false = ap (λ (t : State). is_read_only t.mode) c.self.view_is ∙ sym c.is_read_only.ensures ∙ c.if-is_read_only.false in
-    let found : Answers s (λ d. container_at d key Texts) (Ok c.in-Ok.place) = subst (λ (t : State). Answers t (λ d. container_at d key Texts) (Ok c.in-Ok.place)) (sym c.self.view_is) c.in-Ok.ensures in
-    let done : StepsKeeping s c.push.new.heap key (Push key (Quoted c.args.text.now)) c.push.result =
-    text-pushed s key c.in-Ok.place c.self.invariant found c.push.new.heap writing c.args.text.now c.push.result (fits-bytes c.args.text.now (λ k. omega (arith, c.type_inv.text k))) c.push.ensures.pushed in
-    kept-segment s c.args.self.now c.self.view_is c.push.new.heap key (Push key (Quoted c.args.text.now)) c.push.result done c.self.invariant
+    kept-segment _ _ c.self.view_is _ _ _ _ (done g (goal.at.invariant_of-self g c).After-push) c.self.invariant
 
 pub returns-in-Err-clause-step : goal.returns-in-Err-clause-step
 returns-in-Err-clause-step g c =
@@ -44,20 +55,8 @@ returns-in-Err-clause-step g c =
 
 pub returns-in-Ok-clause-step : goal.returns-in-Ok-clause-step
 returns-in-Ok-clause-step g c =
-    let s : State = record { cut = c.self.inside.heap; mode = c.self.inside.mode } in
-    let key : Key = g.O.Target.key c.args.key.now in
-    let writing : is_read_only s.mode ≡ false = ap (λ (t : State). is_read_only t.mode) c.self.view_is ∙ sym c.is_read_only.ensures ∙ c.if-is_read_only.false in
-    let found : Answers s (λ d. container_at d key Texts) (Ok c.in-Ok.place) = subst (λ (t : State). Answers t (λ d. container_at d key Texts) (Ok c.in-Ok.place)) (sym c.self.view_is) c.in-Ok.ensures in
-    let done : StepsKeeping s c.push.new.heap key (Push key (Quoted c.args.text.now)) c.push.result =
-    text-pushed s key c.in-Ok.place c.self.invariant found c.push.new.heap writing c.args.text.now c.push.result (fits-bytes c.args.text.now (λ k. omega (arith, c.type_inv.text k))) c.push.ensures.pushed in
-    kept-step s c.args.self.now c.self.view_is c.push.new.heap key (Push key (Quoted c.args.text.now)) c.push.result done
+    kept-step _ _ c.self.view_is _ _ _ _ (done g (goal.at.returns-in-Ok-clause-step g c).After-push)
 
 pub returns-in-Ok-clause-refused : goal.returns-in-Ok-clause-refused
 returns-in-Ok-clause-refused g c =
-    let s : State = record { cut = c.self.inside.heap; mode = c.self.inside.mode } in
-    let key : Key = g.O.Target.key c.args.key.now in
-    let writing : is_read_only s.mode ≡ false = ap (λ (t : State). is_read_only t.mode) c.self.view_is ∙ sym c.is_read_only.ensures ∙ c.if-is_read_only.false in
-    let found : Answers s (λ d. container_at d key Texts) (Ok c.in-Ok.place) = subst (λ (t : State). Answers t (λ d. container_at d key Texts) (Ok c.in-Ok.place)) (sym c.self.view_is) c.in-Ok.ensures in
-    let done : StepsKeeping s c.push.new.heap key (Push key (Quoted c.args.text.now)) c.push.result =
-    text-pushed s key c.in-Ok.place c.self.invariant found c.push.new.heap writing c.args.text.now c.push.result (fits-bytes c.args.text.now (λ k. omega (arith, c.type_inv.text k))) c.push.ensures.pushed in
-    kept-refused s c.args.self.now c.self.view_is c.push.new.heap key (Push key (Quoted c.args.text.now)) c.push.result done
+    kept-refused _ _ c.self.view_is _ _ _ _ (done g (goal.at.returns-in-Ok-clause-refused g c).After-push)

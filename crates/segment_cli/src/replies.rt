@@ -50,6 +50,7 @@ pub enum Answer<'a> {
 
 /// Executes a command that reads no element and takes none out, and answers it. A text that the line escapes is decoded into
 /// `scratch`.
+#[inline(never)]
 pub fn reply<'a>(segment: &mut Segment, command: Command<'a>, scratch: &mut Text) -> Answer<'a>
     requires meant { IsMeant (command_of command) }
     requires short { has_element (command_of command) ≡ false }

@@ -9,7 +9,7 @@ use crate::printing::put_answer;
 use crate::replies::reply;
 use crate::showing::put_got;
 use raw_region::{DeviceFault, Sink};
-use segment_lang::{Command, Piece, Reading, parse_line, put_pieces};
+use segment_lang::{Command, Piece, Reading, parse_line, put_number_line, put_pieces};
 use segment_manager::Segment;
 
 impl Machine for Segment {
@@ -30,6 +30,8 @@ impl Machine for Segment {
             Reading::Asked(command) => match command {
                 Command::Get { key, index } => put_got(self, &key, index, out),
                 Command::Pop(key) => pop(self, &key, out),
+                Command::Size => put_number_line(out, b"", self.size()),
+                Command::Free => put_number_line(out, b"", self.free()),
                 _ => {
                     let answer = reply(self, command, &mut scratch.text);
                     put_answer(self, answer, out)

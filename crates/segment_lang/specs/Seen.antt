@@ -1,11 +1,13 @@
 -- What the types of the code stand for.
-use Rattle.std.specs.Prelude.{ℕ, List, Option, option_map, map, find, replicate}
+use Rattle.std.specs.Prelude.{ℕ, List, Option, option_and_then, option_map, map, find, replicate}
+use Rattle.raw_region.specs.Format.{current}
 use Rattle.seg_types.specs.Commands as asked
 use Rattle.seg_types.specs.Keys.{index_key_seen, key_seen, new_key_seen}
 use Rattle.seg_types.specs.Values.{kind_of_scalar, value_of_scalar}
 use Rattle.segment_lang.specs.Words as said
-use Rattle.segment_lang.specs.Words.{is}
-use Rattle.segment_lang.specs.Reading.{Reader, making, making_each, finding, with_key, with_key_number, with_key_literal, with_key_number_literal, with_number, alone, appending, assigning, destroying_ptr, putting, new_key, key_of, name_key}
+use Rattle.segment_lang.specs.Words.{is, words}
+use Rattle.segment_lang.specs.Language.{whole}
+use Rattle.segment_lang.specs.Reading.{Reader, making, making_each, finding, with_key, with_key_number, with_key_literal, with_key_number_literal, with_number, alone, appending, as_reading, assigning, destroying_ptr, putting, new_key, key_of, name_key}
 use Rattle.segment_lang.specs.declared.words.Word.{Word}
 use Rattle.segment_lang.specs.declared.words.Word.TheVariants.{Bare, Text}
 use Rattle.segment_lang.specs.declared.literals.Literal.{Literal}
@@ -14,6 +16,8 @@ use Rattle.segment_lang.specs.declared.commands.Content.{Content}
 use Rattle.segment_lang.specs.declared.commands.Content.TheVariants.{Scalars, Elements, Text as TextContent, Texts as TextsContent, NoPairs}
 use Rattle.segment_lang.specs.declared.commands.Command.{Command}
 use Rattle.segment_lang.specs.declared.commands.Command.TheVariants.{Construct, ConstructIt, Find, FindOrConstruct, Destroy, DestroyPtr, Show, Info, Get, Set, Push, Pop, Insert, Erase, Reserve, Shrink, Clear, Assign, Append, Put, Lookup, Remove, ListNames, ListKinds, Blocks, Size, Free, NumNamed, NumUnique, ReserveNamed, ReserveUnique, ShrinkIndexes, ZeroFree, Sanity, AllDeallocated}
+use Rattle.segment_lang.specs.declared.commands.Lead.{Lead}
+use Rattle.segment_lang.specs.declared.commands.Lead.TheVariants as lead
 use Rattle.segment_lang.specs.declared.commands.Reading.{Reading}
 use Rattle.segment_lang.specs.declared.commands.Reading.TheVariants.{Nothing, Asked, Wrong}
 use Rattle.seg_types.specs.declared.refusals.LineError.{LineError}
@@ -136,6 +140,15 @@ reader_of form.ShrinkIndexes = alone asked.ShrinkIndexes
 reader_of form.ZeroFree = alone asked.ZeroFree
 reader_of form.Sanity = alone asked.Sanity
 reader_of form.AllDeallocated = alone asked.AllDeallocated
+
+-- what a command word of a form asks for, with what stands behind it
+abbrev pub reading_by : CommandForm → List ℕ → asked.Reading
+reading_by form rest = as_reading (option_and_then (reader_of form (whole current)) (words rest))
+
+abbrev pub reading_led : Lead → asked.Reading
+reading_led lead.Nothing = asked.Nothing
+reading_led (lead.Form form rest) = reading_by form rest.now
+reading_led (lead.Wrong e) = wrong_reading e
 
 -- a word, and what it is the word of
 abbrev pub Row : Type 0 → Type 0

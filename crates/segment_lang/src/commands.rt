@@ -1,5 +1,6 @@
 //! What a line asks for. The types hold what they say in place or in the line, and take no memory.
 
+use crate::forms::CommandForm;
 use crate::lists::{Literals, Texts};
 use crate::literals::Literal;
 use crate::values::Values;
@@ -187,6 +188,17 @@ pub enum Command<'a> {
     Sanity,
     /// Print whether no block is in use.
     AllDeallocated,
+}
+
+/// How a line begins.
+#[derive(Drop)]
+pub enum Lead<'a> {
+    /// With nothing: it is a comment or has blanks only, and has no answer.
+    Nothing,
+    /// With a command word of a form. What stands behind the word is to be read.
+    Form(CommandForm, &'a [u8]),
+    /// With no command word, or it is too long.
+    Wrong(LineError),
 }
 
 /// What a line means.

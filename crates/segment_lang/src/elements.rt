@@ -12,6 +12,7 @@ use crate::keys::key_of;
 use crate::lists::read_literals;
 use crate::literals::{literal_of, quoted_of};
 use crate::numbers::number;
+use crate::readers::{key_and_literal, key_and_number};
 use crate::words::{next_word, only_word, three_words, two_words};
 
 /// A key and a value, of a new last element.
@@ -19,9 +20,7 @@ use crate::words::{next_word, only_word, three_words, two_words};
 pub fn read_push<'a>(bytes: &'a [u8], scratch: &'a mut Text) -> Option<Command<'a>>
     ensures { option_map command_of result ≡ of_two (with_key_literal asked.Push) bytes.now }
 {
-    let (key, value) = two_words(bytes)?;
-    let key = key_of(key, scratch)?;
-    let value = literal_of(value)?;
+    let (key, value) = key_and_literal(bytes, scratch)?;
     Some(Command::Push { key, value })
 }
 
@@ -51,9 +50,7 @@ pub fn read_insert<'a>(bytes: &'a [u8], scratch: &'a mut Text) -> Option<Command
 pub fn read_erase<'a>(bytes: &'a [u8], scratch: &'a mut Text) -> Option<Command<'a>>
     ensures { option_map command_of result ≡ of_two (with_key_number asked.Erase) bytes.now }
 {
-    let (key, index) = two_words(bytes)?;
-    let key = key_of(key, scratch)?;
-    let index = number(index)?;
+    let (key, index) = key_and_number(bytes, scratch)?;
     Some(Command::Erase { key, index })
 }
 
@@ -62,9 +59,7 @@ pub fn read_erase<'a>(bytes: &'a [u8], scratch: &'a mut Text) -> Option<Command<
 pub fn read_reserve<'a>(bytes: &'a [u8], scratch: &'a mut Text) -> Option<Command<'a>>
     ensures { option_map command_of result ≡ of_two (with_key_number asked.Reserve) bytes.now }
 {
-    let (key, count) = two_words(bytes)?;
-    let key = key_of(key, scratch)?;
-    let count = number(count)?;
+    let (key, count) = key_and_number(bytes, scratch)?;
     Some(Command::Reserve { key, count })
 }
 

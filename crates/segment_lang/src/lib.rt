@@ -33,13 +33,15 @@ mod texts;
 mod theorems;
 
 pub use buffer::Text;
-pub use commands::{Command, Content, Reading};
+pub use commands::{Command, Content, Lead, Reading};
 pub use errors::{put_line_error, put_refusal};
-pub use line::{LONGEST_LINE, parse_line};
+pub use forms::{CommandForm, read_command};
+pub use line::{LONGEST_LINE, lead_of, parse_line};
 pub use lists::{Literals, Texts};
 pub use literals::{Literal, literal_of};
 pub use numbers::{number_of, whole_of};
 pub use pieces::{Piece, put_pieces};
+pub use readers::{is_alone, key_and_literal, key_and_number};
 pub use seg_types::LineError;
 pub use texts::{
     put_kind, put_line, put_name, put_number, put_number_line, put_text, put_value, put_value_line,

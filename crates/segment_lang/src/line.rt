@@ -4,11 +4,11 @@ ghost use Rattle.std.specs.Prelude.{◌≡◌, ◌==◌, slice_index};
 ghost use Rattle.raw_region.specs.Format.{current};
 ghost use Rattle.segment_lang.specs.Language.{whole};
 ghost use Rattle.segment_lang.specs.Reading.{command_line, reading, without_return};
-ghost use Rattle.segment_lang.specs.Seen.{reading_of};
+ghost use Rattle.segment_lang.specs.Seen.{reading_led, reading_of};
 
 use crate::blanks::{skip_blanks, split_word};
 use crate::buffer::Text;
-use crate::commands::Reading;
+use crate::commands::{Lead, Reading};
 use crate::forms::{form_of, read_command};
 use seg_types::LineError;
 
@@ -35,36 +35,49 @@ fn is_comment(line: &[u8]) -> bool
     }
 }
 
-/// What a line means that has no blank in front, is not too long and is no comment. The first word
+/// How a line begins that has no blank in front, is not too long and is no comment. The first word
 /// decides which form the others must have.
-fn read_words<'a>(line: &'a [u8], scratch: &'a mut Text) -> Reading<'a>
-    ensures { reading_of result ≡ command_line (whole current) line.now }
+fn lead_of_words(line: &[u8]) -> Lead<'_>
+    ensures { reading_led result ≡ command_line (whole current) line.now }
 {
     if line.is_empty() {
-        return Reading::Nothing;
+        return Lead::Nothing;
     }
     let (word, rest) = split_word(line);
-    let Some(form) = form_of(word) else {
-        return Reading::Wrong(LineError::UnknownCommand);
-    };
-    match read_command(form, rest, scratch) {
-        Some(command) => Reading::Asked(command),
-        None => Reading::Wrong(LineError::BadSyntax),
+    match form_of(word) {
+        Some(form) => Lead::Form(form, rest),
+        None => Lead::Wrong(LineError::UnknownCommand),
     }
 }
 
-/// What a line means. It comes without its end, a line feed; one carriage return at its end is
-/// dropped. A name that is spelled with escapes is decoded into `scratch`, whatever it held; all else is lent from the line.
+/// How a line begins. It comes without its end, a line feed; one carriage return at its end is
+/// dropped.
 #[tactic(auto, unfolding(crate::specs::Reading::reading))]
-pub fn parse_line<'a>(line: &'a [u8], scratch: &'a mut Text) -> Reading<'a>
-    ensures { reading_of result ≡ reading (whole current) line.now }
+#[inline(never)]
+pub fn lead_of(line: &[u8]) -> Lead<'_>
+    ensures { reading_led result ≡ reading (whole current) line.now }
 {
     let line = without_return(line);
     if line.len() > LONGEST_LINE {
-        return Reading::Wrong(LineError::LineTooLong);
+        return Lead::Wrong(LineError::LineTooLong);
     }
     if is_comment(line) {
-        return Reading::Nothing;
+        return Lead::Nothing;
     }
-    read_words(skip_blanks(line), scratch)
+    lead_of_words(skip_blanks(line))
+}
+
+/// What a line means. A name that is spelled with escapes is decoded into `scratch`, whatever it held; all else is lent from the
+/// line.
+pub fn parse_line<'a>(line: &'a [u8], scratch: &'a mut Text) -> Reading<'a>
+    ensures { reading_of result ≡ reading (whole current) line.now }
+{
+    match lead_of(line) {
+        Lead::Nothing => Reading::Nothing,
+        Lead::Form(form, rest) => match read_command(form, rest, scratch) {
+            Some(command) => Reading::Asked(command),
+            None => Reading::Wrong(LineError::BadSyntax),
+        },
+        Lead::Wrong(error) => Reading::Wrong(error),
+    }
 }

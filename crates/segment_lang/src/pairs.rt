@@ -10,7 +10,8 @@ use crate::buffer::Text;
 use crate::commands::Command;
 use crate::keys::key_of;
 use crate::literals::literal_of;
-use crate::words::{three_words, two_words};
+use crate::readers::key_and_literal;
+use crate::words::three_words;
 
 /// A key and two values, of a pair that is put in.
 #[inline(never)]
@@ -29,9 +30,7 @@ pub fn read_put<'a>(bytes: &'a [u8], scratch: &'a mut Text) -> Option<Command<'a
 pub fn read_lookup<'a>(bytes: &'a [u8], scratch: &'a mut Text) -> Option<Command<'a>>
     ensures { option_map command_of result ≡ of_two (with_key_literal asked.Lookup) bytes.now }
 {
-    let (key, at) = two_words(bytes)?;
-    let key = key_of(key, scratch)?;
-    let at = literal_of(at)?;
+    let (key, at) = key_and_literal(bytes, scratch)?;
     Some(Command::Lookup { key, at })
 }
 
@@ -40,8 +39,6 @@ pub fn read_lookup<'a>(bytes: &'a [u8], scratch: &'a mut Text) -> Option<Command
 pub fn read_remove<'a>(bytes: &'a [u8], scratch: &'a mut Text) -> Option<Command<'a>>
     ensures { option_map command_of result ≡ of_two (with_key_literal asked.Remove) bytes.now }
 {
-    let (key, at) = two_words(bytes)?;
-    let key = key_of(key, scratch)?;
-    let at = literal_of(at)?;
+    let (key, at) = key_and_literal(bytes, scratch)?;
     Some(Command::Remove { key, at })
 }

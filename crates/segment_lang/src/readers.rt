@@ -1,11 +1,13 @@
 //! Commands by the form of what stands behind their word.
 
-ghost use Rattle.std.specs.Prelude.{◌≡◌, Some, None, option_and_then, option_map, if◌then◌else◌};
+ghost use Rattle.std.specs.Prelude.{◌≡◌, ℕ, Some, None, option_and_then, option_map, if◌then◌else◌};
 ghost use Rattle.seg_types.specs.Commands as asked;
-ghost use Rattle.segment_lang.specs.Reading.{finding, key_of, name_key, new_key, with_key, with_key_number, with_key_number_literal, with_number};
+ghost use Rattle.seg_types.specs.Keys.{key_seen};
+ghost use Rattle.seg_types.specs.Names.{Key as AskedKey};
+ghost use Rattle.segment_lang.specs.Reading.{finding, key_of, name_key, new_key, with_key, with_key_literal, with_key_number, with_key_number_literal, with_number};
 ghost use Rattle.segment_lang.specs.Tokens.{at_end, only_word};
 ghost use Rattle.segment_lang.specs.Arguments.{handle_of, making_at, making_each_at, of_one, of_three, of_two};
-ghost use Rattle.segment_lang.specs.Seen.{command_of};
+ghost use Rattle.segment_lang.specs.Seen.{command_of, literal_of};
 
 use crate::blanks::at_end;
 use crate::buffer::Text;
@@ -13,11 +15,11 @@ use crate::commands::Command;
 use crate::contents::read_content;
 use crate::keys::{handle_of, index_key, index_key_for, key_of, new_key_for};
 use crate::kinds::{counted_kind, kind_of_word};
-use crate::literals::literal_of;
+use crate::literals::{Literal, literal_of};
 use crate::numbers::number;
 use crate::values::read_values;
 use crate::words::{next_two, only_word, three_words, two_words};
-use seg_types::Kind;
+use seg_types::{Key, Kind};
 
 /// A kind with a count, a key and one value.
 #[tactic(auto, unfolding(crate::specs::Arguments::making_at))]
@@ -108,14 +110,34 @@ pub fn read_info<'a>(bytes: &'a [u8], scratch: &'a mut Text) -> Option<Command<'
     Some(Command::Info(key_of(word, scratch)?))
 }
 
+/// A key and a number, whatever they are read for.
+#[inline(never)]
+pub fn key_and_number<'a>(bytes: &'a [u8], scratch: &'a mut Text) -> Option<(Key<'a>, u64)>
+    ensures { (f : AskedKey → ℕ → asked.Command) → option_map (λ x. f (key_seen x.0) x.1) result ≡ of_two (with_key_number f) bytes.now }
+{
+    let (key, number_word) = two_words(bytes)?;
+    let key = key_of(key, scratch)?;
+    let index = number(number_word)?;
+    Some((key, index))
+}
+
+/// A key and a value, whatever they are read for.
+#[inline(never)]
+pub fn key_and_literal<'a>(bytes: &'a [u8], scratch: &'a mut Text) -> Option<(Key<'a>, Literal<'a>)>
+    ensures { (f : AskedKey → asked.Literal → asked.Command) → option_map (λ x. f (key_seen x.0) (literal_of x.1)) result ≡ of_two (with_key_literal f) bytes.now }
+{
+    let (key, value) = two_words(bytes)?;
+    let key = key_of(key, scratch)?;
+    let value = literal_of(value)?;
+    Some((key, value))
+}
+
 /// A key and a number.
 #[inline(never)]
 pub fn read_get<'a>(bytes: &'a [u8], scratch: &'a mut Text) -> Option<Command<'a>>
     ensures { option_map command_of result ≡ of_two (with_key_number asked.Get) bytes.now }
 {
-    let (key, index) = two_words(bytes)?;
-    let key = key_of(key, scratch)?;
-    let index = number(index)?;
+    let (key, index) = key_and_number(bytes, scratch)?;
     Some(Command::Get { key, index })
 }
 
@@ -149,11 +171,18 @@ pub fn read_reserve_unique(bytes: &[u8]) -> Option<Command<'_>>
     Some(Command::ReserveUnique(number(word)?))
 }
 
+/// Whether nothing stands behind a command word.
+pub fn is_alone(bytes: &[u8]) -> bool
+    ensures { result ≡ at_end bytes.now }
+{
+    at_end(bytes)
+}
+
 /// The command, where nothing stands behind its word.
 pub fn read_alone<'a>(command: Command<'a>, bytes: &[u8]) -> Option<Command<'a>>
     ensures { option_map command_of result ≡ (if at_end bytes.now then Some (command_of command.entry) else None) }
 {
-    if !at_end(bytes) {
+    if !is_alone(bytes) {
         return None;
     }
     Some(command)

@@ -1,8 +1,10 @@
 use Rattle.std.proofs.Common.{◌∙◌, ap, refl, subst, sym}
-use Rattle.seg_types.specs.Commands.{Asked, Get, Pop}
+use Rattle.seg_types.specs.Commands.{Asked, Free, Get, Pop, Size}
 use Rattle.seg_types.specs.Keys.{key_seen}
 use Rattle.raw_region.specs.Device.{Writes}
 use Rattle.segment_lang.specs.Seen.{command_of}
+use Rattle.segment_manager.specs.Answers.{Number}
+use Rattle.segment_cli.specs.Answer.{answer_text}
 use Rattle.segment_cli.specs.Run.{error_line}
 use Rattle.segment_cli.specs.Segments.{IsAt, Place, answer_line}
 use Rattle.segment_cli.proofs.Owed.{writes_owed}
@@ -40,6 +42,26 @@ returns-in-Pop-clause-writes g c = record {
       (asked-owed c.args.self.now (Pop (key_seen c.in-Pop.key)) c.args.line.now (ap Asked (sym (ap command_of c.in-Pop.is)) ∙ c.in-Asked.ensures) at h) (c.pop.ensures.writes.writes at.directory h.denotes);
   counted = c.pop.ensures.writes.counted;
 }
+
+pub returns-in-Size-clause-leads : goal.returns-in-Size-clause-leads
+returns-in-Size-clause-leads g c = answered c.args.self.now Size c.args.line.now refl (ap Asked (sym (ap command_of c.in-Size.is)) ∙ c.in-Asked.ensures)
+
+pub returns-in-Size-clause-writes : goal.returns-in-Size-clause-writes
+returns-in-Size-clause-writes g c =
+    writes_owed (g.W.Sink.history c.args.out.now) (g.W.Sink.history c.put_number_line.new.out) c.put_number_line.result (IsAt c.args.self.now)
+    (answer_text (Number c.size.result)) (λ (at : Place). (answer_line at c.args.line.now).0) c.put_number_line.ensures
+    (λ at h. ap answer_text (c.size.ensures.answers at.directory h.denotes)
+    ∙ asked-owed c.args.self.now Size c.args.line.now (ap Asked (sym (ap command_of c.in-Size.is)) ∙ c.in-Asked.ensures) at h)
+
+pub returns-in-Free-clause-leads : goal.returns-in-Free-clause-leads
+returns-in-Free-clause-leads g c = answered c.args.self.now Free c.args.line.now refl (ap Asked (sym (ap command_of c.in-Free.is)) ∙ c.in-Asked.ensures)
+
+pub returns-in-Free-clause-writes : goal.returns-in-Free-clause-writes
+returns-in-Free-clause-writes g c =
+    writes_owed (g.W.Sink.history c.args.out.now) (g.W.Sink.history c.put_number_line-in-Free.new.out) c.put_number_line-in-Free.result (IsAt c.args.self.now)
+    (answer_text (Number c.free.result)) (λ (at : Place). (answer_line at c.args.line.now).0) c.put_number_line-in-Free.ensures
+    (λ at h. ap answer_text (c.free.ensures.answers at.directory h.denotes)
+    ∙ asked-owed c.args.self.now Free c.args.line.now (ap Asked (sym (ap command_of c.in-Free.is)) ∙ c.in-Asked.ensures) at h)
 
 pub returns-in_default-clause-leads : goal.returns-in_default-clause-leads
 returns-in_default-clause-leads g c =

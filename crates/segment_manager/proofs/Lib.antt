@@ -109,3 +109,4 @@ pub mod Laws
 pub mod ElementLaws
 mod Resizes
 mod Renewed
+mod ToChange

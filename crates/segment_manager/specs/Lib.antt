@@ -29,3 +29,4 @@ pub mod MadeTexts
 pub mod Walks
 pub mod Resized
 pub mod Relocating
+pub mod ToChange

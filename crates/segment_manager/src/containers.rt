@@ -1,9 +1,10 @@
 //! The containers of objects: where each stands in its object's block.
-ghost use Rattle.std.specs.Prelude.{◌≡◌};
+ghost use Rattle.std.specs.Prelude.{◌≡◌, MatchResult};
 ghost use Rattle.segment_manager.specs.Contents.{container_at, place_of_kind};
 ghost use Rattle.segment_manager.specs.Directory.{Object};
 ghost use Rattle.segment_manager.specs.Standing.{HasObject, StandsAt};
 ghost use Rattle.segment_manager.specs.State.{Answers};
+ghost use Rattle.segment_manager.specs.ToChange.{IsNotToChange, IsToChange};
 
 use crate::head::read_head;
 use crate::layout::value_at;
@@ -27,6 +28,21 @@ impl Segment {
             None => Err(Refusal::NotFound),
             Some(handle) => container_in(&self.heap, handle, kind),
         }
+    }
+
+    /// The same, where the container is to be changed.
+    ///
+    /// # Errors
+    ///
+    /// `ReadOnly` where the segment is open for reading, and else `NotFound` and `WrongKind` as above.
+    pub(crate) fn find_to_change<O: Target>(&self, key: &O, kind: Kind) -> Result<Place, Refusal>
+        requires { O.stands key.now self.now }
+        ensures { MatchResult result (IsToChange self.now (O.key key.now) kind) (IsNotToChange self.now (O.key key.now) kind) }
+    {
+        if self.is_read_only() {
+            return Err(Refusal::ReadOnly);
+        }
+        self.find_container(key, kind)
     }
 }
 

@@ -40,10 +40,7 @@ impl Segment {
         ensures step { IsStepOfKind self.old self.new (O.key key.now) TextsKind (Set (O.key key.now) index (Quoted text.now)) (done_answer result) }
         ensures refused { OnErr result (self.new ≡ self.old) }
     {
-        if self.is_read_only() {
-            return Err(Refusal::ReadOnly);
-        }
-        match self.find_container(key, Kind::Texts) {
+        match self.find_to_change(key, Kind::Texts) {
             Err(why) => Err(why),
             Ok(place) => SegTexts { place }.set(&mut self.heap, index, text),
         }
@@ -62,10 +59,7 @@ impl Segment {
         ensures step { IsStepOfKind self.old self.new (O.key key.now) TextsKind (Push (O.key key.now) (Quoted text.now)) (done_answer result) }
         ensures refused { KeepsRefused self.old self.new result }
     {
-        if self.is_read_only() {
-            return Err(Refusal::ReadOnly);
-        }
-        match self.find_container(key, Kind::Texts) {
+        match self.find_to_change(key, Kind::Texts) {
             Err(why) => Err(why),
             Ok(place) => SegTexts { place }.push(&mut self.heap, text),
         }
@@ -84,11 +78,8 @@ impl Segment {
         ensures step { IsStepOfKind self.old self.new (O.key key.now) TextsKind (Assign (O.key key.now) (map Quoted (map (λ text. text.now) texts.now))) (done_answer result) }
         ensures refused { KeepsRefused self.old self.new result }
     {
-        if self.is_read_only() {
-            return Err(Refusal::ReadOnly);
-        }
         judge_all(texts);
-        match self.find_container(key, Kind::Texts) {
+        match self.find_to_change(key, Kind::Texts) {
             Err(why) => Err(why),
             Ok(place) => SegTexts { place }.assign(&mut self.heap, texts),
         }
@@ -105,10 +96,7 @@ impl Segment {
         ensures step { LeadsOnOfKind self.old self.new (O.key key.now) TextsKind (Pop (O.key key.now)) (refusal_in result) }
         ensures refused { OnErr result (self.new ≡ self.old) }
     {
-        if self.is_read_only() {
-            return Err(Refusal::ReadOnly);
-        }
-        match self.find_container(key, Kind::Texts) {
+        match self.find_to_change(key, Kind::Texts) {
             Err(why) => Err(why),
             Ok(place) => SegTexts { place }.pop(&mut self.heap),
         }
@@ -132,10 +120,7 @@ impl Segment {
         ensures step { IsStepOfKind self.old self.new (O.key key.now) TextsKind (Insert (O.key key.now) index (Quoted text.now)) (done_answer result) }
         ensures refused { KeepsRefused self.old self.new result }
     {
-        if self.is_read_only() {
-            return Err(Refusal::ReadOnly);
-        }
-        match self.find_container(key, Kind::Texts) {
+        match self.find_to_change(key, Kind::Texts) {
             Err(why) => Err(why),
             Ok(place) => SegTexts { place }.insert(&mut self.heap, index, text),
         }
@@ -153,10 +138,7 @@ impl Segment {
         ensures step { IsStepOfKind self.old self.new (O.key key.now) TextsKind (Erase (O.key key.now) index) (done_answer result) }
         ensures refused { OnErr result (self.new ≡ self.old) }
     {
-        if self.is_read_only() {
-            return Err(Refusal::ReadOnly);
-        }
-        match self.find_container(key, Kind::Texts) {
+        match self.find_to_change(key, Kind::Texts) {
             Err(why) => Err(why),
             Ok(place) => SegTexts { place }.erase(&mut self.heap, index),
         }

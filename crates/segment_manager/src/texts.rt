@@ -39,10 +39,7 @@ impl Segment {
         ensures step { IsStepOfKind self.old self.new (O.key key.now) TextKind (Set (O.key key.now) index (literal_of ByteKind (pos byte))) (done_answer result) }
         ensures refused { OnErr result (self.new ≡ self.old) }
     {
-        if self.is_read_only() {
-            return Err(Refusal::ReadOnly);
-        }
-        match self.find_container(key, Kind::Text) {
+        match self.find_to_change(key, Kind::Text) {
             Err(why) => Err(why),
             Ok(place) => SegString { place }.set(&mut self.heap, index, byte),
         }
@@ -60,10 +57,7 @@ impl Segment {
         ensures step { IsStepOfKind self.old self.new (O.key key.now) TextKind (Append (O.key key.now) bytes.now) (done_answer result) }
         ensures refused { OnErr result (self.new ≡ self.old) }
     {
-        if self.is_read_only() {
-            return Err(Refusal::ReadOnly);
-        }
-        match self.find_container(key, Kind::Text) {
+        match self.find_to_change(key, Kind::Text) {
             Err(why) => Err(why),
             Ok(place) => SegString { place }.append(&mut self.heap, bytes),
         }
@@ -80,10 +74,7 @@ impl Segment {
         ensures step { IsStepOfKind self.old self.new (O.key key.now) TextKind (Assign (O.key key.now) (Quoted bytes.now ∷ [])) (done_answer result) }
         ensures refused { OnErr result (self.new ≡ self.old) }
     {
-        if self.is_read_only() {
-            return Err(Refusal::ReadOnly);
-        }
-        match self.find_container(key, Kind::Text) {
+        match self.find_to_change(key, Kind::Text) {
             Err(why) => Err(why),
             Ok(place) => SegString { place }.assign(&mut self.heap, bytes),
         }

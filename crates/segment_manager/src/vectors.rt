@@ -44,11 +44,8 @@ impl Segment {
         ensures step { IsStepOfKind self.old self.new (O.key key.now) (VectorOf T.kind) (Set (O.key key.now) index (literal_of T.kind (T.whole value))) (done_answer result) }
         ensures refused { OnErr result (self.new ≡ self.old) }
     {
-        if self.is_read_only() {
-            return Err(Refusal::ReadOnly);
-        }
         judge(value);
-        match self.find_container(key, Kind::Vector(T::kind())) {
+        match self.find_to_change(key, Kind::Vector(T::kind())) {
             Err(why) => Err(why),
             Ok(place) => SegVec::<T>::at(place).set(&mut self.heap, index, value),
         }
@@ -66,11 +63,8 @@ impl Segment {
         ensures step { IsStepOfKind self.old self.new (O.key key.now) (VectorOf T.kind) (Push (O.key key.now) (literal_of T.kind (T.whole value))) (done_answer result) }
         ensures refused { OnErr result (self.new ≡ self.old) }
     {
-        if self.is_read_only() {
-            return Err(Refusal::ReadOnly);
-        }
         judge(value);
-        match self.find_container(key, Kind::Vector(T::kind())) {
+        match self.find_to_change(key, Kind::Vector(T::kind())) {
             Err(why) => Err(why),
             Ok(place) => SegVec::<T>::at(place).push(&mut self.heap, value),
         }
@@ -88,11 +82,8 @@ impl Segment {
         ensures step { IsStepOfKind self.old self.new (O.key key.now) (VectorOf T.kind) (Assign (O.key key.now) (map (literal_of T.kind) (map T.whole values.now))) (done_answer result) }
         ensures refused { OnErr result (self.new ≡ self.old) }
     {
-        if self.is_read_only() {
-            return Err(Refusal::ReadOnly);
-        }
         judge_all(values);
-        match self.find_container(key, Kind::Vector(T::kind())) {
+        match self.find_to_change(key, Kind::Vector(T::kind())) {
             Err(why) => Err(why),
             Ok(place) => SegVec::<T>::at(place).assign(&mut self.heap, values),
         }
@@ -109,10 +100,7 @@ impl Segment {
         ensures step { IsStepOfKind self.old self.new (O.key key.now) (VectorOf T.kind) (Pop (O.key key.now)) (answer_of (λ x. Element T.kind (T.whole x)) result) }
         ensures refused { OnErr result (self.new ≡ self.old) }
     {
-        if self.is_read_only() {
-            return Err(Refusal::ReadOnly);
-        }
-        match self.find_container(key, Kind::Vector(T::kind())) {
+        match self.find_to_change(key, Kind::Vector(T::kind())) {
             Err(why) => Err(why),
             Ok(place) => SegVec::<T>::at(place).pop(&mut self.heap),
         }
@@ -136,11 +124,8 @@ impl Segment {
         ensures step { IsStepOfKind self.old self.new (O.key key.now) (VectorOf T.kind) (Insert (O.key key.now) index (literal_of T.kind (T.whole value))) (done_answer result) }
         ensures refused { OnErr result (self.new ≡ self.old) }
     {
-        if self.is_read_only() {
-            return Err(Refusal::ReadOnly);
-        }
         judge(value);
-        match self.find_container(key, Kind::Vector(T::kind())) {
+        match self.find_to_change(key, Kind::Vector(T::kind())) {
             Err(why) => Err(why),
             Ok(place) => SegVec::<T>::at(place).insert(&mut self.heap, index, value),
         }
@@ -158,10 +143,7 @@ impl Segment {
         ensures step { IsStepOfKind self.old self.new (O.key key.now) (VectorOf T.kind) (Erase (O.key key.now) index) (done_answer result) }
         ensures refused { OnErr result (self.new ≡ self.old) }
     {
-        if self.is_read_only() {
-            return Err(Refusal::ReadOnly);
-        }
-        match self.find_container(key, Kind::Vector(T::kind())) {
+        match self.find_to_change(key, Kind::Vector(T::kind())) {
             Err(why) => Err(why),
             Ok(place) => SegVec::<T>::at(place).erase(&mut self.heap, index),
         }

@@ -1,61 +1,40 @@
 -- The bytes are put behind the others of the string that is found.
-use Rattle.std.proofs.Common.{◌≡◌, refl, sym, ap, subst, ◌∙◌, false, Ok, arith}
+use Rattle.std.proofs.Common.{refl, arith}
 use Rattle.seg_types.specs.declared.kinds.Kind.TheVariants.{Text}
-use Rattle.seg_types.specs.Names.{Key}
 use Rattle.seg_types.specs.Commands.{Append}
-use Rattle.segment_manager.specs.Contents.{container_at}
-use Rattle.segment_manager.specs.State.{Answers, State}
-use Rattle.segment_manager.specs.Step.{is_read_only}
-use Rattle.segment_manager.proofs.Refilled.{finds-no_container}
 use Rattle.segment_manager.proofs.Safely.{StepsSafely, safe-refused, safe-segment, safe-step}
-use Rattle.segment_manager.proofs.Steps.{open-writing, refuses_of_kind-read_only}
 use Rattle.segment_manager.proofs.TextAnswers.{fits-bytes, text-appended, some-text}
+use Rattle.segment_manager.proofs.ToChange.{seen-to_change}
 use Rattle.segment_manager.proofs.segment.Segment.string_append.Goals as goal
+use Rattle.segment_manager.proofs.segment.Segment.string_append.Goals.{After-append}
+use Rattle.segment_manager.proofs.segment.Segment.string_append.Given.{Over}
 
-pub returns-then-is_read_only-clause-step : goal.returns-then-is_read_only-clause-step
-returns-then-is_read_only-clause-step g c =
-    let key : Key = g.O.Target.key c.args.key.now in
-    refuses_of_kind-read_only c.args.self.now key Text (Append key c.args.bytes.now) (sym c.is_read_only.ensures ∙ c.if-is_read_only.true) refl
+-- what the call does, in each goal behind it
+done : (g : Over) (c : After-append g) → StepsSafely (record { cut = c.self.inside.heap; mode = c.self.inside.mode })
+    c.append.new.heap (g.O.Target.key c.args.key.now) Text (Append (g.O.Target.key c.args.key.now) c.args.bytes.now)
+    c.append.result
+done g c =
+    let place = seen-to_change _ _ c.self.view_is _ _ _ c.in-Ok.ensures in
+    text-appended _ _ _ c.self.invariant place.at c.append.new.heap place.writing c.args.bytes.now c.append.result
+    (fits-bytes c.args.bytes.now (λ k. omega (arith, c.type_inv.bytes k))) c.append.ensures
 
 pub append-requires : goal.append-requires
 append-requires g c =
-    let s : State = record { cut = c.self.inside.heap; mode = c.self.inside.mode } in
-    let key : Key = g.O.Target.key c.args.key.now in
-    let writing : is_read_only s.mode ≡ false = ap (λ (t : State). is_read_only t.mode) c.self.view_is ∙ sym c.is_read_only.ensures ∙ c.if-is_read_only.false in
-    some-text s key c.in-Ok.place c.self.invariant (subst (λ (t : State). Answers t (λ d. container_at d key Text) (Ok c.in-Ok.place)) (sym c.self.view_is) c.in-Ok.ensures) c.self.inside.heap writing
+    let place = seen-to_change _ _ c.self.view_is _ _ _ c.in-Ok.ensures in
+    some-text _ _ _ c.self.invariant place.at c.self.inside.heap place.writing
 
 pub invariant_of-self : goal.invariant_of-self
 invariant_of-self g c =
-    let s : State = record { cut = c.self.inside.heap; mode = c.self.inside.mode } in
-    let key : Key = g.O.Target.key c.args.key.now in
-    let writing : is_read_only s.mode ≡ false = ap (λ (t : State). is_read_only t.mode) c.self.view_is ∙ sym c.is_read_only.ensures ∙ c.if-is_read_only.false in
-    let found : Answers s (λ d. container_at d key Text) (Ok c.in-Ok.place) = subst (λ (t : State). Answers t (λ d. container_at d key Text) (Ok c.in-Ok.place)) (sym c.self.view_is) c.in-Ok.ensures in
-    let done : StepsSafely s c.append.new.heap key Text (Append key c.args.bytes.now) c.append.result =
-    text-appended s key c.in-Ok.place c.self.invariant found c.append.new.heap writing c.args.bytes.now c.append.result (fits-bytes c.args.bytes.now (λ k. omega (arith, c.type_inv.bytes k))) c.append.ensures in
-    safe-segment s c.args.self.now c.self.view_is c.append.new.heap key Text (Append key c.args.bytes.now) c.append.result done c.self.invariant
+    safe-segment _ _ c.self.view_is _ _ _ _ _ (done g (goal.at.invariant_of-self g c).After-append) c.self.invariant
 
 pub returns-in-Err-clause-step : goal.returns-in-Err-clause-step
 returns-in-Err-clause-step g c =
-    let key : Key = g.O.Target.key c.args.key.now in
-    let writing : is_read_only c.args.self.now.mode ≡ false = sym c.is_read_only.ensures ∙ c.if-is_read_only.false in
-    finds-no_container c.args.self.now key Text (Append key c.args.bytes.now) c.in-Err.why (open-writing c.args.self.now.mode (Append key c.args.bytes.now) writing) c.in-Err.ensures
+    c.in-Err.ensures.refused (Append (g.O.Target.key c.args.key.now) c.args.bytes.now) refl
 
 pub returns-in-Ok-clause-step : goal.returns-in-Ok-clause-step
 returns-in-Ok-clause-step g c =
-    let s : State = record { cut = c.self.inside.heap; mode = c.self.inside.mode } in
-    let key : Key = g.O.Target.key c.args.key.now in
-    let writing : is_read_only s.mode ≡ false = ap (λ (t : State). is_read_only t.mode) c.self.view_is ∙ sym c.is_read_only.ensures ∙ c.if-is_read_only.false in
-    let found : Answers s (λ d. container_at d key Text) (Ok c.in-Ok.place) = subst (λ (t : State). Answers t (λ d. container_at d key Text) (Ok c.in-Ok.place)) (sym c.self.view_is) c.in-Ok.ensures in
-    let done : StepsSafely s c.append.new.heap key Text (Append key c.args.bytes.now) c.append.result =
-    text-appended s key c.in-Ok.place c.self.invariant found c.append.new.heap writing c.args.bytes.now c.append.result (fits-bytes c.args.bytes.now (λ k. omega (arith, c.type_inv.bytes k))) c.append.ensures in
-    safe-step s c.args.self.now c.self.view_is c.append.new.heap key Text (Append key c.args.bytes.now) c.append.result done
+    safe-step _ _ c.self.view_is _ _ _ _ _ (done g (goal.at.returns-in-Ok-clause-step g c).After-append)
 
 pub returns-in-Ok-clause-refused : goal.returns-in-Ok-clause-refused
 returns-in-Ok-clause-refused g c =
-    let s : State = record { cut = c.self.inside.heap; mode = c.self.inside.mode } in
-    let key : Key = g.O.Target.key c.args.key.now in
-    let writing : is_read_only s.mode ≡ false = ap (λ (t : State). is_read_only t.mode) c.self.view_is ∙ sym c.is_read_only.ensures ∙ c.if-is_read_only.false in
-    let found : Answers s (λ d. container_at d key Text) (Ok c.in-Ok.place) = subst (λ (t : State). Answers t (λ d. container_at d key Text) (Ok c.in-Ok.place)) (sym c.self.view_is) c.in-Ok.ensures in
-    let done : StepsSafely s c.append.new.heap key Text (Append key c.args.bytes.now) c.append.result =
-    text-appended s key c.in-Ok.place c.self.invariant found c.append.new.heap writing c.args.bytes.now c.append.result (fits-bytes c.args.bytes.now (λ k. omega (arith, c.type_inv.bytes k))) c.append.ensures in
-    safe-refused s c.args.self.now c.self.view_is c.append.new.heap key Text (Append key c.args.bytes.now) c.append.result done
+    safe-refused _ _ c.self.view_is _ _ _ _ _ (done g (goal.at.returns-in-Ok-clause-refused g c).After-append)

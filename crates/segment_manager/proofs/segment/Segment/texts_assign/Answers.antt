@@ -1,62 +1,41 @@
 -- The texts are those of the vector of strings that is found.
-use Rattle.std.proofs.Common.{◌≡◌, refl, sym, ap, subst, ◌∙◌, false, Ok, map}
-use Rattle.seg_types.specs.declared.kinds.Kind.TheVariants.{Texts}
-use Rattle.seg_types.specs.Names.{Key}
+use Rattle.std.proofs.Common.{refl, map}
 use Rattle.seg_types.specs.Commands.{Assign, Quoted}
-use Rattle.segment_manager.specs.Contents.{container_at}
-use Rattle.segment_manager.specs.State.{Answers, State}
-use Rattle.segment_manager.specs.Step.{is_read_only}
-use Rattle.segment_manager.proofs.Refilled.{finds-no_container}
-use Rattle.segment_manager.proofs.Steps.{open-writing, refuses_of_kind-read_only}
 use Rattle.segment_manager.proofs.TextListCalls.{texts-assigned}
 use Rattle.segment_manager.proofs.TextMoves.{StepsKeeping, kept-refused, kept-segment, kept-step}
 use Rattle.segment_manager.proofs.TextsHeld.{some-texts}
+use Rattle.segment_manager.proofs.ToChange.{seen-to_change}
 use Rattle.segment_manager.proofs.segment.Segment.texts_assign.Goals as goal
+use Rattle.segment_manager.proofs.segment.Segment.texts_assign.Goals.{After-assign}
+use Rattle.segment_manager.proofs.segment.Segment.texts_assign.Given.{Over}
 
-pub returns-then-is_read_only-clause-step : goal.returns-then-is_read_only-clause-step
-returns-then-is_read_only-clause-step g c =
-    let key : Key = g.O.Target.key c.args.key.now in
-    refuses_of_kind-read_only c.args.self.now key Texts (Assign key (map Quoted (map (λ text. text.now) c.args.texts.now))) (sym c.is_read_only.ensures ∙ c.if-is_read_only.true) refl
+-- what the call does, in each goal behind it
+done : (g : Over) (c : After-assign g) → StepsKeeping (record { cut = c.self.inside.heap; mode = c.self.inside.mode })
+    c.assign.new.heap (g.O.Target.key c.args.key.now) (Assign (g.O.Target.key c.args.key.now) (map Quoted (map (λ
+    text. text.now) c.args.texts.now))) c.assign.result
+done g c =
+    let place = seen-to_change _ _ c.self.view_is _ _ _ c.in-Ok.ensures in
+    texts-assigned _ _ _ c.self.invariant place.at c.assign.new.heap place.writing (map (λ text. text.now)
+    c.args.texts.now) c.assign.result c.judge_all.ensures c.assign.ensures.assigned
 
 pub assign-requires : goal.assign-requires
 assign-requires g c =
-    let s : State = record { cut = c.self.inside.heap; mode = c.self.inside.mode } in
-    let key : Key = g.O.Target.key c.args.key.now in
-    let found : Answers s (λ d. container_at d key Texts) (Ok c.in-Ok.place) = subst (λ (t : State). Answers t (λ d. container_at d key Texts) (Ok c.in-Ok.place)) (sym c.self.view_is) c.in-Ok.ensures in
-    some-texts s key c.in-Ok.place c.self.invariant found
+    let place = seen-to_change _ _ c.self.view_is _ _ _ c.in-Ok.ensures in
+    some-texts _ _ _ c.self.invariant place.at
 
 pub invariant_of-self : goal.invariant_of-self
 invariant_of-self g c =
-    let s : State = record { cut = c.self.inside.heap; mode = c.self.inside.mode } in
-    let key : Key = g.O.Target.key c.args.key.now in
-    let writing : is_read_only s.mode ≡ false = ap (λ (t : State). is_read_only t.mode) c.self.view_is ∙ sym c.is_read_only.ensures ∙ c.if-is_read_only.false in
-    let found : Answers s (λ d. container_at d key Texts) (Ok c.in-Ok.place) = subst (λ (t : State). Answers t (λ d. container_at d key Texts) (Ok c.in-Ok.place)) (sym c.self.view_is) c.in-Ok.ensures in
-    let done : StepsKeeping s c.assign.new.heap key (Assign key (map Quoted (map (λ text. text.now) c.args.texts.now))) c.assign.result =
-    texts-assigned s key c.in-Ok.place c.self.invariant found c.assign.new.heap writing (map (λ text. text.now) c.args.texts.now) c.assign.result c.judge_all.ensures c.assign.ensures.assigned in
-    kept-segment s c.args.self.now c.self.view_is c.assign.new.heap key (Assign key (map Quoted (map (λ text. text.now) c.args.texts.now))) c.assign.result done c.self.invariant
+    kept-segment _ _ c.self.view_is _ _ _ _ (done g (goal.at.invariant_of-self g c).After-assign) c.self.invariant
 
 pub returns-in-Err-clause-step : goal.returns-in-Err-clause-step
 returns-in-Err-clause-step g c =
-    let key : Key = g.O.Target.key c.args.key.now in
-    let writing : is_read_only c.args.self.now.mode ≡ false = sym c.is_read_only.ensures ∙ c.if-is_read_only.false in
-    finds-no_container c.args.self.now key Texts (Assign key (map Quoted (map (λ text. text.now) c.args.texts.now))) c.in-Err.why (open-writing c.args.self.now.mode (Assign key (map Quoted (map (λ text. text.now) c.args.texts.now))) writing) c.in-Err.ensures
+    c.in-Err.ensures.refused (Assign (g.O.Target.key c.args.key.now) (map Quoted (map (λ text. text.now)
+    c.args.texts.now))) refl
 
 pub returns-in-Ok-clause-step : goal.returns-in-Ok-clause-step
 returns-in-Ok-clause-step g c =
-    let s : State = record { cut = c.self.inside.heap; mode = c.self.inside.mode } in
-    let key : Key = g.O.Target.key c.args.key.now in
-    let writing : is_read_only s.mode ≡ false = ap (λ (t : State). is_read_only t.mode) c.self.view_is ∙ sym c.is_read_only.ensures ∙ c.if-is_read_only.false in
-    let found : Answers s (λ d. container_at d key Texts) (Ok c.in-Ok.place) = subst (λ (t : State). Answers t (λ d. container_at d key Texts) (Ok c.in-Ok.place)) (sym c.self.view_is) c.in-Ok.ensures in
-    let done : StepsKeeping s c.assign.new.heap key (Assign key (map Quoted (map (λ text. text.now) c.args.texts.now))) c.assign.result =
-    texts-assigned s key c.in-Ok.place c.self.invariant found c.assign.new.heap writing (map (λ text. text.now) c.args.texts.now) c.assign.result c.judge_all.ensures c.assign.ensures.assigned in
-    kept-step s c.args.self.now c.self.view_is c.assign.new.heap key (Assign key (map Quoted (map (λ text. text.now) c.args.texts.now))) c.assign.result done
+    kept-step _ _ c.self.view_is _ _ _ _ (done g (goal.at.returns-in-Ok-clause-step g c).After-assign)
 
 pub returns-in-Ok-clause-refused : goal.returns-in-Ok-clause-refused
 returns-in-Ok-clause-refused g c =
-    let s : State = record { cut = c.self.inside.heap; mode = c.self.inside.mode } in
-    let key : Key = g.O.Target.key c.args.key.now in
-    let writing : is_read_only s.mode ≡ false = ap (λ (t : State). is_read_only t.mode) c.self.view_is ∙ sym c.is_read_only.ensures ∙ c.if-is_read_only.false in
-    let found : Answers s (λ d. container_at d key Texts) (Ok c.in-Ok.place) = subst (λ (t : State). Answers t (λ d. container_at d key Texts) (Ok c.in-Ok.place)) (sym c.self.view_is) c.in-Ok.ensures in
-    let done : StepsKeeping s c.assign.new.heap key (Assign key (map Quoted (map (λ text. text.now) c.args.texts.now))) c.assign.result =
-    texts-assigned s key c.in-Ok.place c.self.invariant found c.assign.new.heap writing (map (λ text. text.now) c.args.texts.now) c.assign.result c.judge_all.ensures c.assign.ensures.assigned in
-    kept-refused s c.args.self.now c.self.view_is c.assign.new.heap key (Assign key (map Quoted (map (λ text. text.now) c.args.texts.now))) c.assign.result done
+    kept-refused _ _ c.self.view_is _ _ _ _ (done g (goal.at.returns-in-Ok-clause-refused g c).After-assign)

@@ -1,81 +1,47 @@
 -- The last value is taken out of the vector that is found.
-use Rattle.std.proofs.Common.{◌≡◌, refl, sym, ap, subst, ◌∙◌, false, Ok, Err}
-use Rattle.seg_types.specs.declared.kinds.ScalarKind.{ScalarKind}
+use Rattle.std.proofs.Common.{refl, subst}
 use Rattle.seg_types.specs.declared.kinds.Kind.TheVariants.{Vector}
-use Rattle.seg_types.specs.Names.{Key}
 use Rattle.seg_types.specs.Commands.{Pop}
-use Rattle.segment_manager.specs.Contents.{container_at}
-use Rattle.segment_manager.specs.State.{Answers, State}
-use Rattle.segment_manager.specs.Step.{is_read_only}
-use Rattle.segment_manager.proofs.Refilled.{finds-no_container}
-use Rattle.segment_manager.proofs.Steps.{open-writing, refuses_of_kind-read_only}
-use Rattle.segment_manager.proofs.VectorAnswers.{PopsSafely, found-at, popped-refused, popped-segment, popped-step, some-vector, vector-popped}
+use Rattle.segment_manager.proofs.VectorAnswers.{PopsSafely, popped-refused, popped-segment, popped-step, some-vector, vector-popped}
 use Rattle.segment_manager.proofs.Whole.{IsOfKind}
+use Rattle.segment_manager.specs.ToChange.{IsNotToChange}
+use Rattle.segment_manager.proofs.ToChange.{vector-to_change}
 use Rattle.segment_manager.proofs.segment.Segment.vec_pop.Goals as goal
+use Rattle.segment_manager.proofs.segment.Segment.vec_pop.Goals.{After-pop}
+use Rattle.segment_manager.proofs.segment.Segment.vec_pop.Given.{Over}
 
-pub returns-then-is_read_only-clause-step : goal.returns-then-is_read_only-clause-step
-returns-then-is_read_only-clause-step g c =
-    let key : Key = g.O.Target.key c.args.key.now in
-    let k : ScalarKind = g.T.Scalar.kind in
-    refuses_of_kind-read_only c.args.self.now key (Vector k) (Pop key) (sym c.is_read_only.ensures ∙ c.if-is_read_only.true) refl
+-- what holds of the type
+law : (g : Over) → IsOfKind g.T.Scalar.kind g.T.Scalar.whole g.T.Plain.SIZE g.T.Plain.is_value g.T.Plain.spelling
+law g =
+    let m = g.met.T.Scalar in
+    record { long = m.size; values = m.values; spelled = m.spelled; reached = m.reached }
+
+-- what the call does, in each goal behind it
+done : (g : Over) (c : After-pop g) → PopsSafely (record { cut = c.self.inside.heap; mode = c.self.inside.mode })
+    c.pop.new.heap (g.O.Target.key c.args.key.now) g.T.Scalar.kind g.T.Scalar.whole c.pop.result
+done g c =
+    let place = vector-to_change _ _ c.self.view_is _ _ _ _ _ c.kind.ensures c.at.ensures c.in-Ok.ensures in
+    vector-popped _ _ _ _ _ (law g) _ _ _ c.self.invariant place.at c.pop.new.heap place.writing c.pop.result
+    c.pop.ensures
 
 pub pop-requires : goal.pop-requires
 pop-requires g c =
-    let s : State = record { cut = c.self.inside.heap; mode = c.self.inside.mode } in
-    let k : ScalarKind = g.T.Scalar.kind in
-    let key : Key = g.O.Target.key c.args.key.now in
-    let law : IsOfKind k g.T.Scalar.whole g.T.Plain.SIZE g.T.Plain.is_value g.T.Plain.spelling =
-    record { long = g.met.T.Scalar.size; values = g.met.T.Scalar.values; spelled = g.met.T.Scalar.spelled; reached = g.met.T.Scalar.reached } in
-    let found : Answers s (λ d. container_at d key (Vector k)) (Ok c.at.result.place) =
-    found-at s key c.kind.result k c.in-Ok.place c.at.result.place c.kind.ensures c.at.ensures (subst (λ (t : State). Answers t (λ d. container_at d key (Vector c.kind.result)) (Ok c.in-Ok.place)) (sym c.self.view_is) c.in-Ok.ensures) in
-    some-vector k g.T.Scalar.whole g.T.Plain.SIZE g.T.Plain.is_value g.T.Plain.spelling law s key c.at.result.place c.self.invariant found
+    let place = vector-to_change _ _ c.self.view_is _ _ _ _ _ c.kind.ensures c.at.ensures c.in-Ok.ensures in
+    some-vector _ _ _ _ _ (law g) _ _ _ c.self.invariant place.at
 
 pub invariant_of-self : goal.invariant_of-self
 invariant_of-self g c =
-    let s : State = record { cut = c.self.inside.heap; mode = c.self.inside.mode } in
-    let k : ScalarKind = g.T.Scalar.kind in
-    let key : Key = g.O.Target.key c.args.key.now in
-    let writing : is_read_only s.mode ≡ false = ap (λ (t : State). is_read_only t.mode) c.self.view_is ∙ sym c.is_read_only.ensures ∙ c.if-is_read_only.false in
-    let law : IsOfKind k g.T.Scalar.whole g.T.Plain.SIZE g.T.Plain.is_value g.T.Plain.spelling =
-    record { long = g.met.T.Scalar.size; values = g.met.T.Scalar.values; spelled = g.met.T.Scalar.spelled; reached = g.met.T.Scalar.reached } in
-    let found : Answers s (λ d. container_at d key (Vector k)) (Ok c.at.result.place) =
-    found-at s key c.kind.result k c.in-Ok.place c.at.result.place c.kind.ensures c.at.ensures (subst (λ (t : State). Answers t (λ d. container_at d key (Vector c.kind.result)) (Ok c.in-Ok.place)) (sym c.self.view_is) c.in-Ok.ensures) in
-    let done : PopsSafely s c.pop.new.heap key k g.T.Scalar.whole c.pop.result =
-    vector-popped k g.T.Scalar.whole g.T.Plain.SIZE g.T.Plain.is_value g.T.Plain.spelling law s key c.at.result.place c.self.invariant found c.pop.new.heap writing c.pop.result c.pop.ensures in
-    popped-segment s c.args.self.now c.self.view_is c.pop.new.heap key k g.T.Scalar.whole c.pop.result done c.self.invariant
+    popped-segment _ _ c.self.view_is _ _ _ _ _ (done g (goal.at.invariant_of-self g c).After-pop) c.self.invariant
 
 pub returns-in-Err-clause-step : goal.returns-in-Err-clause-step
 returns-in-Err-clause-step g c =
-    let key : Key = g.O.Target.key c.args.key.now in
-    let k : ScalarKind = g.T.Scalar.kind in
-    let writing : is_read_only c.args.self.now.mode ≡ false = sym c.is_read_only.ensures ∙ c.if-is_read_only.false in
-    finds-no_container c.args.self.now key (Vector k) (Pop key) c.in-Err.why (open-writing c.args.self.now.mode (Pop key) writing)
-    (subst (λ (l : ScalarKind). Answers c.args.self.now (λ d. container_at d key (Vector l)) (Err c.in-Err.why)) c.kind.ensures c.in-Err.ensures)
+    (subst (λ l. IsNotToChange c.args.self.now (g.O.Target.key c.args.key.now) (Vector l) c.in-Err.why) c.kind.ensures
+    c.in-Err.ensures).refused (Pop (g.O.Target.key c.args.key.now)) refl
 
 pub returns-in-Ok-clause-step : goal.returns-in-Ok-clause-step
 returns-in-Ok-clause-step g c =
-    let s : State = record { cut = c.self.inside.heap; mode = c.self.inside.mode } in
-    let k : ScalarKind = g.T.Scalar.kind in
-    let key : Key = g.O.Target.key c.args.key.now in
-    let writing : is_read_only s.mode ≡ false = ap (λ (t : State). is_read_only t.mode) c.self.view_is ∙ sym c.is_read_only.ensures ∙ c.if-is_read_only.false in
-    let law : IsOfKind k g.T.Scalar.whole g.T.Plain.SIZE g.T.Plain.is_value g.T.Plain.spelling =
-    record { long = g.met.T.Scalar.size; values = g.met.T.Scalar.values; spelled = g.met.T.Scalar.spelled; reached = g.met.T.Scalar.reached } in
-    let found : Answers s (λ d. container_at d key (Vector k)) (Ok c.at.result.place) =
-    found-at s key c.kind.result k c.in-Ok.place c.at.result.place c.kind.ensures c.at.ensures (subst (λ (t : State). Answers t (λ d. container_at d key (Vector c.kind.result)) (Ok c.in-Ok.place)) (sym c.self.view_is) c.in-Ok.ensures) in
-    let done : PopsSafely s c.pop.new.heap key k g.T.Scalar.whole c.pop.result =
-    vector-popped k g.T.Scalar.whole g.T.Plain.SIZE g.T.Plain.is_value g.T.Plain.spelling law s key c.at.result.place c.self.invariant found c.pop.new.heap writing c.pop.result c.pop.ensures in
-    popped-step s c.args.self.now c.self.view_is c.pop.new.heap key k g.T.Scalar.whole c.pop.result done
+    popped-step _ _ c.self.view_is _ _ _ _ _ (done g (goal.at.returns-in-Ok-clause-step g c).After-pop)
 
 pub returns-in-Ok-clause-refused : goal.returns-in-Ok-clause-refused
 returns-in-Ok-clause-refused g c =
-    let s : State = record { cut = c.self.inside.heap; mode = c.self.inside.mode } in
-    let k : ScalarKind = g.T.Scalar.kind in
-    let key : Key = g.O.Target.key c.args.key.now in
-    let writing : is_read_only s.mode ≡ false = ap (λ (t : State). is_read_only t.mode) c.self.view_is ∙ sym c.is_read_only.ensures ∙ c.if-is_read_only.false in
-    let law : IsOfKind k g.T.Scalar.whole g.T.Plain.SIZE g.T.Plain.is_value g.T.Plain.spelling =
-    record { long = g.met.T.Scalar.size; values = g.met.T.Scalar.values; spelled = g.met.T.Scalar.spelled; reached = g.met.T.Scalar.reached } in
-    let found : Answers s (λ d. container_at d key (Vector k)) (Ok c.at.result.place) =
-    found-at s key c.kind.result k c.in-Ok.place c.at.result.place c.kind.ensures c.at.ensures (subst (λ (t : State). Answers t (λ d. container_at d key (Vector c.kind.result)) (Ok c.in-Ok.place)) (sym c.self.view_is) c.in-Ok.ensures) in
-    let done : PopsSafely s c.pop.new.heap key k g.T.Scalar.whole c.pop.result =
-    vector-popped k g.T.Scalar.whole g.T.Plain.SIZE g.T.Plain.is_value g.T.Plain.spelling law s key c.at.result.place c.self.invariant found c.pop.new.heap writing c.pop.result c.pop.ensures in
-    popped-refused s c.args.self.now c.self.view_is c.pop.new.heap key k g.T.Scalar.whole c.pop.result done
+    popped-refused _ _ c.self.view_is _ _ _ _ _ (done g (goal.at.returns-in-Ok-clause-refused g c).After-pop)

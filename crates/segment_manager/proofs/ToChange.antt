@@ -1,0 +1,34 @@
+-- The container that is to be changed, as the calls that change it find it.
+use Rattle.std.proofs.Common.{◌≡◌, false, sym, subst, Result, Ok, Err}
+use Rattle.std.specs.Prelude.{MatchResult}
+use Rattle.seg_types.specs.declared.kinds.ScalarKind.{ScalarKind}
+use Rattle.seg_types.specs.declared.kinds.Kind.{Kind}
+use Rattle.seg_types.specs.declared.kinds.Kind.TheVariants.{Vector}
+use Rattle.seg_types.specs.declared.refusals.Refusal.{Refusal}
+use Rattle.seg_types.specs.Names.{Key}
+use Rattle.seg_vector.specs.declared.places.Place.{Place}
+use Rattle.segment_manager.specs.Contents.{container_at}
+use Rattle.segment_manager.specs.State.{Answers, State}
+use Rattle.segment_manager.specs.Step.{is_read_only}
+use Rattle.segment_manager.specs.ToChange.{IsNotToChange, IsToChange}
+use Rattle.segment_manager.proofs.Refilled.{finds-no_container}
+use Rattle.segment_manager.proofs.Steps.{open-writing}
+
+-- a segment that may be changed
+pub to_change : (s : State) (key : Key) (kind : Kind) (r : Result Place Refusal) → is_read_only s.mode ≡ false
+    → Answers s (λ d. container_at d key kind) r → MatchResult r (IsToChange s key kind) (IsNotToChange s key kind)
+to_change s key kind (Ok p) w a = record { writing = w; at = a }
+to_change s key kind (Err why) w a = record {
+  refused = λ c e. finds-no_container s key kind c why (open-writing s.mode c w) a;
+}
+
+-- as the view before the call is named
+pub seen-to_change : (s t : State) (view : s ≡ t) (key : Key) (kind : Kind) (p : Place) → IsToChange t key kind p → IsToChange s key kind p
+seen-to_change s t view key kind p = subst (λ (u : State). IsToChange u key kind p) (sym view)
+
+-- the same of a vector, as the type and the vector name its place
+pub vector-to_change : (s t : State) (view : s ≡ t) (key : Key) (l k : ScalarKind) (q p : Place) → l ≡ k → p ≡ q
+    → IsToChange t key (Vector l) q → IsToChange s key (Vector k) p
+vector-to_change s t view key l k q p e f found =
+    subst (λ (m : ScalarKind). IsToChange s key (Vector m) p) e
+    (subst (IsToChange s key (Vector l)) (sym f) (seen-to_change s t view key (Vector l) q found))

@@ -1,25 +1,24 @@
 -- Where a segment stands after a line: whether its gaps are zero.
-use Rattle.std.proofs.Common.{◌≡◌, ℕ, ◌+◌, ◌-◌, Bool, true, false, if◌then◌else◌, List, [], ◌∷◌, nat_lt, refl, sym, ap, subst, ◌∙◌, arith}
+use Rattle.std.proofs.Common.{◌≡◌, ℕ, ◌+◌, ◌-◌, Bool, true, false, if◌then◌else◌, List, [], ◌∷◌, Result, nat_lt, refl, sym, ap, subst, ◌∙◌, arith}
 use Rattle.std.specs.List.{AllByRecursion}
 use Rattle.std.proofs.lemmas.Bool.{cond_both}
 use Rattle.raw_region.specs.Memory.{AreZero, bytes_of}
+use Rattle.raw_region.specs.Device.{Took, Writes}
 use Rattle.raw_region.specs.Format.{current}
 use Rattle.best_fit.specs.Extents.{Gap, gaps, gap_between}
 use Rattle.best_fit.specs.FreeTree.{gap_front}
 use Rattle.best_fit.proofs.Laws.{lay_out_one}
 use Rattle.seg_types.specs.Names.{Key}
 use Rattle.seg_types.specs.Commands.{Command, Reading, Asked, Pop, ZeroFree, is_changing}
-use Rattle.segment_lang.specs.Language.{whole}
 use Rattle.seg_types.specs.declared.keys.Key.{Key as CodeKey}
 use Rattle.segment_lang.specs.declared.commands.Command.{Command as CodeCommand}
 use Rattle.segment_lang.specs.declared.commands.Command.TheVariants.{Get as CodeGet, Pop as CodePop}
 use Rattle.segment_lang.specs.Seen.{command_of}
-use Rattle.segment_lang.specs.Reading.{reading}
 use Rattle.segment_manager.specs.declared.modes.Mode.{Mode}
 use Rattle.segment_manager.specs.declared.modes.Mode.TheVariants.{Write, ReadOnly, CopyOnWrite}
 use Rattle.segment_manager.specs.Directory.{Directory, empty, live}
-use Rattle.segment_manager.specs.Answers.{Done, is_untouched}
-use Rattle.segment_manager.specs.State.{State, StandsFor}
+use Rattle.segment_manager.specs.Answers.{Done, Number, is_untouched}
+use Rattle.segment_manager.specs.State.{IsReply, State, StandsFor}
 use Rattle.segment_manager.specs.Step.{step}
 use Rattle.segment_manager.specs.Calls.{HasZeroGaps, IsCreated}
 use Rattle.segment_manager.proofs.Laws.{step-reads}
@@ -27,9 +26,11 @@ use Rattle.segment_cli.specs.ZeroGaps.{HasZeroGapsIn, is_zero_free}
 use Rattle.segment_cli.specs.declared.replies.Answer.{Answer as Reply}
 use Rattle.segment_cli.specs.Answer.{answer_text}
 use Rattle.segment_cli.specs.Changes.{Executes}
-use Rattle.segment_cli.specs.Replies.{Replies, has_element}
+use Rattle.segment_cli.specs.Replies.{Replies, answer_seen, has_element}
 use Rattle.segment_cli.specs.Run.{respond}
-use Rattle.segment_cli.specs.Segments.{Place, IsAt, place_after, answer_line}
+use Rattle.segment_cli.specs.Segments.{Place, IsAt, Responds, place_after}
+use Rattle.segment_cli.specs.Writing.{WritesFor}
+use Rattle.segment_cli.proofs.Owed.{writes_owed}
 
 -- ---- bytes
 
@@ -88,9 +89,9 @@ zeros_held true changing zero_free known old new same stays zeros was e = subst 
 zeros_held false true zero_free known old new same stays zeros was e = zeros e refl
 zeros_held false false zero_free known old new same stays zeros was e = subst HasZeroGaps (sym (stays refl)) (was e)
 
--- a line that is a command leads to the place behind it
-module _ (old new : State) (c : Command) (line : List ℕ) (e : Asked c ≡ reading (whole current) line) (done : Executes old new c) (reads : is_changing c ≡ false → new ≡ old) where
-  led : ((d : Directory) → StandsFor old.cut.bytes d → c ≡ ZeroFree → (step old.mode d c).0 ≡ Done → HasZeroGaps new) → (at : Place) → IsAt old at → IsAt new (answer_line at line).1
+-- what is asked leads to the place behind it
+module _ (old new : State) (c : Command) (asked : Reading) (e : Asked c ≡ asked) (done : Executes old new c) (reads : is_changing c ≡ false → new ≡ old) where
+  led : ((d : Directory) → StandsFor old.cut.bytes d → c ≡ ZeroFree → (step old.mode d c).0 ≡ Done → HasZeroGaps new) → (at : Place) → IsAt old at → IsAt new (place_after at asked)
   led zeros at h =
       let d = at.directory in
       let m = h.mode in
@@ -107,17 +108,17 @@ module _ (old new : State) (c : Command) (line : List ℕ) (e : Asked c ≡ read
       } in
       subst (λ (r : Reading). IsAt new (place_after at r)) e place
 
-pub executed : (old new : State) (c : Command) (reply : Reply) (line : List ℕ) → Asked c ≡ reading (whole current) line → Replies old new c reply → (at : Place) → IsAt old at → IsAt new (answer_line at line).1
-executed old new c reply line e done = led old new c line e (record { stays = done.stays; denotes = done.denotes; refused = done.refused }) done.reads done.zeros
+executed : (old new : State) (c : Command) (reply : Reply) (asked : Reading) → Asked c ≡ asked → Replies old new c reply → (at : Place) → IsAt old at → IsAt new (place_after at asked)
+executed old new c reply asked e done = led old new c asked e (record { stays = done.stays; denotes = done.denotes; refused = done.refused }) done.reads done.zeros
 
 -- one that takes out an element too
-pub popped : (old new : State) (key : Key) (line : List ℕ) → Asked (Pop key) ≡ reading (whole current) line → Executes old new (Pop key) → (at : Place) → IsAt old at → IsAt new (answer_line at line).1
-popped old new key line e done = led old new (Pop key) line e done (λ n. absurd (cc)) (λ d st is. absurd (let other : is_zero_free (Pop key) ≡ true = ap is_zero_free is in cc))
+popped : (old new : State) (key : Key) (asked : Reading) → Asked (Pop key) ≡ asked → Executes old new (Pop key) → (at : Place) → IsAt old at → IsAt new (place_after at asked)
+popped old new key asked e done = led old new (Pop key) asked e done (λ n. absurd (cc)) (λ d st is. absurd (let other : is_zero_free (Pop key) ≡ true = ap is_zero_free is in cc))
 
 -- one that only reads
-pub answered : (s : State) (c : Command) (line : List ℕ) → is_changing c ≡ false → Asked c ≡ reading (whole current) line → (at : Place) → IsAt s at → IsAt s (answer_line at line).1
-answered s c line r e =
-    led s s c line e
+answered : (s : State) (c : Command) (asked : Reading) → is_changing c ≡ false → Asked c ≡ asked → (at : Place) → IsAt s at → IsAt s (place_after at asked)
+answered s c asked r e =
+    led s s c asked e
     (record {
       stays = record { mode = refl; place = record { before = refl; after = refl } };
       denotes = λ d st. subst (StandsFor s.cut.bytes) (sym (step-reads s.mode d c r)) st;
@@ -125,9 +126,39 @@ answered s c line r e =
     })
     (λ _. refl) (λ d st is _. absurd (let other : is_changing ZeroFree ≡ false = ap is_changing (sym is) ∙ r in cc))
 
-pub asked-owed : (old : State) (c : Command) (line : List ℕ) → Asked c ≡ reading (whole current) line → (at : Place) → IsAt old at
-    → answer_text (step old.mode at.directory c).0 ≡ (answer_line at line).0
-asked-owed old c line e at h = ap (λ (n : Mode). answer_text (step n at.directory c).0) h.mode ∙ ap (λ (r : Reading). (respond at.mode at.directory r).0) e
+asked-owed : (old : State) (c : Command) (asked : Reading) → Asked c ≡ asked → (at : Place) → IsAt old at → answer_text (step old.mode at.directory c).0 ≡ (respond at.mode at.directory asked).0
+asked-owed old c asked e at h = ap (λ (n : Mode). answer_text (step n at.directory c).0) h.mode ∙ ap (λ (r : Reading). (respond at.mode at.directory r).0) e
+
+-- ---- what is asked is responded to
+
+module _ {A E : Type 0} (took took' : Took) (result : Result A E) (asked : Reading) where
+  -- a call that writes what its command answers
+  told : (old : State) (c : Command) → Asked c ≡ asked → WritesFor took took' result (StandsFor old.cut.bytes) (λ d. answer_text (step old.mode d c).0)
+      → WritesFor took took' result (IsAt old) (λ (at : Place). (respond at.mode at.directory asked).0)
+  told old c e w = record { writes = λ at h. subst (Writes took took' result) (asked-owed old c asked e at h) (w.writes at.directory h.denotes); counted = w.counted }
+
+  pub responds-read : (s : State) (c : Command) → is_changing c ≡ false → Asked c ≡ asked → WritesFor took took' result (StandsFor s.cut.bytes) (λ d. answer_text (step s.mode d c).0) → Responds s s took took' result asked
+  responds-read s c r e w = record { leads = answered s c asked r e; writes = told s c e w }
+
+  pub responds-popped : (old new : State) (key : Key) → Asked (Pop key) ≡ asked → Executes old new (Pop key) → WritesFor took took' result (StandsFor old.cut.bytes) (λ d. answer_text (step old.mode d (Pop key)).0)
+      → Responds old new took took' result asked
+  responds-popped old new key e done w = record { leads = popped old new key asked e done; writes = told old (Pop key) e w }
+
+  -- a number
+  pub responds-number : (s : State) (c : Command) (n : ℕ) → is_changing c ≡ false → Asked c ≡ asked → IsReply s c (Number n) → Writes took took' result (answer_text (Number n)) → Responds s s took took' result asked
+  responds-number s c n r e is w =
+      responds-read s c r e (writes_owed took took' result (StandsFor s.cut.bytes) (answer_text (Number n)) (λ d. answer_text (step s.mode d c).0) w (λ d st. ap answer_text (is.answers d st)))
+
+  -- a reply, which is written of what is there then
+  pub responds-replied : (old new : State) (c : Command) (reply : Reply) → Asked c ≡ asked → Replies old new c reply → WritesFor took took' result (StandsFor new.cut.bytes) (λ d. answer_text (answer_seen d reply))
+      → Responds old new took took' result asked
+  responds-replied old new c reply e done w = record {
+    leads = executed old new c reply asked e done;
+    writes = told old c e (record {
+      writes = λ d st. subst (Writes took took' result) (ap answer_text (done.answers d st)) (w.writes (step old.mode d c).1 (done.denotes d st));
+      counted = w.counted;
+    });
+  }
 
 pub no_element : (c : CodeCommand) → ((key : CodeKey) (i : ℕ) → c ≡ CodeGet key i → ⊥) → ((key : CodeKey) → c ≡ CodePop key → ⊥) → has_element (command_of c) ≡ false
 no_element (CodeGet key i) m n = absurd (m key i refl)

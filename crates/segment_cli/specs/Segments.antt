@@ -1,6 +1,7 @@
 -- A segment as what answers the lines of a script.
-use Rattle.std.specs.Prelude.{◌≡◌, ℕ, Bool, true, List}
+use Rattle.std.specs.Prelude.{◌≡◌, ℕ, Bool, true, List, Result}
 use Rattle.seg_types.specs.Commands.{Reading}
+use Rattle.raw_region.specs.Device.{Took}
 use Rattle.raw_region.specs.Format.{current}
 use Rattle.segment_lang.specs.Language.{whole}
 use Rattle.segment_lang.specs.Reading.{reading}
@@ -10,6 +11,7 @@ use Rattle.segment_manager.specs.State.{State, StandsFor}
 use Rattle.segment_manager.specs.Calls.{HasZeroGaps}
 use Rattle.segment_cli.specs.Answer.{line}
 use Rattle.segment_cli.specs.Run.{respond}
+use Rattle.segment_cli.specs.Writing.{WritesFor}
 use Rattle.segment_cli.specs.ZeroGaps.{zeros_after}
 
 -- what is known of a segment between two lines
@@ -35,3 +37,8 @@ place_after at asked = record {
 -- what a line prints from a place, and where it leads
 abbrev pub answer_line : Place → List ℕ → List ℕ × Place
 answer_line at line = let asked = reading (whole current) line in ((respond at.mode at.directory asked).0, place_after at asked)
+
+-- wherever it stands, what it is asked leads where it is to lead, and what is owed there is written
+pub record Responds {A E : Type 0} (old new : State) (took took' : Took) (result : Result A E) (asked : Reading) : Type 0 where
+  pub leads : (at : Place) → IsAt old at → IsAt new (place_after at asked)
+  pub writes : WritesFor took took' result (IsAt old) (λ at. (respond at.mode at.directory asked).0)

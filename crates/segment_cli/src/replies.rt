@@ -234,7 +234,7 @@ fn gone<'a>(gone: Result<(), Refusal>) -> Answer<'a>
 }
 
 /// The answer where a command is done, or not.
-fn done<'a>(done: Result<(), Refusal>) -> Answer<'a>
+pub fn done<'a>(done: Result<(), Refusal>) -> Answer<'a>
     ensures { (d : Directory) → answer_seen d result ≡ done_answer done }
 {
     match done {

@@ -1,76 +1,63 @@
-use Rattle.std.proofs.Common.{◌∙◌, ap, refl, subst, sym}
-use Rattle.seg_types.specs.Commands.{Asked, Free, Get, Pop, Size}
-use Rattle.seg_types.specs.Keys.{key_seen}
-use Rattle.raw_region.specs.Device.{Writes}
-use Rattle.segment_lang.specs.Seen.{command_of}
-use Rattle.segment_manager.specs.Answers.{Number}
-use Rattle.segment_cli.specs.Answer.{answer_text}
-use Rattle.segment_cli.specs.Run.{error_line}
-use Rattle.segment_cli.specs.Segments.{IsAt, Place, answer_line}
-use Rattle.segment_cli.proofs.Owed.{writes_owed}
+use Rattle.std.proofs.Common.{◌∙◌, ap, sym}
+use Rattle.raw_region.specs.Format.{current}
+use Rattle.segment_lang.specs.Language.{whole}
+use Rattle.segment_lang.specs.Reading.{reading}
+use Rattle.segment_lang.specs.Seen.{reading_by}
+use Rattle.segment_lang.specs.declared.forms.CommandForm.TheVariants as form
 use Rattle.segment_cli.proofs.Meant.{asked-meant}
-use Rattle.segment_cli.proofs.WrongLines.{wrong-owed, wrong-stays}
-use Rattle.segment_cli.proofs.Zeros.{answered, asked-owed, executed, no_element, popped}
+use Rattle.segment_cli.proofs.WrongLines.{responds-same, responds-wrong}
 use Rattle.segment_cli.proofs.segments.SegmentMachine.answer.Goals as goal
 
-pub reply-answer-requires : goal.reply-answer-requires
-reply-answer-requires g c = record {
-  meant = asked-meant (command_of c.in-Asked.command) c.args.line.now c.in-Asked.ensures;
-  short = no_element c.in-Asked.command c.in_default.not-Get c.in_default.not-Pop;
-}
+pub answer_push-requires-clause-meant : goal.answer_push-requires-clause-meant
+answer_push-requires-clause-meant g c = λ command e. asked-meant command c.args.line.now (e ∙ ap (λ f. reading_by f c.in-Form.rest.now) (sym c.in-Push.is) ∙ c.in-Form.ensures)
 
-pub returns-in-Get-clause-leads : goal.returns-in-Get-clause-leads
-returns-in-Get-clause-leads g c =
-    answered c.args.self.now (Get (key_seen c.in-Get.key) c.in-Get.index) c.args.line.now refl (ap Asked (sym (ap command_of c.in-Get.is)) ∙ c.in-Asked.ensures)
-
-pub returns-in-Get-clause-writes : goal.returns-in-Get-clause-writes
-returns-in-Get-clause-writes g c = record {
-  writes = λ at h.
-      subst (Writes (g.W.Sink.history c.args.out.now) (g.W.Sink.history c.put_got.new.out) c.put_got.result)
-      (asked-owed c.args.self.now (Get (key_seen c.in-Get.key) c.in-Get.index) c.args.line.now (ap Asked (sym (ap command_of c.in-Get.is)) ∙ c.in-Asked.ensures) at h) (c.put_got.ensures.writes at.directory h.denotes);
-  counted = c.put_got.ensures.counted;
-}
-
-pub returns-in-Pop-clause-leads : goal.returns-in-Pop-clause-leads
-returns-in-Pop-clause-leads g c =
-    popped c.args.self.now c.pop.new.segment (key_seen c.in-Pop.key) c.args.line.now (ap Asked (sym (ap command_of c.in-Pop.is)) ∙ c.in-Asked.ensures) c.pop.ensures.executed
-
-pub returns-in-Pop-clause-writes : goal.returns-in-Pop-clause-writes
-returns-in-Pop-clause-writes g c = record {
-  writes = λ at h.
-      subst (Writes (g.W.Sink.history c.args.out.now) (g.W.Sink.history c.pop.new.out) c.pop.result)
-      (asked-owed c.args.self.now (Pop (key_seen c.in-Pop.key)) c.args.line.now (ap Asked (sym (ap command_of c.in-Pop.is)) ∙ c.in-Asked.ensures) at h) (c.pop.ensures.writes.writes at.directory h.denotes);
-  counted = c.pop.ensures.writes.counted;
-}
-
-pub returns-in-Size-clause-leads : goal.returns-in-Size-clause-leads
-returns-in-Size-clause-leads g c = answered c.args.self.now Size c.args.line.now refl (ap Asked (sym (ap command_of c.in-Size.is)) ∙ c.in-Asked.ensures)
-
-pub returns-in-Size-clause-writes : goal.returns-in-Size-clause-writes
-returns-in-Size-clause-writes g c =
-    writes_owed (g.W.Sink.history c.args.out.now) (g.W.Sink.history c.put_number_line.new.out) c.put_number_line.result (IsAt c.args.self.now)
-    (answer_text (Number c.size.result)) (λ (at : Place). (answer_line at c.args.line.now).0) c.put_number_line.ensures
-    (λ at h. ap answer_text (c.size.ensures.answers at.directory h.denotes)
-    ∙ asked-owed c.args.self.now Size c.args.line.now (ap Asked (sym (ap command_of c.in-Size.is)) ∙ c.in-Asked.ensures) at h)
-
-pub returns-in-Free-clause-leads : goal.returns-in-Free-clause-leads
-returns-in-Free-clause-leads g c = answered c.args.self.now Free c.args.line.now refl (ap Asked (sym (ap command_of c.in-Free.is)) ∙ c.in-Asked.ensures)
-
-pub returns-in-Free-clause-writes : goal.returns-in-Free-clause-writes
-returns-in-Free-clause-writes g c =
-    writes_owed (g.W.Sink.history c.args.out.now) (g.W.Sink.history c.put_number_line-in-Free.new.out) c.put_number_line-in-Free.result (IsAt c.args.self.now)
-    (answer_text (Number c.free.result)) (λ (at : Place). (answer_line at c.args.line.now).0) c.put_number_line-in-Free.ensures
-    (λ at h. ap answer_text (c.free.ensures.answers at.directory h.denotes)
-    ∙ asked-owed c.args.self.now Free c.args.line.now (ap Asked (sym (ap command_of c.in-Free.is)) ∙ c.in-Asked.ensures) at h)
-
-pub returns-in_default-clause-leads : goal.returns-in_default-clause-leads
-returns-in_default-clause-leads g c =
-    executed c.args.self.now c.reply-answer.new.segment (command_of c.in-Asked.command) c.reply-answer.result c.args.line.now c.in-Asked.ensures c.reply-answer.ensures
+pub answer_form-requires-clause-meant : goal.answer_form-requires-clause-meant
+answer_form-requires-clause-meant g c = λ command e. asked-meant command c.args.line.now (e ∙ c.in-Form.ensures)
 
 pub returns-in-Wrong-clause-leads : goal.returns-in-Wrong-clause-leads
-returns-in-Wrong-clause-leads g c = wrong-stays c.args.self.now c.in-Wrong.error c.args.line.now c.in-Wrong.ensures
+returns-in-Wrong-clause-leads g c =
+    (responds-wrong (g.W.Sink.history c.args.out.now) (g.W.Sink.history c.put_wrong.new.out) c.put_wrong.result (reading (whole current) c.args.line.now) c.args.self.now c.in-Wrong.error c.in-Wrong.ensures c.put_wrong.ensures).leads
 
 pub returns-in-Wrong-clause-writes : goal.returns-in-Wrong-clause-writes
 returns-in-Wrong-clause-writes g c =
-    writes_owed (g.W.Sink.history c.args.out.now) (g.W.Sink.history c.put_pieces.new.out) c.put_pieces.result (IsAt c.args.self.now)
-    (error_line c.in-Wrong.error) (λ (at : Place). (answer_line at c.args.line.now).0) c.put_pieces.ensures (λ at h. wrong-owed at c.in-Wrong.error c.args.line.now c.in-Wrong.ensures)
+    (responds-wrong (g.W.Sink.history c.args.out.now) (g.W.Sink.history c.put_wrong.new.out) c.put_wrong.result (reading (whole current) c.args.line.now) c.args.self.now c.in-Wrong.error c.in-Wrong.ensures c.put_wrong.ensures).writes
+
+pub returns-in-Size-clause-leads : goal.returns-in-Size-clause-leads
+returns-in-Size-clause-leads g c =
+    (responds-same c.args.self.now c.args.self.now (g.W.Sink.history c.args.out.now) (g.W.Sink.history c.answer_size.new.out) c.answer_size.result
+    (reading_by form.Size c.in-Form.rest.now) (reading (whole current) c.args.line.now) (ap (λ f. reading_by f c.in-Form.rest.now) (sym c.in-Size.is) ∙ c.in-Form.ensures) c.answer_size.ensures).leads
+
+pub returns-in-Size-clause-writes : goal.returns-in-Size-clause-writes
+returns-in-Size-clause-writes g c =
+    (responds-same c.args.self.now c.args.self.now (g.W.Sink.history c.args.out.now) (g.W.Sink.history c.answer_size.new.out) c.answer_size.result
+    (reading_by form.Size c.in-Form.rest.now) (reading (whole current) c.args.line.now) (ap (λ f. reading_by f c.in-Form.rest.now) (sym c.in-Size.is) ∙ c.in-Form.ensures) c.answer_size.ensures).writes
+
+pub returns-in-Get-clause-leads : goal.returns-in-Get-clause-leads
+returns-in-Get-clause-leads g c =
+    (responds-same c.args.self.now c.args.self.now (g.W.Sink.history c.args.out.now) (g.W.Sink.history c.answer_get.new.out) c.answer_get.result
+    (reading_by form.Get c.in-Form.rest.now) (reading (whole current) c.args.line.now) (ap (λ f. reading_by f c.in-Form.rest.now) (sym c.in-Get.is) ∙ c.in-Form.ensures) c.answer_get.ensures).leads
+
+pub returns-in-Get-clause-writes : goal.returns-in-Get-clause-writes
+returns-in-Get-clause-writes g c =
+    (responds-same c.args.self.now c.args.self.now (g.W.Sink.history c.args.out.now) (g.W.Sink.history c.answer_get.new.out) c.answer_get.result
+    (reading_by form.Get c.in-Form.rest.now) (reading (whole current) c.args.line.now) (ap (λ f. reading_by f c.in-Form.rest.now) (sym c.in-Get.is) ∙ c.in-Form.ensures) c.answer_get.ensures).writes
+
+pub returns-in-Push-clause-leads : goal.returns-in-Push-clause-leads
+returns-in-Push-clause-leads g c =
+    (responds-same c.args.self.now c.answer_push.new.segment (g.W.Sink.history c.args.out.now) (g.W.Sink.history c.answer_push.new.out) c.answer_push.result
+    (reading_by form.Push c.in-Form.rest.now) (reading (whole current) c.args.line.now) (ap (λ f. reading_by f c.in-Form.rest.now) (sym c.in-Push.is) ∙ c.in-Form.ensures) c.answer_push.ensures).leads
+
+pub returns-in-Push-clause-writes : goal.returns-in-Push-clause-writes
+returns-in-Push-clause-writes g c =
+    (responds-same c.args.self.now c.answer_push.new.segment (g.W.Sink.history c.args.out.now) (g.W.Sink.history c.answer_push.new.out) c.answer_push.result
+    (reading_by form.Push c.in-Form.rest.now) (reading (whole current) c.args.line.now) (ap (λ f. reading_by f c.in-Form.rest.now) (sym c.in-Push.is) ∙ c.in-Form.ensures) c.answer_push.ensures).writes
+
+pub returns-in_default-clause-leads : goal.returns-in_default-clause-leads
+returns-in_default-clause-leads g c =
+    (responds-same c.args.self.now c.answer_form.new.segment (g.W.Sink.history c.args.out.now) (g.W.Sink.history c.answer_form.new.out) c.answer_form.result
+    (reading_by c.in-Form.form c.in-Form.rest.now) (reading (whole current) c.args.line.now) c.in-Form.ensures c.answer_form.ensures).leads
+
+pub returns-in_default-clause-writes : goal.returns-in_default-clause-writes
+returns-in_default-clause-writes g c =
+    (responds-same c.args.self.now c.answer_form.new.segment (g.W.Sink.history c.args.out.now) (g.W.Sink.history c.answer_form.new.out) c.answer_form.result
+    (reading_by c.in-Form.form c.in-Form.rest.now) (reading (whole current) c.args.line.now) c.in-Form.ensures c.answer_form.ensures).writes

@@ -6,8 +6,6 @@ mod migrating;
 mod regions;
 mod resizing;
 mod runs;
-#[cfg(test)]
-mod tests;
 
 use raw_region::stream::Writing;
 use runs::perform;

@@ -26,6 +26,3 @@ mod Zeros
 mod SavedImages
 mod TextParts
 mod TextElements
-mod PlainWords
-mod Leaves
-mod CommandLines

@@ -16,6 +16,5 @@ pub mod Settings
 pub mod Changes
 pub mod TextRows
 pub mod ShownPairs
-pub mod Invocations
 pub mod Reports
 pub mod Migration

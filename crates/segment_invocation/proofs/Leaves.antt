@@ -7,8 +7,8 @@ use Rattle.clap.specs.Simple.{Shape, built_leaf, inherited}
 use Rattle.clap.specs.Takes.{default_passes, is_valid, level_passes, settle_passes, turn_passes, walk_passes}
 use Rattle.clap.specs.declared.builder.value_parser.Reading.TheVariants as reading
 use Rattle.clap.specs.declared.parser.matches.ValueSource.TheVariants.{CommandLine}
-use Rattle.segment_cli.specs.Invocations.{file_command, number_command, program, run_command}
-use Rattle.segment_cli.proofs.PlainWords.{IsPlain, plain_step, turn-plain, walked-plain}
+use Rattle.segment_invocation.specs.Invocations.{file_command, number_command, program, run_command}
+use Rattle.segment_invocation.proofs.PlainWords.{IsPlain, plain_step, turn-plain, walked-plain}
 
 -- a command as it is built
 abbrev pub leaf : Shape → Shape

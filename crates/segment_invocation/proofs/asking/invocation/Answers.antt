@@ -5,9 +5,9 @@ use Rattle.std.proofs.lemmas.Result.{err_from_is_err_and}
 use Rattle.clap.specs.Walk.{Text}
 use Rattle.clap.specs.Simple.{App, subcommand_of}
 use Rattle.clap.specs.Takes.{takes}
-use Rattle.segment_cli.specs.Invocations.{asked_by, asked_of, command_line}
-use Rattle.segment_cli.proofs.CommandLines.{understood}
-use Rattle.segment_cli.proofs.asking.invocation.Goals as goal
+use Rattle.segment_invocation.specs.Invocations.{asked_by, asked_of, command_line}
+use Rattle.segment_invocation.proofs.CommandLines.{understood}
+use Rattle.segment_invocation.proofs.asking.invocation.Goals as goal
 
 pub returns-in_err-matches-clause-given : goal.returns-in_err-matches-clause-given
 returns-in_err-matches-clause-given c = λ a w.

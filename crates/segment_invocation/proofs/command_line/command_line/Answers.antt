@@ -2,7 +2,7 @@
 use Rattle.std.proofs.Common.{ap₂, ◌∙◌}
 use Rattle.std.proofs.lemmas.Result.{IfOk-weaker}
 use Rattle.clap.specs.Simple.{with_subcommand}
-use Rattle.segment_cli.proofs.command_line.command_line.Goals as goal
+use Rattle.segment_invocation.proofs.command_line.command_line.Goals as goal
 
 pub returns : goal.returns
 returns c =

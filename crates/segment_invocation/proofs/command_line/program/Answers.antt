@@ -1,7 +1,7 @@
 -- Each setting changes its own field.
 use Rattle.std.proofs.Common.{ap, true, ◌∙◌}
 use Rattle.clap.specs.Simple.{app_of_fields, on_top}
-use Rattle.segment_cli.proofs.command_line.program.Goals as goal
+use Rattle.segment_invocation.proofs.command_line.program.Goals as goal
 
 pub returns : goal.returns
 returns c =

@@ -2,8 +2,8 @@
 ghost use Rattle.std.specs.Prelude.{◌≡◌};
 ghost use Rattle.clap.specs.Values.{kind_of};
 ghost use Rattle.clap.specs.declared.error.kind.ErrorKind.TheVariants.{OutOfMemory as NoMemory};
-ghost use Rattle.segment_cli.specs.declared.usage.InvocationFault.TheVariants.{OutOfMemory, Usage};
-ghost use Rattle.segment_cli.specs.declared.usage.UsageError.TheVariants.{Words};
+ghost use Rattle.segment_invocation.specs.declared.usage.InvocationFault.TheVariants.{OutOfMemory, Usage};
+ghost use Rattle.segment_invocation.specs.declared.usage.UsageError.TheVariants.{Words};
 
 use clap::Error as Misread;
 use clap::error::ErrorKind;

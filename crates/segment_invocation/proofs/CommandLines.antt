@@ -8,11 +8,11 @@ use Rattle.clap.specs.Walk.{Text, nothing_held, stop_after}
 use Rattle.clap.specs.Simple.{built, entered, is_simple, names_of, subcommand_of}
 use Rattle.clap.specs.Takes.{built_takes, takes}
 use Rattle.segment_lang.specs.Words.{between, is_digit, is_numeral, number_after, number_of}
-use Rattle.segment_cli.specs.Invocations.{Asked, create, run, check, grow, shrink, migrate, IsModePart, IsSizePart, IsWritten, asked_in, asked_of, command_line, is_path, mode_called, mode_word, run_sized, wants_size}
-use Rattle.segment_cli.specs.declared.invocations.ModeName.{ModeName}
-use Rattle.segment_cli.specs.declared.invocations.ModeName.TheVariants.{CreateOnly, OpenOnly, OpenOrCreate, OpenReadOnly, OpenCopyOnWrite}
-use Rattle.segment_cli.proofs.PlainWords.{IsPlain}
-use Rattle.segment_cli.proofs.Leaves.{file-passes, file-rows, number-passes, number-rows, run-both, run-file, run-mode, run-size}
+use Rattle.segment_invocation.specs.Invocations.{Asked, create, run, check, grow, shrink, migrate, IsModePart, IsSizePart, IsWritten, asked_in, asked_of, command_line, is_path, mode_called, mode_word, run_sized, wants_size}
+use Rattle.segment_invocation.specs.declared.invocations.ModeName.{ModeName}
+use Rattle.segment_invocation.specs.declared.invocations.ModeName.TheVariants.{CreateOnly, OpenOnly, OpenOrCreate, OpenReadOnly, OpenCopyOnWrite}
+use Rattle.segment_invocation.proofs.PlainWords.{IsPlain}
+use Rattle.segment_invocation.proofs.Leaves.{file-passes, file-rows, number-passes, number-rows, run-both, run-file, run-mode, run-size}
 
 -- ---- words that are no options
 

@@ -1,6 +1,6 @@
 //! What the program may be asked for.
 ghost use Rattle.std.specs.Prelude.{◌≡◌};
-ghost use Rattle.segment_cli.specs.Invocations.{mode_called, wants_size};
+ghost use Rattle.segment_invocation.specs.Invocations.{mode_called, wants_size};
 
 /// The name of a mode on the command line.
 #[derive(Clone, Copy, Debug, PartialEq, Eq)]

@@ -4,8 +4,8 @@ ghost use Rattle.clap.specs.Matches.{found_of};
 ghost use Rattle.clap.specs.Walk.{first_of, rows_of};
 ghost use Rattle.clap.specs.Simple.{subcommand_of};
 ghost use Rattle.segment_lang.specs.Words.{number_of};
-ghost use Rattle.segment_cli.specs.Invocations.{Asked, IsWritten, Reads, asked_by, asked_in, asked_of, asked_run, command_line, mode_of, size_of};
-ghost use Rattle.segment_cli.specs.declared.usage.InvocationFault.TheVariants.{OutOfMemory};
+ghost use Rattle.segment_invocation.specs.Invocations.{Asked, IsWritten, Reads, asked_by, asked_in, asked_of, asked_run, command_line, mode_of, size_of};
+ghost use Rattle.segment_invocation.specs.declared.usage.InvocationFault.TheVariants.{OutOfMemory};
 
 use crate::command_line::command_line;
 use crate::invocations::{Invocation, ModeName};

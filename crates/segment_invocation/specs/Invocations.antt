@@ -5,10 +5,10 @@ use Rattle.clap.specs.Walk.{Row, Rule, Text, first_of}
 use Rattle.clap.specs.Simple.{App, Shape, new_rule, new_shape, with_subcommand}
 use Rattle.clap.specs.declared.builder.action.ArgAction.TheVariants.{Set}
 use Rattle.segment_lang.specs.Words.{number_of}
-use Rattle.segment_cli.specs.declared.invocations.Invocation.{Invocation}
-use Rattle.segment_cli.specs.declared.invocations.Invocation.TheVariants.{Create, Run, Check, Grow, Shrink, Migrate}
-use Rattle.segment_cli.specs.declared.invocations.ModeName.{ModeName}
-use Rattle.segment_cli.specs.declared.invocations.ModeName.TheVariants.{CreateOnly, OpenOnly, OpenOrCreate, OpenReadOnly, OpenCopyOnWrite}
+use Rattle.segment_invocation.specs.declared.invocations.Invocation.{Invocation}
+use Rattle.segment_invocation.specs.declared.invocations.Invocation.TheVariants.{Create, Run, Check, Grow, Shrink, Migrate}
+use Rattle.segment_invocation.specs.declared.invocations.ModeName.{ModeName}
+use Rattle.segment_invocation.specs.declared.invocations.ModeName.TheVariants.{CreateOnly, OpenOnly, OpenOrCreate, OpenReadOnly, OpenCopyOnWrite}
 
 -- ---- the command line, as clap reads it
 

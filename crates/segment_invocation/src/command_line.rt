@@ -3,7 +3,7 @@ ghost use Rattle.std.specs.Prelude.{◌≡◌, false, IfOk};
 ghost use Rattle.clap.specs.Walk.{rule_of};
 ghost use Rattle.clap.specs.Simple.{app_of, shape_of};
 ghost use Rattle.clap.specs.declared.builder.command.Command.TheViews.{out-Command as fields_of};
-ghost use Rattle.segment_cli.specs.Invocations.{command_line, file_command, number_command, operand, option, program, run_command};
+ghost use Rattle.segment_invocation.specs.Invocations.{command_line, file_command, number_command, operand, option, program, run_command};
 
 use clap::{Arg, ArgAction, Command};
 use std::alloc::{AllocError, Global};

@@ -16,7 +16,7 @@ use Rattle.segment_cli.specs.declared.faults.Start.TheVariants.{Fresh, Image}
 use Rattle.segment_cli.specs.declared.faults.SessionFault.{SessionFault}
 use Rattle.segment_cli.specs.Session.{IsUntouched}
 use Rattle.segment_cli.specs.Beginning.{Starts, IsWhyNotBegun, created_fault, opened_fault}
-use Rattle.segment_cli.proofs.Zeros.{created_zeros, zeros_read}
+use Rattle.segment_cli.proofs.Gaps.{created_zeros, zeros_read}
 
 illegal : (size : ℕ) → is_legal_size size ≡ false → IsTrue (is_legal_size size) → ⊥
 illegal size refused legal =

@@ -1,6 +1,6 @@
 -- Each end of a session is one that it may have.
 use Rattle.std.proofs.Common.{◌≡◌, ℕ, false, true, inl, inr, List, [], ◌++◌, length, take, drop, Result, Ok, Err, MatchResult, refl, sym, ap, subst, ◌∙◌, arith}
-use Rattle.std.proofs.lemmas.List.{take-append-drop, length-drop}
+use Rattle.std.proofs.lemmas.List.{take-append-drop, length-drop, drop_all}
 use Rattle.raw_region.specs.Answers.{AddsFront}
 use Rattle.raw_region.specs.Device.{Gave, Took, Taken, IsProperPrefix, given_since, taken_since}
 use Rattle.raw_region.specs.Format.{current}
@@ -13,17 +13,17 @@ use Rattle.image_check.specs.Opening.{IsOutOfMemory, IsRefusedAs}
 use Rattle.segment_lang.specs.Language.{whole}
 use Rattle.segment_cli.specs.declared.faults.Start.{Start}
 use Rattle.segment_cli.specs.declared.faults.Start.TheVariants.{Image}
-use Rattle.segment_cli.specs.declared.faults.RunFault.{RunFault}
-use Rattle.segment_cli.specs.declared.faults.RunFault.TheVariants.{ReadFault as ScriptNotRead, WriteFault as AnswerNotWritten, ScriptTooLong as TooLong}
+use Rattle.segment_scripts.specs.declared.faults.RunFault.{RunFault}
+use Rattle.segment_scripts.specs.declared.faults.RunFault.TheVariants.{ReadFault as ScriptNotRead, WriteFault as AnswerNotWritten, ScriptTooLong as TooLong}
 use Rattle.segment_cli.specs.declared.faults.SessionFault.{SessionFault}
 use Rattle.segment_cli.specs.declared.faults.SessionFault.TheVariants.{Image as Refused, BadSize, RegionTooSmall, OutOfMemory, ReadFault, WriteFault, ScriptTooLong}
-use Rattle.segment_cli.specs.Run.{run}
+use Rattle.segment_scripts.specs.Run.{run}
 use Rattle.segment_cli.specs.Session.{Traffic, KeepsZeros, Saves, IsUntouched, IsSizeRefused, IsTooSmall, IsDone, IsImageUnwritten, IsRefusedBefore, AnswersFault, IsSession}
 use Rattle.segment_cli.specs.Beginning.{Starts, IsBegun, IsWhyNotBegun, run_fault}
-use Rattle.segment_cli.specs.Leaves.{LeavesFault, RunsWhole}
-use Rattle.segment_cli.specs.Segments.{Place, IsAt, answer_line}
-use Rattle.segment_cli.proofs.Cuts.{none_failed, nothing_yet}
-use Rattle.segment_cli.proofs.Zeros.{zeros_saved}
+use Rattle.segment_scripts.specs.Leaves.{LeavesFault, RunsWhole}
+use Rattle.segment_scripts.specs.Segments.{Place, IsAt, answer_line}
+use Rattle.segment_scripts.proofs.Laws.{none_failed}
+use Rattle.segment_cli.proofs.Gaps.{zeros_saved}
 use Rattle.segment_cli.proofs.SessionLaws.{place, stands_done, prints_done, done, script_unread, answer_unwritten, script_too_long}
 
 -- a writer was not asked
@@ -32,10 +32,10 @@ pub record IsUnwritten (t : Taken) : Type 0 where
   pub failed : t.failed ≡ false
 
 pub not_asked : (gave : Gave) → IsUntouched (given_since gave gave)
-not_asked gave = record { bytes = (nothing_yet gave.bytes).read; failed = none_failed gave.failures gave.failures refl }
+not_asked gave = record { bytes = drop_all (length gave.bytes) gave.bytes (omega arith); failed = none_failed gave.failures gave.failures refl }
 
 pub not_written : (took : Took) → IsUnwritten (taken_since took took)
-not_written took = record { bytes = (nothing_yet took.bytes).read; failed = none_failed took.failures took.failures refl }
+not_written took = record { bytes = drop_all (length took.bytes) took.bytes (omega arith); failed = none_failed took.failures took.failures refl }
 
 -- a front of the image was added
 pub front_added : (old new image : List ℕ) → AddsFront old new image → IsProperPrefix (drop (length old) new) image

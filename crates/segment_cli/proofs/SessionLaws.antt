@@ -9,12 +9,12 @@ use Rattle.segment_manager.specs.declared.modes.Mode.{Mode}
 use Rattle.segment_manager.specs.declared.modes.Mode.TheVariants.{Write}
 use Rattle.segment_manager.specs.Directory.{Directory}
 use Rattle.segment_cli.specs.declared.faults.Start.{Start}
-use Rattle.segment_cli.specs.Run.{lines, respond, run, run_lines}
-use Rattle.segment_cli.specs.ZeroGaps.{zeros_after, zeros_after_lines, zeros_after_run}
-use Rattle.segment_cli.specs.Session.{script_limit, whole_lines, Traffic, Begins, KeepsZeros, Saves, IsDone, IsCut, IsScriptUnread, IsAnswerUnwritten, IsScriptTooLong}
-use Rattle.segment_cli.specs.Leaves.{answer_all, Answers, RunsWhole, IsCutByReader, IsCutByWriter, IsCutAtLimit}
-use Rattle.segment_cli.specs.Lines.{ended_lines}
-use Rattle.segment_cli.specs.Segments.{Place, answer_line}
+use Rattle.segment_scripts.specs.Run.{lines, respond, run, run_lines}
+use Rattle.segment_scripts.specs.ZeroGaps.{zeros_after, zeros_after_lines, zeros_after_run}
+use Rattle.segment_cli.specs.Session.{Traffic, Begins, KeepsZeros, Saves, IsDone, IsCut, IsScriptUnread, IsAnswerUnwritten, IsScriptTooLong}
+use Rattle.segment_scripts.specs.Leaves.{answer_all, Answers, RunsWhole, IsCutByReader, IsCutByWriter, IsCutAtLimit}
+use Rattle.segment_scripts.specs.Lines.{ended_lines, script_limit, whole_lines}
+use Rattle.segment_scripts.specs.Segments.{Place, answer_line}
 
 -- ---- a run of lines
 

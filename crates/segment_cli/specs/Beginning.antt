@@ -13,8 +13,8 @@ use Rattle.image_check.specs.declared.errors.OpenError.TheVariants.{Image as NoI
 use Rattle.image_check.specs.Opening.{IsOutOfMemory, IsRefusedAs, IsUndecided}
 use Rattle.segment_cli.specs.declared.faults.Start.{Start}
 use Rattle.segment_cli.specs.declared.faults.Start.TheVariants.{Image}
-use Rattle.segment_cli.specs.declared.faults.RunFault.{RunFault}
-use Rattle.segment_cli.specs.declared.faults.RunFault.TheVariants.{ReadFault as ScriptNotRead, WriteFault as AnswerNotWritten, ScriptTooLong as TooLong}
+use Rattle.segment_scripts.specs.declared.faults.RunFault.{RunFault}
+use Rattle.segment_scripts.specs.declared.faults.RunFault.TheVariants.{ReadFault as ScriptNotRead, WriteFault as AnswerNotWritten, ScriptTooLong as TooLong}
 use Rattle.segment_cli.specs.declared.faults.SessionFault.{SessionFault}
 use Rattle.segment_cli.specs.declared.faults.SessionFault.TheVariants.{Image as Refused, BadSize, RegionTooSmall, OutOfMemory, ReadFault, WriteFault, ScriptTooLong}
 use Rattle.segment_cli.specs.Session.{Begins, BeginsWithZeros, IsImageLeft, IsSizeRefused, IsTooSmall}

@@ -1,5 +1,5 @@
 -- What a session owes: what it prints and saves, and what each fault leaves.
-use Rattle.std.specs.Prelude.{◌≡◌, ◌⊎◌, ◌<◌, ◌≤◌, ℕ, ◌+◌, Bool, true, false, ◌||◌, ◌&&◌, ⊤, nat_le, List, [], ◌∷◌, ◌++◌, length, take, IsTrue, ◌==◌, nat_lt, None, Result, Err, MatchResult, if◌then◌else◌}
+use Rattle.std.specs.Prelude.{◌≡◌, ◌⊎◌, ◌<◌, ◌≤◌, ℕ, ◌+◌, Bool, true, false, ⊤, List, [], ◌∷◌, ◌++◌, length, take, IsTrue, None, Result, Err, MatchResult}
 use Rattle.raw_region.specs.Device.{Given, Taken, IsProperPrefix}
 use Rattle.raw_region.specs.Format.{current}
 use Rattle.block_tags.specs.Format.{is_legal_size}
@@ -7,6 +7,7 @@ use Rattle.segment_manager.specs.declared.modes.Mode.{Mode}
 use Rattle.segment_manager.specs.declared.modes.Mode.TheVariants.{Write, ReadOnly as ReadOnlyMode, CopyOnWrite}
 use Rattle.segment_manager.specs.Directory.{Directory, empty}
 use Rattle.segment_manager.specs.State.{StandsFor}
+use Rattle.segment_manager.specs.Calls.{HasZeroGaps}
 use Rattle.image_check.specs.Classes.{class_of}
 use Rattle.image_check.specs.Opening.{IsOutOfMemory, IsRefusedAs, IsTooSmallFor, IsUndecided}
 use Rattle.segment_lang.specs.Language.{whole as whole_language}
@@ -15,12 +16,9 @@ use Rattle.segment_cli.specs.declared.faults.Start.{Start}
 use Rattle.segment_cli.specs.declared.faults.Start.TheVariants.{Fresh, Image}
 use Rattle.segment_cli.specs.declared.faults.SessionFault.{SessionFault}
 use Rattle.segment_cli.specs.declared.faults.SessionFault.TheVariants.{Image as Refused, BadSize, RegionTooSmall, OutOfMemory, ReadFault, WriteFault, ScriptTooLong}
-use Rattle.segment_cli.specs.Run.{run, run_lines, respond, lines}
-use Rattle.segment_cli.specs.ZeroGaps.{HasZeroGapsIn, zeros_after_run}
-
--- the most bytes that a script may have
-abbrev pub script_limit : ℕ
-script_limit = 16777216
+use Rattle.segment_scripts.specs.Run.{run, run_lines, respond}
+use Rattle.segment_scripts.specs.Lines.{executable, script_limit, whole_lines}
+use Rattle.segment_scripts.specs.ZeroGaps.{zeros_after_run}
 
 -- what four devices gave and took
 pub record Traffic : Type 0 where
@@ -40,6 +38,10 @@ pub record IsUntouched (image : Given) : Type 0 where
 abbrev pub IsImageLeft : Start → Given → Type 0
 IsImageLeft (Fresh size) image = IsUntouched image
 IsImageLeft Image image = ⊤
+
+-- the gaps of these bytes are zero, as those of a segment are
+abbrev pub HasZeroGapsIn : List ℕ → Type 0
+HasZeroGapsIn image = HasZeroGaps (record { cut = record { before = []; bytes = image; after = [] }; mode = Write })
 
 -- an empty directory of a fresh size, or the one that the image denotes, which was read to its end
 abbrev pub Begins : Start → Given → Directory → Type 0
@@ -108,23 +110,12 @@ pub record IsDone (start : Start) (mode : Mode) (t : Traffic) : Type 0 where
   pub zeros : mode ≡ Write → KeepsZeros start mode t.image from t.script.bytes t.saved.bytes
   pub failed : failures t ≡ none_failed
 
--- the bytes up to the last line end among them
-abbrev pub whole_lines : List ℕ → List ℕ
-whole_lines [] = []
-whole_lines (c ∷ cs) = if (c == 0x0A) || nat_lt 0 (length (whole_lines cs)) then c ∷ whole_lines cs else []
-
 -- all lines that ended in the script, within its limit, were answered, and nothing is saved
 pub record IsCut (start : Start) (mode : Mode) (t : Traffic) : Type 0 where
   pub from : Directory
   pub begins : Begins start t.image from
   pub prints : t.out.bytes ≡ (run (whole_language current) mode from (whole_lines (take script_limit t.script.bytes))).0
   pub saves : t.saved.bytes ≡ []
-
--- the lines that may be executed: those that ended within the limit and, where the script ended within it, the last one
-abbrev pub executable : Given → List (List ℕ)
-executable script =
-    if script.ended && nat_le (length script.bytes) script_limit then lines script.bytes
-    else lines (whole_lines (take script_limit script.bytes))
 
 -- lines were answered, and of the answer to the next a proper prefix went out; nothing is saved
 pub record IsCutInAnswer (start : Start) (mode : Mode) (t : Traffic) : Type 0 where

@@ -6,14 +6,15 @@ ghost use Rattle.segment_manager.specs.declared.modes.Mode.TheVariants.{Write};
 ghost use Rattle.segment_manager.specs.Directory.{Directory};
 ghost use Rattle.segment_manager.specs.State.{StandsFor};
 ghost use Rattle.segment_cli.specs.Beginning.{Starts};
-ghost use Rattle.segment_cli.specs.Session.{IsSession, Saves, script_limit};
+ghost use Rattle.segment_scripts.specs.Lines.{script_limit};
+ghost use Rattle.segment_cli.specs.Session.{IsSession, Saves};
 
 use crate::faults::{SessionFault, Start};
 use crate::saving::save;
-use crate::scripts::run;
 use image_check::open;
 use raw_region::{DeviceFault, RawRegion, Sink, Source, Steps};
 use segment_manager::{Mode, Segment};
+use segment_scripts::run;
 use std::alloc::Global;
 
 /// The segment that the session runs its script on: an empty one of the fresh size, or the one of

@@ -2,7 +2,7 @@ use Rattle.std.proofs.Common.{arith}
 use Rattle.std.proofs.lemmas.Result.{err_from_is_err_and}
 use Rattle.raw_region.specs.Device.{given_since, taken_since}
 use Rattle.raw_region.proofs.Laws.{added}
-use Rattle.segment_cli.proofs.Cuts.{none_failed, one_failed}
+use Rattle.segment_scripts.proofs.Laws.{none_failed, one_failed}
 use Rattle.segment_cli.proofs.Endings.{front_added, not_written}
 use Rattle.segment_cli.proofs.Migrated.{migrated, not-migrated, unmigrated}
 use Rattle.segment_cli.proofs.migrations.migrate.Goals as goal

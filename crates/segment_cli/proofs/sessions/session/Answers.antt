@@ -2,7 +2,7 @@ use Rattle.std.proofs.Common.{length, arith}
 use Rattle.std.proofs.lemmas.Result.{err_from_is_err_and}
 use Rattle.raw_region.specs.Device.{given_since, taken_since}
 use Rattle.raw_region.proofs.Laws.{added}
-use Rattle.segment_cli.proofs.Cuts.{none_failed, one_failed}
+use Rattle.segment_scripts.proofs.Laws.{none_failed, one_failed}
 use Rattle.segment_cli.proofs.Endings.{at_first, first, not_asked, not_written, unbegun_session, stopped_session, done_session, unsaved_session}
 use Rattle.segment_cli.proofs.sessions.session.Goals as goal
 

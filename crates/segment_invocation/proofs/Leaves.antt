@@ -1,0 +1,170 @@
+-- What a parse makes of the words behind each command of the program.
+use Rattle.std.proofs.Common.{◌≡◌, refl, ap, ap₂, ◌∙◌, Bool, true, false, ◌&&◌, List, [], ◌∷◌, Some, None, codes}
+use Rattle.std.specs.List.{list_all}
+use Rattle.clap.proofs.OnLiterals.{clap_on_literals}
+use Rattle.clap.specs.Walk.{Row, Rule, Text, Walk, finished, idle, option as waits, nothing_held, rows_after, settled, walk, walk_from, walked}
+use Rattle.clap.specs.Simple.{Shape, built_leaf, inherited}
+use Rattle.clap.specs.Takes.{default_passes, is_valid, level_passes, settle_passes, turn_passes, walk_passes}
+use Rattle.clap.specs.declared.builder.value_parser.Reading.TheVariants as reading
+use Rattle.clap.specs.declared.parser.matches.ValueSource.TheVariants.{CommandLine}
+use Rattle.segment_invocation.specs.Invocations.{file_command, number_command, program, run_command}
+use Rattle.segment_invocation.proofs.PlainWords.{IsPlain, plain_step, turn-plain, walked-plain}
+
+-- a command as it is built
+abbrev pub leaf : Shape → Shape
+leaf s = built_leaf (inherited program.top s)
+
+-- the row of a word
+abbrev pub word_row : Text → Text → Row
+word_row id word = record { id = id; values = word ∷ []; count = None; source = Some CommandLine; reading = reading.AsWritten }
+
+-- the last tests of a level, behind the test of its words
+abbrev passes_at : Shape → Bool → Walk → Bool
+passes_at s words_pass end =
+    words_pass && (settle_passes s.rules s.args_override_self end.held && (list_all default_passes s.rules && is_valid s (finished s.rules end.held) false))
+
+-- ---- a file
+
+file-walk : (name f : Text) → IsPlain f → walk (leaf (file_command name)).rules [] nothing_held (f ∷ []) ≡ plain_step (leaf (file_command name)).rules (walk_from nothing_held) f
+file-walk name f p = walked-plain (leaf (file_command name)).rules nothing_held idle 1 f p
+
+pub file-rows : (name f : Text) → IsPlain f → rows_after (leaf (file_command name)).rules [] (f ∷ []) ≡ word_row (codes "file") f ∷ []
+file-rows name f p = ap (λ (w : Walk). finished (leaf (file_command name)).rules w.held) (file-walk name f p)
+
+file-words : (name f : Text) → IsPlain f → walk_passes (leaf (file_command name)) [] (walk_from nothing_held) (f ∷ []) ≡ true
+unfolding walk_passes
+file-words name f p = ap (λ b. b && true) (turn-plain (leaf (file_command name)) nothing_held idle 1 f p)
+
+pub file-passes : (name f : Text) → IsPlain f → level_passes (leaf (file_command name)) [] nothing_held (f ∷ []) false ≡ true
+unfolding clap_on_literals
+file-passes name f p = ap₂ (passes_at (leaf (file_command name))) (file-words name f p) (file-walk name f p)
+
+-- ---- a file and a number
+
+number-walk : (name f d : Text) → IsPlain f → IsPlain d
+    → walk (leaf (number_command name)).rules [] nothing_held (f ∷ d ∷ [])
+    ≡ plain_step (leaf (number_command name)).rules (plain_step (leaf (number_command name)).rules (walk_from nothing_held) f) d
+number-walk name f d p q =
+    let c : List Rule = (leaf (number_command name)).rules in
+    ap (λ (w : Walk). walked c [] w d) (walked-plain c nothing_held idle 1 f p) ∙ walked-plain c (plain_step c (walk_from nothing_held) f).held idle 2 d q
+
+pub number-rows : (name f d : Text) → IsPlain f → IsPlain d → rows_after (leaf (number_command name)).rules [] (f ∷ d ∷ []) ≡ word_row (codes "file") f ∷ word_row (codes "number") d ∷ []
+number-rows name f d p q = ap (λ (w : Walk). finished (leaf (number_command name)).rules w.held) (number-walk name f d p q)
+
+number-words : (name f d : Text) → IsPlain f → IsPlain d → walk_passes (leaf (number_command name)) [] (walk_from nothing_held) (f ∷ d ∷ []) ≡ true
+unfolding walk_passes
+number-words name f d p q =
+    let s : Shape = leaf (number_command name) in
+    ap₂ (λ a b. a && (b && true)) (turn-plain s nothing_held idle 1 f p)
+    (ap (λ (w : Walk). turn_passes s [] w d) (walked-plain s.rules nothing_held idle 1 f p) ∙ turn-plain s (plain_step s.rules (walk_from nothing_held) f).held idle 2 d q)
+
+pub number-passes : (name f d : Text) → IsPlain f → IsPlain d → level_passes (leaf (number_command name)) [] nothing_held (f ∷ d ∷ []) false ≡ true
+unfolding clap_on_literals
+number-passes name f d p q = ap₂ (passes_at (leaf (number_command name))) (number-words name f d p q) (number-walk name f d p q)
+
+-- ---- a file, and options
+
+abbrev pub run_leaf : Shape
+run_leaf = leaf run_command
+
+-- behind the file, behind the name of an option, and behind its value
+abbrev after_file : Text → Walk
+after_file f = plain_step run_leaf.rules (walk_from nothing_held) f
+
+abbrev at_option : Text → Walk → Walk
+at_option id w = record w { held = record w.held { rows = (settled run_leaf.rules w.held).rows; pending = Some (id, []) }; waiting = waits id }
+
+abbrev after_option : Text → Text → Walk → Walk
+after_option id v w = plain_step run_leaf.rules (at_option id w) v
+
+-- the words of an option and its value: where they lead, and that each passes
+abbrev Steps : Text → Text → Text → Walk → Type 0
+Steps word id v w = (walked run_leaf.rules [] (walked run_leaf.rules [] w word) v ≡ after_option id v w)
+    × (turn_passes run_leaf [] w word ≡ true) × (turn_passes run_leaf [] (walked run_leaf.rules [] w word) v ≡ true)
+
+mode-first : (f m : Text) → IsPlain m → Steps (codes "--mode") (codes "mode") m (after_file f)
+unfolding clap_on_literals
+mode-first f m p = (
+  walked-plain run_leaf.rules (at_option (codes "mode") (after_file f)).held (waits (codes "mode")) 2 m p,
+  refl,
+  turn-plain run_leaf (at_option (codes "mode") (after_file f)).held (waits (codes "mode")) 2 m p,
+)
+
+size-first : (f d : Text) → IsPlain d → Steps (codes "--size") (codes "size") d (after_file f)
+unfolding clap_on_literals
+size-first f d p = (
+  walked-plain run_leaf.rules (at_option (codes "size") (after_file f)).held (waits (codes "size")) 2 d p,
+  refl,
+  turn-plain run_leaf (at_option (codes "size") (after_file f)).held (waits (codes "size")) 2 d p,
+)
+
+size-second : (f m d : Text) → IsPlain d → Steps (codes "--size") (codes "size") d (after_option (codes "mode") m (after_file f))
+unfolding clap_on_literals
+size-second f m d p = (
+  walked-plain run_leaf.rules (at_option (codes "size") (after_option (codes "mode") m (after_file f))).held (waits (codes "size")) 2 d p,
+  refl,
+  turn-plain run_leaf (at_option (codes "size") (after_option (codes "mode") m (after_file f))).held (waits (codes "size")) 2 d p,
+)
+
+file-first : (f : Text) → IsPlain f → (walked run_leaf.rules [] (walk_from nothing_held) f ≡ after_file f) × (turn_passes run_leaf [] (walk_from nothing_held) f ≡ true)
+file-first f p = (walked-plain run_leaf.rules nothing_held idle 1 f p, turn-plain run_leaf nothing_held idle 1 f p)
+
+-- a walk, with the test of its words
+record IsWalk (words : List Text) (end : Walk) : Type 0 where
+  walk : walk run_leaf.rules [] nothing_held words ≡ end
+  passes : walk_passes run_leaf [] (walk_from nothing_held) words ≡ true
+
+no-option : (f : Text) → IsPlain f → IsWalk (f ∷ []) (after_file f)
+unfolding walk_passes
+no-option f p = record { walk = (file-first f p).0; passes = ap (λ b. b && true) (file-first f p).1 }
+
+one-option : (f word id v : Text) → IsPlain f → Steps word id v (after_file f) → IsWalk (f ∷ word ∷ v ∷ []) (after_option id v (after_file f))
+unfolding walk_passes
+one-option f word id v p s = record {
+  walk = ap (λ w. walked run_leaf.rules [] (walked run_leaf.rules [] w word) v) (file-first f p).0 ∙ s.0;
+  passes = ap₂ ◌&&◌ (file-first f p).1 (ap₂ ◌&&◌ (ap (λ w. turn_passes run_leaf [] w word) (file-first f p).0 ∙ s.1)
+      (ap (λ b. b && true) (ap (λ w. turn_passes run_leaf [] (walked run_leaf.rules [] w word) v) (file-first f p).0 ∙ s.2)));
+}
+
+two-options : (f word id v word' id' v' : Text) → IsPlain f → Steps word id v (after_file f) → Steps word' id' v' (after_option id v (after_file f))
+    → IsWalk (f ∷ word ∷ v ∷ word' ∷ v' ∷ []) (after_option id' v' (after_option id v (after_file f)))
+unfolding walk_passes
+two-options f word id v word' id' v' p s t =
+    let one = ap (λ w. walked run_leaf.rules [] (walked run_leaf.rules [] w word) v) (file-first f p).0 ∙ s.0 in
+    record {
+      walk = ap (λ w. walked run_leaf.rules [] (walked run_leaf.rules [] w word') v') one ∙ t.0;
+      passes = ap₂ ◌&&◌ (file-first f p).1 (ap₂ ◌&&◌ (ap (λ w. turn_passes run_leaf [] w word) (file-first f p).0 ∙ s.1)
+          (ap₂ ◌&&◌ (ap (λ w. turn_passes run_leaf [] (walked run_leaf.rules [] w word) v) (file-first f p).0 ∙ s.2)
+          (ap₂ ◌&&◌ (ap (λ w. turn_passes run_leaf [] w word') one ∙ t.1)
+          (ap (λ b. b && true) (ap (λ w. turn_passes run_leaf [] (walked run_leaf.rules [] w word') v') one ∙ t.2)))));
+    }
+
+-- the rows of a run's words, and that they pass
+pub record IsRead (words : List Text) (rows : List Row) : Type 0 where
+  pub found : rows_after run_leaf.rules [] words ≡ rows
+  pub passes : level_passes run_leaf [] nothing_held words false ≡ true
+
+pub run-file : (f : Text) → IsPlain f → IsRead (f ∷ []) (word_row (codes "file") f ∷ [])
+unfolding clap_on_literals
+run-file f p =
+    let w : IsWalk (f ∷ []) (after_file f) = no-option f p in
+    record { found = ap (λ (e : Walk). finished run_leaf.rules e.held) w.walk; passes = ap₂ (passes_at run_leaf) w.passes w.walk }
+
+pub run-mode : (f m : Text) → IsPlain f → IsPlain m → IsRead (f ∷ codes "--mode" ∷ m ∷ []) (word_row (codes "file") f ∷ word_row (codes "mode") m ∷ [])
+unfolding clap_on_literals
+run-mode f m p q =
+    let w = one-option f (codes "--mode") (codes "mode") m p (mode-first f m q) in
+    record { found = ap (λ (e : Walk). finished run_leaf.rules e.held) w.walk; passes = ap₂ (passes_at run_leaf) w.passes w.walk }
+
+pub run-size : (f d : Text) → IsPlain f → IsPlain d → IsRead (f ∷ codes "--size" ∷ d ∷ []) (word_row (codes "file") f ∷ word_row (codes "size") d ∷ [])
+unfolding clap_on_literals
+run-size f d p q =
+    let w = one-option f (codes "--size") (codes "size") d p (size-first f d q) in
+    record { found = ap (λ (e : Walk). finished run_leaf.rules e.held) w.walk; passes = ap₂ (passes_at run_leaf) w.passes w.walk }
+
+pub run-both : (f m d : Text) → IsPlain f → IsPlain m → IsPlain d
+    → IsRead (f ∷ codes "--mode" ∷ m ∷ codes "--size" ∷ d ∷ []) (word_row (codes "file") f ∷ word_row (codes "mode") m ∷ word_row (codes "size") d ∷ [])
+unfolding clap_on_literals
+run-both f m d p q r =
+    let w = two-options f (codes "--mode") (codes "mode") m (codes "--size") (codes "size") d p (mode-first f m q) (size-second f m d r) in
+    record { found = ap (λ (e : Walk). finished run_leaf.rules e.held) w.walk; passes = ap₂ (passes_at run_leaf) w.passes w.walk }

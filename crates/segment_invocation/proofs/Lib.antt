@@ -1,0 +1,3 @@
+mod PlainWords
+mod Leaves
+mod CommandLines

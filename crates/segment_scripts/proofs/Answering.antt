@@ -1,0 +1,144 @@
+-- A call of the segment is the step of its command.
+use Rattle.std.proofs.Common.{◌≡◌, refl, sym, ap, subst, ◌∙◌, ℕ, true, false, Result, Ok, Err, Option, Some, None, length}
+use Rattle.std.specs.Prelude.{OnOk, OnErr}
+use Rattle.best_fit.specs.Extents.{LiveSet}
+use Rattle.seg_types.specs.declared.refusals.Refusal.{Refusal}
+use Rattle.seg_types.specs.Names.{Key}
+use Rattle.seg_types.specs.Commands as asked
+use Rattle.seg_types.specs.Commands.{Command, is_changing}
+use Rattle.seg_types.specs.declared.keys.Key.{Key as CodeKey}
+use Rattle.seg_types.specs.Keys.{key_seen}
+use Rattle.segment_manager.specs.declared.modes.Mode.{Mode}
+use Rattle.segment_manager.specs.declared.modes.Mode.TheVariants.{Write, ReadOnly, CopyOnWrite}
+use Rattle.segment_manager.specs.Directory.{Directory, Object, live, named_objects, object_at, unique_objects}
+use Rattle.segment_manager.specs.Answers.{Answer, Done, Number, is_untouched}
+use Rattle.segment_manager.specs.Calls.{HasZeroGaps}
+use Rattle.segment_manager.specs.State.{KeepsRefused, State, StandsFor, IsReply, IsStep, answer_of}
+use Rattle.segment_manager.specs.Plan.{perform}
+use Rattle.segment_manager.specs.Step.{effect, is_read_only, step}
+use Rattle.segment_manager.proofs.Laws.{step-reads}
+use Rattle.segment_scripts.specs.declared.replies.Answer.{Answer as Reply}
+use Rattle.segment_scripts.specs.declared.replies.Answer.TheVariants as said
+use Rattle.segment_scripts.specs.Replies.{Replies, answer_seen, shown_at, shown_of, told_at, told_of}
+use Rattle.segment_scripts.specs.ZeroGaps.{is_zero_free}
+
+-- ---- what only reads
+
+-- a command that changes nothing is refused in no mode
+pub performed-reads : (mode : Mode) (d : Directory) (c : Command) → is_changing c ≡ false → step mode d c ≡ perform d (live d) (effect d c)
+unfolding step
+performed-reads Write d c e = refl
+performed-reads ReadOnly d c e = rw e refl
+performed-reads CopyOnWrite d c e = refl
+
+-- nor is any in a segment that may be changed
+pub performed : (mode : Mode) (d : Directory) (c : Command) → is_read_only mode ≡ false → step mode d c ≡ perform d (live d) (effect d c)
+unfolding step
+performed Write d c e = refl
+performed ReadOnly d c e = absurd (cc)
+performed CopyOnWrite d c e = refl
+
+pub answered-reads : (mode : Mode) (d : Directory) (c : Command) → is_changing c ≡ false → (step mode d c).0 ≡ (perform d (live d) (effect d c)).0
+answered-reads mode d c e = ap (λ (r : Answer × Directory). r.0) (performed-reads mode d c e)
+
+-- the size that is answered is the directory's
+pub size_is : (mode : Mode) (d : Directory) (n : ℕ) → Number n ≡ (step mode d asked.Size).0 → n ≡ d.size
+size_is mode d n e =
+    let same : Number n ≡ Number d.size = e ∙ answered-reads mode d asked.Size refl in
+    cc
+
+-- how many entries the indexes have
+pub named_is : (mode : Mode) (d : Directory) (n : ℕ) → Number n ≡ (step mode d asked.NumNamed).0 → n ≡ length (named_objects d)
+named_is mode d n e =
+    let same : Number n ≡ Number (length (named_objects d)) = e ∙ answered-reads mode d asked.NumNamed refl in
+    cc
+
+pub unique_is : (mode : Mode) (d : Directory) (n : ℕ) → Number n ≡ (step mode d asked.NumUnique).0 → n ≡ length (unique_objects d)
+unique_is mode d n e =
+    let same : Number n ≡ Number (length (unique_objects d)) = e ∙ answered-reads mode d asked.NumUnique refl in
+    cc
+
+shown-found : (d : Directory) (l : LiveSet) (key : Key) (r : Option Object) → object_at d key ≡ r → shown_of r ≡ (perform d l (effect d (asked.Show key))).0
+shown-found d l key None e = rw (e, perform) refl
+shown-found d l key (Some o) e = rw (e, perform) refl
+
+-- what is shown of an object
+pub show-is : (mode : Mode) (d : Directory) (key : Key) → shown_at d key ≡ (step mode d (asked.Show key)).0
+show-is mode d key = shown-found d (live d) key (object_at d key) refl ∙ sym (answered-reads mode d (asked.Show key) refl)
+
+told-found : (d : Directory) (l : LiveSet) (key : Key) (r : Option Object) → object_at d key ≡ r → told_of r ≡ (perform d l (effect d (asked.Info key))).0
+told-found d l key None e = rw (e, perform) refl
+told-found d l key (Some o) e = rw (e, perform) refl
+
+-- what is told of an object
+told-is : (mode : Mode) (d : Directory) (key : Key) → told_at d key ≡ (step mode d (asked.Info key)).0
+told-is mode d key = told-found d (live d) key (object_at d key) refl ∙ sym (answered-reads mode d (asked.Info key) refl)
+
+module _ (s : State) where
+  -- the directory stays, and the segment
+  pub reads : (c : Command) (reply : Reply) → is_changing c ≡ false → ((d : Directory) → StandsFor s.cut.bytes d → answer_seen d reply ≡ (step s.mode d c).0) → Replies s s c reply
+  reads c reply e says =
+      let same = λ (d : Directory). step-reads s.mode d c e in
+      record {
+        stays = record { mode = refl; place = record { before = refl; after = refl } };
+        answers = λ d h. ap (λ (x : Directory). answer_seen x reply) (same d) ∙ says d h;
+        denotes = λ d h. subst (StandsFor s.cut.bytes) (sym (same d)) h;
+        reads = λ _. refl;
+        refused = λ _ _ _. refl;
+        zeros = λ _ _ is _. absurd (cc (ap is_changing is));
+      }
+
+  -- a call that only reads, and answers as the machine does
+  pub replies-read : (c : Command) (reply : Reply) (answer : Answer) → is_changing c ≡ false → ((d : Directory) → answer_seen d reply ≡ answer) → IsReply s c answer → Replies s s c reply
+  replies-read c reply answer e same h = reads c reply e (λ d stands. same d ∙ h.answers d stands)
+
+  -- what is long is read later
+  pub replies-show : (key : CodeKey) → Replies s s (asked.Show (key_seen key)) (said.Shown key)
+  replies-show key = reads (asked.Show (key_seen key)) (said.Shown key) refl (λ d h. show-is s.mode d (key_seen key))
+
+  pub replies-info : (key : CodeKey) → Replies s s (asked.Info (key_seen key)) (said.Told key)
+  replies-info key = reads (asked.Info (key_seen key)) (said.Told key) refl (λ d h. told-is s.mode d (key_seen key))
+
+  pub replies-names : Replies s s asked.ListNames said.Names
+  replies-names = reads asked.ListNames said.Names refl (λ d h. sym (answered-reads s.mode d asked.ListNames refl))
+
+  pub replies-kinds : Replies s s asked.ListKinds said.Kinds
+  replies-kinds = reads asked.ListKinds said.Kinds refl (λ d h. sym (answered-reads s.mode d asked.ListKinds refl))
+
+  pub replies-blocks : Replies s s asked.ListBlocks said.Blocks
+  replies-blocks = reads asked.ListBlocks said.Blocks refl (λ d h. sym (answered-reads s.mode d asked.ListBlocks refl))
+
+-- ---- what may change the segment
+
+pub kept-refused : {A : Type 0} (f : A → Answer) → ((a : A) → is_untouched (f a) ≡ false) → (result : Result A Refusal) (old new : State) → KeepsRefused old new result → is_untouched (answer_of f result) ≡ true → new ≡ old
+kept-refused f plain (Ok a) old new h e = absurd (cc (plain a))
+kept-refused f plain (Err r) old new h e = h e
+
+-- a call that changes nothing where it is refused
+pub keeps-refused : {A : Type 0} (old new : State) (result : Result A Refusal) → OnErr result (new ≡ old) → KeepsRefused old new result
+keeps-refused old new (Ok a) h = tt
+keeps-refused old new (Err r) h = λ _. h
+
+done-zeros : {A : Type 0} (f : A → Answer) (result : Result A Refusal) (new : State) → OnOk result (HasZeroGaps new) → answer_of f result ≡ Done → HasZeroGaps new
+done-zeros f (Ok a) new h e = h
+done-zeros f (Err r) new h e = absurd (cc)
+
+-- a call that is a step, and where it is refused before it asks for a block changes nothing
+pub replies-step : {A : Type 0} (f : A → Answer) → ((a : A) → is_untouched (f a) ≡ false) → (old new : State) (c : Command) (result : Result A Refusal) (reply : Reply)
+    → is_changing c ≡ true → ((d : Directory) → answer_seen d reply ≡ answer_of f result) → IsStep old new c (answer_of f result) → KeepsRefused old new result
+    → (c ≡ asked.ZeroFree → OnOk result (HasZeroGaps new)) → Replies old new c reply
+replies-step f plain old new c result reply e same h refused zeros = record {
+  stays = h.stays;
+  answers = λ d s. same (step old.mode d c).1 ∙ h.answers d s;
+  denotes = h.denotes;
+  reads = λ n. absurd (cc);
+  refused = λ d s r. kept-refused f plain result old new refused (ap is_untouched (h.answers d s) ∙ r);
+  zeros = λ d s is done. done-zeros f result new (zeros is) (h.answers d s ∙ done);
+}
+
+-- the same of any command but the one that clears gaps
+pub replies-call : {A : Type 0} (f : A → Answer) → ((a : A) → is_untouched (f a) ≡ false) → (old new : State) (c : Command) (result : Result A Refusal) (reply : Reply)
+    → is_changing c ≡ true → is_zero_free c ≡ false → ((d : Directory) → answer_seen d reply ≡ answer_of f result) → IsStep old new c (answer_of f result) → KeepsRefused old new result
+    → Replies old new c reply
+replies-call f plain old new c result reply e other same h refused =
+    replies-step f plain old new c result reply e same h refused (λ is. absurd (let clears : is_zero_free c ≡ true = ap is_zero_free is in cc))

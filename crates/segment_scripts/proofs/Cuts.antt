@@ -1,0 +1,174 @@
+-- Where a run stops: at a fault of a device, at the limit, or at the end.
+use Rattle.std.proofs.Common.{◌≡◌, ◌==◌, ℕ, ◌+◌, ◌<◌, ◌≤◌, min, nat_lt, nat_le, inl, inr, false, true, List, [], ◌∷◌, ◌++◌, length, take, drop, refl, sym, ap, subst, ◌∙◌, arith}
+use Rattle.std.proofs.lemmas.List.{append_assoc, take_all, take-take, drop_all, length-take, length-drop, length-append, append-nil, length-take-le, take-append-drop}
+use Rattle.std.proofs.lemmas.Bool.{ne_eqb}
+use Rattle.std.proofs.lemmas.Bool.Decides.{nat_tests}
+use Rattle.std.proofs.Math.Seq.{take-append-add}
+use Rattle.raw_region.specs.Answers.{AddsFront}
+use Rattle.raw_region.specs.Device.{Given, Grows}
+use Rattle.raw_region.proofs.Laws.{added, both_added}
+use Rattle.segment_scripts.specs.Run.{lines}
+use Rattle.segment_scripts.specs.Leaves.{answer_all, Answers, AnswersPart}
+use Rattle.segment_scripts.specs.Lines.{ended_lines, open_line, script_limit, executable}
+use Rattle.segment_scripts.specs.Behind.{kept, HasAnswered, HasStopped, IsBehind, IsStoppedIn, IsStoppedAtLast}
+use Rattle.segment_scripts.proofs.Kept.{at_most_or_more}
+use Rattle.segment_scripts.proofs.LineLaws.{ended_lines-end, lines-parts, last_lines, last-some, last-none}
+use Rattle.segment_scripts.proofs.RunLaws.{answers_one, stops_at, same_answer}
+
+-- ---- devices
+
+pub none_failed : (old new : ℕ) → new ≡ old → nat_lt old new ≡ false
+none_failed old new e = grind (arith, nat_tests)
+
+pub one_failed : (old new : ℕ) → new ≡ old + 1 → nat_lt old new ≡ true
+one_failed old new e = grind (arith, nat_tests)
+
+-- a device that gave more
+pub since-more : (old mid new xs : List ℕ) → Grows old mid → new ≡ mid ++ xs → drop (length old) new ≡ drop (length old) mid ++ xs
+since-more old mid new xs h e = added old new (drop (length old) mid ++ xs) (both_added old mid new (drop (length old) mid) xs h e)
+
+pub record HasNothingNew (old : List ℕ) : Type 0 where
+  pub grows : Grows old old
+  pub read : drop (length old) old ≡ []
+
+pub nothing_yet : (old : List ℕ) → HasNothingNew old
+nothing_yet old =
+    let none : drop (length old) old ≡ [] = drop_all (length old) old (omega arith) in
+    record { grows = rw none (sym (append-nil old)); read = none }
+
+-- ---- the limit
+
+take-take-min : (n m : ℕ) (xs : List ℕ) → take n (take m xs) ≡ take (min m n) xs
+take-take-min n m xs = elim (at_most_or_more m n) [
+  | inl h ↦ let k : min m n ≡ m = omega arith in
+      take_all n (take m xs) (let long = length-take m xs in omega arith) ∙ ap (λ (i : ℕ). take i xs) (sym k)
+  | inr h ↦ let k : min m n ≡ n = omega arith in
+      take-take n m xs (omega arith) ∙ ap (λ (i : ℕ). take i xs) (sym k)
+]
+
+-- of one piece more only what is left counts
+pub within_limit : (limit left count : ℕ) (read xs : List ℕ) → length read + left ≡ limit → take limit (read ++ take count xs) ≡ read ++ take (min count left) xs
+within_limit limit left count read xs e =
+    ap (λ (n : ℕ). take n (read ++ take count xs)) (sym e) ∙ take-append-add read (take count xs) left ∙ ap (λ (l : List ℕ). read ++ l) (take-take-min left count xs)
+
+pub executable-open : (script : Given) → script.ended ≡ false → executable script ≡ ended_lines (take script_limit script.bytes)
+unfolding ended_lines
+executable-open script e = rw e refl
+
+pub executable-whole : (script : Given) → script.ended ≡ true → length script.bytes ≤ script_limit → executable script ≡ lines script.bytes
+executable-whole script e h =
+    let k : nat_le (length script.bytes) script_limit ≡ true = grind (arith, nat_tests) in
+    rw (e, k) refl
+
+-- ---- the last line
+
+last_is : (all : List ℕ) → (length (take kept all) == 0) ≡ false → last_lines all ≡ all ∷ []
+last_is [] e = absurd (cc)
+last_is (c ∷ cs) e = last-some c cs
+
+some_kept : (n c : ℕ) (cs : List ℕ) → 0 < n → (length (take n (c ∷ cs)) == 0) ≡ false
+some_kept n c cs h = ne_eqb (length (take n (c ∷ cs))) 0 (λ e. let long = length-take n (c ∷ cs) in omega arith)
+
+last_is_none : (all : List ℕ) → (length (take kept all) == 0) ≡ true → last_lines all ≡ []
+last_is_none [] e = last-none
+last_is_none (c ∷ cs) e = absurd (let h = some_kept kept c cs (omega arith) in cc)
+
+pub last_line : (read line : List ℕ) → line ≡ take kept (open_line read) → (length line == 0) ≡ false → lines read ≡ ended_lines read ++ open_line read ∷ []
+last_line read line e h = lines-parts read ∙ ap (λ (ls : List (List ℕ)). ended_lines read ++ ls) (last_is (open_line read) (rw (← e) h))
+
+pub no_last_line : (read line : List ℕ) → line ≡ take kept (open_line read) → (length line == 0) ≡ true → lines read ≡ ended_lines read
+no_last_line read line e h = lines-parts read ∙ ap (λ (ls : List (List ℕ)). ended_lines read ++ ls) (last_is_none (open_line read) (rw (← e) h)) ∙ append-nil (ended_lines read)
+
+module _ {P : Type 0} (respond : P → List ℕ → List ℕ × P) where
+  pub printed : (start : P) (before : List ℕ) (ls : List (List ℕ)) (Stands : P → Type 0) (taken : List ℕ) → HasAnswered respond start before ls Stands taken → Answers respond start ls (drop (length before) taken) Stands
+  printed start before ls Stands taken h = record {
+    prints = added before taken (answer_all respond start ls).0 h.prints;
+    stands = h.stands;
+  }
+
+  pub printed_part : (start : P) (before : List ℕ) (all ls : List (List ℕ)) (l : List ℕ) (more : List (List ℕ)) (Stands : P → Type 0) (taken : List ℕ)
+      → HasStopped respond start before ls l Stands taken → all ≡ ls ++ l ∷ more → AnswersPart respond start all (drop (length before) taken) Stands
+  printed_part start before all ls l more Stands taken h e =
+      let told = (answer_all respond start ls).0 in
+      let text = (respond (answer_all respond start ls).1 l).0 in
+      let n = h.prints.count in
+      record {
+        answered = ls;
+        next = l;
+        rest = more;
+        parts = e;
+        front = take n text;
+        prints = added before taken (told ++ take n text) (h.prints.added ∙ append_assoc before told (take n text));
+        part = (drop n text, sym (take-append-drop n text), (let fewer = h.prints.fewer in omega (arith, length-drop n text)));
+        stands = h.stands;
+      }
+
+  -- a line end in the piece is executable, as far as the piece is within the limit
+  pub cut_in : (start : P) (before read piece : List ℕ) (left count within : ℕ) (script : Given) (Stands : P → Type 0) (taken : List ℕ)
+      → length read + left ≡ script_limit → within ≡ min count left
+      → script.bytes ≡ read ++ take count piece → script.ended ≡ false
+      → IsStoppedIn respond start before read (take within piece) Stands taken
+      → AnswersPart respond start (executable script) (drop (length before) taken) Stands
+  cut_in start before read piece left count within script Stands taken limit is bytes unended h =
+      let all : take script_limit script.bytes ≡ (read ++ h.front) ++ 0x0A ∷ h.more =
+      ap (take script_limit) bytes ∙ within_limit script_limit left count read piece limit ∙ ap (λ (n : ℕ). read ++ take n piece) (sym is)
+      ∙ ap (λ (l : List ℕ). read ++ l) h.parts ∙ sym (append_assoc read h.front (0x0A ∷ h.more)) in
+      printed_part start before (executable script) (ended_lines (read ++ h.front)) (open_line (read ++ h.front)) (ended_lines h.more) Stands taken h.stopped
+      (executable-open script unended ∙ ap ended_lines all ∙ ended_lines-end (read ++ h.front) h.more)
+
+  -- more bytes came than were left
+  pub cut_at_limit : (start : P) (before read piece : List ℕ) (left count within : ℕ) (bytes : List ℕ) (Stands : P → Type 0) (line taken : List ℕ)
+      → length read + left ≡ script_limit → within ≡ min count left
+      → bytes ≡ read ++ take count piece
+      → IsBehind respond start before (read ++ take within piece) Stands line taken
+      → Answers respond start (ended_lines (take script_limit bytes)) (drop (length before) taken) Stands
+  cut_at_limit start before read piece left count within bytes Stands line taken limit is given h =
+      let all : take script_limit bytes ≡ read ++ take within piece =
+      ap (take script_limit) given ∙ within_limit script_limit left count read piece limit ∙ ap (λ (n : ℕ). read ++ take n piece) (sym is) in
+      subst (λ (l : List ℕ). Answers respond start (ended_lines l) (drop (length before) taken) Stands) (sym all)
+      (printed start before (ended_lines (read ++ take within piece)) Stands taken h.answered)
+
+  pub beyond_limit : (read piece bytes : List ℕ) (left count : ℕ) → length read + left ≡ script_limit → left < count → count ≤ length piece → bytes ≡ read ++ take count piece → script_limit < length bytes
+  beyond_limit read piece bytes left count limit more fits given =
+      let long = ap length given in
+      let parts = length-append read (take count piece) in
+      let part = length-take-le count piece fits in
+      omega arith
+
+  -- the last line is answered
+  pub answered_last : ((place : P) (line : List ℕ) → 4097 < length line → respond place line ≡ respond place (take kept line))
+      → (start : P) (before read : List ℕ) (Stands Stands' : P → Type 0) (line taken taken' : List ℕ)
+      → IsBehind respond start before read Stands line taken
+      → (length line == 0) ≡ false
+      → ((p : P) → Stands p → Stands' (respond p line).1)
+      → ((p : P) → Stands p → taken' ≡ taken ++ (respond p line).0)
+      → HasAnswered respond start before (lines read) Stands' taken'
+  answered_last long start before read Stands Stands' line taken taken' h some leads ok =
+      let same = same_answer respond long line (open_line read) h.line_kept in
+      subst (λ (ls : List (List ℕ)). HasAnswered respond start before ls Stands' taken') (sym (last_line read line h.line_kept some))
+      (answers_one respond start before (ended_lines read) (open_line read) Stands Stands' taken taken' h.answered
+      (λ p s. subst (λ (r : List ℕ × P). Stands' r.1) (same p) (leads p s))
+      (λ p s. subst (λ (r : List ℕ × P). taken' ≡ taken ++ r.0) (same p) (ok p s)))
+
+  pub stopped_at_last : ((place : P) (line : List ℕ) → 4097 < length line → respond place line ≡ respond place (take kept line))
+      → (start : P) (before read : List ℕ) (Stands Stands' : P → Type 0) (line taken taken' : List ℕ)
+      → IsBehind respond start before read Stands line taken
+      → (length line == 0) ≡ false
+      → ((p : P) → Stands p → Stands' (respond p line).1)
+      → ((p : P) → Stands p → AddsFront taken taken' (respond p line).0)
+      → IsStoppedAtLast respond start before read Stands' taken'
+  stopped_at_last long start before read Stands Stands' line taken taken' h some leads err =
+      let same = same_answer respond long line (open_line read) h.line_kept in
+      record {
+        parts = last_line read line h.line_kept some;
+        stopped = stops_at respond start before (ended_lines read) (open_line read) Stands Stands' taken taken' h.answered
+            (λ p s. subst (λ (r : List ℕ × P). Stands' r.1) (same p) (leads p s))
+            (λ p s. subst (λ (r : List ℕ × P). AddsFront taken taken' r.0) (same p) (err p s));
+      }
+
+  -- there is no last line without an end
+  pub answered_all : (start : P) (before read : List ℕ) (Stands : P → Type 0) (line taken : List ℕ)
+      → IsBehind respond start before read Stands line taken → (length line == 0) ≡ true
+      → HasAnswered respond start before (lines read) Stands taken
+  answered_all start before read Stands line taken h none =
+      subst (λ (ls : List (List ℕ)). HasAnswered respond start before ls Stands taken) (sym (no_last_line read line h.line_kept none)) h.answered

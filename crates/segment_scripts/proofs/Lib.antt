@@ -1,0 +1,24 @@
+mod LineLaws
+mod LineEnds
+mod Kept
+mod RunLaws
+mod Cuts
+mod Owed
+mod WrongLines
+mod Meant
+mod NewKinds
+mod ArrayCalls
+mod Answering
+mod PartLines
+mod SetElements
+mod ElementCalls
+mod RowValues
+mod PairCalls
+mod ShownObjects
+mod PairParts
+mod ListedObjects
+mod BlockLines
+mod Zeros
+mod TextParts
+mod TextElements
+pub mod Laws

@@ -1,0 +1,112 @@
+-- The lines of objects in a listing.
+use Rattle.std.proofs.Common.{◌≡◌, ℕ, List, [], ◌∷◌, ◌++◌, length, Option, Some, None, Result, Ok, Err, refl, sym, ap, ◌∙◌, append_assoc}
+use Rattle.std.specs.Prelude.{codes}
+use Rattle.std.specs.List.{flat_map}
+use Rattle.seg_types.specs.declared.kinds.Kind.TheVariants.{Map}
+use Rattle.seg_types.specs.declared.kinds.ScalarKind.{ScalarKind}
+use Rattle.seg_types.specs.declared.refusals.Refusal.{Refusal}
+use Rattle.seg_types.specs.Names.{Key}
+use Rattle.segment_lang.specs.Texts.{kind_text, name_text, number_text}
+use Rattle.segment_manager.specs.declared.telling.Instance.{Instance}
+use Rattle.segment_manager.specs.Answers.{Refused}
+use Rattle.segment_manager.specs.Directory.{Value, Numbers, Elements, Bytes, Pairs, Texts, Object, Directory, kind_of}
+use Rattle.segment_manager.specs.Instances.{IsInstance, IsMissing, SaysAt, SaysOf}
+use Rattle.segment_manager.specs.State.{Answers, State, StandsFor}
+use Rattle.segment_manager.specs.Contents.{sizes_at, sizes_of}
+use Rattle.segment_scripts.specs.Answer.{answer_text, class_words, entry_words, handle_text, line, listing, measure_words}
+use Rattle.segment_scripts.specs.Replies.{told_at, told_of}
+use Rattle.segment_scripts.specs.Parts.{line_part, part_of, parts_until, said_words}
+use Rattle.segment_scripts.specs.Shown.{length_in, number_words}
+use Rattle.segment_scripts.proofs.PartLines.{parts-all}
+use Rattle.segment_scripts.proofs.ShownObjects.{sizes_of_object}
+
+abbrev pub last_line : List ℕ
+last_line = line (codes "end" ∷ [])
+
+listing-lines : (words : Object → List (List ℕ)) (os : List Object) → listing words os ≡ flat_map (λ o. line (words o)) os ++ last_line
+listing-lines words [] = refl
+listing-lines words (o ∷ os) =
+    ap (λ l. line (words o) ++ l) (listing-lines words os) ∙ sym (append_assoc (line (words o)) (flat_map (λ o. line (words o)) os) last_line)
+
+-- all lines, and then the last one
+pub listing-parts : (words : Object → List (List ℕ)) (os : List Object) (n : ℕ) → n ≡ length os → parts_until (line_part words os) n ++ last_line ≡ listing words os
+listing-parts words os n e =
+    ap (λ m. parts_until (line_part words os) m ++ last_line) e ∙ ap (λ l. l ++ last_line) (parts-all (λ o. line (words o)) os) ∙ sym (listing-lines words os)
+
+-- what is said of an object is printed as the object's words
+pub entry-said : (o : Object) (said : Instance) → IsInstance o said → said_words said ≡ entry_words o
+entry-said o said h = λ j. kind_text (h.kind j) ∷ number_text (h.count j) ∷ handle_text (h.at j) ∷ []
+
+pub named-said : (o : Object) (said : Instance) → IsInstance o said → line (name_text said.name.now ∷ said_words said) ≡ line (name_text o.name ∷ entry_words o)
+named-said o said h = λ j. line (name_text (h.name j) ∷ entry-said o said h j)
+
+pub unique-said : (o : Object) (said : Instance) → IsInstance o said → line (said_words said) ≡ line (entry_words o)
+unique-said o said h = ap line (entry-said o said h)
+
+-- the line of an object at a place of an index is the part of the listing
+pub said-part : (s : State) (words : Object → List (List ℕ)) (objects : Directory → List Object) (i : ℕ) (said : Instance) (text : List ℕ) → SaysAt s objects i said
+    → ((o : Object) → IsInstance o said → text ≡ line (words o)) → (d : Directory) → StandsFor s.cut.bytes d → text ≡ line_part words (objects d) i
+said-part s words objects i said text h same d k =
+    let o = h.says d k in
+    same o.0 o.2 ∙ sym (ap (part_of (λ p. line (words p))) o.1)
+
+-- ---- one object
+
+abbrev capacity_in : Result (ℕ × ℕ) Refusal → ℕ
+capacity_in (Ok (len, capacity)) = capacity
+capacity_in (Err r) = 0
+
+-- what is measured of an object is said behind the others: length and capacity
+measure-said : (v : Value) → ((k w : ScalarKind) → kind_of v ≡ Map k w → ⊥) → (len capacity : ℕ) → Ok (len, capacity) ≡ sizes_of v → number_words (Some len) ++ number_words (Some capacity) ≡ measure_words v
+measure-said (Numbers k zs) n len capacity e = absurd (cc)
+measure-said (Elements k zs t) n len capacity e = let one : len ≡ length zs = ap length_in e in let two : capacity ≡ t.capacity = ap capacity_in e in λ i. number_text (one i) ∷ number_text (two i) ∷ []
+measure-said (Bytes bs t) n len capacity e = let one : len ≡ length bs = ap length_in e in let two : capacity ≡ t.capacity = ap capacity_in e in λ i. number_text (one i) ∷ number_text (two i) ∷ []
+measure-said (Pairs k w ps) n len capacity e = absurd (n k w refl)
+measure-said (Texts ps t) n len capacity e = let one : len ≡ length ps = ap length_in e in let two : capacity ≡ t.capacity = ap capacity_in e in λ i. number_text (one i) ∷ number_text (two i) ∷ []
+
+-- of a map the length alone
+measure-map : (v : Value) (k w : ScalarKind) → kind_of v ≡ Map k w → (len capacity : ℕ) → Ok (len, capacity) ≡ sizes_of v → number_words (Some len) ++ [] ≡ measure_words v
+measure-map (Numbers l zs) k w f len capacity e = absurd (cc)
+measure-map (Elements l zs t) k w f len capacity e = absurd (cc)
+measure-map (Bytes bs t) k w f len capacity e = absurd (cc)
+measure-map (Pairs l m ps) k w f len capacity e = let one : len ≡ length ps = ap length_in e in λ i. number_text (one i) ∷ []
+measure-map (Texts ps t) k w f len capacity e = absurd (cc)
+
+-- and of numbers nothing
+measure-none : (v : Value) (why : Refusal) → Err why ≡ sizes_of v → [] ≡ measure_words v
+measure-none (Numbers k zs) why e = refl
+measure-none (Elements k zs t) why e = absurd (cc)
+measure-none (Bytes bs t) why e = absurd (cc)
+measure-none (Pairs k w ps) why e = absurd (cc)
+measure-none (Texts ps t) why e = absurd (cc)
+
+-- all that is told of an object
+module _ (s : State) (key : Key) (said : Instance) (h : SaysOf s key said) where
+  words-said : (d : Directory) (st : StandsFor s.cut.bytes d) (words : List (List ℕ)) → words ≡ measure_words (h.says d st).0.value
+      → line (class_words said.class said.name.now ++ said_words said ++ words) ≡ answer_text (told_at d key)
+  words-said d st words e =
+      let f = h.says d st in
+      (λ j. line (class_words (f.2.class j) (f.2.name j) ++ entry-said f.0 said f.2 j ++ e j)) ∙ ap (λ (q : Option Object). answer_text (told_of q)) (sym f.1)
+
+  measured : (r : Result (ℕ × ℕ) Refusal) → Answers s (λ d. sizes_at d key) r → (d : Directory) (st : StandsFor s.cut.bytes d) → r ≡ sizes_of (h.says d st).0.value
+  measured r a d st = a.answers d st ∙ ap sizes_of_object (h.says d st).1
+
+  pub told-said : (len capacity : ℕ) → ((k w : ScalarKind) → said.kind ≡ Map k w → ⊥) → Answers s (λ d. sizes_at d key) (Ok (len, capacity)) → (d : Directory) → StandsFor s.cut.bytes d
+      → line (class_words said.class said.name.now ++ said_words said ++ (number_words (Some len) ++ number_words (Some capacity))) ≡ answer_text (told_at d key)
+  told-said len capacity n a d st =
+      let f = h.says d st in
+      words-said d st (number_words (Some len) ++ number_words (Some capacity)) (measure-said f.0.value (λ k w e. n k w (f.2.kind ∙ e)) len capacity (measured (Ok (len, capacity)) a d st))
+
+  pub told-map : (k w : ScalarKind) (len capacity : ℕ) → said.kind ≡ Map k w → Answers s (λ d. sizes_at d key) (Ok (len, capacity)) → (d : Directory) → StandsFor s.cut.bytes d
+      → line (class_words said.class said.name.now ++ said_words said ++ (number_words (Some len) ++ number_words None)) ≡ answer_text (told_at d key)
+  told-map k w len capacity e a d st =
+      let f = h.says d st in
+      words-said d st (number_words (Some len) ++ []) (measure-map f.0.value k w (sym f.2.kind ∙ e) len capacity (measured (Ok (len, capacity)) a d st))
+
+  pub told-numbers : (why : Refusal) → Answers s (λ d. sizes_at d key) (Err why) → (d : Directory) → StandsFor s.cut.bytes d
+      → line (class_words said.class said.name.now ++ said_words said ++ (number_words None ++ number_words None)) ≡ answer_text (told_at d key)
+  told-numbers why a d st = words-said d st [] (measure-none (h.says d st).0.value why (measured (Err why) a d st))
+
+-- there is none
+pub told-missing : (s : State) (key : Key) (r : Refusal) → IsMissing s key r → (d : Directory) → StandsFor s.cut.bytes d → answer_text (Refused r) ≡ answer_text (told_at d key)
+told-missing s key r h d k = ap (λ (q : Refusal). answer_text (Refused q)) h.is ∙ ap (λ (o : Option Object). answer_text (told_of o)) (sym (h.missing d k))

@@ -1,0 +1,303 @@
+-- Commands on the texts of a vector of strings as a line writes them.
+use Rattle.std.proofs.Common.{◌≡◌, refl, sym, ap, subst, ◌∙◌, ℕ, ◌-◌, ◌≤◌, ◌⊎◌, inl, inr, Bool, true, false, ◌&&◌, if◌then◌else◌, Option, Some, None, Result, Ok, Err, List, ◌∷◌, [], length, map, take, arith}
+use Rattle.std.specs.Prelude.{OnErr, slice_get}
+use Rattle.best_fit.specs.Table.{Table}
+use Rattle.seg_types.specs.declared.kinds.Kind.{Kind}
+use Rattle.seg_types.specs.declared.kinds.Kind.TheVariants.{Map as MapKind, Scalar, Text, Texts as TextsKind, Vector}
+use Rattle.seg_types.specs.declared.kinds.ScalarKind.{ScalarKind}
+use Rattle.seg_types.specs.declared.refusals.Refusal.{Refusal}
+use Rattle.seg_types.specs.declared.refusals.Refusal.TheVariants as refusal
+use Rattle.seg_types.specs.declared.refusals.Refusal.TheVariants.{NotFound, OutOfRange, WrongKind}
+use Rattle.seg_types.specs.Kinds.{same_kind}
+use Rattle.seg_types.specs.Names.{Key, ByHandle}
+use Rattle.seg_types.specs.Commands as asked
+use Rattle.seg_types.specs.Commands.{Command, Literal, Quoted, Truth, Whole}
+use Rattle.seg_vector.specs.Vector.{OwnedText}
+use Rattle.segment_lang.specs.declared.literals.Literal.{Literal as CodeLiteral}
+use Rattle.segment_lang.specs.declared.literals.Literal.TheVariants.{Whole as CodeWhole, Truth as CodeTruth, Quoted as CodeQuoted}
+use Rattle.segment_lang.specs.Seen.{literal_of}
+use Rattle.segment_manager.specs.declared.modes.Mode.{Mode}
+use Rattle.segment_manager.specs.declared.targets.Object.{Object as Located}
+use Rattle.segment_manager.specs.Answers.{Answer, Done, Refused, TextElement, is_untouched, refusal_of}
+use Rattle.segment_manager.specs.Calls.{elements_at, elements_of, kind_at}
+use Rattle.segment_manager.specs.Contents.{sizes_at, sizes_of}
+use Rattle.segment_manager.specs.Directory.{Value, Numbers, Elements, Bytes, Pairs, Texts, Object, Directory, kind_of, live, object_at}
+use Rattle.segment_manager.specs.Instances.{IsMissing}
+use Rattle.segment_manager.specs.Laws.{at_key}
+use Rattle.segment_manager.specs.Located.{IsLocated}
+use Rattle.segment_manager.specs.Plan.{Plan, Refuse, Reply, perform, with, with_owned_texts, with_storage}
+use Rattle.segment_manager.specs.State.{Answers, IsReplyOfKind, IsStep, IsStepOfKind, LeadsOn, State, StandsFor, refusal_in}
+use Rattle.segment_manager.specs.Step as step
+use Rattle.segment_manager.specs.Step.{changed, effect, is_read_only, step_of_kind, texts_of}
+use Rattle.segment_manager.proofs.ElementLaws.{IsOfKindAt, kind-told, of_kind-steps, refused-steps, with-found, with-not_found}
+use Rattle.segment_manager.proofs.Laws.{step-same}
+use Rattle.segment_scripts.specs.Changes.{Executes, IsChangeable, IsNoElement, IsTextElement, IsUnchangeable}
+use Rattle.segment_scripts.specs.declared.replies.Answer.{Answer as Said}
+use Rattle.segment_scripts.specs.Answer.{answer_text}
+use Rattle.segment_scripts.specs.Replies.{answer_seen, bytes_taken, text_at, text_in, text_of}
+use Rattle.segment_scripts.specs.Writing.{WritesFor}
+use Rattle.raw_region.specs.Device.{Took, Writes}
+use Rattle.segment_scripts.specs.Shown.{length_in}
+use Rattle.segment_scripts.proofs.Answering.{answered-reads, performed}
+use Rattle.segment_scripts.proofs.ElementCalls.{IsTexts, texts-if}
+use Rattle.segment_scripts.proofs.NewKinds.{kind-same}
+
+-- ---- a literal that is no text
+
+abbrev NoText : Literal → Type 0
+NoText l = (bs : List ℕ) → l ≡ Quoted bs → ⊥
+
+not_pushed : (d : Directory) (o : Object) (ps : List OwnedText) (t : Table) (l : Literal) → NoText l → step.push d o (Texts ps t) l ≡ Refuse WrongKind
+not_pushed d o ps t (Whole z) n = refl
+not_pushed d o ps t (Truth b) n = refl
+not_pushed d o ps t (Quoted bs) n = absurd (n bs refl)
+
+not_inserted : (d : Directory) (o : Object) (ps : List OwnedText) (t : Table) (i : ℕ) (l : Literal) → NoText l → step.insert_at d o (Texts ps t) i l ≡ Refuse WrongKind
+not_inserted d o ps t i (Whole z) n = refl
+not_inserted d o ps t i (Truth b) n = refl
+not_inserted d o ps t i (Quoted bs) n = absurd (n bs refl)
+
+not_set : (d : Directory) (o : Object) (ps : List OwnedText) (t : Table) (i : ℕ) (l : Literal) → NoText l → step.set d o (Texts ps t) i l ≡ Refuse WrongKind
+not_set d o ps t i (Whole z) n = refl
+not_set d o ps t i (Truth b) n = refl
+not_set d o ps t i (Quoted bs) n = absurd (n bs refl)
+
+-- texts of literals are those of the texts' own, and where a literal is none there are none
+quoted-back : (ls : List Literal) (r : Result (List (List ℕ)) Refusal) → texts_of ls ≡ r → (bss : List (List ℕ)) → r ≡ Ok bss → ls ≡ map Quoted bss
+quoted-back ls r e bss f = back ls bss (e ∙ f)
+  where
+    more : (bs : List ℕ) (ls : List Literal) (r : Result (List (List ℕ)) Refusal) (bss : List (List ℕ)) → ((css : List (List ℕ)) → r ≡ Ok css → ls ≡ map Quoted css)
+        → (elim r as (λ _. Result (List (List ℕ)) Refusal) [ Ok css ↦ Ok (bs ∷ css) | Err w ↦ Err w ]) ≡ Ok bss → Quoted bs ∷ ls ≡ map Quoted bss
+    more bs ls (Ok css) bss h e = let same : bs ∷ css ≡ bss = cc in ap (λ l. Quoted bs ∷ l) (h css refl) ∙ ap (map Quoted) same
+    more bs ls (Err w) bss h e = absurd (cc)
+
+    back : (ls : List Literal) (bss : List (List ℕ)) → texts_of ls ≡ Ok bss → ls ≡ map Quoted bss
+    back [] bss e = let none : [] ≡ bss = cc in ap (map Quoted) none
+    back (Whole z ∷ ls) bss e = absurd (cc)
+    back (Truth b ∷ ls) bss e = absurd (cc)
+    back (Quoted bs ∷ ls) bss e = more bs ls (texts_of ls) bss (λ css f. back ls css f) e
+
+pub texts-back : (ls : List Literal) (bss : List (List ℕ)) → texts_of ls ≡ Ok bss → ls ≡ map Quoted bss
+texts-back ls bss e = quoted-back ls (texts_of ls) refl bss e
+
+not_assigned : (d : Directory) (o : Object) (ps : List OwnedText) (t : Table) (ls : List Literal) (why : Refusal) → texts_of ls ≡ Err why → step.assign d o (Texts ps t) ls ≡ Refuse why
+not_assigned d o ps t [] why e = absurd (cc)
+not_assigned d o ps t (l ∷ ls) why e = ap (λ r. with r (λ bss. with_storage 16 (length bss) (λ u. with_owned_texts bss (λ qs. Reply Done (changed d o (Texts qs u)))))) e
+
+text-read : (d : Directory) (r : Option OwnedText)
+    → elim r as (λ _. Answer) [ None ↦ Refused OutOfRange | Some p ↦ TextElement p.bytes ]
+    ≡ (perform d (live d) (with (elim r as (λ _. Result OwnedText Refusal) [ None ↦ Err OutOfRange | Some p ↦ Ok p ]) (λ p. Reply (TextElement p.bytes) d))).0
+text-read d None = refl
+text-read d (Some p) = refl
+
+text-taken : (d : Directory) (r : Option OwnedText) (f : OwnedText → Directory)
+    → elim r as (λ _. Answer) [ None ↦ Refused OutOfRange | Some p ↦ TextElement p.bytes ]
+    ≡ (perform d (live d) (with (elim r as (λ _. Result OwnedText Refusal) [ None ↦ Err OutOfRange | Some p ↦ Ok p ]) (λ p. Reply (TextElement p.bytes) (f p)))).0
+text-taken d None f = refl
+text-taken d (Some p) f = refl
+
+-- ---- the vector of strings of a key
+
+module _ (s : State) (key : Key) (a : Answers s (λ d. kind_at d key) (Ok TextsKind)) where
+  abbrev found : (d : Directory) → StandsFor s.cut.bytes d → IsOfKindAt d key TextsKind
+  found d st = kind-told d key TextsKind (a.answers d st)
+
+  held : (d : Directory) (st : StandsFor s.cut.bytes d) → IsTexts (found d st).object.value
+  held d st = texts-if (found d st).object.value (found d st).kind_is
+
+  module _ (writing : is_read_only s.mode ≡ false) where
+    pub set-no_text : (i : ℕ) (l : Literal) → NoText l → IsStep s s (asked.Set key i l) (Refused WrongKind)
+    set-no_text i l n =
+        refused-steps s (asked.Set key i l) WrongKind writing
+        (λ d st.
+        let o : Object = (found d st).object in
+        ap (perform d (live d))
+        (with-found d key o (λ o. step.set d o o.value i l) (found d st).is ∙ ap (λ v. step.set d o v i l) (held d st).is ∙ not_set d o (held d st).texts (held d st).table i l n))
+
+    pub no_text-element : (l : Literal) → NoText l → IsNoElement s key l WrongKind
+    no_text-element l n = record {
+      push = refused-steps s (asked.Push key l) WrongKind writing
+          (λ d st.
+          let o : Object = (found d st).object in
+          ap (perform d (live d))
+          (with-found d key o (λ o. step.push d o o.value l) (found d st).is ∙ ap (λ v. step.push d o v l) (held d st).is ∙ not_pushed d o (held d st).texts (held d st).table l n));
+      insert = λ i. refused-steps s (asked.Insert key i l) WrongKind writing
+          (λ d st.
+          let o : Object = (found d st).object in
+          ap (perform d (live d))
+          (with-found d key o (λ o. step.insert_at d o o.value i l) (found d st).is ∙ ap (λ v. step.insert_at d o v i l) (held d st).is ∙ not_inserted d o (held d st).texts (held d st).table i l n));
+    }
+
+    pub assign-no_texts : (ls : List Literal) (why : Refusal) → texts_of ls ≡ Err why → IsStep s s (asked.Assign key ls) (Refused why)
+    assign-no_texts ls why e =
+        refused-steps s (asked.Assign key ls) why writing
+        (λ d st.
+        let o : Object = (found d st).object in
+        ap (perform d (live d))
+        (with-found d key o (λ o. step.assign d o o.value ls) (found d st).is ∙ ap (λ v. step.assign d o v ls) (held d st).is ∙ not_assigned d o (held d st).texts (held d st).table ls why e))
+
+  pub assign-texts : (new : State) (ls : List Literal) (bss : List (List ℕ)) (answer : Answer) → texts_of ls ≡ Ok bss → IsStepOfKind s new key TextsKind (asked.Assign key (map Quoted bss)) answer → IsStep s new (asked.Assign key ls) answer
+  assign-texts new ls bss answer e r =
+      subst (λ ms. IsStep s new (asked.Assign key ms) answer) (sym (texts-back ls bss e)) (of_kind-steps s new key TextsKind (asked.Assign key (map Quoted bss)) answer a r)
+
+  -- ---- a text that is read
+
+  -- what the directory says of it is what is answered
+  pub get-text : (i : ℕ) (d : Directory) → StandsFor s.cut.bytes d → text_at d key i ≡ (step.step s.mode d (asked.Get key i)).0
+  get-text i d st =
+      let o : Object = (found d st).object in
+      let h : IsTexts o.value = held d st in
+      ap (λ r. text_in r i) (found d st).is ∙ ap (λ v. text_of v i) h.is ∙ text-read d (slice_get h.texts i)
+      ∙ sym (answered-reads s.mode d (asked.Get key i) refl
+      ∙ ap (λ p. (perform d (live d) p).0) (with-found d key o (λ o. step.get d o.value i) (found d st).is ∙ ap (λ v. step.get d v i) h.is))
+
+  -- ---- the last one
+
+  abbrev sizes_of_object : Option Object → Result (ℕ × ℕ) Refusal
+  sizes_of_object r = elim r as (λ _. Result (ℕ × ℕ) Refusal) [ None ↦ Err NotFound | Some o ↦ sizes_of o.value ]
+
+  -- the text before the length of the vector is what is taken out
+  pub pop-text : (n : ℕ) → is_read_only s.mode ≡ false → Answers s (λ d. length_in (sizes_at d key)) n → (d : Directory) → StandsFor s.cut.bytes d → text_at d key (n - 1) ≡ (step.step s.mode d (asked.Pop key)).0
+  pop-text n writing long d st =
+      let o : Object = (found d st).object in
+      let h : IsTexts o.value = held d st in
+      let len : n ≡ length h.texts = long.answers d st ∙ ap (λ (r : Option Object). length_in (sizes_of_object r)) (found d st).is ∙ ap (λ v. length_in (sizes_of v)) h.is in
+      ap (λ m. text_at d key (m - 1)) len
+      ∙ ap (λ r. text_in r (length h.texts - 1)) (found d st).is ∙ ap (λ v. text_of v (length h.texts - 1)) h.is
+      ∙ text-taken d (slice_get h.texts (length h.texts - 1)) (λ p. changed d o (Texts (take (length h.texts - 1) h.texts) h.table))
+      ∙ sym (ap (λ (n : Answer × Directory). n.0) (performed s.mode d (asked.Pop key) writing)
+      ∙ ap (λ p. (perform d (live d) p).0) (with-found d key o (λ o. step.pop d o o.value) (found d st).is ∙ ap (λ v. step.pop d o v) h.is))
+
+no_quoted : (l : CodeLiteral) → ((q : List ℕ) → l ≡ CodeQuoted q → ⊥) → NoText (literal_of l)
+no_quoted (CodeWhole z) n bs e = absurd (cc)
+no_quoted (CodeTruth b) n bs e = absurd (cc)
+no_quoted (CodeQuoted q) n bs e = absurd (n q refl)
+
+pub no_text-of : (s : State) (key : Key) (l : CodeLiteral) → IsChangeable s key TextsKind → ((q : List ℕ) → l ≡ CodeQuoted q → ⊥) → IsNoElement s key (literal_of l) WrongKind
+no_text-of s key l h n = no_text-element s key h.is h.writing (literal_of l) (no_quoted l n)
+
+pub set-no_text-of : (s : State) (key : Key) (i : ℕ) (l : CodeLiteral) → IsChangeable s key TextsKind → ((q : List ℕ) → l ≡ CodeQuoted q → ⊥) → IsStep s s (asked.Set key i (literal_of l)) (Refused WrongKind)
+set-no_text-of s key i l h n = set-no_text s key h.is h.writing i (literal_of l) (no_quoted l n)
+
+-- ---- the text of a key, whatever the kind of its object is
+
+with-if : (d : Directory) (key : Key) (i : ℕ) (o : Object) (v : Value) (b : Bool) → same_kind TextsKind (kind_of v) ≡ b → object_at d key ≡ Some o → o.value ≡ v
+    → (perform d (live d) (if b then effect d (asked.Get key i) else Refuse WrongKind)).0 ≡ text_of v i
+with-if d key i o (Numbers k zs) true e f g = let same : Scalar k ≡ TextsKind = kind-same TextsKind (Scalar k) e in absurd (cc)
+with-if d key i o (Numbers k zs) false e f g = refl
+with-if d key i o (Elements k zs t) true e f g = let same : Vector k ≡ TextsKind = kind-same TextsKind (Vector k) e in absurd (cc)
+with-if d key i o (Elements k zs t) false e f g = refl
+with-if d key i o (Bytes bs t) true e f g = let same : Text ≡ TextsKind = kind-same TextsKind (Text) e in absurd (cc)
+with-if d key i o (Bytes bs t) false e f g = refl
+with-if d key i o (Pairs k v ps) true e f g = let same : MapKind k v ≡ TextsKind = kind-same TextsKind (MapKind k v) e in absurd (cc)
+with-if d key i o (Pairs k v ps) false e f g = refl
+with-if d key i o (Texts ps t) true e f g =
+    ap (λ p. (perform d (live d) p).0) (with-found d key o (λ o. step.get d o.value i) f ∙ ap (λ v. step.get d v i) g) ∙ sym (text-read d (slice_get ps i))
+with-if d key i o (Texts ps t) false e f g = absurd (cc)
+
+abbrev for_texts : Directory → Key → ℕ → Object → Plan
+for_texts d key i o = if same_kind TextsKind (kind_of o.value) then effect d (asked.Get key i) else Refuse WrongKind
+
+asked-if : (d : Directory) (key : Key) (i : ℕ) (r : Option Object) → object_at d key ≡ r → (perform d (live d) (with (step.found_at d key) (for_texts d key i))).0 ≡ text_in r i
+asked-if d key i None e = ap (λ p. (perform d (live d) p).0) (with-not_found d key (for_texts d key i) e)
+asked-if d key i (Some o) e = ap (λ p. (perform d (live d) p).0) (with-found d key o (for_texts d key i) e) ∙ with-if d key i o o.value (same_kind TextsKind (kind_of o.value)) refl e refl
+
+read-only : (mode : Mode) (b : Bool) (p : Plan) → b ≡ false → (if b then Refuse refusal.ReadOnly else p) ≡ p
+read-only mode true p e = absurd (cc)
+read-only mode false p e = refl
+
+never : (b : Bool) → (b && false) ≡ false
+never true = refl
+never false = refl
+
+asked-step : (mode : Mode) (d : Directory) (key : Key) (i : ℕ) → (step_of_kind mode d key TextsKind (asked.Get key i)).0 ≡ (perform d (live d) (with (step.found_at d key) (for_texts d key i))).0
+unfolding step_of_kind
+asked-step mode d key i = ap (λ p. (perform d (live d) p).0) (read-only mode (is_read_only mode && false) (with (step.found_at d key) (for_texts d key i)) (never (is_read_only mode)))
+
+pub text-asked : (s : State) (key : Key) (i : ℕ) (answer : Answer) → IsReplyOfKind s key TextsKind (asked.Get key i) answer → (d : Directory) → StandsFor s.cut.bytes d → answer ≡ text_at d key i
+text-asked s key i answer r d st = r.answers d st ∙ asked-step s.mode d key i ∙ asked-if d key i (object_at d key) refl
+
+-- a new text
+pub push-text : (s new : State) (key : Key) (l : Literal) (bs : List ℕ) (answer : Answer) → IsTextElement s key l bs → IsStepOfKind s new key TextsKind (asked.Push key (Quoted bs)) answer → IsStep s new (asked.Push key l) answer
+push-text s new key l bs answer h r = subst (λ m. IsStep s new (asked.Push key m) answer) (sym h.is) (of_kind-steps s new key TextsKind (asked.Push key (Quoted bs)) answer h.of_kind.is r)
+
+pub insert-text : (s new : State) (key : Key) (i : ℕ) (l : Literal) (bs : List ℕ) (answer : Answer) → IsTextElement s key l bs → IsStepOfKind s new key TextsKind (asked.Insert key i (Quoted bs)) answer
+    → IsStep s new (asked.Insert key i l) answer
+insert-text s new key i l bs answer h r = subst (λ m. IsStep s new (asked.Insert key i m) answer) (sym h.is) (of_kind-steps s new key TextsKind (asked.Insert key i (Quoted bs)) answer h.of_kind.is r)
+
+-- a literal that takes no more bytes than a line has
+pub quoted-fits : (l : Literal) (bs : List ℕ) → l ≡ Quoted bs → bytes_taken (l ∷ []) ≤ 4097 → length bs ≤ 4096
+quoted-fits l bs e few = let same = ap (λ m. bytes_taken (m ∷ [])) e in omega arith
+
+-- ---- an object of scalars, or of none
+
+pub elements-told : (s : State) (key : Key) (kind : Kind) (k : ScalarKind) → Answers s (λ d. kind_at d key) (Ok kind) → elements_of kind ≡ Ok k → Answers s (λ d. elements_at d key) (Ok k)
+elements-told s key kind k a e = record {
+  answers = λ d st.
+      let f : IsOfKindAt d key kind = kind-told d key kind (a.answers d st) in
+      sym (ap (λ r. elim r as (λ _. Result ScalarKind Refusal) [ None ↦ Err NotFound | Some o ↦ elements_of (kind_of o.value) ]) f.is ∙ ap elements_of f.kind_is ∙ e);
+}
+
+-- one scalar, or a vector of scalars
+pub elements-either : (s : State) (key : Key) (kind : Kind) (k : ScalarKind) → IsChangeable s key kind → (kind ≡ Scalar k) ⊎ (kind ≡ Vector k) → Answers s (λ d. elements_at d key) (Ok k)
+elements-either s key kind k h (inl e) = elements-told s key kind k h.is (ap elements_of e)
+elements-either s key kind k h (inr e) = elements-told s key kind k h.is (ap elements_of e)
+
+no_map_set : (d : Directory) (o : Object) (v : Value) (i : ℕ) (l : Literal) (k m : ScalarKind) → kind_of v ≡ MapKind k m → step.set d o v i l ≡ Refuse WrongKind
+no_map_set d o (Numbers j zs) i l k m e = absurd (cc)
+no_map_set d o (Elements j zs t) i l k m e = absurd (cc)
+no_map_set d o (Bytes bs t) i l k m e = absurd (cc)
+no_map_set d o (Pairs j n ps) i l k m e = refl
+no_map_set d o (Texts ps t) i l k m e = absurd (cc)
+
+pub set-map : (s : State) (key : Key) (kind : Kind) (i : ℕ) (l : Literal) (k m : ScalarKind) → IsChangeable s key kind → kind ≡ MapKind k m → IsStep s s (asked.Set key i l) (Refused WrongKind)
+set-map s key kind i l k m h e =
+    refused-steps s (asked.Set key i l) WrongKind h.writing
+    (λ d st.
+    let f : IsOfKindAt d key kind = kind-told d key kind (h.is.answers d st) in
+    ap (perform d (live d)) (with-found d key f.object (λ o. step.set d o o.value i l) f.is ∙ no_map_set d f.object f.object.value i l k m (f.kind_is ∙ e)))
+
+pub set-unchangeable : (s : State) (key : Key) (why : Refusal) (i : ℕ) (l : Literal) → IsUnchangeable s key why → IsStep s s (asked.Set key i l) (Refused why)
+set-unchangeable s key why i l h = h.refuses (asked.Set key i l) refl (λ d n. with-not_found d key (λ o. step.set d o o.value i l) n)
+
+-- no object has the key
+pub get-missing : (s : State) (key : Key) (why : Refusal) → IsMissing s key why → (i : ℕ) (d : Directory) → StandsFor s.cut.bytes d → Refused why ≡ (step.step s.mode d (asked.Get key i)).0
+get-missing s key why m i d st =
+    ap Refused m.is ∙ sym (answered-reads s.mode d (asked.Get key i) refl ∙ ap (λ (p : Plan). (perform d (live d) p).0) (with-not_found d key (λ o. step.get d o.value i) (m.missing d st)))
+
+-- ---- a command that is executed
+
+pub executes-step : (old new : State) (c : Command) (answer : Answer) → IsStep old new c answer → (is_untouched answer ≡ true → new ≡ old) → Executes old new c
+executes-step old new c answer r same = record { stays = r.stays; denotes = r.denotes; refused = λ d st e. same (ap is_untouched (r.answers d st) ∙ e) }
+
+untouched-refused : (answer : Answer) → is_untouched answer ≡ true → (w : Refusal) × (refusal_of answer ≡ Some w)
+untouched-refused (Refused w) e = (w, refl)
+untouched-refused answer e = absurd (cc)
+
+same-if : (old new : State) (r : Result (Unit {0}) Refusal) (w : Refusal) → OnErr r (new ≡ old) → refusal_in r ≡ Some w → new ≡ old
+same-if old new (Ok u) w h e = absurd (cc)
+same-if old new (Err v) w h e = h
+
+pub executes-leading : (old new : State) (c : Command) (r : Result (Unit {0}) Refusal) → LeadsOn old new c (refusal_in r) → OnErr r (new ≡ old) → Executes old new c
+executes-leading old new c r h same = record {
+  stays = h.stays;
+  denotes = h.denotes;
+  refused = λ d st e. let w = untouched-refused (step.step old.mode d c).0 e in same-if old new r w.0 same (h.answers d st ∙ w.1);
+}
+
+-- under the handle of an object that was located
+pub executes-by_key : (old : State) (key : Key) (o : Located) (l : IsLocated old key o) (new : State) (c : Command) → Executes old new (at_key (ByHandle o.handle) c) → Executes old new (at_key key c)
+executes-by_key old key o l new c h = record {
+  stays = h.stays;
+  denotes = λ d st. subst (λ (n : Answer × Directory). StandsFor new.cut.bytes n.1) (step-same old key o l c d st) (h.denotes d st);
+  refused = λ d st e. h.refused d st (ap (λ (n : Answer × Directory). is_untouched n.0) (step-same old key o l c d st) ∙ e);
+}
+
+-- what is written of the answer of a step
+pub step-writes : {A E : Type 0} (old new : State) (c : Command) (answer : Answer) (reply : Said) (was now : Took) (result : Result A E) → IsStep old new c answer
+    → ((d : Directory) → answer_seen d reply ≡ answer) → WritesFor was now result (StandsFor new.cut.bytes) (λ d. answer_text (answer_seen d reply))
+    → WritesFor was now result (StandsFor old.cut.bytes) (λ d. answer_text (step.step old.mode d c).0)
+step-writes old new c answer reply was now result r same w = record {
+  writes = λ d k. subst (Writes was now result) (ap answer_text (same (step.step old.mode d c).1 ∙ r.answers d k)) (w.writes (step.step old.mode d c).1 (r.denotes d k));
+  counted = w.counted;
+}

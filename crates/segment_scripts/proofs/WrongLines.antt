@@ -1,0 +1,32 @@
+-- A line that is no command prints its error, and leaves the segment where it is.
+use Rattle.std.proofs.Common.{◌≡◌, Result, refl, ap, subst, ◌∙◌}
+use Rattle.seg_types.specs.Commands.{Reading}
+use Rattle.seg_types.specs.declared.refusals.LineError.{LineError}
+use Rattle.seg_types.specs.declared.refusals.LineError.TheVariants.{UnknownCommand, LineTooLong, BadSyntax}
+use Rattle.raw_region.specs.Device.{Took, Writes}
+use Rattle.segment_lang.specs.Seen.{wrong_reading}
+use Rattle.segment_manager.specs.State.{State}
+use Rattle.segment_scripts.specs.Run.{error_line, respond}
+use Rattle.segment_scripts.specs.Segments.{IsAt, Place, Responds, place_after}
+use Rattle.segment_scripts.proofs.Owed.{writes_owed}
+
+printed : (at : Place) (e : LineError) → error_line e ≡ (respond at.mode at.directory (wrong_reading e)).0
+printed at UnknownCommand = refl
+printed at LineTooLong = refl
+printed at BadSyntax = refl
+
+stays : (s : State) (at : Place) (e : LineError) → IsAt s at → IsAt s (place_after at (wrong_reading e))
+stays s at UnknownCommand h = record { mode = h.mode; denotes = h.denotes; zeros = h.zeros }
+stays s at LineTooLong h = record { mode = h.mode; denotes = h.denotes; zeros = h.zeros }
+stays s at BadSyntax h = record { mode = h.mode; denotes = h.denotes; zeros = h.zeros }
+
+pub responds-wrong : {A E : Type 0} (took took' : Took) (result : Result A E) (asked : Reading) (s : State) (e : LineError) → wrong_reading e ≡ asked → Writes took took' result (error_line e) → Responds s s took took' result asked
+responds-wrong took took' result asked s e is w = record {
+  leads = λ at h. subst (λ (r : Reading). IsAt s (place_after at r)) is (stays s at e h);
+  writes = writes_owed took took' result (IsAt s) (error_line e) (λ (at : Place). (respond at.mode at.directory asked).0) w
+      (λ at h. printed at e ∙ ap (λ (r : Reading). (respond at.mode at.directory r).0) is);
+}
+
+-- the same of a reading that is equal
+pub responds-same : {A E : Type 0} (old new : State) (took took' : Took) (result : Result A E) (asked reading : Reading) → asked ≡ reading → Responds old new took took' result asked → Responds old new took took' result reading
+responds-same old new took took' result asked reading e h = subst (Responds old new took took' result) e h

@@ -1,0 +1,122 @@
+-- Where a segment stands after a line: whether its gaps are zero.
+use Rattle.std.proofs.Common.{◌≡◌, ℕ, Bool, true, false, if◌then◌else◌, Result, refl, sym, ap, subst, ◌∙◌}
+use Rattle.raw_region.specs.Device.{Took, Writes}
+use Rattle.seg_types.specs.Names.{Key}
+use Rattle.seg_types.specs.Commands.{Command, Reading, Asked, Pop, ZeroFree, is_changing}
+use Rattle.seg_types.specs.declared.keys.Key.{Key as CodeKey}
+use Rattle.segment_lang.specs.declared.commands.Command.{Command as CodeCommand}
+use Rattle.segment_lang.specs.declared.commands.Command.TheVariants.{Get as CodeGet, Pop as CodePop}
+use Rattle.segment_lang.specs.Seen.{command_of}
+use Rattle.segment_manager.specs.declared.modes.Mode.{Mode}
+use Rattle.segment_manager.specs.declared.modes.Mode.TheVariants.{Write, ReadOnly, CopyOnWrite}
+use Rattle.segment_manager.specs.Directory.{Directory}
+use Rattle.segment_manager.specs.Answers.{Done, Number, is_untouched}
+use Rattle.segment_manager.specs.State.{IsReply, State, StandsFor}
+use Rattle.segment_manager.specs.Step.{step}
+use Rattle.segment_manager.specs.Calls.{HasZeroGaps}
+use Rattle.segment_manager.proofs.Laws.{step-reads}
+use Rattle.segment_scripts.specs.ZeroGaps.{is_zero_free}
+use Rattle.segment_scripts.specs.declared.replies.Answer.{Answer as Reply}
+use Rattle.segment_scripts.specs.Answer.{answer_text}
+use Rattle.segment_scripts.specs.Changes.{Executes}
+use Rattle.segment_scripts.specs.Replies.{Replies, answer_seen, has_element}
+use Rattle.segment_scripts.specs.Run.{respond}
+use Rattle.segment_scripts.specs.Segments.{Place, IsAt, Responds, place_after}
+use Rattle.segment_scripts.specs.Writing.{WritesFor}
+use Rattle.segment_scripts.proofs.Owed.{writes_owed}
+
+-- ---- a command
+
+zero_free-is : (c : Command) → is_zero_free c ≡ true → c ≡ ZeroFree
+zero_free-is ZeroFree e = refl
+zero_free-is c e = absurd (cc)
+
+zero_free-done : (mode : Mode) (d : Directory) → is_untouched (step mode d ZeroFree).0 ≡ false → (step mode d ZeroFree).0 ≡ Done
+unfolding step
+zero_free-done Write d e = refl
+zero_free-done ReadOnly d e = absurd (cc)
+zero_free-done CopyOnWrite d e = refl
+
+-- what a command leaves, by what holds of it
+zeros_held : (refused changing zero_free known : Bool) (old new : State) → (refused ≡ true → new ≡ old) → (changing ≡ false → new ≡ old)
+    → (zero_free ≡ true → refused ≡ false → HasZeroGaps new) → (known ≡ true → HasZeroGaps old)
+    → (if refused then known else if changing then zero_free else known) ≡ true → HasZeroGaps new
+zeros_held true changing zero_free known old new same stays zeros was e = subst HasZeroGaps (sym (same refl)) (was e)
+zeros_held false true zero_free known old new same stays zeros was e = zeros e refl
+zeros_held false false zero_free known old new same stays zeros was e = subst HasZeroGaps (sym (stays refl)) (was e)
+
+-- what is asked leads to the place behind it
+module _ (old new : State) (c : Command) (asked : Reading) (e : Asked c ≡ asked) (done : Executes old new c) (reads : is_changing c ≡ false → new ≡ old) where
+  led : ((d : Directory) → StandsFor old.cut.bytes d → c ≡ ZeroFree → (step old.mode d c).0 ≡ Done → HasZeroGaps new) → (at : Place) → IsAt old at → IsAt new (place_after at asked)
+  led zeros at h =
+      let d = at.directory in
+      let m = h.mode in
+      let place : IsAt new (place_after at (Asked c)) = record {
+        mode = done.stays.mode ∙ m;
+        denotes = subst (λ (n : Mode). StandsFor new.cut.bytes (step n d c).1) m (done.denotes d h.denotes);
+        zeros = zeros_held (is_untouched (step at.mode d c).0) (is_changing c) (is_zero_free c) at.zeros old new
+            (λ r. done.refused d h.denotes (ap (λ (n : Mode). is_untouched (step n d c).0) m ∙ r)) reads
+            (λ z r. let is = zero_free-is c z in
+            zeros d h.denotes is
+            (ap (λ (x : Command). (step old.mode d x).0) is
+            ∙ zero_free-done old.mode d (ap (λ (x : Command). is_untouched (step old.mode d x).0) (sym is) ∙ ap (λ (n : Mode). is_untouched (step n d c).0) m ∙ r)))
+            h.zeros;
+      } in
+      subst (λ (r : Reading). IsAt new (place_after at r)) e place
+
+executed : (old new : State) (c : Command) (reply : Reply) (asked : Reading) → Asked c ≡ asked → Replies old new c reply → (at : Place) → IsAt old at → IsAt new (place_after at asked)
+executed old new c reply asked e done = led old new c asked e (record { stays = done.stays; denotes = done.denotes; refused = done.refused }) done.reads done.zeros
+
+-- one that takes out an element too
+popped : (old new : State) (key : Key) (asked : Reading) → Asked (Pop key) ≡ asked → Executes old new (Pop key) → (at : Place) → IsAt old at → IsAt new (place_after at asked)
+popped old new key asked e done = led old new (Pop key) asked e done (λ n. absurd (cc)) (λ d st is. absurd (let other : is_zero_free (Pop key) ≡ true = ap is_zero_free is in cc))
+
+-- one that only reads
+answered : (s : State) (c : Command) (asked : Reading) → is_changing c ≡ false → Asked c ≡ asked → (at : Place) → IsAt s at → IsAt s (place_after at asked)
+answered s c asked r e =
+    led s s c asked e
+    (record {
+      stays = record { mode = refl; place = record { before = refl; after = refl } };
+      denotes = λ d st. subst (StandsFor s.cut.bytes) (sym (step-reads s.mode d c r)) st;
+      refused = λ _ _ _. refl;
+    })
+    (λ _. refl) (λ d st is _. absurd (let other : is_changing ZeroFree ≡ false = ap is_changing (sym is) ∙ r in cc))
+
+asked-owed : (old : State) (c : Command) (asked : Reading) → Asked c ≡ asked → (at : Place) → IsAt old at → answer_text (step old.mode at.directory c).0 ≡ (respond at.mode at.directory asked).0
+asked-owed old c asked e at h = ap (λ (n : Mode). answer_text (step n at.directory c).0) h.mode ∙ ap (λ (r : Reading). (respond at.mode at.directory r).0) e
+
+-- ---- what is asked is responded to
+
+module _ {A E : Type 0} (took took' : Took) (result : Result A E) (asked : Reading) where
+  -- a call that writes what its command answers
+  told : (old : State) (c : Command) → Asked c ≡ asked → WritesFor took took' result (StandsFor old.cut.bytes) (λ d. answer_text (step old.mode d c).0)
+      → WritesFor took took' result (IsAt old) (λ (at : Place). (respond at.mode at.directory asked).0)
+  told old c e w = record { writes = λ at h. subst (Writes took took' result) (asked-owed old c asked e at h) (w.writes at.directory h.denotes); counted = w.counted }
+
+  pub responds-read : (s : State) (c : Command) → is_changing c ≡ false → Asked c ≡ asked → WritesFor took took' result (StandsFor s.cut.bytes) (λ d. answer_text (step s.mode d c).0) → Responds s s took took' result asked
+  responds-read s c r e w = record { leads = answered s c asked r e; writes = told s c e w }
+
+  pub responds-popped : (old new : State) (key : Key) → Asked (Pop key) ≡ asked → Executes old new (Pop key) → WritesFor took took' result (StandsFor old.cut.bytes) (λ d. answer_text (step old.mode d (Pop key)).0)
+      → Responds old new took took' result asked
+  responds-popped old new key e done w = record { leads = popped old new key asked e done; writes = told old (Pop key) e w }
+
+  -- a number
+  pub responds-number : (s : State) (c : Command) (n : ℕ) → is_changing c ≡ false → Asked c ≡ asked → IsReply s c (Number n) → Writes took took' result (answer_text (Number n)) → Responds s s took took' result asked
+  responds-number s c n r e is w =
+      responds-read s c r e (writes_owed took took' result (StandsFor s.cut.bytes) (answer_text (Number n)) (λ d. answer_text (step s.mode d c).0) w (λ d st. ap answer_text (is.answers d st)))
+
+  -- a reply, which is written of what is there then
+  pub responds-replied : (old new : State) (c : Command) (reply : Reply) → Asked c ≡ asked → Replies old new c reply → WritesFor took took' result (StandsFor new.cut.bytes) (λ d. answer_text (answer_seen d reply))
+      → Responds old new took took' result asked
+  responds-replied old new c reply e done w = record {
+    leads = executed old new c reply asked e done;
+    writes = told old c e (record {
+      writes = λ d st. subst (Writes took took' result) (ap answer_text (done.answers d st)) (w.writes (step old.mode d c).1 (done.denotes d st));
+      counted = w.counted;
+    });
+  }
+
+pub no_element : (c : CodeCommand) → ((key : CodeKey) (i : ℕ) → c ≡ CodeGet key i → ⊥) → ((key : CodeKey) → c ≡ CodePop key → ⊥) → has_element (command_of c) ≡ false
+no_element (CodeGet key i) m n = absurd (m key i refl)
+no_element (CodePop key) m n = absurd (n key refl)
+no_element c m n = refl

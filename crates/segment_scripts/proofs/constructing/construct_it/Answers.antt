@@ -1,0 +1,35 @@
+use Rattle.std.proofs.Common.{◌≡◌, sym, subst}
+use Rattle.std.specs.Prelude.{IsTrue}
+use Rattle.std.specs.Iterator.{YieldsFirst}
+use Rattle.std.specs.List.{AllByRecursion}
+use Rattle.seg_types.specs.Keys.{new_key_seen}
+use Rattle.seg_types.specs.Kinds.{is_value}
+use Rattle.seg_types.specs.Values.{kind_of_scalar, value_of_scalar}
+use Rattle.segment_lang.specs.Arguments.{scalars_in}
+use Rattle.segment_manager.specs.NewObjects.{IsOfItsKind}
+use Rattle.segment_manager.specs.Items.{TakesItems}
+use Rattle.segment_scripts.proofs.ArrayCalls.{array-refused, array-step, taken-kind}
+use Rattle.segment_scripts.proofs.NewKinds.{array_kind}
+use Rattle.segment_scripts.proofs.constructing.construct_it.Goals as goal
+
+pub construct_values-requires-clause-kind : goal.construct_values-requires-clause-kind
+construct_values-requires-clause-kind c =
+    subst (λ k. IsOfItsKind (new_key_seen c.args.key.now) k) (sym c.kind-kind.ensures.kind) (array_kind c.args.key.now c.args.values.kind c.args.count c.args.values.numbers c.requires)
+
+pub construct_values-requires-clause-of_kind : goal.construct_values-requires-clause-of_kind
+construct_values-requires-clause-of_kind c =
+    λ xs t h. subst (λ k. AllByRecursion (λ v. kind_of_scalar v ≡ k) xs) (sym c.kind-kind.ensures.kind) (taken-kind c.args.values t xs h)
+
+pub returns-clause-step : goal.returns-clause-step
+returns-clause-step c =
+    array-step c.args.segment.now c.construct_values.new.self (new_key_seen c.args.key.now) c.args.values c.construct_values.new.items c.args.count
+    (subst (λ k. AllByRecursion (λ z. IsTrue (is_value k z)) c.args.values.numbers) c.kind-kind.ensures.kind c.kind-kind.ensures.values) c.requires c.construct_values.result
+    (subst (λ k. TakesItems (YieldsFirst scalars_in) value_of_scalar c.args.segment.now c.construct_values.new.self (new_key_seen c.args.key.now) k c.args.count c.args.values c.construct_values.new.items c.construct_values.result)
+    c.kind-kind.ensures.kind c.construct_values.ensures)
+
+pub returns-clause-refused : goal.returns-clause-refused
+returns-clause-refused c =
+    array-refused c.args.segment.now c.construct_values.new.self (new_key_seen c.args.key.now) c.args.values c.construct_values.new.items c.args.count
+    (subst (λ k. AllByRecursion (λ z. IsTrue (is_value k z)) c.args.values.numbers) c.kind-kind.ensures.kind c.kind-kind.ensures.values) c.requires c.construct_values.result
+    (subst (λ k. TakesItems (YieldsFirst scalars_in) value_of_scalar c.args.segment.now c.construct_values.new.self (new_key_seen c.args.key.now) k c.args.count c.args.values c.construct_values.new.items c.construct_values.result)
+    c.kind-kind.ensures.kind c.construct_values.ensures)

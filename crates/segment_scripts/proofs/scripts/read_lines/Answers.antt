@@ -1,0 +1,60 @@
+use Rattle.std.proofs.Common.{◌≡◌, ◌<◌, false, length, length-take, take, drop, refl, ◌∙◌, arith}
+use Rattle.std.proofs.lemmas.Bool.{ne_eqb}
+use Rattle.raw_region.specs.Device.{given_since}
+use Rattle.segment_scripts.proofs.Cuts.{since-more, none_failed, one_failed, cut_in, cut_at_limit, beyond_limit, nothing_yet}
+use Rattle.segment_scripts.proofs.RunLaws.{behind_none}
+use Rattle.segment_scripts.proofs.scripts.read_lines.Goals as goal
+
+pub pieces-init : goal.pieces-init
+pieces-init g c =
+    let old = (g.S.Source.history c.args.script.now).bytes in
+    let none = nothing_yet old in
+    record {
+      buffer = refl;
+      grows = none.grows;
+      limit = rw none.read refl;
+      passed = refl;
+      behind = λ start s. rw (none.read, c.requires.fresh) (behind_none g.M.Machine.respond start (g.W.Sink.history c.args.out.now).bytes (g.M.Machine.stands c.args.machine.now) s);
+      ends = refl;
+      reads = refl;
+      writes = refl;
+    }
+
+pub returns-in-Err-feed-clause-fault : goal.returns-in-Err-feed-clause-fault
+returns-in-Err-feed-clause-fault g c = λ start s.
+    let before = (g.W.Sink.history c.args.out.now).bytes in
+    let old = (g.S.Source.history c.args.script.now).bytes in
+    let mid = (g.S.Source.history c.pieces.script).bytes in
+    let new = (g.S.Source.history c.read.new.self).bytes in
+    let was = c.pieces.invariant in
+    let read = drop (length old) mid in
+    let count = c.in-Ok.count in
+    let piece = c.read.new.into in
+    let asked : 0 < length (take c.min.result c.pieces.piece) = simp length-take (omega (arith, was.buffer, c.min.ensures)) in
+    let unended : (g.S.Source.history c.read.new.self).ended ≡ false = c.in-Ok.ensures.end asked ∙ ne_eqb count 0 c.if-count-eq0.false in
+    let script = given_since (g.S.Source.history c.args.script.now) (g.S.Source.history c.read.new.self) in
+    record {
+      answers = cut_in g.M.Machine.respond start before read piece c.pieces.left count c.min-within.result script (g.M.Machine.stands c.feed.new.machine) (g.W.Sink.history c.feed.new.out).bytes
+          was.limit c.min-within.ensures (since-more old mid new (take count piece) was.grows c.in-Ok.ensures.bytes) unended (c.in-Err-feed.ensures.err start before read (was.behind start s));
+      read = none_failed _ _ (omega (arith, c.in-Ok.ensures.counted, was.reads));
+      written = one_failed _ _ (omega (arith, c.in-Err-feed.ensures.counted, was.writes));
+    }
+
+pub returns-then-left-count-clause-fault : goal.returns-then-left-count-clause-fault
+returns-then-left-count-clause-fault g c = λ start s.
+    let before = (g.W.Sink.history c.args.out.now).bytes in
+    let old = (g.S.Source.history c.args.script.now).bytes in
+    let mid = (g.S.Source.history c.pieces.script).bytes in
+    let new = (g.S.Source.history c.read.new.self).bytes in
+    let was = c.pieces.invariant in
+    let read = drop (length old) mid in
+    let count = c.in-Ok.count in
+    let piece = c.read.new.into in
+    let bytes = since-more old mid new (take count piece) was.grows c.in-Ok.ensures.bytes in
+    record {
+      beyond = beyond_limit g.M.Machine.respond read piece _ c.pieces.left count was.limit c.if-left-count.true c.in-Ok.ensures.count bytes;
+      answers = cut_at_limit g.M.Machine.respond start before read piece c.pieces.left count c.min-within.result _ (g.M.Machine.stands c.feed.new.machine) c.feed.new.line (g.W.Sink.history c.feed.new.out).bytes
+          was.limit c.min-within.ensures bytes (c.in-Ok-feed.ensures.ok start before read (was.behind start s));
+      read = none_failed _ _ (omega (arith, c.in-Ok.ensures.counted, was.reads));
+      written = none_failed _ _ (omega (arith, c.in-Ok-feed.ensures.counted, was.writes));
+    }

@@ -1,0 +1,16 @@
+pub mod Answer
+pub mod Writing
+pub mod Run
+pub mod ZeroGaps
+pub mod Lines
+pub mod Leaves
+pub mod Behind
+pub mod Segments
+pub mod Replies
+pub mod LongLines
+pub mod Parts
+pub mod Shown
+pub mod Settings
+pub mod Changes
+pub mod TextRows
+pub mod ShownPairs

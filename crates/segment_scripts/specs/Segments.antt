@@ -1,0 +1,44 @@
+-- A segment as what answers the lines of a script.
+use Rattle.std.specs.Prelude.{◌≡◌, ℕ, Bool, true, List, Result}
+use Rattle.seg_types.specs.Commands.{Reading}
+use Rattle.raw_region.specs.Device.{Took}
+use Rattle.raw_region.specs.Format.{current}
+use Rattle.segment_lang.specs.Language.{whole}
+use Rattle.segment_lang.specs.Reading.{reading}
+use Rattle.segment_manager.specs.declared.modes.Mode.{Mode}
+use Rattle.segment_manager.specs.Directory.{Directory}
+use Rattle.segment_manager.specs.State.{State, StandsFor}
+use Rattle.segment_manager.specs.Calls.{HasZeroGaps}
+use Rattle.segment_scripts.specs.Answer.{line}
+use Rattle.segment_scripts.specs.Run.{respond}
+use Rattle.segment_scripts.specs.Writing.{WritesFor}
+use Rattle.segment_scripts.specs.ZeroGaps.{zeros_after}
+
+-- what is known of a segment between two lines
+pub record Place : Type 0 where
+  pub mode : Mode
+  pub directory : Directory
+  -- its gaps are zero; where this is false they may be anything
+  pub zeros : Bool
+
+pub record IsAt (s : State) (at : Place) : Type 0 where
+  pub mode : s.mode ≡ at.mode
+  pub denotes : StandsFor s.cut.bytes at.directory
+  pub zeros : at.zeros ≡ true → HasZeroGaps s
+
+-- where a reading leads: the mode stays
+abbrev pub place_after : Place → Reading → Place
+place_after at asked = record {
+  mode = at.mode;
+  directory = (respond at.mode at.directory asked).1;
+  zeros = zeros_after at.mode at.directory asked at.zeros;
+}
+
+-- what a line prints from a place, and where it leads
+abbrev pub answer_line : Place → List ℕ → List ℕ × Place
+answer_line at line = let asked = reading (whole current) line in ((respond at.mode at.directory asked).0, place_after at asked)
+
+-- wherever it stands, what it is asked leads where it is to lead, and what is owed there is written
+pub record Responds {A E : Type 0} (old new : State) (took took' : Took) (result : Result A E) (asked : Reading) : Type 0 where
+  pub leads : (at : Place) → IsAt old at → IsAt new (place_after at asked)
+  pub writes : WritesFor took took' result (IsAt old) (λ at. (respond at.mode at.directory asked).0)

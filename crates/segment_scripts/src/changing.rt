@@ -1,0 +1,397 @@
+//! Vectors and strings that a line changes: the kind of the object says which call it is.
+ghost use Rattle.std.specs.Prelude.{◌≡◌, ◌≤◌, ◌∷◌, [], List, MatchResult, OnErr, length};
+ghost use Rattle.seg_types.specs.declared.kinds.Kind.TheVariants.{Text as TextKind, Texts as TextsKind, Vector as VectorOf};
+ghost use Rattle.seg_types.specs.Commands.{Append, Assign, Clear, Erase, Insert, Literal as AskedLiteral, Push, Quoted as AskedQuoted, Reserve, Shrink, literal_of as literal_for};
+ghost use Rattle.seg_types.specs.Keys.{key_seen};
+ghost use Rattle.seg_types.specs.Names.{ByHandle};
+ghost use Rattle.seg_types.specs.Values.{kind_of_scalar, value_of_scalar};
+ghost use Rattle.segment_lang.specs.Seen.{literal_of};
+ghost use Rattle.segment_manager.specs.Located.{IsObject};
+ghost use Rattle.segment_manager.specs.State.{IsStep, IsStepOfKind, KeepsRefused, done_answer};
+ghost use Rattle.segment_scripts.specs.Changes.{IsChangeable, IsNew, IsNoElement, IsToChange, IsUnchangeable, ReadsAs};
+ghost use Rattle.segment_scripts.specs.Replies.{bytes_taken};
+
+use crate::rows::{Row, literal_row, only_text};
+use crate::setting::value_of;
+use crate::text_rows::literal_texts;
+use seg_types::{Key, Kind, Refusal, Scalar, ScalarKind, ScalarValue};
+use segment_lang::{Literal, Literals, Quoted, Text};
+use segment_manager::{Mode, Object, Segment};
+
+/// A new element of a vector.
+#[derive(Drop)]
+pub enum NewElement<'a> {
+    /// A scalar, for a vector of scalars of its kind.
+    Scalar(ScalarValue),
+    /// A text, for a vector of strings.
+    Text(Quoted<'a>),
+}
+
+/// The object of a key, which is to be changed.
+///
+/// # Errors
+///
+/// `ReadOnly` where the segment is open for reading, and else `NotFound` where no object has the key.
+pub fn object_to_change(segment: &Segment, key: &Key) -> Result<Object, Refusal>
+    ensures { MatchResult result (IsToChange segment.now (key_seen key.now)) (IsUnchangeable segment.now (key_seen key.now)) }
+{
+    if segment.mode() == Mode::ReadOnly {
+        return Err(Refusal::ReadOnly);
+    }
+    segment.locate(key)
+}
+
+/// The vector of a key, and what a literal is as an element of it.
+///
+/// # Errors
+///
+/// `ReadOnly` where the segment is open for reading, and else `NotFound` where no object has the key, `WrongKind` where it is no
+/// vector or the literal has not the form of its elements, `OutOfRange` where the literal is not in their range.
+fn new_element<'a>(
+    segment: &Segment,
+    key: &Key,
+    literal: Literal<'a>,
+) -> Result<(Object, NewElement<'a>), Refusal>
+    ensures { MatchResult result (IsNew segment.now (key_seen key.now) (literal_of literal.entry)) (IsNoElement segment.now (key_seen key.now) (literal_of literal.entry)) }
+{
+    match object_to_change(segment, key) {
+        Err(why) => Err(why),
+        Ok(object) => match object.kind {
+            Kind::Vector(element) => match value_of(element, literal) {
+                Err(why) => Err(why),
+                Ok(value) => Ok((object, NewElement::Scalar(value))),
+            },
+            Kind::Texts => match literal {
+                Literal::Quoted(text) => Ok((object, NewElement::Text(text))),
+                _ => Err(Refusal::WrongKind),
+            },
+            _ => Err(Refusal::WrongKind),
+        },
+    }
+}
+
+/// Puts the value that a literal is behind the last element of the vector of a key.
+///
+/// # Errors
+///
+/// `ReadOnly` where the segment is open for reading, and else `NotFound` where no object has the key, `WrongKind` where it is no
+/// vector or the literal has not the form of its elements, `OutOfRange` where the literal is not in their range, and nothing
+/// changes; `NoSpace` where the vector is full and its storage cannot be regrown, or a text has no fit: the objects are as before.
+#[inline(never)]
+pub fn push(
+    segment: &mut Segment,
+    key: &Key,
+    literal: Literal<'_>,
+    scratch: &mut Text,
+) -> Result<(), Refusal>
+    requires { bytes_taken (literal_of literal ∷ []) ≤ 4097 }
+    ensures step { IsStep segment.old segment.new (Push (key_seen key.now) (literal_of literal.entry)) (done_answer result) }
+    ensures refused { KeepsRefused segment.old segment.new result }
+{
+    match new_element(segment, key, literal) {
+        Err(why) => Err(why),
+        Ok((object, element)) => match element {
+            NewElement::Scalar(value) => push_value(segment, object, value),
+            NewElement::Text(text) => push_text(segment, object, text, scratch),
+        },
+    }
+}
+
+/// Puts a value behind the last element of a vector, a vector of the value's kind.
+fn push_value(segment: &mut Segment, object: Object, value: ScalarValue) -> Result<(), Refusal>
+    requires { IsObject object segment.old }
+    ensures step { IsStepOfKind segment.old segment.new (ByHandle object.handle) (VectorOf (kind_of_scalar value))
+        (Push (ByHandle object.handle) (literal_for (kind_of_scalar value) (value_of_scalar value))) (done_answer result) }
+    ensures refused { OnErr result (segment.new ≡ segment.old) }
+{
+    match value {
+        ScalarValue::Bool(truth) => segment.vec_push(&object, truth),
+        ScalarValue::U8(number) => segment.vec_push(&object, number),
+        ScalarValue::I32(number) => segment.vec_push(&object, number),
+        ScalarValue::I64(number) => segment.vec_push(&object, number),
+        ScalarValue::U64(number) => segment.vec_push(&object, number),
+    }
+}
+
+/// Puts a text behind the last one of the vector of strings of a key.
+fn push_text(
+    segment: &mut Segment,
+    object: Object,
+    text: Quoted<'_>,
+    scratch: &mut Text,
+) -> Result<(), Refusal>
+    requires object { IsObject object segment.old }
+    requires few { length text ≤ 4096 }
+    ensures step { IsStepOfKind segment.old segment.new (ByHandle object.handle) TextsKind (Push (ByHandle object.handle) (AskedQuoted text.entry)) (done_answer result) }
+    ensures refused { KeepsRefused segment.old segment.new result }
+{
+    segment.texts_push(&object, text.bytes(scratch))
+}
+
+/// Puts the value that a literal is where `index` others stand before it in the vector of a key.
+///
+/// # Errors
+///
+/// `ReadOnly` where the segment is open for reading, and else `NotFound` where no object has the key, `WrongKind` where it is no
+/// vector or the literal has not the form of its elements, `OutOfRange` where the literal is not in their range or there are not
+/// so many others, and nothing changes; `NoSpace` where the vector is full and its storage cannot be regrown, or a text has no
+/// fit: the objects are as before.
+#[inline(never)]
+pub fn insert(
+    segment: &mut Segment,
+    key: &Key,
+    index: u64,
+    literal: Literal<'_>,
+    scratch: &mut Text,
+) -> Result<(), Refusal>
+    requires { bytes_taken (literal_of literal ∷ []) ≤ 4097 }
+    ensures step { IsStep segment.old segment.new (Insert (key_seen key.now) index (literal_of literal.entry)) (done_answer result) }
+    ensures refused { KeepsRefused segment.old segment.new result }
+{
+    match new_element(segment, key, literal) {
+        Err(why) => Err(why),
+        Ok((object, element)) => match element {
+            NewElement::Scalar(value) => insert_value(segment, object, index, value),
+            NewElement::Text(text) => insert_text(segment, object, index, text, scratch),
+        },
+    }
+}
+
+/// Puts a value into a vector, a vector of the value's kind.
+fn insert_value(
+    segment: &mut Segment,
+    object: Object,
+    index: u64,
+    value: ScalarValue,
+) -> Result<(), Refusal>
+    requires { IsObject object segment.old }
+    ensures step { IsStepOfKind segment.old segment.new (ByHandle object.handle) (VectorOf (kind_of_scalar value))
+        (Insert (ByHandle object.handle) index (literal_for (kind_of_scalar value) (value_of_scalar value))) (done_answer result) }
+    ensures refused { OnErr result (segment.new ≡ segment.old) }
+{
+    match value {
+        ScalarValue::Bool(truth) => segment.vec_insert(&object, index, truth),
+        ScalarValue::U8(number) => segment.vec_insert(&object, index, number),
+        ScalarValue::I32(number) => segment.vec_insert(&object, index, number),
+        ScalarValue::I64(number) => segment.vec_insert(&object, index, number),
+        ScalarValue::U64(number) => segment.vec_insert(&object, index, number),
+    }
+}
+
+/// Puts a text where `index` others stand before it in the vector of strings.
+fn insert_text(
+    segment: &mut Segment,
+    object: Object,
+    index: u64,
+    text: Quoted<'_>,
+    scratch: &mut Text,
+) -> Result<(), Refusal>
+    requires object { IsObject object segment.old }
+    requires few { length text ≤ 4096 }
+    ensures step { IsStepOfKind segment.old segment.new (ByHandle object.handle) TextsKind (Insert (ByHandle object.handle) index (AskedQuoted text.entry)) (done_answer result) }
+    ensures refused { KeepsRefused segment.old segment.new result }
+{
+    segment.texts_insert(&object, index, text.bytes(scratch))
+}
+
+/// Leaves out the element at `index` in the vector of a key.
+///
+/// # Errors
+///
+/// `ReadOnly` where the segment is open for reading, and else `NotFound` where no object has the key, `WrongKind` where it is no
+/// vector, `OutOfRange` where it has no element there. Nothing changes.
+#[inline(never)]
+pub fn erase(segment: &mut Segment, key: &Key, index: u64) -> Result<(), Refusal>
+    ensures step { IsStep segment.old segment.new (Erase (key_seen key.now) index) (done_answer result) }
+    ensures refused { OnErr result (segment.new ≡ segment.old) }
+{
+    match object_to_change(segment, key) {
+        Err(why) => Err(why),
+        Ok(object) => match object.kind {
+            Kind::Vector(element) => erase_element(segment, object, element, index),
+            Kind::Texts => segment.texts_erase(&object, index),
+            _ => Err(Refusal::WrongKind),
+        },
+    }
+}
+
+/// Leaves out an element of a vector, a vector of scalars of a kind.
+fn erase_element(
+    segment: &mut Segment,
+    object: Object,
+    kind: ScalarKind,
+    index: u64,
+) -> Result<(), Refusal>
+    requires { IsObject object segment.old }
+    ensures step { IsStepOfKind segment.old segment.new (ByHandle object.handle) (VectorOf kind) (Erase (ByHandle object.handle) index) (done_answer result) }
+    ensures refused { OnErr result (segment.new ≡ segment.old) }
+{
+    match kind {
+        ScalarKind::Bool => segment.vec_erase::<bool, Object>(&object, index),
+        ScalarKind::U8 => segment.vec_erase::<u8, Object>(&object, index),
+        ScalarKind::I32 => segment.vec_erase::<i32, Object>(&object, index),
+        ScalarKind::I64 => segment.vec_erase::<i64, Object>(&object, index),
+        ScalarKind::U64 => segment.vec_erase::<u64, Object>(&object, index),
+    }
+}
+
+/// Makes values those of the vector of a key, or one text the bytes of the string of a key.
+///
+/// # Errors
+///
+/// `ReadOnly` where the segment is open for reading, and else `NotFound` where no object has the key, `WrongKind` where it is
+/// neither or a value has not the form of its elements, `OutOfRange` where a value is not in their range, and nothing changes;
+/// `NoSpace` where its storage cannot be regrown or a text has no fit: the objects are as before.
+#[inline(never)]
+pub fn assign(
+    segment: &mut Segment,
+    key: &Key,
+    values: Literals<'_>,
+    scratch: &mut Text,
+) -> Result<(), Refusal>
+    requires { bytes_taken values ≤ 4097 }
+    ensures step { IsStep segment.old segment.new (Assign (key_seen key.now) values.entry) (done_answer result) }
+    ensures refused { KeepsRefused segment.old segment.new result }
+{
+    match object_to_change(segment, key) {
+        Err(why) => Err(why),
+        Ok(object) => match object.kind {
+            Kind::Vector(element) => assign_vector(segment, object, element, values),
+            Kind::Text => assign_string(segment, object, values, scratch),
+            Kind::Texts => assign_texts(segment, object, values),
+            _ => Err(Refusal::WrongKind),
+        },
+    }
+}
+
+/// Makes values those of a vector, a vector of scalars of a kind.
+#[inline(never)]
+fn assign_vector(
+    segment: &mut Segment,
+    object: Object,
+    kind: ScalarKind,
+    values: Literals<'_>,
+) -> Result<(), Refusal>
+    requires object { IsObject object segment.old }
+    requires of_kind { IsChangeable segment.old (ByHandle object.handle) (VectorOf kind) }
+    requires few { bytes_taken values ≤ 4097 }
+    ensures step { IsStep segment.old segment.new (Assign (ByHandle object.handle) values.entry) (done_answer result) }
+    ensures refused { OnErr result (segment.new ≡ segment.old) }
+{
+    match kind {
+        ScalarKind::Bool => assign_row(segment, object, literal_row::<bool>(values)),
+        ScalarKind::U8 => assign_row(segment, object, literal_row::<u8>(values)),
+        ScalarKind::I32 => assign_row(segment, object, literal_row::<i32>(values)),
+        ScalarKind::I64 => assign_row(segment, object, literal_row::<i64>(values)),
+        ScalarKind::U64 => assign_row(segment, object, literal_row::<u64>(values)),
+    }
+}
+
+/// Makes the values that were read those of a vector, a vector of the type.
+fn assign_row<T: Scalar>(
+    segment: &mut Segment,
+    object: Object,
+    read: Result<Row<T>, Refusal>,
+) -> Result<(), Refusal>
+    requires object { IsObject object segment.old }
+    requires of_kind { IsChangeable segment.old (ByHandle object.handle) (VectorOf T.kind) }
+    ensures step { (ls : List AskedLiteral) → ReadsAs T.kind T.whole ls read → IsStep segment.old segment.new (Assign (ByHandle object.handle) ls) (done_answer result) }
+    ensures refused { OnErr result (segment.new ≡ segment.old) }
+{
+    match read {
+        Err(why) => Err(why),
+        Ok(row) => segment.vec_assign(&object, row.as_slice()),
+    }
+}
+
+/// Makes one text the bytes of a string.
+fn assign_string(
+    segment: &mut Segment,
+    object: Object,
+    values: Literals<'_>,
+    scratch: &mut Text,
+) -> Result<(), Refusal>
+    requires object { IsObject object segment.old }
+    requires of_kind { IsChangeable segment.old (ByHandle object.handle) TextKind }
+    requires few { bytes_taken values ≤ 4097 }
+    ensures step { IsStep segment.old segment.new (Assign (ByHandle object.handle) values.entry) (done_answer result) }
+    ensures refused { OnErr result (segment.new ≡ segment.old) }
+{
+    match only_text(values, scratch) {
+        Err(why) => Err(why),
+        Ok(text) => segment.string_assign(&object, text),
+    }
+}
+
+/// Makes texts those of the vector of strings.
+#[inline(never)]
+fn assign_texts(segment: &mut Segment, object: Object, values: Literals<'_>) -> Result<(), Refusal>
+    requires object { IsObject object segment.old }
+    requires of_kind { IsChangeable segment.old (ByHandle object.handle) TextsKind }
+    requires few { bytes_taken values ≤ 4097 }
+    ensures step { IsStep segment.old segment.new (Assign (ByHandle object.handle) values.entry) (done_answer result) }
+    ensures refused { KeepsRefused segment.old segment.new result }
+{
+    match literal_texts(values) {
+        Err(why) => Err(why),
+        Ok(row) => segment.texts_assign(&object, row.slices().as_slice()),
+    }
+}
+
+/// Puts the bytes of a text behind those of the string of a key.
+///
+/// # Errors
+///
+/// As the segment's call. Nothing changes.
+#[inline(never)]
+pub fn append(
+    segment: &mut Segment,
+    key: &Key,
+    text: Quoted<'_>,
+    scratch: &mut Text,
+) -> Result<(), Refusal>
+    requires { length text ≤ 4096 }
+    ensures step { IsStep segment.old segment.new (Append (key_seen key.now) text.entry) (done_answer result) }
+    ensures refused { OnErr result (segment.new ≡ segment.old) }
+{
+    segment.string_append(key, text.bytes(scratch))
+}
+
+/// Makes room in the vector or string of a key.
+///
+/// # Errors
+///
+/// As the segment's call. Nothing changes.
+#[inline(never)]
+pub fn reserve(segment: &mut Segment, key: &Key, count: u64) -> Result<(), Refusal>
+    ensures step { IsStep segment.old segment.new (Reserve (key_seen key.now) count) (done_answer result) }
+    ensures refused { OnErr result (segment.new ≡ segment.old) }
+{
+    segment.reserve(key, count)
+}
+
+/// Gives back the room of the vector or string of a key that no element uses.
+///
+/// # Errors
+///
+/// As the segment's call. Nothing changes.
+#[inline(never)]
+pub fn shrink(segment: &mut Segment, key: &Key) -> Result<(), Refusal>
+    ensures step { IsStep segment.old segment.new (Shrink (key_seen key.now)) (done_answer result) }
+    ensures refused { OnErr result (segment.new ≡ segment.old) }
+{
+    segment.shrink(key)
+}
+
+/// Takes all elements out of the vector or string of a key.
+///
+/// # Errors
+///
+/// As the segment's call. Nothing changes.
+#[inline(never)]
+pub fn clear(segment: &mut Segment, key: &Key) -> Result<(), Refusal>
+    ensures step { IsStep segment.old segment.new (Clear (key_seen key.now)) (done_answer result) }
+    ensures refused { OnErr result (segment.new ≡ segment.old) }
+{
+    segment.clear(key)
+}

@@ -1,0 +1,160 @@
+//! Objects made of what a line writes.
+ghost use Rattle.std.specs.Prelude.{◌≡◌};
+ghost use Rattle.seg_types.specs.declared.kinds.Kind.TheVariants.{Text as TextKind, Vector as VectorOf};
+ghost use Rattle.seg_types.specs.Commands.{Bytes, Construct, ConstructIt, Elements, FindOrConstruct, Strings};
+ghost use Rattle.seg_types.specs.Keys.{index_key_seen, new_key_seen};
+ghost use Rattle.segment_lang.specs.Seen.{content_of};
+ghost use Rattle.segment_manager.specs.Found.{pair_answer};
+ghost use Rattle.segment_manager.specs.State.{IsStep, KeepsRefused, handle_answer};
+ghost use Rattle.segment_scripts.specs.Replies.{IsContent, IsMeant};
+
+use crate::rows::value_row;
+use crate::text_rows::text_row;
+use seg_types::{Handle, IndexKey, NewKey, Refusal, ScalarKind};
+use segment_lang::{Content, Text, Texts, Values};
+use segment_manager::Segment;
+
+/// Makes an object, and answers its handle.
+///
+/// # Errors
+///
+/// As the segment's call. The objects are as before.
+#[tactic(auto, using(crate::proofs::NewKinds::content_kind, crate::proofs::NewKinds::content_some, crate::proofs::NewKinds::content_few))]
+#[inline(never)]
+pub fn construct(
+    segment: &mut Segment,
+    key: &NewKey,
+    content: Content<'_>,
+    scratch: &mut Text,
+) -> Result<Handle, Refusal>
+    requires { IsContent (new_key_seen key.now) (content_of content) }
+    ensures step { IsStep segment.old segment.new (Construct (new_key_seen key.now) (content_of content.entry)) (handle_answer result) }
+    ensures refused { KeepsRefused segment.old segment.new result }
+{
+    match content {
+        Content::Scalars { value, count } => segment.construct_value(key, count, value),
+        Content::Elements(values) => construct_vector(segment, key, values),
+        Content::Text(text) => segment.construct_string(key, text.bytes(scratch)),
+        Content::Texts(texts) => construct_texts(segment, key, texts),
+        Content::NoPairs {
+            key: keys,
+            value: values,
+        } => segment.construct_map_of(key, keys, values),
+    }
+}
+
+/// Makes a vector of the values, and answers its handle.
+#[inline(never)]
+fn construct_vector(
+    segment: &mut Segment,
+    key: &NewKey,
+    values: Values<'_>,
+) -> Result<Handle, Refusal>
+    requires { IsContent (new_key_seen key.now) (Elements values.kind values.numbers) }
+    ensures step { IsStep segment.old segment.new (Construct (new_key_seen key.now) (Elements values.entry.kind values.entry.numbers)) (handle_answer result) }
+    ensures refused { KeepsRefused segment.old segment.new result }
+{
+    match values.kind() {
+        ScalarKind::Bool => segment.construct_vec(key, value_row::<bool>(values).as_slice()),
+        ScalarKind::U8 => segment.construct_vec(key, value_row::<u8>(values).as_slice()),
+        ScalarKind::I32 => segment.construct_vec(key, value_row::<i32>(values).as_slice()),
+        ScalarKind::I64 => segment.construct_vec(key, value_row::<i64>(values).as_slice()),
+        ScalarKind::U64 => segment.construct_vec(key, value_row::<u64>(values).as_slice()),
+    }
+}
+
+/// Makes a vector of strings of the texts, and answers its handle.
+#[inline(never)]
+fn construct_texts(segment: &mut Segment, key: &NewKey, texts: Texts<'_>) -> Result<Handle, Refusal>
+    requires { IsContent (new_key_seen key.now) (Strings texts) }
+    ensures step { IsStep segment.old segment.new (Construct (new_key_seen key.now) (Strings texts.entry)) (handle_answer result) }
+    ensures refused { KeepsRefused segment.old segment.new result }
+{
+    segment.construct_texts(key, text_row(texts).slices().as_slice())
+}
+
+/// Makes an array of the values, and answers its handle.
+///
+/// # Errors
+///
+/// As the segment's call. The objects are as before.
+#[inline(never)]
+pub fn construct_it(
+    segment: &mut Segment,
+    key: &NewKey,
+    count: u32,
+    mut values: Values<'_>,
+) -> Result<Handle, Refusal>
+    requires { IsMeant (ConstructIt (new_key_seen key.now) values.kind count values.numbers) }
+    ensures step { IsStep segment.old segment.new (ConstructIt (new_key_seen key.now) values.entry.kind count values.entry.numbers) (handle_answer result) }
+    ensures refused { KeepsRefused segment.old segment.new result }
+{
+    let kind = values.kind();
+    segment.construct_values(key, kind, count, &mut values)
+}
+
+/// Finds an object, or makes it where there is none, and answers its handle and how many elements it has.
+///
+/// # Errors
+///
+/// As the segment's call. The objects are as before.
+#[tactic(auto, using(crate::proofs::NewKinds::index_kind, crate::proofs::NewKinds::index_some, crate::proofs::NewKinds::index_few))]
+#[inline(never)]
+pub fn find_or_construct(
+    segment: &mut Segment,
+    key: &IndexKey,
+    content: Content<'_>,
+    scratch: &mut Text,
+) -> Result<(Handle, u32), Refusal>
+    requires { IsContent (index_key_seen key.now) (content_of content) }
+    ensures step { IsStep segment.old segment.new (FindOrConstruct (index_key_seen key.now) (content_of content.entry)) (pair_answer result) }
+    ensures refused { KeepsRefused segment.old segment.new result }
+{
+    match content {
+        Content::Scalars { value, count } => segment.find_or_construct_value(key, count, value),
+        Content::Elements(values) => find_or_construct_vector(segment, key, values),
+        Content::Text(text) => segment.find_or_construct_string(key, text.bytes(scratch)),
+        Content::Texts(texts) => find_or_construct_texts(segment, key, texts),
+        Content::NoPairs {
+            key: keys,
+            value: values,
+        } => segment.find_or_construct_map_of(key, keys, values),
+    }
+}
+
+/// Finds a vector, or makes it of the values where there is none.
+#[inline(never)]
+fn find_or_construct_vector(
+    segment: &mut Segment,
+    key: &IndexKey,
+    values: Values<'_>,
+) -> Result<(Handle, u32), Refusal>
+    requires { IsContent (index_key_seen key.now) (Elements values.kind values.numbers) }
+    ensures step { IsStep segment.old segment.new (FindOrConstruct (index_key_seen key.now) (Elements values.entry.kind values.entry.numbers)) (pair_answer result) }
+    ensures refused { KeepsRefused segment.old segment.new result }
+{
+    match values.kind() {
+        ScalarKind::Bool => segment.find_or_construct_vec(
+            key,
+            value_row::<bool>(values).as_slice(),
+        ),
+        ScalarKind::U8 => segment.find_or_construct_vec(key, value_row::<u8>(values).as_slice()),
+        ScalarKind::I32 => segment.find_or_construct_vec(key, value_row::<i32>(values).as_slice()),
+        ScalarKind::I64 => segment.find_or_construct_vec(key, value_row::<i64>(values).as_slice()),
+        ScalarKind::U64 => segment.find_or_construct_vec(key, value_row::<u64>(values).as_slice()),
+    }
+}
+
+/// Finds a vector of strings, or makes it of the texts where there is none.
+#[inline(never)]
+fn find_or_construct_texts(
+    segment: &mut Segment,
+    key: &IndexKey,
+    texts: Texts<'_>,
+) -> Result<(Handle, u32), Refusal>
+    requires { IsContent (index_key_seen key.now) (Strings texts) }
+    ensures step { IsStep segment.old segment.new (FindOrConstruct (index_key_seen key.now) (Strings texts.entry)) (pair_answer result) }
+    ensures refused { KeepsRefused segment.old segment.new result }
+{
+    segment.find_or_construct_texts(key, text_row(texts).slices().as_slice())
+}

@@ -1,0 +1,25 @@
+//! Scripts: each line is read, executed on a segment or another machine, and answered.
+#![tactic(auto)]
+
+mod changing;
+mod constructing;
+mod faults;
+mod listing;
+mod machine;
+mod open_line;
+mod pairs;
+mod popping;
+mod printing;
+mod replies;
+mod rows;
+mod scripts;
+mod segments;
+mod setting;
+mod showing;
+mod showing_maps;
+mod telling;
+mod text_rows;
+
+pub use faults::RunFault;
+pub use machine::{Machine, Scratch};
+pub use scripts::run;

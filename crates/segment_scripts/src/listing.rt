@@ -1,0 +1,65 @@
+//! The listing of the blocks and gaps of a segment: a line for each, as the segment is walked.
+ghost use Rattle.std.specs.Prelude.{◌≡◌, ◌-◌, ◌^◌, ◌<◌};
+ghost use Rattle.raw_region.specs.Device.{Writes};
+ghost use Rattle.best_fit.specs.Extents.{spans};
+ghost use Rattle.best_fit.specs.FreeTree.{span};
+ghost use Rattle.segment_manager.specs.Answers.{Blocks};
+ghost use Rattle.segment_manager.specs.Directory.{live};
+ghost use Rattle.segment_manager.specs.State.{StandsFor};
+ghost use Rattle.segment_scripts.specs.Answer.{answer_text, block_words, line, role_word};
+ghost use Rattle.segment_scripts.specs.Writing.{WritesFor};
+
+use block_tags::{Role, Tile};
+use raw_region::{DeviceFault, Sink};
+use segment_lang::{Piece, put_pieces};
+use segment_manager::Segment;
+
+/// Writes a line for each block and gap by offset, and then `end`.
+#[inline(never)]
+pub fn put_blocks<W: Sink>(segment: &Segment, out: &mut W) -> Result<(), DeviceFault>
+    requires { (W.history out.old).failures < 2 ^ 64 - 1 }
+    ensures { WritesFor (W.history out.old) (W.history out.new) result (StandsFor segment.now.cut.bytes)
+        (λ d. answer_text (Blocks (spans (live d)))) }
+{
+    let mut ahead = segment.first_tile();
+    // a segment has fewer blocks and gaps than bytes
+    'tiles: for _ in 0..segment.size() {
+        let Some(tile) = ahead else {
+            break;
+        };
+        put_tile(out, tile)?;
+        ahead = segment.next_tile(tile);
+    }
+    put_pieces(out, &[Piece::Bytes(b"end\n")])
+}
+
+/// Writes the line of a block or gap: where it begins, how long it is, and what it is used for.
+fn put_tile<W: Sink>(out: &mut W, tile: Tile) -> Result<(), DeviceFault>
+    requires { (W.history out.old).failures < 2 ^ 64 - 1 }
+    ensures { Writes (W.history out.old) (W.history out.new) result (line (block_words (span tile))) }
+{
+    put_pieces(
+        out,
+        &[
+            Piece::Number(tile.offset),
+            Piece::Bytes(b" "),
+            Piece::Number(tile.len),
+            Piece::Bytes(b" "),
+            Piece::Bytes(role_word(tile.use_of)),
+            Piece::Bytes(b"\n"),
+        ],
+    )
+}
+
+/// The word for what a block is used for, or for a gap.
+fn role_word(use_of: Option<Role>) -> &'static [u8]
+    ensures { result.now ≡ role_word use_of }
+{
+    match use_of {
+        None => b"free",
+        Some(Role::Object) => b"object",
+        Some(Role::Index) => b"index",
+        Some(Role::Storage) => b"storage",
+        Some(Role::Node) => b"node",
+    }
+}

@@ -1,0 +1,43 @@
+//! What stands between a script and whatever answers its lines.
+ghost use Rattle.std.specs.Prelude.{◌≡◌, ◌-◌, ◌^◌, ◌<◌, ℕ, List, length, take};
+ghost use Rattle.segment_scripts.specs.Writing.{WritesFor};
+
+use raw_region::{DeviceFault, Sink};
+use segment_lang::Text;
+
+/// Room for a name and for a text that a line escapes. It is made once for all lines, and what it held means nothing.
+#[derive(Drop)]
+pub struct Scratch {
+    pub(crate) name: Text,
+    pub(crate) text: Text,
+}
+
+/// A machine that answers the lines of a script.
+pub trait Machine {
+    // The states that contracts speak of.
+    ghost Place: { Type 0 };
+
+    // What a line, without its end, prints from a place, and where it leads.
+    ghost respond: { Place → List ℕ → List ℕ × Place };
+
+    // The places that a machine may stand for.
+    ghost stands: { Self → Place → Type 0 };
+
+    /// Executes the line, which has no line end, and writes its answer. A fault leaves the line
+    /// executed, and a proper prefix of its answer written.
+    fn answer<W: Sink>(
+        &mut self,
+        scratch: &mut Scratch,
+        line: &[u8],
+        out: &mut W,
+    ) -> Result<(), DeviceFault>
+        requires { (W.history out.old).failures < 2 ^ 64 - 1 }
+        ensures leads { (place : Place) → stands self.old place
+            → stands self.new (respond place line.now).1 }
+        ensures writes { WritesFor (W.history out.old) (W.history out.new) result (stands self.old)
+            (λ place. (respond place line.now).0) };
+
+    // Of a line of more than 4097 bytes the first 4098 decide.
+    ghost long_lines: { (place : Place) (line : List ℕ) → 4097 < length line
+        → respond place line ≡ respond place (take 4098 line) };
+}

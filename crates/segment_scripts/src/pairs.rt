@@ -1,0 +1,118 @@
+//! Pairs of a map that a line puts, looks up and takes out.
+ghost use Rattle.std.specs.Prelude.{◌≡◌, OnErr};
+ghost use Rattle.seg_types.specs.Commands.{Lookup, Put, Remove};
+ghost use Rattle.seg_types.specs.Keys.{key_seen};
+ghost use Rattle.segment_lang.specs.Seen.{literal_of};
+ghost use Rattle.segment_manager.specs.Maps.{any_value_answer};
+ghost use Rattle.segment_manager.specs.State.{IsReply, IsStep, truth_answer};
+ghost use Rattle.segment_manager.specs.Step.{pair_of};
+ghost use Rattle.segment_scripts.specs.Settings.{IsPairOf};
+
+use crate::changing::object_to_change;
+use crate::setting::value_of;
+use seg_types::{Key, Kind, Refusal, ScalarKind, ScalarValue};
+use segment_lang::Literal;
+use segment_manager::Segment;
+
+/// Puts the pair that two literals are into the map of a key, and answers whether its key is new.
+///
+/// # Errors
+///
+/// `ReadOnly` where the segment is open for reading, and else `NotFound` where no object has the key, `WrongKind` where it is no
+/// map or a literal has not the form of its kind, `OutOfRange` where a literal is not in the range of its kind, `NoSpace` where
+/// the key is new and no gap is long enough for its block. Nothing changes.
+#[inline(never)]
+pub fn put(
+    segment: &mut Segment,
+    key: &Key,
+    at: Literal<'_>,
+    value: Literal<'_>,
+) -> Result<bool, Refusal>
+    ensures step { IsStep segment.old segment.new (Put (key_seen key.now) (literal_of at.entry) (literal_of value.entry)) (truth_answer result) }
+    ensures refused { OnErr result (segment.new ≡ segment.old) }
+{
+    match object_to_change(segment, key) {
+        Err(why) => Err(why),
+        Ok(object) => match object.kind {
+            Kind::Map(keys, values) => match new_pair(keys, values, at, value) {
+                Err(why) => Err(why),
+                Ok((new_key, new_value)) => segment.map_put_any(&object, new_key, new_value),
+            },
+            _ => Err(Refusal::WrongKind),
+        },
+    }
+}
+
+/// The value at the key that a literal is, in the map of a key.
+///
+/// # Errors
+///
+/// `NotFound` where no object has the key, `WrongKind` where it is no map or the literal has not the form of its keys,
+/// `OutOfRange` where the literal is not in their range.
+#[inline(never)]
+pub fn lookup(segment: &Segment, key: &Key, at: Literal<'_>) -> Result<Option<ScalarValue>, Refusal>
+    ensures { IsReply segment.now (Lookup (key_seen key.now) (literal_of at.entry)) (any_value_answer result) }
+{
+    match segment.locate(key) {
+        Err(why) => Err(why),
+        Ok(object) => match object.kind {
+            Kind::Map(keys, values) => match value_of(keys, at) {
+                Err(why) => Err(why),
+                Ok(wanted) => segment.map_get_any(&object, wanted, values),
+            },
+            _ => Err(Refusal::WrongKind),
+        },
+    }
+}
+
+/// Takes the pair with the key that a literal is out of the map of a key, and answers whether there was one.
+///
+/// # Errors
+///
+/// `ReadOnly` where the segment is open for reading, and else `NotFound` where no object has the key, `WrongKind` where it is no
+/// map or the literal has not the form of its keys, `OutOfRange` where the literal is not in their range. Nothing changes.
+#[inline(never)]
+pub fn remove(segment: &mut Segment, key: &Key, at: Literal<'_>) -> Result<bool, Refusal>
+    ensures step { IsStep segment.old segment.new (Remove (key_seen key.now) (literal_of at.entry)) (truth_answer result) }
+    ensures refused { OnErr result (segment.new ≡ segment.old) }
+{
+    match object_to_change(segment, key) {
+        Err(why) => Err(why),
+        Ok(object) => match object.kind {
+            Kind::Map(keys, values) => match value_of(keys, at) {
+                Err(why) => Err(why),
+                Ok(gone) => segment.map_erase_any(&object, gone, values),
+            },
+            _ => Err(Refusal::WrongKind),
+        },
+    }
+}
+
+/// The pair of two kinds that two literals are.
+///
+/// # Errors
+///
+/// `WrongKind` where one has another form, and else `OutOfRange` where one is a number outside the range of its kind.
+fn new_pair(
+    keys: ScalarKind,
+    values: ScalarKind,
+    at: Literal<'_>,
+    value: Literal<'_>,
+) -> Result<(ScalarValue, ScalarValue), Refusal>
+    ensures { IsPairOf keys values (pair_of keys values (literal_of at.entry) (literal_of value.entry)) result }
+{
+    let second = value_of(values, value);
+    match value_of(keys, at) {
+        Ok(new_key) => match second {
+            Ok(new_value) => Ok((new_key, new_value)),
+            Err(why) => Err(why),
+        },
+        Err(past) => match past {
+            Refusal::WrongKind => Err(past),
+            _ => match second {
+                Err(Refusal::WrongKind) => Err(Refusal::WrongKind),
+                _ => Err(past),
+            },
+        },
+    }
+}

@@ -1,0 +1,94 @@
+//! The last element of a vector, which is written and taken out.
+ghost use Rattle.std.specs.Prelude.{◌≡◌, ◌-◌, ◌^◌, ◌<◌, OnErr};
+ghost use Rattle.seg_types.specs.declared.kinds.Kind.TheVariants.{Texts as TextsKind, Vector as VectorOf};
+ghost use Rattle.seg_types.specs.Commands.{Pop};
+ghost use Rattle.seg_types.specs.Keys.{key_seen};
+ghost use Rattle.seg_types.specs.Names.{ByHandle};
+ghost use Rattle.segment_manager.specs.Located.{IsObject};
+ghost use Rattle.segment_manager.specs.State.{IsStepOfKind, StandsFor, scalar_answer};
+ghost use Rattle.segment_manager.specs.Step.{step};
+ghost use Rattle.segment_scripts.specs.Answer.{answer_text};
+ghost use Rattle.segment_scripts.specs.Changes.{Executes, IsChangeable};
+ghost use Rattle.segment_scripts.specs.Writing.{WritesFor};
+
+use crate::changing::object_to_change;
+use crate::printing::{put_answer, put_refusal_line};
+use crate::replies::element;
+use crate::showing::{length_of, put_text_at};
+use raw_region::{DeviceFault, Sink};
+use seg_types::{Key, Kind, Refusal, ScalarKind, ScalarValue};
+use segment_manager::{Object, Segment};
+
+/// Takes the last element out of the vector of a key, and writes it, or why there is none: `ReadOnly` where the segment is open
+/// for reading, and else `NotFound` where no object has the key, `WrongKind` where it is no vector, `OutOfRange` where it is
+/// empty. A fault leaves the element taken out, and a proper prefix of it written.
+#[inline(never)]
+pub fn pop<W: Sink>(segment: &mut Segment, key: &Key, out: &mut W) -> Result<(), DeviceFault>
+    requires { (W.history out.old).failures < 2 ^ 64 - 1 }
+    ensures executed { Executes segment.old segment.new (Pop (key_seen key.now)) }
+    ensures writes { WritesFor (W.history out.old) (W.history out.new) result (StandsFor segment.old.cut.bytes)
+        (λ d. answer_text (step segment.old.mode d (Pop (key_seen key.now))).0) }
+{
+    match object_to_change(segment, key) {
+        Err(why) => put_refusal_line(out, why),
+        Ok(object) => match object.kind {
+            Kind::Vector(kind) => {
+                let answer = element(pop_element(segment, object, kind));
+                put_answer(segment, answer, out)
+            }
+            Kind::Texts => pop_text(segment, object, out),
+            _ => put_refusal_line(out, Refusal::WrongKind),
+        },
+    }
+}
+
+/// Writes the last text of the vector of strings of a key, which the segment lends, and takes it out then, also where writing it
+/// failed.
+fn pop_text<W: Sink>(segment: &mut Segment, object: Object, out: &mut W) -> Result<(), DeviceFault>
+    requires object { IsObject object segment.old }
+    requires writer { (W.history out.old).failures < 2 ^ 64 - 1 }
+    requires of_kind { IsChangeable segment.old (ByHandle object.handle) TextsKind }
+    ensures executed { Executes segment.old segment.new (Pop (ByHandle object.handle)) }
+    ensures writes { WritesFor (W.history out.old) (W.history out.new) result (StandsFor segment.old.cut.bytes)
+        (λ d. answer_text (step segment.old.mode d (Pop (ByHandle object.handle))).0) }
+{
+    let last = length_of(segment, object).saturating_sub(1);
+    let written = put_text_at(segment, object, last, out);
+    // why there is none was written
+    let _ = segment.texts_pop(&object);
+    written
+}
+
+/// Takes the last element out of the vector of a key, a vector of scalars of a kind.
+fn pop_element(
+    segment: &mut Segment,
+    object: Object,
+    kind: ScalarKind,
+) -> Result<ScalarValue, Refusal>
+    requires { IsObject object segment.old }
+    ensures step { IsStepOfKind segment.old segment.new (ByHandle object.handle) (VectorOf kind) (Pop (ByHandle object.handle)) (scalar_answer result) }
+    ensures refused { OnErr result (segment.new ≡ segment.old) }
+{
+    match kind {
+        ScalarKind::Bool => match segment.vec_pop::<bool, Object>(&object) {
+            Ok(truth) => Ok(ScalarValue::Bool(truth)),
+            Err(why) => Err(why),
+        },
+        ScalarKind::U8 => match segment.vec_pop::<u8, Object>(&object) {
+            Ok(number) => Ok(ScalarValue::U8(number)),
+            Err(why) => Err(why),
+        },
+        ScalarKind::I32 => match segment.vec_pop::<i32, Object>(&object) {
+            Ok(number) => Ok(ScalarValue::I32(number)),
+            Err(why) => Err(why),
+        },
+        ScalarKind::I64 => match segment.vec_pop::<i64, Object>(&object) {
+            Ok(number) => Ok(ScalarValue::I64(number)),
+            Err(why) => Err(why),
+        },
+        ScalarKind::U64 => match segment.vec_pop::<u64, Object>(&object) {
+            Ok(number) => Ok(ScalarValue::U64(number)),
+            Err(why) => Err(why),
+        },
+    }
+}

@@ -1,0 +1,150 @@
+//! The values of a line as a type has them, in place.
+ghost use Rattle.std.specs.Prelude.{◌≡◌, ◌≤◌, ◌<◌, ◌++◌, ◌∷◌, [], List, IsTrue, MatchResult, Ok, Err, length, map, take, true};
+ghost use Rattle.std.specs.List.{AllByRecursion};
+ghost use Rattle.seg_types.specs.Kinds.{is_value};
+ghost use Rattle.seg_types.specs.Values.{kind_of_scalar, value_of_scalar};
+ghost use Rattle.segment_manager.specs.Step.{text_among};
+ghost use Rattle.segment_scripts.specs.Changes.{ReadsAs};
+ghost use Rattle.segment_scripts.specs.Replies.{bytes_taken};
+
+use crate::setting::value_of;
+use seg_types::theorems::scalar_is_number;
+use seg_types::{Refusal, Scalar, ScalarValue};
+use segment_lang::{Literal, Literals, Text, Values};
+use std::marker::Model;
+
+/// The most values that a line has: each takes a byte, and another parts it from the next.
+const MOST: usize = 2048;
+
+/// The longest spelling of a scalar, in bytes.
+const LONGEST: usize = 8;
+
+/// Values of a type, as many as a line may have.
+#[derive(Drop)]
+pub struct Row<T: Scalar> {
+    values: [T; 2048],
+    len: usize,
+}
+
+impl<T: Scalar> Model for Row<T> {
+    ghost Value = { List T };
+
+    ghost view = { λ r. take r.len r.values };
+
+    ghost invariant = { λ r. r.len ≤ 2048 };
+}
+
+impl<T: Scalar> Row<T> {
+    /// No values.
+    pub fn new() -> Self
+        ensures { result ≡ [] }
+    {
+        Row {
+            values: [zero::<T>(); MOST],
+            len: 0,
+        }
+    }
+
+    /// The values.
+    pub fn as_slice(&self) -> &[T]
+        ensures { result.now ≡ self.now }
+    {
+        &self.values[..self.len]
+    }
+
+    /// Adds a value at the end.
+    pub fn push(&mut self, value: T)
+        requires { length self.old < 2048 }
+        ensures { self.new ≡ self.old ++ value ∷ [] }
+    {
+        self.values[self.len] = value;
+        self.len += 1;
+    }
+}
+
+/// A value for the places of a row that have none of the line.
+fn zero<T: Scalar>() -> T {
+    let bytes = [0; LONGEST];
+    match scalar_is_number::<T>(&bytes[..T::SIZE as usize]) {
+        Some(value) => value,
+        None => unreachable!(),
+    }
+}
+
+/// A value as its type has it.
+fn as_type<T: Scalar>(value: ScalarValue) -> T
+    requires kind { kind_of_scalar value ≡ T.kind }
+    requires range { is_value T.kind (value_of_scalar value) ≡ true }
+    ensures { T.whole result ≡ value_of_scalar value }
+{
+    let mut bytes = [0; LONGEST];
+    let spelling = &mut bytes[..T::SIZE as usize];
+    value.write(spelling);
+    match scalar_is_number::<T>(spelling) {
+        Some(value) => value,
+        None => unreachable!(),
+    }
+}
+
+/// The values of a line, which are of the type's kind.
+pub fn value_row<T: Scalar>(values: Values<'_>) -> Row<T>
+    requires kind { values.kind ≡ T.kind }
+    requires range { AllByRecursion (λ z. IsTrue (is_value T.kind z)) values.numbers }
+    requires few { length values.numbers ≤ 2048 }
+    ensures { map T.whole result ≡ values.entry.numbers }
+{
+    let mut row = Row::new();
+    'values: for value in values {
+        row.push(as_type(value));
+    }
+    row
+}
+
+/// The values that literals are for a vector of a type.
+///
+/// # Errors
+///
+/// `WrongKind` where one has not the form of the kind, and else `OutOfRange` where one is not in its range.
+pub fn literal_row<T: Scalar>(literals: Literals<'_>) -> Result<Row<T>, Refusal>
+    requires { bytes_taken literals ≤ 4097 }
+    ensures { ReadsAs T.kind T.whole literals.entry result }
+{
+    let mut row = Row::new();
+    let mut fits = true;
+    'literals: for literal in literals {
+        match value_of(T::kind(), literal) {
+            Ok(value) => {
+                if fits {
+                    row.push(as_type(value));
+                }
+            }
+            Err(why) => match why {
+                Refusal::WrongKind => return Err(why),
+                _ => fits = false,
+            },
+        }
+    }
+    if fits {
+        Ok(row)
+    } else {
+        Err(Refusal::OutOfRange)
+    }
+}
+
+/// The one text that a string is assigned.
+///
+/// # Errors
+///
+/// `WrongKind` where there is none, or more than one, or a value of another form.
+pub fn only_text<'a>(mut literals: Literals<'a>, scratch: &'a mut Text) -> Result<&'a [u8], Refusal>
+    requires { bytes_taken literals ≤ 4097 }
+    ensures { MatchResult result (λ text. text_among literals.entry ≡ Ok text.now) (λ why. text_among literals.entry ≡ Err why) }
+{
+    let Some(Literal::Quoted(text)) = literals.next() else {
+        return Err(Refusal::WrongKind);
+    };
+    if literals.next().is_some() {
+        return Err(Refusal::WrongKind);
+    }
+    Ok(text.bytes(scratch))
+}

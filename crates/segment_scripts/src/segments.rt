@@ -1,0 +1,135 @@
+//! A segment as a machine that answers lines: each line is read, executed, and answered.
+ghost use Rattle.std.specs.Prelude.{◌≡◌, ◌-◌, ◌^◌, ◌<◌};
+ghost use Rattle.raw_region.specs.Device.{Writes};
+ghost use Rattle.seg_types.specs.Commands.{Asked, Command as AskedCommand};
+ghost use Rattle.segment_lang.specs.Seen.{reading_by};
+ghost use Rattle.segment_lang.specs.declared.forms.CommandForm.TheVariants as form;
+ghost use Rattle.segment_scripts.specs.Replies.{IsMeant};
+ghost use Rattle.segment_scripts.specs.Run.{error_line};
+ghost use Rattle.segment_scripts.specs.Segments.{IsAt, Place, Responds, answer_line};
+ghost use Rattle.segment_scripts.specs.LongLines.{answer_line-long};
+
+use crate::changing::push;
+use crate::machine::{Machine, Scratch};
+use crate::popping::pop;
+use crate::printing::put_answer;
+use crate::replies::{done, reply};
+use crate::showing::put_got;
+use raw_region::{DeviceFault, Sink};
+use segment_lang::{
+    Command, CommandForm, Lead, LineError, Piece, is_alone, key_and_literal, key_and_number,
+    lead_of, put_number_line, put_pieces, read_command,
+};
+use segment_manager::Segment;
+
+impl Machine for Segment {
+    ghost Place = { Place };
+
+    ghost respond = { λ at line. answer_line at line };
+
+    ghost stands = { λ segment at. IsAt segment at };
+
+    fn answer<W: Sink>(
+        &mut self,
+        scratch: &mut Scratch,
+        line: &[u8],
+        out: &mut W,
+    ) -> Result<(), DeviceFault> {
+        match lead_of(line) {
+            Lead::Nothing => Ok(()),
+            Lead::Form(form, rest) => match form {
+                CommandForm::Size => answer_size(self, rest, out),
+                CommandForm::Get => answer_get(self, rest, scratch, out),
+                CommandForm::Push => answer_push(self, rest, scratch, out),
+                _ => answer_form(self, form, rest, scratch, out),
+            },
+            Lead::Wrong(error) => put_wrong(error, out),
+        }
+    }
+
+    ghost long_lines = { answer_line-long };
+}
+
+/// Writes why a line is no command.
+#[inline(never)]
+fn put_wrong<W: Sink>(error: LineError, out: &mut W) -> Result<(), DeviceFault>
+    requires { (W.history out.old).failures < 2 ^ 64 - 1 }
+    ensures { Writes (W.history out.old) (W.history out.new) result (error_line error) }
+{
+    put_pieces(out, &[Piece::LineError(error), Piece::Bytes(b"\n")])
+}
+
+/// Answers `size`, with what stands behind it.
+fn answer_size<W: Sink>(segment: &Segment, rest: &[u8], out: &mut W) -> Result<(), DeviceFault>
+    requires { (W.history out.old).failures < 2 ^ 64 - 1 }
+    ensures { Responds segment.now segment.now (W.history out.old) (W.history out.new) result (reading_by form.Size rest.now) }
+{
+    if !is_alone(rest) {
+        return put_wrong(LineError::BadSyntax, out);
+    }
+    put_number_line(out, b"", segment.size())
+}
+
+/// Answers `get`, with what stands behind it.
+#[inline(never)]
+fn answer_get<W: Sink>(
+    segment: &Segment,
+    rest: &[u8],
+    scratch: &mut Scratch,
+    out: &mut W,
+) -> Result<(), DeviceFault>
+    requires { (W.history out.old).failures < 2 ^ 64 - 1 }
+    ensures { Responds segment.now segment.now (W.history out.old) (W.history out.new) result (reading_by form.Get rest.now) }
+{
+    match key_and_number(rest, &mut scratch.name) {
+        Some((key, index)) => put_got(segment, &key, index, out),
+        None => put_wrong(LineError::BadSyntax, out),
+    }
+}
+
+/// Answers `push`, with what stands behind it.
+#[inline(never)]
+fn answer_push<W: Sink>(
+    segment: &mut Segment,
+    rest: &[u8],
+    scratch: &mut Scratch,
+    out: &mut W,
+) -> Result<(), DeviceFault>
+    requires room { (W.history out.old).failures < 2 ^ 64 - 1 }
+    requires meant { (c : AskedCommand) → Asked c ≡ reading_by form.Push rest.now → IsMeant c }
+    ensures { Responds segment.old segment.new (W.history out.old) (W.history out.new) result (reading_by form.Push rest.now) }
+{
+    match key_and_literal(rest, &mut scratch.name) {
+        Some((key, value)) => {
+            let answer = done(push(segment, &key, value, &mut scratch.text));
+            put_answer(segment, answer, out)
+        }
+        None => put_wrong(LineError::BadSyntax, out),
+    }
+}
+
+/// Answers a command word of any form, with what stands behind it.
+#[inline(never)]
+fn answer_form<W: Sink>(
+    segment: &mut Segment,
+    form: CommandForm,
+    rest: &[u8],
+    scratch: &mut Scratch,
+    out: &mut W,
+) -> Result<(), DeviceFault>
+    requires room { (W.history out.old).failures < 2 ^ 64 - 1 }
+    requires meant { (c : AskedCommand) → Asked c ≡ reading_by form rest.now → IsMeant c }
+    ensures { Responds segment.old segment.new (W.history out.old) (W.history out.new) result (reading_by form rest.now) }
+{
+    match read_command(form, rest, &mut scratch.name) {
+        Some(command) => match command {
+            Command::Get { key, index } => put_got(segment, &key, index, out),
+            Command::Pop(key) => pop(segment, &key, out),
+            _ => {
+                let answer = reply(segment, command, &mut scratch.text);
+                put_answer(segment, answer, out)
+            }
+        },
+        None => put_wrong(LineError::BadSyntax, out),
+    }
+}

@@ -1,0 +1,115 @@
+//! An element that becomes what a line writes.
+ghost use Rattle.std.specs.Prelude.{◌≡◌, ◌≤◌, ◌∷◌, [], Ok, OnErr, false};
+ghost use Rattle.seg_types.specs.declared.kinds.Kind.TheVariants.{Texts as TextsKind};
+ghost use Rattle.seg_types.specs.Commands.{Set, value_of_literal};
+ghost use Rattle.seg_types.specs.Keys.{key_seen};
+ghost use Rattle.seg_types.specs.Names.{ByHandle};
+ghost use Rattle.segment_lang.specs.Seen.{literal_of};
+ghost use Rattle.segment_manager.specs.Calls.{elements_at};
+ghost use Rattle.segment_manager.specs.Located.{IsObject};
+ghost use Rattle.segment_manager.specs.State.{Answers, IsStep, done_answer};
+ghost use Rattle.segment_manager.specs.Step.{is_read_only};
+ghost use Rattle.segment_scripts.specs.Changes.{IsChangeable};
+ghost use Rattle.segment_scripts.specs.Replies.{bytes_taken};
+ghost use Rattle.segment_scripts.specs.Settings.{IsValueOf};
+
+use crate::changing::object_to_change;
+use seg_types::{Key, Kind, Refusal, ScalarKind, ScalarValue};
+use segment_lang::{Literal, Text};
+use segment_manager::{Object, Segment};
+
+/// Makes what a literal is the element at `index` in the object of a key.
+///
+/// # Errors
+///
+/// `ReadOnly` where the segment is open for reading, and else `NotFound` where no object has the key, `WrongKind` where it has
+/// no elements or the literal has not their form, `OutOfRange` where the literal is not in their range or there is no such
+/// element, `NoSpace` where a text has no fit. Nothing changes.
+#[inline(never)]
+pub fn set(
+    segment: &mut Segment,
+    key: &Key,
+    index: u64,
+    literal: Literal<'_>,
+    scratch: &mut Text,
+) -> Result<(), Refusal>
+    requires { bytes_taken (literal_of literal ∷ []) ≤ 4097 }
+    ensures step { IsStep segment.old segment.new (Set (key_seen key.now) index (literal_of literal.entry)) (done_answer result) }
+    ensures refused { OnErr result (segment.new ≡ segment.old) }
+{
+    match object_to_change(segment, key) {
+        Err(why) => Err(why),
+        Ok(object) => match object.kind {
+            Kind::Scalar(element) | Kind::Vector(element) => {
+                set_scalar(segment, object, element, index, literal)
+            }
+            Kind::Text => set_scalar(segment, object, ScalarKind::U8, index, literal),
+            Kind::Texts => set_text(segment, object, index, literal, scratch),
+            Kind::Map(_, _) => Err(Refusal::WrongKind),
+        },
+    }
+}
+
+/// Makes the value that a literal is the element at `index` in the object of a key, whose elements are scalars of a kind.
+fn set_scalar(
+    segment: &mut Segment,
+    object: Object,
+    kind: ScalarKind,
+    index: u64,
+    literal: Literal<'_>,
+) -> Result<(), Refusal>
+    requires object { IsObject object segment.old }
+    requires writing { is_read_only segment.old.mode ≡ false }
+    requires elements { Answers segment.old (λ d. elements_at d (ByHandle object.handle)) (Ok kind) }
+    ensures step { IsStep segment.old segment.new (Set (ByHandle object.handle) index (literal_of literal.entry)) (done_answer result) }
+    ensures refused { OnErr result (segment.new ≡ segment.old) }
+{
+    match value_of(kind, literal) {
+        Err(why) => Err(why),
+        Ok(value) => segment.set_any(&object, index, value),
+    }
+}
+
+/// Makes what a literal is the text at `index` in the vector of strings of a key.
+fn set_text(
+    segment: &mut Segment,
+    object: Object,
+    index: u64,
+    literal: Literal<'_>,
+    scratch: &mut Text,
+) -> Result<(), Refusal>
+    requires object { IsObject object segment.old }
+    requires of_kind { IsChangeable segment.old (ByHandle object.handle) TextsKind }
+    requires few { bytes_taken (literal_of literal ∷ []) ≤ 4097 }
+    ensures step { IsStep segment.old segment.new (Set (ByHandle object.handle) index (literal_of literal.entry)) (done_answer result) }
+    ensures refused { OnErr result (segment.new ≡ segment.old) }
+{
+    match literal {
+        Literal::Quoted(text) => segment.texts_set(&object, index, text.bytes(scratch)),
+        _ => Err(Refusal::WrongKind),
+    }
+}
+
+/// The value of a kind that a literal is.
+///
+/// # Errors
+///
+/// `WrongKind` where the literal has another form, `OutOfRange` where it is a number outside the range of the kind.
+pub fn value_of(kind: ScalarKind, literal: Literal<'_>) -> Result<ScalarValue, Refusal>
+    ensures { IsValueOf kind (value_of_literal kind (literal_of literal.entry)) result }
+{
+    match literal {
+        Literal::Quoted(_) => Err(Refusal::WrongKind),
+        Literal::Truth(truth) => match kind {
+            ScalarKind::Bool => Ok(ScalarValue::Bool(truth)),
+            _ => Err(Refusal::WrongKind),
+        },
+        Literal::Whole(number) => match kind {
+            ScalarKind::Bool => Err(Refusal::WrongKind),
+            _ => match ScalarValue::of_number(kind, number) {
+                Some(value) => Ok(value),
+                None => Err(Refusal::OutOfRange),
+            },
+        },
+    }
+}

@@ -1,0 +1,160 @@
+//! What objects say of themselves: of one all of it, and of those under names or of unique kinds a line for each.
+ghost use Rattle.std.specs.Prelude.{◌≡◌, ◌-◌, ◌^◌, ◌<◌, ◌∷◌, ◌++◌};
+ghost use Rattle.raw_region.specs.Device.{Writes};
+ghost use Rattle.seg_types.specs.Keys.{key_seen};
+ghost use Rattle.seg_types.specs.Names.{ByHandle};
+ghost use Rattle.segment_lang.specs.Texts.{name_text};
+ghost use Rattle.segment_manager.specs.Answers.{Kinds, Names};
+ghost use Rattle.segment_manager.specs.Directory.{Object, named_objects, unique_objects};
+ghost use Rattle.segment_manager.specs.Located.{IsObject};
+ghost use Rattle.segment_manager.specs.State.{StandsFor};
+ghost use Rattle.segment_scripts.specs.Answer.{answer_text, class_words, entry_words, line};
+ghost use Rattle.segment_scripts.specs.Parts.{line_part, said_words};
+ghost use Rattle.segment_scripts.specs.Replies.{told_at};
+ghost use Rattle.segment_scripts.specs.Shown.{number_words};
+ghost use Rattle.segment_scripts.specs.Writing.{WritesFor};
+
+use crate::printing::put_refusal_line;
+use raw_region::{DeviceFault, Sink};
+use seg_types::{Class, Key, Kind};
+use segment_lang::{Piece, put_pieces};
+use segment_manager::{Instance, Object, Segment};
+
+/// Writes what the object of a key says of itself, or that there is none.
+#[inline(never)]
+pub fn put_told<W: Sink>(segment: &Segment, key: &Key, out: &mut W) -> Result<(), DeviceFault>
+    requires { (W.history out.old).failures < 2 ^ 64 - 1 }
+    ensures { WritesFor (W.history out.old) (W.history out.new) result (StandsFor segment.now.cut.bytes)
+        (λ d. answer_text (told_at d (key_seen key.now))) }
+{
+    match segment.locate(key) {
+        Ok(object) => put_object(segment, object, out),
+        Err(why) => put_refusal_line(out, why),
+    }
+}
+
+/// Writes what an object says of itself.
+fn put_object<W: Sink>(segment: &Segment, object: Object, out: &mut W) -> Result<(), DeviceFault>
+    requires writer { (W.history out.old).failures < 2 ^ 64 - 1 }
+    requires object { IsObject object segment.now }
+    ensures { WritesFor (W.history out.old) (W.history out.new) result (StandsFor segment.now.cut.bytes)
+        (λ d. answer_text (told_at d (ByHandle object.handle))) }
+{
+    match segment.instance(&object) {
+        Ok(said) => match segment.measure(&object) {
+            Ok((len, capacity)) => match said.kind {
+                Kind::Map(_, _) => put_instance(said, Some(len), None, out),
+                _ => put_instance(said, Some(len), Some(capacity), out),
+            },
+            Err(_) => put_instance(said, None, None, out),
+        },
+        Err(why) => put_refusal_line(out, why),
+    }
+}
+
+/// Writes a class, a name or `-`, a kind, a count and a handle, and the length and the capacity that were measured.
+fn put_instance<W: Sink>(
+    said: Instance<'_>,
+    len: Option<u64>,
+    capacity: Option<u64>,
+    out: &mut W,
+) -> Result<(), DeviceFault>
+    requires { (W.history out.old).failures < 2 ^ 64 - 1 }
+    ensures { Writes (W.history out.old) (W.history out.new) result (line (class_words said.entry.class said.entry.name.now ++ said_words said.entry ++ (number_words len ++ number_words capacity))) }
+{
+    let (before_len, len) = match len {
+        Some(len) => (Piece::Bytes(b" "), Piece::Number(len)),
+        None => (Piece::Bytes(b""), Piece::Bytes(b"")),
+    };
+    let (before_capacity, capacity) = match capacity {
+        Some(capacity) => (Piece::Bytes(b" "), Piece::Number(capacity)),
+        None => (Piece::Bytes(b""), Piece::Bytes(b"")),
+    };
+    let (class, name): (&[u8], Piece<'_>) = match said.class {
+        Class::Named => (b"named ", Piece::Name(said.name)),
+        Class::Unique => (b"unique ", Piece::Bytes(b"-")),
+        Class::Anonymous => (b"anonymous ", Piece::Bytes(b"-")),
+    };
+    put_pieces(
+        out,
+        &[
+            Piece::Bytes(class),
+            name,
+            Piece::Bytes(b" "),
+            Piece::Kind(said.kind),
+            Piece::Bytes(b" "),
+            Piece::Number(u64::from(said.count)),
+            Piece::Bytes(b" #"),
+            Piece::Number(said.handle),
+            before_len,
+            len,
+            before_capacity,
+            capacity,
+            Piece::Bytes(b"\n"),
+        ],
+    )
+}
+
+/// Writes a line for each object with a name, by name, and then `end`.
+#[inline(never)]
+pub fn put_names<W: Sink>(segment: &Segment, out: &mut W) -> Result<(), DeviceFault>
+    requires { (W.history out.old).failures < 2 ^ 64 - 1 }
+    ensures { WritesFor (W.history out.old) (W.history out.new) result (StandsFor segment.now.cut.bytes)
+        (λ d. answer_text (Names (named_objects d))) }
+{
+    'names: for index in 0..segment.num_named() {
+        put_named(segment.named_instance(index), out)?;
+    }
+    put_pieces(out, &[Piece::Bytes(b"end\n")])
+}
+
+/// Writes the line of an object with a name.
+fn put_named<W: Sink>(said: Instance<'_>, out: &mut W) -> Result<(), DeviceFault>
+    requires { (W.history out.old).failures < 2 ^ 64 - 1 }
+    ensures { Writes (W.history out.old) (W.history out.new) result (line (name_text said.entry.name.now ∷ said_words said.entry)) }
+{
+    put_pieces(
+        out,
+        &[
+            Piece::Name(said.name),
+            Piece::Bytes(b" "),
+            Piece::Kind(said.kind),
+            Piece::Bytes(b" "),
+            Piece::Number(u64::from(said.count)),
+            Piece::Bytes(b" #"),
+            Piece::Number(said.handle),
+            Piece::Bytes(b"\n"),
+        ],
+    )
+}
+
+/// Writes a line for each unique object, by kind, and then `end`.
+#[inline(never)]
+pub fn put_kinds<W: Sink>(segment: &Segment, out: &mut W) -> Result<(), DeviceFault>
+    requires { (W.history out.old).failures < 2 ^ 64 - 1 }
+    ensures { WritesFor (W.history out.old) (W.history out.new) result (StandsFor segment.now.cut.bytes)
+        (λ d. answer_text (Kinds (unique_objects d))) }
+{
+    'kinds: for index in 0..segment.num_unique() {
+        put_unique(segment.unique_instance(index), out)?;
+    }
+    put_pieces(out, &[Piece::Bytes(b"end\n")])
+}
+
+/// Writes the line of a unique object.
+fn put_unique<W: Sink>(said: Instance<'_>, out: &mut W) -> Result<(), DeviceFault>
+    requires { (W.history out.old).failures < 2 ^ 64 - 1 }
+    ensures { Writes (W.history out.old) (W.history out.new) result (line (said_words said.entry)) }
+{
+    put_pieces(
+        out,
+        &[
+            Piece::Kind(said.kind),
+            Piece::Bytes(b" "),
+            Piece::Number(u64::from(said.count)),
+            Piece::Bytes(b" #"),
+            Piece::Number(said.handle),
+            Piece::Bytes(b"\n"),
+        ],
+    )
+}

@@ -126,10 +126,7 @@ static FORMS: [&[(&[u8], CommandForm)]; 32] = [
         (b"unique", CommandForm::ListKinds),
     ],
     &[],
-    &[
-        (b"show", CommandForm::Show),
-        (b"info", CommandForm::Info),
-    ],
+    &[(b"show", CommandForm::Show), (b"info", CommandForm::Info)],
     &[],
     &[(b"size", CommandForm::Size)],
     &[(b"pop", CommandForm::Pop)],

@@ -1,4 +1,4 @@
-use Rattle.std.proofs.Common.{◌∙◌, ap, map, rules, arith}
+use Rattle.std.proofs.Common.{◌∙◌, ap, map, rules}
 use Rattle.std.specs.Option.{option_map}
 use Rattle.segment_lang.specs.Seen.{reader_of}
 use Rattle.segment_lang.specs.declared.forms.TheConstants.{FORMS}

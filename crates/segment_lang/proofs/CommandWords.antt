@@ -10,13 +10,13 @@ use Rattle.seg_types.specs.Names.{Key}
 use Rattle.seg_types.specs.Kinds.{is_value}
 use Rattle.seg_types.specs.Values.{kind_of_scalar, scalar_of, value_of_scalar}
 use Rattle.seg_types.proofs.Laws.{scalar_of-kind, scalar_of-value}
-use Rattle.seg_types.specs.Commands.{Assign, Bytes, Command, ConstructIt, Content, Elements, Literal, NoPairs, Numbers, Strings, UnknownCommand, DestroyPtr}
+use Rattle.seg_types.specs.Commands.{Assign, Bytes, Command, ConstructIt, Content, Elements, Literal, NoPairs, Numbers, Put, Strings, UnknownCommand, DestroyPtr}
 use Rattle.segment_lang.specs.Words as said
 use Rattle.segment_lang.specs.Words.{Word, Bare, literal_of_word, number_of, words}
 use Rattle.segment_lang.specs.Language.{Language, whole}
 use Rattle.segment_lang.specs.Reading.{Form, Reader, all, alone, appending, as_reading, assigning, command_line, content, counted_kind, destroying_ptr, each, finding, for_kind, form_of, items, key_of, making, making_each, new_key, putting, quoted_of, value_for, with_key, with_key_literal, with_key_number, with_key_number_literal, with_number}
-use Rattle.segment_lang.specs.Tokens.{at_end, behind_word, next_two, next_word, only_word, up_to_blank}
-use Rattle.segment_lang.specs.Arguments.{Written, assigning_at, counted_values, handle_of, literals_at, making_at, making_each_at, numbers_at, of_one, of_two, of_three, scalar_at, scalar_in, texts_at, written}
+use Rattle.segment_lang.specs.Tokens.{at_end, behind_word, next_two, next_word, only_word, three_words, two_words, up_to_blank}
+use Rattle.segment_lang.specs.Arguments.{Written, assigning_at, counted_values, handle_of, literals_at, making_at, making_each_at, numbers_at, of_one, of_two, of_three, pair_at, putting_at, scalar_at, scalar_in, texts_at, written}
 use Rattle.segment_lang.proofs.WordList.{take_end, take_only, take_word}
 use Rattle.segment_lang.proofs.ArrayValues.{word-value}
 use Rattle.segment_lang.proofs.WordReaders.{take_two, take_three, take_next_two}
@@ -71,6 +71,29 @@ of_key_number_literal f bytes = take_three (with_key_number_literal f (whole cur
 
 pub of_putting : (bytes : List ℕ) → option_and_then (putting (whole current)) (words bytes) ≡ of_three putting bytes
 of_putting bytes = take_three (putting (whole current)) refl (λ w. refl) (λ w v. refl) (λ w v u t ws. refl) bytes
+
+put_given : (key : Option Key) (k v : Option Literal) → option_and_then (λ key. option_and_then (λ k. option_map (Put key k) v) k) key ≡ option_and_then (λ key. option_and_then (λ (p : Literal × Literal). Some (Put key p.0 p.1)) (option_and_then (λ k. option_and_then (λ v. Some (k, v)) v) k)) key
+put_given None k v = refl
+put_given (Some key) None v = refl
+put_given (Some key) (Some k) None = refl
+put_given (Some key) (Some k) (Some v) = refl
+
+put_nothing : (key : Option Key) → ◌≡◌ {A = Option Command} None (option_and_then (λ key. None) key)
+put_nothing None = refl
+put_nothing (Some key) = refl
+
+-- the key and then the pair
+pub putting_in_parts : (bytes : List ℕ) → of_three putting bytes ≡ putting_at bytes
+unfolding putting_at pair_at three_words
+putting_in_parts bytes = go (next_word bytes)
+  where
+    two : (w : Word) (y : Option (Word × Word)) → option_and_then (λ (x : Word × Word × Word). putting (whole current) (x.0 ∷ x.1 ∷ x.2 ∷ [])) (option_and_then (λ (y : Word × Word). Some (w, y.0, y.1)) y) ≡ option_and_then (λ key. option_and_then (λ (p : Literal × Literal). Some (Put key p.0 p.1)) (option_and_then (λ (y : Word × Word). option_and_then (λ (k : Literal). option_and_then (λ (v : Literal). Some (k, v)) (literal_of_word y.1)) (literal_of_word y.0)) y)) (key_of (whole current) w)
+    two w None = put_nothing (key_of (whole current) w)
+    two w (Some y) = put_given (key_of (whole current) w) (literal_of_word y.0) (literal_of_word y.1)
+
+    go : (x : Option (Word × List ℕ)) → option_and_then (λ (x : Word × Word × Word). putting (whole current) (x.0 ∷ x.1 ∷ x.2 ∷ [])) (option_and_then (λ (x : Word × List ℕ). option_and_then (λ (y : Word × Word). Some (x.0, y.0, y.1)) (two_words x.1)) x) ≡ option_and_then (λ (x : Word × List ℕ). option_and_then (λ key. option_and_then (λ (p : Literal × Literal). Some (Put key p.0 p.1)) (option_and_then (λ (y : Word × Word). option_and_then (λ (k : Literal). option_and_then (λ (v : Literal). Some (k, v)) (literal_of_word y.1)) (literal_of_word y.0)) (two_words x.1))) (key_of (whole current) x.0)) x
+    go None = refl
+    go (Some x) = two x.0 (two_words x.1)
 
 -- ---- a handle
 

@@ -1,14 +1,13 @@
 -- Tables of command words and their forms.
-use Rattle.std.proofs.Common.{◌≡◌, ℕ, zero, suc, ◌+◌, ◌<◌, ◌≤◌, Bool, true, false, cond, List, [], ◌∷◌, length, map, Option, Some, None, ap, sym, refl, ◌∙◌, ◌==◌, nat_eq, nat_lt, get_or, arith}
+use Rattle.std.proofs.Common.{◌≡◌, ℕ, zero, suc, ◌+◌, ◌<◌, Bool, true, false, cond, List, [], ◌∷◌, length, map, Option, Some, None, ap, sym, refl, ◌∙◌, ◌==◌, get_or, arith}
 use Rattle.std.specs.Option.{option_map}
-use Rattle.std.specs.Cmp.Lexicographic.{unequal}
-use Rattle.std.specs.List.{filter, find, list_all}
-use Rattle.std.proofs.lemmas.Bool.{and_parts}
-use Rattle.std.proofs.lemmas.Bool.Decides.{nat_tests}
+use Rattle.std.specs.Cmp.Lexicographic.{same_text}
+use Rattle.std.specs.List.{filter, find}
+use Rattle.std.proofs.lemmas.Bool.{eq-eqb}
 use denote.Ref.{Bor}
 use Rattle.segment_lang.specs.Words.{is}
 use Rattle.segment_lang.specs.Reading.{Form, form_of, forms}
-use Rattle.segment_lang.specs.Seen.{Row, reader_of, found_in}
+use Rattle.segment_lang.specs.Seen.{Row, place_of, reader_of, found_in}
 use Rattle.segment_lang.specs.declared.forms.CommandForm.{CommandForm}
 
 -- ---- rows that are lent
@@ -52,28 +51,38 @@ form_in_rows : (rows : List FormRow) (w : List ℕ) → option_map reader_of (fo
 form_in_rows [] w = refl
 form_in_rows (row ∷ rows) w = first_row (is w row.0) row (find (λ (row : FormRow). is w row.0) rows) (find (λ (f : Form). is w f.0) (map form_row rows)) (form_in_rows rows w)
 
--- ---- the words of one length
+-- ---- the words at one place
 
--- words of another length are not this word
-other_length : (w v : List ℕ) → (length v == length w) ≡ false → is w v ≡ false
-other_length w v h = unequal nat_eq w v (λ e. let f : (length v == length w) ≡ true = grind (arith, nat_tests) in cc)
+pub place_of-lt : (w : List ℕ) → place_of w < 32
+place_of-lt [] = omega arith
+place_of-lt (a ∷ []) = omega arith
+place_of-lt (a ∷ b ∷ []) = omega arith
+place_of-lt (a ∷ b ∷ c ∷ w) = omega arith
 
-of_length : (c b : Bool) (w : List ℕ) (f : Form) (kept all : List Form) → is w f.0 ≡ b → (c ≡ false → b ≡ false) → find (λ (f : Form). is w f.0) kept ≡ find (λ (f : Form). is w f.0) all → find (λ (f : Form). is w f.0) (cond c (f ∷ kept) kept) ≡ cond b (Some f) (find (λ (f : Form). is w f.0) all)
-of_length true b w f kept all e k h = rw (e, h) refl
-of_length false true w f kept all e k h = cc (k refl)
-of_length false false w f kept all e k h = h
+unless_true : (b : Bool) → (b ≡ true → false ≡ true) → b ≡ false
+unless_true true f = sym (f refl)
+unless_true false f = refl
 
--- of all words those of its length alone can be a word
-found_by_length : (fs : List Form) (w : List ℕ) → find (λ (f : Form). is w f.0) (filter (λ (f : Form). length f.0 == length w) fs) ≡ find (λ (f : Form). is w f.0) fs
-found_by_length [] w = refl
-found_by_length (f ∷ fs) w =
-    of_length (length f.0 == length w) (is w f.0) w f (filter (λ (f : Form). length f.0 == length w) fs) fs refl (other_length w f.0) (found_by_length fs w)
+-- words that have another place are not this word
+other_place : (w v : List ℕ) → (place_of v == place_of w) ≡ false → is w v ≡ false
+other_place w v h = unless_true (is w v) (λ e. sym h ∙ eq-eqb (place_of v) (place_of w) (ap place_of (sym (same_text w v (sym e)))))
 
--- the words of a length, each with what stands behind it
+of_place : (c b : Bool) (w : List ℕ) (f : Form) (kept all : List Form) → is w f.0 ≡ b → (c ≡ false → b ≡ false) → find (λ (f : Form). is w f.0) kept ≡ find (λ (f : Form). is w f.0) all → find (λ (f : Form). is w f.0) (cond c (f ∷ kept) kept) ≡ cond b (Some f) (find (λ (f : Form). is w f.0) all)
+of_place true b w f kept all e k h = rw (e, h) refl
+of_place false true w f kept all e k h = cc (k refl)
+of_place false false w f kept all e k h = h
+
+-- of all words those at its place alone can be a word
+found_by_place : (fs : List Form) (w : List ℕ) → find (λ (f : Form). is w f.0) (filter (λ (f : Form). place_of f.0 == place_of w) fs) ≡ find (λ (f : Form). is w f.0) fs
+found_by_place [] w = refl
+found_by_place (f ∷ fs) w =
+    of_place (place_of f.0 == place_of w) (is w f.0) w f (filter (λ (f : Form). place_of f.0 == place_of w) fs) fs refl (other_place w f.0) (found_by_place fs w)
+
+-- the words at a place, each with what stands behind it
 abbrev pub forms_of : ℕ → List Form
-forms_of n = filter (λ (f : Form). length f.0 == n) forms
+forms_of n = filter (λ (f : Form). place_of f.0 == n) forms
 
--- Tables of the command words, each with its form: of those with k bytes, of those with one byte more, and so on.
+-- Tables of the command words, each with its form: of those at place k, of those at the next, and so on.
 abbrev pub AreForms : ℕ → List (List FormRow) → Type 0
 AreForms k [] = Unit {0}
 AreForms k (rows ∷ tables) = (map form_row rows ≡ forms_of k) × AreForms (suc k) tables
@@ -83,23 +92,9 @@ forms_at [] k n h b = absurd (omega arith)
 forms_at (rows ∷ tables) k zero h b = let e : k ≡ k + 0 = omega arith in h.0 ∙ ap forms_of e
 forms_at (rows ∷ tables) k (suc n) h b = let e : suc k + n ≡ k + suc n = omega arith in forms_at tables (suc k) n h.1 (omega arith) ∙ ap forms_of e
 
--- The table of a word's length has for it the form that the language has for it.
-pub form_in_tables : (tables : List (List FormRow)) (w : List ℕ) → AreForms 0 tables → length w < length tables → option_map reader_of (found_in (get_or tables (length w) []) w) ≡ option_map (λ (f : Form). f.1) (form_of w)
+-- The table of a word's place has for it the form that the language has for it.
+pub form_in_tables : (tables : List (List FormRow)) (w : List ℕ) → AreForms 0 tables → place_of w < length tables → option_map reader_of (found_in (get_or tables (place_of w) []) w) ≡ option_map (λ (f : Form). f.1) (form_of w)
 form_in_tables tables w h b =
-    let e : 0 + length w ≡ length w = omega arith in
-    form_in_rows (get_or tables (length w) []) w
-    ∙ ap (λ (fs : List Form). option_map (λ (f : Form). f.1) (find (λ (f : Form). is w f.0) fs)) (forms_at tables 0 (length w) h b ∙ ap forms_of e) ∙ ap (option_map (λ (f : Form). f.1)) (found_by_length forms w)
-
-left_out : (b : Bool) (f : Form) (kept : List Form) → b ≡ false → kept ≡ [] → cond b (f ∷ kept) kept ≡ []
-left_out true f kept e h = cc
-left_out false f kept e h = h
-
-no_forms : (fs : List Form) (n : ℕ) → list_all (λ (f : Form). nat_lt (length f.0) 18) fs ≡ true → 18 ≤ n → filter (λ (f : Form). length f.0 == n) fs ≡ []
-no_forms [] n short h = refl
-no_forms (f ∷ fs) n short h =
-    let p = and_parts (nat_lt (length f.0) 18) (list_all (λ (f : Form). nat_lt (length f.0) 18) fs) short in
-    left_out (length f.0 == n) f (filter (λ (f : Form). length f.0 == n) fs) (grind (arith, nat_tests, p.0)) (no_forms fs n p.1 h)
-
--- no command word has 18 bytes or more
-pub no_form : (w : List ℕ) → 18 ≤ length w → None ≡ option_map (λ (f : Form). f.1) (form_of w)
-no_form w h = ap (λ (fs : List Form). option_map (λ (f : Form). f.1) (find (λ (f : Form). is w f.0) fs)) (sym (no_forms forms (length w) refl h)) ∙ ap (option_map (λ (f : Form). f.1)) (found_by_length forms w)
+    let e : 0 + place_of w ≡ place_of w = omega arith in
+    form_in_rows (get_or tables (place_of w) []) w
+    ∙ ap (λ (fs : List Form). option_map (λ (f : Form). f.1) (find (λ (f : Form). is w f.0) fs)) (forms_at tables 0 (place_of w) h b ∙ ap forms_of e) ∙ ap (option_map (λ (f : Form). f.1)) (found_by_place forms w)

@@ -1,5 +1,5 @@
 -- Names in quotes.
-use Rattle.std.proofs.Common.{◌≡◌, ℕ, ◌≤◌, ◌<◌, ◌+◌, ◌++◌, Bool, true, false, ◌&&◌, cond, List, ◌∷◌, length, Option, Some, None, ap, refl, ◌∙◌, arith, length-append}
+use Rattle.std.proofs.Common.{◌≡◌, ℕ, ◌<◌, ◌++◌, Bool, true, false, ◌&&◌, cond, List, ◌∷◌, length, Option, Some, None, ap, refl, ◌∙◌, arith, length-append}
 use Rattle.std.specs.Prelude.{nat_le, not}
 use Rattle.std.specs.List.{list_all}
 use Rattle.std.specs.Str.{chars, is_utf8}

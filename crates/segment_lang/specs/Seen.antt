@@ -1,5 +1,5 @@
 -- What the types of the code stand for.
-use Rattle.std.specs.Prelude.{ℕ, List, Option, option_and_then, option_map, map, find, replicate}
+use Rattle.std.specs.Prelude.{ℕ, ◌+◌, ◌*◌, ◌%◌, List, [], ◌∷◌, Option, option_and_then, option_map, map, find, replicate}
 use Rattle.raw_region.specs.Format.{current}
 use Rattle.seg_types.specs.Commands as asked
 use Rattle.seg_types.specs.Keys.{index_key_seen, key_seen, new_key_seen}
@@ -75,7 +75,7 @@ command_of (Shrink key) = asked.Shrink (key_seen key)
 command_of (Clear key) = asked.Clear (key_seen key)
 command_of (Assign key values) = asked.Assign (key_seen key) values
 command_of (Append key t) = asked.Append (key_seen key) t
-command_of (Put key at value) = asked.Put (key_seen key) (literal_of at) (literal_of value)
+command_of (Put key pair) = asked.Put (key_seen key) pair.0 pair.1
 command_of (Lookup key at) = asked.Lookup (key_seen key) (literal_of at)
 command_of (Remove key at) = asked.Remove (key_seen key) (literal_of at)
 command_of ListNames = asked.ListNames
@@ -153,6 +153,13 @@ reading_led (lead.Wrong e) = wrong_reading e
 -- a word, and what it is the word of
 abbrev pub Row : Type 0 → Type 0
 Row A = List ℕ × A
+
+-- the place of a word in the table of command words: its first byte and its third decide
+abbrev pub place_of : List ℕ → ℕ
+place_of [] = 0
+place_of (a ∷ []) = 0
+place_of (a ∷ b ∷ []) = 0
+place_of (a ∷ b ∷ c ∷ w) = (a + 6 * c) % 32
 
 -- what the first row of a word has
 abbrev pub found_in : {A : Type 0} → List (Row A) → List ℕ → Option A

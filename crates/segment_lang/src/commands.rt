@@ -3,6 +3,7 @@
 use crate::forms::CommandForm;
 use crate::lists::{Literals, Texts};
 use crate::literals::Literal;
+use crate::pairs::Pair;
 use crate::values::Values;
 use crate::words::Quoted;
 use seg_types::{Handle, IndexKey, Key, Kind, LineError, NewKey, ScalarKind, ScalarValue};
@@ -143,10 +144,8 @@ pub enum Command<'a> {
     Put {
         /// The map.
         key: Key<'a>,
-        /// The pair's key.
-        at: Literal<'a>,
-        /// The pair's value.
-        value: Literal<'a>,
+        /// The pair.
+        pair: Pair<'a>,
     },
     /// Print the value that stands at a key of a map.
     Lookup {

@@ -5,7 +5,7 @@ ghost use Rattle.raw_region.specs.Format.{current};
 ghost use Rattle.segment_lang.specs.Words.{words};
 ghost use Rattle.segment_lang.specs.Language.{whole};
 ghost use Rattle.segment_lang.specs.Reading.{form_of};
-ghost use Rattle.segment_lang.specs.Seen.{command_of, found_in, reader_of};
+ghost use Rattle.segment_lang.specs.Seen.{command_of, found_in, place_of, reader_of};
 
 use crate::buffer::Text;
 use crate::commands::Command;
@@ -96,62 +96,72 @@ pub enum CommandForm {
     AllDeallocated,
 }
 
-/// The command words of each length, each with its form.
-static FORMS: [&[(&[u8], CommandForm)]; 18] = [
-    &[],
-    &[],
-    &[],
+/// The command words, each with its form, by the place that `place_of` gives them.
+static FORMS: [&[(&[u8], CommandForm)]; 32] = [
+    &[(b"remove", CommandForm::Remove)],
     &[
-        (b"get", CommandForm::Get),
-        (b"set", CommandForm::Set),
-        (b"pop", CommandForm::Pop),
-        (b"put", CommandForm::Put),
-    ],
-    &[
-        (b"find", CommandForm::Find),
-        (b"show", CommandForm::Show),
-        (b"info", CommandForm::Info),
-        (b"push", CommandForm::Push),
-        (b"list", CommandForm::ListNames),
-        (b"size", CommandForm::Size),
-        (b"free", CommandForm::Free),
-    ],
-    &[
-        (b"erase", CommandForm::Erase),
         (b"clear", CommandForm::Clear),
-    ],
-    &[
-        (b"insert", CommandForm::Insert),
-        (b"shrink", CommandForm::Shrink),
-        (b"assign", CommandForm::Assign),
         (b"append", CommandForm::Append),
-        (b"lookup", CommandForm::Lookup),
-        (b"remove", CommandForm::Remove),
-        (b"unique", CommandForm::ListKinds),
-        (b"blocks", CommandForm::Blocks),
-        (b"sanity", CommandForm::Sanity),
     ],
+    &[(b"push", CommandForm::Push)],
+    &[],
     &[
-        (b"destroy", CommandForm::Destroy),
         (b"reserve", CommandForm::Reserve),
+        (b"free", CommandForm::Free),
+        (b"reserve_named", CommandForm::ReserveNamed),
+        (b"reserve_unique", CommandForm::ReserveUnique),
     ],
     &[],
     &[
-        (b"construct", CommandForm::Construct),
-        (b"num_named", CommandForm::NumNamed),
+        (b"lookup", CommandForm::Lookup),
         (b"zero_free", CommandForm::ZeroFree),
     ],
-    &[(b"num_unique", CommandForm::NumUnique)],
-    &[(b"destroy_ptr", CommandForm::DestroyPtr)],
-    &[(b"construct_it", CommandForm::ConstructIt)],
-    &[(b"reserve_named", CommandForm::ReserveNamed)],
-    &[
-        (b"reserve_unique", CommandForm::ReserveUnique),
-        (b"shrink_indexes", CommandForm::ShrinkIndexes),
-    ],
+    &[(b"sanity", CommandForm::Sanity)],
+    &[(b"put", CommandForm::Put)],
     &[(b"all_deallocated", CommandForm::AllDeallocated)],
     &[],
-    &[(b"find_or_construct", CommandForm::FindOrConstruct)],
+    &[
+        (b"set", CommandForm::Set),
+        (b"erase", CommandForm::Erase),
+        (b"unique", CommandForm::ListKinds),
+    ],
+    &[],
+    &[(b"show", CommandForm::Show), (b"info", CommandForm::Info)],
+    &[],
+    &[(b"size", CommandForm::Size)],
+    &[(b"pop", CommandForm::Pop)],
+    &[],
+    &[],
+    &[(b"assign", CommandForm::Assign)],
+    &[],
+    &[],
+    &[
+        (b"destroy", CommandForm::Destroy),
+        (b"destroy_ptr", CommandForm::DestroyPtr),
+    ],
+    &[
+        (b"construct", CommandForm::Construct),
+        (b"construct_it", CommandForm::ConstructIt),
+    ],
+    &[],
+    &[],
+    &[
+        (b"find", CommandForm::Find),
+        (b"find_or_construct", CommandForm::FindOrConstruct),
+    ],
+    &[(b"insert", CommandForm::Insert)],
+    &[
+        (b"blocks", CommandForm::Blocks),
+        (b"num_named", CommandForm::NumNamed),
+        (b"num_unique", CommandForm::NumUnique),
+    ],
+    &[],
+    &[(b"list", CommandForm::ListNames)],
+    &[
+        (b"get", CommandForm::Get),
+        (b"shrink", CommandForm::Shrink),
+        (b"shrink_indexes", CommandForm::ShrinkIndexes),
+    ],
 ];
 
 /// The form of the first row of a word.
@@ -161,21 +171,29 @@ fn find_row(rows: &[(&[u8], CommandForm)], word: &[u8]) -> Option<CommandForm>
     rows.iter().find(|row| is(word, row.0)).map(|row| row.1)
 }
 
-/// The form of the first row of a word in the table of its length.
-fn find_form(tables: &[&[(&[u8], CommandForm)]], word: &[u8]) -> Option<CommandForm>
-    requires { length word.now < length tables.now }
-    ensures { result ≡ found_in (slice_index_or (map (λ rows. map (λ row. (row.0.now, row.1)) rows.now) tables.now) (length word.now) []) word.now }
+/// The place of a word in the table: few command words share one.
+fn place_of(word: &[u8]) -> usize
+    ensures value { result ≡ place_of word.now }
+    ensures small { result < 32 }
 {
-    find_row(tables[word.len()], word)
+    match word {
+        [first, _, third, ..] => (usize::from(*first) + 6 * usize::from(*third)) % 32,
+        _ => 0,
+    }
+}
+
+/// The form of the first row of a word at its place in the table.
+fn find_form(table: &[&[(&[u8], CommandForm)]], word: &[u8]) -> Option<CommandForm>
+    requires { length table.now ≡ 32 }
+    ensures { result ≡ found_in (slice_index_or (map (λ rows. map (λ row. (row.0.now, row.1)) rows.now) table.now) (place_of word.now) []) word.now }
+{
+    find_row(table[place_of(word)], word)
 }
 
 /// The form of a command word. `None` is a word that is none.
 pub fn form_of(word: &[u8]) -> Option<CommandForm>
     ensures { option_map reader_of result ≡ option_map (λ form. form.1) (form_of word.now) }
 {
-    if word.len() >= FORMS.len() {
-        return None;
-    }
     find_form(&FORMS, word)
 }
 

@@ -26,7 +26,6 @@ mod readers;
 // Answers.
 mod errors;
 mod pieces;
-mod short_lines;
 mod texts;
 
 // Laws of the definitions.
@@ -40,11 +39,12 @@ pub use line::{LONGEST_LINE, lead_of, parse_line};
 pub use lists::{Literals, Texts};
 pub use literals::{Literal, literal_of};
 pub use numbers::{number_of, whole_of};
+pub use pairs::{Pair, key_and_pair};
 pub use pieces::{Piece, put_pieces};
 pub use readers::{is_alone, key_and_literal, key_and_number};
 pub use seg_types::LineError;
 pub use texts::{
-    put_kind, put_line, put_name, put_number, put_number_line, put_text, put_value, put_value_line,
+    put_kind, put_name, put_number, put_number_line, put_text, put_value, put_value_line,
 };
 pub use theorems::{
     long_lines_are_cut, numbers_are_decimals, printed_kinds_are_read, printed_names_are_read,

@@ -3,6 +3,7 @@
 //! begins with it.
 
 ghost use Rattle.std.specs.Prelude.{◌≡◌, ◌==◌, ◌||◌, ◌-◌, ◌^◌, ◌<◌, ◌++◌, ◌∷◌, [], decimal, flat_map};
+ghost use Rattle.std.specs.Fmt.{signed_decimal};
 ghost use Rattle.std.specs.List.{list_all};
 ghost use Rattle.raw_region.specs.Device.{Writes};
 ghost use Rattle.seg_types.specs.Values.{kind_of_scalar, value_of_scalar};
@@ -11,8 +12,7 @@ ghost use Rattle.segment_lang.specs.Texts.{digit_text, item_text, kind_text, nam
 ghost use Rattle.segment_lang.specs.Pieces.{part_text};
 
 use crate::numbers::is_digit;
-use crate::short_lines::ShortLine;
-use itoa::Buffer;
+use itoa::{Buffer, write_digits};
 use raw_region::{DeviceFault, Sink, write_all};
 use seg_types::{Kind, ScalarKind, ScalarValue};
 
@@ -41,27 +41,37 @@ pub fn put_value<S: Sink>(out: &mut S, value: ScalarValue) -> Result<(), DeviceF
     }
 }
 
-/// Writes two texts, one behind the other, and the end of the line: at once where they are short.
-pub fn put_line<S: Sink>(out: &mut S, front: &[u8], text: &[u8]) -> Result<(), DeviceFault>
-    requires { (S.history out.old).failures < 2 ^ 64 - 1 }
-    ensures { Writes (S.history out.old) (S.history out.new) result (front.now ++ text.now ++ 0x0A ∷ []) }
-{
-    if front.len() > 3 || text.len() > 28 {
-        return put_parts(out, &[front, text, b"\n"]);
-    }
-    let mut line = ShortLine::new();
-    line.extend(front);
-    line.extend(text);
-    line.extend(b"\n");
-    write_all(out, line.as_slice())
-}
+/// The most bytes of the text in front of a number that is written with it at once.
+const LONGEST_FRONT: usize = 3;
 
-/// Writes a number behind a text, and the end of the line.
+/// Where the digits of a number end in a line that is written at once: they are 20 at most.
+const DIGITS_END: usize = LONGEST_FRONT + 20;
+
+/// Writes a number behind a text, and the end of the line: at once where the text is short.
 pub fn put_number_line<S: Sink>(out: &mut S, front: &[u8], number: u64) -> Result<(), DeviceFault>
     requires { (S.history out.old).failures < 2 ^ 64 - 1 }
     ensures { Writes (S.history out.old) (S.history out.new) result (front.now ++ decimal number ++ 0x0A ∷ []) }
 {
-    put_line(out, front, Buffer::new().format(number).as_bytes())
+    if front.len() > LONGEST_FRONT {
+        return put_parts(
+            out,
+            &[front, Buffer::new().format(number).as_bytes(), b"\n"],
+        );
+    }
+    let mut line = [b'\n'; DIGITS_END + 1];
+    let digits = write_digits(number, &mut line, DIGITS_END);
+    let start = digits - front.len();
+    line[start..digits].copy_from_slice(front);
+    write_all(out, &line[start..])
+}
+
+/// Writes a whole number that may be negative, and the end of the line.
+fn put_signed_line<S: Sink>(out: &mut S, number: i64) -> Result<(), DeviceFault>
+    requires { (S.history out.old).failures < 2 ^ 64 - 1 }
+    ensures { Writes (S.history out.old) (S.history out.new) result (signed_decimal number ++ 0x0A ∷ []) }
+{
+    let sign: &[u8] = if number < 0 { b"-" } else { b"" };
+    put_number_line(out, sign, number.unsigned_abs())
 }
 
 /// Writes a value and the end of the line.
@@ -69,14 +79,13 @@ pub fn put_value_line<S: Sink>(out: &mut S, value: ScalarValue) -> Result<(), De
     requires { (S.history out.old).failures < 2 ^ 64 - 1 }
     ensures { Writes (S.history out.old) (S.history out.new) result (value_text (kind_of_scalar value) (value_of_scalar value) ++ 0x0A ∷ []) }
 {
-    let mut buffer = Buffer::new();
     match value {
         ScalarValue::Bool(true) => write_all(out, b"true\n"),
         ScalarValue::Bool(false) => write_all(out, b"false\n"),
-        ScalarValue::U8(number) => put_line(out, b"", buffer.format(number).as_bytes()),
-        ScalarValue::I32(number) => put_line(out, b"", buffer.format(number).as_bytes()),
-        ScalarValue::I64(number) => put_line(out, b"", buffer.format(number).as_bytes()),
-        ScalarValue::U64(number) => put_line(out, b"", buffer.format(number).as_bytes()),
+        ScalarValue::U8(number) => put_number_line(out, b"", u64::from(number)),
+        ScalarValue::I32(number) => put_signed_line(out, i64::from(number)),
+        ScalarValue::I64(number) => put_signed_line(out, number),
+        ScalarValue::U64(number) => put_number_line(out, b"", number),
     }
 }
 

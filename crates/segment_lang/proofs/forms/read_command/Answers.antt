@@ -1,7 +1,7 @@
 use Rattle.std.proofs.Common.{◌∙◌, sym}
 use Rattle.seg_types.specs.Commands as asked
 use Rattle.segment_lang.specs.Reading.{key_of, name_key, new_key}
-use Rattle.segment_lang.proofs.CommandWords.{alone_at_end, of_appending, of_assigning, of_finding, of_handle, of_key, of_key_literal, of_key_number, of_key_number_literal, of_making, of_making_each, of_number, of_putting}
+use Rattle.segment_lang.proofs.CommandWords.{alone_at_end, of_appending, of_assigning, of_finding, of_handle, of_key, of_key_literal, of_key_number, of_key_number_literal, of_making, of_making_each, of_number, of_putting, putting_in_parts}
 use Rattle.segment_lang.proofs.forms.read_command.Goals as goal
 
 pub returns-in-Construct : goal.returns-in-Construct
@@ -62,7 +62,7 @@ pub returns-in-Append : goal.returns-in-Append
 returns-in-Append c = rw c.in-Append.is (c.read_append.ensures ∙ sym (of_appending c.args.bytes.now))
 
 pub returns-in-Put : goal.returns-in-Put
-returns-in-Put c = rw c.in-Put.is (c.read_put.ensures ∙ sym (of_putting c.args.bytes.now))
+returns-in-Put c = rw c.in-Put.is (c.read_put.ensures ∙ sym (putting_in_parts c.args.bytes.now) ∙ sym (of_putting c.args.bytes.now))
 
 pub returns-in-Lookup : goal.returns-in-Lookup
 returns-in-Lookup c = rw c.in-Lookup.is (c.read_lookup.ensures ∙ sym (of_key_literal asked.Lookup c.args.bytes.now))

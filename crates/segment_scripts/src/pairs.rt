@@ -11,7 +11,7 @@ ghost use Rattle.segment_scripts.specs.Settings.{IsPairOf};
 use crate::changing::object_to_change;
 use crate::setting::value_of;
 use seg_types::{Key, Kind, Refusal, ScalarKind, ScalarValue};
-use segment_lang::Literal;
+use segment_lang::{Literal, Pair};
 use segment_manager::Segment;
 
 /// Puts the pair that two literals are into the map of a key, and answers whether its key is new.
@@ -41,6 +41,19 @@ pub fn put(
             _ => Err(Refusal::WrongKind),
         },
     }
+}
+
+/// Puts the pair that a line writes into the map of a key, and answers whether its key is new.
+///
+/// # Errors
+///
+/// As `put`. Nothing changes.
+pub fn put_written_pair(segment: &mut Segment, key: &Key, pair: Pair<'_>) -> Result<bool, Refusal>
+    ensures step { IsStep segment.old segment.new (Put (key_seen key.now) pair.entry.0 pair.entry.1) (truth_answer result) }
+    ensures refused { OnErr result (segment.new ≡ segment.old) }
+{
+    let (at, value) = pair.literals();
+    put(segment, key, at, value)
 }
 
 /// The value at the key that a literal is, in the map of a key.

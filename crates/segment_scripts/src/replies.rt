@@ -11,7 +11,7 @@ ghost use Rattle.segment_scripts.specs.Replies.{IsMeant, Replies, answer_seen, h
 
 use crate::changing::{append, assign, clear, erase, insert, push, reserve, shrink};
 use crate::constructing::{construct, construct_it, find_or_construct};
-use crate::pairs::{lookup, put, remove};
+use crate::pairs::{lookup, put_written_pair, remove};
 use crate::setting::set;
 use seg_types::{Handle, IndexKey, Key, Refusal, ScalarValue};
 use segment_lang::{Command, Text};
@@ -80,7 +80,7 @@ pub fn reply<'a>(segment: &mut Segment, command: Command<'a>, scratch: &mut Text
         Command::Clear(key) => done(clear(segment, &key)),
         Command::Assign { key, values } => done(assign(segment, &key, values, scratch)),
         Command::Append { key, text } => done(append(segment, &key, text, scratch)),
-        Command::Put { key, at, value } => truth(put(segment, &key, at, value)),
+        Command::Put { key, pair } => truth(put_written_pair(segment, &key, pair)),
         Command::Lookup { key, at } => value_found(lookup(segment, &key, at)),
         Command::Remove { key, at } => truth(remove(segment, &key, at)),
         Command::ListNames => Answer::Names,
@@ -214,7 +214,7 @@ fn value_found<'a>(found: Result<Option<ScalarValue>, Refusal>) -> Answer<'a>
 }
 
 /// The answer where something holds, or not.
-fn truth<'a>(truth: Result<bool, Refusal>) -> Answer<'a>
+pub fn truth<'a>(truth: Result<bool, Refusal>) -> Answer<'a>
     ensures { (d : Directory) → answer_seen d result ≡ truth_answer truth }
 {
     match truth {

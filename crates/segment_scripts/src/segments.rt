@@ -11,14 +11,15 @@ ghost use Rattle.segment_scripts.specs.LongLines.{answer_line-long};
 
 use crate::changing::push;
 use crate::machine::{Machine, Scratch};
+use crate::pairs::put;
 use crate::popping::pop;
 use crate::printing::put_answer;
-use crate::replies::{done, reply};
+use crate::replies::{done, reply, truth};
 use crate::showing::put_got;
 use raw_region::{DeviceFault, Sink};
 use segment_lang::{
     Command, CommandForm, Lead, LineError, Piece, is_alone, key_and_literal, key_and_number,
-    lead_of, put_number_line, put_pieces, read_command,
+    key_and_pair, lead_of, put_number_line, put_pieces, read_command,
 };
 use segment_manager::Segment;
 
@@ -41,6 +42,7 @@ impl Machine for Segment {
                 CommandForm::Size => answer_size(self, rest, out),
                 CommandForm::Get => answer_get(self, rest, scratch, out),
                 CommandForm::Push => answer_push(self, rest, scratch, out),
+                CommandForm::Put => answer_put(self, rest, scratch, out),
                 _ => answer_form(self, form, rest, scratch, out),
             },
             Lead::Wrong(error) => put_wrong(error, out),
@@ -102,6 +104,26 @@ fn answer_push<W: Sink>(
     match key_and_literal(rest, &mut scratch.name) {
         Some((key, value)) => {
             let answer = done(push(segment, &key, value, &mut scratch.text));
+            put_answer(segment, answer, out)
+        }
+        None => put_wrong(LineError::BadSyntax, out),
+    }
+}
+
+/// Answers `put`, with what stands behind it.
+#[inline(never)]
+fn answer_put<W: Sink>(
+    segment: &mut Segment,
+    rest: &[u8],
+    scratch: &mut Scratch,
+    out: &mut W,
+) -> Result<(), DeviceFault>
+    requires { (W.history out.old).failures < 2 ^ 64 - 1 }
+    ensures { Responds segment.old segment.new (W.history out.old) (W.history out.new) result (reading_by form.Put rest.now) }
+{
+    match key_and_pair(rest, &mut scratch.name) {
+        Some((key, at, value)) => {
+            let answer = truth(put(segment, &key, at, value));
             put_answer(segment, answer, out)
         }
         None => put_wrong(LineError::BadSyntax, out),

@@ -96,8 +96,8 @@ returns-in-Append c =
 
 pub returns-in-Put : goal.returns-in-Put
 returns-in-Put c =
-    rw c.in-Put.is (replies-call Truth (λ _. refl) c.args.segment.now c.put.new.segment (Put (key_seen c.in-Put.key) (literal_of c.in-Put.at) (literal_of c.in-Put.value)) c.put.result c.truth-in-Put.result
-    refl refl c.truth-in-Put.ensures c.put.ensures.step (keeps-refused c.args.segment.now c.put.new.segment c.put.result c.put.ensures.refused))
+    rw c.in-Put.is (replies-call Truth (λ _. refl) c.args.segment.now c.put_written_pair.new.segment (Put (key_seen c.in-Put.key) c.in-Put.pair.0 c.in-Put.pair.1) c.put_written_pair.result c.truth-in-Put.result
+    refl refl c.truth-in-Put.ensures c.put_written_pair.ensures.step (keeps-refused c.args.segment.now c.put_written_pair.new.segment c.put_written_pair.result c.put_written_pair.ensures.refused))
 
 pub returns-in-Lookup : goal.returns-in-Lookup
 returns-in-Lookup c =

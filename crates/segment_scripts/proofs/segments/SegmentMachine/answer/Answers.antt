@@ -52,6 +52,16 @@ returns-in-Push-clause-writes g c =
     (responds-same c.args.self.now c.answer_push.new.segment (g.W.Sink.history c.args.out.now) (g.W.Sink.history c.answer_push.new.out) c.answer_push.result
     (reading_by form.Push c.in-Form.rest.now) (reading (whole current) c.args.line.now) (ap (λ f. reading_by f c.in-Form.rest.now) (sym c.in-Push.is) ∙ c.in-Form.ensures) c.answer_push.ensures).writes
 
+pub returns-in-Put-clause-leads : goal.returns-in-Put-clause-leads
+returns-in-Put-clause-leads g c =
+    (responds-same c.args.self.now c.answer_put.new.segment (g.W.Sink.history c.args.out.now) (g.W.Sink.history c.answer_put.new.out) c.answer_put.result
+    (reading_by form.Put c.in-Form.rest.now) (reading (whole current) c.args.line.now) (ap (λ f. reading_by f c.in-Form.rest.now) (sym c.in-Put.is) ∙ c.in-Form.ensures) c.answer_put.ensures).leads
+
+pub returns-in-Put-clause-writes : goal.returns-in-Put-clause-writes
+returns-in-Put-clause-writes g c =
+    (responds-same c.args.self.now c.answer_put.new.segment (g.W.Sink.history c.args.out.now) (g.W.Sink.history c.answer_put.new.out) c.answer_put.result
+    (reading_by form.Put c.in-Form.rest.now) (reading (whole current) c.args.line.now) (ap (λ f. reading_by f c.in-Form.rest.now) (sym c.in-Put.is) ∙ c.in-Form.ensures) c.answer_put.ensures).writes
+
 pub returns-in_default-clause-leads : goal.returns-in_default-clause-leads
 returns-in_default-clause-leads g c =
     (responds-same c.args.self.now c.answer_form.new.segment (g.W.Sink.history c.args.out.now) (g.W.Sink.history c.answer_form.new.out) c.answer_form.result

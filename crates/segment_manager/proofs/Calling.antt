@@ -1,5 +1,5 @@
 -- What the contracts of the heap come to for a directory: blocks asked for, released and written.
-use Rattle.std.proofs.Common.{◌≡◌, refl, sym, ap, subst, ◌∙◌, ℕ, ◌+◌, ◌≤◌, inl, Bool, true, ◌&&◌, ◌==◌, List, [], ◌∷◌, length, arith, ◌-◌}
+use Rattle.std.proofs.Common.{◌≡◌, refl, sym, ap, subst, ◌∙◌, ℕ, Bool, true, ◌&&◌, ◌==◌, List}
 use Rattle.std.specs.Prelude.{IsTrue}
 use Rattle.std.specs.List.{list_any}
 use Rattle.std.proofs.lemmas.Bool.{eq-eqb, and_from}

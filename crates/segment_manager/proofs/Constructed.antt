@@ -1,13 +1,13 @@
 -- An object made under a key with an entry: what the bytes denote, and what the machine does.
 use Rattle.std.proofs.Common.{◌≡◌, refl, sym, ap, subst, ◌∙◌, ℕ, ◌*◌, ◌<◌, ◌≤◌, inl, inr, ℤ, Some, None, Option, List, length, arith}
-use Rattle.std.specs.Prelude.{IsTrue, insert}
+use Rattle.std.specs.Prelude.{insert}
 use Rattle.raw_region.specs.Memory.{Cut, bytes_of}
 use Rattle.raw_region.specs.Format.{current}
 use Rattle.block_tags.specs.declared.tile.Role.TheVariants.{Object as ObjectRole, Index as IndexRole}
 use Rattle.best_fit.specs.Extents.{Extent, LiveSet, handle}
 use Rattle.best_fit.specs.Fit.{added, place, resized}
-use Rattle.best_fit.specs.Heap.{IsAllocated, Keeps, LaysOut, live_of}
-use Rattle.best_fit.specs.Table.{Table, serves}
+use Rattle.best_fit.specs.Heap.{Keeps, LaysOut, live_of}
+use Rattle.best_fit.specs.Table.{Table}
 use Rattle.best_fit.proofs.Laws.{AllByRecursion-insert, allocated-live, keeps-trans}
 use Rattle.seg_types.specs.declared.kinds.Kind.{Kind}
 use Rattle.seg_types.specs.declared.kinds.Kind.TheVariants.{Scalar}
@@ -23,10 +23,11 @@ use Rattle.seg_index.specs.Held.{IsIndexOf, entry_count, place_of}
 use Rattle.seg_index.specs.Index.{grown_capacity}
 use Rattle.seg_index.specs.Lookups.{IsPlace}
 use Rattle.segment_manager.specs.Answers.{Refused}
-use Rattle.segment_manager.specs.Denotes.{Denotes, IsObjectAt}
-use Rattle.segment_manager.specs.Directory.{Value, Numbers, Object, Directory, count_of, extents_of, is_good_value, kind_of, live, object_len, with_object}
+use Rattle.segment_manager.specs.Denotes.{Denotes}
+use Rattle.segment_manager.specs.Directory.{Value, Numbers, Object, Directory, count_of, extents_of, kind_of, live, object_len, with_object}
+use Rattle.segment_manager.specs.Filled.{IsDenied, IsGiven}
 use Rattle.segment_manager.specs.Indexed.{class_of_index, entries_of, objects_of, table_of, with_table_of}
-use Rattle.segment_manager.specs.NewObjects.{FindsNone, IsAddedObject, IsNewKey, IsNewKeyOf, IsRequested, IsRestored, IsUnmet}
+use Rattle.segment_manager.specs.NewObjects.{FindsNone, IsNewKeyOf, IsRequested, IsRestored}
 use Rattle.segment_manager.specs.Plan.{Plan, New, Request, bare, class_of, name_of, perform, with_entry, with_new_object, with_value}
 use Rattle.seg_types.specs.declared.refusals.Refusal.TheVariants.{NoSpace}
 use Rattle.segment_manager.proofs.Added.{IsEntered, entered-denotes, entered-none, entered-some, grown_into, place-low}
@@ -34,13 +35,12 @@ use Rattle.segment_manager.proofs.Bridge.{entry-added, lookup-absent}
 use Rattle.segment_manager.proofs.Calling.{denotes-live}
 use Rattle.segment_manager.proofs.HeldIndexes.{denotes-index, handles-length}
 use Rattle.segment_manager.proofs.Kept.{denotes-kept}
-use Rattle.segment_manager.proofs.Made.{IsMade, requested-taken, taken-index}
-use Rattle.segment_manager.proofs.NewBlocks.{allocated-serves}
-use Rattle.segment_manager.proofs.NewKeys.{key-class, key-has, key-name, key-object, key-own, key-seeks, object_of}
+use Rattle.segment_manager.proofs.Made.{IsMade, taken-index}
+use Rattle.segment_manager.proofs.NewKeys.{key-class, key-has, key-name, key-own, key-seeks, object_of}
 use Rattle.segment_manager.proofs.Requests.{entry-grows, entry-refused, entry-room}
 use Rattle.segment_manager.proofs.Steps.{perform-new, perform-no_space}
 use Rattle.segment_manager.proofs.Tables.{same-table}
-use Rattle.segment_manager.proofs.Taking.{growth-index, place-high, written-taken}
+use Rattle.segment_manager.proofs.Taking.{growth-index, place-high}
 
 -- what is made is the object, in a directory that the new bytes denote; and so the machine goes on
 pub record IsNewObject (new : Cut) (d : Directory) (key : names.Key) (content : Content) (h : ℕ) : Type 0 where
@@ -128,17 +128,9 @@ entered i a b c e d o at (Some g) k h made x same adds laid keeps = entered-some
 
 -- ---- what the machine does
 
--- what a content asks for behind the object's own block, and the value that it becomes
-pub record IsGiven (d : Directory) (l : LiveSet) (content : Content) (v : Value) (left : LiveSet) : Type 0 where
-  pub met : (next : Value → Plan) → perform d l (with_value content next) ≡ perform d left (next v)
-
 -- numbers ask for nothing more
 pub numbers-given : (d : Directory) (l : LiveSet) (k : ScalarKind) (zs : List ℤ) → IsGiven d l (asked.Numbers k zs) (Numbers k zs) l
 numbers-given d l k zs = record { met = λ next. refl }
-
--- what it asks for is refused
-abbrev pub IsDenied : Directory → LiveSet → Content → Type 0
-IsDenied d l content = (next : Value → Plan) → perform d l (with_value content next) ≡ (Refused NoSpace, d)
 
 -- the value, and then the object in its block
 abbrev value_plan : Index → List ℕ → Content → (Object → Directory → Plan) → Directory → Extent → Plan
@@ -231,27 +223,7 @@ module _ (i : Index) (a : Cut) (d : Directory) (e : Key) (key : names.Key) (name
 
 -- ---- numbers
 
-module _ (i : Index) (a : Cut) (d : Directory) (e : Key) (key : names.Key) (name : List ℕ) (k : ScalarKind) (zs : List ℤ) (said : Denotes current a.bytes d) (new : IsNewKey i e key name k) where
-  -- its requests are met, it is written, and its entry is added
-  pub numbers-entered : (c : Cut) (at n h : ℕ) → IsTrue (is_good_value (Numbers k zs)) → n ≡ object_len name (Numbers k zs) → IsPlace (bytes_of a.bytes) e (entries_of i d) (Absent at)
-      → (r : IsAddedObject a c i at n h (λ m. (x : Extent) → h ≡ handle x → IsObjectAt m (object_of i name (Numbers k zs) x))) → IsNewObject c d key (asked.Numbers k zs) h
-  numbers-entered c at n h good len away r =
-      let took : IsAllocated current r.requested.between r.written n ObjectRole h = written-taken r.requested.between r.taken r.written n h r.requested.takes r.change in
-      let x : Extent = took.extent in
-      let serving = subst (λ m. IsTrue (serves x ObjectRole m)) len (allocated-serves current r.requested.between r.written n ObjectRole h took) in
-      let made : IsMade r.requested.between r.written (object_of i name (Numbers k zs) x) =
-      record { good = key-object i e key name (Numbers k zs) x new refl good serving; taken = requested-taken r.requested.between r.written n ObjectRole h took; at = r.said x took.at } in
-      content-entered i a d e key name (Scalar k) (asked.Numbers k zs) said new r.requested.between r.written c x (Numbers k zs) (resized (live_of r.requested.between.bytes) x) at h r.growth r.requested.grows
-      (ap (λ m. place (live_of r.requested.between.bytes) m ObjectRole) (sym len) ∙ took.placed) (numbers-given d (resized (live_of r.requested.between.bytes) x) k zs) refl refl made took.at away
-      (record { adds = r.adds; live = r.live; keeps = r.keeps })
-
-  -- a request is refused
-  pub numbers-refused : (c : Cut) (n : ℕ) → n ≡ object_len name (Numbers k zs) → IsUnmet a c (place_of i) n → IsNoObject c d key (asked.Numbers k zs)
-  numbers-refused c n len r = record {
-    refused = λ next. content-none i a d e key name (Scalar k) (asked.Numbers k zs) said new next n len r.none;
-    denotes = restored-denotes a c d said r.restored;
-  }
-
+module _ (i : Index) (a : Cut) (d : Directory) (e : Key) (key : names.Key) (name : List ℕ) (k : ScalarKind) (zs : List ℤ) (said : Denotes current a.bytes d) (new : IsNewKeyOf i e key name (Scalar k)) where
   -- its requests are met
   pub numbers-met : (m : Cut) (n h : ℕ) (g : Option ℕ) → n ≡ object_len name (Numbers k zs) → IsRequested a m (place_of i) n g h → IsMet d key (asked.Numbers k zs)
   numbers-met m n h g len r =

@@ -31,7 +31,7 @@ use Rattle.segment_manager.proofs.VectorSteps.{HoldsVector, holds-vector}
 use Rattle.segment_manager.proofs.Whole.{IsOfKind, of-whole}
 
 -- the window is as it was, and so is the segment
-keeps-cut : (s t : State) (view : s ≡ t) (new : Cut) (P : Directory → Type 0) → ((d : Directory) → StandsFor s.cut.bytes d → P d → new ≡ s.cut) → KeepsWhere t (record s { cut = new }) P
+pub keeps-cut : (s t : State) (view : s ≡ t) (new : Cut) (P : Directory → Type 0) → ((d : Directory) → StandsFor s.cut.bytes d → P d → new ≡ s.cut) → KeepsWhere t (record s { cut = new }) P
 keeps-cut s t view new P each = subst (λ (u : State). KeepsWhere u (record s { cut = new }) P) view (λ d l has. let e = each d l has in λ j. record s { cut = e j })
 
 -- ---- places

@@ -17,7 +17,6 @@ mod Entries
 mod AnyClass
 mod Regrown
 mod Handles
-mod Numbers
 mod Elements
 mod Kept
 mod Fresh
@@ -37,14 +36,13 @@ mod Reserves
 mod Constructs
 mod FoundOrMade
 mod FromItems
-mod ConstructCalls
 mod Filling
 mod Loose
 mod ItemCalls
-mod MadeContainers
+mod MadeValues
 mod NewContainers
-mod NewMaps
-mod ContainerCalls
+mod NewNumbers
+mod FilledCalls
 mod Heads
 mod Payloads
 mod Rows

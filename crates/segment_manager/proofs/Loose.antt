@@ -13,7 +13,7 @@ use Rattle.seg_types.specs.declared.kinds.Class.TheVariants.{Anonymous}
 use Rattle.seg_types.specs.Names.{Key}
 use Rattle.seg_index.specs.Growth.{GivesBack}
 use Rattle.seg_index.specs.Held.{place_of}
-use Rattle.segment_manager.specs.declared.constructing_from.NewEntry.{NewEntry}
+use Rattle.segment_manager.specs.declared.beginning.NewEntry.{NewEntry}
 use Rattle.segment_manager.specs.Begun.{IsBegun, IsHeaded, IsLoose, IsLooseAlone, IsLooseEntry, IsReadyFor, IsWanted}
 use Rattle.segment_manager.specs.Directory.{padded}
 use Rattle.segment_manager.specs.Indexed.{class_of_index}

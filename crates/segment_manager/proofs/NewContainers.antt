@@ -1,103 +1,107 @@
--- An object with a container made under a key: a value with one table.
-use Rattle.std.proofs.Common.{◌≡◌, sym, ap, subst, ◌∙◌, ℕ, ◌≤◌, Some, Option, Ok, Err, Result, List, []}
-use Rattle.std.specs.Prelude.{IsTrue}
+-- A vector of numbers or a text as the value of a new object: it is made without an element, and then with its elements in storage for just so
+-- many.
+use Rattle.std.proofs.Common.{◌≡◌, refl, sym, ap, subst, ◌∙◌, ℕ, ℤ, Bool, Some, None, Ok, Err, Result, List, [], length, map}
+use Rattle.std.specs.Prelude.{IsTrue, MatchResult, option_to_list}
 use Rattle.raw_region.specs.Format.{current}
-use Rattle.raw_region.specs.Memory.{Cut, Memory, bytes_of}
-use Rattle.block_tags.specs.declared.tile.Role.TheVariants.{Storage}
+use Rattle.raw_region.specs.Memory.{Cut, bytes_of}
 use Rattle.best_fit.specs.Exchange.{IsExchanged}
-use Rattle.best_fit.specs.Extents.{LiveSet}
-use Rattle.best_fit.specs.Heap.{live_of}
-use Rattle.best_fit.specs.Table.{Table, is_table, no_table}
+use Rattle.best_fit.specs.Heap.{IsChanged, live_of}
+use Rattle.best_fit.specs.Table.{Table, no_table}
 use Rattle.best_fit.proofs.Laws.{keeps-refl, laid-heap}
-use Rattle.seg_types.specs.declared.kinds.Kind.{Kind}
+use Rattle.seg_types.specs.declared.kinds.ScalarKind.{ScalarKind}
 use Rattle.seg_types.specs.declared.refusals.Refusal.{Refusal}
-use Rattle.seg_types.specs.Kinds.{is_kind_of}
-use Rattle.seg_types.specs.Names as names
+use Rattle.seg_types.specs.declared.refusals.Refusal.TheVariants.{NoSpace}
+use Rattle.seg_types.specs.Kinds.{size_of}
+use Rattle.seg_types.specs.Commands as asked
 use Rattle.seg_types.specs.Commands.{Content}
 use Rattle.seg_vector.specs.declared.places.Place.{Place}
-use Rattle.seg_vector.specs.Standing.{place_at}
-use Rattle.seg_vector.specs.Vector.{IsContainerAt, grown_table}
-use Rattle.segment_manager.specs.declared.constructing_from.NewEntry.{NewEntry}
-use Rattle.segment_manager.specs.Begun.{IsBegun, IsEnding}
-use Rattle.segment_manager.specs.Contents.{Contents, has_values}
-use Rattle.segment_manager.specs.Denotes.{IsValueAt}
-use Rattle.segment_manager.specs.Directory.{Value, count_of, is_good_value, kind_of, value_len}
-use Rattle.segment_manager.specs.MadeContainers.{IsBuilt, IsMadeContainer, IsNoContainer, IsNotBuilt, MakesContainer}
+use Rattle.seg_vector.specs.Standing.{Stands, place_at}
+use Rattle.seg_vector.specs.TextCalls.{AssignsText, IsTextGrown, StartsText}
+use Rattle.seg_vector.specs.Vector.{grown_table, spelled}
+use Rattle.seg_vector.specs.VectorCalls.{Assigns, IsSomeVector, IsVectorGrown, IsWithoutSpace, Starts}
+use Rattle.segment_manager.specs.Contents.{Contents, IsNumbersGrown, are_bytes, contents_of, has_values}
+use Rattle.segment_manager.specs.Directory.{Value, Elements, Bytes, count_of, kind_of, value_extents, value_len}
+use Rattle.segment_manager.specs.Filled.{IsMadeValue, IsNoValue, MakesValue}
 use Rattle.segment_manager.specs.Plan.{Plan, bare, perform, with_storage, with_value}
-use Rattle.segment_manager.specs.State.{IsSegment}
-use Rattle.segment_manager.proofs.Contained.{Shape}
-use Rattle.segment_manager.proofs.MadeContainers.{storage-met, storage-none, stored}
-use Rattle.segment_manager.proofs.NewValues.{IsHeld, IsMadeNever, IsMadeNow, IsMadeValue, IsNoValue, value-built, value-loose, value-not_built, value-ready}
+use Rattle.segment_manager.proofs.Contained.{contents-good, value-said}
+use Rattle.segment_manager.proofs.MadeValues.{storage-met, storage-none, stored}
+use Rattle.segment_manager.proofs.Whole.{IsOfKind, whole-grown, whole-length, whole-no_room}
 
--- ---- contents that are containers
-
-abbrev pub contents : ℕ → ℕ → List ℕ → Table → Contents
+abbrev contents : ℕ → ℕ → List ℕ → Table → Contents
 contents each len bytes t = record { each = each; len = len; table = t; bytes = bytes }
 
 -- what such a content asks for, and what it is in storage
-pub record IsContainerOf (content : Content) (kind : Kind) (each len : ℕ) (bytes : List ℕ) (v : Table → Value) : Type 0 where
-  pub asks : (next : Value → Plan) → with_value content next ≡ with_storage each len (λ t. next (v t))
-  pub long : value_len (bare content) ≡ 24
-  pub one : count_of (bare content) ≡ 1
-  pub is_kind : (t : Table) → kind_of (v t) ≡ kind
-  pub known : IsTrue (is_kind_of current kind)
-  pub shape : (l : LiveSet) (t : Table) → grown_table l each len no_table ≡ Some t → Shape (v t) (contents each len bytes t)
-  pub good : (t : Table) → len ≤ t.capacity → IsTrue (is_table Storage each t) → IsTrue (has_values (v t)) → IsTrue (is_good_value (v t))
-  pub says : (l : LiveSet) (m : Memory) (at : ℕ) (t : Table) → grown_table l each len no_table ≡ Some t → IsContainerAt m at len t bytes → IsValueAt m at (v t)
+record IsContainerOf (content : Content) (each len : ℕ) (bytes : List ℕ) (v : Table → Value) : Type 0 where
+  asks : (next : Value → Plan) → with_value content next ≡ with_storage each len (λ t. next (v t))
+  is_kind : (t : Table) → kind_of (v t) ≡ kind_of (bare content)
+  long : (t : Table) → value_len (v t) ≡ value_len (bare content)
+  count : (t : Table) → count_of (v t) ≡ count_of (bare content)
+  extents : (t : Table) → value_extents (v t) ≡ option_to_list t.extent
+  holds : (t : Table) → contents_of (v t) ≡ Some (contents each len bytes t)
 
-module _ (content : Content) (kind : Kind) (each len : ℕ) (bytes : List ℕ) (v : Table → Value) (is : IsContainerOf content kind each len bytes v) where
-  pub held : IsHeld content kind
-  held = record { long = is.long; one = is.one; known = is.known }
+elements-content : (k : ScalarKind) (zs : List ℤ) → IsContainerOf (asked.Elements k zs) (size_of k) (length zs) (spelled k zs) (Elements k zs)
+elements-content k zs = record { asks = λ next. refl; is_kind = λ t. refl; long = λ t. refl; count = λ t. refl; extents = λ t. refl; holds = λ t. refl }
 
+bytes-content : (bs : List ℕ) → IsContainerOf (asked.Bytes bs) 1 (length bs) bs (Bytes bs)
+bytes-content bs = record { asks = λ next. refl; is_kind = λ t. refl; long = λ t. refl; count = λ t. refl; extents = λ t. refl; holds = λ t. refl }
+
+module _ (content : Content) (each len : ℕ) (bytes : List ℕ) (v : Table → Value) (is : IsContainerOf content each len bytes v) (old mid new : Cut) (p : Place)
+    (change : IsChanged current old mid (place_at p) (value_len (bare content))) where
   -- its elements are in their storage
-  made-value : (old new : Cut) (p : Place) → IsMadeContainer old new p each len bytes → ((t : Table) → IsTrue (has_values (v t))) → IsMadeValue content kind old new p
-  made-value old new p r values =
-      let t : Table = r.table in
-      let l = live_of r.empty.bytes in
-      let shape : Shape (v t) (contents each len bytes t) = is.shape l t r.grown in
-      record {
-        empty = r.empty;
-        change = r.change;
-        value = v t;
-        is_kind = is.is_kind t;
-        len = shape.len;
-        one = shape.count;
-        good = is.good t r.stands.fits r.stands.table (values t);
-        left = stored l t;
-        given = λ d. record { met = λ next. ap (perform d l) (is.asks next) ∙ storage-met d l each len t (λ t. next (v t)) r.grown };
-        storage = subst (IsExchanged current r.empty new (place_at p) 24 []) (sym shape.extents) r.storage;
-        said = is.says l (bytes_of new.bytes) (place_at p) t r.grown r.stands.words;
-      }
+  stored-value : (t : Table) → grown_table (live_of mid.bytes) each len no_table ≡ Some t → IsExchanged current mid new (place_at p) (value_len (bare content)) [] (option_to_list t.extent)
+      → Stands new.bytes p each len t bytes → IsTrue (has_values (v t)) → IsMadeValue content old new p
+  stored-value t grown storage stands values = record {
+    empty = mid;
+    change = change;
+    value = v t;
+    is_kind = is.is_kind t;
+    len = is.long t;
+    count = is.count t;
+    good = contents-good (v t) (contents each len bytes t) (is.holds t) stands.fits stands.table values;
+    left = stored (live_of mid.bytes) t;
+    given = λ d. record { met = λ next. ap (perform d (live_of mid.bytes)) (is.asks next) ∙ storage-met d (live_of mid.bytes) each len t (λ t. next (v t)) grown };
+    storage = subst (IsExchanged current mid new (place_at p) (value_len (bare content)) []) (sym (is.extents t)) storage;
+    said = value-said (bytes_of new.bytes) (place_at p) (v t) (contents each len bytes t) (is.holds t) stands.words;
+  }
 
   -- there is no storage for them
-  no-value : (old new : Cut) (p : Place) (why : Refusal) → IsNoContainer old new p each len why → IsNoValue content old new p
-  no-value old new p why r =
-      let l = live_of new.bytes in
-      record {
-        empty = new;
-        change = r.change;
-        restored = record { laid = laid-heap new.bytes (live_of old.bytes) r.change.live; keeps = keeps-refl new l.extents };
-        denied = λ d next. ap (perform d l) (is.asks next) ∙ storage-none d l each len (λ t. next (v t)) r.none;
-      }
+  unstored-value : (why : Refusal) → new ≡ mid → grown_table (live_of mid.bytes) each len no_table ≡ None → why ≡ NoSpace → IsNoValue content old new p why
+  unstored-value why same none refusal = subst (λ (c : Cut). IsNoValue content old c p why) (sym same) (record {
+    empty = mid;
+    change = change;
+    restored = record { laid = laid-heap mid.bytes (live_of old.bytes) change.live; keeps = keeps-refl mid (live_of mid.bytes).extents };
+    denied = λ d next. ap (perform d (live_of mid.bytes)) (is.asks next) ∙ storage-none d (live_of mid.bytes) each len (λ t. next (v t)) none;
+    refusal = refusal;
+  })
 
-abbrev behind : ℕ → ℕ → Place
-behind h at = record { handle = h; at = at }
+-- ---- a vector of numbers
 
-module _ (content : Content) (kind : Kind) (each len : ℕ) (bytes : List ℕ) (v : Table → Value) (is : IsContainerOf content kind each len bytes v) (a m : Cut) (b : IsSegment a.bytes) (h at : ℕ) where
-  -- it is built
-  pub built : (key : names.Key) (entry : Option NewEntry) (c : Cut) (Good : Type 0) (handle : ℕ) → IsBegun a m key kind 1 24 h at entry → (Good → (t : Table) → IsTrue (has_values (v t)))
-      → IsBuilt m c h at entry each len bytes Good handle → IsMadeNow a c key content handle
-  built key entry c Good handle g values r =
-      subst (λ (n : ℕ). IsMadeNow a c key content n) (sym r.is)
-      (value-built content kind (held content kind each len bytes v is) a m b key h at entry r.made c g (made-value content kind each len bytes v is m r.made (behind h at) r.container (values r.good)) r.entered)
+module _ {T : Type 0} (k : ScalarKind) (w : T → ℤ) (size : ℕ) (test : T → Bool) (sp : T → List ℕ) (law : IsOfKind k w size test sp) where
+  -- a vector without a value is some vector
+  pub some-started : (old new : Cut) (p q : Place) → q ≡ p → Starts size test sp old new p → IsSomeVector size test sp new.bytes q
+  some-started old new p q e r = subst (IsSomeVector size test sp new.bytes) (sym e) ([], (no_table, r.vector))
 
-  -- or it is not
-  pub not_built : (key : names.Key) (entry : Option NewEntry) (c : Cut) (why : Refusal) → IsBegun a m key kind 1 24 h at entry → IsNotBuilt m c h at entry each len why → IsMadeNever a c key content
-  not_built key entry c why g r =
-      value-not_built content kind (held content kind each len bytes v is) a m b key h at entry r.empty c g (no-value content kind each len bytes v is m r.empty (behind h at) why r.none) r.back
+  -- it is made, and then its values are put there
+  pub vector-made : (old mid new : Cut) (p q : Place) (ys : List T) (r : Result (Unit {0}) Refusal) → q ≡ p → IsChanged current old mid (place_at p) 24 → Starts size test sp old mid p
+      → Assigns size test sp mid new q ys r → MakesValue (asked.Elements k (map w ys)) old new p r
+  vector-made old mid new p q ys r e change begun a = made r (subst (λ (x : Place). Assigns size test sp mid new x ys r) e a [] no_table begun.vector)
+    where
+      made : (r : Result (Unit {0}) Refusal) → MatchResult r (λ u. IsVectorGrown size test sp mid new p no_table (length ys) ys) (IsWithoutSpace mid new size (length ys) no_table)
+          → MakesValue (asked.Elements k (map w ys)) old new p r
+      made (Ok u) g =
+          let n : IsNumbersGrown k mid new p no_table (length ys) (map w ys) = whole-grown k w size test sp law mid new p no_table g.table (length ys) ys g.grown g.now.change g.now.vector.stands g.now.vector.values in
+          stored-value (asked.Elements k (map w ys)) (size_of k) (length (map w ys)) (spelled k (map w ys)) (Elements k (map w ys)) (elements-content k (map w ys)) old mid new p change n.table
+          (subst (λ (l : ℕ). grown_table (live_of mid.bytes) (size_of k) l no_table ≡ Some n.table) (sym (whole-length w ys)) n.grown) n.now.change n.now.vector.stands n.now.vector.values
+      made (Err why) g =
+          unstored-value (asked.Elements k (map w ys)) (size_of k) (length (map w ys)) (spelled k (map w ys)) (Elements k (map w ys)) (elements-content k (map w ys)) old mid new p change why g.same
+          (subst (λ (l : ℕ). grown_table (live_of mid.bytes) (size_of k) l no_table ≡ None) (sym (whole-length w ys)) (whole-no_room k w size test sp law mid.bytes (length ys) no_table g.none)) g.refusal
 
-  -- what the end wants of a container that was made, or was refused its storage
-  pub ending : (key : names.Key) (entry : Option NewEntry) (w : Cut) (Good : Type 0) (r : Result (Unit {0}) Refusal) → (Good → (t : Table) → IsTrue (has_values (v t))) → IsBegun a m key kind 1 24 h at entry
-      → MakesContainer m w (behind h at) each len bytes Good r → IsEnding w h entry r
-  ending key entry w Good (Ok u) values g r = value-ready content kind (held content kind each len bytes v is) a m b key h at entry w g (made-value content kind each len bytes v is m w (behind h at) r.0 (values r.1))
-  ending key entry w Good (Err why) values g r = (a, value-loose content kind (held content kind each len bytes v is) a m b key h at entry w g (no-value content kind each len bytes v is m w (behind h at) why r))
+-- ---- a text
+
+pub string-made : (old mid new : Cut) (p q : Place) (bs : List ℕ) (r : Result (Unit {0}) Refusal) → IsTrue (are_bytes bs) → q ≡ p → IsChanged current old mid (place_at p) 24 → StartsText old mid p
+    → AssignsText mid new q bs r → MakesValue (asked.Bytes bs) old new p r
+string-made old mid new p q bs r small e change begun a = made r (subst (λ (x : Place). AssignsText mid new x bs r) e a [] no_table begun.text)
+  where
+    made : (r : Result (Unit {0}) Refusal) → MatchResult r (λ u. IsTextGrown mid new p no_table (length bs) bs) (IsWithoutSpace mid new 1 (length bs) no_table) → MakesValue (asked.Bytes bs) old new p r
+    made (Ok u) g = stored-value (asked.Bytes bs) 1 (length bs) bs (Bytes bs) (bytes-content bs) old mid new p change g.table g.grown g.now.change g.now.text small
+    made (Err why) g = unstored-value (asked.Bytes bs) 1 (length bs) bs (Bytes bs) (bytes-content bs) old mid new p change why g.same g.none g.refusal

@@ -1,86 +1,88 @@
 -- An object made under a key whose value takes blocks of its own, whatever it is, as a step of the machine: its requests are met in order,
 -- or one is refused and all is given back.
 use Rattle.std.proofs.Common.{◌≡◌, refl, sym, ap, subst, ◌∙◌, ℕ, ◌+◌, ◌-◌, ◌≤◌, ◌/◌, ◌%◌, true, ◌&&◌, ◌==◌, inl, inr, Some, None, Option, List, [], ◌∷◌, length, arith}
-use Rattle.std.specs.Prelude.{IsTrue}
+use Rattle.std.specs.Prelude.{IsTrue, find}
 use Rattle.std.proofs.lemmas.Bool.{and_from}
 use Rattle.raw_region.specs.Format.{current}
 use Rattle.raw_region.specs.Memory.{Cut, SamePlace, bytes_of, word_at}
 use Rattle.raw_region.proofs.Laws.{SamePlace-trans}
 use Rattle.block_tags.specs.declared.tile.Role.TheVariants.{Object as ObjectRole}
-use Rattle.best_fit.specs.Exchange.{IsExchanged}
 use Rattle.best_fit.specs.Extents.{Extent, LiveSet}
 use Rattle.best_fit.specs.Fit.{added, place, resized}
 use Rattle.best_fit.specs.Heap.{IsAllocated, IsChanged, IsRefused, Keeps, LaysOut, SameBlock, live_of}
-use Rattle.best_fit.specs.Table.{serves}
+use Rattle.best_fit.specs.Table.{Table, serves}
 use Rattle.best_fit.proofs.Laws.{allocated-live, keeps-trans, laid-heap}
 use Rattle.seg_types.specs.declared.kinds.Class.{Class}
 use Rattle.seg_types.specs.declared.kinds.Class.TheVariants.{Anonymous}
 use Rattle.seg_types.specs.declared.kinds.Kind.{Kind}
+use Rattle.seg_types.specs.declared.kinds.Kind.TheVariants.{Map, Scalar, Text, Texts as TextsKind, Vector}
+use Rattle.seg_types.specs.declared.refusals.Refusal.{Refusal}
 use Rattle.seg_types.specs.declared.refusals.Refusal.TheVariants.{NoSpace}
 use Rattle.seg_types.specs.Kinds.{is_kind_of}
 use Rattle.seg_types.specs.Names as names
 use Rattle.seg_types.specs.Commands.{Content}
 use Rattle.seg_index.specs.declared.index.Index.{Index}
+use Rattle.seg_index.specs.declared.keys.Key.{Key}
+use Rattle.seg_index.specs.declared.keys.Lookup.TheVariants.{Absent}
 use Rattle.seg_index.specs.Held.{IsIndexOf, place_of}
-use Rattle.seg_index.specs.Growth.{CanGrow}
+use Rattle.seg_index.specs.Growth.{AddKeeps, CanGrow, IsGrowth}
+use Rattle.seg_index.specs.Lookups.{IsPlace}
 use Rattle.seg_index.proofs.Laws.{prepared}
-use Rattle.seg_vector.specs.declared.places.Place.{Place}
-use Rattle.seg_vector.specs.Standing.{place_at}
-use Rattle.segment_manager.specs.declared.constructing_from.NewEntry.{NewEntry}
-use Rattle.segment_manager.specs.Begun.{GivesAllBack, IsBegun, IsBegunAlone, IsBegunEntry, IsEntryAdded, IsHeaded, IsLoose, IsNotBegun, IsReadyFor, IsTakenKey, IsUnmetEntry, IsWanted, LeadsThere}
-use Rattle.segment_manager.specs.Denotes.{Denotes, IsValueAt}
-use Rattle.segment_manager.specs.Directory.{Value, Object, Directory, count_of, extents_of, is_good_value, is_object, kind_of, live, object_at, object_len, padded, value_extents, value_len, with_object}
+use Rattle.segment_manager.specs.declared.beginning.NewEntry.{NewEntry}
+use Rattle.segment_manager.specs.Begun.{GivesAllBack, IsAbsentAt, IsBegun, IsBegunAlone, IsBegunEntry, IsEntryAdded, IsHeaded, IsLoose, IsNotBegun, IsReadyFor, IsTakenKey, IsUnmetEntry, IsWanted, LeadsThere}
+use Rattle.segment_manager.specs.Denotes.{Denotes}
+use Rattle.segment_manager.specs.Directory.{Value, Object, Directory, count_of, extents_of, has_key, is_good_value, is_object, kind_of, live, object_at, object_len, padded, value_extents, value_len, with_object}
+use Rattle.segment_manager.specs.Filled.{IsDenied, IsGiven, IsMadeValue, IsNoValue}
 use Rattle.segment_manager.specs.Indexed.{class_of_index, entries_of, table_of}
 use Rattle.segment_manager.specs.Layout.{head_len}
 use Rattle.segment_manager.specs.NewObjects.{IsNewKeyOf, IsRestored}
 use Rattle.segment_manager.specs.Plan.{Plan, bare, with_value}
 use Rattle.segment_manager.specs.Standing.{room_for}
-use Rattle.segment_manager.specs.State.{IsSegment, State, StandsFor}
+use Rattle.segment_manager.specs.State.{IsSegment, StandsFor}
 use Rattle.segment_manager.proofs.Bridge.{lookup-absent, lookup-found}
 use Rattle.segment_manager.proofs.Calling.{denotes-live}
-use Rattle.segment_manager.proofs.ConstructCalls.{away-in, growth-place, keeps-place, unmet-place}
-use Rattle.segment_manager.proofs.Constructed.{IsDenied, IsGiven, IsNewObject, IsNoObject, content-denied, content-entered, content-none, restored-denotes}
+use Rattle.segment_manager.proofs.Constructed.{IsNewObject, IsNoObject, content-denied, content-entered, content-none, restored-denotes}
 use Rattle.segment_manager.proofs.Denoted.{denotes-with}
 use Rattle.segment_manager.proofs.HeldIndexes.{denotes-index}
 use Rattle.segment_manager.proofs.KeyCalls.{segment-index}
 use Rattle.segment_manager.proofs.Live.{adding}
 use Rattle.segment_manager.proofs.Made.{IsMade, IsTaken, taken-growth, taken-index}
-use Rattle.segment_manager.proofs.MadeContainers.{empty-taken, made-object, made-taken, placed-next}
+use Rattle.segment_manager.proofs.MadeValues.{empty-taken, made-object, made-taken, placed-next}
 use Rattle.segment_manager.proofs.NewBlocks.{allocated-serves}
 use Rattle.segment_manager.proofs.NewKeys.{key-object, key-seeks}
-use Rattle.segment_manager.proofs.Numbers.{no_key-none}
 use Rattle.segment_manager.proofs.Order.{all_of-insert}
 use Rattle.segment_manager.proofs.Steps.{perform-new, perform-no_space}
 use Rattle.segment_manager.proofs.Taking.{growth-index, place-high, place-low, requested-aligned}
 
--- ---- contents, and values that are made of them
+-- ---- kinds
 
--- a content whose value has 24 bytes in its object
-pub record IsHeld (content : Content) (kind : Kind) : Type 0 where
-  pub long : value_len (bare content) ≡ 24
-  pub one : count_of (bare content) ≡ 1
-  pub known : IsTrue (is_kind_of current kind)
+-- a format that has vectors of strings is written: it has all kinds
+pub known-kind : (kind : Kind) → IsTrue (is_kind_of current kind)
+unfolding current
+known-kind (Scalar k) = refl
+known-kind Text = refl
+known-kind (Vector k) = refl
+known-kind (Map k v) = refl
+known-kind TextsKind = refl
 
--- the 24 bytes were written, and then the value was made, which takes what the content asks for
-pub record IsMadeValue (content : Content) (kind : Kind) (old new : Cut) (p : Place) : Type 0 where
-  pub empty : Cut
-  pub change : IsChanged current old empty (place_at p) 24
-  pub value : Value
-  pub is_kind : kind_of value ≡ kind
-  pub len : value_len value ≡ 24
-  pub one : count_of value ≡ 1
-  pub good : IsTrue (is_good_value value)
-  pub left : LiveSet
-  pub given : (d : Directory) → IsGiven d (live_of empty.bytes) content value left
-  pub storage : IsExchanged current empty new (place_at p) 24 [] (value_extents value)
-  pub said : IsValueAt (bytes_of new.bytes) (place_at p) value
+-- ---- places
 
--- or it was not, and what was taken for it was given back
-pub record IsNoValue (content : Content) (old new : Cut) (p : Place) : Type 0 where
-  pub empty : Cut
-  pub change : IsChanged current old empty (place_at p) 24
-  pub restored : IsRestored empty new
-  pub denied : (d : Directory) → IsDenied d (live_of empty.bytes) content
+growth-place : (a b : Cut) (at : ℕ) (g : Option ℕ) → IsGrowth a b at g → SamePlace a b
+growth-place a b at None h = subst (SamePlace a) (sym h.1) (record { before = refl; after = refl })
+growth-place a b at (Some g) h = h.1.keeps.place
+
+keeps-place : (a b : Cut) (at : ℕ) (t : Table) (g : Option ℕ) → AddKeeps a b at t g → SamePlace a b
+keeps-place a b at t None k = k.place
+keeps-place a b at t (Some g) k = k.place
+
+-- no object has no key
+pub no_key-none : (os : List Object) → find (has_key names.NoKey) os ≡ None
+no_key-none [] = refl
+no_key-none (o ∷ os) = no_key-none os
+
+-- what a look-up that finds no entry says of each directory
+pub away-in : (i : Index) (a : Cut) (d : Directory) (e : Key) (at : ℕ) → Denotes current a.bytes d → IsAbsentAt a i e at → IsPlace (bytes_of a.bytes) e (entries_of i d) (Absent at)
+away-in i a d e at said away = away (table_of i d) (entries_of i d) (denotes-index i a d said)
 
 -- ---- all directories
 
@@ -120,84 +122,86 @@ restored-taken a m w n h t r =
 unchanged : (w : Cut) (l : LiveSet) (from n : ℕ) → LaysOut current w.bytes l → IsChanged current w w from n
 unchanged w l from n laid = record { place = record { before = refl; after = refl }; live = laid-heap w.bytes l laid; rest = record { at = λ k h. refl } }
 
-module _ (content : Content) (kind : Kind) (is : IsHeld content kind) where
-  long-bare : (name : List ℕ) → room_for name 24 ≡ object_len name (bare content)
-  long-bare name = ap (λ n. head_len + padded (length name) + n) (sym is.long)
+module _ (content : Content) where
+  abbrev kind : Kind
+  kind = kind_of (bare content)
+
+  abbrev many : ℕ
+  many = count_of (bare content)
+
+  abbrev long : ℕ
+  long = value_len (bare content)
 
   -- ---- the value in its object's block
 
-  module _ (a t m w : Cut) (class : Class) (name : List ℕ) (h at : ℕ) (take : IsAllocated current a t (room_for name 24) ObjectRole h) (headed : IsHeaded t m kind class name 1 h at)
-      (r : IsMadeValue content kind m w (record { handle = h; at = at })) where
-    block : IsAllocated current a r.empty (room_for name 24) ObjectRole h
-    block = empty-taken a t m r.empty kind class name h at take headed r.change
+  module _ (a t m w : Cut) (class : Class) (name : List ℕ) (h at : ℕ) (take : IsAllocated current a t (room_for name long) ObjectRole h) (headed : IsHeaded t m kind class name many h at)
+      (r : IsMadeValue content m w (record { handle = h; at = at })) where
+    block : IsAllocated current a r.empty (room_for name long) ObjectRole h
+    block = empty-taken a t m r.empty kind class name many long h at take headed r.change
 
     abbrev own : Object
     own = record { class = class; name = name; value = r.value; extent = block.extent }
 
     both-taken : IsTaken a w (extents_of own)
-    both-taken = made-taken a r.empty w name h at (value_extents r.value) block headed.start r.storage
+    both-taken = made-taken a r.empty w name long h at (value_extents r.value) block headed.start r.storage
 
     serving : IsTrue (serves block.extent ObjectRole (object_len name r.value))
     serving =
-        subst (λ n. IsTrue (serves block.extent ObjectRole n)) (ap (λ n. head_len + padded (length name) + n) (sym r.len)) (allocated-serves current a r.empty (room_for name 24) ObjectRole h block)
+        subst (λ n. IsTrue (serves block.extent ObjectRole n)) (ap (λ n. head_len + padded (length name) + n) (sym r.len)) (allocated-serves current a r.empty (room_for name long) ObjectRole h block)
 
     made-in : IsTrue (is_object current own) → IsMade a w own
     made-in good =
         let headed' : IsHeaded t m (kind_of r.value) class name (count_of r.value) h at =
-        subst (λ n. IsHeaded t m (kind_of r.value) class name n h at) (sym r.one) (subst (λ k. IsHeaded t m k class name 1 h at) (sym r.is_kind) headed) in
+        subst (λ n. IsHeaded t m (kind_of r.value) class name n h at) (sym r.count) (subst (λ k. IsHeaded t m k class name many h at) (sym r.is_kind) headed) in
         record {
           good = good;
           taken = both-taken;
-          at = made-object a t m r.empty w class name h at r.value (value_extents r.value) block headed' r.change r.storage r.said;
+          at = made-object a t m r.empty w class name long h at r.value (value_extents r.value) block headed' r.change r.storage r.said;
         }
 
     -- the live set once its own block is taken
     next-live : resized (live_of a.bytes) block.extent ≡ live_of r.empty.bytes
-    next-live = placed-next a r.empty (room_for name 24) h block
+    next-live = placed-next a r.empty (room_for name long) h block
 
     placed-at : place (live_of a.bytes) (object_len name (bare content)) ObjectRole ≡ Some block.extent
-    placed-at = ap (λ n. place (live_of a.bytes) n ObjectRole) (sym (long-bare name)) ∙ block.placed
-
-    known-in : IsTrue (is_kind_of current (kind_of r.value))
-    known-in = subst (λ k. IsTrue (is_kind_of current k)) (sym r.is_kind) is.known
+    placed-at = block.placed
 
     given-in : (d : Directory) → IsGiven d (resized (live_of a.bytes) block.extent) content r.value r.left
     given-in d = subst (λ l. IsGiven d l content r.value r.left) (sym next-live) (r.given d)
 
   -- ---- the directory, under a key with an entry
 
-  module _ (a m : Cut) (key : names.Key) (h at : ℕ) (e : NewEntry) (g : IsBegunEntry a m key kind 1 24 h at e) (d : Directory) (said : Denotes current a.bytes d) where
+  module _ (a m : Cut) (key : names.Key) (h at : ℕ) (e : NewEntry) (g : IsBegunEntry a m key kind many long h at e) (d : Directory) (said : Denotes current a.bytes d) where
     absent : object_at d key ≡ None
     absent =
         (lookup-absent e.index a d g.entry key said (key-seeks e.index g.entry key g.name kind g.is) e.place (away-in e.index a d g.entry e.place said g.absent)).none
 
-    entry-new : (w c : Cut) → IsMadeValue content kind m w (record { handle = h; at = at }) → IsEntryAdded w c h e → IsNewObject c d key content h
+    entry-new : (w c : Cut) → IsMadeValue content m w (record { handle = h; at = at }) → IsEntryAdded w c h e → IsNewObject c d key content h
     entry-new w c r added =
         let b : Cut = g.requested.between in
         let class : Class = class_of_index e.index in
         let took = block b g.taken m w class g.name h at g.requested.takes g.headed r in
         let x : Extent = took.extent in
         let new' : IsNewKeyOf e.index g.entry key g.name (kind_of r.value) = subst (IsNewKeyOf e.index g.entry key g.name) (sym r.is_kind) g.is in
-        let object = key-object e.index g.entry key g.name r.value x new' (known-in b g.taken m w class g.name h at g.requested.takes g.headed r) r.good (serving b g.taken m w class g.name h at g.requested.takes g.headed r) in
+        let object = key-object e.index g.entry key g.name r.value x new' (known-kind (kind_of r.value)) r.good (serving b g.taken m w class g.name h at g.requested.takes g.headed r) in
         content-entered e.index a d g.entry key g.name kind content said g.is b w c x r.value r.left e.place h e.growth.block g.requested.grows
-        (placed-at b g.taken m w class g.name h at g.requested.takes g.headed r) (given-in b g.taken m w class g.name h at g.requested.takes g.headed r d) r.is_kind (r.one ∙ sym is.one)
+        (placed-at b g.taken m w class g.name h at g.requested.takes g.headed r) (given-in b g.taken m w class g.name h at g.requested.takes g.headed r d) r.is_kind r.count
         (made-in b g.taken m w class g.name h at g.requested.takes g.headed r object) took.at
         (away-in e.index a d g.entry e.place said g.absent) (record { adds = added.adds; live = added.live; keeps = added.keeps })
 
-    entry-denied : (w c : Cut) → IsNoValue content m w (record { handle = h; at = at }) → IsRestored a c → IsNoObject c d key content
-    entry-denied w c r back =
+    entry-denied : (w c : Cut) (why : Refusal) → IsNoValue content m w (record { handle = h; at = at }) why → IsRestored a c → IsNoObject c d key content
+    entry-denied w c why r back =
         let b : Cut = g.requested.between in
-        let took = empty-taken b g.taken m r.empty kind (class_of_index e.index) g.name h at g.requested.takes g.headed r.change in
+        let took = empty-taken b g.taken m r.empty kind (class_of_index e.index) g.name many long h at g.requested.takes g.headed r.change in
         record {
-          refused = content-denied e.index a d g.entry key g.name kind content said g.is b took.extent e.growth.block g.requested.grows
-              (ap (λ n. place (live_of b.bytes) n ObjectRole) (sym (long-bare g.name)) ∙ took.placed)
-              (subst (λ l. IsDenied d l content) (sym (placed-next b r.empty (room_for g.name 24) h took)) (r.denied d));
+          refused = content-denied e.index a d g.entry key g.name kind content said g.is b took.extent e.growth.block g.requested.grows took.placed
+              (subst (λ l. IsDenied d l content) (sym (placed-next b r.empty (room_for g.name long) h took)) (r.denied d));
           denotes = restored-denotes a c d said back;
         }
 
   -- ---- without one
 
-  module _ (a m : Cut) (h at : ℕ) (g : IsBegunAlone a m names.NoKey kind 1 24 h at) (d : Directory) (said : Denotes current a.bytes d) where
+  module _ (a m : Cut) (h at : ℕ) (g : IsBegunAlone a m names.NoKey kind many long h at) (d : Directory) (said : Denotes current a.bytes d) where
     abbrev alone_in : Extent → Value → Object
     alone_in x w = record { class = Anonymous; name = []; value = w; extent = x }
 
@@ -209,7 +213,7 @@ module _ (content : Content) (kind : Kind) (is : IsHeld content kind) where
         and_from (true && is_kind_of current (kind_of w) && is_good_value w) (serves x ObjectRole (object_len [] w))
         (and_from (true && is_kind_of current (kind_of w)) (is_good_value w) (and_from true (is_kind_of current (kind_of w)) refl known) good) s
 
-    alone-new : (w : Cut) → IsMadeValue content kind m w (record { handle = h; at = at }) → IsNewObject w d names.NoKey content h
+    alone-new : (w : Cut) → IsMadeValue content m w (record { handle = h; at = at }) → IsNewObject w d names.NoKey content h
     alone-new w r =
         let took = block a g.taken m w Anonymous [] h at g.takes g.headed r in
         let x : Extent = took.extent in
@@ -217,7 +221,7 @@ module _ (content : Content) (kind : Kind) (is : IsHeld content kind) where
         let same : live_of a.bytes ≡ live d = denotes-live current a.bytes d said in
         let made : IsMade a w o =
         made-in a g.taken m w Anonymous [] h at g.takes g.headed r
-        (alone-good x r.value (known-in a g.taken m w Anonymous [] h at g.takes g.headed r) r.good (serving a g.taken m w Anonymous [] h at g.takes g.headed r)) in
+        (alone-good x r.value (known-kind (kind_of r.value)) r.good (serving a g.taken m w Anonymous [] h at g.takes g.headed r)) in
         let there : IsGiven d (resized (live d) x) content r.value r.left =
         subst (λ l. IsGiven d (resized l x) content r.value r.left) same (given-in a g.taken m w Anonymous [] h at g.takes g.headed r d) in
         record {
@@ -225,7 +229,7 @@ module _ (content : Content) (kind : Kind) (is : IsHeld content kind) where
           after = with_object d o;
           left = r.left;
           at = took.at;
-          count = r.one ∙ sym is.one;
+          count = r.count;
           met = λ next.
               perform-new d (live d) ObjectRole (object_len [] (bare content)) (alone_plan next) x
               (ap (λ l. place l (object_len [] (bare content)) ObjectRole) (sym same) ∙ placed-at a g.taken m w Anonymous [] h at g.takes g.headed r)
@@ -234,17 +238,17 @@ module _ (content : Content) (kind : Kind) (is : IsHeld content kind) where
               (subst (λ (l : LiveSet). Keeps a w l.extents) same made.taken.keeps) made.at;
         }
 
-    alone-denied : (w c : Cut) → IsNoValue content m w (record { handle = h; at = at }) → IsRestored a c → IsNoObject c d names.NoKey content
-    alone-denied w c r back =
-        let took = empty-taken a g.taken m r.empty kind Anonymous [] h at g.takes g.headed r.change in
+    alone-denied : (w c : Cut) (why : Refusal) → IsNoValue content m w (record { handle = h; at = at }) why → IsRestored a c → IsNoObject c d names.NoKey content
+    alone-denied w c why r back =
+        let took = empty-taken a g.taken m r.empty kind Anonymous [] many long h at g.takes g.headed r.change in
         let x : Extent = took.extent in
         let same : live_of a.bytes ≡ live d = denotes-live current a.bytes d said in
         let none : IsDenied d (resized (live d) x) content =
-        subst (λ l. IsDenied d (resized l x) content) same (subst (λ l. IsDenied d l content) (sym (placed-next a r.empty (room_for [] 24) h took)) (r.denied d)) in
+        subst (λ l. IsDenied d (resized l x) content) same (subst (λ l. IsDenied d l content) (sym (placed-next a r.empty (room_for [] long) h took)) (r.denied d)) in
         record {
           refused = λ next.
               perform-new d (live d) ObjectRole (object_len [] (bare content)) (alone_plan next) x
-              (ap (λ l. place l (object_len [] (bare content)) ObjectRole) (sym same) ∙ ap (λ n. place (live_of a.bytes) n ObjectRole) (sym (long-bare [])) ∙ took.placed)
+              (ap (λ l. place l (object_len [] (bare content)) ObjectRole) (sym same) ∙ took.placed)
               ∙ none (λ w. next (alone_in x w) (with_object d (alone_in x w)));
           denotes = restored-denotes a c d said back;
         }
@@ -252,12 +256,12 @@ module _ (content : Content) (kind : Kind) (is : IsHeld content kind) where
   -- ---- an entry is to lead there, or all is given back
 
   module _ (a m : Cut) (b : IsSegment a.bytes) (key : names.Key) (h at : ℕ) where
-    entry-taken : (w : Cut) (e : NewEntry) → (g : IsBegunEntry a m key kind 1 24 h at e) → (r : IsMadeValue content kind m w (record { handle = h; at = at }))
+    entry-taken : (w : Cut) (e : NewEntry) → (g : IsBegunEntry a m key kind many long h at e) → (r : IsMadeValue content m w (record { handle = h; at = at }))
         → IsTaken g.requested.between w ((block g.requested.between g.taken m w (class_of_index e.index) g.name h at g.requested.takes g.headed r).extent ∷ value_extents r.value)
     entry-taken w e g r = both-taken g.requested.between g.taken m w (class_of_index e.index) g.name h at g.requested.takes g.headed r
 
     -- what the index wants is there
-    entry-wanted : (w : Cut) (e : NewEntry) → IsBegunEntry a m key kind 1 24 h at e → IsMadeValue content kind m w (record { handle = h; at = at }) → IsWanted w h e
+    entry-wanted : (w : Cut) (e : NewEntry) → IsBegunEntry a m key kind many long h at e → IsMadeValue content m w (record { handle = h; at = at }) → IsWanted w h e
     entry-wanted w e g r =
         let i : Index = e.index in
         let mid : Cut = g.requested.between in
@@ -275,40 +279,40 @@ module _ (content : Content) (kind : Kind) (is : IsHeld content kind) where
           index = record { table = t; handles = hs; index = index };
           growth = taken-growth mid w _ (place_of i) e.growth.block taken (place-low i) (place-high i) grown;
           within = subst (λ n. e.place ≤ n) (sym index.stands.count) away.0;
-          aligned = requested-aligned mid r.empty (room_for g.name 24) h took;
+          aligned = requested-aligned mid r.empty (room_for g.name long) h took;
         }
 
-    pub value-ready : (entry : Option NewEntry) (w : Cut) → IsBegun a m key kind 1 24 h at entry → IsMadeValue content kind m w (record { handle = h; at = at }) → IsReadyFor w h entry
+    pub value-ready : (entry : Option NewEntry) (w : Cut) → IsBegun a m key kind many long h at entry → IsMadeValue content m w (record { handle = h; at = at }) → IsReadyFor w h entry
     value-ready None w g r = tt
     value-ready (Some e) w g r = entry-wanted w e g r
 
-    pub value-loose : (entry : Option NewEntry) (w : Cut) → IsBegun a m key kind 1 24 h at entry → IsNoValue content m w (record { handle = h; at = at }) → IsLoose a w h entry
-    value-loose None w g r = record {
-      len = room_for [] 24;
+    pub value-loose : (entry : Option NewEntry) (w : Cut) (why : Refusal) → IsBegun a m key kind many long h at entry → IsNoValue content m w (record { handle = h; at = at }) why → IsLoose a w h entry
+    value-loose None w why g r = record {
+      len = room_for [] long;
       taken = w;
-      takes = restored-taken a r.empty w (room_for [] 24) h (empty-taken a g.taken m r.empty kind Anonymous [] h at g.takes g.headed r.change) r.restored;
-      change = unchanged w (live_of r.empty.bytes) h (room_for [] 24) r.restored.laid;
+      takes = restored-taken a r.empty w (room_for [] long) h (empty-taken a g.taken m r.empty kind Anonymous [] many long h at g.takes g.headed r.change) r.restored;
+      change = unchanged w (live_of r.empty.bytes) h (room_for [] long) r.restored.laid;
     }
-    value-loose (Some e) w g r =
+    value-loose (Some e) w why g r =
         let x = denotes-index e.index a b.0 b.1.denotes in
         let away = g.absent (table_of e.index b.0) (entries_of e.index b.0) x in
         let mid : Cut = g.requested.between in
         record {
-          len = room_for g.name 24;
+          len = room_for g.name long;
           taken = w;
           requested = record {
             between = mid;
             grows = g.requested.grows;
-            takes = restored-taken mid r.empty w (room_for g.name 24) h (empty-taken mid g.taken m r.empty kind (class_of_index e.index) g.name h at g.requested.takes g.headed r.change) r.restored;
+            takes = restored-taken mid r.empty w (room_for g.name long) h (empty-taken mid g.taken m r.empty kind (class_of_index e.index) g.name many long h at g.requested.takes g.headed r.change) r.restored;
           };
-          change = unchanged w (live_of r.empty.bytes) h (room_for g.name 24) r.restored.laid;
+          change = unchanged w (live_of r.empty.bytes) h (room_for g.name long) r.restored.laid;
           index = segment-index a e.index b;
           within = subst (λ n. e.place ≤ n) (sym x.stands.count) away.0;
         }
 
     -- ---- all directories
 
-    entry-place : (w c : Cut) (e : NewEntry) → IsBegunEntry a m key kind 1 24 h at e → (r : IsMadeValue content kind m w (record { handle = h; at = at })) → IsEntryAdded w c h e → SamePlace a c
+    entry-place : (w c : Cut) (e : NewEntry) → IsBegunEntry a m key kind many long h at e → (r : IsMadeValue content m w (record { handle = h; at = at })) → IsEntryAdded w c h e → SamePlace a c
     entry-place w c e g r added =
         let i : Index = e.index in
         let mid : Cut = g.requested.between in
@@ -317,82 +321,82 @@ module _ (content : Content) (kind : Kind) (is : IsHeld content kind) where
         (SamePlace-trans mid w c (entry-taken w e g r).keeps.place (keeps-place w c (place_of i) q.table e.growth.block (added.keeps q.table q.handles q.index)))
 
     -- it is made
-    value-made : (w : Cut) (e : NewEntry) (c : Cut) → IsBegunEntry a m key kind 1 24 h at e → IsMadeValue content kind m w (record { handle = h; at = at }) → IsEntryAdded w c h e → IsMadeNow a c key content h
+    value-made : (w : Cut) (e : NewEntry) (c : Cut) → IsBegunEntry a m key kind many long h at e → IsMadeValue content m w (record { handle = h; at = at }) → IsEntryAdded w c h e → IsMadeNow a c key content h
     value-made w e c g r added = record {
       place = entry-place w c e g r added;
       each = λ d st. (absent a m key h at e g d st.denotes, entry-new a m key h at e g d st.denotes w c r added);
     }
 
-    value-refused : (w : Cut) (e : NewEntry) (c : Cut) → IsBegunEntry a m key kind 1 24 h at e → IsNoValue content m w (record { handle = h; at = at }) → IsRestored a c → IsMadeNever a c key content
-    value-refused w e c g r back = record {
+    value-refused : (w : Cut) (e : NewEntry) (c : Cut) (why : Refusal) → IsBegunEntry a m key kind many long h at e → IsNoValue content m w (record { handle = h; at = at }) why → IsRestored a c → IsMadeNever a c key content
+    value-refused w e c why g r back = record {
       place = back.keeps.place;
-      each = λ d st. (absent a m key h at e g d st.denotes, entry-denied a m key h at e g d st.denotes w c r back);
+      each = λ d st. (absent a m key h at e g d st.denotes, entry-denied a m key h at e g d st.denotes w c why r back);
     }
 
   -- the same of an object without a key
-  module _ (a m : Cut) (h at : ℕ) (g : IsBegunAlone a m names.NoKey kind 1 24 h at) where
-    alone-made : (w : Cut) → IsMadeValue content kind m w (record { handle = h; at = at }) → IsMadeNow a w names.NoKey content h
+  module _ (a m : Cut) (h at : ℕ) (g : IsBegunAlone a m names.NoKey kind many long h at) where
+    alone-made : (w : Cut) → IsMadeValue content m w (record { handle = h; at = at }) → IsMadeNow a w names.NoKey content h
     alone-made w r = record {
       place = (both-taken a g.taken m w Anonymous [] h at g.takes g.headed r).keeps.place;
       each = λ d st. (no_key-none d.objects, alone-new a m h at g d st.denotes w r);
     }
 
-    alone-refused : (w c : Cut) → IsNoValue content m w (record { handle = h; at = at }) → IsRestored a c → IsMadeNever a c names.NoKey content
-    alone-refused w c r back = record {
+    alone-refused : (w c : Cut) (why : Refusal) → IsNoValue content m w (record { handle = h; at = at }) why → IsRestored a c → IsMadeNever a c names.NoKey content
+    alone-refused w c why r back = record {
       place = back.keeps.place;
-      each = λ d st. (no_key-none d.objects, alone-denied a m h at g d st.denotes w c r back);
+      each = λ d st. (no_key-none d.objects, alone-denied a m h at g d st.denotes w c why r back);
     }
 
   -- the same whatever the key
   module _ (a m : Cut) (b : IsSegment a.bytes) (key : names.Key) (h at : ℕ) where
-    pub value-built : (entry : Option NewEntry) (w c : Cut) → IsBegun a m key kind 1 24 h at entry → IsMadeValue content kind m w (record { handle = h; at = at }) → LeadsThere w c h entry → IsMadeNow a c key content h
+    pub value-built : (entry : Option NewEntry) (w c : Cut) → IsBegun a m key kind many long h at entry → IsMadeValue content m w (record { handle = h; at = at }) → LeadsThere w c h entry → IsMadeNow a c key content h
     value-built None w c g r same =
         subst (λ (q : names.Key). IsMadeNow a c q content h) (sym g.is)
         (subst (λ (s : Cut). IsMadeNow a s names.NoKey content h) (sym same) (alone-made a m h at (record { is = refl; taken = g.taken; takes = g.takes; headed = g.headed }) w r))
     value-built (Some e) w c g r added = value-made a m b key h at w e c g r added
 
-    pub value-not_built : (entry : Option NewEntry) (w c : Cut) → IsBegun a m key kind 1 24 h at entry → IsNoValue content m w (record { handle = h; at = at }) → GivesAllBack w c h entry → IsMadeNever a c key content
-    value-not_built None w c g r gives =
-        let back : IsRestored a c = gives a (value-loose a m b key h at None w g r) in
-        subst (λ (q : names.Key). IsMadeNever a c q content) (sym g.is) (alone-refused a m h at (record { is = refl; taken = g.taken; takes = g.takes; headed = g.headed }) w c r back)
-    value-not_built (Some e) w c g r gives = value-refused a m b key h at w e c g r (gives a (value-loose a m b key h at (Some e) w g r))
+    pub value-not_built : (entry : Option NewEntry) (w c : Cut) (why : Refusal) → IsBegun a m key kind many long h at entry → IsNoValue content m w (record { handle = h; at = at }) why → GivesAllBack w c h entry → IsMadeNever a c key content
+    value-not_built None w c why g r gives =
+        let back : IsRestored a c = gives a (value-loose a m b key h at None w why g r) in
+        subst (λ (q : names.Key). IsMadeNever a c q content) (sym g.is) (alone-refused a m h at (record { is = refl; taken = g.taken; takes = g.takes; headed = g.headed }) w c why r back)
+    value-not_built (Some e) w c why g r gives = value-refused a m b key h at w e c why g r (gives a (value-loose a m b key h at (Some e) w why g r))
 
 -- ---- it is not begun
 
-module _ (s : State) (b : IsSegment s.cut.bytes) (key : names.Key) (content : Content) (kind : Kind) (is : IsHeld content kind) where
+module _ (a : Cut) (key : names.Key) (content : Content) where
   -- an object has the key
-  pub key-taken : (c : Cut) → (t : IsTakenKey s.cut c key kind) → (d : Directory) → StandsFor s.cut.bytes d → (o : Object) × (object_at d key ≡ Some o)
+  pub key-taken : (c : Cut) → (t : IsTakenKey a c key (kind_of (bare content))) → (d : Directory) → StandsFor a.bytes d → (o : Object) × (object_at d key ≡ Some o)
   key-taken c t d st =
-      let f = lookup-found t.index s.cut d t.entry key st.denotes (key-seeks t.index t.entry key t.name kind t.is) t.place (t.found (table_of t.index d) (entries_of t.index d) (denotes-index t.index s.cut d st.denotes)) in
+      let f = lookup-found t.index a d t.entry key st.denotes (key-seeks t.index t.entry key t.name (kind_of (bare content)) t.is) t.place (t.found (table_of t.index d) (entries_of t.index d) (denotes-index t.index a d st.denotes)) in
       (f.object, f.is)
 
-  none-alone : (c : Cut) → IsRefused s.cut c (room_for [] 24) ObjectRole → IsMadeNever s.cut c names.NoKey content
+  none-alone : (c : Cut) → IsRefused a c (room_for [] (value_len (bare content))) ObjectRole → IsMadeNever a c names.NoKey content
   none-alone c r = record {
-    place = subst (SamePlace s.cut) (sym r.same) (record { before = refl; after = refl });
+    place = subst (SamePlace a) (sym r.same) (record { before = refl; after = refl });
     each = λ d st. (
       no_key-none d.objects,
       record {
         refused = λ next.
             perform-no_space d (live d) ObjectRole (object_len [] (bare content)) (λ x. with_value content (λ w. let o : Object = record { class = Anonymous; name = []; value = w; extent = x } in next o (with_object d o)))
-            (sym (λ j. place (denotes-live current s.cut.bytes d st.denotes j) (long-bare content kind is [] j) ObjectRole) ∙ r.none);
+            (ap (λ l. place l (object_len [] (bare content)) ObjectRole) (sym (denotes-live current a.bytes d st.denotes)) ∙ r.none);
         denotes = subst (λ (u : Cut). Denotes current u.bytes d) (sym r.same) st.denotes;
       },
     );
   }
 
-  none-entry : (c : Cut) → IsUnmetEntry s.cut c key kind 24 → IsMadeNever s.cut c key content
+  none-entry : (c : Cut) → IsUnmetEntry a c key (kind_of (bare content)) (value_len (bare content)) → IsMadeNever a c key content
   none-entry c u = record {
-    place = unmet-place s.cut c (place_of u.index) (room_for u.name 24) u.unmet;
+    place = u.unmet.restored.keeps.place;
     each = λ d st. (
-      (lookup-absent u.index s.cut d u.entry key st.denotes (key-seeks u.index u.entry key u.name kind u.is) u.place (away-in u.index s.cut d u.entry u.place st.denotes u.absent)).none,
+      (lookup-absent u.index a d u.entry key st.denotes (key-seeks u.index u.entry key u.name (kind_of (bare content)) u.is) u.place (away-in u.index a d u.entry u.place st.denotes u.absent)).none,
       record {
-        refused = λ next. content-none u.index s.cut d u.entry key u.name kind content st.denotes u.is next (room_for u.name 24) (long-bare content kind is u.name) u.unmet.none;
-        denotes = restored-denotes s.cut c d st.denotes u.unmet.restored;
+        refused = λ next. content-none u.index a d u.entry key u.name (kind_of (bare content)) content st.denotes u.is next (room_for u.name (value_len (bare content))) refl u.unmet.none;
+        denotes = restored-denotes a c d st.denotes u.unmet.restored;
       },
     );
   }
 
   -- a block is refused
-  pub value-not_begun : (c : Cut) → IsNotBegun s.cut c key kind 24 NoSpace → IsMadeNever s.cut c key content
-  value-not_begun c (inl r) = subst (λ (q : names.Key). IsMadeNever s.cut c q content) (sym r.0) (none-alone c r.1)
+  pub value-not_begun : (c : Cut) → IsNotBegun a c key (kind_of (bare content)) (value_len (bare content)) NoSpace → IsMadeNever a c key content
+  value-not_begun c (inl r) = subst (λ (q : names.Key). IsMadeNever a c q content) (sym r.0) (none-alone c r.1)
   value-not_begun c (inr u) = none-entry c u

@@ -1,26 +1,21 @@
 -- An object written piece by piece: the words of its head, its name, its elements.
-use Rattle.std.proofs.Common.{◌≡◌, sym, ap, subst, ◌∙◌, ℕ, ◌+◌, ◌-◌, ◌*◌, ◌<◌, ◌≤◌, ℤ, List, ◌++◌, length, replicate, take, arith}
+use Rattle.std.proofs.Common.{◌≡◌, sym, ap, subst, ◌∙◌, ℕ, ◌+◌, ◌-◌, ◌*◌, ◌<◌, ◌≤◌, List, ◌++◌, length, replicate, take, arith}
 use Rattle.std.specs.Prelude.{IsTrue}
 use Rattle.std.proofs.Math.Nat.{mul-le-mul_left}
 use Rattle.std.proofs.lemmas.List.{length-replicate, take-replicate}
 use Rattle.raw_region.specs.Memory.{Cut, Has, bytes_of, word_at}
 use Rattle.raw_region.specs.Format.{current}
-use Rattle.best_fit.specs.Extents.{Extent, handle}
 use Rattle.best_fit.specs.Heap.{IsChanged, IsHeap, has_room, live_of}
-use Rattle.seg_types.specs.declared.kinds.ScalarKind.{ScalarKind}
 use Rattle.seg_types.specs.declared.kinds.Kind.{Kind}
-use Rattle.seg_types.specs.declared.kinds.Kind.TheVariants.{Scalar}
 use Rattle.seg_types.specs.declared.kinds.Class.{Class}
-use Rattle.seg_types.specs.Kinds.{class_code, code_of, spelling}
-use Rattle.seg_vector.specs.Vector.{spelled}
-use Rattle.segment_manager.specs.Directory.{Numbers, padded}
-use Rattle.segment_manager.specs.Denotes.{IsObjectAt, padded_name, two_halves}
-use Rattle.segment_manager.specs.Standing.{IsHeadAt, equal_numbers, repeated}
+use Rattle.seg_types.specs.Kinds.{class_code, code_of}
+use Rattle.segment_manager.specs.Directory.{padded}
+use Rattle.segment_manager.specs.Denotes.{padded_name, two_halves}
+use Rattle.segment_manager.specs.Standing.{IsHeadAt, repeated}
 use Rattle.best_fit.proofs.Laws.{changed-room}
-use Rattle.segment_manager.proofs.Frame.{padded_name-length}
 use Rattle.segment_manager.proofs.NewBlocks.{changed-trans, room-less}
 use Rattle.segment_manager.proofs.Payloads.{bytes-stay, room-small, word-stays}
-use Rattle.segment_manager.proofs.Rows.{Has-append, repeated-length, repeated-more, repeated-spelled}
+use Rattle.segment_manager.proofs.Rows.{Has-append, repeated-length, repeated-more}
 
 -- ---- the same bytes several times
 
@@ -105,30 +100,3 @@ head-written a b c d h kind count class name p v q w n =
         name = n.content;
       };
     }
-
--- ---- numbers
-
--- a head and a name, and then the numbers that the count says
-pub numbers-pieces : (a b c : Cut) (h n : ℕ) (k : ScalarKind) (class : Class) (name : List ℕ) (count : ℕ) (zs : List ℤ) → HasHead a b h (Scalar k) count class name → length zs ≡ count
-    → IsChanged current b c (h + (16 + padded (length name))) n → Has (bytes_of c.bytes) (h + (16 + padded (length name))) (spelled k zs) → (x : Extent) → h ≡ handle x
-    → IsObjectAt (bytes_of c.bytes) (record { class = class; name = name; value = Numbers k zs; extent = x })
-numbers-pieces a b c h n k class name count zs p many change spelt x e =
-    let m = bytes_of c.bytes in
-    let start : ℕ = h + (16 + padded (length name)) in
-    let to : start ≡ handle x + 16 + padded (length name) = omega arith in
-    let kinds : word_at m h ≡ two_halves (code_of (Scalar k)) count = word-stays b c h start n change (omega arith) ∙ p.head.kind_count in
-    let names : word_at m (h + 8) ≡ two_halves (length name) (class_code class) = word-stays b c (h + 8) start n change (omega arith) ∙ p.head.name_class in
-    let content : Has m (h + 16) (padded_name name) = bytes-stay b c (h + 16) start n (padded_name name) change (omega (arith, padded_name-length name)) p.head.name in
-    record {
-      kind_count = ap (word_at m) (sym e) ∙ kinds ∙ ap (two_halves (code_of (Scalar k))) (sym many);
-      name_class = ap (λ g. word_at m (g + 8)) (sym e) ∙ names;
-      name = subst (λ g. Has m (g + 16) (padded_name name)) e content;
-      value = subst (λ p. Has m p (spelled k zs)) to spelt;
-    }
-
--- or the spelling of one number as many times
-pub object-pieces : (a b c : Cut) (h : ℕ) (k : ScalarKind) (class : Class) (name : List ℕ) (count : ℕ) (bytes : List ℕ) → HasHead a b h (Scalar k) count class name
-    → Repeats b c (h + (16 + padded (length name))) count bytes → (x : Extent) (z : ℤ) → h ≡ handle x → bytes ≡ spelling k z → IsObjectAt (bytes_of c.bytes) (equal_numbers k class name count z x)
-object-pieces a b c h k class name count bytes p q x z e f =
-    numbers-pieces a b c h (length bytes * count) k class name count (replicate count z) p (length-replicate count z) q.change
-    (subst (Has (bytes_of c.bytes) (h + (16 + padded (length name)))) (ap (repeated count) f ∙ repeated-spelled k count z) q.content) x e

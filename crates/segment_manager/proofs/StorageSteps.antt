@@ -18,8 +18,7 @@ use Rattle.segment_manager.specs.Contents.{HasNoRoom, IsBytes, IsBytesGrown, IsB
 use Rattle.segment_manager.specs.Directory.{Value, Numbers, Elements, Bytes, Pairs, Texts, Object, Directory, kind_of, live, object_at}
 use Rattle.segment_manager.specs.Plan.{Refuse, Reply, perform, with, with_capacity}
 use Rattle.segment_manager.specs.State.{Answers, IsReplyOfKind, IsSegment, IsStep, IsStepOfKind, State, StandsFor}
-use Rattle.segment_manager.specs.Step as step
-use Rattle.segment_manager.specs.Step.{changed, effect, is_read_only, storage_of, text_of, with_items, with_table}
+use Rattle.segment_manager.specs.Step.{changed, effect, is_read_only, storage_of, with_items, with_table}
 use Rattle.segment_manager.proofs.Calling.{denotes-live}
 use Rattle.segment_manager.proofs.ContentPlans.{clear-plan, clear-refused, reserve-plan, reserve-refused, shrink-plan, shrink-refused}
 use Rattle.segment_manager.proofs.Refilled.{refused-steps}

@@ -1,5 +1,5 @@
 -- Calls on vectors as a line asks for them, whatever the object's kind is and however the value is written: the step is the command's own.
-use Rattle.std.proofs.Common.{◌≡◌, refl, sym, ap, subst, ◌∙◌, ℕ, ℤ, true, false, ◌&&◌, Some, None, Ok, Err, List, map, if◌then◌else◌}
+use Rattle.std.proofs.Common.{◌≡◌, refl, sym, ap, subst, ◌∙◌, ℤ, true, false, ◌&&◌, Some, Ok, Err, List, map, if◌then◌else◌}
 use Rattle.std.specs.Prelude.{IsTrue}
 use Rattle.std.specs.List.{list_all}
 use Rattle.seg_types.specs.declared.kinds.ScalarKind.{ScalarKind}

@@ -25,8 +25,8 @@ use Rattle.seg_index.specs.Growth.{AddKeeps, Adds, CanGrow, grown_live}
 use Rattle.seg_index.specs.Held.{HasIndex, IsIndexOf, entry_count, place_of}
 use Rattle.seg_index.specs.Lookups.{IsPlace}
 use Rattle.seg_vector.specs.Vector.{spelled}
-use Rattle.segment_manager.specs.declared.constructing_from.Begun.{Begun}
-use Rattle.segment_manager.specs.declared.constructing_from.NewEntry.{NewEntry}
+use Rattle.segment_manager.specs.declared.beginning.Begun.{Begun}
+use Rattle.segment_manager.specs.declared.beginning.NewEntry.{NewEntry}
 use Rattle.segment_manager.specs.Directory.{padded}
 use Rattle.segment_manager.specs.Indexed.{class_of_index}
 use Rattle.segment_manager.specs.Layout.{head_len}

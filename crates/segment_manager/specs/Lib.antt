@@ -17,7 +17,6 @@ pub mod Heads
 pub mod NewObjects
 pub mod Items
 pub mod Begun
-pub mod MadeContainers
 pub mod Standing
 pub mod Contents
 pub mod Destroyed
@@ -25,7 +24,7 @@ pub mod Instances
 pub mod Maps
 pub mod Listed
 pub mod TextLists
-pub mod MadeTexts
+pub mod Filled
 pub mod Walks
 pub mod Resized
 pub mod Relocating

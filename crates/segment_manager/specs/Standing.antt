@@ -2,7 +2,7 @@
 use Rattle.std.specs.Prelude.{◌≡◌, ℕ, ◌+◌, ◌*◌, ℤ, List, length, replicate, flat_map, IsTrue, Some, None, true, Result, Ok, Err, if◌then◌else◌, nat_lt}
 use Rattle.raw_region.specs.Format.{current}
 use Rattle.raw_region.specs.Memory.{Memory, bytes_of, word_at, Has}
-use Rattle.best_fit.specs.Extents.{Extent, handle}
+use Rattle.best_fit.specs.Extents.{handle}
 use Rattle.best_fit.specs.Heap.{live_of, has_room}
 use Rattle.seg_types.specs.declared.kinds.ScalarKind.{ScalarKind}
 use Rattle.seg_types.specs.declared.kinds.Kind.{Kind}
@@ -15,7 +15,7 @@ use Rattle.seg_types.specs.Names.{Key}
 use Rattle.segment_manager.specs.declared.head.Head.{Head}
 use Rattle.segment_manager.specs.declared.accessing.Place.{Place}
 use Rattle.segment_manager.specs.Layout.{name_class_at, head_len}
-use Rattle.segment_manager.specs.Directory.{Object, Directory, object_at, Numbers, count_of, is_object, kind_of, object_len, padded}
+use Rattle.segment_manager.specs.Directory.{Object, Directory, object_at, count_of, is_object, kind_of, object_len, padded}
 use Rattle.segment_manager.specs.Denotes.{IsObjectAt, padded_name, two_halves}
 
 -- the object stands in the block of a handle, which has the room for it
@@ -46,17 +46,9 @@ pub record IsHeadAt (m : Memory) (h : ℕ) (kind : Kind) (count : ℕ) (class : 
 abbrev pub repeated : ℕ → List ℕ → List ℕ
 repeated n bytes = flat_map (λ each. each) (replicate n bytes)
 
--- the numbers z, as many as the count says, under a name and class, in a block
-abbrev pub equal_numbers : ScalarKind → Class → List ℕ → ℕ → ℤ → Extent → Object
-equal_numbers k class name count z x = record { class = class; name = name; value = Numbers k (replicate count z); extent = x }
-
 -- the bytes of the payload of an object under a name, whose value takes so many
 abbrev pub room_for : List ℕ → ℕ → ℕ
 room_for name body = head_len + padded (length name) + body
-
--- the bytes of the payload of so many numbers under a name
-abbrev pub numbers_len : ScalarKind → List ℕ → ℕ → ℕ
-numbers_len k name count = head_len + padded (length name) + size_of k * count
 
 -- where the element of an index stands, from the handle on
 abbrev pub element_at : ScalarKind → List ℕ → ℕ → ℕ

@@ -8,8 +8,8 @@ ghost use Rattle.segment_manager.specs.Answers.{Element};
 ghost use Rattle.segment_manager.specs.Standing.{Spells, place_at};
 ghost use Rattle.segment_manager.specs.State.{Answers, IsReplyOfKind, IsStepOfKind, answer_of, done_answer, scalar_answer};
 
-use crate::constructing::LONGEST;
 use crate::element::{element, place_of};
+use crate::fillings::LONGEST;
 use crate::segment::Segment;
 use crate::targets::Target;
 use seg_types::theorems::scalar_is_number;

@@ -1,22 +1,20 @@
-//! Objects of numbers constructed.
-ghost use Rattle.std.specs.Prelude.{◌≡◌, ◌≤◌, ℤ, false, replicate};
+//! Objects constructed, whatever they hold; those of one number, so many times.
+ghost use Rattle.std.specs.Prelude.{◌≡◌, ◌≤◌, replicate};
 ghost use Rattle.seg_types.specs.Commands.{Construct, Numbers};
 ghost use Rattle.seg_types.specs.Keys.{new_key_seen};
-ghost use Rattle.seg_types.specs.Names.{Key as AnyKey, NoKey};
 ghost use Rattle.seg_types.specs.Values.{kind_of_scalar, value_of_scalar};
-ghost use Rattle.segment_manager.specs.NewObjects.{IsNewKey, IsSpelled, IsOfItsKind};
-ghost use Rattle.segment_manager.specs.State.{IsStep, KeepsRefused, handle_answer};
-ghost use Rattle.segment_manager.specs.Step.{is_read_only};
+ghost use Rattle.segment_manager.specs.Directory.{kind_of};
+ghost use Rattle.segment_manager.specs.Filled.{Builds, Constructs, HasBegun};
+ghost use Rattle.segment_manager.specs.NewObjects.{IsOfItsKind, IsOfKind};
+ghost use Rattle.segment_manager.specs.Plan.{bare};
+ghost use Rattle.segment_manager.specs.State.{IsSegment, IsStep, KeepsRefused, handle_answer};
 
-use crate::making::{make_anonymous, make_entered};
+use crate::beginning::{Begun, begin, end};
+use crate::fillings::{Filling, NewNumbers, NewScalars};
 use crate::segment::Segment;
-use best_fit::NoSpace;
-use raw_region::Steps;
-use seg_index::{Index, Key as Entry, Lookup};
-use seg_types::{Handle, NewKey, Refusal, Scalar, ScalarKind, ScalarValue};
-
-/// The longest spelling of a scalar, in bytes.
-pub(crate) const LONGEST: usize = 8;
+use best_fit::Heap;
+use seg_types::{Handle, NewKey, Refusal, Scalar, ScalarValue};
+use seg_vector::Place;
 
 impl Segment {
     /// Makes an object of `count` times a value, from 1 to 1048576, and answers its handle. A key that is a kind is the value's.
@@ -37,10 +35,7 @@ impl Segment {
         ensures step { IsStep self.old self.new (Construct (new_key_seen key.now) (Numbers T.kind (replicate count (T.whole value)))) (handle_answer result) }
         ensures refused { KeepsRefused self.old self.new result }
     {
-        let mut bytes = [0; LONGEST];
-        let spelling = &mut bytes[..T::SIZE as usize];
-        value.write(spelling);
-        self.construct_spelled(key, T::kind(), count, spelling)
+        self.construct_filled(key, &NewNumbers { count, value })
     }
 
     /// The same for a value of a kind.
@@ -61,109 +56,64 @@ impl Segment {
         ensures step { IsStep self.old self.new (Construct (new_key_seen key.now) (Numbers (kind_of_scalar value) (replicate count (value_of_scalar value)))) (handle_answer result) }
         ensures refused { KeepsRefused self.old self.new result }
     {
-        let kind = value.kind();
-        let mut bytes = [0; LONGEST];
-        let spelling = &mut bytes[..kind.size() as usize];
-        value.write(spelling);
-        self.construct_spelled(key, kind, count, spelling)
+        self.construct_filled(key, &NewScalars { count, value })
     }
 
-    /// Makes an object of `count` times the number that the bytes spell, and answers its handle.
+    /// Makes an object of what fills it, and answers its handle.
     ///
     /// # Errors
     ///
-    /// `ReadOnly` where the segment is open for reading, else `Exists` where an object has the key, and else `NoSpace` where no
-    /// gap is long enough. What the segment holds does not change.
-    pub(crate) fn construct_spelled(
+    /// `ReadOnly` where the segment is open for reading, else `Exists` where an object has the key: nothing changes. Else `NoSpace`
+    /// where no gap is long enough: what the segment holds does not change, and the bytes of gaps may.
+    pub(crate) fn construct_filled<F: Filling>(
         &mut self,
         key: &NewKey,
-        kind: ScalarKind,
-        count: u32,
-        spelling: &[u8],
+        filling: &F,
     ) -> Result<Handle, Refusal>
-        requires kind { IsOfItsKind (new_key_seen key.now) kind }
-        requires some { 1 ≤ count }
-        requires few { count ≤ 1048576 }
-        requires value { (z : ℤ) × IsSpelled kind spelling.now z }
-        ensures step { (z : ℤ) → IsSpelled kind spelling.now z
-            → IsStep self.old self.new (Construct (new_key_seen key.now) (Numbers kind (replicate count z))) (handle_answer result) }
+        requires stands { F.stands filling.now }
+        requires kind { IsOfKind (new_key_seen key.now) (kind_of (bare (F.content filling.now))) }
+        ensures step { IsStep self.old self.new (Construct (new_key_seen key.now) (F.content filling.now)) (handle_answer result) }
         ensures refused { KeepsRefused self.old self.new result }
     {
         if self.is_read_only() {
             return Err(Refusal::ReadOnly);
         }
-        match key {
-            NewKey::Name(name) => {
-                let bytes = name.as_bytes();
-                self.construct_entered(
-                    Index::Named,
-                    Entry::Name(bytes),
-                    kind,
-                    bytes,
-                    count,
-                    spelling,
-                )
-            }
-            NewKey::Unique(unique) => {
-                self.construct_entered(
-                    Index::Unique,
-                    Entry::Code(unique.code()),
-                    kind,
-                    &[],
-                    count,
-                    spelling,
-                )
-            }
-            NewKey::Anonymous => self.construct_anonymous(kind, count, spelling),
-        }
+        construct_in(&mut self.heap, key, filling)
     }
+}
 
-    /// The same under an entry of an index, in a segment that may be changed.
-    fn construct_entered(
-        &mut self,
-        index: Index,
-        entry: Entry<'_>,
-        kind: ScalarKind,
-        name: &[u8],
-        count: u32,
-        spelling: &[u8],
-    ) -> Result<Handle, Refusal>
-        requires writing { is_read_only self.old.mode ≡ false }
-        requires key { (key : AnyKey) × IsNewKey index entry key name.now kind }
-        requires some { 1 ≤ count }
-        requires few { count ≤ 1048576 }
-        requires value { (z : ℤ) × IsSpelled kind spelling.now z }
-        ensures step { (key : AnyKey) (z : ℤ) → IsNewKey index entry.entry key name.now kind → IsSpelled kind spelling.now z
-            → IsStep self.old self.new (Construct key (Numbers kind (replicate count z))) (handle_answer result) }
-        ensures refused { KeepsRefused self.old self.new result }
-    {
-        let Lookup::Absent(place) = index.lookup(&self.heap, entry, &mut Steps::new()) else {
-            return Err(Refusal::Exists);
-        };
-        match make_entered(&mut self.heap, index, place, kind, name, count, spelling) {
-            Ok(handle) => Ok(handle),
-            Err(NoSpace) => Err(Refusal::NoSpace),
-        }
+/// The same on the heap of a segment that may be changed.
+fn construct_in<F: Filling>(heap: &mut Heap, key: &NewKey, filling: &F) -> Result<Handle, Refusal>
+    requires segment { IsSegment heap.old.bytes }
+    requires stands { F.stands filling.now }
+    requires kind { IsOfKind (new_key_seen key.now) (kind_of (bare (F.content filling.now))) }
+    ensures { Constructs heap.old heap.new (Construct (new_key_seen key.now) (F.content filling.now)) handle_answer result }
+{
+    let shape = filling.shape();
+    match begin(heap, key, shape.kind, shape.count, shape.len) {
+        Err(why) => Err(why),
+        Ok(begun) => build(heap, begun, filling),
     }
+}
 
-    /// The same without a key.
-    fn construct_anonymous(
-        &mut self,
-        kind: ScalarKind,
-        count: u32,
-        spelling: &[u8],
-    ) -> Result<Handle, Refusal>
-        requires writing { is_read_only self.old.mode ≡ false }
-        requires some { 1 ≤ count }
-        requires few { count ≤ 1048576 }
-        requires value { (z : ℤ) × IsSpelled kind spelling.now z }
-        ensures step { (z : ℤ) → IsSpelled kind spelling.now z
-            → IsStep self.old self.new (Construct NoKey (Numbers kind (replicate count z))) (handle_answer result) }
-        ensures refused { KeepsRefused self.old self.new result }
-    {
-        match make_anonymous(&mut self.heap, kind, count, spelling) {
-            Ok(handle) => Ok(handle),
-            Err(NoSpace) => Err(Refusal::NoSpace),
-        }
-    }
+/// Fills an object that was begun, and has its entry lead there.
+///
+/// # Errors
+///
+/// `NoSpace` where no gap is long enough for its elements. All that was taken for the object is given back.
+pub(crate) fn build<F: Filling>(
+    heap: &mut Heap,
+    begun: Begun,
+    filling: &F,
+) -> Result<Handle, Refusal>
+    requires begun { HasBegun heap.old (F.content filling.now) begun.handle begun.at begun.entry }
+    requires stands { F.stands filling.now }
+    ensures { Builds heap.old heap.new begun.handle begun.at begun.entry (F.content filling.now) result }
+{
+    let place = Place {
+        handle: begun.handle,
+        at: begun.at,
+    };
+    let filled = filling.fill(heap, place);
+    end(heap, begun, filled)
 }

@@ -1,26 +1,27 @@
-//! Objects of numbers found, or constructed where there are none.
-ghost use Rattle.std.specs.Prelude.{◌≡◌, ◌≤◌, ℤ, false, replicate};
+//! Objects found, or constructed where there are none, whatever they hold; those of one number, so many times.
+ghost use Rattle.std.specs.Prelude.{◌≡◌, ◌≤◌, replicate};
 ghost use Rattle.seg_types.specs.Commands.{FindOrConstruct, Numbers};
 ghost use Rattle.seg_types.specs.Keys.{index_key_seen};
 ghost use Rattle.seg_types.specs.Names.{Key as AnyKey};
 ghost use Rattle.seg_types.specs.Values.{kind_of_scalar, value_of_scalar};
-ghost use Rattle.segment_manager.specs.Directory.{Object};
+ghost use Rattle.segment_manager.specs.Directory.{Object, kind_of};
+ghost use Rattle.segment_manager.specs.Filled.{FindsOrConstructs, with_count};
 ghost use Rattle.segment_manager.specs.Found.{pair_answer};
-ghost use Rattle.segment_manager.specs.Indexed.{Seeks};
 ghost use Rattle.segment_manager.specs.Keeping.{HasKey, KeepsWhere};
-ghost use Rattle.segment_manager.specs.NewObjects.{IsNewKey, IsOfItsKind, IsSpelled};
+ghost use Rattle.segment_manager.specs.NewObjects.{IsNewKeyOf, IsOfItsKind, IsOfKind};
+ghost use Rattle.segment_manager.specs.Plan.{bare};
 ghost use Rattle.segment_manager.specs.Standing.{HasObject, StandsAt, pair_of_kind};
-ghost use Rattle.segment_manager.specs.State.{IsStep, KeepsRefused};
-ghost use Rattle.segment_manager.specs.Step.{is_read_only};
+ghost use Rattle.segment_manager.specs.State.{IsSegment, IsStep, KeepsRefused};
 
-use crate::constructing::LONGEST;
+use crate::beginning::begin_at;
+use crate::constructing::build;
+use crate::fillings::{Filling, NewNumbers, NewScalars};
 use crate::head::read_head;
-use crate::making::make_entered;
 use crate::segment::Segment;
-use best_fit::{Heap, NoSpace};
+use best_fit::Heap;
 use raw_region::Steps;
 use seg_index::{Index, Key as Entry, Lookup};
-use seg_types::{Handle, IndexKey, Kind, Refusal, Scalar, ScalarKind, ScalarValue};
+use seg_types::{Handle, IndexKey, Kind, Refusal, Scalar, ScalarValue};
 
 impl Segment {
     /// The handle of the scalars of a key, and how many they are. Where no object has the key one is made, of `count` times a
@@ -44,10 +45,7 @@ impl Segment {
         ensures refused { KeepsRefused self.old self.new result }
         ensures found { KeepsWhere self.old self.new (HasKey (index_key_seen key.now)) }
     {
-        let mut bytes = [0; LONGEST];
-        let spelling = &mut bytes[..T::SIZE as usize];
-        value.write(spelling);
-        self.find_or_construct_spelled(key, T::kind(), count, spelling)
+        self.find_or_construct_filled(key, &NewNumbers { count, value })
     }
 
     /// The same for a value of a kind.
@@ -69,86 +67,87 @@ impl Segment {
         ensures refused { KeepsRefused self.old self.new result }
         ensures found { KeepsWhere self.old self.new (HasKey (index_key_seen key.now)) }
     {
-        let kind = value.kind();
-        let mut bytes = [0; LONGEST];
-        let spelling = &mut bytes[..kind.size() as usize];
-        value.write(spelling);
-        self.find_or_construct_spelled(key, kind, count, spelling)
+        self.find_or_construct_filled(key, &NewScalars { count, value })
     }
 
-    /// The same for the number that the bytes spell.
-    fn find_or_construct_spelled(
+    /// The handle of the object of a key, and how many elements it has. Where no object has the key one is made, of what fills it.
+    ///
+    /// # Errors
+    ///
+    /// `ReadOnly` where the segment is open for reading, else `WrongKind` where the object is of another kind: nothing changes. Else
+    /// `NoSpace` where none is there and no gap is long enough: what the segment holds does not change, and the bytes of gaps may.
+    pub(crate) fn find_or_construct_filled<F: Filling>(
         &mut self,
         key: &IndexKey,
-        kind: ScalarKind,
-        count: u32,
-        spelling: &[u8],
+        filling: &F,
     ) -> Result<(Handle, u32), Refusal>
-        requires kind { IsOfItsKind (index_key_seen key.now) kind }
-        requires some { 1 ≤ count }
-        requires few { count ≤ 1048576 }
-        requires value { (z : ℤ) × IsSpelled kind spelling.now z }
-        ensures step { (z : ℤ) → IsSpelled kind spelling.now z
-            → IsStep self.old self.new (FindOrConstruct (index_key_seen key.now) (Numbers kind (replicate count z))) (pair_answer result) }
+        requires stands { F.stands filling.now }
+        requires kind { IsOfKind (index_key_seen key.now) (kind_of (bare (F.content filling.now))) }
+        ensures step { IsStep self.old self.new (FindOrConstruct (index_key_seen key.now) (F.content filling.now)) (pair_answer result) }
         ensures refused { KeepsRefused self.old self.new result }
         ensures found { KeepsWhere self.old self.new (HasKey (index_key_seen key.now)) }
     {
         if self.is_read_only() {
             return Err(Refusal::ReadOnly);
         }
-        match key {
-            IndexKey::Name(name) => {
-                let bytes = name.as_bytes();
-                self.find_or_construct_entered(
-                    Index::Named,
-                    Entry::Name(bytes),
-                    kind,
-                    bytes,
-                    count,
-                    spelling,
-                )
-            }
-            IndexKey::Unique(unique) => self.find_or_construct_entered(
-                Index::Unique,
-                Entry::Code(unique.code()),
-                kind,
-                &[],
-                count,
-                spelling,
-            ),
+        find_or_construct_in(&mut self.heap, key, filling)
+    }
+}
+
+/// The same on the heap of a segment that may be changed.
+fn find_or_construct_in<F: Filling>(
+    heap: &mut Heap,
+    key: &IndexKey,
+    filling: &F,
+) -> Result<(Handle, u32), Refusal>
+    requires segment { IsSegment heap.old.bytes }
+    requires stands { F.stands filling.now }
+    requires kind { IsOfKind (index_key_seen key.now) (kind_of (bare (F.content filling.now))) }
+    ensures { FindsOrConstructs heap.old heap.new (index_key_seen key.now) (F.content filling.now) result }
+{
+    match key {
+        IndexKey::Name(name) => {
+            let bytes = name.as_bytes();
+            find_or_construct_entered(heap, Index::Named, Entry::Name(bytes), bytes, filling)
+        }
+        IndexKey::Unique(kind) => {
+            find_or_construct_entered(heap, Index::Unique, Entry::Code(kind.code()), &[], filling)
         }
     }
+}
 
-    /// The same under an entry of an index, in a segment that may be changed.
-    fn find_or_construct_entered(
-        &mut self,
-        index: Index,
-        entry: Entry<'_>,
-        kind: ScalarKind,
-        name: &[u8],
-        count: u32,
-        spelling: &[u8],
-    ) -> Result<(Handle, u32), Refusal>
-        requires writing { is_read_only self.old.mode ≡ false }
-        requires key { (key : AnyKey) × IsNewKey index entry key name.now kind }
-        requires some { 1 ≤ count }
-        requires few { count ≤ 1048576 }
-        requires value { (z : ℤ) × IsSpelled kind spelling.now z }
-        ensures step { (key : AnyKey) (z : ℤ) → IsNewKey index entry.entry key name.now kind → IsSpelled kind spelling.now z
-            → IsStep self.old self.new (FindOrConstruct key (Numbers kind (replicate count z))) (pair_answer result) }
-        ensures refused { KeepsRefused self.old self.new result }
-        ensures found { (key : AnyKey) → Seeks index entry.entry key → KeepsWhere self.old self.new (HasKey key) }
-    {
-        let place = match index.lookup(&self.heap, entry, &mut Steps::new()) {
-            Lookup::Found(place) => {
-                return found_of(&self.heap, index.at(&self.heap, place), Kind::Scalar(kind));
-            }
-            Lookup::Absent(place) => place,
-        };
-        match make_entered(&mut self.heap, index, place, kind, name, count, spelling) {
-            Ok(handle) => Ok((handle, count)),
-            Err(NoSpace) => Err(Refusal::NoSpace),
-        }
+/// The same under an entry of an index.
+fn find_or_construct_entered<F: Filling>(
+    heap: &mut Heap,
+    index: Index,
+    entry: Entry<'_>,
+    name: &[u8],
+    filling: &F,
+) -> Result<(Handle, u32), Refusal>
+    requires segment { IsSegment heap.old.bytes }
+    requires stands { F.stands filling.now }
+    requires key { (key : AnyKey) × IsNewKeyOf index entry key name.now (kind_of (bare (F.content filling.now))) }
+    ensures { (key : AnyKey) → IsNewKeyOf index entry.entry key name.now (kind_of (bare (F.content filling.now)))
+        → FindsOrConstructs heap.old heap.new key (F.content filling.now) result }
+{
+    let shape = filling.shape();
+    let place = match index.lookup(heap, entry, &mut Steps::new()) {
+        Lookup::Found(place) => return found_of(heap, index.at(heap, place), shape.kind),
+        Lookup::Absent(place) => place,
+    };
+    match begin_at(heap, index, place, shape.kind, name, shape.count, shape.len) {
+        Err(why) => Err(why),
+        Ok(begun) => counted(build(heap, begun, filling), shape.count),
+    }
+}
+
+/// A handle with the count of its object.
+fn counted(made: Result<Handle, Refusal>, count: u32) -> Result<(Handle, u32), Refusal>
+    ensures { result ≡ with_count count made }
+{
+    match made {
+        Err(why) => Err(why),
+        Ok(handle) => Ok((handle, count)),
     }
 }
 

@@ -146,7 +146,7 @@ impl Segment {
 }
 
 /// Says that a text is of bytes. Its type knows it, and says it of one slice at a time.
-fn judge(text: &[u8])
+pub(crate) fn judge(text: &[u8])
     ensures { IsTrue (are_bytes text.now) }
 {}
 

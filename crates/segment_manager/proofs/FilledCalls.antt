@@ -1,0 +1,165 @@
+-- The calls that construct, or find or construct, as the code makes them: whatever fills the object.
+use Rattle.std.proofs.Common.{◌≡◌, refl, sym, ap, subst, ◌∙◌, ℕ, true, false, Some, None, Option, Ok, Err, Result, List}
+use Rattle.std.specs.Prelude.{IfErr}
+use Rattle.std.proofs.lemmas.Option.{none-some}
+use Rattle.raw_region.specs.Memory.{Cut}
+use Rattle.seg_types.specs.declared.kinds.Kind.{Kind}
+use Rattle.seg_types.specs.declared.refusals.Refusal.{Refusal}
+use Rattle.seg_types.specs.declared.refusals.Refusal.TheVariants.{Exists, NoSpace}
+use Rattle.seg_types.specs.Names as names
+use Rattle.seg_types.specs.Commands as asked
+use Rattle.seg_types.specs.Commands.{Command, Content}
+use Rattle.seg_index.specs.declared.index.Index.{Index}
+use Rattle.seg_index.specs.declared.keys.Key.{Key}
+use Rattle.segment_manager.specs.declared.beginning.Begun.{Begun}
+use Rattle.segment_manager.specs.declared.beginning.NewEntry.{NewEntry}
+use Rattle.segment_manager.specs.declared.fillings.Shape.{Shape}
+use Rattle.segment_manager.specs.declared.modes.Mode.{Mode}
+use Rattle.segment_manager.specs.Answers.{Answer, Made, Refused, is_untouched}
+use Rattle.segment_manager.specs.Begun.{Begins, Ends, IsAbsentAt, IsEnding, IsNotBegun}
+use Rattle.segment_manager.specs.Directory.{Object, Directory, count_of, kind_of, object_at, value_len}
+use Rattle.segment_manager.specs.Filled.{Builds, Constructs, FindsOrConstructs, IsBegunFor, IsShapeOf, MakesValue, with_count}
+use Rattle.segment_manager.specs.Found.{handle_at, pair_answer, pair_found}
+use Rattle.segment_manager.specs.NewObjects.{IsNewKeyOf}
+use Rattle.segment_manager.specs.Plan.{bare}
+use Rattle.segment_manager.specs.Standing.{StandsAt, pair_of_kind}
+use Rattle.segment_manager.specs.State.{Answers, IsSegment, IsStep, KeepsRefused, State, answer_of, handle_answer}
+use Rattle.segment_manager.specs.Step.{is_read_only}
+use Rattle.segment_manager.proofs.Bridge.{lookup-absent}
+use Rattle.segment_manager.proofs.Constructs.{constructs, constructs-exists, constructs-none}
+use Rattle.segment_manager.proofs.FoundOrMade.{found-there, makes-found, makes-none}
+use Rattle.segment_manager.proofs.NewKeys.{key-seeks}
+use Rattle.segment_manager.proofs.NewValues.{IsMadeNever, IsMadeNow, away-in, key-taken, value-built, value-loose, value-not_begun, value-not_built, value-ready}
+use Rattle.segment_manager.proofs.Steps.{step-segment}
+
+-- ---- begun
+
+-- what the shape says of an object that was begun is what the content says
+pub begun-for : (old new : Cut) (key : names.Key) (content : Content) (s : Shape) (r : Result Begun Refusal) → IsShapeOf content s → Begins old new key s.kind s.count s.len r
+    → Begins old new key (kind_of (bare content)) (count_of (bare content)) (value_len (bare content)) r
+begun-for old new key content s r is g = subst (λ (k : Kind). Begins old new key k (count_of (bare content)) (value_len (bare content)) r) is.kind
+    (subst (λ n. Begins old new key s.kind n (value_len (bare content)) r) is.count (subst (λ n. Begins old new key s.kind s.count n r) is.len g))
+
+-- ---- filled
+
+module _ (content : Content) where
+  -- what the end wants of a value that was made, or was refused its blocks
+  pub ending : (a m : Cut) (b : IsSegment a.bytes) (key : names.Key) (h at : ℕ) (entry : Option NewEntry) (w : Cut) (r : Result (Unit {0}) Refusal) → IsBegunFor a m key content h at entry
+      → MakesValue content m w (record { handle = h; at = at }) r → IsEnding w h entry r
+  ending a m b key h at entry w (Ok u) g r = value-ready content a m b key h at entry w g r
+  ending a m b key h at entry w (Err why) g r = (a, value-loose content a m b key h at entry w why g r)
+
+  -- the value is made, and then the object gets its entry; or all is given back
+  pub builds : (m w c : Cut) (h at : ℕ) (entry : Option NewEntry) (filled : Result (Unit {0}) Refusal) (result : Result ℕ Refusal)
+      → MakesValue content m w (record { handle = h; at = at }) filled → Ends w c h entry filled result → Builds m c h at entry content result
+  builds m w c h at entry (Ok u) result made e = subst (Builds m c h at entry content) (sym e.0) (record { made = w; value = made; is = refl; entered = e.1 })
+  builds m w c h at entry (Err why) result made e = subst (Builds m c h at entry content) (sym e.0) (record { left = w; none = made; back = e.1 })
+
+-- ---- the steps
+
+not-untouched : false ≡ true → ⊥
+not-untouched e = cc
+
+module _ (a : Cut) (b : IsSegment a.bytes) (key : names.Key) (content : Content) where
+  no-space : (c : Cut) {A : Type 0} (f : A → Answer) (command : Command) (why : Refusal) → why ≡ NoSpace
+      → ((mode : Mode) → is_read_only mode ≡ false → IsStep (record { cut = a; mode = mode }) (record { cut = c; mode = mode }) command (Refused NoSpace)) → Constructs a c command (answer_of f) (Err why)
+  no-space c f command why e step = record {
+    step = λ mode writing. subst (λ (r : Refusal). IsStep (record { cut = a; mode = mode }) (record { cut = c; mode = mode }) command (Refused r)) (sym e) (step mode writing);
+    refused = λ t. absurd (not-untouched (sym (ap (λ (r : Refusal). is_untouched (Refused r)) e) ∙ t));
+  }
+
+  made-now : (entry : Option NewEntry) (m c : Cut) (h at n : ℕ) → IsBegunFor a m key content h at entry → Builds m c h at entry content (let r : Result ℕ Refusal = Ok n in r) → IsMadeNow a c key content n
+  made-now entry m c h at n g r = subst (λ (n : ℕ). IsMadeNow a c key content n) (sym r.is) (value-built content a m b key h at entry r.made c g r.value r.entered)
+
+  made-never : (entry : Option NewEntry) (m c : Cut) (h at : ℕ) (why : Refusal) → IsBegunFor a m key content h at entry → Builds m c h at entry content (let r : Result ℕ Refusal = Err why in r)
+      → IsMadeNever a c key content
+  made-never entry m c h at why g r = value-not_built content a m b key h at entry r.left c why g r.none r.back
+
+  -- what was begun is built, or is refused its blocks
+  pub construct-built : (entry : Option NewEntry) (m c : Cut) (h at : ℕ) (r : Result ℕ Refusal) → IsBegunFor a m key content h at entry → Builds m c h at entry content r
+      → Constructs a c (asked.Construct key content) handle_answer r
+  construct-built entry m c h at (Ok n) g r =
+      let d : IsMadeNow a c key content n = made-now entry m c h at n g r in
+      record { step = λ mode writing. constructs (record { cut = a; mode = mode }) c key content n writing d.place d.each; refused = tt }
+  construct-built entry m c h at (Err why) g r =
+      let d : IsMadeNever a c key content = made-never entry m c h at why g r in
+      no-space c Made (asked.Construct key content) why r.none.refusal (λ mode writing. constructs-none (record { cut = a; mode = mode }) c key content writing d.place d.each)
+
+  pub found-built : (entry : Option NewEntry) (m c : Cut) (h at : ℕ) (r : Result ℕ Refusal) → IsBegunFor a m key content h at entry → Builds m c h at entry content r
+      → Constructs a c (asked.FindOrConstruct key content) pair_answer (with_count (count_of (bare content)) r)
+  found-built entry m c h at (Ok n) g r =
+      let d : IsMadeNow a c key content n = made-now entry m c h at n g r in
+      record { step = λ mode writing. makes-found (record { cut = a; mode = mode }) c key content n (count_of (bare content)) writing d.place refl d.each; refused = tt }
+  found-built entry m c h at (Err why) g r =
+      let d : IsMadeNever a c key content = made-never entry m c h at why g r in
+      no-space c pair_found (asked.FindOrConstruct key content) why r.none.refusal (λ mode writing. makes-none (record { cut = a; mode = mode }) c key content writing d.place d.each)
+
+  -- it is not begun
+  pub construct-not_begun : (why : Refusal) (c : Cut) → IsNotBegun a c key (kind_of (bare content)) (value_len (bare content)) why → Constructs a c (asked.Construct key content) handle_answer (Err why)
+  construct-not_begun Exists c t = record {
+    step = λ mode writing.
+        subst (λ (u : Cut). IsStep (record { cut = a; mode = mode }) (record { cut = u; mode = mode }) (asked.Construct key content) (Refused Exists)) (sym t.same)
+        (constructs-exists (record { cut = a; mode = mode }) key content writing (key-taken a key content c t));
+    refused = λ e. t.same;
+  }
+  construct-not_begun NoSpace c t =
+      let d : IsMadeNever a c key content = value-not_begun a key content c t in
+      no-space c Made (asked.Construct key content) NoSpace refl (λ mode writing. constructs-none (record { cut = a; mode = mode }) c key content writing d.place d.each)
+  construct-not_begun why c t = absurd t
+
+  -- where no object has the key
+  pub found-not_begun : (why : Refusal) (c : Cut) → object_at b.0 key ≡ None → IsNotBegun a c key (kind_of (bare content)) (value_len (bare content)) why
+      → Constructs a c (asked.FindOrConstruct key content) pair_answer (Err why)
+  found-not_begun Exists c none t = absurd (let o = key-taken a key content c t b.0 b.1 in not-both b.0 o.0 none o.1)
+    where
+      not-both : (d : Directory) (o : Object) → object_at d key ≡ None → object_at d key ≡ Some o → ⊥
+      not-both d o e f = cc
+  found-not_begun NoSpace c none t =
+      let d : IsMadeNever a c key content = value-not_begun a key content c t in
+      no-space c pair_found (asked.FindOrConstruct key content) NoSpace refl (λ mode writing. makes-none (record { cut = a; mode = mode }) c key content writing d.place d.each)
+  found-not_begun why c none t = absurd t
+
+  -- an object has the key, and stays as it is
+  pub found-all : (h : ℕ) (r : Result (ℕ × ℕ) Refusal) → ((mode : Mode) → Answers (record { cut = a; mode = mode }) (λ d. handle_at d key) (Some h)) → ((o : Object) → StandsAt a.bytes h o → r ≡ pair_of_kind o (kind_of (bare content)))
+      → FindsOrConstructs a a key content r
+  found-all h r there each = record {
+    constructs = record {
+      step = λ mode writing. found-there (record { cut = a; mode = mode }) key content h r writing (there mode) each;
+      refused = unchanged r;
+    };
+    found = λ d st has. refl;
+  }
+    where
+      unchanged : (r : Result (ℕ × ℕ) Refusal) → IfErr r (λ why. is_untouched (Refused why) ≡ true → a ≡ a)
+      unchanged (Ok v) = tt
+      unchanged (Err why) = λ t. refl
+
+-- ---- under an entry
+
+-- a look-up finds no object
+pub no-object : (a : Cut) (b : IsSegment a.bytes) (i : Index) (e : Key) (at : ℕ) (key : names.Key) (name : List ℕ) (kind : Kind) → IsNewKeyOf i e key name kind → IsAbsentAt a i e at → object_at b.0 key ≡ None
+no-object a b i e at key name kind new away = (lookup-absent i a b.0 e key b.1.denotes (key-seeks i e key name kind new) at (away-in i a b.0 e at b.1.denotes away)).none
+
+-- and so nothing is said of one
+pub found-absent : (a c : Cut) (i : Index) (e : Key) (at : ℕ) (key : names.Key) (name : List ℕ) (kind : Kind) (content : Content) (r : Result (ℕ × ℕ) Refusal) → IsNewKeyOf i e key name kind → IsAbsentAt a i e at
+    → Constructs a c (asked.FindOrConstruct key content) pair_answer r → FindsOrConstructs a c key content r
+found-absent a c i e at key name kind content r new away done = record {
+  constructs = done;
+  found = λ d st has. absurd (none-some has.0 (sym (lookup-absent i a d e key st.denotes (key-seeks i e key name kind new) at (away-in i a d e at st.denotes away)).none ∙ has.1));
+}
+
+-- ---- the segment afterwards, as its view before the call is named
+
+module _ {A : Type 0} (s t : State) (view : s ≡ t) (c : Cut) (command : Command) (answer : Result A Refusal → Answer) (r : Result A Refusal) (done : Constructs s.cut c command answer r) where
+  pub made-step : is_read_only t.mode ≡ false → IsStep t (record s { cut = c }) command (answer r)
+  made-step writing = subst (λ (u : State). IsStep u (record s { cut = c }) command (answer r)) view (done.step s.mode (ap (λ (u : State). is_read_only u.mode) view ∙ writing))
+
+  pub made-refused : KeepsRefused t (record s { cut = c }) r
+  made-refused = subst (λ (u : State). KeepsRefused u (record s { cut = c }) r) view (kept r done.refused)
+    where
+      kept : (r : Result A Refusal) → IfErr r (λ why. is_untouched (Refused why) ≡ true → c ≡ s.cut) → KeepsRefused s (record s { cut = c }) r
+      kept (Ok v) e = tt
+      kept (Err why) e = λ t. let same = e t in λ j. record s { cut = same j }
+
+  pub made-segment : is_read_only t.mode ≡ false → IsSegment s.cut.bytes → IsSegment c.bytes
+  made-segment writing b = step-segment s (record s { cut = c }) command (answer r) (done.step s.mode (ap (λ (u : State). is_read_only u.mode) view ∙ writing)) b

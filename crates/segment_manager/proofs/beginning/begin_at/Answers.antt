@@ -1,0 +1,32 @@
+-- The blocks are requested and the head is written.
+use Rattle.std.proofs.Common.{◌≡◌, ap, subst, ℕ, ◌+◌, inr, length, arith}
+use Rattle.raw_region.specs.Format.{current}
+use Rattle.block_tags.specs.declared.tile.Role.TheVariants.{Object as ObjectRole}
+use Rattle.best_fit.proofs.Laws.{allocated-room}
+use Rattle.seg_index.specs.Held.{place_of}
+use Rattle.segment_manager.specs.Directory.{padded}
+use Rattle.segment_manager.specs.NewObjects.{IsUnmet}
+use Rattle.segment_manager.specs.Standing.{room_for}
+use Rattle.segment_manager.proofs.Taking.{meant}
+use Rattle.segment_manager.proofs.beginning.begin_at.Goals as goal
+
+pub returns-in_default : goal.returns-in_default
+returns-in_default c =
+    λ key entry n away.
+    let e : c.value_at-at.result + c.args.body ≡ room_for c.args.name.now c.args.body = ap (λ m. m + c.args.body) c.value_at-at.ensures in
+    inr (record {
+      index = c.args.index;
+      entry = entry;
+      name = c.args.name.now;
+      is = n;
+      place = c.args.place;
+      absent = away;
+      unmet = subst (λ (m : ℕ). IsUnmet c.args.heap.now c.request.new.heap (place_of c.args.index) m) e c.in_default.ensures;
+    })
+
+pub write_head-requires-clause-room : goal.write_head-requires-clause-room
+write_head-requires-clause-room c =
+    let n : ℕ = room_for c.args.name.now c.args.body in
+    let e : c.value_at-at.result + c.args.body ≡ n = ap (λ m. m + c.args.body) c.value_at-at.ensures in
+    let r = meant c.args.heap.now c.request.new.heap (place_of c.args.index) _ n c.in-Ok.requested.growth.block c.in-Ok.requested.handle e c.in-Ok.ensures in
+    allocated-room current r.between c.request.new.heap n ObjectRole c.in-Ok.requested.handle (16 + padded (length c.args.name.now)) r.takes (omega arith)

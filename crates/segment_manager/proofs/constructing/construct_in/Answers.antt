@@ -1,0 +1,32 @@
+-- The object is begun, with the shape that its filling has, and then it is filled.
+use Rattle.std.proofs.Common.{sym, subst, Ok, Err}
+use Rattle.seg_types.specs.Keys.{new_key_seen}
+use Rattle.seg_types.specs.Commands.{Content}
+use Rattle.segment_manager.specs.Filled.{IsBegunFor}
+use Rattle.segment_manager.specs.NewObjects.{IsOfKind}
+use Rattle.segment_manager.proofs.FilledCalls.{begun-for, construct-built, construct-not_begun}
+use Rattle.segment_manager.proofs.constructing.construct_in.Goals as goal
+
+pub begin-requires-clause-kind : goal.begin-requires-clause-kind
+begin-requires-clause-kind g c = subst (IsOfKind (new_key_seen c.args.key.now)) (sym c.shape-shape.ensures.kind) c.requires.kind
+
+pub build-requires-clause-begun : goal.build-requires-clause-begun
+build-requires-clause-begun g c =
+    let key = new_key_seen c.args.key.now in
+    (c.args.heap.now, (c.requires.segment, (key, begun-for c.args.heap.now c.begin.new.heap key (g.F.Filling.content c.args.filling.now) c.shape-shape.result (Ok c.in-Ok.begun) c.shape-shape.ensures c.in-Ok.ensures)))
+
+pub returns-in-Err : goal.returns-in-Err
+returns-in-Err g c =
+    let key = new_key_seen c.args.key.now in
+    let content : Content = g.F.Filling.content c.args.filling.now in
+    construct-not_begun c.args.heap.now c.requires.segment key content c.in-Err.why c.begin.new.heap
+    (begun-for c.args.heap.now c.begin.new.heap key content c.shape-shape.result (Err c.in-Err.why) c.shape-shape.ensures c.in-Err.ensures)
+
+pub returns-in-Ok : goal.returns-in-Ok
+returns-in-Ok g c =
+    let key = new_key_seen c.args.key.now in
+    let content : Content = g.F.Filling.content c.args.filling.now in
+    let b = c.in-Ok.begun in
+    let begun : IsBegunFor c.args.heap.now c.begin.new.heap key content b.handle b.at b.entry =
+    begun-for c.args.heap.now c.begin.new.heap key content c.shape-shape.result (Ok b) c.shape-shape.ensures c.in-Ok.ensures in
+    construct-built c.args.heap.now c.requires.segment key content b.entry c.begin.new.heap c.build.new.heap b.handle b.at c.build.result begun c.build.ensures

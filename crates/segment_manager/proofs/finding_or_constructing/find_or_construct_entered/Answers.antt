@@ -1,0 +1,93 @@
+-- An object is found under the entry, or made with one, or a block is refused.
+use Rattle.std.proofs.Common.{◌≡◌, sym, subst, Ok, Err}
+use Rattle.seg_types.specs.Names.{Key}
+use Rattle.seg_types.specs.Commands as asked
+use Rattle.seg_types.specs.Commands.{Content}
+use Rattle.segment_manager.specs.declared.modes.Mode.TheVariants.{Write}
+use Rattle.segment_manager.specs.Directory.{Object, kind_of}
+use Rattle.segment_manager.specs.Filled.{Constructs, FindsOrConstructs, IsBegunFor, with_count}
+use Rattle.segment_manager.specs.Found.{pair_answer}
+use Rattle.segment_manager.specs.NewObjects.{IsNewKeyOf}
+use Rattle.segment_manager.specs.Plan.{bare}
+use Rattle.segment_manager.specs.Standing.{StandsAt, pair_of_kind}
+use Rattle.segment_manager.specs.State.{State}
+use Rattle.segment_manager.proofs.FilledCalls.{begun-for, found-absent, found-all, found-built, found-not_begun, no-object}
+use Rattle.segment_manager.proofs.Here.{has-object}
+use Rattle.segment_manager.proofs.HeldIndexes.{denotes-keys}
+use Rattle.segment_manager.proofs.KeyCalls.{found-answers, place-below, segment-index}
+use Rattle.segment_manager.proofs.NewKeys.{key-seeks, key-short}
+use Rattle.segment_manager.proofs.finding_or_constructing.find_or_construct_entered.Goals as goal
+
+pub lookup-requires : goal.lookup-requires
+lookup-requires g c = record { keys = denotes-keys c.args.index c.args.heap.now c.requires.segment.0 c.args.entry c.requires.segment.1.denotes }
+
+pub at-requires-clause-index : goal.at-requires-clause-index
+at-requires-clause-index g c = segment-index c.args.heap.now c.args.index c.requires.segment
+
+pub at-requires-clause-below : goal.at-requires-clause-below
+at-requires-clause-below g c = place-below c.args.heap.now c.args.index c.args.entry c.in-Found.place c.requires.segment c.in-Found.ensures.place
+
+pub found_of-requires : goal.found_of-requires
+found_of-requires g c =
+    let s : State = record { cut = c.args.heap.now; mode = Write } in
+    let key = c.requires.key in
+    has-object s key.0 c.at.result c.requires.segment
+    (found-answers s c.args.index c.args.entry c.in-Found.place c.at.result c.in-Found.ensures.place c.at.ensures key.0
+    (key-seeks c.args.index c.args.entry key.0 c.args.name.now (kind_of (bare (g.F.Filling.content c.args.filling.now))) key.1))
+
+pub returns-in-Found : goal.returns-in-Found
+returns-in-Found g c =
+    λ key n.
+    let content : Content = g.F.Filling.content c.args.filling.now in
+    found-all c.args.heap.now c.requires.segment key content c.at.result c.found_of.result
+    (λ mode.
+    let s : State = record { cut = c.args.heap.now; mode = mode } in
+    found-answers s c.args.index c.args.entry c.in-Found.place c.at.result c.in-Found.ensures.place c.at.ensures key (key-seeks c.args.index c.args.entry key c.args.name.now (kind_of (bare content)) n))
+    (subst (λ k. (o : Object) → StandsAt c.args.heap.now.bytes c.at.result o → c.found_of.result ≡ pair_of_kind o k) c.shape-shape.ensures.kind c.found_of.ensures)
+
+pub begin_at-requires-clause-index : goal.begin_at-requires-clause-index
+begin_at-requires-clause-index g c = segment-index c.args.heap.now c.args.index c.requires.segment
+
+pub begin_at-requires-clause-short : goal.begin_at-requires-clause-short
+begin_at-requires-clause-short g c = key-short c.args.index c.args.entry c.requires.key.0 c.args.name.now (kind_of (bare (g.F.Filling.content c.args.filling.now))) c.requires.key.1
+
+pub build-requires-clause-begun : goal.build-requires-clause-begun
+build-requires-clause-begun g c =
+    let key : Key = c.requires.key.0 in
+    let is = c.shape-shape.ensures in (
+      c.args.heap.now,
+      (
+        c.requires.segment,
+        (
+          key,
+          begun-for c.args.heap.now c.begin_at.new.heap key (g.F.Filling.content c.args.filling.now) c.shape-shape.result (Ok c.in-Ok.begun) is
+              (c.in-Ok.ensures key c.args.entry (subst (IsNewKeyOf c.args.index c.args.entry key c.args.name.now) (sym is.kind) c.requires.key.1) c.in-Absent.ensures.place),
+        ),
+      ),
+    )
+
+pub returns-in-Err : goal.returns-in-Err
+returns-in-Err g c =
+    λ key n.
+    let content : Content = g.F.Filling.content c.args.filling.now in
+    let is = c.shape-shape.ensures in
+    let away = c.in-Absent.ensures.place in
+    found-absent c.args.heap.now c.begin_at.new.heap c.args.index c.args.entry c.in-Absent.place key c.args.name.now (kind_of (bare content)) content (Err c.in-Err.why) n away
+    (found-not_begun c.args.heap.now c.requires.segment key content c.in-Err.why c.begin_at.new.heap
+    (no-object c.args.heap.now c.requires.segment c.args.index c.args.entry c.in-Absent.place key c.args.name.now (kind_of (bare content)) n away)
+    (begun-for c.args.heap.now c.begin_at.new.heap key content c.shape-shape.result (Err c.in-Err.why) is (c.in-Err.ensures key c.args.entry (subst (IsNewKeyOf c.args.index c.args.entry key c.args.name.now) (sym is.kind) n) away)))
+
+pub returns-in-Ok : goal.returns-in-Ok
+returns-in-Ok g c =
+    λ key n.
+    let content : Content = g.F.Filling.content c.args.filling.now in
+    let is = c.shape-shape.ensures in
+    let away = c.in-Absent.ensures.place in
+    let b = c.in-Ok.begun in
+    let begun : IsBegunFor c.args.heap.now c.begin_at.new.heap key content b.handle b.at b.entry =
+    begun-for c.args.heap.now c.begin_at.new.heap key content c.shape-shape.result (Ok b) is (c.in-Ok.ensures key c.args.entry (subst (IsNewKeyOf c.args.index c.args.entry key c.args.name.now) (sym is.kind) n) away) in
+    let built : Constructs c.args.heap.now c.build.new.heap (asked.FindOrConstruct key content) pair_answer (with_count c.shape-shape.result.count c.build.result) =
+    subst (λ m. Constructs c.args.heap.now c.build.new.heap (asked.FindOrConstruct key content) pair_answer (with_count m c.build.result)) (sym is.count)
+    (found-built c.args.heap.now c.requires.segment key content b.entry c.begin_at.new.heap c.build.new.heap b.handle b.at c.build.result begun c.build.ensures) in
+    subst (FindsOrConstructs c.args.heap.now c.build.new.heap key content) (sym c.counted.ensures)
+    (found-absent c.args.heap.now c.build.new.heap c.args.index c.args.entry c.in-Absent.place key c.args.name.now (kind_of (bare content)) content (with_count c.shape-shape.result.count c.build.result) n away built)

@@ -1,0 +1,206 @@
+//! How an object comes to be: its blocks are taken and its head is written, and when it was filled it gets its entry or is given back.
+ghost use Rattle.std.specs.Prelude.{◌≡◌, ◌^◌, ◌<◌, ◌≤◌, length};
+ghost use Rattle.raw_region.specs.Memory.{Cut};
+ghost use Rattle.seg_types.specs.Keys.{new_key_seen};
+ghost use Rattle.seg_types.specs.Names.{Key as AnyKey, NoKey};
+ghost use Rattle.seg_index.specs.declared.keys.Key.{Key as AnyEntry};
+ghost use Rattle.seg_index.specs.Held.{HasIndex, place_of};
+ghost use Rattle.segment_manager.specs.Begun.{Begins, BeginsEntry, Ends, GivesAllBack, IsEnding, IsLoose, IsReadyFor, LeadsThere};
+ghost use Rattle.segment_manager.specs.Indexed.{class_of_index};
+ghost use Rattle.segment_manager.specs.NewObjects.{IsNewKeyOf, IsOfKind};
+ghost use Rattle.segment_manager.specs.State.{IsSegment};
+
+use crate::head::write_head;
+use crate::layout::{HEAD_LEN, value_at};
+use crate::requesting::request;
+use best_fit::Heap;
+use block_tags::Role;
+use raw_region::Steps;
+use seg_index::{Growth, Index, Key as Entry, Lookup};
+use seg_types::{Class, Handle, Kind, NewKey, Refusal};
+
+/// An entry that is to be made: in which index, where, and what the index grows into.
+#[derive(Drop)]
+pub(crate) struct NewEntry {
+    pub(crate) index: Index,
+    pub(crate) place: u64,
+    pub(crate) growth: Growth,
+}
+
+/// An object that is to be made: its blocks are in use and its head is written, but no entry leads to it yet.
+#[derive(Drop)]
+pub(crate) struct Begun {
+    pub(crate) handle: u64,
+    /// Where its elements go, from the handle on.
+    pub(crate) at: u64,
+    /// Its entry, or nothing where it has no key.
+    pub(crate) entry: Option<NewEntry>,
+}
+
+/// Takes the blocks of an object of a kind into use, with `body` bytes for its value, and writes its head.
+///
+/// # Errors
+///
+/// `Exists` where an object has the key, and else `NoSpace` where no gap is long enough. What the heap holds does not change.
+pub(crate) fn begin(
+    heap: &mut Heap,
+    key: &NewKey,
+    kind: Kind,
+    count: u32,
+    body: u64,
+) -> Result<Begun, Refusal>
+    requires segment { IsSegment heap.old.bytes }
+    requires kind { IsOfKind (new_key_seen key.now) kind }
+    requires small { body < 2 ^ 40 }
+    ensures { Begins heap.old heap.new (new_key_seen key.now) kind count body result }
+{
+    match key {
+        NewKey::Name(name) => {
+            let bytes = name.as_bytes();
+            begin_entered(
+                heap,
+                Index::Named,
+                Entry::Name(bytes),
+                kind,
+                bytes,
+                count,
+                body,
+            )
+        }
+        NewKey::Unique(unique) => begin_entered(
+            heap,
+            Index::Unique,
+            Entry::Code(unique.code()),
+            kind,
+            &[],
+            count,
+            body,
+        ),
+        NewKey::Anonymous => begin_alone(heap, kind, count, body),
+    }
+}
+
+/// The same under an entry of an index.
+fn begin_entered(
+    heap: &mut Heap,
+    index: Index,
+    entry: Entry<'_>,
+    kind: Kind,
+    name: &[u8],
+    count: u32,
+    body: u64,
+) -> Result<Begun, Refusal>
+    requires segment { IsSegment heap.old.bytes }
+    requires key { (key : AnyKey) × IsNewKeyOf index entry key name.now kind }
+    requires small { body < 2 ^ 40 }
+    ensures { (key : AnyKey) → IsNewKeyOf index entry.entry key name.now kind → Begins heap.old heap.new key kind count body result }
+{
+    match index.lookup(heap, entry, &mut Steps::new()) {
+        Lookup::Found(_) => Err(Refusal::Exists),
+        Lookup::Absent(place) => begin_at(heap, index, place, kind, name, count, body),
+    }
+}
+
+/// The same where no object has the key, whose entry would get a place of the index.
+pub(crate) fn begin_at(
+    heap: &mut Heap,
+    index: Index,
+    place: u64,
+    kind: Kind,
+    name: &[u8],
+    count: u32,
+    body: u64,
+) -> Result<Begun, Refusal>
+    requires index { HasIndex heap.old (place_of index) }
+    requires short { length name.now ≤ 255 }
+    requires small { body < 2 ^ 40 }
+    ensures { (key : AnyKey) (entry : AnyEntry) → BeginsEntry heap.old heap.new index place entry key name.now kind count body result }
+{
+    let at = value_at(name.len() as u64);
+    let Ok(requested) = request(heap, index, at + body) else {
+        return Err(Refusal::NoSpace);
+    };
+    let handle = requested.handle;
+    write_head(heap, handle, kind, count, class_of(index), name);
+    let entry = Some(NewEntry {
+        index,
+        place,
+        growth: requested.growth,
+    });
+    Ok(Begun { handle, at, entry })
+}
+
+/// The same without a key.
+fn begin_alone(heap: &mut Heap, kind: Kind, count: u32, body: u64) -> Result<Begun, Refusal>
+    requires { body < 2 ^ 40 }
+    ensures { Begins heap.old heap.new NoKey kind count body result }
+{
+    let Ok(handle) = heap.allocate(HEAD_LEN + body, Role::Object, &mut Steps::new()) else {
+        return Err(Refusal::NoSpace);
+    };
+    write_head(heap, handle, kind, count, Class::Anonymous, &[]);
+    Ok(Begun {
+        handle,
+        at: HEAD_LEN,
+        entry: None,
+    })
+}
+
+/// The class of the objects that an index has entries of.
+pub(crate) fn class_of(index: Index) -> Class
+    ensures { result ≡ class_of_index index }
+{
+    match index {
+        Index::Named => Class::Named,
+        Index::Unique => Class::Unique,
+    }
+}
+
+/// Has the entry of an object lead to it where it was filled, and answers its handle.
+///
+/// # Errors
+///
+/// Why it was not filled: all that was taken for it is given back.
+pub(crate) fn end(
+    heap: &mut Heap,
+    begun: Begun,
+    filled: Result<(), Refusal>,
+) -> Result<Handle, Refusal>
+    requires { IsEnding heap.old begun.handle begun.entry filled }
+    ensures { Ends heap.old heap.new begun.handle begun.entry filled result }
+{
+    let handle = begun.handle;
+    let entry = begun.entry;
+    match filled {
+        Err(why) => {
+            give_back(heap, handle, entry);
+            Err(why)
+        }
+        Ok(()) => {
+            enter(heap, handle, entry);
+            Ok(handle)
+        }
+    }
+}
+
+/// Makes the entry that leads to an object, if it is to have one.
+fn enter(heap: &mut Heap, handle: u64, entry: Option<NewEntry>)
+    requires { IsReadyFor heap.old handle entry }
+    ensures { LeadsThere heap.old heap.new handle entry }
+{
+    if let Some(new) = entry {
+        new.index
+            .add(heap, new.place, handle, new.growth, &mut Steps::new());
+    }
+}
+
+/// Gives the blocks back that were taken for an object.
+fn give_back(heap: &mut Heap, handle: u64, entry: Option<NewEntry>)
+    requires { (old : Cut) × IsLoose old heap.old handle entry }
+    ensures { GivesAllBack heap.old heap.new handle entry }
+{
+    heap.deallocate(handle, &mut Steps::new());
+    if let Some(new) = entry {
+        Index::give_back(new.growth, heap, &mut Steps::new());
+    }
+}

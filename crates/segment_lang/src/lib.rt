@@ -38,7 +38,7 @@ pub use forms::{CommandForm, read_command};
 pub use line::{LONGEST_LINE, lead_of, parse_line};
 pub use lists::{Literals, Texts};
 pub use literals::{Literal, literal_of};
-pub use numbers::{number_of, whole_of};
+pub use numbers::{WholeNumber, number_of, whole_of};
 pub use pairs::{Pair, key_and_pair};
 pub use pieces::{Piece, put_pieces};
 pub use readers::{is_alone, key_and_literal, key_and_number};

@@ -8,7 +8,7 @@ ghost use Rattle.segment_lang.specs.Words.{Bare, is, literal_of_word};
 ghost use Rattle.segment_lang.specs.Reading.{quoted_of, value_for};
 ghost use Rattle.segment_lang.specs.Seen.{literal_of, word_of};
 
-use crate::numbers::whole_of;
+use crate::numbers::{WholeNumber, whole_of};
 use crate::words::{Quoted, Word};
 use seg_types::{ScalarKind, ScalarValue};
 
@@ -16,7 +16,7 @@ use seg_types::{ScalarKind, ScalarValue};
 #[derive(Drop)]
 pub enum Literal<'a> {
     /// A whole number from -9223372036854775808 to 18446744073709551615.
-    Whole(i128),
+    Whole(WholeNumber),
     /// `true` or `false`.
     Truth(bool),
     /// A text.
@@ -64,12 +64,12 @@ pub fn quoted_of(word: Word<'_>) -> Option<Quoted<'_>>
 }
 
 /// The value of the kind that a whole number is. `bool` has none.
-fn whole_scalar(kind: ScalarKind, number: i128) -> Option<ScalarValue>
+fn whole_scalar(kind: ScalarKind, number: WholeNumber) -> Option<ScalarValue>
     ensures { result ≡ option_map (scalar_in kind) (result_ok (value_of_literal kind (Whole number))) }
 {
     match kind {
         ScalarKind::Bool => None,
-        _ => ScalarValue::of_number(kind, number),
+        _ => ScalarValue::of_number(kind, number.get()),
     }
 }
 

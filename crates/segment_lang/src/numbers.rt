@@ -7,6 +7,7 @@ ghost use Rattle.segment_lang.specs.Reading.{number};
 ghost use Rattle.segment_lang.specs.Seen.{word_of};
 
 use crate::words::Word;
+use std::marker::Model;
 
 /// Whether a byte is one of `0` to `9`.
 pub fn is_digit(byte: u8) -> bool
@@ -64,25 +65,63 @@ pub fn number_of(word: &[u8]) -> Option<u64>
     value_of_digits(word)
 }
 
+/// A whole number from -9223372036854775808 to 18446744073709551615, in as much room as a slice.
+#[derive(Drop)]
+pub struct WholeNumber {
+    magnitude: u64,
+    is_negative: bool,
+}
+
+impl Model for WholeNumber {
+    ghost use Rattle.std.specs.Prelude.{◌≡◌, ◌<◌, ◌-◌, ℤ, pos, negsuc, true, if◌then◌else◌};
+
+    ghost Value = { ℤ };
+
+    ghost view = { λ n. if n.is_negative then negsuc (n.magnitude - 1) else pos n.magnitude };
+
+    ghost invariant = { λ n. n.is_negative ≡ true → 0 < n.magnitude };
+}
+
+impl WholeNumber {
+    /// The number, as the widest type of whole numbers has it.
+    pub fn get(&self) -> i128
+        ensures { result ≡ self.now }
+    {
+        if self.is_negative {
+            return -i128::from(self.magnitude);
+        }
+        i128::from(self.magnitude)
+    }
+}
+
 /// The whole number that digits behind a minus sign spell, from -9223372036854775808 to -1.
-fn negative_of(digits: &[u8]) -> Option<i128>
+fn negative_of(digits: &[u8]) -> Option<WholeNumber>
     ensures { result ≡ negative_of digits.now }
 {
-    let number = number_of(digits)?;
-    if number == 0 || number > 9223372036854775808 {
+    let magnitude = number_of(digits)?;
+    if magnitude == 0 || magnitude > 9223372036854775808 {
         return None;
     }
-    Some(-i128::from(number))
+    Some(WholeNumber {
+        magnitude,
+        is_negative: true,
+    })
 }
 
 /// The whole number that a word spells, from -9223372036854775808 to 18446744073709551615: a number,
 /// or `-` and a number that is not 0.
-pub fn whole_of(word: &[u8]) -> Option<i128>
+pub fn whole_of(word: &[u8]) -> Option<WholeNumber>
     ensures { result ≡ whole_of word.now }
 {
     match word {
         [b'-', digits @ ..] => negative_of(digits),
-        _ => Some(i128::from(number_of(word)?)),
+        _ => {
+            let magnitude = number_of(word)?;
+            Some(WholeNumber {
+                magnitude,
+                is_negative: false,
+            })
+        }
     }
 }
 

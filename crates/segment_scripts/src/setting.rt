@@ -106,7 +106,7 @@ pub fn value_of(kind: ScalarKind, literal: Literal<'_>) -> Result<ScalarValue, R
         },
         Literal::Whole(number) => match kind {
             ScalarKind::Bool => Err(Refusal::WrongKind),
-            _ => match ScalarValue::of_number(kind, number) {
+            _ => match ScalarValue::of_number(kind, number.get()) {
                 Some(value) => Ok(value),
                 None => Err(Refusal::OutOfRange),
             },

@@ -69,16 +69,16 @@ pub struct Task<'i, 's> {
 impl<'i, 's> Task<'i, 's> {
     /// The same in a place.
     pub fn at(&self, place: Place) -> Task<'i, 's> {
-        Task { place, ..*self }
+        let mut task = *self;
+        task.place = place;
+        task
     }
 
     /// The same by pieces of so many bytes.
     pub fn by_pieces(&self, piece: usize) -> Task<'i, 's> {
-        let devices = Devices {
-            piece,
-            ..self.devices
-        };
-        Task { devices, ..*self }
+        let mut task = *self;
+        task.devices.piece = piece;
+        task
     }
 
     /// The same of another image.
@@ -91,53 +91,50 @@ impl<'i, 's> Task<'i, 's> {
         Task { script, ..*self }
     }
 
-    /// The same, where the reader of the script fails behind so many bytes.
-    pub fn with_script_to(&self, len: usize) -> Task<'i, 's> {
-        let devices = Devices {
-            script_last: Last::Fails,
-            ..self.devices
-        };
-        let script = front_of(self.script, len);
-        Task {
-            script,
-            devices,
-            ..*self
-        }
+    /// The same by other devices.
+    fn by(&self, devices: Devices) -> Task<'i, 's> {
+        let mut task = *self;
+        task.devices = devices;
+        task
     }
 
     /// The same of the first bytes of the image.
     pub fn with_image_to(&self, len: usize) -> Task<'i, 's> {
-        let image = front_of(self.image, len);
-        Task { image, ..*self }
+        let mut task = *self;
+        task.image = front_of(self.image, len);
+        task
+    }
+
+    /// The same, where the reader of the script fails behind so many bytes.
+    pub fn with_script_to(&self, len: usize) -> Task<'i, 's> {
+        let mut devices = self.devices;
+        devices.script_last = Last::Fails;
+        let mut task = self.by(devices);
+        task.script = front_of(self.script, len);
+        task
     }
 
     /// The same, where the reader of the image fails behind it.
     pub fn with_failing_image(&self) -> Task<'i, 's> {
-        let devices = Devices {
-            image_last: Last::Fails,
-            ..self.devices
-        };
-        Task { devices, ..*self }
+        let mut devices = self.devices;
+        devices.image_last = Last::Fails;
+        self.by(devices)
     }
 
     /// The same, where the writer of the answers has room for so many bytes.
-    pub fn with_answer_room(&self, answer_room: usize, writers_last: Last) -> Task<'i, 's> {
-        let devices = Devices {
-            answer_room,
-            writers_last,
-            ..self.devices
-        };
-        Task { devices, ..*self }
+    pub fn with_answer_room(&self, room: usize, last: Last) -> Task<'i, 's> {
+        let mut devices = self.devices;
+        devices.answer_room = room;
+        devices.writers_last = last;
+        self.by(devices)
     }
 
     /// The same, where the writer of the image has room for so many bytes.
-    pub fn with_image_room(&self, image_room: usize, writers_last: Last) -> Task<'i, 's> {
-        let devices = Devices {
-            image_room,
-            writers_last,
-            ..self.devices
-        };
-        Task { devices, ..*self }
+    pub fn with_image_room(&self, room: usize, last: Last) -> Task<'i, 's> {
+        let mut devices = self.devices;
+        devices.image_room = room;
+        devices.writers_last = last;
+        self.by(devices)
     }
 }
 

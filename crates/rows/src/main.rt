@@ -1,26 +1,13 @@
 //! The program `rows`: runs the rows of the files that its arguments name, and prints for each file how many there are.
 #![tactic(auto)]
 
-mod checks;
-mod cuts;
-mod directives;
-mod faults;
-mod forms;
-mod images;
-mod items;
-mod migrations;
-mod parts;
-mod places;
-mod placing;
-mod read_only;
-mod requesting;
-mod rows;
-mod scripts;
-mod sessions;
-mod spelling;
+mod among;
+mod names;
+mod segments;
 
-use forms::read_items;
-use rows::Desk;
+use rows_format::read_items;
+use rows_trials::Desk;
+use segments::Segments;
 use std::process::ExitCode;
 use std::{env, fs, io};
 
@@ -45,7 +32,8 @@ fn run_file<R: Print + AllocGlobal>(rt: &R, name: &str, text: &str) -> io::Resul
             return Ok(false);
         }
     };
-    let mut desk = Desk::new(rt.alloc());
+    let alloc = rt.alloc();
+    let mut desk = Desk::new(alloc, Segments { alloc });
     let mut is_sound = true;
     for item in &items {
         if let Err(trouble) = desk.check(item) {
@@ -53,10 +41,9 @@ fn run_file<R: Print + AllocGlobal>(rt: &R, name: &str, text: &str) -> io::Resul
             is_sound = false;
         }
     }
-    let counts = desk.counts;
-    println!(rt;
-        "{name}: {} rows, {} lines, {} cuts",
-        counts.rows, counts.lines, counts.cuts
-    )?;
+    let rows = desk.rows();
+    let lines = desk.lines();
+    let cuts = desk.cuts();
+    println!(rt; "{name}: {rows} rows, {lines} lines, {cuts} cuts")?;
     Ok(is_sound)
 }

@@ -1,9 +1,8 @@
 //! What row files are made of: images, rows, and tables of images and of requests.
 
+use crate::classes::{Class, Fault};
 use crate::directives::{Change, Deed};
 use crate::places::Place;
-use image_check::ImageClass;
-use segment_cli::SessionFault;
 
 /// One of the things of a row file.
 #[derive(Drop)]
@@ -51,7 +50,7 @@ pub struct Line {
 pub struct Part<'a> {
     pub deed: Deed,
     pub lines: Vec<Line>,
-    pub result: Result<(), SessionFault>,
+    pub result: Result<(), Fault>,
     /// The image that it saves.
     pub saves: Option<&'a str>,
     /// The name that the image gets.
@@ -94,7 +93,14 @@ pub struct Damage {
     /// The line of the file.
     pub number: usize,
     pub changes: Vec<Change>,
-    pub class: ImageClass,
+    pub class: Class,
+}
+
+/// The size of a segment, and how many bytes are free in it.
+#[derive(Clone, Copy)]
+pub struct Fit {
+    pub size: u64,
+    pub free: u64,
 }
 
 /// A command that makes requests, in segments of several sizes.
@@ -108,7 +114,7 @@ pub struct Requests {
     /// What it answers where each request has a fit.
     pub answer: Vec<u8>,
     /// Sizes in which one has none, and the bytes that are free there.
-    pub refused: Vec<(u64, u64)>,
+    pub refused: Vec<Fit>,
     /// Sizes in which each has one, and the bytes that are free afterwards.
-    pub granted: Vec<(u64, u64)>,
+    pub granted: Vec<Fit>,
 }

@@ -1,11 +1,12 @@
 //! The reading of a row file.
 
-use crate::directives::{Change, Deed, Directive, number_of, pair_of, read_put};
+use crate::classes::{Class, Fault};
+use crate::directives::{Change, Deed, Directive, fit_of, number_of, read_put};
 use crate::faults::{FormError, Trouble};
-use crate::items::{Beginning, Damage, Damaged, Image, Item, Line, Origin, Part, Requests, Row};
+use crate::items::{
+    Beginning, Damage, Damaged, Fit, Image, Item, Line, Origin, Part, Requests, Row,
+};
 use crate::spelling::put_spelled;
-use image_check::ImageClass;
-use segment_cli::SessionFault;
 use std::alloc::Global;
 
 /// Reads the text of a row file.
@@ -76,11 +77,10 @@ impl<'a> Image<'a> {
     }
 
     fn add(&mut self, directive: Directive<'a>) -> Result<(), FormError> {
-        let Directive::Change(change) = directive else {
-            return Err(FormError::Misplaced);
-        };
-        self.changes.push(change)?;
-        Ok(())
+        match directive {
+            Directive::Change(change) => put(change, &mut self.changes),
+            _ => Err(FormError::Misplaced),
+        }
     }
 }
 
@@ -97,11 +97,10 @@ impl Line {
     }
 }
 
-/// Puts a line behind an answer.
-fn put_answer(text: &str, answer: &mut Vec<u8>) -> Result<(), FormError> {
-    put_spelled(text, answer)?;
-    answer.push(b'\n')?;
-    Ok(())
+/// Puts a line behind the others.
+fn put_line(text: &str, lines: &mut Vec<u8>) -> Result<(), FormError> {
+    put_spelled(text, lines)?;
+    put(b'\n', lines)
 }
 
 impl<'a> Part<'a> {
@@ -126,16 +125,21 @@ impl<'a> Part<'a> {
             Directive::Command(times, text) => {
                 self.lines.push(Line::new(alloc, number, times, text)?)?;
             }
-            Directive::Answer(text) => match self.lines.last_mut() {
-                Some(line) => put_answer(text, &mut line.answer)?,
-                None => return Err(FormError::Misplaced),
-            },
+            Directive::Answer(text) => self.add_answer(text)?,
             Directive::Saves(name) => self.saves = Some(name),
             Directive::Keeps(name) => self.keeps = Some(name),
             Directive::Fault(fault) => self.result = Err(fault),
             _ => return Err(FormError::Misplaced),
         }
         Ok(())
+    }
+
+    /// Adds a line that the last command prints.
+    fn add_answer(&mut self, text: &str) -> Result<(), FormError> {
+        match self.lines.last_mut() {
+            Some(line) => put_line(text, &mut line.answer),
+            None => Err(FormError::Misplaced),
+        }
     }
 }
 
@@ -190,20 +194,46 @@ impl<'a> Row<'a> {
         if !self.parts.is_empty() {
             return Err(FormError::Misplaced);
         }
-        match (directive, &mut self.beginning) {
-            (Directive::Sizes(text), Beginning::Unsaid) => {
-                self.beginning = Beginning::Sizes(numbers_of(alloc, text)?);
+        match directive {
+            Directive::Sizes(text) => {
+                let sizes = numbers_of(alloc, text)?;
+                self.begin_with(Beginning::Sizes(sizes))
             }
-            (Directive::Image(name), Beginning::Unsaid) => {
-                self.beginning = Beginning::Image(name, Vec::new(alloc));
+            Directive::Image(name) => self.begin_with(Beginning::Image(name, Vec::new(alloc))),
+            Directive::Change(change) => self.beginning.add(change),
+            Directive::Place(place) => put(place, &mut self.places),
+            Directive::Once => {
+                self.once = true;
+                Ok(())
             }
-            (Directive::Change(change), Beginning::Image(_, changes)) => changes.push(change)?,
-            (Directive::Place(place), _) => self.places.push(place)?,
-            (Directive::Once, _) => self.once = true,
-            _ => return Err(FormError::Misplaced),
+            _ => Err(FormError::Misplaced),
         }
+    }
+
+    /// Sets what a row begins with, once.
+    fn begin_with(&mut self, beginning: Beginning<'a>) -> Result<(), FormError> {
+        if !matches!(self.beginning, Beginning::Unsaid) {
+            return Err(FormError::Misplaced);
+        }
+        self.beginning = beginning;
         Ok(())
     }
+}
+
+impl Beginning<'_> {
+    /// Adds a change of the image.
+    fn add(&mut self, change: Change) -> Result<(), FormError> {
+        match self {
+            Beginning::Image(_, changes) => put(change, changes),
+            _ => Err(FormError::Misplaced),
+        }
+    }
+}
+
+/// Puts a value behind the others.
+fn put<T: Copy>(value: T, values: &mut Vec<T>) -> Result<(), FormError> {
+    values.push(value)?;
+    Ok(())
 }
 
 impl<'a> Damaged<'a> {
@@ -213,32 +243,28 @@ impl<'a> Damaged<'a> {
         directive: Directive<'a>,
         number: usize,
     ) -> Result<(), FormError> {
-        let (class, text) = match directive {
-            Directive::Damage(class, text) => (class, text),
-            _ => return Err(FormError::Misplaced),
-        };
-        self.damages.push(Damage::new(alloc, number, class, text)?)?;
-        Ok(())
+        match directive {
+            Directive::Damage(class, text) => {
+                let changes = changes_of(alloc, text)?;
+                self.damages.push(Damage {
+                    number,
+                    changes,
+                    class,
+                })?;
+                Ok(())
+            }
+            _ => Err(FormError::Misplaced),
+        }
     }
 }
 
-impl Damage {
-    fn new(
-        alloc: Global,
-        number: usize,
-        class: ImageClass,
-        text: &str,
-    ) -> Result<Damage, FormError> {
-        let mut changes: Vec<Change> = Vec::new(alloc);
-        for change in text.split(',') {
-            changes.push(read_put(change)?)?;
-        }
-        Ok(Damage {
-            number,
-            changes,
-            class,
-        })
+/// Changes with commas between them.
+fn changes_of(alloc: Global, text: &str) -> Result<Vec<Change>, FormError> {
+    let mut changes = Vec::new(alloc);
+    for change in text.split(',') {
+        put(read_put(change)?, &mut changes)?;
     }
+    Ok(changes)
 }
 
 impl Requests {
@@ -255,29 +281,29 @@ impl Requests {
 
     fn add(&mut self, directive: Directive<'_>) -> Result<(), FormError> {
         match directive {
-            Directive::Command(1, text) => {
-                put_spelled(text, &mut self.before)?;
-                self.before.push(b'\n')?;
-            }
-            Directive::Try(text) => put_spelled(text, &mut self.command)?,
-            Directive::Answer(text) => put_answer(text, &mut self.answer)?,
-            Directive::Refused(text) => {
-                for pair in text.split_whitespace() {
-                    self.refused.push(pair_of(pair)?)?;
-                }
-            }
-            Directive::Granted(size, free) => self.granted.push((size, free))?,
-            _ => return Err(FormError::Misplaced),
+            Directive::Command(1, text) => put_line(text, &mut self.before),
+            Directive::Try(text) => put_spelled(text, &mut self.command),
+            Directive::Answer(text) => put_line(text, &mut self.answer),
+            Directive::Refused(text) => put_fits(text, &mut self.refused),
+            Directive::Granted(fit) => put(fit, &mut self.granted),
+            _ => Err(FormError::Misplaced),
         }
-        Ok(())
     }
+}
+
+/// Puts fits with blanks between them.
+fn put_fits(text: &str, fits: &mut Vec<Fit>) -> Result<(), FormError> {
+    for fit in text.split_whitespace() {
+        put(fit_of(fit)?, fits)?;
+    }
+    Ok(())
 }
 
 /// Numbers with blanks between them.
 fn numbers_of(alloc: Global, text: &str) -> Result<Vec<u64>, FormError> {
     let mut numbers = Vec::new(alloc);
     for word in text.split_whitespace() {
-        numbers.push(number_of(word)?)?;
+        put(number_of(word)?, &mut numbers)?;
     }
     Ok(numbers)
 }

@@ -1,12 +1,12 @@
 //! The lines of a row file, one by one.
 
+use crate::classes::{Class, Fault};
 use crate::faults::FormError;
+use crate::items::Fit;
 use crate::places::Place;
-use image_check::ImageClass;
-use segment_cli::SessionFault;
 
 /// A change of an image.
-#[derive(Clone, Copy, Debug)]
+#[derive(Clone, Copy)]
 pub enum Change {
     /// The bytes from an offset on are the lowest ones of a number, so many.
     Put {
@@ -21,7 +21,7 @@ pub enum Change {
 }
 
 /// What a part of a row does.
-#[derive(Clone, Copy, Debug, PartialEq, Eq)]
+#[derive(Clone, Copy)]
 pub enum Deed {
     /// Its lines are a script, in mode `Write`.
     Write,
@@ -34,7 +34,7 @@ pub enum Deed {
 }
 
 /// A line of a row file.
-#[derive(Clone, Copy, Debug)]
+#[derive(Clone, Copy)]
 pub enum Directive<'a> {
     Zeros(&'a str, usize),
     Copied(&'a str, &'a str),
@@ -49,13 +49,13 @@ pub enum Directive<'a> {
     Part(Deed),
     Saves(&'a str),
     Keeps(&'a str),
-    Fault(SessionFault),
+    Fault(Fault),
     Damaged(&'a str),
-    Damage(ImageClass, &'a str),
+    Damage(Class, &'a str),
     Requests(&'a str),
     Try(&'a str),
     Refused(&'a str),
-    Granted(u64, u64),
+    Granted(Fit),
 }
 
 impl<'a> Directive<'a> {
@@ -63,12 +63,7 @@ impl<'a> Directive<'a> {
     pub fn read(line: &'a str) -> Result<Directive<'a>, FormError> {
         let (word, rest) = line.split_once(' ').unwrap_or((line, ""));
         if let Some(times) = word.strip_suffix('>') {
-            let times = if times.is_empty() {
-                1
-            } else {
-                index_of(times)?
-            };
-            return Ok(Directive::Command(times, rest));
+            return Ok(Directive::Command(times_of(times)?, rest));
         }
         match word {
             "<" => Ok(Directive::Answer(rest)),
@@ -77,19 +72,25 @@ impl<'a> Directive<'a> {
             "requests" => Ok(Directive::Requests(rest)),
             "size" => Ok(Directive::Sizes(rest)),
             "refused" => Ok(Directive::Refused(rest)),
-            "granted" => {
-                let (size, free) = pair_of(rest)?;
-                Ok(Directive::Granted(size, free))
-            }
+            "granted" => Ok(Directive::Granted(fit_of(rest)?)),
             "image" => read_image(rest),
             "saves" => Ok(Directive::Saves(rest)),
             "keeps" => Ok(Directive::Keeps(rest)),
             "damaged" => Ok(Directive::Damaged(rest)),
-            "class" => Ok(Directive::Fault(SessionFault::Image(class_of(rest)?))),
+            "class" => Ok(Directive::Fault(Fault::Image(class_of(rest)?))),
             "fault" => Ok(Directive::Fault(fault_of(rest)?)),
             "word" | "at" | "first" | "more" => Ok(Directive::Change(read_change(word, rest)?)),
             _ => read_plain(word, rest),
         }
+    }
+}
+
+/// Reads how often a command stands there.
+fn times_of(text: &str) -> Result<usize, FormError> {
+    if text.is_empty() {
+        Ok(1)
+    } else {
+        index_of(text)
     }
 }
 
@@ -101,13 +102,7 @@ fn read_plain<'a>(word: &str, rest: &'a str) -> Result<Directive<'a>, FormError>
         "alone" if rest.is_empty() => Ok(Directive::Part(Deed::Alone)),
         "migrate" if rest.is_empty() => Ok(Directive::Part(Deed::Migrate)),
         "once" if rest.is_empty() => Ok(Directive::Once),
-        "place" => {
-            let mut numbers = [0; 2];
-            put_numbers(rest, &mut numbers)?;
-            let [capacity, base] = numbers;
-            let place = Place::new(capacity, base).ok_or(FormError::Number)?;
-            Ok(Directive::Place(place))
-        }
+        "place" => Ok(Directive::Place(place_of(rest)?)),
         _ => Ok(Directive::Damage(class_of(word)?, rest)),
     }
 }
@@ -126,25 +121,29 @@ fn read_image(rest: &str) -> Result<Directive<'_>, FormError> {
 /// Reads a change of an image behind its word.
 fn read_change(word: &str, rest: &str) -> Result<Change, FormError> {
     match word {
-        "word" => {
-            let (offset, number) = rest.split_once(' ').ok_or(FormError::Number)?;
-            Ok(Change::Put {
-                offset: index_of(offset)?,
-                len: 8,
-                number: number_of(number)?,
-            })
-        }
+        "word" => read_word(rest),
         "first" => Ok(Change::First(index_of(rest)?)),
         "more" => Ok(Change::More(index_of(rest)?)),
         _ => read_put(rest),
     }
 }
 
+/// Reads an offset and a number of eight bytes.
+fn read_word(text: &str) -> Result<Change, FormError> {
+    let (offset, rest) = number_before(text)?;
+    let number = number_of(rest)?;
+    Ok(Change::Put {
+        offset: offset as usize,
+        len: 8,
+        number,
+    })
+}
+
 /// Reads an offset, a number of bytes and a number.
 pub fn read_put(text: &str) -> Result<Change, FormError> {
-    let mut numbers = [0; 3];
-    put_numbers(text, &mut numbers)?;
-    let [offset, len, number] = numbers;
+    let (offset, rest) = number_before(text.trim_start())?;
+    let (len, rest) = number_before(rest)?;
+    let number = number_of(rest)?;
     if len > 8 {
         return Err(FormError::Number);
     }
@@ -155,27 +154,41 @@ pub fn read_put(text: &str) -> Result<Change, FormError> {
     })
 }
 
-/// Reads as many numbers as there are places for, and no more.
-fn put_numbers(text: &str, numbers: &mut [u64]) -> Result<(), FormError> {
-    let mut words = text.split_whitespace();
-    for number in numbers {
-        *number = number_of(words.next().unwrap_or(""))?;
-    }
-    match words.next() {
-        None => Ok(()),
-        Some(_) => Err(FormError::Number),
+/// Reads a number with a blank behind it, and gives what stands behind the blank.
+fn number_before(text: &str) -> Result<(u64, &str), FormError> {
+    match text.split_once(' ') {
+        Some((number, rest)) => Ok((number_of(number)?, rest)),
+        None => Err(FormError::Number),
     }
 }
 
+/// Reads where a segment lies: the capacity of its region, and its base.
+fn place_of(text: &str) -> Result<Place, FormError> {
+    let (capacity, rest) = number_before(text)?;
+    let base = number_of(rest)?;
+    Place::new(capacity, base).ok_or(FormError::Number)
+}
+
 /// Reads two numbers with a colon between them: a size, and the bytes that are free.
-pub fn pair_of(text: &str) -> Result<(u64, u64), FormError> {
-    let (size, free) = text.split_once(':').ok_or(FormError::Number)?;
-    Ok((number_of(size)?, number_of(free)?))
+pub fn fit_of(text: &str) -> Result<Fit, FormError> {
+    match text.split_once(':') {
+        Some((size, free)) => fit_from(size, free),
+        None => Err(FormError::Number),
+    }
+}
+
+fn fit_from(size: &str, free: &str) -> Result<Fit, FormError> {
+    let size = number_of(size)?;
+    let free = number_of(free)?;
+    Ok(Fit { size, free })
 }
 
 /// Reads a number.
 pub fn number_of(text: &str) -> Result<u64, FormError> {
-    text.parse().map_err(|_| FormError::Number)
+    match text.parse() {
+        Ok(number) => Ok(number),
+        Err(_) => Err(FormError::Number),
+    }
 }
 
 /// Reads a number of bytes in memory.
@@ -184,30 +197,30 @@ fn index_of(text: &str) -> Result<usize, FormError> {
 }
 
 /// The class of a name.
-fn class_of(name: &str) -> Result<ImageClass, FormError> {
+fn class_of(name: &str) -> Result<Class, FormError> {
     match name {
-        "Truncated" => Ok(ImageClass::Truncated),
-        "BadMagic" => Ok(ImageClass::BadMagic),
-        "UnsupportedVersion" => Ok(ImageClass::UnsupportedVersion),
-        "BadSize" => Ok(ImageClass::BadSize),
-        "BadReserved" => Ok(ImageClass::BadReserved),
-        "BadTag" => Ok(ImageClass::BadTag),
-        "BadFreeTree" => Ok(ImageClass::BadFreeTree),
-        "BadIndex" => Ok(ImageClass::BadIndex),
-        "BadObject" => Ok(ImageClass::BadObject),
-        "SharedBlock" => Ok(ImageClass::SharedBlock),
-        "BadContainer" => Ok(ImageClass::BadContainer),
-        "OrphanBlock" => Ok(ImageClass::OrphanBlock),
+        "Truncated" => Ok(Class::Truncated),
+        "BadMagic" => Ok(Class::BadMagic),
+        "UnsupportedVersion" => Ok(Class::UnsupportedVersion),
+        "BadSize" => Ok(Class::BadSize),
+        "BadReserved" => Ok(Class::BadReserved),
+        "BadTag" => Ok(Class::BadTag),
+        "BadFreeTree" => Ok(Class::BadFreeTree),
+        "BadIndex" => Ok(Class::BadIndex),
+        "BadObject" => Ok(Class::BadObject),
+        "SharedBlock" => Ok(Class::SharedBlock),
+        "BadContainer" => Ok(Class::BadContainer),
+        "OrphanBlock" => Ok(Class::OrphanBlock),
         _ => Err(FormError::Word),
     }
 }
 
 /// The fault of a name.
-fn fault_of(name: &str) -> Result<SessionFault, FormError> {
+fn fault_of(name: &str) -> Result<Fault, FormError> {
     match name {
-        "BadSize" => Ok(SessionFault::BadSize),
-        "RegionTooSmall" => Ok(SessionFault::RegionTooSmall),
-        "ScriptTooLong" => Ok(SessionFault::ScriptTooLong),
+        "BadSize" => Ok(Fault::BadSize),
+        "RegionTooSmall" => Ok(Fault::RegionTooSmall),
+        "ScriptTooLong" => Ok(Fault::ScriptTooLong),
         _ => Err(FormError::Word),
     }
 }

@@ -1,6 +1,7 @@
 //! Scripts of lines, and what they print.
 
-use crate::items::Line;
+use crate::images::copy_of;
+use rows_format::Line;
 use std::alloc::{AllocError, Global};
 
 /// Where a line ends, in the script and in the answers.
@@ -34,6 +35,15 @@ impl Script {
             }
         }
         Ok(script)
+    }
+
+    /// A text without marks, and what it prints.
+    pub fn bare(alloc: Global, text: &[u8], answers: &[u8]) -> Result<Script, AllocError> {
+        Ok(Script {
+            text: copy_of(alloc, text)?,
+            answers: copy_of(alloc, answers)?,
+            marks: Vec::new(alloc),
+        })
     }
 
     fn add(&mut self, line: &Line) -> Result<(), AllocError> {

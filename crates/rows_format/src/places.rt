@@ -6,7 +6,7 @@ ghost use Rattle.raw_region.specs.Regions.{IsCapacity};
 const LARGEST: u64 = 1 << 40;
 
 /// A region of so many bytes, and where in it the segment begins. It may be too small for it.
-#[derive(Clone, Copy, Debug)]
+#[derive(Clone, Copy)]
 pub struct Place {
     pub capacity: u64,
     pub base: u64,

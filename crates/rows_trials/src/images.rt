@@ -1,8 +1,6 @@
 //! Images under names, and changes of them.
 
-use crate::directives::Change;
-use crate::faults::{FormError, Trouble};
-use crate::items::{Image, Origin};
+use rows_format::{Change, FormError, Image, Origin, Trouble};
 use std::alloc::{AllocError, Global};
 
 /// An image under a name.
@@ -91,6 +89,15 @@ pub fn copy_of(alloc: Global, bytes: &[u8]) -> Result<Vec<u8>, AllocError> {
     let mut copy = Vec::new(alloc);
     copy.extend_from_slice(bytes)?;
     Ok(copy)
+}
+
+/// A list of some bytes after others.
+pub fn joined(alloc: Global, parts: &[&[u8]]) -> Result<Vec<u8>, AllocError> {
+    let mut all = Vec::new(alloc);
+    for part in parts {
+        all.extend_from_slice(part)?;
+    }
+    Ok(all)
 }
 
 /// The number in the 8 bytes from an offset on, or 0 where the image ends before.

@@ -17,6 +17,7 @@ mod PairCalls
 mod ShownObjects
 mod PairParts
 mod ListedObjects
+mod InstanceLines
 mod BlockLines
 mod Zeros
 mod TextParts

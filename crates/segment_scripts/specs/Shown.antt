@@ -1,11 +1,13 @@
 -- What is written of an object that is shown, part by part.
-use Rattle.std.specs.Prelude.{ℕ, List, [], ◌∷◌, ◌++◌, ◌==◌, if◌then◌else◌, Option, Some, None, Result, Ok, Err}
+use Rattle.std.specs.Prelude.{ℕ, List, [], ◌∷◌, ◌++◌, ◌==◌, if◌then◌else◌, Option, Some, None, Result, Ok, Err, codes}
+use Rattle.seg_types.specs.declared.kinds.Class.{Class}
+use Rattle.seg_types.specs.declared.kinds.Class.TheVariants.{Anonymous, Named, Unique}
 use Rattle.seg_types.specs.declared.kinds.Kind.{Kind}
 use Rattle.seg_types.specs.declared.kinds.Kind.TheVariants.{Scalar, Text, Texts}
 use Rattle.seg_types.specs.declared.refusals.Refusal.{Refusal}
 use Rattle.seg_types.specs.Names.{Key}
 use Rattle.seg_types.specs.Commands.{Get}
-use Rattle.segment_lang.specs.Texts.{kind_text, number_text, quoted_text}
+use Rattle.segment_lang.specs.Texts.{kind_text, name_text, number_text, quoted_text}
 use Rattle.segment_manager.specs.declared.modes.Mode.{Mode}
 use Rattle.segment_manager.specs.Directory.{Directory}
 use Rattle.segment_manager.specs.Step.{step}
@@ -44,6 +46,17 @@ string_line (Err r) = []
 abbrev pub number_words : Option ℕ → List (List ℕ)
 number_words None = []
 number_words (Some n) = number_text n ∷ []
+
+-- a number behind a blank, where there is one
+abbrev pub behind_text : Option ℕ → List ℕ
+behind_text None = []
+behind_text (Some n) = 0x20 ∷ number_text n
+
+-- a class, and a name or `-`
+abbrev pub class_text : Class → List ℕ → List ℕ
+class_text Named name = codes "named " ++ name_text name
+class_text Unique name = codes "unique -"
+class_text Anonymous name = codes "anonymous -"
 
 -- the first n texts of the vector of strings of a key, each behind a blank
 abbrev pub texts_text : Directory → Key → ℕ → List ℕ

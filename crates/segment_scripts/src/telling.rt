@@ -3,6 +3,7 @@ ghost use Rattle.std.specs.Prelude.{◌≡◌, ◌-◌, ◌^◌, ◌<◌, ◌∷
 ghost use Rattle.raw_region.specs.Device.{Writes};
 ghost use Rattle.seg_types.specs.Keys.{key_seen};
 ghost use Rattle.seg_types.specs.Names.{ByHandle};
+ghost use Rattle.segment_lang.specs.Pieces.{piece_text};
 ghost use Rattle.segment_lang.specs.Texts.{name_text};
 ghost use Rattle.segment_manager.specs.Answers.{Kinds, Names};
 ghost use Rattle.segment_manager.specs.Directory.{Object, named_objects, unique_objects};
@@ -11,7 +12,7 @@ ghost use Rattle.segment_manager.specs.State.{StandsFor};
 ghost use Rattle.segment_scripts.specs.Answer.{answer_text, class_words, entry_words, line};
 ghost use Rattle.segment_scripts.specs.Parts.{line_part, said_words};
 ghost use Rattle.segment_scripts.specs.Replies.{told_at};
-ghost use Rattle.segment_scripts.specs.Shown.{number_words};
+ghost use Rattle.segment_scripts.specs.Shown.{behind_text, class_text, number_words};
 ghost use Rattle.segment_scripts.specs.Writing.{WritesFor};
 
 use crate::printing::put_refusal_line;
@@ -62,23 +63,13 @@ fn put_instance<W: Sink>(
     requires { (W.history out.old).failures < 2 ^ 64 - 1 }
     ensures { Writes (W.history out.old) (W.history out.new) result (line (class_words said.entry.class said.entry.name.now ++ said_words said.entry ++ (number_words len ++ number_words capacity))) }
 {
-    let (before_len, len) = match len {
-        Some(len) => (Piece::Bytes(b" "), Piece::Number(len)),
-        None => (Piece::Bytes(b""), Piece::Bytes(b"")),
-    };
-    let (before_capacity, capacity) = match capacity {
-        Some(capacity) => (Piece::Bytes(b" "), Piece::Number(capacity)),
-        None => (Piece::Bytes(b""), Piece::Bytes(b"")),
-    };
-    let (class, name): (&[u8], Piece<'_>) = match said.class {
-        Class::Named => (b"named ", Piece::Name(said.name)),
-        Class::Unique => (b"unique ", Piece::Bytes(b"-")),
-        Class::Anonymous => (b"anonymous ", Piece::Bytes(b"-")),
-    };
+    let (class, name) = class_pieces(said.class, said.name);
+    let (before_len, len) = pieces_behind(len);
+    let (before_capacity, capacity) = pieces_behind(capacity);
     put_pieces(
         out,
         &[
-            Piece::Bytes(class),
+            class,
             name,
             Piece::Bytes(b" "),
             Piece::Kind(said.kind),
@@ -93,6 +84,27 @@ fn put_instance<W: Sink>(
             Piece::Bytes(b"\n"),
         ],
     )
+}
+
+/// The pieces of a class, and of a name or `-`.
+fn class_pieces<'a>(class: Class, name: &'a [u8]) -> (Piece<'a>, Piece<'a>)
+    ensures { piece_text result.0 ++ piece_text result.1 ≡ class_text class name.now }
+{
+    match class {
+        Class::Named => (Piece::Bytes(b"named "), Piece::Name(name)),
+        Class::Unique => (Piece::Bytes(b"unique "), Piece::Bytes(b"-")),
+        Class::Anonymous => (Piece::Bytes(b"anonymous "), Piece::Bytes(b"-")),
+    }
+}
+
+/// The pieces of a number behind a blank, and empty ones where there is no number.
+fn pieces_behind<'a>(number: Option<u64>) -> (Piece<'a>, Piece<'a>)
+    ensures { piece_text result.0 ++ piece_text result.1 ≡ behind_text number }
+{
+    match number {
+        Some(number) => (Piece::Bytes(b" "), Piece::Number(number)),
+        None => (Piece::Bytes(b""), Piece::Bytes(b"")),
+    }
 }
 
 /// Writes a line for each object with a name, by name, and then `end`.

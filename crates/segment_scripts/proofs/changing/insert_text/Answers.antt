@@ -1,4 +1,4 @@
-use Rattle.std.proofs.Common.{◌∙◌, subst}
+use Rattle.std.proofs.Common.{subst}
 use Rattle.seg_types.specs.declared.kinds.Kind.TheVariants.{Texts}
 use Rattle.seg_types.specs.Commands.{Insert, Quoted}
 use Rattle.seg_types.specs.Names.{ByHandle}

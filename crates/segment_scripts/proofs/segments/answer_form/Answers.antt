@@ -1,6 +1,6 @@
 use Rattle.std.proofs.Common.{◌∙◌, ap, refl, sym}
 use Rattle.seg_types.specs.declared.refusals.LineError.TheVariants.{BadSyntax}
-use Rattle.seg_types.specs.Commands.{Asked, Get, Pop}
+use Rattle.seg_types.specs.Commands.{Asked, Get}
 use Rattle.seg_types.specs.Keys.{key_seen}
 use Rattle.segment_lang.specs.Reading.{as_reading}
 use Rattle.segment_lang.specs.Seen.{command_of, reading_by}

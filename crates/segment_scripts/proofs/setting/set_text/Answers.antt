@@ -1,4 +1,4 @@
-use Rattle.std.proofs.Common.{◌∙◌, refl, subst}
+use Rattle.std.proofs.Common.{refl, subst}
 use Rattle.seg_types.specs.declared.kinds.Kind.TheVariants.{Texts}
 use Rattle.seg_types.specs.Commands.{Quoted, Set}
 use Rattle.seg_types.specs.Names.{ByHandle}

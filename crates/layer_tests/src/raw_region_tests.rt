@@ -5,6 +5,7 @@ use raw_region::{
     RawRegion, Sink, Source, Span, Steps, Window, apart, fill, set_word_in, two_mut, word_in,
     write_all,
 };
+use std::process::Abort;
 use std::test::Fail;
 
 const TEXT: &[u8; 9] = b"one\ntwo\n3";
@@ -141,18 +142,22 @@ fn words_of_a_slice(rt: HostRuntime) {
     );
 }
 
+/// Reads the text in pieces of so many bytes, into room for five bytes.
+fn is_read(rt: &impl Abort, piece: usize) {
+    let mut source = MemorySource::new(TEXT, piece, Last::Ends);
+    let mut into = [0u8; 5];
+    same(rt, fill(&mut source, &mut into).ok(), Some(5));
+    same(rt, into.as_slice(), b"one\nt".as_slice());
+    same(rt, fill(&mut source, &mut into).ok(), Some(4));
+    same(rt, into.as_slice(), b"wo\n3t".as_slice());
+    same(rt, fill(&mut source, &mut into).ok(), Some(0));
+}
+
 #[test]
-fn a_reader_gives_its_pieces_and_ends(rt: HostRuntime) -> Result<(), Fail> {
+fn a_reader_gives_its_pieces_and_ends(rt: HostRuntime) {
     for piece in 1..10 {
-        let mut source = MemorySource::new(TEXT, piece, Last::Ends);
-        let mut into = [0u8; 5];
-        same(&rt, fill(&mut source, &mut into)?, 5);
-        same(&rt, into.as_slice(), b"one\nt".as_slice());
-        same(&rt, fill(&mut source, &mut into)?, 4);
-        same(&rt, into.as_slice(), b"wo\n3t".as_slice());
-        same(&rt, fill(&mut source, &mut into)?, 0);
+        is_read(&rt, piece);
     }
-    Ok(())
 }
 
 #[test]
@@ -188,16 +193,19 @@ fn a_writer_fails_or_takes_none_after_each_byte(rt: HostRuntime) -> Result<(), F
 }
 
 #[test]
-fn readers_and_writers_of_std(rt: HostRuntime) -> Result<(), Fail> {
+fn a_reader_of_std(rt: HostRuntime) {
     let mut source = Reading::new(TEXT.as_slice());
     let mut into = [0u8; 12];
-    same(&rt, source.read(&mut into)?, 9);
-    same(&rt, source.read(&mut into)?, 0);
+    same(&rt, source.read(&mut into).ok(), Some(9));
+    same(&rt, source.read(&mut into).ok(), Some(0));
+}
+
+#[test]
+fn a_writer_of_std(rt: HostRuntime) {
     let mut room = [0u8; 4];
     let mut sink = Writing::new(room.as_mut_slice());
-    same(&rt, sink.write(TEXT)?, 4);
-    same(&rt, sink.write(TEXT)?, 0);
-    Ok(())
+    same(&rt, sink.write(TEXT).ok(), Some(4));
+    same(&rt, sink.write(TEXT).ok(), Some(0));
 }
 
 #[test]

@@ -94,17 +94,31 @@ fn literals_are_read_one_after_another(rt: HostRuntime) {
     }
 }
 
+/// The first word of a line, and what stands behind it.
+fn first_word<'a>(rt: &impl Abort, line: &'a [u8]) -> (Word<'a>, &'a [u8]) {
+    let Some(parts) = next_word(line) else {
+        panic!(rt; "no word");
+    };
+    parts
+}
+
 #[test]
-fn words_come_one_after_another(rt: HostRuntime) -> Result<(), Fail> {
-    let (word, rest) = next_word(b" ab\t-7 \"true\" true ").ok_or("no word")?;
-    holds(&rt, matches!(&word, Word::Bare(b"ab")));
-    let (word, rest) = next_word(rest).ok_or("no number")?;
-    holds(&rt, matches!(literal_of(word), Some(Literal::Whole(-7))));
-    let (word, rest) = next_word(rest).ok_or("no text")?;
-    holds(&rt, matches!(literal_of(word), Some(Literal::Quoted(_))));
-    let word = only_word(rest).ok_or("no last word")?;
-    holds(&rt, matches!(literal_of(word), Some(Literal::Truth(true))));
-    Ok(())
+fn words_come_one_after_another(rt: HostRuntime) {
+    let (word, rest) = first_word(&rt, b" ab\t-7 \"true\"");
+    holds(&rt, matches!(word, Word::Bare(b"ab")));
+    let (word, rest) = first_word(&rt, rest);
+    holds(&rt, matches!(word, Word::Bare(b"-7")));
+    holds(&rt, matches!(only_word(rest), Some(Word::Text(_))));
+}
+
+#[test]
+fn a_word_is_a_literal(rt: HostRuntime) {
+    let number = literal_of(first_word(&rt, b"-7").0);
+    holds(&rt, matches!(number, Some(Literal::Whole(-7))));
+    let text = literal_of(first_word(&rt, b"\"true\"").0);
+    holds(&rt, matches!(text, Some(Literal::Quoted(_))));
+    let truth = literal_of(first_word(&rt, b"true").0);
+    holds(&rt, matches!(truth, Some(Literal::Truth(true))));
 }
 
 #[test]

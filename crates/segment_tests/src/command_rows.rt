@@ -7,13 +7,12 @@ use segment_cli::{
     Invocation, InvocationFault, ModeName, ProgramFault, SessionFault, UsageError, invocation,
     report,
 };
-use std::alloc::Global;
+use std::alloc::{AllocError, Global};
 use std::process::Abort;
-use std::test::Fail;
 
 /// The words of a command line.
-fn words(alloc: Global, line: &str) -> Result<Vec<&str>, Fail> {
-    Ok(line.split(' ').collect(alloc)?)
+fn words(alloc: Global, line: &str) -> Result<Vec<&str>, AllocError> {
+    line.split(' ').collect(alloc)
 }
 
 /// A command line asks for something.

@@ -13,92 +13,92 @@ fn empty(alloc: Global) -> Result<Heap, Fail> {
     Ok(Heap::fresh(Window::new(RawRegion::new(alloc, 1024)?, 0, 1024)))
 }
 
+/// Asks for a block, which is the one of a handle.
+fn takes(rt: &impl Abort, heap: &mut Heap, n: u64, handle: u64) {
+    let taken = heap.allocate(n, Role::Object, &mut Steps::new());
+    same(rt, taken, Ok(handle));
+}
+
+/// Asks for a block that has no fit.
+fn takes_none(rt: &impl Abort, heap: &mut Heap, n: u64) {
+    let taken = heap.allocate(n, Role::Object, &mut Steps::new());
+    same(rt, taken, Err(NoSpace));
+}
+
 /// A heap with blocks for 64, 16, 32 and 16 bytes, of which the first is given back.
 fn with_three_blocks(rt: &impl Abort, alloc: Global) -> Result<Heap, Fail> {
     let mut heap = empty(alloc)?;
-    let first = heap.allocate(64, Role::Object, &mut Steps::new())?;
-    let _second = heap.allocate(16, Role::Object, &mut Steps::new())?;
-    let _third = heap.allocate(32, Role::Object, &mut Steps::new())?;
-    let _fourth = heap.allocate(16, Role::Object, &mut Steps::new())?;
-    free(rt, &mut heap, first);
+    takes(rt, &mut heap, 64, 144);
+    takes(rt, &mut heap, 16, 224);
+    takes(rt, &mut heap, 32, 256);
+    takes(rt, &mut heap, 16, 304);
+    gives_back(rt, &mut heap, 144);
     Ok(heap)
 }
 
-fn free(rt: &impl Abort, heap: &mut Heap, handle: u64) {
+fn gives_back(rt: &impl Abort, heap: &mut Heap, handle: u64) {
     assert!(rt; heap.is_live(handle));
     heap.deallocate(handle, &mut Steps::new());
 }
 
-fn extends(rt: &impl Abort, heap: &mut Heap, handle: u64, n: u64) -> bool {
+/// Lengthens a block in its place, or does not.
+fn extends(rt: &impl Abort, heap: &mut Heap, handle: u64, n: u64, is_longer: bool) {
     assert!(rt; heap.is_live(handle));
-    heap.try_extend(handle, n, &mut Steps::new())
+    let extended = heap.try_extend(handle, n, &mut Steps::new());
+    same(rt, extended, is_longer);
 }
 
-fn shrink(rt: &impl Abort, heap: &mut Heap, handle: u64, n: u64) {
+/// Shortens a block, which has so much room then.
+fn shrinks(rt: &impl Abort, heap: &mut Heap, handle: u64, n: u64, room: u64) {
     assert!(rt; heap.is_live(handle));
     heap.shrink_in_place(handle, n, &mut Steps::new());
+    has_room(rt, heap, handle, room);
 }
 
-fn block_len(rt: &impl Abort, heap: &Heap, handle: u64) -> usize {
+fn has_room(rt: &impl Abort, heap: &Heap, handle: u64, room: u64) {
     assert!(rt; heap.is_live(handle));
-    heap.block(handle).len()
+    same(rt, heap.room(handle), room);
 }
 
-/// The two links of a node of the free tree.
-fn links(rt: &impl Abort, window: &Window, node: u64) -> (Option<u64>, Option<u64>) {
-    assert!(rt; node % 8 == 0 && node < 1024 && window.in_range(node, 16));
-    (load(window, node), load(window, node + 8))
+/// So many bytes are free, and so many blocks are in use.
+fn has_free(rt: &impl Abort, heap: &Heap, free: u64, blocks: u64) {
+    same(rt, heap.free_bytes(), free);
+    same(rt, heap.live_count(), blocks);
 }
 
-#[test]
-fn blocks_follow_one_another(rt: HostRuntime) -> Result<(), Fail> {
-    let mut heap = empty(rt.alloc())?;
-    same(&rt, heap.size(), 1024);
-    same(&rt, heap.region_left(), 0);
-    same(
-        &rt,
-        heap.allocate(64, Role::Object, &mut Steps::new())?,
-        144,
-    );
-    same(
-        &rt,
-        heap.allocate(16, Role::Object, &mut Steps::new())?,
-        224,
-    );
-    same(
-        &rt,
-        heap.allocate(32, Role::Object, &mut Steps::new())?,
-        256,
-    );
-    same(
-        &rt,
-        heap.allocate(16, Role::Object, &mut Steps::new())?,
-        304,
-    );
-    Ok(())
+/// Makes each byte of a block this one.
+fn fills(rt: &impl Abort, heap: &mut Heap, handle: u64, byte: u8) {
+    assert!(rt; heap.is_live(handle));
+    heap.block_mut(handle).fill(byte);
+}
+
+/// A block of a role has these bytes at its end.
+fn ends_with(rt: &impl Abort, heap: &Heap, handle: u64, role: Role, bytes: &[u8]) {
+    assert!(rt; heap.is_live(handle));
+    same(rt, heap.role(handle), role);
+    holds(rt, heap.block(handle).ends_with(bytes));
+}
+
+/// A node block is red or not.
+fn is_red(rt: &impl Abort, heap: &Heap, handle: u64, red: bool) {
+    assert!(rt; heap.is_live(handle));
+    same(rt, heap.node_red(handle), red);
+}
+
+/// The link at an offset leads to a target, or nowhere.
+fn leads(rt: &impl Abort, window: &Window, at: u64, target: Option<u64>) {
+    assert!(rt; at % 8 == 0 && window.in_range(at, 8));
+    same(rt, load(window, at), target);
 }
 
 #[test]
 fn the_least_gap_is_taken(rt: HostRuntime) -> Result<(), Fail> {
     let mut heap = with_three_blocks(&rt, rt.alloc())?;
-    free(&rt, &mut heap, 256);
-    same(
-        &rt,
-        heap.allocate(32, Role::Object, &mut Steps::new())?,
-        256,
-    );
-    same(&rt, heap.free_bytes(), 768);
-    same(&rt, heap.live_count(), 3);
-    same(
-        &rt,
-        heap.allocate(2000, Role::Object, &mut Steps::new()),
-        Err(NoSpace),
-    );
-    same(
-        &rt,
-        heap.allocate(1073741825, Role::Object, &mut Steps::new()),
-        Err(NoSpace),
-    );
+    gives_back(&rt, &mut heap, 256);
+    takes(&rt, &mut heap, 32, 256);
+    has_free(&rt, &heap, 768, 3);
+    takes_none(&rt, &mut heap, 2000);
+    takes_none(&rt, &mut heap, 1073741825);
     holds(&rt, heap.sanity());
     Ok(())
 }
@@ -106,14 +106,12 @@ fn the_least_gap_is_taken(rt: HostRuntime) -> Result<(), Fail> {
 #[test]
 fn blocks_change_their_length(rt: HostRuntime) -> Result<(), Fail> {
     let mut heap = with_three_blocks(&rt, rt.alloc())?;
-    holds(&rt, extends(&rt, &mut heap, 304, 40));
-    same(&rt, heap.free_bytes(), 736);
-    holds(&rt, !extends(&rt, &mut heap, 224, 40));
-    shrink(&rt, &mut heap, 256, 16);
-    same(&rt, block_len(&rt, &heap, 256), 32);
-    shrink(&rt, &mut heap, 304, 16);
-    same(&rt, block_len(&rt, &heap, 304), 16);
-    same(&rt, heap.free_bytes(), 768);
+    extends(&rt, &mut heap, 304, 40, true);
+    has_free(&rt, &heap, 736, 3);
+    extends(&rt, &mut heap, 224, 40, false);
+    shrinks(&rt, &mut heap, 256, 16, 32);
+    shrinks(&rt, &mut heap, 304, 16, 16);
+    has_free(&rt, &heap, 768, 3);
     Ok(())
 }
 
@@ -124,6 +122,7 @@ fn header_words_are_read_back(rt: HostRuntime) -> Result<(), Fail> {
     heap.zero_free();
     same(&rt, heap.header_word(40), 7);
     let again = Heap::adopt(heap.into_window());
+    same(&rt, (again.size(), again.region_left()), (1024, 0));
     same(&rt, again.as_bytes().len(), 1024);
     same(&rt, again.tile(1), None);
     Ok(())
@@ -136,32 +135,32 @@ fn a_block_is_read_back(rt: HostRuntime) -> Result<(), Fail> {
     heap.set_word(handle, 8, 5);
     heap.write(handle, 24, b"of bytes");
     same(&rt, heap.word(handle, 8), 5);
-    assert!(rt; heap.is_live(handle));
-    same(&rt, heap.role(handle), Role::Storage);
-    holds(&rt, heap.block(handle).ends_with(b"of bytes"));
+    ends_with(&rt, &heap, handle, Role::Storage, b"of bytes");
     Ok(())
 }
 
 #[test]
 fn the_free_tree_lists_three_gaps(rt: HostRuntime) -> Result<(), Fail> {
     let mut heap = empty(rt.alloc())?;
-    for handle in [144, 192, 240, 288] {
-        same(
-            &rt,
-            heap.allocate(24, Role::Object, &mut Steps::new())?,
-            handle,
-        );
-    }
-    free(&rt, &mut heap, 144);
-    free(&rt, &mut heap, 240);
-    let window = heap.into_window();
-    // In order: 144, 240, 336.
-    assert!(rt; window.in_range(24, 8));
-    same(&rt, load(&window, 24), Some(240));
-    same(&rt, links(&rt, &window, 240), (Some(144), Some(336)));
-    same(&rt, links(&rt, &window, 144), (None, None));
-    same(&rt, links(&rt, &window, 336), (None, None));
+    takes(&rt, &mut heap, 24, 144);
+    takes(&rt, &mut heap, 24, 192);
+    takes(&rt, &mut heap, 24, 240);
+    takes(&rt, &mut heap, 24, 288);
+    gives_back(&rt, &mut heap, 144);
+    gives_back(&rt, &mut heap, 240);
+    gaps_are(&rt, &heap.into_window());
     Ok(())
+}
+
+/// The gaps 144, 240 and 336, in this order: a root, and a leaf at each side.
+fn gaps_are(rt: &impl Abort, window: &Window) {
+    leads(rt, window, 24, Some(240));
+    leads(rt, window, 240, Some(144));
+    leads(rt, window, 248, Some(336));
+    leads(rt, window, 144, None);
+    leads(rt, window, 152, None);
+    leads(rt, window, 336, None);
+    leads(rt, window, 344, None);
 }
 
 #[test]
@@ -211,23 +210,21 @@ fn links_of_a_block_move(rt: HostRuntime) -> Result<(), Fail> {
 fn a_node_block_has_a_colour(rt: HostRuntime) -> Result<(), Fail> {
     let mut heap = empty(rt.alloc())?;
     let handle = heap.allocate(32, Role::Node, &mut Steps::new())?;
-    assert!(rt; heap.is_live(handle) && !heap.node_red(handle));
+    is_red(&rt, &heap, handle, false);
     heap.set_node_red(handle, true);
-    assert!(rt; heap.is_live(handle) && heap.node_red(handle));
+    is_red(&rt, &heap, handle, true);
     heap.set_node_red(handle, false);
-    assert!(rt; heap.is_live(handle) && !heap.node_red(handle));
-    holds(&rt, heap.sanity());
+    is_red(&rt, &heap, handle, false);
     Ok(())
 }
 
 #[test]
 fn a_block_is_written_through_a_loan(rt: HostRuntime) -> Result<(), Fail> {
     let mut heap = empty(rt.alloc())?;
-    let handle = heap.allocate(32, Role::Storage, &mut Steps::new())?;
-    assert!(rt; heap.is_live(handle));
-    heap.block_mut(handle).fill(7);
-    assert!(rt; heap.is_live(handle));
-    same(&rt, heap.block(handle), [7u8; 32].as_slice());
+    takes(&rt, &mut heap, 32, 144);
+    fills(&rt, &mut heap, 144, 7);
+    has_room(&rt, &heap, 144, 32);
+    ends_with(&rt, &heap, 144, Role::Object, &[7; 32]);
     Ok(())
 }
 
@@ -242,21 +239,24 @@ fn bytes_of_a_block_are_copied(rt: HostRuntime) -> Result<(), Fail> {
     Ok(())
 }
 
-#[test]
-fn two_blocks_are_lent_together(rt: HostRuntime) -> Result<(), Fail> {
-    let mut heap = empty(rt.alloc())?;
-    let first = heap.allocate(32, Role::Storage, &mut Steps::new())?;
-    let second = heap.allocate(16, Role::Storage, &mut Steps::new())?;
+/// Makes each byte of a second block the last one of a first.
+fn repeats_last(rt: &impl Abort, heap: &mut Heap, first: u64, second: u64) {
     assert!(rt; heap.is_live(first) && heap.is_live(second) && first != second);
-    heap.block_mut(first).fill(5);
-    assert!(rt; heap.is_live(first) && heap.is_live(second));
     heap.two(first, second, |read, written| {
         if let Some(byte) = read.last() {
             written.fill(*byte);
         }
     });
-    assert!(rt; heap.is_live(first) && heap.is_live(second));
-    same(&rt, heap.block(first), [5u8; 32].as_slice());
-    same(&rt, heap.block(second), [5u8; 16].as_slice());
+}
+
+#[test]
+fn two_blocks_are_lent_together(rt: HostRuntime) -> Result<(), Fail> {
+    let mut heap = empty(rt.alloc())?;
+    takes(&rt, &mut heap, 32, 144);
+    takes(&rt, &mut heap, 16, 192);
+    fills(&rt, &mut heap, 144, 5);
+    repeats_last(&rt, &mut heap, 144, 192);
+    ends_with(&rt, &heap, 144, Role::Object, &[5; 32]);
+    ends_with(&rt, &heap, 192, Role::Object, &[5; 16]);
     Ok(())
 }

@@ -1,6 +1,7 @@
 use crate::checks::{holds, same};
 use offset_link::{Places, are_links, checked, copy, load, shift, store, store_null};
 use raw_region::{RawRegion, Window};
+use std::process::Abort;
 use std::test::Fail;
 
 #[test]
@@ -64,20 +65,38 @@ fn links_move_back(rt: HostRuntime) -> Result<(), Fail> {
     Ok(())
 }
 
+/// A word that leads so far from 24 on leads to a block, or is null.
+fn is_checked(rt: &impl Abort, w: &mut Window, distance: u64, target: Option<u64>) {
+    assert!(rt; w.in_range(24, 8));
+    w.write_u64(24, distance);
+    same(rt, checked(w, 24).ok(), Some(target));
+}
+
+/// The same, of a word that leads to no place where a block may begin.
+fn is_bad(rt: &impl Abort, w: &mut Window, target: u64) {
+    assert!(rt; w.in_range(24, 8));
+    w.write_u64(24, target.wrapping_sub(24));
+    holds(rt, checked(w, 24).is_err());
+}
+
 #[test]
 fn a_checked_link_leads_to_a_block(rt: HostRuntime) -> Result<(), Fail> {
     let mut w = Window::new(RawRegion::new(rt.alloc(), 512)?, 64, 400);
-    store_null(&mut w, 24);
-    same(&rt, checked(&w, 24)?, None);
-    for target in [144, 160, 368] {
-        assert!(rt; w.in_range(24, 8));
-        w.write_u64(24, target - 24);
-        same(&rt, checked(&w, 24)?, Some(target));
-    }
-    for target in [24, 128, 152, 376, 384, 400] {
-        assert!(rt; w.in_range(24, 8));
-        w.write_u64(24, target - 24);
-        holds(&rt, checked(&w, 24).is_err());
-    }
+    is_checked(&rt, &mut w, 1, None);
+    is_checked(&rt, &mut w, 120, Some(144));
+    is_checked(&rt, &mut w, 136, Some(160));
+    is_checked(&rt, &mut w, 344, Some(368));
+    Ok(())
+}
+
+#[test]
+fn a_bad_link_leads_to_none(rt: HostRuntime) -> Result<(), Fail> {
+    let mut w = Window::new(RawRegion::new(rt.alloc(), 512)?, 64, 400);
+    is_bad(&rt, &mut w, 24);
+    is_bad(&rt, &mut w, 128);
+    is_bad(&rt, &mut w, 152);
+    is_bad(&rt, &mut w, 376);
+    is_bad(&rt, &mut w, 384);
+    is_bad(&rt, &mut w, 400);
     Ok(())
 }

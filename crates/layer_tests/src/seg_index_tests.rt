@@ -68,19 +68,23 @@ fn sizes(heap: &Heap) -> (u64, u64) {
     (Index::Unique.len(heap), Index::Unique.capacity(heap))
 }
 
+/// Puts an entry in, and compares the length and the capacity that the index has then.
+fn grows(rt: &impl Abort, heap: &mut Heap, place: u64, handle: u64, want: (u64, u64))
+    requires { HasIndex heap.old 56 }
+    ensures { HasIndex heap.new 56 }
+{
+    same(rt, add(rt, heap, place, handle), Ok(()));
+    same(rt, sizes(heap), want);
+}
+
 #[test]
 fn a_full_index_doubles(rt: HostRuntime) -> Result<(), Fail> {
     let mut heap = empty(rt.alloc())?;
-    for (place, handle, len_and_capacity) in [
-        (0, 160, (1, 4)),
-        (1, 176, (2, 4)),
-        (2, 192, (3, 4)),
-        (3, 208, (4, 4)),
-        (4, 224, (5, 8)),
-    ] {
-        add(&rt, &mut heap, place, handle)?;
-        same(&rt, sizes(&heap), len_and_capacity);
-    }
+    grows(&rt, &mut heap, 0, 160, (1, 4));
+    grows(&rt, &mut heap, 1, 176, (2, 4));
+    grows(&rt, &mut heap, 2, 192, (3, 4));
+    grows(&rt, &mut heap, 3, 208, (4, 4));
+    grows(&rt, &mut heap, 4, 224, (5, 8));
     same(&rt, at(&rt, &heap, 4), 224);
     Ok(())
 }
@@ -88,13 +92,23 @@ fn a_full_index_doubles(rt: HostRuntime) -> Result<(), Fail> {
 #[test]
 fn an_entry_is_put_between_two(rt: HostRuntime) -> Result<(), Fail> {
     let mut heap = empty(rt.alloc())?;
-    for (place, handle) in [(0, 160), (1, 224), (1, 192), (0, 144)] {
-        add(&rt, &mut heap, place, handle)?;
-    }
+    grows(&rt, &mut heap, 0, 160, (1, 4));
+    grows(&rt, &mut heap, 1, 224, (2, 4));
+    grows(&rt, &mut heap, 1, 192, (3, 4));
     remove(&rt, &mut heap, 2);
-    for (place, handle) in [(0, 144), (1, 160), (2, 224)] {
-        same(&rt, at(&rt, &heap, place), handle);
-    }
+    same(&rt, sizes(&heap), (2, 4));
+    same(&rt, at(&rt, &heap, 0), 160);
+    same(&rt, at(&rt, &heap, 1), 192);
+    Ok(())
+}
+
+#[test]
+fn a_growth_is_refused(rt: HostRuntime) -> Result<(), Fail> {
+    let mut heap = empty(rt.alloc())?;
+    same(&rt, reserve(&mut heap, 109), Err(NoSpace));
+    same(&rt, sizes(&heap), (0, 0));
+    same(&rt, reserve(&mut heap, 108), Ok(()));
+    same(&rt, sizes(&heap), (0, 108));
     Ok(())
 }
 

@@ -75,21 +75,40 @@ fn sizes<K: Plain, V: Plain>(heap: &Heap, map: SegMap<K, V>) -> (u64, u64)
     (map.len(heap), heap.free_bytes())
 }
 
-// The urgent ones come first, each group by its numbers.
 #[test]
 fn tickets_lead_to_tickets(rt: HostRuntime) -> Result<(), Fail> {
     let (mut heap, map) = begun::<Ticket, Ticket>(rt.alloc())?;
+    let (one, ten, forty) = (Ticket::plain(1), Ticket::plain(10), Ticket::urgent(40));
+    same(&rt, put(&mut heap, map, one, ten), Ok(true));
+    same(&rt, get(&heap, map, one), Some(ten));
+    same(&rt, put(&mut heap, map, one, forty), Ok(false));
+    same(&rt, get(&heap, map, one), Some(forty));
+    same(&rt, get(&heap, map, forty), None);
+    Ok(())
+}
+
+// The urgent ones come first, each group by its numbers.
+#[test]
+fn tickets_rise(rt: HostRuntime) -> Result<(), Fail> {
+    let (mut heap, map) = begun::<Ticket, Ticket>(rt.alloc())?;
     let (one, two) = (Ticket::plain(1), Ticket::urgent(2));
-    same(&rt, put(&mut heap, map, one, Ticket::plain(10))?, true);
-    same(&rt, put(&mut heap, map, two, Ticket::plain(20))?, true);
-    same(&rt, put(&mut heap, map, one, Ticket::urgent(40))?, false);
-    same(&rt, get(&heap, map, one), Some(Ticket::urgent(40)));
+    same(&rt, put(&mut heap, map, one, one), Ok(true));
+    same(&rt, put(&mut heap, map, two, two), Ok(true));
     let first = first_from(&heap, map, Ticket::urgent(0));
-    same(&rt, first, Some((two, Ticket::plain(20))));
-    let next = next_after(&heap, map, two);
-    same(&rt, next, Some((one, Ticket::urgent(40))));
+    same(&rt, first, Some((two, two)));
+    same(&rt, next_after(&heap, map, two), Some((one, one)));
+    same(&rt, next_after(&heap, map, one), None);
+    Ok(())
+}
+
+// A pair has a block of 48 bytes.
+#[test]
+fn tickets_give_their_blocks_back(rt: HostRuntime) -> Result<(), Fail> {
+    let (mut heap, map) = begun::<Ticket, Ticket>(rt.alloc())?;
+    let (one, two) = (Ticket::plain(1), Ticket::urgent(2));
+    same(&rt, put(&mut heap, map, one, one), Ok(true));
+    same(&rt, put(&mut heap, map, two, two), Ok(true));
     holds(&rt, erase(&mut heap, map, two));
-    // the pair has a block of 48 bytes
     same(&rt, sizes(&heap, map), (1, 784));
     release(&mut heap, map);
     same(&rt, sizes(&heap, map), (0, 832));

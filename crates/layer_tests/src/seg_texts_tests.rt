@@ -108,37 +108,62 @@ fn assert_text(rt: &impl Abort, heap: &Heap, texts: SegTexts, index: u64, text: 
     same_at(rt, index, texts.get(heap, index), Ok(text));
 }
 
+// An array of four places has 80 bytes, and a text of up to 16 bytes has 32.
 #[test]
 fn texts_stand_in_a_vector(rt: HostRuntime) -> Result<(), Fail> {
     let (mut heap, texts) = begun(rt.alloc())?;
-    // an array of four places has 80 bytes, and a text of up to 16 bytes has 32
-    push(&mut heap, texts, b"one")?;
-    insert(&mut heap, texts, 0, b"\0\xff")?;
-    insert(&mut heap, texts, 1, b"")?;
-    set(&mut heap, texts, 2, b"a text of more than 16 bytes")?;
-    same(&rt, sizes(&heap, texts), (3, 4, 672));
+    same(&rt, push(&mut heap, texts, b"one"), Ok(()));
+    same(&rt, insert(&mut heap, texts, 0, b"\0\xff"), Ok(()));
+    same(&rt, insert(&mut heap, texts, 1, b""), Ok(()));
+    same(&rt, sizes(&heap, texts), (3, 4, 688));
     assert_text(&rt, &heap, texts, 0, b"\0\xff");
     assert_text(&rt, &heap, texts, 1, b"");
-    assert_text(&rt, &heap, texts, 2, b"a text of more than 16 bytes");
-    erase(&mut heap, texts, 0)?;
-    pop(&mut heap, texts)?;
-    same(&rt, sizes(&heap, texts), (1, 4, 752));
+    assert_text(&rt, &heap, texts, 2, b"one");
+    Ok(())
+}
+
+#[test]
+fn texts_are_put_and_taken(rt: HostRuntime) -> Result<(), Fail> {
+    let (mut heap, texts) = begun(rt.alloc())?;
+    let assigned = assign(&mut heap, texts, &[b"c".as_slice(), b"d"]);
+    same(&rt, assigned, Ok(()));
+    let set = set(&mut heap, texts, 1, b"a text of more than 16 bytes");
+    same(&rt, set, Ok(()));
+    assert_text(&rt, &heap, texts, 1, b"a text of more than 16 bytes");
+    same(&rt, erase(&mut heap, texts, 0), Ok(()));
+    same(&rt, pop(&mut heap, texts), Ok(()));
+    same(&rt, pop(&mut heap, texts), Err(Refusal::OutOfRange));
+    same(&rt, sizes(&heap, texts), (0, 2, 784));
     Ok(())
 }
 
 #[test]
 fn texts_give_their_blocks_back(rt: HostRuntime) -> Result<(), Fail> {
     let (mut heap, texts) = begun(rt.alloc())?;
-    reserve(&mut heap, texts, 20)?;
+    same(&rt, reserve(&mut heap, texts, 20), Ok(()));
     same(&rt, sizes(&heap, texts), (0, 20, 496));
-    push(&mut heap, texts, b"a")?;
+    same(&rt, push(&mut heap, texts, b"a"), Ok(()));
     shrink(&mut heap, texts);
     same(&rt, sizes(&heap, texts), (1, 1, 768));
     clear(&mut heap, texts);
     same(&rt, sizes(&heap, texts), (0, 1, 800));
-    assign(&mut heap, texts, &[b"c".as_slice(), b""])?;
-    same(&rt, sizes(&heap, texts), (2, 2, 752));
     release(&mut heap, texts);
     same(&rt, sizes(&heap, texts), (0, 0, 832));
+    Ok(())
+}
+
+// Nothing is lost where there is no space: neither for a longer array, nor for a text, for which the array had been lengthened.
+#[test]
+fn a_text_finds_no_place(rt: HostRuntime) -> Result<(), Fail> {
+    let (mut heap, texts) = begun(rt.alloc())?;
+    same(&rt, push(&mut heap, texts, b"one"), Ok(()));
+    let reserved = reserve(&mut heap, texts, 60);
+    same(&rt, reserved, Err(Refusal::NoSpace));
+    let pushed = push(&mut heap, texts, &[b'x'; 800]);
+    same(&rt, pushed, Err(Refusal::NoSpace));
+    let assigned = assign(&mut heap, texts, &[[b'x'; 800].as_slice()]);
+    same(&rt, assigned, Err(Refusal::NoSpace));
+    same(&rt, sizes(&heap, texts), (1, 4, 720));
+    assert_text(&rt, &heap, texts, 0, b"one");
     Ok(())
 }

@@ -1,7 +1,7 @@
 //! Values as bytes: those of the five scalar types, and those of a type that a caller gives the trait.
 ghost use Rattle.std.specs.Prelude.{◌≡◌, ◌≤◌, length};
 
-use crate::checks::{holds, same, same_at};
+use crate::checks::{holds, same};
 use crate::ticket::Ticket;
 use seg_types::theorems::{
     scalar_is_number, unordered_are_same, values_spell_one, written_is_read,
@@ -155,61 +155,64 @@ fn names(rt: HostRuntime) {
     holds(&rt, Name::new(b"\xC2\x85").is_none());
 }
 
+/// A kind has a code.
+fn has_code(rt: &impl Abort, kind: Kind, code: u32) {
+    same(rt, Kind::from_code(code), Some(kind));
+    same(rt, kind.code(), code);
+}
+
 #[test]
 fn kinds_have_codes(rt: HostRuntime) {
-    let rows = [
-        (1, Some(Kind::Scalar(ScalarKind::Bool))),
-        (5, Some(Kind::Scalar(ScalarKind::U64))),
-        (65536, Some(Kind::Text)),
-        (131075, Some(Kind::Vector(ScalarKind::I32))),
-        (197122, Some(Kind::Map(ScalarKind::U8, ScalarKind::U8))),
-        (262144, Some(Kind::Texts)),
-        (0, None),
-        (6, None),
-        (131072, None),
-        (196608, None),
-        (197894, None),
-        (4294967295, None),
-    ];
-    for (code, want) in rows {
-        let kind = Kind::from_code(code);
-        same_at(&rt, code, kind, want);
-        if let Some(kind) = kind {
-            same(&rt, kind.code(), code);
-        }
+    has_code(&rt, Kind::Scalar(ScalarKind::Bool), 1);
+    has_code(&rt, Kind::Scalar(ScalarKind::U64), 5);
+    has_code(&rt, Kind::Text, 65536);
+    has_code(&rt, Kind::Vector(ScalarKind::I32), 131075);
+    has_code(&rt, Kind::Map(ScalarKind::U8, ScalarKind::U8), 197122);
+    has_code(&rt, Kind::Texts, 262144);
+}
+
+#[test]
+fn codes_of_no_kind(rt: HostRuntime) {
+    for code in [0, 6, 131072, 196608, 197894, 4294967295] {
+        same(&rt, Kind::from_code(code), None);
     }
     holds(&rt, !Kind::Texts.is_of(1));
     holds(&rt, Kind::Texts.is_of(2));
     holds(&rt, Kind::Text.is_of(0));
 }
 
+/// A number is a value of a kind, which has this number and this kind.
+fn is_value(rt: &impl Abort, kind: ScalarKind, number: i128, value: ScalarValue) {
+    same(rt, ScalarValue::of_number(kind, number), Some(value));
+    same(rt, (value.number(), value.kind()), (number, kind));
+}
+
 #[test]
 fn values_of_a_kind(rt: HostRuntime) {
-    let rows = [
-        (ScalarKind::Bool, 2, None),
-        (ScalarKind::U8, 255, Some(ScalarValue::U8(255))),
-        (ScalarKind::I32, 2147483648, None),
-    ];
-    for (kind, number, want) in rows {
-        let value = ScalarValue::of_number(kind, number);
-        same_at(&rt, number, value, want);
-        if let Some(value) = value {
-            same(&rt, value.number(), number);
-            same(&rt, value.kind(), kind);
-        }
-    }
+    is_value(&rt, ScalarKind::Bool, 1, ScalarValue::Bool(true));
+    is_value(&rt, ScalarKind::U8, 255, ScalarValue::U8(255));
+    is_value(&rt, ScalarKind::I64, -1, ScalarValue::I64(-1));
+    let none = ScalarValue::of_number(ScalarKind::Bool, 2);
+    same(&rt, none, None);
+    let none = ScalarValue::of_number(ScalarKind::I32, 2147483648);
+    same(&rt, none, None);
+}
+
+#[test]
+fn values_are_spelled(rt: HostRuntime) {
     let mut bytes = [0; 4];
     ScalarValue::I32(-2).write(&mut bytes);
     same(&rt, bytes, [0xFE, 0xFF, 0xFF, 0xFF]);
-    same(
-        &rt,
-        ScalarValue::read(ScalarKind::I32, &bytes),
-        Some(ScalarValue::I32(-2)),
-    );
+    let read = ScalarValue::read(ScalarKind::I32, &bytes);
+    same(&rt, read, Some(ScalarValue::I32(-2)));
     same(&rt, ScalarValue::read(ScalarKind::Bool, &[2]), None);
     holds(&rt, !ScalarKind::Bool.is_spelling(&[2]));
     holds(&rt, ScalarKind::U8.is_spelling(&[2]));
-    holds(&rt, ScalarKind::I32.precedes(&bytes, &[0, 0, 0, 0]));
+}
+
+#[test]
+fn spellings_are_in_order(rt: HostRuntime) {
+    holds(&rt, ScalarKind::I32.precedes(&[255; 4], &[0; 4]));
     holds(&rt, !ScalarKind::U64.precedes(&[255; 8], &[0; 8]));
     holds(&rt, ScalarKind::I64.precedes(&[255; 8], &[0; 8]));
 }

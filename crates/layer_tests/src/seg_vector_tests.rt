@@ -104,34 +104,51 @@ fn sizes<T: Plain>(heap: &Heap, vector: SegVec<T>) -> (u64, u64)
 #[test]
 fn tickets_stand_in_a_vector(rt: HostRuntime) -> Result<(), Fail> {
     let (mut heap, tickets) = begun::<Ticket>(rt.alloc())?;
-    push(&mut heap, tickets, Ticket::plain(258))?;
-    push(&mut heap, tickets, Ticket::urgent(65535))?;
-    insert(&mut heap, tickets, 1, Ticket::urgent(0))?;
-    set(&mut heap, tickets, 0, Ticket::plain(7))?;
-    for (i, ticket) in [
-        (0, Ticket::plain(7)),
-        (1, Ticket::urgent(0)),
-        (2, Ticket::urgent(65535)),
-    ] {
-        same(&rt, tickets.get(&heap, i), Ok(ticket));
-    }
-    erase(&mut heap, tickets, 0)?;
-    same(&rt, pop(&mut heap, tickets), Ok(Ticket::urgent(65535)));
-    same(&rt, sizes(&heap, tickets), (1, 4));
+    same(&rt, push(&mut heap, tickets, Ticket::plain(258)), Ok(()));
+    same(&rt, push(&mut heap, tickets, Ticket::urgent(9)), Ok(()));
+    let inserted = insert(&mut heap, tickets, 1, Ticket::urgent(0));
+    same(&rt, inserted, Ok(()));
+    same(&rt, tickets.get(&heap, 0), Ok(Ticket::plain(258)));
+    same(&rt, tickets.get(&heap, 1), Ok(Ticket::urgent(0)));
+    same(&rt, tickets.get(&heap, 2), Ok(Ticket::urgent(9)));
+    same(&rt, sizes(&heap, tickets), (3, 4));
+    Ok(())
+}
+
+#[test]
+fn tickets_are_put_and_taken(rt: HostRuntime) -> Result<(), Fail> {
+    let (mut heap, tickets) = begun::<Ticket>(rt.alloc())?;
+    let assigned = assign(&mut heap, tickets, &[Ticket::plain(3), Ticket::urgent(4)]);
+    same(&rt, assigned, Ok(()));
+    same(&rt, set(&mut heap, tickets, 0, Ticket::plain(7)), Ok(()));
+    same(&rt, pop(&mut heap, tickets), Ok(Ticket::urgent(4)));
+    same(&rt, tickets.get(&heap, 0), Ok(Ticket::plain(7)));
+    same(&rt, erase(&mut heap, tickets, 0), Ok(()));
+    same(&rt, sizes(&heap, tickets), (0, 2));
     Ok(())
 }
 
 #[test]
 fn tickets_give_their_places_back(rt: HostRuntime) -> Result<(), Fail> {
     let (mut heap, tickets) = begun::<Ticket>(rt.alloc())?;
-    reserve(&mut heap, tickets, 20)?;
-    assign(&mut heap, tickets, &[Ticket::plain(3), Ticket::urgent(4)])?;
-    same(&rt, sizes(&heap, tickets), (2, 20));
+    same(&rt, reserve(&mut heap, tickets, 20), Ok(()));
+    same(&rt, push(&mut heap, tickets, Ticket::plain(3)), Ok(()));
+    same(&rt, sizes(&heap, tickets), (1, 20));
     shrink(&mut heap, tickets);
-    same(&rt, sizes(&heap, tickets), (2, 2));
+    same(&rt, sizes(&heap, tickets), (1, 1));
     clear(&mut heap, tickets);
-    same(&rt, sizes(&heap, tickets), (0, 2));
+    same(&rt, sizes(&heap, tickets), (0, 1));
     release(&mut heap, tickets);
     same(&rt, heap.live_count(), 1);
+    Ok(())
+}
+
+#[test]
+fn a_ticket_finds_no_place(rt: HostRuntime) -> Result<(), Fail> {
+    let (mut heap, tickets) = begun::<Ticket>(rt.alloc())?;
+    let reserved = reserve(&mut heap, tickets, 300);
+    same(&rt, reserved, Err(Refusal::NoSpace));
+    same(&rt, pop(&mut heap, tickets), Err(Refusal::OutOfRange));
+    same(&rt, sizes(&heap, tickets), (0, 0));
     Ok(())
 }

@@ -1,6 +1,8 @@
 //! The readings of lines and the texts of answers, by example.
 
-use crate::checks::{holds, same, same_at};
+ghost use Rattle.std.specs.Prelude.{◌≡◌};
+
+use crate::checks::{holds, same};
 use raw_region::fake::{Last, MemorySink};
 use seg_types::{IndexKey, Key, Kind, Name, NewKey, Refusal, ScalarKind, ScalarValue};
 use segment_lang::{
@@ -8,7 +10,9 @@ use segment_lang::{
     number_of, only_word, parse_line, put_kind, put_line_error, put_name, put_number, put_pieces,
     put_text, put_value, whole_of,
 };
+use std::alloc::Global;
 use std::mem::size_of;
+use std::process::Abort;
 use std::test::Fail;
 
 // A command is moved as it is, so it is small.
@@ -18,26 +22,21 @@ const _: () = prove!(size_of::<Literal<'static>>() <= 48);
 
 const _: () = prove!(size_of::<Command<'static>>() <= 112);
 
+/// A line begins with no word.
+fn has_no_word(rt: &impl Abort, line: &[u8]) {
+    holds(rt, next_word(line).is_none());
+}
+
 #[test]
 fn words_that_do_not_fit_are_none(rt: HostRuntime) {
-    let lines = [
-        "",
-        " ",
-        "\"",
-        "\"a",
-        "\"a\"b",
-        "\"\\x0A\"",
-        "\"\\x0\"",
-        "\"\\n\"",
-        "\"\x7f\"",
-        "\"\t\"",
-        "a\"b",
-        "a\x7f",
-        "\x01",
-    ];
-    for line in lines {
-        assert!(rt; next_word(line.as_bytes()).is_none(), "at {line:?}");
-    }
+    has_no_word(&rt, b" ");
+    has_no_word(&rt, b"\"a");
+    has_no_word(&rt, b"\"a\"b");
+    has_no_word(&rt, b"\"\\x0A\"");
+    has_no_word(&rt, b"\"\\n\"");
+    has_no_word(&rt, b"\"\t\"");
+    has_no_word(&rt, b"a\"b");
+    has_no_word(&rt, b"a\x7f");
 }
 
 #[test]
@@ -95,17 +94,31 @@ fn literals_are_read_one_after_another(rt: HostRuntime) {
     }
 }
 
+/// The first word of a line, and what stands behind it.
+fn first_word<'a>(rt: &impl Abort, line: &'a [u8]) -> (Word<'a>, &'a [u8]) {
+    let Some(parts) = next_word(line) else {
+        panic!(rt; "no word");
+    };
+    parts
+}
+
 #[test]
-fn words_come_one_after_another(rt: HostRuntime) -> Result<(), Fail> {
-    let (word, rest) = next_word(b" ab\t-7 \"true\" true ").ok_or("no word")?;
-    holds(&rt, matches!(&word, Word::Bare(b"ab")));
-    let (word, rest) = next_word(rest).ok_or("no number")?;
-    holds(&rt, matches!(literal_of(word), Some(Literal::Whole(-7))));
-    let (word, rest) = next_word(rest).ok_or("no text")?;
-    holds(&rt, matches!(literal_of(word), Some(Literal::Quoted(_))));
-    let word = only_word(rest).ok_or("no last word")?;
-    holds(&rt, matches!(literal_of(word), Some(Literal::Truth(true))));
-    Ok(())
+fn words_come_one_after_another(rt: HostRuntime) {
+    let (word, rest) = first_word(&rt, b" ab\t-7 \"true\"");
+    holds(&rt, matches!(word, Word::Bare(b"ab")));
+    let (word, rest) = first_word(&rt, rest);
+    holds(&rt, matches!(word, Word::Bare(b"-7")));
+    holds(&rt, matches!(only_word(rest), Some(Word::Text(_))));
+}
+
+#[test]
+fn a_word_is_a_literal(rt: HostRuntime) {
+    let number = literal_of(first_word(&rt, b"-7").0);
+    holds(&rt, matches!(number, Some(Literal::Whole(-7))));
+    let text = literal_of(first_word(&rt, b"\"true\"").0);
+    holds(&rt, matches!(text, Some(Literal::Quoted(_))));
+    let truth = literal_of(first_word(&rt, b"true").0);
+    holds(&rt, matches!(truth, Some(Literal::Truth(true))));
 }
 
 #[test]
@@ -152,30 +165,26 @@ fn names_may_be_copied(rt: HostRuntime) -> Result<(), Fail> {
 
 #[test]
 fn numbers_have_one_spelling(rt: HostRuntime) {
-    for (word, want) in [
-        (b"10".as_slice(), Some(10)),
-        (b"18446744073709551615", Some(18446744073709551615)),
-        (b"18446744073709551616", None),
-        (b"", None),
-        (b"01", None),
-    ] {
-        same_at(&rt, word, number_of(word), want);
-    }
-    for (word, want) in [
-        (
-            b"-9223372036854775808".as_slice(),
-            Some(-9223372036854775808),
-        ),
-        (b"-9223372036854775809", None),
-        (b"-0", None),
-        (b"18446744073709551615", Some(18446744073709551615)),
-    ] {
-        same_at(&rt, word, whole_of(word), want);
-    }
+    same(&rt, number_of(b"10"), Some(10));
+    let most = number_of(b"18446744073709551615");
+    same(&rt, most, Some(18446744073709551615));
+    same(&rt, number_of(b"18446744073709551616"), None);
+    same(&rt, number_of(b""), None);
+    same(&rt, number_of(b"01"), None);
 }
 
 #[test]
-fn answers_are_printed(rt: HostRuntime) -> Result<(), Fail> {
+fn whole_numbers_have_one_spelling(rt: HostRuntime) {
+    let least = whole_of(b"-9223372036854775808");
+    same(&rt, least, Some(-9223372036854775808));
+    same(&rt, whole_of(b"-9223372036854775809"), None);
+    same(&rt, whole_of(b"-0"), None);
+    let most = whole_of(b"18446744073709551615");
+    same(&rt, most, Some(18446744073709551615));
+}
+
+#[test]
+fn kinds_and_values_are_printed(rt: HostRuntime) -> Result<(), Fail> {
     let mut out = MemorySink::new(rt.alloc(), 256, 3, Last::Fails)?;
     let pieces = [
         Piece::Kind(Kind::Map(ScalarKind::Bool, ScalarKind::U64)),
@@ -185,38 +194,78 @@ fn answers_are_printed(rt: HostRuntime) -> Result<(), Fail> {
         Piece::Value(ScalarValue::U8(255)),
         Piece::Value(ScalarValue::I32(-1)),
         Piece::Value(ScalarValue::U64(18446744073709551615)),
-        Piece::Value(ScalarValue::Bool(false)),
-        Piece::Bytes(b"\n"),
+        Piece::Kind(Kind::Vector(ScalarKind::I32)),
+    ];
+    holds(&rt, put_pieces(&mut out, &pieces).is_ok());
+    let want = b"map<bool,u64> -9223372036854775808true255-118446744073709551615vec<i32>";
+    same(&rt, out.taken(), want.as_slice());
+    Ok(())
+}
+
+#[test]
+fn refusals_and_texts_are_printed(rt: HostRuntime) -> Result<(), Fail> {
+    let mut out = MemorySink::new(rt.alloc(), 256, 3, Last::Fails)?;
+    let pieces = [
         Piece::Refusal(Refusal::NoSpace),
         Piece::Bytes(b" #"),
         Piece::Number(18446744073709551615),
         Piece::Text(b"a\"\\ \n\xc3"),
         Piece::Name(b"a_1."),
         Piece::Name(b"1 a"),
-        Piece::Kind(Kind::Vector(ScalarKind::I32)),
         Piece::LineError(LineError::LineTooLong),
     ];
-    put_pieces(&mut out, &pieces)?;
+    holds(&rt, put_pieces(&mut out, &pieces).is_ok());
     let want =
-        b"map<bool,u64> -9223372036854775808true255-118446744073709551615false\nerror 9 no space #18446744073709551615\"a\\\"\\\\ \\x0a\\xc3\"a_1.\"1 a\"vec<i32>error 2 line too long";
+        b"error 9 no space #18446744073709551615\"a\\\"\\\\ \\x0a\\xc3\"a_1.\"1 a\"error 2 line too long";
     same(&rt, out.taken(), want.as_slice());
     Ok(())
 }
 
+/// A writer with room for so many bytes.
+fn writer(rt: &impl Abort, alloc: Global, room: usize) -> MemorySink
+    ensures { result.failures ≡ 0 }
+{
+    let Ok(out) = MemorySink::new(alloc, room, 2, Last::Fails) else {
+        panic!(rt; "out of memory");
+    };
+    out
+}
+
 #[test]
-fn a_writer_that_fails_took_the_front(rt: HostRuntime) -> Result<(), Fail> {
-    let mut out = MemorySink::new(rt.alloc(), 15, 2, Last::Fails)?;
-    put_number(&mut out, 10)?;
-    put_value(&mut out, ScalarValue::I64(-1))?;
-    put_name(&mut out, b"_")?;
-    put_kind(&mut out, Kind::Text)?;
+fn a_number_is_printed(rt: HostRuntime) {
+    let mut out = writer(&rt, rt.alloc(), 9);
+    holds(&rt, put_number(&mut out, 10).is_ok());
+    same(&rt, out.taken(), b"10".as_slice());
+}
+
+#[test]
+fn a_value_is_printed(rt: HostRuntime) {
+    let mut out = writer(&rt, rt.alloc(), 9);
+    holds(&rt, put_value(&mut out, ScalarValue::I64(-1)).is_ok());
+    same(&rt, out.taken(), b"-1".as_slice());
+}
+
+#[test]
+fn a_name_is_printed(rt: HostRuntime) {
+    let mut out = writer(&rt, rt.alloc(), 9);
+    holds(&rt, put_name(&mut out, b"_").is_ok());
+    same(&rt, out.taken(), b"_".as_slice());
+}
+
+#[test]
+fn a_kind_is_printed(rt: HostRuntime) {
+    let mut out = writer(&rt, rt.alloc(), 9);
+    holds(&rt, put_kind(&mut out, Kind::Text).is_ok());
+    same(&rt, out.taken(), b"string".as_slice());
+}
+
+#[test]
+fn a_writer_that_fails_took_the_front(rt: HostRuntime) {
+    let mut out = writer(&rt, rt.alloc(), 4);
     holds(&rt, put_text(&mut out, b"\x00\x01").is_err());
-    same(&rt, out.taken(), b"10-1_string\"\\x0".as_slice());
-    let mut out = MemorySink::new(rt.alloc(), 3, 9, Last::Ends)?;
-    holds(
-        &rt,
-        put_line_error(&mut out, LineError::UnknownCommand).is_err(),
-    );
+    same(&rt, out.taken(), b"\"\\x0".as_slice());
+    let mut out = writer(&rt, rt.alloc(), 3);
+    let put = put_line_error(&mut out, LineError::UnknownCommand);
+    holds(&rt, put.is_err());
     same(&rt, out.taken(), b"err".as_slice());
-    Ok(())
 }

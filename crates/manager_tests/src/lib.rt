@@ -1,4 +1,5 @@
-//! Tests of objects in segments, over the public calls of segments and of the check of images.
+//! Tests of objects in segments, of regions and of the check of images, by public calls that no script makes. What scripts and
+//! images say is in the row files of `rows`.
 #![tactic(auto)]
 
 #[cfg(test)]
@@ -6,30 +7,26 @@ mod bench;
 #[cfg(test)]
 mod checks;
 #[cfg(test)]
-mod create_error_tests;
+mod container_tests;
 #[cfg(test)]
-mod image_check_tests;
+mod index_tests;
+#[cfg(test)]
+mod item_tests;
 #[cfg(test)]
 mod library_example;
 #[cfg(test)]
-mod segment_call_tests;
+mod map_tests;
 #[cfg(test)]
-mod segment_index_tests;
+mod memory_rows;
 #[cfg(test)]
-mod segment_item_tests;
+mod moving_tests;
 #[cfg(test)]
-mod segment_key_tests;
+mod number_tests;
 #[cfg(test)]
-mod segment_manager_tests;
+mod region_tests;
 #[cfg(test)]
-mod segment_map_tests;
+mod regions;
 #[cfg(test)]
-mod segment_scalar_tests;
-#[cfg(test)]
-mod segment_string_tests;
-#[cfg(test)]
-mod segment_texts_tests;
-#[cfg(test)]
-mod segment_vector_tests;
+mod resizing_tests;
 #[cfg(test)]
 mod segments;

@@ -5,42 +5,41 @@ use image_check::open;
 use raw_region::fake::{Last, MemorySource};
 use raw_region::{RawRegion, Steps};
 use segment_manager::{Mode, Segment};
+use std::alloc::Global;
+use std::process::Abort;
 use std::test::Fail;
 
-#[test]
-fn objects_move_with_their_segment(rt: HostRuntime) -> Result<(), Fail> {
-    // a segment at the front of a region: an array and two numbers under names
-    let region = RawRegion::new(rt.alloc(), 1024)?;
+/// A segment at the front of a region: an array and a number under names. Its bytes are its image.
+fn saved(rt: &impl Abort, alloc: Global) -> Result<Vec<u8>, Fail> {
+    let region = RawRegion::new(alloc, 1024)?;
     let Ok(mut segment) = Segment::create(region, 0, 1024, Mode::Write) else {
         panic!(rt; "no segment");
     };
-    segment.construct(&new_named(&rt, b"samples"), 3, 7i64)?;
-    segment.construct(&new_named(&rt, b"width"), 1, 640i32)?;
-    segment.construct(&new_named(&rt, b"height"), 1, 480i32)?;
-    segment.set(&named(&rt, b"samples"), 2, -1i64)?;
+    segment.construct(&new_named(rt, b"samples"), 3, 7i64)?;
+    segment.construct(&new_named(rt, b"width"), 1, 640i32)?;
+    segment.set(&named(rt, b"samples"), 2, -1i64)?;
+    Ok(segment.as_bytes().to_vec(alloc)?)
+}
 
-    // its bytes are its image
-    let saved = segment.as_bytes().to_vec(rt.alloc())?;
-
-    // opened at another place of another region, the same objects are found
-    let mut reader = MemorySource::new(&saved, 100, Last::Ends);
-    let region = RawRegion::new(rt.alloc(), 8192)?;
-    let mut steps = Steps::new();
-    let Ok(opened) = open(
-        rt.alloc(),
-        &mut reader,
-        region,
-        4096,
-        Mode::ReadOnly,
-        &mut steps,
-    ) else {
+/// Opens an image at another place of another region.
+fn opened(rt: &impl Abort, alloc: Global, image: &[u8]) -> Result<Segment, Fail> {
+    let mut reader = MemorySource::new(image, 100, Last::Ends);
+    let region = RawRegion::new(alloc, 8192)?;
+    let mode = Mode::ReadOnly;
+    let Ok(segment) = open(alloc, &mut reader, region, 4096, mode, &mut Steps::new()) else {
         panic!(rt; "not opened");
     };
-    let samples = named(&rt, b"samples");
-    same(&rt, opened.instance_length(&samples), Ok(3));
-    same(&rt, opened.get(&samples, 0), Ok(7i64));
-    same(&rt, opened.get(&samples, 2), Ok(-1i64));
-    same(&rt, opened.get(&named(&rt, b"width"), 0), Ok(640i32));
-    same(&rt, opened.get(&named(&rt, b"height"), 0), Ok(480i32));
+    Ok(segment)
+}
+
+#[test]
+fn objects_move_with_their_segment(rt: HostRuntime) -> Result<(), Fail> {
+    let image = saved(&rt, rt.alloc())?;
+    let segment = opened(&rt, rt.alloc(), image.as_slice())?;
+    same(&rt, segment.mode(), Mode::ReadOnly);
+    same(&rt, segment.as_bytes(), image.as_slice());
+    same(&rt, segment.get(&named(&rt, b"samples"), 0), Ok(7i64));
+    same(&rt, segment.get(&named(&rt, b"samples"), 2), Ok(-1i64));
+    same(&rt, segment.get(&named(&rt, b"width"), 0), Ok(640i32));
     Ok(())
 }

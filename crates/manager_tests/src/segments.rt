@@ -6,6 +6,7 @@ ghost use Rattle.seg_types.specs.Keys.{index_key_seen, new_key_seen};
 ghost use Rattle.segment_manager.specs.NewObjects.{IsOfKind};
 
 use crate::bench::Bench;
+use crate::checks::same;
 use image_check::open;
 use raw_region::fake::{Last, MemorySource};
 use raw_region::{RawRegion, Steps};
@@ -60,16 +61,16 @@ pub fn new_named<'a>(rt: &impl Abort, bytes: &'a [u8]) -> NewKey<'a>
     NewKey::Name(name(rt, bytes))
 }
 
-/// The handle of the object whose name has `i` others before it.
-pub fn named_handle(rt: &impl Abort, bench: &Bench, i: u64) -> Handle {
+/// The object whose name has `i` others before it has this handle.
+pub fn named_is(rt: &impl Abort, bench: &Bench, i: u64, handle: Handle) {
     let segment = &bench.segment;
     assert!(rt; i < segment.num_named());
-    segment.named_at(i)
+    same(rt, segment.named_at(i), handle);
 }
 
-/// The handle of the unique object whose kind has `i` others before it.
-pub fn unique_handle(rt: &impl Abort, bench: &Bench, i: u64) -> Handle {
+/// The unique object whose kind has `i` others before it has this handle.
+pub fn unique_is(rt: &impl Abort, bench: &Bench, i: u64, handle: Handle) {
     let segment = &bench.segment;
     assert!(rt; i < segment.num_unique());
-    segment.unique_at(i)
+    same(rt, segment.unique_at(i), handle);
 }

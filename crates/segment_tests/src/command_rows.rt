@@ -1,57 +1,94 @@
 //! Command lines that are read or refused, and what is said of a fault.
 
+use crate::checks::{same, sink};
 use grow_shrink::GrowError;
 use image_check::ImageClass;
-use raw_region::fake::{Last, MemorySink};
 use segment_cli::{
     Invocation, InvocationFault, ModeName, ProgramFault, SessionFault, UsageError, invocation,
     report,
 };
-use std::test::Fail;
+use std::alloc::{AllocError, Global};
+use std::process::Abort;
+
+/// The words of a command line.
+fn words(alloc: Global, line: &str) -> Result<Vec<&str>, AllocError> {
+    line.split(' ').collect(alloc)
+}
+
+/// A command line asks for something.
+fn asks(rt: &impl Abort, alloc: Global, line: &str, want: Invocation) {
+    let Ok(words) = words(alloc, line) else {
+        panic!(rt; "out of memory");
+    };
+    match invocation(alloc, words.as_slice()) {
+        Ok(asked) => same(rt, asked, want),
+        Err(_) => panic!(rt; "a command line is refused"),
+    }
+}
 
 #[test]
-fn command_lines_are_read(rt: HostRuntime) -> Result<(), Fail> {
-    for (line, want) in [
-        (
-            "segment run row2.seg --mode create_only --size 1024",
-            Invocation::Run("row2.seg", ModeName::CreateOnly, Some(1024)),
-        ),
-        (
-            "segment run a",
-            Invocation::Run("a", ModeName::OpenOnly, None),
-        ),
-        (
-            "segment run a --mode open_or_create --size 176",
-            Invocation::Run("a", ModeName::OpenOrCreate, Some(176)),
-        ),
-        (
-            "segment run a --mode open_read_only",
-            Invocation::Run("a", ModeName::OpenReadOnly, None),
-        ),
-        (
-            "segment run a --size 0",
-            Invocation::Run("a", ModeName::OpenOnly, Some(0)),
-        ),
-        (
-            "segment run --mode open_copy_on_write a",
-            Invocation::Run("a", ModeName::OpenCopyOnWrite, None),
-        ),
-        (
-            "segment create a 18446744073709551615",
-            Invocation::Create("a", u64::MAX),
-        ),
-        ("segment check a", Invocation::Check("a")),
-        ("segment grow a 32", Invocation::Grow("a", 32)),
-        ("segment shrink a", Invocation::Shrink("a")),
-        ("segment migrate a", Invocation::Migrate("a")),
-    ] {
-        let words: Vec<&str> = line.split(' ').collect(rt.alloc())?;
-        match invocation(rt.alloc(), words.as_slice()) {
-            Ok(asked) => assert_eq!(rt; asked, want, "{line}"),
-            Err(_) => return Err(Fail::from("a command line is refused")),
-        }
-    }
-    Ok(())
+fn runs_are_read(rt: HostRuntime) {
+    let asked = Invocation::Run("row2.seg", ModeName::CreateOnly, Some(1024));
+    asks(
+        &rt,
+        rt.alloc(),
+        "segment run row2.seg --mode create_only --size 1024",
+        asked,
+    );
+    let asked = Invocation::Run("a", ModeName::OpenOrCreate, Some(176));
+    asks(
+        &rt,
+        rt.alloc(),
+        "segment run a --mode open_or_create --size 176",
+        asked,
+    );
+    let asked = Invocation::Run("a", ModeName::OpenReadOnly, None);
+    asks(
+        &rt,
+        rt.alloc(),
+        "segment run a --mode open_read_only",
+        asked,
+    );
+    let asked = Invocation::Run("a", ModeName::OpenCopyOnWrite, None);
+    asks(
+        &rt,
+        rt.alloc(),
+        "segment run --mode open_copy_on_write a",
+        asked,
+    );
+}
+
+#[test]
+fn runs_without_a_mode_are_read(rt: HostRuntime) {
+    let asked = Invocation::Run("a", ModeName::OpenOnly, None);
+    asks(&rt, rt.alloc(), "segment run a", asked);
+    let asked = Invocation::Run("a", ModeName::OpenOnly, Some(0));
+    asks(&rt, rt.alloc(), "segment run a --size 0", asked);
+}
+
+#[test]
+fn other_commands_are_read(rt: HostRuntime) {
+    let asked = Invocation::Create("a", u64::MAX);
+    asks(
+        &rt,
+        rt.alloc(),
+        "segment create a 18446744073709551615",
+        asked,
+    );
+    asks(&rt, rt.alloc(), "segment check a", Invocation::Check("a"));
+    asks(
+        &rt,
+        rt.alloc(),
+        "segment grow a 32",
+        Invocation::Grow("a", 32),
+    );
+    asks(&rt, rt.alloc(), "segment shrink a", Invocation::Shrink("a"));
+    asks(
+        &rt,
+        rt.alloc(),
+        "segment migrate a",
+        Invocation::Migrate("a"),
+    );
 }
 
 /// The word for what is wrong with a command line.
@@ -66,66 +103,86 @@ fn wrong_in(error: &UsageError) -> &'static str {
     }
 }
 
-#[test]
-fn wrong_command_lines_are_told(rt: HostRuntime) -> Result<(), Fail> {
-    for (line, want) in [
-        ("segment run", "words"),
-        ("segment", "words"),
-        ("segment --help", "words"),
-        ("segment frobnicate a", "words"),
-        ("segment check a b", "words"),
-        ("segment migrate", "words"),
-        ("segment create a", "words"),
-        ("segment create a 0x10", "number"),
-        ("segment create a 18446744073709551616", "number"),
-        ("segment run a --size 007", "number"),
-        ("segment run a --mode read", "mode"),
-        ("segment run a --mode create_only", "size"),
-        ("segment run a --mode open_or_create", "size"),
-    ] {
-        let words: Vec<&str> = line.split(' ').collect(rt.alloc())?;
-        match invocation(rt.alloc(), words.as_slice()) {
-            Err(InvocationFault::Usage(error)) => {
-                assert_eq!(rt; wrong_in(&error), want, "{line}");
-            }
-            _ => return Err(Fail::from("a command line is not refused")),
-        }
+/// A command line is refused.
+fn refuses(rt: &impl Abort, alloc: Global, line: &str, want: &'static str) {
+    let Ok(words) = words(alloc, line) else {
+        panic!(rt; "out of memory");
+    };
+    match invocation(alloc, words.as_slice()) {
+        Err(InvocationFault::Usage(error)) => same(rt, wrong_in(&error), want),
+        _ => panic!(rt; "a command line is not refused"),
     }
-    Ok(())
 }
 
 #[test]
-fn faults_are_reported(rt: HostRuntime) -> Result<(), Fail> {
-    for (fault, line, status) in [
-        (
-            ProgramFault::Session(SessionFault::Image(ImageClass::BadTag)),
-            "segment: image refused: 6 BadTag\n",
-            1,
-        ),
-        (
-            ProgramFault::Growth(GrowError::BadGrow),
-            "segment: growth refused: BadGrow\n",
-            1,
-        ),
-        (ProgramFault::Exists, "segment: file exists\n", 3),
-        (
-            ProgramFault::Session(SessionFault::RegionTooSmall),
-            "segment: size refused\n",
-            1,
-        ),
-        (
-            ProgramFault::Session(SessionFault::OutOfMemory),
-            "segment: out of memory\n",
-            4,
-        ),
-        (ProgramFault::Usage, "", 2),
-    ] {
-        let mut err = MemorySink::new(rt.alloc(), 100, 7, Last::Fails)?;
-        assert_eq!(rt; report(fault, &mut err), status, "{line}");
-        assert_eq!(rt; err.taken(), line.as_bytes());
-        let mut full = MemorySink::new(rt.alloc(), 5, 7, Last::Fails)?;
-        assert_eq!(rt; report(fault, &mut full), status, "{line}");
-        assert_eq!(rt; full.taken(), line.as_bytes().get(..5).unwrap_or(b""));
-    }
-    Ok(())
+fn wrong_words_are_told(rt: HostRuntime) {
+    refuses(&rt, rt.alloc(), "segment", "words");
+    refuses(&rt, rt.alloc(), "segment run", "words");
+    refuses(&rt, rt.alloc(), "segment --help", "words");
+    refuses(&rt, rt.alloc(), "segment frobnicate a", "words");
+    refuses(&rt, rt.alloc(), "segment check a b", "words");
+    refuses(&rt, rt.alloc(), "segment migrate", "words");
+    refuses(&rt, rt.alloc(), "segment create a", "words");
+}
+
+#[test]
+fn wrong_numbers_and_modes_are_told(rt: HostRuntime) {
+    refuses(&rt, rt.alloc(), "segment create a 0x10", "number");
+    refuses(
+        &rt,
+        rt.alloc(),
+        "segment create a 18446744073709551616",
+        "number",
+    );
+    refuses(&rt, rt.alloc(), "segment run a --size 007", "number");
+    refuses(&rt, rt.alloc(), "segment run a --mode read", "mode");
+    refuses(&rt, rt.alloc(), "segment run a --mode create_only", "size");
+    refuses(
+        &rt,
+        rt.alloc(),
+        "segment run a --mode open_or_create",
+        "size",
+    );
+}
+
+/// What is said of a fault is this line, or its front where the writer fails, and the status is the same.
+fn says(rt: &impl Abort, alloc: Global, fault: ProgramFault, line: &str, status: u8) {
+    let mut err = sink(rt, alloc, 100, 7);
+    same(rt, report(fault, &mut err), status);
+    same(rt, err.taken(), line.as_bytes());
+    let mut full = sink(rt, alloc, 5, 7);
+    same(rt, report(fault, &mut full), status);
+    same(rt, full.taken(), line.as_bytes().get(..5).unwrap_or(b""));
+}
+
+#[test]
+fn faults_are_reported(rt: HostRuntime) {
+    let fault = ProgramFault::Session(SessionFault::Image(ImageClass::BadTag));
+    says(
+        &rt,
+        rt.alloc(),
+        fault,
+        "segment: image refused: 6 BadTag\n",
+        1,
+    );
+    let fault = ProgramFault::Growth(GrowError::BadGrow);
+    says(
+        &rt,
+        rt.alloc(),
+        fault,
+        "segment: growth refused: BadGrow\n",
+        1,
+    );
+    says(
+        &rt,
+        rt.alloc(),
+        ProgramFault::Exists,
+        "segment: file exists\n",
+        3,
+    );
+    let fault = ProgramFault::Session(SessionFault::RegionTooSmall);
+    says(&rt, rt.alloc(), fault, "segment: size refused\n", 1);
+    let fault = ProgramFault::Session(SessionFault::OutOfMemory);
+    says(&rt, rt.alloc(), fault, "segment: out of memory\n", 4);
+    says(&rt, rt.alloc(), ProgramFault::Usage, "", 2);
 }

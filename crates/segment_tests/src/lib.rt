@@ -3,14 +3,12 @@
 #![tactic(auto)]
 
 #[cfg(test)]
-mod command_rows;
+mod checks;
 #[cfg(test)]
-mod desk;
+mod command_rows;
 #[cfg(test)]
 mod line_rows;
 #[cfg(test)]
 mod machine_rows;
 #[cfg(test)]
 mod memory_rows;
-#[cfg(test)]
-mod place_rows;

@@ -3,11 +3,12 @@
 ghost use Rattle.std.specs.Prelude.{◌≡◌, ◌+◌, ◌/◌, ◌%◌, ◌∷◌, [], ℕ, min, length, take};
 ghost use Rattle.std.proofs.Common.{ap, arith, length-take};
 
+use crate::checks::{same, sink};
 use raw_region::fake::{Last, MemorySink, MemorySource};
-use raw_region::{DeviceFault, RawRegion, Sink, write_all};
-use segment_cli::{Machine, RunFault, Scratch, run, save};
-use segment_manager::{Mode, Segment};
-use std::alloc::{AllocError, Global};
+use raw_region::{DeviceFault, Sink, write_all};
+use segment_cli::{Machine, RunFault, Scratch, run};
+use std::alloc::Global;
+use std::process::Abort;
 use std::test::Fail;
 
 #[derive(Drop)]
@@ -46,127 +47,92 @@ const SCRIPT: &[u8] = b"ab\n\ncde\nf";
 
 const ANSWERS: [u8; 12] = [0, 0, 2, 1, 0, 0, 2, 0, 3, 3, 0, 1];
 
+/// Runs a script that is read in pieces of so many bytes, with room for all answers.
+fn runs(
+    rt: &impl Abort,
+    alloc: Global,
+    bytes: &[u8],
+    piece: usize,
+    last: Last,
+    answers: &[u8],
+) -> Result<(), RunFault> {
+    let mut machine = Lengths { count: 0 };
+    let mut script = MemorySource::new(bytes, piece, last);
+    let mut out = sink(rt, alloc, 64, 5);
+    let result = run(&mut machine, &mut script, &mut out);
+    same(rt, out.taken(), answers);
+    result
+}
+
 #[test]
-fn answers_in_pieces(rt: HostRuntime) -> Result<(), Fail> {
+fn answers_in_pieces(rt: HostRuntime) {
     for piece in [1, 7, 4096] {
-        let mut machine = Lengths { count: 0 };
-        let mut script = MemorySource::new(SCRIPT, piece, Last::Ends);
-        let mut out = MemorySink::new(rt.alloc(), 64, 5, Last::Fails)?;
-        let result = run(&mut machine, &mut script, &mut out);
-        assert_eq!(rt; result, Ok(()), "in pieces of {piece}");
-        assert_eq!(rt; out.taken(), ANSWERS.as_slice());
+        let result = runs(&rt, rt.alloc(), SCRIPT, piece, Last::Ends, &ANSWERS);
+        same(&rt, result, Ok(()));
     }
-    Ok(())
 }
 
 #[test]
-fn answers_empty_lines(rt: HostRuntime) -> Result<(), Fail> {
-    for (bytes, want) in [
-        (b"".as_slice(), [].as_slice()),
-        (b"\n\n", &[0, 0, 0, 1, 0, 0]),
-    ] {
-        let mut machine = Lengths { count: 0 };
-        let mut script = MemorySource::new(bytes, 4096, Last::Ends);
-        let mut out = MemorySink::new(rt.alloc(), 64, 64, Last::Fails)?;
-        assert_eq!(rt; run(&mut machine, &mut script, &mut out), Ok(()));
-        assert_eq!(rt; out.taken(), want);
+fn answers_empty_lines(rt: HostRuntime) {
+    let nothing = runs(&rt, rt.alloc(), b"", 9, Last::Ends, &[]);
+    same(&rt, nothing, Ok(()));
+    let empty = runs(&rt, rt.alloc(), b"\n\n", 9, Last::Ends, &[0, 0, 0, 1, 0, 0]);
+    same(&rt, empty, Ok(()));
+}
+
+/// Runs the first bytes of the script, behind which the reader fails: so many bytes are answered.
+fn fails_behind(rt: &impl Abort, alloc: Global, k: usize, answered: usize) {
+    let script = SCRIPT.get(..k).unwrap_or(b"");
+    let answers = ANSWERS.get(..answered).unwrap_or(b"");
+    let result = runs(rt, alloc, script, 3, Last::Fails, answers);
+    same(rt, result, Err(RunFault::ReadFault));
+}
+
+// The lines are answered that ended before.
+#[test]
+fn stops_where_the_reader_fails(rt: HostRuntime) {
+    for k in 0..3 {
+        fails_behind(&rt, rt.alloc(), k, 0);
     }
-    Ok(())
+    fails_behind(&rt, rt.alloc(), 3, 3);
+    for k in 4..8 {
+        fails_behind(&rt, rt.alloc(), k, 6);
+    }
+    fails_behind(&rt, rt.alloc(), 8, 9);
+    fails_behind(&rt, rt.alloc(), 9, 9);
+}
+
+/// Runs the script with a writer that takes so many bytes: so many lines are executed.
+fn fails_with_room(rt: &impl Abort, alloc: Global, room: usize, last: Last, lines: u8) {
+    let mut machine = Lengths { count: 0 };
+    let mut script = MemorySource::new(SCRIPT, 4096, Last::Ends);
+    let Ok(mut out) = MemorySink::new(alloc, room, 2, last) else {
+        panic!(rt; "out of memory");
+    };
+    let result = run(&mut machine, &mut script, &mut out);
+    same(rt, result, Err(RunFault::WriteFault));
+    same(rt, machine.count, lines);
+    same(rt, Some(out.taken()), ANSWERS.get(..room));
 }
 
 #[test]
-fn stops_where_the_reader_fails(rt: HostRuntime) -> Result<(), Fail> {
-    let one = &ANSWERS[..3];
-    let two = &ANSWERS[..6];
-    let three = &ANSWERS[..9];
-    // the answers to the lines that ended in the first k bytes
-    for (k, want) in [
-        (0, [].as_slice()),
-        (1, &[]),
-        (2, &[]),
-        (3, one),
-        (4, two),
-        (5, two),
-        (6, two),
-        (7, two),
-        (8, three),
-        (9, three),
-    ] {
-        let mut machine = Lengths { count: 0 };
-        let mut script = MemorySource::new(&SCRIPT[..k], 3, Last::Fails);
-        let mut out = MemorySink::new(rt.alloc(), 64, 64, Last::Fails)?;
-        let result = run(&mut machine, &mut script, &mut out);
-        assert_eq!(rt; result, Err(RunFault::ReadFault), "behind {k} bytes");
-        assert_eq!(rt; out.taken(), want);
+fn stops_where_the_writer_fails(rt: HostRuntime) {
+    for last in [Last::Fails, Last::Ends] {
+        fails_with_room(&rt, rt.alloc(), 0, last, 1);
+        fails_with_room(&rt, rt.alloc(), 3, last, 2);
+        fails_with_room(&rt, rt.alloc(), 4, last, 2);
+        fails_with_room(&rt, rt.alloc(), 8, last, 3);
+        fails_with_room(&rt, rt.alloc(), 9, last, 4);
+        fails_with_room(&rt, rt.alloc(), 11, last, 4);
     }
-    Ok(())
-}
-
-#[test]
-fn stops_where_the_writer_fails(rt: HostRuntime) -> Result<(), Fail> {
-    for (room, lines) in [(0, 1), (3, 2), (4, 2), (8, 3), (9, 4), (11, 4)] {
-        for last in [Last::Fails, Last::Ends] {
-            let mut machine = Lengths { count: 0 };
-            let mut script = MemorySource::new(SCRIPT, 4096, Last::Ends);
-            let mut out = MemorySink::new(rt.alloc(), room, 2, last)?;
-            let result = run(&mut machine, &mut script, &mut out);
-            assert_eq!(rt; result, Err(RunFault::WriteFault), "with room for {room}");
-            assert_eq!(rt; machine.count, lines);
-            assert_eq!(rt; out.taken(), &ANSWERS[..room]);
-        }
-    }
-    Ok(())
 }
 
 #[test]
 fn answers_a_long_line(rt: HostRuntime) -> Result<(), Fail> {
     let mut bytes = Vec::from_elem(rt.alloc(), b'x', 5000)?;
     bytes.extend_from_slice(b"\nab")?;
-    let mut machine = Lengths { count: 0 };
-    let mut script = MemorySource::new(&bytes, 4096, Last::Ends);
-    let mut out = MemorySink::new(rt.alloc(), 64, 64, Last::Fails)?;
-    assert_eq!(rt; run(&mut machine, &mut script, &mut out), Ok(()));
-    assert_eq!(rt; out.taken(), [0, 16, 2, 1, 0, 2].as_slice());
-    Ok(())
-}
-
-/// As many bytes, with a line end three bytes in front of the limit.
-fn long_script(alloc: Global, len: usize) -> Result<Vec<u8>, AllocError> {
-    let mut bytes = Vec::from_elem(alloc, b'x', len)?;
-    if 16777214 < bytes.len() {
-        bytes[16777213] = b'\n';
-    }
-    Ok(bytes)
-}
-
-#[test]
-fn stops_at_the_limit(rt: HostRuntime) -> Result<(), Fail> {
-    let first = [0, 16, 2];
-    let both = [0, 16, 2, 1, 0, 2];
-    for (len, result, want) in [
-        (16777216, Ok(()), both.as_slice()),
-        (16777217, Err(RunFault::ScriptTooLong), &first),
-    ] {
-        let bytes = long_script(rt.alloc(), len)?;
-        let mut machine = Lengths { count: 0 };
-        let mut script = MemorySource::new(&bytes, 4095, Last::Ends);
-        let mut out = MemorySink::new(rt.alloc(), 64, 64, Last::Fails)?;
-        assert_eq!(rt; run(&mut machine, &mut script, &mut out), result);
-        assert_eq!(rt; out.taken(), want);
-    }
-    Ok(())
-}
-
-#[test]
-fn saves_until_the_writer_fails(rt: HostRuntime) -> Result<(), Fail> {
-    let region = RawRegion::new(rt.alloc(), 144)?;
-    let Ok(segment) = Segment::create(region, 0, 144, Mode::Write) else {
-        return Err(Fail::from("no segment is created"));
-    };
-    for room in [0, 1, 143, 144] {
-        let mut out = MemorySink::new(rt.alloc(), room, 3, Last::Fails)?;
-        assert_eq!(rt; save(&segment, &mut out).is_ok(), room == 144);
-        assert_eq!(rt; Some(out.taken()), segment.as_bytes().get(..room));
-    }
+    let answers = [0, 16, 2, 1, 0, 2];
+    let result = runs(&rt, rt.alloc(), &bytes, 4096, Last::Ends, &answers);
+    same(&rt, result, Ok(()));
     Ok(())
 }

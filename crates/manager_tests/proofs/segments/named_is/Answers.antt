@@ -1,6 +1,6 @@
 use Rattle.std.proofs.Common.{◌<◌, rules}
 use Rattle.segment_manager.proofs.Laws.{named-below}
-use Rattle.manager_tests.proofs.segments.named_handle.Goals as goal
+use Rattle.manager_tests.proofs.segments.named_is.Goals as goal
 
 pub named_at-requires : goal.named_at-requires
 named_at-requires g c =

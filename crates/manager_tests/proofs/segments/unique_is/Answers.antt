@@ -1,6 +1,6 @@
 use Rattle.std.proofs.Common.{◌<◌, rules}
 use Rattle.segment_manager.proofs.Laws.{unique-below}
-use Rattle.manager_tests.proofs.segments.unique_handle.Goals as goal
+use Rattle.manager_tests.proofs.segments.unique_is.Goals as goal
 
 pub unique_at-requires : goal.unique_at-requires
 unique_at-requires g c =

@@ -1,0 +1,101 @@
+//! Segments made and opened in regions, as a region is seen from outside before and after.
+ghost use Rattle.std.specs.Prelude.{◌≡◌, ◌%◌};
+
+use crate::checks::{holds, same};
+use crate::regions::{are_sevens, region_of_sevens};
+use image_check::{OpenError, open};
+use raw_region::fake::{Last, MemorySource};
+use raw_region::{RawRegion, Steps};
+use seg_types::Refusal;
+use segment_manager::{CreateError, Mode, Segment};
+use std::alloc::Global;
+use std::process::Abort;
+use std::test::Fail;
+
+#[test]
+fn a_segment_is_made(rt: HostRuntime) -> Result<(), Fail> {
+    let region = RawRegion::new(rt.alloc(), 1024)?;
+    let Ok(segment) = Segment::create(region, 16, 176, Mode::Write) else {
+        panic!(rt; "refused");
+    };
+    same(&rt, segment.as_bytes().len(), 176);
+    let front = b"MSEGFILE\x02\0\0\0\0\0\0\0\xB0";
+    holds(&rt, segment.as_bytes().starts_with(front));
+    same(&rt, segment.region_left(), 832);
+    holds(&rt, segment.all_deallocated());
+    Ok(())
+}
+
+#[test]
+fn a_segment_fills_its_region(rt: HostRuntime) -> Result<(), Fail> {
+    let region = region_of_sevens(rt.alloc(), 1024)?;
+    let Ok(mut segment) = Segment::create(region, 16, 1008, Mode::CopyOnWrite) else {
+        panic!(rt; "refused");
+    };
+    same(&rt, segment.region_left(), 0);
+    same(&rt, segment.free(), 864);
+    same(&rt, segment.zero_free(), Ok(()));
+    Ok(())
+}
+
+#[test]
+fn the_smallest_segment(rt: HostRuntime) -> Result<(), Fail> {
+    let region = RawRegion::new(rt.alloc(), 144)?;
+    let Ok(mut segment) = Segment::create(region, 0, 144, Mode::ReadOnly) else {
+        panic!(rt; "refused");
+    };
+    same(&rt, segment.tile(0), None);
+    same(&rt, segment.mode(), Mode::ReadOnly);
+    same(&rt, segment.zero_free(), Err(Refusal::ReadOnly));
+    Ok(())
+}
+
+/// No segment of so many bytes is made at `base` of 1024 bytes, and the region comes back as it was.
+fn makes_none(rt: &impl Abort, alloc: Global, size: u64, cause: CreateError) -> Result<(), Fail> {
+    let region = region_of_sevens(alloc, 1024)?;
+    let Err(refused) = Segment::create(region, 16, size, Mode::Write) else {
+        panic!(rt; "made");
+    };
+    same(rt, refused.cause, cause);
+    same(rt, refused.region.capacity(), 1024);
+    are_sevens(rt, &refused.region, 0, 1024);
+    Ok(())
+}
+
+#[test]
+fn a_refused_region_comes_back(rt: HostRuntime) -> Result<(), Fail> {
+    makes_none(&rt, rt.alloc(), 160, CreateError::BadSize)?;
+    makes_none(&rt, rt.alloc(), 1024, CreateError::RegionTooSmall)
+}
+
+/// An image of 176 bytes has no place in a region from `base` on. That is told behind its front, where the reader fails, and the
+/// region comes back as it was.
+fn opens_none(rt: &impl Abort, alloc: Global, base: u64) -> Result<(), Fail>
+    requires { base % 16 ≡ 0 }
+{
+    let front = b"MSEGFILE\x02\0\0\0\0\0\0\0\xB0\0\0\0\0\0\0\0";
+    let mut reader = MemorySource::new(front, 7, Last::Fails);
+    let region = region_of_sevens(alloc, 1024)?;
+    let mut steps = Steps::new();
+    let Err(refused) = open(alloc, &mut reader, region, base, Mode::Write, &mut steps) else {
+        panic!(rt; "opened");
+    };
+    same(rt, refused.cause, OpenError::RegionTooSmall);
+    same(rt, refused.region.capacity(), 1024);
+    are_sevens(rt, &refused.region, 0, 1024);
+    Ok(())
+}
+
+#[test]
+fn a_region_that_is_too_small_comes_back(rt: HostRuntime) -> Result<(), Fail> {
+    opens_none(&rt, rt.alloc(), 864)?;
+    opens_none(&rt, rt.alloc(), 18446744073709551600)
+}
+
+#[test]
+fn each_reason_has_its_words(rt: HostRuntime) -> Result<(), Fail> {
+    let (size, region) = (CreateError::BadSize, CreateError::RegionTooSmall);
+    let words = format!(in rt.alloc(); "{size}, {region}")?;
+    same(&rt, words.as_str(), "size refused, region too small");
+    Ok(())
+}

@@ -4,18 +4,17 @@ use Rattle.std.specs.Prelude.{IsTrue}
 use Rattle.std.specs.List.{list_any}
 use Rattle.std.proofs.lemmas.Bool.{eq-eqb, and_from}
 use Rattle.raw_region.specs.Memory.{Cut, bytes_of}
-use Rattle.block_tags.specs.declared.tile.Role.TheVariants.{Object as ObjectRole}
 use Rattle.best_fit.specs.Extents.{Extent, LiveSet, handle, holds, is_proper}
-use Rattle.best_fit.specs.Fit.{added, released}
-use Rattle.best_fit.specs.Heap.{LaysOut, live_of, is_live_in, has_room, Keeps, IsAllocated, IsReleased}
+use Rattle.best_fit.specs.Fit.{released}
+use Rattle.best_fit.specs.Heap.{LaysOut, live_of, is_live_in, has_room, Keeps, IsReleased}
 use Rattle.seg_types.specs.Names.{ByHandle}
-use Rattle.segment_manager.specs.Directory.{Object, Directory, live, value_extents, is_object, has_key, with_object, without_object}
+use Rattle.segment_manager.specs.Directory.{Object, Directory, live, value_extents, has_key, without_object}
 use Rattle.segment_manager.specs.Denotes.{Denotes, IsObjectAt}
 use Rattle.segment_manager.proofs.Order.{inserted}
 use Rattle.segment_manager.proofs.Live.{IsFound, IsIn, live-split}
 use Rattle.segment_manager.proofs.Objects.{all-found}
 use Rattle.best_fit.proofs.Laws.{lay_out_one, list_any-insert}
-use Rattle.segment_manager.proofs.Denoted.{IsPlain, denotes-added, denotes-removed}
+use Rattle.segment_manager.proofs.Denoted.{IsPlain, denotes-removed}
 
 -- ---- objects are live blocks
 
@@ -48,15 +47,6 @@ denotes-live format b d h = lay_out_one format b (live d) h.heap
 -- the bytes of a directory are a heap's
 pub denotes-heap : (format : ℕ) (b : List ℕ) (d : Directory) → Denotes format b d → LaysOut format b (live_of b)
 denotes-heap format b d h = subst (LaysOut format b) (sym (denotes-live format b d h)) h.heap
-
--- a new object in the block that was asked for
-pub denotes-allocated : (format : ℕ) (old new : Cut) (d : Directory) (o : Object) (n h : ℕ) → Denotes format old.bytes d → (a : IsAllocated format old new n ObjectRole h) → o.extent ≡ a.extent
-    → IsTrue (is_object format o) → IsPlain o → IsObjectAt (bytes_of new.bytes) o → Denotes format new.bytes (with_object d o)
-denotes-allocated format old new d o n h k a e is_there plain at =
-    let same : live_of old.bytes ≡ live d = denotes-live format old.bytes d k in
-    denotes-added format old new d o k is_there plain
-    (subst (LaysOut format new.bytes) (λ i. added (same i) (sym e i)) a.live)
-    (subst (λ (l : LiveSet). Keeps old new l.extents) same a.keeps) at
 
 -- without the object whose block was released
 pub denotes-released : (format : ℕ) (old new : Cut) (d : Directory) (o : Object) → Denotes format old.bytes d → IsIn d o → IsPlain o → IsReleased format old new (handle o.extent)

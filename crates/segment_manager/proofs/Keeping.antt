@@ -6,24 +6,18 @@ use Rattle.raw_region.specs.Memory.{Cut}
 use Rattle.seg_types.specs.Names.{Key, ByHandle}
 use Rattle.seg_index.specs.declared.index.Index.{Index}
 use Rattle.seg_index.specs.declared.keys.Key.{Key as Entry}
-use Rattle.seg_index.specs.declared.keys.Lookup.TheVariants.{Absent, Found}
+use Rattle.seg_index.specs.declared.keys.Lookup.TheVariants.{Found}
 use Rattle.seg_index.specs.Capacities.{IsRoomy}
 use Rattle.seg_index.specs.Held.{capacity_at, place_of}
 use Rattle.segment_manager.specs.Found.{is_object_at}
 use Rattle.segment_manager.specs.Indexed.{Seeks, entries_of, table_of}
-use Rattle.segment_manager.specs.Keeping.{HasKey, KeepsWhere, LacksKey}
+use Rattle.segment_manager.specs.Keeping.{KeepsWhere, LacksKey}
 use Rattle.segment_manager.specs.State.{Answers, State}
-use Rattle.segment_manager.proofs.Bridge.{lookup-absent, lookup-found}
+use Rattle.segment_manager.proofs.Bridge.{lookup-found}
 use Rattle.segment_manager.proofs.Destroys.{Ends}
 use Rattle.segment_manager.proofs.HeldIndexes.{denotes-index}
 
--- a look-up that found no entry: no object has the key
-pub keeps-absent : (s t : State) (view : s ≡ t) (new : State) (i : Index) (e : Entry) (at : ℕ) → Ends s.cut i e (Absent at) → (key : Key) → Seeks i e key → KeepsWhere t new (HasKey key)
-keeps-absent s t view new i e at p key q =
-    subst (λ (u : State). KeepsWhere u new (HasKey key)) view (λ d k has.
-    absurd (none-some has.0 (sym (lookup-absent i s.cut d e key k.denotes q at (p (table_of i d) (entries_of i d) (denotes-index i s.cut d k.denotes))).none ∙ has.1)))
-
--- and one that found an entry: an object has it
+-- a look-up that found an entry: an object has the key
 pub keeps-found : (s t : State) (view : s ≡ t) (new : State) (i : Index) (e : Entry) (at : ℕ) → Ends s.cut i e (Found at) → (key : Key) → Seeks i e key → KeepsWhere t new (LacksKey key)
 keeps-found s t view new i e at p key q =
     subst (λ (u : State). KeepsWhere u new (LacksKey key)) view (λ d k lacks.

@@ -47,26 +47,23 @@ enough-places d key o n len capacity is sizes has =
     sym has.says ∙ ap (λ (r : Option Object). elim r as (λ _. Result (ℕ × ℕ) Refusal) [ None ↦ Err NotFound | Some p ↦ sizes_of p.value ]) is ∙ sizes in
     subst (λ m. n ≤ m) (ap places_in same) has.enough
 
-module _ (s t : State) (view : s ≡ t) (key : Key) (p : Place) (new : Cut) (n : ℕ) (r : Result (Unit {0}) Refusal) where
-  pub text-kept : Answers s (λ d. container_at d key Text) (Ok p) → ReservesNoBytes s.cut new p n r → KeepsWhere t (record s { cut = new }) (HasPlaces key n)
-  text-kept found each =
-      keeps-cut s t view new (HasPlaces key n) (λ d l has.
+module _ (s : State) (key : Key) (p : Place) (new : Cut) (n : ℕ) (r : Result (Unit {0}) Refusal) where
+  pub text-kept : Answers s (λ d. container_at d key Text) (Ok p) → ReservesNoBytes s.cut new p n r → (d : Directory) → StandsFor s.cut.bytes d → HasPlaces key n d → new ≡ s.cut
+  text-kept found each d l has =
       let h : HoldsText s.cut.bytes d key p = holds-text s.cut.bytes d key p l.denotes (found.answers d l) in
-      (each h.bytes h.table h.text.stands (enough-places d key h.object n _ h.table.capacity h.is (ap sizes_of h.value) has)).1)
+      (each h.bytes h.table h.text.stands (enough-places d key h.object n _ h.table.capacity h.is (ap sizes_of h.value) has)).1
 
-  pub texts-kept : Answers s (λ d. container_at d key TextsKind) (Ok p) → ReservesNoTexts s.cut new p n r → KeepsWhere t (record s { cut = new }) (HasPlaces key n)
-  texts-kept found each =
-      keeps-cut s t view new (HasPlaces key n) (λ d l has.
+  pub texts-kept : Answers s (λ d. container_at d key TextsKind) (Ok p) → ReservesNoTexts s.cut new p n r → (d : Directory) → StandsFor s.cut.bytes d → HasPlaces key n d → new ≡ s.cut
+  texts-kept found each d l has =
       let h : HoldsTexts s.cut.bytes d key p = holds-texts s.cut.bytes d key p l.denotes (found.answers d l) in
-      (each h.texts h.table h.stand (enough-places d key h.object n _ h.table.capacity h.is (ap sizes_of h.value) has)).1)
+      (each h.texts h.table h.stand (enough-places d key h.object n _ h.table.capacity h.is (ap sizes_of h.value) has)).1
 
   pub vector-kept : {T : Type 0} (k : ScalarKind) (w : T → ℤ) (size : ℕ) (test : T → Bool) (sp : T → List ℕ) → IsOfKind k w size test sp → Answers s (λ d. container_at d key (Vector k)) (Ok p)
-      → ReservesNothing size test sp s.cut new p n r → KeepsWhere t (record s { cut = new }) (HasPlaces key n)
-  vector-kept k w size test sp law found each =
-      keeps-cut s t view new (HasPlaces key n) (λ d l has.
+      → ReservesNothing size test sp s.cut new p n r → (d : Directory) → StandsFor s.cut.bytes d → HasPlaces key n d → new ≡ s.cut
+  vector-kept k w size test sp law found each d l has =
       let h : HoldsVector s.cut.bytes d key k p = holds-vector s.cut.bytes d key k p l.denotes (found.answers d l) in
       of-whole k w size test sp law s.cut.bytes p (λ zs u. n ≤ u.capacity → new ≡ s.cut) (λ xs u stands values e. (each xs u (record { stands = stands; values = values }) e).1) h.numbers h.table h.vector
-      (enough-places d key h.object n _ h.table.capacity h.is (ap sizes_of h.value) has))
+      (enough-places d key h.object n _ h.table.capacity h.is (ap sizes_of h.value) has)
 
 -- ---- pairs
 

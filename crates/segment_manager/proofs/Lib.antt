@@ -52,7 +52,6 @@ mod Pieces
 mod Rewritten
 mod Beside
 mod Exchanged
-mod ExchangedTwice
 mod Contained
 mod Grown
 mod ContentPlans
@@ -86,6 +85,7 @@ mod Released
 mod Destroys
 mod Keeping
 mod KeptContainers
+mod StoredCalls
 mod VectorLiterals
 mod Here
 mod Places

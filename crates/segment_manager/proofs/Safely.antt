@@ -19,12 +19,9 @@ use Rattle.segment_manager.specs.Found.{handle_at}
 use Rattle.segment_manager.specs.Layout.{head_len}
 use Rattle.segment_manager.specs.Standing.{IsHeadOf, StandsAt}
 use Rattle.segment_manager.specs.State.{Answers, IsSegment, IsStepOfKind, State, done_answer}
+use Rattle.segment_manager.specs.Stored.{StepsSafely}
 use Rattle.segment_manager.proofs.Here.{IsHere, here}
 use Rattle.segment_manager.proofs.Steps.{step_of_kind-segment}
-
-pub record StepsSafely (s : State) (new : Cut) (key : Key) (kind : Kind) (c : Command) (r : Result (Unit {0}) Refusal) : Type 0 where
-  pub step : IsStepOfKind s (record s { cut = new }) key kind c (done_answer r)
-  pub refused : OnErr r (new ≡ s.cut)
 
 -- it is refused, and nothing has changed
 pub stays : (s : State) (new : Cut) (key : Key) (kind : Kind) (c : Command) (e why : Refusal) → e ≡ why → new ≡ s.cut → IsStepOfKind s s key kind c (Refused why) → StepsSafely s new key kind c (Err e)

@@ -19,10 +19,11 @@ use Rattle.segment_manager.specs.Contents.{IsBytesGrown, IsBytesNow, are_bytes, 
 use Rattle.segment_manager.specs.Directory.{Value, Numbers, Elements, Bytes, Pairs, Texts, Object, kind_of, object_at}
 use Rattle.segment_manager.specs.State.{Answers, IsSegment, IsStepOfKind, State}
 use Rattle.segment_manager.specs.Step.{is_read_only}
+use Rattle.segment_manager.specs.Stored.{StepsSafely}
 use Rattle.segment_manager.proofs.StorageSteps.{clears-text, reserves-bytes, reserves_bytes-no_space, shrinks-text}
 use Rattle.segment_manager.proofs.TextSteps.{HoldsText, appends-bytes, appends-no_space, assigns-bytes, assigns_bytes-no_space, gets-byte, gets_byte-past, holds-text, sets-byte, sets_byte-past}
 use Rattle.segment_manager.proofs.AnyStorage.{sizes-found}
-use Rattle.segment_manager.proofs.Safely.{StepsSafely, stays}
+use Rattle.segment_manager.proofs.Safely.{stays}
 use Rattle.segment_manager.proofs.Words.{first, second}
 
 -- ---- bytes

@@ -29,10 +29,11 @@ use Rattle.segment_manager.specs.Directory.{Directory, Texts, kind_of, live}
 use Rattle.segment_manager.specs.Plan.{Plan, Reply, perform}
 use Rattle.segment_manager.specs.State.{Answers, IsSegment, IsStepOfKind, State, StandsFor, answer_of, refusal_in}
 use Rattle.segment_manager.specs.Step.{changed, effect, is_read_only, texts_of}
+use Rattle.segment_manager.specs.Stored.{StepsSafely}
 use Rattle.segment_manager.proofs.AnyStorage.{sizes-found}
 use Rattle.segment_manager.proofs.Calling.{denotes-live}
 use Rattle.segment_manager.proofs.Refilled.{made_room, no_room}
-use Rattle.segment_manager.proofs.Safely.{StepsSafely, stays}
+use Rattle.segment_manager.proofs.Safely.{stays}
 use Rattle.segment_manager.proofs.Steps.{open-reading, open-writing}
 use Rattle.segment_manager.proofs.TextLists.{part-all, part-inserted, part-none, part-removed, part-set, pushed-last, removed-last}
 use Rattle.segment_manager.proofs.TextMoves.{IsTextsMove, LeadsSafely, StepsKeeping, step-leads-on, texts-lead-on, texts-restored, texts-stay, texts-steps, texts_in}

@@ -20,8 +20,9 @@ use Rattle.segment_manager.specs.Contents.{HasNoRoom, IsNumbers, IsNumbersGrown,
 use Rattle.segment_manager.specs.Directory.{kind_of}
 use Rattle.segment_manager.specs.State.{Answers, IsSegment, IsStepOfKind, State, answer_of}
 use Rattle.segment_manager.specs.Step.{is_read_only}
+use Rattle.segment_manager.specs.Stored.{StepsSafely}
 use Rattle.segment_manager.proofs.AnyStorage.{sizes-found}
-use Rattle.segment_manager.proofs.Safely.{StepsSafely, stays}
+use Rattle.segment_manager.proofs.Safely.{stays}
 use Rattle.segment_manager.proofs.Steps.{step_of_kind-segment}
 use Rattle.segment_manager.proofs.StorageSteps.{clears-vector, reserves-no_space, reserves-places, shrinks-vector}
 use Rattle.segment_manager.proofs.VectorCalls.{assigns-no_space, assigns-numbers, erases-number, erases-past, gets-number, gets-past, inserts-no_space, inserts-number, inserts-past, pops-nothing, pops-number, pushes-no_space, pushes-number, sets-number, sets-past}

@@ -29,3 +29,4 @@ pub mod Walks
 pub mod Resized
 pub mod Relocating
 pub mod ToChange
+pub mod Stored

@@ -34,6 +34,7 @@ mod reserving;
 mod segment;
 mod sizing;
 mod storage;
+mod storages;
 mod targets;
 mod telling;
 mod text_lists;

@@ -1,15 +1,17 @@
 //! The places of vectors and strings of objects, vectors of strings among them: reserved, given back and left empty.
 ghost use Rattle.std.specs.Prelude.{◌≡◌, OnErr, false};
-ghost use Rattle.seg_types.specs.declared.kinds.Kind.TheVariants.{Map as MapOf, Text as TextKind, Texts as TextsKind, Vector as VectorOf};
+ghost use Rattle.seg_types.specs.declared.kinds.Kind.TheVariants.{Map as MapOf, Vector as VectorOf};
 ghost use Rattle.seg_types.specs.Commands.{Clear, Reserve, Shrink};
 ghost use Rattle.segment_manager.specs.Contents.{sizes_at, sizes_at_kind};
 ghost use Rattle.segment_manager.specs.Keeping.{HasPlaces, KeepsWhere};
-ghost use Rattle.segment_manager.specs.State.{Answers, IsStep, IsStepOfKind, done_answer};
+ghost use Rattle.segment_manager.specs.State.{Answers, IsStep, done_answer};
 ghost use Rattle.segment_manager.specs.Step.{is_read_only};
+ghost use Rattle.segment_manager.specs.Stored.{ChangesStorage};
 
 use crate::segment::Segment;
-use crate::targets::Target;
-use seg_types::{Kind, Refusal, Scalar, ScalarKind};
+use crate::storages::Stored;
+use crate::targets::{Object, Target};
+use seg_types::{Kind, Refusal, ScalarKind};
 use seg_vector::{SegString, SegTexts, SegVec};
 
 /// Where the number of pairs stands in a map of any kinds.
@@ -28,8 +30,8 @@ impl Segment {
         match self.locate(key) {
             Err(why) => Err(why),
             Ok(object) => match object.kind {
-                Kind::Text => self.measure_text(&object),
-                Kind::Texts => self.measure_texts(&object),
+                Kind::Text => self.measure_stored::<SegString, Object>(&object),
+                Kind::Texts => self.measure_stored::<SegTexts, Object>(&object),
                 Kind::Vector(element) => self.measure_elements(&object, element),
                 Kind::Map(keys, values) => self.measure_pairs(&object, keys, values),
                 _ => Err(Refusal::WrongKind),
@@ -43,53 +45,22 @@ impl Segment {
         ensures { Answers self.now (λ d. sizes_at_kind d (O.key key.now) (VectorOf kind)) result }
     {
         match kind {
-            ScalarKind::Bool => self.measure_vector::<bool, O>(key),
-            ScalarKind::U8 => self.measure_vector::<u8, O>(key),
-            ScalarKind::I32 => self.measure_vector::<i32, O>(key),
-            ScalarKind::I64 => self.measure_vector::<i64, O>(key),
-            ScalarKind::U64 => self.measure_vector::<u64, O>(key),
+            ScalarKind::Bool => self.measure_stored::<SegVec<bool>, O>(key),
+            ScalarKind::U8 => self.measure_stored::<SegVec<u8>, O>(key),
+            ScalarKind::I32 => self.measure_stored::<SegVec<i32>, O>(key),
+            ScalarKind::I64 => self.measure_stored::<SegVec<i64>, O>(key),
+            ScalarKind::U64 => self.measure_stored::<SegVec<u64>, O>(key),
         }
     }
 
-    /// The same of a vector of a type.
-    fn measure_vector<T: Scalar, O: Target>(&self, key: &O) -> Result<(u64, u64), Refusal>
+    /// The same of what has storage.
+    fn measure_stored<S: Stored, O: Target>(&self, key: &O) -> Result<(u64, u64), Refusal>
         requires { O.stands key.now self.now }
-        ensures { Answers self.now (λ d. sizes_at_kind d (O.key key.now) (VectorOf T.kind)) result }
+        ensures { Answers self.now (λ d. sizes_at_kind d (O.key key.now) S.kind) result }
     {
-        match self.find_container(key, Kind::Vector(T::kind())) {
+        match self.find_container(key, S::kind()) {
             Err(why) => Err(why),
-            Ok(place) => {
-                let vector = SegVec::<T>::at(place);
-                Ok((vector.len(&self.heap), vector.capacity(&self.heap)))
-            }
-        }
-    }
-
-    /// The same of a string.
-    fn measure_text<O: Target>(&self, key: &O) -> Result<(u64, u64), Refusal>
-        requires { O.stands key.now self.now }
-        ensures { Answers self.now (λ d. sizes_at_kind d (O.key key.now) TextKind) result }
-    {
-        match self.find_container(key, Kind::Text) {
-            Err(why) => Err(why),
-            Ok(place) => {
-                let text = SegString { place };
-                Ok((text.len(&self.heap), text.capacity(&self.heap)))
-            }
-        }
-    }
-
-    /// The same of a vector of strings.
-    fn measure_texts<O: Target>(&self, key: &O) -> Result<(u64, u64), Refusal>
-        requires { O.stands key.now self.now }
-        ensures { Answers self.now (λ d. sizes_at_kind d (O.key key.now) TextsKind) result }
-    {
-        match self.find_container(key, Kind::Texts) {
-            Err(why) => Err(why),
-            Ok(place) => {
-                let texts = SegTexts { place };
-                Ok((texts.len(&self.heap), texts.capacity(&self.heap)))
-            }
+            Ok(place) => Ok(S::sizes(&self.heap, place)),
         }
     }
 
@@ -127,8 +98,8 @@ impl Segment {
         match self.locate(key) {
             Err(why) => Err(why),
             Ok(object) => match object.kind {
-                Kind::Text => self.reserve_text(&object, n),
-                Kind::Texts => self.reserve_texts(&object, n),
+                Kind::Text => self.reserve_stored::<SegString, Object>(&object, n),
+                Kind::Texts => self.reserve_stored::<SegTexts, Object>(&object, n),
                 Kind::Vector(element) => self.reserve_elements(&object, element, n),
                 _ => Err(Refusal::WrongKind),
             },
@@ -144,58 +115,28 @@ impl Segment {
     ) -> Result<(), Refusal>
         requires target { O.stands key.now self.old }
         requires writing { is_read_only self.old.mode ≡ false }
-        ensures step { IsStepOfKind self.old self.new (O.key key.now) (VectorOf kind) (Reserve (O.key key.now) n) (done_answer result) }
-        ensures refused { OnErr result (self.new ≡ self.old) }
+        ensures change { ChangesStorage self.old self.new (O.key key.now) (VectorOf kind) (Reserve (O.key key.now) n) result }
         ensures enough { KeepsWhere self.old self.new (HasPlaces (O.key key.now) n) }
     {
         match kind {
-            ScalarKind::Bool => self.reserve_vector::<bool, O>(key, n),
-            ScalarKind::U8 => self.reserve_vector::<u8, O>(key, n),
-            ScalarKind::I32 => self.reserve_vector::<i32, O>(key, n),
-            ScalarKind::I64 => self.reserve_vector::<i64, O>(key, n),
-            ScalarKind::U64 => self.reserve_vector::<u64, O>(key, n),
+            ScalarKind::Bool => self.reserve_stored::<SegVec<bool>, O>(key, n),
+            ScalarKind::U8 => self.reserve_stored::<SegVec<u8>, O>(key, n),
+            ScalarKind::I32 => self.reserve_stored::<SegVec<i32>, O>(key, n),
+            ScalarKind::I64 => self.reserve_stored::<SegVec<i64>, O>(key, n),
+            ScalarKind::U64 => self.reserve_stored::<SegVec<u64>, O>(key, n),
         }
     }
 
-    /// The same of a vector of a type.
-    fn reserve_vector<T: Scalar, O: Target>(&mut self, key: &O, n: u64) -> Result<(), Refusal>
+    /// The same of what has storage.
+    fn reserve_stored<S: Stored, O: Target>(&mut self, key: &O, n: u64) -> Result<(), Refusal>
         requires target { O.stands key.now self.old }
         requires writing { is_read_only self.old.mode ≡ false }
-        ensures step { IsStepOfKind self.old self.new (O.key key.now) (VectorOf T.kind) (Reserve (O.key key.now) n) (done_answer result) }
-        ensures refused { OnErr result (self.new ≡ self.old) }
+        ensures change { ChangesStorage self.old self.new (O.key key.now) S.kind (Reserve (O.key key.now) n) result }
         ensures enough { KeepsWhere self.old self.new (HasPlaces (O.key key.now) n) }
     {
-        match self.find_container(key, Kind::Vector(T::kind())) {
+        match self.find_container(key, S::kind()) {
             Err(why) => Err(why),
-            Ok(place) => SegVec::<T>::at(place).reserve(&mut self.heap, n),
-        }
-    }
-
-    /// The same of a string.
-    fn reserve_text<O: Target>(&mut self, key: &O, n: u64) -> Result<(), Refusal>
-        requires target { O.stands key.now self.old }
-        requires writing { is_read_only self.old.mode ≡ false }
-        ensures step { IsStepOfKind self.old self.new (O.key key.now) TextKind (Reserve (O.key key.now) n) (done_answer result) }
-        ensures refused { OnErr result (self.new ≡ self.old) }
-        ensures enough { KeepsWhere self.old self.new (HasPlaces (O.key key.now) n) }
-    {
-        match self.find_container(key, Kind::Text) {
-            Err(why) => Err(why),
-            Ok(place) => SegString { place }.reserve(&mut self.heap, n),
-        }
-    }
-
-    /// The same of a vector of strings.
-    fn reserve_texts<O: Target>(&mut self, key: &O, n: u64) -> Result<(), Refusal>
-        requires target { O.stands key.now self.old }
-        requires writing { is_read_only self.old.mode ≡ false }
-        ensures step { IsStepOfKind self.old self.new (O.key key.now) TextsKind (Reserve (O.key key.now) n) (done_answer result) }
-        ensures refused { OnErr result (self.new ≡ self.old) }
-        ensures enough { KeepsWhere self.old self.new (HasPlaces (O.key key.now) n) }
-    {
-        match self.find_container(key, Kind::Texts) {
-            Err(why) => Err(why),
-            Ok(place) => SegTexts { place }.reserve(&mut self.heap, n),
+            Ok(place) => S::reserve(&mut self.heap, place, n),
         }
     }
 
@@ -216,8 +157,8 @@ impl Segment {
         match self.locate(key) {
             Err(why) => Err(why),
             Ok(object) => match object.kind {
-                Kind::Text => self.shrink_text(&object),
-                Kind::Texts => self.shrink_texts(&object),
+                Kind::Text => self.shrink_stored::<SegString, Object>(&object),
+                Kind::Texts => self.shrink_stored::<SegTexts, Object>(&object),
                 Kind::Vector(element) => self.shrink_elements(&object, element),
                 _ => Err(Refusal::WrongKind),
             },
@@ -228,61 +169,27 @@ impl Segment {
     fn shrink_elements<O: Target>(&mut self, key: &O, kind: ScalarKind) -> Result<(), Refusal>
         requires target { O.stands key.now self.old }
         requires writing { is_read_only self.old.mode ≡ false }
-        ensures step { IsStepOfKind self.old self.new (O.key key.now) (VectorOf kind) (Shrink (O.key key.now)) (done_answer result) }
-        ensures refused { OnErr result (self.new ≡ self.old) }
+        ensures { ChangesStorage self.old self.new (O.key key.now) (VectorOf kind) (Shrink (O.key key.now)) result }
     {
         match kind {
-            ScalarKind::Bool => self.shrink_vector::<bool, O>(key),
-            ScalarKind::U8 => self.shrink_vector::<u8, O>(key),
-            ScalarKind::I32 => self.shrink_vector::<i32, O>(key),
-            ScalarKind::I64 => self.shrink_vector::<i64, O>(key),
-            ScalarKind::U64 => self.shrink_vector::<u64, O>(key),
+            ScalarKind::Bool => self.shrink_stored::<SegVec<bool>, O>(key),
+            ScalarKind::U8 => self.shrink_stored::<SegVec<u8>, O>(key),
+            ScalarKind::I32 => self.shrink_stored::<SegVec<i32>, O>(key),
+            ScalarKind::I64 => self.shrink_stored::<SegVec<i64>, O>(key),
+            ScalarKind::U64 => self.shrink_stored::<SegVec<u64>, O>(key),
         }
     }
 
-    /// The same of a vector of a type.
-    fn shrink_vector<T: Scalar, O: Target>(&mut self, key: &O) -> Result<(), Refusal>
+    /// The same of what has storage.
+    fn shrink_stored<S: Stored, O: Target>(&mut self, key: &O) -> Result<(), Refusal>
         requires target { O.stands key.now self.old }
         requires writing { is_read_only self.old.mode ≡ false }
-        ensures step { IsStepOfKind self.old self.new (O.key key.now) (VectorOf T.kind) (Shrink (O.key key.now)) (done_answer result) }
-        ensures refused { OnErr result (self.new ≡ self.old) }
+        ensures { ChangesStorage self.old self.new (O.key key.now) S.kind (Shrink (O.key key.now)) result }
     {
-        match self.find_container(key, Kind::Vector(T::kind())) {
+        match self.find_container(key, S::kind()) {
             Err(why) => Err(why),
             Ok(place) => {
-                SegVec::<T>::at(place).shrink(&mut self.heap);
-                Ok(())
-            }
-        }
-    }
-
-    /// The same of a string.
-    fn shrink_text<O: Target>(&mut self, key: &O) -> Result<(), Refusal>
-        requires target { O.stands key.now self.old }
-        requires writing { is_read_only self.old.mode ≡ false }
-        ensures step { IsStepOfKind self.old self.new (O.key key.now) TextKind (Shrink (O.key key.now)) (done_answer result) }
-        ensures refused { OnErr result (self.new ≡ self.old) }
-    {
-        match self.find_container(key, Kind::Text) {
-            Err(why) => Err(why),
-            Ok(place) => {
-                SegString { place }.shrink(&mut self.heap);
-                Ok(())
-            }
-        }
-    }
-
-    /// The same of a vector of strings.
-    fn shrink_texts<O: Target>(&mut self, key: &O) -> Result<(), Refusal>
-        requires target { O.stands key.now self.old }
-        requires writing { is_read_only self.old.mode ≡ false }
-        ensures step { IsStepOfKind self.old self.new (O.key key.now) TextsKind (Shrink (O.key key.now)) (done_answer result) }
-        ensures refused { OnErr result (self.new ≡ self.old) }
-    {
-        match self.find_container(key, Kind::Texts) {
-            Err(why) => Err(why),
-            Ok(place) => {
-                SegTexts { place }.shrink(&mut self.heap);
+                S::shrink(&mut self.heap, place);
                 Ok(())
             }
         }
@@ -305,8 +212,8 @@ impl Segment {
         match self.locate(key) {
             Err(why) => Err(why),
             Ok(object) => match object.kind {
-                Kind::Text => self.clear_text(&object),
-                Kind::Texts => self.clear_texts(&object),
+                Kind::Text => self.clear_stored::<SegString, Object>(&object),
+                Kind::Texts => self.clear_stored::<SegTexts, Object>(&object),
                 Kind::Vector(element) => self.clear_elements(&object, element),
                 _ => Err(Refusal::WrongKind),
             },
@@ -317,61 +224,27 @@ impl Segment {
     fn clear_elements<O: Target>(&mut self, key: &O, kind: ScalarKind) -> Result<(), Refusal>
         requires target { O.stands key.now self.old }
         requires writing { is_read_only self.old.mode ≡ false }
-        ensures step { IsStepOfKind self.old self.new (O.key key.now) (VectorOf kind) (Clear (O.key key.now)) (done_answer result) }
-        ensures refused { OnErr result (self.new ≡ self.old) }
+        ensures { ChangesStorage self.old self.new (O.key key.now) (VectorOf kind) (Clear (O.key key.now)) result }
     {
         match kind {
-            ScalarKind::Bool => self.clear_vector::<bool, O>(key),
-            ScalarKind::U8 => self.clear_vector::<u8, O>(key),
-            ScalarKind::I32 => self.clear_vector::<i32, O>(key),
-            ScalarKind::I64 => self.clear_vector::<i64, O>(key),
-            ScalarKind::U64 => self.clear_vector::<u64, O>(key),
+            ScalarKind::Bool => self.clear_stored::<SegVec<bool>, O>(key),
+            ScalarKind::U8 => self.clear_stored::<SegVec<u8>, O>(key),
+            ScalarKind::I32 => self.clear_stored::<SegVec<i32>, O>(key),
+            ScalarKind::I64 => self.clear_stored::<SegVec<i64>, O>(key),
+            ScalarKind::U64 => self.clear_stored::<SegVec<u64>, O>(key),
         }
     }
 
-    /// The same of a vector of a type.
-    fn clear_vector<T: Scalar, O: Target>(&mut self, key: &O) -> Result<(), Refusal>
+    /// The same of what has storage.
+    fn clear_stored<S: Stored, O: Target>(&mut self, key: &O) -> Result<(), Refusal>
         requires target { O.stands key.now self.old }
         requires writing { is_read_only self.old.mode ≡ false }
-        ensures step { IsStepOfKind self.old self.new (O.key key.now) (VectorOf T.kind) (Clear (O.key key.now)) (done_answer result) }
-        ensures refused { OnErr result (self.new ≡ self.old) }
+        ensures { ChangesStorage self.old self.new (O.key key.now) S.kind (Clear (O.key key.now)) result }
     {
-        match self.find_container(key, Kind::Vector(T::kind())) {
+        match self.find_container(key, S::kind()) {
             Err(why) => Err(why),
             Ok(place) => {
-                SegVec::<T>::at(place).clear(&mut self.heap);
-                Ok(())
-            }
-        }
-    }
-
-    /// The same of a string.
-    fn clear_text<O: Target>(&mut self, key: &O) -> Result<(), Refusal>
-        requires target { O.stands key.now self.old }
-        requires writing { is_read_only self.old.mode ≡ false }
-        ensures step { IsStepOfKind self.old self.new (O.key key.now) TextKind (Clear (O.key key.now)) (done_answer result) }
-        ensures refused { OnErr result (self.new ≡ self.old) }
-    {
-        match self.find_container(key, Kind::Text) {
-            Err(why) => Err(why),
-            Ok(place) => {
-                SegString { place }.clear(&mut self.heap);
-                Ok(())
-            }
-        }
-    }
-
-    /// The same of a vector of strings.
-    fn clear_texts<O: Target>(&mut self, key: &O) -> Result<(), Refusal>
-        requires target { O.stands key.now self.old }
-        requires writing { is_read_only self.old.mode ≡ false }
-        ensures step { IsStepOfKind self.old self.new (O.key key.now) TextsKind (Clear (O.key key.now)) (done_answer result) }
-        ensures refused { OnErr result (self.new ≡ self.old) }
-    {
-        match self.find_container(key, Kind::Texts) {
-            Err(why) => Err(why),
-            Ok(place) => {
-                SegTexts { place }.clear(&mut self.heap);
+                S::clear(&mut self.heap, place);
                 Ok(())
             }
         }

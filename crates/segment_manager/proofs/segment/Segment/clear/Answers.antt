@@ -20,21 +20,21 @@ returns-in-Err-clause-step g c =
     let writing : is_read_only c.args.self.now.mode ≡ false = sym c.is_read_only.ensures ∙ c.if-is_read_only.false in
     nowhere-steps c.args.self.now key c.in-Err.why (Clear key) writing c.in-Err.ensures (λ d e. clear-nowhere d key e)
 
-pub clear_text-requires-clause-writing : goal.clear_text-requires-clause-writing
-clear_text-requires-clause-writing g c = sym c.is_read_only.ensures ∙ c.if-is_read_only.false
+pub clear_stored-requires-clause-writing : goal.clear_stored-requires-clause-writing
+clear_stored-requires-clause-writing g c = sym c.is_read_only.ensures ∙ c.if-is_read_only.false
 
 pub returns-in-Text-clause-step : goal.returns-in-Text-clause-step
 returns-in-Text-clause-step g c =
     let key : Key = g.O.Target.key c.args.key.now in
-    located-steps c.args.self.now key c.in-Ok.object c.in-Ok.ensures c.clear_text.new.self Text (Clear key) (done_answer c.clear_text.result) c.in-Text.is c.clear_text.ensures.step
+    located-steps c.args.self.now key c.in-Ok.object c.in-Ok.ensures c.clear_stored.new.self Text (Clear key) (done_answer c.clear_stored.result) c.in-Text.is c.clear_stored.ensures.step
 
-pub clear_texts-requires-clause-writing : goal.clear_texts-requires-clause-writing
-clear_texts-requires-clause-writing g c = sym c.is_read_only.ensures ∙ c.if-is_read_only.false
+pub clear_stored-requires-in-Texts-clause-writing : goal.clear_stored-requires-in-Texts-clause-writing
+clear_stored-requires-in-Texts-clause-writing g c = sym c.is_read_only.ensures ∙ c.if-is_read_only.false
 
 pub returns-in-Texts-clause-step : goal.returns-in-Texts-clause-step
 returns-in-Texts-clause-step g c =
     let key : Key = g.O.Target.key c.args.key.now in
-    located-steps c.args.self.now key c.in-Ok.object c.in-Ok.ensures c.clear_texts.new.self Texts (Clear key) (done_answer c.clear_texts.result) c.in-Texts.is c.clear_texts.ensures.step
+    located-steps c.args.self.now key c.in-Ok.object c.in-Ok.ensures c.clear_stored-in-Texts.new.self Texts (Clear key) (done_answer c.clear_stored-in-Texts.result) c.in-Texts.is c.clear_stored-in-Texts.ensures.step
 
 pub clear_elements-requires-clause-writing : goal.clear_elements-requires-clause-writing
 clear_elements-requires-clause-writing g c = sym c.is_read_only.ensures ∙ c.if-is_read_only.false

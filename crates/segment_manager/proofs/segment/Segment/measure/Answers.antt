@@ -11,12 +11,12 @@ returns-in-Err g c = measures-nowhere c.args.self.now (g.O.Target.key c.args.key
 pub returns-in-Text : goal.returns-in-Text
 returns-in-Text g c =
     let key : Key = g.O.Target.key c.args.key.now in
-    located-measures c.args.self.now key c.in-Ok.object c.in-Ok.ensures Text c.measure_text.result c.in-Text.is c.measure_text.ensures
+    located-measures c.args.self.now key c.in-Ok.object c.in-Ok.ensures Text c.measure_stored.result c.in-Text.is c.measure_stored.ensures
 
 pub returns-in-Texts : goal.returns-in-Texts
 returns-in-Texts g c =
     let key : Key = g.O.Target.key c.args.key.now in
-    located-measures c.args.self.now key c.in-Ok.object c.in-Ok.ensures Texts c.measure_texts.result c.in-Texts.is c.measure_texts.ensures
+    located-measures c.args.self.now key c.in-Ok.object c.in-Ok.ensures Texts c.measure_stored-in-Texts.result c.in-Texts.is c.measure_stored-in-Texts.ensures
 
 pub returns-in-Vector : goal.returns-in-Vector
 returns-in-Vector g c =

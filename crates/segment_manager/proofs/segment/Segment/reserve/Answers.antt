@@ -20,21 +20,21 @@ returns-in-Err-clause-step g c =
     let writing : is_read_only c.args.self.now.mode ≡ false = sym c.is_read_only.ensures ∙ c.if-is_read_only.false in
     nowhere-steps c.args.self.now key c.in-Err.why (Reserve key c.args.n) writing c.in-Err.ensures (λ d e. reserve-nowhere d key e c.args.n)
 
-pub reserve_text-requires-clause-writing : goal.reserve_text-requires-clause-writing
-reserve_text-requires-clause-writing g c = sym c.is_read_only.ensures ∙ c.if-is_read_only.false
+pub reserve_stored-requires-clause-writing : goal.reserve_stored-requires-clause-writing
+reserve_stored-requires-clause-writing g c = sym c.is_read_only.ensures ∙ c.if-is_read_only.false
 
 pub returns-in-Text-clause-step : goal.returns-in-Text-clause-step
 returns-in-Text-clause-step g c =
     let key : Key = g.O.Target.key c.args.key.now in
-    located-steps c.args.self.now key c.in-Ok.object c.in-Ok.ensures c.reserve_text.new.self Text (Reserve key c.args.n) (done_answer c.reserve_text.result) c.in-Text.is c.reserve_text.ensures.step
+    located-steps c.args.self.now key c.in-Ok.object c.in-Ok.ensures c.reserve_stored.new.self Text (Reserve key c.args.n) (done_answer c.reserve_stored.result) c.in-Text.is c.reserve_stored.ensures.change.step
 
-pub reserve_texts-requires-clause-writing : goal.reserve_texts-requires-clause-writing
-reserve_texts-requires-clause-writing g c = sym c.is_read_only.ensures ∙ c.if-is_read_only.false
+pub reserve_stored-requires-in-Texts-clause-writing : goal.reserve_stored-requires-in-Texts-clause-writing
+reserve_stored-requires-in-Texts-clause-writing g c = sym c.is_read_only.ensures ∙ c.if-is_read_only.false
 
 pub returns-in-Texts-clause-step : goal.returns-in-Texts-clause-step
 returns-in-Texts-clause-step g c =
     let key : Key = g.O.Target.key c.args.key.now in
-    located-steps c.args.self.now key c.in-Ok.object c.in-Ok.ensures c.reserve_texts.new.self Texts (Reserve key c.args.n) (done_answer c.reserve_texts.result) c.in-Texts.is c.reserve_texts.ensures.step
+    located-steps c.args.self.now key c.in-Ok.object c.in-Ok.ensures c.reserve_stored-in-Texts.new.self Texts (Reserve key c.args.n) (done_answer c.reserve_stored-in-Texts.result) c.in-Texts.is c.reserve_stored-in-Texts.ensures.change.step
 
 pub reserve_elements-requires-clause-writing : goal.reserve_elements-requires-clause-writing
 reserve_elements-requires-clause-writing g c = sym c.is_read_only.ensures ∙ c.if-is_read_only.false
@@ -42,7 +42,7 @@ reserve_elements-requires-clause-writing g c = sym c.is_read_only.ensures ∙ c.
 pub returns-in-Vector-clause-step : goal.returns-in-Vector-clause-step
 returns-in-Vector-clause-step g c =
     let key : Key = g.O.Target.key c.args.key.now in
-    located-steps c.args.self.now key c.in-Ok.object c.in-Ok.ensures c.reserve_elements.new.self (Vector c.in-Vector.element) (Reserve key c.args.n) (done_answer c.reserve_elements.result) c.in-Vector.is c.reserve_elements.ensures.step
+    located-steps c.args.self.now key c.in-Ok.object c.in-Ok.ensures c.reserve_elements.new.self (Vector c.in-Vector.element) (Reserve key c.args.n) (done_answer c.reserve_elements.result) c.in-Vector.is c.reserve_elements.ensures.change.step
 
 pub returns-in_default-clause-step : goal.returns-in_default-clause-step
 returns-in_default-clause-step g c =
@@ -53,10 +53,10 @@ returns-in_default-clause-step g c =
     kind-no_storage c.args.self.now key c.in-Ok.object.kind (otherwise-no_storage c.in-Ok.object.kind c.in_default.not-Text c.in_default.not-Texts c.in_default.not-Vector) (kind-by_key c.args.self.now key c.in-Ok.object c.in-Ok.ensures) d l)
 
 pub returns-in-Text-clause-enough : goal.returns-in-Text-clause-enough
-returns-in-Text-clause-enough g c = places-by_key c.args.self.now (g.O.Target.key c.args.key.now) c.in-Ok.object c.in-Ok.ensures c.reserve_text.new.self c.args.n c.reserve_text.ensures.enough
+returns-in-Text-clause-enough g c = places-by_key c.args.self.now (g.O.Target.key c.args.key.now) c.in-Ok.object c.in-Ok.ensures c.reserve_stored.new.self c.args.n c.reserve_stored.ensures.enough
 
 pub returns-in-Texts-clause-enough : goal.returns-in-Texts-clause-enough
-returns-in-Texts-clause-enough g c = places-by_key c.args.self.now (g.O.Target.key c.args.key.now) c.in-Ok.object c.in-Ok.ensures c.reserve_texts.new.self c.args.n c.reserve_texts.ensures.enough
+returns-in-Texts-clause-enough g c = places-by_key c.args.self.now (g.O.Target.key c.args.key.now) c.in-Ok.object c.in-Ok.ensures c.reserve_stored-in-Texts.new.self c.args.n c.reserve_stored-in-Texts.ensures.enough
 
 pub returns-in-Vector-clause-enough : goal.returns-in-Vector-clause-enough
 returns-in-Vector-clause-enough g c = places-by_key c.args.self.now (g.O.Target.key c.args.key.now) c.in-Ok.object c.in-Ok.ensures c.reserve_elements.new.self c.args.n c.reserve_elements.ensures.enough

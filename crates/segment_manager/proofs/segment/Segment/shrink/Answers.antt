@@ -20,21 +20,21 @@ returns-in-Err-clause-step g c =
     let writing : is_read_only c.args.self.now.mode ≡ false = sym c.is_read_only.ensures ∙ c.if-is_read_only.false in
     nowhere-steps c.args.self.now key c.in-Err.why (Shrink key) writing c.in-Err.ensures (λ d e. shrink-nowhere d key e)
 
-pub shrink_text-requires-clause-writing : goal.shrink_text-requires-clause-writing
-shrink_text-requires-clause-writing g c = sym c.is_read_only.ensures ∙ c.if-is_read_only.false
+pub shrink_stored-requires-clause-writing : goal.shrink_stored-requires-clause-writing
+shrink_stored-requires-clause-writing g c = sym c.is_read_only.ensures ∙ c.if-is_read_only.false
 
 pub returns-in-Text-clause-step : goal.returns-in-Text-clause-step
 returns-in-Text-clause-step g c =
     let key : Key = g.O.Target.key c.args.key.now in
-    located-steps c.args.self.now key c.in-Ok.object c.in-Ok.ensures c.shrink_text.new.self Text (Shrink key) (done_answer c.shrink_text.result) c.in-Text.is c.shrink_text.ensures.step
+    located-steps c.args.self.now key c.in-Ok.object c.in-Ok.ensures c.shrink_stored.new.self Text (Shrink key) (done_answer c.shrink_stored.result) c.in-Text.is c.shrink_stored.ensures.step
 
-pub shrink_texts-requires-clause-writing : goal.shrink_texts-requires-clause-writing
-shrink_texts-requires-clause-writing g c = sym c.is_read_only.ensures ∙ c.if-is_read_only.false
+pub shrink_stored-requires-in-Texts-clause-writing : goal.shrink_stored-requires-in-Texts-clause-writing
+shrink_stored-requires-in-Texts-clause-writing g c = sym c.is_read_only.ensures ∙ c.if-is_read_only.false
 
 pub returns-in-Texts-clause-step : goal.returns-in-Texts-clause-step
 returns-in-Texts-clause-step g c =
     let key : Key = g.O.Target.key c.args.key.now in
-    located-steps c.args.self.now key c.in-Ok.object c.in-Ok.ensures c.shrink_texts.new.self Texts (Shrink key) (done_answer c.shrink_texts.result) c.in-Texts.is c.shrink_texts.ensures.step
+    located-steps c.args.self.now key c.in-Ok.object c.in-Ok.ensures c.shrink_stored-in-Texts.new.self Texts (Shrink key) (done_answer c.shrink_stored-in-Texts.result) c.in-Texts.is c.shrink_stored-in-Texts.ensures.step
 
 pub shrink_elements-requires-clause-writing : goal.shrink_elements-requires-clause-writing
 shrink_elements-requires-clause-writing g c = sym c.is_read_only.ensures ∙ c.if-is_read_only.false

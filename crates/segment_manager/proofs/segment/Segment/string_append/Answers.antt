@@ -2,7 +2,8 @@
 use Rattle.std.proofs.Common.{refl, arith}
 use Rattle.seg_types.specs.declared.kinds.Kind.TheVariants.{Text}
 use Rattle.seg_types.specs.Commands.{Append}
-use Rattle.segment_manager.proofs.Safely.{StepsSafely, safe-refused, safe-segment, safe-step}
+use Rattle.segment_manager.specs.Stored.{StepsSafely}
+use Rattle.segment_manager.proofs.Safely.{safe-refused, safe-segment, safe-step}
 use Rattle.segment_manager.proofs.TextAnswers.{fits-bytes, text-appended, some-text}
 use Rattle.segment_manager.proofs.ToChange.{seen-to_change}
 use Rattle.segment_manager.proofs.segment.Segment.string_append.Goals as goal

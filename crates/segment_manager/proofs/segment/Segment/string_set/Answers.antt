@@ -4,7 +4,8 @@ use Rattle.seg_types.specs.declared.kinds.Kind.TheVariants.{Text}
 use Rattle.std.proofs.lemmas.Bool.{lt-ltb}
 use Rattle.seg_types.specs.declared.kinds.ScalarKind.TheVariants.{U8}
 use Rattle.seg_types.specs.Commands.{Set, literal_of}
-use Rattle.segment_manager.proofs.Safely.{StepsSafely, safe-refused, safe-segment, safe-step}
+use Rattle.segment_manager.specs.Stored.{StepsSafely}
+use Rattle.segment_manager.proofs.Safely.{safe-refused, safe-segment, safe-step}
 use Rattle.segment_manager.proofs.TextAnswers.{byte-value, text-set, some-text}
 use Rattle.segment_manager.proofs.ToChange.{seen-to_change}
 use Rattle.segment_manager.proofs.segment.Segment.string_set.Goals as goal

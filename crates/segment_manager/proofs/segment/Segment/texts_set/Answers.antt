@@ -2,7 +2,8 @@
 use Rattle.std.proofs.Common.{refl, arith}
 use Rattle.seg_types.specs.declared.kinds.Kind.TheVariants.{Texts}
 use Rattle.seg_types.specs.Commands.{Quoted, Set}
-use Rattle.segment_manager.proofs.Safely.{StepsSafely, safe-refused, safe-segment, safe-step}
+use Rattle.segment_manager.specs.Stored.{StepsSafely}
+use Rattle.segment_manager.proofs.Safely.{safe-refused, safe-segment, safe-step}
 use Rattle.segment_manager.proofs.TextAnswers.{fits-bytes}
 use Rattle.segment_manager.proofs.TextListCalls.{text-set}
 use Rattle.segment_manager.proofs.TextsHeld.{some-texts}

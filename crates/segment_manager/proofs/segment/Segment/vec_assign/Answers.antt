@@ -2,7 +2,8 @@
 use Rattle.std.proofs.Common.{refl, subst, map}
 use Rattle.seg_types.specs.declared.kinds.Kind.TheVariants.{Vector}
 use Rattle.seg_types.specs.Commands.{Assign, literal_of}
-use Rattle.segment_manager.proofs.Safely.{StepsSafely, safe-refused, safe-segment, safe-step}
+use Rattle.segment_manager.specs.Stored.{StepsSafely}
+use Rattle.segment_manager.proofs.Safely.{safe-refused, safe-segment, safe-step}
 use Rattle.segment_manager.proofs.VectorAnswers.{some-vector, vector-assigned}
 use Rattle.segment_manager.proofs.Whole.{IsOfKind}
 use Rattle.segment_manager.specs.ToChange.{IsNotToChange}

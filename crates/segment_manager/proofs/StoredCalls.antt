@@ -1,0 +1,35 @@
+-- The calls on what has storage, as the code makes them: the container is found, and then the call at its place is the step.
+use Rattle.std.proofs.Common.{◌≡◌, refl, sym, subst, false, Ok, Err, Result}
+use Rattle.raw_region.specs.Memory.{Cut}
+use Rattle.seg_types.specs.declared.kinds.Kind.{Kind}
+use Rattle.seg_types.specs.declared.refusals.Refusal.{Refusal}
+use Rattle.seg_types.specs.Commands.{Command}
+use Rattle.seg_types.specs.Names.{Key}
+use Rattle.seg_vector.specs.declared.places.Place.{Place}
+use Rattle.segment_manager.specs.Contents.{container_at}
+use Rattle.segment_manager.specs.State.{Answers, State}
+use Rattle.segment_manager.specs.Step.{is_read_only}
+use Rattle.segment_manager.specs.Stored.{ChangesStorage, StandsThere, StepsSafely}
+use Rattle.segment_manager.proofs.Refilled.{finds-no_container}
+use Rattle.segment_manager.proofs.Safely.{safe-refused, safe-step}
+use Rattle.segment_manager.proofs.Steps.{open-writing}
+
+-- where it is found
+pub stands-there : (s t : State) (view : s ≡ t) (key : Key) (l kind : Kind) (p : Place) → l ≡ kind → Answers t (λ d. container_at d key l) (Ok p) → StandsThere s.cut kind p key
+stands-there s t view key l kind p e found =
+    let at : Answers s (λ d. container_at d key kind) (Ok p) =
+    subst (λ (u : State). Answers u (λ d. container_at d key kind) (Ok p)) (sym view) (subst (λ (m : Kind). Answers t (λ d. container_at d key m) (Ok p)) e found) in
+    at.answers
+
+-- it is found, and changed
+pub storage-changed : (s t : State) (view : s ≡ t) (new : Cut) (key : Key) (kind : Kind) (c : Command) (r : Result (Unit {0}) Refusal) → StepsSafely s new key kind c r
+    → ChangesStorage t (record s { cut = new }) key kind c r
+storage-changed s t view new key kind c r done = record { step = safe-step s t view new key kind c r done; refused = safe-refused s t view new key kind c r done }
+
+-- or it is not there
+pub storage-missing : (t : State) (key : Key) (l kind : Kind) (c : Command) (why : Refusal) → is_read_only t.mode ≡ false → l ≡ kind → Answers t (λ d. container_at d key l) (Err why)
+    → ChangesStorage t t key kind c (Err why)
+storage-missing t key l kind c why writing e none = record {
+  step = finds-no_container t key kind c why (open-writing t.mode c writing) (subst (λ (m : Kind). Answers t (λ d. container_at d key m) (Err why)) e none);
+  refused = refl;
+}

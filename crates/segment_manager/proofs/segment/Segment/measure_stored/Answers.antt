@@ -1,0 +1,27 @@
+-- The sizes are those of the container that is found.
+use Rattle.std.proofs.Common.{subst, Ok, Err}
+use Rattle.seg_types.specs.declared.kinds.Kind.{Kind}
+use Rattle.seg_types.specs.Names.{Key}
+use Rattle.segment_manager.specs.Contents.{container_at, sizes_at_kind}
+use Rattle.segment_manager.specs.State.{Answers, State}
+use Rattle.segment_manager.proofs.AnyStorage.{measures-nothing}
+use Rattle.segment_manager.proofs.StoredCalls.{stands-there}
+use Rattle.segment_manager.proofs.segment.Segment.measure_stored.Goals as goal
+
+pub sizes-requires : goal.sizes-requires
+sizes-requires g c =
+    let s : State = record { cut = c.self.inside.heap; mode = c.self.inside.mode } in
+    let key : Key = g.O.Target.key c.args.key.now in
+    (c.self.invariant, (key, stands-there s c.args.self.now c.self.view_is key c.kind.result g.S.Stored.kind c.in-Ok.place c.kind.ensures c.in-Ok.ensures))
+
+pub returns-in-Err : goal.returns-in-Err
+returns-in-Err g c =
+    let key : Key = g.O.Target.key c.args.key.now in
+    measures-nothing c.args.self.now key g.S.Stored.kind c.in-Err.why (subst (λ (l : Kind). Answers c.args.self.now (λ d. container_at d key l) (Err c.in-Err.why)) c.kind.ensures c.in-Err.ensures)
+
+pub returns-in-Ok : goal.returns-in-Ok
+returns-in-Ok g c =
+    let s : State = record { cut = c.self.inside.heap; mode = c.self.inside.mode } in
+    let key : Key = g.O.Target.key c.args.key.now in
+    subst (λ (t : State). Answers t (λ d. sizes_at_kind d key g.S.Stored.kind) (Ok c.sizes.result)) c.self.view_is
+    (record { answers = c.sizes.ensures key (stands-there s c.args.self.now c.self.view_is key c.kind.result g.S.Stored.kind c.in-Ok.place c.kind.ensures c.in-Ok.ensures) })

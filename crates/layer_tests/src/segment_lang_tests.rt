@@ -18,9 +18,22 @@ use std::test::Fail;
 // A command is moved as it is, so it is small.
 const _: () = prove!(size_of::<Key<'static>>() <= 24);
 
-const _: () = prove!(size_of::<Literal<'static>>() <= 48);
+const _: () = prove!(size_of::<Literal<'static>>() <= 24);
 
-const _: () = prove!(size_of::<Command<'static>>() <= 112);
+const _: () = prove!(size_of::<Command<'static>>() <= 64);
+
+/// The whole number that a word spells.
+fn whole(word: &[u8]) -> Option<i128> {
+    Some(whole_of(word)?.get())
+}
+
+/// Whether a literal is this whole number.
+fn is_whole(literal: Option<Literal<'_>>, wanted: i128) -> bool {
+    match literal {
+        Some(Literal::Whole(number)) => number.get() == wanted,
+        _ => false,
+    }
+}
 
 /// A line begins with no word.
 fn has_no_word(rt: &impl Abort, line: &[u8]) {
@@ -86,7 +99,7 @@ fn literals_are_read_one_after_another(rt: HostRuntime) {
     let mut scratch = Text::new();
     match parse_line(b"assign v 5 true", &mut scratch) {
         Reading::Asked(Command::Assign { mut values, .. }) => {
-            holds(&rt, matches!(values.next(), Some(Literal::Whole(5))));
+            holds(&rt, is_whole(values.next(), 5));
             holds(&rt, matches!(values.next(), Some(Literal::Truth(true))));
             holds(&rt, values.next().is_none());
         }
@@ -114,7 +127,7 @@ fn words_come_one_after_another(rt: HostRuntime) {
 #[test]
 fn a_word_is_a_literal(rt: HostRuntime) {
     let number = literal_of(first_word(&rt, b"-7").0);
-    holds(&rt, matches!(number, Some(Literal::Whole(-7))));
+    holds(&rt, is_whole(number, -7));
     let text = literal_of(first_word(&rt, b"\"true\"").0);
     holds(&rt, matches!(text, Some(Literal::Quoted(_))));
     let truth = literal_of(first_word(&rt, b"true").0);
@@ -175,11 +188,11 @@ fn numbers_have_one_spelling(rt: HostRuntime) {
 
 #[test]
 fn whole_numbers_have_one_spelling(rt: HostRuntime) {
-    let least = whole_of(b"-9223372036854775808");
+    let least = whole(b"-9223372036854775808");
     same(&rt, least, Some(-9223372036854775808));
-    same(&rt, whole_of(b"-9223372036854775809"), None);
-    same(&rt, whole_of(b"-0"), None);
-    let most = whole_of(b"18446744073709551615");
+    same(&rt, whole(b"-9223372036854775809"), None);
+    same(&rt, whole(b"-0"), None);
+    let most = whole(b"18446744073709551615");
     same(&rt, most, Some(18446744073709551615));
 }
 

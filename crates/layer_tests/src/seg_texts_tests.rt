@@ -152,7 +152,7 @@ fn texts_give_their_blocks_back(rt: HostRuntime) -> Result<(), Fail> {
     Ok(())
 }
 
-// Nothing is lost where there is no space: neither for a longer array, nor for a text, for which the array had been lengthened.
+// Nothing is lost where there is no space for a longer array or for a text.
 #[test]
 fn a_text_finds_no_place(rt: HostRuntime) -> Result<(), Fail> {
     let (mut heap, texts) = begun(rt.alloc())?;

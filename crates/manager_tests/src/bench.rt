@@ -1,5 +1,5 @@
-//! A segment under test: each call compares what a call of the segment answers under a name with what is wanted, so that a test is a
-//! line of calls without facts.
+//! A segment under test: each call compares what a call of the segment answers under a name with what is wanted, so
+//! that a test is a line of calls without facts.
 ghost use Rattle.std.specs.Prelude.{◌≤◌};
 
 use crate::checks::same;
@@ -58,11 +58,6 @@ impl Bench {
     /// `find`: handle and count, or nothing.
     pub fn finds<T: Scalar>(&self, rt: &impl Abort, name: &[u8], found: Found) {
         same(rt, self.segment.find::<T>(&named(rt, name)), found);
-    }
-
-    /// `find_kind`: handle and count, or nothing.
-    pub fn finds_kind(&self, rt: &impl Abort, name: &[u8], kind: Kind, found: Found) {
-        same(rt, self.segment.find_kind(&named(rt, name), kind), found);
     }
 
     /// `get`: the element at `i`.

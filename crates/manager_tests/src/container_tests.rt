@@ -2,11 +2,10 @@
 use crate::checks::same;
 use crate::segments::fresh;
 use seg_types::{Key, NewKey, Refusal};
-use std::test::Fail;
 
 #[test]
-fn elements_of_a_vector(rt: HostRuntime) -> Result<(), Fail> {
-    let mut bench = fresh(&rt, rt.alloc(), 1024)?;
+fn elements_of_a_vector(rt: HostRuntime) {
+    let mut bench = fresh(&rt, rt.alloc(), 1024);
     let segment = &mut bench.segment;
     let made = segment.construct_vec(&NewKey::Anonymous, &[1i32, 2, 3]);
     same(&rt, made, Ok(144));
@@ -16,12 +15,11 @@ fn elements_of_a_vector(rt: HostRuntime) -> Result<(), Fail> {
     let set = segment.vec_set(&key, 3, 0i32);
     same(&rt, set, Err(Refusal::OutOfRange));
     same(&rt, segment.vec_get(&key, 2), Ok(3i32));
-    Ok(())
 }
 
 #[test]
-fn bytes_of_a_string(rt: HostRuntime) -> Result<(), Fail> {
-    let mut bench = fresh(&rt, rt.alloc(), 1024)?;
+fn bytes_of_a_string(rt: HostRuntime) {
+    let mut bench = fresh(&rt, rt.alloc(), 1024);
     let segment = &mut bench.segment;
     let made = segment.construct_string(&NewKey::Anonymous, b"abc");
     same(&rt, made, Ok(144));
@@ -31,5 +29,4 @@ fn bytes_of_a_string(rt: HostRuntime) -> Result<(), Fail> {
     same(&rt, set, Err(Refusal::OutOfRange));
     let bytes = segment.string_bytes(&key);
     same(&rt, bytes, Ok(b"a\xFFc".as_slice()));
-    Ok(())
 }

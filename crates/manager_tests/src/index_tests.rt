@@ -6,7 +6,6 @@ use block_tags::Role;
 use seg_types::{Kind, NewKey, ScalarKind};
 use segment_manager::Span;
 use std::process::Abort;
-use std::test::Fail;
 
 /// Five names, the last one first: the index is moved to 368, and where it stood is a gap.
 fn five_names(rt: &impl Abort, bench: &mut Bench) {
@@ -18,8 +17,8 @@ fn five_names(rt: &impl Abort, bench: &mut Bench) {
 }
 
 #[test]
-fn names_rise(rt: HostRuntime) -> Result<(), Fail> {
-    let mut bench = fresh(&rt, rt.alloc(), 1024)?;
+fn names_rise(rt: HostRuntime) {
+    let mut bench = fresh(&rt, rt.alloc(), 1024);
     five_names(&rt, &mut bench);
     same(&rt, bench.segment.num_named(), 5);
     named_is(&rt, &bench, 0, 464);
@@ -27,7 +26,6 @@ fn names_rise(rt: HostRuntime) -> Result<(), Fail> {
     named_is(&rt, &bench, 2, 288);
     named_is(&rt, &bench, 3, 240);
     named_is(&rt, &bench, 4, 192);
-    Ok(())
 }
 
 /// The tile with so many before it.
@@ -41,8 +39,8 @@ fn tile_is(rt: &impl Abort, bench: &Bench, i: u64, offset: u64, len: u64, use_of
 }
 
 #[test]
-fn tiles_follow_one_another(rt: HostRuntime) -> Result<(), Fail> {
-    let mut bench = fresh(&rt, rt.alloc(), 1024)?;
+fn tiles_follow_one_another(rt: HostRuntime) {
+    let mut bench = fresh(&rt, rt.alloc(), 1024);
     five_names(&rt, &mut bench);
     tile_is(&rt, &bench, 0, 128, 48, None);
     tile_is(&rt, &bench, 1, 176, 48, Some(Role::Object));
@@ -51,12 +49,11 @@ fn tiles_follow_one_another(rt: HostRuntime) -> Result<(), Fail> {
     tile_is(&rt, &bench, 6, 448, 48, Some(Role::Object));
     tile_is(&rt, &bench, 7, 496, 512, None);
     same(&rt, bench.segment.tile(8), None);
-    Ok(())
 }
 
 #[test]
-fn kinds_rise(rt: HostRuntime) -> Result<(), Fail> {
-    let mut bench = fresh(&rt, rt.alloc(), 1024)?;
+fn kinds_rise(rt: HostRuntime) {
+    let mut bench = fresh(&rt, rt.alloc(), 1024);
     let segment = &mut bench.segment;
     let unique = |kind| NewKey::Unique(Kind::Scalar(kind));
     let made = segment.construct(&unique(ScalarKind::U64), 1, 9u64);
@@ -69,5 +66,4 @@ fn kinds_rise(rt: HostRuntime) -> Result<(), Fail> {
     unique_is(&rt, &bench, 0, 288);
     unique_is(&rt, &bench, 1, 240);
     unique_is(&rt, &bench, 2, 192);
-    Ok(())
 }

@@ -10,7 +10,6 @@ use crate::segments::{fresh, new_named, opened};
 use seg_types::{Handle, Key, Kind, NewKey, Refusal, ScalarKind};
 use segment_manager::Mode;
 use std::process::Abort;
-use std::test::Fail;
 
 /// The kind of objects of i64.
 const I64: Kind = Kind::Scalar(ScalarKind::I64);
@@ -35,20 +34,19 @@ fn takes(
 }
 
 #[test]
-fn items_become_elements(rt: HostRuntime) -> Result<(), Fail> {
-    let mut bench = fresh(&rt, rt.alloc(), 1024)?;
+fn items_become_elements(rt: HostRuntime) {
+    let mut bench = fresh(&rt, rt.alloc(), 1024);
     let v = new_named(&rt, b"v");
     takes(&rt, &mut bench, &v, 3, 9, Ok(192), Some(4));
     bench.has(&rt, b"v", 0, Ok(1i64));
     bench.has(&rt, b"v", 2, Ok(3i64));
     bench.has::<i64>(&rt, b"v", 3, Err(Refusal::OutOfRange));
     bench.has_free(&rt, 768);
-    Ok(())
 }
 
 #[test]
-fn too_few_items_make_nothing(rt: HostRuntime) -> Result<(), Fail> {
-    let mut bench = fresh(&rt, rt.alloc(), 1024)?;
+fn too_few_items_make_nothing(rt: HostRuntime) {
+    let mut bench = fresh(&rt, rt.alloc(), 1024);
     let few = Err(Refusal::OutOfRange);
     let (v, none, only) = (new_named(&rt, b"v"), NewKey::Anonymous, NewKey::Unique(I64));
     takes(&rt, &mut bench, &v, 3, 1, few, None);
@@ -57,12 +55,11 @@ fn too_few_items_make_nothing(rt: HostRuntime) -> Result<(), Fail> {
     takes(&rt, &mut bench, &only, 3, 2, few, None);
     bench.has_free(&rt, 880);
     takes(&rt, &mut bench, &v, 3, 4, Ok(192), None);
-    Ok(())
 }
 
 #[test]
-fn no_item_is_taken_where_there_is_no_space(rt: HostRuntime) -> Result<(), Fail> {
-    let mut bench = fresh(&rt, rt.alloc(), 1024)?;
+fn no_item_is_taken_where_there_is_no_space(rt: HostRuntime) {
+    let mut bench = fresh(&rt, rt.alloc(), 1024);
     bench.makes(&rt, b"v", 1, 7i64, 192);
     let (v, w) = (new_named(&rt, b"v"), new_named(&rt, b"w"));
     let (exists, no_space) = (Err(Refusal::Exists), Err(Refusal::NoSpace));
@@ -72,14 +69,13 @@ fn no_item_is_taken_where_there_is_no_space(rt: HostRuntime) -> Result<(), Fail>
     // more items than there are, and no gap for them either
     takes(&rt, &mut bench, &w, 94, 9, no_space, Some(1));
     bench.has_free(&rt, 784);
-    Ok(())
 }
 
 #[test]
-fn no_item_is_taken_of_what_is_only_read(rt: HostRuntime) -> Result<(), Fail> {
-    let mut bench = fresh(&rt, rt.alloc(), 1024)?;
+fn no_item_is_taken_of_what_is_only_read(rt: HostRuntime) {
+    let mut bench = fresh(&rt, rt.alloc(), 1024);
     bench.makes(&rt, b"v", 1, 7i64, 192);
-    let mut read = opened(&rt, rt.alloc(), &bench, Mode::ReadOnly)?;
+    let mut read = opened(&rt, rt.alloc(), &bench, Mode::ReadOnly);
     let refused = Err(Refusal::ReadOnly);
     takes(
         &rt,
@@ -99,12 +95,11 @@ fn no_item_is_taken_of_what_is_only_read(rt: HostRuntime) -> Result<(), Fail> {
         refused,
         Some(1),
     );
-    Ok(())
 }
 
 #[test]
-fn items_of_other_kinds(rt: HostRuntime) -> Result<(), Fail> {
-    let mut bench = fresh(&rt, rt.alloc(), 1024)?;
+fn items_of_other_kinds(rt: HostRuntime) {
+    let mut bench = fresh(&rt, rt.alloc(), 1024);
     let segment = &mut bench.segment;
     let mut truths = [true, false].into_iter();
     let made = segment.construct_it(&NewKey::Anonymous, 2, &mut truths);
@@ -114,5 +109,4 @@ fn items_of_other_kinds(rt: HostRuntime) -> Result<(), Fail> {
     let made = segment.construct_it(&only, 5, &mut (250u8..255));
     same(&rt, made, Ok(240));
     same(&rt, segment.get(&Key::Handle(240), 4), Ok(254u8));
-    Ok(())
 }

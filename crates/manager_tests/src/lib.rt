@@ -1,5 +1,5 @@
-//! Tests of objects in segments, of regions and of the check of images, by public calls that no script makes. What scripts and
-//! images say is in the row files of `rows`.
+//! Tests of objects in segments, of regions and of the check of images, by public calls that no script makes. What
+//! scripts and images say is in the row files of `rows`.
 #![tactic(auto)]
 
 #[cfg(test)]

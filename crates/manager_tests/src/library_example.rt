@@ -15,9 +15,12 @@ fn saved(rt: &impl Abort, alloc: Global) -> Result<Vec<u8>, Fail> {
     let Ok(mut segment) = Segment::create(region, 0, 1024, Mode::Write) else {
         panic!(rt; "no segment");
     };
-    segment.construct(&new_named(rt, b"samples"), 3, 7i64)?;
-    segment.construct(&new_named(rt, b"width"), 1, 640i32)?;
-    segment.set(&named(rt, b"samples"), 2, -1i64)?;
+    let made = segment.construct(&new_named(rt, b"samples"), 3, 7i64);
+    same(rt, made, Ok(192));
+    let made = segment.construct(&new_named(rt, b"width"), 1, 640i32);
+    same(rt, made, Ok(256));
+    let set = segment.set(&named(rt, b"samples"), 2, -1i64);
+    same(rt, set, Ok(()));
     Ok(segment.as_bytes().to_vec(alloc)?)
 }
 

@@ -4,7 +4,6 @@ use crate::checks::same;
 use crate::segments::{fresh, named, new_named};
 use seg_types::{IndexKey, Key, Kind, NewKey, Refusal, ScalarKind, ScalarValue};
 use std::process::Abort;
-use std::test::Fail;
 
 /// The kind of maps from i64 to u8.
 const BYTES: Kind = Kind::Map(ScalarKind::I64, ScalarKind::U8);
@@ -47,8 +46,8 @@ fn with_map(rt: &impl Abort, bench: &mut Bench) {
 }
 
 #[test]
-fn a_key_leads_to_its_value(rt: HostRuntime) -> Result<(), Fail> {
-    let mut bench = fresh(&rt, rt.alloc(), 1024)?;
+fn a_key_leads_to_its_value(rt: HostRuntime) {
+    let mut bench = fresh(&rt, rt.alloc(), 1024);
     with_map(&rt, &mut bench);
     puts(&rt, &mut bench, -4, 40, true);
     puts(&rt, &mut bench, 2, 20, true);
@@ -59,12 +58,11 @@ fn a_key_leads_to_its_value(rt: HostRuntime) -> Result<(), Fail> {
     erases(&rt, &mut bench, -4, false);
     leads(&rt, &bench, -4, None);
     bench.has_free(&rt, 720);
-    Ok(())
 }
 
 #[test]
-fn pairs_rise(rt: HostRuntime) -> Result<(), Fail> {
-    let mut bench = fresh(&rt, rt.alloc(), 1024)?;
+fn pairs_rise(rt: HostRuntime) {
+    let mut bench = fresh(&rt, rt.alloc(), 1024);
     with_map(&rt, &mut bench);
     stands(&rt, &bench, i64::MIN, None, None);
     puts(&rt, &mut bench, 6, 60, true);
@@ -75,12 +73,11 @@ fn pairs_rise(rt: HostRuntime) -> Result<(), Fail> {
     stands(&rt, &bench, 5, Some((6, 60)), Some((6, 60)));
     stands(&rt, &bench, 6, Some((6, 60)), None);
     stands(&rt, &bench, 7, None, None);
-    Ok(())
 }
 
 #[test]
-fn a_map_is_found_or_made(rt: HostRuntime) -> Result<(), Fail> {
-    let mut bench = fresh(&rt, rt.alloc(), 1024)?;
+fn a_map_is_found_or_made(rt: HostRuntime) {
+    let mut bench = fresh(&rt, rt.alloc(), 1024);
     let segment = &mut bench.segment;
     let key = IndexKey::Unique(BYTES);
     let made = segment.find_or_construct_map::<i64, u8>(&key);
@@ -89,13 +86,12 @@ fn a_map_is_found_or_made(rt: HostRuntime) -> Result<(), Fail> {
     same(&rt, found, Ok((192, 1)));
     let found = segment.find_kind(&Key::Unique(BYTES), BYTES);
     same(&rt, found, Ok(Some((192, 1))));
-    Ok(())
 }
 
 // No script names the kind of a map's values, so this refusal is none of a script's.
 #[test]
-fn a_map_has_values_of_its_kind(rt: HostRuntime) -> Result<(), Fail> {
-    let mut bench = fresh(&rt, rt.alloc(), 1024)?;
+fn a_map_has_values_of_its_kind(rt: HostRuntime) {
+    let mut bench = fresh(&rt, rt.alloc(), 1024);
     let segment = &mut bench.segment;
     let (from, to) = (ScalarKind::U8, ScalarKind::Bool);
     let made = segment.construct_map_of(&NewKey::Anonymous, from, to);
@@ -107,5 +103,4 @@ fn a_map_has_values_of_its_kind(rt: HostRuntime) -> Result<(), Fail> {
     same(&rt, segment.map_erase_any(&map, key, from), wrong);
     same(&rt, segment.map_get_any(&map, key, to), Ok(None));
     same(&rt, segment.map_erase_any(&map, key, to), Ok(false));
-    Ok(())
 }

@@ -1,7 +1,7 @@
 //! Memory that is refused: who asks for it says so, loses nothing, and gets on once there is some.
 //!
-//! Without a refusal each of these succeeds at once. Run by `.ci/refused-memory`, or with `rt try --test --fail-alloc N`, a request
-//! for memory is refused, and then the second try succeeds.
+//! Without a refusal each of these succeeds at once. Run by `.ci/refused-memory`, or with
+//! `rt try --test --fail-alloc N`, a request for memory is refused, and then the second try succeeds.
 use crate::checks::{holds, same};
 use crate::segments::{named, new_named};
 use image_check::{ImageClass, OpenError, OpenRefused, open, open_any};
@@ -10,7 +10,6 @@ use raw_region::{RawRegion, Steps};
 use segment_manager::{Mode, Segment};
 use std::alloc::Global;
 use std::process::Abort;
-use std::test::Fail;
 
 /// What came of a try for which the test had memory.
 #[derive(Clone, Copy, Debug, PartialEq, Eq)]
@@ -21,12 +20,18 @@ enum Tried {
     Refused,
 }
 
-/// A segment of 1024 bytes with a map of one pair, at the front of its region.
-fn map(rt: &impl Abort, alloc: Global) -> Option<Segment> {
+/// A segment of 1024 bytes with nothing in it, at the front of its region.
+fn empty(rt: &impl Abort, alloc: Global) -> Option<Segment> {
     let region = RawRegion::new(alloc, 1024).ok()?;
-    let Ok(mut segment) = Segment::create(region, 0, 1024, Mode::Write) else {
+    let Ok(segment) = Segment::create(region, 0, 1024, Mode::Write) else {
         panic!(rt; "no segment");
     };
+    Some(segment)
+}
+
+/// The same with a map of one pair.
+fn map(rt: &impl Abort, alloc: Global) -> Option<Segment> {
+    let mut segment = empty(rt, alloc)?;
     let made = segment.construct_map::<i64, i64>(&new_named(rt, b"m"));
     same(rt, made, Ok(192));
     let put = segment.map_put(&named(rt, b"m"), 1i64, 10i64);

@@ -4,91 +4,83 @@ ghost use Rattle.raw_region.specs.Regions.{IsCapacity};
 
 use crate::bench::Bench;
 use crate::checks::{holds, same};
-use crate::regions::{are_sevens, begins_with, region_of_sevens};
+use crate::regions::{are_sevens, reads, region_of_sevens};
 use crate::segments::fresh;
 use raw_region::RawRegion;
-use seg_types::{Key, NewKey};
 use std::alloc::Global;
 use std::process::Abort;
-use std::test::Fail;
 
-/// Moves a segment into a region, from `base` on. Its bytes are the same there, and where it was.
-fn moves(rt: &impl Abort, bench: Bench, region: RawRegion, base: u64) -> (Bench, RawRegion)
+/// Moves a segment, which stands at `from` in its region, to `base` in another. Its bytes are the same there, and where
+/// it was.
+fn moves(
+    rt: &impl Abort,
+    bench: Bench,
+    from: u64,
+    region: RawRegion,
+    base: u64,
+) -> (Bench, RawRegion)
     requires { base % 16 ≡ 0 }
 {
     let Ok((segment, left)) = bench.segment.relocate(region, base) else {
         panic!(rt; "the segment does not move");
     };
-    begins_with(rt, &left, segment.as_bytes());
+    reads(rt, &left, from, segment.as_bytes());
     (Bench { segment }, left)
 }
 
 #[test]
-fn a_segment_moves_into_another_region(rt: HostRuntime) -> Result<(), Fail> {
-    let mut bench = fresh(&rt, rt.alloc(), 1024)?;
+fn a_segment_moves_into_another_region(rt: HostRuntime) {
+    let mut bench = fresh(&rt, rt.alloc(), 1024);
     bench.makes(&rt, b"b", 1, 5i64, 192);
-    let region = region_of_sevens(rt.alloc(), 2048)?;
-    let (mut moved, left) = moves(&rt, bench, region, 160);
+    let region = region_of_sevens(&rt, rt.alloc(), 2048);
+    let (mut moved, left) = moves(&rt, bench, 0, region, 160);
     same(&rt, left.capacity(), 1024);
     same(&rt, moved.segment.region_left(), 864);
     moved.has(&rt, b"b", 0, Ok(5i64));
     moved.makes(&rt, b"a", 1, 6i64, 240);
     moved.has_free(&rt, 736);
-    Ok(())
 }
 
 #[test]
-fn a_segment_that_moves_leaves_what_stands_round_it(rt: HostRuntime) -> Result<(), Fail> {
-    let bench = fresh(&rt, rt.alloc(), 1024)?;
-    let region = region_of_sevens(rt.alloc(), 2048)?;
-    let Ok((mut segment, home)) = bench.segment.relocate(region, 160) else {
-        panic!(rt; "the segment does not move");
-    };
-    segment.construct(&NewKey::Anonymous, 1, 5i64)?;
-    let Ok((segment, left)) = segment.relocate(home, 0) else {
-        panic!(rt; "the segment does not move back");
-    };
-    same(&rt, segment.get(&Key::Handle(144), 0), Ok(5i64));
-    holds(&rt, segment.sanity());
+fn a_segment_that_moves_leaves_what_stands_round_it(rt: HostRuntime) {
+    let bench = fresh(&rt, rt.alloc(), 1024);
+    let region = region_of_sevens(&rt, rt.alloc(), 2048);
+    let (mut moved, home) = moves(&rt, bench, 0, region, 160);
+    moved.makes(&rt, b"a", 1, 5i64, 192);
+    let (back, left) = moves(&rt, moved, 160, home, 0);
+    back.has(&rt, b"a", 0, Ok(5i64));
+    holds(&rt, back.segment.sanity());
     are_sevens(&rt, &left, 0, 160);
     are_sevens(&rt, &left, 1184, 864);
-    Ok(())
 }
 
 /// Fails to move a segment into a region of so many bytes, from `base` on. Both come back as they were.
-fn stays(
-    rt: &impl Abort,
-    alloc: Global,
-    bench: Bench,
-    capacity: u64,
-    base: u64,
-) -> Result<Bench, Fail>
+fn stays(rt: &impl Abort, alloc: Global, bench: Bench, capacity: u64, base: u64) -> Bench
     requires capacity { IsCapacity capacity }
     requires base { base % 16 ≡ 0 }
 {
-    let bytes = bench.segment.as_bytes().to_vec(alloc)?;
-    let Err(refused) = bench
-        .segment
-        .relocate(region_of_sevens(alloc, capacity)?, base)
-    else {
+    let Ok(bytes) = bench.segment.as_bytes().to_vec(alloc) else {
+        panic!(rt; "out of memory");
+    };
+    let region = region_of_sevens(rt, alloc, capacity);
+    let Err(refused) = bench.segment.relocate(region, base) else {
         panic!(rt; "the segment moves");
     };
     holds(rt, refused.segment.as_bytes() == bytes.as_slice());
     same(rt, refused.region.capacity(), capacity);
-    are_sevens(rt, &refused.region, 0, capacity);
+    are_sevens(rt, &refused.region, 0, capacity as usize);
     let segment = refused.segment;
-    Ok(Bench { segment })
+    Bench { segment }
 }
 
 #[test]
-fn a_segment_stays_where_the_region_is_too_small(rt: HostRuntime) -> Result<(), Fail> {
-    let mut bench = fresh(&rt, rt.alloc(), 1024)?;
+fn a_segment_stays_where_the_region_is_too_small(rt: HostRuntime) {
+    let mut bench = fresh(&rt, rt.alloc(), 1024);
     bench.makes(&rt, b"a", 1, 5i64, 192);
-    bench = stays(&rt, rt.alloc(), bench, 512, 0)?;
-    bench = stays(&rt, rt.alloc(), bench, 2048, 1040)?;
-    let region = region_of_sevens(rt.alloc(), 2048)?;
-    let (moved, _) = moves(&rt, bench, region, 1024);
+    bench = stays(&rt, rt.alloc(), bench, 512, 0);
+    bench = stays(&rt, rt.alloc(), bench, 2048, 1040);
+    let region = region_of_sevens(&rt, rt.alloc(), 2048);
+    let (moved, _) = moves(&rt, bench, 0, region, 1024);
     moved.has(&rt, b"a", 0, Ok(5i64));
     same(&rt, moved.segment.region_left(), 0);
-    Ok(())
 }

@@ -27,15 +27,14 @@ fn a_segment_is_made(rt: HostRuntime) -> Result<(), Fail> {
 }
 
 #[test]
-fn a_segment_fills_its_region(rt: HostRuntime) -> Result<(), Fail> {
-    let region = region_of_sevens(rt.alloc(), 1024)?;
+fn a_segment_fills_its_region(rt: HostRuntime) {
+    let region = region_of_sevens(&rt, rt.alloc(), 1024);
     let Ok(mut segment) = Segment::create(region, 16, 1008, Mode::CopyOnWrite) else {
         panic!(rt; "refused");
     };
     same(&rt, segment.region_left(), 0);
     same(&rt, segment.free(), 864);
     same(&rt, segment.zero_free(), Ok(()));
-    Ok(())
 }
 
 #[test]
@@ -51,31 +50,30 @@ fn the_smallest_segment(rt: HostRuntime) -> Result<(), Fail> {
 }
 
 /// No segment of so many bytes is made at `base` of 1024 bytes, and the region comes back as it was.
-fn makes_none(rt: &impl Abort, alloc: Global, size: u64, cause: CreateError) -> Result<(), Fail> {
-    let region = region_of_sevens(alloc, 1024)?;
+fn makes_none(rt: &impl Abort, alloc: Global, size: u64, cause: CreateError) {
+    let region = region_of_sevens(rt, alloc, 1024);
     let Err(refused) = Segment::create(region, 16, size, Mode::Write) else {
         panic!(rt; "made");
     };
     same(rt, refused.cause, cause);
     same(rt, refused.region.capacity(), 1024);
     are_sevens(rt, &refused.region, 0, 1024);
-    Ok(())
 }
 
 #[test]
-fn a_refused_region_comes_back(rt: HostRuntime) -> Result<(), Fail> {
-    makes_none(&rt, rt.alloc(), 160, CreateError::BadSize)?;
-    makes_none(&rt, rt.alloc(), 1024, CreateError::RegionTooSmall)
+fn a_refused_region_comes_back(rt: HostRuntime) {
+    makes_none(&rt, rt.alloc(), 160, CreateError::BadSize);
+    makes_none(&rt, rt.alloc(), 1024, CreateError::RegionTooSmall);
 }
 
-/// An image of 176 bytes has no place in a region from `base` on. That is told behind its front, where the reader fails, and the
-/// region comes back as it was.
-fn opens_none(rt: &impl Abort, alloc: Global, base: u64) -> Result<(), Fail>
+/// An image of 176 bytes has no place in a region from `base` on. That is told behind its front, where the reader
+/// fails, and the region comes back as it was.
+fn opens_none(rt: &impl Abort, alloc: Global, base: u64)
     requires { base % 16 ≡ 0 }
 {
     let front = b"MSEGFILE\x02\0\0\0\0\0\0\0\xB0\0\0\0\0\0\0\0";
     let mut reader = MemorySource::new(front, 7, Last::Fails);
-    let region = region_of_sevens(alloc, 1024)?;
+    let region = region_of_sevens(rt, alloc, 1024);
     let mut steps = Steps::new();
     let Err(refused) = open(alloc, &mut reader, region, base, Mode::Write, &mut steps) else {
         panic!(rt; "opened");
@@ -83,13 +81,12 @@ fn opens_none(rt: &impl Abort, alloc: Global, base: u64) -> Result<(), Fail>
     same(rt, refused.cause, OpenError::RegionTooSmall);
     same(rt, refused.region.capacity(), 1024);
     are_sevens(rt, &refused.region, 0, 1024);
-    Ok(())
 }
 
 #[test]
-fn a_region_that_is_too_small_comes_back(rt: HostRuntime) -> Result<(), Fail> {
-    opens_none(&rt, rt.alloc(), 864)?;
-    opens_none(&rt, rt.alloc(), 18446744073709551600)
+fn a_region_that_is_too_small_comes_back(rt: HostRuntime) {
+    opens_none(&rt, rt.alloc(), 864);
+    opens_none(&rt, rt.alloc(), 18446744073709551600);
 }
 
 #[test]

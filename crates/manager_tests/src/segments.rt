@@ -14,25 +14,28 @@ use seg_types::{Handle, IndexKey, Key, Name, NewKey};
 use segment_manager::{Mode, Segment};
 use std::alloc::Global;
 use std::process::Abort;
-use std::test::Fail;
 
 /// A segment of some bytes with nothing in it.
-pub fn fresh(rt: &impl Abort, alloc: Global, size: u64) -> Result<Bench, Fail> {
-    let region = RawRegion::new(alloc, 1024)?;
+pub fn fresh(rt: &impl Abort, alloc: Global, size: u64) -> Bench {
+    let Ok(region) = RawRegion::new(alloc, 1024) else {
+        panic!(rt; "out of memory");
+    };
     let Ok(segment) = Segment::create(region, 0, size, Mode::Write) else {
         panic!(rt; "refused");
     };
-    Ok(Bench { segment })
+    Bench { segment }
 }
 
 /// The bytes of a segment, opened as one in another region.
-pub fn opened(rt: &impl Abort, alloc: Global, bench: &Bench, mode: Mode) -> Result<Bench, Fail> {
+pub fn opened(rt: &impl Abort, alloc: Global, bench: &Bench, mode: Mode) -> Bench {
     let mut reader = MemorySource::new(bench.segment.as_bytes(), 4096, Last::Ends);
-    let region = RawRegion::new(alloc, 2048)?;
+    let Ok(region) = RawRegion::new(alloc, 2048) else {
+        panic!(rt; "out of memory");
+    };
     let Ok(segment) = open(alloc, &mut reader, region, 16, mode, &mut Steps::new()) else {
         panic!(rt; "not opened");
     };
-    Ok(Bench { segment })
+    Bench { segment }
 }
 
 fn name<'a>(rt: &impl Abort, bytes: &'a [u8]) -> Name<'a> {

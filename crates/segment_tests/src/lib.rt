@@ -1,5 +1,5 @@
-//! Tests across the crates of the segment, by calls that no script makes, and the checks of the definitions by computation. What
-//! scripts and images say is in the row files of `rows`.
+//! Tests across the crates of the segment, by calls that no script makes, and the checks of the definitions by
+//! computation. What scripts and images say is in the row files of `rows`.
 #![tactic(auto)]
 
 #[cfg(test)]

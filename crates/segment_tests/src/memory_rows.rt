@@ -1,7 +1,7 @@
 //! Memory that is refused: who asks for it says so, loses nothing, and gets on once there is some.
 //!
-//! Without a refusal each of these succeeds at once. Run by `.ci/refused-memory`, or with `rt try --test --fail-alloc N`, a request
-//! for memory is refused, and then the second try succeeds.
+//! Without a refusal each of these succeeds at once. Run by `.ci/refused-memory`, or with
+//! `rt try --test --fail-alloc N`, a request for memory is refused, and then the second try succeeds.
 
 use crate::checks::{holds, same};
 use raw_region::RawRegion;

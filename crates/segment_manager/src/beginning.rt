@@ -161,6 +161,7 @@ pub(crate) fn class_of(index: Index) -> Class
 /// # Errors
 ///
 /// Why it was not filled: all that was taken for it is given back.
+#[inline(always)]
 pub(crate) fn end(
     heap: &mut Heap,
     begun: Begun,
@@ -184,6 +185,7 @@ pub(crate) fn end(
 }
 
 /// Makes the entry that leads to an object, if it is to have one.
+#[inline(always)]
 fn enter(heap: &mut Heap, handle: u64, entry: Option<NewEntry>)
     requires { IsReadyFor heap.old handle entry }
     ensures { LeadsThere heap.old heap.new handle entry }

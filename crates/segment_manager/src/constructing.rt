@@ -65,6 +65,7 @@ impl Segment {
     ///
     /// `ReadOnly` where the segment is open for reading, else `Exists` where an object has the key: nothing changes. Else `NoSpace`
     /// where no gap is long enough: what the segment holds does not change, and the bytes of gaps may.
+    #[inline(always)]
     pub(crate) fn construct_filled<F: Filling>(
         &mut self,
         key: &NewKey,
@@ -83,6 +84,7 @@ impl Segment {
 }
 
 /// The same on the heap of a segment that may be changed.
+#[inline(always)]
 fn construct_in<F: Filling>(heap: &mut Heap, key: &NewKey, filling: &F) -> Result<Handle, Refusal>
     requires segment { IsSegment heap.old.bytes }
     requires stands { F.stands filling.now }
@@ -101,6 +103,7 @@ fn construct_in<F: Filling>(heap: &mut Heap, key: &NewKey, filling: &F) -> Resul
 /// # Errors
 ///
 /// `NoSpace` where no gap is long enough for its elements. All that was taken for the object is given back.
+#[inline(always)]
 pub(crate) fn build<F: Filling>(
     heap: &mut Heap,
     begun: Begun,

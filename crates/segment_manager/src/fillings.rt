@@ -70,10 +70,12 @@ impl<T: Scalar> Filling for NewNumbers<T> {
 
     ghost stands = { λ f. (1 ≤ f.count) × (f.count ≤ 1048576) };
 
+    #[inline(always)]
     fn shape(&self) -> Shape {
         numbers(T::kind(), self.count)
     }
 
+    #[inline(always)]
     fn fill(&self, heap: &mut Heap, place: Place) -> Result<(), Refusal> {
         let mut bytes = [0; LONGEST];
         let spelling = &mut bytes[..T::SIZE as usize];
@@ -95,10 +97,12 @@ impl Filling for NewScalars {
 
     ghost stands = { λ f. (1 ≤ f.count) × (f.count ≤ 1048576) };
 
+    #[inline(always)]
     fn shape(&self) -> Shape {
         numbers(self.value.kind(), self.count)
     }
 
+    #[inline(always)]
     fn fill(&self, heap: &mut Heap, place: Place) -> Result<(), Refusal> {
         judge_value(self.value);
         let mut bytes = [0; LONGEST];
@@ -120,10 +124,12 @@ impl<T: Scalar> Filling for NewVector<'_, T> {
 
     ghost stands = { λ f. ⊤ };
 
+    #[inline(always)]
     fn shape(&self) -> Shape {
         container(Kind::Vector(T::kind()))
     }
 
+    #[inline(always)]
     fn fill(&self, heap: &mut Heap, place: Place) -> Result<(), Refusal> {
         let vector = SegVec::<T>::new(heap, place);
         vector.assign(heap, self.values)
@@ -141,10 +147,12 @@ impl Filling for NewString<'_> {
 
     ghost stands = { λ f. ⊤ };
 
+    #[inline(always)]
     fn shape(&self) -> Shape {
         container(Kind::Text)
     }
 
+    #[inline(always)]
     fn fill(&self, heap: &mut Heap, place: Place) -> Result<(), Refusal> {
         judge(self.bytes);
         let string = SegString::new(heap, place);
@@ -163,10 +171,12 @@ impl Filling for NewTexts<'_> {
 
     ghost stands = { λ f. ⊤ };
 
+    #[inline(always)]
     fn shape(&self) -> Shape {
         container(Kind::Texts)
     }
 
+    #[inline(always)]
     fn fill(&self, heap: &mut Heap, place: Place) -> Result<(), Refusal> {
         judge_all(self.texts);
         let vector = SegTexts::new(heap, place);
@@ -186,11 +196,13 @@ impl Filling for NewMap {
 
     ghost stands = { λ f. ⊤ };
 
+    #[inline(always)]
     fn shape(&self) -> Shape {
         container(Kind::Map(self.keys, self.values))
     }
 
     // Without a pair it is a map of any types.
+    #[inline(always)]
     fn fill(&self, heap: &mut Heap, place: Place) -> Result<(), Refusal> {
         SegMap::<u8, u8>::new(heap, map_place(place));
         Ok(())
@@ -198,6 +210,7 @@ impl Filling for NewMap {
 }
 
 /// An object of `count` numbers of a kind.
+#[inline(always)]
 fn numbers(kind: ScalarKind, count: u32) -> Shape
     requires { count ≤ 1048576 }
     ensures { result ≡ numbers_shape kind count }
@@ -210,6 +223,7 @@ fn numbers(kind: ScalarKind, count: u32) -> Shape
 }
 
 /// An object that is a container of a kind.
+#[inline(always)]
 fn container(kind: Kind) -> Shape
     ensures { result ≡ container_shape kind }
 {
@@ -221,6 +235,7 @@ fn container(kind: Kind) -> Shape
 }
 
 /// Says that a value is one of its kind. Its type knows it.
+#[inline(always)]
 fn judge_value(value: ScalarValue)
     ensures { IsTrue (is_value (kind_of_scalar value) (value_of_scalar value)) }
 {}

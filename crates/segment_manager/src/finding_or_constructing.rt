@@ -76,6 +76,7 @@ impl Segment {
     ///
     /// `ReadOnly` where the segment is open for reading, else `WrongKind` where the object is of another kind: nothing changes. Else
     /// `NoSpace` where none is there and no gap is long enough: what the segment holds does not change, and the bytes of gaps may.
+    #[inline(always)]
     pub(crate) fn find_or_construct_filled<F: Filling>(
         &mut self,
         key: &IndexKey,
@@ -95,6 +96,7 @@ impl Segment {
 }
 
 /// The same on the heap of a segment that may be changed.
+#[inline(always)]
 fn find_or_construct_in<F: Filling>(
     heap: &mut Heap,
     key: &IndexKey,
@@ -142,6 +144,7 @@ fn find_or_construct_entered<F: Filling>(
 }
 
 /// A handle with the count of its object.
+#[inline(always)]
 fn counted(made: Result<Handle, Refusal>, count: u32) -> Result<(Handle, u32), Refusal>
     ensures { result ≡ with_count count made }
 {

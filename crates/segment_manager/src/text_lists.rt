@@ -146,6 +146,7 @@ impl Segment {
 }
 
 /// Says that a text is of bytes. Its type knows it, and says it of one slice at a time.
+#[inline(always)]
 pub(crate) fn judge(text: &[u8])
     ensures { IsTrue (are_bytes text.now) }
 {}

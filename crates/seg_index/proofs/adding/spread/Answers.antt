@@ -17,24 +17,20 @@ overflow_mul-place-2 c = let s = room_small c.args.heap.now c.args.from (8 * c.a
 
 pub shift_links-requires-clause-source : goal.shift_links-requires-clause-source
 shift_links-requires-clause-source c =
-    let w = c.requires.within in
     has_room-less (live_of c.args.heap.now.bytes) c.args.from (8 * c.args.place + 8 * (c.args.count - c.args.place)) (8 * c.args.count) (omega arith) c.requires.source
 
 pub shift_links-requires-clause-target : goal.shift_links-requires-clause-target
 shift_links-requires-clause-target c =
-    let w = c.requires.within in
     has_room-less (live_of c.args.heap.now.bytes) c.args.to (8 * c.args.place + 8 + 8 * (c.args.count - c.args.place)) (8 * c.args.count + 8) (omega arith) c.requires.target
 
 pub set_link-requires-clause-room : goal.set_link-requires-clause-room
 set_link-requires-clause-room c =
-    let w = c.requires.within in
     let e = same_live c.args.heap.now c.shift_links.new.self (c.args.to + (8 * c.args.place + 8)) (8 * (c.args.count - c.args.place)) c.shift_links.ensures.change in
     subst (λ (l : LiveSet). IsTrue (has_room l c.args.to (8 * c.args.place + 8))) (sym e)
     (has_room-less (live_of c.args.heap.now.bytes) c.args.to (8 * c.args.place + 8) (8 * c.args.count + 8) (omega arith) c.requires.target)
 
 pub returns-clause-change : goal.returns-clause-change
 returns-clause-change c =
-    let w = c.requires.within in
     changed_trans c.args.heap.now c.shift_links.new.self c.set_link.new.self (c.args.to + (8 * c.args.place + 8)) (8 * (c.args.count - c.args.place)) (c.args.to + 8 * c.args.place) 8
     (c.args.to + 8 * c.args.place) (8 * (c.args.count - c.args.place) + 8) c.shift_links.ensures.change c.set_link.ensures.change (omega arith) (omega arith) (omega arith) (omega arith)
 

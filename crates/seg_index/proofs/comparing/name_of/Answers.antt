@@ -23,6 +23,5 @@ pub returns : goal.returns
 returns c =
     let m = bytes_of c.args.heap.now.bytes in
     let l = lent c.args.heap.now c.args.handle (16 + name_len_at m c.args.handle) c.block-payload.result.now c.requires.heap c.requires.room c.block-payload.ensures in
-    let same : c.word-len.result % 4294967296 ≡ name_len_at m c.args.handle = ap (λ k. k % 4294967296) c.word-len.ensures in
     let e : 16 + c.word-len.result % 4294967296 - 16 ≡ name_len_at m c.args.handle = omega arith in
     ap (λ (k : ℕ). part c.block-payload.result.now 16 k) e ∙ l.content 16 (name_len_at m c.args.handle) (omega arith)

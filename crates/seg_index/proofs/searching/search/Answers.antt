@@ -10,8 +10,8 @@ use Rattle.seg_index.proofs.searching.search.Goals as goal
 
 pub compare-requires-clause-entry : goal.compare-requires-clause-entry
 compare-requires-clause-entry c =
-    let a = c.args.comparisons.now in let t = c.halves-test.true in
-    let i = c.halves.invariant in let w = i.narrowed.within in
+    let a = c.args.comparisons.now in
+    let i = c.halves.invariant in
     entry_at a.heap.now c.halves.comparisons.heap.now a.key c.halves.comparisons.key a.block c.halves.comparisons.block
     _ (ap (λ b. b.now) i.heap) i.key i.block
     (entry_of a.heap.now a.key a.block c.args.count _ c.requires.keys (omega arith))
@@ -79,6 +79,6 @@ returns-in-Equal-clause-count c =
 
 pub returns-clause-exact : goal.returns-clause-exact
 returns-clause-exact c =
-    let a = c.args.comparisons.now in let t = c.halves-test.false in
+    let a = c.args.comparisons.now in
     counts_none (order_at (bytes_of a.heap.now.bytes) a.key a.block) c.args.count c.halves.low c.halves.high
     c.halves.comparisons.count c.halves.invariant.counting (omega arith)

@@ -17,7 +17,7 @@ overflow_mul-i c =
 
 pub link-requires-clause-room : goal.link-requires-clause-room
 link-requires-clause-room c =
-    let q = c.requires.index in let count = q.index.stands.count in let below = c.requires.below in let few = q.index.few in
+    let q = c.requires.index in
     let leads = has_block c.args.heap.now (place_of c.args.self) q.table q.handles c.unwrap_or-block.result c.header_link.result q.index (omega arith)
     (c.header_link.ensures ∙ ap (λ k. link_at (bytes_of c.args.heap.now.bytes) k) c.place.ensures) c.unwrap_or-block.ensures in
     let p = placed c.args.heap.now (place_of c.args.self) q.table q.handles c.unwrap_or-block.result q.index leads in
@@ -25,7 +25,6 @@ link-requires-clause-room c =
 
 pub returns : goal.returns
 returns c = λ t hs i.
-    let count = i.stands.count in let below = c.requires.below in
     let leads = has_block c.args.heap.now (place_of c.args.self) t hs c.unwrap_or-block.result c.header_link.result i (omega arith)
     (c.header_link.ensures ∙ ap (λ k. link_at (bytes_of c.args.heap.now.bytes) k) c.place.ensures) c.unwrap_or-block.ensures in
     entry_found c.args.heap.now (place_of c.args.self) t hs c.unwrap_or-block.result c.args.i c.unwrap_or.result c.link.result i leads (omega arith) c.link.ensures c.unwrap_or.ensures

@@ -22,21 +22,14 @@ shift_links-requires-clause-source c =
     let A = c.args.heap.now in let at = place_of c.args.self in let h = c.args.block in let from = c.unwrap_or-from.result in
     let cap = grown_capacity (capacity_at A at) in let q = c.requires.index in
     let is : c.header_link.result ≡ link_at (bytes_of A.bytes) at = c.header_link.ensures ∙ ap (λ k. link_at (bytes_of A.bytes) k) c.place.ensures in
-    let n : c.len-count.result ≡ length q.handles = c.len-count.ensures.len q.table q.handles q.index in
-    let within = c.requires.within in let cnt = q.index.stands.count in let capw = q.index.stands.capacity in let few = q.index.few in
-    let g = good_block A h cap q.index.heap c.requires.block in
     let s : Source A from q.handles = source A at h cap from c.header_link.result q.table q.handles q.index c.requires.block is c.unwrap_or-from.ensures in
     has_room-less (live_of A.bytes) from (0 + 8 * c.args.place) (8 * length q.handles) (omega arith) s.room
 
 pub shift_links-requires-clause-target : goal.shift_links-requires-clause-target
 shift_links-requires-clause-target c =
-    let A = c.args.heap.now in let at = place_of c.args.self in let h = c.args.block in let from = c.unwrap_or-from.result in
+    let A = c.args.heap.now in let at = place_of c.args.self in let h = c.args.block in
     let cap = grown_capacity (capacity_at A at) in let q = c.requires.index in
-    let is : c.header_link.result ≡ link_at (bytes_of A.bytes) at = c.header_link.ensures ∙ ap (λ k. link_at (bytes_of A.bytes) k) c.place.ensures in
-    let n : c.len-count.result ≡ length q.handles = c.len-count.ensures.len q.table q.handles q.index in
-    let within = c.requires.within in let cnt = q.index.stands.count in let capw = q.index.stands.capacity in let few = q.index.few in
     let g = good_block A h cap q.index.heap c.requires.block in
-    let s : Source A from q.handles = source A at h cap from c.header_link.result q.table q.handles q.index c.requires.block is c.unwrap_or-from.ensures in
     has_room-less (live_of A.bytes) h (0 + 8 * c.args.place) (8 * cap) (omega arith) g.room
 
 pub shift_links-requires-clause-links : goal.shift_links-requires-clause-links
@@ -44,29 +37,19 @@ shift_links-requires-clause-links c =
     let A = c.args.heap.now in let at = place_of c.args.self in let h = c.args.block in let from = c.unwrap_or-from.result in
     let cap = grown_capacity (capacity_at A at) in let q = c.requires.index in
     let is : c.header_link.result ≡ link_at (bytes_of A.bytes) at = c.header_link.ensures ∙ ap (λ k. link_at (bytes_of A.bytes) k) c.place.ensures in
-    let n : c.len-count.result ≡ length q.handles = c.len-count.ensures.len q.table q.handles q.index in
-    let within = c.requires.within in let cnt = q.index.stands.count in let capw = q.index.stands.capacity in let few = q.index.few in
-    let g = good_block A h cap q.index.heap c.requires.block in
     let s : Source A from q.handles = source A at h cap from c.header_link.result q.table q.handles q.index c.requires.block is c.unwrap_or-from.ensures in
     let e : from + 8 * 0 ≡ from + 0 = omega arith in
     subst (λ k. AreLinks (bytes_of A.bytes) k c.args.place) e (links_range (bytes_of A.bytes) from 0 c.args.place q.handles s.links q.index.whole (omega arith))
 
 pub spread-requires-clause-heap : goal.spread-requires-clause-heap
 spread-requires-clause-heap c =
-    let A = c.args.heap.now in let at = place_of c.args.self in let h = c.args.block in let from = c.unwrap_or-from.result in
+    let A = c.args.heap.now in let at = place_of c.args.self in let h = c.args.block in
     let cap = grown_capacity (capacity_at A at) in let q = c.requires.index in
-    let is : c.header_link.result ≡ link_at (bytes_of A.bytes) at = c.header_link.ensures ∙ ap (λ k. link_at (bytes_of A.bytes) k) c.place.ensures in
-    let n : c.len-count.result ≡ length q.handles = c.len-count.ensures.len q.table q.handles q.index in
-    let within = c.requires.within in let cnt = q.index.stands.count in let capw = q.index.stands.capacity in let few = q.index.few in
     let g = good_block A h cap q.index.heap c.requires.block in
-    let s : Source A from q.handles = source A at h cap from c.header_link.result q.table q.handles q.index c.requires.block is c.unwrap_or-from.ensures in
     let B = c.shift_links.new.self in
     let room1 : IsTrue (has_room (live_of A.bytes) h (0 + 8 * c.args.place)) = has_room-less (live_of A.bytes) h (0 + 8 * c.args.place) (8 * cap) (omega arith) g.room in
     let one = c.shift_links.ensures.change in
     let iB = still A B at h 0 (8 * c.args.place) q.table q.handles q.index one room1 c.requires.apart (place_behind c.args.self) (place_small c.args.self) in
-    let fB = offered A B (h + 0) (8 * c.args.place) h cap one c.requires.block in
-    let gB = good_block B h cap iB.heap fB in
-    let sB : Source B from q.handles = source B at h cap from c.header_link.result q.table q.handles iB fB (is ∙ sym (same_link A B at q.table q.handles q.index iB)) c.unwrap_or-from.ensures in
     iB.heap
 
 pub spread-requires-clause-source : goal.spread-requires-clause-source
@@ -74,35 +57,26 @@ spread-requires-clause-source c =
     let A = c.args.heap.now in let at = place_of c.args.self in let h = c.args.block in let from = c.unwrap_or-from.result in
     let cap = grown_capacity (capacity_at A at) in let q = c.requires.index in
     let is : c.header_link.result ≡ link_at (bytes_of A.bytes) at = c.header_link.ensures ∙ ap (λ k. link_at (bytes_of A.bytes) k) c.place.ensures in
-    let n : c.len-count.result ≡ length q.handles = c.len-count.ensures.len q.table q.handles q.index in
-    let within = c.requires.within in let cnt = q.index.stands.count in let capw = q.index.stands.capacity in let few = q.index.few in
     let g = good_block A h cap q.index.heap c.requires.block in
-    let s : Source A from q.handles = source A at h cap from c.header_link.result q.table q.handles q.index c.requires.block is c.unwrap_or-from.ensures in
     let B = c.shift_links.new.self in
     let room1 : IsTrue (has_room (live_of A.bytes) h (0 + 8 * c.args.place)) = has_room-less (live_of A.bytes) h (0 + 8 * c.args.place) (8 * cap) (omega arith) g.room in
     let one = c.shift_links.ensures.change in
     let iB = still A B at h 0 (8 * c.args.place) q.table q.handles q.index one room1 c.requires.apart (place_behind c.args.self) (place_small c.args.self) in
     let fB = offered A B (h + 0) (8 * c.args.place) h cap one c.requires.block in
-    let gB = good_block B h cap iB.heap fB in
     let sB : Source B from q.handles = source B at h cap from c.header_link.result q.table q.handles iB fB (is ∙ sym (same_link A B at q.table q.handles q.index iB)) c.unwrap_or-from.ensures in
     has_room-less (live_of B.bytes) from (8 * c.len-count.result) (8 * length q.handles) (omega arith) sB.room
 
 pub spread-requires-clause-target : goal.spread-requires-clause-target
 spread-requires-clause-target c =
-    let A = c.args.heap.now in let at = place_of c.args.self in let h = c.args.block in let from = c.unwrap_or-from.result in
+    let A = c.args.heap.now in let at = place_of c.args.self in let h = c.args.block in
     let cap = grown_capacity (capacity_at A at) in let q = c.requires.index in
-    let is : c.header_link.result ≡ link_at (bytes_of A.bytes) at = c.header_link.ensures ∙ ap (λ k. link_at (bytes_of A.bytes) k) c.place.ensures in
-    let n : c.len-count.result ≡ length q.handles = c.len-count.ensures.len q.table q.handles q.index in
-    let within = c.requires.within in let cnt = q.index.stands.count in let capw = q.index.stands.capacity in let few = q.index.few in
     let g = good_block A h cap q.index.heap c.requires.block in
-    let s : Source A from q.handles = source A at h cap from c.header_link.result q.table q.handles q.index c.requires.block is c.unwrap_or-from.ensures in
     let B = c.shift_links.new.self in
     let room1 : IsTrue (has_room (live_of A.bytes) h (0 + 8 * c.args.place)) = has_room-less (live_of A.bytes) h (0 + 8 * c.args.place) (8 * cap) (omega arith) g.room in
     let one = c.shift_links.ensures.change in
     let iB = still A B at h 0 (8 * c.args.place) q.table q.handles q.index one room1 c.requires.apart (place_behind c.args.self) (place_small c.args.self) in
     let fB = offered A B (h + 0) (8 * c.args.place) h cap one c.requires.block in
     let gB = good_block B h cap iB.heap fB in
-    let sB : Source B from q.handles = source B at h cap from c.header_link.result q.table q.handles iB fB (is ∙ sym (same_link A B at q.table q.handles q.index iB)) c.unwrap_or-from.ensures in
     has_room-less (live_of B.bytes) h (8 * c.len-count.result + 8) (8 * cap) (omega arith) gB.room
 
 pub spread-requires-clause-links : goal.spread-requires-clause-links
@@ -110,16 +84,12 @@ spread-requires-clause-links c =
     let A = c.args.heap.now in let at = place_of c.args.self in let h = c.args.block in let from = c.unwrap_or-from.result in
     let cap = grown_capacity (capacity_at A at) in let q = c.requires.index in
     let is : c.header_link.result ≡ link_at (bytes_of A.bytes) at = c.header_link.ensures ∙ ap (λ k. link_at (bytes_of A.bytes) k) c.place.ensures in
-    let n : c.len-count.result ≡ length q.handles = c.len-count.ensures.len q.table q.handles q.index in
-    let within = c.requires.within in let cnt = q.index.stands.count in let capw = q.index.stands.capacity in let few = q.index.few in
     let g = good_block A h cap q.index.heap c.requires.block in
-    let s : Source A from q.handles = source A at h cap from c.header_link.result q.table q.handles q.index c.requires.block is c.unwrap_or-from.ensures in
     let B = c.shift_links.new.self in
     let room1 : IsTrue (has_room (live_of A.bytes) h (0 + 8 * c.args.place)) = has_room-less (live_of A.bytes) h (0 + 8 * c.args.place) (8 * cap) (omega arith) g.room in
     let one = c.shift_links.ensures.change in
     let iB = still A B at h 0 (8 * c.args.place) q.table q.handles q.index one room1 c.requires.apart (place_behind c.args.self) (place_small c.args.self) in
     let fB = offered A B (h + 0) (8 * c.args.place) h cap one c.requires.block in
-    let gB = good_block B h cap iB.heap fB in
     let sB : Source B from q.handles = source B at h cap from c.header_link.result q.table q.handles iB fB (is ∙ sym (same_link A B at q.table q.handles q.index iB)) c.unwrap_or-from.ensures in
     links_range (bytes_of B.bytes) from c.args.place (c.len-count.result - c.args.place) q.handles sB.links q.index.whole (omega arith)
 
@@ -130,115 +100,52 @@ grown-capacity-requires c =
 
 pub overflow_add-count : goal.overflow_add-count
 overflow_add-count c =
-    let q = c.requires.index in let s = capacity_small c.args.heap.now (place_of c.args.self) q.table q.handles q.index in
-    let n = c.len-count.ensures.len q.table q.handles q.index in let few = q.index.few in omega arith
+     omega arith
 
 pub settle-requires-clause-heap : goal.settle-requires-clause-heap
 settle-requires-clause-heap c =
-    let A = c.args.heap.now in let at = place_of c.args.self in let h = c.args.block in let from = c.unwrap_or-from.result in
+    let A = c.args.heap.now in let at = place_of c.args.self in let h = c.args.block in
     let cap = grown_capacity (capacity_at A at) in let q = c.requires.index in
-    let is : c.header_link.result ≡ link_at (bytes_of A.bytes) at = c.header_link.ensures ∙ ap (λ k. link_at (bytes_of A.bytes) k) c.place.ensures in
-    let n : c.len-count.result ≡ length q.handles = c.len-count.ensures.len q.table q.handles q.index in
-    let within = c.requires.within in let cnt = q.index.stands.count in let capw = q.index.stands.capacity in let few = q.index.few in
     let g = good_block A h cap q.index.heap c.requires.block in
-    let s : Source A from q.handles = source A at h cap from c.header_link.result q.table q.handles q.index c.requires.block is c.unwrap_or-from.ensures in
     let B = c.shift_links.new.self in
-    let room1 : IsTrue (has_room (live_of A.bytes) h (0 + 8 * c.args.place)) = has_room-less (live_of A.bytes) h (0 + 8 * c.args.place) (8 * cap) (omega arith) g.room in
     let one = c.shift_links.ensures.change in
-    let iB = still A B at h 0 (8 * c.args.place) q.table q.handles q.index one room1 c.requires.apart (place_behind c.args.self) (place_small c.args.self) in
-    let fB = offered A B (h + 0) (8 * c.args.place) h cap one c.requires.block in
-    let gB = good_block B h cap iB.heap fB in
-    let sB : Source B from q.handles = source B at h cap from c.header_link.result q.table q.handles iB fB (is ∙ sym (same_link A B at q.table q.handles q.index iB)) c.unwrap_or-from.ensures in
     let D = c.spread.new.heap in
-    let e0 : h + 0 + 8 * c.args.place ≡ h + 8 * c.args.place = omega arith in
     let all : IsChanged current A D (h + 0) (8 * c.len-count.result + 8) =
     changed_trans A B D (h + 0) (8 * c.args.place) (h + 8 * c.args.place) (8 * (c.len-count.result - c.args.place) + 8) (h + 0) (8 * c.len-count.result + 8) one c.spread.ensures.change (omega arith) (omega arith) (omega arith) (omega arith) in
     let room2 : IsTrue (has_room (live_of A.bytes) h (0 + (8 * c.len-count.result + 8))) = has_room-less (live_of A.bytes) h (0 + (8 * c.len-count.result + 8)) (8 * cap) (omega arith) g.room in
     let iD = still A D at h 0 (8 * c.len-count.result + 8) q.table q.handles q.index all room2 c.requires.apart (place_behind c.args.self) (place_small c.args.self) in
-    let fD = offered A D (h + 0) (8 * c.len-count.result + 8) h cap all c.requires.block in
-    let linkD : link_at (bytes_of D.bytes) at ≡ link_at (bytes_of A.bytes) at = same_link A D at q.table q.handles q.index iD in
-    let capis : c.grown-capacity.result ≡ cap = c.grown-capacity.ensures ∙ ap grown_capacity c.capacity.ensures.word in
     iD.heap
 
 pub settle-requires-clause-block : goal.settle-requires-clause-block
 settle-requires-clause-block c =
-    let A = c.args.heap.now in let at = place_of c.args.self in let h = c.args.block in let from = c.unwrap_or-from.result in
-    let cap = grown_capacity (capacity_at A at) in let q = c.requires.index in
-    let is : c.header_link.result ≡ link_at (bytes_of A.bytes) at = c.header_link.ensures ∙ ap (λ k. link_at (bytes_of A.bytes) k) c.place.ensures in
-    let n : c.len-count.result ≡ length q.handles = c.len-count.ensures.len q.table q.handles q.index in
-    let within = c.requires.within in let cnt = q.index.stands.count in let capw = q.index.stands.capacity in let few = q.index.few in
-    let g = good_block A h cap q.index.heap c.requires.block in
-    let s : Source A from q.handles = source A at h cap from c.header_link.result q.table q.handles q.index c.requires.block is c.unwrap_or-from.ensures in
+    let A = c.args.heap.now in let at = place_of c.args.self in let h = c.args.block in
+    let cap = grown_capacity (capacity_at A at) in
     let B = c.shift_links.new.self in
-    let room1 : IsTrue (has_room (live_of A.bytes) h (0 + 8 * c.args.place)) = has_room-less (live_of A.bytes) h (0 + 8 * c.args.place) (8 * cap) (omega arith) g.room in
     let one = c.shift_links.ensures.change in
-    let iB = still A B at h 0 (8 * c.args.place) q.table q.handles q.index one room1 c.requires.apart (place_behind c.args.self) (place_small c.args.self) in
-    let fB = offered A B (h + 0) (8 * c.args.place) h cap one c.requires.block in
-    let gB = good_block B h cap iB.heap fB in
-    let sB : Source B from q.handles = source B at h cap from c.header_link.result q.table q.handles iB fB (is ∙ sym (same_link A B at q.table q.handles q.index iB)) c.unwrap_or-from.ensures in
     let D = c.spread.new.heap in
-    let e0 : h + 0 + 8 * c.args.place ≡ h + 8 * c.args.place = omega arith in
     let all : IsChanged current A D (h + 0) (8 * c.len-count.result + 8) =
     changed_trans A B D (h + 0) (8 * c.args.place) (h + 8 * c.args.place) (8 * (c.len-count.result - c.args.place) + 8) (h + 0) (8 * c.len-count.result + 8) one c.spread.ensures.change (omega arith) (omega arith) (omega arith) (omega arith) in
-    let room2 : IsTrue (has_room (live_of A.bytes) h (0 + (8 * c.len-count.result + 8))) = has_room-less (live_of A.bytes) h (0 + (8 * c.len-count.result + 8)) (8 * cap) (omega arith) g.room in
-    let iD = still A D at h 0 (8 * c.len-count.result + 8) q.table q.handles q.index all room2 c.requires.apart (place_behind c.args.self) (place_small c.args.self) in
     let fD = offered A D (h + 0) (8 * c.len-count.result + 8) h cap all c.requires.block in
-    let linkD : link_at (bytes_of D.bytes) at ≡ link_at (bytes_of A.bytes) at = same_link A D at q.table q.handles q.index iD in
     let capis : c.grown-capacity.result ≡ cap = c.grown-capacity.ensures ∙ ap grown_capacity c.capacity.ensures.word in
     subst (λ k. IsBlockFor D h k) (sym capis) fD
 
 pub settle-requires-clause-released : goal.settle-requires-clause-released
 settle-requires-clause-released c =
-    let A = c.args.heap.now in let at = place_of c.args.self in let h = c.args.block in let from = c.unwrap_or-from.result in
+    let A = c.args.heap.now in let at = place_of c.args.self in let h = c.args.block in
     let cap = grown_capacity (capacity_at A at) in let q = c.requires.index in
-    let is : c.header_link.result ≡ link_at (bytes_of A.bytes) at = c.header_link.ensures ∙ ap (λ k. link_at (bytes_of A.bytes) k) c.place.ensures in
-    let n : c.len-count.result ≡ length q.handles = c.len-count.ensures.len q.table q.handles q.index in
-    let within = c.requires.within in let cnt = q.index.stands.count in let capw = q.index.stands.capacity in let few = q.index.few in
     let g = good_block A h cap q.index.heap c.requires.block in
-    let s : Source A from q.handles = source A at h cap from c.header_link.result q.table q.handles q.index c.requires.block is c.unwrap_or-from.ensures in
     let B = c.shift_links.new.self in
-    let room1 : IsTrue (has_room (live_of A.bytes) h (0 + 8 * c.args.place)) = has_room-less (live_of A.bytes) h (0 + 8 * c.args.place) (8 * cap) (omega arith) g.room in
     let one = c.shift_links.ensures.change in
-    let iB = still A B at h 0 (8 * c.args.place) q.table q.handles q.index one room1 c.requires.apart (place_behind c.args.self) (place_small c.args.self) in
-    let fB = offered A B (h + 0) (8 * c.args.place) h cap one c.requires.block in
-    let gB = good_block B h cap iB.heap fB in
-    let sB : Source B from q.handles = source B at h cap from c.header_link.result q.table q.handles iB fB (is ∙ sym (same_link A B at q.table q.handles q.index iB)) c.unwrap_or-from.ensures in
     let D = c.spread.new.heap in
-    let e0 : h + 0 + 8 * c.args.place ≡ h + 8 * c.args.place = omega arith in
     let all : IsChanged current A D (h + 0) (8 * c.len-count.result + 8) =
     changed_trans A B D (h + 0) (8 * c.args.place) (h + 8 * c.args.place) (8 * (c.len-count.result - c.args.place) + 8) (h + 0) (8 * c.len-count.result + 8) one c.spread.ensures.change (omega arith) (omega arith) (omega arith) (omega arith) in
     let room2 : IsTrue (has_room (live_of A.bytes) h (0 + (8 * c.len-count.result + 8))) = has_room-less (live_of A.bytes) h (0 + (8 * c.len-count.result + 8)) (8 * cap) (omega arith) g.room in
     let iD = still A D at h 0 (8 * c.len-count.result + 8) q.table q.handles q.index all room2 c.requires.apart (place_behind c.args.self) (place_small c.args.self) in
-    let fD = offered A D (h + 0) (8 * c.len-count.result + 8) h cap all c.requires.block in
     let linkD : link_at (bytes_of D.bytes) at ≡ link_at (bytes_of A.bytes) at = same_link A D at q.table q.handles q.index iD in
-    let capis : c.grown-capacity.result ≡ cap = c.grown-capacity.ensures ∙ ap grown_capacity c.capacity.ensures.word in
     leaves D at h q.table q.handles iD (λ e. c.requires.apart (sym linkD ∙ e))
 
 pub settle-requires-clause-within : goal.settle-requires-clause-within
 settle-requires-clause-within c =
-    let A = c.args.heap.now in let at = place_of c.args.self in let h = c.args.block in let from = c.unwrap_or-from.result in
-    let cap = grown_capacity (capacity_at A at) in let q = c.requires.index in
-    let is : c.header_link.result ≡ link_at (bytes_of A.bytes) at = c.header_link.ensures ∙ ap (λ k. link_at (bytes_of A.bytes) k) c.place.ensures in
-    let n : c.len-count.result ≡ length q.handles = c.len-count.ensures.len q.table q.handles q.index in
-    let within = c.requires.within in let cnt = q.index.stands.count in let capw = q.index.stands.capacity in let few = q.index.few in
-    let g = good_block A h cap q.index.heap c.requires.block in
-    let s : Source A from q.handles = source A at h cap from c.header_link.result q.table q.handles q.index c.requires.block is c.unwrap_or-from.ensures in
-    let B = c.shift_links.new.self in
-    let room1 : IsTrue (has_room (live_of A.bytes) h (0 + 8 * c.args.place)) = has_room-less (live_of A.bytes) h (0 + 8 * c.args.place) (8 * cap) (omega arith) g.room in
-    let one = c.shift_links.ensures.change in
-    let iB = still A B at h 0 (8 * c.args.place) q.table q.handles q.index one room1 c.requires.apart (place_behind c.args.self) (place_small c.args.self) in
-    let fB = offered A B (h + 0) (8 * c.args.place) h cap one c.requires.block in
-    let gB = good_block B h cap iB.heap fB in
-    let sB : Source B from q.handles = source B at h cap from c.header_link.result q.table q.handles iB fB (is ∙ sym (same_link A B at q.table q.handles q.index iB)) c.unwrap_or-from.ensures in
-    let D = c.spread.new.heap in
-    let e0 : h + 0 + 8 * c.args.place ≡ h + 8 * c.args.place = omega arith in
-    let all : IsChanged current A D (h + 0) (8 * c.len-count.result + 8) =
-    changed_trans A B D (h + 0) (8 * c.args.place) (h + 8 * c.args.place) (8 * (c.len-count.result - c.args.place) + 8) (h + 0) (8 * c.len-count.result + 8) one c.spread.ensures.change (omega arith) (omega arith) (omega arith) (omega arith) in
-    let room2 : IsTrue (has_room (live_of A.bytes) h (0 + (8 * c.len-count.result + 8))) = has_room-less (live_of A.bytes) h (0 + (8 * c.len-count.result + 8)) (8 * cap) (omega arith) g.room in
-    let iD = still A D at h 0 (8 * c.len-count.result + 8) q.table q.handles q.index all room2 c.requires.apart (place_behind c.args.self) (place_small c.args.self) in
-    let fD = offered A D (h + 0) (8 * c.len-count.result + 8) h cap all c.requires.block in
-    let linkD : link_at (bytes_of D.bytes) at ≡ link_at (bytes_of A.bytes) at = same_link A D at q.table q.handles q.index iD in
-    let capis : c.grown-capacity.result ≡ cap = c.grown-capacity.ensures ∙ ap grown_capacity c.capacity.ensures.word in
     omega arith
 
 pub returns-clause-index : goal.returns-clause-index
@@ -275,81 +182,40 @@ returns-clause-index c = λ t hs i.
 
 pub returns-clause-live : goal.returns-clause-live
 returns-clause-live c =
-    let A = c.args.heap.now in let at = place_of c.args.self in let h = c.args.block in let from = c.unwrap_or-from.result in
+    let A = c.args.heap.now in let at = place_of c.args.self in let h = c.args.block in
     let cap = grown_capacity (capacity_at A at) in let q = c.requires.index in
-    let is : c.header_link.result ≡ link_at (bytes_of A.bytes) at = c.header_link.ensures ∙ ap (λ k. link_at (bytes_of A.bytes) k) c.place.ensures in
-    let n : c.len-count.result ≡ length q.handles = c.len-count.ensures.len q.table q.handles q.index in
-    let within = c.requires.within in let cnt = q.index.stands.count in let capw = q.index.stands.capacity in let few = q.index.few in
     let g = good_block A h cap q.index.heap c.requires.block in
-    let s : Source A from q.handles = source A at h cap from c.header_link.result q.table q.handles q.index c.requires.block is c.unwrap_or-from.ensures in
     let B = c.shift_links.new.self in
-    let room1 : IsTrue (has_room (live_of A.bytes) h (0 + 8 * c.args.place)) = has_room-less (live_of A.bytes) h (0 + 8 * c.args.place) (8 * cap) (omega arith) g.room in
     let one = c.shift_links.ensures.change in
-    let iB = still A B at h 0 (8 * c.args.place) q.table q.handles q.index one room1 c.requires.apart (place_behind c.args.self) (place_small c.args.self) in
-    let fB = offered A B (h + 0) (8 * c.args.place) h cap one c.requires.block in
-    let gB = good_block B h cap iB.heap fB in
-    let sB : Source B from q.handles = source B at h cap from c.header_link.result q.table q.handles iB fB (is ∙ sym (same_link A B at q.table q.handles q.index iB)) c.unwrap_or-from.ensures in
     let D = c.spread.new.heap in
-    let e0 : h + 0 + 8 * c.args.place ≡ h + 8 * c.args.place = omega arith in
     let all : IsChanged current A D (h + 0) (8 * c.len-count.result + 8) =
     changed_trans A B D (h + 0) (8 * c.args.place) (h + 8 * c.args.place) (8 * (c.len-count.result - c.args.place) + 8) (h + 0) (8 * c.len-count.result + 8) one c.spread.ensures.change (omega arith) (omega arith) (omega arith) (omega arith) in
     let room2 : IsTrue (has_room (live_of A.bytes) h (0 + (8 * c.len-count.result + 8))) = has_room-less (live_of A.bytes) h (0 + (8 * c.len-count.result + 8)) (8 * cap) (omega arith) g.room in
     let iD = still A D at h 0 (8 * c.len-count.result + 8) q.table q.handles q.index all room2 c.requires.apart (place_behind c.args.self) (place_small c.args.self) in
-    let fD = offered A D (h + 0) (8 * c.len-count.result + 8) h cap all c.requires.block in
     let linkD : link_at (bytes_of D.bytes) at ≡ link_at (bytes_of A.bytes) at = same_link A D at q.table q.handles q.index iD in
-    let capis : c.grown-capacity.result ≡ cap = c.grown-capacity.ensures ∙ ap grown_capacity c.capacity.ensures.word in
     subst (λ (l : LiveSet). LaysOut current c.settle.new.heap.bytes l) (unlinked_same A D at (h + 0) (8 * c.len-count.result + 8) all linkD) c.settle.ensures.live
 
 pub returns-clause-keeps : goal.returns-clause-keeps
 returns-clause-keeps c =
-    let A = c.args.heap.now in let at = place_of c.args.self in let h = c.args.block in let from = c.unwrap_or-from.result in
+    let A = c.args.heap.now in let at = place_of c.args.self in let h = c.args.block in
     let cap = grown_capacity (capacity_at A at) in let q = c.requires.index in
-    let is : c.header_link.result ≡ link_at (bytes_of A.bytes) at = c.header_link.ensures ∙ ap (λ k. link_at (bytes_of A.bytes) k) c.place.ensures in
-    let n : c.len-count.result ≡ length q.handles = c.len-count.ensures.len q.table q.handles q.index in
-    let within = c.requires.within in let cnt = q.index.stands.count in let capw = q.index.stands.capacity in let few = q.index.few in
     let g = good_block A h cap q.index.heap c.requires.block in
-    let s : Source A from q.handles = source A at h cap from c.header_link.result q.table q.handles q.index c.requires.block is c.unwrap_or-from.ensures in
     let B = c.shift_links.new.self in
-    let room1 : IsTrue (has_room (live_of A.bytes) h (0 + 8 * c.args.place)) = has_room-less (live_of A.bytes) h (0 + 8 * c.args.place) (8 * cap) (omega arith) g.room in
     let one = c.shift_links.ensures.change in
-    let iB = still A B at h 0 (8 * c.args.place) q.table q.handles q.index one room1 c.requires.apart (place_behind c.args.self) (place_small c.args.self) in
-    let fB = offered A B (h + 0) (8 * c.args.place) h cap one c.requires.block in
-    let gB = good_block B h cap iB.heap fB in
-    let sB : Source B from q.handles = source B at h cap from c.header_link.result q.table q.handles iB fB (is ∙ sym (same_link A B at q.table q.handles q.index iB)) c.unwrap_or-from.ensures in
     let D = c.spread.new.heap in
-    let e0 : h + 0 + 8 * c.args.place ≡ h + 8 * c.args.place = omega arith in
     let all : IsChanged current A D (h + 0) (8 * c.len-count.result + 8) =
     changed_trans A B D (h + 0) (8 * c.args.place) (h + 8 * c.args.place) (8 * (c.len-count.result - c.args.place) + 8) (h + 0) (8 * c.len-count.result + 8) one c.spread.ensures.change (omega arith) (omega arith) (omega arith) (omega arith) in
     let room2 : IsTrue (has_room (live_of A.bytes) h (0 + (8 * c.len-count.result + 8))) = has_room-less (live_of A.bytes) h (0 + (8 * c.len-count.result + 8)) (8 * cap) (omega arith) g.room in
     let iD = still A D at h 0 (8 * c.len-count.result + 8) q.table q.handles q.index all room2 c.requires.apart (place_behind c.args.self) (place_small c.args.self) in
-    let fD = offered A D (h + 0) (8 * c.len-count.result + 8) h cap all c.requires.block in
     let linkD : link_at (bytes_of D.bytes) at ≡ link_at (bytes_of A.bytes) at = same_link A D at q.table q.handles q.index iD in
-    let capis : c.grown-capacity.result ≡ cap = c.grown-capacity.ensures ∙ ap grown_capacity c.capacity.ensures.word in
     left_keeps A D c.settle.new.heap at h (8 * c.len-count.result + 8) all room2 linkD c.settle.ensures.keeps (place_behind c.args.self) (place_small c.args.self)
 
 pub returns-clause-steps : goal.returns-clause-steps
 returns-clause-steps c =
-    let A = c.args.heap.now in let at = place_of c.args.self in let h = c.args.block in let from = c.unwrap_or-from.result in
-    let cap = grown_capacity (capacity_at A at) in let q = c.requires.index in
-    let is : c.header_link.result ≡ link_at (bytes_of A.bytes) at = c.header_link.ensures ∙ ap (λ k. link_at (bytes_of A.bytes) k) c.place.ensures in
-    let n : c.len-count.result ≡ length q.handles = c.len-count.ensures.len q.table q.handles q.index in
-    let within = c.requires.within in let cnt = q.index.stands.count in let capw = q.index.stands.capacity in let few = q.index.few in
-    let g = good_block A h cap q.index.heap c.requires.block in
-    let s : Source A from q.handles = source A at h cap from c.header_link.result q.table q.handles q.index c.requires.block is c.unwrap_or-from.ensures in
+    let A = c.args.heap.now in let h = c.args.block in
     let B = c.shift_links.new.self in
-    let room1 : IsTrue (has_room (live_of A.bytes) h (0 + 8 * c.args.place)) = has_room-less (live_of A.bytes) h (0 + 8 * c.args.place) (8 * cap) (omega arith) g.room in
     let one = c.shift_links.ensures.change in
-    let iB = still A B at h 0 (8 * c.args.place) q.table q.handles q.index one room1 c.requires.apart (place_behind c.args.self) (place_small c.args.self) in
-    let fB = offered A B (h + 0) (8 * c.args.place) h cap one c.requires.block in
-    let gB = good_block B h cap iB.heap fB in
-    let sB : Source B from q.handles = source B at h cap from c.header_link.result q.table q.handles iB fB (is ∙ sym (same_link A B at q.table q.handles q.index iB)) c.unwrap_or-from.ensures in
     let D = c.spread.new.heap in
-    let e0 : h + 0 + 8 * c.args.place ≡ h + 8 * c.args.place = omega arith in
     let all : IsChanged current A D (h + 0) (8 * c.len-count.result + 8) =
     changed_trans A B D (h + 0) (8 * c.args.place) (h + 8 * c.args.place) (8 * (c.len-count.result - c.args.place) + 8) (h + 0) (8 * c.len-count.result + 8) one c.spread.ensures.change (omega arith) (omega arith) (omega arith) (omega arith) in
-    let room2 : IsTrue (has_room (live_of A.bytes) h (0 + (8 * c.len-count.result + 8))) = has_room-less (live_of A.bytes) h (0 + (8 * c.len-count.result + 8)) (8 * cap) (omega arith) g.room in
-    let iD = still A D at h 0 (8 * c.len-count.result + 8) q.table q.handles q.index all room2 c.requires.apart (place_behind c.args.self) (place_small c.args.self) in
-    let fD = offered A D (h + 0) (8 * c.len-count.result + 8) h cap all c.requires.block in
-    let linkD : link_at (bytes_of D.bytes) at ≡ link_at (bytes_of A.bytes) at = same_link A D at q.table q.handles q.index iD in
-    let capis : c.grown-capacity.result ≡ cap = c.grown-capacity.ensures ∙ ap grown_capacity c.capacity.ensures.word in
     subst (λ (l : LiveSet). c.settle.new.steps ≤ c.args.steps.now + heap_touches l) (same_live A D (h + 0) (8 * c.len-count.result + 8) all) c.settle.ensures.steps

@@ -46,31 +46,25 @@ overflow_mul-place-2 c =
 pub shift_links-requires-clause-source : goal.shift_links-requires-clause-source
 shift_links-requires-clause-source c =
     let q = c.requires.index in
-    let cnt = q.index.stands.count in let few = q.index.few in let below = c.requires.below in
     let leads = has_block c.args.heap.now (place_of c.args.self) q.table q.handles c.unwrap_or-block.result c.header_link.result q.index (omega arith)
     (c.header_link.ensures ∙ ap (λ k. link_at (bytes_of c.args.heap.now.bytes) k) c.place.ensures) c.unwrap_or-block.ensures in
     let p = placed c.args.heap.now (place_of c.args.self) q.table q.handles c.unwrap_or-block.result q.index leads in
-    let long = c.len-count.ensures.word in
     has_room-less (live_of c.args.heap.now.bytes) c.unwrap_or-block.result (8 * c.args.place + 8 + 8 * (c.len-count.result - c.args.place - 1)) (8 * q.table.capacity) (omega arith) p.room
 
 pub shift_links-requires-clause-target : goal.shift_links-requires-clause-target
 shift_links-requires-clause-target c =
     let q = c.requires.index in
-    let cnt = q.index.stands.count in let few = q.index.few in let below = c.requires.below in
     let leads = has_block c.args.heap.now (place_of c.args.self) q.table q.handles c.unwrap_or-block.result c.header_link.result q.index (omega arith)
     (c.header_link.ensures ∙ ap (λ k. link_at (bytes_of c.args.heap.now.bytes) k) c.place.ensures) c.unwrap_or-block.ensures in
     let p = placed c.args.heap.now (place_of c.args.self) q.table q.handles c.unwrap_or-block.result q.index leads in
-    let long = c.len-count.ensures.word in
     has_room-less (live_of c.args.heap.now.bytes) c.unwrap_or-block.result (8 * c.args.place + 8 * (c.len-count.result - c.args.place - 1)) (8 * q.table.capacity) (omega arith) p.room
 
 pub shift_links-requires-clause-links : goal.shift_links-requires-clause-links
 shift_links-requires-clause-links c =
     let q = c.requires.index in
-    let cnt = q.index.stands.count in let few = q.index.few in let below = c.requires.below in
     let leads = has_block c.args.heap.now (place_of c.args.self) q.table q.handles c.unwrap_or-block.result c.header_link.result q.index (omega arith)
     (c.header_link.ensures ∙ ap (λ k. link_at (bytes_of c.args.heap.now.bytes) k) c.place.ensures) c.unwrap_or-block.ensures in
     let p = placed c.args.heap.now (place_of c.args.self) q.table q.handles c.unwrap_or-block.result q.index leads in
-    let long = c.len-count.ensures.word in
     let all = links_lead (bytes_of c.args.heap.now.bytes) c.unwrap_or-block.result (c.args.place + 1) c.len-count.result q.handles p.links q.index.whole (omega arith) (omega arith) in
     let e : c.unwrap_or-block.result + 8 * (c.args.place + 1) ≡ c.unwrap_or-block.result + (8 * c.args.place + 8) = omega arith in
     let f : c.len-count.result - (c.args.place + 1) ≡ c.len-count.result - c.args.place - 1 = omega arith in
@@ -79,11 +73,9 @@ shift_links-requires-clause-links c =
 
 pub returns-clause-index : goal.returns-clause-index
 returns-clause-index c = λ t hs i.
-    let cnt = i.stands.count in let few = i.few in let below = c.requires.below in
     let leads = has_block c.args.heap.now (place_of c.args.self) t hs c.unwrap_or-block.result c.header_link.result i (omega arith)
     (c.header_link.ensures ∙ ap (λ k. link_at (bytes_of c.args.heap.now.bytes) k) c.place.ensures) c.unwrap_or-block.ensures in
     let p = placed c.args.heap.now (place_of c.args.self) t hs c.unwrap_or-block.result i leads in
-    let long = c.len-count.ensures.word in
     let low = room_low c.args.heap.now c.unwrap_or-block.result (8 * t.capacity) i.heap p.room in
     let e : c.place-2.result + 8 ≡ place_of c.args.self + 8 = ap (λ k. k + 8) c.place-2.ensures in
     removed c.args.heap.now c.shift_links.new.self c.set_header_word.new.self (place_of c.args.self) c.args.place c.unwrap_or-block.result c.len-count.result t hs i leads low
@@ -98,11 +90,8 @@ returns-clause-live c =
 
 pub returns-clause-keeps : goal.returns-clause-keeps
 returns-clause-keeps c = λ t hs i.
-    let cnt = i.stands.count in let few = i.few in let below = c.requires.below in
     let leads = has_block c.args.heap.now (place_of c.args.self) t hs c.unwrap_or-block.result c.header_link.result i (omega arith)
     (c.header_link.ensures ∙ ap (λ k. link_at (bytes_of c.args.heap.now.bytes) k) c.place.ensures) c.unwrap_or-block.ensures in
-    let p = placed c.args.heap.now (place_of c.args.self) t hs c.unwrap_or-block.result i leads in
-    let long = c.len-count.ensures.word in
     let e : c.place-2.result + 8 ≡ place_of c.args.self + 8 = ap (λ k. k + 8) c.place-2.ensures in
     block_and_count c.args.heap.now c.shift_links.new.self c.set_header_word.new.self (place_of c.args.self) (c.unwrap_or-block.result + 8 * c.args.place) (8 * (c.len-count.result - c.args.place - 1))
     c.unwrap_or-block.result t hs i leads c.shift_links.ensures.change (omega arith) (omega arith) (place_behind c.args.self) (place_small c.args.self)

@@ -27,7 +27,6 @@ use Rattle.seg_index.proofs.index.Index.reserve.Goals as goal
 pub returns-in_err-block-clause-reserved : goal.returns-in_err-block-clause-reserved
 returns-in_err-block-clause-reserved c =
     let A = c.args.heap.now in let B = c.allocate.new.self in let at = place_of c.args.self in let q = c.requires.index in let n = c.args.n in
-    let was = c.capacity.ensures.word in let more = c.if-n-capacity.false in
     let r = c.in_err-block.ensures.answer in
     let refused : IsRefused A B (8 * n) IndexRole = record { none = asked A n c.saturating_mul.result IndexRole q.index.heap c.saturating_mul.ensures ∙ r.none; same = r.same } in
     let less : capacity_at A at < n = omega arith in
@@ -40,13 +39,8 @@ shift_links-requires-clause-source c =
     let k : c.saturating_mul.result ≡ 8 * n = meant A B n c.saturating_mul.result IndexRole h q.index.heap al c.saturating_mul.ensures in
     let iB = stays A B at q.table q.handles q.index (Around-taken A B at c.saturating_mul.result IndexRole h q.table q.handles q.index al (place_behind c.args.self) (place_small c.args.self)) in
     let fB : IsBlockFor B h n = taken_block A B c.saturating_mul.result n h al k in
-    let linkB : link_at (bytes_of B.bytes) at ≡ link_at (bytes_of A.bytes) at = same_link A B at q.table q.handles q.index iB in
-    let apartB : link_at (bytes_of B.bytes) at ≡ Some h → ⊥ = λ e. not_its_own A B at c.saturating_mul.result IndexRole h q.table q.handles q.index al (sym linkB ∙ e) in
-    let g = good_block B h n iB.heap fB in
     let is : c.header_link.result ≡ link_at (bytes_of B.bytes) at = c.header_link.ensures ∙ ap (λ j. link_at (bytes_of B.bytes) j) c.place.ensures in
     let s : Source B c.unwrap_or-from.result q.handles = source B at h n c.unwrap_or-from.result c.header_link.result q.table q.handles iB fB is c.unwrap_or-from.ensures in
-    let len : c.len-count.result ≡ length q.handles = c.len-count.ensures.len q.table q.handles iB in
-    let few = q.index.few in let capw = q.index.stands.capacity in let was = c.capacity.ensures.word in let more = c.if-n-capacity.false in
     has_room-less (live_of B.bytes) c.unwrap_or-from.result (0 + 8 * c.len-count.result) (8 * length q.handles) (omega arith) s.room
 
 pub shift_links-requires-clause-target : goal.shift_links-requires-clause-target
@@ -56,13 +50,7 @@ shift_links-requires-clause-target c =
     let k : c.saturating_mul.result ≡ 8 * n = meant A B n c.saturating_mul.result IndexRole h q.index.heap al c.saturating_mul.ensures in
     let iB = stays A B at q.table q.handles q.index (Around-taken A B at c.saturating_mul.result IndexRole h q.table q.handles q.index al (place_behind c.args.self) (place_small c.args.self)) in
     let fB : IsBlockFor B h n = taken_block A B c.saturating_mul.result n h al k in
-    let linkB : link_at (bytes_of B.bytes) at ≡ link_at (bytes_of A.bytes) at = same_link A B at q.table q.handles q.index iB in
-    let apartB : link_at (bytes_of B.bytes) at ≡ Some h → ⊥ = λ e. not_its_own A B at c.saturating_mul.result IndexRole h q.table q.handles q.index al (sym linkB ∙ e) in
     let g = good_block B h n iB.heap fB in
-    let is : c.header_link.result ≡ link_at (bytes_of B.bytes) at = c.header_link.ensures ∙ ap (λ j. link_at (bytes_of B.bytes) j) c.place.ensures in
-    let s : Source B c.unwrap_or-from.result q.handles = source B at h n c.unwrap_or-from.result c.header_link.result q.table q.handles iB fB is c.unwrap_or-from.ensures in
-    let len : c.len-count.result ≡ length q.handles = c.len-count.ensures.len q.table q.handles iB in
-    let few = q.index.few in let capw = q.index.stands.capacity in let was = c.capacity.ensures.word in let more = c.if-n-capacity.false in
     has_room-less (live_of B.bytes) h (0 + 8 * c.len-count.result) (8 * n) (omega arith) g.room
 
 pub shift_links-requires-clause-links : goal.shift_links-requires-clause-links
@@ -72,13 +60,8 @@ shift_links-requires-clause-links c =
     let k : c.saturating_mul.result ≡ 8 * n = meant A B n c.saturating_mul.result IndexRole h q.index.heap al c.saturating_mul.ensures in
     let iB = stays A B at q.table q.handles q.index (Around-taken A B at c.saturating_mul.result IndexRole h q.table q.handles q.index al (place_behind c.args.self) (place_small c.args.self)) in
     let fB : IsBlockFor B h n = taken_block A B c.saturating_mul.result n h al k in
-    let linkB : link_at (bytes_of B.bytes) at ≡ link_at (bytes_of A.bytes) at = same_link A B at q.table q.handles q.index iB in
-    let apartB : link_at (bytes_of B.bytes) at ≡ Some h → ⊥ = λ e. not_its_own A B at c.saturating_mul.result IndexRole h q.table q.handles q.index al (sym linkB ∙ e) in
-    let g = good_block B h n iB.heap fB in
     let is : c.header_link.result ≡ link_at (bytes_of B.bytes) at = c.header_link.ensures ∙ ap (λ j. link_at (bytes_of B.bytes) j) c.place.ensures in
     let s : Source B c.unwrap_or-from.result q.handles = source B at h n c.unwrap_or-from.result c.header_link.result q.table q.handles iB fB is c.unwrap_or-from.ensures in
-    let len : c.len-count.result ≡ length q.handles = c.len-count.ensures.len q.table q.handles iB in
-    let few = q.index.few in let capw = q.index.stands.capacity in let was = c.capacity.ensures.word in let more = c.if-n-capacity.false in
     let e : c.unwrap_or-from.result + 8 * 0 ≡ c.unwrap_or-from.result + 0 = omega arith in
     subst (λ j. AreLinks (bytes_of B.bytes) j c.len-count.result) e (links_range (bytes_of B.bytes) c.unwrap_or-from.result 0 c.len-count.result q.handles s.links q.index.whole (omega arith))
 
@@ -92,36 +75,19 @@ settle-requires-clause-heap c =
     let linkB : link_at (bytes_of B.bytes) at ≡ link_at (bytes_of A.bytes) at = same_link A B at q.table q.handles q.index iB in
     let apartB : link_at (bytes_of B.bytes) at ≡ Some h → ⊥ = λ e. not_its_own A B at c.saturating_mul.result IndexRole h q.table q.handles q.index al (sym linkB ∙ e) in
     let g = good_block B h n iB.heap fB in
-    let is : c.header_link.result ≡ link_at (bytes_of B.bytes) at = c.header_link.ensures ∙ ap (λ j. link_at (bytes_of B.bytes) j) c.place.ensures in
-    let s : Source B c.unwrap_or-from.result q.handles = source B at h n c.unwrap_or-from.result c.header_link.result q.table q.handles iB fB is c.unwrap_or-from.ensures in
-    let len : c.len-count.result ≡ length q.handles = c.len-count.ensures.len q.table q.handles iB in
-    let few = q.index.few in let capw = q.index.stands.capacity in let was = c.capacity.ensures.word in let more = c.if-n-capacity.false in
     let D = c.shift_links.new.self in let one = c.shift_links.ensures.change in
     let room = has_room-less (live_of B.bytes) h (0 + 8 * c.len-count.result) (8 * n) (omega arith) g.room in
     let iD = still B D at h 0 (8 * c.len-count.result) q.table q.handles iB one room apartB (place_behind c.args.self) (place_small c.args.self) in
-    let fD = offered B D (h + 0) (8 * c.len-count.result) h n one fB in
-    let linkD : link_at (bytes_of D.bytes) at ≡ link_at (bytes_of B.bytes) at = same_link B D at q.table q.handles iB iD in
     iD.heap
 
 pub settle-requires-clause-block : goal.settle-requires-clause-block
 settle-requires-clause-block c =
-    let A = c.args.heap.now in let at = place_of c.args.self in let q = c.requires.index in let n = c.args.n in
+    let A = c.args.heap.now in let q = c.requires.index in let n = c.args.n in
     let B = c.allocate.new.self in let h = c.in_ok-block.block in let al = c.in_ok-block.ensures.answer in
     let k : c.saturating_mul.result ≡ 8 * n = meant A B n c.saturating_mul.result IndexRole h q.index.heap al c.saturating_mul.ensures in
-    let iB = stays A B at q.table q.handles q.index (Around-taken A B at c.saturating_mul.result IndexRole h q.table q.handles q.index al (place_behind c.args.self) (place_small c.args.self)) in
     let fB : IsBlockFor B h n = taken_block A B c.saturating_mul.result n h al k in
-    let linkB : link_at (bytes_of B.bytes) at ≡ link_at (bytes_of A.bytes) at = same_link A B at q.table q.handles q.index iB in
-    let apartB : link_at (bytes_of B.bytes) at ≡ Some h → ⊥ = λ e. not_its_own A B at c.saturating_mul.result IndexRole h q.table q.handles q.index al (sym linkB ∙ e) in
-    let g = good_block B h n iB.heap fB in
-    let is : c.header_link.result ≡ link_at (bytes_of B.bytes) at = c.header_link.ensures ∙ ap (λ j. link_at (bytes_of B.bytes) j) c.place.ensures in
-    let s : Source B c.unwrap_or-from.result q.handles = source B at h n c.unwrap_or-from.result c.header_link.result q.table q.handles iB fB is c.unwrap_or-from.ensures in
-    let len : c.len-count.result ≡ length q.handles = c.len-count.ensures.len q.table q.handles iB in
-    let few = q.index.few in let capw = q.index.stands.capacity in let was = c.capacity.ensures.word in let more = c.if-n-capacity.false in
     let D = c.shift_links.new.self in let one = c.shift_links.ensures.change in
-    let room = has_room-less (live_of B.bytes) h (0 + 8 * c.len-count.result) (8 * n) (omega arith) g.room in
-    let iD = still B D at h 0 (8 * c.len-count.result) q.table q.handles iB one room apartB (place_behind c.args.self) (place_small c.args.self) in
     let fD = offered B D (h + 0) (8 * c.len-count.result) h n one fB in
-    let linkD : link_at (bytes_of D.bytes) at ≡ link_at (bytes_of B.bytes) at = same_link B D at q.table q.handles iB iD in
     fD
 
 pub settle-requires-clause-released : goal.settle-requires-clause-released
@@ -134,14 +100,9 @@ settle-requires-clause-released c =
     let linkB : link_at (bytes_of B.bytes) at ≡ link_at (bytes_of A.bytes) at = same_link A B at q.table q.handles q.index iB in
     let apartB : link_at (bytes_of B.bytes) at ≡ Some h → ⊥ = λ e. not_its_own A B at c.saturating_mul.result IndexRole h q.table q.handles q.index al (sym linkB ∙ e) in
     let g = good_block B h n iB.heap fB in
-    let is : c.header_link.result ≡ link_at (bytes_of B.bytes) at = c.header_link.ensures ∙ ap (λ j. link_at (bytes_of B.bytes) j) c.place.ensures in
-    let s : Source B c.unwrap_or-from.result q.handles = source B at h n c.unwrap_or-from.result c.header_link.result q.table q.handles iB fB is c.unwrap_or-from.ensures in
-    let len : c.len-count.result ≡ length q.handles = c.len-count.ensures.len q.table q.handles iB in
-    let few = q.index.few in let capw = q.index.stands.capacity in let was = c.capacity.ensures.word in let more = c.if-n-capacity.false in
     let D = c.shift_links.new.self in let one = c.shift_links.ensures.change in
     let room = has_room-less (live_of B.bytes) h (0 + 8 * c.len-count.result) (8 * n) (omega arith) g.room in
     let iD = still B D at h 0 (8 * c.len-count.result) q.table q.handles iB one room apartB (place_behind c.args.self) (place_small c.args.self) in
-    let fD = offered B D (h + 0) (8 * c.len-count.result) h n one fB in
     let linkD : link_at (bytes_of D.bytes) at ≡ link_at (bytes_of B.bytes) at = same_link B D at q.table q.handles iB iD in
     leaves D at h q.table q.handles iD (λ e. apartB (sym linkD ∙ e))
 
@@ -177,15 +138,12 @@ returns-clause-reserved c =
     let apartB : link_at (bytes_of B.bytes) at ≡ Some h → ⊥ = λ e. not_its_own A B at c.saturating_mul.result IndexRole h q.table q.handles q.index al (sym linkB ∙ e) in
     let g = good_block B h n iB.heap fB in
     let is : c.header_link.result ≡ link_at (bytes_of B.bytes) at = c.header_link.ensures ∙ ap (λ j. link_at (bytes_of B.bytes) j) c.place.ensures in
-    let s : Source B c.unwrap_or-from.result q.handles = source B at h n c.unwrap_or-from.result c.header_link.result q.table q.handles iB fB is c.unwrap_or-from.ensures in
     let len : c.len-count.result ≡ length q.handles = c.len-count.ensures.len q.table q.handles iB in
-    let few = q.index.few in let capw = q.index.stands.capacity in let was = c.capacity.ensures.word in let more = c.if-n-capacity.false in
     let D = c.shift_links.new.self in let one = c.shift_links.ensures.change in
     let room = has_room-less (live_of B.bytes) h (0 + 8 * c.len-count.result) (8 * n) (omega arith) g.room in
     let iD = still B D at h 0 (8 * c.len-count.result) q.table q.handles iB one room apartB (place_behind c.args.self) (place_small c.args.self) in
-    let fD = offered B D (h + 0) (8 * c.len-count.result) h n one fB in
     let linkD : link_at (bytes_of D.bytes) at ≡ link_at (bytes_of B.bytes) at = same_link B D at q.table q.handles iB iD in
-    let E = c.settle.new.heap in let less : capacity_at A at < n = omega arith in
+    let E = c.settle.new.heap in
     let placed8 : place (live_of A.bytes) (8 * n) IndexRole ≡ Some al.extent = ap (λ j. place (live_of A.bytes) j IndexRole) (sym k) ∙ al.placed in
     let foundD : extent_at (live_of D.bytes) h ≡ Some al.extent = ap (λ (l : LiveSet). extent_at l h) (same_live B D (h + 0) (8 * c.len-count.result) one) ∙ is_found A B c.saturating_mul.result IndexRole h al in
     let unl : unlinked D at ≡ without_link (added (live_of A.bytes) al.extent) (link_at (bytes_of A.bytes) at) =

@@ -34,7 +34,6 @@ returns-in-Some-clause-index c = λ hs links long whole.
     let w : Headed A D at (Some c.args.block) c.args.count c.args.capacity = subst (λ k. Headed A D k (Some c.args.block) c.args.count c.args.capacity) c.place-place.ensures
     (headed A c.set_header_link.new.self c.set_header_word.new.self D c.place-place.result (Some c.args.block) c.args.count c.args.capacity c.set_header_link.ensures.change
     c.set_header_link.ensures.leads c.set_header_word.ensures.change c.set_header_word.ensures.word c.set_header_word-2.ensures.change c.set_header_word-2.ensures.word) in
-    let live : live_of D.bytes ≡ live_of A.bytes = same_live A D at 24 w.change in
     let was : link_at (bytes_of A.bytes) at ≡ Some c.in-Some.old = ap (λ k. link_at (bytes_of A.bytes) k) (sym c.place-place.ensures) ∙ sym c.header_link-old.ensures ∙ c.in-Some.is in
     let old = subst (λ (o : Option ℕ). IfSome o (λ h. IsTrue (is_live_in (live_of A.bytes) h) × (h ≡ c.args.block → ⊥))) was c.requires.released in
     let E = c.deallocate.new.self in let f = c.requires.block in
@@ -62,7 +61,6 @@ returns-in-Some-clause-keeps c =
     let w : Headed A D at (Some c.args.block) c.args.count c.args.capacity = subst (λ k. Headed A D k (Some c.args.block) c.args.count c.args.capacity) c.place-place.ensures
     (headed A c.set_header_link.new.self c.set_header_word.new.self D c.place-place.result (Some c.args.block) c.args.count c.args.capacity c.set_header_link.ensures.change
     c.set_header_link.ensures.leads c.set_header_word.ensures.change c.set_header_word.ensures.word c.set_header_word-2.ensures.change c.set_header_word-2.ensures.word) in
-    let live : live_of D.bytes ≡ live_of A.bytes = same_live A D at 24 w.change in
     let was : link_at (bytes_of A.bytes) at ≡ Some c.in-Some.old = ap (λ k. link_at (bytes_of A.bytes) k) (sym c.place-place.ensures) ∙ sym c.header_link-old.ensures ∙ c.in-Some.is in
     let old = subst (λ (o : Option ℕ). IfSome o (λ h. IsTrue (is_live_in (live_of A.bytes) h) × (h ≡ c.args.block → ⊥))) was c.requires.released in
     let E = c.deallocate.new.self in
@@ -85,7 +83,6 @@ returns-in_default-clause-index c = λ hs links long whole.
     let w : Headed A D at (Some c.args.block) c.args.count c.args.capacity = subst (λ k. Headed A D k (Some c.args.block) c.args.count c.args.capacity) c.place-place.ensures
     (headed A c.set_header_link.new.self c.set_header_word.new.self D c.place-place.result (Some c.args.block) c.args.count c.args.capacity c.set_header_link.ensures.change
     c.set_header_link.ensures.leads c.set_header_word.ensures.change c.set_header_word.ensures.word c.set_header_word-2.ensures.change c.set_header_word-2.ensures.word) in
-    let live : live_of D.bytes ≡ live_of A.bytes = same_live A D at 24 w.change in
     let f = c.requires.block in
     let i = settled A D at c.args.block c.args.count c.args.capacity hs w f links long whole c.requires.within c.requires.some
     (good_block A c.args.block c.args.capacity c.requires.heap f).low (place_small c.args.self) in
@@ -108,7 +105,6 @@ returns-in_default-clause-keeps c =
     let w : Headed A D at (Some c.args.block) c.args.count c.args.capacity = subst (λ k. Headed A D k (Some c.args.block) c.args.count c.args.capacity) c.place-place.ensures
     (headed A c.set_header_link.new.self c.set_header_word.new.self D c.place-place.result (Some c.args.block) c.args.count c.args.capacity c.set_header_link.ensures.change
     c.set_header_link.ensures.leads c.set_header_word.ensures.change c.set_header_word.ensures.word c.set_header_word-2.ensures.change c.set_header_word-2.ensures.word) in
-    let live : live_of D.bytes ≡ live_of A.bytes = same_live A D at 24 w.change in
     let was : link_at (bytes_of A.bytes) at ≡ None = ap (λ k. link_at (bytes_of A.bytes) k) (sym c.place-place.ensures) ∙ sym c.header_link-old.ensures ∙ c.in_default.is in
     let is : unlinked A at ≡ live_of A.bytes = ap (λ (o : Option ℕ). elim o [ None ↦ live_of A.bytes | Some h ↦ released (live_of A.bytes) h ]) was in
     subst (λ (l : LiveSet). KeepsRest A D at l.extents) (sym is) (headed_keeps A D at (Some c.args.block) c.args.count c.args.capacity c.requires.heap w (place_behind c.args.self) (place_small c.args.self))

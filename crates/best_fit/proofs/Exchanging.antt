@@ -12,7 +12,7 @@ use Rattle.best_fit.specs.Heap.{IsAllocated, IsChanged, IsHeap, IsReleased, IsRe
 use Rattle.best_fit.proofs.Allocated.{changed-keeps_block}
 use Rattle.best_fit.proofs.Exchanges.{all-same-but}
 use Rattle.best_fit.proofs.LayOut.{lay_out_one}
-use Rattle.best_fit.proofs.Spacing.{Apart, Differs, IsAlone, IsAmong, IsBeside, IsFresh, Rising, above, all_of-insert, all_of-inserted, among, apart-inserted, below, found-less, found-more, found-new, in_use, in_use-alone, inserted-comm, live-rises, rising-insert, rising-inserted, without-inserted}
+use Rattle.best_fit.proofs.Spacing.{Apart, Differs, IsAlone, IsAmong, LiesBeside, IsFresh, Rising, above, all_of-insert, all_of-inserted, among, apart-inserted, below, found-less, found-more, found-new, in_use, in_use-alone, inserted-comm, live-rises, rising-insert, rising-inserted, without-inserted}
 
 -- ---- two lists of extents that come to the same among others
 
@@ -319,7 +319,7 @@ kept a b h y gone come format heap p e d =
     let s : SameBlockBut (bytes_of a.bytes) (bytes_of b.bytes) 0 0 y = kept-but a b 0 0 h y gone come format heap p e d in
     record { payload = record { at = λ k f g. s.payload k f g (wide-side 0 0 k) }; colour = s.colour }
 
-beside-but : (m m' : Memory) (from n : ℕ) (x y : Extent) → handle x ≤ from → from + n ≤ end_of x → IsBeside x y → SameBlockBut m m' from n y → SameBlock m m' y
+beside-but : (m m' : Memory) (from n : ℕ) (x y : Extent) → handle x ≤ from → from + n ≤ end_of x → LiesBeside x y → SameBlockBut m m' from n y → SameBlock m m' y
 beside-but m m' from n x y f g (above h) s = record { payload = record { at = λ k a b. s.payload k a b (inl (omega arith)) }; colour = s.colour }
 beside-but m m' from n x y f g (below h) s = record { payload = record { at = λ k a b. s.payload k a b (inr (omega arith)) }; colour = s.colour }
 
@@ -330,7 +330,7 @@ but-apart l m m' from n g h x y p ex low high other e s =
     let alone : IsAlone 128 x (others g l.extents) = in_use-alone l g x p ex in
     let rest : Rising 128 (others g l.extents) = (rising-insert 128 x (others g l.extents) (subst (Rising 128) (in_use l g x p ex).is (live-rises l p))).rest in
     let w : IsAmong h y (others g l.extents) = among 128 h y (others g l.extents) rest (found-less h g y l.extents (λ f. other (sym f)) e) in
-    let beside : IsBeside x y = (all_of-insert (IsBeside x) y (others h (others g l.extents)) (subst (AllByRecursion (IsBeside x)) w.is alone.beside)).0 in
+    let beside : LiesBeside x y = (all_of-insert (LiesBeside x) y (others h (others g l.extents)) (subst (AllByRecursion (LiesBeside x)) w.is alone.beside)).0 in
     beside-but m m' from n x y low high beside s
 
 -- and where the n bytes are those of another block
@@ -346,4 +346,4 @@ two-apart l x y p ex ey other =
     let alone : IsAlone 128 x (others (handle x) l.extents) = in_use-alone l (handle x) x p ex in
     let rest : Rising 128 (others (handle x) l.extents) = (rising-insert 128 x (others (handle x) l.extents) (subst (Rising 128) (in_use l (handle x) x p ex).is (live-rises l p))).rest in
     let w : IsAmong (handle y) y (others (handle x) l.extents) = among 128 (handle y) y (others (handle x) l.extents) rest (found-less (handle y) (handle x) y l.extents (λ f. other (sym f)) ey) in
-    elim (all_of-insert (IsBeside x) y (others (handle y) (others (handle x) l.extents)) (subst (AllByRecursion (IsBeside x)) w.is alone.beside)).0 [ above h ↦ inr h | below h ↦ inl h ]
+    elim (all_of-insert (LiesBeside x) y (others (handle y) (others (handle x) l.extents)) (subst (AllByRecursion (LiesBeside x)) w.is alone.beside)).0 [ above h ↦ inr h | below h ↦ inl h ]

@@ -83,7 +83,7 @@ all_of-inserted P (x ∷ xs) zs h =
 
 -- ---- rising
 
-rising-weak : (m n : ℕ) (xs : List Extent) → m ≤ n → Rising n xs → Rising m xs
+pub rising-weak : (m n : ℕ) (xs : List Extent) → m ≤ n → Rising n xs → Rising m xs
 rising-weak m n [] f h = h
 rising-weak m n (x ∷ xs) f h = (omega (arith, h.0), h.1)
 
@@ -91,7 +91,8 @@ rising-differs : (x : Extent) (n : ℕ) (zs : List Extent) → x.offset < n → 
 rising-differs x n [] f h = tt
 rising-differs x n (z ∷ zs) f h = ((λ e. omega (arith, h.0)), rising-differs x (z.offset + 1) zs (omega (arith, h.0)) h.1)
 
-hole-order : (a b : ℕ) → IsTrue (is_hole a b) → a ≤ b
+-- a hole ends where it begins or later
+pub hole-order : (a b : ℕ) → IsTrue (is_hole a b) → a ≤ b
 hole-order a b h = grind arith
 
 -- extents that are apart rise
@@ -170,18 +171,18 @@ unfolding is_proper
 live-spaced l h = proper-spaced 128 l.extents (l.size - 16) (second (is_legal_size l.size) (proper_from 128 l.extents (l.size - 16)) h)
 
 -- the second ends where the first begins, or before, or the other way round
-pub data IsBeside (x y : Extent) : Type 0 where
-  above : end_of y ≤ x.offset → IsBeside x y
-  below : end_of x ≤ y.offset → IsBeside x y
+pub data LiesBeside (x y : Extent) : Type 0 where
+  above : end_of y ≤ x.offset → LiesBeside x y
+  below : end_of x ≤ y.offset → LiesBeside x y
 
-spaced-beside : (x : Extent) (n : ℕ) (zs : List Extent) → end_of x ≤ n → Spaced n zs → AllByRecursion (IsBeside x) zs
+spaced-beside : (x : Extent) (n : ℕ) (zs : List Extent) → end_of x ≤ n → Spaced n zs → AllByRecursion (LiesBeside x) zs
 spaced-beside x n [] f h = tt
 spaced-beside x n (z ∷ zs) f h = (below (omega (arith, h.0)), spaced-beside x (end_of z) zs (omega (arith, h.0)) h.1)
 
 -- an extent among others has all of them beside it
 pub record IsAlone (n : ℕ) (x : Extent) (zs : List Extent) : Type 0 where
   pub from : n ≤ x.offset
-  pub beside : AllByRecursion (IsBeside x) zs
+  pub beside : AllByRecursion (LiesBeside x) zs
 
 alone-if : (n : ℕ) (b : Bool) (x z : Extent) (zs ws : List Extent) → (Spaced (end_of z) ws → IsAlone (end_of z) x zs)
     → Spaced n (if b then x ∷ z ∷ zs else z ∷ ws) → IsAlone n x (z ∷ zs)
@@ -360,7 +361,7 @@ but-behind m m' from n a b s f = record { at = λ k g h. s.at k (inr (omega arit
 same-colour : (m m' : Memory) (at : ℕ) → Same m m' at (at + 8) → word_at m' at % 16 ≡ word_at m at % 16
 same-colour m m' at s = ap (λ w. w % 16) (word-same m m' at (at + 8) at s (omega arith) (omega arith))
 
-beside-same : (m m' : Memory) (x y : Extent) (from n : ℕ) → SameBut m m' from n → handle x ≤ from → from + n ≤ end_of x → IsBeside x y → SameBlock m m' y
+beside-same : (m m' : Memory) (x y : Extent) (from n : ℕ) → SameBut m m' from n → handle x ≤ from → from + n ≤ end_of x → LiesBeside x y → SameBlock m m' y
 beside-same m m' x y from n s f g (above h) = record {
   payload = but-before m m' from n (handle y) (end_of y) s (omega arith);
   colour = same-colour m m' (y.offset + 8) (but-before m m' from n (y.offset + 8) (y.offset + 8 + 8) s (omega arith));
@@ -371,7 +372,7 @@ beside-same m m' x y from n s f g (below h) = record {
 }
 
 all-beside : (m m' : Memory) (x : Extent) (ys : List Extent) (from n : ℕ) → SameBut m m' from n → handle x ≤ from → from + n ≤ end_of x
-    → AllByRecursion (IsBeside x) ys → AllByRecursion (SameBlock m m') ys
+    → AllByRecursion (LiesBeside x) ys → AllByRecursion (SameBlock m m') ys
 all-beside m m' x [] from n s f g h = tt
 all-beside m m' x (y ∷ ys) from n s f g h = (beside-same m m' x y from n s f g h.0, all-beside m m' x ys from n s f g h.1)
 

@@ -3,7 +3,6 @@ use Rattle.std.proofs.Common.{◌≡◌, refl, sym, ap, subst, ◌∙◌, ℕ, �
 use Rattle.std.specs.Prelude.{IsTrue}
 use Rattle.std.specs.List.{AllByRecursion}
 use Rattle.raw_region.specs.Memory.{Memory, Cut, Same, bytes_of}
-use Rattle.best_fit.specs.Exchange as heap
 use Rattle.best_fit.specs.Exchange.{exchanged, SameBlockBut, IsExchanged}
 use Rattle.best_fit.specs.Extents.{Extent, LiveSet, handle, end_of, is_proper}
 use Rattle.best_fit.specs.Fit.{insert, others}
@@ -13,7 +12,7 @@ use Rattle.segment_manager.specs.Directory.{Value, Object, Directory, live, exte
 use Rattle.segment_manager.specs.Denotes.{Denotes, IsObjectAt, IsValueAt, two_halves, padded_name}
 use Rattle.segment_manager.specs.Step.{changed}
 use Rattle.raw_region.proofs.Laws.{Has-same, Same-word}
-use Rattle.segment_manager.proofs.Beside.{LiesBeside, above, below, LiesAlone, live-spaced, spaced-insert}
+use Rattle.best_fit.proofs.Laws.{IsAlone, LiesBeside, SameSpread, above, below, inserted-append, live-spaced, middle-first, spaced-insert}
 use Rattle.segment_manager.proofs.Calling.{denotes-live, object-at}
 use Rattle.segment_manager.proofs.Denoted.{denotes-replaced}
 use Rattle.segment_manager.proofs.Faces.{IsLike}
@@ -24,34 +23,6 @@ use Rattle.segment_manager.proofs.Regrown.{InPlace, differs-flip, rest, with_ext
 use Rattle.segment_manager.proofs.Rewritten.{value_start, with_value}
 
 -- ---- extents among others
-
--- the heap's words for extents put in and left out are those of the directory
-pub same-inserted : (xs zs : List Extent) → heap.inserted xs zs ≡ inserted xs zs
-same-inserted [] zs = refl
-same-inserted (x ∷ xs) zs = ap (insert x) (same-inserted xs zs)
-
-pub same-without : (xs zs : List Extent) → heap.without_all xs zs ≡ without_all xs zs
-same-without [] zs = refl
-same-without (x ∷ xs) zs = same-without xs (others (handle x) zs)
-
--- Two lists of extents come to the same among others: their order does not matter, where no two begin at one place.
-pub record SameSpread (xs ys : List Extent) : Type 0 where
-  pub same : (zs : List Extent) → Rising 128 (inserted xs zs) → inserted xs zs ≡ inserted ys zs
-
-pub inserted-append : (xs ys zs : List Extent) → inserted (xs ++ ys) zs ≡ inserted xs (inserted ys zs)
-inserted-append [] ys zs = refl
-inserted-append (x ∷ xs) ys zs = ap (insert x) (inserted-append xs ys zs)
-
-inserted-three : (xs ys ws zs : List Extent) → inserted (xs ++ (ys ++ ws)) zs ≡ inserted xs (inserted ys (inserted ws zs))
-inserted-three xs ys ws zs = inserted-append xs (ys ++ ws) zs ∙ ap (inserted xs) (inserted-append ys ws zs)
-
--- those in the middle come first
-pub middle-first : (xs ys ws : List Extent) → SameSpread (xs ++ (ys ++ ws)) (ys ++ (xs ++ ws))
-middle-first xs ys ws = record {
-  same = λ zs r.
-      let a : Apart xs ys = apart-inserted 128 xs ys (inserted ws zs) (subst (Rising 128) (inserted-three xs ys ws zs) r) in
-      inserted-three xs ys ws zs ∙ inserted-comm xs ys (inserted ws zs) a ∙ sym (inserted-three ys xs ws zs);
-}
 
 -- an extent before those that are put in, or after them
 put-last : (x : Extent) (ys zs : List Extent) → Rising 128 (insert x (inserted ys zs)) → insert x (inserted ys zs) ≡ inserted ys (insert x zs)
@@ -104,8 +75,8 @@ pub live-exchanged : (d : Directory) (o o' : Object) (gone come : List Extent) �
 unfolding live
 live-exchanged d o o' gone come p x h =
     let r : List Extent = rest d o' in
-    let kept : heap.inserted come (heap.without_all gone (live d).extents) ≡ inserted come (inserted (o.extent ∷ x.same) r) =
-    same-inserted come (heap.without_all gone (live d).extents) ∙ ap (inserted come) (same-without gone (live d).extents ∙ live-kept d o o' gone come p x) in
+    let kept : inserted come (without_all gone (live d).extents) ≡ inserted come (inserted (o.extent ∷ x.same) r) =
+    ap (inserted come) (live-kept d o o' gone come p x) in
     let e : exchanged (live d) gone come ≡ of_extents d o' (inserted come (insert o.extent (inserted x.same r))) = ap (of_extents d o') kept in
     let up : Rising 128 (inserted come (insert o.extent (inserted x.same r))) =
     live-rises (of_extents d o' (inserted come (insert o.extent (inserted x.same r)))) (subst (λ l. IsTrue (is_proper l)) e h) in
@@ -135,9 +106,9 @@ pub record Kept (P : Extent → Type 0) (d : Directory) (o o' : Object) (same : 
   pub rest : AllByRecursion P (rest d o')
 
 pub kept-each : (P : Extent → Type 0) (d : Directory) (o o' : Object) (gone come : List Extent) → InPlace d o o' → (x : Exchange o o' gone come)
-    → AllByRecursion P (heap.without_all gone (live d).extents) → Kept P d o o' x.same
+    → AllByRecursion P (without_all gone (live d).extents) → Kept P d o o' x.same
 kept-each P d o o' gone come p x blocks =
-    let both = all_of-inserted P (o.extent ∷ x.same) (rest d o') (subst (AllByRecursion P) (same-without gone (live d).extents ∙ live-kept d o o' gone come p x) blocks) in
+    let both = all_of-inserted P (o.extent ∷ x.same) (rest d o') (subst (AllByRecursion P) (live-kept d o o' gone come p x) blocks) in
     record { own = both.0.0; value = both.0.1; rest = both.1 }
 
 -- the blocks of the other objects lie beside the object's own
@@ -146,7 +117,7 @@ others-beside d o o' p =
     let f : IsIn d o = subst (λ (e : Extent). IsFound (handle e) d.objects o) p.extent p.found in
     let e : live d ≡ with_extents d o' (extents_of o) =
     live-split d o f p.proper ∙ (λ i. adding (live (record d { objects = remove_object (handle (sym p.extent i)) d.objects })) (extents_of o)) in
-    let alone : LiesAlone 128 o.extent (inserted (value_extents o.value) (rest d o')) =
+    let alone : IsAlone 128 o.extent (inserted (value_extents o.value) (rest d o')) =
     spaced-insert 128 o.extent (inserted (value_extents o.value) (rest d o')) (live-spaced (with_extents d o' (extents_of o)) (subst (λ l. IsTrue (is_proper l)) e p.proper)) in
     (all_of-inserted (LiesBeside o.extent) (value_extents o.value) (rest d o') alone.beside).1
 
@@ -164,7 +135,7 @@ denotes-exchanged format old new d o o' from n gone come k found like x good f g
     let l : live_of old.bytes ≡ live d = denotes-live format old.bytes d k in
     let laid : LaysOut format new.bytes (exchanged (live d) gone come) = subst (λ (l : LiveSet). LaysOut format new.bytes (exchanged l gone come)) l c.live in
     let blocks : Kept (SameBlockBut m m' from n) d o o' x.same =
-    kept-each (SameBlockBut m m' from n) d o o' gone come p x (subst (λ (l : LiveSet). AllByRecursion (SameBlockBut m m' from n) (heap.without_all gone l.extents)) l c.blocks) in
+    kept-each (SameBlockBut m m' from n) d o o' gone come p x (subst (λ (l : LiveSet). AllByRecursion (SameBlockBut m m' from n) (without_all gone l.extents)) l c.blocks) in
     let keeps : Keeps old new (rest d o') = record {
       place = c.place;
       front = c.front;
@@ -202,7 +173,7 @@ denotes-container format old new d o v gone come k found x kind count len was go
     let fits : 16 + padded (length o.name) + value_len o.value + 16 ≤ o.extent.len = roomy.room in
     let l : live_of old.bytes ≡ live d = denotes-live format old.bytes d k in
     let blocks : Kept (SameBlockBut m m' from 24) d o o' x.same =
-    kept-each (SameBlockBut m m' from 24) d o o' gone come p x (subst (λ (l : LiveSet). AllByRecursion (SameBlockBut m m' from 24) (heap.without_all gone l.extents)) l c.blocks) in
+    kept-each (SameBlockBut m m' from 24) d o o' gone come p x (subst (λ (l : LiveSet). AllByRecursion (SameBlockBut m m' from 24) (without_all gone l.extents)) l c.blocks) in
     let s : Same m m' (handle o.extent) from = record { at = λ i a b. blocks.own.payload i a (omega (arith, len)) (inl b) } in
     denotes-exchanged format old new d o o' from 24 gone come k found like x good (omega arith) (omega (arith, len)) c
     (object-held m m' o v (object-at format old.bytes d (handle o.extent) o k found) kind count s at)

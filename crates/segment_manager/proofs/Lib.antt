@@ -50,7 +50,6 @@ mod Codes
 mod Standings
 mod Pieces
 mod Rewritten
-mod Beside
 mod Exchanged
 mod Contained
 mod Grown

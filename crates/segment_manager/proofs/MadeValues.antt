@@ -24,8 +24,8 @@ use Rattle.segment_manager.specs.Denotes.{IsObjectAt, IsValueAt, padded_name, tw
 use Rattle.segment_manager.specs.Directory.{Value, Directory, count_of, kind_of, padded}
 use Rattle.segment_manager.specs.Plan.{Plan, New, Request, perform, with_storage}
 use Rattle.segment_manager.specs.Standing.{IsHeadAt, room_for}
-use Rattle.segment_manager.proofs.Beside.{LiesAlone, live-spaced, spaced-insert}
-use Rattle.segment_manager.proofs.Exchanged.{all-but-beside, put-first, same-inserted}
+use Rattle.best_fit.proofs.Laws.{IsAlone, live-spaced, spaced-insert}
+use Rattle.segment_manager.proofs.Exchanged.{all-but-beside, put-first}
 use Rattle.segment_manager.proofs.Frame.{padded_name-length}
 use Rattle.segment_manager.proofs.Made.{IsTaken, requested-taken, taken-live}
 use Rattle.segment_manager.proofs.NewBlocks.{allocated-serves, changed-trans}
@@ -96,11 +96,11 @@ taken-more a b c x from n come m low high r =
     let C : Memory = bytes_of c.bytes in
     let l : LiveSet = live_of a.bytes in
     let e : exchanged (live_of b.bytes) [] come ≡ with_live l (inserted come (insert x l.extents)) =
-    ap (λ (s : LiveSet). exchanged s [] come) (taken-live a b (x ∷ []) m) ∙ ap (with_live l) (same-inserted come (insert x l.extents)) in
+    ap (λ (s : LiveSet). exchanged s [] come) (taken-live a b (x ∷ []) m) in
     let laid : LaysOut current c.bytes (with_live l (inserted come (insert x l.extents))) = subst (LaysOut current c.bytes) e r.live in
     let up : Rising 128 (inserted come (insert x l.extents)) = live-rises (with_live l (inserted come (insert x l.extents))) laid.proper in
     let order : inserted come (insert x l.extents) ≡ insert x (inserted come l.extents) = put-first x come l.extents up in
-    let alone : LiesAlone 128 x l.extents = spaced-insert 128 x l.extents (live-spaced (added l x) m.live.proper) in
+    let alone : IsAlone 128 x l.extents = spaced-insert 128 x l.extents (live-spaced (added l x) m.live.proper) in
     let but : StaysBut a b c x from n = stays-but a b c x from n come m r in
     record {
       live = subst (λ xs. LaysOut current c.bytes (with_live l xs)) order laid;

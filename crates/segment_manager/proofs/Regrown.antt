@@ -6,6 +6,7 @@ use Rattle.raw_region.specs.Memory.{Cut, bytes_of}
 use Rattle.best_fit.specs.Extents.{Extent, LiveSet, handle, is_proper}
 use Rattle.best_fit.specs.Fit.{insert, added, released}
 use Rattle.best_fit.specs.Heap.{SameBlock, Keeps}
+use Rattle.best_fit.proofs.Laws.{inserted-append}
 use Rattle.segment_manager.specs.Directory.{Object, Directory, live, extents_of, remove_object, with_changed, without_object}
 use Rattle.segment_manager.proofs.Words.{AllByRecursion-front}
 use Rattle.segment_manager.proofs.Order.{Differs, Rising, IsFresh, inserted, insert-inserted, all_of-inserted, live-rises, rising-insert, apart-inserted, others-insert}
@@ -16,10 +17,6 @@ use Rattle.segment_manager.proofs.Live.{adding, IsFound, IsIn, live-split, live-
 pub differs-flip : (x : Extent) (ys : List Extent) → AllByRecursion (λ y. Differs y (x ∷ [])) ys → Differs x ys
 differs-flip x [] h = tt
 differs-flip x (y ∷ ys) h = ((λ e. h.0.0 (sym e)), differs-flip x ys h.1)
-
-inserted-append : (xs ys zs : List Extent) → inserted (xs ++ ys) zs ≡ inserted xs (inserted ys zs)
-inserted-append [] ys zs = refl
-inserted-append (x ∷ xs) ys zs = ap (insert x) (inserted-append xs ys zs)
 
 -- one in the middle is put in last
 inserted-middle : (xs ys zs : List Extent) (x : Extent) → Differs x xs → inserted (xs ++ x ∷ ys) zs ≡ insert x (inserted (xs ++ ys) zs)

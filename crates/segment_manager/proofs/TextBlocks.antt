@@ -6,12 +6,12 @@ use Rattle.std.specs.List.{AllByRecursion}
 use Rattle.best_fit.specs.Extents.{Extent, handle}
 use Rattle.best_fit.specs.Fit.{insert}
 use Rattle.best_fit.specs.Table.{Table}
-use Rattle.best_fit.proofs.Laws.{found-more, found-new}
+use Rattle.best_fit.proofs.Laws.{SameSpread, found-more, found-new, middle-first, spread-behind}
 use Rattle.seg_vector.specs.TextsCalls.{AreOthers, text_blocks}
 use Rattle.seg_vector.specs.Vector.{OwnedText}
 use Rattle.segment_manager.specs.Directory.{Object, Texts, value_extents}
-use Rattle.segment_manager.proofs.Exchanged.{Exchange, SameSpread, inserted-append, middle-first}
-use Rattle.segment_manager.proofs.Order.{Differs, IsFresh, Rising, all_of-inserted, inserted, rising-insert, rising-inserted}
+use Rattle.segment_manager.proofs.Exchanged.{Exchange}
+use Rattle.segment_manager.proofs.Order.{Differs, IsFresh, Rising, all_of-inserted, inserted, rising-insert}
 use Rattle.segment_manager.proofs.Rewritten.{with_value}
 
 -- ---- extents that rise
@@ -44,17 +44,6 @@ found-each n (x ∷ xs) zs r =
     )
 
 -- ---- the order of blocks
-
-spread-refl : (xs : List Extent) → SameSpread xs xs
-spread-refl xs = record { same = λ zs r. refl }
-
--- the same behind others
-spread-behind : (ws xs ys : List Extent) → SameSpread xs ys → SameSpread (ws ++ xs) (ws ++ ys)
-spread-behind ws xs ys s = record {
-  same = λ zs r.
-      let up : Rising 128 (inserted ws (inserted xs zs)) = subst (Rising 128) (inserted-append ws xs zs) r in
-      inserted-append ws xs zs ∙ ap (inserted ws) (s.same zs (rising-inserted 128 ws (inserted xs zs) up).0) ∙ sym (inserted-append ws ys zs);
-}
 
 -- a part in the middle comes first, and back
 part-first : (ws fs xs bs : List Extent) → SameSpread (ws ++ (fs ++ (xs ++ bs))) ((ws ++ xs) ++ (fs ++ bs))

@@ -23,9 +23,7 @@ pub tags-preserved : goal.tags-preserved
 tags-preserved c =
     let g = goes_on _ _ _ _ _ _ c.tags.invariant.0 c.tags-test.true (sym c.is_good.ensures ∙ c.if-not-is_good.false) _ c.tile_there-tile.ensures in
     let t = c.tile_there-tile.result in
-    let b = c.args.window.now.bytes in
-    let few = c.tags.invariant.1 in
-    let long = g.long in (
+    let b = c.args.window.now.bytes in (
       subst (λ (f : Bool). Walking (bytes_of b) (length b) (c.size-end.result - 16) (c.tags.at + t.len) t.len f) (none_of t.use_of _ c.is_none-behind_free.ensures) g.next,
       omega arith,
     )

@@ -11,5 +11,5 @@ returns-then-size-gt-FIRST c = λ ts said.
 
 pub returns-else-size-gt-FIRST : goal.returns-else-size-gt-FIRST
 returns-else-size-gt-FIRST c = λ ts said.
-    let b = c.args.window.now.bytes in let n = legal (length b) said.size in let none : length b - 16 ≤ 128 = omega arith in
+    let b = c.args.window.now.bytes in let none : length b - 16 ≤ 128 = omega arith in
     first_none current (bytes_of b) 128 0 ts (length b - 16) said.tags none

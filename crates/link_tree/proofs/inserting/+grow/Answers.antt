@@ -26,17 +26,12 @@ grow-child-requires g t c =
     let n = c.in-Some.at in
     let x = c.args.node in
     let w = rw c.in-Some.is at c.requires.tree.1 in
-    let room = c.requires.tree.2 in
     let b = below g s x n c.requires.tree.0 w in
     let e : c.child-below.new.self.nodes.now ≡ s = c.child-below.ensures.nodes ∙ c.precedes.ensures.nodes in
     let link : c.child-below.result ≡ child_of (side_of (g.N.Nodes.order s x n)) (g.N.Nodes.cells s n) =
     link_is g s c.precedes.new.self.nodes.now n _ (g.N.Nodes.order s x n) _ _ c.child-below.ensures.value
     c.of-side.ensures c.precedes.ensures.value
     c.precedes.ensures.nodes in
-    let goes = c.precedes.ensures.goes (λ d. b.apart (sym d)) in
-    let lower = b.lower in
-    let stays = c.child-below.ensures.stays c.precedes.ensures.at in
-    let most = c.precedes.ensures.most in
     let tree : (u : Tree) × Grows (g.N.Nodes.order c.child-below.new.self.nodes.now)
     (g.N.Nodes.cells c.child-below.new.self.nodes.now) c.child-below.result x u
     × (c.child-below.new.self.steps + 13 * height u + 16 < 2 ^ 64) = (b.tree, rw (e, link) b.grows, omega arith) in
@@ -50,7 +45,6 @@ few : (g : Over) (s : g.row.N.Denot) (x at : ℕ) (t : Tree) (steps steps' : ℕ
     → steps' + 10 ≤ steps + 13 * height t
 few g s x at t steps steps' w f =
     let b = below g s x at t w in
-    let lower = b.lower in
     omega (arith, f b.tree b.grows)
 
 pub set_child-requires-clause-room : goal.set_child-requires-clause-room

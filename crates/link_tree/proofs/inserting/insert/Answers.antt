@@ -61,6 +61,5 @@ returns-clause-steps g c = λ u k.
     let t = c.requires.tree in
     let s = c.args.nodes.now in
     let w = grows g s c.args.root c.args.node t.0 u t.1 t.2 k in
-    let zero = c.new-visits.ensures.steps in
     let steps = rw c.new-visits.ensures.nodes at c.grow-top.ensures.steps in
     omega (arith, steps u w, height_bits u k.red_black)

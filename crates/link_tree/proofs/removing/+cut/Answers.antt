@@ -25,17 +25,12 @@ cut-below-requires g t c =
     let n = c.in-Some.at in
     let x = c.args.node in
     let w = rw c.in-Some.is at c.requires.tree.1 in
-    let room = c.requires.tree.2 in
     let b = low g s x n c.requires.tree.0 w in
     let e : c.child-link.new.self.nodes.now ≡ s = c.child-link.ensures.nodes ∙ c.precedes.ensures.nodes in
     let link : c.child-link.result ≡ child_of (side_of (g.N.Nodes.order s x n)) (g.N.Nodes.cells s n) =
     link_is g s c.precedes.new.self.nodes.now n _ (g.N.Nodes.order s x n) _ _ c.child-link.ensures.value
     c.of-side.ensures c.precedes.ensures.value
     c.precedes.ensures.nodes in
-    let goes = c.precedes.ensures.goes (λ d. c.if-at-node.false (sym d)) in
-    let lower = b.lower in
-    let stays = c.child-link.ensures.stays c.precedes.ensures.at in
-    let most = c.precedes.ensures.most in
     let tree : (u : Tree) × Shrinks (g.N.Nodes.order c.child-link.new.self.nodes.now)
     (g.N.Nodes.cells c.child-link.new.self.nodes.now) c.child-link.result u
     × (c.child-link.new.self.steps + 15 * height u + 60 < 2 ^ 64) = (b.tree, rw (e, link) b.shrinks, omega arith) in
@@ -47,7 +42,6 @@ settle-requires-clause-room g t c =
     let n = c.in-Some.at in
     let x = c.args.node in
     let w = rw c.in-Some.is at c.requires.tree.1 in
-    let room = c.requires.tree.2 in
     let b = low g s x n c.requires.tree.0 w in
     let e : c.child-link.new.self.nodes.now ≡ s = c.child-link.ensures.nodes ∙ c.precedes.ensures.nodes in
     let link : c.child-link.result ≡ child_of (side_of (g.N.Nodes.order s x n)) (g.N.Nodes.cells s n) =
@@ -55,8 +49,6 @@ settle-requires-clause-room g t c =
     c.of-side.ensures c.precedes.ensures.value
     c.precedes.ensures.nodes in
     let steps = rw (e, link) at c.cut-below.ensures.steps in
-    let stays = c.child-link.ensures.stays c.precedes.ensures.at in
-    let lower = b.lower in
     omega (arith, steps b.tree b.shrinks)
 
 pub returns-clause-steps : goal.returns-clause-steps
@@ -72,8 +64,6 @@ returns-clause-steps g t c = λ u w'.
     c.of-side.ensures c.precedes.ensures.value
     c.precedes.ensures.nodes in
     let steps = rw (e, link) at c.cut-below.ensures.steps in
-    let stays = c.child-link.ensures.stays c.precedes.ensures.at in
-    let lower = b.lower in
     omega (arith, steps b.tree b.shrinks)
 
 pub returns-clause-rest : goal.returns-clause-rest

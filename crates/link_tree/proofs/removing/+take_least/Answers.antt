@@ -37,9 +37,6 @@ take_least-below-requires g t c =
     let is_left : (h c.args.at).left ≡ Some left = sym c.child.ensures.value ∙ c.in-Some.is in
     let b = below g s c.args.at left c.requires.tree.0 c.requires.tree.1 is_left in
     let e : c.child.new.self.nodes.now ≡ s = c.child.ensures.nodes in
-    let room = c.requires.tree.2 in
-    let goes = c.child.ensures.goes c.requires.away in
-    let lower = b.lower in
     let tree : (u : Tree) × Shrinks (g.N.Nodes.order c.child.new.self.nodes.now)
     (g.N.Nodes.cells c.child.new.self.nodes.now) (Some left) u
     × (c.child.new.self.steps + 14 * height u + 40 < 2 ^ 64) = (b.tree, rw e b.shrinks, omega arith) in
@@ -67,9 +64,7 @@ settle-requires-clause-room g t c =
     let is_left : (g.N.Nodes.cells s c.args.at).left ≡ Some left = sym c.child.ensures.value ∙ c.in-Some.is in
     let b = below g s c.args.at left c.requires.tree.0 c.requires.tree.1 is_left in
     let e : c.child.new.self.nodes.now ≡ s = c.child.ensures.nodes in
-    let room = c.requires.tree.2 in
     let steps = rw e at c.take_least-below.ensures.steps in
-    let lower = b.lower in
     omega (arith, steps b.tree b.shrinks)
 
 pub returns-clause-node : goal.returns-clause-node
@@ -106,5 +101,4 @@ returns-clause-steps g t c = λ u w.
     let b = below g s c.args.at left u w is_left in
     let e : c.child.new.self.nodes.now ≡ s = c.child.ensures.nodes in
     let steps = rw e at c.take_least-below.ensures.steps in
-    let lower = b.lower in
     omega (arith, steps b.tree b.shrinks)

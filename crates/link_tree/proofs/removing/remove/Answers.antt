@@ -56,6 +56,5 @@ returns-clause-frame g c = λ u k.
 pub returns-clause-steps : goal.returns-clause-steps
 returns-clause-steps g c = λ u k.
     let s = c.args.nodes.now in
-    let zero = c.new-visits.ensures.steps in
     let steps = rw c.new-visits.ensures.nodes at c.cut-rest.ensures.steps in
     omega (arith, steps u (shrinks g s c.args.root u k), height_bits u k.red_black)

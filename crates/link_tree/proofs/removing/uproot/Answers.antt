@@ -61,8 +61,6 @@ take_least-next-requires-clause-tree g c =
     let right = c.in-Some.right in
     let is_right : (g.N.Nodes.cells s c.args.at).right ≡ Some right = sym r.right_is ∙ c.in-Some.is in
     let b = right_tree g s c.args.at right c.requires.tree.0 c.requires.tree.1 is_right in
-    let room = c.requires.tree.2 in
-    let lower = b.lower in
     let shrinks : Shrinks (g.N.Nodes.order c.child.new.self.nodes.now) (g.N.Nodes.cells c.child.new.self.nodes.now)
     (Some right) b.tree = subst (λ (x : g.row.N.Denot). Shrinks (g.N.Nodes.order x) (g.N.Nodes.cells x) (Some right)
     b.tree) (sym r.here) b.shrinks in
@@ -77,7 +75,6 @@ spent : (g : Over) (s s' : g.row.N.Denot) (at right : ℕ) (t : Tree) (steps ste
 spent g s s' at right t steps steps' more w told e same =
     let b = right_tree g s at right t w e in
     let here = rw same at told in
-    let lower = b.lower in
     omega (arith, here b.tree b.shrinks)
 
 pub set_child-requires-clause-room : goal.set_child-requires-clause-room
@@ -137,8 +134,4 @@ returns-clause-steps g c = λ u w.
     let is_right : (g.N.Nodes.cells s c.args.at).right ≡ Some c.in-Some.right = sym r.right_is ∙ c.in-Some.is in
     let b = right_tree g s c.args.at c.in-Some.right u w is_right in
     let steps = rw r.here at c.take_least-next.ensures.steps in
-    let lower = b.lower in
-    let stays1 = c.child-left.ensures.stays c.red-red.ensures.at in
-    let stays2 = c.child.ensures.stays c.child-left.ensures.at in
-    let stays3 = c.set_red.ensures.stays c.set_child.ensures.at in
     omega (arith, steps b.tree b.shrinks)

@@ -62,7 +62,6 @@ loop-link-preserved-then-before_probe g c =
     let here : g.N.Nodes.is_node s n ≡ true = rw c.in-Some.is at c.loop-link.invariant.good in
     let e : c.right-link.result ≡ (g.N.Nodes.cells s n).right = cc in
     let b : g.N.Nodes.before s c.args.probe.now n ≡ true = cc in
-    let stays = c.right-link.ensures.stays c.before_probe.ensures.at in
     record {
       same = cc;
       good = rw e (g.met.N.Nodes.right_closed s n here);
@@ -81,7 +80,6 @@ loop-link-preserved g c =
     let here : g.N.Nodes.is_node s n ≡ true = rw c.in-Some.is at c.loop-link.invariant.good in
     let e : c.left-link.result ≡ (g.N.Nodes.cells s n).left = cc in
     let b : g.N.Nodes.before s c.args.probe.now n ≡ false = cc in
-    let stays = c.left-link.ensures.stays c.before_probe.ensures.at in
     record {
       same = cc;
       good = rw e (g.met.N.Nodes.left_closed s n here);

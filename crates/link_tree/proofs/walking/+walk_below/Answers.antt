@@ -23,10 +23,6 @@ walk_below-requires g t c =
     in
     let e : c.right-right.new.self.nodes.now ≡ s = c.right-right.ensures.nodes ∙ c.left-left.ensures.nodes in
     let left : c.left-left.result ≡ (g.N.Nodes.cells s n).left = c.left-left.ensures.value in
-    let stays = c.right-right.ensures.stays c.left-left.ensures.at in
-    let room = c.requires.tree.2 in
-    let size = p.size in
-    let positive = p.positive in
     let tree : (u : Tree) × IsAhead (g.N.Nodes.order c.right-right.new.self.nodes.now)
     (g.N.Nodes.cells c.right-right.new.self.nodes.now) c.left-left.result (c.args.levels - 1) c.right-right.new.self.at
     u × (c.right-right.new.self.steps + length (nodes_of u) + 1 < 2 ^ 64) =

@@ -6,7 +6,8 @@ use Rattle.best_fit.specs.Extents.{Extent, LiveSet, handle, end_of, is_hole, is_
 use Rattle.block_tags.specs.Format.{is_legal_size}
 use Rattle.best_fit.specs.Fit.{insert, others, added, resized}
 use Rattle.best_fit.proofs.Laws.{AllByRecursion-insert_from, others-here, others-past}
-pub use Rattle.best_fit.proofs.Laws.{Differs, IsFresh, Rising, all_of-insert, all_of-inserted, apart-inserted, hole-order, insert-inserted, inserted-comm, live-rises, rising-insert, rising-inserted, rising-weak, without-inserted}
+unfoldable pub use Rattle.best_fit.proofs.Laws.{Differs, Rising}
+pub use Rattle.best_fit.proofs.Laws.{IsFresh, all_of-insert, all_of-inserted, apart-inserted, hole-order, insert-inserted, inserted-comm, live-rises, rising-insert, rising-inserted, rising-weak, without-inserted}
 pub use Rattle.best_fit.specs.Exchange.{inserted, without_all}
 use Rattle.segment_manager.specs.Directory.{sorted}
 use Rattle.segment_manager.proofs.Words.{first, second, no_more}

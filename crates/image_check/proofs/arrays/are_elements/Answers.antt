@@ -14,7 +14,6 @@ returns-then-not-is_element-clause-value c ts a =
 
 pub elements-preserved : goal.elements-preserved
 elements-preserved c =
-    let spent = c.is_element.ensures.visits in
     let inv = c.elements.invariant in
     record {
       lead = λ ts a.

@@ -52,9 +52,6 @@ pub tiles-preserved : goal.tiles-preserved
 tiles-preserved c =
     let w = c.args.window.now in
     let kept = Gathering c.args.visits.now c.tiles.visits c.args.blocks.now.room c.tiles.blocks.room c.tiles.blocks.entries in
-    let seen = c.read-here.ensures.visits in
-    let lo = c.add.ensures.visits.0 in
-    let hi = c.add.ensures.visits.1 in
     walk-on w kept (Gathering c.args.visits.now c.add.new.visits c.args.blocks.now.room c.add.new.blocks.room c.add.new.blocks.entries) c.read-here.result c.next-tile.result
     (walk-at w kept c.tiles.tile c.read-here.result c.tiles.invariant (walk-read c.tiles.tile c.in-Some.unread c.read-here.result c.in-Some.is c.read-here.ensures.tile)) c.next-tile.ensures
     (λ front k. gathering-more c.args.visits.now c.tiles.visits c.args.blocks.now.room c.tiles.blocks.room c.tiles.blocks.entries front c.read-here.result c.add.new.visits c.add.new.blocks.room c.add.new.blocks.entries k

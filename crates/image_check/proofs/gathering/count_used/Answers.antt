@@ -41,7 +41,6 @@ pub tiles-preserved : goal.tiles-preserved
 tiles-preserved c =
     let w = c.args.window.now in
     let kept = Counted c.args.visits.now c.tiles.visits c.tiles.count in
-    let seen = c.read-here.ensures.visits in
     let on = walk-on w kept (Counted c.args.visits.now c.read-here.new.visits c.if-is_some.count) c.read-here.result c.next-tile.result
     (walk-at w kept c.tiles.tile c.read-here.result c.tiles.invariant (walk-read c.tiles.tile c.in-Some.unread c.read-here.result c.in-Some.is c.read-here.ensures.tile)) c.next-tile.ensures in
     elim c.if-is_some.branch [

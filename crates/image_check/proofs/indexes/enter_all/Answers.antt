@@ -10,10 +10,10 @@ use Rattle.image_check.proofs.EntriesNoted.{one-entered, wrong-entry, targets_of
 use Rattle.image_check.proofs.indexes.enter_all.Goals as goal
 
 pub overflow_mul-place : goal.overflow_mul-place
-overflow_mul-place c = let t = c.entries-test.true in omega arith
+overflow_mul-place c =  omega arith
 
 pub overflow_add-place : goal.overflow_add-place
-overflow_add-place c = let t = c.entries-test.true in omega arith
+overflow_add-place c =  omega arith
 
 pub returns-then-not-enter-clause-entered : goal.returns-then-not-enter-clause-entered
 returns-then-not-enter-clause-entered c ts b =
@@ -29,9 +29,6 @@ pub entries-preserved : goal.entries-preserved
 entries-preserved c =
     let m = bytes_of c.args.window.now.bytes in
     let f : ℕ → Option ℕ = λ i. link_at m (c.args.block + 8 * i) in
-    let t = c.entries-test.true in
-    let s = c.enter.ensures.spends in
-    let v = c.link-link.ensures.visits in
     let inv = c.entries.invariant in
     let more = map-range_with_len_more f 0 c.entries.i c.entries.i (omega arith) in
     record {

@@ -18,7 +18,6 @@ returns-in-Err-clause-noted g c =
     let o = c.elements.owners in
     let n = c.mark.new.owners in
     let at = c.args.array + 16 * c.elements.i in
-    let below = c.elements-test.true in
     let start = c.requires.1.1.1.1 c.elements.i (omega arith) in
     of-err (λ done. IsMarked g.format (bytes_of b) (tiles_in b) None Storage (owner at at) o.blocks.entries o.waiting n.blocks.entries n.pending n.waiting) (IsSharedIn g.format b) c.mark.result c.in-Err.class c.in-Err.is
     (c.mark.ensures.marked g.format (bytes_of b) (tiles_in b) None c.elements.invariant.done.grown.marking c.link-target.ensures.link start.1 (inl (start.0, refl)))
@@ -29,11 +28,7 @@ elements-preserved g c =
     let o = c.elements.owners in
     let n = c.mark.new.owners in
     let at = c.args.array + 16 * c.elements.i in
-    let below = c.elements-test.true in
     let start = c.requires.1.1.1.1 c.elements.i (omega arith) in
-    let seen = c.link-target.ensures.visits in
-    let lo = c.mark.ensures.visits.0 in
-    let hi = c.mark.ensures.visits.1 in
     let done = of-ok (λ done. IsMarked g.format (bytes_of b) (tiles_in b) None Storage (owner at at) o.blocks.entries o.waiting n.blocks.entries n.pending n.waiting) (IsSharedIn g.format b) c.mark.result _ c.in_default.is
     (c.mark.ensures.marked g.format (bytes_of b) (tiles_in b) None c.elements.invariant.done.grown.marking c.link-target.ensures.link start.1 (inl (start.0, refl))) in
     elements-on g.format b c.args.array c.args.owners.now.blocks.entries c.args.owners.now.waiting c.args.visits.now c.elements.i c.args.count o.blocks.entries o.pending o.waiting c.elements.visits

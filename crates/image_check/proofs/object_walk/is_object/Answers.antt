@@ -11,8 +11,6 @@ returns-then-not-has_room-clause-is c =
 
 pub has_room-requires : goal.has_room-requires
 has_room-requires c =
-    let m = bytes_of c.args.window.now.bytes in
-    let e : c.at-start.result ≡ c.args.object.at + 16 + (word_at m (c.args.object.at + 8) % 4294967296 + 7) / 8 * 8 = c.at-start.ensures ∙ c.value.ensures in
     omega arith
 
 pub has_spellings-requires-clause-room : goal.has_spellings-requires-clause-room

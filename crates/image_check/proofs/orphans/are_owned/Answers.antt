@@ -37,9 +37,6 @@ pub tiles-preserved : goal.tiles-preserved
 tiles-preserved c =
     let w = c.args.window.now in
     let es = c.args.blocks.now.entries in
-    let seen = c.read-here.ensures.visits in
-    let lo = c.is_owned.ensures.visits.0 in
-    let hi = c.is_owned.ensures.visits.1 in
     walk-on w (Owning es c.args.visits.now c.tiles.visits) (Owning es c.args.visits.now c.is_owned.new.visits) c.read-here.result c.next-tile.result
     (walk-at w (Owning es c.args.visits.now c.tiles.visits) c.tiles.tile c.read-here.result c.tiles.invariant (walk-read c.tiles.tile c.in-Some.unread c.read-here.result c.in-Some.is c.read-here.ensures.tile)) c.next-tile.ensures
     (λ front k. owning-on es c.args.visits.now c.tiles.visits c.is_owned.new.visits front c.read-here.result k (sym c.is_owned.ensures.owned ∙ c.if-not-is_owned.false) (omega arith, omega arith))
@@ -55,9 +52,6 @@ pub returns-then-not-is_owned-clause-visits : goal.returns-then-not-is_owned-cla
 returns-then-not-is_owned-clause-visits c =
     let w = c.args.window.now in
     let es = c.args.blocks.now.entries in
-    let seen = c.read-here.ensures.visits in
-    let lo = c.is_owned.ensures.visits.0 in
-    let hi = c.is_owned.ensures.visits.1 in
     owning-visits w es c.args.visits.now c.tiles.visits c.is_owned.new.visits c.read-here.result (walk-at w (Owning es c.args.visits.now c.tiles.visits) c.tiles.tile c.read-here.result c.tiles.invariant (walk-read c.tiles.tile c.in-Some.unread c.read-here.result c.in-Some.is c.read-here.ensures.tile))
     (omega arith, omega arith)
 

@@ -40,13 +40,11 @@ rise-requires-clause-inside c =
 pub rise-requires-clause-links : goal.rise-requires-clause-links
 rise-requires-clause-links c i l =
     let b = c.args.window.now.bytes in
-    let count = c.header_word.ensures in
     entry-some (bytes_of b) (tiles_in b) c.args.at c.in-Some.block c.requires.index (leads (goal.at.rise-requires-clause-links c).In-Some) i (omega arith)
 
 pub rise-requires-clause-heads : goal.rise-requires-clause-heads
 rise-requires-clause-heads c i n l e =
     let b = c.args.window.now.bytes in
-    let count = c.header_word.ensures in
     c.requires.heads n (entry-among (bytes_of b) (tiles_in b) c.args.at c.in-Some.block c.requires.index (leads (goal.at.rise-requires-clause-heads c).In-Some) i n (omega arith) e)
 
 pub returns-in-Some-clause-spends : goal.returns-in-Some-clause-spends

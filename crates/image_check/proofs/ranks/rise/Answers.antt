@@ -33,8 +33,6 @@ entries-preserved c =
     let on : follows c.args.class m (last_of (targets_of front)) c.in-Some.here ≡ true = ap (λ l. follows c.args.class m l c.in-Some.here) (sym c.entries.invariant.last) ∙ sym c.follows.ensures.is ∙ c.if-not-follows.false in
     let inv = c.entries.invariant in
     let t = c.entries-test.true in
-    let v = c.link.ensures.visits in
-    let s = c.follows.ensures.spends in
     record {
       within = omega arith;
       ranked = ap (are_ranked c.args.class m) all ∙ ranked-more c.args.class m (targets_of front) c.in-Some.here inv.ranked on;

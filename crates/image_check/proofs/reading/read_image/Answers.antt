@@ -25,7 +25,6 @@ returns-in-Ok-read_rest-clause-reads g c =
     let mid = (g.S.Source.history c.read_front.new.reader).bytes in
     let new = (g.S.Source.history c.read_rest.new.reader).bytes in
     let read = c.in-Ok.ensures.ok in
-    let long = read.long in
     let enough : 12 ≤ length front = omega arith in
     let by = since-format c.args.versions old mid new front (drop (length mid) new) enough read.read was.history.grows in
     rw c.new.ensures (subst (λ (f : ℕ). IsImageRead f (given_since (g.S.Source.history c.args.reader.now) (g.S.Source.history c.read_rest.new.reader)) c.args.region c.args.base c.read_rest.new.window) (sym by)
@@ -42,7 +41,6 @@ returns-in-Err-read_rest-clause-reads g c =
     let mid = (g.S.Source.history c.read_front.new.reader).bytes in
     let new = (g.S.Source.history c.read_rest.new.reader).bytes in
     let read = c.in-Ok.ensures.ok in
-    let long = read.long in
     let enough : 12 ≤ length front = omega arith in
     let by = since-format c.args.versions old mid new front (drop (length mid) new) enough read.read was.history.grows in
     let f0 = format_in c.args.versions front in

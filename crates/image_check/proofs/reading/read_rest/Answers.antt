@@ -15,7 +15,6 @@ returns-in_err-read_all-clause-err g c =
 pub returns-in_err-read_all-clause-len : goal.returns-in_err-read_all-clause-len
 returns-in_err-read_all-clause-len g c =
     let w = c.args.window.now in
-    let least = c.requires.long in
     let long : length c.read_all.new.into ≡ c.size-size.result - 24 = let a = c.read_all.auto.into in let b = c.bytes_mut.ensures.len in omega arith in
     ap length (rest-filled w.bytes c.read_all.new.into c.size-size.result (omega arith) c.size-size.ensures long) ∙ front-length w.bytes c.read_all.new.into c.size-size.result (omega arith) c.size-size.ensures long
 
@@ -28,6 +27,5 @@ returns-clause-err g c =
 pub returns-clause-len : goal.returns-clause-len
 returns-clause-len g c =
     let w = c.args.window.now in
-    let least = c.requires.long in
     let long : length c.read_all.new.into ≡ c.size-size.result - 24 = let a = c.read_all.auto.into in let b = c.bytes_mut.ensures.len in omega arith in
     ap length (rest-filled w.bytes c.read_all.new.into c.size-size.result (omega arith) c.size-size.ensures long) ∙ front-length w.bytes c.read_all.new.into c.size-size.result (omega arith) c.size-size.ensures long

@@ -50,8 +50,6 @@ returns-in-Map-clause-visits g c =
     let m = c.mark.new.owners in
     let ready = c.requires.1.1 in
     let is = c.in-Map.is in
-    let lo = c.mark.ensures.visits.0 in
-    let hi = c.mark.ensures.visits.1 in
     let marks = subst (Marks g.format b Node c.link.result o.blocks.entries o.waiting m.blocks.entries m.pending m.waiting c.mark.result) c.at-at.ensures (c.mark.ensures.marked g.format (bytes_of b) (tiles_in b) None c.requires.1.0) in
     pays-from (λ x. IsMarked g.format (bytes_of b) (tiles_in b) None Node (owner at at) o.blocks.entries o.waiting m.blocks.entries m.pending m.waiting) (IsSharedIn g.format b)
     3 c.mark.result c.args.visits.now (6 * o.waiting + debt o.blocks.entries) c.mark.new.visits (6 * m.waiting + debt m.blocks.entries)

@@ -26,8 +26,6 @@ elements-preserved c =
     let p : ℕ → Bool = λ i. is_spelling c.args.kind (read (bytes_of b) (c.args.start + size_of c.args.kind * i) (size_of c.args.kind)) in
     let here = element-spelled b c.args.kind c.args.start c.elements.i c.args.count c.size-size.result c.element.result.now c.requires.inside c.elements-test.true c.size-size.ensures c.element.ensures.bytes in
     let inv = c.elements.invariant in
-    let t = c.elements-test.true in
-    let v = c.element.ensures.visits in
     record {
       within = omega arith;
       spelled = all-further p 0 c.elements.i c.elements.i (omega arith) inv.spelled (sym here ∙ sym c.is_spelling.ensures ∙ c.if-not-is_spelling.false);

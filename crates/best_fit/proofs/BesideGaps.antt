@@ -9,14 +9,14 @@ use Rattle.block_tags.specs.declared.tile.Role.{Role}
 use Rattle.block_tags.specs.declared.tile.Tile.{Tile}
 use Rattle.block_tags.specs.Tiles.{AreTags, is_free, tag_word}
 use Rattle.block_tags.specs.Windows.{SaysTiles}
-use Rattle.best_fit.specs.Extents.{Gap, gaps}
+use Rattle.best_fit.specs.Extents.{gaps}
 use Rattle.best_fit.specs.GapNodes.{gap_of, gaps_of, lies_in_block, plain, tiles_in}
 use Rattle.best_fit.specs.GapTrees.{Regrown}
 use Rattle.best_fit.specs.Heap.{live_of}
 use Rattle.best_fit.specs.Rebuilding.{AreBytes, IsBesideGap}
 use Rattle.best_fit.proofs.Laid.{SaysHeap, gaps-live_in, legal_size, said_row, says-live}
 use Rattle.best_fit.proofs.Regrowths.{empty_not, head_same, plain_used, regrown_block, tail_same}
-use Rattle.best_fit.proofs.Rows.{Row, unused, used, use_cases, used-not_free, gaps_of-free, gaps_of-used}
+use Rattle.best_fit.proofs.Rows.{unused, used, use_cases, used-not_free, gaps_of-free, gaps_of-used}
 use Rattle.best_fit.proofs.Steps.{In}
 
 -- ---- bytes of a number

@@ -42,6 +42,7 @@ mod Turns
 mod TwoLent
 mod Uprooting
 mod Walks
+mod WayPoints
 mod Writes
 mod Zeros
 mod Serving

@@ -7,7 +7,7 @@ ghost use Rattle.best_fit.specs.Heap.{Allocates, IsExtended, IsReleased, IsShort
 use crate::heap::Heap;
 use crate::heap::touching::Touches;
 use crate::refusal::NoSpace;
-use crate::{releasing, resizing, taking};
+use crate::{passing, releasing, resizing, taking};
 use block_tags::{Role, TAG};
 use raw_region::Steps;
 
@@ -27,6 +27,9 @@ impl Heap {
         let mut touches = Touches::new(&mut self.gaps);
         let result = taking::allocate(&mut touches, n, role);
         steps.add(touches.count());
+        if let Ok(handle) = &result {
+            self.points.note(*handle);
+        }
         result
     }
 
@@ -38,6 +41,7 @@ impl Heap {
         ensures steps { steps.new ≤ steps.old + heap_touches (live_of self.old.bytes) }
     {
         let mut touches = Touches::new(&mut self.gaps);
+        passing::pass_on(&mut touches, &mut self.points, handle);
         releasing::release(&mut touches, handle - TAG);
         steps.add(touches.count());
     }

@@ -17,6 +17,7 @@ mod summing;
 pub mod touching;
 
 use crate::lending::on_two;
+use crate::way_points::WayPoints;
 use crate::{walking, zeroing};
 use block_tags::{FIRST, Role, TAG, Tile};
 use nodes::{FREE_TREE, Gaps, plant_first};
@@ -31,18 +32,19 @@ use std::marker::Model;
 #[derive(Drop)]
 pub struct Heap {
     pub(crate) gaps: Gaps,
+    /// Where to begin to look for a handle. Neither the bytes nor what is answered depend on it.
+    pub(crate) points: WayPoints,
 }
 
 impl Model for Heap {
     ghost use Rattle.raw_region.specs.Memory.{Cut};
-    ghost use Rattle.raw_region.specs.Format.{current};
-    ghost use Rattle.best_fit.specs.Heap.{IsHeap};
+    ghost use Rattle.best_fit.specs.WayPoints.{IsHeld};
 
     ghost Value = { Cut };
 
     ghost view = { λ h. h.gaps.window };
 
-    ghost invariant = { λ h. IsHeap current h.gaps.window.bytes };
+    ghost invariant = { λ h. IsHeld h.gaps.window.bytes h.points };
 }
 
 impl Heap {
@@ -55,10 +57,12 @@ impl Heap {
         ensures { IsFresh current window result }
     {
         let mut window = window;
+        let points = WayPoints::none(window.size());
         block_tags::lay(&mut window);
         plant_first(&mut window);
         Heap {
             gaps: Gaps { window },
+            points,
         }
     }
 
@@ -68,8 +72,10 @@ impl Heap {
         requires { IsHeap current window.bytes }
         ensures { result ≡ window }
     {
+        let points = walking::way_points(&window);
         Heap {
             gaps: Gaps { window },
+            points,
         }
     }
 
@@ -80,6 +86,7 @@ impl Heap {
     {
         let Heap {
             gaps: Gaps { window },
+            ..
         } = self;
         window
     }
@@ -130,7 +137,7 @@ impl Heap {
     pub fn is_live(&self, handle: u64) -> bool
         ensures { result ≡ is_live_in (live_of self.now.bytes) handle }
     {
-        walking::is_live(&self.gaps.window, handle)
+        walking::is_live(&self.gaps.window, &self.points, handle)
     }
 
     /// What the block of a handle is used for.

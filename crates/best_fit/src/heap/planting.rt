@@ -12,6 +12,7 @@ ghost use Rattle.best_fit.specs.Rebuilding.{AreBytes, IsNextGap, IsRebuilt};
 
 use crate::heap::Heap;
 use crate::heap::nodes::{FREE_TREE, Gaps, RIGHT, set_link};
+use crate::walking;
 use block_tags::{TAG, first, next};
 use link_tree::insert;
 use offset_link::load;
@@ -31,7 +32,8 @@ impl Heap {
         clear_gaps(&mut gaps.window);
         plant_gaps(&mut gaps);
         hold_window(&gaps.window);
-        Heap { gaps }
+        let points = walking::way_points(&gaps.window);
+        Heap { gaps, points }
     }
 }
 

@@ -3,19 +3,20 @@ use Rattle.std.proofs.Common.{◌≡◌, refl, sym, subst, ap, ◌∙◌, ◌-�
 use Rattle.raw_region.specs.Memory.{Cut, part}
 use Rattle.best_fit.specs.Heap.{live_of, payload_at}
 use Rattle.best_fit.proofs.Payloads.{ReadAt, live_at, payload_written, read_at, with_payload-lent}
-use Rattle.best_fit.proofs.Writes.{block_payload, laid-heap}
+use Rattle.best_fit.proofs.Writes.{block_payload}
+use Rattle.best_fit.proofs.WayPoints.{held-same}
 use Rattle.best_fit.proofs.heap.Heap.block_mut.Goals as goal
 use Rattle.best_fit.proofs.heap.Heap.block_mut.Goals.{After-tile_at-len}
 
 pub overflow_sub-handle : goal.overflow_sub-handle
-overflow_sub-handle c = let low = (live_at c.args.self.now c.self.inside.gaps.window c.args.handle (cc) c.self.invariant c.requires).low in omega arith
+overflow_sub-handle c = let low = (live_at c.args.self.now c.self.inside.gaps.window c.args.handle (cc) c.self.invariant.heap c.requires).low in omega arith
 
 pub tile_at-len-requires : goal.tile_at-len-requires
-tile_at-len-requires c = (live_at c.args.self.now c.self.inside.gaps.window c.args.handle (cc) c.self.invariant c.requires).tile
+tile_at-len-requires c = (live_at c.args.self.now c.self.inside.gaps.window c.args.handle (cc) c.self.invariant.heap c.requires).tile
 
 -- the block, whose tile was read
 block : (c : After-tile_at-len) → ReadAt c.self.inside.gaps.window c.args.handle c.tile_at-len.result.len
-block c = read_at c.args.self.now c.self.inside.gaps.window c.args.handle (cc) c.self.invariant c.requires c.tile_at-len.result c.tile_at-len.ensures
+block c = read_at c.args.self.now c.self.inside.gaps.window c.args.handle (cc) c.self.invariant.heap c.requires c.tile_at-len.result c.tile_at-len.ensures
 
 pub overflow_sub-len : goal.overflow_sub-len
 overflow_sub-len c = let long = (block (goal.at.overflow_sub-len c).After-tile_at-len).long in omega arith
@@ -26,7 +27,7 @@ bytes_mut-requires c = let inside = (block (goal.at.bytes_mut-requires c).After-
 pub invariant_of-self-lent : goal.invariant_of-self-lent
 invariant_of-self-lent c =
     let w = c.self.inside.gaps.window in let b = block (goal.at.invariant_of-self-lent c).After-tile_at-len in
-    λ ws. laid-heap _ (live_of w.bytes) (payload_written w c.args.handle (c.tile_at-len.result.len - 16) ws c.self.invariant b.block b.payload).live
+    λ ws. held-same c.self.inside.points c.self.inside.gaps.window.bytes _ c.self.invariant.points (payload_written w c.args.handle (c.tile_at-len.result.len - 16) ws c.self.invariant.heap b.block b.payload).live
 
 pub returns : goal.returns
 returns c =

@@ -3,13 +3,13 @@ use Rattle.std.proofs.Common.{◌≡◌, ap, subst, ◌+◌, ◌≤◌, List, le
 use Rattle.raw_region.specs.Memory.{Cut}
 use Rattle.raw_region.specs.Format.{current}
 use Rattle.link_tree.specs.Tree.{bits}
-use Rattle.best_fit.specs.Ends.{HasBlockBehind, HasEndMoved}
+use Rattle.best_fit.specs.Ends.{HasBlockBehind, HasEndMoved, of_size}
 use Rattle.best_fit.specs.Extents.{Gap}
 use Rattle.best_fit.specs.GapNodes.{gaps_in}
 use Rattle.best_fit.specs.Heap.{heap_touches, live_of}
 use Rattle.best_fit.proofs.Allocating.{heap_bits}
 use Rattle.best_fit.proofs.Appended.{behind_heap, behind_live, end_moved}
-use Rattle.best_fit.proofs.Writes.{laid-heap}
+use Rattle.best_fit.proofs.WayPoints.{held-on}
 use Rattle.best_fit.proofs.heap.Heap.extend_end.Goals as goal
 use Rattle.best_fit.proofs.heap.Heap.extend_end.Goals.{After-append_block-at}
 
@@ -42,7 +42,10 @@ release-requires-clause-live c =
     behind_live c.self.inside.gaps.window c.append_block-at.new.touches.gaps.now.window c.args.extra c.append_block-at.result (block p) (place p)
 
 pub invariant_of-self : goal.invariant_of-self
-invariant_of-self c = laid-heap c.release.new.touches.gaps.now.window.bytes _ c.release.ensures.released.live
+invariant_of-self c =
+    let p = (goal.at.invariant_of-self c).After-append_block-at in let w = c.self.inside.gaps.window in
+    let moved = end_moved w c.append_block-at.new.touches.gaps.now.window c.args.extra c.append_block-at.result (block p) (place p) c.release.new.touches.gaps.now.window c.release.ensures.released in
+    held-on c.self.inside.points w.bytes c.release.new.touches.gaps.now.window.bytes (of_size (live_of w.bytes) (length w.bytes + c.args.extra)) c.self.invariant.points moved.live (λ h l. l)
 
 pub returns-clause-moved : goal.returns-clause-moved
 returns-clause-moved c =
@@ -54,5 +57,5 @@ pub returns-clause-steps : goal.returns-clause-steps
 returns-clause-steps c =
     let p = (goal.at.returns-clause-steps c).After-append_block-at in let w = c.self.inside.gaps.window in let e : w ≡ c.args.self.now = cc in
     let zero = c.new-touches.ensures.count in let two = c.append_block-at.ensures.touched in let more = c.release.ensures.steps in
-    let alike = ap (λ n. bits (n + 1)) (gaps p) in let same = heap_bits w c.self.invariant in let n = c.count.ensures in let added = c.add.ensures in
+    let alike = ap (λ n. bits (n + 1)) (gaps p) in let same = heap_bits w c.self.invariant.heap in let n = c.count.ensures in let added = c.add.ensures in
     subst (λ (v : Cut). c.add.new.self ≤ c.args.steps.now + heap_touches (live_of v.bytes)) e (omega arith)

@@ -3,33 +3,33 @@ use Rattle.std.proofs.Common.{◌≡◌, sym, subst, ap, ◌∙◌, ◌-◌, Lis
 use Rattle.std.specs.List.{refill}
 use Rattle.raw_region.specs.Memory.{part, patched}
 use Rattle.raw_region.specs.Regions.{with_bytes}
-use Rattle.raw_region.specs.Format.{current}
-use Rattle.best_fit.specs.Heap.{IsHeap, live_of, payload_at}
+use Rattle.best_fit.specs.Heap.{live_of, payload_at}
 use Rattle.best_fit.proofs.Payloads.{ReadAt, live_at, payload_written, read_at, with_payload-lent}
 use Rattle.best_fit.proofs.TwoLent.{all_lent, blocks_apart, called_at, payload_lent}
-use Rattle.best_fit.proofs.Writes.{laid-heap}
+use Rattle.best_fit.specs.WayPoints.{IsHeld}
+use Rattle.best_fit.proofs.WayPoints.{held-same}
 use Rattle.best_fit.proofs.heap.Heap.two.Given.{Over}
 use Rattle.best_fit.proofs.heap.Heap.two.Goals as goal
 use Rattle.best_fit.proofs.heap.Heap.two.Goals.{After-bytes_mut-bytes, After-on_two}
 
 pub overflow_sub-first : goal.overflow_sub-first
-overflow_sub-first g c = let low = (live_at c.args.self.now c.self.inside.gaps.window c.args.first (cc) c.self.invariant c.requires.first).low in omega arith
+overflow_sub-first g c = let low = (live_at c.args.self.now c.self.inside.gaps.window c.args.first (cc) c.self.invariant.heap c.requires.first).low in omega arith
 
 pub tile_at-len-requires : goal.tile_at-len-requires
-tile_at-len-requires g c = (live_at c.args.self.now c.self.inside.gaps.window c.args.first (cc) c.self.invariant c.requires.first).tile
+tile_at-len-requires g c = (live_at c.args.self.now c.self.inside.gaps.window c.args.first (cc) c.self.invariant.heap c.requires.first).tile
 
 pub overflow_sub-second : goal.overflow_sub-second
-overflow_sub-second g c = let low = (live_at c.args.self.now c.self.inside.gaps.window c.args.second (cc) c.self.invariant c.requires.second).low in omega arith
+overflow_sub-second g c = let low = (live_at c.args.self.now c.self.inside.gaps.window c.args.second (cc) c.self.invariant.heap c.requires.second).low in omega arith
 
 pub tile_at-other-requires : goal.tile_at-other-requires
-tile_at-other-requires g c = (live_at c.args.self.now c.self.inside.gaps.window c.args.second (cc) c.self.invariant c.requires.second).tile
+tile_at-other-requires g c = (live_at c.args.self.now c.self.inside.gaps.window c.args.second (cc) c.self.invariant.heap c.requires.second).tile
 
 -- the two blocks
 first : (g : Over) (c : After-bytes_mut-bytes g) → ReadAt c.self.inside.gaps.window c.args.first c.tile_at-len.result.len
-first g c = read_at c.args.self.now c.self.inside.gaps.window c.args.first (cc) c.self.invariant c.requires.first c.tile_at-len.result c.tile_at-len.ensures
+first g c = read_at c.args.self.now c.self.inside.gaps.window c.args.first (cc) c.self.invariant.heap c.requires.first c.tile_at-len.result c.tile_at-len.ensures
 
 second : (g : Over) (c : After-bytes_mut-bytes g) → ReadAt c.self.inside.gaps.window c.args.second c.tile_at-other.result.len
-second g c = read_at c.args.self.now c.self.inside.gaps.window c.args.second (cc) c.self.invariant c.requires.second c.tile_at-other.result c.tile_at-other.ensures
+second g c = read_at c.args.self.now c.self.inside.gaps.window c.args.second (cc) c.self.invariant.heap c.requires.second c.tile_at-other.result c.tile_at-other.ensures
 
 pub overflow_sub-a : goal.overflow_sub-a
 overflow_sub-a g c = let long = (first g c).long in omega arith
@@ -46,7 +46,7 @@ on_two-requires-clause-b_inside g c = let inside = (second g c).inside in let si
 pub on_two-requires-clause-apart : goal.on_two-requires-clause-apart
 on_two-requires-clause-apart g c =
     let s = first g c in let t = second g c in
-    blocks_apart c.self.inside.gaps.window c.args.first c.args.second (c.tile_at-len.result.len - 16) (c.tile_at-other.result.len - 16) c.self.invariant s.block t.block c.requires.apart s.payload t.payload
+    blocks_apart c.self.inside.gaps.window c.args.first c.args.second (c.tile_at-len.result.len - 16) (c.tile_at-other.result.len - 16) c.self.invariant.heap s.block t.block c.requires.apart s.payload t.payload
 
 -- what is lent of them is their payloads
 first_lent : (g : Over) (c : After-bytes_mut-bytes g) → part c.bytes_mut-bytes.result.now c.args.first (c.tile_at-len.result.len - 16) ≡ payload_at c.args.self.now.bytes (live_of c.args.self.now.bytes) c.args.first
@@ -72,8 +72,8 @@ left g c t =
 pub invariant_of-self : goal.invariant_of-self
 invariant_of-self g c =
     let w = c.self.inside.gaps.window in let p = goal.at.invariant_of-self g c in let t = second g p.After-bytes_mut-bytes in
-    subst (λ (b : List ℕ). IsHeap current b) (sym (left g p.After-on_two t))
-    (laid-heap _ (live_of w.bytes) (payload_written w c.args.second (c.tile_at-other.result.len - 16) c.on_two.ensures.0 c.self.invariant t.block t.payload).live)
+    subst (λ (b : List ℕ). IsHeld b c.self.inside.points) (sym (left g p.After-on_two t))
+    (held-same c.self.inside.points w.bytes _ c.self.invariant.points (payload_written w c.args.second (c.tile_at-other.result.len - 16) c.on_two.ensures.0 c.self.invariant.heap t.block t.payload).live)
 
 pub returns : goal.returns
 returns g c =

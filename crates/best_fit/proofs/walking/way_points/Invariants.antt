@@ -1,0 +1,12 @@
+-- Each block that was passed may be noted.
+use Rattle.std.proofs.Common.{List, length}
+use Rattle.block_tags.specs.declared.tile.Tile.{Tile}
+use Rattle.best_fit.specs.WayPoints.{LeadToBlocks}
+use Rattle.best_fit.proofs.Walks.{Left, to_go}
+use Rattle.best_fit.proofs.walking.way_points.Given as goal
+
+abbrev pub invariant-tiles : goal.invariant-tiles
+invariant-tiles l = Left l.window l.ahead (λ (ts : List Tile). Unit {0}) × LeadToBlocks l.points l.window.bytes
+
+abbrev pub decreases-tiles : goal.decreases-tiles
+decreases-tiles l = to_go (length l.window.bytes) l.ahead

@@ -1,0 +1,73 @@
+//! Way-points: handles of blocks in use that are known, so that a handle is looked for from the nearest one on.
+ghost use Rattle.std.specs.Prelude.{◌≡◌, ◌≢◌, ℕ, ◌⊎◌, ◌≤◌, IfSome};
+ghost use Rattle.best_fit.specs.WayPoints.{AreNone, IsNoted, place_of};
+
+/// The largest number of pieces of a window.
+const PIECES: usize = 2048;
+
+/// At most one handle for each piece of a window. The pieces are as long as each other.
+#[derive(Drop)]
+pub struct WayPoints {
+    /// The least known handle in each piece, or 0.
+    handles: [u32; PIECES],
+    /// The number of bytes of a piece is 2 to this.
+    piece: u32,
+}
+
+impl WayPoints {
+    /// No way-points, for a window of `size` bytes.
+    pub fn none(size: u64) -> WayPoints
+        ensures { AreNone result }
+    {
+        WayPoints {
+            handles: [0; PIECES],
+            piece: (size / PIECES as u64).max(1).ilog2() + 1,
+        }
+    }
+
+    /// Notes a handle where no lower one is known in its piece.
+    pub fn note(&mut self, handle: u64)
+        ensures { (h : ℕ) → IsNoted self.new h → (h ≡ handle) ⊎ IsNoted self.old h }
+    {
+        let place = place(self.piece, handle);
+        if place < PIECES && handle <= u32::MAX as u64 {
+            let known = self.handles[place] as u64;
+            if known == 0 || handle < known {
+                self.handles[place] = handle as u32;
+            }
+        }
+    }
+
+    /// Takes a handle out, and answers whether it was noted.
+    pub fn forget(&mut self, handle: u64) -> bool
+        ensures { (h : ℕ) → IsNoted self.new h → (h ≢ handle) × IsNoted self.old h }
+    {
+        let place = place(self.piece, handle);
+        if place < PIECES && self.handles[place] as u64 == handle {
+            self.handles[place] = 0;
+            return true;
+        }
+        false
+    }
+
+    /// The nearest noted handle at or before this one, if there is one.
+    pub fn nearest(&self, handle: u64) -> Option<u64>
+        ensures { IfSome result (λ h. IsNoted self.now h × (h ≤ handle)) }
+    {
+        let behind = place(self.piece, handle).min(PIECES - 1) + 1;
+        'pieces: for piece in (0..behind).rev() {
+            let known = self.handles[piece] as u64;
+            if known != 0 && known <= handle && place(self.piece, known) == piece {
+                return Some(known);
+            }
+        }
+        None
+    }
+}
+
+/// The piece in which an offset lies.
+fn place(piece: u32, offset: u64) -> usize
+    ensures { result ≡ place_of piece offset }
+{
+    offset.wrapping_shr(piece) as usize
+}

@@ -16,7 +16,7 @@ overflow_sub-handle c =
 pub next-requires-clause-tile : goal.next-requires-clause-tile
 next-requires-clause-tile c =
     let w = c.args.touches.now.gaps.now.window in let h = c.args.handle in
-    let b = live_block w h c.requires.heap c.requires.live in let o = b.at in block_tile w h (h - 16) b (omega arith)
+    let b = live_block w h c.requires.heap c.requires.live in block_tile w h (h - 16) b (omega arith)
 
 pub overflow_add-result : goal.overflow_add-result
 overflow_add-result c =

@@ -57,7 +57,7 @@ impl Heap {
         ensures { IsFresh current window result }
     {
         let mut window = window;
-        let points = WayPoints::none(window.size());
+        let points = WayPoints::none();
         block_tags::lay(&mut window);
         plant_first(&mut window);
         Heap {

@@ -2,8 +2,11 @@
 ghost use Rattle.std.specs.Prelude.{◌≡◌, ◌≢◌, ℕ, ◌⊎◌, ◌≤◌, IfSome};
 ghost use Rattle.best_fit.specs.WayPoints.{AreNone, IsNoted, place_of};
 
-/// The largest number of pieces of a window.
+/// The number of pieces of a window.
 const PIECES: usize = 2048;
+
+/// The first pieces have 2 to this many bytes.
+const SHORTEST: u32 = 12;
 
 /// At most one handle for each piece of a window. The pieces are as long as each other.
 #[derive(Drop)]
@@ -15,18 +18,29 @@ pub struct WayPoints {
 }
 
 impl WayPoints {
-    /// No way-points, for a window of `size` bytes.
-    pub fn none(size: u64) -> WayPoints
+    /// No way-points.
+    pub fn none() -> WayPoints
         ensures { AreNone result }
     {
         WayPoints {
             handles: [0; PIECES],
-            piece: (size / PIECES as u64).max(1).ilog2() + 1,
+            piece: SHORTEST,
+        }
+    }
+
+    /// Notes a handle where no lower one is known in its piece. Where it stands behind all pieces, these become longer.
+    pub fn note(&mut self, handle: u64)
+        ensures { (h : ℕ) → IsNoted self.new h → (h ≡ handle) ⊎ IsNoted self.old h }
+    {
+        if place(self.piece, handle) < PIECES {
+            self.enter(handle);
+        } else {
+            self.widen();
         }
     }
 
     /// Notes a handle where no lower one is known in its piece.
-    pub fn note(&mut self, handle: u64)
+    fn enter(&mut self, handle: u64)
         ensures { (h : ℕ) → IsNoted self.new h → (h ≡ handle) ⊎ IsNoted self.old h }
     {
         let place = place(self.piece, handle);
@@ -36,6 +50,24 @@ impl WayPoints {
                 self.handles[place] = handle as u32;
             }
         }
+    }
+
+    /// Makes each piece twice as long. It stands apart, so that no other call pays for its table.
+    #[inline(never)]
+    fn widen(&mut self)
+        ensures { (h : ℕ) → IsNoted self.new h → IsNoted self.old h }
+    {
+        let mut wider = WayPoints {
+            handles: [0; PIECES],
+            piece: self.piece.saturating_add(1),
+        };
+        'pieces: for piece in 0..PIECES {
+            let handle = self.handles[piece] as u64;
+            if place(self.piece, handle) == piece {
+                wider.enter(handle);
+            }
+        }
+        *self = wider;
     }
 
     /// Takes a handle out, and answers whether it was noted.

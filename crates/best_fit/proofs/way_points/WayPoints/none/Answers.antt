@@ -1,8 +1,7 @@
 -- Zero is no handle.
-use Rattle.std.proofs.Common.{◌+◌}
 use Rattle.best_fit.specs.WayPoints.{place_of}
 use Rattle.best_fit.proofs.WayPoints.{none-noted}
 use Rattle.best_fit.proofs.way_points.WayPoints.none.Goals as goal
 
 pub returns : goal.returns
-returns c = λ h n. none-noted 2048 (place_of (c.ilog2.result + 1) h) h n.0 n.1
+returns c = λ h n. none-noted 2048 (place_of 12 h) h n.0 n.1

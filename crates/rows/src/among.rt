@@ -1,12 +1,11 @@
 //! A segment among other bytes.
 ghost use Rattle.std.specs.Prelude.{◌≡◌, ◌%◌};
 
-use crate::segments::region_of;
+use crate::segments::{base_of, region_of};
 use image_check::open;
 use raw_region::fake::{Last, MemorySink, MemorySource};
 use raw_region::{RawRegion, Steps};
-use rows_format::Place;
-use rows_trials::{MARK, Moved, Script, copy_of};
+use rows_trials::{MARK, Moved, Place, Script, copy_of};
 use segment_cli::{Start, run};
 use segment_manager::{Mode, Segment};
 use std::alloc::{AllocError, Global};
@@ -28,8 +27,8 @@ pub fn begun(
     place: Place,
 ) -> Option<Segment> {
     match start {
-        Start::Fresh(size) => Segment::create(region, place.base, size, Mode::Write).ok(),
-        Start::Image => opened(alloc, image, region, place.base),
+        Start::Fresh(size) => Segment::create(region, base_of(place), size, Mode::Write).ok(),
+        Start::Image => opened(alloc, image, region, base_of(place)),
     }
 }
 

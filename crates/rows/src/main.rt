@@ -1,12 +1,14 @@
-//! The program `rows`: runs the rows of the files that its arguments name, and prints for each file how many there are.
+//! The program `rows`: runs the rows of the files that its arguments name, and prints for each file how many there are; and a few
+//! runs of its own, of what no row reaches.
 #![tactic(auto)]
 
 mod among;
 mod names;
+mod runs;
 mod segments;
 
-use rows_format::read_items;
-use rows_trials::Desk;
+use rows_trials::{Desk, Trouble, items_of, lines_of};
+use runs::{Tally, make_runs};
 use segments::Segments;
 use std::process::ExitCode;
 use std::{env, fs, io};
@@ -20,24 +22,20 @@ fn main(rt: HostRuntime) -> io::Result<ExitCode> {
             is_sound = false;
         }
     }
-    Ok(ExitCode::from(u8::from(!is_sound)))
+    let Tally { runs, wrong } = make_runs(rt.alloc())?;
+    println!(rt; "its own: {runs} runs, {wrong} of them wrong")?;
+    Ok(ExitCode::from(u8::from(!is_sound || wrong != 0)))
 }
 
 /// Runs the items of a file, and prints what they come to: whether all is as they say.
 fn run_file<R: Print + AllocGlobal>(rt: &R, name: &str, text: &str) -> io::Result<bool> {
-    let items = match read_items(rt.alloc(), text) {
-        Ok(items) => items,
-        Err(trouble) => {
-            println!(rt; "{name}: {trouble}")?;
-            return Ok(false);
-        }
-    };
     let alloc = rt.alloc();
+    let lines = lines_of(alloc, text)?;
     let mut desk = Desk::new(alloc, Segments { alloc });
     let mut is_sound = true;
-    for item in &items {
-        if let Err(trouble) = desk.check(item) {
-            println!(rt; "{name}: {trouble}")?;
+    for item in &items_of(alloc, &lines)? {
+        if let Err(Trouble { line, what }) = desk.check(item) {
+            println!(rt; "{name}: line {line}: {what}")?;
             is_sound = false;
         }
     }

@@ -1,7 +1,6 @@
 //! The modes, beginnings and faults of the library, by the names that rows have for them.
 
 use image_check::ImageClass;
-use rows_format::{Class, Fault};
 use segment_cli::SessionFault;
 
 /// A mode of a session.
@@ -22,32 +21,32 @@ pub fn start_of(start: rows_trials::Start) -> segment_cli::Start {
 }
 
 /// Why a session or a migration fails.
-pub fn fault_of(fault: SessionFault) -> Fault {
+pub fn fault_name(fault: SessionFault) -> &'static str {
     match fault {
-        SessionFault::Image(class) => Fault::Image(class_of(class)),
-        SessionFault::BadSize => Fault::BadSize,
-        SessionFault::RegionTooSmall => Fault::RegionTooSmall,
-        SessionFault::OutOfMemory => Fault::OutOfMemory,
-        SessionFault::ReadFault => Fault::ReadFault,
-        SessionFault::WriteFault => Fault::WriteFault,
-        SessionFault::ScriptTooLong => Fault::ScriptTooLong,
+        SessionFault::Image(class) => class_name(class),
+        SessionFault::BadSize => "fault BadSize",
+        SessionFault::RegionTooSmall => "fault RegionTooSmall",
+        SessionFault::OutOfMemory => "fault OutOfMemory",
+        SessionFault::ReadFault => "fault ReadFault",
+        SessionFault::WriteFault => "fault WriteFault",
+        SessionFault::ScriptTooLong => "fault ScriptTooLong",
     }
 }
 
 /// Why an image is refused.
-fn class_of(class: ImageClass) -> Class {
+fn class_name(class: ImageClass) -> &'static str {
     match class {
-        ImageClass::Truncated => Class::Truncated,
-        ImageClass::BadMagic => Class::BadMagic,
-        ImageClass::UnsupportedVersion => Class::UnsupportedVersion,
-        ImageClass::BadSize => Class::BadSize,
-        ImageClass::BadReserved => Class::BadReserved,
-        ImageClass::BadTag => Class::BadTag,
-        ImageClass::BadFreeTree => Class::BadFreeTree,
-        ImageClass::BadIndex => Class::BadIndex,
-        ImageClass::BadObject => Class::BadObject,
-        ImageClass::SharedBlock => Class::SharedBlock,
-        ImageClass::BadContainer => Class::BadContainer,
-        ImageClass::OrphanBlock => Class::OrphanBlock,
+        ImageClass::Truncated => "Truncated",
+        ImageClass::BadMagic => "BadMagic",
+        ImageClass::UnsupportedVersion => "UnsupportedVersion",
+        ImageClass::BadSize => "BadSize",
+        ImageClass::BadReserved => "BadReserved",
+        ImageClass::BadTag => "BadTag",
+        ImageClass::BadFreeTree => "BadFreeTree",
+        ImageClass::BadIndex => "BadIndex",
+        ImageClass::BadObject => "BadObject",
+        ImageClass::SharedBlock => "SharedBlock",
+        ImageClass::BadContainer => "BadContainer",
+        ImageClass::OrphanBlock => "OrphanBlock",
     }
 }

@@ -1,11 +1,11 @@
 //! The library, as rows run it.
+ghost use Rattle.std.specs.Prelude.{◌≡◌, ◌%◌};
 
 use crate::among::{begun, marked, moved};
-use crate::names::{fault_of, mode_of, start_of};
+use crate::names::{fault_name, mode_of, start_of};
 use raw_region::RawRegion;
 use raw_region::fake::{MemorySink, MemorySource};
-use rows_format::Place;
-use rows_trials::{Call, Moved, Outcome, Runner, Script, Task};
+use rows_trials::{Call, Moved, Outcome, Place, Runner, Script, Way};
 use segment_cli::{SessionFault, Start, migrate, session};
 use segment_manager::Mode;
 use std::alloc::{AllocError, Global};
@@ -17,12 +17,19 @@ pub struct Segments {
 }
 
 impl Runner for Segments {
-    fn run(&self, task: &Task<'_, '_>) -> Result<Outcome, AllocError> {
-        match task.call {
+    fn run(&self, way: &Way, image: &[u8], script: &[u8]) -> Result<Outcome, AllocError> {
+        match way.call {
             Call::Session(start, mode) => {
-                run_session(self.alloc, task, start_of(start), mode_of(mode))
+                run_session(
+                    self.alloc,
+                    way,
+                    image,
+                    script,
+                    start_of(start),
+                    mode_of(mode),
+                )
             }
-            Call::Migrate => run_migration(self.alloc, task),
+            Call::Migrate => run_migration(self.alloc, way, image),
         }
     }
 
@@ -43,7 +50,11 @@ impl Runner for Segments {
 
 /// A region of the capacity of a place.
 pub fn region_of(alloc: Global, place: Place) -> Result<RawRegion, AllocError> {
-    match RawRegion::new(alloc, place.capacity) {
+    let capacity = place.capacity;
+    if capacity < 16 || 1 << 40 < capacity || capacity % 16 != 0 {
+        return Err(AllocError);
+    }
+    match RawRegion::new(alloc, capacity) {
         Ok(region) => Ok(region),
         Err(_) => Err(AllocError),
     }
@@ -52,23 +63,18 @@ pub fn region_of(alloc: Global, place: Place) -> Result<RawRegion, AllocError> {
 /// A session.
 fn run_session(
     alloc: Global,
-    task: &Task<'_, '_>,
+    way: &Way,
+    image: &[u8],
+    script: &[u8],
     start: Start,
     mode: Mode,
 ) -> Result<Outcome, AllocError> {
-    let Task {
-        image,
-        script,
-        place,
-        devices,
-        ..
-    } = *task;
-    let region = region_of(alloc, place)?;
-    let mut image = MemorySource::new(image, devices.piece, devices.image_last);
-    let mut script = MemorySource::new(script, devices.piece, devices.script_last);
-    let last = devices.writers_last;
-    let mut answers = MemorySink::new(alloc, devices.answer_room, devices.piece, last)?;
-    let mut saved = MemorySink::new(alloc, devices.image_room, devices.piece, last)?;
+    let piece = way.piece;
+    let region = region_of(alloc, way.place)?;
+    let mut image = MemorySource::new(image, piece, way.image_last);
+    let mut script = MemorySource::new(script, piece, way.script_last);
+    let mut answers = MemorySink::new(alloc, way.answer_room, piece, way.writers_last)?;
+    let mut saved = MemorySink::new(alloc, way.image_room, piece, way.writers_last)?;
     let result = session(
         alloc,
         start,
@@ -78,31 +84,37 @@ fn run_session(
         &mut answers,
         &mut saved,
         region,
-        place.base,
+        base_of(way.place),
     );
     Ok(outcome(result, answers, saved))
 }
 
 /// A migration.
-fn run_migration(alloc: Global, task: &Task<'_, '_>) -> Result<Outcome, AllocError> {
-    let devices = task.devices;
-    let region = region_of(alloc, task.place)?;
-    let mut image = MemorySource::new(task.image, devices.piece, devices.image_last);
-    let last = devices.writers_last;
-    let answers = MemorySink::new(alloc, 0, devices.piece, last)?;
-    let mut saved = MemorySink::new(alloc, devices.image_room, devices.piece, last)?;
-    let result = migrate(alloc, &mut image, &mut saved, region, task.place.base);
+fn run_migration(alloc: Global, way: &Way, image: &[u8]) -> Result<Outcome, AllocError> {
+    let piece = way.piece;
+    let region = region_of(alloc, way.place)?;
+    let mut image = MemorySource::new(image, piece, way.image_last);
+    let answers = MemorySink::new(alloc, 0, piece, way.writers_last)?;
+    let mut saved = MemorySink::new(alloc, way.image_room, piece, way.writers_last)?;
+    let result = migrate(alloc, &mut image, &mut saved, region, base_of(way.place));
     Ok(outcome(result, answers, saved))
+}
+
+/// The base of a place, which is a multiple of 16.
+pub fn base_of(place: Place) -> u64
+    ensures { result % 16 ≡ 0 }
+{
+    place.base / 16 * 16
 }
 
 /// What comes of a call.
 fn outcome(came: Result<(), SessionFault>, answers: MemorySink, saved: MemorySink) -> Outcome {
-    let result = match came {
-        Ok(()) => Ok(()),
-        Err(fault) => Err(fault_of(fault)),
+    let fault = match came {
+        Ok(()) => "",
+        Err(fault) => fault_name(fault),
     };
     Outcome {
-        result,
+        fault,
         answers,
         saved,
     }

@@ -2,10 +2,10 @@
 
 use crate::checks::Wanted;
 use crate::scripts::Script;
-use crate::tasks::{Outcome, Start, Task};
+use crate::tasks::{Outcome, Place, Start, Way};
+use crate::troubles::Trouble;
 use raw_region::RawRegion;
 use raw_region::fake::MemorySink;
-use rows_format::{Place, Trouble};
 use std::alloc::{AllocError, Global};
 use std::cell::Cell;
 
@@ -21,8 +21,8 @@ pub struct Moved {
 
 /// What runs sessions and migrations.
 pub trait Runner: Drop {
-    /// Makes a call, and gives what comes of it.
-    fn run(&self, task: &Task<'_, '_>) -> Result<Outcome, AllocError>;
+    /// Makes a call on an image and a script, and gives what comes of it.
+    fn run(&self, way: &Way, image: &[u8], script: &[u8]) -> Result<Outcome, AllocError>;
 
     /// Begins a segment in mode `Write` in a region whose other bytes are `MARK`, from an image if it does not begin fresh; runs a
     /// script on it, and moves it into another region. Nothing comes of it where one of these fails.
@@ -45,27 +45,38 @@ pub struct Bench<R> {
 
 impl<R: Runner> Bench<R> {
     /// Makes a call, and sees that what is wanted comes of it.
-    pub fn check(&self, wanted: &Wanted<'_, '_>, task: &Task<'_, '_>) -> Result<(), Trouble> {
-        self.outcome(wanted, task)?;
-        Ok(())
+    pub fn check(
+        &self,
+        wanted: &Wanted<'_>,
+        way: &Way,
+        image: &[u8],
+        script: &[u8],
+    ) -> Result<(), Trouble> {
+        wanted.compare(&self.runner.run(way, image, script)?)
     }
 
     /// Makes a call, and gives what comes of it, if that is what is wanted.
     pub fn outcome(
         &self,
-        wanted: &Wanted<'_, '_>,
-        task: &Task<'_, '_>,
+        wanted: &Wanted<'_>,
+        way: &Way,
+        image: &[u8],
+        script: &[u8],
     ) -> Result<Outcome, Trouble> {
-        let done = self.runner.run(task)?;
-        if wanted.is_met_by(&done) {
-            return Ok(done);
-        }
-        Err(wanted.told(self.alloc, task, &done))
+        let done = self.runner.run(way, image, script)?;
+        wanted.compare(&done)?;
+        Ok(done)
     }
 
     /// Makes a call with a device that fails, and counts it.
-    pub fn cut(&self, wanted: &Wanted<'_, '_>, task: &Task<'_, '_>) -> Result<(), Trouble> {
+    pub fn cut(
+        &self,
+        wanted: &Wanted<'_>,
+        way: &Way,
+        image: &[u8],
+        script: &[u8],
+    ) -> Result<(), Trouble> {
         self.cuts.set(self.cuts.get().saturating_add(1));
-        self.check(wanted, task)
+        self.check(wanted, way, image, script)
     }
 }

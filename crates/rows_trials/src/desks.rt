@@ -2,11 +2,11 @@
 
 use crate::benches::{Bench, Runner};
 use crate::images::{Images, copy_of, word_at};
-use crate::tasks::Start;
+use crate::lines::{Begins, Line, parted};
+use crate::part_lines::{Deed, Part};
+use crate::tasks::{Place, Start};
 use crate::trials::Trial;
-use rows_format::{
-    Beginning, Damage, Damaged, Deed, Fault, FormError, Item, Part, Place, Requests, Row, Trouble,
-};
+use crate::troubles::Trouble;
 use std::alloc::Global;
 use std::cell::Cell;
 
@@ -16,27 +16,10 @@ const MOST_SAID: u64 = 65536;
 /// The images that have names so far, what runs the rows, and how many there were.
 #[derive(Drop)]
 pub struct Desk<'a, R> {
-    bench: Bench<R>,
-    images: Images<'a>,
+    pub bench: Bench<R>,
+    pub images: Images<'a>,
     rows: u64,
     lines: u64,
-}
-
-/// What a part of a row begins with.
-#[derive(Drop)]
-struct Stand {
-    start: Start,
-    image: Vec<u8>,
-}
-
-impl Stand {
-    /// The bytes of a segment: of an image those that it has, or says that it has, if these are more and not too many.
-    fn size(&self) -> u64 {
-        match self.start {
-            Start::Fresh(size) => size,
-            Start::Image => size_of(&self.image),
-        }
-    }
 }
 
 impl<'a, R: Runner> Desk<'a, R> {
@@ -70,184 +53,158 @@ impl<'a, R: Runner> Desk<'a, R> {
         self.bench.cuts.get()
     }
 
-    /// Does what an item says.
-    pub fn check(&mut self, item: &Item<'a>) -> Result<(), Trouble> {
-        match item {
-            Item::Image(image) => self.images.make(image),
-            Item::Row(row) => self.check_row(row),
-            Item::Damaged(damaged) => self.check_damaged(damaged),
-            Item::Requests(requests) => self.check_requests(requests),
-        }
-    }
-
-    fn count(&mut self, rows: usize, lines: usize) {
-        self.rows = self.rows.saturating_add(rows as u64);
+    /// Counts a row, which has so many lines.
+    pub fn count(&mut self, lines: usize) {
+        self.rows = self.rows.saturating_add(1);
         self.lines = self.lines.saturating_add(lines as u64);
     }
 
-    fn check_requests(&mut self, requests: &Requests) -> Result<(), Trouble> {
-        self.bench.check_requests(requests)?;
-        self.count(requests.refused.len(), 0);
-        self.count(requests.granted.len(), 0);
-        Ok(())
+    /// Does what the lines of an item say.
+    pub fn check(&mut self, lines: &[Line<'a>]) -> Result<(), Trouble> {
+        let [first, ..] = lines else {
+            return Ok(());
+        };
+        match first.word {
+            "image" => self.images.make(lines),
+            "row" => self.check_row(first, lines),
+            "damaged" => self.check_damaged(lines),
+            "requests" => self.check_requests(lines),
+            _ => Err(first.misplaced()),
+        }
     }
 
-    fn check_row(&mut self, row: &Row<'a>) -> Result<(), Trouble> {
-        match &row.beginning {
-            Beginning::Unsaid => {
-                let line = row.number;
-                let why = FormError::Misplaced;
-                Err(Trouble::Form { line, why })
-            }
-            Beginning::Sizes(sizes) => self.check_sizes(row, sizes),
-            Beginning::Image(name, changes) => {
-                let image = self.images.changed(row.number, name, changes)?;
-                let start = Start::Image;
-                self.check_parts(row, Stand { start, image })
+    /// Runs a row: in fresh segments of some sizes, or on an image with changes.
+    fn check_row(&mut self, row: &Line<'a>, lines: &[Line<'a>]) -> Result<(), Trouble> {
+        for line in lines {
+            match line.word {
+                "size" => return self.check_sizes(line, lines),
+                "image" => {
+                    let image = self.changed(line, lines)?;
+                    return self.check_parts(line, lines, Start::Image, image);
+                }
+                _ => {}
             }
         }
+        Err(row.misplaced())
     }
 
     /// Runs a row in fresh segments.
-    fn check_sizes(&mut self, row: &Row<'a>, sizes: &[u64]) -> Result<(), Trouble> {
-        for size in sizes {
-            let start = Start::Fresh(*size);
-            let image = Vec::new(self.bench.alloc);
-            self.check_parts(row, Stand { start, image })?;
+    fn check_sizes(&mut self, sizes: &Line<'a>, lines: &[Line<'a>]) -> Result<(), Trouble> {
+        for size in sizes.rest.split_whitespace() {
+            let start = Start::Fresh(sizes.number_of(size)?);
+            self.check_parts(sizes, lines, start, Vec::new(self.bench.alloc))?;
         }
         Ok(())
     }
 
-    /// Runs the parts of a row, from a fresh segment or an image on.
-    fn check_parts(&mut self, row: &Row<'a>, first: Stand) -> Result<(), Trouble> {
-        let size = first.size();
-        let usual = [Place::filled_by(size), Place::around(size)];
-        let places = places_of(&*row, &usual);
-        let mut stand = first;
-        for part in &row.parts {
+    /// The image that a row begins with.
+    fn changed(&self, image: &Line<'a>, lines: &[Line<'a>]) -> Result<Vec<u8>, Trouble> {
+        let mut bytes = self.images.copy(image, image.rest)?;
+        for line in lines {
+            line.change(&mut bytes)?;
+        }
+        Ok(bytes)
+    }
+
+    /// Runs the parts of a row, from a fresh segment or an image on, each on the image that was saved last.
+    fn check_parts(
+        &mut self,
+        row: &Line<'a>,
+        lines: &[Line<'a>],
+        start: Start,
+        image: Vec<u8>,
+    ) -> Result<(), Trouble> {
+        let places = places_of(self.bench.alloc, lines, size_of(start, &image))?;
+        let (mut start, mut image) = (start, image);
+        let once = is_once(lines);
+        let mut count = 0usize;
+        for lines in &parted(self.bench.alloc, lines, Begins::Part)? {
             let trial = Trial {
                 line: row.number,
-                start: stand.start,
-                image: &stand.image,
-                places,
-                once: row.once,
+                start,
+                image: &image,
+                places: &places,
+                once,
             };
-            if let Some(image) = self.check_part(&trial, part)? {
-                let start = Start::Image;
-                stand = Stand { start, image };
+            let part = Part::read(self.bench.alloc, lines)?;
+            count = count.saturating_add(part.script.marks.len());
+            if let Some(saved) = self.check_part(&trial, row, &part)? {
+                start = Start::Image;
+                image = saved;
             }
         }
-        self.count(1, lines_of(&row.parts));
+        self.count(count);
         Ok(())
     }
 
     /// Runs a part, and gives the image that it saves, if it saves another.
     fn check_part(
         &mut self,
-        trial: &Trial<'_, '_>,
+        trial: &Trial<'_>,
+        row: &Line<'a>,
         part: &Part<'a>,
     ) -> Result<Option<Vec<u8>>, Trouble> {
-        match part.deed {
-            Deed::Write => {
-                let saved = self.bench.write(trial, part)?;
-                self.keep(trial.line, part, saved)
-            }
-            Deed::Migrate => {
-                let saved = self.bench.migrate(trial, part.result)?;
-                self.keep(trial.line, part, saved)
-            }
+        let saved = match part.deed {
+            Deed::Nothing => return Ok(None),
+            Deed::Write => self.bench.write_or_refuse(trial, part)?,
+            Deed::Migrate => self.bench.migrate_or_refuse(trial, part)?,
             Deed::Read => {
-                self.bench.read(trial, part)?;
-                Ok(None)
+                self.bench.read(trial, &part.script)?;
+                return Ok(None);
             }
             Deed::Alone => {
-                self.bench.alone(trial, part)?;
-                Ok(None)
+                self.bench.alone(trial, &part.script)?;
+                return Ok(None);
             }
+        };
+        if !part.saves.is_empty() && self.images.get(row, part.saves)? != saved.as_slice() {
+            return Err(row.trouble("another image is saved than the one that it names"));
         }
-    }
-
-    /// Compares what a part saves with the image that it names, and keeps it under a name.
-    fn keep(
-        &mut self,
-        line: usize,
-        part: &Part<'a>,
-        saved: Vec<u8>,
-    ) -> Result<Option<Vec<u8>>, Trouble> {
-        if let Some(name) = part.saves {
-            self.compare(line, name, &saved)?;
-        }
-        if let Some(name) = part.keeps {
-            self.images.keep(name, copy_of(self.bench.alloc, &saved)?)?;
+        if !part.keeps.is_empty() {
+            let kept = copy_of(self.bench.alloc, &saved)?;
+            self.images.keep(part.keeps, kept)?;
         }
         Ok(Some(saved))
     }
-
-    /// Compares an image that is saved with the one of a name.
-    fn compare(&self, line: usize, name: &str, saved: &[u8]) -> Result<(), Trouble> {
-        if self.images.get(line, name)? == saved {
-            return Ok(());
-        }
-        let text = format!(in self.bench.alloc; "what is saved is not {name}")?;
-        Err(Trouble::Differs { line, text })
-    }
-
-    /// Sees that each damaged image is refused by its class.
-    fn check_damaged(&mut self, damaged: &Damaged<'a>) -> Result<(), Trouble> {
-        for damage in &damaged.damages {
-            self.check_damage(damaged.name, damage)?;
-        }
-        Ok(())
-    }
-
-    fn check_damage(&mut self, name: &str, damage: &Damage) -> Result<(), Trouble> {
-        let image = self.images.changed(damage.number, name, &damage.changes)?;
-        let size = (image.len() as u64).max(4096);
-        let trial = Trial {
-            line: damage.number,
-            start: Start::Image,
-            image: &image,
-            places: &[Place::filled_by(size), Place::around(size)],
-            once: false,
-        };
-        self.bench.refuse(&trial, Fault::Image(damage.class))?;
-        self.count(1, 0);
-        Ok(())
-    }
 }
 
-/// The places of a row, or the usual ones.
-fn places_of<'b>(row: &'b Row<'_>, usual: &'b [Place]) -> &'b [Place] {
-    if row.places.is_empty() {
-        usual
-    } else {
-        &row.places
-    }
+/// Places where a segment of so many bytes lies usually.
+pub fn usual_places(size: u64) -> [Place; 2] {
+    [Place::filled_by(size), Place::around(size)]
 }
 
-/// The bytes of a segment for an image: those that it has, or says that it has, if these are more and not too many.
-fn size_of(image: &[u8]) -> u64 {
+/// The places that a row says, or the usual ones.
+fn places_of(alloc: Global, lines: &[Line<'_>], size: u64) -> Result<Vec<Place>, Trouble> {
+    let mut places = Vec::new(alloc);
+    for line in lines {
+        if line.word == "place" {
+            places.push(line.place()?)?;
+        }
+    }
+    if places.is_empty() {
+        places.extend_from_slice(&usual_places(size))?;
+    }
+    Ok(places)
+}
+
+/// Whether a row is run only once.
+fn is_once(lines: &[Line<'_>]) -> bool {
+    for line in lines {
+        if line.word == "once" {
+            return true;
+        }
+    }
+    false
+}
+
+/// The bytes of a segment: of an image those that it has, or says that it has, if these are more and not too many.
+fn size_of(start: Start, image: &[u8]) -> u64 {
     let len = image.len() as u64;
-    match word_at(image, 16) {
-        said if said <= MOST_SAID => len.max(said),
-        _ => len,
+    match start {
+        Start::Fresh(size) => size,
+        Start::Image => match word_at(image, 16) {
+            said if said <= MOST_SAID => len.max(said),
+            _ => len,
+        },
     }
-}
-
-/// How many lines the scripts of a row have.
-fn lines_of(parts: &[Part<'_>]) -> usize {
-    let mut count = 0usize;
-    for part in parts {
-        count = count.saturating_add(lines_in(part));
-    }
-    count
-}
-
-/// How many lines the script of a part has.
-fn lines_in(part: &Part<'_>) -> usize {
-    let mut count = 0usize;
-    for line in &part.lines {
-        count = count.saturating_add(line.times);
-    }
-    count
 }

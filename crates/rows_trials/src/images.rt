@@ -1,6 +1,7 @@
 //! Images under names, and changes of them.
 
-use rows_format::{Change, FormError, Image, Origin, Trouble};
+use crate::lines::Line;
+use crate::troubles::Trouble;
 use std::alloc::{AllocError, Global};
 
 /// An image under a name.
@@ -27,14 +28,18 @@ impl<'a> Images<'a> {
     }
 
     /// The image of a name, which is said in a line: the last one that got it.
-    pub fn get(&self, line: usize, name: &str) -> Result<&[u8], Trouble> {
+    pub fn get(&self, line: &Line<'a>, name: &str) -> Result<&[u8], Trouble> {
         for named in self.named.iter().rev() {
             if named.name == name {
                 return Ok(&named.bytes);
             }
         }
-        let why = FormError::Image;
-        Err(Trouble::Form { line, why })
+        Err(line.trouble("there is no image of this name"))
+    }
+
+    /// A copy of the image of a name.
+    pub fn copy(&self, line: &Line<'a>, name: &str) -> Result<Vec<u8>, Trouble> {
+        Ok(copy_of(self.alloc, self.get(line, name)?)?)
     }
 
     /// Keeps an image under a name.
@@ -43,45 +48,60 @@ impl<'a> Images<'a> {
         Ok(())
     }
 
-    /// An image with some changes.
-    pub fn changed(&self, line: usize, name: &str, changes: &[Change]) -> Result<Vec<u8>, Trouble> {
-        let mut image = copy_of(self.alloc, self.get(line, name)?)?;
-        change(&mut image, changes)?;
-        Ok(image)
-    }
-
-    /// Makes an image and keeps it.
-    pub fn make(&mut self, image: &Image<'a>) -> Result<(), Trouble> {
-        let mut bytes = match image.origin {
-            Origin::Zeros(size) => Vec::from_elem(self.alloc, 0u8, size)?,
-            Origin::Named(name) => copy_of(self.alloc, self.get(image.number, name)?)?,
+    /// Makes the image that some lines say: so many zeros, or another image, with changes.
+    pub fn make(&mut self, lines: &[Line<'a>]) -> Result<(), Trouble> {
+        let [first, changes @ ..] = lines else {
+            return Ok(());
         };
-        change(&mut bytes, &image.changes)?;
-        self.keep(image.name, bytes)?;
+        let (name, made) = first.rest.split_once(' ').unwrap_or((first.rest, ""));
+        let mut bytes = match made.strip_prefix("of ") {
+            Some(other) => self.copy(first, other)?,
+            None => Vec::from_elem(self.alloc, 0u8, first.number_of(made)? as usize)?,
+        };
+        for line in changes {
+            if !line.change(&mut bytes)? {
+                return Err(line.misplaced());
+            }
+        }
+        self.keep(name, bytes)?;
         Ok(())
     }
 }
 
-/// Makes changes one after another. What is to stand behind the end is left out.
-fn change(image: &mut Vec<u8>, changes: &[Change]) -> Result<(), AllocError> {
-    for change in changes {
-        match *change {
-            Change::Put {
-                offset,
-                len,
-                number,
-            } => {
-                let bytes = number.to_le_bytes();
-                let slots = image.iter_mut().skip(offset).take(len);
-                for (slot, byte) in slots.zip(bytes) {
-                    *slot = byte;
-                }
+impl Line<'_> {
+    /// Makes the change of an image that the line says; whether it says one.
+    pub fn change(&self, image: &mut Vec<u8>) -> Result<bool, Trouble> {
+        match self.word {
+            "word" => {
+                let (offset, number) = self.pair_of(self.rest, ' ')?;
+                put(image, offset, 8, number);
             }
-            Change::First(len) => image.truncate(len),
-            Change::More(len) => image.resize(image.len().saturating_add(len), 0)?,
+            "at" => self.put(image, self.rest)?,
+            "first" => image.truncate(self.number_of(self.rest)? as usize),
+            "more" => {
+                let more = self.number_of(self.rest)? as usize;
+                image.resize(image.len().saturating_add(more), 0)?;
+            }
+            _ => return Ok(false),
         }
+        Ok(true)
     }
-    Ok(())
+
+    /// Puts the lowest bytes of a number, so many, at an offset: all three as a text says.
+    pub fn put(&self, image: &mut [u8], text: &str) -> Result<(), Trouble> {
+        let (offset, rest) = text.split_once(' ').unwrap_or((text, ""));
+        let (len, number) = self.pair_of(rest, ' ')?;
+        put(image, self.number_of(offset)?, len, number);
+        Ok(())
+    }
+}
+
+/// Puts the lowest bytes of a number. What is to stand behind the end is left out.
+fn put(image: &mut [u8], offset: u64, len: u64, number: u64) {
+    let slots = image.iter_mut().skip(offset as usize).take(len as usize);
+    for (slot, byte) in slots.zip(number.to_le_bytes()) {
+        *slot = byte;
+    }
 }
 
 /// A copy of some bytes.
@@ -91,19 +111,10 @@ pub fn copy_of(alloc: Global, bytes: &[u8]) -> Result<Vec<u8>, AllocError> {
     Ok(copy)
 }
 
-/// A list of some bytes after others.
-pub fn joined(alloc: Global, parts: &[&[u8]]) -> Result<Vec<u8>, AllocError> {
-    let mut all = Vec::new(alloc);
-    for part in parts {
-        all.extend_from_slice(part)?;
-    }
-    Ok(all)
-}
-
 /// The number in the 8 bytes from an offset on, or 0 where the image ends before.
 pub fn word_at(image: &[u8], offset: usize) -> u64 {
     match image.get(offset..offset.saturating_add(8)) {
-        Some([a, b, c, d, e, f, g, h]) => { u64::from_le_bytes([*a, *b, *c, *d, *e, *f, *g, *h]) }
+        Some([a, b, c, d, e, f, g, h]) => u64::from_le_bytes([*a, *b, *c, *d, *e, *f, *g, *h]),
         _ => 0,
     }
 }

@@ -2,9 +2,10 @@
 
 use crate::benches::{Bench, Moved, Runner};
 use crate::scripts::Script;
+use crate::tasks::Place;
 use crate::trials::Trial;
+use crate::troubles::Trouble;
 use raw_region::RawRegion;
-use rows_format::{Place, Trouble};
 
 /// The byte round the segment.
 pub const MARK: u8 = 7;
@@ -14,7 +15,7 @@ impl<R: Runner> Bench<R> {
     /// the segment's own are those that are saved.
     pub fn check_surroundings(
         &self,
-        trial: &Trial<'_, '_>,
+        trial: &Trial<'_>,
         script: &Script,
         saved: &[u8],
     ) -> Result<(), Trouble> {
@@ -22,50 +23,41 @@ impl<R: Runner> Bench<R> {
         let moved = self
             .runner
             .run_among(trial.start, trial.image, script, place)?;
-        match fault_of(&moved, script, place, saved) {
-            None => Ok(()),
-            Some(what) => self.told_of_surroundings(trial.line, what),
+        let line = trial.line;
+        match moved {
+            Some(moved) if is_alike(&moved, script, place, saved) => Ok(()),
+            _ => {
+                let what =
+                    "among other bytes it answers or saves something else, or these are written";
+                Err(Trouble { line, what })
+            }
         }
-    }
-
-    fn told_of_surroundings(&self, line: usize, what: &str) -> Result<(), Trouble> {
-        let text = String::from_str(self.alloc, what)?;
-        Err(Trouble::Differs { line, text })
     }
 }
 
-/// What is wrong with a segment among other bytes, or with these.
-fn fault_of(
-    moved: &Option<Moved>,
-    script: &Script,
-    place: Place,
-    saved: &[u8],
-) -> Option<&'static str> {
-    let Some(moved) = moved else {
-        return Some("no segment is begun, run and moved among other bytes");
-    };
-    if moved.answers.taken() != script.answers.as_slice() {
-        Some("the answers are others among other bytes")
-    } else if moved.image.as_slice() != saved || !stands_among(&moved.left, place, saved) {
-        Some("bytes round the segment are written")
-    } else {
-        None
-    }
+/// Whether a script printed the same among other bytes, the segment is the same, and these are as before.
+fn is_alike(moved: &Moved, script: &Script, place: Place, saved: &[u8]) -> bool {
+    moved.answers.taken() == script.answers.as_slice()
+        && moved.image.as_slice() == saved
+        && stands_among(&moved.left, place, saved)
 }
 
 /// Whether a region has the bytes of a segment in a place, and all others are marked.
 fn stands_among(region: &RawRegion, place: Place, segment: &[u8]) -> bool {
     let bytes = region.bytes(0, region.capacity());
-    let Some((before, rest)) = bytes.split_at_checked(place.base as usize) else {
-        return false;
-    };
-    let Some((inside, behind)) = rest.split_at_checked(segment.len()) else {
-        return false;
-    };
-    inside == segment && is_marked(before) && is_marked(behind)
+    let base = place.base as usize;
+    let end = base.saturating_add(segment.len());
+    bytes.get(base..end) == Some(segment)
+        && is_marked(bytes.get(..base))
+        && is_marked(bytes.get(end..))
 }
 
 /// Whether all of these bytes are marked.
-fn is_marked(bytes: &[u8]) -> bool {
-    bytes.iter().all(|byte| *byte == MARK)
+fn is_marked(bytes: Option<&[u8]>) -> bool {
+    for byte in bytes.unwrap_or(&[]) {
+        if *byte != MARK {
+            return false;
+        }
+    }
+    true
 }

@@ -5,7 +5,8 @@ use crate::checks::Wanted;
 use crate::scripts::Script;
 use crate::tasks::Mode;
 use crate::trials::Trial;
-use rows_format::{Line, Trouble};
+use crate::troubles::Trouble;
+use std::alloc::AllocError;
 
 /// The commands that may change a segment.
 const CHANGING: [&[u8]; 21] = [
@@ -32,100 +33,82 @@ const CHANGING: [&[u8]; 21] = [
     b"zero_free",
 ];
 
-/// Whether a command may change a segment. One with an error before the fourth is refused whatever the mode is.
-fn is_changing(line: &Line) -> bool {
-    is_changing_word(first_word(&line.command)) && !is_misspelled(line)
-}
-
-/// Whether a word is a command that may change a segment.
-fn is_changing_word(word: &[u8]) -> bool {
-    for changing in CHANGING {
-        if changing == word {
-            return true;
+/// Whether a line may change a segment. One with an error before the fourth is refused whatever the mode is.
+fn is_changing(line: &Script) -> bool {
+    let text = behind_blanks(&line.text);
+    for command in CHANGING {
+        if text.starts_with(command) && is_end(text.get(command.len())) {
+            return !is_misspelled(&line.answers);
         }
     }
     false
 }
 
-/// The first word of a line, or none.
-fn first_word(line: &[u8]) -> &[u8] {
-    for word in line.split(|byte| matches!(byte, b' ' | b'\t' | b'\r')) {
-        if !word.is_empty() {
-            return word;
+/// A line from its first word on.
+fn behind_blanks(line: &[u8]) -> &[u8] {
+    let mut at = 0usize;
+    for byte in line {
+        if !is_end(Some(byte)) {
+            break;
         }
+        at = at.saturating_add(1);
     }
-    &[]
+    line.get(at..).unwrap_or(&[])
 }
 
-/// Whether a line has an error that comes before all others.
-fn is_misspelled(line: &Line) -> bool {
-    matches!(
-        line.answer.as_slice(),
-        [
-            b'e',
-            b'r',
-            b'r',
-            b'o',
-            b'r',
-            b' ',
-            b'1' | b'2' | b'3',
-            b' ',
-            ..
-        ]
-    )
+/// Whether a word ends before this byte, or at the end of the line.
+fn is_end(byte: Option<&u8>) -> bool {
+    matches!(byte, None | Some(b' ' | b'\t' | b'\r'))
 }
 
-/// Behind which of the lines nothing changes a segment.
-fn last_change(lines: &[Line]) -> usize {
-    let mut behind = 0usize;
-    let mut index = 0usize;
-    for line in lines {
-        index = index.saturating_add(1);
-        if is_changing(line) {
-            behind = index;
-        }
-    }
-    behind
-}
-
-/// What a line prints in mode `ReadOnly` on the image that all lines leave, if that is known: one that may change it is refused; one
-/// behind the last of these, and one that is misspelled, answers as it did.
-fn answer_of(line: &Line, is_behind: bool) -> Option<&[u8]> {
-    if is_changing(line) {
-        Some(b"error 4 read only\n")
-    } else if is_behind || is_misspelled(line) {
-        Some(&line.answer)
-    } else {
-        None
-    }
+/// Whether an answer is an error that comes before all others.
+fn is_misspelled(answer: &[u8]) -> bool {
+    answer.starts_with(b"error 1 ")
+        || answer.starts_with(b"error 2 ")
+        || answer.starts_with(b"error 3 ")
 }
 
 impl<R: Runner> Bench<R> {
-    /// Runs each line in mode `ReadOnly` on the image that the lines leave.
-    pub fn check_read_only(&self, trial: &Trial<'_, '_>, lines: &[Line]) -> Result<(), Trouble> {
-        let behind = last_change(lines);
-        for (index, line) in lines.iter().enumerate() {
-            self.check_line(trial, line, behind <= index)?;
+    /// Runs each line in mode `ReadOnly` on the image that the lines leave, if it is known what it prints there: one that may change
+    /// it is refused; one behind the last of these, and one that is misspelled, answers as it did.
+    pub fn check_read_only(&self, trial: &Trial<'_>, script: &Script) -> Result<(), Trouble> {
+        let behind = self.last_change(script)?;
+        let mut number = 0usize;
+        for (index, mark) in script.marks.iter().enumerate() {
+            if mark.number != number {
+                let line = script.only(self.alloc, index)?;
+                self.check_line(mark.number, trial, &line, behind <= index)?;
+            }
+            number = mark.number;
         }
         Ok(())
     }
 
-    fn check_line(
-        &self,
-        trial: &Trial<'_, '_>,
-        line: &Line,
-        is_behind: bool,
-    ) -> Result<(), Trouble> {
-        let Some(answer) = answer_of(line, is_behind) else {
-            return Ok(());
-        };
-        let script = Script::bare(self.alloc, &line.command, answer)?;
-        self.check_only_read(&trial.of_line(line.number), &script)
+    /// Behind which of the lines nothing changes a segment.
+    fn last_change(&self, script: &Script) -> Result<usize, AllocError> {
+        let mut behind = 0usize;
+        for index in 0..script.marks.len() {
+            if is_changing(&script.only(self.alloc, index)?) {
+                behind = index.saturating_add(1);
+            }
+        }
+        Ok(behind)
     }
 
-    /// Runs a script in mode `ReadOnly` in the first place.
-    fn check_only_read(&self, trial: &Trial<'_, '_>, script: &Script) -> Result<(), Trouble> {
-        let task = trial.session(Mode::ReadOnly, script, 0);
-        self.check(&trial.wanted(script, &[]), &task)
+    fn check_line(
+        &self,
+        number: usize,
+        trial: &Trial<'_>,
+        line: &Script,
+        is_behind: bool,
+    ) -> Result<(), Trouble> {
+        let mut wanted = Wanted::script(number, line, &[]);
+        if is_changing(line) {
+            wanted.answers = Some(b"error 4 read only\n");
+        } else if !is_behind && !is_misspelled(&line.answers) {
+            return Ok(());
+        }
+        let way = trial.session(Mode::ReadOnly, line.answers.len().max(18), 0);
+        self.check(&wanted, &way, trial.image, &line.text)
     }
 }

@@ -2,11 +2,13 @@
 
 use crate::benches::{Bench, Runner};
 use crate::checks::Wanted;
-use crate::images::{copy_of, joined};
-use crate::tasks::{Call, Devices, Mode, Outcome, Start, Task};
+use crate::desks::{Desk, usual_places};
+use crate::images::copy_of;
+use crate::lines::Line;
+use crate::scripts::Script;
+use crate::tasks::{Call, Mode, Outcome, Start, Way};
 use crate::trials::PIECES;
-use rows_format::{Fit, Place, Requests, Trouble};
-use std::alloc::{AllocError, Global};
+use crate::troubles::Trouble;
 
 /// What is asked to see all that is in a segment; and then what lies free is cleared.
 const LOOK: &[u8] = b"free\nblocks\nlist\nunique\nnum_named\nnum_unique\nsanity\n\
@@ -17,159 +19,143 @@ const LOOK: &[u8] = b"free\nblocks\nlist\nunique\nnum_named\nnum_unique\nsanity\
 /// More bytes than a look prints.
 const ROOM: usize = 4096;
 
-/// Requests in a segment of some size, where they are made, and by what pieces.
-#[derive(Clone, Copy)]
-struct Asking<'a> {
-    requests: &'a Requests,
-    fit: Fit,
-    place: Place,
-    piece: usize,
+/// What is asked of a segment: the lines before the command as a script, and the command with what it answers where each request
+/// has a fit.
+#[derive(Drop)]
+struct Request {
+    before: Script,
+    command: Script,
 }
 
-impl<'a> Asking<'a> {
-    /// Requests in a region that the segment fills.
-    fn alone(requests: &'a Requests, fit: Fit, piece: usize) -> Asking<'a> {
-        Asking {
-            requests,
-            fit,
-            place: Place::filled_by(fit.size),
-            piece,
+impl<'a, R: Runner> Desk<'a, R> {
+    /// Makes the requests that the lines say in each of the sizes, in two places and in pieces.
+    pub fn check_requests(&mut self, lines: &[Line<'a>]) -> Result<(), Trouble> {
+        let mut request = Request {
+            before: Script::new(self.bench.alloc),
+            command: Script::new(self.bench.alloc),
+        };
+        for line in lines {
+            match line.word {
+                ">" => request.before.add(line)?,
+                "?" => request.command.add(line)?,
+                "<" => request.command.add_answer(line)?,
+                "refused" | "granted" => self.check_fits(line, &request)?,
+                "requests" => {}
+                _ => return Err(line.misplaced()),
+            }
         }
+        Ok(())
     }
 
-    /// Requests in a region with bytes before and behind the segment.
-    fn among(requests: &'a Requests, fit: Fit, piece: usize) -> Asking<'a> {
-        Asking {
-            place: Place::around(fit.size),
-            ..Asking::alone(requests, fit, piece)
+    /// Makes the requests in sizes of one line, each with the bytes that are free then.
+    fn check_fits(&mut self, line: &Line<'a>, request: &Request) -> Result<(), Trouble> {
+        for fit in line.rest.split_whitespace() {
+            let (size, free) = line.pair_of(fit, ':')?;
+            let free = format!(in self.bench.alloc; "{free}\n")?;
+            for place in usual_places(size) {
+                let call = Call::Session(Start::Fresh(size), Mode::Write);
+                let way = Way::sound(call, place, ROOM, size as usize);
+                self.bench.check_fit(line, request, &way, free.as_bytes())?;
+            }
+            self.count(0);
         }
-    }
-
-    /// A session in mode `Write`.
-    fn session<'i, 's>(&self, start: Start, image: &'i [u8], script: &'s [u8]) -> Task<'i, 's> {
-        Task {
-            call: Call::Session(start, Mode::Write),
-            image,
-            script,
-            place: self.place,
-            devices: Devices {
-                piece: self.piece,
-                ..Devices::sound(ROOM, self.fit.size as usize)
-            },
-        }
-    }
-
-    /// What is known of a session that is done.
-    fn wanted<'b, 's>(&self, answers: Option<&'b [u8]>, saved: Option<&'s [u8]>) -> Wanted<'b, 's> {
-        Wanted {
-            line: self.requests.number,
-            marks: &[],
-            result: Ok(()),
-            answers,
-            saved,
-        }
-    }
-
-    fn differs(&self, alloc: Global, what: &str) -> Result<(), Trouble> {
-        let line = self.requests.number;
-        let size = self.fit.size;
-        let text = format!(in alloc; "{what}, in {size} bytes")?;
-        Err(Trouble::Differs { line, text })
+        Ok(())
     }
 }
 
 impl<R: Runner> Bench<R> {
-    /// Makes the requests in each of the sizes, in two places and in pieces.
-    pub fn check_requests(&self, requests: &Requests) -> Result<(), Trouble> {
-        for fit in &requests.refused {
-            self.check_refused(requests, *fit)?;
-        }
-        for fit in &requests.granted {
-            self.check_granted(requests, *fit)?;
+    /// Makes the requests in a segment in a place, in pieces.
+    fn check_fit(
+        &self,
+        line: &Line<'_>,
+        request: &Request,
+        way: &Way,
+        free: &[u8],
+    ) -> Result<(), Trouble> {
+        let mut way = *way;
+        for piece in PIECES {
+            way.piece = piece;
+            let made = self.made(line, &way, &request.before.text)?;
+            let mut opened = way;
+            opened.call = Call::Session(Start::Image, Mode::Write);
+            if line.word == "granted" {
+                self.ask(line, request, &opened, &made, free)?;
+            } else {
+                self.ask_in_vain(line, request, &opened, &made, free)?;
+            }
         }
         Ok(())
     }
 
-    /// Sees that the command is refused in a segment of this size, and that behind it all is as before.
-    fn check_refused(&self, requests: &Requests, fit: Fit) -> Result<(), Trouble> {
-        for piece in PIECES {
-            self.ask_in_vain(&Asking::alone(requests, fit, piece))?;
-            self.ask_in_vain(&Asking::among(requests, fit, piece))?;
-        }
-        Ok(())
-    }
-
-    /// Sees that the command is done in a segment of this size, and that what it leaves is an image.
-    fn check_granted(&self, requests: &Requests, fit: Fit) -> Result<(), Trouble> {
-        for piece in PIECES {
-            self.ask(&Asking::alone(requests, fit, piece))?;
-            self.ask(&Asking::among(requests, fit, piece))?;
-        }
-        Ok(())
+    /// What is done without a fault, whatever it prints and saves.
+    fn done(
+        &self,
+        line: &Line<'_>,
+        way: &Way,
+        image: &[u8],
+        script: &[u8],
+    ) -> Result<Outcome, Trouble> {
+        let mut wanted = Wanted::fault(line.number, "");
+        wanted.answers = None;
+        wanted.saved = None;
+        self.outcome(&wanted, way, image, script)
     }
 
     /// The image that the lines before the command save in a fresh segment. None of them is refused.
-    fn made(&self, asking: &Asking<'_>) -> Result<Vec<u8>, Trouble> {
-        let start = Start::Fresh(asking.fit.size);
-        let task = asking.session(start, &[], &asking.requests.before);
-        let done = self.outcome(&asking.wanted(None, None), &task)?;
+    fn made(&self, line: &Line<'_>, way: &Way, before: &[u8]) -> Result<Vec<u8>, Trouble> {
+        let done = self.done(line, way, &[], before)?;
         if has_error(done.answers.taken()) {
-            asking.differs(self.alloc, "a line before the command is refused")?;
+            return Err(line.trouble("a line before the command is refused"));
         }
         Ok(copy_of(self.alloc, done.saved.taken())?)
     }
 
-    /// Makes requests of which one has no fit.
-    fn ask_in_vain(&self, asking: &Asking<'_>) -> Result<(), Trouble> {
-        let made = self.made(asking)?;
-        let stood = self.look(asking, &made)?;
-        let script = joined(self.alloc, &[&asking.requests.command, b"\n", LOOK])?;
-        let answers = joined(self.alloc, &[b"error 9 no space\n", stood.answers.taken()])?;
-        let wanted = asking.wanted(Some(&answers), Some(stood.saved.taken()));
-        self.check(&wanted, &asking.session(Start::Image, &made, &script))
-    }
-
-    /// Looks at all that is in an image, and sees how many bytes are free.
-    fn look(&self, asking: &Asking<'_>, image: &[u8]) -> Result<Outcome, Trouble> {
-        let task = asking.session(Start::Image, image, LOOK);
-        let stood = self.outcome(&asking.wanted(None, None), &task)?;
-        let count = self.line_of(asking.fit.free)?;
-        if !stood.answers.taken().starts_with(count.as_bytes()) {
-            asking.differs(
-                self.alloc,
-                "before the command another number of bytes is free",
-            )?;
+    /// Makes requests of which one has no fit: behind it all is as before.
+    fn ask_in_vain(
+        &self,
+        line: &Line<'_>,
+        request: &Request,
+        way: &Way,
+        made: &[u8],
+        free: &[u8],
+    ) -> Result<(), Trouble> {
+        let stood = self.done(line, way, made, LOOK)?;
+        if !stood.answers.taken().starts_with(free) {
+            return Err(line.trouble("before the command another number of bytes is free"));
         }
-        Ok(stood)
+        let mut script = Script::bare(self.alloc, &request.command.text, b"error 9 no space\n")?;
+        script.text.extend_from_slice(LOOK)?;
+        script.answers.extend_from_slice(stood.answers.taken())?;
+        let wanted = Wanted::script(line.number, &script, stood.saved.taken());
+        self.check(&wanted, way, made, &script.text)
     }
 
-    /// Makes requests that have a fit.
-    fn ask(&self, asking: &Asking<'_>) -> Result<(), Trouble> {
-        let made = self.made(asking)?;
-        let free = self.line_of(asking.fit.free)?;
-        let script = joined(self.alloc, &[&asking.requests.command, b"\nfree\n"])?;
-        let answers = joined(self.alloc, &[&asking.requests.answer, free.as_bytes()])?;
-        let task = asking.session(Start::Image, &made, &script);
-        let done = self.outcome(&asking.wanted(Some(&answers), None), &task)?;
-        self.check_stays(asking, done.saved.taken())
-    }
-
-    /// Sees that an image is read and saved as it is.
-    fn check_stays(&self, asking: &Asking<'_>, image: &[u8]) -> Result<(), Trouble> {
-        let wanted = asking.wanted(Some(&[]), Some(image));
-        self.check(&wanted, &asking.session(Start::Image, image, &[]))
-    }
-
-    /// The line of a number.
-    fn line_of(&self, number: u64) -> Result<String, AllocError> {
-        format!(in self.alloc; "{number}\n")
+    /// Makes requests that have a fit: what they leave is an image, which is read and saved as it is.
+    fn ask(
+        &self,
+        line: &Line<'_>,
+        request: &Request,
+        way: &Way,
+        made: &[u8],
+        free: &[u8],
+    ) -> Result<(), Trouble> {
+        let command = &request.command;
+        let mut script = Script::bare(self.alloc, &command.text, &command.answers)?;
+        script.text.extend_from_slice(b"free\n")?;
+        script.answers.extend_from_slice(free)?;
+        let mut wanted = Wanted::script(line.number, &script, &[]);
+        wanted.saved = None;
+        let done = self.outcome(&wanted, way, made, &script.text)?;
+        let mut wanted = Wanted::fault(line.number, "");
+        wanted.saved = Some(done.saved.taken());
+        self.check(&wanted, way, done.saved.taken(), &[])
     }
 }
 
 /// Whether one of the answers is an error.
 fn has_error(answers: &[u8]) -> bool {
-    for word in answers.windows(5) {
-        if word == b"error".as_slice() {
+    for at in 0..answers.len() {
+        if answers.get(at..).unwrap_or(&[]).starts_with(b"error") {
             return true;
         }
     }

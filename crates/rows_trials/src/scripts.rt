@@ -1,11 +1,12 @@
 //! Scripts of lines, and what they print.
 
 use crate::images::copy_of;
-use rows_format::Line;
+use crate::lines::Line;
+use crate::troubles::Trouble;
 use std::alloc::{AllocError, Global};
 
 /// Where a line ends, in the script and in the answers.
-#[derive(Clone, Copy, Debug)]
+#[derive(Clone, Copy)]
 pub struct Mark {
     /// The line of the file.
     pub number: usize,
@@ -22,48 +23,98 @@ pub struct Script {
 }
 
 impl Script {
-    /// Lines one after another.
-    pub fn of(alloc: Global, lines: &[Line]) -> Result<Script, AllocError> {
-        let mut script = Script {
+    /// Without a line.
+    pub fn new(alloc: Global) -> Script {
+        Script {
             text: Vec::new(alloc),
             answers: Vec::new(alloc),
             marks: Vec::new(alloc),
-        };
-        for line in lines {
-            for _ in 0..line.times {
-                script.add(line)?;
-            }
         }
-        Ok(script)
     }
 
     /// A text without marks, and what it prints.
     pub fn bare(alloc: Global, text: &[u8], answers: &[u8]) -> Result<Script, AllocError> {
-        Ok(Script {
-            text: copy_of(alloc, text)?,
-            answers: copy_of(alloc, answers)?,
-            marks: Vec::new(alloc),
-        })
+        let mut script = Script::new(alloc);
+        script.text.extend_from_slice(text)?;
+        script.answers.extend_from_slice(answers)?;
+        Ok(script)
     }
 
-    fn add(&mut self, line: &Line) -> Result<(), AllocError> {
-        self.text.extend_from_slice(&line.command)?;
-        self.text.push(b'\n')?;
-        self.answers.extend_from_slice(&line.answer)?;
+    /// Adds a command, which prints nothing yet.
+    pub fn add(&mut self, line: &Line<'_>) -> Result<(), Trouble> {
+        line.put_spelled(&mut self.text)?;
+        self.mark(line.number)?;
+        Ok(())
+    }
+
+    fn mark(&mut self, number: usize) -> Result<(), AllocError> {
         self.marks.push(Mark {
-            number: line.number,
+            number,
             script_end: self.text.len(),
             answers_end: self.answers.len(),
         })?;
         Ok(())
     }
 
+    /// Adds a line that the last command prints.
+    pub fn add_answer(&mut self, line: &Line<'_>) -> Result<(), Trouble> {
+        line.put_spelled(&mut self.answers)?;
+        match self.marks.last_mut() {
+            Some(mark) => {
+                mark.answers_end = self.answers.len();
+                Ok(())
+            }
+            None => Err(line.misplaced()),
+        }
+    }
+
+    /// Repeats the last line and its answers, so that it stands there so often.
+    pub fn repeat(&mut self, alloc: Global, times: usize) -> Result<(), AllocError> {
+        let last = self.marks.len().saturating_sub(1);
+        let (begin, Some(end)) = (self.begin_of(last), self.marks.get(last)) else {
+            return Ok(());
+        };
+        let number = end.number;
+        let command = copy_of(alloc, self.text.get(begin.script_end..).unwrap_or(&[]))?;
+        let answer = copy_of(alloc, self.answers.get(begin.answers_end..).unwrap_or(&[]))?;
+        for _ in 1..times {
+            self.text.extend_from_slice(&command)?;
+            self.answers.extend_from_slice(&answer)?;
+            self.mark(number)?;
+        }
+        Ok(())
+    }
+
+    /// Where the line with so many before it begins.
+    fn begin_of(&self, index: usize) -> Mark {
+        match self.marks.get(index.wrapping_sub(1)) {
+            Some(mark) => *mark,
+            None => Mark {
+                number: 0,
+                script_end: 0,
+                answers_end: 0,
+            },
+        }
+    }
+
+    /// The line with so many before it, without its end, and what it prints, as a script.
+    pub fn only(&self, alloc: Global, index: usize) -> Result<Script, AllocError> {
+        let begin = self.begin_of(index);
+        let end = self.begin_of(index.saturating_add(1));
+        let text = begin.script_end..end.script_end.saturating_sub(1);
+        let answers = begin.answers_end..end.answers_end;
+        Script::bare(
+            alloc,
+            self.text.get(text).unwrap_or(&[]),
+            self.answers.get(answers).unwrap_or(&[]),
+        )
+    }
+
     /// The script without the last end of a line.
     pub fn without_end(&self) -> &[u8] {
-        match self.text.as_slice() {
-            [rest @ .., _] => rest,
-            [] => &[],
-        }
+        self.text
+            .get(..self.text.len().saturating_sub(1))
+            .unwrap_or(&[])
     }
 
     /// The script with CR LF at the end of each line, where none ends with a CR.

@@ -5,7 +5,7 @@ use Rattle.best_fit.specs.Extents.{LiveSet, gaps}
 use Rattle.best_fit.specs.Fit.{place, fit}
 use Rattle.best_fit.specs.Requests.{place_all, all_added}
 use Rattle.segment_manager.specs.OwnedTexts.{text_needs, owned_texts}
-use Rattle.segment_tests.proofs.Images.{extent}
+use Rattle.rows.proofs.Images.{extent}
 
 -- gaps of 32 and 48 bytes
 abbrev two_gaps : LiveSet

@@ -16,7 +16,7 @@ use Rattle.segment_manager.specs.Directory.{Directory, Object as SomeObject, Val
 use Rattle.segment_manager.specs.Denotes.{Denotes}
 use Rattle.segment_lang.specs.Language.{whole}
 use Rattle.segment_cli.specs.Run.{run}
-use Rattle.segment_tests.proofs.OneGap.{denotes, one_node}
+use Rattle.rows.proofs.OneGap.{denotes, one_node}
 
 abbrev pub words : List ℕ → List ℕ
 words = flat_map word_bytes

@@ -5,7 +5,7 @@ use Rattle.seg_types.specs.Names.{is_text_name}
 use Rattle.image_check.specs.declared.classes.ImageClass.{ImageClass}
 use Rattle.image_check.specs.declared.classes.ImageClass.TheVariants.{Truncated, BadMagic, UnsupportedVersion, BadSize, BadReserved, BadTag, BadFreeTree, BadIndex, BadObject, SharedBlock, BadContainer, OrphanBlock}
 use Rattle.image_check.specs.Classes.{class_of}
-use Rattle.segment_tests.proofs.Images.{words, magic_word, fresh_image, named_image, two_names_image, vectors_image, pair_image, map_image}
+use Rattle.rows.proofs.Images.{words, magic_word, fresh_image, named_image, two_names_image, vectors_image, pair_image, map_image}
 
 -- each image has the class that stands beside it
 abbrev AreOf : ℕ → List (List ℕ × Option ImageClass) → Type 0

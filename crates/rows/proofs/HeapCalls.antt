@@ -18,7 +18,7 @@ use Rattle.segment_manager.specs.Answers.{Made, Refused}
 use Rattle.segment_manager.specs.Step.{step}
 use Rattle.grow_shrink.specs.declared.refusals.GrowError.TheVariants.{ReadOnly as ReadOnlyError, BadGrow, TooLarge, RegionTooSmall}
 use Rattle.grow_shrink.specs.Resized.{grown, shrunk, growth_refusal}
-use Rattle.segment_tests.proofs.Images.{named_image, with_number}
+use Rattle.rows.proofs.Images.{named_image, with_number}
 
 -- ---- a heap in a window of 1024
 

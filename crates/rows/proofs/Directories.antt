@@ -9,7 +9,7 @@ use Rattle.seg_types.specs.declared.kinds.Class.TheVariants.{Anonymous}
 use Rattle.seg_vector.specs.Vector.{IsVectorAt, IsTextAt, IsTextsAt}
 use Rattle.seg_index.specs.Index.{IsIndexAt}
 use Rattle.segment_manager.specs.Directory.{Object as SomeObject, Texts, has_own_block, is_object}
-use Rattle.segment_tests.proofs.Images.{words, extent, table}
+use Rattle.rows.proofs.Images.{words, extent, table}
 
 -- ---- a vector of one text of one byte, in a block of its own
 

@@ -11,7 +11,7 @@ use Rattle.best_fit.specs.Table.{table_link}
 use Rattle.seg_index.specs.Index.{AreEntries}
 use Rattle.segment_manager.specs.Directory.{Directory, live, is_object, is_index, rises_from, by_name, by_kind, named_objects, unique_objects}
 use Rattle.segment_manager.specs.Denotes.{Denotes, IsObjectAt, handles, magic_number}
-use Rattle.segment_tests.proofs.ZeroBytes.{are_zero, zero_bytes}
+use Rattle.rows.proofs.ZeroBytes.{are_zero, zero_bytes}
 
 -- one black node is a tree
 pub one_node : (m : Memory) (at n : ℕ) → link_at m at ≡ Some n → cells_of m n ≡ record { left = None; right = None; red = false } → IsTreeOf m at (n ∷ [])

@@ -7,8 +7,8 @@ use Rattle.block_tags.specs.declared.tile.Role.TheVariants.{Storage, Node}
 use Rattle.best_fit.specs.Table.{Table}
 use Rattle.seg_vector.specs.Vector.{IsVectorOf, is_vector}
 use Rattle.seg_map.specs.Map.{Pair, IsMapAt, put_pair, remove_pair, is_rising, is_pair}
-use Rattle.segment_tests.proofs.Images.{words, extent, table}
-use Rattle.segment_tests.proofs.OneGap.{one_node}
+use Rattle.rows.proofs.Images.{words, extent, table}
+use Rattle.rows.proofs.OneGap.{one_node}
 
 -- ---- points, each spelled by two bytes
 

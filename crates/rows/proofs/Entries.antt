@@ -2,7 +2,7 @@
 use Rattle.std.proofs.Common.{◌≡◌, refl, [], ◌∷◌, map, true, false}
 use Rattle.raw_region.specs.Memory.{Memory, bytes_of, word_at, half_word_at, word_bytes, zeros}
 use Rattle.seg_index.specs.Keys.{code_at, count_at, name_len_at, class_at, name_at, name_before, code_before}
-use Rattle.segment_tests.proofs.Images.{two_names_image, vectors_image}
+use Rattle.rows.proofs.Images.{two_names_image, vectors_image}
 
 -- the numbers `a` and `b`, whose handles are 192 and 240
 abbrev numbers : Memory

@@ -1,0 +1,150 @@
+//! Scripts run by the library's `run` alone: on a machine that is no segment, and on a segment whose writer fails.
+ghost use Rattle.std.specs.Prelude.{◌≡◌, ◌+◌, ◌/◌, ◌%◌, ◌∷◌, [], ℕ, min, length, take};
+ghost use Rattle.std.proofs.Common.{ap, arith, length-take};
+
+use raw_region::fake::{Last, MemorySink, MemorySource};
+use raw_region::{DeviceFault, RawRegion, Sink, write_all};
+use segment_cli::{Machine, RunFault, Scratch, run};
+use segment_manager::{Mode, Segment};
+use std::alloc::{AllocError, Global};
+
+/// A machine that counts the lines, and answers the count and the length of each, as far as 4098.
+#[derive(Drop)]
+struct Lengths {
+    count: u8,
+}
+
+impl Machine for Lengths {
+    ghost Place = { ℕ };
+
+    ghost respond = { λ count line.
+        let len = min (length line) 4098 in
+        (count ∷ len / 256 ∷ len % 256 ∷ [], (count + 1) % 256) };
+
+    ghost stands = { λ machine count. machine.count ≡ count };
+
+    fn answer<W: Sink>(
+        &mut self,
+        _scratch: &mut Scratch,
+        line: &[u8],
+        out: &mut W,
+    ) -> Result<(), DeviceFault> {
+        let len = line.len().min(4098);
+        let answer = [self.count, (len / 256) as u8, (len % 256) as u8];
+        self.count = self.count.wrapping_add(1);
+        write_all(out, &answer)
+    }
+
+    ghost long_lines = { λ count line long.
+        let same : min (length line) 4098 ≡ min (length (take 4098 line)) 4098 =
+        Prim.omega (arith, length-take 4098 line) in
+        ap (λ (len : ℕ). (count ∷ len / 256 ∷ len % 256 ∷ [], (count + 1) % 256)) same };
+}
+
+const SCRIPT: &[u8] = b"ab\n\ncde\nf";
+
+const ANSWERS: [u8; 12] = [0, 0, 2, 1, 0, 0, 2, 0, 3, 3, 0, 1];
+
+/// How many runs there were, and how many of them came out otherwise than is wanted.
+#[derive(Clone, Copy)]
+pub struct Tally {
+    pub runs: u64,
+    pub wrong: u64,
+}
+
+impl Tally {
+    fn count(&mut self, is_right: bool) {
+        self.runs = self.runs.saturating_add(1);
+        if !is_right {
+            self.wrong = self.wrong.saturating_add(1);
+        }
+    }
+
+    /// Runs a script on the machine, read in pieces of so many bytes: what comes of it, how many lines are executed, and the answers.
+    fn reads(
+        &mut self,
+        alloc: Global,
+        script: &[u8],
+        piece: usize,
+        last: Last,
+        answers: &[u8],
+    ) -> Result<(), AllocError> {
+        let mut machine = Lengths { count: 0 };
+        let mut reader = MemorySource::new(script, piece, last);
+        let mut out = MemorySink::new(alloc, 64, 5, Last::Fails)?;
+        let wanted = match last {
+            Last::Ends => Ok(()),
+            Last::Fails => Err(RunFault::ReadFault),
+        };
+        let result = run(&mut machine, &mut reader, &mut out);
+        self.count(result == wanted && out.taken() == answers);
+        Ok(())
+    }
+
+    /// Runs the script with a writer that takes so many bytes: these go out, and so many lines are executed.
+    fn writes(
+        &mut self,
+        alloc: Global,
+        room: usize,
+        last: Last,
+        lines: u8,
+    ) -> Result<(), AllocError> {
+        let mut machine = Lengths { count: 0 };
+        let mut reader = MemorySource::new(SCRIPT, 4096, Last::Ends);
+        let mut out = MemorySink::new(alloc, room, 2, last)?;
+        let result = run(&mut machine, &mut reader, &mut out);
+        let is_told = result == Err(RunFault::WriteFault) && machine.count == lines;
+        self.count(is_told && ANSWERS.get(..room) == Some(out.taken()));
+        Ok(())
+    }
+
+    /// Runs a script on a segment with a writer that takes so many bytes: these go out, and the line whose answer is cut is executed,
+    /// so that so many bytes are free.
+    fn stops(&mut self, alloc: Global, room: usize, free: u64) -> Result<(), AllocError> {
+        let Ok(region) = RawRegion::new(alloc, 1024) else {
+            return Err(AllocError);
+        };
+        let Ok(mut segment) = Segment::create(region, 0, 1024, Mode::Write) else {
+            return Err(AllocError);
+        };
+        let mut script = MemorySource::new(b"size\nconstruct i64 - 5\nfree\n", 4096, Last::Ends);
+        let mut out = MemorySink::new(alloc, room, 3, Last::Fails)?;
+        let result = run(&mut segment, &mut script, &mut out);
+        let is_cut = b"1024\n#144\n832\n".get(..room) == Some(out.taken());
+        self.count(is_cut && result == Err(RunFault::WriteFault) && segment.free() == free);
+        Ok(())
+    }
+}
+
+/// Makes all runs.
+pub fn make_runs(alloc: Global) -> Result<Tally, AllocError> {
+    let mut tally = Tally { runs: 0, wrong: 0 };
+    for piece in [1, 7, 4096] {
+        tally.reads(alloc, SCRIPT, piece, Last::Ends, &ANSWERS)?;
+    }
+    tally.reads(alloc, b"", 9, Last::Ends, &[])?;
+    tally.reads(alloc, b"\n\n", 9, Last::Ends, &[0, 0, 0, 1, 0, 0])?;
+    let mut long = Vec::from_elem(alloc, b'x', 5000)?;
+    long.extend_from_slice(b"\nab")?;
+    tally.reads(alloc, &long, 4096, Last::Ends, &[0, 16, 2, 1, 0, 2])?;
+    fail_in_turn(alloc, &mut tally)?;
+    Ok(tally)
+}
+
+/// Makes the runs with devices that fail. Where the reader does, the lines are answered that ended before.
+fn fail_in_turn(alloc: Global, tally: &mut Tally) -> Result<(), AllocError> {
+    for (len, answered) in [0usize, 0, 0, 3, 6, 6, 6, 6, 9, 9].into_iter().enumerate() {
+        let script = SCRIPT.get(..len).unwrap_or(SCRIPT);
+        let answers = ANSWERS.get(..answered).unwrap_or(&[]);
+        tally.reads(alloc, script, 3, Last::Fails, answers)?;
+    }
+    for last in [Last::Fails, Last::Ends] {
+        for (room, lines) in [(0, 1), (3, 2), (4, 2), (8, 3), (9, 4), (11, 4)] {
+            tally.writes(alloc, room, last, lines)?;
+        }
+    }
+    for (room, free) in [(0, 880), (4, 880), (5, 832), (9, 832), (13, 832)] {
+        tally.stops(alloc, room, free)?;
+    }
+    Ok(())
+}

@@ -1,0 +1,138 @@
+//! The lines of a row file.
+
+use crate::tasks::Place;
+use crate::troubles::Trouble;
+use std::alloc::{AllocError, Global};
+
+/// The most bytes of a region.
+const LARGEST: u64 = 1 << 40;
+
+/// What a line begins, if anything.
+#[derive(Clone, Copy, PartialEq, Eq)]
+pub enum Begins {
+    /// An image, a row, or a table of images or of requests.
+    Item,
+    /// A part of a row.
+    Part,
+    Nothing,
+}
+
+/// A line that is neither empty nor a remark: where it stands in the file, its first word, and what stands behind the blank.
+#[derive(Clone, Copy)]
+pub struct Line<'a> {
+    pub number: usize,
+    pub word: &'a str,
+    pub rest: &'a str,
+    /// All of it.
+    pub text: &'a str,
+    pub begins: Begins,
+}
+
+impl<'a> Line<'a> {
+    fn read(number: usize, text: &'a str) -> Line<'a> {
+        let (word, rest) = text.split_once(' ').unwrap_or((text, ""));
+        let begins = match word {
+            "row" | "damaged" | "requests" => Begins::Item,
+            "image" if rest.contains(' ') => Begins::Item,
+            "again" | "read" | "alone" | "migrate" => Begins::Part,
+            _ => Begins::Nothing,
+        };
+        Line {
+            number,
+            word,
+            rest,
+            text,
+            begins,
+        }
+    }
+
+    /// It is no line of the form, or stands where there is none of its kind.
+    pub fn misplaced(&self) -> Trouble {
+        self.trouble("this is no line of a row file, or misplaced")
+    }
+
+    pub fn trouble(&self, what: &'static str) -> Trouble {
+        let line = self.number;
+        Trouble { line, what }
+    }
+
+    /// A number that stands in the line.
+    pub fn number_of(&self, text: &str) -> Result<u64, Trouble> {
+        match number_of(text) {
+            Some(number) => Ok(number),
+            None => Err(self.trouble("a number is missing, wrong, or one too many")),
+        }
+    }
+
+    /// Two numbers with something between them.
+    pub fn pair_of(&self, text: &str, between: char) -> Result<(u64, u64), Trouble> {
+        let (one, other) = text.split_once(between).unwrap_or((text, ""));
+        Ok((self.number_of(one)?, self.number_of(other)?))
+    }
+
+    /// Where a segment lies: the capacity of its region, and its base, both multiples of 16.
+    pub fn place(&self) -> Result<Place, Trouble> {
+        let (capacity, base) = self.pair_of(self.rest, ' ')?;
+        if capacity % 16 != 0 || capacity < 16 || LARGEST < capacity || base % 16 != 0 {
+            return Err(self.trouble("there is no such place"));
+        }
+        Ok(Place { capacity, base })
+    }
+}
+
+/// The number that digits spell.
+fn number_of(text: &str) -> Option<u64> {
+    if text.is_empty() {
+        return None;
+    }
+    let mut number = 0u64;
+    for byte in text.as_bytes() {
+        if !byte.is_ascii_digit() {
+            return None;
+        }
+        let digit = u64::from(byte.wrapping_sub(b'0'));
+        number = number.checked_mul(10)?.checked_add(digit)?;
+    }
+    Some(number)
+}
+
+/// The lines of a file.
+pub fn lines_of(alloc: Global, text: &str) -> Result<Vec<Line<'_>>, AllocError> {
+    let mut lines = Vec::new(alloc);
+    for (index, line) in text.lines().enumerate() {
+        if !line.is_empty() && !line.starts_with('#') {
+            lines.push(Line::read(index.saturating_add(1), line))?;
+        }
+    }
+    Ok(lines)
+}
+
+/// The lines of each item.
+pub fn items_of<'b, 'a>(
+    alloc: Global,
+    lines: &'b [Line<'a>],
+) -> Result<Vec<&'b [Line<'a>]>, AllocError> {
+    parted(alloc, lines, Begins::Item)
+}
+
+/// Lines parted before each that begins such a thing. Nothing stands in the first of the parts where the first line begins one.
+pub fn parted<'b, 'a>(
+    alloc: Global,
+    lines: &'b [Line<'a>],
+    begins: Begins,
+) -> Result<Vec<&'b [Line<'a>]>, AllocError> {
+    let mut parts = Vec::new(alloc);
+    let mut from = 0usize;
+    for (index, line) in lines.iter().enumerate() {
+        if line.begins == begins {
+            parts.push(between(lines, from, index))?;
+            from = index;
+        }
+    }
+    parts.push(between(lines, from, lines.len()))?;
+    Ok(parts)
+}
+
+fn between<'b, 'a>(lines: &'b [Line<'a>], from: usize, to: usize) -> &'b [Line<'a>] {
+    lines.get(from..to).unwrap_or(lines)
+}

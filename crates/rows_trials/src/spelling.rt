@@ -1,0 +1,80 @@
+//! The spelling of bytes: text that stands for itself, and in braces what no line can hold.
+
+use crate::images::copy_of;
+use crate::lines::Line;
+use crate::troubles::Trouble;
+use std::alloc::AllocError;
+
+impl Line<'_> {
+    /// Puts the bytes that the rest of the line spells behind those of `out`, and the end of a line.
+    pub fn put_spelled(&self, out: &mut Vec<u8>) -> Result<(), Trouble> {
+        self.put_pieces(out)?;
+        out.push(b'\n')?;
+        Ok(())
+    }
+
+    fn put_pieces(&self, out: &mut Vec<u8>) -> Result<(), Trouble> {
+        let mut pieces = self.rest.split('{');
+        if let Some(plain) = pieces.next() {
+            out.extend_from_slice(plain.as_bytes())?;
+        }
+        for piece in pieces {
+            let Some((braced, plain)) = piece.split_once('}') else {
+                return Err(self.trouble("a brace is left open"));
+            };
+            self.put_braced(braced, out)?;
+            out.extend_from_slice(plain.as_bytes())?;
+        }
+        Ok(())
+    }
+
+    /// Puts what stands in braces: a text in single quotes, or bytes by their digits behind an `x`, and perhaps how often.
+    fn put_braced(&self, braced: &str, out: &mut Vec<u8>) -> Result<(), Trouble> {
+        let from = out.len();
+        let (bytes, times) = match braced.rsplit_once('*') {
+            Some((bytes, times)) => (bytes, self.number_of(times)?),
+            None => (braced, 1),
+        };
+        if let Some(quoted) = bytes.strip_prefix('\'')
+            && let Some(text) = quoted.strip_suffix('\'')
+        {
+            out.extend_from_slice(text.as_bytes())?;
+        } else if !put_digits(bytes.as_bytes(), out)? {
+            return Err(self.trouble("what is in braces is wrong"));
+        }
+        repeat(out, from, times)
+    }
+}
+
+/// Puts what stands from a place on so often in all.
+fn repeat(out: &mut Vec<u8>, from: usize, times: u64) -> Result<(), Trouble> {
+    let unit = copy_of(*out.allocator(), out.get(from..).unwrap_or(&[]))?;
+    for _ in 1..times {
+        out.extend_from_slice(&unit)?;
+    }
+    Ok(())
+}
+
+/// Puts bytes by pairs of digits behind an `x`, of which there is one or more; whether it is so.
+fn put_digits(text: &[u8], out: &mut Vec<u8>) -> Result<bool, AllocError> {
+    let [b'x', digits @ ..] = text else {
+        return Ok(false);
+    };
+    let (pairs, rest) = digits.as_chunks::<2>();
+    for [high, low] in pairs {
+        match (digit_of(*high), digit_of(*low)) {
+            (Some(high), Some(low)) => out.push(high.wrapping_mul(16) | low)?,
+            _ => return Ok(false),
+        }
+    }
+    Ok(!pairs.is_empty() && rest.is_empty())
+}
+
+/// The value of a hexadecimal digit.
+fn digit_of(byte: u8) -> Option<u8> {
+    match byte {
+        b'0'..=b'9' => Some(byte.wrapping_sub(b'0')),
+        b'a'..=b'f' => Some(byte.wrapping_sub(b'a' - 10)),
+        _ => None,
+    }
+}

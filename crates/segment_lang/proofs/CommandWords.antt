@@ -1,5 +1,5 @@
 -- What stands behind a command word, read one word after another.
-use Rattle.std.proofs.Common.{◌≡◌, ℕ, ℤ, Bool, true, false, cond, List, [], ◌∷◌, Option, Some, None, ap, sym, refl, ◌∙◌, ◌==◌, replicate, length}
+use Rattle.std.proofs.Common.{◌≡◌, ℕ, ℤ, Bool, true, false, cond, List, [], ◌∷◌, Option, Some, None, ap, sym, refl, ◌∙◌, ◌==◌, replicate, length, nat_lt, slice_index}
 use Rattle.std.specs.Option.{option_map, option_and_then}
 use Rattle.raw_region.specs.Format.{current}
 use Rattle.seg_types.specs.declared.kinds.Kind.{Kind}
@@ -10,16 +10,18 @@ use Rattle.seg_types.specs.Names.{Key}
 use Rattle.seg_types.specs.Kinds.{is_value}
 use Rattle.seg_types.specs.Values.{kind_of_scalar, scalar_of, value_of_scalar}
 use Rattle.seg_types.proofs.Laws.{scalar_of-kind, scalar_of-value}
-use Rattle.seg_types.specs.Commands.{Assign, Bytes, Command, ConstructIt, Content, Elements, Literal, NoPairs, Numbers, Put, Strings, UnknownCommand, DestroyPtr}
+use Rattle.seg_types.specs.Commands.{Assign, Bytes, Command, ConstructIt, Content, Elements, Literal, LineTooLong, NoPairs, Nothing, Numbers, Put, Strings, UnknownCommand, DestroyPtr}
 use Rattle.segment_lang.specs.Words as said
 use Rattle.segment_lang.specs.Words.{Word, Bare, literal_of_word, number_of, words}
 use Rattle.segment_lang.specs.Language.{Language, whole}
-use Rattle.segment_lang.specs.Reading.{Form, Reader, all, alone, appending, as_reading, assigning, command_line, content, counted_kind, destroying_ptr, each, finding, for_kind, form_of, items, key_of, making, making_each, new_key, putting, quoted_of, value_for, with_key, with_key_literal, with_key_number, with_key_number_literal, with_number}
+use Rattle.segment_lang.specs.Reading.{Form, Reader, all, alone, appending, as_reading, assigning, command_line, content, counted_kind, destroying_ptr, each, finding, for_kind, form_of, items, key_of, making, making_each, new_key, putting, quoted_of, reading, skip_blanks, without_return, value_for, with_key, with_key_literal, with_key_number, with_key_number_literal, with_number}
 use Rattle.segment_lang.specs.Tokens.{at_end, behind_word, next_two, next_word, only_word, three_words, two_words, up_to_blank}
 use Rattle.segment_lang.specs.Arguments.{Written, assigning_at, counted_values, handle_of, literals_at, making_at, making_each_at, numbers_at, of_one, of_two, of_three, pair_at, putting_at, scalar_at, scalar_in, texts_at, written}
 use Rattle.segment_lang.proofs.WordList.{take_end, take_only, take_word}
 use Rattle.segment_lang.proofs.ArrayValues.{word-value}
 use Rattle.segment_lang.proofs.WordReaders.{take_two, take_three, take_next_two}
+use Rattle.segment_lang.proofs.FirstWords.{command_has_byte, command_is_plain}
+use Rattle.segment_lang.specs.Seen.{with_rest}
 
 -- ---- nothing, one word, two, three
 
@@ -259,11 +261,36 @@ each_read bytes r w v kind k n key x a b d e f =
 
 -- ---- the command word
 
-known : (form : Option Form) (reader : Reader) (rest : List ℕ) → Some reader ≡ option_map (λ (f : Form). f.1) form → elim form [ None ↦ UnknownCommand | Some f ↦ as_reading (option_and_then (f.1 (whole current)) (words rest)) ] ≡ as_reading (option_and_then (reader (whole current)) (words rest))
-known None reader rest h = cc
-known (Some f) reader rest h = let e : reader ≡ f.1 = cc in sym (ap (λ (r : Reader). as_reading (option_and_then (r (whole current)) (words rest))) e)
+known : (form : Option Form) (reader : Reader) (line rest : List ℕ) → Some (reader, rest) ≡ with_rest line (option_map (λ (f : Form). f.1) form) → as_reading (option_and_then (reader (whole current)) (words rest)) ≡ elim form [ None ↦ UnknownCommand | Some f ↦ as_reading (option_and_then (f.1 (whole current)) (words (behind_word line))) ]
+known None reader line rest h = cc
+known (Some f) reader line rest h =
+    let e : (reader, rest) ≡ (f.1, behind_word line) = cc in
+    ap (λ (y : Reader × List ℕ). as_reading (option_and_then (y.0 (whole current)) (words y.1))) e
 
 -- a line that begins with a command word is read by the form of the command
-pub known_command : (line first rest : List ℕ) (reader : Reader) (x : Option Command) → (length line == 0) ≡ false → first ≡ up_to_blank line → rest ≡ behind_word line → Some reader ≡ option_map (λ (f : Form). f.1) (form_of first) → x ≡ option_and_then (reader (whole current)) (words rest) → as_reading x ≡ command_line (whole current) line
-known_command [] first rest reader x h f r k e = cc
-known_command (c ∷ cs) first rest reader x h f r k e = ap as_reading e ∙ ap (λ rest. as_reading (option_and_then (reader (whole current)) (words rest))) r ∙ sym (known (form_of (up_to_blank (c ∷ cs))) reader (behind_word (c ∷ cs)) (k ∙ ap (λ first. option_map (λ (f : Form). f.1) (form_of first)) f))
+pub known_command : (line rest : List ℕ) (reader : Reader) → (length line == 0) ≡ false → Some (reader, rest) ≡ with_rest line (option_map (λ (f : Form). f.1) (form_of (up_to_blank line))) → as_reading (option_and_then (reader (whole current)) (words rest)) ≡ command_line (whole current) line
+known_command [] rest reader h k = cc
+known_command (c ∷ cs) rest reader h k = known (form_of (up_to_blank (c ∷ cs))) reader (c ∷ cs) rest k
+
+unknown : (form : Option Form) (line : List ℕ) → None ≡ with_rest line (option_map (λ (f : Form). f.1) form) → UnknownCommand ≡ elim form [ None ↦ UnknownCommand | Some f ↦ as_reading (option_and_then (f.1 (whole current)) (words (behind_word line))) ]
+unknown None line h = refl
+unknown (Some f) line h = cc
+
+pub unknown_command : (line : List ℕ) → (length line == 0) ≡ false → None ≡ with_rest line (option_map (λ (f : Form). f.1) (form_of (up_to_blank line))) → UnknownCommand ≡ command_line (whole current) line
+unknown_command [] h k = cc
+unknown_command (c ∷ cs) h k = unknown (form_of (up_to_blank (c ∷ cs))) (c ∷ cs) k
+
+-- a line whose first word is a command word is no comment, and has no blank in front
+led_by_command : (line rest : List ℕ) (reader : Reader) → Some (reader, rest) ≡ with_rest line (option_map (λ (f : Form). f.1) (form_of (up_to_blank line))) → as_reading (option_and_then (reader (whole current)) (words rest)) ≡ cond (slice_index line 0 == 0x23) Nothing (command_line (whole current) (skip_blanks line))
+led_by_command line rest reader h =
+    let plain = command_is_plain line (reader, rest) h in
+    known_command line rest reader (command_has_byte line (reader, rest) h) h
+    ∙ ap (command_line (whole current)) (sym plain.1)
+    ∙ ap (λ b. cond b Nothing (command_line (whole current) (skip_blanks line))) (sym plain.0)
+
+pub command_in_front : (line part rest : List ℕ) (reader : Reader) → part ≡ without_return line → nat_lt 4096 (length part) ≡ false → Some (reader, rest) ≡ with_rest part (option_map (λ (f : Form). f.1) (form_of (up_to_blank part))) → as_reading (option_and_then (reader (whole current)) (words rest)) ≡ reading (whole current) line
+unfolding reading
+command_in_front line part rest reader e short h =
+    led_by_command part rest reader h
+    ∙ ap (λ b. cond b LineTooLong (cond (slice_index part 0 == 0x23) Nothing (command_line (whole current) (skip_blanks part)))) (sym short)
+    ∙ ap (λ line. cond (nat_lt 4096 (length line)) LineTooLong (cond (slice_index line 0 == 0x23) Nothing (command_line (whole current) (skip_blanks line)))) e

@@ -4,6 +4,7 @@ mod LongLines
 mod WordList
 mod TextSpelling
 mod FormTables
+mod FirstWords
 mod KindTables
 mod WordReaders
 mod WordRoom

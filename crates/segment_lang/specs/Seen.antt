@@ -7,6 +7,7 @@ use Rattle.seg_types.specs.Values.{kind_of_scalar, value_of_scalar}
 use Rattle.segment_lang.specs.Words as said
 use Rattle.segment_lang.specs.Words.{is, words}
 use Rattle.segment_lang.specs.Language.{whole}
+use Rattle.segment_lang.specs.Tokens.{behind_word}
 use Rattle.segment_lang.specs.Reading.{Reader, making, making_each, finding, with_key, with_key_number, with_key_literal, with_key_number_literal, with_number, alone, appending, as_reading, assigning, destroying_ptr, putting, new_key, key_of, name_key}
 use Rattle.segment_lang.specs.declared.words.Word.{Word}
 use Rattle.segment_lang.specs.declared.words.Word.TheVariants.{Bare, Text}
@@ -149,6 +150,10 @@ abbrev pub reading_led : Lead → asked.Reading
 reading_led lead.Nothing = asked.Nothing
 reading_led (lead.Form form rest) = reading_by form rest.now
 reading_led (lead.Wrong e) = wrong_reading e
+
+-- what a line's first word is the word of, with what is behind it
+abbrev pub with_rest : {A : Type 0} → List ℕ → Option A → Option (A × List ℕ)
+with_rest {A} line x = option_map (λ (a : A). (a, behind_word line)) x
 
 -- a word, and what it is the word of
 abbrev pub Row : Type 0 → Type 0

@@ -19,6 +19,10 @@ up_to_blank bytes = take_while (λ c. not (is_blank c)) bytes
 abbrev pub behind_word : List ℕ → List ℕ
 behind_word bytes = drop (length (up_to_blank bytes)) bytes
 
+-- no blank parts these bytes
+abbrev pub is_unbroken : List ℕ → Bool
+is_unbroken bytes = list_all (λ c. not (is_blank c)) bytes
+
 -- a bare word: all bytes up to a blank fit it
 unfoldable pub bare_at : List ℕ → Option (List ℕ × List ℕ)
 bare_at bytes = if list_all is_bare (up_to_blank bytes) then Some (up_to_blank bytes, behind_word bytes) else None

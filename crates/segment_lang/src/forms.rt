@@ -1,11 +1,13 @@
 //! Command words, and the form of what stands behind each.
 
-ghost use Rattle.std.specs.Prelude.{◌≡◌, ◌<◌, [], length, option_and_then, option_map, map, slice_index_or};
+ghost use Rattle.std.specs.Prelude.{◌≡◌, ◌<◌, [], IsTrue, Some, None, if◌then◌else◌, length, option_and_then, option_map, map, slice_index_or};
+ghost use Rattle.std.specs.List.{list_all};
 ghost use Rattle.raw_region.specs.Format.{current};
-ghost use Rattle.segment_lang.specs.Words.{words};
+ghost use Rattle.segment_lang.specs.Words.{is, words};
 ghost use Rattle.segment_lang.specs.Language.{whole};
 ghost use Rattle.segment_lang.specs.Reading.{form_of};
-ghost use Rattle.segment_lang.specs.Seen.{command_of, found_in, place_of, reader_of};
+ghost use Rattle.segment_lang.specs.Seen.{command_of, found_in, place_of, reader_of, with_rest};
+ghost use Rattle.segment_lang.specs.Tokens.{behind_word, is_unbroken, up_to_blank};
 
 use crate::buffer::Text;
 use crate::commands::Command;
@@ -13,13 +15,13 @@ use crate::elements::{
     read_append, read_assign, read_clear, read_erase, read_insert, read_pop, read_push,
     read_reserve, read_shrink,
 };
-use crate::literals::is;
 use crate::pairs::{read_lookup, read_put, read_remove};
 use crate::readers::{
     read_alone, read_construct, read_construct_it, read_destroy, read_destroy_ptr, read_find,
     read_find_or_construct, read_get, read_info, read_reserve_named, read_reserve_unique, read_set,
     read_show,
 };
+use crate::words::ends_word;
 
 /// How what stands behind a command word is written.
 #[derive(Clone, Copy, Debug, PartialEq, Eq)]
@@ -164,37 +166,62 @@ static FORMS: [&[(&[u8], CommandForm)]; 32] = [
     ],
 ];
 
-/// The form of the first row of a word.
-fn find_row(rows: &[(&[u8], CommandForm)], word: &[u8]) -> Option<CommandForm>
-    ensures { result ≡ found_in (map (λ row. (row.0.now, row.1)) rows.now) word.now }
+/// What is behind a word that stands in front of a line and ends there.
+fn behind<'a>(line: &'a [u8], word: &[u8]) -> Option<&'a [u8]>
+    requires { IsTrue (is_unbroken word.now) }
+    ensures { option_map (λ rest. rest.now) result ≡ (if is (up_to_blank line.now) word.now then Some (behind_word line.now) else None) }
 {
-    rows.iter().find(|row| is(word, row.0)).map(|row| row.1)
+    let rest = line.strip_prefix(word)?;
+    if !ends_word(rest) {
+        return None;
+    }
+    Some(rest)
 }
 
-/// The place of a word in the table: few command words share one.
-fn place_of(word: &[u8]) -> usize
-    ensures value { result ≡ place_of word.now }
+/// The form of the first row whose word is the first of a line, and what is behind it.
+fn find_row<'a>(rows: &[(&[u8], CommandForm)], line: &'a [u8]) -> Option<(CommandForm, &'a [u8])>
+    requires { IsTrue (list_all (λ row. is_unbroken row.0.now) rows.now) }
+    ensures { option_map (λ x. (x.0, x.1.now)) result ≡ with_rest line.now (found_in (map (λ row. (row.0.now, row.1)) rows.now) (up_to_blank line.now)) }
+{
+    let mut rest = rows;
+    'rows: while let [row, tail @ ..] = rest {
+        if let Some(behind) = behind(line, row.0) {
+            return Some((row.1, behind));
+        }
+        rest = tail;
+    }
+    None
+}
+
+/// The place in the table of the word that a line begins with: few command words share one.
+fn place_of(line: &[u8]) -> usize
+    ensures value { result ≡ place_of line.now }
     ensures small { result < 32 }
 {
-    match word {
+    match line {
         [first, _, third, ..] => (usize::from(*first) + 6 * usize::from(*third)) % 32,
         _ => 0,
     }
 }
 
-/// The form of the first row of a word at its place in the table.
-fn find_form(table: &[&[(&[u8], CommandForm)]], word: &[u8]) -> Option<CommandForm>
-    requires { length table.now ≡ 32 }
-    ensures { result ≡ found_in (slice_index_or (map (λ rows. map (λ row. (row.0.now, row.1)) rows.now) table.now) (place_of word.now) []) word.now }
+/// The form of the first row of a line's first word at its place in the table, and what is behind the word.
+fn find_form<'a>(
+    table: &[&[(&[u8], CommandForm)]],
+    line: &'a [u8],
+) -> Option<(CommandForm, &'a [u8])>
+    requires size { length table.now ≡ 32 }
+    requires unbroken { IsTrue (list_all (λ rows. list_all (λ row. is_unbroken row.0.now) rows.now) table.now) }
+    ensures { option_map (λ x. (x.0, x.1.now)) result ≡ with_rest line.now (found_in (slice_index_or (map (λ rows. map (λ row. (row.0.now, row.1)) rows.now) table.now) (place_of line.now) []) (up_to_blank line.now)) }
 {
-    find_row(table[place_of(word)], word)
+    find_row(table[place_of(line)], line)
 }
 
-/// The form of a command word. `None` is a word that is none.
-pub fn form_of(word: &[u8]) -> Option<CommandForm>
-    ensures { option_map reader_of result ≡ option_map (λ form. form.1) (form_of word.now) }
+/// The form of the command word that a line begins with, and what is behind the word. `None` is a line whose first word is none.
+/// The word is compared where the table has its place, and its end is not looked for before.
+pub fn split_form(line: &[u8]) -> Option<(CommandForm, &[u8])>
+    ensures { option_map (λ x. (reader_of x.0, x.1.now)) result ≡ with_rest line.now (option_map (λ form. form.1) (form_of (up_to_blank line.now))) }
 {
-    find_form(&FORMS, word)
+    find_form(&FORMS, line)
 }
 
 /// The command of what stands behind a command word of this form.

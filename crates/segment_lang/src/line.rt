@@ -1,15 +1,16 @@
 //! Lines.
 
-ghost use Rattle.std.specs.Prelude.{◌≡◌, ◌==◌, slice_index};
+ghost use Rattle.std.specs.Prelude.{◌≡◌, ◌==◌, slice_index, if◌then◌else◌};
 ghost use Rattle.raw_region.specs.Format.{current};
 ghost use Rattle.segment_lang.specs.Language.{whole};
-ghost use Rattle.segment_lang.specs.Reading.{command_line, reading, without_return};
+ghost use Rattle.seg_types.specs.Commands.{Nothing};
+ghost use Rattle.segment_lang.specs.Reading.{command_line, reading, skip_blanks, without_return};
 ghost use Rattle.segment_lang.specs.Seen.{reading_led, reading_of};
 
-use crate::blanks::{skip_blanks, split_word};
+use crate::blanks::skip_blanks;
 use crate::buffer::Text;
 use crate::commands::{Lead, Reading};
-use crate::forms::{form_of, read_command};
+use crate::forms::{read_command, split_form};
 use seg_types::LineError;
 
 /// The longest line without its end, in bytes.
@@ -35,17 +36,20 @@ fn is_comment(line: &[u8]) -> bool
     }
 }
 
-/// How a line begins that has no blank in front, is not too long and is no comment. The first word
-/// decides which form the others must have.
-fn lead_of_words(line: &[u8]) -> Lead<'_>
-    ensures { reading_led result ≡ command_line (whole current) line.now }
+/// How a line begins that no command word begins: with blanks, or with a word that is none.
+#[inline(never)]
+fn lead_behind_blanks(line: &[u8]) -> Lead<'_>
+    ensures { reading_led result ≡ (if slice_index line.now 0 == 0x23 then Nothing else command_line (whole current) (skip_blanks line.now)) }
 {
+    if is_comment(line) {
+        return Lead::Nothing;
+    }
+    let line = skip_blanks(line);
     if line.is_empty() {
         return Lead::Nothing;
     }
-    let (word, rest) = split_word(line);
-    match form_of(word) {
-        Some(form) => Lead::Form(form, rest),
+    match split_form(line) {
+        Some((form, rest)) => Lead::Form(form, rest),
         None => Lead::Wrong(LineError::UnknownCommand),
     }
 }
@@ -53,7 +57,7 @@ fn lead_of_words(line: &[u8]) -> Lead<'_>
 /// How a line begins. It comes without its end, a line feed; one carriage return at its end is
 /// dropped.
 #[tactic(auto, unfolding(crate::specs::Reading::reading))]
-#[inline(never)]
+#[inline(always)]
 pub fn lead_of(line: &[u8]) -> Lead<'_>
     ensures { reading_led result ≡ reading (whole current) line.now }
 {
@@ -61,10 +65,10 @@ pub fn lead_of(line: &[u8]) -> Lead<'_>
     if line.len() > LONGEST_LINE {
         return Lead::Wrong(LineError::LineTooLong);
     }
-    if is_comment(line) {
-        return Lead::Nothing;
+    match split_form(line) {
+        Some((form, rest)) => Lead::Form(form, rest),
+        None => lead_behind_blanks(line),
     }
-    lead_of_words(skip_blanks(line))
 }
 
 /// What a line means. A name that is spelled with escapes is decoded into `scratch`, whatever it held; all else is lent from the

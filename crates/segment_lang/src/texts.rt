@@ -48,6 +48,7 @@ const LONGEST_FRONT: usize = 3;
 const DIGITS_END: usize = LONGEST_FRONT + 20;
 
 /// Writes a number behind a text, and the end of the line: at once where the text is short.
+#[inline(always)]
 pub fn put_number_line<S: Sink>(out: &mut S, front: &[u8], number: u64) -> Result<(), DeviceFault>
     requires { (S.history out.old).failures < 2 ^ 64 - 1 }
     ensures { Writes (S.history out.old) (S.history out.new) result (front.now ++ decimal number ++ 0x0A ∷ []) }

@@ -223,7 +223,7 @@ fn split_unescaped(bytes: &[u8]) -> (&[u8], &[u8])
 }
 
 /// Whether a word may end here: a blank or the end of the line follows.
-fn ends_word(bytes: &[u8]) -> bool
+pub fn ends_word(bytes: &[u8]) -> bool
     ensures { result ≡ ends_word bytes.now }
 {
     match bytes {

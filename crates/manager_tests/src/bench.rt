@@ -4,7 +4,7 @@ ghost use Rattle.std.specs.Prelude.{◌≤◌};
 
 use crate::checks::same;
 use crate::segments::{entry, named, new_named};
-use seg_types::{Class, Handle, Key, Kind, Refusal, Scalar, ScalarValue};
+use seg_types::{Class, Handle, Key, Kind, Refusal, Scalar};
 use segment_manager::Segment;
 use std::fmt::Debug;
 use std::process::Abort;
@@ -81,18 +81,6 @@ impl Bench {
         done: Result<(), Refusal>,
     ) {
         same(rt, self.segment.set(&named(rt, name), i, value), done);
-    }
-
-    /// `set_value`: the same, of a value of any kind.
-    pub fn sets_value(
-        &mut self,
-        rt: &impl Abort,
-        name: &[u8],
-        i: u64,
-        value: ScalarValue,
-        done: Result<(), Refusal>,
-    ) {
-        same(rt, self.segment.set_value(&named(rt, name), i, value), done);
     }
 
     /// What an object tells of itself: `kind_of`, `instance_name`, `instance_class` and `instance_length`.

@@ -1,7 +1,7 @@
 //! Numbers and arrays of them, by their types.
 use crate::checks::same;
 use crate::segments::{fresh, named};
-use seg_types::{Class, IndexKey, Key, Kind, NewKey, Refusal, ScalarKind, ScalarValue};
+use seg_types::{Class, IndexKey, Key, Kind, NewKey, Refusal, ScalarKind};
 
 /// The kind of objects of u64.
 const U64: Kind = Kind::Scalar(ScalarKind::U64);
@@ -11,7 +11,7 @@ fn elements_are_read_and_written(rt: HostRuntime) {
     let mut bench = fresh(&rt, rt.alloc(), 1024);
     bench.makes(&rt, b"v", 3, 7i64, 192);
     bench.sets(&rt, b"v", 1, -1i64, Ok(()));
-    bench.sets_value(&rt, b"v", 2, ScalarValue::I64(9), Ok(()));
+    bench.sets(&rt, b"v", 2, 9i64, Ok(()));
     bench.has(&rt, b"v", 0, Ok(7i64));
     bench.has(&rt, b"v", 1, Ok(-1i64));
     bench.has(&rt, b"v", 2, Ok(9i64));
@@ -26,8 +26,7 @@ fn elements_are_refused(rt: HostRuntime) {
     bench.has::<i64>(&rt, b"v", u64::MAX, Err(Refusal::OutOfRange));
     bench.has::<bool>(&rt, b"v", 0, Err(Refusal::WrongKind));
     bench.sets(&rt, b"w", 0, 1i64, Err(Refusal::NotFound));
-    let truth = ScalarValue::Bool(true);
-    bench.sets_value(&rt, b"v", 0, truth, Err(Refusal::WrongKind));
+    bench.sets(&rt, b"v", 0, true, Err(Refusal::WrongKind));
     bench.has(&rt, b"v", 0, Ok(7i64));
 }
 

@@ -99,7 +99,7 @@ impl Segment {
     ///
     /// `ReadOnly` where the segment is open for reading, and else `NotFound` where no object has the key, `WrongKind` where it
     /// is of another kind, `OutOfRange` where it has no element there. Nothing changes.
-    pub fn set_value<O: Target>(
+    pub(crate) fn set_value<O: Target>(
         &mut self,
         key: &O,
         index: u64,

@@ -4,3 +4,4 @@ mod Endings
 mod Migrated
 mod Beginnings
 mod SavedImages
+pub mod Laws

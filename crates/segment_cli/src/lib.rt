@@ -15,4 +15,4 @@ pub use reports::report;
 pub use saving::save;
 pub use segment_invocation::{Invocation, InvocationFault, ModeName, UsageError, invocation};
 pub use segment_scripts::{Machine, RunFault, Scratch, run};
-pub use sessions::session;
+pub use sessions::{begin, session};

@@ -1,0 +1,36 @@
+-- What a disk was asked, and what it answered.
+use Rattle.std.specs.Prelude.{◌≡◌, ℕ, Bool, false, List, [], ◌∷◌}
+use Rattle.raw_region.specs.Device.{Gave, Given, Took, Taken}
+use Rattle.segment_disk.specs.declared.presence.Presence.{Presence}
+use Rattle.segment_disk.specs.declared.presence.Making.{Making}
+
+-- one question with its answer; paths are texts
+pub data Event : Type 0 where
+  -- what is there under a path
+  Looked : List ℕ → Presence → Event
+  -- a file was to be opened for reading, and was or was not
+  Opened : List ℕ → Bool → Event
+  -- the file that was opened last was closed, which had given this
+  Read : Given → Event
+  -- a file was to be made or emptied for writing, and was or was not
+  Made : Making → List ℕ → Bool → Event
+  -- the file that was made or emptied last was closed, which had taken this, and all that it took lasts, or need not
+  Wrote : Taken → Bool → Event
+
+-- Of a disk, where one question leads from a state to a state: these were asked in this order, and no others.
+abbrev pub After : {D : Type 0} → (D → Event → D → Type 0) → D → List Event → D → Type 0
+After step old [] new = new ≡ old
+After {D} step old (e ∷ es) new = (next : D) × step old e next × After step next es new
+
+-- a reader that gave nothing yet, and a writer that took nothing
+abbrev pub nothing_given : Gave
+nothing_given = record { bytes = []; ended = false; ends = 0; failures = 0 }
+
+abbrev pub nothing_taken : Took
+nothing_taken = record { bytes = []; failures = 0 }
+
+-- Of an output: it was flushed last, and took nothing since; ok says whether all that it took went out.
+pub record IsFlushed {O : Type 0} (history : O → Took) (flushes : O → Bool → O → Type 0) (out : O) (ok : Bool) : Type 0 where
+  pub before : O
+  pub flush : flushes before ok out
+  pub same : history out ≡ history before

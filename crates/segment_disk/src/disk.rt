@@ -1,0 +1,61 @@
+//! Disks and outputs as the crates above are given them: contracts see what a disk was asked, in order, and what it answered.
+ghost use Rattle.std.specs.Prelude.{◌≡◌, Bool, IfOk, is_ok};
+ghost use Rattle.raw_region.specs.Device.{given_since, taken_since};
+ghost use Rattle.segment_disk.specs.Events.{Event, Looked, Opened as WasOpened, Read, Made, Wrote, nothing_given, nothing_taken};
+
+use crate::presence::{Making, Presence};
+use raw_region::{DeviceFault, Sink, Source};
+
+/// A file that was opened for reading.
+pub struct Opened<R> {
+    /// Gives its bytes, from the first on.
+    pub reader: R,
+    /// How many bytes it has, as far as that is known.
+    pub len: u64,
+    /// Its first bytes, and zeros behind them where it has fewer.
+    pub front: [u8; 24],
+}
+
+/// Where files are kept. A reader or a writer that it hands out comes back to it.
+pub trait Disk {
+    // One question with its answer leads from one state of the disk to another.
+    ghost step: { Self → Event → Self → Type 0 };
+
+    type Reader: Source;
+
+    type Writer: Sink;
+
+    /// Tells what is there under a path.
+    fn look(&mut self, path: &str) -> Presence
+        ensures { step self.old (Looked path.now result) self.new };
+
+    /// Opens a file for reading.
+    fn open(&mut self, path: &str) -> Result<Opened<Self::Reader>, DeviceFault>
+        ensures asked { step self.old (WasOpened path.now (is_ok result)) self.new }
+        ensures fresh { IfOk result (λ opened. Self.Reader.history opened.reader ≡ nothing_given) };
+
+    /// Closes a file that was open for reading.
+    fn close(&mut self, reader: Self::Reader)
+        ensures { step self.old (Read (given_since nothing_given (Self.Reader.history reader))) self.new };
+
+    /// Makes a file, or empties it, and opens it for writing.
+    fn make(&mut self, path: &str, how: Making) -> Result<Self::Writer, DeviceFault>
+        ensures asked { step self.old (Made how path.now (is_ok result)) self.new }
+        ensures fresh { IfOk result (λ writer. Self.Writer.history writer ≡ nothing_taken) };
+
+    /// Closes a file that was open for writing. Ok says that all that it took lasts.
+    fn finish(&mut self, writer: Self::Writer) -> Result<(), DeviceFault>
+        ensures { step self.old
+            (Wrote (taken_since nothing_taken (Self.Writer.history writer)) (is_ok result)) self.new };
+}
+
+/// A writer that may keep back what it took, until it is flushed.
+pub trait Output: Sink {
+    // What a flush may answer, and what the writer is then.
+    ghost flushes: { Self → Bool → Self → Type 0 };
+
+    /// Gives out all that it took.
+    fn flush(&mut self) -> Result<(), DeviceFault>
+        ensures same { Self.history self.new ≡ Self.history self.old }
+        ensures flushes { flushes self.old (is_ok result) self.new };
+}

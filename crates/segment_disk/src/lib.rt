@@ -1,0 +1,12 @@
+//! Where the files of segments are kept, and where answers go: as the crates above are given them, and those of the system.
+#![tactic(auto)]
+
+mod disk;
+mod host;
+mod outlet;
+mod presence;
+
+pub use disk::{Disk, Opened, Output};
+pub use host::HostDisk;
+pub use outlet::Outlet;
+pub use presence::{Making, Presence};

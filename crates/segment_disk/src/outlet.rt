@@ -1,0 +1,86 @@
+//! A writer of std as an `Output`.
+ghost use Rattle.std.specs.Prelude.{◌≡◌, ⊤, Ok, length};
+ghost use Rattle.segment_disk.specs.Events.{nothing_taken};
+
+use crate::disk::Output;
+use raw_region::stream::{WriteOnce, Writing};
+use raw_region::{DeviceFault, Sink};
+use std::io::Write;
+use std::marker::Model;
+
+/// Takes all bytes, and does nothing with them: what went to a writer is counted by what came by here.
+#[derive(Drop)]
+struct Passing;
+
+impl WriteOnce for Passing {
+    ghost write_gives = { λ old answer bytes new. answer ≡ Ok (length bytes) };
+
+    fn write_once(&mut self, bytes: &[u8]) -> Result<usize, DeviceFault> {
+        Ok(bytes.len())
+    }
+}
+
+/// A writer of std. Each of its errors is a failure, and so is to take 0 of some bytes.
+#[derive(Drop)]
+pub struct Outlet<W> {
+    inner: W,
+    failures: u64,
+    passed: Writing<Passing>,
+}
+
+impl<W> Model for Outlet<W> {
+    ghost use Rattle.std.specs.Prelude.{◌≡◌};
+    ghost use Rattle.segment_disk.specs.Outlets.{OutletState};
+
+    ghost Value = { OutletState };
+
+    ghost view = { λ o. record {
+      history = record { bytes = o.passed.history.bytes; failures = o.failures };
+    } };
+
+    ghost invariant = { λ o. o.passed.history.failures ≡ 0 };
+}
+
+impl<W> Outlet<W> {
+    /// A writer that took nothing yet.
+    pub fn new(inner: W) -> Outlet<W>
+        ensures { result.history ≡ nothing_taken }
+    {
+        Outlet {
+            inner,
+            failures: 0,
+            passed: Writing::new(Passing),
+        }
+    }
+
+    /// The writer of std.
+    pub(crate) fn inner(&self) -> &W {
+        &self.inner
+    }
+}
+
+impl<W: Write> Sink for Outlet<W> {
+    ghost history = { λ o. o.history };
+
+    fn write(&mut self, bytes: &[u8]) -> Result<usize, DeviceFault> {
+        let Ok(count) = self.inner.write(bytes) else {
+            self.failures += 1;
+            return Err(DeviceFault);
+        };
+        if count == 0 && !bytes.is_empty() {
+            self.failures += 1;
+        }
+        self.passed.write(&bytes[..count])
+    }
+}
+
+impl<W: Write> Output for Outlet<W> {
+    ghost flushes = { λ old ok new. ⊤ };
+
+    fn flush(&mut self) -> Result<(), DeviceFault> {
+        match self.inner.flush() {
+            Ok(()) => Ok(()),
+            Err(_) => Err(DeviceFault),
+        }
+    }
+}

@@ -1,0 +1,21 @@
+//! What a disk is asked and what it answers.
+
+/// What is there under a path.
+#[derive(Clone, Copy, Debug, PartialEq, Eq)]
+pub enum Presence {
+    /// Nothing.
+    Absent,
+    /// A file, or something else.
+    There,
+    /// That can't be known.
+    Unknown,
+}
+
+/// How a file comes to be open for writing with no byte in it.
+#[derive(Clone, Copy, Debug, PartialEq, Eq)]
+pub enum Making {
+    /// It is made, and must not be there.
+    New,
+    /// It is emptied, or made where nothing is there.
+    Emptied,
+}

@@ -1,0 +1,4 @@
+mod Written
+mod Ran
+mod Opened
+mod Commanded

@@ -1,0 +1,21 @@
+//! Segments in files: what each command of the program does to a file, over any disk.
+#![tactic(auto)]
+
+mod answering;
+mod checking;
+mod creating;
+mod migrating;
+mod modes;
+mod opening;
+mod regions;
+mod resizing;
+mod running;
+mod telling;
+mod writing;
+
+pub use checking::check;
+pub use creating::create;
+pub use migrating::migrate;
+pub use modes::run;
+pub use resizing::{grow, shrink};
+pub use running::{run_in_new_file, run_on_file, run_on_file_or_new};

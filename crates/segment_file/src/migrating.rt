@@ -1,0 +1,75 @@
+//! The command that writes an image of an older format anew in its file.
+ghost use Rattle.std.specs.Prelude.{◌≡◌, ◌^◌, ◌-◌, ◌<◌};
+ghost use Rattle.raw_region.specs.Device.{given_since};
+ghost use Rattle.segment_file.specs.Migrating.{BeginsAny, IsMigrate, OpensAnyFile};
+
+use crate::creating::WRITE_FAULT;
+use crate::regions::{bytes_needed, region_for};
+use crate::telling::tell;
+use crate::writing::write_image;
+use image_check::open_any;
+use raw_region::{Source, Steps};
+use segment_cli::{ProgramFault, SessionFault};
+use segment_disk::{Disk, Making, Opened, Output};
+use segment_manager::{Mode, Segment};
+use std::alloc::Global;
+
+/// The segment of an image of any of the three formats, at the front of a region with room for so many bytes.
+fn begin_any<S: Source>(alloc: Global, reader: &mut S, bytes: u64) -> Result<Segment, SessionFault>
+    requires { (S.history reader.old).failures < 2 ^ 64 - 1 }
+    ensures { BeginsAny (given_since (S.history reader.old) (S.history reader.new)) result }
+{
+    let Ok(region) = region_for(alloc, bytes) else {
+        return Err(SessionFault::OutOfMemory);
+    };
+    match open_any(alloc, reader, region, 0, Mode::Write, &mut Steps::new()) {
+        Ok(segment) => Ok(segment),
+        Err(refused) => Err(SessionFault::from(refused)),
+    }
+}
+
+/// The segment of the image in a file, of any of the three formats. The file is closed.
+fn open_any_segment<D: Disk>(
+    alloc: Global,
+    disk: &mut D,
+    path: &str,
+) -> Result<Segment, SessionFault>
+    ensures { OpensAnyFile D.step disk.old disk.new path.now result }
+{
+    let Ok(opened) = disk.open(path) else {
+        return Err(SessionFault::ReadFault);
+    };
+    let Opened {
+        mut reader,
+        len,
+        front,
+    } = opened;
+    let begun = begin_any(alloc, &mut reader, bytes_needed(len, &front));
+    disk.close(reader);
+    begun
+}
+
+/// Writes the segment in a file by the current format, whichever of the three it has, and then says `ok`.
+///
+/// # Errors
+///
+/// Why the image is refused, `ReadFault` where the file can't be read, and `OutOfMemory`: the file is as it was. `WriteFault`
+/// where it can't be emptied, takes not the whole image, or need not last, and where the output fails behind it.
+pub fn migrate<D: Disk, O: Output>(
+    alloc: Global,
+    disk: &mut D,
+    path: &str,
+    out: &mut O,
+) -> Result<(), ProgramFault>
+    requires { (O.history out.old).failures < 2 ^ 64 - 1 }
+    ensures { IsMigrate D.step disk.old disk.new path.now O.history O.flushes out.old out.new result }
+{
+    let segment = open_any_segment(alloc, disk, path)?;
+    match write_image(disk, path, Making::Emptied, &segment) {
+        Ok(()) => match tell(out, b"ok\n") {
+            Ok(()) => Ok(()),
+            Err(_) => Err(WRITE_FAULT),
+        },
+        Err(_) => Err(WRITE_FAULT),
+    }
+}

@@ -4,7 +4,7 @@ use Rattle.best_fit.proofs.Appended.{longer_window}
 use Rattle.best_fit.proofs.ending.append_block.Goals as goal
 
 pub resize-requires : goal.resize-requires
-resize-requires c =  omega arith
+resize-requires c = omega arith
 
 pub append_free-requires-clause-fits : goal.append_free-requires-clause-fits
 append_free-requires-clause-fits c =

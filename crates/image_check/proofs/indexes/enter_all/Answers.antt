@@ -10,10 +10,10 @@ use Rattle.image_check.proofs.EntriesNoted.{one-entered, wrong-entry, targets_of
 use Rattle.image_check.proofs.indexes.enter_all.Goals as goal
 
 pub overflow_mul-place : goal.overflow_mul-place
-overflow_mul-place c =  omega arith
+overflow_mul-place c = omega arith
 
 pub overflow_add-place : goal.overflow_add-place
-overflow_add-place c =  omega arith
+overflow_add-place c = omega arith
 
 pub returns-then-not-enter-clause-entered : goal.returns-then-not-enter-clause-entered
 returns-then-not-enter-clause-entered c ts b =

@@ -43,7 +43,7 @@ overflow_add-count c =
 
 pub returns-clause-index : goal.returns-clause-index
 returns-clause-index c = λ t hs i.
-     let room = c.requires.room in
+    let room = c.requires.room in
     let leads = has_places c.args.heap.now (place_of c.args.self) t hs c.unwrap_or-block.result c.header_link.result i (omega arith)
     (c.header_link.ensures ∙ ap (λ k. link_at (bytes_of c.args.heap.now.bytes) k) c.place.ensures) c.unwrap_or-block.ensures in
     let p = placed c.args.heap.now (place_of c.args.self) t hs c.unwrap_or-block.result i leads in

@@ -100,7 +100,7 @@ grown-capacity-requires c =
 
 pub overflow_add-count : goal.overflow_add-count
 overflow_add-count c =
-     omega arith
+    omega arith
 
 pub settle-requires-clause-heap : goal.settle-requires-clause-heap
 settle-requires-clause-heap c =

@@ -189,22 +189,19 @@ fn places_of(alloc: Global, lines: &[Line<'_>], size: u64) -> Result<Vec<Place>,
 
 /// Whether a row is run only once.
 fn is_once(lines: &[Line<'_>]) -> bool {
-    for line in lines {
-        if line.word == "once" {
-            return true;
-        }
-    }
-    false
+    lines.iter().any(|line| line.word == "once")
+}
+
+/// How many bytes an image says that it has, and 0 where these are too many.
+fn size_said(image: &[u8]) -> u64 {
+    let said = word_at(image, 16);
+    if said <= MOST_SAID { said } else { 0 }
 }
 
 /// The bytes of a segment: of an image those that it has, or says that it has, if these are more and not too many.
 fn size_of(start: Start, image: &[u8]) -> u64 {
-    let len = image.len() as u64;
     match start {
         Start::Fresh(size) => size,
-        Start::Image => match word_at(image, 16) {
-            said if said <= MOST_SAID => len.max(said),
-            _ => len,
-        },
+        Start::Image => size_said(image).max(image.len() as u64),
     }
 }

@@ -113,8 +113,8 @@ pub fn copy_of(alloc: Global, bytes: &[u8]) -> Result<Vec<u8>, AllocError> {
 
 /// The number in the 8 bytes from an offset on, or 0 where the image ends before.
 pub fn word_at(image: &[u8], offset: usize) -> u64 {
-    match image.get(offset..offset.saturating_add(8)) {
-        Some([a, b, c, d, e, f, g, h]) => u64::from_le_bytes([*a, *b, *c, *d, *e, *f, *g, *h]),
-        _ => 0,
+    match image.get(offset..).and_then(|rest| rest.first_chunk()) {
+        Some(word) => u64::from_le_bytes(*word),
+        None => 0,
     }
 }

@@ -82,18 +82,7 @@ impl<'a> Line<'a> {
 
 /// The number that digits spell.
 fn number_of(text: &str) -> Option<u64> {
-    if text.is_empty() {
-        return None;
-    }
-    let mut number = 0u64;
-    for byte in text.as_bytes() {
-        if !byte.is_ascii_digit() {
-            return None;
-        }
-        let digit = u64::from(byte.wrapping_sub(b'0'));
-        number = number.checked_mul(10)?.checked_add(digit)?;
-    }
-    Some(number)
+    text.parse().ok()
 }
 
 /// The lines of a file.

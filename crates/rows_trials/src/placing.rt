@@ -54,10 +54,5 @@ fn stands_among(region: &RawRegion, place: Place, segment: &[u8]) -> bool {
 
 /// Whether all of these bytes are marked.
 fn is_marked(bytes: Option<&[u8]>) -> bool {
-    for byte in bytes.unwrap_or(&[]) {
-        if *byte != MARK {
-            return false;
-        }
-    }
-    true
+    bytes.unwrap_or(&[]).iter().all(|byte| *byte == MARK)
 }

@@ -58,7 +58,7 @@ fn behind_blanks(line: &[u8]) -> &[u8] {
 
 /// Whether a word ends before this byte, or at the end of the line.
 fn is_end(byte: Option<&u8>) -> bool {
-    matches!(byte, None | Some(b' ' | b'\t' | b'\r'))
+    byte.is_none_or(|byte| b" \t\r".contains(byte))
 }
 
 /// Whether an answer is an error that comes before all others.

@@ -154,10 +154,5 @@ impl<R: Runner> Bench<R> {
 
 /// Whether one of the answers is an error.
 fn has_error(answers: &[u8]) -> bool {
-    for at in 0..answers.len() {
-        if answers.get(at..).unwrap_or(&[]).starts_with(b"error") {
-            return true;
-        }
-    }
-    false
+    answers.windows(5).any(|piece| piece == b"error".as_slice())
 }

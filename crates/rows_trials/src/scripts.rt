@@ -112,9 +112,10 @@ impl Script {
 
     /// The script without the last end of a line.
     pub fn without_end(&self) -> &[u8] {
-        self.text
-            .get(..self.text.len().saturating_sub(1))
-            .unwrap_or(&[])
+        match self.text.split_last() {
+            Some((_, rest)) => rest,
+            None => &[],
+        }
     }
 
     /// The script with CR LF at the end of each line, where none ends with a CR.

@@ -72,9 +72,6 @@ fn put_digits(text: &[u8], out: &mut Vec<u8>) -> Result<bool, AllocError> {
 
 /// The value of a hexadecimal digit.
 fn digit_of(byte: u8) -> Option<u8> {
-    match byte {
-        b'0'..=b'9' => Some(byte.wrapping_sub(b'0')),
-        b'a'..=b'f' => Some(byte.wrapping_sub(b'a' - 10)),
-        _ => None,
-    }
+    let digit = char::from(byte).to_digit(16)?;
+    Some(digit as u8)
 }

@@ -107,3 +107,4 @@ pub mod ElementLaws
 mod Resizes
 mod Renewed
 mod ToChange
+mod WalkedInstances

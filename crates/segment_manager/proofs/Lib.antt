@@ -108,3 +108,5 @@ mod Resizes
 mod Renewed
 mod ToChange
 mod WalkedInstances
+mod StayingObjects
+mod TileCounts

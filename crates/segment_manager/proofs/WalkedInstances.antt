@@ -1,7 +1,5 @@
 -- The places of an iterator over the objects of an index.
-use Rattle.std.proofs.Common.{◌≡◌, subst, ℕ, ◌<◌, ◌≤◌, length}
-use Rattle.seg_index.specs.declared.index.Index.{Index}
-use Rattle.seg_index.specs.Held.{place_of}
+use Rattle.std.proofs.Common.{subst, ℕ, ◌<◌, ◌≤◌}
 use Rattle.segment_manager.specs.Directory.{Directory}
 use Rattle.segment_manager.specs.Found.{IsBelow}
 use Rattle.segment_manager.specs.State.{Answers, State, StandsFor}

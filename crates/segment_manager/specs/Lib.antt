@@ -32,3 +32,4 @@ pub mod ToChange
 pub mod Stored
 pub mod Iterating
 pub mod Counted
+pub mod Staying

@@ -46,6 +46,7 @@ pub mod theorems;
 mod tiles;
 mod vectors;
 mod walking_pairs;
+mod walking_tiles;
 
 pub use destinations::{AnonymousInstance, Destination, IndexDestination, UniqueInstance};
 pub use errors::{CreateError, CreateRefused, RelocateRefused};
@@ -55,3 +56,4 @@ pub use segment::Segment;
 pub use targets::{Object, Target};
 pub use telling::Instance;
 pub use tiles::Span;
+pub use walking_tiles::Tiles;

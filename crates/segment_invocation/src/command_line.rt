@@ -129,13 +129,13 @@ fn run_command<'a>(alloc: Global) -> Result<Command<'a>, AllocError>
         .arg(option(alloc, "size", "SIZE", SIZE))
 }
 
-/// The program, without its commands.
-fn program<'a>(alloc: Global) -> Command<'a>
+/// The program, without its commands, and what its help says before and behind them.
+fn program<'a>(alloc: Global, about: &'a str, statuses: &'a str) -> Command<'a>
     ensures { app_of result ≡ program }
 {
     Command::new(alloc, "segment")
-        .about(ABOUT)
-        .after_help(STATUSES)
+        .about(about)
+        .after_help(statuses)
         .subcommand_required(true)
         .arg_required_else_help(true)
         .disable_help_subcommand(true)
@@ -145,7 +145,7 @@ fn program<'a>(alloc: Global) -> Command<'a>
 pub fn command_line<'a>(alloc: Global) -> Result<Command<'a>, AllocError>
     ensures { IfOk result (λ c. app_of c ≡ command_line) }
 {
-    program(alloc)
+    program(alloc, ABOUT, STATUSES)
         .subcommand(number_command(alloc, "create", CREATE, "SIZE", SIZE)?)?
         .subcommand(run_command(alloc)?)?
         .subcommand(file_command(alloc, "check", CHECK)?)?

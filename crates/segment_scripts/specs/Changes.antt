@@ -60,10 +60,10 @@ pub record IsNoElement (s : State) (key : Key) (l : Literal) (why : Refusal) : T
   pub push : IsStep s s (Push key l) (Refused why)
   pub insert : (i : ℕ) → IsStep s s (Insert key i l) (Refused why)
 
--- the values that literals are for a vector of a kind, as a type has them, or why they are none
-abbrev pub ReadsAs : {T : Type 0} → ScalarKind → (T → ℤ) → List Literal → Result (List T) Refusal → Type 0
-ReadsAs k whole ls (Ok row) = (values_of k ls ≡ Ok (map whole row)) × IsTrue (list_all (is_value k) (map whole row))
-ReadsAs k whole ls (Err why) = values_of k ls ≡ Err why
+-- the values that literals are for a vector of a kind, as a type has them in a row, or why they are none
+abbrev pub ReadsInto : {T : Type 0} → ScalarKind → (T → ℤ) → List Literal → List T → Result (Unit {0}) Refusal → Type 0
+ReadsInto k whole ls row (Ok u) = (values_of k ls ≡ Ok (map whole row)) × IsTrue (list_all (is_value k) (map whole row))
+ReadsInto k whole ls row (Err why) = values_of k ls ≡ Err why
 
 -- The command is executed: the directory is the one behind its step, and nothing changes where it is refused before it asks for a
 -- block.

@@ -8,12 +8,13 @@ ghost use Rattle.seg_types.specs.Values.{kind_of_scalar, value_of_scalar};
 ghost use Rattle.segment_lang.specs.Seen.{literal_of};
 ghost use Rattle.segment_manager.specs.Located.{IsObject};
 ghost use Rattle.segment_manager.specs.State.{IsStep, IsStepOfKind, KeepsRefused, done_answer};
-ghost use Rattle.segment_scripts.specs.Changes.{IsChangeable, IsNew, IsNoElement, IsToChange, IsUnchangeable, ReadsAs};
+ghost use Rattle.segment_scripts.specs.Changes.{IsChangeable, IsNew, IsNoElement, IsToChange, IsUnchangeable};
 ghost use Rattle.segment_scripts.specs.Replies.{bytes_taken};
 
-use crate::rows::{Row, literal_row, only_text};
+use crate::machine::Room;
+use crate::rows::{Row, Rows, literal_row, only_text};
 use crate::setting::value_of;
-use crate::text_rows::literal_texts;
+use crate::text_rows::{TextRow, literal_texts};
 use seg_types::{Key, Kind, Refusal, Scalar, ScalarKind, ScalarValue};
 use segment_lang::{Literal, Literals, Quoted, Text};
 use segment_manager::{Mode, Object, Segment};
@@ -247,7 +248,7 @@ pub fn assign(
     segment: &mut Segment,
     key: &Key,
     values: Literals<'_>,
-    scratch: &mut Text,
+    room: &mut Room,
 ) -> Result<(), Refusal>
     requires { bytes_taken values ≤ 4097 }
     ensures step { IsStep segment.old segment.new (Assign (key_seen key.now) values.entry) (done_answer result) }
@@ -256,21 +257,23 @@ pub fn assign(
     match object_to_change(segment, key) {
         Err(why) => Err(why),
         Ok(object) => match object.kind {
-            Kind::Vector(element) => assign_vector(segment, object, element, values),
-            Kind::Text => assign_string(segment, object, values, scratch),
-            Kind::Texts => assign_texts(segment, object, values),
+            Kind::Vector(element) => {
+                assign_vector(segment, object, element, values, &mut room.rows)
+            }
+            Kind::Text => assign_string(segment, object, values, &mut room.text),
+            Kind::Texts => assign_texts(segment, object, values, &mut room.texts),
             _ => Err(Refusal::WrongKind),
         },
     }
 }
 
 /// Makes values those of a vector, a vector of scalars of a kind.
-#[inline(never)]
 fn assign_vector(
     segment: &mut Segment,
     object: Object,
     kind: ScalarKind,
     values: Literals<'_>,
+    rows: &mut Rows,
 ) -> Result<(), Refusal>
     requires object { IsObject object segment.old }
     requires of_kind { IsChangeable segment.old (ByHandle object.handle) (VectorOf kind) }
@@ -279,28 +282,30 @@ fn assign_vector(
     ensures refused { OnErr result (segment.new ≡ segment.old) }
 {
     match kind {
-        ScalarKind::Bool => assign_row(segment, object, literal_row::<bool>(values)),
-        ScalarKind::U8 => assign_row(segment, object, literal_row::<u8>(values)),
-        ScalarKind::I32 => assign_row(segment, object, literal_row::<i32>(values)),
-        ScalarKind::I64 => assign_row(segment, object, literal_row::<i64>(values)),
-        ScalarKind::U64 => assign_row(segment, object, literal_row::<u64>(values)),
+        ScalarKind::Bool => assign_row(segment, object, values, &mut rows.truths),
+        ScalarKind::U8 => assign_row(segment, object, values, &mut rows.bytes),
+        ScalarKind::I32 => assign_row(segment, object, values, &mut rows.i32s),
+        ScalarKind::I64 => assign_row(segment, object, values, &mut rows.i64s),
+        ScalarKind::U64 => assign_row(segment, object, values, &mut rows.u64s),
     }
 }
 
-/// Makes the values that were read those of a vector, a vector of the type.
+/// Makes values those of a vector, a vector of the type.
 fn assign_row<T: Scalar>(
     segment: &mut Segment,
     object: Object,
-    read: Result<Row<T>, Refusal>,
+    values: Literals<'_>,
+    row: &mut Row<T>,
 ) -> Result<(), Refusal>
     requires object { IsObject object segment.old }
     requires of_kind { IsChangeable segment.old (ByHandle object.handle) (VectorOf T.kind) }
-    ensures step { (ls : List AskedLiteral) → ReadsAs T.kind T.whole ls read → IsStep segment.old segment.new (Assign (ByHandle object.handle) ls) (done_answer result) }
+    requires few { bytes_taken values ≤ 4097 }
+    ensures step { IsStep segment.old segment.new (Assign (ByHandle object.handle) values.entry) (done_answer result) }
     ensures refused { OnErr result (segment.new ≡ segment.old) }
 {
-    match read {
+    match literal_row(values, row) {
         Err(why) => Err(why),
-        Ok(row) => segment.vec_assign(&object, row.as_slice()),
+        Ok(()) => segment.vec_assign(&object, row.as_slice()),
     }
 }
 
@@ -325,16 +330,21 @@ fn assign_string(
 
 /// Makes texts those of the vector of strings.
 #[inline(never)]
-fn assign_texts(segment: &mut Segment, object: Object, values: Literals<'_>) -> Result<(), Refusal>
+fn assign_texts(
+    segment: &mut Segment,
+    object: Object,
+    values: Literals<'_>,
+    row: &mut TextRow,
+) -> Result<(), Refusal>
     requires object { IsObject object segment.old }
     requires of_kind { IsChangeable segment.old (ByHandle object.handle) TextsKind }
     requires few { bytes_taken values ≤ 4097 }
     ensures step { IsStep segment.old segment.new (Assign (ByHandle object.handle) values.entry) (done_answer result) }
     ensures refused { KeepsRefused segment.old segment.new result }
 {
-    match literal_texts(values) {
+    match literal_texts(values, row) {
         Err(why) => Err(why),
-        Ok(row) => segment.texts_assign(&object, row.slices().as_slice()),
+        Ok(()) => segment.texts_assign(&object, row.slices().as_slice()),
     }
 }
 

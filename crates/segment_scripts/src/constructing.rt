@@ -1,17 +1,20 @@
 //! Objects made of what a line writes.
-ghost use Rattle.std.specs.Prelude.{◌≡◌};
+ghost use Rattle.std.specs.Prelude.{◌≡◌, ◌≤◌, IsTrue, length};
+ghost use Rattle.std.specs.List.{AllByRecursion};
 ghost use Rattle.seg_types.specs.declared.kinds.Kind.TheVariants.{Text as TextKind, Vector as VectorOf};
 ghost use Rattle.seg_types.specs.Commands.{Bytes, Construct, ConstructIt, Elements, FindOrConstruct, Strings};
 ghost use Rattle.seg_types.specs.Keys.{index_key_seen, new_key_seen};
+ghost use Rattle.seg_types.specs.Kinds.{is_value};
 ghost use Rattle.segment_lang.specs.Seen.{content_of};
 ghost use Rattle.segment_manager.specs.Found.{pair_answer};
 ghost use Rattle.segment_manager.specs.State.{IsStep, KeepsRefused, handle_answer};
 ghost use Rattle.segment_scripts.specs.Replies.{IsContent, IsMeant};
 
-use crate::rows::value_row;
-use crate::text_rows::text_row;
-use seg_types::{Handle, IndexKey, NewKey, Refusal, ScalarKind};
-use segment_lang::{Content, Text, Texts, Values};
+use crate::machine::Room;
+use crate::rows::{Row, Rows, value_row};
+use crate::text_rows::{TextRow, text_row};
+use seg_types::{Handle, IndexKey, NewKey, Refusal, Scalar, ScalarKind};
+use segment_lang::{Content, Texts, Values};
 use segment_manager::Segment;
 
 /// Makes an object, and answers its handle.
@@ -25,7 +28,7 @@ pub fn construct(
     segment: &mut Segment,
     key: &NewKey,
     content: Content<'_>,
-    scratch: &mut Text,
+    room: &mut Room,
 ) -> Result<Handle, Refusal>
     requires { IsContent (new_key_seen key.now) (content_of content) }
     ensures step { IsStep segment.old segment.new (Construct (new_key_seen key.now) (content_of content.entry)) (handle_answer result) }
@@ -33,9 +36,9 @@ pub fn construct(
 {
     match content {
         Content::Scalars { value, count } => segment.construct_value(key, count, value),
-        Content::Elements(values) => construct_vector(segment, key, values),
-        Content::Text(text) => segment.construct_string(key, text.bytes(scratch)),
-        Content::Texts(texts) => construct_texts(segment, key, texts),
+        Content::Elements(values) => construct_vector(segment, key, values, &mut room.rows),
+        Content::Text(text) => segment.construct_string(key, text.bytes(&mut room.text)),
+        Content::Texts(texts) => construct_texts(segment, key, texts, &mut room.texts),
         Content::NoPairs {
             key: keys,
             value: values,
@@ -44,33 +47,57 @@ pub fn construct(
 }
 
 /// Makes a vector of the values, and answers its handle.
-#[inline(never)]
 fn construct_vector(
     segment: &mut Segment,
     key: &NewKey,
     values: Values<'_>,
+    rows: &mut Rows,
 ) -> Result<Handle, Refusal>
     requires { IsContent (new_key_seen key.now) (Elements values.kind values.numbers) }
     ensures step { IsStep segment.old segment.new (Construct (new_key_seen key.now) (Elements values.entry.kind values.entry.numbers)) (handle_answer result) }
     ensures refused { KeepsRefused segment.old segment.new result }
 {
     match values.kind() {
-        ScalarKind::Bool => segment.construct_vec(key, value_row::<bool>(values).as_slice()),
-        ScalarKind::U8 => segment.construct_vec(key, value_row::<u8>(values).as_slice()),
-        ScalarKind::I32 => segment.construct_vec(key, value_row::<i32>(values).as_slice()),
-        ScalarKind::I64 => segment.construct_vec(key, value_row::<i64>(values).as_slice()),
-        ScalarKind::U64 => segment.construct_vec(key, value_row::<u64>(values).as_slice()),
+        ScalarKind::Bool => construct_row(segment, key, values, &mut rows.truths),
+        ScalarKind::U8 => construct_row(segment, key, values, &mut rows.bytes),
+        ScalarKind::I32 => construct_row(segment, key, values, &mut rows.i32s),
+        ScalarKind::I64 => construct_row(segment, key, values, &mut rows.i64s),
+        ScalarKind::U64 => construct_row(segment, key, values, &mut rows.u64s),
     }
+}
+
+/// Makes a vector of the values, which are of the type's kind, and answers its handle.
+fn construct_row<T: Scalar>(
+    segment: &mut Segment,
+    key: &NewKey,
+    values: Values<'_>,
+    row: &mut Row<T>,
+) -> Result<Handle, Refusal>
+    requires kind { values.kind ≡ T.kind }
+    requires content { IsContent (new_key_seen key.now) (Elements values.kind values.numbers) }
+    requires range { AllByRecursion (λ z. IsTrue (is_value T.kind z)) values.numbers }
+    requires few { length values.numbers ≤ 2048 }
+    ensures step { IsStep segment.old segment.new (Construct (new_key_seen key.now) (Elements values.entry.kind values.entry.numbers)) (handle_answer result) }
+    ensures refused { KeepsRefused segment.old segment.new result }
+{
+    value_row(values, row);
+    segment.construct_vec(key, row.as_slice())
 }
 
 /// Makes a vector of strings of the texts, and answers its handle.
 #[inline(never)]
-fn construct_texts(segment: &mut Segment, key: &NewKey, texts: Texts<'_>) -> Result<Handle, Refusal>
+fn construct_texts(
+    segment: &mut Segment,
+    key: &NewKey,
+    texts: Texts<'_>,
+    row: &mut TextRow,
+) -> Result<Handle, Refusal>
     requires { IsContent (new_key_seen key.now) (Strings texts) }
     ensures step { IsStep segment.old segment.new (Construct (new_key_seen key.now) (Strings texts.entry)) (handle_answer result) }
     ensures refused { KeepsRefused segment.old segment.new result }
 {
-    segment.construct_texts(key, text_row(texts).slices().as_slice())
+    text_row(texts, row);
+    segment.construct_texts(key, row.slices().as_slice())
 }
 
 /// Makes an array of the values, and answers its handle.
@@ -104,7 +131,7 @@ pub fn find_or_construct(
     segment: &mut Segment,
     key: &IndexKey,
     content: Content<'_>,
-    scratch: &mut Text,
+    room: &mut Room,
 ) -> Result<(Handle, u32), Refusal>
     requires { IsContent (index_key_seen key.now) (content_of content) }
     ensures step { IsStep segment.old segment.new (FindOrConstruct (index_key_seen key.now) (content_of content.entry)) (pair_answer result) }
@@ -112,9 +139,11 @@ pub fn find_or_construct(
 {
     match content {
         Content::Scalars { value, count } => segment.find_or_construct_value(key, count, value),
-        Content::Elements(values) => find_or_construct_vector(segment, key, values),
-        Content::Text(text) => segment.find_or_construct_string(key, text.bytes(scratch)),
-        Content::Texts(texts) => find_or_construct_texts(segment, key, texts),
+        Content::Elements(values) => {
+            find_or_construct_vector(segment, key, values, &mut room.rows)
+        }
+        Content::Text(text) => { segment.find_or_construct_string(key, text.bytes(&mut room.text)) }
+        Content::Texts(texts) => find_or_construct_texts(segment, key, texts, &mut room.texts),
         Content::NoPairs {
             key: keys,
             value: values,
@@ -123,26 +152,41 @@ pub fn find_or_construct(
 }
 
 /// Finds a vector, or makes it of the values where there is none.
-#[inline(never)]
 fn find_or_construct_vector(
     segment: &mut Segment,
     key: &IndexKey,
     values: Values<'_>,
+    rows: &mut Rows,
 ) -> Result<(Handle, u32), Refusal>
     requires { IsContent (index_key_seen key.now) (Elements values.kind values.numbers) }
     ensures step { IsStep segment.old segment.new (FindOrConstruct (index_key_seen key.now) (Elements values.entry.kind values.entry.numbers)) (pair_answer result) }
     ensures refused { KeepsRefused segment.old segment.new result }
 {
     match values.kind() {
-        ScalarKind::Bool => segment.find_or_construct_vec(
-            key,
-            value_row::<bool>(values).as_slice(),
-        ),
-        ScalarKind::U8 => segment.find_or_construct_vec(key, value_row::<u8>(values).as_slice()),
-        ScalarKind::I32 => segment.find_or_construct_vec(key, value_row::<i32>(values).as_slice()),
-        ScalarKind::I64 => segment.find_or_construct_vec(key, value_row::<i64>(values).as_slice()),
-        ScalarKind::U64 => segment.find_or_construct_vec(key, value_row::<u64>(values).as_slice()),
+        ScalarKind::Bool => find_or_construct_row(segment, key, values, &mut rows.truths),
+        ScalarKind::U8 => find_or_construct_row(segment, key, values, &mut rows.bytes),
+        ScalarKind::I32 => find_or_construct_row(segment, key, values, &mut rows.i32s),
+        ScalarKind::I64 => find_or_construct_row(segment, key, values, &mut rows.i64s),
+        ScalarKind::U64 => find_or_construct_row(segment, key, values, &mut rows.u64s),
     }
+}
+
+/// Finds a vector, or makes it of the values, which are of the type's kind, where there is none.
+fn find_or_construct_row<T: Scalar>(
+    segment: &mut Segment,
+    key: &IndexKey,
+    values: Values<'_>,
+    row: &mut Row<T>,
+) -> Result<(Handle, u32), Refusal>
+    requires kind { values.kind ≡ T.kind }
+    requires content { IsContent (index_key_seen key.now) (Elements values.kind values.numbers) }
+    requires range { AllByRecursion (λ z. IsTrue (is_value T.kind z)) values.numbers }
+    requires few { length values.numbers ≤ 2048 }
+    ensures step { IsStep segment.old segment.new (FindOrConstruct (index_key_seen key.now) (Elements values.entry.kind values.entry.numbers)) (pair_answer result) }
+    ensures refused { KeepsRefused segment.old segment.new result }
+{
+    value_row(values, row);
+    segment.find_or_construct_vec(key, row.as_slice())
 }
 
 /// Finds a vector of strings, or makes it of the texts where there is none.
@@ -151,10 +195,12 @@ fn find_or_construct_texts(
     segment: &mut Segment,
     key: &IndexKey,
     texts: Texts<'_>,
+    row: &mut TextRow,
 ) -> Result<(Handle, u32), Refusal>
     requires { IsContent (index_key_seen key.now) (Strings texts) }
     ensures step { IsStep segment.old segment.new (FindOrConstruct (index_key_seen key.now) (Strings texts.entry)) (pair_answer result) }
     ensures refused { KeepsRefused segment.old segment.new result }
 {
-    segment.find_or_construct_texts(key, text_row(texts).slices().as_slice())
+    text_row(texts, row);
+    segment.find_or_construct_texts(key, row.slices().as_slice())
 }

@@ -2,14 +2,36 @@
 ghost use Rattle.std.specs.Prelude.{◌≡◌, ◌-◌, ◌^◌, ◌<◌, ℕ, List, length, take};
 ghost use Rattle.segment_scripts.specs.Writing.{WritesFor};
 
+use crate::rows::Rows;
+use crate::text_rows::TextRow;
 use raw_region::{DeviceFault, Sink};
 use segment_lang::Text;
 
-/// Room for a name and for a text that a line escapes. It is made once for all lines, and what it held means nothing.
+/// Room for a name that a line escapes, and for what it gives an object. It is made once for all lines, and what it held means
+/// nothing.
 #[derive(Drop)]
 pub struct Scratch {
     pub(crate) name: Text,
-    pub(crate) text: Text,
+    pub(crate) room: Room,
+}
+
+/// Room for a text that a line escapes, for the values of a vector, and for the texts of a vector of strings.
+#[derive(Drop)]
+pub struct Room {
+    pub text: Text,
+    pub rows: Rows,
+    pub texts: TextRow,
+}
+
+impl Room {
+    /// Room that holds nothing.
+    pub fn new() -> Room {
+        Room {
+            text: Text::new(),
+            rows: Rows::new(),
+            texts: TextRow::new(),
+        }
+    }
 }
 
 /// A machine that answers the lines of a script.

@@ -11,10 +11,11 @@ ghost use Rattle.segment_scripts.specs.Replies.{IsMeant, Replies, answer_seen, h
 
 use crate::changing::{append, assign, clear, erase, insert, push, reserve, shrink};
 use crate::constructing::{construct, construct_it, find_or_construct};
+use crate::machine::Room;
 use crate::pairs::{lookup, put_written_pair, remove};
 use crate::setting::set;
 use seg_types::{Handle, IndexKey, Key, Refusal, ScalarValue};
-use segment_lang::{Command, Text};
+use segment_lang::Command;
 use segment_manager::Segment;
 
 /// What a command is answered: all of it where it is short, and where it is long, of what the segment is to be asked.
@@ -48,38 +49,50 @@ pub enum Answer<'a> {
     Refused(Refusal),
 }
 
-/// Executes a command that reads no element and takes none out, and answers it. A text that the line escapes is decoded into
-/// `scratch`.
+/// Executes a command that reads no element and takes none out, and answers it. What the line escapes or
+/// lists is put into `room`.
 #[inline(never)]
-pub fn reply<'a>(segment: &mut Segment, command: Command<'a>, scratch: &mut Text) -> Answer<'a>
+pub fn reply<'a>(segment: &mut Segment, command: Command<'a>, room: &mut Room) -> Answer<'a>
     requires meant { IsMeant (command_of command) }
     requires short { has_element (command_of command) ≡ false }
     ensures { Replies segment.old segment.new (command_of command.entry) result }
 {
     match command {
-        Command::Construct { key, content } => made(construct(segment, &key, content, scratch)),
+        Command::Construct { key, content } => made(construct(segment, &key, content, room)),
         Command::ConstructIt { key, count, values } => {
             made(construct_it(segment, &key, count, values))
         }
         Command::Find { kind, key } => looked_up(segment.find_kind(&key.into_key(), kind)),
         Command::FindOrConstruct { key, content } => {
-            found(find_or_construct(segment, &key, content, scratch))
+            found(find_or_construct(segment, &key, content, room))
         }
         Command::Destroy(key) => truth(destroy(segment, &key)),
         Command::DestroyPtr(handle) => gone(destroy_ptr(segment, handle)),
         Command::Show(key) => Answer::Shown(key),
         Command::Info(key) => Answer::Told(key),
         Command::Get { .. } => unreachable!(),
-        Command::Set { key, index, value } => done(set(segment, &key, index, value, scratch)),
-        Command::Push { key, value } => done(push(segment, &key, value, scratch)),
+        Command::Set { key, index, value } => done(set(
+            segment,
+            &key,
+            index,
+            value,
+            &mut room.text,
+        )),
+        Command::Push { key, value } => done(push(segment, &key, value, &mut room.text)),
         Command::Pop(_) => unreachable!(),
-        Command::Insert { key, index, value } => done(insert(segment, &key, index, value, scratch)),
+        Command::Insert { key, index, value } => done(insert(
+            segment,
+            &key,
+            index,
+            value,
+            &mut room.text,
+        )),
         Command::Erase { key, index } => done(erase(segment, &key, index)),
         Command::Reserve { key, count } => done(reserve(segment, &key, count)),
         Command::Shrink(key) => done(shrink(segment, &key)),
         Command::Clear(key) => done(clear(segment, &key)),
-        Command::Assign { key, values } => done(assign(segment, &key, values, scratch)),
-        Command::Append { key, text } => done(append(segment, &key, text, scratch)),
+        Command::Assign { key, values } => done(assign(segment, &key, values, room)),
+        Command::Append { key, text } => done(append(segment, &key, text, &mut room.text)),
         Command::Put { key, pair } => truth(put_written_pair(segment, &key, pair)),
         Command::Lookup { key, at } => value_found(lookup(segment, &key, at)),
         Command::Remove { key, at } => truth(remove(segment, &key, at)),

@@ -4,7 +4,7 @@ ghost use Rattle.std.specs.List.{AllByRecursion};
 ghost use Rattle.seg_types.specs.Kinds.{is_value};
 ghost use Rattle.seg_types.specs.Values.{kind_of_scalar, value_of_scalar};
 ghost use Rattle.segment_manager.specs.Step.{text_among};
-ghost use Rattle.segment_scripts.specs.Changes.{ReadsAs};
+ghost use Rattle.segment_scripts.specs.Changes.{ReadsInto};
 ghost use Rattle.segment_scripts.specs.Replies.{bytes_taken};
 
 use crate::setting::value_of;
@@ -45,6 +45,13 @@ impl<T: Scalar> Row<T> {
         }
     }
 
+    /// Takes all values out. It costs nothing: what stands in their places is not looked at again.
+    pub fn clear(&mut self)
+        ensures { self.new ≡ [] }
+    {
+        self.len = 0;
+    }
+
     /// The values.
     pub fn as_slice(&self) -> &[T]
         ensures { result.now ≡ self.now }
@@ -59,6 +66,29 @@ impl<T: Scalar> Row<T> {
     {
         self.values[self.len] = value;
         self.len += 1;
+    }
+}
+
+/// A row for each type that values of a line may have.
+#[derive(Drop)]
+pub struct Rows {
+    pub truths: Row<bool>,
+    pub bytes: Row<u8>,
+    pub i32s: Row<i32>,
+    pub i64s: Row<i64>,
+    pub u64s: Row<u64>,
+}
+
+impl Rows {
+    /// Rows without values.
+    pub fn new() -> Rows {
+        Rows {
+            truths: Row::new(),
+            bytes: Row::new(),
+            i32s: Row::new(),
+            i64s: Row::new(),
+            u64s: Row::new(),
+        }
     }
 }
 
@@ -86,30 +116,30 @@ fn as_type<T: Scalar>(value: ScalarValue) -> T
     }
 }
 
-/// The values of a line, which are of the type's kind.
-pub fn value_row<T: Scalar>(values: Values<'_>) -> Row<T>
+/// Makes the values of a line those of a row. They are of the type's kind.
+pub fn value_row<T: Scalar>(values: Values<'_>, row: &mut Row<T>)
     requires kind { values.kind ≡ T.kind }
     requires range { AllByRecursion (λ z. IsTrue (is_value T.kind z)) values.numbers }
     requires few { length values.numbers ≤ 2048 }
-    ensures { map T.whole result ≡ values.entry.numbers }
+    ensures { map T.whole row.new ≡ values.entry.numbers }
 {
-    let mut row = Row::new();
+    row.clear();
     'values: for value in values {
         row.push(as_type(value));
     }
-    row
 }
 
-/// The values that literals are for a vector of a type.
+/// Makes the values that literals are for a vector of a type those of a row.
 ///
 /// # Errors
 ///
-/// `WrongKind` where one has not the form of the kind, and else `OutOfRange` where one is not in its range.
-pub fn literal_row<T: Scalar>(literals: Literals<'_>) -> Result<Row<T>, Refusal>
+/// `WrongKind` where one has not the form of the kind, and else `OutOfRange` where one is not in its range. The row means nothing
+/// then.
+pub fn literal_row<T: Scalar>(literals: Literals<'_>, row: &mut Row<T>) -> Result<(), Refusal>
     requires { bytes_taken literals ≤ 4097 }
-    ensures { ReadsAs T.kind T.whole literals.entry result }
+    ensures { ReadsInto T.kind T.whole literals.entry row.new result }
 {
-    let mut row = Row::new();
+    row.clear();
     let mut fits = true;
     'literals: for literal in literals {
         match value_of(T::kind(), literal) {
@@ -125,7 +155,7 @@ pub fn literal_row<T: Scalar>(literals: Literals<'_>) -> Result<Row<T>, Refusal>
         }
     }
     if fits {
-        Ok(row)
+        Ok(())
     } else {
         Err(Refusal::OutOfRange)
     }

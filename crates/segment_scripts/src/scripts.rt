@@ -9,7 +9,7 @@ ghost use Rattle.segment_scripts.specs.Writing.{WritesFor};
 ghost use Rattle.segment_scripts.specs.Behind.{IsBehind, IsStoppedIn, IsAtEnd, IsStoppedAtLast, HasAnswered};
 
 use crate::faults::RunFault;
-use crate::machine::{Machine, Scratch};
+use crate::machine::{Machine, Room, Scratch};
 use crate::open_line::OpenLine;
 use memchr::memchr_iter;
 use raw_region::{DeviceFault, Sink, Source};
@@ -177,7 +177,7 @@ pub fn run<M: Machine, S: Source, W: Sink>(
 {
     let mut scratch = Scratch {
         name: Text::new(),
-        text: Text::new(),
+        room: Room::new(),
     };
     let mut line = OpenLine::new();
     read_lines(machine, &mut scratch, script, &mut line, out)?;

@@ -103,7 +103,7 @@ fn answer_push<W: Sink>(
 {
     match key_and_literal(rest, &mut scratch.name) {
         Some((key, value)) => {
-            let answer = done(push(segment, &key, value, &mut scratch.text));
+            let answer = done(push(segment, &key, value, &mut scratch.room.text));
             put_answer(segment, answer, out)
         }
         None => put_wrong(LineError::BadSyntax, out),
@@ -148,7 +148,7 @@ fn answer_form<W: Sink>(
             Command::Get { key, index } => put_got(segment, &key, index, out),
             Command::Pop(key) => pop(segment, &key, out),
             _ => {
-                let answer = reply(segment, command, &mut scratch.text);
+                let answer = reply(segment, command, &mut scratch.room);
                 put_answer(segment, answer, out)
             }
         },

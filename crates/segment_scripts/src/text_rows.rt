@@ -42,6 +42,14 @@ impl TextRow {
         }
     }
 
+    /// Takes all texts out. It costs nothing: what stands in their places is not looked at again.
+    pub fn clear(&mut self)
+        ensures { self.new ≡ [] }
+    {
+        self.bytes.clear();
+        self.len = 0;
+    }
+
     /// Adds a text at the end.
     pub fn push(&mut self, text: &Quoted<'_>)
         requires { texts_taken self.old + length text.now ≤ 4096 }
@@ -121,33 +129,32 @@ impl<'a> Slices<'a> {
     }
 }
 
-/// The texts of a line.
-pub fn text_row(texts: Texts<'_>) -> TextRow
+/// Makes the texts of a line those of a row.
+pub fn text_row(texts: Texts<'_>, row: &mut TextRow)
     requires { texts_taken texts ≤ 4097 }
-    ensures { result ≡ texts.entry }
+    ensures { row.new ≡ texts.entry }
 {
-    let mut row = TextRow::new();
+    row.clear();
     'texts: for text in texts {
         row.push(&text);
     }
-    row
 }
 
-/// The texts that literals are.
+/// Makes the texts that literals are those of a row.
 ///
 /// # Errors
 ///
-/// `WrongKind` where one is none.
-pub fn literal_texts(literals: Literals<'_>) -> Result<TextRow, Refusal>
+/// `WrongKind` where one is none. The row means nothing then.
+pub fn literal_texts(literals: Literals<'_>, row: &mut TextRow) -> Result<(), Refusal>
     requires { bytes_taken literals ≤ 4097 }
-    ensures { MatchResult result (λ row. texts_of literals.entry ≡ Ok row) (λ why. texts_of literals.entry ≡ Err why) }
+    ensures { MatchResult result (λ u. texts_of literals.entry ≡ Ok row.new) (λ why. texts_of literals.entry ≡ Err why) }
 {
-    let mut row = TextRow::new();
+    row.clear();
     'literals: for literal in literals {
         let Literal::Quoted(text) = literal else {
             return Err(Refusal::WrongKind);
         };
         row.push(&text);
     }
-    Ok(row)
+    Ok(())
 }

@@ -14,5 +14,5 @@ pub returns-in-Ok-clause-step : goal.returns-in-Ok-clause-step
 returns-in-Ok-clause-step c =
     let s = c.args.segment.now in
     let key = ByHandle c.args.object.handle in
-    assign-texts s key c.requires.of_kind.is c.texts_assign.new.self c.args.values c.in-Ok.row (done_answer c.texts_assign.result) c.in-Ok.ensures
+    assign-texts s key c.requires.of_kind.is c.texts_assign.new.self c.args.values c.literal_texts.new.row (done_answer c.texts_assign.result) c.in-Ok.ensures
     (subst (λ bss. IsStepOfKind s c.texts_assign.new.self key Texts (Assign key (map Quoted bss)) (done_answer c.texts_assign.result)) (c.as_slice.ensures ∙ c.slices.ensures) c.texts_assign.ensures.step)

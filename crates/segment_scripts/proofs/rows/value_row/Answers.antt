@@ -12,6 +12,6 @@ values-init g c =
     record {
       can = tt;
       finite = tt;
-      filled = subst (λ row. IsFilled whole k c.args.values c.into_iter-value-iterator.result row) (sym c.new-row.ensures)
+      filled = subst (λ row. IsFilled whole k c.args.values c.into_iter-value-iterator.result row) (sym c.clear.ensures)
           (subst (λ (t : Written). IsFilled whole k c.args.values t []) (sym same) none);
     }

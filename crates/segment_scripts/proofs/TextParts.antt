@@ -122,6 +122,10 @@ texts-all ls rest row h e = h.values ∙ ap (λ r. before row (texts_of r)) e �
 
 -- ---- texts that are lent, one after another
 
+pub parts-length : (ns bs : List ℕ) → length (parts ns bs) ≡ length ns
+parts-length [] bs = refl
+parts-length (n ∷ ns) bs = omega (arith, parts-length ns (drop n bs))
+
 -- the slices so far and those that are left are all
 pub record IsCut (ns bs : List ℕ) (i : ℕ) (rest : List ℕ) (made : List (List ℕ)) : Type 0 where
   pub is : made ++ parts (drop i ns) rest ≡ parts ns bs

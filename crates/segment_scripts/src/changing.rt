@@ -1,5 +1,5 @@
 //! Vectors and strings that a line changes: the kind of the object says which call it is.
-ghost use Rattle.std.specs.Prelude.{◌≡◌, ◌≤◌, ◌∷◌, [], List, MatchResult, OnErr, length};
+ghost use Rattle.std.specs.Prelude.{◌≡◌, ◌≤◌, ◌∷◌, [], MatchResult, OnErr, length, map};
 ghost use Rattle.seg_types.specs.declared.kinds.Kind.TheVariants.{Text as TextKind, Texts as TextsKind, Vector as VectorOf};
 ghost use Rattle.seg_types.specs.Commands.{Append, Assign, Clear, Erase, Insert, Literal as AskedLiteral, Push, Quoted as AskedQuoted, Reserve, Shrink, literal_of as literal_for};
 ghost use Rattle.seg_types.specs.Keys.{key_seen};
@@ -14,7 +14,7 @@ ghost use Rattle.segment_scripts.specs.Replies.{bytes_taken};
 use crate::machine::Room;
 use crate::rows::{Row, Rows, literal_row, only_text};
 use crate::setting::value_of;
-use crate::text_rows::{TextRow, literal_texts};
+use crate::text_rows::{FEW, TextRow, literal_texts};
 use seg_types::{Key, Kind, Refusal, Scalar, ScalarKind, ScalarValue};
 use segment_lang::{Literal, Literals, Quoted, Text};
 use segment_manager::{Mode, Object, Segment};
@@ -344,8 +344,30 @@ fn assign_texts(
 {
     match literal_texts(values, row) {
         Err(why) => Err(why),
-        Ok(()) => segment.texts_assign(&object, row.slices().as_slice()),
+        Ok(()) => assign_read(segment, object, row),
     }
+}
+
+/// Makes the texts of a row those of the vector of strings.
+fn assign_read(segment: &mut Segment, object: Object, row: &TextRow) -> Result<(), Refusal>
+    requires { IsObject object segment.old }
+    ensures step { IsStepOfKind segment.old segment.new (ByHandle object.handle) TextsKind (Assign (ByHandle object.handle) (map AskedQuoted row.now)) (done_answer result) }
+    ensures refused { KeepsRefused segment.old segment.new result }
+{
+    if FEW < row.len() {
+        return assign_many(segment, object, row);
+    }
+    segment.texts_assign(&object, row.few().as_slice())
+}
+
+/// The same, however many they are.
+#[inline(never)]
+fn assign_many(segment: &mut Segment, object: Object, row: &TextRow) -> Result<(), Refusal>
+    requires { IsObject object segment.old }
+    ensures step { IsStepOfKind segment.old segment.new (ByHandle object.handle) TextsKind (Assign (ByHandle object.handle) (map AskedQuoted row.now)) (done_answer result) }
+    ensures refused { KeepsRefused segment.old segment.new result }
+{
+    segment.texts_assign(&object, row.all().as_slice())
 }
 
 /// Puts the bytes of a text behind those of the string of a key.

@@ -12,7 +12,7 @@ ghost use Rattle.segment_scripts.specs.Replies.{IsContent, IsMeant};
 
 use crate::machine::Room;
 use crate::rows::{Row, Rows, value_row};
-use crate::text_rows::{TextRow, text_row};
+use crate::text_rows::{FEW, TextRow, text_row};
 use seg_types::{Handle, IndexKey, NewKey, Refusal, Scalar, ScalarKind};
 use segment_lang::{Content, Texts, Values};
 use segment_manager::Segment;
@@ -97,7 +97,20 @@ fn construct_texts(
     ensures refused { KeepsRefused segment.old segment.new result }
 {
     text_row(texts, row);
-    segment.construct_texts(key, row.slices().as_slice())
+    if FEW < row.len() {
+        return construct_many(segment, key, row);
+    }
+    segment.construct_texts(key, row.few().as_slice())
+}
+
+/// Makes a vector of strings of the texts of a row, however many, and answers its handle.
+#[inline(never)]
+fn construct_many(segment: &mut Segment, key: &NewKey, row: &TextRow) -> Result<Handle, Refusal>
+    requires { IsContent (new_key_seen key.now) (Strings row.now) }
+    ensures step { IsStep segment.old segment.new (Construct (new_key_seen key.now) (Strings row.now)) (handle_answer result) }
+    ensures refused { KeepsRefused segment.old segment.new result }
+{
+    segment.construct_texts(key, row.all().as_slice())
 }
 
 /// Makes an array of the values, and answers its handle.
@@ -202,5 +215,22 @@ fn find_or_construct_texts(
     ensures refused { KeepsRefused segment.old segment.new result }
 {
     text_row(texts, row);
-    segment.find_or_construct_texts(key, row.slices().as_slice())
+    if FEW < row.len() {
+        return find_or_construct_many(segment, key, row);
+    }
+    segment.find_or_construct_texts(key, row.few().as_slice())
+}
+
+/// Finds a vector of strings, or makes it of the texts of a row, however many, where there is none.
+#[inline(never)]
+fn find_or_construct_many(
+    segment: &mut Segment,
+    key: &IndexKey,
+    row: &TextRow,
+) -> Result<(Handle, u32), Refusal>
+    requires { IsContent (index_key_seen key.now) (Strings row.now) }
+    ensures step { IsStep segment.old segment.new (FindOrConstruct (index_key_seen key.now) (Strings row.now)) (pair_answer result) }
+    ensures refused { KeepsRefused segment.old segment.new result }
+{
+    segment.find_or_construct_texts(key, row.all().as_slice())
 }

@@ -1,15 +1,19 @@
 //! The texts of a line in place: their bytes one behind another, and how many each has.
-ghost use Rattle.std.specs.Prelude.{◌≡◌, ◌≤◌, ◌+◌, ◌++◌, ◌∷◌, [], List, ℕ, MatchResult, Ok, Err, length, map, take};
+ghost use Rattle.std.specs.Prelude.{◌≡◌, ◌≤◌, ◌<◌, ◌+◌, ◌++◌, ◌∷◌, [], List, ℕ, MatchResult, Ok, Err, length, map, take};
 ghost use Rattle.segment_manager.specs.Step.{texts_of};
 ghost use Rattle.segment_scripts.specs.Replies.{bytes_taken, texts_taken};
 ghost use Rattle.segment_scripts.specs.TextRows.{parts, total};
 
+use arrayvec::ArrayVec;
 use seg_types::Refusal;
 use segment_lang::{Literal, Literals, Quoted, Text, Texts};
 use std::marker::Model;
 
 /// The most texts that a line can be taken for: each takes a byte and those that it stands for.
 const MOST: usize = 4097;
+
+/// For so many texts short room does: room is cleared where it is made.
+pub const FEW: usize = 32;
 
 /// Texts, as many and as long as a line may have.
 #[derive(Drop)]
@@ -61,21 +65,37 @@ impl TextRow {
         self.len += 1;
     }
 
+    /// How many texts it has.
+    pub fn len(&self) -> usize
+        ensures { result ≡ length self.now }
+    {
+        let lengths = &self.lengths[..self.len];
+        lengths.len()
+    }
+
+    /// The texts, lent. There are few.
+    pub fn few(&self) -> ArrayVec<&[u8], 32>
+        requires { length self.now ≤ 32 }
+        ensures { map (λ t. t.now) result.items ≡ self.now }
+    {
+        cut(self.bytes.as_slice(), &self.lengths[..self.len])
+    }
+
     /// The texts, lent.
-    pub fn slices(&self) -> Slices<'_>
-        ensures { result ≡ self.now }
+    pub fn all(&self) -> ArrayVec<&[u8], 4097>
+        ensures { map (λ t. t.now) result.items ≡ self.now }
     {
         cut(self.bytes.as_slice(), &self.lengths[..self.len])
     }
 }
 
 /// Parts of bytes, one behind another, by how many bytes each has.
-fn cut<'a>(bytes: &'a [u8], lengths: &[usize]) -> Slices<'a>
-    requires few { length lengths.now ≤ 4097 }
+fn cut<'a, const N: usize>(bytes: &'a [u8], lengths: &[usize]) -> ArrayVec<&'a [u8], N>
+    requires few { length lengths.now ≤ N }
     requires whole { total lengths.now ≡ length bytes.now }
-    ensures { result ≡ parts lengths.now bytes.now }
+    ensures { map (λ t. t.now) result.items ≡ parts lengths.now bytes.now }
 {
-    let mut slices = Slices::new();
+    let mut slices = ArrayVec::new();
     let mut rest = bytes;
     'texts: for index in 0..lengths.len() {
         let (text, behind) = rest.split_at(lengths[index]);
@@ -83,50 +103,6 @@ fn cut<'a>(bytes: &'a [u8], lengths: &[usize]) -> Slices<'a>
         rest = behind;
     }
     slices
-}
-
-/// Texts that are lent, as many as a line may have.
-#[derive(Drop)]
-pub struct Slices<'a> {
-    texts: [&'a [u8]; 4097],
-    len: usize,
-}
-
-impl<'a> Model for Slices<'a> {
-    ghost Value = { List (List ℕ) };
-
-    ghost view = { λ s. map (λ t. t.now) (take s.len s.texts) };
-
-    ghost invariant = { λ s. s.len ≤ 4097 };
-}
-
-impl<'a> Slices<'a> {
-    /// No texts.
-    pub fn new() -> Self
-        ensures { result ≡ [] }
-    {
-        let none: &'a [u8] = &[];
-        Slices {
-            texts: [none; MOST],
-            len: 0,
-        }
-    }
-
-    /// Adds a text at the end.
-    pub fn push(&mut self, text: &'a [u8])
-        requires { length self.old ≤ 4096 }
-        ensures { self.new ≡ self.old ++ text.now ∷ [] }
-    {
-        self.texts[self.len] = text;
-        self.len += 1;
-    }
-
-    /// The texts.
-    pub fn as_slice(&self) -> &[&'a [u8]]
-        ensures { map (λ t. t.now) result.now ≡ self.now }
-    {
-        &self.texts[..self.len]
-    }
 }
 
 /// Makes the texts of a line those of a row.

@@ -1,4 +1,4 @@
-use Rattle.std.proofs.Common.{◌∙◌, subst}
+use Rattle.std.proofs.Common.{◌∙◌, ap, map, subst}
 use Rattle.seg_types.specs.Commands.{FindOrConstruct, Strings}
 use Rattle.seg_types.specs.Keys.{index_key_seen}
 use Rattle.segment_manager.specs.Found.{pair_answer}
@@ -12,4 +12,9 @@ find_or_construct_texts-requires c = record { kind = index_strings_kind c.args.k
 pub returns-clause-step : goal.returns-clause-step
 returns-clause-step c =
     subst (λ bss. IsStep c.args.segment.now c.find_or_construct_texts.new.self (FindOrConstruct (index_key_seen c.args.key.now) (Strings bss)) (pair_answer c.find_or_construct_texts.result))
-    (c.as_slice.ensures ∙ c.slices.ensures ∙ c.text_row.ensures) c.find_or_construct_texts.ensures.step
+    (ap (map (λ t. t.now)) c.as_slice.ensures.value ∙ c.few.ensures ∙ c.text_row.ensures) c.find_or_construct_texts.ensures.step
+
+pub returns-then-len-gt-FEW-clause-step : goal.returns-then-len-gt-FEW-clause-step
+returns-then-len-gt-FEW-clause-step c =
+    subst (λ bss. IsStep c.args.segment.now c.find_or_construct_many.new.segment (FindOrConstruct (index_key_seen c.args.key.now) (Strings bss)) (pair_answer c.find_or_construct_many.result))
+    c.text_row.ensures c.find_or_construct_many.ensures.step

@@ -1,5 +1,6 @@
+use Rattle.std.specs.Prelude.{map}
 use Rattle.segment_scripts.proofs.TextParts.{IsCut}
 use Rattle.segment_scripts.proofs.text_rows.cut.Given as goal
 
 abbrev pub invariant-texts : goal.invariant-texts
-invariant-texts l = record { cut : IsCut l.fn.lengths l.fn.bytes l.index l.rest l.slices }
+invariant-texts g l = record { cut : IsCut l.fn.lengths l.fn.bytes l.index l.rest (map (λ t. t.now) l.slices.items) }

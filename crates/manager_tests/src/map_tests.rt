@@ -41,7 +41,9 @@ fn stands(
 
 /// A segment with the map `m`.
 fn with_map(rt: &impl Abort, bench: &mut Bench) {
-    let made = bench.segment.construct_map::<i64, u8>(&new_named(rt, b"m"));
+    let made = bench
+        .segment
+        .construct_map::<i64, u8, _>(&new_named(rt, b"m"));
     same(rt, made, Ok(192));
 }
 
@@ -80,9 +82,9 @@ fn a_map_is_found_or_made(rt: HostRuntime) {
     let mut bench = fresh(&rt, rt.alloc(), 1024);
     let segment = &mut bench.segment;
     let key = IndexKey::Unique(BYTES);
-    let made = segment.find_or_construct_map::<i64, u8>(&key);
+    let made = segment.find_or_construct_map::<i64, u8, _>(&key);
     same(&rt, made, Ok((192, 1)));
-    let found = segment.find_or_construct_map::<i64, u8>(&key);
+    let found = segment.find_or_construct_map::<i64, u8, _>(&key);
     same(&rt, found, Ok((192, 1)));
     let found = segment.find_kind(&Key::Unique(BYTES), BYTES);
     same(&rt, found, Ok(Some((192, 1))));

@@ -32,7 +32,7 @@ fn empty(rt: &impl Abort, alloc: Global) -> Option<Segment> {
 /// The same with a map of one pair.
 fn map(rt: &impl Abort, alloc: Global) -> Option<Segment> {
     let mut segment = empty(rt, alloc)?;
-    let made = segment.construct_map::<i64, i64>(&new_named(rt, b"m"));
+    let made = segment.construct_map::<i64, i64, _>(&new_named(rt, b"m"));
     same(rt, made, Ok(192));
     let put = segment.map_put(&named(rt, b"m"), 1i64, 10i64);
     same(rt, put, Ok(true));

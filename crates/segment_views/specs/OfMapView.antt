@@ -1,0 +1,23 @@
+-- What contracts see of the view: the segment that it borrows, and the key of its object.
+use Rattle.std.specs.Prelude.{◌≡◌}
+use Rattle.std.specs.Borrow.{MutBor}
+use Rattle.seg_types.specs.Names.{Key, ByHandle}
+use Rattle.segment_manager.specs.State.{State}
+use Rattle.segment_views.specs.declared.maps.MapView.{MapView}
+
+-- the segment, as it is now
+abbrev pub segment_of : {K : Type 0} {V : Type 0} → MapView K V → State
+segment_of v = v.segment.now
+
+-- the key of the object
+abbrev pub key_of : {K : Type 0} {V : Type 0} → MapView K V → Key
+key_of v = ByHandle v.object.handle
+
+-- the view borrows this segment
+abbrev pub Borrows : {K : Type 0} {V : Type 0} → MapView K V → MutBor State → Type 0
+Borrows v s = v.segment.ghost_name ≡ s.ghost_name
+
+-- the view borrows the segment that it did, and is of the same object
+pub record IsSame {K : Type 0} {V : Type 0} (old new : MapView K V) : Type 0 where
+  pub loan : new.segment.ghost_name ≡ old.segment.ghost_name
+  pub object : new.object ≡ old.object

@@ -1,0 +1,15 @@
+//! Views of objects: an object of a segment that may be changed, which is looked up once, and what can be done with it. The calls
+//! are those of the segment on an object that was located.
+#![tactic(auto)]
+
+mod arrays;
+mod maps;
+mod string_lists;
+mod strings;
+mod vectors;
+
+pub use arrays::ArrayView;
+pub use maps::MapView;
+pub use string_lists::StringsView;
+pub use strings::StringView;
+pub use vectors::VectorView;

@@ -1,0 +1,105 @@
+//! A map of keys and values of two types in a segment that may be changed, looked up once.
+ghost use Rattle.std.specs.Prelude.{◌≡◌, OnErr};
+ghost use Rattle.seg_types.specs.declared.kinds.Kind.TheVariants.{Map as MapOf};
+ghost use Rattle.seg_types.specs.Commands.{Lookup, Put, Remove, literal_of};
+ghost use Rattle.segment_manager.specs.Maps.{pair_above, pair_from, pair_result, told_of_map, value_answer};
+ghost use Rattle.segment_manager.specs.State.{Answers, IsReplyOfKind, IsStepOfKind, truth_answer};
+ghost use Rattle.seg_types.specs.Names.{ByHandle};
+ghost use Rattle.segment_manager.specs.Located.{IsObject};
+
+use seg_types::{Refusal, Scalar};
+use segment_manager::{Object, Segment};
+use std::marker::PhantomData;
+
+/// A map of keys and values of two types in a segment that may be changed, looked up once. It borrows the segment, and
+/// the object is there as long as it does.
+#[derive(Drop)]
+pub struct MapView<'a, K, V> {
+    segment: &'a mut Segment,
+    object: Object,
+    of: PhantomData<(K, V)>,
+    ghost here: { IsObject object segment.now },
+}
+
+impl<'a, K: Scalar, V: Scalar> MapView<'a, K, V> {
+    ghost use Rattle.segment_views.specs.OfMapView.{Borrows, IsSame, key_of, segment_of};
+
+    /// The view of an object that was located.
+    pub fn new(segment: &'a mut Segment, object: Object) -> MapView<'a, K, V>
+        requires { IsObject object segment.old }
+        ensures loan { Borrows result segment.entry }
+        ensures segment { segment_of result ≡ segment.old }
+        ensures key { key_of result ≡ ByHandle object.handle }
+    {
+        MapView {
+            segment,
+            object,
+            of: PhantomData,
+        }
+    }
+
+    /// The value of a key.
+    ///
+    /// # Errors
+    ///
+    /// `WrongKind` where the object is no such map.
+    pub fn get(&self, key: K) -> Result<Option<V>, Refusal>
+        ensures { IsReplyOfKind (segment_of self.now) (key_of self.now) (MapOf K.kind V.kind) (Lookup (key_of self.now) (literal_of K.kind (K.whole key))) (value_answer V.kind V.whole result) }
+    {
+        self.segment.map_get::<K, V, Object>(&self.object, key)
+    }
+
+    /// The pair with the least key that is not below `from`.
+    ///
+    /// # Errors
+    ///
+    /// `WrongKind` where the object is no such map.
+    pub fn first_from(&self, from: K) -> Result<Option<(K, V)>, Refusal>
+        ensures { Answers (segment_of self.now) (λ d. told_of_map d (key_of self.now) K.kind V.kind (pair_from (K.whole from))) (pair_result K.whole V.whole result) }
+    {
+        self.segment
+            .map_first_from::<K, V, Object>(&self.object, from)
+    }
+
+    /// The pair with the least key above `after`.
+    ///
+    /// # Errors
+    ///
+    /// `WrongKind` where the object is no such map.
+    pub fn next_after(&self, after: K) -> Result<Option<(K, V)>, Refusal>
+        ensures { Answers (segment_of self.now) (λ d. told_of_map d (key_of self.now) K.kind V.kind (pair_above (K.whole after))) (pair_result K.whole V.whole result) }
+    {
+        self.segment
+            .map_next_after::<K, V, Object>(&self.object, after)
+    }
+
+    /// Puts the value of a key, and answers whether the key is new.
+    ///
+    /// # Errors
+    ///
+    /// `ReadOnly` where the segment is open for reading, else `WrongKind` where the object is no such map, `NoSpace`
+    /// where the key is new and no gap is long enough for its block. Nothing changes.
+    pub fn insert(&mut self, key: K, value: V) -> Result<bool, Refusal>
+        ensures same { IsSame self.old self.new }
+        ensures step { IsStepOfKind (segment_of self.old) (segment_of self.new) (key_of self.old) (MapOf K.kind V.kind) (Put (key_of self.old) (literal_of K.kind (K.whole key)) (literal_of V.kind (V.whole value))) (truth_answer result) }
+        ensures refused { OnErr result (segment_of self.new ≡ segment_of self.old) }
+    {
+        let _ = self.segment.as_bytes();
+        self.segment.map_put(&self.object, key, value)
+    }
+
+    /// Erases a key, and answers whether it was there.
+    ///
+    /// # Errors
+    ///
+    /// `ReadOnly` where the segment is open for reading, else `WrongKind` where the object is no such map. Nothing
+    /// changes.
+    pub fn erase(&mut self, key: K) -> Result<bool, Refusal>
+        ensures same { IsSame self.old self.new }
+        ensures step { IsStepOfKind (segment_of self.old) (segment_of self.new) (key_of self.old) (MapOf K.kind V.kind) (Remove (key_of self.old) (literal_of K.kind (K.whole key))) (truth_answer result) }
+        ensures refused { OnErr result (segment_of self.new ≡ segment_of self.old) }
+    {
+        let _ = self.segment.as_bytes();
+        self.segment.map_erase::<K, V, Object>(&self.object, key)
+    }
+}

@@ -1,0 +1,91 @@
+//! A string in a segment that may be changed, looked up once.
+ghost use Rattle.std.specs.Prelude.{◌≡◌, Ok, Err, MatchResult, [], ◌∷◌, OnErr, pos};
+ghost use Rattle.seg_types.specs.declared.kinds.Kind.TheVariants.{Text as TextKind};
+ghost use Rattle.seg_types.specs.declared.kinds.ScalarKind.TheVariants.{U8 as ByteKind};
+ghost use Rattle.seg_types.specs.Commands.{Append, Assign, Quoted, Set, literal_of};
+ghost use Rattle.segment_manager.specs.Contents.{bytes_at};
+ghost use Rattle.segment_manager.specs.State.{Answers, IsStepOfKind, done_answer};
+ghost use Rattle.seg_types.specs.Names.{ByHandle};
+ghost use Rattle.segment_manager.specs.Located.{IsObject};
+
+use seg_types::Refusal;
+use segment_manager::{Object, Segment};
+
+/// A string in a segment that may be changed, looked up once. It borrows the segment, and the object is there as long
+/// as it does.
+#[derive(Drop)]
+pub struct StringView<'a> {
+    segment: &'a mut Segment,
+    object: Object,
+    ghost here: { IsObject object segment.now },
+}
+
+impl<'a> StringView<'a> {
+    ghost use Rattle.segment_views.specs.OfStringView.{Borrows, IsSame, key_of, segment_of};
+
+    /// The view of an object that was located.
+    pub fn new(segment: &'a mut Segment, object: Object) -> StringView<'a>
+        requires { IsObject object segment.old }
+        ensures loan { Borrows result segment.entry }
+        ensures segment { segment_of result ≡ segment.old }
+        ensures key { key_of result ≡ ByHandle object.handle }
+    {
+        StringView { segment, object }
+    }
+
+    /// Its bytes.
+    ///
+    /// # Errors
+    ///
+    /// `WrongKind` where the object is no string.
+    pub fn as_bytes(&self) -> Result<&[u8], Refusal>
+        ensures { MatchResult result (λ bytes. Answers (segment_of self.now) (λ d. bytes_at d (key_of self.now)) (Ok bytes.now)) (λ why. Answers (segment_of self.now) (λ d. bytes_at d (key_of self.now)) (Err why)) }
+    {
+        self.segment.string_bytes(&self.object)
+    }
+
+    /// Makes a byte the one at `index`.
+    ///
+    /// # Errors
+    ///
+    /// `ReadOnly` where the segment is open for reading, else `WrongKind` where the object is no string, `OutOfRange`
+    /// where it has no byte there. Nothing changes.
+    pub fn set(&mut self, index: u64, byte: u8) -> Result<(), Refusal>
+        ensures same { IsSame self.old self.new }
+        ensures step { IsStepOfKind (segment_of self.old) (segment_of self.new) (key_of self.old) TextKind (Set (key_of self.old) index (literal_of ByteKind (pos byte))) (done_answer result) }
+        ensures refused { OnErr result (segment_of self.new ≡ segment_of self.old) }
+    {
+        let _ = self.segment.as_bytes();
+        self.segment.string_set(&self.object, index, byte)
+    }
+
+    /// Puts bytes behind its own.
+    ///
+    /// # Errors
+    ///
+    /// `ReadOnly` where the segment is open for reading, else `WrongKind` where the object is no string, `NoSpace`
+    /// where its storage cannot be regrown. Nothing changes.
+    pub fn append(&mut self, bytes: &[u8]) -> Result<(), Refusal>
+        ensures same { IsSame self.old self.new }
+        ensures step { IsStepOfKind (segment_of self.old) (segment_of self.new) (key_of self.old) TextKind (Append (key_of self.old) bytes.now) (done_answer result) }
+        ensures refused { OnErr result (segment_of self.new ≡ segment_of self.old) }
+    {
+        let _ = self.segment.as_bytes();
+        self.segment.string_append(&self.object, bytes)
+    }
+
+    /// Makes bytes its own.
+    ///
+    /// # Errors
+    ///
+    /// `ReadOnly` where the segment is open for reading, else `WrongKind` where the object is no string, `NoSpace`
+    /// where its storage cannot be regrown. Nothing changes.
+    pub fn assign(&mut self, bytes: &[u8]) -> Result<(), Refusal>
+        ensures same { IsSame self.old self.new }
+        ensures step { IsStepOfKind (segment_of self.old) (segment_of self.new) (key_of self.old) TextKind (Assign (key_of self.old) (Quoted bytes.now ∷ [])) (done_answer result) }
+        ensures refused { OnErr result (segment_of self.new ≡ segment_of self.old) }
+    {
+        let _ = self.segment.as_bytes();
+        self.segment.string_assign(&self.object, bytes)
+    }
+}

@@ -2,3 +2,5 @@ mod Written
 mod Ran
 mod Opened
 mod Commanded
+mod Enlarged
+mod Saved

@@ -6,3 +6,4 @@ pub mod Running
 pub mod Resizing
 pub mod Migrating
 pub mod Modes
+pub mod SegmentFiles

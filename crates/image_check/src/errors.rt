@@ -5,6 +5,7 @@ ghost use Rattle.image_check.specs.Checking.{cause_for};
 use crate::classes::ImageClass;
 use crate::room::NoMemory;
 use raw_region::RawRegion;
+use std::fmt;
 use thiserror::Error;
 
 /// Why no segment is opened.
@@ -25,13 +26,46 @@ pub enum OpenError {
 }
 
 /// No segment is opened. The region comes back. Its bytes are as they were but for those of the window from the base on that the
-/// first words of the image say, where they say one for which there is room.
-#[derive(Drop)]
+/// first words of the image say, where they say one for which there is room. As text it is its cause.
+#[derive(Drop, Error)]
+#[error("{cause}")]
 pub struct OpenRefused {
     /// The region that was handed in.
     pub region: RawRegion,
     /// Why.
     pub cause: OpenError,
+}
+
+impl OpenRefused {
+    /// The region that was handed in, and why.
+    pub fn into_parts(self) -> (RawRegion, OpenError)
+        ensures region { result.0 ≡ self.region }
+        ensures cause { result.1 ≡ self.cause }
+    {
+        (self.region, self.cause)
+    }
+
+    /// The region that was handed in.
+    pub fn into_region(self) -> RawRegion
+        ensures { result ≡ self.region }
+    {
+        self.region
+    }
+}
+
+/// Its cause. The region's bytes are left out.
+impl fmt::Debug for OpenRefused {
+    fn fmt<W: fmt::Write>(&self, f: &mut fmt::Formatter<W>) -> fmt::Result {
+        write!(f, "OpenRefused({:?})", self.cause)
+    }
+}
+
+impl From<OpenRefused> for OpenError {
+    ghost from_gives = { λ refused error. error ≡ refused.cause };
+
+    fn from(refused: OpenRefused) -> OpenError {
+        refused.cause
+    }
 }
 
 /// Why an image that stands in its window is not opened.

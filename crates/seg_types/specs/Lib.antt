@@ -6,3 +6,4 @@ pub mod Commands
 pub mod Plain
 pub mod ScalarLaws
 pub mod Refusals
+pub mod Texts

@@ -1,11 +1,13 @@
 -- What the values of the code stand for.
-use Rattle.std.specs.Prelude.{◌≡◌, ℕ, ℤ, pos, nat_abs, nat_lt, true, false, List, Option, Some, None}
+use Rattle.std.specs.Prelude.{◌≡◌, ◌≢◌, ℕ, ℤ, Result, Ok, Err, pos, nat_abs, nat_lt, true, false, List, Option, Some, None}
 use Rattle.byteorder.specs.Endian.{little_number}
 use Rattle.seg_types.specs.declared.kinds.ScalarKind.{ScalarKind}
 use Rattle.seg_types.specs.declared.kinds.ScalarKind.TheVariants as kind
 use Rattle.seg_types.specs.declared.values.ScalarValue.{ScalarValue}
 use Rattle.seg_types.specs.declared.values.ScalarValue.TheVariants.{Bool as Truth, U8, I32, I64, U64}
-use Rattle.seg_types.specs.Kinds.{is_spelling, is_value, size_of, truth_number, value_of}
+use Rattle.seg_types.specs.declared.refusals.Refusal.{Refusal}
+use Rattle.seg_types.specs.declared.refusals.Refusal.TheVariants.{WrongKind}
+use Rattle.seg_types.specs.Kinds.{is_spelling, size_of, truth_number, value_of}
 
 -- the kind of a value
 abbrev pub kind_of_scalar : ScalarValue → ScalarKind
@@ -35,3 +37,8 @@ scalar_of kind.U64 z = U64 (nat_abs z)
 abbrev pub SpelledBy : ScalarKind → List ℕ → Option ScalarValue → Type 0
 SpelledBy k bytes (Some v) = (is_spelling k bytes ≡ true) × (kind_of_scalar v ≡ k) × (value_of_scalar v ≡ value_of k (little_number (size_of k) bytes))
 SpelledBy k bytes None = is_spelling k bytes ≡ false
+
+-- a value of a kind taken as one of a type, by its whole number; one of another kind is of the wrong kind
+abbrev pub IsTaken : {T : Type 0} → ScalarKind → (T → ℤ) → ScalarValue → Result T Refusal → Type 0
+IsTaken k whole v (Ok x) = (kind_of_scalar v ≡ k) × (value_of_scalar v ≡ whole x)
+IsTaken k whole v (Err why) = (kind_of_scalar v ≢ k) × (why ≡ WrongKind)

@@ -11,7 +11,7 @@ use crate::names::Name;
 pub type Handle = u64;
 
 /// Which object a command means.
-#[derive(Clone, Copy, Debug, PartialEq, Eq)]
+#[derive(Clone, Copy, Debug, PartialEq, Eq, Hash)]
 pub enum Key<'a> {
     /// The one of this name.
     Name(Name<'a>),
@@ -24,7 +24,7 @@ pub enum Key<'a> {
 }
 
 /// Under which key an object is made.
-#[derive(Clone, Copy, Debug, PartialEq, Eq)]
+#[derive(Clone, Copy, Debug, PartialEq, Eq, Hash)]
 pub enum NewKey<'a> {
     /// Under a name.
     Name(Name<'a>),
@@ -35,7 +35,7 @@ pub enum NewKey<'a> {
 }
 
 /// Under which entry of an index an object is looked up.
-#[derive(Clone, Copy, Debug, PartialEq, Eq)]
+#[derive(Clone, Copy, Debug, PartialEq, Eq, Hash)]
 pub enum IndexKey<'a> {
     /// Its name.
     Name(Name<'a>),

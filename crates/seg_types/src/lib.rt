@@ -1,15 +1,20 @@
 //! The words that the layers above the heap share: kinds of values, values, keys of objects, refusals and commands.
 #![tactic(auto)]
 
+mod conversions;
+mod key_texts;
 mod keys;
 mod kinds;
 mod names;
 mod plain;
 mod refusals;
 mod scalars;
+mod texts;
 pub mod theorems;
 mod values;
 
+pub use conversions::BadName;
+pub use key_texts::is_bare_name;
 pub use keys::{Handle, IndexKey, Key, NewKey};
 pub use kinds::{Class, Kind, ScalarKind};
 pub use names::{LONGEST_NAME, Name, is_name};

@@ -11,7 +11,7 @@ pub const LONGEST_NAME: usize = 255;
 const LONGEST_PRINTABLE_NAME: usize = 63;
 
 /// A name: 1 to 255 bytes of UTF-8 without control characters. It borrows them, and may be copied.
-#[derive(Clone, Copy, Debug, PartialEq, Eq)]
+#[derive(Clone, Copy, Debug, PartialEq, Eq, PartialOrd, Ord, Hash)]
 pub struct Name<'a> {
     bytes: &'a [u8],
     ghost text: { is_text_name bytes.now ≡ true },
@@ -36,6 +36,13 @@ impl<'a> Name<'a> {
         ensures name { is_text_name result.now ≡ true }
     {
         self.bytes
+    }
+
+    /// The name as text.
+    pub fn as_str(&self) -> &'a str
+        ensures { result.now ≡ name_seen self.now }
+    {
+        str::from_utf8(self.bytes).unwrap()
     }
 }
 

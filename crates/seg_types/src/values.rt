@@ -8,7 +8,7 @@ use crate::plain::Plain;
 use crate::theorems::scalar_is_number;
 
 /// A value with its kind.
-#[derive(Clone, Copy, Debug, PartialEq, Eq)]
+#[derive(Clone, Copy, Debug, PartialEq, Eq, Hash)]
 pub enum ScalarValue {
     /// `false` or `true`.
     Bool(bool),

@@ -3,12 +3,10 @@ use Rattle.std.specs.Prelude.{ℕ, ◌+◌, ◌-◌, ◌*◌, ℤ, pos, negsuc, 
 use Rattle.std.specs.List.{list_all}
 use Rattle.std.specs.Cmp.Lexicographic.{pointwise}
 use Rattle.seg_types.specs.Commands.{Literal, Whole, Truth, Quoted}
+pub use Rattle.seg_types.specs.Texts.{between, is_bare_name, is_digit, is_letter}
 
 abbrev pub is_blank : ℕ → Bool
 is_blank c = (c == 0x20) || (c == 0x09)
-
-abbrev pub between : ℕ → ℕ → ℕ → Bool
-between low high c = nat_le low c && nat_le c high
 
 abbrev pub is_bare : ℕ → Bool
 is_bare c = between 0x21 0x7E c && not (c == 0x22)
@@ -78,9 +76,6 @@ abbrev mutual
 
 -- ---- numbers
 
-abbrev pub is_digit : ℕ → Bool
-is_digit = between 0x30 0x39
-
 abbrev pub number_after : ℕ → List ℕ → ℕ
 number_after n [] = n
 number_after n (d ∷ ds) = number_after (10 * n + (d - 0x30)) ds
@@ -109,12 +104,3 @@ is = pointwise nat_eq
 abbrev pub literal_of_word : Word → Option Literal
 literal_of_word (Text bs) = Some (Quoted bs)
 literal_of_word (Bare w) = if is w (codes "true") then Some (Truth true) else if is w (codes "false") then Some (Truth false) else option_map Whole (whole_of w)
-
--- ---- names
-
-abbrev pub is_letter : ℕ → Bool
-is_letter c = between 0x41 0x5A c || between 0x61 0x7A c
-
-abbrev pub is_bare_name : List ℕ → Bool
-is_bare_name [] = false
-is_bare_name (c ∷ cs) = (is_letter c || (c == 0x5F)) && list_all (λ c. is_letter c || is_digit c || (c == 0x5F) || (c == 0x2E)) cs

@@ -14,9 +14,8 @@ use crate::buffer::Text;
 use crate::kinds::kind_named;
 use crate::literals::is;
 use crate::numbers::number_of;
-use crate::texts::is_bare_name;
 use crate::words::Word;
-use seg_types::{Handle, IndexKey, Key, Kind, Name, NewKey};
+use seg_types::{Handle, IndexKey, Key, Kind, Name, NewKey, is_bare_name};
 
 /// The name that a bare word is.
 fn bare_name(word: &[u8]) -> Option<Name<'_>>

@@ -11,10 +11,9 @@ ghost use Rattle.segment_lang.specs.Words.{is_bare_name, is_digit, is_letter};
 ghost use Rattle.segment_lang.specs.Texts.{digit_text, item_text, kind_text, name_text, quoted_text, scalar_text, value_text};
 ghost use Rattle.segment_lang.specs.Pieces.{part_text};
 
-use crate::numbers::is_digit;
 use itoa::{Buffer, write_digits};
 use raw_region::{DeviceFault, Sink, write_all};
-use seg_types::{Kind, ScalarKind, ScalarValue};
+use seg_types::{Kind, ScalarValue, is_bare_name};
 
 /// Writes a number in plain decimal.
 pub fn put_number<S: Sink>(out: &mut S, number: u64) -> Result<(), DeviceFault>
@@ -140,37 +139,6 @@ pub fn put_text<S: Sink>(out: &mut S, text: &[u8]) -> Result<(), DeviceFault>
     write_all(out, b"\"")
 }
 
-/// Whether a byte is a letter of ASCII.
-fn is_letter(byte: u8) -> bool
-    ensures { result ≡ is_letter byte }
-{
-    byte.is_ascii_alphabetic()
-}
-
-/// Whether a byte may stand in a bare name behind its first: a letter, a digit, `_` or `.`.
-fn is_name_byte(byte: u8) -> bool
-    ensures { result ≡ (is_letter byte || is_digit byte || (byte == 0x5F) || (byte == 0x2E)) }
-{
-    is_letter(byte) || is_digit(byte) || byte == b'_' || byte == b'.'
-}
-
-/// Whether a name may stand bare: a letter or `_`, then letters, digits, `_` and `.`.
-pub fn is_bare_name(name: &[u8]) -> bool
-    ensures { result ≡ is_bare_name name.now }
-{
-    let [first, rest @ ..] = name else {
-        return false;
-    };
-    (is_letter(*first) || *first == b'_') && are_name_bytes(rest)
-}
-
-/// Whether each byte may stand in a bare name behind its first.
-fn are_name_bytes(bytes: &[u8]) -> bool
-    ensures { result ≡ list_all (λ c. is_letter c || is_digit c || (c == 0x5F) || (c == 0x2E)) bytes.now }
-{
-    bytes.iter().all(|byte| is_name_byte(*byte))
-}
-
 /// Writes a name: bare where it can be spelled bare, else as a text in quotes.
 pub fn put_name<S: Sink>(out: &mut S, name: &[u8]) -> Result<(), DeviceFault>
     requires { (S.history out.old).failures < 2 ^ 64 - 1 }
@@ -193,32 +161,25 @@ pub fn put_parts<S: Sink>(out: &mut S, parts: &[&[u8]]) -> Result<(), DeviceFaul
     Ok(())
 }
 
-/// How a scalar kind is printed.
-pub fn scalar_text(kind: ScalarKind) -> &'static [u8]
-    ensures { result.now ≡ scalar_text kind }
-{
-    match kind {
-        ScalarKind::Bool => b"bool",
-        ScalarKind::U8 => b"u8",
-        ScalarKind::I32 => b"i32",
-        ScalarKind::I64 => b"i64",
-        ScalarKind::U64 => b"u64",
-    }
-}
-
 /// Writes a kind, without blanks.
 pub fn put_kind<S: Sink>(out: &mut S, kind: Kind) -> Result<(), DeviceFault>
     requires { (S.history out.old).failures < 2 ^ 64 - 1 }
     ensures { Writes (S.history out.old) (S.history out.new) result (kind_text kind) }
 {
     match kind {
-        Kind::Scalar(kind) => write_all(out, scalar_text(kind)),
+        Kind::Scalar(kind) => write_all(out, kind.as_str().as_bytes()),
         Kind::Text => write_all(out, b"string"),
-        Kind::Vector(kind) => put_parts(out, &[b"vec<", scalar_text(kind), b">"]),
+        Kind::Vector(kind) => put_parts(out, &[b"vec<", kind.as_str().as_bytes(), b">"]),
         Kind::Map(key, value) => {
             put_parts(
                 out,
-                &[b"map<", scalar_text(key), b",", scalar_text(value), b">"],
+                &[
+                    b"map<",
+                    key.as_str().as_bytes(),
+                    b",",
+                    value.as_str().as_bytes(),
+                    b">",
+                ],
             )
         }
         Kind::Texts => write_all(out, b"vec<string>"),

@@ -5,7 +5,7 @@ use Rattle.std.specs.List.{AllByRecursion}
 use Rattle.raw_region.specs.Memory.{Memory, Cut, Same, bytes_of}
 use Rattle.best_fit.specs.Exchange.{exchanged, SameBlockBut, IsExchanged}
 use Rattle.best_fit.specs.Extents.{Extent, LiveSet, handle, end_of, is_proper}
-use Rattle.best_fit.specs.Fit.{insert, others}
+use Rattle.best_fit.specs.Fit.{insert}
 use Rattle.best_fit.specs.Heap.{LaysOut, SameBlock, Keeps, live_of}
 use Rattle.seg_types.specs.Kinds.{code_of}
 use Rattle.segment_manager.specs.Directory.{Value, Object, Directory, live, extents_of, padded, count_of, kind_of, value_len, value_extents, is_object, remove_object, with_changed, without_object}
@@ -18,7 +18,7 @@ use Rattle.segment_manager.proofs.Denoted.{denotes-replaced}
 use Rattle.segment_manager.proofs.Faces.{IsLike}
 use Rattle.segment_manager.proofs.Frame.{IsRoomy, object-roomy, padded_name-length}
 use Rattle.segment_manager.proofs.Live.{adding, IsFound, IsIn, live-split, live-changed}
-use Rattle.segment_manager.proofs.Order.{Apart, Rising, IsFresh, inserted, insert-inserted, inserted-comm, all_of-inserted, live-rises, rising-insert, apart-inserted, without_all, without-inserted}
+use Rattle.segment_manager.proofs.Order.{Rising, IsFresh, inserted, insert-inserted, all_of-inserted, live-rises, rising-insert, apart-inserted, without_all, without-inserted}
 use Rattle.segment_manager.proofs.Regrown.{InPlace, differs-flip, rest, with_extents}
 use Rattle.segment_manager.proofs.Rewritten.{value_start, with_value}
 

@@ -74,7 +74,7 @@ find-found s key kind h a b head w r e f n = record {
 -- ---- the entries of the indexes
 
 -- how many an index has
-index-counts : (s : State) (i : Index) (n : ℕ) → ForIndex s.cut i (λ hs. n ≡ length hs) → (d : Directory) → StandsFor s.cut.bytes d → n ≡ length (objects_of i d)
+pub index-counts : (s : State) (i : Index) (n : ℕ) → ForIndex s.cut i (λ hs. n ≡ length hs) → (d : Directory) → StandsFor s.cut.bytes d → n ≡ length (objects_of i d)
 index-counts s i n f d k = of-directory s i (λ hs. n ≡ length hs) d k f ∙ handles-length (objects_of i d)
 
 pub num_named-replies : (s : State) (n : ℕ) → ForIndex s.cut Named (λ hs. n ≡ length hs) → IsReply s asked.NumNamed (Number n)

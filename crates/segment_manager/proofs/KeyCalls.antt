@@ -79,7 +79,7 @@ abbrev for_object : Extent → Bool
 for_object x = same_role x.role ObjectRole
 
 -- an object has the handle where its block is for one
-object-passes : (b : List ℕ) (d : Directory) (h : ℕ) → Denotes current b d → is_object_at d h ≡ passes for_object (extent_at (live_of b) h)
+pub object-passes : (b : List ℕ) (d : Directory) (h : ℕ) → Denotes current b d → is_object_at d h ≡ passes for_object (extent_at (live_of b) h)
 object-passes b d h k =
     sym (handle-is-object current d h k.directory) ∙ any-first for_object h 128 (live d).extents (live-rises (live d) k.directory.proper)
     ∙ ap (λ l. passes for_object (extent_at l h)) (sym (denotes-live current b d k))

@@ -47,3 +47,5 @@ pub use Rattle.segment_manager.proofs.MapWalks.{walk-goes_on, walk-starts}
 pub use Rattle.segment_manager.proofs.PairWalks.{first-at, pairs-rise, walk-next}
 -- what bytes denote by an older format, where the version, the tags and the free tree are made those of the current one
 pub use Rattle.segment_manager.proofs.Renewed.{StaysButVersion, denotes-later, directory-later}
+-- a command on the elements of an object keeps each object
+pub use Rattle.segment_manager.proofs.StayingObjects.{objects_stay}

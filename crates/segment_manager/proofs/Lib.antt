@@ -107,3 +107,6 @@ pub mod ElementLaws
 mod Resizes
 mod Renewed
 mod ToChange
+mod WalkedInstances
+mod StayingObjects
+mod TileCounts

@@ -30,3 +30,6 @@ pub mod Resized
 pub mod Relocating
 pub mod ToChange
 pub mod Stored
+pub mod Iterating
+pub mod Counted
+pub mod Staying

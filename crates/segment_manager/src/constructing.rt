@@ -1,15 +1,17 @@
 //! Objects constructed, whatever they hold; those of one number, so many times.
 ghost use Rattle.std.specs.Prelude.{◌≡◌, ◌≤◌, replicate};
+ghost use Rattle.seg_types.specs.declared.kinds.Kind.TheVariants.{Scalar as ScalarOf};
 ghost use Rattle.seg_types.specs.Commands.{Construct, Numbers};
 ghost use Rattle.seg_types.specs.Keys.{new_key_seen};
 ghost use Rattle.seg_types.specs.Values.{kind_of_scalar, value_of_scalar};
 ghost use Rattle.segment_manager.specs.Directory.{kind_of};
 ghost use Rattle.segment_manager.specs.Filled.{Builds, Constructs, HasBegun};
-ghost use Rattle.segment_manager.specs.NewObjects.{IsOfItsKind, IsOfKind};
+ghost use Rattle.segment_manager.specs.NewObjects.{IsOfKind};
 ghost use Rattle.segment_manager.specs.Plan.{bare};
 ghost use Rattle.segment_manager.specs.State.{IsSegment, IsStep, KeepsRefused, handle_answer};
 
 use crate::beginning::{Begun, begin, end};
+use crate::destinations::Destination;
 use crate::fillings::{Filling, NewNumbers, NewScalars};
 use crate::segment::Segment;
 use best_fit::Heap;
@@ -23,19 +25,19 @@ impl Segment {
     ///
     /// `ReadOnly` where the segment is open for reading, else `Exists` where an object has the key: nothing changes. Else `NoSpace`
     /// where no gap is long enough: what the segment holds does not change, and the bytes of gaps may.
-    pub fn construct<T: Scalar>(
+    pub fn construct<T: Scalar, D: Destination>(
         &mut self,
-        key: &NewKey,
+        key: &D,
         count: u32,
         value: T,
     ) -> Result<Handle, Refusal>
-        requires kind { IsOfItsKind (new_key_seen key.now) T.kind }
+        requires kind { D.suits key.now (ScalarOf T.kind) }
         requires some { 1 ≤ count }
         requires few { count ≤ 1048576 }
-        ensures step { IsStep self.old self.new (Construct (new_key_seen key.now) (Numbers T.kind (replicate count (T.whole value)))) (handle_answer result) }
+        ensures step { IsStep self.old self.new (Construct (D.key key.now (ScalarOf T.kind)) (Numbers T.kind (replicate count (T.whole value)))) (handle_answer result) }
         ensures refused { KeepsRefused self.old self.new result }
     {
-        self.construct_filled(key, &NewNumbers { count, value })
+        self.construct_under(key, &NewNumbers { count, value })
     }
 
     /// The same for a value of a kind.
@@ -44,19 +46,19 @@ impl Segment {
     ///
     /// `ReadOnly` where the segment is open for reading, else `Exists` where an object has the key: nothing changes. Else `NoSpace`
     /// where no gap is long enough: what the segment holds does not change, and the bytes of gaps may.
-    pub fn construct_value(
+    pub fn construct_value<D: Destination>(
         &mut self,
-        key: &NewKey,
+        key: &D,
         count: u32,
         value: ScalarValue,
     ) -> Result<Handle, Refusal>
-        requires kind { IsOfItsKind (new_key_seen key.now) (kind_of_scalar value) }
+        requires kind { D.suits key.now (ScalarOf (kind_of_scalar value)) }
         requires some { 1 ≤ count }
         requires few { count ≤ 1048576 }
-        ensures step { IsStep self.old self.new (Construct (new_key_seen key.now) (Numbers (kind_of_scalar value) (replicate count (value_of_scalar value)))) (handle_answer result) }
+        ensures step { IsStep self.old self.new (Construct (D.key key.now (ScalarOf (kind_of_scalar value))) (Numbers (kind_of_scalar value) (replicate count (value_of_scalar value)))) (handle_answer result) }
         ensures refused { KeepsRefused self.old self.new result }
     {
-        self.construct_filled(key, &NewScalars { count, value })
+        self.construct_under(key, &NewScalars { count, value })
     }
 
     /// Makes an object of what fills it, and answers its handle.
@@ -66,11 +68,23 @@ impl Segment {
     /// `ReadOnly` where the segment is open for reading, else `Exists` where an object has the key: nothing changes. Else `NoSpace`
     /// where no gap is long enough: what the segment holds does not change, and the bytes of gaps may.
     #[inline(always)]
-    pub(crate) fn construct_filled<F: Filling>(
+    pub(crate) fn construct_under<F: Filling, D: Destination>(
         &mut self,
-        key: &NewKey,
+        key: &D,
         filling: &F,
     ) -> Result<Handle, Refusal>
+        requires stands { F.stands filling.now }
+        requires kind { D.suits key.now (kind_of (bare (F.content filling.now))) }
+        ensures step { IsStep self.old self.new (Construct (D.key key.now (kind_of (bare (F.content filling.now)))) (F.content filling.now)) (handle_answer result) }
+        ensures refused { KeepsRefused self.old self.new result }
+    {
+        let key = key.key_for(filling.shape().kind);
+        self.construct_filled(&key, filling)
+    }
+
+    /// The same under a key that suits what fills it.
+    #[inline(always)]
+    fn construct_filled<F: Filling>(&mut self, key: &NewKey, filling: &F) -> Result<Handle, Refusal>
         requires stands { F.stands filling.now }
         requires kind { IsOfKind (new_key_seen key.now) (kind_of (bare (F.content filling.now))) }
         ensures step { IsStep self.old self.new (Construct (new_key_seen key.now) (F.content filling.now)) (handle_answer result) }

@@ -6,6 +6,7 @@ ghost use Rattle.std.specs.List.{AllByRecursion};
 ghost use Rattle.raw_region.specs.Format.{current};
 ghost use Rattle.raw_region.specs.Memory.{Cut};
 ghost use Rattle.best_fit.specs.Heap.{IsHeap, has_room, live_of};
+ghost use Rattle.seg_types.specs.declared.kinds.Kind.TheVariants.{Scalar as ScalarOf};
 ghost use Rattle.seg_types.specs.Keys.{new_key_seen};
 ghost use Rattle.seg_types.specs.Kinds.{size_of};
 ghost use Rattle.seg_types.specs.Values.{kind_of_scalar, value_of_scalar};
@@ -15,6 +16,7 @@ ghost use Rattle.segment_manager.specs.NewObjects.{IsOfItsKind};
 ghost use Rattle.segment_manager.specs.State.{IsSegment};
 
 use crate::beginning::{Begun, begin, end};
+use crate::destinations::Destination;
 use crate::fillings::LONGEST;
 use crate::segment::Segment;
 use best_fit::Heap;
@@ -28,7 +30,24 @@ impl Segment {
     ///
     /// `ReadOnly` where the segment is open for reading, else `Exists` where an object has the key, and else `NoSpace` where no
     /// gap is long enough; then no item is taken. `OutOfRange` where fewer items come. What the segment holds does not change.
-    pub fn construct_it<T: Scalar, I: Iterator<Item = T>>(
+    pub fn construct_it<T: Scalar, I: Iterator<Item = T>, D: Destination>(
+        &mut self,
+        key: &D,
+        count: u32,
+        items: &mut I,
+    ) -> Result<Handle, Refusal>
+        requires kind { D.suits key.now (ScalarOf T.kind) }
+        requires some { 1 ≤ count }
+        requires few { count ≤ 1048576 }
+        requires ready { I.can_next items.old }
+        ensures { TakesItems I.next_gives T.whole self.old self.new (D.key key.now (ScalarOf T.kind)) T.kind count items.old items.new result }
+    {
+        let key = key.key_for(Kind::Scalar(T::kind()));
+        self.construct_items(&key, count, items)
+    }
+
+    /// The same under a key that suits them.
+    fn construct_items<T: Scalar, I: Iterator<Item = T>>(
         &mut self,
         key: &NewKey,
         count: u32,
@@ -54,7 +73,26 @@ impl Segment {
     ///
     /// `ReadOnly` where the segment is open for reading, else `Exists` where an object has the key, and else `NoSpace` where no
     /// gap is long enough; then no value is taken. `OutOfRange` where fewer values come. What the segment holds does not change.
-    pub fn construct_values<I: Iterator<Item = ScalarValue>>(
+    pub fn construct_values<I: Iterator<Item = ScalarValue>, D: Destination>(
+        &mut self,
+        key: &D,
+        kind: ScalarKind,
+        count: u32,
+        items: &mut I,
+    ) -> Result<Handle, Refusal>
+        requires kind { D.suits key.now (ScalarOf kind) }
+        requires some { 1 ≤ count }
+        requires few { count ≤ 1048576 }
+        requires ready { I.can_next items.old }
+        requires of_kind { HoldsAlong I.next_gives items.old (AllByRecursion (λ v. kind_of_scalar v ≡ kind)) }
+        ensures { TakesItems I.next_gives value_of_scalar self.old self.new (D.key key.now (ScalarOf kind)) kind count items.old items.new result }
+    {
+        let key = key.key_for(Kind::Scalar(kind));
+        self.construct_items_of(&key, kind, count, items)
+    }
+
+    /// The same under a key that suits them.
+    fn construct_items_of<I: Iterator<Item = ScalarValue>>(
         &mut self,
         key: &NewKey,
         kind: ScalarKind,

@@ -1,5 +1,6 @@
 //! Objects found, or constructed where there are none, whatever they hold; those of one number, so many times.
 ghost use Rattle.std.specs.Prelude.{◌≡◌, ◌≤◌, replicate};
+ghost use Rattle.seg_types.specs.declared.kinds.Kind.TheVariants.{Scalar as ScalarOf};
 ghost use Rattle.seg_types.specs.Commands.{FindOrConstruct, Numbers};
 ghost use Rattle.seg_types.specs.Keys.{index_key_seen};
 ghost use Rattle.seg_types.specs.Names.{Key as AnyKey};
@@ -8,13 +9,14 @@ ghost use Rattle.segment_manager.specs.Directory.{Object, kind_of};
 ghost use Rattle.segment_manager.specs.Filled.{FindsOrConstructs, with_count};
 ghost use Rattle.segment_manager.specs.Found.{pair_answer};
 ghost use Rattle.segment_manager.specs.Keeping.{HasKey, KeepsWhere};
-ghost use Rattle.segment_manager.specs.NewObjects.{IsNewKeyOf, IsOfItsKind, IsOfKind};
+ghost use Rattle.segment_manager.specs.NewObjects.{IsNewKeyOf, IsOfKind};
 ghost use Rattle.segment_manager.specs.Plan.{bare};
 ghost use Rattle.segment_manager.specs.Standing.{HasObject, StandsAt, pair_of_kind};
 ghost use Rattle.segment_manager.specs.State.{IsSegment, IsStep, KeepsRefused};
 
 use crate::beginning::begin_at;
 use crate::constructing::build;
+use crate::destinations::IndexDestination;
 use crate::fillings::{Filling, NewNumbers, NewScalars};
 use crate::head::read_head;
 use crate::segment::Segment;
@@ -32,20 +34,20 @@ impl Segment {
     ///
     /// `ReadOnly` where the segment is open for reading, else `WrongKind` where the object is of another kind: nothing changes. Else
     /// `NoSpace` where none is there and no gap is long enough: what the segment holds does not change, and the bytes of gaps may.
-    pub fn find_or_construct<T: Scalar>(
+    pub fn find_or_construct<T: Scalar, D: IndexDestination>(
         &mut self,
-        key: &IndexKey,
+        key: &D,
         count: u32,
         value: T,
     ) -> Result<(Handle, u32), Refusal>
-        requires kind { IsOfItsKind (index_key_seen key.now) T.kind }
+        requires kind { D.suits key.now (ScalarOf T.kind) }
         requires some { 1 ≤ count }
         requires few { count ≤ 1048576 }
-        ensures step { IsStep self.old self.new (FindOrConstruct (index_key_seen key.now) (Numbers T.kind (replicate count (T.whole value)))) (pair_answer result) }
+        ensures step { IsStep self.old self.new (FindOrConstruct (D.key key.now (ScalarOf T.kind)) (Numbers T.kind (replicate count (T.whole value)))) (pair_answer result) }
         ensures refused { KeepsRefused self.old self.new result }
-        ensures found { KeepsWhere self.old self.new (HasKey (index_key_seen key.now)) }
+        ensures found { KeepsWhere self.old self.new (HasKey (D.key key.now (ScalarOf T.kind))) }
     {
-        self.find_or_construct_filled(key, &NewNumbers { count, value })
+        self.find_or_construct_under(key, &NewNumbers { count, value })
     }
 
     /// The same for a value of a kind.
@@ -54,20 +56,20 @@ impl Segment {
     ///
     /// `ReadOnly` where the segment is open for reading, else `WrongKind` where the object is of another kind: nothing changes. Else
     /// `NoSpace` where none is there and no gap is long enough: what the segment holds does not change, and the bytes of gaps may.
-    pub fn find_or_construct_value(
+    pub fn find_or_construct_value<D: IndexDestination>(
         &mut self,
-        key: &IndexKey,
+        key: &D,
         count: u32,
         value: ScalarValue,
     ) -> Result<(Handle, u32), Refusal>
-        requires kind { IsOfItsKind (index_key_seen key.now) (kind_of_scalar value) }
+        requires kind { D.suits key.now (ScalarOf (kind_of_scalar value)) }
         requires some { 1 ≤ count }
         requires few { count ≤ 1048576 }
-        ensures step { IsStep self.old self.new (FindOrConstruct (index_key_seen key.now) (Numbers (kind_of_scalar value) (replicate count (value_of_scalar value)))) (pair_answer result) }
+        ensures step { IsStep self.old self.new (FindOrConstruct (D.key key.now (ScalarOf (kind_of_scalar value))) (Numbers (kind_of_scalar value) (replicate count (value_of_scalar value)))) (pair_answer result) }
         ensures refused { KeepsRefused self.old self.new result }
-        ensures found { KeepsWhere self.old self.new (HasKey (index_key_seen key.now)) }
+        ensures found { KeepsWhere self.old self.new (HasKey (D.key key.now (ScalarOf (kind_of_scalar value)))) }
     {
-        self.find_or_construct_filled(key, &NewScalars { count, value })
+        self.find_or_construct_under(key, &NewScalars { count, value })
     }
 
     /// The handle of the object of a key, and how many elements it has. Where no object has the key one is made, of what fills it.
@@ -77,7 +79,24 @@ impl Segment {
     /// `ReadOnly` where the segment is open for reading, else `WrongKind` where the object is of another kind: nothing changes. Else
     /// `NoSpace` where none is there and no gap is long enough: what the segment holds does not change, and the bytes of gaps may.
     #[inline(always)]
-    pub(crate) fn find_or_construct_filled<F: Filling>(
+    pub(crate) fn find_or_construct_under<F: Filling, D: IndexDestination>(
+        &mut self,
+        key: &D,
+        filling: &F,
+    ) -> Result<(Handle, u32), Refusal>
+        requires stands { F.stands filling.now }
+        requires kind { D.suits key.now (kind_of (bare (F.content filling.now))) }
+        ensures step { IsStep self.old self.new (FindOrConstruct (D.key key.now (kind_of (bare (F.content filling.now)))) (F.content filling.now)) (pair_answer result) }
+        ensures refused { KeepsRefused self.old self.new result }
+        ensures found { KeepsWhere self.old self.new (HasKey (D.key key.now (kind_of (bare (F.content filling.now))))) }
+    {
+        let key = key.entry_for(filling.shape().kind);
+        self.find_or_construct_filled(&key, filling)
+    }
+
+    /// The same under an entry that suits what fills it.
+    #[inline(always)]
+    fn find_or_construct_filled<F: Filling>(
         &mut self,
         key: &IndexKey,
         filling: &F,

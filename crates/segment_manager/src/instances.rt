@@ -3,8 +3,10 @@ ghost use Rattle.std.specs.Prelude.{◌≡◌, Ok, Err, MatchResult, option_map}
 ghost use Rattle.raw_region.specs.Format.{current};
 ghost use Rattle.best_fit.specs.Heap.{IsHeap};
 ghost use Rattle.seg_types.specs.Keys.{key_seen};
+ghost use Rattle.seg_types.specs.Names.{ByHandle};
 ghost use Rattle.segment_manager.specs.Calls.{kind_at, told_at};
 ghost use Rattle.segment_manager.specs.Directory.{Object, count_of};
+ghost use Rattle.segment_manager.specs.Found.{is_object_at};
 ghost use Rattle.segment_manager.specs.Instances.{own_name};
 ghost use Rattle.segment_manager.specs.Standing.{HasObject, StandsAt};
 ghost use Rattle.segment_manager.specs.State.{Answers};
@@ -15,6 +17,24 @@ use best_fit::Heap;
 use seg_types::{Class, Handle, Key, Kind, Refusal};
 
 impl Segment {
+    /// Whether an object of the segment has the handle. It is looked for among all blocks, from the nearest way-point on.
+    pub fn belongs(&self, handle: Handle) -> bool
+        ensures { Answers self.now (λ d. is_object_at d handle) result }
+    {
+        self.is_object(handle)
+    }
+
+    /// How many elements the object of a handle has: as many as it was made with, and 1 where it is a container.
+    ///
+    /// # Errors
+    ///
+    /// `NotFound` where no object has the handle.
+    pub fn length_of(&self, handle: Handle) -> Result<u64, Refusal>
+        ensures { Answers self.now (λ d. told_at d (ByHandle handle) (λ (o : Object). count_of o.value)) result }
+    {
+        self.instance_length(&Key::Handle(handle))
+    }
+
     /// The kind of the object of a key.
     ///
     /// # Errors

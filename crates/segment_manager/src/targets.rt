@@ -1,7 +1,7 @@
 //! What says which object a call means: a key, which is looked up, or an object that was located before.
 ghost use Rattle.std.specs.Prelude.{⊤, MatchResult};
-ghost use Rattle.seg_types.specs.Keys.{key_seen};
-ghost use Rattle.seg_types.specs.Names.{ByHandle, Key as AnyKey};
+ghost use Rattle.seg_types.specs.Keys.{key_seen, name_seen};
+ghost use Rattle.seg_types.specs.Names.{ByHandle, ByName, Key as AnyKey};
 ghost use Rattle.segment_manager.specs.Found.{handle_at};
 ghost use Rattle.segment_manager.specs.Instances.{IsMissing};
 ghost use Rattle.segment_manager.specs.Located.{IsLocated, IsObject};
@@ -9,10 +9,10 @@ ghost use Rattle.segment_manager.specs.State.{Answers, State};
 
 use crate::head::read_head;
 use crate::segment::Segment;
-use seg_types::{Handle, Key, Kind, Refusal};
+use seg_types::{Handle, Key, Kind, Name, Refusal};
 
 /// An object of a segment as it was located. It goes on standing for the object of its handle until that is destroyed.
-#[derive(Clone, Copy, Debug, PartialEq, Eq)]
+#[derive(Clone, Copy, Debug, PartialEq, Eq, Hash)]
 pub struct Object {
     /// Its handle.
     pub handle: Handle,
@@ -44,6 +44,17 @@ impl Target for Key<'_> {
 
     fn handle_in(&self, segment: &Segment) -> Option<Handle> {
         segment.handle_of(self)
+    }
+}
+
+impl Target for Name<'_> {
+    ghost key = { λ name. ByName (name_seen name) };
+
+    // A name may be asked for anywhere.
+    ghost stands = { λ name s. ⊤ };
+
+    fn handle_in(&self, segment: &Segment) -> Option<Handle> {
+        segment.handle_of(&Key::Name(*self))
     }
 }
 

@@ -66,7 +66,7 @@ impl Segment {
     }
 
     /// The same of an index.
-    fn entered(&self, index: Index, i: u64) -> Instance<'_>
+    pub(crate) fn entered(&self, index: Index, i: u64) -> Instance<'_>
         requires { IsBelow self.now (λ d. length (objects_of index d)) i }
         ensures { SaysAt self.now (objects_of index) i result }
     {

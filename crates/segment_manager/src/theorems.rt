@@ -7,6 +7,7 @@ ghost use Rattle.segment_manager.specs.Laws.{CountedAreBelow, HandlesMeanObjects
 ghost use Rattle.segment_manager.specs.Heads.{EntriesSayObjects};
 ghost use Rattle.segment_manager.specs.Layout.{format_at, head_len, magic_at, name_class_at, named_at, reserved_at, size_at, unique_at};
 ghost use Rattle.segment_manager.specs.OwnedTexts.{TextsArePlaced};
+ghost use Rattle.segment_manager.specs.Staying.{ObjectsStay};
 
 use crate::layout::{
     FORMAT, FORMAT_AT, HALF, HEAD_LEN, MAGIC, MAGIC_AT, NAME_CLASS_AT, NAMED_AT, RESERVED_AT,
@@ -39,6 +40,12 @@ pub fn keys_mean_objects()
     ensures any { KeysMeanObjects }
     ensures of_kind { KeysOfKindMeanObjects }
     ensures handle { HandlesMeanObjects }
+{}
+
+/// A command on the elements of an object keeps each object, as one does that only reads: so an object that was located goes on
+/// standing for the object of its handle.
+pub fn objects_stay()
+    ensures { ObjectsStay }
 {}
 
 /// Each index follows its objects: one that is put in or taken out is one entry more or less, and another value changes no

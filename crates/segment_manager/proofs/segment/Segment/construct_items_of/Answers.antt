@@ -13,7 +13,7 @@ use Rattle.segment_manager.specs.Step.{is_read_only}
 use Rattle.segment_manager.proofs.ItemCalls.{loose, takes, takes-none, takes-nothing}
 use Rattle.segment_manager.proofs.Loose.{begun-heap, begun-room}
 use Rattle.segment_manager.proofs.Steps.{step-segment}
-use Rattle.segment_manager.proofs.segment.Segment.construct_values.Goals as goal
+use Rattle.segment_manager.proofs.segment.Segment.construct_items_of.Goals as goal
 
 pub returns-then-is_read_only : goal.returns-then-is_read_only
 returns-then-is_read_only g c =

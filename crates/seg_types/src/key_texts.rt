@@ -1,0 +1,124 @@
+//! How names and keys are printed: as the command language prints them.
+ghost use Rattle.std.specs.Prelude.{◌≡◌, Some, flat_map};
+ghost use Rattle.std.specs.Fmt.{DisplaysOnOk};
+ghost use Rattle.std.specs.List.{list_all};
+ghost use Rattle.seg_types.specs.Keys.{index_key_seen, key_seen, name_seen, new_key_seen};
+ghost use Rattle.seg_types.specs.Texts.{escape_text, is_bare_name, is_letter, is_name_byte, item_text, key_text, name_text, quoted_text};
+
+use crate::keys::{IndexKey, Key, NewKey};
+use crate::names::Name;
+use std::fmt;
+
+/// Whether a name may stand bare: a letter or `_`, then letters, digits, `_` and `.`.
+pub fn is_bare_name(name: &[u8]) -> bool
+    ensures { result ≡ is_bare_name name.now }
+{
+    let [first, rest @ ..] = name else {
+        return false;
+    };
+    (first.is_ascii_alphabetic() || *first == b'_') && are_name_bytes(rest)
+}
+
+/// Whether each byte may stand in a bare name behind its first.
+fn are_name_bytes(bytes: &[u8]) -> bool
+    ensures { result ≡ list_all is_name_byte bytes.now }
+{
+    bytes.iter().all(|byte| is_name_byte(*byte))
+}
+
+/// Whether a byte may stand in a bare name behind its first: a letter, a digit, `_` or `.`.
+fn is_name_byte(byte: u8) -> bool
+    ensures { result ≡ is_name_byte byte }
+{
+    byte.is_ascii_alphanumeric() || byte == b'_' || byte == b'.'
+}
+
+/// Bare where it can be spelled bare, else as a text in quotes.
+impl fmt::Display for Name<'_> {
+    ghost output = { λ n. Some (name_text (name_seen n)) };
+
+    fn fmt<W: fmt::Write>(&self, f: &mut fmt::Formatter<W>) -> fmt::Result {
+        if is_bare_name(self.as_bytes()) {
+            return f.write_str(self.as_str());
+        }
+        write_quoted(self.as_bytes(), f)
+    }
+}
+
+/// Writes a text in quotes.
+fn write_quoted<W: fmt::Write>(text: &[u8], f: &mut fmt::Formatter<W>) -> fmt::Result
+    ensures { DisplaysOnOk W.write_str_gives f.old result (Some (quoted_text text.now)) f.new }
+{
+    f.write_str("\"")?;
+    write_items(text, f)?;
+    f.write_str("\"")
+}
+
+/// Writes the bytes of a text without its quotes.
+fn write_items<W: fmt::Write>(text: &[u8], f: &mut fmt::Formatter<W>) -> fmt::Result
+    ensures { DisplaysOnOk W.write_str_gives f.old result (Some (flat_map item_text text.now)) f.new }
+{
+    'items: for byte in text {
+        write_item(*byte, f)?;
+    }
+    Ok(())
+}
+
+/// Writes one byte of a text.
+fn write_item<W: fmt::Write>(byte: u8, f: &mut fmt::Formatter<W>) -> fmt::Result
+    ensures { DisplaysOnOk W.write_str_gives f.old result (Some (item_text byte)) f.new }
+{
+    match byte {
+        b'"' => f.write_str("\\\""),
+        b'\\' => f.write_str("\\\\"),
+        b' '..=b'~' => f.write_char(char::from(byte)),
+        _ => write_escape(byte, f),
+    }
+}
+
+/// Writes a byte as two hexadecimal digits behind `\x`.
+#[tactic(auto, using(std::proofs::lemmas::Fmt::hex_byte))]
+fn write_escape<W: fmt::Write>(byte: u8, f: &mut fmt::Formatter<W>) -> fmt::Result
+    ensures { DisplaysOnOk W.write_str_gives f.old result (Some (escape_text byte)) f.new }
+{
+    write!(f, "\\x{byte:02x}")
+}
+
+/// A name as names are, a kind behind `@`, a handle behind `#`, and `-` for no key.
+impl fmt::Display for Key<'_> {
+    ghost output = { λ key. Some (key_text (key_seen key)) };
+
+    fn fmt<W: fmt::Write>(&self, f: &mut fmt::Formatter<W>) -> fmt::Result {
+        match self {
+            Key::Name(name) => write!(f, "{name}"),
+            Key::Unique(kind) => write!(f, "@{kind}"),
+            Key::Handle(handle) => write!(f, "#{handle}"),
+            Key::Anonymous => f.write_str("-"),
+        }
+    }
+}
+
+/// As the key of the object that is found again.
+impl fmt::Display for NewKey<'_> {
+    ghost output = { λ key. Some (key_text (new_key_seen key)) };
+
+    fn fmt<W: fmt::Write>(&self, f: &mut fmt::Formatter<W>) -> fmt::Result {
+        match self {
+            NewKey::Name(name) => write!(f, "{name}"),
+            NewKey::Unique(kind) => write!(f, "@{kind}"),
+            NewKey::Anonymous => f.write_str("-"),
+        }
+    }
+}
+
+/// As the key of the object that the entry leads to.
+impl fmt::Display for IndexKey<'_> {
+    ghost output = { λ key. Some (key_text (index_key_seen key)) };
+
+    fn fmt<W: fmt::Write>(&self, f: &mut fmt::Formatter<W>) -> fmt::Result {
+        match self {
+            IndexKey::Name(name) => write!(f, "{name}"),
+            IndexKey::Unique(kind) => write!(f, "@{kind}"),
+        }
+    }
+}

@@ -1,0 +1,31 @@
+-- Objects that stay.
+use Rattle.std.specs.Prelude.{◌≡◌, Bool, true, false}
+use Rattle.seg_types.specs.declared.kinds.Kind.{Kind}
+use Rattle.seg_types.specs.Names.{Key}
+use Rattle.seg_types.specs.Commands as asked
+use Rattle.seg_types.specs.Commands.{Command}
+use Rattle.segment_manager.specs.declared.targets.Object.{Object as Located}
+use Rattle.segment_manager.specs.Located.{IsObject}
+use Rattle.segment_manager.specs.Answers.{Answer}
+use Rattle.segment_manager.specs.State.{IsSegment, IsStep, IsStepOfKind, State}
+
+-- The commands on the elements of an object, and those that only read.
+abbrev pub is_elementwise : Command → Bool
+is_elementwise (asked.Construct key content) = false
+is_elementwise (asked.ConstructIt key k count zs) = false
+is_elementwise (asked.FindOrConstruct key content) = false
+is_elementwise (asked.Destroy key) = false
+is_elementwise (asked.DestroyPtr h) = false
+is_elementwise (asked.ReserveNamed n) = false
+is_elementwise (asked.ReserveUnique n) = false
+is_elementwise asked.ShrinkIndexes = false
+is_elementwise c = true
+
+-- each object that there was is there
+abbrev pub KeepsObjects : State → State → Type 0
+KeepsObjects old new = (o : Located) → IsObject o old → IsObject o new
+
+-- the law: a command on the elements of an object, and one that only reads, keeps each object
+pub record ObjectsStay : Type 0 where
+  pub any : (old new : State) (c : Command) (answer : Answer) → IsSegment old.cut.bytes → is_elementwise c ≡ true → IsStep old new c answer → KeepsObjects old new
+  pub of_kind : (old new : State) (key : Key) (kind : Kind) (c : Command) (answer : Answer) → IsSegment old.cut.bytes → is_elementwise c ≡ true → IsStepOfKind old new key kind c answer → KeepsObjects old new

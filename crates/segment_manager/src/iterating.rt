@@ -1,0 +1,86 @@
+//! The objects of an index, one after another.
+ghost use Rattle.std.specs.Prelude.{◌≡◌, ◌-◌, length};
+ghost use Rattle.std.specs.Iterator.{at_most};
+ghost use Rattle.seg_index.specs.declared.index.Index.TheVariants.{Named, Unique};
+ghost use Rattle.seg_index.specs.Held.{entry_count, place_of};
+ghost use Rattle.segment_manager.specs.Indexed.{objects_of};
+ghost use Rattle.segment_manager.specs.Iterating.{GoesOn};
+ghost use Rattle.segment_manager.specs.State.{Answers};
+
+use crate::segment::Segment;
+use crate::telling::Instance;
+use seg_index::Index;
+use std::marker::Model;
+
+/// The objects of one of the two indexes in its order, one after another: what each says of itself. Nothing is looked up.
+///
+/// Contracts see the segment, the index, and how many objects came.
+#[derive(Drop)]
+pub struct Instances<'a> {
+    segment: &'a Segment,
+    index: Index,
+    at: u64,
+}
+
+impl<'a> Model for Instances<'a> {
+    ghost use Rattle.segment_manager.specs.Iterating.{Walk};
+
+    ghost Value = { Walk };
+
+    ghost view = { λ w. record { segment = w.segment.now; index = w.index; at = w.at } };
+}
+
+impl<'a> Iterator for Instances<'a> {
+    type Item = Instance<'a>;
+
+    ghost next_gives = { GoesOn };
+
+    ghost remaining = { λ w. at_most (entry_count w.segment.cut (place_of w.index) - w.at) };
+
+    fn next(&mut self) -> Option<Instance<'a>> {
+        let segment = self.segment;
+        if self.at >= segment.count_of(self.index) {
+            return None;
+        }
+        let said = segment.entered(self.index, self.at);
+        self.at += 1;
+        Some(said)
+    }
+
+    fn size_hint(&self) -> (usize, Option<usize>) {
+        let left = self.segment.count_of(self.index).saturating_sub(self.at) as usize;
+        (left, Some(left))
+    }
+}
+
+impl Segment {
+    /// The objects with names, in the order of the bytes of their names.
+    pub fn named_instances(&self) -> Instances<'_>
+        ensures { result ≡ record { segment = self.now; index = Named; at = 0 } }
+    {
+        Instances {
+            segment: self,
+            index: Index::Named,
+            at: 0,
+        }
+    }
+
+    /// The unique objects, in the order of the codes of their kinds.
+    pub fn unique_instances(&self) -> Instances<'_>
+        ensures { result ≡ record { segment = self.now; index = Unique; at = 0 } }
+    {
+        Instances {
+            segment: self,
+            index: Index::Unique,
+            at: 0,
+        }
+    }
+
+    /// How many objects an index has.
+    fn count_of(&self, index: Index) -> u64
+        ensures word { result ≡ entry_count self.now.cut (place_of index) }
+        ensures count { Answers self.now (λ d. length (objects_of index d)) result }
+    {
+        index.len(&self.heap)
+    }
+}

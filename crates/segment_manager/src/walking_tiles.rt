@@ -1,0 +1,70 @@
+//! The blocks and gaps of a segment, one after another.
+ghost use Rattle.std.specs.Prelude.{◌≡◌, ◌+◌, ◌-◌, ◌<◌, length};
+ghost use Rattle.std.specs.Iterator.{at_most};
+ghost use Rattle.raw_region.specs.Memory.{bytes_of};
+ghost use Rattle.block_tags.specs.Tiles.{tiles_of};
+ghost use Rattle.segment_manager.specs.Iterating.{GoesOnTiles};
+
+use crate::segment::Segment;
+use crate::tiles::Span;
+use block_tags::Tile;
+use std::marker::Model;
+
+/// The blocks and gaps of a segment, one after another. A walk over all of them takes one step for each.
+///
+/// Contracts see the segment, and how many blocks and gaps came.
+#[derive(Drop)]
+pub struct Tiles<'a> {
+    segment: &'a Segment,
+    tile: Option<Tile>,
+    at: u64,
+}
+
+impl<'a> Model for Tiles<'a> {
+    ghost use Rattle.segment_manager.specs.Calls.{IsTileOfIndex};
+    ghost use Rattle.segment_manager.specs.Iterating.{TileWalk};
+
+    ghost Value = { TileWalk };
+
+    ghost view = { λ w. record { segment = w.segment.now; at = w.at } };
+
+    ghost invariant = { λ w. IsTileOfIndex w.segment.now w.at w.tile };
+}
+
+impl<'a> Iterator for Tiles<'a> {
+    type Item = Span;
+
+    ghost next_gives = { GoesOnTiles };
+
+    ghost remaining = { λ w. at_most (length (tiles_of (bytes_of w.segment.cut.bytes) (length w.segment.cut.bytes)) - w.at) };
+
+    fn next(&mut self) -> Option<Span> {
+        let tile = self.tile?;
+        let segment = self.segment;
+        self.at = segment.place_behind(self.at);
+        self.tile = segment.next_tile(tile);
+        Some(Span::of(tile))
+    }
+}
+
+impl Segment {
+    /// The blocks and gaps, one after another.
+    pub fn tiles(&self) -> Tiles<'_>
+        ensures { result ≡ record { segment = self.now; at = 0 } }
+    {
+        Tiles {
+            segment: self,
+            tile: self.first_tile(),
+            at: 0,
+        }
+    }
+
+    /// The place behind that of a tile. No segment has so many tiles that 64 bits do not count them, which its bytes say.
+    fn place_behind(&self, at: u64) -> u64
+        requires { at < length (tiles_of (bytes_of self.now.cut.bytes) (length self.now.cut.bytes)) }
+        ensures { result ≡ at + 1 }
+    {
+        let _ = self.as_bytes();
+        at + 1
+    }
+}

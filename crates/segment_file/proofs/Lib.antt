@@ -1,4 +1,5 @@
 mod Written
+mod Standings
 mod Ran
 mod Opened
 mod Commanded

@@ -11,6 +11,7 @@ mod regions;
 mod resizing;
 mod running;
 mod telling;
+mod theorems;
 mod writing;
 
 pub use checking::check;
@@ -19,3 +20,6 @@ pub use migrating::migrate;
 pub use modes::run;
 pub use resizing::{grow, shrink};
 pub use running::{run_in_new_file, run_on_file, run_on_file_or_new};
+pub use theorems::{
+    emptying_tears, replacing_keeps_one_whole, saving_ends_whole, unplaced_leaves_the_old,
+};

@@ -1,6 +1,6 @@
 use Rattle.std.proofs.Common.{inr}
 use Rattle.segment_file.proofs.Commanded.{written_whole, same_fault}
-use Rattle.segment_file.proofs.migrating.migrate.Goals as goal
+use Rattle.segment_file.proofs.migrating.migrate_held.Goals as goal
 
 pub returns-in-Ok-tell : goal.returns-in-Ok-tell
 returns-in-Ok-tell g c = inr (inr (record {

@@ -1,6 +1,6 @@
 use Rattle.std.proofs.Common.{inr}
 use Rattle.segment_file.proofs.Commanded.{resized, not_resized, same_fault}
-use Rattle.segment_file.proofs.resizing.grow.Goals as goal
+use Rattle.segment_file.proofs.resizing.grow_held.Goals as goal
 
 pub returns-in-Ok-tell_and_write : goal.returns-in-Ok-tell_and_write
 returns-in-Ok-tell_and_write g c = inr (inr (record {

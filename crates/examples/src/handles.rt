@@ -1,14 +1,14 @@
 //! Handles that are kept in objects. Boost: `get_handle_from_address`, `get_address_from_handle`.
 use anyhow::Result;
-use zaluxhoni::{HostDisk, Key, Mode, NewKey, SegmentFile, named, new_named};
+use zaluxhoni::{AnonymousInstance, HostDisk, Key, Mode, SegmentFile, named};
 
 /// Makes an object without a name, and keeps its handle in one that has a name.
 fn make_a_chain(rt: &HostRuntime) -> Result<()> {
     let mut disk = HostDisk::new(rt);
     let mut file = SegmentFile::create(rt.alloc(), &mut disk, "chain.seg", 1024)?;
-    let secret = file.segment.construct(&NewKey::Anonymous, 1, 42i32)?;
-    file.segment.construct(&new_named("first")?, 1, secret)?;
-    file.save(&mut disk)?;
+    let secret = file.segment.construct(&AnonymousInstance, 1, 42i32)?;
+    file.segment.construct(&named("first")?, 1, secret)?;
+    file.replace(&mut disk)?;
     Ok(())
 }
 

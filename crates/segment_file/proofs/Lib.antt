@@ -1,6 +1,6 @@
 mod Written
+mod Standings
 mod Ran
 mod Opened
 mod Commanded
 mod Enlarged
-mod Saved

@@ -1,6 +1,8 @@
 pub mod Files
+pub mod Standing
 pub mod Opening
 pub mod Telling
+pub mod Holding
 pub mod Commands
 pub mod Running
 pub mod Resizing

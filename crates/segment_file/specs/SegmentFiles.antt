@@ -1,5 +1,5 @@
 -- A segment with the path of its file: what the disk is asked, in order, and what becomes of the segment.
-use Rattle.std.specs.Prelude.{◌≡◌, ◌≢◌, ◌⊎◌, ◌≤◌, ℕ, ◌+◌, ◌%◌, false, List, [], ◌∷◌, length, IsTrue, string_bytes, Option, Some, None, Result, Ok, Err, MatchResult}
+use Rattle.std.specs.Prelude.{◌≡◌, ◌≢◌, ◌⊎◌, ◌≤◌, ℕ, ◌+◌, ◌%◌, false, List, [], ◌∷◌, length, IsTrue, string_bytes, Option, Some, None, Result, Ok, Err, IfErr, MatchResult}
 use Rattle.raw_region.specs.Device.{Given}
 use Rattle.raw_region.specs.Format.{current}
 use Rattle.block_tags.specs.Format.{is_legal_size}
@@ -18,14 +18,16 @@ use Rattle.image_check.specs.OpeningAny.{OpensAny}
 use Rattle.grow_shrink.specs.declared.refusals.GrowError.{GrowError}
 use Rattle.grow_shrink.specs.Resized.{grown, growth_refusal, room_of, shrink_refusal, shrunk}
 use Rattle.segment_cli.specs.Session.{IsUntouched}
+use Rattle.segment_disk.specs.declared.presence.Making.{Making}
 use Rattle.segment_disk.specs.declared.presence.Making.TheVariants.{New, Emptied}
 use Rattle.segment_disk.specs.declared.presence.Presence.{Presence}
 use Rattle.segment_disk.specs.declared.presence.Presence.TheVariants.{Absent, There}
-use Rattle.segment_disk.specs.Events.{Event, Looked, After}
+use Rattle.segment_disk.specs.Events.{Event, Looked, Held, After}
 use Rattle.segment_file.specs.declared.file_errors.FileError.{FileError}
-use Rattle.segment_file.specs.declared.file_errors.FileError.TheVariants.{Exists, BadSize, Image, RegionTooSmall, OutOfMemory, ReadFault, WriteFault, WrongMode, Growth}
+use Rattle.segment_file.specs.declared.file_errors.FileError.TheVariants.{Exists, BadSize, Image, RegionTooSmall, OutOfMemory, ReadFault, WriteFault, InUse, WrongMode, Growth}
 use Rattle.segment_file.specs.declared.segment_files.SegmentFile.{SegmentFile}
 use Rattle.segment_file.specs.Files.{WritesImage, opens, does_not_open}
+use Rattle.segment_file.specs.Holding.{IsHolding}
 
 -- an answer of a writing that went well
 abbrev pub saved : Result (Unit {0}) FileError
@@ -165,6 +167,24 @@ KeepsFile old new path comes result = MatchResult result (IsFileOf path comes) (
 
 -- ---- a segment that is written
 
+module _ {D : Type 0} (step : D → Event → D → Type 0) (old new : D) (path : List ℕ) where
+  -- another has the right to write the file, and nothing else was asked
+  pub record IsFileInUse (result : Result (Unit {0}) FileError) : Type 0 where
+    pub asked : After step old (Held path false ∷ []) new
+    pub refused : result ≡ Err InUse
+
+  -- with the right to write it, the file was emptied, or replaced by one that is made beside it, and takes an image
+  pub record IsHeldWriting (how : Making) (image : List ℕ) (result : Result (Unit {0}) FileError) : Type 0 where
+    pub holding : IsHolding step old new path (λ held done. WritesImage step held done how path image result)
+    pub refused : IfErr result (λ why. why ≡ WriteFault)
+
+  abbrev pub WritesHeld : Making → List ℕ → Result (Unit {0}) FileError → Type 0
+  WritesHeld how image result = IsFileInUse result ⊎ IsHeldWriting how image result
+
+  -- the right was taken, this was done, and it was given back
+  abbrev pub HoldsFile : (D → D → Type 0) → Result (Unit {0}) FileError → Type 0
+  HoldsFile does result = IsFileInUse result ⊎ IsHolding step old new path does
+
 module _ {D : Type 0} (step : D → Event → D → Type 0) (old new : D) (path : List ℕ) (s : State) (result : Result (Unit {0}) FileError) where
   -- the segment is not open for writing, and nothing was asked
   pub record IsWrongMode : Type 0 where
@@ -172,20 +192,19 @@ module _ {D : Type 0} (step : D → Event → D → Type 0) (old new : D) (path 
     pub asked : new ≡ old
     pub refused : result ≡ Err WrongMode
 
-  -- the file was emptied and takes the image
-  pub record IsSaving : Type 0 where
+  -- the file takes the image
+  pub record IsSaving (how : Making) : Type 0 where
     pub mode : s.mode ≡ Write
-    pub writes : WritesImage step old new Emptied path s.cut.bytes result
-    pub refused : (why : FileError) → result ≡ Err why → why ≡ WriteFault
+    pub writes : WritesHeld step old new path how s.cut.bytes result
 
-  -- `save`
-  abbrev pub Saves : Type 0
-  Saves = IsWrongMode ⊎ IsSaving
+  -- `save` and `replace`
+  abbrev pub Saves : Making → Type 0
+  Saves how = IsWrongMode ⊎ IsSaving how
 
   -- a file was made that takes the image
   pub record IsCopying : Type 0 where
     pub writes : WritesImage step old new New path s.cut.bytes result
-    pub refused : (why : FileError) → result ≡ Err why → why ≡ WriteFault
+    pub refused : IfErr result (λ why. why ≡ WriteFault)
 
 -- `save_as`: the image in a file that is not there, whatever the mode
 abbrev pub SavesAs : {D : Type 0} → (D → Event → D → Type 0) → D → D → List ℕ → State → Result (Unit {0}) FileError → Type 0
@@ -204,7 +223,7 @@ pub record IsMigrating {D : Type 0} (step : D → Event → D → Type 0) (old n
   pub read : D
   pub reads : ReadsAnySegment step old read path (Ok segment)
   pub writes : WritesImage step read new Emptied path segment.cut.bytes result
-  pub refused : (why : FileError) → result ≡ Err why → why ≡ WriteFault
+  pub refused : IfErr result (λ why. why ≡ WriteFault)
 
 -- the file has no segment of any format, for this reason, and is as it was
 pub record IsUnmigrated {D : Type 0} (step : D → Event → D → Type 0) (old new : D) (path : List ℕ) (result : Result (Unit {0}) FileError) : Type 0 where

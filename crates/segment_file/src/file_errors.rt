@@ -32,6 +32,9 @@ pub enum FileError {
     /// The file can't be made or emptied, takes not the whole image, or need not last.
     #[error("the file can't be written")]
     WriteFault,
+    /// Another has the right to write the file.
+    #[error("the file is in use")]
+    InUse,
     /// The segment is not open for writing, so that its file stays as it is.
     #[error("the segment is not open for writing")]
     WrongMode,

@@ -1,7 +1,7 @@
 //! What the calls of a `SegmentFile` are made of: a segment that is read from a file, or made in a new one.
 ghost use Rattle.std.specs.Prelude.{◌≡◌, ◌^◌, ◌-◌, ◌<◌, MatchResult};
 ghost use Rattle.raw_region.specs.Device.{given_since};
-ghost use Rattle.segment_file.specs.SegmentFiles.{IsEmptySegment, IsWhyNoSegment, MakesSegmentFile, OpensAnyIn, OpensIn, ReadsAnySegment, ReadsSegment};
+ghost use Rattle.segment_file.specs.SegmentFiles.{IsEmptySegment, IsWhyNoSegment, MakesSegmentFile, Migrates, OpensAnyIn, OpensIn, ReadsAnySegment, ReadsSegment, WritesHeld};
 
 use crate::file_errors::FileError;
 use crate::regions::{bytes_needed, region_for};
@@ -69,11 +69,7 @@ pub(crate) fn read_segment<D: Disk>(
 }
 
 /// The same of a file of any of the three formats, for writing.
-pub(crate) fn read_any_segment<D: Disk>(
-    alloc: Global,
-    disk: &mut D,
-    path: &str,
-) -> Result<Segment, FileError>
+pub(crate) fn read_any_segment<D: Disk>(alloc: Global, disk: &mut D, path: &str) -> Result<Segment, FileError>
     ensures { ReadsAnySegment D.step disk.old disk.new path.now result }
 {
     let Ok(opened) = disk.open(path) else {
@@ -117,6 +113,41 @@ pub(crate) fn make_segment_file<D: Disk>(
     let segment = empty_segment(alloc, size)?;
     match write_image(disk, path, Making::New, &segment) {
         Ok(()) => Ok(segment),
+        Err(_) => Err(FileError::WriteFault),
+    }
+}
+
+/// Writes the image of a segment to a file that is emptied or replaced for it, with the right to write it.
+pub(crate) fn write_held<D: Disk>(
+    disk: &mut D,
+    path: &str,
+    how: Making,
+    segment: &Segment,
+) -> Result<(), FileError>
+    ensures { WritesHeld D.step disk.old disk.new path.now how segment.now.cut.bytes result }
+{
+    let Ok(hold) = disk.hold(path) else {
+        return Err(FileError::InUse);
+    };
+    let written = write_image(disk, path, how, segment);
+    disk.release(hold);
+    match written {
+        Ok(()) => Ok(()),
+        Err(_) => Err(FileError::WriteFault),
+    }
+}
+
+/// Writes the segment in a file of any of the three formats by the current one.
+pub(crate) fn migrate_segment<D: Disk>(
+    alloc: Global,
+    disk: &mut D,
+    path: &str,
+) -> Result<(), FileError>
+    ensures { Migrates D.step disk.old disk.new path.now result }
+{
+    let segment = read_any_segment(alloc, disk, path)?;
+    match write_image(disk, path, Making::Emptied, &segment) {
+        Ok(()) => Ok(()),
         Err(_) => Err(FileError::WriteFault),
     }
 }

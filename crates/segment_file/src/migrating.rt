@@ -1,6 +1,7 @@
 //! The command that writes an image of an older format anew in its file.
 ghost use Rattle.std.specs.Prelude.{◌≡◌, ◌^◌, ◌-◌, ◌<◌};
 ghost use Rattle.raw_region.specs.Device.{given_since};
+ghost use Rattle.segment_file.specs.Holding.{Holds};
 ghost use Rattle.segment_file.specs.Migrating.{BeginsAny, IsMigrate, OpensAnyFile};
 
 use crate::creating::WRITE_FAULT;
@@ -49,13 +50,8 @@ fn open_any_segment<D: Disk>(
     begun
 }
 
-/// Writes the segment in a file by the current format, whichever of the three it has, and then says `ok`.
-///
-/// # Errors
-///
-/// Why the image is refused, `ReadFault` where the file can't be read, and `OutOfMemory`: the file is as it was. `WriteFault`
-/// where it can't be emptied, takes not the whole image, or need not last, and where the output fails behind it.
-pub fn migrate<D: Disk, O: Output>(
+/// What [`migrate`] does with the right to write the file.
+fn migrate_held<D: Disk, O: Output>(
     alloc: Global,
     disk: &mut D,
     path: &str,
@@ -72,4 +68,29 @@ pub fn migrate<D: Disk, O: Output>(
         },
         Err(_) => Err(WRITE_FAULT),
     }
+}
+
+/// Writes the segment in a file by the current format, whichever of the three it has, and then says `ok`.
+///
+/// # Errors
+///
+/// Why the image is refused, `ReadFault` where the file can't be read, `OutOfMemory`, and `InUse` where another has the right to
+/// write it: the file is as it was. `WriteFault` where it can't be emptied, takes not the whole image, or need not last, and
+/// where the output fails behind it.
+pub fn migrate<D: Disk, O: Output>(
+    alloc: Global,
+    disk: &mut D,
+    path: &str,
+    out: &mut O,
+) -> Result<(), ProgramFault>
+    requires { (O.history out.old).failures < 2 ^ 64 - 1 }
+    ensures { Holds D.step disk.old disk.new path.now (out.new ≡ out.old)
+        (λ held done. IsMigrate D.step held done path.now O.history O.flushes out.old out.new result) result }
+{
+    let Ok(hold) = disk.hold(path) else {
+        return Err(ProgramFault::InUse);
+    };
+    let answer = migrate_held(alloc, disk, path, out);
+    disk.release(hold);
+    answer
 }

@@ -1,10 +1,11 @@
 //! A segment with the path of its file.
 ghost use Rattle.std.specs.Prelude.{◌≡◌, IfOk, string_bytes};
-ghost use Rattle.segment_file.specs.SegmentFiles.{ChecksFile, CreatesSegment, Grows, KeepsFile, Migrates, OpensOrCreates, ReadsSegment, Saves, SavesAs, Shrinks};
+ghost use Rattle.segment_disk.specs.declared.presence.Making.TheVariants.{Beside, Emptied};
+ghost use Rattle.segment_file.specs.SegmentFiles.{ChecksFile, CreatesSegment, Grows, HoldsFile, KeepsFile, Migrates, OpensOrCreates, ReadsSegment, Saves, SavesAs, Shrinks};
 
 use crate::enlarging::grow_segment;
 use crate::file_errors::FileError;
-use crate::file_steps::{make_segment_file, read_any_segment, read_segment};
+use crate::file_steps::{make_segment_file, migrate_segment, read_segment, write_held};
 use crate::writing::write_image;
 use grow_shrink::shrink_to_fit;
 use segment_disk::{Disk, Making, Presence};
@@ -100,24 +101,44 @@ impl SegmentFile {
         })
     }
 
-    /// Writes the image of the segment to its file, which is emptied for it, or made where it is gone.
+    /// Writes the image of the segment to its file, which is emptied for it, or made where it is gone. Where that fails, the old
+    /// image is lost; see [`replace`](SegmentFile::replace).
     ///
     /// `crates/examples/src/shop.rt` has an example.
     ///
     /// # Errors
     ///
-    /// `WrongMode` where the segment is not open for writing: the disk is not asked for anything. `WriteFault` where the file
-    /// can't be emptied, takes not the whole image, or need not last.
+    /// `WrongMode` where the segment is not open for writing: the disk is not asked for anything. `InUse` where another has the
+    /// right to write the file. `WriteFault` where it can't be emptied, takes not the whole image, or need not last.
     pub fn save<D: Disk>(&self, disk: &mut D) -> Result<(), FileError>
-        ensures { Saves D.step disk.old disk.new (string_bytes self.now.path) self.now.segment result }
+        ensures { Saves D.step disk.old disk.new (string_bytes self.now.path) self.now.segment result Emptied }
+    {
+        self.save_by(disk, Making::Emptied)
+    }
+
+    /// The same to a new file beside its file, which takes the place of the old one when it has the whole image: at each moment
+    /// one of the two is there whole.
+    ///
+    /// `crates/examples/src/handles.rt` has an example.
+    ///
+    /// # Errors
+    ///
+    /// As of [`save`](SegmentFile::save). The old file is as it was then, but where it is not known whether the new one has
+    /// its place for good.
+    pub fn replace<D: Disk>(&self, disk: &mut D) -> Result<(), FileError>
+        ensures { Saves D.step disk.old disk.new (string_bytes self.now.path) self.now.segment result Beside }
+    {
+        self.save_by(disk, Making::Beside)
+    }
+
+    /// Either of the two.
+    fn save_by<D: Disk>(&self, disk: &mut D, how: Making) -> Result<(), FileError>
+        ensures { Saves D.step disk.old disk.new (string_bytes self.now.path) self.now.segment result how }
     {
         if self.segment.mode() != Mode::Write {
             return Err(FileError::WrongMode);
         }
-        match write_image(disk, self.path.as_str(), Making::Emptied, &self.segment) {
-            Ok(()) => Ok(()),
-            Err(_) => Err(FileError::WriteFault),
-        }
+        write_held(disk, self.path.as_str(), how, &self.segment)
     }
 
     /// Writes the image of the segment to another file, which is made for it, whatever the mode. The segment keeps its path.
@@ -195,15 +216,16 @@ impl SegmentFile {
     ///
     /// # Errors
     ///
-    /// Those of [`open`](SegmentFile::open): the file is as it was. `WriteFault` where it can't be emptied, takes not the whole
-    /// image, or need not last.
+    /// Those of [`open`](SegmentFile::open), and `InUse` where another has the right to write the file: it is as it was.
+    /// `WriteFault` where it can't be emptied, takes not the whole image, or need not last.
     pub fn migrate<D: Disk>(alloc: Global, disk: &mut D, path: &str) -> Result<(), FileError>
-        ensures { Migrates D.step disk.old disk.new path.now result }
+        ensures { HoldsFile D.step disk.old disk.new path.now (λ held done. Migrates D.step held done path.now result) result }
     {
-        let segment = read_any_segment(alloc, disk, path)?;
-        match write_image(disk, path, Making::Emptied, &segment) {
-            Ok(()) => Ok(()),
-            Err(_) => Err(FileError::WriteFault),
-        }
+        let Ok(hold) = disk.hold(path) else {
+            return Err(FileError::InUse);
+        };
+        let answer = migrate_segment(alloc, disk, path);
+        disk.release(hold);
+        answer
     }
 }

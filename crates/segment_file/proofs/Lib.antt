@@ -3,3 +3,4 @@ mod Standings
 mod Ran
 mod Opened
 mod Commanded
+mod CutFiles

@@ -4,3 +4,4 @@ mod Ran
 mod Opened
 mod Commanded
 mod Enlarged
+mod CutFiles

@@ -20,8 +20,8 @@ pub enum FileError {
     /// The bytes of the file denote no directory.
     #[error("image refused: {0}")]
     Image(ImageClass),
-    /// The file says another size than it said a moment before, and there is no room for it.
-    #[error("the file changed while it was read")]
+    /// The first bytes of the file say a size that is more than the file has, or had a moment before.
+    #[error("the file is shorter than it says")]
     RegionTooSmall,
     /// Memory was refused: for the path, for the region of the segment, or for the check of the image.
     #[error("out of memory")]

@@ -4,7 +4,7 @@ ghost use Rattle.raw_region.specs.Device.{given_since};
 ghost use Rattle.segment_file.specs.SegmentFiles.{IsEmptySegment, IsWhyNoSegment, MakesSegmentFile, Migrates, OpensAnyIn, OpensIn, ReadsAnySegment, ReadsSegment, WritesHeld};
 
 use crate::file_errors::FileError;
-use crate::regions::{bytes_needed, region_for};
+use crate::regions::{region_for, room_needed};
 use crate::writing::write_image;
 use block_tags::is_legal_size;
 use image_check::{open, open_any};
@@ -63,13 +63,17 @@ pub(crate) fn read_segment<D: Disk>(
         len,
         front,
     } = opened;
-    let read = open_in(alloc, mode, &mut reader, bytes_needed(len, &front));
+    let read = open_in(alloc, mode, &mut reader, room_needed(len, &front, 0));
     disk.close(reader);
     read
 }
 
 /// The same of a file of any of the three formats, for writing.
-pub(crate) fn read_any_segment<D: Disk>(alloc: Global, disk: &mut D, path: &str) -> Result<Segment, FileError>
+pub(crate) fn read_any_segment<D: Disk>(
+    alloc: Global,
+    disk: &mut D,
+    path: &str,
+) -> Result<Segment, FileError>
     ensures { ReadsAnySegment D.step disk.old disk.new path.now result }
 {
     let Ok(opened) = disk.open(path) else {
@@ -80,7 +84,7 @@ pub(crate) fn read_any_segment<D: Disk>(alloc: Global, disk: &mut D, path: &str)
         len,
         front,
     } = opened;
-    let read = open_any_in(alloc, &mut reader, bytes_needed(len, &front));
+    let read = open_any_in(alloc, &mut reader, room_needed(len, &front, 0));
     disk.close(reader);
     read
 }

@@ -3,7 +3,9 @@
 
 mod answering;
 mod checking;
+mod counting;
 mod creating;
+mod cutting;
 mod enlarging;
 mod file_errors;
 mod file_steps;

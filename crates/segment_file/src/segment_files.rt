@@ -56,7 +56,7 @@ impl SegmentFile {
     /// # Errors
     ///
     /// `Image` with the class where the bytes of the file denote no directory. `ReadFault` where the file can't be opened or
-    /// read, `OutOfMemory`, and `RegionTooSmall` where it became longer meanwhile.
+    /// read, `OutOfMemory`, and `RegionTooSmall` where it has fewer bytes than it says.
     pub fn open<D: Disk>(
         alloc: Global,
         disk: &mut D,

@@ -9,7 +9,7 @@ use Rattle.grow_shrink.specs.declared.refusals.GrowError.TheVariants as growth
 use Rattle.segment_cli.specs.declared.faults.SessionFault.{SessionFault}
 use Rattle.segment_cli.specs.declared.faults.SessionFault.TheVariants as session
 use Rattle.segment_cli.specs.declared.program_faults.ProgramFault.{ProgramFault}
-use Rattle.segment_cli.specs.declared.program_faults.ProgramFault.TheVariants.{Usage, Exists, Growth, Session}
+use Rattle.segment_cli.specs.declared.program_faults.ProgramFault.TheVariants.{Usage, Exists, InUse, Growth, Session}
 
 -- ---- the line of a fault
 
@@ -52,6 +52,7 @@ line words = codes "segment: " ++ words ++ 0x0A ∷ []
 abbrev pub fault_text : ProgramFault → List ℕ
 fault_text Usage = []
 fault_text Exists = line (codes "file exists")
+fault_text InUse = line (codes "file in use")
 fault_text (Growth e) = line (codes "growth refused: " ++ growth_name e)
 fault_text (Session f) = line (session_words f)
 
@@ -69,6 +70,7 @@ session_status session.ScriptTooLong = 3
 abbrev pub status_of : ProgramFault → ℕ
 status_of Usage = 2
 status_of Exists = 3
+status_of InUse = 3
 status_of (Growth e) = 1
 status_of (Session f) = session_status f
 

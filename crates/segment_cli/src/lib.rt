@@ -13,6 +13,8 @@ pub use migrations::migrate;
 pub use program_faults::ProgramFault;
 pub use reports::report;
 pub use saving::save;
-pub use segment_invocation::{Invocation, InvocationFault, ModeName, UsageError, invocation};
+pub use segment_invocation::{
+    Invocation, InvocationFault, ModeName, Saving, UsageError, invocation,
+};
 pub use segment_scripts::{Machine, RunFault, Scratch, run};
 pub use sessions::{begin, session};

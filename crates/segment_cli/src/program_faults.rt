@@ -15,6 +15,9 @@ pub enum ProgramFault {
     /// A file that is to be made is there already.
     #[error("file exists")]
     Exists,
+    /// Another has the right to write the file.
+    #[error("file in use")]
+    InUse,
     /// The segment does not grow.
     #[error("growth refused: {0}")]
     Growth(GrowError),

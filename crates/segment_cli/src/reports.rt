@@ -62,6 +62,7 @@ fn fault_line(fault: ProgramFault) -> &'static [u8]
     match fault {
         ProgramFault::Usage => b"",
         ProgramFault::Exists => b"segment: file exists\n",
+        ProgramFault::InUse => b"segment: file in use\n",
         ProgramFault::Growth(error) => growth_line(error),
         ProgramFault::Session(fault) => session_line(fault),
     }
@@ -79,14 +80,14 @@ fn session_status(fault: SessionFault) -> u8
 }
 
 /// The status that the program ends with: 1 where an image, a size or a growth is refused, 2 for a wrong command line, 3 for a
-/// file that exists and for faults, 4 for want of memory.
+/// file that exists or is in use and for faults, 4 for want of memory.
 fn status_of(fault: ProgramFault) -> u8
     ensures { result ≡ status_of fault }
 {
     match fault {
         ProgramFault::Growth(_) => 1,
         ProgramFault::Usage => 2,
-        ProgramFault::Exists => 3,
+        ProgramFault::Exists | ProgramFault::InUse => 3,
         ProgramFault::Session(fault) => session_status(fault),
     }
 }

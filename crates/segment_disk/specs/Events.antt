@@ -8,14 +8,22 @@ use Rattle.segment_disk.specs.declared.presence.Making.{Making}
 pub data Event : Type 0 where
   -- what is there under a path
   Looked : List ℕ → Presence → Event
+  -- the right to write a file was asked for; it was given, or another has it
+  Held : List ℕ → Bool → Event
+  -- the right that was given last was given back
+  Released : Event
   -- a file was to be opened for reading, and was or was not
   Opened : List ℕ → Bool → Event
   -- the file that was opened last was closed, which had given this
   Read : Given → Event
-  -- a file was to be made or emptied for writing, and was or was not
+  -- a file was to be made or emptied for writing, or made beside the one of this path, and was or was not
   Made : Making → List ℕ → Bool → Event
   -- the file that was made or emptied last was closed, which had taken this, and all that it took lasts, or need not
   Wrote : Taken → Bool → Event
+  -- the file that was made beside the one of this path was to be put in its place, and was, or need not have been
+  Placed : List ℕ → Bool → Event
+  -- it was to be removed
+  Discarded : List ℕ → Event
 
 -- Of a disk, where one question leads from a state to a state: these were asked in this order, and no others.
 abbrev pub After : {D : Type 0} → (D → Event → D → Type 0) → D → List Event → D → Type 0

@@ -1,16 +1,16 @@
 //! Disks and outputs as the crates above are given them: contracts see what a disk was asked, in order, and what it answered.
 ghost use Rattle.std.specs.Prelude.{◌≡◌, Bool, IfOk, is_ok};
 ghost use Rattle.raw_region.specs.Device.{given_since, taken_since};
-ghost use Rattle.segment_disk.specs.Events.{Event, Looked, Opened as WasOpened, Read, Made, Wrote, nothing_given, nothing_taken};
+ghost use Rattle.segment_disk.specs.Events.{Event, Looked, Held, Released, Opened as WasOpened, Read, Made, Wrote, Placed, Discarded, nothing_given, nothing_taken};
 
-use crate::presence::{Making, Presence};
+use crate::presence::{InUse, Making, Presence};
 use raw_region::{DeviceFault, Sink, Source};
 
 /// A file that was opened for reading.
 pub struct Opened<R> {
     /// Gives its bytes, from the first on.
     pub reader: R,
-    /// How many bytes it has, as far as that is known.
+    /// How many bytes it has, as far as that is known; 0 also where it is not.
     pub len: u64,
     /// Its first bytes, and zeros behind them where it has fewer.
     pub front: [u8; 24],
@@ -25,9 +25,21 @@ pub trait Disk {
 
     type Writer: Sink;
 
+    /// The right to write a file.
+    type Hold;
+
     /// Tells what is there under a path.
     fn look(&mut self, path: &str) -> Presence
         ensures { step self.old (Looked path.now result) self.new };
+
+    /// Takes the right to write a file, which no other has until it is given back. Does not wait: where another has it, the answer
+    /// is `InUse`. A file that can't be held, or is not there, is nobody's, and the answer is Ok.
+    fn hold(&mut self, path: &str) -> Result<Self::Hold, InUse>
+        ensures { step self.old (Held path.now (is_ok result)) self.new };
+
+    /// Gives the right to write a file back.
+    fn release(&mut self, hold: Self::Hold)
+        ensures { step self.old Released self.new };
 
     /// Opens a file for reading.
     fn open(&mut self, path: &str) -> Result<Opened<Self::Reader>, DeviceFault>
@@ -38,7 +50,8 @@ pub trait Disk {
     fn close(&mut self, reader: Self::Reader)
         ensures { step self.old (Read (given_since nothing_given (Self.Reader.history reader))) self.new };
 
-    /// Makes a file, or empties it, and opens it for writing.
+    /// Makes a file, or empties it, and opens it for writing. One that is made beside another is put in its place or discarded
+    /// when it is closed.
     fn make(&mut self, path: &str, how: Making) -> Result<Self::Writer, DeviceFault>
         ensures asked { step self.old (Made how path.now (is_ok result)) self.new }
         ensures fresh { IfOk result (λ writer. Self.Writer.history writer ≡ nothing_taken) };
@@ -47,6 +60,15 @@ pub trait Disk {
     fn finish(&mut self, writer: Self::Writer) -> Result<(), DeviceFault>
         ensures { step self.old
             (Wrote (taken_since nothing_taken (Self.Writer.history writer)) (is_ok result)) self.new };
+
+    /// Puts the file that was made beside this one, and is closed, in its place. At each moment the name leads to one of the two.
+    /// Ok says that it leads to the new one, and that this lasts.
+    fn place(&mut self, path: &str) -> Result<(), DeviceFault>
+        ensures { step self.old (Placed path.now (is_ok result)) self.new };
+
+    /// Removes the file that was made beside this one, and is closed, if it is still there and can be removed.
+    fn discard(&mut self, path: &str)
+        ensures { step self.old (Discarded path.now) self.new };
 }
 
 /// A writer that may keep back what it took, until it is flushed.

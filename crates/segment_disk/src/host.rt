@@ -1,9 +1,12 @@
 //! The files of the system as a `Disk`.
 ghost use Rattle.std.specs.Prelude.{⊤};
 
+use crate::beside::Beside;
 use crate::disk::{Disk, Opened};
+use crate::durable::write_through;
+use crate::locks::lock;
 use crate::outlet::Outlet;
-use crate::presence::{Making, Presence};
+use crate::presence::{InUse, Making, Presence};
 use raw_region::stream::Reading;
 use raw_region::{DeviceFault, fill};
 use std::fs::{self, File, OpenFile};
@@ -14,12 +17,41 @@ use std::rt::Files;
 #[derive(Drop)]
 pub struct HostDisk<'a, R: Files> {
     files: &'a R,
+    /// Whether a file is locked.
+    is_held: bool,
+    /// The file that was made beside another last, while its fate is open.
+    beside: Option<Beside>,
+}
+
+/// The right to write a file: its lock, if it has one.
+#[derive(Drop)]
+pub struct HostHold {
+    _lock: Option<File>,
 }
 
 impl<'a, R: Files> HostDisk<'a, R> {
     /// The files, none of which was asked for yet.
     pub fn new(files: &'a R) -> HostDisk<'a, R> {
-        HostDisk { files }
+        HostDisk {
+            files,
+            is_held: false,
+            beside: None,
+        }
+    }
+}
+
+impl<'a, R: Files<File = File> + AllocGlobal> HostDisk<'a, R> {
+    /// Makes a file, as it is wanted.
+    fn file_for(&mut self, path: &str, how: Making) -> io::Result<File> {
+        match how {
+            Making::New => File::create_new(self.files, path),
+            Making::Emptied => fs::create(self.files, path),
+            Making::Beside => {
+                let (file, beside) = Beside::make(self.files, path, self.is_held)?;
+                self.beside = Some(beside);
+                Ok(file)
+            }
+        }
     }
 }
 
@@ -32,20 +64,14 @@ fn open_file<R: Files>(files: &R, path: &str, front: &mut [u8; 24]) -> io::Resul
     Ok((file, len))
 }
 
-/// Asks the system to write a file through. What is no file on a disk, as a pipe, can't be asked that.
-fn write_through<F: OpenFile>(file: &F) -> bool {
-    match file.sync_all() {
-        Ok(()) => true,
-        Err(error) => error.kind() == ErrorKind::InvalidInput,
-    }
-}
-
-impl<'a, R: Files> Disk for HostDisk<'a, R> {
+impl<'a, R: Files<File = File> + AllocGlobal> Disk for HostDisk<'a, R> {
     ghost step = { λ old event new. ⊤ };
 
-    type Reader = Reading<R::File>;
+    type Reader = Reading<File>;
 
-    type Writer = Outlet<R::File>;
+    type Writer = Outlet<File>;
+
+    type Hold = HostHold;
 
     fn look(&mut self, path: &str) -> Presence {
         match fs::symlink_metadata(self.files, path) {
@@ -55,7 +81,21 @@ impl<'a, R: Files> Disk for HostDisk<'a, R> {
         }
     }
 
-    fn open(&mut self, path: &str) -> Result<Opened<Reading<R::File>>, DeviceFault> {
+    fn hold(&mut self, path: &str) -> Result<HostHold, InUse> {
+        match lock(self.files, path) {
+            Ok(lock) => {
+                self.is_held = lock.is_some();
+                Ok(HostHold { _lock: lock })
+            }
+            Err(in_use) => Err(in_use),
+        }
+    }
+
+    fn release(&mut self, _hold: HostHold) {
+        self.is_held = false;
+    }
+
+    fn open(&mut self, path: &str) -> Result<Opened<Reading<File>>, DeviceFault> {
         let mut front = [0u8; 24];
         match open_file(self.files, path, &mut front) {
             Ok((file, len)) => {
@@ -66,24 +106,41 @@ impl<'a, R: Files> Disk for HostDisk<'a, R> {
         }
     }
 
-    fn close(&mut self, _reader: Reading<R::File>) {}
+    fn close(&mut self, _reader: Reading<File>) {}
 
-    fn make(&mut self, path: &str, how: Making) -> Result<Outlet<R::File>, DeviceFault> {
-        let made = match how {
-            Making::New => File::create_new(self.files, path),
-            Making::Emptied => fs::create(self.files, path),
-        };
-        match made {
+    fn make(&mut self, path: &str, how: Making) -> Result<Outlet<File>, DeviceFault> {
+        match self.file_for(path, how) {
             Ok(file) => Ok(Outlet::new(file)),
             Err(_) => Err(DeviceFault),
         }
     }
 
-    fn finish(&mut self, writer: Outlet<R::File>) -> Result<(), DeviceFault> {
+    fn finish(&mut self, writer: Outlet<File>) -> Result<(), DeviceFault> {
         if write_through(writer.inner()) {
             Ok(())
         } else {
             Err(DeviceFault)
+        }
+    }
+
+    fn place(&mut self, _path: &str) -> Result<(), DeviceFault> {
+        let Some(beside) = self.beside.take() else {
+            return Err(DeviceFault);
+        };
+        if beside.place(self.files).is_err() {
+            self.beside = Some(beside);
+            return Err(DeviceFault);
+        }
+        if beside.name_lasts(self.files) {
+            Ok(())
+        } else {
+            Err(DeviceFault)
+        }
+    }
+
+    fn discard(&mut self, _path: &str) {
+        if let Some(beside) = self.beside.take() {
+            beside.discard(self.files);
         }
     }
 }

@@ -1,12 +1,15 @@
 //! Where the files of segments are kept, and where answers go: as the crates above are given them, and those of the system.
 #![tactic(auto)]
 
+mod beside;
 mod disk;
+mod durable;
 mod host;
+mod locks;
 mod outlet;
 mod presence;
 
 pub use disk::{Disk, Opened, Output};
-pub use host::HostDisk;
+pub use host::{HostDisk, HostHold};
 pub use outlet::Outlet;
-pub use presence::{Making, Presence};
+pub use presence::{InUse, Making, Presence};

@@ -1,5 +1,7 @@
 //! What a disk is asked and what it answers.
 
+use thiserror::Error;
+
 /// What is there under a path.
 #[derive(Clone, Copy, Debug, PartialEq, Eq)]
 pub enum Presence {
@@ -18,4 +20,11 @@ pub enum Making {
     New,
     /// It is emptied, or made where nothing is there.
     Emptied,
+    /// It is made beside the file of this path, which stays as it is until the new one is put in its place.
+    Beside,
 }
+
+/// Another has the right to write a file.
+#[derive(Clone, Copy, Debug, Drop, PartialEq, Eq, Error)]
+#[error("file in use")]
+pub struct InUse;

@@ -5,7 +5,7 @@ use Rattle.segment_manager.specs.State.{State}
 use Rattle.segment_disk.specs.declared.presence.Making.{Making}
 use Rattle.segment_disk.specs.Events.{Event}
 use Rattle.segment_file.specs.Files.{WritesImage}
-use Rattle.segment_file.specs.Resizing.{IsTold, IsUntold, TellsSize, TellsAndWrites}
+use Rattle.segment_file.specs.Resizing.{TellsAndWrites}
 
 module _ {A B D : Type 0} (step : D → Event → D → Type 0) (old new : D) (how : Making) (path image : List ℕ) where
   pub written_whole : WritesImage {E = A} step old new how path image (Ok tt) → WritesImage {E = B} step old new how path image (Ok tt)

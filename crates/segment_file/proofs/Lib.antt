@@ -1,4 +1,7 @@
 mod Written
+mod Standings
 mod Ran
 mod Opened
 mod Commanded
+mod Enlarged
+mod CutFiles

@@ -1,24 +1,24 @@
 -- How a run ends, from what its steps answered.
-use Rattle.std.proofs.Common.{◌≡◌, ◌⊎◌, ℕ, Bool, true, false, inl, inr, List, [], ◌∷◌, Result, Ok, Err, refl, sym, ap, subst, ◌∙◌}
+use Rattle.std.proofs.Common.{◌≡◌, ◌≢◌, ◌⊎◌, ℕ, Bool, true, false, inl, inr, List, [], ◌∷◌, Ok, Err, refl, sym, subst, ◌∙◌}
 use Rattle.raw_region.specs.Device.{Given, Taken}
 use Rattle.segment_manager.specs.declared.modes.Mode.{Mode}
 use Rattle.segment_manager.specs.declared.modes.Mode.TheVariants.{Write, ReadOnly, CopyOnWrite}
 use Rattle.segment_manager.specs.Directory.{Directory}
 use Rattle.segment_manager.specs.State.{State, StandsFor}
 use Rattle.segment_scripts.specs.Leaves.{RunsWhole, answer_all}
-use Rattle.segment_scripts.specs.Lines.{script_limit}
 use Rattle.segment_scripts.specs.Run.{lines}
 use Rattle.segment_scripts.specs.Segments.{Place, IsAt, answer_line}
 use Rattle.segment_cli.specs.declared.faults.Start.{Start}
 use Rattle.segment_cli.specs.declared.faults.SessionFault.{SessionFault}
 use Rattle.segment_cli.specs.declared.faults.SessionFault.TheVariants.{WriteFault}
-use Rattle.segment_cli.specs.Beginning.{Starts, IsBegun, run_fault}
+use Rattle.segment_cli.specs.Beginning.{Starts}
 use Rattle.segment_cli.specs.Session.{Saves, IsSaved}
 use Rattle.segment_cli.proofs.Laws.{stopped_session, done_session, unsaved_session}
 use Rattle.segment_disk.specs.declared.presence.Making.{Making}
+use Rattle.segment_disk.specs.declared.presence.Making.TheVariants.{New, Emptied, Beside}
 use Rattle.segment_disk.specs.Events.{Event, After}
-use Rattle.segment_file.specs.Files.{Written, NotMade, Closed, IsCut, IsUnwritten, WritesImage, writes, all_of}
-use Rattle.segment_file.specs.Running.{Act, IsAnswered, IsStopped, IsLost, IsSavedRun, IsStoppedRun, IsLostRun, IsUnsavedRun, IsUnsavedFor, EndsRun, Ran, saving}
+use Rattle.segment_file.specs.Files.{Written, NotMade, Closed, Offered, IsUnwritten, WritesImage, writes, whole, all_of}
+use Rattle.segment_file.specs.Running.{Act, IsAnswered, IsStopped, IsLost, IsUnsavedFor, EndsRun, Ran, saving}
 
 -- lines leave the mode as it is
 mode_kept : (at : Place) (ls : List (List ℕ)) → (answer_all answer_line at ls).1.mode ≡ at.mode
@@ -36,8 +36,13 @@ asks_nothing step old ReadOnly how path keeps = refl
 asks_nothing step old CopyOnWrite how path keeps = refl
 
 asks_to_save : {D : Type 0} (step : D → Event → D → Type 0) (old new : D) (m : Mode) (how : Making) (path image : List ℕ) → m ≡ Write
-    → After step old (writes how path (Closed (all_of image) true)) new → After step old (saving m how path image) new
+    → After step old (writes how path (whole how image)) new → After step old (saving m how path image) new
 asks_to_save step old new m how path image e h = subst (λ (w : Mode). After step old (saving w how path image) new) (sym e) h
+
+whole-made : (how : Making) (image : List ℕ) → whole how image ≢ NotMade
+whole-made New image e = cc
+whole-made Emptied image e = cc
+whole-made Beside image e = cc
 
 module _ {D : Type 0} (step : D → Event → D → Type 0) (how : Making) (path : List ℕ) (start : Start) (mode : Mode) (capacity : ℕ) (image : Given) (script : Given) (out : Taken) (Flushed : Bool → Type 0)
     (s s' : State) (h : Starts start mode 0 capacity image (Ok s)) where
@@ -96,16 +101,23 @@ module _ {D : Type 0} (step : D → Event → D → Type 0) (how : Making) (path
       saved w = record {
         image = s'.cut.bytes;
         asked = asks_to_save step old new mode how path s'.cut.bytes writing (subst (λ (x : Written). After step old (writes how path x) new) w.fate w.asked);
-        ran = done (w.accepted (all_of s'.cut.bytes) true w.fate);
+        ran = done (w.accepted (λ n. whole-made how s'.cut.bytes (sym w.fate ∙ n)));
         flushed = answered.flushed;
       }
 
-      unsaved_by : (written : Written) → IsUnwritten s'.cut.bytes written → ((taken : Taken) (lasts : Bool) → written ≡ Closed taken lasts → (d : Directory) → StandsFor s'.cut.bytes d → IsSaved s'.cut.bytes d)
+      is_closed : Closed (all_of s'.cut.bytes) false ≢ NotMade
+      is_closed e = cc
+
+      is_offered : Offered s'.cut.bytes false ≢ NotMade
+      is_offered e = cc
+
+      unsaved_by : (written : Written) → IsUnwritten how s'.cut.bytes written → (written ≢ NotMade → (d : Directory) → StandsFor s'.cut.bytes d → IsSaved s'.cut.bytes d)
           → IsUnsavedFor step old new how path act Flushed written
       unsaved_by written (inl e) good = subst (IsUnsavedFor step old new how path act Flushed) (sym e) (ran true answered).whole
       unsaved_by written (inr (inl c)) good = subst (IsUnsavedFor step old new how path act Flushed) (sym c.closed)
-          (inl (unsaved_session start mode 0 capacity (record { image = image; script = script; out = out; saved = c.taken }) s s' h answered.ran is c.part c.failed))
-      unsaved_by written (inr (inr e)) good = subst (IsUnsavedFor step old new how path act Flushed) (sym e) (inr (refl, done (good (all_of s'.cut.bytes) false e)))
+          (inl (unsaved_session start mode 0 capacity (record { image = image; script = script; out = out; saved = c.taken }) s s' h answered.ran is c.is_part.part c.is_part.failed))
+      unsaved_by written (inr (inr (inl e))) good = subst (IsUnsavedFor step old new how path act Flushed) (sym e) (inr (refl, done (good (λ n. is_closed (sym e ∙ n)))))
+      unsaved_by written (inr (inr (inr u))) good = subst (IsUnsavedFor step old new how path act Flushed) (sym u.offered) (u.beside, refl, done (good (λ n. is_offered (sym u.offered ∙ n))))
 
       -- it is not, or need not last
       pub unsaved : {E : Type 0} (e : E) → WritesImage {E = E} step old new how path s'.cut.bytes (Err e) → EndsRun step old new how path act Flushed (Err WriteFault)

@@ -1,5 +1,5 @@
 -- What became of a file that an image was written to, by the answers of the disk.
-use Rattle.std.proofs.Common.{◌≡◌, ℕ, Bool, true, false, inl, inr, List, [], ◌∷◌, ◌++◌, length, take, drop, Result, Ok, Err, is_ok, refl, sym, ap, subst, ◌∙◌, arith}
+use Rattle.std.proofs.Common.{◌≡◌, ◌≢◌, ◌⊎◌, ℕ, Bool, true, false, inl, inr, List, [], ◌++◌, length, take, drop, Result, Ok, Err, MatchResult, is_ok, refl, sym, ap₂, subst, arith}
 use Rattle.std.proofs.lemmas.List.{take-append-drop, length-drop}
 use Rattle.raw_region.specs.Device.{Took, Taken, Writes, taken_since, IsProperPrefix}
 use Rattle.raw_region.specs.Answers.{AddsFront}
@@ -8,56 +8,80 @@ use Rattle.segment_manager.specs.Directory.{Directory}
 use Rattle.segment_manager.specs.State.{StandsFor}
 use Rattle.segment_cli.specs.Session.{IsSaved}
 use Rattle.segment_disk.specs.declared.presence.Making.{Making}
-use Rattle.segment_disk.specs.Events.{Event, Made, Wrote, After, nothing_taken}
-use Rattle.segment_file.specs.Files.{Written, NotMade, Closed, IsCut, WritesImage, all_of}
-
--- all of an image, behind nothing
-pub all_taken : {E : Type 0} (took : Took) (image : List ℕ) → Writes {A = Unit {0}} {E = E} nothing_taken took (Ok tt) image → taken_since nothing_taken took ≡ all_of image
-all_taken took image h = rw (added [] took.bytes image h.ok, h.counted) refl
+use Rattle.segment_disk.specs.declared.presence.Making.TheVariants.{New, Emptied, Beside}
+use Rattle.segment_disk.specs.Events.{Event, Made, Wrote, Discarded, After, nothing_taken}
+use Rattle.segment_file.specs.Files.{Written, NotMade, Closed, Offered, IsPart, IsUnwritten, FillsFile, WritesImage, all_of, placing, whole}
 
 front_taken : (new image : List ℕ) → AddsFront [] new image → IsProperPrefix (drop (length nothing_taken.bytes) new) image
 front_taken new image h =
     let parts : image ≡ take h.count image ++ drop h.count image = sym (take-append-drop h.count image) in
     (drop h.count image, rw (added [] new (take h.count image) h.added) parts, let more = length-drop h.count image in omega (arith, h.fewer))
 
-module _ {D E : Type 0} (step : D → Event → D → Type 0) (old : D) (how : Making) (path image : List ℕ) where
-  pub not_made : (new : D) (e : E) → step old (Made how path false) new → WritesImage {E = E} step old new how path image (Err e)
-  not_made new e asked = record { written = NotMade; asked = (new, asked, refl); fate = inl refl; accepted = λ taken lasts e. absurd (cc) }
+-- ---- a file that is filled
 
-  module _ (good : (d : Directory) → StandsFor image d → IsSaved image d) (made new : D) (lasts : Bool) (took : Took) (asked : step old (Made how path true) made) (closed : step made (Wrote (taken_since nothing_taken took) lasts) new) where
-    pub cut : (e : E) → Writes {A = Unit {0}} {E = E} nothing_taken took (Err e) image → WritesImage {E = E} step old new how path image (Err e)
-    cut e h = record {
-      written = Closed (taken_since nothing_taken took) lasts;
-      asked = (made, asked, (new, closed, refl));
-      accepted = λ t l e. good;
-      fate = inr (inl (record {
-        taken = taken_since nothing_taken took;
-        lasts = lasts;
-        closed = refl;
-        part = front_taken took.bytes image h.err;
-        failed = rw h.counted refl;
-      }));
+module _ {D E : Type 0} (step : D → Event → D → Type 0) (old new : D) (image : List ℕ) (good : (d : Directory) → StandsFor image d → IsSaved image d) (took : Took) where
+  pub cut : (lasts : Bool) (e : E) → step old (Wrote (taken_since nothing_taken took) lasts) new → Writes {A = Unit {0}} {E = E} nothing_taken took (Err e) image
+      → FillsFile {E = E} step old new image (Err e)
+  cut lasts e closed h = record {
+    taken = taken_since nothing_taken took;
+    lasts = lasts;
+    asked = closed;
+    fate = inl (record { part = front_taken took.bytes image h.err; failed = rw h.counted refl });
+    accepted = good;
+  }
+
+-- ---- what became of it
+
+abbrev Fate : {E : Type 0} → Making → List ℕ → Written → Result (Unit {0}) E → Type 0
+Fate how image written result = MatchResult result (λ u. written ≡ whole how image) (λ e. IsUnwritten how image written)
+
+abbrev Filling : {E : Type 0} → List ℕ → Taken → Bool → Result (Unit {0}) E → Type 0
+Filling image taken lasts result = MatchResult result (λ u. (taken ≡ all_of image) × (lasts ≡ true)) (λ e. IsPart image taken ⊎ ((taken ≡ all_of image) × (lasts ≡ false)))
+
+unwritten : (how : Making) (image : List ℕ) (taken : Taken) (lasts : Bool) → IsPart image taken ⊎ ((taken ≡ all_of image) × (lasts ≡ false)) → IsUnwritten how image (Closed taken lasts)
+unwritten how image taken lasts (inl p) = inr (inl (record { taken = taken; lasts = lasts; closed = refl; is_part = p }))
+unwritten how image taken lasts (inr e) = inr (inr (inl (ap₂ Closed e.0 e.1)))
+
+module _ {E : Type 0} (image : List ℕ) (taken : Taken) (lasts : Bool) where
+  fate-new : (result : Result (Unit {0}) E) → Filling image taken lasts result → Fate New image (Closed taken lasts) result
+  fate-new (Ok u) e = ap₂ Closed e.0 e.1
+  fate-new (Err e) h = unwritten New image taken lasts h
+
+  fate-emptied : (result : Result (Unit {0}) E) → Filling image taken lasts result → Fate Emptied image (Closed taken lasts) result
+  fate-emptied (Ok u) e = ap₂ Closed e.0 e.1
+  fate-emptied (Err e) h = unwritten Emptied image taken lasts h
+
+module _ {D E : Type 0} (step : D → Event → D → Type 0) (old made new : D) (path image : List ℕ) where
+  pub not_made : (how : Making) (e : E) → step old (Made how path false) new → WritesImage {E = E} step old new how path image (Err e)
+  not_made how e asked = record { written = NotMade; asked = (new, asked, refl); fate = inl refl; accepted = λ n. absurd (n refl) }
+
+  pub written_here : (how : Making) → how ≢ Beside → step old (Made how path true) made → (result : Result (Unit {0}) E) → FillsFile step made new image result
+      → WritesImage step old new how path image result
+  written_here New n asked result f =
+      record { written = Closed f.taken f.lasts; asked = (made, asked, (new, f.asked, refl)); fate = fate-new image f.taken f.lasts result f.fate; accepted = λ m. f.accepted }
+  written_here Emptied n asked result f =
+      record { written = Closed f.taken f.lasts; asked = (made, asked, (new, f.asked, refl)); fate = fate-emptied image f.taken f.lasts result f.fate; accepted = λ m. f.accepted }
+  written_here Beside n asked result f = absurd (n refl)
+
+  module _ (asked : step old (Made Beside path true) made) (filled : D) where
+    -- the file took not all of the image, or need not last
+    pub dropped : (e e' : E) → FillsFile {E = E} step made filled image (Err e) → step filled (Discarded path) new → WritesImage {E = E} step old new Beside path image (Err e')
+    dropped e e' f gone = record {
+      written = Closed f.taken f.lasts;
+      asked = (made, asked, (filled, f.asked, (new, gone, refl)));
+      fate = unwritten Beside image f.taken f.lasts f.fate;
+      accepted = λ m. f.accepted;
     }
 
-  module _ (good : (d : Directory) → StandsFor image d → IsSaved image d) (made new : D) (took : Took) (asked : step old (Made how path true) made) where
-    pub whole : Writes {A = Unit {0}} {E = E} nothing_taken took (Ok tt) image → step made (Wrote (taken_since nothing_taken took) true) new → WritesImage {E = E} step old new how path image (Ok tt)
-    whole h closed = record {
-      written = Closed (taken_since nothing_taken took) true;
-      asked = (made, asked, (new, closed, refl));
-      accepted = λ t l e. good;
-      fate = ap (λ (t : Taken). Closed t true) (all_taken took image h);
-    }
+    fate-placed : (placed : Result (Unit {0}) E) → Fate Beside image (Offered image (is_ok placed)) placed
+    fate-placed (Ok u) = refl
+    fate-placed (Err e) = inr (inr (inr (record { beside = refl; offered = refl })))
 
-    pub fleeting : (e : E) → Writes {A = Unit {0}} {E = E} nothing_taken took (Ok tt) image → step made (Wrote (taken_since nothing_taken took) false) new → WritesImage {E = E} step old new how path image (Err e)
-    fleeting e h closed = record {
-      written = Closed (taken_since nothing_taken took) false;
-      asked = (made, asked, (new, closed, refl));
-      accepted = λ t l e. good;
-      fate = inr (inr (ap (λ (t : Taken). Closed t false) (all_taken took image h)));
+    pub placed : FillsFile {E = E} step made filled image (Ok tt) → (result : Result (Unit {0}) E) → After step filled (placing path (is_ok result)) new
+        → WritesImage {E = E} step old new Beside path image result
+    placed f result put = record {
+      written = Offered image (is_ok result);
+      asked = (made, asked, (filled, subst (λ (t : Taken). step made (Wrote t true) filled) f.fate.0 (subst (λ (l : Bool). step made (Wrote f.taken l) filled) f.fate.1 f.asked), put));
+      fate = fate-placed result;
+      accepted = λ m. f.accepted;
     }
-
-  -- all of the image was taken, and the disk answers whether it lasts
-  pub whole_or_fleeting : ((d : Directory) → StandsFor image d → IsSaved image d) → (made new : D) (took : Took) (lasting : Result (Unit {0}) E) → step old (Made how path true) made → Writes {A = Unit {0}} {E = E} nothing_taken took (Ok tt) image
-      → step made (Wrote (taken_since nothing_taken took) (is_ok lasting)) new → WritesImage {E = E} step old new how path image lasting
-  whole_or_fleeting good made new took (Ok u) asked h closed = whole good made new took asked h closed
-  whole_or_fleeting good made new took (Err e) asked h closed = fleeting good made new took asked e h closed

@@ -1,11 +1,12 @@
 -- How the file of an image is read, and how it is written.
-use Rattle.std.specs.Prelude.{◌≡◌, ◌⊎◌, Bool, true, false, List, [], ◌∷◌, ℕ, Result, MatchResult}
-use Rattle.raw_region.specs.Device.{Given, Took, Taken, IsProperPrefix}
+use Rattle.std.specs.Prelude.{◌≡◌, ◌≢◌, ◌⊎◌, Bool, true, false, List, [], ◌∷◌, ℕ, Result, MatchResult}
+use Rattle.raw_region.specs.Device.{Given, Taken, IsProperPrefix}
 use Rattle.segment_manager.specs.Directory.{Directory}
 use Rattle.segment_manager.specs.State.{StandsFor}
 use Rattle.segment_cli.specs.Session.{IsSaved}
 use Rattle.segment_disk.specs.declared.presence.Making.{Making}
-use Rattle.segment_disk.specs.Events.{Event, Opened, Read, Made, Wrote, After}
+use Rattle.segment_disk.specs.declared.presence.Making.TheVariants.{New, Emptied, Beside}
+use Rattle.segment_disk.specs.Events.{Event, Opened, Read, Made, Wrote, Placed, Discarded, After}
 
 -- ---- a file that is read
 
@@ -19,35 +20,76 @@ does_not_open path = Opened path false ∷ []
 
 -- ---- a file that is written
 
--- what became of it: it could not be made or emptied, or it took something and was closed, and all that it took lasts or need not
-pub data Written : Type 0 where
-  NotMade : Written
-  Closed : Taken → Bool → Written
-
-abbrev pub writes : Making → List ℕ → Written → List Event
-writes how path NotMade = Made how path false ∷ []
-writes how path (Closed taken lasts) = Made how path true ∷ Wrote taken lasts ∷ []
-
 -- all of an image
 abbrev pub all_of : List ℕ → Taken
 all_of image = record { bytes = image; failed = false }
+
+-- What became of it: it could not be made or emptied; it took something and was closed, and all that it took lasts or need not;
+-- or, made beside the old one, it took all of an image, which lasts, and was put in the place of the old one, or need not have been.
+pub data Written : Type 0 where
+  NotMade : Written
+  Closed : Taken → Bool → Written
+  Offered : List ℕ → Bool → Written
+
+-- a file that was made beside another and did not take its place is removed
+abbrev pub leaving : Making → List ℕ → List Event
+leaving New path = []
+leaving Emptied path = []
+leaving Beside path = Discarded path ∷ []
+
+abbrev pub placing : List ℕ → Bool → List Event
+placing path true = Placed path true ∷ []
+placing path false = Placed path false ∷ Discarded path ∷ []
+
+abbrev pub writes : Making → List ℕ → Written → List Event
+writes how path NotMade = Made how path false ∷ []
+writes how path (Closed taken lasts) = Made how path true ∷ Wrote taken lasts ∷ leaving how path
+writes how path (Offered image placed) = Made how path true ∷ Wrote (all_of image) true ∷ placing path placed
+
+-- the whole image is in the file, and lasts
+abbrev pub whole : Making → List ℕ → Written
+whole New image = Closed (all_of image) true
+whole Emptied image = Closed (all_of image) true
+whole Beside image = Offered image true
+
+-- writing failed, and not all of the image was taken
+pub record IsPart (image : List ℕ) (taken : Taken) : Type 0 where
+  pub part : IsProperPrefix taken.bytes image
+  pub failed : taken.failed ≡ true
 
 -- the file took not all of the image, since writing failed
 pub record IsCut (image : List ℕ) (written : Written) : Type 0 where
   pub taken : Taken
   pub lasts : Bool
   pub closed : written ≡ Closed taken lasts
-  pub part : IsProperPrefix taken.bytes image
-  pub failed : taken.failed ≡ true
+  pub is_part : IsPart image taken
 
--- why a file has not an image that lasts: it was not made or emptied, it took not all of it, or all of it need not last
-abbrev pub IsUnwritten : List ℕ → Written → Type 0
-IsUnwritten image written = (written ≡ NotMade) ⊎ (IsCut image written ⊎ (written ≡ Closed (all_of image) false))
+-- all of the image lasts beside the old file, whose place it need not have taken
+pub record IsUnplaced (how : Making) (image : List ℕ) (written : Written) : Type 0 where
+  pub beside : how ≡ Beside
+  pub offered : written ≡ Offered image false
+
+-- why a file has not an image that lasts: it was not made or emptied, it took not all of it, all of it need not last, or did not
+-- take the place of the old file
+abbrev pub IsUnwritten : Making → List ℕ → Written → Type 0
+IsUnwritten how image written = (written ≡ NotMade) ⊎ (IsCut image written ⊎ ((written ≡ Closed (all_of image) false) ⊎ IsUnplaced how image written))
+
+-- a file that was open for writing took an image and was closed; Ok says that it took all of it, and that this lasts
+pub record FillsFile {D E : Type 0} (step : D → Event → D → Type 0) (old new : D) (image : List ℕ) (result : Result (Unit {0}) E) : Type 0 where
+  pub taken : Taken
+  pub lasts : Bool
+  pub asked : step old (Wrote taken lasts) new
+  pub fate : MatchResult result (λ u. (taken ≡ all_of image) × (lasts ≡ true)) (λ e. IsPart image taken ⊎ ((taken ≡ all_of image) × (lasts ≡ false)))
+  pub accepted : (d : Directory) → StandsFor image d → IsSaved image d
 
 -- An image was written to a file, and nothing else was asked of the disk. It is whole there and lasts where the answer is Ok. A
 -- file that was made or emptied was so for an image that a check accepts.
 pub record WritesImage {D E : Type 0} (step : D → Event → D → Type 0) (old new : D) (how : Making) (path image : List ℕ) (result : Result (Unit {0}) E) : Type 0 where
   pub written : Written
   pub asked : After step old (writes how path written) new
-  pub fate : MatchResult result (λ u. written ≡ Closed (all_of image) true) (λ e. IsUnwritten image written)
-  pub accepted : (taken : Taken) (lasts : Bool) → written ≡ Closed taken lasts → (d : Directory) → StandsFor image d → IsSaved image d
+  pub fate : MatchResult result (λ u. written ≡ whole how image) (λ e. IsUnwritten how image written)
+  pub accepted : written ≢ NotMade → (d : Directory) → StandsFor image d → IsSaved image d
+
+-- the same of an image whose file takes the place of the old one
+abbrev pub ReplacesImage : {D E : Type 0} → (D → Event → D → Type 0) → D → D → List ℕ → List ℕ → Result (Unit {0}) E → Type 0
+ReplacesImage step old new path image result = WritesImage step old new Beside path image result

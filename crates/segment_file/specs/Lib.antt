@@ -1,8 +1,11 @@
 pub mod Files
+pub mod Standing
 pub mod Opening
 pub mod Telling
+pub mod Holding
 pub mod Commands
 pub mod Running
 pub mod Resizing
 pub mod Migrating
 pub mod Modes
+pub mod SegmentFiles

@@ -1,16 +1,27 @@
 -- How the segment of a file is opened.
-use Rattle.std.specs.Prelude.{◌≡◌, ◌⊎◌, ◌≤◌, ℕ, List, Result, Err}
-use Rattle.raw_region.specs.Device.{Given}
+use Rattle.std.specs.Prelude.{◌≡◌, ◌⊎◌, ◌≤◌, ℕ, true, List, Result, Err, length}
+use Rattle.raw_region.specs.Device.{Gave, Given}
 use Rattle.segment_manager.specs.declared.modes.Mode.{Mode}
 use Rattle.segment_manager.specs.State.{State}
 use Rattle.segment_cli.specs.declared.faults.SessionFault.{SessionFault}
-use Rattle.segment_cli.specs.declared.faults.SessionFault.TheVariants.{OutOfMemory, ReadFault}
+use Rattle.segment_cli.specs.declared.faults.SessionFault.TheVariants.{Image as Refused, OutOfMemory, ReadFault, RegionTooSmall}
+use Rattle.image_check.specs.declared.classes.ImageClass.TheVariants.{Truncated}
 use Rattle.segment_cli.specs.declared.faults.Start.{Start}
 use Rattle.segment_cli.specs.declared.faults.Start.TheVariants.{Image}
 use Rattle.segment_cli.specs.Beginning.{Starts}
 use Rattle.segment_cli.specs.Session.{IsUntouched}
 use Rattle.segment_disk.specs.Events.{Event, After}
 use Rattle.segment_file.specs.Files.{opens, does_not_open}
+
+-- a reader ended, and never failed, within so many bytes
+pub record EndsWithin (most : ℕ) (gave : Gave) : Type 0 where
+  pub ended : gave.ended ≡ true
+  pub sound : gave.failures ≡ 0
+  pub few : length gave.bytes ≤ most
+
+-- how an image is told whose size is more than the room for it: it ended within the room, or it has no place there
+abbrev pub IsToldByLength : ℕ → Gave → SessionFault → Type 0
+IsToldByLength room gave fault = ((fault ≡ Refused Truncated) × EndsWithin room gave) ⊎ (fault ≡ RegionTooSmall)
 
 -- memory for a region was refused before the image was read
 pub record IsRegionless (image : Given) (result : Result State SessionFault) : Type 0 where

@@ -4,7 +4,7 @@ use Rattle.raw_region.specs.Device.{Took}
 use Rattle.segment_manager.specs.declared.modes.Mode.TheVariants.{Write}
 use Rattle.segment_manager.specs.Directory.{Directory}
 use Rattle.segment_manager.specs.Resized.{Resizes}
-use Rattle.segment_manager.specs.State.{State, IsReply, StandsFor}
+use Rattle.segment_manager.specs.State.{State, IsReply}
 use Rattle.segment_manager.specs.Answers.{Number}
 use Rattle.seg_types.specs.Commands.{Size}
 use Rattle.grow_shrink.specs.declared.refusals.GrowError.{GrowError}

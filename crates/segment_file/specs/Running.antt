@@ -16,11 +16,12 @@ use Rattle.segment_cli.specs.declared.program_faults.ProgramFault.TheVariants.{E
 use Rattle.segment_cli.specs.Beginning.{run_fault}
 use Rattle.segment_cli.specs.Session.{IsSession}
 use Rattle.segment_disk.specs.declared.presence.Making.{Making}
-use Rattle.segment_disk.specs.declared.presence.Making.TheVariants.{New, Emptied}
+use Rattle.segment_disk.specs.declared.presence.Making.TheVariants.{New, Beside}
 use Rattle.segment_disk.specs.declared.presence.Presence.{Presence}
 use Rattle.segment_disk.specs.declared.presence.Presence.TheVariants.{Absent, There}
 use Rattle.segment_disk.specs.Events.{Event, Looked, After}
-use Rattle.segment_file.specs.Files.{Written, NotMade, Closed, writes, all_of, opens}
+use Rattle.segment_file.specs.Files.{Written, NotMade, Closed, Offered, writes, whole, all_of, opens}
+use Rattle.segment_file.specs.Holding.{Holds}
 use Rattle.segment_file.specs.Opening.{OpensFile}
 use Rattle.segment_file.specs.Commands.{MakesSegment}
 
@@ -63,9 +64,9 @@ pub record Act : Type 0 where
 abbrev pub Ran : Act → Taken → Result (Unit {0}) SessionFault → Type 0
 Ran act saved result = IsSession act.start act.mode 0 act.capacity (record { image = act.image; script = act.script; out = act.out; saved = saved }) result
 
--- what a run asks of the disk that saved this: in mode Write its file is made or emptied and takes it, and else nothing
+-- what a run asks of the disk that saved this: in mode Write its file is made, emptied or replaced and takes it, and else nothing
 abbrev pub saving : Mode → Making → List ℕ → List ℕ → List Event
-saving Write how path image = writes how path (Closed (all_of image) true)
+saving Write how path image = writes how path (whole how image)
 saving ReadOnly how path image = []
 saving CopyOnWrite how path image = []
 
@@ -92,10 +93,12 @@ module _ {D : Type 0} (step : D → Event → D → Type 0) (old new : D) (how :
     pub read : act.script.failed ≡ false
     pub flushed : Flushed false
 
-  -- why the image is not in the file or need not last: it could not be made or emptied, writing it failed, or all of it was written
+  -- why the image is not in the file or need not last: it could not be made or emptied, writing it failed, or all of it was
+  -- written and need not last, or did not take the place of the old one
   abbrev pub IsUnsavedFor : Written → Type 0
   IsUnsavedFor NotMade = act.script.ended ≡ true
   IsUnsavedFor (Closed taken lasts) = Ran act taken (Err WriteFault) ⊎ ((lasts ≡ false) × Ran act taken (Ok tt))
+  IsUnsavedFor (Offered image placed) = (how ≡ Beside) × (placed ≡ false) × Ran act (all_of image) (Ok tt)
 
   -- all answers went out, and then the image did not reach its file, or need not last
   pub record IsUnsavedRun (fault : SessionFault) : Type 0 where
@@ -109,16 +112,27 @@ module _ {D : Type 0} (step : D → Event → D → Type 0) (old new : D) (how :
   abbrev pub EndsRun : Result (Unit {0}) SessionFault → Type 0
   EndsRun result = MatchResult result (λ u. IsSavedRun) (λ fault. IsStoppedRun fault ⊎ (IsLostRun fault ⊎ IsUnsavedRun fault))
 
+-- a fault of a session, as the program answers it
+abbrev pub as_program : Result (Unit {0}) SessionFault → Result (Unit {0}) ProgramFault
+as_program (Ok u) = Ok tt
+as_program (Err fault) = Err (Session fault)
+
+-- the program answers as a session did
+pub record IsAnswerOf (runs : Result (Unit {0}) SessionFault → Type 0) (result : Result (Unit {0}) ProgramFault) : Type 0 where
+  pub answer : Result (Unit {0}) SessionFault
+  pub ran : runs answer
+  pub result_is : result ≡ as_program answer
+
 -- ---- the segment of a file
 
-module _ {D : Type 0} (step : D → Event → D → Type 0) (old new : D) (path : List ℕ) (mode : Mode) (script script' : Gave) where
-  -- the script can't be read at all, and the disk was not asked for anything
-  pub record IsScriptless {O : Type 0} (out out' : O) (result : Result (Unit {0}) SessionFault) : Type 0 where
-    pub asked : new ≡ old
-    pub failed : script'.failures ≡ script.failures + 1
-    pub silent : out' ≡ out
-    pub refused : result ≡ Err ReadFault
+-- the script can't be read at all, and the disk was not asked for anything
+pub record IsScriptless {D O : Type 0} (old new : D) (script script' : Gave) (out out' : O) (result : Result (Unit {0}) ProgramFault) : Type 0 where
+  pub asked : new ≡ old
+  pub failed : script'.failures ≡ script.failures + 1
+  pub silent : out' ≡ out
+  pub refused : result ≡ Err (Session ReadFault)
 
+module _ {D : Type 0} (step : D → Event → D → Type 0) (old new : D) (path : List ℕ) (mode : Mode) (how : Making) (script script' : Gave) where
   -- the file has no segment, for this reason; the script was not asked for
   pub record IsUnopenedRun {O : Type 0} (out out' : O) (result : Result (Unit {0}) SessionFault) : Type 0 where
     pub fault : SessionFault
@@ -133,19 +147,33 @@ module _ {D : Type 0} (step : D → Event → D → Type 0) (old new : D) (path 
     pub capacity : ℕ
     pub read : D
     pub asked : After step old (opens path image) read
-    pub ends : EndsRun step read new Emptied path
+    pub ends : EndsRun step read new how path
         (record { start = Image; mode = mode; capacity = capacity; image = image; script = given_since script script'; out = taken_since (history out) (history out') })
         flushes result
 
-  abbrev pub RunsFile : {O : Type 0} → (O → Took) → (Bool → Type 0) → O → O → Result (Unit {0}) SessionFault → Type 0
-  RunsFile history flushes out out' result = IsScriptless out out' result ⊎ (IsUnopenedRun out out' result ⊎ IsOpenedRun history flushes out out' result)
+  abbrev pub RunsOpened : {O : Type 0} → (O → Took) → (Bool → Type 0) → O → O → Result (Unit {0}) SessionFault → Type 0
+  RunsOpened history flushes out out' result = IsUnopenedRun out out' result ⊎ IsOpenedRun history flushes out out' result
+
+module _ {D O : Type 0} (step : D → Event → D → Type 0) (old new : D) (path : List ℕ) (how : Making) (script script' : Gave) (history : O → Took) (flushes : Bool → Type 0) (out out' : O) (result : Result (Unit {0}) ProgramFault) where
+  -- a run that saves nothing
+  abbrev pub RunsFree : Mode → Type 0
+  RunsFree mode = IsAnswerOf (RunsOpened step old new path mode how script script' history flushes out out') result
+
+  -- a run that saves has the right to write the file from before it is read until it is written; where another has it, nothing
+  -- was read or said
+  abbrev pub RunsHeld : Type 0
+  RunsHeld = Holds step old new path ((script' ≡ script) × (out' ≡ out))
+      (λ held done. IsAnswerOf (RunsOpened step held done path Write how script script' history flushes out out') result) result
+
+  abbrev pub RunsReadable : Mode → Type 0
+  RunsReadable Write = RunsHeld
+  RunsReadable ReadOnly = RunsFree ReadOnly
+  RunsReadable CopyOnWrite = RunsFree CopyOnWrite
+
+  abbrev pub RunsFile : Mode → Type 0
+  RunsFile mode = IsScriptless old new script script' out out' result ⊎ RunsReadable mode
 
 -- ---- a segment that is made
-
--- a fault of a session, as the program answers it
-abbrev pub as_program : Result (Unit {0}) SessionFault → Result (Unit {0}) ProgramFault
-as_program (Ok u) = Ok tt
-as_program (Err fault) = Err (Session fault)
 
 module _ {D : Type 0} (step : D → Event → D → Type 0) (old new : D) (path : List ℕ) (size : ℕ) (script script' : Gave) where
   -- no segment was made, for this reason: nothing was asked for
@@ -176,23 +204,21 @@ module _ {D : Type 0} (step : D → Event → D → Type 0) (old new : D) (path 
     pub refused : result ≡ Err Exists
 
 -- the path was looked at, where this was found, and then a run went on from there
-pub record IsRunBehind {D : Type 0} (step : D → Event → D → Type 0) (old : D) (path : List ℕ) (IsWhere : Presence → Type 0) (goes_on : D → Result (Unit {0}) SessionFault → Type 0) (result : Result (Unit {0}) ProgramFault) : Type 0 where
+pub record IsRunBehind {D : Type 0} (step : D → Event → D → Type 0) (old : D) (path : List ℕ) (IsWhere : Presence → Type 0) (goes_on : D → Type 0) : Type 0 where
   pub found : Presence
   pub is : IsWhere found
   pub looked : D
   pub asked : step old (Looked path found) looked
-  pub answer : Result (Unit {0}) SessionFault
-  pub goes : goes_on looked answer
-  pub result_is : result ≡ as_program answer
+  pub goes : goes_on looked
 
 -- a run on a segment that is made, in a file that is not there
 abbrev pub RunsNewFile : {D O : Type 0} → (D → Event → D → Type 0) → D → D → List ℕ → ℕ → Gave → Gave → (O → Took) → (Bool → Type 0) → O → O → Result (Unit {0}) ProgramFault → Type 0
 RunsNewFile step old new path size script script' history flushes out out' result =
     IsTakenRun step old new path size script script' out out' result
-    ⊎ IsRunBehind step old path (λ found. found ≢ There) (λ looked answer. MakesRun step looked new path size script script' history flushes out out' answer) result
+    ⊎ IsRunBehind step old path (λ found. found ≢ There) (λ looked. IsAnswerOf (MakesRun step looked new path size script script' history flushes out out') result)
 
 -- the same, or on the segment in the file where something is there
-abbrev pub RunsAnyFile : {D O : Type 0} → (D → Event → D → Type 0) → D → D → List ℕ → ℕ → Gave → Gave → (O → Took) → (Bool → Type 0) → O → O → Result (Unit {0}) ProgramFault → Type 0
-RunsAnyFile step old new path size script script' history flushes out out' result =
-    IsRunBehind step old path (λ found. found ≡ Absent) (λ looked answer. MakesRun step looked new path size script script' history flushes out out' answer) result
-    ⊎ IsRunBehind step old path (λ found. found ≢ Absent) (λ looked answer. RunsFile step looked new path Write script script' history flushes out out' answer) result
+abbrev pub RunsAnyFile : {D O : Type 0} → (D → Event → D → Type 0) → D → D → List ℕ → ℕ → Making → Gave → Gave → (O → Took) → (Bool → Type 0) → O → O → Result (Unit {0}) ProgramFault → Type 0
+RunsAnyFile step old new path size how script script' history flushes out out' result =
+    IsRunBehind step old path (λ found. found ≡ Absent) (λ looked. IsAnswerOf (MakesRun step looked new path size script script' history flushes out out') result)
+    ⊎ IsRunBehind step old path (λ found. found ≢ Absent) (λ looked. RunsFile step looked new path how script script' history flushes out out' result Write)

@@ -3,19 +3,31 @@
 
 mod answering;
 mod checking;
+mod counting;
 mod creating;
+mod cutting;
+mod enlarging;
+mod file_errors;
+mod file_steps;
 mod migrating;
 mod modes;
 mod opening;
 mod regions;
 mod resizing;
 mod running;
+mod segment_files;
 mod telling;
+mod theorems;
 mod writing;
 
 pub use checking::check;
 pub use creating::create;
+pub use file_errors::FileError;
 pub use migrating::migrate;
 pub use modes::run;
 pub use resizing::{grow, shrink};
 pub use running::{run_in_new_file, run_on_file, run_on_file_or_new};
+pub use segment_files::SegmentFile;
+pub use theorems::{
+    emptying_tears, replacing_keeps_one_whole, saving_ends_whole, unplaced_leaves_the_old,
+};

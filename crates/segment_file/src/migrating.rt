@@ -1,32 +1,17 @@
 //! The command that writes an image of an older format anew in its file.
 ghost use Rattle.std.specs.Prelude.{◌≡◌, ◌^◌, ◌-◌, ◌<◌};
-ghost use Rattle.raw_region.specs.Device.{given_since};
-ghost use Rattle.segment_file.specs.Migrating.{BeginsAny, IsMigrate, OpensAnyFile};
+ghost use Rattle.segment_file.specs.Holding.{Holds};
+ghost use Rattle.segment_file.specs.Migrating.{IsMigrate, OpensAnyFile};
 
 use crate::creating::WRITE_FAULT;
-use crate::regions::{bytes_needed, region_for};
+use crate::cutting::begin_any_from;
+use crate::regions::room_needed;
 use crate::telling::tell;
 use crate::writing::write_image;
-use image_check::open_any;
-use raw_region::{Source, Steps};
 use segment_cli::{ProgramFault, SessionFault};
 use segment_disk::{Disk, Making, Opened, Output};
-use segment_manager::{Mode, Segment};
+use segment_manager::Segment;
 use std::alloc::Global;
-
-/// The segment of an image of any of the three formats, at the front of a region with room for so many bytes.
-fn begin_any<S: Source>(alloc: Global, reader: &mut S, bytes: u64) -> Result<Segment, SessionFault>
-    requires { (S.history reader.old).failures < 2 ^ 64 - 1 }
-    ensures { BeginsAny (given_since (S.history reader.old) (S.history reader.new)) result }
-{
-    let Ok(region) = region_for(alloc, bytes) else {
-        return Err(SessionFault::OutOfMemory);
-    };
-    match open_any(alloc, reader, region, 0, Mode::Write, &mut Steps::new()) {
-        Ok(segment) => Ok(segment),
-        Err(refused) => Err(SessionFault::from(refused)),
-    }
-}
 
 /// The segment of the image in a file, of any of the three formats. The file is closed.
 fn open_any_segment<D: Disk>(
@@ -39,23 +24,14 @@ fn open_any_segment<D: Disk>(
     let Ok(opened) = disk.open(path) else {
         return Err(SessionFault::ReadFault);
     };
-    let Opened {
-        mut reader,
-        len,
-        front,
-    } = opened;
-    let begun = begin_any(alloc, &mut reader, bytes_needed(len, &front));
+    let Opened { reader, len, front } = opened;
+    let (begun, reader) = begin_any_from(alloc, reader, room_needed(len, &front, 0));
     disk.close(reader);
     begun
 }
 
-/// Writes the segment in a file by the current format, whichever of the three it has, and then says `ok`.
-///
-/// # Errors
-///
-/// Why the image is refused, `ReadFault` where the file can't be read, and `OutOfMemory`: the file is as it was. `WriteFault`
-/// where it can't be emptied, takes not the whole image, or need not last, and where the output fails behind it.
-pub fn migrate<D: Disk, O: Output>(
+/// What [`migrate`] does with the right to write the file.
+fn migrate_held<D: Disk, O: Output>(
     alloc: Global,
     disk: &mut D,
     path: &str,
@@ -72,4 +48,29 @@ pub fn migrate<D: Disk, O: Output>(
         },
         Err(_) => Err(WRITE_FAULT),
     }
+}
+
+/// Writes the segment in a file by the current format, whichever of the three it has, and then says `ok`.
+///
+/// # Errors
+///
+/// Why the image is refused, `ReadFault` where the file can't be read, `OutOfMemory`, and `InUse` where another has the right to
+/// write it: the file is as it was. `WriteFault` where it can't be emptied, takes not the whole image, or need not last, and
+/// where the output fails behind it.
+pub fn migrate<D: Disk, O: Output>(
+    alloc: Global,
+    disk: &mut D,
+    path: &str,
+    out: &mut O,
+) -> Result<(), ProgramFault>
+    requires { (O.history out.old).failures < 2 ^ 64 - 1 }
+    ensures { Holds D.step disk.old disk.new path.now (out.new ≡ out.old)
+        (λ held done. IsMigrate D.step held done path.now O.history O.flushes out.old out.new result) result }
+{
+    let Ok(hold) = disk.hold(path) else {
+        return Err(ProgramFault::InUse);
+    };
+    let answer = migrate_held(alloc, disk, path, out);
+    disk.release(hold);
+    answer
 }

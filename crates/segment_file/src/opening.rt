@@ -3,7 +3,8 @@ ghost use Rattle.std.specs.Prelude.{◌≡◌, ◌^◌, ◌-◌, ◌<◌};
 ghost use Rattle.raw_region.specs.Device.{given_since};
 ghost use Rattle.segment_file.specs.Opening.{BeginsIn, OpensFile};
 
-use crate::regions::{bytes_needed, region_for};
+use crate::cutting::begin_from;
+use crate::regions::{region_for, room_needed};
 use raw_region::Source;
 use segment_cli::{SessionFault, Start, begin};
 use segment_disk::{Disk, Opened};
@@ -40,13 +41,9 @@ pub(crate) fn open_segment<D: Disk>(
     let Ok(opened) = disk.open(path) else {
         return Err(SessionFault::ReadFault);
     };
-    let Opened {
-        mut reader,
-        len,
-        front,
-    } = opened;
-    let bytes = bytes_needed(len, &front).saturating_add(more);
-    let begun = begin_in(alloc, Start::Image, mode, &mut reader, bytes);
+    let Opened { reader, len, front } = opened;
+    let room = room_needed(len, &front, more);
+    let (begun, reader) = begin_from(alloc, mode, reader, room);
     disk.close(reader);
     begun
 }

@@ -27,7 +27,15 @@ pub(crate) fn region_for(alloc: Global, bytes: u64) -> Result<RawRegion, OutOfMe
     RawRegion::new(alloc, capacity_for(bytes))
 }
 
-/// How many bytes a file has, or how many its first bytes say that its segment has, if these are more.
-pub(crate) fn bytes_needed(len: u64, front: &[u8; FRONT]) -> u64 {
-    len.max(size_in_any(front).unwrap_or(0))
+/// The room for the segment of a file, with so many bytes more: as many bytes as the file has, or as its first bytes say where
+/// that is not known, and at most those of the largest segment.
+pub(crate) fn room_needed(len: u64, front: &[u8; FRONT], more: u64) -> u64
+    ensures { result ≤ 1073741824 }
+{
+    let bytes = if len == 0 {
+        size_in_any(front).unwrap_or(0)
+    } else {
+        len
+    };
+    bytes.saturating_add(more).min(LARGEST)
 }

@@ -1,6 +1,7 @@
 //! The commands that change the size of the segment in a file.
 ghost use Rattle.std.specs.Prelude.{◌≡◌, ◌^◌, ◌-◌, ◌<◌};
 ghost use Rattle.grow_shrink.specs.Resized.{growth_refusal, grown, room_of, shrink_refusal, shrunk};
+ghost use Rattle.segment_file.specs.Holding.{Holds};
 ghost use Rattle.segment_file.specs.Resizing.{IsResize, TellsAndWrites, TellsSize, size_line};
 ghost use Rattle.segment_file.specs.Telling.{Tells};
 
@@ -49,14 +50,8 @@ fn tell_and_write<D: Disk, O: Output>(
     }
 }
 
-/// Makes the segment in a file larger by `extra` bytes, says its size, and then writes its image to the file, which is emptied
-/// for it when the size went out.
-///
-/// # Errors
-///
-/// Those of opening it; `Growth` where it does not grow; `WriteFault` where the size does not go out, or the file can't be
-/// emptied, takes not the whole image, or need not last.
-pub fn grow<D: Disk, O: Output>(
+/// What [`grow`] does with the right to write the file.
+fn grow_held<D: Disk, O: Output>(
     alloc: Global,
     disk: &mut D,
     path: &str,
@@ -69,6 +64,54 @@ pub fn grow<D: Disk, O: Output>(
 {
     let mut segment = open_segment(alloc, disk, path, Mode::Write, extra)?;
     match grow_shrink::grow(&mut segment, extra) {
+        Ok(()) => match tell_and_write(disk, path, &segment, out) {
+            Ok(()) => Ok(()),
+            Err(_) => Err(WRITE_FAULT),
+        },
+        Err(error) => Err(ProgramFault::Growth(error)),
+    }
+}
+
+/// Makes the segment in a file larger by `extra` bytes, says its size, and then writes its image to the file, which is emptied
+/// for it when the size went out.
+///
+/// # Errors
+///
+/// Those of opening it; `Growth` where it does not grow; `WriteFault` where the size does not go out, or the file can't be
+/// emptied, takes not the whole image, or need not last. `InUse` where another has the right to write the file.
+pub fn grow<D: Disk, O: Output>(
+    alloc: Global,
+    disk: &mut D,
+    path: &str,
+    extra: u64,
+    out: &mut O,
+) -> Result<(), ProgramFault>
+    requires { (O.history out.old).failures < 2 ^ 64 - 1 }
+    ensures { Holds D.step disk.old disk.new path.now (out.new ≡ out.old)
+        (λ held done. IsResize D.step held done path.now O.history O.flushes out.old out.new
+        (λ s d. growth_refusal s.mode d.size extra (room_of s.cut)) (λ d. grown d extra) result) result }
+{
+    let Ok(hold) = disk.hold(path) else {
+        return Err(ProgramFault::InUse);
+    };
+    let answer = grow_held(alloc, disk, path, extra, out);
+    disk.release(hold);
+    answer
+}
+
+/// What [`shrink`] does with the right to write the file.
+fn shrink_held<D: Disk, O: Output>(
+    alloc: Global,
+    disk: &mut D,
+    path: &str,
+    out: &mut O,
+) -> Result<(), ProgramFault>
+    requires { (O.history out.old).failures < 2 ^ 64 - 1 }
+    ensures { IsResize D.step disk.old disk.new path.now O.history O.flushes out.old out.new
+        (λ s d. shrink_refusal s.mode) (λ d. shrunk d) result }
+{
+    let mut segment = open_segment(alloc, disk, path, Mode::Write, 0)?;
+    match shrink_to_fit(&mut segment) {
         Ok(()) => match tell_and_write(disk, path, &segment, out) {
             Ok(()) => Ok(()),
             Err(_) => Err(WRITE_FAULT),
@@ -90,15 +133,14 @@ pub fn shrink<D: Disk, O: Output>(
     out: &mut O,
 ) -> Result<(), ProgramFault>
     requires { (O.history out.old).failures < 2 ^ 64 - 1 }
-    ensures { IsResize D.step disk.old disk.new path.now O.history O.flushes out.old out.new
-        (λ s d. shrink_refusal s.mode) (λ d. shrunk d) result }
+    ensures { Holds D.step disk.old disk.new path.now (out.new ≡ out.old)
+        (λ held done. IsResize D.step held done path.now O.history O.flushes out.old out.new
+        (λ s d. shrink_refusal s.mode) (λ d. shrunk d) result) result }
 {
-    let mut segment = open_segment(alloc, disk, path, Mode::Write, 0)?;
-    match shrink_to_fit(&mut segment) {
-        Ok(()) => match tell_and_write(disk, path, &segment, out) {
-            Ok(()) => Ok(()),
-            Err(_) => Err(WRITE_FAULT),
-        },
-        Err(error) => Err(ProgramFault::Growth(error)),
-    }
+    let Ok(hold) = disk.hold(path) else {
+        return Err(ProgramFault::InUse);
+    };
+    let answer = shrink_held(alloc, disk, path, out);
+    disk.release(hold);
+    answer
 }

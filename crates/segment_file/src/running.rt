@@ -1,7 +1,7 @@
 //! The command that runs a script on the segment in a file.
 ghost use Rattle.std.specs.Prelude.{◌≡◌, ◌+◌, ◌^◌, ◌-◌, ◌<◌, true, false};
 ghost use Rattle.segment_disk.specs.Events.{IsFlushed};
-ghost use Rattle.segment_file.specs.Running.{MakesRun, RunsAnyFile, RunsFile, RunsNewFile, as_program};
+ghost use Rattle.segment_file.specs.Running.{MakesRun, RunsAnyFile, RunsFile, RunsHeld, RunsNewFile, RunsOpened, as_program};
 
 use crate::answering::answer_and_save;
 use crate::creating::new_segment;
@@ -21,33 +21,79 @@ fn can_be_read<S: Source>(script: &mut S) -> bool
     script.read(&mut []).is_ok()
 }
 
-/// Runs a script on the segment in a file, which is opened in a mode, and gives out its answers. In mode `Write` the file is
-/// then emptied and takes the image; in the other modes nothing is opened for writing.
-///
-/// # Errors
-///
-/// Those of a session. `ReadFault` where the script or the file can't be read, `OutOfMemory`, and `WriteFault` where answers don't
-/// go out, or the file can't be emptied, takes not the whole image, or need not last. It is neither emptied nor changed before
-/// all answers went out.
-pub fn run_on_file<D: Disk, S: Source, O: Output>(
+/// Runs a script on the segment in a file, which is opened in a mode, gives out its answers, and saves it in mode `Write`.
+fn run_opened<D: Disk, S: Source, O: Output>(
     alloc: Global,
     disk: &mut D,
     path: &str,
     mode: Mode,
+    how: Making,
     script: &mut S,
     out: &mut O,
 ) -> Result<(), SessionFault>
     requires script { (S.history script.old).failures < 2 ^ 64 - 1 }
     requires out { (O.history out.old).failures < 2 ^ 64 - 1 }
-    ensures { RunsFile D.step disk.old disk.new path.now mode (S.history script.old) (S.history script.new)
+    ensures { RunsOpened D.step disk.old disk.new path.now mode how (S.history script.old) (S.history script.new)
         O.history (IsFlushed O.history O.flushes out.new) out.old out.new result }
 {
-    if !can_be_read(script) {
-        return Err(SessionFault::ReadFault);
-    }
     match open_segment(alloc, disk, path, mode, 0) {
-        Ok(mut segment) => answer_and_save(disk, path, Making::Emptied, &mut segment, script, out),
+        Ok(mut segment) => answer_and_save(disk, path, how, &mut segment, script, out),
         Err(fault) => Err(fault),
+    }
+}
+
+/// The same in mode `Write`, with the right to write the file.
+fn run_held<D: Disk, S: Source, O: Output>(
+    alloc: Global,
+    disk: &mut D,
+    path: &str,
+    how: Making,
+    script: &mut S,
+    out: &mut O,
+) -> Result<(), ProgramFault>
+    requires script { (S.history script.old).failures < 2 ^ 64 - 1 }
+    requires out { (O.history out.old).failures < 2 ^ 64 - 1 }
+    ensures { RunsHeld D.step disk.old disk.new path.now how (S.history script.old) (S.history script.new)
+        O.history (IsFlushed O.history O.flushes out.new) out.old out.new result }
+{
+    let Ok(hold) = disk.hold(path) else {
+        return Err(ProgramFault::InUse);
+    };
+    let answer = run_opened(alloc, disk, path, Mode::Write, how, script, out);
+    disk.release(hold);
+    answered(answer)
+}
+
+/// Runs a script on the segment in a file, which is opened in a mode, and gives out its answers. In mode `Write` the file is
+/// then emptied, or replaced, and takes the image; in the other modes nothing is opened for writing.
+///
+/// # Errors
+///
+/// Those of a session. `ReadFault` where the script or the file can't be read, `OutOfMemory`, and `WriteFault` where answers don't
+/// go out, or the file can't be emptied or replaced, takes not the whole image, or need not last. It is neither emptied nor changed
+/// before all answers went out. `InUse` where another has the right to write the file, in mode `Write` alone; the script is not
+/// read then.
+pub fn run_on_file<D: Disk, S: Source, O: Output>(
+    alloc: Global,
+    disk: &mut D,
+    path: &str,
+    mode: Mode,
+    how: Making,
+    script: &mut S,
+    out: &mut O,
+) -> Result<(), ProgramFault>
+    requires script { (S.history script.old).failures < 2 ^ 64 - 1 }
+    requires out { (O.history out.old).failures < 2 ^ 64 - 1 }
+    ensures { RunsFile D.step disk.old disk.new path.now how (S.history script.old) (S.history script.new)
+        O.history (IsFlushed O.history O.flushes out.new) out.old out.new result mode }
+{
+    if !can_be_read(script) {
+        return Err(ProgramFault::Session(SessionFault::ReadFault));
+    }
+    if mode == Mode::Write {
+        run_held(alloc, disk, path, how, script, out)
+    } else {
+        answered(run_opened(alloc, disk, path, mode, how, script, out))
     }
 }
 
@@ -106,18 +152,19 @@ pub fn run_on_file_or_new<D: Disk, S: Source, O: Output>(
     disk: &mut D,
     path: &str,
     size: u64,
+    how: Making,
     script: &mut S,
     out: &mut O,
 ) -> Result<(), ProgramFault>
     requires script { (S.history script.old).failures < 2 ^ 64 - 1 }
     requires out { (O.history out.old).failures < 2 ^ 64 - 1 }
-    ensures { RunsAnyFile D.step disk.old disk.new path.now size (S.history script.old) (S.history script.new)
+    ensures { RunsAnyFile D.step disk.old disk.new path.now size how (S.history script.old) (S.history script.new)
         O.history (IsFlushed O.history O.flushes out.new) out.old out.new result }
 {
     if disk.look(path) == Presence::Absent {
         return answered(run_made(alloc, disk, path, size, script, out));
     }
-    answered(run_on_file(alloc, disk, path, Mode::Write, script, out))
+    run_on_file(alloc, disk, path, Mode::Write, how, script, out)
 }
 
 /// What a run answered, as the program answers it.

@@ -1,12 +1,78 @@
 //! The writing of an image to a file.
-ghost use Rattle.segment_file.specs.Files.{WritesImage};
+ghost use Rattle.std.specs.Prelude.{◌≡◌, ◌≢◌, is_ok};
+ghost use Rattle.segment_disk.specs.declared.presence.Making.TheVariants.{Beside};
+ghost use Rattle.segment_disk.specs.Events.{After, nothing_taken};
+ghost use Rattle.segment_file.specs.Files.{FillsFile, ReplacesImage, WritesImage, placing};
 
 use raw_region::DeviceFault;
 use segment_cli::save;
 use segment_disk::{Disk, Making};
 use segment_manager::Segment;
 
-/// Makes or empties a file, writes the image of a segment to it and closes it. A check of the image accepts it.
+/// Writes the image of a segment to a file that took nothing yet, and closes it.
+fn fill<D: Disk>(disk: &mut D, mut writer: D::Writer, segment: &Segment) -> Result<(), DeviceFault>
+    requires { D.Writer.history writer ≡ nothing_taken }
+    ensures { FillsFile D.step disk.old disk.new segment.now.cut.bytes result }
+{
+    let saved = save(segment, &mut writer);
+    let lasting = disk.finish(writer);
+    match saved {
+        Ok(()) => lasting,
+        Err(fault) => Err(fault),
+    }
+}
+
+/// Makes or empties a file, writes the image of a segment to it and closes it.
+fn write_here<D: Disk>(
+    disk: &mut D,
+    path: &str,
+    how: Making,
+    segment: &Segment,
+) -> Result<(), DeviceFault>
+    requires { how ≢ Beside }
+    ensures { WritesImage D.step disk.old disk.new how path.now segment.now.cut.bytes result }
+{
+    match disk.make(path, how) {
+        Ok(writer) => fill(disk, writer, segment),
+        Err(fault) => Err(fault),
+    }
+}
+
+/// Puts the file that was made beside another in its place, or removes it.
+fn put_in_place<D: Disk>(disk: &mut D, path: &str) -> Result<(), DeviceFault>
+    ensures { After D.step disk.old (placing path.now (is_ok result)) disk.new }
+{
+    match disk.place(path) {
+        Ok(()) => Ok(()),
+        Err(fault) => {
+            disk.discard(path);
+            Err(fault)
+        }
+    }
+}
+
+/// Writes the image of a segment to a file that is made beside the old one, closes it, and puts it in the place of the old one.
+/// Where that fails, the new file is removed, if it can be.
+pub(crate) fn replace_image<D: Disk>(
+    disk: &mut D,
+    path: &str,
+    segment: &Segment,
+) -> Result<(), DeviceFault>
+    ensures { ReplacesImage D.step disk.old disk.new path.now segment.now.cut.bytes result }
+{
+    let Ok(writer) = disk.make(path, Making::Beside) else {
+        return Err(DeviceFault);
+    };
+    match fill(disk, writer, segment) {
+        Ok(()) => put_in_place(disk, path),
+        Err(fault) => {
+            disk.discard(path);
+            Err(fault)
+        }
+    }
+}
+
+/// Writes the image of a segment to a file that is made, emptied or replaced for it. A check of the image accepts it.
 pub(crate) fn write_image<D: Disk>(
     disk: &mut D,
     path: &str,
@@ -15,13 +81,9 @@ pub(crate) fn write_image<D: Disk>(
 ) -> Result<(), DeviceFault>
     ensures { WritesImage D.step disk.old disk.new how path.now segment.now.cut.bytes result }
 {
-    let Ok(mut writer) = disk.make(path, how) else {
-        return Err(DeviceFault);
-    };
-    let saved = save(segment, &mut writer);
-    let lasting = disk.finish(writer);
-    match saved {
-        Ok(()) => lasting,
-        Err(fault) => Err(fault),
+    if how == Making::Beside {
+        replace_image(disk, path, segment)
+    } else {
+        write_here(disk, path, how, segment)
     }
 }

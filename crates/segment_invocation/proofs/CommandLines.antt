@@ -8,9 +8,11 @@ use Rattle.clap.specs.Walk.{Text, nothing_held, stop_after}
 use Rattle.clap.specs.Simple.{built, entered, is_simple, names_of, subcommand_of}
 use Rattle.clap.specs.Takes.{built_takes, takes}
 use Rattle.segment_lang.specs.Words.{between, is_digit, is_numeral, number_after, number_of}
-use Rattle.segment_invocation.specs.Invocations.{Asked, create, run, check, grow, shrink, migrate, IsModePart, IsSizePart, IsWritten, asked_in, asked_of, command_line, is_path, mode_called, mode_word, run_sized, wants_size}
+use Rattle.segment_invocation.specs.Invocations.{Asked, create, run, check, grow, shrink, migrate, IsModePart, IsSizePart, IsWritten, asked_in, asked_of, command_line, is_path, mode_called, mode_word, run_sized, saving_part, wants_size}
 use Rattle.segment_invocation.specs.declared.invocations.ModeName.{ModeName}
 use Rattle.segment_invocation.specs.declared.invocations.ModeName.TheVariants.{CreateOnly, OpenOnly, OpenOrCreate, OpenReadOnly, OpenCopyOnWrite}
+use Rattle.segment_invocation.specs.declared.invocations.Saving.{Saving}
+use Rattle.segment_invocation.specs.declared.invocations.Saving.TheVariants.{InPlace, Replacing}
 use Rattle.segment_invocation.proofs.PlainWords.{IsPlain}
 use Rattle.segment_invocation.proofs.Leaves.{file-passes, file-rows, number-passes, number-rows, run-both, run-file, run-mode, run-size}
 
@@ -99,59 +101,78 @@ behind-migrate f p = record {
 }
 
 -- a run in a mode, with a size where it wants one
-abbrev in_mode : Text → ModeName → Option ℕ → Option Asked
-in_mode f mode size = option_and_then (λ m. run_sized f m size) (mode_called (mode_word mode))
+abbrev in_mode : Text → ModeName → Saving → Option ℕ → Option Asked
+in_mode f mode saving size = option_and_then (λ m. run_sized f m saving size) (mode_called (mode_word mode))
 
-mode-asks : (f : Text) (mode : ModeName) (size : Option ℕ) (a : Asked) → run_sized f mode size ≡ Some a → in_mode f mode size ≡ Some a
-mode-asks f mode size a h = ap (option_and_then (λ m. run_sized f m size)) (called mode) ∙ h
+mode-asks : (f : Text) (mode : ModeName) (saving : Saving) (size : Option ℕ) (a : Asked) → run_sized f mode saving size ≡ Some a → in_mode f mode saving size ≡ Some a
+mode-asks f mode saving size a h = ap (option_and_then (λ m. run_sized f m saving size)) (called mode) ∙ h
 
-unsized : (f : Text) (mode : ModeName) → wants_size mode ≡ false → run_sized f mode None ≡ Some (run f mode None)
-unsized f mode h = rw h refl
+unsized : (f : Text) (mode : ModeName) (saving : Saving) → wants_size mode ≡ false → run_sized f mode saving None ≡ Some (run f mode None saving)
+unsized f mode saving h = rw h refl
 
-behind-run : (f : Text) → IsPlain f → Behind (codes "run" ∷ f ∷ []) (run f OpenOnly None)
+behind-run : (f : Text) (saving : Saving) → IsPlain f → Behind (codes "run" ∷ f ∷ saving_part saving) (run f OpenOnly None saving)
 unfolding clap_on_literals
-behind-run f p = record {
-  takes = ap (λ b. b && true) (run-file f p).passes;
-  asks = ap (asked_in (codes "run")) (run-file f p).found;
+behind-run f InPlace p = record {
+  takes = ap (λ b. b && true) (run-file f InPlace p).passes;
+  asks = ap (asked_in (codes "run")) (run-file f InPlace p).found;
+}
+behind-run f Replacing p = record {
+  takes = ap (λ b. b && true) (run-file f Replacing p).passes;
+  asks = ap (asked_in (codes "run")) (run-file f Replacing p).found;
 }
 
-behind-mode : (f : Text) (mode : ModeName) → IsPlain f → wants_size mode ≡ false → Behind (codes "run" ∷ f ∷ codes "--mode" ∷ mode_word mode ∷ []) (run f mode None)
+behind-mode : (f : Text) (mode : ModeName) (saving : Saving) → IsPlain f → wants_size mode ≡ false
+    → Behind (codes "run" ∷ f ∷ codes "--mode" ∷ mode_word mode ∷ saving_part saving) (run f mode None saving)
 unfolding clap_on_literals
-behind-mode f mode p h = record {
-  takes = ap (λ b. b && true) (run-mode f (mode_word mode) p (mode-plain mode)).passes;
-  asks = ap (asked_in (codes "run")) (run-mode f (mode_word mode) p (mode-plain mode)).found ∙ mode-asks f mode None _ (unsized f mode h);
+behind-mode f mode InPlace p h = record {
+  takes = ap (λ b. b && true) (run-mode f (mode_word mode) InPlace p (mode-plain mode)).passes;
+  asks = ap (asked_in (codes "run")) (run-mode f (mode_word mode) InPlace p (mode-plain mode)).found ∙ mode-asks f mode InPlace None _ (unsized f mode InPlace h);
+}
+behind-mode f mode Replacing p h = record {
+  takes = ap (λ b. b && true) (run-mode f (mode_word mode) Replacing p (mode-plain mode)).passes;
+  asks = ap (asked_in (codes "run")) (run-mode f (mode_word mode) Replacing p (mode-plain mode)).found ∙ mode-asks f mode Replacing None _ (unsized f mode Replacing h);
 }
 
-behind-size : (f d : Text) (n : ℕ) → IsPlain f → number_of d ≡ Some n → Behind (codes "run" ∷ f ∷ codes "--size" ∷ d ∷ []) (run f OpenOnly (Some n))
+behind-size : (f d : Text) (n : ℕ) (saving : Saving) → IsPlain f → number_of d ≡ Some n → Behind (codes "run" ∷ f ∷ codes "--size" ∷ d ∷ saving_part saving) (run f OpenOnly (Some n) saving)
 unfolding clap_on_literals
-behind-size f d n p h = record {
-  takes = ap (λ b. b && true) (run-size f d p (number-plain d n h)).passes;
-  asks = ap (asked_in (codes "run")) (run-size f d p (number-plain d n h)).found ∙ ap (λ o. option_and_then (run_sized f OpenOnly) (option_map Some o)) h;
+behind-size f d n InPlace p h = record {
+  takes = ap (λ b. b && true) (run-size f d InPlace p (number-plain d n h)).passes;
+  asks = ap (asked_in (codes "run")) (run-size f d InPlace p (number-plain d n h)).found ∙ ap (λ o. option_and_then (run_sized f OpenOnly InPlace) (option_map Some o)) h;
+}
+behind-size f d n Replacing p h = record {
+  takes = ap (λ b. b && true) (run-size f d Replacing p (number-plain d n h)).passes;
+  asks = ap (asked_in (codes "run")) (run-size f d Replacing p (number-plain d n h)).found ∙ ap (λ o. option_and_then (run_sized f OpenOnly Replacing) (option_map Some o)) h;
 }
 
-behind-both : (f d : Text) (mode : ModeName) (n : ℕ) → IsPlain f → number_of d ≡ Some n
-    → Behind (codes "run" ∷ f ∷ codes "--mode" ∷ mode_word mode ∷ codes "--size" ∷ d ∷ []) (run f mode (Some n))
+behind-both : (f d : Text) (mode : ModeName) (n : ℕ) (saving : Saving) → IsPlain f → number_of d ≡ Some n
+    → Behind (codes "run" ∷ f ∷ codes "--mode" ∷ mode_word mode ∷ codes "--size" ∷ d ∷ saving_part saving) (run f mode (Some n) saving)
 unfolding clap_on_literals
-behind-both f d mode n p h = record {
-  takes = ap (λ b. b && true) (run-both f (mode_word mode) d p (mode-plain mode) (number-plain d n h)).passes;
-  asks = ap (asked_in (codes "run")) (run-both f (mode_word mode) d p (mode-plain mode) (number-plain d n h)).found
-      ∙ (ap (λ o. option_and_then (λ m. option_and_then (run_sized f m) (option_map Some o)) (mode_called (mode_word mode))) h ∙ mode-asks f mode (Some n) _ refl);
+behind-both f d mode n InPlace p h = record {
+  takes = ap (λ b. b && true) (run-both f (mode_word mode) d InPlace p (mode-plain mode) (number-plain d n h)).passes;
+  asks = ap (asked_in (codes "run")) (run-both f (mode_word mode) d InPlace p (mode-plain mode) (number-plain d n h)).found
+      ∙ (ap (λ o. option_and_then (λ m. option_and_then (run_sized f m InPlace) (option_map Some o)) (mode_called (mode_word mode))) h ∙ mode-asks f mode InPlace (Some n) _ refl);
+}
+behind-both f d mode n Replacing p h = record {
+  takes = ap (λ b. b && true) (run-both f (mode_word mode) d Replacing p (mode-plain mode) (number-plain d n h)).passes;
+  asks = ap (asked_in (codes "run")) (run-both f (mode_word mode) d Replacing p (mode-plain mode) (number-plain d n h)).found
+      ∙ (ap (λ o. option_and_then (λ m. option_and_then (run_sized f m Replacing) (option_map Some o)) (mode_called (mode_word mode))) h ∙ mode-asks f mode Replacing (Some n) _ refl);
 }
 
-behind-options : (f : Text) (modes sizes : List Text) (mode : ModeName) (size : Option ℕ) → IsPlain f → IsModePart modes mode → IsSizePart sizes mode size
-    → Behind (codes "run" ∷ f ∷ modes ++ sizes) (run f mode size)
-behind-options f modes sizes mode None p (inl m) (s, w) = subst (λ ms. Behind (codes "run" ∷ f ∷ ms ++ sizes) (run f mode None)) (sym m)
-    (subst (λ ss. Behind (codes "run" ∷ f ∷ codes "--mode" ∷ mode_word mode ∷ ss) (run f mode None)) (sym s) (behind-mode f mode p w))
-behind-options f modes sizes mode None p (inr (m, o)) (s, w) = subst (λ ms. Behind (codes "run" ∷ f ∷ ms ++ sizes) (run f mode None)) (sym m)
-    (subst (λ ss. Behind (codes "run" ∷ f ∷ ss) (run f mode None)) (sym s) (subst (λ x. Behind (codes "run" ∷ f ∷ []) (run f x None)) (sym o) (behind-run f p)))
-behind-options f modes sizes mode (Some n) p (inl m) (d, h, s) = subst (λ ms. Behind (codes "run" ∷ f ∷ ms ++ sizes) (run f mode (Some n))) (sym m)
-    (subst (λ ss. Behind (codes "run" ∷ f ∷ codes "--mode" ∷ mode_word mode ∷ ss) (run f mode (Some n))) (sym s) (behind-both f d mode n p h))
-behind-options f modes sizes mode (Some n) p (inr (m, o)) (d, h, s) = subst (λ ms. Behind (codes "run" ∷ f ∷ ms ++ sizes) (run f mode (Some n))) (sym m)
-    (subst (λ ss. Behind (codes "run" ∷ f ∷ ss) (run f mode (Some n))) (sym s) (subst (λ x. Behind (codes "run" ∷ f ∷ codes "--size" ∷ d ∷ []) (run f x (Some n))) (sym o) (behind-size f d n p h)))
+behind-options : (f : Text) (modes sizes : List Text) (mode : ModeName) (size : Option ℕ) (saving : Saving) → IsPlain f → IsModePart modes mode → IsSizePart sizes mode size
+    → Behind (codes "run" ∷ f ∷ modes ++ (sizes ++ saving_part saving)) (run f mode size saving)
+behind-options f modes sizes mode None v p (inl m) (s, w) = subst (λ ms. Behind (codes "run" ∷ f ∷ ms ++ (sizes ++ saving_part v)) (run f mode None v)) (sym m)
+    (subst (λ ss. Behind (codes "run" ∷ f ∷ codes "--mode" ∷ mode_word mode ∷ ss ++ saving_part v) (run f mode None v)) (sym s) (behind-mode f mode v p w))
+behind-options f modes sizes mode None v p (inr (m, o)) (s, w) = subst (λ ms. Behind (codes "run" ∷ f ∷ ms ++ (sizes ++ saving_part v)) (run f mode None v)) (sym m)
+    (subst (λ ss. Behind (codes "run" ∷ f ∷ ss ++ saving_part v) (run f mode None v)) (sym s) (subst (λ x. Behind (codes "run" ∷ f ∷ saving_part v) (run f x None v)) (sym o) (behind-run f v p)))
+behind-options f modes sizes mode (Some n) v p (inl m) (d, h, s) = subst (λ ms. Behind (codes "run" ∷ f ∷ ms ++ (sizes ++ saving_part v)) (run f mode (Some n) v)) (sym m)
+    (subst (λ ss. Behind (codes "run" ∷ f ∷ codes "--mode" ∷ mode_word mode ∷ ss ++ saving_part v) (run f mode (Some n) v)) (sym s) (behind-both f d mode n v p h))
+behind-options f modes sizes mode (Some n) v p (inr (m, o)) (d, h, s) = subst (λ ms. Behind (codes "run" ∷ f ∷ ms ++ (sizes ++ saving_part v)) (run f mode (Some n) v)) (sym m)
+    (subst (λ ss. Behind (codes "run" ∷ f ∷ ss ++ saving_part v) (run f mode (Some n) v)) (sym s)
+    (subst (λ x. Behind (codes "run" ∷ f ∷ codes "--size" ∷ d ∷ saving_part v) (run f x (Some n) v)) (sym o) (behind-size f d n v p h)))
 
 behind : (words : List Text) (a : Asked) → IsWritten a words → Behind words a
 behind words (create f n) (p, d, h, e) = subst (λ w. Behind w (create f n)) (sym e) (behind-create f d n (path-plain f p) h)
-behind words (run f mode size) (p, modes, sizes, m, s, e) = subst (λ w. Behind w (run f mode size)) (sym e) (behind-options f modes sizes mode size (path-plain f p) m s)
+behind words (run f mode size saving) (p, modes, sizes, m, s, e) = subst (λ w. Behind w (run f mode size saving)) (sym e) (behind-options f modes sizes mode size saving (path-plain f p) m s)
 behind words (check f) (p, e) = subst (λ w. Behind w (check f)) (sym e) (behind-check f (path-plain f p))
 behind words (grow f n) (p, d, h, e) = subst (λ w. Behind w (grow f n)) (sym e) (behind-grow f d n (path-plain f p) h)
 behind words (shrink f) (p, e) = subst (λ w. Behind w (shrink f)) (sym e) (behind-shrink f (path-plain f p))

@@ -1,13 +1,17 @@
 -- What a parse makes of the words behind each command of the program.
-use Rattle.std.proofs.Common.{◌≡◌, refl, ap, ap₂, ◌∙◌, Bool, true, false, ◌&&◌, List, [], ◌∷◌, Some, None, codes}
+use Rattle.std.proofs.Common.{◌≡◌, refl, ap, ap₂, ◌∙◌, Bool, true, false, ◌&&◌, List, [], ◌∷◌, ◌++◌, Some, None, codes, fold}
 use Rattle.std.specs.List.{list_all}
+use Rattle.std.proofs.lemmas.Bool.{and_parts}
 use Rattle.clap.proofs.OnLiterals.{clap_on_literals}
 use Rattle.clap.specs.Walk.{Row, Rule, Text, Walk, finished, idle, option as waits, nothing_held, rows_after, settled, walk, walk_from, walked}
 use Rattle.clap.specs.Simple.{Shape, built_leaf, inherited}
 use Rattle.clap.specs.Takes.{default_passes, is_valid, level_passes, settle_passes, turn_passes, walk_passes}
 use Rattle.clap.specs.declared.builder.value_parser.Reading.TheVariants as reading
-use Rattle.clap.specs.declared.parser.matches.ValueSource.TheVariants.{CommandLine}
-use Rattle.segment_invocation.specs.Invocations.{file_command, number_command, program, run_command}
+use Rattle.clap.specs.declared.parser.matches.ValueSource.{ValueSource}
+use Rattle.clap.specs.declared.parser.matches.ValueSource.TheVariants.{CommandLine, DefaultValue}
+use Rattle.segment_invocation.specs.Invocations.{file_command, number_command, program, run_command, saving_part}
+use Rattle.segment_invocation.specs.declared.invocations.Saving.{Saving}
+use Rattle.segment_invocation.specs.declared.invocations.Saving.TheVariants.{InPlace, Replacing}
 use Rattle.segment_invocation.proofs.PlainWords.{IsPlain, plain_step, turn-plain, walked-plain}
 
 -- a command as it is built
@@ -139,32 +143,81 @@ two-options f word id v word' id' v' p s t =
           (ap (λ b. b && true) (ap (λ w. turn_passes run_leaf [] (walked run_leaf.rules [] w word') v') one ∙ t.2)))));
     }
 
+-- ---- and the flag behind them
+
+walk-behind : (words : List Text) (w : Walk) (x : Text) → fold (walked run_leaf.rules []) w (words ++ x ∷ []) ≡ walked run_leaf.rules [] (fold (walked run_leaf.rules []) w words) x
+walk-behind [] w x = refl
+walk-behind (y ∷ ys) w x = walk-behind ys (walked run_leaf.rules [] w y) x
+
+passes-behind : (words : List Text) (w : Walk) (x : Text) → walk_passes run_leaf [] w words ≡ true → turn_passes run_leaf [] (fold (walked run_leaf.rules []) w words) x ≡ true
+    → walk_passes run_leaf [] w (words ++ x ∷ []) ≡ true
+unfolding walk_passes
+passes-behind [] w x h t = ap (λ b. b && true) t
+passes-behind (y ∷ ys) w x h t =
+    let both = and_parts (turn_passes run_leaf [] w y) _ h in
+    ap₂ ◌&&◌ both.0 (passes-behind ys (walked run_leaf.rules [] w y) x both.1 t)
+
+abbrev flag_word : Text
+flag_word = codes "--replace"
+
+behind-words : (words : List Text) (end : Walk) → IsWalk words end → turn_passes run_leaf [] end flag_word ≡ true → IsWalk (words ++ flag_word ∷ []) (walked run_leaf.rules [] end flag_word)
+behind-words words end w t = record {
+  walk = walk-behind words (walk_from nothing_held) flag_word ∙ ap (λ (e : Walk). walked run_leaf.rules [] e flag_word) w.walk;
+  passes = passes-behind words (walk_from nothing_held) flag_word w.passes (ap (λ (e : Walk). turn_passes run_leaf [] e flag_word) w.walk ∙ t);
+}
+
+-- the row of the flag, which has a value where it is left out too
+abbrev pub saving_word : Saving → Text
+saving_word InPlace = codes "false"
+saving_word Replacing = codes "true"
+
+abbrev saving_source : Saving → ValueSource
+saving_source InPlace = DefaultValue
+saving_source Replacing = CommandLine
+
+abbrev pub saving_row : Saving → Row
+saving_row saving = record { id = codes "replace"; values = saving_word saving ∷ []; count = None; source = Some (saving_source saving); reading = reading.AsWritten }
+
 -- the rows of a run's words, and that they pass
 pub record IsRead (words : List Text) (rows : List Row) : Type 0 where
   pub found : rows_after run_leaf.rules [] words ≡ rows
   pub passes : level_passes run_leaf [] nothing_held words false ≡ true
 
-pub run-file : (f : Text) → IsPlain f → IsRead (f ∷ []) (word_row (codes "file") f ∷ [])
+pub run-file : (f : Text) (saving : Saving) → IsPlain f → IsRead (f ∷ saving_part saving) (word_row (codes "file") f ∷ saving_row saving ∷ [])
 unfolding clap_on_literals
-run-file f p =
+run-file f InPlace p =
     let w : IsWalk (f ∷ []) (after_file f) = no-option f p in
     record { found = ap (λ (e : Walk). finished run_leaf.rules e.held) w.walk; passes = ap₂ (passes_at run_leaf) w.passes w.walk }
+run-file f Replacing p =
+    let w = behind-words (f ∷ []) (after_file f) (no-option f p) refl in
+    record { found = ap (λ (e : Walk). finished run_leaf.rules e.held) w.walk; passes = ap₂ (passes_at run_leaf) w.passes w.walk }
 
-pub run-mode : (f m : Text) → IsPlain f → IsPlain m → IsRead (f ∷ codes "--mode" ∷ m ∷ []) (word_row (codes "file") f ∷ word_row (codes "mode") m ∷ [])
+pub run-mode : (f m : Text) (saving : Saving) → IsPlain f → IsPlain m
+    → IsRead (f ∷ codes "--mode" ∷ m ∷ saving_part saving) (word_row (codes "file") f ∷ word_row (codes "mode") m ∷ saving_row saving ∷ [])
 unfolding clap_on_literals
-run-mode f m p q =
+run-mode f m InPlace p q =
     let w = one-option f (codes "--mode") (codes "mode") m p (mode-first f m q) in
     record { found = ap (λ (e : Walk). finished run_leaf.rules e.held) w.walk; passes = ap₂ (passes_at run_leaf) w.passes w.walk }
-
-pub run-size : (f d : Text) → IsPlain f → IsPlain d → IsRead (f ∷ codes "--size" ∷ d ∷ []) (word_row (codes "file") f ∷ word_row (codes "size") d ∷ [])
-unfolding clap_on_literals
-run-size f d p q =
-    let w = one-option f (codes "--size") (codes "size") d p (size-first f d q) in
+run-mode f m Replacing p q =
+    let w = behind-words (f ∷ codes "--mode" ∷ m ∷ []) _ (one-option f (codes "--mode") (codes "mode") m p (mode-first f m q)) refl in
     record { found = ap (λ (e : Walk). finished run_leaf.rules e.held) w.walk; passes = ap₂ (passes_at run_leaf) w.passes w.walk }
 
-pub run-both : (f m d : Text) → IsPlain f → IsPlain m → IsPlain d
-    → IsRead (f ∷ codes "--mode" ∷ m ∷ codes "--size" ∷ d ∷ []) (word_row (codes "file") f ∷ word_row (codes "mode") m ∷ word_row (codes "size") d ∷ [])
+pub run-size : (f d : Text) (saving : Saving) → IsPlain f → IsPlain d
+    → IsRead (f ∷ codes "--size" ∷ d ∷ saving_part saving) (word_row (codes "file") f ∷ word_row (codes "size") d ∷ saving_row saving ∷ [])
 unfolding clap_on_literals
-run-both f m d p q r =
+run-size f d InPlace p q =
+    let w = one-option f (codes "--size") (codes "size") d p (size-first f d q) in
+    record { found = ap (λ (e : Walk). finished run_leaf.rules e.held) w.walk; passes = ap₂ (passes_at run_leaf) w.passes w.walk }
+run-size f d Replacing p q =
+    let w = behind-words (f ∷ codes "--size" ∷ d ∷ []) _ (one-option f (codes "--size") (codes "size") d p (size-first f d q)) refl in
+    record { found = ap (λ (e : Walk). finished run_leaf.rules e.held) w.walk; passes = ap₂ (passes_at run_leaf) w.passes w.walk }
+
+pub run-both : (f m d : Text) (saving : Saving) → IsPlain f → IsPlain m → IsPlain d
+    → IsRead (f ∷ codes "--mode" ∷ m ∷ codes "--size" ∷ d ∷ saving_part saving) (word_row (codes "file") f ∷ word_row (codes "mode") m ∷ word_row (codes "size") d ∷ saving_row saving ∷ [])
+unfolding clap_on_literals
+run-both f m d InPlace p q r =
     let w = two-options f (codes "--mode") (codes "mode") m (codes "--size") (codes "size") d p (mode-first f m q) (size-second f m d r) in
+    record { found = ap (λ (e : Walk). finished run_leaf.rules e.held) w.walk; passes = ap₂ (passes_at run_leaf) w.passes w.walk }
+run-both f m d Replacing p q r =
+    let w = behind-words (f ∷ codes "--mode" ∷ m ∷ codes "--size" ∷ d ∷ []) _ (two-options f (codes "--mode") (codes "mode") m (codes "--size") (codes "size") d p (mode-first f m q) (size-second f m d r)) refl in
     record { found = ap (λ (e : Walk). finished run_leaf.rules e.held) w.walk; passes = ap₂ (passes_at run_leaf) w.passes w.walk }

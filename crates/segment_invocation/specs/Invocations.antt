@@ -3,18 +3,24 @@ use Rattle.std.specs.Prelude.{◌≡◌, ◌⊎◌, ◌==◌, ◌∷◌, ◌++�
 use Rattle.std.specs.Str.{bytes_eq}
 use Rattle.clap.specs.Walk.{Row, Rule, Text, first_of}
 use Rattle.clap.specs.Simple.{App, Shape, new_rule, new_shape, with_subcommand}
-use Rattle.clap.specs.declared.builder.action.ArgAction.TheVariants.{Set}
+use Rattle.clap.specs.declared.builder.action.ArgAction.TheVariants.{Set, SetTrue}
 use Rattle.segment_lang.specs.Words.{number_of}
 use Rattle.segment_invocation.specs.declared.invocations.Invocation.{Invocation}
 use Rattle.segment_invocation.specs.declared.invocations.Invocation.TheVariants.{Create, Run, Check, Grow, Shrink, Migrate}
 use Rattle.segment_invocation.specs.declared.invocations.ModeName.{ModeName}
 use Rattle.segment_invocation.specs.declared.invocations.ModeName.TheVariants.{CreateOnly, OpenOnly, OpenOrCreate, OpenReadOnly, OpenCopyOnWrite}
+use Rattle.segment_invocation.specs.declared.invocations.Saving.{Saving}
+use Rattle.segment_invocation.specs.declared.invocations.Saving.TheVariants.{InPlace, Replacing}
 
 -- ---- the command line, as clap reads it
 
 -- a value behind `--NAME`, which may be left out; help has a word for it
 abbrev pub option : Text → Rule
 option name = record (new_rule name) { long = Some name; action = Some Set; value_names = 1 }
+
+-- `--NAME` alone, which may be left out
+abbrev pub flag : Text → Rule
+flag name = record (new_rule name) { long = Some name; action = Some SetTrue }
 
 -- a value in its place, which must be there; help has a word for it
 abbrev pub operand : Text → Rule
@@ -35,7 +41,7 @@ abbrev pub number_command : Text → Shape
 number_command name = taking name (operand (codes "file") ∷ operand (codes "number") ∷ [])
 
 abbrev pub run_command : Shape
-run_command = taking (codes "run") (operand (codes "file") ∷ option (codes "mode") ∷ option (codes "size") ∷ [])
+run_command = taking (codes "run") (operand (codes "file") ∷ option (codes "mode") ∷ option (codes "size") ∷ flag (codes "replace") ∷ [])
 
 abbrev pub subcommands : List Shape
 subcommands = number_command (codes "create") ∷ run_command ∷ file_command (codes "check") ∷ number_command (codes "grow") ∷ file_command (codes "shrink")
@@ -49,7 +55,7 @@ command_line = fold with_subcommand program subcommands
 -- a file goes by its path
 pub data Asked : Type 0 where
   create : Text → ℕ → Asked
-  run : Text → ModeName → Option ℕ → Asked
+  run : Text → ModeName → Option ℕ → Saving → Asked
   check : Text → Asked
   grow : Text → ℕ → Asked
   shrink : Text → Asked
@@ -57,7 +63,7 @@ pub data Asked : Type 0 where
 
 abbrev pub asked_by : Invocation → Asked
 asked_by (Create file size) = create file.now size
-asked_by (Run file mode size) = run file.now mode size
+asked_by (Run file mode size saving) = run file.now mode size saving
 asked_by (Check file) = check file.now
 asked_by (Grow file bytes) = grow file.now bytes
 asked_by (Shrink file) = shrink file.now
@@ -95,10 +101,15 @@ abbrev pub size_of : Option Text → Option (Option ℕ)
 size_of None = Some None
 size_of (Some word) = option_map Some (number_of word)
 
+-- how a run saves, by what stands for `--replace`
+abbrev pub saving_of : Option Text → Saving
+saving_of None = InPlace
+saving_of (Some word) = if bytes_eq word (codes "true") then Replacing else InPlace
+
 -- a run, unless its mode wants a size and there is none
-abbrev pub run_sized : Text → ModeName → Option ℕ → Option Asked
-run_sized file mode (Some size) = Some (run file mode (Some size))
-run_sized file mode None = if wants_size mode then None else Some (run file mode None)
+abbrev pub run_sized : Text → ModeName → Saving → Option ℕ → Option Asked
+run_sized file mode saving (Some size) = Some (run file mode (Some size) saving)
+run_sized file mode saving None = if wants_size mode then None else Some (run file mode None saving)
 
 -- what the words of a subcommand ask for: each word by its id
 abbrev pub with_file : (Text → Option Asked) → List Row → Option Asked
@@ -108,7 +119,7 @@ abbrev pub with_number : (Text → ℕ → Asked) → List Row → Option Asked
 with_number ask words = with_file (λ file. option_map (ask file) (option_and_then number_of (first_of (codes "number") words))) words
 
 abbrev pub asked_run : List Row → Option Asked
-asked_run words = with_file (λ file. option_and_then (λ mode. option_and_then (run_sized file mode) (size_of (first_of (codes "size") words))) (mode_of (first_of (codes "mode") words))) words
+asked_run words = with_file (λ file. option_and_then (λ mode. option_and_then (run_sized file mode (saving_of (first_of (codes "replace") words))) (size_of (first_of (codes "size") words))) (mode_of (first_of (codes "mode") words))) words
 
 abbrev pub asked_in : Text → List Row → Option Asked
 asked_in subcommand words =
@@ -145,11 +156,16 @@ abbrev pub IsSizePart : List Text → ModeName → Option ℕ → Type 0
 IsSizePart words mode None = (words ≡ []) × (wants_size mode ≡ false)
 IsSizePart words mode (Some size) = (digits : Text) × (number_of digits ≡ Some size) × (words ≡ codes "--size" ∷ digits ∷ [])
 
+-- `--replace`, which is left out where the file is emptied
+abbrev pub saving_part : Saving → List Text
+saving_part InPlace = []
+saving_part Replacing = codes "--replace" ∷ []
+
 -- the words behind the program's name say what is asked for
 abbrev pub IsWritten : Asked → List Text → Type 0
 IsWritten (create file size) words = IsTrue (is_path file) × (digits : Text) × (number_of digits ≡ Some size) × (words ≡ codes "create" ∷ file ∷ digits ∷ [])
-IsWritten (run file mode size) words = IsTrue (is_path file) × (modes : List Text) × (sizes : List Text) × IsModePart modes mode × IsSizePart sizes mode size
-    × (words ≡ codes "run" ∷ file ∷ modes ++ sizes)
+IsWritten (run file mode size saving) words = IsTrue (is_path file) × (modes : List Text) × (sizes : List Text) × IsModePart modes mode × IsSizePart sizes mode size
+    × (words ≡ codes "run" ∷ file ∷ modes ++ (sizes ++ saving_part saving))
 IsWritten (check file) words = IsTrue (is_path file) × (words ≡ codes "check" ∷ file ∷ [])
 IsWritten (grow file bytes) words = IsTrue (is_path file) × (digits : Text) × (number_of digits ≡ Some bytes) × (words ≡ codes "grow" ∷ file ∷ digits ∷ [])
 IsWritten (shrink file) words = IsTrue (is_path file) × (words ≡ codes "shrink" ∷ file ∷ [])

@@ -4,11 +4,11 @@ ghost use Rattle.clap.specs.Matches.{found_of};
 ghost use Rattle.clap.specs.Walk.{first_of, rows_of};
 ghost use Rattle.clap.specs.Simple.{subcommand_of};
 ghost use Rattle.segment_lang.specs.Words.{number_of};
-ghost use Rattle.segment_invocation.specs.Invocations.{Asked, IsWritten, Reads, asked_by, asked_in, asked_of, asked_run, command_line, mode_of, size_of};
+ghost use Rattle.segment_invocation.specs.Invocations.{Asked, IsWritten, Reads, asked_by, asked_in, asked_of, asked_run, command_line, mode_of, saving_of, size_of};
 ghost use Rattle.segment_invocation.specs.declared.usage.InvocationFault.TheVariants.{OutOfMemory};
 
 use crate::command_line::command_line;
-use crate::invocations::{Invocation, ModeName};
+use crate::invocations::{Invocation, ModeName, Saving};
 use crate::usage::{InvocationFault, UsageError};
 use clap::ArgMatches;
 use segment_lang::number_of;
@@ -70,6 +70,16 @@ fn size_in(words: &ArgMatches<'_>) -> Result<Option<u64>, UsageError>
     }
 }
 
+/// How a run saves.
+fn saving_in(words: &ArgMatches<'_>) -> Saving
+    ensures { result ≡ saving_of (first_of (codes "replace") (rows_of (found_of words.now))) }
+{
+    match word_of(words, "replace") {
+        Some("true") => Saving::Replacing,
+        _ => Saving::InPlace,
+    }
+}
+
 /// What the words of the command `run` ask for.
 fn read_run<'a>(words: &ArgMatches<'a>) -> Result<Invocation<'a>, UsageError>
     ensures { MatchResult result (λ i. asked_run (rows_of (found_of words.now)) ≡ Some (asked_by i)) (λ e. asked_run (rows_of (found_of words.now)) ≡ None) }
@@ -80,7 +90,7 @@ fn read_run<'a>(words: &ArgMatches<'a>) -> Result<Invocation<'a>, UsageError>
     if mode.wants_size() && size.is_none() {
         return Err(UsageError::Size);
     }
-    Ok(Invocation::Run(file, mode, size))
+    Ok(Invocation::Run(file, mode, size, saving_in(words)))
 }
 
 /// What the words of a command ask for.

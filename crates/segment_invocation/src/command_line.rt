@@ -3,7 +3,7 @@ ghost use Rattle.std.specs.Prelude.{◌≡◌, false, IfOk};
 ghost use Rattle.clap.specs.Walk.{rule_of};
 ghost use Rattle.clap.specs.Simple.{app_of, shape_of};
 ghost use Rattle.clap.specs.declared.builder.command.Command.TheViews.{out-Command as fields_of};
-ghost use Rattle.segment_invocation.specs.Invocations.{command_line, file_command, number_command, operand, option, program, run_command};
+ghost use Rattle.segment_invocation.specs.Invocations.{command_line, file_command, flag, number_command, operand, option, program, run_command};
 
 use clap::{Arg, ArgAction, Command};
 use std::alloc::{AllocError, Global};
@@ -45,6 +45,10 @@ const BYTES: &str = "A multiple of 16 from 32 on";
 /// Where the modes are told.
 const MODE: &str = "One of the five modes below";
 
+/// What a run does to a file that it saves.
+const REPLACE: &str =
+    "The image goes to a new file, FILE.new, which then takes the place of FILE: one of the two is whole at each moment";
+
 /// What the modes are.
 const MODES: &str = "\
 Modes:
@@ -63,7 +67,8 @@ Statuses:
   0  Done; the answers of a script may have been errors
   1  FILE holds no segment, or the size or the growth is refused
   2  The command line is wrong, or asks for help
-  3  A FILE that is to be made exists, something could not be read or written, or the script is too long
+  3  A FILE that is to be made exists, another program writes FILE, something could not be read or written, or the script
+     is too long
   4  Memory was refused
 
 Example:
@@ -91,6 +96,17 @@ fn option<'a>(alloc: Global, name: &'a str, shown: &'a str, help: &'a str) -> Ar
         .long(name)
         .action(ArgAction::Set)
         .value_name(shown)
+        .help(help)
+}
+
+/// A name that stands alone, and may be left out.
+fn flag<'a>(alloc: Global, name: &'a str, help: &'a str) -> Arg<'a>
+    ensures rule { rule_of result ≡ flag name.now }
+    ensures local { result.global ≡ false }
+{
+    Arg::new(alloc, name)
+        .long(name)
+        .action(ArgAction::SetTrue)
         .help(help)
 }
 
@@ -126,7 +142,8 @@ fn run_command<'a>(alloc: Global) -> Result<Command<'a>, AllocError>
     file_command(alloc, "run", RUN)?
         .after_help(MODES)
         .arg(option(alloc, "mode", "MODE", MODE))?
-        .arg(option(alloc, "size", "SIZE", SIZE))
+        .arg(option(alloc, "size", "SIZE", SIZE))?
+        .arg(flag(alloc, "replace", REPLACE))
 }
 
 /// The program, without its commands, and what its help says before and behind them.

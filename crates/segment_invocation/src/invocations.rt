@@ -40,6 +40,15 @@ impl ModeName {
     }
 }
 
+/// How a run saves the segment of a file that is there.
+#[derive(Clone, Copy, Debug, PartialEq, Eq)]
+pub enum Saving {
+    /// The file is emptied, and takes the image.
+    InPlace,
+    /// `--replace`: a new file with the image takes the place of the old one.
+    Replacing,
+}
+
 /// What the program is asked for. A file goes by its path, and sizes count bytes.
 #[derive(Clone, Copy, Debug, PartialEq, Eq)]
 pub enum Invocation<'a> {
@@ -47,7 +56,7 @@ pub enum Invocation<'a> {
     Create(&'a str, u64),
     /// To run a script on the segment in a file, in a mode, with the size of a segment that is made. The modes `create_only`
     /// and `open_or_create` have a size.
-    Run(&'a str, ModeName, Option<u64>),
+    Run(&'a str, ModeName, Option<u64>, Saving),
     /// To check that a file holds a segment.
     Check(&'a str),
     /// To make the segment in a file larger by so many bytes.

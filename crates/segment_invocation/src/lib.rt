@@ -7,5 +7,5 @@ mod invocations;
 mod usage;
 
 pub use asking::invocation;
-pub use invocations::{Invocation, ModeName};
+pub use invocations::{Invocation, ModeName, Saving};
 pub use usage::{InvocationFault, UsageError};

@@ -1,0 +1,37 @@
+//! A vector of a caller's own type, in a heap of its own. Boost: `vector<time, allocator<time, segment_manager>>`.
+ghost use Rattle.std.specs.Result.{IfOk};
+ghost use Rattle.seg_vector.specs.VectorCalls.{IsSomeVector};
+
+use crate::time::Time;
+use anyhow::Result;
+use std::alloc::Global;
+use zaluxhoni::{Heap, Place, Plain, RawRegion, Refusal, Role, SegVec, Steps, Window};
+
+/// A heap of 1024 bytes with a vector without a value.
+fn begun<T: Plain>(alloc: Global) -> Result<(Heap, SegVec<T>)>
+    ensures { IfOk result (λ made. IsSomeVector T.SIZE T.is_value T.spelling made.0.bytes made.1.place) }
+{
+    let mut heap = Heap::fresh(Window::new(RawRegion::new(alloc, 1024)?, 0, 1024));
+    let handle = heap.allocate(24, Role::Object, &mut Steps::new())?;
+    let vector = SegVec::new(&mut heap, Place { handle, at: 0 });
+    Ok((heap, vector))
+}
+
+/// Puts a value behind the last one. The vector stands behind the call, also where it is refused.
+fn note<T: Plain>(heap: &mut Heap, vector: SegVec<T>, value: T) -> Result<(), Refusal>
+    requires { IsSomeVector T.SIZE T.is_value T.spelling heap.old.bytes vector.place }
+    ensures { IsSomeVector T.SIZE T.is_value T.spelling heap.new.bytes vector.place }
+{
+    vector.push(heap, value)
+}
+
+/// Notes two departures, and reads the second.
+pub fn note_departures(rt: &HostRuntime) -> Result<()> {
+    let (mut heap, departures) = begun::<Time>(rt.alloc())?;
+    note(&mut heap, departures, Time::at(7, 40))?;
+    note(&mut heap, departures, Time::at(9, 5))?;
+    let count = departures.len(&heap);
+    let Time { hour, minute } = departures.get(&heap, 1)?;
+    println!(rt; "a type of one's own: {count} departures, the second at {hour}:{minute:02}")?;
+    Ok(())
+}

@@ -1,0 +1,78 @@
+//! Files of the system that are made beside others, to take their place.
+
+use crate::durable::write_through;
+use std::fs::{self, File, OpenFile, OpenOptions};
+use std::io::{self, ErrorKind};
+use std::os::unix::fs::OpenOptionsExt;
+use std::path::PathBuf;
+use std::rt::Files;
+
+/// A file that is made beside another, whose place it takes later.
+#[derive(Drop)]
+pub(crate) struct Beside {
+    /// The path of the other, which leads through no link.
+    old: PathBuf,
+    /// Its own path: the other's, and `.new` behind it.
+    new: String,
+}
+
+/// Whether what a path leads to is a file that may be written. It is not changed.
+fn may_be_written<R: Files<File = File>>(files: &R, path: &str) -> io::Result<()> {
+    let mut options = OpenOptions::new();
+    options.write(true);
+    options.open(files, path)?;
+    Ok(())
+}
+
+impl Beside {
+    /// Makes an empty file beside the one of a path, with its rights. What an earlier run left there is removed before, if the
+    /// file is held; else nothing may be there.
+    pub(crate) fn make<R: Files<File = File> + AllocGlobal>(
+        rt: &R,
+        path: &str,
+        is_held: bool,
+    ) -> io::Result<(File, Beside)> {
+        let old = fs::canonicalize(rt, path)?;
+        let described = fs::metadata(rt, old.as_path())?;
+        if !described.is_file() {
+            return Err(io::Error::from(ErrorKind::InvalidInput));
+        }
+        may_be_written(rt, old.as_str())?;
+        let new = format!(in rt.alloc(); "{}.new", old.as_str())?;
+        if is_held {
+            let _ = fs::remove_file(rt, new.as_str());
+        }
+        let mut options = OpenOptions::new();
+        options.write(true).create_new(true).mode(0o600);
+        let file = options.open(rt, new.as_str())?;
+        let beside = Beside { old, new };
+        match file.set_permissions(described.permissions()) {
+            Ok(()) => Ok((file, beside)),
+            Err(error) => {
+                beside.discard(rt);
+                Err(error)
+            }
+        }
+    }
+
+    /// Puts the file in the place of the other.
+    pub(crate) fn place<R: Files<File = File>>(&self, files: &R) -> io::Result<()> {
+        fs::rename(files, self.new.as_str(), self.old.as_path())
+    }
+
+    /// Writes the folder through, which has the name, where it can be opened.
+    pub(crate) fn name_lasts<R: Files<File = File>>(&self, files: &R) -> bool {
+        match self.old.parent() {
+            Some(folder) => match fs::open(files, folder) {
+                Ok(folder) => write_through(&folder),
+                Err(_) => true,
+            },
+            None => true,
+        }
+    }
+
+    /// Removes the file, if that can be done.
+    pub(crate) fn discard<R: Files<File = File>>(&self, files: &R) {
+        let _ = fs::remove_file(files, self.new.as_str());
+    }
+}

@@ -1,0 +1,37 @@
+//! The right to write a file of the system: a lock on it, which the system takes away where its holder ends.
+
+use crate::presence::InUse;
+use std::fs::{self, File, TryLockError};
+use std::os::unix::fs::MetadataExt;
+use std::rt::Files;
+
+/// How often a file is opened anew that was replaced before it was locked.
+const TRIES: u32 = 8;
+
+/// Whether a path still leads to a file that was opened by it.
+fn leads_to<R: Files<File = File>>(files: &R, path: &str, file: &File) -> bool {
+    match (fs::metadata(files, path), file.metadata()) {
+        (Ok(named), Ok(opened)) => named.dev() == opened.dev() && named.ino() == opened.ino(),
+        _ => false,
+    }
+}
+
+/// Locks the file that a path leads to. `None` is one that can't be locked, and what is no file on a disk, as a pipe.
+pub(crate) fn lock<R: Files<File = File>>(files: &R, path: &str) -> Result<Option<File>, InUse> {
+    for _ in 0..TRIES {
+        if !fs::metadata(files, path).is_ok_and(|found| found.is_file()) {
+            return Ok(None);
+        }
+        let Ok(file) = fs::open(files, path) else {
+            return Ok(None);
+        };
+        match file.try_lock() {
+            Ok(()) if leads_to(files, path, &file) => return Ok(Some(file)),
+            // it was replaced in between, and the lock is that of the file that was there before
+            Ok(()) => {}
+            Err(TryLockError::WouldBlock) => return Err(InUse),
+            Err(TryLockError::Error(_)) => return Ok(None),
+        }
+    }
+    Err(InUse)
+}

@@ -1,0 +1,5 @@
+use Rattle.segment_file.proofs.Standings.{tears}
+use Rattle.segment_file.proofs.theorems.emptying_tears.Goals as goal
+
+pub returns : goal.returns
+returns c = tears

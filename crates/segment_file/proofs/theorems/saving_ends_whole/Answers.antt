@@ -1,0 +1,5 @@
+use Rattle.segment_file.proofs.Standings.{ends_whole}
+use Rattle.segment_file.proofs.theorems.saving_ends_whole.Goals as goal
+
+pub returns : goal.returns
+returns c = ends_whole

@@ -1,0 +1,299 @@
+-- A segment with the path of its file: what the disk is asked, in order, and what becomes of the segment.
+use Rattle.std.specs.Prelude.{◌≡◌, ◌≢◌, ◌⊎◌, ◌≤◌, ℕ, ◌+◌, ◌%◌, false, List, [], ◌∷◌, length, IsTrue, string_bytes, Option, Some, None, Result, Ok, Err, IfErr, MatchResult}
+use Rattle.raw_region.specs.Device.{Given}
+use Rattle.raw_region.specs.Format.{current}
+use Rattle.block_tags.specs.Format.{is_legal_size}
+use Rattle.segment_manager.specs.declared.modes.Mode.{Mode}
+use Rattle.segment_manager.specs.declared.modes.Mode.TheVariants.{Write, ReadOnly}
+use Rattle.segment_manager.specs.Calls.{IsCreated}
+use Rattle.segment_manager.specs.Directory.{Directory}
+use Rattle.segment_manager.specs.Resized.{Resizes}
+use Rattle.segment_manager.specs.State.{State, StandsFor}
+use Rattle.segment_manager.specs.Step.{is_read_only}
+use Rattle.image_check.specs.declared.errors.OpenError.{OpenError}
+use Rattle.image_check.specs.declared.errors.OpenError.TheVariants.{Image as NoImage, RegionTooSmall as NoRoom, OutOfMemory as NoMemory, ReadFault as NotRead}
+use Rattle.image_check.specs.declared.errors.OpenRefused.{OpenRefused}
+use Rattle.image_check.specs.Opening.{Opens}
+use Rattle.image_check.specs.OpeningAny.{OpensAny}
+use Rattle.grow_shrink.specs.declared.refusals.GrowError.{GrowError}
+use Rattle.grow_shrink.specs.Resized.{grown, growth_refusal, room_of, shrink_refusal, shrunk}
+use Rattle.segment_cli.specs.Session.{IsUntouched}
+use Rattle.segment_disk.specs.declared.presence.Making.{Making}
+use Rattle.segment_disk.specs.declared.presence.Making.TheVariants.{New, Emptied}
+use Rattle.segment_disk.specs.declared.presence.Presence.{Presence}
+use Rattle.segment_disk.specs.declared.presence.Presence.TheVariants.{Absent, There}
+use Rattle.segment_disk.specs.Events.{Event, Looked, Held, After}
+use Rattle.segment_file.specs.declared.file_errors.FileError.{FileError}
+use Rattle.segment_file.specs.declared.file_errors.FileError.TheVariants.{Exists, BadSize, Image, RegionTooSmall, OutOfMemory, ReadFault, WriteFault, InUse, WrongMode, Growth}
+use Rattle.segment_file.specs.declared.segment_files.SegmentFile.{SegmentFile}
+use Rattle.segment_file.specs.Files.{WritesImage, opens, does_not_open}
+use Rattle.segment_file.specs.Holding.{IsHolding}
+
+-- an answer of a writing that went well
+abbrev pub saved : Result (Unit {0}) FileError
+saved = Ok tt
+
+-- ---- the segment of a file
+
+-- why an image is not opened, as a file's call answers it
+abbrev pub file_error : OpenError → FileError
+file_error (NoImage c) = Image c
+file_error NoRoom = RegionTooSmall
+file_error NoMemory = OutOfMemory
+file_error NotRead = ReadFault
+
+abbrev pub as_file : Result State OpenRefused → Result State FileError
+as_file (Ok s) = Ok s
+as_file (Err refused) = Err (file_error refused.cause)
+
+-- memory for a region was refused before the image was read
+pub record IsWithoutRegion (image : Given) (result : Result State FileError) : Type 0 where
+  pub unread : IsUntouched image
+  pub refused : result ≡ Err OutOfMemory
+
+-- an image was opened at the front of a region, or not
+pub record IsOpenedIn (mode : Mode) (image : Given) (result : Result State FileError) : Type 0 where
+  pub region : List ℕ
+  pub opened : Result State OpenRefused
+  pub opens : Opens current image region 0 mode opened
+  pub answer : result ≡ as_file opened
+
+-- the same of an image of any of the three formats, for writing
+pub record IsOpenedAnyIn (image : Given) (result : Result State FileError) : Type 0 where
+  pub region : List ℕ
+  pub opened : Result State OpenRefused
+  pub opens : OpensAny image region 0 Write opened
+  pub answer : result ≡ as_file opened
+
+abbrev pub OpensIn : Mode → Given → Result State FileError → Type 0
+OpensIn mode image result = IsWithoutRegion image result ⊎ IsOpenedIn mode image result
+
+abbrev pub OpensAnyIn : Given → Result State FileError → Type 0
+OpensAnyIn image result = IsWithoutRegion image result ⊎ IsOpenedAnyIn image result
+
+module _ {D : Type 0} (step : D → Event → D → Type 0) (old new : D) (path : List ℕ) where
+  -- the file could not be opened, and nothing else was asked
+  pub record IsUnreadable (result : Result State FileError) : Type 0 where
+    pub asked : After step old (does_not_open path) new
+    pub refused : result ≡ Err ReadFault
+
+  -- the file was opened, read and closed, and nothing else was asked
+  pub record IsReadAs (opened : Given → Result State FileError → Type 0) (result : Result State FileError) : Type 0 where
+    pub image : Given
+    pub asked : After step old (opens path image) new
+    pub answer : opened image result
+
+  -- the segment of a file
+  abbrev pub ReadsSegment : Mode → Result State FileError → Type 0
+  ReadsSegment mode result = IsUnreadable result ⊎ IsReadAs (OpensIn mode) result
+
+  -- the same of a file of any of the three formats
+  abbrev pub ReadsAnySegment : Result State FileError → Type 0
+  ReadsAnySegment result = IsUnreadable result ⊎ IsReadAs OpensAnyIn result
+
+-- ---- a segment that is made
+
+-- an empty segment of a size, at the front of a region
+pub record IsEmptySegment (size : ℕ) (s : State) : Type 0 where
+  pub region : List ℕ
+  pub created : IsCreated region 0 size Write s
+
+-- no segment has the size, whatever memory there is; or it has, and memory for its region was refused
+abbrev pub IsWhyNoSegment : ℕ → FileError → Type 0
+IsWhyNoSegment size why =
+    ((is_legal_size size ≡ false) × (why ≡ BadSize)) ⊎ (IsTrue (is_legal_size size) × (why ≡ OutOfMemory))
+
+module _ {D : Type 0} (step : D → Event → D → Type 0) (old new : D) (path : List ℕ) (size : ℕ) where
+  -- the image of an empty segment was written to a new file
+  pub record IsNewFile (s : State) : Type 0 where
+    pub empty : IsEmptySegment size s
+    pub writes : WritesImage step old new New path s.cut.bytes saved
+
+  -- there is no such segment, and nothing was asked
+  pub record IsUnmade (why : FileError) : Type 0 where
+    pub asked : new ≡ old
+    pub reason : IsWhyNoSegment size why
+
+  -- the image of an empty segment is not in its file, or need not last
+  pub record IsUnwrittenFile (why : FileError) : Type 0 where
+    pub segment : State
+    pub empty : IsEmptySegment size segment
+    pub writes : WritesImage {E = FileError} step old new New path segment.cut.bytes (Err why)
+    pub refused : why ≡ WriteFault
+
+  -- an empty segment in a file that is made for it
+  abbrev pub MakesSegmentFile : Result State FileError → Type 0
+  MakesSegmentFile result = MatchResult result IsNewFile (λ why. IsUnmade why ⊎ IsUnwrittenFile why)
+
+-- the path was looked at, where this was found, and then what is done went on from there
+pub record IsBehindLook {D : Type 0} (step : D → Event → D → Type 0) (old : D) (path : List ℕ) (IsWhere : Presence → Type 0) (goes_on : D → Type 0) : Type 0 where
+  pub found : Presence
+  pub is : IsWhere found
+  pub looked : D
+  pub asked : step old (Looked path found) looked
+  pub goes : goes_on looked
+
+module _ {D : Type 0} (step : D → Event → D → Type 0) (old new : D) (path : List ℕ) where
+  -- something is there under the path, and nothing else was asked
+  pub record IsThere {A : Type 0} (result : Result A FileError) : Type 0 where
+    pub asked : After step old (Looked path There ∷ []) new
+    pub refused : result ≡ Err Exists
+
+  -- a segment that is made, in a file that is not there
+  abbrev pub CreatesSegment : ℕ → Result State FileError → Type 0
+  CreatesSegment size result =
+      IsThere result ⊎ IsBehindLook step old path (λ found. found ≢ There) (λ looked. MakesSegmentFile step looked new path size result)
+
+  -- the same where nothing is there, and else the segment of the file
+  abbrev pub OpensOrCreates : ℕ → Result State FileError → Type 0
+  OpensOrCreates size result =
+      IsBehindLook step old path (λ found. found ≡ Absent) (λ looked. MakesSegmentFile step looked new path size result)
+      ⊎ IsBehindLook step old path (λ found. found ≢ Absent) (λ looked. ReadsSegment step looked new path Write result)
+
+-- ---- a segment with its path
+
+-- the segment came to be by this, and its path is kept
+pub record IsFileOf (path : List ℕ) (comes : Result State FileError → Type 0) (file : SegmentFile) : Type 0 where
+  pub path_is : string_bytes file.path ≡ path
+  pub segment : comes (Ok file.segment)
+
+-- memory for the path was refused, and nothing was asked
+pub record IsPathless {D : Type 0} (old new : D) (why : FileError) : Type 0 where
+  pub asked : new ≡ old
+  pub refused : why ≡ OutOfMemory
+
+abbrev pub KeepsFile : {D : Type 0} → D → D → List ℕ → (Result State FileError → Type 0) → Result SegmentFile FileError → Type 0
+KeepsFile old new path comes result = MatchResult result (IsFileOf path comes) (λ why. IsPathless old new why ⊎ comes (Err why))
+
+-- ---- a segment that is written
+
+module _ {D : Type 0} (step : D → Event → D → Type 0) (old new : D) (path : List ℕ) where
+  -- another has the right to write the file, and nothing else was asked
+  pub record IsFileInUse (result : Result (Unit {0}) FileError) : Type 0 where
+    pub asked : After step old (Held path false ∷ []) new
+    pub refused : result ≡ Err InUse
+
+  -- with the right to write it, the file was emptied, or replaced by one that is made beside it, and takes an image
+  pub record IsHeldWriting (how : Making) (image : List ℕ) (result : Result (Unit {0}) FileError) : Type 0 where
+    pub holding : IsHolding step old new path (λ held done. WritesImage step held done how path image result)
+    pub refused : IfErr result (λ why. why ≡ WriteFault)
+
+  abbrev pub WritesHeld : Making → List ℕ → Result (Unit {0}) FileError → Type 0
+  WritesHeld how image result = IsFileInUse result ⊎ IsHeldWriting how image result
+
+  -- the right was taken, this was done, and it was given back
+  abbrev pub HoldsFile : (D → D → Type 0) → Result (Unit {0}) FileError → Type 0
+  HoldsFile does result = IsFileInUse result ⊎ IsHolding step old new path does
+
+module _ {D : Type 0} (step : D → Event → D → Type 0) (old new : D) (path : List ℕ) (s : State) (result : Result (Unit {0}) FileError) where
+  -- the segment is not open for writing, and nothing was asked
+  pub record IsWrongMode : Type 0 where
+    pub mode : s.mode ≢ Write
+    pub asked : new ≡ old
+    pub refused : result ≡ Err WrongMode
+
+  -- the file takes the image
+  pub record IsSaving (how : Making) : Type 0 where
+    pub mode : s.mode ≡ Write
+    pub writes : WritesHeld step old new path how s.cut.bytes result
+
+  -- `save` and `replace`
+  abbrev pub Saves : Making → Type 0
+  Saves how = IsWrongMode ⊎ IsSaving how
+
+  -- a file was made that takes the image
+  pub record IsCopying : Type 0 where
+    pub writes : WritesImage step old new New path s.cut.bytes result
+    pub refused : IfErr result (λ why. why ≡ WriteFault)
+
+-- `save_as`: the image in a file that is not there, whatever the mode
+abbrev pub SavesAs : {D : Type 0} → (D → Event → D → Type 0) → D → D → List ℕ → State → Result (Unit {0}) FileError → Type 0
+SavesAs step old new path s result =
+    IsThere step old new path result ⊎ IsBehindLook step old path (λ found. found ≢ There) (λ looked. IsCopying step looked new path s result)
+
+-- ---- a file that is looked at, or written anew
+
+-- `check`: the file has a segment, or this is why it has none; nothing is opened for writing
+abbrev pub ChecksFile : {D : Type 0} → (D → Event → D → Type 0) → D → D → List ℕ → Result (Unit {0}) FileError → Type 0
+ChecksFile step old new path result = MatchResult result (λ u. (s : State) × ReadsSegment step old new path ReadOnly (Ok s)) (λ why. ReadsSegment step old new path ReadOnly (Err why))
+
+-- the file was read, and then emptied for the image by the current format
+pub record IsMigrating {D : Type 0} (step : D → Event → D → Type 0) (old new : D) (path : List ℕ) (result : Result (Unit {0}) FileError) : Type 0 where
+  pub segment : State
+  pub read : D
+  pub reads : ReadsAnySegment step old read path (Ok segment)
+  pub writes : WritesImage step read new Emptied path segment.cut.bytes result
+  pub refused : IfErr result (λ why. why ≡ WriteFault)
+
+-- the file has no segment of any format, for this reason, and is as it was
+pub record IsUnmigrated {D : Type 0} (step : D → Event → D → Type 0) (old new : D) (path : List ℕ) (result : Result (Unit {0}) FileError) : Type 0 where
+  pub why : FileError
+  pub reads : ReadsAnySegment step old new path (Err why)
+  pub refused : result ≡ Err why
+
+-- `migrate`
+abbrev pub Migrates : {D : Type 0} → (D → Event → D → Type 0) → D → D → List ℕ → Result (Unit {0}) FileError → Type 0
+Migrates step old new path result = IsUnmigrated step old new path result ⊎ IsMigrating step old new path result
+
+-- ---- other sizes
+
+-- the first reason not to grow a segment, which is none of its region
+abbrev pub growth_reason : Mode → ℕ → ℕ → Option GrowError
+growth_reason mode size extra = growth_refusal mode size extra (size + extra)
+
+-- it may grow
+pub record MayGrow (s : State) (extra : ℕ) : Type 0 where
+  pub may : (d : Directory) → StandsFor s.cut.bytes d → growth_reason s.mode d.size extra ≡ None
+
+-- it may grow, and its region has no room for it
+pub record IsShortOfRoom (s : State) (extra : ℕ) : Type 0 where
+  pub writing : is_read_only s.mode ≡ false
+  pub long : 32 ≤ extra
+  pub whole : extra % 16 ≡ 0
+  pub small : length s.cut.bytes + extra ≤ 1073741824
+  pub may : MayGrow s extra
+
+-- open as it was, and each directory has so many bytes more; the segment may lie in another region then
+pub record IsLonger (old new : State) (extra : ℕ) : Type 0 where
+  pub may : MayGrow old extra
+  pub mode : new.mode ≡ old.mode
+  pub denotes : (d : Directory) → StandsFor old.cut.bytes d → StandsFor new.cut.bytes (grown d extra)
+
+-- it does not grow, for this reason
+pub record IsNotLonger (old new : State) (extra : ℕ) (why : FileError) : Type 0 where
+  pub same : new ≡ old
+  pub reason : GrowError
+  pub applies : (d : Directory) → StandsFor old.cut.bytes d → growth_reason old.mode d.size extra ≡ Some reason
+  pub refused : why ≡ Growth reason
+
+-- it may grow, and memory for a larger region was refused
+pub record IsWithoutRoom (old new : State) (extra : ℕ) (why : FileError) : Type 0 where
+  pub same : new ≡ old
+  pub may : MayGrow old extra
+  pub refused : why ≡ OutOfMemory
+
+-- `grow`
+abbrev pub Grows : State → State → ℕ → Result (Unit {0}) FileError → Type 0
+Grows old new extra result = MatchResult result (λ u. IsLonger old new extra) (λ why. IsNotLonger old new extra why ⊎ IsWithoutRoom old new extra why)
+
+-- a copy of a segment, in a region with room for so many bytes from its base on
+pub record IsCopyWithRoom (old new : State) (bytes : ℕ) : Type 0 where
+  pub bytes_same : new.cut.bytes ≡ old.cut.bytes
+  pub mode : new.mode ≡ old.mode
+  pub room : bytes ≤ room_of new.cut
+
+-- it ends behind its last block
+pub record IsShorter (old new : State) : Type 0 where
+  pub may : (d : Directory) → StandsFor old.cut.bytes d → shrink_refusal old.mode ≡ None
+  pub shrinks : Resizes old new (λ d. shrunk d)
+
+-- it does not shrink, for this reason
+pub record IsNotShorter (old new : State) (why : FileError) : Type 0 where
+  pub same : new ≡ old
+  pub reason : GrowError
+  pub applies : (d : Directory) → StandsFor old.cut.bytes d → shrink_refusal old.mode ≡ Some reason
+  pub refused : why ≡ Growth reason
+
+-- `shrink`
+abbrev pub Shrinks : State → State → Result (Unit {0}) FileError → Type 0
+Shrinks old new result = MatchResult result (λ u. IsShorter old new) (IsNotShorter old new)

@@ -1,0 +1,22 @@
+//! What holds of every save, by the questions that it asks the disk. These functions do nothing.
+ghost use Rattle.segment_file.specs.Standing.{EmptyingTears, ReplacingKeepsOneWhole, SavingEndsWhole, UnplacedLeavesTheOld};
+
+/// At each point of a save that replaces, the old image or the new one stands whole under the path.
+pub fn replacing_keeps_one_whole()
+    ensures { ReplacingKeepsOneWhole }
+{}
+
+/// A save that replaces, and fails before its file is to take the place of the old one, leaves the old image.
+pub fn unplaced_leaves_the_old()
+    ensures { UnplacedLeavesTheOld }
+{}
+
+/// A save that is done ends with the new image, whichever way it goes.
+pub fn saving_ends_whole()
+    ensures { SavingEndsWhole }
+{}
+
+/// A save that empties the file leaves neither image whole in between.
+pub fn emptying_tears()
+    ensures { EmptyingTears }
+{}

@@ -50,7 +50,16 @@ fn perform(rt: &HostRuntime, asked: Invocation<'_>) -> Result<(), ProgramFault> 
         Invocation::Create(file, size) => create(alloc, &mut disk, file, size),
         Invocation::Run(file, mode, size, saving) => {
             let mut script = Reading::new(rt.reader());
-            run(alloc, &mut disk, file, mode, size, saving, &mut script, &mut out)
+            run(
+                alloc,
+                &mut disk,
+                file,
+                mode,
+                size,
+                saving,
+                &mut script,
+                &mut out,
+            )
         }
         Invocation::Check(file) => check(alloc, &mut disk, file, &mut out),
         Invocation::Grow(file, bytes) => grow(alloc, &mut disk, file, bytes, &mut out),

@@ -1,8 +1,9 @@
-//! Ten short programs over the library, on files in the folder that they run in. Each prints what it found.
+//! Twelve short programs over the library, on files in the folder that they run in. Each prints what it found.
 #![tactic(auto)]
 
 mod growing;
 mod handles;
+mod listing;
 mod migrating;
 mod moving;
 mod numbers;
@@ -12,11 +13,12 @@ mod strangers;
 mod texts;
 mod time;
 mod timetable;
+mod views;
 
 use anyhow::Result;
 use std::fs;
 
-/// Takes away the files that a run before this one made, and runs all ten.
+/// Takes away the files that a run before this one made, and runs all twelve.
 fn main(rt: HostRuntime) -> Result<()> {
     for path in [
         "shop.seg",
@@ -25,6 +27,8 @@ fn main(rt: HostRuntime) -> Result<()> {
         "small.seg",
         "grown.seg",
         "chain.seg",
+        "views.seg",
+        "listed.seg",
     ] {
         let _ = fs::remove_file(&rt, path);
     }
@@ -38,5 +42,7 @@ fn main(rt: HostRuntime) -> Result<()> {
     moving::move_a_segment(&rt)?;
     migrating::migrate_an_older_file(&rt)?;
     handles::follow_a_handle(&rt)?;
-    timetable::note_departures(&rt)
+    timetable::note_departures(&rt)?;
+    views::view_objects(&rt)?;
+    listing::list_a_segment(&rt)
 }

@@ -1,7 +1,7 @@
 //! The library in one place: what a program needs that keeps typed objects under names in a file.
 //!
 //! A program opens or makes a [`SegmentFile`] over the files of the system ([`HostDisk`]), constructs and finds objects in its
-//! [`Segment`] by their names ([`named`]), and saves it. `crates/examples` has ten programs that do so.
+//! [`Segment`] by their names ([`named`]), and saves it. `crates/examples` has twelve programs that do so.
 #![tactic(auto)]
 
 mod naming;
@@ -24,3 +24,4 @@ pub use segment_manager::{
     AnonymousInstance, CreateError, CreateRefused, Destination, IndexDestination, Instance,
     Instances, Mode, Object, RelocateRefused, Segment, Span, Target, Tiles, UniqueInstance,
 };
+pub use segment_views::{ArrayView, MapView, StringView, StringsView, VectorView};

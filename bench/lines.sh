@@ -1,5 +1,5 @@
 #!/usr/bin/env bash
-# How many instructions the program takes for a line of a script, of four kinds: what a script of twice as many lines takes
+# How many instructions the program takes for a line of a script, of six kinds: what a script of twice as many lines takes
 # more, by the lines that it has more. Counted by valgrind's callgrind, so the same at each run of one program. Run it at the
 # top of the repository, once `rt run` has built crates/segment/out/segment; it writes into a folder of its own, which it removes.
 set -euo pipefail
@@ -27,6 +27,14 @@ strings() {
   seq "$1" | awk '{ printf "construct string s%d \"%s\"\n", $1, substr("a text of some forty bytes, more or less", 1, $1 % 40) }'
   seq "$1" | awk '{ printf "destroy s%d\n", $1 }'
 }
+vectors() {
+  seq "$1" | awk '{ printf "construct vec<i64> v%d %d %d %d\n", $1, $1, $1 + 1, $1 + 2 }'
+  seq "$1" | awk '{ printf "destroy v%d\n", $1 }'
+}
+texts() {
+  seq "$1" | awk '{ printf "construct vec<string> t%d \"a\" \"bc\"\n", $1 }'
+  seq "$1" | awk '{ printf "destroy t%d\n", $1 }'
+}
 
 # counted FILE: the instructions of a run of the script
 counted() {
@@ -35,7 +43,7 @@ counted() {
     < "$1" 2>&1 > answers | sed -n 's/.*Collected : *//p'
 }
 
-for kind in size pushes_and_gets pairs strings; do
+for kind in size pushes_and_gets pairs strings vectors texts; do
   $kind 4000 > once
   $kind 8000 > twice
   lines=$(($(wc -l < twice) - $(wc -l < once)))

@@ -11,19 +11,18 @@ fn fill(segment: &mut Segment) -> Result<u64> {
     Ok(segment.construct_array(&AnonymousInstance, 3, 9u8)?)
 }
 
-/// Tells how many objects and blocks there are, and what goes by a handle.
+/// Tells what stands first in the segment, and what goes by a handle.
 pub fn list_a_segment(rt: &HostRuntime) -> Result<()> {
     let mut disk = HostDisk::new(rt);
     let mut segment = SegmentFile::create(rt.alloc(), &mut disk, "listed.seg", 1024)?.segment;
     let handle = fill(&mut segment)?;
-    let names = segment.named_instances().count();
-    let kinds = segment.unique_instances().count();
-    let tiles = segment.tiles().count();
+    if let Some(first) = segment.named_instances().next() {
+        println!(rt; "a list: the first name has the handle #{}", first.handle)?;
+    }
+    if let Some(only) = segment.unique_instances().next() {
+        println!(rt; "a list: the first unique object is of kind {}", only.kind)?;
+    }
     let (known, len) = (segment.belongs(handle), segment.length_of(handle)?);
-    let kind = segment.locate(&named("width")?)?.kind;
-    println!(rt;
-        "a list: {names} name of kind {kind}, {kinds} unique object, {tiles} blocks and gaps"
-    )?;
     println!(rt; "a list: #{handle} is an object: {known}, of {len} elements")?;
     Ok(())
 }

@@ -32,7 +32,7 @@ use Rattle.segment_manager.proofs.Indexes.{index-parts, named-more, named-remove
 use Rattle.segment_manager.proofs.InUse.{all-both}
 use Rattle.segment_manager.proofs.KeyOrder.{Says, code-of, kinds-apart, kinds-class, kinds-say, name-of, same-itself, names-apart, names-class, names-say}
 use Rattle.segment_manager.proofs.Live.{IsIn}
-use Rattle.segment_manager.proofs.Objects.{all-found, rises-rest}
+use Rattle.segment_manager.proofs.ObjectLists.{all-found, rises-rest}
 use Rattle.segment_manager.proofs.EntryPlaces.{IsPlaceOf, all-at, all_of-ordered, ascends-at, at-all, at-handle, insert-at, none-found, of-class, own-found, remove-at, stands-at, StandsAt}
 use Rattle.segment_manager.proofs.Ranks.{IsRanked, all-ordered, found-filter, ordered-pairwise}
 
@@ -91,7 +91,7 @@ in-found format i d key h k =
     (ordered-pairwise (class_of_index i) (order_of i) (order-strict i) d.objects (index-parts (table_of i d) (objects_of i d) (order_of i) (directory-index format i d h)).2))
 
 -- each is found by its handle
-each-by_handle : (n : ℕ) (os : List Object) → IsTrue (rises_from n os) → AllByRecursion (λ (o : Object). find (has_key (names.ByHandle (handle o.extent))) os ≡ Some o) os
+pub each-by_handle : (n : ℕ) (os : List Object) → IsTrue (rises_from n os) → AllByRecursion (λ (o : Object). find (has_key (names.ByHandle (handle o.extent))) os ≡ Some o) os
 each-by_handle n [] h = tt
 each-by_handle n (p ∷ ps) h = (
   cond-true (handle p.extent == handle p.extent) (Some p) (find (has_key (names.ByHandle (handle p.extent))) ps) (eq-eqb (handle p.extent) (handle p.extent) refl),

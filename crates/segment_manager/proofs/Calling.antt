@@ -12,7 +12,7 @@ use Rattle.segment_manager.specs.Directory.{Object, Directory, live, value_exten
 use Rattle.segment_manager.specs.Denotes.{Denotes, IsObjectAt}
 use Rattle.segment_manager.proofs.Order.{inserted}
 use Rattle.segment_manager.proofs.Live.{IsFound, IsIn, live-split}
-use Rattle.segment_manager.proofs.Objects.{all-found}
+use Rattle.segment_manager.proofs.ObjectLists.{all-found}
 use Rattle.best_fit.proofs.Laws.{lay_out_one, list_any-insert}
 use Rattle.segment_manager.proofs.Denoted.{IsPlain, denotes-removed}
 

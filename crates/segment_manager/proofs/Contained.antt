@@ -29,7 +29,7 @@ use Rattle.segment_manager.proofs.Exchanged.{Exchange, between, denotes-containe
 use Rattle.segment_manager.proofs.Frame.{object-roomy}
 use Rattle.segment_manager.proofs.Here.{standing}
 use Rattle.segment_manager.proofs.Live.{IsIn}
-use Rattle.segment_manager.proofs.Objects.{key-found}
+use Rattle.segment_manager.proofs.ObjectLists.{key-found}
 use Rattle.segment_manager.proofs.Order.{inserted}
 use Rattle.segment_manager.proofs.Regrown.{InPlace, Parted, parted, rest}
 use Rattle.segment_manager.proofs.Rewritten.{value_start, with_value}

@@ -18,7 +18,7 @@ use Rattle.segment_manager.proofs.Frame.{any_objects-same, any_index-same, heade
 use Rattle.segment_manager.proofs.Order.{Differs, IsFresh, inserted, live-rises, rising-insert, all_of-inserted}
 use Rattle.segment_manager.proofs.Live.{adding, removing, OfEach, of_each, IsFound, IsIn, live-put, live-without}
 use Rattle.segment_manager.proofs.Faces.{IsLike, SameIndex, replace-rises, named-changed, unique-changed, named-with, unique-with, named-without, unique-without, anonymous-named, anonymous-unique}
-use Rattle.segment_manager.proofs.Objects.{all-put, all-remove, all-replace, list_all-put, list_all-remove, list_all-replace, stands_apart, put-rises, remove-rises}
+use Rattle.segment_manager.proofs.ObjectLists.{all-put, all-remove, all-replace, list_all-put, list_all-remove, list_all-replace, stands_apart, put-rises, remove-rises}
 
 -- ---- what stays
 

@@ -41,7 +41,7 @@ use Rattle.segment_manager.proofs.Here.{IsHere}
 use Rattle.segment_manager.proofs.HeldIndexes.{denotes-index}
 use Rattle.segment_manager.proofs.Listed.{object-here}
 use Rattle.segment_manager.proofs.Live.{IsIn}
-use Rattle.segment_manager.proofs.Objects.{found-handle, key-found}
+use Rattle.segment_manager.proofs.ObjectLists.{found-handle, key-found}
 use Rattle.segment_manager.proofs.Ranks.{all-ordered}
 use Rattle.segment_manager.proofs.Removed.{IsGone, IsLeft, removed-denotes}
 use Rattle.segment_manager.proofs.Rewritten.{with_value}

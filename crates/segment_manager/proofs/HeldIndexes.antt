@@ -27,7 +27,7 @@ use Rattle.segment_manager.proofs.Heads.{entries_say_objects, entry-name_len, go
 use Rattle.segment_manager.proofs.Indexes.{by_kind-strict, by_name-strict, index-parts}
 use Rattle.segment_manager.proofs.InUse.{IsInUse, all-both, all-each, named-in_use, objects-in_use, unique-in_use}
 use Rattle.segment_manager.proofs.KeyOrder.{kind-less, name-less}
-use Rattle.segment_manager.proofs.Objects.{each-true}
+use Rattle.segment_manager.proofs.ObjectLists.{each-true}
 use Rattle.segment_manager.proofs.EntryPlaces.{Ascends, StandsAt, all-at, ascends-at, rises-ascends, stands-at}
 use Rattle.segment_manager.proofs.Ranks.{IsStrict, all-filter, all-ordered}
 

@@ -17,7 +17,7 @@ use Rattle.segment_manager.specs.State.{Answers, IsSegment, State}
 use Rattle.segment_manager.proofs.Calling.{denotes-live, object-at, object-room}
 use Rattle.segment_manager.proofs.Frame.{IsRoomy, object-roomy}
 use Rattle.segment_manager.proofs.Live.{IsIn}
-use Rattle.segment_manager.proofs.Objects.{all-found, each-true, key-found}
+use Rattle.segment_manager.proofs.ObjectLists.{all-found, each-true, key-found}
 
 -- ---- the object of a key
 

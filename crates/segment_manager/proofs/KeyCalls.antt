@@ -30,7 +30,7 @@ use Rattle.segment_manager.proofs.Bridge.{IsEntryFor, IsNoEntryFor, lookup-absen
 use Rattle.segment_manager.proofs.Calling.{denotes-live}
 use Rattle.segment_manager.proofs.Handles.{handle-is-object}
 use Rattle.segment_manager.proofs.HeldIndexes.{denotes-index, denotes-keys}
-use Rattle.segment_manager.proofs.Objects.{found-handle}
+use Rattle.segment_manager.proofs.ObjectLists.{found-handle}
 use Rattle.segment_manager.proofs.Order.{Rising, live-rises}
 
 -- ---- a handle from outside

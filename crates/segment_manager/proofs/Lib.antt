@@ -7,7 +7,7 @@ mod Frame
 mod Order
 mod Live
 mod Faces
-mod Objects
+mod ObjectLists
 mod Denoted
 mod Calling
 mod Steps
@@ -17,6 +17,10 @@ mod Entries
 mod AnyClass
 mod Regrown
 mod Handles
+mod OwnBlocks
+mod OwnPlaces
+mod OwnWalks
+mod ElementLists
 mod Elements
 mod Kept
 mod Fresh

@@ -36,7 +36,7 @@ use Rattle.segment_manager.proofs.Calling.{denotes-live}
 use Rattle.segment_manager.proofs.Here.{standing}
 use Rattle.segment_manager.proofs.MapBlocks.{blocks-in_use, found-key}
 use Rattle.segment_manager.proofs.MapSteps.{IsMapObject, again-denotes, erased-denotes, map-only, map_place, object-map, put-denotes}
-use Rattle.segment_manager.proofs.Objects.{key-found}
+use Rattle.segment_manager.proofs.ObjectLists.{key-found}
 use Rattle.segment_manager.proofs.Refilled.{HoldsAt, finds-no_container, holds-at}
 use Rattle.segment_manager.proofs.Steps.{IsMove, IsOpenFor, by_no_change_of_kind, by_step_of_kind, open-reading, open-writing, perform-new, perform-no_space, step_of_kind-found, step_of_kind-segment, with-found}
 use Rattle.segment_manager.proofs.StorageSteps.{step_of_kind-reply}

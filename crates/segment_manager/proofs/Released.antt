@@ -39,7 +39,7 @@ use Rattle.segment_manager.proofs.Frame.{object-roomy}
 use Rattle.segment_manager.proofs.Here.{standing}
 use Rattle.segment_manager.proofs.Live.{IsIn}
 use Rattle.segment_manager.proofs.MapCalls.{HoldsPairs, as_map, holds-pairs}
-use Rattle.segment_manager.proofs.Objects.{all-found, each-true, found-handle, key-found}
+use Rattle.segment_manager.proofs.ObjectLists.{all-found, each-true, found-handle, key-found}
 use Rattle.segment_manager.proofs.Rewritten.{value_start, with_value}
 use Rattle.segment_manager.proofs.TextSteps.{HoldsText, holds-text}
 use Rattle.segment_manager.proofs.TextsHeld.{HoldsTexts, holds-texts}

@@ -37,7 +37,7 @@ use Rattle.segment_manager.proofs.Codes.{numbers-only}
 use Rattle.segment_manager.proofs.Elements.{set-effect, set-past}
 use Rattle.segment_manager.proofs.Frame.{IsRoomy, object-roomy}
 use Rattle.segment_manager.proofs.Live.{IsIn}
-use Rattle.segment_manager.proofs.Objects.{key-found}
+use Rattle.segment_manager.proofs.ObjectLists.{key-found}
 use Rattle.segment_manager.proofs.Places.{ElementAt, Lacks, Other, Past, Missing, Nowhere, Within, element-found, element-missing, numbers-good, numbers-stand}
 use Rattle.segment_manager.proofs.Replies.{element-kind}
 use Rattle.segment_manager.proofs.Rewritten.{SameFrame, denotes-rewritten, value_start, with_value}

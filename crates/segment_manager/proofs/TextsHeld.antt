@@ -31,7 +31,7 @@ use Rattle.segment_manager.proofs.Exchanged.{denotes-container}
 use Rattle.segment_manager.proofs.Frame.{object-roomy}
 use Rattle.segment_manager.proofs.Here.{standing}
 use Rattle.segment_manager.proofs.Live.{IsIn, live-split}
-use Rattle.segment_manager.proofs.Objects.{key-found}
+use Rattle.segment_manager.proofs.ObjectLists.{key-found}
 use Rattle.segment_manager.proofs.Order.{Rising, inserted, live-rises}
 use Rattle.segment_manager.proofs.Refilled.{HoldsAt, holds-at}
 use Rattle.segment_manager.proofs.Regrown.{rest, with_extents}

@@ -17,12 +17,12 @@ one-more false m at end n l = omega arith
 one-more true m at end n l = omega arith
 
 -- so many are read off at most
-tiles-bounded : (n : ℕ) (m : Memory) (at end : ℕ) → length (tiles_from n m at end) ≤ n
+pub tiles-bounded : (n : ℕ) (m : Memory) (at end : ℕ) → length (tiles_from n m at end) ≤ n
 tiles-bounded zero m at end = omega arith
 tiles-bounded (suc n) m at end = one-more (nat_lt at end) m at end n (tiles-bounded n m (at + (tile_at m at).len) end)
 
 -- a segment has no more than 2 ^ 30 bytes
-segment-short : (b : List ℕ) → IsSegment b → length b ≤ 1073741824
+pub segment-short : (b : List ℕ) → IsSegment b → length b ≤ 1073741824
 unfolding is_proper
 segment-short b g =
     let l = live g.0 in

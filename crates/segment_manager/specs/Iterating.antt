@@ -1,6 +1,9 @@
 -- What the iterators of a segment give.
-use Rattle.std.specs.Prelude.{◌≡◌, ℕ, ◌+◌, ◌≤◌, Option, Some, None, List, length, option_map, slice_get}
-use Rattle.best_fit.specs.Extents.{spans}
+use Rattle.std.specs.Prelude.{◌≡◌, ℕ, ◌+◌, ◌≤◌, Bool, false, Option, Some, None, List, filter, length, map, option_map, slice_get, take}
+use Rattle.block_tags.specs.declared.tile.Role.TheVariants.{Object as ObjectRole}
+use Rattle.best_fit.specs.Extents.{Extent, Span as LiveSpan, spans}
+use Rattle.best_fit.specs.Heap.{live_of}
+use Rattle.best_fit.specs.Table.{same_role}
 use Rattle.seg_index.specs.declared.index.Index.{Index}
 use Rattle.segment_manager.specs.declared.telling.Instance.{Instance}
 use Rattle.segment_manager.specs.declared.tiles.Span.{Span}
@@ -43,3 +46,51 @@ pub record GoesOnTiles (old : TileWalk) (item : Option Span) (new : TileWalk) : 
   pub segment : new.segment ≡ old.segment
   pub place : new.at ≡ place_behind old.at item
   pub says : Answers old.segment (λ d. slice_get (spans (live d)) old.at) (option_map as_span item)
+
+-- ---- all objects, by their offsets
+
+-- an iterator over all objects: how many of them it has given
+pub record ObjectWalk : Type 0 where
+  pub segment : State
+  pub at : ℕ
+
+-- the same of these
+pub record GoesOnObjects (old : ObjectWalk) (item : Option Instance) (new : ObjectWalk) : Type 0 where
+  pub segment : new.segment ≡ old.segment
+  pub place : new.at ≡ place_behind old.at item
+  pub says : SaysNext old.segment (λ d. d.objects) old.at item
+
+-- a block for an object
+abbrev pub is_own : Extent → Bool
+is_own x = same_role x.role ObjectRole
+
+-- the same among the blocks and gaps
+abbrev pub is_own_span : LiveSpan → Bool
+is_own_span s = elim s.use_of [ None ↦ false | Some role ↦ same_role role ObjectRole ]
+
+-- the blocks of objects among the blocks and gaps
+abbrev pub own_spans : Directory → List LiveSpan
+own_spans d = filter is_own_span (spans (live d))
+
+-- how many of them stand before a place among the blocks and gaps
+abbrev pub own_before : Directory → ℕ → ℕ
+own_before d i = length (filter is_own_span (take i (spans (live d))))
+
+-- the blocks and gaps that were passed are those of so many objects
+pub record HasPassed (s : State) (tiles : TileWalk) (at : ℕ) : Type 0 where
+  pub segment : tiles.segment ≡ s
+  pub count : Answers s (λ d. own_before d tiles.at) at
+
+-- the next block of an object, and the blocks and gaps up to it are passed
+pub record GoesOnOwn (old : TileWalk) (item : Option Span) (new : TileWalk) : Type 0 where
+  pub segment : new.segment ≡ old.segment
+  pub says : (d : Directory) → StandsFor old.segment.cut.bytes d → option_map as_span item ≡ slice_get (own_spans d) (own_before d old.at)
+  pub count : (d : Directory) → StandsFor old.segment.cut.bytes d → own_before d new.at ≡ place_behind (own_before d old.at) item
+
+-- the block is that of the object at a place
+pub record IsOwnBlock (s : State) (at : ℕ) (block : Span) : Type 0 where
+  pub stands : (d : Directory) → StandsFor s.cut.bytes d → Some (as_span block) ≡ slice_get (own_spans d) at
+
+-- how many objects the bytes have, as their tags say
+abbrev pub own_count : List ℕ → ℕ
+own_count b = length (filter is_own (live_of b).extents)

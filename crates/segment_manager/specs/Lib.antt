@@ -31,5 +31,6 @@ pub mod Relocating
 pub mod ToChange
 pub mod Stored
 pub mod Iterating
+pub mod ElementLists
 pub mod Counted
 pub mod Staying

@@ -54,7 +54,10 @@ impl Segment {
     }
 
     /// The same of what has storage.
-    fn measure_stored<S: Stored, O: Target>(&self, key: &O) -> Result<(u64, u64), Refusal>
+    pub(crate) fn measure_stored<S: Stored, O: Target>(
+        &self,
+        key: &O,
+    ) -> Result<(u64, u64), Refusal>
         requires { O.stands key.now self.now }
         ensures { Answers self.now (λ d. sizes_at_kind d (O.key key.now) S.kind) result }
     {
@@ -65,7 +68,7 @@ impl Segment {
     }
 
     /// The same of a map of two kinds.
-    fn measure_pairs<O: Target>(
+    pub(crate) fn measure_pairs<O: Target>(
         &self,
         key: &O,
         keys: ScalarKind,

@@ -1,13 +1,15 @@
 //! What objects say of themselves all at once, by their keys and by their places in the two indexes.
-ghost use Rattle.std.specs.Prelude.{length, MatchResult};
+ghost use Rattle.std.specs.Prelude.{length, true, MatchResult};
 ghost use Rattle.raw_region.specs.Format.{current};
 ghost use Rattle.best_fit.specs.Heap.{IsHeap};
+ghost use Rattle.seg_types.specs.Names.{ByHandle};
 ghost use Rattle.seg_index.specs.Held.{HasIndex, entry_count, place_of};
 ghost use Rattle.segment_manager.specs.Directory.{Object, named_objects, unique_objects};
-ghost use Rattle.segment_manager.specs.Found.{IsBelow};
+ghost use Rattle.segment_manager.specs.Found.{IsBelow, is_object_at};
 ghost use Rattle.segment_manager.specs.Instances.{IsInstance, IsMissing, SaysAt, SaysOf};
 ghost use Rattle.segment_manager.specs.Indexed.{objects_of};
 ghost use Rattle.segment_manager.specs.Standing.{HasObject, StandsAt};
+ghost use Rattle.segment_manager.specs.State.{Answers};
 
 use crate::head::{read_head, read_name};
 use crate::segment::Segment;
@@ -63,6 +65,14 @@ impl Segment {
         ensures { SaysAt self.now unique_objects i result }
     {
         self.entered(Index::Unique, i)
+    }
+
+    /// What the object of a handle says of itself, where one has it. Nothing is looked up.
+    pub(crate) fn instance_here(&self, handle: Handle) -> Instance<'_>
+        requires { Answers self.now (λ d. is_object_at d handle) true }
+        ensures { SaysOf self.now (ByHandle handle) result }
+    {
+        read_instance(&self.heap, handle)
     }
 
     /// The same of an index.

@@ -1,14 +1,17 @@
 //! The blocks and gaps of a segment.
 ghost use Rattle.std.specs.Prelude.{◌≡◌, ◌+◌, ℕ, Some, OnErr, OnOk, length, option_map, slice_get};
 ghost use Rattle.raw_region.specs.Memory.{bytes_of};
+ghost use Rattle.block_tags.specs.declared.tile.Role.TheVariants.{Object as ObjectRole};
 ghost use Rattle.block_tags.specs.Tiles.{tiles_of};
 ghost use Rattle.best_fit.specs.Extents.{spans};
 ghost use Rattle.best_fit.specs.FreeTree.{span};
 ghost use Rattle.best_fit.specs.Heap.{IsTileOf};
+ghost use Rattle.best_fit.specs.Table.{same_role};
 ghost use Rattle.seg_types.specs.Commands.{AllDeallocated, Sanity, ZeroFree};
 ghost use Rattle.segment_manager.specs.Answers.{Truth};
 ghost use Rattle.segment_manager.specs.Calls.{HasZeroGaps, IsTileOfIndex, as_span};
 ghost use Rattle.segment_manager.specs.Directory.{live};
+ghost use Rattle.segment_manager.specs.Iterating.{is_own_span};
 ghost use Rattle.segment_manager.specs.State.{Answers, IsReply, IsStep, done_answer};
 
 use crate::segment::Segment;
@@ -35,6 +38,16 @@ impl Span {
             offset: tile.offset,
             len: tile.len,
             use_of: tile.use_of,
+        }
+    }
+
+    /// Whether it is the block of an object.
+    pub fn is_object(&self) -> bool
+        ensures { result ≡ is_own_span (as_span self.now) }
+    {
+        match self.use_of {
+            None => false,
+            Some(role) => is_for_object(role),
         }
     }
 }
@@ -95,5 +108,15 @@ impl Segment {
         }
         self.heap.zero_free();
         Ok(())
+    }
+}
+
+/// Whether a block of a role is for an object.
+fn is_for_object(role: Role) -> bool
+    ensures { result ≡ same_role role ObjectRole }
+{
+    match role {
+        Role::Object => true,
+        Role::Index | Role::Storage | Role::Node => false,
     }
 }

@@ -1,0 +1,229 @@
+-- The walk over the blocks and gaps that stops at those of objects, for each directory that the bytes stand for.
+use Rattle.std.proofs.Common.{◌≡◌, refl, sym, ap, subst, ◌∙◌, ℕ, zero, suc, ◌+◌, ◌-◌, ◌<◌, ◌≤◌, Bool, true, false, Some, None, Option, List, [], ◌∷◌, add-one, length, map, arith, cond, take}
+use Rattle.std.specs.Prelude.{IsTrue, filter, is_some, nat_lt, option_map, slice_get}
+use Rattle.std.specs.List.{AllByRecursion}
+use Rattle.std.proofs.lemmas.Option.{none-some, same_Some, slice_get_within}
+use Rattle.raw_region.specs.Format.{current}
+use Rattle.best_fit.specs.Extents.{Extent, LiveSet, Span as LiveSpan, end_of, handle, is_proper, proper_from, spans}
+use Rattle.best_fit.specs.Heap.{live_of}
+use Rattle.best_fit.proofs.Laws.{IsFirst, proper_from-IsFirst, proper_from-reaches}
+use Rattle.block_tags.specs.Format.{is_legal_size}
+use Rattle.seg_types.specs.Names.{ByHandle}
+use Rattle.segment_manager.specs.declared.telling.Instance.{Instance}
+use Rattle.segment_manager.specs.declared.tiles.Span.{Span}
+use Rattle.segment_manager.specs.Calls.{as_span}
+use Rattle.segment_manager.specs.Directory.{Object, Directory, live, object_at, rises_from}
+use Rattle.segment_manager.specs.Found.{IsBelow, is_object_at}
+use Rattle.segment_manager.specs.Instances.{IsInstance, SaysAt, SaysOf}
+use Rattle.segment_manager.specs.Iterating.{GoesOnOwn, GoesOnTiles, HasPassed, IsOwnBlock, TileWalk, is_own, is_own_span, own_before, own_count, own_spans, place_behind}
+use Rattle.segment_manager.specs.State.{Answers, IsSegment, State, StandsFor}
+use Rattle.segment_manager.proofs.Bridge.{each-by_handle}
+use Rattle.segment_manager.proofs.Calling.{denotes-live}
+use Rattle.segment_manager.proofs.EntryPlaces.{all-at}
+use Rattle.segment_manager.proofs.ObjectLists.{rises-front, rises-rest}
+use Rattle.segment_manager.proofs.OwnBlocks.{all-own_spans, as_used, blocks, own-blocks}
+use Rattle.segment_manager.proofs.OwnPlaces.{none-more, one-more, passes-none, passes-there}
+use Rattle.segment_manager.proofs.TileCounts.{segment-short}
+use Rattle.segment_manager.proofs.Words.{first, second}
+
+-- ---- one turn of the walk
+
+-- the walk went on, and passed no block of an object
+pub record IsStill (old new : TileWalk) : Type 0 where
+  pub segment : new.segment ≡ old.segment
+  pub count : (d : Directory) → StandsFor old.segment.cut.bytes d → own_before d new.at ≡ own_before d old.at
+
+pub still-here : (w : TileWalk) → IsStill w w
+still-here w = record { segment = refl; count = λ d k. refl }
+
+module _ (old cur new : TileWalk) (s : IsStill old cur) where
+  same-bytes : (d : Directory) → StandsFor old.segment.cut.bytes d → StandsFor cur.segment.cut.bytes d
+  same-bytes d k = subst (λ (t : State). StandsFor t.cut.bytes d) (sym s.segment) k
+
+  -- past another block or a gap
+  pub own-past : (span : Span) → GoesOnTiles cur (Some span) new → is_own_span (as_span span) ≡ false → IsStill old new
+  own-past span g e = record {
+    segment = g.segment ∙ s.segment;
+    count = λ d k.
+        ap (own_before d) (g.place ∙ add-one cur.at)
+        ∙ none-more is_own_span (spans (live d)) cur.at (as_span span) (sym (g.says.answers d (same-bytes d k))) e ∙ s.count d k;
+  }
+
+  -- up to one of an object
+  pub own-found : (span : Span) → GoesOnTiles cur (Some span) new → is_own_span (as_span span) ≡ true → GoesOnOwn old (Some span) new
+  own-found span g e = record {
+    segment = g.segment ∙ s.segment;
+    says = λ d k.
+        sym (ap (slice_get (own_spans d)) (sym (s.count d k))
+        ∙ passes-there is_own_span (spans (live d)) cur.at (as_span span) (sym (g.says.answers d (same-bytes d k))) e);
+    count = λ d k.
+        ap (own_before d) (g.place ∙ add-one cur.at)
+        ∙ one-more is_own_span (spans (live d)) cur.at (as_span span) (sym (g.says.answers d (same-bytes d k))) e
+        ∙ ap suc (s.count d k) ∙ sym (add-one (own_before d old.at));
+  }
+
+  -- or to the end
+  pub own-end : GoesOnTiles cur None new → GoesOnOwn old None new
+  own-end g = record {
+    segment = g.segment ∙ s.segment;
+    says = λ d k.
+        sym (ap (slice_get (own_spans d)) (sym (s.count d k))
+        ∙ passes-none is_own_span (spans (live d)) cur.at (sym (g.says.answers d (same-bytes d k))));
+    count = λ d k. ap (own_before d) g.place ∙ s.count d k;
+  }
+
+-- ---- the object at a place
+
+none-behind : {X : Type 0} (xs : List X) (i : ℕ) → slice_get xs i ≡ None → length xs ≤ i
+none-behind [] i e = omega arith
+none-behind (x ∷ xs) zero e = absurd (none-some x (sym e))
+none-behind (x ∷ xs) (suc i) e = let rest : length xs ≤ i = none-behind xs i e in omega arith
+
+none-mapped : {X Y : Type 0} (f : X → Y) (xs : List X) (i : ℕ) → slice_get (map f xs) i ≡ None → slice_get xs i ≡ None
+none-mapped f [] i e = refl
+none-mapped f (x ∷ xs) zero e = absurd (none-some (f x) (sym e))
+none-mapped f (x ∷ xs) (suc i) e = none-mapped f xs i e
+
+-- all objects came
+pub objects-end : (s : State) (at : ℕ) (d : Directory) → StandsFor s.cut.bytes d → None ≡ slice_get (own_spans d) at → length d.objects ≤ at
+objects-end s at d k e =
+    none-behind d.objects at
+    (none-mapped (λ (o : Object). o.extent) d.objects at
+    (none-mapped as_used (blocks d.objects) at (ap (λ ss. slice_get ss at) (sym (all-own_spans current d k.denotes.directory)) ∙ sym e)))
+
+-- the object whose block stands at a place among those of objects
+pub record IsOwner (d : Directory) (at : ℕ) (span : Span) : Type 0 where
+  pub object : Object
+  pub is : slice_get d.objects at ≡ Some object
+  pub offset : span.offset ≡ object.extent.offset
+
+owner-in : (os : List Object) (at : ℕ) (span : LiveSpan) → slice_get (map as_used (blocks os)) at ≡ Some span → (o : Object) × (slice_get os at ≡ Some o) × (span.offset ≡ o.extent.offset)
+owner-in [] at span e = absurd (none-some span e)
+owner-in (o ∷ os) zero span e = (o, refl, ap (λ (s : LiveSpan). s.offset) (sym (same_Some (as_used o.extent) span e)))
+owner-in (o ∷ os) (suc at) span e = owner-in os at span e
+
+pub owner : (s : State) (at : ℕ) (span : Span) (d : Directory) → StandsFor s.cut.bytes d → Some (as_span span) ≡ slice_get (own_spans d) at → IsOwner d at span
+owner s at span d k e =
+    let o : (o : Object) × (slice_get d.objects at ≡ Some o) × (span.offset ≡ o.extent.offset) =
+    owner-in d.objects at (as_span span) (ap (λ ss. slice_get ss at) (sym (all-own_spans current d k.denotes.directory)) ∙ sym e) in
+    record { object = o.0; is = o.1; offset = o.2 }
+
+-- it is found by its handle
+pub owner-found : (d : Directory) (at : ℕ) (span : Span) (h : ℕ) (s : State) → StandsFor s.cut.bytes d → (o : IsOwner d at span) → h ≡ span.offset + 16 → object_at d (ByHandle h) ≡ Some o.object
+owner-found d at span h s k o e =
+    let own : object_at d (ByHandle (handle o.object.extent)) ≡ Some o.object =
+    all-at (λ (p : Object). object_at d (ByHandle (handle p.extent)) ≡ Some p) d.objects at o.object (each-by_handle 0 d.objects k.denotes.directory.by_offset) o.is in
+    ap (λ n. object_at d (ByHandle n)) (e ∙ ap (λ n. n + 16) o.offset) ∙ own
+
+-- ---- what a call of the iterator comes to
+
+module _ (s : State) (at : ℕ) (span : Span) (each : (d : Directory) → StandsFor s.cut.bytes d → Some (as_span span) ≡ slice_get (own_spans d) at) where
+  -- an object has the handle
+  pub owner-here : (h : ℕ) → h ≡ span.offset + 16 → Answers s (λ d. is_object_at d h) true
+  owner-here h e = record { answers = λ d k. sym (ap is_some (owner-found d at span h s k (owner s at span d k (each d k)) e)) }
+
+  -- what is said of it is said of the object at the place
+  pub owner-says : (h : ℕ) (said : Instance) → h ≡ span.offset + 16 → SaysOf s (ByHandle h) said → SaysAt s (λ d. d.objects) at said
+  owner-says h said e f = record {
+    says = λ d k.
+        let o : IsOwner d at span = owner s at span d k (each d k) in
+        let p : (p : Object) × (object_at d (ByHandle h) ≡ Some p) × IsInstance p said = f.says d k in
+        (o.object, o.is, subst (λ (q : Object). IsInstance q said) (same_Some p.0 o.object (sym p.1 ∙ owner-found d at span h s k o e)) p.2);
+  }
+
+  pub owner-below : IsBelow s (λ d. length d.objects) at
+  owner-below = record {
+    below = λ d k. let o : IsOwner d at span = owner s at span d k (each d k) in slice_get_within d.objects at o.object o.is;
+  }
+
+-- ---- how large the numbers are
+
+all-within : (from : ℕ) (xs : List Extent) (to : ℕ) → IsTrue (proper_from from xs to) → AllByRecursion (λ (x : Extent). end_of x ≤ to) xs
+all-within from [] to p = tt
+all-within from (x ∷ xs) to p =
+    let f : IsFirst from x xs to = proper_from-IsFirst from x xs to p in
+    (proper_from-reaches (end_of x) xs to f.rest, all-within (end_of x) xs to f.rest)
+
+kept : {X : Type 0} (P : X → Type 0) (p : X → Bool) (b : Bool) (x : X) (xs : List X) → P x → AllByRecursion P xs → AllByRecursion P (cond b (x ∷ xs) xs)
+kept P p true x xs a h = (a, h)
+kept P p false x xs a h = h
+
+all-kept : {X : Type 0} (P : X → Type 0) (p : X → Bool) (xs : List X) → AllByRecursion P xs → AllByRecursion P (filter p xs)
+all-kept P p [] h = tt
+all-kept P p (x ∷ xs) h = kept P p (p x) x (filter p xs) h.0 (all-kept P p xs h.1)
+
+all-blocks : (P : Extent → Type 0) (os : List Object) → AllByRecursion P (blocks os) → AllByRecursion (λ (o : Object). P o.extent) os
+all-blocks P [] h = tt
+all-blocks P (o ∷ os) h = (h.0, all-blocks P os h.1)
+
+live-within : (d : Directory) → IsTrue (is_proper (live d)) → AllByRecursion (λ (x : Extent). end_of x ≤ (live d).size - 16) (live d).extents
+unfolding is_proper
+live-within d h = all-within 128 (live d).extents ((live d).size - 16) (second (is_legal_size (live d).size) (proper_from 128 (live d).extents ((live d).size - 16)) h)
+
+-- the blocks of objects lie within the segment
+own-within : (b : List ℕ) (d : Directory) → StandsFor b d → AllByRecursion (λ (o : Object). end_of o.extent ≤ (live d).size - 16) d.objects
+own-within b d k =
+    all-blocks (λ (x : Extent). end_of x ≤ (live d).size - 16) d.objects
+    (subst (AllByRecursion (λ (x : Extent). end_of x ≤ (live d).size - 16)) (own-blocks current d k.denotes.directory)
+    (all-kept (λ (x : Extent). end_of x ≤ (live d).size - 16) is_own (live d).extents (live-within d k.denotes.directory.proper)))
+
+pub owner-short : (s : State) (at : ℕ) (span : Span) → IsSegment s.cut.bytes → ((d : Directory) → StandsFor s.cut.bytes d → Some (as_span span) ≡ slice_get (own_spans d) at)
+    → span.offset ≤ 1073741824
+owner-short s at span g each =
+    let d : Directory = g.0 in
+    let o : IsOwner d at span = owner s at span d g.1 (each d g.1) in
+    let within : end_of o.object.extent ≤ (live d).size - 16 = all-at (λ (p : Object). end_of p.extent ≤ (live d).size - 16) d.objects at o.object (own-within s.cut.bytes d g.1) o.is in
+    omega (arith, within, o.offset, segment-short s.cut.bytes g, g.1.denotes.heap.size)
+
+-- objects that rise are no more than there are offsets
+rises-few : (n m : ℕ) (os : List Object) → n ≤ m + 1 → IsTrue (rises_from n os) → AllByRecursion (λ (o : Object). end_of o.extent ≤ m) os → n + length os ≤ m + 1
+rises-few n m [] l r a = omega (arith, l)
+rises-few n m (o ∷ os) l r a =
+    let front : n ≤ o.extent.offset = rises-front n o os r in
+    let rest : o.extent.offset + 1 + length os ≤ m + 1 = rises-few (o.extent.offset + 1) m os (omega (arith, a.0)) (rises-rest n o os r) a.1 in
+    omega (arith, front, rest)
+
+pub objects-few : (b : List ℕ) (g : IsSegment b) → length g.0.objects ≤ 1073741825
+objects-few b g =
+    omega (arith, rises-few 0 ((live g.0).size - 16) g.0.objects (omega arith) g.1.denotes.directory.by_offset (own-within b g.0 g.1), segment-short b g, g.1.denotes.heap.size)
+
+length-blocks : (os : List Object) → length (blocks os) ≡ length os
+length-blocks [] = refl
+length-blocks (o ∷ os) = ap suc (length-blocks os)
+
+-- how many objects there are, as the tags say
+pub counts-own : (b : List ℕ) (d : Directory) → StandsFor b d → own_count b ≡ length d.objects
+counts-own b d k =
+    ap (λ (l : LiveSet). length (filter is_own l.extents)) (denotes-live current b d k.denotes) ∙ ap length (own-blocks current d k.denotes.directory) ∙ length-blocks d.objects
+
+-- ---- a call of the iterator
+
+module _ (s : State) (old new : TileWalk) (at : ℕ) (r : Option Span) (h : HasPassed s old at) (g : GoesOnOwn old r new) where
+  the-bytes : (d : Directory) → StandsFor s.cut.bytes d → StandsFor old.segment.cut.bytes d
+  the-bytes d k = subst (λ (t : State). StandsFor t.cut.bytes d) (sym h.segment) k
+
+  at-own : (d : Directory) → StandsFor s.cut.bytes d → option_map as_span r ≡ slice_get (own_spans d) at
+  at-own d k = g.says d (the-bytes d k) ∙ ap (slice_get (own_spans d)) (sym (h.count.answers d k))
+
+  -- a block came
+  pub block-at : (span : Span) → r ≡ Some span → IsOwnBlock s at span
+  block-at span e = record { stands = λ d k. ap (option_map as_span) (sym e) ∙ at-own d k }
+
+  pub passed-one : (span : Span) (n : ℕ) → r ≡ Some span → n ≡ at + 1 → HasPassed s new n
+  passed-one span n e f = record {
+    segment = g.segment ∙ h.segment;
+    count = record {
+      answers = λ d k.
+          f ∙ ap (λ m. m + 1) (h.count.answers d k) ∙ sym (g.count d (the-bytes d k) ∙ ap (place_behind (own_before d old.at)) e);
+    };
+  }
+
+  -- none came
+  pub passed-all : r ≡ None → HasPassed s new at
+  passed-all e = record {
+    segment = g.segment ∙ h.segment;
+    count = record { answers = λ d k. h.count.answers d k ∙ sym (g.count d (the-bytes d k) ∙ ap (place_behind (own_before d old.at)) e) };
+  }
+
+  pub none-left : r ≡ None → (d : Directory) → StandsFor s.cut.bytes d → length d.objects ≤ at
+  none-left e d k = objects-end s at d k (ap (option_map as_span) (sym e) ∙ at-own d k)

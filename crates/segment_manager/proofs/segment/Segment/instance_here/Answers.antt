@@ -1,0 +1,27 @@
+-- The object of the handle is read.
+use Rattle.std.proofs.Common.{sym, subst, Some, true}
+use Rattle.raw_region.specs.Format.{current}
+use Rattle.seg_types.specs.Names.{ByHandle}
+use Rattle.segment_manager.specs.Found.{handle_at, is_object_at}
+use Rattle.segment_manager.specs.Instances.{SaysOf}
+use Rattle.segment_manager.specs.State.{Answers, State}
+use Rattle.segment_manager.proofs.Calling.{denotes-heap}
+use Rattle.segment_manager.proofs.KeyCalls.{handle-answers}
+use Rattle.segment_manager.proofs.Listed.{has-own_object}
+use Rattle.segment_manager.proofs.Tellings.{key-says}
+use Rattle.segment_manager.proofs.segment.Segment.instance_here.Goals as goal
+
+pub read_instance-requires-clause-heap : goal.read_instance-requires-clause-heap
+read_instance-requires-clause-heap c = denotes-heap current c.self.inside.heap.bytes c.self.invariant.0 c.self.invariant.1.denotes
+
+pub read_instance-requires-clause-object : goal.read_instance-requires-clause-object
+read_instance-requires-clause-object c =
+    let s : State = record { cut = c.self.inside.heap; mode = c.self.inside.mode } in
+    has-own_object s c.args.handle c.self.invariant (subst (λ t. Answers t (λ d. is_object_at d c.args.handle) true) (sym c.self.view_is) c.requires)
+
+pub returns : goal.returns
+returns c =
+    let s : State = record { cut = c.self.inside.heap; mode = c.self.inside.mode } in
+    subst (λ t. SaysOf t (ByHandle c.args.handle) c.read_instance.result) c.self.view_is
+    (key-says s (ByHandle c.args.handle) c.args.handle c.read_instance.result
+    (handle-answers s c.args.handle true (subst (λ t. Answers t (λ d. is_object_at d c.args.handle) true) (sym c.self.view_is) c.requires)) c.read_instance.ensures)

@@ -1,0 +1,15 @@
+-- The role says it.
+use Rattle.std.proofs.Common.{sym, ap, ◌∙◌, Bool, false, Option, Some, None}
+use Rattle.block_tags.specs.declared.tile.Role.{Role}
+use Rattle.block_tags.specs.declared.tile.Role.TheVariants.{Object as ObjectRole}
+use Rattle.best_fit.specs.Table.{same_role}
+use Rattle.segment_manager.proofs.tiles.Span.is_object.Goals as goal
+
+abbrev said : Option Role → Bool
+said u = elim u as (λ _. Bool) [ None ↦ false | Some role ↦ same_role role ObjectRole ]
+
+pub returns-in-None : goal.returns-in-None
+returns-in-None c = sym (ap said c.in-None.is)
+
+pub returns-in-Some : goal.returns-in-Some
+returns-in-Some c = c.is_for_object.ensures ∙ sym (ap said c.in-Some.is)

@@ -1,0 +1,39 @@
+-- The elements of the object of a key, one after another: as many as it has where it is of the kind, and else none.
+use Rattle.std.specs.Prelude.{ℕ, ℤ, Some, None, List, [], map, if◌then◌else◌}
+use Rattle.seg_types.specs.declared.kinds.Kind.{Kind}
+use Rattle.seg_types.specs.declared.kinds.Kind.TheVariants.{Scalar as ScalarOf, Vector as VectorOf, Texts as TextsKind}
+use Rattle.seg_types.specs.declared.kinds.ScalarKind.{ScalarKind}
+use Rattle.seg_types.specs.Kinds.{same_kind}
+use Rattle.seg_types.specs.Names.{Key}
+use Rattle.seg_vector.specs.Vector.{OwnedText}
+use Rattle.segment_manager.specs.Directory.{Value, Numbers, Elements, Bytes, Pairs, Texts, Directory, kind_of, object_at}
+
+-- the numbers of a value that is an array or a vector of scalars
+abbrev pub numbers_in : Value → List ℤ
+numbers_in (Numbers k zs) = zs
+numbers_in (Elements k zs t) = zs
+numbers_in (Bytes bs t) = []
+numbers_in (Pairs k v ps) = []
+numbers_in (Texts ps t) = []
+
+-- the texts of a value that is a vector of strings
+abbrev pub texts_in : Value → List (List ℕ)
+texts_in (Numbers k zs) = []
+texts_in (Elements k zs t) = []
+texts_in (Bytes bs t) = []
+texts_in (Pairs k v ps) = []
+texts_in (Texts ps t) = map (λ (p : OwnedText). p.bytes) ps
+
+-- what is listed of the object of a key, an object of a kind
+abbrev pub list_at : {A : Type 0} → (Value → List A) → Directory → Key → Kind → List A
+list_at items d key kind = elim (object_at d key) [ None ↦ [] | Some o ↦ if same_kind kind (kind_of o.value) then items o.value else [] ]
+
+-- the scalars of an array of a kind, and of a vector; the texts of a vector of strings
+abbrev pub array_at : Directory → Key → ScalarKind → List ℤ
+array_at d key k = list_at numbers_in d key (ScalarOf k)
+
+abbrev pub vector_at : Directory → Key → ScalarKind → List ℤ
+vector_at d key k = list_at numbers_in d key (VectorOf k)
+
+abbrev pub texts_at : Directory → Key → List (List ℕ)
+texts_at d key = list_at texts_in d key TextsKind

@@ -1,0 +1,101 @@
+//! All objects of a segment, one after another by their offsets: those without a key too.
+ghost use Rattle.std.specs.Prelude.{◌≡◌, ◌+◌, ◌-◌, ◌<◌, length};
+ghost use Rattle.std.specs.Iterator.{at_most};
+ghost use Rattle.segment_manager.specs.Found.{IsBelow};
+ghost use Rattle.segment_manager.specs.Instances.{SaysAt};
+ghost use Rattle.segment_manager.specs.Iterating.{GoesOnObjects, GoesOnOwn, IsOwnBlock, own_count};
+
+use crate::segment::Segment;
+use crate::telling::Instance;
+use crate::tiles::Span;
+use crate::walking_tiles::Tiles;
+use block_tags::TAG;
+use std::marker::Model;
+
+/// All objects of a segment by their offsets, one after another: what each says of itself. Those without a key are among
+/// them. A walk over all of them takes one step for each block and gap.
+///
+/// Contracts see the segment, and how many objects came.
+#[derive(Drop)]
+pub struct Objects<'a> {
+    segment: &'a Segment,
+    tiles: Tiles<'a>,
+    at: u64,
+}
+
+impl<'a> Model for Objects<'a> {
+    ghost use Rattle.segment_manager.specs.Iterating.{HasPassed, ObjectWalk};
+
+    ghost Value = { ObjectWalk };
+
+    ghost view = { λ w. record { segment = w.segment.now; at = w.at } };
+
+    ghost invariant = { λ w. HasPassed w.segment.now w.tiles w.at };
+}
+
+impl<'a> Iterator for Objects<'a> {
+    type Item = Instance<'a>;
+
+    ghost next_gives = { GoesOnObjects };
+
+    ghost remaining = { λ w. at_most (own_count w.segment.cut.bytes - w.at) };
+
+    fn next(&mut self) -> Option<Instance<'a>> {
+        let segment = self.segment;
+        let block = next_own(&mut self.tiles)?;
+        let said = segment.object_in(self.at, block);
+        self.at = segment.object_behind(self.at);
+        Some(said)
+    }
+}
+
+/// The next block of an object among the blocks and gaps that are left, or nothing where there is no more.
+fn next_own(tiles: &mut Tiles<'_>) -> Option<Span>
+    ensures { GoesOnOwn tiles.old result tiles.new }
+{
+    'spans: while let Some(span) = tiles.next() {
+        if span.is_object() {
+            return Some(span);
+        }
+    }
+    None
+}
+
+impl Segment {
+    /// All objects by their offsets, those without a key too.
+    ///
+    /// ```
+    /// for said in segment.objects() {
+    ///     println!("{} {}", said.handle, said.count);
+    /// }
+    /// ```
+    pub fn objects(&self) -> Objects<'_>
+        ensures { result ≡ record { segment = self.now; at = 0 } }
+    {
+        Objects {
+            segment: self,
+            tiles: self.tiles(),
+            at: 0,
+        }
+    }
+
+    /// What the object says of itself that has a block, and `at` others before it. A block lies within the segment, which
+    /// its bytes say.
+    fn object_in(&self, at: u64, block: Span) -> Instance<'_>
+        requires { IsOwnBlock self.now at block }
+        ensures { SaysAt self.now (λ d. d.objects) at result }
+    {
+        let _ = self.as_bytes();
+        self.instance_here(block.offset + TAG)
+    }
+
+    /// The place behind that of an object. No segment has so many that 64 bits do not count them, which its bytes say.
+    fn object_behind(&self, at: u64) -> u64
+        requires { IsBelow self.now (λ d. length d.objects) at }
+        ensures next { result ≡ at + 1 }
+        ensures below { at < own_count self.now.cut.bytes }
+    {
+        let _ = self.as_bytes();
+        at + 1
+    }
+}

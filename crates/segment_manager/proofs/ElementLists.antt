@@ -1,7 +1,6 @@
 -- The elements of the object of a key, one after another: what a reading of one says of the list, and how long it is.
 use Rattle.std.proofs.Common.{◌≡◌, refl, sym, ap, ◌∙◌, ℕ, zero, suc, ℤ, Bool, true, false, Option, Some, None, Result, Ok, Err, List, [], ◌∷◌, length, map, if◌then◌else◌}
 use Rattle.std.specs.Prelude.{option_map, slice_get}
-use Rattle.std.proofs.lemmas.List.{length-map}
 use Rattle.seg_types.specs.declared.kinds.Kind.{Kind}
 use Rattle.seg_types.specs.declared.kinds.Kind.TheVariants.{Scalar as ScalarOf, Vector as VectorOf, Texts as TextsKind}
 use Rattle.seg_types.specs.declared.kinds.ScalarKind.{ScalarKind}
@@ -13,9 +12,9 @@ use Rattle.seg_types.specs.Names.{Key}
 use Rattle.seg_vector.specs.Vector.{OwnedText}
 use Rattle.segment_manager.specs.declared.modes.Mode.{Mode}
 use Rattle.segment_manager.specs.Answers.{Answer, Element, Refused, TextElement}
-use Rattle.segment_manager.specs.Contents.{first_size, length_at_kind, sizes_of, sizes_of_kind}
+use Rattle.segment_manager.specs.Contents.{sizes_of, sizes_of_kind}
 use Rattle.segment_manager.specs.Directory.{Value, Numbers, Elements, Texts, Object, Directory, count_of, kind_of, live, object_at}
-use Rattle.segment_manager.specs.ElementLists.{array_at, array_length_at, list_at, number_or_none, numbers_in, texts_at, texts_in, vector_at}
+use Rattle.segment_manager.specs.ElementLists.{array_at, array_length_at, first_size, length_at_kind, list_at, number_or_none, numbers_in, texts_at, texts_in, vector_at}
 use Rattle.segment_manager.specs.Plan.{Plan, Refuse, Reply, perform, with}
 use Rattle.segment_manager.specs.State.{answer_of}
 use Rattle.segment_manager.specs.Step.{element_at, get, owned_text_at, step_of_kind}
@@ -202,13 +201,20 @@ length-first d key kind (Some o) e =
 vector-many : (k : ScalarKind) (v : Value) → same_kind (VectorOf k) (kind_of v) ≡ true → first_size (sizes_of v) ≡ Ok (length (numbers_in v))
 vector-many k v e = let is = vector-only k v e in ap (λ (w : Value). first_size (sizes_of w)) is.1.1 ∙ sym (ap (λ (w : Value). Ok (length (numbers_in w))) is.1.1)
 
+bytes-many : (ps : List OwnedText) → length ps ≡ length (map (λ (p : OwnedText). p.bytes) ps)
+bytes-many [] = refl
+bytes-many (p ∷ ps) = ap suc (bytes-many ps)
+
 texts-many : (v : Value) → same_kind TextsKind (kind_of v) ≡ true → first_size (sizes_of v) ≡ Ok (length (texts_in v))
 texts-many v e =
     let is = texts-only v e in
-    ap (λ (w : Value). first_size (sizes_of w)) is.1.1 ∙ ap Ok (sym (length-map (λ (p : OwnedText). p.bytes) is.0)) ∙ sym (ap (λ (w : Value). Ok (length (texts_in w))) is.1.1)
+    ap (λ (w : Value). first_size (sizes_of w)) is.1.1 ∙ ap Ok (bytes-many is.0) ∙ sym (ap (λ (w : Value). Ok (length (texts_in w))) is.1.1)
 
-array-many : (k : ScalarKind) (v : Value) → same_kind (ScalarOf k) (kind_of v) ≡ true → Ok (count_of v) ≡ Ok (length (numbers_in v))
-array-many k v e = let is = numbers-only k v e in ap (λ (w : Value). Ok (count_of w)) is.1 ∙ sym (ap (λ (w : Value). Ok (length (numbers_in w))) is.1)
+abbrev array_size : Value → Result ℕ Refusal
+array_size v = Ok (count_of v)
+
+array-many : (k : ScalarKind) (v : Value) → same_kind (ScalarOf k) (kind_of v) ≡ true → array_size v ≡ Ok (length (numbers_in v))
+array-many k v e = let is = numbers-only k v e in ap array_size is.1 ∙ sym (ap (λ (w : Value). Ok (length (numbers_in w))) is.1)
 
 pub vector-length : (d : Directory) (key : Key) (k : ScalarKind) (r : Result ℕ Refusal) → r ≡ length_at_kind d key (VectorOf k) → number_or_none r ≡ length (vector_at d key k)
 vector-length d key k r e =
@@ -219,4 +225,4 @@ texts-length d key r e =
     ap number_or_none (e ∙ length-first d key TextsKind (object_at d key) refl) ∙ many-at texts_in (λ v. first_size (sizes_of v)) d key TextsKind texts-many (object_at d key) refl
 
 pub array-length : (d : Directory) (key : Key) (k : ScalarKind) (r : Result ℕ Refusal) → r ≡ array_length_at d key k → number_or_none r ≡ length (array_at d key k)
-array-length d key k r e = ap number_or_none e ∙ many-at numbers_in (λ v. Ok (count_of v)) d key (ScalarOf k) (array-many k) (object_at d key) refl
+array-length d key k r e = ap number_or_none e ∙ many-at numbers_in array_size d key (ScalarOf k) (array-many k) (object_at d key) refl

@@ -8,6 +8,7 @@ use Rattle.seg_types.specs.declared.refusals.Refusal.TheVariants.{NotFound, Wron
 use Rattle.seg_types.specs.Kinds.{same_kind}
 use Rattle.seg_types.specs.Names.{Key}
 use Rattle.seg_vector.specs.Vector.{OwnedText}
+use Rattle.segment_manager.specs.Contents.{sizes_at_kind}
 use Rattle.segment_manager.specs.Directory.{Value, Numbers, Elements, Bytes, Pairs, Texts, Directory, count_of, kind_of, object_at}
 
 -- the numbers of a value that is an array or a vector of scalars
@@ -41,6 +42,14 @@ abbrev pub texts_at : Directory → Key → List (List ℕ)
 texts_at d key = list_at texts_in d key TextsKind
 
 -- ---- how many they are
+
+-- of a container of a kind
+abbrev pub first_size : Result (ℕ × ℕ) Refusal → Result ℕ Refusal
+first_size (Ok (n, places)) = Ok n
+first_size (Err why) = Err why
+
+abbrev pub length_at_kind : Directory → Key → Kind → Result ℕ Refusal
+length_at_kind d key kind = first_size (sizes_at_kind d key kind)
 
 -- of an array of a kind
 abbrev pub array_length_at : Directory → Key → ScalarKind → Result ℕ Refusal

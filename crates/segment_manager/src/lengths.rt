@@ -1,7 +1,6 @@
 //! How many elements containers of one kind have.
 ghost use Rattle.seg_types.specs.declared.kinds.Kind.TheVariants.{Map as MapOf, Texts as TextsKind, Vector as VectorOf};
-ghost use Rattle.segment_manager.specs.Contents.{length_at_kind};
-ghost use Rattle.segment_manager.specs.ElementLists.{array_length_at};
+ghost use Rattle.segment_manager.specs.ElementLists.{array_length_at, length_at_kind};
 ghost use Rattle.segment_manager.specs.State.{Answers};
 
 use crate::segment::Segment;

@@ -13,9 +13,9 @@ use Rattle.seg_vector.specs.Vector.{OwnedText}
 use Rattle.segment_manager.specs.declared.modes.Mode.{Mode}
 use Rattle.segment_manager.specs.Answers.{Answer, Element, Refused, TextElement}
 use Rattle.segment_manager.specs.Contents.{sizes_of, sizes_of_kind}
-use Rattle.segment_manager.specs.Directory.{Value, Numbers, Elements, Texts, Object, Directory, count_of, kind_of, live, object_at}
+use Rattle.segment_manager.specs.Directory.{Value, Object, Directory, count_of, kind_of, live, object_at}
 use Rattle.segment_manager.specs.ElementLists.{array_at, array_length_at, first_size, length_at_kind, list_at, number_or_none, numbers_in, texts_at, texts_in, vector_at}
-use Rattle.segment_manager.specs.Plan.{Plan, Refuse, Reply, perform, with}
+use Rattle.segment_manager.specs.Plan.{Reply, perform, with}
 use Rattle.segment_manager.specs.State.{answer_of}
 use Rattle.segment_manager.specs.Step.{element_at, get, owned_text_at, step_of_kind}
 use Rattle.segment_manager.proofs.Codes.{numbers-only}

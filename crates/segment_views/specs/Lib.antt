@@ -5,3 +5,4 @@ pub mod OfMapView
 pub mod OfStringsView
 pub mod Opened
 pub mod Walked
+pub mod Repeated

@@ -1,5 +1,5 @@
 //! One scalar of a type, or an array of them, in a segment that may be changed, looked up once.
-ghost use Rattle.std.specs.Prelude.{◌≡◌, OnErr, IfOk};
+ghost use Rattle.std.specs.Prelude.{◌≡◌, OnErr, IfOk, map};
 ghost use Rattle.seg_types.specs.declared.kinds.Kind.TheVariants.{Scalar as ScalarOf};
 ghost use Rattle.seg_types.specs.Commands.{Get, Set, literal_of};
 ghost use Rattle.segment_manager.specs.Answers.{Element};
@@ -9,6 +9,7 @@ ghost use Rattle.seg_types.specs.Names.{ByHandle};
 ghost use Rattle.segment_manager.specs.Located.{IsObject};
 ghost use Rattle.segment_manager.specs.contracts.segment.Segment.{the_row};
 ghost use Rattle.segment_views.specs.Opened.{handle_of, opened_at};
+ghost use Rattle.segment_views.specs.Repeated.{StepsOn};
 ghost use Rattle.std.specs.Borrow.{sem, RestsIfErr};
 
 use crate::elements::ArrayItems;
@@ -114,5 +115,26 @@ impl<'a, T: Scalar> ArrayView<'a, T> {
     {
         let _ = self.segment.as_bytes();
         self.segment.set(&self.object, index, value)
+    }
+
+    /// Makes values its first elements, one after another.
+    ///
+    /// Example: `flags.copy_from(&[1, 2])?`.
+    ///
+    /// # Errors
+    ///
+    /// Those of `set`, at the first value that is refused, as where there are more values than elements: the values
+    /// before it are elements then.
+    pub fn copy_from(&mut self, values: &[T]) -> Result<(), Refusal>
+        ensures same { IsSame self.old self.new }
+        ensures steps { StepsOn (key_of self.old) (ScalarOf T.kind) (λ i z. Set (key_of self.old) i (literal_of T.kind z)) (map T.whole values.now) (segment_of self.old) (segment_of self.new) result }
+    {
+        'values: for i in 0..values.len() {
+            match self.set(i as u64, values[i]) {
+                Err(why) => return Err(why),
+                Ok(()) => {}
+            }
+        }
+        Ok(())
     }
 }

@@ -2,11 +2,11 @@
 ghost use Rattle.std.specs.Prelude.{◌≡◌, ◌-◌};
 ghost use Rattle.std.specs.Iterator.{at_most};
 ghost use Rattle.seg_types.specs.Names.{ByHandle};
-ghost use Rattle.segment_manager.specs.ElementLists.{array_at, texts_at, vector_at};
+ghost use Rattle.segment_manager.specs.ElementLists.{array_at, number_or_none as number_of, texts_at, vector_at};
 ghost use Rattle.segment_manager.specs.Located.{IsObject};
 ghost use Rattle.segment_views.specs.Walked.{GoesOnElements};
 
-use seg_types::Scalar;
+use seg_types::{Refusal, Scalar};
 use segment_manager::{Object, Segment};
 use std::marker::{Model, PhantomData};
 
@@ -40,10 +40,7 @@ impl<'a, T: Scalar> ArrayItems<'a, T> {
         requires { IsObject object segment.now }
         ensures { result ≡ record { segment = segment.now; key = ByHandle object.handle; at = 0 } }
     {
-        let len = match segment.array_len::<T, Object>(&object) {
-            Ok(len) => len,
-            Err(_) => 0,
-        };
+        let len = number_or_none(segment.array_len::<T, Object>(&object));
         ArrayItems {
             segment,
             object,
@@ -105,10 +102,7 @@ impl<'a, T: Scalar> VectorItems<'a, T> {
         requires { IsObject object segment.now }
         ensures { result ≡ record { segment = segment.now; key = ByHandle object.handle; at = 0 } }
     {
-        let len = match segment.vec_len::<T, Object>(&object) {
-            Ok(len) => len,
-            Err(_) => 0,
-        };
+        let len = number_or_none(segment.vec_len::<T, Object>(&object));
         VectorItems {
             segment,
             object,
@@ -169,10 +163,7 @@ impl<'a> TextItems<'a> {
         requires { IsObject object segment.now }
         ensures { result ≡ record { segment = segment.now; key = ByHandle object.handle; at = 0 } }
     {
-        let len = match segment.texts_len(&object) {
-            Ok(len) => len,
-            Err(_) => 0,
-        };
+        let len = number_or_none(segment.texts_len(&object));
         TextItems {
             segment,
             object,
@@ -201,5 +192,15 @@ impl<'a> Iterator for TextItems<'a> {
                 Some(text)
             }
         }
+    }
+}
+
+/// A number, or 0 where it is refused.
+fn number_or_none(number: Result<u64, Refusal>) -> u64
+    ensures { result ≡ number_of number }
+{
+    match number {
+        Ok(number) => number,
+        Err(_) => 0,
     }
 }

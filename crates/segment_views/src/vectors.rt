@@ -10,6 +10,7 @@ ghost use Rattle.seg_types.specs.Names.{ByHandle};
 ghost use Rattle.segment_manager.specs.Located.{IsObject};
 ghost use Rattle.segment_manager.specs.contracts.segment.Segment.{the_row};
 ghost use Rattle.segment_views.specs.Opened.{handle_of, opened_at};
+ghost use Rattle.segment_views.specs.Repeated.{StepsOn};
 ghost use Rattle.std.specs.Borrow.{sem, RestsIfErr};
 
 use crate::elements::VectorItems;
@@ -202,5 +203,25 @@ impl<'a, T: Scalar> VectorView<'a, T> {
     {
         let _ = self.segment.as_bytes();
         self.segment.vec_assign(&self.object, values)
+    }
+
+    /// Puts values behind the last element, one after another.
+    ///
+    /// Example: `queue.extend(&[8, 9])?`.
+    ///
+    /// # Errors
+    ///
+    /// Those of `push`, of the first value that is refused: the values before it are elements then.
+    pub fn extend(&mut self, values: &[T]) -> Result<(), Refusal>
+        ensures same { IsSame self.old self.new }
+        ensures steps { StepsOn (key_of self.old) (VectorOf T.kind) (λ i z. Push (key_of self.old) (literal_of T.kind z)) (map T.whole values.now) (segment_of self.old) (segment_of self.new) result }
+    {
+        'values: for i in 0..values.len() {
+            match self.push(values[i]) {
+                Err(why) => return Err(why),
+                Ok(()) => {}
+            }
+        }
+        Ok(())
     }
 }

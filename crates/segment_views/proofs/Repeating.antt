@@ -1,14 +1,14 @@
 -- Steps for the numbers of a list, one after another.
-use Rattle.std.proofs.Common.{◌≡◌, refl, sym, ap, subst, ◌∙◌, ℕ, zero, suc, ◌+◌, ◌<◌, ℤ, Some, Option, Err, Result, List, [], ◌∷◌, ◌++◌, length, map, take, arith}
+use Rattle.std.proofs.Common.{◌≡◌, refl, sym, ap, subst, ◌∙◌, ℕ, zero, suc, ◌+◌, ◌<◌, ℤ, Some, Option, Err, Result, List, [], ◌∷◌, ◌++◌, add-one, get_or, length, map, take, arith}
 use Rattle.std.specs.Prelude.{slice_get}
-use Rattle.std.proofs.lemmas.Option.{none-some, same_Some}
+use Rattle.std.proofs.lemmas.Option.{none-some, same_Some, slice_get-get_or}
 use Rattle.seg_types.specs.declared.kinds.Kind.{Kind}
 use Rattle.seg_types.specs.declared.refusals.Refusal.{Refusal}
 use Rattle.seg_types.specs.Commands.{Command}
 use Rattle.seg_types.specs.Names.{Key}
-use Rattle.segment_manager.specs.Answers.{Done}
+use Rattle.segment_manager.specs.Answers.{Done, Refused}
 use Rattle.segment_manager.specs.State.{IsStepOfKind, State}
-use Rattle.segment_views.specs.Repeated.{AreSteps}
+use Rattle.segment_views.specs.Repeated.{AreSteps, StopsAt}
 
 -- one more
 more-steps : (key : Key) (kind : Kind) (c : ℕ → ℤ → Command) (from : ℕ) (zs : List ℤ) (z : ℤ) (n : ℕ) (old mid new : State) → n ≡ from + length zs → AreSteps key kind c from zs old mid
@@ -29,6 +29,27 @@ taken-length (y ∷ ys) (suc i) x e = ap suc (taken-length ys i x e)
 
 -- the number at the place behind those for which steps were made
 pub steps-on : (key : Key) (kind : Kind) (c : ℕ → ℤ → Command) (zs : List ℤ) (i : ℕ) (z : ℤ) (old mid new : State) → slice_get zs i ≡ Some z → AreSteps key kind c 0 (take i zs) old mid
-    → IsStepOfKind mid new key kind (c i z) Done → AreSteps key kind c 0 (take (suc i) zs) old new
+    → IsStepOfKind mid new key kind (c i z) Done → AreSteps key kind c 0 (take (i + 1) zs) old new
 steps-on key kind c zs i z old mid new e s m =
-    subst (λ ys. AreSteps key kind c 0 ys old new) (sym (taken-one zs i z e)) (more-steps key kind c 0 (take i zs) z i old mid new (let n : length (take i zs) ≡ i = taken-length zs i z e in omega arith) s m)
+    subst (λ ys. AreSteps key kind c 0 ys old new) (sym (taken-one zs i z e) ∙ ap (λ n. take n zs) (sym (add-one i)))
+    (more-steps key kind c 0 (take i zs) z i old mid new (let n : length (take i zs) ≡ i = taken-length zs i z e in omega arith) s m)
+
+-- or the next one is refused, which changes nothing
+pub stops : (key : Key) (kind : Kind) (c : ℕ → ℤ → Command) (zs : List ℤ) (i : ℕ) (z : ℤ) (old mid new : State) (why : Refusal) → slice_get zs i ≡ Some z → AreSteps key kind c 0 (take i zs) old mid
+    → new ≡ mid → IsStepOfKind mid new key kind (c i z) (Refused why) → StopsAt key kind c zs old new why
+stops key kind c zs i z old mid new why e s f m = record {
+  count = i;
+  number = z;
+  next = e;
+  steps = subst (AreSteps key kind c 0 (take i zs) old) (sym f) s;
+  refused = subst (λ t. IsStepOfKind t new key kind (c i z) (Refused why)) (sym f) m;
+}
+
+mapped-at : {X Y : Type 0} (f : X → Y) (xs : List X) (i : ℕ) (x : X) → slice_get xs i ≡ Some x → slice_get (map f xs) i ≡ Some (f x)
+mapped-at f [] i x e = absurd (none-some x e)
+mapped-at f (y ∷ ys) zero x e = ap (λ z. Some (f z)) (same_Some y x e)
+mapped-at f (y ∷ ys) (suc i) x e = mapped-at f ys i x e
+
+-- the value of an index, as it is seen
+pub value-at : {X Y : Type 0} (f : X → Y) (xs : List X) (i : ℕ) (x : X) → i < length xs → x ≡ get_or xs i x → slice_get (map f xs) i ≡ Some (f x)
+value-at f xs i x l e = mapped-at f xs i x (slice_get-get_or xs i x l ∙ ap Some (sym e))

@@ -1,11 +1,10 @@
 -- One more step, or one that is refused.
-use Rattle.std.proofs.Common.{◌≡◌, subst, ◌∙◌, ℕ, ℤ, Some, length, map}
-use Rattle.std.specs.Prelude.{slice_get}
+use Rattle.std.proofs.Common.{subst, ◌∙◌, map}
 use Rattle.seg_types.specs.declared.kinds.Kind.TheVariants.{Scalar as ScalarOf}
-use Rattle.seg_types.specs.Commands.{Command, Set, literal_of}
+use Rattle.seg_types.specs.Commands.{Set, literal_of}
 use Rattle.seg_types.specs.Names.{ByHandle}
 use Rattle.segment_manager.specs.Answers.{Done, Refused}
-use Rattle.segment_manager.specs.State.{IsStepOfKind, State}
+use Rattle.segment_manager.specs.State.{IsStepOfKind}
 use Rattle.segment_manager.specs.declared.targets.Object.{Object as Located}
 use Rattle.segment_views.specs.OfArrayView.{segment_of}
 use Rattle.segment_views.proofs.Repeating.{steps-on, stops, value-at}

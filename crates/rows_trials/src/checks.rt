@@ -81,12 +81,8 @@ impl<'a> Wanted<'a> {
 
 /// Where two lists of bytes differ first, one of which may be a front of the other.
 fn first_difference(a: &[u8], b: &[u8]) -> usize {
-    let mut at = 0usize;
-    for (x, y) in a.iter().zip(b) {
-        if x != y {
-            break;
-        }
-        at = at.saturating_add(1);
-    }
-    at
+    let mut pairs = a.iter().zip(b);
+    pairs
+        .position(|(x, y)| x != y)
+        .unwrap_or(a.len().min(b.len()))
 }

@@ -36,29 +36,29 @@ const CHANGING: [&[u8]; 21] = [
 /// Whether a line may change a segment. One with an error before the fourth is refused whatever the mode is.
 fn is_changing(line: &Script) -> bool {
     let text = behind_blanks(&line.text);
-    for command in CHANGING {
-        if text.starts_with(command) && is_end(text.get(command.len())) {
-            return !is_misspelled(&line.answers);
-        }
-    }
-    false
+    CHANGING.iter().any(|command| begins_with(text, command)) && !is_misspelled(&line.answers)
 }
 
 /// A line from its first word on.
 fn behind_blanks(line: &[u8]) -> &[u8] {
-    let mut at = 0usize;
-    for byte in line {
-        if !is_end(Some(byte)) {
-            break;
-        }
-        at = at.saturating_add(1);
+    match line.iter().position(|byte| !is_blank(*byte)) {
+        Some(at) => line.get(at..).unwrap_or(&[]),
+        None => &[],
     }
-    line.get(at..).unwrap_or(&[])
 }
 
-/// Whether a word ends before this byte, or at the end of the line.
-fn is_end(byte: Option<&u8>) -> bool {
-    byte.is_none_or(|byte| b" \t\r".contains(byte))
+/// Whether a byte parts words.
+fn is_blank(byte: u8) -> bool {
+    byte == b' ' || byte == b'\t' || byte == b'\r'
+}
+
+/// Whether the first word of a line is this one.
+fn begins_with(line: &[u8], word: &[u8]) -> bool {
+    match line.strip_prefix(word) {
+        Some([next, ..]) => is_blank(*next),
+        Some([]) => true,
+        None => false,
+    }
 }
 
 /// Whether an answer is an error that comes before all others.
@@ -77,7 +77,7 @@ impl<R: Runner> Bench<R> {
         for (index, mark) in script.marks.iter().enumerate() {
             if mark.number != number {
                 let line = script.only(self.alloc, index)?;
-                self.check_line(mark.number, trial, &line, behind <= index)?;
+                self.check_line(mark.number, trial, &line, behind <= index);
             }
             number = mark.number;
         }
@@ -95,20 +95,14 @@ impl<R: Runner> Bench<R> {
         Ok(behind)
     }
 
-    fn check_line(
-        &self,
-        number: usize,
-        trial: &Trial<'_>,
-        line: &Script,
-        is_behind: bool,
-    ) -> Result<(), Trouble> {
+    fn check_line(&self, number: usize, trial: &Trial<'_>, line: &Script, is_behind: bool) {
         let mut wanted = Wanted::script(number, line, &[]);
         if is_changing(line) {
             wanted.answers = Some(b"error 4 read only\n");
         } else if !is_behind && !is_misspelled(&line.answers) {
-            return Ok(());
+            return;
         }
         let way = trial.session(Mode::ReadOnly, line.answers.len().max(18), 0);
-        self.check(&wanted, &way, trial.image, &line.text)
+        self.check(&wanted, &way, trial.image, &line.text);
     }
 }

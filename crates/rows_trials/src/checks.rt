@@ -31,6 +31,17 @@ impl<'a> Wanted<'a> {
         }
     }
 
+    /// A script that is done, prints this and saves an image.
+    pub fn done(line: usize, answers: &'a [u8], saved: &'a [u8]) -> Wanted<'a> {
+        Wanted {
+            line,
+            marks: &[],
+            fault: "",
+            answers: Some(answers),
+            saved: Some(saved),
+        }
+    }
+
     /// A script that is done, and saves an image.
     pub fn script(line: usize, script: &'a Script, saved: &'a [u8]) -> Wanted<'a> {
         Wanted {
@@ -40,6 +51,11 @@ impl<'a> Wanted<'a> {
             answers: Some(&script.answers),
             saved: Some(saved),
         }
+    }
+
+    /// How many bytes are printed, where that is known.
+    pub fn room(&self) -> usize {
+        self.answers.unwrap_or(&[]).len()
     }
 
     /// Sees that a call came out so.

@@ -1,10 +1,10 @@
 //! Tables of images that are damaged, and refused.
 
 use crate::benches::{Bench, Runner};
+use crate::checks::Wanted;
 use crate::desks::usual_places;
 use crate::images::Images;
 use crate::lines::Line;
-use crate::scripts::Script;
 use crate::tasks::Start;
 use crate::trials::Trial;
 use crate::troubles::Trouble;
@@ -29,11 +29,11 @@ impl<R: Runner> Bench<R> {
         line: &Line<'_>,
     ) -> Result<(), Trouble> {
         let image = images.damaged(line, name)?;
-        self.refuse_image(line, &image)
+        self.refuse_image(line, &image);
+        Ok(())
     }
 
-    fn refuse_image(&self, line: &Line<'_>, image: &[u8]) -> Result<(), Trouble> {
-        let script = Script::bare(self.alloc, b"size\n", &[])?;
+    fn refuse_image(&self, line: &Line<'_>, image: &[u8]) {
         let trial = Trial {
             line: line.number,
             start: Start::Image,
@@ -41,8 +41,8 @@ impl<R: Runner> Bench<R> {
             places: &usual_places((image.len() as u64).max(4096)),
             once: false,
         };
-        self.refuse(&trial, &script, line.word);
+        let wanted = Wanted::fault(line.number, line.word);
+        self.refuse(&trial, &wanted, b"size\n");
         self.count_row();
-        Ok(())
     }
 }

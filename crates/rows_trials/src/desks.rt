@@ -180,7 +180,7 @@ impl<R: Runner> Bench<R> {
                 Ok(None)
             }
             Deed::Alone => {
-                self.note(self.alone(trial, &part.script));
+                self.alone(trial, &part.script);
                 Ok(None)
             }
         }

@@ -3,11 +3,11 @@
 use crate::benches::{Bench, Runner};
 use crate::checks::Wanted;
 use crate::part_lines::Part;
-use crate::scripts::Script;
+use crate::scripts::{Said, Script};
 use crate::tasks::{Mode, Place, Start, Way};
 use crate::trials::{PIECES, Trial};
 use crate::troubles::Trouble;
-use std::alloc::{AllocError, Global};
+use std::alloc::Global;
 
 /// All modes.
 const MODES: [Mode; 3] = [Mode::Write, Mode::CopyOnWrite, Mode::ReadOnly];
@@ -54,7 +54,9 @@ impl<R: Runner> Bench<R> {
         if part.fault.is_empty() {
             return self.write(trial, &part.script);
         }
-        self.refuse(trial, &part.script, part.fault);
+        let mut wanted = Wanted::script(trial.line, &part.script, &[]);
+        wanted.fault = part.fault;
+        self.refuse(trial, &wanted, &part.script.text);
         Ok(Some(Vec::new(self.alloc)))
     }
 
@@ -129,53 +131,51 @@ impl<R: Runner> Bench<R> {
     /// Opens the image that a script left, and runs the script's lines on it where they do not change it.
     fn check_left(&self, left: &Trial<'_>, script: &Script) {
         self.check_image(left);
-        self.note(self.check_read_only(left, script));
+        self.check_read_only(left, script);
     }
 
     /// Runs a script that ends with a fault and saves nothing, in all modes, in all places and in pieces; an image that is refused is
     /// cut in all places.
-    pub fn refuse<'s>(&self, trial: &Trial<'_>, script: &'s Script, fault: &'s str) {
-        let mut wanted = Wanted::script(trial.line, script, &[]);
-        wanted.fault = fault;
-        let way = trial.session(Mode::Write, script.answers.len(), 0);
+    pub fn refuse(&self, trial: &Trial<'_>, wanted: &Wanted<'_>, script: &[u8]) {
         if trial.once {
-            return self.check(&wanted, &way, trial.image, &script.text);
+            let way = trial.session(Mode::Write, wanted.room(), 0);
+            return self.check(wanted, &way, trial.image, script);
         }
-        self.refuse_in_modes(trial, &wanted, script);
+        self.refuse_in_modes(trial, wanted, script);
         if matches!(trial.start, Start::Image) {
-            self.cut_refused(trial, &way, &script.text, fault);
+            self.cut_refused(trial, wanted, script);
         }
     }
 
-    fn refuse_in_modes(&self, trial: &Trial<'_>, wanted: &Wanted<'_>, script: &Script) {
+    fn refuse_in_modes(&self, trial: &Trial<'_>, wanted: &Wanted<'_>, script: &[u8]) {
         for mode in MODES {
-            let way = trial.session(mode, script.answers.len(), 0);
-            self.check_by_pieces(trial.places, wanted, &way, trial.image, &script.text);
+            let way = trial.session(mode, wanted.room(), 0);
+            self.check_by_pieces(trial.places, wanted, &way, trial.image, script);
         }
     }
 
-    fn cut_refused(&self, trial: &Trial<'_>, way: &Way, script: &[u8], fault: &str) {
-        let mut way = *way;
+    fn cut_refused(&self, trial: &Trial<'_>, wanted: &Wanted<'_>, script: &[u8]) {
+        let mut way = trial.session(Mode::Write, wanted.room(), 0);
         for place in trial.places {
             way.place = *place;
-            self.cut_reading(trial.line, &way, trial.image, script, fault);
+            self.cut_reading(trial.line, &way, trial.image, script, wanted.fault);
         }
     }
 
     /// Opens a good image in all places, and in too small a region; saves it again; and cuts it where it is read and where it is
     /// saved.
     fn check_image(&self, trial: &Trial<'_>) {
-        match size_script(self.alloc, trial.image.len()) {
-            Ok(script) => self.check_size(trial, &script),
-            Err(error) => self.note(Err(Trouble::from(error))),
+        match size_line(self.alloc, trial.image.len()) {
+            Ok(answer) => self.check_size(trial, answer.as_bytes()),
+            Err(trouble) => self.note(Err(trouble)),
         }
     }
 
-    fn check_size(&self, trial: &Trial<'_>, script: &Script) {
-        let way = trial.session(Mode::Write, script.answers.len(), trial.image.len());
-        let wanted = Wanted::script(trial.line, script, trial.image);
-        self.check_by_pieces(trial.places, &wanted, &way, trial.image, &script.text);
-        self.cut_image(&wanted, &way, trial.image, &script.text);
+    fn check_size(&self, trial: &Trial<'_>, answer: &[u8]) {
+        let way = trial.session(Mode::Write, answer.len(), trial.image.len());
+        let wanted = Wanted::done(trial.line, answer, trial.image);
+        self.check_by_pieces(trial.places, &wanted, &way, trial.image, b"size\n");
+        self.cut_image(&wanted, &way, trial.image, b"size\n");
     }
 
     /// Runs a script in mode `ReadOnly` on an image, in all places and in pieces, and with devices that fail.
@@ -187,20 +187,23 @@ impl<R: Runner> Bench<R> {
     }
 
     /// Runs each line as a script of its own, and then all of them. The image is saved as it was each time.
-    pub fn alone(&self, trial: &Trial<'_>, script: &Script) -> Result<(), Trouble> {
+    pub fn alone(&self, trial: &Trial<'_>, script: &Script) {
         for (index, mark) in script.marks.iter().enumerate() {
-            let only = script.only(self.alloc, index)?;
-            self.check_kept(mark.number, trial, &only);
+            self.check_kept(mark.number, trial, script.said(index));
         }
-        self.check_kept(trial.line, trial, script);
-        self.check_read_only(trial, script)
+        let all = Said {
+            text: &script.text,
+            answers: &script.answers,
+        };
+        self.check_kept(trial.line, trial, all);
+        self.check_read_only(trial, script);
     }
 
     /// Runs a script that leaves the image as it was.
-    fn check_kept(&self, line: usize, trial: &Trial<'_>, script: &Script) {
-        let way = trial.session(Mode::Write, script.answers.len(), trial.image.len());
-        let wanted = Wanted::script(line, script, trial.image);
-        self.check_in(trial.places, &wanted, &way, trial.image, &script.text);
+    fn check_kept(&self, line: usize, trial: &Trial<'_>, said: Said<'_>) {
+        let way = trial.session(Mode::Write, said.answers.len(), trial.image.len());
+        let wanted = Wanted::done(line, said.answers, trial.image);
+        self.check_in(trial.places, &wanted, &way, trial.image, said.text);
     }
 
     /// Migrates an image in every way, and gives the one that is saved.
@@ -231,8 +234,7 @@ impl<R: Runner> Bench<R> {
     }
 }
 
-/// A script that asks for the size of a segment of so many bytes.
-fn size_script(alloc: Global, size: usize) -> Result<Script, AllocError> {
-    let answers = format!(in alloc; "{size}\n")?;
-    Script::bare(alloc, b"size\n", answers.as_bytes())
+/// What a segment of so many bytes prints of its size.
+fn size_line(alloc: Global, size: usize) -> Result<String, Trouble> {
+    Ok(format!(in alloc; "{size}\n")?)
 }

@@ -2,11 +2,9 @@
 
 use crate::benches::{Bench, Runner};
 use crate::checks::Wanted;
-use crate::scripts::Script;
+use crate::scripts::{Said, Script};
 use crate::tasks::Mode;
 use crate::trials::Trial;
-use crate::troubles::Trouble;
-use std::alloc::AllocError;
 
 /// The commands that may change a segment.
 const CHANGING: [&[u8]; 21] = [
@@ -34,9 +32,9 @@ const CHANGING: [&[u8]; 21] = [
 ];
 
 /// Whether a line may change a segment. One with an error before the fourth is refused whatever the mode is.
-fn is_changing(line: &Script) -> bool {
-    let text = behind_blanks(&line.text);
-    CHANGING.iter().any(|command| begins_with(text, command)) && !is_misspelled(&line.answers)
+fn is_changing(line: Said<'_>) -> bool {
+    let text = behind_blanks(line.text);
+    CHANGING.iter().any(|command| begins_with(text, command)) && !is_misspelled(line.answers)
 }
 
 /// A line from its first word on.
@@ -68,41 +66,42 @@ fn is_misspelled(answer: &[u8]) -> bool {
         || answer.starts_with(b"error 3 ")
 }
 
+/// Behind which of the lines nothing changes a segment.
+fn last_change(script: &Script) -> usize {
+    let mut behind = 0usize;
+    for index in 0..script.marks.len() {
+        if is_changing(script.said(index)) {
+            behind = index.saturating_add(1);
+        }
+    }
+    behind
+}
+
 impl<R: Runner> Bench<R> {
     /// Runs each line in mode `ReadOnly` on the image that the lines leave, if it is known what it prints there: one that may change
     /// it is refused; one behind the last of these, and one that is misspelled, answers as it did.
-    pub fn check_read_only(&self, trial: &Trial<'_>, script: &Script) -> Result<(), Trouble> {
-        let behind = self.last_change(script)?;
+    pub fn check_read_only(&self, trial: &Trial<'_>, script: &Script) {
+        let behind = last_change(script);
         let mut number = 0usize;
         for (index, mark) in script.marks.iter().enumerate() {
             if mark.number != number {
-                let line = script.only(self.alloc, index)?;
-                self.check_line(mark.number, trial, &line, behind <= index);
+                self.check_line(mark.number, trial, script.said(index), behind <= index);
             }
             number = mark.number;
         }
-        Ok(())
     }
 
-    /// Behind which of the lines nothing changes a segment.
-    fn last_change(&self, script: &Script) -> Result<usize, AllocError> {
-        let mut behind = 0usize;
-        for index in 0..script.marks.len() {
-            if is_changing(&script.only(self.alloc, index)?) {
-                behind = index.saturating_add(1);
-            }
-        }
-        Ok(behind)
-    }
-
-    fn check_line(&self, number: usize, trial: &Trial<'_>, line: &Script, is_behind: bool) {
-        let mut wanted = Wanted::script(number, line, &[]);
+    fn check_line(&self, number: usize, trial: &Trial<'_>, line: Said<'_>, is_behind: bool) {
         if is_changing(line) {
-            wanted.answers = Some(b"error 4 read only\n");
-        } else if !is_behind && !is_misspelled(&line.answers) {
-            return;
+            self.check_reading(number, trial, line.text, b"error 4 read only\n");
+        } else if is_behind || is_misspelled(line.answers) {
+            self.check_reading(number, trial, line.text, line.answers);
         }
-        let way = trial.session(Mode::ReadOnly, line.answers.len().max(18), 0);
-        self.check(&wanted, &way, trial.image, &line.text);
+    }
+
+    fn check_reading(&self, number: usize, trial: &Trial<'_>, line: &[u8], answers: &[u8]) {
+        let wanted = Wanted::done(number, answers, &[]);
+        let way = trial.session(Mode::ReadOnly, answers.len(), 0);
+        self.check(&wanted, &way, trial.image, line);
     }
 }

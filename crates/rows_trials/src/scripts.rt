@@ -13,6 +13,13 @@ pub struct Mark {
     pub answers_end: usize,
 }
 
+/// A line of a script without its end, or a script; and what it prints.
+#[derive(Clone, Copy)]
+pub struct Said<'a> {
+    pub text: &'a [u8],
+    pub answers: &'a [u8],
+}
+
 /// A script, and what it prints.
 #[derive(Drop)]
 pub struct Script {
@@ -108,17 +115,16 @@ impl Script {
         }
     }
 
-    /// The line with so many before it, without its end, and what it prints, as a script.
-    pub fn only(&self, alloc: Global, index: usize) -> Result<Script, AllocError> {
+    /// The line with so many before it, without its end, and what it prints.
+    pub fn said(&self, index: usize) -> Said<'_> {
         let begin = self.begin_of(index);
         let end = self.begin_of(index.saturating_add(1));
         let text = begin.script_end..end.script_end.saturating_sub(1);
         let answers = begin.answers_end..end.answers_end;
-        Script::bare(
-            alloc,
-            self.text.get(text).unwrap_or(&[]),
-            self.answers.get(answers).unwrap_or(&[]),
-        )
+        Said {
+            text: self.text.get(text).unwrap_or(&[]),
+            answers: self.answers.get(answers).unwrap_or(&[]),
+        }
     }
 
     /// The script without the last end of a line.

@@ -119,17 +119,37 @@ impl<R: Runner> Bench<R> {
         left: &mut Left,
     ) -> Result<(), Trouble> {
         let places = places_of(self.alloc, lines, left.size())?;
-        let parts = parted(self.alloc, lines, Begins::Part)?;
         let round = Round {
             row,
             places: &places,
             once: is_once(lines),
         };
-        for lines in &parts {
-            self.note(self.check_part(images, &round, lines, left));
-        }
+        self.check_round(images, &round, lines, left)
+    }
+
+    fn check_round<'a>(
+        &self,
+        images: &mut Images<'a>,
+        round: &Round<'_, 'a>,
+        lines: &[Line<'a>],
+        left: &mut Left,
+    ) -> Result<(), Trouble> {
+        let parts = parted(self.alloc, lines, Begins::Part)?;
+        self.check_each(images, round, &parts, left);
         self.count_row();
         Ok(())
+    }
+
+    fn check_each<'a>(
+        &self,
+        images: &mut Images<'a>,
+        round: &Round<'_, 'a>,
+        parts: &[&[Line<'a>]],
+        left: &mut Left,
+    ) {
+        for lines in parts {
+            self.note(self.check_part(images, round, lines, left));
+        }
     }
 
     /// Runs a part on what the ones before it left.
@@ -161,8 +181,7 @@ impl<R: Runner> Bench<R> {
         };
         match self.saved_by(&trial, part)? {
             Some(image) => {
-                left.start = Start::Image;
-                left.image = image;
+                left.save(image);
                 images.keep_saved(round.row, part, &left.image)
             }
             None => Ok(()),
@@ -203,6 +222,11 @@ struct Left {
 }
 
 impl Left {
+    fn save(&mut self, image: Vec<u8>) {
+        self.start = Start::Image;
+        self.image = image;
+    }
+
     /// The bytes of the segment: of an image those that it has, or says that it has, if these are more and not too many.
     fn size(&self) -> u64 {
         match self.start {

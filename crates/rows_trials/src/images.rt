@@ -164,8 +164,9 @@ fn put(image: &mut [u8], offset: u64, len: u64, number: u64) {
     let Some(rest) = image.get_mut(offset as usize..) else {
         return;
     };
-    let len = rest.len().min(len as usize).min(8);
-    rest[..len].copy_from_slice(&number.to_le_bytes()[..len]);
+    for (slot, byte) in rest.iter_mut().take(len as usize).zip(number.to_le_bytes()) {
+        *slot = byte;
+    }
 }
 
 /// Makes the changes of an image that some lines say.

@@ -21,44 +21,8 @@ use Rattle.seg_index.proofs.Laws.{Around-taken, prepared, stays}
 pub begun : (c : Cut) (at : ℕ) → IsIndexOf c at no_table [] → HasIndex c at
 begun c at i = record { table = no_table; handles = []; index = i }
 
-pub no_keys : (c : Cut) (at : ℕ) (key : Key) → IsIndexOf c at no_table [] → HasKeys c at key
-no_keys c at key i = record { table = no_table; handles = []; index = i; keys = tt }
-
-pub after_prepare : (a b : Cut) (at : ℕ) (g : Option ℕ) → HasIndex a at → IsGrowth a b at g → 32 ≤ at → at + 24 ≤ 128 → HasIndex b at
-after_prepare a b at None q k low head = subst (λ (c : Cut). HasIndex c at) (sym k.1) q
-after_prepare a b at (Some h) q k low head =
-    record { table = q.table; handles = q.handles; index = stays a b at q.table q.handles q.index (Around-taken a b at (8 * grown_capacity (capacity_at a at)) IndexRole h q.table q.handles q.index k.1 low head) }
-
 pub may_grow : (a b : Cut) (at : ℕ) (g : Option ℕ) → HasIndex a at → IsGrowth a b at g → 32 ≤ at → at + 24 ≤ 128 → CanGrow b at g
 may_grow a b at g q k low head = prepared a b at g q.table q.handles q.index k low head
-
-pub may_return : (a b : Cut) (at : ℕ) (g : Option ℕ) → IsGrowth a b at g → IfSome g (λ h. IsTrue (is_live_in (live_of b.bytes) h))
-may_return a b at None k = tt
-may_return a b at (Some h) k = allocated-is_live current a b (8 * grown_capacity (capacity_at a at)) IndexRole h k.1
-
-pub after_add : (a b : Cut) (at place handle : ℕ) (g : Option ℕ) → HasIndex a at → ((t : Table) (hs : List ℕ) → IsIndexOf a at t hs → Adds a b at t (insert hs place handle) g) → HasIndex b at
-after_add a b at place handle None q f = record { table = q.table; handles = insert q.handles place handle; index = f q.table q.handles q.index }
-after_add a b at place handle (Some h) q f =
-    record {
-      table = record { capacity = grown_capacity (capacity_at a at); extent = extent_at (live_of a.bytes) h };
-      handles = insert q.handles place handle;
-      index = f q.table q.handles q.index;
-    }
-
-pub after_remove : (a b : Cut) (at place : ℕ) → HasIndex a at → ((t : Table) (hs : List ℕ) → IsIndexOf a at t hs → IsIndexOf b at t (remove hs place)) → HasIndex b at
-after_remove a b at place q f = record { table = q.table; handles = remove q.handles place; index = f q.table q.handles q.index }
-
-pub after_reserve : {T E : Type 0} → (a b : Cut) (at n : ℕ) (r : Result T E) → HasIndex a at → Reserves a b at n r → HasIndex b at
-after_reserve a b at n (Err e) q s = subst (λ (c : Cut). HasIndex c at) (sym s.1.same) q
-after_reserve a b at n (Ok v) q s = by_case (cases_lt (capacity_at a at) n)
-  where
-    by_case : (capacity_at a at < n) ⊎ (n ≤ capacity_at a at) → HasIndex b at
-    by_case (inl l) = let k = s.reserved l in record { table = record { capacity = n; extent = Some k.extent }; handles = q.handles; index = k.index q.table q.handles q.index }
-    by_case (inr l) = subst (λ (c : Cut). HasIndex c at) (sym (s.same l)) q
-
-pub after_shrink : (a b : Cut) (at : ℕ) → HasIndex a at → ((t : Table) (hs : List ℕ) → IsIndexOf a at t hs → IsShrunk a b at t hs) → HasIndex b at
-after_shrink a b at q f =
-    record { table = cut_table (live_of a.bytes) 8 (length q.handles) q.table; handles = q.handles; index = (f q.table q.handles q.index).index }
 
 -- ---- an index with one entry
 
@@ -71,9 +35,6 @@ pub still_empty : (a b : Cut) (g : Option ℕ) → IsIndexOf a 56 no_table [] �
 still_empty a b None i k = subst (λ (c : Cut). IsIndexOf c 56 no_table []) (sym k.1) i
 still_empty a b (Some h) i k =
     stays a b 56 no_table [] i (Around-taken a b 56 (8 * grown_capacity (capacity_at a 56)) IndexRole h no_table [] i k.1 (lit≤ tt) (lit≤ tt))
-
-pub one_index : (c : Cut) → HasOneEntry c → HasIndex c 56
-one_index c o = record { table = o.table; handles = o.entry ∷ []; index = o.index }
 
 pub one_key : (c : Cut) (code h : ℕ) → (o : HasOneEntry c) → ((t : Table) (hs : List ℕ) → IsIndexOf c 56 t hs → slice_get hs 0 ≡ Some h) → IsTrue (is_live_in (live_of c.bytes) h) → HasKeys c 56 (Code code)
 one_key c code h o at live =

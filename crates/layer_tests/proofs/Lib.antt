@@ -4,4 +4,3 @@ mod Indexed
 mod Tables
 mod Vectors
 mod Maps
-mod Texts

@@ -23,13 +23,3 @@ module _ {K V : Type 0} (k : Plain K) (v : Plain V) (a b : Cut) (h at : ℕ) whe
       by_pair None (Ok c) m = (_, m.1.map)
       by_pair None (Err e) m = same m.same q
       by_pair (Some p) s m = (_, m.1.map)
-
-  pub after_erase : (key : K) (r : Bool) → IsSomeMap k v a.bytes h at → Erases k v a b h at key r → IsSomeMap k v b.bytes h at
-  after_erase key r q f = by_pair (pair_at k.order q.0 key) (f q.0 q.1)
-    where
-      by_pair : (o : Option (Pair K V)) → MatchOption o ((r ≡ false) × (b ≡ a)) (λ p. (r ≡ true) × IsErased k v a b h at q.0 p key) → IsSomeMap k v b.bytes h at
-      by_pair None m = same m.1 q
-      by_pair (Some p) m = (_, m.1.map)
-
-  pub after_release : IsSomeMap k v a.bytes h at → Releases k v a b h at → IsSomeMap k v b.bytes h at
-  after_release q f = ([], (f q.0 q.1).empty)

@@ -7,16 +7,6 @@ pub fn same<T: PartialEq + Debug + Drop>(rt: &impl Abort, got: T, want: T) {
     assert_eq!(rt; got, want);
 }
 
-/// The same, of a row of a table.
-pub fn same_at<A: Debug + Drop, T: PartialEq + Debug + Drop>(
-    rt: &impl Abort,
-    at: A,
-    got: T,
-    want: T,
-) {
-    assert_eq!(rt; got, want, "at {at:?}");
-}
-
 /// Fails where something is not so.
 pub fn holds(rt: &impl Abort, so: bool) {
     assert!(rt; so);

@@ -23,8 +23,6 @@ mod seg_index_tests;
 #[cfg(test)]
 mod seg_map_tests;
 #[cfg(test)]
-mod seg_texts_tests;
-#[cfg(test)]
 mod seg_types_tests;
 #[cfg(test)]
 mod seg_vector_tests;

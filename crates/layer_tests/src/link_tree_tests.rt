@@ -1,11 +1,11 @@
-//! The calls on trees, on both keepers of nodes.
+//! The calls on trees, on a keeper of nodes.
 
 ghost use Rattle.std.specs.Prelude.{◌≡◌, ◌≢◌, ℕ, ◌+◌, ◌<◌, ◌≤◌, Bool, true, false, Option, Some, None, length, nat_lt, nat_eq, refl};
 ghost use Rattle.link_tree.specs.Tree.{Tree, IsSearchTree, nodes_of};
 ghost use Rattle.link_tree.specs.Nodes.{leads, is_in, has_place};
 
 use crate::checks::same;
-use crate::node_tables::{Lent, Numbered, empty_table};
+use crate::node_tables::{Numbered, empty_table};
 use link_tree::{NodesMut, check, find_first_not_before, insert, remove, walk};
 use std::process::Abort;
 use std::test::Fail;
@@ -149,12 +149,6 @@ fn orders(rt: HostRuntime) -> Result<(), Fail> {
         )?;
     }
     Ok(())
-}
-
-#[test]
-fn through_a_reference(rt: HostRuntime) {
-    let mut table = empty_table();
-    fill_and_empty(&rt, &mut Lent { table: &mut table }, 37, 11);
 }
 
 /// Links that are no tree: the check answers none, and ends.

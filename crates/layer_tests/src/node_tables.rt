@@ -1,4 +1,4 @@
-//! Two keepers of nodes for the tests of trees: one that owns a table of them, and one that holds a reference to it.
+//! A keeper of nodes for the tests of trees, which owns a table of them.
 
 ghost use Rattle.std.specs.Prelude.{◌≡◌, ◌≢◌, ℕ, ◌+◌, ◌<◌, ◌≤◌, Bool, true, false, Option, Some, None, length, nat_lt, nat_eq, refl};
 ghost use Rattle.link_tree.specs.Nodes.{leads};
@@ -100,74 +100,6 @@ impl NodesMut for Table {
     }
 }
 
-/// A table that someone else owns.
-#[derive(Drop)]
-pub struct Lent<'a> {
-    pub table: &'a mut Table,
-}
-
-impl<'a> Nodes for Lent<'a> {
-    type Probe = u64;
-
-    ghost cells = { λ s. table_cells s.table.now.left s.table.now.right s.table.now.red };
-
-    ghost is_node = { λ s n. nat_lt n 64 };
-
-    ghost order = { λ s. nat_lt };
-
-    ghost before = { λ s probe n. nat_lt n probe };
-
-    ghost lender = { λ s. s.table.ghost_name };
-
-    ghost kept = { λ s. tt };
-
-    fn left(&self, node: u64) -> Option<u64> {
-        self.table.left(node)
-    }
-
-    fn right(&self, node: u64) -> Option<u64> {
-        self.table.right(node)
-    }
-
-    fn red(&self, node: u64) -> bool {
-        self.table.red(node)
-    }
-
-    fn precedes(&self, a: u64, b: u64) -> bool {
-        self.table.precedes(a, b)
-    }
-
-    fn before_probe(&self, node: u64, probe: &u64) -> bool {
-        self.table.before_probe(node, probe)
-    }
-
-    ghost finite = { λ s. table_finite };
-
-    ghost left_closed = { λ s. table_left s.table.now.left s.table.now.right s.table.now.red };
-
-    ghost right_closed = { λ s. table_right s.table.now.left s.table.now.right s.table.now.red };
-
-    ghost irreflexive = { λ s. table_irreflexive };
-
-    ghost transitive = { λ s. table_transitive };
-
-    ghost agrees = { λ s. table_agrees };
-}
-
-impl<'a> NodesMut for Lent<'a> {
-    fn set_left(&mut self, node: u64, to: Option<u64>) {
-        self.table.set_left(node, to);
-    }
-
-    fn set_right(&mut self, node: u64, to: Option<u64>) {
-        self.table.set_right(node, to);
-    }
-
-    fn set_red(&mut self, node: u64, red: bool) {
-        self.table.set_red(node, red);
-    }
-}
-
 /// Nodes that are the numbers below 64, in their order, and probes that are numbers.
 pub trait Numbered: NodesMut<Probe = u64> {
     ghost numbers: { (s : Self) → Self.is_node s ≡ (λ n. nat_lt n 64) };
@@ -178,14 +110,6 @@ pub trait Numbered: NodesMut<Probe = u64> {
 }
 
 impl Numbered for Table {
-    ghost numbers = { λ s. refl };
-
-    ghost in_order = { λ s. refl };
-
-    ghost probed = { λ s probe. refl };
-}
-
-impl<'a> Numbered for Lent<'a> {
     ghost numbers = { λ s. refl };
 
     ghost in_order = { λ s. refl };

@@ -2,7 +2,7 @@
 ghost use Rattle.std.specs.Result.{IfOk};
 ghost use Rattle.seg_map.specs.Places.{IsSomeMap};
 
-use crate::checks::{holds, same};
+use crate::checks::same;
 use crate::ticket::Ticket;
 use best_fit::{Heap, NoSpace};
 use block_tags::Role;
@@ -36,20 +36,6 @@ fn put<K: Plain, V: Plain>(
     map.put(heap, key, value, &mut Steps::new())
 }
 
-fn erase<K: Plain, V: Plain>(heap: &mut Heap, map: SegMap<K, V>, key: K) -> bool
-    requires { IsSomeMap K.Plain V.Plain heap.old.bytes map.place.handle map.place.at }
-    ensures { IsSomeMap K.Plain V.Plain heap.new.bytes map.place.handle map.place.at }
-{
-    map.erase(heap, key, &mut Steps::new())
-}
-
-fn release<K: Plain, V: Plain>(heap: &mut Heap, map: SegMap<K, V>)
-    requires { IsSomeMap K.Plain V.Plain heap.old.bytes map.place.handle map.place.at }
-    ensures { IsSomeMap K.Plain V.Plain heap.new.bytes map.place.handle map.place.at }
-{
-    map.release(heap);
-}
-
 fn get<K: Plain, V: Plain>(heap: &Heap, map: SegMap<K, V>, key: K) -> Option<V>
     requires { IsSomeMap K.Plain V.Plain heap.now.bytes map.place.handle map.place.at }
 {
@@ -66,13 +52,6 @@ fn next_after<K: Plain, V: Plain>(heap: &Heap, map: SegMap<K, V>, key: K) -> Opt
     requires { IsSomeMap K.Plain V.Plain heap.now.bytes map.place.handle map.place.at }
 {
     map.next_after(heap, key, &mut Steps::new())
-}
-
-/// The number of pairs, and the bytes of all gaps.
-fn sizes<K: Plain, V: Plain>(heap: &Heap, map: SegMap<K, V>) -> (u64, u64)
-    requires { IsSomeMap K.Plain V.Plain heap.now.bytes map.place.handle map.place.at }
-{
-    (map.len(heap), heap.free_bytes())
 }
 
 #[test]
@@ -98,19 +77,5 @@ fn tickets_rise(rt: HostRuntime) -> Result<(), Fail> {
     same(&rt, first, Some((two, two)));
     same(&rt, next_after(&heap, map, two), Some((one, one)));
     same(&rt, next_after(&heap, map, one), None);
-    Ok(())
-}
-
-// A pair has a block of 48 bytes.
-#[test]
-fn tickets_give_their_blocks_back(rt: HostRuntime) -> Result<(), Fail> {
-    let (mut heap, map) = begun::<Ticket, Ticket>(rt.alloc())?;
-    let (one, two) = (Ticket::plain(1), Ticket::urgent(2));
-    same(&rt, put(&mut heap, map, one, one), Ok(true));
-    same(&rt, put(&mut heap, map, two, two), Ok(true));
-    holds(&rt, erase(&mut heap, map, two));
-    same(&rt, sizes(&heap, map), (1, 784));
-    release(&mut heap, map);
-    same(&rt, sizes(&heap, map), (0, 832));
     Ok(())
 }

@@ -17,18 +17,18 @@ fn check_spelled<T: Plain + PartialEq + Drop>(rt: &impl Abort, value: T, spelled
     let mut room = [0; 8];
     let bytes = &mut room[..spelled.len()];
     value.write(bytes);
-    assert!(rt; &*bytes == spelled);
-    assert!(rt; T::read(spelled) == Some(value));
-    assert!(rt; !value.precedes(value));
-    assert!(rt; written_is_read(value, bytes) == Some(value));
-    assert!(rt; unordered_are_same(value, value));
+    holds(rt, &*bytes == spelled);
+    holds(rt, T::read(spelled) == Some(value));
+    holds(rt, !value.precedes(value));
+    holds(rt, written_is_read(value, bytes) == Some(value));
+    holds(rt, unordered_are_same(value, value));
 }
 
 /// Asserts that each of these stands before the next, and not the other way round.
 fn check_rising<T: Plain>(rt: &impl Abort, values: &[T]) {
     for pair in values.windows(2) {
-        assert!(rt; pair[0].precedes(pair[1]));
-        assert!(rt; !pair[1].precedes(pair[0]));
+        holds(rt, pair[0].precedes(pair[1]));
+        holds(rt, !pair[1].precedes(pair[0]));
     }
 }
 

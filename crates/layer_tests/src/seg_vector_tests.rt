@@ -38,62 +38,6 @@ fn insert<T: Plain>(heap: &mut Heap, vector: SegVec<T>, index: u64, value: T) ->
     vector.insert(heap, index, value)
 }
 
-fn set<T: Plain>(heap: &mut Heap, vector: SegVec<T>, index: u64, value: T) -> Result<(), Refusal>
-    requires { IsSomeVector T.SIZE T.is_value T.spelling heap.old.bytes vector.place }
-    ensures { IsSomeVector T.SIZE T.is_value T.spelling heap.new.bytes vector.place }
-{
-    vector.set(heap, index, value)
-}
-
-fn pop<T: Plain>(heap: &mut Heap, vector: SegVec<T>) -> Result<T, Refusal>
-    requires { IsSomeVector T.SIZE T.is_value T.spelling heap.old.bytes vector.place }
-    ensures { IsSomeVector T.SIZE T.is_value T.spelling heap.new.bytes vector.place }
-{
-    vector.pop(heap)
-}
-
-fn erase<T: Plain>(heap: &mut Heap, vector: SegVec<T>, index: u64) -> Result<(), Refusal>
-    requires { IsSomeVector T.SIZE T.is_value T.spelling heap.old.bytes vector.place }
-    ensures { IsSomeVector T.SIZE T.is_value T.spelling heap.new.bytes vector.place }
-{
-    vector.erase(heap, index)
-}
-
-fn reserve<T: Plain>(heap: &mut Heap, vector: SegVec<T>, n: u64) -> Result<(), Refusal>
-    requires { IsSomeVector T.SIZE T.is_value T.spelling heap.old.bytes vector.place }
-    ensures { IsSomeVector T.SIZE T.is_value T.spelling heap.new.bytes vector.place }
-{
-    vector.reserve(heap, n)
-}
-
-fn assign<T: Plain>(heap: &mut Heap, vector: SegVec<T>, values: &[T]) -> Result<(), Refusal>
-    requires { IsSomeVector T.SIZE T.is_value T.spelling heap.old.bytes vector.place }
-    ensures { IsSomeVector T.SIZE T.is_value T.spelling heap.new.bytes vector.place }
-{
-    vector.assign(heap, values)
-}
-
-fn shrink<T: Plain>(heap: &mut Heap, vector: SegVec<T>)
-    requires { IsSomeVector T.SIZE T.is_value T.spelling heap.old.bytes vector.place }
-    ensures { IsSomeVector T.SIZE T.is_value T.spelling heap.new.bytes vector.place }
-{
-    vector.shrink(heap);
-}
-
-fn clear<T: Plain>(heap: &mut Heap, vector: SegVec<T>)
-    requires { IsSomeVector T.SIZE T.is_value T.spelling heap.old.bytes vector.place }
-    ensures { IsSomeVector T.SIZE T.is_value T.spelling heap.new.bytes vector.place }
-{
-    vector.clear(heap);
-}
-
-fn release<T: Plain>(heap: &mut Heap, vector: SegVec<T>)
-    requires { IsSomeVector T.SIZE T.is_value T.spelling heap.old.bytes vector.place }
-    ensures { IsSomeVector T.SIZE T.is_value T.spelling heap.new.bytes vector.place }
-{
-    vector.release(heap);
-}
-
 /// The length and the capacity.
 fn sizes<T: Plain>(heap: &Heap, vector: SegVec<T>) -> (u64, u64)
     requires { IsSomeVector T.SIZE T.is_value T.spelling heap.now.bytes vector.place }
@@ -112,43 +56,5 @@ fn tickets_stand_in_a_vector(rt: HostRuntime) -> Result<(), Fail> {
     same(&rt, tickets.get(&heap, 1), Ok(Ticket::urgent(0)));
     same(&rt, tickets.get(&heap, 2), Ok(Ticket::urgent(9)));
     same(&rt, sizes(&heap, tickets), (3, 4));
-    Ok(())
-}
-
-#[test]
-fn tickets_are_put_and_taken(rt: HostRuntime) -> Result<(), Fail> {
-    let (mut heap, tickets) = begun::<Ticket>(rt.alloc())?;
-    let assigned = assign(&mut heap, tickets, &[Ticket::plain(3), Ticket::urgent(4)]);
-    same(&rt, assigned, Ok(()));
-    same(&rt, set(&mut heap, tickets, 0, Ticket::plain(7)), Ok(()));
-    same(&rt, pop(&mut heap, tickets), Ok(Ticket::urgent(4)));
-    same(&rt, tickets.get(&heap, 0), Ok(Ticket::plain(7)));
-    same(&rt, erase(&mut heap, tickets, 0), Ok(()));
-    same(&rt, sizes(&heap, tickets), (0, 2));
-    Ok(())
-}
-
-#[test]
-fn tickets_give_their_places_back(rt: HostRuntime) -> Result<(), Fail> {
-    let (mut heap, tickets) = begun::<Ticket>(rt.alloc())?;
-    same(&rt, reserve(&mut heap, tickets, 20), Ok(()));
-    same(&rt, push(&mut heap, tickets, Ticket::plain(3)), Ok(()));
-    same(&rt, sizes(&heap, tickets), (1, 20));
-    shrink(&mut heap, tickets);
-    same(&rt, sizes(&heap, tickets), (1, 1));
-    clear(&mut heap, tickets);
-    same(&rt, sizes(&heap, tickets), (0, 1));
-    release(&mut heap, tickets);
-    same(&rt, heap.live_count(), 1);
-    Ok(())
-}
-
-#[test]
-fn a_ticket_finds_no_place(rt: HostRuntime) -> Result<(), Fail> {
-    let (mut heap, tickets) = begun::<Ticket>(rt.alloc())?;
-    let reserved = reserve(&mut heap, tickets, 300);
-    same(&rt, reserved, Err(Refusal::NoSpace));
-    same(&rt, pop(&mut heap, tickets), Err(Refusal::OutOfRange));
-    same(&rt, sizes(&heap, tickets), (0, 0));
     Ok(())
 }

@@ -4,11 +4,11 @@ ghost use Rattle.std.specs.Prelude.{◌≡◌};
 
 use crate::checks::{holds, same};
 use raw_region::fake::{Last, MemorySink};
-use seg_types::{IndexKey, Key, Kind, Name, NewKey, Refusal, ScalarKind, ScalarValue};
+use seg_types::{IndexKey, Key, Kind, Name, NewKey, ScalarKind, ScalarValue};
 use segment_lang::{
-    Command, Content, LineError, Literal, Piece, Reading, Text, Word, literal_of, next_word,
-    number_of, only_word, parse_line, put_kind, put_line_error, put_name, put_number, put_pieces,
-    put_text, put_value, whole_of,
+    Command, Content, LineError, Literal, Reading, Text, Word, literal_of, next_word, number_of,
+    only_word, parse_line, put_kind, put_line_error, put_name, put_number, put_text, put_value,
+    whole_of,
 };
 use std::alloc::Global;
 use std::mem::size_of;
@@ -33,23 +33,6 @@ fn is_whole(literal: Option<Literal<'_>>, wanted: i128) -> bool {
         Some(Literal::Whole(number)) => number.get() == wanted,
         _ => false,
     }
-}
-
-/// A line begins with no word.
-fn has_no_word(rt: &impl Abort, line: &[u8]) {
-    holds(rt, next_word(line).is_none());
-}
-
-#[test]
-fn words_that_do_not_fit_are_none(rt: HostRuntime) {
-    has_no_word(&rt, b" ");
-    has_no_word(&rt, b"\"a");
-    has_no_word(&rt, b"\"a\"b");
-    has_no_word(&rt, b"\"\\x0A\"");
-    has_no_word(&rt, b"\"\\n\"");
-    has_no_word(&rt, b"\"\t\"");
-    has_no_word(&rt, b"a\"b");
-    has_no_word(&rt, b"a\x7f");
 }
 
 #[test]
@@ -194,44 +177,6 @@ fn whole_numbers_have_one_spelling(rt: HostRuntime) {
     same(&rt, whole(b"-0"), None);
     let most = whole(b"18446744073709551615");
     same(&rt, most, Some(18446744073709551615));
-}
-
-#[test]
-fn kinds_and_values_are_printed(rt: HostRuntime) -> Result<(), Fail> {
-    let mut out = MemorySink::new(rt.alloc(), 256, 3, Last::Fails)?;
-    let pieces = [
-        Piece::Kind(Kind::Map(ScalarKind::Bool, ScalarKind::U64)),
-        Piece::Bytes(b" "),
-        Piece::Value(ScalarValue::I64(-9223372036854775808)),
-        Piece::Value(ScalarValue::Bool(true)),
-        Piece::Value(ScalarValue::U8(255)),
-        Piece::Value(ScalarValue::I32(-1)),
-        Piece::Value(ScalarValue::U64(18446744073709551615)),
-        Piece::Kind(Kind::Vector(ScalarKind::I32)),
-    ];
-    holds(&rt, put_pieces(&mut out, &pieces).is_ok());
-    let want = b"map<bool,u64> -9223372036854775808true255-118446744073709551615vec<i32>";
-    same(&rt, out.taken(), want.as_slice());
-    Ok(())
-}
-
-#[test]
-fn refusals_and_texts_are_printed(rt: HostRuntime) -> Result<(), Fail> {
-    let mut out = MemorySink::new(rt.alloc(), 256, 3, Last::Fails)?;
-    let pieces = [
-        Piece::Refusal(Refusal::NoSpace),
-        Piece::Bytes(b" #"),
-        Piece::Number(18446744073709551615),
-        Piece::Text(b"a\"\\ \n\xc3"),
-        Piece::Name(b"a_1."),
-        Piece::Name(b"1 a"),
-        Piece::LineError(LineError::LineTooLong),
-    ];
-    holds(&rt, put_pieces(&mut out, &pieces).is_ok());
-    let want =
-        b"error 9 no space #18446744073709551615\"a\\\"\\\\ \\x0a\\xc3\"a_1.\"1 a\"error 2 line too long";
-    same(&rt, out.taken(), want.as_slice());
-    Ok(())
 }
 
 /// A writer with room for so many bytes.

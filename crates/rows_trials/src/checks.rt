@@ -31,6 +31,17 @@ impl<'a> Wanted<'a> {
         }
     }
 
+    /// A script that is done, prints this and saves an image.
+    pub fn done(line: usize, answers: &'a [u8], saved: &'a [u8]) -> Wanted<'a> {
+        Wanted {
+            line,
+            marks: &[],
+            fault: "",
+            answers: Some(answers),
+            saved: Some(saved),
+        }
+    }
+
     /// A script that is done, and saves an image.
     pub fn script(line: usize, script: &'a Script, saved: &'a [u8]) -> Wanted<'a> {
         Wanted {
@@ -40,6 +51,11 @@ impl<'a> Wanted<'a> {
             answers: Some(&script.answers),
             saved: Some(saved),
         }
+    }
+
+    /// How many bytes are printed, where that is known.
+    pub fn room(&self) -> usize {
+        self.answers.unwrap_or(&[]).len()
     }
 
     /// Sees that a call came out so.
@@ -81,12 +97,8 @@ impl<'a> Wanted<'a> {
 
 /// Where two lists of bytes differ first, one of which may be a front of the other.
 fn first_difference(a: &[u8], b: &[u8]) -> usize {
-    let mut at = 0usize;
-    for (x, y) in a.iter().zip(b) {
-        if x != y {
-            break;
-        }
-        at = at.saturating_add(1);
-    }
-    at
+    let mut pairs = a.iter().zip(b);
+    pairs
+        .position(|(x, y)| x != y)
+        .unwrap_or(a.len().min(b.len()))
 }

@@ -7,118 +7,107 @@ use crate::scripts::Script;
 use crate::tasks::{Place, Way};
 use crate::troubles::Trouble;
 use raw_region::fake::Last;
+use std::alloc::{AllocError, Global};
 
 /// What a full writer does.
 const FULL: [Last; 2] = [Last::Fails, Last::Ends];
 
 impl<R: Runner> Bench<R> {
     /// The reader of the script fails behind each byte: the lines that ended before are answered, and nothing is saved.
-    pub fn cut_script(
-        &self,
-        line: usize,
-        way: &Way,
-        image: &[u8],
-        script: &Script,
-    ) -> Result<(), Trouble> {
+    pub fn cut_script(&self, line: usize, way: &Way, image: &[u8], script: &Script) {
         let mut way = *way;
         way.script_last = Last::Fails;
         let mut wanted = Wanted::fault(line, "fault ReadFault");
         wanted.marks = &script.marks;
         for len in 0..script.text.len().saturating_add(1) {
             wanted.answers = Some(script.answers_within(len));
-            self.cut(&wanted, &way, image, front_of(&script.text, len))?;
+            self.cut(&wanted, &way, image, front_of(&script.text, len));
         }
-        Ok(())
     }
 
     /// The writer of the answers has room for each number of bytes, and one less than all: these go out, and nothing is saved.
-    pub fn cut_answers(
-        &self,
-        line: usize,
-        way: &Way,
-        image: &[u8],
-        script: &Script,
-    ) -> Result<(), Trouble> {
-        let mut way = *way;
+    pub fn cut_answers(&self, line: usize, way: &Way, image: &[u8], script: &Script) {
         let mut wanted = Wanted::fault(line, "fault WriteFault");
         wanted.marks = &script.marks;
         for last in FULL {
+            let mut way = *way;
             way.writers_last = last;
-            for room in 0..script.answers.len() {
-                way.answer_room = room;
-                wanted.answers = script.answers.get(..room);
-                self.cut(&wanted, &way, image, &script.text)?;
-            }
+            self.cut_answering(&wanted, &way, image, script);
         }
-        Ok(())
+    }
+
+    fn cut_answering(&self, wanted: &Wanted<'_>, way: &Way, image: &[u8], script: &Script) {
+        let (mut wanted, mut way) = (*wanted, *way);
+        for room in 0..script.answers.len() {
+            way.answer_room = room;
+            wanted.answers = script.answers.get(..room);
+            self.cut(&wanted, &way, image, &script.text);
+        }
     }
 
     /// The writer of the image has room for each number of bytes, and one less than all: all answers and these bytes go out.
-    fn cut_saving(
-        &self,
-        wanted: &Wanted<'_>,
-        way: &Way,
-        image: &[u8],
-        script: &[u8],
-    ) -> Result<(), Trouble> {
-        let saved = wanted.saved.unwrap_or(&[]);
-        let (mut way, mut wanted) = (*way, *wanted);
+    fn cut_saving(&self, wanted: &Wanted<'_>, way: &Way, image: &[u8], script: &[u8]) {
+        let mut wanted = *wanted;
         wanted.fault = "fault WriteFault";
         for last in FULL {
+            let mut way = *way;
             way.writers_last = last;
-            for room in 0..saved.len() {
-                way.image_room = room;
-                wanted.saved = saved.get(..room);
-                self.cut(&wanted, &way, image, script)?;
-            }
+            self.cut_saved(&wanted, &way, image, script);
         }
-        Ok(())
+    }
+
+    fn cut_saved(&self, wanted: &Wanted<'_>, way: &Way, image: &[u8], script: &[u8]) {
+        let saved = wanted.saved.unwrap_or(&[]);
+        let (mut wanted, mut way) = (*wanted, *way);
+        for room in 0..saved.len() {
+            way.image_room = room;
+            wanted.saved = saved.get(..room);
+            self.cut(&wanted, &way, image, script);
+        }
     }
 
     /// A good image that is cut where it is saved, and where it is read: with a byte behind it, and for too small a region.
-    pub fn cut_image(
-        &self,
-        wanted: &Wanted<'_>,
-        way: &Way,
-        image: &[u8],
-        script: &[u8],
-    ) -> Result<(), Trouble> {
-        self.cut_saving(wanted, way, image, script)?;
-        let mut longer = copy_of(self.alloc, image)?;
-        longer.push(0)?;
-        self.cut_reading(wanted.line, way, &longer, script, "BadSize")?;
+    pub fn cut_image(&self, wanted: &Wanted<'_>, way: &Way, image: &[u8], script: &[u8]) {
+        self.cut_saving(wanted, way, image, script);
+        match with_a_byte(self.alloc, image) {
+            Ok(longer) => self.cut_reading(wanted.line, way, &longer, script, "BadSize"),
+            Err(error) => self.note(Err(Trouble::from(error))),
+        }
         let mut way = *way;
         way.place = Place::too_small_for(image.len() as u64);
-        self.cut_reading(wanted.line, &way, image, script, "fault RegionTooSmall")
+        self.cut_reading(wanted.line, &way, image, script, "fault RegionTooSmall");
     }
 
     /// The reader of the image fails or ends behind each byte, though there may be a fault of the image that comes first. Nothing is
     /// printed or saved.
-    pub fn cut_reading(
-        &self,
-        line: usize,
-        way: &Way,
-        image: &[u8],
-        script: &[u8],
-        fault: &str,
-    ) -> Result<(), Trouble> {
+    pub fn cut_reading(&self, line: usize, way: &Way, image: &[u8], script: &[u8], fault: &str) {
         let size = word_at(image, 16);
         let from = bytes_of(size, fault);
-        let (mut failing, mut way) = (*way, *way);
-        failing.image_last = Last::Fails;
-        way.image_last = Last::Ends;
         for len in 0..image.len().saturating_add(1) {
             let front = front_of(image, len);
             let is_decided = from <= len as u64;
             if is_decided || (len as u64) < size.max(144) {
                 let fault = if is_decided { fault } else { "Truncated" };
-                self.cut(&Wanted::fault(line, fault), &way, front, script)?;
+                self.cut_reader(&Wanted::fault(line, fault), way, Last::Ends, front, script);
             }
             let fault = if is_decided { fault } else { "fault ReadFault" };
-            self.cut(&Wanted::fault(line, fault), &failing, front, script)?;
+            self.cut_reader(&Wanted::fault(line, fault), way, Last::Fails, front, script);
         }
-        Ok(())
     }
+
+    /// The reader of the image fails or ends behind some bytes.
+    fn cut_reader(&self, wanted: &Wanted<'_>, way: &Way, last: Last, front: &[u8], script: &[u8]) {
+        let mut way = *way;
+        way.image_last = last;
+        self.cut(wanted, &way, front, script);
+    }
+}
+
+/// An image with a byte behind it.
+fn with_a_byte(alloc: Global, image: &[u8]) -> Result<Vec<u8>, AllocError> {
+    let mut longer = copy_of(alloc, image)?;
+    longer.push(0)?;
+    Ok(longer)
 }
 
 /// The first bytes, so many, or all.

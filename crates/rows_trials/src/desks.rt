@@ -1,51 +1,41 @@
 //! The items of a row file, one after another.
 
 use crate::benches::{Bench, Runner};
-use crate::images::{Images, copy_of, word_at};
+use crate::images::{Images, word_at};
 use crate::lines::{Begins, Line, parted};
 use crate::part_lines::{Deed, Part};
 use crate::tasks::{Place, Start};
 use crate::trials::Trial;
 use crate::troubles::Trouble;
 use std::alloc::Global;
-use std::cell::Cell;
 
 /// The most bytes that an image which is cut short may say that it has.
 const MOST_SAID: u64 = 65536;
 
-/// The images that have names so far, what runs the rows, and how many there were.
+/// The images that have names so far, and what runs the rows and counts them.
 #[derive(Drop)]
 pub struct Desk<'a, R> {
-    pub bench: Bench<R>,
-    pub images: Images<'a>,
-    rows: u64,
-    lines: u64,
+    bench: Bench<R>,
+    images: Images<'a>,
 }
 
 impl<'a, R: Runner> Desk<'a, R> {
     /// No images, and nothing counted.
     pub fn new(alloc: Global, runner: R) -> Desk<'a, R> {
-        let cuts = Cell::new(0);
         Desk {
-            bench: Bench {
-                alloc,
-                runner,
-                cuts,
-            },
+            bench: Bench::new(alloc, runner),
             images: Images::new(alloc),
-            rows: 0,
-            lines: 0,
         }
     }
 
     /// How many rows were run.
     pub fn rows(&self) -> u64 {
-        self.rows
+        self.bench.rows.get()
     }
 
     /// How many lines of scripts were in them.
     pub fn lines(&self) -> u64 {
-        self.lines
+        self.bench.lines.get()
     }
 
     /// How many calls had a device that failed.
@@ -53,118 +43,196 @@ impl<'a, R: Runner> Desk<'a, R> {
         self.bench.cuts.get()
     }
 
-    /// Counts a row, which has so many lines.
-    pub fn count(&mut self, lines: usize) {
-        self.rows = self.rows.saturating_add(1);
-        self.lines = self.lines.saturating_add(lines as u64);
-    }
-
-    /// Does what the lines of an item say.
+    /// Does what the lines of an item say. What was noted went wrong before what is told at the end.
     pub fn check(&mut self, lines: &[Line<'a>]) -> Result<(), Trouble> {
+        let done = self.bench.check_item(&mut self.images, lines);
+        self.bench.noted().and(done)
+    }
+}
+
+// The images are lent to each of these, so that a change of them is one of a small struct.
+impl<R: Runner> Bench<R> {
+    fn check_item<'a>(&self, images: &mut Images<'a>, lines: &[Line<'a>]) -> Result<(), Trouble> {
         let [first, ..] = lines else {
             return Ok(());
         };
         match first.word {
-            "image" => self.images.make(lines),
-            "row" => self.check_row(first, lines),
-            "damaged" => self.check_damaged(lines),
+            "image" => images.make(lines),
+            "row" => self.check_row(images, first, lines),
+            "damaged" => self.check_damaged(images, lines),
             "requests" => self.check_requests(lines),
             _ => Err(first.misplaced()),
         }
     }
 
     /// Runs a row: in fresh segments of some sizes, or on an image with changes.
-    fn check_row(&mut self, row: &Line<'a>, lines: &[Line<'a>]) -> Result<(), Trouble> {
-        for line in lines {
-            match line.word {
-                "size" => return self.check_sizes(line, lines),
-                "image" => {
-                    let image = self.changed(line, lines)?;
-                    return self.check_parts(line, lines, Start::Image, image);
-                }
-                _ => {}
-            }
+    fn check_row<'a>(
+        &self,
+        images: &mut Images<'a>,
+        row: &Line<'a>,
+        lines: &[Line<'a>],
+    ) -> Result<(), Trouble> {
+        match lines.iter().find(|line| line.is_beginning()) {
+            Some(line) if line.word == "size" => self.check_sizes(images, line, lines),
+            Some(line) => self.check_changed(images, line, lines),
+            None => Err(row.misplaced()),
         }
-        Err(row.misplaced())
     }
 
     /// Runs a row in fresh segments.
-    fn check_sizes(&mut self, sizes: &Line<'a>, lines: &[Line<'a>]) -> Result<(), Trouble> {
+    fn check_sizes<'a>(
+        &self,
+        images: &mut Images<'a>,
+        sizes: &Line<'a>,
+        lines: &[Line<'a>],
+    ) -> Result<(), Trouble> {
         for size in sizes.rest.split_whitespace() {
-            let start = Start::Fresh(sizes.number_of(size)?);
-            self.check_parts(sizes, lines, start, Vec::new(self.bench.alloc))?;
+            let mut left = Left {
+                start: Start::Fresh(sizes.number_of(size)?),
+                image: Vec::new(self.alloc),
+            };
+            self.note(self.check_parts(images, sizes, lines, &mut left));
         }
         Ok(())
     }
 
-    /// The image that a row begins with.
-    fn changed(&self, image: &Line<'a>, lines: &[Line<'a>]) -> Result<Vec<u8>, Trouble> {
-        let mut bytes = self.images.copy(image, image.rest)?;
-        for line in lines {
-            line.change(&mut bytes)?;
-        }
-        Ok(bytes)
+    /// Runs a row on an image with changes.
+    fn check_changed<'a>(
+        &self,
+        images: &mut Images<'a>,
+        image: &Line<'a>,
+        lines: &[Line<'a>],
+    ) -> Result<(), Trouble> {
+        let mut left = Left {
+            start: Start::Image,
+            image: images.changed(image, lines)?,
+        };
+        self.check_parts(images, image, lines, &mut left)
     }
 
-    /// Runs the parts of a row, from a fresh segment or an image on, each on the image that was saved last.
-    fn check_parts(
-        &mut self,
+    /// Runs the parts of a row, from a fresh segment or an image on, each on what the ones before it left.
+    fn check_parts<'a>(
+        &self,
+        images: &mut Images<'a>,
         row: &Line<'a>,
         lines: &[Line<'a>],
-        start: Start,
-        image: Vec<u8>,
+        left: &mut Left,
     ) -> Result<(), Trouble> {
-        let places = places_of(self.bench.alloc, lines, size_of(start, &image))?;
-        let (mut start, mut image) = (start, image);
-        let once = is_once(lines);
-        let mut count = 0usize;
-        for lines in &parted(self.bench.alloc, lines, Begins::Part)? {
-            let trial = Trial {
-                line: row.number,
-                start,
-                image: &image,
-                places: &places,
-                once,
-            };
-            let part = Part::read(self.bench.alloc, lines)?;
-            count = count.saturating_add(part.script.marks.len());
-            if let Some(saved) = self.check_part(&trial, row, &part)? {
-                start = Start::Image;
-                image = saved;
-            }
-        }
-        self.count(count);
+        let places = places_of(self.alloc, lines, left.size())?;
+        let round = Round {
+            row,
+            places: &places,
+            once: is_once(lines),
+        };
+        self.check_round(images, &round, lines, left)
+    }
+
+    fn check_round<'a>(
+        &self,
+        images: &mut Images<'a>,
+        round: &Round<'_, 'a>,
+        lines: &[Line<'a>],
+        left: &mut Left,
+    ) -> Result<(), Trouble> {
+        let parts = parted(self.alloc, lines, Begins::Part)?;
+        self.check_each(images, round, &parts, left);
+        self.count_row();
         Ok(())
     }
 
-    /// Runs a part, and gives the image that it saves, if it saves another.
-    fn check_part(
-        &mut self,
-        trial: &Trial<'_>,
-        row: &Line<'a>,
+    fn check_each<'a>(
+        &self,
+        images: &mut Images<'a>,
+        round: &Round<'_, 'a>,
+        parts: &[&[Line<'a>]],
+        left: &mut Left,
+    ) {
+        for lines in parts {
+            self.note(self.check_part(images, round, lines, left));
+        }
+    }
+
+    /// Runs a part on what the ones before it left.
+    fn check_part<'a>(
+        &self,
+        images: &mut Images<'a>,
+        round: &Round<'_, 'a>,
+        lines: &[Line<'a>],
+        left: &mut Left,
+    ) -> Result<(), Trouble> {
+        let part = Part::read(self.alloc, lines)?;
+        self.count_lines(part.script.marks.len());
+        self.run_part(images, round, &part, left)
+    }
+
+    fn run_part<'a>(
+        &self,
+        images: &mut Images<'a>,
+        round: &Round<'_, 'a>,
         part: &Part<'a>,
-    ) -> Result<Option<Vec<u8>>, Trouble> {
-        let saved = match part.deed {
-            Deed::Nothing => return Ok(None),
-            Deed::Write => self.bench.write_or_refuse(trial, part)?,
-            Deed::Migrate => self.bench.migrate_or_refuse(trial, part)?,
+        left: &mut Left,
+    ) -> Result<(), Trouble> {
+        let trial = Trial {
+            line: round.row.number,
+            start: left.start,
+            image: &left.image,
+            places: round.places,
+            once: round.once,
+        };
+        match self.saved_by(&trial, part)? {
+            Some(image) => {
+                left.save(image);
+                images.keep_saved(round.row, part, &left.image)
+            }
+            None => Ok(()),
+        }
+    }
+
+    /// Runs a part, and gives the image that it saves, if it saves another: nothing where it ends with a fault.
+    fn saved_by(&self, trial: &Trial<'_>, part: &Part<'_>) -> Result<Option<Vec<u8>>, Trouble> {
+        match part.deed {
+            Deed::Nothing => Ok(None),
+            Deed::Write => self.write_or_refuse(trial, part),
+            Deed::Migrate => self.migrate_or_refuse(trial, part),
             Deed::Read => {
-                self.bench.read(trial, &part.script)?;
-                return Ok(None);
+                self.read(trial, &part.script);
+                Ok(None)
             }
             Deed::Alone => {
-                self.bench.alone(trial, &part.script)?;
-                return Ok(None);
+                self.alone(trial, &part.script);
+                Ok(None)
             }
-        };
-        if !part.saves.is_empty() && self.images.get(row, part.saves)? != saved.as_slice() {
-            return Err(row.trouble("another image is saved than the one that it names"));
         }
-        if !part.keeps.is_empty() {
-            let kept = copy_of(self.bench.alloc, &saved)?;
-            self.images.keep(part.keeps, kept)?;
+    }
+}
+
+/// What is the same for all parts of a row: its first line, its places, and whether it is run only once.
+#[derive(Clone, Copy)]
+struct Round<'b, 'a> {
+    row: &'b Line<'a>,
+    places: &'b [Place],
+    once: bool,
+}
+
+/// On what the next part of a row is run.
+#[derive(Drop)]
+struct Left {
+    start: Start,
+    image: Vec<u8>,
+}
+
+impl Left {
+    fn save(&mut self, image: Vec<u8>) {
+        self.start = Start::Image;
+        self.image = image;
+    }
+
+    /// The bytes of the segment: of an image those that it has, or says that it has, if these are more and not too many.
+    fn size(&self) -> u64 {
+        match self.start {
+            Start::Fresh(size) => size,
+            Start::Image => size_said(&self.image).max(self.image.len() as u64),
         }
-        Ok(Some(saved))
     }
 }
 
@@ -176,15 +244,20 @@ pub fn usual_places(size: u64) -> [Place; 2] {
 /// The places that a row says, or the usual ones.
 fn places_of(alloc: Global, lines: &[Line<'_>], size: u64) -> Result<Vec<Place>, Trouble> {
     let mut places = Vec::new(alloc);
+    add_places(&mut places, lines)?;
+    if places.is_empty() {
+        return Ok(usual_places(size).as_slice().to_vec(alloc)?);
+    }
+    Ok(places)
+}
+
+fn add_places(places: &mut Vec<Place>, lines: &[Line<'_>]) -> Result<(), Trouble> {
     for line in lines {
         if line.word == "place" {
             places.push(line.place()?)?;
         }
     }
-    if places.is_empty() {
-        places.extend_from_slice(&usual_places(size))?;
-    }
-    Ok(places)
+    Ok(())
 }
 
 /// Whether a row is run only once.
@@ -196,12 +269,4 @@ fn is_once(lines: &[Line<'_>]) -> bool {
 fn size_said(image: &[u8]) -> u64 {
     let said = word_at(image, 16);
     if said <= MOST_SAID { said } else { 0 }
-}
-
-/// The bytes of a segment: of an image those that it has, or says that it has, if these are more and not too many.
-fn size_of(start: Start, image: &[u8]) -> u64 {
-    match start {
-        Start::Fresh(size) => size,
-        Start::Image => size_said(image).max(image.len() as u64),
-    }
 }

@@ -31,19 +31,18 @@ pub struct Line<'a> {
 impl<'a> Line<'a> {
     fn read(number: usize, text: &'a str) -> Line<'a> {
         let (word, rest) = text.split_once(' ').unwrap_or((text, ""));
-        let begins = match word {
-            "row" | "damaged" | "requests" => Begins::Item,
-            "image" if rest.contains(' ') => Begins::Item,
-            "again" | "read" | "alone" | "migrate" => Begins::Part,
-            _ => Begins::Nothing,
-        };
         Line {
             number,
             word,
             rest,
             text,
-            begins,
+            begins: begins_of(word, rest),
         }
+    }
+
+    /// Whether it says what a row begins with.
+    pub fn is_beginning(&self) -> bool {
+        self.word == "size" || self.word == "image"
     }
 
     /// It is no line of the form, or stands where there is none of its kind.
@@ -88,12 +87,33 @@ fn number_of(text: &str) -> Option<u64> {
 /// The lines of a file.
 pub fn lines_of(alloc: Global, text: &str) -> Result<Vec<Line<'_>>, AllocError> {
     let mut lines = Vec::new(alloc);
+    add_lines(&mut lines, text)?;
+    Ok(lines)
+}
+
+fn add_lines<'a>(lines: &mut Vec<Line<'a>>, text: &'a str) -> Result<(), AllocError> {
     for (index, line) in text.lines().enumerate() {
-        if !line.is_empty() && !line.starts_with('#') {
+        if !is_remark(line) {
             lines.push(Line::read(index.saturating_add(1), line))?;
         }
     }
-    Ok(lines)
+    Ok(())
+}
+
+/// Whether a line says nothing.
+fn is_remark(line: &str) -> bool {
+    line.is_empty() || line.starts_with('#')
+}
+
+/// What a line begins with this word and this rest.
+fn begins_of(word: &str, rest: &str) -> Begins {
+    if ["row", "damaged", "requests"].contains(&word) || word == "image" && rest.contains(' ') {
+        return Begins::Item;
+    }
+    if ["again", "read", "alone", "migrate"].contains(&word) {
+        return Begins::Part;
+    }
+    Begins::Nothing
 }
 
 /// The lines of each item.
@@ -111,6 +131,15 @@ pub fn parted<'b, 'a>(
     begins: Begins,
 ) -> Result<Vec<&'b [Line<'a>]>, AllocError> {
     let mut parts = Vec::new(alloc);
+    add_parts(&mut parts, lines, begins)?;
+    Ok(parts)
+}
+
+fn add_parts<'b, 'a>(
+    parts: &mut Vec<&'b [Line<'a>]>,
+    lines: &'b [Line<'a>],
+    begins: Begins,
+) -> Result<(), AllocError> {
     let mut from = 0usize;
     for (index, line) in lines.iter().enumerate() {
         if line.begins == begins {
@@ -119,7 +148,7 @@ pub fn parted<'b, 'a>(
         }
     }
     parts.push(between(lines, from, lines.len()))?;
-    Ok(parts)
+    Ok(())
 }
 
 fn between<'b, 'a>(lines: &'b [Line<'a>], from: usize, to: usize) -> &'b [Line<'a>] {

@@ -44,11 +44,15 @@ impl<'a> Part<'a> {
             saves: "",
             keeps: "",
         };
-        for line in lines {
-            part.add(alloc, line)?;
-        }
-        part.end_line(alloc)?;
+        part.add_all(alloc, lines)?;
         Ok(part)
+    }
+
+    fn add_all(&mut self, alloc: Global, lines: &[Line<'a>]) -> Result<(), Trouble> {
+        for line in lines {
+            self.add(alloc, line)?;
+        }
+        self.end_line(alloc)
     }
 
     /// Repeats the last line as often as it says.
@@ -65,16 +69,16 @@ impl<'a> Part<'a> {
             return self.script.add_answer(line);
         }
         self.end_line(alloc)?;
-        match line.word {
-            "row" | "size" | "image" | "place" | "once" => return Ok(()),
-            "word" | "at" | "first" | "more" => return Ok(()),
-            "read" => self.deed = Deed::Read,
-            "alone" => self.deed = Deed::Alone,
-            "migrate" => self.deed = Deed::Migrate,
-            "again" => self.deed = Deed::Write,
-            _ => self.add_to_deed(line)?,
+        if is_of_row(line) {
+            return Ok(());
         }
-        Ok(())
+        match deed_of(line.word) {
+            Some(deed) => {
+                self.deed = deed;
+                Ok(())
+            }
+            None => self.add_to_deed(line),
+        }
     }
 
     /// Adds a line of what a part does, which is a script in mode `Write` where nothing else is said.
@@ -87,15 +91,35 @@ impl<'a> Part<'a> {
             "keeps" => self.keeps = line.rest,
             "class" => self.fault = line.rest,
             "fault" => self.fault = line.text,
-            ">" => self.script.add(line)?,
-            _ => {
-                let Some(times) = line.word.strip_suffix('>') else {
-                    return Err(line.misplaced());
-                };
-                self.times = line.number_of(times)? as usize;
-                self.script.add(line)?;
-            }
+            _ => return self.add_command(line),
         }
         Ok(())
+    }
+
+    /// Adds a line of a script, and how often it stands there.
+    fn add_command(&mut self, line: &Line<'a>) -> Result<(), Trouble> {
+        let Some(times) = line.word.strip_suffix('>') else {
+            return Err(line.misplaced());
+        };
+        if !times.is_empty() {
+            self.times = line.number_of(times)? as usize;
+        }
+        self.script.add(line)
+    }
+}
+
+/// Whether a line says something of the whole row.
+fn is_of_row(line: &Line<'_>) -> bool {
+    line.is_change() || ["row", "size", "image", "place", "once"].contains(&line.word)
+}
+
+/// What a part does that begins with this word.
+fn deed_of(word: &str) -> Option<Deed> {
+    match word {
+        "read" => Some(Deed::Read),
+        "alone" => Some(Deed::Alone),
+        "migrate" => Some(Deed::Migrate),
+        "again" => Some(Deed::Write),
+        _ => None,
     }
 }

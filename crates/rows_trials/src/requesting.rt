@@ -2,13 +2,13 @@
 
 use crate::benches::{Bench, Runner};
 use crate::checks::Wanted;
-use crate::desks::{Desk, usual_places};
-use crate::images::copy_of;
+use crate::desks::usual_places;
 use crate::lines::Line;
 use crate::scripts::Script;
 use crate::tasks::{Call, Mode, Outcome, Start, Way};
 use crate::trials::PIECES;
 use crate::troubles::Trouble;
+use std::alloc::{AllocError, Global};
 
 /// What is asked to see all that is in a segment; and then what lies free is cleared.
 const LOOK: &[u8] = b"free\nblocks\nlist\nunique\nnum_named\nnum_unique\nsanity\n\
@@ -27,64 +27,87 @@ struct Request {
     command: Script,
 }
 
-impl<'a, R: Runner> Desk<'a, R> {
+impl<R: Runner> Bench<R> {
     /// Makes the requests that the lines say in each of the sizes, in two places and in pieces.
-    pub fn check_requests(&mut self, lines: &[Line<'a>]) -> Result<(), Trouble> {
+    pub fn check_requests(&self, lines: &[Line<'_>]) -> Result<(), Trouble> {
         let mut request = Request {
-            before: Script::new(self.bench.alloc),
-            command: Script::new(self.bench.alloc),
+            before: Script::new(self.alloc),
+            command: Script::new(self.alloc),
         };
+        self.make_requests(&mut request, lines)
+    }
+
+    fn make_requests(&self, request: &mut Request, lines: &[Line<'_>]) -> Result<(), Trouble> {
         for line in lines {
-            match line.word {
-                ">" => request.before.add(line)?,
-                "?" => request.command.add(line)?,
-                "<" => request.command.add_answer(line)?,
-                "refused" | "granted" => self.check_fits(line, &request)?,
-                "requests" => {}
-                _ => return Err(line.misplaced()),
-            }
+            self.add_to_request(request, line)?;
         }
         Ok(())
+    }
+
+    /// Adds a line to a request, or makes it in the sizes of the line.
+    fn add_to_request(&self, request: &mut Request, line: &Line<'_>) -> Result<(), Trouble> {
+        match line.word {
+            ">" => request.before.add(line),
+            "?" => request.command.add(line),
+            "<" => request.command.add_answer(line),
+            "refused" | "granted" => self.check_all_fits(line, request),
+            "requests" => Ok(()),
+            _ => Err(line.misplaced()),
+        }
     }
 
     /// Makes the requests in sizes of one line, each with the bytes that are free then.
-    fn check_fits(&mut self, line: &Line<'a>, request: &Request) -> Result<(), Trouble> {
+    fn check_all_fits(&self, line: &Line<'_>, request: &Request) -> Result<(), Trouble> {
         for fit in line.rest.split_whitespace() {
             let (size, free) = line.pair_of(fit, ':')?;
-            let free = format!(in self.bench.alloc; "{free}\n")?;
-            for place in usual_places(size) {
-                let call = Call::Session(Start::Fresh(size), Mode::Write);
-                let way = Way::sound(call, place, ROOM, size as usize);
-                self.bench.check_fit(line, request, &way, free.as_bytes())?;
-            }
-            self.count(0);
+            self.check_fits(line, request, size, free)?;
+            self.count_row();
         }
         Ok(())
     }
-}
 
-impl<R: Runner> Bench<R> {
+    /// Makes the requests in a segment of so many bytes in two places, where so many bytes are free then.
+    fn check_fits(
+        &self,
+        line: &Line<'_>,
+        request: &Request,
+        size: u64,
+        free: u64,
+    ) -> Result<(), Trouble> {
+        let free = format!(in self.alloc; "{free}\n")?;
+        for place in usual_places(size) {
+            let call = Call::Session(Start::Fresh(size), Mode::Write);
+            let way = Way::sound(call, place, ROOM, size as usize);
+            self.check_fit(line, request, &way, free.as_bytes());
+        }
+        Ok(())
+    }
+
     /// Makes the requests in a segment in a place, in pieces.
-    fn check_fit(
+    fn check_fit(&self, line: &Line<'_>, request: &Request, way: &Way, free: &[u8]) {
+        let mut way = *way;
+        for piece in PIECES {
+            way.piece = piece;
+            self.note(self.check_made(line, request, &way, free));
+        }
+    }
+
+    /// Makes the requests in the segment that the lines before the command leave.
+    fn check_made(
         &self,
         line: &Line<'_>,
         request: &Request,
         way: &Way,
         free: &[u8],
     ) -> Result<(), Trouble> {
-        let mut way = *way;
-        for piece in PIECES {
-            way.piece = piece;
-            let made = self.made(line, &way, &request.before.text)?;
-            let mut opened = way;
-            opened.call = Call::Session(Start::Image, Mode::Write);
-            if line.word == "granted" {
-                self.ask(line, request, &opened, &made, free)?;
-            } else {
-                self.ask_in_vain(line, request, &opened, &made, free)?;
-            }
+        let made = self.made(line, way, &request.before.text)?;
+        let mut opened = *way;
+        opened.call = Call::Session(Start::Image, Mode::Write);
+        if line.word == "granted" {
+            self.ask(line, &request.command, &opened, &made, free)
+        } else {
+            self.ask_in_vain(line, &request.command, &opened, &made, free)
         }
-        Ok(())
     }
 
     /// What is done without a fault, whatever it prints and saves.
@@ -105,51 +128,63 @@ impl<R: Runner> Bench<R> {
     fn made(&self, line: &Line<'_>, way: &Way, before: &[u8]) -> Result<Vec<u8>, Trouble> {
         let done = self.done(line, way, &[], before)?;
         if has_error(done.answers.taken()) {
-            return Err(line.trouble("a line before the command is refused"));
+            self.note(Err(line.trouble("a line before the command is refused")));
         }
-        Ok(copy_of(self.alloc, done.saved.taken())?)
+        done.saved_image(self.alloc)
     }
 
     /// Makes requests of which one has no fit: behind it all is as before.
     fn ask_in_vain(
         &self,
         line: &Line<'_>,
-        request: &Request,
+        command: &Script,
         way: &Way,
         made: &[u8],
         free: &[u8],
     ) -> Result<(), Trouble> {
         let stood = self.done(line, way, made, LOOK)?;
-        if !stood.answers.taken().starts_with(free) {
-            return Err(line.trouble("before the command another number of bytes is free"));
+        let answers = stood.answers.taken();
+        if !answers.starts_with(free) {
+            self.note(Err(line.trouble("before the command another number of bytes is free")));
         }
-        let mut script = Script::bare(self.alloc, &request.command.text, b"error 9 no space\n")?;
-        script.text.extend_from_slice(LOOK)?;
-        script.answers.extend_from_slice(stood.answers.taken())?;
+        let script = look_behind(self.alloc, &command.text, answers)?;
         let wanted = Wanted::script(line.number, &script, stood.saved.taken());
-        self.check(&wanted, way, made, &script.text)
+        self.check(&wanted, way, made, &script.text);
+        Ok(())
     }
 
     /// Makes requests that have a fit: what they leave is an image, which is read and saved as it is.
     fn ask(
         &self,
         line: &Line<'_>,
-        request: &Request,
+        command: &Script,
         way: &Way,
         made: &[u8],
         free: &[u8],
     ) -> Result<(), Trouble> {
-        let command = &request.command;
-        let mut script = Script::bare(self.alloc, &command.text, &command.answers)?;
-        script.text.extend_from_slice(b"free\n")?;
-        script.answers.extend_from_slice(free)?;
+        let script = free_behind(self.alloc, command, free)?;
         let mut wanted = Wanted::script(line.number, &script, &[]);
         wanted.saved = None;
-        let done = self.outcome(&wanted, way, made, &script.text)?;
+        let saved = self.saved(&wanted, way, made, &script.text)?;
         let mut wanted = Wanted::fault(line.number, "");
-        wanted.saved = Some(done.saved.taken());
-        self.check(&wanted, way, done.saved.taken(), &[])
+        wanted.saved = Some(&saved);
+        self.check(&wanted, way, &saved, &[]);
+        Ok(())
     }
+}
+
+/// A command that has no fit, and a look behind it, which prints what it printed before.
+fn look_behind(alloc: Global, command: &[u8], answers: &[u8]) -> Result<Script, AllocError> {
+    let mut script = Script::bare(alloc, command, b"error 9 no space\n")?;
+    script.add_bare(LOOK, answers)?;
+    Ok(script)
+}
+
+/// A command, and how many bytes are free behind it.
+fn free_behind(alloc: Global, command: &Script, free: &[u8]) -> Result<Script, AllocError> {
+    let mut script = Script::bare(alloc, &command.text, &command.answers)?;
+    script.add_bare(b"free\n", free)?;
+    Ok(script)
 }
 
 /// Whether one of the answers is an error.

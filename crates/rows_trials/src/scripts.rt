@@ -1,6 +1,5 @@
 //! Scripts of lines, and what they print.
 
-use crate::images::copy_of;
 use crate::lines::Line;
 use crate::troubles::Trouble;
 use std::alloc::{AllocError, Global};
@@ -12,6 +11,13 @@ pub struct Mark {
     pub number: usize,
     pub script_end: usize,
     pub answers_end: usize,
+}
+
+/// A line of a script without its end, or a script; and what it prints.
+#[derive(Clone, Copy)]
+pub struct Said<'a> {
+    pub text: &'a [u8],
+    pub answers: &'a [u8],
 }
 
 /// A script, and what it prints.
@@ -35,9 +41,14 @@ impl Script {
     /// A text without marks, and what it prints.
     pub fn bare(alloc: Global, text: &[u8], answers: &[u8]) -> Result<Script, AllocError> {
         let mut script = Script::new(alloc);
-        script.text.extend_from_slice(text)?;
-        script.answers.extend_from_slice(answers)?;
+        script.add_bare(text, answers)?;
         Ok(script)
+    }
+
+    /// Adds a text without marks, and what it prints.
+    pub fn add_bare(&mut self, text: &[u8], answers: &[u8]) -> Result<(), AllocError> {
+        self.text.extend_from_slice(text)?;
+        self.answers.extend_from_slice(answers)
     }
 
     /// Adds a command, which prints nothing yet.
@@ -75,11 +86,18 @@ impl Script {
             return Ok(());
         };
         let number = end.number;
-        let command = copy_of(alloc, self.text.get(begin.script_end..).unwrap_or(&[]))?;
-        let answer = copy_of(alloc, self.answers.get(begin.answers_end..).unwrap_or(&[]))?;
+        let line = Script::bare(
+            alloc,
+            self.text.get(begin.script_end..).unwrap_or(&[]),
+            self.answers.get(begin.answers_end..).unwrap_or(&[]),
+        )?;
+        self.add_again(number, &line, times)
+    }
+
+    /// Adds a line and its answers, so that it stands there so often.
+    fn add_again(&mut self, number: usize, line: &Script, times: usize) -> Result<(), AllocError> {
         for _ in 1..times {
-            self.text.extend_from_slice(&command)?;
-            self.answers.extend_from_slice(&answer)?;
+            self.add_bare(&line.text, &line.answers)?;
             self.mark(number)?;
         }
         Ok(())
@@ -97,17 +115,16 @@ impl Script {
         }
     }
 
-    /// The line with so many before it, without its end, and what it prints, as a script.
-    pub fn only(&self, alloc: Global, index: usize) -> Result<Script, AllocError> {
+    /// The line with so many before it, without its end, and what it prints.
+    pub fn said(&self, index: usize) -> Said<'_> {
         let begin = self.begin_of(index);
         let end = self.begin_of(index.saturating_add(1));
         let text = begin.script_end..end.script_end.saturating_sub(1);
         let answers = begin.answers_end..end.answers_end;
-        Script::bare(
-            alloc,
-            self.text.get(text).unwrap_or(&[]),
-            self.answers.get(answers).unwrap_or(&[]),
-        )
+        Said {
+            text: self.text.get(text).unwrap_or(&[]),
+            answers: self.answers.get(answers).unwrap_or(&[]),
+        }
     }
 
     /// The script without the last end of a line.
@@ -118,19 +135,18 @@ impl Script {
         }
     }
 
-    /// The script with CR LF at the end of each line, where none ends with a CR.
-    pub fn with_returns(&self, alloc: Global) -> Result<Option<Vec<u8>>, AllocError> {
+    /// Whether a line ends with a CR.
+    pub fn has_return(&self) -> bool {
+        self.text.windows(2).any(|pair| pair == b"\r\n".as_slice())
+    }
+
+    /// The script with a CR more at the end of each line.
+    pub fn with_returns(&self, alloc: Global) -> Result<Vec<u8>, AllocError> {
         let mut text = Vec::new(alloc);
         for byte in &self.text {
-            if *byte == b'\n' {
-                if text.last() == Some(&b'\r') {
-                    return Ok(None);
-                }
-                text.push(b'\r')?;
-            }
-            text.push(*byte)?;
+            put_with_return(*byte, &mut text)?;
         }
-        Ok(Some(text))
+        Ok(text)
     }
 
     /// What the lines print that end within the first bytes of the script.
@@ -144,4 +160,12 @@ impl Script {
         }
         self.answers.get(..end).unwrap_or(&[])
     }
+}
+
+/// Puts a byte, and a CR before it where it is an LF.
+fn put_with_return(byte: u8, text: &mut Vec<u8>) -> Result<(), AllocError> {
+    if byte == b'\n' {
+        return text.extend_from_slice(b"\r\n");
+    }
+    text.extend_from_slice(&[byte])
 }

@@ -19,31 +19,47 @@ impl Line<'_> {
             out.extend_from_slice(plain.as_bytes())?;
         }
         for piece in pieces {
-            let Some((braced, plain)) = piece.split_once('}') else {
-                return Err(self.trouble("a brace is left open"));
-            };
-            self.put_braced(braced, out)?;
-            out.extend_from_slice(plain.as_bytes())?;
+            self.put_piece(piece, out)?;
         }
         Ok(())
+    }
+
+    /// Puts what stands in braces, and what follows it up to the next brace.
+    fn put_piece(&self, piece: &str, out: &mut Vec<u8>) -> Result<(), Trouble> {
+        let Some((braced, plain)) = piece.split_once('}') else {
+            return Err(self.trouble("a brace is left open"));
+        };
+        self.put_braced(braced, out)?;
+        Ok(out.extend_from_slice(plain.as_bytes())?)
     }
 
     /// Puts what stands in braces: a text in single quotes, or bytes by their digits behind an `x`, and perhaps how often.
     fn put_braced(&self, braced: &str, out: &mut Vec<u8>) -> Result<(), Trouble> {
         let from = out.len();
-        let (bytes, times) = match braced.rsplit_once('*') {
-            Some((bytes, times)) => (bytes, self.number_of(times)?),
-            None => (braced, 1),
-        };
-        if let Some(quoted) = bytes.strip_prefix('\'')
-            && let Some(text) = quoted.strip_suffix('\'')
-        {
-            out.extend_from_slice(text.as_bytes())?;
-        } else if !put_digits(bytes.as_bytes(), out)? {
+        match braced.rsplit_once('*') {
+            Some((unit, times)) => {
+                self.put_unit(unit, out)?;
+                repeat(out, from, self.number_of(times)?)
+            }
+            None => self.put_unit(braced, out),
+        }
+    }
+
+    /// Puts a text in single quotes, or bytes by their digits.
+    fn put_unit(&self, unit: &str, out: &mut Vec<u8>) -> Result<(), Trouble> {
+        if let Some(text) = quoted(unit) {
+            return Ok(out.extend_from_slice(text.as_bytes())?);
+        }
+        if !put_digits(unit.as_bytes(), out)? {
             return Err(self.trouble("what is in braces is wrong"));
         }
-        repeat(out, from, times)
+        Ok(())
     }
+}
+
+/// The text between single quotes.
+fn quoted(unit: &str) -> Option<&str> {
+    unit.strip_prefix('\'')?.strip_suffix('\'')
 }
 
 /// Puts what stands from a place on so often in all.

@@ -1,6 +1,9 @@
 //! Calls over devices in memory: sessions and migrations.
 
+use crate::images::copy_of;
+use crate::troubles::Trouble;
 use raw_region::fake::{Last, MemorySink};
+use std::alloc::Global;
 
 /// Where a segment lies: the capacity of its region, and its base. It may be too small for it.
 #[derive(Clone, Copy)]
@@ -103,4 +106,11 @@ pub struct Outcome {
     pub fault: &'static str,
     pub answers: MemorySink,
     pub saved: MemorySink,
+}
+
+impl Outcome {
+    /// The image that was saved.
+    pub fn saved_image(&self, alloc: Global) -> Result<Vec<u8>, Trouble> {
+        Ok(copy_of(alloc, self.saved.taken())?)
+    }
 }

@@ -40,6 +40,17 @@ impl Trial<'_> {
         }
     }
 
+    /// A trial on the image that this one left.
+    pub fn left<'b>(&'b self, image: &'b [u8]) -> Trial<'b> {
+        Trial {
+            line: self.line,
+            start: Start::Image,
+            image,
+            places: self.places,
+            once: self.once,
+        }
+    }
+
     /// How many bytes the segment has.
     pub fn size(&self) -> usize {
         match self.start {

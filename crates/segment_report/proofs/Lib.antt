@@ -1,0 +1,4 @@
+mod Sizes
+mod Tallies
+mod Escapes
+mod Telling

@@ -1,0 +1,5 @@
+pub mod Usages
+pub mod Entries
+pub mod Counting
+pub mod Telling
+pub mod Parts

@@ -1,4 +1,6 @@
-mod Sizes
-mod Tallies
+mod Replies
+mod Counts
 mod Escapes
+mod Shaped
 mod Telling
+mod Drawn

@@ -95,3 +95,10 @@ told-all s xs f old mid i a was end = record {
   };
   counted = omega (arith, was.failures);
 }
+
+-- where there is nothing to be written
+pub tells-none : {A E : Type 0} (s : State) (old : Took) (a : A) (text : Directory → List ℕ) → ((d : Directory) → StandsFor s.cut.bytes d → [] ≡ text d) → Tells {E = E} s old old (Ok a) text
+tells-none s old a text same = record {
+  writes = λ d k. record { ok = sym (append-nil old.bytes) ∙ ap (λ t. old.bytes ++ t) (same d k); err = tt; counted = omega arith };
+  counted = omega arith;
+}

@@ -15,10 +15,10 @@ same_use (Some r) (Some s) = same_role r s
 
 -- the blocks and gaps of a use
 abbrev pub spans_of : Option Role → List Span → List Span
-spans_of use ss = filter (λ (s : Span). same_use use s.use_of) ss
+spans_of u ss = filter (λ (s : Span). same_use u s.use_of) ss
 
 abbrev pub usage_in : Option Role → List Span → Usage
-usage_in use ss = record { count = length (spans_of use ss); bytes = sum_by (λ (s : Span). s.len) (spans_of use ss) }
+usage_in u ss = record { count = length (spans_of u ss); bytes = sum_by (λ (s : Span). s.len) (spans_of u ss) }
 
 abbrev pub longest_in : List Span → ℕ
 longest_in ss = fold (λ n (s : Span). max n s.len) 0 (spans_of None ss)

@@ -3,3 +3,4 @@ pub mod Entries
 pub mod Counting
 pub mod Telling
 pub mod Parts
+pub mod Picture

@@ -2,5 +2,11 @@
 #![tactic(auto)]
 
 mod entries;
+mod parts;
+mod picture;
+mod scale;
+mod shapes;
+mod sizes;
 mod tallies;
 
+pub use picture::draw;

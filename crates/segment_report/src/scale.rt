@@ -24,17 +24,17 @@ pub struct Corners {
     pub last: u64,
 }
 
-/// The scale of the picture of a segment of so many bytes: 16 rows hold all of them.
-pub fn scale_of(size: u64) -> Scale
-    requires { size ≤ 2 ^ 30 }
-    ensures { result.row ≡ bytes_in_row size }
-{
-    Scale {
-        row: ((size + 255) / 256 * 16).max(64),
-    }
-}
-
 impl Scale {
+    /// The scale of the picture of a segment of so many bytes: 16 rows hold all of them.
+    pub fn of(size: u64) -> Scale
+        requires { size ≤ 2 ^ 30 }
+        ensures { result.row ≡ bytes_in_row size }
+    {
+        Scale {
+            row: ((size + 255) / 256 * 16).max(64),
+        }
+    }
+
     /// The left edge of a byte.
     fn left_of(self, at: u64) -> u64
         ensures { result ≡ left_of self.row at }

@@ -1,10 +1,10 @@
 //! The shapes of a picture, and what is written in them.
 ghost use Rattle.std.specs.Prelude.{◌≡◌, ◌+◌, ◌-◌, ◌^◌, ◌<◌, ◌≤◌};
 ghost use Rattle.raw_region.specs.Device.{Writes};
-ghost use Rattle.segment_report.specs.Picture.{called, frame_text, label_text, shape_text};
+ghost use Rattle.segment_report.specs.Picture.{called, frame_text, label_text, shape_text, width_in};
 
 use crate::parts::{Part, put_parts};
-use crate::scale::Scale;
+use crate::scale::{Corners, Scale};
 use raw_region::{DeviceFault, Sink};
 use seg_types::Class;
 use segment_manager::Instance;
@@ -97,7 +97,7 @@ pub fn put_label<W: Sink>(
     requires writer { (W.history out.old).failures < 2 ^ 64 - 1 }
     requires some { 0 < len }
     requires inside { from + len ≤ 2 ^ 30 }
-    ensures { Writes (W.history out.old) (W.history out.new) result (label_text scale.row from len (called said.class said.name.now said.handle) said.kind) }
+    ensures { Writes (W.history out.old) (W.history out.new) result (label_text scale.row from len (called said.entry.class said.entry.name.now said.entry.handle) said.entry.kind) }
 {
     put_frame(out, scale, from, len)?;
     put_called(out, said)?;
@@ -115,11 +115,6 @@ fn put_frame<W: Sink>(out: &mut W, scale: Scale, from: u64, len: u64) -> Result<
     ensures { Writes (W.history out.old) (W.history out.new) result (frame_text scale.row from len) }
 {
     let corners = scale.corners(from, len);
-    let right = if corners.top == corners.last {
-        corners.right
-    } else {
-        ROW_END
-    };
     put_parts(
         out,
         &[
@@ -128,16 +123,27 @@ fn put_frame<W: Sink>(out: &mut W, scale: Scale, from: u64, len: u64) -> Result<
             Part::Bytes(b"' y='"),
             Part::Number(corners.top),
             Part::Bytes(b"' width='"),
-            Part::Number(right.saturating_sub(corners.left)),
+            Part::Number(width_in(&corners)),
             Part::Bytes(b"' height='32'><text x='4' y='21'>"),
         ],
     )
 }
 
+/// How wide what is written in a shape can be: as far as its first row goes.
+fn width_in(corners: &Corners) -> u64
+    ensures { result ≡ width_in corners.now.left corners.now.right corners.now.top corners.now.last }
+{
+    if corners.top == corners.last {
+        corners.right.saturating_sub(corners.left)
+    } else {
+        ROW_END.saturating_sub(corners.left)
+    }
+}
+
 /// Writes what an object is called, in front of its kind.
 fn put_called<W: Sink>(out: &mut W, said: Instance<'_>) -> Result<(), DeviceFault>
     requires { (W.history out.old).failures < 2 ^ 64 - 1 }
-    ensures { Writes (W.history out.old) (W.history out.new) result (called said.class said.name.now said.handle) }
+    ensures { Writes (W.history out.old) (W.history out.new) result (called said.entry.class said.entry.name.now said.entry.handle) }
 {
     match said.class {
         Class::Named => put_parts(out, &[Part::Escaped(said.name), Part::Bytes(b": ")]),

@@ -4,6 +4,7 @@ ghost use Rattle.segment_manager.specs.State.{Answers};
 ghost use Rattle.segment_report.specs.Counting.{counted, more, tally_in, total_bytes, total_count};
 ghost use Rattle.segment_report.specs.Usages.{tally_of};
 
+use crate::sizes::size_of;
 use block_tags::Role;
 use segment_manager::Segment;
 
@@ -94,7 +95,7 @@ pub fn tally_blocks(segment: &Segment) -> Tally
     let mut tally = Tally::new();
     let mut ahead = segment.first_tile();
     // a segment has fewer blocks and gaps than bytes
-    'tiles: for _ in 0..segment.size() {
+    'tiles: for _ in 0..size_of(segment) {
         let Some(tile) = ahead else {
             break;
         };

@@ -9,8 +9,8 @@ use Rattle.segment_report.proofs.shapes.put_label.Goals as goal
 pub returns-in_err-put_frame : goal.returns-in_err-put_frame
 returns-in_err-put_frame g c =
     let said = c.args.said in
-    writes-cut (g.W.Sink.history c.args.out.now) (g.W.Sink.history c.put_frame.new.out) _ c.from_residual-in_err-put_frame.result (frame_text c.args.scale.row c.args.from c.args.len)
-    (called said.class said.name.now said.handle ++ (xml_text (kind_text said.kind) ++ codes "</text></svg>\n")) c.from_residual-in_err-put_frame.ensures.0 c.in_err-put_frame.ensures
+    writes-cut (g.W.Sink.history c.args.out.now) (g.W.Sink.history c.put_frame.new.out) _ c.from_residual.result (frame_text c.args.scale.row c.args.from c.args.len)
+    (called said.class said.name.now said.handle ++ (xml_text (kind_text said.kind) ++ codes "</text></svg>\n")) c.from_residual.ensures.0 c.in_err-put_frame.ensures
 
 pub returns-in_err-put_called : goal.returns-in_err-put_called
 returns-in_err-put_called g c =

@@ -26,7 +26,7 @@ use Rattle.segment_manager.specs.State.{IsSegment, State, StandsFor}
 use Rattle.segment_manager.specs.Step.{step}
 use Rattle.segment_manager.proofs.Laws.{live-size}
 use Rattle.segment_report.specs.declared.tallies.Usage.{Usage}
-use Rattle.segment_report.proofs.Sizes.{size_is}
+use Rattle.segment_report.proofs.Replies.{size_is}
 use Rattle.segment_report.specs.declared.tallies.Tally.{Tally}
 use Rattle.segment_report.specs.Counting.{counted, end_gap_in, free_len, longest_in, more, same_use, spans_of, tally_in, total_bytes, total_count, usage_in}
 use Rattle.segment_report.specs.Usages.{blocks_of, gap_usage, has_role, longest, tally_of, usage_of}
@@ -36,20 +36,20 @@ bytes_in ss = sum_by (λ (s : Span). s.len) ss
 
 -- ---- one span more
 
-spans-more : (use : Option Role) (ss : List Span) (s : Span) (b : Bool) → same_use use s.use_of ≡ b → spans_of use (ss ++ s ∷ []) ≡ spans_of use ss ++ (if b then s ∷ [] else [])
-spans-more use ss s b e =
-    filter-append (λ (t : Span). same_use use t.use_of) ss (s ∷ []) ∙ ap (λ (c : Bool). spans_of use ss ++ (if c then s ∷ [] else [])) e
+spans-more : (u : Option Role) (ss : List Span) (s : Span) (b : Bool) → same_use u s.use_of ≡ b → spans_of u (ss ++ s ∷ []) ≡ spans_of u ss ++ (if b then s ∷ [] else [])
+spans-more u ss s b e =
+    filter-append (λ (t : Span). same_use u t.use_of) ss (s ∷ []) ∙ ap (λ (c : Bool). spans_of u ss ++ (if c then s ∷ [] else [])) e
 
 abbrev usage_list : List Span → Usage
 usage_list l = record { count = length l; bytes = bytes_in l }
 
-usage-yes : (use : Option Role) (ss : List Span) (s : Span) → same_use use s.use_of ≡ true → usage_in use (ss ++ s ∷ []) ≡ more (usage_in use ss) s.len
-usage-yes use ss s e =
-    let l = spans_of use ss in
-    ap usage_list (spans-more use ss s true e) ∙ (λ i. record { count = length-append l (s ∷ []) i; bytes = sum_by_push (λ (t : Span). t.len) l s i })
+usage-yes : (u : Option Role) (ss : List Span) (s : Span) → same_use u s.use_of ≡ true → usage_in u (ss ++ s ∷ []) ≡ more (usage_in u ss) s.len
+usage-yes u ss s e =
+    let l = spans_of u ss in
+    ap usage_list (spans-more u ss s true e) ∙ (λ i. record { count = length-append l (s ∷ []) i; bytes = sum_by_push (λ (t : Span). t.len) l s i })
 
-usage-no : (use : Option Role) (ss : List Span) (s : Span) → same_use use s.use_of ≡ false → usage_in use (ss ++ s ∷ []) ≡ usage_in use ss
-usage-no use ss s e = ap usage_list (spans-more use ss s false e ∙ append-nil (spans_of use ss))
+usage-no : (u : Option Role) (ss : List Span) (s : Span) → same_use u s.use_of ≡ false → usage_in u (ss ++ s ∷ []) ≡ usage_in u ss
+usage-no u ss s e = ap usage_list (spans-more u ss s false e ∙ append-nil (spans_of u ss))
 
 longest-yes : (ss : List Span) (s : Span) → same_use None s.use_of ≡ true → longest_in (ss ++ s ∷ []) ≡ max (longest_in ss) s.len
 longest-yes ss s e =
@@ -62,8 +62,8 @@ longest-no ss s e = ap (fold (λ n (t : Span). max n t.len) 0) (spans-more None 
 end-more : (ss : List Span) (s : Span) (u : Option Role) → s.use_of ≡ u → end_gap_in (ss ++ s ∷ []) ≡ (elim u [ None ↦ s.len | Some r ↦ 0 ])
 end-more ss s u e = fold-append (λ (n : ℕ) (t : Span). free_len t) 0 ss (s ∷ []) ∙ ap (λ (v : Option Role). elim v [ None ↦ s.len | Some r ↦ 0 ]) e
 
-tally-use : (ss : List Span) (s : Span) (u : Option Role) → s.use_of ≡ u → tally_in (ss ++ s ∷ []) ≡ counted (tally_in ss) u s.len
-tally-use ss s None e = λ i. record {
+tally-u : (ss : List Span) (s : Span) (u : Option Role) → s.use_of ≡ u → tally_in (ss ++ s ∷ []) ≡ counted (tally_in ss) u s.len
+tally-u ss s None e = λ i. record {
   gaps = usage-yes None ss s (ap (same_use None) e) i;
   longest_gap = longest-yes ss s (ap (same_use None) e) i;
   objects = usage-no (Some ObjectRole) ss s (ap (same_use (Some ObjectRole)) e) i;
@@ -72,7 +72,7 @@ tally-use ss s None e = λ i. record {
   nodes = usage-no (Some Node) ss s (ap (same_use (Some Node)) e) i;
   end_gap = end-more ss s None e i;
 }
-tally-use ss s (Some ObjectRole) e = λ i. record {
+tally-u ss s (Some ObjectRole) e = λ i. record {
   gaps = usage-no None ss s (ap (same_use None) e) i;
   longest_gap = longest-no ss s (ap (same_use None) e) i;
   objects = usage-yes (Some ObjectRole) ss s (ap (same_use (Some ObjectRole)) e) i;
@@ -81,7 +81,7 @@ tally-use ss s (Some ObjectRole) e = λ i. record {
   nodes = usage-no (Some Node) ss s (ap (same_use (Some Node)) e) i;
   end_gap = end-more ss s (Some ObjectRole) e i;
 }
-tally-use ss s (Some Index) e = λ i. record {
+tally-u ss s (Some Index) e = λ i. record {
   gaps = usage-no None ss s (ap (same_use None) e) i;
   longest_gap = longest-no ss s (ap (same_use None) e) i;
   objects = usage-no (Some ObjectRole) ss s (ap (same_use (Some ObjectRole)) e) i;
@@ -90,7 +90,7 @@ tally-use ss s (Some Index) e = λ i. record {
   nodes = usage-no (Some Node) ss s (ap (same_use (Some Node)) e) i;
   end_gap = end-more ss s (Some Index) e i;
 }
-tally-use ss s (Some Storage) e = λ i. record {
+tally-u ss s (Some Storage) e = λ i. record {
   gaps = usage-no None ss s (ap (same_use None) e) i;
   longest_gap = longest-no ss s (ap (same_use None) e) i;
   objects = usage-no (Some ObjectRole) ss s (ap (same_use (Some ObjectRole)) e) i;
@@ -99,7 +99,7 @@ tally-use ss s (Some Storage) e = λ i. record {
   nodes = usage-no (Some Node) ss s (ap (same_use (Some Node)) e) i;
   end_gap = end-more ss s (Some Storage) e i;
 }
-tally-use ss s (Some Node) e = λ i. record {
+tally-u ss s (Some Node) e = λ i. record {
   gaps = usage-no None ss s (ap (same_use None) e) i;
   longest_gap = longest-no ss s (ap (same_use None) e) i;
   objects = usage-no (Some ObjectRole) ss s (ap (same_use (Some ObjectRole)) e) i;
@@ -116,7 +116,7 @@ taken ss i s e =
 
 -- what is counted with the next span
 pub tally-next : (ss : List Span) (i : ℕ) (s : Span) → Some s ≡ slice_get ss i → tally_in (take (i + 1) ss) ≡ counted (tally_in (take i ss)) s.use_of s.len
-tally-next ss i s e = ap tally_in (taken ss i s e) ∙ tally-use (take i ss) s s.use_of refl
+tally-next ss i s e = ap tally_in (taken ss i s e) ∙ tally-u (take i ss) s s.use_of refl
 
 -- ---- how much it is
 
@@ -156,7 +156,10 @@ bytes-spans from (x ∷ xs) to h =
     let first = sum_by-cons (λ (s : Span). s.len) here rest in
     omega arith
 
-few-if : (a b : ℕ) (c : Bool) → nat_lt a b ≡ c → length (if c then record { offset = a; len = b - a; use_of = None } ∷ [] else []) ≤ bytes_in (if c then record { offset = a; len = b - a; use_of = None } ∷ [] else [])
+abbrev hole_if : ℕ → ℕ → Bool → List Span
+hole_if a b c = if c then record { offset = a; len = b - a; use_of = None } ∷ [] else []
+
+few-if : (a b : ℕ) (c : Bool) → nat_lt a b ≡ c → length (hole_if a b c) ≤ bytes_in (hole_if a b c)
 few-if a b true e = let l = ltb-true a b e in omega arith
 few-if a b false e = omega arith
 

@@ -1,6 +1,7 @@
 -- The numbers that a segment answers are its directory's.
 use Rattle.std.proofs.Common.{◌≡◌, refl, ap, ◌∙◌, ℕ, false, length}
-use Rattle.seg_types.specs.Commands.{Command, NumNamed, NumUnique, Size, is_changing}
+use Rattle.best_fit.specs.Extents.{free_bytes}
+use Rattle.seg_types.specs.Commands.{Command, Free, NumNamed, NumUnique, Size, is_changing}
 use Rattle.segment_manager.specs.declared.modes.Mode.{Mode}
 use Rattle.segment_manager.specs.declared.modes.Mode.TheVariants.{Write, ReadOnly, CopyOnWrite}
 use Rattle.segment_manager.specs.Directory.{Directory, live, named_objects, unique_objects}
@@ -21,6 +22,11 @@ answered-reads mode d c e = ap (λ (r : Answer × Directory). r.0) (performed-re
 pub size_is : (mode : Mode) (d : Directory) (n : ℕ) → Number n ≡ (step mode d Size).0 → n ≡ d.size
 size_is mode d n e =
     let same : Number n ≡ Number d.size = e ∙ answered-reads mode d Size refl in
+    cc
+
+pub free_is : (mode : Mode) (d : Directory) (n : ℕ) → Number n ≡ (step mode d Free).0 → n ≡ free_bytes (live d)
+free_is mode d n e =
+    let same : Number n ≡ Number (free_bytes (live d)) = e ∙ answered-reads mode d Free refl in
     cc
 
 -- how many entries the indexes have

@@ -1,6 +1,6 @@
 -- What is counted of the blocks and gaps, as a walk meets them and as the directory has them.
-use Rattle.std.proofs.Common.{◌≡◌, ℕ, zero, suc, ◌+◌, ◌-◌, ◌^◌, ◌<◌, ◌≤◌, Bool, true, false, List, [], ◌∷◌, ◌++◌, length, map, take, nat_lt, inl, inr, if◌then◌else◌, Some, None, slice_get, refl, sym, ap, subst, ◌∙◌, length-append, arith}
-use Rattle.std.specs.Prelude.{IsTrue, Option, filter, fold, max, option_map, sum_by}
+use Rattle.std.proofs.Common.{◌≡◌, ℕ, zero, suc, ◌+◌, ◌-◌, ◌^◌, ◌<◌, ◌≤◌, Bool, true, false, List, [], ◌∷◌, ◌++◌, length, map, take, nat_lt, inl, inr, if◌then◌else◌, Some, None, slice_get, refl, sym, ap, ◌∙◌, length-append, arith}
+use Rattle.std.specs.Prelude.{IsTrue, Option, fold, max, option_map, sum_by}
 use Rattle.std.proofs.lemmas.Bool.{and_parts, ltb-true, ltb-false}
 use Rattle.std.proofs.lemmas.List.{append-nil, length-map, map-append, take_all, take_more}
 use Rattle.std.proofs.lemmas.List.Elements.{filter-append}
@@ -13,7 +13,7 @@ use Rattle.block_tags.specs.Format.{is_legal_size}
 use Rattle.best_fit.specs.Ends.{last_end, least_size}
 use Rattle.best_fit.specs.Extents.{Extent, Gap, LiveSet, Span, end_of, gap_between, gaps, gaps_from, is_proper, proper_from, span_between, spans, spans_from}
 use Rattle.best_fit.specs.Table.{same_role}
-use Rattle.best_fit.proofs.Laws.{IsHole, IsLegal, is_hole-IsHole, legal_size, proper_from-IsFirst}
+use Rattle.best_fit.proofs.Laws.{IsHole, is_hole-IsHole, legal_size, proper_from-IsFirst}
 use Rattle.block_tags.specs.declared.tile.Tile.{Tile}
 use Rattle.best_fit.specs.FreeTree.{span}
 use Rattle.best_fit.specs.Heap.{IsTileOf}
@@ -29,7 +29,7 @@ use Rattle.segment_report.specs.declared.tallies.Usage.{Usage}
 use Rattle.segment_report.proofs.Replies.{size_is}
 use Rattle.segment_report.specs.declared.tallies.Tally.{Tally}
 use Rattle.segment_report.specs.Counting.{counted, end_gap_in, free_len, longest_in, more, same_use, spans_of, tally_in, total_bytes, total_count, usage_in}
-use Rattle.segment_report.specs.Usages.{blocks_of, gap_usage, has_role, longest, tally_of, usage_of}
+use Rattle.segment_report.specs.Usages.{blocks_of, gap_usage, longest, tally_of, usage_of}
 
 abbrev bytes_in : List Span → ℕ
 bytes_in ss = sum_by (λ (s : Span). s.len) ss
@@ -109,7 +109,7 @@ tally-u ss s (Some Node) e = λ i. record {
   end_gap = end-more ss s (Some Node) e i;
 }
 
-taken : (ss : List Span) (i : ℕ) (s : Span) → Some s ≡ slice_get ss i → take (i + 1) ss ≡ take i ss ++ s ∷ []
+pub taken : (ss : List Span) (i : ℕ) (s : Span) → Some s ≡ slice_get ss i → take (i + 1) ss ≡ take i ss ++ s ∷ []
 taken ss i s e =
     let within : i < length ss = slice_get_within ss i s (sym e) in
     take_more ss i s within ∙ ap (λ t. take i ss ++ t ∷ []) (get_or_from_slice_get ss i s s (sym e))

@@ -1,18 +1,17 @@
 -- The blocks and gaps of a segment lie in it, and what is written of each in its picture.
 use Rattle.std.proofs.Common.{◌≡◌, ℕ, zero, suc, ◌+◌, ◌-◌, ◌^◌, ◌<◌, ◌≤◌, Bool, true, false, List, [], ◌∷◌, ◌++◌, nat_lt, if◌then◌else◌, Some, None, slice_get, refl, sym, ap, subst, ◌∙◌, arith}
-use Rattle.std.specs.Prelude.{IsTrue, Option, codes}
+use Rattle.std.specs.Prelude.{IsTrue, codes}
 use Rattle.std.specs.List.{AllByRecursion}
 use Rattle.std.proofs.lemmas.Bool.{and_parts, ltb-true}
 use Rattle.block_tags.specs.Format.{is_legal_size}
 use Rattle.best_fit.specs.Extents.{Extent, LiveSet, Span, end_of, free_bytes, is_proper, proper_from, span_between, spans, spans_from}
-use Rattle.best_fit.proofs.Laws.{IsLegal, legal_size, proper_from-IsFirst, proper_from-reaches}
+use Rattle.best_fit.proofs.Laws.{legal_size, proper_from-IsFirst, proper_from-reaches}
 use Rattle.seg_types.specs.Commands.{Free, Size}
 use Rattle.seg_types.specs.Names.{ByHandle}
-use Rattle.segment_manager.specs.declared.modes.Mode.{Mode}
 use Rattle.segment_manager.specs.declared.telling.Instance.{Instance}
 use Rattle.segment_manager.specs.Answers.{Number}
-use Rattle.segment_manager.specs.Directory.{Directory, Object, live, object_at}
-use Rattle.segment_manager.specs.Instances.{IsInstance, IsMissing, SaysOf}
+use Rattle.segment_manager.specs.Directory.{Directory, live, object_at}
+use Rattle.segment_manager.specs.Instances.{IsMissing, SaysOf}
 use Rattle.segment_manager.specs.State.{IsReply, IsSegment, State, StandsFor}
 use Rattle.segment_manager.proofs.Laws.{AllByRecursion-append, live-size}
 use Rattle.seg_types.specs.declared.refusals.Refusal.{Refusal}
@@ -69,6 +68,9 @@ live-legal l h =
     let parts = and_parts (is_legal_size l.size) (proper_from 128 l.extents (l.size - 16)) h in
     let legal = legal_size l.size parts.0 in
     record { low = legal.low; high = omega (arith, legal.high) }
+
+pub legal-size : (d : Directory) → IsTrue (is_proper (live d)) → HasSize (live d).size
+legal-size d h = live-legal (live d) h
 
 pub has_size : (s : State) (n : ℕ) → IsSegment s.cut.bytes → IsReply s Size (Number n) → HasSize n
 has_size s n (d, k) h =

@@ -1,6 +1,6 @@
 -- What calls write of a segment, one after another.
-use Rattle.std.proofs.Common.{◌≡◌, ◌++◌, ◌∙◌, ℕ, ◌+◌, ◌<◌, ◌≤◌, zero, suc, List, [], ◌∷◌, length, take, Some, None, slice_get, refl, sym, ap, subst, append_assoc, arith}
-use Rattle.std.specs.Prelude.{Option, Result, Ok, Err}
+use Rattle.std.proofs.Common.{◌≡◌, ◌++◌, ◌∙◌, ℕ, ◌+◌, ◌<◌, ◌≤◌, List, [], ◌∷◌, length, take, Some, slice_get, refl, sym, ap, subst, append_assoc, arith}
+use Rattle.std.specs.Prelude.{Result, Ok, Err}
 use Rattle.std.specs.List.{flat_map}
 use Rattle.std.specs.Result.{IsErr}
 use Rattle.std.proofs.lemmas.Grind.{flat_map-append}
@@ -8,7 +8,7 @@ use Rattle.std.proofs.lemmas.List.{append-nil, take_all, take_more}
 use Rattle.std.proofs.lemmas.Option.{get_or_from_slice_get, slice_get_within}
 use Rattle.raw_region.specs.Answers.{failures_in}
 use Rattle.raw_region.specs.Device.{Took, Writes}
-use Rattle.raw_region.proofs.Laws.{writes-behind, writes-cut, writes-element, writes-then}
+use Rattle.raw_region.proofs.Laws.{writes-cut, writes-element, writes-then}
 use Rattle.segment_manager.specs.Directory.{Directory}
 use Rattle.segment_manager.specs.State.{State, StandsFor}
 use Rattle.segment_report.specs.Telling.{Tells}

@@ -1,5 +1,5 @@
 -- The same as a walk over the blocks and gaps meets it.
-use Rattle.std.specs.Prelude.{ℕ, ◌+◌, Bool, true, false, Option, Some, None, List, length, filter, fold, max, sum_by, ◌==◌}
+use Rattle.std.specs.Prelude.{ℕ, ◌+◌, Bool, true, false, Option, Some, None, List, length, filter, fold, max, sum_by}
 use Rattle.block_tags.specs.declared.tile.Role.{Role}
 use Rattle.block_tags.specs.declared.tile.Role.TheVariants.{Object as ObjectRole, Index, Storage, Node}
 use Rattle.best_fit.specs.Extents.{Span}

@@ -4,3 +4,5 @@ pub mod Counting
 pub mod Telling
 pub mod Parts
 pub mod Picture
+pub mod Objects
+pub mod Stat

@@ -2,6 +2,8 @@
 #![tactic(auto)]
 
 mod entries;
+mod figures;
+mod objects;
 mod parts;
 mod picture;
 mod scale;
@@ -9,4 +11,5 @@ mod shapes;
 mod sizes;
 mod tallies;
 
+pub use figures::stat;
 pub use picture::draw;

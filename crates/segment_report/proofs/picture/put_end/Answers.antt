@@ -2,7 +2,7 @@ use Rattle.std.proofs.Common.{◌-◌, List, ℕ, refl, arith}
 use Rattle.std.specs.Prelude.{codes}
 use Rattle.segment_manager.specs.Directory.{Directory}
 use Rattle.segment_report.specs.Picture.{bytes_in_row, close_text, shape_text}
-use Rattle.segment_report.proofs.Drawn.{HasSize, end-same, has_size}
+use Rattle.segment_report.proofs.Drawn.{end-same, has_size}
 use Rattle.segment_report.proofs.Telling.{tells-cut, tells-text, tells-then}
 use Rattle.segment_report.proofs.picture.put_end.Goals as goal
 

@@ -1,4 +1,3 @@
-use Rattle.std.proofs.Common.{◌≡◌}
 use Rattle.best_fit.specs.Extents.{spans}
 use Rattle.segment_manager.specs.Calls.{IsTileOfIndex}
 use Rattle.segment_manager.specs.Directory.{Directory, live}

@@ -1,4 +1,4 @@
-use Rattle.std.proofs.Common.{List, ℕ, ap}
+use Rattle.std.proofs.Common.{ap}
 use Rattle.segment_manager.specs.Directory.{Directory}
 use Rattle.segment_report.specs.Picture.{object_in, object_label, shape_text, sort_of}
 use Rattle.segment_report.proofs.Telling.{tells-cut, tells-text, tells-then}

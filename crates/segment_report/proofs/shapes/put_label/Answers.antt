@@ -1,4 +1,4 @@
-use Rattle.std.proofs.Common.{[], ◌∷◌, ◌++◌}
+use Rattle.std.proofs.Common.{◌++◌}
 use Rattle.std.specs.Prelude.{codes}
 use Rattle.seg_types.specs.Texts.{kind_text}
 use Rattle.raw_region.proofs.Laws.{writes-cut, writes-then}

@@ -1,8 +1,8 @@
 -- A walk over the tags of an image goes on behind a right one.
-use Rattle.std.proofs.Common.{◌≡◌, ℕ, ◌+◌, ◌-◌, ◌<◌, ◌≤◌, List, length, sym, subst, arith}
+use Rattle.std.proofs.Common.{ℕ, ◌+◌, ◌-◌, ◌<◌, ◌≤◌, List, length, sym, subst, arith}
 use Rattle.raw_region.specs.Format.{current}
 use Rattle.raw_region.specs.Memory.{bytes_of}
-use Rattle.block_tags.specs.Tiles.{is_free, tile_at}
+use Rattle.block_tags.specs.Tiles.{tile_at}
 use Rattle.image_explain.specs.declared.tags.Place.{Place}
 use Rattle.image_explain.specs.Walking.{IsNext}
 use Rattle.image_explain.specs.WrongTags.{Leads, goes_on}

@@ -1,7 +1,7 @@
 -- The place that shows the class of an image.
-use Rattle.std.proofs.Common.{◌≡◌, ◌++◌, ℕ, zero, suc, ◌+◌, ◌^◌, ◌<◌, ◌≤◌, Bool, true, false, not, ◌&&◌, List, [], ◌∷◌, length, nat_lt, refl, sym, ap, subst, ◌∙◌, arith, if◌then◌else◌, Some, None}
-use Rattle.std.specs.Prelude.{IsTrue, IfSome, Option, ◌==◌, ◌||◌, ◌⊎◌, inl, inr, MatchOption, codes, find, is_some, nat_le, slice_index}
-use Rattle.std.proofs.lemmas.Bool.{and_parts, and_from, eq-eqb, false≢true, leb-true, lt-ltb, ltb-false, not_from_true, or_parts, true_from_ne_false, true≢false}
+use Rattle.std.proofs.Common.{◌≡◌, ℕ, zero, suc, ◌+◌, ◌^◌, ◌<◌, ◌≤◌, Bool, true, false, not, ◌&&◌, List, [], ◌∷◌, length, nat_lt, refl, sym, ap, subst, ◌∙◌, arith, if◌then◌else◌, inr, Some, None}
+use Rattle.std.specs.Prelude.{Option, ◌==◌, ◌||◌, ◌⊎◌, MatchOption, codes, find, nat_le, slice_index}
+use Rattle.std.proofs.lemmas.Bool.{and_parts, and_from, eq-eqb, leb-true, lt-ltb, ltb-false, or_parts, true≢false}
 use Rattle.std.proofs.lemmas.List.Folds.{list_all-append}
 use Rattle.byteorder.specs.Endian.{little_number}
 use Rattle.raw_region.specs.Format.{current}
@@ -13,9 +13,9 @@ use Rattle.segment_manager.specs.Denotes.{magic_number}
 use Rattle.image_check.specs.declared.classes.ImageClass.{ImageClass}
 use Rattle.image_check.specs.declared.classes.ImageClass.TheVariants.{Truncated, BadMagic, UnsupportedVersion, BadSize, BadReserved, BadTag, BadFreeTree, BadIndex, BadObject, SharedBlock, BadContainer, OrphanBlock}
 use Rattle.image_check.specs.Classes.{classes, class_of, holds, number_of}
-use Rattle.image_check.specs.EarlyTests.{has_front, has_magic, has_reserved, has_size, has_version, is_tiled, is_truncated, is_zero, size_word}
+use Rattle.image_check.specs.EarlyTests.{has_front, has_magic, has_reserved, has_size, has_version, is_tiled, is_zero, size_word}
 use Rattle.image_explain.specs.Explains.{IsShown}
-use Rattle.image_explain.specs.Shows.{IsFirstFilled, IsFirstOther, Shows}
+use Rattle.image_explain.specs.Shows.{IsFirstFilled, IsFirstOther}
 use Rattle.image_explain.specs.WrongTags.{StopsAt}
 
 -- ---- the class is the first that holds
@@ -82,6 +82,12 @@ all-reserved b h k =
     let m = bytes_of b in
     list_all-append (λ (c : ℕ). c == 0) (read m 12 4) (read m 80 48) ∙ and_from (is_zero (read m 12 4)) (is_zero (read m 80 48)) (zero-read m 12 4 (λ i a c. h.at i a (omega arith))) (zero-read m 80 48 (λ i a c. k.at i a (omega arith)))
 
+-- what the bytes from 80 on say, where those from 12 on are zero
+pub behind-reserved : (b : List ℕ) (place : Option ℕ) → AreZero (bytes_of b) 12 16 → MatchOption place (AreZero (bytes_of b) 80 128) (IsFirstFilled (bytes_of b) 80 128)
+    → MatchOption place (has_reserved b ≡ true) (λ at. IsFirstFilled (bytes_of b) 12 16 at ⊎ IsFirstFilled (bytes_of b) 80 128 at)
+behind-reserved b None h k = all-reserved b h k
+behind-reserved b (Some at) h k = inr k
+
 pub reserved-shown : (b : List ℕ) (place : Option ℕ) → MatchOption place (has_reserved b ≡ true) (λ at. IsFirstFilled (bytes_of b) 12 16 at ⊎ IsFirstFilled (bytes_of b) 80 128 at)
     → class_of current b ≡ Some BadReserved → IsShown b BadReserved place
 reserved-shown b None h f = absurd (true≢false (sym h ∙ not-true (has_reserved b) (holds-class b BadReserved f)))
@@ -131,3 +137,7 @@ tag-shown b place h f =
     let high = (legal_size (size_word b) whole.legal).high in
     let size = whole.size in
     by-place b place (h (omega arith)) (ap (has_tags current (bytes_of b)) size ∙ not-true (is_tiled current b) (holds-class b BadTag f))
+
+-- what is so of one class, said of a class that is that one
+pub at-class : (b : List ℕ) (class k : ImageClass) (place : Option ℕ) → class ≡ k → (class_of current b ≡ Some k → IsShown b k place) → class_of current b ≡ Some class → IsShown b class place
+at-class b class k place e h f = subst (λ (x : ImageClass). IsShown b x place) (sym e) (h (f ∙ ap Some e))

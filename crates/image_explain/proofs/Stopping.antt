@@ -1,6 +1,6 @@
 -- A tag where a walk stops makes the tags of an image wrong, and where it stops nowhere they are right.
-use Rattle.std.proofs.Common.{◌≡◌, ℕ, zero, suc, ◌+◌, ◌-◌, ◌*◌, ◌/◌, ◌%◌, ◌<◌, ◌≤◌, Bool, true, false, not, ◌&&◌, List, [], ◌∷◌, length, nat_lt, refl, sym, ap, subst, ◌∙◌, arith, if◌then◌else◌, inl, inr}
-use Rattle.std.specs.Prelude.{IsTrue, nat_le, ◌==◌, ◌||◌}
+use Rattle.std.proofs.Common.{◌≡◌, ℕ, zero, suc, ◌+◌, ◌-◌, ◌*◌, ◌/◌, ◌%◌, ◌<◌, ◌≤◌, Bool, true, false, not, ◌&&◌, List, [], ◌∷◌, nat_lt, refl, sym, ap, ◌∙◌, arith, inl, inr}
+use Rattle.std.specs.Prelude.{nat_le, ◌==◌, ◌||◌}
 use Rattle.std.proofs.lemmas.Bool.{and_parts, and_from, cases_lt, cond-false, cond-true, eq-eqb, eqb-true, false_from_ne_true, le-leb, le-ltb, leb-true, lt-ltb, true≢false}
 use Rattle.raw_region.specs.Memory.{Memory, word_at}
 use Rattle.block_tags.specs.declared.tile.Tile.{Tile}
@@ -66,10 +66,11 @@ module _ (format : ℕ) (m : Memory) (end at before : ℕ) (free : Bool) where
   ends-right : at ≡ end → is_end m at before ≡ true → AreRight format m end at before free
   ends-right e h = λ more few.
       let none = tiles-none more m at end (omega arith) in
-      let words = and_parts (word_at m at == before) (word_at m (at + 8) == 1) h in
-      (ap (λ ts. are_tags format m at before ts end) none ∙ and_from ((at == end) && (word_at m at == before)) (word_at m (at + 8) == 1)
-          (and_from (at == end) (word_at m at == before) (eq-eqb at end e) words.0) words.1,
-        ap (is_merged_behind free) none)
+      let words = and_parts (word_at m at == before) (word_at m (at + 8) == 1) h in (
+        ap (λ ts. are_tags format m at before ts end) none ∙ and_from ((at == end) && (word_at m at == before)) (word_at m (at + 8) == 1)
+            (and_from (at == end) (word_at m at == before) (eq-eqb at end e) words.0) words.1,
+        ap (is_merged_behind free) none,
+      )
 
   step-right : at < end → is_right format m end at before free ≡ true → AreRight format m end (at + (tile_at m at).len) (tile_at m at).len (is_free (tile_at m at))
       → AreRight format m end at before free
@@ -79,12 +80,13 @@ module _ (format : ℕ) (m : Memory) (end at before : ℕ) (free : Bool) where
       let r = right-parts format m end at before free h in
       let ts = tiles_from more m (at + t.len) end in
       let behind = rest more (omega (arith, r.long)) in
-      let some = tiles-some more m at end lt in
-      (ap (λ us. are_tags format m at before us end) some
-          ∙ and_from ((t.offset == at) && is_tile format t && (word_at m at == before) && (word_at m (at + 8) == tag_word t)) (are_tags format m (at + t.len) t.len ts end)
-          (and_from ((t.offset == at) && is_tile format t && (word_at m at == before)) (word_at m (at + 8) == tag_word t)
-          (and_from ((t.offset == at) && is_tile format t) (word_at m at == before) (and_from (t.offset == at) (is_tile format t) (eq-eqb at at refl) r.tile) r.first) r.second) behind.0,
-        ap (is_merged_behind free) some ∙ and_from (not (free && is_free t)) (is_merged (t ∷ ts)) r.merged (merged-cons t ts ∙ behind.1))
+      let some = tiles-some more m at end lt in (
+        ap (λ us. are_tags format m at before us end) some
+            ∙ and_from ((t.offset == at) && is_tile format t && (word_at m at == before) && (word_at m (at + 8) == tag_word t)) (are_tags format m (at + t.len) t.len ts end)
+            (and_from ((t.offset == at) && is_tile format t && (word_at m at == before)) (word_at m (at + 8) == tag_word t)
+            (and_from ((t.offset == at) && is_tile format t) (word_at m at == before) (and_from (t.offset == at) (is_tile format t) (eq-eqb at at refl) r.tile) r.first) r.second) behind.0,
+        ap (is_merged_behind free) some ∙ and_from (not (free && is_free t)) (is_merged (t ∷ ts)) r.merged (merged-cons t ts ∙ behind.1),
+      )
 
 lead-right : (format : ℕ) (m : Memory) (end : ℕ) {at before : ℕ} {free : Bool} → Leads format m end at before free → AreRight format m end at before free → AreRight format m end 128 0 false
 lead-right format m end begins r = r
@@ -136,17 +138,18 @@ module _ (format : ℕ) (m : Memory) (end at before : ℕ) (free : Bool) where
       let two = and_parts ((t.offset == at) && is_tile format t) (word_at m at == before) three.0 in
       let tile = (and_parts (t.offset == at) (is_tile format t) two.0).1 in
       let apart = and_parts (not (free && is_free t)) (is_merged (t ∷ ts)) merged in
-      let inside = le-leb (at + t.len) end (tags-reach format m (at + t.len) t.len ts end four.1) in
-      (and_from (is_tile format t && (word_at m at == before) && (word_at m (at + 8) == tag_word t) && nat_le (at + t.len) end) (not (free && is_free t))
-          (and_from (is_tile format t && (word_at m at == before) && (word_at m (at + 8) == tag_word t)) (nat_le (at + t.len) end)
-          (and_from (is_tile format t && (word_at m at == before)) (word_at m (at + 8) == tag_word t) (and_from (is_tile format t) (word_at m at == before) tile two.1) three.1) inside) apart.0,
-        record { more = more; tags = four.1; merged = sym (merged-cons t ts) ∙ apart.1 })
+      let inside = le-leb (at + t.len) end (tags-reach format m (at + t.len) t.len ts end four.1) in (
+        and_from (is_tile format t && (word_at m at == before) && (word_at m (at + 8) == tag_word t) && nat_le (at + t.len) end) (not (free && is_free t))
+            (and_from (is_tile format t && (word_at m at == before) && (word_at m (at + 8) == tag_word t)) (nat_le (at + t.len) end)
+            (and_from (is_tile format t && (word_at m at == before)) (word_at m (at + 8) == tag_word t) (and_from (is_tile format t) (word_at m at == before) tile two.1) three.1) inside) apart.0,
+        record { more = more; tags = four.1; merged = sym (merged-cons t ts) ∙ apart.1 },
+      )
 
   stands-there : Stand format m end at before free → is_right_there format m end at before free ≡ true
   stands-there s = elim (cases_lt at end) [
     | inl lt ↦ cond-true (nat_lt at end) (is_right format m end at before free) (is_end m at before) (lt-ltb at end lt) ∙ (stand-more s.more s.tags s.merged lt).0
     | inr le ↦ cond-false (nat_lt at end) (is_right format m end at before free) (is_end m at before) (le-ltb at end le)
-          ∙ (none-stand format m end at before (sym (ap (λ ts. are_tags format m at before ts end) (tiles-none s.more m at end le)) ∙ s.tags)).1
+        ∙ (none-stand format m end at before (sym (ap (λ ts. are_tags format m at before ts end) (tiles-none s.more m at end le)) ∙ s.tags)).1
   ]
 
 lead-stand : (format : ℕ) (m : Memory) (end : ℕ) {at before : ℕ} {free : Bool} → Leads format m end at before free → Stand format m end 128 0 false → Stand format m end at before free
@@ -159,10 +162,10 @@ lead-stand format m end (goes_on {at} {before} {free} l lt h) s =
 pub stop-wrong : (format : ℕ) (m : Memory) (size at : ℕ) → StopsAt format m size at → has_tags format m size ≡ false
 stop-wrong format m size at s =
     false_from_ne_true (has_tags format m size) (λ h.
-        let two = and_parts (are_tags format m 128 0 (tiles_of m size) (size - 16)) (is_merged (tiles_of m size)) h in
-        let first : Stand format m (size - 16) 128 0 false = record { more = size / 32; tags = two.0; merged = merged-all (tiles_of m size) ∙ two.1 } in
-        let right = stands-there format m (size - 16) at s.before s.free (lead-stand format m (size - 16) s.leads first) in
-        true≢false (sym right ∙ s.wrong))
+    let two = and_parts (are_tags format m 128 0 (tiles_of m size) (size - 16)) (is_merged (tiles_of m size)) h in
+    let first : Stand format m (size - 16) 128 0 false = record { more = size / 32; tags = two.0; merged = merged-all (tiles_of m size) ∙ two.1 } in
+    let right = stands-there format m (size - 16) at s.before s.free (lead-stand format m (size - 16) s.leads first) in
+    true≢false (sym right ∙ s.wrong))
 
 -- a tile behind which a walk goes on ends in the segment, and further on
 pub right-inside : (format : ℕ) (m : Memory) (end at before : ℕ) (free : Bool) → is_right format m end at before free ≡ true → at + (tile_at m at).len ≤ end

@@ -1,5 +1,5 @@
 -- What is said of a refused image.
-use Rattle.std.specs.Prelude.{◌≡◌, ℕ, Bool, Option, Some, IfSome, List, codes, is_some}
+use Rattle.std.specs.Prelude.{◌≡◌, ℕ, Option, Some, IfSome, List, codes, is_some}
 use Rattle.raw_region.specs.Format.{current}
 use Rattle.image_check.specs.declared.classes.ImageClass.{ImageClass}
 use Rattle.image_check.specs.declared.classes.ImageClass.TheVariants.{Truncated, BadMagic, UnsupportedVersion, BadSize, BadReserved, BadTag, BadFreeTree, BadIndex, BadObject, SharedBlock, BadContainer, OrphanBlock}

@@ -142,12 +142,14 @@ fn words_of(class: ImageClass) -> &'static str
         ImageClass::Truncated => "the file ends before the image does",
         ImageClass::BadMagic => "this byte is not that of the magic, MSEGFILE",
         ImageClass::UnsupportedVersion => "the version is not the one that is read",
-        ImageClass::BadSize => "the size that stands at 16 is none of a segment, or the file goes on behind it",
+        ImageClass::BadSize =>
+            "the size that stands at 16 is none of a segment, or the file goes on behind it",
         ImageClass::BadReserved => "a reserved byte is not zero",
         ImageClass::BadTag => "the tag of a block or gap, or the end tag, is wrong",
         ImageClass::BadFreeTree => "the links from here on do not make up the tree of the gaps",
         ImageClass::BadIndex => "an index has a wrong count, capacity, block or entry",
-        ImageClass::BadObject => "an object has a wrong kind, count, name, class, padding or value, or is not in its index",
+        ImageClass::BadObject =>
+            "an object has a wrong kind, count, name, class, padding or value, or is not in its index",
         ImageClass::SharedBlock => "two links lead to one block",
         ImageClass::BadContainer => "the block, elements, pairs or counts of a container are wrong",
         ImageClass::OrphanBlock => "a block belongs to nothing",

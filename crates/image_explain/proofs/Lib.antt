@@ -1,0 +1,3 @@
+mod Stopping
+mod Leading
+mod Places

@@ -1,0 +1,143 @@
+-- The place that shows the class of an image.
+use Rattle.std.proofs.Common.{◌≡◌, ℕ, zero, suc, ◌+◌, ◌^◌, ◌<◌, ◌≤◌, Bool, true, false, not, ◌&&◌, List, [], ◌∷◌, length, nat_lt, refl, sym, ap, subst, ◌∙◌, arith, if◌then◌else◌, inr, Some, None}
+use Rattle.std.specs.Prelude.{Option, ◌==◌, ◌||◌, ◌⊎◌, MatchOption, codes, find, nat_le, slice_index}
+use Rattle.std.proofs.lemmas.Bool.{and_parts, and_from, eq-eqb, leb-true, lt-ltb, ltb-false, or_parts, true≢false}
+use Rattle.std.proofs.lemmas.List.Folds.{list_all-append}
+use Rattle.byteorder.specs.Endian.{little_number}
+use Rattle.raw_region.specs.Format.{current}
+use Rattle.raw_region.specs.Memory.{AreZero, Memory, bytes_of, read, word_at}
+use Rattle.block_tags.specs.Format.{is_legal_size}
+use Rattle.block_tags.specs.Tiles.{has_tags}
+use Rattle.best_fit.proofs.Laws.{legal_size}
+use Rattle.segment_manager.specs.Denotes.{magic_number}
+use Rattle.image_check.specs.declared.classes.ImageClass.{ImageClass}
+use Rattle.image_check.specs.declared.classes.ImageClass.TheVariants.{Truncated, BadMagic, UnsupportedVersion, BadSize, BadReserved, BadTag, BadFreeTree, BadIndex, BadObject, SharedBlock, BadContainer, OrphanBlock}
+use Rattle.image_check.specs.Classes.{classes, class_of, holds, number_of}
+use Rattle.image_check.specs.EarlyTests.{has_front, has_magic, has_reserved, has_size, has_version, is_tiled, is_zero, size_word}
+use Rattle.image_explain.specs.Explains.{IsShown}
+use Rattle.image_explain.specs.Shows.{IsFirstFilled, IsFirstOther}
+use Rattle.image_explain.specs.WrongTags.{StopsAt}
+
+-- ---- the class is the first that holds
+
+past-if : (p : ImageClass → Bool) (c k : ImageClass) (cs : List ImageClass) (x : Bool) → p c ≡ x → (if x then Some c else find p cs) ≡ Some k → number_of c < number_of k
+    → (p c ≡ false) × (find p cs ≡ Some k)
+past-if p c k cs true e f n = let same : c ≡ k = cc in let number : number_of c ≡ number_of k = ap number_of same in absurd (omega arith)
+past-if p c k cs false e f n = (e, f)
+
+past : (p : ImageClass → Bool) (c k : ImageClass) (cs : List ImageClass) → find p (c ∷ cs) ≡ Some k → number_of c < number_of k → (p c ≡ false) × (find p cs ≡ Some k)
+past p c k cs f n = past-if p c k cs (p c) refl f n
+
+found-if : (p : ImageClass → Bool) (c k : ImageClass) (cs : List ImageClass) (x : Bool) → p c ≡ x → (if x then Some c else find p cs) ≡ Some k → (find p cs ≡ Some k → p k ≡ true) → p k ≡ true
+found-if p c k cs true e f more = let same : c ≡ k = cc in subst (λ y. p y ≡ true) same e
+found-if p c k cs false e f more = more f
+
+found : (p : ImageClass → Bool) (cs : List ImageClass) (k : ImageClass) → find p cs ≡ Some k → p k ≡ true
+found p [] k f = absurd (cc)
+found p (c ∷ cs) k f = found-if p c k cs (p c) refl f (found p cs k)
+
+-- the class holds
+holds-class : (b : List ℕ) (k : ImageClass) → class_of current b ≡ Some k → holds current b k ≡ true
+holds-class b k f = found (holds current b) classes k f
+
+-- an image that is too short for a header is truncated
+short-if : (p : ImageClass → Bool) (k : ImageClass) (cs : List ImageClass) → p Truncated ≡ true → find p (Truncated ∷ cs) ≡ Some k → Truncated ≡ k
+short-if p k cs e f = let here : (if true then Some Truncated else find p cs) ≡ Some k = ap (λ (x : Bool). if x then Some Truncated else find p cs) (sym e) ∙ f in cc
+
+short-class : (b : List ℕ) (k : ImageClass) → length b < 144 → class_of current b ≡ Some k → Truncated ≡ k
+short-class b k h f =
+    short-if (holds current b) k (BadMagic ∷ UnsupportedVersion ∷ BadSize ∷ BadReserved ∷ BadTag ∷ BadFreeTree ∷ BadIndex ∷ BadObject ∷ SharedBlock ∷ BadContainer ∷ OrphanBlock ∷ [])
+    (ap (λ (x : Bool). x || (has_front current b && nat_lt (length b) (size_word b))) (lt-ltb (length b) 144 h)) f
+
+pub short-shown : (b : List ℕ) (k : ImageClass) → length b < 144 → class_of current b ≡ Some k → IsShown b k (Some (length b))
+short-shown b k h f = subst (λ c. IsShown b c (Some (length b))) (short-class b k h f) (record { given = refl; shows = refl })
+
+-- ---- the magic
+
+magic-bytes : (b : List ℕ) → ((i : ℕ) → i < 8 → slice_index b i ≡ slice_index (codes "MSEGFILE") i) → read (bytes_of b) 0 8 ≡ codes "MSEGFILE"
+magic-bytes b h = λ j.
+    h 0 (omega arith) j ∷ h 1 (omega arith) j ∷ h 2 (omega arith) j ∷ h 3 (omega arith) j ∷ h 4 (omega arith) j ∷ h 5 (omega arith) j ∷ h 6 (omega arith) j ∷ h 7 (omega arith) j ∷ []
+
+pub all-magic : (b : List ℕ) → ((i : ℕ) → i < 8 → slice_index b i ≡ slice_index (codes "MSEGFILE") i) → has_magic b ≡ true
+unfolding word_at
+all-magic b h = eq-eqb (word_at (bytes_of b) 0) magic_number (ap (little_number 8) (magic-bytes b h))
+
+not-true : (x : Bool) → not x ≡ true → x ≡ false
+not-true true e = absurd (true≢false (sym e))
+not-true false e = refl
+
+pub magic-shown : (b : List ℕ) (place : Option ℕ) → MatchOption place (has_magic b ≡ true) (IsFirstOther b (codes "MSEGFILE")) → class_of current b ≡ Some BadMagic → IsShown b BadMagic place
+magic-shown b None h f = absurd (true≢false (sym h ∙ not-true (has_magic b) (holds-class b BadMagic f)))
+magic-shown b (Some at) h f = record { given = refl; shows = h }
+
+-- ---- the reserved bytes
+
+zero-read : (m : Memory) (at n : ℕ) → ((k : ℕ) → at ≤ k → k < at + n → m k ≡ 0) → is_zero (read m at n) ≡ true
+zero-read m at zero h = refl
+zero-read m at (suc n) h =
+    and_from (m at == 0) (is_zero (read m (at + 1) n)) (eq-eqb (m at) 0 (h at (omega arith) (omega arith))) (zero-read m (at + 1) n (λ k a b. h k (omega arith) (omega arith)))
+
+pub all-reserved : (b : List ℕ) → AreZero (bytes_of b) 12 16 → AreZero (bytes_of b) 80 128 → has_reserved b ≡ true
+all-reserved b h k =
+    let m = bytes_of b in
+    list_all-append (λ (c : ℕ). c == 0) (read m 12 4) (read m 80 48) ∙ and_from (is_zero (read m 12 4)) (is_zero (read m 80 48)) (zero-read m 12 4 (λ i a c. h.at i a (omega arith))) (zero-read m 80 48 (λ i a c. k.at i a (omega arith)))
+
+-- what the bytes from 80 on say, where those from 12 on are zero
+pub behind-reserved : (b : List ℕ) (place : Option ℕ) → AreZero (bytes_of b) 12 16 → MatchOption place (AreZero (bytes_of b) 80 128) (IsFirstFilled (bytes_of b) 80 128)
+    → MatchOption place (has_reserved b ≡ true) (λ at. IsFirstFilled (bytes_of b) 12 16 at ⊎ IsFirstFilled (bytes_of b) 80 128 at)
+behind-reserved b None h k = all-reserved b h k
+behind-reserved b (Some at) h k = inr k
+
+pub reserved-shown : (b : List ℕ) (place : Option ℕ) → MatchOption place (has_reserved b ≡ true) (λ at. IsFirstFilled (bytes_of b) 12 16 at ⊎ IsFirstFilled (bytes_of b) 80 128 at)
+    → class_of current b ≡ Some BadReserved → IsShown b BadReserved place
+reserved-shown b None h f = absurd (true≢false (sym h ∙ not-true (has_reserved b) (holds-class b BadReserved f)))
+reserved-shown b (Some at) h f = record { given = refl; shows = h }
+
+-- ---- the tags
+
+not-false : (x : Bool) → not x ≡ false → x ≡ true
+not-false true e = refl
+not-false false e = absurd (true≢false e)
+
+-- an image of this class has a legal size, and as many bytes
+record IsWhole (b : List ℕ) : Type 0 where
+  legal : is_legal_size (size_word b) ≡ true
+  size : length b ≡ size_word b
+
+and-false : (x y : Bool) → x ≡ true → (x && y) ≡ false → y ≡ false
+and-false true y e h = h
+and-false false y e h = absurd (true≢false (sym e))
+
+whole-class : (b : List ℕ) → class_of current b ≡ Some BadTag → IsWhole b
+whole-class b f =
+    let p = holds current b in
+    let late = BadIndex ∷ BadObject ∷ SharedBlock ∷ BadContainer ∷ OrphanBlock ∷ [] in
+    let one = past p Truncated BadTag (BadMagic ∷ UnsupportedVersion ∷ BadSize ∷ BadReserved ∷ BadTag ∷ BadFreeTree ∷ late) f (omega arith) in
+    let two = past p BadMagic BadTag (UnsupportedVersion ∷ BadSize ∷ BadReserved ∷ BadTag ∷ BadFreeTree ∷ late) one.1 (omega arith) in
+    let three = past p UnsupportedVersion BadTag (BadSize ∷ BadReserved ∷ BadTag ∷ BadFreeTree ∷ late) two.1 (omega arith) in
+    let four = past p BadSize BadTag (BadReserved ∷ BadTag ∷ BadFreeTree ∷ late) three.1 (omega arith) in
+    let magic = not-false (has_magic b) two.0 in
+    let version = not-false (has_version current b) three.0 in
+    let size = and_parts (is_legal_size (size_word b)) (nat_le (length b) (size_word b)) (not-false (has_size b) four.0) in
+    let front = and_from (has_magic b && has_version current b) (is_legal_size (size_word b)) (and_from (has_magic b) (has_version current b) magic version) size.0 in
+    let least = (or_parts (nat_lt (length b) 144) (has_front current b && nat_lt (length b) (size_word b)) one.0).1 in
+    let low = ltb-false (length b) (size_word b) (and-false (has_front current b) (nat_lt (length b) (size_word b)) front least) in
+    let high = leb-true (length b) (size_word b) size.1 in
+    record { legal = size.0; size = omega arith }
+
+by-place : (b : List ℕ) (place : Option ℕ) → MatchOption place (has_tags current (bytes_of b) (length b) ≡ true) (StopsAt current (bytes_of b) (length b)) → has_tags current (bytes_of b) (length b) ≡ false
+    → IsShown b BadTag place
+by-place b None right wrong = absurd (true≢false (sym right ∙ wrong))
+by-place b (Some at) stops wrong = record { given = refl; shows = stops }
+
+pub tag-shown : (b : List ℕ) (place : Option ℕ) → (length b ≤ 2 ^ 30 → MatchOption place (has_tags current (bytes_of b) (length b) ≡ true) (StopsAt current (bytes_of b) (length b)))
+    → class_of current b ≡ Some BadTag → IsShown b BadTag place
+tag-shown b place h f =
+    let whole = whole-class b f in
+    let high = (legal_size (size_word b) whole.legal).high in
+    let size = whole.size in
+    by-place b place (h (omega arith)) (ap (has_tags current (bytes_of b)) size ∙ not-true (is_tiled current b) (holds-class b BadTag f))
+
+-- what is so of one class, said of a class that is that one
+pub at-class : (b : List ℕ) (class k : ImageClass) (place : Option ℕ) → class ≡ k → (class_of current b ≡ Some k → IsShown b k place) → class_of current b ≡ Some class → IsShown b class place
+at-class b class k place e h f = subst (λ (x : ImageClass). IsShown b x place) (sym e) (h (f ∙ ap Some e))

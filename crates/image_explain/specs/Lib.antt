@@ -1,0 +1,4 @@
+pub mod WrongTags
+pub mod Walking
+pub mod Shows
+pub mod Explains

@@ -1,0 +1,58 @@
+-- The place in an image that shows why it is refused.
+use Rattle.std.specs.Prelude.{◌≡◌, ◌≢◌, ◌<◌, ◌≤◌, ◌⊎◌, ℕ, Bool, true, false, List, length, codes, slice_index, if◌then◌else◌}
+use Rattle.raw_region.specs.Format.{current}
+use Rattle.raw_region.specs.Memory.{Memory, bytes_of}
+use Rattle.block_tags.specs.Format.{is_legal_size}
+use Rattle.image_check.specs.declared.classes.ImageClass.{ImageClass}
+use Rattle.image_check.specs.declared.classes.ImageClass.TheVariants.{Truncated, BadMagic, UnsupportedVersion, BadSize, BadReserved, BadTag, BadFreeTree, BadIndex, BadObject, SharedBlock, BadContainer, OrphanBlock}
+use Rattle.image_check.specs.EarlyTests.{size_word}
+use Rattle.image_explain.specs.WrongTags.{StopsAt}
+
+-- the first byte that is not the one of the list at its place
+pub record IsFirstOther (b wanted : List ℕ) (at : ℕ) : Type 0 where
+  pub inside : at < length wanted
+  pub other : slice_index b at ≢ slice_index wanted at
+  pub same : (i : ℕ) → i < at → slice_index b i ≡ slice_index wanted i
+
+-- the first byte of those from an offset on, below another, that is not 0
+pub record IsFirstFilled (m : Memory) (from to at : ℕ) : Type 0 where
+  pub above : from ≤ at
+  pub below : at < to
+  pub filled : m at ≢ 0
+  pub zeros : (i : ℕ) → from ≤ i → i < at → m i ≡ 0
+
+-- the size that is none of a segment, or else the first byte behind a segment of that size
+abbrev pub shown_size : List ℕ → ℕ
+shown_size b = if is_legal_size (size_word b) then size_word b else 16
+
+-- The place that shows a class: the end of what is too short; the first byte that is not the magic's; the version; the size that is
+-- none, or else the first byte behind it; the first reserved byte that is not zero; the first tag that is wrong; and the root link of
+-- the free tree. Of a class from the eighth on no place is said.
+abbrev pub Shows : List ℕ → ImageClass → ℕ → Type 0
+Shows b Truncated at = at ≡ length b
+Shows b BadMagic at = IsFirstOther b (codes "MSEGFILE") at
+Shows b UnsupportedVersion at = at ≡ 8
+Shows b BadSize at = at ≡ shown_size b
+Shows b BadReserved at = IsFirstFilled (bytes_of b) 12 16 at ⊎ IsFirstFilled (bytes_of b) 80 128 at
+Shows b BadTag at = StopsAt current (bytes_of b) (length b) at
+Shows b BadFreeTree at = at ≡ 24
+Shows b BadIndex at = ⊥
+Shows b BadObject at = ⊥
+Shows b SharedBlock at = ⊥
+Shows b BadContainer at = ⊥
+Shows b OrphanBlock at = ⊥
+
+-- whether a place is said of it
+abbrev pub has_place : ImageClass → Bool
+has_place Truncated = true
+has_place BadMagic = true
+has_place UnsupportedVersion = true
+has_place BadSize = true
+has_place BadReserved = true
+has_place BadTag = true
+has_place BadFreeTree = true
+has_place BadIndex = false
+has_place BadObject = false
+has_place SharedBlock = false
+has_place BadContainer = false
+has_place OrphanBlock = false

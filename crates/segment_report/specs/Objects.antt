@@ -1,0 +1,77 @@
+-- The objects of a segment, counted by class and by kind.
+use Rattle.std.specs.Prelude.{◌≤◌, ℕ, ◌+◌, ◌*◌, Bool, Option, Some, None, List, count_by, filter_map, map, slice_index, slice_set}
+use Rattle.best_fit.specs.Extents.{Span, spans}
+use Rattle.seg_types.specs.declared.kinds.ScalarKind.{ScalarKind}
+use Rattle.seg_types.specs.declared.kinds.ScalarKind.TheVariants.{Bool as BoolKind, U8, I32, I64, U64}
+use Rattle.seg_types.specs.declared.kinds.Kind.{Kind}
+use Rattle.seg_types.specs.declared.kinds.Kind.TheVariants.{Scalar, Text, Vector, Map, Texts}
+use Rattle.seg_types.specs.declared.kinds.Class.{Class}
+use Rattle.seg_types.specs.declared.kinds.Class.TheVariants.{Anonymous, Named, Unique}
+use Rattle.seg_types.specs.Kinds.{kinds, same_kind}
+use Rattle.segment_manager.specs.Directory.{Directory, Object, is_class, kind_of, live}
+use Rattle.segment_report.specs.declared.objects.ObjectTally.{ObjectTally}
+use Rattle.segment_report.specs.Picture.{object_in}
+
+-- the objects that stand in the blocks, by offset
+abbrev pub object_of : Directory → Span → Option Object
+object_of d s = object_in d s.use_of s.offset
+
+abbrev pub objects_in : Directory → List Object
+objects_in d = filter_map (object_of d) (spans (live d))
+
+abbrev pub is_of_kind : Kind → Object → Bool
+is_of_kind k o = same_kind k (kind_of o.value)
+
+-- how many are of a kind
+abbrev pub count_of_kind : List Object → Kind → ℕ
+count_of_kind os k = count_by (is_of_kind k) os
+
+-- how many there are of each class, and of each kind
+abbrev pub objects_tally : List Object → ObjectTally
+objects_tally os = record {
+  named = count_by (is_class Named) os;
+  unique = count_by (is_class Unique) os;
+  anonymous = count_by (is_class Anonymous) os;
+  kinds = map (count_of_kind os) kinds;
+}
+
+abbrev pub object_tally_of : Directory → ObjectTally
+object_tally_of d = objects_tally (objects_in d)
+
+-- ---- as a walk meets them
+
+-- the place of a kind among all
+abbrev pub scalar_place : ScalarKind → ℕ
+scalar_place BoolKind = 0
+scalar_place U8 = 1
+scalar_place I32 = 2
+scalar_place I64 = 3
+scalar_place U64 = 4
+
+abbrev pub kind_place : Kind → ℕ
+kind_place (Scalar k) = scalar_place k
+kind_place Text = 5
+kind_place Texts = 6
+kind_place (Vector k) = 7 + scalar_place k
+kind_place (Map k v) = 12 + 5 * scalar_place k + scalar_place v
+
+abbrev pub one_more_at : List ℕ → ℕ → List ℕ
+one_more_at counts i = slice_set counts i (slice_index counts i + 1)
+
+-- one object more
+abbrev pub object_counted : ObjectTally → Class → Kind → ObjectTally
+object_counted t Named k = record t { named = t.named + 1; kinds = one_more_at t.kinds (kind_place k) }
+object_counted t Unique k = record t { unique = t.unique + 1; kinds = one_more_at t.kinds (kind_place k) }
+object_counted t Anonymous k = record t { anonymous = t.anonymous + 1; kinds = one_more_at t.kinds (kind_place k) }
+
+-- the object of a block, where there is one
+abbrev pub counted_if : ObjectTally → Option Object → ObjectTally
+counted_if t None = t
+counted_if t (Some o) = object_counted t o.class (kind_of o.value)
+
+-- there is room to count one more
+pub record HasRoomFor (t : ObjectTally) (i : ℕ) : Type 0 where
+  pub named : t.named ≤ i
+  pub unique : t.unique ≤ i
+  pub anonymous : t.anonymous ≤ i
+  pub kinds : (k : Kind) → slice_index t.kinds (kind_place k) ≤ i

@@ -1,0 +1,205 @@
+//! The figures of a segment.
+ghost use Rattle.std.specs.Prelude.{◌≡◌, ◌-◌, ◌^◌, ◌<◌, flat_map};
+ghost use Rattle.raw_region.specs.Device.{Writes};
+ghost use Rattle.seg_types.specs.Kinds.{kinds};
+ghost use Rattle.segment_manager.specs.State.{Answers};
+ghost use Rattle.segment_report.specs.Objects.{object_tally_of};
+ghost use Rattle.segment_report.specs.Stat.{counted_line, figures_text, kind_line, stat_text};
+ghost use Rattle.segment_report.specs.Telling.{Tells};
+ghost use Rattle.segment_report.specs.Usages.{tally_of};
+
+use crate::entries::put_entries;
+use crate::objects::{ObjectTally, tally_objects};
+use crate::sizes::size_of;
+use crate::tallies::{Tally, tally_blocks};
+use raw_region::{DeviceFault, Sink, word_in};
+use seg_types::{Kind, ScalarKind};
+use segment_lang::{Piece, put_pieces};
+use segment_manager::Segment;
+use segment_manager::layout::{NAMED_AT, UNIQUE_AT};
+
+/// Where the words of an index have its capacity.
+const CAPACITY: usize = 16;
+
+/// All kinds, in their order.
+static KINDS: [Kind; 37] = [
+    Kind::Scalar(ScalarKind::Bool),
+    Kind::Scalar(ScalarKind::U8),
+    Kind::Scalar(ScalarKind::I32),
+    Kind::Scalar(ScalarKind::I64),
+    Kind::Scalar(ScalarKind::U64),
+    Kind::Text,
+    Kind::Texts,
+    Kind::Vector(ScalarKind::Bool),
+    Kind::Vector(ScalarKind::U8),
+    Kind::Vector(ScalarKind::I32),
+    Kind::Vector(ScalarKind::I64),
+    Kind::Vector(ScalarKind::U64),
+    Kind::Map(ScalarKind::Bool, ScalarKind::Bool),
+    Kind::Map(ScalarKind::Bool, ScalarKind::U8),
+    Kind::Map(ScalarKind::Bool, ScalarKind::I32),
+    Kind::Map(ScalarKind::Bool, ScalarKind::I64),
+    Kind::Map(ScalarKind::Bool, ScalarKind::U64),
+    Kind::Map(ScalarKind::U8, ScalarKind::Bool),
+    Kind::Map(ScalarKind::U8, ScalarKind::U8),
+    Kind::Map(ScalarKind::U8, ScalarKind::I32),
+    Kind::Map(ScalarKind::U8, ScalarKind::I64),
+    Kind::Map(ScalarKind::U8, ScalarKind::U64),
+    Kind::Map(ScalarKind::I32, ScalarKind::Bool),
+    Kind::Map(ScalarKind::I32, ScalarKind::U8),
+    Kind::Map(ScalarKind::I32, ScalarKind::I32),
+    Kind::Map(ScalarKind::I32, ScalarKind::I64),
+    Kind::Map(ScalarKind::I32, ScalarKind::U64),
+    Kind::Map(ScalarKind::I64, ScalarKind::Bool),
+    Kind::Map(ScalarKind::I64, ScalarKind::U8),
+    Kind::Map(ScalarKind::I64, ScalarKind::I32),
+    Kind::Map(ScalarKind::I64, ScalarKind::I64),
+    Kind::Map(ScalarKind::I64, ScalarKind::U64),
+    Kind::Map(ScalarKind::U64, ScalarKind::Bool),
+    Kind::Map(ScalarKind::U64, ScalarKind::U8),
+    Kind::Map(ScalarKind::U64, ScalarKind::I32),
+    Kind::Map(ScalarKind::U64, ScalarKind::I64),
+    Kind::Map(ScalarKind::U64, ScalarKind::U64),
+];
+
+/// Writes the figures of a segment, a line for each, of a word and a number: its size, its free bytes, how many gaps it has
+/// and the longest of them; how many blocks of each role it has, and their bytes, with their tags; how many objects of each
+/// class; for how many entries its indexes have places; and by how many bytes it would be shorter if it ended behind its last
+/// block. Then there is a line for each kind that some of its objects have, with their number.
+///
+/// It answers `DeviceFault` where the writer failed: what went out is then shorter than the text, and the text begins with
+/// it.
+pub fn stat<W: Sink>(segment: &Segment, out: &mut W) -> Result<(), DeviceFault>
+    requires { (W.history out.old).failures < 2 ^ 64 - 1 }
+    ensures { Tells segment.now (W.history out.old) (W.history out.new) result stat_text }
+{
+    let objects = tally_objects(segment);
+    put_figures(segment, &objects, out)?;
+    put_kinds(&objects, out)
+}
+
+/// Writes the figures that each segment has.
+fn put_figures<W: Sink>(
+    segment: &Segment,
+    objects: &ObjectTally,
+    out: &mut W,
+) -> Result<(), DeviceFault>
+    requires writer { (W.history out.old).failures < 2 ^ 64 - 1 }
+    requires counted { Answers segment.now object_tally_of objects.now }
+    ensures { Tells segment.now (W.history out.old) (W.history out.new) result (λ d. figures_text d.size (tally_of d) (object_tally_of d) d.named.capacity d.unique.capacity) }
+{
+    let blocks = tally_blocks(segment);
+    let places = Places {
+        named: named_capacity(segment),
+        unique: unique_capacity(segment),
+    };
+    put_lines(out, size_of(segment), &blocks, objects, places)
+}
+
+/// For how many entries the indexes have places.
+#[derive(Clone, Copy)]
+struct Places {
+    /// The index of names.
+    named: u64,
+    /// The index of kinds.
+    unique: u64,
+}
+
+/// Writes figures, a line for each.
+fn put_lines<W: Sink>(
+    out: &mut W,
+    size: u64,
+    blocks: &Tally,
+    objects: &ObjectTally,
+    places: Places,
+) -> Result<(), DeviceFault>
+    requires { (W.history out.old).failures < 2 ^ 64 - 1 }
+    ensures { Writes (W.history out.old) (W.history out.new) result (figures_text size blocks.now objects.now places.named places.unique) }
+{
+    put_entries(
+        out,
+        &[
+            (b"size", size),
+            (b"free", blocks.gaps.bytes),
+            (b"gaps", blocks.gaps.count),
+            (b"largest_gap", blocks.longest_gap),
+            (b"object_blocks", blocks.objects.count),
+            (b"object_bytes", blocks.objects.bytes),
+            (b"index_blocks", blocks.indexes.count),
+            (b"index_bytes", blocks.indexes.bytes),
+            (b"storage_blocks", blocks.storages.count),
+            (b"storage_bytes", blocks.storages.bytes),
+            (b"node_blocks", blocks.nodes.count),
+            (b"node_bytes", blocks.nodes.bytes),
+            (b"named", objects.named),
+            (b"unique", objects.unique),
+            (b"anonymous", objects.anonymous),
+            (b"named_capacity", places.named),
+            (b"unique_capacity", places.unique),
+            (b"shrink_frees", blocks.end_gap),
+        ],
+    )
+}
+
+/// For how many entries the index of names has places.
+fn named_capacity(segment: &Segment) -> u64
+    ensures { Answers segment.now (λ d. d.named.capacity) result }
+{
+    word_in(segment.as_bytes(), NAMED_AT as usize + CAPACITY)
+}
+
+/// For how many entries the index of kinds has places.
+fn unique_capacity(segment: &Segment) -> u64
+    ensures { Answers segment.now (λ d. d.unique.capacity) result }
+{
+    word_in(segment.as_bytes(), UNIQUE_AT as usize + CAPACITY)
+}
+
+/// Writes a line for each kind that some objects have, with their number.
+fn put_kinds<W: Sink>(objects: &ObjectTally, out: &mut W) -> Result<(), DeviceFault>
+    requires { (W.history out.old).failures < 2 ^ 64 - 1 }
+    ensures { Writes (W.history out.old) (W.history out.new) result (flat_map (counted_line objects.now.kinds) kinds) }
+{
+    put_kind_lines(objects, all_kinds(), out)
+}
+
+/// Writes a line for each of these kinds that some objects have, with their number.
+fn put_kind_lines<W: Sink>(
+    objects: &ObjectTally,
+    kinds: &[Kind],
+    out: &mut W,
+) -> Result<(), DeviceFault>
+    requires { (W.history out.old).failures < 2 ^ 64 - 1 }
+    ensures { Writes (W.history out.old) (W.history out.new) result (flat_map (counted_line objects.now.kinds) kinds.now) }
+{
+    'kinds: for kind in kinds {
+        put_kind(out, *kind, objects.of_kind(*kind))?;
+    }
+    Ok(())
+}
+
+/// Writes the line of a kind that so many objects have, where there are some.
+fn put_kind<W: Sink>(out: &mut W, kind: Kind, count: u64) -> Result<(), DeviceFault>
+    requires { (W.history out.old).failures < 2 ^ 64 - 1 }
+    ensures { Writes (W.history out.old) (W.history out.new) result (kind_line kind count) }
+{
+    if count == 0 {
+        return Ok(());
+    }
+    put_pieces(
+        out,
+        &[
+            Piece::Kind(kind),
+            Piece::Bytes(b" "),
+            Piece::Number(count),
+            Piece::Bytes(b"\n"),
+        ],
+    )
+}
+
+/// All kinds, in their order.
+fn all_kinds() -> &'static [Kind]
+    ensures { result.now ≡ kinds }
+{
+    &KINDS
+}

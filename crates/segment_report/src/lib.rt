@@ -1,0 +1,15 @@
+//! What people want to see of a segment: how its bytes are used, in figures and as a picture.
+#![tactic(auto)]
+
+mod entries;
+mod figures;
+mod objects;
+mod parts;
+mod picture;
+mod scale;
+mod shapes;
+mod sizes;
+mod tallies;
+
+pub use figures::stat;
+pub use picture::draw;

@@ -1,0 +1,188 @@
+//! The picture of a segment.
+ghost use Rattle.std.specs.Prelude.{◌≡◌, ◌+◌, ◌-◌, ◌^◌, ◌<◌, ◌≤◌, ◌++◌};
+ghost use Rattle.raw_region.specs.Device.{Writes};
+ghost use Rattle.seg_types.specs.Names.{ByHandle};
+ghost use Rattle.segment_manager.specs.Directory.{object_at};
+ghost use Rattle.segment_report.specs.Picture.{HasScale, end_text, front_text, head_text, object_in, object_label, picture_of, shape_text, sort_of, spans_text};
+ghost use Rattle.segment_report.specs.Telling.{Tells};
+
+use crate::parts::{Part, put_parts};
+use crate::scale::Scale;
+use crate::shapes::{put_label, put_shape};
+use crate::sizes::size_of;
+use block_tags::{Role, Tile};
+use raw_region::{DeviceFault, Sink};
+use seg_types::Key;
+use segment_manager::Segment;
+
+/// The bytes of a segment's header.
+const HEADER: u64 = 128;
+
+/// The bytes of its end tag.
+const END_TAG: u64 = 16;
+
+/// Writes a picture of a segment as a text of SVG, and answers `DeviceFault` where the writer failed: what went out is then
+/// shorter than the text, and the text begins with it.
+pub fn draw<W: Sink>(segment: &Segment, out: &mut W) -> Result<(), DeviceFault>
+    requires { (W.history out.old).failures < 2 ^ 64 - 1 }
+    ensures { Tells segment.now (W.history out.old) (W.history out.new) result picture_of }
+{
+    let scale = scale_of(segment);
+    put_front(segment, scale, out)?;
+    put_spans(segment, scale, out)?;
+    put_end(segment, scale, out)
+}
+
+/// The scale of a segment's picture.
+fn scale_of(segment: &Segment) -> Scale
+    ensures { HasScale segment.now result.row }
+{
+    Scale::of(size_of(segment))
+}
+
+/// Writes how a picture begins, and the header.
+fn put_front<W: Sink>(segment: &Segment, scale: Scale, out: &mut W) -> Result<(), DeviceFault>
+    requires writer { (W.history out.old).failures < 2 ^ 64 - 1 }
+    requires scale { HasScale segment.now scale.row }
+    ensures { Tells segment.now (W.history out.old) (W.history out.new) result front_text }
+{
+    put_head(out, size_of(segment), segment.free())?;
+    put_shape(out, scale, 0, HEADER, b"header")
+}
+
+/// Writes the end tag, and how a picture ends.
+fn put_end<W: Sink>(segment: &Segment, scale: Scale, out: &mut W) -> Result<(), DeviceFault>
+    requires writer { (W.history out.old).failures < 2 ^ 64 - 1 }
+    requires scale { HasScale segment.now scale.row }
+    ensures { Tells segment.now (W.history out.old) (W.history out.new) result end_text }
+{
+    put_shape(out, scale, size_of(segment) - END_TAG, END_TAG, b"end")?;
+    put_parts(out, &[Part::Bytes(b"</svg>\n")])
+}
+
+/// Writes how a picture begins: its colours, and the size and the free bytes of the segment.
+fn put_head<W: Sink>(out: &mut W, size: u64, free: u64) -> Result<(), DeviceFault>
+    requires { (W.history out.old).failures < 2 ^ 64 - 1 }
+    ensures { Writes (W.history out.old) (W.history out.new) result (head_text size free) }
+{
+    put_parts(
+        out,
+        &[
+            Part::Bytes(
+                b"<svg xmlns='http://www.w3.org/2000/svg' viewBox='0 0 1080 600' font-family='sans-serif' font-size='13'>\n",
+            ),
+            Part::Bytes(
+                b"<style>path{stroke:#456}.header,.end{fill:#bcc3ca}.free{fill:#fff}.object{fill:#9cc9ea}.index{fill:#f5c883}",
+            ),
+            Part::Bytes(
+                b".storage{fill:#a9d8a2}.node{fill:#cdb9e6}</style>\n<rect width='1080' height='600' fill='#f2f4f6'/>\n<text x='28' y='26' font-size='16'>",
+            ),
+            Part::Number(size),
+            Part::Bytes(b" bytes, "),
+            Part::Number(free),
+            Part::Bytes(b" free"),
+            Part::Bytes(
+                b"</text>\n<path class='object' d='M28 40H44V56H28Z'/><text x='50' y='53'>object</text>",
+            ),
+            Part::Bytes(
+                b"<path class='index' d='M128 40H144V56H128Z'/><text x='150' y='53'>index</text>",
+            ),
+            Part::Bytes(
+                b"<path class='storage' d='M228 40H244V56H228Z'/><text x='250' y='53'>storage</text>",
+            ),
+            Part::Bytes(
+                b"<path class='node' d='M328 40H344V56H328Z'/><text x='350' y='53'>node</text>",
+            ),
+            Part::Bytes(
+                b"<path class='free' d='M428 40H444V56H428Z'/><text x='450' y='53'>free</text>",
+            ),
+            Part::Bytes(
+                b"<path class='end' d='M528 40H544V56H528Z'/><text x='550' y='53'>header and end tag</text>\n",
+            ),
+        ],
+    )
+}
+
+/// Writes each block and gap, and what stands in it.
+fn put_spans<W: Sink>(segment: &Segment, scale: Scale, out: &mut W) -> Result<(), DeviceFault>
+    requires writer { (W.history out.old).failures < 2 ^ 64 - 1 }
+    requires scale { HasScale segment.now scale.row }
+    ensures { Tells segment.now (W.history out.old) (W.history out.new) result spans_text }
+{
+    let mut ahead = segment.first_tile();
+    // a segment has fewer blocks and gaps than bytes
+    'tiles: for _ in 0..size_of(segment) {
+        let Some(tile) = ahead else {
+            break;
+        };
+        put_tile(segment, scale, tile, out)?;
+        ahead = segment.next_tile(tile);
+    }
+    Ok(())
+}
+
+/// Writes a block or gap, and what stands in it.
+fn put_tile<W: Sink>(
+    segment: &Segment,
+    scale: Scale,
+    tile: Tile,
+    out: &mut W,
+) -> Result<(), DeviceFault>
+    requires writer { (W.history out.old).failures < 2 ^ 64 - 1 }
+    requires some { 0 < tile.len }
+    requires inside { tile.offset + tile.len ≤ 2 ^ 30 }
+    ensures { Tells segment.now (W.history out.old) (W.history out.new) result (λ d. shape_text scale.row tile.offset tile.len (sort_of tile.use_of) ++ object_label scale.row tile.offset tile.len (object_in d tile.use_of tile.offset)) }
+{
+    put_shape(out, scale, tile.offset, tile.len, sort_of(tile.use_of))?;
+    put_inside(segment, scale, tile, out)
+}
+
+/// Writes what stands in a block, where it is an object's.
+fn put_inside<W: Sink>(
+    segment: &Segment,
+    scale: Scale,
+    tile: Tile,
+    out: &mut W,
+) -> Result<(), DeviceFault>
+    requires writer { (W.history out.old).failures < 2 ^ 64 - 1 }
+    requires some { 0 < tile.len }
+    requires inside { tile.offset + tile.len ≤ 2 ^ 30 }
+    ensures { Tells segment.now (W.history out.old) (W.history out.new) result (λ d. object_label scale.row tile.offset tile.len (object_in d tile.use_of tile.offset)) }
+{
+    match tile.use_of {
+        Some(Role::Object) => put_object(segment, scale, tile.offset, tile.len, out),
+        Some(Role::Index | Role::Storage | Role::Node) | None => Ok(()),
+    }
+}
+
+/// Writes what the object in a block is called, where one stands there.
+fn put_object<W: Sink>(
+    segment: &Segment,
+    scale: Scale,
+    from: u64,
+    len: u64,
+    out: &mut W,
+) -> Result<(), DeviceFault>
+    requires writer { (W.history out.old).failures < 2 ^ 64 - 1 }
+    requires some { 0 < len }
+    requires inside { from + len ≤ 2 ^ 30 }
+    ensures { Tells segment.now (W.history out.old) (W.history out.new) result (λ d. object_label scale.row from len (object_at d (ByHandle (from + 16)))) }
+{
+    match segment.instance(&Key::Handle(from + 16)) {
+        Ok(said) => put_label(out, scale, from, len, said),
+        Err(_) => Ok(()),
+    }
+}
+
+/// The word for what bytes are used for.
+fn sort_of(use_of: Option<Role>) -> &'static [u8]
+    ensures { result.now ≡ sort_of use_of }
+{
+    match use_of {
+        None => b"free",
+        Some(Role::Object) => b"object",
+        Some(Role::Index) => b"index",
+        Some(Role::Storage) => b"storage",
+        Some(Role::Node) => b"node",
+    }
+}

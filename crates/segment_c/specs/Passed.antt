@@ -1,13 +1,16 @@
 -- What the keys and the values that C passes stand for, and by which code they are refused that stand for nothing.
-use Rattle.std.specs.Prelude.{ℕ, ℤ, pos, Bool, ◌&&◌, not, ◌==◌, nat_le, List, Option, Some, None, if◌then◌else◌}
+use Rattle.std.specs.Prelude.{ℕ, ℤ, pos, Bool, ◌&&◌, not, ◌==◌, nat_le, List, map, Option, Some, None, if◌then◌else◌}
 use Rattle.seg_types.specs.declared.kinds.Kind.{Kind}
+use Rattle.seg_types.specs.declared.kinds.Kind.TheVariants.{Text}
 use Rattle.seg_types.specs.declared.kinds.ScalarKind.{ScalarKind}
 use Rattle.seg_types.specs.declared.kinds.ScalarKind.TheVariants.{Bool as BoolKind, U8, I32, I64, U64}
-use Rattle.seg_types.specs.Commands.{Literal, literal_of}
-use Rattle.seg_types.specs.Kinds.{code_of, is_value, kind_of_code}
+use Rattle.seg_types.specs.Commands.{Literal, Whole, literal_of}
+use Rattle.segment_manager.specs.Answers.{Answer, Absent, Element}
+use Rattle.seg_types.specs.Kinds.{code_of, is_value, kind_of_code, truth_number}
 use Rattle.seg_types.specs.Names.{Key, ByName, ByKind, ByHandle, NoKey, is_text_name}
 use Rattle.segment_c.specs.declared.keys.ObjectKey.{ObjectKey}
 use Rattle.segment_c.specs.declared.values.Value.{Value}
+use Rattle.segment_c.specs.declared.rows.Values.{Values}
 
 -- ---- the first code of some that is not 0
 
@@ -91,3 +94,50 @@ scalar_in v = elim (scalar_kind_of v.kind) as (λ _. Option (ScalarKind × ℤ))
 
 abbrev pub value_wrong : Value → ℕ
 value_wrong v = elim (scalar_in v) [ None ↦ 20 | Some s ↦ 0 ]
+
+-- a value that is passed is the literal that a script writes for it
+abbrev pub literal_in : Value → Literal
+literal_in v = elim (scalar_in v) as (λ _. Literal) [ None ↦ Whole (pos 0) | Some s ↦ literal_of s.0 s.1 ]
+
+-- a value that is given is an element
+abbrev pub element_in : Value → Answer
+element_in v = elim (scalar_in v) as (λ _. Answer) [ None ↦ Absent | Some s ↦ Element s.0 s.1 ]
+
+-- the kind of scalars of a value that is passed
+abbrev pub kind_in : Value → ScalarKind
+kind_in v = elim (scalar_in v) as (λ _. ScalarKind) [ None ↦ BoolKind | Some s ↦ s.0 ]
+
+-- and its number
+abbrev pub whole_in : Value → ℤ
+whole_in v = elim (scalar_in v) as (λ _. ℤ) [ None ↦ pos 0 | Some s ↦ s.1 ]
+
+-- how many scalars an object has
+abbrev pub count_wrong : ℕ → ℕ
+count_wrong n = if nat_le 1 n && nat_le n 1048576 then 0 else 21
+
+-- ---- rows of values
+
+abbrev pub row_kind_wrong : ℕ → ℕ
+row_kind_wrong code = if code == 0 then 25 else scalar_kind_wrong code
+
+abbrev pub row_wrong : Values → ℕ
+row_wrong v = row_kind_wrong v.kind
+
+-- the kind of scalars that a code says, where it says one
+abbrev pub scalar_kind_in : ℕ → ScalarKind
+scalar_kind_in code = elim (scalar_kind_of code) as (λ _. ScalarKind) [ None ↦ BoolKind | Some k ↦ k ]
+
+-- the whole numbers of the slice of a kind
+abbrev pub numbers_of : Values → ScalarKind → List ℤ
+numbers_of v BoolKind = map truth_number v.truths.now
+numbers_of v U8 = map pos v.bytes.now
+numbers_of v I32 = map (λ x. x) v.i32s.now
+numbers_of v I64 = map (λ x. x) v.i64s.now
+numbers_of v U64 = map pos v.u64s.now
+
+abbrev pub row_of : Values → List ℤ
+row_of v = numbers_of v (scalar_kind_in v.kind)
+
+-- the kind of objects that a code says, where it says one
+abbrev pub object_kind_in : ℕ → Kind
+object_kind_in code = elim (kind_of_code code) as (λ _. Kind) [ None ↦ Text | Some k ↦ k ]

@@ -1,10 +1,14 @@
 //! The codes that C is answered: those of refusals are their numbers in the language.
 ghost use Rattle.std.specs.Prelude.{◌≡◌, ◌≤◌, IsTrue};
 ghost use Rattle.segment_c.specs.Codes.{answer_for, is_answer};
-ghost use Rattle.segment_manager.specs.Answers.{Answer, Made, Refused, Truth, Done};
-ghost use Rattle.segment_manager.specs.State.{done_answer, gone_answer, handle_answer, truth_answer};
+ghost use Rattle.segment_c.specs.Passed.{element_in};
+ghost use Rattle.segment_manager.specs.Answers.{Answer, Done, Found, Made, Refused, Truth};
+ghost use Rattle.segment_manager.specs.Found.{found_answer, pair_answer};
+ghost use Rattle.segment_manager.specs.Maps.{any_value_answer};
+ghost use Rattle.segment_manager.specs.State.{done_answer, gone_answer, handle_answer, scalar_answer, truth_answer};
 
-use seg_types::{Handle, Refusal};
+use crate::values::Value;
+use seg_types::{Handle, Refusal, ScalarValue};
 
 /// Done.
 pub const DONE: u32 = 0;
@@ -94,6 +98,89 @@ pub fn truth(truth: Result<bool, Refusal>, holds: &mut bool) -> u32
             *holds = it;
             DONE
         }
+        Err(why) => code_of(why),
+    }
+}
+
+/// The code where an element was asked for, or not. It goes out.
+pub fn element(element: Result<ScalarValue, Refusal>, value: &mut Value) -> u32
+    ensures answers { answer_for result (element_in value.new) ≡ scalar_answer element }
+    ensures answer { IsTrue (is_answer result) }
+    ensures kept { 1 ≤ result → value.new ≡ value.old }
+{
+    match element {
+        Ok(it) => {
+            *value = Value::of(it);
+            DONE
+        }
+        Err(why) => code_of(why),
+    }
+}
+
+/// The code where an object was found or made, or not. Its handle and how many elements it has go out.
+pub fn found(found: Result<(Handle, u32), Refusal>, handle: &mut u64, count: &mut u32) -> u32
+    ensures answers { answer_for result (Found handle.new count.new) ≡ pair_answer found }
+    ensures answer { IsTrue (is_answer result) }
+    ensures kept { 1 ≤ result → (handle.new ≡ handle.old) × (count.new ≡ count.old) }
+{
+    match found {
+        Ok((at, many)) => {
+            *handle = at;
+            *count = many;
+            DONE
+        }
+        Err(why) => code_of(why),
+    }
+}
+
+/// The same where none may be there.
+pub fn found_or_absent(
+    found: Result<Option<(Handle, u32)>, Refusal>,
+    handle: &mut u64,
+    count: &mut u32,
+) -> u32
+    ensures answers { answer_for result (Found handle.new count.new) ≡ found_answer found }
+    ensures answer { IsTrue (is_answer result) }
+    ensures kept { 1 ≤ result → (handle.new ≡ handle.old) × (count.new ≡ count.old) }
+{
+    match found {
+        Ok(Some((at, many))) => {
+            *handle = at;
+            *count = many;
+            DONE
+        }
+        Ok(None) => ABSENT,
+        Err(why) => code_of(why),
+    }
+}
+
+/// The code where an object was destroyed, or not, and whether there was one, which goes out.
+pub fn gone(gone: Result<(), Refusal>, was_there: &mut bool) -> u32
+    ensures answers { answer_for result (Truth was_there.new) ≡ gone_answer gone }
+    ensures answer { IsTrue (is_answer result) }
+    ensures kept { 1 ≤ result → was_there.new ≡ was_there.old }
+{
+    match gone {
+        Ok(()) => {
+            *was_there = true;
+            DONE
+        }
+        Err(why) => code_of(why),
+    }
+}
+
+/// The code where a value was looked for: it goes out where it is there.
+pub fn value_found(found: Result<Option<ScalarValue>, Refusal>, value: &mut Value) -> u32
+    ensures answers { answer_for result (element_in value.new) ≡ any_value_answer found }
+    ensures answer { IsTrue (is_answer result) }
+    ensures kept { 1 ≤ result → value.new ≡ value.old }
+{
+    match found {
+        Ok(Some(it)) => {
+            *value = Value::of(it);
+            DONE
+        }
+        Ok(None) => ABSENT,
         Err(why) => code_of(why),
     }
 }

@@ -3,9 +3,17 @@
 #![tactic(auto)]
 
 mod codes;
+mod elements;
 mod handle;
 mod images;
 mod keys;
+mod lists;
+mod maps;
+mod objects;
+mod opening;
+mod rows;
+mod storage;
+mod strings;
 mod values;
 
 pub use handle::Handle;

@@ -3,4 +3,5 @@ pub mod Codes
 pub mod Held
 pub mod Images
 pub mod Lists
+pub mod Opening
 pub mod Passed

@@ -3,28 +3,22 @@ ghost use Rattle.std.specs.Prelude.{◌≡◌, ◌≢◌, ◌≤◌, ◌⊎◌, 
 ghost use Rattle.std.specs.declared.option.Option.TheVariants.{None, Some};
 ghost use Rattle.block_tags.specs.Format.{is_legal_size};
 ghost use Rattle.raw_region.specs.Memory.{zeros};
-ghost use Rattle.raw_region.specs.Regions.{IsCapacity};
 ghost use Rattle.seg_types.specs.Commands.{Free, Size};
-ghost use Rattle.segment_c.specs.Calls.{IsAsked, IsClosed, IsStopped, Opened};
+ghost use Rattle.segment_c.specs.Calls.{IsAsked, IsClosed, Opened};
 ghost use Rattle.segment_c.specs.Codes.{answer_for};
-ghost use Rattle.segment_c.specs.Images.{IsImageOpened, IsWhyNotOpened, Saves, capacity_wrong, mode_code, mode_of, mode_wrong};
-ghost use Rattle.segment_c.specs.Passed.{or_else};
+ghost use Rattle.segment_c.specs.Images.{Saves, mode_code};
 ghost use Rattle.segment_manager.specs.Answers.{Number};
 ghost use Rattle.segment_manager.specs.Calls.{IsCreated};
 ghost use Rattle.segment_manager.specs.Resized.{room_behind};
 ghost use Rattle.segment_manager.specs.State.{IsReply, State};
 ghost use Rattle.segment_manager.specs.declared.modes.Mode.TheVariants.{Write};
 
-use crate::codes::{BAD_MODE, BAD_SIZE, CLOSED, DONE, NO_MEMORY, SHORT_BUFFER};
+use crate::codes::{BAD_SIZE, CLOSED, DONE, NO_MEMORY, SHORT_BUFFER};
 use crate::handle::{Handle, put, take};
-use crate::opening::open_image;
 use block_tags::is_legal_size;
 use raw_region::RawRegion;
 use segment_manager::{Mode, Segment};
 use std::alloc::Global;
-
-/// The most bytes of a region.
-const LARGEST_REGION: u64 = 1 << 40;
 
 /// An empty segment of `size` bytes, open for writing. What the handle had is freed. The handle is as it was unless the code is 0.
 #[unsafe(no_mangle)]
@@ -35,36 +29,6 @@ pub extern "C" fn zx_create(alloc: Global, h: &mut Handle, size: u64) -> u32
     ensures kept { 1 ≤ result → h.new.value ≡ h.old.value }
 {
     match new_segment(alloc, size) {
-        Ok(segment) => {
-            put(h, segment);
-            DONE
-        }
-        Err(code) => code,
-    }
-}
-
-/// The segment whose image the bytes are, in a region of `capacity` bytes. What the handle had is freed. The handle is as it was
-/// unless the code is 0.
-#[unsafe(no_mangle)]
-pub extern "C" fn zx_open(
-    alloc: Global,
-    h: &mut Handle,
-    image: &[u8],
-    capacity: u64,
-    mode: u32,
-) -> u32
-    ensures stopped { IsStopped (or_else (capacity_wrong capacity) (mode_wrong mode)) result h.old.value h.new.value }
-    ensures opened { result ≡ 0 → Opened h.new.value (λ t. IsImageOpened image.now capacity (mode_of mode) t) }
-    ensures why { or_else (capacity_wrong capacity) (mode_wrong mode) ≡ 0 → 1 ≤ result → IsWhyNotOpened image.now capacity result }
-    ensures kept { 1 ≤ result → h.new.value ≡ h.old.value }
-{
-    if capacity < 16 || capacity > LARGEST_REGION || capacity % 16 != 0 {
-        return BAD_SIZE;
-    }
-    let Some(mode) = mode_for(mode) else {
-        return BAD_MODE;
-    };
-    match open_boxed(alloc, image, capacity, mode) {
         Ok(segment) => {
             put(h, segment);
             DONE
@@ -173,18 +137,6 @@ pub fn copy_out(bytes: &[u8], buffer: &mut [u8]) -> u32
     DONE
 }
 
-/// The mode of a code.
-fn mode_for(code: u32) -> Option<Mode>
-    ensures { MatchOption result (mode_wrong code ≡ 23) (λ mode. (mode_wrong code ≡ 0) × (mode ≡ mode_of code)) }
-{
-    match code {
-        0 => Some(Mode::Write),
-        1 => Some(Mode::ReadOnly),
-        2 => Some(Mode::CopyOnWrite),
-        _ => None,
-    }
-}
-
 /// The code of a mode.
 fn code_of_mode(mode: Mode) -> u32
     ensures { result ≡ mode_code mode }
@@ -214,25 +166,11 @@ fn new_segment(alloc: Global, size: u64) -> Result<Box<Segment>, u32>
 }
 
 /// A segment in a box.
-fn boxed_or_not(alloc: Global, segment: Segment) -> Result<Box<Segment>, u32>
+pub fn boxed_or_not(alloc: Global, segment: Segment) -> Result<Box<Segment>, u32>
     ensures { MatchResult result (λ s. s.value ≡ segment) (λ code. code ≡ 26) }
 {
     match Box::new(alloc, segment) {
         Ok(segment) => Ok(segment),
         Err(_) => Err(NO_MEMORY),
-    }
-}
-
-/// The segment whose image the bytes are, in a box.
-fn open_boxed(alloc: Global, image: &[u8], capacity: u64, mode: Mode) -> Result<Box<Segment>, u32>
-    requires { IsCapacity capacity }
-    ensures { MatchResult result (λ s. IsImageOpened image.now capacity mode s.value) (λ code. (1 ≤ code) × IsWhyNotOpened image.now capacity code) }
-{
-    let Ok(region) = RawRegion::new(alloc, capacity) else {
-        return Err(NO_MEMORY);
-    };
-    match open_image(alloc, image, region, mode) {
-        Ok(segment) => boxed_or_not(alloc, segment),
-        Err(code) => Err(code),
     }
 }

@@ -1,22 +1,87 @@
 //! Images that lie in memory, opened.
-ghost use Rattle.std.specs.Prelude.{◌≡◌, ◌≤◌, IsTrue, MatchResult, length};
+ghost use Rattle.std.specs.Prelude.{◌≡◌, ◌≤◌, IsTrue, MatchOption, MatchResult, length};
 ghost use Rattle.image_check.specs.Classes.{are_bytes};
 ghost use Rattle.raw_region.specs.Memory.{zeros};
-ghost use Rattle.segment_c.specs.Images.{IsImageOpened, IsWhyNotOpened};
+ghost use Rattle.raw_region.specs.Regions.{IsCapacity};
+ghost use Rattle.segment_c.specs.Calls.{IsStopped, Opened};
+ghost use Rattle.segment_c.specs.Images.{mode_of, mode_wrong};
+ghost use Rattle.segment_c.specs.Opening.{IsImageOpened, IsWhyNotOpened, capacity_wrong};
+ghost use Rattle.segment_c.specs.Passed.{or_else};
 
-use crate::codes::{BAD_IMAGE, NO_MEMORY, SHORT_REGION};
+use crate::codes::{BAD_IMAGE, BAD_MODE, BAD_SIZE, DONE, NO_MEMORY, SHORT_REGION};
+use crate::handle::{Handle, put};
+use crate::images::boxed_or_not;
 use image_check::OpenError;
 use raw_region::{RawRegion, Steps};
 use segment_manager::{Mode, Segment};
 use slice_source::SliceSource;
 use std::alloc::Global;
 
+/// The most bytes of a region.
+const LARGEST_REGION: u64 = 1 << 40;
+
+/// The segment whose image the bytes are, in a region of `capacity` bytes. What the handle had is freed. The handle is as it was
+/// unless the code is 0.
+#[unsafe(no_mangle)]
+pub extern "C" fn zx_open(
+    alloc: Global,
+    h: &mut Handle,
+    image: &[u8],
+    capacity: u64,
+    mode: u32,
+) -> u32
+    ensures stopped { IsStopped (or_else (capacity_wrong capacity) (mode_wrong mode)) result h.old.value h.new.value }
+    ensures opened { result ≡ 0 → Opened h.new.value (λ t. IsImageOpened image.now capacity (mode_of mode) t) }
+    ensures why { or_else (capacity_wrong capacity) (mode_wrong mode) ≡ 0 → 1 ≤ result → IsWhyNotOpened image.now capacity result }
+    ensures kept { 1 ≤ result → h.new.value ≡ h.old.value }
+{
+    if capacity < 16 || capacity > LARGEST_REGION || capacity % 16 != 0 {
+        return BAD_SIZE;
+    }
+    let Some(mode) = mode_for(mode) else {
+        return BAD_MODE;
+    };
+    match open_boxed(alloc, image, capacity, mode) {
+        Ok(segment) => {
+            put(h, segment);
+            DONE
+        }
+        Err(code) => code,
+    }
+}
+
+/// The mode of a code.
+fn mode_for(code: u32) -> Option<Mode>
+    ensures { MatchOption result (mode_wrong code ≡ 23) (λ mode. (mode_wrong code ≡ 0) × (mode ≡ mode_of code)) }
+{
+    match code {
+        0 => Some(Mode::Write),
+        1 => Some(Mode::ReadOnly),
+        2 => Some(Mode::CopyOnWrite),
+        _ => None,
+    }
+}
+
+/// The segment whose image the bytes are, in a box.
+fn open_boxed(alloc: Global, image: &[u8], capacity: u64, mode: Mode) -> Result<Box<Segment>, u32>
+    requires { IsCapacity capacity }
+    ensures { MatchResult result (λ s. IsImageOpened image.now capacity mode s.value) (λ code. (1 ≤ code) × IsWhyNotOpened image.now capacity code) }
+{
+    let Ok(region) = RawRegion::new(alloc, capacity) else {
+        return Err(NO_MEMORY);
+    };
+    match open_image(alloc, image, region, mode) {
+        Ok(segment) => boxed_or_not(alloc, segment),
+        Err(code) => Err(code),
+    }
+}
+
 /// The segment whose image the bytes are, in a region of `capacity` bytes.
 ///
 /// # Errors
 ///
 /// The code.
-pub fn open_image(
+fn open_image(
     alloc: Global,
     image: &[u8],
     region: RawRegion,

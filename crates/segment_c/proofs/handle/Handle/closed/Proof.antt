@@ -20,7 +20,7 @@ use Rattle.std.specs.declared.option.Option.{Option}
 use Rattle.std.specs.declared.option.Option.TheVariants.{None}
 use Rattle.std.proofs.raw_atomic.Walks.{proved_at, leaves}
 use Rattle.boxed.proofs.Values.{both}
-use Rattle.segment_c.proofs.Values.{Z, al, null_good, handle_in}
+use Rattle.segment_c.proofs.HandleValues.{Z, al, null_good, handle_in}
 use Rattle.segment_manager.specs.contracts.Segment.{the_row as R}
 use Rattle.segment_c.specs.contracts.handle.Handle.closed as f
 use Rattle.segment_c.proofs.handle.Handle.closed.Statement.{statement}

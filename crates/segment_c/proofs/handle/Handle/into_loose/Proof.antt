@@ -26,7 +26,7 @@ use Rattle.std.specs.declared.option.Option.TheVariants.{None, Some}
 use Rattle.std.specs.contracts.impls.GlobalAllocator.TheImpl.{ghosts}
 use Rattle.std.proofs.raw_atomic.Walks.{proved_at, leaves}
 use Rattle.boxed.proofs.Values.{both, LooseRow, fits_pair, loose_made}
-use Rattle.segment_c.proofs.Values.{Z, LZ, null_good, either, handle_out}
+use Rattle.segment_c.proofs.HandleValues.{Z, LZ, null_good, either, handle_out}
 use Rattle.segment_manager.specs.contracts.Segment.{the_row as R}
 use Rattle.segment_c.specs.contracts.handle.Handle as handle
 use Rattle.segment_c.specs.contracts.handle.Handle.into_loose as f

@@ -20,7 +20,7 @@ use Rattle.std.specs.declared.option.Option.TheVariants.{Some}
 use Rattle.std.specs.contracts.impls.GlobalAllocator.TheImpl.{ghosts}
 use Rattle.std.proofs.raw_atomic.Walks.{proved_at, leaves}
 use Rattle.boxed.proofs.Values.{both, LooseRow, fits_pair, loose_apart}
-use Rattle.segment_c.proofs.Values.{Z, LZ, handle_in}
+use Rattle.segment_c.proofs.HandleValues.{Z, LZ, handle_in}
 use Rattle.segment_manager.specs.contracts.Segment.{the_row as R}
 use Rattle.segment_c.specs.contracts.handle.Handle.of as f
 use Rattle.segment_c.proofs.handle.Handle.of.Statement.{statement}

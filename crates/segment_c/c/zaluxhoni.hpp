@@ -478,6 +478,16 @@ class segment {
         return open(detail::file(path, "rb").read(), how);
     }
 
+    /// The same, and where there is no such file an empty segment of `size` bytes, which `save_file` puts there.
+    static segment open_or_create_file(const std::string &path, std::uint64_t size) {
+        try {
+            return open_file(path);
+        } catch (const std::system_error &error) {
+            if (error.code() != std::errc::no_such_file_or_directory) throw;
+        }
+        return create(size);
+    }
+
     /// Frees the segment. What was asked of it throws `closed` from then on.
     void close() noexcept {
         if (at_ != nullptr) zx_close(at_.get());

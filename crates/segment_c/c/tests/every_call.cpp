@@ -92,6 +92,20 @@ void names() {
     IS(s.free_bytes(), 832);
 }
 
+void files() {
+    segment s = segment::open_or_create_file(path_of("file"), 1024);
+    s.construct<i64>("a", 5);
+    s.save_file(path_of("file"));
+    IS(segment::open_or_create_file(path_of("file"), 7).get<i64>("a"), 5);
+    checks++;
+    try {
+        s.save_file(folder + "/none/a.seg");
+        wrong++;
+    } catch (const std::system_error &error) {
+        IS(error.code().value(), ENOENT);
+    }
+}
+
 void index_and_object_do_not_both_fit() {
     segment s = segment::create(224);
     THROWS(no_space, s.construct<i64>("a", 5));
@@ -280,6 +294,11 @@ void refusals_of_a_vector() {
     IS((w.to_vector() == std::vector<i32>{5, -6, 5}), true);
     const std::vector<i32> list{8};
     w.assign(list);
+    IS(w.size(), 1);
+#if __cplusplus >= 202002L
+    w.assign(std::span<const i32>(list));
+    IS(w.size(), 1);
+#endif
     const i32 array[] = {1, 2};
     w.assign(array);
     IS(w.size(), 2);
@@ -462,6 +481,7 @@ int main(int count, char **arguments) {
     folder = arguments[1];
     an_anonymous_object();
     names();
+    files();
     index_and_object_do_not_both_fit();
     arrays();
     the_only_object_of_its_kind();

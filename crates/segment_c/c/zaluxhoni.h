@@ -137,7 +137,7 @@ typedef struct {
     uint32_t found_by; /* ZX_IS_.. */
     uint32_t kind;
     uint32_t count;    /* how many scalars, and 1 where it is no object of scalars */
-    uint32_t name_len; /* 0 where it has no name */
+    uint64_t name_len; /* 0 where it has no name */
     uint64_t handle;
 } zx_info;
 

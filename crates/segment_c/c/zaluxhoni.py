@@ -279,7 +279,7 @@ class _Text(ctypes.Structure):
 
 class _Info(ctypes.Structure):
     _fields_ = [("found_by", ctypes.c_uint32), ("kind", ctypes.c_uint32), ("count", ctypes.c_uint32),
-                ("name_len", ctypes.c_uint32), ("handle", ctypes.c_uint64)]
+                ("name_len", ctypes.c_uint64), ("handle", ctypes.c_uint64)]
 
 
 class _Tile(ctypes.Structure):

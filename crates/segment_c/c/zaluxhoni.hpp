@@ -346,7 +346,7 @@ template <class Read> std::string text_by(Read read) {
 /// The info that a call gives, with the name that it copies.
 template <class Tell> zx_code info_by(Tell tell, info &told) {
     zx_info raw{};
-    std::uint8_t name[255];
+    std::uint8_t name[255] = {};
     const zx_code code = tell(&raw, name, sizeof name);
     if (code == ZX_DONE) {
         told = {raw.found_by, raw.kind, raw.count, raw.handle,

@@ -93,6 +93,7 @@ void names() {
 }
 
 void files() {
+    std::remove(path_of("file").c_str());
     segment s = segment::open_or_create_file(path_of("file"), 1024);
     s.construct<i64>("a", 5);
     s.save_file(path_of("file"));

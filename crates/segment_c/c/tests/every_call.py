@@ -44,13 +44,18 @@ def path_of(name):
     return os.path.join(folder, f"python-{name}.seg")
 
 
+def new(name):
+    """The path of a file that is not there."""
+    if os.path.lexists(path_of(name)):
+        os.unlink(path_of(name))
+    return path_of(name)
+
+
 def saved(segment, name):
     """Saves the segment in a file, checks its image and loads it."""
     image = segment.image()
     zaluxhoni.check(image)
-    if os.path.exists(path_of(name)):
-        os.unlink(path_of(name))
-    segment.save_as(path_of(name))
+    segment.save_as(new(name))
     segment.discard()
     with open(path_of(name), "rb") as file:
         return zaluxhoni.load(file.read())
@@ -474,7 +479,7 @@ def one_thread():
 # ---- files
 
 def files():
-    path = path_of("file")
+    path = new("file")
     raises(FileNotFoundError, zaluxhoni.open, path, "w")
     raises(FileNotFoundError, zaluxhoni.open, path, "r")
     with zaluxhoni.open(path, "x", size=1024) as s:
@@ -519,20 +524,20 @@ def files_that_fail():
         raises(zaluxhoni.Truncated, zaluxhoni.open, path, mode)
     os.unlink(path)
     # a folder stands in the place of the new file: the old one stays, and the segment can still be saved elsewhere
-    path = path_of("kept")
+    path = new("kept")
     zaluxhoni.open(path, size=1024).close()
     os.mkdir(path + ".new")
     s = zaluxhoni.open(path, "w")
     s["a"] = 5
     raises(IsADirectoryError, s.save)
     os.rmdir(path + ".new")
-    with zaluxhoni.open(path, "r") as old:
-        same(list(old), [])
+    with zaluxhoni.open(path, "r") as kept:
+        same(list(kept), [])
     s.close()
-    with zaluxhoni.open(path, "r") as new:
-        same(list(new), ["a"])
+    with zaluxhoni.open(path, "r") as kept:
+        same(list(kept), ["a"])
     # a link: what it leads to is replaced
-    os.symlink("python-kept.seg", path_of("link"))
+    os.symlink("python-kept.seg", new("link"))
     with zaluxhoni.open(path_of("link"), "w") as s:
         s["a"] = 6
     same(os.path.islink(path_of("link")), True)
@@ -542,7 +547,7 @@ def files_that_fail():
 
 
 def what_is_not_closed():
-    path = path_of("dropped")
+    path = new("dropped")
     with warnings.catch_warnings(record=True) as caught:
         warnings.simplefilter("always")
         s = zaluxhoni.open(path, "c", size=1024)

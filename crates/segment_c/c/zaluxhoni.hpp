@@ -17,6 +17,7 @@
 #include <cstddef>
 #include <cstdint>
 #include <cstdio>
+#include <filesystem>
 #include <initializer_list>
 #include <iterator>
 #include <map>
@@ -35,6 +36,7 @@
 #endif
 
 #if defined(__unix__) || defined(__APPLE__)
+#include <fcntl.h>
 #include <unistd.h>
 #endif
 
@@ -400,11 +402,15 @@ template <class Of, class At, class T> class element {
     At at_;
 };
 
+[[noreturn]] inline void fail(const std::filesystem::path &path) {
+    throw std::system_error(errno, std::generic_category(), path.string());
+}
+
 /// Opens a file for a scope.
 class file {
   public:
-    file(const std::string &path, const char *how) : path_(path), at_(std::fopen(path.c_str(), how)) {
-        if (at_ == nullptr) fail();
+    file(const std::filesystem::path &path, const char *how) : path_(path), at_(std::fopen(path.string().c_str(), how)) {
+        if (at_ == nullptr) fail(path_);
     }
     file(const file &) = delete;
     file &operator=(const file &) = delete;
@@ -417,24 +423,54 @@ class file {
         std::uint8_t piece[65536];
         for (std::size_t count; (count = std::fread(piece, 1, sizeof piece, at_)) != 0;)
             bytes.insert(bytes.end(), piece, piece + count);
-        if (std::ferror(at_) != 0) fail();
+        if (std::ferror(at_) != 0) fail(path_);
         return bytes;
     }
     /// Writes all bytes through to the disk, and closes the file.
     void write(const std::vector<std::uint8_t> &bytes) {
-        if (std::fwrite(bytes.data(), 1, bytes.size(), at_) != bytes.size() || std::fflush(at_) != 0) fail();
+        if (std::fwrite(bytes.data(), 1, bytes.size(), at_) != bytes.size() || std::fflush(at_) != 0) fail(path_);
 #if defined(__unix__) || defined(__APPLE__)
-        if (fsync(fileno(at_)) != 0) fail();
+        if (fsync(fileno(at_)) != 0) fail(path_);
 #endif
-        if (std::fclose(std::exchange(at_, nullptr)) != 0) fail();
+        if (std::fclose(std::exchange(at_, nullptr)) != 0) fail(path_);
     }
 
   private:
-    [[noreturn]] void fail() const { throw std::system_error(errno, std::generic_category(), path_); }
-
-    std::string path_;
+    std::filesystem::path path_;
     std::FILE *at_;
 };
+
+/// Writes through that a file has come into a folder.
+inline void write_folder_through(const std::filesystem::path &folder) {
+#if defined(__unix__) || defined(__APPLE__)
+    const int at = ::open(folder.empty() ? "." : folder.c_str(), O_RDONLY);
+    if (at < 0) fail(folder);
+    const bool is_through = fsync(at) == 0;
+    ::close(at);
+    if (!is_through) fail(folder);
+#else
+    (void)folder;
+#endif
+}
+
+/// Puts bytes into a file by a new one, which takes its place and has its rights.
+inline void replace(const std::filesystem::path &named, const std::vector<std::uint8_t> &bytes) {
+    namespace files = std::filesystem;
+    const files::path path = files::is_symlink(named) ? files::canonical(named) : named;
+    files::path fresh = path;
+    fresh += ".new";
+    file made(fresh, "wb");
+    try {
+        made.write(bytes);
+        if (files::exists(path)) files::permissions(fresh, files::status(path).permissions());
+        files::rename(fresh, path);
+    } catch (...) {
+        std::error_code ignored;
+        files::remove(fresh, ignored);
+        throw;
+    }
+    write_folder_through(path.parent_path());
+}
 
 } // namespace detail
 
@@ -511,18 +547,7 @@ class segment {
 
     /// Puts the image into a file. It is written to a new one first, PATH.new, which then takes the place of the old one: whatever
     /// fails, one of the two stands whole under the name. Where a file fails it throws std::system_error.
-    void save_file(const std::string &path) const {
-        const std::string fresh = path + ".new";
-        const std::vector<std::uint8_t> image = save();
-        try {
-            detail::file(fresh, "wb").write(image);
-            if (std::rename(fresh.c_str(), path.c_str()) != 0)
-                throw std::system_error(errno, std::generic_category(), path);
-        } catch (...) {
-            std::remove(fresh.c_str());
-            throw;
-        }
-    }
+    void save_file(const std::string &path) const { detail::replace(path, save()); }
 
     /// Makes the segment longer by `extra` bytes: a multiple of 16, at least 32.
     void grow(std::uint64_t extra) { check_code(zx_grow(raw(), extra)); }

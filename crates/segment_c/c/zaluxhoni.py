@@ -18,6 +18,7 @@ A segment is used by the thread that opened it alone. docs/PYTHON.md is the guid
 import collections
 import collections.abc
 import ctypes
+import errno
 import operator
 import os
 import re
@@ -243,7 +244,7 @@ _errors = {
         UnsupportedVersion, BadImageSize, BadReserved, BadTag, BadFreeTree, BadIndex, BadObject, SharedBlock, BadContainer,
         OrphanBlock)
 }
-_NO_SPACE, _ABSENT, _SHORT_BUFFER, _SHORT_REGION, _OUT_OF_RANGE = 9, 10, 24, 27, 8
+_NO_SPACE = NoSpace.code
 
 
 def _error(code):
@@ -990,6 +991,16 @@ class _Elements(_Object):
             return [self._get(place) for place in range(*index.indices(len(self)))]
         return self._get(self._place(index))
 
+    def __iter__(self):
+        place = 0
+        while True:
+            try:
+                value = self._get(place)
+            except OutOfRange:
+                return
+            yield value
+            place += 1
+
     def __eq__(self, other):
         if isinstance(other, collections.abc.Sequence) and not isinstance(other, (str, bytes)):
             return list(self) == list(other)
@@ -1003,9 +1014,6 @@ class Array(_Elements, collections.abc.Sequence):
 
     def __len__(self):
         return self.info().count
-
-    def __iter__(self):
-        return (self._get(place) for place in range(len(self)))
 
     def _get(self, place):
         return self._scalar(place)
@@ -1298,6 +1306,10 @@ class _File:
 
     def _locked(self, mode):
         """Takes the lock and reads the file; None where there is none and it is to be made."""
+        if mode == "x":
+            if os.path.lexists(self.path):
+                raise FileExistsError(errno.EEXIST, os.strerror(errno.EEXIST), self.path)
+            return None
         while True:
             try:
                 descriptor = os.open(self.path, os.O_RDWR | getattr(os, "O_CLOEXEC", 0))
@@ -1306,8 +1318,6 @@ class _File:
                     raise
                 return None
             try:
-                if mode == "x":
-                    raise FileExistsError(17, "File exists", self.path)
                 _lock(descriptor)
                 # meanwhile the name may lead to another file
                 if os.path.samestat(os.fstat(descriptor), os.stat(self.path)):

@@ -2,6 +2,7 @@
    throws. The images that it makes are saved in the folder that is its one argument. */
 #include "zaluxhoni.hpp"
 
+#include <filesystem>
 #include <iostream>
 #include <sstream>
 #include <type_traits>
@@ -92,19 +93,47 @@ void names() {
     IS(s.free_bytes(), 832);
 }
 
-void files() {
-    std::remove(path_of("file").c_str());
-    segment s = segment::open_or_create_file(path_of("file"), 1024);
-    s.construct<i64>("a", 5);
-    s.save_file(path_of("file"));
-    IS(segment::open_or_create_file(path_of("file"), 7).get<i64>("a"), 5);
+/// The call fails with an error of the system.
+template <class Call> void fails(int line, Call call, std::errc wanted) {
     checks++;
     try {
-        s.save_file(folder + "/none/a.seg");
-        wrong++;
+        call();
     } catch (const std::system_error &error) {
-        IS(error.code().value(), ENOENT);
+        if (error.code() == wanted) return;
+        std::cout << error.what() << '\n';
     }
+    wrong++;
+    std::cout << "every_call.cpp:" << line << ": WRONG error of a file\n";
+}
+
+void files() {
+    const std::string path = path_of("file"), link = folder + "/cpp-link", beside = path + ".new";
+    std::filesystem::remove(path);
+    std::filesystem::remove(link);
+    segment s = segment::open_or_create_file(path, 1024);
+    s.construct<i64>("a", 5);
+    s.save_file(path);
+    IS(segment::open_or_create_file(path, 7).get<i64>("a"), 5);
+    std::filesystem::permissions(path, std::filesystem::perms::owner_read | std::filesystem::perms::owner_write);
+    std::filesystem::create_symlink(std::filesystem::path(path).filename(), link);
+    s.set<i64>("a", 0, 6);
+    s.save_file(link);
+    IS(std::filesystem::is_symlink(link), true);
+    IS(segment::open_file(path).get<i64>("a"), 6);
+    IS(static_cast<unsigned>(std::filesystem::status(path).permissions()), 0600u);
+    IS(std::filesystem::exists(beside), false);
+    // a folder stands in the place of the new file: it stays, and so does the old file
+    std::filesystem::create_directory(beside);
+    s.set<i64>("a", 0, 7);
+    fails(__LINE__, [&] { s.save_file(path); }, std::errc::is_a_directory);
+    IS(std::filesystem::exists(beside), true);
+    IS(segment::open_file(path).get<i64>("a"), 6);
+    std::filesystem::remove(beside);
+    std::filesystem::remove(link);
+    fails(__LINE__, [&] { s.save_file(folder + "/none/a.seg"); }, std::errc::no_such_file_or_directory);
+    fails(__LINE__, [&] { segment::open_file(path_of("none")); }, std::errc::no_such_file_or_directory);
+    fails(__LINE__, [&] { segment::open_file(folder); }, std::errc::is_a_directory);
+    fails(__LINE__, [&] { segment::open_or_create_file(folder, 1024); }, std::errc::is_a_directory);
 }
 
 void index_and_object_do_not_both_fit() {
@@ -435,13 +464,6 @@ void what_is_refused() {
     THROWS(bad_key, s.construct<i64>(key::by_handle(144), 1));
     THROWS(bad_kind, s.construct<i64>(key::unique<u8>(), 1));
     THROWS(not_found, s.get<i64>("a"));
-    checks++;
-    try {
-        segment::open_file(path_of("none"));
-        wrong++;
-    } catch (const std::system_error &error) {
-        IS(error.code().value(), ENOENT);
-    }
 }
 
 void segments_move() {

@@ -1,7 +1,8 @@
 #!/usr/bin/env bash
-# c.sh [ARCHIVE]: calls of a program in C++ on the library, by zaluxhoni.hpp, and the same on Boost.Interprocess's managed_mapped_file,
-# where Boost is installed (Debian's libboost1.81-dev): processor nanoseconds a call, the least of five rounds. ARCHIVE is what
-# `rt lib` makes of crates/segment_c; where it is not given it is made, proved. It works in a folder of its own, which it removes.
+# c.sh [ARCHIVE]: calls of a program in C++ on the library, by zaluxhoni.hpp, and the same on Boost.Interprocess's
+# managed_mapped_file, where Boost is installed (Debian's libboost1.81-dev): processor nanoseconds a call, the least of
+# five rounds. ARCHIVE is what `rt lib` makes of crates/segment_c; where it is not given it is made, proved. It works in
+# a folder of its own, which it removes.
 set -euo pipefail
 cd "$(dirname "$0")/.."
 room=$(mktemp -d -p "${TMPDIR:-/dev/shm}")

@@ -1,8 +1,9 @@
-// The same calls, of a program in C++, on this library (compiled with OURS, over zaluxhoni.hpp) and on Boost.Interprocess's
-// managed_mapped_file (compiled without): names made, found, read and destroyed; one vector pushed into and read; one map put
-// into, looked up and emptied. `calls FILE` prints a line for each: what, how many, and processor nanoseconds a call, the least of
-// five rounds. FILE is where Boost's segment is mapped; ours is in memory. Of Boost each call on a container is done twice: with the
-// object looked up by its name, as each call of ours does, and through the pointer that was found once, as a program would.
+// The same calls, of a program in C++, on this library (compiled with OURS, over zaluxhoni.hpp) and on
+// Boost.Interprocess's managed_mapped_file (compiled without): names made, found, read and destroyed; one vector pushed
+// into and read; one map put into, looked up and emptied. `calls FILE` prints a line for each: what, how many, and
+// processor nanoseconds a call, the least of five rounds. FILE is where Boost's segment is mapped; ours is in memory.
+// Of Boost each call on a container is done twice: with the object looked up by its name, as each call of ours does,
+// and through the pointer that was found once, as a program would.
 #ifdef OURS
 #include "zaluxhoni.hpp"
 #else

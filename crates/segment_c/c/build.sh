@@ -1,8 +1,8 @@
 #!/usr/bin/env bash
-# build.sh [--archive FILE] [FOLDER]: makes the library for C, C++ and Python in a folder, `out` beside this script where none is
-# given: the archive libzaluxhoni.a, the shared object libzaluxhoni.so, both headers, the module for Python, and the examples, ready
-# to run. `rt lib` proves the crate and all below it first, unless it is given the archive that `rt lib` made. It needs a C and a
-# C++ compiler for Linux; CC, CXX and AR say which.
+# build.sh [--archive FILE] [FOLDER]: makes the library for C, C++ and Python in a folder, `out` beside this script
+# where none is given: the archive libzaluxhoni.a, the shared object libzaluxhoni.so, both headers, the module for
+# Python, and the examples, ready to run. `rt lib` proves the crate and all below it first, unless it is given the
+# archive that `rt lib` made. It needs a C and a C++ compiler for Linux; CC, CXX and AR say which.
 set -euo pipefail
 here=$(cd "$(dirname "$0")" && pwd)
 crate=$(dirname "$here")

@@ -1,12 +1,13 @@
-/* Zaluxhoni for C++17 and later: the calls of zaluxhoni.h with destructors, exceptions and types. docs/CPP.md is the guide.
+/* Zaluxhoni for C++17 and later: the calls of zaluxhoni.h with destructors, exceptions and types. docs/CPP.md is the
+   guide.
 
        zaluxhoni::segment shop = zaluxhoni::segment::create(4096);
        shop.construct<std::int64_t>("opened", 1972);
        shop.vector<std::int64_t>("queue").push_back(1);
        shop.map<std::int32_t, std::int64_t>("prices")[7] = 250;
 
-   A call that the library refuses throws `zaluxhoni::error`, and then nothing has changed. A segment, and all that was asked of
-   it, are used on one thread, one call at a time. */
+   A call that the library refuses throws `zaluxhoni::error`, and then nothing has changed. A segment, and all that was
+   asked of it, are used on one thread, one call at a time. */
 #ifndef ZALUXHONI_HPP
 #define ZALUXHONI_HPP
 
@@ -219,7 +220,8 @@ template <class T> using value_of = typename plain_value<T>::type;
 
 // ---- what is passed
 
-/// Elements that stand side by side: a pointer and how many. Made of an array, a `std::vector`, a list in braces, or a `std::span`.
+/// Elements that stand side by side: a pointer and how many. Made of an array, a `std::vector`, a list in braces, or a
+/// `std::span`.
 template <class T> class slice {
   public:
     slice() : at_(nullptr), count_(0) {}
@@ -483,8 +485,8 @@ inline zx_code check_image(slice<std::uint8_t> image) {
 
 // ---- the segment
 
-/// A segment, which its destructor frees. What it has is saved by `save` or `save_file` alone. It moves and is not copied; of one
-/// that was moved from, or closed, each call throws `closed`.
+/// A segment, which its destructor frees. What it has is saved by `save` or `save_file` alone. It moves and is not
+/// copied; of one that was moved from, or closed, each call throws `closed`.
 class segment {
   public:
     /// Has no segment.
@@ -497,7 +499,8 @@ class segment {
         return made;
     }
 
-    /// The segment whose image the bytes are, in a region of `capacity` bytes; where that is 0, of as many as the image has.
+    /// The segment whose image the bytes are, in a region of `capacity` bytes; where that is 0, of as many as the image
+    /// has.
     static segment open(slice<std::uint8_t> image, zaluxhoni::mode how = zaluxhoni::mode::write, std::uint64_t capacity = 0) {
         segment made = allotted();
         const std::uint64_t least = image.size() < 16 ? 16 : (image.size() + 15) / 16 * 16;
@@ -545,8 +548,8 @@ class segment {
     /// Copies the image to the front of a buffer: as many bytes as `size()` says.
     void save(std::uint8_t *image, std::size_t room) const { check_code(zx_save(raw(), image, room)); }
 
-    /// Puts the image into a file. It is written to a new one first, PATH.new, which then takes the place of the old one: whatever
-    /// fails, one of the two stands whole under the name. Where a file fails it throws std::system_error.
+    /// Puts the image into a file. It is written to a new one first, PATH.new, which then takes the place of the old
+    /// one: whatever fails, one of the two stands whole under the name. Where a file fails it throws std::system_error.
     void save_file(const std::string &path) const { detail::replace(path, save()); }
 
     /// Makes the segment longer by `extra` bytes: a multiple of 16, at least 32.
@@ -556,8 +559,8 @@ class segment {
     /// Moves the segment into a region of `capacity` bytes.
     void relocate(std::uint64_t capacity) { check_code(zx_relocate(raw(), capacity)); }
 
-    /// Calls `call`, and where it finds no space makes the segment longer by half and calls it again; it throws `too_large` where the
-    /// segment cannot become longer.
+    /// Calls `call`, and where it finds no space makes the segment longer by half and calls it again; it throws
+    /// `too_large` where the segment cannot become longer.
     template <class Call> auto growing(Call call) -> decltype(call()) {
         for (;;) {
             try {
@@ -616,7 +619,8 @@ class segment {
         });
     }
 
-    /// Finds the object, which stays as it is, or makes it. Where one of another kind has the key it throws `wrong_kind`.
+    /// Finds the object, which stays as it is, or makes it. Where one of another kind has the key it throws
+    /// `wrong_kind`.
     template <class T> found find_or_construct(const key &at, value_of<T> value, std::uint32_t count = 1) {
         const zx_value passed = scalar<T>::value(value);
         return found_by(at, [&](const zx_key *raw_key, std::uint64_t *handle, std::uint32_t *had) {
@@ -646,9 +650,9 @@ class segment {
         });
     }
 
-    /// The object of a name or of a kind, where there is one. T says its kind: a scalar, `std::string`, `std::vector<std::string>`,
-    /// `std::vector<std::int64_t>`, `std::map<std::int32_t, std::int64_t>`. Where one of another kind has the key it throws
-    /// `wrong_kind`.
+    /// The object of a name or of a kind, where there is one. T says its kind: a scalar, `std::string`,
+    /// `std::vector<std::string>`, `std::vector<std::int64_t>`, `std::map<std::int32_t, std::int64_t>`. Where one of
+    /// another kind has the key it throws `wrong_kind`.
     template <class T> std::optional<found> find(const key &at) const {
         const zx_key raw_key = at.raw();
         found had{0, 0};
@@ -656,7 +660,8 @@ class segment {
         return had;
     }
 
-    /// Destroys the object of a name or of a kind, and says whether there was one; or that of a handle, or throws `not_found`.
+    /// Destroys the object of a name or of a kind, and says whether there was one; or that of a handle, or throws
+    /// `not_found`.
     bool destroy(const key &at) {
         const zx_key raw_key = at.raw();
         bool was_there = false;
@@ -720,7 +725,8 @@ class segment {
             all.push_back(told);
         return all;
     }
-    /// Blocks and gaps, by offset. Each is looked for from the first one on, so all of them take as long as the square of their number.
+    /// Blocks and gaps, by offset. Each is looked for from the first one on, so all of them take as long as the square
+    /// of their number.
     std::vector<zx_tile> tiles() const {
         std::vector<zx_tile> all;
         zx_tile tile{};

@@ -8,13 +8,12 @@
 
 At the end of the block the file is saved, whole or not at all; where the block ends by an exception it stays as it was.
 
-An object is found by its name: shop["prices"] is its value where it is one number or truth, and else an object that is used as a
-list (Vector, Strings, Array), as a dict (Map) or as a bytearray (String). Each of their methods is a call of the library that
-looks the name up, so they are good as long as the segment is open. What the library refuses is raised as an Error, of the class
-that has the refusal's name, and then nothing has changed.
+An object is found by its name: shop["prices"] is its value where it is one number or truth, and else an object that is
+used as a list (Vector, Strings, Array), as a dict (Map) or as a bytearray (String). Each of their methods is a call of
+the library that looks the name up, so they are good as long as the segment is open. What the library refuses is raised
+as an Error, of the class that has the refusal's name, and then nothing has changed.
 
-A segment is used by the thread that opened it alone. docs/PYTHON.md is the guide.
-"""
+A segment is used by the thread that opened it alone. docs/PYTHON.md is the guide."""
 import collections
 import collections.abc
 import ctypes
@@ -530,7 +529,8 @@ _modes = {"w": 0, "c": 0, "x": 0, "r": 1, "p": 2}
 
 
 class Segment(collections.abc.MutableMapping):
-    """A segment, as a mapping from names to objects in the order of their bytes. `open`, `create` and `load` make one."""
+    """A segment, as a mapping from names to objects in the order of their bytes. `open`, `create` and `load` make
+    one."""
 
     def __init__(self, *, grow=False, encoding="utf-8"):
         self._handle = _Handle()
@@ -539,7 +539,8 @@ class Segment(collections.abc.MutableMapping):
         self.growing = grow
         """Whether a call that finds no space makes the segment longer by half and goes on."""
         self.encoding = encoding
-        """How texts are decoded, or None, where they are bytes; those that cannot be decoded have surrogates (PEP 383)."""
+        """How texts are decoded, or None, where they are bytes; those that cannot be decoded have surrogates (PEP
+        383)."""
 
     def _call(self, call, *arguments):
         """A call of the library; what it refuses is raised."""
@@ -625,8 +626,8 @@ class Segment(collections.abc.MutableMapping):
     # -- its file
 
     def save(self):
-        """Saves the file that the segment was opened from: the new image takes the place of the old one when all of it is on the
-        disk, so that one of the two stands whole under the name whatever fails."""
+        """Saves the file that the segment was opened from: the new image takes the place of the old one when all of it
+        is on the disk, so that one of the two stands whole under the name whatever fails."""
         if self._file is None:
             raise ValueError("the segment has no file: save_as(path) makes one")
         if self.mode != "write":
@@ -679,9 +680,10 @@ class Segment(collections.abc.MutableMapping):
     # -- objects
 
     def construct(self, kind, key=None, value=None):
-        """Makes an object and gives it: construct("i64", "a", 5), construct("i64[3]", "b", 7), construct("i64[3]", "c", [1, 2, 3]),
-        construct("vec<i64>", "v", [1]), construct("string", "s", "text"), construct("vec<string>", "t", ["text"]) or
-        construct("map<i32,i64>", "m"). The key is a name, unique(kind), or None for an object without a key. Exists, NoSpace."""
+        """Makes an object and gives it: construct("i64", "a", 5), construct("i64[3]", "b", 7), construct("i64[3]", "c",
+        [1, 2, 3]), construct("vec<i64>", "v", [1]), construct("string", "s", "text"), construct("vec<string>", "t",
+        ["text"]) or construct("map<i32,i64>", "m"). The key is a name, unique(kind), or None for an object without a
+        key. Exists, NoSpace."""
         made = ctypes.c_uint64()
         code = self._make("construct", kind, key, value, made)
         return self._object_of(key if key is not None else handle(made.value), code)
@@ -745,7 +747,8 @@ class Segment(collections.abc.MutableMapping):
         return self.find_or_construct(kind, key) if found is None else found
 
     def find(self, kind, key):
-        """The object of a kind under a name or unique(kind), or None. WrongKind where one of another kind has the key."""
+        """The object of a kind under a name or unique(kind), or None. WrongKind where one of another kind has the
+        key."""
         code = _code_of(kind)
         try:
             self._call(_zx.zx_find, _key_of(key), code, ctypes.c_uint64(), ctypes.c_uint32())
@@ -765,8 +768,8 @@ class Segment(collections.abc.MutableMapping):
         return (Vector if code < _MAP else Map)(self, key, code)
 
     def destroy(self, key):
-        """Destroys the object of a name or of unique(kind), and says whether there was one; or that of handle(number), or raises
-        NotFound."""
+        """Destroys the object of a name or of unique(kind), and says whether there was one; or that of handle(number),
+        or raises NotFound."""
         was_there = ctypes.c_bool()
         self._call(_zx.zx_destroy, _key_of(key), was_there)
         return was_there.value
@@ -785,8 +788,8 @@ class Segment(collections.abc.MutableMapping):
         return found[0] if info.count == 1 and isinstance(found, Array) else found
 
     def __setitem__(self, key, value):
-        """Gives an object another value, which is of its kind; where there is none, makes one: of a truth a bool, of a number an i64
-        (above its range a u64), of a text a string, of a list a vector, of a dict a map."""
+        """Gives an object another value, which is of its kind; where there is none, makes one: of a truth a bool, of a
+        number an i64 (above its range a u64), of a text a string, of a list a vector, of a dict a map."""
         try:
             found = self.object(key)
         except NotFound:
@@ -1293,8 +1296,8 @@ class Map(_Object, collections.abc.MutableMapping):
 # ---- files
 
 class _File:
-    """The file of a segment. Where it is written, its lock is held from before it is read until it is closed; it is the lock that
-    the program `segment` takes."""
+    """The file of a segment. Where it is written, its lock is held from before it is read until it is closed; it is the
+    lock that the program `segment` takes."""
 
     def __init__(self, path, mode):
         self.path, self.is_written, self._descriptor = os.fspath(path), _modes[mode] == 0, None
@@ -1396,15 +1399,17 @@ def _write_through(folder):
 # ---- what a program begins with
 
 def create(size, *, grow=False, encoding="utf-8"):
-    """An empty segment of `size` bytes, without a file. With `grow` it becomes longer where there is no space. BadSize, NoMemory."""
+    """An empty segment of `size` bytes, without a file. With `grow` it becomes longer where there is no space. BadSize,
+    NoMemory."""
     made = Segment(grow=grow, encoding=encoding)
     made._call(_zx.zx_create, _natural(size))
     return made
 
 
 def load(image, mode="w", *, capacity=None, grow=False, encoding="utf-8"):
-    """The segment that bytes are the image of, without a file. `mode` is "w", "r" for reading alone, or "p" for changes that are
-    saved nowhere; `capacity` is how many bytes its region has, a multiple of 16. BadImage, ShortRegion, BadSize."""
+    """The segment that bytes are the image of, without a file. `mode` is "w", "r" for reading alone, or "p" for changes
+    that are saved nowhere; `capacity` is how many bytes its region has, a multiple of 16. BadImage, ShortRegion,
+    BadSize."""
     image = bytes(image)
     if mode not in ("w", "r", "p"):
         raise BadMode(f"no mode is {mode!r}")
@@ -1429,9 +1434,9 @@ def open(path, mode="c", *, size=65536, grow=False, encoding="utf-8"):
         "x"  the file is not there, and is made               (create_only)
         "p"  changes are private, and saved nowhere           (open_copy_on_write)
 
-    A new segment has `size` bytes. With `grow` a segment becomes longer where there is no space. A file that is made is written at
-    the first save. In the modes that save, the file belongs to this segment until it is closed: FileInUse. BadImage; OSError, where
-    the file fails."""
+    A new segment has `size` bytes. With `grow` a segment becomes longer where there is no space. A file that is made is
+    written at the first save. In the modes that save, the file belongs to this segment until it is closed: FileInUse.
+    BadImage; OSError, where the file fails."""
     if mode not in _modes:
         raise BadMode(f"no mode is {mode!r}")
     file = _File(path, mode)

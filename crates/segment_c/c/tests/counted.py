@@ -1,6 +1,6 @@
-"""counted.py HEADER NAMES: writes a library in C to standard output that stands before another one, which LIBRARY_BEHIND names: it has
-each call that the header declares, hands it on, and adds its name to the file that CALLED names when the program ends. The names that
-the header declares go to the file NAMES."""
+"""counted.py HEADER NAMES: writes a library in C to standard output that stands before another one, which
+LIBRARY_BEHIND names: it has each call that the header declares, hands it on, and adds its name to the file that CALLED
+names when the program ends. The names that the header declares go to the file NAMES."""
 import re
 import sys
 

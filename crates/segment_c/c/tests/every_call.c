@@ -1,5 +1,5 @@
-/* Every call of zaluxhoni.h, on the worked examples of docs/LANGUAGE.md, section 11, and on what a call refuses. The images that
-   it makes are saved in the folder that is its one argument. */
+/* Every call of zaluxhoni.h, on the worked examples of docs/LANGUAGE.md, section 11, and on what a call refuses. The
+   images that it makes are saved in the folder that is its one argument. */
 #include "zaluxhoni.h"
 
 #include <inttypes.h>

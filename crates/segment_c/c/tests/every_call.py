@@ -1,5 +1,5 @@
-"""Every call of zaluxhoni.py, and by it each of zaluxhoni.h, on the worked examples of docs/LANGUAGE.md, section 11, and on what is
-raised. The files that it makes are in the folder that is its one argument."""
+"""Every call of zaluxhoni.py, and by it each of zaluxhoni.h, on the worked examples of docs/LANGUAGE.md, section 11,
+and on what is raised. The files that it makes are in the folder that is its one argument."""
 import gc
 import os
 import sys

@@ -1,5 +1,6 @@
-/* Each request for memory that the library makes is refused once: the call must answer ZX_NO_MEMORY and leave the segment as it was,
-   or, where it can do without, be done. All other calls ask for none. This file has the place of heap.c. */
+/* Each request for memory that the library makes is refused once: the call must answer ZX_NO_MEMORY and leave the
+   segment as it was, or, where it can do without, be done. All other calls ask for none. This file has the place of
+   heap.c. */
 #include "zaluxhoni.h"
 
 #include <stdio.h>

@@ -1441,7 +1441,7 @@ def open(path, mode="c", *, size=65536, grow=False, encoding="utf-8"):
         raise BadMode(f"no mode is {mode!r}")
     file = _File(path, mode)
     try:
-        opened = create(size) if file.image is None else load(file.image, "rwp"["rwp".find(mode)] if mode in "rwp" else "w")
+        opened = create(size) if file.image is None else load(file.image, mode if mode in ("r", "p") else "w")
     except BaseException:
         file.close()
         raise

@@ -49,7 +49,8 @@ namespace zaluxhoni {
 inline std::string words(zx_code code) {
     zx_text text{};
     zx_words(code, &text);
-    return text.len != 0 ? std::string(reinterpret_cast<const char *>(text.at), text.len) : "code " + std::to_string(code);
+    if (text.len == 0) return "code " + std::to_string(code);
+    return std::string(reinterpret_cast<const char *>(text.at), text.len);
 }
 
 /// What the library refused. `code()` is one of ZX_.. in zaluxhoni.h, and `what()` its words.
@@ -411,7 +412,8 @@ template <class Of, class At, class T> class element {
 /// Opens a file for a scope.
 class file {
   public:
-    file(const std::filesystem::path &path, const char *how) : path_(path), at_(std::fopen(path.string().c_str(), how)) {
+    file(const std::filesystem::path &path, const char *how)
+        : path_(path), at_(std::fopen(path.string().c_str(), how)) {
         if (at_ == nullptr) fail(path_);
     }
     file(const file &) = delete;
@@ -501,7 +503,8 @@ class segment {
 
     /// The segment whose image the bytes are, in a region of `capacity` bytes; where that is 0, of as many as the image
     /// has.
-    static segment open(slice<std::uint8_t> image, zaluxhoni::mode how = zaluxhoni::mode::write, std::uint64_t capacity = 0) {
+    static segment open(slice<std::uint8_t> image, zaluxhoni::mode how = zaluxhoni::mode::write,
+                        std::uint64_t capacity = 0) {
         segment made = allotted();
         const std::uint64_t least = image.size() < 16 ? 16 : (image.size() + 15) / 16 * 16;
         zx_code code = zx_open(made.at_.get(), image.data(), image.size(), capacity != 0 ? capacity : least,
@@ -673,7 +676,9 @@ class segment {
         const zx_key raw_key = at.raw();
         info told{};
         check_code(detail::info_by(
-            [&](zx_info *said, std::uint8_t *name, std::size_t room) { return zx_tell(raw(), &raw_key, said, name, room); },
+            [&](zx_info *said, std::uint8_t *name, std::size_t room) {
+                return zx_tell(raw(), &raw_key, said, name, room);
+            },
             told));
         return told;
     }
@@ -942,7 +947,9 @@ class string : public object {
 
     std::uint8_t get(std::uint64_t index) const { return scalar<std::uint8_t>::from(value_at(index)); }
     void set(std::uint64_t index, std::uint8_t byte) const { set_value(index, scalar<std::uint8_t>::value(byte)); }
-    detail::element<string, std::uint64_t, std::uint8_t> operator[](std::uint64_t index) const { return {*this, index}; }
+    detail::element<string, std::uint64_t, std::uint8_t> operator[](std::uint64_t index) const {
+        return {*this, index};
+    }
 
     void reserve(std::uint64_t places) const { reserve_places(places); }
     void shrink_to_fit() const { trim_places(); }
@@ -970,7 +977,9 @@ class strings : public object {
         const zx_key raw_key = at().raw();
         check_code(zx_set_text(of(), &raw_key, index, bytes_of(text), text.size()));
     }
-    detail::element<strings, std::uint64_t, std::string> operator[](std::uint64_t index) const { return {*this, index}; }
+    detail::element<strings, std::uint64_t, std::string> operator[](std::uint64_t index) const {
+        return {*this, index};
+    }
 
     void push_back(std::string_view text) const {
         const zx_key raw_key = at().raw();

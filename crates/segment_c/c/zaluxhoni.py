@@ -30,11 +30,12 @@ except ImportError:  # a system without locks of this form
     fcntl = None
 
 __all__ = [
-    "open", "create", "load", "check", "unique", "handle", "Segment", "Array", "Vector", "String", "Strings", "Map", "Info", "Tile",
-    "Error", "ReadOnly", "Exists", "NotFound", "WrongKind", "OutOfRange", "NoSpace", "Absent", "Closed", "BadKey", "BadName",
-    "BadKind", "BadValue", "BadCount", "BadSize", "BadMode", "ShortBuffer", "NullSlice", "NoMemory", "ShortRegion", "BadGrowth",
-    "TooLarge", "BadImage", "Truncated", "BadMagic", "UnsupportedVersion", "BadImageSize", "BadReserved", "BadTag", "BadFreeTree",
-    "BadIndex", "BadObject", "SharedBlock", "BadContainer", "OrphanBlock", "FileInUse", "WrongThread",
+    "open", "create", "load", "check", "unique", "handle", "Segment", "Array", "Vector", "String", "Strings", "Map",
+    "Info", "Tile", "Error", "ReadOnly", "Exists", "NotFound", "WrongKind", "OutOfRange", "NoSpace", "Absent", "Closed",
+    "BadKey", "BadName", "BadKind", "BadValue", "BadCount", "BadSize", "BadMode", "ShortBuffer", "NullSlice",
+    "NoMemory", "ShortRegion", "BadGrowth", "TooLarge", "BadImage", "Truncated", "BadMagic", "UnsupportedVersion",
+    "BadImageSize", "BadReserved", "BadTag", "BadFreeTree", "BadIndex", "BadObject", "SharedBlock", "BadContainer",
+    "OrphanBlock", "FileInUse", "WrongThread",
 ]
 
 
@@ -238,10 +239,10 @@ class WrongThread(Error, RuntimeError):
 _errors = {
     each.code: each
     for each in (
-        ReadOnly, Exists, NotFound, WrongKind, OutOfRange, NoSpace, Absent, Closed, BadKey, BadName, BadKind, BadValue, BadCount,
-        BadSize, BadMode, ShortBuffer, NullSlice, NoMemory, ShortRegion, BadGrowth, TooLarge, Truncated, BadMagic,
-        UnsupportedVersion, BadImageSize, BadReserved, BadTag, BadFreeTree, BadIndex, BadObject, SharedBlock, BadContainer,
-        OrphanBlock)
+        ReadOnly, Exists, NotFound, WrongKind, OutOfRange, NoSpace, Absent, Closed, BadKey, BadName, BadKind, BadValue,
+        BadCount, BadSize, BadMode, ShortBuffer, NullSlice, NoMemory, ShortRegion, BadGrowth, TooLarge, Truncated,
+        BadMagic, UnsupportedVersion, BadImageSize, BadReserved, BadTag, BadFreeTree, BadIndex, BadObject, SharedBlock,
+        BadContainer, OrphanBlock)
 }
 _NO_SPACE = NoSpace.code
 
@@ -258,8 +259,8 @@ class _Handle(ctypes.Structure):
 
 
 class _Key(ctypes.Structure):
-    _fields_ = [("how", ctypes.c_uint32), ("kind", ctypes.c_uint32), ("handle", ctypes.c_uint64), ("name", ctypes.c_char_p),
-                ("len", ctypes.c_size_t)]
+    _fields_ = [("how", ctypes.c_uint32), ("kind", ctypes.c_uint32), ("handle", ctypes.c_uint64),
+                ("name", ctypes.c_char_p), ("len", ctypes.c_size_t)]
 
 
 class _Value(ctypes.Structure):
@@ -297,26 +298,31 @@ def _declare(library):
     """Says what each call takes, as zaluxhoni.h does."""
     pointer, u32, u64, size, text = ctypes.POINTER, ctypes.c_uint32, ctypes.c_uint64, ctypes.c_size_t, ctypes.c_char_p
     segment, key, value, values = pointer(_Handle), pointer(_Key), pointer(_Value), pointer(_Values)
-    texts, info, truth, number, half = pointer(_Text), pointer(_Info), pointer(ctypes.c_bool), pointer(u64), pointer(u32)
+    texts, info, truth = pointer(_Text), pointer(_Info), pointer(ctypes.c_bool)
+    number, half = pointer(u64), pointer(u32)
     calls = {
         "create": [u64], "open": [text, size, u64, u32], "save": [ctypes.c_void_p, size], "grow": [u64], "shrink": [],
-        "relocate": [u64], "close": [], "mode": [half], "size": [number], "free_bytes": [number], "region_left": [number],
-        "construct": [key, u32, value, number], "construct_vector": [key, values, number],
+        "relocate": [u64], "close": [], "mode": [half], "size": [number], "free_bytes": [number],
+        "region_left": [number], "construct": [key, u32, value, number], "construct_vector": [key, values, number],
         "construct_string": [key, text, size, number], "construct_strings": [key, texts, size, number],
         "construct_map": [key, u32, u32, number], "find_or_construct": [key, u32, value, number, half],
-        "find_or_construct_vector": [key, values, number, half], "find_or_construct_string": [key, text, size, number, half],
-        "find_or_construct_strings": [key, texts, size, number, half], "find_or_construct_map": [key, u32, u32, number, half],
-        "find": [key, u32, number, half], "destroy": [key, truth], "tell": [key, info, ctypes.c_void_p, size],
-        "get": [key, u64, value], "set": [key, u64, value], "push": [key, value], "pop": [key, value], "insert": [key, u64, value],
-        "assign": [key, values], "erase": [key, u64], "measure": [key, number, number], "reserve": [key, u64], "trim": [key],
-        "clear": [key], "read_string": [key, ctypes.c_void_p, size, number], "assign_string": [key, text, size],
-        "append": [key, text, size], "read_text": [key, u64, ctypes.c_void_p, size, number], "set_text": [key, u64, text, size],
-        "push_text": [key, text, size], "pop_text": [key], "insert_text": [key, u64, text, size], "assign_texts": [key, texts, size],
-        "map_get": [key, value, value], "map_put": [key, value, value, truth], "map_erase": [key, value, truth],
-        "map_first": [key, value, value], "map_next": [key, value, value, value], "num_named": [number], "num_unique": [number],
-        "named_at": [u64, info, ctypes.c_void_p, size], "unique_at": [u64, info], "tile_at": [u64, pointer(_Tile)],
-        "reserve_named": [u64], "reserve_unique": [u64], "shrink_indexes": [], "zero_free": [], "sanity": [truth],
-        "all_deallocated": [truth],
+        "find_or_construct_vector": [key, values, number, half],
+        "find_or_construct_string": [key, text, size, number, half],
+        "find_or_construct_strings": [key, texts, size, number, half],
+        "find_or_construct_map": [key, u32, u32, number, half], "find": [key, u32, number, half],
+        "destroy": [key, truth], "tell": [key, info, ctypes.c_void_p, size], "get": [key, u64, value],
+        "set": [key, u64, value], "push": [key, value], "pop": [key, value], "insert": [key, u64, value],
+        "assign": [key, values], "erase": [key, u64], "measure": [key, number, number], "reserve": [key, u64],
+        "trim": [key], "clear": [key], "read_string": [key, ctypes.c_void_p, size, number],
+        "assign_string": [key, text, size], "append": [key, text, size],
+        "read_text": [key, u64, ctypes.c_void_p, size, number], "set_text": [key, u64, text, size],
+        "push_text": [key, text, size], "pop_text": [key], "insert_text": [key, u64, text, size],
+        "assign_texts": [key, texts, size], "map_get": [key, value, value], "map_put": [key, value, value, truth],
+        "map_erase": [key, value, truth], "map_first": [key, value, value], "map_next": [key, value, value, value],
+        "num_named": [number], "num_unique": [number], "named_at": [u64, info, ctypes.c_void_p, size],
+        "unique_at": [u64, info], "tile_at": [u64, pointer(_Tile)], "reserve_named": [u64], "reserve_unique": [u64],
+        "shrink_indexes": [], "zero_free": [], "sanity": [truth], "all_deallocated": [truth],
+
     }
     for name, arguments in calls.items():
         call = getattr(library, "zx_" + name)
@@ -511,16 +517,15 @@ def _key_of(key):
 
 
 Info = collections.namedtuple("Info", "found_by name kind count handle")
-Info.__doc__ = """What an object says of itself: "named", "unique" or "anonymous"; its name or None; its kind; how many scalars it has
-(1 where it is no object of scalars); its handle."""
+Info.__doc__ = """What an object says of itself: "named", "unique" or "anonymous"; its name or None; its kind; how many
+scalars it has (1 where it is no object of scalars); its handle."""
 Tile = collections.namedtuple("Tile", "offset len use")
 Tile.__doc__ = """A block, or a gap: offset and bytes, and "gap", "object", "index", "storage" or "node"."""
 
 
 def _info(told, name):
-    return Info(("anonymous", "named", "unique")[told.found_by],
-                ctypes.string_at(name, told.name_len).decode() if told.found_by == 1 else None, _kinds[told.kind], told.count,
-                told.handle)
+    own = ctypes.string_at(name, told.name_len).decode() if told.found_by == 1 else None
+    return Info(("anonymous", "named", "unique")[told.found_by], own, _kinds[told.kind], told.count, told.handle)
 
 
 # ---- the segment
@@ -690,7 +695,8 @@ class Segment(collections.abc.MutableMapping):
 
     def find_or_construct(self, kind, key, value=None):
         """The object of the key, which stays as it is, or makes it. WrongKind where one of another kind has the key."""
-        return self._object_of(key, self._make("find_or_construct", kind, key, value, ctypes.c_uint64(), ctypes.c_uint32()))
+        code = self._make("find_or_construct", kind, key, value, ctypes.c_uint64(), ctypes.c_uint32())
+        return self._object_of(key, code)
 
     def _make(self, call, kind, key, value, *told):
         code, count = _counted(kind)
@@ -703,7 +709,8 @@ class Segment(collections.abc.MutableMapping):
             texts, count = _texts(value or (), self.encoding)
             self._call(getattr(_zx, f"zx_{call}_strings"), _key_of(key), texts, count, *told)
         elif code < _MAP:
-            self._call(getattr(_zx, f"zx_{call}_vector"), _key_of(key), _values(code - _VECTOR, value or (), BadValue), *told)
+            values = _values(code - _VECTOR, value or (), BadValue)
+            self._call(getattr(_zx, f"zx_{call}_vector"), _key_of(key), values, *told)
         else:
             self._call(getattr(_zx, f"zx_{call}_map"), _key_of(key), code >> 8 & 255, code & 255, *told)
             if value:

@@ -230,7 +230,7 @@ static void the_only_object_of_its_kind(void) {
     DONE(zx_create(&s, 1024));
     IS(made(&s, only, 1, zx_u64(9)), 192);
     IS(made(&s, only, 1, zx_u64(1)), REFUSED(ZX_EXISTS));
-    IS(found(&s, only, ZX_U8, 1), REFUSED(ZX_BAD_KIND));
+    IS(found(&s, only, ZX_U8, 1), REFUSED(ZX_WRONG_KIND));
     DONE(zx_tell(&s, &only, &info, name, sizeof name));
     IS(info.found_by, ZX_IS_UNIQUE);
     IS(info.kind, ZX_U64);

@@ -172,7 +172,7 @@ void the_only_object_of_its_kind() {
     const key only = key::unique<u64>();
     IS(s.construct<u64>(only, 9), 192);
     THROWS(exists, s.construct<u64>(only, 1));
-    THROWS(bad_kind, s.find<u8>(only));
+    THROWS(wrong_kind, s.find<u8>(only));
     IS(s.tell(only).found_by, ZX_IS_UNIQUE);
     IS(s.tell(only).name, ""s);
     IS(s.unique().size(), 1);

@@ -134,7 +134,7 @@ def the_only_object_of_its_kind():
     s = zaluxhoni.create(1024)
     same(s.construct("u64", unique("u64"), 9).handle, 192)
     raises(zaluxhoni.Exists, s.construct, "u64", unique("u64"), 1)
-    raises(zaluxhoni.BadKind, s.find, "u8", unique("u64"))
+    raises(zaluxhoni.WrongKind, s.find, "u8", unique("u64"))
     same(s.info(unique("u64")), ("unique", None, "u64", 1, 192))
     same(s.unique(), [("unique", None, "u64", 1, 192)])
     same(s[unique("u64")], 9)

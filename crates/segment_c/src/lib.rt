@@ -15,5 +15,6 @@ mod rows;
 mod storage;
 mod strings;
 mod values;
+mod vectors;
 
 pub use handle::Handle;

@@ -1,5 +1,5 @@
-pub mod Elements
-pub mod Pairs
+pub mod ElementCalls
+pub mod PairCalls
 pub mod Reading
 pub mod SetElements
 pub mod SetKinds

@@ -24,4 +24,3 @@ performed CopyOnWrite d c e = refl
 
 pub answered-reads : (mode : Mode) (d : Directory) (c : Command) → is_changing c ≡ false → (step mode d c).0 ≡ (perform d (live d) (effect d c)).0
 answered-reads mode d c e = ap (λ (r : Answer × Directory). r.0) (performed-reads mode d c e)
-

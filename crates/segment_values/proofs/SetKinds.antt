@@ -22,7 +22,7 @@ use Rattle.segment_manager.specs.State.{Answers, IsStep, State, StandsFor}
 use Rattle.segment_manager.specs.Step as step
 use Rattle.segment_manager.specs.Step.{is_read_only}
 use Rattle.segment_manager.proofs.ElementLaws.{IsOfKindAt, kind-told, refused-steps, with-found, with-not_found}
-use Rattle.segment_values.proofs.Elements.{IsTexts, texts-if}
+use Rattle.segment_values.proofs.ElementCalls.{IsTexts, texts-if}
 
 -- ---- a literal is no text
 
@@ -108,4 +108,3 @@ set-map s key kind i l k m h e =
 
 pub set-unchangeable : (s : State) (key : Key) (why : Refusal) (i : ℕ) (l : asked.Literal) → IsUnchangeable s key why → IsStep s s (asked.Set key i l) (Refused why)
 set-unchangeable s key why i l h = h.refuses (asked.Set key i l) refl (λ d n. with-not_found d key (λ o. step.set d o o.value i l) n)
-

@@ -9,8 +9,8 @@ ghost use Rattle.segment_manager.specs.State.{Answers, IsStep, done_answer};
 ghost use Rattle.segment_manager.specs.Step.{is_read_only};
 ghost use Rattle.segment_values.specs.Literals.{literal_seen};
 
-use crate::scalars::value_as;
 use crate::objects::object_to_change;
+use crate::scalars::value_as;
 use seg_types::{Key, Kind, Refusal, ScalarKind, ScalarValue};
 use segment_manager::{Object, Segment};
 

@@ -6,8 +6,8 @@ ghost use Rattle.segment_manager.specs.Maps.{any_value_answer};
 ghost use Rattle.segment_manager.specs.State.{IsReply, IsStep, truth_answer};
 ghost use Rattle.segment_values.specs.Literals.{literal_seen};
 
-use crate::scalars::{pair_as, value_as};
 use crate::objects::object_to_change;
+use crate::scalars::{pair_as, value_as};
 use seg_types::{Key, Kind, Refusal, ScalarValue};
 use segment_manager::Segment;
 
@@ -45,7 +45,11 @@ pub fn put_pair(
 ///
 /// `NotFound` where no object has the key, `WrongKind` where it is no map or the literal has not the form of its keys,
 /// `OutOfRange` where the literal is not in their range.
-pub fn look_up(segment: &Segment, key: &Key, at: ScalarValue) -> Result<Option<ScalarValue>, Refusal>
+pub fn look_up(
+    segment: &Segment,
+    key: &Key,
+    at: ScalarValue,
+) -> Result<Option<ScalarValue>, Refusal>
     ensures { IsReply segment.now (Lookup (key_seen key.now) (literal_seen at)) (any_value_answer result) }
 {
     match segment.locate(key) {

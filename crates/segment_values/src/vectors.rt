@@ -10,8 +10,8 @@ ghost use Rattle.segment_manager.specs.State.{IsStep, IsStepOfKind, done_answer}
 ghost use Rattle.segment_values.specs.Changes.{IsNew, IsNoElement};
 ghost use Rattle.segment_values.specs.Literals.{literal_seen};
 
-use crate::scalars::value_as;
 use crate::objects::object_to_change;
+use crate::scalars::value_as;
 use seg_types::{Key, Kind, Refusal, ScalarKind, ScalarValue};
 use segment_manager::{Object, Segment};
 

@@ -7,7 +7,7 @@ use Rattle.seg_types.specs.Names.{ByHandle}
 use Rattle.segment_values.specs.Literals.{literal_seen}
 use Rattle.segment_manager.specs.State.{done_answer}
 use Rattle.segment_manager.proofs.Laws.{step-by_key}
-use Rattle.segment_values.proofs.Elements.{handle-to-change, to-change}
+use Rattle.segment_values.proofs.ElementCalls.{handle-to-change, to-change}
 use Rattle.segment_values.proofs.SetKinds.{elements-either, elements-told, set-map, set-no_text, set-unchangeable}
 use Rattle.segment_values.proofs.elements.set.Goals as goal
 

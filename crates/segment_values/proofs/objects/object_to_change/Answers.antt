@@ -1,6 +1,6 @@
 use Rattle.std.proofs.Common.{rules}
 use Rattle.seg_types.specs.Keys.{key_seen}
-use Rattle.segment_values.proofs.Elements.{changeable}
+use Rattle.segment_values.proofs.ElementCalls.{changeable}
 use Rattle.segment_values.proofs.SetElements.{not-reading, reading-refuses}
 use Rattle.segment_values.proofs.objects.object_to_change.Goals as goal
 

@@ -8,7 +8,7 @@ use Rattle.segment_values.specs.Literals.{literal_seen}
 use Rattle.segment_manager.specs.Calls.{kind_at}
 use Rattle.segment_manager.specs.State.{Answers, truth_answer}
 use Rattle.segment_manager.proofs.Laws.{kind-by_key, step_of_kind-by_key}
-use Rattle.segment_values.proofs.Pairs.{remove-no_map, remove-no_value, remove-unchangeable, removes-key}
+use Rattle.segment_values.proofs.PairCalls.{remove-no_map, remove-no_value, remove-unchangeable, removes-key}
 use Rattle.segment_values.proofs.pairs.erase_pair.Goals as goal
 
 pub returns-in-Err-clause-step : goal.returns-in-Err-clause-step

@@ -9,7 +9,7 @@ use Rattle.segment_manager.specs.Calls.{kind_at}
 use Rattle.segment_manager.specs.Maps.{any_value_answer}
 use Rattle.segment_manager.specs.State.{Answers}
 use Rattle.segment_manager.proofs.Laws.{kind-by_key, reply_of_kind-by_key}
-use Rattle.segment_values.proofs.Pairs.{lookup-no_map, lookup-no_value, lookup-nowhere, looks-up-key}
+use Rattle.segment_values.proofs.PairCalls.{lookup-no_map, lookup-no_value, lookup-nowhere, looks-up-key}
 use Rattle.segment_values.proofs.pairs.look_up.Goals as goal
 
 pub returns-in-Err : goal.returns-in-Err

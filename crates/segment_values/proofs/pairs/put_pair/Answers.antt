@@ -8,7 +8,7 @@ use Rattle.segment_values.specs.Literals.{literal_seen}
 use Rattle.segment_manager.specs.Calls.{kind_at}
 use Rattle.segment_manager.specs.State.{Answers, truth_answer}
 use Rattle.segment_manager.proofs.Laws.{kind-by_key, step_of_kind-by_key}
-use Rattle.segment_values.proofs.Pairs.{put-no_map, put-no_pair, put-unchangeable, puts-pair}
+use Rattle.segment_values.proofs.PairCalls.{put-no_map, put-no_pair, put-unchangeable, puts-pair}
 use Rattle.segment_values.proofs.pairs.put_pair.Goals as goal
 
 pub returns-in-Err-clause-step : goal.returns-in-Err-clause-step

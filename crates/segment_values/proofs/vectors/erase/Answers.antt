@@ -4,7 +4,7 @@ use Rattle.seg_types.specs.Commands.{Erase}
 use Rattle.seg_types.specs.Keys.{key_seen}
 use Rattle.segment_manager.specs.State.{done_answer}
 use Rattle.segment_manager.proofs.Laws.{kind-by_key, located-steps}
-use Rattle.segment_values.proofs.Elements.{erase-no_vector, erase-unchangeable}
+use Rattle.segment_values.proofs.ElementCalls.{erase-no_vector, erase-unchangeable}
 use Rattle.segment_values.proofs.vectors.erase.Goals as goal
 
 pub returns-in-Err-clause-step : goal.returns-in-Err-clause-step

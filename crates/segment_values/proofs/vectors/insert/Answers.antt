@@ -5,7 +5,7 @@ use Rattle.seg_types.specs.Values.{kind_of_scalar, value_of_scalar}
 use Rattle.segment_values.specs.Literals.{literal_seen}
 use Rattle.segment_manager.specs.State.{done_answer}
 use Rattle.segment_manager.proofs.Laws.{step_of_kind-by_key}
-use Rattle.segment_values.proofs.Elements.{insert-element}
+use Rattle.segment_values.proofs.ElementCalls.{insert-element}
 use Rattle.segment_values.proofs.vectors.insert.Goals as goal
 
 pub returns-in-Err-clause-step : goal.returns-in-Err-clause-step

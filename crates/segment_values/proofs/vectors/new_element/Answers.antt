@@ -2,7 +2,7 @@ use Rattle.std.proofs.Common.{refl}
 use Rattle.seg_types.specs.declared.kinds.Kind.TheVariants.{Texts}
 use Rattle.seg_types.specs.Keys.{key_seen}
 use Rattle.segment_values.specs.Literals.{literal_seen}
-use Rattle.segment_values.proofs.Elements.{element-read, no_value-of, no_vector-element, to-change, unchangeable-element}
+use Rattle.segment_values.proofs.ElementCalls.{element-read, no_value-of, no_vector-element, to-change, unchangeable-element}
 use Rattle.segment_values.proofs.SetKinds.{no_text-element}
 use Rattle.segment_values.proofs.vectors.new_element.Goals as goal
 

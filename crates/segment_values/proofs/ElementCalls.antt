@@ -186,4 +186,3 @@ module _ (s : State) (key : Key) (why : Refusal) (h : IsUnchangeable s key why) 
 
   pub erase-unchangeable : (i : ℕ) → IsStep s s (asked.Erase key i) (Refused why)
   erase-unchangeable i = h.refuses (asked.Erase key i) refl (λ d n. with-not_found d key (λ o. step.erase d o o.value i) n)
-

@@ -712,9 +712,10 @@ class Segment(collections.abc.MutableMapping):
             values = _values(code - _VECTOR, value or (), BadValue)
             self._call(getattr(_zx, f"zx_{call}_vector"), _key_of(key), values, *told)
         else:
+            is_new = self._is_new(call, code, key)
             self._call(getattr(_zx, f"zx_{call}_map"), _key_of(key), code >> 8 & 255, code & 255, *told)
-            if value:
-                Map(self, key, code).update(value)
+            if value and is_new:
+                Map(self, handle(told[0].value), code).update(value)
         return code
 
     def _make_scalars(self, call, code, count, key, value, told):
@@ -726,12 +727,16 @@ class Segment(collections.abc.MutableMapping):
             raise BadCount()
         plain = False if code == _BOOL else 0
         values = [_value_of(code, each) for each in listed or [plain if value is None else value]]
-        was_there = call != "construct" and self.find(_kinds[code], key) is not None
+        is_new = self._is_new(call, code, key)
         self._call(getattr(_zx, f"zx_{call}"), _key_of(key), count, values[0], *told)
-        if not was_there:
+        if is_new:
             made = handle(told[0].value).key
             for index, each in enumerate(values[1:], 1):
                 self._call(_zx.zx_set, made, index, each)
+
+    def _is_new(self, call, code, key):
+        """Whether the call will make an object."""
+        return call == "construct" or self.find(_kinds[code], key) is None
 
     def vector(self, key, kind):
         """The vector of a name, which is made where there is none: vector("queue", "i64")."""

@@ -1,5 +1,6 @@
 //! The codes that C is answered: those of refusals are their numbers in the language.
 ghost use Rattle.std.specs.Prelude.{◌≡◌, ◌≤◌, IsTrue};
+ghost use Rattle.seg_types.specs.Refusals.{refusal_number};
 ghost use Rattle.segment_c.specs.Codes.{answer_for, is_answer};
 ghost use Rattle.segment_c.specs.Passed.{element_in};
 ghost use Rattle.segment_manager.specs.Answers.{Answer, Done, Found, Made, Refused, Truth};
@@ -12,6 +13,14 @@ use seg_types::{Handle, Refusal, ScalarValue};
 
 /// Done.
 pub const DONE: u32 = 0;
+/// The segment is open for reading.
+pub const READ_ONLY: u32 = 4;
+/// No object has the key.
+pub const NOT_FOUND: u32 = 6;
+/// The object, or what is passed for it, is of another kind.
+pub const WRONG_KIND: u32 = 7;
+/// An index past the end.
+pub const OUT_OF_RANGE: u32 = 8;
 /// Nothing is there.
 pub const ABSENT: u32 = 10;
 /// The handle has no segment.
@@ -182,5 +191,20 @@ pub fn value_found(found: Result<Option<ScalarValue>, Refusal>, value: &mut Valu
         }
         Ok(None) => ABSENT,
         Err(why) => code_of(why),
+    }
+}
+
+/// The code of a refusal, which is its number.
+pub fn number_of(why: Refusal) -> u32
+    ensures number { result ≡ refusal_number why }
+    ensures refused { 1 ≤ result }
+{
+    match why {
+        Refusal::ReadOnly => 4,
+        Refusal::Exists => 5,
+        Refusal::NotFound => 6,
+        Refusal::WrongKind => 7,
+        Refusal::OutOfRange => 8,
+        Refusal::NoSpace => 9,
     }
 }

@@ -3,18 +3,24 @@
 #![tactic(auto)]
 
 mod codes;
+mod destroying;
 mod elements;
 mod handle;
 mod images;
 mod keys;
 mod lists;
 mod maps;
+mod neighbours;
 mod objects;
 mod opening;
+mod popping;
+mod reading;
+mod resizing;
 mod rows;
 mod storage;
 mod strings;
 mod values;
 mod vectors;
+mod words;
 
 pub use handle::Handle;

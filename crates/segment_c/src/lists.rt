@@ -3,6 +3,7 @@ ghost use Rattle.std.specs.Prelude.{◌≡◌, ◌≤◌, MatchOption, slice_get
 ghost use Rattle.std.specs.declared.option.Option.TheVariants.{None, Some};
 ghost use Rattle.best_fit.specs.Extents.{spans};
 ghost use Rattle.seg_types.specs.Commands.{NumNamed, NumUnique};
+ghost use Rattle.seg_types.specs.Keys.{key_seen};
 ghost use Rattle.seg_types.specs.Kinds.{class_code};
 ghost use Rattle.segment_c.specs.Calls.{IsAsked, IsClosed, IsStopped};
 ghost use Rattle.segment_c.specs.Codes.{answer_for};
@@ -13,12 +14,12 @@ ghost use Rattle.segment_manager.specs.Directory.{Directory, Object, live, named
 ghost use Rattle.segment_manager.specs.Instances.{IsInstance};
 ghost use Rattle.segment_manager.specs.State.{IsReply, StandsFor, State};
 
-use crate::codes::{CLOSED, DONE, SHORT_BUFFER, code_of};
+use crate::codes::{CLOSED, DONE, NOT_FOUND, OUT_OF_RANGE, SHORT_BUFFER, code_of};
 use crate::handle::{Handle, put, take};
 use crate::keys::ObjectKey;
 use block_tags::Role;
-use seg_types::{Class, Refusal};
-use segment_manager::Instance;
+use seg_types::{Class, Key, Refusal};
+use segment_manager::{Instance, Segment};
 use std::alloc::Global;
 
 /// What an object says of itself: how it is found again (0 by its handle alone, 1 by its name, 2 as the one of its kind), the code of
@@ -71,6 +72,40 @@ impl Info {
     }
 }
 
+/// The same of the object of a key.
+fn tell_key(segment: &Segment, key: &Key, info: &mut Info, name: &mut [u8]) -> u32
+    ensures told { TellsOf segment.now (λ d. object_at d (key_seen key.now)) 6 info.new name.old name.new result }
+    ensures kept { 1 ≤ result → (info.new ≡ info.old) × (name.new ≡ name.old) }
+{
+    match segment.instance(key) {
+        Ok(said) => tell(&said, info, name),
+        Err(_) => NOT_FOUND,
+    }
+}
+
+/// The same of the object with a name that has `index` others before it.
+fn tell_named(segment: &Segment, index: u64, info: &mut Info, name: &mut [u8]) -> u32
+    ensures told { TellsOf segment.now (λ d. slice_get (named_objects d) index) 8 info.new name.old name.new result }
+    ensures kept { 1 ≤ result → (info.new ≡ info.old) × (name.new ≡ name.old) }
+{
+    if index >= segment.num_named() {
+        return OUT_OF_RANGE;
+    }
+    tell(&segment.named_instance(index), info, name)
+}
+
+/// The same of the unique object that has `index` others before it, which has no name.
+fn tell_unique(segment: &Segment, index: u64, info: &mut Info) -> u32
+    ensures told { (d : Directory) → StandsFor segment.now.cut.bytes d → TellsAlone info.new result (slice_get (unique_objects d) index) }
+    ensures kept { 1 ≤ result → info.new ≡ info.old }
+{
+    if index >= segment.num_unique() {
+        return OUT_OF_RANGE;
+    }
+    *info = Info::of(&segment.unique_instance(index));
+    DONE
+}
+
 /// The code of how an object is found again.
 fn class_code(class: Class) -> u32
     ensures { result ≡ class_code class }
@@ -117,10 +152,7 @@ pub extern "C" fn zx_tell(
     let Some(segment) = take(alloc, h) else {
         return CLOSED;
     };
-    let code = match segment.instance(&which) {
-        Ok(said) => tell(&said, info, name),
-        Err(why) => code_of(why),
-    };
+    let code = tell_key(&segment, &which, info, name);
     put(h, segment);
     code
 }
@@ -142,11 +174,7 @@ pub extern "C" fn zx_named_at(
     let Some(segment) = take(alloc, h) else {
         return CLOSED;
     };
-    let code = if index < segment.num_named() {
-        tell(&segment.named_instance(index), info, name)
-    } else {
-        code_of(Refusal::OutOfRange)
-    };
+    let code = tell_named(&segment, index, info, name);
     put(h, segment);
     code
 }
@@ -162,12 +190,7 @@ pub extern "C" fn zx_unique_at(alloc: Global, h: &mut Handle, index: u64, info: 
     let Some(segment) = take(alloc, h) else {
         return CLOSED;
     };
-    let code = if index < segment.num_unique() {
-        *info = Info::of(&segment.unique_instance(index));
-        DONE
-    } else {
-        code_of(Refusal::OutOfRange)
-    };
+    let code = tell_unique(&segment, index, info);
     put(h, segment);
     code
 }

@@ -81,12 +81,7 @@ fn open_boxed(alloc: Global, image: &[u8], capacity: u64, mode: Mode) -> Result<
 /// # Errors
 ///
 /// The code.
-fn open_image(
-    alloc: Global,
-    image: &[u8],
-    region: RawRegion,
-    mode: Mode,
-) -> Result<Segment, u32>
+fn open_image(alloc: Global, image: &[u8], region: RawRegion, mode: Mode) -> Result<Segment, u32>
     requires { region ≡ zeros (length region) }
     ensures { MatchResult result (IsImageOpened image.now (length region) mode) (λ code. (1 ≤ code) × IsWhyNotOpened image.now (length region) code) }
 {

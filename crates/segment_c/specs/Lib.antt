@@ -1,6 +1,7 @@
 pub mod Calls
 pub mod Codes
 pub mod Destroying
+pub mod Growing
 pub mod Held
 pub mod Images
 pub mod Lists

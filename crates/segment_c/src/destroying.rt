@@ -38,7 +38,7 @@ pub extern "C" fn zx_destroy(
     ensures kept { 1 ≤ result → h.new.value ≡ h.old.value }
     ensures results { 1 ≤ result → was_there.new ≡ was_there.old }
 {
-    let which = match doomed(key) {
+    let which = match read_doomed(key) {
         Ok(it) => it,
         Err(code) => return code,
     };
@@ -74,7 +74,7 @@ fn destroy(segment: &mut Segment, which: Doomed<'_>, was_there: &mut bool) -> u3
 /// # Errors
 ///
 /// The code by which the key is refused.
-fn doomed<'a>(key: &ObjectKey<'a>) -> Result<Doomed<'a>, u32>
+fn read_doomed<'a>(key: &ObjectKey<'a>) -> Result<Doomed<'a>, u32>
     ensures { MatchResult result (λ which. (key_wrong key.now ≡ 0) × (doomed_command which ≡ destroy_command (key_of key.now))) (λ code. (code ≡ key_wrong key.now) × (1 ≤ code)) }
 {
     match key.how {

@@ -5,6 +5,7 @@
 mod codes;
 mod destroying;
 mod elements;
+mod growing;
 mod handle;
 mod images;
 mod keys;

@@ -1,13 +1,13 @@
 //! Segments that become longer or shorter, and that move into other regions.
-ghost use Rattle.std.specs.Prelude.{◌≡◌, ◌<◌, ◌≤◌, ◌⊎◌, IfErr, MatchResult, length};
+ghost use Rattle.std.specs.Prelude.{◌≡◌, ◌<◌, ◌≤◌, ◌⊎◌, MatchResult, length};
 ghost use Rattle.std.specs.declared.option.Option.TheVariants.{Some};
 ghost use Rattle.raw_region.specs.Regions.{IsCapacity};
 ghost use Rattle.segment_c.specs.Calls.{IsClosed, IsStopped, Opened};
 ghost use Rattle.segment_c.specs.Opening.{capacity_wrong};
 ghost use Rattle.segment_c.specs.Resizing.{IsMoved, size_code};
-ghost use Rattle.grow_shrink.specs.Resized.{growth_refusal, room_of, shrink_refusal};
+ghost use Rattle.grow_shrink.specs.Resized.{shrink_refusal};
 ghost use Rattle.segment_manager.specs.Directory.{Directory};
-ghost use Rattle.segment_manager.specs.Resized.{Resizes, grown, shrunk};
+ghost use Rattle.segment_manager.specs.Resized.{Resizes, shrunk};
 ghost use Rattle.segment_manager.specs.State.{StandsFor, State};
 
 use crate::codes::{
@@ -21,34 +21,6 @@ use std::alloc::Global;
 
 /// The most bytes of a region.
 const LARGEST_REGION: u64 = 1 << 40;
-
-/// Makes the segment longer by `extra` bytes of its region, which are free.
-#[unsafe(no_mangle)]
-pub extern "C" fn zx_grow(alloc: Global, h: &mut Handle, extra: u64) -> u32
-    ensures closed { IsClosed 0 result h.old.value h.new.value }
-    ensures code { (s : State) → h.old.value ≡ Some s → (d : Directory) → StandsFor s.cut.bytes d → result ≡ size_code (growth_refusal s.mode d.size extra (room_of s.cut)) }
-    ensures grown { (s : State) → h.old.value ≡ Some s → result ≡ 0 → Opened h.new.value (λ t. Resizes s t (λ d. grown d extra)) }
-    ensures kept { 1 ≤ result → h.new.value ≡ h.old.value }
-{
-    let Some(mut segment) = take(alloc, h) else {
-        return CLOSED;
-    };
-    let code = grow(&mut segment, extra);
-    put(h, segment);
-    code
-}
-
-/// The same of a segment.
-fn grow(segment: &mut Segment, extra: u64) -> u32
-    ensures code { (d : Directory) → StandsFor segment.old.cut.bytes d → result ≡ size_code (growth_refusal segment.old.mode d.size extra (room_of segment.old.cut)) }
-    ensures grown { result ≡ 0 → Resizes segment.old segment.new (λ d. grown d extra) }
-    ensures kept { 1 ≤ result → segment.new ≡ segment.old }
-{
-    match grow_shrink::grow(segment, extra) {
-        Ok(()) => DONE,
-        Err(why) => code_of_growth(why),
-    }
-}
 
 /// Makes the segment as short as its last block lets it be.
 #[unsafe(no_mangle)]

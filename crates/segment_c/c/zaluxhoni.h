@@ -5,8 +5,8 @@
    - One call at a time on one handle, and all of them on one thread.
    - A pointer to a handle, a key, a value or a result is not null, and what stands there may be read (and written, where it
      is no const). What is written through one pointer overlaps nothing else that the call is given.
-   - A slice is a pointer and how many elements are there. A null one is answered by ZX_NULL_SLICE, also where it is empty:
-     functions that take a slice are macros too, which look; so write no argument of them that has an effect.
+   - A slice is a pointer and how many elements are there. A null one is answered by ZX_NULL_SLICE, also where it is empty,
+     and so is a null text among several: the names of calls that take a slice are macros for functions of this header that look.
    - Names and texts are bytes: UTF-8 in names, and anything in texts. No byte 0 ends them.
 
    Each call answers a code. 0 is done. With any other code nothing has changed: neither the segment (but for bytes of gaps
@@ -372,31 +372,97 @@ zx_code zx_all_deallocated(zx_segment *segment, bool *is_empty);
 /* The words for a code, which are there as long as the program runs and end with no byte 0; empty where it is none of these. */
 void zx_words(zx_code code, zx_text *words);
 
-/* ---- null slices, which are looked for here */
+/* ---- null slices, which are looked for here: a call of such a name is a call of the function behind it */
 
-#define zx_or_null(slice, call) ((slice) ? (call) : (zx_code)ZX_NULL_SLICE)
-#define zx_open(segment, image, len, capacity, mode) zx_or_null(image, zx_open(segment, image, len, capacity, mode))
-#define zx_check(image, len) zx_or_null(image, zx_check(image, len))
-#define zx_save(segment, image, room) zx_or_null(image, zx_save(segment, image, room))
-#define zx_construct_string(segment, key, text, len, handle) \
-    zx_or_null(text, zx_construct_string(segment, key, text, len, handle))
-#define zx_construct_strings(segment, key, texts, count, handle) \
-    zx_or_null(texts, zx_construct_strings(segment, key, texts, count, handle))
-#define zx_find_or_construct_string(segment, key, text, len, handle, found) \
-    zx_or_null(text, zx_find_or_construct_string(segment, key, text, len, handle, found))
-#define zx_find_or_construct_strings(segment, key, texts, count, handle, found) \
-    zx_or_null(texts, zx_find_or_construct_strings(segment, key, texts, count, handle, found))
-#define zx_tell(segment, key, info, name, room) zx_or_null(name, zx_tell(segment, key, info, name, room))
-#define zx_read_string(segment, key, text, room, len) zx_or_null(text, zx_read_string(segment, key, text, room, len))
-#define zx_assign_string(segment, key, text, len) zx_or_null(text, zx_assign_string(segment, key, text, len))
-#define zx_append(segment, key, text, len) zx_or_null(text, zx_append(segment, key, text, len))
-#define zx_read_text(segment, key, index, text, room, len) \
-    zx_or_null(text, zx_read_text(segment, key, index, text, room, len))
-#define zx_set_text(segment, key, index, text, len) zx_or_null(text, zx_set_text(segment, key, index, text, len))
-#define zx_push_text(segment, key, text, len) zx_or_null(text, zx_push_text(segment, key, text, len))
-#define zx_insert_text(segment, key, index, text, len) zx_or_null(text, zx_insert_text(segment, key, index, text, len))
-#define zx_assign_texts(segment, key, texts, count) zx_or_null(texts, zx_assign_texts(segment, key, texts, count))
-#define zx_named_at(segment, index, info, name, room) zx_or_null(name, zx_named_at(segment, index, info, name, room))
+static inline bool zx_are_there(const zx_text *texts, size_t count) {
+    if (!texts) return false;
+    for (size_t i = 0; i < count; i++)
+        if (!texts[i].at) return false;
+    return true;
+}
+
+static inline zx_code zx_open_or_null(zx_segment *segment, const uint8_t *image, size_t len, uint64_t capacity,
+                                      uint32_t mode) {
+    return image ? zx_open(segment, image, len, capacity, mode) : (zx_code)ZX_NULL_SLICE;
+}
+static inline zx_code zx_check_or_null(const uint8_t *image, size_t len) {
+    return image ? zx_check(image, len) : (zx_code)ZX_NULL_SLICE;
+}
+static inline zx_code zx_save_or_null(zx_segment *segment, uint8_t *image, size_t room) {
+    return image ? zx_save(segment, image, room) : (zx_code)ZX_NULL_SLICE;
+}
+static inline zx_code zx_construct_string_or_null(zx_segment *segment, const zx_key *key, const uint8_t *text,
+                                                  size_t len, uint64_t *handle) {
+    return text ? zx_construct_string(segment, key, text, len, handle) : (zx_code)ZX_NULL_SLICE;
+}
+static inline zx_code zx_construct_strings_or_null(zx_segment *segment, const zx_key *key, const zx_text *texts,
+                                                   size_t count, uint64_t *handle) {
+    return zx_are_there(texts, count) ? zx_construct_strings(segment, key, texts, count, handle) : (zx_code)ZX_NULL_SLICE;
+}
+static inline zx_code zx_find_or_construct_string_or_null(zx_segment *segment, const zx_key *key, const uint8_t *text,
+                                                          size_t len, uint64_t *handle, uint32_t *found) {
+    return text ? zx_find_or_construct_string(segment, key, text, len, handle, found) : (zx_code)ZX_NULL_SLICE;
+}
+static inline zx_code zx_find_or_construct_strings_or_null(zx_segment *segment, const zx_key *key, const zx_text *texts,
+                                                           size_t count, uint64_t *handle, uint32_t *found) {
+    return zx_are_there(texts, count) ? zx_find_or_construct_strings(segment, key, texts, count, handle, found) : (zx_code)ZX_NULL_SLICE;
+}
+static inline zx_code zx_tell_or_null(zx_segment *segment, const zx_key *key, zx_info *info, uint8_t *name,
+                                      size_t room) {
+    return name ? zx_tell(segment, key, info, name, room) : (zx_code)ZX_NULL_SLICE;
+}
+static inline zx_code zx_read_string_or_null(zx_segment *segment, const zx_key *key, uint8_t *text, size_t room,
+                                             uint64_t *len) {
+    return text ? zx_read_string(segment, key, text, room, len) : (zx_code)ZX_NULL_SLICE;
+}
+static inline zx_code zx_assign_string_or_null(zx_segment *segment, const zx_key *key, const uint8_t *text,
+                                               size_t len) {
+    return text ? zx_assign_string(segment, key, text, len) : (zx_code)ZX_NULL_SLICE;
+}
+static inline zx_code zx_append_or_null(zx_segment *segment, const zx_key *key, const uint8_t *text, size_t len) {
+    return text ? zx_append(segment, key, text, len) : (zx_code)ZX_NULL_SLICE;
+}
+static inline zx_code zx_read_text_or_null(zx_segment *segment, const zx_key *key, uint64_t index, uint8_t *text,
+                                           size_t room, uint64_t *len) {
+    return text ? zx_read_text(segment, key, index, text, room, len) : (zx_code)ZX_NULL_SLICE;
+}
+static inline zx_code zx_set_text_or_null(zx_segment *segment, const zx_key *key, uint64_t index, const uint8_t *text,
+                                          size_t len) {
+    return text ? zx_set_text(segment, key, index, text, len) : (zx_code)ZX_NULL_SLICE;
+}
+static inline zx_code zx_push_text_or_null(zx_segment *segment, const zx_key *key, const uint8_t *text, size_t len) {
+    return text ? zx_push_text(segment, key, text, len) : (zx_code)ZX_NULL_SLICE;
+}
+static inline zx_code zx_insert_text_or_null(zx_segment *segment, const zx_key *key, uint64_t index,
+                                             const uint8_t *text, size_t len) {
+    return text ? zx_insert_text(segment, key, index, text, len) : (zx_code)ZX_NULL_SLICE;
+}
+static inline zx_code zx_assign_texts_or_null(zx_segment *segment, const zx_key *key, const zx_text *texts,
+                                              size_t count) {
+    return zx_are_there(texts, count) ? zx_assign_texts(segment, key, texts, count) : (zx_code)ZX_NULL_SLICE;
+}
+static inline zx_code zx_named_at_or_null(zx_segment *segment, uint64_t index, zx_info *info, uint8_t *name,
+                                          size_t room) {
+    return name ? zx_named_at(segment, index, info, name, room) : (zx_code)ZX_NULL_SLICE;
+}
+
+#define zx_open zx_open_or_null
+#define zx_check zx_check_or_null
+#define zx_save zx_save_or_null
+#define zx_construct_string zx_construct_string_or_null
+#define zx_construct_strings zx_construct_strings_or_null
+#define zx_find_or_construct_string zx_find_or_construct_string_or_null
+#define zx_find_or_construct_strings zx_find_or_construct_strings_or_null
+#define zx_tell zx_tell_or_null
+#define zx_read_string zx_read_string_or_null
+#define zx_assign_string zx_assign_string_or_null
+#define zx_append zx_append_or_null
+#define zx_read_text zx_read_text_or_null
+#define zx_set_text zx_set_text_or_null
+#define zx_push_text zx_push_text_or_null
+#define zx_insert_text zx_insert_text_or_null
+#define zx_assign_texts zx_assign_texts_or_null
+#define zx_named_at zx_named_at_or_null
 
 #ifdef __cplusplus
 }

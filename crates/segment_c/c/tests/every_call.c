@@ -588,6 +588,7 @@ static void what_is_passed_wrongly(void) {
     uint64_t handle = 0, size = 77;
     uint32_t count = 0;
     uint8_t name[255];
+    zx_text texts[2] = { text_of("a"), text_of("b") };
     char longest[257];
     memset(longest, 'n', 256);
     longest[256] = 0;
@@ -631,6 +632,9 @@ static void what_is_passed_wrongly(void) {
     IS(zx_push_text(&s, &a, NULL, 0), ZX_NULL_SLICE);
     IS(zx_insert_text(&s, &a, 0, NULL, 0), ZX_NULL_SLICE);
     IS(zx_assign_texts(&s, &a, NULL, 0), ZX_NULL_SLICE);
+    texts[1].at = NULL;
+    IS(zx_construct_strings(&s, &a, texts, 2, &handle), ZX_NULL_SLICE);
+    IS(zx_assign_texts(&s, &a, texts, 2), ZX_NULL_SLICE);
     zx_close(&s);
     zx_close(&s);
 }

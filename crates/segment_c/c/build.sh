@@ -1,0 +1,46 @@
+#!/usr/bin/env bash
+# build.sh [--archive FILE] [FOLDER]: makes the library for C, C++ and Python in a folder, `out` beside this script
+# where none is given: the archive libzaluxhoni.a, the shared object libzaluxhoni.so, both headers, the module for
+# Python, and the examples, ready to run. `rt lib` proves the crate and all below it first, unless it is given the
+# archive that `rt lib` made. It needs a C and a C++ compiler for Linux; CC, CXX and AR say which.
+set -euo pipefail
+here=$(cd "$(dirname "$0")" && pwd)
+crate=$(dirname "$here")
+folder=$here/out
+archive=
+while [ $# -gt 0 ]; do
+    case $1 in
+        --archive) archive=$(realpath "$2") && shift 2 ;;
+        *) folder=$1 && shift ;;
+    esac
+done
+if [ -z "$archive" ]; then
+    (cd "$crate" && rt lib)
+    archive=$crate/out/libsegment_c.a
+fi
+cc=${CC:-gcc} cxx=${CXX:-g++} ar=${AR:-ar}
+
+mkdir -p "$folder"
+cd "$folder"
+cp "$here/zaluxhoni.h" "$here/zaluxhoni.hpp" "$here/zaluxhoni.py" .
+
+"$cc" -std=c11 -O2 -fPIC -Wall -Wextra -fvisibility=hidden -c -o heap.o "$here/heap.c"
+cp "$archive" libzaluxhoni.a
+chmod u+w libzaluxhoni.a
+"$ar" rs libzaluxhoni.a heap.o
+
+# the shared object shows the calls of the header and nothing else
+printf '{ global: zx_*; local: *; };\n' > shown.map
+"$cc" -shared -o libzaluxhoni.so -Wl,-soname,libzaluxhoni.so -Wl,--version-script=shown.map \
+    -Wl,--whole-archive libzaluxhoni.a -Wl,--no-whole-archive
+rm heap.o shown.map
+
+for file in "$here"/examples/*; do
+    name=$(basename "$file")
+    case $name in
+        *.c) "$cc" -std=c11 -O2 -Wall -Wextra -I . -o "${name%.c}_c" "$file" libzaluxhoni.a ;;
+        *.cpp) "$cxx" -std=c++17 -O2 -Wall -Wextra -I . -o "${name%.cpp}_cpp" "$file" libzaluxhoni.a ;;
+        *.py) cp "$file" . ;;
+    esac
+done
+echo "made in $folder: libzaluxhoni.a libzaluxhoni.so zaluxhoni.h zaluxhoni.hpp zaluxhoni.py, and examples"

@@ -1,0 +1,44 @@
+"""counted.py HEADER NAMES: writes a library in C to standard output that stands before another one, which
+LIBRARY_BEHIND names: it has each call that the header declares, hands it on, and adds its name to the file that CALLED
+names when the program ends. The names that the header declares go to the file NAMES."""
+import re
+import sys
+
+header, names = sys.argv[1:]
+with open(header) as file:
+    text = re.sub(r"/\*.*?\*/", "", file.read(), flags=re.DOTALL)
+calls = re.findall(r"^(zx_code|void) (zx_\w+)\(([^()]*)\);", text, flags=re.MULTILINE)
+print("""#define _GNU_SOURCE
+#include "zaluxhoni.h"
+#include <dlfcn.h>
+#include <stdio.h>
+#include <stdlib.h>
+
+static void *behind(const char *name) {
+    static void *library;
+    if (!library) library = dlopen(getenv("LIBRARY_BEHIND"), RTLD_NOW | RTLD_LOCAL);
+    void *at = library ? dlsym(library, name) : 0;
+    if (!at) exit(98);
+    return at;
+}
+""")
+for answer, name, parameters in calls:
+    passed = ", ".join(re.search(r"(\w+)$", each.strip())[1] for each in parameters.split(","))
+    print(f"""#undef {name}
+static int {name}_called;
+{answer} {name}({parameters}) {{
+    static {answer} (*call)({parameters});
+    if (!call) *(void **)&call = behind("{name}");
+    {name}_called = 1;
+    {'' if answer == 'void' else 'return '}call({passed});
+}}
+""")
+print("""__attribute__((destructor)) static void tell(void) {
+    FILE *file = fopen(getenv("CALLED"), "a");
+    if (!file) return;""")
+for _, name, _ in calls:
+    print(f'    if ({name}_called) fputs("{name}\\n", file);')
+print("""    fclose(file);
+}""")
+with open(names, "w") as file:
+    file.write("".join(sorted(f"{name}\n" for _, name, _ in calls)))

@@ -1,0 +1,681 @@
+/* Every call of zaluxhoni.h, on the worked examples of docs/LANGUAGE.md, section 11, and on what a call refuses. The
+   images that it makes are saved in the folder that is its one argument. */
+#include "zaluxhoni.h"
+
+#include <inttypes.h>
+#include <stdio.h>
+#include <stdlib.h>
+#include <string.h>
+
+static const char *folder;
+static int checks, wrong;
+
+static void is_number(int line, const char *what, int64_t got, int64_t wanted) {
+    checks++;
+    if (got == wanted) return;
+    wrong++;
+    printf("every_call.c:%d: WRONG %s: %" PRId64 ", not %" PRId64 "\n", line, what, got, wanted);
+}
+
+static void is_text(int line, const char *what, const void *got, size_t len, const char *wanted) {
+    checks++;
+    if (len == strlen(wanted) && memcmp(got, wanted, len) == 0) return;
+    wrong++;
+    printf("every_call.c:%d: WRONG %s: '%.*s', not '%s'\n", line, what, (int)len, (const char *)got, wanted);
+}
+
+#define IS(got, wanted) is_number(__LINE__, #got, (int64_t)(got), (int64_t)(wanted))
+#define DONE(call) IS(call, ZX_DONE)
+#define TEXT(got, len, wanted) is_text(__LINE__, #got, got, len, wanted)
+
+static const uint8_t *bytes(const char *text) { return (const uint8_t *)text; }
+static zx_text text_of(const char *text) {
+    zx_text passed = { bytes(text), strlen(text) };
+    return passed;
+}
+
+/* ---- answers of one call, or -1000 and the code behind it */
+
+static int64_t refused(zx_code code) { return -1000 - (int64_t)code; }
+#define REFUSED(code) refused(code)
+
+static int64_t made(zx_segment *s, zx_key key, uint32_t count, zx_value value) {
+    uint64_t handle = 0;
+    zx_code code = zx_construct(s, &key, count, &value, &handle);
+    return code ? refused(code) : (int64_t)handle;
+}
+
+static int64_t made_vector(zx_segment *s, zx_key key, zx_values values) {
+    uint64_t handle = 0;
+    zx_code code = zx_construct_vector(s, &key, &values, &handle);
+    return code ? refused(code) : (int64_t)handle;
+}
+
+static int64_t made_string(zx_segment *s, zx_key key, const char *text) {
+    uint64_t handle = 0;
+    zx_code code = zx_construct_string(s, &key, bytes(text), strlen(text), &handle);
+    return code ? refused(code) : (int64_t)handle;
+}
+
+static int64_t made_map(zx_segment *s, zx_key key, uint32_t keys, uint32_t values) {
+    uint64_t handle = 0;
+    zx_code code = zx_construct_map(s, &key, keys, values, &handle);
+    return code ? refused(code) : (int64_t)handle;
+}
+
+static int64_t found(zx_segment *s, zx_key key, uint32_t kind, uint32_t count_wanted) {
+    uint64_t handle = 0;
+    uint32_t count = 0;
+    zx_code code = zx_find(s, &key, kind, &handle, &count);
+    if (!code) IS(count, count_wanted);
+    return code ? refused(code) : (int64_t)handle;
+}
+
+static int64_t free_bytes(zx_segment *s) {
+    uint64_t bytes = 0;
+    zx_code code = zx_free_bytes(s, &bytes);
+    return code ? refused(code) : (int64_t)bytes;
+}
+
+static int64_t number_at(zx_segment *s, zx_key key, uint64_t index, uint32_t kind) {
+    zx_value value = { 0, 0, 0 };
+    zx_code code = zx_get(s, &key, index, &value);
+    if (code) return refused(code);
+    IS(value.kind, kind);
+    return kind == ZX_I32 || kind == ZX_I64 ? value.number : (int64_t)value.natural;
+}
+
+static int64_t places(zx_segment *s, zx_key key, uint64_t len_wanted) {
+    uint64_t len = 0, count = 0;
+    zx_code code = zx_measure(s, &key, &len, &count);
+    if (!code) IS(len, len_wanted);
+    return code ? refused(code) : (int64_t)count;
+}
+
+static zx_code set(zx_segment *s, zx_key key, uint64_t index, zx_value value) { return zx_set(s, &key, index, &value); }
+static zx_code push(zx_segment *s, zx_key key, zx_value value) { return zx_push(s, &key, &value); }
+
+static int64_t destroyed(zx_segment *s, zx_key key) {
+    bool was_there = false;
+    zx_code code = zx_destroy(s, &key, &was_there);
+    return code ? refused(code) : was_there;
+}
+
+static int64_t put(zx_segment *s, zx_key key, int64_t at, int64_t value) {
+    bool is_new = false;
+    zx_value k = zx_i64(at), v = zx_i64(value);
+    zx_code code = zx_map_put(s, &key, &k, &v, &is_new);
+    return code ? refused(code) : is_new;
+}
+
+static int64_t looked_up(zx_segment *s, zx_key key, int64_t at) {
+    zx_value k = zx_i64(at), value = { 0, 0, 0 };
+    zx_code code = zx_map_get(s, &key, &k, &value);
+    return code ? refused(code) : value.number;
+}
+
+static void is_string(int line, zx_segment *s, zx_key key, const char *wanted) {
+    uint8_t text[256];
+    uint64_t len = 0;
+    is_number(line, "zx_read_string", zx_read_string(s, &key, text, sizeof text, &len), ZX_DONE);
+    is_text(line, "the string", text, len, wanted);
+}
+
+static void is_text_at(int line, zx_segment *s, zx_key key, uint64_t index, const char *wanted) {
+    uint8_t text[256];
+    uint64_t len = 0;
+    is_number(line, "zx_read_text", zx_read_text(s, &key, index, text, sizeof text, &len), ZX_DONE);
+    is_text(line, "the text", text, len, wanted);
+}
+#define STRING(key, wanted) is_string(__LINE__, &s, key, wanted)
+#define TEXT_AT(key, index, wanted) is_text_at(__LINE__, &s, key, index, wanted)
+
+/* Saves the segment in the folder, checks the image, and opens it in its place. */
+static void reopen(zx_segment *s, const char *name, uint32_t mode) {
+    uint64_t size = 0;
+    DONE(zx_size(s, &size));
+    uint8_t *image = malloc(size);
+    char path[4096];
+    if (!image) exit(2);
+    IS(zx_save(s, image, size - 1), ZX_SHORT_BUFFER);
+    DONE(zx_save(s, image, size));
+    DONE(zx_check(image, size));
+    snprintf(path, sizeof path, "%s/c-%s.seg", folder, name);
+    FILE *file = fopen(path, "wb");
+    if (!file || fwrite(image, 1, size, file) != size || fclose(file)) exit(2);
+    DONE(zx_open(s, image, size, size + 1024, mode));
+    free(image);
+}
+
+/* ---- worked examples */
+
+static void an_anonymous_object(void) {
+    zx_segment s = ZX_CLOSED_HANDLE;
+    DONE(zx_create(&s, 1024));
+    IS(made(&s, zx_anonymous(), 1, zx_i64(5)), 144);
+    IS(number_at(&s, zx_handle(144), 0, ZX_I64), 5);
+    IS(free_bytes(&s), 832);
+    zx_close(&s);
+}
+
+static void names(void) {
+    zx_segment s = ZX_CLOSED_HANDLE;
+    zx_key a = zx_name("a");
+    zx_value nine = zx_i64(9);
+    zx_info info;
+    uint8_t name[255];
+    uint64_t handle = 0;
+    uint32_t count = 0;
+    DONE(zx_create(&s, 1024));
+    IS(made(&s, a, 1, zx_i64(5)), 192);
+    IS(free_bytes(&s), 784);
+    DONE(zx_tell(&s, &a, &info, name, sizeof name));
+    IS(info.found_by, ZX_IS_NAMED);
+    IS(info.kind, ZX_I64);
+    IS(info.count, 1);
+    IS(info.handle, 192);
+    TEXT(name, info.name_len, "a");
+    IS(zx_tell(&s, &a, &info, name, 0), ZX_SHORT_BUFFER);
+    IS(found(&s, a, ZX_I64, 1), 192);
+    IS(found(&s, a, ZX_U8, 1), REFUSED(ZX_WRONG_KIND));
+    IS(found(&s, zx_name("b"), ZX_I64, 1), REFUSED(ZX_ABSENT));
+    IS(made(&s, a, 1, zx_u8(1)), REFUSED(ZX_EXISTS));
+    DONE(zx_find_or_construct(&s, &a, 3, &nine, &handle, &count));
+    IS(handle, 192);
+    IS(count, 1);
+    IS(number_at(&s, a, 0, ZX_I64), 5);
+    reopen(&s, "names", ZX_WRITE);
+    IS(number_at(&s, a, 0, ZX_I64), 5);
+    IS(destroyed(&s, a), true);
+    IS(destroyed(&s, a), false);
+    IS(free_bytes(&s), 832);
+    zx_close(&s);
+}
+
+static void index_and_object_do_not_both_fit(void) {
+    zx_segment s = ZX_CLOSED_HANDLE;
+    DONE(zx_create(&s, 224));
+    IS(made(&s, zx_name("a"), 1, zx_i64(5)), REFUSED(ZX_NO_SPACE));
+    IS(free_bytes(&s), 80);
+    IS(made(&s, zx_anonymous(), 1, zx_i64(5)), 144);
+    IS(free_bytes(&s), 32);
+    zx_close(&s);
+}
+
+static void arrays(void) {
+    zx_segment s = ZX_CLOSED_HANDLE;
+    zx_key v = zx_name("v");
+    DONE(zx_create(&s, 1024));
+    IS(made(&s, v, 3, zx_i64(7)), 192);
+    for (uint64_t i = 0; i < 3; i++) IS(number_at(&s, v, i, ZX_I64), 7);
+    IS(free_bytes(&s), 768);
+    IS(made(&s, zx_name("x"), 1, zx_natural(ZX_U8, 300)), REFUSED(ZX_BAD_VALUE));
+    DONE(set(&s, v, 1, zx_i64(300)));
+    IS(number_at(&s, v, 1, ZX_I64), 300);
+    IS(number_at(&s, v, 3, ZX_I64), REFUSED(ZX_OUT_OF_RANGE));
+    IS(set(&s, v, 0, zx_bool(true)), ZX_WRONG_KIND);
+    IS(found(&s, v, ZX_I64, 3), 192);
+    reopen(&s, "arrays", ZX_WRITE);
+    IS(number_at(&s, v, 1, ZX_I64), 300);
+    zx_close(&s);
+}
+
+static void the_only_object_of_its_kind(void) {
+    zx_segment s = ZX_CLOSED_HANDLE;
+    zx_key only = zx_unique(ZX_U64);
+    zx_info info;
+    uint64_t count = 9;
+    bool is_empty = false;
+    uint8_t name[255];
+    DONE(zx_create(&s, 1024));
+    IS(made(&s, only, 1, zx_u64(9)), 192);
+    IS(made(&s, only, 1, zx_u64(1)), REFUSED(ZX_EXISTS));
+    IS(found(&s, only, ZX_U8, 1), REFUSED(ZX_WRONG_KIND));
+    DONE(zx_tell(&s, &only, &info, name, sizeof name));
+    IS(info.found_by, ZX_IS_UNIQUE);
+    IS(info.kind, ZX_U64);
+    IS(info.count, 1);
+    IS(info.name_len, 0);
+    IS(info.handle, 192);
+    DONE(zx_unique_at(&s, 0, &info));
+    IS(info.handle, 192);
+    IS(zx_unique_at(&s, 1, &info), ZX_OUT_OF_RANGE);
+    IS(destroyed(&s, only), true);
+    DONE(zx_num_unique(&s, &count));
+    IS(count, 0);
+    DONE(zx_all_deallocated(&s, &is_empty));
+    IS(is_empty, false);
+    DONE(zx_shrink_indexes(&s));
+    DONE(zx_all_deallocated(&s, &is_empty));
+    IS(is_empty, true);
+    zx_close(&s);
+}
+
+static void places_reserved_in_the_indexes(void) {
+    static const char *const listed[] = { "a", "b", "c", "d" };
+    zx_segment s = ZX_CLOSED_HANDLE;
+    uint64_t count = 0;
+    zx_info info;
+    uint8_t name[255];
+    DONE(zx_create(&s, 1024));
+    DONE(zx_reserve_named(&s, 5));
+    DONE(zx_reserve_unique(&s, 1));
+    for (uint64_t i = 0; i < 4; i++) IS(made(&s, zx_name(listed[i]), 1, zx_i64(1)), 240 + 48 * i);
+    DONE(zx_num_named(&s, &count));
+    IS(count, 4);
+    for (uint64_t i = 0; i < 4; i++) {
+        DONE(zx_named_at(&s, i, &info, name, sizeof name));
+        TEXT(name, info.name_len, listed[i]);
+        IS(info.kind, ZX_I64);
+        IS(info.count, 1);
+        IS(info.handle, 240 + 48 * i);
+    }
+    IS(zx_named_at(&s, 4, &info, name, sizeof name), ZX_OUT_OF_RANGE);
+    DONE(zx_shrink_indexes(&s));
+    IS(free_bytes(&s), 624);
+    DONE(zx_shrink_indexes(&s));
+    IS(free_bytes(&s), 640);
+    zx_close(&s);
+}
+
+static void best_fit(void) {
+    zx_segment s = ZX_CLOSED_HANDLE;
+    DONE(zx_create(&s, 1024));
+    for (int64_t i = 0; i < 4; i++) IS(made(&s, zx_anonymous(), 1, zx_i64(1)), 144 + 48 * i);
+    IS(destroyed(&s, zx_handle(144)), true);
+    IS(destroyed(&s, zx_handle(240)), true);
+    IS(made(&s, zx_anonymous(), 1, zx_i64(2)), 144);
+    IS(destroyed(&s, zx_handle(240)), REFUSED(ZX_NOT_FOUND));
+    zx_close(&s);
+}
+
+static void storage_is_lengthened_then_replaced(void) {
+    static const zx_tile wanted[] = { { 128, 48, ZX_INDEX },  { 176, 64, ZX_OBJECT },   { 240, 80, ZX_GAP },
+                                      { 320, 48, ZX_OBJECT }, { 368, 144, ZX_STORAGE }, { 512, 496, ZX_GAP } };
+    zx_segment s = ZX_CLOSED_HANDLE;
+    zx_key v = zx_name("v");
+    zx_tile tile;
+    DONE(zx_create(&s, 1024));
+    IS(made_vector(&s, v, zx_i64s((const int64_t[]){ 0 }, 0)), 192);
+    for (int64_t i = 1; i <= 5; i++) DONE(push(&s, v, zx_i64(i)));
+    IS(free_bytes(&s), 688);
+    IS(places(&s, v, 5), 8);
+    IS(made(&s, zx_anonymous(), 1, zx_i64(9)), 336);
+    for (int64_t i = 6; i <= 9; i++) DONE(push(&s, v, zx_i64(i)));
+    for (uint64_t i = 0; i < 6; i++) {
+        DONE(zx_tile_at(&s, i, &tile));
+        IS(tile.offset, wanted[i].offset);
+        IS(tile.len, wanted[i].len);
+        IS(tile.use, wanted[i].use);
+    }
+    IS(zx_tile_at(&s, 6, &tile), ZX_OUT_OF_RANGE);
+    reopen(&s, "storage", ZX_WRITE);
+    for (uint64_t i = 0; i < 9; i++) IS(number_at(&s, v, i, ZX_I64), i + 1);
+    zx_close(&s);
+}
+
+static void a_string_grows_and_shrinks(void) {
+    zx_segment s = ZX_CLOSED_HANDLE;
+    zx_key k = zx_name("s");
+    uint8_t text[17];
+    uint64_t len = 0;
+    DONE(zx_create(&s, 1024));
+    IS(made_string(&s, k, "ab"), 192);
+    DONE(zx_append(&s, &k, bytes("cdefg"), 5));
+    IS(places(&s, k, 7), 16);
+    IS(free_bytes(&s), 736);
+    DONE(zx_trim(&s, &k));
+    DONE(zx_append(&s, &k, bytes("0123456789"), 10));
+    IS(places(&s, k, 17), 17);
+    IS(free_bytes(&s), 720);
+    IS(number_at(&s, k, 0, ZX_U8), 97);
+    DONE(set(&s, k, 0, zx_u8(65)));
+    IS(number_at(&s, k, 17, ZX_U8), REFUSED(ZX_OUT_OF_RANGE));
+    IS(push(&s, k, zx_u8(97)), ZX_WRONG_KIND);
+    STRING(k, "Abcdefg0123456789");
+    IS(zx_read_string(&s, &k, text, 16, &len), ZX_SHORT_BUFFER);
+    IS(len, 17);
+    DONE(zx_read_string(&s, &k, text, 17, &len));
+    reopen(&s, "string", ZX_WRITE);
+    DONE(zx_assign_string(&s, &k, bytes("a\0b"), 3));
+    DONE(zx_read_string(&s, &k, text, 17, &len));
+    IS(len, 3);
+    IS(memcmp(text, "a\0b", 3), 0);
+    DONE(zx_clear(&s, &k));
+    STRING(k, "");
+    DONE(zx_trim(&s, &k));
+    IS(free_bytes(&s), 768);
+    zx_close(&s);
+}
+
+static void a_map(void) {
+    static const int64_t rising[] = { 1, 2, 3, 5, 6, 7 };
+    zx_segment s = ZX_CLOSED_HANDLE;
+    zx_key m = zx_name("m");
+    zx_value four = zx_i64(4), at = { 0, 0, 0 }, value = { 0, 0, 0 };
+    bool was_there = false;
+    DONE(zx_create(&s, 1024));
+    IS(made_map(&s, m, ZX_I64, ZX_I64), 192);
+    IS(zx_map_first(&s, &m, &at, &value), ZX_ABSENT);
+    for (int64_t i = 0, keys[] = { 4, 2, 6, 1, 3, 5, 7 }; i < 7; i++) IS(put(&s, m, keys[i], 10 * keys[i]), true);
+    DONE(zx_map_erase(&s, &m, &four, &was_there));
+    IS(was_there, true);
+    DONE(zx_map_erase(&s, &m, &four, &was_there));
+    IS(was_there, false);
+    IS(places(&s, m, 6), 0);
+    reopen(&s, "map", ZX_WRITE);
+    DONE(zx_map_first(&s, &m, &at, &value));
+    for (int i = 0; i < 6; i++) {
+        IS(at.kind, ZX_I64);
+        IS(at.number, rising[i]);
+        IS(value.number, 10 * rising[i]);
+        zx_value after = at;
+        IS(zx_map_next(&s, &m, &after, &at, &value), i < 5 ? ZX_DONE : ZX_ABSENT);
+    }
+    IS(free_bytes(&s), 480);
+    IS(put(&s, m, 1, 11), false);
+    IS(looked_up(&s, m, 1), 11);
+    IS(looked_up(&s, m, 4), REFUSED(ZX_ABSENT));
+    zx_close(&s);
+}
+
+static void refusals_of_a_vector(void) {
+    zx_segment s = ZX_CLOSED_HANDLE;
+    zx_key w = zx_name("w");
+    zx_value nine = zx_i32(9), last = { 0, 0, 0 };
+    zx_values two = zx_i32s((const int32_t[]){ 5, -6 }, 2);
+    DONE(zx_create(&s, 1024));
+    IS(made_vector(&s, w, zx_i32s((const int32_t[]){ 1, 2, 3 }, 3)), 192);
+    DONE(zx_insert(&s, &w, 1, &nine));
+    IS(places(&s, w, 4), 6);
+    DONE(zx_erase(&s, &w, 0));
+    DONE(zx_pop(&s, &w, &last));
+    IS(last.kind, ZX_I32);
+    IS(last.number, 3);
+    IS(number_at(&s, w, 5, ZX_I32), REFUSED(ZX_OUT_OF_RANGE));
+    IS(set(&s, w, 7, zx_bool(true)), ZX_WRONG_KIND);
+    IS(set(&s, w, 0, zx_i64(3000000000)), ZX_OUT_OF_RANGE);
+    IS(zx_append(&s, &w, bytes("x"), 1), ZX_WRONG_KIND);
+    IS(zx_reserve(&s, &w, 1000), ZX_NO_SPACE);
+    IS(places(&s, w, 2), 6);
+    IS(number_at(&s, w, 0, ZX_I32), 9);
+    IS(number_at(&s, w, 1, ZX_I32), 2);
+    DONE(zx_assign(&s, &w, &two));
+    IS(number_at(&s, w, 1, ZX_I32), -6);
+    DONE(zx_reserve(&s, &w, 8));
+    IS(places(&s, w, 2), 8);
+    DONE(zx_clear(&s, &w));
+    IS(places(&s, w, 0), 8);
+    IS(zx_pop(&s, &w, &last), ZX_OUT_OF_RANGE);
+    IS(zx_erase(&s, &w, 0), ZX_OUT_OF_RANGE);
+    zx_close(&s);
+}
+
+static void a_vector_of_strings(void) {
+    zx_segment s = ZX_CLOSED_HANDLE;
+    zx_key v = zx_name("v");
+    zx_text two[2] = { text_of("a"), text_of("bc") }, three[3] = { text_of("x"), text_of(""), text_of("z") };
+    zx_value five = zx_i64(5);
+    uint64_t handle = 0, len = 0;
+    uint8_t text[4];
+    DONE(zx_create(&s, 1024));
+    DONE(zx_construct_strings(&s, &v, two, 2, &handle));
+    IS(handle, 192);
+    IS(free_bytes(&s), 656);
+    DONE(zx_push_text(&s, &v, bytes("def"), 3));
+    IS(free_bytes(&s), 592);
+    TEXT_AT(v, 2, "def");
+    IS(zx_read_text(&s, &v, 2, text, 2, &len), ZX_SHORT_BUFFER);
+    IS(len, 3);
+    DONE(zx_pop_text(&s, &v));
+    IS(free_bytes(&s), 624);
+    DONE(zx_set_text(&s, &v, 0, bytes(""), 0));
+    IS(zx_set(&s, &v, 0, &five), ZX_WRONG_KIND);
+    TEXT_AT(v, 0, "");
+    TEXT_AT(v, 1, "bc");
+    IS(zx_read_text(&s, &v, 2, text, 4, &len), ZX_OUT_OF_RANGE);
+    reopen(&s, "texts", ZX_WRITE);
+    DONE(zx_insert_text(&s, &v, 0, bytes("first"), 5));
+    TEXT_AT(v, 0, "first");
+    TEXT_AT(v, 2, "bc");
+    DONE(zx_assign_texts(&s, &v, three, 3));
+    IS(places(&s, v, 3), 3);
+    TEXT_AT(v, 2, "z");
+    DONE(zx_assign_texts(&s, &v, three, 0));
+    IS(places(&s, v, 0), 3);
+    IS(zx_pop_text(&s, &v), ZX_OUT_OF_RANGE);
+    zx_close(&s);
+}
+
+/* ---- what the examples leave out */
+
+static void objects_found_or_made(void) {
+    zx_segment s = ZX_CLOSED_HANDLE;
+    zx_key v = zx_name("v"), t = zx_name("t"), l = zx_name("l"), m = zx_name("m");
+    zx_values one = zx_u8s((const uint8_t[]){ 200 }, 1), other = zx_u8s((const uint8_t[]){ 7, 8 }, 2);
+    zx_text texts[1] = { text_of("only") };
+    uint64_t first = 0, again = 0;
+    uint32_t count = 0;
+    DONE(zx_create(&s, 4096));
+    DONE(zx_find_or_construct_vector(&s, &v, &one, &first, &count));
+    DONE(zx_find_or_construct_vector(&s, &v, &other, &again, &count));
+    IS(again, first);
+    IS(count, 1);
+    IS(number_at(&s, v, 0, ZX_U8), 200);
+    DONE(zx_find_or_construct_string(&s, &t, bytes("text"), 4, &first, &count));
+    DONE(zx_find_or_construct_string(&s, &t, bytes("other"), 5, &again, &count));
+    IS(again, first);
+    STRING(t, "text");
+    DONE(zx_find_or_construct_strings(&s, &l, texts, 1, &first, &count));
+    DONE(zx_find_or_construct_strings(&s, &l, texts, 0, &again, &count));
+    IS(again, first);
+    TEXT_AT(l, 0, "only");
+    DONE(zx_find_or_construct_map(&s, &m, ZX_I64, ZX_I64, &first, &count));
+    IS(put(&s, m, 7, 70), true);
+    DONE(zx_find_or_construct_map(&s, &m, ZX_I64, ZX_I64, &again, &count));
+    IS(again, first);
+    IS(looked_up(&s, m, 7), 70);
+    IS(zx_find_or_construct_map(&s, &v, ZX_I64, ZX_I64, &again, &count), ZX_WRONG_KIND);
+    reopen(&s, "found", ZX_WRITE);
+    zx_close(&s);
+}
+
+static void every_kind_of_scalar(void) {
+    zx_segment s = ZX_CLOSED_HANDLE;
+    zx_key of[5] = { zx_name("b"), zx_name("u8"), zx_name("i32"), zx_name("i64"), zx_name("u64") };
+    zx_value most[5] = { zx_bool(true), zx_u8(255), zx_i32(INT32_MIN), zx_i64(INT64_MIN), zx_u64(UINT64_MAX) };
+    zx_value value = { 0, 0, 0 };
+    DONE(zx_create(&s, 4096));
+    for (uint32_t i = 0; i < 5; i++) {
+        IS(made(&s, of[i], 1, most[i]) > 0, true);
+        DONE(zx_get(&s, &of[i], 0, &value));
+        IS(value.kind, ZX_BOOL + i);
+        IS(value.number, most[i].number);
+        IS(value.natural == most[i].natural, true);
+    }
+    IS(set(&s, of[0], 0, zx_i64(1)), ZX_WRONG_KIND);
+    IS(set(&s, of[1], 0, zx_i64(256)), ZX_OUT_OF_RANGE);
+    IS(set(&s, of[1], 0, zx_i64(-1)), ZX_OUT_OF_RANGE);
+    IS(set(&s, of[4], 0, zx_i64(-1)), ZX_OUT_OF_RANGE);
+    IS(set(&s, of[3], 0, zx_u64(UINT64_MAX)), ZX_OUT_OF_RANGE);
+    DONE(set(&s, of[4], 0, zx_i64(5)));
+    IS(number_at(&s, of[4], 0, ZX_U64), 5);
+    IS(made_vector(&s, zx_name("v1"), zx_bools((const bool[]){ true, false }, 2)) > 0, true);
+    IS(number_at(&s, zx_name("v1"), 1, ZX_BOOL), 0);
+    IS(made_vector(&s, zx_name("v5"), zx_u64s((const uint64_t[]){ 1, 2 }, 2)) > 0, true);
+    IS(number_at(&s, zx_name("v5"), 1, ZX_U64), 2);
+    DONE(push(&s, zx_name("v1"), zx_bool(true)));
+    reopen(&s, "scalars", ZX_WRITE);
+    zx_close(&s);
+}
+
+static void size_and_region(void) {
+    zx_segment s = ZX_CLOSED_HANDLE;
+    uint64_t size = 0, left = 1;
+    bool is_whole = false;
+    DONE(zx_create(&s, 208));
+    IS(made(&s, zx_name("numbers"), 100, zx_i64(0)), REFUSED(ZX_NO_SPACE));
+    IS(zx_grow(&s, 0), ZX_BAD_GROWTH);
+    IS(zx_grow(&s, 16), ZX_BAD_GROWTH);
+    IS(zx_grow(&s, 33), ZX_BAD_GROWTH);
+    IS(zx_grow(&s, 1073741824), ZX_TOO_LARGE);
+    DONE(zx_grow(&s, 1024));
+    IS(made(&s, zx_name("numbers"), 100, zx_i64(0)) > 0, true);
+    DONE(zx_shrink(&s));
+    DONE(zx_size(&s, &size));
+    IS(size, 1040);
+    IS(zx_relocate(&s, 1024), ZX_SHORT_REGION);
+    IS(zx_relocate(&s, 1030), ZX_BAD_SIZE);
+    DONE(zx_relocate(&s, 2048));
+    DONE(zx_region_left(&s, &left));
+    IS(left, 1008);
+    IS(number_at(&s, zx_name("numbers"), 99, ZX_I64), 0);
+    DONE(zx_zero_free(&s));
+    DONE(zx_sanity(&s, &is_whole));
+    IS(is_whole, true);
+    reopen(&s, "grown", ZX_WRITE);
+    zx_close(&s);
+}
+
+static void modes(void) {
+    zx_segment s = ZX_CLOSED_HANDLE;
+    zx_key a = zx_name("a");
+    uint32_t mode = 9;
+    DONE(zx_create(&s, 1024));
+    DONE(zx_mode(&s, &mode));
+    IS(mode, ZX_WRITE);
+    IS(made(&s, a, 1, zx_i64(5)), 192);
+    reopen(&s, "modes", ZX_READ);
+    DONE(zx_mode(&s, &mode));
+    IS(mode, ZX_READ);
+    IS(set(&s, a, 0, zx_i64(6)), ZX_READ_ONLY);
+    IS(made(&s, zx_name("b"), 1, zx_i64(5)), REFUSED(ZX_READ_ONLY));
+    IS(destroyed(&s, a), REFUSED(ZX_READ_ONLY));
+    IS(zx_grow(&s, 32), ZX_READ_ONLY);
+    IS(zx_shrink(&s), ZX_READ_ONLY);
+    IS(zx_zero_free(&s), ZX_READ_ONLY);
+    IS(number_at(&s, a, 0, ZX_I64), 5);
+    reopen(&s, "modes", ZX_COPY_ON_WRITE);
+    DONE(set(&s, a, 0, zx_i64(6)));
+    IS(number_at(&s, a, 0, ZX_I64), 6);
+    zx_close(&s);
+}
+
+static void what_is_no_image(void) {
+    zx_segment s = ZX_CLOSED_HANDLE;
+    uint8_t image[1024];
+    DONE(zx_create(&s, 1024));
+    DONE(zx_save(&s, image, sizeof image));
+    IS(zx_check(bytes("this is no image"), 16), ZX_TRUNCATED);
+    IS(zx_open(&s, bytes("this is no image"), 16, 1024, ZX_WRITE), ZX_TRUNCATED);
+    IS(zx_open(&s, image, sizeof image, 1008, ZX_WRITE), ZX_SHORT_REGION);
+    IS(zx_open(&s, image, sizeof image, 1025, ZX_WRITE), ZX_BAD_SIZE);
+    IS(zx_open(&s, image, sizeof image, 1024, 3), ZX_BAD_MODE);
+    DONE(zx_open(&s, image, sizeof image, 1024, ZX_WRITE));
+    image[0] ^= 1;
+    IS(zx_check(image, sizeof image), ZX_BAD_MAGIC);
+    IS(zx_create(&s, 160), ZX_BAD_SIZE);
+    IS(zx_create(&s, 1073741840), ZX_BAD_SIZE);
+    zx_close(&s);
+}
+
+static void what_is_passed_wrongly(void) {
+    zx_segment s = ZX_CLOSED_HANDLE;
+    zx_key a = zx_name("a"), none = zx_anonymous();
+    zx_values no_values = zx_i64s(NULL, 2);
+    zx_value value = zx_i64(1);
+    zx_info info;
+    uint64_t handle = 0, size = 77;
+    uint32_t count = 0;
+    uint8_t name[255];
+    zx_text texts[2] = { text_of("a"), text_of("b") };
+    char longest[257];
+    memset(longest, 'n', 256);
+    longest[256] = 0;
+    IS(zx_size(&s, &size), ZX_CLOSED);
+    IS(size, 77);
+    IS(made(&s, a, 1, value), REFUSED(ZX_CLOSED));
+    IS(zx_open(&s, NULL, 1024, 1024, ZX_WRITE), ZX_NULL_SLICE);
+    zx_close(&s);
+    DONE(zx_create(&s, 4096));
+    IS(made(&s, zx_name(NULL), 1, value), REFUSED(ZX_NULL_SLICE));
+    IS(made(&s, zx_name(""), 1, value), REFUSED(ZX_BAD_NAME));
+    IS(made(&s, zx_name("\xff"), 1, value), REFUSED(ZX_BAD_NAME));
+    IS(made(&s, zx_name("a\n"), 1, value), REFUSED(ZX_BAD_NAME));
+    IS(made(&s, zx_name(longest), 1, value), REFUSED(ZX_BAD_NAME));
+    IS(made(&s, zx_name(longest + 1), 1, value) > 0, true);
+    IS(made(&s, zx_handle(144), 1, value), REFUSED(ZX_BAD_KEY));
+    IS(made(&s, zx_unique(99), 1, value), REFUSED(ZX_BAD_KIND));
+    IS(made(&s, zx_unique(ZX_U8), 1, value), REFUSED(ZX_BAD_KIND));
+    IS(made(&s, a, 0, value), REFUSED(ZX_BAD_COUNT));
+    IS(made(&s, a, 1048577, value), REFUSED(ZX_BAD_COUNT));
+    IS(made(&s, a, 1, zx_number(ZX_STRING, 1)), REFUSED(ZX_BAD_VALUE));
+    IS(made(&s, a, 1, zx_natural(ZX_BOOL, 2)), REFUSED(ZX_BAD_VALUE));
+    IS(made_vector(&s, a, no_values), REFUSED(ZX_NULL_SLICE));
+    IS(made_map(&s, a, ZX_I64, ZX_STRING), REFUSED(ZX_BAD_KIND));
+    IS(zx_find_or_construct(&s, &none, 1, &value, &handle, &count), ZX_BAD_KEY);
+    IS(zx_tell(&s, &none, &info, name, sizeof name), ZX_BAD_KEY);
+    IS(zx_tell(&s, &a, &info, name, sizeof name), ZX_NOT_FOUND);
+    IS(zx_construct_string(&s, &a, NULL, 1, &handle), ZX_NULL_SLICE);
+    IS(zx_construct_strings(&s, &a, NULL, 0, &handle), ZX_NULL_SLICE);
+    IS(zx_find_or_construct_string(&s, &a, NULL, 0, &handle, &count), ZX_NULL_SLICE);
+    IS(zx_find_or_construct_strings(&s, &a, NULL, 0, &handle, &count), ZX_NULL_SLICE);
+    IS(zx_check(NULL, 0), ZX_NULL_SLICE);
+    IS(zx_save(&s, NULL, 4096), ZX_NULL_SLICE);
+    IS(zx_tell(&s, &a, &info, NULL, 0), ZX_NULL_SLICE);
+    IS(zx_named_at(&s, 0, &info, NULL, 0), ZX_NULL_SLICE);
+    IS(zx_read_string(&s, &a, NULL, 0, &handle), ZX_NULL_SLICE);
+    IS(zx_assign_string(&s, &a, NULL, 0), ZX_NULL_SLICE);
+    IS(zx_append(&s, &a, NULL, 0), ZX_NULL_SLICE);
+    IS(zx_read_text(&s, &a, 0, NULL, 0, &handle), ZX_NULL_SLICE);
+    IS(zx_set_text(&s, &a, 0, NULL, 0), ZX_NULL_SLICE);
+    IS(zx_push_text(&s, &a, NULL, 0), ZX_NULL_SLICE);
+    IS(zx_insert_text(&s, &a, 0, NULL, 0), ZX_NULL_SLICE);
+    IS(zx_assign_texts(&s, &a, NULL, 0), ZX_NULL_SLICE);
+    texts[1].at = NULL;
+    IS(zx_construct_strings(&s, &a, texts, 2, &handle), ZX_NULL_SLICE);
+    IS(zx_assign_texts(&s, &a, texts, 2), ZX_NULL_SLICE);
+    zx_close(&s);
+    zx_close(&s);
+}
+
+static void words(void) {
+    static const char *const of[] = { "read only", "already exists", "not found", "wrong kind", "out of range", "no space" };
+    zx_text text;
+    for (zx_code code = ZX_READ_ONLY; code <= ZX_NO_SPACE; code++) {
+        zx_words(code, &text);
+        TEXT(text.at, text.len, of[code - ZX_READ_ONLY]);
+    }
+    for (zx_code code = ZX_TRUNCATED; code <= ZX_ORPHAN_BLOCK; code++) {
+        zx_words(code, &text);
+        IS(text.len > 0, true);
+    }
+    zx_words(1000, &text);
+    IS(text.len, 0);
+}
+
+int main(int count, char **arguments) {
+    if (count != 2) return 2;
+    folder = arguments[1];
+    an_anonymous_object();
+    names();
+    index_and_object_do_not_both_fit();
+    arrays();
+    the_only_object_of_its_kind();
+    places_reserved_in_the_indexes();
+    best_fit();
+    storage_is_lengthened_then_replaced();
+    a_string_grows_and_shrinks();
+    a_map();
+    refusals_of_a_vector();
+    a_vector_of_strings();
+    objects_found_or_made();
+    every_kind_of_scalar();
+    size_and_region();
+    modes();
+    what_is_no_image();
+    what_is_passed_wrongly();
+    words();
+    printf("every_call.c: %d checks, %d wrong\n", checks, wrong);
+    return wrong != 0;
+}

@@ -1,0 +1,526 @@
+/* Every call of zaluxhoni.hpp, and by it each of zaluxhoni.h, on the worked examples of docs/LANGUAGE.md, section 11,
+   and on what throws. The images that it makes are saved in the folder that is its one argument. */
+#include "zaluxhoni.hpp"
+
+#include <filesystem>
+#include <iostream>
+#include <sstream>
+#include <type_traits>
+
+using namespace std::string_literals;
+using zaluxhoni::key;
+using zaluxhoni::segment;
+using i32 = std::int32_t;
+using i64 = std::int64_t;
+using u8 = std::uint8_t;
+using u64 = std::uint64_t;
+
+namespace {
+
+std::string folder;
+int checks, wrong;
+
+template <class T> std::string shown(const T &value) {
+    std::ostringstream text;
+    if constexpr (std::is_same_v<T, u8>) text << +value;
+    else text << value;
+    return text.str();
+}
+
+template <class T, class U> void is(int line, const char *what, const T &got, const U &wanted) {
+    checks++;
+    if (got == static_cast<T>(wanted)) return;
+    wrong++;
+    std::cout << "every_call.cpp:" << line << ": WRONG " << what << ": " << shown(got) << ", not " << shown(wanted) << '\n';
+}
+
+template <class Error, class Call> void throws(int line, const char *what, Call call) {
+    checks++;
+    try {
+        call();
+    } catch (const Error &) {
+        return;
+    } catch (const std::exception &other) {
+        std::cout << "every_call.cpp:" << line << ": WRONG " << what << ": '" << other.what() << "'\n";
+        wrong++;
+        return;
+    }
+    wrong++;
+    std::cout << "every_call.cpp:" << line << ": WRONG " << what << ": no error\n";
+}
+
+#define IS(got, wanted) is(__LINE__, #got, got, wanted)
+#define THROWS(error, call) throws<zaluxhoni::error>(__LINE__, #call, [&] { (void)(call); })
+
+std::string path_of(const std::string &name) { return folder + "/cpp-" + name + ".seg"; }
+
+/// Saves the segment, checks its image, and opens its file.
+segment reopened(const segment &old, const std::string &name, zaluxhoni::mode mode = zaluxhoni::mode::write) {
+    IS(zaluxhoni::check_image(old.save()), u64{ZX_DONE});
+    old.save_file(path_of(name));
+    return segment::open_file(path_of(name), mode);
+}
+
+void an_anonymous_object() {
+    segment s = segment::create(1024);
+    IS(s.construct<i64>(key::anonymous(), 5), 144);
+    IS(s.get<i64>(key::by_handle(144)), 5);
+    IS(s.free_bytes(), 832);
+}
+
+void names() {
+    segment s = segment::create(1024);
+    IS(s.construct<i64>("a", 5), 192);
+    IS(s.free_bytes(), 784);
+    const zaluxhoni::info told = s.tell("a");
+    IS(told.found_by, ZX_IS_NAMED);
+    IS(told.name, "a"s);
+    IS(told.kind, ZX_I64);
+    IS(told.count, 1);
+    IS(told.handle, 192);
+    IS(s.find<i64>("a")->handle, 192);
+    IS(s.find<i64>("a"s)->count, 1);
+    THROWS(wrong_kind, s.find<u8>("a"));
+    IS(s.find<i64>(std::string_view("b")).has_value(), false);
+    THROWS(exists, s.construct<u8>("a", 1));
+    IS(s.find_or_construct<i64>("a", 9, 3).handle, 192);
+    IS(s.find_or_construct<i64>("a", 9, 3).count, 1);
+    IS(s.get<i64>("a"), 5);
+    s = reopened(s, "names");
+    IS(s.get<i64>("a"), 5);
+    IS(s.destroy("a"), true);
+    IS(s.destroy("a"), false);
+    IS(s.free_bytes(), 832);
+}
+
+/// The call fails with an error of the system.
+template <class Call> void fails(int line, Call call, std::errc wanted) {
+    checks++;
+    try {
+        call();
+    } catch (const std::system_error &error) {
+        if (error.code() == wanted) return;
+        std::cout << error.what() << '\n';
+    }
+    wrong++;
+    std::cout << "every_call.cpp:" << line << ": WRONG error of a file\n";
+}
+
+void files() {
+    const std::string path = path_of("file"), link = folder + "/cpp-link", beside = path + ".new";
+    std::filesystem::remove(path);
+    std::filesystem::remove(link);
+    segment s = segment::open_or_create_file(path, 1024);
+    s.construct<i64>("a", 5);
+    s.save_file(path);
+    IS(segment::open_or_create_file(path, 7).get<i64>("a"), 5);
+    std::filesystem::permissions(path, std::filesystem::perms::owner_read | std::filesystem::perms::owner_write);
+    std::filesystem::create_symlink(std::filesystem::path(path).filename(), link);
+    s.set<i64>("a", 0, 6);
+    s.save_file(link);
+    IS(std::filesystem::is_symlink(link), true);
+    IS(segment::open_file(path).get<i64>("a"), 6);
+    IS(static_cast<unsigned>(std::filesystem::status(path).permissions()), 0600u);
+    IS(std::filesystem::exists(beside), false);
+    // a folder stands in the place of the new file: it stays, and so does the old file
+    std::filesystem::create_directory(beside);
+    s.set<i64>("a", 0, 7);
+    fails(__LINE__, [&] { s.save_file(path); }, std::errc::is_a_directory);
+    IS(std::filesystem::exists(beside), true);
+    IS(segment::open_file(path).get<i64>("a"), 6);
+    std::filesystem::remove(beside);
+    std::filesystem::remove(link);
+    fails(__LINE__, [&] { s.save_file(folder + "/none/a.seg"); }, std::errc::no_such_file_or_directory);
+    fails(__LINE__, [&] { segment::open_file(path_of("none")); }, std::errc::no_such_file_or_directory);
+    fails(__LINE__, [&] { segment::open_file(folder); }, std::errc::is_a_directory);
+    fails(__LINE__, [&] { segment::open_or_create_file(folder, 1024); }, std::errc::is_a_directory);
+}
+
+void index_and_object_do_not_both_fit() {
+    segment s = segment::create(224);
+    THROWS(no_space, s.construct<i64>("a", 5));
+    IS(s.free_bytes(), 80);
+    IS(s.construct<i64>(key::anonymous(), 5), 144);
+    IS(s.free_bytes(), 32);
+}
+
+void arrays() {
+    segment s = segment::create(1024);
+    IS(s.construct<i64>("v", 7, 3), 192);
+    const zaluxhoni::array<i64> v = s.array<i64>("v");
+    IS(v.size(), 3);
+    for (const i64 each : v) IS(each, 7);
+    IS(s.free_bytes(), 768);
+    v[1] = 300;
+    IS(i64{v[1]}, 300);
+    IS(s.get<i64>("v", 1), 300);
+    THROWS(out_of_range, v.get(3));
+    THROWS(wrong_kind, s.set<bool>("v", 0, true));
+    THROWS(wrong_kind, s.get<u8>("v"));
+    THROWS(wrong_kind, s.array<u64>("v"));
+    s.construct_array<i32>("w", {1, -2});
+    IS(s.array<i32>("w").get(1), -2);
+    THROWS(bad_count, s.construct_array<i32>("x", {}));
+    THROWS(bad_count, s.construct<i32>("x", 0, 1048577));
+    s = reopened(s, "arrays");
+    IS(s.get<i64>("v", 1), 300);
+    IS(s.get<i32>("w", 1), -2);
+}
+
+void the_only_object_of_its_kind() {
+    segment s = segment::create(1024);
+    const key only = key::unique<u64>();
+    IS(s.construct<u64>(only, 9), 192);
+    THROWS(exists, s.construct<u64>(only, 1));
+    THROWS(wrong_kind, s.find<u8>(only));
+    IS(s.tell(only).found_by, ZX_IS_UNIQUE);
+    IS(s.tell(only).name, ""s);
+    IS(s.unique().size(), 1);
+    IS(s.unique().front().kind, ZX_U64);
+    IS(s.unique().front().handle, 192);
+    IS(s.destroy(only), true);
+    IS(s.num_unique(), 0);
+    IS(s.all_deallocated(), false);
+    s.shrink_indexes();
+    IS(s.all_deallocated(), true);
+}
+
+void places_reserved_in_the_indexes() {
+    segment s = segment::create(1024);
+    s.reserve_named(5);
+    s.reserve_unique(1);
+    u64 handle = 240;
+    for (const char *name : {"a", "b", "c", "d"}) {
+        IS(s.construct<i64>(name, 1), handle);
+        handle += 48;
+    }
+    IS(s.num_named(), 4);
+    const std::vector<zaluxhoni::info> listed = s.named();
+    IS(listed.size(), 4);
+    IS(listed[3].name, "d"s);
+    IS(listed[3].handle, 384);
+    IS(listed[3].count, 1);
+    s.shrink_indexes();
+    IS(s.free_bytes(), 624);
+    s.shrink_indexes();
+    IS(s.free_bytes(), 640);
+}
+
+void best_fit() {
+    segment s = segment::create(1024);
+    for (u64 handle = 144; handle <= 288; handle += 48) IS(s.construct<i64>(key::anonymous(), 1), handle);
+    IS(s.destroy(key::by_handle(144)), true);
+    IS(s.destroy(key::by_handle(240)), true);
+    IS(s.construct<i64>(key::anonymous(), 2), 144);
+    THROWS(not_found, s.destroy(key::by_handle(240)));
+}
+
+void storage_is_lengthened_then_replaced() {
+    const zx_tile wanted[] = {{128, 48, ZX_INDEX},  {176, 64, ZX_OBJECT},   {240, 80, ZX_GAP},
+                              {320, 48, ZX_OBJECT}, {368, 144, ZX_STORAGE}, {512, 496, ZX_GAP}};
+    segment s = segment::create(1024);
+    IS(s.construct_vector<i64>("v"), 192);
+    const zaluxhoni::vector<i64> v = s.vector<i64>("v");
+    for (i64 i = 1; i <= 5; i++) v.push_back(i);
+    IS(s.free_bytes(), 688);
+    IS(v.size(), 5);
+    IS(v.capacity(), 8);
+    IS(s.construct<i64>(key::anonymous(), 9), 336);
+    for (i64 i = 6; i <= 9; i++) v.push_back(i);
+    const std::vector<zx_tile> tiles = s.tiles();
+    IS(tiles.size(), 6);
+    for (std::size_t i = 0; i < tiles.size() && i < 6; i++) {
+        IS(tiles[i].offset, wanted[i].offset);
+        IS(tiles[i].len, wanted[i].len);
+        IS(tiles[i].use, wanted[i].use);
+    }
+    s = reopened(s, "storage");
+    IS((s.vector<i64>("v").to_vector() == std::vector<i64>{1, 2, 3, 4, 5, 6, 7, 8, 9}), true);
+}
+
+void a_string_grows_and_shrinks() {
+    segment s = segment::create(1024);
+    IS(s.construct_string("s", "ab"), 192);
+    zaluxhoni::string text = s.string("s");
+    text.append("cdefg");
+    IS(text.size(), 7);
+    IS(text.capacity(), 16);
+    IS(s.free_bytes(), 736);
+    text.shrink_to_fit();
+    text += "0123456789";
+    IS(text.size(), 17);
+    IS(text.capacity(), 17);
+    IS(s.free_bytes(), 720);
+    IS(text.get(0), 97);
+    text[0] = 65;
+    THROWS(out_of_range, text.get(17));
+    THROWS(wrong_kind, s.vector<u8>("s"));
+    IS(text.str(), "Abcdefg0123456789"s);
+    text.clear();
+    IS(text.str(), ""s);
+    text.shrink_to_fit();
+    IS(s.free_bytes(), 768);
+    const std::string longer(300, 'x');
+    THROWS(no_space, text.assign(std::string(2000, 'x')));
+    text.assign(longer);
+    s = reopened(s, "string");
+    text = s.string("s");
+    IS(text.str(), longer);
+    text.assign("a\0b"s);
+    IS(text.str(), "a\0b"s);
+    IS(std::string(text.begin(), text.end()), "a\0b"s);
+    text.assign({});
+    IS(text.empty(), true);
+    text.reserve(400);
+    IS(text.capacity(), 400);
+}
+
+void a_map() {
+    segment s = segment::create(1024);
+    IS((s.construct_map<i64, i64>("m")), 192);
+    zaluxhoni::map<i64, i64> m = s.map<i64, i64>("m");
+    IS(m.first().has_value(), false);
+    IS(m.begin() == m.end(), true);
+    for (const i64 at : {4, 2, 6, 1, 3, 5, 7}) IS(m.put(at, 10 * at), true);
+    IS(m.erase(4), true);
+    IS(m.erase(4), false);
+    IS(m.size(), 6);
+    s = reopened(s, "map");
+    m = s.map<i64, i64>("m");
+    std::string shown_pairs;
+    for (const auto &[at, value] : m) shown_pairs += shown(at) + "=" + shown(value) + " ";
+    IS(shown_pairs, "1=10 2=20 3=30 5=50 6=60 7=70 "s);
+    IS(m.next(3)->first, 5);
+    IS(m.next(7).has_value(), false);
+    IS(s.free_bytes(), 480);
+    IS(m.put(1, 11), false);
+    IS(m.at(1), 11);
+    IS(m.find(4).has_value(), false);
+    IS(m.contains(7), true);
+    THROWS(absent, m.at(4));
+    m[7] = 71;
+    IS(i64{m[7]}, 71);
+    IS((m.to_map() == std::map<i64, i64>{{1, 11}, {2, 20}, {3, 30}, {5, 50}, {6, 60}, {7, 71}}), true);
+    THROWS(wrong_kind, (s.map<i32, i64>("m")));
+}
+
+void refusals_of_a_vector() {
+    segment s = segment::create(1024);
+    IS(s.construct_vector<i32>("w", {1, 2, 3}), 192);
+    const zaluxhoni::vector<i32> w = s.vector<i32>("w");
+    w.insert(1, 9);
+    IS(w.size(), 4);
+    IS(w.capacity(), 6);
+    w.erase(0);
+    IS(w.pop_back(), 3);
+    THROWS(out_of_range, w.get(5));
+    THROWS(wrong_kind, s.set<bool>("w", 7, true));
+    THROWS(out_of_range, s.set<i64>("w", 0, 3000000000));
+    THROWS(wrong_kind, s.string("w"));
+    THROWS(no_space, w.reserve(1000));
+    IS((w.to_vector() == std::vector<i32>{9, 2}), true);
+    w.assign({5, -6, 7});
+    w.set(2, w[0]);
+    IS((w.to_vector() == std::vector<i32>{5, -6, 5}), true);
+    const std::vector<i32> list{8};
+    w.assign(list);
+    IS(w.size(), 1);
+#if __cplusplus >= 202002L
+    w.assign(std::span<const i32>(list));
+    IS(w.size(), 1);
+#endif
+    const i32 array[] = {1, 2};
+    w.assign(array);
+    IS(w.size(), 2);
+    w.shrink_to_fit();
+    IS(w.capacity(), 2);
+    w.clear();
+    IS(w.empty(), true);
+    w.assign(std::vector<i32>());
+    THROWS(out_of_range, w.pop_back());
+}
+
+void a_vector_of_strings() {
+    segment s = segment::create(1024);
+    IS(s.construct_strings("v", {"a", "bc"}), 192);
+    IS(s.free_bytes(), 656);
+    const zaluxhoni::strings v = s.strings("v");
+    v.push_back("def");
+    IS(s.free_bytes(), 592);
+    IS(v.pop_back(), "def"s);
+    IS(s.free_bytes(), 624);
+    v.set(0, "");
+    THROWS(wrong_kind, s.set<i64>("v", 0, 5));
+    IS((v.to_vector() == std::vector<std::string>{"", "bc"}), true);
+    v.insert(0, "first");
+    v[1] = std::string(300, 'y');
+    IS(v.get(1), std::string(300, 'y'));
+    v.erase(1);
+    s = reopened(s, "texts");
+    const zaluxhoni::strings again = s.strings("v");
+    IS((again.to_vector() == std::vector<std::string>{"first", "bc"}), true);
+    again.assign({"x", "", "z"});
+    IS(again.size(), 3);
+    IS(again.capacity(), 3);
+    again.reserve(4);
+    again.shrink_to_fit();
+    again.clear();
+    THROWS(out_of_range, again.pop_back());
+    THROWS(out_of_range, again.get(0));
+}
+
+void objects_found_or_made() {
+    segment s = segment::create(4096);
+    const u64 vector = s.find_or_construct_vector<u8>("v", {200}).handle;
+    IS(s.find_or_construct_vector<u8>("v", {7, 8}).handle, vector);
+    IS(s.vector<u8>("v").get(0), 200);
+    const u64 text = s.find_or_construct_string("t", "text").handle;
+    IS(s.find_or_construct_string("t", "other").handle, text);
+    IS(s.string("t").str(), "text"s);
+    const u64 texts = s.find_or_construct_strings("l", {"only"}).handle;
+    IS(s.find_or_construct_strings("l").handle, texts);
+    IS(s.find<std::vector<std::string>>("l")->handle, texts);
+    const u64 map = s.find_or_construct_map<i32, bool>("m").handle;
+    IS((s.find_or_construct_map<i32, bool>("m").handle), map);
+    IS((s.find<std::map<i32, bool>>("m")->handle), map);
+    THROWS(wrong_kind, (s.find_or_construct_map<i32, bool>("v")));
+    s.vector<bool>("made").push_back(true);
+    s.map<u8, u64>("made too")[255] = 18446744073709551615u;
+    IS((s.map<u8, u64>("made too").first()->second), 18446744073709551615u);
+    IS(bool{s.vector<bool>("made")[0]}, true);
+    s.strings("made as well").push_back("text");
+    s.string("made at last").append("text");
+    const u64 handle = s.construct_vector<i64>(key::anonymous(), {1, 2});
+    s.vector<i64>(key::by_handle(handle)).push_back(3);
+    IS(s.vector<i64>(key::by_handle(handle)).size(), 3);
+    THROWS(wrong_kind, s.vector<i32>(key::by_handle(handle)));
+    reopened(s, "found");
+}
+
+void size_and_region() {
+    segment s = segment::create(208);
+    THROWS(no_space, s.construct<i64>("numbers", 0, 100));
+    THROWS(bad_growth, s.grow(33));
+    THROWS(too_large, s.grow(1073741824));
+    s.grow(1024);
+    s.construct<i64>("numbers", 0, 100);
+    s.shrink();
+    IS(s.size(), 1040);
+    THROWS(short_region, s.relocate(1024));
+    THROWS(bad_size, s.relocate(1030));
+    s.relocate(2048);
+    IS(s.region_left(), 1008);
+    s.zero_free();
+    IS(s.sanity(), true);
+    s = reopened(s, "grown");
+    const zaluxhoni::vector<i64> v = s.growing([&] { return s.vector<i64>("v"); });
+    for (i64 i = 0; i < 1000; i++) s.growing([&] { v.push_back(i); });
+    IS(v.get(999), 999);
+    IS(s.size() >= 1040 + 8000, true);
+    reopened(s, "grown");
+}
+
+void modes() {
+    segment s = segment::create(1024);
+    IS(s.construct<i64>("a", 5), 192);
+    IS(s.mode() == zaluxhoni::mode::write, true);
+    s = reopened(s, "modes", zaluxhoni::mode::read);
+    IS(s.mode() == zaluxhoni::mode::read, true);
+    THROWS(read_only, s.set<i64>("a", 0, 6));
+    THROWS(read_only, s.vector<i64>("v"));
+    THROWS(read_only, s.destroy("a"));
+    THROWS(read_only, s.grow(32));
+    IS(s.get<i64>("a"), 5);
+    s = segment::open(s.save(), zaluxhoni::mode::copy_on_write, 4096);
+    s.set<i64>("a", 0, 6);
+    IS(s.get<i64>("a"), 6);
+    IS(s.region_left(), 3072);
+}
+
+void what_is_refused() {
+    segment s = segment::create(1024);
+    std::vector<u8> image = s.save();
+    THROWS(bad_size, segment::create(160));
+    THROWS(short_region, segment::open(image, zaluxhoni::mode::write, 1008));
+    THROWS(bad_size, segment::open(image, zaluxhoni::mode::write, 1025));
+    THROWS(bad_mode, segment::open(image, static_cast<zaluxhoni::mode>(3)));
+    THROWS(null_slice, segment::open({nullptr, 1024}));
+    THROWS(short_buffer, s.save(image.data(), 1023));
+    const std::vector<u8> half(image.begin(), image.begin() + 512);
+    IS(zaluxhoni::check_image(half), u64{ZX_TRUNCATED});
+    try {
+        segment::open(half);
+        IS("half an image is opened"s, ""s);
+    } catch (const zaluxhoni::bad_image &error) {
+        IS(error.number(), 1);
+        IS(error.code(), u64{ZX_TRUNCATED});
+    }
+    image[0] ^= 1;
+    IS(zaluxhoni::check_image(image), u64{ZX_BAD_MAGIC});
+    THROWS(null_slice, s.construct<i64>(static_cast<const char *>(nullptr), 1));
+    THROWS(bad_name, s.construct<i64>("", 1));
+    THROWS(bad_name, s.construct<i64>(std::string_view(), 1));
+    THROWS(bad_name, s.construct<i64>(std::string(256, 'n'), 1));
+    THROWS(bad_key, s.construct<i64>(key::by_handle(144), 1));
+    THROWS(bad_kind, s.construct<i64>(key::unique<u8>(), 1));
+    THROWS(not_found, s.get<i64>("a"));
+}
+
+void segments_move() {
+    static_assert(!std::is_copy_constructible_v<segment> && std::is_nothrow_move_constructible_v<segment>);
+    segment nothing;
+    IS(nothing.is_open(), false);
+    THROWS(closed, nothing.size());
+    segment s = segment::create(1024);
+    const zaluxhoni::vector<i64> v = s.vector<i64>("v");
+    segment moved = std::move(s);
+    THROWS(closed, s.size());
+    v.push_back(1);
+    IS(moved.vector<i64>("v").size(), 1);
+    moved.close();
+    IS(static_cast<bool>(moved), false);
+    THROWS(closed, moved.size());
+    THROWS(closed, v.size());
+}
+
+void errors_say_what() {
+    IS(zaluxhoni::words(ZX_READ_ONLY), "read only"s);
+    IS(zaluxhoni::words(1000), "code 1000"s);
+    IS(std::string(zaluxhoni::no_space().what()), "no space"s);
+    static_assert(std::is_base_of_v<std::runtime_error, zaluxhoni::no_space>);
+    for (zx_code code = ZX_READ_ONLY; code <= ZX_ORPHAN_BLOCK; code++) {
+        try {
+            zaluxhoni::throw_code(code);
+        } catch (const zaluxhoni::error &error) {
+            IS(error.code(), code);
+        }
+    }
+}
+
+} // namespace
+
+int main(int count, char **arguments) {
+    if (count != 2) return 2;
+    folder = arguments[1];
+    an_anonymous_object();
+    names();
+    files();
+    index_and_object_do_not_both_fit();
+    arrays();
+    the_only_object_of_its_kind();
+    places_reserved_in_the_indexes();
+    best_fit();
+    storage_is_lengthened_then_replaced();
+    a_string_grows_and_shrinks();
+    a_map();
+    refusals_of_a_vector();
+    a_vector_of_strings();
+    objects_found_or_made();
+    size_and_region();
+    modes();
+    what_is_refused();
+    segments_move();
+    errors_say_what();
+    std::cout << "every_call.cpp: " << checks << " checks, " << wrong << " wrong\n";
+    return wrong != 0;
+}

@@ -1,0 +1,572 @@
+"""Every call of zaluxhoni.py, and by it each of zaluxhoni.h, on the worked examples of docs/LANGUAGE.md, section 11,
+and on what is raised. The files that it makes are in the folder that is its one argument."""
+import gc
+import os
+import sys
+import threading
+import warnings
+
+import zaluxhoni
+from zaluxhoni import handle, unique
+
+folder = sys.argv[1]
+checks = wrong = 0
+
+
+def fails(what):
+    global wrong
+    wrong += 1
+    print(f"every_call.py:{sys._getframe(2).f_lineno}: WRONG {what}")
+
+
+def same(got, wanted):
+    """The two are equal, and of one type."""
+    global checks
+    checks += 1
+    if got != wanted or isinstance(got, bool) != isinstance(wanted, bool):
+        fails(f"{got!r}, not {wanted!r}")
+
+
+def raises(error, call, *arguments, **named):
+    """The call raises the error, of the very class."""
+    global checks
+    checks += 1
+    try:
+        answer = call(*arguments, **named)
+    except Exception as raised:
+        if type(raised) is not error:
+            fails(f"{type(raised).__name__} '{raised}', not {error.__name__}")
+    else:
+        fails(f"{answer!r}, not {error.__name__}")
+
+
+def path_of(name):
+    return os.path.join(folder, f"python-{name}.seg")
+
+
+def new(name):
+    """The path of a file that is not there."""
+    if os.path.lexists(path_of(name)):
+        os.unlink(path_of(name))
+    return path_of(name)
+
+
+def saved(segment, name):
+    """Saves the segment in a file, checks its image and loads it."""
+    image = segment.image()
+    zaluxhoni.check(image)
+    segment.save_as(new(name))
+    segment.discard()
+    with open(path_of(name), "rb") as file:
+        return zaluxhoni.load(file.read())
+
+
+def set_item(of, index, value):
+    of[index] = value
+
+
+def delete_item(of, index):
+    del of[index]
+
+
+# ---- worked examples
+
+def an_anonymous_object():
+    s = zaluxhoni.create(1024)
+    same(s.construct("i64", None, 5).handle, 144)
+    same(s[handle(144)], 5)
+    same(s.free, 832)
+
+
+def names():
+    s = zaluxhoni.create(1024)
+    same(s.construct("i64", "a", 5).handle, 192)
+    same(s.free, 784)
+    same(s.info("a"), ("named", "a", "i64", 1, 192))
+    same(s.find("i64", "a").handle, 192)
+    raises(zaluxhoni.WrongKind, s.find, "u8", "a")
+    same(s.find("i64", "b"), None)
+    raises(zaluxhoni.Exists, s.construct, "u8", "a", 1)
+    same(s.find_or_construct("i64[3]", "a", 9).handle, 192)
+    same(list(s.object("a")), [5])
+    s = saved(s, "names")
+    same(s["a"], 5)
+    same(s.destroy("a"), True)
+    same(s.destroy("a"), False)
+    same(s.free, 832)
+
+
+def index_and_object_do_not_both_fit():
+    s = zaluxhoni.create(224)
+    raises(zaluxhoni.NoSpace, s.construct, "i64", "a", 5)
+    same(s.free, 80)
+    same(s.construct("i64", None, 5).handle, 144)
+    same(s.free, 32)
+
+
+def arrays():
+    s = zaluxhoni.create(1024)
+    v = s.construct("i64[3]", "v", 7)
+    same(v.handle, 192)
+    same(list(v), [7, 7, 7])
+    same(s.free, 768)
+    raises(zaluxhoni.BadCount, s.construct, "i64[3]", "w", [1, 2])
+    raises(zaluxhoni.BadValue, s.construct, "u8", "x", 300)
+    v[1] = 300
+    same(v[1], 300)
+    same(s["v"][-2], 300)
+    raises(zaluxhoni.OutOfRange, v.__getitem__, 3)
+    raises(zaluxhoni.OutOfRange, v.__getitem__, -4)
+    raises(zaluxhoni.WrongKind, set_item, v, 0, True)
+    s.construct("i32[2]", "w", [1, -2])
+    same(s["w"], [1, -2])
+    same(s["w"][:1], [1])
+    s["w"][:] = [3, 4]
+    same(s["w"], [3, 4])
+    raises(zaluxhoni.BadCount, set_item, s["w"], slice(0, 2), [1])
+    raises(zaluxhoni.BadCount, s.construct, "i64[1048577]", "x", 0)
+    raises(zaluxhoni.BadCount, s.construct, "i64[0]", "x", 0)
+    s = saved(s, "arrays")
+    same(s["v"], [7, 300, 7])
+
+
+def the_only_object_of_its_kind():
+    s = zaluxhoni.create(1024)
+    same(s.construct("u64", unique("u64"), 9).handle, 192)
+    raises(zaluxhoni.Exists, s.construct, "u64", unique("u64"), 1)
+    raises(zaluxhoni.WrongKind, s.find, "u8", unique("u64"))
+    same(s.info(unique("u64")), ("unique", None, "u64", 1, 192))
+    same(s.unique(), [("unique", None, "u64", 1, 192)])
+    same(s[unique("u64")], 9)
+    same(s.destroy(unique("u64")), True)
+    same(s.num_unique, 0)
+    same(s.all_deallocated(), False)
+    s.shrink_indexes()
+    same(s.all_deallocated(), True)
+
+
+def places_reserved_in_the_indexes():
+    s = zaluxhoni.create(1024)
+    s.reserve_named(5)
+    s.reserve_unique(1)
+    same([s.construct("i64", name, 1).handle for name in "abcd"], [240, 288, 336, 384])
+    same(s.named(), [("named", "a", "i64", 1, 240), ("named", "b", "i64", 1, 288), ("named", "c", "i64", 1, 336),
+                     ("named", "d", "i64", 1, 384)])
+    same(list(s), ["a", "b", "c", "d"])
+    same(len(s), 4)
+    s.shrink_indexes()
+    same(s.free, 624)
+    s.shrink_indexes()
+    same(s.free, 640)
+
+
+def best_fit():
+    s = zaluxhoni.create(1024)
+    same([s.construct("i64", None, 1).handle for _ in range(4)], [144, 192, 240, 288])
+    same(s.destroy(handle(144)), True)
+    same(s.destroy(handle(240)), True)
+    same(s.construct("i64", None, 2).handle, 144)
+    raises(zaluxhoni.NotFound, s.destroy, handle(240))
+
+
+def storage_is_lengthened_then_replaced():
+    s = zaluxhoni.create(1024)
+    v = s.construct("vec<i64>", "v")
+    same(v.handle, 192)
+    for number in range(1, 6):
+        v.append(number)
+    same(s.free, 688)
+    same((len(v), v.capacity), (5, 8))
+    same(s.construct("i64", None, 9).handle, 336)
+    v.extend(range(6, 10))
+    same(s.tiles(), [(128, 48, "index"), (176, 64, "object"), (240, 80, "gap"), (320, 48, "object"), (368, 144, "storage"),
+                     (512, 496, "gap")])
+    s = saved(s, "storage")
+    same(list(s["v"]), [1, 2, 3, 4, 5, 6, 7, 8, 9])
+
+
+def a_string_grows_and_shrinks():
+    s = zaluxhoni.create(1024)
+    text = s.construct("string", "s", "ab")
+    same(text.handle, 192)
+    text.append("cdefg")
+    same((len(text), text.capacity), (7, 16))
+    same(s.free, 736)
+    text.trim()
+    text += b"0123456789"
+    same((len(text), text.capacity), (17, 17))
+    same(s.free, 720)
+    same(text[0], 97)
+    text[0] = 65
+    raises(zaluxhoni.OutOfRange, text.__getitem__, 17)
+    raises(zaluxhoni.WrongKind, s.vector, "s", "u8")
+    same(bytes(text), b"Abcdefg0123456789")
+    same(str(text), "Abcdefg0123456789")
+    same(text == "Abcdefg0123456789", True)
+    same(text[-3:], b"789")
+    same(("g01" in text, 65 in text, list(text)[:2]), (True, True, [65, 98]))
+    text.clear()
+    same(bytes(text), b"")
+    text.trim()
+    same(s.free, 768)
+    raises(zaluxhoni.NoSpace, text.assign, "x" * 2000)
+    raises(zaluxhoni.WrongKind, text.assign, 5)
+    text.assign(b"a\0\xff" * 100)
+    s = saved(s, "string")
+    text = s.string("s")
+    same(bytes(text), b"a\0\xff" * 100)
+    same(str(text).encode("utf-8", "surrogateescape"), b"a\0\xff" * 100)
+    text.reserve(400)
+    same(text.capacity, 400)
+
+
+def a_map():
+    s = zaluxhoni.create(1024)
+    m = s.construct("map<i64,i64>", "m")
+    same(m.handle, 192)
+    same(m.first(), None)
+    for key in (4, 2, 6, 1, 3, 5, 7):
+        same(m.put(key, 10 * key), True)
+    same(m.erase(4), True)
+    same(m.erase(4), False)
+    s = saved(s, "map")
+    m = s["m"]
+    same(list(m.items()), [(1, 10), (2, 20), (3, 30), (5, 50), (6, 60), (7, 70)])
+    same((list(m), list(m.values()), len(m)), ([1, 2, 3, 5, 6, 7], [10, 20, 30, 50, 60, 70], 6))
+    same(m.next_after(3), (5, 50))
+    same(m.next_after(7), None)
+    same(s.free, 480)
+    same(m.put(1, 11), False)
+    same(m.get(4), None)
+    raises(zaluxhoni.Absent, m.__getitem__, 4)
+    raises(zaluxhoni.Absent, delete_item, m, 4)
+    same((4 in m, 7 in m, 2**64 in m), (False, True, False))
+    m[7] = 71
+    del m[1]
+    same(m == {2: 20, 3: 30, 5: 50, 6: 60, 7: 71}, True)
+    raises(zaluxhoni.WrongKind, s.map, "m", "i32", "i64")
+    raises(zaluxhoni.WrongKind, set_item, m, "7", 1)
+    raises(zaluxhoni.WrongKind, set_item, m, 7, 1.5)
+    raises(zaluxhoni.OutOfRange, set_item, m, 2**63, 1)
+    same(m.pop(7), 71)
+    m.clear()
+    same(len(m), 0)
+
+
+def refusals_of_a_vector():
+    s = zaluxhoni.create(1024)
+    w = s.construct("vec<i32>", "w", [1, 2, 3])
+    same(w.handle, 192)
+    w.insert(1, 9)
+    same((len(w), w.capacity), (4, 6))
+    del w[0]
+    same(w.pop(), 3)
+    raises(zaluxhoni.OutOfRange, w.__getitem__, 5)
+    raises(zaluxhoni.WrongKind, set_item, w, 7, True)
+    raises(zaluxhoni.OutOfRange, set_item, w, 0, 3000000000)
+    raises(zaluxhoni.WrongKind, s.string, "w")
+    raises(zaluxhoni.NoSpace, w.reserve, 1000)
+    same(list(w), [9, 2])
+    w.assign([5, -6, 7, 8])
+    same((w.pop(0), w.pop(-2), list(w)), (5, 7, [-6, 8]))
+    w[1:] = [1, 2, 3]
+    same((w[::2], w[-1]), ([-6, 2], 3))
+    del w[::2]
+    same(list(w), [1, 3])
+    w.insert(100, 4)
+    w.insert(-100, 0)
+    same(w, [0, 1, 3, 4])
+    w.reverse()
+    same((w.index(3), 3 in w, w == [4, 3, 1, 0], w == [4, 3, 1]), (1, True, True, False))
+    raises(zaluxhoni.OutOfRange, w.assign, [3000000000])
+    raises(zaluxhoni.WrongKind, w.assign, [True])
+    raises(zaluxhoni.WrongKind, w.append, "x")
+    w.trim()
+    same(w.capacity, 4)
+    w.clear()
+    same(list(w), [])
+    raises(zaluxhoni.OutOfRange, w.pop)
+
+
+def a_vector_of_strings():
+    s = zaluxhoni.create(1024)
+    v = s.construct("vec<string>", "v", ["a", "bc"])
+    same(v.handle, 192)
+    same(s.free, 656)
+    v.append("def")
+    same(s.free, 592)
+    same(v.pop(), "def")
+    same(s.free, 624)
+    v[0] = ""
+    raises(zaluxhoni.WrongKind, set_item, v, 0, 5)
+    raises(zaluxhoni.WrongKind, v.assign, "abc")
+    same(list(v), ["", "bc"])
+    v.insert(0, "größer " * 50)
+    same(v[0], "größer " * 50)
+    s = saved(s, "texts")
+    v = s.strings("v")
+    same(v.pop(0), "größer " * 50)
+    v.assign(["x", b"\xff", "z"])
+    same((len(v), v.capacity), (3, 3))
+    same(v[1], "\udcff")
+    s.encoding = None
+    same(v[1:], [b"\xff", b"z"])
+    del v[1]
+    same(list(v), [b"x", b"z"])
+    v.reserve(4)
+    v.trim()
+    v.clear()
+    raises(zaluxhoni.OutOfRange, v.pop)
+    raises(zaluxhoni.OutOfRange, v.__getitem__, 0)
+
+
+# ---- what the examples leave out
+
+def objects_found_or_made():
+    s = zaluxhoni.create(4096)
+    for kind, value, other in (("vec<u8>", [200], [7, 8]), ("string", "text", "other"), ("vec<string>", ["only"], []),
+                               ("i32[2]", [1, 2], 3)):
+        first = s.find_or_construct(kind, kind, value)
+        same(s.find_or_construct(kind, kind, other).handle, first.handle)
+    same(s["vec<u8>"], [200])
+    same(s["string"] == "text", True)
+    same(s["vec<string>"], ["only"])
+    same(s["i32[2]"], [1, 2])
+    first = s.find_or_construct("map<i32,bool>", "m", {7: True})
+    same(s.find_or_construct("map<i32,bool>", "m", {8: False}).handle, first.handle)
+    same(dict(s.construct("map<u8,u8>", None, {1: 2})), {1: 2})
+    same(dict(s.map("m", "i32", "bool")), {7: True})
+    raises(zaluxhoni.WrongKind, s.find_or_construct, "map<i32,bool>", "string")
+    s.vector("made", "bool").append(True)
+    s.map("made too", "u8", "u64")[255] = 2**64 - 1
+    s.strings("made as well").append("text")
+    s.string("made at last").append("text")
+    same(s["made"][0], True)
+    same(s["made too"][255], 2**64 - 1)
+    anonymous = s.construct("vec<i64>", None, [1, 2])
+    s[handle(anonymous.handle)].append(3)
+    same(list(anonymous), [1, 2, 3])
+    saved(s, "found")
+
+
+def every_kind_of_scalar():
+    s = zaluxhoni.create(4096)
+    for kind, least, most in (("u8", 0, 255), ("i32", -2**31, 2**31 - 1), ("i64", -2**63, 2**63 - 1), ("u64", 0, 2**64 - 1)):
+        for number in (least, most):
+            s.construct(kind, kind, number)
+            same(s[kind], number)
+            s[kind] = least
+            s[kind] = most
+            same(s[kind], most)
+            raises(zaluxhoni.OutOfRange, set_item, s, kind, least - 1)
+            raises(zaluxhoni.OutOfRange, set_item, s, kind, most + 1)
+            raises(zaluxhoni.WrongKind, set_item, s, kind, True)
+            s.vector("vector", kind).assign([least, most])
+            same(list(s["vector"]), [least, most])
+            del s[kind], s["vector"]
+    s.construct("bool", "truth", True)
+    same(s["truth"], True)
+    raises(zaluxhoni.WrongKind, set_item, s, "truth", 1)
+    raises(zaluxhoni.BadValue, s.construct, "bool", "other", 1)
+    raises(zaluxhoni.BadValue, s.construct, "i64", "other", True)
+
+
+def a_segment_as_a_dict():
+    s = zaluxhoni.create(1024, grow=True)
+    s["number"] = 5
+    s["number"] += 1
+    s["large"] = 2**63
+    s["truth"] = True
+    s["text"] = "text"
+    s["text"] += " and more"
+    s["numbers"] = [1, 2]
+    s["truths"] = [True]
+    s["texts"] = ["a", b"b"]
+    s["pairs"] = {1: 10}
+    same({name: s.info(name).kind for name in s},
+         {"large": "u64", "number": "i64", "numbers": "vec<i64>", "pairs": "map<i64,i64>", "text": "string", "texts": "vec<string>",
+          "truth": "bool", "truths": "vec<bool>"})
+    same((s["number"], str(s["text"]), "text" in s, "other" in s), (6, "text and more", True, False))
+    s["numbers"] = [3]
+    s["pairs"] = {2: 20, 1: 11}
+    s["text"] = b"bytes"
+    same((list(s["numbers"]), dict(s["pairs"]), bytes(s["text"])), ([3], {1: 11, 2: 20}, b"bytes"))
+    raises(zaluxhoni.WrongKind, set_item, s, "numbers", ["a"])
+    raises(zaluxhoni.WrongKind, set_item, s, "new", 1.5)
+    raises(zaluxhoni.NotFound, s.__getitem__, "other")
+    raises(zaluxhoni.NotFound, delete_item, s, "other")
+    same(s.get("other", 7), 7)
+    del s["numbers"]
+    same("numbers" in s, False)
+    saved(s, "dict")
+
+
+def size_and_region():
+    s = zaluxhoni.create(208)
+    raises(zaluxhoni.NoSpace, s.construct, "i64[100]", "numbers", 0)
+    raises(zaluxhoni.BadGrowth, s.grow, 33)
+    raises(zaluxhoni.TooLarge, s.grow, 1073741824)
+    s.grow(1024)
+    s.construct("i64[100]", "numbers", 0)
+    s.shrink()
+    same(s.size, 1040)
+    raises(zaluxhoni.ShortRegion, s.relocate, 1024)
+    raises(zaluxhoni.BadSize, s.relocate, 1030)
+    s.relocate(2048)
+    same(s.region_left, 1008)
+    s.zero_free()
+    same(s.sanity(), True)
+    s.growing = True
+    s.vector("v", "i64").extend(range(1000))
+    same(s["v"][999], 999)
+    before = s.size
+    raises(zaluxhoni.TooLarge, s["v"].reserve, 2**40)
+    same(s.size, before)
+    saved(s, "grown")
+
+
+def what_is_refused():
+    s = zaluxhoni.create(1024)
+    image = s.image()
+    raises(zaluxhoni.BadSize, zaluxhoni.create, 160)
+    raises(zaluxhoni.OutOfRange, zaluxhoni.create, -1)
+    raises(zaluxhoni.ShortRegion, zaluxhoni.load, image, capacity=1008)
+    raises(zaluxhoni.BadSize, zaluxhoni.load, image, capacity=1025)
+    raises(zaluxhoni.BadMode, zaluxhoni.load, image, "c")
+    raises(zaluxhoni.Truncated, zaluxhoni.load, image[:512])
+    raises(zaluxhoni.Truncated, zaluxhoni.load, b"")
+    raises(zaluxhoni.Truncated, zaluxhoni.check, image[:512])
+    raises(zaluxhoni.BadMagic, zaluxhoni.check, b"x" + image[1:])
+    same(issubclass(zaluxhoni.BadMagic, zaluxhoni.BadImage), True)
+    raises(zaluxhoni.BadName, s.construct, "i64", "", 1)
+    raises(zaluxhoni.BadName, s.construct, "i64", b"\xff", 1)
+    raises(zaluxhoni.BadName, s.construct, "i64", "\udcff", 1)
+    raises(zaluxhoni.BadName, s.construct, "i64", "n" * 256, 1)
+    raises(zaluxhoni.BadKey, s.construct, "i64", 5, 1)
+    raises(zaluxhoni.BadKey, s.construct, "i64", handle(144), 1)
+    raises(zaluxhoni.BadKey, s.info, None)
+    raises(zaluxhoni.BadKind, s.construct, "i64", unique("u8"), 1)
+    raises(zaluxhoni.BadKind, s.construct, "vec<i64>[3]", "a")
+    raises(zaluxhoni.BadKind, s.construct, "f64", "a", 1)
+    raises(zaluxhoni.NotFound, s.info, "a")
+    for error, base in ((zaluxhoni.NotFound, KeyError), (zaluxhoni.Absent, KeyError), (zaluxhoni.OutOfRange, IndexError),
+                        (zaluxhoni.OutOfRange, OverflowError), (zaluxhoni.NoSpace, MemoryError), (zaluxhoni.WrongKind, TypeError),
+                        (zaluxhoni.ReadOnly, PermissionError), (zaluxhoni.Exists, ValueError), (zaluxhoni.Truncated, ValueError)):
+        same((issubclass(error, base), issubclass(error, zaluxhoni.Error)), (True, True))
+    same(str(zaluxhoni.ReadOnly()), "read only")
+    same(str(zaluxhoni.NotFound()), "not found")
+    s.discard()
+    raises(zaluxhoni.Closed, s.construct, "i64", "a", 1)
+    raises(zaluxhoni.Closed, lambda: s.size)
+
+
+def one_thread():
+    s = zaluxhoni.create(1024)
+    errors = []
+
+    def use():
+        try:
+            s["a"] = 5
+        except zaluxhoni.Error as error:
+            errors.append(type(error))
+
+    thread = threading.Thread(target=use)
+    thread.start()
+    thread.join()
+    same(errors, [zaluxhoni.WrongThread])
+    same(len(s), 0)
+
+
+# ---- files
+
+def files():
+    path = new("file")
+    raises(FileNotFoundError, zaluxhoni.open, path, "w")
+    raises(FileNotFoundError, zaluxhoni.open, path, "r")
+    with zaluxhoni.open(path, "x", size=1024) as s:
+        s.construct("i64", "a", 5)
+        same(os.path.exists(path), False)
+    same(os.path.getsize(path), 1024)
+    raises(FileExistsError, zaluxhoni.open, path, "x")
+    with zaluxhoni.open(path, size=7) as s:
+        same((s["a"], s.mode, s.size), (5, "write", 1024))
+        s["a"] = 6
+        s.save()
+        # the lock is held, also behind a save that has replaced the file
+        raises(zaluxhoni.FileInUse, zaluxhoni.open, path, "w")
+        with zaluxhoni.open(path, "r") as reader:
+            same((reader["a"], reader.mode), (6, "read"))
+            raises(zaluxhoni.ReadOnly, set_item, reader, "a", 7)
+            raises(zaluxhoni.ReadOnly, reader.save)
+        s["a"] = 8
+    with zaluxhoni.open(path, "p") as private:
+        same(private.mode, "copy on write")
+        private["a"] = 9
+    with zaluxhoni.open(path, "r") as s:
+        same(s["a"], 8)
+    try:
+        with zaluxhoni.open(path, "w") as s:
+            s["a"] = 10
+            raise KeyError
+    except KeyError:
+        pass
+    with zaluxhoni.open(path, "w") as s:
+        same(s["a"], 8)
+        raises(FileExistsError, s.save_as, path)
+    same(os.path.exists(path + ".new"), False)
+    raises(zaluxhoni.BadMode, zaluxhoni.open, path, "rw")
+
+
+def files_that_fail():
+    path = path_of("stranger")
+    with open(path, "wb") as file:
+        file.write(b"this is no image")
+    for mode in "rwcp":
+        raises(zaluxhoni.Truncated, zaluxhoni.open, path, mode)
+    os.unlink(path)
+    # a folder stands in the place of the new file: the old one stays, and the segment can still be saved elsewhere
+    path = new("kept")
+    zaluxhoni.open(path, size=1024).close()
+    os.mkdir(path + ".new")
+    s = zaluxhoni.open(path, "w")
+    s["a"] = 5
+    raises(IsADirectoryError, s.save)
+    os.rmdir(path + ".new")
+    with zaluxhoni.open(path, "r") as kept:
+        same(list(kept), [])
+    s.close()
+    with zaluxhoni.open(path, "r") as kept:
+        same(list(kept), ["a"])
+    # a link: what it leads to is replaced
+    os.symlink("python-kept.seg", new("link"))
+    with zaluxhoni.open(path_of("link"), "w") as s:
+        s["a"] = 6
+    same(os.path.islink(path_of("link")), True)
+    with zaluxhoni.open(path, "r") as s:
+        same(s["a"], 6)
+    os.unlink(path_of("link"))
+
+
+def what_is_not_closed():
+    path = new("dropped")
+    with warnings.catch_warnings(record=True) as caught:
+        warnings.simplefilter("always")
+        s = zaluxhoni.open(path, "c", size=1024)
+        s["a"] = 5
+        del s
+        gc.collect()
+    same([warning.category for warning in caught], [ResourceWarning])
+    same(os.path.exists(path), False)
+
+
+for case in (an_anonymous_object, names, index_and_object_do_not_both_fit, arrays, the_only_object_of_its_kind,
+             places_reserved_in_the_indexes, best_fit, storage_is_lengthened_then_replaced, a_string_grows_and_shrinks, a_map,
+             refusals_of_a_vector, a_vector_of_strings, objects_found_or_made, every_kind_of_scalar, a_segment_as_a_dict,
+             size_and_region, what_is_refused, one_thread, files, files_that_fail, what_is_not_closed):
+    try:
+        case()
+    except Exception as error:
+        wrong += 1
+        print(f"every_call.py: WRONG {case.__name__}: {type(error).__name__}: {error}, line {error.__traceback__.tb_next.tb_lineno}")
+print(f"every_call.py: {checks} checks, {wrong} wrong")
+sys.exit(wrong != 0)

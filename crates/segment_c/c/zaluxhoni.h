@@ -1,0 +1,471 @@
+/* Zaluxhoni for C and C++: typed objects under names in one run of bytes, which can be saved and opened again.
+   Each function declared here is proved; what a caller must keep stands in docs/C.md, and in short:
+
+   - A zx_segment begins as ZX_CLOSED_HANDLE. These calls alone change it, it is not copied, and zx_close ends it.
+   - One call at a time on one handle, and all of them on one thread.
+   - A pointer to a handle, a key, a value or a result is not null, and what stands there may be read (and written, where it
+     is no const). What is written through one pointer overlaps nothing else that the call is given.
+   - A slice is a pointer and how many elements are there. A null one is answered by ZX_NULL_SLICE, also where it is empty,
+     and so is a null text among several: the names of calls that take a slice are macros for functions of this header that look.
+   - Names and texts are bytes: UTF-8 in names, and anything in texts. No byte 0 ends them.
+
+   Each call answers a code. 0 is done. With any other code nothing has changed: neither the segment (but for bytes of gaps
+   where there was no space) nor any result, unless the call says so. */
+#ifndef ZALUXHONI_H
+#define ZALUXHONI_H
+
+#include <stdbool.h>
+#include <stddef.h>
+#include <stdint.h>
+#include <string.h>
+
+#ifdef __cplusplus
+extern "C" {
+#endif
+
+/* ---- codes */
+
+typedef uint32_t zx_code;
+
+enum {
+    ZX_DONE = 0,
+
+    /* Refused by the segment. These are the numbers that the program prints behind `error`. */
+    ZX_READ_ONLY = 4,    /* the call may change the segment, which is open for reading */
+    ZX_EXISTS = 5,       /* an object has the name, or is the unique one of its kind */
+    ZX_NOT_FOUND = 6,    /* no object has the key */
+    ZX_WRONG_KIND = 7,   /* the object, or a value, is not of the kind that the call is for */
+    ZX_OUT_OF_RANGE = 8, /* an index past the end, or a number outside the range of the element */
+    ZX_NO_SPACE = 9,     /* no gap is long enough */
+
+    /* No refusal: nothing is there. */
+    ZX_ABSENT = 10,
+
+    /* Not asked of the segment. */
+    ZX_CLOSED = 16,       /* the handle has no segment */
+    ZX_BAD_KEY = 17,      /* the key's `how` is none, or none that the call takes */
+    ZX_BAD_NAME = 18,     /* a name is 1 to 255 bytes of UTF-8 without control characters */
+    ZX_BAD_KIND = 19,     /* no kind has the code, or the unique key is for another kind */
+    ZX_BAD_VALUE = 20,    /* the value's kind is no scalar's, or its number is outside that kind */
+    ZX_BAD_COUNT = 21,    /* an object of scalars has 1 to 1048576 of them */
+    ZX_BAD_SIZE = 22,     /* a segment has 144 bytes, or a multiple of 16 from 176 to 1073741824 */
+    ZX_BAD_MODE = 23,     /* the mode is none */
+    ZX_SHORT_BUFFER = 24, /* the buffer has too little room */
+    ZX_NULL_SLICE = 25,   /* a slice is null */
+    ZX_NO_MEMORY = 26,    /* the C library gave no memory */
+    ZX_SHORT_REGION = 27, /* the region has too little room */
+    ZX_BAD_GROWTH = 28,   /* a segment grows by a multiple of 16, at least 32 */
+    ZX_TOO_LARGE = 29,    /* it would have more than 1073741824 bytes */
+
+    /* The bytes are no image of a segment: 100 and the number of the first class that holds. */
+    ZX_TRUNCATED = 101,
+    ZX_BAD_MAGIC = 102,
+    ZX_UNSUPPORTED_VERSION = 103,
+    ZX_BAD_IMAGE_SIZE = 104,
+    ZX_BAD_RESERVED = 105,
+    ZX_BAD_TAG = 106,
+    ZX_BAD_FREE_TREE = 107,
+    ZX_BAD_INDEX = 108,
+    ZX_BAD_OBJECT = 109,
+    ZX_SHARED_BLOCK = 110,
+    ZX_BAD_CONTAINER = 111,
+    ZX_ORPHAN_BLOCK = 112
+};
+
+/* ---- what is passed */
+
+/* A segment, or nothing. */
+typedef struct {
+    void *at;
+} zx_segment;
+
+#define ZX_CLOSED_HANDLE { 0 }
+
+/* How a segment is open. */
+enum { ZX_WRITE = 0, ZX_READ = 1, ZX_COPY_ON_WRITE = 2 };
+
+/* Kinds of scalars, and of objects: those of scalars are one scalar or an array. */
+enum { ZX_BOOL = 1, ZX_U8 = 2, ZX_I32 = 3, ZX_I64 = 4, ZX_U64 = 5, ZX_STRING = 65536, ZX_STRINGS = 262144 };
+#define ZX_VECTOR(scalar) (131072u + (scalar))
+#define ZX_MAP(key, value) (196608u + 256u * (key) + (value))
+
+/* How an object is found again. */
+enum { ZX_IS_ANONYMOUS = 0, ZX_IS_NAMED = 1, ZX_IS_UNIQUE = 2 };
+
+/* Which object: the one of a name, the unique one of a kind, the one of a handle; or, where one is made, a new one with no key. */
+enum { ZX_BY_NAME = 0, ZX_BY_KIND = 1, ZX_BY_HANDLE = 2, ZX_NO_KEY = 3, ZX_NULL_NAME = 4 };
+
+typedef struct {
+    uint32_t how;
+    uint32_t kind;       /* with ZX_BY_KIND */
+    uint64_t handle;     /* with ZX_BY_HANDLE */
+    const uint8_t *name; /* with ZX_BY_NAME; else not null, with len 0 */
+    size_t len;
+} zx_key;
+
+/* A scalar with its kind. The number of ZX_I32 and ZX_I64 stands in `number`, that of the others in `natural`, where 0 is false.
+   A value that is passed for an element takes the element's kind: a number must be in its range, a truth is for truths alone. */
+typedef struct {
+    uint32_t kind;
+    int64_t number;
+    uint64_t natural;
+} zx_value;
+
+/* The elements of a vector: the slice of their kind. The other slices are not null and empty. Kind 0 stands for a null slice. */
+typedef struct {
+    uint32_t kind;
+    const bool *truths;
+    size_t truth_count;
+    const uint8_t *bytes;
+    size_t byte_count;
+    const int32_t *i32s;
+    size_t i32_count;
+    const int64_t *i64s;
+    size_t i64_count;
+    const uint64_t *u64s;
+    size_t u64_count;
+} zx_values;
+
+/* A text of a vector of strings; `at` is not null. */
+typedef struct {
+    const uint8_t *at;
+    size_t len;
+} zx_text;
+
+/* What an object says of itself. */
+typedef struct {
+    uint32_t found_by; /* ZX_IS_.. */
+    uint32_t kind;
+    uint32_t count;    /* how many scalars, and 1 where it is no object of scalars */
+    uint64_t name_len; /* 0 where it has no name */
+    uint64_t handle;
+} zx_info;
+
+/* A block in use, or a gap. */
+enum { ZX_GAP = 0, ZX_OBJECT = 1, ZX_INDEX = 2, ZX_STORAGE = 3, ZX_NODE = 4 };
+
+typedef struct {
+    uint64_t offset;
+    uint64_t len;
+    uint32_t use;
+} zx_tile;
+
+/* ---- making what is passed */
+
+static inline zx_key zx_name_of(const void *name, size_t len) {
+    zx_key key = { name ? (uint32_t)ZX_BY_NAME : (uint32_t)ZX_NULL_NAME, 0, 0, name ? (const uint8_t *)name : (const uint8_t *)"",
+                   name ? len : 0 };
+    return key;
+}
+
+static inline zx_key zx_name(const char *name) { return zx_name_of(name, name ? strlen(name) : 0); }
+
+static inline zx_key zx_unique(uint32_t kind) {
+    zx_key key = { ZX_BY_KIND, kind, 0, (const uint8_t *)"", 0 };
+    return key;
+}
+
+static inline zx_key zx_handle(uint64_t handle) {
+    zx_key key = { ZX_BY_HANDLE, 0, handle, (const uint8_t *)"", 0 };
+    return key;
+}
+
+static inline zx_key zx_anonymous(void) {
+    zx_key key = { ZX_NO_KEY, 0, 0, (const uint8_t *)"", 0 };
+    return key;
+}
+
+static inline zx_value zx_natural(uint32_t kind, uint64_t natural) {
+    zx_value value = { kind, 0, natural };
+    return value;
+}
+
+static inline zx_value zx_number(uint32_t kind, int64_t number) {
+    zx_value value = { kind, number, 0 };
+    return value;
+}
+
+static inline zx_value zx_bool(bool truth) { return zx_natural(ZX_BOOL, truth ? 1 : 0); }
+static inline zx_value zx_u8(uint8_t number) { return zx_natural(ZX_U8, number); }
+static inline zx_value zx_i32(int32_t number) { return zx_number(ZX_I32, number); }
+static inline zx_value zx_i64(int64_t number) { return zx_number(ZX_I64, number); }
+static inline zx_value zx_u64(uint64_t number) { return zx_natural(ZX_U64, number); }
+
+static inline zx_values zx_no_values(void) {
+    static const uint64_t none[1] = { 0 };
+    zx_values values = { 0, (const bool *)none, 0, (const uint8_t *)none, 0, (const int32_t *)none, 0, (const int64_t *)none, 0, none, 0 };
+    return values;
+}
+
+static inline zx_values zx_bools(const bool *at, size_t count) {
+    zx_values values = zx_no_values();
+    if (at) { values.kind = ZX_BOOL; values.truths = at; values.truth_count = count; }
+    return values;
+}
+
+static inline zx_values zx_u8s(const uint8_t *at, size_t count) {
+    zx_values values = zx_no_values();
+    if (at) { values.kind = ZX_U8; values.bytes = at; values.byte_count = count; }
+    return values;
+}
+
+static inline zx_values zx_i32s(const int32_t *at, size_t count) {
+    zx_values values = zx_no_values();
+    if (at) { values.kind = ZX_I32; values.i32s = at; values.i32_count = count; }
+    return values;
+}
+
+static inline zx_values zx_i64s(const int64_t *at, size_t count) {
+    zx_values values = zx_no_values();
+    if (at) { values.kind = ZX_I64; values.i64s = at; values.i64_count = count; }
+    return values;
+}
+
+static inline zx_values zx_u64s(const uint64_t *at, size_t count) {
+    zx_values values = zx_no_values();
+    if (at) { values.kind = ZX_U64; values.u64s = at; values.u64_count = count; }
+    return values;
+}
+
+/* ---- a segment made, opened, saved and closed */
+
+/* An empty segment of `size` bytes, open for writing. What the handle had is closed. ZX_BAD_SIZE, ZX_NO_MEMORY. */
+zx_code zx_create(zx_segment *segment, uint64_t size);
+
+/* The segment whose image the bytes are, in a region of `capacity` bytes, a multiple of 16 from 16 to 1099511627776. What the
+   handle had is closed. ZX_BAD_SIZE (the capacity), ZX_BAD_MODE, ZX_NO_MEMORY, ZX_SHORT_REGION, ZX_TRUNCATED to
+   ZX_ORPHAN_BLOCK. */
+zx_code zx_open(zx_segment *segment, const uint8_t *image, size_t len, uint64_t capacity, uint32_t mode);
+
+/* Whether the bytes are the image of a segment: ZX_DONE, ZX_TRUNCATED to ZX_ORPHAN_BLOCK, ZX_NO_MEMORY. */
+zx_code zx_check(const uint8_t *image, size_t len);
+
+/* Copies the image to the front of the buffer: as many bytes as zx_size says. ZX_CLOSED, ZX_SHORT_BUFFER. */
+zx_code zx_save(zx_segment *segment, uint8_t *image, size_t room);
+
+/* Makes the segment longer by `extra` bytes, which are free, in a larger region where its own has no room. ZX_CLOSED,
+   ZX_READ_ONLY, ZX_BAD_GROWTH, ZX_TOO_LARGE, ZX_NO_MEMORY. */
+zx_code zx_grow(zx_segment *segment, uint64_t extra);
+
+/* Makes the segment as short as its last block lets it be. ZX_CLOSED, ZX_READ_ONLY. */
+zx_code zx_shrink(zx_segment *segment);
+
+/* Moves the segment into a region of `capacity` bytes, as for zx_open. Keys and handles stay good. ZX_BAD_SIZE, ZX_CLOSED,
+   ZX_NO_MEMORY, ZX_SHORT_REGION. */
+zx_code zx_relocate(zx_segment *segment, uint64_t capacity);
+
+/* Frees the segment. A closed handle stays closed. */
+void zx_close(zx_segment *segment);
+
+/* How it is open; its bytes; those of all gaps; those of its region behind it. ZX_CLOSED. */
+zx_code zx_mode(zx_segment *segment, uint32_t *mode);
+zx_code zx_size(zx_segment *segment, uint64_t *size);
+zx_code zx_free_bytes(zx_segment *segment, uint64_t *free_bytes);
+zx_code zx_region_left(zx_segment *segment, uint64_t *left);
+
+/* ---- objects
+
+   Calls that take a key: ZX_NULL_SLICE (a null name), ZX_BAD_KEY, ZX_BAD_NAME, ZX_BAD_KIND; then ZX_CLOSED; then the refusals that
+   are named. An object is made by name, by kind or with no key; it is found or made by name or by kind. */
+
+/* Makes `count` times a value. ZX_BAD_VALUE, ZX_BAD_COUNT; ZX_READ_ONLY, ZX_EXISTS, ZX_NO_SPACE. */
+zx_code zx_construct(zx_segment *segment, const zx_key *key, uint32_t count, const zx_value *value, uint64_t *handle);
+/* Makes a vector of values. ZX_NULL_SLICE, ZX_BAD_KIND; ZX_READ_ONLY, ZX_EXISTS, ZX_NO_SPACE. */
+zx_code zx_construct_vector(zx_segment *segment, const zx_key *key, const zx_values *values, uint64_t *handle);
+/* Makes a string; a vector of strings; an empty map from keys of one kind to values of another. */
+zx_code zx_construct_string(zx_segment *segment, const zx_key *key, const uint8_t *text, size_t len, uint64_t *handle);
+zx_code zx_construct_strings(zx_segment *segment, const zx_key *key, const zx_text *texts, size_t count, uint64_t *handle);
+zx_code zx_construct_map(zx_segment *segment, const zx_key *key, uint32_t keys, uint32_t values, uint64_t *handle);
+
+/* Finds the object of the key, which stays as it is, or makes it, and says how many scalars it has (1 where it is no object of
+   scalars). ZX_READ_ONLY, ZX_WRONG_KIND, ZX_NO_SPACE. */
+zx_code zx_find_or_construct(zx_segment *segment, const zx_key *key, uint32_t count, const zx_value *value, uint64_t *handle,
+                             uint32_t *found);
+zx_code zx_find_or_construct_vector(zx_segment *segment, const zx_key *key, const zx_values *values, uint64_t *handle,
+                                    uint32_t *found);
+zx_code zx_find_or_construct_string(zx_segment *segment, const zx_key *key, const uint8_t *text, size_t len, uint64_t *handle,
+                                    uint32_t *found);
+zx_code zx_find_or_construct_strings(zx_segment *segment, const zx_key *key, const zx_text *texts, size_t count,
+                                     uint64_t *handle, uint32_t *found);
+zx_code zx_find_or_construct_map(zx_segment *segment, const zx_key *key, uint32_t keys, uint32_t values, uint64_t *handle,
+                                 uint32_t *found);
+
+/* The object of a kind under the key. ZX_ABSENT where no object has the key; ZX_WRONG_KIND. */
+zx_code zx_find(zx_segment *segment, const zx_key *key, uint32_t kind, uint64_t *handle, uint32_t *count);
+/* Destroys the object of a name or kind, and says whether there was one; or that of a handle, where ZX_NOT_FOUND says that there is
+   none. ZX_READ_ONLY. */
+zx_code zx_destroy(zx_segment *segment, const zx_key *key, bool *was_there);
+/* What the object says of itself. Its name is copied to the front of `name`, which has room for it or else ZX_SHORT_BUFFER; 255
+   bytes always do. ZX_NOT_FOUND. */
+zx_code zx_tell(zx_segment *segment, const zx_key *key, zx_info *info, uint8_t *name, size_t room);
+
+/* ---- elements: of objects of scalars, of vectors, and of strings, which have bytes
+
+   ZX_BAD_VALUE; ZX_READ_ONLY where something would change; ZX_NOT_FOUND, ZX_WRONG_KIND, ZX_OUT_OF_RANGE, ZX_NO_SPACE. */
+
+zx_code zx_get(zx_segment *segment, const zx_key *key, uint64_t index, zx_value *value);
+zx_code zx_set(zx_segment *segment, const zx_key *key, uint64_t index, const zx_value *value);
+/* Of vectors alone. */
+zx_code zx_push(zx_segment *segment, const zx_key *key, const zx_value *value);
+zx_code zx_pop(zx_segment *segment, const zx_key *key, zx_value *value);
+zx_code zx_insert(zx_segment *segment, const zx_key *key, uint64_t index, const zx_value *value);
+zx_code zx_assign(zx_segment *segment, const zx_key *key, const zx_values *values);
+/* Of vectors, and of vectors of strings. */
+zx_code zx_erase(zx_segment *segment, const zx_key *key, uint64_t index);
+/* Of vectors, strings and vectors of strings: elements and places; of a map pairs, and 0. */
+zx_code zx_measure(zx_segment *segment, const zx_key *key, uint64_t *len, uint64_t *places);
+zx_code zx_reserve(zx_segment *segment, const zx_key *key, uint64_t places);
+zx_code zx_trim(zx_segment *segment, const zx_key *key);
+zx_code zx_clear(zx_segment *segment, const zx_key *key);
+
+/* ---- strings
+
+   A read copies the bytes to the front of the buffer. With ZX_SHORT_BUFFER `len` says how much room is wanted. */
+
+zx_code zx_read_string(zx_segment *segment, const zx_key *key, uint8_t *text, size_t room, uint64_t *len);
+zx_code zx_assign_string(zx_segment *segment, const zx_key *key, const uint8_t *text, size_t len);
+zx_code zx_append(zx_segment *segment, const zx_key *key, const uint8_t *text, size_t len);
+
+/* ---- vectors of strings */
+
+zx_code zx_read_text(zx_segment *segment, const zx_key *key, uint64_t index, uint8_t *text, size_t room, uint64_t *len);
+zx_code zx_set_text(zx_segment *segment, const zx_key *key, uint64_t index, const uint8_t *text, size_t len);
+zx_code zx_push_text(zx_segment *segment, const zx_key *key, const uint8_t *text, size_t len);
+zx_code zx_pop_text(zx_segment *segment, const zx_key *key);
+zx_code zx_insert_text(zx_segment *segment, const zx_key *key, uint64_t index, const uint8_t *text, size_t len);
+zx_code zx_assign_texts(zx_segment *segment, const zx_key *key, const zx_text *texts, size_t count);
+
+/* ---- maps
+
+   Keys and values take the kinds of the map, as elements do. */
+
+/* The value at a key; ZX_ABSENT where the map has no such key. */
+zx_code zx_map_get(zx_segment *segment, const zx_key *key, const zx_value *at, zx_value *value);
+zx_code zx_map_put(zx_segment *segment, const zx_key *key, const zx_value *at, const zx_value *value, bool *is_new);
+zx_code zx_map_erase(zx_segment *segment, const zx_key *key, const zx_value *at, bool *was_there);
+/* The pair with the least key; with the least key above `after`. ZX_ABSENT where there is none. */
+zx_code zx_map_first(zx_segment *segment, const zx_key *key, zx_value *at, zx_value *value);
+zx_code zx_map_next(zx_segment *segment, const zx_key *key, const zx_value *after, zx_value *at, zx_value *value);
+
+/* ---- lists: what has `index` others before it, or ZX_OUT_OF_RANGE */
+
+zx_code zx_num_named(zx_segment *segment, uint64_t *count);
+zx_code zx_num_unique(zx_segment *segment, uint64_t *count);
+/* Objects with names, by the bytes of their names; the name as in zx_tell. */
+zx_code zx_named_at(zx_segment *segment, uint64_t index, zx_info *info, uint8_t *name, size_t room);
+/* Unique objects, by the codes of their kinds. */
+zx_code zx_unique_at(zx_segment *segment, uint64_t index, zx_info *info);
+/* Blocks and gaps, by offset. It is looked for from the first one on. */
+zx_code zx_tile_at(zx_segment *segment, uint64_t index, zx_tile *tile);
+
+/* ---- the two indexes, and all of the segment. ZX_READ_ONLY where something would change; ZX_NO_SPACE. */
+
+zx_code zx_reserve_named(zx_segment *segment, uint64_t places);
+zx_code zx_reserve_unique(zx_segment *segment, uint64_t places);
+zx_code zx_shrink_indexes(zx_segment *segment);
+zx_code zx_zero_free(zx_segment *segment);
+zx_code zx_sanity(zx_segment *segment, bool *is_whole);
+zx_code zx_all_deallocated(zx_segment *segment, bool *is_empty);
+
+/* ---- words */
+
+/* The words for a code, which are there as long as the program runs and end with no byte 0; empty where it is none of these. */
+void zx_words(zx_code code, zx_text *words);
+
+/* ---- null slices, which are looked for here: a call of such a name is a call of the function behind it */
+
+static inline bool zx_are_there(const zx_text *texts, size_t count) {
+    if (!texts) return false;
+    for (size_t i = 0; i < count; i++)
+        if (!texts[i].at) return false;
+    return true;
+}
+
+static inline zx_code zx_open_or_null(zx_segment *segment, const uint8_t *image, size_t len, uint64_t capacity,
+                                      uint32_t mode) {
+    return image ? zx_open(segment, image, len, capacity, mode) : (zx_code)ZX_NULL_SLICE;
+}
+static inline zx_code zx_check_or_null(const uint8_t *image, size_t len) {
+    return image ? zx_check(image, len) : (zx_code)ZX_NULL_SLICE;
+}
+static inline zx_code zx_save_or_null(zx_segment *segment, uint8_t *image, size_t room) {
+    return image ? zx_save(segment, image, room) : (zx_code)ZX_NULL_SLICE;
+}
+static inline zx_code zx_construct_string_or_null(zx_segment *segment, const zx_key *key, const uint8_t *text,
+                                                  size_t len, uint64_t *handle) {
+    return text ? zx_construct_string(segment, key, text, len, handle) : (zx_code)ZX_NULL_SLICE;
+}
+static inline zx_code zx_construct_strings_or_null(zx_segment *segment, const zx_key *key, const zx_text *texts,
+                                                   size_t count, uint64_t *handle) {
+    return zx_are_there(texts, count) ? zx_construct_strings(segment, key, texts, count, handle) : (zx_code)ZX_NULL_SLICE;
+}
+static inline zx_code zx_find_or_construct_string_or_null(zx_segment *segment, const zx_key *key, const uint8_t *text,
+                                                          size_t len, uint64_t *handle, uint32_t *found) {
+    return text ? zx_find_or_construct_string(segment, key, text, len, handle, found) : (zx_code)ZX_NULL_SLICE;
+}
+static inline zx_code zx_find_or_construct_strings_or_null(zx_segment *segment, const zx_key *key, const zx_text *texts,
+                                                           size_t count, uint64_t *handle, uint32_t *found) {
+    return zx_are_there(texts, count) ? zx_find_or_construct_strings(segment, key, texts, count, handle, found) : (zx_code)ZX_NULL_SLICE;
+}
+static inline zx_code zx_tell_or_null(zx_segment *segment, const zx_key *key, zx_info *info, uint8_t *name,
+                                      size_t room) {
+    return name ? zx_tell(segment, key, info, name, room) : (zx_code)ZX_NULL_SLICE;
+}
+static inline zx_code zx_read_string_or_null(zx_segment *segment, const zx_key *key, uint8_t *text, size_t room,
+                                             uint64_t *len) {
+    return text ? zx_read_string(segment, key, text, room, len) : (zx_code)ZX_NULL_SLICE;
+}
+static inline zx_code zx_assign_string_or_null(zx_segment *segment, const zx_key *key, const uint8_t *text,
+                                               size_t len) {
+    return text ? zx_assign_string(segment, key, text, len) : (zx_code)ZX_NULL_SLICE;
+}
+static inline zx_code zx_append_or_null(zx_segment *segment, const zx_key *key, const uint8_t *text, size_t len) {
+    return text ? zx_append(segment, key, text, len) : (zx_code)ZX_NULL_SLICE;
+}
+static inline zx_code zx_read_text_or_null(zx_segment *segment, const zx_key *key, uint64_t index, uint8_t *text,
+                                           size_t room, uint64_t *len) {
+    return text ? zx_read_text(segment, key, index, text, room, len) : (zx_code)ZX_NULL_SLICE;
+}
+static inline zx_code zx_set_text_or_null(zx_segment *segment, const zx_key *key, uint64_t index, const uint8_t *text,
+                                          size_t len) {
+    return text ? zx_set_text(segment, key, index, text, len) : (zx_code)ZX_NULL_SLICE;
+}
+static inline zx_code zx_push_text_or_null(zx_segment *segment, const zx_key *key, const uint8_t *text, size_t len) {
+    return text ? zx_push_text(segment, key, text, len) : (zx_code)ZX_NULL_SLICE;
+}
+static inline zx_code zx_insert_text_or_null(zx_segment *segment, const zx_key *key, uint64_t index,
+                                             const uint8_t *text, size_t len) {
+    return text ? zx_insert_text(segment, key, index, text, len) : (zx_code)ZX_NULL_SLICE;
+}
+static inline zx_code zx_assign_texts_or_null(zx_segment *segment, const zx_key *key, const zx_text *texts,
+                                              size_t count) {
+    return zx_are_there(texts, count) ? zx_assign_texts(segment, key, texts, count) : (zx_code)ZX_NULL_SLICE;
+}
+static inline zx_code zx_named_at_or_null(zx_segment *segment, uint64_t index, zx_info *info, uint8_t *name,
+                                          size_t room) {
+    return name ? zx_named_at(segment, index, info, name, room) : (zx_code)ZX_NULL_SLICE;
+}
+
+#define zx_open zx_open_or_null
+#define zx_check zx_check_or_null
+#define zx_save zx_save_or_null
+#define zx_construct_string zx_construct_string_or_null
+#define zx_construct_strings zx_construct_strings_or_null
+#define zx_find_or_construct_string zx_find_or_construct_string_or_null
+#define zx_find_or_construct_strings zx_find_or_construct_strings_or_null
+#define zx_tell zx_tell_or_null
+#define zx_read_string zx_read_string_or_null
+#define zx_assign_string zx_assign_string_or_null
+#define zx_append zx_append_or_null
+#define zx_read_text zx_read_text_or_null
+#define zx_set_text zx_set_text_or_null
+#define zx_push_text zx_push_text_or_null
+#define zx_insert_text zx_insert_text_or_null
+#define zx_assign_texts zx_assign_texts_or_null
+#define zx_named_at zx_named_at_or_null
+
+#ifdef __cplusplus
+}
+#endif
+
+#endif

@@ -1,0 +1,80 @@
+-- Neighbours in the map of a key: what the directory says of them, by the kind of the object.
+use Rattle.std.proofs.Common.{◌≡◌, ◌∙◌, refl, sym, ap, subst, ℕ, ℤ, List, Option, None, Some, Result, Ok, Err, option_map}
+use Rattle.seg_types.specs.declared.kinds.Kind.{Kind}
+use Rattle.seg_types.specs.declared.kinds.Kind.TheVariants.{Map, Scalar, Text, Texts, Vector}
+use Rattle.seg_types.specs.declared.kinds.ScalarKind.{ScalarKind}
+use Rattle.seg_types.specs.declared.refusals.Refusal.{Refusal}
+use Rattle.seg_types.specs.declared.refusals.Refusal.TheVariants.{NotFound, WrongKind}
+use Rattle.seg_types.specs.Commands.{Literal, value_of_literal}
+use Rattle.seg_types.specs.Names.{Key}
+use Rattle.seg_types.specs.Refusals.{refusal_number}
+use Rattle.seg_map.specs.Numbers.{NumberPair}
+use Rattle.seg_map.specs.Places.{item_of}
+use Rattle.segment_manager.specs.Calls.{kind_at}
+use Rattle.segment_manager.specs.Directory.{Directory, Object, kind_of, object_at}
+use Rattle.segment_manager.specs.Instances.{IsMissing}
+use Rattle.segment_manager.specs.Maps.{pair_above}
+use Rattle.segment_manager.specs.State.{Answers, StandsFor, State}
+use Rattle.segment_manager.specs.Walks.{Item, first_of, pairs_at}
+use Rattle.segment_c.specs.declared.values.Value.{Value}
+use Rattle.segment_c.specs.Reads.{TellsPair, above_in, first_at, first_in, item_in, next_at, next_in}
+
+abbrev Pair : Type 0
+Pair = Result (Option Item) Refusal
+
+abbrev first_told : List NumberPair → Result Kind Refusal → Pair
+first_told ps r = elim r as (λ _. Pair) [ Err why ↦ Err why | Ok kind ↦ first_in ps kind ]
+
+abbrev next_told : List NumberPair → Literal → Result Kind Refusal → Pair
+next_told ps l r = elim r as (λ _. Pair) [ Err why ↦ Err why | Ok kind ↦ next_in ps l kind ]
+
+abbrev kind_in : Option Object → Result Kind Refusal
+kind_in r = elim r as (λ _. Result Kind Refusal) [ None ↦ Err NotFound | Some o ↦ Ok (kind_of o.value) ]
+
+abbrev NoMap : Kind → Type 0
+NoMap kind = (k v : ScalarKind) → kind ≡ Map k v → ⊥
+
+no_first : (ps : List NumberPair) (kind : Kind) → NoMap kind → first_in ps kind ≡ Err WrongKind
+no_first ps (Map k v) n = absurd (n k v refl)
+no_first ps (Scalar k) n = refl
+no_first ps (Vector k) n = refl
+no_first ps Text n = refl
+no_first ps Texts n = refl
+
+no_next : (ps : List NumberPair) (l : Literal) (kind : Kind) → NoMap kind → next_in ps l kind ≡ Err WrongKind
+no_next ps l (Map k v) n = absurd (n k v refl)
+no_next ps l (Scalar k) n = refl
+no_next ps l (Vector k) n = refl
+no_next ps l Text n = refl
+no_next ps l Texts n = refl
+
+module _ (s : State) (key : Key) (at value : Value) where
+  -- no object has the key
+  pub first-missing : (why : Refusal) → IsMissing s key why → (d : Directory) → StandsFor s.cut.bytes d → TellsPair at value 6 (first_at d key)
+  first-missing why m d st = subst (λ (r : Option Object). TellsPair at value 6 (first_told (pairs_at d key) (kind_in r))) (sym (m.missing d st)) refl
+
+  pub next-missing : (why : Refusal) → IsMissing s key why → (l : Literal) (d : Directory) → StandsFor s.cut.bytes d → TellsPair at value 6 (next_at d key l)
+  next-missing why m l d st = subst (λ (r : Option Object). TellsPair at value 6 (next_told (pairs_at d key) l (kind_in r))) (sym (m.missing d st)) refl
+
+  -- it is no map
+  module _ (kind : Kind) (a : Answers s (λ d. kind_at d key) (Ok kind)) (n : NoMap kind) where
+    pub first-no_map : (d : Directory) → StandsFor s.cut.bytes d → TellsPair at value 7 (first_at d key)
+    first-no_map d st = subst (TellsPair at value 7) (sym (no_first (pairs_at d key) kind n) ∙ ap (first_told (pairs_at d key)) (a.answers d st)) refl
+
+    pub next-no_map : (l : Literal) (d : Directory) → StandsFor s.cut.bytes d → TellsPair at value 7 (next_at d key l)
+    next-no_map l d st = subst (TellsPair at value 7) (sym (no_next (pairs_at d key) l kind n) ∙ ap (next_told (pairs_at d key) l) (a.answers d st)) refl
+
+  -- it is a map
+  module _ (k v : ScalarKind) (a : Answers s (λ d. kind_at d key) (Ok (Map k v))) (code : ℕ) where
+    pub first-told : (p : Option Item) → Answers s (λ d. item_in k v (option_map item_of (first_of (pairs_at d key)))) p → TellsPair at value code (Ok p)
+        → (d : Directory) → StandsFor s.cut.bytes d → TellsPair at value code (first_at d key)
+    first-told p r told d st = subst (TellsPair at value code) (ap (λ (q : Option Item). let it : Pair = Ok q in it) (r.answers d st) ∙ ap (first_told (pairs_at d key)) (a.answers d st)) told
+
+    pub next-told : (l : Literal) (z : ℤ) (p : Option Item) → value_of_literal k l ≡ Ok z → Answers s (λ d. item_in k v (pair_above z (pairs_at d key))) p → TellsPair at value code (Ok p)
+        → (d : Directory) → StandsFor s.cut.bytes d → TellsPair at value code (next_at d key l)
+    next-told l z p e r told d st =
+        subst (TellsPair at value code)
+        (ap (λ (q : Option Item). let it : Pair = Ok q in it) (r.answers d st) ∙ ap (above_in (pairs_at d key) k v) (sym e) ∙ ap (next_told (pairs_at d key) l) (a.answers d st)) told
+
+    pub next-refused : (l : Literal) (why : Refusal) → value_of_literal k l ≡ Err why → code ≡ refusal_number why → (d : Directory) → StandsFor s.cut.bytes d → TellsPair at value code (next_at d key l)
+    next-refused l why e told d st = subst (TellsPair at value code) (ap (above_in (pairs_at d key) k v) (sym e) ∙ ap (next_told (pairs_at d key) l) (a.answers d st)) told

@@ -1,0 +1,21 @@
+use Rattle.std.proofs.Common.{arith, refl, subst, sym}
+use Rattle.std.proofs.lemmas.Option.{slice_get_past}
+use Rattle.segment_manager.specs.Directory.{unique_objects}
+use Rattle.segment_c.specs.Lists.{TellsAlone}
+use Rattle.segment_c.proofs.Counts.{unique_is}
+use Rattle.segment_c.proofs.lists.tell_unique.Goals as goal
+
+pub unique_instance-requires : goal.unique_instance-requires
+unique_instance-requires c = record {
+  below = λ d st. omega (arith, c.if-index-num_unique.false, unique_is c.args.segment.now.mode d c.num_unique.result (c.num_unique.ensures.answers d st));
+}
+
+pub returns-then-index-num_unique-clause-told : goal.returns-then-index-num_unique-clause-told
+returns-then-index-num_unique-clause-told c = λ d st.
+    subst (TellsAlone c.args.info.now 8)
+    (sym (slice_get_past (unique_objects d) c.args.index (omega (arith, c.if-index-num_unique.true, unique_is c.args.segment.now.mode d c.num_unique.result (c.num_unique.ensures.answers d st))))) refl
+
+pub returns-clause-told : goal.returns-clause-told
+returns-clause-told c = λ d st.
+    let said = c.unique_instance.ensures.says d st in
+    subst (TellsAlone c.of.result 0) (sym said.1) (refl, c.of.ensures said.0 said.2)

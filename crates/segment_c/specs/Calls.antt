@@ -1,0 +1,25 @@
+-- What the calls of C owe, whatever they are asked.
+use Rattle.std.specs.Prelude.{◌≡◌, ◌≢◌, ◌≤◌, ℕ, Option, Some, None, IsTrue}
+use Rattle.segment_manager.specs.State.{State}
+use Rattle.segment_c.specs.Codes.{is_answer}
+
+-- the handle has a segment, of which this holds
+abbrev pub Opened : Option State → (State → Type 0) → Type 0
+Opened None P = ⊥
+Opened (Some s) P = P s
+
+-- the call answers the code by which an argument is refused, where one is, and changes nothing
+abbrev pub IsStopped : ℕ → ℕ → Option State → Option State → Type 0
+IsStopped wrong code old new = 1 ≤ wrong → (code ≡ wrong) × (new ≡ old)
+
+-- and else that the handle is closed, where it is
+abbrev pub IsClosed : ℕ → ℕ → Option State → Option State → Type 0
+IsClosed wrong code old new = wrong ≡ 0 → old ≡ None → (code ≡ 16) × (new ≡ None)
+
+-- and else this holds of the segment before and the one after, and the code is one that a segment gives
+abbrev pub IsAsked : ℕ → ℕ → Option State → Option State → (State → State → Type 0) → Type 0
+IsAsked wrong code old new P = (s : State) → wrong ≡ 0 → old ≡ Some s → IsTrue (is_answer code) × Opened new (λ t. P s t)
+
+-- a call that makes an object leaves bytes of gaps where there was no space, and else changes nothing where it is refused
+abbrev pub KeepsRefused : ℕ → Option State → Option State → Type 0
+KeepsRefused code old new = 1 ≤ code → code ≢ 9 → new ≡ old

@@ -1,0 +1,33 @@
+-- Segments that become longer, in a larger region where their own has no room: what the call owes.
+use Rattle.std.specs.Prelude.{◌≡◌, ◌≤◌, ◌⊎◌, ℕ, ◌+◌, ◌%◌, false, None, length}
+use Rattle.segment_manager.specs.declared.modes.Mode.{Mode}
+use Rattle.segment_manager.specs.Directory.{Directory}
+use Rattle.segment_manager.specs.Resized.{grown}
+use Rattle.segment_manager.specs.State.{State, StandsFor}
+use Rattle.segment_manager.specs.Step.{is_read_only}
+use Rattle.grow_shrink.specs.Resized.{growth_refusal, room_of}
+use Rattle.segment_c.specs.Resizing.{size_code}
+
+-- open as it was, and each directory has so many bytes more; the segment may lie in another region then
+pub record IsLonger (s t : State) (extra : ℕ) : Type 0 where
+  pub mode : t.mode ≡ s.mode
+  pub denotes : (d : Directory) → StandsFor s.cut.bytes d → StandsFor t.cut.bytes (grown d extra)
+
+-- the code is that of the refusal, if there is one in a region with room, or there was no memory for a larger region
+abbrev pub IsGrowthCode : Mode → ℕ → ℕ → Directory → Type 0
+IsGrowthCode mode extra code d =
+    (code ≡ size_code (growth_refusal mode d.size extra (d.size + extra)))
+    ⊎ ((code ≡ 26) × (growth_refusal mode d.size extra (d.size + extra) ≡ None))
+
+-- the segment may have so many bytes more, but that its region need not have room
+pub record IsShortOfRoom (s : State) (extra : ℕ) : Type 0 where
+  pub writing : is_read_only s.mode ≡ false
+  pub long : 32 ≤ extra
+  pub whole : extra % 16 ≡ 0
+  pub small : length s.cut.bytes + extra ≤ 1073741824
+
+-- a copy of a segment, in a region with room for so many bytes from its base on
+pub record IsCopyWithRoom (s t : State) (bytes : ℕ) : Type 0 where
+  pub bytes_same : t.cut.bytes ≡ s.cut.bytes
+  pub mode : t.mode ≡ s.mode
+  pub room : bytes ≤ room_of t.cut

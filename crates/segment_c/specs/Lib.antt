@@ -1,0 +1,12 @@
+pub mod Calls
+pub mod Codes
+pub mod Destroying
+pub mod Growing
+pub mod Held
+pub mod Images
+pub mod Lists
+pub mod Opening
+pub mod Passed
+pub mod Reads
+pub mod Resizing
+pub mod Words

@@ -1,0 +1,143 @@
+-- What the keys and the values that C passes stand for, and by which code they are refused that stand for nothing.
+use Rattle.std.specs.Prelude.{ℕ, ℤ, pos, Bool, ◌&&◌, not, ◌==◌, nat_le, List, map, Option, Some, None, if◌then◌else◌}
+use Rattle.seg_types.specs.declared.kinds.Kind.{Kind}
+use Rattle.seg_types.specs.declared.kinds.Kind.TheVariants.{Text}
+use Rattle.seg_types.specs.declared.kinds.ScalarKind.{ScalarKind}
+use Rattle.seg_types.specs.declared.kinds.ScalarKind.TheVariants.{Bool as BoolKind, U8, I32, I64, U64}
+use Rattle.seg_types.specs.Commands.{Literal, Whole, literal_of}
+use Rattle.segment_manager.specs.Answers.{Answer, Absent, Element}
+use Rattle.seg_types.specs.Kinds.{code_of, is_value, kind_of_code, truth_number}
+use Rattle.seg_types.specs.Names.{Key, ByName, ByKind, ByHandle, NoKey, is_text_name}
+use Rattle.segment_c.specs.declared.keys.ObjectKey.{ObjectKey}
+use Rattle.segment_c.specs.declared.values.Value.{Value}
+use Rattle.segment_c.specs.declared.rows.Values.{Values}
+
+-- ---- the first code of some that is not 0
+
+abbrev pub or_else : ℕ → ℕ → ℕ
+or_else code other = if code == 0 then other else code
+
+-- ---- keys
+
+abbrev pub name_wrong : List ℕ → ℕ
+name_wrong name = if is_text_name name then 0 else 18
+
+abbrev pub kind_wrong : ℕ → ℕ
+kind_wrong code = elim (kind_of_code code) [ None ↦ 19 | Some kind ↦ 0 ]
+
+abbrev pub kind_key : Option Kind → Key
+kind_key None = NoKey
+kind_key (Some kind) = ByKind kind
+
+-- the key of an object that is there
+abbrev pub key_wrong : ObjectKey → ℕ
+key_wrong k =
+    if k.how == 0 then name_wrong k.name.now
+    else if k.how == 1 then kind_wrong k.kind
+    else if k.how == 2 then 0
+    else if k.how == 4 then 25
+    else 17
+
+abbrev pub key_of : ObjectKey → Key
+key_of k =
+    if k.how == 0 then ByName k.name.now
+    else if k.how == 1 then kind_key (kind_of_code k.kind)
+    else ByHandle k.handle
+
+-- the key of an entry under which an object of a kind is found or made
+abbrev pub entry_wrong : ObjectKey → Kind → ℕ
+entry_wrong k kind =
+    if k.how == 0 then name_wrong k.name.now
+    else if k.how == 1 then (if k.kind == code_of kind then 0 else 19)
+    else if k.how == 4 then 25
+    else 17
+
+abbrev pub entry_of : ObjectKey → Kind → Key
+entry_of k kind = if k.how == 0 then ByName k.name.now else ByKind kind
+
+-- the key under which a new object of a kind is made
+abbrev pub new_wrong : ObjectKey → Kind → ℕ
+new_wrong k kind = if k.how == 3 then 0 else entry_wrong k kind
+
+abbrev pub new_of : ObjectKey → Kind → Key
+new_of k kind = if k.how == 3 then NoKey else entry_of k kind
+
+-- ---- values
+
+-- the kind of scalars that a code says
+abbrev pub scalar_kind_of : ℕ → Option ScalarKind
+scalar_kind_of code =
+    if code == 1 then Some BoolKind
+    else if code == 2 then Some U8
+    else if code == 3 then Some I32
+    else if code == 4 then Some I64
+    else if code == 5 then Some U64
+    else None
+
+abbrev pub scalar_kind_wrong : ℕ → ℕ
+scalar_kind_wrong code = elim (scalar_kind_of code) [ None ↦ 19 | Some k ↦ 0 ]
+
+-- the number of a value of a kind: the signed ones have a field of their own
+abbrev pub number_in : Value → ScalarKind → ℤ
+number_in v BoolKind = pos v.natural
+number_in v U8 = pos v.natural
+number_in v I32 = v.number
+number_in v I64 = v.number
+number_in v U64 = pos v.natural
+
+-- a kind and a number in its range, if it is one
+abbrev pub scalar_in : Value → Option (ScalarKind × ℤ)
+scalar_in v = elim (scalar_kind_of v.kind) as (λ _. Option (ScalarKind × ℤ)) [
+  | None ↦ None
+  | Some k ↦ if is_value k (number_in v k) then Some (k, number_in v k) else None
+]
+
+abbrev pub value_wrong : Value → ℕ
+value_wrong v = elim (scalar_in v) [ None ↦ 20 | Some s ↦ 0 ]
+
+-- a value that is passed is the literal that a script writes for it
+abbrev pub literal_in : Value → Literal
+literal_in v = elim (scalar_in v) as (λ _. Literal) [ None ↦ Whole (pos 0) | Some s ↦ literal_of s.0 s.1 ]
+
+-- a value that is given is an element
+abbrev pub element_in : Value → Answer
+element_in v = elim (scalar_in v) as (λ _. Answer) [ None ↦ Absent | Some s ↦ Element s.0 s.1 ]
+
+-- the kind of scalars of a value that is passed
+abbrev pub kind_in : Value → ScalarKind
+kind_in v = elim (scalar_in v) as (λ _. ScalarKind) [ None ↦ BoolKind | Some s ↦ s.0 ]
+
+-- and its number
+abbrev pub whole_in : Value → ℤ
+whole_in v = elim (scalar_in v) as (λ _. ℤ) [ None ↦ pos 0 | Some s ↦ s.1 ]
+
+-- how many scalars an object has
+abbrev pub count_wrong : ℕ → ℕ
+count_wrong n = if nat_le 1 n && nat_le n 1048576 then 0 else 21
+
+-- ---- rows of values
+
+abbrev pub row_kind_wrong : ℕ → ℕ
+row_kind_wrong code = if code == 0 then 25 else scalar_kind_wrong code
+
+abbrev pub row_wrong : Values → ℕ
+row_wrong v = row_kind_wrong v.kind
+
+-- the kind of scalars that a code says, where it says one
+abbrev pub scalar_kind_in : ℕ → ScalarKind
+scalar_kind_in code = elim (scalar_kind_of code) as (λ _. ScalarKind) [ None ↦ BoolKind | Some k ↦ k ]
+
+-- the whole numbers of the slice of a kind
+abbrev pub numbers_of : Values → ScalarKind → List ℤ
+numbers_of v BoolKind = map truth_number v.truths.now
+numbers_of v U8 = map pos v.bytes.now
+numbers_of v I32 = map (λ x. x) v.i32s.now
+numbers_of v I64 = map (λ x. x) v.i64s.now
+numbers_of v U64 = map pos v.u64s.now
+
+abbrev pub row_of : Values → List ℤ
+row_of v = numbers_of v (scalar_kind_in v.kind)
+
+-- the kind of objects that a code says, where it says one
+abbrev pub object_kind_in : ℕ → Kind
+object_kind_in code = elim (kind_of_code code) as (λ _. Kind) [ None ↦ Text | Some k ↦ k ]

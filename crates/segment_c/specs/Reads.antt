@@ -1,0 +1,102 @@
+-- What the calls read of containers.
+use Rattle.std.specs.Prelude.{◌≡◌, ◌<◌, ◌≤◌, ℕ, ℤ, List, length, Option, Some, None, Result, Ok, Err, option_map}
+use Rattle.seg_types.specs.declared.kinds.Kind.{Kind}
+use Rattle.seg_types.specs.declared.kinds.Kind.TheVariants.{Map, Scalar, Text, Texts, Vector}
+use Rattle.seg_types.specs.declared.kinds.ScalarKind.{ScalarKind}
+use Rattle.seg_types.specs.declared.kinds.ScalarKind.TheVariants.{U8}
+use Rattle.seg_types.specs.declared.refusals.Refusal.{Refusal}
+use Rattle.seg_types.specs.declared.refusals.Refusal.TheVariants.{WrongKind}
+use Rattle.seg_types.specs.declared.values.ScalarValue.{ScalarValue}
+use Rattle.seg_types.specs.Commands.{Literal, value_of_literal}
+use Rattle.seg_types.specs.Names.{Key}
+use Rattle.seg_types.specs.Refusals.{refusal_number}
+use Rattle.seg_map.specs.Numbers.{NumberPair}
+use Rattle.seg_map.specs.Places.{item_of}
+use Rattle.segment_manager.specs.Answers.{Answer, TextElement, Refused}
+use Rattle.segment_manager.specs.Calls.{kind_at}
+use Rattle.segment_manager.specs.Directory.{Directory}
+use Rattle.segment_manager.specs.Maps.{pair_above}
+use Rattle.segment_manager.specs.Walks.{Item, first_of, item_of_kinds, item_seen, pairs_at}
+use Rattle.segment_c.specs.declared.values.Value.{Value}
+use Rattle.segment_c.specs.Images.{Saves}
+use Rattle.segment_c.specs.Passed.{scalar_in}
+
+-- the code is 0 and this holds, or it is that of the refusal
+abbrev pub IsCoded : {A : Type 0} → (A → Type 0) → ℕ → Result A Refusal → Type 0
+IsCoded P code (Ok a) = (code ≡ 0) × P a
+IsCoded P code (Err why) = code ≡ refusal_number why
+
+-- how many elements, and how many places
+abbrev pub AreSizes : ℕ → ℕ → ℕ × ℕ → Type 0
+AreSizes len places sizes = (len ≡ sizes.0) × (places ≡ sizes.1)
+
+-- bytes stand at the front of a buffer, where it has room for them, and how many they are goes out in any case
+pub record IsCopied (bytes old new : List ℕ) (len code : ℕ) : Type 0 where
+  pub len_is : len ≡ length bytes
+  pub saves : Saves bytes old new code
+
+-- the same of bytes that may not be there
+abbrev pub Copies : List ℕ → List ℕ → ℕ → ℕ → Result (List ℕ) Refusal → Type 0
+Copies old new len code (Ok bytes) = IsCopied bytes old new len code
+Copies old new len code (Err why) = code ≡ refusal_number why
+
+-- the same of an answer, which is a text or a refusal
+abbrev pub CopiesAnswer : List ℕ → List ℕ → ℕ → ℕ → Answer → Type 0
+CopiesAnswer old new len code (TextElement bytes) = IsCopied bytes old new len code
+CopiesAnswer old new len code (Refused why) = code ≡ refusal_number why
+CopiesAnswer old new len code answer = ⊥
+
+-- ---- the last element
+
+-- the kind of scalars of a vector; of another object any
+abbrev pub vector_kind : Kind → ScalarKind
+vector_kind (Vector k) = k
+vector_kind (Scalar k) = U8
+vector_kind Text = U8
+vector_kind (Map k v) = U8
+vector_kind Texts = U8
+
+abbrev pub vector_kind_at : Directory → Key → ScalarKind
+vector_kind_at d key = elim (kind_at d key) as (λ _. ScalarKind) [ Err r ↦ U8 | Ok kind ↦ vector_kind kind ]
+
+-- ---- neighbours in a map
+
+-- a pair of a map of two kinds, or none
+abbrev pub item_in : ScalarKind → ScalarKind → Option (ℤ × ℤ) → Option Item
+item_in k v p = option_map (item_of_kinds k v) p
+
+abbrev pub first_in : List NumberPair → Kind → Result (Option Item) Refusal
+first_in ps (Map k v) = Ok (item_in k v (option_map item_of (first_of ps)))
+first_in ps (Scalar k) = Err WrongKind
+first_in ps (Vector k) = Err WrongKind
+first_in ps Text = Err WrongKind
+first_in ps Texts = Err WrongKind
+
+-- the pair with the least key of the map of a key
+abbrev pub first_at : Directory → Key → Result (Option Item) Refusal
+first_at d key = elim (kind_at d key) as (λ _. Result (Option Item) Refusal) [ Err why ↦ Err why | Ok kind ↦ first_in (pairs_at d key) kind ]
+
+abbrev pub above_in : List NumberPair → ScalarKind → ScalarKind → Result ℤ Refusal → Result (Option Item) Refusal
+above_in ps k v (Ok z) = Ok (item_in k v (pair_above z ps))
+above_in ps k v (Err why) = Err why
+
+abbrev pub next_in : List NumberPair → Literal → Kind → Result (Option Item) Refusal
+next_in ps l (Map k v) = above_in ps k v (value_of_literal k l)
+next_in ps l (Scalar k) = Err WrongKind
+next_in ps l (Vector k) = Err WrongKind
+next_in ps l Text = Err WrongKind
+next_in ps l Texts = Err WrongKind
+
+-- the pair with the least key above the one that a literal is
+abbrev pub next_at : Directory → Key → Literal → Result (Option Item) Refusal
+next_at d key l = elim (kind_at d key) as (λ _. Result (Option Item) Refusal) [ Err why ↦ Err why | Ok kind ↦ next_in (pairs_at d key) l kind ]
+
+-- a pair goes out, or none is there
+abbrev pub TellsPair : Value → Value → ℕ → Result (Option Item) Refusal → Type 0
+TellsPair at value code (Ok None) = code ≡ 10
+TellsPair at value code (Ok (Some (x, y))) = (code ≡ 0) × (scalar_in at ≡ Some x) × (scalar_in value ≡ Some y)
+TellsPair at value code (Err why) = code ≡ refusal_number why
+
+-- the same of a pair as the code has it
+abbrev pub TellsPairOf : Value → Value → ℕ → Option (ScalarValue × ScalarValue) → Type 0
+TellsPairOf at value code pair = TellsPair at value code (Ok (option_map item_seen pair))

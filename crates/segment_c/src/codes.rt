@@ -1,0 +1,210 @@
+//! The codes that C is answered: those of refusals are their numbers in the language.
+ghost use Rattle.std.specs.Prelude.{◌≡◌, ◌≤◌, IsTrue};
+ghost use Rattle.seg_types.specs.Refusals.{refusal_number};
+ghost use Rattle.segment_c.specs.Codes.{answer_for, is_answer};
+ghost use Rattle.segment_c.specs.Passed.{element_in};
+ghost use Rattle.segment_manager.specs.Answers.{Answer, Done, Found, Made, Refused, Truth};
+ghost use Rattle.segment_manager.specs.Found.{found_answer, pair_answer};
+ghost use Rattle.segment_manager.specs.Maps.{any_value_answer};
+ghost use Rattle.segment_manager.specs.State.{done_answer, gone_answer, handle_answer, scalar_answer, truth_answer};
+
+use crate::values::Value;
+use seg_types::{Handle, Refusal, ScalarValue};
+
+/// Done.
+pub const DONE: u32 = 0;
+/// The segment is open for reading.
+pub const READ_ONLY: u32 = 4;
+/// No object has the key.
+pub const NOT_FOUND: u32 = 6;
+/// The object, or what is passed for it, is of another kind.
+pub const WRONG_KIND: u32 = 7;
+/// An index past the end.
+pub const OUT_OF_RANGE: u32 = 8;
+/// Nothing is there.
+pub const ABSENT: u32 = 10;
+/// The handle has no segment.
+pub const CLOSED: u32 = 16;
+/// The key's `how` is none, or none that the call takes.
+pub const BAD_KEY: u32 = 17;
+/// The bytes are no name.
+pub const BAD_NAME: u32 = 18;
+/// No kind has the code, or the key is for another.
+pub const BAD_KIND: u32 = 19;
+/// The value's kind is no scalar's, or its number is outside that kind.
+pub const BAD_VALUE: u32 = 20;
+/// An object of scalars has not so many.
+pub const BAD_COUNT: u32 = 21;
+/// No segment, or no region, has so many bytes.
+pub const BAD_SIZE: u32 = 22;
+/// The mode is none.
+pub const BAD_MODE: u32 = 23;
+/// The buffer has too little room.
+pub const SHORT_BUFFER: u32 = 24;
+/// A slice is null.
+pub const NULL_SLICE: u32 = 25;
+/// No memory.
+pub const NO_MEMORY: u32 = 26;
+/// The region has too little room.
+pub const SHORT_REGION: u32 = 27;
+/// A segment does not grow by so many bytes.
+pub const BAD_GROWTH: u32 = 28;
+/// A segment has not so many bytes.
+pub const TOO_LARGE: u32 = 29;
+/// The bytes are no image: to this the number of its class is added.
+pub const BAD_IMAGE: u32 = 100;
+
+/// The code of a refusal.
+pub fn code_of(why: Refusal) -> u32
+    ensures answers { (a : Answer) → answer_for result a ≡ Refused why }
+    ensures answer { IsTrue (is_answer result) }
+    ensures refused { 1 ≤ result }
+{
+    match why {
+        Refusal::ReadOnly => 4,
+        Refusal::Exists => 5,
+        Refusal::NotFound => 6,
+        Refusal::WrongKind => 7,
+        Refusal::OutOfRange => 8,
+        Refusal::NoSpace => 9,
+    }
+}
+
+/// The code where a command is done, or not.
+pub fn done(done: Result<(), Refusal>) -> u32
+    ensures answers { answer_for result Done ≡ done_answer done }
+    ensures answer { IsTrue (is_answer result) }
+{
+    match done {
+        Ok(()) => DONE,
+        Err(why) => code_of(why),
+    }
+}
+
+/// The code where an object was made, or not. Its handle goes out.
+pub fn made(made: Result<Handle, Refusal>, handle: &mut u64) -> u32
+    ensures answers { answer_for result (Made handle.new) ≡ handle_answer made }
+    ensures answer { IsTrue (is_answer result) }
+    ensures kept { 1 ≤ result → handle.new ≡ handle.old }
+{
+    match made {
+        Ok(at) => {
+            *handle = at;
+            DONE
+        }
+        Err(why) => code_of(why),
+    }
+}
+
+/// The code where something holds, or not. Whether it does goes out.
+pub fn truth(truth: Result<bool, Refusal>, holds: &mut bool) -> u32
+    ensures answers { answer_for result (Truth holds.new) ≡ truth_answer truth }
+    ensures answer { IsTrue (is_answer result) }
+    ensures kept { 1 ≤ result → holds.new ≡ holds.old }
+{
+    match truth {
+        Ok(it) => {
+            *holds = it;
+            DONE
+        }
+        Err(why) => code_of(why),
+    }
+}
+
+/// The code where an element was asked for, or not. It goes out.
+pub fn element(element: Result<ScalarValue, Refusal>, value: &mut Value) -> u32
+    ensures answers { answer_for result (element_in value.new) ≡ scalar_answer element }
+    ensures answer { IsTrue (is_answer result) }
+    ensures kept { 1 ≤ result → value.new ≡ value.old }
+{
+    match element {
+        Ok(it) => {
+            *value = Value::of(it);
+            DONE
+        }
+        Err(why) => code_of(why),
+    }
+}
+
+/// The code where an object was found or made, or not. Its handle and how many elements it has go out.
+pub fn found(found: Result<(Handle, u32), Refusal>, handle: &mut u64, count: &mut u32) -> u32
+    ensures answers { answer_for result (Found handle.new count.new) ≡ pair_answer found }
+    ensures answer { IsTrue (is_answer result) }
+    ensures kept { 1 ≤ result → (handle.new ≡ handle.old) × (count.new ≡ count.old) }
+{
+    match found {
+        Ok((at, many)) => {
+            *handle = at;
+            *count = many;
+            DONE
+        }
+        Err(why) => code_of(why),
+    }
+}
+
+/// The same where none may be there.
+pub fn found_or_absent(
+    found: Result<Option<(Handle, u32)>, Refusal>,
+    handle: &mut u64,
+    count: &mut u32,
+) -> u32
+    ensures answers { answer_for result (Found handle.new count.new) ≡ found_answer found }
+    ensures answer { IsTrue (is_answer result) }
+    ensures kept { 1 ≤ result → (handle.new ≡ handle.old) × (count.new ≡ count.old) }
+{
+    match found {
+        Ok(Some((at, many))) => {
+            *handle = at;
+            *count = many;
+            DONE
+        }
+        Ok(None) => ABSENT,
+        Err(why) => code_of(why),
+    }
+}
+
+/// The code where an object was destroyed, or not, and whether there was one, which goes out.
+pub fn gone(gone: Result<(), Refusal>, was_there: &mut bool) -> u32
+    ensures answers { answer_for result (Truth was_there.new) ≡ gone_answer gone }
+    ensures answer { IsTrue (is_answer result) }
+    ensures kept { 1 ≤ result → was_there.new ≡ was_there.old }
+{
+    match gone {
+        Ok(()) => {
+            *was_there = true;
+            DONE
+        }
+        Err(why) => code_of(why),
+    }
+}
+
+/// The code where a value was looked for: it goes out where it is there.
+pub fn value_found(found: Result<Option<ScalarValue>, Refusal>, value: &mut Value) -> u32
+    ensures answers { answer_for result (element_in value.new) ≡ any_value_answer found }
+    ensures answer { IsTrue (is_answer result) }
+    ensures kept { 1 ≤ result → value.new ≡ value.old }
+{
+    match found {
+        Ok(Some(it)) => {
+            *value = Value::of(it);
+            DONE
+        }
+        Ok(None) => ABSENT,
+        Err(why) => code_of(why),
+    }
+}
+
+/// The code of a refusal, which is its number.
+pub fn number_of(why: Refusal) -> u32
+    ensures number { result ≡ refusal_number why }
+    ensures refused { 1 ≤ result }
+{
+    match why {
+        Refusal::ReadOnly => 4,
+        Refusal::Exists => 5,
+        Refusal::NotFound => 6,
+        Refusal::WrongKind => 7,
+        Refusal::OutOfRange => 8,
+        Refusal::NoSpace => 9,
+    }
+}

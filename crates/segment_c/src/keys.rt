@@ -1,0 +1,87 @@
+//! The keys that C passes.
+ghost use Rattle.std.specs.Prelude.{◌≡◌, ◌≤◌, MatchResult};
+ghost use Rattle.seg_types.specs.Keys.{index_key_seen, key_seen, new_key_seen};
+ghost use Rattle.segment_c.specs.Passed.{entry_of, entry_wrong, key_of, key_wrong, new_of, new_wrong};
+ghost use Rattle.segment_manager.specs.NewObjects.{IsOfKind};
+
+use crate::codes::{BAD_KEY, BAD_KIND, BAD_NAME, NULL_SLICE};
+use seg_types::{IndexKey, Key, Kind, Name, NewKey};
+
+/// Which object: by `how`, the one of the name (0), the unique one of the kind (1), the one of the handle (2); or a new one with no
+/// key (3). 4 stands for a null name.
+#[repr(C)]
+pub struct ObjectKey<'a> {
+    pub how: u32,
+    pub kind: u32,
+    pub handle: u64,
+    pub name: &'a [u8],
+}
+
+impl<'a> ObjectKey<'a> {
+    /// The key of an object that is there.
+    ///
+    /// # Errors
+    ///
+    /// The code by which it is refused.
+    pub fn key(&self) -> Result<Key<'a>, u32>
+        ensures { MatchResult result (λ key. (key_wrong self.now ≡ 0) × (key_seen key ≡ key_of self.now)) (λ code. (code ≡ key_wrong self.now) × (1 ≤ code)) }
+    {
+        match self.how {
+            0 => match Name::new(self.name) {
+                Some(name) => Ok(Key::Name(name)),
+                None => Err(BAD_NAME),
+            },
+            1 => match Kind::from_code(self.kind) {
+                Some(kind) => Ok(Key::Unique(kind)),
+                None => Err(BAD_KIND),
+            },
+            2 => Ok(Key::Handle(self.handle)),
+            4 => Err(NULL_SLICE),
+            _ => Err(BAD_KEY),
+        }
+    }
+
+    /// The entry under which an object of a kind is found or made.
+    ///
+    /// # Errors
+    ///
+    /// The code by which it is refused.
+    pub fn entry(&self, kind: Kind) -> Result<IndexKey<'a>, u32>
+        ensures { MatchResult result (λ key. (entry_wrong self.now kind ≡ 0) × (index_key_seen key ≡ entry_of self.now kind) × IsOfKind (index_key_seen key) kind)
+            (λ code. (code ≡ entry_wrong self.now kind) × (1 ≤ code)) }
+    {
+        match self.how {
+            0 => match Name::new(self.name) {
+                Some(name) => Ok(IndexKey::Name(name)),
+                None => Err(BAD_NAME),
+            },
+            1 => {
+                if self.kind == kind.code() {
+                    Ok(IndexKey::Unique(kind))
+                } else {
+                    Err(BAD_KIND)
+                }
+            }
+            4 => Err(NULL_SLICE),
+            _ => Err(BAD_KEY),
+        }
+    }
+
+    /// The key under which a new object of a kind is made.
+    ///
+    /// # Errors
+    ///
+    /// The code by which it is refused.
+    pub fn new_key(&self, kind: Kind) -> Result<NewKey<'a>, u32>
+        ensures { MatchResult result (λ key. (new_wrong self.now kind ≡ 0) × (new_key_seen key ≡ new_of self.now kind) × IsOfKind (new_key_seen key) kind)
+            (λ code. (code ≡ new_wrong self.now kind) × (1 ≤ code)) }
+    {
+        if self.how == 3 {
+            return Ok(NewKey::Anonymous);
+        }
+        match self.entry(kind) {
+            Ok(entry) => Ok(entry.into_new_key()),
+            Err(code) => Err(code),
+        }
+    }
+}

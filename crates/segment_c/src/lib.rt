@@ -1,0 +1,27 @@
+//! A segment for programs in C, C++ and Python: the functions of `c/zaluxhoni.h`. Each is a call of the library, with its clauses
+//! at the segment that a handle has before and after; a closed handle and what C passes wrongly are codes, and change nothing.
+#![tactic(auto)]
+
+mod codes;
+mod destroying;
+mod elements;
+mod growing;
+mod handle;
+mod images;
+mod keys;
+mod lists;
+mod maps;
+mod neighbours;
+mod objects;
+mod opening;
+mod popping;
+mod reading;
+mod resizing;
+mod rows;
+mod storage;
+mod strings;
+mod values;
+mod vectors;
+mod words;
+
+pub use handle::Handle;

@@ -1,0 +1,254 @@
+//! What objects say of themselves, by key and one after another, and the blocks and gaps.
+ghost use Rattle.std.specs.Prelude.{◌≡◌, ◌≤◌, MatchOption, slice_get};
+ghost use Rattle.std.specs.declared.option.Option.TheVariants.{None, Some};
+ghost use Rattle.best_fit.specs.Extents.{spans};
+ghost use Rattle.seg_types.specs.Commands.{NumNamed, NumUnique};
+ghost use Rattle.seg_types.specs.Keys.{key_seen};
+ghost use Rattle.seg_types.specs.Kinds.{class_code};
+ghost use Rattle.segment_c.specs.Calls.{IsAsked, IsClosed, IsStopped};
+ghost use Rattle.segment_c.specs.Codes.{answer_for};
+ghost use Rattle.segment_c.specs.Lists.{IsInfo, IsTold, TellsAlone, TellsBlock, TellsOf, use_code};
+ghost use Rattle.segment_c.specs.Passed.{key_of, key_wrong};
+ghost use Rattle.segment_manager.specs.Answers.{Number};
+ghost use Rattle.segment_manager.specs.Directory.{Directory, Object, live, named_objects, object_at, unique_objects};
+ghost use Rattle.segment_manager.specs.Instances.{IsInstance};
+ghost use Rattle.segment_manager.specs.State.{IsReply, StandsFor, State};
+
+use crate::codes::{CLOSED, DONE, NOT_FOUND, OUT_OF_RANGE, SHORT_BUFFER, code_of};
+use crate::handle::{Handle, put, take};
+use crate::keys::ObjectKey;
+use block_tags::Role;
+use seg_types::{Class, Key, Refusal};
+use segment_manager::{Instance, Segment};
+use std::alloc::Global;
+
+/// What an object says of itself: how it is found again (0 by its handle alone, 1 by its name, 2 as the one of its kind), the code of
+/// its kind, how many elements it has (1 where it is no object of scalars), how many bytes its name has, and its handle.
+#[repr(C)]
+#[derive(Clone, Copy)]
+pub struct Info {
+    pub found_by: u32,
+    pub kind: u32,
+    pub count: u32,
+    pub name_len: u64,
+    pub handle: u64,
+}
+
+/// A block in use or a gap: where it begins, how long it is, and what it is for (0 a gap, 1 an object, 2 an index, 3 elements, 4 a
+/// pair).
+#[repr(C)]
+#[derive(Clone, Copy)]
+pub struct Block {
+    pub offset: u64,
+    pub len: u64,
+    pub use_of: u32,
+}
+
+/// What an object says of itself goes out, and its name to the front of the buffer, where that has room for it.
+fn tell(said: &Instance<'_>, info: &mut Info, name: &mut [u8]) -> u32
+    ensures told { (o : Object) → IsInstance o said.now → IsTold o info.new name.old name.new result }
+    ensures kept { 1 ≤ result → (info.new ≡ info.old) × (name.new ≡ name.old) }
+{
+    if name.len() < said.name.len() {
+        return SHORT_BUFFER;
+    }
+    name[..said.name.len()].copy_from_slice(said.name);
+    *info = Info::of(said);
+    DONE
+}
+
+impl Info {
+    /// What an object says of itself, but for its name.
+    fn of(said: &Instance<'_>) -> Info
+        ensures { (o : Object) → IsInstance o said.now → IsInfo o result }
+    {
+        Info {
+            found_by: class_code(said.class),
+            kind: said.kind.code(),
+            count: said.count,
+            name_len: said.name.len() as u64,
+            handle: said.handle,
+        }
+    }
+}
+
+/// The same of the object of a key.
+fn tell_key(segment: &Segment, key: &Key, info: &mut Info, name: &mut [u8]) -> u32
+    ensures told { TellsOf segment.now (λ d. object_at d (key_seen key.now)) 6 info.new name.old name.new result }
+    ensures kept { 1 ≤ result → (info.new ≡ info.old) × (name.new ≡ name.old) }
+{
+    match segment.instance(key) {
+        Ok(said) => tell(&said, info, name),
+        Err(_) => NOT_FOUND,
+    }
+}
+
+/// The same of the object with a name that has `index` others before it.
+fn tell_named(segment: &Segment, index: u64, info: &mut Info, name: &mut [u8]) -> u32
+    ensures told { TellsOf segment.now (λ d. slice_get (named_objects d) index) 8 info.new name.old name.new result }
+    ensures kept { 1 ≤ result → (info.new ≡ info.old) × (name.new ≡ name.old) }
+{
+    if index >= segment.num_named() {
+        return OUT_OF_RANGE;
+    }
+    tell(&segment.named_instance(index), info, name)
+}
+
+/// The same of the unique object that has `index` others before it, which has no name.
+fn tell_unique(segment: &Segment, index: u64, info: &mut Info) -> u32
+    ensures told { (d : Directory) → StandsFor segment.now.cut.bytes d → TellsAlone info.new result (slice_get (unique_objects d) index) }
+    ensures kept { 1 ≤ result → info.new ≡ info.old }
+{
+    if index >= segment.num_unique() {
+        return OUT_OF_RANGE;
+    }
+    *info = Info::of(&segment.unique_instance(index));
+    DONE
+}
+
+/// The code of how an object is found again.
+fn class_code(class: Class) -> u32
+    ensures { result ≡ class_code class }
+{
+    match class {
+        Class::Anonymous => 0,
+        Class::Named => 1,
+        Class::Unique => 2,
+    }
+}
+
+/// The code of what a block is for.
+fn use_code(use_of: Option<Role>) -> u32
+    ensures { result ≡ use_code use_of }
+{
+    match use_of {
+        None => 0,
+        Some(Role::Object) => 1,
+        Some(Role::Index) => 2,
+        Some(Role::Storage) => 3,
+        Some(Role::Node) => 4,
+    }
+}
+
+/// What the object of a key says of itself.
+#[unsafe(no_mangle)]
+pub extern "C" fn zx_tell(
+    alloc: Global,
+    h: &mut Handle,
+    key: &ObjectKey<'_>,
+    info: &mut Info,
+    name: &mut [u8],
+) -> u32
+    ensures stopped { IsStopped (key_wrong key.now) result h.old.value h.new.value }
+    ensures closed { IsClosed (key_wrong key.now) result h.old.value h.new.value }
+    ensures told { (s : State) → key_wrong key.now ≡ 0 → h.old.value ≡ Some s → TellsOf s (λ d. object_at d (key_of key.now)) 6 info.new name.old name.new result }
+    ensures same { h.new.value ≡ h.old.value }
+    ensures results { 1 ≤ result → (info.new ≡ info.old) × (name.new ≡ name.old) }
+{
+    let which = match key.key() {
+        Ok(it) => it,
+        Err(code) => return code,
+    };
+    let Some(segment) = take(alloc, h) else {
+        return CLOSED;
+    };
+    let code = tell_key(&segment, &which, info, name);
+    put(h, segment);
+    code
+}
+
+/// What the object says of itself whose name has `index` others before it, in the order of their bytes.
+#[unsafe(no_mangle)]
+pub extern "C" fn zx_named_at(
+    alloc: Global,
+    h: &mut Handle,
+    index: u64,
+    info: &mut Info,
+    name: &mut [u8],
+) -> u32
+    ensures closed { IsClosed 0 result h.old.value h.new.value }
+    ensures told { (s : State) → h.old.value ≡ Some s → TellsOf s (λ d. slice_get (named_objects d) index) 8 info.new name.old name.new result }
+    ensures same { h.new.value ≡ h.old.value }
+    ensures results { 1 ≤ result → (info.new ≡ info.old) × (name.new ≡ name.old) }
+{
+    let Some(segment) = take(alloc, h) else {
+        return CLOSED;
+    };
+    let code = tell_named(&segment, index, info, name);
+    put(h, segment);
+    code
+}
+
+/// What the unique object says of itself whose kind has `index` others before it, in the order of their codes.
+#[unsafe(no_mangle)]
+pub extern "C" fn zx_unique_at(alloc: Global, h: &mut Handle, index: u64, info: &mut Info) -> u32
+    ensures closed { IsClosed 0 result h.old.value h.new.value }
+    ensures told { (s : State) → h.old.value ≡ Some s → (d : Directory) → StandsFor s.cut.bytes d → TellsAlone info.new result (slice_get (unique_objects d) index) }
+    ensures same { h.new.value ≡ h.old.value }
+    ensures results { 1 ≤ result → info.new ≡ info.old }
+{
+    let Some(segment) = take(alloc, h) else {
+        return CLOSED;
+    };
+    let code = tell_unique(&segment, index, info);
+    put(h, segment);
+    code
+}
+
+/// The block or gap with `index` others before it.
+#[unsafe(no_mangle)]
+pub extern "C" fn zx_tile_at(alloc: Global, h: &mut Handle, index: u64, block: &mut Block) -> u32
+    ensures closed { IsClosed 0 result h.old.value h.new.value }
+    ensures told { (s : State) → h.old.value ≡ Some s → (d : Directory) → StandsFor s.cut.bytes d → TellsBlock block.new result (slice_get (spans (live d)) index) }
+    ensures same { h.new.value ≡ h.old.value }
+    ensures results { 1 ≤ result → block.new ≡ block.old }
+{
+    let Some(segment) = take(alloc, h) else {
+        return CLOSED;
+    };
+    let code = match segment.tile(index) {
+        Some(span) => {
+            *block = Block {
+                offset: span.offset,
+                len: span.len,
+                use_of: use_code(span.use_of),
+            };
+            DONE
+        }
+        None => code_of(Refusal::OutOfRange),
+    };
+    put(h, segment);
+    code
+}
+
+/// The number of objects with names.
+#[unsafe(no_mangle)]
+pub extern "C" fn zx_num_named(alloc: Global, h: &mut Handle, count: &mut u64) -> u32
+    ensures closed { IsClosed 0 result h.old.value h.new.value }
+    ensures asked { IsAsked 0 result h.old.value h.new.value (λ s t. IsReply s NumNamed (answer_for result (Number count.new))) }
+    ensures same { h.new.value ≡ h.old.value }
+    ensures results { 1 ≤ result → count.new ≡ count.old }
+{
+    let Some(segment) = take(alloc, h) else {
+        return CLOSED;
+    };
+    *count = segment.num_named();
+    put(h, segment);
+    DONE
+}
+
+/// The number of kinds with a unique object.
+#[unsafe(no_mangle)]
+pub extern "C" fn zx_num_unique(alloc: Global, h: &mut Handle, count: &mut u64) -> u32
+    ensures closed { IsClosed 0 result h.old.value h.new.value }
+    ensures asked { IsAsked 0 result h.old.value h.new.value (λ s t. IsReply s NumUnique (answer_for result (Number count.new))) }
+    ensures same { h.new.value ≡ h.old.value }
+    ensures results { 1 ≤ result → count.new ≡ count.old }
+{
+    let Some(segment) = take(alloc, h) else {
+        return CLOSED;
+    };
+    *count = segment.num_unique();
+    put(h, segment);
+    DONE
+}

@@ -1,0 +1,121 @@
+//! Maps.
+ghost use Rattle.std.specs.Prelude.{◌≡◌, ◌≤◌};
+ghost use Rattle.seg_types.specs.Commands.{Lookup, Put, Remove};
+ghost use Rattle.segment_c.specs.Calls.{IsAsked, IsClosed, IsStopped};
+ghost use Rattle.segment_c.specs.Codes.{answer_for};
+ghost use Rattle.segment_c.specs.Passed.{element_in, key_of, key_wrong, literal_in, or_else, value_wrong};
+ghost use Rattle.segment_manager.specs.Answers.{Truth};
+ghost use Rattle.segment_manager.specs.State.{IsReply, IsStep};
+
+use crate::codes::{CLOSED, truth, value_found};
+use crate::handle::{Handle, put, take};
+use crate::keys::ObjectKey;
+use crate::values::Value;
+use std::alloc::Global;
+
+/// The value at a key of the map of a key.
+#[unsafe(no_mangle)]
+pub extern "C" fn zx_map_get(
+    alloc: Global,
+    h: &mut Handle,
+    key: &ObjectKey<'_>,
+    at: &Value,
+    value: &mut Value,
+) -> u32
+    ensures stopped { IsStopped (or_else (key_wrong key.now) (value_wrong at.now)) result h.old.value h.new.value }
+    ensures closed { IsClosed (or_else (key_wrong key.now) (value_wrong at.now)) result h.old.value h.new.value }
+    ensures asked { IsAsked (or_else (key_wrong key.now) (value_wrong at.now)) result h.old.value h.new.value
+        (λ s t. IsReply s (Lookup (key_of key.now) (literal_in at.now)) (answer_for result (element_in value.new))) }
+    ensures same { h.new.value ≡ h.old.value }
+    ensures results { 1 ≤ result → value.new ≡ value.old }
+{
+    let which = match key.key() {
+        Ok(it) => it,
+        Err(code) => return code,
+    };
+    let wanted = match at.scalar() {
+        Ok(it) => it,
+        Err(code) => return code,
+    };
+    let Some(segment) = take(alloc, h) else {
+        return CLOSED;
+    };
+    let code = value_found(segment_values::look_up(&segment, &which, wanted), value);
+    put(h, segment);
+    code
+}
+
+/// Puts a value at a key of the map of a key, and says whether that is new.
+#[unsafe(no_mangle)]
+pub extern "C" fn zx_map_put(
+    alloc: Global,
+    h: &mut Handle,
+    key: &ObjectKey<'_>,
+    at: &Value,
+    value: &Value,
+    is_new: &mut bool,
+) -> u32
+    ensures stopped { IsStopped (or_else (key_wrong key.now) (or_else (value_wrong at.now) (value_wrong value.now))) result h.old.value h.new.value }
+    ensures closed { IsClosed (or_else (key_wrong key.now) (or_else (value_wrong at.now) (value_wrong value.now))) result h.old.value h.new.value }
+    ensures asked { IsAsked (or_else (key_wrong key.now) (or_else (value_wrong at.now) (value_wrong value.now))) result h.old.value h.new.value
+        (λ s t. IsStep s t (Put (key_of key.now) (literal_in at.now) (literal_in value.now)) (answer_for result (Truth is_new.new))) }
+    ensures kept { 1 ≤ result → h.new.value ≡ h.old.value }
+    ensures results { 1 ≤ result → is_new.new ≡ is_new.old }
+{
+    let which = match key.key() {
+        Ok(it) => it,
+        Err(code) => return code,
+    };
+    let new_key = match at.scalar() {
+        Ok(it) => it,
+        Err(code) => return code,
+    };
+    let new_value = match value.scalar() {
+        Ok(it) => it,
+        Err(code) => return code,
+    };
+    let Some(mut segment) = take(alloc, h) else {
+        return CLOSED;
+    };
+    let code = truth(
+        segment_values::put_pair(&mut segment, &which, new_key, new_value),
+        is_new,
+    );
+    put(h, segment);
+    code
+}
+
+/// Takes a key out of the map of a key, and says whether it was there.
+#[unsafe(no_mangle)]
+pub extern "C" fn zx_map_erase(
+    alloc: Global,
+    h: &mut Handle,
+    key: &ObjectKey<'_>,
+    at: &Value,
+    was_there: &mut bool,
+) -> u32
+    ensures stopped { IsStopped (or_else (key_wrong key.now) (value_wrong at.now)) result h.old.value h.new.value }
+    ensures closed { IsClosed (or_else (key_wrong key.now) (value_wrong at.now)) result h.old.value h.new.value }
+    ensures asked { IsAsked (or_else (key_wrong key.now) (value_wrong at.now)) result h.old.value h.new.value
+        (λ s t. IsStep s t (Remove (key_of key.now) (literal_in at.now)) (answer_for result (Truth was_there.new))) }
+    ensures kept { 1 ≤ result → h.new.value ≡ h.old.value }
+    ensures results { 1 ≤ result → was_there.new ≡ was_there.old }
+{
+    let which = match key.key() {
+        Ok(it) => it,
+        Err(code) => return code,
+    };
+    let gone = match at.scalar() {
+        Ok(it) => it,
+        Err(code) => return code,
+    };
+    let Some(mut segment) = take(alloc, h) else {
+        return CLOSED;
+    };
+    let code = truth(
+        segment_values::erase_pair(&mut segment, &which, gone),
+        was_there,
+    );
+    put(h, segment);
+    code
+}

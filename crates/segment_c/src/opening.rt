@@ -1,0 +1,116 @@
+//! Images that lie in memory, opened.
+ghost use Rattle.std.specs.Prelude.{◌≡◌, ◌≤◌, IsTrue, MatchOption, MatchResult, length};
+ghost use Rattle.image_check.specs.Classes.{are_bytes};
+ghost use Rattle.raw_region.specs.Memory.{zeros};
+ghost use Rattle.raw_region.specs.Regions.{IsCapacity};
+ghost use Rattle.segment_c.specs.Calls.{IsStopped, Opened};
+ghost use Rattle.segment_c.specs.Images.{mode_of, mode_wrong};
+ghost use Rattle.segment_c.specs.Opening.{IsImageOpened, IsWhyNotOpened, capacity_wrong};
+ghost use Rattle.segment_c.specs.Passed.{or_else};
+
+use crate::codes::{BAD_IMAGE, BAD_MODE, BAD_SIZE, DONE, NO_MEMORY, SHORT_REGION};
+use crate::handle::{Handle, put};
+use crate::images::boxed_or_not;
+use image_check::OpenError;
+use raw_region::{RawRegion, Steps};
+use segment_manager::{Mode, Segment};
+use slice_source::SliceSource;
+use std::alloc::Global;
+
+/// The most bytes of a region.
+const LARGEST_REGION: u64 = 1 << 40;
+
+/// The segment whose image the bytes are, in a region of `capacity` bytes. What the handle had is freed. The handle is as it was
+/// unless the code is 0.
+#[unsafe(no_mangle)]
+pub extern "C" fn zx_open(
+    alloc: Global,
+    h: &mut Handle,
+    image: &[u8],
+    capacity: u64,
+    mode: u32,
+) -> u32
+    ensures stopped { IsStopped (or_else (capacity_wrong capacity) (mode_wrong mode)) result h.old.value h.new.value }
+    ensures opened { result ≡ 0 → Opened h.new.value (λ t. IsImageOpened image.now capacity (mode_of mode) t) }
+    ensures why { or_else (capacity_wrong capacity) (mode_wrong mode) ≡ 0 → 1 ≤ result → IsWhyNotOpened image.now capacity result }
+    ensures kept { 1 ≤ result → h.new.value ≡ h.old.value }
+{
+    if capacity < 16 || capacity > LARGEST_REGION || capacity % 16 != 0 {
+        return BAD_SIZE;
+    }
+    let Some(mode) = mode_for(mode) else {
+        return BAD_MODE;
+    };
+    match open_boxed(alloc, image, capacity, mode) {
+        Ok(segment) => {
+            put(h, segment);
+            DONE
+        }
+        Err(code) => code,
+    }
+}
+
+/// The mode of a code.
+fn mode_for(code: u32) -> Option<Mode>
+    ensures { MatchOption result (mode_wrong code ≡ 23) (λ mode. (mode_wrong code ≡ 0) × (mode ≡ mode_of code)) }
+{
+    match code {
+        0 => Some(Mode::Write),
+        1 => Some(Mode::ReadOnly),
+        2 => Some(Mode::CopyOnWrite),
+        _ => None,
+    }
+}
+
+/// The segment whose image the bytes are, in a box.
+fn open_boxed(alloc: Global, image: &[u8], capacity: u64, mode: Mode) -> Result<Box<Segment>, u32>
+    requires { IsCapacity capacity }
+    ensures { MatchResult result (λ s. IsImageOpened image.now capacity mode s.value) (λ code. (1 ≤ code) × IsWhyNotOpened image.now capacity code) }
+{
+    let Ok(region) = RawRegion::new(alloc, capacity) else {
+        return Err(NO_MEMORY);
+    };
+    match open_image(alloc, image, region, mode) {
+        Ok(segment) => boxed_or_not(alloc, segment),
+        Err(code) => Err(code),
+    }
+}
+
+/// The segment whose image the bytes are, in a region of `capacity` bytes.
+///
+/// # Errors
+///
+/// The code.
+fn open_image(alloc: Global, image: &[u8], region: RawRegion, mode: Mode) -> Result<Segment, u32>
+    requires { region ≡ zeros (length region) }
+    ensures { MatchResult result (IsImageOpened image.now (length region) mode) (λ code. (1 ≤ code) × IsWhyNotOpened image.now (length region) code) }
+{
+    let mut reader = SliceSource::new(image);
+    let opened = image_check::open(alloc, &mut reader, region, 0, mode, &mut Steps::new());
+    // it has them still, but no contract of the call says so
+    if !are_same(reader.whole(), image) {
+        return Err(NO_MEMORY);
+    }
+    hold_bytes(image);
+    match opened {
+        Ok(segment) => Ok(segment),
+        Err(refused) => match refused.cause {
+            OpenError::Image(class) => Err(BAD_IMAGE + u32::from(class.number())),
+            OpenError::RegionTooSmall => Err(SHORT_REGION),
+            OpenError::OutOfMemory => Err(NO_MEMORY),
+            OpenError::ReadFault => unreachable!(),
+        },
+    }
+}
+
+/// Whether the bytes are the same.
+fn are_same(a: &[u8], b: &[u8]) -> bool
+    ensures { IsTrue result → a.now ≡ b.now }
+{
+    a == b
+}
+
+/// Each byte is below 256. Nothing is done.
+fn hold_bytes(bytes: &[u8])
+    ensures { IsTrue (are_bytes bytes.now) }
+{}

@@ -1,0 +1,155 @@
+//! What containers have, read.
+ghost use Rattle.std.specs.Prelude.{◌≡◌, ◌≤◌};
+ghost use Rattle.std.specs.declared.option.Option.TheVariants.{Some};
+ghost use Rattle.seg_types.specs.declared.kinds.Kind.TheVariants.{Texts as TextsKind};
+ghost use Rattle.seg_types.specs.Commands.{Get};
+ghost use Rattle.seg_types.specs.Keys.{key_seen};
+ghost use Rattle.segment_c.specs.Calls.{IsClosed, IsStopped};
+ghost use Rattle.segment_c.specs.Passed.{key_of, key_wrong};
+ghost use Rattle.segment_c.specs.Reads.{AreSizes, Copies, CopiesAnswer, IsCoded, IsCopied};
+ghost use Rattle.segment_manager.specs.Contents.{bytes_at, sizes_at};
+ghost use Rattle.segment_manager.specs.Directory.{Directory};
+ghost use Rattle.segment_manager.specs.State.{StandsFor, State};
+ghost use Rattle.segment_manager.specs.Step.{step_of_kind};
+
+use crate::codes::{CLOSED, DONE, number_of};
+use crate::handle::{Handle, put, take};
+use crate::images::copy_out;
+use crate::keys::ObjectKey;
+use seg_types::Key;
+use segment_manager::Segment;
+use std::alloc::Global;
+
+/// How many elements the vector or string of a key has, and how many places; or how many pairs its map has, and 0.
+#[unsafe(no_mangle)]
+pub extern "C" fn zx_measure(
+    alloc: Global,
+    h: &mut Handle,
+    key: &ObjectKey<'_>,
+    len: &mut u64,
+    places: &mut u64,
+) -> u32
+    ensures stopped { IsStopped (key_wrong key.now) result h.old.value h.new.value }
+    ensures closed { IsClosed (key_wrong key.now) result h.old.value h.new.value }
+    ensures told { (s : State) → key_wrong key.now ≡ 0 → h.old.value ≡ Some s → (d : Directory) → StandsFor s.cut.bytes d
+        → IsCoded (AreSizes len.new places.new) result (sizes_at d (key_of key.now)) }
+    ensures same { h.new.value ≡ h.old.value }
+    ensures results { 1 ≤ result → (len.new ≡ len.old) × (places.new ≡ places.old) }
+{
+    let which = match key.key() {
+        Ok(it) => it,
+        Err(code) => return code,
+    };
+    let Some(segment) = take(alloc, h) else {
+        return CLOSED;
+    };
+    let code = measure(&segment, &which, len, places);
+    put(h, segment);
+    code
+}
+
+/// The same of a segment.
+fn measure(segment: &Segment, key: &Key, len: &mut u64, places: &mut u64) -> u32
+    ensures told { (d : Directory) → StandsFor segment.now.cut.bytes d → IsCoded (AreSizes len.new places.new) result (sizes_at d (key_seen key.now)) }
+    ensures kept { 1 ≤ result → (len.new ≡ len.old) × (places.new ≡ places.old) }
+{
+    match segment.measure(key) {
+        Ok((elements, capacity)) => {
+            *len = elements;
+            *places = capacity;
+            DONE
+        }
+        Err(why) => number_of(why),
+    }
+}
+
+/// Copies the bytes of the string of a key to the front of a buffer, where it has room for them. How many they are goes out in any
+/// case.
+#[unsafe(no_mangle)]
+pub extern "C" fn zx_read_string(
+    alloc: Global,
+    h: &mut Handle,
+    key: &ObjectKey<'_>,
+    text: &mut [u8],
+    len: &mut u64,
+) -> u32
+    ensures stopped { IsStopped (key_wrong key.now) result h.old.value h.new.value }
+    ensures closed { IsClosed (key_wrong key.now) result h.old.value h.new.value }
+    ensures told { (s : State) → key_wrong key.now ≡ 0 → h.old.value ≡ Some s → (d : Directory) → StandsFor s.cut.bytes d
+        → Copies text.old text.new len.new result (bytes_at d (key_of key.now)) }
+    ensures same { h.new.value ≡ h.old.value }
+    ensures results { 1 ≤ result → text.new ≡ text.old }
+{
+    let which = match key.key() {
+        Ok(it) => it,
+        Err(code) => return code,
+    };
+    let Some(segment) = take(alloc, h) else {
+        return CLOSED;
+    };
+    let code = read_string(&segment, &which, text, len);
+    put(h, segment);
+    code
+}
+
+/// The same of a segment.
+fn read_string(segment: &Segment, key: &Key, text: &mut [u8], len: &mut u64) -> u32
+    ensures told { (d : Directory) → StandsFor segment.now.cut.bytes d → Copies text.old text.new len.new result (bytes_at d (key_seen key.now)) }
+    ensures kept { 1 ≤ result → text.new ≡ text.old }
+{
+    match segment.string_bytes(key) {
+        Ok(bytes) => copy_text(bytes, text, len),
+        Err(why) => number_of(why),
+    }
+}
+
+/// Copies the text at `index` in the vector of strings of a key to the front of a buffer, where it has room for it. How many bytes
+/// it has goes out in any case.
+#[unsafe(no_mangle)]
+pub extern "C" fn zx_read_text(
+    alloc: Global,
+    h: &mut Handle,
+    key: &ObjectKey<'_>,
+    index: u64,
+    text: &mut [u8],
+    len: &mut u64,
+) -> u32
+    ensures stopped { IsStopped (key_wrong key.now) result h.old.value h.new.value }
+    ensures closed { IsClosed (key_wrong key.now) result h.old.value h.new.value }
+    ensures told { (s : State) → key_wrong key.now ≡ 0 → h.old.value ≡ Some s → (d : Directory) → StandsFor s.cut.bytes d
+        → CopiesAnswer text.old text.new len.new result (step_of_kind s.mode d (key_of key.now) TextsKind (Get (key_of key.now) index)).0 }
+    ensures same { h.new.value ≡ h.old.value }
+    ensures results { 1 ≤ result → text.new ≡ text.old }
+{
+    let which = match key.key() {
+        Ok(it) => it,
+        Err(code) => return code,
+    };
+    let Some(segment) = take(alloc, h) else {
+        return CLOSED;
+    };
+    let code = read_text(&segment, &which, index, text, len);
+    put(h, segment);
+    code
+}
+
+/// The same of a segment.
+fn read_text(segment: &Segment, key: &Key, index: u64, text: &mut [u8], len: &mut u64) -> u32
+    ensures told { (d : Directory) → StandsFor segment.now.cut.bytes d
+        → CopiesAnswer text.old text.new len.new result (step_of_kind segment.now.mode d (key_seen key.now) TextsKind (Get (key_seen key.now) index)).0 }
+    ensures kept { 1 ≤ result → text.new ≡ text.old }
+{
+    match segment.texts_get(key, index) {
+        Ok(bytes) => copy_text(bytes, text, len),
+        Err(why) => number_of(why),
+    }
+}
+
+/// Copies bytes to the front of a buffer, where it has room for them. How many they are goes out.
+fn copy_text(bytes: &[u8], text: &mut [u8], len: &mut u64) -> u32
+    ensures copied { IsCopied bytes.now text.old text.new len.new result }
+    ensures kept { 1 ≤ result → text.new ≡ text.old }
+{
+    *len = bytes.len() as u64;
+    copy_out(bytes, text)
+}

@@ -1,0 +1,37 @@
+//! The rows of values that C passes.
+ghost use Rattle.std.specs.Prelude.{◌≡◌, ◌≤◌, MatchResult};
+ghost use Rattle.segment_c.specs.Passed.{row_wrong, scalar_kind_in};
+
+use crate::codes::{BAD_KIND, NULL_SLICE};
+use crate::values::scalar_kind;
+use seg_types::ScalarKind;
+
+/// The elements of a vector: those of the slice of the kind, 1 to 5. The other slices are empty. Kind 0 stands for a null slice.
+#[repr(C)]
+pub struct Values<'a> {
+    pub kind: u32,
+    pub truths: &'a [bool],
+    pub bytes: &'a [u8],
+    pub i32s: &'a [i32],
+    pub i64s: &'a [i64],
+    pub u64s: &'a [u64],
+}
+
+impl Values<'_> {
+    /// Which slice is meant.
+    ///
+    /// # Errors
+    ///
+    /// The code by which the row is refused.
+    pub fn scalar_kind(&self) -> Result<ScalarKind, u32>
+        ensures { MatchResult result (λ kind. (row_wrong self.now ≡ 0) × (kind ≡ scalar_kind_in self.now.kind)) (λ code. (code ≡ row_wrong self.now) × (1 ≤ code)) }
+    {
+        if self.kind == 0 {
+            return Err(NULL_SLICE);
+        }
+        match scalar_kind(self.kind) {
+            Some(kind) => Ok(kind),
+            None => Err(BAD_KIND),
+        }
+    }
+}

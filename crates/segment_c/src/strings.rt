@@ -1,0 +1,167 @@
+//! Strings, and vectors of strings.
+ghost use Rattle.std.specs.Prelude.{◌≡◌, ◌≤◌, ◌∷◌, [], map};
+ghost use Rattle.seg_types.specs.declared.kinds.Kind.TheVariants.{Text as TextKind, Texts as TextsKind};
+ghost use Rattle.seg_types.specs.Commands.{Append, Assign, Insert, Push, Quoted, Set};
+ghost use Rattle.segment_c.specs.Calls.{IsAsked, IsClosed, IsStopped, KeepsRefused};
+ghost use Rattle.segment_c.specs.Codes.{answer_for};
+ghost use Rattle.segment_c.specs.Passed.{key_of, key_wrong};
+ghost use Rattle.segment_manager.specs.Answers.{Done};
+ghost use Rattle.segment_manager.specs.State.{IsStepOfKind};
+
+use crate::codes::{CLOSED, done};
+use crate::handle::{Handle, put, take};
+use crate::keys::ObjectKey;
+use std::alloc::Global;
+
+/// Makes bytes those of the string of a key.
+#[unsafe(no_mangle)]
+pub extern "C" fn zx_assign_string(
+    alloc: Global,
+    h: &mut Handle,
+    key: &ObjectKey<'_>,
+    text: &[u8],
+) -> u32
+    ensures stopped { IsStopped (key_wrong key.now) result h.old.value h.new.value }
+    ensures closed { IsClosed (key_wrong key.now) result h.old.value h.new.value }
+    ensures asked { IsAsked (key_wrong key.now) result h.old.value h.new.value
+        (λ s t. IsStepOfKind s t (key_of key.now) TextKind (Assign (key_of key.now) (Quoted text.now ∷ [])) (answer_for result Done)) }
+    ensures kept { 1 ≤ result → h.new.value ≡ h.old.value }
+{
+    let which = match key.key() {
+        Ok(it) => it,
+        Err(code) => return code,
+    };
+    let Some(mut segment) = take(alloc, h) else {
+        return CLOSED;
+    };
+    let code = done(segment.string_assign(&which, text));
+    put(h, segment);
+    code
+}
+
+/// Puts bytes behind those of the string of a key.
+#[unsafe(no_mangle)]
+pub extern "C" fn zx_append(alloc: Global, h: &mut Handle, key: &ObjectKey<'_>, text: &[u8]) -> u32
+    ensures stopped { IsStopped (key_wrong key.now) result h.old.value h.new.value }
+    ensures closed { IsClosed (key_wrong key.now) result h.old.value h.new.value }
+    ensures asked { IsAsked (key_wrong key.now) result h.old.value h.new.value
+        (λ s t. IsStepOfKind s t (key_of key.now) TextKind (Append (key_of key.now) text.now) (answer_for result Done)) }
+    ensures kept { 1 ≤ result → h.new.value ≡ h.old.value }
+{
+    let which = match key.key() {
+        Ok(it) => it,
+        Err(code) => return code,
+    };
+    let Some(mut segment) = take(alloc, h) else {
+        return CLOSED;
+    };
+    let code = done(segment.string_append(&which, text));
+    put(h, segment);
+    code
+}
+
+/// Makes a text the one at `index` in the vector of strings of a key.
+#[unsafe(no_mangle)]
+pub extern "C" fn zx_set_text(
+    alloc: Global,
+    h: &mut Handle,
+    key: &ObjectKey<'_>,
+    index: u64,
+    text: &[u8],
+) -> u32
+    ensures stopped { IsStopped (key_wrong key.now) result h.old.value h.new.value }
+    ensures closed { IsClosed (key_wrong key.now) result h.old.value h.new.value }
+    ensures asked { IsAsked (key_wrong key.now) result h.old.value h.new.value
+        (λ s t. IsStepOfKind s t (key_of key.now) TextsKind (Set (key_of key.now) index (Quoted text.now)) (answer_for result Done)) }
+    ensures kept { 1 ≤ result → h.new.value ≡ h.old.value }
+{
+    let which = match key.key() {
+        Ok(it) => it,
+        Err(code) => return code,
+    };
+    let Some(mut segment) = take(alloc, h) else {
+        return CLOSED;
+    };
+    let code = done(segment.texts_set(&which, index, text));
+    put(h, segment);
+    code
+}
+
+/// Puts a text behind the last one of the vector of strings of a key.
+#[unsafe(no_mangle)]
+pub extern "C" fn zx_push_text(
+    alloc: Global,
+    h: &mut Handle,
+    key: &ObjectKey<'_>,
+    text: &[u8],
+) -> u32
+    ensures stopped { IsStopped (key_wrong key.now) result h.old.value h.new.value }
+    ensures closed { IsClosed (key_wrong key.now) result h.old.value h.new.value }
+    ensures asked { IsAsked (key_wrong key.now) result h.old.value h.new.value
+        (λ s t. IsStepOfKind s t (key_of key.now) TextsKind (Push (key_of key.now) (Quoted text.now)) (answer_for result Done)) }
+    ensures refused { KeepsRefused result h.old.value h.new.value }
+{
+    let which = match key.key() {
+        Ok(it) => it,
+        Err(code) => return code,
+    };
+    let Some(mut segment) = take(alloc, h) else {
+        return CLOSED;
+    };
+    let code = done(segment.texts_push(&which, text));
+    put(h, segment);
+    code
+}
+
+/// Puts a text where `index` others stand before it in the vector of strings of a key.
+#[unsafe(no_mangle)]
+pub extern "C" fn zx_insert_text(
+    alloc: Global,
+    h: &mut Handle,
+    key: &ObjectKey<'_>,
+    index: u64,
+    text: &[u8],
+) -> u32
+    ensures stopped { IsStopped (key_wrong key.now) result h.old.value h.new.value }
+    ensures closed { IsClosed (key_wrong key.now) result h.old.value h.new.value }
+    ensures asked { IsAsked (key_wrong key.now) result h.old.value h.new.value
+        (λ s t. IsStepOfKind s t (key_of key.now) TextsKind (Insert (key_of key.now) index (Quoted text.now)) (answer_for result Done)) }
+    ensures refused { KeepsRefused result h.old.value h.new.value }
+{
+    let which = match key.key() {
+        Ok(it) => it,
+        Err(code) => return code,
+    };
+    let Some(mut segment) = take(alloc, h) else {
+        return CLOSED;
+    };
+    let code = done(segment.texts_insert(&which, index, text));
+    put(h, segment);
+    code
+}
+
+/// Makes texts those of the vector of strings of a key.
+#[unsafe(no_mangle)]
+pub extern "C" fn zx_assign_texts(
+    alloc: Global,
+    h: &mut Handle,
+    key: &ObjectKey<'_>,
+    texts: &[&[u8]],
+) -> u32
+    ensures stopped { IsStopped (key_wrong key.now) result h.old.value h.new.value }
+    ensures closed { IsClosed (key_wrong key.now) result h.old.value h.new.value }
+    ensures asked { IsAsked (key_wrong key.now) result h.old.value h.new.value
+        (λ s t. IsStepOfKind s t (key_of key.now) TextsKind (Assign (key_of key.now) (map Quoted (map (λ text. text.now) texts.now))) (answer_for result Done)) }
+    ensures refused { KeepsRefused result h.old.value h.new.value }
+{
+    let which = match key.key() {
+        Ok(it) => it,
+        Err(code) => return code,
+    };
+    let Some(mut segment) = take(alloc, h) else {
+        return CLOSED;
+    };
+    let code = done(segment.texts_assign(&which, texts));
+    put(h, segment);
+    code
+}

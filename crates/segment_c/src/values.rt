@@ -1,0 +1,91 @@
+//! The values that C passes and is given.
+ghost use Rattle.std.specs.Prelude.{◌≡◌, Some, None, MatchResult, option_map};
+ghost use Rattle.seg_types.specs.Values.{kind_of_scalar, value_of_scalar};
+ghost use Rattle.segment_c.specs.Passed.{scalar_in, scalar_kind_of};
+
+use crate::codes::BAD_VALUE;
+use seg_types::{ScalarKind, ScalarValue};
+
+/// A scalar with its kind: 1 to 5 for `bool`, `u8`, `i32`, `i64` and `u64`. The signed kinds have it in `number`, the others in
+/// `natural`, where 0 is false.
+#[repr(C)]
+#[derive(Clone, Copy)]
+pub struct Value {
+    pub kind: u32,
+    pub number: i64,
+    pub natural: u64,
+}
+
+/// The kind of scalars that a code says.
+pub fn scalar_kind(code: u32) -> Option<ScalarKind>
+    ensures { result ≡ scalar_kind_of code }
+{
+    match code {
+        1 => Some(ScalarKind::Bool),
+        2 => Some(ScalarKind::U8),
+        3 => Some(ScalarKind::I32),
+        4 => Some(ScalarKind::I64),
+        5 => Some(ScalarKind::U64),
+        _ => None,
+    }
+}
+
+impl Value {
+    /// The scalar that is passed.
+    ///
+    /// # Errors
+    ///
+    /// The code by which it is refused.
+    pub fn scalar(&self) -> Result<ScalarValue, u32>
+        ensures { MatchResult result (λ value. scalar_in self.now ≡ Some (kind_of_scalar value, value_of_scalar value)) (λ code. (code ≡ 20) × (scalar_in self.now ≡ None)) }
+    {
+        let Some(kind) = scalar_kind(self.kind) else {
+            return Err(BAD_VALUE);
+        };
+        let number = match kind {
+            ScalarKind::I32 | ScalarKind::I64 => i128::from(self.number),
+            _ => i128::from(self.natural),
+        };
+        match ScalarValue::of_number(kind, number) {
+            Some(value) => Ok(value),
+            None => Err(BAD_VALUE),
+        }
+    }
+
+    /// The scalar as it is given.
+    pub fn of(value: ScalarValue) -> Value
+        ensures { scalar_in result ≡ Some (kind_of_scalar value, value_of_scalar value) }
+    {
+        match value {
+            ScalarValue::Bool(truth) => Value::natural(1, u64::from(truth)),
+            ScalarValue::U8(number) => Value::natural(2, u64::from(number)),
+            ScalarValue::I32(number) => Value::number(3, i64::from(number)),
+            ScalarValue::I64(number) => Value::number(4, number),
+            ScalarValue::U64(number) => Value::natural(5, number),
+        }
+    }
+
+    /// One of a kind without a sign.
+    fn natural(kind: u32, natural: u64) -> Value
+        ensures kind { result.kind ≡ kind }
+        ensures natural { result.natural ≡ natural }
+    {
+        Value {
+            kind,
+            number: 0,
+            natural,
+        }
+    }
+
+    /// One of a signed kind.
+    fn number(kind: u32, number: i64) -> Value
+        ensures kind { result.kind ≡ kind }
+        ensures number { result.number ≡ number }
+    {
+        Value {
+            kind,
+            number,
+            natural: 0,
+        }
+    }
+}

@@ -1,0 +1,178 @@
+//! Vectors of scalars, made of rows of values.
+ghost use Rattle.std.specs.Prelude.{◌≡◌, ◌≤◌, OnErr, map};
+ghost use Rattle.seg_types.specs.declared.kinds.Kind.TheVariants.{Vector as VectorOf};
+ghost use Rattle.seg_types.specs.Commands.{Assign, Construct, Elements, FindOrConstruct, literal_of};
+ghost use Rattle.seg_types.specs.Keys.{index_key_seen, key_seen, new_key_seen};
+ghost use Rattle.segment_c.specs.Calls.{IsAsked, IsClosed, IsStopped, KeepsRefused};
+ghost use Rattle.segment_c.specs.Codes.{answer_for};
+ghost use Rattle.segment_c.specs.Passed.{entry_of, entry_wrong, key_of, key_wrong, new_of, new_wrong, numbers_of, or_else, row_of, row_wrong, scalar_kind_in};
+ghost use Rattle.segment_manager.specs.Answers.{Done, Found, Made};
+ghost use Rattle.segment_manager.specs.Found.{pair_answer};
+ghost use Rattle.segment_manager.specs.NewObjects.{IsOfKind};
+ghost use Rattle.segment_manager.specs.State.{IsStep, IsStepOfKind, KeepsRefused as KeepsOld, done_answer, handle_answer};
+
+use crate::codes::{CLOSED, done, found, made};
+use crate::handle::{Handle, put, take};
+use crate::keys::ObjectKey;
+use crate::rows::Values;
+use seg_types::{IndexKey, Key, Kind, NewKey, Refusal, ScalarKind};
+use segment_manager::Segment;
+use std::alloc::Global;
+
+/// Makes a vector of the values of a row, of which the slice of a kind is meant.
+fn construct_row(
+    segment: &mut Segment,
+    key: &NewKey,
+    kind: ScalarKind,
+    row: &Values<'_>,
+) -> Result<u64, Refusal>
+    requires { IsOfKind (new_key_seen key.now) (VectorOf kind) }
+    ensures step { IsStep segment.old segment.new (Construct (new_key_seen key.now) (Elements kind (numbers_of row.now kind))) (handle_answer result) }
+    ensures refused { KeepsOld segment.old segment.new result }
+{
+    match kind {
+        ScalarKind::Bool => segment.construct_vec(key, row.truths),
+        ScalarKind::U8 => segment.construct_vec(key, row.bytes),
+        ScalarKind::I32 => segment.construct_vec(key, row.i32s),
+        ScalarKind::I64 => segment.construct_vec(key, row.i64s),
+        ScalarKind::U64 => segment.construct_vec(key, row.u64s),
+    }
+}
+
+/// The vector of a key, or a new one of the values of a row, of which the slice of a kind is meant.
+fn find_or_construct_row(
+    segment: &mut Segment,
+    key: &IndexKey,
+    kind: ScalarKind,
+    row: &Values<'_>,
+) -> Result<(u64, u32), Refusal>
+    requires { IsOfKind (index_key_seen key.now) (VectorOf kind) }
+    ensures step { IsStep segment.old segment.new (FindOrConstruct (index_key_seen key.now) (Elements kind (numbers_of row.now kind))) (pair_answer result) }
+    ensures refused { KeepsOld segment.old segment.new result }
+{
+    match kind {
+        ScalarKind::Bool => segment.find_or_construct_vec(key, row.truths),
+        ScalarKind::U8 => segment.find_or_construct_vec(key, row.bytes),
+        ScalarKind::I32 => segment.find_or_construct_vec(key, row.i32s),
+        ScalarKind::I64 => segment.find_or_construct_vec(key, row.i64s),
+        ScalarKind::U64 => segment.find_or_construct_vec(key, row.u64s),
+    }
+}
+
+/// Makes the values of a row those of a vector, of which the slice of a kind is meant.
+fn assign_row(
+    segment: &mut Segment,
+    key: &Key,
+    kind: ScalarKind,
+    row: &Values<'_>,
+) -> Result<(), Refusal>
+    ensures step { IsStepOfKind segment.old segment.new (key_seen key.now) (VectorOf kind) (Assign (key_seen key.now) (map (literal_of kind) (numbers_of row.now kind))) (done_answer result) }
+    ensures refused { OnErr result (segment.new ≡ segment.old) }
+{
+    match kind {
+        ScalarKind::Bool => segment.vec_assign(key, row.truths),
+        ScalarKind::U8 => segment.vec_assign(key, row.bytes),
+        ScalarKind::I32 => segment.vec_assign(key, row.i32s),
+        ScalarKind::I64 => segment.vec_assign(key, row.i64s),
+        ScalarKind::U64 => segment.vec_assign(key, row.u64s),
+    }
+}
+
+/// Makes a vector of the values.
+#[unsafe(no_mangle)]
+pub extern "C" fn zx_construct_vector(
+    alloc: Global,
+    h: &mut Handle,
+    key: &ObjectKey<'_>,
+    values: &Values<'_>,
+    handle: &mut u64,
+) -> u32
+    ensures stopped { IsStopped (or_else (row_wrong values.now) (new_wrong key.now (VectorOf (scalar_kind_in values.now.kind)))) result h.old.value h.new.value }
+    ensures closed { IsClosed (or_else (row_wrong values.now) (new_wrong key.now (VectorOf (scalar_kind_in values.now.kind)))) result h.old.value h.new.value }
+    ensures asked { IsAsked (or_else (row_wrong values.now) (new_wrong key.now (VectorOf (scalar_kind_in values.now.kind)))) result h.old.value h.new.value
+        (λ s t. IsStep s t (Construct (new_of key.now (VectorOf (scalar_kind_in values.now.kind))) (Elements (scalar_kind_in values.now.kind) (row_of values.now))) (answer_for result (Made handle.new))) }
+    ensures refused { KeepsRefused result h.old.value h.new.value }
+    ensures results { 1 ≤ result → handle.new ≡ handle.old }
+{
+    let kind = match values.scalar_kind() {
+        Ok(it) => it,
+        Err(code) => return code,
+    };
+    let which = match key.new_key(Kind::Vector(kind)) {
+        Ok(it) => it,
+        Err(code) => return code,
+    };
+    let Some(mut segment) = take(alloc, h) else {
+        return CLOSED;
+    };
+    let code = made(construct_row(&mut segment, &which, kind, values), handle);
+    put(h, segment);
+    code
+}
+
+/// The vector of a key, or a new one of the values where no object has it.
+#[unsafe(no_mangle)]
+pub extern "C" fn zx_find_or_construct_vector(
+    alloc: Global,
+    h: &mut Handle,
+    key: &ObjectKey<'_>,
+    values: &Values<'_>,
+    handle: &mut u64,
+    count_found: &mut u32,
+) -> u32
+    ensures stopped { IsStopped (or_else (row_wrong values.now) (entry_wrong key.now (VectorOf (scalar_kind_in values.now.kind)))) result h.old.value h.new.value }
+    ensures closed { IsClosed (or_else (row_wrong values.now) (entry_wrong key.now (VectorOf (scalar_kind_in values.now.kind)))) result h.old.value h.new.value }
+    ensures asked { IsAsked (or_else (row_wrong values.now) (entry_wrong key.now (VectorOf (scalar_kind_in values.now.kind)))) result h.old.value h.new.value
+        (λ s t. IsStep s t (FindOrConstruct (entry_of key.now (VectorOf (scalar_kind_in values.now.kind))) (Elements (scalar_kind_in values.now.kind) (row_of values.now))) (answer_for result (Found handle.new count_found.new))) }
+    ensures refused { KeepsRefused result h.old.value h.new.value }
+    ensures results { 1 ≤ result → (handle.new ≡ handle.old) × (count_found.new ≡ count_found.old) }
+{
+    let kind = match values.scalar_kind() {
+        Ok(it) => it,
+        Err(code) => return code,
+    };
+    let which = match key.entry(Kind::Vector(kind)) {
+        Ok(it) => it,
+        Err(code) => return code,
+    };
+    let Some(mut segment) = take(alloc, h) else {
+        return CLOSED;
+    };
+    let code = found(
+        find_or_construct_row(&mut segment, &which, kind, values),
+        handle,
+        count_found,
+    );
+    put(h, segment);
+    code
+}
+
+/// Makes the values those of the vector of a key, a vector of their kind.
+#[unsafe(no_mangle)]
+pub extern "C" fn zx_assign(
+    alloc: Global,
+    h: &mut Handle,
+    key: &ObjectKey<'_>,
+    values: &Values<'_>,
+) -> u32
+    ensures stopped { IsStopped (or_else (key_wrong key.now) (row_wrong values.now)) result h.old.value h.new.value }
+    ensures closed { IsClosed (or_else (key_wrong key.now) (row_wrong values.now)) result h.old.value h.new.value }
+    ensures asked { IsAsked (or_else (key_wrong key.now) (row_wrong values.now)) result h.old.value h.new.value
+        (λ s t. IsStepOfKind s t (key_of key.now) (VectorOf (scalar_kind_in values.now.kind)) (Assign (key_of key.now) (map (literal_of (scalar_kind_in values.now.kind)) (row_of values.now))) (answer_for result Done)) }
+    ensures kept { 1 ≤ result → h.new.value ≡ h.old.value }
+{
+    let which = match key.key() {
+        Ok(it) => it,
+        Err(code) => return code,
+    };
+    let kind = match values.scalar_kind() {
+        Ok(it) => it,
+        Err(code) => return code,
+    };
+    let Some(mut segment) = take(alloc, h) else {
+        return CLOSED;
+    };
+    let code = done(assign_row(&mut segment, &which, kind, values));
+    put(h, segment);
+    code
+}

@@ -1,0 +1,72 @@
+//! The words for the codes.
+ghost use Rattle.std.specs.Prelude.{◌≡◌};
+ghost use Rattle.segment_c.specs.Words.{code_words, image_words, passed_words};
+
+/// The words for a code, which stay as long as the program runs; none where it is no code.
+#[unsafe(no_mangle)]
+pub extern "C" fn zx_words(code: u32, words: &mut &'static [u8])
+    ensures { words.new.now ≡ code_words code }
+{
+    *words = code_words(code);
+}
+
+/// The words for a code.
+fn code_words(code: u32) -> &'static [u8]
+    ensures { result.now ≡ code_words code }
+{
+    match code {
+        0 => b"done",
+        4 => b"read only",
+        5 => b"already exists",
+        6 => b"not found",
+        7 => b"wrong kind",
+        8 => b"out of range",
+        9 => b"no space",
+        10 => b"nothing is there",
+        _ => passed_words(code),
+    }
+}
+
+/// Those that are about what was passed, and the classes of images.
+fn passed_words(code: u32) -> &'static [u8]
+    ensures { result.now ≡ passed_words code }
+{
+    match code {
+        16 => b"the handle is closed",
+        17 => b"no such key",
+        18 => b"no name",
+        19 => b"no such kind",
+        20 => b"no such value",
+        21 => b"no such count",
+        22 => b"no such size",
+        23 => b"no such mode",
+        24 => b"the buffer is too short",
+        25 => b"a slice is null",
+        26 => b"out of memory",
+        27 => b"region too small",
+        28 => b"growth is no multiple of 16 from 32 on",
+        29 => b"too large",
+        _ => image_words(code),
+    }
+}
+
+/// The classes of images that are none.
+fn image_words(code: u32) -> &'static [u8]
+    ensures { result.now ≡ image_words code }
+{
+    match code {
+        101 => b"the image ends too early",
+        102 => b"the image does not begin with the magic",
+        103 => b"the version is not supported",
+        104 => b"the size is wrong",
+        105 => b"a reserved byte is not zero",
+        106 => b"the tags are wrong",
+        107 => b"the free tree is wrong",
+        108 => b"an index is wrong",
+        109 => b"an object is wrong",
+        110 => b"two links lead to one block",
+        111 => b"a container is wrong",
+        112 => b"a block belongs to nothing",
+        _ => b"",
+    }
+}

@@ -1,0 +1,5 @@
+pub mod ElementCalls
+pub mod PairCalls
+pub mod Reading
+pub mod SetElements
+pub mod SetKinds

@@ -1,0 +1,21 @@
+//! The object of a key that is to be changed.
+ghost use Rattle.std.specs.Prelude.{MatchResult};
+ghost use Rattle.seg_types.specs.Keys.{key_seen};
+ghost use Rattle.segment_values.specs.Changes.{IsToChange, IsUnchangeable};
+
+use seg_types::{Key, Refusal};
+use segment_manager::{Mode, Object, Segment};
+
+/// The object of a key, which is to be changed.
+///
+/// # Errors
+///
+/// `ReadOnly` where the segment is open for reading, and else `NotFound` where no object has the key.
+pub fn object_to_change(segment: &Segment, key: &Key) -> Result<Object, Refusal>
+    ensures { MatchResult result (IsToChange segment.now (key_seen key.now)) (IsUnchangeable segment.now (key_seen key.now)) }
+{
+    if segment.mode() == Mode::ReadOnly {
+        return Err(Refusal::ReadOnly);
+    }
+    segment.locate(key)
+}

@@ -1,2 +1,3 @@
+pub mod ErrorLines
 pub mod Events
 pub mod Outlets

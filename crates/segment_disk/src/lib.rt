@@ -8,8 +8,10 @@ mod host;
 mod locks;
 mod outlet;
 mod presence;
+mod stopping;
 
 pub use disk::{Disk, Opened, Output};
 pub use host::{HostDisk, HostHold};
 pub use outlet::Outlet;
-pub use presence::{InUse, Making, Presence};
+pub use presence::{InUse, Making, Presence, Trouble};
+pub use stopping::{Stopping, StopsAtError};

@@ -83,4 +83,6 @@ impl<W: Write> Output for Outlet<W> {
             Err(_) => Err(DeviceFault),
         }
     }
+
+    fn next_line(&mut self) {}
 }

@@ -28,6 +28,7 @@ pub use modes::run;
 pub use resizing::{grow, shrink};
 pub use running::{run_in_new_file, run_on_file, run_on_file_or_new};
 pub use segment_files::SegmentFile;
+pub use telling::print;
 pub use theorems::{
     emptying_tears, replacing_keeps_one_whole, saving_ends_whole, unplaced_leaves_the_old,
 };

@@ -1,8 +1,11 @@
 //! What a command says, and that it went out.
 ghost use Rattle.std.specs.Prelude.{◌≡◌, ◌^◌, ◌-◌, ◌<◌};
+ghost use Rattle.segment_file.specs.Commands.{Prints};
 ghost use Rattle.segment_file.specs.Telling.{Tells};
 
+use crate::creating::WRITE_FAULT;
 use raw_region::{DeviceFault, write_all};
+use segment_cli::ProgramFault;
 use segment_disk::Output;
 
 /// Writes a text, and gives out all that was written.
@@ -12,4 +15,19 @@ pub(crate) fn tell<O: Output>(out: &mut O, text: &[u8]) -> Result<(), DeviceFaul
 {
     write_all(out, text)?;
     out.flush()
+}
+
+/// Prints a text that the program has of itself, as its version or its help on the language.
+///
+/// # Errors
+///
+/// `WriteFault` where the output fails.
+pub fn print<O: Output>(out: &mut O, text: &str) -> Result<(), ProgramFault>
+    requires { (O.history out.old).failures < 2 ^ 64 - 1 }
+    ensures { Prints O.history O.flushes out.old out.new text.now result }
+{
+    match tell(out, text.as_bytes()) {
+        Ok(()) => Ok(()),
+        Err(_) => Err(WRITE_FAULT),
+    }
 }

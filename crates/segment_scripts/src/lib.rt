@@ -4,6 +4,7 @@
 mod changing;
 mod constructing;
 mod faults;
+mod followers;
 mod listing;
 mod machine;
 mod open_line;
@@ -21,5 +22,6 @@ mod telling;
 mod text_rows;
 
 pub use faults::RunFault;
+pub use followers::{Follower, Nobody};
 pub use machine::{Machine, Scratch};
-pub use scripts::run;
+pub use scripts::{run, run_followed};

@@ -14,8 +14,7 @@ pub use program_faults::ProgramFault;
 pub use reports::{report, report_file};
 pub use saving::save;
 pub use segment_invocation::{
-    Answering, Invocation, InvocationFault, LANGUAGE, ModeName, Saving, Tip, UsageError, VERSION,
-    invocation,
+    Answering, Invocation, InvocationFault, ModeName, Saving, Tip, UsageError, VERSION, invocation,
 };
 pub use segment_scripts::{Machine, RunFault, Scratch, run};
 pub use sessions::{begin, session};

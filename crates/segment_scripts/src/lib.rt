@@ -5,6 +5,8 @@ mod changing;
 mod constructing;
 mod faults;
 mod followers;
+mod language;
+mod linting;
 mod listing;
 mod machine;
 mod open_line;
@@ -23,5 +25,7 @@ mod text_rows;
 
 pub use faults::RunFault;
 pub use followers::{Follower, Nobody};
+pub use language::{CommandRow, LANGUAGE, put_language};
+pub use linting::Lint;
 pub use machine::{Machine, Scratch};
 pub use scripts::{run, run_followed};

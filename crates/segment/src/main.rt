@@ -9,8 +9,10 @@ use segment_cli::{
     Invocation, InvocationFault, LANGUAGE, ProgramFault, SessionFault, VERSION, invocation, report,
     report_file,
 };
-use segment_disk::{HostDisk, Outlet, Output};
-use segment_file::{check, create, grow, migrate, print, run, shrink};
+use segment_disk::{HostDisk, Numbered, Outlet, Output, StopsAtError};
+use segment_file::{
+    check, create, grow, lint, migrate, print, print_language, run, run_strict, shrink,
+};
 use std::alloc::{AllocError, Global};
 use std::io::{self, BufWriter, ErrorKind};
 use std::process::ExitCode;
@@ -83,14 +85,46 @@ fn command<O: Output>(
         Invocation::Create(file, size) => create(alloc, disk, file, size),
         Invocation::Run(file, mode, size, saving, answering) => {
             let mut script = Reading::new(rt.reader());
-            run(alloc, disk, file, mode, size, saving, &mut script, &mut out)
+            match (answering.strict, answering.numbered) {
+                (false, false) => run(alloc, disk, file, mode, size, saving, &mut script, &mut out),
+                (false, true) => run(
+                    alloc,
+                    disk,
+                    file,
+                    mode,
+                    size,
+                    saving,
+                    &mut script,
+                    &mut Numbered::new(out),
+                ),
+                (true, false) => run_strict(
+                    alloc,
+                    disk,
+                    file,
+                    mode,
+                    size,
+                    saving,
+                    &mut script,
+                    &mut StopsAtError::new(out),
+                ),
+                (true, true) => run_strict(
+                    alloc,
+                    disk,
+                    file,
+                    mode,
+                    size,
+                    saving,
+                    &mut script,
+                    &mut StopsAtError::new(Numbered::new(out)),
+                ),
+            }
         }
         Invocation::Check(file) => check(alloc, disk, file, &mut out),
         Invocation::Grow(file, bytes) => grow(alloc, disk, file, bytes, &mut out),
         Invocation::Shrink(file) => shrink(alloc, disk, file, &mut out),
         Invocation::Migrate(file) => migrate(alloc, disk, file, &mut out),
-        Invocation::Lint => Ok(()),
-        Invocation::Language => print(&mut out, LANGUAGE),
+        Invocation::Lint => lint(&LANGUAGE, &mut Reading::new(rt.reader()), &mut out),
+        Invocation::Language => print_language(&mut out, &LANGUAGE),
         Invocation::Version => print(&mut out, VERSION),
     }
 }

@@ -16,5 +16,5 @@ pub use saving::save;
 pub use segment_invocation::{
     Answering, Invocation, InvocationFault, ModeName, Saving, Tip, UsageError, VERSION, invocation,
 };
-pub use segment_scripts::{Machine, RunFault, Scratch, run};
+pub use segment_scripts::{LANGUAGE, Machine, RunFault, Scratch, run};
 pub use sessions::{begin, session};

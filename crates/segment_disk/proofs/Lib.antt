@@ -1,1 +1,2 @@
 mod ErrorLaws
+mod NumberLaws

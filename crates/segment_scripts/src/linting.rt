@@ -58,7 +58,8 @@ impl<'a> Machine for Lint<'a> {
                 self.has_found = true;
                 put_finding(self.rows, self.line, error, without_return(line), out)
             }
-            _ => Ok(()),
+            Reading::Asked(_) => Ok(()),
+            Reading::Nothing => Ok(()),
         }
     }
 

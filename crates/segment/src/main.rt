@@ -71,7 +71,7 @@ fn perform(rt: &HostRuntime, asked: Invocation<'_>) -> Result<u8, ProgramFault> 
 }
 
 /// Does what the command line asks for.
-fn command<O: Output>(
+fn command<O: Output + Drop>(
     rt: &HostRuntime,
     disk: &mut HostDisk<'_, HostRuntime>,
     asked: Invocation<'_>,

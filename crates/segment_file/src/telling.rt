@@ -34,6 +34,15 @@ pub fn print<O: Output>(out: &mut O, text: &str) -> Result<(), ProgramFault>
     }
 }
 
+/// Writes the commands of the language, and gives out all that was written.
+fn tell_language<O: Output>(out: &mut O, rows: &[CommandRow]) -> Result<(), DeviceFault>
+    requires { (O.history out.old).failures < 2 ^ 64 - 1 }
+    ensures { Tells O.history O.flushes out.old out.new (flat_map row_text rows.now) result }
+{
+    put_language(out, rows)?;
+    Output::flush(out)
+}
+
 /// Prints the commands of the language, which the rows are.
 ///
 /// # Errors
@@ -43,10 +52,7 @@ pub fn print_language<O: Output>(out: &mut O, rows: &[CommandRow]) -> Result<(),
     requires { (O.history out.old).failures < 2 ^ 64 - 1 }
     ensures { Prints O.history O.flushes out.old out.new (flat_map row_text rows.now) result }
 {
-    if put_language(out, rows).is_err() {
-        return Err(WRITE_FAULT);
-    }
-    match out.flush() {
+    match tell_language(out, rows) {
         Ok(()) => Ok(()),
         Err(_) => Err(WRITE_FAULT),
     }

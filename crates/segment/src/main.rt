@@ -6,8 +6,8 @@ ghost use Rattle.segment_disk.specs.Events.{nothing_taken};
 
 use raw_region::stream::{Reading, Writing};
 use segment_cli::{
-    Invocation, InvocationFault, LANGUAGE, ProgramFault, SessionFault, VERSION, invocation, report,
-    report_file,
+    Answering, Invocation, InvocationFault, LANGUAGE, ModeName, ProgramFault, Saving, SessionFault,
+    VERSION, invocation, report, report_file,
 };
 use segment_disk::{HostDisk, Numbered, Outlet, Output, StopsAtError};
 use segment_file::{
@@ -84,40 +84,7 @@ fn command<O: Output + Drop>(
     match asked {
         Invocation::Create(file, size) => create(alloc, disk, file, size),
         Invocation::Run(file, mode, size, saving, answering) => {
-            let mut script = Reading::new(rt.reader());
-            match (answering.strict, answering.numbered) {
-                (false, false) => run(alloc, disk, file, mode, size, saving, &mut script, &mut out),
-                (false, true) => run(
-                    alloc,
-                    disk,
-                    file,
-                    mode,
-                    size,
-                    saving,
-                    &mut script,
-                    &mut Numbered::new(out),
-                ),
-                (true, false) => run_strict(
-                    alloc,
-                    disk,
-                    file,
-                    mode,
-                    size,
-                    saving,
-                    &mut script,
-                    &mut StopsAtError::new(out),
-                ),
-                (true, true) => run_strict(
-                    alloc,
-                    disk,
-                    file,
-                    mode,
-                    size,
-                    saving,
-                    &mut script,
-                    &mut StopsAtError::new(Numbered::new(out)),
-                ),
-            }
+            answer(rt, disk, file, mode, size, saving, answering, out)
         }
         Invocation::Check(file) => check(alloc, disk, file, &mut out),
         Invocation::Grow(file, bytes) => grow(alloc, disk, file, bytes, &mut out),
@@ -127,6 +94,58 @@ fn command<O: Output + Drop>(
         Invocation::Language => print_language(&mut out, &LANGUAGE),
         Invocation::Version => print(&mut out, VERSION),
     }
+}
+
+/// Runs the script of standard input, and gives its answers to an output that makes of them what is wanted.
+fn answer<O: Output + Drop>(
+    rt: &HostRuntime,
+    disk: &mut HostDisk<'_, HostRuntime>,
+    file: &str,
+    mode: ModeName,
+    size: Option<u64>,
+    saving: Saving,
+    answering: Answering,
+    out: O,
+) -> Result<(), ProgramFault>
+    requires { O.history out ≡ nothing_taken }
+{
+    if answering.numbered {
+        let numbered = Numbered::new(out);
+        return answer_as(
+            rt,
+            disk,
+            file,
+            mode,
+            size,
+            saving,
+            answering.strict,
+            numbered,
+        );
+    }
+    answer_as(rt, disk, file, mode, size, saving, answering.strict, out)
+}
+
+/// The same to an output as it is, or up to the first error.
+fn answer_as<O: Output + Drop>(
+    rt: &HostRuntime,
+    disk: &mut HostDisk<'_, HostRuntime>,
+    file: &str,
+    mode: ModeName,
+    size: Option<u64>,
+    saving: Saving,
+    is_strict: bool,
+    out: O,
+) -> Result<(), ProgramFault>
+    requires { O.history out ≡ nothing_taken }
+{
+    let alloc = rt.alloc();
+    let mut script = Reading::new(rt.reader());
+    if is_strict {
+        let mut out = StopsAtError::new(out);
+        return run_strict(alloc, disk, file, mode, size, saving, &mut script, &mut out);
+    }
+    let mut out = out;
+    run(alloc, disk, file, mode, size, saving, &mut script, &mut out)
 }
 
 /// The file that the command line names, if there is one.

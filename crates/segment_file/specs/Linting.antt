@@ -23,7 +23,8 @@ pub record Lints {O : Type 0} (rows : List CommandRow) (script script' : Gave) (
   pub ran : Result (Unit {0}) RunFault
   pub last : ℕ
   pub found : Bool
-  pub leaves : Leaves lint_line (start rows) (given_since script script') (taken_since (history out) (history out')) ran (is_at last found rows)
+  pub known : List CommandRow
+  pub leaves : Leaves lint_line (start rows) (given_since script script') (taken_since (history out) (history out')) ran (is_at last found known)
   pub went_out : Bool
   pub flushed : IsFlushed history flushes out' went_out
   pub result_is : result ≡ answer_of ran went_out found

@@ -1,13 +1,13 @@
 //! The command that tells which lines of a script are no commands.
-ghost use Rattle.std.specs.Prelude.{◌^◌, ◌-◌, ◌<◌};
-ghost use Rattle.segment_file.specs.Linting.{Lints};
+ghost use Rattle.std.specs.Prelude.{◌≡◌, ◌^◌, ◌-◌, ◌<◌};
+ghost use Rattle.segment_file.specs.Linting.{Lints, answer_of};
 
 use crate::answering::Flushing;
 use crate::creating::WRITE_FAULT;
 use raw_region::Source;
 use segment_cli::{ProgramFault, SessionFault};
 use segment_disk::Output;
-use segment_scripts::{CommandRow, Lint, run_followed};
+use segment_scripts::{CommandRow, Lint, RunFault, run_followed};
 
 /// Tells which lines of a script are no commands, where, and what is expected there; the rows say what is expected behind each
 /// command word. Nothing is executed.
@@ -28,14 +28,22 @@ pub fn lint<S: Source, O: Output>(
     let mut machine = Lint::new(rows);
     let answered = run_followed(&mut machine, script, out, &mut Flushing);
     let flushed = out.flush();
-    if let Err(fault) = answered {
-        return Err(ProgramFault::Session(SessionFault::from(fault)));
+    let went_out = flushed.is_ok();
+    lint_answer(answered, went_out, machine.has_found())
+}
+
+/// The answer of a lint: a fault of its run, or that not all went out, or whether a line is no command.
+fn lint_answer(
+    answered: Result<(), RunFault>,
+    went_out: bool,
+    has_found: bool,
+) -> Result<(), ProgramFault>
+    ensures { result ≡ answer_of answered went_out has_found }
+{
+    match answered {
+        Err(fault) => Err(ProgramFault::Session(SessionFault::from(fault))),
+        Ok(()) if !went_out => Err(WRITE_FAULT),
+        Ok(()) if has_found => Err(ProgramFault::Misspelled),
+        Ok(()) => Ok(()),
     }
-    if flushed.is_err() {
-        return Err(WRITE_FAULT);
-    }
-    if machine.has_found() {
-        return Err(ProgramFault::Misspelled);
-    }
-    Ok(())
 }

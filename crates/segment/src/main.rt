@@ -1,10 +1,18 @@
 //! The program `segment`: keeps a segment in a file, and does to it what the command line asks for.
 #![tactic(auto)]
 
+ghost use Rattle.std.specs.Prelude.{◌≡◌};
+ghost use Rattle.segment_disk.specs.Events.{nothing_taken};
+
 use raw_region::stream::{Reading, Writing};
-use segment_cli::{Invocation, InvocationFault, ProgramFault, SessionFault, invocation, report};
-use segment_disk::{HostDisk, Outlet};
-use segment_file::{check, create, grow, migrate, run, shrink};
+use segment_cli::{
+    Answering, Invocation, InvocationFault, LANGUAGE, ModeName, ProgramFault, Saving, SessionFault,
+    VERSION, invocation, report, report_file,
+};
+use segment_disk::{HostDisk, Numbered, Outlet, Output, StopsAtError};
+use segment_file::{
+    check, create, grow, lint, migrate, print, print_language, run, run_strict, shrink,
+};
 use std::alloc::{AllocError, Global};
 use std::io::{self, BufWriter, ErrorKind};
 use std::process::ExitCode;
@@ -18,14 +26,19 @@ const PIECE: usize = 65536;
 /// Ends with the status of what came of the command line; where that is a fault, its line goes to standard error.
 fn main(rt: HostRuntime) -> ExitCode {
     let status = match obey(&rt) {
-        Ok(()) => 0,
-        Err(fault) => report(fault, &mut Writing::new(rt.stderr())),
+        Ok(status) => status,
+        Err(fault) => tell(&rt, fault),
     };
     ExitCode::from(status)
 }
 
-/// Does what the program's own command line asks for.
-fn obey(rt: &HostRuntime) -> Result<(), ProgramFault> {
+/// Says what a fault is, and answers its status.
+fn tell(rt: &HostRuntime, fault: ProgramFault) -> u8 {
+    report(fault, &mut Writing::new(rt.stderr()))
+}
+
+/// Does what the program's own command line asks for, and answers the status.
+fn obey(rt: &HostRuntime) -> Result<u8, ProgramFault> {
     let owned = words(rt)?;
     let words = borrowed(rt.alloc(), owned.as_slice()).map_err(|_| OUT_OF_MEMORY)?;
     match invocation(rt.alloc(), words.as_slice()) {
@@ -38,34 +51,122 @@ fn obey(rt: &HostRuntime) -> Result<(), ProgramFault> {
     }
 }
 
-/// Does what the command line asks for, with the files of the system, standard input and standard output.
-fn perform(rt: &HostRuntime, asked: Invocation<'_>) -> Result<(), ProgramFault> {
+/// Does what the command line asks for, with the files of the system, standard input and standard output, and answers the
+/// status. Behind the line of a fault stands why the system did not open or make the file, where it said so.
+fn perform(rt: &HostRuntime, asked: Invocation<'_>) -> Result<u8, ProgramFault> {
     let Ok(buffer) = BufWriter::with_capacity(rt.alloc(), PIECE, io::writer(rt)) else {
         return Err(OUT_OF_MEMORY);
     };
-    let mut out = Outlet::new(buffer);
     let mut disk = HostDisk::new(rt);
-    let alloc = rt.alloc();
-    match asked {
-        Invocation::Create(file, size) => create(alloc, &mut disk, file, size),
-        Invocation::Run(file, mode, size, saving) => {
-            let mut script = Reading::new(rt.reader());
-            run(
-                alloc,
-                &mut disk,
-                file,
-                mode,
-                size,
-                saving,
-                &mut script,
-                &mut out,
-            )
+    let Err(fault) = command(rt, &mut disk, asked, Outlet::new(buffer)) else {
+        return Ok(0);
+    };
+    let status = tell(rt, fault);
+    if let (Some(path), Some(trouble)) = (file_of(asked), disk.trouble()) {
+        if is_of_file(fault) {
+            report_file(path, trouble, &mut Writing::new(rt.stderr()));
         }
-        Invocation::Check(file) => check(alloc, &mut disk, file, &mut out),
-        Invocation::Grow(file, bytes) => grow(alloc, &mut disk, file, bytes, &mut out),
-        Invocation::Shrink(file) => shrink(alloc, &mut disk, file, &mut out),
-        Invocation::Migrate(file) => migrate(alloc, &mut disk, file, &mut out),
     }
+    Ok(status)
+}
+
+/// Does what the command line asks for.
+fn command<O: Output + Drop>(
+    rt: &HostRuntime,
+    disk: &mut HostDisk<'_, HostRuntime>,
+    asked: Invocation<'_>,
+    out: O,
+) -> Result<(), ProgramFault>
+    requires { O.history out ≡ nothing_taken }
+{
+    let alloc = rt.alloc();
+    let mut out = out;
+    match asked {
+        Invocation::Create(file, size) => create(alloc, disk, file, size),
+        Invocation::Run(file, mode, size, saving, answering) => {
+            answer(rt, disk, file, mode, size, saving, answering, out)
+        }
+        Invocation::Check(file) => check(alloc, disk, file, &mut out),
+        Invocation::Grow(file, bytes) => grow(alloc, disk, file, bytes, &mut out),
+        Invocation::Shrink(file) => shrink(alloc, disk, file, &mut out),
+        Invocation::Migrate(file) => migrate(alloc, disk, file, &mut out),
+        Invocation::Lint => lint(&LANGUAGE, &mut Reading::new(rt.reader()), &mut out),
+        Invocation::Language => print_language(&mut out, &LANGUAGE),
+        Invocation::Version => print(&mut out, VERSION),
+    }
+}
+
+/// Runs the script of standard input, and gives its answers to an output that makes of them what is wanted.
+fn answer<O: Output + Drop>(
+    rt: &HostRuntime,
+    disk: &mut HostDisk<'_, HostRuntime>,
+    file: &str,
+    mode: ModeName,
+    size: Option<u64>,
+    saving: Saving,
+    answering: Answering,
+    out: O,
+) -> Result<(), ProgramFault>
+    requires { O.history out ≡ nothing_taken }
+{
+    if answering.numbered {
+        let numbered = Numbered::new(out);
+        return answer_as(
+            rt,
+            disk,
+            file,
+            mode,
+            size,
+            saving,
+            answering.strict,
+            numbered,
+        );
+    }
+    answer_as(rt, disk, file, mode, size, saving, answering.strict, out)
+}
+
+/// The same to an output as it is, or up to the first error.
+fn answer_as<O: Output + Drop>(
+    rt: &HostRuntime,
+    disk: &mut HostDisk<'_, HostRuntime>,
+    file: &str,
+    mode: ModeName,
+    size: Option<u64>,
+    saving: Saving,
+    is_strict: bool,
+    out: O,
+) -> Result<(), ProgramFault>
+    requires { O.history out ≡ nothing_taken }
+{
+    let alloc = rt.alloc();
+    let mut script = Reading::new(rt.reader());
+    if is_strict {
+        let mut out = StopsAtError::new(out);
+        return run_strict(alloc, disk, file, mode, size, saving, &mut script, &mut out);
+    }
+    let mut out = out;
+    run(alloc, disk, file, mode, size, saving, &mut script, &mut out)
+}
+
+/// The file that the command line names, if there is one.
+fn file_of<'a>(asked: Invocation<'a>) -> Option<&'a str> {
+    match asked {
+        Invocation::Create(file, _)
+        | Invocation::Run(file, _, _, _, _)
+        | Invocation::Check(file)
+        | Invocation::Grow(file, _)
+        | Invocation::Shrink(file)
+        | Invocation::Migrate(file) => Some(file),
+        Invocation::Lint | Invocation::Language | Invocation::Version => None,
+    }
+}
+
+/// Whether a fault can be one of the file.
+fn is_of_file(fault: ProgramFault) -> bool {
+    matches!(
+        fault,
+        ProgramFault::Session(SessionFault::ReadFault | SessionFault::WriteFault)
+    )
 }
 
 /// The words of the command line, the program's name first. Those that are no text are a wrong command line.

@@ -9,7 +9,9 @@ use Rattle.grow_shrink.specs.declared.refusals.GrowError.TheVariants as growth
 use Rattle.segment_cli.specs.declared.faults.SessionFault.{SessionFault}
 use Rattle.segment_cli.specs.declared.faults.SessionFault.TheVariants as session
 use Rattle.segment_cli.specs.declared.program_faults.ProgramFault.{ProgramFault}
-use Rattle.segment_cli.specs.declared.program_faults.ProgramFault.TheVariants.{Usage, Exists, InUse, Growth, Session}
+use Rattle.segment_cli.specs.declared.program_faults.ProgramFault.TheVariants.{Usage, Exists, InUse, Stopped, Misspelled, Growth, Session}
+use Rattle.segment_disk.specs.declared.presence.Trouble.{Trouble}
+use Rattle.segment_disk.specs.declared.presence.Trouble.TheVariants.{Missing, Homeless, Folder, Denied}
 
 -- ---- the line of a fault
 
@@ -53,8 +55,20 @@ abbrev pub fault_text : ProgramFault → List ℕ
 fault_text Usage = []
 fault_text Exists = line (codes "file exists")
 fault_text InUse = line (codes "file in use")
+fault_text Stopped = line (codes "stopped at an error, and nothing is saved")
+fault_text Misspelled = line (codes "some lines are no commands")
 fault_text (Growth e) = line (codes "growth refused: " ++ growth_name e)
 fault_text (Session f) = line (session_words f)
+
+-- what a second line says of the file of a path
+abbrev pub trouble_words : Trouble → List ℕ
+trouble_words Missing = codes ": no such file\n"
+trouble_words Homeless = codes ": no such folder\n"
+trouble_words Folder = codes ": is a folder\n"
+trouble_words Denied = codes ": permission denied\n"
+
+abbrev pub trouble_text : List ℕ → Trouble → List ℕ
+trouble_text path trouble = codes "segment: " ++ (path ++ (trouble_words trouble ++ []))
 
 -- ---- its status
 
@@ -71,6 +85,8 @@ abbrev pub status_of : ProgramFault → ℕ
 status_of Usage = 2
 status_of Exists = 3
 status_of InUse = 3
+status_of Stopped = 1
+status_of Misspelled = 1
 status_of (Growth e) = 1
 status_of (Session f) = session_status f
 

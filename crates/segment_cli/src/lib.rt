@@ -11,10 +11,10 @@ mod sessions;
 pub use faults::{SessionFault, Start};
 pub use migrations::migrate;
 pub use program_faults::ProgramFault;
-pub use reports::report;
+pub use reports::{report, report_file};
 pub use saving::save;
 pub use segment_invocation::{
-    Invocation, InvocationFault, ModeName, Saving, UsageError, invocation,
+    Answering, Invocation, InvocationFault, ModeName, Saving, Tip, UsageError, VERSION, invocation,
 };
-pub use segment_scripts::{Machine, RunFault, Scratch, run};
+pub use segment_scripts::{LANGUAGE, Machine, RunFault, Scratch, run};
 pub use sessions::{begin, session};

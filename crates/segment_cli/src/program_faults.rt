@@ -18,6 +18,12 @@ pub enum ProgramFault {
     /// Another has the right to write the file.
     #[error("file in use")]
     InUse,
+    /// An answer of a strict run is an error.
+    #[error("stopped at an error, and nothing is saved")]
+    Stopped,
+    /// A line of a script that is linted is no command.
+    #[error("some lines are no commands")]
+    Misspelled,
     /// The segment does not grow.
     #[error("growth refused: {0}")]
     Growth(GrowError),

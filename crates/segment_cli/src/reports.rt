@@ -1,6 +1,6 @@
 //! What the program says of a fault, and the status that it ends with.
 ghost use Rattle.std.specs.Prelude.{◌≡◌, ◌++◌, ◌-◌, ◌^◌, ◌<◌, codes};
-ghost use Rattle.segment_cli.specs.Reports.{Puts, fault_text, growth_name, line, session_status, session_words, status_of};
+ghost use Rattle.segment_cli.specs.Reports.{Puts, fault_text, growth_name, line, session_status, session_words, status_of, trouble_text, trouble_words};
 ghost use Rattle.segment_cli.specs.declared.faults.SessionFault.TheVariants.{Image};
 
 use crate::faults::SessionFault;
@@ -8,6 +8,8 @@ use crate::program_faults::ProgramFault;
 use grow_shrink::GrowError;
 use image_check::ImageClass;
 use raw_region::{Sink, write_all};
+use segment_disk::Trouble;
+use segment_lang::{Piece, put_pieces};
 
 /// The line of an image that is refused.
 fn class_line(class: ImageClass) -> &'static [u8]
@@ -63,6 +65,8 @@ fn fault_line(fault: ProgramFault) -> &'static [u8]
         ProgramFault::Usage => b"",
         ProgramFault::Exists => b"segment: file exists\n",
         ProgramFault::InUse => b"segment: file in use\n",
+        ProgramFault::Stopped => b"segment: stopped at an error, and nothing is saved\n",
+        ProgramFault::Misspelled => b"segment: some lines are no commands\n",
         ProgramFault::Growth(error) => growth_line(error),
         ProgramFault::Session(fault) => session_line(fault),
     }
@@ -79,13 +83,13 @@ fn session_status(fault: SessionFault) -> u8
     }
 }
 
-/// The status that the program ends with: 1 where an image, a size or a growth is refused, 2 for a wrong command line, 3 for a
-/// file that exists or is in use and for faults, 4 for want of memory.
+/// The status that the program ends with: 1 where an image, a size, a growth or a script is refused, 2 for a wrong command line,
+/// 3 for a file that exists or is in use and for faults, 4 for want of memory.
 fn status_of(fault: ProgramFault) -> u8
     ensures { result ≡ status_of fault }
 {
     match fault {
-        ProgramFault::Growth(_) => 1,
+        ProgramFault::Growth(_) | ProgramFault::Stopped | ProgramFault::Misspelled => 1,
         ProgramFault::Usage => 2,
         ProgramFault::Exists | ProgramFault::InUse => 3,
         ProgramFault::Session(fault) => session_status(fault),
@@ -101,4 +105,31 @@ pub fn report<S: Sink>(fault: ProgramFault, err: &mut S) -> u8
 {
     let _ = write_all(err, fault_line(fault));
     status_of(fault)
+}
+
+/// What is said of a file.
+fn trouble_words(trouble: Trouble) -> &'static [u8]
+    ensures { result.now ≡ trouble_words trouble }
+{
+    match trouble {
+        Trouble::Missing => b": no such file\n",
+        Trouble::Homeless => b": no such folder\n",
+        Trouble::Folder => b": is a folder\n",
+        Trouble::Denied => b": permission denied\n",
+    }
+}
+
+/// Writes a line that says why the file of a path can't be read or written: it stands behind the line of the fault.
+pub fn report_file<S: Sink>(path: &str, trouble: Trouble, err: &mut S)
+    requires { (S.history err.old).failures < 2 ^ 64 - 1 }
+    ensures { Puts (S.history err.old) (S.history err.new) (trouble_text path.now trouble) }
+{
+    let _ = put_pieces(
+        err,
+        &[
+            Piece::Bytes(b"segment: "),
+            Piece::Bytes(path.as_bytes()),
+            Piece::Bytes(trouble_words(trouble)),
+        ],
+    );
 }

@@ -1,2 +1,4 @@
+pub mod ErrorLines
 pub mod Events
+pub mod Numbers
 pub mod Outlets

@@ -80,4 +80,9 @@ pub trait Output: Sink {
     fn flush(&mut self) -> Result<(), DeviceFault>
         ensures same { Self.history self.new ≡ Self.history self.old }
         ensures flushes { flushes self.old (is_ok result) self.new };
+
+    /// The next line of a script is answered from here on, if it has an answer. Nothing is written; an output that tells lines
+    /// apart takes note of it.
+    fn next_line(&mut self)
+        ensures { Self.history self.new ≡ Self.history self.old };
 }

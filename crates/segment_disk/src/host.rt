@@ -6,7 +6,7 @@ use crate::disk::{Disk, Opened};
 use crate::durable::write_through;
 use crate::locks::lock;
 use crate::outlet::Outlet;
-use crate::presence::{InUse, Making, Presence};
+use crate::presence::{InUse, Making, Presence, Trouble};
 use raw_region::stream::Reading;
 use raw_region::{DeviceFault, fill};
 use std::fs::{self, File, OpenFile};
@@ -21,6 +21,8 @@ pub struct HostDisk<'a, R: Files> {
     is_held: bool,
     /// The file that was made beside another last, while its fate is open.
     beside: Option<Beside>,
+    /// What the system said last of a file that was to be opened or made.
+    trouble: Option<Trouble>,
 }
 
 /// The right to write a file: its lock, if it has one.
@@ -36,7 +38,23 @@ impl<'a, R: Files> HostDisk<'a, R> {
             files,
             is_held: false,
             beside: None,
+            trouble: None,
         }
+    }
+
+    /// What the system said last of a file that was to be opened or made, where that says why it can't be read or written.
+    pub fn trouble(&self) -> Option<Trouble> {
+        self.trouble
+    }
+}
+
+/// What an error of the system says of a file.
+fn trouble_of(error: &io::Error) -> Option<Trouble> {
+    match error.kind() {
+        ErrorKind::NotFound => Some(Trouble::Missing),
+        ErrorKind::IsADirectory => Some(Trouble::Folder),
+        ErrorKind::PermissionDenied => Some(Trouble::Denied),
+        _ => None,
     }
 }
 
@@ -55,13 +73,24 @@ impl<'a, R: Files<File = File> + AllocGlobal> HostDisk<'a, R> {
     }
 }
 
-/// Opens a file for reading, reads its first bytes, and answers how many it has.
-fn open_file<R: Files>(files: &R, path: &str, front: &mut [u8; 24]) -> io::Result<(R::File, u64)> {
+/// A file that was opened for reading, how many bytes it has, and whether it is a folder, which can be opened and not read.
+struct Found<F> {
+    file: F,
+    len: u64,
+    is_folder: bool,
+}
+
+/// Opens a file for reading, and reads its first bytes.
+fn open_file<R: Files>(files: &R, path: &str, front: &mut [u8; 24]) -> io::Result<Found<R::File>> {
     let mut file = fs::open(files, path)?;
-    let len = file.metadata()?.len();
+    let metadata = file.metadata()?;
     let _ = fill(&mut Reading::new(&mut file), front);
     file.rewind()?;
-    Ok((file, len))
+    Ok(Found {
+        file,
+        len: metadata.len(),
+        is_folder: metadata.is_dir(),
+    })
 }
 
 impl<'a, R: Files<File = File> + AllocGlobal> Disk for HostDisk<'a, R> {
@@ -98,11 +127,21 @@ impl<'a, R: Files<File = File> + AllocGlobal> Disk for HostDisk<'a, R> {
     fn open(&mut self, path: &str) -> Result<Opened<Reading<File>>, DeviceFault> {
         let mut front = [0u8; 24];
         match open_file(self.files, path, &mut front) {
-            Ok((file, len)) => {
+            Ok(
+                Found {
+                    file,
+                    len,
+                    is_folder,
+                },
+            ) => {
+                self.trouble = is_folder.then_some(Trouble::Folder);
                 let reader = Reading::new(file);
                 Ok(Opened { reader, len, front })
             }
-            Err(_) => Err(DeviceFault),
+            Err(error) => {
+                self.trouble = trouble_of(&error);
+                Err(DeviceFault)
+            }
         }
     }
 
@@ -110,8 +149,17 @@ impl<'a, R: Files<File = File> + AllocGlobal> Disk for HostDisk<'a, R> {
 
     fn make(&mut self, path: &str, how: Making) -> Result<Outlet<File>, DeviceFault> {
         match self.file_for(path, how) {
-            Ok(file) => Ok(Outlet::new(file)),
-            Err(_) => Err(DeviceFault),
+            Ok(file) => {
+                self.trouble = None;
+                Ok(Outlet::new(file))
+            }
+            Err(error) => {
+                self.trouble = match trouble_of(&error) {
+                    Some(Trouble::Missing) => Some(Trouble::Homeless),
+                    trouble => trouble,
+                };
+                Err(DeviceFault)
+            }
         }
     }
 

@@ -6,10 +6,14 @@ mod disk;
 mod durable;
 mod host;
 mod locks;
+mod numbering;
 mod outlet;
 mod presence;
+mod stopping;
 
 pub use disk::{Disk, Opened, Output};
 pub use host::{HostDisk, HostHold};
+pub use numbering::Numbered;
 pub use outlet::Outlet;
-pub use presence::{InUse, Making, Presence};
+pub use presence::{InUse, Making, Presence, Trouble};
+pub use stopping::{Stopping, StopsAtError};

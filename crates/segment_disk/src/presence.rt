@@ -28,3 +28,16 @@ pub enum Making {
 #[derive(Clone, Copy, Debug, Drop, PartialEq, Eq, Error)]
 #[error("file in use")]
 pub struct InUse;
+
+/// Why a file can't be opened, read or made, as far as the system tells.
+#[derive(Clone, Copy, Debug, PartialEq, Eq)]
+pub enum Trouble {
+    /// No file is there.
+    Missing,
+    /// No folder is there in which the file is to be made.
+    Homeless,
+    /// It is a folder.
+    Folder,
+    /// Its rights do not let it be.
+    Denied,
+}

@@ -5,3 +5,4 @@ mod Opened
 mod Commanded
 mod Enlarged
 mod CutFiles
+mod Linted

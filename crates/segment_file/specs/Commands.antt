@@ -87,3 +87,10 @@ module _ {D : Type 0} (step : D → Event → D → Type 0) (old new : D) (path 
   -- `check`: nothing is opened for writing
   abbrev pub IsCheck : {O : Type 0} → (O → Took) → (O → Bool → O → Type 0) → O → O → Result (Unit {0}) ProgramFault → Type 0
   IsCheck history flushes out out' result = IsUnfit out out' result ⊎ IsFit history flushes out out' result
+
+-- ---- what the program says of itself
+
+-- the text was said
+pub record Prints {O : Type 0} (history : O → Took) (flushes : O → Bool → O → Type 0) (out out' : O) (text : List ℕ) (result : Result (Unit {0}) ProgramFault) : Type 0 where
+  pub tells : Tells history flushes out out' text result
+  pub answer : (fault : ProgramFault) → result ≡ Err fault → fault ≡ Session WriteFault

@@ -8,4 +8,6 @@ pub mod Running
 pub mod Resizing
 pub mod Migrating
 pub mod Modes
+pub mod Strict
+pub mod Linting
 pub mod SegmentFiles

@@ -9,11 +9,28 @@ ghost use Rattle.segment_file.specs.Running.{EndsRun, RunsScript};
 
 use crate::writing::write_image;
 use raw_region::Source;
-use segment_cli::{SessionFault, run};
+use segment_cli::SessionFault;
 use segment_disk::{Disk, Making, Output};
 use segment_manager::{Mode, Segment};
+use segment_scripts::{Follower, run_followed};
 
-/// Runs a script on a segment, and gives out all answers, also those before a fault.
+/// Lets answers go out before more of a script is read, and tells the output where an answer begins. An output that fails then
+/// fails again at the end.
+#[derive(Drop)]
+pub(crate) struct Flushing;
+
+impl<O: Output> Follower<O> for Flushing {
+    fn before_read(&mut self, out: &mut O) {
+        let _ = out.flush();
+    }
+
+    fn before_line(&mut self, out: &mut O) {
+        out.next_line();
+    }
+}
+
+/// Runs a script on a segment, and gives out all answers, also those before a fault. What was answered goes out before each read
+/// of the script.
 pub(crate) fn run_script<S: Source, O: Output>(
     segment: &mut Segment,
     script: &mut S,
@@ -24,7 +41,7 @@ pub(crate) fn run_script<S: Source, O: Output>(
     ensures { RunsScript segment.old segment.new (given_since (S.history script.old) (S.history script.new))
         (taken_since (O.history out.old) (O.history out.new)) (IsFlushed O.history O.flushes out.new) result }
 {
-    let answered = run(segment, script, out);
+    let answered = run_followed(segment, script, out, &mut Flushing);
     let flushed = out.flush();
     match answered {
         Ok(()) => match flushed {

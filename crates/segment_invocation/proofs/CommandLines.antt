@@ -1,20 +1,24 @@
 -- The command lines that are always understood.
 use Rattle.std.proofs.Common.{◌≡◌, refl, sym, ap, ap₂, subst, ◌∙◌, ℕ, ◌==◌, ◌&&◌, Bool, true, false, not, List, [], ◌∷◌, ◌++◌, Option, Some, None, codes, arith, inl, inr, drop}
-use Rattle.std.specs.Prelude.{if◌then◌else◌, IsTrue, nat_le, option_map, option_and_then}
+use Rattle.std.specs.List.{list_all}
+use Rattle.std.specs.Prelude.{◌⊎◌, is_some, if◌then◌else◌, IsTrue, nat_le, option_map, option_and_then}
 use Rattle.std.proofs.lemmas.Bool.{and_parts}
 use Rattle.std.proofs.lemmas.Bool.Decides.{nat_tests}
 use Rattle.clap.proofs.OnLiterals.{clap_on_literals}
-use Rattle.clap.specs.Walk.{Text, nothing_held, stop_after}
-use Rattle.clap.specs.Simple.{built, entered, is_simple, names_of, subcommand_of}
-use Rattle.clap.specs.Takes.{built_takes, takes}
+use Rattle.clap.specs.Walk.{Names, Text, Walk, finished, nothing_held, stop_after, walk, walk_from, walked}
+use Rattle.clap.proofs.WalkLemmas.{walk_stopped}
+use Rattle.clap.specs.Simple.{App, Shape, built, entered, is_simple, names_of, subcommand_of}
+use Rattle.clap.specs.Takes.{built_takes, default_passes, entered_passes, is_valid, settle_passes, takes, walk_passes}
+use Rattle.clap.specs.Faults.{built_fault, fault_of, is_simple_and_free}
+use Rattle.clap.specs.declared.error.kind.ErrorKind.TheVariants.{DisplayVersion}
 use Rattle.segment_lang.specs.Words.{between, is_digit, is_numeral, number_after, number_of}
-use Rattle.segment_invocation.specs.Invocations.{Asked, create, run, check, grow, shrink, migrate, IsModePart, IsSizePart, IsWritten, asked_in, asked_of, command_line, is_path, mode_called, mode_word, run_sized, saving_part, wants_size}
+use Rattle.segment_invocation.specs.Invocations.{Asked, create, run, check, grow, shrink, migrate, lint, language, version, IsModePart, IsSizePart, IsWritten, RunWords, asked_in, asked_of, asked_of_run, command_line, flag_words, is_path, is_set, mode_called, mode_of, mode_word, run_sized, saving_of, size_of, wants_size}
 use Rattle.segment_invocation.specs.declared.invocations.ModeName.{ModeName}
 use Rattle.segment_invocation.specs.declared.invocations.ModeName.TheVariants.{CreateOnly, OpenOnly, OpenOrCreate, OpenReadOnly, OpenCopyOnWrite}
 use Rattle.segment_invocation.specs.declared.invocations.Saving.{Saving}
 use Rattle.segment_invocation.specs.declared.invocations.Saving.TheVariants.{InPlace, Replacing}
 use Rattle.segment_invocation.proofs.PlainWords.{IsPlain}
-use Rattle.segment_invocation.proofs.Leaves.{file-passes, file-rows, number-passes, number-rows, run-both, run-file, run-mode, run-size}
+use Rattle.segment_invocation.proofs.Leaves.{IsRead, saving_word, truth_word, file-passes, file-rows, number-passes, number-rows, run-both, run-file, run-mode, run-size}
 
 -- ---- words that are no options
 
@@ -100,95 +104,147 @@ behind-migrate f p = record {
   asks = ap (asked_in (codes "migrate")) (file-rows (codes "migrate") f p);
 }
 
+behind-lint : Behind (codes "lint" ∷ []) lint
+unfolding clap_on_literals
+behind-lint = record { takes = refl; asks = refl }
+
+behind-help : Behind (codes "help" ∷ codes "language" ∷ []) language
+unfolding clap_on_literals
+behind-help = record { takes = refl; asks = refl }
+
 -- a run in a mode, with a size where it wants one
-abbrev in_mode : Text → ModeName → Saving → Option ℕ → Option Asked
-in_mode f mode saving size = option_and_then (λ m. run_sized f m saving size) (mode_called (mode_word mode))
+abbrev in_mode : Text → ModeName → Saving → Bool → Bool → Option ℕ → Option Asked
+in_mode f mode saving strict numbered size = option_and_then (λ m. run_sized f m saving strict numbered size) (mode_called (mode_word mode))
 
-mode-asks : (f : Text) (mode : ModeName) (saving : Saving) (size : Option ℕ) (a : Asked) → run_sized f mode saving size ≡ Some a → in_mode f mode saving size ≡ Some a
-mode-asks f mode saving size a h = ap (option_and_then (λ m. run_sized f m saving size)) (called mode) ∙ h
+mode-asks : (f : Text) (mode : ModeName) (saving : Saving) (strict numbered : Bool) (size : Option ℕ) (a : Asked) → run_sized f mode saving strict numbered size ≡ Some a → in_mode f mode saving strict numbered size ≡ Some a
+mode-asks f mode saving strict numbered size a h = ap (option_and_then (λ m. run_sized f m saving strict numbered size)) (called mode) ∙ h
 
-unsized : (f : Text) (mode : ModeName) (saving : Saving) → wants_size mode ≡ false → run_sized f mode saving None ≡ Some (run f mode None saving)
-unsized f mode saving h = rw h refl
+unsized : (f : Text) (mode : ModeName) (saving : Saving) (strict numbered : Bool) → wants_size mode ≡ false → run_sized f mode saving strict numbered None ≡ Some (run f mode None saving strict numbered)
+unsized f mode saving strict numbered h = rw h refl
 
-behind-run : (f : Text) (saving : Saving) → IsPlain f → Behind (codes "run" ∷ f ∷ saving_part saving) (run f OpenOnly None saving)
+saves : (saving : Saving) → saving_of (Some (saving_word saving)) ≡ saving
+saves InPlace = refl
+saves Replacing = refl
+
+sets : (truth : Bool) → is_set (Some (truth_word truth)) ≡ truth
+sets true = refl
+sets false = refl
+
+-- the flags say what is asked for
+flags-ask : (f : Text) (mode : Option Text) (size : Option Text) (saving : Saving) (strict numbered : Bool)
+    → asked_of_run (Some f, mode, size, Some (saving_word saving), Some (truth_word strict), Some (truth_word numbered))
+    ≡ option_and_then (λ m. option_and_then (run_sized f m saving strict numbered) (size_of size)) (mode_of mode)
+flags-ask f mode size InPlace false false = refl
+flags-ask f mode size InPlace false true = refl
+flags-ask f mode size InPlace true false = refl
+flags-ask f mode size InPlace true true = refl
+flags-ask f mode size Replacing false false = refl
+flags-ask f mode size Replacing false true = refl
+flags-ask f mode size Replacing true false = refl
+flags-ask f mode size Replacing true true = refl
+
+-- ---- behind the name of a subcommand all words are its own
+
+abbrev app : App
+app = built command_line
+
+-- a walk that stopped takes all words
+stopped-passes : (s : Shape) (names : Names) (w : Walk) (name : Text) (seen words : List Text) → walk_passes s names (record w { stopped = Some (name, seen) }) words ≡ true
+unfolding walk_passes walked
+stopped-passes s names w name seen [] = refl
+stopped-passes s names w name seen (x ∷ xs) = stopped-passes s names w name (seen ++ x ∷ []) xs
+
+abbrev at_run : List Text → Walk
+at_run words = record (walk_from nothing_held) { stopped = Some (codes "run", words) }
+
+run-walk : (words : List Text) → walk app.top.rules (names_of app) nothing_held (codes "run" ∷ words) ≡ at_run words
 unfolding clap_on_literals
-behind-run f InPlace p = record {
-  takes = ap (λ b. b && true) (run-file f InPlace p).passes;
-  asks = ap (asked_in (codes "run")) (run-file f InPlace p).found;
-}
-behind-run f Replacing p = record {
-  takes = ap (λ b. b && true) (run-file f Replacing p).passes;
-  asks = ap (asked_in (codes "run")) (run-file f Replacing p).found;
-}
+run-walk words = sym (walk_stopped app.top.rules (names_of app) (walk_from nothing_held) (codes "run") [] words)
 
-behind-mode : (f : Text) (mode : ModeName) (saving : Saving) → IsPlain f → wants_size mode ≡ false
-    → Behind (codes "run" ∷ f ∷ codes "--mode" ∷ mode_word mode ∷ saving_part saving) (run f mode None saving)
+run-words : (words : List Text) → walk_passes app.top (names_of app) (walk_from nothing_held) (codes "run" ∷ words) ≡ true
 unfolding clap_on_literals
-behind-mode f mode InPlace p h = record {
-  takes = ap (λ b. b && true) (run-mode f (mode_word mode) InPlace p (mode-plain mode)).passes;
-  asks = ap (asked_in (codes "run")) (run-mode f (mode_word mode) InPlace p (mode-plain mode)).found ∙ mode-asks f mode InPlace None _ (unsized f mode InPlace h);
-}
-behind-mode f mode Replacing p h = record {
-  takes = ap (λ b. b && true) (run-mode f (mode_word mode) Replacing p (mode-plain mode)).passes;
-  asks = ap (asked_in (codes "run")) (run-mode f (mode_word mode) Replacing p (mode-plain mode)).found ∙ mode-asks f mode Replacing None _ (unsized f mode Replacing h);
-}
+run-words words = stopped-passes app.top (names_of app) (walk_from nothing_held) (codes "run") [] words
 
-behind-size : (f d : Text) (n : ℕ) (saving : Saving) → IsPlain f → number_of d ≡ Some n → Behind (codes "run" ∷ f ∷ codes "--size" ∷ d ∷ saving_part saving) (run f OpenOnly (Some n) saving)
+-- the tests of the program's own level, behind those of its words
+abbrev takes_at : Walk → Bool → Bool
+takes_at end words_pass = entered_passes app end.stopped
+    && (words_pass && (settle_passes app.top.rules app.top.args_override_self end.held
+    && (list_all default_passes app.top.rules && is_valid app.top (finished app.top.rules end.held) (is_some (entered app end.stopped)))))
+
+-- the words of a run ask for what they say
+behind-read : (words : List Text) (said : RunWords) (a : Asked) → IsRead words said → asked_of_run said ≡ Some a → Behind (codes "run" ∷ words) a
 unfolding clap_on_literals
-behind-size f d n InPlace p h = record {
-  takes = ap (λ b. b && true) (run-size f d InPlace p (number-plain d n h)).passes;
-  asks = ap (asked_in (codes "run")) (run-size f d InPlace p (number-plain d n h)).found ∙ ap (λ o. option_and_then (run_sized f OpenOnly InPlace) (option_map Some o)) h;
-}
-behind-size f d n Replacing p h = record {
-  takes = ap (λ b. b && true) (run-size f d Replacing p (number-plain d n h)).passes;
-  asks = ap (asked_in (codes "run")) (run-size f d Replacing p (number-plain d n h)).found ∙ ap (λ o. option_and_then (run_sized f OpenOnly Replacing) (option_map Some o)) h;
+behind-read words said a r h = record {
+  takes = ap₂ takes_at (run-walk words) (run-words words) ∙ ap (λ b. b && true) r.passes;
+  asks = ap (λ (e : Walk). asked_of (entered app e.stopped)) (run-walk words) ∙ (ap asked_of_run r.found ∙ h);
 }
 
-behind-both : (f d : Text) (mode : ModeName) (n : ℕ) (saving : Saving) → IsPlain f → number_of d ≡ Some n
-    → Behind (codes "run" ∷ f ∷ codes "--mode" ∷ mode_word mode ∷ codes "--size" ∷ d ∷ saving_part saving) (run f mode (Some n) saving)
+behind-run : (f : Text) (saving : Saving) (strict numbered : Bool) → IsPlain f → Behind (codes "run" ∷ f ∷ flag_words saving strict numbered) (run f OpenOnly None saving strict numbered)
+behind-run f saving strict numbered p = behind-read _ _ _ (run-file f saving strict numbered p) (flags-ask f None None saving strict numbered)
+
+behind-mode : (f : Text) (mode : ModeName) (saving : Saving) (strict numbered : Bool) → IsPlain f → wants_size mode ≡ false
+    → Behind (codes "run" ∷ f ∷ codes "--mode" ∷ mode_word mode ∷ flag_words saving strict numbered) (run f mode None saving strict numbered)
+behind-mode f mode saving strict numbered p h = behind-read _ _ _ (run-mode f (mode_word mode) saving strict numbered p (mode-plain mode))
+    (flags-ask f (Some (mode_word mode)) None saving strict numbered ∙ mode-asks f mode saving strict numbered None _ (unsized f mode saving strict numbered h))
+
+behind-size : (f d : Text) (n : ℕ) (saving : Saving) (strict numbered : Bool) → IsPlain f → number_of d ≡ Some n
+    → Behind (codes "run" ∷ f ∷ codes "--size" ∷ d ∷ flag_words saving strict numbered) (run f OpenOnly (Some n) saving strict numbered)
+behind-size f d n saving strict numbered p h = behind-read _ _ _ (run-size f d saving strict numbered p (number-plain d n h))
+    (flags-ask f None (Some d) saving strict numbered ∙ ap (λ o. option_and_then (run_sized f OpenOnly saving strict numbered) (option_map Some o)) h)
+
+behind-both : (f d : Text) (mode : ModeName) (n : ℕ) (saving : Saving) (strict numbered : Bool) → IsPlain f → number_of d ≡ Some n
+    → Behind (codes "run" ∷ f ∷ codes "--mode" ∷ mode_word mode ∷ codes "--size" ∷ d ∷ flag_words saving strict numbered) (run f mode (Some n) saving strict numbered)
+behind-both f d mode n saving strict numbered p h = behind-read _ _ _ (run-both f (mode_word mode) d saving strict numbered p (mode-plain mode) (number-plain d n h))
+    (flags-ask f (Some (mode_word mode)) (Some d) saving strict numbered
+    ∙ (ap (λ o. option_and_then (λ m. option_and_then (run_sized f m saving strict numbered) (option_map Some o)) (mode_called (mode_word mode))) h ∙ mode-asks f mode saving strict numbered (Some n) _ refl))
+
+behind-options : (f : Text) (modes sizes flags : List Text) (mode : ModeName) (size : Option ℕ) (saving : Saving) (strict numbered : Bool) → flags ≡ flag_words saving strict numbered → IsPlain f
+    → IsModePart modes mode → IsSizePart sizes mode size → Behind (codes "run" ∷ f ∷ modes ++ (sizes ++ flags)) (run f mode size saving strict numbered)
+behind-options f modes sizes flags mode None v t n e p (inl m) (s, w) = rw (e, m, s) (behind-mode f mode v t n p w)
+behind-options f modes sizes flags mode None v t n e p (inr (m, o)) (s, w) = rw (e, m, s, o) (behind-run f v t n p)
+behind-options f modes sizes flags mode (Some k) v t n e p (inl m) (d, h, s) = rw (e, m, s) (behind-both f d mode k v t n p h)
+behind-options f modes sizes flags mode (Some k) v t n e p (inr (m, o)) (d, h, s) = rw (e, m, s, o) (behind-size f d k v t n p h)
+
+-- words that have no command
+pub record IsVersion (words : List Text) (a : Asked) : Type 0 where
+  pub is : a ≡ version
+  pub fault : built_fault (built command_line) nothing_held words ≡ DisplayVersion ∷ []
+
+asks-version : IsVersion (codes "--version" ∷ []) version
 unfolding clap_on_literals
-behind-both f d mode n InPlace p h = record {
-  takes = ap (λ b. b && true) (run-both f (mode_word mode) d InPlace p (mode-plain mode) (number-plain d n h)).passes;
-  asks = ap (asked_in (codes "run")) (run-both f (mode_word mode) d InPlace p (mode-plain mode) (number-plain d n h)).found
-      ∙ (ap (λ o. option_and_then (λ m. option_and_then (run_sized f m InPlace) (option_map Some o)) (mode_called (mode_word mode))) h ∙ mode-asks f mode InPlace (Some n) _ refl);
-}
-behind-both f d mode n Replacing p h = record {
-  takes = ap (λ b. b && true) (run-both f (mode_word mode) d Replacing p (mode-plain mode) (number-plain d n h)).passes;
-  asks = ap (asked_in (codes "run")) (run-both f (mode_word mode) d Replacing p (mode-plain mode) (number-plain d n h)).found
-      ∙ (ap (λ o. option_and_then (λ m. option_and_then (run_sized f m Replacing) (option_map Some o)) (mode_called (mode_word mode))) h ∙ mode-asks f mode Replacing (Some n) _ refl);
-}
+asks-version = record { is = refl; fault = refl }
 
-behind-options : (f : Text) (modes sizes : List Text) (mode : ModeName) (size : Option ℕ) (saving : Saving) → IsPlain f → IsModePart modes mode → IsSizePart sizes mode size
-    → Behind (codes "run" ∷ f ∷ modes ++ (sizes ++ saving_part saving)) (run f mode size saving)
-behind-options f modes sizes mode None v p (inl m) (s, w) = subst (λ ms. Behind (codes "run" ∷ f ∷ ms ++ (sizes ++ saving_part v)) (run f mode None v)) (sym m)
-    (subst (λ ss. Behind (codes "run" ∷ f ∷ codes "--mode" ∷ mode_word mode ∷ ss ++ saving_part v) (run f mode None v)) (sym s) (behind-mode f mode v p w))
-behind-options f modes sizes mode None v p (inr (m, o)) (s, w) = subst (λ ms. Behind (codes "run" ∷ f ∷ ms ++ (sizes ++ saving_part v)) (run f mode None v)) (sym m)
-    (subst (λ ss. Behind (codes "run" ∷ f ∷ ss ++ saving_part v) (run f mode None v)) (sym s) (subst (λ x. Behind (codes "run" ∷ f ∷ saving_part v) (run f x None v)) (sym o) (behind-run f v p)))
-behind-options f modes sizes mode (Some n) v p (inl m) (d, h, s) = subst (λ ms. Behind (codes "run" ∷ f ∷ ms ++ (sizes ++ saving_part v)) (run f mode (Some n) v)) (sym m)
-    (subst (λ ss. Behind (codes "run" ∷ f ∷ codes "--mode" ∷ mode_word mode ∷ ss ++ saving_part v) (run f mode (Some n) v)) (sym s) (behind-both f d mode n v p h))
-behind-options f modes sizes mode (Some n) v p (inr (m, o)) (d, h, s) = subst (λ ms. Behind (codes "run" ∷ f ∷ ms ++ (sizes ++ saving_part v)) (run f mode (Some n) v)) (sym m)
-    (subst (λ ss. Behind (codes "run" ∷ f ∷ ss ++ saving_part v) (run f mode (Some n) v)) (sym s)
-    (subst (λ x. Behind (codes "run" ∷ f ∷ codes "--size" ∷ d ∷ saving_part v) (run f x (Some n) v)) (sym o) (behind-size f d n v p h)))
-
-behind : (words : List Text) (a : Asked) → IsWritten a words → Behind words a
-behind words (create f n) (p, d, h, e) = subst (λ w. Behind w (create f n)) (sym e) (behind-create f d n (path-plain f p) h)
-behind words (run f mode size saving) (p, modes, sizes, m, s, e) = subst (λ w. Behind w (run f mode size saving)) (sym e) (behind-options f modes sizes mode size saving (path-plain f p) m s)
-behind words (check f) (p, e) = subst (λ w. Behind w (check f)) (sym e) (behind-check f (path-plain f p))
-behind words (grow f n) (p, d, h, e) = subst (λ w. Behind w (grow f n)) (sym e) (behind-grow f d n (path-plain f p) h)
-behind words (shrink f) (p, e) = subst (λ w. Behind w (shrink f)) (sym e) (behind-shrink f (path-plain f p))
-behind words (migrate f) (p, e) = subst (λ w. Behind w (migrate f)) (sym e) (behind-migrate f (path-plain f p))
+behind : (words : List Text) (a : Asked) → IsWritten a words → Behind words a ⊎ IsVersion words a
+behind words (create f n) (p, d, h, e) = inl (rw e (behind-create f d n (path-plain f p) h))
+behind words (run f mode size saving strict numbered) (p, modes, sizes, m, s, e) = inl (rw e (behind-options f modes sizes _ mode size saving strict numbered refl (path-plain f p) m s))
+behind words (check f) (p, e) = inl (rw e (behind-check f (path-plain f p)))
+behind words (grow f n) (p, d, h, e) = inl (rw e (behind-grow f d n (path-plain f p) h))
+behind words (shrink f) (p, e) = inl (rw e (behind-shrink f (path-plain f p)))
+behind words (migrate f) (p, e) = inl (rw e (behind-migrate f (path-plain f p)))
+behind words lint e = inl (rw e behind-lint)
+behind words language e = inl (rw e behind-help)
+behind words version e = inr (rw e asks-version)
 
 -- the command is simple, takes the words, and they ask for this
 pub record IsUnderstood (words : List Text) (a : Asked) : Type 0 where
-  pub simple : is_simple command_line ≡ true
   pub takes : takes command_line words ≡ true
   pub asks : asked_of (subcommand_of command_line words) ≡ Some a
+
+-- the words want the version to be shown
+pub record WantsVersion (words : List Text) (a : Asked) : Type 0 where
+  pub is : a ≡ version
+  pub fault : fault_of command_line words ≡ DisplayVersion ∷ []
+
+pub free : is_simple_and_free command_line ≡ true
+unfolding clap_on_literals
+free = refl
 
 pub simple : is_simple command_line ≡ true
 unfolding clap_on_literals
 simple = refl
 
-pub understood : (words : List Text) (a : Asked) → IsWritten a (drop 1 words) → IsUnderstood words a
-understood words a w =
-    let b : Behind (drop 1 words) a = behind (drop 1 words) a w in
-    record { simple = simple; takes = ap₂ ◌&&◌ simple b.takes; asks = b.asks }
+pub understood : (words : List Text) (a : Asked) → IsWritten a (drop 1 words) → IsUnderstood words a ⊎ WantsVersion words a
+understood words a w = elim (behind (drop 1 words) a w) [
+  | inl b ↦ inl (record { takes = ap₂ ◌&&◌ simple b.takes; asks = b.asks })
+  | inr v ↦ inr (record { is = v.is; fault = v.fault })
+]

@@ -7,9 +7,8 @@ use Rattle.clap.specs.Walk.{Row, Rule, Text, Walk, finished, idle, option as wai
 use Rattle.clap.specs.Simple.{Shape, built_leaf, inherited}
 use Rattle.clap.specs.Takes.{default_passes, is_valid, level_passes, settle_passes, turn_passes, walk_passes}
 use Rattle.clap.specs.declared.builder.value_parser.Reading.TheVariants as reading
-use Rattle.clap.specs.declared.parser.matches.ValueSource.{ValueSource}
-use Rattle.clap.specs.declared.parser.matches.ValueSource.TheVariants.{CommandLine, DefaultValue}
-use Rattle.segment_invocation.specs.Invocations.{file_command, number_command, program, run_command, saving_part}
+use Rattle.clap.specs.declared.parser.matches.ValueSource.TheVariants.{CommandLine}
+use Rattle.segment_invocation.specs.Invocations.{RunWords, file_command, flag_words, number_command, program, run_command, run_words}
 use Rattle.segment_invocation.specs.declared.invocations.Saving.{Saving}
 use Rattle.segment_invocation.specs.declared.invocations.Saving.TheVariants.{InPlace, Replacing}
 use Rattle.segment_invocation.proofs.PlainWords.{IsPlain, plain_step, turn-plain, walked-plain}
@@ -143,81 +142,91 @@ two-options f word id v word' id' v' p s t =
           (ap (λ b. b && true) (ap (λ w. turn_passes run_leaf [] (walked run_leaf.rules [] w word') v') one ∙ t.2)))));
     }
 
--- ---- and the flag behind them
+-- ---- and flags behind them
 
-walk-behind : (words : List Text) (w : Walk) (x : Text) → fold (walked run_leaf.rules []) w (words ++ x ∷ []) ≡ walked run_leaf.rules [] (fold (walked run_leaf.rules []) w words) x
-walk-behind [] w x = refl
-walk-behind (y ∷ ys) w x = walk-behind ys (walked run_leaf.rules [] w y) x
+walk-behind : (words : List Text) (w : Walk) (more : List Text) → fold (walked run_leaf.rules []) w (words ++ more) ≡ fold (walked run_leaf.rules []) (fold (walked run_leaf.rules []) w words) more
+walk-behind [] w more = refl
+walk-behind (y ∷ ys) w more = walk-behind ys (walked run_leaf.rules [] w y) more
 
-passes-behind : (words : List Text) (w : Walk) (x : Text) → walk_passes run_leaf [] w words ≡ true → turn_passes run_leaf [] (fold (walked run_leaf.rules []) w words) x ≡ true
-    → walk_passes run_leaf [] w (words ++ x ∷ []) ≡ true
+passes-behind : (words : List Text) (w : Walk) (more : List Text) → walk_passes run_leaf [] w words ≡ true → walk_passes run_leaf [] (fold (walked run_leaf.rules []) w words) more ≡ true
+    → walk_passes run_leaf [] w (words ++ more) ≡ true
 unfolding walk_passes
-passes-behind [] w x h t = ap (λ b. b && true) t
-passes-behind (y ∷ ys) w x h t =
+passes-behind [] w more h t = t
+passes-behind (y ∷ ys) w more h t =
     let both = and_parts (turn_passes run_leaf [] w y) _ h in
-    ap₂ ◌&&◌ both.0 (passes-behind ys (walked run_leaf.rules [] w y) x both.1 t)
+    ap₂ ◌&&◌ both.0 (passes-behind ys (walked run_leaf.rules [] w y) more both.1 t)
 
-abbrev flag_word : Text
-flag_word = codes "--replace"
-
-behind-words : (words : List Text) (end : Walk) → IsWalk words end → turn_passes run_leaf [] end flag_word ≡ true → IsWalk (words ++ flag_word ∷ []) (walked run_leaf.rules [] end flag_word)
-behind-words words end w t = record {
-  walk = walk-behind words (walk_from nothing_held) flag_word ∙ ap (λ (e : Walk). walked run_leaf.rules [] e flag_word) w.walk;
-  passes = passes-behind words (walk_from nothing_held) flag_word w.passes (ap (λ (e : Walk). turn_passes run_leaf [] e flag_word) w.walk ∙ t);
+behind-words : (words : List Text) (end : Walk) (more : List Text) → IsWalk words end → walk_passes run_leaf [] end more ≡ true → IsWalk (words ++ more) (fold (walked run_leaf.rules []) end more)
+behind-words words end more w t = record {
+  walk = walk-behind words (walk_from nothing_held) more ∙ ap (λ (e : Walk). fold (walked run_leaf.rules []) e more) w.walk;
+  passes = passes-behind words (walk_from nothing_held) more w.passes (ap (λ (e : Walk). walk_passes run_leaf [] e more) w.walk ∙ t);
 }
 
--- the row of the flag, which has a value where it is left out too
+-- a flag has a value where it is left out too
 abbrev pub saving_word : Saving → Text
 saving_word InPlace = codes "false"
 saving_word Replacing = codes "true"
 
-abbrev saving_source : Saving → ValueSource
-saving_source InPlace = DefaultValue
-saving_source Replacing = CommandLine
+abbrev pub truth_word : Bool → Text
+truth_word true = codes "true"
+truth_word false = codes "false"
 
-abbrev pub saving_row : Saving → Row
-saving_row saving = record { id = codes "replace"; values = saving_word saving ∷ []; count = None; source = Some (saving_source saving); reading = reading.AsWritten }
-
--- the rows of a run's words, and that they pass
-pub record IsRead (words : List Text) (rows : List Row) : Type 0 where
-  pub found : rows_after run_leaf.rules [] words ≡ rows
+-- what the words of a run say, and that they pass
+pub record IsRead (words : List Text) (said : RunWords) : Type 0 where
+  pub found : run_words (rows_after run_leaf.rules [] words) ≡ said
   pub passes : level_passes run_leaf [] nothing_held words false ≡ true
 
-pub run-file : (f : Text) (saving : Saving) → IsPlain f → IsRead (f ∷ saving_part saving) (word_row (codes "file") f ∷ saving_row saving ∷ [])
+read : (words : List Text) (end : Walk) (said : RunWords) → IsWalk words end → run_words (finished run_leaf.rules end.held) ≡ said → passes_at run_leaf true end ≡ true → IsRead words said
 unfolding clap_on_literals
-run-file f InPlace p =
-    let w : IsWalk (f ∷ []) (after_file f) = no-option f p in
-    record { found = ap (λ (e : Walk). finished run_leaf.rules e.held) w.walk; passes = ap₂ (passes_at run_leaf) w.passes w.walk }
-run-file f Replacing p =
-    let w = behind-words (f ∷ []) (after_file f) (no-option f p) refl in
-    record { found = ap (λ (e : Walk). finished run_leaf.rules e.held) w.walk; passes = ap₂ (passes_at run_leaf) w.passes w.walk }
+read words end said w h t = record {
+  found = ap (λ (e : Walk). run_words (finished run_leaf.rules e.held)) w.walk ∙ h;
+  passes = ap₂ (passes_at run_leaf) w.passes w.walk ∙ t;
+}
 
-pub run-mode : (f m : Text) (saving : Saving) → IsPlain f → IsPlain m
-    → IsRead (f ∷ codes "--mode" ∷ m ∷ saving_part saving) (word_row (codes "file") f ∷ word_row (codes "mode") m ∷ saving_row saving ∷ [])
+pub run-file : (f : Text) (saving : Saving) (strict numbered : Bool) → IsPlain f
+    → IsRead (f ∷ flag_words saving strict numbered) (Some f, None, None, Some (saving_word saving), Some (truth_word strict), Some (truth_word numbered))
 unfolding clap_on_literals
-run-mode f m InPlace p q =
-    let w = one-option f (codes "--mode") (codes "mode") m p (mode-first f m q) in
-    record { found = ap (λ (e : Walk). finished run_leaf.rules e.held) w.walk; passes = ap₂ (passes_at run_leaf) w.passes w.walk }
-run-mode f m Replacing p q =
-    let w = behind-words (f ∷ codes "--mode" ∷ m ∷ []) _ (one-option f (codes "--mode") (codes "mode") m p (mode-first f m q)) refl in
-    record { found = ap (λ (e : Walk). finished run_leaf.rules e.held) w.walk; passes = ap₂ (passes_at run_leaf) w.passes w.walk }
+run-file f InPlace false false p = read _ _ _ (behind-words (f ∷ []) (after_file f) (flag_words InPlace false false) (no-option f p) refl) refl refl
+run-file f InPlace false true p = read _ _ _ (behind-words (f ∷ []) (after_file f) (flag_words InPlace false true) (no-option f p) refl) refl refl
+run-file f InPlace true false p = read _ _ _ (behind-words (f ∷ []) (after_file f) (flag_words InPlace true false) (no-option f p) refl) refl refl
+run-file f InPlace true true p = read _ _ _ (behind-words (f ∷ []) (after_file f) (flag_words InPlace true true) (no-option f p) refl) refl refl
+run-file f Replacing false false p = read _ _ _ (behind-words (f ∷ []) (after_file f) (flag_words Replacing false false) (no-option f p) refl) refl refl
+run-file f Replacing false true p = read _ _ _ (behind-words (f ∷ []) (after_file f) (flag_words Replacing false true) (no-option f p) refl) refl refl
+run-file f Replacing true false p = read _ _ _ (behind-words (f ∷ []) (after_file f) (flag_words Replacing true false) (no-option f p) refl) refl refl
+run-file f Replacing true true p = read _ _ _ (behind-words (f ∷ []) (after_file f) (flag_words Replacing true true) (no-option f p) refl) refl refl
 
-pub run-size : (f d : Text) (saving : Saving) → IsPlain f → IsPlain d
-    → IsRead (f ∷ codes "--size" ∷ d ∷ saving_part saving) (word_row (codes "file") f ∷ word_row (codes "size") d ∷ saving_row saving ∷ [])
+pub run-mode : (f m : Text) (saving : Saving) (strict numbered : Bool) → IsPlain f → IsPlain m
+    → IsRead (f ∷ codes "--mode" ∷ m ∷ flag_words saving strict numbered) (Some f, Some m, None, Some (saving_word saving), Some (truth_word strict), Some (truth_word numbered))
 unfolding clap_on_literals
-run-size f d InPlace p q =
-    let w = one-option f (codes "--size") (codes "size") d p (size-first f d q) in
-    record { found = ap (λ (e : Walk). finished run_leaf.rules e.held) w.walk; passes = ap₂ (passes_at run_leaf) w.passes w.walk }
-run-size f d Replacing p q =
-    let w = behind-words (f ∷ codes "--size" ∷ d ∷ []) _ (one-option f (codes "--size") (codes "size") d p (size-first f d q)) refl in
-    record { found = ap (λ (e : Walk). finished run_leaf.rules e.held) w.walk; passes = ap₂ (passes_at run_leaf) w.passes w.walk }
+run-mode f m InPlace false false p q = read _ _ _ (behind-words (f ∷ codes "--mode" ∷ m ∷ []) (after_option (codes "mode") m (after_file f)) (flag_words InPlace false false) (one-option f (codes "--mode") (codes "mode") m p (mode-first f m q)) refl) refl refl
+run-mode f m InPlace false true p q = read _ _ _ (behind-words (f ∷ codes "--mode" ∷ m ∷ []) (after_option (codes "mode") m (after_file f)) (flag_words InPlace false true) (one-option f (codes "--mode") (codes "mode") m p (mode-first f m q)) refl) refl refl
+run-mode f m InPlace true false p q = read _ _ _ (behind-words (f ∷ codes "--mode" ∷ m ∷ []) (after_option (codes "mode") m (after_file f)) (flag_words InPlace true false) (one-option f (codes "--mode") (codes "mode") m p (mode-first f m q)) refl) refl refl
+run-mode f m InPlace true true p q = read _ _ _ (behind-words (f ∷ codes "--mode" ∷ m ∷ []) (after_option (codes "mode") m (after_file f)) (flag_words InPlace true true) (one-option f (codes "--mode") (codes "mode") m p (mode-first f m q)) refl) refl refl
+run-mode f m Replacing false false p q = read _ _ _ (behind-words (f ∷ codes "--mode" ∷ m ∷ []) (after_option (codes "mode") m (after_file f)) (flag_words Replacing false false) (one-option f (codes "--mode") (codes "mode") m p (mode-first f m q)) refl) refl refl
+run-mode f m Replacing false true p q = read _ _ _ (behind-words (f ∷ codes "--mode" ∷ m ∷ []) (after_option (codes "mode") m (after_file f)) (flag_words Replacing false true) (one-option f (codes "--mode") (codes "mode") m p (mode-first f m q)) refl) refl refl
+run-mode f m Replacing true false p q = read _ _ _ (behind-words (f ∷ codes "--mode" ∷ m ∷ []) (after_option (codes "mode") m (after_file f)) (flag_words Replacing true false) (one-option f (codes "--mode") (codes "mode") m p (mode-first f m q)) refl) refl refl
+run-mode f m Replacing true true p q = read _ _ _ (behind-words (f ∷ codes "--mode" ∷ m ∷ []) (after_option (codes "mode") m (after_file f)) (flag_words Replacing true true) (one-option f (codes "--mode") (codes "mode") m p (mode-first f m q)) refl) refl refl
 
-pub run-both : (f m d : Text) (saving : Saving) → IsPlain f → IsPlain m → IsPlain d
-    → IsRead (f ∷ codes "--mode" ∷ m ∷ codes "--size" ∷ d ∷ saving_part saving) (word_row (codes "file") f ∷ word_row (codes "mode") m ∷ word_row (codes "size") d ∷ saving_row saving ∷ [])
+pub run-size : (f d : Text) (saving : Saving) (strict numbered : Bool) → IsPlain f → IsPlain d
+    → IsRead (f ∷ codes "--size" ∷ d ∷ flag_words saving strict numbered) (Some f, None, Some d, Some (saving_word saving), Some (truth_word strict), Some (truth_word numbered))
 unfolding clap_on_literals
-run-both f m d InPlace p q r =
-    let w = two-options f (codes "--mode") (codes "mode") m (codes "--size") (codes "size") d p (mode-first f m q) (size-second f m d r) in
-    record { found = ap (λ (e : Walk). finished run_leaf.rules e.held) w.walk; passes = ap₂ (passes_at run_leaf) w.passes w.walk }
-run-both f m d Replacing p q r =
-    let w = behind-words (f ∷ codes "--mode" ∷ m ∷ codes "--size" ∷ d ∷ []) _ (two-options f (codes "--mode") (codes "mode") m (codes "--size") (codes "size") d p (mode-first f m q) (size-second f m d r)) refl in
-    record { found = ap (λ (e : Walk). finished run_leaf.rules e.held) w.walk; passes = ap₂ (passes_at run_leaf) w.passes w.walk }
+run-size f d InPlace false false p q = read _ _ _ (behind-words (f ∷ codes "--size" ∷ d ∷ []) (after_option (codes "size") d (after_file f)) (flag_words InPlace false false) (one-option f (codes "--size") (codes "size") d p (size-first f d q)) refl) refl refl
+run-size f d InPlace false true p q = read _ _ _ (behind-words (f ∷ codes "--size" ∷ d ∷ []) (after_option (codes "size") d (after_file f)) (flag_words InPlace false true) (one-option f (codes "--size") (codes "size") d p (size-first f d q)) refl) refl refl
+run-size f d InPlace true false p q = read _ _ _ (behind-words (f ∷ codes "--size" ∷ d ∷ []) (after_option (codes "size") d (after_file f)) (flag_words InPlace true false) (one-option f (codes "--size") (codes "size") d p (size-first f d q)) refl) refl refl
+run-size f d InPlace true true p q = read _ _ _ (behind-words (f ∷ codes "--size" ∷ d ∷ []) (after_option (codes "size") d (after_file f)) (flag_words InPlace true true) (one-option f (codes "--size") (codes "size") d p (size-first f d q)) refl) refl refl
+run-size f d Replacing false false p q = read _ _ _ (behind-words (f ∷ codes "--size" ∷ d ∷ []) (after_option (codes "size") d (after_file f)) (flag_words Replacing false false) (one-option f (codes "--size") (codes "size") d p (size-first f d q)) refl) refl refl
+run-size f d Replacing false true p q = read _ _ _ (behind-words (f ∷ codes "--size" ∷ d ∷ []) (after_option (codes "size") d (after_file f)) (flag_words Replacing false true) (one-option f (codes "--size") (codes "size") d p (size-first f d q)) refl) refl refl
+run-size f d Replacing true false p q = read _ _ _ (behind-words (f ∷ codes "--size" ∷ d ∷ []) (after_option (codes "size") d (after_file f)) (flag_words Replacing true false) (one-option f (codes "--size") (codes "size") d p (size-first f d q)) refl) refl refl
+run-size f d Replacing true true p q = read _ _ _ (behind-words (f ∷ codes "--size" ∷ d ∷ []) (after_option (codes "size") d (after_file f)) (flag_words Replacing true true) (one-option f (codes "--size") (codes "size") d p (size-first f d q)) refl) refl refl
+
+pub run-both : (f m d : Text) (saving : Saving) (strict numbered : Bool) → IsPlain f → IsPlain m → IsPlain d
+    → IsRead (f ∷ codes "--mode" ∷ m ∷ codes "--size" ∷ d ∷ flag_words saving strict numbered) (Some f, Some m, Some d, Some (saving_word saving), Some (truth_word strict), Some (truth_word numbered))
+unfolding clap_on_literals
+run-both f m d InPlace false false p q r = read _ _ _ (behind-words (f ∷ codes "--mode" ∷ m ∷ codes "--size" ∷ d ∷ []) (after_option (codes "size") d (after_option (codes "mode") m (after_file f))) (flag_words InPlace false false) (two-options f (codes "--mode") (codes "mode") m (codes "--size") (codes "size") d p (mode-first f m q) (size-second f m d r)) refl) refl refl
+run-both f m d InPlace false true p q r = read _ _ _ (behind-words (f ∷ codes "--mode" ∷ m ∷ codes "--size" ∷ d ∷ []) (after_option (codes "size") d (after_option (codes "mode") m (after_file f))) (flag_words InPlace false true) (two-options f (codes "--mode") (codes "mode") m (codes "--size") (codes "size") d p (mode-first f m q) (size-second f m d r)) refl) refl refl
+run-both f m d InPlace true false p q r = read _ _ _ (behind-words (f ∷ codes "--mode" ∷ m ∷ codes "--size" ∷ d ∷ []) (after_option (codes "size") d (after_option (codes "mode") m (after_file f))) (flag_words InPlace true false) (two-options f (codes "--mode") (codes "mode") m (codes "--size") (codes "size") d p (mode-first f m q) (size-second f m d r)) refl) refl refl
+run-both f m d InPlace true true p q r = read _ _ _ (behind-words (f ∷ codes "--mode" ∷ m ∷ codes "--size" ∷ d ∷ []) (after_option (codes "size") d (after_option (codes "mode") m (after_file f))) (flag_words InPlace true true) (two-options f (codes "--mode") (codes "mode") m (codes "--size") (codes "size") d p (mode-first f m q) (size-second f m d r)) refl) refl refl
+run-both f m d Replacing false false p q r = read _ _ _ (behind-words (f ∷ codes "--mode" ∷ m ∷ codes "--size" ∷ d ∷ []) (after_option (codes "size") d (after_option (codes "mode") m (after_file f))) (flag_words Replacing false false) (two-options f (codes "--mode") (codes "mode") m (codes "--size") (codes "size") d p (mode-first f m q) (size-second f m d r)) refl) refl refl
+run-both f m d Replacing false true p q r = read _ _ _ (behind-words (f ∷ codes "--mode" ∷ m ∷ codes "--size" ∷ d ∷ []) (after_option (codes "size") d (after_option (codes "mode") m (after_file f))) (flag_words Replacing false true) (two-options f (codes "--mode") (codes "mode") m (codes "--size") (codes "size") d p (mode-first f m q) (size-second f m d r)) refl) refl refl
+run-both f m d Replacing true false p q r = read _ _ _ (behind-words (f ∷ codes "--mode" ∷ m ∷ codes "--size" ∷ d ∷ []) (after_option (codes "size") d (after_option (codes "mode") m (after_file f))) (flag_words Replacing true false) (two-options f (codes "--mode") (codes "mode") m (codes "--size") (codes "size") d p (mode-first f m q) (size-second f m d r)) refl) refl refl
+run-both f m d Replacing true true p q r = read _ _ _ (behind-words (f ∷ codes "--mode" ∷ m ∷ codes "--size" ∷ d ∷ []) (after_option (codes "size") d (after_option (codes "mode") m (after_file f))) (flag_words Replacing true true) (two-options f (codes "--mode") (codes "mode") m (codes "--size") (codes "size") d p (mode-first f m q) (size-second f m d r)) refl) refl refl

@@ -1,3 +1,5 @@
+mod Settings
 mod PlainWords
 mod Leaves
 mod CommandLines
+mod Unread

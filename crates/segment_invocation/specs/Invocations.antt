@@ -2,11 +2,14 @@
 use Rattle.std.specs.Prelude.{◌≡◌, ◌⊎◌, ◌==◌, ◌∷◌, ◌++◌, ℕ, Bool, true, false, not, List, [], Option, Some, None, Result, MatchResult, IsTrue, option_map, option_and_then, codes, fold, if◌then◌else◌}
 use Rattle.std.specs.Str.{bytes_eq}
 use Rattle.clap.specs.Walk.{Row, Rule, Text, first_of}
-use Rattle.clap.specs.Simple.{App, Shape, new_rule, new_shape, with_subcommand}
+use Rattle.clap.specs.Simple.{App, Shape, new_rule, new_shape, subcommand_of, with_subcommand}
+use Rattle.clap.specs.Faults.{fault_of}
+use Rattle.clap.specs.Kinds.{IsAmong}
+use Rattle.clap.specs.declared.error.kind.ErrorKind.TheVariants.{DisplayVersion}
 use Rattle.clap.specs.declared.builder.action.ArgAction.TheVariants.{Set, SetTrue}
 use Rattle.segment_lang.specs.Words.{number_of}
 use Rattle.segment_invocation.specs.declared.invocations.Invocation.{Invocation}
-use Rattle.segment_invocation.specs.declared.invocations.Invocation.TheVariants.{Create, Run, Check, Grow, Shrink, Migrate}
+use Rattle.segment_invocation.specs.declared.invocations.Invocation.TheVariants.{Create, Run, Check, Grow, Shrink, Migrate, Lint, Language, Version}
 use Rattle.segment_invocation.specs.declared.invocations.ModeName.{ModeName}
 use Rattle.segment_invocation.specs.declared.invocations.ModeName.TheVariants.{CreateOnly, OpenOnly, OpenOrCreate, OpenReadOnly, OpenCopyOnWrite}
 use Rattle.segment_invocation.specs.declared.invocations.Saving.{Saving}
@@ -32,7 +35,7 @@ taking name rules = record (new_shape name) { rules = rules }
 
 -- the program, without its subcommands: it wants one, and gives help where no word stands behind its name
 abbrev pub program : App
-program = record { top = record (new_shape (codes "segment")) { disable_help_subcommand = true; arg_required_else_help = true; subcommand_required = true }; subs = [] }
+program = record { top = record (new_shape (codes "segment")) { has_version = true; disable_help_subcommand = true; arg_required_else_help = true; subcommand_required = true }; subs = [] }
 
 abbrev pub file_command : Text → Shape
 file_command name = taking name (operand (codes "file") ∷ [])
@@ -40,34 +43,46 @@ file_command name = taking name (operand (codes "file") ∷ [])
 abbrev pub number_command : Text → Shape
 number_command name = taking name (operand (codes "file") ∷ operand (codes "number") ∷ [])
 
+abbrev pub run_options : List Rule
+run_options = operand (codes "file") ∷ option (codes "mode") ∷ option (codes "size") ∷ []
+
 abbrev pub run_command : Shape
-run_command = taking (codes "run") (operand (codes "file") ∷ option (codes "mode") ∷ option (codes "size") ∷ flag (codes "replace") ∷ [])
+run_command = taking (codes "run") (run_options ++ (flag (codes "replace") ∷ flag (codes "strict") ∷ flag (codes "numbered") ∷ []))
+
+abbrev pub help_command : Shape
+help_command = taking (codes "help") (operand (codes "topic") ∷ [])
 
 abbrev pub subcommands : List Shape
 subcommands = number_command (codes "create") ∷ run_command ∷ file_command (codes "check") ∷ number_command (codes "grow") ∷ file_command (codes "shrink")
-    ∷ file_command (codes "migrate") ∷ []
+    ∷ file_command (codes "migrate") ∷ taking (codes "lint") [] ∷ help_command ∷ []
 
 abbrev pub command_line : App
 command_line = fold with_subcommand program subcommands
 
 -- ---- what the matches ask for
 
--- a file goes by its path
+-- a file goes by its path; a run says whether it is strict, and whether its answers are numbered
 pub data Asked : Type 0 where
   create : Text → ℕ → Asked
-  run : Text → ModeName → Option ℕ → Saving → Asked
+  run : Text → ModeName → Option ℕ → Saving → Bool → Bool → Asked
   check : Text → Asked
   grow : Text → ℕ → Asked
   shrink : Text → Asked
   migrate : Text → Asked
+  lint : Asked
+  language : Asked
+  version : Asked
 
 abbrev pub asked_by : Invocation → Asked
 asked_by (Create file size) = create file.now size
-asked_by (Run file mode size saving) = run file.now mode size saving
+asked_by (Run file mode size saving answering) = run file.now mode size saving answering.strict answering.numbered
 asked_by (Check file) = check file.now
 asked_by (Grow file bytes) = grow file.now bytes
 asked_by (Shrink file) = shrink file.now
 asked_by (Migrate file) = migrate file.now
+asked_by Lint = lint
+asked_by Language = language
+asked_by Version = version
 
 abbrev pub mode_word : ModeName → Text
 mode_word CreateOnly = codes "create_only"
@@ -106,10 +121,15 @@ abbrev pub saving_of : Option Text → Saving
 saving_of None = InPlace
 saving_of (Some word) = if bytes_eq word (codes "true") then Replacing else InPlace
 
+-- whether a flag stands there, by what stands for it
+abbrev pub is_set : Option Text → Bool
+is_set None = false
+is_set (Some word) = bytes_eq word (codes "true")
+
 -- a run, unless its mode wants a size and there is none
-abbrev pub run_sized : Text → ModeName → Saving → Option ℕ → Option Asked
-run_sized file mode saving (Some size) = Some (run file mode (Some size) saving)
-run_sized file mode saving None = if wants_size mode then None else Some (run file mode None saving)
+abbrev pub run_sized : Text → ModeName → Saving → Bool → Bool → Option ℕ → Option Asked
+run_sized file mode saving strict numbered (Some size) = Some (run file mode (Some size) saving strict numbered)
+run_sized file mode saving strict numbered None = if wants_size mode then None else Some (run file mode None saving strict numbered)
 
 -- what the words of a subcommand ask for: each word by its id
 abbrev pub with_file : (Text → Option Asked) → List Row → Option Asked
@@ -118,8 +138,33 @@ with_file ask words = option_and_then ask (first_of (codes "file") words)
 abbrev pub with_number : (Text → ℕ → Asked) → List Row → Option Asked
 with_number ask words = with_file (λ file. option_map (ask file) (option_and_then number_of (first_of (codes "number") words))) words
 
+-- a run's file, mode, size, and its flags --replace, --strict and --numbered
+abbrev pub RunWords : Type 0
+RunWords = Option Text × Option Text × Option Text × Option Text × Option Text × Option Text
+
+abbrev pub run_words : List Row → RunWords
+run_words words = (
+  first_of (codes "file") words,
+  first_of (codes "mode") words,
+  first_of (codes "size") words,
+  first_of (codes "replace") words,
+  first_of (codes "strict") words,
+  first_of (codes "numbered") words,
+)
+
+abbrev pub asked_of_run : RunWords → Option Asked
+asked_of_run (file, mode, size, replace, strict, numbered) =
+    option_and_then (λ path. option_and_then (λ m. option_and_then (run_sized path m (saving_of replace) (is_set strict) (is_set numbered)) (size_of size)) (mode_of mode)) file
+
 abbrev pub asked_run : List Row → Option Asked
-asked_run words = with_file (λ file. option_and_then (λ mode. option_and_then (run_sized file mode (saving_of (first_of (codes "replace") words))) (size_of (first_of (codes "size") words))) (mode_of (first_of (codes "mode") words))) words
+asked_run words = asked_of_run (run_words words)
+
+abbrev pub asked_topic : Option Text → Option Asked
+asked_topic None = None
+asked_topic (Some word) = if bytes_eq word (codes "language") then Some language else None
+
+abbrev pub asked_help : List Row → Option Asked
+asked_help words = asked_topic (first_of (codes "topic") words)
 
 abbrev pub asked_in : Text → List Row → Option Asked
 asked_in subcommand words =
@@ -129,12 +174,18 @@ asked_in subcommand words =
     else if bytes_eq subcommand (codes "grow") then with_number grow words
     else if bytes_eq subcommand (codes "shrink") then with_file (λ file. Some (shrink file)) words
     else if bytes_eq subcommand (codes "migrate") then with_file (λ file. Some (migrate file)) words
+    else if bytes_eq subcommand (codes "lint") then Some lint
+    else if bytes_eq subcommand (codes "help") then asked_help words
     else None
 
 -- a subcommand with its words
 abbrev pub asked_of : Option (Text × List Row) → Option Asked
 asked_of None = None
 asked_of (Some found) = asked_in found.0 found.1
+
+-- the words, the program's name first, ask for this: by their subcommand, or they want the version to be shown
+abbrev pub IsAskedBy : List Text → Asked → Type 0
+IsAskedBy words a = (asked_of (subcommand_of command_line words) ≡ Some a) ⊎ ((a ≡ version) × IsAmong DisplayVersion (fault_of command_line words))
 
 -- an answer is what is wanted, and an error stands for nothing
 abbrev pub Reads : {A E : Type 0} → Option A → Result A E → Type 0
@@ -161,12 +212,23 @@ abbrev pub saving_part : Saving → List Text
 saving_part InPlace = []
 saving_part Replacing = codes "--replace" ∷ []
 
+-- a flag that may be left out
+abbrev pub flag_part : Text → Bool → List Text
+flag_part word true = word ∷ []
+flag_part word false = []
+
+abbrev pub flag_words : Saving → Bool → Bool → List Text
+flag_words saving strict numbered = saving_part saving ++ (flag_part (codes "--strict") strict ++ flag_part (codes "--numbered") numbered)
+
 -- the words behind the program's name say what is asked for
 abbrev pub IsWritten : Asked → List Text → Type 0
 IsWritten (create file size) words = IsTrue (is_path file) × (digits : Text) × (number_of digits ≡ Some size) × (words ≡ codes "create" ∷ file ∷ digits ∷ [])
-IsWritten (run file mode size saving) words = IsTrue (is_path file) × (modes : List Text) × (sizes : List Text) × IsModePart modes mode × IsSizePart sizes mode size
-    × (words ≡ codes "run" ∷ file ∷ modes ++ (sizes ++ saving_part saving))
+IsWritten (run file mode size saving strict numbered) words = IsTrue (is_path file) × (modes : List Text) × (sizes : List Text) × IsModePart modes mode × IsSizePart sizes mode size
+    × (words ≡ codes "run" ∷ file ∷ modes ++ (sizes ++ flag_words saving strict numbered))
 IsWritten (check file) words = IsTrue (is_path file) × (words ≡ codes "check" ∷ file ∷ [])
 IsWritten (grow file bytes) words = IsTrue (is_path file) × (digits : Text) × (number_of digits ≡ Some bytes) × (words ≡ codes "grow" ∷ file ∷ digits ∷ [])
 IsWritten (shrink file) words = IsTrue (is_path file) × (words ≡ codes "shrink" ∷ file ∷ [])
 IsWritten (migrate file) words = IsTrue (is_path file) × (words ≡ codes "migrate" ∷ file ∷ [])
+IsWritten lint words = words ≡ codes "lint" ∷ []
+IsWritten language words = words ≡ codes "help" ∷ codes "language" ∷ []
+IsWritten version words = words ≡ codes "--version" ∷ []

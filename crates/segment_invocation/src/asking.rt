@@ -1,16 +1,20 @@
 //! What the words of a command line ask for.
-ghost use Rattle.std.specs.Prelude.{◌≡◌, Some, None, map, drop, codes, IfOk, MatchResult, option_map, option_and_then};
+ghost use Rattle.std.specs.Prelude.{◌≡◌, Some, None, Ok, Err, map, drop, codes, IfOk, MatchResult, option_map, option_and_then};
 ghost use Rattle.clap.specs.Matches.{found_of};
+ghost use Rattle.clap.specs.Values.{kind_of};
 ghost use Rattle.clap.specs.Walk.{first_of, rows_of};
-ghost use Rattle.clap.specs.Simple.{subcommand_of};
+ghost use Rattle.clap.specs.declared.error.kind.ErrorKind.TheVariants.{DisplayVersion, OutOfMemory as NoMemory};
 ghost use Rattle.segment_lang.specs.Words.{number_of};
-ghost use Rattle.segment_invocation.specs.Invocations.{Asked, IsWritten, Reads, asked_by, asked_in, asked_of, asked_run, command_line, mode_of, saving_of, size_of};
+ghost use Rattle.segment_invocation.specs.Invocations.{Asked, IsAskedBy, IsWritten, Reads, asked_by, asked_help, asked_in, asked_run, is_set, mode_of, saving_of, size_of};
+ghost use Rattle.segment_invocation.specs.declared.invocations.Invocation.TheVariants.{Version};
 ghost use Rattle.segment_invocation.specs.declared.usage.InvocationFault.TheVariants.{OutOfMemory};
 
 use crate::command_line::command_line;
-use crate::invocations::{Invocation, ModeName, Saving};
+use crate::invocations::{Answering, Invocation, ModeName, Saving};
+use crate::nearest::nearest_mode;
 use crate::usage::{InvocationFault, UsageError};
-use clap::ArgMatches;
+use clap::error::ErrorKind;
+use clap::{ArgMatches, Error as Misread};
 use segment_lang::number_of;
 use std::alloc::Global;
 
@@ -45,13 +49,13 @@ fn number_in(words: &ArgMatches<'_>) -> Result<u64, UsageError>
 }
 
 /// The mode of a run, `open_only` where none is named.
-fn mode_in(words: &ArgMatches<'_>) -> Result<ModeName, UsageError>
+fn mode_in(alloc: Global, words: &ArgMatches<'_>) -> Result<ModeName, UsageError>
     ensures { Reads (mode_of (first_of (codes "mode") (rows_of (found_of words.now)))) result }
 {
     match word_of(words, "mode") {
         Some(word) => match ModeName::called(word) {
             Some(mode) => Ok(mode),
-            None => Err(UsageError::Mode),
+            None => Err(UsageError::Mode(nearest_mode(alloc, word))),
         },
         None => Ok(ModeName::OpenOnly),
     }
@@ -80,32 +84,78 @@ fn saving_in(words: &ArgMatches<'_>) -> Saving
     }
 }
 
+/// Whether a flag stands among the words.
+fn is_set(words: &ArgMatches<'_>, id: &str) -> bool
+    ensures { result ≡ is_set (first_of id.now (rows_of (found_of words.now))) }
+{
+    matches!(word_of(words, id), Some("true"))
+}
+
+/// How a run answers.
+fn answering_in(words: &ArgMatches<'_>) -> Answering
+    ensures strict { result.strict ≡ is_set (first_of (codes "strict") (rows_of (found_of words.now))) }
+    ensures numbered { result.numbered ≡ is_set (first_of (codes "numbered") (rows_of (found_of words.now))) }
+{
+    Answering {
+        strict: is_set(words, "strict"),
+        numbered: is_set(words, "numbered"),
+    }
+}
+
 /// What the words of the command `run` ask for.
-fn read_run<'a>(words: &ArgMatches<'a>) -> Result<Invocation<'a>, UsageError>
+fn read_run<'a>(alloc: Global, words: &ArgMatches<'a>) -> Result<Invocation<'a>, UsageError>
     ensures { MatchResult result (λ i. asked_run (rows_of (found_of words.now)) ≡ Some (asked_by i)) (λ e. asked_run (rows_of (found_of words.now)) ≡ None) }
 {
     let file = file_in(words)?;
-    let mode = mode_in(words)?;
+    let mode = mode_in(alloc, words)?;
     let size = size_in(words)?;
     if mode.wants_size() && size.is_none() {
         return Err(UsageError::Size);
     }
-    Ok(Invocation::Run(file, mode, size, saving_in(words)))
+    Ok(Invocation::Run(file, mode, size, saving_in(words), answering_in(words)))
+}
+
+/// What the word of the command `help` asks for.
+fn read_help<'a>(words: &ArgMatches<'a>) -> Result<Invocation<'a>, UsageError>
+    ensures { MatchResult result (λ i. asked_help (rows_of (found_of words.now)) ≡ Some (asked_by i)) (λ e. asked_help (rows_of (found_of words.now)) ≡ None) }
+{
+    match word_of(words, "topic") {
+        Some("language") => Ok(Invocation::Language),
+        _ => Err(UsageError::Topic),
+    }
 }
 
 /// What the words of a command ask for.
-fn read_command<'a>(name: &str, words: &ArgMatches<'a>) -> Result<Invocation<'a>, UsageError>
+fn read_command<'a>(
+    alloc: Global,
+    name: &str,
+    words: &ArgMatches<'a>,
+) -> Result<Invocation<'a>, UsageError>
     ensures { MatchResult result (λ i. asked_in name.now (rows_of (found_of words.now)) ≡ Some (asked_by i)) (λ e. asked_in name.now (rows_of (found_of words.now)) ≡ None) }
 {
     match name {
         "create" => Ok(Invocation::Create(file_in(words)?, number_in(words)?)),
-        "run" => read_run(words),
+        "run" => read_run(alloc, words),
         "check" => Ok(Invocation::Check(file_in(words)?)),
         "grow" => Ok(Invocation::Grow(file_in(words)?, number_in(words)?)),
         "shrink" => Ok(Invocation::Shrink(file_in(words)?)),
         "migrate" => Ok(Invocation::Migrate(file_in(words)?)),
+        "lint" => Ok(Invocation::Lint),
+        "help" => read_help(words),
         _ => Err(UsageError::Command),
     }
+}
+
+/// What words ask for that have no command: the version, or they are wrong or ask for help.
+fn read_other<'a>(other: Misread) -> Result<Invocation<'a>, InvocationFault>
+    ensures version { kind_of other ≡ DisplayVersion → result ≡ Ok Version }
+    ensures memory { kind_of other ≡ NoMemory → result ≡ Err OutOfMemory }
+    ensures only { IfOk result (λ i. (i ≡ Version) × (kind_of other ≡ DisplayVersion)) }
+{
+    if other.kind() == ErrorKind::DisplayVersion {
+        return Ok(Invocation::Version);
+    }
+    Err(InvocationFault::from(other))
 }
 
 /// What a command line asks for. Its first word is the program's name.
@@ -118,12 +168,15 @@ pub fn invocation<'a>(
     alloc: Global,
     words: &'a [&'a str],
 ) -> Result<Invocation<'a>, InvocationFault>
-    ensures read { IfOk result (λ i. asked_of (subcommand_of command_line (map (λ s. s.now) words.now)) ≡ Some (asked_by i)) }
+    ensures read { IfOk result (λ i. IsAskedBy (map (λ s. s.now) words.now) (asked_by i)) }
     ensures given { (a : Asked) → IsWritten a (drop 1 (map (λ s. s.now) words.now)) → MatchResult result (λ i. asked_by i ≡ a) (λ e. e ≡ OutOfMemory) }
 {
-    let matches = command_line(alloc)?.try_get_matches_from(words)?;
+    let matches = match command_line(alloc)?.try_get_matches_from(words) {
+        Ok(matches) => matches,
+        Err(other) => return read_other(other),
+    };
     match matches.subcommand() {
-        Some((name, found)) => Ok(read_command(name, found)?),
+        Some((name, found)) => Ok(read_command(alloc, name, found)?),
         None => Err(InvocationFault::Usage(UsageError::Command)),
     }
 }

@@ -1,10 +1,11 @@
 //! The command line of the program, and its help.
-ghost use Rattle.std.specs.Prelude.{◌≡◌, false, IfOk};
+ghost use Rattle.std.specs.Prelude.{◌≡◌, [], false, codes, IfOk};
 ghost use Rattle.clap.specs.Walk.{rule_of};
-ghost use Rattle.clap.specs.Simple.{app_of, shape_of};
+ghost use Rattle.clap.specs.Simple.{app_of, new_app, shape_of};
 ghost use Rattle.clap.specs.declared.builder.command.Command.TheViews.{out-Command as fields_of};
-ghost use Rattle.segment_invocation.specs.Invocations.{command_line, file_command, flag, number_command, operand, option, program, run_command};
+ghost use Rattle.segment_invocation.specs.Invocations.{command_line, file_command, flag, help_command, number_command, operand, option, program, run_command, run_options, taking};
 
+use crate::version::VERSION;
 use clap::{Arg, ArgAction, Command};
 use std::alloc::{AllocError, Global};
 
@@ -45,6 +46,24 @@ const BYTES: &str = "A multiple of 16 from 32 on";
 /// Where the modes are told.
 const MODE: &str = "One of the five modes below";
 
+/// What a run does behind an error.
+const STRICT: &str =
+    "The first answer that is an error ends the run, with status 1, and nothing is saved";
+
+/// How the answers of a run are told apart.
+const NUMBERED: &str =
+    "Each line of an answer stands behind the number of the line that it answers, as in '3: #192'";
+
+/// What the command `lint` does.
+const LINT: &str =
+    "Tells which lines of the script of standard input are no commands, and where; it needs no segment";
+
+/// What the command `help` does.
+const HELP: &str = "Prints the commands of a script, where TOPIC is language";
+
+/// What there is help on.
+const TOPIC: &str = "The word language";
+
 /// What a run does to a file that it saves.
 const REPLACE: &str =
     "The image goes to a new file, FILE.new, which then takes the place of FILE: one of the two is whole at each moment";
@@ -65,7 +84,8 @@ Example:
 const STATUSES: &str = "\
 Statuses:
   0  Done; the answers of a script may have been errors
-  1  FILE holds no segment, or the size or the growth is refused
+  1  FILE holds no segment, or the size or the growth is refused; an answer of a strict run is an error; or a line of a
+     script that is linted is no command
   2  The command line is wrong, or asks for help
   3  A FILE that is to be made exists, another program writes FILE, something could not be read or written, or the script
      is too long
@@ -134,25 +154,61 @@ fn number_command<'a>(
     file_command(alloc, name, about)?.arg(operand(alloc, "number", shown, help))
 }
 
-/// The command `run`.
-fn run_command<'a>(alloc: Global) -> Result<Command<'a>, AllocError>
-    ensures shape { IfOk result (λ c. shape_of c ≡ run_command) }
+/// The command `run`, without its flags.
+fn run_options<'a>(alloc: Global) -> Result<Command<'a>, AllocError>
+    ensures shape { IfOk result (λ c. shape_of c ≡ taking (codes "run") run_options) }
     ensures local { IfOk result (λ c. (fields_of c).has_globals ≡ false) }
 {
     file_command(alloc, "run", RUN)?
         .after_help(MODES)
         .arg(option(alloc, "mode", "MODE", MODE))?
-        .arg(option(alloc, "size", "SIZE", SIZE))?
-        .arg(flag(alloc, "replace", REPLACE))
+        .arg(option(alloc, "size", "SIZE", SIZE))
 }
 
-/// The program, without its commands, and what its help says before and behind them.
-fn program<'a>(alloc: Global, about: &'a str, statuses: &'a str) -> Command<'a>
-    ensures { app_of result ≡ program }
+/// The command `run`.
+fn run_command<'a>(alloc: Global) -> Result<Command<'a>, AllocError>
+    ensures shape { IfOk result (λ c. shape_of c ≡ run_command) }
+    ensures local { IfOk result (λ c. (fields_of c).has_globals ≡ false) }
+{
+    run_options(alloc)?
+        .arg(flag(alloc, "replace", REPLACE))?
+        .arg(flag(alloc, "strict", STRICT))?
+        .arg(flag(alloc, "numbered", NUMBERED))
+}
+
+/// The command `lint`.
+fn lint_command<'a>(alloc: Global) -> Command<'a>
+    ensures shape { shape_of result ≡ taking (codes "lint") [] }
+    ensures local { (fields_of result).has_globals ≡ false }
+{
+    Command::new(alloc, "lint").about(LINT)
+}
+
+/// The command `help`.
+fn help_command<'a>(alloc: Global) -> Result<Command<'a>, AllocError>
+    ensures shape { IfOk result (λ c. shape_of c ≡ help_command) }
+    ensures local { IfOk result (λ c. (fields_of c).has_globals ≡ false) }
+{
+    Command::new(alloc, "help")
+        .about(HELP)
+        .arg(operand(alloc, "topic", "TOPIC", TOPIC))
+}
+
+/// The program, without its commands and its settings, and what its help says before and behind them.
+fn named<'a>(alloc: Global, about: &'a str, statuses: &'a str) -> Command<'a>
+    ensures { app_of result ≡ new_app (codes "segment") }
 {
     Command::new(alloc, "segment")
         .about(about)
         .after_help(statuses)
+}
+
+/// The program, without its commands.
+fn program<'a>(alloc: Global, about: &'a str, statuses: &'a str) -> Command<'a>
+    ensures { app_of result ≡ program }
+{
+    named(alloc, about, statuses)
+        .version(VERSION)
         .subcommand_required(true)
         .arg_required_else_help(true)
         .disable_help_subcommand(true)
@@ -168,5 +224,7 @@ pub fn command_line<'a>(alloc: Global) -> Result<Command<'a>, AllocError>
         .subcommand(file_command(alloc, "check", CHECK)?)?
         .subcommand(number_command(alloc, "grow", GROW, "BYTES", BYTES)?)?
         .subcommand(file_command(alloc, "shrink", SHRINK)?)?
-        .subcommand(file_command(alloc, "migrate", MIGRATE)?)
+        .subcommand(file_command(alloc, "migrate", MIGRATE)?)?
+        .subcommand(lint_command(alloc))?
+        .subcommand(help_command(alloc)?)
 }

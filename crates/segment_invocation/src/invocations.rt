@@ -49,6 +49,15 @@ pub enum Saving {
     Replacing,
 }
 
+/// How a run answers.
+#[derive(Clone, Copy, Debug, PartialEq, Eq)]
+pub struct Answering {
+    /// `--strict`: the first answer that is an error ends the run, and nothing is saved.
+    pub strict: bool,
+    /// `--numbered`: each line of an answer stands behind the number of the line of the script that it answers.
+    pub numbered: bool,
+}
+
 /// What the program is asked for. A file goes by its path, and sizes count bytes.
 #[derive(Clone, Copy, Debug, PartialEq, Eq)]
 pub enum Invocation<'a> {
@@ -56,7 +65,7 @@ pub enum Invocation<'a> {
     Create(&'a str, u64),
     /// To run a script on the segment in a file, in a mode, with the size of a segment that is made. The modes `create_only`
     /// and `open_or_create` have a size.
-    Run(&'a str, ModeName, Option<u64>, Saving),
+    Run(&'a str, ModeName, Option<u64>, Saving, Answering),
     /// To check that a file holds a segment.
     Check(&'a str),
     /// To make the segment in a file larger by so many bytes.
@@ -65,4 +74,10 @@ pub enum Invocation<'a> {
     Shrink(&'a str),
     /// To write the segment in a file, of this format or an older one, in this format.
     Migrate(&'a str),
+    /// To tell which lines of a script are no commands.
+    Lint,
+    /// To print the commands of a script.
+    Language,
+    /// To print the program's name and version.
+    Version,
 }

@@ -4,8 +4,12 @@
 mod asking;
 mod command_line;
 mod invocations;
+mod nearest;
 mod usage;
+mod version;
 
 pub use asking::invocation;
-pub use invocations::{Invocation, ModeName, Saving};
+pub use invocations::{Answering, Invocation, ModeName, Saving};
+pub use nearest::Tip;
 pub use usage::{InvocationFault, UsageError};
+pub use version::VERSION;

@@ -5,6 +5,7 @@ ghost use Rattle.clap.specs.declared.error.kind.ErrorKind.TheVariants.{OutOfMemo
 ghost use Rattle.segment_invocation.specs.declared.usage.InvocationFault.TheVariants.{OutOfMemory, Usage};
 ghost use Rattle.segment_invocation.specs.declared.usage.UsageError.TheVariants.{Words};
 
+use crate::nearest::Tip;
 use clap::Error as Misread;
 use clap::error::ErrorKind;
 use std::alloc::AllocError;
@@ -25,9 +26,12 @@ pub enum UsageError {
     /// A size or a number of bytes is no number from 0 to 18446744073709551615 in plain decimal.
     #[error("error: a number of bytes has digits alone, with no zero in front, and is at most 18446744073709551615\n")]
     Number,
-    /// The mode is none of the five.
-    #[error("error: a mode is create_only, open_only, open_or_create, open_read_only or open_copy_on_write\n")]
-    Mode,
+    /// The mode is none of the five; the name of the nearest, if one is near.
+    #[error("error: a mode is create_only, open_only, open_or_create, open_read_only or open_copy_on_write\n{0}")]
+    Mode(Tip),
+    /// There is help on the commands alone, by `--help`, and on this topic.
+    #[error("error: a topic is language; help on a command is told by its --help\n")]
+    Topic,
     /// The mode may make a segment, and no size is given.
     #[error("error: the modes create_only and open_or_create want --size with a number of bytes\n")]
     Size,

@@ -23,3 +23,4 @@ mod Zeros
 mod TextParts
 mod TextElements
 pub mod Laws
+mod LintAnswers

@@ -8,6 +8,9 @@ pub mod Behind
 pub mod Segments
 pub mod Replies
 pub mod LongLines
+pub mod CommandRows
+pub mod Linting
+pub mod LintLaws
 pub mod Parts
 pub mod Shown
 pub mod Settings

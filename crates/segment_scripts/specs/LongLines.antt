@@ -14,7 +14,7 @@ returned-long : (line : List ℕ) (b : Bool) → 4097 < length line → 4096 < l
 returned-long line true h = let long = length-take-le (length line - 1) line (omega arith) in omega arith
 returned-long line false h = omega arith
 
-too_long : (language : Language) (line : List ℕ) → 4097 < length line → reading language line ≡ LineTooLong
+pub too_long : (language : Language) (line : List ℕ) → 4097 < length line → reading language line ≡ LineTooLong
 unfolding reading
 too_long language line h =
     let long : nat_lt 4096 (length (without_return line)) ≡ true = lt-ltb 4096 (length (without_return line)) (returned-long line (slice_index line (length line - 1) == 0x0D) h) in

@@ -4,6 +4,9 @@
 mod changing;
 mod constructing;
 mod faults;
+mod followers;
+mod language;
+mod linting;
 mod listing;
 mod machine;
 mod open_line;
@@ -21,5 +24,8 @@ mod telling;
 mod text_rows;
 
 pub use faults::RunFault;
+pub use followers::{Follower, Nobody};
+pub use language::{CommandRow, LANGUAGE, put_language};
+pub use linting::Lint;
 pub use machine::{Machine, Scratch};
-pub use scripts::run;
+pub use scripts::{run, run_followed};

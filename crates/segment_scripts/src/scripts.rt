@@ -9,6 +9,7 @@ ghost use Rattle.segment_scripts.specs.Writing.{WritesFor};
 ghost use Rattle.segment_scripts.specs.Behind.{IsBehind, IsStoppedIn, IsAtEnd, IsStoppedAtLast, HasAnswered};
 
 use crate::faults::RunFault;
+use crate::followers::{Follower, Nobody};
 use crate::machine::{Machine, Room, Scratch};
 use crate::open_line::OpenLine;
 use memchr::memchr_iter;
@@ -28,13 +29,32 @@ fn line_end(bytes: &[u8]) -> Option<usize>
     memchr_iter(b'\n', bytes).next()
 }
 
+/// Answers a line, before which the follower is asked.
+fn answer_next<M: Machine, W: Sink, F: Follower<W>>(
+    machine: &mut M,
+    scratch: &mut Scratch,
+    line: &[u8],
+    out: &mut W,
+    follower: &mut F,
+) -> Result<(), DeviceFault>
+    requires { (W.history out.old).failures < 2 ^ 64 - 1 }
+    ensures leads { (place : M.Place) → M.stands machine.old place
+        → M.stands machine.new (M.respond place line.now).1 }
+    ensures writes { WritesFor (W.history out.old) (W.history out.new) result (M.stands machine.old)
+        (λ place. (M.respond place line.now).0) }
+{
+    follower.before_line(out);
+    machine.answer(scratch, line, out)
+}
+
 /// Answers the open line, which ends with these bytes. One that has no others is not copied.
-fn answer_ended<M: Machine, W: Sink>(
+fn answer_ended<M: Machine, W: Sink, F: Follower<W>>(
     machine: &mut M,
     scratch: &mut Scratch,
     line: &mut OpenLine,
     end: &[u8],
     out: &mut W,
+    follower: &mut F,
 ) -> Result<(), DeviceFault>
     requires { (W.history out.old).failures < 2 ^ 64 - 1 }
     ensures leads { (place : M.Place) → M.stands machine.old place
@@ -44,22 +64,23 @@ fn answer_ended<M: Machine, W: Sink>(
     ensures cleared { line.new ≡ [] }
 {
     if line.is_empty() {
-        return machine.answer(scratch, end, out);
+        return answer_next(machine, scratch, end, out, follower);
     }
     line.extend(end);
-    let answered = machine.answer(scratch, line.as_slice(), out);
+    let answered = answer_next(machine, scratch, line.as_slice(), out, follower);
     line.clear();
     answered
 }
 
 /// Executes the lines that end in the piece, the first of which may have begun before it, and keeps
 /// the line that is still open behind it.
-fn feed<M: Machine, W: Sink>(
+fn feed<M: Machine, W: Sink, F: Follower<W>>(
     machine: &mut M,
     scratch: &mut Scratch,
     line: &mut OpenLine,
     piece: &[u8],
     out: &mut W,
+    follower: &mut F,
 ) -> Result<(), DeviceFault>
     requires { (W.history out.old).failures < 2 ^ 64 - 1 }
     ensures ok { OnOk result ((start : M.Place) (before read : List ℕ)
@@ -74,7 +95,7 @@ fn feed<M: Machine, W: Sink>(
 {
     let mut rest = piece;
     'lines: while let Some(len) = line_end(rest) {
-        answer_ended(machine, scratch, line, &rest[..len], out)?;
+        answer_ended(machine, scratch, line, &rest[..len], out, follower)?;
         rest = &rest[len + 1..];
     }
     line.extend(rest);
@@ -82,12 +103,13 @@ fn feed<M: Machine, W: Sink>(
 }
 
 /// Reads the script in pieces, and executes the lines that end in it.
-fn read_lines<M: Machine, S: Source, W: Sink>(
+fn read_lines<M: Machine, S: Source, W: Sink, F: Follower<W>>(
     machine: &mut M,
     scratch: &mut Scratch,
     script: &mut S,
     line: &mut OpenLine,
     out: &mut W,
+    follower: &mut F,
 ) -> Result<(), RunFault>
     requires reader { (S.history script.old).failures < 2 ^ 64 - 1 }
     requires writer { (W.history out.old).failures < 2 ^ 64 - 1 }
@@ -111,6 +133,7 @@ fn read_lines<M: Machine, S: Source, W: Sink>(
     'pieces: loop {
         // one byte behind the limit says that the script is too long
         let room = &mut piece[..PIECE.min(left + 1)];
+        follower.before_read(out);
         let count = match script.read(room) {
             Ok(count) => count,
             Err(_) => return Err(RunFault::ReadFault),
@@ -119,7 +142,7 @@ fn read_lines<M: Machine, S: Source, W: Sink>(
             return Ok(());
         }
         let within = count.min(left);
-        match feed(machine, scratch, line, &room[..within], out) {
+        match feed(machine, scratch, line, &room[..within], out, follower) {
             Ok(()) => {}
             Err(_) => return Err(RunFault::WriteFault),
         }
@@ -131,11 +154,12 @@ fn read_lines<M: Machine, S: Source, W: Sink>(
 }
 
 /// Answers the line that is open where the script ends, if it has a byte.
-fn answer_last<M: Machine, W: Sink>(
+fn answer_last<M: Machine, W: Sink, F: Follower<W>>(
     machine: &mut M,
     scratch: &mut Scratch,
     line: &OpenLine,
     out: &mut W,
+    follower: &mut F,
 ) -> Result<(), DeviceFault>
     requires { (W.history out.old).failures < 2 ^ 64 - 1 }
     ensures ok { OnOk result ((start : M.Place) (before read : List ℕ)
@@ -149,9 +173,44 @@ fn answer_last<M: Machine, W: Sink>(
 {
     let last = line.as_slice();
     if !last.is_empty() {
-        machine.answer(scratch, last, out)?;
+        answer_next(machine, scratch, last, out, follower)?;
     }
     Ok(())
+}
+
+/// Executes the script line by line from where the machine stands, and writes the answers. A line
+/// ends at a byte 10; the last one needs no end. It takes no memory. The follower is asked before
+/// each read of the script, and before each line.
+///
+/// A fault leaves the machine where the lines that were executed lead.
+pub fn run_followed<M: Machine, S: Source, W: Sink, F: Follower<W>>(
+    machine: &mut M,
+    script: &mut S,
+    out: &mut W,
+    follower: &mut F,
+) -> Result<(), RunFault>
+    requires reader { (S.history script.old).failures < 2 ^ 64 - 1 }
+    requires writer { (W.history out.old).failures < 2 ^ 64 - 1 }
+    ensures leaves { (place : M.Place) → M.stands machine.old place
+        → Leaves M.respond place
+        (given_since (S.history script.old) (S.history script.new))
+        (taken_since (W.history out.old) (W.history out.new))
+        result (M.stands machine.new) }
+    ensures out_grows { (place : M.Place) → M.stands machine.old place
+        → Grows (W.history out.old).bytes (W.history out.new).bytes }
+    ensures devices { UsesDevices (S.history script.old) (S.history script.new)
+        (W.history out.old) (W.history out.new) result }
+{
+    let mut scratch = Scratch {
+        name: Text::new(),
+        room: Room::new(),
+    };
+    let mut line = OpenLine::new();
+    read_lines(machine, &mut scratch, script, &mut line, out, follower)?;
+    match answer_last(machine, &mut scratch, &line, out, follower) {
+        Ok(()) => Ok(()),
+        Err(_) => Err(RunFault::WriteFault),
+    }
 }
 
 /// Executes the script line by line from where the machine stands, and writes the answers. A line
@@ -175,14 +234,5 @@ pub fn run<M: Machine, S: Source, W: Sink>(
     ensures devices { UsesDevices (S.history script.old) (S.history script.new)
         (W.history out.old) (W.history out.new) result }
 {
-    let mut scratch = Scratch {
-        name: Text::new(),
-        room: Room::new(),
-    };
-    let mut line = OpenLine::new();
-    read_lines(machine, &mut scratch, script, &mut line, out)?;
-    match answer_last(machine, &mut scratch, &line, out) {
-        Ok(()) => Ok(()),
-        Err(_) => Err(RunFault::WriteFault),
-    }
+    run_followed(machine, script, out, &mut Nobody)
 }

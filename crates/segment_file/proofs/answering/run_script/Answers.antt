@@ -9,5 +9,5 @@ returns-in-Err g c =
       why = c.from.ensures;
       left = λ at is. rw same (c.in-Err.ensures.leaves at is);
       ok = is_ok c.flush-flushed.result;
-      flushed = record { before = c.run-answered.new.out; flush = c.flush-flushed.ensures.flushes; same = same };
+      flushed = record { before = c.run_followed-answered.new.out; flush = c.flush-flushed.ensures.flushes; same = same };
     })

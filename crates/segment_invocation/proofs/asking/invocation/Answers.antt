@@ -1,31 +1,36 @@
 -- Words that say what is asked for are taken, and ask for that.
-use Rattle.std.proofs.Common.{◌≡◌, ap, sym, rules, ◌∙◌, List, map, Some, None}
+use Rattle.std.proofs.Common.{sym, ◌∙◌, inl, List, map}
 use Rattle.std.proofs.lemmas.Option.{none-some, same_Some}
-use Rattle.std.proofs.lemmas.Result.{err_from_is_err_and}
 use Rattle.clap.specs.Walk.{Text}
-use Rattle.clap.specs.Simple.{App, subcommand_of}
-use Rattle.clap.specs.Takes.{takes}
-use Rattle.segment_invocation.specs.Invocations.{asked_by, asked_of, command_line}
 use Rattle.segment_invocation.proofs.CommandLines.{understood}
+use Rattle.segment_invocation.proofs.Unread.{asks, read_given, unread_given, unread_read}
 use Rattle.segment_invocation.proofs.asking.invocation.Goals as goal
 
-pub returns-in_err-matches-clause-given : goal.returns-in_err-matches-clause-given
-returns-in_err-matches-clause-given c = λ a w.
+pub returns-in-Err-clause-read : goal.returns-in-Err-clause-read
+returns-in-Err-clause-read c =
     let words : List Text = map (λ s. s.now) c.args.words.now in
-    let u = understood words a w in
-    let p = err_from_is_err_and c.from_residual-in_err-matches.result c.from_residual-in_err-matches.ensures.1 in
-    rw p.1 (p.2.0 (c.in_err-matches.ensures.passes (ap (λ (x : App). takes x words) c.in_ok-command_line.ensures ∙ u.takes)))
+    unread_read words c.in_ok-command_line.field-0 c.in_ok-command_line.ensures c.in-Err.other c.in-Err.ensures.kinds c.read_other.result c.read_other.ensures.only
+
+pub returns-in-Err-clause-given : goal.returns-in-Err-clause-given
+returns-in-Err-clause-given c = λ a w.
+    let words : List Text = map (λ s. s.now) c.args.words.now in
+    unread_given words c.in_ok-command_line.field-0 c.in_ok-command_line.ensures a c.in-Err.other c.read_other.result c.read_other.ensures.memory c.read_other.ensures.version
+    (understood words a w) c.in-Err.ensures.passes c.in-Err.ensures.kinds
 
 pub returns-in_err-read_command-in-Some-clause-given : goal.returns-in_err-read_command-in-Some-clause-given
 returns-in_err-read_command-in-Some-clause-given c = λ a w.
     let words : List Text = map (λ s. s.now) c.args.words.now in
-    let u = understood words a w in
-    let none : asked_of (subcommand_of command_line words) ≡ None = search rules in
-    absurd (none-some a (sym none ∙ u.asks))
+    let asked = asks words c.in_ok-command_line.field-0 c.in_ok-command_line.ensures c.in-Ok.matches c.in-Ok.ensures.matches _ _ c.in-Some.ensures.name c.in-Some.ensures.rows in
+    absurd (none-some a (sym (asked ∙ c.in_err-read_command-in-Some.ensures) ∙ read_given words c.in_ok-command_line.field-0 c.in_ok-command_line.ensures a (understood words a w) c.in-Ok.ensures.kinds))
+
+pub returns-in-Some-clause-read : goal.returns-in-Some-clause-read
+returns-in-Some-clause-read c =
+    let words : List Text = map (λ s. s.now) c.args.words.now in
+    inl (asks words c.in_ok-command_line.field-0 c.in_ok-command_line.ensures c.in-Ok.matches c.in-Ok.ensures.matches _ _ c.in-Some.ensures.name c.in-Some.ensures.rows
+    ∙ c.in_ok-read_command-in-Some.ensures)
 
 pub returns-in-Some-clause-given : goal.returns-in-Some-clause-given
 returns-in-Some-clause-given c = λ a w.
     let words : List Text = map (λ s. s.now) c.args.words.now in
-    let u = understood words a w in
-    let read : asked_of (subcommand_of command_line words) ≡ Some (asked_by c.in_ok-read_command-in-Some.field-0) = search rules in
-    same_Some _ _ (sym read ∙ u.asks)
+    let asked = asks words c.in_ok-command_line.field-0 c.in_ok-command_line.ensures c.in-Ok.matches c.in-Ok.ensures.matches _ _ c.in-Some.ensures.name c.in-Some.ensures.rows in
+    same_Some _ _ (sym (asked ∙ c.in_ok-read_command-in-Some.ensures) ∙ read_given words c.in_ok-command_line.field-0 c.in_ok-command_line.ensures a (understood words a w) c.in-Ok.ensures.kinds)

@@ -11,4 +11,6 @@ returns c =
     let three = c.in_ok-subcommand-3.ensures.shape c.in_ok-file_command.ensures.local ∙ ap₂ with_subcommand two c.in_ok-file_command.ensures.shape in
     let four = c.in_ok-subcommand-4.ensures.shape c.in_ok-number_command-2.ensures.local ∙ ap₂ with_subcommand three c.in_ok-number_command-2.ensures.shape in
     let five = c.in_ok-subcommand-5.ensures.shape c.in_ok-file_command-2.ensures.local ∙ ap₂ with_subcommand four c.in_ok-file_command-2.ensures.shape in
-    IfOk-weaker c.subcommand-6.result _ _ (λ r h. h.shape c.in_ok-file_command-3.ensures.local ∙ ap₂ with_subcommand five c.in_ok-file_command-3.ensures.shape) c.subcommand-6.ensures
+    let six = c.in_ok-subcommand-6.ensures.shape c.in_ok-file_command-3.ensures.local ∙ ap₂ with_subcommand five c.in_ok-file_command-3.ensures.shape in
+    let seven = c.in_ok-subcommand-7.ensures.shape c.lint_command.ensures.local ∙ ap₂ with_subcommand six c.lint_command.ensures.shape in
+    IfOk-weaker c.subcommand-8.result _ _ (λ r h. h.shape c.in_ok-help_command.ensures.local ∙ ap₂ with_subcommand seven c.in_ok-help_command.ensures.shape) c.subcommand-8.ensures

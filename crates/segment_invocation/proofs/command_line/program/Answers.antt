@@ -1,12 +1,15 @@
 -- Each setting changes its own field.
-use Rattle.std.proofs.Common.{ap, true, ◌∙◌}
-use Rattle.clap.specs.Simple.{app_of_fields, on_top}
+use Rattle.clap.specs.declared.builder.command.Command.TheViews.{out-Command}
+use Rattle.segment_invocation.proofs.Settings.{help_wanted, no_help_command, subcommand_wanted, version_told}
 use Rattle.segment_invocation.proofs.command_line.program.Goals as goal
 
 pub returns : goal.returns
 returns c =
-    let named = ap app_of_fields c.after_help.ensures ∙ (ap app_of_fields c.about.ensures ∙ c.new.ensures.app) in
-    ap app_of_fields c.disable_help_subcommand.ensures
-    ∙ ap (on_top (λ s. record s { disable_help_subcommand = true })) (ap app_of_fields c.arg_required_else_help.ensures
-    ∙ ap (on_top (λ s. record s { arg_required_else_help = true })) (ap app_of_fields c.subcommand_required.ensures
-    ∙ ap (on_top (λ s. record s { subcommand_required = true })) named))
+    let named = out-Command c.named.result in
+    let told = out-Command c.version.result in
+    let wanting = out-Command c.subcommand_required.result in
+    let helping = out-Command c.arg_required_else_help.result in
+    let one = version_told named told _ _ c.named.ensures c.version.ensures in
+    let two = subcommand_wanted told wanting _ one c.subcommand_required.ensures in
+    let three = help_wanted wanting helping _ two c.arg_required_else_help.ensures in
+    no_help_command helping (out-Command c.disable_help_subcommand.result) _ three c.disable_help_subcommand.ensures

@@ -5,13 +5,13 @@ use Rattle.segment_scripts.proofs.scripts.answer_ended.Goals as goal
 
 pub returns-then-is_empty-clause-leads : goal.returns-then-is_empty-clause-leads
 returns-then-is_empty-clause-leads g c = λ place s.
-    subst (λ (r : List ℕ × g.M.Machine.Place). g.M.Machine.stands c.answer.new.self r.1)
-    (whole_line g.M.Machine.respond g.met.M.Machine.long_lines place c.args.line.now c.args.end.now (sym c.is_empty.ensures ∙ c.if-is_empty.true)) (c.answer.ensures.leads place s)
+    subst (λ (r : List ℕ × g.M.Machine.Place). g.M.Machine.stands c.answer_next.new.machine r.1)
+    (whole_line g.M.Machine.respond g.met.M.Machine.long_lines place c.args.line.now c.args.end.now (sym c.is_empty.ensures ∙ c.if-is_empty.true)) (c.answer_next.ensures.leads place s)
 
 pub returns-then-is_empty-clause-writes : goal.returns-then-is_empty-clause-writes
 returns-then-is_empty-clause-writes g c = record {
   writes = λ place s.
-      subst (λ (r : List ℕ × g.M.Machine.Place). Writes (g.W.Sink.history c.args.out.now) (g.W.Sink.history c.answer.new.out) c.answer.result r.0)
-      (whole_line g.M.Machine.respond g.met.M.Machine.long_lines place c.args.line.now c.args.end.now (sym c.is_empty.ensures ∙ c.if-is_empty.true)) (c.answer.ensures.writes.writes place s);
-  counted = c.answer.ensures.writes.counted;
+      subst (λ (r : List ℕ × g.M.Machine.Place). Writes (g.W.Sink.history c.args.out.now) (g.W.Sink.history c.answer_next.new.out) c.answer_next.result r.0)
+      (whole_line g.M.Machine.respond g.met.M.Machine.long_lines place c.args.line.now c.args.end.now (sym c.is_empty.ensures ∙ c.if-is_empty.true)) (c.answer_next.ensures.writes.writes place s);
+  counted = c.answer_next.ensures.writes.counted;
 }

@@ -4,21 +4,21 @@ use Rattle.segment_scripts.proofs.RunLaws.{same_line}
 use Rattle.segment_scripts.proofs.Cuts.{answered_last, stopped_at_last, answered_all}
 use Rattle.segment_scripts.proofs.scripts.answer_last.Goals as goal
 
-pub returns-in_err-answer-clause-err : goal.returns-in_err-answer-clause-err
-returns-in_err-answer-clause-err g c =
+pub returns-in_err-answer_next-clause-err : goal.returns-in_err-answer_next-clause-err
+returns-in_err-answer_next-clause-err g c =
     let Stands = g.M.Machine.stands in
-    let err = c.in_err-answer.ensures in
+    let err = c.in_err-answer_next.ensures in
     let p = err_from_is_err_and c.from_residual.result c.from_residual.ensures.1 in
     rw p.1 (λ start before read h.
-    stopped_at_last g.M.Machine.respond g.met.M.Machine.long_lines start before read (Stands c.args.machine.now) (Stands c.answer.new.self) c.as_slice-last.result.now (g.W.Sink.history c.args.out.now).bytes (g.W.Sink.history c.answer.new.out).bytes
+    stopped_at_last g.M.Machine.respond g.met.M.Machine.long_lines start before read (Stands c.args.machine.now) (Stands c.answer_next.new.machine) c.as_slice-last.result.now (g.W.Sink.history c.args.out.now).bytes (g.W.Sink.history c.answer_next.new.out).bytes
     (same_line g.M.Machine.respond start before read (Stands c.args.machine.now) c.args.line.now c.as_slice-last.result.now (g.W.Sink.history c.args.out.now).bytes h c.as_slice-last.ensures)
     (sym c.is_empty.ensures ∙ c.if-not-is_empty.true) err.leads (λ p s. (err.writes.writes p s).err))
 
-pub returns-in_ok-answer-clause-ok : goal.returns-in_ok-answer-clause-ok
-returns-in_ok-answer-clause-ok g c = λ start before read h.
+pub returns-in_ok-answer_next-clause-ok : goal.returns-in_ok-answer_next-clause-ok
+returns-in_ok-answer_next-clause-ok g c = λ start before read h.
     let Stands = g.M.Machine.stands in
-    let ok = c.in_ok-answer.ensures in
-    answered_last g.M.Machine.respond g.met.M.Machine.long_lines start before read (Stands c.args.machine.now) (Stands c.answer.new.self) c.as_slice-last.result.now (g.W.Sink.history c.args.out.now).bytes (g.W.Sink.history c.answer.new.out).bytes
+    let ok = c.in_ok-answer_next.ensures in
+    answered_last g.M.Machine.respond g.met.M.Machine.long_lines start before read (Stands c.args.machine.now) (Stands c.answer_next.new.machine) c.as_slice-last.result.now (g.W.Sink.history c.args.out.now).bytes (g.W.Sink.history c.answer_next.new.out).bytes
     (same_line g.M.Machine.respond start before read (Stands c.args.machine.now) c.args.line.now c.as_slice-last.result.now (g.W.Sink.history c.args.out.now).bytes h c.as_slice-last.ensures)
     (sym c.is_empty.ensures ∙ c.if-not-is_empty.true) ok.leads (λ p s. (ok.writes.writes p s).ok)
 

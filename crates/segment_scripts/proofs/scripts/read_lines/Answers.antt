@@ -1,6 +1,6 @@
-use Rattle.std.proofs.Common.{◌≡◌, ◌<◌, false, length, length-take, take, drop, refl, ◌∙◌, arith}
+use Rattle.std.proofs.Common.{◌≡◌, ◌<◌, false, length, length-take, take, drop, refl, ap, ◌∙◌, arith}
 use Rattle.std.proofs.lemmas.Bool.{ne_eqb}
-use Rattle.raw_region.specs.Device.{given_since}
+use Rattle.raw_region.specs.Device.{Took, given_since}
 use Rattle.segment_scripts.proofs.Cuts.{since-more, none_failed, one_failed, cut_in, cut_at_limit, beyond_limit, nothing_yet}
 use Rattle.segment_scripts.proofs.RunLaws.{behind_none}
 use Rattle.segment_scripts.proofs.scripts.read_lines.Goals as goal
@@ -27,6 +27,8 @@ returns-in-Err-feed-clause-fault g c = λ start s.
     let mid = (g.S.Source.history c.pieces.script).bytes in
     let new = (g.S.Source.history c.read.new.self).bytes in
     let was = c.pieces.invariant in
+    let same = c.before_read.ensures in
+    let failures = ap (λ (t : Took). t.failures) same in
     let read = drop (length old) mid in
     let count = c.in-Ok.count in
     let piece = c.read.new.into in
@@ -35,9 +37,9 @@ returns-in-Err-feed-clause-fault g c = λ start s.
     let script = given_since (g.S.Source.history c.args.script.now) (g.S.Source.history c.read.new.self) in
     record {
       answers = cut_in g.M.Machine.respond start before read piece c.pieces.left count c.min-within.result script (g.M.Machine.stands c.feed.new.machine) (g.W.Sink.history c.feed.new.out).bytes
-          was.limit c.min-within.ensures (since-more old mid new (take count piece) was.grows c.in-Ok.ensures.bytes) unended (c.in-Err-feed.ensures.err start before read (was.behind start s));
+          was.limit c.min-within.ensures (since-more old mid new (take count piece) was.grows c.in-Ok.ensures.bytes) unended (c.in-Err-feed.ensures.err start before read (rw same (was.behind start s)));
       read = none_failed _ _ (omega (arith, c.in-Ok.ensures.counted, was.reads));
-      written = one_failed _ _ (omega (arith, c.in-Err-feed.ensures.counted, was.writes));
+      written = one_failed _ _ (omega (arith, c.in-Err-feed.ensures.counted, failures, was.writes));
     }
 
 pub returns-then-left-count-clause-fault : goal.returns-then-left-count-clause-fault
@@ -47,6 +49,8 @@ returns-then-left-count-clause-fault g c = λ start s.
     let mid = (g.S.Source.history c.pieces.script).bytes in
     let new = (g.S.Source.history c.read.new.self).bytes in
     let was = c.pieces.invariant in
+    let same = c.before_read.ensures in
+    let failures = ap (λ (t : Took). t.failures) same in
     let read = drop (length old) mid in
     let count = c.in-Ok.count in
     let piece = c.read.new.into in
@@ -54,7 +58,7 @@ returns-then-left-count-clause-fault g c = λ start s.
     record {
       beyond = beyond_limit g.M.Machine.respond read piece _ c.pieces.left count was.limit c.if-left-count.true c.in-Ok.ensures.count bytes;
       answers = cut_at_limit g.M.Machine.respond start before read piece c.pieces.left count c.min-within.result _ (g.M.Machine.stands c.feed.new.machine) c.feed.new.line (g.W.Sink.history c.feed.new.out).bytes
-          was.limit c.min-within.ensures bytes (c.in-Ok-feed.ensures.ok start before read (was.behind start s));
+          was.limit c.min-within.ensures bytes (c.in-Ok-feed.ensures.ok start before read (rw same (was.behind start s)));
       read = none_failed _ _ (omega (arith, c.in-Ok.ensures.counted, was.reads));
-      written = none_failed _ _ (omega (arith, c.in-Ok-feed.ensures.counted, was.writes));
+      written = none_failed _ _ (omega (arith, c.in-Ok-feed.ensures.counted, failures, was.writes));
     }

@@ -2,7 +2,7 @@ use Rattle.std.proofs.Common.{[], ◌∙◌, arith}
 use Rattle.raw_region.specs.Device.{given_since}
 use Rattle.segment_scripts.specs.Lines.{ended_lines, open_line, executable}
 use Rattle.segment_scripts.proofs.Cuts.{none_failed, one_failed, printed_part, executable-whole}
-use Rattle.segment_scripts.proofs.scripts.run.Goals as goal
+use Rattle.segment_scripts.proofs.scripts.run_followed.Goals as goal
 
 pub returns-in-Err-clause-leaves : goal.returns-in-Err-clause-leaves
 returns-in-Err-clause-leaves g c = λ place s.

@@ -1,0 +1,2 @@
+mod ErrorLaws
+mod NumberLaws

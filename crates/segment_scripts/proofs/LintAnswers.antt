@@ -1,0 +1,57 @@
+-- What a lint answers, by what a line reads as.
+use Rattle.std.proofs.Common.{◌≡◌, ℕ, ◌+◌, Bool, List, [], Ok, refl, sym, ap, subst, ◌∙◌, arith}
+use Rattle.std.specs.Prelude.{Result, min}
+use Rattle.std.proofs.lemmas.List.{append-nil}
+use Rattle.raw_region.specs.Device.{Took, Writes}
+use Rattle.raw_region.specs.Format.{current}
+use Rattle.raw_region.specs.declared.device.DeviceFault.{DeviceFault}
+use Rattle.seg_types.specs.Commands.{Command, Nothing, Asked}
+use Rattle.seg_types.specs.declared.refusals.LineError.{LineError}
+use Rattle.seg_types.specs.declared.refusals.LineError.TheVariants.{UnknownCommand, LineTooLong, BadSyntax}
+use Rattle.segment_lang.specs.Language.{whole}
+use Rattle.segment_lang.specs.Reading.{reading, without_return}
+use Rattle.segment_lang.specs.Seen.{wrong_reading}
+use Rattle.segment_scripts.specs.Linting.{Place, finding_text, is_at, lint_line, respond, tells}
+use Rattle.segment_scripts.specs.Writing.{WritesFor}
+use Rattle.segment_scripts.specs.declared.language.CommandRow.{CommandRow}
+
+abbrev next : Place → Place
+next at = record at { line = min (at.line + 1) 18446744073709551615 }
+
+told : (e : LineError) (at : Place) (line : List ℕ) → wrong_reading e ≡ reading (whole current) line → lint_line at line ≡ tells (next at) e line
+told UnknownCommand at line h = ap (respond (next at) line) (sym h)
+told LineTooLong at line h = ap (respond (next at) line) (sym h)
+told BadSyntax at line h = ap (respond (next at) line) (sym h)
+
+same_finding : (rows rows' : List CommandRow) (n n' : ℕ) (e : LineError) (l l' : List ℕ) → rows ≡ rows' → n ≡ n' → l ≡ l' → finding_text rows n e l ≡ finding_text rows' n' e l'
+same_finding rows rows' n n' e l l' a b c = rw (a, b, c) refl
+
+module _ (line : ℕ) (found : Bool) (rows : List CommandRow) (after : ℕ) (bytes : List ℕ) (counts : after ≡ min (line + 1) 18446744073709551615) where
+  counted : (at : Place) → is_at line found rows at → after ≡ (next at).line
+  counted at s = counts ∙ ap (λ (n : ℕ). min (n + 1) 18446744073709551615) s.0
+
+  -- an error is told
+  pub finds : {A : Type 0} (e : LineError) → wrong_reading e ≡ reading (whole current) bytes → (old new : Took) (result : Result A DeviceFault) (text : List ℕ)
+      → text ≡ without_return bytes
+      → Writes {A = A} {E = DeviceFault} old new result (finding_text rows after e text) → WritesFor old new result (is_at line found rows) (λ at. (lint_line at bytes).0)
+  finds e h old new result text t w = record {
+    writes = λ at s. subst (Writes old new result) (same_finding rows at.rows after (next at).line e text _ s.2 (counted at s) t ∙ sym (ap (λ r. r.0) (told e at bytes h))) w;
+    counted = w.counted;
+  }
+
+  -- of all else nothing is said
+  module _ (same : (at : Place) → lint_line at bytes ≡ ([], next at)) where
+    pub quiet_leads : (at : Place) → is_at line found rows at → is_at after found rows (lint_line at bytes).1
+    quiet_leads at s = subst (is_at after found rows) (sym (ap (λ r. r.1) (same at))) (counted at s, s.1, s.2)
+
+    pub quiet_writes : (old : Took) → WritesFor {A = Unit {0}} {E = DeviceFault} old old (Ok tt) (is_at line found rows) (λ at. (lint_line at bytes).0)
+    quiet_writes old = record {
+      writes = λ at s. subst (Writes {A = Unit {0}} {E = DeviceFault} old old (Ok tt)) (sym (ap (λ r. r.0) (same at))) (record { ok = sym (append-nil old.bytes); err = tt; counted = omega arith });
+      counted = omega arith;
+    }
+
+pub nothing : (bytes : List ℕ) → Nothing ≡ reading (whole current) bytes → (at : Place) → lint_line at bytes ≡ ([], next at)
+nothing bytes h at = ap (respond (next at) bytes) (sym h)
+
+pub asked : (bytes : List ℕ) (c : Command) → Asked c ≡ reading (whole current) bytes → (at : Place) → lint_line at bytes ≡ ([], next at)
+asked bytes c h at = ap (respond (next at) bytes) (sym h)

@@ -1,0 +1,75 @@
+-- What is told of the lines of a script that are no commands.
+use Rattle.std.specs.Prelude.{◌≡◌, ◌==◌, ◌&&◌, ◌||◌, ℕ, ◌+◌, ◌-◌, Bool, true, false, not, min, List, [], ◌∷◌, ◌++◌, length, take, decimal, codes, if◌then◌else◌}
+use Rattle.raw_region.specs.Format.{current}
+use Rattle.seg_types.specs.Commands.{Reading, Nothing, Asked, UnknownCommand, LineTooLong, BadSyntax}
+use Rattle.seg_types.specs.declared.refusals.LineError.{LineError}
+use Rattle.seg_types.specs.declared.refusals.LineError.TheVariants as wrong
+use Rattle.segment_lang.specs.Language.{whole}
+use Rattle.segment_lang.specs.Reading.{reading, without_return}
+use Rattle.segment_lang.specs.Texts.{line_error_text}
+use Rattle.segment_lang.specs.Words.{is_blank}
+use Rattle.segment_scripts.specs.CommandRows.{usage_of}
+use Rattle.segment_scripts.specs.declared.language.CommandRow.{CommandRow}
+
+-- ---- where a line goes wrong
+
+abbrev pub same : Bool → Bool → Bool
+same true b = b
+same false b = not b
+
+-- what is left behind the blanks in front, or behind the word in front
+abbrev pub behind : Bool → List ℕ → List ℕ
+behind blanks [] = []
+behind blanks (c ∷ cs) = if same blanks (is_blank c) then behind blanks cs else c ∷ cs
+
+-- the first word of a line, and the bytes from the second one on
+abbrev pub first_word : List ℕ → List ℕ
+first_word line = let rest = behind true line in take (length rest - length (behind false rest)) rest
+
+abbrev pub arguments : List ℕ → List ℕ
+arguments line = behind true (behind false (behind true line))
+
+-- the column, counted in bytes from 1: of the command word, of the first byte that is too many, or of what stands behind the
+-- command word
+abbrev pub column_of : LineError → List ℕ → ℕ
+column_of wrong.UnknownCommand line = length line - length (behind true line) + 1
+column_of wrong.LineTooLong line = 4097
+column_of wrong.BadSyntax line = length line - length (arguments line) + 1
+
+-- what should stand there
+abbrev pub expected : List CommandRow → LineError → List ℕ → List ℕ
+expected rows wrong.UnknownCommand line = codes "a command"
+expected rows wrong.LineTooLong line = codes "at most 4096 bytes"
+expected rows wrong.BadSyntax line = usage_of rows (first_word line)
+
+abbrev pub finding_text : List CommandRow → ℕ → LineError → List ℕ → List ℕ
+finding_text rows n e line =
+    decimal n ++ (codes ":" ++ (decimal (column_of e line) ++ (codes ": " ++ (line_error_text e ++ (codes ": expected " ++ (expected rows e line ++ (codes "\n" ++ [])))))))
+
+-- ---- line by line
+
+-- how many lines there were, whether one of them is no command, and the commands that there are
+pub record Place : Type 0 where
+  pub line : ℕ
+  pub found : Bool
+  pub rows : List CommandRow
+
+abbrev pub start : List CommandRow → Place
+start rows = record { line = 0; found = false; rows = rows }
+
+abbrev pub is_at : ℕ → Bool → List CommandRow → Place → Type 0
+is_at line found rows at = (line ≡ at.line) × (found ≡ at.found) × (rows ≡ at.rows)
+
+abbrev pub tells : Place → LineError → List ℕ → List ℕ × Place
+tells at e line = (finding_text at.rows at.line e (without_return line), record at { found = true })
+
+abbrev pub respond : Place → List ℕ → Reading → List ℕ × Place
+respond at line Nothing = ([], at)
+respond at line (Asked c) = ([], at)
+respond at line UnknownCommand = tells at wrong.UnknownCommand line
+respond at line LineTooLong = tells at wrong.LineTooLong line
+respond at line BadSyntax = tells at wrong.BadSyntax line
+
+-- what is told of a line: nothing where it is a command or means nothing
+abbrev pub lint_line : Place → List ℕ → List ℕ × Place
+lint_line at line = respond (record at { line = min (at.line + 1) 18446744073709551615 }) line (reading (whole current) line)

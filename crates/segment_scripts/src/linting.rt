@@ -1,0 +1,163 @@
+//! A machine that tells which lines of a script are no commands, and executes none.
+ghost use Rattle.std.specs.Prelude.{◌≡◌, ◌≤◌, ◌-◌, ◌^◌, ◌<◌, ◌+◌, length};
+ghost use Rattle.raw_region.specs.Device.{Writes};
+ghost use Rattle.segment_lang.specs.Reading.{without_return};
+ghost use Rattle.segment_scripts.specs.CommandRows.{usage_of};
+ghost use Rattle.segment_scripts.specs.LintLaws.{lint_line-long};
+ghost use Rattle.segment_scripts.specs.Linting.{Place, behind, column_of, expected, finding_text, first_word, is_at, lint_line, same, start};
+
+use crate::language::CommandRow;
+use crate::machine::{Machine, Scratch};
+use raw_region::{DeviceFault, Sink};
+use segment_lang::{LONGEST_LINE, LineError, Piece, Reading, parse_line, put_pieces};
+
+/// Reads the lines of a script, and tells which are no commands: their number, the column, the error, and what is expected.
+#[derive(Drop)]
+pub struct Lint<'a> {
+    rows: &'a [CommandRow],
+    line: u64,
+    has_found: bool,
+}
+
+impl<'a> Lint<'a> {
+    /// One that read no line yet. The rows say what is expected behind each command word.
+    pub fn new(rows: &'a [CommandRow]) -> Lint<'a>
+        ensures { is_at result.line result.has_found result.rows.now (start rows.now) }
+    {
+        Lint {
+            rows,
+            line: 0,
+            has_found: false,
+        }
+    }
+
+    /// Whether a line was no command.
+    pub fn has_found(&self) -> bool
+        ensures { result ≡ self.now.has_found }
+    {
+        self.has_found
+    }
+}
+
+impl<'a> Machine for Lint<'a> {
+    ghost Place = { Place };
+
+    ghost respond = { λ at line. lint_line at line };
+
+    ghost stands = { λ lint at. is_at lint.line lint.has_found lint.rows.now at };
+
+    fn answer<W: Sink>(
+        &mut self,
+        scratch: &mut Scratch,
+        line: &[u8],
+        out: &mut W,
+    ) -> Result<(), DeviceFault> {
+        self.line = self.line.saturating_add(1);
+        match parse_line(line, &mut scratch.name) {
+            Reading::Wrong(error) => {
+                self.has_found = true;
+                put_finding(self.rows, self.line, error, without_return(line), out)
+            }
+            Reading::Asked(_) => Ok(()),
+            Reading::Nothing => Ok(()),
+        }
+    }
+
+    ghost long_lines = { lint_line-long };
+}
+
+/// The line without the carriage return at its end, if there is one.
+fn without_return(line: &[u8]) -> &[u8]
+    ensures { result.now ≡ without_return line.now }
+{
+    match line {
+        [front @ .., b'\r'] => front,
+        _ => line,
+    }
+}
+
+/// Writes what is wrong with a line.
+fn put_finding<W: Sink>(
+    rows: &[CommandRow],
+    number: u64,
+    error: LineError,
+    line: &[u8],
+    out: &mut W,
+) -> Result<(), DeviceFault>
+    requires { (W.history out.old).failures < 2 ^ 64 - 1 }
+    ensures { Writes (W.history out.old) (W.history out.new) result (finding_text rows.now number error line.now) }
+{
+    put_pieces(
+        out,
+        &[
+            Piece::Number(number),
+            Piece::Bytes(b":"),
+            Piece::Number(column_of(error, line)),
+            Piece::Bytes(b": "),
+            Piece::LineError(error),
+            Piece::Bytes(b": expected "),
+            Piece::Bytes(expected(rows, error, line)),
+            Piece::Bytes(b"\n"),
+        ],
+    )
+}
+
+/// The column where a line goes wrong.
+fn column_of(error: LineError, line: &[u8]) -> u64
+    ensures { result ≡ column_of error line.now }
+{
+    let rest = match error {
+        LineError::LineTooLong => return LONGEST_LINE as u64 + 1,
+        LineError::UnknownCommand => behind(true, line),
+        LineError::BadSyntax => behind(true, behind(false, behind(true, line))),
+    };
+    (line.len() - rest.len()) as u64 + 1
+}
+
+/// What should stand there.
+fn expected<'a>(rows: &'a [CommandRow], error: LineError, line: &[u8]) -> &'a [u8]
+    ensures { result.now ≡ expected rows.now error line.now }
+{
+    match error {
+        LineError::UnknownCommand => b"a command",
+        LineError::LineTooLong => b"at most 4096 bytes",
+        LineError::BadSyntax => usage_of(rows, first_word(line)),
+    }
+}
+
+/// The first word of a line.
+fn first_word(line: &[u8]) -> &[u8]
+    ensures { result.now ≡ first_word line.now }
+{
+    let rest = behind(true, line);
+    &rest[..rest.len() - behind(false, rest).len()]
+}
+
+/// What is left behind the blanks in front, or behind the word in front.
+fn behind(blanks: bool, bytes: &[u8]) -> &[u8]
+    ensures value { result.now ≡ behind blanks bytes.now }
+    ensures shorter { length result.now ≤ length bytes.now }
+{
+    let mut rest = bytes;
+    'bytes: while let [first, tail @ ..] = rest {
+        if (*first == b' ' || *first == b'\t') != blanks {
+            break;
+        }
+        rest = tail;
+    }
+    rest
+}
+
+/// The words of the command that begins with this word, where there is one.
+fn usage_of<'a>(rows: &'a [CommandRow], word: &[u8]) -> &'a [u8]
+    ensures { result.now ≡ usage_of rows.now word.now }
+{
+    let mut rest = rows;
+    'rows: while let [row, tail @ ..] = rest {
+        if row.word.as_bytes() == word {
+            return row.usage.as_bytes();
+        }
+        rest = tail;
+    }
+    b""
+}

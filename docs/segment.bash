@@ -1,0 +1,39 @@
+# Completion of the words of `segment` for bash: `. docs/segment.bash`, or a copy of this file in the folder
+# of bash's completions.
+_segment() {
+    local word=${COMP_WORDS[COMP_CWORD]} before=${COMP_WORDS[COMP_CWORD - 1]}
+    local commands='create run check grow shrink migrate lint help'
+    COMPREPLY=()
+    if [ "$COMP_CWORD" = 1 ]; then
+        COMPREPLY=($(compgen -W "$commands --help --version" -- "$word"))
+        return
+    fi
+    case ${COMP_WORDS[1]} in
+        run)
+            case $before in
+                --mode)
+                    local modes='create_only open_only open_or_create open_read_only open_copy_on_write'
+                    COMPREPLY=($(compgen -W "$modes" -- "$word"))
+                    return ;;
+                --size) return ;;
+            esac
+            if [[ $word == -* ]]; then
+                COMPREPLY=($(compgen -W '--mode --size --replace --strict --numbered --help' -- "$word"))
+                return
+            fi ;;
+        help)
+            COMPREPLY=($(compgen -W 'language' -- "$word"))
+            return ;;
+        lint) return ;;
+        *)
+            if [[ $word == -* ]]; then
+                COMPREPLY=($(compgen -W '--help' -- "$word"))
+                return
+            fi
+            # the number behind a file
+            [ "$COMP_CWORD" = 2 ] || return ;;
+    esac
+    local IFS=$'\n'
+    COMPREPLY=($(compgen -f -- "$word"))
+}
+complete -o filenames -F _segment segment

@@ -52,7 +52,7 @@ not_less a = grind arith
 abbrev is_bad : ℕ → Bool
 is_bad extra = nat_lt extra 32 || not (extra % 16 == 0)
 
-stands-size : (b : List ℕ) (d : Directory) → StandsFor b d → d.size ≡ length b
+pub stands-size : (b : List ℕ) (d : Directory) → StandsFor b d → d.size ≡ length b
 stands-size b d h = sym (h.denotes.heap.size ∙ live-size d)
 
 coded : (n : ℕ) (r : Option GrowError) → (1 ≤ n → n ≡ 26) → r ≡ None → (n ≡ size_code r) ⊎ ((n ≡ 26) × (r ≡ None))

@@ -1,5 +1,5 @@
 -- Images that are opened: what the calls owe.
-use Rattle.std.specs.Prelude.{◌≡◌, ◌<◌, ◌≤◌, ◌⊎◌, ℕ, ◌+◌, ◌%◌, ◌&&◌, ◌==◌, nat_le, List, ◌++◌, length, Some, IsTrue, if◌then◌else◌}
+use Rattle.std.specs.Prelude.{◌≡◌, ◌<◌, ◌≤◌, ◌⊎◌, ℕ, ◌+◌, ◌%◌, ◌&&◌, ◌==◌, nat_le, min, List, ◌++◌, length, Some, IsTrue, if◌then◌else◌}
 use Rattle.raw_region.specs.Format.{current}
 use Rattle.raw_region.specs.Memory.{SamePlace, cut_at, zeros}
 use Rattle.segment_manager.specs.declared.modes.Mode.{Mode}
@@ -35,3 +35,9 @@ IsClassCode image code = (c : ImageClass) × (code ≡ 100 + number_of c) × (cl
 -- why the image is not opened in a region of so many bytes
 abbrev pub IsWhyNotOpened : List ℕ → ℕ → ℕ → Type 0
 IsWhyNotOpened image capacity code = (code ≡ 26) ⊎ (((code ≡ 27) × IsTooLong image capacity) ⊎ IsClassCode image code)
+
+-- why they are no image, where a region has room for all of them, but for those that no segment has
+pub record IsNoImage (image : List ℕ) (code : ℕ) : Type 0 where
+  pub capacity : ℕ
+  pub room : min (length image) 1073741824 ≤ capacity
+  pub why : IsWhyNotOpened image capacity code

@@ -52,7 +52,7 @@ pub extern "C" fn zx_destroy(
 
 /// The same of a segment.
 fn destroy(segment: &mut Segment, which: Doomed<'_>, was_there: &mut bool) -> u32
-    ensures step { IsStep segment.old segment.new (doomed_command which) (answer_for result (Truth was_there.new)) }
+    ensures step { IsStep segment.old segment.new (doomed_command which.entry) (answer_for result (Truth was_there.new)) }
     ensures answer { IsTrue (is_answer result) }
     ensures refused { 1 ≤ result → segment.new ≡ segment.old }
     ensures kept { 1 ≤ result → was_there.new ≡ was_there.old }

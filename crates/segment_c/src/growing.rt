@@ -113,7 +113,7 @@ fn copy_with_room(alloc: Global, segment: &Segment, bytes: u64) -> Result<Segmen
 }
 
 /// The capacity of a region for a segment of so many bytes: a multiple of 16 from 176 to 1073741824.
-fn capacity_for(bytes: u64) -> u64
+pub fn capacity_for(bytes: u64) -> u64
     ensures capacity { IsCapacity result }
     ensures room { min bytes 1073741824 ≤ result }
 {

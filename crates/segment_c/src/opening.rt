@@ -5,13 +5,15 @@ ghost use Rattle.raw_region.specs.Memory.{zeros};
 ghost use Rattle.raw_region.specs.Regions.{IsCapacity};
 ghost use Rattle.segment_c.specs.Calls.{IsStopped, Opened};
 ghost use Rattle.segment_c.specs.Images.{mode_of, mode_wrong};
-ghost use Rattle.segment_c.specs.Opening.{IsImageOpened, IsWhyNotOpened, capacity_wrong};
+ghost use Rattle.segment_c.specs.Opening.{IsImageOpened, IsNoImage, IsWhyNotOpened, capacity_wrong};
 ghost use Rattle.segment_c.specs.Passed.{or_else};
+ghost use Rattle.segment_manager.specs.State.{IsSegment};
 
 use crate::codes::{BAD_IMAGE, BAD_MODE, BAD_SIZE, DONE, NO_MEMORY, SHORT_REGION};
+use crate::growing::capacity_for;
 use crate::handle::{Handle, put};
 use crate::images::boxed_or_not;
-use image_check::OpenError;
+use image_check::{FRONT, OpenError, size_in};
 use raw_region::{RawRegion, Steps};
 use segment_manager::{Mode, Segment};
 use slice_source::SliceSource;
@@ -48,6 +50,44 @@ pub extern "C" fn zx_open(
         }
         Err(code) => code,
     }
+}
+
+/// Whether the bytes are the image of a segment.
+#[unsafe(no_mangle)]
+pub extern "C" fn zx_check(alloc: Global, image: &[u8]) -> u32
+    ensures holds { result ≡ 0 → IsSegment image.now }
+    ensures why { 1 ≤ result → IsNoImage image.now result }
+{
+    match checked(alloc, image) {
+        Ok(_) => DONE,
+        Err(code) => code,
+    }
+}
+
+/// The segment whose image the bytes are, in a region that has room for them, and for as many as they say.
+///
+/// # Errors
+///
+/// The code.
+fn checked(alloc: Global, image: &[u8]) -> Result<Segment, u32>
+    ensures { MatchResult result (λ s. IsSegment image.now) (λ code. (1 ≤ code) × IsNoImage image.now code) }
+{
+    let capacity = capacity_for((image.len() as u64).max(size_said(image)));
+    let Ok(region) = RawRegion::new(alloc, capacity) else {
+        return Err(NO_MEMORY);
+    };
+    match open_image(alloc, image, region, Mode::ReadOnly) {
+        Ok(segment) => Ok(segment),
+        Err(code) => Err(code),
+    }
+}
+
+/// The size that the first bytes say, or 0 where they say none.
+fn size_said(image: &[u8]) -> u64 {
+    if image.len() < FRONT {
+        return 0;
+    }
+    size_in(&image[..FRONT]).unwrap_or(0)
 }
 
 /// The mode of a code.

@@ -1,7 +1,7 @@
 -- The place that shows the class of an image.
-use Rattle.std.proofs.Common.{◌≡◌, ℕ, zero, suc, ◌+◌, ◌^◌, ◌<◌, ◌≤◌, Bool, true, false, not, ◌&&◌, List, [], ◌∷◌, length, nat_lt, refl, sym, ap, subst, ◌∙◌, arith, if◌then◌else◌, inr, Some, None}
-use Rattle.std.specs.Prelude.{Option, ◌==◌, ◌||◌, ◌⊎◌, MatchOption, codes, find, nat_le, slice_index}
-use Rattle.std.proofs.lemmas.Bool.{and_parts, and_from, eq-eqb, leb-true, lt-ltb, ltb-false, or_parts, true≢false}
+use Rattle.std.proofs.Common.{◌≡◌, ℕ, zero, suc, ◌+◌, ◌^◌, ◌<◌, ◌≤◌, Bool, true, false, not, ◌&&◌, List, [], ◌∷◌, length, nat_lt, refl, sym, ap, subst, ◌∙◌, arith, if◌then◌else◌, inr, Some, None, inl}
+use Rattle.std.specs.Prelude.{◌≢◌, Option, ◌==◌, ◌||◌, ◌⊎◌, MatchOption, codes, find, nat_le, slice_index}
+use Rattle.std.proofs.lemmas.Bool.{and_left, and_parts, and_from, and_right, cases_eq, ne_eqb, eq-eqb, leb-true, lt-ltb, ltb-false, or_parts, true≢false}
 use Rattle.std.proofs.lemmas.List.Folds.{list_all-append}
 use Rattle.byteorder.specs.Endian.{little_number}
 use Rattle.raw_region.specs.Format.{current}
@@ -13,10 +13,11 @@ use Rattle.segment_manager.specs.Denotes.{magic_number}
 use Rattle.image_check.specs.declared.classes.ImageClass.{ImageClass}
 use Rattle.image_check.specs.declared.classes.ImageClass.TheVariants.{Truncated, BadMagic, UnsupportedVersion, BadSize, BadReserved, BadTag, BadFreeTree, BadIndex, BadObject, SharedBlock, BadContainer, OrphanBlock}
 use Rattle.image_check.specs.Classes.{classes, class_of, holds, number_of}
-use Rattle.image_check.specs.EarlyTests.{has_front, has_magic, has_reserved, has_size, has_version, is_tiled, is_zero, size_word}
+use Rattle.image_check.specs.EarlyTests.{has_front, has_magic, has_reserved, has_size, has_version, is_tiled, is_truncated, is_zero, size_word}
 use Rattle.image_explain.specs.Explains.{IsShown}
-use Rattle.image_explain.specs.Shows.{IsFirstFilled, IsFirstOther}
+use Rattle.image_explain.specs.Shows.{IsFirstFilled, IsFirstOther, Shows, shown_size}
 use Rattle.image_explain.specs.WrongTags.{StopsAt}
+use Rattle.image_explain.proofs.Stopping.{stop-wrong}
 
 -- ---- the class is the first that holds
 
@@ -49,8 +50,11 @@ short-class b k h f =
     short-if (holds current b) k (BadMagic ∷ UnsupportedVersion ∷ BadSize ∷ BadReserved ∷ BadTag ∷ BadFreeTree ∷ BadIndex ∷ BadObject ∷ SharedBlock ∷ BadContainer ∷ OrphanBlock ∷ [])
     (ap (λ (x : Bool). x || (has_front current b && nat_lt (length b) (size_word b))) (lt-ltb (length b) 144 h)) f
 
+short-truncated : (b : List ℕ) → length b < 144 → is_truncated current b ≡ true
+short-truncated b h = ap (λ (x : Bool). x || (has_front current b && nat_lt (length b) (size_word b))) (lt-ltb (length b) 144 h)
+
 pub short-shown : (b : List ℕ) (k : ImageClass) → length b < 144 → class_of current b ≡ Some k → IsShown b k (Some (length b))
-short-shown b k h f = subst (λ c. IsShown b c (Some (length b))) (short-class b k h f) (record { given = refl; shows = refl })
+short-shown b k h f = subst (λ c. IsShown b c (Some (length b))) (short-class b k h f) (record { given = refl; shows = (refl, short-truncated b h) })
 
 -- ---- the magic
 
@@ -68,7 +72,7 @@ not-true false e = refl
 
 pub magic-shown : (b : List ℕ) (place : Option ℕ) → MatchOption place (has_magic b ≡ true) (IsFirstOther b (codes "MSEGFILE")) → class_of current b ≡ Some BadMagic → IsShown b BadMagic place
 magic-shown b None h f = absurd (true≢false (sym h ∙ not-true (has_magic b) (holds-class b BadMagic f)))
-magic-shown b (Some at) h f = record { given = refl; shows = h }
+magic-shown b (Some at) h f = record { given = refl; shows = (h, not-true (has_magic b) (holds-class b BadMagic f)) }
 
 -- ---- the reserved bytes
 
@@ -125,10 +129,10 @@ whole-class b f =
     let high = leb-true (length b) (size_word b) size.1 in
     record { legal = size.0; size = omega arith }
 
-by-place : (b : List ℕ) (place : Option ℕ) → MatchOption place (has_tags current (bytes_of b) (length b) ≡ true) (StopsAt current (bytes_of b) (length b)) → has_tags current (bytes_of b) (length b) ≡ false
+by-place : (b : List ℕ) (place : Option ℕ) → length b ≡ size_word b → MatchOption place (has_tags current (bytes_of b) (length b) ≡ true) (StopsAt current (bytes_of b) (length b)) → has_tags current (bytes_of b) (length b) ≡ false
     → IsShown b BadTag place
-by-place b None right wrong = absurd (true≢false (sym right ∙ wrong))
-by-place b (Some at) stops wrong = record { given = refl; shows = stops }
+by-place b None size right wrong = absurd (true≢false (sym right ∙ wrong))
+by-place b (Some at) size stops wrong = record { given = refl; shows = subst (λ n. StopsAt current (bytes_of b) n at) size stops }
 
 pub tag-shown : (b : List ℕ) (place : Option ℕ) → (length b ≤ 2 ^ 30 → MatchOption place (has_tags current (bytes_of b) (length b) ≡ true) (StopsAt current (bytes_of b) (length b)))
     → class_of current b ≡ Some BadTag → IsShown b BadTag place
@@ -136,8 +140,53 @@ tag-shown b place h f =
     let whole = whole-class b f in
     let high = (legal_size (size_word b) whole.legal).high in
     let size = whole.size in
-    by-place b place (h (omega arith)) (ap (has_tags current (bytes_of b)) size ∙ not-true (is_tiled current b) (holds-class b BadTag f))
+    by-place b place size (h (omega arith)) (ap (has_tags current (bytes_of b)) size ∙ not-true (is_tiled current b) (holds-class b BadTag f))
 
 -- what is so of one class, said of a class that is that one
 pub at-class : (b : List ℕ) (class k : ImageClass) (place : Option ℕ) → class ≡ k → (class_of current b ≡ Some k → IsShown b k place) → class_of current b ≡ Some class → IsShown b class place
 at-class b class k place e h f = subst (λ (x : ImageClass). IsShown b x place) (sym e) (h (f ∙ ap Some e))
+
+-- ---- the classes whose place is always the same
+
+pub truncated-shown : (b : List ℕ) → class_of current b ≡ Some Truncated → IsShown b Truncated (Some (length b))
+truncated-shown b f = record { given = refl; shows = (refl, holds-class b Truncated f) }
+
+pub version-shown : (b : List ℕ) → class_of current b ≡ Some UnsupportedVersion → IsShown b UnsupportedVersion (Some 8)
+version-shown b f = record { given = refl; shows = (refl, not-true (has_version current b) (holds-class b UnsupportedVersion f)) }
+
+pub size-shown : (b : List ℕ) (at : ℕ) → at ≡ shown_size b → class_of current b ≡ Some BadSize → IsShown b BadSize (Some at)
+size-shown b at e f = record { given = refl; shows = (e, not-true (has_size b) (holds-class b BadSize f)) }
+
+pub tree-shown : (b : List ℕ) → class_of current b ≡ Some BadFreeTree → IsShown b BadFreeTree (Some 24)
+tree-shown b f = record { given = refl; shows = (refl, holds-class b BadFreeTree f) }
+
+-- ---- what a place shows holds
+
+filled-read : (m : Memory) (from n at : ℕ) → from ≤ at → at < from + n → m at ≢ 0 → is_zero (read m from n) ≡ false
+filled-read m from zero at h k e = absurd (omega arith)
+filled-read m from (suc n) at h k e = elim (cases_eq from at) [
+  | inl same ↦ and_left (m from == 0) (is_zero (read m (from + 1) n)) (ne_eqb (m from) 0 (λ z. e (sym (ap m same) ∙ z)))
+  | inr other ↦ and_right (m from == 0) (is_zero (read m (from + 1) n)) (filled-read m (from + 1) n at (omega (arith, h, other)) (omega (arith, k)) e)
+]
+
+not-reserved : (b : List ℕ) (at : ℕ) → IsFirstFilled (bytes_of b) 12 16 at ⊎ IsFirstFilled (bytes_of b) 80 128 at → has_reserved b ≡ false
+not-reserved b at (inl h) =
+    let m = bytes_of b in
+    list_all-append (λ (c : ℕ). c == 0) (read m 12 4) (read m 80 48) ∙ and_left (is_zero (read m 12 4)) (is_zero (read m 80 48)) (filled-read m 12 4 at h.above (omega (arith, h.below)) h.filled)
+not-reserved b at (inr h) =
+    let m = bytes_of b in
+    list_all-append (λ (c : ℕ). c == 0) (read m 12 4) (read m 80 48) ∙ and_right (is_zero (read m 12 4)) (is_zero (read m 80 48)) (filled-read m 80 48 at h.above (omega (arith, h.below)) h.filled)
+
+pub places_show : (b : List ℕ) (class : ImageClass) (at : ℕ) → Shows b class at → holds current b class ≡ true
+places_show b Truncated at h = h.1
+places_show b BadMagic at h = ap not h.1
+places_show b UnsupportedVersion at h = ap not h.1
+places_show b BadSize at h = ap not h.1
+places_show b BadReserved at h = ap not (not-reserved b at h)
+places_show b BadTag at h = ap not (stop-wrong current (bytes_of b) (size_word b) at h)
+places_show b BadFreeTree at h = h.1
+places_show b BadIndex at h = absurd h
+places_show b BadObject at h = absurd h
+places_show b SharedBlock at h = absurd h
+places_show b BadContainer at h = absurd h
+places_show b OrphanBlock at h = absurd h

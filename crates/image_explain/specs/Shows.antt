@@ -1,11 +1,12 @@
 -- The place in an image that shows why it is refused.
-use Rattle.std.specs.Prelude.{◌≡◌, ◌≢◌, ◌<◌, ◌≤◌, ◌⊎◌, ℕ, Bool, true, false, List, length, codes, slice_index, if◌then◌else◌}
+use Rattle.std.specs.Prelude.{◌≡◌, ◌≢◌, ◌<◌, ◌≤◌, ◌⊎◌, ℕ, Bool, true, false, IsTrue, List, length, codes, slice_index, if◌then◌else◌}
 use Rattle.raw_region.specs.Format.{current}
 use Rattle.raw_region.specs.Memory.{Memory, bytes_of}
 use Rattle.block_tags.specs.Format.{is_legal_size}
 use Rattle.image_check.specs.declared.classes.ImageClass.{ImageClass}
 use Rattle.image_check.specs.declared.classes.ImageClass.TheVariants.{Truncated, BadMagic, UnsupportedVersion, BadSize, BadReserved, BadTag, BadFreeTree, BadIndex, BadObject, SharedBlock, BadContainer, OrphanBlock}
-use Rattle.image_check.specs.EarlyTests.{size_word}
+use Rattle.image_check.specs.Classes.{holds}
+use Rattle.image_check.specs.EarlyTests.{has_magic, has_size, has_version, is_truncated, size_word}
 use Rattle.image_explain.specs.WrongTags.{StopsAt}
 
 -- the first byte that is not the one of the list at its place
@@ -25,17 +26,17 @@ pub record IsFirstFilled (m : Memory) (from to at : ℕ) : Type 0 where
 abbrev pub shown_size : List ℕ → ℕ
 shown_size b = if is_legal_size (size_word b) then size_word b else 16
 
--- The place that shows a class: the end of what is too short; the first byte that is not the magic's; the version; the size that is
+-- The place that shows a class, and that it does: the end of what is too short; the first byte that is not the magic's; the version; the size that is
 -- none, or else the first byte behind it; the first reserved byte that is not zero; the first tag that is wrong; and the root link of
 -- the free tree. Of a class from the eighth on no place is said.
 abbrev pub Shows : List ℕ → ImageClass → ℕ → Type 0
-Shows b Truncated at = at ≡ length b
-Shows b BadMagic at = IsFirstOther b (codes "MSEGFILE") at
-Shows b UnsupportedVersion at = at ≡ 8
-Shows b BadSize at = at ≡ shown_size b
+Shows b Truncated at = (at ≡ length b) × IsTrue (is_truncated current b)
+Shows b BadMagic at = IsFirstOther b (codes "MSEGFILE") at × (has_magic b ≡ false)
+Shows b UnsupportedVersion at = (at ≡ 8) × (has_version current b ≡ false)
+Shows b BadSize at = (at ≡ shown_size b) × (has_size b ≡ false)
 Shows b BadReserved at = IsFirstFilled (bytes_of b) 12 16 at ⊎ IsFirstFilled (bytes_of b) 80 128 at
-Shows b BadTag at = StopsAt current (bytes_of b) (length b) at
-Shows b BadFreeTree at = at ≡ 24
+Shows b BadTag at = StopsAt current (bytes_of b) (size_word b) at
+Shows b BadFreeTree at = (at ≡ 24) × IsTrue (holds current b BadFreeTree)
 Shows b BadIndex at = ⊥
 Shows b BadObject at = ⊥
 Shows b SharedBlock at = ⊥
@@ -56,3 +57,7 @@ has_place BadObject = false
 has_place SharedBlock = false
 has_place BadContainer = false
 has_place OrphanBlock = false
+
+-- the law: what a place shows holds of the bytes
+abbrev pub PlacesShow : Type 0
+PlacesShow = (b : List ℕ) (class : ImageClass) (at : ℕ) → Shows b class at → holds current b class ≡ true

@@ -1,0 +1,6 @@
+mod PartLines
+mod Owed
+mod Members
+mod Elements
+mod WalkedPairs
+mod Sections

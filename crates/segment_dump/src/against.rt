@@ -1,0 +1,75 @@
+//! A sink that is given what it should be: it takes bytes as long as they are those of a text.
+ghost use Rattle.std.specs.Prelude.{◌≡◌, ◌+◌, ◌-◌, ◌^◌, ◌<◌, ◌≤◌, ◌++◌, length, take, true, IfOk, OnErr};
+ghost use Rattle.std.specs.Bool.{OnTrue};
+ghost use Rattle.raw_region.specs.Answers.{write_failures_in};
+
+use raw_region::{DeviceFault, Sink};
+use std::marker::Model;
+
+/// A sink that takes what a text says, from its first byte on, and fails where anything else is written, or more.
+#[derive(Drop)]
+pub struct Against<'a> {
+    text: &'a [u8],
+    at: usize,
+    failures: u64,
+}
+
+impl Model for Against<'_> {
+    ghost use Rattle.std.specs.Prelude.{◌≤◌, length};
+    ghost use Rattle.segment_dump.specs.Comparing.{Compared};
+
+    ghost Value = { Compared };
+
+    ghost view = { λ a. record { text = a.text.now; at = a.at; failures = a.failures } };
+
+    ghost invariant = { λ a. a.at ≤ length a.text.now };
+}
+
+impl<'a> Against<'a> {
+    /// It has taken nothing of the text.
+    pub fn new(text: &'a [u8]) -> Against<'a>
+        ensures { result ≡ record { text = text.now; at = 0; failures = 0 } }
+    {
+        Against {
+            text,
+            at: 0,
+            failures: 0,
+        }
+    }
+
+    /// How many bytes of the text it has taken.
+    pub fn taken(&self) -> usize
+        ensures { result ≡ self.now.at }
+    {
+        self.at
+    }
+
+    /// Whether it has taken all of a text, which is its own.
+    pub fn has_all(&self, text: &[u8]) -> bool
+        ensures { OnTrue result (take self.now.at self.now.text ≡ text.now) }
+    {
+        let taken = &self.text[..self.at];
+        taken == text
+    }
+}
+
+impl Sink for Against<'_> {
+    ghost use Rattle.std.specs.Prelude.{take};
+
+    ghost history = { λ a. record { bytes = take a.at a.text; failures = a.failures } };
+
+    fn write(&mut self, bytes: &[u8]) -> Result<usize, DeviceFault> {
+        let (_, behind) = self.text.split_at(self.at);
+        if behind.len() < bytes.len() {
+            self.failures += 1;
+            return Err(DeviceFault);
+        }
+        let (front, _) = behind.split_at(bytes.len());
+        if front != bytes {
+            self.failures += 1;
+            return Err(DeviceFault);
+        }
+        self.at += bytes.len();
+        Ok(bytes.len())
+    }
+}

@@ -1,3 +1,4 @@
+mod Fronts
 mod PartLines
 mod Owed
 mod Members

@@ -1,5 +1,5 @@
 -- What a call writes of a segment, one text behind another.
-use Rattle.std.proofs.Common.{⊤, ◌≡◌, ℕ, ◌+◌, ◌<◌, List, [], ◌++◌, refl, sym, ap, subst, ◌∙◌, arith}
+use Rattle.std.proofs.Common.{◌≡◌, ℕ, ◌+◌, ◌<◌, List, [], ◌++◌, refl, sym, ap, subst, ◌∙◌, arith}
 use Rattle.std.specs.Prelude.{Result, Ok, Err}
 use Rattle.std.specs.Result.{IsErr}
 use Rattle.std.proofs.lemmas.List.{append-nil}
@@ -10,7 +10,7 @@ use Rattle.segment_manager.specs.Directory.{Directory}
 use Rattle.segment_manager.specs.State.{State, StandsFor}
 use Rattle.segment_dump.specs.Owed.{WritesOf}
 use Rattle.segment_dump.specs.Parts.{parts_until}
-use Rattle.segment_dump.proofs.PartLines.{part-cut, part-told}
+use Rattle.segment_dump.proofs.PartLines.{part-cut, part-told, well}
 
 -- an error is one failure
 pub failures_in-err : {A E : Type 0} (result : Result A E) → IsErr result → failures_in result ≡ 1
@@ -52,37 +52,37 @@ module _ (s : State) where
     counted = omega (arith, w.counted, failures_in-err result is_err);
   }
 
-  module _ {A B C E F G : Type 0} (part : Directory → ℕ → List ℕ) (old mid new : Took) (i : ℕ) (x : A) (before : WritesOf {E = E} s old mid (Ok x) (λ d. parts_until (part d) i)) where
+  module _ (part : Directory → ℕ → List ℕ) (old mid new : Took) (i : ℕ) (before : WritesOf s old mid well (λ d. parts_until (part d) i)) where
     -- one part more
-    pub of-more : (y : B) (z : C) → WritesOf {E = F} s mid new (Ok y) (λ d. part d i) → WritesOf {E = G} s old new (Ok z) (λ d. parts_until (part d) (i + 1))
-    of-more y z w = record {
-      writes = λ d st. part-told {E = E} {F = F} (part d) old mid new i x (before.writes d st) y z (w.writes d st);
+    pub of-more : {B F : Type 0} (y : B) → WritesOf {E = F} s mid new (Ok y) (λ d. part d i) → WritesOf s old new well (λ d. parts_until (part d) (i + 1))
+    of-more y w = record {
+      writes = λ d st. part-told (part d) old mid new i (before.writes d st) y (w.writes d st);
       counted = omega (arith, before.counted, w.counted);
     }
 
     -- the writer failed in a part
-    pub of-cut_in : (n : ℕ) → i < n → (y : F) → WritesOf {A = B} s mid new (Err y) (λ d. part d i) → (result : Result C G) → IsErr result → WritesOf s old new result (λ d. parts_until (part d) n)
+    pub of-cut_in : {B C F G : Type 0} (n : ℕ) → i < n → (y : F) → WritesOf {A = B} s mid new (Err y) (λ d. part d i) → (result : Result C G) → IsErr result → WritesOf s old new result (λ d. parts_until (part d) n)
     of-cut_in n within y w result is_err = record {
-      writes = λ d st. part-cut {E = E} (part d) old mid new i x (before.writes d st) n within y (w.writes d st) result is_err;
+      writes = λ d st. part-cut (part d) old mid new i (before.writes d st) n within y (w.writes d st) result is_err;
       counted = omega (arith, before.counted, w.counted, failures_in-err result is_err);
     }
 
     -- the same where a directory says how many parts there are
-    pub of-cut_of : (n : Directory → ℕ) → ((d : Directory) → StandsFor s.cut.bytes d → i < n d) → (y : F) → WritesOf {A = B} s mid new (Err y) (λ d. part d i) → (result : Result C G) → IsErr result
+    pub of-cut_of : {B C F G : Type 0} (n : Directory → ℕ) → ((d : Directory) → StandsFor s.cut.bytes d → i < n d) → (y : F) → WritesOf {A = B} s mid new (Err y) (λ d. part d i) → (result : Result C G) → IsErr result
         → WritesOf s old new result (λ d. parts_until (part d) (n d))
     of-cut_of n within y w result is_err = record {
-      writes = λ d st. part-cut {E = E} (part d) old mid new i x (before.writes d st) (n d) (within d st) y (w.writes d st) result is_err;
+      writes = λ d st. part-cut (part d) old mid new i (before.writes d st) (n d) (within d st) y (w.writes d st) result is_err;
       counted = omega (arith, before.counted, w.counted, failures_in-err result is_err);
     }
 
   -- nothing has gone out before the first part
-  pub of-start : {E : Type 0} (part : Directory → ℕ → List ℕ) (old : Took) → WritesOf {A = ⊤} {E = E} s old old (Ok tt) (λ d. parts_until (part d) 0)
-  of-start {E} part old = of-none {E = E} old tt (λ d. parts_until (part d) 0) (λ d st. refl)
+  pub of-start : (part : Directory → ℕ → List ℕ) (old : Took) → WritesOf s old old well (λ d. parts_until (part d) 0)
+  of-start part old = of-none old 0 (λ d. parts_until (part d) 0) (λ d st. refl)
 
   -- so many parts are all
-  pub of-all : {A B E F : Type 0} (part : Directory → ℕ → List ℕ) (old new : Took) (i n : ℕ) (x : A) (y : B) → WritesOf {E = E} s old new (Ok x) (λ d. parts_until (part d) i) → i ≡ n
+  pub of-all : {B F : Type 0} (part : Directory → ℕ → List ℕ) (old new : Took) (i n : ℕ) (y : B) → WritesOf s old new well (λ d. parts_until (part d) i) → i ≡ n
       → WritesOf {E = F} s old new (Ok y) (λ d. parts_until (part d) n)
-  of-all part old new i n x y w e = record {
+  of-all part old new i n y w e = record {
     writes = λ d st. let v = w.writes d st in record { ok = v.ok ∙ ap (λ m. old.bytes ++ parts_until (part d) m) e; err = tt; counted = omega (arith, v.counted) };
     counted = omega (arith, w.counted);
   }

@@ -68,17 +68,22 @@ parts-all f xs = parts-taken f xs (length xs) ∙ ap (flat_map f) (take_all (len
 
 -- ---- what went out
 
-module _ {A B C E F G : Type 0} (part : ℕ → List ℕ) (old mid new : Took) (i : ℕ) (x : A) (before : Writes {E = E} old mid (Ok x) (parts_until part i)) where
+-- all has gone out so far
+abbrev pub well : Result ℕ ℕ
+well = Ok 0
+
+module _ (part : ℕ → List ℕ) (old mid new : Took) (i : ℕ) (before : Writes old mid well (parts_until part i)) where
   -- one part more
-  pub part-told : (y : B) (z : C) → Writes {E = F} mid new (Ok y) (part i) → Writes {E = G} old new (Ok z) (parts_until part (i + 1))
-  part-told y z w =
+  pub part-told : {B F : Type 0} (y : B) → Writes {E = F} mid new (Ok y) (part i) → Writes old new well (parts_until part (i + 1))
+  part-told {B} {F} y w =
       let more : suc i ≡ i + 1 = omega arith in
-      subst (λ m. Writes {E = G} old new (Ok z) (parts_until part m)) more
-      (record { ok = (writes-then old mid new x (Ok {E = F} y) (parts_until part i) (part i) before w).ok; err = tt; counted = omega (arith, before.counted, w.counted) })
+      let one : Result B F = Ok y in
+      subst (λ m. Writes old new well (parts_until part m)) more
+      (record { ok = (writes-then old mid new 0 one (parts_until part i) (part i) before w).ok; err = tt; counted = omega (arith, before.counted, w.counted) })
 
   -- the writer failed in a part
-  pub part-cut : (n : ℕ) → i < n → (y : F) → Writes {A = B} mid new (Err y) (part i) → (result : Result C G) → IsErr result → Writes old new result (parts_until part n)
+  pub part-cut : {B C F G : Type 0} (n : ℕ) → i < n → (y : F) → Writes {A = B} mid new (Err y) (part i) → (result : Result C G) → IsErr result → Writes old new result (parts_until part n)
   part-cut n within y w result is_err =
       let s = split part i n within in
       subst (λ text. Writes old new result text) (sym s.parts)
-      (writes-then old mid new x result (parts_until part i) (part i ++ s.more) before (writes-cut mid new y result (part i) s.more is_err w))
+      (writes-then old mid new 0 result (parts_until part i) (part i ++ s.more) before (writes-cut mid new y result (part i) s.more is_err w))

@@ -14,7 +14,7 @@ pub struct Against<'a> {
     failures: u64,
 }
 
-impl Model for Against<'_> {
+impl<'a> Model for Against<'a> {
     ghost use Rattle.std.specs.Prelude.{◌≤◌, length};
     ghost use Rattle.segment_dump.specs.Comparing.{Compared};
 
@@ -49,27 +49,42 @@ impl<'a> Against<'a> {
         ensures { OnTrue result (take self.now.at self.now.text ≡ text.now) }
     {
         let taken = &self.text[..self.at];
-        taken == text
+        are_same(taken, text)
     }
 }
 
-impl Sink for Against<'_> {
+impl<'a> Sink for Against<'a> {
     ghost use Rattle.std.specs.Prelude.{take};
 
     ghost history = { λ a. record { bytes = take a.at a.text; failures = a.failures } };
 
     fn write(&mut self, bytes: &[u8]) -> Result<usize, DeviceFault> {
-        let (_, behind) = self.text.split_at(self.at);
-        if behind.len() < bytes.len() {
-            self.failures += 1;
-            return Err(DeviceFault);
-        }
-        let (front, _) = behind.split_at(bytes.len());
-        if front != bytes {
+        if !goes_on(self.text, self.at, bytes) {
             self.failures += 1;
             return Err(DeviceFault);
         }
         self.at += bytes.len();
         Ok(bytes.len())
     }
+}
+
+/// Whether a text goes on with these bytes behind its first `at`.
+fn goes_on(text: &[u8], at: usize, bytes: &[u8]) -> bool
+    requires { at ≤ length text.now }
+    ensures same { OnTrue result (take (at + length bytes.now) text.now ≡ take at text.now ++ bytes.now) }
+    ensures inside { OnTrue result (at + length bytes.now ≤ length text.now) }
+{
+    let (_, behind) = text.split_at(at);
+    if behind.len() < bytes.len() {
+        return false;
+    }
+    let (front, _) = behind.split_at(bytes.len());
+    are_same(front, bytes)
+}
+
+/// Whether two slices have the same bytes.
+fn are_same(some: &[u8], other: &[u8]) -> bool
+    ensures { OnTrue result (some.now ≡ other.now) }
+{
+    some == other
 }

@@ -77,6 +77,7 @@ fn piece_of(text: &[u8], index: usize) -> &[u8]
     if behind.len() <= PIECE {
         behind
     } else {
-        &behind[..PIECE]
+        let (piece, _) = behind.split_at(PIECE);
+        piece
     }
 }

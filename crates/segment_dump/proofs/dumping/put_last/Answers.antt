@@ -19,4 +19,4 @@ returns g c =
     let old = g.W.Sink.history c.args.out.now in
     let mid = g.W.Sink.history c.put_anonymous.new.out in
     let new = g.W.Sink.history c.put_pieces.new.out in
-    of-then s old mid new _ c.put_pieces.result (λ d. objects_text (anonymous_objects d)) (λ d. end_text) c.in_ok-put_anonymous.ensures (of-one s mid new _ c.put_pieces.result (λ d. end_text) c.put_pieces.ensures (λ d st. refl))
+    of-then s old mid new _ c.put_pieces.result (λ d. objects_text (anonymous_objects d)) (λ d. end_text) c.in_ok-put_anonymous.ensures (of-one s mid new c.put_pieces.result _ (λ d. end_text) c.put_pieces.ensures (λ d st. refl))

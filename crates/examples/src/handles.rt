@@ -1,24 +1,38 @@
 //! Handles that are kept in objects. Boost: `get_handle_from_address`, `get_address_from_handle`.
 use anyhow::Result;
-use zaluxhoni::{AnonymousInstance, HostDisk, Key, Mode, SegmentFile, named};
+use zaluxhoni::{
+    AnonymousInstance, HostDisk, Key, Mode, Name, Refusal, Segment, SegmentFile, named,
+};
 
 /// Makes an object without a name, and keeps its handle in one that has a name.
-fn make_a_chain(rt: &HostRuntime) -> Result<()> {
+fn link(segment: &mut Segment, first: &Name) -> Result<u64, Refusal> {
+    let secret = segment.construct(&AnonymousInstance, 1, 42i32)?;
+    segment.construct(first, 1, secret)
+}
+
+/// Finds the object by the handle that is kept under a name, and reads it.
+fn follow(segment: &Segment, first: &Name) -> Result<(u64, i32), Refusal> {
+    let handle = segment.get(first, 0)?;
+    let number = segment.get(&Key::Handle(handle), 0)?;
+    Ok((handle, number))
+}
+
+/// Makes a file with two such objects.
+fn make_a_chain(rt: &HostRuntime, first: &Name) -> Result<()> {
     let mut disk = HostDisk::new(rt);
     let mut file = SegmentFile::create(rt.alloc(), &mut disk, "chain.seg", 1024)?;
-    let secret = file.segment.construct(&AnonymousInstance, 1, 42i32)?;
-    file.segment.construct(&named("first")?, 1, secret)?;
+    link(&mut file.segment, first)?;
     file.replace(&mut disk)?;
     Ok(())
 }
 
-/// Opens the file and finds the object by the handle that is kept there.
+/// Opens the file and follows the handle.
 pub fn follow_a_handle(rt: &HostRuntime) -> Result<()> {
-    make_a_chain(rt)?;
+    let first = named("first")?;
+    make_a_chain(rt, &first)?;
     let mut disk = HostDisk::new(rt);
     let file = SegmentFile::open(rt.alloc(), &mut disk, "chain.seg", Mode::ReadOnly)?;
-    let handle: u64 = file.segment.get(&named("first")?, 0)?;
-    let number: i32 = file.segment.get(&Key::Handle(handle), 0)?;
+    let (handle, number) = follow(&file.segment, &first)?;
     println!(rt; "handles: #{handle} has {number}")?;
     Ok(())
 }

@@ -1,13 +1,19 @@
 //! A segment in another region. Boost: a mapping at another address, through `offset_ptr`.
 use anyhow::Result;
-use zaluxhoni::{HostDisk, Mode, RawRegion, SegmentFile, named};
+use zaluxhoni::{HostDisk, Mode, RawRegion, Segment, SegmentFile, named};
 
 /// Moves a segment to byte 512 of a region of its own; its objects are where they were in it.
+fn moved(rt: &HostRuntime, segment: Segment) -> Result<Segment> {
+    let region = RawRegion::new(rt.alloc(), 4096)?;
+    let (moved, _left) = segment.relocate(region, 512)?;
+    Ok(moved)
+}
+
+/// Moves the segment of a file, and reads it where it lies then.
 pub fn move_a_segment(rt: &HostRuntime) -> Result<()> {
     let mut disk = HostDisk::new(rt);
     let file = SegmentFile::open(rt.alloc(), &mut disk, "primes.seg", Mode::Write)?;
-    let region = RawRegion::new(rt.alloc(), 4096)?;
-    let (moved, _left) = file.segment.relocate(region, 512)?;
+    let moved = moved(rt, file.segment)?;
     let first: i64 = moved.get(&named("primes")?, 0)?;
     let behind = moved.region_left();
     println!(rt; "another region: the first number is {first}, and {behind} bytes lie behind")?;

@@ -1,17 +1,22 @@
 //! A vector of strings. Boost: `vector<basic_string<..>, allocator<..>>`.
 use anyhow::Result;
-use zaluxhoni::{HostDisk, SegmentFile, named};
+use zaluxhoni::{HostDisk, Name, Refusal, Segment, SegmentFile, named};
 
-/// Makes a vector of two strings, puts a third behind them, and reads the last one.
+/// Makes a vector of two strings, puts a third behind them, and tells how many there are.
+fn keep_three(segment: &mut Segment, list: &Name) -> Result<u64, Refusal> {
+    segment.construct_texts(list, &[b"apples", b"pears"])?;
+    segment.texts_push(list, b"plums")?;
+    segment.texts_len(list)
+}
+
+/// Makes such a vector in a file, and reads its last string.
 pub fn keep_a_list(rt: &HostRuntime) -> Result<()> {
     let mut disk = HostDisk::new(rt);
     let mut file = SegmentFile::create(rt.alloc(), &mut disk, "list.seg", 1024)?;
     let list = named("list")?;
-    file.segment.construct_texts(&list, &[b"apples", b"pears"])?;
-    file.segment.texts_push(&list, b"plums")?;
-    let (count, _places) = file.segment.measure(&list)?;
+    let count = keep_three(&mut file.segment, &list)?;
+    file.save(&mut disk)?;
     let last = str::from_utf8(file.segment.texts_get(&list, 2)?)?;
     println!(rt; "a vector of strings: {count} of them, the last is {last}")?;
-    file.save(&mut disk)?;
     Ok(())
 }

@@ -1,7 +1,6 @@
 -- The elements of the object of a key, one after another: what a reading of one says of the list, and how long it is.
-use Rattle.std.proofs.Common.{◌≡◌, refl, sym, ap, ◌∙◌, ℕ, ℤ, Bool, true, false, Option, Some, None, Result, Ok, Err, List, [], ◌∷◌, length, map, if◌then◌else◌}
+use Rattle.std.proofs.Common.{◌≡◌, refl, sym, ap, ◌∙◌, ℕ, zero, suc, ℤ, Bool, true, false, Option, Some, None, Result, Ok, Err, List, [], ◌∷◌, length, map, if◌then◌else◌}
 use Rattle.std.specs.Prelude.{option_map, slice_get}
-use Rattle.std.proofs.lemmas.List.{length-map}
 use Rattle.seg_types.specs.declared.kinds.Kind.{Kind}
 use Rattle.seg_types.specs.declared.kinds.Kind.TheVariants.{Scalar as ScalarOf, Vector as VectorOf, Texts as TextsKind}
 use Rattle.seg_types.specs.declared.kinds.ScalarKind.{ScalarKind}
@@ -13,10 +12,10 @@ use Rattle.seg_types.specs.Names.{Key}
 use Rattle.seg_vector.specs.Vector.{OwnedText}
 use Rattle.segment_manager.specs.declared.modes.Mode.{Mode}
 use Rattle.segment_manager.specs.Answers.{Answer, Element, Refused, TextElement}
-use Rattle.segment_manager.specs.Contents.{first_size, length_at_kind, sizes_of, sizes_of_kind}
-use Rattle.segment_manager.specs.Directory.{Value, Numbers, Elements, Texts, Object, Directory, kind_of, live, object_at}
-use Rattle.segment_manager.specs.ElementLists.{array_at, list_at, numbers_in, texts_at, texts_in, vector_at}
-use Rattle.segment_manager.specs.Plan.{Plan, Refuse, Reply, perform, with}
+use Rattle.segment_manager.specs.Contents.{sizes_of, sizes_of_kind}
+use Rattle.segment_manager.specs.Directory.{Value, Object, Directory, count_of, kind_of, live, object_at}
+use Rattle.segment_manager.specs.ElementLists.{array_at, array_length_at, first_size, length_at_kind, list_at, number_or_none, numbers_in, texts_at, texts_in, vector_at}
+use Rattle.segment_manager.specs.Plan.{Reply, perform, with}
 use Rattle.segment_manager.specs.State.{answer_of}
 use Rattle.segment_manager.specs.Step.{element_at, get, owned_text_at, step_of_kind}
 use Rattle.segment_manager.proofs.Codes.{numbers-only}
@@ -111,3 +110,119 @@ vector-read mode d key k i r f = number-at mode d key k (VectorOf k) (vector-num
 pub array-read : (mode : Mode) (d : Directory) (key : Key) (k : ScalarKind) (i : ℕ) (r : Result ℤ Refusal)
     → answer_of (Element k) r ≡ (step_of_kind mode d key (ScalarOf k) (asked.Get key i)).0 → got r ≡ slice_get (array_at d key k) i
 array-read mode d key k i r f = number-at mode d key k (ScalarOf k) (array-numbers k) i r (object_at d key) refl f
+
+-- ---- one text
+
+no-text : (r : Result (List ℕ) Refusal) (why : Refusal) → answer_of TextElement r ≡ Refused why → got r ≡ None
+no-text r why e = no-element TextElement r why (λ a f. absurd (cc)) e
+
+one-text : (r : Result (List ℕ) Refusal) (z : List ℕ) → answer_of TextElement r ≡ TextElement z → got r ≡ Some z
+one-text (Ok a) z e = let same : a ≡ z = cc in ap Some same
+one-text (Err why) z e = absurd (cc)
+
+got-map : (ps : List OwnedText) (i : ℕ) → slice_get (map (λ (p : OwnedText). p.bytes) ps) i ≡ option_map (λ (p : OwnedText). p.bytes) (slice_get ps i)
+got-map [] i = refl
+got-map (p ∷ ps) zero = refl
+got-map (p ∷ ps) (suc i) = got-map ps i
+
+read-text : (d : Directory) (r : Result (List ℕ) Refusal) (ps : List OwnedText) (i : ℕ) (p : Option OwnedText) → slice_get ps i ≡ p
+    → answer_of TextElement r ≡ (perform d (live d) (with (owned_text_at ps i) (λ p. Reply (TextElement p.bytes) d))).0 → got r ≡ option_map (λ (q : OwnedText). q.bytes) p
+read-text d r ps i None e f =
+    no-text r OutOfRange
+    (f ∙ ap (λ (q : Option OwnedText). (perform d (live d) (with (elim q as (λ _. Result OwnedText Refusal) [ None ↦ Err OutOfRange | Some z ↦ Ok z ]) (λ z. Reply (TextElement z.bytes) d))).0) e)
+read-text d r ps i (Some p) e f =
+    one-text r p.bytes
+    (f ∙ ap (λ (q : Option OwnedText). (perform d (live d) (with (elim q as (λ _. Result OwnedText Refusal) [ None ↦ Err OutOfRange | Some z ↦ Ok z ]) (λ z. Reply (TextElement z.bytes) d))).0) e)
+
+module _ (mode : Mode) (d : Directory) (key : Key) (i : ℕ) (r : Result (List ℕ) Refusal) where
+  text-of : (o : Object) (b : Bool) → object_at d key ≡ Some o → same_kind TextsKind (kind_of o.value) ≡ b
+      → answer_of TextElement r ≡ (step_of_kind mode d key TextsKind (asked.Get key i)).0 → got r ≡ slice_get (texts_at d key) i
+  text-of o false e g f =
+      no-text r WrongKind (f ∙ ap (λ (n : Answer × Directory). n.0) (step_of_kind-other mode d key TextsKind (asked.Get key i) o (open-reading mode (asked.Get key i) refl) e g))
+      ∙ sym (ap (λ zs. slice_get zs i) (other-listed texts_in d key TextsKind o e g))
+  text-of o true e g f =
+      let is = texts-only o.value g in
+      read-text d r is.0 i (slice_get is.0 i) refl
+      (f ∙ ap (λ (n : Answer × Directory). n.0) (step_of_kind-found mode d key TextsKind (asked.Get key i) o (open-reading mode (asked.Get key i) refl) e g)
+      ∙ ap (λ p. (perform d (live d) p).0) (with-found d key o (λ o. get d o.value i) e ∙ ap (λ (w : Value). get d w i) is.1.1))
+      ∙ sym (got-map is.0 i) ∙ sym (ap (λ zs. slice_get zs i) (its-list texts_in d key TextsKind o e g ∙ ap texts_in is.1.1))
+
+  text-at : (p : Option Object) → object_at d key ≡ p → answer_of TextElement r ≡ (step_of_kind mode d key TextsKind (asked.Get key i)).0 → got r ≡ slice_get (texts_at d key) i
+  text-at None e f =
+      no-text r NotFound (f ∙ ap (λ (n : Answer × Directory). n.0) (step_of_kind-not_found mode d key TextsKind (asked.Get key i) (open-reading mode (asked.Get key i) refl) e))
+      ∙ sym (ap (λ zs. slice_get zs i) (none-listed texts_in d key TextsKind e))
+  text-at (Some o) e f = text-of o (same_kind TextsKind (kind_of o.value)) e refl f
+
+pub text-read : (mode : Mode) (d : Directory) (key : Key) (i : ℕ) (r : Result (List ℕ) Refusal)
+    → answer_of TextElement r ≡ (step_of_kind mode d key TextsKind (asked.Get key i)).0 → got r ≡ slice_get (texts_at d key) i
+text-read mode d key i r f = text-at mode d key i r (object_at d key) refl f
+
+-- ---- how many
+
+-- what is said of the object of a key, an object of a kind
+abbrev of_kind_at : {A : Type 0} → (Value → Result A Refusal) → Directory → Key → Kind → Result A Refusal
+of_kind_at say d key kind = elim (object_at d key) [ None ↦ Err NotFound | Some o ↦ if same_kind kind (kind_of o.value) then say o.value else Err WrongKind ]
+
+module _ {A : Type 0} (items : Value → List A) (say : Value → Result ℕ Refusal) (d : Directory) (key : Key) (kind : Kind) (only : (v : Value) → same_kind kind (kind_of v) ≡ true → say v ≡ Ok (length (items v))) where
+  many-of : (o : Object) (b : Bool) → object_at d key ≡ Some o → same_kind kind (kind_of o.value) ≡ b → number_or_none (of_kind_at say d key kind) ≡ length (list_at items d key kind)
+  many-of o false e g =
+      ap (λ (r : Option Object). number_or_none (elim r as (λ _. Result ℕ Refusal) [ None ↦ Err NotFound | Some o ↦ if same_kind kind (kind_of o.value) then say o.value else Err WrongKind ])) e
+      ∙ ap (λ b. number_or_none (if b then say o.value else Err WrongKind)) g ∙ sym (ap length (other-listed items d key kind o e g))
+  many-of o true e g =
+      ap (λ (r : Option Object). number_or_none (elim r as (λ _. Result ℕ Refusal) [ None ↦ Err NotFound | Some o ↦ if same_kind kind (kind_of o.value) then say o.value else Err WrongKind ])) e
+      ∙ ap (λ b. number_or_none (if b then say o.value else Err WrongKind)) g ∙ ap number_or_none (only o.value g) ∙ sym (ap length (its-list items d key kind o e g))
+
+  many-at : (p : Option Object) → object_at d key ≡ p → number_or_none (of_kind_at say d key kind) ≡ length (list_at items d key kind)
+  many-at None e =
+      ap (λ (r : Option Object). number_or_none (elim r as (λ _. Result ℕ Refusal) [ None ↦ Err NotFound | Some o ↦ if same_kind kind (kind_of o.value) then say o.value else Err WrongKind ])) e
+      ∙ sym (ap length (none-listed items d key kind e))
+  many-at (Some o) e = many-of o (same_kind kind (kind_of o.value)) e refl
+
+-- of sizes the first
+abbrev first_of_kind : Directory → Key → Kind → Result ℕ Refusal
+first_of_kind d key kind = of_kind_at (λ v. first_size (sizes_of v)) d key kind
+
+sizes-first : (d : Directory) (key : Key) (kind : Kind) (b : Bool) (o : Object) → same_kind kind (kind_of o.value) ≡ b
+    → first_size (if same_kind kind (kind_of o.value) then sizes_of o.value else Err WrongKind) ≡ (if same_kind kind (kind_of o.value) then first_size (sizes_of o.value) else Err WrongKind)
+sizes-first d key kind true o g =
+    ap (λ b. first_size (if b then sizes_of o.value else Err WrongKind)) g ∙ sym (ap (λ b. if b then first_size (sizes_of o.value) else Err WrongKind) g)
+sizes-first d key kind false o g =
+    ap (λ b. first_size (if b then sizes_of o.value else Err WrongKind)) g ∙ sym (ap (λ b. if b then first_size (sizes_of o.value) else Err WrongKind) g)
+
+length-first : (d : Directory) (key : Key) (kind : Kind) (p : Option Object) → object_at d key ≡ p → length_at_kind d key kind ≡ first_of_kind d key kind
+length-first d key kind None e =
+    ap (λ (r : Option Object). first_size (elim r as (λ _. Result (ℕ × ℕ) Refusal) [ None ↦ Err NotFound | Some o ↦ sizes_of_kind o kind ])) e
+    ∙ sym (ap (λ (r : Option Object). elim r as (λ _. Result ℕ Refusal) [ None ↦ Err NotFound | Some o ↦ if same_kind kind (kind_of o.value) then first_size (sizes_of o.value) else Err WrongKind ]) e)
+length-first d key kind (Some o) e =
+    ap (λ (r : Option Object). first_size (elim r as (λ _. Result (ℕ × ℕ) Refusal) [ None ↦ Err NotFound | Some o ↦ sizes_of_kind o kind ])) e
+    ∙ sizes-first d key kind (same_kind kind (kind_of o.value)) o refl
+    ∙ sym (ap (λ (r : Option Object). elim r as (λ _. Result ℕ Refusal) [ None ↦ Err NotFound | Some o ↦ if same_kind kind (kind_of o.value) then first_size (sizes_of o.value) else Err WrongKind ]) e)
+
+vector-many : (k : ScalarKind) (v : Value) → same_kind (VectorOf k) (kind_of v) ≡ true → first_size (sizes_of v) ≡ Ok (length (numbers_in v))
+vector-many k v e = let is = vector-only k v e in ap (λ (w : Value). first_size (sizes_of w)) is.1.1 ∙ sym (ap (λ (w : Value). Ok (length (numbers_in w))) is.1.1)
+
+bytes-many : (ps : List OwnedText) → length ps ≡ length (map (λ (p : OwnedText). p.bytes) ps)
+bytes-many [] = refl
+bytes-many (p ∷ ps) = ap suc (bytes-many ps)
+
+texts-many : (v : Value) → same_kind TextsKind (kind_of v) ≡ true → first_size (sizes_of v) ≡ Ok (length (texts_in v))
+texts-many v e =
+    let is = texts-only v e in
+    ap (λ (w : Value). first_size (sizes_of w)) is.1.1 ∙ ap Ok (bytes-many is.0) ∙ sym (ap (λ (w : Value). Ok (length (texts_in w))) is.1.1)
+
+abbrev array_size : Value → Result ℕ Refusal
+array_size v = Ok (count_of v)
+
+array-many : (k : ScalarKind) (v : Value) → same_kind (ScalarOf k) (kind_of v) ≡ true → array_size v ≡ Ok (length (numbers_in v))
+array-many k v e = let is = numbers-only k v e in ap array_size is.1 ∙ sym (ap (λ (w : Value). Ok (length (numbers_in w))) is.1)
+
+pub vector-length : (d : Directory) (key : Key) (k : ScalarKind) (r : Result ℕ Refusal) → r ≡ length_at_kind d key (VectorOf k) → number_or_none r ≡ length (vector_at d key k)
+vector-length d key k r e =
+    ap number_or_none (e ∙ length-first d key (VectorOf k) (object_at d key) refl) ∙ many-at numbers_in (λ v. first_size (sizes_of v)) d key (VectorOf k) (vector-many k) (object_at d key) refl
+
+pub texts-length : (d : Directory) (key : Key) (r : Result ℕ Refusal) → r ≡ length_at_kind d key TextsKind → number_or_none r ≡ length (texts_at d key)
+texts-length d key r e =
+    ap number_or_none (e ∙ length-first d key TextsKind (object_at d key) refl) ∙ many-at texts_in (λ v. first_size (sizes_of v)) d key TextsKind texts-many (object_at d key) refl
+
+pub array-length : (d : Directory) (key : Key) (k : ScalarKind) (r : Result ℕ Refusal) → r ≡ array_length_at d key k → number_or_none r ≡ length (array_at d key k)
+array-length d key k r e = ap number_or_none e ∙ many-at numbers_in array_size d key (ScalarOf k) (array-many k) (object_at d key) refl

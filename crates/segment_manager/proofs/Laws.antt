@@ -48,4 +48,7 @@ pub use Rattle.segment_manager.proofs.PairWalks.{first-at, pairs-rise, walk-next
 -- what bytes denote by an older format, where the version, the tags and the free tree are made those of the current one
 pub use Rattle.segment_manager.proofs.Renewed.{StaysButVersion, denotes-later, directory-later}
 -- a command on the elements of an object keeps each object
-pub use Rattle.segment_manager.proofs.StayingObjects.{objects_stay}
+pub use Rattle.segment_manager.proofs.StayingObjects.{leads_on-stay, objects_stay}
+-- the elements of the object of a key, one after another: what a reading of one says, and how many there are
+unfoldable pub use Rattle.segment_manager.proofs.ElementLists.{got}
+pub use Rattle.segment_manager.proofs.ElementLists.{array-length, array-read, text-read, texts-length, vector-length, vector-read}

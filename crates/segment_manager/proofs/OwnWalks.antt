@@ -1,11 +1,10 @@
 -- The walk over the blocks and gaps that stops at those of objects, for each directory that the bytes stand for.
-use Rattle.std.proofs.Common.{◌≡◌, refl, sym, ap, subst, ◌∙◌, ℕ, zero, suc, ◌+◌, ◌-◌, ◌<◌, ◌≤◌, Bool, true, false, Some, None, Option, List, [], ◌∷◌, add-one, length, map, arith, cond, take}
-use Rattle.std.specs.Prelude.{IsTrue, filter, is_some, nat_lt, option_map, slice_get}
+use Rattle.std.proofs.Common.{◌≡◌, refl, sym, ap, subst, ◌∙◌, ℕ, zero, suc, ◌+◌, ◌-◌, ◌≤◌, Bool, true, false, Some, None, Option, List, [], ◌∷◌, add-one, length, map, arith, cond}
+use Rattle.std.specs.Prelude.{IsTrue, filter, is_some, option_map, slice_get}
 use Rattle.std.specs.List.{AllByRecursion}
 use Rattle.std.proofs.lemmas.Option.{none-some, same_Some, slice_get_within}
 use Rattle.raw_region.specs.Format.{current}
 use Rattle.best_fit.specs.Extents.{Extent, LiveSet, Span as LiveSpan, end_of, handle, is_proper, proper_from, spans}
-use Rattle.best_fit.specs.Heap.{live_of}
 use Rattle.best_fit.proofs.Laws.{IsFirst, proper_from-IsFirst, proper_from-reaches}
 use Rattle.block_tags.specs.Format.{is_legal_size}
 use Rattle.seg_types.specs.Names.{ByHandle}
@@ -24,7 +23,7 @@ use Rattle.segment_manager.proofs.ObjectLists.{rises-front, rises-rest}
 use Rattle.segment_manager.proofs.OwnBlocks.{all-own_spans, as_used, blocks, own-blocks}
 use Rattle.segment_manager.proofs.OwnPlaces.{none-more, one-more, passes-none, passes-there}
 use Rattle.segment_manager.proofs.TileCounts.{segment-short}
-use Rattle.segment_manager.proofs.Words.{first, second}
+use Rattle.segment_manager.proofs.Words.{second}
 
 -- ---- one turn of the walk
 

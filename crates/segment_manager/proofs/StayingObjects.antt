@@ -20,12 +20,13 @@ use Rattle.seg_map.specs.Map.{node_len, pair_at, put_pair, remove_pair}
 use Rattle.seg_map.specs.Numbers.{NumberPair}
 use Rattle.segment_manager.specs.declared.modes.Mode.{Mode}
 use Rattle.segment_manager.specs.Directory.{Value, Numbers, Elements, Bytes, Pairs, Texts, Object, Directory, has_key, kind_of, live, object_at, replace_object}
-use Rattle.segment_manager.specs.Answers.{Absent, Answer, Done, Element, Refused, Truth}
+use Rattle.segment_manager.specs.Answers.{Absent, Answer, Done, Element, Refused, Truth, refusal_of}
 use Rattle.segment_manager.specs.Found.{is_object_at}
 use Rattle.segment_manager.specs.Plan.{Plan, New, Refuse, Request, Reply, met, perform, with, with_capacity, with_owned_text, with_owned_texts, with_storage}
 use Rattle.segment_manager.specs.Staying.{KeepsObjects, ObjectsStay, is_elementwise}
 use Rattle.segment_manager.specs.State.{IsSegment, Moves, State}
 use Rattle.segment_manager.specs.Step.{assign, changed, effect, element_at, erase, found, found_at, get, insert_at, is_read_only, items_of, map_of, owned_text_at, pair_of, plan, pop, push, put, set, step, step_of_kind, storage_of, text_among, text_of, text_of_literal, texts_of, values_of, vector_of, with_items, with_table}
+use Rattle.segment_manager.specs.TextLists.{LeadsOnOfKind}
 use Rattle.segment_manager.proofs.KeyCalls.{object-passes}
 
 -- ---- plans
@@ -242,3 +243,8 @@ objects_stay = record {
   any = λ old new c answer g e m. moved-keeps old new answer (λ d. step old.mode d c) g m (λ d h here. step-keeps d h here old.mode c e);
   of_kind = λ old new key kind c answer g e m. moved-keeps old new answer (λ d. step_of_kind old.mode d key kind c) g m (λ d h here. step_of_kind-keeps d h here old.mode key kind c e);
 }
+
+-- the same of a call that answers less than the machine
+pub leads_on-stay : (old new : State) (key : Key) (kind : Kind) (c : Command) (why : Option Refusal) → IsSegment old.cut.bytes → is_elementwise c ≡ true → LeadsOnOfKind old new key kind c why → KeepsObjects old new
+leads_on-stay old new key kind c why g e m =
+    moved-keeps old new why (λ d. (refusal_of (step_of_kind old.mode d key kind c).0, (step_of_kind old.mode d key kind c).1)) g m (λ d h here. step_of_kind-keeps d h here old.mode key kind c e)

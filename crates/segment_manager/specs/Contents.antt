@@ -90,14 +90,6 @@ sizes_of_kind o kind = if same_kind kind (kind_of o.value) then sizes_of o.value
 abbrev pub sizes_at_kind : Directory → Key → Kind → Result (ℕ × ℕ) Refusal
 sizes_at_kind d key kind = elim (object_at d key) [ None ↦ Err NotFound | Some o ↦ sizes_of_kind o kind ]
 
--- how many elements the container of a key has, a container of a kind
-abbrev pub first_size : Result (ℕ × ℕ) Refusal → Result ℕ Refusal
-first_size (Ok (n, places)) = Ok n
-first_size (Err why) = Err why
-
-abbrev pub length_at_kind : Directory → Key → Kind → Result ℕ Refusal
-length_at_kind d key kind = first_size (sizes_at_kind d key kind)
-
 -- The contents of a container are others. Of all blocks that stay no byte changes but its own 24.
 pub record IsRefilled (old new : Cut) (p : Place) (was is : Contents) : Type 0 where
   pub change : IsExchanged current old new (place_at p) 24 (option_to_list was.table.extent) (option_to_list is.table.extent)

@@ -1,12 +1,15 @@
 -- The elements of the object of a key, one after another: as many as it has where it is of the kind, and else none.
-use Rattle.std.specs.Prelude.{ℕ, ℤ, Some, None, List, [], map, if◌then◌else◌}
+use Rattle.std.specs.Prelude.{ℕ, ℤ, Some, None, Result, Ok, Err, List, [], map, if◌then◌else◌}
 use Rattle.seg_types.specs.declared.kinds.Kind.{Kind}
 use Rattle.seg_types.specs.declared.kinds.Kind.TheVariants.{Scalar as ScalarOf, Vector as VectorOf, Texts as TextsKind}
 use Rattle.seg_types.specs.declared.kinds.ScalarKind.{ScalarKind}
+use Rattle.seg_types.specs.declared.refusals.Refusal.{Refusal}
+use Rattle.seg_types.specs.declared.refusals.Refusal.TheVariants.{NotFound, WrongKind}
 use Rattle.seg_types.specs.Kinds.{same_kind}
 use Rattle.seg_types.specs.Names.{Key}
 use Rattle.seg_vector.specs.Vector.{OwnedText}
-use Rattle.segment_manager.specs.Directory.{Value, Numbers, Elements, Bytes, Pairs, Texts, Directory, kind_of, object_at}
+use Rattle.segment_manager.specs.Contents.{sizes_at_kind}
+use Rattle.segment_manager.specs.Directory.{Value, Numbers, Elements, Bytes, Pairs, Texts, Directory, count_of, kind_of, object_at}
 
 -- the numbers of a value that is an array or a vector of scalars
 abbrev pub numbers_in : Value → List ℤ
@@ -37,3 +40,22 @@ vector_at d key k = list_at numbers_in d key (VectorOf k)
 
 abbrev pub texts_at : Directory → Key → List (List ℕ)
 texts_at d key = list_at texts_in d key TextsKind
+
+-- ---- how many they are
+
+-- of a container of a kind
+abbrev pub first_size : Result (ℕ × ℕ) Refusal → Result ℕ Refusal
+first_size (Ok (n, places)) = Ok n
+first_size (Err why) = Err why
+
+abbrev pub length_at_kind : Directory → Key → Kind → Result ℕ Refusal
+length_at_kind d key kind = first_size (sizes_at_kind d key kind)
+
+-- of an array of a kind
+abbrev pub array_length_at : Directory → Key → ScalarKind → Result ℕ Refusal
+array_length_at d key k = elim (object_at d key) [ None ↦ Err NotFound | Some o ↦ if same_kind (ScalarOf k) (kind_of o.value) then Ok (count_of o.value) else Err WrongKind ]
+
+-- a number, or 0 where there is none
+abbrev pub number_or_none : Result ℕ Refusal → ℕ
+number_or_none (Ok n) = n
+number_or_none (Err why) = 0

@@ -27,6 +27,8 @@ pub(crate) struct Place {
 impl Segment {
     /// The element at `index` in the object of a key, an object of scalars of the type.
     ///
+    /// Example: `let width: i64 = segment.get(&name, 0)?`.
+    ///
     /// # Errors
     ///
     /// `NotFound` where no object has the key, `WrongKind` where it is of another kind, `OutOfRange` where it has no element
@@ -72,6 +74,8 @@ impl Segment {
     }
 
     /// Makes a value the element at `index` in the object of a key, an object of scalars of the type.
+    ///
+    /// Example: `segment.set(&name, 0, 640i64)?`.
     ///
     /// # Errors
     ///

@@ -14,6 +14,8 @@ use seg_vector::SegString;
 impl Segment {
     /// The element at `index` in the object of a key: of scalars, of a vector of scalars, or of a string, which has bytes.
     ///
+    /// Example: `let value: ScalarValue = segment.get_any(&key, 0)?`.
+    ///
     /// # Errors
     ///
     /// `NotFound` where no object has the key, `WrongKind` where its elements are no scalars, `OutOfRange` where it has none
@@ -68,6 +70,13 @@ impl Segment {
 
     /// Makes a value the element at `index` in the object of a key, whose elements are of the value's kind: of scalars, of a
     /// vector of scalars, or of a string.
+    ///
+    /// Example: `segment.set_any(&key, 0, ScalarValue::I64(640))?`.
+    ///
+    /// # Conditions
+    ///
+    /// The object's elements are of the value's kind, as `kind_of` or `locate` say. `set`, `vec_set` and `string_set`
+    /// take a type, refuse every other object, and have no condition.
     ///
     /// # Errors
     ///

@@ -14,6 +14,8 @@ use seg_types::{Refusal, Scalar, ScalarKind, ScalarValue};
 impl Segment {
     /// The value of a key of the map of a key, a map with keys of the kind of `at` and values of a kind.
     ///
+    /// Example: `segment.map_get_any(&key, ScalarValue::I32(2), ScalarKind::I64)?`.
+    ///
     /// # Errors
     ///
     /// `NotFound` where no object has the key, `WrongKind` where it is of another kind.
@@ -72,6 +74,8 @@ impl Segment {
 
     /// Puts the value of a key into the map of a key, a map of the two values' kinds, and answers whether the key is new.
     ///
+    /// Example: `segment.map_put_any(&key, ScalarValue::I32(2), ScalarValue::I64(1999))?`.
+    ///
     /// # Errors
     ///
     /// `ReadOnly` where the segment is open for reading, and else `NotFound` where no object has the key, `WrongKind` where it
@@ -118,6 +122,8 @@ impl Segment {
     }
 
     /// Erases a key from the map of a key, a map with keys of its kind and values of a kind, and answers whether it was there.
+    ///
+    /// Example: `segment.map_erase_any(&key, ScalarValue::I32(2), ScalarKind::I64)?`.
     ///
     /// # Errors
     ///

@@ -21,6 +21,15 @@ use seg_vector::Place;
 impl Segment {
     /// Makes an object of `count` times a value, from 1 to 1048576, and answers its handle. A key that is a kind is the value's.
     ///
+    /// Example: `let handle = segment.construct(&name, 1, 640i64)?`.
+    ///
+    /// # Conditions
+    ///
+    /// `count` is from 1 to 1048576. `construct_array` has no such condition, and refuses another count.
+    ///
+    /// The key suits the kind: a key that says a kind says this one; a name, `UniqueInstance` and `AnonymousInstance`
+    /// suit each.
+    ///
     /// # Errors
     ///
     /// `ReadOnly` where the segment is open for reading, else `Exists` where an object has the key: nothing changes. Else `NoSpace`
@@ -41,6 +50,15 @@ impl Segment {
     }
 
     /// The same for a value of a kind.
+    ///
+    /// Example: `segment.construct_value(&name, 1, ScalarValue::I64(640))?`.
+    ///
+    /// # Conditions
+    ///
+    /// `count` is from 1 to 1048576. `construct_array` has no such condition, and refuses another count.
+    ///
+    /// The key suits the kind: a key that says a kind says this one; a name, `UniqueInstance` and `AnonymousInstance`
+    /// suit each.
     ///
     /// # Errors
     ///

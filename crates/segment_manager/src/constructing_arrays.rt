@@ -12,10 +12,17 @@ use crate::segment::Segment;
 use seg_types::{Handle, Refusal, Scalar};
 
 /// The most elements of an object of scalars.
-const MOST: u32 = 1_048_576;
+pub(crate) const MOST: u32 = 1_048_576;
 
 impl Segment {
     /// Makes an array of `count` times a value, and answers its handle.
+    ///
+    /// Example: `let handle = segment.construct_array(&name, count, 0u8)?`.
+    ///
+    /// # Conditions
+    ///
+    /// The key suits the kind: a key that says a kind says this one; a name, `UniqueInstance` and `AnonymousInstance`
+    /// suit each.
     ///
     /// # Errors
     ///
@@ -41,6 +48,13 @@ impl Segment {
 
     /// The handle of the scalars of a key, and how many they are. Where no object has the key an array is made, of `count` times a
     /// value. An object that is found stays as it is, however many scalars it has.
+    ///
+    /// Example: `let (handle, count) = segment.find_or_construct_array(&name, count, 0u8)?`.
+    ///
+    /// # Conditions
+    ///
+    /// The key suits the kind: a key that says a kind says this one; a name, `UniqueInstance` and `AnonymousInstance`
+    /// suit each.
     ///
     /// # Errors
     ///

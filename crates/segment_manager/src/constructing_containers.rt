@@ -14,6 +14,13 @@ use seg_types::{Handle, Refusal, Scalar};
 impl Segment {
     /// Makes a vector of values with just so many places, and answers its handle. A key that is a kind is that of such vectors.
     ///
+    /// Example: `segment.construct_vec::<i64, _>(&name, &[])?`.
+    ///
+    /// # Conditions
+    ///
+    /// The key suits the kind: a key that says a kind says this one; a name, `UniqueInstance` and `AnonymousInstance`
+    /// suit each.
+    ///
     /// # Errors
     ///
     /// `ReadOnly` where the segment is open for reading, else `Exists` where an object has the key: nothing changes. Else `NoSpace`
@@ -31,6 +38,13 @@ impl Segment {
     }
 
     /// Makes a string of bytes with just so many places, and answers its handle. A key that is a kind is that of strings.
+    ///
+    /// Example: `segment.construct_string(&name, b"red")?`.
+    ///
+    /// # Conditions
+    ///
+    /// The key suits the kind: a key that says a kind says this one; a name, `UniqueInstance` and `AnonymousInstance`
+    /// suit each.
     ///
     /// # Errors
     ///
@@ -51,6 +65,13 @@ impl Segment {
     /// The handle of the vector of a key, with 1 for its count. Where no object has the key a vector of the values is made. One that
     /// is found stays as it is. A key that is a kind is that of such vectors.
     ///
+    /// Example: `segment.find_or_construct_vec(&name, &[1i64, 2])?`.
+    ///
+    /// # Conditions
+    ///
+    /// The key suits the kind: a key that says a kind says this one; a name, `UniqueInstance` and `AnonymousInstance`
+    /// suit each.
+    ///
     /// # Errors
     ///
     /// `ReadOnly` where the segment is open for reading, else `WrongKind` where the object is of another kind: nothing changes. Else
@@ -70,6 +91,13 @@ impl Segment {
 
     /// The handle of the string of a key, with 1 for its count. Where no object has the key a string of the bytes is made. One that
     /// is found stays as it is. A key that is a kind is that of strings.
+    ///
+    /// Example: `segment.find_or_construct_string(&name, b"red")?`.
+    ///
+    /// # Conditions
+    ///
+    /// The key suits the kind: a key that says a kind says this one; a name, `UniqueInstance` and `AnonymousInstance`
+    /// suit each.
     ///
     /// # Errors
     ///

@@ -1,5 +1,5 @@
 //! Objects of numbers constructed from the items of an iterator.
-ghost use Rattle.std.specs.Prelude.{◌≡◌, ◌+◌, ◌*◌, ◌≤◌, IsTrue};
+ghost use Rattle.std.specs.Prelude.{◌≡◌, ◌+◌, ◌*◌, ◌≤◌, IsTrue, true, false};
 ghost use Rattle.std.specs.Bool.{OnTrue};
 ghost use Rattle.std.specs.Iterator.{HoldsAlong};
 ghost use Rattle.std.specs.List.{AllByRecursion};
@@ -11,11 +11,13 @@ ghost use Rattle.seg_types.specs.Keys.{new_key_seen};
 ghost use Rattle.seg_types.specs.Kinds.{size_of};
 ghost use Rattle.seg_types.specs.Values.{kind_of_scalar, value_of_scalar};
 ghost use Rattle.segment_manager.specs.Begun.{BeginsNumbers, Fills, Finishes, IsLoose, IsNextOfKind, WritesNext};
+ghost use Rattle.segment_manager.specs.Counted.{RefusesCount, is_count};
 ghost use Rattle.segment_manager.specs.Items.{TakesItems};
 ghost use Rattle.segment_manager.specs.NewObjects.{IsOfItsKind};
 ghost use Rattle.segment_manager.specs.State.{IsSegment};
 
 use crate::beginning::{Begun, begin, end};
+use crate::constructing_arrays::MOST;
 use crate::destinations::Destination;
 use crate::fillings::LONGEST;
 use crate::segment::Segment;
@@ -26,10 +28,18 @@ impl Segment {
     /// Makes an object of the next `count` items, and answers its handle. Items are taken only where each block that is needed
     /// was found.
     ///
+    /// Example: `segment.construct_it(&name, 5, &mut primes)?`.
+    ///
+    /// # Conditions
+    ///
+    /// The key suits the kind: a key that says a kind says this one; a name, `UniqueInstance` and `AnonymousInstance`
+    /// suit each.
+    ///
     /// # Errors
     ///
-    /// `ReadOnly` where the segment is open for reading, else `Exists` where an object has the key, and else `NoSpace` where no
-    /// gap is long enough; then no item is taken. `OutOfRange` where fewer items come. What the segment holds does not change.
+    /// `OutOfRange` where `count` is 0 or above 1048576, else `ReadOnly` where the segment is open for reading, else `Exists` where
+    /// an object has the key, and else `NoSpace` where no gap is long enough; then no item is taken. `OutOfRange` where fewer items
+    /// come. What the segment holds does not change.
     pub fn construct_it<T: Scalar, I: Iterator<Item = T>, D: Destination>(
         &mut self,
         key: &D,
@@ -37,17 +47,20 @@ impl Segment {
         items: &mut I,
     ) -> Result<Handle, Refusal>
         requires kind { D.suits key.now (ScalarOf T.kind) }
-        requires some { 1 ≤ count }
-        requires few { count ≤ 1048576 }
         requires ready { I.can_next items.old }
-        ensures { TakesItems I.next_gives T.whole self.old self.new (D.key key.now (ScalarOf T.kind)) T.kind count items.old items.new result }
+        ensures count { RefusesCount count self.old self.new result }
+        ensures untaken { is_count count ≡ false → items.new ≡ items.old }
+        ensures items { is_count count ≡ true → TakesItems I.next_gives T.whole self.old self.new (D.key key.now (ScalarOf T.kind)) T.kind count items.old items.new result }
     {
+        if count == 0 || count > MOST {
+            return Err(Refusal::OutOfRange);
+        }
         let key = key.key_for(Kind::Scalar(T::kind()));
         self.construct_items(&key, count, items)
     }
 
     /// The same under a key that suits them.
-    fn construct_items<T: Scalar, I: Iterator<Item = T>>(
+    pub(crate) fn construct_items<T: Scalar, I: Iterator<Item = T>>(
         &mut self,
         key: &NewKey,
         count: u32,
@@ -68,6 +81,16 @@ impl Segment {
     }
 
     /// The same of values of a kind.
+    ///
+    /// Example: `segment.construct_values(&name, ScalarKind::I64, 5, &mut values)?`.
+    ///
+    /// # Conditions
+    ///
+    /// `count` is from 1 to 1048576, and each item is of the kind. `construct_it` takes items of a type and has no such
+    /// condition.
+    ///
+    /// The key suits the kind: a key that says a kind says this one; a name, `UniqueInstance` and `AnonymousInstance`
+    /// suit each.
     ///
     /// # Errors
     ///

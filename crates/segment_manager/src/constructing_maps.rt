@@ -13,6 +13,13 @@ use seg_types::{Handle, Refusal, Scalar, ScalarKind};
 impl Segment {
     /// Makes a map without pairs, and answers its handle. A key that is a kind is that of such maps.
     ///
+    /// Example: `segment.construct_map::<i32, i64, _>(&name)?`.
+    ///
+    /// # Conditions
+    ///
+    /// The key suits the kind: a key that says a kind says this one; a name, `UniqueInstance` and `AnonymousInstance`
+    /// suit each.
+    ///
     /// # Errors
     ///
     /// `ReadOnly` where the segment is open for reading, else `Exists` where an object has the key: nothing changes. Else `NoSpace`
@@ -29,6 +36,13 @@ impl Segment {
     }
 
     /// The same of two kinds.
+    ///
+    /// Example: `segment.construct_map_of(&name, ScalarKind::I32, ScalarKind::I64)?`.
+    ///
+    /// # Conditions
+    ///
+    /// The key suits the kind: a key that says a kind says this one; a name, `UniqueInstance` and `AnonymousInstance`
+    /// suit each.
     ///
     /// # Errors
     ///
@@ -49,6 +63,13 @@ impl Segment {
     /// The handle of the map of a key, with 1 for its count. Where no object has the key a map without pairs is made. One that is
     /// found stays as it is. A key that is a kind is that of such maps.
     ///
+    /// Example: `segment.find_or_construct_map::<i32, i64, _>(&name)?`.
+    ///
+    /// # Conditions
+    ///
+    /// The key suits the kind: a key that says a kind says this one; a name, `UniqueInstance` and `AnonymousInstance`
+    /// suit each.
+    ///
     /// # Errors
     ///
     /// `ReadOnly` where the segment is open for reading, else `WrongKind` where the object is of another kind: nothing changes. Else
@@ -66,6 +87,13 @@ impl Segment {
     }
 
     /// The same of two kinds.
+    ///
+    /// Example: `segment.find_or_construct_map_of(&name, ScalarKind::I32, ScalarKind::I64)?`.
+    ///
+    /// # Conditions
+    ///
+    /// The key suits the kind: a key that says a kind says this one; a name, `UniqueInstance` and `AnonymousInstance`
+    /// suit each.
     ///
     /// # Errors
     ///

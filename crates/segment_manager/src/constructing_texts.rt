@@ -15,6 +15,13 @@ impl Segment {
     /// Makes a vector of texts with just so many places, each text in a block of its own, and answers its handle. A key that is a
     /// kind is that of such vectors.
     ///
+    /// Example: `segment.construct_texts(&name, &[b"apples", b"pears"])?`.
+    ///
+    /// # Conditions
+    ///
+    /// The key suits the kind: a key that says a kind says this one; a name, `UniqueInstance` and `AnonymousInstance`
+    /// suit each.
+    ///
     /// # Errors
     ///
     /// `ReadOnly` where the segment is open for reading, else `Exists` where an object has the key: nothing changes. Else `NoSpace`
@@ -33,6 +40,13 @@ impl Segment {
 
     /// The handle of the vector of strings of a key, with 1 for its count. Where no object has the key a vector of the texts is
     /// made. One that is found stays as it is. A key that is a kind is that of such vectors.
+    ///
+    /// Example: `segment.find_or_construct_texts(&name, &[])?`.
+    ///
+    /// # Conditions
+    ///
+    /// The key suits the kind: a key that says a kind says this one; a name, `UniqueInstance` and `AnonymousInstance`
+    /// suit each.
     ///
     /// # Errors
     ///

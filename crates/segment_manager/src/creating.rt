@@ -22,6 +22,12 @@ impl Segment {
     /// A segment with nothing in it: the `size` bytes of the region from `base` on, which is a multiple of 16. All of these
     /// bytes become 0 but for the header, the tags and the two null links of its gap; no other byte of the region changes.
     ///
+    /// Example: `let segment = Segment::create(RawRegion::new(alloc, 1024)?, 0, 1024, Mode::Write)?`.
+    ///
+    /// # Conditions
+    ///
+    /// `base` is a multiple of 16.
+    ///
     /// # Errors
     ///
     /// `BadSize` where the size is neither 144 nor a multiple of 16 from 176 to 1073741824, and else `RegionTooSmall` where the

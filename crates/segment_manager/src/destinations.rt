@@ -17,6 +17,10 @@ pub struct UniqueInstance;
 pub struct AnonymousInstance;
 
 /// Under which key an object is made.
+///
+/// # Conditions
+///
+/// A name, `UniqueInstance` and `AnonymousInstance` have none. A key that says a kind says that of the object.
 pub trait Destination {
     // The key that an object of a kind gets.
     ghost key: { Self → AnyKind → AnyKey };

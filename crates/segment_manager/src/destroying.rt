@@ -32,6 +32,8 @@ pub(crate) struct Listed {
 impl Segment {
     /// Destroys the object of a key, if there is one, and gives back all its blocks. Answers whether there was one.
     ///
+    /// Example: `let there = segment.destroy(&IndexKey::Name(name))?`.
+    ///
     /// # Errors
     ///
     /// `ReadOnly` where the segment is open for reading. Nothing changes.
@@ -69,6 +71,8 @@ impl Segment {
     }
 
     /// Destroys the object of a handle, whatever its class, and gives back its entry and all its blocks.
+    ///
+    /// Example: `segment.destroy_ptr(handle)?`.
     ///
     /// # Errors
     ///

@@ -18,6 +18,8 @@ impl Segment {
     /// The handle of the object of a key, and how many elements it has (1 where it is a container), or nothing where no
     /// object has the key.
     ///
+    /// Example: `let found = segment.find_kind(&Key::Name(name), Kind::Text)?`.
+    ///
     /// # Errors
     ///
     /// `WrongKind` where the object is of another kind.
@@ -37,6 +39,8 @@ impl Segment {
     /// The handle of the scalars of a key, one or an array of a type, and how many they are, or nothing where no object
     /// has the key.
     ///
+    /// Example: `if let Some((handle, count)) = segment.find::<i64>(&Key::Name(name))?`.
+    ///
     /// # Errors
     ///
     /// `WrongKind` where the object is of another kind.
@@ -47,6 +51,8 @@ impl Segment {
     }
 
     /// The number of objects with names.
+    ///
+    /// Example: `let count = segment.num_named()`.
     pub fn num_named(&self) -> u64
         ensures { IsReply self.now NumNamed (Number result) }
     {
@@ -54,6 +60,8 @@ impl Segment {
     }
 
     /// The number of kinds with a unique object.
+    ///
+    /// Example: `let count = segment.num_unique()`.
     pub fn num_unique(&self) -> u64
         ensures { IsReply self.now NumUnique (Number result) }
     {
@@ -62,6 +70,12 @@ impl Segment {
 
     /// The handle of the object with a name that has `i` others before it, in the order of the bytes of their names. There
     /// are more than `i` of them.
+    ///
+    /// Example: `let handle = segment.named_at(0)`.
+    ///
+    /// # Conditions
+    ///
+    /// `i` is below `num_named`. `named_instances` goes over all of them without a condition.
     pub fn named_at(&self, i: u64) -> Handle
         requires { IsBelow self.now (λ d. length (named_objects d)) i }
         ensures { Answers self.now (λ d. slice_get (handles (named_objects d)) i) (Some result) }
@@ -71,6 +85,12 @@ impl Segment {
 
     /// The handle of the unique object that has `i` others before it, in the order of the codes of their kinds. There are
     /// more than `i` of them.
+    ///
+    /// Example: `let handle = segment.unique_at(0)`.
+    ///
+    /// # Conditions
+    ///
+    /// `i` is below `num_unique`. `unique_instances` goes over all of them without a condition.
     pub fn unique_at(&self, i: u64) -> Handle
         requires { IsBelow self.now (λ d. length (unique_objects d)) i }
         ensures { Answers self.now (λ d. slice_get (handles (unique_objects d)) i) (Some result) }

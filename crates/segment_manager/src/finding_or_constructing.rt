@@ -30,6 +30,15 @@ impl Segment {
     /// value, from 1 to 1048576. An object that is found stays as it is, however many scalars it has. A key that is a kind is the
     /// value's.
     ///
+    /// Example: `let (handle, count) = segment.find_or_construct(&name, 1, 640i64)?`.
+    ///
+    /// # Conditions
+    ///
+    /// `count` is from 1 to 1048576. `find_or_construct_array` has no such condition, and refuses another count.
+    ///
+    /// The key suits the kind: a key that says a kind says this one; a name, `UniqueInstance` and `AnonymousInstance`
+    /// suit each.
+    ///
     /// # Errors
     ///
     /// `ReadOnly` where the segment is open for reading, else `WrongKind` where the object is of another kind: nothing changes. Else
@@ -51,6 +60,15 @@ impl Segment {
     }
 
     /// The same for a value of a kind.
+    ///
+    /// Example: `segment.find_or_construct_value(&name, 1, ScalarValue::I64(640))?`.
+    ///
+    /// # Conditions
+    ///
+    /// `count` is from 1 to 1048576. `find_or_construct_array` has no such condition, and refuses another count.
+    ///
+    /// The key suits the kind: a key that says a kind says this one; a name, `UniqueInstance` and `AnonymousInstance`
+    /// suit each.
     ///
     /// # Errors
     ///
@@ -164,7 +182,7 @@ fn find_or_construct_entered<F: Filling>(
 
 /// A handle with the count of its object.
 #[inline(always)]
-fn counted(made: Result<Handle, Refusal>, count: u32) -> Result<(Handle, u32), Refusal>
+pub(crate) fn counted(made: Result<Handle, Refusal>, count: u32) -> Result<(Handle, u32), Refusal>
     ensures { result ≡ with_count count made }
 {
     match made {

@@ -18,6 +18,8 @@ use seg_types::{Class, Handle, Key, Kind, Refusal};
 
 impl Segment {
     /// Whether an object of the segment has the handle. It is looked for among all blocks, from the nearest way-point on.
+    ///
+    /// Example: `if segment.belongs(handle)`.
     pub fn belongs(&self, handle: Handle) -> bool
         ensures { Answers self.now (λ d. is_object_at d handle) result }
     {
@@ -25,6 +27,8 @@ impl Segment {
     }
 
     /// How many elements the object of a handle has: as many as it was made with, and 1 where it is a container.
+    ///
+    /// Example: `let count = segment.length_of(handle)?`.
     ///
     /// # Errors
     ///
@@ -36,6 +40,8 @@ impl Segment {
     }
 
     /// The kind of the object of a key.
+    ///
+    /// Example: `let kind = segment.kind_of(&key)?`.
     ///
     /// # Errors
     ///
@@ -50,6 +56,8 @@ impl Segment {
     }
 
     /// The name of the object of a key, or nothing where it has none: only objects that are found by name have one.
+    ///
+    /// Example: `if let Some(bytes) = segment.instance_name(&key)?`.
     ///
     /// # Errors
     ///
@@ -66,6 +74,8 @@ impl Segment {
 
     /// How many elements the object of a key has: as many as it was made with, and 1 where it is a container.
     ///
+    /// Example: `let count = segment.instance_length(&key)?`.
+    ///
     /// # Errors
     ///
     /// `NotFound` where no object has the key.
@@ -79,6 +89,8 @@ impl Segment {
     }
 
     /// How the object of a key is found again.
+    ///
+    /// Example: `let class = segment.instance_class(&key)?`.
     ///
     /// # Errors
     ///

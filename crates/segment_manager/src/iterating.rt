@@ -55,6 +55,8 @@ impl<'a> Iterator for Instances<'a> {
 
 impl Segment {
     /// The objects with names, in the order of the bytes of their names.
+    ///
+    /// Example: `for said in segment.named_instances()`.
     pub fn named_instances(&self) -> Instances<'_>
         ensures { result ≡ record { segment = self.now; index = Named; at = 0 } }
     {
@@ -66,6 +68,8 @@ impl Segment {
     }
 
     /// The unique objects, in the order of the codes of their kinds.
+    ///
+    /// Example: `for said in segment.unique_instances()`.
     pub fn unique_instances(&self) -> Instances<'_>
         ensures { result ≡ record { segment = self.now; index = Unique; at = 0 } }
     {

@@ -1,15 +1,39 @@
 //! How many elements containers of one kind have.
 ghost use Rattle.seg_types.specs.declared.kinds.Kind.TheVariants.{Map as MapOf, Texts as TextsKind, Vector as VectorOf};
-ghost use Rattle.segment_manager.specs.Contents.{length_at_kind};
+ghost use Rattle.segment_manager.specs.ElementLists.{array_length_at, length_at_kind};
 ghost use Rattle.segment_manager.specs.State.{Answers};
 
 use crate::segment::Segment;
 use crate::targets::Target;
-use seg_types::{Refusal, Scalar};
+use seg_types::{Kind, Refusal, Scalar};
 use seg_vector::{SegTexts, SegVec};
 
 impl Segment {
+    /// How many elements the array of a key has, one scalar or an array of a type.
+    ///
+    /// Example: `let count = segment.array_len::<u8, _>(&name)?`.
+    ///
+    /// # Errors
+    ///
+    /// `NotFound` where no object has the key, `WrongKind` where it is of another kind.
+    pub fn array_len<T: Scalar, O: Target>(&self, key: &O) -> Result<u64, Refusal>
+        requires { O.stands key.now self.now }
+        ensures { Answers self.now (λ d. array_length_at d (O.key key.now) T.kind) result }
+    {
+        match self.locate(key) {
+            Err(why) => Err(why),
+            Ok(object) => {
+                if Kind::Scalar(T::kind()).code() != object.kind.code() {
+                    return Err(Refusal::WrongKind);
+                }
+                Ok(u64::from(object.count))
+            }
+        }
+    }
+
     /// How many elements the vector of a key has, a vector of the type.
+    ///
+    /// Example: `let count = segment.vec_len::<i64, _>(&name)?`.
     ///
     /// # Errors
     ///
@@ -26,6 +50,8 @@ impl Segment {
 
     /// How many texts the vector of strings of a key has.
     ///
+    /// Example: `let count = segment.texts_len(&name)?`.
+    ///
     /// # Errors
     ///
     /// `NotFound` where no object has the key, `WrongKind` where it is of another kind.
@@ -40,6 +66,8 @@ impl Segment {
     }
 
     /// How many pairs the map of a key has, a map of the types.
+    ///
+    /// Example: `let count = segment.map_len::<i32, i64, _>(&name)?`.
     ///
     /// # Errors
     ///

@@ -2,6 +2,14 @@
 //!
 //! What a segment holds is a directory, a finite map from handles to objects with their values and blocks. Each call
 //! is one step of the directory machine: from the directory that the bytes denote to the one that they denote then.
+//!
+//! Most calls have no condition: whatever the segment holds, they answer or refuse. Those that have one say so under
+//! `# Conditions`, and how a caller meets it. There are four sorts:
+//! - a number is in range: the count of `construct` and `find_or_construct`, the base of `create` and `relocate`;
+//! - a key suits the kind of what is made ([`Destination`]), or an object that was located is still there ([`Target`]);
+//! - what the segment holds is known: `named_at`, `unique_at`, `named_instance`, `unique_instance`, `first_pair`, `next_pair`,
+//!   `set_any`, `next_tile`. No program needs these: each names the call that does the same without a condition;
+//! - the segment is in a state that another crate tests: `adopt`, `extend_end`, `cut_end`.
 #![tactic(auto)]
 
 mod accessing;
@@ -23,6 +31,7 @@ mod errors;
 mod fillings;
 mod finding;
 mod finding_or_constructing;
+mod finding_or_taking;
 mod head;
 mod instances;
 mod iterating;

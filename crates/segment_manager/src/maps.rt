@@ -17,6 +17,8 @@ use seg_vector::Place;
 impl Segment {
     /// The value of a key of the map of a key, a map of the types.
     ///
+    /// Example: `let price: Option<i64> = segment.map_get(&name, 2i32)?`.
+    ///
     /// # Errors
     ///
     /// `NotFound` where no object has the key, `WrongKind` where it is of another kind.
@@ -36,6 +38,8 @@ impl Segment {
     }
 
     /// The pair with the least key that is not below `from`, of the map of a key, a map of the types.
+    ///
+    /// Example: `let first: Option<(i32, i64)> = segment.map_first_from(&name, 2)?`.
     ///
     /// # Errors
     ///
@@ -60,6 +64,8 @@ impl Segment {
 
     /// The pair with the least key above `after`, of the map of a key, a map of the types.
     ///
+    /// Example: `let next: Option<(i32, i64)> = segment.map_next_after(&name, 2)?`.
+    ///
     /// # Errors
     ///
     /// `NotFound` where no object has the key, `WrongKind` where it is of another kind.
@@ -83,6 +89,8 @@ impl Segment {
 
     /// Puts the value of a key into the map of a key, a map of the types, and answers whether the key is new. All other pairs
     /// keep their blocks, and so does this one where the key is not new.
+    ///
+    /// Example: `let is_new = segment.map_put(&name, 2i32, 1999i64)?`.
     ///
     /// # Errors
     ///
@@ -120,6 +128,8 @@ impl Segment {
 
     /// Erases a key from the map of a key, a map of the types, and answers whether it was there. Its block is given back; all
     /// other pairs keep theirs.
+    ///
+    /// Example: `let was_there = segment.map_erase::<i32, i64, _>(&name, 2)?`.
     ///
     /// # Errors
     ///

@@ -12,6 +12,12 @@ impl Segment {
     /// those from before, and handles are too. The region that it leaves comes with it, as it was. No byte of the new region
     /// outside the segment changes.
     ///
+    /// Example: `let (moved, left) = segment.relocate(RawRegion::new(alloc, 4096)?, 512)?`.
+    ///
+    /// # Conditions
+    ///
+    /// `base` is a multiple of 16.
+    ///
     /// # Errors
     ///
     /// `RelocateRefused` where the region ends before base plus the segment's size. The segment and the region come back as

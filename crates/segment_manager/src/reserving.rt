@@ -15,6 +15,8 @@ impl Segment {
     /// Gives the index of names places for `n` objects, where it has less: in a new block of exactly so many, and the old one is
     /// given back.
     ///
+    /// Example: `segment.reserve_named(1000)?`.
+    ///
     /// # Errors
     ///
     /// `ReadOnly` where the segment is open for reading: nothing changes. Else `NoSpace` where no gap is long enough: what the segment
@@ -28,6 +30,8 @@ impl Segment {
     }
 
     /// The same for the index of kinds.
+    ///
+    /// Example: `segment.reserve_unique(8)?`.
     ///
     /// # Errors
     ///
@@ -58,6 +62,8 @@ impl Segment {
 
     /// Makes the capacity of each index the number of its entries, that of names first. An index without entries gives its
     /// block back, and else the block is shortened where it stands.
+    ///
+    /// Example: `segment.shrink_indexes()?`.
     ///
     /// # Errors
     ///

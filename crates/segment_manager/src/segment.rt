@@ -34,6 +34,13 @@ impl Model for Segment {
 
 impl Segment {
     /// The segment that the bytes of a window already are. No byte changes.
+    ///
+    /// Example: `let segment = Segment::adopt(window, Mode::Write)`.
+    ///
+    /// # Conditions
+    ///
+    /// The bytes are a segment's, as those are of a window that a segment gave up. `image_check` opens bytes that
+    /// nobody vouches for, without a condition.
     pub fn adopt(window: Window, mode: Mode) -> Segment
         requires { IsSegment window.bytes }
         ensures cut { result.cut ≡ window }
@@ -46,6 +53,8 @@ impl Segment {
     }
 
     /// How the segment is open.
+    ///
+    /// Example: `if segment.mode() == Mode::Write`.
     pub fn mode(&self) -> Mode
         ensures { result ≡ self.now.mode }
     {
@@ -53,6 +62,8 @@ impl Segment {
     }
 
     /// All bytes of the segment, which are its image.
+    ///
+    /// Example: `let image = segment.as_bytes()`.
     pub fn as_bytes(&self) -> &[u8]
         ensures bytes { result.now ≡ self.now.cut.bytes }
         ensures denotes { IsSegment result.now }
@@ -61,6 +72,8 @@ impl Segment {
     }
 
     /// The number of bytes in the segment.
+    ///
+    /// Example: `let bytes = segment.size()`.
     pub fn size(&self) -> u64
         ensures { IsReply self.now Size (Number result) }
     {
@@ -68,6 +81,8 @@ impl Segment {
     }
 
     /// The bytes of all gaps, their tags included.
+    ///
+    /// Example: `let bytes = segment.free()`.
     pub fn free(&self) -> u64
         ensures { IsReply self.now Free (Number result) }
     {
@@ -75,6 +90,8 @@ impl Segment {
     }
 
     /// The number of bytes of the region behind the segment.
+    ///
+    /// Example: `let bytes = segment.region_left()`.
     pub fn region_left(&self) -> u64
         ensures { result ≡ length (whole self.now.cut) - (length self.now.cut.before + length self.now.cut.bytes) }
     {

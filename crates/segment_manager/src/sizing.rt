@@ -12,6 +12,13 @@ use raw_region::Steps;
 impl Segment {
     /// Lengthens the segment by `extra` bytes of its region: a multiple of 16, at least 32. They are a gap, or part of the
     /// gap that stood at the end. Every object keeps its handle and its value.
+    ///
+    /// Example: `segment.extend_end(1024)`.
+    ///
+    /// # Conditions
+    ///
+    /// The segment is open for changes, `extra` is a multiple of 16 from 32 on, the segment has at most 1073741824
+    /// bytes then, and its region has room for them. `grow_shrink::grow` tests all this and refuses.
     pub fn extend_end(&mut self, extra: u64)
         requires writing { is_read_only self.old.mode ≡ false }
         requires long { 32 ≤ extra }
@@ -27,6 +34,12 @@ impl Segment {
 
     /// Shortens the segment by the gap at its end, where there is one, so that it ends behind the last block. One without
     /// blocks has 144 bytes then. Every object keeps its handle and its value.
+    ///
+    /// Example: `segment.cut_end()`.
+    ///
+    /// # Conditions
+    ///
+    /// The segment is open for changes. `grow_shrink::shrink_to_fit` tests this and refuses.
     pub fn cut_end(&mut self)
         requires writing { is_read_only self.old.mode ≡ false }
         ensures { Resizes self.old self.new (λ d. shrunk d) }

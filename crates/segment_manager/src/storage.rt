@@ -20,6 +20,8 @@ const PAIRS: u64 = 8;
 impl Segment {
     /// How many elements the vector or string of a key has, and how many places; or how many pairs its map has, and 0.
     ///
+    /// Example: `let (count, places) = segment.measure(&name)?`.
+    ///
     /// # Errors
     ///
     /// `NotFound` where no object has the key, `WrongKind` where it is no container.
@@ -85,6 +87,8 @@ impl Segment {
 
     /// Gives the vector or string of a key places for `n` elements, where it has fewer.
     ///
+    /// Example: `segment.reserve(&name, 1000)?`.
+    ///
     /// # Errors
     ///
     /// `ReadOnly` where the segment is open for reading, and else `NotFound` where no object has the key, `WrongKind` where it
@@ -145,6 +149,8 @@ impl Segment {
 
     /// Gives back the places of the vector or string of a key that have no element.
     ///
+    /// Example: `segment.shrink(&name)?`.
+    ///
     /// # Errors
     ///
     /// `ReadOnly` where the segment is open for reading, and else `NotFound` where no object has the key, `WrongKind` where it
@@ -199,6 +205,8 @@ impl Segment {
     }
 
     /// Takes all elements out of the vector or string of a key. The places stay.
+    ///
+    /// Example: `segment.clear(&name)?`.
     ///
     /// # Errors
     ///

@@ -23,6 +23,11 @@ pub struct Object {
 }
 
 /// What says which object a call means. A key is looked up at each call; an object that was located is not.
+///
+/// # Conditions
+///
+/// A key and a name have none. An object is one that was located in the segment and is still there: no call on elements takes
+/// it away, `destroy` and `destroy_ptr` do. The views of `segment_views` keep it for their caller.
 pub trait Target {
     // The key by which commands name the object.
     ghost key: { Self → AnyKey };
@@ -71,6 +76,8 @@ impl Target for Object {
 
 impl Segment {
     /// The object of a key as it stands in the segment. Calls that take it look nothing up.
+    ///
+    /// Example: `let object = segment.locate(&name)?`.
     ///
     /// # Errors
     ///

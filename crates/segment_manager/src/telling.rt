@@ -36,6 +36,8 @@ pub struct Instance<'a> {
 impl Segment {
     /// What the object of a key says of itself.
     ///
+    /// Example: `let said = segment.instance(&name)?`.
+    ///
     /// # Errors
     ///
     /// `NotFound` where no object has the key.
@@ -51,6 +53,12 @@ impl Segment {
 
     /// What the object says of itself whose name has `i` others before it, in the order of their bytes. There are more than
     /// `i` of them.
+    ///
+    /// Example: `let said = segment.named_instance(0)`.
+    ///
+    /// # Conditions
+    ///
+    /// `i` is below `num_named`. `named_instances` goes over all of them without a condition.
     pub fn named_instance(&self, i: u64) -> Instance<'_>
         requires { IsBelow self.now (λ d. length (named_objects d)) i }
         ensures { SaysAt self.now named_objects i result }
@@ -60,6 +68,12 @@ impl Segment {
 
     /// What the unique object says of itself whose kind has `i` others before it, in the order of their codes. There are more
     /// than `i` of them.
+    ///
+    /// Example: `let said = segment.unique_instance(0)`.
+    ///
+    /// # Conditions
+    ///
+    /// `i` is below `num_unique`. `unique_instances` goes over all of them without a condition.
     pub fn unique_instance(&self, i: u64) -> Instance<'_>
         requires { IsBelow self.now (λ d. length (unique_objects d)) i }
         ensures { SaysAt self.now unique_objects i result }

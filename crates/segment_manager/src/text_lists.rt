@@ -16,6 +16,8 @@ use seg_vector::SegTexts;
 impl Segment {
     /// The bytes of the text at `index` in the vector of strings of a key, lent.
     ///
+    /// Example: `let text = segment.texts_get(&name, 0)?`.
+    ///
     /// # Errors
     ///
     /// `NotFound` where no object has the key, `WrongKind` where it is of another kind, `OutOfRange` where it has no text there.
@@ -30,6 +32,8 @@ impl Segment {
     }
 
     /// Makes bytes the text at `index` in the vector of strings of a key. Its block is asked for while the old text has its own.
+    ///
+    /// Example: `segment.texts_set(&name, 0, b"plums")?`.
     ///
     /// # Errors
     ///
@@ -48,6 +52,8 @@ impl Segment {
 
     /// Puts bytes behind the last text of the vector of strings of a key. A full vector gets twice its places first, and at
     /// least 4.
+    ///
+    /// Example: `segment.texts_push(&name, b"plums")?`.
     ///
     /// # Errors
     ///
@@ -68,6 +74,8 @@ impl Segment {
     /// Makes texts those of the vector of strings of a key. One or more get a new array of just so many places and then their
     /// blocks, while the old ones are in use; none leave the array that there is.
     ///
+    /// Example: `segment.texts_assign(&name, &[b"apples", b"pears"])?`.
+    ///
     /// # Errors
     ///
     /// `ReadOnly` where the segment is open for reading, and else `NotFound` where no object has the key, `WrongKind` where it
@@ -87,6 +95,8 @@ impl Segment {
 
     /// Takes the last text out of the vector of strings of a key, and gives back its block. The places stay.
     ///
+    /// Example: `segment.texts_pop(&name)?`.
+    ///
     /// # Errors
     ///
     /// `ReadOnly` where the segment is open for reading, and else `NotFound` where no object has the key, `WrongKind` where it
@@ -104,6 +114,8 @@ impl Segment {
 
     /// Puts bytes where `index` other texts stand before them in the vector of strings of a key. Those from there on move up. A
     /// full vector gets twice its places first, and at least 4.
+    ///
+    /// Example: `segment.texts_insert(&name, 0, b"plums")?`.
     ///
     /// # Errors
     ///
@@ -128,6 +140,8 @@ impl Segment {
 
     /// Leaves out the text at `index` in the vector of strings of a key, and gives back its block. Those behind it move down, and
     /// the places stay.
+    ///
+    /// Example: `segment.texts_erase(&name, 0)?`.
     ///
     /// # Errors
     ///

@@ -14,6 +14,8 @@ use seg_vector::SegString;
 impl Segment {
     /// The bytes of the string of a key.
     ///
+    /// Example: `let bytes = segment.string_bytes(&name)?`.
+    ///
     /// # Errors
     ///
     /// `NotFound` where no object has the key, `WrongKind` where it is no string.
@@ -29,6 +31,8 @@ impl Segment {
     }
 
     /// Makes a byte the one at `index` in the string of a key.
+    ///
+    /// Example: `segment.string_set(&name, 0, b'R')?`.
     ///
     /// # Errors
     ///
@@ -48,6 +52,8 @@ impl Segment {
     /// Puts bytes behind those of the string of a key. Where they do not fit, it gets twice its places first, at least 16, and
     /// as many as are needed.
     ///
+    /// Example: `segment.string_append(&name, b"-black")?`.
+    ///
     /// # Errors
     ///
     /// `ReadOnly` where the segment is open for reading, and else `NotFound` where no object has the key, `WrongKind` where it
@@ -64,6 +70,8 @@ impl Segment {
     }
 
     /// Makes bytes those of the string of a key. Where they do not fit, it gets as many places as are needed.
+    ///
+    /// Example: `segment.string_assign(&name, b"splay")?`.
     ///
     /// # Errors
     ///

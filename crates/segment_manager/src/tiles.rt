@@ -54,6 +54,8 @@ impl Span {
 
 impl Segment {
     /// The first block or gap, or nothing where there is none, as in a segment of 144 bytes.
+    ///
+    /// Example: `let first = segment.first_tile()`.
     pub fn first_tile(&self) -> Option<Tile>
         ensures { IsTileOfIndex self.now 0 result }
     {
@@ -62,6 +64,13 @@ impl Segment {
 
     /// The block or gap behind one of the segment's, or nothing where that is the last. A walk over all of them takes one
     /// step for each.
+    ///
+    /// Example: `let next = segment.next_tile(tile)`.
+    ///
+    /// # Conditions
+    ///
+    /// The block or gap is one of the segment's: `first_tile` or this call answered it, and nothing changed since.
+    /// `tiles` goes over all of them without a condition.
     pub fn next_tile(&self, tile: Tile) -> Option<Tile>
         requires { IsTileOf self.now.cut.bytes tile }
         ensures { (i : ℕ) → slice_get (tiles_of (bytes_of self.now.cut.bytes) (length self.now.cut.bytes)) i ≡ Some tile
@@ -72,6 +81,8 @@ impl Segment {
 
     /// The block or gap with `index` others before it, or nothing where there are no more. It is looked for from the first
     /// one on.
+    ///
+    /// Example: `let span = segment.tile(0)`.
     pub fn tile(&self, index: u64) -> Option<Span>
         ensures { Answers self.now (λ d. slice_get (spans (live d)) index) (option_map as_span result) }
     {
@@ -80,6 +91,8 @@ impl Segment {
     }
 
     /// Whether the segment is whole, as each segment is.
+    ///
+    /// Example: `if segment.sanity()`.
     pub fn sanity(&self) -> bool
         ensures { IsReply self.now Sanity (Truth result) }
     {
@@ -87,6 +100,8 @@ impl Segment {
     }
 
     /// Whether no block is in use, index blocks included.
+    ///
+    /// Example: `if segment.all_deallocated()`.
     pub fn all_deallocated(&self) -> bool
         ensures { IsReply self.now AllDeallocated (Truth result) }
     {
@@ -94,6 +109,8 @@ impl Segment {
     }
 
     /// Makes the free bytes 0 that are no part of a tag.
+    ///
+    /// Example: `segment.zero_free()?`.
     ///
     /// # Errors
     ///

@@ -14,6 +14,8 @@ use seg_vector::SegVec;
 impl Segment {
     /// The element at `index` in the vector of a key, a vector of the type.
     ///
+    /// Example: `let number: i64 = segment.vec_get(&name, 0)?`.
+    ///
     /// # Errors
     ///
     /// `NotFound` where no object has the key, `WrongKind` where it is of another kind, `OutOfRange` where it has no element
@@ -29,6 +31,8 @@ impl Segment {
     }
 
     /// Makes a value the element at `index` in the vector of a key, a vector of the type.
+    ///
+    /// Example: `segment.vec_set(&name, 1, 5i64)?`.
     ///
     /// # Errors
     ///
@@ -54,6 +58,8 @@ impl Segment {
     /// Puts a value behind the last element of the vector of a key, a vector of the type. A full vector gets twice its places
     /// first, and at least 4.
     ///
+    /// Example: `segment.vec_push(&name, 4i64)?`.
+    ///
     /// # Errors
     ///
     /// `ReadOnly` where the segment is open for reading, and else `NotFound` where no object has the key, `WrongKind` where it
@@ -73,6 +79,8 @@ impl Segment {
     /// Makes values the elements of the vector of a key, a vector of the type. Where they do not fit, it gets as many places as
     /// are needed.
     ///
+    /// Example: `segment.vec_assign(&name, &[6i64, 7])?`.
+    ///
     /// # Errors
     ///
     /// `ReadOnly` where the segment is open for reading, and else `NotFound` where no object has the key, `WrongKind` where it
@@ -91,6 +99,8 @@ impl Segment {
 
     /// Takes the last element out of the vector of a key, a vector of the type. The places stay.
     ///
+    /// Example: `let last: i64 = segment.vec_pop(&name)?`.
+    ///
     /// # Errors
     ///
     /// `ReadOnly` where the segment is open for reading, and else `NotFound` where no object has the key, `WrongKind` where it
@@ -108,6 +118,8 @@ impl Segment {
 
     /// Puts a value where `index` others stand before it in the vector of a key, a vector of the type. Those from there on move
     /// up. A full vector gets twice its places first, and at least 4.
+    ///
+    /// Example: `segment.vec_insert(&name, 0, 3i64)?`.
     ///
     /// # Errors
     ///
@@ -133,6 +145,8 @@ impl Segment {
 
     /// Leaves out the element at `index` in the vector of a key, a vector of the type. Those behind it move down, and the places
     /// stay.
+    ///
+    /// Example: `segment.vec_erase::<i64, _>(&name, 0)?`.
     ///
     /// # Errors
     ///

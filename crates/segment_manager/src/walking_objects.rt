@@ -64,11 +64,7 @@ fn next_own(tiles: &mut Tiles<'_>) -> Option<Span>
 impl Segment {
     /// All objects by their offsets, those without a key too.
     ///
-    /// ```
-    /// for said in segment.objects() {
-    ///     println!("{} {}", said.handle, said.count);
-    /// }
-    /// ```
+    /// Example: `for said in segment.objects()`.
     pub fn objects(&self) -> Objects<'_>
         ensures { result ≡ record { segment = self.now; at = 0 } }
     {

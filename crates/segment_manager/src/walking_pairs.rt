@@ -13,6 +13,13 @@ use seg_types::{Refusal, Scalar, ScalarKind, ScalarValue};
 
 impl Segment {
     /// The pair with the least key of the map of a key, a map of the two kinds, or `None` where the map is empty.
+    ///
+    /// Example: `let first = segment.first_pair(&key, ScalarKind::I32, ScalarKind::I64)`.
+    ///
+    /// # Conditions
+    ///
+    /// The object of the key is a map of these kinds, as `kind_of` or `locate` say. `map_first_from` takes types,
+    /// refuses every other object, and has no condition.
     pub fn first_pair<O: Target>(
         &self,
         key: &O,
@@ -31,6 +38,13 @@ impl Segment {
 
     /// The pair with the least key above `after` of the map of a key, a map with keys of the kind of `after` and values of a
     /// kind, or `None` where no key is above. So all pairs are read in rising order, each in a walk from the root of the tree.
+    ///
+    /// Example: `let next = segment.next_pair(&key, ScalarValue::I32(2), ScalarKind::I64)`.
+    ///
+    /// # Conditions
+    ///
+    /// The object of the key is a map of these kinds, as `kind_of` or `locate` say. `map_next_after` takes types,
+    /// refuses every other object, and has no condition.
     pub fn next_pair<O: Target>(
         &self,
         key: &O,

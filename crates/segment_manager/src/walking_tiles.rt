@@ -49,6 +49,8 @@ impl<'a> Iterator for Tiles<'a> {
 
 impl Segment {
     /// The blocks and gaps, one after another.
+    ///
+    /// Example: `for span in segment.tiles()`.
     pub fn tiles(&self) -> Tiles<'_>
         ensures { result ≡ record { segment = self.now; at = 0 } }
     {

@@ -1,1 +1,3 @@
 mod Here
+mod Reading
+mod Repeating

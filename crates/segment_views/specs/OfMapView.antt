@@ -1,8 +1,9 @@
 -- What contracts see of the view: the segment that it borrows, and the key of its object.
 use Rattle.std.specs.Prelude.{◌≡◌}
-use Rattle.std.specs.Borrow.{MutBor}
+use Rattle.std.specs.Borrow.{GName, MutBor}
 use Rattle.seg_types.specs.Names.{Key, ByHandle}
 use Rattle.segment_manager.specs.State.{State}
+use Rattle.segment_manager.specs.declared.targets.Object.{Object as Located}
 use Rattle.segment_views.specs.declared.maps.MapView.{MapView}
 
 -- the segment, as it is now
@@ -12,6 +13,14 @@ segment_of v = v.segment.now
 -- the key of the object
 abbrev pub key_of : {K : Type 0} {V : Type 0} → MapView K V → Key
 key_of v = ByHandle v.object.handle
+
+-- the object, as it was located
+abbrev pub object_of : {K : Type 0} {V : Type 0} → MapView K V → Located
+object_of v = v.object
+
+-- the name of what it borrows
+abbrev pub loan_of : {K : Type 0} {V : Type 0} → MapView K V → GName
+loan_of v = v.segment.ghost_name
 
 -- the view borrows this segment
 abbrev pub Borrows : {K : Type 0} {V : Type 0} → MapView K V → MutBor State → Type 0

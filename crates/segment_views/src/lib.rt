@@ -3,12 +3,15 @@
 #![tactic(auto)]
 
 mod arrays;
+mod elements;
 mod maps;
+mod opening;
 mod string_lists;
 mod strings;
 mod vectors;
 
 pub use arrays::ArrayView;
+pub use elements::{ArrayItems, TextItems, VectorItems};
 pub use maps::MapView;
 pub use string_lists::StringsView;
 pub use strings::StringView;

@@ -1,14 +1,19 @@
 //! A map of keys and values of two types in a segment that may be changed, looked up once.
-ghost use Rattle.std.specs.Prelude.{◌≡◌, OnErr};
+ghost use Rattle.std.specs.Prelude.{◌≡◌, OnErr, IfOk};
 ghost use Rattle.seg_types.specs.declared.kinds.Kind.TheVariants.{Map as MapOf};
 ghost use Rattle.seg_types.specs.Commands.{Lookup, Put, Remove, literal_of};
+ghost use Rattle.segment_manager.specs.ElementLists.{length_at_kind};
 ghost use Rattle.segment_manager.specs.Maps.{pair_above, pair_from, pair_result, told_of_map, value_answer};
 ghost use Rattle.segment_manager.specs.State.{Answers, IsReplyOfKind, IsStepOfKind, truth_answer};
 ghost use Rattle.seg_types.specs.Names.{ByHandle};
 ghost use Rattle.segment_manager.specs.Located.{IsObject};
+ghost use Rattle.segment_manager.specs.contracts.segment.Segment.{the_row};
+ghost use Rattle.segment_views.specs.Opened.{handle_of, opened_at};
+ghost use Rattle.std.specs.Borrow.{sem, RestsIfErr};
 
-use seg_types::{Refusal, Scalar};
-use segment_manager::{Object, Segment};
+use crate::opening::locate_of_kind;
+use seg_types::{Kind, Refusal, Scalar};
+use segment_manager::{Object, Segment, Target};
 use std::marker::PhantomData;
 
 /// A map of keys and values of two types in a segment that may be changed, looked up once. It borrows the segment, and
@@ -22,9 +27,33 @@ pub struct MapView<'a, K, V> {
 }
 
 impl<'a, K: Scalar, V: Scalar> MapView<'a, K, V> {
-    ghost use Rattle.segment_views.specs.OfMapView.{Borrows, IsSame, key_of, segment_of};
+    ghost use Rattle.segment_views.specs.OfMapView.{Borrows, IsSame, key_of, loan_of, object_of, segment_of};
+
+    /// The view of the object of a key, which is looked up once.
+    ///
+    /// Example: `let mut years = MapView::<i32, i64>::of(&mut segment, &name)?`.
+    ///
+    /// # Errors
+    ///
+    /// `NotFound` where no object has the key, `WrongKind` where it is no such map. Nothing changes.
+    pub fn of<O: Target>(segment: &'a mut Segment, key: &O) -> Result<MapView<'a, K, V>, Refusal>
+        requires { O.stands key.now segment.old }
+        ensures* rests { sem 𝓛 (RestsIfErr the_row segment.entry loan_of result (λ last. last ≡ segment.old)) }
+        ensures opens { Answers segment.old (λ d. opened_at d (O.key key.now) (MapOf K.kind V.kind)) (handle_of object_of result) }
+        ensures borrows { IfOk result (λ v. Borrows v segment.entry) }
+        ensures segment { IfOk result (λ v. segment_of v ≡ segment.old) }
+    {
+        match locate_of_kind(segment, key, Kind::Map(K::kind(), V::kind())) {
+            Err(why) => Err(why),
+            Ok(object) => Ok(MapView::new(segment, object)),
+        }
+    }
 
     /// The view of an object that was located.
+    ///
+    /// # Conditions
+    ///
+    /// The object was located in the segment and is still there. `of` has no such condition.
     pub fn new(segment: &'a mut Segment, object: Object) -> MapView<'a, K, V>
         requires { IsObject object segment.old }
         ensures loan { Borrows result segment.entry }
@@ -47,6 +76,19 @@ impl<'a, K: Scalar, V: Scalar> MapView<'a, K, V> {
         ensures { IsReplyOfKind (segment_of self.now) (key_of self.now) (MapOf K.kind V.kind) (Lookup (key_of self.now) (literal_of K.kind (K.whole key))) (value_answer V.kind V.whole result) }
     {
         self.segment.map_get::<K, V, Object>(&self.object, key)
+    }
+
+    /// How many pairs it has.
+    ///
+    /// Example: `let count = years.len()?`.
+    ///
+    /// # Errors
+    ///
+    /// `WrongKind` where the object is no such map.
+    pub fn len(&self) -> Result<u64, Refusal>
+        ensures { Answers (segment_of self.now) (λ d. length_at_kind d (key_of self.now) (MapOf K.kind V.kind)) result }
+    {
+        self.segment.map_len::<K, V, Object>(&self.object)
     }
 
     /// The pair with the least key that is not below `from`.

@@ -1,14 +1,21 @@
 //! A vector of strings in a segment that may be changed, looked up once.
-ghost use Rattle.std.specs.Prelude.{◌≡◌, OnErr};
+ghost use Rattle.std.specs.Prelude.{◌≡◌, OnErr, IfOk};
 ghost use Rattle.seg_types.specs.declared.kinds.Kind.TheVariants.{Texts as TextsKind};
-ghost use Rattle.seg_types.specs.Commands.{Erase, Get, Insert, Push, Quoted, Set};
+ghost use Rattle.seg_types.specs.Commands.{Erase, Get, Insert, Pop, Push, Quoted, Set};
 ghost use Rattle.segment_manager.specs.Answers.{TextElement};
-ghost use Rattle.segment_manager.specs.State.{IsReplyOfKind, IsStepOfKind, KeepsRefused, answer_of, done_answer};
+ghost use Rattle.segment_manager.specs.ElementLists.{length_at_kind};
+ghost use Rattle.segment_manager.specs.State.{Answers, IsReplyOfKind, IsStepOfKind, KeepsRefused, answer_of, done_answer, refusal_in};
+ghost use Rattle.segment_manager.specs.TextLists.{LeadsOnOfKind};
 ghost use Rattle.seg_types.specs.Names.{ByHandle};
 ghost use Rattle.segment_manager.specs.Located.{IsObject};
+ghost use Rattle.segment_manager.specs.contracts.segment.Segment.{the_row};
+ghost use Rattle.segment_views.specs.Opened.{handle_of, opened_at};
+ghost use Rattle.std.specs.Borrow.{sem, RestsIfErr};
 
-use seg_types::Refusal;
-use segment_manager::{Object, Segment};
+use crate::elements::TextItems;
+use crate::opening::locate_of_kind;
+use seg_types::{Kind, Refusal};
+use segment_manager::{Object, Segment, Target};
 
 /// A vector of strings in a segment that may be changed, looked up once. It borrows the segment, and the object is
 /// there as long as it does.
@@ -20,9 +27,33 @@ pub struct StringsView<'a> {
 }
 
 impl<'a> StringsView<'a> {
-    ghost use Rattle.segment_views.specs.OfStringsView.{Borrows, IsSame, key_of, segment_of};
+    ghost use Rattle.segment_views.specs.OfStringsView.{Borrows, IsSame, key_of, loan_of, object_of, segment_of};
+
+    /// The view of the object of a key, which is looked up once.
+    ///
+    /// Example: `let mut lines = StringsView::of(&mut segment, &name)?`.
+    ///
+    /// # Errors
+    ///
+    /// `NotFound` where no object has the key, `WrongKind` where it is no vector of strings. Nothing changes.
+    pub fn of<O: Target>(segment: &'a mut Segment, key: &O) -> Result<StringsView<'a>, Refusal>
+        requires { O.stands key.now segment.old }
+        ensures* rests { sem 𝓛 (RestsIfErr the_row segment.entry loan_of result (λ last. last ≡ segment.old)) }
+        ensures opens { Answers segment.old (λ d. opened_at d (O.key key.now) (TextsKind)) (handle_of object_of result) }
+        ensures borrows { IfOk result (λ v. Borrows v segment.entry) }
+        ensures segment { IfOk result (λ v. segment_of v ≡ segment.old) }
+    {
+        match locate_of_kind(segment, key, Kind::Texts) {
+            Err(why) => Err(why),
+            Ok(object) => Ok(StringsView::new(segment, object)),
+        }
+    }
 
     /// The view of an object that was located.
+    ///
+    /// # Conditions
+    ///
+    /// The object was located in the segment and is still there. `of` has no such condition.
     pub fn new(segment: &'a mut Segment, object: Object) -> StringsView<'a>
         requires { IsObject object segment.old }
         ensures loan { Borrows result segment.entry }
@@ -41,6 +72,28 @@ impl<'a> StringsView<'a> {
         ensures { IsReplyOfKind (segment_of self.now) (key_of self.now) TextsKind (Get (key_of self.now) index) (answer_of (λ text. TextElement text.now) result) }
     {
         self.segment.texts_get(&self.object, index)
+    }
+
+    /// How many strings it has.
+    ///
+    /// Example: `let count = lines.len()?`.
+    ///
+    /// # Errors
+    ///
+    /// `WrongKind` where the object is no vector of strings.
+    pub fn len(&self) -> Result<u64, Refusal>
+        ensures { Answers (segment_of self.now) (λ d. length_at_kind d (key_of self.now) TextsKind) result }
+    {
+        self.segment.texts_len(&self.object)
+    }
+
+    /// The bytes of its strings, one after another, lent. There are none where the object is no vector of strings.
+    ///
+    /// Example: `for line in lines.iter()`.
+    pub fn iter(&self) -> TextItems<'_>
+        ensures { result ≡ record { segment = segment_of self.now; key = key_of self.now; at = 0 } }
+    {
+        TextItems::new(self.segment, self.object)
     }
 
     /// Makes bytes the string at `index`.
@@ -103,5 +156,22 @@ impl<'a> StringsView<'a> {
     {
         let _ = self.segment.as_bytes();
         self.segment.texts_erase(&self.object, index)
+    }
+
+    /// Takes the last string out, and gives back its block. The places stay. What it was `get` tells before.
+    ///
+    /// Example: `lines.pop()?`.
+    ///
+    /// # Errors
+    ///
+    /// `ReadOnly` where the segment is open for reading, else `WrongKind` where the object is no vector of strings,
+    /// `OutOfRange` where it is empty. Nothing changes.
+    pub fn pop(&mut self) -> Result<(), Refusal>
+        ensures same { IsSame self.old self.new }
+        ensures step { LeadsOnOfKind (segment_of self.old) (segment_of self.new) (key_of self.old) TextsKind (Pop (key_of self.old)) (refusal_in result) }
+        ensures refused { OnErr result (segment_of self.new ≡ segment_of self.old) }
+    {
+        let _ = self.segment.as_bytes();
+        self.segment.texts_pop(&self.object)
     }
 }

@@ -1,15 +1,22 @@
 //! A vector of scalars of a type in a segment that may be changed, looked up once.
-ghost use Rattle.std.specs.Prelude.{◌≡◌, OnErr, map};
+ghost use Rattle.std.specs.Prelude.{◌≡◌, OnErr, map, IfOk};
 ghost use Rattle.seg_types.specs.declared.kinds.Kind.TheVariants.{Vector as VectorOf};
 ghost use Rattle.seg_types.specs.Commands.{Assign, Erase, Get, Insert, Pop, Push, Set, literal_of};
 ghost use Rattle.segment_manager.specs.Answers.{Element};
 ghost use Rattle.segment_manager.specs.Contents.{sizes_at};
+ghost use Rattle.segment_manager.specs.ElementLists.{length_at_kind};
 ghost use Rattle.segment_manager.specs.State.{Answers, IsReplyOfKind, IsStepOfKind, answer_of, done_answer};
 ghost use Rattle.seg_types.specs.Names.{ByHandle};
 ghost use Rattle.segment_manager.specs.Located.{IsObject};
+ghost use Rattle.segment_manager.specs.contracts.segment.Segment.{the_row};
+ghost use Rattle.segment_views.specs.Opened.{handle_of, opened_at};
+ghost use Rattle.segment_views.specs.Repeated.{StepsOn};
+ghost use Rattle.std.specs.Borrow.{sem, RestsIfErr};
 
-use seg_types::{Refusal, Scalar};
-use segment_manager::{Object, Segment};
+use crate::elements::VectorItems;
+use crate::opening::locate_of_kind;
+use seg_types::{Kind, Refusal, Scalar};
+use segment_manager::{Object, Segment, Target};
 use std::marker::PhantomData;
 
 /// A vector of scalars of a type in a segment that may be changed, looked up once. It borrows the segment, and the
@@ -23,9 +30,33 @@ pub struct VectorView<'a, T> {
 }
 
 impl<'a, T: Scalar> VectorView<'a, T> {
-    ghost use Rattle.segment_views.specs.OfVectorView.{Borrows, IsSame, key_of, segment_of};
+    ghost use Rattle.segment_views.specs.OfVectorView.{Borrows, IsSame, key_of, loan_of, object_of, segment_of};
+
+    /// The view of the object of a key, which is looked up once.
+    ///
+    /// Example: `let mut queue = VectorView::<i64>::of(&mut segment, &name)?`.
+    ///
+    /// # Errors
+    ///
+    /// `NotFound` where no object has the key, `WrongKind` where it is no vector of the type. Nothing changes.
+    pub fn of<O: Target>(segment: &'a mut Segment, key: &O) -> Result<VectorView<'a, T>, Refusal>
+        requires { O.stands key.now segment.old }
+        ensures* rests { sem 𝓛 (RestsIfErr the_row segment.entry loan_of result (λ last. last ≡ segment.old)) }
+        ensures opens { Answers segment.old (λ d. opened_at d (O.key key.now) (VectorOf T.kind)) (handle_of object_of result) }
+        ensures borrows { IfOk result (λ v. Borrows v segment.entry) }
+        ensures segment { IfOk result (λ v. segment_of v ≡ segment.old) }
+    {
+        match locate_of_kind(segment, key, Kind::Vector(T::kind())) {
+            Err(why) => Err(why),
+            Ok(object) => Ok(VectorView::new(segment, object)),
+        }
+    }
 
     /// The view of an object that was located.
+    ///
+    /// # Conditions
+    ///
+    /// The object was located in the segment and is still there. `of` has no such condition.
     pub fn new(segment: &'a mut Segment, object: Object) -> VectorView<'a, T>
         requires { IsObject object segment.old }
         ensures loan { Borrows result segment.entry }
@@ -48,6 +79,28 @@ impl<'a, T: Scalar> VectorView<'a, T> {
         ensures { IsReplyOfKind (segment_of self.now) (key_of self.now) (VectorOf T.kind) (Get (key_of self.now) index) (answer_of (λ x. Element T.kind (T.whole x)) result) }
     {
         self.segment.vec_get::<T, Object>(&self.object, index)
+    }
+
+    /// How many elements it has.
+    ///
+    /// Example: `let count = queue.len()?`.
+    ///
+    /// # Errors
+    ///
+    /// `WrongKind` where the object is no vector of the type.
+    pub fn len(&self) -> Result<u64, Refusal>
+        ensures { Answers (segment_of self.now) (λ d. length_at_kind d (key_of self.now) (VectorOf T.kind)) result }
+    {
+        self.segment.vec_len::<T, Object>(&self.object)
+    }
+
+    /// Its elements, one after another. There are none where the object is no vector of the type.
+    ///
+    /// Example: `for number in queue.iter()`.
+    pub fn iter(&self) -> VectorItems<'_, T>
+        ensures { result ≡ record { segment = segment_of self.now; key = key_of self.now; at = 0 } }
+    {
+        VectorItems::new(self.segment, self.object)
     }
 
     /// How many elements it has, and how many places.
@@ -150,5 +203,25 @@ impl<'a, T: Scalar> VectorView<'a, T> {
     {
         let _ = self.segment.as_bytes();
         self.segment.vec_assign(&self.object, values)
+    }
+
+    /// Puts values behind the last element, one after another.
+    ///
+    /// Example: `queue.extend(&[8, 9])?`.
+    ///
+    /// # Errors
+    ///
+    /// Those of `push`, of the first value that is refused: the values before it are elements then.
+    pub fn extend(&mut self, values: &[T]) -> Result<(), Refusal>
+        ensures same { IsSame self.old self.new }
+        ensures steps { StepsOn (key_of self.old) (VectorOf T.kind) (λ i z. Push (key_of self.old) (literal_of T.kind z)) (map T.whole values.now) (segment_of self.old) (segment_of self.new) result }
+    {
+        'values: for i in 0..values.len() {
+            match self.push(values[i]) {
+                Err(why) => return Err(why),
+                Ok(()) => {}
+            }
+        }
+        Ok(())
     }
 }

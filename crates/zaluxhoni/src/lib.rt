@@ -22,6 +22,9 @@ pub use segment_disk::{Disk, HostDisk};
 pub use segment_file::{FileError, SegmentFile};
 pub use segment_manager::{
     AnonymousInstance, CreateError, CreateRefused, Destination, IndexDestination, Instance,
-    Instances, Mode, Object, RelocateRefused, Segment, Span, Target, Tiles, UniqueInstance,
+    Instances, Mode, Object, Objects, RelocateRefused, Segment, Span, Target, Tiles,
+    UniqueInstance,
 };
-pub use segment_views::{ArrayView, MapView, StringView, StringsView, VectorView};
+pub use segment_views::{
+    ArrayItems, ArrayView, MapView, StringView, StringsView, TextItems, VectorItems, VectorView,
+};

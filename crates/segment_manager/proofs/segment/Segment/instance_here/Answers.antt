@@ -1,8 +1,8 @@
 -- The object of the handle is read.
-use Rattle.std.proofs.Common.{sym, subst, Some, true}
+use Rattle.std.proofs.Common.{sym, subst, true}
 use Rattle.raw_region.specs.Format.{current}
 use Rattle.seg_types.specs.Names.{ByHandle}
-use Rattle.segment_manager.specs.Found.{handle_at, is_object_at}
+use Rattle.segment_manager.specs.Found.{is_object_at}
 use Rattle.segment_manager.specs.Instances.{SaysOf}
 use Rattle.segment_manager.specs.State.{Answers, State}
 use Rattle.segment_manager.proofs.Calling.{denotes-heap}

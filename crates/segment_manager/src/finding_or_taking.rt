@@ -1,0 +1,89 @@
+//! Objects found, or constructed from the items of an iterator where there are none.
+ghost use Rattle.std.specs.Prelude.{◌≡◌, ◌≤◌, true, false};
+ghost use Rattle.seg_types.specs.declared.kinds.Kind.TheVariants.{Scalar as ScalarOf};
+ghost use Rattle.seg_types.specs.Keys.{index_key_seen};
+ghost use Rattle.segment_manager.specs.Counted.{RefusesCount, is_count};
+ghost use Rattle.segment_manager.specs.Items.{FindsOrTakes, found_as};
+ghost use Rattle.segment_manager.specs.NewObjects.{IsOfItsKind};
+
+use crate::constructing_arrays::MOST;
+use crate::destinations::IndexDestination;
+use crate::finding_or_constructing::counted;
+use crate::segment::Segment;
+use crate::targets::Object;
+use seg_types::{Handle, IndexKey, Kind, Refusal, Scalar, ScalarKind};
+
+impl Segment {
+    /// The handle of the scalars of a key, and how many they are. Where no object has the key one is made of the next `count`
+    /// items. An object that is found stays as it is, however many scalars it has, and no item is taken then.
+    ///
+    /// Example: `let (handle, count) = segment.find_or_construct_it(&name, 5, &mut primes)?`.
+    ///
+    /// # Conditions
+    ///
+    /// The key suits the kind: a key that says a kind says this one; a name, `UniqueInstance` and `AnonymousInstance`
+    /// suit each.
+    ///
+    /// # Errors
+    ///
+    /// `OutOfRange` where `count` is 0 or above 1048576, else `ReadOnly` where the segment is open for reading, else `WrongKind`
+    /// where the object is of another kind, and else `NoSpace` where none is there and no gap is long enough; then no item is
+    /// taken. `OutOfRange` where fewer items come. What the segment holds does not change.
+    pub fn find_or_construct_it<T: Scalar, I: Iterator<Item = T>, D: IndexDestination>(
+        &mut self,
+        key: &D,
+        count: u32,
+        items: &mut I,
+    ) -> Result<(Handle, u32), Refusal>
+        requires kind { D.suits key.now (ScalarOf T.kind) }
+        requires ready { I.can_next items.old }
+        ensures count { RefusesCount count self.old self.new result }
+        ensures untaken { is_count count ≡ false → items.new ≡ items.old }
+        ensures items { is_count count ≡ true → FindsOrTakes I.next_gives T.whole self.old self.new (D.key key.now (ScalarOf T.kind)) T.kind count items.old items.new result }
+    {
+        if count == 0 || count > MOST {
+            return Err(Refusal::OutOfRange);
+        }
+        let entry = key.entry_for(Kind::Scalar(T::kind()));
+        self.find_or_take(&entry, count, items)
+    }
+
+    /// The same under an entry that suits them.
+    fn find_or_take<T: Scalar, I: Iterator<Item = T>>(
+        &mut self,
+        key: &IndexKey,
+        count: u32,
+        items: &mut I,
+    ) -> Result<(Handle, u32), Refusal>
+        requires kind { IsOfItsKind (index_key_seen key.now) T.kind }
+        requires some { 1 ≤ count }
+        requires few { count ≤ 1048576 }
+        requires ready { I.can_next items.old }
+        ensures { FindsOrTakes I.next_gives T.whole self.old self.new (index_key_seen key.now) T.kind count items.old items.new result }
+    {
+        if self.is_read_only() {
+            return Err(Refusal::ReadOnly);
+        }
+        match self.locate(&key.into_key()) {
+            Ok(object) => scalars_in(object, T::kind()),
+            Err(_) => counted(
+                self.construct_items(&key.into_new_key(), count, items),
+                count,
+            ),
+        }
+    }
+}
+
+/// The handle of an object, and how many scalars of a kind it has.
+///
+/// # Errors
+///
+/// `WrongKind` where it is of another kind.
+fn scalars_in(object: Object, kind: ScalarKind) -> Result<(Handle, u32), Refusal>
+    ensures { result ≡ found_as kind object }
+{
+    if Kind::Scalar(kind).code() != object.kind.code() {
+        return Err(Refusal::WrongKind);
+    }
+    Ok((object.handle, object.count))
+}

@@ -1,0 +1,59 @@
+-- What a reading of one element says of the list of all.
+use Rattle.std.proofs.Common.{◌≡◌, refl, sym, ap, subst, ◌∙◌, ℕ, ◌≤◌, ℤ, Option, Some, None, Result, Ok, Err, List, length}
+use Rattle.std.specs.Prelude.{option_map, slice_get}
+use Rattle.std.proofs.lemmas.Option.{slice_get_past}
+use Rattle.seg_types.specs.declared.kinds.Kind.TheVariants.{Scalar as ScalarOf, Vector as VectorOf, Texts as TextsKind}
+use Rattle.seg_types.specs.declared.kinds.ScalarKind.{ScalarKind}
+use Rattle.seg_types.specs.declared.refusals.Refusal.{Refusal}
+use Rattle.seg_types.specs.Commands.{Get}
+use Rattle.seg_types.specs.Names.{Key}
+use Rattle.segment_manager.specs.Answers.{Answer, Element, TextElement}
+use Rattle.segment_manager.specs.Directory.{Directory}
+use Rattle.segment_manager.specs.ElementLists.{array_at, array_length_at, length_at_kind, number_or_none, texts_at, vector_at}
+use Rattle.segment_manager.specs.State.{Answers, IsReplyOfKind, State, answer_of}
+use Rattle.segment_manager.proofs.Laws.{array-length, array-read, got, text-read, texts-length, vector-length, vector-read}
+
+-- behind the last element there is none
+pub none-past : {B : Type 0} (elements : Directory → List B) (s : State) (at len : ℕ) → Answers s (λ d. length (elements d)) len → len ≤ at → Answers s (λ d. slice_get (elements d) at) None
+none-past elements s at len h l = record { answers = λ d k. sym (slice_get_past (elements d) at (subst (λ n. n ≤ at) (h.answers d k) l)) }
+
+-- ---- a result, as it is seen
+
+abbrev mapped : {A B : Type 0} → (A → B) → Result A Refusal → Result B Refusal
+mapped f (Ok a) = Ok (f a)
+mapped f (Err why) = Err why
+
+answer-mapped : {A B : Type 0} (say : B → Answer) (f : A → B) (r : Result A Refusal) → answer_of say (mapped f r) ≡ answer_of (λ a. say (f a)) r
+answer-mapped say f (Ok a) = refl
+answer-mapped say f (Err why) = refl
+
+got-mapped : {A B : Type 0} (f : A → B) (r : Result A Refusal) → got (mapped f r) ≡ option_map f (got r)
+got-mapped f (Ok a) = refl
+got-mapped f (Err why) = refl
+
+-- ---- one element
+
+module _ (s : State) (key : Key) (at : ℕ) where
+  pub vector-item : {A : Type 0} (k : ScalarKind) (whole : A → ℤ) (r : Result A Refusal) → IsReplyOfKind s key (VectorOf k) (Get key at) (answer_of (λ x. Element k (whole x)) r)
+      → Answers s (λ d. slice_get (vector_at d key k) at) (option_map whole (got r))
+  vector-item k whole r a = record { answers = λ d h. sym (got-mapped whole r) ∙ vector-read s.mode d key k at (mapped whole r) (answer-mapped (Element k) whole r ∙ a.answers d h) }
+
+  pub array-item : {A : Type 0} (k : ScalarKind) (whole : A → ℤ) (r : Result A Refusal) → IsReplyOfKind s key (ScalarOf k) (Get key at) (answer_of (λ x. Element k (whole x)) r)
+      → Answers s (λ d. slice_get (array_at d key k) at) (option_map whole (got r))
+  array-item k whole r a = record { answers = λ d h. sym (got-mapped whole r) ∙ array-read s.mode d key k at (mapped whole r) (answer-mapped (Element k) whole r ∙ a.answers d h) }
+
+  pub text-item : {A : Type 0} (bytes : A → List ℕ) (r : Result A Refusal) → IsReplyOfKind s key TextsKind (Get key at) (answer_of (λ x. TextElement (bytes x)) r)
+      → Answers s (λ d. slice_get (texts_at d key) at) (option_map bytes (got r))
+  text-item bytes r a = record { answers = λ d h. sym (got-mapped bytes r) ∙ text-read s.mode d key at (mapped bytes r) (answer-mapped TextElement bytes r ∙ a.answers d h) }
+
+-- ---- how many
+
+module _ (s : State) (key : Key) (n : ℕ) (r : Result ℕ Refusal) (e : n ≡ number_or_none r) where
+  pub vector-many : (k : ScalarKind) → Answers s (λ d. length_at_kind d key (VectorOf k)) r → Answers s (λ d. length (vector_at d key k)) n
+  vector-many k a = record { answers = λ d h. e ∙ vector-length d key k r (a.answers d h) }
+
+  pub array-many : (k : ScalarKind) → Answers s (λ d. array_length_at d key k) r → Answers s (λ d. length (array_at d key k)) n
+  array-many k a = record { answers = λ d h. e ∙ array-length d key k r (a.answers d h) }
+
+  pub texts-many : Answers s (λ d. length_at_kind d key TextsKind) r → Answers s (λ d. length (texts_at d key)) n
+  texts-many a = record { answers = λ d h. e ∙ texts-length d key r (a.answers d h) }

@@ -1,0 +1,34 @@
+-- Steps for the numbers of a list, one after another.
+use Rattle.std.proofs.Common.{◌≡◌, refl, sym, ap, subst, ◌∙◌, ℕ, zero, suc, ◌+◌, ◌<◌, ℤ, Some, Option, Err, Result, List, [], ◌∷◌, ◌++◌, length, map, take, arith}
+use Rattle.std.specs.Prelude.{slice_get}
+use Rattle.std.proofs.lemmas.Option.{none-some, same_Some}
+use Rattle.seg_types.specs.declared.kinds.Kind.{Kind}
+use Rattle.seg_types.specs.declared.refusals.Refusal.{Refusal}
+use Rattle.seg_types.specs.Commands.{Command}
+use Rattle.seg_types.specs.Names.{Key}
+use Rattle.segment_manager.specs.Answers.{Done}
+use Rattle.segment_manager.specs.State.{IsStepOfKind, State}
+use Rattle.segment_views.specs.Repeated.{AreSteps}
+
+-- one more
+more-steps : (key : Key) (kind : Kind) (c : ℕ → ℤ → Command) (from : ℕ) (zs : List ℤ) (z : ℤ) (n : ℕ) (old mid new : State) → n ≡ from + length zs → AreSteps key kind c from zs old mid
+    → IsStepOfKind mid new key kind (c n z) Done → AreSteps key kind c from (zs ++ z ∷ []) old new
+more-steps key kind c from [] z n old mid new e s m =
+    (new, subst (λ t. IsStepOfKind t new key kind (c from z) Done) s (subst (λ i. IsStepOfKind mid new key kind (c i z) Done) (let same : n ≡ from = omega arith in same) m), refl)
+more-steps key kind c from (y ∷ ys) z n old mid new e s m = (s.0, s.1, more-steps key kind c (from + 1) ys z n s.0 mid new (omega arith) s.2 m)
+
+taken-one : {X : Type 0} (xs : List X) (i : ℕ) (x : X) → slice_get xs i ≡ Some x → take (suc i) xs ≡ take i xs ++ x ∷ []
+taken-one [] i x e = absurd (none-some x e)
+taken-one (y ∷ ys) zero x e = ap (λ z. z ∷ []) (same_Some y x e)
+taken-one (y ∷ ys) (suc i) x e = ap (λ zs. y ∷ zs) (taken-one ys i x e)
+
+taken-length : {X : Type 0} (xs : List X) (i : ℕ) (x : X) → slice_get xs i ≡ Some x → length (take i xs) ≡ i
+taken-length [] i x e = absurd (none-some x e)
+taken-length (y ∷ ys) zero x e = refl
+taken-length (y ∷ ys) (suc i) x e = ap suc (taken-length ys i x e)
+
+-- the number at the place behind those for which steps were made
+pub steps-on : (key : Key) (kind : Kind) (c : ℕ → ℤ → Command) (zs : List ℤ) (i : ℕ) (z : ℤ) (old mid new : State) → slice_get zs i ≡ Some z → AreSteps key kind c 0 (take i zs) old mid
+    → IsStepOfKind mid new key kind (c i z) Done → AreSteps key kind c 0 (take (suc i) zs) old new
+steps-on key kind c zs i z old mid new e s m =
+    subst (λ ys. AreSteps key kind c 0 ys old new) (sym (taken-one zs i z e)) (more-steps key kind c 0 (take i zs) z i old mid new (let n : length (take i zs) ≡ i = taken-length zs i z e in omega arith) s m)

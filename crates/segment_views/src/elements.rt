@@ -1,0 +1,206 @@
+//! The elements of objects that were located, one after another.
+ghost use Rattle.std.specs.Prelude.{◌≡◌, ◌-◌};
+ghost use Rattle.std.specs.Iterator.{at_most};
+ghost use Rattle.seg_types.specs.Names.{ByHandle};
+ghost use Rattle.segment_manager.specs.ElementLists.{array_at, number_or_none as number_of, texts_at, vector_at};
+ghost use Rattle.segment_manager.specs.Located.{IsObject};
+ghost use Rattle.segment_views.specs.Walked.{GoesOnElements};
+
+use seg_types::{Refusal, Scalar};
+use segment_manager::{Object, Segment};
+use std::marker::{Model, PhantomData};
+
+/// The elements of an array of scalars, one after another. There are none where the object is of another kind.
+///
+/// Contracts see the segment, the array's key, and how many elements came.
+#[derive(Drop)]
+pub struct ArrayItems<'a, T: Scalar> {
+    segment: &'a Segment,
+    object: Object,
+    at: u64,
+    len: u64,
+    of: PhantomData<T>,
+}
+
+impl<'a, T: Scalar> Model for ArrayItems<'a, T> {
+    ghost use Rattle.seg_types.specs.Names.{ByHandle};
+    ghost use Rattle.segment_manager.specs.ElementLists.{array_at};
+    ghost use Rattle.segment_views.specs.Walked.{ElementWalk, IsWalkOver};
+
+    ghost Value = { ElementWalk };
+
+    ghost view = { λ w. record { segment = w.segment.now; key = ByHandle w.object.handle; at = w.at } };
+
+    ghost invariant = { λ w. IsWalkOver (λ d. array_at d (ByHandle w.object.handle) T.kind) w.segment.now w.object w.len };
+}
+
+impl<'a, T: Scalar> ArrayItems<'a, T> {
+    /// The elements of an object that was located.
+    pub(crate) fn new(segment: &'a Segment, object: Object) -> ArrayItems<'a, T>
+        requires { IsObject object segment.now }
+        ensures { result ≡ record { segment = segment.now; key = ByHandle object.handle; at = 0 } }
+    {
+        let len = number_or_none(segment.array_len::<T, Object>(&object));
+        ArrayItems {
+            segment,
+            object,
+            at: 0,
+            len,
+            of: PhantomData,
+        }
+    }
+}
+
+impl<'a, T: Scalar> Iterator for ArrayItems<'a, T> {
+    type Item = T;
+
+    ghost next_gives = { GoesOnElements (λ d key. array_at d key T.kind) T.whole };
+
+    ghost remaining = { λ w. at_most (18446744073709551615 - w.at) };
+
+    fn next(&mut self) -> Option<T> {
+        if self.at >= self.len {
+            return None;
+        }
+        match self.segment.get::<T, Object>(&self.object, self.at) {
+            Err(_) => None,
+            Ok(value) => {
+                self.at += 1;
+                Some(value)
+            }
+        }
+    }
+}
+
+/// The elements of a vector of scalars, one after another. There are none where the object is no vector of the type.
+///
+/// Contracts see the segment, the vector's key, and how many elements came.
+#[derive(Drop)]
+pub struct VectorItems<'a, T: Scalar> {
+    segment: &'a Segment,
+    object: Object,
+    at: u64,
+    len: u64,
+    of: PhantomData<T>,
+}
+
+impl<'a, T: Scalar> Model for VectorItems<'a, T> {
+    ghost use Rattle.seg_types.specs.Names.{ByHandle};
+    ghost use Rattle.segment_manager.specs.ElementLists.{vector_at};
+    ghost use Rattle.segment_views.specs.Walked.{ElementWalk, IsWalkOver};
+
+    ghost Value = { ElementWalk };
+
+    ghost view = { λ w. record { segment = w.segment.now; key = ByHandle w.object.handle; at = w.at } };
+
+    ghost invariant = { λ w. IsWalkOver (λ d. vector_at d (ByHandle w.object.handle) T.kind) w.segment.now w.object w.len };
+}
+
+impl<'a, T: Scalar> VectorItems<'a, T> {
+    /// The elements of an object that was located.
+    pub(crate) fn new(segment: &'a Segment, object: Object) -> VectorItems<'a, T>
+        requires { IsObject object segment.now }
+        ensures { result ≡ record { segment = segment.now; key = ByHandle object.handle; at = 0 } }
+    {
+        let len = number_or_none(segment.vec_len::<T, Object>(&object));
+        VectorItems {
+            segment,
+            object,
+            at: 0,
+            len,
+            of: PhantomData,
+        }
+    }
+}
+
+impl<'a, T: Scalar> Iterator for VectorItems<'a, T> {
+    type Item = T;
+
+    ghost next_gives = { GoesOnElements (λ d key. vector_at d key T.kind) T.whole };
+
+    ghost remaining = { λ w. at_most (18446744073709551615 - w.at) };
+
+    fn next(&mut self) -> Option<T> {
+        if self.at >= self.len {
+            return None;
+        }
+        match self.segment.vec_get::<T, Object>(&self.object, self.at) {
+            Err(_) => None,
+            Ok(value) => {
+                self.at += 1;
+                Some(value)
+            }
+        }
+    }
+}
+
+/// The texts of a vector of strings, one after another, lent. There are none where the object is no vector of strings.
+///
+/// Contracts see the segment, the vector's key, and how many texts came.
+#[derive(Drop)]
+pub struct TextItems<'a> {
+    segment: &'a Segment,
+    object: Object,
+    at: u64,
+    len: u64,
+}
+
+impl<'a> Model for TextItems<'a> {
+    ghost use Rattle.seg_types.specs.Names.{ByHandle};
+    ghost use Rattle.segment_manager.specs.ElementLists.{texts_at};
+    ghost use Rattle.segment_views.specs.Walked.{ElementWalk, IsWalkOver};
+
+    ghost Value = { ElementWalk };
+
+    ghost view = { λ w. record { segment = w.segment.now; key = ByHandle w.object.handle; at = w.at } };
+
+    ghost invariant = { λ w. IsWalkOver (λ d. texts_at d (ByHandle w.object.handle)) w.segment.now w.object w.len };
+}
+
+impl<'a> TextItems<'a> {
+    /// The texts of an object that was located.
+    pub(crate) fn new(segment: &'a Segment, object: Object) -> TextItems<'a>
+        requires { IsObject object segment.now }
+        ensures { result ≡ record { segment = segment.now; key = ByHandle object.handle; at = 0 } }
+    {
+        let len = number_or_none(segment.texts_len(&object));
+        TextItems {
+            segment,
+            object,
+            at: 0,
+            len,
+        }
+    }
+}
+
+impl<'a> Iterator for TextItems<'a> {
+    type Item = &'a [u8];
+
+    ghost next_gives = { GoesOnElements texts_at (λ text. text.now) };
+
+    ghost remaining = { λ w. at_most (18446744073709551615 - w.at) };
+
+    fn next(&mut self) -> Option<&'a [u8]> {
+        if self.at >= self.len {
+            return None;
+        }
+        let segment = self.segment;
+        match segment.texts_get(&self.object, self.at) {
+            Err(_) => None,
+            Ok(text) => {
+                self.at += 1;
+                Some(text)
+            }
+        }
+    }
+}
+
+/// A number, or 0 where it is refused.
+fn number_or_none(number: Result<u64, Refusal>) -> u64
+    ensures { result ≡ number_of number }
+{
+    match number {
+        Ok(number) => number,
+        Err(_) => 0,
+    }
+}

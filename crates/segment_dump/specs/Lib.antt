@@ -4,3 +4,5 @@ pub mod Parts
 pub mod Owed
 pub mod Asked
 pub mod Comparing
+pub mod Places
+pub mod Loading

@@ -2,12 +2,20 @@
 #![tactic(auto)]
 
 mod against;
+mod building;
 mod comparing;
 mod contents;
 mod dumping;
 mod entries;
+mod faults;
+mod filling_texts;
+mod loading;
 mod pairs;
+mod places;
+mod reading;
 mod texts;
 
 pub use comparing::compare;
 pub use dumping::dump;
+pub use faults::{BadDump, DumpFault, LoadError, LoadRefused};
+pub use loading::load;

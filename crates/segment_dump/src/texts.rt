@@ -7,7 +7,7 @@ use raw_region::{DeviceFault, Sink};
 use segment_lang::{Piece, put_pieces};
 
 /// The most bytes of a text in one line: as many stand in 4002 at most when they are quoted.
-const PIECE: usize = 1000;
+pub const PIECE: usize = 1000;
 
 /// Writes the length of a text and its pieces.
 pub fn put_text<W: Sink>(text: &[u8], out: &mut W) -> Result<(), DeviceFault>

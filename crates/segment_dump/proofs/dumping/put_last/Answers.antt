@@ -1,3 +1,4 @@
+use Rattle.std.proofs.Common.{refl}
 use Rattle.segment_dump.specs.Items.{anonymous_objects}
 use Rattle.segment_dump.specs.Owed.{objects_text}
 use Rattle.segment_dump.specs.Texts.{end_text}

@@ -1,4 +1,7 @@
+mod Examples
 mod Fronts
+mod Judged
+mod LinePlaces
 mod PartLines
 mod Owed
 mod Members

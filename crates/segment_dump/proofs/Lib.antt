@@ -1,7 +1,6 @@
 mod Examples
 mod Fronts
 mod Judged
-mod LinePlaces
 mod PartLines
 mod Owed
 mod Members

@@ -1,9 +1,9 @@
 //! A segment made of a dump. What the lines ask for is done, and then the segment is compared with the whole text, so that no
 //! line needs to be believed.
-ghost use Rattle.std.specs.Prelude.{◌≡◌, ◌%◌, List, ℕ, MatchResult};
+ghost use Rattle.std.specs.Prelude.{◌≡◌, ◌%◌, List, ℕ, MatchResult, Option, Some, None};
 ghost use Rattle.std.specs.Bool.{OnTrue};
 ghost use Rattle.segment_manager.specs.declared.modes.Mode.TheVariants.{Write};
-ghost use Rattle.segment_dump.specs.Loading.{HasSize, IsBack, IsLoaded, IsNotLoaded};
+ghost use Rattle.segment_dump.specs.Loading.{HasSize, IsAsked, IsLetGo, IsLoaded, IsNotLoaded, IsWhyNot, load_error};
 
 use crate::building::{Stop, build, stop_of};
 use crate::comparing::compare;
@@ -37,7 +37,7 @@ pub fn load(
     size: Option<u64>,
 ) -> Result<Segment, LoadRefused>
     requires aligned { base % 16 ≡ 0 }
-    ensures { MatchResult result (IsLoaded text.now size) (IsNotLoaded region) }
+    ensures { MatchResult result (IsLoaded text.now size) (IsNotLoaded text.now region base size) }
 {
     let mut lines = Lines::new(text);
     let front = match read_front(&mut lines) {
@@ -49,10 +49,7 @@ pub fn load(
             });
         }
     };
-    let asked = match size {
-        Some(size) => size,
-        None => front.size,
-    };
+    let asked = asked_size(size, front.size);
     let mut segment = match Segment::create(region, base, asked, Mode::Write) {
         Ok(segment) => segment,
         Err(refused) => return Err(not_created(refused)),
@@ -86,9 +83,20 @@ fn read_front(lines: &mut Lines<'_>) -> Result<Front, Misfit> {
     })
 }
 
+/// The size that is asked for, or else that of the text.
+fn asked_size(size: Option<u64>, said: u64) -> u64
+    ensures { IsAsked size result }
+{
+    match size {
+        Some(size) => size,
+        None => said,
+    }
+}
+
 /// No segment is created.
 fn not_created(refused: CreateRefused) -> LoadRefused
-    ensures { IsBack refused.region result.region }
+    ensures back { result.region ≡ Some refused.region }
+    ensures cause { result.cause ≡ load_error refused.cause }
 {
     let (region, cause) = refused.into_parts();
     let cause = match cause {
@@ -103,7 +111,8 @@ fn not_created(refused: CreateRefused) -> LoadRefused
 
 /// The region is let go.
 fn let_go(cause: LoadError) -> LoadRefused
-    ensures { (region : List ℕ) → IsBack region result.region }
+    ensures gone { result.region ≡ None }
+    ensures cause { result.cause ≡ cause }
 {
     LoadRefused {
         region: None,
@@ -112,7 +121,9 @@ fn let_go(cause: LoadError) -> LoadRefused
 }
 
 /// What is wrong at a place of a text.
-fn bad_dump(text: &[u8], misfit: Misfit) -> LoadError {
+fn bad_dump(text: &[u8], misfit: Misfit) -> LoadError
+    ensures { (region : List ℕ) (base : ℕ) (size : Option ℕ) → IsWhyNot text.now region base size result }
+{
     let at = misfit.at.min(text.len());
     let (line, column) = place_at(text, at);
     LoadError::BadDump(BadDump {
@@ -123,7 +134,9 @@ fn bad_dump(text: &[u8], misfit: Misfit) -> LoadError {
 }
 
 /// Why building stopped.
-fn cause_of(text: &[u8], stop: Stop) -> LoadError {
+fn cause_of(text: &[u8], stop: Stop) -> LoadError
+    ensures { (region : List ℕ) (base : ℕ) (size : Option ℕ) → IsWhyNot text.now region base size result }
+{
     match stop {
         Stop::Misfit(misfit) => bad_dump(text, misfit),
         Stop::NoSpace => LoadError::NoSpace,
@@ -156,7 +169,7 @@ fn judge(
     said: u64,
     size: Option<u64>,
 ) -> Result<Segment, LoadRefused>
-    ensures { MatchResult result (IsLoaded text.now size) (λ refused. (region : List ℕ) → IsBack region refused.region) }
+    ensures { MatchResult result (IsLoaded text.now size) (IsLetGo text.now) }
 {
     if !is_open(&segment) {
         return Err(unlike(text, 0));
@@ -178,7 +191,7 @@ fn judge(
 
 /// The text is not the dump of the segment that was made of it, from its byte `at` on.
 fn unlike(text: &[u8], at: usize) -> LoadRefused
-    ensures { (region : List ℕ) → IsBack region result.region }
+    ensures { IsLetGo text.now result }
 {
     let cause = DumpFault::Unlike;
     let_go(bad_dump(text, Misfit { at, cause }))

@@ -70,9 +70,14 @@ impl<'a> Lines<'a> {
 }
 
 impl<'a> Words<'a> {
-    /// Where the next word stands in the text, or a blank before it.
+    /// Where the next word stands in the text, or the end of the line.
     pub fn at(&self) -> usize {
-        self.end.saturating_sub(self.rest.len())
+        let rest = self.rest;
+        let from = self.end.saturating_sub(rest.len());
+        match rest.iter().position(|byte| *byte != b' ') {
+            Some(blanks) => from.saturating_add(blanks),
+            None => self.end,
+        }
     }
 
     /// What is wrong where the words stand.

@@ -18,16 +18,16 @@ use Rattle.segment_manager.specs.declared.modes.Mode.{Mode}
 use Rattle.segment_manager.specs.declared.modes.Mode.TheVariants.{Write, ReadOnly, CopyOnWrite}
 use Rattle.segment_manager.specs.declared.targets.Object.{Object as Located}
 use Rattle.segment_manager.specs.declared.telling.Instance.{Instance}
-use Rattle.segment_manager.specs.Answers.{Answer, Element, Number, Refused, TextElement}
+use Rattle.segment_manager.specs.Answers.{Answer, Element, Number, TextElement}
 use Rattle.segment_manager.specs.Calls.{HasScalars, elements_of}
 use Rattle.segment_manager.specs.Contents.{bytes_at, sizes_at, sizes_of, text_bytes}
 use Rattle.segment_manager.specs.Directory.{Value, Numbers, Elements, Bytes, Pairs, Texts, Object, Directory, count_of, kind_of, live, named_objects, object_at, unique_objects}
-use Rattle.segment_manager.specs.Instances.{IsInstance, SaysOf}
+use Rattle.segment_manager.specs.Instances.{SaysOf}
 use Rattle.segment_manager.specs.Located.{IsLocated, located}
 use Rattle.segment_manager.specs.Plan.{Plan, Refuse, Reply, perform, with}
 use Rattle.segment_manager.specs.State.{Answers, State, StandsFor}
 use Rattle.segment_manager.specs.Step.{effect, get, is_read_only, step, step_of_kind}
-use Rattle.segment_manager.proofs.Laws.{IsSaidAt, said-at}
+use Rattle.segment_manager.proofs.Laws.{said-at}
 use Rattle.segment_dump.specs.Asked.{element_part, element_text, length_in, string_part, text_part}
 use Rattle.segment_dump.specs.Items.{bytes_in, content_of, count_of_content}
 use Rattle.segment_dump.specs.Owed.{count_at, lines_at, object_count, object_lines}

@@ -1,6 +1,6 @@
 -- The objects of the lists of a directory: each is found by its handle.
-use Rattle.std.proofs.Common.{◌≡◌, refl, sym, ap, subst, ◌∙◌, ℕ, ◌+◌, ◌≤◌, zero, suc, Bool, true, false, ◌&&◌, Option, Some, None, List, [], ◌∷◌, cond, arith}
-use Rattle.std.specs.Prelude.{IsTrue, filter, find, is_some, nat_le, slice_get}
+use Rattle.std.proofs.Common.{◌≡◌, refl, sym, ap, subst, ◌∙◌, ℕ, ◌+◌, ◌≤◌, zero, suc, Bool, true, false, Some, None, List, [], ◌∷◌, cond, arith}
+use Rattle.std.specs.Prelude.{IsTrue, filter, find, nat_le, slice_get}
 use Rattle.std.specs.List.{AllByRecursion}
 use Rattle.std.proofs.lemmas.Bool.{and_parts, eq-eqb, leb-true, ne_eqb}
 use Rattle.std.proofs.lemmas.Option.{same_Some}

@@ -7,7 +7,7 @@ use Rattle.std.proofs.lemmas.Grind.{flat_map-append}
 use Rattle.std.proofs.lemmas.List.{append-nil, take_all, take_more}
 use Rattle.std.proofs.lemmas.Option.{get_or_from_slice_get, slice_get_within}
 use Rattle.raw_region.specs.Device.{Took, Writes}
-use Rattle.raw_region.proofs.Laws.{writes-behind, writes-cut, writes-then}
+use Rattle.raw_region.proofs.Laws.{writes-cut, writes-then}
 use Rattle.segment_dump.specs.Parts.{part_of, parts_until}
 
 -- ---- the text

@@ -1,25 +1,23 @@
 -- The pairs of a map one after another: each has the line of the pair at the place to which the walk has come.
-use Rattle.std.proofs.Common.{◌≡◌, ℕ, zero, suc, ◌+◌, List, [], ◌∷◌, ◌++◌, length, map, Option, Some, None, Result, Ok, Err, slice_get, refl, sym, ap, subst, ◌∙◌, arith}
+use Rattle.std.proofs.Common.{◌≡◌, ℕ, zero, suc, ◌+◌, List, [], ◌∷◌, length, Option, Some, None, Result, Ok, Err, slice_get, refl, sym, ap, ◌∙◌, arith}
 use Rattle.std.specs.Prelude.{option_map}
-use Rattle.std.specs.List.{flat_map}
-use Rattle.raw_region.specs.Device.{Took, Writes}
 use Rattle.seg_types.specs.declared.kinds.Kind.{Kind}
 use Rattle.seg_types.specs.declared.kinds.Kind.TheVariants.{Map}
 use Rattle.seg_types.specs.declared.kinds.ScalarKind.{ScalarKind}
 use Rattle.seg_types.specs.declared.refusals.Refusal.{Refusal}
 use Rattle.seg_types.specs.declared.refusals.Refusal.TheVariants.{NotFound}
 use Rattle.seg_types.specs.declared.values.ScalarValue.{ScalarValue}
-use Rattle.seg_types.specs.Names.{ByHandle, Key}
+use Rattle.seg_types.specs.Names.{ByHandle}
 use Rattle.seg_types.specs.Values.{kind_of_scalar, value_of_scalar}
 use Rattle.seg_map.specs.Numbers.{NumberPair}
 use Rattle.seg_map.specs.Places.{item_of}
 use Rattle.segment_manager.specs.declared.targets.Object.{Object as Located}
-use Rattle.segment_manager.specs.Directory.{Value, Numbers, Elements, Bytes, Pairs, Texts, Object, Directory, kind_of, object_at}
+use Rattle.segment_manager.specs.Directory.{Value, Numbers, Elements, Bytes, Pairs, Texts, Object, Directory, kind_of}
 use Rattle.segment_manager.specs.Located.{IsLocated}
 use Rattle.segment_manager.specs.Maps.{pair_above}
 use Rattle.segment_manager.specs.State.{Answers, State, StandsFor}
 use Rattle.segment_manager.specs.Walks.{IsMap, first_of, item_of_kinds, item_seen, pairs_at, pairs_of}
-use Rattle.segment_manager.proofs.Laws.{IsSaidAt, first-at, said-at, walk-next}
+use Rattle.segment_manager.proofs.Laws.{first-at, said-at, walk-next}
 use Rattle.segment_dump.specs.Asked.{number_line, pair_part, walked_line}
 use Rattle.segment_dump.specs.Items.{content_of, count_of_content}
 use Rattle.segment_dump.specs.Owed.{count_at, lines_at, object_count, object_lines}

@@ -1,5 +1,5 @@
 -- The lines of an object's elements, by what the calls answer that read them.
-use Rattle.std.specs.Prelude.{ℕ, List, [], Option, Some, None, Result, Ok, Err, slice_get}
+use Rattle.std.specs.Prelude.{ℕ, List, [], Result, Ok, Err, slice_get}
 use Rattle.seg_types.specs.declared.kinds.Kind.TheVariants.{Texts as TextsKind}
 use Rattle.seg_types.specs.declared.kinds.ScalarKind.{ScalarKind}
 use Rattle.seg_types.specs.declared.refusals.Refusal.{Refusal}

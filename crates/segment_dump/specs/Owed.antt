@@ -1,5 +1,5 @@
 -- What a call writes of a segment: of each directory that its bytes denote.
-use Rattle.std.specs.Prelude.{◌≡◌, ◌+◌, ◌++◌, List, [], ℕ, Option, Some, None, Result, Ok, Err, if◌then◌else◌}
+use Rattle.std.specs.Prelude.{◌≡◌, ◌+◌, ◌++◌, List, [], ℕ, Some, None, Result, if◌then◌else◌}
 use Rattle.std.specs.List.{flat_map}
 use Rattle.raw_region.specs.Answers.{failures_in}
 use Rattle.raw_region.specs.Device.{Took, Writes}

@@ -1,5 +1,5 @@
 -- Where a byte of a text stands: in which line, and where in it.
-use Rattle.std.specs.Prelude.{ℕ, ◌+◌, List, [], ◌∷◌, ◌==◌, if◌then◌else◌, take}
+use Rattle.std.specs.Prelude.{ℕ, ◌+◌, List, ◌==◌, if◌then◌else◌}
 use Rattle.std.specs.List.{fold}
 
 -- behind one byte more: the line and the column behind it, each from 1 on

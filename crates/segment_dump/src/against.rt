@@ -11,6 +11,8 @@ use std::marker::Model;
 pub struct Against<'a> {
     text: &'a [u8],
     at: usize,
+    // How many bytes were alike when a write was refused.
+    like: usize,
     failures: u64,
 }
 
@@ -33,15 +35,14 @@ impl<'a> Against<'a> {
         Against {
             text,
             at: 0,
+            like: 0,
             failures: 0,
         }
     }
 
-    /// How many bytes of the text it has taken.
-    pub fn taken(&self) -> usize
-        ensures { result ≡ self.now.at }
-    {
-        self.at
+    /// How many bytes of the text, from the first on, are those that were to be written.
+    pub fn alike(&self) -> usize {
+        self.like.max(self.at)
     }
 
     /// Whether it has taken all of a text, which is its own.
@@ -60,6 +61,8 @@ impl<'a> Sink for Against<'a> {
 
     fn write(&mut self, bytes: &[u8]) -> Result<usize, DeviceFault> {
         if !goes_on(self.text, self.at, bytes) {
+            let (_, behind) = self.text.split_at(self.at);
+            self.like = self.at.saturating_add(common(behind, bytes));
             self.failures += 1;
             return Err(DeviceFault);
         }
@@ -87,4 +90,14 @@ fn are_same(some: &[u8], other: &[u8]) -> bool
     ensures { OnTrue result (some.now ≡ other.now) }
 {
     some == other
+}
+
+/// How many bytes two slices have in common, from the first on.
+fn common(some: &[u8], other: &[u8]) -> usize {
+    'bytes: for index in 0..some.len() {
+        if index >= other.len() || some[index] != other[index] {
+            return index;
+        }
+    }
+    some.len()
 }

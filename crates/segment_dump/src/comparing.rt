@@ -20,9 +20,9 @@ pub fn compare(segment: &Segment, size: u64, text: &[u8]) -> Result<(), usize>
             if out.has_all(text) {
                 Ok(())
             } else {
-                Err(out.taken())
+                Err(out.alike())
             }
         }
-        Err(_) => Err(out.taken()),
+        Err(_) => Err(out.alike()),
     }
 }

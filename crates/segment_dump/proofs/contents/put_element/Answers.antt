@@ -1,4 +1,4 @@
-use Rattle.std.proofs.Common.{[], ◌∷◌, ◌++◌, sym, ap}
+use Rattle.std.proofs.Common.{sym, ap}
 use Rattle.seg_types.specs.Commands.{Get}
 use Rattle.seg_types.specs.Names.{ByHandle}
 use Rattle.seg_types.specs.Values.{kind_of_scalar, value_of_scalar}

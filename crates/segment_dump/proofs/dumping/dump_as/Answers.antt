@@ -5,7 +5,7 @@ use Rattle.segment_dump.specs.Owed.{all_text}
 use Rattle.segment_dump.specs.Texts.{dump_text, front_text}
 use Rattle.segment_dump.proofs.Sections.{dump-parts}
 use Rattle.segment_manager.specs.Directory.{Directory}
-use Rattle.segment_dump.proofs.Owed.{of-cut, of-one, of-same, of-then}
+use Rattle.segment_dump.proofs.Owed.{of-cut, of-same, of-then}
 use Rattle.segment_dump.proofs.dumping.dump_as.Goals as goal
 
 pub returns-in_err-put_front : goal.returns-in_err-put_front

@@ -2,8 +2,7 @@ use Rattle.std.proofs.Common.{refl}
 use Rattle.segment_dump.specs.Items.{anonymous_objects}
 use Rattle.segment_dump.specs.Owed.{objects_text}
 use Rattle.segment_dump.specs.Texts.{end_text}
-use Rattle.segment_manager.specs.Directory.{Directory}
-use Rattle.segment_dump.proofs.Owed.{of-cut, of-one, of-same, of-then}
+use Rattle.segment_dump.proofs.Owed.{of-cut, of-one, of-then}
 use Rattle.segment_dump.proofs.dumping.put_last.Goals as goal
 
 pub returns-in_err-put_anonymous : goal.returns-in_err-put_anonymous

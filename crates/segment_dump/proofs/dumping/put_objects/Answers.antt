@@ -1,7 +1,6 @@
 use Rattle.segment_manager.specs.Directory.{named_objects}
 use Rattle.segment_dump.specs.Owed.{objects_text, others_text}
-use Rattle.segment_manager.specs.Directory.{Directory}
-use Rattle.segment_dump.proofs.Owed.{of-cut, of-one, of-same, of-then}
+use Rattle.segment_dump.proofs.Owed.{of-cut, of-then}
 use Rattle.segment_dump.proofs.dumping.put_objects.Goals as goal
 
 pub returns-in_err-put_named : goal.returns-in_err-put_named

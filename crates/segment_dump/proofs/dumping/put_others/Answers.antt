@@ -1,7 +1,6 @@
 use Rattle.segment_manager.specs.Directory.{unique_objects}
 use Rattle.segment_dump.specs.Owed.{last_text, objects_text}
-use Rattle.segment_manager.specs.Directory.{Directory}
-use Rattle.segment_dump.proofs.Owed.{of-cut, of-one, of-same, of-then}
+use Rattle.segment_dump.proofs.Owed.{of-cut, of-then}
 use Rattle.segment_dump.proofs.dumping.put_others.Goals as goal
 
 pub returns-in_err-put_unique : goal.returns-in_err-put_unique

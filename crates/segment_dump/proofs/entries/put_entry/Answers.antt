@@ -1,4 +1,4 @@
-use Rattle.std.proofs.Common.{◌++◌, refl}
+use Rattle.std.proofs.Common.{refl}
 use Rattle.seg_types.specs.Names.{ByHandle}
 use Rattle.segment_manager.specs.Directory.{Directory}
 use Rattle.segment_dump.specs.Owed.{lines_at, text_at}

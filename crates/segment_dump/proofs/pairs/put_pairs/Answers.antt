@@ -1,9 +1,9 @@
 -- Each pair is that of the place at which the walk has come.
 use Rattle.std.proofs.Common.{◌≡◌, ◌+◌, sym, ap, subst, ◌∙◌, Some, None, arith}
-use Rattle.std.specs.Prelude.{Ok, option_map}
+use Rattle.std.specs.Prelude.{option_map}
 use Rattle.std.proofs.lemmas.Bool.{lt-ltb}
 use Rattle.seg_types.specs.Names.{ByHandle}
-use Rattle.segment_manager.specs.Walks.{item_seen, pairs_at}
+use Rattle.segment_manager.specs.Walks.{item_seen}
 use Rattle.segment_dump.specs.Asked.{pair_part}
 use Rattle.segment_dump.specs.Owed.{WritesOf}
 use Rattle.segment_dump.specs.Parts.{parts_until}

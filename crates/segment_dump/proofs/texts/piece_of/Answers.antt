@@ -1,5 +1,5 @@
 use Rattle.std.proofs.Common.{◌*◌, length, sym, ap, ◌∙◌, arith}
-use Rattle.std.specs.Prelude.{drop, take}
+use Rattle.std.specs.Prelude.{drop}
 use Rattle.std.proofs.lemmas.List.{take_all}
 use Rattle.segment_dump.proofs.texts.piece_of.Goals as goal
 

@@ -1,4 +1,4 @@
-use Rattle.std.proofs.Common.{◌≡◌, ◌++◌, length, sym, ap, ◌∙◌, refl, arith}
+use Rattle.std.proofs.Common.{◌≡◌, ◌++◌, length, ap, ◌∙◌, refl, arith}
 use Rattle.segment_dump.specs.Parts.{parts_until}
 use Rattle.segment_dump.specs.Texts.{piece_line, pieces_in}
 use Rattle.segment_dump.proofs.Owed.{writes_none}

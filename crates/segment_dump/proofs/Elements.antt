@@ -1,0 +1,312 @@
+-- The lines of an object's elements are those that its value has in a dump.
+use Rattle.std.proofs.Common.{◌≡◌, ℕ, suc, ℤ, Bool, true, false, ◌&&◌, List, [], ◌∷◌, ◌++◌, length, map, Option, Some, None, Result, Ok, Err, if◌then◌else◌, slice_get, refl, sym, ap, subst, ◌∙◌}
+use Rattle.std.specs.Prelude.{is_some, option_map}
+use Rattle.std.specs.List.{flat_map}
+use Rattle.best_fit.specs.Table.{Table}
+use Rattle.seg_types.specs.declared.kinds.Kind.TheVariants.{Scalar, Text, Texts as TextsKind, Vector}
+use Rattle.seg_types.specs.declared.kinds.ScalarKind.{ScalarKind}
+use Rattle.seg_types.specs.declared.refusals.Refusal.{Refusal}
+use Rattle.seg_types.specs.declared.refusals.Refusal.TheVariants as refusal
+use Rattle.seg_types.specs.declared.refusals.Refusal.TheVariants.{NotFound, OutOfRange, WrongKind}
+use Rattle.seg_types.specs.Kinds.{same_kind}
+use Rattle.seg_types.specs.Names.{ByHandle, Key}
+use Rattle.seg_types.specs.Commands as asked
+use Rattle.seg_types.specs.Commands.{Command, is_changing}
+use Rattle.seg_map.specs.Places.{item_of}
+use Rattle.seg_vector.specs.Vector.{OwnedText}
+use Rattle.segment_manager.specs.declared.modes.Mode.{Mode}
+use Rattle.segment_manager.specs.declared.modes.Mode.TheVariants.{Write, ReadOnly, CopyOnWrite}
+use Rattle.segment_manager.specs.declared.targets.Object.{Object as Located}
+use Rattle.segment_manager.specs.declared.telling.Instance.{Instance}
+use Rattle.segment_manager.specs.Answers.{Answer, Element, Number, TextElement}
+use Rattle.segment_manager.specs.Calls.{HasScalars, elements_of}
+use Rattle.segment_manager.specs.Contents.{bytes_at, sizes_at, sizes_of, text_bytes}
+use Rattle.segment_manager.specs.Directory.{Value, Numbers, Elements, Bytes, Pairs, Texts, Object, Directory, count_of, kind_of, live, named_objects, object_at, unique_objects}
+use Rattle.segment_manager.specs.Instances.{SaysOf}
+use Rattle.segment_manager.specs.Located.{IsLocated, located}
+use Rattle.segment_manager.specs.Plan.{Plan, Refuse, Reply, perform, with}
+use Rattle.segment_manager.specs.State.{Answers, State, StandsFor}
+use Rattle.segment_manager.specs.Step.{effect, get, is_read_only, step, step_of_kind}
+use Rattle.segment_manager.proofs.Laws.{said-at}
+use Rattle.segment_dump.specs.Asked.{element_part, element_text, length_in, string_part, text_part}
+use Rattle.segment_dump.specs.Items.{bytes_in, content_of, count_of_content}
+use Rattle.segment_dump.specs.Owed.{count_at, lines_at, object_count, object_lines}
+use Rattle.segment_dump.specs.Parts.{part_of, parts_until}
+use Rattle.segment_dump.specs.Texts.{content_text, element_line, text_lines}
+use Rattle.segment_dump.proofs.PartLines.{parts-all, parts-same}
+
+-- ---- a command that only reads is refused in no mode
+
+performed-reads : (mode : Mode) (d : Directory) (c : Command) → is_changing c ≡ false → step mode d c ≡ perform d (live d) (effect d c)
+unfolding step
+performed-reads Write d c e = refl
+performed-reads ReadOnly d c e = rw e refl
+performed-reads CopyOnWrite d c e = refl
+
+pub answered-reads : (mode : Mode) (d : Directory) (c : Command) → is_changing c ≡ false → (step mode d c).0 ≡ (perform d (live d) (effect d c)).0
+answered-reads mode d c e = ap (λ (r : Answer × Directory). r.0) (performed-reads mode d c e)
+
+-- the numbers that are answered
+pub size-is : (mode : Mode) (d : Directory) (n : ℕ) → Number n ≡ (step mode d asked.Size).0 → n ≡ d.size
+size-is mode d n e = let same : Number n ≡ Number d.size = e ∙ answered-reads mode d asked.Size refl in cc
+
+pub named-is : (mode : Mode) (d : Directory) (n : ℕ) → Number n ≡ (step mode d asked.NumNamed).0 → n ≡ length (named_objects d)
+named-is mode d n e = let same : Number n ≡ Number (length (named_objects d)) = e ∙ answered-reads mode d asked.NumNamed refl in cc
+
+pub unique-is : (mode : Mode) (d : Directory) (n : ℕ) → Number n ≡ (step mode d asked.NumUnique).0 → n ≡ length (unique_objects d)
+unique-is mode d n e = let same : Number n ≡ Number (length (unique_objects d)) = e ∙ answered-reads mode d asked.NumUnique refl in cc
+
+-- ---- lists
+
+-- the texts of what is made of each element
+pub flat_map-made : {X Y : Type 0} (f : Y → List ℕ) (g : X → Y) (xs : List X) → flat_map f (map g xs) ≡ flat_map (λ x. f (g x)) xs
+flat_map-made f g [] = refl
+flat_map-made f g (x ∷ xs) = ap (λ l. f (g x) ++ l) (flat_map-made f g xs)
+
+pub length-made : {X Y : Type 0} (g : X → Y) (xs : List X) → length (map g xs) ≡ length xs
+length-made g [] = refl
+length-made g (x ∷ xs) = ap (λ n. suc n) (length-made g xs)
+
+-- ---- one element
+
+abbrev going_on : (Object → Plan) → Option Object → Plan
+going_on next r = with (elim r as (λ _. Result Object Refusal) [ None ↦ Err NotFound | Some o ↦ Ok o ]) next
+
+-- what is answered for an element that there is, or not
+abbrev element_of : Directory → ScalarKind → Option ℤ → Plan
+element_of d k r = with (elim r as (λ _. Result ℤ Refusal) [ None ↦ Err OutOfRange | Some z ↦ Ok z ]) (λ z. Reply (Element k z) d)
+
+element-if : (d : Directory) (k : ScalarKind) (r : Option ℤ) → element_text (perform d (live d) (element_of d k r)).0 ≡ part_of (element_line k) r
+element-if d k None = refl
+element-if d k (Some z) = refl
+
+-- numbers, alone or in a vector, by how they are read and by their lines
+record IsRow (v : Value) (k : ScalarKind) (zs : List ℤ) : Type 0 where
+  gets : (d : Directory) (i : ℕ) → get d v i ≡ element_of d k (slice_get zs i)
+  lines : content_text (content_of v) ≡ flat_map (element_line k) zs
+
+numbers-row : (k : ScalarKind) (zs : List ℤ) → IsRow (Numbers k zs) k zs
+numbers-row k zs = record { gets = λ d i. refl; lines = refl }
+
+vector-row : (k : ScalarKind) (zs : List ℤ) (t : Table) → IsRow (Elements k zs t) k zs
+vector-row k zs t = record { gets = λ d i. refl; lines = refl }
+
+element-is : (mode : Mode) (d : Directory) (key : Key) (o : Object) (k : ScalarKind) (zs : List ℤ) (i : ℕ) → object_at d key ≡ Some o → IsRow o.value k zs
+    → element_part mode d key i ≡ part_of (element_line k) (slice_get zs i)
+element-is mode d key o k zs i e row =
+    ap element_text (answered-reads mode d (asked.Get key i) refl)
+    ∙ ap (λ (r : Option Object). element_text (perform d (live d) (going_on (λ o. get d o.value i) r)).0) e
+    ∙ ap (λ (p : Plan). element_text (perform d (live d) p).0) (row.gets d i)
+    ∙ element-if d k (slice_get zs i)
+
+-- all of them
+row-lines : (mode : Mode) (d : Directory) (key : Key) (o : Object) (k : ScalarKind) (zs : List ℤ) → object_at d key ≡ Some o → IsRow o.value k zs
+    → parts_until (element_part mode d key) (length zs) ≡ object_lines o
+row-lines mode d key o k zs e row =
+    parts-same (element_part mode d key) (λ i. part_of (element_line k) (slice_get zs i)) (length zs) (λ i. element-is mode d key o k zs i e row)
+    ∙ parts-all (element_line k) zs ∙ sym row.lines
+
+-- ---- texts
+
+abbrev owned_lines : OwnedText → List ℕ
+owned_lines p = text_lines p.bytes
+
+abbrev text_read : Directory → Option OwnedText → Plan
+text_read d r = with (elim r as (λ _. Result OwnedText Refusal) [ None ↦ Err OutOfRange | Some p ↦ Ok p ]) (λ p. Reply (TextElement p.bytes) d)
+
+text-if : (d : Directory) (r : Option OwnedText) → element_text (perform d (live d) (text_read d r)).0 ≡ part_of owned_lines r
+text-if d None = refl
+text-if d (Some p) = refl
+
+abbrev for_texts : Directory → Key → ℕ → Value → Plan
+for_texts d key i v = if same_kind TextsKind (kind_of v) then effect d (asked.Get key i) else Refuse WrongKind
+
+read-only : (b : Bool) (p : Plan) → b ≡ false → (if b then Refuse refusal.ReadOnly else p) ≡ p
+read-only true p e = absurd (cc)
+read-only false p e = refl
+
+never : (b : Bool) → (b && false) ≡ false
+never true = refl
+never false = refl
+
+asked-step : (mode : Mode) (d : Directory) (key : Key) (i : ℕ) → (step_of_kind mode d key TextsKind (asked.Get key i)).0 ≡ (perform d (live d) (going_on (λ o. for_texts d key i o.value) (object_at d key))).0
+unfolding step_of_kind
+asked-step mode d key i =
+    ap (λ p. (perform d (live d) p).0) (read-only (is_read_only mode && false) (going_on (λ o. for_texts d key i o.value) (object_at d key)) (never (is_read_only mode)))
+
+text-is : (mode : Mode) (d : Directory) (key : Key) (o : Object) (ps : List OwnedText) (t : Table) (i : ℕ) → object_at d key ≡ Some o → o.value ≡ Texts ps t
+    → text_part mode d key i ≡ part_of owned_lines (slice_get ps i)
+text-is mode d key o ps t i e f =
+    ap element_text (asked-step mode d key i)
+    ∙ ap (λ (r : Option Object). element_text (perform d (live d) (going_on (λ o. for_texts d key i o.value) r)).0) e
+    ∙ ap (λ (v : Value). element_text (perform d (live d) (for_texts d key i v)).0) f
+    ∙ ap (λ (r : Option Object). element_text (perform d (live d) (going_on (λ o. get d o.value i) r)).0) e
+    ∙ ap (λ (v : Value). element_text (perform d (live d) (get d v i)).0) f
+    ∙ text-if d (slice_get ps i)
+
+texts-lines : (mode : Mode) (d : Directory) (key : Key) (o : Object) (ps : List OwnedText) (t : Table) → object_at d key ≡ Some o → o.value ≡ Texts ps t
+    → parts_until (text_part mode d key) (length ps) ≡ object_lines o
+texts-lines mode d key o ps t e f =
+    parts-same (text_part mode d key) (λ i. part_of owned_lines (slice_get ps i)) (length ps) (λ i. text-is mode d key o ps t i e f)
+    ∙ parts-all owned_lines ps ∙ sym (flat_map-made text_lines bytes_in ps) ∙ ap (λ v. content_text (content_of v)) (sym f)
+
+-- ---- the kinds
+
+record IsNumbers (k : ScalarKind) (v : Value) : Type 0 where
+  numbers : List ℤ
+  is : v ≡ Numbers k numbers
+
+numbers-if : (k : ScalarKind) (v : Value) → kind_of v ≡ Scalar k → IsNumbers k v
+numbers-if k (Numbers l zs) e = let same : l ≡ k = cc in record { numbers = zs; is = λ i. Numbers (same i) zs }
+numbers-if k (Elements l zs t) e = absurd (cc)
+numbers-if k (Bytes bs t) e = absurd (cc)
+numbers-if k (Pairs l m ps) e = absurd (cc)
+numbers-if k (Texts ps t) e = absurd (cc)
+
+record IsElements (k : ScalarKind) (v : Value) : Type 0 where
+  numbers : List ℤ
+  table : Table
+  is : v ≡ Elements k numbers table
+
+vector-if : (k : ScalarKind) (v : Value) → kind_of v ≡ Vector k → IsElements k v
+vector-if k (Numbers l zs) e = absurd (cc)
+vector-if k (Elements l zs t) e = let same : l ≡ k = cc in record { numbers = zs; table = t; is = λ i. Elements (same i) zs t }
+vector-if k (Bytes bs t) e = absurd (cc)
+vector-if k (Pairs l m ps) e = absurd (cc)
+vector-if k (Texts ps t) e = absurd (cc)
+
+record IsBytes (v : Value) : Type 0 where
+  bytes : List ℕ
+  table : Table
+  is : v ≡ Bytes bytes table
+
+bytes-if : (v : Value) → kind_of v ≡ Text → IsBytes v
+bytes-if (Numbers l zs) e = absurd (cc)
+bytes-if (Elements l zs t) e = absurd (cc)
+bytes-if (Bytes bs t) e = record { bytes = bs; table = t; is = refl }
+bytes-if (Pairs l m ps) e = absurd (cc)
+bytes-if (Texts ps t) e = absurd (cc)
+
+record IsTexts (v : Value) : Type 0 where
+  texts : List OwnedText
+  table : Table
+  is : v ≡ Texts texts table
+
+texts-if : (v : Value) → kind_of v ≡ TextsKind → IsTexts v
+texts-if (Numbers l zs) e = absurd (cc)
+texts-if (Elements l zs t) e = absurd (cc)
+texts-if (Bytes bs t) e = absurd (cc)
+texts-if (Pairs l m ps) e = absurd (cc)
+texts-if (Texts ps t) e = record { texts = ps; table = t; is = refl }
+
+-- ---- how many there are
+
+abbrev sizes_of_object : Option Object → Result (ℕ × ℕ) Refusal
+sizes_of_object r = elim r as (λ _. Result (ℕ × ℕ) Refusal) [ None ↦ Err NotFound | Some o ↦ sizes_of o.value ]
+
+abbrev elements_of_object : Option Object → Result ScalarKind Refusal
+elements_of_object r = elim r as (λ _. Result ScalarKind Refusal) [ None ↦ Err NotFound | Some o ↦ elements_of (kind_of o.value) ]
+
+abbrev bytes_of_object : Option Object → Result (List ℕ) Refusal
+bytes_of_object r = elim r as (λ _. Result (List ℕ) Refusal) [ None ↦ Err NotFound | Some o ↦ text_bytes o.value ]
+
+abbrev count_of_object : Option Object → ℕ
+count_of_object r = elim r as (λ _. ℕ) [ None ↦ 0 | Some o ↦ object_count o ]
+
+-- a container that is no string has as many as are measured
+measured : (v : Value) → ((k : ScalarKind) → kind_of v ≡ Scalar k → ⊥) → (kind_of v ≡ Text → ⊥) → length_in (sizes_of v) ≡ count_of_content (content_of v)
+measured (Numbers k zs) n m = absurd (n k refl)
+measured (Elements k zs t) n m = refl
+measured (Bytes bs t) n m = absurd (m refl)
+measured (Pairs k v ps) n m = sym (length-made item_of ps)
+measured (Texts ps t) n m = sym (length-made bytes_in ps)
+
+-- ---- the object of a handle
+
+module _ (s : State) (o : Located) (l : IsLocated s (ByHandle o.handle) o) where
+  kind-said : (d : Directory) (st : StandsFor s.cut.bytes d) → o.kind ≡ kind_of (said-at s (ByHandle o.handle) o l d st).object.value
+  kind-said d st = ap (λ (q : Located). q.kind) (said-at s (ByHandle o.handle) o l d st).said
+
+  -- how many elements it has
+  pub scalars-counted : (k : ScalarKind) (n : ℕ) → o.kind ≡ Scalar k → n ≡ o.count → Answers s (λ d. count_at d (ByHandle o.handle)) n
+  scalars-counted k n e c = record {
+    answers = λ d st.
+        let f = said-at s (ByHandle o.handle) o l d st in
+        let v : IsNumbers k f.object.value = numbers-if k f.object.value (sym (kind-said d st) ∙ e) in
+        c ∙ ap (λ (q : Located). q.count) f.said ∙ ap count_of v.is ∙ sym (ap count_of_object f.is ∙ ap (λ w. count_of_content (content_of w)) v.is);
+  }
+
+  pub string-counted : o.kind ≡ Text → Answers s (λ d. count_at d (ByHandle o.handle)) 1
+  string-counted e = record {
+    answers = λ d st.
+        let f = said-at s (ByHandle o.handle) o l d st in
+        let v : IsBytes f.object.value = bytes-if f.object.value (sym (kind-said d st) ∙ e) in
+        sym (ap count_of_object f.is ∙ ap (λ w. count_of_content (content_of w)) v.is);
+  }
+
+  pub others-counted : (n : ℕ) → ((k : ScalarKind) → o.kind ≡ Scalar k → ⊥) → (o.kind ≡ Text → ⊥) → Answers s (λ d. length_in (sizes_at d (ByHandle o.handle))) n
+      → Answers s (λ d. count_at d (ByHandle o.handle)) n
+  others-counted n no_scalar no_text a = record {
+    answers = λ d st.
+        let f = said-at s (ByHandle o.handle) o l d st in
+        a.answers d st ∙ ap (λ r. length_in (sizes_of_object r)) f.is
+        ∙ measured f.object.value (λ k e. no_scalar k (kind-said d st ∙ e)) (λ e. no_text (kind-said d st ∙ e))
+        ∙ sym (ap count_of_object f.is);
+  }
+
+  -- its elements are of the kind that it says
+  pub scalars-at : (k : ScalarKind) → elements_of o.kind ≡ Ok k → HasScalars s (ByHandle o.handle)
+  scalars-at k e = (k, record { answers = λ d st. sym e ∙ ap elements_of (kind-said d st) ∙ sym (ap elements_of_object (said-at s (ByHandle o.handle) o l d st).is) })
+
+  module _ (n : ℕ) (counted : Answers s (λ d. count_at d (ByHandle o.handle)) n) where
+    count-said : (d : Directory) (st : StandsFor s.cut.bytes d) → n ≡ object_count (said-at s (ByHandle o.handle) o l d st).object
+    count-said d st = counted.answers d st ∙ ap count_of_object (said-at s (ByHandle o.handle) o l d st).is
+
+    row-said : (d : Directory) (st : StandsFor s.cut.bytes d) (k : ScalarKind) (zs : List ℤ) → n ≡ length zs → IsRow (said-at s (ByHandle o.handle) o l d st).object.value k zs
+        → parts_until (element_part s.mode d (ByHandle o.handle)) n ≡ lines_at d (ByHandle o.handle)
+    row-said d st k zs long row =
+        let f = said-at s (ByHandle o.handle) o l d st in
+        ap (parts_until (element_part s.mode d (ByHandle o.handle))) long ∙ row-lines s.mode d (ByHandle o.handle) f.object k zs f.is row ∙ sym (ap (part_of object_lines) f.is)
+
+    -- scalars
+    pub scalars-said : (k : ScalarKind) → o.kind ≡ Scalar k → (d : Directory) → StandsFor s.cut.bytes d → parts_until (element_part s.mode d (ByHandle o.handle)) n ≡ lines_at d (ByHandle o.handle)
+    scalars-said k e d st =
+        let f = said-at s (ByHandle o.handle) o l d st in
+        let v : IsNumbers k f.object.value = numbers-if k f.object.value (sym (kind-said d st) ∙ e) in
+        row-said d st k v.numbers (count-said d st ∙ ap (λ w. count_of_content (content_of w)) v.is) (subst (λ w. IsRow w k v.numbers) (sym v.is) (numbers-row k v.numbers))
+
+    -- a vector of them
+    pub vector-said : (k : ScalarKind) → o.kind ≡ Vector k → (d : Directory) → StandsFor s.cut.bytes d → parts_until (element_part s.mode d (ByHandle o.handle)) n ≡ lines_at d (ByHandle o.handle)
+    vector-said k e d st =
+        let f = said-at s (ByHandle o.handle) o l d st in
+        let v : IsElements k f.object.value = vector-if k f.object.value (sym (kind-said d st) ∙ e) in
+        row-said d st k v.numbers (count-said d st ∙ ap (λ w. count_of_content (content_of w)) v.is)
+        (subst (λ w. IsRow w k v.numbers) (sym v.is) (vector-row k v.numbers v.table))
+
+    -- a vector of strings
+    pub strings-said : o.kind ≡ TextsKind → (d : Directory) → StandsFor s.cut.bytes d → parts_until (text_part s.mode d (ByHandle o.handle)) n ≡ lines_at d (ByHandle o.handle)
+    strings-said e d st =
+        let f = said-at s (ByHandle o.handle) o l d st in
+        let v : IsTexts f.object.value = texts-if f.object.value (sym (kind-said d st) ∙ e) in
+        let long : n ≡ length v.texts = count-said d st ∙ ap (λ w. count_of_content (content_of w)) v.is ∙ length-made bytes_in v.texts in
+        ap (parts_until (text_part s.mode d (ByHandle o.handle))) long ∙ texts-lines s.mode d (ByHandle o.handle) f.object v.texts v.table f.is v.is ∙ sym (ap (part_of object_lines) f.is)
+
+  -- a string
+  pub string-said : o.kind ≡ Text → (d : Directory) → StandsFor s.cut.bytes d → string_part (bytes_at d (ByHandle o.handle)) ≡ lines_at d (ByHandle o.handle)
+  string-said e d st =
+      let f = said-at s (ByHandle o.handle) o l d st in
+      let v : IsBytes f.object.value = bytes-if f.object.value (sym (kind-said d st) ∙ e) in
+      ap (λ (r : Option Object). string_part (bytes_of_object r)) f.is ∙ ap (λ w. string_part (text_bytes w)) v.is
+      ∙ sym (ap (part_of object_lines) f.is ∙ ap (λ w. content_text (content_of w)) v.is)
+
+-- what an object says of itself is what is located under its handle
+pub said-located : (s : State) (said : Instance) → SaysOf s (ByHandle said.handle) said
+    → IsLocated s (ByHandle said.handle) (record { handle = said.handle; kind = said.kind; count = said.count })
+said-located s said h = record {
+  at = record {
+    answers = λ d st.
+        let f = h.says d st in
+        (λ i. Some (record { handle = f.2.at i; kind = f.2.kind i; count = f.2.count i })) ∙ sym (ap (option_map located) f.1);
+  };
+  here = record { answers = λ d st. sym (ap is_some (h.says d st).1) };
+}

@@ -1,0 +1,9 @@
+mod Examples
+mod Fronts
+mod Judged
+mod PartLines
+mod Owed
+mod Members
+mod Elements
+mod WalkedPairs
+mod Sections

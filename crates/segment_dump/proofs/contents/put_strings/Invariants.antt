@@ -1,0 +1,10 @@
+use Rattle.seg_types.specs.Names.{ByHandle}
+use Rattle.segment_dump.specs.Asked.{text_part}
+use Rattle.segment_dump.specs.Owed.{WritesOf}
+use Rattle.segment_dump.specs.Parts.{parts_until}
+use Rattle.segment_dump.proofs.PartLines.{well}
+use Rattle.segment_dump.proofs.contents.put_strings.Given as goal
+
+abbrev pub invariant-texts : goal.invariant-texts
+invariant-texts g l =
+    WritesOf l.segment (g.W.Sink.history l.initial.out) (g.W.Sink.history l.out) well (λ d. parts_until (text_part l.segment.mode d (ByHandle l.object.handle)) l.index)

@@ -1,0 +1,66 @@
+-- What loading a dump owes.
+use Rattle.std.specs.Prelude.{◌≡◌, ◌+◌, ◌<◌, ◌≤◌, ⊤, ℕ, false, Option, Some, None, List, length, take, IsTrue}
+use Rattle.block_tags.specs.Format.{is_legal_size}
+use Rattle.segment_manager.specs.declared.errors.CreateError.{CreateError}
+use Rattle.segment_manager.specs.declared.errors.CreateError.TheVariants as create
+use Rattle.segment_manager.specs.declared.modes.Mode.TheVariants.{Write}
+use Rattle.segment_manager.specs.Directory.{Directory}
+use Rattle.segment_manager.specs.State.{State, StandsFor}
+use Rattle.segment_dump.specs.Comparing.{IsDumpOf}
+use Rattle.segment_dump.specs.declared.faults.BadDump.{BadDump}
+use Rattle.segment_dump.specs.declared.faults.LoadError.{LoadError}
+use Rattle.segment_dump.specs.declared.faults.LoadError.TheVariants.{BadDump as Bad, BadSize, RegionTooSmall, NoSpace, LongText}
+use Rattle.segment_dump.specs.declared.faults.LoadRefused.{LoadRefused}
+use Rattle.segment_dump.specs.Places.{place_behind}
+
+-- the segment has the size that was asked for
+abbrev pub HasSize : State → Option ℕ → Type 0
+HasSize s None = ⊤
+HasSize s (Some size) = (d : Directory) → StandsFor s.cut.bytes d → d.size ≡ size
+
+-- a segment was made of which the text is the dump, for a size that it says itself, open for writing
+pub record IsLoaded (text : List ℕ) (size : Option ℕ) (s : State) : Type 0 where
+  pub said : ℕ
+  pub is : IsDumpOf s said text
+  pub mode : s.mode ≡ Write
+  pub size_is : HasSize s size
+
+-- ---- no segment is made
+
+-- some place of the text
+pub record IsPlace (text : List ℕ) (bad : BadDump) : Type 0 where
+  pub at : ℕ
+  pub inside : at ≤ length text
+  pub place : (bad.line, bad.column) ≡ place_behind (take at text)
+
+-- the size that was asked for, or else that of the text
+abbrev pub IsAsked : Option ℕ → ℕ → Type 0
+IsAsked None n = ⊤
+IsAsked (Some size) n = n ≡ size
+
+-- why not: where the text is wrong, or what is wrong with the size
+abbrev pub IsWhyNot : List ℕ → List ℕ → ℕ → Option ℕ → LoadError → Type 0
+IsWhyNot text region base size (Bad bad) = IsPlace text bad
+IsWhyNot text region base size BadSize = (n : ℕ) × IsAsked size n × (is_legal_size n ≡ false)
+IsWhyNot text region base size RegionTooSmall = (n : ℕ) × IsAsked size n × IsTrue (is_legal_size n) × (length region < base + n)
+IsWhyNot text region base size NoSpace = ⊤
+IsWhyNot text region base size LongText = ⊤
+
+-- the region comes back as it was, if it does
+abbrev pub IsBack : List ℕ → Option (List ℕ) → Type 0
+IsBack region None = ⊤
+IsBack region (Some back) = back ≡ region
+
+pub record IsNotLoaded (text region : List ℕ) (base : ℕ) (size : Option ℕ) (refused : LoadRefused) : Type 0 where
+  pub why : IsWhyNot text region base size refused.cause
+  pub back : IsBack region refused.region
+
+-- a segment was begun, and its region is let go
+pub record IsLetGo (text : List ℕ) (refused : LoadRefused) : Type 0 where
+  pub why : (region : List ℕ) (base : ℕ) (size : Option ℕ) → IsWhyNot text region base size refused.cause
+  pub gone : refused.region ≡ None
+
+-- why a segment is not created, said of a load
+abbrev pub load_error : CreateError → LoadError
+load_error create.BadSize = BadSize
+load_error create.RegionTooSmall = RegionTooSmall

@@ -1,0 +1,60 @@
+-- What a call writes of a segment: of each directory that its bytes denote.
+use Rattle.std.specs.Prelude.{◌≡◌, ◌+◌, ◌++◌, List, [], ℕ, Some, None, Result, if◌then◌else◌}
+use Rattle.std.specs.List.{flat_map}
+use Rattle.raw_region.specs.Answers.{failures_in}
+use Rattle.raw_region.specs.Device.{Took, Writes}
+use Rattle.seg_types.specs.declared.kinds.Class.TheVariants.{Anonymous}
+use Rattle.seg_types.specs.Names.{Key}
+use Rattle.segment_manager.specs.Directory.{Directory, Object, is_class, named_objects, object_at, unique_objects}
+use Rattle.segment_manager.specs.State.{State, StandsFor}
+use Rattle.segment_dump.specs.Items.{anonymous_objects, content_of, count_of_content, item_of_object}
+use Rattle.segment_dump.specs.Parts.{part_of}
+use Rattle.segment_dump.specs.Texts.{content_text, end_text, item_text}
+
+-- the text that is owed of each directory; and whichever it is, a failure is counted once
+pub record WritesOf {A E : Type 0} (s : State) (old new : Took) (result : Result A E) (owed : Directory → List ℕ) : Type 0 where
+  pub writes : (d : Directory) → StandsFor s.cut.bytes d → Writes old new result (owed d)
+  pub counted : new.failures ≡ old.failures + failures_in result
+
+-- how many elements a dump says that an object has
+abbrev pub object_count : Object → ℕ
+object_count o = count_of_content (content_of o.value)
+
+-- the elements of an object, line by line
+abbrev pub object_lines : Object → List ℕ
+object_lines o = content_text (content_of o.value)
+
+-- all lines of an object
+abbrev pub object_text : Object → List ℕ
+object_text o = item_text (item_of_object o)
+
+abbrev pub lines_at : Directory → Key → List ℕ
+lines_at d key = part_of object_lines (object_at d key)
+
+abbrev pub text_at : Directory → Key → List ℕ
+text_at d key = part_of object_text (object_at d key)
+
+-- the same where it is anonymous
+abbrev pub anonymous_text : Object → List ℕ
+anonymous_text o = if is_class Anonymous o then object_text o else []
+
+abbrev pub anonymous_at : Directory → Key → List ℕ
+anonymous_at d key = part_of anonymous_text (object_at d key)
+
+-- how many elements a dump says that the object of a key has
+abbrev pub count_at : Directory → Key → ℕ
+count_at d key = elim (object_at d key) [ None ↦ 0 | Some o ↦ object_count o ]
+
+-- all lines of some objects
+abbrev pub objects_text : List Object → List ℕ
+objects_text = flat_map object_text
+
+-- what comes behind the unique objects, behind those with names, and behind the first lines
+abbrev pub last_text : Directory → List ℕ
+last_text d = objects_text (anonymous_objects d) ++ end_text
+
+abbrev pub others_text : Directory → List ℕ
+others_text d = objects_text (unique_objects d) ++ last_text d
+
+abbrev pub all_text : Directory → List ℕ
+all_text d = objects_text (named_objects d) ++ others_text d

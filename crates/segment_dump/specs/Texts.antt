@@ -1,0 +1,84 @@
+-- A dump as text, line by line. Numbers, values, kinds, names and quoted texts are spelled as in the language.
+use Rattle.std.specs.Prelude.{ℕ, ℤ, zero, suc, ◌+◌, ◌-◌, ◌*◌, ◌/◌, List, [], ◌∷◌, ◌++◌, codes, drop, length, take}
+use Rattle.std.specs.List.{flat_map}
+use Rattle.seg_types.specs.declared.kinds.Class.{Class}
+use Rattle.seg_types.specs.declared.kinds.Class.TheVariants.{Anonymous, Named, Unique}
+use Rattle.seg_types.specs.declared.kinds.Kind.{Kind}
+use Rattle.seg_types.specs.declared.kinds.ScalarKind.{ScalarKind}
+use Rattle.segment_lang.specs.Texts.{kind_text, name_text, number_text, quoted_text, value_text}
+use Rattle.segment_dump.specs.Items.{Content, Scalars, Vector, String, Map, Strings, Item, Items, kind_of_content, count_of_content}
+use Rattle.segment_dump.specs.Parts.{parts_until}
+
+-- ---- lines of elements: each behind two blanks
+
+abbrev pub element_line : ScalarKind → ℤ → List ℕ
+element_line k z = 0x20 ∷ 0x20 ∷ value_text k z ++ 0x0A ∷ []
+
+abbrev pub pair_line : ScalarKind → ScalarKind → ℤ × ℤ → List ℕ
+pair_line k v (x, y) = 0x20 ∷ 0x20 ∷ value_text k x ++ 0x20 ∷ value_text v y ++ 0x0A ∷ []
+
+-- ---- a text: its length, and its bytes in pieces of 1000, of which the first stands in the same line and each other in its own
+
+-- how many pieces so many bytes are: one where there are none
+abbrev pub pieces_in : ℕ → ℕ
+pieces_in n = 1 + (n - 1) / 1000
+
+abbrev pub piece_of : List ℕ → ℕ → List ℕ
+piece_of bs i = take 1000 (drop (i * 1000) bs)
+
+-- what stands in front of a piece
+abbrev pub piece_lead : ℕ → List ℕ
+piece_lead zero = codes " "
+piece_lead (suc i) = codes "    "
+
+abbrev pub piece_line : List ℕ → ℕ → List ℕ
+piece_line bs i = piece_lead i ++ (quoted_text (piece_of bs i) ++ 0x0A ∷ [])
+
+abbrev pub pieces_text : List ℕ → List ℕ
+pieces_text bs = parts_until (piece_line bs) (pieces_in (length bs))
+
+abbrev pub length_text : ℕ → List ℕ
+length_text n = 0x20 ∷ 0x20 ∷ number_text n
+
+abbrev pub text_lines : List ℕ → List ℕ
+text_lines bs = length_text (length bs) ++ pieces_text bs
+
+-- ---- an object
+
+abbrev pub content_text : Content → List ℕ
+content_text (Scalars k zs) = flat_map (element_line k) zs
+content_text (Vector k zs) = flat_map (element_line k) zs
+content_text (String bs) = text_lines bs
+content_text (Map k v ps) = flat_map (pair_line k v) ps
+content_text (Strings ts) = flat_map text_lines ts
+
+-- kind and count, and the end of the line
+abbrev pub measure_text : Kind → ℕ → List ℕ
+measure_text kind n = kind_text kind ++ 0x20 ∷ number_text n ++ 0x0A ∷ []
+
+-- the line of an object: its class, its name where it has one, its kind, and how many elements there are
+abbrev pub head_line : Class → List ℕ → Kind → ℕ → List ℕ
+head_line Named name kind n = codes "named " ++ name_text name ++ 0x20 ∷ measure_text kind n
+head_line Unique name kind n = codes "unique " ++ measure_text kind n
+head_line Anonymous name kind n = codes "anonymous " ++ measure_text kind n
+
+abbrev pub item_text : Item → List ℕ
+item_text i = head_line i.class i.name (kind_of_content i.content) (count_of_content i.content) ++ content_text i.content
+
+-- ---- all of it
+
+-- the version of the form, the size in bytes, and how many entries the two indexes have
+abbrev pub front_text : ℕ → ℕ → ℕ → List ℕ
+front_text size named unique =
+    codes "segment dump 1" ++ 0x0A ∷ codes "size " ++ number_text size ++ 0x0A ∷ codes "indexes " ++ number_text named ++ 0x20 ∷ number_text unique ++ 0x0A ∷ []
+
+abbrev pub end_text : List ℕ
+end_text = codes "end" ++ 0x0A ∷ []
+
+abbrev pub items_text : List Item → List ℕ
+items_text = flat_map item_text
+
+-- the dump of some objects, for a segment of a size
+abbrev pub dump_text : ℕ → Items → List ℕ
+dump_text size items =
+    front_text size (length items.named) (length items.unique) ++ (items_text items.named ++ (items_text items.unique ++ (items_text items.anonymous ++ end_text)))

@@ -1,0 +1,28 @@
+//! Whether a text is the dump of a segment.
+ghost use Rattle.std.specs.Prelude.{OnOk};
+ghost use Rattle.segment_dump.specs.Comparing.{IsDumpOf};
+
+use crate::against::Against;
+use crate::dumping::dump_as;
+use segment_manager::Segment;
+
+/// Finds out whether a text is what [`dump`](crate::dump) writes of a segment, but that it says a size of its own.
+///
+/// # Errors
+///
+/// Where it is not: how many of its bytes, from the first on, are those of the segment.
+pub fn compare(segment: &Segment, size: u64, text: &[u8]) -> Result<(), usize>
+    ensures { OnOk result (IsDumpOf segment.now size text.now) }
+{
+    let mut out = Against::new(text);
+    match dump_as(segment, size, &mut out) {
+        Ok(()) => {
+            if out.has_all(text) {
+                Ok(())
+            } else {
+                Err(out.alike())
+            }
+        }
+        Err(_) => Err(out.alike()),
+    }
+}

@@ -1,0 +1,141 @@
+//! The dump of a segment: its size, and all objects line by line.
+ghost use Rattle.std.specs.Prelude.{◌≡◌, ◌-◌, ◌^◌, ◌<◌, length};
+ghost use Rattle.raw_region.specs.Device.{Writes};
+ghost use Rattle.seg_types.specs.Names.{ByHandle};
+ghost use Rattle.segment_manager.specs.Directory.{named_objects, unique_objects};
+ghost use Rattle.segment_manager.specs.Instances.{SaysOf};
+ghost use Rattle.segment_dump.specs.Items.{anonymous_objects, portable};
+ghost use Rattle.segment_dump.specs.Owed.{WritesOf, all_text, anonymous_at, last_text, objects_text, others_text};
+ghost use Rattle.segment_dump.specs.Texts.{dump_text, front_text};
+
+use crate::entries::put_entry;
+use raw_region::{DeviceFault, Sink};
+use seg_types::Class;
+use segment_lang::{Piece, put_pieces};
+use segment_manager::{Instance, Segment};
+
+/// Writes all that a segment holds as text: its size in bytes, and class, name, kind and value of each object. It needs no
+/// memory, and no line has more than 4096 bytes. Two segments with the same names, classes, kinds and values, and with their
+/// anonymous objects in the same order, have the same lines but for the size, wherever their blocks lie.
+///
+/// # Errors
+///
+/// Where the sink fails. It has taken a part of the text then, from the first byte on, and not all.
+pub fn dump<W: Sink>(segment: &Segment, out: &mut W) -> Result<(), DeviceFault>
+    requires { (W.history out.old).failures < 2 ^ 64 - 1 }
+    ensures { WritesOf segment.now (W.history out.old) (W.history out.new) result (λ d. dump_text d.size (portable d)) }
+{
+    dump_as(segment, segment.size(), out)
+}
+
+/// The same with another size in it.
+pub fn dump_as<W: Sink>(segment: &Segment, size: u64, out: &mut W) -> Result<(), DeviceFault>
+    requires { (W.history out.old).failures < 2 ^ 64 - 1 }
+    ensures { WritesOf segment.now (W.history out.old) (W.history out.new) result (λ d. dump_text size (portable d)) }
+{
+    put_front(segment, size, out)?;
+    put_objects(segment, out)
+}
+
+/// Writes the version, the size, and how many entries the indexes have.
+fn put_front<W: Sink>(segment: &Segment, size: u64, out: &mut W) -> Result<(), DeviceFault>
+    requires { (W.history out.old).failures < 2 ^ 64 - 1 }
+    ensures { WritesOf segment.now (W.history out.old) (W.history out.new) result (λ d. front_text size (length (named_objects d)) (length (unique_objects d))) }
+{
+    put_numbers(size, segment.num_named(), segment.num_unique(), out)
+}
+
+/// The same of these numbers.
+fn put_numbers<W: Sink>(size: u64, named: u64, unique: u64, out: &mut W) -> Result<(), DeviceFault>
+    requires { (W.history out.old).failures < 2 ^ 64 - 1 }
+    ensures { Writes (W.history out.old) (W.history out.new) result (front_text size named unique) }
+{
+    put_pieces(
+        out,
+        &[
+            Piece::Bytes(b"segment dump 1\nsize "),
+            Piece::Number(size),
+            Piece::Bytes(b"\nindexes "),
+            Piece::Number(named),
+            Piece::Bytes(b" "),
+            Piece::Number(unique),
+            Piece::Bytes(b"\n"),
+        ],
+    )
+}
+
+/// Writes all objects, and `end`.
+fn put_objects<W: Sink>(segment: &Segment, out: &mut W) -> Result<(), DeviceFault>
+    requires { (W.history out.old).failures < 2 ^ 64 - 1 }
+    ensures { WritesOf segment.now (W.history out.old) (W.history out.new) result (λ d. all_text d) }
+{
+    put_named(segment, out)?;
+    put_others(segment, out)
+}
+
+/// Writes the objects without names, and `end`.
+fn put_others<W: Sink>(segment: &Segment, out: &mut W) -> Result<(), DeviceFault>
+    requires { (W.history out.old).failures < 2 ^ 64 - 1 }
+    ensures { WritesOf segment.now (W.history out.old) (W.history out.new) result (λ d. others_text d) }
+{
+    put_unique(segment, out)?;
+    put_last(segment, out)
+}
+
+/// Writes the anonymous objects, and `end`.
+fn put_last<W: Sink>(segment: &Segment, out: &mut W) -> Result<(), DeviceFault>
+    requires { (W.history out.old).failures < 2 ^ 64 - 1 }
+    ensures { WritesOf segment.now (W.history out.old) (W.history out.new) result (λ d. last_text d) }
+{
+    put_anonymous(segment, out)?;
+    put_pieces(out, &[Piece::Bytes(b"end\n")])
+}
+
+/// Writes the objects with names, by their names.
+fn put_named<W: Sink>(segment: &Segment, out: &mut W) -> Result<(), DeviceFault>
+    requires { (W.history out.old).failures < 2 ^ 64 - 1 }
+    ensures { WritesOf segment.now (W.history out.old) (W.history out.new) result (λ d. objects_text (named_objects d)) }
+{
+    'names: for index in 0..segment.num_named() {
+        put_entry(segment, segment.named_instance(index), out)?;
+    }
+    Ok(())
+}
+
+/// Writes the unique objects, by their kinds.
+fn put_unique<W: Sink>(segment: &Segment, out: &mut W) -> Result<(), DeviceFault>
+    requires { (W.history out.old).failures < 2 ^ 64 - 1 }
+    ensures { WritesOf segment.now (W.history out.old) (W.history out.new) result (λ d. objects_text (unique_objects d)) }
+{
+    'kinds: for index in 0..segment.num_unique() {
+        put_entry(segment, segment.unique_instance(index), out)?;
+    }
+    Ok(())
+}
+
+/// Writes the anonymous objects, by their handles.
+fn put_anonymous<W: Sink>(segment: &Segment, out: &mut W) -> Result<(), DeviceFault>
+    requires { (W.history out.old).failures < 2 ^ 64 - 1 }
+    ensures { WritesOf segment.now (W.history out.old) (W.history out.new) result (λ d. objects_text (anonymous_objects d)) }
+{
+    'objects: for said in segment.objects() {
+        put_if_anonymous(segment, said, out)?;
+    }
+    Ok(())
+}
+
+/// Writes an object where it is anonymous.
+fn put_if_anonymous<W: Sink>(
+    segment: &Segment,
+    said: Instance<'_>,
+    out: &mut W,
+) -> Result<(), DeviceFault>
+    requires writer { (W.history out.old).failures < 2 ^ 64 - 1 }
+    requires said { SaysOf segment.now (ByHandle said.handle) said }
+    ensures { WritesOf segment.now (W.history out.old) (W.history out.new) result (λ d. anonymous_at d (ByHandle said.entry.handle)) }
+{
+    match said.class {
+        Class::Anonymous => put_entry(segment, said, out),
+        _ => Ok(()),
+    }
+}

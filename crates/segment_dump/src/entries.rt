@@ -1,0 +1,74 @@
+//! An object in a dump: its line, and below it a line for each element.
+ghost use Rattle.std.specs.Prelude.{◌-◌, ◌^◌, ◌<◌};
+ghost use Rattle.raw_region.specs.Device.{Writes};
+ghost use Rattle.seg_types.specs.Names.{ByHandle};
+ghost use Rattle.segment_manager.specs.Instances.{SaysOf};
+ghost use Rattle.segment_dump.specs.Owed.{WritesOf, text_at};
+ghost use Rattle.segment_dump.specs.Texts.{head_line};
+
+use crate::contents::{count_of, put_content};
+use raw_region::{DeviceFault, Sink};
+use seg_types::Class;
+use segment_lang::{Piece, put_pieces};
+use segment_manager::{Instance, Object, Segment};
+
+/// Writes all lines of an object that said this of itself.
+pub fn put_entry<W: Sink>(
+    segment: &Segment,
+    said: Instance<'_>,
+    out: &mut W,
+) -> Result<(), DeviceFault>
+    requires writer { (W.history out.old).failures < 2 ^ 64 - 1 }
+    requires said { SaysOf segment.now (ByHandle said.handle) said }
+    ensures { WritesOf segment.now (W.history out.old) (W.history out.new) result (λ d. text_at d (ByHandle said.entry.handle)) }
+{
+    let object = Object {
+        handle: said.handle,
+        kind: said.kind,
+        count: said.count,
+    };
+    let count = count_of(segment, object);
+    put_head(said, count, out)?;
+    put_content(segment, object, count, out)
+}
+
+/// Writes the line of an object: its class, its name where it has one, its kind, and how many elements there are.
+fn put_head<W: Sink>(said: Instance<'_>, count: u64, out: &mut W) -> Result<(), DeviceFault>
+    requires { (W.history out.old).failures < 2 ^ 64 - 1 }
+    ensures { Writes (W.history out.old) (W.history out.new) result (head_line said.entry.class said.entry.name.now said.entry.kind count) }
+{
+    match said.class {
+        Class::Named => put_pieces(
+            out,
+            &[
+                Piece::Bytes(b"named "),
+                Piece::Name(said.name),
+                Piece::Bytes(b" "),
+                Piece::Kind(said.kind),
+                Piece::Bytes(b" "),
+                Piece::Number(count),
+                Piece::Bytes(b"\n"),
+            ],
+        ),
+        Class::Unique => put_pieces(
+            out,
+            &[
+                Piece::Bytes(b"unique "),
+                Piece::Kind(said.kind),
+                Piece::Bytes(b" "),
+                Piece::Number(count),
+                Piece::Bytes(b"\n"),
+            ],
+        ),
+        Class::Anonymous => put_pieces(
+            out,
+            &[
+                Piece::Bytes(b"anonymous "),
+                Piece::Kind(said.kind),
+                Piece::Bytes(b" "),
+                Piece::Number(count),
+                Piece::Bytes(b"\n"),
+            ],
+        ),
+    }
+}

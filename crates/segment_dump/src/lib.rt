@@ -1,0 +1,21 @@
+//! Segments as text: all objects of a segment, line by line, for a person to read and to compare. `docs/DUMP.md` has the form.
+#![tactic(auto)]
+
+mod against;
+mod building;
+mod comparing;
+mod contents;
+mod dumping;
+mod entries;
+mod faults;
+mod filling_texts;
+mod loading;
+mod pairs;
+mod places;
+mod reading;
+mod texts;
+
+pub use comparing::compare;
+pub use dumping::dump;
+pub use faults::{BadDump, DumpFault, LoadError, LoadRefused};
+pub use loading::load;

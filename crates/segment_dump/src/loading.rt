@@ -1,0 +1,218 @@
+//! A segment made of a dump. What the lines ask for is done, and then the segment is compared with the whole text, so that no
+//! line needs to be believed.
+ghost use Rattle.std.specs.Prelude.{◌≡◌, ◌%◌, List, ℕ, MatchResult, Option, Some, None};
+ghost use Rattle.std.specs.Bool.{OnTrue};
+ghost use Rattle.segment_manager.specs.declared.modes.Mode.TheVariants.{Write};
+ghost use Rattle.segment_dump.specs.Loading.{HasSize, IsAsked, IsLetGo, IsLoaded, IsNotLoaded, IsWhyNot, load_error};
+
+use crate::building::{Stop, build, stop_of};
+use crate::comparing::compare;
+use crate::faults::{BadDump, DumpFault, LoadError, LoadRefused, Misfit};
+use crate::places::place_at;
+use crate::reading::Lines;
+use raw_region::RawRegion;
+use segment_manager::{CreateError, CreateRefused, Mode, Segment};
+
+/// What the first three lines say.
+#[derive(Clone, Copy)]
+struct Front {
+    size: u64,
+    named: u64,
+    unique: u64,
+}
+
+/// Makes a segment of a dump, in the `size` bytes of the region from `base` on, which is a multiple of 16; without a size in as
+/// many as the dump says, of which it keeps those up to its last block. The room is for the longest text of a vector of
+/// strings: as many bytes as the dump has are enough.
+///
+/// # Errors
+///
+/// `BadDump` says where the text is no dump, and why. `BadSize`, `RegionTooSmall`, `NoSpace` and `LongText` are as they are
+/// called. The region comes back as it was where no segment was begun, and else is let go.
+pub fn load(
+    text: &[u8],
+    room: &mut [u8],
+    region: RawRegion,
+    base: u64,
+    size: Option<u64>,
+) -> Result<Segment, LoadRefused>
+    requires aligned { base % 16 ≡ 0 }
+    ensures { MatchResult result (IsLoaded text.now size) (IsNotLoaded text.now region base size) }
+{
+    let mut lines = Lines::new(text);
+    let front = match read_front(&mut lines) {
+        Ok(front) => front,
+        Err(misfit) => {
+            return Err(LoadRefused {
+                region: Some(region),
+                cause: bad_dump(text, misfit),
+            });
+        }
+    };
+    let asked = asked_size(size, front.size);
+    let mut segment = match Segment::create(region, base, asked, Mode::Write) {
+        Ok(segment) => segment,
+        Err(refused) => return Err(not_created(refused)),
+    };
+    if let Err(stop) = make_objects(&mut segment, front, &mut lines, room, text.len()) {
+        return Err(let_go(cause_of(text, stop)));
+    }
+    judge(segment, text, front.size, size)
+}
+
+/// What the first three lines say.
+fn read_front(lines: &mut Lines<'_>) -> Result<Front, Misfit> {
+    let mut words = lines.next_line()?;
+    words.expect(b"segment")?;
+    words.expect(b"dump")?;
+    words.expect(b"1")?;
+    words.finish()?;
+    let mut words = lines.next_line()?;
+    words.expect(b"size")?;
+    let size = words.next_number()?;
+    words.finish()?;
+    let mut words = lines.next_line()?;
+    words.expect(b"indexes")?;
+    let named = words.next_number()?;
+    let unique = words.next_number()?;
+    words.finish()?;
+    Ok(Front {
+        size,
+        named,
+        unique,
+    })
+}
+
+/// The size that is asked for, or else that of the text.
+fn asked_size(size: Option<u64>, said: u64) -> u64
+    ensures { IsAsked size result }
+{
+    match size {
+        Some(size) => size,
+        None => said,
+    }
+}
+
+/// No segment is created.
+fn not_created(refused: CreateRefused) -> LoadRefused
+    ensures back { result.region ≡ Some refused.region }
+    ensures cause { result.cause ≡ load_error refused.cause }
+{
+    let (region, cause) = refused.into_parts();
+    let cause = match cause {
+        CreateError::BadSize => LoadError::BadSize,
+        CreateError::RegionTooSmall => LoadError::RegionTooSmall,
+    };
+    LoadRefused {
+        region: Some(region),
+        cause,
+    }
+}
+
+/// The region is let go.
+fn let_go(cause: LoadError) -> LoadRefused
+    ensures gone { result.region ≡ None }
+    ensures cause { result.cause ≡ cause }
+{
+    LoadRefused {
+        region: None,
+        cause,
+    }
+}
+
+/// What is wrong at a place of a text.
+fn bad_dump(text: &[u8], misfit: Misfit) -> LoadError
+    ensures { (region : List ℕ) (base : ℕ) (size : Option ℕ) → IsWhyNot text.now region base size result }
+{
+    let at = misfit.at.min(text.len());
+    let (line, column) = place_at(text, at);
+    LoadError::BadDump(BadDump {
+        line,
+        column,
+        cause: misfit.cause,
+    })
+}
+
+/// Why building stopped.
+fn cause_of(text: &[u8], stop: Stop) -> LoadError
+    ensures { (region : List ℕ) (base : ℕ) (size : Option ℕ) → IsWhyNot text.now region base size result }
+{
+    match stop {
+        Stop::Misfit(misfit) => bad_dump(text, misfit),
+        Stop::NoSpace => LoadError::NoSpace,
+        Stop::LongText => LoadError::LongText,
+    }
+}
+
+/// Makes all objects of a dump in a segment with nothing in it, with just as many places in its indexes.
+fn make_objects(
+    segment: &mut Segment,
+    front: Front,
+    lines: &mut Lines<'_>,
+    room: &mut [u8],
+    most: usize,
+) -> Result<(), Stop> {
+    let at = lines.at();
+    if let Err(why) = segment.reserve_named(front.named) {
+        return Err(stop_of(why, at));
+    }
+    if let Err(why) = segment.reserve_unique(front.unique) {
+        return Err(stop_of(why, at));
+    }
+    build(segment, lines, room, most)
+}
+
+/// Takes a segment as it is where the text is its dump, and it is open and as long as it should be.
+fn judge(
+    mut segment: Segment,
+    text: &[u8],
+    said: u64,
+    size: Option<u64>,
+) -> Result<Segment, LoadRefused>
+    ensures { MatchResult result (IsLoaded text.now size) (IsLetGo text.now) }
+{
+    if !is_open(&segment) {
+        return Err(unlike(text, 0));
+    }
+    if size.is_none() {
+        segment.cut_end();
+    }
+    match compare(&segment, said, text) {
+        Err(at) => Err(unlike(text, at)),
+        Ok(()) => {
+            if is_open(&segment) && has_size(&segment, size) {
+                Ok(segment)
+            } else {
+                Err(unlike(text, 0))
+            }
+        }
+    }
+}
+
+/// The text is not the dump of the segment that was made of it, from its byte `at` on.
+fn unlike(text: &[u8], at: usize) -> LoadRefused
+    ensures { IsLetGo text.now result }
+{
+    let cause = DumpFault::Unlike;
+    let_go(bad_dump(text, Misfit { at, cause }))
+}
+
+/// Whether a segment is open for writing.
+fn is_open(segment: &Segment) -> bool
+    ensures { OnTrue result (segment.now.mode ≡ Write) }
+{
+    match segment.mode() {
+        Mode::Write => true,
+        _ => false,
+    }
+}
+
+/// Whether a segment has the size that was asked for.
+fn has_size(segment: &Segment, size: Option<u64>) -> bool
+    ensures { OnTrue result (HasSize segment.now size) }
+{
+    match size {
+        None => true,
+        Some(size) => segment.size() == size,
+    }
+}

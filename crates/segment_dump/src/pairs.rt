@@ -1,0 +1,77 @@
+//! The pairs of a map in a dump: a line for each, by rising keys.
+ghost use Rattle.std.specs.Prelude.{◌≡◌, ◌-◌, ◌^◌, ◌<◌, option_map, true};
+ghost use Rattle.raw_region.specs.Device.{Writes};
+ghost use Rattle.seg_types.specs.Names.{ByHandle};
+ghost use Rattle.seg_types.specs.Values.{kind_of_scalar, value_of_scalar};
+ghost use Rattle.segment_manager.specs.Located.{IsObject};
+ghost use Rattle.segment_manager.specs.Maps.{pair_above};
+ghost use Rattle.segment_manager.specs.State.{Answers};
+ghost use Rattle.segment_manager.specs.Walks.{IsMap, item_of_kinds, item_seen, pairs_at};
+ghost use Rattle.segment_dump.specs.Asked.{pair_part, walked_line};
+ghost use Rattle.segment_dump.specs.Owed.{WritesOf};
+ghost use Rattle.segment_dump.specs.Parts.{parts_until};
+
+use raw_region::{DeviceFault, Sink};
+use seg_types::{ScalarKind, ScalarValue};
+use segment_lang::{Piece, put_pieces};
+use segment_manager::{Object, Segment};
+
+/// Writes as many pairs of a map by rising keys.
+pub fn put_pairs<W: Sink>(
+    segment: &Segment,
+    object: Object,
+    keys: ScalarKind,
+    values: ScalarKind,
+    count: u64,
+    out: &mut W,
+) -> Result<(), DeviceFault>
+    requires writer { (W.history out.old).failures < 2 ^ 64 - 1 }
+    requires object { IsObject object segment.now }
+    requires map { IsMap segment.now (ByHandle object.handle) keys values }
+    ensures { WritesOf segment.now (W.history out.old) (W.history out.new) result (λ d. parts_until (pair_part keys values d (ByHandle object.handle)) count) }
+{
+    let mut next = segment.first_pair(&object, keys, values);
+    'pairs: for index in 0..count {
+        if let Some((key, value)) = next {
+            put_pair(key, value, out)?;
+            next = pair_behind(segment, object, key, values, index + 1 < count);
+        }
+    }
+    Ok(())
+}
+
+/// The pair above a key of a map, where there is one more to write.
+fn pair_behind(
+    segment: &Segment,
+    object: Object,
+    key: ScalarValue,
+    values: ScalarKind,
+    more: bool,
+) -> Option<(ScalarValue, ScalarValue)>
+    requires object { IsObject object segment.now }
+    requires map { IsMap segment.now (ByHandle object.handle) (kind_of_scalar key) values }
+    ensures { more ≡ true → Answers segment.now (λ d. option_map (item_of_kinds (kind_of_scalar key) values) (pair_above (value_of_scalar key) (pairs_at d (ByHandle object.handle)))) (option_map item_seen result) }
+{
+    if more {
+        segment.next_pair(&object, key, values)
+    } else {
+        None
+    }
+}
+
+/// Writes the line of a key and its value.
+fn put_pair<W: Sink>(key: ScalarValue, value: ScalarValue, out: &mut W) -> Result<(), DeviceFault>
+    requires { (W.history out.old).failures < 2 ^ 64 - 1 }
+    ensures { Writes (W.history out.old) (W.history out.new) result (walked_line (item_seen (key, value))) }
+{
+    put_pieces(
+        out,
+        &[
+            Piece::Bytes(b"  "),
+            Piece::Value(key),
+            Piece::Bytes(b" "),
+            Piece::Value(value),
+            Piece::Bytes(b"\n"),
+        ],
+    )
+}

@@ -1,0 +1,171 @@
+//! A dump that is read: its lines one after another, and the words of a line.
+ghost use Rattle.std.specs.Prelude.{◌≤◌, length, IfOk};
+ghost use Rattle.segment_lang.specs.Seen.{bytes_said};
+
+use crate::faults::{DumpFault, Misfit};
+use seg_types::{Kind, ScalarKind, ScalarValue};
+use segment_lang::{Quoted, Word, kind_of_word, next_word, number_of, scalar_of};
+
+/// The most bytes of a line.
+const LONGEST_LINE: usize = 4096;
+
+/// What is left of a text.
+#[derive(Drop)]
+pub struct Lines<'a> {
+    rest: &'a [u8],
+    len: usize,
+}
+
+/// What is left of a line.
+#[derive(Drop)]
+pub struct Words<'a> {
+    rest: &'a [u8],
+    end: usize,
+    ghost short: { length rest.now ≤ 4096 },
+}
+
+impl<'a> Lines<'a> {
+    /// All lines of a text.
+    pub fn new(text: &'a [u8]) -> Lines<'a> {
+        Lines {
+            rest: text,
+            len: text.len(),
+        }
+    }
+
+    /// How many bytes of the text came before what is left.
+    pub fn at(&self) -> usize {
+        self.len.saturating_sub(self.rest.len())
+    }
+
+    /// Whether nothing is left.
+    pub fn is_empty(&self) -> bool {
+        self.rest.is_empty()
+    }
+
+    /// The next line, without the byte that ends it.
+    pub fn next_line(&mut self) -> Result<Words<'a>, Misfit> {
+        let at = self.at();
+        let rest = self.rest;
+        let Some(end) = rest.iter().position(|byte| *byte == b'\n') else {
+            return Err(Misfit {
+                at: self.len,
+                cause: DumpFault::Cut,
+            });
+        };
+        let (line, behind) = rest.split_at(end);
+        if line.len() > LONGEST_LINE {
+            return Err(Misfit {
+                at,
+                cause: DumpFault::LongLine,
+            });
+        }
+        let (_, behind) = behind.split_at(1);
+        self.rest = behind;
+        Ok(Words {
+            rest: line,
+            end: self.at().saturating_sub(1),
+        })
+    }
+}
+
+impl<'a> Words<'a> {
+    /// Where the next word stands in the text, or the end of the line.
+    pub fn at(&self) -> usize {
+        let rest = self.rest;
+        let from = self.end.saturating_sub(rest.len());
+        match rest.iter().position(|byte| *byte != b' ') {
+            Some(blanks) => from.saturating_add(blanks),
+            None => self.end,
+        }
+    }
+
+    /// What is wrong where the words stand.
+    fn misfit(&self, cause: DumpFault) -> Misfit {
+        Misfit {
+            at: self.at(),
+            cause,
+        }
+    }
+
+    /// Whether these bytes are all that is left.
+    pub fn are(&self, bytes: &[u8]) -> bool {
+        self.rest == bytes
+    }
+
+    /// There are no more words.
+    pub fn finish(&self) -> Result<(), Misfit> {
+        if self.rest.is_empty() {
+            Ok(())
+        } else {
+            Err(self.misfit(DumpFault::BadSyntax))
+        }
+    }
+
+    /// The next word.
+    pub fn next_word(&mut self) -> Result<Word<'a>, Misfit>
+        ensures { IfOk result (λ word. length (bytes_said word) ≤ 4096) }
+    {
+        match next_word(self.rest) {
+            None => Err(self.misfit(DumpFault::BadSyntax)),
+            Some((word, rest)) => {
+                self.rest = rest;
+                Ok(word)
+            }
+        }
+    }
+
+    /// The next word, a bare one.
+    fn next_bare(&mut self) -> Result<&'a [u8], Misfit> {
+        let misfit = self.misfit(DumpFault::BadSyntax);
+        match self.next_word()? {
+            Word::Bare(bytes) => Ok(bytes),
+            Word::Text(_) => Err(misfit),
+        }
+    }
+
+    /// The next word, a text in quotes.
+    pub fn next_text(&mut self) -> Result<Quoted<'a>, Misfit>
+        ensures { IfOk result (λ text. length text ≤ 4096) }
+    {
+        let misfit = self.misfit(DumpFault::BadSyntax);
+        match self.next_word()? {
+            Word::Bare(_) => Err(misfit),
+            Word::Text(text) => Ok(text),
+        }
+    }
+
+    /// The next word is this one.
+    pub fn expect(&mut self, word: &[u8]) -> Result<(), Misfit> {
+        let misfit = self.misfit(DumpFault::BadSyntax);
+        let bytes = self.next_bare()?;
+        if bytes == word { Ok(()) } else { Err(misfit) }
+    }
+
+    /// The next word, a number.
+    pub fn next_number(&mut self) -> Result<u64, Misfit> {
+        let misfit = self.misfit(DumpFault::BadCount);
+        match number_of(self.next_bare()?) {
+            Some(number) => Ok(number),
+            None => Err(misfit),
+        }
+    }
+
+    /// The next word, a kind.
+    pub fn next_kind(&mut self) -> Result<Kind, Misfit> {
+        let misfit = self.misfit(DumpFault::UnknownKind);
+        match kind_of_word(self.next_word()?) {
+            Some(kind) => Ok(kind),
+            None => Err(misfit),
+        }
+    }
+
+    /// The next word, a value of a kind.
+    pub fn next_value(&mut self, kind: ScalarKind) -> Result<ScalarValue, Misfit> {
+        let misfit = self.misfit(DumpFault::BadValue);
+        match scalar_of(kind, self.next_word()?) {
+            Some(value) => Ok(value),
+            None => Err(misfit),
+        }
+    }
+}

@@ -6,13 +6,14 @@ ghost use Rattle.segment_disk.specs.Events.{nothing_taken};
 
 use raw_region::stream::{Reading, Writing};
 use segment_cli::{
-    Answering, Invocation, InvocationFault, LANGUAGE, ModeName, ProgramFault, Saving, SessionFault,
-    VERSION, invocation, report, report_file,
+    Answering, Invocation, InvocationFault, ModeName, ProgramFault, Saving, SessionFault, VERSION,
+    invocation, report, report_file,
 };
 use segment_disk::{HostDisk, Numbered, Outlet, Output, StopsAtError};
 use segment_file::{
     check, create, grow, lint, migrate, print, print_language, run, run_strict, shrink,
 };
+use segment_scripts::{CommandRow, LANGUAGE};
 use std::alloc::{AllocError, Global};
 use std::io::{self, BufWriter, ErrorKind};
 use std::process::ExitCode;
@@ -90,8 +91,8 @@ fn command<O: Output + Drop>(
         Invocation::Grow(file, bytes) => grow(alloc, disk, file, bytes, &mut out),
         Invocation::Shrink(file) => shrink(alloc, disk, file, &mut out),
         Invocation::Migrate(file) => migrate(alloc, disk, file, &mut out),
-        Invocation::Lint => lint(&LANGUAGE, &mut Reading::new(rt.reader()), &mut out),
-        Invocation::Language => print_language(&mut out, &LANGUAGE),
+        Invocation::Lint => lint(language(), &mut Reading::new(rt.reader()), &mut out),
+        Invocation::Language => print_language(&mut out, language()),
         Invocation::Version => print(&mut out, VERSION),
     }
 }
@@ -146,6 +147,11 @@ fn answer_as<O: Output + Drop>(
     }
     let mut out = out;
     run(alloc, disk, file, mode, size, saving, &mut script, &mut out)
+}
+
+/// The commands of a script. They stand in a function of their own, since a table is dear to prove beside calls.
+fn language() -> &'static [CommandRow] {
+    &LANGUAGE
 }
 
 /// The file that the command line names, if there is one.

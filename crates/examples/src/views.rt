@@ -11,7 +11,8 @@ fn fill(queue: &mut VectorView<'_, i64>) -> Result<(), Refusal> {
     queue.insert(0, 3)?;
     queue.set(1, 5)?;
     queue.erase(0)?;
-    queue.assign(&[6, 7])
+    queue.assign(&[6, 7])?;
+    queue.extend(&[8])
 }
 
 /// Keeps a queue of numbers, and tells their sum, how many they are, and the last one, which it takes out.
@@ -30,6 +31,7 @@ fn take_of_a_queue(segment: &mut Segment, name: &Name) -> Result<(i64, u64, i64)
 fn change_an_array(segment: &mut Segment, name: &Name) -> Result<u8, Refusal> {
     segment.construct(name, 2, 7u8)?;
     let mut flags = ArrayView::<u8>::of(segment, name)?;
+    flags.copy_from(&[1, 8])?;
     flags.set(1, 9)?;
     let mut greatest = flags.get(0)?;
     for flag in flags.iter() {

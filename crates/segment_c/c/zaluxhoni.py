@@ -419,6 +419,8 @@ def _value_of(code, value):
 
 def _element(value):
     """A value as it is passed for an element, which has a kind of its own."""
+    if type(value) is int and -2**63 <= value < 2**63:
+        return _Value(_I64, value, 0)
     if _is_truth(value):
         return _Value(_BOOL, 0, int(value))
     number = _whole(value)

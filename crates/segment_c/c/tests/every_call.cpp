@@ -502,10 +502,12 @@ void errors_say_what() {
 int main(int count, char **arguments) {
     if (count != 2) return 2;
     folder = arguments[1];
-    for (void (*each)() : {an_anonymous_object, names, files, index_and_object_do_not_both_fit, arrays,
-                           the_only_object_of_its_kind, places_reserved_in_the_indexes, best_fit, storage_is_lengthened_then_replaced,
-                           a_string_grows_and_shrinks, a_map, refusals_of_a_vector, a_vector_of_strings, objects_found_or_made,
-                           size_and_region, modes, what_is_refused, segments_move, errors_say_what}) {
+    void (*const cases[])() = {
+        an_anonymous_object, names, files, index_and_object_do_not_both_fit, arrays, the_only_object_of_its_kind,
+        places_reserved_in_the_indexes, best_fit, storage_is_lengthened_then_replaced, a_string_grows_and_shrinks,
+        a_map, refusals_of_a_vector, a_vector_of_strings, objects_found_or_made, size_and_region, modes,
+        what_is_refused, segments_move, errors_say_what};
+    for (void (*each)() : cases) {
         try {
             each();
         } catch (const std::exception &error) {

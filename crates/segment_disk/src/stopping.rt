@@ -100,7 +100,8 @@ impl<O: Output> StopsAtError<O> {
     /// One that took nothing yet.
     pub fn new(inner: O) -> StopsAtError<O>
         requires { O.history inner ≡ nothing_taken }
-        ensures { O.history result.inner ≡ nothing_taken }
+        ensures taken { O.history result.inner ≡ nothing_taken }
+        ensures refused { result.refused ≡ 0 }
     {
         StopsAtError {
             inner,

@@ -5,6 +5,8 @@ ghost use Rattle.segment_c.specs.Calls.{IsAsked, IsClosed, IsStopped, KeepsRefus
 ghost use Rattle.segment_c.specs.Codes.{answer_for};
 ghost use Rattle.segment_c.specs.Passed.{key_of, key_wrong};
 ghost use Rattle.segment_manager.specs.Answers.{Done, Truth};
+ghost use Rattle.segment_manager.specs.Calls.{HasZeroGaps};
+ghost use Rattle.segment_manager.specs.Keeping.{HasPlaces, KeepsWhere};
 ghost use Rattle.segment_manager.specs.State.{IsReply, IsStep};
 
 use crate::codes::{CLOSED, DONE, done};
@@ -19,6 +21,7 @@ pub extern "C" fn zx_reserve(alloc: Global, h: &mut Handle, key: &ObjectKey<'_>,
     ensures closed { IsClosed (key_wrong key.now) result h.old.value h.new.value }
     ensures asked { IsAsked (key_wrong key.now) result h.old.value h.new.value
         (λ s t. IsStep s t (Reserve (key_of key.now) places) (answer_for result Done)) }
+    ensures enough { IsAsked (key_wrong key.now) result h.old.value h.new.value (λ s t. KeepsWhere s t (HasPlaces (key_of key.now) places)) }
     ensures kept { 1 ≤ result → h.new.value ≡ h.old.value }
 {
     let which = match key.key() {
@@ -81,6 +84,7 @@ pub extern "C" fn zx_reserve_named(alloc: Global, h: &mut Handle, places: u64) -
     ensures closed { IsClosed (0) result h.old.value h.new.value }
     ensures asked { IsAsked (0) result h.old.value h.new.value
         (λ s t. IsStep s t (ReserveNamed places) (answer_for result Done)) }
+    ensures enough { IsAsked (0) result h.old.value h.new.value (λ s t. KeepsWhere s t (λ d. places ≤ d.named.capacity)) }
     ensures refused { KeepsRefused result h.old.value h.new.value }
 {
     let Some(mut segment) = take(alloc, h) else {
@@ -97,6 +101,7 @@ pub extern "C" fn zx_reserve_unique(alloc: Global, h: &mut Handle, places: u64) 
     ensures closed { IsClosed (0) result h.old.value h.new.value }
     ensures asked { IsAsked (0) result h.old.value h.new.value
         (λ s t. IsStep s t (ReserveUnique places) (answer_for result Done)) }
+    ensures enough { IsAsked (0) result h.old.value h.new.value (λ s t. KeepsWhere s t (λ d. places ≤ d.unique.capacity)) }
     ensures refused { KeepsRefused result h.old.value h.new.value }
 {
     let Some(mut segment) = take(alloc, h) else {
@@ -129,6 +134,7 @@ pub extern "C" fn zx_zero_free(alloc: Global, h: &mut Handle) -> u32
     ensures closed { IsClosed (0) result h.old.value h.new.value }
     ensures asked { IsAsked (0) result h.old.value h.new.value
         (λ s t. IsStep s t ZeroFree (answer_for result Done)) }
+    ensures zeros { IsAsked (0) result h.old.value h.new.value (λ s t. result ≡ 0 → HasZeroGaps t) }
     ensures kept { 1 ≤ result → h.new.value ≡ h.old.value }
 {
     let Some(mut segment) = take(alloc, h) else {

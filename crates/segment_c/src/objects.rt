@@ -6,6 +6,7 @@ ghost use Rattle.segment_c.specs.Calls.{IsAsked, IsClosed, IsStopped, KeepsRefus
 ghost use Rattle.segment_c.specs.Codes.{answer_for};
 ghost use Rattle.segment_c.specs.Passed.{count_wrong, entry_of, entry_wrong, key_of, key_wrong, kind_in, kind_wrong, new_of, new_wrong, object_kind_in, or_else, row_of, row_wrong, scalar_kind_in, scalar_kind_wrong, value_wrong, whole_in};
 ghost use Rattle.segment_manager.specs.Answers.{Found, Made};
+ghost use Rattle.segment_manager.specs.Keeping.{HasKey, KeepsWhere};
 ghost use Rattle.segment_manager.specs.State.{IsReply, IsStep};
 
 use crate::codes::{BAD_COUNT, BAD_KIND, CLOSED, found, found_or_absent, made};
@@ -70,6 +71,8 @@ pub extern "C" fn zx_find_or_construct(
     ensures closed { IsClosed (or_else (value_wrong value.now) (or_else (count_wrong count) (entry_wrong key.now (ScalarOf (kind_in value.now))))) result h.old.value h.new.value }
     ensures asked { IsAsked (or_else (value_wrong value.now) (or_else (count_wrong count) (entry_wrong key.now (ScalarOf (kind_in value.now))))) result h.old.value h.new.value
         (λ s t. IsStep s t (FindOrConstruct (entry_of key.now (ScalarOf (kind_in value.now))) (Numbers (kind_in value.now) (replicate count (whole_in value.now)))) (answer_for result (Found handle.new count_found.new))) }
+    ensures found { IsAsked (or_else (value_wrong value.now) (or_else (count_wrong count) (entry_wrong key.now (ScalarOf (kind_in value.now))))) result h.old.value h.new.value
+        (λ s t. KeepsWhere s t (HasKey (entry_of key.now (ScalarOf (kind_in value.now))))) }
     ensures refused { KeepsRefused result h.old.value h.new.value }
     ensures results { 1 ≤ result → (handle.new ≡ handle.old) × (count_found.new ≡ count_found.old) }
 {
@@ -138,6 +141,8 @@ pub extern "C" fn zx_find_or_construct_string(
     ensures closed { IsClosed (entry_wrong key.now (TextKind)) result h.old.value h.new.value }
     ensures asked { IsAsked (entry_wrong key.now (TextKind)) result h.old.value h.new.value
         (λ s t. IsStep s t (FindOrConstruct (entry_of key.now (TextKind)) (Bytes text.now)) (answer_for result (Found handle.new count_found.new))) }
+    ensures found { IsAsked (entry_wrong key.now (TextKind)) result h.old.value h.new.value
+        (λ s t. KeepsWhere s t (HasKey (entry_of key.now (TextKind)))) }
     ensures refused { KeepsRefused result h.old.value h.new.value }
     ensures results { 1 ≤ result → (handle.new ≡ handle.old) × (count_found.new ≡ count_found.old) }
 {
@@ -199,6 +204,8 @@ pub extern "C" fn zx_find_or_construct_strings(
     ensures closed { IsClosed (entry_wrong key.now (TextsKind)) result h.old.value h.new.value }
     ensures asked { IsAsked (entry_wrong key.now (TextsKind)) result h.old.value h.new.value
         (λ s t. IsStep s t (FindOrConstruct (entry_of key.now (TextsKind)) (Strings (map (λ text. text.now) texts.now))) (answer_for result (Found handle.new count_found.new))) }
+    ensures found { IsAsked (entry_wrong key.now (TextsKind)) result h.old.value h.new.value
+        (λ s t. KeepsWhere s t (HasKey (entry_of key.now (TextsKind)))) }
     ensures refused { KeepsRefused result h.old.value h.new.value }
     ensures results { 1 ≤ result → (handle.new ≡ handle.old) × (count_found.new ≡ count_found.old) }
 {
@@ -268,6 +275,8 @@ pub extern "C" fn zx_find_or_construct_map(
     ensures closed { IsClosed (or_else (scalar_kind_wrong keys) (or_else (scalar_kind_wrong values) (entry_wrong key.now (MapOf (scalar_kind_in keys) (scalar_kind_in values))))) result h.old.value h.new.value }
     ensures asked { IsAsked (or_else (scalar_kind_wrong keys) (or_else (scalar_kind_wrong values) (entry_wrong key.now (MapOf (scalar_kind_in keys) (scalar_kind_in values))))) result h.old.value h.new.value
         (λ s t. IsStep s t (FindOrConstruct (entry_of key.now (MapOf (scalar_kind_in keys) (scalar_kind_in values))) (NoPairs (scalar_kind_in keys) (scalar_kind_in values))) (answer_for result (Found handle.new count_found.new))) }
+    ensures found { IsAsked (or_else (scalar_kind_wrong keys) (or_else (scalar_kind_wrong values) (entry_wrong key.now (MapOf (scalar_kind_in keys) (scalar_kind_in values))))) result h.old.value h.new.value
+        (λ s t. KeepsWhere s t (HasKey (entry_of key.now (MapOf (scalar_kind_in keys) (scalar_kind_in values))))) }
     ensures refused { KeepsRefused result h.old.value h.new.value }
     ensures results { 1 ≤ result → (handle.new ≡ handle.old) × (count_found.new ≡ count_found.old) }
 {

@@ -291,7 +291,8 @@ zx_code zx_find_or_construct_strings(zx_segment *segment, const zx_key *key, con
 zx_code zx_find_or_construct_map(zx_segment *segment, const zx_key *key, uint32_t keys, uint32_t values, uint64_t *handle,
                                  uint32_t *found);
 
-/* The object of a kind under the key. ZX_ABSENT where no object has the key; ZX_WRONG_KIND. */
+/* The object of a kind under the key: a name, a kind or a handle. ZX_ABSENT where no object has the key; ZX_WRONG_KIND, also where
+   the key is another kind. */
 zx_code zx_find(zx_segment *segment, const zx_key *key, uint32_t kind, uint64_t *handle, uint32_t *count);
 /* Destroys the object of a name or kind, and says whether there was one; or that of a handle, where ZX_NOT_FOUND says that there is
    none. ZX_READ_ONLY. */

@@ -1,12 +1,13 @@
 -- Links that move together: one more, from the front or from the back, and where all of them lead.
-use Rattle.std.proofs.Common.{◌≡◌, ℕ, zero, suc, ◌+◌, ◌*◌, ◌%◌, ◌^◌, ◌<◌, ◌≤◌, Bool, true, false, ◌==◌, List, ◌++◌, length, refl, sym, ap, ap₂, ◌∙◌, arith, length-append}
+use Rattle.std.proofs.Common.{◌≡◌, ℕ, zero, suc, ◌+◌, ◌*◌, ◌%◌, ◌^◌, ◌<◌, ◌≤◌, Bool, true, false, ◌==◌, List, ◌++◌, length, refl, sym, ap, ap₂, subst, ◌∙◌, arith, length-append}
 use Rattle.std.specs.Prelude.{Option, Some, None, IfSome, if◌then◌else◌}
 use Rattle.std.proofs.lemmas.List.{append-nil, append_assoc, take_all}
 use Rattle.std.specs.List.{refill}
+use Rattle.std.proofs.lemmas.Option.{none-some}
 use Rattle.raw_region.specs.Memory.{Memory, bytes_of, part, patched, word_at, word_bytes}
 use Rattle.raw_region.proofs.Laws.{length-patched, length-word, patched-all, patched-append, patched-prepend, refill-all, word-after, word-before, word-behind, word-first, word-inside}
 use Rattle.offset_link.specs.Link.{target_of, link_at, link_word, link}
-use Rattle.offset_link.specs.Relinked.{relinked, AreLinks, KeepTargets}
+use Rattle.offset_link.specs.Relinked.{relinked, AllLead, AreLinks, KeepTargets, NoneIsNull}
 use Rattle.offset_link.proofs.Links.{target_of-link_word, link_word-fits}
 
 pub length-link : (at : ℕ) (target : Option ℕ) → length (link at target) ≡ 8
@@ -45,6 +46,28 @@ relinked-same m m' at to zero same = refl
 relinked-same m m' at to (suc n) same =
     ap₂ (λ (w : ℕ) (l : List ℕ). link to (target_of at w) ++ l) (same at (omega arith) (omega arith))
     (relinked-same m m' (at + 8) (to + 8) n (λ a low high. same a (omega (arith, low)) (omega (arith, high))))
+
+-- ---- links that lead to multiples of 16
+pub all_lead-links : (m : Memory) (at n : ℕ) → AllLead m at n → AreLinks m at n
+all_lead-links m at n all = record {
+  each = λ k h. let lead = all.each k h in subst (λ (o : Option ℕ). IfSome o (λ t. t % 16 ≡ 0)) (sym lead.1) lead.2;
+}
+
+pub all_lead-non_null : (m : Memory) (at n : ℕ) → AllLead m at n → NoneIsNull m at n
+all_lead-non_null m at n all = record { each = λ k h null. let lead = all.each k h in none-some lead.0 (sym null ∙ lead.1) }
+
+-- ---- links that are not null, where their words stay
+pub non_null-same : (m m' : Memory) (at n : ℕ) → ((a : ℕ) → at ≤ a → a + 8 ≤ at + 8 * n → word_at m' a ≡ word_at m a) → NoneIsNull m at n → NoneIsNull m' at n
+non_null-same m m' at n same set = record {
+  each = λ k h null. set.each k h (ap (target_of (at + 8 * k)) (sym (same (at + 8 * k) (omega arith) (omega arith))) ∙ null);
+}
+
+pub non_null-part : (m : Memory) (at n from i r : ℕ) → from ≡ at + 8 * i → i + r ≤ n → NoneIsNull m at n → NoneIsNull m from r
+non_null-part m at n from i r e few set = record {
+  each = λ k h null.
+      let f : from + 8 * k ≡ at + 8 * (i + k) = omega arith in
+      set.each (i + k) (omega arith) (subst (λ (a : ℕ). link_at m a ≡ None) f null);
+}
 
 module _ (b cur new : List ℕ) where
   abbrev m : Memory
@@ -96,6 +119,22 @@ module _ (b cur new : List ℕ) where
       f ∙ ap₂ (λ (l ws : List ℕ). patched l (to + 8 * n) ws) e same ∙ ap (λ (k : ℕ). patched (patched b to T) k L) start
       ∙ patched-append b to T L (omega (arith, long, back)) ∙ ap (λ (l : List ℕ). patched b to l) (relinked-append m from to n r)
 
+-- links before those that moved towards the end are as they were
+pub non_null-before : (b cur : List ℕ) (from r to n source : ℕ) → to + 8 * n ≤ length b → from + 8 * r ≤ to → cur ≡ patched b to (relinked (bytes_of b) source to n)
+    → NoneIsNull (bytes_of b) from r → NoneIsNull (bytes_of cur) from r
+non_null-before b cur from r to n source within below e =
+    let T = relinked (bytes_of b) source to n in let long = length-relinked (bytes_of b) source to n in
+    non_null-same (bytes_of b) (bytes_of cur) from r
+    (λ a low high. ap (λ (l : List ℕ). word_at (bytes_of l) a) e ∙ word-before b to T (omega (arith, long)) a (omega (arith, below, high)))
+
+-- and so are those after links that moved towards the start
+pub non_null-after : (b cur : List ℕ) (from r to n source : ℕ) → to + 8 * n ≤ from → from + 8 * r ≤ length b → cur ≡ patched b to (relinked (bytes_of b) source to n)
+    → NoneIsNull (bytes_of b) from r → NoneIsNull (bytes_of cur) from r
+non_null-after b cur from r to n source above within e =
+    let T = relinked (bytes_of b) source to n in let long = length-relinked (bytes_of b) source to n in
+    non_null-same (bytes_of b) (bytes_of cur) from r
+    (λ a low high. ap (λ (l : List ℕ). word_at (bytes_of l) a) e ∙ word-after b to T (omega (arith, long, above, low, high, within)) a (omega (arith, long, above, low)))
+
 -- ---- links that are read before one is written
 pub put_first : (m : Memory) (b new : List ℕ) (from to w : ℕ) → new ≡ patched b to (word_bytes w) → w ≡ link_word to (link_at m from) → new ≡ patched b to (relinked m from to 1)
 put_first m b new from to w e f =
@@ -139,11 +178,15 @@ keep_targets b at to n within small aligned links = record {
       ∙ leads_again (to + 8 * k) target (target_fits (at + 8 * k) (word_at m (at + 8 * k))) (links.each k h) (omega arith) (omega arith);
 }
 
--- the window after its bytes were lent whole to a move
+-- the window's bytes, lent whole
+pub lent_whole : (b old : List ℕ) (size : ℕ) → size ≡ length b → old ≡ part b 0 size → old ≡ b
+lent_whole b old size long e = e ∙ take_all size b (omega arith)
+
+-- and after they were lent to a move
 pub lent_leads : (b old new : List ℕ) (size at to n : ℕ) → size ≡ length b → size < 2 ^ 64 → old ≡ part b 0 size → new ≡ patched old to (relinked (bytes_of old) at to n)
     → to + 8 * n ≤ length b → to % 8 ≡ 0 → AreLinks (bytes_of b) at n → KeepTargets (bytes_of b) (bytes_of (patched b 0 (refill size (part b 0 size) new))) at to n
 lent_leads b old new size at to n long small e f within aligned links =
-    let whole : old ≡ b = e ∙ take_all size b (omega arith) in
+    let whole = lent_whole b old size long e in
     let moved : new ≡ patched b to (relinked (bytes_of b) at to n) = f ∙ ap (λ (l : List ℕ). patched l to (relinked (bytes_of l) at to n)) whole in
     let new_long : length new ≡ length b = ap (λ (l : List ℕ). length l) moved ∙ length-patched b to (relinked (bytes_of b) at to n) (omega (arith, length-relinked (bytes_of b) at to n)) in
     let all : patched b 0 (refill size (part b 0 size) new) ≡ patched b to (relinked (bytes_of b) at to n) =

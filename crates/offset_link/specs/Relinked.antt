@@ -1,5 +1,5 @@
 -- Links that move together, and links that cannot be trusted.
-use Rattle.std.specs.Prelude.{◌≡◌, ℕ, zero, suc, ◌+◌, ◌*◌, ◌<◌, ◌%◌, Option, Some, None, IfSome, List, [], ◌++◌, Bool, false, not}
+use Rattle.std.specs.Prelude.{◌≡◌, ◌≢◌, ℕ, zero, suc, ◌+◌, ◌*◌, ◌<◌, ◌%◌, Option, Some, None, IfSome, List, [], ◌++◌, Bool, false, not}
 use Rattle.raw_region.specs.Memory.{Memory}
 use Rattle.offset_link.specs.Link.{link_at, link, is_handle_place}
 
@@ -10,6 +10,14 @@ IsLink m at = IfSome (link_at m at) (λ target. target % 16 ≡ 0)
 -- so do the n links from an offset on
 pub record AreLinks (m : Memory) (at n : ℕ) : Type 0 where
   pub each : (k : ℕ) → k < n → IsLink m (at + 8 * k)
+
+-- so do they, and none of them leads nowhere
+pub record AllLead (m : Memory) (at n : ℕ) : Type 0 where
+  pub each : (k : ℕ) → k < n → (target : ℕ) × (link_at m (at + 8 * k) ≡ Some target) × (target % 16 ≡ 0)
+
+-- none of them leads nowhere, whatever the others lead to
+pub record NoneIsNull (m : Memory) (at n : ℕ) : Type 0 where
+  pub each : (k : ℕ) → k < n → link_at m (at + 8 * k) ≢ None
 
 -- the bytes of the n links from an offset on, once they stand at another
 abbrev pub relinked : Memory → ℕ → ℕ → ℕ → List ℕ

@@ -1,9 +1,9 @@
 //! Many links that move together, each of which keeps its target.
-ghost use Rattle.std.specs.Prelude.{◌≡◌, ◌↔◌, IsTrue, ◌+◌, ◌-◌, ◌*◌, ◌%◌, ◌≤◌, length};
+ghost use Rattle.std.specs.Prelude.{◌≡◌, ◌≢◌, ◌↔◌, IsTrue, None, ◌+◌, ◌-◌, ◌*◌, ◌%◌, ◌≤◌, length};
 ghost use Rattle.raw_region.specs.Memory.{bytes_of, patched};
 ghost use Rattle.raw_region.specs.Regions.{with_bytes};
 ghost use Rattle.offset_link.specs.Link.{link_at, link, link_word};
-ghost use Rattle.offset_link.specs.Relinked.{relinked, AreLinks, KeepTargets};
+ghost use Rattle.offset_link.specs.Relinked.{relinked, AllLead, AreLinks, KeepTargets, NoneIsNull};
 ghost use Rattle.offset_link.specs.Moves.{moved_to, StaysInside};
 
 use crate::link::{NULL, load};
@@ -36,6 +36,25 @@ pub fn are_links(w: &Window, at: u64, n: u64) -> bool
     true
 }
 
+/// Whether each of the `n` links from `at` on leads to a multiple of 16.
+pub fn all_lead(w: &Window, at: u64, n: u64) -> bool
+    requires aligned { at % 8 ≡ 0 }
+    requires inside { at + 8 * n ≤ length w.now.bytes }
+    ensures { IsTrue result ↔ AllLead (bytes_of w.now.bytes) at n }
+{
+    // No offset passes the size, which is a u64.
+    let _size = w.size();
+    'links: for i in 0..n {
+        let Some(target) = load(w, at + 8 * i) else {
+            return false;
+        };
+        if target % 16 != 0 {
+            return false;
+        }
+    }
+    true
+}
+
 /// Moves the `n` links from `at` on. Each leads where it led, to a multiple of 16 or nowhere, and
 /// the places that they leave may be among those that they take.
 pub fn shift(w: &mut Window, at: u64, n: u64, by: Places)
@@ -44,6 +63,25 @@ pub fn shift(w: &mut Window, at: u64, n: u64, by: Places)
     requires stays { StaysInside at by }
     requires target { moved_to at by + 8 * n ≤ length w.old.bytes }
     requires links { AreLinks (bytes_of w.old.bytes) at n }
+    ensures len { length w.new.bytes ≡ length w.old.bytes }
+    ensures lead { KeepTargets (bytes_of w.old.bytes) (bytes_of w.new.bytes) at (moved_to at by) n }
+    ensures written { w.new ≡ with_bytes w.old (patched w.old.bytes (moved_to at by) (relinked (bytes_of w.old.bytes) at (moved_to at by) n)) }
+{
+    let size = w.size();
+    let bytes = w.bytes_mut(0, size);
+    match by {
+        Places::Up(places) => links_up(bytes, at as usize, n as usize, 8 * places as usize),
+        Places::Down(places) => links_down(bytes, at as usize, n as usize, 8 * places as usize),
+    }
+}
+
+/// The same for links none of which is null, eight at a time: the words of all of them change by the distance.
+pub fn shift_non_null(w: &mut Window, at: u64, n: u64, by: Places)
+    requires aligned { at % 8 ≡ 0 }
+    requires source { at + 8 * n ≤ length w.old.bytes }
+    requires stays { StaysInside at by }
+    requires target { moved_to at by + 8 * n ≤ length w.old.bytes }
+    requires links { AllLead (bytes_of w.old.bytes) at n }
     ensures len { length w.new.bytes ≡ length w.old.bytes }
     ensures lead { KeepTargets (bytes_of w.old.bytes) (bytes_of w.new.bytes) at (moved_to at by) n }
     ensures written { w.new ≡ with_bytes w.old (patched w.old.bytes (moved_to at by) (relinked (bytes_of w.old.bytes) at (moved_to at by) n)) }
@@ -61,7 +99,8 @@ const RUN: usize = 8;
 
 /// From the last run on, and then from the last link of the rest on, so that none is overwritten before it has moved.
 fn move_up(bytes: &mut [u8], at: usize, n: usize, by: usize)
-    requires { at + by + 8 * n ≤ length bytes.old }
+    requires inside { at + by + 8 * n ≤ length bytes.old }
+    requires non_null { NoneIsNull (bytes_of bytes.old) at n }
     ensures { bytes.new ≡ patched bytes.old (at + by) (relinked (bytes_of bytes.old) at (at + by) n) }
 {
     let rest = n % RUN;
@@ -71,7 +110,8 @@ fn move_up(bytes: &mut [u8], at: usize, n: usize, by: usize)
 
 /// The runs, the last of them first.
 fn runs_up(bytes: &mut [u8], at: usize, n: usize, by: usize)
-    requires { at + by + 64 * n ≤ length bytes.old }
+    requires inside { at + by + 64 * n ≤ length bytes.old }
+    requires non_null { NoneIsNull (bytes_of bytes.old) at (8 * n) }
     ensures { bytes.new ≡ patched bytes.old (at + by) (relinked (bytes_of bytes.old) at (at + by) (8 * n)) }
 {
     let mut left = n;
@@ -99,6 +139,7 @@ fn links_up(bytes: &mut [u8], at: usize, n: usize, by: usize)
 fn move_down(bytes: &mut [u8], at: usize, n: usize, by: usize)
     requires source { at + 8 * n ≤ length bytes.old }
     requires inside { by ≤ at }
+    requires non_null { NoneIsNull (bytes_of bytes.old) at n }
     ensures { bytes.new ≡ patched bytes.old (at - by) (relinked (bytes_of bytes.old) at (at - by) n) }
 {
     let runs = n / RUN;
@@ -110,6 +151,7 @@ fn move_down(bytes: &mut [u8], at: usize, n: usize, by: usize)
 fn runs_down(bytes: &mut [u8], at: usize, n: usize, by: usize)
     requires source { at + 64 * n ≤ length bytes.old }
     requires inside { by ≤ at }
+    requires non_null { NoneIsNull (bytes_of bytes.old) at (8 * n) }
     ensures { bytes.new ≡ patched bytes.old (at - by) (relinked (bytes_of bytes.old) at (at - by) (8 * n)) }
 {
     'runs: for i in 0..n {
@@ -130,21 +172,22 @@ fn links_down(bytes: &mut [u8], at: usize, n: usize, by: usize)
     }
 }
 
-/// Makes the eight words from `to` on links that lead where those from `from` on lead. All are read before one is
-/// written, and none takes a branch.
+/// Makes the eight words from `to` on links that lead where those from `from` on lead, none of which is null. All are read
+/// before one is written.
 fn move_run(bytes: &mut [u8], from: usize, to: usize)
     requires from_inside { from + 64 ≤ length bytes.old }
     requires to_inside { to + 64 ≤ length bytes.old }
+    requires non_null { NoneIsNull (bytes_of bytes.old) from 8 }
     ensures { bytes.new ≡ patched bytes.old to (relinked (bytes_of bytes.old) from to 8) }
 {
-    let a = moved(bytes, from, to);
-    let b = moved(bytes, from + 8, to + 8);
-    let c = moved(bytes, from + 16, to + 16);
-    let d = moved(bytes, from + 24, to + 24);
-    let e = moved(bytes, from + 32, to + 32);
-    let f = moved(bytes, from + 40, to + 40);
-    let g = moved(bytes, from + 48, to + 48);
-    let h = moved(bytes, from + 56, to + 56);
+    let a = moved_non_null(bytes, from, to);
+    let b = moved_non_null(bytes, from + 8, to + 8);
+    let c = moved_non_null(bytes, from + 16, to + 16);
+    let d = moved_non_null(bytes, from + 24, to + 24);
+    let e = moved_non_null(bytes, from + 32, to + 32);
+    let f = moved_non_null(bytes, from + 40, to + 40);
+    let g = moved_non_null(bytes, from + 48, to + 48);
+    let h = moved_non_null(bytes, from + 56, to + 56);
     set_word_in(bytes, to, a);
     set_word_in(bytes, to + 8, b);
     set_word_in(bytes, to + 16, c);
@@ -166,15 +209,23 @@ fn move_one(bytes: &mut [u8], from: usize, to: usize)
 }
 
 /// The word at `to` of a link that leads where the one at `from` leads.
-#[inline(always)]
 fn moved(bytes: &[u8], from: usize, to: usize) -> u64
-    requires inside { from + 8 ≤ length bytes.now }
+    requires { from + 8 ≤ length bytes.now }
     ensures { result ≡ link_word to (link_at (bytes_of bytes.now) from) }
 {
-    let word = word_in(bytes, from);
-    if word == NULL {
+    if word_in(bytes, from) == NULL {
         return NULL;
     }
-    let target = (from as u64).wrapping_add(word);
+    moved_non_null(bytes, from, to)
+}
+
+/// The same of a link that is not null, without a branch.
+#[inline(always)]
+fn moved_non_null(bytes: &[u8], from: usize, to: usize) -> u64
+    requires inside { from + 8 ≤ length bytes.now }
+    requires non_null { link_at (bytes_of bytes.now) from ≢ None }
+    ensures { result ≡ link_word to (link_at (bytes_of bytes.now) from) }
+{
+    let target = (from as u64).wrapping_add(word_in(bytes, from));
     target.wrapping_sub(to as u64)
 }

@@ -1,7 +1,7 @@
 use Rattle.std.proofs.Common.{◌≡◌, ℕ, ◌+◌, ◌*◌, ◌/◌, ◌%◌, ◌≤◌, List, length, ap, ◌∙◌, arith}
 use Rattle.raw_region.specs.Memory.{bytes_of, patched}
 use Rattle.offset_link.specs.Relinked.{relinked}
-use Rattle.offset_link.proofs.Shifting.{run_before}
+use Rattle.offset_link.proofs.Shifting.{non_null-part, run_before}
 use Rattle.offset_link.proofs.moves.move_up.Goals as goal
 
 both : (b cur new : List ℕ) (at by n : ℕ) → at + by + 8 * n ≤ length b
@@ -14,5 +14,9 @@ both b cur new at by n within e f =
     (e ∙ (λ j. patched b (t j) (relinked (bytes_of b) (at + 8 * r) (t j) (8 * (n / 8))))) f
     ∙ ap (λ (j : ℕ). patched b to (relinked (bytes_of b) at to j)) g
 
+pub runs_up-requires-clause-non_null : goal.runs_up-requires-clause-non_null
+runs_up-requires-clause-non_null c =
+    non_null-part (bytes_of c.args.bytes.now) c.args.at c.args.n (c.args.at + 8 * (c.args.n % 8)) (c.args.n % 8) (8 * (c.args.n / 8)) (omega arith) (omega arith) c.requires.non_null
+
 pub returns : goal.returns
-returns c = both c.args.bytes.now c.runs_up.new.bytes c.links_up.new.bytes c.args.at c.args.by c.args.n c.requires c.runs_up.ensures c.links_up.ensures
+returns c = both c.args.bytes.now c.runs_up.new.bytes c.links_up.new.bytes c.args.at c.args.by c.args.n c.requires.inside c.runs_up.ensures c.links_up.ensures

@@ -1,7 +1,7 @@
 use Rattle.std.proofs.Common.{◌≡◌, ℕ, ◌+◌, ◌-◌, ◌*◌, ◌<◌, ◌≤◌, List, length, ap, ◌∙◌, arith}
 use Rattle.raw_region.specs.Memory.{bytes_of, patched}
-use Rattle.offset_link.specs.Relinked.{relinked}
-use Rattle.offset_link.proofs.Shifting.{run_before}
+use Rattle.offset_link.specs.Relinked.{relinked, NoneIsNull}
+use Rattle.offset_link.proofs.Shifting.{non_null-before, non_null-part, run_before}
 use Rattle.offset_link.proofs.moves.runs_up.Goals as goal
 
 step : (b cur new : List ℕ) (at by n left : ℕ) → at + by + 64 * n ≤ length b → 0 < left → left ≤ n
@@ -17,8 +17,20 @@ step b cur new at by n left within some few e f =
     (f ∙ (λ i. patched cur (f₁ i) (relinked (bytes_of cur) from (f₁ i) 8)))
     ∙ ap (λ (j : ℕ). patched b to (relinked (bytes_of b) from to j)) g
 
+set : (b cur : List ℕ) (at by n left : ℕ) → at + by + 64 * n ≤ length b → 0 < left → left ≤ n
+    → cur ≡ patched b (at + by + 64 * left) (relinked (bytes_of b) (at + 64 * left) (at + by + 64 * left) (8 * (n - left)))
+    → NoneIsNull (bytes_of b) at (8 * n) → NoneIsNull (bytes_of cur) (at + 64 * (left - 1)) 8
+set b cur at by n left within some few e all =
+    let from = at + 64 * (left - 1) in
+    non_null-before b cur from 8 (at + by + 64 * left) (8 * (n - left)) (at + 64 * left) (omega arith) (omega arith) e
+    (non_null-part (bytes_of b) at (8 * n) from (8 * (left - 1)) 8 (omega arith) (omega arith) all)
+
+pub move_run-requires-clause-non_null : goal.move_run-requires-clause-non_null
+move_run-requires-clause-non_null c =
+    set c.args.bytes.now c.runs.bytes c.args.at c.args.by c.args.n c.runs.left c.requires.inside (omega arith) c.runs.invariant.some c.runs.invariant.moved c.requires.non_null
+
 pub runs-preserved : goal.runs-preserved
 runs-preserved c = record {
   some = omega arith;
-  moved = step c.args.bytes.now c.runs.bytes c.move_run.new.bytes c.args.at c.args.by c.args.n c.runs.left c.requires (omega arith) c.runs.invariant.some c.runs.invariant.moved c.move_run.ensures;
+  moved = step c.args.bytes.now c.runs.bytes c.move_run.new.bytes c.args.at c.args.by c.args.n c.runs.left c.requires.inside (omega arith) c.runs.invariant.some c.runs.invariant.moved c.move_run.ensures;
 }

@@ -3,7 +3,8 @@ ghost use Rattle.std.specs.Prelude.{◌≡◌, ◌≢◌, ◌+◌, ◌*◌, ◌%
 ghost use Rattle.raw_region.specs.Memory.{bytes_of, patched};
 ghost use Rattle.raw_region.specs.Regions.{with_bytes};
 ghost use Rattle.offset_link.specs.Link.{link_at};
-ghost use Rattle.offset_link.specs.Relinked.{AreLinks, KeepTargets, relinked};
+ghost use Rattle.offset_link.specs.Moves.{StaysInside, moved_to};
+ghost use Rattle.offset_link.specs.Relinked.{AllLead, AreLinks, KeepTargets, relinked};
 ghost use Rattle.raw_region.specs.Format.{current};
 ghost use Rattle.best_fit.specs.FreeTree.{is_red};
 ghost use Rattle.best_fit.specs.Heap.{IsChanged, IsRecoloured, has_room, is_live_in, is_node_in, live_of};
@@ -11,7 +12,7 @@ ghost use Rattle.best_fit.specs.Heap.{IsChanged, IsRecoloured, has_room, is_live
 use crate::heap::Heap;
 use crate::heap::nodes::{FREE_TREE, set_link};
 use block_tags::{FIRST, TAG, set_red, tile_at};
-use offset_link::{Places, load, shift};
+use offset_link::{Places, load, shift, shift_non_null};
 use raw_region::Window;
 
 impl Heap {
@@ -71,6 +72,19 @@ impl Heap {
         move_to(&mut self.gaps.window, from + from_at, to + to_at, n);
     }
 
+    /// The same for links none of which is null, in about half the time.
+    pub fn shift_non_null_links(&mut self, from: u64, from_at: u64, to: u64, to_at: u64, n: u64)
+        requires from_whole { from_at % 8 ≡ 0 }
+        requires to_whole { to_at % 8 ≡ 0 }
+        requires source { IsTrue (has_room (live_of self.old.bytes) from (from_at + 8 * n)) }
+        requires target { IsTrue (has_room (live_of self.old.bytes) to (to_at + 8 * n)) }
+        requires links { AllLead (bytes_of self.old.bytes) (from + from_at) n }
+        ensures change { IsChanged current self.old self.new (to + to_at) (8 * n) }
+        ensures lead { KeepTargets (bytes_of self.old.bytes) (bytes_of self.new.bytes) (from + from_at) (to + to_at) n }
+    {
+        move_non_null_to(&mut self.gaps.window, from + from_at, to + to_at, n);
+    }
+
     /// Whether the block of a handle is red. Only a node block may be.
     pub fn node_red(&self, handle: u64) -> bool
         requires { IsTrue (is_live_in (live_of self.now.bytes) handle) }
@@ -98,9 +112,32 @@ fn move_to(window: &mut Window, source: u64, target: u64, n: u64)
     ensures lead { KeepTargets (bytes_of window.old.bytes) (bytes_of window.new.bytes) source target n }
     ensures written { window.new ≡ with_bytes window.old (patched window.old.bytes target (relinked (bytes_of window.old.bytes) source target n)) }
 {
+    shift(window, source, n, way(source, target));
+}
+
+/// The same for links none of which is null.
+fn move_non_null_to(window: &mut Window, source: u64, target: u64, n: u64)
+    requires source_whole { source % 8 ≡ 0 }
+    requires target_whole { target % 8 ≡ 0 }
+    requires source { source + 8 * n ≤ length window.old.bytes }
+    requires target { target + 8 * n ≤ length window.old.bytes }
+    requires links { AllLead (bytes_of window.old.bytes) source n }
+    ensures lead { KeepTargets (bytes_of window.old.bytes) (bytes_of window.new.bytes) source target n }
+    ensures written { window.new ≡ with_bytes window.old (patched window.old.bytes target (relinked (bytes_of window.old.bytes) source target n)) }
+{
+    shift_non_null(window, source, n, way(source, target));
+}
+
+/// How far it is from one link to another.
+fn way(source: u64, target: u64) -> Places
+    requires source_whole { source % 8 ≡ 0 }
+    requires target_whole { target % 8 ≡ 0 }
+    ensures reaches { moved_to source result ≡ target }
+    ensures stays { StaysInside source result }
+{
     if target >= source {
-        shift(window, source, n, Places::Up((target - source) / 8));
+        Places::Up((target - source) / 8)
     } else {
-        shift(window, source, n, Places::Down((source - target) / 8));
+        Places::Down((source - target) / 8)
     }
 }

@@ -1,5 +1,7 @@
 use crate::checks::{holds, same};
-use offset_link::{Places, are_links, checked, copy, load, shift, store, store_null};
+use offset_link::{
+    Places, all_lead, are_links, checked, copy, load, shift, shift_non_null, store, store_null,
+};
 use raw_region::{RawRegion, Window};
 use std::process::Abort;
 use std::test::Fail;
@@ -62,6 +64,36 @@ fn links_move_back(rt: HostRuntime) -> Result<(), Fail> {
     same(&rt, (load(&w, 8), load(&w, 16)), (Some(144), Some(160)));
     w.write_u64(24, 4);
     assert!(rt; !are_links(&w, 24, 2));
+    Ok(())
+}
+
+/// Whether eleven links from an offset on lead to one block of 16 bytes after another.
+fn lead_to_blocks(w: &Window, at: u64) -> bool {
+    let mut all = true;
+    for i in 0..11 {
+        all &= at <= 64
+            && w.in_range(at + 8 * i, 8)
+            && at % 8 == 0
+            && load(w, at + 8 * i) == Some(144 + 16 * i);
+    }
+    all
+}
+
+#[test]
+fn a_run_of_links_moves_up_and_down(rt: HostRuntime) -> Result<(), Fail> {
+    let mut w = Window::new(RawRegion::new(rt.alloc(), 512)?, 64, 400);
+    for i in 0..11 {
+        assert!(rt; w.in_range(24 + 8 * i, 8));
+        store(&mut w, 24 + 8 * i, 144 + 16 * i);
+    }
+    assert!(rt; w.in_range(24, 96) && all_lead(&w, 24, 11));
+    shift_non_null(&mut w, 24, 11, Places::Up(1));
+    holds(&rt, lead_to_blocks(&w, 32));
+    assert!(rt; w.in_range(24, 96) && all_lead(&w, 32, 11));
+    shift_non_null(&mut w, 32, 11, Places::Down(2));
+    holds(&rt, lead_to_blocks(&w, 16));
+    store_null(&mut w, 16);
+    holds(&rt, !all_lead(&w, 16, 2));
     Ok(())
 }
 

@@ -86,23 +86,23 @@ pub insert_all : (P : ℕ → Type 0) (hs : List ℕ) (i h : ℕ) → AllByRecur
 insert_all P hs i h a p = all_append P (take i hs) (h ∷ drop i hs) (all_take P i hs a) (p, all_drop P i hs a)
 
 -- a run of the links of an index leads to multiples of 16
-pub links_range : (m : Memory) (block i n : ℕ) (hs : List ℕ) → AreLinks m block hs → AllByRecursion (λ h. h % 16 ≡ 0) hs → i + n ≤ length hs → off.AreLinks m (block + 8 * i) n
+pub links_range : (m : Memory) (block i n : ℕ) (hs : List ℕ) → AreLinks m block hs → AllByRecursion (λ h. h % 16 ≡ 0) hs → i + n ≤ length hs → off.AllLead m (block + 8 * i) n
 links_range m block i n hs a whole within = record {
   each = λ k l.
       let e : block + 8 * i + 8 * k ≡ block + 8 * (i + k) = omega arith in
       let s = slice_get-get_or hs (i + k) 0 (omega arith) in
       let is = ap (λ j. link_at m j) e ∙ entry_here m block hs (i + k) a (omega arith) in
-      subst (λ (o : Option ℕ). IfSome o (λ t. t % 16 ≡ 0)) (sym is) (all_at (λ h. h % 16 ≡ 0) hs (i + k) (get_or hs (i + k) 0) whole s);
+      (get_or hs (i + k) 0, is, all_at (λ h. h % 16 ≡ 0) hs (i + k) (get_or hs (i + k) 0) whole s);
 }
 
 -- the links of an index from a place on lead to multiples of 16
-pub links_lead : (m : Memory) (block place count : ℕ) (hs : List ℕ) → AreLinks m block hs → AllByRecursion (λ h. h % 16 ≡ 0) hs → count ≡ length hs → place ≤ count → off.AreLinks m (block + 8 * place) (count - place)
+pub links_lead : (m : Memory) (block place count : ℕ) (hs : List ℕ) → AreLinks m block hs → AllByRecursion (λ h. h % 16 ≡ 0) hs → count ≡ length hs → place ≤ count → off.AllLead m (block + 8 * place) (count - place)
 links_lead m block place count hs a whole long within = record {
   each = λ k l.
       let e : block + 8 * place + 8 * k ≡ block + 8 * (place + k) = omega arith in
       let s = slice_get-get_or hs (place + k) 0 (omega arith) in
       let is = ap (λ j. link_at m j) e ∙ entry_here m block hs (place + k) a (omega arith) in
-      subst (λ (o : Option ℕ). IfSome o (λ t. t % 16 ≡ 0)) (sym is) (all_at (λ h. h % 16 ≡ 0) hs (place + k) (get_or hs (place + k) 0) whole s);
+      (get_or hs (place + k) 0, is, all_at (λ h. h % 16 ≡ 0) hs (place + k) (get_or hs (place + k) 0) whole s);
 }
 
 -- ---- the index

@@ -3,7 +3,7 @@ ghost use Rattle.std.specs.Prelude.{◌≡◌, ℕ, ◌+◌, ◌-◌, ◌*◌, �
 ghost use Rattle.raw_region.specs.Format.{current};
 ghost use Rattle.raw_region.specs.Memory.{bytes_of};
 ghost use Rattle.offset_link.specs.Link.{link_at};
-ghost use Rattle.offset_link.specs.Relinked.{AreLinks, KeepTargets};
+ghost use Rattle.offset_link.specs.Relinked.{AllLead, KeepTargets};
 ghost use Rattle.best_fit.specs.Fit.{others};
 ghost use Rattle.best_fit.specs.Heap.{IsChanged, IsHeap, LaysOut, has_room, heap_touches, live_of};
 ghost use Rattle.best_fit.specs.Table.{Table as ATable};
@@ -74,7 +74,7 @@ impl Index {
         let capacity = grown(self.capacity(heap));
         // without a block there are no links to be moved
         let from = heap.header_link(self.place()).unwrap_or(block);
-        heap.shift_links(from, 0, block, 0, place);
+        heap.shift_non_null_links(from, 0, block, 0, place);
         spread(heap, from, block, place, count, handle);
         self.settle(heap, block, capacity, count + 1, steps);
     }
@@ -87,12 +87,12 @@ fn spread(heap: &mut Heap, from: u64, to: u64, place: u64, count: u64, handle: u
     requires within { place ≤ count }
     requires source { IsTrue (has_room (live_of heap.old.bytes) from (8 * count)) }
     requires target { IsTrue (has_room (live_of heap.old.bytes) to (8 * count + 8)) }
-    requires links { AreLinks (bytes_of heap.old.bytes) (from + 8 * place) (count - place) }
+    requires links { AllLead (bytes_of heap.old.bytes) (from + 8 * place) (count - place) }
     requires handle { handle % 16 ≡ 0 }
     ensures change { IsChanged current heap.old heap.new (to + 8 * place) (8 * (count - place) + 8) }
     ensures here { link_at (bytes_of heap.new.bytes) (to + 8 * place) ≡ Some handle }
     ensures tail { KeepTargets (bytes_of heap.old.bytes) (bytes_of heap.new.bytes) (from + 8 * place) (to + 8 * place + 8) (count - place) }
 {
-    heap.shift_links(from, LINK * place, to, LINK * place + LINK, count - place);
+    heap.shift_non_null_links(from, LINK * place, to, LINK * place + LINK, count - place);
     heap.set_link(to, LINK * place, Some(handle));
 }

@@ -23,7 +23,7 @@ impl Index {
     {
         let count = self.len(heap);
         let block = heap.header_link(self.place()).unwrap_or(0);
-        heap.shift_links(
+        heap.shift_non_null_links(
             block,
             LINK * place + LINK,
             block,

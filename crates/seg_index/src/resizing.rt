@@ -31,7 +31,7 @@ impl Index {
         let count = self.len(heap);
         // without a block there are no links to be moved
         let from = heap.header_link(self.place()).unwrap_or(block);
-        heap.shift_links(from, 0, block, 0, count);
+        heap.shift_non_null_links(from, 0, block, 0, count);
         self.settle(heap, block, n, count, steps);
         Ok(())
     }

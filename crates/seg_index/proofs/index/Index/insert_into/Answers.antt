@@ -4,7 +4,7 @@ use Rattle.std.specs.Prelude.{insert}
 use Rattle.raw_region.specs.Format.{current}
 use Rattle.raw_region.specs.Memory.{bytes_of}
 use Rattle.offset_link.specs.Link.{link_at}
-use Rattle.offset_link.specs.Relinked.{AreLinks}
+use Rattle.offset_link.specs.Relinked.{AllLead}
 use Rattle.best_fit.specs.Extents.{LiveSet}
 use Rattle.best_fit.specs.Heap.{IsChanged, LaysOut, extent_at, has_room, heap_touches, live_of}
 use Rattle.seg_index.specs.Growth.{IsBlockFor}
@@ -17,38 +17,38 @@ use Rattle.seg_index.proofs.Settling.{Source, leaves, filled, good_block, left_k
 use Rattle.seg_index.proofs.Spreading.{insert_all, insert_length, links_range}
 use Rattle.seg_index.proofs.index.Index.insert_into.Goals as goal
 
-pub shift_links-requires-clause-source : goal.shift_links-requires-clause-source
-shift_links-requires-clause-source c =
+pub shift_non_null_links-requires-clause-source : goal.shift_non_null_links-requires-clause-source
+shift_non_null_links-requires-clause-source c =
     let A = c.args.heap.now in let at = place_of c.args.self in let h = c.args.block in let from = c.unwrap_or-from.result in
     let cap = grown_capacity (capacity_at A at) in let q = c.requires.index in
     let is : c.header_link.result ≡ link_at (bytes_of A.bytes) at = c.header_link.ensures ∙ ap (λ k. link_at (bytes_of A.bytes) k) c.place.ensures in
     let s : Source A from q.handles = source A at h cap from c.header_link.result q.table q.handles q.index c.requires.block is c.unwrap_or-from.ensures in
     has_room-less (live_of A.bytes) from (0 + 8 * c.args.place) (8 * length q.handles) (omega arith) s.room
 
-pub shift_links-requires-clause-target : goal.shift_links-requires-clause-target
-shift_links-requires-clause-target c =
+pub shift_non_null_links-requires-clause-target : goal.shift_non_null_links-requires-clause-target
+shift_non_null_links-requires-clause-target c =
     let A = c.args.heap.now in let at = place_of c.args.self in let h = c.args.block in
     let cap = grown_capacity (capacity_at A at) in let q = c.requires.index in
     let g = good_block A h cap q.index.heap c.requires.block in
     has_room-less (live_of A.bytes) h (0 + 8 * c.args.place) (8 * cap) (omega arith) g.room
 
-pub shift_links-requires-clause-links : goal.shift_links-requires-clause-links
-shift_links-requires-clause-links c =
+pub shift_non_null_links-requires-clause-links : goal.shift_non_null_links-requires-clause-links
+shift_non_null_links-requires-clause-links c =
     let A = c.args.heap.now in let at = place_of c.args.self in let h = c.args.block in let from = c.unwrap_or-from.result in
     let cap = grown_capacity (capacity_at A at) in let q = c.requires.index in
     let is : c.header_link.result ≡ link_at (bytes_of A.bytes) at = c.header_link.ensures ∙ ap (λ k. link_at (bytes_of A.bytes) k) c.place.ensures in
     let s : Source A from q.handles = source A at h cap from c.header_link.result q.table q.handles q.index c.requires.block is c.unwrap_or-from.ensures in
     let e : from + 8 * 0 ≡ from + 0 = omega arith in
-    subst (λ k. AreLinks (bytes_of A.bytes) k c.args.place) e (links_range (bytes_of A.bytes) from 0 c.args.place q.handles s.links q.index.whole (omega arith))
+    subst (λ k. AllLead (bytes_of A.bytes) k c.args.place) e (links_range (bytes_of A.bytes) from 0 c.args.place q.handles s.links q.index.whole (omega arith))
 
 pub spread-requires-clause-heap : goal.spread-requires-clause-heap
 spread-requires-clause-heap c =
     let A = c.args.heap.now in let at = place_of c.args.self in let h = c.args.block in
     let cap = grown_capacity (capacity_at A at) in let q = c.requires.index in
     let g = good_block A h cap q.index.heap c.requires.block in
-    let B = c.shift_links.new.self in
+    let B = c.shift_non_null_links.new.self in
     let room1 : IsTrue (has_room (live_of A.bytes) h (0 + 8 * c.args.place)) = has_room-less (live_of A.bytes) h (0 + 8 * c.args.place) (8 * cap) (omega arith) g.room in
-    let one = c.shift_links.ensures.change in
+    let one = c.shift_non_null_links.ensures.change in
     let iB = still A B at h 0 (8 * c.args.place) q.table q.handles q.index one room1 c.requires.apart (place_behind c.args.self) (place_small c.args.self) in
     iB.heap
 
@@ -58,9 +58,9 @@ spread-requires-clause-source c =
     let cap = grown_capacity (capacity_at A at) in let q = c.requires.index in
     let is : c.header_link.result ≡ link_at (bytes_of A.bytes) at = c.header_link.ensures ∙ ap (λ k. link_at (bytes_of A.bytes) k) c.place.ensures in
     let g = good_block A h cap q.index.heap c.requires.block in
-    let B = c.shift_links.new.self in
+    let B = c.shift_non_null_links.new.self in
     let room1 : IsTrue (has_room (live_of A.bytes) h (0 + 8 * c.args.place)) = has_room-less (live_of A.bytes) h (0 + 8 * c.args.place) (8 * cap) (omega arith) g.room in
-    let one = c.shift_links.ensures.change in
+    let one = c.shift_non_null_links.ensures.change in
     let iB = still A B at h 0 (8 * c.args.place) q.table q.handles q.index one room1 c.requires.apart (place_behind c.args.self) (place_small c.args.self) in
     let fB = offered A B (h + 0) (8 * c.args.place) h cap one c.requires.block in
     let sB : Source B from q.handles = source B at h cap from c.header_link.result q.table q.handles iB fB (is ∙ sym (same_link A B at q.table q.handles q.index iB)) c.unwrap_or-from.ensures in
@@ -71,9 +71,9 @@ spread-requires-clause-target c =
     let A = c.args.heap.now in let at = place_of c.args.self in let h = c.args.block in
     let cap = grown_capacity (capacity_at A at) in let q = c.requires.index in
     let g = good_block A h cap q.index.heap c.requires.block in
-    let B = c.shift_links.new.self in
+    let B = c.shift_non_null_links.new.self in
     let room1 : IsTrue (has_room (live_of A.bytes) h (0 + 8 * c.args.place)) = has_room-less (live_of A.bytes) h (0 + 8 * c.args.place) (8 * cap) (omega arith) g.room in
-    let one = c.shift_links.ensures.change in
+    let one = c.shift_non_null_links.ensures.change in
     let iB = still A B at h 0 (8 * c.args.place) q.table q.handles q.index one room1 c.requires.apart (place_behind c.args.self) (place_small c.args.self) in
     let fB = offered A B (h + 0) (8 * c.args.place) h cap one c.requires.block in
     let gB = good_block B h cap iB.heap fB in
@@ -85,9 +85,9 @@ spread-requires-clause-links c =
     let cap = grown_capacity (capacity_at A at) in let q = c.requires.index in
     let is : c.header_link.result ≡ link_at (bytes_of A.bytes) at = c.header_link.ensures ∙ ap (λ k. link_at (bytes_of A.bytes) k) c.place.ensures in
     let g = good_block A h cap q.index.heap c.requires.block in
-    let B = c.shift_links.new.self in
+    let B = c.shift_non_null_links.new.self in
     let room1 : IsTrue (has_room (live_of A.bytes) h (0 + 8 * c.args.place)) = has_room-less (live_of A.bytes) h (0 + 8 * c.args.place) (8 * cap) (omega arith) g.room in
-    let one = c.shift_links.ensures.change in
+    let one = c.shift_non_null_links.ensures.change in
     let iB = still A B at h 0 (8 * c.args.place) q.table q.handles q.index one room1 c.requires.apart (place_behind c.args.self) (place_small c.args.self) in
     let fB = offered A B (h + 0) (8 * c.args.place) h cap one c.requires.block in
     let sB : Source B from q.handles = source B at h cap from c.header_link.result q.table q.handles iB fB (is ∙ sym (same_link A B at q.table q.handles q.index iB)) c.unwrap_or-from.ensures in
@@ -107,8 +107,8 @@ settle-requires-clause-heap c =
     let A = c.args.heap.now in let at = place_of c.args.self in let h = c.args.block in
     let cap = grown_capacity (capacity_at A at) in let q = c.requires.index in
     let g = good_block A h cap q.index.heap c.requires.block in
-    let B = c.shift_links.new.self in
-    let one = c.shift_links.ensures.change in
+    let B = c.shift_non_null_links.new.self in
+    let one = c.shift_non_null_links.ensures.change in
     let D = c.spread.new.heap in
     let all : IsChanged current A D (h + 0) (8 * c.len-count.result + 8) =
     changed_trans A B D (h + 0) (8 * c.args.place) (h + 8 * c.args.place) (8 * (c.len-count.result - c.args.place) + 8) (h + 0) (8 * c.len-count.result + 8) one c.spread.ensures.change (omega arith) (omega arith) (omega arith) (omega arith) in
@@ -120,8 +120,8 @@ pub settle-requires-clause-block : goal.settle-requires-clause-block
 settle-requires-clause-block c =
     let A = c.args.heap.now in let at = place_of c.args.self in let h = c.args.block in
     let cap = grown_capacity (capacity_at A at) in
-    let B = c.shift_links.new.self in
-    let one = c.shift_links.ensures.change in
+    let B = c.shift_non_null_links.new.self in
+    let one = c.shift_non_null_links.ensures.change in
     let D = c.spread.new.heap in
     let all : IsChanged current A D (h + 0) (8 * c.len-count.result + 8) =
     changed_trans A B D (h + 0) (8 * c.args.place) (h + 8 * c.args.place) (8 * (c.len-count.result - c.args.place) + 8) (h + 0) (8 * c.len-count.result + 8) one c.spread.ensures.change (omega arith) (omega arith) (omega arith) (omega arith) in
@@ -134,8 +134,8 @@ settle-requires-clause-released c =
     let A = c.args.heap.now in let at = place_of c.args.self in let h = c.args.block in
     let cap = grown_capacity (capacity_at A at) in let q = c.requires.index in
     let g = good_block A h cap q.index.heap c.requires.block in
-    let B = c.shift_links.new.self in
-    let one = c.shift_links.ensures.change in
+    let B = c.shift_non_null_links.new.self in
+    let one = c.shift_non_null_links.ensures.change in
     let D = c.spread.new.heap in
     let all : IsChanged current A D (h + 0) (8 * c.len-count.result + 8) =
     changed_trans A B D (h + 0) (8 * c.args.place) (h + 8 * c.args.place) (8 * (c.len-count.result - c.args.place) + 8) (h + 0) (8 * c.len-count.result + 8) one c.spread.ensures.change (omega arith) (omega arith) (omega arith) (omega arith) in
@@ -157,9 +157,9 @@ returns-clause-index c = λ t hs i.
     let within = c.requires.within in let cnt = q.index.stands.count in let capw = q.index.stands.capacity in let few = q.index.few in
     let g = good_block A h cap q.index.heap c.requires.block in
     let s : Source A from q.handles = source A at h cap from c.header_link.result q.table q.handles q.index c.requires.block is c.unwrap_or-from.ensures in
-    let B = c.shift_links.new.self in
+    let B = c.shift_non_null_links.new.self in
     let room1 : IsTrue (has_room (live_of A.bytes) h (0 + 8 * c.args.place)) = has_room-less (live_of A.bytes) h (0 + 8 * c.args.place) (8 * cap) (omega arith) g.room in
-    let one = c.shift_links.ensures.change in
+    let one = c.shift_non_null_links.ensures.change in
     let iB = still A B at h 0 (8 * c.args.place) q.table q.handles q.index one room1 c.requires.apart (place_behind c.args.self) (place_small c.args.self) in
     let fB = offered A B (h + 0) (8 * c.args.place) h cap one c.requires.block in
     let gB = good_block B h cap iB.heap fB in
@@ -173,7 +173,7 @@ returns-clause-index c = λ t hs i.
     let fD = offered A D (h + 0) (8 * c.len-count.result + 8) h cap all c.requires.block in
     let linkD : link_at (bytes_of D.bytes) at ≡ link_at (bytes_of A.bytes) at = same_link A D at q.table q.handles q.index iD in
     let capis : c.grown-capacity.result ≡ cap = c.grown-capacity.ensures ∙ ap grown_capacity c.capacity.ensures.word in
-    let links = filled A B D h from c.args.place c.len-count.result c.args.handle hs s.links sB.links n (omega arith) c.shift_links.ensures.lead c.spread.ensures.change c.spread.ensures.here c.spread.ensures.tail in
+    let links = filled A B D h from c.args.place c.len-count.result c.args.handle hs s.links sB.links n (omega arith) c.shift_non_null_links.ensures.lead c.spread.ensures.change c.spread.ensures.here c.spread.ensures.tail in
     let more = insert_length hs c.args.place c.args.handle (omega arith) in
     let made = c.settle.ensures.index (insert hs c.args.place c.args.handle) links (omega arith) (insert_all (λ k. k % 16 ≡ 0) hs c.args.place c.args.handle i.whole c.requires.handle) in
     let live : live_of D.bytes ≡ live_of A.bytes = same_live A D (h + 0) (8 * c.len-count.result + 8) all in
@@ -185,8 +185,8 @@ returns-clause-live c =
     let A = c.args.heap.now in let at = place_of c.args.self in let h = c.args.block in
     let cap = grown_capacity (capacity_at A at) in let q = c.requires.index in
     let g = good_block A h cap q.index.heap c.requires.block in
-    let B = c.shift_links.new.self in
-    let one = c.shift_links.ensures.change in
+    let B = c.shift_non_null_links.new.self in
+    let one = c.shift_non_null_links.ensures.change in
     let D = c.spread.new.heap in
     let all : IsChanged current A D (h + 0) (8 * c.len-count.result + 8) =
     changed_trans A B D (h + 0) (8 * c.args.place) (h + 8 * c.args.place) (8 * (c.len-count.result - c.args.place) + 8) (h + 0) (8 * c.len-count.result + 8) one c.spread.ensures.change (omega arith) (omega arith) (omega arith) (omega arith) in
@@ -200,8 +200,8 @@ returns-clause-keeps c =
     let A = c.args.heap.now in let at = place_of c.args.self in let h = c.args.block in
     let cap = grown_capacity (capacity_at A at) in let q = c.requires.index in
     let g = good_block A h cap q.index.heap c.requires.block in
-    let B = c.shift_links.new.self in
-    let one = c.shift_links.ensures.change in
+    let B = c.shift_non_null_links.new.self in
+    let one = c.shift_non_null_links.ensures.change in
     let D = c.spread.new.heap in
     let all : IsChanged current A D (h + 0) (8 * c.len-count.result + 8) =
     changed_trans A B D (h + 0) (8 * c.args.place) (h + 8 * c.args.place) (8 * (c.len-count.result - c.args.place) + 8) (h + 0) (8 * c.len-count.result + 8) one c.spread.ensures.change (omega arith) (omega arith) (omega arith) (omega arith) in
@@ -213,8 +213,8 @@ returns-clause-keeps c =
 pub returns-clause-steps : goal.returns-clause-steps
 returns-clause-steps c =
     let A = c.args.heap.now in let h = c.args.block in
-    let B = c.shift_links.new.self in
-    let one = c.shift_links.ensures.change in
+    let B = c.shift_non_null_links.new.self in
+    let one = c.shift_non_null_links.ensures.change in
     let D = c.spread.new.heap in
     let all : IsChanged current A D (h + 0) (8 * c.len-count.result + 8) =
     changed_trans A B D (h + 0) (8 * c.args.place) (h + 8 * c.args.place) (8 * (c.len-count.result - c.args.place) + 8) (h + 0) (8 * c.len-count.result + 8) one c.spread.ensures.change (omega arith) (omega arith) (omega arith) (omega arith) in

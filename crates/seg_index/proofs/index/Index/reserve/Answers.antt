@@ -6,7 +6,7 @@ use Rattle.raw_region.specs.Format.{current}
 use Rattle.raw_region.specs.Memory.{bytes_of}
 use Rattle.block_tags.specs.declared.tile.Role.TheVariants.{Index as IndexRole}
 use Rattle.offset_link.specs.Link.{link_at}
-use Rattle.offset_link.specs.Relinked.{AreLinks}
+use Rattle.offset_link.specs.Relinked.{AllLead}
 use Rattle.best_fit.specs.Extents.{Extent, LiveSet}
 use Rattle.best_fit.specs.Fit.{added, place}
 use Rattle.best_fit.specs.Heap.{IsRefused, LaysOut, extent_at, heap_touches, live_of}
@@ -32,8 +32,8 @@ returns-in_err-block-clause-reserved c =
     let less : capacity_at A at < n = omega arith in
     MatchResult-from_err c.from_residual.result (λ v. IsRoomy A B at n) (λ e. (capacity_at A at < n) × IsRefused A B (8 * n) IndexRole) c.from_residual.ensures.0 (λ y. (less, refused))
 
-pub shift_links-requires-clause-source : goal.shift_links-requires-clause-source
-shift_links-requires-clause-source c =
+pub shift_non_null_links-requires-clause-source : goal.shift_non_null_links-requires-clause-source
+shift_non_null_links-requires-clause-source c =
     let A = c.args.heap.now in let at = place_of c.args.self in let q = c.requires.index in let n = c.args.n in
     let B = c.allocate.new.self in let h = c.in_ok-block.block in let al = c.in_ok-block.ensures.answer in
     let k : c.saturating_mul.result ≡ 8 * n = meant A B n c.saturating_mul.result IndexRole h q.index.heap al c.saturating_mul.ensures in
@@ -43,8 +43,8 @@ shift_links-requires-clause-source c =
     let s : Source B c.unwrap_or-from.result q.handles = source B at h n c.unwrap_or-from.result c.header_link.result q.table q.handles iB fB is c.unwrap_or-from.ensures in
     has_room-less (live_of B.bytes) c.unwrap_or-from.result (0 + 8 * c.len-count.result) (8 * length q.handles) (omega arith) s.room
 
-pub shift_links-requires-clause-target : goal.shift_links-requires-clause-target
-shift_links-requires-clause-target c =
+pub shift_non_null_links-requires-clause-target : goal.shift_non_null_links-requires-clause-target
+shift_non_null_links-requires-clause-target c =
     let A = c.args.heap.now in let at = place_of c.args.self in let q = c.requires.index in let n = c.args.n in
     let B = c.allocate.new.self in let h = c.in_ok-block.block in let al = c.in_ok-block.ensures.answer in
     let k : c.saturating_mul.result ≡ 8 * n = meant A B n c.saturating_mul.result IndexRole h q.index.heap al c.saturating_mul.ensures in
@@ -53,8 +53,8 @@ shift_links-requires-clause-target c =
     let g = good_block B h n iB.heap fB in
     has_room-less (live_of B.bytes) h (0 + 8 * c.len-count.result) (8 * n) (omega arith) g.room
 
-pub shift_links-requires-clause-links : goal.shift_links-requires-clause-links
-shift_links-requires-clause-links c =
+pub shift_non_null_links-requires-clause-links : goal.shift_non_null_links-requires-clause-links
+shift_non_null_links-requires-clause-links c =
     let A = c.args.heap.now in let at = place_of c.args.self in let q = c.requires.index in let n = c.args.n in
     let B = c.allocate.new.self in let h = c.in_ok-block.block in let al = c.in_ok-block.ensures.answer in
     let k : c.saturating_mul.result ≡ 8 * n = meant A B n c.saturating_mul.result IndexRole h q.index.heap al c.saturating_mul.ensures in
@@ -63,7 +63,7 @@ shift_links-requires-clause-links c =
     let is : c.header_link.result ≡ link_at (bytes_of B.bytes) at = c.header_link.ensures ∙ ap (λ j. link_at (bytes_of B.bytes) j) c.place.ensures in
     let s : Source B c.unwrap_or-from.result q.handles = source B at h n c.unwrap_or-from.result c.header_link.result q.table q.handles iB fB is c.unwrap_or-from.ensures in
     let e : c.unwrap_or-from.result + 8 * 0 ≡ c.unwrap_or-from.result + 0 = omega arith in
-    subst (λ j. AreLinks (bytes_of B.bytes) j c.len-count.result) e (links_range (bytes_of B.bytes) c.unwrap_or-from.result 0 c.len-count.result q.handles s.links q.index.whole (omega arith))
+    subst (λ j. AllLead (bytes_of B.bytes) j c.len-count.result) e (links_range (bytes_of B.bytes) c.unwrap_or-from.result 0 c.len-count.result q.handles s.links q.index.whole (omega arith))
 
 pub settle-requires-clause-heap : goal.settle-requires-clause-heap
 settle-requires-clause-heap c =
@@ -75,7 +75,7 @@ settle-requires-clause-heap c =
     let linkB : link_at (bytes_of B.bytes) at ≡ link_at (bytes_of A.bytes) at = same_link A B at q.table q.handles q.index iB in
     let apartB : link_at (bytes_of B.bytes) at ≡ Some h → ⊥ = λ e. not_its_own A B at c.saturating_mul.result IndexRole h q.table q.handles q.index al (sym linkB ∙ e) in
     let g = good_block B h n iB.heap fB in
-    let D = c.shift_links.new.self in let one = c.shift_links.ensures.change in
+    let D = c.shift_non_null_links.new.self in let one = c.shift_non_null_links.ensures.change in
     let room = has_room-less (live_of B.bytes) h (0 + 8 * c.len-count.result) (8 * n) (omega arith) g.room in
     let iD = still B D at h 0 (8 * c.len-count.result) q.table q.handles iB one room apartB (place_behind c.args.self) (place_small c.args.self) in
     iD.heap
@@ -86,7 +86,7 @@ settle-requires-clause-block c =
     let B = c.allocate.new.self in let h = c.in_ok-block.block in let al = c.in_ok-block.ensures.answer in
     let k : c.saturating_mul.result ≡ 8 * n = meant A B n c.saturating_mul.result IndexRole h q.index.heap al c.saturating_mul.ensures in
     let fB : IsBlockFor B h n = taken_block A B c.saturating_mul.result n h al k in
-    let D = c.shift_links.new.self in let one = c.shift_links.ensures.change in
+    let D = c.shift_non_null_links.new.self in let one = c.shift_non_null_links.ensures.change in
     let fD = offered B D (h + 0) (8 * c.len-count.result) h n one fB in
     fD
 
@@ -100,7 +100,7 @@ settle-requires-clause-released c =
     let linkB : link_at (bytes_of B.bytes) at ≡ link_at (bytes_of A.bytes) at = same_link A B at q.table q.handles q.index iB in
     let apartB : link_at (bytes_of B.bytes) at ≡ Some h → ⊥ = λ e. not_its_own A B at c.saturating_mul.result IndexRole h q.table q.handles q.index al (sym linkB ∙ e) in
     let g = good_block B h n iB.heap fB in
-    let D = c.shift_links.new.self in let one = c.shift_links.ensures.change in
+    let D = c.shift_non_null_links.new.self in let one = c.shift_non_null_links.ensures.change in
     let room = has_room-less (live_of B.bytes) h (0 + 8 * c.len-count.result) (8 * n) (omega arith) g.room in
     let iD = still B D at h 0 (8 * c.len-count.result) q.table q.handles iB one room apartB (place_behind c.args.self) (place_small c.args.self) in
     let linkD : link_at (bytes_of D.bytes) at ≡ link_at (bytes_of B.bytes) at = same_link B D at q.table q.handles iB iD in
@@ -120,7 +120,7 @@ settle-requires-clause-within c =
     let s : Source B c.unwrap_or-from.result q.handles = source B at h n c.unwrap_or-from.result c.header_link.result q.table q.handles iB fB is c.unwrap_or-from.ensures in
     let len : c.len-count.result ≡ length q.handles = c.len-count.ensures.len q.table q.handles iB in
     let few = q.index.few in let capw = q.index.stands.capacity in let was = c.capacity.ensures.word in let more = c.if-n-capacity.false in
-    let D = c.shift_links.new.self in let one = c.shift_links.ensures.change in
+    let D = c.shift_non_null_links.new.self in let one = c.shift_non_null_links.ensures.change in
     let room = has_room-less (live_of B.bytes) h (0 + 8 * c.len-count.result) (8 * n) (omega arith) g.room in
     let iD = still B D at h 0 (8 * c.len-count.result) q.table q.handles iB one room apartB (place_behind c.args.self) (place_small c.args.self) in
     let fD = offered B D (h + 0) (8 * c.len-count.result) h n one fB in
@@ -139,7 +139,7 @@ returns-clause-reserved c =
     let g = good_block B h n iB.heap fB in
     let is : c.header_link.result ≡ link_at (bytes_of B.bytes) at = c.header_link.ensures ∙ ap (λ j. link_at (bytes_of B.bytes) j) c.place.ensures in
     let len : c.len-count.result ≡ length q.handles = c.len-count.ensures.len q.table q.handles iB in
-    let D = c.shift_links.new.self in let one = c.shift_links.ensures.change in
+    let D = c.shift_non_null_links.new.self in let one = c.shift_non_null_links.ensures.change in
     let room = has_room-less (live_of B.bytes) h (0 + 8 * c.len-count.result) (8 * n) (omega arith) g.room in
     let iD = still B D at h 0 (8 * c.len-count.result) q.table q.handles iB one room apartB (place_behind c.args.self) (place_small c.args.self) in
     let linkD : link_at (bytes_of D.bytes) at ≡ link_at (bytes_of B.bytes) at = same_link B D at q.table q.handles iB iD in
@@ -157,7 +157,7 @@ returns-clause-reserved c =
           let sB : Source B c.unwrap_or-from.result hs = source B at h n c.unwrap_or-from.result c.header_link.result t hs jB fB is c.unwrap_or-from.ensures in
           let links = links_moved (bytes_of B.bytes) (bytes_of D.bytes) c.unwrap_or-from.result h hs sB.links (λ j f.
           let p : h + 8 * j ≡ h + 0 + 8 * j = omega arith in let r : c.unwrap_or-from.result + 0 + 8 * j ≡ c.unwrap_or-from.result + 8 * j = omega arith in
-          ap (λ m. link_at (bytes_of D.bytes) m) p ∙ c.shift_links.ensures.lead.each j (omega arith) ∙ ap (λ m. link_at (bytes_of B.bytes) m) r) in
+          ap (λ m. link_at (bytes_of D.bytes) m) p ∙ c.shift_non_null_links.ensures.lead.each j (omega arith) ∙ ap (λ m. link_at (bytes_of B.bytes) m) r) in
           subst (λ (o : Option Extent). IsIndexOf E at (record { capacity = n; extent = o }) hs) foundD (c.settle.ensures.index hs links long i.whole);
       live = subst (λ (l : LiveSet). LaysOut current E.bytes l) unl c.settle.ensures.live;
       keeps = reserved_keeps A B D E at h c.saturating_mul.result (8 * c.len-count.result) q.index.heap al one room (linkD ∙ linkB) (λ e. apartB (linkB ∙ e)) c.settle.ensures.keeps
@@ -179,7 +179,7 @@ returns-clause-steps c =
     let s : Source B c.unwrap_or-from.result q.handles = source B at h n c.unwrap_or-from.result c.header_link.result q.table q.handles iB fB is c.unwrap_or-from.ensures in
     let len : c.len-count.result ≡ length q.handles = c.len-count.ensures.len q.table q.handles iB in
     let few = q.index.few in let capw = q.index.stands.capacity in let was = c.capacity.ensures.word in let more = c.if-n-capacity.false in
-    let D = c.shift_links.new.self in let one = c.shift_links.ensures.change in
+    let D = c.shift_non_null_links.new.self in let one = c.shift_non_null_links.ensures.change in
     let room = has_room-less (live_of B.bytes) h (0 + 8 * c.len-count.result) (8 * n) (omega arith) g.room in
     let iD = still B D at h 0 (8 * c.len-count.result) q.table q.handles iB one room apartB (place_behind c.args.self) (place_small c.args.self) in
     let fD = offered B D (h + 0) (8 * c.len-count.result) h n one fB in

@@ -166,6 +166,14 @@ impl Heap {
         self.gaps.window.read_u64(handle + at)
     }
 
+    /// The `len` bytes from `at` on in the block of a handle.
+    pub fn bytes(&self, handle: u64, at: u64, len: u64) -> &[u8]
+        requires { IsTrue (has_room (live_of self.now.bytes) handle (at + len)) }
+        ensures { result.now ≡ read (bytes_of self.now.bytes) (handle + at) len }
+    {
+        self.gaps.window.bytes(handle + at, len)
+    }
+
     /// Writes the word at `at` in the block of a handle.
     pub fn set_word(&mut self, handle: u64, at: u64, value: u64)
         requires { IsTrue (has_room (live_of self.old.bytes) handle (at + 8)) }

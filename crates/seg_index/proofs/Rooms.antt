@@ -3,12 +3,11 @@ use Rattle.std.proofs.Common.{◌≡◌, refl, sym, ap, subst, ◌∙◌, ℕ, �
 use Rattle.std.specs.List.{list_any}
 use Rattle.std.specs.Prelude.{Option, Some, None, find}
 use Rattle.std.proofs.lemmas.Bool.{and_parts, and_from, or_cases, or_left, or_right, leb-true, le-leb, eq-eqb, eqb-true, cond-true, cond-false}
-use Rattle.raw_region.specs.Memory.{Cut, bytes_of, part, read}
-use Rattle.raw_region.proofs.Laws.{length-part, part-part, read-part}
+use Rattle.raw_region.specs.Memory.{Cut}
 use Rattle.raw_region.specs.Format.{current}
 use Rattle.best_fit.specs.Extents.{Extent, LiveSet, handle, holds}
-use Rattle.best_fit.specs.Heap.{IsHeap, extent_at, has_room, is_live_in, live_of, payload_at}
-use Rattle.best_fit.proofs.Laws.{room_block, block_payload}
+use Rattle.best_fit.specs.Heap.{IsHeap, extent_at, has_room, is_live_in, live_of}
+use Rattle.best_fit.proofs.Laws.{room_block}
 
 none_some : (x : Extent) → None ≡ Some x → ⊥
 none_some x e = let o : Option Extent = None in let f : o ≡ Some x = e in cc
@@ -30,26 +29,6 @@ has_room-less l h a b le = any_mono (λ (x : Extent). (handle x == h) && holds x
 pub has_room-live : (l : LiveSet) (h n : ℕ) → IsTrue (has_room l h n) → IsTrue (is_live_in l h)
 has_room-live l h n = any_mono (λ (x : Extent). (handle x == h) && holds x n) (λ (x : Extent). handle x == h)
     (λ (x : Extent) t. (and_parts (handle x == h) (holds x n) t).0) l.extents
-
--- what a block lends of its payload
-pub record Lent (c : Cut) (h n : ℕ) (p : List ℕ) : Type 0 where
-  pub long : n ≤ length p
-  pub content : (at len : ℕ) → at + len ≤ n → part p at len ≡ read (bytes_of c.bytes) (h + at) len
-  pub inside : h + n ≤ 1073741824
-
-pub lent : (c : Cut) (h n : ℕ) (p : List ℕ) → IsHeap current c.bytes → IsTrue (has_room (live_of c.bytes) h n) → p ≡ payload_at c.bytes (live_of c.bytes) h → Lent c h n p
-lent c h n p heap has e =
-    let r = room_block c h n heap has in let b = r.block in
-    let enough = r.enough in let o = b.at in let ends = b.inside in let size = b.size in let small = b.long in
-    let is : p ≡ part c.bytes h (b.tile.len - 16) = e ∙ block_payload c h b in
-    let long : length p ≡ b.tile.len - 16 = ap (λ (l : List ℕ). length l) is ∙ length-part c.bytes h (b.tile.len - 16) (omega arith) in
-    record {
-      long = omega arith;
-      content = λ at len l.
-          ap (λ (q : List ℕ). part q at len) is ∙ part-part c.bytes h (b.tile.len - 16) at len (omega arith)
-          ∙ sym (read-part c.bytes (h + at) len (omega arith));
-      inside = omega arith;
-    }
 
 -- the extent that is found by its handle has the room that it holds
 pub found_any : (test : Extent → Bool) (h : ℕ) (x : Extent) (xs : List Extent) → find (λ (y : Extent). handle y == h) xs ≡ Some x → IsTrue (test x) → IsTrue (list_any test xs)

@@ -80,6 +80,5 @@ fn name_of(heap: &Heap, handle: u64) -> &[u8]
     ensures { result.now ≡ name_at (bytes_of heap.now.bytes) handle }
 {
     let len = heap.word(handle, 8) % HALF;
-    let payload = heap.block(handle);
-    &payload[16..16 + len as usize]
+    heap.bytes(handle, 16, len)
 }

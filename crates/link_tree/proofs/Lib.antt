@@ -3,6 +3,7 @@ mod Trees
 mod Heights
 mod Limits
 mod Seeking
+mod Mirrors
 mod Joints
 mod Turns
 mod Colours

@@ -32,7 +32,7 @@ first_not-left before xs n ys b =
     let e = not_from_false (before n) b in
     find-append (λ m. not (before m)) xs (n ∷ ys) ∙ rw e refl
 
-or_some : (a : Option ℕ) (n : ℕ) (b : Option ℕ) → option_or (option_or a (Some n)) b ≡ option_or a (Some n)
+pub or_some : (a : Option ℕ) (n : ℕ) (b : Option ℕ) → option_or (option_or a (Some n)) b ≡ option_or a (Some n)
 or_some None n b = refl
 or_some (Some m) n b = refl
 
@@ -46,7 +46,7 @@ pub record Seeking (lt : ℕ → ℕ → Bool) (h : ℕ → Cell) (before : ℕ 
   pub path : steps + path_length before tree ≡ path_length before whole
   pub away : (m : ℕ) → link ≡ Some m → at ≡ Some m → ⊥
 
-or_none : (a : Option ℕ) → option_or a None ≡ a
+pub or_none : (a : Option ℕ) → option_or a None ≡ a
 or_none None = refl
 or_none (Some m) = refl
 

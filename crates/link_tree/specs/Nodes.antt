@@ -1,5 +1,5 @@
 -- What a call says of the nodes that it changed, and of lists of nodes.
-use Rattle.std.specs.Prelude.{ℕ, Bool, true, false, not, ◌||◌, Option, Some, None, List, [], ◌∷◌, nat_eq, if◌then◌else◌}
+use Rattle.std.specs.Prelude.{ℕ, Bool, true, false, not, ◌||◌, Option, Some, None, List, [], ◌∷◌, reverse, nat_eq, if◌then◌else◌}
 use Rattle.std.specs.List.{find, list_all}
 use Rattle.link_tree.specs.Tree.{Cell}
 
@@ -28,6 +28,10 @@ leads good (Some n) = good n
 -- the first node that does not stand before the probe
 abbrev pub first_not : (ℕ → Bool) → List ℕ → Option ℕ
 first_not before ns = find (λ n. not (before n)) ns
+
+-- the last node that stands before the probe
+abbrev pub last_before : (ℕ → Bool) → List ℕ → Option ℕ
+last_before before ns = find before (reverse ns)
 
 -- whether the node stands before or behind each node of the list
 abbrev pub has_place : (ℕ → ℕ → Bool) → ℕ → List ℕ → Bool

@@ -7,6 +7,7 @@
 //! after Okasaki, `remove` after Filliâtre and Letouzey.
 #![tactic(auto)]
 
+mod backwards;
 mod checking;
 mod inserting;
 mod nodes;
@@ -21,6 +22,6 @@ pub use checking::{Checked, check};
 pub use inserting::{Changed, insert};
 pub use nodes::{Nodes, NodesMut};
 pub use removing::remove;
-pub use searching::{Found, find_first_not_before};
+pub use searching::{Found, find_first_not_before, find_last, find_last_before};
 pub use theorems::{law_of_height, law_of_reading};
 pub use walking::walk;

@@ -1,17 +1,19 @@
-//! The first node that does not stand before a probe.
+//! Nodes that are looked for: the neighbours of a probe, and the last node.
 
 ghost use Rattle.std.specs.Prelude.{◌≡◌, ℕ, ◌+◌, ◌*◌, ◌≤◌, Bool, true, false, Option, Some, None, List, length};
+ghost use Rattle.std.specs.List.{last_or};
 ghost use Rattle.link_tree.specs.Tree.{Tree, IsSearchTree, nodes_of, bits};
-ghost use Rattle.link_tree.specs.Nodes.{leads, first_not};
+ghost use Rattle.link_tree.specs.Nodes.{leads, first_not, last_before};
 ghost use Rattle.link_tree.specs.Searching.{path_length};
 
+use crate::backwards::{AllBefore, Backwards};
 use crate::nodes::Nodes;
 use crate::visits::Visits;
 
 /// The node that was looked for, if there is one, and the steps that the search took.
 #[derive(Clone, Copy, Debug, PartialEq, Eq)]
 pub struct Found {
-    /// The node; none where every node of the tree stands before the probe.
+    /// The node; none where there is no such node in the tree.
     pub node: Option<u64>,
     /// How often the search went to a node.
     pub steps: u64,
@@ -48,4 +50,38 @@ pub fn find_first_not_before<N: Nodes>(nodes: &N, root: Option<u64>, probe: &N::
         node: found,
         steps: visits.steps(),
     }
+}
+
+/// The last node of the tree that stands before the probe.
+///
+/// It goes down the same path as `find_first_not_before`, with as many steps.
+pub fn find_last_before<N: Nodes>(nodes: &N, root: Option<u64>, probe: &N::Probe) -> Found
+    requires root { leads (N.is_node nodes.now) root ≡ true }
+    requires tree { (t : Tree) × IsSearchTree (N.order nodes.now) (N.cells nodes.now) root t }
+    // None, where no node stands before the probe.
+    ensures last { (t : Tree) → IsSearchTree (N.order nodes.now) (N.cells nodes.now) root t
+        → result.node ≡ last_before (N.before nodes.now probe.now) (nodes_of t) }
+    ensures steps { (t : Tree) → IsSearchTree (N.order nodes.now) (N.cells nodes.now) root t
+        → result.steps ≤ 2 * bits (length (nodes_of t) + 1) }
+    ensures exact { (t : Tree) → IsSearchTree (N.order nodes.now) (N.cells nodes.now) root t
+        → result.steps ≡ path_length (N.before nodes.now probe.now) t }
+{
+    find_first_not_before(&Backwards { nodes }, root, probe)
+}
+
+/// The last node of the tree.
+///
+/// It takes a step for each node of the path that goes down from the root to the right.
+pub fn find_last<N: Nodes>(nodes: &N, root: Option<u64>) -> Found
+    requires root { leads (N.is_node nodes.now) root ≡ true }
+    requires tree { (t : Tree) × IsSearchTree (N.order nodes.now) (N.cells nodes.now) root t }
+    // None, where there is no node.
+    ensures last { (t : Tree) → IsSearchTree (N.order nodes.now) (N.cells nodes.now) root t
+        → result.node ≡ last_or None (nodes_of t) }
+    ensures steps { (t : Tree) → IsSearchTree (N.order nodes.now) (N.cells nodes.now) root t
+        → result.steps ≤ 2 * bits (length (nodes_of t) + 1) }
+    ensures exact { (t : Tree) → IsSearchTree (N.order nodes.now) (N.cells nodes.now) root t
+        → result.steps ≡ path_length (λ n. true) t }
+{
+    find_last_before(&AllBefore { nodes }, root, &())
 }

@@ -1,4 +1,4 @@
-use Rattle.std.proofs.Common.{◌≡◌, Bool, ℕ, ◌+◌, ◌*◌, ◌<◌, ◌^◌, Option, Some, refl, sym, ap, ◌∙◌, arith, rules}
+use Rattle.std.proofs.Common.{◌≡◌, Bool, ℕ, ◌+◌, ◌*◌, ◌<◌, ◌^◌, Option, Some, refl, ap, ◌∙◌, arith, rules}
 use Rattle.link_tree.specs.Tree.{Tree, height}
 use Rattle.link_tree.specs.Sides.{child_of, side_of}
 use Rattle.link_tree.specs.Shrinking.{Shrinks}

@@ -7,17 +7,17 @@ use Rattle.segment_manager.specs.Indexed.{entries_of, objects_of}
 use Rattle.segment_manager.specs.State.{Answers, State}
 use Rattle.segment_manager.proofs.FindCalls.{at-answers, below-count}
 use Rattle.segment_manager.proofs.KeyCalls.{segment-index}
-use Rattle.segment_manager.proofs.segment.Segment.unique_at.Goals as goal
+use Rattle.segment_manager.proofs.finding.unique_at.Goals as goal
 
 pub at-requires-clause-index : goal.at-requires-clause-index
-at-requires-clause-index c = segment-index c.self.inside.heap Unique c.self.invariant
+at-requires-clause-index c = segment-index c.segment.inside.heap Unique c.segment.invariant
 
 pub at-requires-clause-below : goal.at-requires-clause-below
 at-requires-clause-below c =
-    let s : State = record { cut = c.self.inside.heap; mode = c.self.inside.mode } in
-    below-count s Unique c.args.i c.self.invariant (subst (λ t. IsBelow t (λ d. length (objects_of Unique d)) c.args.i) (sym c.self.view_is) c.requires)
+    let s : State = record { cut = c.segment.inside.heap; mode = c.segment.inside.mode } in
+    below-count s Unique c.args.i c.segment.invariant (subst (λ t. IsBelow t (λ d. length (objects_of Unique d)) c.args.i) (sym c.segment.view_is) c.requires)
 
 pub returns : goal.returns
 returns c =
-    let s : State = record { cut = c.self.inside.heap; mode = c.self.inside.mode } in
-    subst (λ t. Answers t (λ d. slice_get (entries_of Unique d) c.args.i) (Some c.at.result)) c.self.view_is (at-answers s Unique c.args.i c.at.result c.at.ensures)
+    let s : State = record { cut = c.segment.inside.heap; mode = c.segment.inside.mode } in
+    subst (λ t. Answers t (λ d. slice_get (entries_of Unique d) c.args.i) (Some c.at.result)) c.segment.view_is (at-answers s Unique c.args.i c.at.result c.at.ensures)

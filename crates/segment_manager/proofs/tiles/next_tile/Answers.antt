@@ -5,12 +5,12 @@ use Rattle.block_tags.specs.Tiles.{tiles_of}
 use Rattle.segment_manager.specs.Calls.{IsTileOfIndex}
 use Rattle.segment_manager.specs.State.{State}
 use Rattle.segment_manager.proofs.Kept.{tile-is}
-use Rattle.segment_manager.proofs.segment.Segment.next_tile.Goals as goal
+use Rattle.segment_manager.proofs.tiles.next_tile.Goals as goal
 
 pub returns : goal.returns
 returns c i e =
-    let s : State = record { cut = c.self.inside.heap; mode = c.self.inside.mode } in
+    let s : State = record { cut = c.segment.inside.heap; mode = c.segment.inside.mode } in
     let stands : slice_get (tiles_of (bytes_of s.cut.bytes) (length s.cut.bytes)) i ≡ Some c.args.tile =
-    subst (λ (t : State). slice_get (tiles_of (bytes_of t.cut.bytes) (length t.cut.bytes)) i ≡ Some c.args.tile) (sym c.self.view_is) e in
-    subst (λ t. IsTileOfIndex t (i + 1) c.next_tile.result) c.self.view_is
+    subst (λ (t : State). slice_get (tiles_of (bytes_of t.cut.bytes) (length t.cut.bytes)) i ≡ Some c.args.tile) (sym c.segment.view_is) e in
+    subst (λ t. IsTileOfIndex t (i + 1) c.next_tile.result) c.segment.view_is
     (tile-is s (i + 1) c.next_tile.result (c.next_tile.ensures.tile i stands) (c.next_tile.ensures.span i stands))

@@ -62,7 +62,7 @@ mod walking_tiles;
 
 pub use destinations::{AnonymousInstance, Destination, IndexDestination, UniqueInstance};
 pub use errors::{CreateError, CreateRefused, RelocateRefused};
-pub use iterating::Instances;
+pub use iterating::{Instances, Names};
 pub use modes::Mode;
 pub use segment::Segment;
 pub use targets::{Object, Target, locate};

@@ -1,3 +1,5 @@
 mod Here
 mod Reading
 mod Repeating
+mod Ranges
+mod Copying

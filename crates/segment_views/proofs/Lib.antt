@@ -2,4 +2,5 @@ mod Here
 mod Reading
 mod Repeating
 mod Ranges
+mod RangeReads
 mod Copying

@@ -10,7 +10,10 @@
 //! |---|---|---|
 //! | `construct`, `find_or_construct`, and those of a `ScalarValue` | a count from 1 to 1048576 | `construct_array`, `find_or_construct_array` |
 //! | what takes a [`Destination`] that says a kind | it is the kind of what is made | a [`Name`], [`UniqueInstance`], [`AnonymousInstance`] |
-//! | `create`, `relocate` | a base that is a multiple of 16 | |
+//! | `create`, `relocate`, [`open`], [`open_any`] | a base that is a multiple of 16 | |
+//!
+//! The layers below a segment ([`Heap`], [`SegVec`], [`Window`], [`RawRegion`]) are for types of one's own, and want to be told
+//! what lies where.
 //!
 //! The calls that want to be told what a segment holds are not here: those that take an object which was looked up before (the
 //! views keep one), and those that go through a segment step by step, which the iterators do. They stand in `segment_manager`,
@@ -35,9 +38,9 @@ pub use segment_disk::{Disk, HostDisk};
 pub use segment_file::{FileError, SegmentFile};
 pub use segment_manager::{
     AnonymousInstance, CreateError, CreateRefused, Destination, IndexDestination, Instance,
-    Instances, Mode, Objects, RelocateRefused, Segment, Span, Target, Tiles,
+    Instances, Mode, Names, Objects, RelocateRefused, Segment, Span, Target, Tiles,
     UniqueInstance,
 };
 pub use segment_views::{
-    ArrayItems, ArrayView, MapView, StringView, StringsView, TextItems, VectorItems, VectorView,
+    ArrayItems, ArrayView, MapItems, MapView, StringView, StringsView, TextItems, VectorItems, VectorView,
 };

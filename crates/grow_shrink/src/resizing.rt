@@ -5,6 +5,7 @@ ghost use Rattle.segment_manager.specs.Step.{is_read_only as may_only_be_read};
 ghost use Rattle.grow_shrink.specs.Resized.{IsRefusedBy, growth_refusal, room_of, shrink_refusal};
 
 use crate::refusals::GrowError;
+use segment_manager::conditioned::{cut_end, extend_end};
 use segment_manager::{Mode, Segment};
 
 /// The least number of bytes that a segment grows by.
@@ -38,7 +39,7 @@ pub fn grow(segment: &mut Segment, extra: u64) -> Result<(), GrowError>
     if extra > segment.region_left() {
         return Err(GrowError::RegionTooSmall);
     }
-    segment.extend_end(extra);
+    extend_end(segment, extra);
     Ok(())
 }
 
@@ -56,7 +57,7 @@ pub fn shrink_to_fit(segment: &mut Segment) -> Result<(), GrowError>
     if is_read_only(segment) {
         return Err(GrowError::ReadOnly);
     }
-    segment.cut_end();
+    cut_end(segment);
     Ok(())
 }
 

@@ -10,6 +10,7 @@ use crate::reading::read_image;
 use crate::versions::Versions;
 use raw_region::{RawRegion, Source, Steps};
 use segment_manager::layout::FORMAT;
+use segment_manager::conditioned::adopt;
 use segment_manager::{Mode, Segment};
 use std::alloc::Global;
 
@@ -40,7 +41,7 @@ pub fn open<S: Source>(
 {
     let window = read_image(Versions::Current, reader, region, base)?;
     match check(FORMAT, alloc, &window, steps) {
-        Ok(()) => Ok(Segment::adopt(window.into_window(), mode)),
+        Ok(()) => Ok(adopt(window.into_window(), mode)),
         Err(why) => Err(OpenRefused {
             region: window.into_region(),
             cause: why.into_cause(),

@@ -11,6 +11,7 @@ use crate::reading::read_image;
 use crate::renewing::renew;
 use crate::versions::{Versions, version_in};
 use raw_region::{RawRegion, Source, Steps};
+use segment_manager::conditioned::adopt;
 use segment_manager::{Mode, Segment};
 use std::alloc::Global;
 
@@ -42,7 +43,7 @@ pub fn open_any<S: Source>(
     let window = read_image(Versions::All, reader, region, base)?;
     let format = version_in(window.header(0, FRONT as u64));
     match check(format, alloc, &window, steps) {
-        Ok(()) => Ok(Segment::adopt(renew(format, window.into_window()), mode)),
+        Ok(()) => Ok(adopt(renew(format, window.into_window()), mode)),
         Err(why) => Err(OpenRefused {
             region: window.into_region(),
             cause: why.into_cause(),

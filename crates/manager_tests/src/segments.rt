@@ -11,6 +11,7 @@ use image_check::open;
 use raw_region::fake::{Last, MemorySource};
 use raw_region::{RawRegion, Steps};
 use seg_types::{Handle, IndexKey, Key, Name, NewKey};
+use segment_manager::conditioned::{named_at, unique_at};
 use segment_manager::{Mode, Segment};
 use std::alloc::Global;
 use std::process::Abort;
@@ -68,12 +69,12 @@ pub fn new_named<'a>(rt: &impl Abort, bytes: &'a [u8]) -> NewKey<'a>
 pub fn named_is(rt: &impl Abort, bench: &Bench, i: u64, handle: Handle) {
     let segment = &bench.segment;
     assert!(rt; i < segment.num_named());
-    same(rt, segment.named_at(i), handle);
+    same(rt, named_at(segment, i), handle);
 }
 
 /// The unique object whose kind has `i` others before it has this handle.
 pub fn unique_is(rt: &impl Abort, bench: &Bench, i: u64, handle: Handle) {
     let segment = &bench.segment;
     assert!(rt; i < segment.num_unique());
-    same(rt, segment.unique_at(i), handle);
+    same(rt, unique_at(segment, i), handle);
 }

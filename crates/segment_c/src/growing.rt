@@ -11,6 +11,7 @@ use crate::codes::{BAD_GROWTH, CLOSED, DONE, NO_MEMORY, READ_ONLY, TOO_LARGE};
 use crate::handle::{Handle, put, take};
 use grow_shrink::GrowError;
 use raw_region::{OutOfMemory, RawRegion, Window};
+use segment_manager::conditioned::{adopt, extend_end};
 use segment_manager::Segment;
 use std::alloc::Global;
 
@@ -95,7 +96,7 @@ fn grown_copy(
     let Ok(mut copy) = copy_with_room(alloc, segment, size + extra) else {
         return Err(OutOfMemory);
     };
-    copy.extend_end(extra);
+    extend_end(&mut copy, extra);
     Ok(copy)
 }
 
@@ -109,7 +110,7 @@ fn copy_with_room(alloc: Global, segment: &Segment, bytes: u64) -> Result<Segmen
     let image = segment.as_bytes();
     let mut window = Window::new(region, 0, image.len() as u64);
     window.write(0, image);
-    Ok(Segment::adopt(window, segment.mode()))
+    Ok(adopt(window, segment.mode()))
 }
 
 /// The capacity of a region for a segment of so many bytes: a multiple of 16 from 176 to 1073741824.

@@ -19,6 +19,7 @@ use crate::handle::{Handle, put, take};
 use crate::keys::ObjectKey;
 use block_tags::Role;
 use seg_types::{Class, Key, Refusal};
+use segment_manager::conditioned::{named_instance, unique_instance};
 use segment_manager::{Instance, Segment};
 use std::alloc::Global;
 
@@ -91,7 +92,7 @@ fn tell_named(segment: &Segment, index: u64, info: &mut Info, name: &mut [u8]) -
     if index >= segment.num_named() {
         return OUT_OF_RANGE;
     }
-    tell(&segment.named_instance(index), info, name)
+    tell(&named_instance(segment, index), info, name)
 }
 
 /// The same of the unique object that has `index` others before it, which has no name.
@@ -102,7 +103,7 @@ fn tell_unique(segment: &Segment, index: u64, info: &mut Info) -> u32
     if index >= segment.num_unique() {
         return OUT_OF_RANGE;
     }
-    *info = Info::of(&segment.unique_instance(index));
+    *info = Info::of(&unique_instance(segment, index));
     DONE
 }
 

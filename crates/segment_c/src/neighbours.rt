@@ -15,7 +15,8 @@ use crate::handle::{Handle, put, take};
 use crate::keys::ObjectKey;
 use crate::values::Value;
 use seg_types::{Key, Kind, ScalarValue};
-use segment_manager::Segment;
+use segment_manager::conditioned::{first_pair, next_pair};
+use segment_manager::{Segment, locate};
 use segment_values::value_as;
 use std::alloc::Global;
 
@@ -52,10 +53,10 @@ fn first(segment: &Segment, key: &Key, at: &mut Value, value: &mut Value) -> u32
     ensures told { (d : Directory) → StandsFor segment.now.cut.bytes d → TellsPair at.new value.new result (first_at d (key_seen key.now)) }
     ensures kept { 1 ≤ result → (at.new ≡ at.old) × (value.new ≡ value.old) }
 {
-    match segment.locate(key) {
+    match locate(segment, key) {
         Err(_) => NOT_FOUND,
         Ok(object) => match object.kind {
-            Kind::Map(keys, values) => pair_out(segment.first_pair(key, keys, values), at, value),
+            Kind::Map(keys, values) => pair_out(first_pair(segment, key, keys, values), at, value),
             _ => WRONG_KIND,
         },
     }
@@ -99,12 +100,12 @@ fn next(segment: &Segment, key: &Key, after: ScalarValue, at: &mut Value, value:
     ensures told { (d : Directory) → StandsFor segment.now.cut.bytes d → TellsPair at.new value.new result (next_at d (key_seen key.now) (literal_seen after)) }
     ensures kept { 1 ≤ result → (at.new ≡ at.old) × (value.new ≡ value.old) }
 {
-    match segment.locate(key) {
+    match locate(segment, key) {
         Err(_) => NOT_FOUND,
         Ok(object) => match object.kind {
             Kind::Map(keys, values) => match value_as(keys, after) {
                 Err(why) => number_of(why),
-                Ok(below) => pair_out(segment.next_pair(key, below, values), at, value),
+                Ok(below) => pair_out(next_pair(segment, key, below, values), at, value),
             },
             _ => WRONG_KIND,
         },

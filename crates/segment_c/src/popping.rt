@@ -17,7 +17,7 @@ use crate::handle::{Handle, put, take};
 use crate::keys::ObjectKey;
 use crate::values::Value;
 use seg_types::{Key, Kind, Refusal, ScalarKind, ScalarValue};
-use segment_manager::Segment;
+use segment_manager::{Segment, locate};
 use std::alloc::Global;
 
 /// Takes the last element out of the vector of a key, a vector of scalars.
@@ -90,7 +90,7 @@ fn pop_of_kind(segment: &mut Segment, key: &Key, kind: ScalarKind) -> Result<Sca
 fn kind_of_vector(segment: &Segment, key: &Key) -> ScalarKind
     ensures { Answers segment.now (λ d. vector_kind_at d (key_seen key.now)) result }
 {
-    match segment.locate(key) {
+    match locate(segment, key) {
         Ok(object) => element_kind(object.kind),
         Err(_) => ScalarKind::U8,
     }

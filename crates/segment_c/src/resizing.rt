@@ -16,6 +16,7 @@ use crate::codes::{
 use crate::handle::{Handle, put, take};
 use grow_shrink::GrowError;
 use raw_region::{RawRegion, Window};
+use segment_manager::conditioned::adopt;
 use segment_manager::Segment;
 use std::alloc::Global;
 
@@ -117,5 +118,5 @@ fn moved(alloc: Global, segment: &Segment, capacity: u64) -> Result<Segment, u32
     };
     let mut window = Window::new(region, 0, image.len() as u64);
     window.write(0, image);
-    Ok(Segment::adopt(window, segment.mode()))
+    Ok(adopt(window, segment.mode()))
 }

@@ -12,6 +12,7 @@ use crate::entries::put_entry;
 use raw_region::{DeviceFault, Sink};
 use seg_types::Class;
 use segment_lang::{Piece, put_pieces};
+use segment_manager::conditioned::{named_instance, unique_instance};
 use segment_manager::{Instance, Segment};
 
 /// Writes all that a segment holds as text: its size in bytes, and class, name, kind and value of each object. It needs no
@@ -97,7 +98,7 @@ fn put_named<W: Sink>(segment: &Segment, out: &mut W) -> Result<(), DeviceFault>
     ensures { WritesOf segment.now (W.history out.old) (W.history out.new) result (λ d. objects_text (named_objects d)) }
 {
     'names: for index in 0..segment.num_named() {
-        put_entry(segment, segment.named_instance(index), out)?;
+        put_entry(segment, named_instance(segment, index), out)?;
     }
     Ok(())
 }
@@ -108,7 +109,7 @@ fn put_unique<W: Sink>(segment: &Segment, out: &mut W) -> Result<(), DeviceFault
     ensures { WritesOf segment.now (W.history out.old) (W.history out.new) result (λ d. objects_text (unique_objects d)) }
 {
     'kinds: for index in 0..segment.num_unique() {
-        put_entry(segment, segment.unique_instance(index), out)?;
+        put_entry(segment, unique_instance(segment, index), out)?;
     }
     Ok(())
 }

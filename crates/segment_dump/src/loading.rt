@@ -11,6 +11,7 @@ use crate::faults::{BadDump, DumpFault, LoadError, LoadRefused, Misfit};
 use crate::places::place_at;
 use crate::reading::Lines;
 use raw_region::RawRegion;
+use segment_manager::conditioned::cut_end;
 use segment_manager::{CreateError, CreateRefused, Mode, Segment};
 
 /// What the first three lines say.
@@ -175,7 +176,7 @@ fn judge(
         return Err(unlike(text, 0));
     }
     if size.is_none() {
-        segment.cut_end();
+        cut_end(&mut segment);
     }
     match compare(&segment, said, text) {
         Err(at) => Err(unlike(text, at)),

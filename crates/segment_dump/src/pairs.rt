@@ -14,6 +14,7 @@ ghost use Rattle.segment_dump.specs.Parts.{parts_until};
 use raw_region::{DeviceFault, Sink};
 use seg_types::{ScalarKind, ScalarValue};
 use segment_lang::{Piece, put_pieces};
+use segment_manager::conditioned::{first_pair, next_pair};
 use segment_manager::{Object, Segment};
 
 /// Writes as many pairs of a map by rising keys.
@@ -30,7 +31,7 @@ pub fn put_pairs<W: Sink>(
     requires map { IsMap segment.now (ByHandle object.handle) keys values }
     ensures { WritesOf segment.now (W.history out.old) (W.history out.new) result (λ d. parts_until (pair_part keys values d (ByHandle object.handle)) count) }
 {
-    let mut next = segment.first_pair(&object, keys, values);
+    let mut next = first_pair(segment, &object, keys, values);
     'pairs: for index in 0..count {
         if let Some((key, value)) = next {
             put_pair(key, value, out)?;
@@ -53,7 +54,7 @@ fn pair_behind(
     ensures { more ≡ true → Answers segment.now (λ d. option_map (item_of_kinds (kind_of_scalar key) values) (pair_above (value_of_scalar key) (pairs_at d (ByHandle object.handle)))) (option_map item_seen result) }
 {
     if more {
-        segment.next_pair(&object, key, values)
+        next_pair(segment, &object, key, values)
     } else {
         None
     }

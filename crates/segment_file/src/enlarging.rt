@@ -8,6 +8,7 @@ use crate::file_errors::FileError;
 use crate::regions::region_for;
 use grow_shrink::GrowError;
 use raw_region::{OutOfMemory, Window};
+use segment_manager::conditioned::{adopt, extend_end};
 use segment_manager::Segment;
 use std::alloc::Global;
 
@@ -66,7 +67,7 @@ fn grown_copy(alloc: Global, segment: &Segment, size: u64, extra: u64) -> Result
     let Ok(mut copy) = copy_with_room(alloc, segment, size + extra) else {
         return Err(FileError::OutOfMemory);
     };
-    copy.extend_end(extra);
+    extend_end(&mut copy, extra);
     Ok(copy)
 }
 
@@ -80,5 +81,5 @@ fn copy_with_room(alloc: Global, segment: &Segment, bytes: u64) -> Result<Segmen
     let image = segment.as_bytes();
     let mut window = Window::new(region, 0, image.len() as u64);
     window.write(0, image);
-    Ok(Segment::adopt(window, segment.mode()))
+    Ok(adopt(window, segment.mode()))
 }

@@ -30,11 +30,11 @@ got (Err why) = None
 
 -- ---- where there is no such object, nothing is listed
 
-none-listed : {A : Type 0} (items : Value → List A) (d : Directory) (key : Key) (kind : Kind) → object_at d key ≡ None → list_at items d key kind ≡ []
+pub none-listed : {A : Type 0} (items : Value → List A) (d : Directory) (key : Key) (kind : Kind) → object_at d key ≡ None → list_at items d key kind ≡ []
 none-listed {A} items d key kind e =
     ap (λ (r : Option Object). elim r as (λ _. List A) [ None ↦ [] | Some o ↦ if same_kind kind (kind_of o.value) then items o.value else [] ]) e
 
-other-listed : {A : Type 0} (items : Value → List A) (d : Directory) (key : Key) (kind : Kind) (o : Object) → object_at d key ≡ Some o → same_kind kind (kind_of o.value) ≡ false
+pub other-listed : {A : Type 0} (items : Value → List A) (d : Directory) (key : Key) (kind : Kind) (o : Object) → object_at d key ≡ Some o → same_kind kind (kind_of o.value) ≡ false
     → list_at items d key kind ≡ []
 other-listed {A} items d key kind o e f =
     ap (λ (r : Option Object). elim r as (λ _. List A) [ None ↦ [] | Some o ↦ if same_kind kind (kind_of o.value) then items o.value else [] ]) e
@@ -215,6 +215,12 @@ array_size v = Ok (count_of v)
 
 array-many : (k : ScalarKind) (v : Value) → same_kind (ScalarOf k) (kind_of v) ≡ true → array_size v ≡ Ok (length (numbers_in v))
 array-many k v e = let is = numbers-only k v e in ap array_size is.1 ∙ sym (ap (λ (w : Value). Ok (length (numbers_in w))) is.1)
+
+-- of a container of a kind as many as are listed of it
+pub listed-length : {A : Type 0} (items : Value → List A) (d : Directory) (key : Key) (kind : Kind) → ((v : Value) → same_kind kind (kind_of v) ≡ true → first_size (sizes_of v) ≡ Ok (length (items v)))
+    → (r : Result ℕ Refusal) → r ≡ length_at_kind d key kind → number_or_none r ≡ length (list_at items d key kind)
+listed-length items d key kind only r e =
+    ap number_or_none (e ∙ length-first d key kind (object_at d key) refl) ∙ many-at items (λ v. first_size (sizes_of v)) d key kind only (object_at d key) refl
 
 pub vector-length : (d : Directory) (key : Key) (k : ScalarKind) (r : Result ℕ Refusal) → r ≡ length_at_kind d key (VectorOf k) → number_or_none r ≡ length (vector_at d key k)
 vector-length d key k r e =

@@ -52,3 +52,5 @@ pub use Rattle.segment_manager.proofs.StayingObjects.{leads_on-stay, objects_sta
 -- the elements of the object of a key, one after another: what a reading of one says, and how many there are
 unfoldable pub use Rattle.segment_manager.proofs.ElementLists.{got}
 pub use Rattle.segment_manager.proofs.ElementLists.{array-length, array-read, text-read, texts-length, vector-length, vector-read}
+-- the pairs of the object of a key, a map of kinds: what is told of it is told of them, how many there are, and they rise by their keys
+pub use Rattle.segment_manager.proofs.MapLists.{map-least, map-length, map-rises, map-told}

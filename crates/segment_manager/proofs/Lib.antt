@@ -66,6 +66,7 @@ mod MapAnswers
 mod MapExamples
 mod MapWalks
 mod PairWalks
+mod MapLists
 mod VectorSteps
 mod VectorCalls
 mod TextSteps

@@ -30,12 +30,12 @@ use Rattle.segment_manager.proofs.Words.{first, second}
 
 -- ---- the pairs of a good value
 
-good-value : (o : Object) → IsTrue (is_object current o) → IsTrue (is_good_value o.value)
+pub good-value : (o : Object) → IsTrue (is_object current o) → IsTrue (is_good_value o.value)
 good-value o h =
     second (has_good_name current o && is_kind_of current (kind_of o.value)) (is_good_value o.value)
     (first (has_good_name current o && is_kind_of current (kind_of o.value) && is_good_value o.value) (serves o.extent ObjectRole (object_len o.name o.value)) h)
 
-rising-if : (v : Value) → IsTrue (is_good_value v) → is_rising int_lt (pairs_of v) ≡ true
+pub rising-if : (v : Value) → IsTrue (is_good_value v) → is_rising int_lt (pairs_of v) ≡ true
 rising-if (Numbers k zs) h = refl
 rising-if (Elements k zs t) h = refl
 rising-if (Bytes bs t) h = refl
@@ -76,7 +76,7 @@ module _ (d : Directory) (key : Key) (k v : ScalarKind) (e : IsOfKindAt d key (M
   pairs-found = ap (λ (r : Option Object). elim r as (λ _. List NumberPair) [ None ↦ [] | Some o ↦ pairs_of o.value ]) e.is ∙ ap pairs_of the-pairs.1
 
   -- what is said of the map of the kinds is said of them
-  told-of-them : {A : Type 0} (say : List NumberPair → A) → told_of_map d key k v say ≡ Ok (say (pairs_at d key))
+  pub told-of-them : {A : Type 0} (say : List NumberPair → A) → told_of_map d key k v say ≡ Ok (say (pairs_at d key))
   told-of-them {A} say =
       ap (λ (r : Option Object). elim r as (λ _. Result A Refusal) [ None ↦ Err NotFound | Some o ↦ if same_kind (Map k v) (kind_of o.value) then told_of say o.value else Err WrongKind ]) e.is
       ∙ ap (λ (t : Bool). let r : Result A Refusal = if t then told_of say e.object.value else Err WrongKind in r) same
@@ -84,7 +84,7 @@ module _ (d : Directory) (key : Key) (k v : ScalarKind) (e : IsOfKindAt d key (M
       ∙ sym (ap (λ (ps : List NumberPair). let r : Result A Refusal = Ok (say ps) in r) pairs-found)
 
   -- from the least value of their kind on the first of them comes
-  starts : (b : List ℕ) → Denotes current b d → pair_from (lowest k) (pairs_at d key) ≡ option_map item_of (first_of (pairs_at d key))
+  pub starts : (b : List ℕ) → Denotes current b d → pair_from (lowest k) (pairs_at d key) ≡ option_map item_of (first_of (pairs_at d key))
   starts b den =
       let good : IsTrue (is_good_value (Pairs k v the-pairs.0)) =
       subst (λ (w : Value). IsTrue (is_good_value w)) the-pairs.1 (good-value e.object (standing b d key e.object den e.is).good) in

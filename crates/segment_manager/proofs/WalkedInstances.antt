@@ -1,7 +1,12 @@
 -- The places of an iterator over the objects of an index.
-use Rattle.std.proofs.Common.{subst, ℕ, ◌<◌, ◌≤◌}
-use Rattle.segment_manager.specs.Directory.{Directory}
+use Rattle.std.proofs.Common.{sym, ap, subst, ◌∙◌, ℕ, ◌<◌, ◌≤◌, Some, None, List, length}
+use Rattle.std.specs.Prelude.{option_map, slice_get}
+use Rattle.std.proofs.lemmas.Option.{slice_get-map, slice_get_past}
+use Rattle.segment_manager.specs.declared.telling.Instance.{Instance}
+use Rattle.segment_manager.specs.Directory.{Directory, Object, named_objects}
 use Rattle.segment_manager.specs.Found.{IsBelow}
+use Rattle.segment_manager.specs.Instances.{SaysAt}
+use Rattle.segment_manager.specs.Iterating.{names_of}
 use Rattle.segment_manager.specs.State.{Answers, State, StandsFor}
 
 -- a place below the number of them has an object
@@ -11,3 +16,16 @@ counted-below s count n i h l = record { below = λ d k. subst (λ m. i < m) (h.
 -- and none else
 pub counted-above : (s : State) (count : Directory → ℕ) (n i : ℕ) → Answers s count n → n ≤ i → (d : Directory) → StandsFor s.cut.bytes d → count d ≤ i
 counted-above s count n i h l d k = subst (λ m. m ≤ i) (h.answers d k) l
+
+-- what stands at a place of the list of named objects is the name that is said, and behind the last there is none
+pub name-said : (s : State) (at : ℕ) (said : Instance) → SaysAt s named_objects at said → Answers s (λ d. slice_get (names_of d) at) (Some said.name.now)
+name-said s at said h = record {
+  answers = λ d k.
+      let one = h.says d k in
+      ap (λ (name : List ℕ). Some name) one.2.name ∙ sym (slice_get-map (λ (o : Object). o.name) (named_objects d) at ∙ ap (option_map (λ (o : Object). o.name)) one.1);
+}
+
+pub name-past : (s : State) (at : ℕ) → ((d : Directory) → StandsFor s.cut.bytes d → length (named_objects d) ≤ at) → Answers s (λ d. slice_get (names_of d) at) None
+name-past s at h = record {
+  answers = λ d k. sym (slice_get-map (λ (o : Object). o.name) (named_objects d) at ∙ ap (option_map (λ (o : Object). o.name)) (slice_get_past (named_objects d) at (h d k)));
+}

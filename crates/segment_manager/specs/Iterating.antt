@@ -1,5 +1,5 @@
 -- What the iterators of a segment give.
-use Rattle.std.specs.Prelude.{◌≡◌, ℕ, ◌+◌, ◌≤◌, Bool, false, Option, Some, None, List, filter, length, option_map, slice_get, take}
+use Rattle.std.specs.Prelude.{◌≡◌, ℕ, ◌+◌, ◌≤◌, Bool, false, Option, Some, None, List, filter, length, map, option_map, slice_get, take}
 use Rattle.block_tags.specs.declared.tile.Role.TheVariants.{Object as ObjectRole}
 use Rattle.best_fit.specs.Extents.{Extent, Span as LiveSpan, spans}
 use Rattle.best_fit.specs.Heap.{live_of}
@@ -8,7 +8,7 @@ use Rattle.seg_index.specs.declared.index.Index.{Index}
 use Rattle.segment_manager.specs.declared.telling.Instance.{Instance}
 use Rattle.segment_manager.specs.declared.tiles.Span.{Span}
 use Rattle.segment_manager.specs.Calls.{as_span}
-use Rattle.segment_manager.specs.Directory.{Object, Directory, live}
+use Rattle.segment_manager.specs.Directory.{Object, Directory, live, named_objects}
 use Rattle.segment_manager.specs.Indexed.{objects_of}
 use Rattle.segment_manager.specs.Instances.{SaysAt}
 use Rattle.segment_manager.specs.State.{Answers, State, StandsFor}
@@ -35,6 +35,21 @@ pub record GoesOn (old : Walk) (item : Option Instance) (new : Walk) : Type 0 wh
   pub index : new.index ≡ old.index
   pub place : new.at ≡ place_behind old.at item
   pub says : SaysNext old.segment (objects_of old.index) old.at item
+
+-- the names of the objects that are found by name
+abbrev pub names_of : Directory → List (List ℕ)
+names_of d = map (λ (o : Object). o.name) (named_objects d)
+
+-- an iterator over them: how many of them it has given
+pub record NameWalk : Type 0 where
+  pub segment : State
+  pub at : ℕ
+
+-- it gives the name that stands where it stood, as it is seen, and stands behind it then
+pub record GoesOnNames {A : Type 0} (seen : A → List ℕ) (old : NameWalk) (item : Option A) (new : NameWalk) : Type 0 where
+  pub segment : new.segment ≡ old.segment
+  pub place : new.at ≡ place_behind old.at item
+  pub says : Answers old.segment (λ d. slice_get (names_of d) old.at) (option_map seen item)
 
 -- an iterator over the blocks and gaps: how many of them it has given
 pub record TileWalk : Type 0 where

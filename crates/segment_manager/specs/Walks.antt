@@ -9,6 +9,7 @@ use Rattle.seg_types.specs.Values.{kind_of_scalar, value_of_scalar}
 use Rattle.seg_map.specs.Numbers.{NumberPair}
 use Rattle.segment_manager.specs.Calls.{kind_at}
 use Rattle.segment_manager.specs.Directory.{Value, Numbers, Elements, Bytes, Pairs, Texts, Directory, object_at}
+use Rattle.segment_manager.specs.ElementLists.{list_at}
 use Rattle.segment_manager.specs.State.{Answers, State}
 
 -- ---- the map
@@ -28,6 +29,10 @@ pairs_of (Texts ps t) = []
 -- the same of the object of a key
 abbrev pub pairs_at : Directory → Key → List NumberPair
 pairs_at d key = elim (object_at d key) [ None ↦ [] | Some o ↦ pairs_of o.value ]
+
+-- the same of the object of a key that is a map of the kinds; there are none where it is another
+abbrev pub pairs_at_kinds : Directory → Key → ScalarKind → ScalarKind → List NumberPair
+pairs_at_kinds d key k v = list_at pairs_of d key (Map k v)
 
 -- the first of some pairs
 abbrev pub first_of : List NumberPair → Option NumberPair

@@ -7,7 +7,7 @@ ghost use Rattle.segment_manager.specs.Calls.{elements_at, scalar_reply};
 ghost use Rattle.segment_manager.specs.State.{Answers, IsReplyOfKind, IsStep, IsStepOfKind, done_answer, scalar_answer};
 
 use crate::segment::Segment;
-use crate::targets::Target;
+use crate::targets::{Target, locate};
 use seg_types::{Kind, Refusal, ScalarKind, ScalarValue};
 use seg_vector::SegString;
 
@@ -24,7 +24,7 @@ impl Segment {
         requires { O.stands key.now self.now }
         ensures { Answers self.now (λ d. scalar_reply self.now.mode d (O.key key.now) (Get (O.key key.now) index)) (scalar_answer result) }
     {
-        match self.locate(key) {
+        match locate(self, key) {
             Err(why) => Err(why),
             Ok(object) => match object.kind {
                 Kind::Scalar(kind) => self.get_value(&object, kind, index),
@@ -68,43 +68,6 @@ impl Segment {
         }
     }
 
-    /// Makes a value the element at `index` in the object of a key, whose elements are of the value's kind: of scalars, of a
-    /// vector of scalars, or of a string.
-    ///
-    /// Example: `segment.set_any(&key, 0, ScalarValue::I64(640))?`.
-    ///
-    /// # Conditions
-    ///
-    /// The object's elements are of the value's kind, as `kind_of` or `locate` say. `set`, `vec_set` and `string_set`
-    /// take a type, refuse every other object, and have no condition.
-    ///
-    /// # Errors
-    ///
-    /// `ReadOnly` where the segment is open for reading, and else `OutOfRange` where it has no element there. Nothing changes.
-    pub fn set_any<O: Target>(
-        &mut self,
-        key: &O,
-        index: u64,
-        value: ScalarValue,
-    ) -> Result<(), Refusal>
-        requires target { O.stands key.now self.old }
-        requires of_kind { Answers self.old (λ d. elements_at d (O.key key.now)) (Ok (kind_of_scalar value)) }
-        ensures step { IsStep self.old self.new (Set (O.key key.now) index (literal_of (kind_of_scalar value) (value_of_scalar value))) (done_answer result) }
-        ensures refused { OnErr result (self.new ≡ self.old) }
-    {
-        match self.locate(key) {
-            Err(why) => Err(why),
-            Ok(object) => match object.kind {
-                Kind::Text => match value {
-                    ScalarValue::U8(byte) => self.string_set(&object, index, byte),
-                    _ => Err(Refusal::WrongKind),
-                },
-                Kind::Vector(_) => self.set_in_vector(&object, index, value),
-                _ => self.set_value(&object, index, value),
-            },
-        }
-    }
-
     /// Makes a value the element at `index` in the vector of a key, a vector of the value's kind.
     ///
     /// # Errors
@@ -129,5 +92,42 @@ impl Segment {
             ScalarValue::I64(number) => self.vec_set(key, index, number),
             ScalarValue::U64(number) => self.vec_set(key, index, number),
         }
+    }
+}
+
+/// Makes a value the element at `index` in the object of a key, whose elements are of the value's kind: of scalars, of a
+/// vector of scalars, or of a string.
+///
+/// Example: `set_any(&mut segment, &key, 0, ScalarValue::I64(640))?`.
+///
+/// # Conditions
+///
+/// The object's elements are of the value's kind, as `kind_of` or `locate` say. `set`, `vec_set` and `string_set`
+/// take a type, refuse every other object, and have no condition.
+///
+/// # Errors
+///
+/// `ReadOnly` where the segment is open for reading, and else `OutOfRange` where it has no element there. Nothing changes.
+pub fn set_any<O: Target>(
+    segment: &mut Segment,
+    key: &O,
+    index: u64,
+    value: ScalarValue,
+) -> Result<(), Refusal>
+    requires target { O.stands key.now segment.old }
+    requires of_kind { Answers segment.old (λ d. elements_at d (O.key key.now)) (Ok (kind_of_scalar value)) }
+    ensures step { IsStep segment.old segment.new (Set (O.key key.now) index (literal_of (kind_of_scalar value) (value_of_scalar value))) (done_answer result) }
+    ensures refused { OnErr result (segment.new ≡ segment.old) }
+{
+    match locate(segment, key) {
+        Err(why) => Err(why),
+        Ok(object) => match object.kind {
+            Kind::Text => match value {
+                ScalarValue::U8(byte) => segment.string_set(&object, index, byte),
+                _ => Err(Refusal::WrongKind),
+            },
+            Kind::Vector(_) => segment.set_in_vector(&object, index, value),
+            _ => segment.set_value(&object, index, value),
+        },
     }
 }

@@ -67,34 +67,34 @@ impl Segment {
     {
         Index::Unique.len(&self.heap)
     }
+}
 
-    /// The handle of the object with a name that has `i` others before it, in the order of the bytes of their names. There
-    /// are more than `i` of them.
-    ///
-    /// Example: `let handle = segment.named_at(0)`.
-    ///
-    /// # Conditions
-    ///
-    /// `i` is below `num_named`. `named_instances` goes over all of them without a condition.
-    pub fn named_at(&self, i: u64) -> Handle
-        requires { IsBelow self.now (λ d. length (named_objects d)) i }
-        ensures { Answers self.now (λ d. slice_get (handles (named_objects d)) i) (Some result) }
-    {
-        Index::Named.at(&self.heap, i)
-    }
+/// The handle of the object with a name that has `i` others before it, in the order of the bytes of their names. There
+/// are more than `i` of them.
+///
+/// Example: `let handle = named_at(&segment, 0)`.
+///
+/// # Conditions
+///
+/// `i` is below `num_named`. `named_instances` goes over all of them without a condition.
+pub fn named_at(segment: &Segment, i: u64) -> Handle
+    requires { IsBelow segment.now (λ d. length (named_objects d)) i }
+    ensures { Answers segment.now (λ d. slice_get (handles (named_objects d)) i) (Some result) }
+{
+    Index::Named.at(&segment.heap, i)
+}
 
-    /// The handle of the unique object that has `i` others before it, in the order of the codes of their kinds. There are
-    /// more than `i` of them.
-    ///
-    /// Example: `let handle = segment.unique_at(0)`.
-    ///
-    /// # Conditions
-    ///
-    /// `i` is below `num_unique`. `unique_instances` goes over all of them without a condition.
-    pub fn unique_at(&self, i: u64) -> Handle
-        requires { IsBelow self.now (λ d. length (unique_objects d)) i }
-        ensures { Answers self.now (λ d. slice_get (handles (unique_objects d)) i) (Some result) }
-    {
-        Index::Unique.at(&self.heap, i)
-    }
+/// The handle of the unique object that has `i` others before it, in the order of the codes of their kinds. There are
+/// more than `i` of them.
+///
+/// Example: `let handle = unique_at(&segment, 0)`.
+///
+/// # Conditions
+///
+/// `i` is below `num_unique`. `unique_instances` goes over all of them without a condition.
+pub fn unique_at(segment: &Segment, i: u64) -> Handle
+    requires { IsBelow segment.now (λ d. length (unique_objects d)) i }
+    ensures { Answers segment.now (λ d. slice_get (handles (unique_objects d)) i) (Some result) }
+{
+    Index::Unique.at(&segment.heap, i)
 }

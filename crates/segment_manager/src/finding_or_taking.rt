@@ -10,7 +10,7 @@ use crate::constructing_arrays::MOST;
 use crate::destinations::IndexDestination;
 use crate::finding_or_constructing::counted;
 use crate::segment::Segment;
-use crate::targets::Object;
+use crate::targets::{Object, locate};
 use seg_types::{Handle, IndexKey, Kind, Refusal, Scalar, ScalarKind};
 
 impl Segment {
@@ -64,7 +64,7 @@ impl Segment {
         if self.is_read_only() {
             return Err(Refusal::ReadOnly);
         }
-        match self.locate(&key.into_key()) {
+        match locate(self, &key.into_key()) {
             Ok(object) => scalars_in(object, T::kind()),
             Err(_) => counted(
                 self.construct_items(&key.into_new_key(), count, items),

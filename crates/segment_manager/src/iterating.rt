@@ -1,10 +1,10 @@
-//! The objects of an index, one after another.
+//! The objects of an index, and the names of those that have one, one after another.
 ghost use Rattle.std.specs.Prelude.{◌≡◌, ◌-◌, length};
 ghost use Rattle.std.specs.Iterator.{at_most};
 ghost use Rattle.seg_index.specs.declared.index.Index.TheVariants.{Named, Unique};
 ghost use Rattle.seg_index.specs.Held.{entry_count, place_of};
 ghost use Rattle.segment_manager.specs.Indexed.{objects_of};
-ghost use Rattle.segment_manager.specs.Iterating.{GoesOn};
+ghost use Rattle.segment_manager.specs.Iterating.{GoesOn, GoesOnNames};
 ghost use Rattle.segment_manager.specs.State.{Answers};
 
 use crate::segment::Segment;
@@ -53,7 +53,57 @@ impl<'a> Iterator for Instances<'a> {
     }
 }
 
+/// The names of the objects that have one, in the order of their bytes, one after another. Nothing is looked up.
+///
+/// Contracts see the segment, and how many names came.
+#[derive(Drop)]
+pub struct Names<'a> {
+    instances: Instances<'a>,
+}
+
+impl<'a> Model for Names<'a> {
+    ghost use Rattle.std.specs.Prelude.{◌≡◌};
+    ghost use Rattle.seg_index.specs.declared.index.Index.TheVariants.{Named};
+    ghost use Rattle.segment_manager.specs.Iterating.{NameWalk};
+
+    ghost Value = { NameWalk };
+
+    ghost view = { λ w. record { segment = w.instances.segment; at = w.instances.at } };
+
+    ghost invariant = { λ w. w.instances.index ≡ Named };
+}
+
+impl<'a> Iterator for Names<'a> {
+    type Item = &'a [u8];
+
+    ghost next_gives = { GoesOnNames (λ name. name.now) };
+
+    ghost remaining = { λ w. at_most (entry_count w.segment.cut (place_of Named) - w.at) };
+
+    fn next(&mut self) -> Option<&'a [u8]> {
+        match self.instances.next() {
+            None => None,
+            Some(said) => Some(said.name),
+        }
+    }
+
+    fn size_hint(&self) -> (usize, Option<usize>) {
+        self.instances.size_hint()
+    }
+}
+
 impl Segment {
+    /// The names of the objects that have one, in the order of their bytes. A name is bytes, as `Name::new` takes them.
+    ///
+    /// Example: `for name in segment.names()`.
+    pub fn names(&self) -> Names<'_>
+        ensures { result ≡ record { segment = self.now; at = 0 } }
+    {
+        Names {
+            instances: self.named_instances(),
+        }
+    }
+
     /// The objects with names, in the order of the bytes of their names.
     ///
     /// Example: `for said in segment.named_instances()`.

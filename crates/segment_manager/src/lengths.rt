@@ -4,7 +4,7 @@ ghost use Rattle.segment_manager.specs.ElementLists.{array_length_at, length_at_
 ghost use Rattle.segment_manager.specs.State.{Answers};
 
 use crate::segment::Segment;
-use crate::targets::Target;
+use crate::targets::{Target, locate};
 use seg_types::{Kind, Refusal, Scalar};
 use seg_vector::{SegTexts, SegVec};
 
@@ -20,7 +20,7 @@ impl Segment {
         requires { O.stands key.now self.now }
         ensures { Answers self.now (λ d. array_length_at d (O.key key.now) T.kind) result }
     {
-        match self.locate(key) {
+        match locate(self, key) {
             Err(why) => Err(why),
             Ok(object) => {
                 if Kind::Scalar(T::kind()).code() != object.kind.code() {

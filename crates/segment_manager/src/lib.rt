@@ -3,19 +3,20 @@
 //! What a segment holds is a directory, a finite map from handles to objects with their values and blocks. Each call
 //! is one step of the directory machine: from the directory that the bytes denote to the one that they denote then.
 //!
-//! Most calls have no condition: whatever the segment holds, they answer or refuse. Those that have one say so under
-//! `# Conditions`, and how a caller meets it. There are four sorts:
+//! No method of a [`Segment`] has a condition on what the segment holds: they answer or refuse. Those that have one say so under
+//! `# Conditions`, and how a caller meets it. There are two sorts:
 //! - a number is in range: the count of `construct` and `find_or_construct`, the base of `create` and `relocate`;
-//! - a key suits the kind of what is made ([`Destination`]), or an object that was located is still there ([`Target`]);
-//! - what the segment holds is known: `named_at`, `unique_at`, `named_instance`, `unique_instance`, `first_pair`, `next_pair`,
-//!   `set_any`, `next_tile`. No program needs these: each names the call that does the same without a condition;
-//! - the segment is in a state that another crate tests: `adopt`, `extend_end`, `cut_end`.
+//! - a key suits the kind of what is made ([`Destination`]).
+//!
+//! The functions of [`conditioned`] want to be told what the segment holds, and so does every call that is given an [`Object`],
+//! which [`locate`] found: it is still there ([`Target`]). No program needs these.
 #![tactic(auto)]
 
 mod accessing;
 mod any_elements;
 mod any_pairs;
 mod beginning;
+pub mod conditioned;
 mod constructing;
 mod constructing_arrays;
 mod constructing_containers;
@@ -61,10 +62,10 @@ mod walking_tiles;
 
 pub use destinations::{AnonymousInstance, Destination, IndexDestination, UniqueInstance};
 pub use errors::{CreateError, CreateRefused, RelocateRefused};
-pub use iterating::Instances;
+pub use iterating::{Instances, Names};
 pub use modes::Mode;
 pub use segment::Segment;
-pub use targets::{Object, Target};
+pub use targets::{Object, Target, locate};
 pub use telling::Instance;
 pub use tiles::Span;
 pub use walking_objects::Objects;

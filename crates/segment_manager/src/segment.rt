@@ -33,25 +33,6 @@ impl Model for Segment {
 }
 
 impl Segment {
-    /// The segment that the bytes of a window already are. No byte changes.
-    ///
-    /// Example: `let segment = Segment::adopt(window, Mode::Write)`.
-    ///
-    /// # Conditions
-    ///
-    /// The bytes are a segment's, as those are of a window that a segment gave up. `image_check` opens bytes that
-    /// nobody vouches for, without a condition.
-    pub fn adopt(window: Window, mode: Mode) -> Segment
-        requires { IsSegment window.bytes }
-        ensures cut { result.cut ≡ window }
-        ensures mode { result.mode ≡ mode }
-    {
-        Segment {
-            heap: Heap::adopt(window),
-            mode,
-        }
-    }
-
     /// How the segment is open.
     ///
     /// Example: `if segment.mode() == Mode::Write`.
@@ -103,5 +84,24 @@ impl Segment {
         ensures { result ≡ is_read_only self.now.mode }
     {
         self.mode == Mode::ReadOnly
+    }
+}
+
+/// The segment that the bytes of a window already are. No byte changes.
+///
+/// Example: `let segment = adopt(window, Mode::Write)`.
+///
+/// # Conditions
+///
+/// The bytes are a segment's, as those are of a window that a segment gave up. `image_check` opens bytes that
+/// nobody vouches for, without a condition.
+pub fn adopt(window: Window, mode: Mode) -> Segment
+    requires { IsSegment window.bytes }
+    ensures cut { result.cut ≡ window }
+    ensures mode { result.mode ≡ mode }
+{
+    Segment {
+        heap: Heap::adopt(window),
+        mode,
     }
 }

@@ -10,7 +10,7 @@ ghost use Rattle.segment_manager.specs.Stored.{ChangesStorage};
 
 use crate::segment::Segment;
 use crate::storages::Stored;
-use crate::targets::{Object, Target};
+use crate::targets::{Object, Target, locate};
 use seg_types::{Kind, Refusal, ScalarKind};
 use seg_vector::{SegString, SegTexts, SegVec};
 
@@ -29,7 +29,7 @@ impl Segment {
         requires { O.stands key.now self.now }
         ensures { Answers self.now (λ d. sizes_at d (O.key key.now)) result }
     {
-        match self.locate(key) {
+        match locate(self, key) {
             Err(why) => Err(why),
             Ok(object) => match object.kind {
                 Kind::Text => self.measure_stored::<SegString, Object>(&object),
@@ -102,7 +102,7 @@ impl Segment {
         if self.is_read_only() {
             return Err(Refusal::ReadOnly);
         }
-        match self.locate(key) {
+        match locate(self, key) {
             Err(why) => Err(why),
             Ok(object) => match object.kind {
                 Kind::Text => self.reserve_stored::<SegString, Object>(&object, n),
@@ -163,7 +163,7 @@ impl Segment {
         if self.is_read_only() {
             return Err(Refusal::ReadOnly);
         }
-        match self.locate(key) {
+        match locate(self, key) {
             Err(why) => Err(why),
             Ok(object) => match object.kind {
                 Kind::Text => self.shrink_stored::<SegString, Object>(&object),
@@ -220,7 +220,7 @@ impl Segment {
         if self.is_read_only() {
             return Err(Refusal::ReadOnly);
         }
-        match self.locate(key) {
+        match locate(self, key) {
             Err(why) => Err(why),
             Ok(object) => match object.kind {
                 Kind::Text => self.clear_stored::<SegString, Object>(&object),

@@ -74,28 +74,26 @@ impl Target for Object {
     }
 }
 
-impl Segment {
-    /// The object of a key as it stands in the segment. Calls that take it look nothing up.
-    ///
-    /// Example: `let object = segment.locate(&name)?`.
-    ///
-    /// # Errors
-    ///
-    /// `NotFound` where no object has the key.
-    pub fn locate<O: Target>(&self, key: &O) -> Result<Object, Refusal>
-        requires { O.stands key.now self.now }
-        ensures { MatchResult result (IsLocated self.now (O.key key.now)) (IsMissing self.now (O.key key.now)) }
-    {
-        match key.handle_in(self) {
-            None => Err(Refusal::NotFound),
-            Some(handle) => {
-                let head = read_head(&self.heap, handle);
-                Ok(Object {
-                    handle,
-                    kind: head.kind,
-                    count: head.count,
-                })
-            }
+/// The object of a key as it stands in the segment. Calls that take it look nothing up.
+///
+/// Example: `let object = locate(&segment, &name)?`.
+///
+/// # Errors
+///
+/// `NotFound` where no object has the key.
+pub fn locate<O: Target>(segment: &Segment, key: &O) -> Result<Object, Refusal>
+    requires { O.stands key.now segment.now }
+    ensures { MatchResult result (IsLocated segment.now (O.key key.now)) (IsMissing segment.now (O.key key.now)) }
+{
+    match key.handle_in(segment) {
+        None => Err(Refusal::NotFound),
+        Some(handle) => {
+            let head = read_head(&segment.heap, handle);
+            Ok(Object {
+                handle,
+                kind: head.kind,
+                count: head.count,
+            })
         }
     }
 }

@@ -51,36 +51,6 @@ impl Segment {
         }
     }
 
-    /// What the object says of itself whose name has `i` others before it, in the order of their bytes. There are more than
-    /// `i` of them.
-    ///
-    /// Example: `let said = segment.named_instance(0)`.
-    ///
-    /// # Conditions
-    ///
-    /// `i` is below `num_named`. `named_instances` goes over all of them without a condition.
-    pub fn named_instance(&self, i: u64) -> Instance<'_>
-        requires { IsBelow self.now (λ d. length (named_objects d)) i }
-        ensures { SaysAt self.now named_objects i result }
-    {
-        self.entered(Index::Named, i)
-    }
-
-    /// What the unique object says of itself whose kind has `i` others before it, in the order of their codes. There are more
-    /// than `i` of them.
-    ///
-    /// Example: `let said = segment.unique_instance(0)`.
-    ///
-    /// # Conditions
-    ///
-    /// `i` is below `num_unique`. `unique_instances` goes over all of them without a condition.
-    pub fn unique_instance(&self, i: u64) -> Instance<'_>
-        requires { IsBelow self.now (λ d. length (unique_objects d)) i }
-        ensures { SaysAt self.now unique_objects i result }
-    {
-        self.entered(Index::Unique, i)
-    }
-
     /// What the object of a handle says of itself, where one has it. Nothing is looked up.
     pub(crate) fn instance_here(&self, handle: Handle) -> Instance<'_>
         requires { Answers self.now (λ d. is_object_at d handle) true }
@@ -113,4 +83,34 @@ fn read_instance(heap: &Heap, handle: Handle) -> Instance<'_>
         count: head.count,
         handle,
     }
+}
+
+/// What the object says of itself whose name has `i` others before it, in the order of their bytes. There are more than
+/// `i` of them.
+///
+/// Example: `let said = named_instance(&segment, 0)`.
+///
+/// # Conditions
+///
+/// `i` is below `num_named`. `named_instances` goes over all of them without a condition.
+pub fn named_instance(segment: &Segment, i: u64) -> Instance<'_>
+    requires { IsBelow segment.now (λ d. length (named_objects d)) i }
+    ensures { SaysAt segment.now named_objects i result }
+{
+    segment.entered(Index::Named, i)
+}
+
+/// What the unique object says of itself whose kind has `i` others before it, in the order of their codes. There are more
+/// than `i` of them.
+///
+/// Example: `let said = unique_instance(&segment, 0)`.
+///
+/// # Conditions
+///
+/// `i` is below `num_unique`. `unique_instances` goes over all of them without a condition.
+pub fn unique_instance(segment: &Segment, i: u64) -> Instance<'_>
+    requires { IsBelow segment.now (λ d. length (unique_objects d)) i }
+    ensures { SaysAt segment.now unique_objects i result }
+{
+    segment.entered(Index::Unique, i)
 }

@@ -62,23 +62,6 @@ impl Segment {
         self.heap.first_tile()
     }
 
-    /// The block or gap behind one of the segment's, or nothing where that is the last. A walk over all of them takes one
-    /// step for each.
-    ///
-    /// Example: `let next = segment.next_tile(tile)`.
-    ///
-    /// # Conditions
-    ///
-    /// The block or gap is one of the segment's: `first_tile` or this call answered it, and nothing changed since.
-    /// `tiles` goes over all of them without a condition.
-    pub fn next_tile(&self, tile: Tile) -> Option<Tile>
-        requires { IsTileOf self.now.cut.bytes tile }
-        ensures { (i : ℕ) → slice_get (tiles_of (bytes_of self.now.cut.bytes) (length self.now.cut.bytes)) i ≡ Some tile
-            → IsTileOfIndex self.now (i + 1) result }
-    {
-        self.heap.next_tile(tile)
-    }
-
     /// The block or gap with `index` others before it, or nothing where there are no more. It is looked for from the first
     /// one on.
     ///
@@ -136,4 +119,21 @@ fn is_for_object(role: Role) -> bool
         Role::Object => true,
         Role::Index | Role::Storage | Role::Node => false,
     }
+}
+
+/// The block or gap behind one of the segment's, or nothing where that is the last. A walk over all of them takes one
+/// step for each.
+///
+/// Example: `let next = next_tile(&segment, tile)`.
+///
+/// # Conditions
+///
+/// The block or gap is one of the segment's: `first_tile` or this call answered it, and nothing changed since.
+/// `tiles` goes over all of them without a condition.
+pub fn next_tile(segment: &Segment, tile: Tile) -> Option<Tile>
+    requires { IsTileOf segment.now.cut.bytes tile }
+    ensures { (i : ℕ) → slice_get (tiles_of (bytes_of segment.now.cut.bytes) (length segment.now.cut.bytes)) i ≡ Some tile
+        → IsTileOfIndex segment.now (i + 1) result }
+{
+    segment.heap.next_tile(tile)
 }

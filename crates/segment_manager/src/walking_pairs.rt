@@ -12,55 +12,6 @@ use crate::targets::Target;
 use seg_types::{Refusal, Scalar, ScalarKind, ScalarValue};
 
 impl Segment {
-    /// The pair with the least key of the map of a key, a map of the two kinds, or `None` where the map is empty.
-    ///
-    /// Example: `let first = segment.first_pair(&key, ScalarKind::I32, ScalarKind::I64)`.
-    ///
-    /// # Conditions
-    ///
-    /// The object of the key is a map of these kinds, as `kind_of` or `locate` say. `map_first_from` takes types,
-    /// refuses every other object, and has no condition.
-    pub fn first_pair<O: Target>(
-        &self,
-        key: &O,
-        keys: ScalarKind,
-        values: ScalarKind,
-    ) -> Option<(ScalarValue, ScalarValue)>
-        requires target { O.stands key.now self.now }
-        requires map { IsMap self.now (O.key key.now) keys values }
-        ensures { Answers self.now (λ d. option_map (item_of_kinds keys values) (option_map item_of (first_of (pairs_at d (O.key key.now))))) (option_map item_seen result) }
-    {
-        match self.first_of_kinds(key, keys, values) {
-            Ok(pair) => pair,
-            Err(_) => None,
-        }
-    }
-
-    /// The pair with the least key above `after` of the map of a key, a map with keys of the kind of `after` and values of a
-    /// kind, or `None` where no key is above. So all pairs are read in rising order, each in a walk from the root of the tree.
-    ///
-    /// Example: `let next = segment.next_pair(&key, ScalarValue::I32(2), ScalarKind::I64)`.
-    ///
-    /// # Conditions
-    ///
-    /// The object of the key is a map of these kinds, as `kind_of` or `locate` say. `map_next_after` takes types,
-    /// refuses every other object, and has no condition.
-    pub fn next_pair<O: Target>(
-        &self,
-        key: &O,
-        after: ScalarValue,
-        values: ScalarKind,
-    ) -> Option<(ScalarValue, ScalarValue)>
-        requires target { O.stands key.now self.now }
-        requires map { IsMap self.now (O.key key.now) (kind_of_scalar after) values }
-        ensures { Answers self.now (λ d. option_map (item_of_kinds (kind_of_scalar after) values) (pair_above (value_of_scalar after) (pairs_at d (O.key key.now)))) (option_map item_seen result) }
-    {
-        match self.next_of_kinds(key, after, values) {
-            Ok(pair) => pair,
-            Err(_) => None,
-        }
-    }
-
     /// The pair with the least key of the map of a key, a map of the two kinds.
     ///
     /// # Errors
@@ -216,5 +167,54 @@ impl Segment {
                 Some((at, number)) => Ok(Some((at, ScalarValue::U64(number)))),
             },
         }
+    }
+}
+
+/// The pair with the least key of the map of a key, a map of the two kinds, or `None` where the map is empty.
+///
+/// Example: `let first = first_pair(&segment, &key, ScalarKind::I32, ScalarKind::I64)`.
+///
+/// # Conditions
+///
+/// The object of the key is a map of these kinds, as `kind_of` or `locate` say. `map_first_from` takes types,
+/// refuses every other object, and has no condition.
+pub fn first_pair<O: Target>(
+    segment: &Segment,
+    key: &O,
+    keys: ScalarKind,
+    values: ScalarKind,
+) -> Option<(ScalarValue, ScalarValue)>
+    requires target { O.stands key.now segment.now }
+    requires map { IsMap segment.now (O.key key.now) keys values }
+    ensures { Answers segment.now (λ d. option_map (item_of_kinds keys values) (option_map item_of (first_of (pairs_at d (O.key key.now))))) (option_map item_seen result) }
+{
+    match segment.first_of_kinds(key, keys, values) {
+        Ok(pair) => pair,
+        Err(_) => None,
+    }
+}
+
+/// The pair with the least key above `after` of the map of a key, a map with keys of the kind of `after` and values of a
+/// kind, or `None` where no key is above. So all pairs are read in rising order, each in a walk from the root of the tree.
+///
+/// Example: `let next = next_pair(&segment, &key, ScalarValue::I32(2), ScalarKind::I64)`.
+///
+/// # Conditions
+///
+/// The object of the key is a map of these kinds, as `kind_of` or `locate` say. `map_next_after` takes types,
+/// refuses every other object, and has no condition.
+pub fn next_pair<O: Target>(
+    segment: &Segment,
+    key: &O,
+    after: ScalarValue,
+    values: ScalarKind,
+) -> Option<(ScalarValue, ScalarValue)>
+    requires target { O.stands key.now segment.now }
+    requires map { IsMap segment.now (O.key key.now) (kind_of_scalar after) values }
+    ensures { Answers segment.now (λ d. option_map (item_of_kinds (kind_of_scalar after) values) (pair_above (value_of_scalar after) (pairs_at d (O.key key.now)))) (option_map item_seen result) }
+{
+    match segment.next_of_kinds(key, after, values) {
+        Ok(pair) => pair,
+        Err(_) => None,
     }
 }

@@ -6,7 +6,7 @@ ghost use Rattle.block_tags.specs.Tiles.{tiles_of};
 ghost use Rattle.segment_manager.specs.Iterating.{GoesOnTiles};
 
 use crate::segment::Segment;
-use crate::tiles::Span;
+use crate::tiles::{Span, next_tile};
 use block_tags::Tile;
 use std::marker::Model;
 
@@ -42,7 +42,7 @@ impl<'a> Iterator for Tiles<'a> {
         let tile = self.tile?;
         let segment = self.segment;
         self.at = segment.place_behind(self.at);
-        self.tile = segment.next_tile(tile);
+        self.tile = next_tile(segment, tile);
         Some(Span::of(tile))
     }
 }

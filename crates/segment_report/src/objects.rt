@@ -9,6 +9,7 @@ ghost use Rattle.segment_report.specs.Picture.{object_in};
 use crate::sizes::size_of;
 use block_tags::{Role, Tile};
 use seg_types::{Class, Key, Kind, ScalarKind};
+use segment_manager::conditioned::next_tile;
 use segment_manager::Segment;
 
 /// How many kinds there are.
@@ -124,7 +125,7 @@ pub fn tally_objects(segment: &Segment) -> ObjectTally
             break;
         };
         count_tile(segment, tile, &mut tally);
-        ahead = segment.next_tile(tile);
+        ahead = next_tile(segment, tile);
     }
     tally
 }

@@ -13,6 +13,7 @@ use crate::sizes::size_of;
 use block_tags::{Role, Tile};
 use raw_region::{DeviceFault, Sink};
 use seg_types::Key;
+use segment_manager::conditioned::next_tile;
 use segment_manager::Segment;
 
 /// The bytes of a segment's header.
@@ -116,7 +117,7 @@ fn put_spans<W: Sink>(segment: &Segment, scale: Scale, out: &mut W) -> Result<()
             break;
         };
         put_tile(segment, scale, tile, out)?;
-        ahead = segment.next_tile(tile);
+        ahead = next_tile(segment, tile);
     }
     Ok(())
 }

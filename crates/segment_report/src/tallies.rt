@@ -6,6 +6,7 @@ ghost use Rattle.segment_report.specs.Usages.{tally_of};
 
 use crate::sizes::size_of;
 use block_tags::Role;
+use segment_manager::conditioned::next_tile;
 use segment_manager::Segment;
 
 /// How many blocks of one use there are, and their bytes together.
@@ -100,7 +101,7 @@ pub fn tally_blocks(segment: &Segment) -> Tally
             break;
         };
         tally.add(tile.use_of, tile.len);
-        ahead = segment.next_tile(tile);
+        ahead = next_tile(segment, tile);
     }
     tally
 }

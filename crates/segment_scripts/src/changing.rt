@@ -17,7 +17,7 @@ use crate::setting::value_of;
 use crate::text_rows::{FEW, TextRow, literal_texts};
 use seg_types::{Key, Kind, Refusal, Scalar, ScalarKind, ScalarValue};
 use segment_lang::{Literal, Literals, Quoted, Text};
-use segment_manager::{Mode, Object, Segment};
+use segment_manager::{Mode, Object, Segment, locate};
 
 /// A new element of a vector.
 #[derive(Drop)]
@@ -39,7 +39,7 @@ pub fn object_to_change(segment: &Segment, key: &Key) -> Result<Object, Refusal>
     if segment.mode() == Mode::ReadOnly {
         return Err(Refusal::ReadOnly);
     }
-    segment.locate(key)
+    locate(segment, key)
 }
 
 /// The vector of a key, and what a literal is as an element of it.

@@ -12,6 +12,7 @@ ghost use Rattle.segment_scripts.specs.Writing.{WritesFor};
 use block_tags::{Role, Tile};
 use raw_region::{DeviceFault, Sink};
 use segment_lang::{Piece, put_pieces};
+use segment_manager::conditioned::next_tile;
 use segment_manager::Segment;
 
 /// Writes a line for each block and gap by offset, and then `end`.
@@ -28,7 +29,7 @@ pub fn put_blocks<W: Sink>(segment: &Segment, out: &mut W) -> Result<(), DeviceF
             break;
         };
         put_tile(out, tile)?;
-        ahead = segment.next_tile(tile);
+        ahead = next_tile(segment, tile);
     }
     put_pieces(out, &[Piece::Bytes(b"end\n")])
 }

@@ -12,7 +12,7 @@ use crate::changing::object_to_change;
 use crate::setting::value_of;
 use seg_types::{Key, Kind, Refusal, ScalarKind, ScalarValue};
 use segment_lang::{Literal, Pair};
-use segment_manager::Segment;
+use segment_manager::{Segment, locate};
 
 /// Puts the pair that two literals are into the map of a key, and answers whether its key is new.
 ///
@@ -66,7 +66,7 @@ pub fn put_written_pair(segment: &mut Segment, key: &Key, pair: Pair<'_>) -> Res
 pub fn lookup(segment: &Segment, key: &Key, at: Literal<'_>) -> Result<Option<ScalarValue>, Refusal>
     ensures { IsReply segment.now (Lookup (key_seen key.now) (literal_of at.entry)) (any_value_answer result) }
 {
-    match segment.locate(key) {
+    match locate(segment, key) {
         Err(why) => Err(why),
         Ok(object) => match object.kind {
             Kind::Map(keys, values) => match value_of(keys, at) {

@@ -16,6 +16,7 @@ ghost use Rattle.segment_scripts.specs.Settings.{IsValueOf};
 use crate::changing::object_to_change;
 use seg_types::{Key, Kind, Refusal, ScalarKind, ScalarValue};
 use segment_lang::{Literal, Text};
+use segment_manager::conditioned::set_any;
 use segment_manager::{Object, Segment};
 
 /// Makes what a literal is the element at `index` in the object of a key.
@@ -66,7 +67,7 @@ fn set_scalar(
 {
     match value_of(kind, literal) {
         Err(why) => Err(why),
-        Ok(value) => segment.set_any(&object, index, value),
+        Ok(value) => set_any(segment, &object, index, value),
     }
 }
 

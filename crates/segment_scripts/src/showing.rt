@@ -21,7 +21,7 @@ use crate::showing_maps::put_map_line;
 use raw_region::{DeviceFault, Sink};
 use seg_types::{Key, Kind};
 use segment_lang::{Piece, put_pieces};
-use segment_manager::{Object, Segment};
+use segment_manager::{Object, Segment, locate};
 
 /// Writes the kind and the value of the object of a key, or that there is none.
 #[inline(never)]
@@ -30,7 +30,7 @@ pub fn put_shown<W: Sink>(segment: &Segment, key: &Key, out: &mut W) -> Result<(
     ensures { WritesFor (W.history out.old) (W.history out.new) result (StandsFor segment.now.cut.bytes)
         (λ d. answer_text (shown_at d (key_seen key.now))) }
 {
-    match segment.locate(key) {
+    match locate(segment, key) {
         Ok(object) => match object.kind {
             Kind::Scalar(_) => put_value_line(segment, object, u64::from(object.count), out),
             Kind::Vector(_) => put_value_line(segment, object, length_of(segment, object), out),
@@ -232,7 +232,7 @@ pub fn put_got<W: Sink>(
     ensures { WritesFor (W.history out.old) (W.history out.new) result (StandsFor segment.now.cut.bytes)
         (λ d. answer_text (step segment.now.mode d (Get (key_seen key.now) index)).0) }
 {
-    match segment.locate(key) {
+    match locate(segment, key) {
         Ok(object) => match object.kind {
             Kind::Texts => put_text_at(segment, object, index, out),
             _ => put_answer(segment, element(segment.get_any(&object, index)), out),

@@ -13,6 +13,7 @@ ghost use Rattle.segment_scripts.specs.Writing.{WritesFor};
 use raw_region::{DeviceFault, Sink};
 use seg_types::{Kind, ScalarKind, ScalarValue};
 use segment_lang::{Piece, put_pieces};
+use segment_manager::conditioned::{first_pair, next_pair};
 use segment_manager::{Object, Segment};
 
 /// Writes the kind of a map, and as many of its pairs by rising keys.
@@ -50,7 +51,7 @@ fn put_pairs<W: Sink>(
     ensures { WritesFor (W.history out.old) (W.history out.new) result (StandsFor segment.now.cut.bytes)
         (λ d. pairs_text keys values d (ByHandle object.handle) count) }
 {
-    let mut next = segment.first_pair(&object, keys, values);
+    let mut next = first_pair(segment, &object, keys, values);
     'pairs: for index in 0..count {
         if let Some((key, value)) = next {
             put_pair(key, value, out)?;
@@ -73,7 +74,7 @@ fn pair_behind(
     ensures { more ≡ true → Answers segment.now (λ d. option_map (item_of_kinds (kind_of_scalar key) values) (pair_above (value_of_scalar key) (pairs_at d (ByHandle object.handle)))) (option_map item_seen result) }
 {
     if more {
-        segment.next_pair(&object, key, values)
+        next_pair(segment, &object, key, values)
     } else {
         None
     }

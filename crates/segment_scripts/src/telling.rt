@@ -19,7 +19,8 @@ use crate::printing::put_refusal_line;
 use raw_region::{DeviceFault, Sink};
 use seg_types::{Class, Key, Kind};
 use segment_lang::{Piece, put_pieces};
-use segment_manager::{Instance, Object, Segment};
+use segment_manager::conditioned::{named_instance, unique_instance};
+use segment_manager::{Instance, Object, Segment, locate};
 
 /// Writes what the object of a key says of itself, or that there is none.
 #[inline(never)]
@@ -28,7 +29,7 @@ pub fn put_told<W: Sink>(segment: &Segment, key: &Key, out: &mut W) -> Result<()
     ensures { WritesFor (W.history out.old) (W.history out.new) result (StandsFor segment.now.cut.bytes)
         (λ d. answer_text (told_at d (key_seen key.now))) }
 {
-    match segment.locate(key) {
+    match locate(segment, key) {
         Ok(object) => put_object(segment, object, out),
         Err(why) => put_refusal_line(out, why),
     }
@@ -115,7 +116,7 @@ pub fn put_names<W: Sink>(segment: &Segment, out: &mut W) -> Result<(), DeviceFa
         (λ d. answer_text (Names (named_objects d))) }
 {
     'names: for index in 0..segment.num_named() {
-        put_named(segment.named_instance(index), out)?;
+        put_named(named_instance(segment, index), out)?;
     }
     put_pieces(out, &[Piece::Bytes(b"end\n")])
 }
@@ -148,7 +149,7 @@ pub fn put_kinds<W: Sink>(segment: &Segment, out: &mut W) -> Result<(), DeviceFa
         (λ d. answer_text (Kinds (unique_objects d))) }
 {
     'kinds: for index in 0..segment.num_unique() {
-        put_unique(segment.unique_instance(index), out)?;
+        put_unique(unique_instance(segment, index), out)?;
     }
     put_pieces(out, &[Piece::Bytes(b"end\n")])
 }

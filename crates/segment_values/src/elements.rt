@@ -12,6 +12,7 @@ ghost use Rattle.segment_values.specs.Literals.{literal_seen};
 use crate::objects::object_to_change;
 use crate::scalars::value_as;
 use seg_types::{Key, Kind, Refusal, ScalarKind, ScalarValue};
+use segment_manager::conditioned::set_any;
 use segment_manager::{Object, Segment};
 
 /// Makes what a literal is the element at `index` in the object of a key: of scalars, of a vector of scalars, or of a string,
@@ -55,6 +56,6 @@ fn set_scalar(
 {
     match value_as(kind, value) {
         Err(why) => Err(why),
-        Ok(element) => segment.set_any(&object, index, element),
+        Ok(element) => set_any(segment, &object, index, element),
     }
 }

@@ -4,7 +4,7 @@ ghost use Rattle.seg_types.specs.Keys.{key_seen};
 ghost use Rattle.segment_values.specs.Changes.{IsToChange, IsUnchangeable};
 
 use seg_types::{Key, Refusal};
-use segment_manager::{Mode, Object, Segment};
+use segment_manager::{Mode, Object, Segment, locate};
 
 /// The object of a key, which is to be changed.
 ///
@@ -17,5 +17,5 @@ pub fn object_to_change(segment: &Segment, key: &Key) -> Result<Object, Refusal>
     if segment.mode() == Mode::ReadOnly {
         return Err(Refusal::ReadOnly);
     }
-    segment.locate(key)
+    locate(segment, key)
 }

@@ -9,7 +9,7 @@ ghost use Rattle.segment_values.specs.Literals.{literal_seen};
 use crate::objects::object_to_change;
 use crate::scalars::{pair_as, value_as};
 use seg_types::{Key, Kind, Refusal, ScalarValue};
-use segment_manager::Segment;
+use segment_manager::{Segment, locate};
 
 /// Puts the pair that two literals are into the map of a key, and answers whether its key is new.
 ///
@@ -52,7 +52,7 @@ pub fn look_up(
 ) -> Result<Option<ScalarValue>, Refusal>
     ensures { IsReply segment.now (Lookup (key_seen key.now) (literal_seen at)) (any_value_answer result) }
 {
-    match segment.locate(key) {
+    match locate(segment, key) {
         Err(why) => Err(why),
         Ok(object) => match object.kind {
             Kind::Map(keys, values) => match value_as(keys, at) {

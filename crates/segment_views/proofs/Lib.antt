@@ -1,3 +1,6 @@
 mod Here
 mod Reading
 mod Repeating
+mod Ranges
+mod RangeReads
+mod Copying

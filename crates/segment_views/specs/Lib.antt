@@ -6,3 +6,5 @@ pub mod OfStringsView
 pub mod Opened
 pub mod Walked
 pub mod Repeated
+pub mod Copied
+pub mod Ranged

@@ -1,17 +1,19 @@
 //! One scalar of a type, or an array of them, in a segment that may be changed, looked up once.
-ghost use Rattle.std.specs.Prelude.{◌≡◌, OnErr, IfOk, map};
+ghost use Rattle.std.specs.Prelude.{◌≡◌, OnErr, OnOk, IfOk, length, map, take};
 ghost use Rattle.seg_types.specs.declared.kinds.Kind.TheVariants.{Scalar as ScalarOf};
 ghost use Rattle.seg_types.specs.Commands.{Get, Set, literal_of};
 ghost use Rattle.segment_manager.specs.Answers.{Element};
-ghost use Rattle.segment_manager.specs.ElementLists.{array_length_at};
-ghost use Rattle.segment_manager.specs.State.{Answers, IsReplyOfKind, IsStepOfKind, answer_of, done_answer};
+ghost use Rattle.segment_manager.specs.ElementLists.{array_at, array_length_at};
+ghost use Rattle.segment_manager.specs.State.{Answers, IsReplyOfKind, IsStepOfKind, answer_of, done_answer, refusal_in};
 ghost use Rattle.seg_types.specs.Names.{ByHandle};
 ghost use Rattle.segment_manager.specs.Located.{IsObject};
 ghost use Rattle.segment_manager.specs.contracts.segment.Segment.{the_row};
+ghost use Rattle.segment_views.specs.Copied.{lacking};
 ghost use Rattle.segment_views.specs.Opened.{handle_of, opened_at};
 ghost use Rattle.segment_views.specs.Repeated.{StepsOn};
 ghost use Rattle.std.specs.Borrow.{sem, RestsIfErr};
 
+use crate::copying::copy_array;
 use crate::elements::ArrayItems;
 use crate::opening::locate_of_kind;
 use seg_types::{Kind, Refusal, Scalar};
@@ -51,12 +53,8 @@ impl<'a, T: Scalar> ArrayView<'a, T> {
         }
     }
 
-    /// The view of an object that was located.
-    ///
-    /// # Conditions
-    ///
-    /// The object was located in the segment and is still there. `of` has no such condition.
-    pub fn new(segment: &'a mut Segment, object: Object) -> ArrayView<'a, T>
+    /// The view of an object that was located and is still there.
+    fn new(segment: &'a mut Segment, object: Object) -> ArrayView<'a, T>
         requires { IsObject object segment.old }
         ensures loan { Borrows result segment.entry }
         ensures segment { segment_of result ≡ segment.old }
@@ -100,6 +98,31 @@ impl<'a, T: Scalar> ArrayView<'a, T> {
         ensures { result ≡ record { segment = segment_of self.now; key = key_of self.now; at = 0 } }
     {
         ArrayItems::new(self.segment, self.object)
+    }
+
+    /// Makes the values of a slice its first elements, as many as the slice has places.
+    ///
+    /// Example: `flags.copy_to(&mut room)?`.
+    ///
+    /// # Errors
+    ///
+    /// `WrongKind` where the object is of another kind, `OutOfRange` where the slice has more places than there are
+    /// elements. The slice does not change.
+    pub fn copy_to(&self, values: &mut [T]) -> Result<(), Refusal>
+        ensures refusal { Answers (segment_of self.now) (λ d. lacking (length values.old) (array_length_at d (key_of self.now) T.kind)) (refusal_in result) }
+        ensures copied { OnOk result (Answers (segment_of self.now) (λ d. take (length values.old) (array_at d (key_of self.now) T.kind)) (map T.whole values.new)) }
+        ensures unchanged { OnErr result (values.new ≡ values.old) }
+    {
+        match self.len() {
+            Err(why) => Err(why),
+            Ok(len) => {
+                if len < values.len() as u64 {
+                    return Err(Refusal::OutOfRange);
+                }
+                copy_array(self.segment, &self.object, values);
+                Ok(())
+            }
+        }
     }
 
     /// Makes a value the element at `index`.

@@ -196,7 +196,7 @@ impl<'a> Iterator for TextItems<'a> {
 }
 
 /// A number, or 0 where it is refused.
-fn number_or_none(number: Result<u64, Refusal>) -> u64
+pub(crate) fn number_or_none(number: Result<u64, Refusal>) -> u64
     ensures { result ≡ number_of number }
 {
     match number {

@@ -3,9 +3,11 @@
 #![tactic(auto)]
 
 mod arrays;
+mod copying;
 mod elements;
 mod maps;
 mod opening;
+mod ranges;
 mod string_lists;
 mod strings;
 mod vectors;
@@ -13,6 +15,7 @@ mod vectors;
 pub use arrays::ArrayView;
 pub use elements::{ArrayItems, TextItems, VectorItems};
 pub use maps::MapView;
+pub use ranges::MapItems;
 pub use string_lists::StringsView;
 pub use strings::StringView;
 pub use vectors::VectorView;

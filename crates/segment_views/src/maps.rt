@@ -1,9 +1,13 @@
 //! A map of keys and values of two types in a segment that may be changed, looked up once.
-ghost use Rattle.std.specs.Prelude.{◌≡◌, OnErr, IfOk};
+ghost use Rattle.std.specs.Prelude.{◌≡◌, OnErr, IfOk, option_map};
 ghost use Rattle.seg_types.specs.declared.kinds.Kind.TheVariants.{Map as MapOf};
 ghost use Rattle.seg_types.specs.Commands.{Lookup, Put, Remove, literal_of};
 ghost use Rattle.segment_manager.specs.ElementLists.{length_at_kind};
 ghost use Rattle.segment_manager.specs.Maps.{pair_above, pair_from, pair_result, told_of_map, value_answer};
+ghost use Rattle.segment_manager.specs.Walks.{first_of};
+ghost use Rattle.seg_map.specs.Places.{item_of};
+ghost use Rattle.std.specs.Range.Bound.{bound_map};
+ghost use Rattle.std.specs.declared.ops.Bound.TheVariants.{Unbounded};
 ghost use Rattle.segment_manager.specs.State.{Answers, IsReplyOfKind, IsStepOfKind, truth_answer};
 ghost use Rattle.seg_types.specs.Names.{ByHandle};
 ghost use Rattle.segment_manager.specs.Located.{IsObject};
@@ -12,9 +16,11 @@ ghost use Rattle.segment_views.specs.Opened.{handle_of, opened_at};
 ghost use Rattle.std.specs.Borrow.{sem, RestsIfErr};
 
 use crate::opening::locate_of_kind;
+use crate::ranges::{MapItems, first_of_all};
 use seg_types::{Kind, Refusal, Scalar};
 use segment_manager::{Object, Segment, Target};
 use std::marker::PhantomData;
+use std::ops::{Bound, RangeBounds};
 
 /// A map of keys and values of two types in a segment that may be changed, looked up once. It borrows the segment, and
 /// the object is there as long as it does.
@@ -49,12 +55,8 @@ impl<'a, K: Scalar, V: Scalar> MapView<'a, K, V> {
         }
     }
 
-    /// The view of an object that was located.
-    ///
-    /// # Conditions
-    ///
-    /// The object was located in the segment and is still there. `of` has no such condition.
-    pub fn new(segment: &'a mut Segment, object: Object) -> MapView<'a, K, V>
+    /// The view of an object that was located and is still there.
+    fn new(segment: &'a mut Segment, object: Object) -> MapView<'a, K, V>
         requires { IsObject object segment.old }
         ensures loan { Borrows result segment.entry }
         ensures segment { segment_of result ≡ segment.old }
@@ -89,6 +91,46 @@ impl<'a, K: Scalar, V: Scalar> MapView<'a, K, V> {
         ensures { Answers (segment_of self.now) (λ d. length_at_kind d (key_of self.now) (MapOf K.kind V.kind)) result }
     {
         self.segment.map_len::<K, V, Object>(&self.object)
+    }
+
+    /// The pair with the least key, or nothing where the map is empty.
+    ///
+    /// Example: `let earliest = years.first()?`.
+    ///
+    /// # Errors
+    ///
+    /// `WrongKind` where the object is no such map.
+    pub fn first(&self) -> Result<Option<(K, V)>, Refusal>
+        ensures { Answers (segment_of self.now) (λ d. told_of_map d (key_of self.now) K.kind V.kind (λ ps. option_map item_of (first_of ps))) (pair_result K.whole V.whole result) }
+    {
+        first_of_all(self.segment, &self.object)
+    }
+
+    /// Its pairs with keys in a range, one after another by rising keys. There are none where the range runs backwards,
+    /// and where the object is no such map.
+    ///
+    /// Example: `for (number, year) in years.range(2..=5)`.
+    pub fn range<R: RangeBounds<K>>(&self, range: R) -> MapItems<'_, K, V>
+        ensures segment { result.segment ≡ segment_of self.now }
+        ensures key { result.key ≡ key_of self.now }
+        ensures start { R.has_bounds range → result.start ≡ bound_map K.whole (R.start_bound range) }
+        ensures end { R.has_bounds range → result.end ≡ bound_map K.whole (R.end_bound range) }
+    {
+        let start = held(range.start_bound());
+        let end = held(range.end_bound());
+        MapItems::new(self.segment, self.object, start, end)
+    }
+
+    /// All its pairs, one after another by rising keys. There are none where the object is no such map.
+    ///
+    /// Example: `for (number, year) in years.iter()`.
+    pub fn iter(&self) -> MapItems<'_, K, V>
+        ensures segment { result.segment ≡ segment_of self.now }
+        ensures key { result.key ≡ key_of self.now }
+        ensures start { result.start ≡ Unbounded }
+        ensures end { result.end ≡ Unbounded }
+    {
+        MapItems::new(self.segment, self.object, Bound::Unbounded, Bound::Unbounded)
     }
 
     /// The pair with the least key that is not below `from`.
@@ -143,5 +185,16 @@ impl<'a, K: Scalar, V: Scalar> MapView<'a, K, V> {
     {
         let _ = self.segment.as_bytes();
         self.segment.map_erase::<K, V, Object>(&self.object, key)
+    }
+}
+
+/// A bound of a value that is lent, as one that has it.
+fn held<K: Scalar>(bound: Bound<&K>) -> Bound<K>
+    ensures { result ≡ bound_map (λ key. key.now) bound.entry }
+{
+    match bound {
+        Bound::Included(key) => Bound::Included(*key),
+        Bound::Excluded(key) => Bound::Excluded(*key),
+        Bound::Unbounded => Bound::Unbounded,
     }
 }

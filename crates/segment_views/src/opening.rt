@@ -5,7 +5,7 @@ ghost use Rattle.segment_manager.specs.State.{Answers};
 ghost use Rattle.segment_views.specs.Opened.{handle_of, opened_at};
 
 use seg_types::{Kind, Refusal};
-use segment_manager::{Object, Segment, Target};
+use segment_manager::{Object, Segment, Target, locate};
 
 /// The object of a key as it stands in a segment, an object of a kind.
 ///
@@ -21,7 +21,7 @@ pub(crate) fn locate_of_kind<O: Target>(
     ensures opens { Answers segment.now (λ d. opened_at d (O.key key.now) kind) (handle_of (λ o. o) result) }
     ensures here { IfOk result (λ o. IsObject o segment.now) }
 {
-    match segment.locate(key) {
+    match locate(segment, key) {
         Err(why) => Err(why),
         Ok(object) => {
             if kind.code() != object.kind.code() {

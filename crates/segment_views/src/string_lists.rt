@@ -49,12 +49,8 @@ impl<'a> StringsView<'a> {
         }
     }
 
-    /// The view of an object that was located.
-    ///
-    /// # Conditions
-    ///
-    /// The object was located in the segment and is still there. `of` has no such condition.
-    pub fn new(segment: &'a mut Segment, object: Object) -> StringsView<'a>
+    /// The view of an object that was located and is still there.
+    fn new(segment: &'a mut Segment, object: Object) -> StringsView<'a>
         requires { IsObject object segment.old }
         ensures loan { Borrows result segment.entry }
         ensures segment { segment_of result ≡ segment.old }

@@ -1,18 +1,20 @@
 //! A vector of scalars of a type in a segment that may be changed, looked up once.
-ghost use Rattle.std.specs.Prelude.{◌≡◌, OnErr, map, IfOk};
+ghost use Rattle.std.specs.Prelude.{◌≡◌, OnErr, OnOk, IfOk, length, map, take};
 ghost use Rattle.seg_types.specs.declared.kinds.Kind.TheVariants.{Vector as VectorOf};
 ghost use Rattle.seg_types.specs.Commands.{Assign, Erase, Get, Insert, Pop, Push, Set, literal_of};
 ghost use Rattle.segment_manager.specs.Answers.{Element};
 ghost use Rattle.segment_manager.specs.Contents.{sizes_at};
-ghost use Rattle.segment_manager.specs.ElementLists.{length_at_kind};
-ghost use Rattle.segment_manager.specs.State.{Answers, IsReplyOfKind, IsStepOfKind, answer_of, done_answer};
+ghost use Rattle.segment_manager.specs.ElementLists.{length_at_kind, vector_at};
+ghost use Rattle.segment_manager.specs.State.{Answers, IsReplyOfKind, IsStepOfKind, answer_of, done_answer, refusal_in};
 ghost use Rattle.seg_types.specs.Names.{ByHandle};
 ghost use Rattle.segment_manager.specs.Located.{IsObject};
 ghost use Rattle.segment_manager.specs.contracts.segment.Segment.{the_row};
+ghost use Rattle.segment_views.specs.Copied.{lacking};
 ghost use Rattle.segment_views.specs.Opened.{handle_of, opened_at};
 ghost use Rattle.segment_views.specs.Repeated.{StepsOn};
 ghost use Rattle.std.specs.Borrow.{sem, RestsIfErr};
 
+use crate::copying::copy_vector;
 use crate::elements::VectorItems;
 use crate::opening::locate_of_kind;
 use seg_types::{Kind, Refusal, Scalar};
@@ -52,12 +54,8 @@ impl<'a, T: Scalar> VectorView<'a, T> {
         }
     }
 
-    /// The view of an object that was located.
-    ///
-    /// # Conditions
-    ///
-    /// The object was located in the segment and is still there. `of` has no such condition.
-    pub fn new(segment: &'a mut Segment, object: Object) -> VectorView<'a, T>
+    /// The view of an object that was located and is still there.
+    fn new(segment: &'a mut Segment, object: Object) -> VectorView<'a, T>
         requires { IsObject object segment.old }
         ensures loan { Borrows result segment.entry }
         ensures segment { segment_of result ≡ segment.old }
@@ -101,6 +99,31 @@ impl<'a, T: Scalar> VectorView<'a, T> {
         ensures { result ≡ record { segment = segment_of self.now; key = key_of self.now; at = 0 } }
     {
         VectorItems::new(self.segment, self.object)
+    }
+
+    /// Makes the values of a slice its first elements, as many as the slice has places.
+    ///
+    /// Example: `queue.copy_to(&mut room)?`.
+    ///
+    /// # Errors
+    ///
+    /// `WrongKind` where the object is no vector of the type, `OutOfRange` where the slice has more places than there
+    /// are elements. The slice does not change.
+    pub fn copy_to(&self, values: &mut [T]) -> Result<(), Refusal>
+        ensures refusal { Answers (segment_of self.now) (λ d. lacking (length values.old) (length_at_kind d (key_of self.now) (VectorOf T.kind))) (refusal_in result) }
+        ensures copied { OnOk result (Answers (segment_of self.now) (λ d. take (length values.old) (vector_at d (key_of self.now) T.kind)) (map T.whole values.new)) }
+        ensures unchanged { OnErr result (values.new ≡ values.old) }
+    {
+        match self.len() {
+            Err(why) => Err(why),
+            Ok(len) => {
+                if len < values.len() as u64 {
+                    return Err(Refusal::OutOfRange);
+                }
+                copy_vector(self.segment, &self.object, values);
+                Ok(())
+            }
+        }
     }
 
     /// How many elements it has, and how many places.

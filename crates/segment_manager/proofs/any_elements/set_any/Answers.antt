@@ -1,0 +1,41 @@
+-- The kind of the object that was located says which call it is.
+use Rattle.std.proofs.Common.{sym, subst, Ok}
+use Rattle.seg_types.specs.declared.kinds.ScalarKind.{ScalarKind}
+use Rattle.seg_types.specs.declared.kinds.Kind.{Kind}
+use Rattle.seg_types.specs.declared.kinds.Kind.TheVariants.{Scalar, Text, Vector}
+use Rattle.seg_types.specs.Commands.{Set, literal_of}
+use Rattle.seg_types.specs.Names.{Key}
+use Rattle.seg_types.specs.declared.values.ScalarValue.{ScalarValue}
+use Rattle.seg_types.specs.Values.{kind_of_scalar, value_of_scalar}
+use Rattle.segment_manager.specs.Calls.{kind_at}
+use Rattle.segment_manager.specs.State.{Answers, IsStepOfKind, done_answer}
+use Rattle.segment_manager.proofs.AnyKind.{scalar-kind, vector-kind}
+use Rattle.segment_manager.proofs.AnyStorage.{of_kind-steps}
+use Rattle.segment_manager.proofs.Locating.{kind-by_key, step_of_kind-by_key}
+use Rattle.segment_manager.proofs.any_elements.set_any.Goals as goal
+
+pub returns-in-U8-clause-step : goal.returns-in-U8-clause-step
+returns-in-U8-clause-step g c =
+    let key : Key = g.O.Target.key c.args.key.now in
+    let k : ScalarKind = kind_of_scalar c.args.value in
+    of_kind-steps c.args.segment.now c.string_set.new.self key Text (Set key c.args.index (literal_of k (value_of_scalar c.args.value))) (done_answer c.string_set.result)
+    (subst (λ (n : Kind). Answers c.args.segment.now (λ d. kind_at d key) (Ok n)) c.in-Text.is (kind-by_key c.args.segment.now key c.in-Ok.object c.in-Ok.ensures))
+    (subst (λ (v : ScalarValue). IsStepOfKind c.args.segment.now c.string_set.new.self key Text (Set key c.args.index (literal_of (kind_of_scalar v) (value_of_scalar v))) (done_answer c.string_set.result)) (sym c.in-U8.is)
+    (step_of_kind-by_key c.args.segment.now key c.in-Ok.object c.in-Ok.ensures c.string_set.new.self Text (Set key c.args.index _) (done_answer c.string_set.result) c.string_set.ensures.step))
+
+pub returns-in-Vector-clause-step : goal.returns-in-Vector-clause-step
+returns-in-Vector-clause-step g c =
+    let key : Key = g.O.Target.key c.args.key.now in
+    let k : ScalarKind = kind_of_scalar c.args.value in
+    of_kind-steps c.args.segment.now c.set_in_vector.new.self key (Vector k) (Set key c.args.index (literal_of k (value_of_scalar c.args.value))) (done_answer c.set_in_vector.result)
+    (vector-kind c.args.segment.now key c.in-Vector.field-0 k
+    (subst (λ (n : Kind). Answers c.args.segment.now (λ d. kind_at d key) (Ok n)) c.in-Vector.is (kind-by_key c.args.segment.now key c.in-Ok.object c.in-Ok.ensures)) c.requires.of_kind)
+    (step_of_kind-by_key c.args.segment.now key c.in-Ok.object c.in-Ok.ensures c.set_in_vector.new.self (Vector k) (Set key c.args.index (literal_of k (value_of_scalar c.args.value))) (done_answer c.set_in_vector.result) c.set_in_vector.ensures.step)
+
+pub returns-in_default-clause-step : goal.returns-in_default-clause-step
+returns-in_default-clause-step g c =
+    let key : Key = g.O.Target.key c.args.key.now in
+    let k : ScalarKind = kind_of_scalar c.args.value in
+    of_kind-steps c.args.segment.now c.set_value.new.self key (Scalar k) (Set key c.args.index (literal_of k (value_of_scalar c.args.value))) (done_answer c.set_value.result)
+    (scalar-kind c.args.segment.now key c.in-Ok.object.kind k (kind-by_key c.args.segment.now key c.in-Ok.object c.in-Ok.ensures) c.requires.of_kind c.in_default.not-Text c.in_default.not-Vector)
+    (step_of_kind-by_key c.args.segment.now key c.in-Ok.object c.in-Ok.ensures c.set_value.new.self (Scalar k) (Set key c.args.index (literal_of k (value_of_scalar c.args.value))) (done_answer c.set_value.result) c.set_value.ensures.step)

@@ -1,0 +1,33 @@
+-- The heap's end moves, and the size is written.
+use Rattle.std.proofs.Common.{refl, sym, subst, ◌∙◌, ◌+◌, ◌≤◌}
+use Rattle.segment_manager.specs.Directory.{Directory}
+use Rattle.segment_manager.specs.Resized.{Resizes, grown}
+use Rattle.segment_manager.specs.State.{StandsFor, State}
+use Rattle.segment_manager.proofs.Resizes.{fits-small, grows, resized-segment}
+use Rattle.segment_manager.proofs.sizing.extend_end.Goals as goal
+use Rattle.segment_manager.proofs.sizing.extend_end.Goals.{After-set_header_word}
+
+pub extend_end-requires-clause-small : goal.extend_end-requires-clause-small
+extend_end-requires-clause-small c =
+    let small : (d : Directory) → StandsFor c.segment.inside.heap.bytes d → d.size + c.args.extra ≤ 1073741824 =
+    subst (λ (s : State). (d : Directory) → StandsFor s.cut.bytes d → d.size + c.args.extra ≤ 1073741824) (sym c.segment.view_is) c.requires.small in
+    fits-small c.segment.inside.heap.bytes c.args.extra c.segment.invariant small
+
+-- the segment before and after
+abbrev before : After-set_header_word → State
+before c = record { cut = c.segment.inside.heap; mode = c.segment.inside.mode }
+
+abbrev after : After-set_header_word → State
+after c = record { cut = c.set_header_word.new.self; mode = c.segment.inside.mode }
+
+longer : (c : After-set_header_word) → Resizes (before c) (after c) (λ d. grown d c.args.extra)
+longer c = grows (before c) (after c) c.extend_end.new.self c.args.extra refl c.extend_end.ensures.moved c.set_header_word.ensures.change (c.set_header_word.ensures.word ∙ c.size-size.ensures)
+
+pub invariant_of-segment : goal.invariant_of-segment
+invariant_of-segment c =
+    let p = (goal.at.invariant_of-segment c).After-set_header_word in resized-segment (before p) (after p) (λ d. grown d c.args.extra) (longer p) c.segment.invariant
+
+pub returns : goal.returns
+returns c =
+    let p = (goal.at.returns c).After-set_header_word in
+    subst (λ (s : State). Resizes s (after p) (λ d. grown d c.args.extra)) c.segment.view_is (longer p)

@@ -1,0 +1,83 @@
+-- The pairs of a map whose keys lie between two bounds, one after another, from both ends.
+use Rattle.std.specs.Prelude.{◌≡◌, ℕ, ◌≤◌, ℤ, int_le, int_lt, Bool, true, ◌&&◌, Option, Some, None, Result, Ok, Err, List, [], ◌∷◌, ◌++◌, filter, length, map}
+use Rattle.std.specs.declared.ops.Bound.{Bound}
+use Rattle.std.specs.declared.ops.Bound.TheVariants.{Included, Excluded, Unbounded}
+use Rattle.seg_types.specs.declared.kinds.ScalarKind.{ScalarKind}
+use Rattle.seg_types.specs.declared.refusals.Refusal.{Refusal}
+use Rattle.seg_types.specs.Names.{Key}
+use Rattle.seg_map.specs.Numbers.{NumberPair}
+use Rattle.seg_map.specs.Places.{item_of}
+use Rattle.segment_manager.specs.declared.targets.Object.{Object as Located}
+use Rattle.segment_manager.specs.Directory.{Directory}
+use Rattle.segment_manager.specs.Located.{IsObject}
+use Rattle.segment_manager.specs.State.{State, StandsFor}
+use Rattle.segment_manager.specs.Walks.{pairs_at_kinds}
+
+-- ---- bounds
+
+-- a key is not below the lower bound
+abbrev pub is_from : Bound ℤ → ℤ → Bool
+is_from (Included a) z = int_le a z
+is_from (Excluded a) z = int_lt a z
+is_from Unbounded z = true
+
+-- a key is not above the upper bound
+abbrev pub is_up_to : Bound ℤ → ℤ → Bool
+is_up_to (Included b) z = int_le z b
+is_up_to (Excluded b) z = int_lt z b
+is_up_to Unbounded z = true
+
+abbrev pub is_between : Bound ℤ → Bound ℤ → NumberPair → Bool
+is_between start end p = is_from start p.key && is_up_to end p.key
+
+-- the pairs between bounds, as keys and values
+abbrev pub range_of : Bound ℤ → Bound ℤ → List NumberPair → List (ℤ × ℤ)
+range_of start end ps = map item_of (filter (is_between start end) ps)
+
+-- ---- an iterator over them
+
+-- of a map the bounds of the pairs that are left, which are so many at most
+pub record PairWalk : Type 0 where
+  pub segment : State
+  pub key : Key
+  pub start : Bound ℤ
+  pub end : Bound ℤ
+  pub left : ℕ
+
+-- the pairs that are left, by rising keys
+abbrev pub pairs_left : ScalarKind → ScalarKind → Directory → PairWalk → List (ℤ × ℤ)
+pairs_left k v d w = range_of w.start w.end (pairs_at_kinds d w.key k v)
+
+-- what comes is the first of a list, and the others are left; nothing comes where the list is empty
+abbrev pub TakesFirst : {A B : Type 0} → (A → B) → Option A → List B → List B → Type 0
+TakesFirst seen None before after = (before ≡ []) × (after ≡ [])
+TakesFirst seen (Some x) before after = before ≡ seen x ∷ after
+
+-- the same of the last of it
+abbrev pub TakesLast : {A B : Type 0} → (A → B) → Option A → List B → List B → Type 0
+TakesLast seen None before after = (before ≡ []) × (after ≡ [])
+TakesLast seen (Some x) before after = before ≡ after ++ seen x ∷ []
+
+-- it gives the first pair that is left
+pub record GoesOnPairs {A : Type 0} (k v : ScalarKind) (seen : A → ℤ × ℤ) (old : PairWalk) (item : Option A) (new : PairWalk) : Type 0 where
+  pub segment : new.segment ≡ old.segment
+  pub key : new.key ≡ old.key
+  pub pairs : (d : Directory) → StandsFor old.segment.cut.bytes d → TakesFirst seen item (pairs_left k v d old) (pairs_left k v d new)
+
+-- it gives the last pair that is left
+pub record GoesBackPairs {A : Type 0} (k v : ScalarKind) (seen : A → ℤ × ℤ) (old : PairWalk) (item : Option A) (new : PairWalk) : Type 0 where
+  pub segment : new.segment ≡ old.segment
+  pub key : new.key ≡ old.key
+  pub pairs : (d : Directory) → StandsFor old.segment.cut.bytes d → TakesLast seen item (pairs_left k v d old) (pairs_left k v d new)
+
+-- the object is there, and so many pairs are left at most
+pub record IsPairWalk (k v : ScalarKind) (o : Located) (w : PairWalk) : Type 0 where
+  pub here : IsObject o w.segment
+  pub few : (d : Directory) → StandsFor w.segment.cut.bytes d → length (pairs_left k v d w) ≤ w.left
+
+-- ---- what is read
+
+-- a pair, or none where the reading is refused
+abbrev pub pair_or_none : {A : Type 0} → Result (Option A) Refusal → Option A
+pair_or_none (Ok r) = r
+pair_or_none (Err why) = None

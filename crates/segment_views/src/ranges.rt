@@ -1,0 +1,187 @@
+//! The pairs of a map that was located, those with keys between two bounds, one after another.
+ghost use Rattle.std.specs.Prelude.{◌≡◌, Some, option_map, slice_get};
+ghost use Rattle.std.specs.Iterator.{at_most};
+ghost use Rattle.std.specs.Range.Bound.{bound_map};
+ghost use Rattle.std.specs.declared.ops.Bound.TheVariants.{Unbounded};
+ghost use Rattle.seg_types.specs.Kinds.{lowest as lowest_of};
+ghost use Rattle.seg_types.specs.Names.{ByHandle};
+ghost use Rattle.segment_manager.specs.Located.{IsObject};
+ghost use Rattle.segment_manager.specs.Maps.{numbers_in, pair_result, told_of_map};
+ghost use Rattle.segment_manager.specs.State.{Answers};
+ghost use Rattle.segment_manager.specs.Walks.{first_of, pairs_at_kinds};
+ghost use Rattle.seg_map.specs.Places.{item_of};
+ghost use Rattle.segment_views.specs.Ranged.{GoesOnPairs, is_up_to as is_up_to_end, pair_or_none as pair_of, range_of};
+
+use crate::elements::number_or_none;
+use seg_types::{Refusal, Scalar, ScalarKind};
+use segment_manager::{Object, Segment};
+use std::marker::{Model, PhantomData};
+use std::ops::Bound;
+
+/// The pairs of a map with keys in a range, one after another by rising keys. There are none where the object is no such map.
+/// Each is looked for from the root of the tree.
+///
+/// Contracts see the segment, the map's key, the bounds of the pairs that are left, and how many these are at most.
+#[derive(Drop)]
+pub struct MapItems<'a, K: Scalar, V: Scalar> {
+    segment: &'a Segment,
+    object: Object,
+    start: Bound<K>,
+    end: Bound<K>,
+    left: u64,
+    of: PhantomData<V>,
+}
+
+impl<'a, K: Scalar, V: Scalar> Model for MapItems<'a, K, V> {
+    ghost use Rattle.std.specs.Range.Bound.{bound_map};
+    ghost use Rattle.seg_types.specs.Names.{ByHandle};
+    ghost use Rattle.segment_views.specs.Ranged.{IsPairWalk, PairWalk};
+
+    ghost Value = { PairWalk };
+
+    ghost view = { λ w. record { segment = w.segment.now; key = ByHandle w.object.handle; start = bound_map K.whole w.start; end = bound_map K.whole w.end; left = w.left } };
+
+    ghost invariant = { λ w. IsPairWalk K.kind V.kind w.object (record { segment = w.segment.now; key = ByHandle w.object.handle; start = bound_map K.whole w.start; end = bound_map K.whole w.end; left = w.left }) };
+}
+
+impl<'a, K: Scalar, V: Scalar> MapItems<'a, K, V> {
+    /// The pairs of an object that was located, those with keys between two bounds.
+    pub(crate) fn new(
+        segment: &'a Segment,
+        object: Object,
+        start: Bound<K>,
+        end: Bound<K>,
+    ) -> MapItems<'a, K, V>
+        requires { IsObject object segment.now }
+        ensures segment { result.segment ≡ segment.now }
+        ensures key { result.key ≡ ByHandle object.handle }
+        ensures start { result.start ≡ bound_map K.whole start }
+        ensures end { result.end ≡ bound_map K.whole end }
+    {
+        let left = number_or_none(segment.map_len::<K, V, Object>(&object));
+        MapItems {
+            segment,
+            object,
+            start,
+            end,
+            left,
+            of: PhantomData,
+        }
+    }
+}
+
+impl<'a, K: Scalar, V: Scalar> Iterator for MapItems<'a, K, V> {
+    type Item = (K, V);
+
+    ghost next_gives = { GoesOnPairs K.kind V.kind (λ pair. (K.whole pair.0, V.whole pair.1)) };
+
+    ghost remaining = { λ w. at_most w.left };
+
+    fn next(&mut self) -> Option<(K, V)> {
+        if self.left == 0 {
+            return None;
+        }
+        match first_between(self.segment, &self.object, self.start, self.end) {
+            None => None,
+            Some((key, value)) => {
+                self.start = Bound::Excluded(key);
+                self.left -= 1;
+                Some((key, value))
+            }
+        }
+    }
+}
+
+/// The first pair of a map with a key between two bounds.
+fn first_between<K: Scalar, V: Scalar>(
+    segment: &Segment,
+    object: &Object,
+    start: Bound<K>,
+    end: Bound<K>,
+) -> Option<(K, V)>
+    requires { IsObject object.now segment.now }
+    ensures { Answers segment.now (λ d. slice_get (range_of (bound_map K.whole start) (bound_map K.whole end) (pairs_at_kinds d (ByHandle object.now.handle) K.kind V.kind)) 0) (numbers_in K.whole V.whole result) }
+{
+    match first_from(segment, object, start) {
+        None => None,
+        Some((key, value)) => {
+            if is_up_to(end, key) {
+                Some((key, value))
+            } else {
+                None
+            }
+        }
+    }
+}
+
+/// The first pair of a map with a key that is not below a bound.
+fn first_from<K: Scalar, V: Scalar>(
+    segment: &Segment,
+    object: &Object,
+    start: Bound<K>,
+) -> Option<(K, V)>
+    requires { IsObject object.now segment.now }
+    ensures { Answers segment.now (λ d. slice_get (range_of (bound_map K.whole start) Unbounded (pairs_at_kinds d (ByHandle object.now.handle) K.kind V.kind)) 0) (numbers_in K.whole V.whole result) }
+{
+    match start {
+        Bound::Included(from) => {
+            pair_or_none(segment.map_first_from::<K, V, Object>(object, from))
+        }
+        Bound::Excluded(after) => {
+            pair_or_none(segment.map_next_after::<K, V, Object>(object, after))
+        }
+        Bound::Unbounded => pair_or_none(first_of_all(segment, object)),
+    }
+}
+
+/// The first pair of a map.
+///
+/// # Errors
+///
+/// `NotFound` where the object is not there, `WrongKind` where it is no such map.
+pub(crate) fn first_of_all<K: Scalar, V: Scalar>(
+    segment: &Segment,
+    object: &Object,
+) -> Result<Option<(K, V)>, Refusal>
+    requires { IsObject object.now segment.now }
+    ensures { Answers segment.now (λ d. told_of_map d (ByHandle object.now.handle) K.kind V.kind (λ ps. option_map item_of (first_of ps))) (pair_result K.whole V.whole result) }
+{
+    match lowest::<K>() {
+        None => Ok(None),
+        Some(least) => segment.map_first_from::<K, V, Object>(object, least),
+    }
+}
+
+/// The least value of a scalar type. The bytes spell it, so there is one.
+fn lowest<T: Scalar>() -> Option<T>
+    ensures { option_map T.whole result ≡ Some (lowest_of T.kind) }
+{
+    match T::kind() {
+        ScalarKind::Bool => T::read(&[0]),
+        ScalarKind::U8 => T::read(&[0]),
+        ScalarKind::I32 => T::read(&[0, 0, 0, 128]),
+        ScalarKind::I64 => T::read(&[0, 0, 0, 0, 0, 0, 0, 128]),
+        ScalarKind::U64 => T::read(&[0, 0, 0, 0, 0, 0, 0, 0]),
+    }
+}
+
+/// Whether a key is not above a bound.
+fn is_up_to<K: Scalar>(end: Bound<K>, key: K) -> bool
+    ensures { result ≡ is_up_to_end (bound_map K.whole end) (K.whole key) }
+{
+    match end {
+        Bound::Included(last) => !last.precedes(key),
+        Bound::Excluded(behind) => key.precedes(behind),
+        Bound::Unbounded => true,
+    }
+}
+
+/// A pair, or none where the reading is refused.
+fn pair_or_none<K: Scalar, V: Scalar>(pair: Result<Option<(K, V)>, Refusal>) -> Option<(K, V)>
+    ensures { result ≡ pair_of pair }
+{
+    match pair {
+        Ok(pair) => pair,
+        Err(_) => None,
+    }
+}

@@ -12,6 +12,11 @@ destroy_command (ByKind kind) = Destroy (ByKind kind)
 destroy_command (ByHandle handle) = DestroyPtr handle
 destroy_command NoKey = Destroy NoKey
 
+-- which object is meant
+abbrev pub doomed_key : Doomed → Key
+doomed_key (Entry key) = index_key_seen key
+doomed_key (At handle) = ByHandle handle
+
 abbrev pub doomed_command : Doomed → Command
 doomed_command (Entry key) = Destroy (index_key_seen key)
 doomed_command (At handle) = DestroyPtr handle

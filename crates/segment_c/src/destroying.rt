@@ -2,9 +2,10 @@
 ghost use Rattle.std.specs.Prelude.{◌≡◌, ◌≤◌, IsTrue, MatchResult};
 ghost use Rattle.segment_c.specs.Calls.{IsAsked, IsClosed, IsStopped};
 ghost use Rattle.segment_c.specs.Codes.{answer_for, is_answer};
-ghost use Rattle.segment_c.specs.Destroying.{destroy_command, doomed_command};
+ghost use Rattle.segment_c.specs.Destroying.{destroy_command, doomed_command, doomed_key};
 ghost use Rattle.segment_c.specs.Passed.{key_of, key_wrong};
 ghost use Rattle.segment_manager.specs.Answers.{Truth};
+ghost use Rattle.segment_manager.specs.Keeping.{KeepsWhere, LacksKey};
 ghost use Rattle.segment_manager.specs.State.{IsStep};
 
 use crate::codes::{BAD_KEY, BAD_KIND, BAD_NAME, CLOSED, NULL_SLICE, gone, truth};
@@ -23,7 +24,8 @@ enum Doomed<'a> {
     At(u64),
 }
 
-/// Destroys the object of a name or a kind, and says whether there was one; or that of a handle, where there is one.
+/// Destroys the object of a name or a kind, and says whether there was one; or that of a handle, where there is one. Where there is
+/// none, nothing changes.
 #[unsafe(no_mangle)]
 pub extern "C" fn zx_destroy(
     alloc: Global,
@@ -35,6 +37,7 @@ pub extern "C" fn zx_destroy(
     ensures closed { IsClosed (key_wrong key.now) result h.old.value h.new.value }
     ensures asked { IsAsked (key_wrong key.now) result h.old.value h.new.value
         (λ s t. IsStep s t (destroy_command (key_of key.now)) (answer_for result (Truth was_there.new))) }
+    ensures absent { IsAsked (key_wrong key.now) result h.old.value h.new.value (λ s t. KeepsWhere s t (LacksKey (key_of key.now))) }
     ensures kept { 1 ≤ result → h.new.value ≡ h.old.value }
     ensures results { 1 ≤ result → was_there.new ≡ was_there.old }
 {
@@ -55,6 +58,7 @@ fn destroy(segment: &mut Segment, which: Doomed<'_>, was_there: &mut bool) -> u3
     ensures step { IsStep segment.old segment.new (doomed_command which.entry) (answer_for result (Truth was_there.new)) }
     ensures answer { IsTrue (is_answer result) }
     ensures refused { 1 ≤ result → segment.new ≡ segment.old }
+    ensures absent { KeepsWhere segment.old segment.new (LacksKey (doomed_key which.entry)) }
     ensures kept { 1 ≤ result → was_there.new ≡ was_there.old }
 {
     match which {
@@ -75,7 +79,7 @@ fn destroy(segment: &mut Segment, which: Doomed<'_>, was_there: &mut bool) -> u3
 ///
 /// The code by which the key is refused.
 fn read_doomed<'a>(key: &ObjectKey<'a>) -> Result<Doomed<'a>, u32>
-    ensures { MatchResult result (λ which. (key_wrong key.now ≡ 0) × (doomed_command which ≡ destroy_command (key_of key.now))) (λ code. (code ≡ key_wrong key.now) × (1 ≤ code)) }
+    ensures { MatchResult result (λ which. (key_wrong key.now ≡ 0) × (doomed_command which ≡ destroy_command (key_of key.now)) × (doomed_key which ≡ key_of key.now)) (λ code. (code ≡ key_wrong key.now) × (1 ≤ code)) }
 {
     match key.how {
         0 => match Name::new(key.name) {

@@ -5,7 +5,9 @@ ghost use Rattle.segment_c.specs.Calls.{IsAsked, IsClosed, IsStopped};
 ghost use Rattle.segment_c.specs.Codes.{answer_for};
 ghost use Rattle.segment_c.specs.Passed.{element_in, key_of, key_wrong, literal_in, or_else, value_wrong};
 ghost use Rattle.segment_manager.specs.Answers.{Truth};
+ghost use Rattle.segment_manager.specs.Keeping.{KeepsWhere};
 ghost use Rattle.segment_manager.specs.State.{IsReply, IsStep};
+ghost use Rattle.segment_values.specs.Absent.{LacksLiteral};
 
 use crate::codes::{CLOSED, truth, value_found};
 use crate::handle::{Handle, put, take};
@@ -85,7 +87,7 @@ pub extern "C" fn zx_map_put(
     code
 }
 
-/// Takes a key out of the map of a key, and says whether it was there.
+/// Takes a key out of the map of a key, and says whether it was there. Where it was not, nothing changes.
 #[unsafe(no_mangle)]
 pub extern "C" fn zx_map_erase(
     alloc: Global,
@@ -98,6 +100,8 @@ pub extern "C" fn zx_map_erase(
     ensures closed { IsClosed (or_else (key_wrong key.now) (value_wrong at.now)) result h.old.value h.new.value }
     ensures asked { IsAsked (or_else (key_wrong key.now) (value_wrong at.now)) result h.old.value h.new.value
         (λ s t. IsStep s t (Remove (key_of key.now) (literal_in at.now)) (answer_for result (Truth was_there.new))) }
+    ensures absent { IsAsked (or_else (key_wrong key.now) (value_wrong at.now)) result h.old.value h.new.value
+        (λ s t. KeepsWhere s t (LacksLiteral (key_of key.now) (literal_in at.now))) }
     ensures kept { 1 ≤ result → h.new.value ≡ h.old.value }
     ensures results { 1 ≤ result → was_there.new ≡ was_there.old }
 {

@@ -8,6 +8,7 @@ ghost use Rattle.segment_c.specs.Codes.{answer_for};
 ghost use Rattle.segment_c.specs.Passed.{entry_of, entry_wrong, key_of, key_wrong, new_of, new_wrong, numbers_of, or_else, row_of, row_wrong, scalar_kind_in};
 ghost use Rattle.segment_manager.specs.Answers.{Done, Found, Made};
 ghost use Rattle.segment_manager.specs.Found.{pair_answer};
+ghost use Rattle.segment_manager.specs.Keeping.{HasKey, KeepsWhere};
 ghost use Rattle.segment_manager.specs.NewObjects.{IsOfKind};
 ghost use Rattle.segment_manager.specs.State.{IsStep, IsStepOfKind, KeepsRefused as KeepsOld, done_answer, handle_answer};
 
@@ -49,6 +50,7 @@ fn find_or_construct_row(
     requires { IsOfKind (index_key_seen key.now) (VectorOf kind) }
     ensures step { IsStep segment.old segment.new (FindOrConstruct (index_key_seen key.now) (Elements kind (numbers_of row.now kind))) (pair_answer result) }
     ensures refused { KeepsOld segment.old segment.new result }
+    ensures found { KeepsWhere segment.old segment.new (HasKey (index_key_seen key.now)) }
 {
     match kind {
         ScalarKind::Bool => segment.find_or_construct_vec(key, row.truths),
@@ -110,7 +112,7 @@ pub extern "C" fn zx_construct_vector(
     code
 }
 
-/// The vector of a key, or a new one of the values where no object has it.
+/// The vector of a key, which stays as it is, or a new one of the values where no object has it.
 #[unsafe(no_mangle)]
 pub extern "C" fn zx_find_or_construct_vector(
     alloc: Global,
@@ -124,6 +126,8 @@ pub extern "C" fn zx_find_or_construct_vector(
     ensures closed { IsClosed (or_else (row_wrong values.now) (entry_wrong key.now (VectorOf (scalar_kind_in values.now.kind)))) result h.old.value h.new.value }
     ensures asked { IsAsked (or_else (row_wrong values.now) (entry_wrong key.now (VectorOf (scalar_kind_in values.now.kind)))) result h.old.value h.new.value
         (λ s t. IsStep s t (FindOrConstruct (entry_of key.now (VectorOf (scalar_kind_in values.now.kind))) (Elements (scalar_kind_in values.now.kind) (row_of values.now))) (answer_for result (Found handle.new count_found.new))) }
+    ensures found { IsAsked (or_else (row_wrong values.now) (entry_wrong key.now (VectorOf (scalar_kind_in values.now.kind)))) result h.old.value h.new.value
+        (λ s t. KeepsWhere s t (HasKey (entry_of key.now (VectorOf (scalar_kind_in values.now.kind))))) }
     ensures refused { KeepsRefused result h.old.value h.new.value }
     ensures results { 1 ≤ result → (handle.new ≡ handle.old) × (count_found.new ≡ count_found.old) }
 {

@@ -1,3 +1,4 @@
+pub mod AbsentPairs
 pub mod ElementCalls
 pub mod PairCalls
 pub mod Reading

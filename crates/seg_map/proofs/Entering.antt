@@ -1,14 +1,15 @@
 -- The pairs of a map as a search tree.
 use Rattle.std.proofs.Common.{◌≡◌, refl, sym, ap, subst, ◌∙◌, ℕ, suc, ◌+◌, ◌^◌, ◌≤◌, ◌⊎◌, inl, inr, Bool, true, false, ◌&&◌, not, List, [], ◌∷◌, length, map, arith, ◌==◌, IsTrue}
 use Rattle.std.specs.Prelude.{Option, Some, None, find, option_map}
-use Rattle.std.specs.List.{AllByRecursion, list_all}
+use Rattle.std.specs.List.{AllByRecursion, last_or, list_all}
+use mathlib.Core.List.{reverse}
 use Rattle.std.proofs.lemmas.Bool.{and_parts, and_from, cases_Bool, cond-true, cond-false, eq-eqb, le-leb, leb-true}
 use Rattle.raw_region.specs.Memory.{Memory, Has, bytes_of, read}
 use Rattle.raw_region.specs.Memory.{Cut}
 use Rattle.block_tags.specs.declared.tile.Role.TheVariants.{Node}
 use Rattle.offset_link.specs.Link.{link_at}
 use Rattle.link_tree.specs.Tree.{Tree, IsTree, IsSearchTree, nodes_of, rises}
-use Rattle.link_tree.specs.Nodes.{first_not, is_in, leads}
+use Rattle.link_tree.specs.Nodes.{first_not, is_in, last_before, leads}
 use Rattle.link_tree.proofs.Laws.{above_more, all_from, bits_most, bounds_height, reads_off, root_in, tree_limit, tree_same}
 use Rattle.best_fit.specs.Extents.{Extent, handle, holds, is_proper}
 use Rattle.best_fit.specs.FreeTree.{cells_of}
@@ -19,9 +20,10 @@ use Rattle.seg_types.specs.declared.plain.Plain.{Ghosts as Plain}
 use Rattle.seg_types.specs.Plain.{value_in}
 use Rattle.seg_types.proofs.Laws.{value-spelled}
 use Rattle.seg_map.specs.Map.{Pair, IsPairAt, is_rising}
-use Rattle.seg_map.specs.Places.{HoldsMap, IsPairIn, first_pair, is_passed, nodes_of_pairs, pair_node}
+use Rattle.seg_map.specs.Places.{HoldsMap, IsPairIn, final_pair, first_pair, is_passed, last_pair, nodes_of_pairs, pair_node}
 use Rattle.seg_map.specs.PairNodes.{before_key, comes_before, stands, is_block_in, is_pair_node, key_at, key_of, links_among, own_nodes, nodes_in, pair_cells, stands_before}
 use Rattle.seg_map.specs.PairLaws.{Good, In, PairNode-is_pair_node, cells_at, comes_irreflexive, comes_transitive, node_block, few_extents, handles_length, in_handles}
+use Rattle.seg_map.proofs.FoundLists.{all_reversed, find_mapped, last_mapped, map_reversed}
 use Rattle.seg_map.proofs.PairSteps.{any_at}
 
 -- the laws of a plain type
@@ -68,19 +70,30 @@ module _ {K V : Type 0} (less : K → K → Bool) where
       (and_from (comes_before less keys (pair_node p) (pair_node q)) (list_all (comes_before less keys (pair_node p)) (nodes_of_pairs qs)) below
       (above_more (comes_before less keys) (comes_transitive less on keys) (pair_node p) (pair_node q) (nodes_of_pairs qs) below parts.0)) rest
 
+  -- a node stands before a key where its pair is passed
+  passes : (keys : ℕ → Option K) (past : Bool) (key : K) (ps : List (Pair K V)) → HaveKeys keys ps
+      → AllByRecursion (λ (p : Pair K V). stands_before less keys past key (pair_node p) ≡ is_passed less past key p) ps
+  passes keys past key [] k = tt
+  passes keys past key (p ∷ ps) k = (ap (stands less past key) k.0, passes keys past key ps k.1)
+
+  passes_not : (keys : ℕ → Option K) (past : Bool) (key : K) (ps : List (Pair K V)) → HaveKeys keys ps
+      → AllByRecursion (λ (p : Pair K V). not (stands_before less keys past key (pair_node p)) ≡ not (is_passed less past key p)) ps
+  passes_not keys past key [] k = tt
+  passes_not keys past key (p ∷ ps) k = (ap (λ o. not (stands less past key o)) k.0, passes_not keys past key ps k.1)
+
   -- the first node is that of the first pair
   pub first_node : (keys : ℕ → Option K) (past : Bool) (key : K) (ps : List (Pair K V)) → HaveKeys keys ps
       → first_not (stands_before less keys past key) (nodes_of_pairs ps) ≡ option_map pair_node (first_pair less past key ps)
-  first_node keys past key [] k = refl
-  first_node keys past key (p ∷ ps) k =
-      let rest = first_node keys past key ps k.1 in
-      let same : stands_before less keys past key (pair_node p) ≡ is_passed less past key p = ap (stands less past key) k.0 in
-      elim (cases_Bool (not (is_passed less past key p))) [
-        | inl e ↦ cond-true (not (stands_before less keys past key (pair_node p))) (Some (pair_node p)) (first_not (stands_before less keys past key) (nodes_of_pairs ps)) (ap not same ∙ e)
-            ∙ ap (option_map pair_node) (sym (cond-true (not (is_passed less past key p)) (Some p) (first_pair less past key ps) e))
-        | inr e ↦ cond-false (not (stands_before less keys past key (pair_node p))) (Some (pair_node p)) (first_not (stands_before less keys past key) (nodes_of_pairs ps)) (ap not same ∙ e)
-            ∙ rest ∙ ap (option_map pair_node) (sym (cond-false (not (is_passed less past key p)) (Some p) (first_pair less past key ps) e))
-      ]
+  first_node keys past key ps k =
+      find_mapped pair_node (λ n. not (stands_before less keys past key n)) (λ p. not (is_passed less past key p)) ps (passes_not keys past key ps k)
+
+  -- and the last node that of the last pair
+  pub last_node : (keys : ℕ → Option K) (past : Bool) (key : K) (ps : List (Pair K V)) → HaveKeys keys ps
+      → last_before (stands_before less keys past key) (nodes_of_pairs ps) ≡ option_map pair_node (last_pair less past key ps)
+  last_node keys past key ps k =
+      ap (find (stands_before less keys past key)) (map_reversed pair_node ps)
+      ∙ find_mapped pair_node (stands_before less keys past key) (is_passed less past key) (reverse ps)
+      (all_reversed (λ (p : Pair K V). stands_before less keys past key (pair_node p) ≡ is_passed less past key p) ps (passes keys past key ps k))
 
 -- what holds of each pair
 pub pairs_all : {K V : Type 0} (P : ℕ → Bool) (Q : Pair K V → Type 0) (ps : List (Pair K V)) → ((p : Pair K V) → Q p → P (pair_node p) ≡ true) → AllByRecursion Q ps → list_all P (nodes_of_pairs ps) ≡ true
@@ -190,6 +203,12 @@ module _ {K V : Type 0} (kp : Plain K) (vp : Plain V) (laws : Laws kp) (c : Cut)
 
   pub found_pair : (past : Bool) (key : K) → first_not (stands_before kp.order (key_of (value_of kp) kp.SIZE (nodes_of s.map.tree.tree) c) past key) (nodes_of s.map.tree.tree) ≡ option_map pair_node (first_pair kp.order past key ps)
   found_pair past key = ap (first_not (stands_before kp.order keys_in past key)) listed ∙ first_node kp.order keys_in past key ps keys
+
+  pub found_back : (past : Bool) (key : K) → last_before (stands_before kp.order (key_of (value_of kp) kp.SIZE (nodes_of s.map.tree.tree) c) past key) (nodes_of s.map.tree.tree) ≡ option_map pair_node (last_pair kp.order past key ps)
+  found_back past key = ap (last_before (stands_before kp.order keys_in past key)) listed ∙ last_node kp.order keys_in past key ps keys
+
+  pub found_last : last_or None (nodes_of s.map.tree.tree) ≡ option_map pair_node (final_pair ps)
+  found_last = let none : Option ℕ = None in ap (last_or none) listed ∙ last_mapped pair_node None ps
 
   pub count_pairs : length (nodes_of s.map.tree.tree) ≡ length ps
   count_pairs = ap length listed ∙ length-nodes ps

@@ -1,7 +1,8 @@
 -- What is read of a pair that was found.
 use Rattle.std.proofs.Common.{◌≡◌, refl, sym, ap, ◌∙◌, ℕ, ◌+◌, inl, inr, Bool, true, false, ◌&&◌, ◌||◌, not, List, [], ◌∷◌, arith, ◌==◌, IsTrue}
-use Rattle.std.specs.Prelude.{Option, Some, None, option_map, if◌then◌else◌}
-use Rattle.std.specs.List.{AllByRecursion}
+use mathlib.Core.List.{reverse}
+use Rattle.std.specs.Prelude.{Option, Some, None, find, option_map, if◌then◌else◌}
+use Rattle.std.specs.List.{AllByRecursion, last_or}
 use Rattle.std.proofs.lemmas.Bool.{false≢true, and_parts, and_from, cases_Bool, cond-true, cond-false, eq-eqb}
 use Rattle.raw_region.specs.Memory.{Cut, bytes_of, read}
 use Rattle.block_tags.specs.declared.tile.Role.TheVariants.{Node}
@@ -11,18 +12,22 @@ use Rattle.best_fit.specs.Table.{same_role, serves}
 use Rattle.seg_types.specs.declared.plain.Plain.{Ghosts as Plain}
 use Rattle.seg_map.specs.Map.{Pair, IsPairAt, is_key, is_rising, pair_at}
 use Rattle.seg_map.specs.PairNodes.{both}
-use Rattle.seg_map.specs.Places.{IsPairIn, first_pair, is_passed, item_of, pair_node, value_of_pair}
+use Rattle.seg_map.specs.Places.{IsPairIn, final_pair, first_pair, is_passed, item_of, last_pair, pair_node, value_of_pair}
 use Rattle.seg_map.specs.Searches.{reading_steps}
 use Rattle.seg_map.proofs.Entering.{Laws, found_in, read_spelled, value_of}
+use Rattle.seg_map.proofs.FoundLists.{all_reversed}
 use Rattle.seg_map.proofs.PairSteps.{any_at}
 
 -- a pair that is found
-pub record Found {K V : Type 0} (kp : Plain K) (vp : Plain V) (c : Cut) (h : ℕ) (past : Bool) (key : K) (qs : List (Pair K V)) (node : ℕ) : Type 0 where
+pub record FoundAs {K V : Type 0} (kp : Plain K) (vp : Plain V) (c : Cut) (h : ℕ) (o : Option (Pair K V)) (node : ℕ) : Type 0 where
   pub pair : Pair K V
-  pub is : first_pair kp.order past key qs ≡ Some pair
+  pub is : o ≡ Some pair
   pub at : node ≡ pair_node pair
   pub good : IsPairIn kp vp (live_of c.bytes) h pair
   pub bytes : IsPairAt kp.SIZE kp.spelling vp.spelling (bytes_of c.bytes) pair
+
+abbrev pub Found : {K V : Type 0} → Plain K → Plain V → Cut → ℕ → Bool → K → List (Pair K V) → ℕ → Type 0
+Found {K} {V} kp vp c h past key qs node = FoundAs kp vp c h (first_pair kp.order past key qs) node
 
 some_same : (m n : ℕ) → Some m ≡ Some n → m ≡ n
 some_same m n e = cc
@@ -31,34 +36,58 @@ some_none : (n : ℕ) → Some n ≡ None → ⊥
 some_none n e = let o : Option ℕ = None in let f : Some n ≡ o = e in cc
 
 module _ {K V : Type 0} (kp : Plain K) (vp : Plain V) (c : Cut) (h : ℕ) where
-  pub found : (past : Bool) (key : K) (qs : List (Pair K V)) (node : ℕ) → AllByRecursion (IsPairIn kp vp (live_of c.bytes) h) qs → AllByRecursion (IsPairAt kp.SIZE kp.spelling vp.spelling (bytes_of c.bytes)) qs
-      → Some node ≡ option_map pair_node (first_pair kp.order past key qs) → Found kp vp c h past key qs node
-  found past key [] node a b e = absurd (some_none node e)
-  found past key (q ∷ qs) node a b e =
-      elim (cases_Bool (not (is_passed kp.order past key q))) [
+  found_by : (test : Pair K V → Bool) (qs : List (Pair K V)) (node : ℕ) → AllByRecursion (IsPairIn kp vp (live_of c.bytes) h) qs → AllByRecursion (IsPairAt kp.SIZE kp.spelling vp.spelling (bytes_of c.bytes)) qs
+      → Some node ≡ option_map pair_node (find test qs) → FoundAs kp vp c h (find test qs) node
+  found_by test [] node a b e = absurd (some_none node e)
+  found_by test (q ∷ qs) node a b e =
+      elim (cases_Bool (test q)) [
         | inl t ↦
-            let is = cond-true (not (is_passed kp.order past key q)) (Some q) (first_pair kp.order past key qs) t in
+            let is = cond-true (test q) (Some q) (find test qs) t in
             record { pair = q; is = is; at = some_same node (pair_node q) (e ∙ ap (option_map pair_node) is); good = a.0; bytes = b.0 }
         | inr f ↦
-            let is = cond-false (not (is_passed kp.order past key q)) (Some q) (first_pair kp.order past key qs) f in
-            let r = found past key qs node a.1 b.1 (e ∙ ap (option_map pair_node) is) in
+            let is = cond-false (test q) (Some q) (find test qs) f in
+            let r = found_by test qs node a.1 b.1 (e ∙ ap (option_map pair_node) is) in
             record { pair = r.pair; is = is ∙ r.is; at = r.at; good = r.good; bytes = r.bytes }
       ]
 
+  pub found : (past : Bool) (key : K) (qs : List (Pair K V)) (node : ℕ) → AllByRecursion (IsPairIn kp vp (live_of c.bytes) h) qs → AllByRecursion (IsPairAt kp.SIZE kp.spelling vp.spelling (bytes_of c.bytes)) qs
+      → Some node ≡ option_map pair_node (first_pair kp.order past key qs) → Found kp vp c h past key qs node
+  found past key qs node a b e = found_by (λ p. not (is_passed kp.order past key p)) qs node a b e
+
+  -- the same of a list that is searched from its end
+  pub found_back : (past : Bool) (key : K) (qs : List (Pair K V)) (node : ℕ) → AllByRecursion (IsPairIn kp vp (live_of c.bytes) h) qs → AllByRecursion (IsPairAt kp.SIZE kp.spelling vp.spelling (bytes_of c.bytes)) qs
+      → Some node ≡ option_map pair_node (last_pair kp.order past key qs) → FoundAs kp vp c h (last_pair kp.order past key qs) node
+  found_back past key qs node a b e =
+      found_by (is_passed kp.order past key) (reverse qs) node (all_reversed (IsPairIn kp vp (live_of c.bytes) h) qs a) (all_reversed (IsPairAt kp.SIZE kp.spelling vp.spelling (bytes_of c.bytes)) qs b) e
+
+  -- and of the last
+  found_behind : (q : Pair K V) (qs : List (Pair K V)) (node : ℕ) → AllByRecursion (IsPairIn kp vp (live_of c.bytes) h) (q ∷ qs) → AllByRecursion (IsPairAt kp.SIZE kp.spelling vp.spelling (bytes_of c.bytes)) (q ∷ qs)
+      → Some node ≡ option_map pair_node (last_or (Some q) qs) → FoundAs kp vp c h (last_or (Some q) qs) node
+  found_behind q [] node a b e = record { pair = q; is = refl; at = some_same node (pair_node q) e; good = a.0; bytes = b.0 }
+  found_behind q (p ∷ ps) node a b e = found_behind p ps node a.1 b.1 e
+
+  pub found_final : (qs : List (Pair K V)) (node : ℕ) → AllByRecursion (IsPairIn kp vp (live_of c.bytes) h) qs → AllByRecursion (IsPairAt kp.SIZE kp.spelling vp.spelling (bytes_of c.bytes)) qs
+      → Some node ≡ option_map pair_node (final_pair qs) → FoundAs kp vp c h (final_pair qs) node
+  found_final [] node a b e = absurd (some_none node e)
+  found_final (q ∷ qs) node a b e = found_behind q qs node a b e
+
   -- its block has room
-  pub found_room : (past : Bool) (key : K) (qs : List (Pair K V)) (node : ℕ) → Found kp vp c h past key qs node → IsTrue (has_room (live_of c.bytes) node (16 + kp.SIZE + vp.SIZE))
-  found_room past key qs node f =
+  pub room_found : (o : Option (Pair K V)) (node : ℕ) → FoundAs kp vp c h o node → IsTrue (has_room (live_of c.bytes) node (16 + kp.SIZE + vp.SIZE))
+  room_found o node f =
       let p = f.pair in let at = f.at in
       let parts = and_parts (kp.is_value p.key && vp.is_value p.value) (serves p.node Node (16 + kp.SIZE + vp.SIZE)) f.good.good in
       let s = and_parts (same_role p.node.role Node) (holds p.node (16 + kp.SIZE + vp.SIZE)) parts.1 in
       any_at (λ (x : Extent). (handle x == node) && holds x (16 + kp.SIZE + vp.SIZE)) (live_of c.bytes).extents p.node (found_in (live_of c.bytes).extents (handle p.node) p.node f.good.listed)
       (and_from (handle p.node == node) (holds p.node (16 + kp.SIZE + vp.SIZE)) (eq-eqb (handle p.node) node (sym at)) s.1)
 
+  pub found_room : (past : Bool) (key : K) (qs : List (Pair K V)) (node : ℕ) → Found kp vp c h past key qs node → IsTrue (has_room (live_of c.bytes) node (16 + kp.SIZE + vp.SIZE))
+  found_room past key qs node f = room_found (first_pair kp.order past key qs) node f
+
   -- a found pair is answered
-  pub found_item : (kl : Laws kp) (vl : Laws vp) (past : Bool) (key : K) (qs : List (Pair K V)) (node : ℕ) (r : Option (K × V)) → Found kp vp c h past key qs node
+  pub item_found : (kl : Laws kp) (vl : Laws vp) (o : Option (Pair K V)) (node : ℕ) (r : Option (K × V)) → FoundAs kp vp c h o node
       → r ≡ both (value_of kp (read (bytes_of c.bytes) (node + 16) kp.SIZE)) (value_of vp (read (bytes_of c.bytes) (node + (16 + kp.SIZE)) vp.SIZE))
-      → r ≡ option_map item_of (first_pair kp.order past key qs)
-  found_item kl vl past key qs node r f e =
+      → r ≡ option_map item_of o
+  item_found kl vl o node r f e =
       let p = f.pair in let at = f.at in
       let parts = and_parts (kp.is_value p.key && vp.is_value p.value) (serves p.node Node (16 + kp.SIZE + vp.SIZE)) f.good.good in
       let values = and_parts (kp.is_value p.key) (vp.is_value p.value) parts.0 in
@@ -67,6 +96,11 @@ module _ {K V : Type 0} (kp : Plain K) (vp : Plain V) (c : Cut) (h : ℕ) where
       let k = ap (λ a. value_of kp (read (bytes_of c.bytes) a kp.SIZE)) first ∙ read_spelled kp kl (bytes_of c.bytes) (handle p.node + 16) p.key values.0 f.bytes.0 in
       let v = ap (λ a. value_of vp (read (bytes_of c.bytes) a vp.SIZE)) second ∙ read_spelled vp vl (bytes_of c.bytes) (handle p.node + 16 + kp.SIZE) p.value values.1 f.bytes.1 in
       e ∙ (λ i. both (k i) (v i)) ∙ ap (option_map item_of) (sym f.is)
+
+  pub found_item : (kl : Laws kp) (vl : Laws vp) (past : Bool) (key : K) (qs : List (Pair K V)) (node : ℕ) (r : Option (K × V)) → Found kp vp c h past key qs node
+      → r ≡ both (value_of kp (read (bytes_of c.bytes) (node + 16) kp.SIZE)) (value_of vp (read (bytes_of c.bytes) (node + (16 + kp.SIZE)) vp.SIZE))
+      → r ≡ option_map item_of (first_pair kp.order past key qs)
+  found_item kl vl past key qs node r f e = item_found kl vl (first_pair kp.order past key qs) node r f e
 
   -- the key that is read is that of the pair
   pub found_key : (kl : Laws kp) (past : Bool) (key : K) (qs : List (Pair K V)) (node : ℕ) (r : Option K) → (f : Found kp vp c h past key qs node)

@@ -11,3 +11,5 @@ pub use Rattle.seg_map.proofs.Leaving.{apart_all}
 -- a map whose blocks stay stays
 pub use Rattle.seg_map.proofs.Entering.{Laws}
 pub use Rattle.seg_map.proofs.Staying.{Still, map_stays}
+-- the last of what is made of each, and what is made of each the other way round
+pub use Rattle.seg_map.proofs.FoundLists.{last_mapped, map_reversed}

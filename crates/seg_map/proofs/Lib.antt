@@ -1,5 +1,6 @@
 mod PairSteps
 mod Payloads
+mod FoundLists
 mod Entering
 mod Searching
 mod FoundPairs

@@ -1,6 +1,6 @@
 -- A map at a place in a block of a heap.
-use Rattle.std.specs.Prelude.{◌≡◌, ◌≢◌, ℕ, ◌+◌, ◌*◌, ◌%◌, ◌≤◌, Bool, true, not, Option, Some, List, find, map, option_map, length, if◌then◌else◌, IsTrue}
-use Rattle.std.specs.List.{AllByRecursion}
+use Rattle.std.specs.Prelude.{◌≡◌, ◌≢◌, ℕ, ◌+◌, ◌*◌, ◌%◌, ◌≤◌, Bool, true, not, Option, Some, None, List, find, map, option_map, length, reverse, if◌then◌else◌, IsTrue}
+use Rattle.std.specs.List.{AllByRecursion, last_or}
 use Rattle.raw_region.specs.Format.{current}
 use Rattle.raw_region.specs.Memory.{bytes_of}
 use Rattle.link_tree.specs.Tree.{bits}
@@ -43,6 +43,14 @@ is_passed less past key p = if past then not (less key p.key) else less p.key ke
 abbrev pub first_pair : {K V : Type 0} → (K → K → Bool) → Bool → K → List (Pair K V) → Option (Pair K V)
 first_pair less past key ps = find (λ p. not (is_passed less past key p)) ps
 
+-- the last pair that is below the key, or that is not above it
+abbrev pub last_pair : {K V : Type 0} → (K → K → Bool) → Bool → K → List (Pair K V) → Option (Pair K V)
+last_pair less past key ps = find (is_passed less past key) (reverse ps)
+
+-- the last pair of all
+abbrev pub final_pair : {K V : Type 0} → List (Pair K V) → Option (Pair K V)
+final_pair ps = last_or None ps
+
 -- what is answered of a pair
 abbrev pub item_of : {K V : Type 0} → Pair K V → K × V
 item_of p = (p.key, p.value)
@@ -55,6 +63,19 @@ FindsNode {K} {V} k v b h at past key r = (ps : List (Pair K V)) → HoldsMap k 
 
 abbrev pub FindsItem : {K V : Type 0} → Plain K → Plain V → List ℕ → ℕ → ℕ → Bool → K → Option (K × V) → Type 0
 FindsItem {K} {V} k v b h at past key r = (ps : List (Pair K V)) → HoldsMap k v b h at ps → r ≡ option_map item_of (first_pair k.order past key ps)
+
+-- the same of the other way: from the last pair back
+abbrev pub FindsNodeBefore : {K V : Type 0} → Plain K → Plain V → List ℕ → ℕ → ℕ → Bool → K → Option ℕ → Type 0
+FindsNodeBefore {K} {V} k v b h at past key r = (ps : List (Pair K V)) → HoldsMap k v b h at ps → r ≡ option_map pair_node (last_pair k.order past key ps)
+
+abbrev pub FindsItemBefore : {K V : Type 0} → Plain K → Plain V → List ℕ → ℕ → ℕ → Bool → K → Option (K × V) → Type 0
+FindsItemBefore {K} {V} k v b h at past key r = (ps : List (Pair K V)) → HoldsMap k v b h at ps → r ≡ option_map item_of (last_pair k.order past key ps)
+
+abbrev pub FindsLastNode : {K V : Type 0} → Plain K → Plain V → List ℕ → ℕ → ℕ → Option ℕ → Type 0
+FindsLastNode {K} {V} k v b h at r = (ps : List (Pair K V)) → HoldsMap k v b h at ps → r ≡ option_map pair_node (final_pair ps)
+
+abbrev pub FindsLastItem : {K V : Type 0} → Plain K → Plain V → List ℕ → ℕ → ℕ → Option (K × V) → Type 0
+FindsLastItem {K} {V} k v b h at r = (ps : List (Pair K V)) → HoldsMap k v b h at ps → r ≡ option_map item_of (final_pair ps)
 
 abbrev pub FindsValue : {K V : Type 0} → Plain K → Plain V → List ℕ → ℕ → ℕ → K → Option V → Type 0
 FindsValue {K} {V} k v b h at key r = (ps : List (Pair K V)) → HoldsMap k v b h at ps → r ≡ option_map value_of_pair (pair_at k.order ps key)

@@ -1,5 +1,5 @@
 -- The steps of a search in a map, one by one: those of its path, from the root of the tree of its pairs down.
-use Rattle.std.specs.Prelude.{◌≡◌, ℕ, ◌+◌, Bool, Option, Some, None, List}
+use Rattle.std.specs.Prelude.{◌≡◌, ℕ, ◌+◌, Bool, true, Option, Some, None, List}
 use Rattle.raw_region.specs.Memory.{Cut}
 use Rattle.link_tree.specs.Searching.{path_length}
 use Rattle.link_tree.specs.Tree.{Tree, nodes_of}
@@ -7,7 +7,7 @@ use Rattle.seg_types.specs.declared.plain.Plain.{Ghosts as Plain}
 use Rattle.seg_map.specs.Linking.{keys_in}
 use Rattle.seg_map.specs.Map.{Pair}
 use Rattle.seg_map.specs.PairNodes.{stands_before}
-use Rattle.seg_map.specs.Places.{HoldsMap, first_pair}
+use Rattle.seg_map.specs.Places.{HoldsMap, final_pair, first_pair, last_pair}
 
 -- the nodes that a search goes to, for the first pair that is not below a key, or that is above it
 abbrev pub path_in : {K : Type 0} → Plain K → Cut → Bool → K → Tree → ℕ
@@ -27,3 +27,20 @@ reading_steps (Some x) = 1
 abbrev pub LookUpTakes : {K V : Type 0} → Plain K → Plain V → Cut → ℕ → ℕ → Bool → K → ℕ → ℕ → Type 0
 LookUpTakes {K} {V} k v c h at past key before after =
     (ps : List (Pair K V)) (s : HoldsMap k v c.bytes h at ps) → after ≡ before + path_in k c past key s.map.tree.tree + reading_steps (first_pair k.order past key ps)
+
+-- So does one that looks back: it goes down the same path as the look-up of that key.
+abbrev pub LookBackTakes : {K V : Type 0} → Plain K → Plain V → Cut → ℕ → ℕ → Bool → K → ℕ → ℕ → Type 0
+LookBackTakes {K} {V} k v c h at past key before after =
+    (ps : List (Pair K V)) (s : HoldsMap k v c.bytes h at ps) → after ≡ before + path_in k c past key s.map.tree.tree + reading_steps (last_pair k.order past key ps)
+
+-- the path to the last pair goes to the right from each node
+abbrev pub last_path : Tree → ℕ
+last_path t = path_length (λ n. true) t
+
+abbrev pub LastSearchTakes : {K V : Type 0} → Plain K → Plain V → Cut → ℕ → ℕ → ℕ → ℕ → Type 0
+LastSearchTakes {K} {V} k v c h at before after =
+    (ps : List (Pair K V)) (s : HoldsMap k v c.bytes h at ps) → after ≡ before + last_path s.map.tree.tree
+
+abbrev pub LastTakes : {K V : Type 0} → Plain K → Plain V → Cut → ℕ → ℕ → ℕ → ℕ → Type 0
+LastTakes {K} {V} k v c h at before after =
+    (ps : List (Pair K V)) (s : HoldsMap k v c.bytes h at ps) → after ≡ before + last_path s.map.tree.tree + reading_steps (final_pair ps)

@@ -5,14 +5,14 @@ ghost use Rattle.best_fit.specs.Extents.{is_proper};
 ghost use Rattle.best_fit.specs.Heap.{has_room, live_of};
 ghost use Rattle.seg_types.specs.Plain.{value_in};
 ghost use Rattle.seg_map.specs.PairNodes.{both};
-ghost use Rattle.seg_map.specs.Places.{FindsItem, FindsKey, FindsNode, FindsValue, IsSomeMap, SearchSteps};
-ghost use Rattle.seg_map.specs.Searches.{LookUpTakes, SearchTakes};
+ghost use Rattle.seg_map.specs.Places.{FindsItem, FindsItemBefore, FindsKey, FindsLastItem, FindsLastNode, FindsNode, FindsNodeBefore, FindsValue, IsSomeMap, SearchSteps};
+ghost use Rattle.seg_map.specs.Searches.{LastSearchTakes, LastTakes, LookBackTakes, LookUpTakes, SearchTakes};
 
 use crate::nodes::Reading;
 use crate::owned::Own;
 use crate::reading::{KEY, Sought, value_at};
 use best_fit::Heap;
-use link_tree::find_first_not_before;
+use link_tree::{find_first_not_before, find_last, find_last_before};
 use raw_region::Steps;
 use seg_types::Plain;
 use std::marker::PhantomData;
@@ -38,6 +38,55 @@ fn seek<K: Plain, V: Plain>(
         keys: PhantomData,
     };
     let found = find_first_not_before(&pairs, root, sought);
+    steps.add(found.steps);
+    found.node
+}
+
+/// The node of the last pair that stands before what is looked for.
+fn seek_back<K: Plain, V: Plain>(
+    heap: &Heap,
+    handle: u64,
+    at: u64,
+    sought: &Sought<K>,
+    steps: &mut Steps,
+) -> Option<u64>
+    requires map { IsSomeMap K.Plain V.Plain heap.now.bytes handle at }
+    ensures found { FindsNodeBefore K.Plain V.Plain heap.now.bytes handle at sought.now.past sought.now.key result }
+    ensures counted { steps.old ≤ steps.new }
+    ensures steps { SearchSteps K.Plain V.Plain heap.now.bytes handle at 0 steps.old steps.new }
+    ensures exact { SearchTakes K.Plain V.Plain heap.now handle at sought.now.past sought.now.key steps.old steps.new }
+{
+    let root = heap.link(handle, at);
+    let pairs = Reading::<K> {
+        heap,
+        own: Own::new(heap, root, None),
+        keys: PhantomData,
+    };
+    let found = find_last_before(&pairs, root, sought);
+    steps.add(found.steps);
+    found.node
+}
+
+/// The node of the last pair of all.
+fn seek_last<K: Plain, V: Plain>(
+    heap: &Heap,
+    handle: u64,
+    at: u64,
+    steps: &mut Steps,
+) -> Option<u64>
+    requires map { IsSomeMap K.Plain V.Plain heap.now.bytes handle at }
+    ensures found { FindsLastNode K.Plain V.Plain heap.now.bytes handle at result }
+    ensures counted { steps.old ≤ steps.new }
+    ensures steps { SearchSteps K.Plain V.Plain heap.now.bytes handle at 0 steps.old steps.new }
+    ensures exact { LastSearchTakes K.Plain V.Plain heap.now handle at steps.old steps.new }
+{
+    let root = heap.link(handle, at);
+    let pairs = Reading::<K> {
+        heap,
+        own: Own::new(heap, root, None),
+        keys: PhantomData,
+    };
+    let found = find_last(&pairs, root);
     steps.add(found.steps);
     found.node
 }
@@ -113,6 +162,62 @@ pub fn next_after<K: Plain, V: Plain>(
     ensures exact { LookUpTakes K.Plain V.Plain heap.now handle at true key steps.old steps.new }
 {
     let node = seek::<K, V>(heap, handle, at, &Sought { key, past: true }, steps)?;
+    steps.add(1);
+    item(heap, node)
+}
+
+/// The key and the value of the pair with the greatest key that is not above `key`.
+pub fn last_up_to<K: Plain, V: Plain>(
+    heap: &Heap,
+    handle: u64,
+    at: u64,
+    key: K,
+    steps: &mut Steps,
+) -> Option<(K, V)>
+    requires map { IsSomeMap K.Plain V.Plain heap.now.bytes handle at }
+    ensures item { FindsItemBefore K.Plain V.Plain heap.now.bytes handle at true key result }
+    ensures counted { steps.old ≤ steps.new }
+    ensures steps { SearchSteps K.Plain V.Plain heap.now.bytes handle at 1 steps.old steps.new }
+    ensures exact { LookBackTakes K.Plain V.Plain heap.now handle at true key steps.old steps.new }
+{
+    let node = seek_back::<K, V>(heap, handle, at, &Sought { key, past: true }, steps)?;
+    steps.add(1);
+    item(heap, node)
+}
+
+/// The key and the value of the pair with the greatest key below `key`.
+pub fn previous_before<K: Plain, V: Plain>(
+    heap: &Heap,
+    handle: u64,
+    at: u64,
+    key: K,
+    steps: &mut Steps,
+) -> Option<(K, V)>
+    requires map { IsSomeMap K.Plain V.Plain heap.now.bytes handle at }
+    ensures item { FindsItemBefore K.Plain V.Plain heap.now.bytes handle at false key result }
+    ensures counted { steps.old ≤ steps.new }
+    ensures steps { SearchSteps K.Plain V.Plain heap.now.bytes handle at 1 steps.old steps.new }
+    ensures exact { LookBackTakes K.Plain V.Plain heap.now handle at false key steps.old steps.new }
+{
+    let node = seek_back::<K, V>(heap, handle, at, &Sought { key, past: false }, steps)?;
+    steps.add(1);
+    item(heap, node)
+}
+
+/// The key and the value of the pair with the greatest key.
+pub fn last<K: Plain, V: Plain>(
+    heap: &Heap,
+    handle: u64,
+    at: u64,
+    steps: &mut Steps,
+) -> Option<(K, V)>
+    requires map { IsSomeMap K.Plain V.Plain heap.now.bytes handle at }
+    ensures item { FindsLastItem K.Plain V.Plain heap.now.bytes handle at result }
+    ensures counted { steps.old ≤ steps.new }
+    ensures steps { SearchSteps K.Plain V.Plain heap.now.bytes handle at 1 steps.old steps.new }
+    ensures exact { LastTakes K.Plain V.Plain heap.now handle at steps.old steps.new }
+{
+    let node = seek_last::<K, V>(heap, handle, at, steps)?;
     steps.add(1);
     item(heap, node)
 }

@@ -3,8 +3,8 @@ ghost use Rattle.std.specs.Prelude.{◌≡◌, ◌+◌, ◌%◌, ◌≤◌, IsTr
 ghost use Rattle.best_fit.specs.Extents.{is_proper};
 ghost use Rattle.best_fit.specs.Heap.{has_room, live_of};
 ghost use Rattle.seg_map.specs.Changing.{ChangeSteps, CountsPairs, Erases, IsNew, Puts, Releases};
-ghost use Rattle.seg_map.specs.Places.{FindsItem, FindsValue, IsSomeMap, SearchSteps};
-ghost use Rattle.seg_map.specs.Searches.{LookUpTakes};
+ghost use Rattle.seg_map.specs.Places.{FindsItem, FindsItemBefore, FindsLastItem, FindsValue, IsSomeMap, SearchSteps};
+ghost use Rattle.seg_map.specs.Searches.{LastTakes, LookBackTakes, LookUpTakes};
 
 use crate::places::Place;
 use crate::releasing::give_up_all;
@@ -89,6 +89,39 @@ impl<K: Plain, V: Plain> SegMap<K, V> {
         ensures exact { LookUpTakes K.Plain V.Plain heap.now self.place.handle self.place.at true key steps.old steps.new }
     {
         finding::next_after::<K, V>(heap, self.place.handle, self.place.at, key, steps)
+    }
+
+    /// The key and the value of the pair with the greatest key.
+    pub fn last(self, heap: &Heap, steps: &mut Steps) -> Option<(K, V)>
+        requires { IsSomeMap K.Plain V.Plain heap.now.bytes self.place.handle self.place.at }
+        ensures item { FindsLastItem K.Plain V.Plain heap.now.bytes self.place.handle self.place.at result }
+        ensures counted { steps.old ≤ steps.new }
+        ensures steps { SearchSteps K.Plain V.Plain heap.now.bytes self.place.handle self.place.at 1 steps.old steps.new }
+        ensures exact { LastTakes K.Plain V.Plain heap.now self.place.handle self.place.at steps.old steps.new }
+    {
+        finding::last::<K, V>(heap, self.place.handle, self.place.at, steps)
+    }
+
+    /// The key and the value of the pair with the greatest key that is not above `key`.
+    pub fn last_up_to(self, heap: &Heap, key: K, steps: &mut Steps) -> Option<(K, V)>
+        requires { IsSomeMap K.Plain V.Plain heap.now.bytes self.place.handle self.place.at }
+        ensures item { FindsItemBefore K.Plain V.Plain heap.now.bytes self.place.handle self.place.at true key result }
+        ensures counted { steps.old ≤ steps.new }
+        ensures steps { SearchSteps K.Plain V.Plain heap.now.bytes self.place.handle self.place.at 1 steps.old steps.new }
+        ensures exact { LookBackTakes K.Plain V.Plain heap.now self.place.handle self.place.at true key steps.old steps.new }
+    {
+        finding::last_up_to::<K, V>(heap, self.place.handle, self.place.at, key, steps)
+    }
+
+    /// The key and the value of the pair with the greatest key below `key`.
+    pub fn previous_before(self, heap: &Heap, key: K, steps: &mut Steps) -> Option<(K, V)>
+        requires { IsSomeMap K.Plain V.Plain heap.now.bytes self.place.handle self.place.at }
+        ensures item { FindsItemBefore K.Plain V.Plain heap.now.bytes self.place.handle self.place.at false key result }
+        ensures counted { steps.old ≤ steps.new }
+        ensures steps { SearchSteps K.Plain V.Plain heap.now.bytes self.place.handle self.place.at 1 steps.old steps.new }
+        ensures exact { LookBackTakes K.Plain V.Plain heap.now self.place.handle self.place.at false key steps.old steps.new }
+    {
+        finding::previous_before::<K, V>(heap, self.place.handle, self.place.at, key, steps)
     }
 
     /// Puts the value of a key, and answers whether the key is new. All other pairs keep their blocks, and so does this one

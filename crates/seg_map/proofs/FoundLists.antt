@@ -1,0 +1,41 @@
+-- What is found in a list of nodes, and in a list from its end.
+use Rattle.std.proofs.Common.{◌≡◌, refl, sym, ap, subst, ◌∙◌, ℕ, inl, inr, Bool, true, false, List, [], ◌∷◌, ◌++◌, map}
+use mathlib.Core.List.{reverse, reverse-cons}
+use Rattle.std.specs.Prelude.{Option, Some, None, find, option_map}
+use Rattle.std.specs.List.{AllByRecursion, last_or}
+use Rattle.std.proofs.lemmas.Bool.{cases_Bool, cond-true, cond-false}
+
+all_append : {A : Type 0} (P : A → Type 0) (xs ys : List A) → AllByRecursion P xs → AllByRecursion P ys → AllByRecursion P (xs ++ ys)
+all_append P [] ys a b = b
+all_append P (x ∷ xs) ys a b = (a.0, all_append P xs ys a.1 b)
+
+-- what holds of each holds of each of them the other way round
+pub all_reversed : {A : Type 0} (P : A → Type 0) (xs : List A) → AllByRecursion P xs → AllByRecursion P (reverse xs)
+all_reversed P [] a = tt
+all_reversed P (x ∷ xs) a =
+    subst (AllByRecursion P) (sym (reverse-cons x xs)) (all_append P (reverse xs) (x ∷ []) (all_reversed P xs a.1) (a.0, tt))
+
+map_append : {A B : Type 0} (f : A → B) (xs ys : List A) → map f (xs ++ ys) ≡ map f xs ++ map f ys
+map_append f [] ys = refl
+map_append f (x ∷ xs) ys = ap (λ zs. f x ∷ zs) (map_append f xs ys)
+
+pub map_reversed : {A B : Type 0} (f : A → B) (xs : List A) → reverse (map f xs) ≡ map f (reverse xs)
+map_reversed f [] = refl
+map_reversed f (x ∷ xs) =
+    reverse-cons (f x) (map f xs) ∙ ap (λ zs. zs ++ f x ∷ []) (map_reversed f xs)
+    ∙ sym (ap (map f) (reverse-cons x xs) ∙ map_append f (reverse xs) (x ∷ []))
+
+-- where a test says of what is made of each what another says of it, the first that passes is made of the first that passes
+pub find_mapped : {A B : Type 0} (f : A → B) (test : B → Bool) (test' : A → Bool) (xs : List A) → AllByRecursion (λ x. test (f x) ≡ test' x) xs
+    → find test (map f xs) ≡ option_map f (find test' xs)
+find_mapped f test test' [] a = refl
+find_mapped f test test' (x ∷ xs) a =
+    let rest = find_mapped f test test' xs a.1 in
+    elim (cases_Bool (test' x)) [
+      | inl e ↦ cond-true (test (f x)) (Some (f x)) (find test (map f xs)) (a.0 ∙ e) ∙ ap (option_map f) (sym (cond-true (test' x) (Some x) (find test' xs) e))
+      | inr e ↦ cond-false (test (f x)) (Some (f x)) (find test (map f xs)) (a.0 ∙ e) ∙ rest ∙ ap (option_map f) (sym (cond-false (test' x) (Some x) (find test' xs) e))
+    ]
+
+pub last_mapped : {A B : Type 0} (f : A → B) (o : Option A) (xs : List A) → last_or (option_map f o) (map f xs) ≡ option_map f (last_or o xs)
+last_mapped f o [] = refl
+last_mapped f o (x ∷ xs) = last_mapped f (Some x) xs

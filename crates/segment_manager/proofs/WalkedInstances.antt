@@ -1,12 +1,14 @@
 -- The places of an iterator over the objects of an index.
-use Rattle.std.proofs.Common.{sym, ap, subst, ◌∙◌, ℕ, ◌<◌, ◌≤◌, Some, None, List, length}
+use Rattle.std.proofs.Common.{◌≡◌, sym, ap, subst, ◌∙◌, ℕ, ◌<◌, ◌≤◌, Some, None, List, length}
 use Rattle.std.specs.Prelude.{option_map, slice_get}
 use Rattle.std.proofs.lemmas.Option.{slice_get-map, slice_get_past}
+use Rattle.seg_index.specs.declared.index.Index.TheVariants.{Named}
 use Rattle.segment_manager.specs.declared.telling.Instance.{Instance}
 use Rattle.segment_manager.specs.Directory.{Directory, Object, named_objects}
 use Rattle.segment_manager.specs.Found.{IsBelow}
 use Rattle.segment_manager.specs.Instances.{SaysAt}
-use Rattle.segment_manager.specs.Iterating.{names_of}
+use Rattle.segment_manager.specs.Indexed.{objects_of}
+use Rattle.segment_manager.specs.Iterating.{GoesOn, GoesOnNames, NameWalk, Walk, names_of}
 use Rattle.segment_manager.specs.State.{Answers, State, StandsFor}
 
 -- a place below the number of them has an object
@@ -28,4 +30,23 @@ name-said s at said h = record {
 pub name-past : (s : State) (at : ℕ) → ((d : Directory) → StandsFor s.cut.bytes d → length (named_objects d) ≤ at) → Answers s (λ d. slice_get (names_of d) at) None
 name-past s at h = record {
   answers = λ d k. sym (slice_get-map (λ (o : Object). o.name) (named_objects d) at ∙ ap (option_map (λ (o : Object). o.name)) (slice_get_past (named_objects d) at (h d k)));
+}
+
+-- an iterator over the named objects gives their names
+abbrev pub names_walk : Walk → NameWalk
+names_walk w = record { segment = w.segment; at = w.at }
+
+pub names-end : {A : Type 0} (seen : A → List ℕ) (old new : Walk) → old.index ≡ Named → GoesOn old None new → GoesOnNames seen (names_walk old) None (names_walk new)
+names-end seen old new e g = record {
+  segment = g.segment;
+  place = g.place;
+  says = name-past old.segment old.at (λ d k. subst (λ i. length (objects_of i d) ≤ old.at) e (g.says d k));
+}
+
+pub names-go_on : {A : Type 0} (seen : A → List ℕ) (name : A) (old new : Walk) (said : Instance) → seen name ≡ said.name.now → old.index ≡ Named → GoesOn old (Some said) new
+    → GoesOnNames seen (names_walk old) (Some name) (names_walk new)
+names-go_on seen name old new said f e g = record {
+  segment = g.segment;
+  place = g.place;
+  says = subst (λ bytes. Answers old.segment (λ d. slice_get (names_of d) old.at) (Some bytes)) (sym f) (name-said old.segment old.at said (subst (λ i. SaysAt old.segment (objects_of i) old.at said) e g.says));
 }

@@ -1,10 +1,11 @@
 //! The pairs of a map that was located, those with keys between two bounds, one after another.
-ghost use Rattle.std.specs.Prelude.{◌≡◌, Some, option_map, slice_get};
+ghost use Rattle.std.specs.Prelude.{◌≡◌, option_map, slice_get};
 ghost use Rattle.std.specs.Iterator.{at_most};
 ghost use Rattle.std.specs.Range.Bound.{bound_map};
 ghost use Rattle.std.specs.declared.ops.Bound.TheVariants.{Unbounded};
 ghost use Rattle.seg_types.specs.Kinds.{lowest as lowest_of};
 ghost use Rattle.seg_types.specs.Names.{ByHandle};
+ghost use Rattle.seg_types.specs.Values.{kind_of_scalar, value_of_scalar};
 ghost use Rattle.segment_manager.specs.Located.{IsObject};
 ghost use Rattle.segment_manager.specs.Maps.{numbers_in, pair_result, told_of_map};
 ghost use Rattle.segment_manager.specs.State.{Answers};
@@ -13,10 +14,14 @@ ghost use Rattle.seg_map.specs.Places.{item_of};
 ghost use Rattle.segment_views.specs.Ranged.{GoesOnPairs, is_up_to as is_up_to_end, pair_or_none as pair_of, range_of};
 
 use crate::elements::number_or_none;
-use seg_types::{Refusal, Scalar, ScalarKind};
+use seg_types::theorems::scalar_is_number;
+use seg_types::{Refusal, Scalar, ScalarKind, ScalarValue};
 use segment_manager::{Object, Segment};
 use std::marker::{Model, PhantomData};
 use std::ops::Bound;
+
+/// The longest spelling of a scalar, in bytes.
+const LONGEST: usize = 8;
 
 /// The pairs of a map with keys in a range, one after another by rising keys. There are none where the object is no such map.
 /// Each is looked for from the root of the tree.
@@ -83,10 +88,10 @@ impl<'a, K: Scalar, V: Scalar> Iterator for MapItems<'a, K, V> {
         }
         match first_between(self.segment, &self.object, self.start, self.end) {
             None => None,
-            Some((key, value)) => {
-                self.start = Bound::Excluded(key);
+            Some(pair) => {
+                self.start = Bound::Excluded(pair.0);
                 self.left -= 1;
-                Some((key, value))
+                Some(pair)
             }
         }
     }
@@ -104,9 +109,9 @@ fn first_between<K: Scalar, V: Scalar>(
 {
     match first_from(segment, object, start) {
         None => None,
-        Some((key, value)) => {
-            if is_up_to(end, key) {
-                Some((key, value))
+        Some(pair) => {
+            if is_up_to(end, pair.0) {
+                Some(pair)
             } else {
                 None
             }
@@ -146,22 +151,33 @@ pub(crate) fn first_of_all<K: Scalar, V: Scalar>(
     requires { IsObject object.now segment.now }
     ensures { Answers segment.now (λ d. told_of_map d (ByHandle object.now.handle) K.kind V.kind (λ ps. option_map item_of (first_of ps))) (pair_result K.whole V.whole result) }
 {
-    match lowest::<K>() {
-        None => Ok(None),
-        Some(least) => segment.map_first_from::<K, V, Object>(object, least),
+    segment.map_first_from::<K, V, Object>(object, lowest())
+}
+
+/// The least value of a scalar type.
+fn lowest<T: Scalar>() -> T
+    ensures { T.whole result ≡ lowest_of T.kind }
+{
+    let mut bytes = [0; LONGEST];
+    let spelling = &mut bytes[..T::SIZE as usize];
+    least_value(T::kind()).write(spelling);
+    match scalar_is_number::<T>(spelling) {
+        Some(value) => value,
+        None => unreachable!(),
     }
 }
 
-/// The least value of a scalar type. The bytes spell it, so there is one.
-fn lowest<T: Scalar>() -> Option<T>
-    ensures { option_map T.whole result ≡ Some (lowest_of T.kind) }
+/// The least value of a kind.
+fn least_value(kind: ScalarKind) -> ScalarValue
+    ensures kind { kind_of_scalar result ≡ kind }
+    ensures value { value_of_scalar result ≡ lowest_of kind }
 {
-    match T::kind() {
-        ScalarKind::Bool => T::read(&[0]),
-        ScalarKind::U8 => T::read(&[0]),
-        ScalarKind::I32 => T::read(&[0, 0, 0, 128]),
-        ScalarKind::I64 => T::read(&[0, 0, 0, 0, 0, 0, 0, 128]),
-        ScalarKind::U64 => T::read(&[0, 0, 0, 0, 0, 0, 0, 0]),
+    match kind {
+        ScalarKind::Bool => ScalarValue::Bool(false),
+        ScalarKind::U8 => ScalarValue::U8(0),
+        ScalarKind::I32 => ScalarValue::I32(i32::MIN),
+        ScalarKind::I64 => ScalarValue::I64(i64::MIN),
+        ScalarKind::U64 => ScalarValue::U64(0),
     }
 }
 

@@ -17,5 +17,5 @@ set_any-requires-clause-of_kind c = subst (λ j. Answers c.args.segment.now (λ 
 pub returns-in-Ok-clause-step : goal.returns-in-Ok-clause-step
 returns-in-Ok-clause-step c =
     let said = c.in-Ok.ensures in
-    set-step c.args.segment.now c.set_any.new.self (ByHandle c.args.object.handle) c.args.kind c.args.index (literal_seen c.args.value) c.in-Ok.element (done_answer c.set_any.result)
+    set-step c.args.segment.now c.set_any.new.segment (ByHandle c.args.object.handle) c.args.kind c.args.index (literal_seen c.args.value) c.in-Ok.element (done_answer c.set_any.result)
     c.requires.elements said.0 said.1 said.2 c.set_any.ensures.step

@@ -1,0 +1,10 @@
+-- The values up to the place are the first elements.
+use Rattle.std.proofs.Common.{◌≡◌, map, take}
+use Rattle.seg_types.specs.Names.{ByHandle}
+use Rattle.segment_manager.specs.Directory.{Directory}
+use Rattle.segment_manager.specs.ElementLists.{vector_at}
+use Rattle.segment_manager.specs.State.{StandsFor}
+use Rattle.segment_views.proofs.copying.copy_vector.Given as goal
+
+abbrev pub invariant-places : goal.invariant-places
+invariant-places g l = (d : Directory) → StandsFor l.segment.now.cut.bytes d → map g.T.Scalar.whole (take l.i l.values) ≡ take l.i (vector_at d (ByHandle l.object.now.handle) g.T.Scalar.kind)

@@ -1,0 +1,24 @@
+-- What the search from the bound finds.
+use Rattle.std.proofs.Common.{refl, sym, subst}
+use Rattle.std.specs.Prelude.{option_map, slice_get}
+use Rattle.std.specs.Range.Bound.{bound_map}
+use Rattle.std.specs.declared.ops.Bound.TheVariants.{Included, Excluded, Unbounded}
+use Rattle.seg_types.specs.Names.{ByHandle}
+use Rattle.seg_map.specs.Places.{item_of}
+use Rattle.segment_manager.specs.Maps.{numbers_in, pair_above, pair_from}
+use Rattle.segment_manager.specs.State.{Answers}
+use Rattle.segment_manager.specs.Walks.{first_of, pairs_at_kinds}
+use Rattle.segment_views.specs.Ranged.{range_of}
+use Rattle.segment_views.proofs.Ranges.{above-ranged, all-ranged, from-ranged}
+use Rattle.segment_views.proofs.RangeReads.{reads-told}
+use Rattle.segment_views.proofs.ranges.first_from.Goals as goal
+
+pub returns-in-Included : goal.returns-in-Included
+returns-in-Included g c =
+    let s = c.args.segment.now in
+    let key = ByHandle c.args.object.now.handle in
+    let from = g.K.Scalar.whole c.in-Included.from in
+    let read = reads-told s key g.K.Scalar.kind g.V.Scalar.kind g.K.Scalar.whole g.V.Scalar.whole (pair_from from) (λ ps. slice_get (range_of (Included from) Unbounded ps) 0) (from-ranged from) refl
+    c.map_first_from.result c.map_first_from.ensures in
+    subst (λ b. Answers s (λ d. slice_get (range_of (bound_map g.K.Scalar.whole b) Unbounded (pairs_at_kinds d key g.K.Scalar.kind g.V.Scalar.kind)) 0) (numbers_in g.K.Scalar.whole g.V.Scalar.whole c.pair_or_none.result)) (sym c.in-Included.is)
+    (subst (λ o. Answers s (λ d. slice_get (range_of (Included from) Unbounded (pairs_at_kinds d key g.K.Scalar.kind g.V.Scalar.kind)) 0) (numbers_in g.K.Scalar.whole g.V.Scalar.whole o)) (sym c.pair_or_none.ensures) read)

@@ -2,8 +2,10 @@
 ghost use Rattle.std.specs.Prelude.{◌≡◌, OnErr};
 ghost use Rattle.seg_types.specs.Commands.{Lookup, Put, Remove};
 ghost use Rattle.seg_types.specs.Keys.{key_seen};
+ghost use Rattle.segment_manager.specs.Keeping.{KeepsWhere};
 ghost use Rattle.segment_manager.specs.Maps.{any_value_answer};
 ghost use Rattle.segment_manager.specs.State.{IsReply, IsStep, truth_answer};
+ghost use Rattle.segment_values.specs.Absent.{LacksLiteral};
 ghost use Rattle.segment_values.specs.Literals.{literal_seen};
 
 use crate::objects::object_to_change;
@@ -64,7 +66,8 @@ pub fn look_up(
     }
 }
 
-/// Takes the pair with the key that a literal is out of the map of a key, and answers whether there was one.
+/// Takes the pair with the key that a literal is out of the map of a key, and answers whether there was one. Where there was
+/// none, nothing changes.
 ///
 /// # Errors
 ///
@@ -73,6 +76,7 @@ pub fn look_up(
 pub fn erase_pair(segment: &mut Segment, key: &Key, at: ScalarValue) -> Result<bool, Refusal>
     ensures step { IsStep segment.old segment.new (Remove (key_seen key.now) (literal_seen at)) (truth_answer result) }
     ensures refused { OnErr result (segment.new ≡ segment.old) }
+    ensures absent { KeepsWhere segment.old segment.new (LacksLiteral (key_seen key.now) (literal_seen at)) }
 {
     match object_to_change(segment, key) {
         Err(why) => Err(why),

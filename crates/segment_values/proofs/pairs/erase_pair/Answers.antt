@@ -8,6 +8,7 @@ use Rattle.segment_values.specs.Literals.{literal_seen}
 use Rattle.segment_manager.specs.Calls.{kind_at}
 use Rattle.segment_manager.specs.State.{Answers, truth_answer}
 use Rattle.segment_manager.proofs.Laws.{kind-by_key, step_of_kind-by_key}
+use Rattle.segment_values.proofs.AbsentPairs.{erases-absent}
 use Rattle.segment_values.proofs.PairCalls.{remove-no_map, remove-no_value, remove-unchangeable, removes-key}
 use Rattle.segment_values.proofs.pairs.erase_pair.Goals as goal
 
@@ -26,6 +27,11 @@ returns-in-Ok-value_as-clause-step c =
     (subst (λ (k : Kind). Answers c.args.segment.now (λ d. kind_at d (key_seen c.args.key.now)) (Ok k)) c.in-Map.is (kind-by_key c.args.segment.now (key_seen c.args.key.now) c.in-Ok.object c.in-Ok.ensures.located))
     c.in-Ok-value_as.ensures
     (step_of_kind-by_key c.args.segment.now (key_seen c.args.key.now) c.in-Ok.object c.in-Ok.ensures.located c.map_erase_any.new.self (Map _ c.in-Map.values) (Remove (key_seen c.args.key.now) _) (truth_answer c.map_erase_any.result) c.map_erase_any.ensures.step)
+
+pub returns-in-Ok-value_as-clause-absent : goal.returns-in-Ok-value_as-clause-absent
+returns-in-Ok-value_as-clause-absent c =
+    erases-absent c.args.segment.now c.map_erase_any.new.self (key_seen c.args.key.now) c.in-Ok.object c.in-Map.keys c.in-Map.values (literal_seen c.args.at) c.in-Ok-value_as.gone
+    c.in-Ok.ensures.located c.in-Map.is c.in-Ok-value_as.ensures c.map_erase_any.ensures.absent
 
 pub returns-in_default-clause-step : goal.returns-in_default-clause-step
 returns-in_default-clause-step c =

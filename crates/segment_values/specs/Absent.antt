@@ -1,0 +1,18 @@
+-- Keys that a map lacks, as literals say them.
+use Rattle.std.specs.Prelude.{◌≡◌, ℤ, Ok}
+use Rattle.seg_types.specs.declared.kinds.Kind.TheVariants.{Map}
+use Rattle.seg_types.specs.declared.kinds.ScalarKind.{ScalarKind}
+use Rattle.seg_types.specs.Commands.{Literal, value_of_literal}
+use Rattle.seg_types.specs.Names.{Key}
+use Rattle.segment_manager.specs.Calls.{kind_at}
+use Rattle.segment_manager.specs.Directory.{Directory}
+use Rattle.segment_manager.specs.Keeping.{LacksPair}
+
+-- the object of the key is a map, and has not the key that the literal is
+pub record LacksLiteral (key : Key) (l : Literal) (d : Directory) : Type 0 where
+  pub keys : ScalarKind
+  pub values : ScalarKind
+  pub is : kind_at d key ≡ Ok (Map keys values)
+  pub number : ℤ
+  pub read : value_of_literal keys l ≡ Ok number
+  pub lacks : LacksPair key number d

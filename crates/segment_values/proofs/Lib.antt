@@ -1,6 +1,11 @@
 pub mod AbsentPairs
 pub mod ElementCalls
 pub mod PairCalls
+pub mod RangeLists
+pub mod RangeObjects
+pub mod RangeReads
+pub mod RangeRows
+pub mod RangeWrites
 pub mod Reading
 pub mod SetElements
 pub mod SetKinds

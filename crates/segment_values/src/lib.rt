@@ -5,10 +5,14 @@
 mod elements;
 mod objects;
 mod pairs;
+mod reads;
 mod scalars;
 mod vectors;
+mod writes;
 
 pub use elements::set;
 pub use pairs::{erase_pair, look_up, put_pair};
+pub use reads::read_elements;
 pub use scalars::{pair_as, value_as};
 pub use vectors::{erase, insert, push};
+pub use writes::write_elements;

@@ -1,0 +1,11 @@
+-- So many elements were written.
+use Rattle.std.proofs.Common.{map, take}
+use Rattle.segment_manager.specs.State.{IsSegment}
+use Rattle.segment_values.specs.Ranges.{HasRange}
+use Rattle.segment_values.proofs.writes.set_array.Given as goal
+
+abbrev pub invariant-row : goal.invariant-row
+invariant-row g l = record {
+  begun : IsSegment l.fn.segment.cut.bytes;
+  has : HasRange l.fn.segment l.segment l.object l.first (take l.i (map g.T.Scalar.whole l.row));
+}

@@ -1,0 +1,144 @@
+//! Elements of arrays and vectors of scalars, so many written by one call.
+ghost use Rattle.std.specs.Prelude.{◌≡◌, ℕ, ◌+◌, ◌<◌, ◌≤◌, ◌^◌, OnErr, false, length, map, true};
+ghost use Rattle.seg_types.specs.declared.kinds.Kind.TheVariants.{Scalar as ScalarOf, Vector as VectorOf};
+ghost use Rattle.seg_types.specs.Keys.{key_seen};
+ghost use Rattle.seg_types.specs.Names.{ByHandle};
+ghost use Rattle.segment_manager.specs.Directory.{Directory};
+ghost use Rattle.segment_manager.specs.ElementLists.{array_at, vector_at};
+ghost use Rattle.segment_manager.specs.Located.{IsLocated};
+ghost use Rattle.segment_manager.specs.State.{StandsFor, done_answer};
+ghost use Rattle.segment_manager.specs.Step.{is_read_only};
+ghost use Rattle.segment_values.specs.Ranges.{HasRange, WritesRange};
+
+use crate::reads::{has_range, number_or_none};
+use seg_types::{Key, Kind, Refusal, Scalar};
+use segment_manager::{Mode, Object, Segment};
+
+/// Makes the values of a row elements of the object of a key, from `first` on. The object is an array of scalars of the type, or a
+/// vector of them.
+///
+/// # Errors
+///
+/// `ReadOnly` where the segment is open for reading, and else `NotFound` where no object has the key, `WrongKind` where it is of
+/// another kind, `OutOfRange` where it has not so many elements there. Nothing changes.
+pub fn write_elements<T: Scalar>(
+    segment: &mut Segment,
+    key: &Key,
+    first: u64,
+    row: &[T],
+) -> Result<(), Refusal>
+    ensures step { WritesRange segment.old segment.new (key_seen key.now) T.kind first (map T.whole row.now) (done_answer result) }
+    ensures refused { OnErr result (segment.new ≡ segment.old) }
+{
+    if segment.mode() == Mode::ReadOnly {
+        return Err(Refusal::ReadOnly);
+    }
+    match segment.locate(key) {
+        Err(why) => Err(why),
+        Ok(object) => write_object(segment, &object, first, row),
+    }
+}
+
+/// The same of an object that was located, in a segment that may be changed.
+fn write_object<T: Scalar>(
+    segment: &mut Segment,
+    object: &Object,
+    first: u64,
+    row: &[T],
+) -> Result<(), Refusal>
+    requires object { IsLocated segment.old (ByHandle object.now.handle) object.now }
+    requires writing { is_read_only segment.old.mode ≡ false }
+    ensures step { WritesRange segment.old segment.new (ByHandle object.now.handle) T.kind first (map T.whole row.now) (done_answer result) }
+    ensures refused { OnErr result (segment.new ≡ segment.old) }
+{
+    if object.kind == Kind::Vector(T::kind()) {
+        write_vector(segment, object, first, row)
+    } else if object.kind == Kind::Scalar(T::kind()) {
+        write_array(segment, object, first, row)
+    } else {
+        Err(Refusal::WrongKind)
+    }
+}
+
+/// The same of a vector of the type.
+fn write_vector<T: Scalar>(
+    segment: &mut Segment,
+    object: &Object,
+    first: u64,
+    row: &[T],
+) -> Result<(), Refusal>
+    requires object { IsLocated segment.old (ByHandle object.now.handle) object.now }
+    requires kind { object.now.kind ≡ VectorOf T.kind }
+    requires writing { is_read_only segment.old.mode ≡ false }
+    ensures step { WritesRange segment.old segment.new (ByHandle object.now.handle) T.kind first (map T.whole row.now) (done_answer result) }
+    ensures refused { OnErr result (segment.new ≡ segment.old) }
+{
+    let len = number_or_none(segment.vec_len::<T, Object>(object));
+    if !has_range(len, first, row.len() as u64) {
+        return Err(Refusal::OutOfRange);
+    }
+    set_vector(segment, object, first, row);
+    Ok(())
+}
+
+/// The same of an array of the type.
+fn write_array<T: Scalar>(
+    segment: &mut Segment,
+    object: &Object,
+    first: u64,
+    row: &[T],
+) -> Result<(), Refusal>
+    requires object { IsLocated segment.old (ByHandle object.now.handle) object.now }
+    requires kind { object.now.kind ≡ ScalarOf T.kind }
+    requires writing { is_read_only segment.old.mode ≡ false }
+    ensures step { WritesRange segment.old segment.new (ByHandle object.now.handle) T.kind first (map T.whole row.now) (done_answer result) }
+    ensures refused { OnErr result (segment.new ≡ segment.old) }
+{
+    let len = number_or_none(segment.array_len::<T, Object>(object));
+    if !has_range(len, first, row.len() as u64) {
+        return Err(Refusal::OutOfRange);
+    }
+    set_array(segment, object, first, row);
+    Ok(())
+}
+
+/// Writes elements of a vector that has so many.
+fn set_vector<T: Scalar>(segment: &mut Segment, object: &Object, first: u64, row: &[T])
+    requires object { IsLocated segment.old (ByHandle object.now.handle) object.now }
+    requires kind { object.now.kind ≡ VectorOf T.kind }
+    requires writing { is_read_only segment.old.mode ≡ false }
+    requires fits { first + length row.now < 2 ^ 64 }
+    requires there { (d : Directory) → StandsFor segment.old.cut.bytes d → first + length row.now ≤ length (vector_at d (ByHandle object.now.handle) T.kind) }
+    ensures { HasRange segment.old segment.new object.now first (map T.whole row.now) }
+{
+    let _ = segment.as_bytes();
+    'row: for i in 0..row.len() {
+        judge(row[i]);
+        // it is not refused, since there is such an element
+        let _ = segment.vec_set::<T, Object>(object, first + i as u64, row[i]);
+    }
+}
+
+/// Writes elements of an array that has so many.
+fn set_array<T: Scalar>(segment: &mut Segment, object: &Object, first: u64, row: &[T])
+    requires object { IsLocated segment.old (ByHandle object.now.handle) object.now }
+    requires kind { object.now.kind ≡ ScalarOf T.kind }
+    requires writing { is_read_only segment.old.mode ≡ false }
+    requires fits { first + length row.now < 2 ^ 64 }
+    requires there { (d : Directory) → StandsFor segment.old.cut.bytes d → first + length row.now ≤ length (array_at d (ByHandle object.now.handle) T.kind) }
+    ensures { HasRange segment.old segment.new object.now first (map T.whole row.now) }
+{
+    let _ = segment.as_bytes();
+    'row: for i in 0..row.len() {
+        judge(row[i]);
+        // it is not refused, since there is such an element
+        let _ = segment.set::<T, Object>(object, first + i as u64, row[i]);
+    }
+}
+
+/// Says that a value is one. An order knows it of what it compares.
+fn judge<T: Scalar>(value: T)
+    ensures { T.is_value value ≡ true }
+{
+    let _ = value.precedes(value);
+}

@@ -1,4 +1,5 @@
 pub mod AbsentPairs
+pub mod ArrayCalls
 pub mod ElementCalls
 pub mod PairCalls
 pub mod RangeLists

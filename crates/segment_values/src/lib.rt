@@ -2,6 +2,7 @@
 //! pass becomes a value of the object's kind, as what a script writes does.
 #![tactic(auto)]
 
+mod arrays;
 mod elements;
 mod objects;
 mod pairs;
@@ -10,6 +11,7 @@ mod scalars;
 mod vectors;
 mod writes;
 
+pub use arrays::construct_array;
 pub use elements::set;
 pub use pairs::{erase_pair, look_up, put_pair};
 pub use reads::read_elements;

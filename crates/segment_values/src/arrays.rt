@@ -1,0 +1,56 @@
+//! Arrays of scalars that are made of values.
+ghost use Rattle.std.specs.Prelude.{◌≤◌, length, map};
+ghost use Rattle.std.specs.Iterator.{YieldsFirst, item_count};
+ghost use Rattle.seg_types.specs.declared.kinds.Kind.TheVariants.{Scalar as ScalarOf};
+ghost use Rattle.seg_types.specs.Commands.{ConstructIt};
+ghost use Rattle.seg_types.specs.Keys.{new_key_seen};
+ghost use Rattle.segment_manager.specs.NewObjects.{IsOfKind};
+ghost use Rattle.segment_manager.specs.State.{IsStep, KeepsRefused, handle_answer};
+
+use seg_types::{Handle, NewKey, Refusal, Scalar};
+use segment_manager::Segment;
+
+/// The values of a row, one after another.
+#[derive(Drop)]
+struct RowItems<'a, T> {
+    left: &'a [T],
+}
+
+impl<'a, T: Scalar> Iterator for RowItems<'a, T> {
+    type Item = T;
+
+    ghost next_gives = { YieldsFirst (λ items. items.left.now) };
+
+    ghost remaining = { item_count (λ items. items.left.now) };
+
+    fn next(&mut self) -> Option<T> {
+        let (first, others) = self.left.split_first()?;
+        self.left = others;
+        Some(*first)
+    }
+}
+
+/// Makes an array of the values of a row, and answers its handle.
+///
+/// # Conditions
+///
+/// The row has from 1 to 1048576 values, and a key that says a kind says theirs.
+///
+/// # Errors
+///
+/// `ReadOnly` where the segment is open for reading, else `Exists` where an object has the key: nothing changes. Else `NoSpace`
+/// where no gap is long enough: what the segment holds does not change, and the bytes of gaps may.
+pub fn construct_array<T: Scalar>(
+    segment: &mut Segment,
+    key: &NewKey,
+    row: &[T],
+) -> Result<Handle, Refusal>
+    requires kind { IsOfKind (new_key_seen key.now) (ScalarOf T.kind) }
+    requires some { 1 ≤ length row.now }
+    requires few { length row.now ≤ 1048576 }
+    ensures step { IsStep segment.old segment.new (ConstructIt (new_key_seen key.now) T.kind (length row.now) (map T.whole row.now)) (handle_answer result) }
+    ensures refused { KeepsRefused segment.old segment.new result }
+{
+    let mut items = RowItems { left: row };
+    segment.construct_it(key, row.len() as u32, &mut items)
+}

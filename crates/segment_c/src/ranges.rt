@@ -55,7 +55,7 @@ pub extern "C" fn zx_read_bools(
     let Some(segment) = take(alloc, h) else {
         return CLOSED;
     };
-    let code = read_row(&segment, &which, first, row);
+    let code = read_row::<bool>(&segment, &which, first, row);
     put(h, segment);
     code
 }
@@ -83,7 +83,7 @@ pub extern "C" fn zx_read_u8s(
     let Some(segment) = take(alloc, h) else {
         return CLOSED;
     };
-    let code = read_row(&segment, &which, first, row);
+    let code = read_row::<u8>(&segment, &which, first, row);
     put(h, segment);
     code
 }
@@ -111,7 +111,7 @@ pub extern "C" fn zx_read_i32s(
     let Some(segment) = take(alloc, h) else {
         return CLOSED;
     };
-    let code = read_row(&segment, &which, first, row);
+    let code = read_row::<i32>(&segment, &which, first, row);
     put(h, segment);
     code
 }
@@ -139,7 +139,7 @@ pub extern "C" fn zx_read_i64s(
     let Some(segment) = take(alloc, h) else {
         return CLOSED;
     };
-    let code = read_row(&segment, &which, first, row);
+    let code = read_row::<i64>(&segment, &which, first, row);
     put(h, segment);
     code
 }
@@ -167,7 +167,7 @@ pub extern "C" fn zx_read_u64s(
     let Some(segment) = take(alloc, h) else {
         return CLOSED;
     };
-    let code = read_row(&segment, &which, first, row);
+    let code = read_row::<u64>(&segment, &which, first, row);
     put(h, segment);
     code
 }

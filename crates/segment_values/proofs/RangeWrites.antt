@@ -1,8 +1,7 @@
 -- Elements that one call writes: what the steps of setting each come to.
-use Rattle.std.proofs.Common.{◌≡◌, refl, sym, ap, subst, ◌∙◌, ℕ, ◌+◌, ◌<◌, ◌≤◌, ℤ, Bool, true, false, Some, None, Option, Result, Ok, Err, List, [], ◌∷◌, ◌++◌, length, if◌then◌else◌, arith}
-use Rattle.std.specs.Prelude.{nat_le, slice_get, slice_set}
+use Rattle.std.proofs.Common.{◌≡◌, refl, sym, ap, subst, ◌∙◌, ℕ, ◌+◌, ◌<◌, ◌≤◌, ℤ, Bool, true, false, Some, None, Option, Result, Ok, Err, List, [], ◌∷◌, ◌++◌, length, if◌then◌else◌, pos, arith}
+use Rattle.std.specs.Prelude.{slice_get, slice_set}
 use Rattle.std.proofs.lemmas.Option.{slice_get-get_or}
-use Rattle.std.proofs.Common.{pos}
 use Rattle.best_fit.specs.Extents.{handle}
 use Rattle.seg_types.specs.declared.kinds.Kind.{Kind}
 use Rattle.seg_types.specs.declared.kinds.ScalarKind.{ScalarKind}
@@ -16,7 +15,7 @@ use Rattle.segment_manager.specs.declared.modes.Mode.{Mode}
 use Rattle.segment_manager.specs.declared.targets.Object.{Object as Located}
 use Rattle.segment_manager.specs.Answers.{Answer, Done, Refused}
 use Rattle.segment_manager.specs.Directory.{Value, Object, Directory, kind_of, live, object_at}
-use Rattle.segment_manager.specs.ElementLists.{numbers_in}
+use Rattle.segment_manager.specs.ElementLists.{list_at, numbers_in}
 use Rattle.segment_manager.specs.Instances.{IsMissing}
 use Rattle.segment_manager.specs.Located.{IsLocated}
 use Rattle.segment_manager.specs.Plan.{Reply, perform, with}
@@ -28,7 +27,7 @@ use Rattle.segment_manager.proofs.Laws.{IsSaidAt, objects_stay, said-at, same-ob
 use Rattle.segment_values.specs.Ranges.{HasRange, WritesRange, numbers_if, range_at, range_in, replaced, with_range, written, written_if}
 use Rattle.segment_values.proofs.RangeLists.{replaced-length, replaced-more}
 use Rattle.segment_values.proofs.RangeObjects.{found-replaced, itself-replaced, replaced-twice}
-use Rattle.segment_values.proofs.RangeRows.{IsRow, of-same}
+use Rattle.segment_values.proofs.RangeRows.{IsRow, its-numbers, of-same}
 use Rattle.segment_values.proofs.Reading.{performed}
 
 -- ---- one directory, in which the object of a handle has some elements
@@ -113,7 +112,7 @@ module _ (s : State) (o : Located) (l : IsLocated s (ByHandle o.handle) o) (kind
 
   -- one element more is written
   pub range-goes-on : (t u : State) (answer : Answer) (first n : ℕ) (zs : List ℤ) (z : ℤ) → is_read_only s.mode ≡ false → IsSegment s.cut.bytes → HasRange s t o first zs → n ≡ first + length zs
-      → ((d : Directory) (st : StandsFor s.cut.bytes d) → n < length (numbers_in (said d st).object.value)) → is_value k z ≡ true
+      → ((d : Directory) → StandsFor s.cut.bytes d → n < length (list_at numbers_in d (ByHandle o.handle) kind)) → is_value k z ≡ true
       → IsStepOfKind t u (ByHandle o.handle) kind (asked.Set (ByHandle o.handle) n (literal_of k z)) answer → HasRange s u o first (zs ++ z ∷ [])
   range-goes-on t u answer first n zs z writing g h e within good m = record {
     stays = record {
@@ -123,7 +122,8 @@ module _ (s : State) (o : Located) (l : IsLocated s (ByHandle o.handle) o) (kind
     here = objects_stay.of_kind t u (ByHandle o.handle) kind (asked.Set (ByHandle o.handle) n (literal_of k z)) answer (with_range g.0 (ByHandle o.handle) first zs, h.denotes g.0 g.1) refl m o h.here;
     denotes = λ d st.
         subst (StandsFor u.cut.bytes)
-        (range-step d o.handle (said d st).object (said d st).is (own-handle d st) t.mode kind k (rows (said d st).object.value (own-kind d st)) (ap is_read_only h.stays.mode ∙ writing) (own-kind d st) first n zs z e (within d st) good)
+        (range-step d o.handle (said d st).object (said d st).is (own-handle d st) t.mode kind k (rows (said d st).object.value (own-kind d st)) (ap is_read_only h.stays.mode ∙ writing) (own-kind d st) first n zs z e
+        (subst (λ (xs : List ℤ). n < length xs) (its-numbers d (ByHandle o.handle) kind (said d st).object (said d st).is (own-kind d st)) (within d st)) good)
         (m.denotes (with_range d (ByHandle o.handle) first zs) (h.denotes d st));
   }
 
@@ -165,10 +165,10 @@ module _ (s t : State) (key : Key) (k : ScalarKind) (first : ℕ) (zs : List ℤ
 pub writes-by_key : (s t : State) (key : Key) (o : Located) → IsLocated s key o → (k : ScalarKind) (first : ℕ) (zs : List ℤ) (answer : Answer) → WritesRange s t (ByHandle o.handle) k first zs answer
     → WritesRange s t key k first zs answer
 writes-by_key s t key o l k first zs answer m =
-    let same : (d : Directory) → StandsFor s.cut.bytes d → written s.mode d (ByHandle o.handle) k first zs ≡ written s.mode d key k first zs = λ d st i.
-        let e : Option Object = sym (same-object s key o l d st) i in
-        if is_read_only s.mode then (Refused ReadOnlyRefusal, d)
-        else written_if (range_in (elim e as (λ _. Result (List ℤ) Refusal) [ None ↦ Err NotFound | Some o ↦ numbers_if k o.value ]) first (length zs)) d (ranged d first zs e) in
+    let same : (d : Directory) → StandsFor s.cut.bytes d → written s.mode d (ByHandle o.handle) k first zs ≡ written s.mode d key k first zs = λ d st.
+        ap (λ (e : Option Object). if is_read_only s.mode then (Refused ReadOnlyRefusal, d)
+        else written_if (range_in (elim e as (λ _. Result (List ℤ) Refusal) [ None ↦ Err NotFound | Some o ↦ numbers_if k o.value ]) first (length zs)) d (ranged d first zs e))
+        (sym (same-object s key o l d st)) in
     record {
       stays = m.stays;
       answers = λ d st. m.answers d st ∙ ap (λ (n : Answer × Directory). n.0) (same d st);

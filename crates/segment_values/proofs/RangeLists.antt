@@ -1,7 +1,7 @@
 -- Lists of which so many are read or written from a place on.
 use Rattle.std.proofs.Common.{◌≡◌, refl, sym, ap, ◌∙◌, ℕ, zero, suc, ◌+◌, ◌≤◌, ◌<◌, ℤ, pos, Some, None, List, [], ◌∷◌, ◌++◌, add-one, get_or, length, map, set, take, zero-add, arith}
 use Rattle.std.specs.Prelude.{drop, slice_get, slice_set}
-use Rattle.std.proofs.lemmas.List.{length-set, map-append, take_more_set}
+use Rattle.std.proofs.lemmas.List.{length-set, map-append, take_all, take_more_set}
 use Rattle.std.proofs.lemmas.Option.{none-some, same_Some, slice_get-get_or}
 use Rattle.segment_values.specs.Ranges.{replaced}
 
@@ -44,6 +44,13 @@ mapped-at f (y ∷ ys) (suc i) x e = mapped-at f ys i x e
 
 pub value-at : {A B : Type 0} (f : A → B) (xs : List A) (i : ℕ) (x : A) → i < length xs → x ≡ get_or xs i x → slice_get (map f xs) i ≡ Some (f x)
 value-at f xs i x within e = mapped-at f xs i x (slice_get-get_or xs i x within ∙ ap Some (sym e))
+
+many-mapped : {A B : Type 0} (f : A → B) (xs : List A) → length (map f xs) ≡ length xs
+many-mapped f [] = refl
+many-mapped f (x ∷ xs) = ap suc (many-mapped f xs)
+
+pub mapped-all : {A B : Type 0} (f : A → B) (xs : List A) (i : ℕ) → length xs ≤ i → take i (map f xs) ≡ map f xs
+mapped-all f xs i h = take_all i (map f xs) (let many : length (map f xs) ≡ length xs = many-mapped f xs in omega arith)
 
 -- ---- one element more that is written
 

@@ -1,5 +1,5 @@
 -- Elements that one call writes: what the steps of setting each come to.
-use Rattle.std.proofs.Common.{◌≡◌, refl, sym, ap, subst, ◌∙◌, ℕ, ◌+◌, ◌<◌, ◌≤◌, ℤ, Bool, true, false, Some, None, Option, Result, Ok, Err, List, [], ◌∷◌, ◌++◌, length, if◌then◌else◌, pos, arith}
+use Rattle.std.proofs.Common.{◌≡◌, refl, sym, ap, subst, ◌∙◌, ℕ, ◌+◌, ◌<◌, ◌≤◌, ℤ, Bool, true, false, Some, None, Option, Result, Ok, Err, List, [], ◌∷◌, ◌++◌, get_or, length, map, take, if◌then◌else◌, pos, arith}
 use Rattle.std.specs.Prelude.{slice_get, slice_set}
 use Rattle.std.proofs.lemmas.Option.{slice_get-get_or}
 use Rattle.best_fit.specs.Extents.{handle}
@@ -25,7 +25,7 @@ use Rattle.segment_manager.specs.Step.{changed, is_read_only, step_of_kind, with
 use Rattle.segment_manager.proofs.ElementLaws.{literal-read, step_of_kind-step, with-found}
 use Rattle.segment_manager.proofs.Laws.{IsSaidAt, objects_stay, said-at, same-object}
 use Rattle.segment_values.specs.Ranges.{HasRange, WritesRange, numbers_if, range_at, range_in, replaced, with_range, written, written_if}
-use Rattle.segment_values.proofs.RangeLists.{replaced-length, replaced-more}
+use Rattle.segment_values.proofs.RangeLists.{replaced-length, replaced-more, taken-length, taken-more, value-at}
 use Rattle.segment_values.proofs.RangeObjects.{found-replaced, itself-replaced, replaced-twice}
 use Rattle.segment_values.proofs.RangeRows.{IsRow, its-numbers, of-same}
 use Rattle.segment_values.proofs.Reading.{performed}
@@ -126,6 +126,17 @@ module _ (s : State) (o : Located) (l : IsLocated s (ByHandle o.handle) o) (kind
         (subst (λ (xs : List ℤ). n < length xs) (its-numbers d (ByHandle o.handle) kind (said d st).object (said d st).is (own-kind d st)) (within d st)) good)
         (m.denotes (with_range d (ByHandle o.handle) first zs) (h.denotes d st));
   }
+
+  -- the value of a row that stands behind those which were written
+  module _ {A : Type 0} (whole : A → ℤ) (first i : ℕ) (row : List A) (x : A) (within : i < length row) (value : x ≡ get_or row i x) where
+    pub range-row : (t u : State) (answer : Answer) → is_read_only s.mode ≡ false → IsSegment s.cut.bytes → ((d : Directory) → StandsFor s.cut.bytes d → first + length row ≤ length (list_at numbers_in d (ByHandle o.handle) kind))
+        → is_value k (whole x) ≡ true → HasRange s t o first (take i (map whole row)) → IsStepOfKind t u (ByHandle o.handle) kind (asked.Set (ByHandle o.handle) (first + i) (literal_of k (whole x))) answer
+        → HasRange s u o first (take (i + 1) (map whole row))
+    range-row t u answer writing g there good h m =
+        let one : slice_get (map whole row) i ≡ Some (whole x) = value-at whole row i x within value in
+        let many : length (take i (map whole row)) ≡ i = taken-length (map whole row) i (whole x) one in
+        subst (HasRange s u o first) (sym (taken-more (map whole row) i (whole x) one))
+        (range-goes-on t u answer first (first + i) (take i (map whole row)) (whole x) writing g h (omega arith) (λ d st. let all = there d st in omega arith) good m)
 
 -- ---- what is answered
 

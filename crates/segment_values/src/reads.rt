@@ -98,7 +98,7 @@ fn copy_vector<T: Scalar>(segment: &Segment, object: &Object, first: u64, row: &
     requires there { (d : Directory) → StandsFor segment.now.cut.bytes d → first + length row.old ≤ length (vector_at d (ByHandle object.now.handle) T.kind) }
     ensures { (d : Directory) → StandsFor segment.now.cut.bytes d → map T.whole row.new ≡ take (length row.old) (drop first (vector_at d (ByHandle object.now.handle) T.kind)) }
 {
-    'row: for i in 0..row.len() {
+    'elements: for i in 0..row.len() {
         match segment.vec_get::<T, Object>(object, first + i as u64) {
             Ok(value) => row[i] = value,
             // there is such an element
@@ -114,7 +114,7 @@ fn copy_array<T: Scalar>(segment: &Segment, object: &Object, first: u64, row: &m
     requires there { (d : Directory) → StandsFor segment.now.cut.bytes d → first + length row.old ≤ length (array_at d (ByHandle object.now.handle) T.kind) }
     ensures { (d : Directory) → StandsFor segment.now.cut.bytes d → map T.whole row.new ≡ take (length row.old) (drop first (array_at d (ByHandle object.now.handle) T.kind)) }
 {
-    'row: for i in 0..row.len() {
+    'elements: for i in 0..row.len() {
         match segment.get::<T, Object>(object, first + i as u64) {
             Ok(value) => row[i] = value,
             // there is such an element

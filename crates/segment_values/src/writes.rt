@@ -112,10 +112,11 @@ fn set_vector<T: Scalar>(segment: &mut Segment, object: &Object, first: u64, row
     ensures { HasRange segment.old segment.new object.now first (map T.whole row.now) }
 {
     let _ = segment.as_bytes();
-    'row: for i in 0..row.len() {
-        judge(row[i]);
+    'elements: for i in 0..row.len() {
+        let value = row[i];
+        judge(value);
         // it is not refused, since there is such an element
-        let _ = segment.vec_set::<T, Object>(object, first + i as u64, row[i]);
+        let _ = segment.vec_set::<T, Object>(object, first + i as u64, value);
     }
 }
 
@@ -129,10 +130,11 @@ fn set_array<T: Scalar>(segment: &mut Segment, object: &Object, first: u64, row:
     ensures { HasRange segment.old segment.new object.now first (map T.whole row.now) }
 {
     let _ = segment.as_bytes();
-    'row: for i in 0..row.len() {
-        judge(row[i]);
+    'elements: for i in 0..row.len() {
+        let value = row[i];
+        judge(value);
         // it is not refused, since there is such an element
-        let _ = segment.set::<T, Object>(object, first + i as u64, row[i]);
+        let _ = segment.set::<T, Object>(object, first + i as u64, value);
     }
 }
 

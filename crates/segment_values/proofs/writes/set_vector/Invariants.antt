@@ -4,8 +4,8 @@ use Rattle.segment_manager.specs.State.{IsSegment}
 use Rattle.segment_values.specs.Ranges.{HasRange}
 use Rattle.segment_values.proofs.writes.set_vector.Given as goal
 
-abbrev pub invariant-row : goal.invariant-row
-invariant-row g l = record {
+abbrev pub invariant-elements : goal.invariant-elements
+invariant-elements g l = record {
   begun : IsSegment l.fn.segment.cut.bytes;
   has : HasRange l.fn.segment l.segment l.object l.first (take l.i (map g.T.Scalar.whole l.row));
 }

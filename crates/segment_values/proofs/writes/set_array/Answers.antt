@@ -1,0 +1,26 @@
+-- One element more.
+use Rattle.std.proofs.Common.{sym, subst, ◌∙◌, map}
+use Rattle.seg_types.specs.declared.kinds.Kind.TheVariants.{Scalar}
+use Rattle.segment_manager.specs.State.{IsSegment, done_answer}
+use Rattle.segment_values.specs.Ranges.{HasRange}
+use Rattle.segment_values.proofs.RangeLists.{mapped-all}
+use Rattle.segment_values.proofs.RangeRows.{array-row}
+use Rattle.segment_values.proofs.RangeWrites.{range-row, range-starts}
+use Rattle.segment_values.proofs.writes.set_array.Goals as goal
+
+pub elements-init : goal.elements-init
+elements-init g c = record {
+  begun = subst IsSegment c.as_bytes.ensures.bytes c.as_bytes.ensures.denotes;
+  has = range-starts c.args.segment.now c.args.object.now c.requires.object (Scalar g.T.Scalar.kind) g.T.Scalar.kind c.requires.kind (array-row g.T.Scalar.kind) c.args.first;
+}
+
+pub elements-preserved : goal.elements-preserved
+elements-preserved g c = record {
+  begun = c.elements.invariant.begun;
+  has = range-row c.args.segment.now c.args.object.now c.requires.object (Scalar g.T.Scalar.kind) g.T.Scalar.kind c.requires.kind (array-row g.T.Scalar.kind) g.T.Scalar.whole c.args.first c.elements.i c.args.row.now c.index-row-i.result
+      c.elements-test.true c.index-row-i.is c.elements.segment c.set.new.self (done_answer c.set.result) c.requires.writing c.elements.invariant.begun c.requires.there
+      (sym (g.met.T.Scalar.values c.index-row-i.result) ∙ c.judge.ensures) c.elements.invariant.has c.set.ensures.step;
+}
+
+pub returns : goal.returns
+returns g c = subst (HasRange c.args.segment.now c.elements.segment c.args.object.now c.args.first) (mapped-all g.T.Scalar.whole c.args.row.now c.elements.i c.elements-test.false) c.elements.invariant.has

@@ -60,16 +60,21 @@ module _ (s : State) (key : Key) (n : ℕ) (r : Result ℕ Refusal) (e : n ≡ n
 abbrev pub AreRead : {A : Type 0} → (A → ℤ) → State → (Directory → List ℤ) → ℕ → List A → ℕ → Type 0
 AreRead whole s list first row i = (d : Directory) → StandsFor s.cut.bytes d → map whole (take i row) ≡ take i (drop first (list d))
 
-module _ {A : Type 0} (whole : A → ℤ) (s : State) (list : Directory → List ℤ) (first i : ℕ) (row : List A) (r : Result A Refusal) (item : Answers s (λ d. slice_get (list d) (first + i)) (option_map whole (got r))) where
+module _ {A : Type 0} (whole : A → ℤ) (s : State) (list : Directory → List ℤ) where
   -- one more
-  pub reads-one : (x : A) → r ≡ Ok x → i < length row → AreRead whole s list first row i → AreRead whole s list first (set row i x) (i + 1)
-  reads-one x e within h = λ d st. read-more whole (list d) first i row x within (sym (item.answers d st) ∙ ap (λ (q : Result A Refusal). option_map whole (got q)) e) (h d st)
-
-  -- that none is there cannot be
-  pub reads-none : (why : Refusal) (n : ℕ) (P : Directory → Type 0) → r ≡ Err why → ((d : Directory) → StandsFor s.cut.bytes d → first + n ≤ length (list d)) → i < n → (d : Directory) → StandsFor s.cut.bytes d → P d
-  reads-none why n P e there within = λ d st.
+  pub reads-one : (first i n : ℕ) (row : List A) (x : A) → ((d : Directory) → StandsFor s.cut.bytes d → first + i < length (list d) → slice_get (list d) (first + i) ≡ Some (whole x))
+      → ((d : Directory) → StandsFor s.cut.bytes d → first + n ≤ length (list d)) → i < n → i < length row → AreRead whole s list first row i → AreRead whole s list first (set row i x) (i + 1)
+  reads-one first i n row x one there inside within h = λ d st.
       let many = there d st in
-      absurd (there-is (list d) (first + i) (omega arith) (sym (item.answers d st) ∙ ap (λ (q : Result A Refusal). option_map whole (got q)) e))
+      read-more whole (list d) first i row x within (one d st (omega arith)) (h d st)
+
+  -- what is read where there is such an element
+  module _ (at : ℕ) (r : Result A Refusal) (item : Answers s (λ d. slice_get (list d) at) (option_map whole (got r))) where
+    pub reads-some : (x : A) → r ≡ Ok x → (d : Directory) → StandsFor s.cut.bytes d → slice_get (list d) at ≡ Some (whole x)
+    reads-some x e d st = sym (item.answers d st) ∙ ap (λ (q : Result A Refusal). option_map whole (got q)) e
+
+    pub reads-none : (why : Refusal) → r ≡ Err why → (d : Directory) → StandsFor s.cut.bytes d → at < length (list d) → ⊥
+    reads-none why e d st within = there-is (list d) at within (sym (item.answers d st) ∙ ap (λ (q : Result A Refusal). option_map whole (got q)) e)
 
 pub reads-all : {A : Type 0} (whole : A → ℤ) (s : State) (list : Directory → List ℤ) (first n : ℕ) (row : List A) → length row ≡ n → AreRead whole s list first row n
     → (d : Directory) → StandsFor s.cut.bytes d → map whole row ≡ take n (drop first (list d))

@@ -1,5 +1,5 @@
 //! Elements of arrays and vectors of scalars, so many read by one call.
-ghost use Rattle.std.specs.Prelude.{◌≡◌, ℕ, ◌+◌, ◌<◌, ◌≤◌, ◌^◌, OnErr, drop, length, map, nat_le, take};
+ghost use Rattle.std.specs.Prelude.{◌≡◌, ℕ, ◌+◌, ◌<◌, ◌≤◌, ◌^◌, OnErr, Some, drop, length, map, nat_le, slice_get, take};
 ghost use Rattle.seg_types.specs.Keys.{key_seen};
 ghost use Rattle.seg_types.specs.Names.{ByHandle};
 ghost use Rattle.segment_manager.specs.Directory.{Directory};
@@ -99,11 +99,7 @@ fn copy_vector<T: Scalar>(segment: &Segment, object: &Object, first: u64, row: &
     ensures { (d : Directory) → StandsFor segment.now.cut.bytes d → map T.whole row.new ≡ take (length row.old) (drop first (vector_at d (ByHandle object.now.handle) T.kind)) }
 {
     'elements: for i in 0..row.len() {
-        match segment.vec_get::<T, Object>(object, first + i as u64) {
-            Ok(value) => row[i] = value,
-            // there is such an element
-            Err(_) => {}
-        }
+        row[i] = vector_element(segment, object, first + i as u64, row[i]);
     }
 }
 
@@ -115,11 +111,31 @@ fn copy_array<T: Scalar>(segment: &Segment, object: &Object, first: u64, row: &m
     ensures { (d : Directory) → StandsFor segment.now.cut.bytes d → map T.whole row.new ≡ take (length row.old) (drop first (array_at d (ByHandle object.now.handle) T.kind)) }
 {
     'elements: for i in 0..row.len() {
-        match segment.get::<T, Object>(object, first + i as u64) {
-            Ok(value) => row[i] = value,
-            // there is such an element
-            Err(_) => {}
-        }
+        row[i] = array_element(segment, object, first + i as u64, row[i]);
+    }
+}
+
+/// The element at `index` of a vector; or another value, where it has none.
+fn vector_element<T: Scalar>(segment: &Segment, object: &Object, index: u64, other: T) -> T
+    requires { IsObject object.now segment.now }
+    ensures { (d : Directory) → StandsFor segment.now.cut.bytes d → index < length (vector_at d (ByHandle object.now.handle) T.kind)
+        → slice_get (vector_at d (ByHandle object.now.handle) T.kind) index ≡ Some (T.whole result) }
+{
+    match segment.vec_get::<T, Object>(object, index) {
+        Ok(value) => value,
+        Err(_) => other,
+    }
+}
+
+/// The element at `index` of an array; or another value, where it has none.
+fn array_element<T: Scalar>(segment: &Segment, object: &Object, index: u64, other: T) -> T
+    requires { IsObject object.now segment.now }
+    ensures { (d : Directory) → StandsFor segment.now.cut.bytes d → index < length (array_at d (ByHandle object.now.handle) T.kind)
+        → slice_get (array_at d (ByHandle object.now.handle) T.kind) index ≡ Some (T.whole result) }
+{
+    match segment.get::<T, Object>(object, index) {
+        Ok(value) => value,
+        Err(_) => other,
     }
 }
 

@@ -1,8 +1,8 @@
 -- An array that is made of items: as many are there as are taken.
 use Rattle.std.proofs.Common.{◌≡◌, refl, sym, ap, subst, ◌∙◌, ℕ, suc, ◌+◌, ◌*◌, ◌≤◌, ℤ, Bool, true, false, if◌then◌else◌, Option, Some, None, Result, Ok, Err, List, [], ◌∷◌, ◌++◌, length, replicate, arith}
-use Rattle.std.specs.Prelude.{map, nat_lt, pos, take}
+use Rattle.std.specs.Prelude.{map, nat_le, nat_lt, pos, take}
 use Rattle.std.specs.Iterator.{Yields, YieldsFirst, YieldsThen}
-use Rattle.std.proofs.lemmas.Bool.{lt-ltb, le-ltb}
+use Rattle.std.proofs.lemmas.Bool.{and_from, le-leb, le-ltb, lt-ltb}
 use Rattle.std.proofs.lemmas.List.{append-nil, length-append, length-replicate, take_all}
 use Rattle.block_tags.specs.declared.tile.Role.TheVariants.{Object as ObjectRole}
 use Rattle.best_fit.specs.Extents.{Extent, LiveSet, handle}
@@ -19,12 +19,18 @@ use Rattle.seg_types.specs.Commands as asked
 use Rattle.segment_manager.specs.declared.modes.Mode.{Mode}
 use Rattle.segment_manager.specs.declared.modes.Mode.TheVariants.{Write, ReadOnly, CopyOnWrite}
 use Rattle.segment_manager.specs.Answers.{Answer, Made, Refused, is_untouched}
+use Rattle.segment_manager.specs.Counted.{is_count}
 use Rattle.segment_manager.specs.Directory.{Numbers, Object, Directory, live, named_objects, object_at, object_len, padded, unique_objects, with_object}
 use Rattle.segment_manager.specs.Items.{KeepsUnasked, TakesItems, TakesUntil}
 use Rattle.segment_manager.specs.Layout.{head_len}
 use Rattle.segment_manager.specs.Plan.{Need, New, Plan, Refuse, Reply, Request, class_of, met, name_of, perform, with_entry, with_new_object}
 use Rattle.segment_manager.specs.State.{IsStep, KeepsRefused, State, StandsFor, handle_answer}
 use Rattle.segment_manager.specs.Step.{step}
+
+-- ---- how many they may be
+
+pub is-count : (n : ℕ) → 1 ≤ n → n ≤ 1048576 → is_count n ≡ true
+is-count n some few = and_from (nat_le 1 n) (nat_le n 1048576) (le-leb 1 n some) (le-leb n 1048576 few)
 
 -- ---- the items
 

@@ -45,7 +45,7 @@ mapped-at f (y ∷ ys) (suc i) x e = mapped-at f ys i x e
 pub value-at : {A B : Type 0} (f : A → B) (xs : List A) (i : ℕ) (x : A) → i < length xs → x ≡ get_or xs i x → slice_get (map f xs) i ≡ Some (f x)
 value-at f xs i x within e = mapped-at f xs i x (slice_get-get_or xs i x within ∙ ap Some (sym e))
 
-many-mapped : {A B : Type 0} (f : A → B) (xs : List A) → length (map f xs) ≡ length xs
+pub many-mapped : {A B : Type 0} (f : A → B) (xs : List A) → length (map f xs) ≡ length xs
 many-mapped f [] = refl
 many-mapped f (x ∷ xs) = ap suc (many-mapped f xs)
 

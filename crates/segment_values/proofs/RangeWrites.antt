@@ -1,6 +1,6 @@
 -- Elements that one call writes: what the steps of setting each come to.
 use Rattle.std.proofs.Common.{◌≡◌, refl, sym, ap, subst, ◌∙◌, ℕ, ◌+◌, ◌<◌, ◌≤◌, ℤ, Bool, true, false, Some, None, Option, Result, Ok, Err, List, [], ◌∷◌, ◌++◌, get_or, length, map, take, if◌then◌else◌, pos, arith}
-use Rattle.std.specs.Prelude.{slice_get, slice_set}
+use Rattle.std.specs.Prelude.{drop, nat_le, slice_get, slice_set}
 use Rattle.std.proofs.lemmas.Option.{slice_get-get_or}
 use Rattle.best_fit.specs.Extents.{handle}
 use Rattle.seg_types.specs.declared.kinds.Kind.{Kind}
@@ -24,8 +24,8 @@ use Rattle.segment_manager.specs.Step as step
 use Rattle.segment_manager.specs.Step.{changed, is_read_only, step_of_kind, with_items}
 use Rattle.segment_manager.proofs.ElementLaws.{literal-read, step_of_kind-step, with-found}
 use Rattle.segment_manager.proofs.Laws.{IsSaidAt, objects_stay, said-at, same-object}
-use Rattle.segment_values.specs.Ranges.{HasRange, WritesRange, numbers_if, range_at, range_in, replaced, with_range, written, written_if}
-use Rattle.segment_values.proofs.RangeLists.{replaced-length, replaced-more, taken-length, taken-more, value-at}
+use Rattle.segment_values.specs.Ranges.{HasRange, WritesRange, numbers_if, range_at, range_in, range_of, replaced, with_range, written, written_if}
+use Rattle.segment_values.proofs.RangeLists.{many-mapped, replaced-length, replaced-more, taken-length, taken-more, value-at}
 use Rattle.segment_values.proofs.RangeObjects.{found-replaced, itself-replaced, replaced-twice}
 use Rattle.segment_values.proofs.RangeRows.{IsRow, its-numbers, of-same}
 use Rattle.segment_values.proofs.Reading.{performed}
@@ -171,6 +171,23 @@ module _ (s t : State) (key : Key) (k : ScalarKind) (first : ℕ) (zs : List ℤ
     answers = λ d st. sym (ap (λ (n : Answer × Directory). n.0) (done-for d (old d) writing (each d st)));
     denotes = λ d st. subst (λ (n : Answer × Directory). StandsFor t.cut.bytes n.1) (sym (done-for d (old d) writing (each d st))) (leads d st);
   }
+
+-- ---- a row of values, where so many elements are known to be there, or not to be
+
+module _ {A : Type 0} (s : State) (key : Key) (k : ScalarKind) (whole : A → ℤ) (row : List A) (first len : ℕ) (list : Directory → List ℤ) (many : Answers s (λ d. length (list d)) len)
+    (ranges : (d : Directory) → StandsFor s.cut.bytes d → range_of (list d) first (length row) ≡ range_at d key k first (length row)) (writing : is_read_only s.mode ≡ false) where
+  range-as : (d : Directory) → StandsFor s.cut.bytes d → (b : Bool) → nat_le (first + length row) len ≡ b
+      → range_at d key k first (length (map whole row)) ≡ (if b then Ok (take (length row) (drop first (list d))) else Err OutOfRange)
+  range-as d st b e =
+      ap (λ n. range_at d key k first n) (many-mapped whole row) ∙ sym (ranges d st)
+      ∙ ap (λ c. if c then Ok (take (length row) (drop first (list d))) else Err OutOfRange) (ap (nat_le (first + length row)) (sym (many.answers d st)) ∙ e)
+
+  pub row-refused : nat_le (first + length row) len ≡ false → WritesRange s s key k first (map whole row) (Refused OutOfRange)
+  row-refused e = writes-refused s s key k first (map whole row) OutOfRange writing (record { answers = λ d st. sym (range-as d st false e) })
+
+  pub row-written : (t : State) → nat_le (first + length row) len ≡ true → Stays s t → ((d : Directory) → StandsFor s.cut.bytes d → StandsFor t.cut.bytes (with_range d key first (map whole row)))
+      → WritesRange s t key k first (map whole row) Done
+  row-written t e stays leads = writes-done s t key k first (map whole row) (λ d. take (length row) (drop first (list d))) writing (λ d st. range-as d st true e) stays leads
 
 -- what is written under the handle is written under the key
 pub writes-by_key : (s t : State) (key : Key) (o : Located) → IsLocated s key o → (k : ScalarKind) (first : ℕ) (zs : List ℤ) (answer : Answer) → WritesRange s t (ByHandle o.handle) k first zs answer

@@ -12,10 +12,10 @@ use Rattle.seg_types.specs.Values.{value_of_scalar}
 use Rattle.seg_map.specs.Map.{pair_at}
 use Rattle.seg_map.specs.Numbers.{NumberPair}
 use Rattle.segment_manager.specs.declared.targets.Object.{Object as Located}
-use Rattle.segment_manager.specs.Directory.{Object, Directory, object_at}
+use Rattle.segment_manager.specs.Directory.{Object, object_at}
 use Rattle.segment_manager.specs.Keeping.{KeepsWhere, LacksPair}
 use Rattle.segment_manager.specs.Located.{IsLocated}
-use Rattle.segment_manager.specs.State.{State, StandsFor}
+use Rattle.segment_manager.specs.State.{State}
 use Rattle.segment_manager.specs.Walks.{pairs_of}
 use Rattle.segment_manager.proofs.Laws.{kind-by_key, same-object}
 use Rattle.segment_values.specs.Absent.{LacksLiteral}

@@ -1,32 +1,30 @@
 -- Commands on elements by literals: which call is the step of the command, by the kind of the object.
-use Rattle.std.proofs.Common.{◌≡◌, refl, sym, ap, subst, ◌∙◌, ℕ, ℤ, Bool, true, false, ◌&&◌, Option, Some, None, Result, Ok, Err, List, ◌∷◌, [], length, map, if◌then◌else◌}
-use Rattle.std.specs.Prelude.{IsTrue, MatchResult, nat_lt}
-use Rattle.std.specs.List.{list_all}
+use Rattle.std.proofs.Common.{◌≡◌, refl, sym, ap, subst, ◌∙◌, ℕ, ℤ, Bool, true, false, Some, Result, Ok, Err, List, length}
+use Rattle.std.specs.Prelude.{MatchResult, nat_lt}
 use Rattle.best_fit.specs.Table.{Table}
 use Rattle.seg_types.specs.declared.kinds.Kind.{Kind}
 use Rattle.seg_vector.specs.Vector.{OwnedText}
-use Rattle.seg_types.specs.declared.kinds.Kind.TheVariants.{Text, Texts as TextsKind, Vector}
+use Rattle.seg_types.specs.declared.kinds.Kind.TheVariants.{Texts as TextsKind, Vector}
 use Rattle.seg_types.specs.declared.kinds.ScalarKind.{ScalarKind}
 use Rattle.seg_types.specs.declared.refusals.Refusal.{Refusal}
-use Rattle.seg_types.specs.declared.refusals.Refusal.TheVariants.{ReadOnly, WrongKind}
+use Rattle.seg_types.specs.declared.refusals.Refusal.TheVariants.{WrongKind}
 use Rattle.seg_types.specs.declared.values.ScalarValue.{ScalarValue}
-use Rattle.seg_types.specs.Kinds.{is_value, same_kind}
+use Rattle.seg_types.specs.Kinds.{is_value}
 use Rattle.seg_types.specs.Names.{Key, ByHandle}
 use Rattle.seg_types.specs.Commands as asked
 use Rattle.seg_types.specs.Commands.{Literal, literal_of, value_of_literal}
 use Rattle.seg_types.specs.Values.{kind_of_scalar, value_of_scalar}
-use Rattle.segment_manager.specs.declared.modes.Mode.{Mode}
 use Rattle.segment_manager.specs.declared.targets.Object.{Object as Located}
 use Rattle.segment_manager.specs.Answers.{Answer, Refused}
 use Rattle.segment_manager.specs.Calls.{kind_at}
 use Rattle.segment_manager.specs.Directory.{Value, Numbers, Elements, Bytes, Pairs, Texts, Object, Directory, kind_of, live, object_at}
 use Rattle.segment_manager.specs.Instances.{IsMissing}
 use Rattle.segment_manager.specs.Located.{IsLocated}
-use Rattle.segment_manager.specs.Plan.{Plan, Refuse, perform, with}
+use Rattle.segment_manager.specs.Plan.{perform}
 use Rattle.segment_manager.specs.State.{Answers, IsStep, IsStepOfKind, State, StandsFor}
 use Rattle.segment_manager.specs.Step as step
 use Rattle.segment_manager.specs.Step.{effect, found_at, is_read_only, step_of_kind, text_among, text_of, values_of}
-use Rattle.segment_manager.proofs.ElementLaws.{IsOfKindAt, append-other, assign-plan, assign-refused, erase-other, insert-other, insert-past, insert-plan, insert-refused, is_no_vector, kind-told, literal-read, literals-read, nowhere-steps, of_kind-steps, pop-other, push-other, push-plan, push-refused, refused-steps, same_plan-steps, text-plan, text-refused, with-found, with-not_found}
+use Rattle.segment_manager.proofs.ElementLaws.{IsOfKindAt, erase-other, insert-other, insert-past, insert-plan, insert-refused, is_no_vector, kind-told, literal-read, nowhere-steps, of_kind-steps, pop-other, push-other, push-plan, push-refused, refused-steps, same_plan-steps, with-not_found}
 use Rattle.segment_manager.proofs.Laws.{kind-by_key, located-here}
 use Rattle.segment_values.specs.Changes.{IsChangeable, IsElement, IsNoElement, IsToChange, IsUnchangeable}
 use Rattle.segment_values.specs.Literals.{IsValueOf}

@@ -3,7 +3,6 @@ use Rattle.std.proofs.Common.{◌≡◌, refl, sym, ap, subst, ◌∙◌, ℕ, �
 use Rattle.std.specs.Prelude.{drop, nat_le, option_map, slice_get}
 use Rattle.std.proofs.lemmas.Bool.{leb-true}
 use Rattle.std.proofs.lemmas.List.{take_all}
-use Rattle.seg_types.specs.declared.kinds.Kind.{Kind}
 use Rattle.seg_types.specs.declared.kinds.Kind.TheVariants.{Scalar as ScalarOf, Vector as VectorOf}
 use Rattle.seg_types.specs.declared.kinds.ScalarKind.{ScalarKind}
 use Rattle.seg_types.specs.declared.refusals.Refusal.{Refusal}
@@ -12,8 +11,8 @@ use Rattle.seg_types.specs.Commands.{Get}
 use Rattle.seg_types.specs.Names.{Key, ByHandle}
 use Rattle.segment_manager.specs.declared.targets.Object.{Object as Located}
 use Rattle.segment_manager.specs.Answers.{Answer, Element}
-use Rattle.segment_manager.specs.Directory.{Object, Directory, kind_of, object_at}
-use Rattle.segment_manager.specs.ElementLists.{array_at, array_length_at, length_at_kind, number_or_none, numbers_in, vector_at}
+use Rattle.segment_manager.specs.Directory.{Object, Directory, kind_of}
+use Rattle.segment_manager.specs.ElementLists.{array_at, array_length_at, length_at_kind, number_or_none, vector_at}
 use Rattle.segment_manager.specs.Instances.{IsMissing}
 use Rattle.segment_manager.specs.Located.{IsLocated}
 use Rattle.segment_manager.specs.State.{Answers, IsReplyOfKind, State, StandsFor, answer_of}

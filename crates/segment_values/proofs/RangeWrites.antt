@@ -9,14 +9,13 @@ use Rattle.seg_types.specs.declared.refusals.Refusal.{Refusal}
 use Rattle.seg_types.specs.declared.refusals.Refusal.TheVariants.{NotFound, OutOfRange, ReadOnly as ReadOnlyRefusal}
 use Rattle.seg_types.specs.Commands as asked
 use Rattle.seg_types.specs.Commands.{Command, literal_of}
-use Rattle.seg_types.specs.Kinds.{is_value, same_kind}
+use Rattle.seg_types.specs.Kinds.{is_value}
 use Rattle.seg_types.specs.Names.{Key, ByHandle}
 use Rattle.segment_manager.specs.declared.modes.Mode.{Mode}
 use Rattle.segment_manager.specs.declared.targets.Object.{Object as Located}
 use Rattle.segment_manager.specs.Answers.{Answer, Done, Refused}
 use Rattle.segment_manager.specs.Directory.{Value, Object, Directory, kind_of, live, object_at}
 use Rattle.segment_manager.specs.ElementLists.{list_at, numbers_in}
-use Rattle.segment_manager.specs.Instances.{IsMissing}
 use Rattle.segment_manager.specs.Located.{IsLocated}
 use Rattle.segment_manager.specs.Plan.{Reply, perform, with}
 use Rattle.segment_manager.specs.State.{Answers, IsSegment, IsStepOfKind, State, StandsFor, Stays}
@@ -194,9 +193,9 @@ pub writes-by_key : (s t : State) (key : Key) (o : Located) → IsLocated s key 
     → WritesRange s t key k first zs answer
 writes-by_key s t key o l k first zs answer m =
     let same : (d : Directory) → StandsFor s.cut.bytes d → written s.mode d (ByHandle o.handle) k first zs ≡ written s.mode d key k first zs = λ d st.
-        ap (λ (e : Option Object). if is_read_only s.mode then (Refused ReadOnlyRefusal, d)
-        else written_if (range_in (elim e as (λ _. Result (List ℤ) Refusal) [ None ↦ Err NotFound | Some o ↦ numbers_if k o.value ]) first (length zs)) d (ranged d first zs e))
-        (sym (same-object s key o l d st)) in
+    ap (λ (e : Option Object). if is_read_only s.mode then (Refused ReadOnlyRefusal, d)
+    else written_if (range_in (elim e as (λ _. Result (List ℤ) Refusal) [ None ↦ Err NotFound | Some o ↦ numbers_if k o.value ]) first (length zs)) d (ranged d first zs e))
+    (sym (same-object s key o l d st)) in
     record {
       stays = m.stays;
       answers = λ d st. m.answers d st ∙ ap (λ (n : Answer × Directory). n.0) (same d st);

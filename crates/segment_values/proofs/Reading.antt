@@ -1,5 +1,5 @@
 -- Commands that change nothing.
-use Rattle.std.proofs.Common.{◌≡◌, refl, ap, true, false}
+use Rattle.std.proofs.Common.{◌≡◌, refl, ap, false}
 use Rattle.seg_types.specs.Commands.{Command, is_changing}
 use Rattle.segment_manager.specs.declared.modes.Mode.{Mode}
 use Rattle.segment_manager.specs.declared.modes.Mode.TheVariants.{Write, ReadOnly, CopyOnWrite}

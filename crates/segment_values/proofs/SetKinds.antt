@@ -1,5 +1,5 @@
 -- Literals that are no texts, for vectors of strings, and elements of objects of scalars, or of none.
-use Rattle.std.proofs.Common.{◌≡◌, refl, sym, ap, ◌∙◌, ℕ, ◌⊎◌, inl, inr, false, Option, Some, None, Result, Ok, Err, List}
+use Rattle.std.proofs.Common.{◌≡◌, refl, sym, ap, ◌∙◌, ℕ, ◌⊎◌, inl, inr, Some, None, Result, Ok, Err, List}
 use Rattle.best_fit.specs.Table.{Table}
 use Rattle.seg_types.specs.declared.kinds.Kind.{Kind}
 use Rattle.seg_types.specs.declared.kinds.Kind.TheVariants.{Map as MapKind, Scalar, Texts as TextsKind, Vector}
@@ -16,7 +16,7 @@ use Rattle.segment_values.specs.Literals.{literal_seen}
 use Rattle.segment_values.specs.Changes.{IsChangeable, IsNoElement, IsUnchangeable}
 use Rattle.segment_manager.specs.Answers.{Refused}
 use Rattle.segment_manager.specs.Calls.{elements_at, elements_of, kind_at}
-use Rattle.segment_manager.specs.Directory.{Value, Numbers, Elements, Bytes, Pairs, Texts, Object, Directory, kind_of, live, object_at}
+use Rattle.segment_manager.specs.Directory.{Value, Numbers, Elements, Bytes, Pairs, Texts, Object, Directory, kind_of, live}
 use Rattle.segment_manager.specs.Plan.{Refuse, perform}
 use Rattle.segment_manager.specs.State.{Answers, IsStep, State, StandsFor}
 use Rattle.segment_manager.specs.Step as step

@@ -1,6 +1,5 @@
 -- Elements of an array or a vector of scalars that are read, or written, by one call: so many from a place on.
 use Rattle.std.specs.Prelude.{ℕ, ◌+◌, ℤ, ◌||◌, Some, None, Result, Ok, Err, List, [], ◌∷◌, drop, length, map, nat_le, slice_set, take, if◌then◌else◌}
-use Rattle.seg_types.specs.declared.kinds.Kind.{Kind}
 use Rattle.seg_types.specs.declared.kinds.Kind.TheVariants.{Scalar, Vector}
 use Rattle.seg_types.specs.declared.kinds.ScalarKind.{ScalarKind}
 use Rattle.seg_types.specs.declared.refusals.Refusal.{Refusal}
@@ -10,7 +9,7 @@ use Rattle.seg_types.specs.Names.{Key, ByHandle}
 use Rattle.segment_manager.specs.declared.modes.Mode.{Mode}
 use Rattle.segment_manager.specs.declared.targets.Object.{Object as Located}
 use Rattle.segment_manager.specs.Answers.{Answer, Done, Refused}
-use Rattle.segment_manager.specs.Directory.{Object, Directory, Value, kind_of, object_at}
+use Rattle.segment_manager.specs.Directory.{Directory, Value, kind_of, object_at}
 use Rattle.segment_manager.specs.ElementLists.{numbers_in}
 use Rattle.segment_manager.specs.Located.{IsObject}
 use Rattle.segment_manager.specs.State.{Moves, State, StandsFor, Stays}

@@ -1,5 +1,5 @@
 -- One element more.
-use Rattle.std.proofs.Common.{sym, subst, ◌∙◌, map}
+use Rattle.std.proofs.Common.{sym, subst, ◌∙◌}
 use Rattle.seg_types.specs.declared.kinds.Kind.TheVariants.{Vector}
 use Rattle.segment_manager.specs.State.{IsSegment, done_answer}
 use Rattle.segment_values.specs.Ranges.{HasRange}

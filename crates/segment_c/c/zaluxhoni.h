@@ -111,7 +111,7 @@ typedef struct {
     uint64_t natural;
 } zx_value;
 
-/* The elements of a vector: the slice of their kind. The other slices are not null and empty. Kind 0 stands for a null slice. */
+/* The elements of a vector or an array: the slice of their kind. The other slices are not null and empty. Kind 0 stands for a null slice. */
 typedef struct {
     uint32_t kind;
     const bool *truths;
@@ -271,6 +271,8 @@ zx_code zx_region_left(zx_segment *segment, uint64_t *left);
 
 /* Makes `count` times a value. ZX_BAD_VALUE, ZX_BAD_COUNT; ZX_READ_ONLY, ZX_EXISTS, ZX_NO_SPACE. */
 zx_code zx_construct(zx_segment *segment, const zx_key *key, uint32_t count, const zx_value *value, uint64_t *handle);
+/* Makes an array of values. ZX_NULL_SLICE, ZX_BAD_KIND, ZX_BAD_COUNT; ZX_READ_ONLY, ZX_EXISTS, ZX_NO_SPACE. */
+zx_code zx_construct_array(zx_segment *segment, const zx_key *key, const zx_values *values, uint64_t *handle);
 /* Makes a vector of values. ZX_NULL_SLICE, ZX_BAD_KIND; ZX_READ_ONLY, ZX_EXISTS, ZX_NO_SPACE. */
 zx_code zx_construct_vector(zx_segment *segment, const zx_key *key, const zx_values *values, uint64_t *handle);
 /* Makes a string; a vector of strings; an empty map from keys of one kind to values of another. */
@@ -295,7 +297,7 @@ zx_code zx_find_or_construct_map(zx_segment *segment, const zx_key *key, uint32_
    the key is another kind. */
 zx_code zx_find(zx_segment *segment, const zx_key *key, uint32_t kind, uint64_t *handle, uint32_t *count);
 /* Destroys the object of a name or kind, and says whether there was one; or that of a handle, where ZX_NOT_FOUND says that there is
-   none. ZX_READ_ONLY. */
+   none. Where there is none no byte changes. ZX_READ_ONLY. */
 zx_code zx_destroy(zx_segment *segment, const zx_key *key, bool *was_there);
 /* What the object says of itself. Its name is copied to the front of `name`, which has room for it or else ZX_SHORT_BUFFER; 255
    bytes always do. ZX_NOT_FOUND. */
@@ -319,6 +321,18 @@ zx_code zx_measure(zx_segment *segment, const zx_key *key, uint64_t *len, uint64
 zx_code zx_reserve(zx_segment *segment, const zx_key *key, uint64_t places);
 zx_code zx_trim(zx_segment *segment, const zx_key *key);
 zx_code zx_clear(zx_segment *segment, const zx_key *key);
+
+/* Of objects of scalars and of vectors, `count` elements at once, from `first` on, of the kind that the name says: all are copied
+   to `row`, or none. What stands in a row of truths is truths before the call too. ZX_NULL_SLICE; ZX_NOT_FOUND, ZX_WRONG_KIND;
+   ZX_OUT_OF_RANGE where there are not so many elements. */
+zx_code zx_read_bools(zx_segment *segment, const zx_key *key, uint64_t first, bool *row, size_t count);
+zx_code zx_read_u8s(zx_segment *segment, const zx_key *key, uint64_t first, uint8_t *row, size_t count);
+zx_code zx_read_i32s(zx_segment *segment, const zx_key *key, uint64_t first, int32_t *row, size_t count);
+zx_code zx_read_i64s(zx_segment *segment, const zx_key *key, uint64_t first, int64_t *row, size_t count);
+zx_code zx_read_u64s(zx_segment *segment, const zx_key *key, uint64_t first, uint64_t *row, size_t count);
+/* The same the other way: the values, of the kind of the elements, are written from `first` on, all or none. ZX_NULL_SLICE,
+   ZX_BAD_KIND; ZX_READ_ONLY, ZX_NOT_FOUND, ZX_WRONG_KIND, ZX_OUT_OF_RANGE. */
+zx_code zx_write_elements(zx_segment *segment, const zx_key *key, uint64_t first, const zx_values *values);
 
 /* ---- strings
 
@@ -344,6 +358,7 @@ zx_code zx_assign_texts(zx_segment *segment, const zx_key *key, const zx_text *t
 /* The value at a key; ZX_ABSENT where the map has no such key. */
 zx_code zx_map_get(zx_segment *segment, const zx_key *key, const zx_value *at, zx_value *value);
 zx_code zx_map_put(zx_segment *segment, const zx_key *key, const zx_value *at, const zx_value *value, bool *is_new);
+/* Where there was none no byte changes. */
 zx_code zx_map_erase(zx_segment *segment, const zx_key *key, const zx_value *at, bool *was_there);
 /* The pair with the least key; with the least key above `after`. ZX_ABSENT where there is none. */
 zx_code zx_map_first(zx_segment *segment, const zx_key *key, zx_value *at, zx_value *value);
@@ -424,6 +439,26 @@ static inline zx_code zx_assign_string_or_null(zx_segment *segment, const zx_key
 static inline zx_code zx_append_or_null(zx_segment *segment, const zx_key *key, const uint8_t *text, size_t len) {
     return text ? zx_append(segment, key, text, len) : (zx_code)ZX_NULL_SLICE;
 }
+static inline zx_code zx_read_bools_or_null(zx_segment *segment, const zx_key *key, uint64_t first, bool *row,
+                                            size_t count) {
+    return row ? zx_read_bools(segment, key, first, row, count) : (zx_code)ZX_NULL_SLICE;
+}
+static inline zx_code zx_read_u8s_or_null(zx_segment *segment, const zx_key *key, uint64_t first, uint8_t *row,
+                                          size_t count) {
+    return row ? zx_read_u8s(segment, key, first, row, count) : (zx_code)ZX_NULL_SLICE;
+}
+static inline zx_code zx_read_i32s_or_null(zx_segment *segment, const zx_key *key, uint64_t first, int32_t *row,
+                                           size_t count) {
+    return row ? zx_read_i32s(segment, key, first, row, count) : (zx_code)ZX_NULL_SLICE;
+}
+static inline zx_code zx_read_i64s_or_null(zx_segment *segment, const zx_key *key, uint64_t first, int64_t *row,
+                                           size_t count) {
+    return row ? zx_read_i64s(segment, key, first, row, count) : (zx_code)ZX_NULL_SLICE;
+}
+static inline zx_code zx_read_u64s_or_null(zx_segment *segment, const zx_key *key, uint64_t first, uint64_t *row,
+                                           size_t count) {
+    return row ? zx_read_u64s(segment, key, first, row, count) : (zx_code)ZX_NULL_SLICE;
+}
 static inline zx_code zx_read_text_or_null(zx_segment *segment, const zx_key *key, uint64_t index, uint8_t *text,
                                            size_t room, uint64_t *len) {
     return text ? zx_read_text(segment, key, index, text, room, len) : (zx_code)ZX_NULL_SLICE;
@@ -459,6 +494,11 @@ static inline zx_code zx_named_at_or_null(zx_segment *segment, uint64_t index, z
 #define zx_read_string zx_read_string_or_null
 #define zx_assign_string zx_assign_string_or_null
 #define zx_append zx_append_or_null
+#define zx_read_bools zx_read_bools_or_null
+#define zx_read_u8s zx_read_u8s_or_null
+#define zx_read_i32s zx_read_i32s_or_null
+#define zx_read_i64s zx_read_i64s_or_null
+#define zx_read_u64s zx_read_u64s_or_null
 #define zx_read_text zx_read_text_or_null
 #define zx_set_text zx_set_text_or_null
 #define zx_push_text zx_push_text_or_null

@@ -153,6 +153,9 @@ template <> struct scalar<bool> {
     static zx_value value(bool truth) { return zx_bool(truth); }
     static bool from(const zx_value &value) { return value.natural != 0; }
     static zx_values values(const bool *at, std::size_t count) { return zx_bools(at, count); }
+    static zx_code read(zx_segment *of, const zx_key *at, std::uint64_t first, bool *row, std::size_t count) {
+        return zx_read_bools(of, at, first, row, count);
+    }
 };
 
 template <> struct scalar<std::uint8_t> {
@@ -161,6 +164,9 @@ template <> struct scalar<std::uint8_t> {
     static zx_value value(std::uint8_t number) { return zx_u8(number); }
     static std::uint8_t from(const zx_value &value) { return static_cast<std::uint8_t>(value.natural); }
     static zx_values values(const std::uint8_t *at, std::size_t count) { return zx_u8s(at, count); }
+    static zx_code read(zx_segment *of, const zx_key *at, std::uint64_t first, std::uint8_t *row, std::size_t count) {
+        return zx_read_u8s(of, at, first, row, count);
+    }
 };
 
 template <> struct scalar<std::int32_t> {
@@ -169,6 +175,9 @@ template <> struct scalar<std::int32_t> {
     static zx_value value(std::int32_t number) { return zx_i32(number); }
     static std::int32_t from(const zx_value &value) { return static_cast<std::int32_t>(value.number); }
     static zx_values values(const std::int32_t *at, std::size_t count) { return zx_i32s(at, count); }
+    static zx_code read(zx_segment *of, const zx_key *at, std::uint64_t first, std::int32_t *row, std::size_t count) {
+        return zx_read_i32s(of, at, first, row, count);
+    }
 };
 
 template <> struct scalar<std::int64_t> {
@@ -177,6 +186,9 @@ template <> struct scalar<std::int64_t> {
     static zx_value value(std::int64_t number) { return zx_i64(number); }
     static std::int64_t from(const zx_value &value) { return value.number; }
     static zx_values values(const std::int64_t *at, std::size_t count) { return zx_i64s(at, count); }
+    static zx_code read(zx_segment *of, const zx_key *at, std::uint64_t first, std::int64_t *row, std::size_t count) {
+        return zx_read_i64s(of, at, first, row, count);
+    }
 };
 
 template <> struct scalar<std::uint64_t> {
@@ -185,6 +197,9 @@ template <> struct scalar<std::uint64_t> {
     static zx_value value(std::uint64_t number) { return zx_u64(number); }
     static std::uint64_t from(const zx_value &value) { return value.natural; }
     static zx_values values(const std::uint64_t *at, std::size_t count) { return zx_u64s(at, count); }
+    static zx_code read(zx_segment *of, const zx_key *at, std::uint64_t first, std::uint64_t *row, std::size_t count) {
+        return zx_read_u64s(of, at, first, row, count);
+    }
 };
 
 /// The kind of an object, for the type of C++ that says it: a scalar, `std::string`, `std::vector` of a scalar or of
@@ -592,12 +607,12 @@ class segment {
             return zx_construct(raw(), raw_key, count, &passed, handle);
         });
     }
-    /// Makes an array of these values.
+    /// Makes an array of these values, 1 to 1048576 of them.
     template <class T> std::uint64_t construct_array(const key &at, slice<value_of<T>> values) {
-        if (values.size() == 0 || values.size() > 1048576) throw bad_count();
-        const std::uint64_t handle = construct<T>(at, values[0], static_cast<std::uint32_t>(values.size()));
-        for (std::size_t i = 1; i < values.size(); i++) set<T>(key::by_handle(handle), i, values[i]);
-        return handle;
+        const zx_values passed = scalar<T>::values(values.data(), values.size());
+        return handle_by(at, [&](const zx_key *raw_key, std::uint64_t *handle) {
+            return zx_construct_array(raw(), raw_key, &passed, handle);
+        });
     }
     template <class T> std::uint64_t construct_vector(const key &at, slice<value_of<T>> values = {}) {
         const zx_values passed = scalar<T>::values(values.data(), values.size());
@@ -696,6 +711,18 @@ class segment {
         const zx_key raw_key = at.raw();
         const zx_value passed = scalar<T>::value(value);
         check_code(zx_set(raw(), &raw_key, index, &passed));
+    }
+
+    // -- many elements, of scalars and vectors, from one on: all of them or none
+
+    template <class T> void read(const key &at, std::uint64_t first, T *row, std::size_t count) const {
+        const zx_key raw_key = at.raw();
+        check_code(scalar<T>::read(raw(), &raw_key, first, row, count));
+    }
+    template <class T> void write(const key &at, std::uint64_t first, slice<value_of<T>> values) {
+        const zx_key raw_key = at.raw();
+        const zx_values passed = scalar<T>::values(values.data(), values.size());
+        check_code(zx_write_elements(raw(), &raw_key, first, &passed));
     }
 
     // -- one object, as what it is. A container that is not there is made, empty; each call of it looks its key up.
@@ -842,6 +869,28 @@ class object {
         return value;
     }
 
+    template <class T> void read_row(std::uint64_t first, T *row, std::size_t count) const {
+        T none{};
+        by_key(scalar<T>::read, first, row == nullptr && count == 0 ? &none : row, count);
+    }
+    template <class T> void write_row(std::uint64_t first, slice<T> values) const {
+        const zx_values passed = scalar<T>::values(values.data(), values.size());
+        by_key(zx_write_elements, first, &passed);
+    }
+    /// The first elements, so many, by one call.
+    template <class T> std::vector<T> row_of(std::uint64_t count) const {
+        const std::size_t many = static_cast<std::size_t>(count);
+        if constexpr (std::is_same_v<T, bool>) {
+            const std::unique_ptr<bool[]> row = std::make_unique<bool[]>(many);
+            read_row(0, row.get(), many);
+            return std::vector<bool>(row.get(), row.get() + many);
+        } else {
+            std::vector<T> row(many);
+            read_row(0, row.data(), many);
+            return row;
+        }
+    }
+
     zx_segment *of() const { return at_of_; }
     const key &at() const { return key_; }
 
@@ -867,6 +916,13 @@ template <class T> class array : public object {
     T get(std::uint64_t index) const { return scalar<T>::from(value_at(index)); }
     void set(std::uint64_t index, T value) const { set_value(index, scalar<T>::value(value)); }
     detail::element<array, std::uint64_t, T> operator[](std::uint64_t index) const { return {*this, index}; }
+    /// Copies `count` elements, from `first` on; or makes values elements: all of them or none, by one call.
+    void read(std::uint64_t first, T *row, std::size_t count) const { read_row(first, row, count); }
+#if __cplusplus >= 202002L
+    void read(std::uint64_t first, std::span<T> row) const { read_row(first, row.data(), row.size()); }
+#endif
+    void write(std::uint64_t first, slice<value_of<T>> values) const { write_row<T>(first, values); }
+    std::vector<T> to_vector() const { return row_of<T>(count_); }
     iterator begin() const { return {this, 0}; }
     iterator end() const { return {this, count_}; }
 
@@ -911,7 +967,13 @@ template <class T> class vector : public object {
     void shrink_to_fit() const { trim_places(); }
     void clear() const { clear_elements(); }
 
-    std::vector<T> to_vector() const { return std::vector<T>(begin(), end()); }
+    /// Copies `count` elements, from `first` on; or makes values elements: all of them or none, by one call.
+    void read(std::uint64_t first, T *row, std::size_t count) const { read_row(first, row, count); }
+#if __cplusplus >= 202002L
+    void read(std::uint64_t first, std::span<T> row) const { read_row(first, row.data(), row.size()); }
+#endif
+    void write(std::uint64_t first, slice<value_of<T>> values) const { write_row<T>(first, values); }
+    std::vector<T> to_vector() const { return row_of<T>(size()); }
     iterator begin() const { return {this, 0}; }
     iterator end() const { return {this, size()}; }
 };

@@ -304,6 +304,7 @@ def _declare(library):
         "create": [u64], "open": [text, size, u64, u32], "save": [ctypes.c_void_p, size], "grow": [u64], "shrink": [],
         "relocate": [u64], "close": [], "mode": [half], "size": [number], "free_bytes": [number],
         "region_left": [number], "construct": [key, u32, value, number], "construct_vector": [key, values, number],
+        "construct_array": [key, values, number],
         "construct_string": [key, text, size, number], "construct_strings": [key, texts, size, number],
         "construct_map": [key, u32, u32, number], "find_or_construct": [key, u32, value, number, half],
         "find_or_construct_vector": [key, values, number, half],
@@ -322,8 +323,9 @@ def _declare(library):
         "num_named": [number], "num_unique": [number], "named_at": [u64, info, ctypes.c_void_p, size],
         "unique_at": [u64, info], "tile_at": [u64, pointer(_Tile)], "reserve_named": [u64], "reserve_unique": [u64],
         "shrink_indexes": [], "zero_free": [], "sanity": [truth], "all_deallocated": [truth],
-
+        "write_elements": [key, u64, values],
     }
+    calls.update({f"read_{row}": [key, u64, ctypes.c_void_p, size] for row in ("bools", "u8s", "i32s", "i64s", "u64s")})
     for name, arguments in calls.items():
         call = getattr(library, "zx_" + name)
         call.argtypes, call.restype = [segment, *arguments], u32
@@ -358,6 +360,8 @@ _ranges = {_BOOL: (0, 1), _U8: (0, 255), _I32: (-2**31, 2**31 - 1), _I64: (-2**6
 _arrays = {_BOOL: (ctypes.c_bool, "truths", "truth_count"), _U8: (ctypes.c_uint8, "bytes", "byte_count"),
            _I32: (ctypes.c_int32, "i32s", "i32_count"), _I64: (ctypes.c_int64, "i64s", "i64_count"),
            _U64: (ctypes.c_uint64, "u64s", "u64_count")}
+_reads = {_BOOL: _zx.zx_read_bools, _U8: _zx.zx_read_u8s, _I32: _zx.zx_read_i32s, _I64: _zx.zx_read_i64s,
+          _U64: _zx.zx_read_u64s}
 _nothing = (ctypes.c_uint64 * 1)()
 
 
@@ -542,6 +546,7 @@ class Segment(collections.abc.MutableMapping):
     def __init__(self, *, grow=False, encoding="utf-8"):
         self._handle = _Handle()
         self._thread = threading.get_ident()
+        self._calls = 0
         self._file = None
         self.growing = grow
         """Whether a call that finds no space makes the segment longer by half and goes on."""
@@ -553,6 +558,7 @@ class Segment(collections.abc.MutableMapping):
         """A call of the library; what it refuses is raised."""
         if threading.get_ident() != self._thread:
             raise WrongThread()
+        self._calls += 1
         code = call(self._handle, *arguments)
         if code == _NO_SPACE and self.growing:
             code = self._call_in_more_space(call, arguments)
@@ -729,12 +735,10 @@ class Segment(collections.abc.MutableMapping):
             raise BadCount()
         plain = False if code == _BOOL else 0
         values = [_value_of(code, each) for each in listed or [plain if value is None else value]]
-        is_new = self._is_new(call, code, key)
-        self._call(getattr(_zx, f"zx_{call}"), _key_of(key), count, values[0], *told)
-        if is_new:
-            made = handle(told[0].value).key
-            for index, each in enumerate(values[1:], 1):
-                self._call(_zx.zx_set, made, index, each)
+        if listed is not None and self._is_new(call, code, key):
+            self._call(_zx.zx_construct_array, _key_of(key), _values(code, listed, BadValue), told[0])
+        else:
+            self._call(getattr(_zx, f"zx_{call}"), _key_of(key), count, values[0], *told)
 
     def _is_new(self, call, code, key):
         """Whether the call will make an object."""
@@ -1026,23 +1030,74 @@ class _Elements(_Object):
     __hash__ = None
 
 
-class Array(_Elements, collections.abc.Sequence):
+class _Scalars(_Elements):
+    """What arrays and vectors of scalars have in common: many elements are read, or written, by one call."""
+
+    def _get(self, place):
+        return self._scalar(place)
+
+    @property
+    def _scalar_code(self):
+        """The code of the elements' kind."""
+        return self._code if _is_scalar(self._code) else self._code - _VECTOR
+
+    def _read(self, first, count):
+        """So many elements, from a place on."""
+        row = (_arrays[self._scalar_code][0] * max(1, count))()
+        self._call(_reads[self._scalar_code], first, row, count)
+        return row[:count]
+
+    def _write(self, first, values):
+        """Makes values the elements from a place on."""
+        self._call(_zx.zx_write_elements, first, _values(self._scalar_code, values, OutOfRange))
+
+    def __getitem__(self, index):
+        if not isinstance(index, slice):
+            return self._get(self._place(index))
+        places = range(*index.indices(len(self)))
+        if not places:
+            return []
+        first, last = min(places[0], places[-1]), max(places[0], places[-1])
+        row = self._read(first, last - first + 1)
+        return row if places.step == 1 else [row[place - first] for place in places]
+
+    def __iter__(self):
+        # elements are read ahead, twice as many each time; behind another call on the segment they are read again, and few
+        segment, place, many = self._segment, 0, 1
+        while True:
+            left = len(self) - place
+            if left <= 0:
+                return
+            row = self._read(place, min(many, left))
+            calls, many = segment._calls, min(2 * many, 4096)
+            for value in row:
+                yield value
+                place += 1
+                if segment._calls != calls:
+                    many = 1
+                    break
+
+
+class Array(_Scalars, collections.abc.Sequence):
     """Scalars that were made together: one or more. Their number stays."""
 
     def __len__(self):
         return self.info().count
 
-    def _get(self, place):
-        return self._scalar(place)
-
     def __setitem__(self, index, value):
         if not isinstance(index, slice):
             return self._call(_zx.zx_set, self._place(index), _element(value))
-        places, values = range(*index.indices(len(self))), [_element(each) for each in value]
+        places, values = range(*index.indices(len(self))), list(value)
         if len(places) != len(values):
             raise BadCount(f"{len(values)} values for {len(places)}")
-        for place, each in zip(places, values):
-            self._call(_zx.zx_set, place, each)
+        if not places:
+            return
+        first, last = min(places[0], places[-1]), max(places[0], places[-1])
+        row = values if places.step == 1 else self._read(first, last - first + 1)
+        if places.step != 1:
+            for place, each in zip(places, values):
+                row[place - first] = each
+        self._write(first, row)
 
     def _become(self, value):
         if len(self) == 1 and not isinstance(value, collections.abc.Sequence):
@@ -1096,11 +1151,8 @@ class _List(_Places, _Elements, collections.abc.MutableSequence):
         self.assign(value)
 
 
-class Vector(_List):
+class Vector(_Scalars, _List):
     """A vector of scalars, used as a list."""
-
-    def _get(self, place):
-        return self._scalar(place)
 
     def _set(self, place, value):
         self._call(_zx.zx_set, place, _element(value))

@@ -1,5 +1,5 @@
 -- What the keys and the values that C passes stand for, and by which code they are refused that stand for nothing.
-use Rattle.std.specs.Prelude.{ℕ, ℤ, pos, Bool, ◌&&◌, not, ◌==◌, nat_le, List, map, Option, Some, None, if◌then◌else◌}
+use Rattle.std.specs.Prelude.{ℕ, ℤ, pos, Bool, ◌&&◌, not, ◌==◌, nat_le, List, length, map, Option, Some, None, if◌then◌else◌}
 use Rattle.seg_types.specs.declared.kinds.Kind.{Kind}
 use Rattle.seg_types.specs.declared.kinds.Kind.TheVariants.{Text}
 use Rattle.seg_types.specs.declared.kinds.ScalarKind.{ScalarKind}
@@ -137,6 +137,17 @@ numbers_of v U64 = map pos v.u64s.now
 
 abbrev pub row_of : Values → List ℤ
 row_of v = numbers_of v (scalar_kind_in v.kind)
+
+-- how many they are
+abbrev pub many_of : Values → ScalarKind → ℕ
+many_of v BoolKind = length v.truths.now
+many_of v U8 = length v.bytes.now
+many_of v I32 = length v.i32s.now
+many_of v I64 = length v.i64s.now
+many_of v U64 = length v.u64s.now
+
+abbrev pub row_count : Values → ℕ
+row_count v = many_of v (scalar_kind_in v.kind)
 
 -- the kind of objects that a code says, where it says one
 abbrev pub object_kind_in : ℕ → Kind

@@ -2,6 +2,7 @@
 //! at the segment that a handle has before and after; a closed handle and what C passes wrongly are codes, and change nothing.
 #![tactic(auto)]
 
+mod arrays;
 mod codes;
 mod destroying;
 mod elements;
@@ -15,6 +16,7 @@ mod neighbours;
 mod objects;
 mod opening;
 mod popping;
+mod ranges;
 mod reading;
 mod resizing;
 mod rows;

@@ -18,7 +18,7 @@ use seg_types::Kind;
 use std::alloc::Global;
 
 /// The most scalars of an object.
-const MOST: u32 = 1_048_576;
+pub(crate) const MOST: u32 = 1_048_576;
 
 /// Makes `count` times a value.
 #[unsafe(no_mangle)]

@@ -1,6 +1,6 @@
 //! The rows of values that C passes.
 ghost use Rattle.std.specs.Prelude.{◌≡◌, ◌≤◌, MatchResult};
-ghost use Rattle.segment_c.specs.Passed.{row_wrong, scalar_kind_in};
+ghost use Rattle.segment_c.specs.Passed.{many_of, row_wrong, scalar_kind_in};
 
 use crate::codes::{BAD_KIND, NULL_SLICE};
 use crate::values::scalar_kind;
@@ -32,6 +32,19 @@ impl Values<'_> {
         match scalar_kind(self.kind) {
             Some(kind) => Ok(kind),
             None => Err(BAD_KIND),
+        }
+    }
+
+    /// How many values the slice of a kind has.
+    pub fn count(&self, kind: ScalarKind) -> usize
+        ensures { result ≡ many_of self.now kind }
+    {
+        match kind {
+            ScalarKind::Bool => self.truths.len(),
+            ScalarKind::U8 => self.bytes.len(),
+            ScalarKind::I32 => self.i32s.len(),
+            ScalarKind::I64 => self.i64s.len(),
+            ScalarKind::U64 => self.u64s.len(),
         }
     }
 }

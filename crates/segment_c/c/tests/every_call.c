@@ -509,6 +509,80 @@ static void every_kind_of_scalar(void) {
     zx_close(&s);
 }
 
+static void many_at_once(void) {
+    static const int64_t three[] = { 7, -8, 9 };
+    zx_segment s = ZX_CLOSED_HANDLE;
+    zx_key a = zx_name("a"), v = zx_name("v"), t = zx_name("t"), none = zx_name("none"), b = zx_name("b");
+    zx_values values = zx_i64s(three, 3), two = zx_i64s((const int64_t[]){ 20, 30 }, 2), nothing = zx_no_values();
+    zx_values empty = zx_i64s(three, 0), bytes_of = zx_u8s((const uint8_t[]){ 255 }, 1);
+    zx_values truths = zx_bools((const bool[]){ true, false, true }, 3), halves = zx_i32s((const int32_t[]){ INT32_MIN, 5 }, 2);
+    zx_values large = zx_u64s((const uint64_t[]){ UINT64_MAX }, 1);
+    int64_t row[4] = { 1, 1, 1, 1 };
+    int32_t half[2] = { 1, 1 };
+    uint64_t handle = 0, natural[1] = { 1 };
+    uint8_t byte[1] = { 1 };
+    bool truth[3] = { false, false, false };
+    DONE(zx_create(&s, 4096));
+    DONE(zx_construct_array(&s, &a, &values, &handle));
+    IS(found(&s, a, ZX_I64, 3), handle);
+    IS(zx_construct_array(&s, &a, &values, &handle), ZX_EXISTS);
+    IS(zx_construct_array(&s, &v, &empty, &handle), ZX_BAD_COUNT);
+    IS(zx_construct_array(&s, &v, &nothing, &handle), ZX_NULL_SLICE);
+    DONE(zx_read_i64s(&s, &a, 0, row, 3));
+    for (int i = 0; i < 3; i++) IS(row[i], three[i]);
+    IS(row[3], 1);
+    DONE(zx_read_i64s(&s, &a, 2, row, 1));
+    IS(row[0], 9);
+    DONE(zx_read_i64s(&s, &a, 3, row, 0));
+    IS(zx_read_i64s(&s, &a, 1, row, 3), ZX_OUT_OF_RANGE);
+    IS(zx_read_i64s(&s, &a, UINT64_MAX, row, 2), ZX_OUT_OF_RANGE);
+    IS(row[0], 9);
+    IS(row[1], -8);
+    IS(zx_read_u64s(&s, &a, 0, natural, 1), ZX_WRONG_KIND);
+    IS(zx_read_i64s(&s, &none, 0, row, 1), ZX_NOT_FOUND);
+    IS(zx_read_i64s(&s, &a, 0, NULL, 0), ZX_NULL_SLICE);
+    DONE(zx_write_elements(&s, &a, 1, &two));
+    DONE(zx_read_i64s(&s, &a, 0, row, 3));
+    IS(row[0], 7);
+    IS(row[1], 20);
+    IS(row[2], 30);
+    IS(zx_write_elements(&s, &a, 2, &values), ZX_OUT_OF_RANGE);
+    IS(zx_write_elements(&s, &a, 0, &halves), ZX_WRONG_KIND);
+    IS(zx_write_elements(&s, &none, 0, &two), ZX_NOT_FOUND);
+    IS(zx_write_elements(&s, &a, 0, &nothing), ZX_NULL_SLICE);
+    IS(number_at(&s, a, 2, ZX_I64), 30);
+    /* vectors, and the other kinds */
+    IS(made_vector(&s, v, zx_i32s((const int32_t[]){ 1, 2, 3 }, 3)) > 0, true);
+    DONE(zx_write_elements(&s, &v, 1, &halves));
+    DONE(zx_read_i32s(&s, &v, 1, half, 2));
+    IS(half[0], INT32_MIN);
+    IS(half[1], 5);
+    IS(number_at(&s, v, 0, ZX_I32), 1);
+    IS(places(&s, v, 3), 3);
+    DONE(zx_construct_array(&s, &b, &truths, &handle));
+    DONE(zx_read_bools(&s, &b, 0, truth, 3));
+    for (int i = 0; i < 3; i++) IS(truth[i], i != 1);
+    IS(made(&s, zx_unique(ZX_U8), 1, zx_u8(1)) > 0, true);
+    zx_key byte_key = zx_unique(ZX_U8), natural_key = zx_unique(ZX_U64);
+    DONE(zx_write_elements(&s, &byte_key, 0, &bytes_of));
+    DONE(zx_read_u8s(&s, &byte_key, 0, byte, 1));
+    IS(byte[0], 255);
+    DONE(zx_construct_array(&s, &natural_key, &large, &handle));
+    DONE(zx_read_u64s(&s, &natural_key, 0, natural, 1));
+    IS(natural[0] == UINT64_MAX, true);
+    IS(made_string(&s, t, "text") > 0, true);
+    IS(zx_read_u8s(&s, &t, 0, byte, 1), ZX_WRONG_KIND);
+    IS(zx_write_elements(&s, &t, 0, &bytes_of), ZX_WRONG_KIND);
+    reopen(&s, "many", ZX_READ);
+    IS(zx_write_elements(&s, &a, 0, &two), ZX_READ_ONLY);
+    IS(zx_construct_array(&s, &none, &two, &handle), ZX_READ_ONLY);
+    DONE(zx_read_i64s(&s, &a, 0, row, 3));
+    IS(row[1], 20);
+    zx_close(&s);
+    IS(zx_read_i64s(&s, &a, 0, row, 1), ZX_CLOSED);
+    IS(zx_write_elements(&s, &a, 0, &two), ZX_CLOSED);
+}
+
 static void size_and_region(void) {
     zx_segment s = ZX_CLOSED_HANDLE;
     uint64_t size = 0, left = 1;
@@ -671,6 +745,7 @@ int main(int count, char **arguments) {
     a_vector_of_strings();
     objects_found_or_made();
     every_kind_of_scalar();
+    many_at_once();
     size_and_region();
     modes();
     what_is_no_image();

@@ -397,6 +397,50 @@ void objects_found_or_made() {
     reopened(s, "found");
 }
 
+void many_at_once() {
+    segment s = segment::create(4096);
+    const u64 handle = s.construct_array<i64>("a", {7, -8, 9});
+    IS(s.find<i64>("a")->handle, handle);
+    IS(s.find<i64>("a")->count, 3);
+    THROWS(exists, s.construct_array<i64>("a", {1}));
+    const zaluxhoni::array<i64> a = s.array<i64>("a");
+    IS((a.to_vector() == std::vector<i64>{7, -8, 9}), true);
+    i64 row[2] = {1, 1};
+    a.read(1, row, 2);
+    IS(row[0], -8);
+    IS(row[1], 9);
+    THROWS(out_of_range, a.read(2, row, 2));
+    IS(row[0], -8);
+    a.write(1, {20, 30});
+    IS((a.to_vector() == std::vector<i64>{7, 20, 30}), true);
+    THROWS(out_of_range, a.write(2, {1, 2}));
+    THROWS(wrong_kind, s.write<i32>("a", 0, {1}));
+    s.read<i64>("a", 2, row, 1);
+    IS(row[0], 30);
+    s.construct_vector<i32>("v", {1, 2, 3});
+    const zaluxhoni::vector<i32> v = s.vector<i32>("v");
+    v.write(0, {4, 5});
+    IS((v.to_vector() == std::vector<i32>{4, 5, 3}), true);
+    v.clear();
+    IS(v.to_vector().size(), 0);
+    s.construct_array<bool>("b", {true, false, true});
+    IS((s.array<bool>("b").to_vector() == std::vector<bool>{true, false, true}), true);
+    s.construct_array<u8>("u8", {255, 0});
+    IS((s.array<u8>("u8").to_vector() == std::vector<u8>{255, 0}), true);
+    s.construct_array<u64>("u64", {UINT64_MAX});
+    IS(s.array<u64>("u64").to_vector()[0], UINT64_MAX);
+    s.construct_array<i32>("i32", {INT32_MIN});
+    IS(s.array<i32>("i32").to_vector()[0], INT32_MIN);
+#if __cplusplus >= 202002L
+    std::vector<i64> all(3);
+    a.read(0, std::span<i64>(all));
+    IS((all == std::vector<i64>{7, 20, 30}), true);
+    a.write(0, std::span<const i64>(all));
+#endif
+    s = reopened(s, "many", zaluxhoni::mode::read);
+    THROWS(read_only, s.write<i64>("a", 0, {1}));
+}
+
 void size_and_region() {
     segment s = segment::create(208);
     THROWS(no_space, s.construct<i64>("numbers", 0, 100));
@@ -505,7 +549,7 @@ int main(int count, char **arguments) {
     void (*const cases[])() = {
         an_anonymous_object, names, files, index_and_object_do_not_both_fit, arrays, the_only_object_of_its_kind,
         places_reserved_in_the_indexes, best_fit, storage_is_lengthened_then_replaced, a_string_grows_and_shrinks,
-        a_map, refusals_of_a_vector, a_vector_of_strings, objects_found_or_made, size_and_region, modes,
+        a_map, refusals_of_a_vector, a_vector_of_strings, objects_found_or_made, many_at_once, size_and_region, modes,
         what_is_refused, segments_move, errors_say_what};
     for (void (*each)() : cases) {
         try {

@@ -371,6 +371,46 @@ def every_kind_of_scalar():
     raises(zaluxhoni.BadValue, s.construct, "i64", "other", True)
 
 
+def many_at_once():
+    s = zaluxhoni.create(65536, grow=True)
+    a = s.construct("i64[3]", "a", [7, -8, 9])
+    same(list(a), [7, -8, 9])
+    same(a[1:], [-8, 9])
+    same(a[::-2], [9, 7])
+    same(a[3:], [])
+    a[1:] = [20, 30]
+    same(list(a), [7, 20, 30])
+    a[::2] = [1, 2]
+    same(list(a), [1, 20, 2])
+    a[3:] = []
+    raises(zaluxhoni.OutOfRange, set_item, a, slice(0, 2), [5, 2**63])
+    raises(zaluxhoni.WrongKind, set_item, a, slice(0, 2), [5, True])
+    same(list(a), [1, 20, 2])
+    same(s.find_or_construct("i64[3]", "a", [4, 5, 6])[:], [1, 20, 2])
+    same(s.find_or_construct("i64[2]", "n", [4, 5])[:], [4, 5])
+    for kind, some in (("bool", [True, False]), ("u8", [0, 255]), ("i32", [-2**31, 9]), ("u64", [2**64 - 1, 0])):
+        same(s.construct(f"{kind}[2]", kind, some)[:], some)
+        s[kind][:] = some[::-1]
+        same(list(s[kind]), some[::-1])
+    v = s.vector("v", "i64")
+    v.assign(range(10000))
+    before = s._calls
+    same(list(v), list(range(10000)))
+    same(s._calls - before < 50, True)
+    same(v[9000:10], [])
+    same(v[-2:], [9998, 9999])
+    # what is changed while it is gone over is seen, as in a list
+    for place, number in enumerate(v):
+        if place == 100:
+            break
+        v[place + 1] = number + 2
+    same(v[:102], [2 * place for place in range(101)] + [101])
+    for number in v:
+        v.clear()
+    same(list(v), [])
+    saved(s, "many")
+
+
 def a_segment_as_a_dict():
     s = zaluxhoni.create(1024, grow=True)
     s["number"] = 5
@@ -561,7 +601,7 @@ def what_is_not_closed():
 
 for case in (an_anonymous_object, names, index_and_object_do_not_both_fit, arrays, the_only_object_of_its_kind,
              places_reserved_in_the_indexes, best_fit, storage_is_lengthened_then_replaced, a_string_grows_and_shrinks, a_map,
-             refusals_of_a_vector, a_vector_of_strings, objects_found_or_made, every_kind_of_scalar, a_segment_as_a_dict,
+             refusals_of_a_vector, a_vector_of_strings, objects_found_or_made, every_kind_of_scalar, many_at_once, a_segment_as_a_dict,
              size_and_region, what_is_refused, one_thread, files, files_that_fail, what_is_not_closed):
     try:
         case()

@@ -1,0 +1,14 @@
+use Rattle.std.proofs.Common.{◌≡◌, ◌∙◌, refl, sym, ap, subst, map}
+use Rattle.segment_c.specs.Reads.{IsCoded}
+use Rattle.segment_values.specs.Ranges.{read_into}
+use Rattle.segment_c.proofs.ranges.read_row.Goals as goal
+
+pub returns-in-Ok-clause-told : goal.returns-in-Ok-clause-told
+returns-in-Ok-clause-told g c = λ d st.
+    subst (IsCoded (λ zs. map g.T.Scalar.whole c.read_elements.new.row ≡ zs) 0)
+    (ap (read_into g.T.Scalar.whole c.read_elements.new.row) (sym c.in-Ok.is) ∙ c.read_elements.ensures.read.answers d st) (refl, refl)
+
+pub returns-in-Err-clause-told : goal.returns-in-Err-clause-told
+returns-in-Err-clause-told g c = λ d st.
+    subst (IsCoded (λ zs. map g.T.Scalar.whole c.read_elements.new.row ≡ zs) c.number_of.result)
+    (ap (read_into g.T.Scalar.whole c.read_elements.new.row) (sym c.in-Err.is) ∙ c.read_elements.ensures.read.answers d st) c.number_of.ensures.number

@@ -1,0 +1,224 @@
+//! Elements of arrays and vectors of scalars, so many read or written by one call.
+ghost use Rattle.std.specs.Prelude.{◌≡◌, ◌≤◌, OnErr, length, map, pos};
+ghost use Rattle.std.specs.declared.option.Option.TheVariants.{Some};
+ghost use Rattle.seg_types.specs.declared.kinds.ScalarKind.TheVariants.{Bool as BoolKind, I32 as I32Kind, I64 as I64Kind, U8 as U8Kind, U64 as U64Kind};
+ghost use Rattle.seg_types.specs.Keys.{key_seen};
+ghost use Rattle.seg_types.specs.Kinds.{truth_number};
+ghost use Rattle.segment_c.specs.Calls.{IsAsked, IsClosed, IsStopped};
+ghost use Rattle.segment_c.specs.Codes.{answer_for};
+ghost use Rattle.segment_c.specs.Passed.{key_of, key_wrong, numbers_of, or_else, row_of, row_wrong, scalar_kind_in};
+ghost use Rattle.segment_c.specs.Reads.{IsCoded};
+ghost use Rattle.segment_manager.specs.Answers.{Done};
+ghost use Rattle.segment_manager.specs.Directory.{Directory};
+ghost use Rattle.segment_manager.specs.State.{StandsFor, State, done_answer};
+ghost use Rattle.segment_values.specs.Ranges.{WritesRange, range_at};
+
+use crate::codes::{CLOSED, DONE, done, number_of};
+use crate::handle::{Handle, put, take};
+use crate::keys::ObjectKey;
+use crate::rows::Values;
+use seg_types::{Key, Refusal, Scalar, ScalarKind};
+use segment_manager::Segment;
+use std::alloc::Global;
+
+/// Copies elements of the object of a key into a row, of a type.
+fn read_row<T: Scalar>(segment: &Segment, key: &Key, first: u64, row: &mut [T]) -> u32
+    ensures told { (d : Directory) → StandsFor segment.now.cut.bytes d → IsCoded (λ zs. map T.whole row.new ≡ zs) result (range_at d (key_seen key.now) T.kind first (length row.old)) }
+    ensures kept { 1 ≤ result → row.new ≡ row.old }
+{
+    match segment_values::read_elements(segment, key, first, row) {
+        Ok(()) => DONE,
+        Err(why) => number_of(why),
+    }
+}
+
+/// Copies elements of the array or vector of a key into a row of truths: as many as the row has, from `first` on.
+#[unsafe(no_mangle)]
+pub extern "C" fn zx_read_bools(
+    alloc: Global,
+    h: &mut Handle,
+    key: &ObjectKey<'_>,
+    first: u64,
+    row: &mut [bool],
+) -> u32
+    ensures stopped { IsStopped (key_wrong key.now) result h.old.value h.new.value }
+    ensures closed { IsClosed (key_wrong key.now) result h.old.value h.new.value }
+    ensures told { (s : State) → key_wrong key.now ≡ 0 → h.old.value ≡ Some s → (d : Directory) → StandsFor s.cut.bytes d
+        → IsCoded (λ zs. map truth_number row.new ≡ zs) result (range_at d (key_of key.now) BoolKind first (length row.old)) }
+    ensures same { h.new.value ≡ h.old.value }
+    ensures results { 1 ≤ result → row.new ≡ row.old }
+{
+    let which = match key.key() {
+        Ok(it) => it,
+        Err(code) => return code,
+    };
+    let Some(segment) = take(alloc, h) else {
+        return CLOSED;
+    };
+    let code = read_row::<bool>(&segment, &which, first, row);
+    put(h, segment);
+    code
+}
+
+/// Copies elements of the array or vector of a key into a row of bytes: as many as the row has, from `first` on.
+#[unsafe(no_mangle)]
+pub extern "C" fn zx_read_u8s(
+    alloc: Global,
+    h: &mut Handle,
+    key: &ObjectKey<'_>,
+    first: u64,
+    row: &mut [u8],
+) -> u32
+    ensures stopped { IsStopped (key_wrong key.now) result h.old.value h.new.value }
+    ensures closed { IsClosed (key_wrong key.now) result h.old.value h.new.value }
+    ensures told { (s : State) → key_wrong key.now ≡ 0 → h.old.value ≡ Some s → (d : Directory) → StandsFor s.cut.bytes d
+        → IsCoded (λ zs. map pos row.new ≡ zs) result (range_at d (key_of key.now) U8Kind first (length row.old)) }
+    ensures same { h.new.value ≡ h.old.value }
+    ensures results { 1 ≤ result → row.new ≡ row.old }
+{
+    let which = match key.key() {
+        Ok(it) => it,
+        Err(code) => return code,
+    };
+    let Some(segment) = take(alloc, h) else {
+        return CLOSED;
+    };
+    let code = read_row::<u8>(&segment, &which, first, row);
+    put(h, segment);
+    code
+}
+
+/// Copies elements of the array or vector of a key into a row of numbers of 32 bits: as many as the row has, from `first` on.
+#[unsafe(no_mangle)]
+pub extern "C" fn zx_read_i32s(
+    alloc: Global,
+    h: &mut Handle,
+    key: &ObjectKey<'_>,
+    first: u64,
+    row: &mut [i32],
+) -> u32
+    ensures stopped { IsStopped (key_wrong key.now) result h.old.value h.new.value }
+    ensures closed { IsClosed (key_wrong key.now) result h.old.value h.new.value }
+    ensures told { (s : State) → key_wrong key.now ≡ 0 → h.old.value ≡ Some s → (d : Directory) → StandsFor s.cut.bytes d
+        → IsCoded (λ zs. map (λ x. x) row.new ≡ zs) result (range_at d (key_of key.now) I32Kind first (length row.old)) }
+    ensures same { h.new.value ≡ h.old.value }
+    ensures results { 1 ≤ result → row.new ≡ row.old }
+{
+    let which = match key.key() {
+        Ok(it) => it,
+        Err(code) => return code,
+    };
+    let Some(segment) = take(alloc, h) else {
+        return CLOSED;
+    };
+    let code = read_row::<i32>(&segment, &which, first, row);
+    put(h, segment);
+    code
+}
+
+/// Copies elements of the array or vector of a key into a row of signed numbers of 64 bits: as many as the row has, from `first` on.
+#[unsafe(no_mangle)]
+pub extern "C" fn zx_read_i64s(
+    alloc: Global,
+    h: &mut Handle,
+    key: &ObjectKey<'_>,
+    first: u64,
+    row: &mut [i64],
+) -> u32
+    ensures stopped { IsStopped (key_wrong key.now) result h.old.value h.new.value }
+    ensures closed { IsClosed (key_wrong key.now) result h.old.value h.new.value }
+    ensures told { (s : State) → key_wrong key.now ≡ 0 → h.old.value ≡ Some s → (d : Directory) → StandsFor s.cut.bytes d
+        → IsCoded (λ zs. map (λ x. x) row.new ≡ zs) result (range_at d (key_of key.now) I64Kind first (length row.old)) }
+    ensures same { h.new.value ≡ h.old.value }
+    ensures results { 1 ≤ result → row.new ≡ row.old }
+{
+    let which = match key.key() {
+        Ok(it) => it,
+        Err(code) => return code,
+    };
+    let Some(segment) = take(alloc, h) else {
+        return CLOSED;
+    };
+    let code = read_row::<i64>(&segment, &which, first, row);
+    put(h, segment);
+    code
+}
+
+/// Copies elements of the array or vector of a key into a row of numbers of 64 bits without a sign: as many as the row has, from `first` on.
+#[unsafe(no_mangle)]
+pub extern "C" fn zx_read_u64s(
+    alloc: Global,
+    h: &mut Handle,
+    key: &ObjectKey<'_>,
+    first: u64,
+    row: &mut [u64],
+) -> u32
+    ensures stopped { IsStopped (key_wrong key.now) result h.old.value h.new.value }
+    ensures closed { IsClosed (key_wrong key.now) result h.old.value h.new.value }
+    ensures told { (s : State) → key_wrong key.now ≡ 0 → h.old.value ≡ Some s → (d : Directory) → StandsFor s.cut.bytes d
+        → IsCoded (λ zs. map pos row.new ≡ zs) result (range_at d (key_of key.now) U64Kind first (length row.old)) }
+    ensures same { h.new.value ≡ h.old.value }
+    ensures results { 1 ≤ result → row.new ≡ row.old }
+{
+    let which = match key.key() {
+        Ok(it) => it,
+        Err(code) => return code,
+    };
+    let Some(segment) = take(alloc, h) else {
+        return CLOSED;
+    };
+    let code = read_row::<u64>(&segment, &which, first, row);
+    put(h, segment);
+    code
+}
+
+/// Makes the values of a row, of which the slice of a kind is meant, elements of the object of a key, from `first` on.
+fn write_row(
+    segment: &mut Segment,
+    key: &Key,
+    first: u64,
+    kind: ScalarKind,
+    row: &Values<'_>,
+) -> Result<(), Refusal>
+    ensures step { WritesRange segment.old segment.new (key_seen key.now) kind first (numbers_of row.now kind) (done_answer result) }
+    ensures refused { OnErr result (segment.new ≡ segment.old) }
+{
+    match kind {
+        ScalarKind::Bool => segment_values::write_elements(segment, key, first, row.truths),
+        ScalarKind::U8 => segment_values::write_elements(segment, key, first, row.bytes),
+        ScalarKind::I32 => segment_values::write_elements(segment, key, first, row.i32s),
+        ScalarKind::I64 => segment_values::write_elements(segment, key, first, row.i64s),
+        ScalarKind::U64 => segment_values::write_elements(segment, key, first, row.u64s),
+    }
+}
+
+/// Makes the values elements of the array or vector of a key, of their kind, from `first` on: all of them or none.
+#[unsafe(no_mangle)]
+pub extern "C" fn zx_write_elements(
+    alloc: Global,
+    h: &mut Handle,
+    key: &ObjectKey<'_>,
+    first: u64,
+    values: &Values<'_>,
+) -> u32
+    ensures stopped { IsStopped (or_else (key_wrong key.now) (row_wrong values.now)) result h.old.value h.new.value }
+    ensures closed { IsClosed (or_else (key_wrong key.now) (row_wrong values.now)) result h.old.value h.new.value }
+    ensures asked { IsAsked (or_else (key_wrong key.now) (row_wrong values.now)) result h.old.value h.new.value
+        (λ s t. WritesRange s t (key_of key.now) (scalar_kind_in values.now.kind) first (row_of values.now) (answer_for result Done)) }
+    ensures kept { 1 ≤ result → h.new.value ≡ h.old.value }
+{
+    let which = match key.key() {
+        Ok(it) => it,
+        Err(code) => return code,
+    };
+    let kind = match values.scalar_kind() {
+        Ok(it) => it,
+        Err(code) => return code,
+    };
+    let Some(mut segment) = take(alloc, h) else {
+        return CLOSED;
+    };
+    let code = done(write_row(&mut segment, &which, first, kind, values));
+    put(h, segment);
+    code
+}

@@ -9,7 +9,7 @@ ghost use Rattle.segment_manager.specs.State.{Answers, StandsFor};
 ghost use Rattle.segment_values.specs.Ranges.{range_at, range_of, read_into};
 
 use seg_types::{Key, Kind, Refusal, Scalar};
-use segment_manager::{Object, Segment};
+use segment_manager::{Object, Segment, locate};
 
 /// Copies elements of the object of a key into a row: as many as the row has, from `first` on. The object is an array of scalars of
 /// the type, or a vector of them.
@@ -27,7 +27,7 @@ pub fn read_elements<T: Scalar>(
     ensures read { Answers segment.now (λ d. range_at d (key_seen key.now) T.kind first (length row.old)) (read_into T.whole row.new result) }
     ensures kept { OnErr result (row.new ≡ row.old) }
 {
-    match segment.locate(key) {
+    match locate(segment, key) {
         Err(why) => Err(why),
         Ok(object) => read_object(segment, &object, first, row),
     }

@@ -12,7 +12,7 @@ ghost use Rattle.segment_values.specs.Ranges.{HasRange, WritesRange};
 
 use crate::reads::{has_range, number_or_none};
 use seg_types::{Key, Kind, Refusal, Scalar};
-use segment_manager::{Mode, Object, Segment};
+use segment_manager::{Mode, Object, Segment, locate};
 
 /// Makes the values of a row elements of the object of a key, from `first` on. The object is an array of scalars of the type, or a
 /// vector of them.
@@ -33,7 +33,7 @@ pub fn write_elements<T: Scalar>(
     if segment.mode() == Mode::ReadOnly {
         return Err(Refusal::ReadOnly);
     }
-    match segment.locate(key) {
+    match locate(segment, key) {
         Err(why) => Err(why),
         Ok(object) => write_object(segment, &object, first, row),
     }

@@ -13,18 +13,18 @@ use Rattle.seg_types.specs.Names.{Key}
 use Rattle.seg_types.specs.Commands.{Lookup, Put, Remove, literal_of}
 use Rattle.seg_map.specs.declared.places.Place.{Place}
 use Rattle.seg_map.specs.Changing.{Erases, Puts}
-use Rattle.seg_map.specs.Places.{FindsItem, FindsValue, IsSomeMap}
+use Rattle.seg_map.specs.Places.{FindsItem, FindsItemBefore, FindsLastItem, FindsValue, IsSomeMap}
 use Rattle.seg_vector.specs.declared.places.Place.{Place as ContainerPlace}
 use Rattle.segment_manager.specs.Contents.{container_at, sizes_at_kind, sizes_of}
 use Rattle.segment_manager.specs.Directory.{Directory, kind_of, padded}
 use Rattle.segment_manager.specs.Layout.{head_len}
-use Rattle.segment_manager.specs.Maps.{map_at, numbers_in, pair_above, pair_from, told_of_map, value_or_absent}
+use Rattle.segment_manager.specs.Maps.{map_at, numbers_in, pair_above, pair_at_end, pair_below, pair_from, pair_up_to, told_of_map, value_or_absent}
 use Rattle.segment_manager.specs.State.{Answers, IsReplyOfKind, IsSegment, State, StandsFor}
 use Rattle.segment_manager.specs.Step.{is_read_only}
 use Rattle.segment_manager.proofs.AnyStorage.{sizes-found}
 use Rattle.segment_manager.proofs.Heads.{good-name, good_name-short}
 use Rattle.segment_manager.proofs.MapCalls.{HoldsPairs, TellsSafely, as_map, holds-pairs, map-erased, map-got, map-put, map-told, put_result, stands-map}
-use Rattle.segment_manager.proofs.PairNumbers.{IsScalarOf, erases-numbers, finds-item, finds-value, puts-numbers, some-map}
+use Rattle.segment_manager.proofs.PairNumbers.{IsScalarOf, erases-numbers, finds-back, finds-item, finds-last, finds-value, puts-numbers, some-map}
 
 module _ {K V : Type 0} (k v : ScalarKind) (kp : Plain K) (vp : Plain V) (kw : K → ℤ) (vw : V → ℤ) (kl : IsScalarOf k kp kw) (vl : IsScalarOf v vp vw)
     (s t : State) (view : s ≡ t) (key : Key) (p q : Place) (same : q ≡ p) (b : IsSegment s.cut.bytes) (found : Answers t (λ d. map_at d key k v) (Ok p)) where
@@ -61,6 +61,24 @@ module _ {K V : Type 0} (k v : ScalarKind) (kp : Plain K) (vp : Plain V) (kw : K
       subst (λ (u : State). Answers u (λ d. told_of_map d key k v (pair_above (kw x))) (Ok (numbers_in kw vw r))) view
       (map-told s key k v p b found-there (pair_above (kw x)) (numbers_in kw vw r)
       (finds-item k v kp vp kw vw kl vl s.cut.bytes p.handle p.at true x r (subst (λ (r' : Place). FindsItem kp vp s.cut.bytes r'.handle r'.at true x r) same each)))
+
+  pub up_to-there : (x : K) (r : Option (K × V)) → FindsItemBefore kp vp s.cut.bytes q.handle q.at true x r → Answers t (λ d. told_of_map d key k v (pair_up_to (kw x))) (Ok (numbers_in kw vw r))
+  up_to-there x r each =
+      subst (λ (u : State). Answers u (λ d. told_of_map d key k v (pair_up_to (kw x))) (Ok (numbers_in kw vw r))) view
+      (map-told s key k v p b found-there (pair_up_to (kw x)) (numbers_in kw vw r)
+      (finds-back k v kp vp kw vw kl vl s.cut.bytes p.handle p.at true x r (subst (λ (r' : Place). FindsItemBefore kp vp s.cut.bytes r'.handle r'.at true x r) same each)))
+
+  pub below-there : (x : K) (r : Option (K × V)) → FindsItemBefore kp vp s.cut.bytes q.handle q.at false x r → Answers t (λ d. told_of_map d key k v (pair_below (kw x))) (Ok (numbers_in kw vw r))
+  below-there x r each =
+      subst (λ (u : State). Answers u (λ d. told_of_map d key k v (pair_below (kw x))) (Ok (numbers_in kw vw r))) view
+      (map-told s key k v p b found-there (pair_below (kw x)) (numbers_in kw vw r)
+      (finds-back k v kp vp kw vw kl vl s.cut.bytes p.handle p.at false x r (subst (λ (r' : Place). FindsItemBefore kp vp s.cut.bytes r'.handle r'.at false x r) same each)))
+
+  pub last-there : (r : Option (K × V)) → FindsLastItem kp vp s.cut.bytes q.handle q.at r → Answers t (λ d. told_of_map d key k v pair_at_end) (Ok (numbers_in kw vw r))
+  last-there r each =
+      subst (λ (u : State). Answers u (λ d. told_of_map d key k v pair_at_end) (Ok (numbers_in kw vw r))) view
+      (map-told s key k v p b found-there pair_at_end (numbers_in kw vw r)
+      (finds-last k v kp vp kw vw kl vl s.cut.bytes p.handle p.at r (subst (λ (r' : Place). FindsLastItem kp vp s.cut.bytes r'.handle r'.at r) same each)))
 
   -- ---- what is changed
 

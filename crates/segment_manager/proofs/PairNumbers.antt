@@ -1,5 +1,6 @@
 -- Maps of values of two types as maps of their numbers: lists of pairs, maps at a place, and what the calls of seg_map ensure of them.
 use Rattle.std.proofs.Common.{◌≡◌, refl, sym, ap, subst, ◌∙◌, ℕ, ◌+◌, ℤ, Bool, true, false, ◌&&◌, ◌||◌, not, Option, Some, None, Result, Ok, Err, List, [], ◌∷◌, map, if◌then◌else◌}
+use mathlib.Core.List.{reverse}
 use Rattle.std.specs.Prelude.{IsTrue, MatchOption, MatchResult, find, int_lt, option_map}
 use Rattle.std.specs.List.{AllByRecursion}
 use Rattle.std.proofs.lemmas.List.{length-map}
@@ -18,7 +19,8 @@ use Rattle.seg_types.specs.Kinds.{is_value, size_of, spelling}
 use Rattle.seg_map.specs.Changing.{Erases, IsBesideMap, IsErased, IsFull, IsGivenUp, IsPut, IsPutAgain, Puts, Releases}
 use Rattle.seg_map.specs.Map.{IsPairAt, Pair, is_key, is_pair, is_rising, node_len, pair_at, put_pair, remove_pair}
 use Rattle.seg_map.specs.Numbers.{IsNumberPairAt, NumberPair, is_number_pair}
-use Rattle.seg_map.specs.Places.{FindsItem, FindsValue, HoldsMap, IsPairIn, IsSomeMap, first_pair, is_passed, item_of, nodes_of_pairs, value_of_pair}
+use Rattle.seg_map.specs.Places.{FindsItem, FindsItemBefore, FindsLastItem, FindsValue, HoldsMap, IsPairIn, IsSomeMap, final_pair, first_pair, is_passed, item_of, last_pair, nodes_of_pairs, value_of_pair}
+use Rattle.seg_map.proofs.Laws.{last_mapped, map_reversed}
 use Rattle.segment_manager.specs.Maps.{numbers_in, numbers_of}
 use Rattle.segment_manager.proofs.Words.{first, second}
 
@@ -66,6 +68,15 @@ module _ {K V : Type 0} (k v : ScalarKind) (kp : Plain K) (vp : Plain V) (kw : K
   numbers-first past x ps =
       find-made number_pair (λ p. not (is_passed kp.order past x p)) (λ p. not (is_passed int_lt past (kw x) p))
       (λ p i. not (if past then not (sym (kl.ordered x p.key) i) else sym (kl.ordered p.key x) i)) ps
+
+  numbers-last : (past : Bool) (x : K) (ps : List (Pair K V)) → last_pair int_lt past (kw x) (number_pairs ps) ≡ option_map number_pair (last_pair kp.order past x ps)
+  numbers-last past x ps =
+      ap (find (is_passed int_lt past (kw x))) (map_reversed number_pair ps)
+      ∙ find-made number_pair (is_passed kp.order past x) (is_passed int_lt past (kw x))
+      (λ p i. if past then not (sym (kl.ordered x p.key) i) else sym (kl.ordered p.key x) i) (reverse ps)
+
+  numbers-final : (ps : List (Pair K V)) → final_pair (number_pairs ps) ≡ option_map number_pair (final_pair ps)
+  numbers-final ps = last_mapped number_pair None ps
 
   numbers-rising : (ps : List (Pair K V)) → is_rising int_lt (number_pairs ps) ≡ is_rising kp.order ps
   numbers-rising [] = refl
@@ -208,6 +219,16 @@ module _ {K V : Type 0} (k v : ScalarKind) (kp : Plain K) (vp : Plain V) (kw : K
   finds-item b h at past x r each =
       of-values b h at (λ qs. numbers_in kw vw r ≡ option_map item_of (first_pair int_lt past (kw x) qs))
       (λ ps s. ap (numbers_in kw vw) (each ps s) ∙ found-item (first_pair kp.order past x ps) ∙ ap (option_map item_of) (sym (numbers-first past x ps)))
+
+  pub finds-back : (b : List ℕ) (h at : ℕ) (past : Bool) (x : K) (r : Option (K × V)) → FindsItemBefore kp vp b h at past x r → FindsItemBefore (numbers_of k) (numbers_of v) b h at past (kw x) (numbers_in kw vw r)
+  finds-back b h at past x r each =
+      of-values b h at (λ qs. numbers_in kw vw r ≡ option_map item_of (last_pair int_lt past (kw x) qs))
+      (λ ps s. ap (numbers_in kw vw) (each ps s) ∙ found-item (last_pair kp.order past x ps) ∙ ap (option_map item_of) (sym (numbers-last past x ps)))
+
+  pub finds-last : (b : List ℕ) (h at : ℕ) (r : Option (K × V)) → FindsLastItem kp vp b h at r → FindsLastItem (numbers_of k) (numbers_of v) b h at (numbers_in kw vw r)
+  finds-last b h at r each =
+      of-values b h at (λ qs. numbers_in kw vw r ≡ option_map item_of (final_pair qs))
+      (λ ps s. ap (numbers_in kw vw) (each ps s) ∙ found-item (final_pair ps) ∙ ap (option_map item_of) (sym (numbers-final ps)))
 
   -- ---- what becomes of them
 

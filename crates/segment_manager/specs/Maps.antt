@@ -14,7 +14,7 @@ use Rattle.seg_types.specs.Names.{Key}
 use Rattle.seg_map.specs.declared.places.Place.{Place}
 use Rattle.seg_map.specs.Changing as maps
 use Rattle.seg_map.specs.Numbers.{NumberPair}
-use Rattle.seg_map.specs.Places.{HoldsMap, first_pair, item_of}
+use Rattle.seg_map.specs.Places.{HoldsMap, final_pair, first_pair, item_of, last_pair}
 use Rattle.segment_manager.specs.Answers.{Answer, Absent, Element}
 use Rattle.segment_manager.specs.Contents.{container_at}
 use Rattle.segment_manager.specs.Directory.{Value, Numbers, Elements, Bytes, Pairs, Texts, Directory, kind_of, object_at}
@@ -72,6 +72,16 @@ pair_from from ps = option_map item_of (first_pair int_lt false from ps)
 
 abbrev pub pair_above : ℤ → List NumberPair → Option (ℤ × ℤ)
 pair_above key ps = option_map item_of (first_pair int_lt true key ps)
+
+-- So the last key that is not above a number is the greatest of those, as is the last below it, and the last of all.
+abbrev pub pair_up_to : ℤ → List NumberPair → Option (ℤ × ℤ)
+pair_up_to to ps = option_map item_of (last_pair int_lt true to ps)
+
+abbrev pub pair_below : ℤ → List NumberPair → Option (ℤ × ℤ)
+pair_below key ps = option_map item_of (last_pair int_lt false key ps)
+
+abbrev pub pair_at_end : List NumberPair → Option (ℤ × ℤ)
+pair_at_end ps = option_map item_of (final_pair ps)
 
 -- a key and a value, or none, as numbers
 abbrev pub numbers_in : {K V : Type 0} → (K → ℤ) → (V → ℤ) → Option (K × V) → Option (ℤ × ℤ)

@@ -3,7 +3,7 @@ ghost use Rattle.std.specs.Prelude.{◌≡◌, OnErr};
 ghost use Rattle.seg_types.specs.declared.kinds.Kind.TheVariants.{Map as MapOf};
 ghost use Rattle.seg_types.specs.Commands.{Lookup, Put, Remove, literal_of};
 ghost use Rattle.segment_manager.specs.Keeping.{KeepsWhere, LacksPair};
-ghost use Rattle.segment_manager.specs.Maps.{map_at, pair_above, pair_from, pair_result, told_of_map, value_answer};
+ghost use Rattle.segment_manager.specs.Maps.{map_at, pair_above, pair_at_end, pair_below, pair_from, pair_result, pair_up_to, told_of_map, value_answer};
 ghost use Rattle.segment_manager.specs.State.{Answers, IsReplyOfKind, IsStepOfKind, truth_answer};
 
 use crate::segment::Segment;
@@ -82,6 +82,77 @@ impl Segment {
             Ok(place) => Ok(SegMap::<K, V>::at(place).next_after(
                 &self.heap,
                 after,
+                &mut Steps::new(),
+            )),
+        }
+    }
+
+    /// The pair with the greatest key, of the map of a key, a map of the types; `None` where it has no pair.
+    ///
+    /// Example: `let last: Option<(i32, i64)> = segment.map_last(&name)?`.
+    ///
+    /// # Errors
+    ///
+    /// `NotFound` where no object has the key, `WrongKind` where it is of another kind.
+    pub fn map_last<K: Scalar, V: Scalar, O: Target>(
+        &self,
+        key: &O,
+    ) -> Result<Option<(K, V)>, Refusal>
+        requires { O.stands key.now self.now }
+        ensures { Answers self.now (λ d. told_of_map d (O.key key.now) K.kind V.kind pair_at_end) (pair_result K.whole V.whole result) }
+    {
+        match self.find_map::<K, V, O>(key) {
+            Err(why) => Err(why),
+            Ok(place) => Ok(SegMap::<K, V>::at(place).last(&self.heap, &mut Steps::new())),
+        }
+    }
+
+    /// The pair with the greatest key that is not above `to`, of the map of a key, a map of the types.
+    ///
+    /// Example: `let last: Option<(i32, i64)> = segment.map_last_up_to(&name, 2)?`.
+    ///
+    /// # Errors
+    ///
+    /// `NotFound` where no object has the key, `WrongKind` where it is of another kind.
+    pub fn map_last_up_to<K: Scalar, V: Scalar, O: Target>(
+        &self,
+        key: &O,
+        to: K,
+    ) -> Result<Option<(K, V)>, Refusal>
+        requires { O.stands key.now self.now }
+        ensures { Answers self.now (λ d. told_of_map d (O.key key.now) K.kind V.kind (pair_up_to (K.whole to))) (pair_result K.whole V.whole result) }
+    {
+        match self.find_map::<K, V, O>(key) {
+            Err(why) => Err(why),
+            Ok(place) => Ok(SegMap::<K, V>::at(place).last_up_to(
+                &self.heap,
+                to,
+                &mut Steps::new(),
+            )),
+        }
+    }
+
+    /// The pair with the greatest key below `before`, of the map of a key, a map of the types. So all pairs are read by falling
+    /// keys from `map_last` on, each in a walk from the root of the tree.
+    ///
+    /// Example: `let previous: Option<(i32, i64)> = segment.map_previous_before(&name, 2)?`.
+    ///
+    /// # Errors
+    ///
+    /// `NotFound` where no object has the key, `WrongKind` where it is of another kind.
+    pub fn map_previous_before<K: Scalar, V: Scalar, O: Target>(
+        &self,
+        key: &O,
+        before: K,
+    ) -> Result<Option<(K, V)>, Refusal>
+        requires { O.stands key.now self.now }
+        ensures { Answers self.now (λ d. told_of_map d (O.key key.now) K.kind V.kind (pair_below (K.whole before))) (pair_result K.whole V.whole result) }
+    {
+        match self.find_map::<K, V, O>(key) {
+            Err(why) => Err(why),
+            Ok(place) => Ok(SegMap::<K, V>::at(place).previous_before(
+                &self.heap,
+                before,
                 &mut Steps::new(),
             )),
         }

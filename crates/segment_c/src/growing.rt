@@ -11,8 +11,8 @@ use crate::codes::{BAD_GROWTH, CLOSED, DONE, NO_MEMORY, READ_ONLY, TOO_LARGE};
 use crate::handle::{Handle, put, take};
 use grow_shrink::GrowError;
 use raw_region::{OutOfMemory, RawRegion, Window};
-use segment_manager::conditioned::{adopt, extend_end};
 use segment_manager::Segment;
+use segment_manager::conditioned::{adopt, extend_end};
 use std::alloc::Global;
 
 /// The most bytes that a segment has.

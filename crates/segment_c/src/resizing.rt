@@ -16,8 +16,8 @@ use crate::codes::{
 use crate::handle::{Handle, put, take};
 use grow_shrink::GrowError;
 use raw_region::{RawRegion, Window};
-use segment_manager::conditioned::adopt;
 use segment_manager::Segment;
+use segment_manager::conditioned::adopt;
 use std::alloc::Global;
 
 /// The most bytes of a region.

@@ -8,8 +8,8 @@ use crate::file_errors::FileError;
 use crate::regions::region_for;
 use grow_shrink::GrowError;
 use raw_region::{OutOfMemory, Window};
-use segment_manager::conditioned::{adopt, extend_end};
 use segment_manager::Segment;
+use segment_manager::conditioned::{adopt, extend_end};
 use std::alloc::Global;
 
 /// Makes a segment longer by `extra` bytes. It moves into a larger region where its own has no room.

@@ -9,8 +9,8 @@ ghost use Rattle.segment_report.specs.Picture.{object_in};
 use crate::sizes::size_of;
 use block_tags::{Role, Tile};
 use seg_types::{Class, Key, Kind, ScalarKind};
-use segment_manager::conditioned::next_tile;
 use segment_manager::Segment;
+use segment_manager::conditioned::next_tile;
 
 /// How many kinds there are.
 const KIND_COUNT: usize = 37;

@@ -13,8 +13,8 @@ use crate::sizes::size_of;
 use block_tags::{Role, Tile};
 use raw_region::{DeviceFault, Sink};
 use seg_types::Key;
-use segment_manager::conditioned::next_tile;
 use segment_manager::Segment;
+use segment_manager::conditioned::next_tile;
 
 /// The bytes of a segment's header.
 const HEADER: u64 = 128;

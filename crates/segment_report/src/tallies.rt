@@ -6,8 +6,8 @@ ghost use Rattle.segment_report.specs.Usages.{tally_of};
 
 use crate::sizes::size_of;
 use block_tags::Role;
-use segment_manager::conditioned::next_tile;
 use segment_manager::Segment;
+use segment_manager::conditioned::next_tile;
 
 /// How many blocks of one use there are, and their bytes together.
 #[derive(Clone, Copy, Debug, PartialEq, Eq)]

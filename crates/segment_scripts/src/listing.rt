@@ -12,8 +12,8 @@ ghost use Rattle.segment_scripts.specs.Writing.{WritesFor};
 use block_tags::{Role, Tile};
 use raw_region::{DeviceFault, Sink};
 use segment_lang::{Piece, put_pieces};
-use segment_manager::conditioned::next_tile;
 use segment_manager::Segment;
+use segment_manager::conditioned::next_tile;
 
 /// Writes a line for each block and gap by offset, and then `end`.
 #[inline(never)]

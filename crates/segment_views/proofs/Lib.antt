@@ -1,6 +1,6 @@
 mod Here
 mod Reading
 mod Repeating
-mod Ranges
+mod Between
 mod RangeReads
-mod Copying
+mod Copies

@@ -18,7 +18,14 @@ use Rattle.segment_manager.specs.State.{Answers, State, StandsFor}
 use Rattle.segment_manager.specs.Walks.{first_of, pairs_at_kinds}
 use Rattle.segment_manager.proofs.Laws.{map-least, map-length, map-rises, map-told}
 use Rattle.segment_views.specs.Ranged.{GoesOnPairs, PairWalk, TakesFirst, is_from, is_up_to, pair_or_none, pairs_left, range_of}
-use Rattle.segment_views.proofs.Ranges.{admitted, range-begins, range-empty, range-few, range-within}
+use Rattle.segment_views.proofs.Between.{admitted, range-begins, range-empty, range-few, range-within}
+
+-- a pair is admitted where its key is
+pub is-admitted : (end : Bound ℤ) (x y : ℤ) → is_up_to end x ≡ true → admitted (is_up_to end) (Some (x, y)) ≡ Some (x, y)
+is-admitted end x y e = ap (λ (b : Bool). let o : Option (ℤ × ℤ) = if b then Some (x, y) else None in o) e
+
+pub not-admitted : (end : Bound ℤ) (x y : ℤ) → is_up_to end x ≡ false → admitted (is_up_to end) (Some (x, y)) ≡ None
+not-admitted end x y e = ap (λ (b : Bool). let o : Option (ℤ × ℤ) = if b then Some (x, y) else None in o) e
 
 module _ (s : State) (key : Key) (k v : ScalarKind) where
   -- what is told of a map is told of the pairs that it has, and none are there where the reading is refused
@@ -46,12 +53,6 @@ module _ (s : State) (key : Key) (k v : ScalarKind) where
     answers = λ d h. ap (admitted (is_up_to end)) (a.answers d h) ∙ sym (range-within start end (pairs_at_kinds d key k v) (map-rises d key k v s.cut.bytes h.denotes));
   }
 
-  pub is-admitted : (end : Bound ℤ) (x y : ℤ) → is_up_to end x ≡ true → admitted (is_up_to end) (Some (x, y)) ≡ Some (x, y)
-  is-admitted end x y e = ap (λ (b : Bool). let o : Option (ℤ × ℤ) = if b then Some (x, y) else None in o) e
-
-  pub not-admitted : (end : Bound ℤ) (x y : ℤ) → is_up_to end x ≡ false → admitted (is_up_to end) (Some (x, y)) ≡ None
-  not-admitted end x y e = ap (λ (b : Bool). let o : Option (ℤ × ℤ) = if b then Some (x, y) else None in o) e
-
   -- the first pair is taken, and the others are left
   module _ (start end : Bound ℤ) where
     pub none-left : Answers s (λ d. slice_get (range_of start end (pairs_at_kinds d key k v)) 0) None → (d : Directory) → StandsFor s.cut.bytes d → range_of start end (pairs_at_kinds d key k v) ≡ []
@@ -78,7 +79,7 @@ module _ (s : State) (key : Key) (k v : ScalarKind) where
 module _ (k v : ScalarKind) (w : PairWalk) (few : (d : Directory) → StandsFor w.segment.cut.bytes d → length (pairs_left k v d w) ≤ w.left) {A : Type 0} (seen : A → ℤ × ℤ) where
   nothing : {B : Type 0} (xs : List B) → length xs ≤ 0 → xs ≡ []
   nothing [] l = refl
-  nothing (x ∷ xs) l = omega (arith, l)
+  nothing (x ∷ xs) l = absurd (omega (arith, l))
 
   pub ends-here : w.left ≡ 0 → GoesOnPairs k v seen w None w
   ends-here e = record {

@@ -130,7 +130,12 @@ impl<'a, K: Scalar, V: Scalar> MapView<'a, K, V> {
         ensures start { result.start ≡ Unbounded }
         ensures end { result.end ≡ Unbounded }
     {
-        MapItems::new(self.segment, self.object, Bound::Unbounded, Bound::Unbounded)
+        MapItems::new(
+            self.segment,
+            self.object,
+            Bound::Unbounded,
+            Bound::Unbounded,
+        )
     }
 
     /// The pair with the least key that is not below `from`.

@@ -38,9 +38,9 @@ pub use segment_disk::{Disk, HostDisk};
 pub use segment_file::{FileError, SegmentFile};
 pub use segment_manager::{
     AnonymousInstance, CreateError, CreateRefused, Destination, IndexDestination, Instance,
-    Instances, Mode, Names, Objects, RelocateRefused, Segment, Span, Target, Tiles,
-    UniqueInstance,
+    Instances, Mode, Names, Objects, RelocateRefused, Segment, Span, Target, Tiles, UniqueInstance,
 };
 pub use segment_views::{
-    ArrayItems, ArrayView, MapItems, MapView, StringView, StringsView, TextItems, VectorItems, VectorView,
+    ArrayItems, ArrayView, MapItems, MapView, StringView, StringsView, TextItems, VectorItems,
+    VectorView,
 };

@@ -7,4 +7,4 @@ use Rattle.segment_manager.specs.State.{StandsFor}
 use Rattle.segment_views.proofs.copying.copy_vector.Given as goal
 
 abbrev pub invariant-places : goal.invariant-places
-invariant-places g l = (d : Directory) → StandsFor l.segment.now.cut.bytes d → map g.T.Scalar.whole (take l.i l.values) ≡ take l.i (vector_at d (ByHandle l.object.now.handle) g.T.Scalar.kind)
+invariant-places g l = (d : Directory) → StandsFor l.segment.cut.bytes d → map g.T.Scalar.whole (take l.i l.values) ≡ take l.i (vector_at d (ByHandle l.object.handle) g.T.Scalar.kind)

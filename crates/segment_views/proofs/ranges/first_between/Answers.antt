@@ -7,7 +7,7 @@ use Rattle.segment_manager.specs.Maps.{numbers_in}
 use Rattle.segment_manager.specs.State.{Answers}
 use Rattle.segment_manager.specs.Walks.{pairs_at_kinds}
 use Rattle.segment_views.specs.Ranged.{is_up_to, range_of}
-use Rattle.segment_views.proofs.Ranges.{admitted}
+use Rattle.segment_views.proofs.Between.{admitted}
 use Rattle.segment_views.proofs.RangeReads.{is-admitted, not-admitted, reads-within}
 use Rattle.segment_views.proofs.ranges.first_between.Goals as goal
 

@@ -2,6 +2,7 @@
 use Rattle.std.proofs.Common.{◌≡◌, ℕ, suc, ℤ, Bool, true, false, ◌&&◌, List, [], ◌∷◌, ◌++◌, length, map, Option, Some, None, Result, Ok, Err, if◌then◌else◌, slice_get, refl, sym, ap, subst, ◌∙◌}
 use Rattle.std.specs.Prelude.{is_some, option_map}
 use Rattle.std.specs.List.{flat_map}
+use Rattle.best_fit.specs.Extents.{free_bytes}
 use Rattle.best_fit.specs.Table.{Table}
 use Rattle.seg_types.specs.declared.kinds.Kind.TheVariants.{Scalar, Text, Texts as TextsKind, Vector}
 use Rattle.seg_types.specs.declared.kinds.ScalarKind.{ScalarKind}
@@ -49,6 +50,9 @@ answered-reads mode d c e = ap (λ (r : Answer × Directory). r.0) (performed-re
 -- the numbers that are answered
 pub size-is : (mode : Mode) (d : Directory) (n : ℕ) → Number n ≡ (step mode d asked.Size).0 → n ≡ d.size
 size-is mode d n e = let same : Number n ≡ Number d.size = e ∙ answered-reads mode d asked.Size refl in cc
+
+pub free-is : (mode : Mode) (d : Directory) (n : ℕ) → Number n ≡ (step mode d asked.Free).0 → n ≡ free_bytes (live d)
+free-is mode d n e = let same : Number n ≡ Number (free_bytes (live d)) = e ∙ answered-reads mode d asked.Free refl in cc
 
 pub named-is : (mode : Mode) (d : Directory) (n : ℕ) → Number n ≡ (step mode d asked.NumNamed).0 → n ≡ length (named_objects d)
 named-is mode d n e = let same : Number n ≡ Number (length (named_objects d)) = e ∙ answered-reads mode d asked.NumNamed refl in cc

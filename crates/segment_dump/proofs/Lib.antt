@@ -1,4 +1,11 @@
 mod Examples
+mod Codes
+mod Words
+mod Quotes
+mod TextPieces
+mod ItemLines
+mod Readings
+mod Told
 mod Fronts
 mod Judged
 mod PartLines

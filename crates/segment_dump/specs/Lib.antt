@@ -6,3 +6,4 @@ pub mod Asked
 pub mod Comparing
 pub mod Places
 pub mod Loading
+pub mod Laws

@@ -1,29 +1,41 @@
 -- What loading a dump owes.
 use Rattle.std.specs.Prelude.{◌≡◌, ◌+◌, ◌<◌, ◌≤◌, ⊤, ℕ, false, Option, Some, None, List, length, take, IsTrue}
 use Rattle.block_tags.specs.Format.{is_legal_size}
+use Rattle.best_fit.specs.Extents.{free_bytes}
 use Rattle.segment_manager.specs.declared.errors.CreateError.{CreateError}
 use Rattle.segment_manager.specs.declared.errors.CreateError.TheVariants as create
 use Rattle.segment_manager.specs.declared.modes.Mode.TheVariants.{Write}
-use Rattle.segment_manager.specs.Directory.{Directory}
+use Rattle.segment_manager.specs.Directory.{Directory, live}
 use Rattle.segment_manager.specs.State.{State, StandsFor}
 use Rattle.segment_dump.specs.Comparing.{IsDumpOf}
+use Rattle.segment_dump.specs.Items.{portable}
+use Rattle.segment_dump.specs.Texts.{dump_text}
 use Rattle.segment_dump.specs.declared.faults.BadDump.{BadDump}
 use Rattle.segment_dump.specs.declared.faults.LoadError.{LoadError}
 use Rattle.segment_dump.specs.declared.faults.LoadError.TheVariants.{BadDump as Bad, BadSize, RegionTooSmall, NoSpace, LongText}
 use Rattle.segment_dump.specs.declared.faults.LoadRefused.{LoadRefused}
 use Rattle.segment_dump.specs.Places.{place_behind}
 
--- the segment has the size that was asked for
+-- the segment has the size that was asked for, or, where none was, nothing in it is free
 abbrev pub HasSize : State → Option ℕ → Type 0
-HasSize s None = ⊤
+HasSize s None = (d : Directory) → StandsFor s.cut.bytes d → free_bytes (live d) ≡ 0
 HasSize s (Some size) = (d : Directory) → StandsFor s.cut.bytes d → d.size ≡ size
 
 -- a segment was made of which the text is the dump, for a size that it says itself, open for writing
-pub record IsLoaded (text : List ℕ) (size : Option ℕ) (s : State) : Type 0 where
+pub record IsJudged (text : List ℕ) (size : Option ℕ) (s : State) : Type 0 where
   pub said : ℕ
   pub is : IsDumpOf s said text
   pub mode : s.mode ≡ Write
   pub size_is : HasSize s size
+
+-- whatever directory the text is the dump of, that of the segment has the same objects: names, classes, kinds and values
+pub record HasObjectsOf (text : List ℕ) (s : State) : Type 0 where
+  pub same : (b : List ℕ) (d : Directory) (n : ℕ) → StandsFor b d → text ≡ dump_text n (portable d) → (e : Directory) → StandsFor s.cut.bytes e → portable e ≡ portable d
+
+-- both
+pub record IsLoaded (text : List ℕ) (size : Option ℕ) (s : State) : Type 0 where
+  pub judged : IsJudged text size s
+  pub objects : HasObjectsOf text s
 
 -- ---- no segment is made
 

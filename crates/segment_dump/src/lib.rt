@@ -14,8 +14,10 @@ mod pairs;
 mod places;
 mod reading;
 mod texts;
+mod theorems;
 
 pub use comparing::compare;
 pub use dumping::dump;
 pub use faults::{BadDump, DumpFault, LoadError, LoadRefused};
 pub use loading::load;
+pub use theorems::dumps_tell_objects;

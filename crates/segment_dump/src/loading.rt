@@ -3,7 +3,7 @@
 ghost use Rattle.std.specs.Prelude.{◌≡◌, ◌%◌, List, ℕ, MatchResult, Option, Some, None};
 ghost use Rattle.std.specs.Bool.{OnTrue};
 ghost use Rattle.segment_manager.specs.declared.modes.Mode.TheVariants.{Write};
-ghost use Rattle.segment_dump.specs.Loading.{HasSize, IsAsked, IsLetGo, IsLoaded, IsNotLoaded, IsWhyNot, load_error};
+ghost use Rattle.segment_dump.specs.Loading.{HasSize, IsAsked, IsJudged, IsLetGo, IsLoaded, IsNotLoaded, IsWhyNot, load_error};
 
 use crate::building::{Stop, build, stop_of};
 use crate::comparing::compare;
@@ -23,8 +23,9 @@ struct Front {
 }
 
 /// Makes a segment of a dump, in the `size` bytes of the region from `base` on, which is a multiple of 16; without a size in as
-/// many as the dump says, of which it keeps those up to its last block. The room is for the longest text of a vector of
-/// strings: as many bytes as the dump has are enough.
+/// many as the dump says, of which it keeps those up to its last block: nothing in it is free then. Whatever segment the dump is
+/// of, this one has the same objects: the same names, classes, kinds and values, and anonymous objects in the same order. The
+/// room is for the longest text of a vector of strings: as many bytes as the dump has are enough.
 ///
 /// # Errors
 ///
@@ -170,7 +171,7 @@ fn judge(
     said: u64,
     size: Option<u64>,
 ) -> Result<Segment, LoadRefused>
-    ensures { MatchResult result (IsLoaded text.now size) (IsLetGo text.now) }
+    ensures { MatchResult result (IsJudged text.now size) (IsLetGo text.now) }
 {
     if !is_open(&segment) {
         return Err(unlike(text, 0));
@@ -208,12 +209,12 @@ fn is_open(segment: &Segment) -> bool
     }
 }
 
-/// Whether a segment has the size that was asked for.
+/// Whether a segment has the size that was asked for, or nothing free where none was.
 fn has_size(segment: &Segment, size: Option<u64>) -> bool
     ensures { OnTrue result (HasSize segment.now size) }
 {
     match size {
-        None => true,
+        None => segment.free() == 0,
         Some(size) => segment.size() == size,
     }
 }

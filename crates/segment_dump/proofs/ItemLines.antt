@@ -1,0 +1,245 @@
+-- The lines of an object tell its name, its kind and its elements.
+use Rattle.std.proofs.Common.{◌≡◌, ◌≢◌, ℕ, ◌≤◌, ℤ, true, List, [], ◌∷◌, ◌++◌, drop, refl, sym, ap, subst, ◌∙◌, arith, append_assoc}
+use Rattle.std.specs.Prelude.{⊤, decimal}
+use Rattle.std.specs.List.{AllByRecursion, flat_map}
+use Rattle.seg_types.specs.declared.kinds.Class.{Class}
+use Rattle.seg_types.specs.declared.kinds.Class.TheVariants.{Anonymous, Named, Unique}
+use Rattle.seg_types.specs.declared.kinds.Kind.{Kind}
+use Rattle.seg_types.specs.declared.kinds.Kind.TheVariants as kinds
+use Rattle.seg_types.specs.declared.kinds.ScalarKind.{ScalarKind}
+use Rattle.seg_types.specs.Kinds.{is_value}
+use Rattle.seg_types.specs.Texts.{kind_text, name_text, value_text}
+use Rattle.segment_dump.specs.Items.{Content, Scalars, Vector, String, Map, Strings, Item, count_of_content, kind_of_content}
+use Rattle.segment_dump.specs.Texts.{content_text, element_line, head_line, item_text, measure_text, pair_line, text_lines}
+use Rattle.segment_dump.proofs.Codes.{Breaks, IsRow, Stops, heads, row-reads, tails, words-read}
+use Rattle.segment_dump.proofs.Quotes.{Any, names-read}
+use Rattle.segment_dump.proofs.TextPieces.{IsNoPiece, text-no_piece, texts-read}
+use Rattle.segment_dump.proofs.Words.{decimal-word, kinds-read, values-read}
+
+-- ---- what a text begins with
+
+pub record IsFirst (c : ℕ) (a : List ℕ) : Type 0 where
+  pub more : List ℕ
+  pub is : a ≡ c ∷ more
+
+pub never-first : (c d : ℕ) (a : List ℕ) → c ≢ d → IsFirst c a → IsFirst d a → ⊥
+never-first c d a n f g = n (heads (sym f.is ∙ g.is))
+
+-- no line of an element
+pub record IsNoLine (a : List ℕ) : Type 0 where
+  pub other : IsFirst 0x20 a → ⊥
+
+pub first-no_line : (c : ℕ) (a : List ℕ) → c ≢ 0x20 → IsFirst c a → IsNoLine a
+first-no_line c a n f = record { other = λ g. never-first c 0x20 a n f g }
+
+low-breaks : (c : ℕ) (a : List ℕ) → c ≤ 0x20 → Breaks (c ∷ a)
+low-breaks c a l = record { low = λ d ds e. omega (arith, heads e) }
+
+pub ends-line : (a : List ℕ) → Breaks (0x0A ∷ a)
+ends-line a = low-breaks 0x0A a (omega arith)
+
+pub parts-word : (a : List ℕ) → Breaks (0x20 ∷ a)
+parts-word a = low-breaks 0x20 a (omega arith)
+
+-- ---- lines of elements
+
+abbrev pub IsValueOf : ScalarKind → ℤ → Type 0
+IsValueOf k z = is_value k z ≡ true
+
+elements-row : (k : ScalarKind) → IsRow (element_line k) (IsValueOf k) Any (IsFirst 0x20)
+elements-row k = record {
+  code = record {
+    reads = λ y z a b p q f g e.
+        let r = values-read k y z (0x0A ∷ a) (0x0A ∷ b) p q (ends-line a) (ends-line b)
+        (sym (append_assoc (value_text k y) (0x0A ∷ []) a) ∙ ap (drop 2) e ∙ append_assoc (value_text k z) (0x0A ∷ []) b) in
+        (r.0, tails r.1);
+  };
+  begins = λ z a p. record { more = drop 1 (element_line k z ++ a); is = refl };
+  follows = λ z a p. tt;
+}
+
+abbrev pub IsPairOf : ScalarKind → ScalarKind → ℤ × ℤ → Type 0
+IsPairOf k v p = (is_value k p.0 ≡ true) × (is_value v p.1 ≡ true)
+
+pair-apart : (x y a : List ℕ) → x ++ 0x20 ∷ y ++ 0x0A ∷ [] ++ a ≡ x ++ 0x20 ∷ (y ++ 0x0A ∷ a)
+pair-apart x y a = append_assoc (x ++ 0x20 ∷ y) (0x0A ∷ []) a ∙ append_assoc x (0x20 ∷ y) (0x0A ∷ a)
+
+pairs-read : (k v : ScalarKind) (p q : ℤ × ℤ) (a b : List ℕ) → IsPairOf k v p → IsPairOf k v q → pair_line k v p ++ a ≡ pair_line k v q ++ b → (p ≡ q) × (a ≡ b)
+pairs-read k v (x, y) (z, w) a b p q e =
+    let r = values-read k x z (0x20 ∷ (value_text v y ++ 0x0A ∷ a)) (0x20 ∷ (value_text v w ++ 0x0A ∷ b)) p.0 q.0
+    (parts-word (value_text v y ++ 0x0A ∷ a)) (parts-word (value_text v w ++ 0x0A ∷ b))
+    (sym (pair-apart (value_text k x) (value_text v y) a) ∙ ap (drop 2) e ∙ pair-apart (value_text k z) (value_text v w) b) in
+    let s = values-read v y w (0x0A ∷ a) (0x0A ∷ b) p.1 q.1 (ends-line a) (ends-line b) (tails r.1) in
+    (λ i. (r.0 i, s.0 i), tails s.1)
+
+pairs-row : (k v : ScalarKind) → IsRow (pair_line k v) (IsPairOf k v) Any (IsFirst 0x20)
+pairs-row k v = record {
+  code = record { reads = λ p q a b h g f n e. pairs-read k v p q a b h g e };
+  begins = λ p a h. record { more = drop 1 (pair_line k v p ++ a); is = refl };
+  follows = λ p a h. tt;
+}
+
+abbrev AnyText : List ℕ → Type 0
+AnyText bs = ⊤
+
+texts-row : IsRow text_lines AnyText IsNoPiece (IsFirst 0x20)
+texts-row = record {
+  code = record { reads = λ bs cs a b p q f g e. texts-read bs cs a b f g e };
+  begins = λ bs a p. record { more = drop 1 (text_lines bs ++ a); is = refl };
+  follows = λ bs a p. text-no_piece bs a;
+}
+
+-- ---- the elements of an object
+
+-- they are values of its kind
+abbrev pub IsGoodContent : Content → Type 0
+IsGoodContent (Scalars k zs) = AllByRecursion (IsValueOf k) zs
+IsGoodContent (Vector k zs) = AllByRecursion (IsValueOf k) zs
+IsGoodContent (String bs) = ⊤
+IsGoodContent (Map k v ps) = AllByRecursion (IsPairOf k v) ps
+IsGoodContent (Strings ts) = ⊤
+
+line-stops : (a : List ℕ) → IsNoLine a → Stops Any (IsFirst 0x20) a
+line-stops a n = record { follows = tt; none = n.other }
+
+no-piece : (a : List ℕ) → IsNoLine a → IsNoPiece a
+no-piece a n = record { other = λ y e. n.other (record { more = 0x20 ∷ 0x20 ∷ y; is = e }) }
+
+text-stops : (a : List ℕ) → IsNoLine a → Stops IsNoPiece (IsFirst 0x20) a
+text-stops a n = record { follows = no-piece a n; none = n.other }
+
+all-texts : (ts : List (List ℕ)) → AllByRecursion AnyText ts
+all-texts [] = tt
+all-texts (t ∷ ts) = (tt, all-texts ts)
+
+-- two rows of elements of the same kind
+elements-read : (k l : ScalarKind) (ys zs : List ℤ) (a b : List ℕ) → k ≡ l → AllByRecursion (IsValueOf k) ys → AllByRecursion (IsValueOf l) zs → IsNoLine a → IsNoLine b
+    → flat_map (element_line k) ys ++ a ≡ flat_map (element_line l) zs ++ b → (ys ≡ zs) × (a ≡ b)
+elements-read k l ys zs a b h p q f g e =
+    row-reads (element_line l) (IsValueOf l) Any (IsFirst 0x20) (elements-row l) ys zs a b (subst (λ k. AllByRecursion (IsValueOf k) ys) h p) q (line-stops a f) (line-stops b g)
+    (ap (λ k. flat_map (element_line k) ys ++ a) (sym h) ∙ e)
+
+maps-read : (k l v w : ScalarKind) (ps qs : List (ℤ × ℤ)) (a b : List ℕ) → k ≡ l → v ≡ w → AllByRecursion (IsPairOf k v) ps → AllByRecursion (IsPairOf l w) qs → IsNoLine a → IsNoLine b
+    → flat_map (pair_line k v) ps ++ a ≡ flat_map (pair_line l w) qs ++ b → (ps ≡ qs) × (a ≡ b)
+maps-read k l v w ps qs a b h i p q f g e =
+    row-reads (pair_line l w) (IsPairOf l w) Any (IsFirst 0x20) (pairs-row l w) ps qs a b
+    (subst (λ k. AllByRecursion (IsPairOf k w) ps) h (subst (λ v. AllByRecursion (IsPairOf k v) ps) i p)) q (line-stops a f) (line-stops b g)
+    (ap (λ k. flat_map (pair_line k w) ps ++ a) (sym h) ∙ ap (λ v. flat_map (pair_line k v) ps ++ a) (sym i) ∙ e)
+
+strings-read : (ss ts : List (List ℕ)) (a b : List ℕ) → IsNoLine a → IsNoLine b → flat_map text_lines ss ++ a ≡ flat_map text_lines ts ++ b → (ss ≡ ts) × (a ≡ b)
+strings-read ss ts a b f g e =
+    row-reads text_lines AnyText IsNoPiece (IsFirst 0x20) texts-row ss ts a b (all-texts ss) (all-texts ts) (text-stops a f) (text-stops b g) e
+
+contents-read : (c d : Content) (a b : List ℕ) → IsGoodContent c → IsGoodContent d → kind_of_content c ≡ kind_of_content d → IsNoLine a → IsNoLine b
+    → content_text c ++ a ≡ content_text d ++ b → (c ≡ d) × (a ≡ b)
+contents-read (Scalars k ys) (Scalars l zs) a b p q h f g e =
+    let same : k ≡ l = cc in let r = elements-read k l ys zs a b same p q f g e in (λ i. Scalars (same i) (r.0 i), r.1)
+contents-read (Vector k ys) (Vector l zs) a b p q h f g e =
+    let same : k ≡ l = cc in let r = elements-read k l ys zs a b same p q f g e in (λ i. Vector (same i) (r.0 i), r.1)
+contents-read (String bs) (String cs) a b p q h f g e = let r = texts-read bs cs a b (no-piece a f) (no-piece b g) e in (ap String r.0, r.1)
+contents-read (Map k v ps) (Map l w qs) a b p q h f g e =
+    let keys : k ≡ l = cc in let values : v ≡ w = cc in
+    let r = maps-read k l v w ps qs a b keys values p q f g e in (λ i. Map (keys i) (values i) (r.0 i), r.1)
+contents-read (Strings ss) (Strings ts) a b p q h f g e = let r = strings-read ss ts a b f g e in (ap Strings r.0, r.1)
+contents-read c d a b p q h f g e = absurd (cc)
+
+-- ---- kind and count
+
+measure-apart : (k n a : List ℕ) → k ++ 0x20 ∷ n ++ 0x0A ∷ [] ++ a ≡ k ++ 0x20 ∷ (n ++ 0x0A ∷ a)
+measure-apart = pair-apart
+
+measures-read : (k l : Kind) (m n : ℕ) (a b : List ℕ) → measure_text k m ++ a ≡ measure_text l n ++ b → (k ≡ l) × (a ≡ b)
+measures-read k l m n a b e =
+    let r = kinds-read k l (0x20 ∷ (decimal m ++ 0x0A ∷ a)) (0x20 ∷ (decimal n ++ 0x0A ∷ b))
+    (sym (measure-apart (kind_text k) (decimal m) a) ∙ e ∙ measure-apart (kind_text l) (decimal n) b) in
+    let s = words-read (decimal m) (decimal n) (0x0A ∷ a) (0x0A ∷ b) (decimal-word m) (decimal-word n) (ends-line a) (ends-line b) (tails r.1) in
+    (r.0, tails s.1)
+
+-- ---- an object
+
+-- it is of a class, only named ones have names, and its elements are of its kind
+pub record IsGoodItem (c : Class) (i : Item) : Type 0 where
+  pub class : i.class ≡ c
+  pub nameless : c ≢ Named → i.name ≡ []
+  pub content : IsGoodContent i.content
+
+-- its own line, its class as it is
+abbrev head_as : Class → Item → List ℕ
+head_as c i = head_line c i.name (kind_of_content i.content) (count_of_content i.content)
+
+abbrev text_as : Class → Item → List ℕ
+text_as c i = head_as c i ++ content_text i.content
+
+as-class : (c : Class) (i : Item) → i.class ≡ c → item_text i ≡ text_as c i
+as-class c i h = ap (λ c. text_as c i) h
+
+abbrev measure_in : Content → List ℕ
+measure_in c = measure_text (kind_of_content c) (count_of_content c)
+
+bodies-read : (c d : Content) (a b : List ℕ) → IsGoodContent c → IsGoodContent d → IsNoLine a → IsNoLine b
+    → measure_in c ++ content_text c ++ a ≡ measure_in d ++ content_text d ++ b → (c ≡ d) × (a ≡ b)
+bodies-read c d a b p q f g e =
+    let r = measures-read (kind_of_content c) (kind_of_content d) (count_of_content c) (count_of_content d) (content_text c ++ a) (content_text d ++ b)
+    (sym (append_assoc (measure_in c) (content_text c) a) ∙ e ∙ append_assoc (measure_in d) (content_text d) b) in
+    contents-read c d a b p q r.0 f g r.1
+
+named-apart : (n m c a : List ℕ) → n ++ 0x20 ∷ m ++ c ++ a ≡ n ++ 0x20 ∷ (m ++ c ++ a)
+named-apart n m c a = append_assoc (n ++ 0x20 ∷ m) c a ∙ append_assoc n (0x20 ∷ m) (c ++ a) ∙ ap (λ l. n ++ 0x20 ∷ l) (sym (append_assoc m c a))
+
+-- what a line tells, by its class
+record IsTold (c : Class) (i j : Item) (a b : List ℕ) : Type 0 where
+  name : c ≡ Named → i.name ≡ j.name
+  content : i.content ≡ j.content
+  more : a ≡ b
+
+texts-told : (c : Class) (i j : Item) (a b : List ℕ) → IsGoodContent i.content → IsGoodContent j.content → IsNoLine a → IsNoLine b → text_as c i ++ a ≡ text_as c j ++ b → IsTold c i j a b
+texts-told Named i j a b p q f g e =
+    let r = names-read i.name j.name (0x20 ∷ (measure_in i.content ++ content_text i.content ++ a)) (0x20 ∷ (measure_in j.content ++ content_text j.content ++ b))
+    (parts-word (measure_in i.content ++ content_text i.content ++ a)) (parts-word (measure_in j.content ++ content_text j.content ++ b))
+    (sym (named-apart (name_text i.name) (measure_in i.content) (content_text i.content) a) ∙ ap (drop 6) e ∙ named-apart (name_text j.name) (measure_in j.content) (content_text j.content) b) in
+    let s = bodies-read i.content j.content a b p q f g (tails r.1) in
+    record { name = λ n. r.0; content = s.0; more = s.1 }
+texts-told Unique i j a b p q f g e =
+    let s = bodies-read i.content j.content a b p q f g (ap (drop 7) e) in
+    record { name = λ n. absurd (cc); content = s.0; more = s.1 }
+texts-told Anonymous i j a b p q f g e =
+    let s = bodies-read i.content j.content a b p q f g (ap (drop 10) e) in
+    record { name = λ n. absurd (cc); content = s.0; more = s.1 }
+
+same-name : (c : Class) (i j : Item) (a b : List ℕ) → IsGoodItem c i → IsGoodItem c j → IsTold c i j a b → i.name ≡ j.name
+same-name Named i j a b p q t = t.name refl
+same-name Unique i j a b p q t = p.nameless (λ e. cc) ∙ sym (q.nameless (λ e. cc))
+same-name Anonymous i j a b p q t = p.nameless (λ e. cc) ∙ sym (q.nameless (λ e. cc))
+
+-- the letter that its line begins with
+abbrev pub letter : Class → ℕ
+letter Named = 0x6E
+letter Unique = 0x75
+letter Anonymous = 0x61
+
+text-first : (c : Class) (i : Item) (a : List ℕ) → IsFirst (letter c) (text_as c i ++ a)
+text-first Named i a = record { more = drop 1 (text_as Named i ++ a); is = refl }
+text-first Unique i a = record { more = drop 1 (text_as Unique i ++ a); is = refl }
+text-first Anonymous i a = record { more = drop 1 (text_as Anonymous i ++ a); is = refl }
+
+pub item-first : (c : Class) (i : Item) (a : List ℕ) → i.class ≡ c → IsFirst (letter c) (item_text i ++ a)
+item-first c i a h = subst (λ t. IsFirst (letter c) (t ++ a)) (sym (as-class c i h)) (text-first c i a)
+
+letter-high : (c : Class) → letter c ≢ 0x20
+letter-high Named = λ e. omega arith
+letter-high Unique = λ e. omega arith
+letter-high Anonymous = λ e. omega arith
+
+item-reads : (c : Class) (i j : Item) (a b : List ℕ) → IsGoodItem c i → IsGoodItem c j → IsNoLine a → IsNoLine b → item_text i ++ a ≡ item_text j ++ b → (i ≡ j) × (a ≡ b)
+item-reads c i j a b p q f g e =
+    let t = texts-told c i j a b p.content q.content f g (ap (λ t. t ++ a) (sym (as-class c i p.class)) ∙ e ∙ ap (λ t. t ++ b) (as-class c j q.class)) in
+    let class : i.class ≡ j.class = p.class ∙ sym q.class in
+    let name : i.name ≡ j.name = same-name c i j a b p q t in
+    (λ x. record { class = class x; name = name x; content = t.content x }, t.more)
+
+pub items-row : (c : Class) → IsRow item_text (IsGoodItem c) IsNoLine (IsFirst (letter c))
+items-row c = record {
+  code = record { reads = λ i j a b p q f g e. item-reads c i j a b p q f g e };
+  begins = λ i a p. item-first c i a p.class;
+  follows = λ i a p. first-no_line (letter c) (item_text i ++ a) (letter-high c) (item-first c i a p.class);
+}

@@ -1,0 +1,5 @@
+use Rattle.segment_dump.proofs.Told.{dumps-tell-objects, dumps-tell-sizes}
+use Rattle.segment_dump.proofs.theorems.dumps_tell_objects.Goals as goal
+
+pub returns : goal.returns
+returns c = record { objects = dumps-tell-objects; sizes = dumps-tell-sizes }

@@ -1,6 +1,6 @@
 -- An image that lies in memory: why it is not put into a region, and that it stands in its place where it is.
 use Rattle.std.proofs.Common.{◌≡◌, refl, sym, ap, subst, ◌∙◌, ℕ, ◌+◌, ◌<◌, ◌≤◌, Bool, true, false, ◌&&◌, List, [], ◌++◌, length, take, drop, arith, Some, Ok, Err}
-use Rattle.std.specs.Prelude.{IsTrue, Result, if◌then◌else◌}
+use Rattle.std.specs.Prelude.{IsTrue, if◌then◌else◌}
 use Rattle.std.proofs.lemmas.Bool.{both_ways}
 use Rattle.std.proofs.lemmas.List.{append-nil, drop_all}
 use Rattle.raw_region.specs.Memory.{Cut, cut_at, part, patched, whole}
@@ -17,7 +17,7 @@ use Rattle.image_check.specs.declared.errors.CheckError.TheVariants.{Class, NoMe
 use Rattle.image_check.specs.EarlyTests.{has_front, has_magic, has_version, size_word}
 use Rattle.image_check.specs.Classes.{class_of, holds}
 use Rattle.image_check.specs.Checking.{IsWhyRefused, cause_for}
-use Rattle.image_check.specs.Opening.{IsHandedBack, IsTooSmallFor, has_early_class}
+use Rattle.image_check.specs.Opening.{IsTooSmallFor, has_early_class}
 use Rattle.image_check.specs.OpeningBytes.{FitsIn, IsMisfit, IsNotPlaced, IsWhyNotOf, OpensBytes, as_given}
 use Rattle.image_check.specs.Passes.{has_block}
 use Rattle.image_check.specs.Reading.{IsImageRead, front_of}

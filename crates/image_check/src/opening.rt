@@ -9,8 +9,8 @@ use crate::errors::OpenRefused;
 use crate::reading::read_image;
 use crate::versions::Versions;
 use raw_region::{RawRegion, Source, Steps};
-use segment_manager::layout::FORMAT;
 use segment_manager::conditioned::adopt;
+use segment_manager::layout::FORMAT;
 use segment_manager::{Mode, Segment};
 use std::alloc::Global;
 

@@ -9,6 +9,7 @@ use crate::errors::OpenRefused;
 use crate::placing::place_image;
 use crate::versions::Versions;
 use raw_region::{RawRegion, Steps};
+use segment_manager::conditioned::adopt;
 use segment_manager::layout::FORMAT;
 use segment_manager::{Mode, Segment};
 use std::alloc::Global;
@@ -37,7 +38,7 @@ pub fn open_bytes(
 {
     let window = place_image(Versions::Current, image, region, base)?;
     match check(FORMAT, alloc, &window, steps) {
-        Ok(()) => Ok(Segment::adopt(window.into_window(), mode)),
+        Ok(()) => Ok(adopt(window.into_window(), mode)),
         Err(why) => Err(OpenRefused {
             region: window.into_region(),
             cause: why.into_cause(),

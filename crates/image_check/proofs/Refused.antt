@@ -35,7 +35,7 @@ module _ (format : ℕ) (image : Given) (region : List ℕ) (base : ℕ) (w : Cu
   }
 
   -- the window alone was written
-  back-from : (back : List ℕ) → back ≡ whole w → IsHandedBack format image region base back
+  pub back-from : (back : List ℕ) → back ≡ whole w → IsHandedBack format image region base back
   back-from back f =
       let right = HasFront-IsRight format w h.front in
       let least = HasFront-least format w h.front in

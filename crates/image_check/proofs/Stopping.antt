@@ -139,7 +139,7 @@ rest_stops format old mid new front xs size ended f f' base capacity cause r l r
     (room_for format b size ended f f' base capacity right room) s g)
 
 -- more bytes than the size says are a wrong size
-more-decided : (format : ℕ) (b : List ℕ) (size : ℕ) → IsRight format b size → size < length b → decided format b ≡ Some BadSize
+pub more-decided : (format : ℕ) (b : List ℕ) (size : ℕ) → IsRight format b size → size < length b → decided format b ≡ Some BadSize
 unfolding decided
 more-decided format b size r l =
     let says = r.says in

@@ -22,3 +22,4 @@ pub mod Containers
 pub mod Sharing
 pub mod OlderFormats
 pub mod OpeningAny
+pub mod OpeningBytes

@@ -1,0 +1,47 @@
+//! The opening of an image that lies in memory.
+ghost use Rattle.std.specs.Prelude.{◌≡◌, ◌%◌, length};
+ghost use Rattle.raw_region.specs.Format.{current};
+ghost use Rattle.image_check.specs.Opening.{IsRaisedFor, size_or_least};
+ghost use Rattle.image_check.specs.OpeningBytes.{OpensBytes};
+
+use crate::checking::check;
+use crate::errors::OpenRefused;
+use crate::placing::place_image;
+use crate::versions::Versions;
+use raw_region::{RawRegion, Steps};
+use segment_manager::conditioned::adopt;
+use segment_manager::layout::FORMAT;
+use segment_manager::{Mode, Segment};
+use std::alloc::Global;
+
+/// Copies an image into the region, from `base` on, which is a multiple of 16, and opens it. The bytes are all of the image.
+///
+/// # Errors
+///
+/// `RegionTooSmall` where the first 24 bytes are the magic, the version and a legal size, and the region ends before base plus
+/// size. Else a class of the image where it denotes no directory, the first that holds. `OutOfMemory` where memory for the check
+/// of the blocks was refused: only where no class before `BadIndex` holds and a tile is in use. `ReadFault` never. The region
+/// comes back, as it was where the bytes are not as many as they say.
+///
+/// `steps` is raised by each visit of the check: by no more than 64 for each 16 bytes of the size, and 64.
+pub fn open_bytes(
+    alloc: Global,
+    image: &[u8],
+    region: RawRegion,
+    base: u64,
+    mode: Mode,
+    steps: &mut Steps,
+) -> Result<Segment, OpenRefused>
+    requires aligned { base % 16 ≡ 0 }
+    ensures opens { OpensBytes current image.now region base mode result }
+    ensures steps { IsRaisedFor (size_or_least image.now) steps.old steps.new }
+{
+    let window = place_image(Versions::Current, image, region, base)?;
+    match check(FORMAT, alloc, &window, steps) {
+        Ok(()) => Ok(adopt(window.into_window(), mode)),
+        Err(why) => Err(OpenRefused {
+            region: window.into_region(),
+            cause: why.into_cause(),
+        }),
+    }
+}

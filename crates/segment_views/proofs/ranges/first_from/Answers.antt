@@ -30,5 +30,14 @@ returns-in-Excluded g c =
     let after = g.K.Scalar.whole c.in-Excluded.after in
     let read = reads-told s key g.K.Scalar.kind g.V.Scalar.kind g.K.Scalar.whole g.V.Scalar.whole (pair_above after) (λ ps. slice_get (range_of (Excluded after) Unbounded ps) 0) (above-ranged after) refl
     c.map_next_after.result c.map_next_after.ensures in
-    subst (λ b. Answers s (λ d. slice_get (range_of (bound_map g.K.Scalar.whole b) Unbounded (pairs_at_kinds d key g.K.Scalar.kind g.V.Scalar.kind)) 0) (numbers_in g.K.Scalar.whole g.V.Scalar.whole c.pair_or_none.result)) (sym c.in-Excluded.is)
-    (subst (λ o. Answers s (λ d. slice_get (range_of (Excluded after) Unbounded (pairs_at_kinds d key g.K.Scalar.kind g.V.Scalar.kind)) 0) (numbers_in g.K.Scalar.whole g.V.Scalar.whole o)) (sym c.pair_or_none.ensures) read)
+    subst (λ b. Answers s (λ d. slice_get (range_of (bound_map g.K.Scalar.whole b) Unbounded (pairs_at_kinds d key g.K.Scalar.kind g.V.Scalar.kind)) 0) (numbers_in g.K.Scalar.whole g.V.Scalar.whole c.pair_or_none-in-Excluded.result)) (sym c.in-Excluded.is)
+    (subst (λ o. Answers s (λ d. slice_get (range_of (Excluded after) Unbounded (pairs_at_kinds d key g.K.Scalar.kind g.V.Scalar.kind)) 0) (numbers_in g.K.Scalar.whole g.V.Scalar.whole o)) (sym c.pair_or_none-in-Excluded.ensures) read)
+
+pub returns-in-Unbounded : goal.returns-in-Unbounded
+returns-in-Unbounded g c =
+    let s = c.args.segment.now in
+    let key = ByHandle c.args.object.now.handle in
+    let read = reads-told s key g.K.Scalar.kind g.V.Scalar.kind g.K.Scalar.whole g.V.Scalar.whole (λ ps. option_map item_of (first_of ps)) (λ ps. slice_get (range_of Unbounded Unbounded ps) 0) all-ranged refl
+    c.first_of_all.result c.first_of_all.ensures in
+    subst (λ b. Answers s (λ d. slice_get (range_of (bound_map g.K.Scalar.whole b) Unbounded (pairs_at_kinds d key g.K.Scalar.kind g.V.Scalar.kind)) 0) (numbers_in g.K.Scalar.whole g.V.Scalar.whole c.pair_or_none-in-Unbounded.result)) (sym c.in-Unbounded.is)
+    (subst (λ o. Answers s (λ d. slice_get (range_of Unbounded Unbounded (pairs_at_kinds d key g.K.Scalar.kind g.V.Scalar.kind)) 0) (numbers_in g.K.Scalar.whole g.V.Scalar.whole o)) (sym c.pair_or_none-in-Unbounded.ensures) read)

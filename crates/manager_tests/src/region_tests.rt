@@ -3,7 +3,8 @@ ghost use Rattle.std.specs.Prelude.{◌≡◌, ◌%◌};
 
 use crate::checks::{holds, same};
 use crate::regions::{are_sevens, region_of_sevens};
-use image_check::{OpenError, open};
+use crate::segments::fresh;
+use image_check::{ImageClass, OpenError, open, open_bytes};
 use raw_region::fake::{Last, MemorySource};
 use raw_region::{RawRegion, Steps};
 use seg_types::Refusal;
@@ -87,6 +88,42 @@ fn opens_none(rt: &impl Abort, alloc: Global, base: u64)
 fn a_region_that_is_too_small_comes_back(rt: HostRuntime) {
     opens_none(&rt, rt.alloc(), 864);
     opens_none(&rt, rt.alloc(), 18446744073709551600);
+}
+
+#[test]
+fn an_image_in_memory_is_opened(rt: HostRuntime) -> Result<(), Fail> {
+    let made = fresh(&rt, rt.alloc(), 1024);
+    let (image, mode) = (made.segment.as_bytes(), Mode::ReadOnly);
+    let region = RawRegion::new(rt.alloc(), 2048)?;
+    let Ok(segment) = open_bytes(rt.alloc(), image, region, 16, mode, &mut Steps::new()) else {
+        panic!(rt; "refused");
+    };
+    same(&rt, segment.as_bytes(), image);
+    same(&rt, segment.mode(), Mode::ReadOnly);
+    same(&rt, segment.region_left(), 1008);
+    Ok(())
+}
+
+/// The bytes have no place in a region of 1024 bytes from 864 on, and the region comes back as it was.
+fn opens_no_bytes(rt: &impl Abort, alloc: Global, image: &[u8], cause: OpenError) {
+    let region = region_of_sevens(rt, alloc, 1024);
+    let mut steps = Steps::new();
+    let Err(refused) = open_bytes(alloc, image, region, 864, Mode::Write, &mut steps) else {
+        panic!(rt; "opened");
+    };
+    same(rt, refused.cause, cause);
+    same(rt, refused.region.capacity(), 1024);
+    are_sevens(rt, &refused.region, 0, 1024);
+}
+
+#[test]
+fn bytes_that_are_too_few_leave_the_region(rt: HostRuntime) {
+    let truncated = OpenError::Image(ImageClass::Truncated);
+    opens_no_bytes(&rt, rt.alloc(), b"MSEG", truncated);
+    let of_144 = b"MSEGFILE\x02\0\0\0\0\0\0\0\x90\0\0\0\0\0\0\0";
+    opens_no_bytes(&rt, rt.alloc(), of_144, truncated);
+    let of_176 = b"MSEGFILE\x02\0\0\0\0\0\0\0\xB0\0\0\0\0\0\0\0";
+    opens_no_bytes(&rt, rt.alloc(), of_176, OpenError::RegionTooSmall);
 }
 
 #[test]

@@ -1,9 +1,11 @@
 -- Links that move together: one more, from the front or from the back, and where all of them lead.
-use Rattle.std.proofs.Common.{◌≡◌, ℕ, zero, suc, ◌+◌, ◌*◌, ◌%◌, ◌^◌, ◌<◌, ◌≤◌, Bool, true, false, ◌==◌, List, ◌++◌, length, refl, sym, ap, ap₂, subst, ◌∙◌, arith, length-append}
+use Rattle.std.proofs.Common.{◌≡◌, ◌≢◌, ℕ, zero, suc, ◌+◌, ◌*◌, ◌%◌, ◌^◌, ◌<◌, ◌≤◌, Bool, true, false, ◌==◌, List, ◌++◌, length, refl, sym, ap, ap₂, subst, ◌∙◌, arith, length-append, bit_or, max}
 use Rattle.std.specs.Prelude.{Option, Some, None, IfSome, if◌then◌else◌}
 use Rattle.std.proofs.lemmas.List.{append-nil, append_assoc, take_all}
 use Rattle.std.specs.List.{refill}
 use Rattle.std.proofs.lemmas.Option.{none-some}
+use Rattle.std.proofs.lemmas.Nat.Bits.{bit_at_lowest, bit_at_or}
+use Rattle.std.proofs.lemmas.Bool.{eqb-true}
 use Rattle.raw_region.specs.Memory.{Memory, bytes_of, part, patched, word_at, word_bytes}
 use Rattle.raw_region.proofs.Laws.{length-patched, length-word, patched-all, patched-append, patched-prepend, refill-all, word-after, word-before, word-behind, word-first, word-inside}
 use Rattle.offset_link.specs.Link.{target_of, link_at, link_word, link}
@@ -55,6 +57,43 @@ all_lead-links m at n all = record {
 
 pub all_lead-non_null : (m : Memory) (at n : ℕ) → AllLead m at n → NoneIsNull m at n
 all_lead-non_null m at n all = record { each = λ k h null. let lead = all.each k h in none-some lead.0 (sym null ∙ lead.1) }
+
+-- ---- links that are seen not to be null
+or_even : (a b : ℕ) → bit_or a b % 2 ≡ 0 → (a % 2 ≡ 0) × (b % 2 ≡ 0)
+or_even a b even =
+    let lowest : max (a % 2) (b % 2) ≡ 0 = ap₂ (λ (x y : ℕ). max x y) (sym (bit_at_lowest a)) (sym (bit_at_lowest b)) ∙ sym (bit_at_or a b 0) ∙ bit_at_lowest (bit_or a b) ∙ even in
+    (omega (arith, lowest), omega (arith, lowest))
+
+four_even : (a b c d : ℕ) → bit_or (bit_or (bit_or a b) c) d % 2 ≡ 0 → (a % 2 ≡ 0) × ((b % 2 ≡ 0) × ((c % 2 ≡ 0) × (d % 2 ≡ 0)))
+four_even a b c d even =
+    let x = or_even (bit_or (bit_or a b) c) d even in let y = or_even (bit_or a b) c x.0 in let z = or_even a b y.0 in (z.0, (z.1, (y.1, x.1)))
+
+-- an even word is not null
+even_leads : (at w : ℕ) → w % 2 ≡ 0 → target_of at w ≢ None
+even_leads at w even null = by_word (w == 1) refl
+  where
+    by_word : (one : Bool) → (w == 1) ≡ one → ⊥
+    by_word true e = let is : w ≡ 1 = eqb-true w 1 e in omega (arith, is, even)
+    by_word false e = none-some ((at + w) % 2 ^ 64) (sym null ∙ ap (λ (b : Bool). if b then None else Some ((at + w) % 2 ^ 64)) e)
+
+module _ (m : Memory) (at a b c d e f g h : ℕ) (ea : a ≡ word_at m at) (eb : b ≡ word_at m (at + 8)) (ec : c ≡ word_at m (at + 16)) (ed : d ≡ word_at m (at + 24))
+    (ee : e ≡ word_at m (at + 32)) (ef : f ≡ word_at m (at + 40)) (eg : g ≡ word_at m (at + 48)) (eh : h ≡ word_at m (at + 56)) where
+  even_at : ((a % 2 ≡ 0) × ((b % 2 ≡ 0) × ((c % 2 ≡ 0) × (d % 2 ≡ 0)))) → ((e % 2 ≡ 0) × ((f % 2 ≡ 0) × ((g % 2 ≡ 0) × (h % 2 ≡ 0))))
+      → (k : ℕ) → k < 8 → word_at m (at + 8 * k) % 2 ≡ 0
+  even_at front back zero few = let first : at + 8 * 0 ≡ at = omega arith in ap (λ (o : ℕ). word_at m o % 2) first ∙ ap (λ (w : ℕ). w % 2) (sym ea) ∙ front.0
+  even_at front back (suc zero) few = ap (λ (w : ℕ). w % 2) (sym eb) ∙ front.1.0
+  even_at front back (suc (suc zero)) few = ap (λ (w : ℕ). w % 2) (sym ec) ∙ front.1.1.0
+  even_at front back (suc (suc (suc zero))) few = ap (λ (w : ℕ). w % 2) (sym ed) ∙ front.1.1.1
+  even_at front back (suc (suc (suc (suc zero)))) few = ap (λ (w : ℕ). w % 2) (sym ee) ∙ back.0
+  even_at front back (suc (suc (suc (suc (suc zero))))) few = ap (λ (w : ℕ). w % 2) (sym ef) ∙ back.1.0
+  even_at front back (suc (suc (suc (suc (suc (suc zero)))))) few = ap (λ (w : ℕ). w % 2) (sym eg) ∙ back.1.1.0
+  even_at front back (suc (suc (suc (suc (suc (suc (suc zero))))))) few = ap (λ (w : ℕ). w % 2) (sym eh) ∙ back.1.1.1
+  even_at front back (suc (suc (suc (suc (suc (suc (suc (suc k)))))))) few = absurd (omega (arith, few))
+
+  pub eight_even : bit_or (bit_or (bit_or (bit_or a b) c) d) (bit_or (bit_or (bit_or e f) g) h) % 2 ≡ 0 → NoneIsNull m at 8
+  eight_even even =
+      let parts = or_even (bit_or (bit_or (bit_or a b) c) d) (bit_or (bit_or (bit_or e f) g) h) even in
+      record { each = λ k few. even_leads (at + 8 * k) (word_at m (at + 8 * k)) (even_at (four_even a b c d parts.0) (four_even e f g h parts.1) k few) }
 
 -- ---- links that are not null, where their words stay
 pub non_null-same : (m m' : Memory) (at n : ℕ) → ((a : ℕ) → at ≤ a → a + 8 ≤ at + 8 * n → word_at m' a ≡ word_at m a) → NoneIsNull m at n → NoneIsNull m' at n

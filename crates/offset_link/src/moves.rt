@@ -55,8 +55,8 @@ pub fn all_lead(w: &Window, at: u64, n: u64) -> bool
     true
 }
 
-/// Moves the `n` links from `at` on. Each leads where it led, to a multiple of 16 or nowhere, and
-/// the places that they leave may be among those that they take.
+/// Moves the `n` links from `at` on, eight at a time where none of the eight is null. Each leads where it led, to a multiple of
+/// 16 or nowhere, and the places that they leave may be among those that they take.
 pub fn shift(w: &mut Window, at: u64, n: u64, by: Places)
     requires aligned { at % 8 ≡ 0 }
     requires source { at + 8 * n ≤ length w.old.bytes }
@@ -70,12 +70,18 @@ pub fn shift(w: &mut Window, at: u64, n: u64, by: Places)
     let size = w.size();
     let bytes = w.bytes_mut(0, size);
     match by {
-        Places::Up(places) => links_up(bytes, at as usize, n as usize, 8 * places as usize),
-        Places::Down(places) => links_down(bytes, at as usize, n as usize, 8 * places as usize),
+        Places::Up(places) => move_up(bytes, at as usize, n as usize, 8 * places as usize, false),
+        Places::Down(places) => move_down(
+            bytes,
+            at as usize,
+            n as usize,
+            8 * places as usize,
+            false,
+        ),
     }
 }
 
-/// The same for links none of which is null, eight at a time: the words of all of them change by the distance.
+/// The same for links none of which is null, which need not be asked for it: the words of all of them change by the distance.
 pub fn shift_non_null(w: &mut Window, at: u64, n: u64, by: Places)
     requires aligned { at % 8 ≡ 0 }
     requires source { at + 8 * n ≤ length w.old.bytes }
@@ -89,37 +95,56 @@ pub fn shift_non_null(w: &mut Window, at: u64, n: u64, by: Places)
     let size = w.size();
     let bytes = w.bytes_mut(0, size);
     match by {
-        Places::Up(places) => move_up(bytes, at as usize, n as usize, 8 * places as usize),
-        Places::Down(places) => move_down(bytes, at as usize, n as usize, 8 * places as usize),
+        Places::Up(places) => move_up(bytes, at as usize, n as usize, 8 * places as usize, true),
+        Places::Down(places) => move_down(
+            bytes,
+            at as usize,
+            n as usize,
+            8 * places as usize,
+            true,
+        ),
     }
 }
 
 /// The links a run of which moves at once.
 const RUN: usize = 8;
 
-/// From the last run on, and then from the last link of the rest on, so that none is overwritten before it has moved.
-fn move_up(bytes: &mut [u8], at: usize, n: usize, by: usize)
+/// From the last run on, and then from the last link of the rest on, so that none is overwritten before it has moved. That none
+/// is null may be known.
+fn move_up(bytes: &mut [u8], at: usize, n: usize, by: usize, non_null: bool)
     requires inside { at + by + 8 * n ≤ length bytes.old }
-    requires non_null { NoneIsNull (bytes_of bytes.old) at n }
+    requires non_null { IsTrue non_null → NoneIsNull (bytes_of bytes.old) at n }
     ensures { bytes.new ≡ patched bytes.old (at + by) (relinked (bytes_of bytes.old) at (at + by) n) }
 {
     let rest = n % RUN;
-    runs_up(bytes, at + 8 * rest, n / RUN, by);
+    runs_up(bytes, at + 8 * rest, n / RUN, by, non_null);
     links_up(bytes, at, rest, by);
 }
 
 /// The runs, the last of them first.
-fn runs_up(bytes: &mut [u8], at: usize, n: usize, by: usize)
+fn runs_up(bytes: &mut [u8], at: usize, n: usize, by: usize, non_null: bool)
     requires inside { at + by + 64 * n ≤ length bytes.old }
-    requires non_null { NoneIsNull (bytes_of bytes.old) at (8 * n) }
+    requires non_null { IsTrue non_null → NoneIsNull (bytes_of bytes.old) at (8 * n) }
     ensures { bytes.new ≡ patched bytes.old (at + by) (relinked (bytes_of bytes.old) at (at + by) (8 * n)) }
 {
     let mut left = n;
     'runs: while left > 0 {
         left -= 1;
         let from = at + 64 * left;
-        move_run(bytes, from, from + by);
+        run_up(bytes, from, by, non_null);
     }
+}
+
+/// One run, link by link where one of it is null.
+fn run_up(bytes: &mut [u8], at: usize, by: usize, non_null: bool)
+    requires inside { at + by + 64 ≤ length bytes.old }
+    requires non_null { IsTrue non_null → NoneIsNull (bytes_of bytes.old) at 8 }
+    ensures { bytes.new ≡ patched bytes.old (at + by) (relinked (bytes_of bytes.old) at (at + by) 8) }
+{
+    if non_null || none_is_null(bytes, at) {
+        return move_run(bytes, at, at + by);
+    }
+    links_up(bytes, at, RUN, by);
 }
 
 /// The links one by one, the last of them first.
@@ -136,28 +161,41 @@ fn links_up(bytes: &mut [u8], at: usize, n: usize, by: usize)
 }
 
 /// From the first run on, and then from the first link of the rest on.
-fn move_down(bytes: &mut [u8], at: usize, n: usize, by: usize)
+fn move_down(bytes: &mut [u8], at: usize, n: usize, by: usize, non_null: bool)
     requires source { at + 8 * n ≤ length bytes.old }
     requires inside { by ≤ at }
-    requires non_null { NoneIsNull (bytes_of bytes.old) at n }
+    requires non_null { IsTrue non_null → NoneIsNull (bytes_of bytes.old) at n }
     ensures { bytes.new ≡ patched bytes.old (at - by) (relinked (bytes_of bytes.old) at (at - by) n) }
 {
     let runs = n / RUN;
-    runs_down(bytes, at, runs, by);
+    runs_down(bytes, at, runs, by, non_null);
     links_down(bytes, at + 64 * runs, n % RUN, by);
 }
 
 /// The runs, the first of them first.
-fn runs_down(bytes: &mut [u8], at: usize, n: usize, by: usize)
+fn runs_down(bytes: &mut [u8], at: usize, n: usize, by: usize, non_null: bool)
     requires source { at + 64 * n ≤ length bytes.old }
     requires inside { by ≤ at }
-    requires non_null { NoneIsNull (bytes_of bytes.old) at (8 * n) }
+    requires non_null { IsTrue non_null → NoneIsNull (bytes_of bytes.old) at (8 * n) }
     ensures { bytes.new ≡ patched bytes.old (at - by) (relinked (bytes_of bytes.old) at (at - by) (8 * n)) }
 {
     'runs: for i in 0..n {
         let from = at + 64 * i;
-        move_run(bytes, from, from - by);
+        run_down(bytes, from, by, non_null);
     }
+}
+
+/// One run, link by link where one of it is null.
+fn run_down(bytes: &mut [u8], at: usize, by: usize, non_null: bool)
+    requires source { at + 64 ≤ length bytes.old }
+    requires inside { by ≤ at }
+    requires non_null { IsTrue non_null → NoneIsNull (bytes_of bytes.old) at 8 }
+    ensures { bytes.new ≡ patched bytes.old (at - by) (relinked (bytes_of bytes.old) at (at - by) 8) }
+{
+    if non_null || none_is_null(bytes, at) {
+        return move_run(bytes, at, at - by);
+    }
+    links_down(bytes, at, RUN, by);
 }
 
 /// The links one by one, the first of them first.
@@ -170,6 +208,24 @@ fn links_down(bytes: &mut [u8], at: usize, n: usize, by: usize)
         let from = at + 8 * i;
         move_one(bytes, from, from - by);
     }
+}
+
+/// Whether it is seen at once that none of the eight links from `at` on is null: their words are even, as those are that lead
+/// to a multiple of 16 from a multiple of 8.
+#[inline(always)]
+fn none_is_null(bytes: &[u8], at: usize) -> bool
+    requires { at + 64 ≤ length bytes.now }
+    ensures { IsTrue result → NoneIsNull (bytes_of bytes.now) at 8 }
+{
+    let front = word_in(bytes, at)
+        | word_in(bytes, at + 8)
+        | word_in(bytes, at + 16)
+        | word_in(bytes, at + 24);
+    let back = word_in(bytes, at + 32)
+        | word_in(bytes, at + 40)
+        | word_in(bytes, at + 48)
+        | word_in(bytes, at + 56);
+    (front | back) % 2 == 0
 }
 
 /// Makes the eight words from `to` on links that lead where those from `from` on lead, none of which is null. All are read

@@ -15,8 +15,8 @@ both b cur new at by n within e f =
     ∙ ap (λ (j : ℕ). patched b to (relinked (bytes_of b) at to j)) g
 
 pub runs_up-requires-clause-non_null : goal.runs_up-requires-clause-non_null
-runs_up-requires-clause-non_null c =
-    non_null-part (bytes_of c.args.bytes.now) c.args.at c.args.n (c.args.at + 8 * (c.args.n % 8)) (c.args.n % 8) (8 * (c.args.n / 8)) (omega arith) (omega arith) c.requires.non_null
+runs_up-requires-clause-non_null c = λ known.
+    non_null-part (bytes_of c.args.bytes.now) c.args.at c.args.n (c.args.at + 8 * (c.args.n % 8)) (c.args.n % 8) (8 * (c.args.n / 8)) (omega arith) (omega arith) (c.requires.non_null known)
 
 pub returns : goal.returns
 returns c = both c.args.bytes.now c.runs_up.new.bytes c.links_up.new.bytes c.args.at c.args.by c.args.n c.requires.inside c.runs_up.ensures c.links_up.ensures

@@ -24,10 +24,10 @@ set b cur at by n i within inside few e all =
     non_null-after b cur from 8 (at - by) (8 * i) at (omega arith) (omega arith) e
     (non_null-part (bytes_of b) at (8 * n) from (8 * i) 8 (omega arith) (omega arith) all)
 
-pub move_run-requires-clause-non_null : goal.move_run-requires-clause-non_null
-move_run-requires-clause-non_null c =
-    set c.args.bytes.now c.runs.bytes c.args.at c.args.by c.args.n c.runs.i c.requires.source c.requires.inside (omega arith) c.runs.invariant c.requires.non_null
+pub run_down-requires-clause-non_null : goal.run_down-requires-clause-non_null
+run_down-requires-clause-non_null c = λ known.
+    set c.args.bytes.now c.runs.bytes c.args.at c.args.by c.args.n c.runs.i c.requires.source c.requires.inside (omega arith) c.runs.invariant (c.requires.non_null known)
 
 pub runs-preserved : goal.runs-preserved
 runs-preserved c =
-    step c.args.bytes.now c.runs.bytes c.move_run.new.bytes c.args.at c.args.by c.args.n c.runs.i c.requires.source c.requires.inside (omega arith) c.runs.invariant c.move_run.ensures
+    step c.args.bytes.now c.runs.bytes c.run_down.new.bytes c.args.at c.args.by c.args.n c.runs.i c.requires.source c.requires.inside (omega arith) c.runs.invariant c.run_down.ensures

@@ -25,12 +25,12 @@ set b cur at by n left within some few e all =
     non_null-before b cur from 8 (at + by + 64 * left) (8 * (n - left)) (at + 64 * left) (omega arith) (omega arith) e
     (non_null-part (bytes_of b) at (8 * n) from (8 * (left - 1)) 8 (omega arith) (omega arith) all)
 
-pub move_run-requires-clause-non_null : goal.move_run-requires-clause-non_null
-move_run-requires-clause-non_null c =
-    set c.args.bytes.now c.runs.bytes c.args.at c.args.by c.args.n c.runs.left c.requires.inside (omega arith) c.runs.invariant.some c.runs.invariant.moved c.requires.non_null
+pub run_up-requires-clause-non_null : goal.run_up-requires-clause-non_null
+run_up-requires-clause-non_null c = λ known.
+    set c.args.bytes.now c.runs.bytes c.args.at c.args.by c.args.n c.runs.left c.requires.inside (omega arith) c.runs.invariant.some c.runs.invariant.moved (c.requires.non_null known)
 
 pub runs-preserved : goal.runs-preserved
 runs-preserved c = record {
   some = omega arith;
-  moved = step c.args.bytes.now c.runs.bytes c.move_run.new.bytes c.args.at c.args.by c.args.n c.runs.left c.requires.inside (omega arith) c.runs.invariant.some c.runs.invariant.moved c.move_run.ensures;
+  moved = step c.args.bytes.now c.runs.bytes c.run_up.new.bytes c.args.at c.args.by c.args.n c.runs.left c.requires.inside (omega arith) c.runs.invariant.some c.runs.invariant.moved c.run_up.ensures;
 }

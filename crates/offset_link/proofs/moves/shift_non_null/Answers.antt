@@ -20,11 +20,11 @@ returns-in-Down-clause-lead c =
     c.bytes_mut-bytes.ensures.bytes c.move_down.ensures inside (omega (arith, c.requires.aligned)) (all_lead-links (bytes_of c.args.w.now.bytes) at n c.requires.links))
 
 pub move_up-requires-clause-non_null : goal.move_up-requires-clause-non_null
-move_up-requires-clause-non_null c =
+move_up-requires-clause-non_null c = λ known.
     subst (λ (b : List ℕ). NoneIsNull (bytes_of b) c.args.at c.args.n) (sym (lent_whole c.args.w.now.bytes c.bytes_mut-bytes.result.now c.size-size.result c.size-size.ensures c.bytes_mut-bytes.ensures.bytes))
     (all_lead-non_null (bytes_of c.args.w.now.bytes) c.args.at c.args.n c.requires.links)
 
 pub move_down-requires-clause-non_null : goal.move_down-requires-clause-non_null
-move_down-requires-clause-non_null c =
+move_down-requires-clause-non_null c = λ known.
     subst (λ (b : List ℕ). NoneIsNull (bytes_of b) c.args.at c.args.n) (sym (lent_whole c.args.w.now.bytes c.bytes_mut-bytes.result.now c.size-size.result c.size-size.ensures c.bytes_mut-bytes.ensures.bytes))
     (all_lead-non_null (bytes_of c.args.w.now.bytes) c.args.at c.args.n c.requires.links)

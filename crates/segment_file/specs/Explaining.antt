@@ -36,6 +36,12 @@ explanation_text e = line_at e.place e.words.now
 abbrev pub IsNoClass : SessionFault → Type 0
 IsNoClass fault = (class : ImageClass) → fault ≢ Refused class
 
+-- a segment, or, by the bytes that were read, why there is none; no memory to keep them is such a reason as well
+abbrev pub IsExplainedBy : Result State SessionFault → List ℕ → Result State Unfit → Type 0
+IsExplainedBy begun bytes (Ok s) = begun ≡ Ok s
+IsExplainedBy begun bytes (Err (Image class e)) = (begun ≡ Err (Refused class)) × Explains bytes class e
+IsExplainedBy begun bytes (Err (Fault fault)) = ((begun ≡ Err fault) × IsNoClass fault) ⊎ ((fault ≡ OutOfMemory) × ((class : ImageClass) × (begun ≡ Err (Refused class))))
+
 -- the bytes that were read have the class, and this is said of them
 pub record IsExplained (image : Given) (class : ImageClass) (e : Explanation) : Type 0 where
   pub class_is : class_of current image.bytes ≡ Some class

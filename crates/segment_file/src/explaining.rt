@@ -1,7 +1,7 @@
 //! The command that tells why an image is refused, and where.
-ghost use Rattle.std.specs.Prelude.{◌≡◌, ◌^◌, ◌-◌, ◌<◌};
+ghost use Rattle.std.specs.Prelude.{◌^◌, ◌-◌, ◌<◌};
 ghost use Rattle.raw_region.specs.Device.{Writes};
-ghost use Rattle.segment_file.specs.Explaining.{ExplainsFile, IsExplain, IsToldUnfit, TellsExplanation, explained, explanation_text};
+ghost use Rattle.segment_file.specs.Explaining.{ExplainsFile, IsExplain, IsExplainedBy, explanation_text};
 ghost use Rattle.segment_file.specs.Telling.{Tells};
 
 use crate::creating::WRITE_FAULT;
@@ -11,7 +11,7 @@ use crate::regions::room_needed;
 use crate::telling::tell;
 use image_check::ImageClass;
 use image_explain::Explanation;
-use raw_region::{DeviceFault, Sink};
+use raw_region::{DeviceFault, Sink, Source};
 use segment_cli::{ProgramFault, SessionFault};
 use segment_disk::{Disk, Opened, Output};
 use segment_lang::{Piece, put_pieces};
@@ -36,22 +36,25 @@ fn open_explained<D: Disk>(alloc: Global, disk: &mut D, path: &str) -> Result<Se
     let Opened { reader, len, front } = opened;
     let room = room_needed(len, &front, 0);
     let (begun, kept) = begin_from(alloc, Mode::ReadOnly, Kept::new(alloc, reader), room);
-    let (reader, bytes) = kept.into_parts();
-    disk.close(reader);
-    match begun {
-        Ok(segment) => Ok(segment),
-        Err(fault) => Err(unfit(fault, bytes)),
-    }
+    let answer = explained_by(begun, &kept);
+    disk.close(kept.into_inner());
+    answer
 }
 
-/// Why a file has no segment, by what it gave, as far as there was memory for that.
-fn unfit(fault: SessionFault, bytes: Option<Vec<u8>>) -> Unfit {
-    match (fault, bytes) {
-        (SessionFault::Image(class), Some(bytes)) => {
-            Unfit::Image(class, image_explain::explain(bytes.as_slice(), class))
-        }
-        (SessionFault::Image(_), None) => Unfit::Fault(SessionFault::OutOfMemory),
-        (fault, _) => Unfit::Fault(fault),
+/// The segment of an image that was read, or why there is none.
+fn explained_by<S: Source>(
+    begun: Result<Segment, SessionFault>,
+    kept: &Kept<S>,
+) -> Result<Segment, Unfit>
+    ensures { IsExplainedBy begun (S.history kept.now.inner).bytes result }
+{
+    match begun {
+        Ok(segment) => Ok(segment),
+        Err(SessionFault::Image(class)) => match kept.explained(class) {
+            Some(explanation) => Err(Unfit::Image(class, explanation)),
+            None => Err(Unfit::Fault(SessionFault::OutOfMemory)),
+        },
+        Err(fault) => Err(Unfit::Fault(fault)),
     }
 }
 

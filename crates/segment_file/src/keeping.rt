@@ -1,13 +1,16 @@
 //! A reader that keeps what it gives.
 ghost use Rattle.std.specs.Prelude.{◌≡◌, false, IfSome};
+ghost use Rattle.image_explain.specs.Explains.{Explains};
 ghost use Rattle.segment_disk.specs.Events.{nothing_given};
 
+use image_check::ImageClass;
+use image_explain::{Explanation, explain};
 use raw_region::{DeviceFault, Source};
 use std::alloc::Global;
 
 /// A reader that gave nothing when it was put here, with a copy of what it gave since.
 pub(crate) struct Kept<S: Source> {
-    inner: S,
+    pub(crate) inner: S,
     bytes: Vec<u8>,
     /// Whether memory for the copy was refused.
     is_cut: bool,
@@ -26,21 +29,26 @@ impl<S: Source> Kept<S> {
         }
     }
 
-    /// The reader, and all that it gave, where there was memory for it.
-    pub(crate) fn into_parts(self) -> (S, Option<Vec<u8>>)
-        ensures inner { result.0 ≡ self.inner }
-        ensures bytes { IfSome result.1 (λ kept. kept.items ≡ (S.history result.0).bytes) }
+    /// What is said of all that it gave, as an image of a class that is refused, where there was memory to keep it.
+    pub(crate) fn explained(&self, class: ImageClass) -> Option<Explanation>
+        ensures { IfSome result (λ e. Explains (S.history self.now.inner).bytes class e) }
+    {
+        if self.is_cut {
+            return None;
+        }
+        Some(explain(self.bytes.as_slice(), class))
+    }
+
+    /// The reader.
+    pub(crate) fn into_inner(self) -> S
+        ensures { result ≡ self.inner }
     {
         let Kept {
             inner,
-            bytes,
-            is_cut,
+            bytes: _,
+            is_cut: _,
         } = self;
-        if is_cut {
-            (inner, None)
-        } else {
-            (inner, Some(bytes))
-        }
+        inner
     }
 }
 

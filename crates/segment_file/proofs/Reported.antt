@@ -1,5 +1,5 @@
 -- What was written went out, or not, by what a flush answers.
-use Rattle.std.proofs.Common.{◌≡◌, ℕ, Bool, inl, inr, List, Result, Ok, Err, is_ok, sym, subst, ◌∙◌, ap, arith}
+use Rattle.std.proofs.Common.{◌≡◌, ℕ, Bool, true, false, inr, List, Result, Ok, Err, is_ok, ◌∙◌, ap, arith}
 use Rattle.raw_region.specs.Device.{Took, Writes}
 use Rattle.segment_file.specs.Telling.{IsTold, Tells}
 

@@ -8,3 +8,4 @@ mod CutFiles
 mod Linted
 mod Reported
 mod Explained
+mod Loaded

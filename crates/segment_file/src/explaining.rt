@@ -80,10 +80,7 @@ fn put_explanation<W: Sink>(out: &mut W, explanation: &Explanation) -> Result<()
 }
 
 /// Writes an explanation, and gives out all that was written.
-fn tell_explanation<O: Output>(
-    out: &mut O,
-    explanation: &Explanation,
-) -> Result<(), DeviceFault>
+fn tell_explanation<O: Output>(out: &mut O, explanation: &Explanation) -> Result<(), DeviceFault>
     requires { (O.history out.old).failures < 2 ^ 64 - 1 }
     ensures { Tells O.history O.flushes out.old out.new (explanation_text explanation.now) result }
 {

@@ -1,7 +1,8 @@
 //! The command that makes a segment of a dump, in a new file.
-ghost use Rattle.std.specs.Prelude.{◌≡◌, ◌^◌, ◌-◌, ◌<◌, true, Some, Option, ℕ};
+ghost use Rattle.std.specs.Prelude.{◌≡◌, ◌^◌, ◌-◌, ◌<◌, ℕ, true, false, Some};
 ghost use Rattle.block_tags.specs.Format.{is_legal_size};
-ghost use Rattle.segment_file.specs.Loading.{HasRoomFor, IsLoad, LoadsDump, LoadsSegment, load_fault};
+ghost use Rattle.segment_dump.specs.Loading.{IsAsked};
+ghost use Rattle.segment_file.specs.Loading.{IsLoad, LoadsDump, LoadsSegment, load_fault};
 
 use crate::creating::WRITE_FAULT;
 use crate::gathering::read_text;
@@ -28,12 +29,21 @@ fn said_size(text: &[u8]) -> u64 {
         return 0;
     }
     let (_, rest) = text.split_at(SIZE_AT);
-    let end = rest
-        .iter()
-        .position(|byte| *byte == b'\n')
-        .unwrap_or(rest.len());
+    let Some(end) = rest.iter().position(|byte| *byte == b'\n') else {
+        return 0;
+    };
     let (digits, _) = rest.split_at(end);
     number_of(digits).unwrap_or(0)
+}
+
+/// How many bytes the segment of a dump is to have: as many as are asked for, or else as the dump says.
+fn wanted_size(text: &[u8], size: Option<u64>) -> u64
+    ensures { IsAsked size result }
+{
+    match size {
+        Some(size) => size,
+        None => said_size(text),
+    }
 }
 
 /// Why a load is refused, as the program answers it.
@@ -53,11 +63,7 @@ fn fault_of(error: LoadError) -> ProgramFault
 fn segment_of(alloc: Global, text: &[u8], size: Option<u64>) -> Result<Segment, ProgramFault>
     ensures { LoadsSegment text.now size result }
 {
-    let bytes = match size {
-        Some(size) => size,
-        None => said_size(text),
-    };
-    let Ok(region) = region_for(alloc, bytes) else {
+    let Ok(region) = region_for(alloc, wanted_size(text, size)) else {
         return Err(OUT_OF_MEMORY);
     };
     let Ok(mut room) = region_for(alloc, text.len() as u64) else {

@@ -6,3 +6,6 @@ mod Commanded
 mod Enlarged
 mod CutFiles
 mod Linted
+mod Reported
+mod Explained
+mod Loaded

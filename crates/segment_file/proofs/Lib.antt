@@ -7,3 +7,4 @@ mod Enlarged
 mod CutFiles
 mod Linted
 mod Explained
+mod Reported

@@ -20,7 +20,8 @@ use raw_region::RawRegion;
 use segment_manager::{Mode, Segment};
 use std::alloc::Global;
 
-/// An empty segment of `size` bytes, open for writing. What the handle had is freed. The handle is as it was unless the code is 0.
+/// An empty segment of `size` bytes, open for writing. What the handle had is freed. The handle is as it was unless the
+/// code is 0.
 #[unsafe(no_mangle)]
 pub extern "C" fn zx_create(alloc: Global, h: &mut Handle, size: u64) -> u32
     ensures size { (result ≡ 22) ↔ (is_legal_size size ≡ false) }

@@ -63,8 +63,8 @@ fn measure(segment: &Segment, key: &Key, len: &mut u64, places: &mut u64) -> u32
     }
 }
 
-/// Copies the bytes of the string of a key to the front of a buffer, where it has room for them. How many they are goes out in any
-/// case.
+/// Copies the bytes of the string of a key to the front of a buffer, where it has room for them. How many they are goes
+/// out in any case.
 #[unsafe(no_mangle)]
 pub extern "C" fn zx_read_string(
     alloc: Global,
@@ -103,8 +103,8 @@ fn read_string(segment: &Segment, key: &Key, text: &mut [u8], len: &mut u64) -> 
     }
 }
 
-/// Copies the text at `index` in the vector of strings of a key to the front of a buffer, where it has room for it. How many bytes
-/// it has goes out in any case.
+/// Copies the text at `index` in the vector of strings of a key to the front of a buffer, where it has room for it. How
+/// many bytes it has goes out in any case.
 #[unsafe(no_mangle)]
 pub extern "C" fn zx_read_text(
     alloc: Global,

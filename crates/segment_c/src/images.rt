@@ -130,6 +130,7 @@ pub extern "C" fn zx_save(alloc: Global, h: &mut Handle, image: &mut [u8]) -> u3
 pub fn copy_out(bytes: &[u8], buffer: &mut [u8]) -> u32
     ensures saved { Saves bytes.now buffer.old buffer.new result }
     ensures kept { 1 ≤ result → buffer.new ≡ buffer.old }
+    ensures short { 1 ≤ result → result ≡ 24 }
 {
     if buffer.len() < bytes.len() {
         return SHORT_BUFFER;

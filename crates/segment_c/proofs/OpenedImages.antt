@@ -1,8 +1,7 @@
 -- What the first bytes of an image say of its size, and which codes answer an image that is not opened.
 use Rattle.std.proofs.Common.{◌≡◌, ◌∙◌, ◌≤◌, ◌⊎◌, inl, inr, ℕ, Bool, true, false, ◌&&◌, ◌||◌, ◌+◌, ◌<◌, List, [], ◌∷◌, Some, Ok, Err, refl, sym, ap, subst, length, IsTrue, arith}
 use Rattle.std.specs.Prelude.{nat_le, nat_lt, find, min, Result, if◌then◌else◌}
-use Rattle.std.specs.Result.{result_unwrap_or}
-use Rattle.std.proofs.lemmas.Bool.{and_from, and_parts, cond-true, le-leb, lt-leb, lt-ltb, or_right}
+use Rattle.std.proofs.lemmas.Bool.{and_from, and_parts, cond-true, le-leb, lt-ltb, or_right}
 use Rattle.raw_region.specs.Format.{current}
 use Rattle.block_tags.specs.Format.{is_legal_size}
 use Rattle.image_check.specs.declared.classes.ImageClass.{ImageClass}
@@ -13,26 +12,9 @@ use Rattle.image_check.specs.EarlyTests.{has_front, has_magic, has_version, size
 use Rattle.image_check.specs.Classes.{class_of, holds, number_of}
 use Rattle.image_check.specs.Opening.{IsTooSmallFor}
 use Rattle.image_check.specs.OpeningBytes.{IsWhyNotOf, as_given}
-use Rattle.image_check.specs.Reading.{front_of}
 use Rattle.segment_c.specs.Opening.{IsNoImage, IsTooLong, IsWhyNotOpened, size_said}
 
 -- ---- the size
-
-said_by : (m v l : Bool) (n : ℕ) → result_unwrap_or (if m then (if v then (if l then Ok n else Err BadSize) else Err UnsupportedVersion) else Err BadMagic) 0 ≡ (if m && v && l then n else 0)
-said_by true true true n = refl
-said_by true true false n = refl
-said_by true false l n = refl
-said_by false v l n = refl
-
--- what is read of bytes that have a front, or 0
-pub said_right : (image : List ℕ) → 24 ≤ length image → result_unwrap_or (front_of current image) 0 ≡ size_said image
-said_right image l =
-    said_by (has_magic image) (has_version current image) (is_legal_size (size_word image)) (size_word image)
-    ∙ ap (λ (e : Bool). if e && has_front current image then size_word image else 0) (sym (le-leb 24 (length image) l))
-
--- fewer bytes say none
-pub said_none : (image : List ℕ) → length image < 24 → 0 ≡ size_said image
-said_none image l = ap (λ (e : Bool). if e && has_front current image then size_word image else 0) (sym (lt-leb 24 (length image) l))
 
 -- a front says its size word
 said_front : (image : List ℕ) → 24 ≤ length image → IsTrue (has_front current image) → size_said image ≡ size_word image
@@ -59,7 +41,7 @@ said_more image l =
 
 module _ (image : List ℕ) (capacity : ℕ) where
   is_given : IsTooLong image capacity → IsTooSmallFor current (as_given image) 0 capacity
-  is_given t = record { read = t.read; front = t.front; small = t.long }
+  is_given t = record { read = t.read; front = t.front; small = omega (arith, t.long) }
 
   -- there was no memory
   pub why_memory : IsWhyNotOpened image capacity 26
@@ -78,7 +60,7 @@ module _ (image : List ℕ) (capacity : ℕ) where
     pub why_room : cause ≡ RegionTooSmall → IsWhyNotOpened image capacity 27
     why_room e =
         let told = subst (IsWhyNotOf current image 0 capacity) e why in
-        record { why = inr (inl (refl, record { read = told.read; front = told.front; long = told.small })); too_long = λ t. inr refl }
+        record { why = inr (inl (refl, record { read = told.read; front = told.front; long = omega (arith, told.small) })); too_long = λ t. inr refl }
 
     pub no_fault : cause ≡ ReadFault → ⊥
     no_fault e = subst (IsWhyNotOf current image 0 capacity) e why

@@ -119,8 +119,8 @@ impl<'a, K: Scalar, V: Scalar> MapView<'a, K, V> {
         self.segment.map_last::<K, V, Object>(&self.object)
     }
 
-    /// Its pairs with keys in a range, one after another by rising keys, or by falling ones from the other end. There are none
-    /// where the range runs backwards, and where the object is no such map.
+    /// Its pairs with keys in a range, one after another by rising keys, or by falling ones from the other end. There
+    /// are none where the range runs backwards, and where the object is no such map.
     ///
     /// Examples: `for (number, year) in years.range(2..=5)`, `for (number, year) in years.range(2..=5).rev()`.
     pub fn range<R: RangeBounds<K>>(&self, range: R) -> MapItems<'_, K, V>
@@ -134,8 +134,8 @@ impl<'a, K: Scalar, V: Scalar> MapView<'a, K, V> {
         MapItems::new(self.segment, self.object, start, end)
     }
 
-    /// All its pairs, one after another by rising keys, or by falling ones from the other end. There are none where the object
-    /// is no such map.
+    /// All its pairs, one after another by rising keys, or by falling ones from the other end. There are none where the
+    /// object is no such map.
     ///
     /// Examples: `for (number, year) in years.iter()`, `let latest = years.iter().next_back()`.
     pub fn iter(&self) -> MapItems<'_, K, V>

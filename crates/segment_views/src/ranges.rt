@@ -23,9 +23,9 @@ use std::ops::Bound;
 /// The longest spelling of a scalar, in bytes.
 const LONGEST: usize = 8;
 
-/// The pairs of a map with keys in a range, one after another by rising keys, and by falling keys from the other end. What one
-/// end gave, the other does not give again. There are none where the object is no such map. Each is looked for from the root of
-/// the tree.
+/// The pairs of a map with keys in a range, one after another by rising keys, and by falling keys from the other end.
+/// What one end gave, the other does not give again. There are none where the object is no such map. Each is looked for
+/// from the root of the tree.
 ///
 /// Contracts see the segment, the map's key, the bounds of the pairs that are left, and how many these are at most.
 #[derive(Drop)]

@@ -1,15 +1,14 @@
 -- What is read of a map says of the pairs between two bounds.
-use Rattle.std.proofs.Common.{◌≡◌, refl, sym, ap, subst, ◌∙◌, ℕ, suc, ◌+◌, ◌-◌, ◌<◌, ◌≤◌, ℤ, Bool, true, false, Option, Some, None, Result, Ok, Err, List, [], ◌∷◌, ◌++◌, length, arith, if◌then◌else◌}
-use Rattle.std.specs.Prelude.{MatchResult, int_lt, option_map, slice_get}
+use Rattle.std.proofs.Common.{◌≡◌, refl, sym, ap, ◌∙◌, ℕ, ◌-◌, ◌≤◌, ℤ, Bool, true, false, Option, Some, None, Result, Ok, Err, List, [], ◌∷◌, ◌++◌, length, arith, if◌then◌else◌}
+use Rattle.std.specs.Prelude.{MatchResult, option_map, slice_get}
 use Rattle.std.proofs.lemmas.List.{length-append}
 use Rattle.std.specs.declared.ops.Bound.{Bound}
-use Rattle.std.specs.declared.ops.Bound.TheVariants.{Included, Excluded, Unbounded}
+use Rattle.std.specs.declared.ops.Bound.TheVariants.{Excluded, Unbounded}
 use Rattle.seg_types.specs.declared.kinds.Kind.TheVariants.{Map as MapOf}
 use Rattle.seg_types.specs.declared.kinds.ScalarKind.{ScalarKind}
 use Rattle.seg_types.specs.declared.refusals.Refusal.{Refusal}
 use Rattle.seg_types.specs.Kinds.{lowest}
 use Rattle.seg_types.specs.Names.{Key}
-use Rattle.seg_map.specs.Map.{is_rising}
 use Rattle.seg_map.specs.Numbers.{NumberPair}
 use Rattle.seg_map.specs.Places.{item_of}
 use Rattle.segment_manager.specs.Directory.{Directory}
@@ -18,7 +17,7 @@ use Rattle.segment_manager.specs.Maps.{numbers_in, pair_from, pair_result, told_
 use Rattle.segment_manager.specs.State.{Answers, State, StandsFor}
 use Rattle.segment_manager.specs.Walks.{first_of, pairs_at_kinds}
 use Rattle.segment_manager.proofs.Laws.{map-least, map-length, map-rises, map-told}
-use Rattle.segment_views.specs.Ranged.{GoesBackPairs, GoesOnPairs, PairWalk, TakesFirst, is_from, is_up_to, last_between, pair_or_none, pairs_left, range_of}
+use Rattle.segment_views.specs.Ranged.{GoesBackPairs, GoesOnPairs, PairWalk, is_from, is_up_to, last_between, pair_or_none, pairs_left, range_of}
 use Rattle.segment_views.proofs.Between.{admitted, last-within, range-begins, range-empty, range-ends, range-few, range-none, range-within}
 
 -- a pair is admitted where its key is

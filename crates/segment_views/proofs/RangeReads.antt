@@ -99,17 +99,6 @@ module _ (s : State) (key : Key) (k v : ScalarKind) where
 -- ---- an iterator over the pairs between two bounds
 
 module _ (k v : ScalarKind) (w : PairWalk) (few : (d : Directory) → StandsFor w.segment.cut.bytes d → length (pairs_left k v d w) ≤ w.left) {A : Type 0} (seen : A → ℤ × ℤ) where
-  nothing : {B : Type 0} (xs : List B) → length xs ≤ 0 → xs ≡ []
-  nothing [] l = refl
-  nothing (x ∷ xs) l = absurd (omega (arith, l))
-
-  pub ends-here : w.left ≡ 0 → GoesOnPairs k v seen w None w
-  ends-here e = record {
-    segment = refl;
-    key = refl;
-    pairs = λ d h. let f = few d h in let n = nothing (pairs_left k v d w) (omega (arith, e, f)) in (n, n);
-  }
-
   pub finds-none : Answers w.segment (λ d. slice_get (range_of w.start w.end (pairs_at_kinds d w.key k v)) 0) None → GoesOnPairs k v seen w None w
   finds-none a = record { segment = refl; key = refl; pairs = λ d h. let n = none-left w.segment w.key k v w.start w.end a d h in (n, n) }
 
@@ -124,13 +113,6 @@ module _ (k v : ScalarKind) (w : PairWalk) (few : (d : Directory) → StandsFor 
   fewer item a d h = fewer-left w.segment w.key k v w.start w.end (seen item).0 (seen item).1 w.left a few d h
 
   -- ---- the same from the other end
-
-  pub ends-there : w.left ≡ 0 → GoesBackPairs k v seen w None w
-  ends-there e = record {
-    segment = refl;
-    key = refl;
-    pairs = λ d h. let f = few d h in let n = nothing (pairs_left k v d w) (omega (arith, e, f)) in (n, n);
-  }
 
   pub finds-none-back : Answers w.segment (λ d. last_between w.start w.end (pairs_at_kinds d w.key k v)) None → GoesBackPairs k v seen w None w
   finds-none-back a = record { segment = refl; key = refl; pairs = λ d h. let n = none-before w.segment w.key k v w.start w.end a d h in (n, n) }

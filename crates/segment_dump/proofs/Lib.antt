@@ -14,3 +14,7 @@ mod Members
 mod Elements
 mod WalkedPairs
 mod Sections
+mod KindWords
+mod Readers
+mod Rooms
+mod ObjectRooms

@@ -18,3 +18,9 @@ mod KindWords
 mod Readers
 mod Rooms
 mod ObjectRooms
+mod Sums
+mod ContentLines
+mod Counts
+mod FrontLines
+mod ObjectCounts
+mod DumpCounts

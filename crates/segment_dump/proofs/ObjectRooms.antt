@@ -88,8 +88,10 @@ texts-room (p ∷ ps) e l =
     let q = and_parts (is_owned_text p) (list_all is_owned_text ps) e in
     let own = and_parts (has_own_block p) (list_all (λ b. nat_lt b 256) p.bytes) q.0 in
     omega (
-      arith, total-append (block_list p) (flat_map block_list ps), own-room p.bytes p.extent own.0 (AllByRecursion-front IsLong (block_list p) (flat_map block_list ps) l),
-      texts-room ps q.1 (AllByRecursion-behind IsLong (block_list p) (flat_map block_list ps) l)
+      arith,
+      total-append (block_list p) (flat_map block_list ps),
+      own-room p.bytes p.extent own.0 (AllByRecursion-front IsLong (block_list p) (flat_map block_list ps) l),
+      texts-room ps q.1 (AllByRecursion-behind IsLong (block_list p) (flat_map block_list ps) l),
     )
 
 -- ---- the nodes of a map
@@ -105,8 +107,10 @@ pairs-room k v (p ∷ ps) e l =
     let q = and_parts (is_number_pair k v p) (list_all (is_number_pair k v) ps) e in
     let r = and_parts (is_value k p.key && is_value v p.value) (serves p.node Node (node_len (size_of k) (size_of v))) q.0 in
     omega (
-      arith, suc-mul (length (map item_of ps)) (block_room (node_len (size_of k) (size_of v))),
-      block-serves p.node Node (node_len (size_of k) (size_of v)) (node_len (size_of k) (size_of v)) l.0 (omega arith) r.1, pairs-room k v ps q.1 l.1
+      arith,
+      suc-mul (length (map item_of ps)) (block_room (node_len (size_of k) (size_of v))),
+      block-serves p.node Node (node_len (size_of k) (size_of v)) (node_len (size_of k) (size_of v)) l.0 (omega arith) r.1,
+      pairs-room k v ps q.1 l.1,
     )
 
 -- ---- a value
@@ -130,9 +134,11 @@ value-room (Texts ps t) e l =
     let p = and_parts (nat_le (length ps) t.capacity && is_table Storage 16 t) (list_all is_owned_text ps) e in
     let q = and_parts (nat_le (length ps) t.capacity) (is_table Storage 16 t) p.0 in
     omega (
-      arith, ap (λ n. block_room (16 * n)) (length-map ps bytes_in), total-append (table_extents t) (flat_map block_list ps),
+      arith,
+      ap (λ n. block_room (16 * n)) (length-map ps bytes_in),
+      total-append (table_extents t) (flat_map block_list ps),
       table-room Storage 16 (length ps) t q.1 (le-test (length ps) t.capacity q.0) (AllByRecursion-front IsLong (table_extents t) (flat_map block_list ps) l),
-      texts-room ps p.1 (AllByRecursion-behind IsLong (table_extents t) (flat_map block_list ps) l)
+      texts-room ps p.1 (AllByRecursion-behind IsLong (table_extents t) (flat_map block_list ps) l),
     )
 
 -- ---- an object
@@ -170,8 +176,10 @@ objects-room format [] e l = omega arith
 objects-room format (o ∷ os) e l =
     let p = and_parts (is_object format o) (list_all (is_object format) os) e in
     omega (
-      arith, total-append (extents_of o) (flat_map extents_of os), object-room format o p.0 (AllByRecursion-front IsLong (extents_of o) (flat_map extents_of os) l),
-      objects-room format os p.1 (AllByRecursion-behind IsLong (extents_of o) (flat_map extents_of os) l)
+      arith,
+      total-append (extents_of o) (flat_map extents_of os),
+      object-room format o p.0 (AllByRecursion-front IsLong (extents_of o) (flat_map extents_of os) l),
+      objects-room format os p.1 (AllByRecursion-behind IsLong (extents_of o) (flat_map extents_of os) l),
     )
 
 -- in any order

@@ -6,7 +6,7 @@ use Rattle.std.proofs.lemmas.List.{take_all}
 use Rattle.std.specs.List.{AllByRecursion}
 use Rattle.seg_types.specs.Texts.{item_text, kind_text, name_text}
 use Rattle.segment_dump.specs.Leads.{IsSmall, closed_text}
-use Rattle.segment_dump.specs.Reads.{Any, Breaks, HasNoEnd, IsWord, Reads, Skips, ended, itself, lines_text, seen, seen_rest}
+use Rattle.segment_dump.specs.Reads.{Any, AreLines, Breaks, HasNoEnd, IsWord, Reads, Skips, ended, itself, lines_text, seen, seen_rest}
 use Rattle.raw_region.specs.Format.{current}
 use Rattle.seg_types.specs.declared.kinds.Kind.{Kind}
 use Rattle.segment_lang.specs.Language.{whole}
@@ -112,9 +112,6 @@ pub record LinesLeft (rest : List ℕ) (n : ℕ) (a : List ℕ) : Type 0 where
   pub good : AllByRecursion HasNoEnd lines
   pub many : length lines ≡ n
   pub whole : rest ≡ lines_text lines ++ a
-
-abbrev pub AreLines : ℕ → List (List ℕ) → Type 0
-AreLines n lines = AllByRecursion HasNoEnd lines × (length lines ≡ n)
 
 pub record InLines (text rest : List ℕ) (count counter : ℕ) : Type 0 where
   pub left : (lines : List (List ℕ)) (a : List ℕ) → AreLines count lines → text ≡ lines_text lines ++ a → LinesLeft rest (count - counter) a

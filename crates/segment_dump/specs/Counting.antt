@@ -1,13 +1,15 @@
 -- What is counted of a text, and of which texts it is said.
-use Rattle.std.specs.Prelude.{◌≡◌, ◌≢◌, ◌<◌, ◌^◌, ℕ, List, [], length}
+use Rattle.std.specs.Prelude.{◌≡◌, ◌≢◌, ◌<◌, ◌^◌, ◌++◌, ℕ, List, [], Result, Ok, length}
 use Rattle.std.specs.List.{AllByRecursion}
 use Rattle.seg_types.specs.declared.kinds.Class.TheVariants.{Named}
 use Rattle.seg_types.specs.declared.kinds.Kind.{Kind}
+use Rattle.segment_dump.specs.declared.counting.Count.{Count}
 use Rattle.segment_dump.specs.declared.counting.Front.{Front}
+use Rattle.segment_dump.specs.declared.needs.Needs.{Needs}
 use Rattle.segment_dump.specs.Items.{Content, Item, Items, kind_of_content, count_of_content}
 use Rattle.segment_dump.specs.Leads.{IsSmall}
 use Rattle.segment_dump.specs.Need.{all_needs, item_needs, items_needs, text_needs, texts_needs}
-use Rattle.segment_dump.specs.Texts.{front_text}
+use Rattle.segment_dump.specs.Texts.{dump_text, end_text, front_text, items_text}
 
 -- ---- what it has
 
@@ -46,3 +48,11 @@ pub record AreCountable (items : Items) : Type 0 where
   pub unique : AllByRecursion IsNameless items.unique
   pub anonymous : AllByRecursion IsNameless items.anonymous
   pub small : IsSmall (items_needs items).room
+
+-- the needs of objects whose lines, and the line `end`, are the text
+pub record CountsObjects (text : List ℕ) (result : Result Needs ℕ) : Type 0 where
+  pub counts : (items : List Item) → AllByRecursion IsNameless items → IsSmall (all_needs item_needs items).room → text ≡ items_text items ++ end_text → result ≡ Ok (all_needs item_needs items)
+
+-- the needs of all objects of which the text is the dump, and the size that it says
+pub record CountsDump (text : List ℕ) (result : Result Count ℕ) : Type 0 where
+  pub counts : (n : ℕ) (items : Items) → n < 2 ^ 64 → AreCountable items → text ≡ dump_text n items → result ≡ Ok (record { size = n; needs = items_needs items })

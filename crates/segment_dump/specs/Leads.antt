@@ -4,6 +4,7 @@ use Rattle.seg_types.specs.declared.kinds.Class.{Class}
 use Rattle.seg_types.specs.declared.kinds.Class.TheVariants.{Anonymous, Named, Unique}
 use Rattle.seg_types.specs.declared.kinds.Kind.{Kind}
 use Rattle.seg_types.specs.Texts.{item_text as byte_text, name_text}
+use Rattle.segment_lang.specs.Texts.{number_text}
 use Rattle.segment_dump.specs.Texts.{measure_text}
 
 -- no segment has more bytes
@@ -30,3 +31,9 @@ measured (kind, n) = measure_text kind n
 abbrev pub IsMeasure : Kind × ℕ → Type 0
 IsMeasure (kind, n) = IsSmall n
 
+-- how many entries the two indexes have, up to the end of the line
+abbrev pub entries_text : ℕ × ℕ → List ℕ
+entries_text (named, unique) = number_text named ++ 0x20 ∷ number_text unique ++ 0x0A ∷ []
+
+abbrev pub AreEntries : ℕ × ℕ → Type 0
+AreEntries (named, unique) = IsSmall named × IsSmall unique

@@ -52,16 +52,15 @@ abbrev pub IsAsked : Option ℕ → ℕ → Type 0
 IsAsked None n = ⊤
 IsAsked (Some size) n = n ≡ size
 
--- the size that was asked for, or else that of the text, is less than this
-abbrev pub IsBelow : Option ℕ → ℕ → ℕ → Type 0
-IsBelow None said n = said < n
-IsBelow (Some size) said n = size < n
+abbrev pub asked_of : Option ℕ → ℕ → ℕ
+asked_of None said = said
+asked_of (Some size) said = size
 
 -- Whatever segment the text is the dump of, its objects need more bytes than the size, and it has more itself. So there is none
 -- of at most this size.
 pub record HasNoSpace (text : List ℕ) (size : Option ℕ) : Type 0 where
-  pub needed : (b : List ℕ) (d : Directory) (n : ℕ) → StandsFor b d → n < 2 ^ 64 → text ≡ dump_text n (portable d) → IsBelow size n (items_needs (portable d)).room
-  pub longer : (b : List ℕ) (d : Directory) (n : ℕ) → StandsFor b d → n < 2 ^ 64 → text ≡ dump_text n (portable d) → IsBelow size n d.size
+  pub needed : (b : List ℕ) (d : Directory) (n : ℕ) → StandsFor b d → n < 2 ^ 64 → text ≡ dump_text n (portable d) → asked_of size n < (items_needs (portable d)).room
+  pub longer : (b : List ℕ) (d : Directory) (n : ℕ) → StandsFor b d → n < 2 ^ 64 → text ≡ dump_text n (portable d) → asked_of size n < d.size
 
 -- whatever segment the text is the dump of, it has a vector of strings with a text of more bytes than the room
 pub record HasLongText (text : List ℕ) (room : ℕ) : Type 0 where
@@ -88,7 +87,7 @@ abbrev pub IsLack : Option ℕ → ℕ → LoadError → Count → Type 0
 IsLack size room (Bad bad) count = ⊥
 IsLack size room BadSize count = ⊥
 IsLack size room RegionTooSmall count = ⊥
-IsLack size room NoSpace count = IsBelow size count.size count.needs.room
+IsLack size room NoSpace count = asked_of size count.size < count.needs.room
 IsLack size room LongText count = room < count.needs.longest
 
 -- the region comes back as it was, if it does

@@ -1,5 +1,5 @@
 -- What is read from the front of a text, where it stands there as it is written.
-use Rattle.std.specs.Prelude.{◌≡◌, ◌≢◌, ◌<◌, ◌≤◌, ⊤, ℕ, List, [], ◌∷◌, ◌++◌, Option, Some, option_map}
+use Rattle.std.specs.Prelude.{◌≡◌, ◌≢◌, ◌<◌, ◌≤◌, ⊤, ℕ, List, [], ◌∷◌, ◌++◌, Option, Some, length, option_map}
 use Rattle.std.specs.Borrow.{Bor}
 use Rattle.std.specs.List.{AllByRecursion, flat_map}
 
@@ -20,6 +20,10 @@ ended line = line ++ 0x0A ∷ []
 
 abbrev pub lines_text : List (List ℕ) → List ℕ
 lines_text = flat_map ended
+
+-- so many
+abbrev pub AreLines : ℕ → List (List ℕ) → Type 0
+AreLines n lines = AllByRecursion HasNoEnd lines × (length lines ≡ n)
 
 -- whatever is said of this stands in front, the value is read and the rest is left
 pub record Reads {X Y : Type 0} (say : X → List ℕ) (IsSaid : X → Type 0) (Follows : List ℕ → Type 0) (value : X → Y) (text : List ℕ) (result : Option (Y × List ℕ)) : Type 0 where

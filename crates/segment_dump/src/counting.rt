@@ -1,15 +1,14 @@
 //! What the objects of a dump need, counted from its text before a segment is begun.
-ghost use Rattle.std.specs.Prelude.{◌≡◌, ◌<◌, ◌^◌, ◌++◌, ℕ, List, length, flat_map, Ok};
-ghost use Rattle.std.specs.List.{AllByRecursion};
-ghost use Rattle.segment_dump.specs.Counting.{AreCountable, AreTexts, IsContent, IsCountable, IsFront, IsNameless, fronted};
+ghost use Rattle.std.specs.Prelude.{◌≡◌, ◌++◌, ℕ, List, true, length, flat_map, IfSome};
+ghost use Rattle.std.specs.Bool.{OnTrue};
+ghost use Rattle.segment_dump.specs.Counting.{AreTexts, CountsDump, CountsObjects, IsContent, IsCountable, IsFront, fronted};
 ghost use Rattle.segment_dump.specs.Leads.{IsSmall};
-ghost use Rattle.segment_dump.specs.Items.{Item, Items};
-ghost use Rattle.segment_dump.specs.Need.{all_needs, item_needs, items_needs, text_needs, texts_needs};
-ghost use Rattle.segment_dump.specs.Reads.{Any, Reads, itself, seen};
-ghost use Rattle.segment_dump.specs.Texts.{content_text, dump_text, end_text, item_text, items_text, text_lines};
+ghost use Rattle.segment_dump.specs.Need.{all_needs, block_room, item_needs, nothing, only_room, text_needs, texts_needs};
+ghost use Rattle.segment_dump.specs.Reads.{Any, AreLines, Reads, itself, lines_text, seen};
+ghost use Rattle.segment_dump.specs.Texts.{content_text, end_text, item_text, text_lines};
 
 use crate::front_reading::{
-    behind, behind_lead, behind_lines, next_count, next_measure, next_number,
+    behind, behind_lead, behind_lines, next_count, next_entries, next_measure, next_number,
 };
 use crate::needs::{Needs, block_room, front_room, object_room, only_room};
 use crate::texts::pieces_in;
@@ -83,12 +82,16 @@ fn count_content(text: &[u8], kind: Kind, count: u64) -> Option<(Needs, &[u8])>
 }
 
 /// What is behind so many lines, which need nothing.
-fn skip(text: &[u8], count: u64) -> Option<(Needs, &[u8])> {
+fn skip(text: &[u8], count: u64) -> Option<(Needs, &[u8])>
+    ensures { Reads lines_text (AreLines count) Any (λ lines. nothing) text.now (seen result) }
+{
     Some((only_room(0), behind_lines(text, count)?))
 }
 
 /// What a string needs, and what is behind its lines.
-fn count_string(text: &[u8]) -> Option<(Needs, &[u8])> {
+fn count_string(text: &[u8]) -> Option<(Needs, &[u8])>
+    ensures { Reads text_lines (λ bytes. IsSmall (length bytes)) Any (λ bytes. only_room (block_room (length bytes))) text.now (seen result) }
+{
     let (len, rest) = text_len(text)?;
     Some((only_room(block_room(len)), rest))
 }
@@ -104,14 +107,22 @@ fn count_object(text: &[u8]) -> Option<(Needs, &[u8])>
     Some((own.and(texts), rest))
 }
 
+/// Whether the last line stands in front.
+fn is_end(text: &[u8]) -> bool
+    ensures yes { OnTrue result ((rest : List ℕ) × (text.now ≡ end_text ++ rest)) }
+    ensures always { (rest : List ℕ) → text.now ≡ end_text ++ rest → result ≡ true }
+{
+    behind(text, b"end\n").is_some()
+}
+
 /// What all objects need, up to the line `end`; or how many bytes are left from the first line on that cannot be read.
 fn count_objects(text: &[u8]) -> Result<Needs, usize>
-    ensures { (items : List Item) → AllByRecursion IsNameless items → IsSmall (all_needs item_needs items).room → text.now ≡ items_text items ++ end_text → result ≡ Ok (all_needs item_needs items) }
+    ensures { CountsObjects text.now result }
 {
     let mut rest = text;
     let mut needs = only_room(0);
     'objects: for _ in 0..text.len() {
-        if behind(rest, b"end\n").is_some() {
+        if is_end(rest) {
             return Ok(needs);
         }
         let Some((more, behind)) = count_object(rest) else {
@@ -141,16 +152,9 @@ fn read_front(text: &[u8]) -> Option<(Front, &[u8])>
     ))
 }
 
-/// How many entries the two indexes have, and what is behind the end of the line.
-fn next_entries(text: &[u8]) -> Option<((u64, u64), &[u8])> {
-    let (named, rest) = next_count(text)?;
-    let (unique, rest) = next_count(behind(rest, b" ")?)?;
-    Some(((named, unique), behind(rest, b"\n")?))
-}
-
 /// What is counted of a dump; or how many bytes are left from the first line on that cannot be read.
 pub fn count_dump(text: &[u8]) -> Result<Count, usize>
-    ensures { (n : ℕ) (items : Items) → n < 2 ^ 64 → AreCountable items → text.now ≡ dump_text n items → result ≡ Ok (record { size = n; needs = items_needs items }) }
+    ensures { CountsDump text.now result }
 {
     let Some((front, rest)) = read_front(text) else {
         return Err(text.len());

@@ -1,11 +1,10 @@
 //! What stands in front of a text: lines, words, numbers, kinds and names, as a dump spells them. What is spelled in another way
 //! need not be found.
 ghost use Rattle.std.specs.Prelude.{◌≡◌, ◌≢◌, ◌<◌, ◌≤◌, ◌^◌, ◌++◌, ℕ, List, length, IfSome, MatchOption};
-ghost use Rattle.std.specs.List.{AllByRecursion};
 ghost use Rattle.seg_types.specs.Texts.{item_text, kind_text, name_text};
 ghost use Rattle.segment_lang.specs.Texts.{number_text};
-ghost use Rattle.segment_dump.specs.Leads.{IsLead, IsMeasure, IsSmall, closed_text, lead_text, measured};
-ghost use Rattle.segment_dump.specs.Reads.{Any, Breaks, HasNoEnd, IsWord, Reads, Skips, ended, itself, lines_text, seen, seen_rest};
+ghost use Rattle.segment_dump.specs.Leads.{AreEntries, IsLead, IsMeasure, IsSmall, closed_text, entries_text, lead_text, measured};
+ghost use Rattle.segment_dump.specs.Reads.{Any, AreLines, Breaks, HasNoEnd, IsWord, Reads, Skips, ended, itself, lines_text, seen, seen_rest};
 
 use seg_types::Kind;
 use segment_lang::{Word, kind_of_word, number_of, numbers_are_decimals};
@@ -36,7 +35,7 @@ fn behind_line(text: &[u8]) -> Option<&[u8]>
 
 /// What is behind so many lines.
 pub fn behind_lines(text: &[u8], count: u64) -> Option<&[u8]>
-    ensures { Skips lines_text (λ lines. AllByRecursion HasNoEnd lines × (length lines ≡ count)) text.now (seen_rest result) }
+    ensures { Skips lines_text (AreLines count) text.now (seen_rest result) }
 {
     let mut rest = text;
     'lines: for _ in 0..count {
@@ -158,4 +157,15 @@ pub fn next_measure(text: &[u8]) -> Option<((Kind, u64), &[u8])>
     let (kind, rest) = next_kind(text)?;
     let (count, rest) = next_count(behind(rest, b" ")?)?;
     Some(((kind, count), behind(rest, b"\n")?))
+}
+
+/// How many entries the two indexes have, and what is behind the end of the line.
+pub fn next_entries(text: &[u8]) -> Option<((u64, u64), &[u8])>
+    ensures value { Reads entries_text AreEntries Any itself text.now (seen result) }
+    ensures named { IfSome result (λ r. IsSmall r.0.0) }
+    ensures unique { IfSome result (λ r. IsSmall r.0.1) }
+{
+    let (named, rest) = next_count(text)?;
+    let (unique, rest) = next_count(behind(rest, b" ")?)?;
+    Some(((named, unique), behind(rest, b"\n")?))
 }

@@ -1,9 +1,9 @@
 //! A segment made of a dump. What the lines ask for is done, and then the segment is compared with the whole text, so that no
 //! line needs to be believed.
-ghost use Rattle.std.specs.Prelude.{◌≡◌, ◌%◌, length, IfOk, IfSome, MatchResult, Some, None};
+ghost use Rattle.std.specs.Prelude.{◌≡◌, ◌%◌, length, IfSome, MatchResult, Some, None};
 ghost use Rattle.std.specs.Bool.{OnTrue};
 ghost use Rattle.segment_manager.specs.declared.modes.Mode.TheVariants.{Write};
-ghost use Rattle.segment_dump.specs.Loading.{HasSize, IsAsked, IsJudged, IsLack, IsLetGo, IsLoaded, IsNotLoaded, IsWrong, load_error};
+ghost use Rattle.segment_dump.specs.Loading.{HasSize, IsAsked, IsJudged, IsLack, IsLetGo, IsLoaded, IsNotLoaded, IsWrong, asked_of, load_error};
 
 use crate::building::{Stop, build, stop_of};
 use crate::comparing::compare;
@@ -92,7 +92,8 @@ fn read_front(lines: &mut Lines<'_>) -> Result<Front, Misfit> {
 
 /// The size that is asked for, or else that of the text.
 fn asked_size(size: Option<u64>, said: u64) -> u64
-    ensures { IsAsked size result }
+    ensures asked { IsAsked size result }
+    ensures value { result ≡ asked_of size said }
 {
     match size {
         Some(size) => size,
@@ -102,7 +103,7 @@ fn asked_size(size: Option<u64>, said: u64) -> u64
 
 /// What there is too little of for the objects of a dump, if anything: of the size, or of the room for a text.
 fn lack(counted: Result<Count, usize>, size: Option<u64>, room: usize) -> Option<LoadError>
-    ensures { IfSome result (λ cause. IfOk counted (IsLack size room cause)) }
+    ensures { IfSome result (λ cause. MatchResult counted (IsLack size room cause) (λ left. ⊥)) }
 {
     let Ok(count) = counted else {
         return None;

@@ -1,21 +1,16 @@
 -- What is counted of texts, contents and objects.
-use Rattle.std.proofs.Common.{◌≡◌, ◌≢◌, ℕ, suc, ◌+◌, ◌-◌, ◌*◌, ◌<◌, ◌≤◌, ◌^◌, List, [], ◌∷◌, ◌++◌, length, Option, Some, None, refl, sym, ap, subst, ◌∙◌, arith, append_assoc, append-nil, length-append}
-use Rattle.std.specs.Borrow.{Bor}
-use Rattle.std.specs.Prelude.{⊤, codes, decimal, drop, flat_map, option_map}
-use Rattle.std.specs.List.{AllByRecursion}
-use Rattle.seg_types.specs.declared.kinds.Class.{Class}
-use Rattle.seg_types.specs.declared.kinds.Class.TheVariants.{Anonymous, Named, Unique}
+use Rattle.std.proofs.Common.{◌≡◌, ℕ, suc, ◌+◌, ◌-◌, ◌<◌, ◌≤◌, List, [], ◌∷◌, ◌++◌, length, Option, Some, None, refl, sym, ap, subst, ◌∙◌, arith, append_assoc}
+use Rattle.std.specs.Prelude.{⊤, flat_map, option_map}
 use Rattle.seg_types.specs.declared.kinds.Kind.{Kind}
 use Rattle.seg_types.specs.declared.kinds.Kind.TheVariants as kinds
-use Rattle.seg_types.specs.Texts.{name_text}
 use Rattle.segment_lang.specs.Texts.{number_text}
 use Rattle.segment_dump.specs.declared.needs.Needs.{Needs}
-use Rattle.segment_dump.specs.Counting.{AreTexts, IsContent, IsCountable, IsNameless}
-use Rattle.segment_dump.specs.Items.{Content, Scalars, Vector, String, Map, Strings, Item, kind_of_content, count_of_content}
-use Rattle.segment_dump.specs.Leads.{IsLead, IsMeasure, IsSmall, lead_text, measured}
-use Rattle.segment_dump.specs.Need.{all_needs, block_room, both, item_needs, nothing, object_room, only_room, text_needs, texts_needs}
-use Rattle.segment_dump.specs.Reads.{Any, AreLines, Breaks, Reads, Skips, itself, lines_text, seen, seen_rest}
-use Rattle.segment_dump.specs.Texts.{content_text, item_text, pieces_in, pieces_text, text_lines}
+use Rattle.segment_dump.specs.Counting.{AreTexts, IsContent}
+use Rattle.segment_dump.specs.Items.{Content, Scalars, Vector, String, Map, Strings, kind_of_content, count_of_content}
+use Rattle.segment_dump.specs.Leads.{IsSmall}
+use Rattle.segment_dump.specs.Need.{all_needs, block_room, both, nothing, only_room, text_needs, texts_needs}
+use Rattle.segment_dump.specs.Reads.{Any, AreLines, Breaks, Reads, Skips, itself, lines_text}
+use Rattle.segment_dump.specs.Texts.{content_text, pieces_in, pieces_text, text_lines}
 use Rattle.segment_dump.proofs.Codes.{tails}
 use Rattle.segment_dump.proofs.ContentLines.{IsLines, element-lines, pair-lines, piece-lines}
 use Rattle.segment_dump.proofs.Sums.{IsPart, block-least, never-some, part-end, part-more, part-small, part-start, some-pair}

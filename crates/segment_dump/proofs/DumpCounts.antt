@@ -1,6 +1,5 @@
 -- What is counted of all objects, and of a dump.
-use Rattle.std.proofs.Common.{◌≡◌, ◌≢◌, ℕ, suc, ◌+◌, ◌-◌, ◌*◌, ◌<◌, ◌≤◌, ◌^◌, Bool, true, false, List, [], ◌∷◌, ◌++◌, length, Option, Some, None, Result, Ok, Err, refl, sym, ap, subst, ◌∙◌, arith, append_assoc, append-nil, length-append}
-use Rattle.std.specs.Prelude.{flat_map}
+use Rattle.std.proofs.Common.{◌≡◌, ◌≢◌, ℕ, ◌+◌, ◌*◌, ◌<◌, ◌≤◌, ◌^◌, List, [], ◌∷◌, ◌++◌, length, Option, Some, None, Result, Ok, Err, refl, sym, ap, subst, ◌∙◌, arith, append_assoc, append-nil, length-append}
 use Rattle.std.specs.List.{AllByRecursion}
 use Rattle.std.specs.Result.{IsErr}
 use Rattle.std.proofs.lemmas.Bool.{false≢true}
@@ -10,10 +9,10 @@ use Rattle.seg_types.specs.declared.kinds.Class.TheVariants.{Anonymous, Named, U
 use Rattle.segment_dump.specs.declared.counting.Count.{Count}
 use Rattle.segment_dump.specs.declared.counting.Front.{Front}
 use Rattle.segment_dump.specs.declared.needs.Needs.{Needs}
-use Rattle.segment_dump.specs.Counting.{AreCountable, CountsDump, CountsObjects, IsCountable, IsFront, IsNameless}
+use Rattle.segment_dump.specs.Counting.{AreCountable, CountsDump, CountsObjects, IsFront, IsNameless}
 use Rattle.segment_dump.specs.Items.{Item, Items}
 use Rattle.segment_dump.specs.Leads.{IsSmall}
-use Rattle.segment_dump.specs.Need.{all_needs, block_room, both, front_room, item_needs, items_needs, nothing, only_room}
+use Rattle.segment_dump.specs.Need.{all_needs, both, front_room, item_needs, items_needs, nothing, only_room}
 use Rattle.segment_dump.specs.Texts.{dump_text, end_text, item_text, items_text}
 use Rattle.segment_dump.proofs.Codes.{heads}
 use Rattle.segment_dump.proofs.FrontLines.{FrontReads}

@@ -1,8 +1,7 @@
 -- What is counted of an object, of all objects, and of a dump.
-use Rattle.std.proofs.Common.{◌≡◌, ◌≢◌, ℕ, suc, ◌+◌, ◌-◌, ◌*◌, ◌/◌, ◌<◌, ◌≤◌, ◌^◌, List, [], ◌∷◌, ◌++◌, length, Option, Some, None, Result, Ok, refl, sym, ap, subst, ◌∙◌, arith, append_assoc, length-append}
-use Rattle.std.specs.Prelude.{codes, drop, flat_map}
-use Rattle.std.specs.List.{AllByRecursion}
-use Rattle.std.proofs.Math.Nat.{le-mul_of_pos_right, mul-le-mul_right, mul-one, one-mul}
+use Rattle.std.proofs.Common.{◌≡◌, ℕ, ◌+◌, ◌*◌, ◌<◌, ◌≤◌, List, [], ◌∷◌, ◌++◌, length, Option, Some, None, refl, sym, ap, ◌∙◌, arith, append_assoc}
+use Rattle.std.specs.Prelude.{codes}
+use Rattle.std.proofs.Math.Nat.{le-mul_of_pos_right}
 use Rattle.seg_types.specs.declared.kinds.Class.{Class}
 use Rattle.seg_types.specs.declared.kinds.Class.TheVariants.{Anonymous, Named, Unique}
 use Rattle.seg_types.specs.declared.kinds.Kind.{Kind}
@@ -14,16 +13,14 @@ use Rattle.seg_map.specs.Map.{node_len}
 use Rattle.segment_manager.specs.Layout.{head_len}
 use Rattle.segment_manager.specs.Directory.{padded}
 use Rattle.segment_dump.specs.declared.needs.Needs.{Needs}
-use Rattle.segment_dump.specs.Counting.{IsContent, IsCountable, IsNameless}
+use Rattle.segment_dump.specs.Counting.{IsContent, IsCountable}
 use Rattle.segment_dump.specs.Items.{Content, Scalars, Vector, String, Map, Strings, Item, kind_of_content, count_of_content}
 use Rattle.segment_dump.specs.Leads.{IsLead, IsMeasure, IsSmall, lead_text, measured}
-use Rattle.segment_dump.specs.Need.{all_needs, block_room, body_len, both, elements_room, item_needs, nothing, object_room, only_room, texts_needs}
+use Rattle.segment_dump.specs.Need.{block_room, body_len, both, item_needs, object_room, only_room, texts_needs}
 use Rattle.segment_dump.specs.Reads.{Any, Reads, itself}
-use Rattle.segment_dump.specs.Texts.{content_text, end_text, head_line, item_text, items_text, measure_text}
-use Rattle.segment_dump.proofs.Codes.{heads}
+use Rattle.segment_dump.specs.Texts.{content_text, head_line, item_text, measure_text}
 use Rattle.segment_dump.proofs.Counts.{ContentReads}
-use Rattle.segment_dump.proofs.ItemLines.{IsFirst, item-first, letter}
-use Rattle.segment_dump.proofs.Sums.{IsPart, block-least, never-some, part-end, part-more, part-small, part-start, some-pair}
+use Rattle.segment_dump.proofs.Sums.{block-least, never-some, some-pair}
 
 -- ---- the lines of an object, part by part
 

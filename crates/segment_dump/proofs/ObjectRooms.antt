@@ -1,6 +1,6 @@
 -- The bytes that a directory's objects need, in the blocks that they have.
-use Rattle.std.proofs.Common.{◌≡◌, ℕ, ◌+◌, ◌-◌, ◌*◌, ◌<◌, ◌≤◌, Bool, true, false, ◌&&◌, ◌==◌, nat_le, nat_lt, List, [], ◌∷◌, ◌++◌, length, map, Option, Some, None, if◌then◌else◌, cond, refl, sym, ap, subst, ◌∙◌, arith}
-use Rattle.std.specs.Prelude.{ℤ, flat_map, filter, fold, option_to_list, int_lt, IsTrue}
+use Rattle.std.proofs.Common.{◌≡◌, ℕ, ◌+◌, ◌-◌, ◌*◌, ◌≤◌, Bool, true, false, ◌&&◌, ◌==◌, nat_le, nat_lt, List, [], ◌∷◌, ◌++◌, length, map, Option, Some, None, if◌then◌else◌, cond, refl, sym, ap, subst, ◌∙◌, arith}
+use Rattle.std.specs.Prelude.{flat_map, filter, fold, option_to_list, int_lt, IsTrue}
 use Rattle.std.specs.List.{AllByRecursion, list_all}
 use Rattle.std.proofs.Math.Nat.{mul-le-mul_left, mul-zero, one-mul, suc-mul, zero-mul}
 use Rattle.std.proofs.lemmas.Bool.{and_parts}
@@ -23,10 +23,9 @@ use Rattle.seg_map.specs.Places.{item_of}
 use Rattle.seg_vector.specs.Vector.{OwnedText}
 use Rattle.segment_manager.specs.Directory.{Bytes, Directory, Elements, Numbers, Object, Pairs, Texts, Value, by_kind, by_name, extents_of, has_good_name, has_own_block, insert_by, is_class, is_good_value, is_index, is_object, is_owned_text, kind_of, live, named_objects, object_len, padded, sorted, table_extents, unique_objects, value_extents, value_len}
 use Rattle.segment_manager.specs.Layout.{head_len}
-use Rattle.segment_manager.specs.State.{StandsFor}
 use Rattle.segment_manager.proofs.Laws.{AllByRecursion-behind, AllByRecursion-front, all_of-sorted, index-parts, live-extents, live-size, tables_of}
-use Rattle.segment_dump.specs.Items.{anonymous_objects, bytes_in, content_of, count_of_content, item_of_object, kind_of_content, portable}
-use Rattle.segment_dump.specs.Need.{all_needs, block_room, body_len, elements_room, front_room, item_needs, items_needs, object_room, text_needs, texts_needs}
+use Rattle.segment_dump.specs.Items.{bytes_in, content_of, count_of_content, item_of_object, kind_of_content}
+use Rattle.segment_dump.specs.Need.{all_needs, block_room, body_len, elements_room, front_room, item_needs, object_room, text_needs, texts_needs}
 use Rattle.segment_dump.specs.Laws.{SegmentsHaveRoom}
 use Rattle.segment_dump.proofs.Rooms.{IsLong, held-fits, le-test, proper-long, proper-total, total, total-append, total-insert, total-more}
 

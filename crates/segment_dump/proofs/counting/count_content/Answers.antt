@@ -1,6 +1,6 @@
 use Rattle.std.proofs.Common.{sym, subst}
 use Rattle.segment_dump.specs.Reads.{seen}
-use Rattle.segment_dump.proofs.Counts.{IsLined, content-lined, content-string, content-strings}
+use Rattle.segment_dump.proofs.Counts.{IsLined, content-lined, content-string}
 use Rattle.segment_dump.proofs.counting.count_content.Goals as goal
 
 pub returns-in-Scalar : goal.returns-in-Scalar

@@ -1,5 +1,5 @@
 use Rattle.std.proofs.Common.{length, Some, None, sym}
-use Rattle.segment_dump.specs.Reads.{Any, seen_rest}
+use Rattle.segment_dump.specs.Reads.{Any}
 use Rattle.segment_dump.specs.Texts.{text_lines}
 use Rattle.segment_dump.proofs.Counts.{IsShort, text-none, text-some}
 use Rattle.segment_dump.proofs.Readers.{as-seen}

@@ -1,6 +1,7 @@
 -- Texts that are read in one way: what a text begins with tells what was written, and so what follows.
-use Rattle.std.proofs.Common.{◌≡◌, ℕ, ◌<◌, ◌≤◌, List, [], ◌∷◌, ◌++◌, refl, sym, ap, subst, ◌∙◌, arith, append_assoc, drop, get_or}
+use Rattle.std.proofs.Common.{◌≡◌, ℕ, List, [], ◌∷◌, ◌++◌, refl, sym, ap, subst, ◌∙◌, arith, append_assoc, drop, get_or}
 use Rattle.std.specs.List.{AllByRecursion, flat_map}
+pub use Rattle.segment_dump.specs.Reads.{Breaks, IsWord}
 
 -- ---- two texts that are the same, byte by byte
 
@@ -48,14 +49,6 @@ module _ {X : Type 0} (say : X → List ℕ) (IsSaid : X → Type 0) (Follows Be
       (λ i. one.0 i ∷ others.0 i, others.1)
 
 -- ---- words
-
--- bytes behind the blank
-abbrev pub IsWord : List ℕ → Type 0
-IsWord = AllByRecursion (λ c. 0x20 < c)
-
--- no word goes on here
-pub record Breaks (a : List ℕ) : Type 0 where
-  pub low : (c : ℕ) (cs : List ℕ) → a ≡ c ∷ cs → c ≤ 0x20
 
 pub words-read : (w v a b : List ℕ) → IsWord w → IsWord v → Breaks a → Breaks b → w ++ a ≡ v ++ b → (w ≡ v) × (a ≡ b)
 words-read [] [] a b p q f g e = (refl, e)

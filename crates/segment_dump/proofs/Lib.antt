@@ -14,3 +14,13 @@ mod Members
 mod Elements
 mod WalkedPairs
 mod Sections
+mod KindWords
+mod Readers
+mod Rooms
+mod ObjectRooms
+mod Sums
+mod ContentLines
+mod Counts
+mod FrontLines
+mod ObjectCounts
+mod DumpCounts

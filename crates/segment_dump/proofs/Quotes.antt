@@ -10,10 +10,10 @@ use Rattle.segment_dump.proofs.Codes.{Breaks, IsRow, IsWord, Stops, heads, row-r
 -- ---- a byte in quotes
 
 -- behind a backslash, as it is, or by its two digits
-abbrev code_text : ℕ → List ℕ
+abbrev pub code_text : ℕ → List ℕ
 code_text c = 0x5C ∷ 0x78 ∷ digit_text (c / 16) ∷ digit_text (c % 16) ∷ []
 
-data IsItem (c : ℕ) (t : List ℕ) : Type 0 where
+pub data IsItem (c : ℕ) (t : List ℕ) : Type 0 where
   escaped : c ≢ 0x78 → t ≡ 0x5C ∷ c ∷ [] → IsItem c t
   plain : c ≢ 0x22 → c ≢ 0x5C → t ≡ c ∷ [] → IsItem c t
   coded : t ≡ code_text c → IsItem c t
@@ -29,7 +29,7 @@ item-by c true p e = escaped (quote-no_x c e) refl
 item-by c false true e = let n = no-quote c e in plain n.0 n.1 refl
 item-by c false false e = coded refl
 
-item-is : (c : ℕ) → IsItem c (item_text c)
+pub item-is : (c : ℕ) → IsItem c (item_text c)
 item-is c = item-by c ((c == 0x22) || (c == 0x5C)) (between 0x20 0x7E c) refl
 
 digits-same : (d e : ℕ) → digit_text d ≡ digit_text e → d ≡ e
@@ -58,7 +58,7 @@ items-read c d s t a b (coded f) (coded g) e =
     let h = as-is s (code_text c) t (code_text d) a b f g e in
     (coded-same c d (heads (tails (tails h))) (heads (tails (tails (tails h)))), tails (tails (tails (tails h))))
 
-item-opens : (c : ℕ) (t a y : List ℕ) → IsItem c t → t ++ a ≡ 0x22 ∷ y → ⊥
+pub item-opens : (c : ℕ) (t a y : List ℕ) → IsItem c t → t ++ a ≡ 0x22 ∷ y → ⊥
 item-opens c t a y (escaped n f) e = omega (arith, heads (ap (λ l. l ++ a) (sym f) ∙ e))
 item-opens c t a y (plain n k f) e = n (heads (ap (λ l. l ++ a) (sym f) ∙ e))
 item-opens c t a y (coded f) e = omega (arith, heads (ap (λ l. l ++ a) (sym f) ∙ e))
@@ -98,7 +98,7 @@ quoted-read bs cs a b e =
 
 -- ---- a name
 
-data IsName (name t : List ℕ) : Type 0 where
+pub data IsName (name t : List ℕ) : Type 0 where
   bare : (c : ℕ) (cs : List ℕ) → name ≡ c ∷ cs → c ≢ 0x22 → IsWord name → t ≡ name → IsName name t
   quoted : t ≡ quoted_text name → IsName name t
 
@@ -120,7 +120,7 @@ name-by (c ∷ cs) true e =
     bare c cs refl f.1 (f.0, name-bytes cs p.1) refl
 name-by name false e = quoted refl
 
-name-is : (name : List ℕ) → IsName name (name_text name)
+pub name-is : (name : List ℕ) → IsName name (name_text name)
 name-is name = name-by name (is_bare_name name) refl
 
 names-read-by : (n m s t a b : List ℕ) → IsName n s → IsName m t → Breaks a → Breaks b → s ++ a ≡ t ++ b → (n ≡ m) × (a ≡ b)

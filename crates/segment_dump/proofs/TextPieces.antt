@@ -118,7 +118,7 @@ pieces-begin bs a =
     let split : pieces_text bs ≡ piece_line bs 0 ++ more = parts-more (piece_line bs) 1 (behind_first bs) in
     ((quoted_text (piece_of bs 0) ++ 0x0A ∷ []) ++ more ++ a, ap (λ l. l ++ a) split)
 
-pieces-break : (bs a : List ℕ) → Breaks (pieces_text bs ++ a)
+pub pieces-break : (bs a : List ℕ) → Breaks (pieces_text bs ++ a)
 pieces-break bs a = let f = pieces-begin bs a in record { low = λ c cs e. omega (arith, heads (sym f.1 ∙ e)) }
 
 pub texts-read : (bs cs a b : List ℕ) → IsNoPiece a → IsNoPiece b → text_lines bs ++ a ≡ text_lines cs ++ b → (bs ≡ cs) × (a ≡ b)

@@ -94,7 +94,7 @@ items-good c [] a = tt
 items-good c (o ∷ os) a = (a.0, items-good c os a.1)
 
 -- what is portable of a directory is told
-portable-told : (b : List ℕ) (d : Directory) → StandsFor b d → AreItems (portable d)
+pub portable-told : (b : List ℕ) (d : Directory) → StandsFor b d → AreItems (portable d)
 portable-told b d s =
     let objects : list_all (is_object current) d.objects ≡ true = s.denotes.directory.objects in
     record {

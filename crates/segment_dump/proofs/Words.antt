@@ -116,7 +116,7 @@ truth-word : (b : Bool) → IsWord (if b then codes "true" else codes "false")
 truth-word true = (omega arith, (omega arith, (omega arith, (omega arith, tt))))
 truth-word false = (omega arith, (omega arith, (omega arith, (omega arith, (omega arith, tt)))))
 
-value-word : (k : ScalarKind) (z : ℤ) → IsWord (value_text k z)
+pub value-word : (k : ScalarKind) (z : ℤ) → IsWord (value_text k z)
 value-word BoolKind z = truth-word (nat_lt 0 (nat_abs z))
 value-word U8 z = signed-word z
 value-word I32 z = signed-word z

@@ -7,3 +7,7 @@ pub mod Comparing
 pub mod Places
 pub mod Loading
 pub mod Laws
+pub mod Reads
+pub mod Leads
+pub mod Need
+pub mod Counting

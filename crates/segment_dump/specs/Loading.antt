@@ -1,5 +1,5 @@
 -- What loading a dump owes.
-use Rattle.std.specs.Prelude.{◌≡◌, ◌+◌, ◌<◌, ◌≤◌, ⊤, ℕ, false, Option, Some, None, List, length, take, IsTrue}
+use Rattle.std.specs.Prelude.{◌≡◌, ◌+◌, ◌^◌, ◌<◌, ◌≤◌, ⊤, ℕ, false, Option, Some, None, List, length, take, IsTrue}
 use Rattle.block_tags.specs.Format.{is_legal_size}
 use Rattle.best_fit.specs.Extents.{free_bytes}
 use Rattle.segment_manager.specs.declared.errors.CreateError.{CreateError}
@@ -9,7 +9,9 @@ use Rattle.segment_manager.specs.Directory.{Directory, live}
 use Rattle.segment_manager.specs.State.{State, StandsFor}
 use Rattle.segment_dump.specs.Comparing.{IsDumpOf}
 use Rattle.segment_dump.specs.Items.{portable}
+use Rattle.segment_dump.specs.Need.{items_needs}
 use Rattle.segment_dump.specs.Texts.{dump_text}
+use Rattle.segment_dump.specs.declared.counting.Count.{Count}
 use Rattle.segment_dump.specs.declared.faults.BadDump.{BadDump}
 use Rattle.segment_dump.specs.declared.faults.LoadError.{LoadError}
 use Rattle.segment_dump.specs.declared.faults.LoadError.TheVariants.{BadDump as Bad, BadSize, RegionTooSmall, NoSpace, LongText}
@@ -50,26 +52,56 @@ abbrev pub IsAsked : Option ℕ → ℕ → Type 0
 IsAsked None n = ⊤
 IsAsked (Some size) n = n ≡ size
 
--- why not: where the text is wrong, or what is wrong with the size
-abbrev pub IsWhyNot : List ℕ → List ℕ → ℕ → Option ℕ → LoadError → Type 0
-IsWhyNot text region base size (Bad bad) = IsPlace text bad
-IsWhyNot text region base size BadSize = (n : ℕ) × IsAsked size n × (is_legal_size n ≡ false)
-IsWhyNot text region base size RegionTooSmall = (n : ℕ) × IsAsked size n × IsTrue (is_legal_size n) × (length region < base + n)
-IsWhyNot text region base size NoSpace = ⊤
-IsWhyNot text region base size LongText = ⊤
+abbrev pub asked_of : Option ℕ → ℕ → ℕ
+asked_of None said = said
+asked_of (Some size) said = size
+
+-- Whatever segment the text is the dump of, its objects need more bytes than the size, and it has more itself. So there is none
+-- of at most this size.
+pub record HasNoSpace (text : List ℕ) (size : Option ℕ) : Type 0 where
+  pub needed : (b : List ℕ) (d : Directory) (n : ℕ) → StandsFor b d → n < 2 ^ 64 → text ≡ dump_text n (portable d) → asked_of size n < (items_needs (portable d)).room
+  pub longer : (b : List ℕ) (d : Directory) (n : ℕ) → StandsFor b d → n < 2 ^ 64 → text ≡ dump_text n (portable d) → asked_of size n < d.size
+
+-- whatever segment the text is the dump of, it has a vector of strings with a text of more bytes than the room
+pub record HasLongText (text : List ℕ) (room : ℕ) : Type 0 where
+  pub longer : (b : List ℕ) (d : Directory) (n : ℕ) → StandsFor b d → n < 2 ^ 64 → text ≡ dump_text n (portable d) → room < (items_needs (portable d)).longest
+
+-- why not: where the text is wrong, or what is wrong with the size or the room
+abbrev pub IsWhyNot : List ℕ → List ℕ → ℕ → Option ℕ → ℕ → LoadError → Type 0
+IsWhyNot text region base size room (Bad bad) = IsPlace text bad
+IsWhyNot text region base size room BadSize = (n : ℕ) × IsAsked size n × (is_legal_size n ≡ false)
+IsWhyNot text region base size room RegionTooSmall = (n : ℕ) × IsAsked size n × IsTrue (is_legal_size n) × (length region < base + n)
+IsWhyNot text region base size room NoSpace = HasNoSpace text size
+IsWhyNot text region base size room LongText = HasLongText text room
+
+-- the text is wrong, at some place
+abbrev pub IsWrong : List ℕ → LoadError → Type 0
+IsWrong text (Bad bad) = IsPlace text bad
+IsWrong text BadSize = ⊥
+IsWrong text RegionTooSmall = ⊥
+IsWrong text NoSpace = ⊥
+IsWrong text LongText = ⊥
+
+-- what is counted is too much for the size, or for the room
+abbrev pub IsLack : Option ℕ → ℕ → LoadError → Count → Type 0
+IsLack size room (Bad bad) count = ⊥
+IsLack size room BadSize count = ⊥
+IsLack size room RegionTooSmall count = ⊥
+IsLack size room NoSpace count = asked_of size count.size < count.needs.room
+IsLack size room LongText count = room < count.needs.longest
 
 -- the region comes back as it was, if it does
 abbrev pub IsBack : List ℕ → Option (List ℕ) → Type 0
 IsBack region None = ⊤
 IsBack region (Some back) = back ≡ region
 
-pub record IsNotLoaded (text region : List ℕ) (base : ℕ) (size : Option ℕ) (refused : LoadRefused) : Type 0 where
-  pub why : IsWhyNot text region base size refused.cause
+pub record IsNotLoaded (text region : List ℕ) (base : ℕ) (size : Option ℕ) (room : ℕ) (refused : LoadRefused) : Type 0 where
+  pub why : IsWhyNot text region base size room refused.cause
   pub back : IsBack region refused.region
 
--- a segment was begun, and its region is let go
+-- a segment was begun, and its region is let go: the text is wrong
 pub record IsLetGo (text : List ℕ) (refused : LoadRefused) : Type 0 where
-  pub why : (region : List ℕ) (base : ℕ) (size : Option ℕ) → IsWhyNot text region base size refused.cause
+  pub why : IsWrong text refused.cause
   pub gone : refused.region ≡ None
 
 -- why a segment is not created, said of a load

@@ -14,10 +14,10 @@ use segment_manager::{AnonymousInstance, Destination, Segment, UniqueInstance};
 pub enum Stop {
     /// The text is no dump.
     Misfit(Misfit),
-    /// The objects do not fit.
-    NoSpace,
-    /// A text is longer than the room for it.
-    LongText,
+    /// From here on the objects ask for more than what was counted of them.
+    NoSpace(usize),
+    /// The text that begins here is longer than what was counted of it.
+    LongText(usize),
 }
 
 impl From<Misfit> for Stop {
@@ -153,7 +153,7 @@ fn construct_under<D: Destination>(
 /// Why an object is not made, or not filled.
 pub fn stop_of(why: Refusal, at: usize) -> Stop {
     match why {
-        Refusal::NoSpace => Stop::NoSpace,
+        Refusal::NoSpace => Stop::NoSpace(at),
         Refusal::Exists => misfit(at, DumpFault::Exists),
         _ => misfit(at, DumpFault::BadCount),
     }

@@ -98,11 +98,12 @@ fn copy_piece(
     requires { from ≤ length room.old }
     ensures { IfOk result (λ n. n ≤ length room.new) }
 {
+    let at = words.at();
     let piece = words.next_text()?;
     words.finish()?;
     let bytes = piece.bytes(scratch);
     if room.len() - from < bytes.len() {
-        return Err(Stop::LongText);
+        return Err(Stop::LongText(at));
     }
     let end = from + bytes.len();
     room[from..end].copy_from_slice(bytes);

@@ -1,26 +1,20 @@
 //! A segment made of a dump. What the lines ask for is done, and then the segment is compared with the whole text, so that no
 //! line needs to be believed.
-ghost use Rattle.std.specs.Prelude.{◌≡◌, ◌%◌, List, ℕ, MatchResult, Option, Some, None};
+ghost use Rattle.std.specs.Prelude.{◌≡◌, ◌%◌, length, IfSome, MatchResult, Some, None};
 ghost use Rattle.std.specs.Bool.{OnTrue};
 ghost use Rattle.segment_manager.specs.declared.modes.Mode.TheVariants.{Write};
-ghost use Rattle.segment_dump.specs.Loading.{HasSize, IsAsked, IsJudged, IsLetGo, IsLoaded, IsNotLoaded, IsWhyNot, load_error};
+ghost use Rattle.segment_dump.specs.Loading.{HasSize, IsAsked, IsJudged, IsLack, IsLetGo, IsLoaded, IsNotLoaded, IsWrong, asked_of, load_error};
 
 use crate::building::{Stop, build, stop_of};
 use crate::comparing::compare;
+use crate::counting::{Count, Front, count_dump};
 use crate::faults::{BadDump, DumpFault, LoadError, LoadRefused, Misfit};
 use crate::places::place_at;
 use crate::reading::Lines;
+use block_tags::is_legal_size;
 use raw_region::RawRegion;
 use segment_manager::conditioned::cut_end;
 use segment_manager::{CreateError, CreateRefused, Mode, Segment};
-
-/// What the first three lines say.
-#[derive(Clone, Copy)]
-struct Front {
-    size: u64,
-    named: u64,
-    unique: u64,
-}
 
 /// Makes a segment of a dump, in the `size` bytes of the region from `base` on, which is a multiple of 16; without a size in as
 /// many as the dump says, of which it keeps those up to its last block: nothing in it is free then. Whatever segment the dump is
@@ -29,8 +23,10 @@ struct Front {
 ///
 /// # Errors
 ///
-/// `BadDump` says where the text is no dump, and why. `BadSize`, `RegionTooSmall`, `NoSpace` and `LongText` are as they are
-/// called. The region comes back as it was where no segment was begun, and else is let go.
+/// `BadDump` says where the text is no dump, and why. `BadSize` and `RegionTooSmall` are as they are called. `NoSpace`: whatever
+/// segment the text is the dump of, its objects need more bytes than the size, and so it was longer itself. `LongText`: it has a
+/// vector of strings with a text that is longer than the room. The region comes back as it was where no segment was begun, as
+/// for these two, and else is let go.
 pub fn load(
     text: &[u8],
     room: &mut [u8],
@@ -39,7 +35,7 @@ pub fn load(
     size: Option<u64>,
 ) -> Result<Segment, LoadRefused>
     requires aligned { base % 16 ≡ 0 }
-    ensures { MatchResult result (IsLoaded text.now size) (IsNotLoaded text.now region base size) }
+    ensures { MatchResult result (IsLoaded text.now size) (IsNotLoaded text.now region base size (length room.old)) }
 {
     let mut lines = Lines::new(text);
     let front = match read_front(&mut lines) {
@@ -52,12 +48,21 @@ pub fn load(
         }
     };
     let asked = asked_size(size, front.size);
+    let counted = count_dump(text);
+    if is_legal_size(asked) && region.in_range(base, asked) {
+        if let Some(cause) = lack(counted, size, room.len()) {
+            return Err(LoadRefused {
+                region: Some(region),
+                cause,
+            });
+        }
+    }
     let mut segment = match Segment::create(region, base, asked, Mode::Write) {
         Ok(segment) => segment,
         Err(refused) => return Err(not_created(refused)),
     };
     if let Err(stop) = make_objects(&mut segment, front, &mut lines, room, text.len()) {
-        return Err(let_go(cause_of(text, stop)));
+        return Err(let_go(cause_of(text, stop, counted)));
     }
     judge(segment, text, front.size, size)
 }
@@ -87,12 +92,29 @@ fn read_front(lines: &mut Lines<'_>) -> Result<Front, Misfit> {
 
 /// The size that is asked for, or else that of the text.
 fn asked_size(size: Option<u64>, said: u64) -> u64
-    ensures { IsAsked size result }
+    ensures asked { IsAsked size result }
+    ensures value { result ≡ asked_of size said }
 {
     match size {
         Some(size) => size,
         None => said,
     }
+}
+
+/// What there is too little of for the objects of a dump, if anything: of the size, or of the room for a text.
+fn lack(counted: Result<Count, usize>, size: Option<u64>, room: usize) -> Option<LoadError>
+    ensures { IfSome result (λ cause. MatchResult counted (IsLack size room cause) (λ left. ⊥)) }
+{
+    let Ok(count) = counted else {
+        return None;
+    };
+    if asked_size(size, count.size) < count.needs.room {
+        return Some(LoadError::NoSpace);
+    }
+    if (room as u64) < count.needs.longest {
+        return Some(LoadError::LongText);
+    }
+    None
 }
 
 /// No segment is created.
@@ -124,7 +146,7 @@ fn let_go(cause: LoadError) -> LoadRefused
 
 /// What is wrong at a place of a text.
 fn bad_dump(text: &[u8], misfit: Misfit) -> LoadError
-    ensures { (region : List ℕ) (base : ℕ) (size : Option ℕ) → IsWhyNot text.now region base size result }
+    ensures { IsWrong text.now result }
 {
     let at = misfit.at.min(text.len());
     let (line, column) = place_at(text, at);
@@ -135,14 +157,27 @@ fn bad_dump(text: &[u8], misfit: Misfit) -> LoadError
     })
 }
 
-/// Why building stopped.
-fn cause_of(text: &[u8], stop: Stop) -> LoadError
-    ensures { (region : List ℕ) (base : ℕ) (size : Option ℕ) → IsWhyNot text.now region base size result }
+/// Why building stopped. Where objects or a text ask for more than was counted, lines are wrong: those that could not be counted,
+/// or else those that were built.
+fn cause_of(text: &[u8], stop: Stop, counted: Result<Count, usize>) -> LoadError
+    ensures { IsWrong text.now result }
 {
     match stop {
         Stop::Misfit(misfit) => bad_dump(text, misfit),
-        Stop::NoSpace => LoadError::NoSpace,
-        Stop::LongText => LoadError::LongText,
+        Stop::NoSpace(at) => bad_dump(text, uncounted(text, at, counted)),
+        Stop::LongText(at) => bad_dump(text, uncounted(text, at, counted)),
+    }
+}
+
+/// The first line that could not be counted, or another place where all could.
+fn uncounted(text: &[u8], at: usize, counted: Result<Count, usize>) -> Misfit {
+    let at = match counted {
+        Ok(_) => at,
+        Err(left) => text.len().saturating_sub(left),
+    };
+    Misfit {
+        at,
+        cause: DumpFault::Unlike,
     }
 }
 

@@ -38,7 +38,7 @@ fn put_all_pieces<W: Sink>(text: &[u8], out: &mut W) -> Result<(), DeviceFault>
 }
 
 /// How many pieces so many bytes are. An empty text is one.
-fn pieces_in(len: usize) -> usize
+pub fn pieces_in(len: usize) -> usize
     requires { len < 2 ^ 63 }
     ensures { result ≡ pieces_in len }
 {

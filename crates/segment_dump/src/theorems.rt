@@ -1,9 +1,15 @@
 //! Laws about the definitions that the contracts cite. These functions do nothing; what they ensure is proved.
-ghost use Rattle.segment_dump.specs.Laws.{DumpsTellObjects, DumpsTellSizes};
+ghost use Rattle.segment_dump.specs.Laws.{DumpsTellObjects, DumpsTellSizes, SegmentsHaveRoom};
 
 /// Two segments that have one dump have the same objects: the same names, classes, kinds and values, and the anonymous objects in
 /// the same order; and they have one size.
 pub fn dumps_tell_objects()
     ensures objects { DumpsTellObjects }
     ensures sizes { DumpsTellSizes }
+{}
+
+/// A segment has at least as many bytes as its objects need: the header and the end tag, the blocks of the two indexes with just
+/// as many entries, and for each object its own block, and blocks of just as many elements, pairs and bytes of texts.
+pub fn segments_have_room()
+    ensures { SegmentsHaveRoom }
 {}

@@ -1,9 +1,6 @@
 use Rattle.std.proofs.Common.{sym, subst}
-use Rattle.segment_dump.specs.Loading.{IsWhyNot}
+use Rattle.segment_dump.specs.Loading.{IsWrong}
 use Rattle.segment_dump.proofs.loading.unlike.Goals as goal
 
 pub returns : goal.returns
-returns c = record {
-  why = λ region base size. subst (λ e. IsWhyNot c.args.text.now region base size e) (sym c.let_go.ensures.cause) (c.bad_dump.ensures region base size);
-  gone = c.let_go.ensures.gone;
-}
+returns c = record { why = subst (IsWrong c.args.text.now) (sym c.let_go.ensures.cause) c.bad_dump.ensures; gone = c.let_go.ensures.gone }

@@ -1,0 +1,71 @@
+-- The first lines of a dump are read.
+use Rattle.std.proofs.Common.{◌≡◌, ℕ, ◌<◌, ◌^◌, List, [], ◌∷◌, ◌++◌, Option, Some, None, sym, ap, ◌∙◌, append_assoc}
+use Rattle.std.specs.Prelude.{codes, decimal, drop}
+use Rattle.segment_lang.specs.Texts.{number_text}
+use Rattle.segment_dump.specs.declared.counting.Front.{Front}
+use Rattle.segment_dump.specs.Counting.{IsFront, fronted}
+use Rattle.segment_dump.specs.Leads.{AreEntries, entries_text}
+use Rattle.segment_dump.specs.Reads.{Any, Breaks, Reads, itself}
+use Rattle.segment_dump.specs.Texts.{front_text}
+use Rattle.segment_dump.proofs.ItemLines.{ends-line}
+use Rattle.segment_dump.proofs.Sums.{never-some, some-pair}
+
+abbrev before_size : List ℕ
+before_size = codes "segment dump 1" ++ 0x0A ∷ codes "size "
+
+abbrev before_entries : List ℕ
+before_entries = 0x0A ∷ codes "indexes "
+
+front-apart : (s i p q l x : List ℕ) → s ++ i ++ p ++ q ++ l ++ x ≡ s ++ (i ++ (p ++ q ++ l ++ x))
+front-apart s i p q l x = simp append_assoc
+
+front-behind : (text x : List ℕ) (s n u : ℕ) (a : List ℕ) → text ≡ before_size ++ x → text ≡ front_text s n u ++ a → x ≡ number_text s ++ (before_entries ++ (entries_text (n, u) ++ a))
+front-behind text x s n u a e f = ap (drop 20) (sym e ∙ f) ∙ front-apart (decimal s) before_entries (decimal n) (0x20 ∷ decimal u) (0x0A ∷ []) a
+
+abbrev pub NumberReads : List ℕ → Option (ℕ × List ℕ) → Type 0
+NumberReads = Reads number_text (λ n. n < 2 ^ 64) Breaks itself
+
+abbrev pub EntriesRead : List ℕ → Option ((ℕ × ℕ) × List ℕ) → Type 0
+EntriesRead = Reads entries_text AreEntries Any itself
+
+abbrev pub FrontReads : List ℕ → Option (Front × List ℕ) → Type 0
+FrontReads = Reads fronted IsFront Any itself
+
+number-front : (text x : List ℕ) (o : Option (ℕ × List ℕ)) (f : Front) (a : List ℕ) → text ≡ before_size ++ x → NumberReads x o → IsFront f → text ≡ fronted f ++ a → o ≡ Some (f.size, before_entries ++ (entries_text (f.named, f.unique) ++ a))
+number-front text x o f a e h g w =
+    h.reads f.size (before_entries ++ (entries_text (f.named, f.unique) ++ a)) g.size (ends-line (codes "indexes " ++ (entries_text (f.named, f.unique) ++ a))) (front-behind text x f.size f.named f.unique a e w)
+
+pub front-none : (text : List ℕ) → ((y : List ℕ) → text ≡ before_size ++ y → ⊥) → FrontReads text None
+front-none text n = record { reads = λ f a g w k. absurd (n (drop 20 (fronted f ++ a)) k) }
+
+pub front-no_size : (text x : List ℕ) → text ≡ before_size ++ x → NumberReads x None → FrontReads text None
+front-no_size text x e h = record {
+  reads = λ f a g w k. absurd (never-some (f.size, before_entries ++ (entries_text (f.named, f.unique) ++ a)) (number-front text x None f a e h g k));
+}
+
+pub front-no_indexes : (text x : List ℕ) (n : ℕ) (rest : List ℕ) → text ≡ before_size ++ x → NumberReads x (Some (n, rest)) → ((y : List ℕ) → rest ≡ before_entries ++ y → ⊥) → FrontReads text None
+front-no_indexes text x n rest e h z = record {
+  reads = λ f a g w k.
+      let r = some-pair n f.size rest (before_entries ++ (entries_text (f.named, f.unique) ++ a)) (number-front text x (Some (n, rest)) f a e h g k) in
+      absurd (z (entries_text (f.named, f.unique) ++ a) r.1);
+}
+
+front-entries : (text x : List ℕ) (n : ℕ) (rest y : List ℕ) (o : Option ((ℕ × ℕ) × List ℕ)) (f : Front) (a : List ℕ) → text ≡ before_size ++ x → NumberReads x (Some (n, rest)) → rest ≡ before_entries ++ y → EntriesRead y o → IsFront f
+    → text ≡ fronted f ++ a → (n ≡ f.size) × (o ≡ Some ((f.named, f.unique), a))
+front-entries text x n rest y o f a e h z k g w =
+    let r = some-pair n f.size rest (before_entries ++ (entries_text (f.named, f.unique) ++ a)) (number-front text x (Some (n, rest)) f a e h g w) in
+    (r.0, k.reads (f.named, f.unique) a (g.named, g.unique) tt (ap (drop 9) (sym z ∙ r.1)))
+
+pub front-no_entries : (text x : List ℕ) (n : ℕ) (rest y : List ℕ) → text ≡ before_size ++ x → NumberReads x (Some (n, rest)) → rest ≡ before_entries ++ y → EntriesRead y None → FrontReads text None
+front-no_entries text x n rest y e h z k = record {
+  reads = λ f a g w m. absurd (never-some ((f.named, f.unique), a) (front-entries text x n rest y None f a e h z k g m).1);
+}
+
+pub front-some : (text x : List ℕ) (n : ℕ) (rest y : List ℕ) (named unique : ℕ) (last : List ℕ) → text ≡ before_size ++ x → NumberReads x (Some (n, rest)) → rest ≡ before_entries ++ y → EntriesRead y (Some ((named, unique), last))
+    → FrontReads text (Some (record { size = n; named = named; unique = unique }, last))
+front-some text x n rest y named unique last e h z k = record {
+  reads = λ f a g w m.
+      let r = front-entries text x n rest y (Some ((named, unique), last)) f a e h z k g m in
+      let s = some-pair (named, unique) (f.named, f.unique) last a r.1 in
+      λ i. Some (record { size = r.0 i; named = (s.0 i).0; unique = (s.0 i).1 }, s.1 i);
+}

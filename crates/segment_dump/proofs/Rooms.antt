@@ -1,0 +1,81 @@
+-- The bytes of blocks: each is as long as what stands in it needs, and all of them fit between the ends of a segment.
+use Rattle.std.proofs.Common.{◌≡◌, ℕ, ◌+◌, ◌*◌, ◌/◌, ◌%◌, ◌≤◌, Bool, true, false, ◌&&◌, ◌==◌, nat_le, nat_lt, List, [], ◌∷◌, ◌++◌, if◌then◌else◌, refl, arith}
+use Rattle.std.specs.List.{AllByRecursion}
+use Rattle.std.proofs.Math.Nat.{max-le}
+use Rattle.std.proofs.lemmas.Bool.{and_parts}
+use Rattle.std.proofs.lemmas.Bool.Decides.{nat_tests}
+use Rattle.best_fit.specs.Extents.{Extent, end_of, holds, is_block, is_hole, proper_from}
+use Rattle.best_fit.specs.Fit.{insert, room}
+
+-- ---- one block
+
+rounded : (n len : ℕ) → n + 16 ≤ len → len % 16 ≡ 0 → (n + 31) / 16 * 16 ≤ len
+rounded n len h e = omega arith
+
+pub room-fits : (n len : ℕ) → n + 16 ≤ len → 32 ≤ len → len % 16 ≡ 0 → room n ≤ len
+room-fits n len h l e = max-le l (rounded n len h e)
+
+pub le-test : (m n : ℕ) → nat_le m n ≡ true → m ≤ n
+le-test m n e = grind (arith, nat_tests)
+
+zero-test : (n : ℕ) → (n == 0) ≡ true → n ≡ 0
+zero-test n e = grind (arith, nat_tests)
+
+-- a block of 32 bytes or more, of which 16 are a whole number of
+pub record IsLong (x : Extent) : Type 0 where
+  pub least : 32 ≤ x.len
+  pub even : x.len % 16 ≡ 0
+
+block-long : (x : Extent) → is_block x ≡ true → IsLong x
+block-long x e =
+    let p = and_parts ((x.offset % 16 == 0) && nat_le 32 x.len) (x.len % 16 == 0) e in
+    let q = and_parts (x.offset % 16 == 0) (nat_le 32 x.len) p.0 in
+    record { least = le-test 32 x.len q.1; even = zero-test (x.len % 16) p.1 }
+
+-- what it holds has room in it
+pub held-fits : (x : Extent) (n : ℕ) → IsLong x → holds x n ≡ true → room n ≤ x.len
+held-fits x n l e = room-fits n x.len (le-test (n + 16) x.len e) l.least l.even
+
+-- ---- all blocks
+
+unfoldable pub total : List Extent → ℕ
+total [] = 0
+total (x ∷ xs) = x.len + total xs
+
+pub total-append : (xs ys : List Extent) → total (xs ++ ys) ≡ total xs + total ys
+unfolding total
+total-append [] ys = omega arith
+total-append (x ∷ xs) ys = omega (arith, total-append xs ys)
+
+insert-if : (b : Bool) (x y : Extent) (ys zs : List Extent) → total zs ≡ x.len + total ys → total (if b then x ∷ y ∷ ys else y ∷ zs) ≡ x.len + total (y ∷ ys)
+unfolding total
+insert-if true x y ys zs e = refl
+insert-if false x y ys zs e = omega arith
+
+pub total-insert : (x : Extent) (ys : List Extent) → total (insert x ys) ≡ x.len + total ys
+unfolding total
+total-insert x [] = refl
+total-insert x (y ∷ ys) = insert-if (nat_lt x.offset y.offset) x y ys (insert x ys) (total-insert x ys)
+
+pub total-more : (x : Extent) (xs ys : List Extent) → total (insert x ys) ≡ x.len + total ys → total ys ≡ total xs → total (insert x ys) ≡ total (x ∷ xs)
+unfolding total
+total-more x xs ys e f = omega (arith, e, f)
+
+hole-rises : (a b : ℕ) → is_hole a b ≡ true → a ≤ b
+hole-rises a b e = grind (arith, nat_tests)
+
+-- they fit between the ends
+pub proper-total : (from : ℕ) (xs : List Extent) (to : ℕ) → proper_from from xs to ≡ true → from + total xs ≤ to
+unfolding total
+proper-total from [] to e = omega (arith, hole-rises from to e)
+proper-total from (x ∷ xs) to e =
+    let p = and_parts (is_hole from x.offset && is_block x) (proper_from (end_of x) xs to) e in
+    let q = and_parts (is_hole from x.offset) (is_block x) p.0 in
+    omega (arith, hole-rises from x.offset q.0, proper-total (end_of x) xs to p.1)
+
+pub proper-long : (from : ℕ) (xs : List Extent) (to : ℕ) → proper_from from xs to ≡ true → AllByRecursion IsLong xs
+proper-long from [] to e = tt
+proper-long from (x ∷ xs) to e =
+    let p = and_parts (is_hole from x.offset && is_block x) (proper_from (end_of x) xs to) e in
+    let q = and_parts (is_hole from x.offset) (is_block x) p.0 in
+    (block-long x q.1, proper-long (end_of x) xs to p.1)

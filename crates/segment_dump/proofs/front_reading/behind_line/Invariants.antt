@@ -1,0 +1,9 @@
+use Rattle.std.proofs.Common.{length}
+use Rattle.segment_dump.proofs.Readers.{InLine}
+use Rattle.segment_dump.proofs.front_reading.behind_line.Given as goal
+
+abbrev pub invariant-bytes : goal.invariant-bytes
+invariant-bytes l = InLine l.text l.rest
+
+abbrev pub decreases-bytes : goal.decreases-bytes
+decreases-bytes l = length l.rest

@@ -1,0 +1,9 @@
+use Rattle.std.proofs.Common.{length}
+use Rattle.segment_dump.proofs.Readers.{InWord}
+use Rattle.segment_dump.proofs.front_reading.next_word.Given as goal
+
+abbrev pub invariant-word : goal.invariant-word
+invariant-word l = InWord l.text l.rest
+
+abbrev pub decreases-word : goal.decreases-word
+decreases-word l = length l.rest

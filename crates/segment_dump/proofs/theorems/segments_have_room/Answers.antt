@@ -1,0 +1,5 @@
+use Rattle.segment_dump.proofs.ObjectRooms.{segments-have-room}
+use Rattle.segment_dump.proofs.theorems.segments_have_room.Goals as goal
+
+pub returns : goal.returns
+returns c = segments-have-room

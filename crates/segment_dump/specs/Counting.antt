@@ -1,0 +1,58 @@
+-- What is counted of a text, and of which texts it is said.
+use Rattle.std.specs.Prelude.{◌≡◌, ◌≢◌, ◌<◌, ◌^◌, ◌++◌, ℕ, List, [], Result, Ok, length}
+use Rattle.std.specs.List.{AllByRecursion}
+use Rattle.seg_types.specs.declared.kinds.Class.TheVariants.{Named}
+use Rattle.seg_types.specs.declared.kinds.Kind.{Kind}
+use Rattle.segment_dump.specs.declared.counting.Count.{Count}
+use Rattle.segment_dump.specs.declared.counting.Front.{Front}
+use Rattle.segment_dump.specs.declared.needs.Needs.{Needs}
+use Rattle.segment_dump.specs.Items.{Content, Item, Items, kind_of_content, count_of_content}
+use Rattle.segment_dump.specs.Leads.{IsSmall}
+use Rattle.segment_dump.specs.Need.{all_needs, item_needs, items_needs, text_needs, texts_needs}
+use Rattle.segment_dump.specs.Texts.{dump_text, end_text, front_text, items_text}
+
+-- ---- what it has
+
+-- so many texts, which fit a segment
+pub record AreTexts (count : ℕ) (ts : List (List ℕ)) : Type 0 where
+  pub many : length ts ≡ count
+  pub small : IsSmall (all_needs text_needs ts).room
+
+-- so many elements of a kind, whose texts fit
+pub record IsContent (kind : Kind) (count : ℕ) (c : Content) : Type 0 where
+  pub kind_is : kind_of_content c ≡ kind
+  pub many : count_of_content c ≡ count
+  pub small : IsSmall (texts_needs c).room
+
+abbrev pub IsNameless : Item → Type 0
+IsNameless i = i.class ≢ Named → i.name ≡ []
+
+-- an object that fits
+pub record IsCountable (i : Item) : Type 0 where
+  pub nameless : IsNameless i
+  pub small : IsSmall (item_needs i).room
+
+-- ---- the whole text
+
+abbrev pub fronted : Front → List ℕ
+fronted f = front_text f.size f.named f.unique
+
+pub record IsFront (f : Front) : Type 0 where
+  pub size : f.size < 2 ^ 64
+  pub named : IsSmall f.named
+  pub unique : IsSmall f.unique
+
+-- objects of which each has a name only where it is named, and that fit a segment
+pub record AreCountable (items : Items) : Type 0 where
+  pub named : AllByRecursion IsNameless items.named
+  pub unique : AllByRecursion IsNameless items.unique
+  pub anonymous : AllByRecursion IsNameless items.anonymous
+  pub small : IsSmall (items_needs items).room
+
+-- the needs of objects whose lines, and the line `end`, are the text
+pub record CountsObjects (text : List ℕ) (result : Result Needs ℕ) : Type 0 where
+  pub counts : (items : List Item) → AllByRecursion IsNameless items → IsSmall (all_needs item_needs items).room → text ≡ items_text items ++ end_text → result ≡ Ok (all_needs item_needs items)
+
+-- the needs of all objects of which the text is the dump, and the size that it says
+pub record CountsDump (text : List ℕ) (result : Result Count ℕ) : Type 0 where
+  pub counts : (n : ℕ) (items : Items) → n < 2 ^ 64 → AreCountable items → text ≡ dump_text n items → result ≡ Ok (record { size = n; needs = items_needs items })

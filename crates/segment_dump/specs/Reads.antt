@@ -1,0 +1,49 @@
+-- What is read from the front of a text, where it stands there as it is written.
+use Rattle.std.specs.Prelude.{◌≡◌, ◌≢◌, ◌<◌, ◌≤◌, ⊤, ℕ, List, [], ◌∷◌, ◌++◌, Option, Some, length, option_map}
+use Rattle.std.specs.Borrow.{Bor}
+use Rattle.std.specs.List.{AllByRecursion, flat_map}
+
+-- bytes behind the blank
+abbrev pub IsWord : List ℕ → Type 0
+IsWord = AllByRecursion (λ c. 0x20 < c)
+
+-- no word goes on here
+pub record Breaks (a : List ℕ) : Type 0 where
+  pub low : (c : ℕ) (cs : List ℕ) → a ≡ c ∷ cs → c ≤ 0x20
+
+-- a line has no end in it, but behind it
+abbrev pub HasNoEnd : List ℕ → Type 0
+HasNoEnd = AllByRecursion (λ c. c ≢ 0x0A)
+
+abbrev pub ended : List ℕ → List ℕ
+ended line = line ++ 0x0A ∷ []
+
+abbrev pub lines_text : List (List ℕ) → List ℕ
+lines_text = flat_map ended
+
+-- so many
+abbrev pub AreLines : ℕ → List (List ℕ) → Type 0
+AreLines n lines = AllByRecursion HasNoEnd lines × (length lines ≡ n)
+
+-- whatever is said of this stands in front, the value is read and the rest is left
+pub record Reads {X Y : Type 0} (say : X → List ℕ) (IsSaid : X → Type 0) (Follows : List ℕ → Type 0) (value : X → Y) (text : List ℕ) (result : Option (Y × List ℕ)) : Type 0 where
+  pub reads : (x : X) (rest : List ℕ) → IsSaid x → Follows rest → text ≡ say x ++ rest → result ≡ Some (value x, rest)
+
+-- the same where no value is asked for
+pub record Skips {X : Type 0} (say : X → List ℕ) (IsSaid : X → Type 0) (text : List ℕ) (result : Option (List ℕ)) : Type 0 where
+  pub skips : (x : X) (rest : List ℕ) → IsSaid x → text ≡ say x ++ rest → result ≡ Some rest
+
+-- anything may be said, and may follow
+abbrev pub Any : {X : Type 0} → X → Type 0
+Any x = ⊤
+
+-- as it is
+abbrev pub itself : {X : Type 0} → X → X
+itself x = x
+
+-- a value and what is left, and what is left alone, as the bytes that a slice has
+abbrev pub seen : {Y : Type 0} → Option (Y × Bor (List ℕ)) → Option (Y × List ℕ)
+seen o = option_map (λ r. (r.0, r.1.now)) o
+
+abbrev pub seen_rest : Option (Bor (List ℕ)) → Option (List ℕ)
+seen_rest o = option_map (λ r. r.now) o

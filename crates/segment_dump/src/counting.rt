@@ -1,0 +1,168 @@
+//! What the objects of a dump need, counted from its text before a segment is begun.
+ghost use Rattle.std.specs.Prelude.{◌≡◌, ◌++◌, ℕ, List, true, length, flat_map, IfSome};
+ghost use Rattle.std.specs.Bool.{OnTrue};
+ghost use Rattle.segment_dump.specs.Counting.{AreTexts, CountsDump, CountsObjects, IsContent, IsCountable, IsFront, fronted};
+ghost use Rattle.segment_dump.specs.Leads.{IsSmall};
+ghost use Rattle.segment_dump.specs.Need.{all_needs, block_room, item_needs, nothing, only_room, text_needs, texts_needs};
+ghost use Rattle.segment_dump.specs.Reads.{Any, AreLines, Reads, itself, lines_text, seen};
+ghost use Rattle.segment_dump.specs.Texts.{content_text, end_text, item_text, text_lines};
+
+use crate::front_reading::{
+    behind, behind_lead, behind_lines, next_count, next_entries, next_measure, next_number,
+};
+use crate::needs::{Needs, block_room, front_room, object_room, only_room};
+use crate::texts::pieces_in;
+use seg_types::Kind;
+
+/// What is counted of a dump.
+#[derive(Clone, Copy, Debug, PartialEq, Eq)]
+pub struct Count {
+    /// The bytes of the segment that was dumped, as it says.
+    pub size: u64,
+    /// What all its objects need.
+    pub needs: Needs,
+}
+
+/// What the first lines say.
+#[derive(Clone, Copy)]
+pub struct Front {
+    /// The bytes of the segment that was dumped.
+    pub size: u64,
+    /// How many entries its index of names has.
+    pub named: u64,
+    /// How many entries its index of kinds has.
+    pub unique: u64,
+}
+
+/// How many bytes a text has, and what is behind its lines.
+fn text_len(text: &[u8]) -> Option<(u64, &[u8])>
+    ensures value { Reads text_lines (λ bytes. IsSmall (length bytes)) Any length text.now (seen result) }
+    ensures small { IfSome result (λ r. IsSmall r.0) }
+{
+    let (len, rest) = next_count(behind(text, b"  ")?)?;
+    Some((len, behind_lines(rest, pieces_in(len as usize) as u64)?))
+}
+
+/// What so many texts need, and what is behind their lines.
+fn count_texts(text: &[u8], count: u64) -> Option<(Needs, &[u8])>
+    ensures { Reads (flat_map text_lines) (AreTexts count) Any (all_needs text_needs) text.now (seen result) }
+{
+    let mut rest = text;
+    let mut needs = only_room(0);
+    'texts: for _ in 0..count {
+        let (len, behind) = text_len(rest)?;
+        rest = behind;
+        needs = needs.and(text_needs(len));
+    }
+    Some((needs, rest))
+}
+
+/// What a text of so many bytes in a vector of strings needs.
+fn text_needs(len: u64) -> Needs
+    requires { IsSmall len }
+    ensures { result ≡ record { room = block_room len; longest = len } }
+{
+    Needs {
+        room: block_room(len),
+        longest: len,
+    }
+}
+
+/// What the texts among the elements of an object need, and what is behind its lines.
+fn count_content(text: &[u8], kind: Kind, count: u64) -> Option<(Needs, &[u8])>
+    ensures { Reads content_text (IsContent kind count) Any texts_needs text.now (seen result) }
+{
+    match kind {
+        Kind::Scalar(_) => skip(text, count),
+        Kind::Vector(_) => skip(text, count),
+        Kind::Map(_, _) => skip(text, count),
+        Kind::Text => count_string(text),
+        Kind::Texts => count_texts(text, count),
+    }
+}
+
+/// What is behind so many lines, which need nothing.
+fn skip(text: &[u8], count: u64) -> Option<(Needs, &[u8])>
+    ensures { Reads lines_text (AreLines count) Any (λ lines. nothing) text.now (seen result) }
+{
+    Some((only_room(0), behind_lines(text, count)?))
+}
+
+/// What a string needs, and what is behind its lines.
+fn count_string(text: &[u8]) -> Option<(Needs, &[u8])>
+    ensures { Reads text_lines (λ bytes. IsSmall (length bytes)) Any (λ bytes. only_room (block_room (length bytes))) text.now (seen result) }
+{
+    let (len, rest) = text_len(text)?;
+    Some((only_room(block_room(len)), rest))
+}
+
+/// What an object needs, and what is behind its lines.
+fn count_object(text: &[u8]) -> Option<(Needs, &[u8])>
+    ensures { Reads item_text IsCountable Any item_needs text.now (seen result) }
+{
+    let (name_len, rest) = behind_lead(text)?;
+    let ((kind, count), rest) = next_measure(rest)?;
+    let (texts, rest) = count_content(rest, kind, count)?;
+    let own = only_room(object_room(name_len, kind, count));
+    Some((own.and(texts), rest))
+}
+
+/// Whether the last line stands in front.
+fn is_end(text: &[u8]) -> bool
+    ensures yes { OnTrue result ((rest : List ℕ) × (text.now ≡ end_text ++ rest)) }
+    ensures always { (rest : List ℕ) → text.now ≡ end_text ++ rest → result ≡ true }
+{
+    behind(text, b"end\n").is_some()
+}
+
+/// What all objects need, up to the line `end`; or how many bytes are left from the first line on that cannot be read.
+fn count_objects(text: &[u8]) -> Result<Needs, usize>
+    ensures { CountsObjects text.now result }
+{
+    let mut rest = text;
+    let mut needs = only_room(0);
+    'objects: for _ in 0..text.len() {
+        if is_end(rest) {
+            return Ok(needs);
+        }
+        let Some((more, behind)) = count_object(rest) else {
+            return Err(rest.len());
+        };
+        rest = behind;
+        needs = needs.and(more);
+    }
+    Err(rest.len())
+}
+
+/// What the first lines say, and what is behind them.
+fn read_front(text: &[u8]) -> Option<(Front, &[u8])>
+    ensures value { Reads fronted IsFront Any itself text.now (seen result) }
+    ensures named { IfSome result (λ r. IsSmall r.0.named) }
+    ensures unique { IfSome result (λ r. IsSmall r.0.unique) }
+{
+    let (size, rest) = next_number(behind(text, b"segment dump 1\nsize ")?)?;
+    let ((named, unique), rest) = next_entries(behind(rest, b"\nindexes ")?)?;
+    Some((
+        Front {
+            size,
+            named,
+            unique,
+        },
+        rest,
+    ))
+}
+
+/// What is counted of a dump; or how many bytes are left from the first line on that cannot be read.
+pub fn count_dump(text: &[u8]) -> Result<Count, usize>
+    ensures { CountsDump text.now result }
+{
+    let Some((front, rest)) = read_front(text) else {
+        return Err(text.len());
+    };
+    let indexes = only_room(front_room(front.named, front.unique));
+    let objects = count_objects(rest)?;
+    Ok(Count {
+        size: front.size,
+        needs: indexes.and(objects),
+    })
+}

@@ -1,0 +1,171 @@
+//! What stands in front of a text: lines, words, numbers, kinds and names, as a dump spells them. What is spelled in another way
+//! need not be found.
+ghost use Rattle.std.specs.Prelude.{◌≡◌, ◌≢◌, ◌<◌, ◌≤◌, ◌^◌, ◌++◌, ℕ, List, length, IfSome, MatchOption};
+ghost use Rattle.seg_types.specs.Texts.{item_text, kind_text, name_text};
+ghost use Rattle.segment_lang.specs.Texts.{number_text};
+ghost use Rattle.segment_dump.specs.Leads.{AreEntries, IsLead, IsMeasure, IsSmall, closed_text, entries_text, lead_text, measured};
+ghost use Rattle.segment_dump.specs.Reads.{Any, AreLines, Breaks, HasNoEnd, IsWord, Reads, Skips, ended, itself, lines_text, seen, seen_rest};
+
+use seg_types::Kind;
+use segment_lang::{Word, kind_of_word, number_of, numbers_are_decimals};
+
+/// No segment has more bytes.
+const MOST: u64 = 1_073_741_824;
+
+/// What is behind these bytes.
+pub fn behind<'a>(text: &'a [u8], lead: &[u8]) -> Option<&'a [u8]>
+    ensures { MatchOption result ((rest : List ℕ) → text.now ≢ lead.now ++ rest) (λ rest. text.now ≡ lead.now ++ rest.now) }
+{
+    text.strip_prefix(lead)
+}
+
+/// What is behind a line and its end.
+fn behind_line(text: &[u8]) -> Option<&[u8]>
+    ensures { Skips ended HasNoEnd text.now (seen_rest result) }
+{
+    let mut rest = text;
+    'bytes: while let [first, tail @ ..] = rest {
+        rest = tail;
+        if *first == b'\n' {
+            return Some(rest);
+        }
+    }
+    None
+}
+
+/// What is behind so many lines.
+pub fn behind_lines(text: &[u8], count: u64) -> Option<&[u8]>
+    ensures { Skips lines_text (AreLines count) text.now (seen_rest result) }
+{
+    let mut rest = text;
+    'lines: for _ in 0..count {
+        rest = behind_line(rest)?;
+    }
+    Some(rest)
+}
+
+/// The word in front, which may be empty, and what is behind it.
+pub fn next_word(text: &[u8]) -> (&[u8], &[u8])
+    ensures whole { text.now ≡ result.0.now ++ result.1.now }
+    ensures word { IsWord result.0.now }
+    ensures breaks { Breaks result.1.now }
+{
+    let mut rest = text;
+    'word: while let [first, tail @ ..] = rest {
+        if *first <= b' ' {
+            break;
+        }
+        rest = tail;
+    }
+    text.split_at(text.len() - rest.len())
+}
+
+/// The number in front, and what is behind it.
+pub fn next_number(text: &[u8]) -> Option<(u64, &[u8])>
+    ensures { Reads number_text (λ n. n < 2 ^ 64) Breaks itself text.now (seen result) }
+{
+    numbers_are_decimals();
+    let (word, rest) = next_word(text);
+    let number = number_of(word)?;
+    Some((number, rest))
+}
+
+/// The number in front, of no more than a segment has bytes, and what is behind it.
+pub fn next_count(text: &[u8]) -> Option<(u64, &[u8])>
+    ensures value { Reads number_text IsSmall Breaks itself text.now (seen result) }
+    ensures small { IfSome result (λ r. IsSmall r.0) }
+{
+    let (number, rest) = next_number(text)?;
+    if number > MOST {
+        return None;
+    }
+    Some((number, rest))
+}
+
+/// The kind in front, and what is behind it.
+fn next_kind(text: &[u8]) -> Option<(Kind, &[u8])>
+    ensures { Reads kind_text Any Breaks itself text.now (seen result) }
+{
+    let (word, rest) = next_word(text);
+    let kind = kind_of_word(Word::Bare(word))?;
+    Some((kind, rest))
+}
+
+/// What is behind the spelling of a byte of a text in quotes.
+fn behind_byte(text: &[u8]) -> Option<&[u8]>
+    ensures { Skips item_text Any text.now (seen_rest result) }
+{
+    match text {
+        [b'\\', b'x', _, _, rest @ ..] => Some(rest),
+        [b'\\', _, rest @ ..] => Some(rest),
+        [_, rest @ ..] => Some(rest),
+        [] => None,
+    }
+}
+
+/// How many bytes a text in quotes has, behind the quote that opens it, and what is behind the quote that closes it.
+fn quoted_len(text: &[u8]) -> Option<(u64, &[u8])>
+    ensures value { Reads closed_text (λ bytes. IsSmall (length bytes)) Any length text.now (seen result) }
+    ensures small { IfSome result (λ r. IsSmall r.0) }
+{
+    let mut rest = text;
+    'bytes: for len in 0..MOST + 1 {
+        if let Some(end) = behind(rest, b"\"") {
+            return Some((len, end));
+        }
+        rest = behind_byte(rest)?;
+    }
+    None
+}
+
+/// How many bytes the name in front has, and what is behind it.
+fn name_len(text: &[u8]) -> Option<(u64, &[u8])>
+    ensures value { Reads name_text (λ name. IsSmall (length name)) Breaks length text.now (seen result) }
+    ensures small { IfSome result (λ r. IsSmall r.0) }
+{
+    if let Some(rest) = behind(text, b"\"") {
+        return quoted_len(rest);
+    }
+    let (word, rest) = next_word(text);
+    let len = word.len() as u64;
+    if len > MOST {
+        return None;
+    }
+    Some((len, rest))
+}
+
+/// What is behind the class of an object and its name, and how many bytes that has.
+pub fn behind_lead(text: &[u8]) -> Option<(u64, &[u8])>
+    ensures value { Reads lead_text IsLead Any (λ lead. length lead.1) text.now (seen result) }
+    ensures small { IfSome result (λ r. IsSmall r.0) }
+{
+    if let Some(rest) = behind(text, b"named ") {
+        let (len, rest) = name_len(rest)?;
+        return Some((len, behind(rest, b" ")?));
+    }
+    if let Some(rest) = behind(text, b"unique ") {
+        return Some((0, rest));
+    }
+    Some((0, behind(text, b"anonymous ")?))
+}
+
+/// The kind of an object and how many elements it has, and what is behind the end of its line.
+pub fn next_measure(text: &[u8]) -> Option<((Kind, u64), &[u8])>
+    ensures value { Reads measured IsMeasure Any itself text.now (seen result) }
+    ensures small { IfSome result (λ r. IsSmall r.0.1) }
+{
+    let (kind, rest) = next_kind(text)?;
+    let (count, rest) = next_count(behind(rest, b" ")?)?;
+    Some(((kind, count), behind(rest, b"\n")?))
+}
+
+/// How many entries the two indexes have, and what is behind the end of the line.
+pub fn next_entries(text: &[u8]) -> Option<((u64, u64), &[u8])>
+    ensures value { Reads entries_text AreEntries Any itself text.now (seen result) }
+    ensures named { IfSome result (λ r. IsSmall r.0.0) }
+    ensures unique { IfSome result (λ r. IsSmall r.0.1) }
+{
+    let (named, rest) = next_count(text)?;
+    let (unique, rest) = next_count(behind(rest, b" ")?)?;
+    Some(((named, unique), behind(rest, b"\n")?))
+}

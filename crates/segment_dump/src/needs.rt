@@ -1,0 +1,110 @@
+//! What the objects of a dump need.
+ghost use Rattle.std.specs.Prelude.{◌≡◌, ◌+◌, ◌^◌, ◌<◌, ◌≤◌};
+ghost use Rattle.seg_types.specs.Kinds.{size_of};
+ghost use Rattle.seg_map.specs.Map.{node_len};
+ghost use Rattle.segment_dump.specs.Need.{block_room, body_len, both, elements_room, front_room, object_room, only_room};
+
+use seg_types::{Kind, ScalarKind};
+
+/// The bytes of the header and of the end tag.
+const ENDS: u64 = 144;
+
+/// What some objects need.
+#[derive(Clone, Copy, Debug, PartialEq, Eq)]
+pub struct Needs {
+    /// The bytes of a segment, or of some of its blocks.
+    pub room: u64,
+    /// The bytes of the longest text of a vector of strings.
+    pub longest: u64,
+}
+
+impl Needs {
+    /// What these and those need together.
+    pub fn and(self, other: Needs) -> Needs
+        ensures { self.room + other.room < 2 ^ 64 → result ≡ both self other }
+    {
+        Needs {
+            room: self.room.saturating_add(other.room),
+            longest: self.longest.max(other.longest),
+        }
+    }
+}
+
+/// Bytes of blocks, and no text.
+pub fn only_room(room: u64) -> Needs
+    ensures { result ≡ only_room room }
+{
+    Needs { room, longest: 0 }
+}
+
+/// The bytes of a block for so many, and none where there are none.
+#[tactic(auto, unfolding(crate::specs::Need::block_room))]
+pub fn block_room(bytes: u64) -> u64
+    requires { bytes < 2 ^ 40 }
+    ensures value { result ≡ block_room bytes }
+    ensures small { result ≤ bytes + 32 }
+{
+    if bytes == 0 {
+        return 0;
+    }
+    ((bytes + 31) / 16 * 16).max(32)
+}
+
+/// The bytes of the value of an object of a kind with so many elements.
+fn body_len(kind: Kind, count: u64) -> u64
+    requires { count ≤ 1073741824 }
+    ensures value { result ≡ body_len kind count }
+    ensures small { result < 2 ^ 34 }
+{
+    match kind {
+        Kind::Scalar(kind) => kind.size() * count,
+        Kind::Text => 24,
+        Kind::Vector(_) => 24,
+        Kind::Map(_, _) => 24,
+        Kind::Texts => 24,
+    }
+}
+
+/// The bytes of a node of a map.
+fn node_room(keys: ScalarKind, values: ScalarKind) -> u64
+    ensures value { result ≡ block_room (node_len (size_of keys) (size_of values)) }
+    ensures small { result ≤ 64 }
+{
+    block_room(16 + keys.size() + values.size())
+}
+
+/// The bytes of the storage or of the nodes of an object of a kind with so many elements.
+fn elements_room(kind: Kind, count: u64) -> u64
+    requires { count ≤ 1073741824 }
+    ensures value { result ≡ elements_room kind count }
+    ensures small { result < 2 ^ 37 }
+{
+    match kind {
+        Kind::Scalar(_) => 0,
+        Kind::Text => 0,
+        Kind::Vector(kind) => block_room(kind.size() * count),
+        Kind::Map(keys, values) => count * node_room(keys, values),
+        Kind::Texts => block_room(16 * count),
+    }
+}
+
+/// The bytes of the block of an object, and of the storage or the nodes of its elements.
+#[tactic(auto, unfolding(crate::specs::Need::object_room))]
+pub fn object_room(name_len: u64, kind: Kind, count: u64) -> u64
+    requires name { name_len ≤ 1073741824 }
+    requires count { count ≤ 1073741824 }
+    ensures { result ≡ object_room name_len kind count }
+{
+    let name = (name_len + 7) / 8 * 8;
+    block_room(16 + name + body_len(kind, count)) + elements_room(kind, count)
+}
+
+/// The bytes of the ends of a segment and of the blocks of its indexes, of so many entries.
+#[tactic(auto, unfolding(crate::specs::Need::front_room))]
+pub fn front_room(named: u64, unique: u64) -> u64
+    requires named { named ≤ 1073741824 }
+    requires unique { unique ≤ 1073741824 }
+    ensures { result ≡ front_room named unique }
+{
+    ENDS + block_room(8 * named) + block_room(8 * unique)
+}

@@ -2,7 +2,7 @@
 # of bash's completions.
 _segment() {
     local word=${COMP_WORDS[COMP_CWORD]} before=${COMP_WORDS[COMP_CWORD - 1]}
-    local commands='create run check grow shrink migrate lint help'
+    local commands='create run check grow shrink migrate stat draw dump load lint help'
     COMPREPLY=()
     if [ "$COMP_CWORD" = 1 ]; then
         COMPREPLY=($(compgen -W "$commands --help --version" -- "$word"))
@@ -19,6 +19,17 @@ _segment() {
             esac
             if [[ $word == -* ]]; then
                 COMPREPLY=($(compgen -W '--mode --size --replace --strict --numbered --help' -- "$word"))
+                return
+            fi ;;
+        check)
+            if [[ $word == -* ]]; then
+                COMPREPLY=($(compgen -W '--explain --help' -- "$word"))
+                return
+            fi ;;
+        load)
+            [ "$before" = --size ] && return
+            if [[ $word == -* ]]; then
+                COMPREPLY=($(compgen -W '--size --help' -- "$word"))
                 return
             fi ;;
         help)

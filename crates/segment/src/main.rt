@@ -11,7 +11,8 @@ use segment_cli::{
 };
 use segment_disk::{HostDisk, Numbered, Outlet, Output, StopsAtError};
 use segment_file::{
-    check, create, grow, lint, migrate, print, print_language, run, run_strict, shrink,
+    check, create, draw, dump, explain, grow, lint, load, migrate, print, print_language, run,
+    run_strict, shrink, stat,
 };
 use segment_scripts::{CommandRow, LANGUAGE};
 use std::alloc::{AllocError, Global};
@@ -91,6 +92,13 @@ fn command<O: Output + Drop>(
         Invocation::Grow(file, bytes) => grow(alloc, disk, file, bytes, &mut out),
         Invocation::Shrink(file) => shrink(alloc, disk, file, &mut out),
         Invocation::Migrate(file) => migrate(alloc, disk, file, &mut out),
+        Invocation::Explain(file) => explain(alloc, disk, file, &mut out),
+        Invocation::Stat(file) => stat(alloc, disk, file, &mut out),
+        Invocation::Draw(file) => draw(alloc, disk, file, &mut out),
+        Invocation::Dump(file) => dump(alloc, disk, file, &mut out),
+        Invocation::Load(file, size) => {
+            load(alloc, disk, file, size, &mut Reading::new(rt.reader()))
+        }
         Invocation::Lint => lint(language(), &mut Reading::new(rt.reader()), &mut out),
         Invocation::Language => print_language(&mut out, language()),
         Invocation::Version => print(&mut out, VERSION),
@@ -160,9 +168,14 @@ fn file_of<'a>(asked: Invocation<'a>) -> Option<&'a str> {
         Invocation::Create(file, _)
         | Invocation::Run(file, _, _, _, _)
         | Invocation::Check(file)
+        | Invocation::Explain(file)
         | Invocation::Grow(file, _)
         | Invocation::Shrink(file)
-        | Invocation::Migrate(file) => Some(file),
+        | Invocation::Migrate(file)
+        | Invocation::Stat(file)
+        | Invocation::Draw(file)
+        | Invocation::Dump(file)
+        | Invocation::Load(file, _) => Some(file),
         Invocation::Lint | Invocation::Language | Invocation::Version => None,
     }
 }

@@ -1,15 +1,18 @@
 -- What the program says of a fault, and the status that it ends with.
-use Rattle.std.specs.Prelude.{◌≡◌, ◌⊎◌, ◌∷◌, ◌+◌, ◌++◌, ℕ, List, [], codes}
+use Rattle.std.specs.Prelude.{◌≡◌, ◌⊎◌, ◌∷◌, ◌+◌, ◌++◌, ⊤, ℕ, List, [], codes, decimal}
 use Rattle.raw_region.specs.Answers.{AddsFront}
 use Rattle.raw_region.specs.Device.{Took}
 use Rattle.image_check.specs.declared.classes.ImageClass.{ImageClass}
 use Rattle.image_check.specs.declared.classes.ImageClass.TheVariants as class
 use Rattle.grow_shrink.specs.declared.refusals.GrowError.{GrowError}
 use Rattle.grow_shrink.specs.declared.refusals.GrowError.TheVariants as growth
+use Rattle.segment_dump.specs.declared.faults.BadDump.{BadDump as Bad}
+use Rattle.segment_dump.specs.declared.faults.DumpFault.{DumpFault}
+use Rattle.segment_dump.specs.declared.faults.DumpFault.TheVariants as dump
 use Rattle.segment_cli.specs.declared.faults.SessionFault.{SessionFault}
 use Rattle.segment_cli.specs.declared.faults.SessionFault.TheVariants as session
 use Rattle.segment_cli.specs.declared.program_faults.ProgramFault.{ProgramFault}
-use Rattle.segment_cli.specs.declared.program_faults.ProgramFault.TheVariants.{Usage, Exists, InUse, Stopped, Misspelled, Growth, Session}
+use Rattle.segment_cli.specs.declared.program_faults.ProgramFault.TheVariants.{Usage, Exists, InUse, Stopped, Misspelled, Growth, BadDump, NoSpace, Session}
 use Rattle.segment_disk.specs.declared.presence.Trouble.{Trouble}
 use Rattle.segment_disk.specs.declared.presence.Trouble.TheVariants.{Missing, Homeless, Folder, Denied}
 
@@ -50,6 +53,22 @@ session_words session.ScriptTooLong = codes "script too long"
 abbrev pub line : List ℕ → List ℕ
 line words = codes "segment: " ++ words ++ 0x0A ∷ []
 
+-- what is wrong with a dump, and its line
+abbrev pub dump_words : DumpFault → List ℕ
+dump_words dump.Cut = codes "the dump ends too early"
+dump_words dump.More = codes "more behind the end"
+dump_words dump.BadSyntax = codes "bad syntax"
+dump_words dump.LongLine = codes "line too long"
+dump_words dump.UnknownKind = codes "unknown kind"
+dump_words dump.BadName = codes "bad name"
+dump_words dump.BadCount = codes "bad count"
+dump_words dump.BadValue = codes "no value of the kind"
+dump_words dump.Exists = codes "already exists"
+dump_words dump.Unlike = codes "not as a dump has it"
+
+abbrev pub bad_dump_line : Bad → List ℕ
+bad_dump_line bad = codes "segment: dump refused: line " ++ (decimal bad.line ++ (codes ", column " ++ (decimal bad.column ++ (codes ": " ++ (dump_words bad.cause ++ (codes "\n" ++ []))))))
+
 -- a wrong command line has been told of by whoever read it
 abbrev pub fault_text : ProgramFault → List ℕ
 fault_text Usage = []
@@ -58,7 +77,21 @@ fault_text InUse = line (codes "file in use")
 fault_text Stopped = line (codes "stopped at an error, and nothing is saved")
 fault_text Misspelled = line (codes "some lines are no commands")
 fault_text (Growth e) = line (codes "growth refused: " ++ growth_name e)
+fault_text (BadDump bad) = bad_dump_line bad
+fault_text NoSpace = line (codes "no space")
 fault_text (Session f) = line (session_words f)
+
+-- the line has no number in it
+abbrev pub HasFixedLine : ProgramFault → Type 0
+HasFixedLine Usage = ⊤
+HasFixedLine Exists = ⊤
+HasFixedLine InUse = ⊤
+HasFixedLine Stopped = ⊤
+HasFixedLine Misspelled = ⊤
+HasFixedLine (Growth e) = ⊤
+HasFixedLine (BadDump bad) = ⊥
+HasFixedLine NoSpace = ⊤
+HasFixedLine (Session f) = ⊤
 
 -- what a second line says of the file of a path
 abbrev pub trouble_words : Trouble → List ℕ
@@ -88,6 +121,8 @@ status_of InUse = 3
 status_of Stopped = 1
 status_of Misspelled = 1
 status_of (Growth e) = 1
+status_of (BadDump bad) = 1
+status_of NoSpace = 1
 status_of (Session f) = session_status f
 
 -- ---- what goes out

@@ -4,6 +4,7 @@ ghost use Rattle.segment_cli.specs.declared.program_faults.ProgramFault.TheVaria
 
 use crate::faults::SessionFault;
 use grow_shrink::GrowError;
+use segment_dump::BadDump;
 use thiserror::Error;
 
 /// Why the program fails.
@@ -27,6 +28,12 @@ pub enum ProgramFault {
     /// The segment does not grow.
     #[error("growth refused: {0}")]
     Growth(GrowError),
+    /// A text is no dump.
+    #[error("dump refused: {0}")]
+    BadDump(BadDump),
+    /// The objects of a dump do not fit the size.
+    #[error("no space")]
+    NoSpace,
     /// A session fails.
     #[error("{0}")]
     Session(SessionFault),

@@ -1,14 +1,16 @@
 //! What the program says of a fault, and the status that it ends with.
 ghost use Rattle.std.specs.Prelude.{◌≡◌, ◌++◌, ◌-◌, ◌^◌, ◌<◌, codes};
-ghost use Rattle.segment_cli.specs.Reports.{Puts, fault_text, growth_name, line, session_status, session_words, status_of, trouble_text, trouble_words};
+ghost use Rattle.raw_region.specs.Device.{Writes};
+ghost use Rattle.segment_cli.specs.Reports.{HasFixedLine, Puts, bad_dump_line, dump_words, fault_text, growth_name, line, session_status, session_words, status_of, trouble_text, trouble_words};
 ghost use Rattle.segment_cli.specs.declared.faults.SessionFault.TheVariants.{Image};
 
 use crate::faults::SessionFault;
 use crate::program_faults::ProgramFault;
 use grow_shrink::GrowError;
 use image_check::ImageClass;
-use raw_region::{Sink, write_all};
+use raw_region::{DeviceFault, Sink, write_all};
 use segment_disk::Trouble;
+use segment_dump::{BadDump, DumpFault};
 use segment_lang::{Piece, put_pieces};
 
 /// The line of an image that is refused.
@@ -57,18 +59,67 @@ fn session_line(fault: SessionFault) -> &'static [u8]
     }
 }
 
-/// The line of a fault; a wrong command line has none.
+/// The line of a fault; a wrong command line has none. That of a dump that is refused is put by its parts.
 fn fault_line(fault: ProgramFault) -> &'static [u8]
-    ensures { result.now ≡ fault_text fault }
+    ensures { HasFixedLine fault → result.now ≡ fault_text fault }
 {
     match fault {
-        ProgramFault::Usage => b"",
+        ProgramFault::Usage | ProgramFault::BadDump(_) => b"",
         ProgramFault::Exists => b"segment: file exists\n",
         ProgramFault::InUse => b"segment: file in use\n",
         ProgramFault::Stopped => b"segment: stopped at an error, and nothing is saved\n",
         ProgramFault::Misspelled => b"segment: some lines are no commands\n",
+        ProgramFault::NoSpace => b"segment: no space\n",
         ProgramFault::Growth(error) => growth_line(error),
         ProgramFault::Session(fault) => session_line(fault),
+    }
+}
+
+/// What is wrong with a dump.
+fn dump_words(cause: DumpFault) -> &'static [u8]
+    ensures { result.now ≡ dump_words cause }
+{
+    match cause {
+        DumpFault::Cut => b"the dump ends too early",
+        DumpFault::More => b"more behind the end",
+        DumpFault::BadSyntax => b"bad syntax",
+        DumpFault::LongLine => b"line too long",
+        DumpFault::UnknownKind => b"unknown kind",
+        DumpFault::BadName => b"bad name",
+        DumpFault::BadCount => b"bad count",
+        DumpFault::BadValue => b"no value of the kind",
+        DumpFault::Exists => b"already exists",
+        DumpFault::Unlike => b"not as a dump has it",
+    }
+}
+
+/// Writes the line of a dump that is refused.
+fn put_bad_dump<S: Sink>(bad: BadDump, err: &mut S) -> Result<(), DeviceFault>
+    requires { (S.history err.old).failures < 2 ^ 64 - 1 }
+    ensures { Writes (S.history err.old) (S.history err.new) result (bad_dump_line bad) }
+{
+    put_pieces(
+        err,
+        &[
+            Piece::Bytes(b"segment: dump refused: line "),
+            Piece::Number(bad.line),
+            Piece::Bytes(b", column "),
+            Piece::Number(bad.column),
+            Piece::Bytes(b": "),
+            Piece::Bytes(dump_words(bad.cause)),
+            Piece::Bytes(b"\n"),
+        ],
+    )
+}
+
+/// Writes the line of a fault.
+fn put_fault<S: Sink>(fault: ProgramFault, err: &mut S) -> Result<(), DeviceFault>
+    requires { (S.history err.old).failures < 2 ^ 64 - 1 }
+    ensures { Writes (S.history err.old) (S.history err.new) result (fault_text fault) }
+{
+    match fault {
+        ProgramFault::BadDump(bad) => put_bad_dump(bad, err),
+        _ => write_all(err, fault_line(fault)),
     }
 }
 
@@ -83,13 +134,14 @@ fn session_status(fault: SessionFault) -> u8
     }
 }
 
-/// The status that the program ends with: 1 where an image, a size, a growth or a script is refused, 2 for a wrong command line,
-/// 3 for a file that exists or is in use and for faults, 4 for want of memory.
+/// The status that the program ends with: 1 where an image, a size, a growth, a script or a dump is refused, 2 for a wrong
+/// command line, 3 for a file that exists or is in use and for faults, 4 for want of memory.
 fn status_of(fault: ProgramFault) -> u8
     ensures { result ≡ status_of fault }
 {
     match fault {
         ProgramFault::Growth(_) | ProgramFault::Stopped | ProgramFault::Misspelled => 1,
+        ProgramFault::BadDump(_) | ProgramFault::NoSpace => 1,
         ProgramFault::Usage => 2,
         ProgramFault::Exists | ProgramFault::InUse => 3,
         ProgramFault::Session(fault) => session_status(fault),
@@ -103,7 +155,7 @@ pub fn report<S: Sink>(fault: ProgramFault, err: &mut S) -> u8
     ensures status { result ≡ status_of fault }
     ensures text { Puts (S.history err.old) (S.history err.new) (fault_text fault) }
 {
-    let _ = write_all(err, fault_line(fault));
+    let _ = put_fault(fault, err);
     status_of(fault)
 }
 

@@ -6,3 +6,5 @@ mod Commanded
 mod Enlarged
 mod CutFiles
 mod Linted
+mod Explained
+mod Reported

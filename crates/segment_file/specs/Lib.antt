@@ -11,3 +11,6 @@ pub mod Modes
 pub mod Strict
 pub mod Linting
 pub mod SegmentFiles
+pub mod Reporting
+pub mod Explaining
+pub mod Loading

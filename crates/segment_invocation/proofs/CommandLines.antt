@@ -1,5 +1,5 @@
 -- The command lines that are always understood.
-use Rattle.std.proofs.Common.{◌≡◌, refl, sym, ap, ap₂, subst, ◌∙◌, ℕ, ◌==◌, ◌&&◌, Bool, true, false, not, List, [], ◌∷◌, ◌++◌, Option, Some, None, codes, arith, inl, inr, drop}
+use Rattle.std.proofs.Common.{◌≡◌, refl, sym, ap, ap₂, ◌∙◌, ℕ, ◌==◌, ◌&&◌, Bool, true, false, not, List, [], ◌∷◌, ◌++◌, Option, Some, None, codes, arith, inl, inr, drop}
 use Rattle.std.specs.List.{list_all}
 use Rattle.std.specs.Prelude.{◌⊎◌, is_some, if◌then◌else◌, IsTrue, nat_le, option_map, option_and_then}
 use Rattle.std.proofs.lemmas.Bool.{and_parts}
@@ -12,13 +12,13 @@ use Rattle.clap.specs.Takes.{built_takes, default_passes, entered_passes, is_val
 use Rattle.clap.specs.Faults.{built_fault, fault_of, is_simple_and_free}
 use Rattle.clap.specs.declared.error.kind.ErrorKind.TheVariants.{DisplayVersion}
 use Rattle.segment_lang.specs.Words.{between, is_digit, is_numeral, number_after, number_of}
-use Rattle.segment_invocation.specs.Invocations.{Asked, create, run, check, grow, shrink, migrate, lint, language, version, IsModePart, IsSizePart, IsWritten, RunWords, asked_in, asked_of, asked_of_run, command_line, flag_words, is_path, is_set, mode_called, mode_of, mode_word, run_sized, saving_of, size_of, wants_size}
+use Rattle.segment_invocation.specs.Invocations.{Asked, create, run, check, explain, grow, shrink, migrate, stat, draw, dump, load, lint, language, version, IsModePart, IsSizePart, IsWritten, RunWords, asked_in, asked_of, asked_of_run, command_line, flag_words, is_path, is_set, mode_called, mode_of, mode_word, run_sized, saving_of, size_of, wants_size}
 use Rattle.segment_invocation.specs.declared.invocations.ModeName.{ModeName}
 use Rattle.segment_invocation.specs.declared.invocations.ModeName.TheVariants.{CreateOnly, OpenOnly, OpenOrCreate, OpenReadOnly, OpenCopyOnWrite}
 use Rattle.segment_invocation.specs.declared.invocations.Saving.{Saving}
 use Rattle.segment_invocation.specs.declared.invocations.Saving.TheVariants.{InPlace, Replacing}
 use Rattle.segment_invocation.proofs.PlainWords.{IsPlain}
-use Rattle.segment_invocation.proofs.Leaves.{IsRead, saving_word, truth_word, file-passes, file-rows, number-passes, number-rows, run-both, run-file, run-mode, run-size}
+use Rattle.segment_invocation.proofs.Leaves.{IsRead, saving_word, truth_word, check-asks, check-passes, explain-asks, explain-passes, file-passes, file-rows, load-asks, load-passes, number-passes, number-rows, run-both, run-file, run-mode, run-size, sized-asks, sized-passes}
 
 -- ---- words that are no options
 
@@ -85,10 +85,11 @@ behind-grow f d n p h = record {
 
 behind-check : (f : Text) → IsPlain f → Behind (codes "check" ∷ f ∷ []) (check f)
 unfolding clap_on_literals
-behind-check f p = record {
-  takes = ap (λ b. b && true) (file-passes (codes "check") f p);
-  asks = ap (asked_in (codes "check")) (file-rows (codes "check") f p);
-}
+behind-check f p = record { takes = ap (λ b. b && true) (check-passes f p); asks = check-asks f p }
+
+behind-explain : (f : Text) → IsPlain f → Behind (codes "check" ∷ f ∷ codes "--explain" ∷ []) (explain f)
+unfolding clap_on_literals
+behind-explain f p = record { takes = ap (λ b. b && true) (explain-passes f p); asks = explain-asks f p }
 
 behind-shrink : (f : Text) → IsPlain f → Behind (codes "shrink" ∷ f ∷ []) (shrink f)
 unfolding clap_on_literals
@@ -102,6 +103,38 @@ unfolding clap_on_literals
 behind-migrate f p = record {
   takes = ap (λ b. b && true) (file-passes (codes "migrate") f p);
   asks = ap (asked_in (codes "migrate")) (file-rows (codes "migrate") f p);
+}
+
+behind-stat : (f : Text) → IsPlain f → Behind (codes "stat" ∷ f ∷ []) (stat f)
+unfolding clap_on_literals
+behind-stat f p = record {
+  takes = ap (λ b. b && true) (file-passes (codes "stat") f p);
+  asks = ap (asked_in (codes "stat")) (file-rows (codes "stat") f p);
+}
+
+behind-draw : (f : Text) → IsPlain f → Behind (codes "draw" ∷ f ∷ []) (draw f)
+unfolding clap_on_literals
+behind-draw f p = record {
+  takes = ap (λ b. b && true) (file-passes (codes "draw") f p);
+  asks = ap (asked_in (codes "draw")) (file-rows (codes "draw") f p);
+}
+
+behind-dump : (f : Text) → IsPlain f → Behind (codes "dump" ∷ f ∷ []) (dump f)
+unfolding clap_on_literals
+behind-dump f p = record {
+  takes = ap (λ b. b && true) (file-passes (codes "dump") f p);
+  asks = ap (asked_in (codes "dump")) (file-rows (codes "dump") f p);
+}
+
+behind-load : (f : Text) → IsPlain f → Behind (codes "load" ∷ f ∷ []) (load f None)
+unfolding clap_on_literals
+behind-load f p = record { takes = ap (λ b. b && true) (load-passes f p); asks = load-asks f p }
+
+behind-sized : (f d : Text) (n : ℕ) → IsPlain f → number_of d ≡ Some n → Behind (codes "load" ∷ f ∷ codes "--size" ∷ d ∷ []) (load f (Some n))
+unfolding clap_on_literals
+behind-sized f d n p h = record {
+  takes = ap (λ b. b && true) (sized-passes f d p (number-plain d n h));
+  asks = sized-asks f d p (number-plain d n h) ∙ ap (λ o. option_map (load f) (option_map Some o)) h;
 }
 
 behind-lint : Behind (codes "lint" ∷ []) lint
@@ -218,9 +251,15 @@ behind : (words : List Text) (a : Asked) → IsWritten a words → Behind words 
 behind words (create f n) (p, d, h, e) = inl (rw e (behind-create f d n (path-plain f p) h))
 behind words (run f mode size saving strict numbered) (p, modes, sizes, m, s, e) = inl (rw e (behind-options f modes sizes _ mode size saving strict numbered refl (path-plain f p) m s))
 behind words (check f) (p, e) = inl (rw e (behind-check f (path-plain f p)))
+behind words (explain f) (p, e) = inl (rw e (behind-explain f (path-plain f p)))
 behind words (grow f n) (p, d, h, e) = inl (rw e (behind-grow f d n (path-plain f p) h))
 behind words (shrink f) (p, e) = inl (rw e (behind-shrink f (path-plain f p)))
 behind words (migrate f) (p, e) = inl (rw e (behind-migrate f (path-plain f p)))
+behind words (stat f) (p, e) = inl (rw e (behind-stat f (path-plain f p)))
+behind words (draw f) (p, e) = inl (rw e (behind-draw f (path-plain f p)))
+behind words (dump f) (p, e) = inl (rw e (behind-dump f (path-plain f p)))
+behind words (load f None) (p, e) = inl (rw e (behind-load f (path-plain f p)))
+behind words (load f (Some n)) (p, sizes, (d, h, s), e) = inl (rw (e, s) (behind-sized f d n (path-plain f p) h))
 behind words lint e = inl (rw e behind-lint)
 behind words language e = inl (rw e behind-help)
 behind words version e = inr (rw e asks-version)

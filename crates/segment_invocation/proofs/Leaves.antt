@@ -1,6 +1,7 @@
 -- What a parse makes of the words behind each command of the program.
 use Rattle.std.proofs.Common.{◌≡◌, refl, ap, ap₂, ◌∙◌, Bool, true, false, ◌&&◌, List, [], ◌∷◌, ◌++◌, Some, None, codes, fold}
 use Rattle.std.specs.List.{list_all}
+use Rattle.std.specs.Prelude.{option_map}
 use Rattle.std.proofs.lemmas.Bool.{and_parts}
 use Rattle.clap.proofs.OnLiterals.{clap_on_literals}
 use Rattle.clap.specs.Walk.{Row, Rule, Text, Walk, finished, idle, option as waits, nothing_held, rows_after, settled, walk, walk_from, walked}
@@ -8,7 +9,7 @@ use Rattle.clap.specs.Simple.{Shape, built_leaf, inherited}
 use Rattle.clap.specs.Takes.{default_passes, is_valid, level_passes, settle_passes, turn_passes, walk_passes}
 use Rattle.clap.specs.declared.builder.value_parser.Reading.TheVariants as reading
 use Rattle.clap.specs.declared.parser.matches.ValueSource.TheVariants.{CommandLine}
-use Rattle.segment_invocation.specs.Invocations.{RunWords, file_command, flag_words, number_command, program, run_command, run_words}
+use Rattle.segment_invocation.specs.Invocations.{RunWords, asked_check, asked_load, check, check_command, explain, file_command, flag_words, load, load_command, number_command, program, run_command, run_words, size_of}
 use Rattle.segment_invocation.specs.declared.invocations.Saving.{Saving}
 use Rattle.segment_invocation.specs.declared.invocations.Saving.TheVariants.{InPlace, Replacing}
 use Rattle.segment_invocation.proofs.PlainWords.{IsPlain, plain_step, turn-plain, walked-plain}
@@ -64,6 +65,71 @@ number-words name f d p q =
 pub number-passes : (name f d : Text) → IsPlain f → IsPlain d → level_passes (leaf (number_command name)) [] nothing_held (f ∷ d ∷ []) false ≡ true
 unfolding clap_on_literals
 number-passes name f d p q = ap₂ (passes_at (leaf (number_command name))) (number-words name f d p q) (number-walk name f d p q)
+
+-- ---- a file, which may have `--explain` behind it
+
+check-walk : (f : Text) → IsPlain f → walk (leaf check_command).rules [] nothing_held (f ∷ []) ≡ plain_step (leaf check_command).rules (walk_from nothing_held) f
+check-walk f p = walked-plain (leaf check_command).rules nothing_held idle 1 f p
+
+pub check-asks : (f : Text) → IsPlain f → asked_check (rows_after (leaf check_command).rules [] (f ∷ [])) ≡ Some (check f)
+unfolding clap_on_literals
+check-asks f p = ap (λ (w : Walk). asked_check (finished (leaf check_command).rules w.held)) (check-walk f p)
+
+pub check-passes : (f : Text) → IsPlain f → level_passes (leaf check_command) [] nothing_held (f ∷ []) false ≡ true
+unfolding clap_on_literals
+check-passes f p = ap₂ (passes_at (leaf check_command)) (ap (λ b. b && true) (turn-plain (leaf check_command) nothing_held idle 1 f p)) (check-walk f p)
+
+explain-walk : (f : Text) → IsPlain f
+    → walk (leaf check_command).rules [] nothing_held (f ∷ codes "--explain" ∷ [])
+    ≡ walked (leaf check_command).rules [] (plain_step (leaf check_command).rules (walk_from nothing_held) f) (codes "--explain")
+explain-walk f p = ap (λ (w : Walk). walked (leaf check_command).rules [] w (codes "--explain")) (check-walk f p)
+
+pub explain-asks : (f : Text) → IsPlain f → asked_check (rows_after (leaf check_command).rules [] (f ∷ codes "--explain" ∷ [])) ≡ Some (explain f)
+unfolding clap_on_literals
+explain-asks f p = ap (λ (w : Walk). asked_check (finished (leaf check_command).rules w.held)) (explain-walk f p)
+
+pub explain-passes : (f : Text) → IsPlain f → level_passes (leaf check_command) [] nothing_held (f ∷ codes "--explain" ∷ []) false ≡ true
+unfolding clap_on_literals
+explain-passes f p =
+    let s : Shape = leaf check_command in
+    ap₂ (passes_at s) (ap₂ (λ a b. a && (b && true)) (turn-plain s nothing_held idle 1 f p) (ap (λ (w : Walk). turn_passes s [] w (codes "--explain")) (check-walk f p))) (explain-walk f p)
+
+-- ---- a file, which may have `--size` behind it
+
+load-walk : (f : Text) → IsPlain f → walk (leaf load_command).rules [] nothing_held (f ∷ []) ≡ plain_step (leaf load_command).rules (walk_from nothing_held) f
+load-walk f p = walked-plain (leaf load_command).rules nothing_held idle 1 f p
+
+pub load-asks : (f : Text) → IsPlain f → asked_load (rows_after (leaf load_command).rules [] (f ∷ [])) ≡ Some (load f None)
+unfolding clap_on_literals
+load-asks f p = ap (λ (w : Walk). asked_load (finished (leaf load_command).rules w.held)) (load-walk f p)
+
+pub load-passes : (f : Text) → IsPlain f → level_passes (leaf load_command) [] nothing_held (f ∷ []) false ≡ true
+unfolding clap_on_literals
+load-passes f p = ap₂ (passes_at (leaf load_command)) (ap (λ b. b && true) (turn-plain (leaf load_command) nothing_held idle 1 f p)) (load-walk f p)
+
+-- behind the file and the name of the option
+abbrev at_size : Text → Walk
+at_size f = let w : Walk = plain_step (leaf load_command).rules (walk_from nothing_held) f in
+    record w { held = record w.held { rows = (settled (leaf load_command).rules w.held).rows; pending = Some (codes "size", []) }; waiting = waits (codes "size") }
+
+to-size : (f : Text) → IsPlain f → walk (leaf load_command).rules [] nothing_held (f ∷ codes "--size" ∷ []) ≡ at_size f
+unfolding clap_on_literals
+to-size f p = ap (λ (w : Walk). walked (leaf load_command).rules [] w (codes "--size")) (load-walk f p)
+
+sized-walk : (f d : Text) → IsPlain f → IsPlain d → walk (leaf load_command).rules [] nothing_held (f ∷ codes "--size" ∷ d ∷ []) ≡ plain_step (leaf load_command).rules (at_size f) d
+sized-walk f d p q =
+    ap (λ (w : Walk). walked (leaf load_command).rules [] w d) (to-size f p) ∙ walked-plain (leaf load_command).rules (at_size f).held (waits (codes "size")) 2 d q
+
+pub sized-asks : (f d : Text) → IsPlain f → IsPlain d → asked_load (rows_after (leaf load_command).rules [] (f ∷ codes "--size" ∷ d ∷ [])) ≡ option_map (load f) (size_of (Some d))
+unfolding clap_on_literals
+sized-asks f d p q = ap (λ (w : Walk). asked_load (finished (leaf load_command).rules w.held)) (sized-walk f d p q)
+
+pub sized-passes : (f d : Text) → IsPlain f → IsPlain d → level_passes (leaf load_command) [] nothing_held (f ∷ codes "--size" ∷ d ∷ []) false ≡ true
+unfolding clap_on_literals
+sized-passes f d p q =
+    let s : Shape = leaf load_command in
+    let third = ap (λ (w : Walk). turn_passes s [] w d) (to-size f p) ∙ turn-plain s (at_size f).held (waits (codes "size")) 2 d q in
+    ap₂ (passes_at s) (ap₂ ◌&&◌ (turn-plain s nothing_held idle 1 f p) (ap₂ (λ a b. a && (b && true)) (ap (λ (w : Walk). turn_passes s [] w (codes "--size")) (load-walk f p)) third)) (sized-walk f d p q)
 
 -- ---- a file, and options
 

@@ -9,7 +9,7 @@ use Rattle.clap.specs.declared.error.kind.ErrorKind.TheVariants.{DisplayVersion}
 use Rattle.clap.specs.declared.builder.action.ArgAction.TheVariants.{Set, SetTrue}
 use Rattle.segment_lang.specs.Words.{number_of}
 use Rattle.segment_invocation.specs.declared.invocations.Invocation.{Invocation}
-use Rattle.segment_invocation.specs.declared.invocations.Invocation.TheVariants.{Create, Run, Check, Grow, Shrink, Migrate, Lint, Language, Version}
+use Rattle.segment_invocation.specs.declared.invocations.Invocation.TheVariants.{Create, Run, Check, Explain, Grow, Shrink, Migrate, Stat, Draw, Dump, Load, Lint, Language, Version}
 use Rattle.segment_invocation.specs.declared.invocations.ModeName.{ModeName}
 use Rattle.segment_invocation.specs.declared.invocations.ModeName.TheVariants.{CreateOnly, OpenOnly, OpenOrCreate, OpenReadOnly, OpenCopyOnWrite}
 use Rattle.segment_invocation.specs.declared.invocations.Saving.{Saving}
@@ -43,6 +43,12 @@ file_command name = taking name (operand (codes "file") ∷ [])
 abbrev pub number_command : Text → Shape
 number_command name = taking name (operand (codes "file") ∷ operand (codes "number") ∷ [])
 
+abbrev pub check_command : Shape
+check_command = taking (codes "check") (operand (codes "file") ∷ flag (codes "explain") ∷ [])
+
+abbrev pub load_command : Shape
+load_command = taking (codes "load") (operand (codes "file") ∷ option (codes "size") ∷ [])
+
 abbrev pub run_options : List Rule
 run_options = operand (codes "file") ∷ option (codes "mode") ∷ option (codes "size") ∷ []
 
@@ -53,22 +59,27 @@ abbrev pub help_command : Shape
 help_command = taking (codes "help") (operand (codes "topic") ∷ [])
 
 abbrev pub subcommands : List Shape
-subcommands = number_command (codes "create") ∷ run_command ∷ file_command (codes "check") ∷ number_command (codes "grow") ∷ file_command (codes "shrink")
-    ∷ file_command (codes "migrate") ∷ taking (codes "lint") [] ∷ help_command ∷ []
+subcommands = number_command (codes "create") ∷ run_command ∷ check_command ∷ number_command (codes "grow") ∷ file_command (codes "shrink")
+    ∷ file_command (codes "migrate") ∷ file_command (codes "stat") ∷ file_command (codes "draw") ∷ file_command (codes "dump") ∷ load_command ∷ taking (codes "lint") [] ∷ help_command ∷ []
 
 abbrev pub command_line : App
 command_line = fold with_subcommand program subcommands
 
 -- ---- what the matches ask for
 
--- a file goes by its path; a run says whether it is strict, and whether its answers are numbered
+-- a file goes by its path; a run says whether it is strict, and whether its answers are numbered; a load has a size or takes the least
 pub data Asked : Type 0 where
   create : Text → ℕ → Asked
   run : Text → ModeName → Option ℕ → Saving → Bool → Bool → Asked
   check : Text → Asked
+  explain : Text → Asked
   grow : Text → ℕ → Asked
   shrink : Text → Asked
   migrate : Text → Asked
+  stat : Text → Asked
+  draw : Text → Asked
+  dump : Text → Asked
+  load : Text → Option ℕ → Asked
   lint : Asked
   language : Asked
   version : Asked
@@ -77,9 +88,14 @@ abbrev pub asked_by : Invocation → Asked
 asked_by (Create file size) = create file.now size
 asked_by (Run file mode size saving answering) = run file.now mode size saving answering.strict answering.numbered
 asked_by (Check file) = check file.now
+asked_by (Explain file) = explain file.now
 asked_by (Grow file bytes) = grow file.now bytes
 asked_by (Shrink file) = shrink file.now
 asked_by (Migrate file) = migrate file.now
+asked_by (Stat file) = stat file.now
+asked_by (Draw file) = draw file.now
+asked_by (Dump file) = dump file.now
+asked_by (Load file size) = load file.now size
 asked_by Lint = lint
 asked_by Language = language
 asked_by Version = version
@@ -138,6 +154,14 @@ with_file ask words = option_and_then ask (first_of (codes "file") words)
 abbrev pub with_number : (Text → ℕ → Asked) → List Row → Option Asked
 with_number ask words = with_file (λ file. option_map (ask file) (option_and_then number_of (first_of (codes "number") words))) words
 
+-- a check's file, and its flag --explain
+abbrev pub asked_check : List Row → Option Asked
+asked_check words = with_file (λ file. Some (if is_set (first_of (codes "explain") words) then explain file else check file)) words
+
+-- a load's file and size
+abbrev pub asked_load : List Row → Option Asked
+asked_load words = with_file (λ file. option_map (load file) (size_of (first_of (codes "size") words))) words
+
 -- a run's file, mode, size, and its flags --replace, --strict and --numbered
 abbrev pub RunWords : Type 0
 RunWords = Option Text × Option Text × Option Text × Option Text × Option Text × Option Text
@@ -170,10 +194,14 @@ abbrev pub asked_in : Text → List Row → Option Asked
 asked_in subcommand words =
     if bytes_eq subcommand (codes "create") then with_number create words
     else if bytes_eq subcommand (codes "run") then asked_run words
-    else if bytes_eq subcommand (codes "check") then with_file (λ file. Some (check file)) words
+    else if bytes_eq subcommand (codes "check") then asked_check words
     else if bytes_eq subcommand (codes "grow") then with_number grow words
     else if bytes_eq subcommand (codes "shrink") then with_file (λ file. Some (shrink file)) words
     else if bytes_eq subcommand (codes "migrate") then with_file (λ file. Some (migrate file)) words
+    else if bytes_eq subcommand (codes "stat") then with_file (λ file. Some (stat file)) words
+    else if bytes_eq subcommand (codes "draw") then with_file (λ file. Some (draw file)) words
+    else if bytes_eq subcommand (codes "dump") then with_file (λ file. Some (dump file)) words
+    else if bytes_eq subcommand (codes "load") then asked_load words
     else if bytes_eq subcommand (codes "lint") then Some lint
     else if bytes_eq subcommand (codes "help") then asked_help words
     else None
@@ -202,10 +230,14 @@ is_path (c ∷ cs) = not (c == 45)
 abbrev pub IsModePart : List Text → ModeName → Type 0
 IsModePart words mode = (words ≡ codes "--mode" ∷ mode_word mode ∷ []) ⊎ ((words ≡ []) × (mode ≡ OpenOnly))
 
--- `--size N`, which may be left out where the mode wants none
+-- `--size N`
+abbrev pub IsSized : List Text → ℕ → Type 0
+IsSized words size = (digits : Text) × (number_of digits ≡ Some size) × (words ≡ codes "--size" ∷ digits ∷ [])
+
+-- the same, which may be left out where the mode wants none
 abbrev pub IsSizePart : List Text → ModeName → Option ℕ → Type 0
 IsSizePart words mode None = (words ≡ []) × (wants_size mode ≡ false)
-IsSizePart words mode (Some size) = (digits : Text) × (number_of digits ≡ Some size) × (words ≡ codes "--size" ∷ digits ∷ [])
+IsSizePart words mode (Some size) = IsSized words size
 
 -- `--replace`, which is left out where the file is emptied
 abbrev pub saving_part : Saving → List Text
@@ -226,9 +258,15 @@ IsWritten (create file size) words = IsTrue (is_path file) × (digits : Text) ×
 IsWritten (run file mode size saving strict numbered) words = IsTrue (is_path file) × (modes : List Text) × (sizes : List Text) × IsModePart modes mode × IsSizePart sizes mode size
     × (words ≡ codes "run" ∷ file ∷ modes ++ (sizes ++ flag_words saving strict numbered))
 IsWritten (check file) words = IsTrue (is_path file) × (words ≡ codes "check" ∷ file ∷ [])
+IsWritten (explain file) words = IsTrue (is_path file) × (words ≡ codes "check" ∷ file ∷ codes "--explain" ∷ [])
 IsWritten (grow file bytes) words = IsTrue (is_path file) × (digits : Text) × (number_of digits ≡ Some bytes) × (words ≡ codes "grow" ∷ file ∷ digits ∷ [])
 IsWritten (shrink file) words = IsTrue (is_path file) × (words ≡ codes "shrink" ∷ file ∷ [])
 IsWritten (migrate file) words = IsTrue (is_path file) × (words ≡ codes "migrate" ∷ file ∷ [])
+IsWritten (stat file) words = IsTrue (is_path file) × (words ≡ codes "stat" ∷ file ∷ [])
+IsWritten (draw file) words = IsTrue (is_path file) × (words ≡ codes "draw" ∷ file ∷ [])
+IsWritten (dump file) words = IsTrue (is_path file) × (words ≡ codes "dump" ∷ file ∷ [])
+IsWritten (load file None) words = IsTrue (is_path file) × (words ≡ codes "load" ∷ file ∷ [])
+IsWritten (load file (Some size)) words = IsTrue (is_path file) × (sizes : List Text) × IsSized sizes size × (words ≡ codes "load" ∷ file ∷ sizes)
 IsWritten lint words = words ≡ codes "lint" ∷ []
 IsWritten language words = words ≡ codes "help" ∷ codes "language" ∷ []
 IsWritten version words = words ≡ codes "--version" ∷ []

@@ -5,7 +5,7 @@ ghost use Rattle.clap.specs.Values.{kind_of};
 ghost use Rattle.clap.specs.Walk.{first_of, rows_of};
 ghost use Rattle.clap.specs.declared.error.kind.ErrorKind.TheVariants.{DisplayVersion, OutOfMemory as NoMemory};
 ghost use Rattle.segment_lang.specs.Words.{number_of};
-ghost use Rattle.segment_invocation.specs.Invocations.{Asked, IsAskedBy, IsWritten, Reads, asked_by, asked_help, asked_in, asked_run, is_set, mode_of, saving_of, size_of};
+ghost use Rattle.segment_invocation.specs.Invocations.{Asked, IsAskedBy, IsWritten, Reads, asked_by, asked_check, asked_help, asked_in, asked_load, asked_run, is_set, mode_of, saving_of, size_of};
 ghost use Rattle.segment_invocation.specs.declared.invocations.Invocation.TheVariants.{Version};
 ghost use Rattle.segment_invocation.specs.declared.usage.InvocationFault.TheVariants.{OutOfMemory};
 
@@ -61,7 +61,7 @@ fn mode_in(alloc: Global, words: &ArgMatches<'_>) -> Result<ModeName, UsageError
     }
 }
 
-/// The size of a run, if there is one.
+/// The size that is asked for, if there is one.
 fn size_in(words: &ArgMatches<'_>) -> Result<Option<u64>, UsageError>
     ensures { Reads (size_of (first_of (codes "size") (rows_of (found_of words.now)))) result }
 {
@@ -102,6 +102,26 @@ fn answering_in(words: &ArgMatches<'_>) -> Answering
     }
 }
 
+/// What the words of the command `check` ask for.
+fn read_check<'a>(words: &ArgMatches<'a>) -> Result<Invocation<'a>, UsageError>
+    ensures { MatchResult result (λ i. asked_check (rows_of (found_of words.now)) ≡ Some (asked_by i)) (λ e. asked_check (rows_of (found_of words.now)) ≡ None) }
+{
+    let file = file_in(words)?;
+    if is_set(words, "explain") {
+        return Ok(Invocation::Explain(file));
+    }
+    Ok(Invocation::Check(file))
+}
+
+/// What the words of the command `load` ask for.
+fn read_load<'a>(words: &ArgMatches<'a>) -> Result<Invocation<'a>, UsageError>
+    ensures { MatchResult result (λ i. asked_load (rows_of (found_of words.now)) ≡ Some (asked_by i)) (λ e. asked_load (rows_of (found_of words.now)) ≡ None) }
+{
+    let file = file_in(words)?;
+    let size = size_in(words)?;
+    Ok(Invocation::Load(file, size))
+}
+
 /// What the words of the command `run` ask for.
 fn read_run<'a>(alloc: Global, words: &ArgMatches<'a>) -> Result<Invocation<'a>, UsageError>
     ensures { MatchResult result (λ i. asked_run (rows_of (found_of words.now)) ≡ Some (asked_by i)) (λ e. asked_run (rows_of (found_of words.now)) ≡ None) }
@@ -136,10 +156,14 @@ fn read_command<'a>(
     match name {
         "create" => Ok(Invocation::Create(file_in(words)?, number_in(words)?)),
         "run" => read_run(alloc, words),
-        "check" => Ok(Invocation::Check(file_in(words)?)),
+        "check" => read_check(words),
         "grow" => Ok(Invocation::Grow(file_in(words)?, number_in(words)?)),
         "shrink" => Ok(Invocation::Shrink(file_in(words)?)),
         "migrate" => Ok(Invocation::Migrate(file_in(words)?)),
+        "stat" => Ok(Invocation::Stat(file_in(words)?)),
+        "draw" => Ok(Invocation::Draw(file_in(words)?)),
+        "dump" => Ok(Invocation::Dump(file_in(words)?)),
+        "load" => read_load(words),
         "lint" => Ok(Invocation::Lint),
         "help" => read_help(words),
         _ => Err(UsageError::Command),

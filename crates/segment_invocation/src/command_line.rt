@@ -3,7 +3,7 @@ ghost use Rattle.std.specs.Prelude.{◌≡◌, [], false, codes, IfOk};
 ghost use Rattle.clap.specs.Walk.{rule_of};
 ghost use Rattle.clap.specs.Simple.{app_of, new_app, shape_of};
 ghost use Rattle.clap.specs.declared.builder.command.Command.TheViews.{out-Command as fields_of};
-ghost use Rattle.segment_invocation.specs.Invocations.{command_line, file_command, flag, help_command, number_command, operand, option, program, run_command, run_options, taking};
+ghost use Rattle.segment_invocation.specs.Invocations.{check_command, command_line, file_command, flag, help_command, load_command, number_command, operand, option, program, run_command, run_options, taking};
 
 use crate::version::VERSION;
 use clap::{Arg, ArgAction, Command};
@@ -39,6 +39,27 @@ const FILE: &str = "The path of the file with the segment";
 
 /// What sizes there are.
 const SIZE: &str = "A number of bytes: 144, or a multiple of 16 from 176 to 1073741824";
+
+/// What a check says beside the class.
+const EXPLAIN: &str =
+    "Where FILE holds no segment, tells in words why, and at which byte, from 0 on, that shows";
+
+/// What the command `stat` does.
+const STAT: &str = "Prints how the bytes of the segment in FILE are used, in figures";
+
+/// What the command `draw` does.
+const DRAW: &str = "Prints a picture of the segment in FILE, as SVG";
+
+/// What the command `dump` does.
+const DUMP: &str = "Prints the objects of the segment in FILE as text";
+
+/// What the command `load` does.
+const LOAD: &str =
+    "Makes FILE with a segment of the dump of standard input; a FILE that exists is refused";
+
+/// What size a segment has that is loaded.
+const LOADED: &str =
+    "The bytes of the segment, as for create; where it is left out, the least that holds the objects";
 
 /// By how much a segment grows.
 const BYTES: &str = "A multiple of 16 from 32 on";
@@ -84,8 +105,8 @@ Example:
 const STATUSES: &str = "\
 Statuses:
   0  Done; the answers of a script may have been errors
-  1  FILE holds no segment, or the size or the growth is refused; an answer of a strict run is an error; or a line of a
-     script that is linted is no command
+  1  FILE holds no segment, or the size or the growth is refused; an answer of a strict run is an error; a line of a
+     script that is linted is no command; or a dump is wrong, or does not fit its size
   2  The command line is wrong, or asks for help
   3  A FILE that is to be made exists, another program writes FILE, something could not be read or written, or the script
      is too long
@@ -176,6 +197,22 @@ fn run_command<'a>(alloc: Global) -> Result<Command<'a>, AllocError>
         .arg(flag(alloc, "numbered", NUMBERED))
 }
 
+/// The command `check`.
+fn check_command<'a>(alloc: Global) -> Result<Command<'a>, AllocError>
+    ensures shape { IfOk result (λ c. shape_of c ≡ check_command) }
+    ensures local { IfOk result (λ c. (fields_of c).has_globals ≡ false) }
+{
+    file_command(alloc, "check", CHECK)?.arg(flag(alloc, "explain", EXPLAIN))
+}
+
+/// The command `load`.
+fn load_command<'a>(alloc: Global) -> Result<Command<'a>, AllocError>
+    ensures shape { IfOk result (λ c. shape_of c ≡ load_command) }
+    ensures local { IfOk result (λ c. (fields_of c).has_globals ≡ false) }
+{
+    file_command(alloc, "load", LOAD)?.arg(option(alloc, "size", "SIZE", LOADED))
+}
+
 /// The command `lint`.
 fn lint_command<'a>(alloc: Global) -> Command<'a>
     ensures shape { shape_of result ≡ taking (codes "lint") [] }
@@ -221,10 +258,14 @@ pub fn command_line<'a>(alloc: Global) -> Result<Command<'a>, AllocError>
     program(alloc, ABOUT, STATUSES)
         .subcommand(number_command(alloc, "create", CREATE, "SIZE", SIZE)?)?
         .subcommand(run_command(alloc)?)?
-        .subcommand(file_command(alloc, "check", CHECK)?)?
+        .subcommand(check_command(alloc)?)?
         .subcommand(number_command(alloc, "grow", GROW, "BYTES", BYTES)?)?
         .subcommand(file_command(alloc, "shrink", SHRINK)?)?
         .subcommand(file_command(alloc, "migrate", MIGRATE)?)?
+        .subcommand(file_command(alloc, "stat", STAT)?)?
+        .subcommand(file_command(alloc, "draw", DRAW)?)?
+        .subcommand(file_command(alloc, "dump", DUMP)?)?
+        .subcommand(load_command(alloc)?)?
         .subcommand(lint_command(alloc))?
         .subcommand(help_command(alloc)?)
 }

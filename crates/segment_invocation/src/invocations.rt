@@ -68,12 +68,22 @@ pub enum Invocation<'a> {
     Run(&'a str, ModeName, Option<u64>, Saving, Answering),
     /// To check that a file holds a segment.
     Check(&'a str),
+    /// To check the same, and where it holds none to tell in words why, and which byte shows it.
+    Explain(&'a str),
     /// To make the segment in a file larger by so many bytes.
     Grow(&'a str, u64),
     /// To make the segment in a file as small as its last block lets it be.
     Shrink(&'a str),
     /// To write the segment in a file, of this format or an older one, in this format.
     Migrate(&'a str),
+    /// To tell how the bytes of the segment in a file are used, in figures.
+    Stat(&'a str),
+    /// To draw the segment in a file.
+    Draw(&'a str),
+    /// To write the objects of the segment in a file as text.
+    Dump(&'a str),
+    /// To make a segment of such a text in a file that is not there, of this size, or of the least that holds the objects.
+    Load(&'a str, Option<u64>),
     /// To tell which lines of a script are no commands.
     Lint,
     /// To print the commands of a script.

@@ -1,0 +1,128 @@
+-- How a segment is made of a dump, in a file that is not there: what the disk is asked, in order, and how it ends.
+use Rattle.std.specs.Prelude.{◌≡◌, ◌≢◌, ◌⊎◌, ◌<◌, ◌≤◌, ⊤, ℕ, true, false, List, [], ◌∷◌, Option, Some, None, Result, Ok, Err, MatchResult, length, min}
+use Rattle.raw_region.specs.Device.{Gave, Given, given_since}
+use Rattle.block_tags.specs.Format.{is_legal_size}
+use Rattle.segment_manager.specs.State.{State}
+use Rattle.segment_dump.specs.Loading.{IsLoaded, IsWhyNot}
+use Rattle.segment_dump.specs.declared.faults.LoadError.{LoadError}
+use Rattle.segment_dump.specs.declared.faults.LoadError.TheVariants as load
+use Rattle.segment_cli.specs.declared.faults.SessionFault.{SessionFault}
+use Rattle.segment_cli.specs.declared.faults.SessionFault.TheVariants.{Image as Refused, BadSize, RegionTooSmall, OutOfMemory, ReadFault, WriteFault, ScriptTooLong}
+use Rattle.segment_cli.specs.declared.program_faults.ProgramFault.{ProgramFault}
+use Rattle.segment_cli.specs.declared.program_faults.ProgramFault.TheVariants.{Exists, BadDump, NoSpace, Session}
+use Rattle.segment_disk.specs.declared.presence.Presence.{Presence}
+use Rattle.segment_disk.specs.declared.presence.Presence.TheVariants.{There}
+use Rattle.segment_disk.specs.declared.presence.Making.TheVariants.{New}
+use Rattle.segment_disk.specs.Events.{Event, Looked, After}
+use Rattle.segment_file.specs.Files.{WritesImage}
+
+-- ---- a text that is read whole
+
+-- the most bytes that a dump may have
+abbrev pub dump_limit : ℕ
+dump_limit = 17179869184
+
+-- the text is all that was given, to the end, no more than a dump may have, and no read failed
+pub record IsReadWhole (given : Given) (text : List ℕ) : Type 0 where
+  pub bytes : given.bytes ≡ text
+  pub within : length text ≤ dump_limit
+  pub ended : given.ended ≡ true
+  pub sound : given.failed ≡ false
+
+-- more was given than a dump may have
+pub record IsTooLong (given : Given) : Type 0 where
+  pub long : dump_limit < length given.bytes
+  pub sound : given.failed ≡ false
+
+-- why it was not read whole
+abbrev pub IsWhyUnread : Given → SessionFault → Type 0
+IsWhyUnread given (Refused c) = ⊥
+IsWhyUnread given BadSize = ⊥
+IsWhyUnread given RegionTooSmall = ⊥
+IsWhyUnread given OutOfMemory = given.failed ≡ false
+IsWhyUnread given ReadFault = given.failed ≡ true
+IsWhyUnread given WriteFault = ⊥
+IsWhyUnread given ScriptTooLong = IsTooLong given
+
+-- ---- a segment that is made of it
+
+-- why a load is refused, as the program answers it; the room for a text is memory
+abbrev pub load_fault : LoadError → ProgramFault
+load_fault (load.BadDump bad) = BadDump bad
+load_fault load.BadSize = Session BadSize
+load_fault load.RegionTooSmall = Session RegionTooSmall
+load_fault load.NoSpace = NoSpace
+load_fault load.LongText = Session OutOfMemory
+
+-- the region has room for a segment of the size that was asked for
+abbrev pub HasRoomFor : Option ℕ → List ℕ → Type 0
+HasRoomFor None region = ⊤
+HasRoomFor (Some size) region = min size 1073741824 ≤ length region
+
+-- a load in a region with room for the size was refused
+pub record IsLoadRefused (text : List ℕ) (size : Option ℕ) (fault : ProgramFault) : Type 0 where
+  pub region : List ℕ
+  pub roomy : HasRoomFor size region
+  pub cause : LoadError
+  pub why : IsWhyNot text region 0 size cause
+  pub fault_is : fault ≡ load_fault cause
+
+-- the text is the dump of the segment, or there is none: for a reason of the load, or since memory was refused
+abbrev pub LoadsSegment : List ℕ → Option ℕ → Result State ProgramFault → Type 0
+LoadsSegment text size result = MatchResult result (IsLoaded text size) (λ fault. IsLoadRefused text size fault ⊎ (fault ≡ Session OutOfMemory))
+
+module _ (size : Option ℕ) (script script' : Gave) (result : Result State ProgramFault) where
+  -- no segment has the size that was asked for, and nothing was read
+  pub record IsSizeUnfit : Type 0 where
+    pub asked : ℕ
+    pub asks : size ≡ Some asked
+    pub illegal : is_legal_size asked ≡ false
+    pub unasked : script' ≡ script
+    pub refused : result ≡ Err (Session BadSize)
+
+  -- the dump was not read whole
+  pub record IsDumpUnread : Type 0 where
+    pub fault : SessionFault
+    pub why : IsWhyUnread (given_since script script') fault
+    pub refused : result ≡ Err (Session fault)
+
+  -- it was read whole, and a segment was made of it or not
+  pub record IsDumpRead : Type 0 where
+    pub text : List ℕ
+    pub read : IsReadWhole (given_since script script') text
+    pub loads : LoadsSegment text size result
+
+  abbrev pub LoadsDump : Type 0
+  LoadsDump = IsSizeUnfit ⊎ (IsDumpUnread ⊎ IsDumpRead)
+
+-- ---- `load`
+
+module _ {D : Type 0} (step : D → Event → D → Type 0) (old new : D) (path : List ℕ) (size : Option ℕ) (script script' : Gave) (result : Result (Unit {0}) ProgramFault) where
+  -- something is there under the path, and nothing else was asked for
+  pub record IsTakenLoad : Type 0 where
+    pub asked : After step old (Looked path There ∷ []) new
+    pub unasked : script' ≡ script
+    pub refused : result ≡ Err Exists
+
+  -- nothing is there, and no segment was made: no file is made
+  pub record IsNotLoadedTo : Type 0 where
+    pub found : Presence
+    pub free : found ≢ There
+    pub asked : After step old (Looked path found ∷ []) new
+    pub fault : ProgramFault
+    pub why : LoadsDump size script script' (Err fault)
+    pub refused : result ≡ Err fault
+
+  -- nothing is there, and the image of the segment was written to a new file
+  pub record IsLoadedTo : Type 0 where
+    pub found : Presence
+    pub free : found ≢ There
+    pub looked : D
+    pub asked : step old (Looked path found) looked
+    pub segment : State
+    pub made : LoadsDump size script script' (Ok segment)
+    pub writes : WritesImage step looked new New path segment.cut.bytes result
+    pub answer : (fault : ProgramFault) → result ≡ Err fault → fault ≡ Session WriteFault
+
+  abbrev pub IsLoad : Type 0
+  IsLoad = IsTakenLoad ⊎ (IsNotLoadedTo ⊎ IsLoadedTo)

@@ -1,7 +1,8 @@
 // The same calls, of a program in C++, on this library (compiled with OURS, over zaluxhoni.hpp) and on
 // Boost.Interprocess's managed_mapped_file (compiled without): names made, found, read and destroyed; one vector pushed
-// into and read; one map put into, looked up and emptied. `calls FILE` prints a line for each: what, how many, and
-// processor nanoseconds a call, the least of five rounds. FILE is where Boost's segment is mapped; ours is in memory.
+// into and read; one map put into, looked up and emptied; and a segment with names opened. `calls FILE` prints a line for
+// each: what, how many, and processor nanoseconds a call, the least of five rounds. FILE is where Boost's segment is
+// mapped; ours is in memory.
 // Of Boost each call on a container is done twice: with the object looked up by its name, as each call of ours does,
 // and through the pointer that was found once, as a program would.
 #ifdef OURS
@@ -24,8 +25,8 @@
 
 namespace {
 
-constexpr std::uint64_t SIZE = 128u << 20;
-constexpr int ROUNDS = 5, NAMES = 20000, ELEMENTS = 1000000, PAIRS = 200000;
+constexpr std::uint64_t SIZE = 128u << 20, OPENED_SIZE = 4u << 20;
+constexpr int ROUNDS = 5, NAMES = 20000, ELEMENTS = 1000000, PAIRS = 200000, OPENINGS = 20;
 
 #ifdef OURS
 /// A segment of this library.
@@ -53,6 +54,20 @@ class Side {
     zaluxhoni::segment segment_;
     zaluxhoni::vector<std::int64_t> vector_;
     zaluxhoni::map<std::int64_t, std::int64_t> map_;
+};
+
+/// An image in memory of a segment with names. To open it is to copy it and to check every byte that means something.
+class Closed {
+  public:
+    Closed(const char *, const std::vector<std::string> &names) {
+        zaluxhoni::segment segment = zaluxhoni::segment::create(OPENED_SIZE);
+        for (const std::string &name : names) segment.construct<std::int64_t>(name, 5);
+        image_ = segment.save();
+    }
+    bool open() const { return zaluxhoni::segment::open(image_, zaluxhoni::mode::read).num_named() == NAMES; }
+
+  private:
+    std::vector<std::uint8_t> image_;
 };
 #else
 namespace ipc = boost::interprocess;
@@ -83,17 +98,31 @@ template <bool BY_NAME> class BoostSide {
         return sum;
     }
 
-  private:
     static ipc::create_only_t emptied(const char *file) {
         std::remove(file);
         return ipc::create_only;
     }
+
+  private:
     Vector &vector() { return BY_NAME ? *segment_.find<Vector>("v").first : *vector_; }
     Map &map() { return BY_NAME ? *segment_.find<Map>("m").first : *map_; }
 
     ipc::managed_mapped_file segment_;
     Vector *vector_;
     Map *map_;
+};
+
+/// A file of a segment with names. To open it is to map it; nothing is checked.
+class Closed {
+  public:
+    Closed(const char *file, const std::vector<std::string> &names) : file_(file) {
+        ipc::managed_mapped_file segment(BoostSide<true>::emptied(file), file, OPENED_SIZE);
+        for (const std::string &name : names) segment.construct<std::int64_t>(name.c_str())(5);
+    }
+    bool open() const { return ipc::managed_mapped_file(ipc::open_only, file_).get_num_named_objects() == NAMES; }
+
+  private:
+    const char *file_;
 };
 #endif
 
@@ -172,6 +201,8 @@ template <class S> void run(const char *name, const char *file) {
         S side(file);
         round(side, times, names);
     }
+    const Closed closed(file, names);
+    for (int i = 0; i < ROUNDS; i++) times.of("segments with 20,000 names opened", OPENINGS, [&](int) { return closed.open(); });
     times.print(name);
 }
 

@@ -1,5 +1,5 @@
-//! A box as the pointer to what it holds, and the box again: for a struct that crosses to C, which may hold a pointer and
-//! no box. After `Box::into_raw` and `Box::from_raw` of Rust's standard library.
+//! A box as the pointer to what it holds, and the box again: for a struct that crosses to C, which may hold a pointer
+//! and no box. After `Box::into_raw` and `Box::from_raw` of Rust's standard library.
 #![tactic(auto)]
 
 ghost use Rattle.std.specs.Prelude.{◌≡◌};

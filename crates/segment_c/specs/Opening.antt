@@ -1,5 +1,5 @@
 -- Images that are opened: what the calls owe.
-use Rattle.std.specs.Prelude.{◌≡◌, ◌<◌, ◌≤◌, ◌⊎◌, ℕ, ◌+◌, ◌%◌, ◌&&◌, ◌==◌, nat_le, min, List, ◌++◌, length, Some, IsTrue, if◌then◌else◌}
+use Rattle.std.specs.Prelude.{◌≡◌, ◌<◌, ◌≤◌, ◌⊎◌, ℕ, ◌+◌, ◌%◌, ◌&&◌, ◌==◌, nat_le, List, length, Some, IsTrue, if◌then◌else◌}
 use Rattle.raw_region.specs.Format.{current}
 use Rattle.raw_region.specs.Memory.{SamePlace, cut_at, zeros}
 use Rattle.segment_manager.specs.declared.modes.Mode.{Mode}
@@ -19,25 +19,26 @@ pub record IsImageOpened (image : List ℕ) (capacity : ℕ) (mode : Mode) (s : 
   pub mode_is : s.mode ≡ mode
   pub denotes : IsSegment image
 
--- the first bytes of the image say a size for which a region of so many bytes has no room
+-- the first bytes say a size for which a region of so many bytes has no room
 pub record IsTooLong (image : List ℕ) (capacity : ℕ) : Type 0 where
-  pub front : List ℕ
-  pub rest : List ℕ
-  pub begins : image ≡ front ++ rest
-  pub read : 24 ≤ length front
-  pub front_is : IsTrue (has_front current front)
-  pub long : capacity < size_word front
+  pub read : 24 ≤ length image
+  pub front : IsTrue (has_front current image)
+  pub long : capacity < size_word image
 
 -- the code says the first class that holds of the image
 abbrev pub IsClassCode : List ℕ → ℕ → Type 0
 IsClassCode image code = (c : ImageClass) × (code ≡ 100 + number_of c) × (class_of current image ≡ Some c)
 
 -- why the image is not opened in a region of so many bytes
-abbrev pub IsWhyNotOpened : List ℕ → ℕ → ℕ → Type 0
-IsWhyNotOpened image capacity code = (code ≡ 26) ⊎ (((code ≡ 27) × IsTooLong image capacity) ⊎ IsClassCode image code)
+pub record IsWhyNotOpened (image : List ℕ) (capacity code : ℕ) : Type 0 where
+  pub why : (code ≡ 26) ⊎ (((code ≡ 27) × IsTooLong image capacity) ⊎ IsClassCode image code)
+  -- no class is looked for in an image that is too long
+  pub too_long : IsTooLong image capacity → (code ≡ 26) ⊎ (code ≡ 27)
 
--- why they are no image, where a region has room for all of them, but for those that no segment has
-pub record IsNoImage (image : List ℕ) (code : ℕ) : Type 0 where
-  pub capacity : ℕ
-  pub room : min (length image) 1073741824 ≤ capacity
-  pub why : IsWhyNotOpened image capacity code
+-- why the bytes are no image: there was no memory to look, or a class of them
+abbrev pub IsNoImage : List ℕ → ℕ → Type 0
+IsNoImage image code = (code ≡ 26) ⊎ IsClassCode image code
+
+-- the size that the first bytes say, or 0
+abbrev pub size_said : List ℕ → ℕ
+size_said image = if nat_le 24 (length image) && has_front current image then size_word image else 0

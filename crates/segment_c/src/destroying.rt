@@ -24,8 +24,8 @@ enum Doomed<'a> {
     At(u64),
 }
 
-/// Destroys the object of a name or a kind, and says whether there was one; or that of a handle, where there is one. Where there is
-/// none, nothing changes.
+/// Destroys the object of a name or a kind, and says whether there was one; or that of a handle, where there is one.
+/// Where there is none, nothing changes.
 #[unsafe(no_mangle)]
 pub extern "C" fn zx_destroy(
     alloc: Global,

@@ -20,7 +20,8 @@ use raw_region::RawRegion;
 use segment_manager::{Mode, Segment};
 use std::alloc::Global;
 
-/// An empty segment of `size` bytes, open for writing. What the handle had is freed. The handle is as it was unless the code is 0.
+/// An empty segment of `size` bytes, open for writing. What the handle had is freed. The handle is as it was unless the
+/// code is 0.
 #[unsafe(no_mangle)]
 pub extern "C" fn zx_create(alloc: Global, h: &mut Handle, size: u64) -> u32
     ensures size { (result ≡ 22) ↔ (is_legal_size size ≡ false) }
@@ -129,6 +130,7 @@ pub extern "C" fn zx_save(alloc: Global, h: &mut Handle, image: &mut [u8]) -> u3
 pub fn copy_out(bytes: &[u8], buffer: &mut [u8]) -> u32
     ensures saved { Saves bytes.now buffer.old buffer.new result }
     ensures kept { 1 ≤ result → buffer.new ≡ buffer.old }
+    ensures short { 1 ≤ result → result ≡ 24 }
 {
     if buffer.len() < bytes.len() {
         return SHORT_BUFFER;

@@ -7,8 +7,8 @@ ghost use Rattle.segment_manager.specs.NewObjects.{IsOfKind};
 use crate::codes::{BAD_KEY, BAD_KIND, BAD_NAME, NULL_SLICE};
 use seg_types::{IndexKey, Key, Kind, Name, NewKey};
 
-/// Which object: by `how`, the one of the name (0), the unique one of the kind (1), the one of the handle (2); or a new one with no
-/// key (3). 4 stands for a null name.
+/// Which object: by `how`, the one of the name (0), the unique one of the kind (1), the one of the handle (2); or a new
+/// one with no key (3). 4 stands for a null name.
 #[repr(C)]
 pub struct ObjectKey<'a> {
     pub how: u32,

@@ -1,5 +1,6 @@
-//! A segment for programs in C, C++ and Python: the functions of `c/zaluxhoni.h`. Each is a call of the library, with its clauses
-//! at the segment that a handle has before and after; a closed handle and what C passes wrongly are codes, and change nothing.
+//! A segment for programs in C, C++ and Python: the functions of `c/zaluxhoni.h`. Each is a call of the library, with
+//! its clauses at the segment that a handle has before and after; a closed handle and what C passes wrongly are codes,
+//! and change nothing.
 #![tactic(auto)]
 
 mod arrays;

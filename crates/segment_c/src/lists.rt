@@ -23,8 +23,9 @@ use segment_manager::conditioned::{named_instance, unique_instance};
 use segment_manager::{Instance, Segment};
 use std::alloc::Global;
 
-/// What an object says of itself: how it is found again (0 by its handle alone, 1 by its name, 2 as the one of its kind), the code of
-/// its kind, how many elements it has (1 where it is no object of scalars), how many bytes its name has, and its handle.
+/// What an object says of itself: how it is found again (0 by its handle alone, 1 by its name, 2 as the one of its
+/// kind), the code of its kind, how many elements it has (1 where it is no object of scalars), how many bytes its name
+/// has, and its handle.
 #[repr(C)]
 #[derive(Clone, Copy)]
 pub struct Info {
@@ -35,8 +36,8 @@ pub struct Info {
     pub handle: u64,
 }
 
-/// A block in use or a gap: where it begins, how long it is, and what it is for (0 a gap, 1 an object, 2 an index, 3 elements, 4 a
-/// pair).
+/// A block in use or a gap: where it begins, how long it is, and what it is for (0 a gap, 1 an object, 2 an index, 3
+/// elements, 4 a pair).
 #[repr(C)]
 #[derive(Clone, Copy)]
 pub struct Block {

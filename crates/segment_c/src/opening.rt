@@ -1,11 +1,11 @@
 //! Images that lie in memory, opened.
-ghost use Rattle.std.specs.Prelude.{◌≡◌, ◌≤◌, IsTrue, MatchOption, MatchResult, length};
-ghost use Rattle.image_check.specs.Classes.{are_bytes};
+ghost use Rattle.std.specs.Prelude.{◌+◌, ◌≡◌, ◌≤◌, MatchOption, MatchResult, length};
+ghost use Rattle.image_check.specs.Classes.{number_of};
 ghost use Rattle.raw_region.specs.Memory.{zeros};
 ghost use Rattle.raw_region.specs.Regions.{IsCapacity};
 ghost use Rattle.segment_c.specs.Calls.{IsStopped, Opened};
 ghost use Rattle.segment_c.specs.Images.{mode_of, mode_wrong};
-ghost use Rattle.segment_c.specs.Opening.{IsImageOpened, IsNoImage, IsWhyNotOpened, capacity_wrong};
+ghost use Rattle.segment_c.specs.Opening.{IsImageOpened, IsNoImage, IsWhyNotOpened, capacity_wrong, size_said};
 ghost use Rattle.segment_c.specs.Passed.{or_else};
 ghost use Rattle.segment_manager.specs.State.{IsSegment};
 
@@ -13,17 +13,16 @@ use crate::codes::{BAD_IMAGE, BAD_MODE, BAD_SIZE, DONE, NO_MEMORY, SHORT_REGION}
 use crate::growing::capacity_for;
 use crate::handle::{Handle, put};
 use crate::images::boxed_or_not;
-use image_check::{FRONT, OpenError, size_in};
+use image_check::{FRONT, ImageClass, OpenError, open_bytes, size_in};
 use raw_region::{RawRegion, Steps};
 use segment_manager::{Mode, Segment};
-use slice_source::SliceSource;
 use std::alloc::Global;
 
 /// The most bytes of a region.
 const LARGEST_REGION: u64 = 1 << 40;
 
-/// The segment whose image the bytes are, in a region of `capacity` bytes. What the handle had is freed. The handle is as it was
-/// unless the code is 0.
+/// The segment whose image the bytes are, in a region of `capacity` bytes. What the handle had is freed. The handle is
+/// as it was unless the code is 0.
 #[unsafe(no_mangle)]
 pub extern "C" fn zx_open(
     alloc: Global,
@@ -64,7 +63,7 @@ pub extern "C" fn zx_check(alloc: Global, image: &[u8]) -> u32
     }
 }
 
-/// The segment whose image the bytes are, in a region that has room for them, and for as many as they say.
+/// The segment whose image the bytes are, in a region for as many bytes as they say. None is made where they are fewer.
 ///
 /// # Errors
 ///
@@ -72,22 +71,27 @@ pub extern "C" fn zx_check(alloc: Global, image: &[u8]) -> u32
 fn checked(alloc: Global, image: &[u8]) -> Result<Segment, u32>
     ensures { MatchResult result (λ s. IsSegment image.now) (λ code. (1 ≤ code) × IsNoImage image.now code) }
 {
-    let capacity = capacity_for((image.len() as u64).max(size_said(image)));
-    let Ok(region) = RawRegion::new(alloc, capacity) else {
+    let size = size_said(image);
+    if (image.len() as u64) < size {
+        return Err(class_code(ImageClass::Truncated));
+    }
+    let Ok(region) = RawRegion::new(alloc, capacity_for(size)) else {
         return Err(NO_MEMORY);
     };
-    match open_image(alloc, image, region, Mode::ReadOnly) {
+    match open_in(alloc, image, region, Mode::ReadOnly) {
         Ok(segment) => Ok(segment),
         Err(code) => Err(code),
     }
 }
 
 /// The size that the first bytes say, or 0 where they say none.
-fn size_said(image: &[u8]) -> u64 {
+fn size_said(image: &[u8]) -> u64
+    ensures { result ≡ size_said image.now }
+{
     if image.len() < FRONT {
         return 0;
     }
-    size_in(&image[..FRONT]).unwrap_or(0)
+    size_in(image).unwrap_or(0)
 }
 
 /// The mode of a code.
@@ -110,32 +114,25 @@ fn open_boxed(alloc: Global, image: &[u8], capacity: u64, mode: Mode) -> Result<
     let Ok(region) = RawRegion::new(alloc, capacity) else {
         return Err(NO_MEMORY);
     };
-    match open_image(alloc, image, region, mode) {
+    match open_in(alloc, image, region, mode) {
         Ok(segment) => boxed_or_not(alloc, segment),
         Err(code) => Err(code),
     }
 }
 
-/// The segment whose image the bytes are, in a region of `capacity` bytes.
+/// The segment whose image the bytes are, at the front of the region.
 ///
 /// # Errors
 ///
 /// The code.
-fn open_image(alloc: Global, image: &[u8], region: RawRegion, mode: Mode) -> Result<Segment, u32>
+fn open_in(alloc: Global, image: &[u8], region: RawRegion, mode: Mode) -> Result<Segment, u32>
     requires { region ≡ zeros (length region) }
     ensures { MatchResult result (IsImageOpened image.now (length region) mode) (λ code. (1 ≤ code) × IsWhyNotOpened image.now (length region) code) }
 {
-    let mut reader = SliceSource::new(image);
-    let opened = image_check::open(alloc, &mut reader, region, 0, mode, &mut Steps::new());
-    // it has them still, but no contract of the call says so
-    if !are_same(reader.whole(), image) {
-        return Err(NO_MEMORY);
-    }
-    hold_bytes(image);
-    match opened {
+    match open_bytes(alloc, image, region, 0, mode, &mut Steps::new()) {
         Ok(segment) => Ok(segment),
         Err(refused) => match refused.cause {
-            OpenError::Image(class) => Err(BAD_IMAGE + u32::from(class.number())),
+            OpenError::Image(class) => Err(class_code(class)),
             OpenError::RegionTooSmall => Err(SHORT_REGION),
             OpenError::OutOfMemory => Err(NO_MEMORY),
             OpenError::ReadFault => unreachable!(),
@@ -143,14 +140,9 @@ fn open_image(alloc: Global, image: &[u8], region: RawRegion, mode: Mode) -> Res
     }
 }
 
-/// Whether the bytes are the same.
-fn are_same(a: &[u8], b: &[u8]) -> bool
-    ensures { IsTrue result → a.now ≡ b.now }
+/// The code of a class of images.
+fn class_code(class: ImageClass) -> u32
+    ensures { result ≡ 100 + number_of class }
 {
-    a == b
+    BAD_IMAGE + u32::from(class.number())
 }
-
-/// Each byte is below 256. Nothing is done.
-fn hold_bytes(bytes: &[u8])
-    ensures { IsTrue (are_bytes bytes.now) }
-{}

@@ -85,8 +85,8 @@ fn pop_of_kind(segment: &mut Segment, key: &Key, kind: ScalarKind) -> Result<Sca
     }
 }
 
-/// The kind of the elements of the vector of a key; where it has no vector of scalars, one kind or another, by which the call is
-/// refused.
+/// The kind of the elements of the vector of a key; where it has no vector of scalars, one kind or another, by which
+/// the call is refused.
 fn kind_of_vector(segment: &Segment, key: &Key) -> ScalarKind
     ensures { Answers segment.now (λ d. vector_kind_at d (key_seen key.now)) result }
 {

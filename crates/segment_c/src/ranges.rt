@@ -88,7 +88,8 @@ pub extern "C" fn zx_read_u8s(
     code
 }
 
-/// Copies elements of the array or vector of a key into a row of numbers of 32 bits: as many as the row has, from `first` on.
+/// Copies elements of the array or vector of a key into a row of numbers of 32 bits: as many as the row has, from
+/// `first` on.
 #[unsafe(no_mangle)]
 pub extern "C" fn zx_read_i32s(
     alloc: Global,
@@ -116,7 +117,8 @@ pub extern "C" fn zx_read_i32s(
     code
 }
 
-/// Copies elements of the array or vector of a key into a row of signed numbers of 64 bits: as many as the row has, from `first` on.
+/// Copies elements of the array or vector of a key into a row of signed numbers of 64 bits: as many as the row has,
+/// from `first` on.
 #[unsafe(no_mangle)]
 pub extern "C" fn zx_read_i64s(
     alloc: Global,
@@ -144,7 +146,8 @@ pub extern "C" fn zx_read_i64s(
     code
 }
 
-/// Copies elements of the array or vector of a key into a row of numbers of 64 bits without a sign: as many as the row has, from `first` on.
+/// Copies elements of the array or vector of a key into a row of numbers of 64 bits without a sign: as many as the row
+/// has, from `first` on.
 #[unsafe(no_mangle)]
 pub extern "C" fn zx_read_u64s(
     alloc: Global,

@@ -1,5 +1,5 @@
 //! What containers have, read.
-ghost use Rattle.std.specs.Prelude.{◌≡◌, ◌≤◌};
+ghost use Rattle.std.specs.Prelude.{◌≡◌, ◌≢◌, ◌≤◌};
 ghost use Rattle.std.specs.declared.option.Option.TheVariants.{Some};
 ghost use Rattle.seg_types.specs.declared.kinds.Kind.TheVariants.{Texts as TextsKind};
 ghost use Rattle.seg_types.specs.Commands.{Get};
@@ -63,8 +63,8 @@ fn measure(segment: &Segment, key: &Key, len: &mut u64, places: &mut u64) -> u32
     }
 }
 
-/// Copies the bytes of the string of a key to the front of a buffer, where it has room for them. How many they are goes out in any
-/// case.
+/// Copies the bytes of the string of a key to the front of a buffer, where it has room for them. How many they are goes
+/// out in any case.
 #[unsafe(no_mangle)]
 pub extern "C" fn zx_read_string(
     alloc: Global,
@@ -79,6 +79,7 @@ pub extern "C" fn zx_read_string(
         → Copies text.old text.new len.new result (bytes_at d (key_of key.now)) }
     ensures same { h.new.value ≡ h.old.value }
     ensures results { 1 ≤ result → text.new ≡ text.old }
+    ensures length { 1 ≤ result → result ≢ 24 → len.new ≡ len.old }
 {
     let which = match key.key() {
         Ok(it) => it,
@@ -96,6 +97,7 @@ pub extern "C" fn zx_read_string(
 fn read_string(segment: &Segment, key: &Key, text: &mut [u8], len: &mut u64) -> u32
     ensures told { (d : Directory) → StandsFor segment.now.cut.bytes d → Copies text.old text.new len.new result (bytes_at d (key_seen key.now)) }
     ensures kept { 1 ≤ result → text.new ≡ text.old }
+    ensures length { 1 ≤ result → result ≢ 24 → len.new ≡ len.old }
 {
     match segment.string_bytes(key) {
         Ok(bytes) => copy_text(bytes, text, len),
@@ -103,8 +105,8 @@ fn read_string(segment: &Segment, key: &Key, text: &mut [u8], len: &mut u64) -> 
     }
 }
 
-/// Copies the text at `index` in the vector of strings of a key to the front of a buffer, where it has room for it. How many bytes
-/// it has goes out in any case.
+/// Copies the text at `index` in the vector of strings of a key to the front of a buffer, where it has room for it. How
+/// many bytes it has goes out in any case.
 #[unsafe(no_mangle)]
 pub extern "C" fn zx_read_text(
     alloc: Global,
@@ -120,6 +122,7 @@ pub extern "C" fn zx_read_text(
         → CopiesAnswer text.old text.new len.new result (step_of_kind s.mode d (key_of key.now) TextsKind (Get (key_of key.now) index)).0 }
     ensures same { h.new.value ≡ h.old.value }
     ensures results { 1 ≤ result → text.new ≡ text.old }
+    ensures length { 1 ≤ result → result ≢ 24 → len.new ≡ len.old }
 {
     let which = match key.key() {
         Ok(it) => it,
@@ -138,6 +141,7 @@ fn read_text(segment: &Segment, key: &Key, index: u64, text: &mut [u8], len: &mu
     ensures told { (d : Directory) → StandsFor segment.now.cut.bytes d
         → CopiesAnswer text.old text.new len.new result (step_of_kind segment.now.mode d (key_seen key.now) TextsKind (Get (key_seen key.now) index)).0 }
     ensures kept { 1 ≤ result → text.new ≡ text.old }
+    ensures length { 1 ≤ result → result ≢ 24 → len.new ≡ len.old }
 {
     match segment.texts_get(key, index) {
         Ok(bytes) => copy_text(bytes, text, len),
@@ -149,6 +153,7 @@ fn read_text(segment: &Segment, key: &Key, index: u64, text: &mut [u8], len: &mu
 fn copy_text(bytes: &[u8], text: &mut [u8], len: &mut u64) -> u32
     ensures copied { IsCopied bytes.now text.old text.new len.new result }
     ensures kept { 1 ≤ result → text.new ≡ text.old }
+    ensures short { 1 ≤ result → result ≡ 24 }
 {
     *len = bytes.len() as u64;
     copy_out(bytes, text)

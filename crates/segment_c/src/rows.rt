@@ -6,7 +6,8 @@ use crate::codes::{BAD_KIND, NULL_SLICE};
 use crate::values::scalar_kind;
 use seg_types::ScalarKind;
 
-/// The elements of a vector: those of the slice of the kind, 1 to 5. The other slices are empty. Kind 0 stands for a null slice.
+/// Scalars for an array, a vector or a range of one: those of the slice of the kind, 1 to 5. The other slices are
+/// empty. Kind 0 stands for a null slice.
 #[repr(C)]
 pub struct Values<'a> {
     pub kind: u32,

@@ -6,8 +6,8 @@ ghost use Rattle.segment_c.specs.Passed.{scalar_in, scalar_kind_of};
 use crate::codes::BAD_VALUE;
 use seg_types::{ScalarKind, ScalarValue};
 
-/// A scalar with its kind: 1 to 5 for `bool`, `u8`, `i32`, `i64` and `u64`. The signed kinds have it in `number`, the others in
-/// `natural`, where 0 is false.
+/// A scalar with its kind: 1 to 5 for `bool`, `u8`, `i32`, `i64` and `u64`. The signed kinds have it in `number`, the
+/// others in `natural`, where 0 is false.
 #[repr(C)]
 #[derive(Clone, Copy)]
 pub struct Value {

@@ -38,8 +38,8 @@ impl<'a, T: Scalar> Iterator for RowItems<'a, T> {
 ///
 /// # Errors
 ///
-/// `ReadOnly` where the segment is open for reading, else `Exists` where an object has the key: nothing changes. Else `NoSpace`
-/// where no gap is long enough: what the segment holds does not change, and the bytes of gaps may.
+/// `ReadOnly` where the segment is open for reading, else `Exists` where an object has the key: nothing changes. Else
+/// `NoSpace` where no gap is long enough: what the segment holds does not change, and the bytes of gaps may.
 pub fn construct_array<T: Scalar>(
     segment: &mut Segment,
     key: &NewKey,

@@ -15,14 +15,14 @@ use seg_types::{Key, Kind, Refusal, ScalarKind, ScalarValue};
 use segment_manager::conditioned::set_any;
 use segment_manager::{Object, Segment};
 
-/// Makes what a literal is the element at `index` in the object of a key: of scalars, of a vector of scalars, or of a string,
-/// which has bytes.
+/// Makes what a literal is the element at `index` in the object of a key: of scalars, of a vector of scalars, or of a
+/// string, which has bytes.
 ///
 /// # Errors
 ///
-/// `ReadOnly` where the segment is open for reading, and else `NotFound` where no object has the key, `WrongKind` where its
-/// elements are no scalars or the literal has not their form, `OutOfRange` where the literal is not in their range or there is
-/// no such element. Nothing changes.
+/// `ReadOnly` where the segment is open for reading, and else `NotFound` where no object has the key, `WrongKind` where
+/// its elements are no scalars or the literal has not their form, `OutOfRange` where the literal is not in their range
+/// or there is no such element. Nothing changes.
 pub fn set(segment: &mut Segment, key: &Key, index: u64, value: ScalarValue) -> Result<(), Refusal>
     ensures step { IsStep segment.old segment.new (Set (key_seen key.now) index (literal_seen value)) (done_answer result) }
     ensures refused { OnErr result (segment.new ≡ segment.old) }

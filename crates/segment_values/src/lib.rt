@@ -1,5 +1,5 @@
-//! The calls of a segment for callers that learn the kind of an object when the program runs: a truth or a number that they
-//! pass becomes a value of the object's kind, as what a script writes does.
+//! The calls of a segment for callers that learn the kind of an object when the program runs: a truth or a number that
+//! they pass becomes a value of the object's kind, as what a script writes does.
 #![tactic(auto)]
 
 mod arrays;

@@ -17,9 +17,9 @@ use segment_manager::{Segment, locate};
 ///
 /// # Errors
 ///
-/// `ReadOnly` where the segment is open for reading, and else `NotFound` where no object has the key, `WrongKind` where it is no
-/// map or a literal has not the form of its kind, `OutOfRange` where a literal is not in the range of its kind, `NoSpace` where
-/// the key is new and no gap is long enough for its block. Nothing changes.
+/// `ReadOnly` where the segment is open for reading, and else `NotFound` where no object has the key, `WrongKind` where
+/// it is no map or a literal has not the form of its kind, `OutOfRange` where a literal is not in the range of its
+/// kind, `NoSpace` where the key is new and no gap is long enough for its block. Nothing changes.
 pub fn put_pair(
     segment: &mut Segment,
     key: &Key,
@@ -66,13 +66,14 @@ pub fn look_up(
     }
 }
 
-/// Takes the pair with the key that a literal is out of the map of a key, and answers whether there was one. Where there was
-/// none, nothing changes.
+/// Takes the pair with the key that a literal is out of the map of a key, and answers whether there was one. Where
+/// there was none, nothing changes.
 ///
 /// # Errors
 ///
-/// `ReadOnly` where the segment is open for reading, and else `NotFound` where no object has the key, `WrongKind` where it is no
-/// map or the literal has not the form of its keys, `OutOfRange` where the literal is not in their range. Nothing changes.
+/// `ReadOnly` where the segment is open for reading, and else `NotFound` where no object has the key, `WrongKind` where
+/// it is no map or the literal has not the form of its keys, `OutOfRange` where the literal is not in their range.
+/// Nothing changes.
 pub fn erase_pair(segment: &mut Segment, key: &Key, at: ScalarValue) -> Result<bool, Refusal>
     ensures step { IsStep segment.old segment.new (Remove (key_seen key.now) (literal_seen at)) (truth_answer result) }
     ensures refused { OnErr result (segment.new ≡ segment.old) }

@@ -11,13 +11,13 @@ ghost use Rattle.segment_values.specs.Ranges.{range_at, range_of, read_into};
 use seg_types::{Key, Kind, Refusal, Scalar};
 use segment_manager::{Object, Segment, locate};
 
-/// Copies elements of the object of a key into a row: as many as the row has, from `first` on. The object is an array of scalars of
-/// the type, or a vector of them.
+/// Copies elements of the object of a key into a row: as many as the row has, from `first` on. The object is an array
+/// of scalars of the type, or a vector of them.
 ///
 /// # Errors
 ///
-/// `NotFound` where no object has the key, `WrongKind` where it is of another kind, `OutOfRange` where it has not so many elements
-/// there. The row is as it was.
+/// `NotFound` where no object has the key, `WrongKind` where it is of another kind, `OutOfRange` where it has not so
+/// many elements there. The row is as it was.
 pub fn read_elements<T: Scalar>(
     segment: &Segment,
     key: &Key,

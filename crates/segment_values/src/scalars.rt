@@ -6,12 +6,13 @@ ghost use Rattle.segment_values.specs.Literals.{IsPairOf, IsValueOf, literal_see
 
 use seg_types::{Refusal, ScalarKind, ScalarValue};
 
-/// A value as one of a kind: a truth is one of truths alone, and a number one of each kind of numbers in whose range it is.
+/// A value as one of a kind: a truth is one of truths alone, and a number one of each kind of numbers in whose range it
+/// is.
 ///
 /// # Errors
 ///
-/// `WrongKind` where one of the two kinds is that of truths and the other is not, `OutOfRange` where the number is outside the
-/// range of the kind.
+/// `WrongKind` where one of the two kinds is that of truths and the other is not, `OutOfRange` where the number is
+/// outside the range of the kind.
 pub fn value_as(kind: ScalarKind, value: ScalarValue) -> Result<ScalarValue, Refusal>
     ensures { IsValueOf kind (value_of_literal kind (literal_seen value)) result }
 {

@@ -19,8 +19,9 @@ use segment_manager::{Object, Segment};
 ///
 /// # Errors
 ///
-/// `ReadOnly` where the segment is open for reading, and else `NotFound` where no object has the key, `WrongKind` where it is no
-/// vector of scalars or the literal has not the form of its elements, `OutOfRange` where the literal is not in their range.
+/// `ReadOnly` where the segment is open for reading, and else `NotFound` where no object has the key, `WrongKind` where
+/// it is no vector of scalars or the literal has not the form of its elements, `OutOfRange` where the literal is not in
+/// their range.
 fn new_element(
     segment: &Segment,
     key: &Key,
@@ -45,9 +46,9 @@ fn new_element(
 ///
 /// # Errors
 ///
-/// `ReadOnly` where the segment is open for reading, and else `NotFound` where no object has the key, `WrongKind` where it is no
-/// vector of scalars or the literal has not the form of its elements, `OutOfRange` where the literal is not in their range,
-/// `NoSpace` where the vector is full and its storage cannot be regrown. Nothing changes.
+/// `ReadOnly` where the segment is open for reading, and else `NotFound` where no object has the key, `WrongKind` where
+/// it is no vector of scalars or the literal has not the form of its elements, `OutOfRange` where the literal is not in
+/// their range, `NoSpace` where the vector is full and its storage cannot be regrown. Nothing changes.
 pub fn push(segment: &mut Segment, key: &Key, value: ScalarValue) -> Result<(), Refusal>
     ensures step { IsStep segment.old segment.new (Push (key_seen key.now) (literal_seen value)) (done_answer result) }
     ensures refused { OnErr result (segment.new ≡ segment.old) }
@@ -119,8 +120,8 @@ fn insert_value(
 ///
 /// # Errors
 ///
-/// `ReadOnly` where the segment is open for reading, and else `NotFound` where no object has the key, `WrongKind` where it is no
-/// vector, `OutOfRange` where it has no element there. Nothing changes.
+/// `ReadOnly` where the segment is open for reading, and else `NotFound` where no object has the key, `WrongKind` where
+/// it is no vector, `OutOfRange` where it has no element there. Nothing changes.
 pub fn erase(segment: &mut Segment, key: &Key, index: u64) -> Result<(), Refusal>
     ensures step { IsStep segment.old segment.new (Erase (key_seen key.now) index) (done_answer result) }
     ensures refused { OnErr result (segment.new ≡ segment.old) }

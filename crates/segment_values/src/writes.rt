@@ -14,13 +14,13 @@ use crate::reads::{has_range, number_or_none};
 use seg_types::{Key, Kind, Refusal, Scalar};
 use segment_manager::{Mode, Object, Segment, locate};
 
-/// Makes the values of a row elements of the object of a key, from `first` on. The object is an array of scalars of the type, or a
-/// vector of them.
+/// Makes the values of a row elements of the object of a key, from `first` on. The object is an array of scalars of the
+/// type, or a vector of them.
 ///
 /// # Errors
 ///
-/// `ReadOnly` where the segment is open for reading, and else `NotFound` where no object has the key, `WrongKind` where it is of
-/// another kind, `OutOfRange` where it has not so many elements there. Nothing changes.
+/// `ReadOnly` where the segment is open for reading, and else `NotFound` where no object has the key, `WrongKind` where
+/// it is of another kind, `OutOfRange` where it has not so many elements there. Nothing changes.
 pub fn write_elements<T: Scalar>(
     segment: &mut Segment,
     key: &Key,

@@ -204,7 +204,9 @@ static void index_and_object_do_not_both_fit(void) {
 
 static void arrays(void) {
     zx_segment s = ZX_CLOSED_HANDLE;
-    zx_key v = zx_name("v");
+    zx_key v = zx_name("v"), w = zx_name("w");
+    zx_values two = zx_i32s((const int32_t[]){ 1, -2 }, 2);
+    uint64_t handle = 0;
     DONE(zx_create(&s, 1024));
     IS(made(&s, v, 3, zx_i64(7)), 192);
     for (uint64_t i = 0; i < 3; i++) IS(number_at(&s, v, i, ZX_I64), 7);
@@ -215,6 +217,7 @@ static void arrays(void) {
     IS(number_at(&s, v, 3, ZX_I64), REFUSED(ZX_OUT_OF_RANGE));
     IS(set(&s, v, 0, zx_bool(true)), ZX_WRONG_KIND);
     IS(found(&s, v, ZX_I64, 3), 192);
+    DONE(zx_construct_array(&s, &w, &two, &handle));
     reopen(&s, "arrays", ZX_WRITE);
     IS(number_at(&s, v, 1, ZX_I64), 300);
     zx_close(&s);
@@ -583,6 +586,54 @@ static void many_at_once(void) {
     IS(zx_write_elements(&s, &a, 0, &two), ZX_CLOSED);
 }
 
+/* One object of each kind. every_call.cpp and every_call.py make the same calls, so that all three save the same bytes. */
+static void one_of_each(void) {
+    zx_segment s = ZX_CLOSED_HANDLE;
+    zx_key none = zx_anonymous(), a = zx_name("a"), largest = zx_name("largest"), truths = zx_name("truths");
+    zx_key texts = zx_name("two words"), numbers = zx_name("numbers"), gone = zx_name("gone");
+    zx_key byte = zx_unique(ZX_U8), map = zx_unique(ZX_MAP(ZX_I32, ZX_BOOL));
+    zx_values bytes_of = zx_u8s((const uint8_t[]){ 1, 2, 255 }, 3), limits = zx_i32s((const int32_t[]){ INT32_MIN, INT32_MAX }, 2);
+    zx_values two = zx_i64s((const int64_t[]){ 7, -2 }, 2), three = zx_i64s((const int64_t[]){ 1, 2, 3 }, 3);
+    zx_values are = zx_bools((const bool[]){ true, false, true }, 3), others = zx_bools((const bool[]){ true, false }, 2);
+    zx_text three_texts[3] = { text_of("hello"), text_of(""), text_of("gr\xc3\xb6\xc3\x9f" "er") };
+    zx_value zero = zx_i32(0), nine = zx_i64(9);
+    uint64_t string = 0, handle = 0;
+    bool was_there = false;
+    DONE(zx_create(&s, 4096));
+    DONE(zx_construct_string(&s, &none, bytes("a\0\"b"), 4, &string));
+    DONE(zx_construct_vector(&s, &none, &bytes_of, &handle));
+    DONE(zx_construct_array(&s, &none, &limits, &handle));
+    DONE(zx_construct_array(&s, &a, &two, &handle));
+    IS(made(&s, largest, 1, zx_u64(UINT64_MAX)) > 0, true);
+    DONE(zx_construct_array(&s, &truths, &are, &handle));
+    DONE(zx_construct_strings(&s, &texts, three_texts, 3, &handle));
+    DONE(zx_construct_vector(&s, &numbers, &three, &handle));
+    IS(made(&s, byte, 1, zx_u8(200)) > 0, true);
+    DONE(zx_construct_map(&s, &map, ZX_I32, ZX_BOOL, &handle));
+    static const int64_t of[] = { 7, -7, 0 };
+    for (int i = 0; i < 3; i++) {
+        zx_value at = zx_i32((int32_t)of[i]), value = zx_bool(i != 1);
+        DONE(zx_map_put(&s, &map, &at, &value, &was_there));
+    }
+    IS(made(&s, gone, 5, nine) > 0, true);
+    /* and changes */
+    DONE(set(&s, a, 1, zx_i64(300)));
+    DONE(push(&s, numbers, zx_i64(4)));
+    DONE(zx_insert(&s, &numbers, 0, &nine));
+    DONE(zx_erase(&s, &numbers, 1));
+    DONE(zx_write_elements(&s, &truths, 1, &others));
+    DONE(zx_push_text(&s, &texts, bytes("last"), 4));
+    DONE(zx_set_text(&s, &texts, 0, bytes("first"), 5));
+    zx_value seven = zx_i32(7), is_not = zx_bool(false);
+    DONE(zx_map_put(&s, &map, &seven, &is_not, &was_there));
+    DONE(zx_map_erase(&s, &map, &zero, &was_there));
+    zx_key string_key = zx_handle(string);
+    DONE(zx_append(&s, &string_key, bytes("!"), 1));
+    IS(destroyed(&s, gone), true);
+    reopen(&s, "each", ZX_READ);
+    zx_close(&s);
+}
+
 static void size_and_region(void) {
     zx_segment s = ZX_CLOSED_HANDLE;
     uint64_t size = 0, left = 1;
@@ -746,6 +797,7 @@ int main(int count, char **arguments) {
     objects_found_or_made();
     every_kind_of_scalar();
     many_at_once();
+    one_of_each();
     size_and_region();
     modes();
     what_is_no_image();

@@ -256,6 +256,8 @@ void a_string_grows_and_shrinks() {
     THROWS(out_of_range, text.get(17));
     THROWS(wrong_kind, s.vector<u8>("s"));
     IS(text.str(), "Abcdefg0123456789"s);
+    s = reopened(s, "string");
+    text = s.string("s");
     text.clear();
     IS(text.str(), ""s);
     text.shrink_to_fit();
@@ -263,7 +265,7 @@ void a_string_grows_and_shrinks() {
     const std::string longer(300, 'x');
     THROWS(no_space, text.assign(std::string(2000, 'x')));
     text.assign(longer);
-    s = reopened(s, "string");
+    s = reopened(s, "longer");
     text = s.string("s");
     IS(text.str(), longer);
     text.assign("a\0b"s);
@@ -352,12 +354,12 @@ void a_vector_of_strings() {
     v.set(0, "");
     THROWS(wrong_kind, s.set<i64>("v", 0, 5));
     IS((v.to_vector() == std::vector<std::string>{"", "bc"}), true);
-    v.insert(0, "first");
-    v[1] = std::string(300, 'y');
-    IS(v.get(1), std::string(300, 'y'));
-    v.erase(1);
     s = reopened(s, "texts");
     const zaluxhoni::strings again = s.strings("v");
+    again.insert(0, "first");
+    again[1] = std::string(300, 'y');
+    IS(again.get(1), std::string(300, 'y'));
+    again.erase(1);
     IS((again.to_vector() == std::vector<std::string>{"first", "bc"}), true);
     again.assign({"x", "", "z"});
     IS(again.size(), 3);
@@ -441,6 +443,38 @@ void many_at_once() {
     THROWS(read_only, s.write<i64>("a", 0, {1}));
 }
 
+/// One object of each kind, by the calls that every_call.c makes: all three programs save the same bytes.
+void one_of_each() {
+    segment s = segment::create(4096);
+    const key map = key::unique<std::map<i32, bool>>();
+    const u64 text = s.construct_string(key::anonymous(), "a\0\"b"s);
+    s.construct_vector<u8>(key::anonymous(), {1, 2, 255});
+    s.construct_array<i32>(key::anonymous(), {INT32_MIN, INT32_MAX});
+    s.construct_array<i64>("a", {7, -2});
+    s.construct<u64>("largest", UINT64_MAX);
+    s.construct_array<bool>("truths", {true, false, true});
+    s.construct_strings("two words", {"hello", "", "gr\xc3\xb6\xc3\x9f" "er"});
+    s.construct_vector<i64>("numbers", {1, 2, 3});
+    s.construct<u8>(key::unique<u8>(), 200);
+    s.construct_map<i32, bool>(map);
+    s.map<i32, bool>(map).put(7, true);
+    s.map<i32, bool>(map).put(-7, false);
+    s.map<i32, bool>(map).put(0, true);
+    s.construct<i64>("gone", 9, 5);
+    s.array<i64>("a")[1] = 300;
+    s.vector<i64>("numbers").push_back(4);
+    s.vector<i64>("numbers").insert(0, 9);
+    s.vector<i64>("numbers").erase(1);
+    s.array<bool>("truths").write(1, {true, false});
+    s.strings("two words").push_back("last");
+    s.strings("two words").set(0, "first");
+    s.map<i32, bool>(map)[7] = false;
+    s.map<i32, bool>(map).erase(0);
+    s.string(key::by_handle(text)).append("!");
+    IS(s.destroy("gone"), true);
+    reopened(s, "each");
+}
+
 void size_and_region() {
     segment s = segment::create(208);
     THROWS(no_space, s.construct<i64>("numbers", 0, 100));
@@ -461,7 +495,7 @@ void size_and_region() {
     for (i64 i = 0; i < 1000; i++) s.growing([&] { v.push_back(i); });
     IS(v.get(999), 999);
     IS(s.size() >= 1040 + 8000, true);
-    reopened(s, "grown");
+    reopened(s, "longer-still");
 }
 
 void modes() {
@@ -549,8 +583,8 @@ int main(int count, char **arguments) {
     void (*const cases[])() = {
         an_anonymous_object, names, files, index_and_object_do_not_both_fit, arrays, the_only_object_of_its_kind,
         places_reserved_in_the_indexes, best_fit, storage_is_lengthened_then_replaced, a_string_grows_and_shrinks,
-        a_map, refusals_of_a_vector, a_vector_of_strings, objects_found_or_made, many_at_once, size_and_region, modes,
-        what_is_refused, segments_move, errors_say_what};
+        a_map, refusals_of_a_vector, a_vector_of_strings, objects_found_or_made, many_at_once, one_of_each, size_and_region,
+        modes, what_is_refused, segments_move, errors_say_what};
     for (void (*each)() : cases) {
         try {
             each();

@@ -123,6 +123,7 @@ def arrays():
     same(s["w"][:1], [1])
     s["w"][:] = [3, 4]
     same(s["w"], [3, 4])
+    s["w"][:] = [1, -2]
     raises(zaluxhoni.BadCount, set_item, s["w"], slice(0, 2), [1])
     raises(zaluxhoni.BadCount, s.construct, "i64[1048577]", "x", 0)
     raises(zaluxhoni.BadCount, s.construct, "i64[0]", "x", 0)
@@ -205,6 +206,8 @@ def a_string_grows_and_shrinks():
     same(text == "Abcdefg0123456789", True)
     same(text[-3:], b"789")
     same(("g01" in text, 65 in text, list(text)[:2]), (True, True, [65, 98]))
+    s = saved(s, "string")
+    text = s["s"]
     text.clear()
     same(bytes(text), b"")
     text.trim()
@@ -212,7 +215,7 @@ def a_string_grows_and_shrinks():
     raises(zaluxhoni.NoSpace, text.assign, "x" * 2000)
     raises(zaluxhoni.WrongKind, text.assign, 5)
     text.assign(b"a\0\xff" * 100)
-    s = saved(s, "string")
+    s = saved(s, "longer")
     text = s.string("s")
     same(bytes(text), b"a\0\xff" * 100)
     same(str(text).encode("utf-8", "surrogateescape"), b"a\0\xff" * 100)
@@ -301,9 +304,11 @@ def a_vector_of_strings():
     raises(zaluxhoni.WrongKind, set_item, v, 0, 5)
     raises(zaluxhoni.WrongKind, v.assign, "abc")
     same(list(v), ["", "bc"])
+    s = saved(s, "texts")
+    v = s["v"]
     v.insert(0, "größer " * 50)
     same(v[0], "größer " * 50)
-    s = saved(s, "texts")
+    s = saved(s, "longer-texts")
     v = s.strings("v")
     same(v.pop(0), "größer " * 50)
     v.assign(["x", b"\xff", "z"])
@@ -409,6 +414,34 @@ def many_at_once():
         v.clear()
     same(list(v), [])
     saved(s, "many")
+
+
+def one_of_each():
+    """One object of each kind, by the calls that every_call.c makes: all three programs save the same bytes."""
+    s = zaluxhoni.create(4096)
+    text = s.construct("string", None, b'a\0"b')
+    s.construct("vec<u8>", None, [1, 2, 255])
+    s.construct("i32[2]", None, [-2**31, 2**31 - 1])
+    a = s.construct("i64[2]", "a", [7, -2])
+    s.construct("u64", "largest", 2**64 - 1)
+    truths = s.construct("bool[3]", "truths", [True, False, True])
+    texts = s.construct("vec<string>", "two words", ["hello", "", "größer"])
+    numbers = s.construct("vec<i64>", "numbers", [1, 2, 3])
+    s.construct("u8", unique("u8"), 200)
+    m = s.construct("map<i32,bool>", unique("map<i32,bool>"), {7: True, -7: False, 0: True})
+    s.construct("i64[5]", "gone", 9)
+    a[1] = 300
+    numbers.append(4)
+    numbers.insert(0, 9)
+    del numbers[1]
+    truths[1:] = [True, False]
+    texts.append("last")
+    texts[0] = "first"
+    m[7] = False
+    same(m.erase(0), True)
+    text.append("!")
+    del s["gone"]
+    saved(s, "each")
 
 
 def a_segment_as_a_dict():
@@ -601,8 +634,8 @@ def what_is_not_closed():
 
 for case in (an_anonymous_object, names, index_and_object_do_not_both_fit, arrays, the_only_object_of_its_kind,
              places_reserved_in_the_indexes, best_fit, storage_is_lengthened_then_replaced, a_string_grows_and_shrinks, a_map,
-             refusals_of_a_vector, a_vector_of_strings, objects_found_or_made, every_kind_of_scalar, many_at_once, a_segment_as_a_dict,
-             size_and_region, what_is_refused, one_thread, files, files_that_fail, what_is_not_closed):
+             refusals_of_a_vector, a_vector_of_strings, objects_found_or_made, every_kind_of_scalar, many_at_once, one_of_each,
+             a_segment_as_a_dict, size_and_region, what_is_refused, one_thread, files, files_that_fail, what_is_not_closed):
     try:
         case()
     except Exception as error:

@@ -1,11 +1,9 @@
--- An image that lies in memory: why it is not put into a region, and that it stands in its place where it is.
-use Rattle.std.proofs.Common.{◌≡◌, refl, sym, ap, subst, ◌∙◌, ℕ, ◌+◌, ◌<◌, ◌≤◌, Bool, true, false, ◌&&◌, List, [], ◌++◌, length, take, drop, arith, Some, Ok, Err}
+-- An image that lies in memory: why no segment is opened of it.
+use Rattle.std.proofs.Common.{◌≡◌, refl, sym, ap, subst, ◌∙◌, ℕ, ◌+◌, ◌<◌, ◌≤◌, Bool, true, false, ◌&&◌, List, [], ◌++◌, length, arith, Some, Ok, Err}
 use Rattle.std.specs.Prelude.{IsTrue, if◌then◌else◌}
 use Rattle.std.proofs.lemmas.Bool.{both_ways}
-use Rattle.std.proofs.lemmas.List.{append-nil, drop_all}
-use Rattle.raw_region.specs.Memory.{Cut, cut_at, part, patched, whole}
-use Rattle.raw_region.specs.Regions.{with_bytes}
-use Rattle.raw_region.proofs.Laws.{length-part}
+use Rattle.std.proofs.lemmas.List.{append-nil}
+use Rattle.raw_region.specs.Memory.{Cut, whole}
 use Rattle.block_tags.specs.Format.{is_legal_size}
 use Rattle.segment_manager.specs.declared.modes.Mode.{Mode}
 use Rattle.image_check.specs.declared.classes.ImageClass.{ImageClass}
@@ -18,13 +16,12 @@ use Rattle.image_check.specs.EarlyTests.{has_front, has_magic, has_version, size
 use Rattle.image_check.specs.Classes.{class_of, holds}
 use Rattle.image_check.specs.Checking.{IsWhyRefused, cause_for}
 use Rattle.image_check.specs.Opening.{IsTooSmallFor, has_early_class}
-use Rattle.image_check.specs.OpeningBytes.{FitsIn, IsMisfit, IsNotPlaced, IsWhyNotOf, OpensBytes, as_given}
+use Rattle.image_check.specs.OpeningBytes.{IsMisfit, IsWhyNotOf, OpensBytes, as_given}
 use Rattle.image_check.specs.Passes.{has_block}
 use Rattle.image_check.specs.Reading.{IsImageRead, front_of}
 use Rattle.image_check.proofs.Deciding.{decided-some, first_class}
 use Rattle.image_check.proofs.Early.{short-Truncated, cut-Truncated}
 use Rattle.image_check.proofs.Fronts.{IsRight, IsRight-has_front, front-decided, front-wrong, has_front-IsRight}
-use Rattle.image_check.proofs.HandedBack.{written-capacity}
 use Rattle.image_check.proofs.Refused.{back-from, no-room}
 use Rattle.image_check.proofs.Stopping.{more-decided}
 
@@ -104,51 +101,7 @@ misfit-more format b base capacity size r room l = record {
   too_small = λ t. absurd (right-room format b base capacity size r room t);
 }
 
--- ---- where it is
-
--- a window that is written from end to end has these bytes
-filled : (region b : List ℕ) (base size : ℕ) → base + size ≤ length region → length b ≡ size → patched (part region base size) 0 b ≡ b
-filled region b base size room l =
-    let all = length-part region base size room in
-    ap (λ x. b ++ x) (drop_all (0 + length b) (part region base size) (omega arith)) ∙ append-nil b
-
-pub placed : (format : ℕ) (b region : List ℕ) (base size : ℕ) (w : Cut) → FitsIn format b base (length region) size
-    → w ≡ with_bytes (cut_at region base size) (patched (part region base size) 0 b) → IsImageRead format (as_given b) region base w
-placed format b region base size w f e =
-    let bytes : w.bytes ≡ b = ap (λ (c : Cut). c.bytes) e ∙ filled region b base size f.room f.long in
-    let before : w.before ≡ take base region = ap (λ (c : Cut). c.before) e in
-    let after : w.after ≡ drop (base + size) region = ap (λ (c : Cut). c.after) e in
-    let long : length w.bytes ≡ size = ap length bytes ∙ f.long in
-    record {
-      read = record { ended = refl; failed = refl };
-      bytes = bytes;
-      place = record { before = before; after = after ∙ ap (λ n. drop (base + n) region) (sym f.long) };
-      room = subst (λ n. base + n ≤ length region) (sym f.long) f.room;
-      capacity = written-capacity region base size w (record { room = f.room; place = record { before = before; after = after }; long = long });
-      front = record {
-        right = subst (λ (x : List ℕ). IsTrue (has_front format x)) (sym bytes) f.front;
-        says = ap size_word bytes ∙ sym f.says ∙ sym long;
-      };
-    }
-
 -- ---- why no segment is opened
-
--- it was not put there
-pub unplaced : (format : ℕ) (b region : List ℕ) (base : ℕ) (mode : Mode) (back : List ℕ) (cause : OpenError) → IsNotPlaced format b region base (record { region = back; cause = cause })
-    → OpensBytes format b region base mode (Err (record { region = back; cause = cause }))
-unplaced format b region base mode back cause n = record {
-  answers = record {
-    why = n.misfit.why;
-    handed_back = record {
-      capacity = ap length n.back;
-      before = ap (take base) n.back;
-      behind = ap (drop (base + size_word b)) n.back;
-      untouched = λ none. n.back;
-    };
-    unwritten = λ other. n.back;
-  };
-  too_small = n.misfit.too_small;
-}
 
 -- the check refused it
 module _ (format : ℕ) (b region : List ℕ) (base : ℕ) (w : Cut) (h : IsImageRead format (as_given b) region base w) where

@@ -1,9 +1,9 @@
 -- The size that was asked for, and the objects that a text is the dump of.
-use Rattle.std.proofs.Common.{◌≡◌, ◌-◌, ◌<◌, ◌≤◌, ◌^◌, ℕ, Bool, true, false, nat_eq, List, [], ◌∷◌, Option, None, Some, Result, Ok, Err, refl, sym, ap, subst, ◌∙◌, arith}
-use Rattle.std.specs.Prelude.{MatchResult}
+use Rattle.std.proofs.Common.{◌≡◌, ◌-◌, ◌<◌, ◌≤◌, ◌^◌, ℕ, Bool, true, false, nat_eq, List, [], ◌∷◌, Option, None, Some, Result, Ok, Err, refl, sym, ap, subst, ◌∙◌, arith, ◌+◌, nat_lt, length, if◌then◌else◌}
+use Rattle.std.specs.Prelude.{IfOk, MatchResult, not}
 use Rattle.std.specs.Bool.{OnTrue}
 use Rattle.std.specs.List.{AllByRecursion}
-use Rattle.std.proofs.lemmas.Bool.{and_parts, eqb-true}
+use Rattle.std.proofs.lemmas.Bool.{and_parts, eqb-true, false≢true, ltb-false, ltb-true}
 use Rattle.std.proofs.lemmas.Bool.Decides.{nat_tests}
 use Rattle.block_tags.specs.Format.{is_legal_size}
 use Rattle.best_fit.specs.Extents.{is_proper, proper_from}
@@ -28,10 +28,11 @@ use Rattle.segment_dump.specs.Counting.{AreCountable, CountsDump, IsNameless}
 use Rattle.segment_dump.specs.Items.{Item, portable}
 use Rattle.segment_dump.specs.Need.{items_needs}
 use Rattle.segment_dump.specs.Texts.{dump_text}
-use Rattle.segment_dump.specs.Loading.{HasLongText, HasNoSpace, HasObjectsOf, HasSize, IsAsked, IsBack, IsJudged, IsLack, IsLetGo, IsLoaded, IsNotLoaded, IsWhyNot, IsWrong, asked_of, load_error}
+use Rattle.segment_dump.specs.Loading.{HasLongText, HasNoSpace, HasObjectsOf, HasSize, IsAsked, IsBack, IsExact, IsJudged, IsLetGo, IsLoaded, IsMade, IsNotLoaded, IsRefusalOf, IsWhyNot, IsWrong, asked_of, cause_but_bad, cause_in, load_error, refusal_for}
 use Rattle.segment_dump.proofs.Elements.{free-is, size-is}
 use Rattle.segment_dump.proofs.ItemLines.{IsGoodItem}
 use Rattle.segment_dump.proofs.ObjectRooms.{segments-have-room}
+use Rattle.segment_dump.proofs.Sums.{never-some, some-same}
 use Rattle.segment_dump.proofs.Told.{dumps-tell-objects, portable-told}
 
 module _ (s : State) (n m : ℕ) (says : (d : Directory) → StandsFor s.cut.bytes d → Number n ≡ (step s.mode d asked.Size).0) where
@@ -132,14 +133,113 @@ no-space text size count h lack =
 long-text : (text : List ℕ) (room : ℕ) (count : Count) → CountsDump text (Ok count) → room < count.needs.longest → HasLongText text room
 long-text text room count h lack = record { longer = λ b d n s l e. subst (λ (c : Count). room < c.needs.longest) (counted-is text count b d n h s l e) lack }
 
-lack-why : (text region : List ℕ) (base : ℕ) (size : Option ℕ) (room : ℕ) (count : Count) (cause : LoadError) → CountsDump text (Ok count) → IsLack size room cause count → IsWhyNot text region base size room cause
-lack-why text region base size room count (Bad bad) h l = absurd l
-lack-why text region base size room count BadSize h l = absurd l
-lack-why text region base size room count RegionTooSmall h l = absurd l
-lack-why text region base size room count NoSpace h l = no-space text size count h l
-lack-why text region base size room count LongText h l = long-text text room count h l
+asked-is : (size : Option ℕ) (said : ℕ) → IsAsked size (asked_of size said)
+asked-is None said = tt
+asked-is (Some size) said = refl
 
-pub lacks : (text region : List ℕ) (base : ℕ) (size : Option ℕ) (room : ℕ) (counted : Result Count ℕ) (cause : LoadError) → CountsDump text counted → MatchResult counted (IsLack size room cause) (λ left. ⊥)
+-- a size of segments, and a region that is long enough
+abbrev Lacks : List ℕ → List ℕ → ℕ → Option ℕ → ℕ → Count → Bool → Bool → Bool → Bool → LoadError → Type 0
+Lacks text region base size room count legal short full long cause =
+    (if not legal then Some BadSize else if short then Some RegionTooSmall else if full then Some NoSpace else if long then Some LongText else None) ≡ Some cause
+
+lacks-by : (text region : List ℕ) (base : ℕ) (size : Option ℕ) (room : ℕ) (count : Count) (legal short full long : Bool) (cause : LoadError) → CountsDump text (Ok count) → is_legal_size (asked_of size count.size) ≡ legal
+    → nat_lt (length region) (base + asked_of size count.size) ≡ short → nat_lt (asked_of size count.size) count.needs.room ≡ full → nat_lt room count.needs.longest ≡ long → Lacks text region base size room count legal short full long cause
     → IsWhyNot text region base size room cause
-lacks text region base size room (Ok count) cause h l = lack-why text region base size room count cause h l
-lacks text region base size room (Err left) cause h l = absurd l
+lacks-by text region base size room count false short full long cause h e f g k l =
+    subst (IsWhyNot text region base size room) (some-same BadSize cause l) (asked_of size count.size, asked-is size count.size, e)
+lacks-by text region base size room count true true full long cause h e f g k l =
+    subst (IsWhyNot text region base size room) (some-same RegionTooSmall cause l) (asked_of size count.size, asked-is size count.size, e, ltb-true (length region) (base + asked_of size count.size) f)
+lacks-by text region base size room count true false true long cause h e f g k l =
+    subst (IsWhyNot text region base size room) (some-same NoSpace cause l) (no-space text size count h (ltb-true (asked_of size count.size) count.needs.room g))
+lacks-by text region base size room count true false false true cause h e f g k l =
+    subst (IsWhyNot text region base size room) (some-same LongText cause l) (long-text text room count h (ltb-true room count.needs.longest k))
+lacks-by text region base size room count true false false false cause h e f g k l = absurd (never-some cause l)
+
+lacks-count : (text region : List ℕ) (base : ℕ) (size : Option ℕ) (room : ℕ) (count : Count) (cause : LoadError) → CountsDump text (Ok count) → refusal_for (length region) base size room count ≡ Some cause → IsWhyNot text region base size room cause
+lacks-count text region base size room count cause h e =
+    let wanted = asked_of size count.size in
+    lacks-by text region base size room count (is_legal_size wanted) (nat_lt (length region) (base + wanted)) (nat_lt wanted count.needs.room) (nat_lt room count.needs.longest) cause h refl refl refl refl e
+
+pub lacks : (text region : List ℕ) (base : ℕ) (size : Option ℕ) (room : ℕ) (counted : Result Count ℕ) (o : Option LoadError) (cause : LoadError) → CountsDump text counted → IsRefusalOf (length region) base size room counted o → o ≡ Some cause
+    → IsWhyNot text region base size room cause
+lacks text region base size room (Ok count) o cause h r e = lacks-count text region base size room count cause h (sym r ∙ e)
+lacks text region base size room (Err left) o cause h r e = absurd (never-some cause (sym r ∙ e))
+
+-- ---- exactly
+
+-- the text is wrong: that is no other reason
+pub wrong-bad : (text : List ℕ) (cause : LoadError) → IsWrong text cause → cause_but_bad cause ≡ None
+wrong-bad text (Bad bad) h = refl
+wrong-bad text BadSize h = absurd h
+wrong-bad text RegionTooSmall h = absurd h
+wrong-bad text NoSpace h = absurd h
+wrong-bad text LongText h = absurd h
+
+pub made-wrong : (text : List ℕ) (capacity base : ℕ) (size : Option ℕ) (room : ℕ) (counted : Result Count ℕ) (cause : LoadError) → IsWrong text cause → IsMade capacity base size room counted (cause_but_bad cause)
+made-wrong text capacity base size room (Ok count) cause h = λ e. wrong-bad text cause h
+made-wrong text capacity base size room (Err left) cause h = tt
+
+pub made-judged : (text : List ℕ) (capacity base : ℕ) (size : Option ℕ) (room : ℕ) (counted : Result Count ℕ) (r : Result State LoadRefused) → MatchResult r (IsJudged text size) (IsLetGo text) → IsMade capacity base size room counted (cause_in r)
+made-judged text capacity base size room (Ok count) (Ok s) h = λ e. refl
+made-judged text capacity base size room (Ok count) (Err refused) h = λ e. wrong-bad text refused.cause h.why
+made-judged text capacity base size room (Err left) r h = tt
+
+-- nothing is lacking, and so a segment is created
+none-legal : (legal short full long : Bool) → (if not legal then Some BadSize else if short then Some RegionTooSmall else if full then Some NoSpace else if long then Some LongText else None) ≡ None → (legal ≡ true) × (short ≡ false)
+none-legal false short full long e = absurd (never-some BadSize (sym e))
+none-legal true true full long e = absurd (never-some RegionTooSmall (sym e))
+none-legal true false full long e = (refl, refl)
+
+created-by : (region : List ℕ) (base n : ℕ) (cause : CreateError) → is_legal_size n ≡ true → nat_lt (length region) (base + n) ≡ false → IsWhy region base n cause → ⊥
+created-by region base n create.BadSize l s h = false≢true (sym h ∙ l)
+created-by region base n create.RegionTooSmall l s h = omega (arith, h.1, ltb-false (length region) (base + n) s)
+
+pub made-created : (region : List ℕ) (base : ℕ) (size : Option ℕ) (room n said : ℕ) (counted : Result Count ℕ) (refused : CreateRefused) (cause : Option LoadError) → IfOk counted (λ (count : Count). said ≡ count.size) → n ≡ asked_of size said
+    → IsNotCreated region base n refused → IsMade (length region) base size room counted cause
+made-created region base size room n said (Err left) refused cause s e h = tt
+made-created region base size room n said (Ok count) refused cause s e h = λ f.
+    let wanted = asked_of size count.size in
+    let p = none-legal (is_legal_size wanted) (nat_lt (length region) (base + wanted)) (nat_lt wanted count.needs.room) (nat_lt room count.needs.longest) f in
+    let is : n ≡ wanted = e ∙ ap (asked_of size) s in
+    absurd (created-by region base wanted refused.cause p.0 p.1 (subst (λ m. IsWhy region base m refused.cause) is h.why))
+
+-- a reason that is none of the text
+but-bad : (legal short full long : Bool) (cause : LoadError) → (if not legal then Some BadSize else if short then Some RegionTooSmall else if full then Some NoSpace else if long then Some LongText else None) ≡ Some cause → cause_but_bad cause ≡ Some cause
+but-bad false short full long cause e = subst (λ c. cause_but_bad c ≡ Some c) (some-same BadSize cause e) refl
+but-bad true true full long cause e = subst (λ c. cause_but_bad c ≡ Some c) (some-same RegionTooSmall cause e) refl
+but-bad true false true long cause e = subst (λ c. cause_but_bad c ≡ Some c) (some-same NoSpace cause e) refl
+but-bad true false false true cause e = subst (λ c. cause_but_bad c ≡ Some c) (some-same LongText cause e) refl
+but-bad true false false false cause e = absurd (never-some cause e)
+
+never-counted : (left : ℕ) (count : Count) → ◌≡◌ {A = Result Count ℕ} (Err left) (Ok count) → ⊥
+never-counted left count e = cc
+
+exact-count : (text : List ℕ) (capacity base : ℕ) (size : Option ℕ) (room : ℕ) (count : Count) (cause : LoadError) → CountsDump text (Ok count) → refusal_for capacity base size room count ≡ Some cause
+    → IsExact text capacity base size room (cause_but_bad cause)
+exact-count text capacity base size room count cause h e = record {
+  exact = λ b d n s l w.
+      let wanted = asked_of size count.size in
+      but-bad (is_legal_size wanted) (nat_lt capacity (base + wanted)) (nat_lt wanted count.needs.room) (nat_lt room count.needs.longest) cause e ∙ sym e ∙ ap (refusal_for capacity base size room) (counted-is text count b d n h s l w);
+}
+
+exact-counted : (text : List ℕ) (capacity base : ℕ) (size : Option ℕ) (room : ℕ) (counted : Result Count ℕ) (cause : Option LoadError) → CountsDump text counted → IfOk counted (λ (count : Count). refusal_for capacity base size room count ≡ None)
+    → IsMade capacity base size room counted cause → (b : List ℕ) (d : Directory) (n : ℕ) → StandsFor b d → n < 2 ^ 64 → text ≡ dump_text n (portable d) → cause ≡ refusal_for capacity base size room (record { size = n; needs = items_needs (portable d) })
+exact-counted text capacity base size room (Ok count) cause h z m b d n s l w = m z ∙ sym z ∙ ap (refusal_for capacity base size room) (counted-is text count b d n h s l w)
+exact-counted text capacity base size room (Err left) cause h z m b d n s l w = absurd (never-counted left _ (h.counts n (portable d) l (portable-countable b d s) w))
+
+exact-made : (text : List ℕ) (capacity base : ℕ) (size : Option ℕ) (room : ℕ) (counted : Result Count ℕ) (cause : Option LoadError) → CountsDump text counted → IfOk counted (λ (count : Count). refusal_for capacity base size room count ≡ None)
+    → IsMade capacity base size room counted cause → IsExact text capacity base size room cause
+exact-made text capacity base size room counted cause h z m = record { exact = exact-counted text capacity base size room counted cause h z m }
+
+pub exact-refused : (text : List ℕ) (capacity base : ℕ) (size : Option ℕ) (room : ℕ) (counted : Result Count ℕ) (o : Option LoadError) (cause : LoadError) → CountsDump text counted → IsRefusalOf capacity base size room counted o → o ≡ Some cause
+    → IsExact text capacity base size room (cause_but_bad cause)
+exact-refused text capacity base size room (Ok count) o cause h r e = exact-count text capacity base size room count cause h (sym r ∙ e)
+exact-refused text capacity base size room (Err left) o cause h r e = absurd (never-some cause (sym r ∙ e))
+
+none-lacking : (capacity base : ℕ) (size : Option ℕ) (room : ℕ) (counted : Result Count ℕ) (o : Option LoadError) → IsRefusalOf capacity base size room counted o → o ≡ None → IfOk counted (λ (count : Count). refusal_for capacity base size room count ≡ None)
+none-lacking capacity base size room (Ok count) o r e = sym r ∙ e
+none-lacking capacity base size room (Err left) o r e = tt
+
+pub exact-done : (text : List ℕ) (capacity base : ℕ) (size : Option ℕ) (room : ℕ) (counted : Result Count ℕ) (o cause : Option LoadError) → CountsDump text counted → IsRefusalOf capacity base size room counted o → o ≡ None
+    → IsMade capacity base size room counted cause → IsExact text capacity base size room cause
+exact-done text capacity base size room counted o cause h r e m = exact-made text capacity base size room counted cause h (none-lacking capacity base size room counted o r e) m

@@ -1,5 +1,5 @@
 -- What loading a dump owes.
-use Rattle.std.specs.Prelude.{◌≡◌, ◌+◌, ◌^◌, ◌<◌, ◌≤◌, ⊤, ℕ, false, Option, Some, None, List, length, take, IsTrue}
+use Rattle.std.specs.Prelude.{◌≡◌, ◌+◌, ◌^◌, ◌<◌, ◌≤◌, ⊤, ℕ, false, Option, Some, None, Result, Ok, Err, List, length, take, IsTrue, not, nat_lt, if◌then◌else◌}
 use Rattle.block_tags.specs.Format.{is_legal_size}
 use Rattle.best_fit.specs.Extents.{free_bytes}
 use Rattle.segment_manager.specs.declared.errors.CreateError.{CreateError}
@@ -82,13 +82,42 @@ IsWrong text RegionTooSmall = ⊥
 IsWrong text NoSpace = ⊥
 IsWrong text LongText = ⊥
 
--- what is counted is too much for the size, or for the room
-abbrev pub IsLack : Option ℕ → ℕ → LoadError → Count → Type 0
-IsLack size room (Bad bad) count = ⊥
-IsLack size room BadSize count = ⊥
-IsLack size room RegionTooSmall count = ⊥
-IsLack size room NoSpace count = asked_of size count.size < count.needs.room
-IsLack size room LongText count = room < count.needs.longest
+-- why no segment is begun for the objects of a dump, if anything is lacking
+abbrev pub refusal_for : ℕ → ℕ → Option ℕ → ℕ → Count → Option LoadError
+refusal_for capacity base size room count =
+    let asked = asked_of size count.size in
+    if not (is_legal_size asked) then Some BadSize
+    else if nat_lt capacity (base + asked) then Some RegionTooSmall
+    else if nat_lt asked count.needs.room then Some NoSpace
+    else if nat_lt room count.needs.longest then Some LongText
+    else None
+
+-- the same where they were counted
+abbrev pub IsRefusalOf : ℕ → ℕ → Option ℕ → ℕ → Result Count ℕ → Option LoadError → Type 0
+IsRefusalOf capacity base size room (Ok count) cause = cause ≡ refusal_for capacity base size room count
+IsRefusalOf capacity base size room (Err left) cause = cause ≡ None
+
+-- why a load is refused, but for a place of the text
+abbrev pub cause_but_bad : LoadError → Option LoadError
+cause_but_bad (Bad bad) = None
+cause_but_bad BadSize = Some BadSize
+cause_but_bad RegionTooSmall = Some RegionTooSmall
+cause_but_bad NoSpace = Some NoSpace
+cause_but_bad LongText = Some LongText
+
+abbrev pub cause_in : Result State LoadRefused → Option LoadError
+cause_in (Ok s) = None
+cause_in (Err refused) = cause_but_bad refused.cause
+
+-- Whatever segment the text is the dump of, but for a place of the text a load is refused exactly where something is lacking for
+-- its objects, and for that.
+pub record IsExact (text : List ℕ) (capacity base : ℕ) (size : Option ℕ) (room : ℕ) (cause : Option LoadError) : Type 0 where
+  pub exact : (b : List ℕ) (d : Directory) (n : ℕ) → StandsFor b d → n < 2 ^ 64 → text ≡ dump_text n (portable d) → cause ≡ refusal_for capacity base size room (record { size = n; needs = items_needs (portable d) })
+
+-- where nothing is lacking, only a place of the text is a reason
+abbrev pub IsMade : ℕ → ℕ → Option ℕ → ℕ → Result Count ℕ → Option LoadError → Type 0
+IsMade capacity base size room (Ok count) cause = refusal_for capacity base size room count ≡ None → cause ≡ None
+IsMade capacity base size room (Err left) cause = ⊤
 
 -- the region comes back as it was, if it does
 abbrev pub IsBack : List ℕ → Option (List ℕ) → Type 0

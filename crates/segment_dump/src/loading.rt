@@ -1,9 +1,9 @@
 //! A segment made of a dump. What the lines ask for is done, and then the segment is compared with the whole text, so that no
 //! line needs to be believed.
-ghost use Rattle.std.specs.Prelude.{◌≡◌, ◌%◌, length, IfSome, MatchResult, Some, None};
+ghost use Rattle.std.specs.Prelude.{◌≡◌, ◌%◌, length, IfOk, MatchResult, Some, None};
 ghost use Rattle.std.specs.Bool.{OnTrue};
 ghost use Rattle.segment_manager.specs.declared.modes.Mode.TheVariants.{Write};
-ghost use Rattle.segment_dump.specs.Loading.{HasSize, IsAsked, IsJudged, IsLack, IsLetGo, IsLoaded, IsNotLoaded, IsWrong, asked_of, load_error};
+ghost use Rattle.segment_dump.specs.Loading.{HasSize, IsAsked, IsExact, IsJudged, IsLetGo, IsLoaded, IsMade, IsNotLoaded, IsRefusalOf, IsWrong, asked_of, cause_in, load_error, refusal_for};
 
 use crate::building::{Stop, build, stop_of};
 use crate::comparing::compare;
@@ -35,7 +35,31 @@ pub fn load(
     size: Option<u64>,
 ) -> Result<Segment, LoadRefused>
     requires aligned { base % 16 ≡ 0 }
-    ensures { MatchResult result (IsLoaded text.now size) (IsNotLoaded text.now region base size (length room.old)) }
+    ensures done { MatchResult result (IsLoaded text.now size) (IsNotLoaded text.now region base size (length room.old)) }
+    ensures exact { IsExact text.now (length region) base size (length room.old) (cause_in result) }
+{
+    let counted = count_dump(text);
+    if let Some(cause) = refusal_of(counted, &region, base, size, room.len()) {
+        return Err(LoadRefused {
+            region: Some(region),
+            cause,
+        });
+    }
+    make(text, counted, room, region, base, size)
+}
+
+/// Makes the segment of a dump of which this was counted, where nothing is lacking for it.
+fn make(
+    text: &[u8],
+    counted: Result<Count, usize>,
+    room: &mut [u8],
+    region: RawRegion,
+    base: u64,
+    size: Option<u64>,
+) -> Result<Segment, LoadRefused>
+    requires aligned { base % 16 ≡ 0 }
+    ensures done { MatchResult result (IsLoaded text.now size) (IsNotLoaded text.now region base size (length room.old)) }
+    ensures exact { IsMade (length region) base size (length room.old) counted (cause_in result) }
 {
     let mut lines = Lines::new(text);
     let front = match read_front(&mut lines) {
@@ -47,16 +71,7 @@ pub fn load(
             });
         }
     };
-    let asked = asked_size(size, front.size);
-    let counted = count_dump(text);
-    if is_legal_size(asked) && region.in_range(base, asked) {
-        if let Some(cause) = lack(counted, size, room.len()) {
-            return Err(LoadRefused {
-                region: Some(region),
-                cause,
-            });
-        }
-    }
+    let asked = asked_size(size, said_size(counted, front.size));
     let mut segment = match Segment::create(region, base, asked, Mode::Write) {
         Ok(segment) => segment,
         Err(refused) => return Err(not_created(refused)),
@@ -65,6 +80,16 @@ pub fn load(
         return Err(let_go(cause_of(text, stop, counted)));
     }
     judge(segment, text, front.size, size)
+}
+
+/// The size that was counted with a dump, or else this.
+fn said_size(counted: Result<Count, usize>, said: u64) -> u64
+    ensures { IfOk counted (λ count. result ≡ count.size) }
+{
+    match counted {
+        Ok(count) => count.size,
+        Err(_) => said,
+    }
 }
 
 /// What the first three lines say.
@@ -101,20 +126,47 @@ fn asked_size(size: Option<u64>, said: u64) -> u64
     }
 }
 
-/// What there is too little of for the objects of a dump, if anything: of the size, or of the room for a text.
-fn lack(counted: Result<Count, usize>, size: Option<u64>, room: usize) -> Option<LoadError>
-    ensures { IfSome result (λ cause. MatchResult counted (IsLack size room cause) (λ left. ⊥)) }
+/// Why no segment is begun for the objects of a dump, if anything is lacking: a size that segments have, a region that is long
+/// enough, a size that is, or the room for a text.
+fn refusal_for(
+    count: Count,
+    region: &RawRegion,
+    base: u64,
+    size: Option<u64>,
+    room: usize,
+) -> Option<LoadError>
+    ensures { result ≡ refusal_for (length region.now) base size room count }
 {
-    let Ok(count) = counted else {
-        return None;
-    };
-    if asked_size(size, count.size) < count.needs.room {
+    let asked = asked_size(size, count.size);
+    if !is_legal_size(asked) {
+        return Some(LoadError::BadSize);
+    }
+    if !region.in_range(base, asked) {
+        return Some(LoadError::RegionTooSmall);
+    }
+    if asked < count.needs.room {
         return Some(LoadError::NoSpace);
     }
     if (room as u64) < count.needs.longest {
         return Some(LoadError::LongText);
     }
     None
+}
+
+/// The same where the objects were counted.
+fn refusal_of(
+    counted: Result<Count, usize>,
+    region: &RawRegion,
+    base: u64,
+    size: Option<u64>,
+    room: usize,
+) -> Option<LoadError>
+    ensures { IsRefusalOf (length region.now) base size room counted result }
+{
+    match counted {
+        Ok(count) => refusal_for(count, region, base, size, room),
+        Err(_) => None,
+    }
 }
 
 /// No segment is created.

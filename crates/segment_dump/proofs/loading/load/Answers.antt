@@ -1,15 +1,19 @@
 use Rattle.std.proofs.Common.{length, refl}
-use Rattle.segment_dump.proofs.Judged.{judged, lacks, wrong-why}
+use Rattle.segment_dump.specs.Loading.{cause_in}
+use Rattle.segment_dump.proofs.Judged.{exact-done, exact-refused, lacks}
 use Rattle.segment_dump.proofs.loading.load.Goals as goal
 
-pub returns-in-Err : goal.returns-in-Err
-returns-in-Err c = record { why = wrong-why c.args.text.now c.args.region c.args.base c.args.size (length c.args.room.now) _ c.bad_dump.ensures; back = refl }
-
-pub returns-in-Some : goal.returns-in-Some
-returns-in-Some c = record {
-  why = lacks c.args.text.now c.args.region c.args.base c.args.size (length c.args.room.now) c.count_dump-counted.result c.in-Some.cause c.count_dump-counted.ensures c.in-Some.ensures;
+pub returns-in-Some-clause-done : goal.returns-in-Some-clause-done
+returns-in-Some-clause-done c = record {
+  why = lacks c.args.text.now c.args.region c.args.base c.args.size (length c.args.room.now) c.count_dump-counted.result c.refusal_of.result c.in-Some.cause c.count_dump-counted.ensures c.refusal_of.ensures c.in-Some.is;
   back = refl;
 }
 
-pub returns : goal.returns
-returns c = judged c.args.text.now c.args.region c.args.base c.args.size (length c.args.room.now) c.judge.result c.judge.ensures
+pub returns-in-Some-clause-exact : goal.returns-in-Some-clause-exact
+returns-in-Some-clause-exact c =
+    exact-refused c.args.text.now (length c.args.region) c.args.base c.args.size (length c.args.room.now) c.count_dump-counted.result c.refusal_of.result c.in-Some.cause c.count_dump-counted.ensures c.refusal_of.ensures c.in-Some.is
+
+pub returns-clause-exact : goal.returns-clause-exact
+returns-clause-exact c =
+    exact-done c.args.text.now (length c.args.region) c.args.base c.args.size (length c.args.room.now) c.count_dump-counted.result c.refusal_of.result (cause_in c.make.result) c.count_dump-counted.ensures c.refusal_of.ensures
+    c.in_default.is c.make.ensures.exact

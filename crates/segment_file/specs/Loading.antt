@@ -59,12 +59,14 @@ abbrev pub HasRoomFor : Option ℕ → List ℕ → Type 0
 HasRoomFor None region = ⊤
 HasRoomFor (Some size) region = min size 1073741824 ≤ length region
 
--- a load in a region with room for the size was refused
+-- a load in a region with room for the size, and with room for each text, was refused
 pub record IsLoadRefused (text : List ℕ) (size : Option ℕ) (fault : ProgramFault) : Type 0 where
   pub region : List ℕ
   pub roomy : HasRoomFor size region
+  pub room : ℕ
+  pub wide : min (length text) 1073741824 ≤ room
   pub cause : LoadError
-  pub why : IsWhyNot text region 0 size cause
+  pub why : IsWhyNot text region 0 size room cause
   pub fault_is : fault ≡ load_fault cause
 
 -- the text is the dump of the segment, or there is none: for a reason of the load, or since memory was refused

@@ -1,5 +1,5 @@
 -- What is said of an image is said of the bytes that were read, which have its class.
-use Rattle.std.proofs.Common.{◌≡◌, inl, inr, List, ℕ, [], Some, Result, Ok, Err, refl, subst, ◌∙◌, sym}
+use Rattle.std.proofs.Common.{◌≡◌, ℕ, true, inl, inr, List, [], Some, Result, Ok, Err, refl, subst}
 use Rattle.std.proofs.lemmas.List.{append-nil}
 use Rattle.raw_region.specs.Device.{Gave, Given, given_since}
 use Rattle.raw_region.specs.Format.{current}
@@ -21,7 +21,7 @@ use Rattle.segment_file.specs.Explaining.{ExplainsFile, IsExplained, IsExplained
 -- ---- the class of an image that is refused
 
 decided : (image : Given) (class : ImageClass) → IsRefusedAs current image class → class_of current image.bytes ≡ Some class
-decided image class r = elim r.right [ inl e ↦ e.1 | inr d ↦ subst (λ (b : List ℕ). class_of current b ≡ Some class) (append-nil image.bytes) (d [] tt) ]
+decided image class r = elim r.right [ inl e ↦ e.1 | inr d ↦ subst (λ (b : List ℕ). class_of current b ≡ Some class) (append-nil image.bytes) (d [] refl) ]
 
 is_no_memory : (class : ImageClass) → let answer : Result State SessionFault = Err (Refused class) in answer ≡ Err OutOfMemory → ⊥
 is_no_memory class e = cc
@@ -34,9 +34,6 @@ class_known image class (inr b) = decided image class b.starts.answers.1
 
 module _ {D : Type 0} (step : D → Event → D → Type 0) (old mid new : D) (path : List ℕ) (gave : Gave) (opened : step old (Opened path true) mid)
     (closed : step mid (Read (given_since nothing_given gave)) new) (begun : Result State SessionFault) (begins : BeginsIn OfImage ReadOnly (given_since nothing_given gave) begun) where
-  image : Given
-  image = given_since nothing_given gave
-
   asked : After step old (opens path (given_since nothing_given gave)) new
   asked = (mid, opened, (new, closed, refl))
 

@@ -6,6 +6,5 @@ mod Commanded
 mod Enlarged
 mod CutFiles
 mod Linted
-mod Reported
 mod Explained
-mod Loaded
+mod Reported

@@ -1,5 +1,5 @@
 use Rattle.std.proofs.Common.{rules, inr}
-use Rattle.segment_file.proofs.Commanded.{written_whole, not_written, same_fault}
+use Rattle.segment_file.proofs.Commanded.{written_whole}
 use Rattle.segment_file.proofs.loading.load.Goals as goal
 
 pub returns-in-Ok-write_image : goal.returns-in-Ok-write_image

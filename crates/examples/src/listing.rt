@@ -23,6 +23,15 @@ fn tell_the_first(rt: &HostRuntime, segment: &Segment) -> Result<()> {
     Ok(())
 }
 
+/// Tells all names, in the order of their bytes.
+fn tell_the_names(rt: &HostRuntime, segment: &Segment) -> Result<()> {
+    for name in segment.names() {
+        let name = str::from_utf8(name)?;
+        println!(rt; "a list: the name {name}")?;
+    }
+    Ok(())
+}
+
 /// Tells of all objects, those without a key too.
 fn tell_of_all(rt: &HostRuntime, segment: &Segment) -> Result<()> {
     for said in segment.objects() {
@@ -40,6 +49,7 @@ pub fn list_a_segment(rt: &HostRuntime) -> Result<()> {
     let mut file = SegmentFile::create(rt.alloc(), &mut disk, "listed.seg", 1024)?;
     let handle = fill(&mut file.segment, &named("width")?)?;
     tell_the_first(rt, &file.segment)?;
+    tell_the_names(rt, &file.segment)?;
     tell_of_all(rt, &file.segment)?;
     let (known, len) = (
         file.segment.belongs(handle),

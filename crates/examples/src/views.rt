@@ -33,11 +33,9 @@ fn change_an_array(segment: &mut Segment, name: &Name) -> Result<u8, Refusal> {
     let mut flags = ArrayView::<u8>::of(segment, name)?;
     flags.copy_from(&[1, 8])?;
     flags.set(1, 9)?;
-    let mut greatest = flags.get(0)?;
-    for flag in flags.iter() {
-        greatest = greatest.max(flag);
-    }
-    Ok(greatest)
+    let mut both = [0u8; 2];
+    flags.copy_to(&mut both)?;
+    Ok(both[0].max(both[1]))
 }
 
 /// Puts a year for each of three numbers into a map, and erases one.
@@ -50,12 +48,29 @@ fn note_years(years: &mut MapView<'_, i32, i64>) -> Result<(), Refusal> {
     Ok(())
 }
 
-/// Keeps years, and looks for the first from a number on and for one behind the last.
-fn look_into_a_map(segment: &mut Segment, name: &Name) -> Result<[Option<(i32, i64)>; 2], Refusal> {
+/// Adds up the years of the numbers from 2 to 9.
+fn add_up_years(years: &MapView<'_, i32, i64>) -> i64 {
+    let mut sum = 0i64;
+    for (_number, year) in years.range(2..=9) {
+        sum = sum.saturating_add(year);
+    }
+    sum
+}
+
+/// Keeps years, and looks for the first of all and for one behind the number 3.
+fn look_into_a_map(segment: &mut Segment, name: &Name) -> Result<([Option<(i32, i64)>; 2], i64)> {
     segment.construct_map::<i32, i64, _>(name)?;
     let mut years = MapView::<i32, i64>::of(segment, name)?;
     note_years(&mut years)?;
-    Ok([years.first_from(1)?, years.next_after(3)?])
+    Ok(([years.first()?, years.next_after(3)?], add_up_years(&years)))
+}
+
+/// Tells the last two years, the later one first.
+fn tell_the_last(rt: &HostRuntime, years: &MapView<'_, i32, i64>) -> Result<()> {
+    for (number, year) in years.range(..=9).rev().take(2) {
+        println!(rt; "views: going back, number {number} is of {year}")?;
+    }
+    Ok(())
 }
 
 /// Keeps a text, and puts more behind it.
@@ -89,9 +104,9 @@ fn view_numbers(rt: &HostRuntime, segment: &mut Segment) -> Result<()> {
     let (sum, len, last) = take_of_a_queue(segment, &named("queue")?)?;
     println!(rt; "views: a queue of {len} with the sum {sum}, the last is {last}")?;
     let flag = change_an_array(segment, &named("flags")?)?;
-    let years = look_into_a_map(segment, &named("years")?)?;
-    println!(rt; "views: a flag {flag}, and in the map {years:?}")?;
-    Ok(())
+    let (years, sum) = look_into_a_map(segment, &named("years")?)?;
+    println!(rt; "views: a flag {flag}, in the map {years:?}, and {sum} in all")?;
+    tell_the_last(rt, &MapView::of(segment, &named("years")?)?)
 }
 
 /// Goes through an object of each sort.

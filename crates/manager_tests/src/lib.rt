@@ -1,5 +1,5 @@
-//! Tests of objects in segments, of regions and of the check of images, by public calls that no script makes. What
-//! scripts and images say is in the row files of `rows`.
+//! Tests of objects in segments and of their views, of regions and of the check of images, by public calls that no script
+//! makes. What scripts and images say is in the row files of `rows`.
 #![tactic(auto)]
 
 #[cfg(test)]
@@ -30,3 +30,5 @@ mod regions;
 mod resizing_tests;
 #[cfg(test)]
 mod segments;
+#[cfg(test)]
+mod view_tests;

@@ -39,6 +39,24 @@ fn stands(
     same(rt, bench.segment.map_next_after(&map, key), Ok(above));
 }
 
+/// The pair of the map `m` up to a key, and the one below the key.
+fn stands_back(
+    rt: &impl Abort,
+    bench: &Bench,
+    key: i64,
+    up_to: Option<(i64, u8)>,
+    below: Option<(i64, u8)>,
+) {
+    let map = named(rt, b"m");
+    same(rt, bench.segment.map_last_up_to(&map, key), Ok(up_to));
+    same(rt, bench.segment.map_previous_before(&map, key), Ok(below));
+}
+
+/// The last pair of the map `m`.
+fn ends(rt: &impl Abort, bench: &Bench, last: Option<(i64, u8)>) {
+    same(rt, bench.segment.map_last(&named(rt, b"m")), Ok(last));
+}
+
 /// A segment with the map `m`.
 fn with_map(rt: &impl Abort, bench: &mut Bench) {
     let made = bench
@@ -75,6 +93,23 @@ fn pairs_rise(rt: HostRuntime) {
     stands(&rt, &bench, 5, Some((6, 60)), Some((6, 60)));
     stands(&rt, &bench, 6, Some((6, 60)), None);
     stands(&rt, &bench, 7, None, None);
+}
+
+#[test]
+fn pairs_fall(rt: HostRuntime) {
+    let mut bench = fresh(&rt, rt.alloc(), 1024);
+    with_map(&rt, &mut bench);
+    ends(&rt, &bench, None);
+    stands_back(&rt, &bench, i64::MAX, None, None);
+    puts(&rt, &mut bench, 6, 60, true);
+    puts(&rt, &mut bench, -2, 20, true);
+    puts(&rt, &mut bench, 4, 40, true);
+    ends(&rt, &bench, Some((6, 60)));
+    stands_back(&rt, &bench, i64::MAX, Some((6, 60)), Some((6, 60)));
+    stands_back(&rt, &bench, 6, Some((6, 60)), Some((4, 40)));
+    stands_back(&rt, &bench, 5, Some((4, 40)), Some((4, 40)));
+    stands_back(&rt, &bench, -2, Some((-2, 20)), None);
+    stands_back(&rt, &bench, -3, None, None);
 }
 
 #[test]

@@ -1,17 +1,18 @@
 -- The pairs between two bounds of a list whose keys rise: the first of them and those behind it, the last and those before it.
-use Rattle.std.proofs.Common.{◌≡◌, refl, sym, ap, subst, ◌∙◌, ℕ, ◌≤◌, ℤ, Bool, true, false, ◌&&◌, not, Option, Some, None, List, [], ◌∷◌, ◌++◌, filter, length, map, arith, if◌then◌else◌}
+use Rattle.std.proofs.Common.{◌≡◌, refl, sym, ap, subst, ◌∙◌, ◌≤◌, ℤ, Bool, true, false, ◌&&◌, not, Option, Some, None, List, [], ◌∷◌, ◌++◌, filter, length, map, arith, if◌then◌else◌}
 use Rattle.std.specs.Prelude.{find, int_le, int_lt, option_map, reverse, slice_get}
 use Rattle.std.proofs.lemmas.List.{reverse-append, reverse-reverse}
 use Rattle.std.proofs.lemmas.List.Elements.{filter-append}
 use Rattle.std.proofs.lemmas.Option.{same_Some}
+use Rattle.std.specs.List.{last_or}
 use Rattle.std.specs.declared.ops.Bound.{Bound}
 use Rattle.std.specs.declared.ops.Bound.TheVariants.{Included, Excluded, Unbounded}
 use Rattle.seg_map.specs.Map.{is_rising}
 use Rattle.seg_map.specs.Numbers.{NumberPair}
 use Rattle.seg_map.specs.Places.{item_of}
-use Rattle.segment_manager.specs.Maps.{pair_above, pair_from}
+use Rattle.segment_manager.specs.Maps.{pair_above, pair_at_end, pair_below, pair_from, pair_up_to}
 use Rattle.segment_manager.specs.Walks.{first_of}
-use Rattle.segment_views.specs.Ranged.{is_between, is_from, is_up_to, range_of}
+use Rattle.segment_views.specs.Ranged.{is_between, is_from, is_up_to, last_between, range_of}
 
 -- ---- truths
 
@@ -232,10 +233,6 @@ range-within start end ps r = admits int_lt lesser (is_between start end) (is_be
 
 -- ---- the last pair between bounds, and the others
 
--- the last between two bounds
-abbrev pub last_between : Bound ℤ → Bound ℤ → List NumberPair → Option (ℤ × ℤ)
-last_between start end ps = slice_get (range_of start end (reverse ps)) 0
-
 ends-reversed : (start end : Bound ℤ) (ps : List NumberPair) (x y : ℤ) → is_rising int_gt ps ≡ true → slice_get (range_of start end ps) 0 ≡ Some (x, y)
     → range_of start end ps ≡ (x, y) ∷ range_of start (Excluded x) ps
 ends-reversed start end ps x y r e =
@@ -296,6 +293,32 @@ above-ranged a ps = found-first (λ p. not (not (int_lt a p.key))) (is_between (
 pub all-ranged : (ps : List NumberPair) → option_map item_of (first_of ps) ≡ slice_get (range_of Unbounded Unbounded ps) 0
 all-ranged [] = refl
 all-ranged (p ∷ ps) = refl
+
+pub up_to-ranged : (a : ℤ) (ps : List NumberPair) → pair_up_to a ps ≡ last_between Unbounded (Included a) ps
+up_to-ranged a ps = found-first (λ p. not (int_lt a p.key)) (is_between Unbounded (Included a)) (λ p. not-below p.key a) (reverse ps)
+
+pub below-ranged : (a : ℤ) (ps : List NumberPair) → pair_below a ps ≡ last_between Unbounded (Excluded a) ps
+below-ranged a ps = found-first (λ p. int_lt p.key a) (is_between Unbounded (Excluded a)) (λ p. refl) (reverse ps)
+
+-- the last of all is the first from the other end
+abbrev first_or : Option NumberPair → List NumberPair → Option NumberPair
+first_or o [] = o
+first_or o (p ∷ ps) = Some p
+
+first_or-on : (o : Option NumberPair) (ps : List NumberPair) (p : NumberPair) → first_or o (ps ++ p ∷ []) ≡ first_or (Some p) ps
+first_or-on o [] p = refl
+first_or-on o (q ∷ qs) p = refl
+
+first_or-none : (ps : List NumberPair) → first_or None ps ≡ first_of ps
+first_or-none [] = refl
+first_or-none (p ∷ ps) = refl
+
+last_or-reversed : (o : Option NumberPair) (ps : List NumberPair) → last_or o ps ≡ first_or o (reverse ps)
+last_or-reversed o [] = refl
+last_or-reversed o (p ∷ qs) = last_or-reversed (Some p) qs ∙ sym (first_or-on o (reverse qs) p) ∙ sym (ap (first_or o) (reverse-more p qs))
+
+pub end-ranged : (ps : List NumberPair) → pair_at_end ps ≡ last_between Unbounded Unbounded ps
+end-ranged ps = ap (option_map item_of) (last_or-reversed None ps ∙ first_or-none (reverse ps)) ∙ all-ranged (reverse ps)
 
 -- ---- how many
 

@@ -1,14 +1,14 @@
 -- What is read of a map says of the pairs between two bounds.
-use Rattle.std.proofs.Common.{◌≡◌, refl, sym, ap, subst, ◌∙◌, ℕ, suc, ◌+◌, ◌-◌, ◌<◌, ◌≤◌, ℤ, Bool, true, false, Option, Some, None, Result, Ok, Err, List, [], ◌∷◌, ◌++◌, length, arith, if◌then◌else◌}
-use Rattle.std.specs.Prelude.{MatchResult, int_lt, option_map, slice_get}
+use Rattle.std.proofs.Common.{◌≡◌, refl, sym, ap, ◌∙◌, ℕ, ◌-◌, ◌≤◌, ℤ, Bool, true, false, Option, Some, None, Result, Ok, Err, List, [], ◌∷◌, ◌++◌, length, arith, if◌then◌else◌}
+use Rattle.std.specs.Prelude.{MatchResult, option_map, slice_get}
+use Rattle.std.proofs.lemmas.List.{length-append}
 use Rattle.std.specs.declared.ops.Bound.{Bound}
-use Rattle.std.specs.declared.ops.Bound.TheVariants.{Included, Excluded, Unbounded}
+use Rattle.std.specs.declared.ops.Bound.TheVariants.{Excluded, Unbounded}
 use Rattle.seg_types.specs.declared.kinds.Kind.TheVariants.{Map as MapOf}
 use Rattle.seg_types.specs.declared.kinds.ScalarKind.{ScalarKind}
 use Rattle.seg_types.specs.declared.refusals.Refusal.{Refusal}
 use Rattle.seg_types.specs.Kinds.{lowest}
 use Rattle.seg_types.specs.Names.{Key}
-use Rattle.seg_map.specs.Map.{is_rising}
 use Rattle.seg_map.specs.Numbers.{NumberPair}
 use Rattle.seg_map.specs.Places.{item_of}
 use Rattle.segment_manager.specs.Directory.{Directory}
@@ -17,15 +17,15 @@ use Rattle.segment_manager.specs.Maps.{numbers_in, pair_from, pair_result, told_
 use Rattle.segment_manager.specs.State.{Answers, State, StandsFor}
 use Rattle.segment_manager.specs.Walks.{first_of, pairs_at_kinds}
 use Rattle.segment_manager.proofs.Laws.{map-least, map-length, map-rises, map-told}
-use Rattle.segment_views.specs.Ranged.{GoesOnPairs, PairWalk, TakesFirst, is_from, is_up_to, pair_or_none, pairs_left, range_of}
-use Rattle.segment_views.proofs.Between.{admitted, range-begins, range-empty, range-few, range-within}
+use Rattle.segment_views.specs.Ranged.{GoesBackPairs, GoesOnPairs, PairWalk, is_from, is_up_to, last_between, pair_or_none, pairs_left, range_of}
+use Rattle.segment_views.proofs.Between.{admitted, last-within, range-begins, range-empty, range-ends, range-few, range-none, range-within}
 
 -- a pair is admitted where its key is
-pub is-admitted : (end : Bound ℤ) (x y : ℤ) → is_up_to end x ≡ true → admitted (is_up_to end) (Some (x, y)) ≡ Some (x, y)
-is-admitted end x y e = ap (λ (b : Bool). let o : Option (ℤ × ℤ) = if b then Some (x, y) else None in o) e
+pub is-admitted : (far : ℤ → Bool) (x y : ℤ) → far x ≡ true → admitted far (Some (x, y)) ≡ Some (x, y)
+is-admitted far x y e = ap (λ (b : Bool). let o : Option (ℤ × ℤ) = if b then Some (x, y) else None in o) e
 
-pub not-admitted : (end : Bound ℤ) (x y : ℤ) → is_up_to end x ≡ false → admitted (is_up_to end) (Some (x, y)) ≡ None
-not-admitted end x y e = ap (λ (b : Bool). let o : Option (ℤ × ℤ) = if b then Some (x, y) else None in o) e
+pub not-admitted : (far : ℤ → Bool) (x y : ℤ) → far x ≡ false → admitted far (Some (x, y)) ≡ None
+not-admitted far x y e = ap (λ (b : Bool). let o : Option (ℤ × ℤ) = if b then Some (x, y) else None in o) e
 
 module _ (s : State) (key : Key) (k v : ScalarKind) where
   -- what is told of a map is told of the pairs that it has, and none are there where the reading is refused
@@ -53,6 +53,13 @@ module _ (s : State) (key : Key) (k v : ScalarKind) where
     answers = λ d h. ap (admitted (is_up_to end)) (a.answers d h) ∙ sym (range-within start end (pairs_at_kinds d key k v) (map-rises d key k v s.cut.bytes h.denotes));
   }
 
+  -- the last that the upper bound admits is the last between the bounds, if the lower one admits it
+  pub reads-within-back : (start end : Bound ℤ) (o : Option (ℤ × ℤ)) → Answers s (λ d. last_between Unbounded end (pairs_at_kinds d key k v)) o
+      → Answers s (λ d. last_between start end (pairs_at_kinds d key k v)) (admitted (is_from start) o)
+  reads-within-back start end o a = record {
+    answers = λ d h. ap (admitted (is_from start)) (a.answers d h) ∙ sym (last-within start end (pairs_at_kinds d key k v) (map-rises d key k v s.cut.bytes h.denotes));
+  }
+
   -- the first pair is taken, and the others are left
   module _ (start end : Bound ℤ) where
     pub none-left : Answers s (λ d. slice_get (range_of start end (pairs_at_kinds d key k v)) 0) None → (d : Directory) → StandsFor s.cut.bytes d → range_of start end (pairs_at_kinds d key k v) ≡ []
@@ -68,6 +75,21 @@ module _ (s : State) (key : Key) (k v : ScalarKind) where
         → (d : Directory) → StandsFor s.cut.bytes d → length (range_of (Excluded x) end (pairs_at_kinds d key k v)) ≤ left - 1
     fewer-left x y left a few d h = let e = ap length (others-left x y a d h) in let f = few d h in omega (arith, e, f)
 
+  -- the same of the last pair
+  module _ (start end : Bound ℤ) where
+    pub none-before : Answers s (λ d. last_between start end (pairs_at_kinds d key k v)) None → (d : Directory) → StandsFor s.cut.bytes d → range_of start end (pairs_at_kinds d key k v) ≡ []
+    none-before a d h = range-none start end (pairs_at_kinds d key k v) (sym (a.answers d h))
+
+    pub others-before : (x y : ℤ) → Answers s (λ d. last_between start end (pairs_at_kinds d key k v)) (Some (x, y))
+        → (d : Directory) → StandsFor s.cut.bytes d → range_of start end (pairs_at_kinds d key k v) ≡ range_of start (Excluded x) (pairs_at_kinds d key k v) ++ (x, y) ∷ []
+    others-before x y a d h = range-ends start end (pairs_at_kinds d key k v) x y (map-rises d key k v s.cut.bytes h.denotes) (sym (a.answers d h))
+
+    pub fewer-before : (x y : ℤ) (left : ℕ) → Answers s (λ d. last_between start end (pairs_at_kinds d key k v)) (Some (x, y))
+        → ((d : Directory) → StandsFor s.cut.bytes d → length (range_of start end (pairs_at_kinds d key k v)) ≤ left)
+        → (d : Directory) → StandsFor s.cut.bytes d → length (range_of start (Excluded x) (pairs_at_kinds d key k v)) ≤ left - 1
+    fewer-before x y left a few d h =
+        let e = ap length (others-before x y a d h) ∙ length-append (range_of start (Excluded x) (pairs_at_kinds d key k v)) ((x, y) ∷ []) in let f = few d h in omega (arith, e, f)
+
   -- there are no more than all
   pub all-few : (start end : Bound ℤ) (left : ℕ) (r : Result ℕ Refusal) → left ≡ number_or_none r → Answers s (λ d. length_at_kind d key (MapOf k v)) r
       → (d : Directory) → StandsFor s.cut.bytes d → length (range_of start end (pairs_at_kinds d key k v)) ≤ left
@@ -77,17 +99,6 @@ module _ (s : State) (key : Key) (k v : ScalarKind) where
 -- ---- an iterator over the pairs between two bounds
 
 module _ (k v : ScalarKind) (w : PairWalk) (few : (d : Directory) → StandsFor w.segment.cut.bytes d → length (pairs_left k v d w) ≤ w.left) {A : Type 0} (seen : A → ℤ × ℤ) where
-  nothing : {B : Type 0} (xs : List B) → length xs ≤ 0 → xs ≡ []
-  nothing [] l = refl
-  nothing (x ∷ xs) l = absurd (omega (arith, l))
-
-  pub ends-here : w.left ≡ 0 → GoesOnPairs k v seen w None w
-  ends-here e = record {
-    segment = refl;
-    key = refl;
-    pairs = λ d h. let f = few d h in let n = nothing (pairs_left k v d w) (omega (arith, e, f)) in (n, n);
-  }
-
   pub finds-none : Answers w.segment (λ d. slice_get (range_of w.start w.end (pairs_at_kinds d w.key k v)) 0) None → GoesOnPairs k v seen w None w
   finds-none a = record { segment = refl; key = refl; pairs = λ d h. let n = none-left w.segment w.key k v w.start w.end a d h in (n, n) }
 
@@ -100,3 +111,18 @@ module _ (k v : ScalarKind) (w : PairWalk) (few : (d : Directory) → StandsFor 
   pub fewer : (item : A) → Answers w.segment (λ d. slice_get (range_of w.start w.end (pairs_at_kinds d w.key k v)) 0) (Some (seen item))
       → (d : Directory) → StandsFor w.segment.cut.bytes d → length (pairs_left k v d (behind item)) ≤ w.left - 1
   fewer item a d h = fewer-left w.segment w.key k v w.start w.end (seen item).0 (seen item).1 w.left a few d h
+
+  -- ---- the same from the other end
+
+  pub finds-none-back : Answers w.segment (λ d. last_between w.start w.end (pairs_at_kinds d w.key k v)) None → GoesBackPairs k v seen w None w
+  finds-none-back a = record { segment = refl; key = refl; pairs = λ d h. let n = none-before w.segment w.key k v w.start w.end a d h in (n, n) }
+
+  abbrev pub before : A → PairWalk
+  before item = record { segment = w.segment; key = w.key; start = w.start; end = Excluded (seen item).0; left = w.left - 1 }
+
+  pub finds-one-back : (item : A) → Answers w.segment (λ d. last_between w.start w.end (pairs_at_kinds d w.key k v)) (Some (seen item)) → GoesBackPairs k v seen w (Some item) (before item)
+  finds-one-back item a = record { segment = refl; key = refl; pairs = λ d h. others-before w.segment w.key k v w.start w.end (seen item).0 (seen item).1 a d h }
+
+  pub fewer-back : (item : A) → Answers w.segment (λ d. last_between w.start w.end (pairs_at_kinds d w.key k v)) (Some (seen item))
+      → (d : Directory) → StandsFor w.segment.cut.bytes d → length (pairs_left k v d (before item)) ≤ w.left - 1
+  fewer-back item a d h = fewer-before w.segment w.key k v w.start w.end (seen item).0 (seen item).1 w.left a few d h

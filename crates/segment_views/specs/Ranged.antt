@@ -1,5 +1,5 @@
 -- The pairs of a map whose keys lie between two bounds, one after another, from both ends.
-use Rattle.std.specs.Prelude.{◌≡◌, ℕ, ◌≤◌, ℤ, int_le, int_lt, Bool, true, ◌&&◌, Option, Some, None, Result, Ok, Err, List, [], ◌∷◌, ◌++◌, filter, length, map}
+use Rattle.std.specs.Prelude.{◌≡◌, ℕ, ◌≤◌, ℤ, int_le, int_lt, Bool, true, ◌&&◌, Option, Some, None, Result, Ok, Err, List, [], ◌∷◌, ◌++◌, filter, length, map, reverse, slice_get}
 use Rattle.std.specs.declared.ops.Bound.{Bound}
 use Rattle.std.specs.declared.ops.Bound.TheVariants.{Included, Excluded, Unbounded}
 use Rattle.seg_types.specs.declared.kinds.ScalarKind.{ScalarKind}
@@ -33,6 +33,10 @@ is_between start end p = is_from start p.key && is_up_to end p.key
 -- the pairs between bounds, as keys and values
 abbrev pub range_of : Bound ℤ → Bound ℤ → List NumberPair → List (ℤ × ℤ)
 range_of start end ps = map item_of (filter (is_between start end) ps)
+
+-- the last of them, which is the first from the other end
+abbrev pub last_between : Bound ℤ → Bound ℤ → List NumberPair → Option (ℤ × ℤ)
+last_between start end ps = slice_get (range_of start end (reverse ps)) 0
 
 -- ---- an iterator over them
 

@@ -1,5 +1,5 @@
-//! Views of objects: an object of a segment that may be changed, which is looked up once, and what can be done with it. The calls
-//! are those of the segment on an object that was located.
+//! Views of objects: an object of a segment that may be changed, which is looked up once, and what can be done with it.
+//! The calls are those of the segment on an object that was located.
 #![tactic(auto)]
 
 mod arrays;

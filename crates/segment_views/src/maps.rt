@@ -3,7 +3,7 @@ ghost use Rattle.std.specs.Prelude.{◌≡◌, OnErr, IfOk, option_map};
 ghost use Rattle.seg_types.specs.declared.kinds.Kind.TheVariants.{Map as MapOf};
 ghost use Rattle.seg_types.specs.Commands.{Lookup, Put, Remove, literal_of};
 ghost use Rattle.segment_manager.specs.ElementLists.{length_at_kind};
-ghost use Rattle.segment_manager.specs.Maps.{pair_above, pair_from, pair_result, told_of_map, value_answer};
+ghost use Rattle.segment_manager.specs.Maps.{pair_above, pair_at_end, pair_from, pair_result, told_of_map, value_answer};
 ghost use Rattle.segment_manager.specs.Walks.{first_of};
 ghost use Rattle.seg_map.specs.Places.{item_of};
 ghost use Rattle.std.specs.Range.Bound.{bound_map};
@@ -106,10 +106,23 @@ impl<'a, K: Scalar, V: Scalar> MapView<'a, K, V> {
         first_of_all(self.segment, &self.object)
     }
 
-    /// Its pairs with keys in a range, one after another by rising keys. There are none where the range runs backwards,
-    /// and where the object is no such map.
+    /// The pair with the greatest key, or nothing where the map is empty.
     ///
-    /// Example: `for (number, year) in years.range(2..=5)`.
+    /// Example: `let latest = years.last()?`.
+    ///
+    /// # Errors
+    ///
+    /// `WrongKind` where the object is no such map.
+    pub fn last(&self) -> Result<Option<(K, V)>, Refusal>
+        ensures { Answers (segment_of self.now) (λ d. told_of_map d (key_of self.now) K.kind V.kind pair_at_end) (pair_result K.whole V.whole result) }
+    {
+        self.segment.map_last::<K, V, Object>(&self.object)
+    }
+
+    /// Its pairs with keys in a range, one after another by rising keys, or by falling ones from the other end. There
+    /// are none where the range runs backwards, and where the object is no such map.
+    ///
+    /// Examples: `for (number, year) in years.range(2..=5)`, `for (number, year) in years.range(2..=5).rev()`.
     pub fn range<R: RangeBounds<K>>(&self, range: R) -> MapItems<'_, K, V>
         ensures segment { result.segment ≡ segment_of self.now }
         ensures key { result.key ≡ key_of self.now }
@@ -121,9 +134,10 @@ impl<'a, K: Scalar, V: Scalar> MapView<'a, K, V> {
         MapItems::new(self.segment, self.object, start, end)
     }
 
-    /// All its pairs, one after another by rising keys. There are none where the object is no such map.
+    /// All its pairs, one after another by rising keys, or by falling ones from the other end. There are none where the
+    /// object is no such map.
     ///
-    /// Example: `for (number, year) in years.iter()`.
+    /// Examples: `for (number, year) in years.iter()`, `let latest = years.iter().next_back()`.
     pub fn iter(&self) -> MapItems<'_, K, V>
         ensures segment { result.segment ≡ segment_of self.now }
         ensures key { result.key ≡ key_of self.now }

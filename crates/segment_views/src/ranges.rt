@@ -1,4 +1,4 @@
-//! The pairs of a map that was located, those with keys between two bounds, one after another.
+//! The pairs of a map that was located, those with keys between two bounds, one after another from either end.
 ghost use Rattle.std.specs.Prelude.{◌≡◌, option_map, slice_get};
 ghost use Rattle.std.specs.Iterator.{at_most};
 ghost use Rattle.std.specs.Range.Bound.{bound_map};
@@ -11,7 +11,7 @@ ghost use Rattle.segment_manager.specs.Maps.{numbers_in, pair_result, told_of_ma
 ghost use Rattle.segment_manager.specs.State.{Answers};
 ghost use Rattle.segment_manager.specs.Walks.{first_of, pairs_at_kinds};
 ghost use Rattle.seg_map.specs.Places.{item_of};
-ghost use Rattle.segment_views.specs.Ranged.{GoesOnPairs, is_up_to as is_up_to_end, pair_or_none as pair_of, range_of};
+ghost use Rattle.segment_views.specs.Ranged.{GoesBackPairs, GoesOnPairs, is_from as is_from_start, is_up_to as is_up_to_end, last_between as last_of, pair_or_none as pair_of, range_of};
 
 use crate::elements::number_or_none;
 use seg_types::theorems::scalar_is_number;
@@ -23,8 +23,9 @@ use std::ops::Bound;
 /// The longest spelling of a scalar, in bytes.
 const LONGEST: usize = 8;
 
-/// The pairs of a map with keys in a range, one after another by rising keys. There are none where the object is no such map.
-/// Each is looked for from the root of the tree.
+/// The pairs of a map with keys in a range, one after another by rising keys, and by falling keys from the other end.
+/// What one end gave, the other does not give again. There are none where the object is no such map. Each is looked for
+/// from the root of the tree.
 ///
 /// Contracts see the segment, the map's key, the bounds of the pairs that are left, and how many these are at most.
 #[derive(Drop)]
@@ -97,6 +98,24 @@ impl<'a, K: Scalar, V: Scalar> Iterator for MapItems<'a, K, V> {
     }
 }
 
+impl<'a, K: Scalar, V: Scalar> DoubleEndedIterator for MapItems<'a, K, V> {
+    ghost next_back_gives = { GoesBackPairs K.kind V.kind (λ pair. (K.whole pair.0, V.whole pair.1)) };
+
+    fn next_back(&mut self) -> Option<(K, V)> {
+        if self.left == 0 {
+            return None;
+        }
+        match last_between(self.segment, &self.object, self.start, self.end) {
+            None => None,
+            Some(pair) => {
+                self.end = Bound::Excluded(pair.0);
+                self.left -= 1;
+                Some(pair)
+            }
+        }
+    }
+}
+
 /// The first pair of a map with a key between two bounds.
 fn first_between<K: Scalar, V: Scalar>(
     segment: &Segment,
@@ -154,6 +173,46 @@ pub(crate) fn first_of_all<K: Scalar, V: Scalar>(
     segment.map_first_from::<K, V, Object>(object, lowest())
 }
 
+/// The last pair of a map with a key between two bounds.
+fn last_between<K: Scalar, V: Scalar>(
+    segment: &Segment,
+    object: &Object,
+    start: Bound<K>,
+    end: Bound<K>,
+) -> Option<(K, V)>
+    requires { IsObject object.now segment.now }
+    ensures { Answers segment.now (λ d. last_of (bound_map K.whole start) (bound_map K.whole end) (pairs_at_kinds d (ByHandle object.now.handle) K.kind V.kind)) (numbers_in K.whole V.whole result) }
+{
+    match last_up_to(segment, object, end) {
+        None => None,
+        Some(pair) => {
+            if is_from(start, pair.0) {
+                Some(pair)
+            } else {
+                None
+            }
+        }
+    }
+}
+
+/// The last pair of a map with a key that is not above a bound.
+fn last_up_to<K: Scalar, V: Scalar>(
+    segment: &Segment,
+    object: &Object,
+    end: Bound<K>,
+) -> Option<(K, V)>
+    requires { IsObject object.now segment.now }
+    ensures { Answers segment.now (λ d. last_of Unbounded (bound_map K.whole end) (pairs_at_kinds d (ByHandle object.now.handle) K.kind V.kind)) (numbers_in K.whole V.whole result) }
+{
+    match end {
+        Bound::Included(to) => pair_or_none(segment.map_last_up_to::<K, V, Object>(object, to)),
+        Bound::Excluded(before) => {
+            pair_or_none(segment.map_previous_before::<K, V, Object>(object, before))
+        }
+        Bound::Unbounded => pair_or_none(segment.map_last::<K, V, Object>(object)),
+    }
+}
+
 /// The least value of a scalar type.
 fn lowest<T: Scalar>() -> T
     ensures { T.whole result ≡ lowest_of T.kind }
@@ -178,6 +237,17 @@ fn least_value(kind: ScalarKind) -> ScalarValue
         ScalarKind::I32 => ScalarValue::I32(i32::MIN),
         ScalarKind::I64 => ScalarValue::I64(i64::MIN),
         ScalarKind::U64 => ScalarValue::U64(0),
+    }
+}
+
+/// Whether a key is not below a bound.
+fn is_from<K: Scalar>(start: Bound<K>, key: K) -> bool
+    ensures { result ≡ is_from_start (bound_map K.whole start) (K.whole key) }
+{
+    match start {
+        Bound::Included(first) => !key.precedes(first),
+        Bound::Excluded(before) => before.precedes(key),
+        Bound::Unbounded => true,
     }
 }
 

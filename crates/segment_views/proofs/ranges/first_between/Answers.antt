@@ -30,7 +30,7 @@ returns-then-is_up_to g c =
     let y = g.V.Scalar.whole c.in-Some.pair.1 in
     let found = subst (λ o. Answers s (λ d. slice_get (range_of start end (pairs_at_kinds d key g.K.Scalar.kind g.V.Scalar.kind)) 0) (admitted (is_up_to end) (numbers_in g.K.Scalar.whole g.V.Scalar.whole o))) c.in-Some.is
     (reads-within s key g.K.Scalar.kind g.V.Scalar.kind start end (numbers_in g.K.Scalar.whole g.V.Scalar.whole c.first_from.result) c.first_from.ensures) in
-    subst (λ o. Answers s (λ d. slice_get (range_of start end (pairs_at_kinds d key g.K.Scalar.kind g.V.Scalar.kind)) 0) o) (is-admitted end x y (sym c.is_up_to.ensures ∙ c.if-is_up_to.true)) found
+    subst (λ o. Answers s (λ d. slice_get (range_of start end (pairs_at_kinds d key g.K.Scalar.kind g.V.Scalar.kind)) 0) o) (is-admitted (is_up_to end) x y (sym c.is_up_to.ensures ∙ c.if-is_up_to.true)) found
 
 pub returns-else-is_up_to : goal.returns-else-is_up_to
 returns-else-is_up_to g c =
@@ -42,4 +42,4 @@ returns-else-is_up_to g c =
     let y = g.V.Scalar.whole c.in-Some.pair.1 in
     let found = subst (λ o. Answers s (λ d. slice_get (range_of start end (pairs_at_kinds d key g.K.Scalar.kind g.V.Scalar.kind)) 0) (admitted (is_up_to end) (numbers_in g.K.Scalar.whole g.V.Scalar.whole o))) c.in-Some.is
     (reads-within s key g.K.Scalar.kind g.V.Scalar.kind start end (numbers_in g.K.Scalar.whole g.V.Scalar.whole c.first_from.result) c.first_from.ensures) in
-    subst (λ o. Answers s (λ d. slice_get (range_of start end (pairs_at_kinds d key g.K.Scalar.kind g.V.Scalar.kind)) 0) o) (not-admitted end x y (sym c.is_up_to.ensures ∙ c.if-is_up_to.false)) found
+    subst (λ o. Answers s (λ d. slice_get (range_of start end (pairs_at_kinds d key g.K.Scalar.kind g.V.Scalar.kind)) 0) o) (not-admitted (is_up_to end) x y (sym c.is_up_to.ensures ∙ c.if-is_up_to.false)) found

@@ -1,7 +1,7 @@
 //! Texts that are no dumps, and sizes that are too small.
 
-use crate::segments::refused;
-use segment_dump::{BadDump, DumpFault, LoadError};
+use crate::segments::{loaded, refused, refused_in};
+use segment_dump::{BadDump, Count, DumpFault, LoadError, Needs, count_dump};
 use std::alloc::Global;
 use std::process::Abort;
 use std::test::Fail;
@@ -92,6 +92,54 @@ fn too_small(rt: HostRuntime) -> Result<(), Fail> {
     assert_eq!(rt;
         refused(&rt, a, text, Some(16384)),
         LoadError::RegionTooSmall
+    );
+    Ok(())
+}
+
+/// A map of two pairs and a vector of strings with two texts, which need 144 bytes for the ends, 32 and 32 for the indexes, 64
+/// for each object's own block, 48 for each pair, 48 for the array of the texts, and 32 and 48 for the texts.
+const NEEDS_560: &[u8] =
+    b"segment dump 1\nsize 4096\nindexes 1 1\nnamed \"b \\xc3\\xa4\" vec<string> 2\n  5 \"hello\"\n  20 \"12345678901234567890\"\nunique map<i32,bool> 2\n  -7 false\n  7 true\nend\n";
+
+#[test]
+fn just_enough(rt: HostRuntime) -> Result<(), Fail> {
+    let a = rt.alloc();
+    let needs = Needs {
+        room: 560,
+        longest: 20,
+    };
+    assert_eq!(rt; count_dump(NEEDS_560), Ok(Count { size: 4096, needs }));
+    assert_eq!(rt; count_dump(b"segment dump 1\nsize 4096\n"), Err(25));
+    let segment = loaded(&rt, a, NEEDS_560, Some(560));
+    assert_eq!(rt; segment.free(), 0);
+    let refused = refused_in(&rt, a, NEEDS_560, &mut [0; 100], Some(544));
+    assert_eq!(rt; refused.cause, LoadError::NoSpace);
+    assert!(rt; refused.region.is_some());
+    let refused = refused_in(&rt, a, NEEDS_560, &mut [0; 19], Some(560));
+    assert_eq!(rt; refused.cause, LoadError::LongText);
+    assert!(rt; refused.region.is_some());
+    Ok(())
+}
+
+/// Counts that no lines stand behind are no reason to say that there is too little space.
+#[test]
+fn more_than_is_there(rt: HostRuntime) -> Result<(), Fail> {
+    let a = rt.alloc();
+    is_bad(
+        &rt,
+        a,
+        b"segment dump 1\nsize 1024\nindexes 0 0\nanonymous u8 1\n  1\nanonymous vec<u64> 4000\n  1\nend\n",
+        6,
+        1,
+        DumpFault::Unlike,
+    );
+    is_bad(
+        &rt,
+        a,
+        b"segment dump 1\nsize 1024\nindexes 0 0\nanonymous string 1\n  2000 \"abc\"\nend\n",
+        7,
+        1,
+        DumpFault::Unlike,
     );
     Ok(())
 }

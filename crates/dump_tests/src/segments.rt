@@ -2,7 +2,7 @@
 
 use raw_region::RawRegion;
 use raw_region::fake::{Last, MemorySink};
-use segment_dump::{LoadError, dump, load};
+use segment_dump::{LoadError, LoadRefused, dump, load};
 use segment_manager::{Mode, Segment};
 use std::alloc::Global;
 use std::process::Abort;
@@ -52,12 +52,22 @@ pub fn loaded(rt: &impl Abort, alloc: Global, text: &[u8], size: Option<u64>) ->
 
 /// A text is not loaded, and why.
 pub fn refused(rt: &impl Abort, alloc: Global, text: &[u8], size: Option<u64>) -> LoadError {
+    refused_in(rt, alloc, text, &mut [0; 100], size).cause
+}
+
+/// The same with this room for its longest text, and with what comes back.
+pub fn refused_in(
+    rt: &impl Abort,
+    alloc: Global,
+    text: &[u8],
+    room: &mut [u8],
+    size: Option<u64>,
+) -> LoadRefused {
     let Ok(region) = RawRegion::new(alloc, 8192) else {
         panic!(rt; "out of memory");
     };
-    let mut room = [0; 100];
-    let Err(refused) = load(text, &mut room, region, 16, size) else {
+    let Err(refused) = load(text, room, region, 16, size) else {
         panic!(rt; "loaded");
     };
-    refused.cause
+    refused
 }

@@ -159,14 +159,3 @@ string-by (Strings ts) text o a e s f h = absurd (cc)
 
 pub content-string : (kind : Kind) (count : ℕ) (text : List ℕ) (o : Option (Needs × List ℕ)) → kind ≡ kinds.Text → Reads text_lines IsShort Any (λ bs. only_room (block_room (length bs))) text o → ContentReads kind count text o
 content-string kind count text o k h = record { reads = λ c a g w e. string-by c text o a (g.kind_is ∙ k) g.small e h }
-
-strings-by : (c : Content) (count : ℕ) (text : List ℕ) (o : Option (Needs × List ℕ)) (a : List ℕ) → kind_of_content c ≡ kinds.Texts → count_of_content c ≡ count → IsSmall (texts_needs c).room → text ≡ content_text c ++ a
-    → TextsRead count text o → o ≡ Some (texts_needs c, a)
-strings-by (Strings ts) count text o a k m s e h = h.reads ts a (record { many = m; small = s }) tt e
-strings-by (Scalars k zs) count text o a e m s f h = absurd (cc)
-strings-by (Vector k zs) count text o a e m s f h = absurd (cc)
-strings-by (Map k v ps) count text o a e m s f h = absurd (cc)
-strings-by (String bs) count text o a e m s f h = absurd (cc)
-
-pub content-strings : (kind : Kind) (count : ℕ) (text : List ℕ) (o : Option (Needs × List ℕ)) → kind ≡ kinds.Texts → TextsRead count text o → ContentReads kind count text o
-content-strings kind count text o k h = record { reads = λ c a g w e. strings-by c count text o a (g.kind_is ∙ k) g.many g.small e h }

@@ -1,8 +1,10 @@
 -- Worked examples: elements and texts, as a dump has them.
-use Rattle.std.proofs.Common.{◌≡◌, [], ◌∷◌, ◌++◌, List, ℕ, refl}
-use Rattle.std.specs.Prelude.{pos, codes, replicate}
-use Rattle.seg_types.specs.declared.kinds.ScalarKind.TheVariants.{Bool}
-use Rattle.segment_dump.specs.Items.{Vector, Map}
+use Rattle.std.proofs.Common.{◌≡◌, [], ◌∷◌, ◌++◌, List, ℕ, map, refl}
+use Rattle.std.specs.Prelude.{pos, negsuc, codes, replicate}
+use Rattle.seg_types.specs.declared.kinds.ScalarKind.TheVariants.{Bool, I32}
+use Rattle.seg_types.specs.declared.kinds.Class.TheVariants.{Named, Unique}
+use Rattle.segment_dump.specs.Items.{Items, Vector, Map, Strings}
+use Rattle.segment_dump.specs.Need.{block_room, front_room, items_needs, object_room}
 use Rattle.segment_dump.specs.Places.{place_behind}
 use Rattle.segment_dump.specs.Texts.{content_text, pieces_text}
 
@@ -29,3 +31,22 @@ two-pieces = refl
 -- behind a line end and two bytes
 second-line : place_behind (0x61 ∷ 0x0A ∷ 0x62 ∷ 0x63 ∷ []) ≡ (2, 3)
 second-line = refl
+
+-- ---- what is needed: blocks of whole 16 bytes with their tags, and 32 at least
+
+blocks : map block_room (0 ∷ 1 ∷ 16 ∷ 17 ∷ 32 ∷ 33 ∷ []) ≡ 0 ∷ 32 ∷ 32 ∷ 48 ∷ 48 ∷ 64 ∷ []
+unfolding block_room
+blocks = refl
+
+-- a vector of strings of three elements, and a map of two pairs: 144 bytes for the ends, 64 for the indexes, 64 for each object's own
+-- block, 64 for the array, 32 and 48 for the texts that are not empty, and 48 for each pair
+abbrev some_items : Items
+some_items = record {
+  named = record { class = Named; name = codes "b"; content = Strings (codes "hello" ∷ [] ∷ replicate 20 0x61 ∷ []) } ∷ [];
+  unique = record { class = Unique; name = []; content = Map I32 Bool ((negsuc 6, pos 0) ∷ (pos 7, pos 1) ∷ []) } ∷ [];
+  anonymous = [];
+}
+
+needed : items_needs some_items ≡ record { room = 576; longest = 20 }
+unfolding block_room object_room front_room
+needed = refl

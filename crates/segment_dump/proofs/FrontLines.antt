@@ -38,18 +38,6 @@ number-front text x o f a e h g w =
 pub front-none : (text : List ℕ) → ((y : List ℕ) → text ≡ before_size ++ y → ⊥) → FrontReads text None
 front-none text n = record { reads = λ f a g w k. absurd (n (drop 20 (fronted f ++ a)) k) }
 
-pub front-no_size : (text x : List ℕ) → text ≡ before_size ++ x → NumberReads x None → FrontReads text None
-front-no_size text x e h = record {
-  reads = λ f a g w k. absurd (never-some (f.size, before_entries ++ (entries_text (f.named, f.unique) ++ a)) (number-front text x None f a e h g k));
-}
-
-pub front-no_indexes : (text x : List ℕ) (n : ℕ) (rest : List ℕ) → text ≡ before_size ++ x → NumberReads x (Some (n, rest)) → ((y : List ℕ) → rest ≡ before_entries ++ y → ⊥) → FrontReads text None
-front-no_indexes text x n rest e h z = record {
-  reads = λ f a g w k.
-      let r = some-pair n f.size rest (before_entries ++ (entries_text (f.named, f.unique) ++ a)) (number-front text x (Some (n, rest)) f a e h g k) in
-      absurd (z (entries_text (f.named, f.unique) ++ a) r.1);
-}
-
 front-entries : (text x : List ℕ) (n : ℕ) (rest y : List ℕ) (o : Option ((ℕ × ℕ) × List ℕ)) (f : Front) (a : List ℕ) → text ≡ before_size ++ x → NumberReads x (Some (n, rest)) → rest ≡ before_entries ++ y → EntriesRead y o → IsFront f
     → text ≡ fronted f ++ a → (n ≡ f.size) × (o ≡ Some ((f.named, f.unique), a))
 front-entries text x n rest y o f a e h z k g w =

@@ -215,9 +215,6 @@ quotes-cut text rest len o q h s f = record {
       absurd (cc);
 }
 
-pub quotes-long : (text rest : List ℕ) (len : ℕ) → 1073741824 < len → InQuotes text rest len → QuotedReads text None
-quotes-long text rest len l h = record { reads = λ bs a g w e. let k = h.left bs a g e in absurd (omega (arith, k.many)) }
-
 -- ---- names
 
 abbrev pub NameReads : List ℕ → Option (ℕ × List ℕ) → Type 0

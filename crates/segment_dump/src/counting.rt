@@ -152,7 +152,12 @@ fn read_front(text: &[u8]) -> Option<(Front, &[u8])>
     ))
 }
 
-/// What is counted of a dump; or how many bytes are left from the first line on that cannot be read.
+/// What the objects of a dump need, and the size that it says: in a segment of fewer bytes than `needs.room`, or with less room
+/// than `needs.longest`, [`load`](crate::load) makes none of it.
+///
+/// # Errors
+///
+/// How many bytes are left from the first line on that cannot be read; the text is the dump of no segment then.
 pub fn count_dump(text: &[u8]) -> Result<Count, usize>
     ensures { CountsDump text.now result }
 {

@@ -20,7 +20,9 @@ mod texts;
 mod theorems;
 
 pub use comparing::compare;
+pub use counting::{Count, count_dump};
 pub use dumping::dump;
 pub use faults::{BadDump, DumpFault, LoadError, LoadRefused};
 pub use loading::load;
+pub use needs::Needs;
 pub use theorems::{dumps_tell_objects, segments_have_room};

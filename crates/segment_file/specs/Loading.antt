@@ -73,6 +73,11 @@ pub record IsLoadRefused (text : List ℕ) (size : Option ℕ) (fault : ProgramF
 abbrev pub LoadsSegment : List ℕ → Option ℕ → Result State ProgramFault → Type 0
 LoadsSegment text size result = MatchResult result (IsLoaded text size) (λ fault. IsLoadRefused text size fault ⊎ (fault ≡ Session OutOfMemory))
 
+-- a segment may have the size that was asked for, if one was
+abbrev pub IsSizeFit : Option ℕ → Type 0
+IsSizeFit None = ⊤
+IsSizeFit (Some size) = is_legal_size size ≡ true
+
 module _ (size : Option ℕ) (script script' : Gave) (result : Result State ProgramFault) where
   -- no segment has the size that was asked for, and nothing was read
   pub record IsSizeUnfit : Type 0 where
@@ -84,12 +89,14 @@ module _ (size : Option ℕ) (script script' : Gave) (result : Result State Prog
 
   -- the dump was not read whole
   pub record IsDumpUnread : Type 0 where
+    pub fit : IsSizeFit size
     pub fault : SessionFault
     pub why : IsWhyUnread (given_since script script') fault
     pub refused : result ≡ Err (Session fault)
 
   -- it was read whole, and a segment was made of it or not
   pub record IsDumpRead : Type 0 where
+    pub fit : IsSizeFit size
     pub text : List ℕ
     pub read : IsReadWhole (given_since script script') text
     pub loads : LoadsSegment text size result

@@ -2,7 +2,7 @@
 ghost use Rattle.std.specs.Prelude.{◌≡◌, ◌^◌, ◌-◌, ◌<◌, ℕ, true, false, Some};
 ghost use Rattle.block_tags.specs.Format.{is_legal_size};
 ghost use Rattle.segment_dump.specs.Loading.{IsAsked};
-ghost use Rattle.segment_file.specs.Loading.{IsLoad, LoadsDump, LoadsSegment, load_fault};
+ghost use Rattle.segment_file.specs.Loading.{IsLoad, IsSizeFit, LoadsDump, LoadsSegment, load_fault};
 
 use crate::creating::WRITE_FAULT;
 use crate::gathering::read_text;
@@ -78,7 +78,8 @@ fn segment_of(alloc: Global, text: &[u8], size: Option<u64>) -> Result<Segment, 
 
 /// Whether a size is asked for that no segment has.
 fn is_unfit(size: Option<u64>) -> bool
-    ensures { result ≡ true → (asked : ℕ) × (size ≡ Some asked) × (is_legal_size asked ≡ false) }
+    ensures unfit { result ≡ true → (asked : ℕ) × (size ≡ Some asked) × (is_legal_size asked ≡ false) }
+    ensures fit { result ≡ false → IsSizeFit size }
 {
     match size {
         Some(size) => !is_legal_size(size),

@@ -11,7 +11,7 @@ use Rattle.seg_types.specs.Refusals.{refusal_number}
 use Rattle.seg_map.specs.Numbers.{NumberPair}
 use Rattle.seg_map.specs.Places.{item_of}
 use Rattle.segment_manager.specs.Calls.{kind_at}
-use Rattle.segment_manager.specs.Directory.{Directory, Object, kind_of, object_at}
+use Rattle.segment_manager.specs.Directory.{Directory, Object, kind_of}
 use Rattle.segment_manager.specs.Instances.{IsMissing}
 use Rattle.segment_manager.specs.Maps.{pair_above}
 use Rattle.segment_manager.specs.State.{Answers, StandsFor, State}

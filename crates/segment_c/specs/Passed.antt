@@ -1,5 +1,5 @@
 -- What the keys and the values that C passes stand for, and by which code they are refused that stand for nothing.
-use Rattle.std.specs.Prelude.{ℕ, ℤ, pos, Bool, ◌&&◌, not, ◌==◌, nat_le, List, length, map, Option, Some, None, if◌then◌else◌}
+use Rattle.std.specs.Prelude.{ℕ, ℤ, pos, ◌&&◌, ◌==◌, nat_le, List, length, map, Option, Some, None, if◌then◌else◌}
 use Rattle.seg_types.specs.declared.kinds.Kind.{Kind}
 use Rattle.seg_types.specs.declared.kinds.Kind.TheVariants.{Text}
 use Rattle.seg_types.specs.declared.kinds.ScalarKind.{ScalarKind}

@@ -1,6 +1,5 @@
 use Rattle.std.proofs.Common.{Ok, option_map, subst}
 use Rattle.seg_types.specs.declared.kinds.Kind.{Kind}
-use Rattle.seg_types.specs.declared.kinds.Kind.TheVariants.{Map}
 use Rattle.seg_types.specs.Keys.{key_seen}
 use Rattle.segment_manager.specs.Calls.{kind_at}
 use Rattle.segment_manager.specs.State.{Answers}

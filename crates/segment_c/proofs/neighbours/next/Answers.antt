@@ -1,4 +1,4 @@
-use Rattle.std.proofs.Common.{◌∙◌, Ok, ap, option_map, subst, sym}
+use Rattle.std.proofs.Common.{Ok, option_map, subst, sym}
 use Rattle.seg_types.specs.declared.kinds.Kind.{Kind}
 use Rattle.seg_types.specs.declared.kinds.Kind.TheVariants.{Map}
 use Rattle.seg_types.specs.Keys.{key_seen}

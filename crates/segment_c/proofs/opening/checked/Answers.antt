@@ -1,6 +1,6 @@
 use Rattle.std.proofs.Common.{◌<◌, arith, inr, length, subst, ℕ}
 use Rattle.image_check.specs.declared.classes.ImageClass.TheVariants.{Truncated}
-use Rattle.segment_c.proofs.OpenedImages.{no_image, said_more}
+use Rattle.segment_c.proofs.OpenedImages.{said_more}
 use Rattle.segment_c.proofs.opening.checked.Goals as goal
 
 pub returns-then-image-size : goal.returns-then-image-size

@@ -1,5 +1,5 @@
-use Rattle.std.proofs.Common.{◌∙◌, ap, arith, length, ◌+◌, ℕ}
-use Rattle.segment_c.proofs.OpenedImages.{no_fault, why_class, why_memory, why_room}
+use Rattle.std.proofs.Common.{arith, length}
+use Rattle.segment_c.proofs.OpenedImages.{why_class, why_memory, why_room}
 use Rattle.segment_c.proofs.opening.open_in.Goals as goal
 
 pub returns-in-Image : goal.returns-in-Image

@@ -2,8 +2,6 @@ use Rattle.std.proofs.Common.{◌∙◌, ap, subst}
 use Rattle.seg_types.specs.declared.kinds.Kind.TheVariants.{Vector}
 use Rattle.seg_types.specs.Commands.{Pop}
 use Rattle.seg_types.specs.Keys.{key_seen}
-use Rattle.segment_manager.specs.Answers.{Answer}
-use Rattle.segment_manager.specs.Directory.{Directory}
 use Rattle.segment_manager.specs.State.{StandsFor}
 use Rattle.segment_manager.specs.Step.{step_of_kind}
 use Rattle.segment_c.proofs.popping.pop.Goals as goal

@@ -16,7 +16,7 @@ use Rattle.segment_file.specs.declared.explaining.Unfit.{Unfit}
 use Rattle.segment_file.specs.declared.explaining.Unfit.TheVariants.{Image, Fault}
 use Rattle.segment_file.specs.Files.{opens}
 use Rattle.segment_file.specs.Opening.{BeginsIn}
-use Rattle.segment_file.specs.Explaining.{ExplainsFile, IsExplained, IsExplainedBy}
+use Rattle.segment_file.specs.Explaining.{ExplainsFile, IsExplainedBy}
 
 -- ---- the class of an image that is refused
 

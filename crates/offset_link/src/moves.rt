@@ -116,22 +116,31 @@ fn move_up(bytes: &mut [u8], at: usize, n: usize, by: usize, non_null: bool)
     requires non_null { IsTrue non_null → NoneIsNull (bytes_of bytes.old) at n }
     ensures { bytes.new ≡ patched bytes.old (at + by) (relinked (bytes_of bytes.old) at (at + by) n) }
 {
-    let rest = n % RUN;
-    runs_up(bytes, at + 8 * rest, n / RUN, by, non_null);
+    // The last one moves alone where the runs before it then end at a multiple of 16: their stores of 16 bytes lie in one
+    // line of the cache each.
+    let last = n.min((at + by + 8 * n) / 8 % 2);
+    let others = n - last;
+    let rest = others % RUN;
+    links_up(bytes, at + 8 * others, last, by);
+    runs_up(bytes, at + 8 * rest, others / RUN, by, non_null);
     links_up(bytes, at, rest, by);
 }
 
-/// The runs, the last of them first.
+/// The runs, the last of them first, two in a turn.
 fn runs_up(bytes: &mut [u8], at: usize, n: usize, by: usize, non_null: bool)
     requires inside { at + by + 64 * n ≤ length bytes.old }
     requires non_null { IsTrue non_null → NoneIsNull (bytes_of bytes.old) at (8 * n) }
     ensures { bytes.new ≡ patched bytes.old (at + by) (relinked (bytes_of bytes.old) at (at + by) (8 * n)) }
 {
     let mut left = n;
-    'runs: while left > 0 {
-        left -= 1;
+    'runs: while left > 1 {
+        left -= 2;
         let from = at + 64 * left;
+        run_up(bytes, from + 64, by, non_null);
         run_up(bytes, from, by, non_null);
+    }
+    if left == 1 {
+        run_up(bytes, at, by, non_null);
     }
 }
 
@@ -167,21 +176,30 @@ fn move_down(bytes: &mut [u8], at: usize, n: usize, by: usize, non_null: bool)
     requires non_null { IsTrue non_null → NoneIsNull (bytes_of bytes.old) at n }
     ensures { bytes.new ≡ patched bytes.old (at - by) (relinked (bytes_of bytes.old) at (at - by) n) }
 {
-    let runs = n / RUN;
-    runs_down(bytes, at, runs, by, non_null);
-    links_down(bytes, at + 64 * runs, n % RUN, by);
+    // The first one moves alone where the runs behind it then begin at a multiple of 16, as those of `move_up` end there.
+    let first = n.min((at - by) / 8 % 2);
+    let others = n - first;
+    let runs = others / RUN;
+    let from = at + 8 * first;
+    links_down(bytes, at, first, by);
+    runs_down(bytes, from, runs, by, non_null);
+    links_down(bytes, from + 64 * runs, others % RUN, by);
 }
 
-/// The runs, the first of them first.
+/// The runs, the first of them first, two in a turn.
 fn runs_down(bytes: &mut [u8], at: usize, n: usize, by: usize, non_null: bool)
     requires source { at + 64 * n ≤ length bytes.old }
     requires inside { by ≤ at }
     requires non_null { IsTrue non_null → NoneIsNull (bytes_of bytes.old) at (8 * n) }
     ensures { bytes.new ≡ patched bytes.old (at - by) (relinked (bytes_of bytes.old) at (at - by) (8 * n)) }
 {
-    'runs: for i in 0..n {
-        let from = at + 64 * i;
+    'runs: for i in 0..n / 2 {
+        let from = at + 128 * i;
         run_down(bytes, from, by, non_null);
+        run_down(bytes, from + 64, by, non_null);
+    }
+    if n % 2 == 1 {
+        run_down(bytes, at + 64 * (n - 1), by, non_null);
     }
 }
 

@@ -1,3 +1,4 @@
+mod Begun
 mod Changing
 mod Counting
 mod Entries

@@ -65,3 +65,10 @@ room_small c h n heap has =
 
 pub room_low : (c : Cut) (h n : ℕ) → IsHeap current c.bytes → IsTrue (has_room (live_of c.bytes) h n) → 144 ≤ h
 room_low c h n heap has = let r = room_block c h n heap has in let b = r.block in let o = b.at in let l = b.low in omega arith
+
+-- behind a block are 16 bytes more
+pub room_inside : (c : Cut) (h n : ℕ) → IsHeap current c.bytes → IsTrue (has_room (live_of c.bytes) h n)
+    → (h + n + 16 ≤ length c.bytes) × (length c.bytes ≤ 1073741824)
+room_inside c h n heap has =
+    let r = room_block c h n heap has in let b = r.block in
+    let enough = r.enough in let o = b.at in let ends = b.inside in let size = b.size in (omega arith, omega arith)

@@ -1,3 +1,4 @@
+pub mod Beginnings
 pub mod Capacities
 pub mod Comparing
 pub mod Growth

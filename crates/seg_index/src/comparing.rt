@@ -1,24 +1,30 @@
 //! The one way from an entry to the key that it leads to: each comparison is counted.
 ghost use Rattle.std.specs.Prelude.{◌≡◌, ℕ, ◌+◌, ◌*◌, ◌%◌, ◌^◌, ◌<◌, ◌≤◌, Some, IsTrue};
+ghost use Rattle.std.specs.Cmp.Lexicographic.{slice_cmp};
+ghost use Rattle.std.specs.Ordering.{nat_cmp};
 ghost use Rattle.raw_region.specs.Memory.{bytes_of};
 ghost use Rattle.raw_region.specs.Format.{current};
 ghost use Rattle.best_fit.specs.Heap.{IsHeap, has_room, live_of};
+ghost use Rattle.seg_index.specs.Beginnings.{front as front_of_bytes, key_front};
 ghost use Rattle.seg_index.specs.Comparing.{HasEntry, order_at};
 ghost use Rattle.seg_index.specs.Lookups.{HasKey, order};
 ghost use Rattle.seg_index.specs.Keys.{name_at, name_len_at};
 
+use crate::fronts::{front_at, front_of_key, hold_bytes};
 use crate::keys::Key;
 use best_fit::Heap;
 use std::cmp::Ordering;
 
 /// A number in the low half of a word.
-const HALF: u64 = 4294967296;
+pub(crate) const HALF: u64 = 4294967296;
 
 /// The entries of a block, and how often one of their keys was compared with the one that is looked up.
 #[derive(Drop)]
 pub struct Comparisons<'a> {
     heap: &'a Heap,
     key: Key<'a>,
+    /// How the key begins, where it is a name.
+    front: u64,
     block: u64,
     count: u64,
 }
@@ -28,12 +34,14 @@ impl<'a> Comparisons<'a> {
     pub fn new(heap: &'a Heap, key: Key<'a>, block: u64) -> Comparisons<'a>
         ensures heap { result.heap.now ≡ heap.now }
         ensures key { result.key ≡ key.entry }
+        ensures front { result.front ≡ key_front result.key }
         ensures block { result.block ≡ block }
         ensures count { result.count ≡ 0 }
     {
         Comparisons {
             heap,
             key,
+            front: front_of_key(key),
             block,
             count: 0,
         }
@@ -49,28 +57,48 @@ impl<'a> Comparisons<'a> {
     /// How the key that the entry with `i` others before it leads to stands to the key that is looked up.
     pub fn compare(&mut self, i: u64) -> Ordering
         requires entry { HasEntry self.old.heap.now self.old.key self.old.block i }
+        requires front { self.old.front ≡ key_front self.old.key }
         requires room { self.old.count < 2 ^ 63 }
         ensures order { result ≡ order_at (bytes_of self.old.heap.now.bytes) self.old.key self.old.block i }
         ensures count { self.new.count ≡ self.old.count + 1 }
         ensures heap { self.new.heap ≡ self.old.heap }
         ensures key { self.new.key ≡ self.old.key }
+        ensures front { self.new.front ≡ self.old.front }
         ensures block { self.new.block ≡ self.old.block }
     {
         self.count += 1;
         let handle = self.heap.link(self.block, 8 * i).unwrap_or(0);
-        order_of(self.heap, self.key, handle)
+        order_of(self.heap, self.key, self.front, handle)
     }
 }
 
-/// How the key of an object stands to a key.
-fn order_of(heap: &Heap, key: Key<'_>, handle: u64) -> Ordering
+/// How the key of an object stands to a key, of which it is known how it begins.
+fn order_of(heap: &Heap, key: Key<'_>, front: u64, handle: u64) -> Ordering
     requires key { HasKey heap.now key handle }
+    requires front { front ≡ key_front key }
     ensures { result ≡ order (bytes_of heap.now.bytes) key.entry handle }
 {
     match key {
-        Key::Name(name) => name_of(heap, handle).cmp(name),
+        Key::Name(name) => order_of_name(heap, name, front, handle),
         Key::Code(code) => (heap.word(handle, 0) % HALF).cmp(&u64::from(code)),
     }
+}
+
+/// The same of a name: where the two begin alike, all their bytes are compared.
+fn order_of_name(heap: &Heap, name: &[u8], front: u64, handle: u64) -> Ordering
+    requires heap { IsHeap current heap.now.bytes }
+    requires room { IsTrue (has_room (live_of heap.now.bytes) handle (16 + name_len_at (bytes_of heap.now.bytes) handle)) }
+    requires front { front ≡ front_of_bytes name.now }
+    ensures { result ≡ slice_cmp nat_cmp (name_at (bytes_of heap.now.bytes) handle) name.now }
+{
+    let found = name_of(heap, handle);
+    hold_bytes(found);
+    hold_bytes(name);
+    let begun = front_at(heap, handle);
+    if begun != front {
+        return begun.cmp(&front);
+    }
+    found.cmp(name)
 }
 
 /// The name of an object.

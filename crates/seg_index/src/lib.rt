@@ -7,6 +7,7 @@
 
 mod adding;
 mod comparing;
+mod fronts;
 mod growing;
 mod index;
 mod keys;

@@ -2,6 +2,7 @@
 ghost use Rattle.std.specs.Prelude.{◌≡◌, ℕ, ◌^◌, ◌<◌, ◌≤◌};
 ghost use Rattle.raw_region.specs.Memory.{bytes_of};
 ghost use Rattle.link_tree.specs.Tree.{bits};
+ghost use Rattle.seg_index.specs.Beginnings.{key_front};
 ghost use Rattle.seg_index.specs.Comparing.{comparisons_in};
 ghost use Rattle.seg_index.specs.Lookups.{AreKeys, IsPlaceIn};
 
@@ -13,6 +14,7 @@ use std::cmp::Ordering;
 pub fn search(comparisons: &mut Comparisons<'_>, count: u64) -> Lookup
     requires keys { AreKeys comparisons.old.heap.now comparisons.old.block count comparisons.old.key }
     requires few { count < 2 ^ 40 }
+    requires front { comparisons.old.front ≡ key_front comparisons.old.key }
     requires none { comparisons.old.count ≡ 0 }
     ensures place { IsPlaceIn (bytes_of comparisons.old.heap.now.bytes) comparisons.old.key comparisons.old.block
         count result }

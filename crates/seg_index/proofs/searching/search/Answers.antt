@@ -1,7 +1,8 @@
 -- Each turn halves what is left, and compares one key.
-use Rattle.std.proofs.Common.{◌+◌, ◌-◌, ap, ◌∙◌, arith}
+use Rattle.std.proofs.Common.{◌+◌, ◌-◌, ap, sym, ◌∙◌, arith}
 use Rattle.std.specs.declared.cmp.Ordering.TheVariants.{Less, Equal, Greater}
 use Rattle.raw_region.specs.Memory.{bytes_of}
+use Rattle.seg_index.specs.Beginnings.{key_front}
 use Rattle.seg_index.specs.Comparing.{middle, order_at}
 use Rattle.seg_index.proofs.Counting.{counts_down, counts_found, counts_none, counts_up}
 use Rattle.seg_index.proofs.Narrowing.{entry_at, entry_of, goes_down, goes_up, order_here}
@@ -15,6 +16,10 @@ compare-requires-clause-entry c =
     entry_at a.heap.now c.halves.comparisons.heap.now a.key c.halves.comparisons.key a.block c.halves.comparisons.block
     _ (ap (λ b. b.now) i.heap) i.key i.block
     (entry_of a.heap.now a.key a.block c.args.count _ c.requires.keys (omega arith))
+
+pub compare-requires-clause-front : goal.compare-requires-clause-front
+compare-requires-clause-front c =
+    let i = c.halves.invariant in i.front ∙ c.requires.front ∙ ap key_front (sym i.key)
 
 pub compare-requires-clause-room : goal.compare-requires-clause-room
 compare-requires-clause-room c =
@@ -34,6 +39,7 @@ halves-preserved-in-Less c =
     record {
       heap = c.compare.ensures.heap ∙ i.heap;
       key = c.compare.ensures.key ∙ i.key;
+      front = c.compare.ensures.front ∙ i.front;
       block = c.compare.ensures.block ∙ i.block;
       narrowed = goes_up a.heap.now a.key a.block c.args.count low high (middle low high) c.requires.keys n
           (omega arith) (omega arith) is;
@@ -55,6 +61,7 @@ halves-preserved c =
     record {
       heap = c.compare.ensures.heap ∙ i.heap;
       key = c.compare.ensures.key ∙ i.key;
+      front = c.compare.ensures.front ∙ i.front;
       block = c.compare.ensures.block ∙ i.block;
       narrowed = goes_down a.heap.now a.key a.block c.args.count low high (middle low high) c.requires.keys n
           (omega arith) (omega arith) is;

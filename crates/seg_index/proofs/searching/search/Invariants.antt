@@ -11,6 +11,7 @@ abbrev pub invariant-halves : goal.invariant-halves
 invariant-halves l = record {
   heap : l.comparisons.heap ≡ l.fn.comparisons.heap;
   key : l.comparisons.key ≡ l.fn.comparisons.key;
+  front : l.comparisons.front ≡ l.fn.comparisons.front;
   block : l.comparisons.block ≡ l.fn.comparisons.block;
   narrowed : Narrowed l.fn.comparisons.heap.now l.fn.comparisons.key l.fn.comparisons.block l.count l.low l.high;
   counted : l.comparisons.count + bits (l.high - l.low) ≤ bits l.count;

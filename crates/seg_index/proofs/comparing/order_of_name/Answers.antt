@@ -1,0 +1,22 @@
+-- Where the fronts differ, the names stand as they do.
+use Rattle.std.proofs.Common.{◌≡◌, ◌≢◌, ◌∙◌, sym, ap₂, subst, ℕ, List}
+use Rattle.std.specs.Cmp.Lexicographic.{slice_cmp}
+use Rattle.std.specs.Ordering.{nat_cmp}
+use Rattle.std.specs.declared.cmp.Ordering.{Ordering}
+use Rattle.raw_region.specs.Memory.{bytes_of}
+use Rattle.seg_index.specs.Beginnings.{AreBytes, front}
+use Rattle.seg_index.specs.Keys.{name_at}
+use Rattle.seg_index.proofs.Begun.{front_order}
+use Rattle.seg_index.proofs.comparing.order_of_name.Goals as goal
+
+apart : (xs ys : List ℕ) (f g : ℕ) (r : Ordering) → AreBytes xs → AreBytes ys → f ≡ front xs → g ≡ front ys → f ≢ g
+    → r ≡ nat_cmp f g → r ≡ slice_cmp nat_cmp xs ys
+apart xs ys f g r bx by e e' differ is =
+    is ∙ ap₂ (λ (x y : ℕ). nat_cmp x y) e e' ∙ front_order xs ys bx by (λ same. differ (e ∙ same ∙ sym e'))
+
+pub returns-then-begun-front : goal.returns-then-begun-front
+returns-then-begun-front c =
+    let there = name_at (bytes_of c.args.heap.now.bytes) c.args.handle in
+    apart there c.args.name.now c.front_at-begun.result c.args.front c.cmp.result
+    (subst AreBytes c.name_of-found.ensures c.hold_bytes.ensures) c.hold_bytes-2.ensures c.front_at-begun.ensures c.requires.front
+    c.if-begun-front.true c.cmp.ensures

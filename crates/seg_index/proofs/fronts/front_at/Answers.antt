@@ -1,0 +1,56 @@
+-- The eight bytes lie in the heap, whose last 16 bytes are no block's.
+use Rattle.std.proofs.Common.{◌≡◌, ◌<◌, ◌+◌, ◌-◌, ◌*◌, ◌/◌, ◌%◌, ◌^◌, ◌≤◌, ◌∙◌, sym, ap, subst, arith, bit_and, IsTrue, ℕ, List, length}
+use Rattle.std.specs.List.{slice_range}
+use Rattle.byteorder.specs.Endian.{big_number}
+use Rattle.raw_region.specs.Memory.{bytes_of, read}
+use Rattle.best_fit.specs.Heap.{has_room, live_of}
+use Rattle.best_fit.proofs.Laws.{room_block}
+use Rattle.seg_index.specs.Beginnings.{AreBytes, front}
+use Rattle.seg_index.specs.Keys.{name_len_at}
+use Rattle.seg_index.proofs.Begun.{long_front, short_front}
+use Rattle.seg_index.proofs.Rooms.{has_room-less, room_inside}
+use Rattle.seg_index.proofs.fronts.front_at.Goals as goal
+
+pub word-len-requires : goal.word-len-requires
+word-len-requires c =
+    has_room-less (live_of c.args.heap.now.bytes) c.args.handle 16
+    (16 + name_len_at (bytes_of c.args.heap.now.bytes) c.args.handle) (omega arith) c.requires.room
+
+pub overflow_add-at : goal.overflow_add-at
+overflow_add-at c =
+    let inside = room_inside c.args.heap.now c.args.handle
+    (16 + name_len_at (bytes_of c.args.heap.now.bytes) c.args.handle) c.requires.heap c.requires.room in omega arith
+
+pub overflow_add-at-2 : goal.overflow_add-at-2
+overflow_add-at-2 c =
+    let inside = room_inside c.args.heap.now c.args.handle
+    (16 + name_len_at (bytes_of c.args.heap.now.bytes) c.args.handle) c.requires.heap c.requires.room in omega arith
+
+pub slice_bounds-read_u64-end : goal.slice_bounds-read_u64-end
+slice_bounds-read_u64-end c =
+    let inside = room_inside c.args.heap.now c.args.handle
+    (16 + name_len_at (bytes_of c.args.heap.now.bytes) c.args.handle) c.requires.heap c.requires.room in
+    let whole = ap (λ (b : List ℕ). length b) c.as_bytes-bytes.ensures in omega (arith, inside, whole)
+
+-- the bytes of the name, of the length that was read
+bytes_there : (b held : List ℕ) → held ≡ b → AreBytes held → AreBytes b
+bytes_there b held e bytes = subst AreBytes e bytes
+
+pub returns-then-len : goal.returns-then-len
+returns-then-len c =
+    let b = c.args.heap.now.bytes in let h = c.args.handle in let len = name_len_at (bytes_of b) h in
+    let same : c.word-len.result % 4294967296 ≡ len = ap (λ k. k % 4294967296) c.word-len.ensures in
+    let word = c.read_u64-word.ensures
+    ∙ ap (λ (l : List ℕ). big_number 8 (slice_range l (h + 16) (h + 16 + 8))) c.as_bytes-bytes.ensures in
+    long_front b (bytes_there b c.as_bytes-bytes.result.now c.as_bytes-bytes.ensures c.hold_bytes.ensures) h len
+    c.read_u64-word.result word (omega arith)
+
+pub returns : goal.returns
+returns c =
+    let b = c.args.heap.now.bytes in let h = c.args.handle in let len = name_len_at (bytes_of b) h in
+    let same : c.word-len.result % 4294967296 ≡ len = ap (λ k. k % 4294967296) c.word-len.ensures in
+    let word = c.read_u64-word.ensures
+    ∙ ap (λ (l : List ℕ). big_number 8 (slice_range l (h + 16) (h + 16 + 8))) c.as_bytes-bytes.ensures in
+    ap (λ (k : ℕ). c.read_u64-word.result - bit_and c.read_u64-word.result ((2 ^ 64 - 1) / 2 ^ (8 * k))) same
+    ∙ short_front b (bytes_there b c.as_bytes-bytes.result.now c.as_bytes-bytes.ensures c.hold_bytes.ensures) h len
+    c.read_u64-word.result word (omega arith)

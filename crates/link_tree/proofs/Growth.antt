@@ -208,7 +208,7 @@ module _ (lt : ℕ → ℕ → Bool) (transitive : (a b c : ℕ) → lt a b ≡ 
   pub not_placed : (x : ℕ) (ns : List ℕ) → has_place lt x ns ≡ true → is_in x ns ≡ false
   not_placed x ns p = false_from_ne_true (is_in x ns) (λ i. placed_apart x ns x p i refl)
 
-  out_of : (m x : ℕ) (ns : List ℕ) → (m ≡ x → ⊥) → is_in m ns ≡ false → is_in m (x ∷ ns) ≡ false
+  pub out_of : (m x : ℕ) (ns : List ℕ) → (m ≡ x → ⊥) → is_in m ns ≡ false → is_in m (x ∷ ns) ≡ false
   out_of m x ns d o = or_from (nat_eq m x) (is_in m ns) (ne_eqb m x d) o
 
   -- the tree below grew: so does the tree

@@ -3,6 +3,7 @@ use Rattle.std.proofs.Common.{◌≡◌, ℕ, ◌+◌, ◌≤◌, ◌^◌, Bool,
 use Rattle.std.specs.List.{list_all}
 use Rattle.link_tree.specs.Tree.{Cell, Tree, nodes_of, Holds, IsTree, rises, bits, BoundsHeight, ReadsOff}
 use Rattle.link_tree.specs.Nodes.{is_in, has_place, put, without}
+use Rattle.link_tree.specs.Ways.{entry_of, exit_of}
 pub use Rattle.link_tree.proofs.Trees.{none_some, some_same}
 use Rattle.link_tree.proofs.Trees as trees
 use Rattle.link_tree.proofs.Orders as orders
@@ -11,6 +12,7 @@ use Rattle.link_tree.proofs.Shrinkage as shrinkage
 use Rattle.link_tree.proofs.Heights as heights
 use Rattle.link_tree.proofs.Limits as limits
 use Rattle.link_tree.proofs.Reading as reading
+use Rattle.link_tree.proofs.Approaches as approaches
 
 -- ---- trees
 
@@ -87,3 +89,13 @@ bounds_height = heights.bounds_height
 -- up to 2 to the 40th, a number and one have at most 41 binary digits
 pub bits_most : (m : ℕ) → m ≤ 2 ^ 40 → bits (m + 1) ≤ 41
 bits_most = heights.bits_most
+
+-- ---- where a change begins
+
+-- an insertion begins where what is asked of the nodes of the tree alone says
+pub entry_same : (f g : ℕ → Bool) (t : Tree) → ((m : ℕ) → is_in m (nodes_of t) ≡ true → f m ≡ g m) → entry_of f t ≡ entry_of g t
+entry_same = approaches.entry_same
+
+-- and a removal where the order of the node and those of the tree says
+pub exit_same : (f g : ℕ → ℕ → Bool) (x : ℕ) (t : Tree) → ((m : ℕ) → is_in m (nodes_of t) ≡ true → f x m ≡ g x m) → exit_of f x t ≡ exit_of g x t
+exit_same = approaches.exit_same

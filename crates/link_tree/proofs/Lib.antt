@@ -3,11 +3,13 @@ mod Trees
 mod Heights
 mod Limits
 mod Seeking
+mod Approaches
 mod Mirrors
 mod Joints
 mod Turns
 mod Colours
 mod Growth
+mod Entries
 mod Mending
 mod Shrinkage
 mod Folding
@@ -15,5 +17,6 @@ mod Walks
 mod Reading
 mod TakingLeast
 mod Taking
+mod Exits
 mod Soundness
 pub mod Laws

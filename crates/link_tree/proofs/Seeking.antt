@@ -18,7 +18,7 @@ find_none before (n ∷ ns) a =
     let e = not_from_true (before n) p.0 in
     rw e (find_none before ns p.1)
 
-first_not-right : (before : ℕ → Bool) (xs : List ℕ) (n : ℕ) (ys : List ℕ) → list_all before xs ≡ true → before n ≡ true
+pub first_not-right : (before : ℕ → Bool) (xs : List ℕ) (n : ℕ) (ys : List ℕ) → list_all before xs ≡ true → before n ≡ true
     → first_not before (xs ++ n ∷ ys) ≡ first_not before ys
 first_not-right before xs n ys a b =
     let e = not_from_true (before n) b in
@@ -26,7 +26,7 @@ first_not-right before xs n ys a b =
     let g = find-append (λ m. not (before m)) xs (n ∷ ys) in
     g ∙ rw (f, e) refl
 
-first_not-left : (before : ℕ → Bool) (xs : List ℕ) (n : ℕ) (ys : List ℕ) → before n ≡ false
+pub first_not-left : (before : ℕ → Bool) (xs : List ℕ) (n : ℕ) (ys : List ℕ) → before n ≡ false
     → first_not before (xs ++ n ∷ ys) ≡ option_or (first_not before xs) (Some n)
 first_not-left before xs n ys b =
     let e = not_from_false (before n) b in

@@ -5,6 +5,7 @@ pub mod Sides
 pub mod Turning
 pub mod Growing
 pub mod Searching
+pub mod Ways
 pub mod Backwards
 pub mod Shrinking
 pub mod Checking

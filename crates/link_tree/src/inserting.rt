@@ -1,15 +1,18 @@
 //! Putting a node into a tree.
 
-ghost use Rattle.std.specs.Prelude.{◌≡◌, ◌≢◌, ℕ, ◌+◌, ◌*◌, ◌<◌, ◌≤◌, ◌^◌, Bool, true, false, Option, Some, None, List, [], ◌∷◌, length, IsTrue};
+ghost use Rattle.std.specs.Prelude.{◌≡◌, ◌≢◌, ℕ, ◌+◌, ◌*◌, ◌<◌, ◌≤◌, ◌^◌, Bool, true, false, Option, Some, None, List, [], ◌∷◌, length, IfSome, IsTrue, not};
 ghost use Rattle.link_tree.specs.Tree.{Cell, Tree, leaf, fork, IsTree, IsSearchTree, nodes_of, rises, height, bits};
 ghost use Rattle.link_tree.specs.Nodes.{leads, is_in, has_place, put};
 ghost use Rattle.link_tree.specs.Turning.{Turned};
 ghost use Rattle.link_tree.specs.Growing.{Grows, grown};
+ghost use Rattle.link_tree.specs.Ways.{entry_of};
 ghost use Rattle.link_tree.specs.Frame.{SameBesideCells};
 
+use crate::backwards::Beside;
 use crate::nodes::NodesMut;
 use crate::turning::{balance, blacken};
 use crate::visits::{Side, VisitsMut};
+use crate::ways::find_way_in;
 
 /// The root of a tree that was changed, and the steps that the change took.
 #[derive(Clone, Copy, Debug, PartialEq, Eq)]
@@ -68,7 +71,57 @@ fn grow<N: NodesMut>(visits: &mut VisitsMut<N>, link: Option<u64>, node: u64) ->
     balance(visits, at, side)
 }
 
-/// Puts the node into the tree.
+/// Puts the node into the tree, from where a search for its place has found that the tree changes.
+///
+/// Only links and colours of the tree's nodes and of the node change.
+/// A step is going to a node, with all that is read and written there before the call goes to another.
+/// Chris Okasaki, Red-Black Trees in a Functional Setting, 1999.
+pub fn insert_at<N: NodesMut>(
+    nodes: &mut N,
+    root: Option<u64>,
+    entry: Option<u64>,
+    node: u64,
+) -> Changed
+    requires root { leads (N.is_node nodes.old) root ≡ true }
+    requires node { N.is_node nodes.old node ≡ true }
+    // The node must precede or follow each node of the tree, and the insertion begin at the root or where `find_way_in` says.
+    requires tree { (t : Tree) × IsSearchTree (N.order nodes.old) (N.cells nodes.old) root t
+        × IsTrue (has_place (N.order nodes.old) node (nodes_of t))
+        × IfSome entry (λ n. entry_of (λ m. not (N.order nodes.old node m)) t ≡ Some n) }
+    // `put` puts the node before the first one that it precedes.
+    ensures tree { (t : Tree) → IsSearchTree (N.order nodes.old) (N.cells nodes.old) root t
+        → (grown : Tree) × IsSearchTree (N.order nodes.new) (N.cells nodes.new) result.root grown
+        × (nodes_of grown ≡ put (N.order nodes.old) node (nodes_of t)) }
+    // No other node's links or colour changed.
+    ensures frame { (t : Tree) → IsSearchTree (N.order nodes.old) (N.cells nodes.old) root t
+        → (m : ℕ) → m ≢ node → is_in m (nodes_of t) ≡ false
+        → N.cells nodes.new m ≡ N.cells nodes.old m }
+    // `bits` counts binary digits, here of the number of nodes before the call and one.
+    ensures steps { (t : Tree) → IsSearchTree (N.order nodes.old) (N.cells nodes.old) root t
+        → result.steps ≤ 28 * bits (length (nodes_of t) + 1) + 32 }
+    ensures counted { 0 < result.steps }
+    ensures root { leads (N.is_node nodes.new) result.root ≡ true }
+    // Nothing but links and colours changed: the nodes, their order, the reference they are reached by, and what else there is stay.
+    ensures same { SameBesideCells N.Nodes nodes.old nodes.new }
+{
+    let mut visits = VisitsMut::new(nodes);
+    if let Some(start) = entry {
+        grow(&mut visits, Some(start), node);
+        return Changed {
+            root,
+            steps: visits.steps(),
+        };
+    }
+    let top = grow(&mut visits, root, node);
+    blacken(&mut visits, Some(top));
+    Changed {
+        root: Some(top),
+        steps: visits.steps(),
+    }
+}
+
+/// Puts the node into the tree: a search for its place, and `insert_at` where that ended. Each node on the way is compared
+/// with it, and a comparison goes to both, so the search takes two steps for each.
 ///
 /// Only links and colours of the tree's nodes and of the node change.
 /// A step is going to a node, with all that is read and written there before the call goes to another.
@@ -95,11 +148,17 @@ pub fn insert<N: NodesMut>(nodes: &mut N, root: Option<u64>, node: u64) -> Chang
     // Nothing but links and colours changed: the nodes, their order, the reference they are reached by, and what else there is stay.
     ensures same { SameBesideCells N.Nodes nodes.old nodes.new }
 {
-    let mut visits = VisitsMut::new(nodes);
-    let top = grow(&mut visits, root, node);
-    blacken(&mut visits, Some(top));
+    let way = find_way_in(
+        &Beside {
+            nodes: &*nodes,
+            node,
+        },
+        root,
+        &(),
+    );
+    let changed = insert_at(nodes, root, way.entry, node);
     Changed {
-        root: Some(top),
-        steps: visits.steps(),
+        root: changed.root,
+        steps: 2 * way.steps + changed.steps,
     }
 }

@@ -17,11 +17,13 @@ mod theorems;
 mod turning;
 mod visits;
 mod walking;
+mod ways;
 
 pub use checking::{Checked, check};
-pub use inserting::{Changed, insert};
+pub use inserting::{Changed, insert, insert_at};
 pub use nodes::{Nodes, NodesMut};
-pub use removing::remove;
+pub use removing::{remove, remove_at};
 pub use searching::{Found, find_first_not_before, find_last, find_last_before};
 pub use theorems::{law_of_height, law_of_reading};
 pub use walking::walk;
+pub use ways::{WayIn, WayOut, find_way_in, find_way_out};

@@ -1,11 +1,12 @@
 //! Taking a node out of a tree.
 
-ghost use Rattle.std.specs.Prelude.{◌≡◌, ◌≢◌, ℕ, ◌+◌, ◌*◌, ◌<◌, ◌≤◌, ◌^◌, Bool, true, false, Option, Some, None, List, length, IsTrue};
+ghost use Rattle.std.specs.Prelude.{◌≡◌, ◌≢◌, ℕ, ◌+◌, ◌*◌, ◌<◌, ◌≤◌, ◌^◌, Bool, true, false, Option, Some, None, List, length, IfSome, IsTrue};
 ghost use Rattle.link_tree.specs.Tree.{Cell, Tree, IsTree, IsSearchTree, nodes_of, rises, height, bits};
 ghost use Rattle.link_tree.specs.Nodes.{leads, is_in, without};
 ghost use Rattle.link_tree.specs.Sides.{opposite, child_of, joined_at};
 ghost use Rattle.link_tree.specs.Turning.{Turned};
 ghost use Rattle.link_tree.specs.Shrinking.{Rest, Shrinks, Leaves, reddened, mended, settled, sunk, least_of, without_least, uprooted, shrunk, spare};
+ghost use Rattle.link_tree.specs.Ways.{exit_of};
 ghost use Rattle.link_tree.specs.Frame.{SameBesideCells};
 
 use crate::inserting::Changed;
@@ -285,7 +286,54 @@ fn cut<N: NodesMut>(visits: &mut VisitsMut<N>, link: Option<u64>, node: u64) -> 
     settle(visits, at, side, below)
 }
 
-/// Takes the node out of the tree.
+/// Takes the node out of the tree, from where a search for it has found that the tree changes.
+///
+/// Only links and colours of the tree's nodes change: every other node stays where it is, and none is copied.
+/// A step is going to a node, with all that is read and written there before the call goes to another.
+/// Jean-Christophe Filliâtre and Pierre Letouzey, Functors for Proofs and Programs, 2004.
+pub fn remove_at<N: NodesMut>(
+    nodes: &mut N,
+    root: Option<u64>,
+    exit: Option<u64>,
+    node: u64,
+) -> Changed
+    requires root { leads (N.is_node nodes.old) root ≡ true }
+    // The node must be in the tree, and the removal begin at the root or where `find_way_out` says.
+    requires tree { (t : Tree) × IsSearchTree (N.order nodes.old) (N.cells nodes.old) root t
+        × IsTrue (is_in node (nodes_of t))
+        × IfSome exit (λ n. exit_of (N.order nodes.old) node t ≡ Some n) }
+    // The other nodes are in it as before, in the same order.
+    ensures tree { (t : Tree) → IsSearchTree (N.order nodes.old) (N.cells nodes.old) root t
+        → (shrunk : Tree) × IsSearchTree (N.order nodes.new) (N.cells nodes.new) result.root shrunk
+        × (nodes_of shrunk ≡ without node (nodes_of t)) }
+    // No links or colour of a node outside the tree changed.
+    ensures frame { (t : Tree) → IsSearchTree (N.order nodes.old) (N.cells nodes.old) root t
+        → (m : ℕ) → is_in m (nodes_of t) ≡ false → N.cells nodes.new m ≡ N.cells nodes.old m }
+    // `bits` counts binary digits, here of the number of nodes before the call and one.
+    ensures steps { (t : Tree) → IsSearchTree (N.order nodes.old) (N.cells nodes.old) root t
+        → result.steps ≤ 32 * bits (length (nodes_of t) + 1) + 32 }
+    ensures counted { 0 < result.steps }
+    ensures root { leads (N.is_node nodes.new) result.root ≡ true }
+    // Nothing but links and colours changed: the nodes, their order, the reference they are reached by, and what else there is stay.
+    ensures same { SameBesideCells N.Nodes nodes.old nodes.new }
+{
+    let mut visits = VisitsMut::new(nodes);
+    if let Some(start) = exit {
+        cut(&mut visits, Some(start), node);
+        return Changed {
+            root,
+            steps: visits.steps(),
+        };
+    }
+    let rest = cut(&mut visits, root, node);
+    blacken(&mut visits, rest.root);
+    Changed {
+        root: rest.root,
+        steps: visits.steps(),
+    }
+}
+
+/// Takes the node out of the tree: `remove_at` the root.
 ///
 /// Only links and colours of the tree's nodes change: every other node stays where it is, and none is copied.
 /// A step is going to a node, with all that is read and written there before the call goes to another.
@@ -310,11 +358,5 @@ pub fn remove<N: NodesMut>(nodes: &mut N, root: Option<u64>, node: u64) -> Chang
     // Nothing but links and colours changed: the nodes, their order, the reference they are reached by, and what else there is stay.
     ensures same { SameBesideCells N.Nodes nodes.old nodes.new }
 {
-    let mut visits = VisitsMut::new(nodes);
-    let rest = cut(&mut visits, root, node);
-    blacken(&mut visits, rest.root);
-    Changed {
-        root: rest.root,
-        steps: visits.steps(),
-    }
+    remove_at(nodes, root, None, node)
 }

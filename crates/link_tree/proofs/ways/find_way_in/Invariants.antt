@@ -1,0 +1,19 @@
+use Rattle.std.proofs.Common.{◌≡◌, ◌-◌, ◌^◌, true}
+use Rattle.link_tree.specs.Tree.{Tree, IsSearchTree}
+use Rattle.link_tree.specs.Nodes.{leads}
+use Rattle.link_tree.proofs.Seeking.{Seeking}
+use Rattle.link_tree.proofs.Approaches.{Passes}
+use Rattle.link_tree.proofs.ways.find_way_in.Given as goal
+
+abbrev pub invariant-loop-link : goal.invariant-loop-link
+invariant-loop-link g l = record {
+  same : l.visits.nodes.now ≡ l.nodes;
+  good : leads (g.N.Nodes.is_node l.nodes) l.link ≡ true;
+  seeks : (t : Tree) → IsSearchTree (g.N.Nodes.order l.nodes) (g.N.Nodes.cells l.nodes) l.fn.root t
+      → Seeking (g.N.Nodes.order l.nodes) (g.N.Nodes.cells l.nodes) (g.N.Nodes.before l.nodes l.probe) t l.link l.found l.visits.at l.visits.steps;
+  passes : (t : Tree) → IsSearchTree (g.N.Nodes.order l.nodes) (g.N.Nodes.cells l.nodes) l.fn.root t
+      → Passes (g.N.Nodes.cells l.nodes) (g.N.Nodes.before l.nodes l.probe) t l.link l.passed.above l.passed.entry;
+}
+
+abbrev pub decreases-loop-link : goal.decreases-loop-link
+decreases-loop-link g l = 2 ^ 64 - l.visits.steps

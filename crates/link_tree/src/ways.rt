@@ -1,0 +1,179 @@
+//! The way of a search to the place where a node would enter, or to a node that is to leave.
+
+ghost use Rattle.std.specs.Prelude.{◌≡◌, ℕ, ◌+◌, ◌*◌, ◌≤◌, Bool, true, false, Option, Some, None, List, length, IfSome, if◌then◌else◌};
+ghost use Rattle.std.specs.Option.{option_or};
+ghost use Rattle.link_tree.specs.Tree.{Tree, IsSearchTree, nodes_of, bits};
+ghost use Rattle.link_tree.specs.Nodes.{leads, first_not};
+ghost use Rattle.link_tree.specs.Searching.{path_length};
+ghost use Rattle.link_tree.specs.Ways.{entry_of, exit_of};
+
+use crate::nodes::Nodes;
+use crate::visits::Visits;
+
+/// The node that was looked for, if there is one, and where a node would enter in its place.
+#[derive(Clone, Copy, Debug, PartialEq, Eq)]
+pub struct WayIn {
+    /// The first node that does not stand before the probe; none where there is no such node in the tree.
+    pub node: Option<u64>,
+    /// Where an insertion at the end of the way begins, for `insert_at`; none where it begins at the root.
+    pub entry: Option<u64>,
+    /// How often the search went to a node.
+    pub steps: u64,
+}
+
+/// Where an insertion begins, as far as a search has gone.
+#[derive(Clone, Copy)]
+struct Passed {
+    /// The node that was passed last, where it is black.
+    above: Option<u64>,
+    /// The lowest black node above it that no red one followed.
+    entry: Option<u64>,
+}
+
+impl Passed {
+    /// One node further down.
+    fn on(self, node: u64, red: bool) -> Passed
+        ensures above { result.above ≡ (if red then None else Some node) }
+        ensures entry { result.entry ≡ (if red then self.entry else option_or self.above self.entry) }
+    {
+        if red {
+            return Passed {
+                above: None,
+                entry: self.entry,
+            };
+        }
+        Passed {
+            above: Some(node),
+            entry: self.end(),
+        }
+    }
+
+    /// Where the insertion begins, if the way ends here.
+    fn end(self) -> Option<u64>
+        ensures { result ≡ option_or self.above self.entry }
+    {
+        match self.above {
+            Some(node) => Some(node),
+            None => self.entry,
+        }
+    }
+}
+
+/// The node that was looked for, if there is one, and where its removal begins.
+#[derive(Clone, Copy, Debug, PartialEq, Eq)]
+pub struct WayOut {
+    /// The first node that does not stand before the probe; none where there is no such node in the tree.
+    pub node: Option<u64>,
+    /// Where the removal of that node begins, for `remove_at`; none where it begins at the root.
+    pub exit: Option<u64>,
+    /// How often the search went to a node.
+    pub steps: u64,
+}
+
+/// Where the removal of the node that was passed last begins, as far as a search has gone.
+#[derive(Clone, Copy)]
+struct Followed {
+    /// The node that was passed last.
+    above: Option<u64>,
+    /// The lowest node above it that a red one followed.
+    exit: Option<u64>,
+}
+
+impl Followed {
+    /// One node further down.
+    fn on(self, node: u64, red: bool) -> Followed
+        ensures above { result.above ≡ Some node }
+        ensures exit { result.exit ≡ (if red then self.above else self.exit) }
+    {
+        let exit = if red { self.above } else { self.exit };
+        Followed {
+            above: Some(node),
+            exit,
+        }
+    }
+}
+
+/// Looks for the first node that does not stand before the probe, and for the place where a node with this probe would enter.
+///
+/// It goes down the same path as `find_first_not_before`, with as many steps, and reads the colours there.
+pub fn find_way_in<N: Nodes>(nodes: &N, root: Option<u64>, probe: &N::Probe) -> WayIn
+    requires root { leads (N.is_node nodes.now) root ≡ true }
+    requires tree { (t : Tree) × IsSearchTree (N.order nodes.now) (N.cells nodes.now) root t }
+    // None, where all nodes stand before the probe.
+    ensures first { (t : Tree) → IsSearchTree (N.order nodes.now) (N.cells nodes.now) root t
+        → result.node ≡ first_not (N.before nodes.now probe.now) (nodes_of t) }
+    // The lowest black node on the path that no red one follows there.
+    ensures entry { (t : Tree) → IsSearchTree (N.order nodes.now) (N.cells nodes.now) root t
+        → result.entry ≡ entry_of (N.before nodes.now probe.now) t }
+    ensures steps { (t : Tree) → IsSearchTree (N.order nodes.now) (N.cells nodes.now) root t
+        → result.steps ≤ 2 * bits (length (nodes_of t) + 1) }
+    ensures exact { (t : Tree) → IsSearchTree (N.order nodes.now) (N.cells nodes.now) root t
+        → result.steps ≡ path_length (N.before nodes.now probe.now) t }
+{
+    let mut visits = Visits::new(nodes);
+    let mut link = root;
+    let mut found = None;
+    let mut passed = Passed {
+        above: None,
+        entry: None,
+    };
+    while let Some(node) = link {
+        let before = visits.before_probe(node, probe);
+        passed = passed.on(node, visits.red(node));
+        if before {
+            link = visits.right(node);
+        } else {
+            found = link;
+            link = visits.left(node);
+        }
+    }
+    WayIn {
+        node: found,
+        entry: passed.end(),
+        steps: visits.steps(),
+    }
+}
+
+/// Looks for the first node that does not stand before the probe, and for where its removal begins.
+///
+/// It goes down the same path as `find_first_not_before`, with as many steps, and reads the colours there.
+pub fn find_way_out<N: Nodes>(nodes: &N, root: Option<u64>, probe: &N::Probe) -> WayOut
+    requires root { leads (N.is_node nodes.now) root ≡ true }
+    requires tree { (t : Tree) × IsSearchTree (N.order nodes.now) (N.cells nodes.now) root t }
+    // None, where all nodes stand before the probe.
+    ensures first { (t : Tree) → IsSearchTree (N.order nodes.now) (N.cells nodes.now) root t
+        → result.node ≡ first_not (N.before nodes.now probe.now) (nodes_of t) }
+    // The lowest node above it that a red one follows on the way there.
+    ensures exit { (t : Tree) → IsSearchTree (N.order nodes.now) (N.cells nodes.now) root t
+        → IfSome result.node (λ n. result.exit ≡ exit_of (N.order nodes.now) n t) }
+    ensures steps { (t : Tree) → IsSearchTree (N.order nodes.now) (N.cells nodes.now) root t
+        → result.steps ≤ 2 * bits (length (nodes_of t) + 1) }
+    ensures exact { (t : Tree) → IsSearchTree (N.order nodes.now) (N.cells nodes.now) root t
+        → result.steps ≡ path_length (N.before nodes.now probe.now) t }
+{
+    let mut visits = Visits::new(nodes);
+    let mut link = root;
+    let mut found = None;
+    let mut exit = None;
+    let mut followed = Followed {
+        above: None,
+        exit: None,
+    };
+    while let Some(node) = link {
+        let before = visits.before_probe(node, probe);
+        followed = followed.on(node, visits.red(node));
+        if before {
+            link = visits.right(node);
+        } else {
+            found = link;
+            exit = followed.exit;
+            link = visits.left(node);
+        }
+    }
+    let steps = visits.steps();
+    WayOut {
+        node: found,
+        exit,
+        steps,
+    }
+}

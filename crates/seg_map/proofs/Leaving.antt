@@ -9,6 +9,7 @@ use Rattle.raw_region.proofs.Laws.{SamePlace-trans, Same-trans}
 use Rattle.offset_link.specs.Link.{link_at}
 use Rattle.link_tree.specs.Tree.{bits, nodes_of}
 use Rattle.link_tree.specs.Nodes.{is_in, without}
+use Rattle.link_tree.specs.Ways.{exit_of}
 use Rattle.best_fit.specs.Extents.{Extent, LiveSet, handle}
 use Rattle.best_fit.specs.Fit.{others, released}
 use Rattle.best_fit.specs.Heap.{IsReleased, LaysOut, SameBlock, extent_at, has_room, is_live_in, live_of}
@@ -16,10 +17,11 @@ use Rattle.best_fit.proofs.Laws.{found-less, found-room, laid-heap, lay_out_one,
 use Rattle.seg_types.specs.declared.plain.Plain.{Ghosts as Plain}
 use Rattle.seg_map.specs.Map.{Pair, IsPairAt, pair_at, remove_pair}
 use Rattle.seg_map.specs.Places.{HoldsMap, IsPairIn, nodes_of_pairs, pair_node}
-use Rattle.seg_map.specs.PairNodes.{own_nodes}
+use Rattle.seg_map.specs.PairNodes.{comes_before, own_nodes}
 use Rattle.seg_map.specs.PairLaws.{Good, In}
 use Rattle.seg_map.specs.Linking.{CanUnlink, IsKeyTree, Unlinked, keys_in}
 use Rattle.seg_map.specs.Changing.{IsBesideMap, IsErased, IsHeaded, IsTaken}
+use Rattle.seg_map.specs.Searches.{exit_in}
 use Rattle.seg_map.proofs.Entering.{Laws, count_pairs, found_in, good, keys, listed}
 use Rattle.seg_map.proofs.Searching.{lent_leads, lent_own, lent_tree}
 use Rattle.seg_map.proofs.PairLists.{in_nodes, none_left, not_among, other_nodes, removed_all, removed_length, removed_rising, without_nodes}
@@ -63,8 +65,14 @@ module _ {K V : Type 0} (kp : Plain K) (vp : Plain V) (kl : Laws kp) (vl : Laws 
   key_tree : IsKeyTree kp (own_nodes c.bytes root None) c root s.map.tree.tree
   key_tree = record { tree = lent_tree kp vp kl c h at ps s root (own_nodes c.bytes root None) is refl; leads = lent_leads kp vp kl c h at ps s root (own_nodes c.bytes root None) is refl }
 
-  pub can_unlink : (node : ℕ) → pair_node p ≡ node → CanUnlink kp (own_nodes c.bytes root None) c root node
-  can_unlink node e = record { shape = s.map.tree.tree; tree = key_tree; listed = ap (λ n. is_in n (nodes_of s.map.tree.tree)) (sym e) ∙ in_tree }
+  pub can_unlink : (start : Option ℕ) (node : ℕ) → pair_node p ≡ node → IfSome start (λ n. exit_in kp c node s.map.tree.tree ≡ Some n)
+      → CanUnlink kp (own_nodes c.bytes root None) c root start node
+  can_unlink start node e begins = record {
+    shape = s.map.tree.tree;
+    tree = key_tree;
+    listed = ap (λ n. is_in n (nodes_of s.map.tree.tree)) (sym e) ∙ in_tree;
+    begins = subst (λ (ms : List ℕ). IfSome start (λ n. exit_of (comes_before kp.order (keys_in kp ms c)) node s.map.tree.tree ≡ Some n)) (sym ns_is) begins;
+  }
 
   module _ (d : Cut) (node : ℕ) (here : pair_node p ≡ node) (top : Option ℕ) (steps : ℕ) (u : Unlinked kp (own_nodes c.bytes root None) c d root node top steps) where
     pub live_left : live_of d.bytes ≡ live_of c.bytes

@@ -12,6 +12,7 @@ mod Rewriting
 mod PairLists
 mod Leaving
 mod PutLists
+mod Beginnings
 mod Planting
 mod Making
 mod NewPairs

@@ -1,6 +1,6 @@
 -- A new pair: its node is made, and enters the map.
 use Rattle.std.proofs.Common.{◌≡◌, refl, sym, ap, subst, ◌∙◌, ℕ, ◌+◌, ◌≢◌, Bool, true, false, ◌&&◌, ◌||◌, List, [], ◌∷◌, arith}
-use Rattle.std.specs.Prelude.{Some, None, Result, Ok, MatchOption, MatchResult}
+use Rattle.std.specs.Prelude.{Option, Some, None, Result, Ok, IfSome, MatchOption, MatchResult}
 use Rattle.std.specs.List.{AllByRecursion}
 use Rattle.std.proofs.lemmas.Bool.{and_from, ne_eqb}
 use Rattle.raw_region.specs.Format.{current}
@@ -9,6 +9,9 @@ use Rattle.raw_region.proofs.Laws.{SamePlace-trans, Same-trans}
 use Rattle.block_tags.specs.declared.tile.Role.TheVariants.{Node}
 use Rattle.offset_link.specs.Link.{link_at}
 use Rattle.link_tree.specs.Nodes.{is_in}
+use Rattle.link_tree.specs.Tree.{nodes_of}
+use Rattle.link_tree.specs.Ways.{entry_of}
+use Rattle.link_tree.proofs.Laws.{entry_same}
 use Rattle.best_fit.specs.Extents.{Extent, handle}
 use Rattle.best_fit.specs.Fit.{added}
 use Rattle.best_fit.specs.Heap.{LaysOut, SameBlock, extent_at, live_of}
@@ -18,12 +21,16 @@ use Rattle.seg_types.specs.declared.plain.Plain.{Ghosts as Plain}
 use Rattle.seg_map.specs.Map.{Pair, node_len, pair_at}
 use Rattle.seg_map.specs.Places.{HoldsMap, IsPairIn, nodes_of_pairs, pair_node}
 use Rattle.seg_map.specs.PairLaws.{In}
+use Rattle.seg_map.specs.PairNodes.{stands, stands_before}
+use Rattle.seg_map.specs.Linking.{keys_in}
+use Rattle.seg_map.specs.Searches.{entry_in}
 use Rattle.seg_map.specs.Changing.{IsFull, IsLoose, IsMade, IsPlanted, IsPut, IsPutAgain}
-use Rattle.seg_map.proofs.Entering.{Laws, found_in}
+use Rattle.seg_map.proofs.Beginnings.{keys_agree, known}
+use Rattle.seg_map.proofs.Entering.{Laws, found_in, keys}
 use Rattle.seg_map.proofs.Leaving.{match_none, match_some}
 use Rattle.seg_map.proofs.PairLists.{not_among}
 use Rattle.seg_map.proofs.PairSteps.{all_in}
-use Rattle.seg_map.proofs.Staying.{Still, map_stays}
+use Rattle.seg_map.proofs.Staying.{Still, map_stays, stays_tree}
 
 module _ {K V : Type 0} (kp : Plain K) (vp : Plain V) (kl : Laws kp) (vl : Laws vp) (c d : Cut) (h at : ℕ) (ps : List (Pair K V)) (s : HoldsMap kp vp c.bytes h at ps) (key : K) (value : V) (node : ℕ)
     (absent : pair_at kp.order ps key ≡ None) (m : IsMade kp vp c d key value node) where
@@ -64,6 +71,25 @@ module _ {K V : Type 0} (kp : Plain K) (vp : Plain V) (kl : Laws kp) (vl : Laws 
       map_stays kp vp kl vl c d h at ps s (laid-heap d.bytes (added (live_of c.bytes) x) m.block.live)
       (allocated-room_before current c d (node_len kp.SIZE vp.SIZE) Node node h (at + 24) m.block s.room)
       (record { at = λ n a b. same.payload.at n (omega arith) (omega arith) }) (stills ps s.pairs)
+
+  there_tree : map_there.map.tree.tree ≡ s.map.tree.tree
+  unfolding map_there
+  there_tree =
+      let r = roomy c h (at + 24) s.heap s.room in let begins = r.at in let long = r.room in
+      let same = kept r.extent (found_in (live_of c.bytes).extents h r.extent r.found) in
+      stays_tree kp vp kl vl c d h at ps s (laid-heap d.bytes (added (live_of c.bytes) x) m.block.live)
+      (allocated-room_before current c d (node_len kp.SIZE vp.SIZE) Node node h (at + 24) m.block s.room)
+      (record { at = λ n a b. same.payload.at n (omega arith) (omega arith) }) (stills ps s.pairs)
+
+  -- an insertion begins where it did before the block was taken
+  pub entry_there : (start : Option ℕ) → start ≡ entry_in kp c key s.map.tree.tree → IfSome start (λ n. entry_in kp d key map_there.map.tree.tree ≡ Some n)
+  entry_there start e =
+      let old = keys_in kp (nodes_of s.map.tree.tree) c in let new = keys_in kp (nodes_of map_there.map.tree.tree) d in
+      let before = keys kp vp kl c h at ps s in let after = keys kp vp kl d h at ps map_there in
+      known start (entry_in kp d key map_there.map.tree.tree) (e
+      ∙ entry_same (stands_before kp.order old false key) (stands_before kp.order new false key) s.map.tree.tree
+      (λ n i. ap (stands kp.order false key) (keys_agree old new ps before after n (ap (is_in n) (sym s.map.tree.lists) ∙ i)))
+      ∙ ap (entry_of (stands_before kp.order new false key)) (sym there_tree))
 
   abbrev pub new_pair : Pair K V
   new_pair = record { key = key; value = value; node = m.block.extent }

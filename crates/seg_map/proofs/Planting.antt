@@ -1,5 +1,5 @@
 -- A pair whose node is made enters the map.
-use Rattle.std.proofs.Common.{◌≡◌, refl, sym, ap, subst, ◌∙◌, ℕ, ◌+◌, ◌*◌, ◌%◌, ◌≤◌, inl, inr, true, false, ◌&&◌, List, [], ◌∷◌, length, arith, ◌==◌}
+use Rattle.std.proofs.Common.{◌≡◌, refl, sym, ap, subst, ◌∙◌, ℕ, ◌+◌, ◌*◌, ◌%◌, ◌≤◌, inl, inr, true, false, not, ◌&&◌, List, [], ◌∷◌, length, arith, ◌==◌}
 use Rattle.std.specs.Prelude.{Option, Some, None, IfSome}
 use Rattle.std.specs.List.{list_all}
 use Rattle.std.proofs.lemmas.Bool.{and_parts, and_from, cond-true, eqb-true, eq-eqb, or_cases, or_left, or_right}
@@ -8,17 +8,20 @@ use Rattle.raw_region.specs.Memory.{Cut, bytes_of}
 use Rattle.offset_link.specs.Link.{link_at}
 use Rattle.link_tree.specs.Tree.{IsTree, Tree, bits, nodes_of, rises}
 use Rattle.link_tree.specs.Nodes.{has_place, is_in, leads, put}
-use Rattle.link_tree.proofs.Laws.{all_at, all_from, root_in, tree_same}
+use Rattle.link_tree.specs.Ways.{entry_of}
+use Rattle.link_tree.proofs.Laws.{all_at, all_from, entry_same, root_in, tree_same}
 use Rattle.best_fit.specs.Extents.{handle}
 use Rattle.best_fit.specs.FreeTree.{cells_of}
 use Rattle.best_fit.specs.Heap.{LaysOut, live_of}
 use Rattle.seg_types.specs.declared.plain.Plain.{Ghosts as Plain}
 use Rattle.seg_map.specs.Map.{Pair, IsPairAt, put_pair}
 use Rattle.seg_map.specs.Places.{HoldsMap, IsPairIn, nodes_of_pairs, pair_node}
-use Rattle.seg_map.specs.PairNodes.{comes_before, is_block_in, is_pair_node, key_at, key_of, links_among, own_nodes, pair_cells}
+use Rattle.seg_map.specs.PairNodes.{comes_before, is_block_in, is_pair_node, key_at, key_of, links_among, own_nodes, pair_cells, stands, stands_before}
 use Rattle.seg_map.specs.PairLaws.{Good, PairNode-is_pair_node, cells_at}
 use Rattle.seg_map.specs.Linking.{CanLink, IsKeyTree, Linked, keys_in}
 use Rattle.seg_map.specs.Changing.{IsBesideMap, IsHeaded, IsLoose, IsPlanted}
+use Rattle.seg_map.specs.Searches.{entry_in}
+use Rattle.seg_map.proofs.Beginnings.{beside as not_beside, moved}
 use Rattle.seg_map.proofs.Entering.{HaveKeys, Laws, count_pairs, few_pairs, good, keys, listed, node_here, pair_block, read_spelled, rising_nodes, value_of}
 use Rattle.seg_map.proofs.Searching.{lent_own}
 use Rattle.seg_map.proofs.PairSteps.{target_whole}
@@ -120,15 +123,26 @@ module _ {K V : Type 0} (kp : Plain K) (vp : Plain V) (kl : Laws kp) (vl : Laws 
       by_root None k = refl
       by_root (Some n) k = node_all n (in_all n (root_in (cells_of (bytes_of c.bytes)) n s.map.tree.tree k))
 
-  pub can_link : (node : ℕ) → pair_node p ≡ node → CanLink kp (own_nodes c.bytes root (Some node)) c root node
-  can_link node e =
-      subst (λ (n : ℕ). CanLink kp (own_nodes c.bytes root (Some n)) c root n) e
-      (subst (λ (ms : List ℕ). CanLink kp ms c root (pair_node p)) (sym ns_is)
+  -- an insertion begins where the search for the key says
+  begins_all : (start : Option ℕ) → IfSome start (λ n. entry_in kp c p.key s.map.tree.tree ≡ Some n)
+      → IfSome start (λ n. entry_of (λ m. not (comes_before kp.order (keys_in kp (pair_node p ∷ nodes_of s.map.tree.tree) c) (pair_node p) m)) s.map.tree.tree ≡ Some n)
+  begins_all start b =
+      moved start (entry_in kp c p.key s.map.tree.tree) (entry_of (λ m. not (comes_before kp.order (keys_in kp all c) (pair_node p) m)) s.map.tree.tree)
+      (entry_same (stands_before kp.order (keys_in kp (nodes_of s.map.tree.tree) c) false p.key) (λ m. not (comes_before kp.order (keys_in kp all c) (pair_node p) m)) s.map.tree.tree
+      (λ m i. ap (stands kp.order false p.key) (sym (key_same m i))
+      ∙ not_beside kp.order kl.irreflexive kl.transitive (keys_in kp all c) p own_key ps keys_all l.absent m (ap (is_in m) (sym (listed kp vp kl c h at ps s)) ∙ i))) b
+
+  pub can_link : (start : Option ℕ) → IfSome start (λ n. entry_in kp c p.key s.map.tree.tree ≡ Some n) → (node : ℕ) → pair_node p ≡ node
+      → CanLink kp (own_nodes c.bytes root (Some node)) c root start node
+  can_link start begins node e =
+      subst (λ (n : ℕ). CanLink kp (own_nodes c.bytes root (Some n)) c root start n) e
+      (subst (λ (ms : List ℕ). CanLink kp ms c root start (pair_node p)) (sym ns_is)
       (record {
         shape = s.map.tree.tree;
         tree = key_tree;
         own = node_all (pair_node p) own_in;
         place = ap (has_place (comes_before kp.order (keys_in kp all c)) (pair_node p)) (listed kp vp kl c h at ps s) ∙ place_of kp.order (keys_in kp all c) p own_key ps keys_all l.absent;
+        begins = begins_all start begins;
       }))
 
   module _ (d : Cut) (node : ℕ) (here : pair_node p ≡ node) (top : Option ℕ) (steps : ℕ) (k : Linked kp (own_nodes c.bytes root (Some node)) c d root node top steps) where

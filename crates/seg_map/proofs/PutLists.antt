@@ -11,7 +11,7 @@ use Rattle.seg_map.proofs.Entering.{HaveKeys}
 use Rattle.seg_map.proofs.FoundPairs.{either_left, none_above, rising_rest}
 use Rattle.seg_map.proofs.PairLists.{Below, below_rising, rising_below}
 
-either_one : (b c : Bool) → not (b || c) ≡ false → b ≡ false → c ≡ true
+pub either_one : (b c : Bool) → not (b || c) ≡ false → b ≡ false → c ≡ true
 either_one true c e f = absurd (false≢true (sym f))
 either_one false true e f = refl
 either_one false false e f = absurd (false≢true (sym e))

@@ -1,5 +1,5 @@
 -- A map whose blocks stay stays.
-use Rattle.std.proofs.Common.{◌≡◌, sym, ap, subst, ◌∙◌, ℕ, ◌+◌, ◌-◌, ◌%◌, ◌≤◌, inl, inr, true, ◌&&◌, List, [], ◌∷◌, length, arith, ◌==◌, IsTrue}
+use Rattle.std.proofs.Common.{◌≡◌, refl, sym, ap, subst, ◌∙◌, ℕ, ◌+◌, ◌-◌, ◌%◌, ◌≤◌, inl, inr, true, ◌&&◌, List, [], ◌∷◌, length, arith, ◌==◌, IsTrue}
 use Rattle.std.specs.Prelude.{Some}
 use Rattle.std.specs.List.{AllByRecursion}
 use Rattle.std.proofs.lemmas.Bool.{false≢true, and_parts, or_cases, eqb-true, leb-true}
@@ -120,3 +120,8 @@ module _ {K V : Type 0} (kp : Plain K) (vp : Plain V) (kl : Laws kp) (vl : Laws 
         rising = s.rising;
         pairs = pairs_in ps s.pairs blocks;
       }
+
+  -- its tree is the same
+  pub stays_tree : map_stays.map.tree.tree ≡ s.map.tree.tree
+  unfolding map_stays
+  stays_tree = refl

@@ -1,5 +1,5 @@
 -- What changes where pairs are put and erased.
-use Rattle.std.specs.Prelude.{◌≡◌, ℕ, ◌+◌, ◌*◌, ◌≤◌, Bool, true, false, Option, Some, None, Result, Ok, List, [], ◌∷◌, MatchOption, MatchResult, length, map}
+use Rattle.std.specs.Prelude.{◌≡◌, ℕ, ◌+◌, ◌*◌, ◌≤◌, Bool, true, false, Option, Some, None, Result, Ok, List, [], ◌∷◌, IfSome, MatchOption, MatchResult, length, map}
 use Rattle.raw_region.specs.Format.{current}
 use Rattle.raw_region.specs.Memory.{Cut, Has, Same, SamePlace, bytes_of, word_at}
 use Rattle.block_tags.specs.declared.tile.Role.TheVariants.{Node}
@@ -13,6 +13,7 @@ use Rattle.best_fit.specs.Heap.{IsAllocated, IsChanged, IsRefused, LaysOut, exte
 use Rattle.seg_types.specs.declared.plain.Plain.{Ghosts as Plain}
 use Rattle.seg_map.specs.Map.{Pair, IsPairAt, node_len, pair_at, put_pair, remove_pair}
 use Rattle.seg_map.specs.Places.{HoldsMap, IsPairIn, nodes_of_pairs, pair_node}
+use Rattle.seg_map.specs.Searches.{entry_in, exit_in}
 
 -- the three words of a map are these now, and nothing else changes
 pub record IsHeaded (old new : Cut) (at : ℕ) (root : Option ℕ) (count : ℕ) : Type 0 where
@@ -45,6 +46,11 @@ pub record HasKeyNode {K V : Type 0} (k : Plain K) (v : Plain V) (b : List ℕ) 
   pub map : HoldsMap k v b h at pairs
   pub found : pair_at k.order pairs key ≡ Some pair
   pub is : pair_node pair ≡ node
+
+-- such a node, and where its removal begins, if that is known
+pub record CanTakeOut {K V : Type 0} (k : Plain K) (v : Plain V) (c : Cut) (h at : ℕ) (start : Option ℕ) (node : ℕ) : Type 0 where
+  pub there : HasKeyNode k v c.bytes h at node
+  pub begins : IfSome start (λ n. exit_in k c node there.map.map.tree.tree ≡ Some n)
 
 -- the pair of a key is no longer in the map; its block is still in use
 pub record IsTaken {K V : Type 0} (k : Plain K) (v : Plain V) (old new : Cut) (h at : ℕ) (ps : List (Pair K V)) (key : K) : Type 0 where
@@ -114,6 +120,11 @@ pub record HasLooseNode {K V : Type 0} (k : Plain K) (v : Plain V) (b : List ℕ
   pub map : HoldsMap k v b h at pairs
   pub loose : IsLoose k v b h pairs pair
   pub is : pair_node pair ≡ node
+
+-- the same, and where the insertion of the node begins, if that is known
+pub record CanPutIn {K V : Type 0} (k : Plain K) (v : Plain V) (c : Cut) (h at : ℕ) (start : Option ℕ) (node : ℕ) : Type 0 where
+  pub there : HasLooseNode k v c.bytes h at node
+  pub begins : IfSome start (λ n. entry_in k c there.pair.key there.map.map.tree.tree ≡ Some n)
 
 -- the pair is in the map
 pub record IsPlanted {K V : Type 0} (k : Plain K) (v : Plain V) (old new : Cut) (h at : ℕ) (ps : List (Pair K V)) (p : Pair K V) : Type 0 where

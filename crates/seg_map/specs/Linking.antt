@@ -1,8 +1,9 @@
 -- Nodes that enter and leave the tree of a map.
-use Rattle.std.specs.Prelude.{◌≡◌, ℕ, ◌+◌, ◌*◌, ◌≤◌, true, Option, List, length}
+use Rattle.std.specs.Prelude.{◌≡◌, ℕ, ◌+◌, ◌*◌, ◌≤◌, true, not, Option, Some, List, length, IfSome}
 use Rattle.raw_region.specs.Memory.{Cut}
 use Rattle.link_tree.specs.Tree.{Tree, IsSearchTree, bits, nodes_of}
 use Rattle.link_tree.specs.Nodes.{has_place, is_in, leads, put, without}
+use Rattle.link_tree.specs.Ways.{entry_of, exit_of}
 use Rattle.seg_types.specs.declared.plain.Plain.{Ghosts as Plain}
 use Rattle.seg_types.specs.Plain.{value_in}
 use Rattle.seg_map.specs.PairNodes.{comes_before, is_pair_node, kept_of, key_of, pair_cells}
@@ -16,11 +17,12 @@ pub record IsKeyTree {K : Type 0} (k : Plain K) (ns : List ℕ) (c : Cut) (root 
   pub tree : IsSearchTree (comes_before k.order (keys_in k ns c)) (pair_cells (16 + k.SIZE) ns c) root t
   pub leads : leads (is_pair_node (16 + k.SIZE) ns c) root ≡ true
 
--- a node of the tree that can be taken out
-pub record CanUnlink {K : Type 0} (k : Plain K) (ns : List ℕ) (c : Cut) (root : Option ℕ) (node : ℕ) : Type 0 where
+-- a node of the tree that can be taken out, from the root on or from where its removal begins
+pub record CanUnlink {K : Type 0} (k : Plain K) (ns : List ℕ) (c : Cut) (root start : Option ℕ) (node : ℕ) : Type 0 where
   pub shape : Tree
   pub tree : IsKeyTree k ns c root shape
   pub listed : is_in node (nodes_of shape) ≡ true
+  pub begins : IfSome start (λ n. exit_of (comes_before k.order (keys_in k ns c)) node shape ≡ Some n)
 
 -- the node is no longer in the tree; nothing changes but links and colours of the nodes
 pub record Unlinked {K : Type 0} (k : Plain K) (ns : List ℕ) (old new : Cut) (root : Option ℕ) (node : ℕ) (top : Option ℕ) (steps : ℕ) : Type 0 where
@@ -28,12 +30,13 @@ pub record Unlinked {K : Type 0} (k : Plain K) (ns : List ℕ) (old new : Cut) (
   pub tree : (t : Tree) → IsKeyTree k ns old root t → (s : Tree) × IsKeyTree k ns new top s × (nodes_of s ≡ without node (nodes_of t))
   pub few : (t : Tree) → IsKeyTree k ns old root t → steps ≤ 32 * bits (length (nodes_of t) + 1) + 32
 
--- a node that has a place in the tree
-pub record CanLink {K : Type 0} (k : Plain K) (ns : List ℕ) (c : Cut) (root : Option ℕ) (node : ℕ) : Type 0 where
+-- a node that has a place in the tree, and is put there from the root on or from where its insertion begins
+pub record CanLink {K : Type 0} (k : Plain K) (ns : List ℕ) (c : Cut) (root start : Option ℕ) (node : ℕ) : Type 0 where
   pub shape : Tree
   pub tree : IsKeyTree k ns c root shape
   pub own : is_pair_node (16 + k.SIZE) ns c node ≡ true
   pub place : has_place (comes_before k.order (keys_in k ns c)) node (nodes_of shape) ≡ true
+  pub begins : IfSome start (λ n. entry_of (λ m. not (comes_before k.order (keys_in k ns c) node m)) shape ≡ Some n)
 
 -- the node is in the tree too
 pub record Linked {K : Type 0} (k : Plain K) (ns : List ℕ) (old new : Cut) (root : Option ℕ) (node : ℕ) (top : Option ℕ) (steps : ℕ) : Type 0 where

@@ -6,7 +6,7 @@ ghost use Rattle.seg_map.specs.Linking.{CanLink, CanUnlink, Linked, Unlinked};
 use crate::nodes::Pairs;
 use crate::owned::Own;
 use best_fit::Heap;
-use link_tree::{insert, remove};
+use link_tree::{insert_at, remove_at};
 use raw_region::Steps;
 use seg_types::Plain;
 use std::marker::PhantomData;
@@ -25,66 +25,72 @@ fn lend<'a, K: Plain>(heap: &'a mut Heap, root: Option<u64>, spare: Option<u64>)
     }
 }
 
-/// `remove` of the tree, which keeps the heap's reference. What it takes is counted here, and nowhere else.
+/// `remove_at` of the tree, which keeps the heap's reference. What it takes is counted here, and nowhere else.
 fn uproot<K: Plain>(
     pairs: &mut Pairs<K>,
     root: Option<u64>,
+    start: Option<u64>,
     node: u64,
     steps: &mut Steps,
 ) -> Option<u64>
-    requires { CanUnlink K.Plain pairs.old.own pairs.old.heap.now root node }
+    requires { CanUnlink K.Plain pairs.old.own pairs.old.heap.now root start node }
     ensures reference { pairs.new.heap.ghost_name ≡ pairs.old.heap.ghost_name }
     ensures counted { steps.old ≤ steps.new }
     ensures change { Unlinked K.Plain pairs.old.own pairs.old.heap.now pairs.new.heap.now root node result (steps.new - steps.old) }
 {
-    let changed = remove(pairs, root, node);
+    let changed = remove_at(pairs, root, start, node);
     steps.add(changed.steps);
     changed.root
 }
 
-/// `insert` of the tree, which keeps the heap's reference. What it takes is counted here, and nowhere else.
+/// `insert_at` of the tree, which keeps the heap's reference. What it takes is counted here, and nowhere else.
 fn plant<K: Plain>(
     pairs: &mut Pairs<K>,
     root: Option<u64>,
+    start: Option<u64>,
     node: u64,
     steps: &mut Steps,
 ) -> Option<u64>
-    requires { CanLink K.Plain pairs.old.own pairs.old.heap.now root node }
+    requires { CanLink K.Plain pairs.old.own pairs.old.heap.now root start node }
     ensures reference { pairs.new.heap.ghost_name ≡ pairs.old.heap.ghost_name }
     ensures counted { steps.old ≤ steps.new }
     ensures change { Linked K.Plain pairs.old.own pairs.old.heap.now pairs.new.heap.now root node result (steps.new - steps.old) }
 {
-    let changed = insert(pairs, root, node);
+    let changed = insert_at(pairs, root, start, node);
     steps.add(changed.steps);
     changed.root
 }
 
-/// Takes a node out of the tree that a link leads to, and answers the new root.
+/// Takes a node out of the tree that a link leads to, from the root on or from where a search has found that its removal
+/// begins, and answers the new root.
 pub fn unlink<K: Plain>(
     heap: &mut Heap,
     root: Option<u64>,
+    start: Option<u64>,
     node: u64,
     steps: &mut Steps,
 ) -> Option<u64>
-    requires { CanUnlink K.Plain (own_nodes heap.old.bytes root None) heap.old root node }
+    requires { CanUnlink K.Plain (own_nodes heap.old.bytes root None) heap.old root start node }
     ensures counted { steps.old ≤ steps.new }
     ensures change { Unlinked K.Plain (own_nodes heap.old.bytes root None) heap.old heap.new root node result (steps.new - steps.old) }
 {
     let mut pairs = lend::<K>(heap, root, None);
-    uproot(&mut pairs, root, node, steps)
+    uproot(&mut pairs, root, start, node, steps)
 }
 
-/// Puts a node into the tree that a link leads to, and answers the new root.
+/// Puts a node into the tree that a link leads to, from the root on or from where a search has found that its insertion
+/// begins, and answers the new root.
 pub fn link<K: Plain>(
     heap: &mut Heap,
     root: Option<u64>,
+    start: Option<u64>,
     node: u64,
     steps: &mut Steps,
 ) -> Option<u64>
-    requires { CanLink K.Plain (own_nodes heap.old.bytes root (Some node)) heap.old root node }
+    requires { CanLink K.Plain (own_nodes heap.old.bytes root (Some node)) heap.old root start node }
     ensures counted { steps.old ≤ steps.new }
     ensures change { Linked K.Plain (own_nodes heap.old.bytes root (Some node)) heap.old heap.new root node result (steps.new - steps.old) }
 {
     let mut pairs = lend::<K>(heap, root, Some(node));
-    plant(&mut pairs, root, node, steps)
+    plant(&mut pairs, root, start, node, steps)
 }

@@ -3,10 +3,10 @@ ghost use Rattle.std.specs.Prelude.{◌≡◌, ◌+◌, ◌≤◌, IsTrue, true}
 ghost use Rattle.raw_region.specs.Format.{current};
 ghost use Rattle.raw_region.specs.Memory.{Has, bytes_of};
 ghost use Rattle.best_fit.specs.Heap.{IsChanged, has_room, heap_touches, live_of};
-ghost use Rattle.seg_map.specs.Changing.{ChangeSteps, HasLooseNode, Makes, Puts, PutsIn, TreeSteps};
+ghost use Rattle.seg_map.specs.Changing.{CanPutIn, ChangeSteps, Makes, Puts, PutsIn, TreeSteps};
 ghost use Rattle.seg_map.specs.Places.{IsSomeMap};
 
-use crate::finding::find;
+use crate::finding::find_in;
 use crate::heading::{COUNT, write_head};
 use crate::linking::link;
 use crate::reading::KEY;
@@ -72,16 +72,23 @@ fn make_node<K: Plain, V: Plain>(
     Ok(node)
 }
 
-/// Puts a pair into the map, whose node is made.
-fn put_in<K: Plain, V: Plain>(heap: &mut Heap, handle: u64, at: u64, node: u64, steps: &mut Steps)
-    requires { HasLooseNode K.Plain V.Plain heap.old.bytes handle at node }
+/// Puts a pair into the map, whose node is made, from where the search for its key has found that the tree changes.
+fn put_in<K: Plain, V: Plain>(
+    heap: &mut Heap,
+    handle: u64,
+    at: u64,
+    start: Option<u64>,
+    node: u64,
+    steps: &mut Steps,
+)
+    requires { CanPutIn K.Plain V.Plain heap.old handle at start node }
     ensures planted { PutsIn K.Plain V.Plain heap.old heap.new handle at node }
     ensures counted { steps.old ≤ steps.new }
     ensures steps { TreeSteps K.Plain V.Plain heap.old handle at steps.old steps.new }
 {
     let root = heap.link(handle, at);
     let count = heap.word(handle, at + COUNT);
-    let top = link::<K>(heap, root, node, steps);
+    let top = link::<K>(heap, root, start, node, steps);
     write_head(heap, handle, at, top, count + 1);
 }
 
@@ -104,11 +111,12 @@ pub fn put<K: Plain, V: Plain>(
     ensures counted { steps.old ≤ steps.new }
     ensures steps { ChangeSteps K.Plain V.Plain heap.old handle at steps.old steps.new }
 {
-    if let Some(node) = find::<K, V>(&*heap, handle, at, key, steps) {
+    let trace = find_in::<K, V>(&*heap, handle, at, key, steps);
+    if let Some(node) = trace.node {
         write_value::<V>(heap, node, KEY + K::SIZE, value);
         return Ok(false);
     }
     let node = make_node::<K, V>(heap, key, value, steps)?;
-    put_in::<K, V>(heap, handle, at, node, steps);
+    put_in::<K, V>(heap, handle, at, trace.start, node, steps);
     Ok(true)
 }

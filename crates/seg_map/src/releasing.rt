@@ -12,7 +12,7 @@ fn give_up<K: Plain, V: Plain>(heap: &mut Heap, handle: u64, at: u64, node: u64)
     requires { HasKeyNode K.Plain V.Plain heap.old.bytes handle at node }
     ensures { Drops K.Plain V.Plain heap.old heap.new handle at node }
 {
-    take_out::<K, V>(heap, handle, at, node, &mut Steps::new());
+    take_out::<K, V>(heap, handle, at, None, node, &mut Steps::new());
     heap.deallocate(node, &mut Steps::new());
 }
 

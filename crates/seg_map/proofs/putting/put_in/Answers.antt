@@ -11,25 +11,25 @@ use Rattle.seg_map.proofs.Planting.{can_link, few_in_map, few_put, live_put, pla
 use Rattle.seg_map.proofs.putting.put_in.Goals as goal
 
 pub link-root-requires-clause-room : goal.link-root-requires-clause-room
-link-root-requires-clause-room g c = room-less (live_of c.args.heap.now.bytes) c.args.handle (c.args.at + 24) (c.args.at + 8) (omega arith) c.requires.map.room
+link-root-requires-clause-room g c = room-less (live_of c.args.heap.now.bytes) c.args.handle (c.args.at + 24) (c.args.at + 8) (omega arith) c.requires.there.map.room
 
 pub overflow_add-at : goal.overflow_add-at
-overflow_add-at g c = let few = small c.args.heap.now.bytes c.args.handle (c.args.at + 24) c.requires.map.heap.proper c.requires.map.room in omega arith
+overflow_add-at g c = let few = small c.args.heap.now.bytes c.args.handle (c.args.at + 24) c.requires.there.map.heap.proper c.requires.there.map.room in omega arith
 
 pub word-count-requires : goal.word-count-requires
-word-count-requires g c = room-less (live_of c.args.heap.now.bytes) c.args.handle (c.args.at + 24) (c.args.at + 8 + 8) (omega arith) c.requires.map.room
+word-count-requires g c = room-less (live_of c.args.heap.now.bytes) c.args.handle (c.args.at + 24) (c.args.at + 8 + 8) (omega arith) c.requires.there.map.room
 
 pub link-top-requires : goal.link-top-requires
 link-top-requires g c =
     let laws : Laws g.K.Plain = record { spells = g.met.K.Plain.spells; reads = g.met.K.Plain.reads; irreflexive = g.met.K.Plain.irreflexive; transitive = g.met.K.Plain.transitive } in
     let vaws : Laws g.V.Plain = record { spells = g.met.V.Plain.spells; reads = g.met.V.Plain.reads; irreflexive = g.met.V.Plain.irreflexive; transitive = g.met.V.Plain.transitive } in
-    let r = c.requires in
-    can_link g.K.Plain g.V.Plain laws vaws c.args.heap.now c.args.handle c.args.at c.link-root.result r.pairs r.map c.link-root.ensures r.pair r.loose c.args.node r.is
+    let r = c.requires.there in
+    can_link g.K.Plain g.V.Plain laws vaws c.args.heap.now c.args.handle c.args.at c.link-root.result r.pairs r.map c.link-root.ensures r.pair r.loose c.args.start c.requires.begins c.args.node r.is
 
 pub overflow_add-count : goal.overflow_add-count
 overflow_add-count g c =
     let laws : Laws g.K.Plain = record { spells = g.met.K.Plain.spells; reads = g.met.K.Plain.reads; irreflexive = g.met.K.Plain.irreflexive; transitive = g.met.K.Plain.transitive } in
-    let r = c.requires in
+    let r = c.requires.there in
     let place : c.args.handle + (c.args.at + 8) ≡ c.args.handle + c.args.at + 8 = omega arith in
     let count : c.word-count.result ≡ length r.pairs = c.word-count.ensures ∙ ap (word_at (bytes_of c.args.heap.now.bytes)) place ∙ r.map.map.count in
     let few = few_in_map g.K.Plain g.V.Plain laws c.args.heap.now c.args.handle c.args.at r.pairs r.map in
@@ -39,7 +39,7 @@ pub write_head-requires-clause-proper : goal.write_head-requires-clause-proper
 write_head-requires-clause-proper g c =
     let laws : Laws g.K.Plain = record { spells = g.met.K.Plain.spells; reads = g.met.K.Plain.reads; irreflexive = g.met.K.Plain.irreflexive; transitive = g.met.K.Plain.transitive } in
     let vaws : Laws g.V.Plain = record { spells = g.met.V.Plain.spells; reads = g.met.V.Plain.reads; irreflexive = g.met.V.Plain.irreflexive; transitive = g.met.V.Plain.transitive } in
-    let r = c.requires in
+    let r = c.requires.there in
     subst (λ l. IsTrue (is_proper l)) (sym (live_put g.K.Plain g.V.Plain laws vaws c.args.heap.now c.args.handle c.args.at c.link-root.result r.pairs r.map c.link-root.ensures r.pair r.loose
     c.link-top.new.heap c.args.node r.is c.link-top.result (c.link-top.new.steps - c.args.steps.now) c.link-top.ensures.change)) r.map.heap.proper
 
@@ -47,7 +47,7 @@ pub write_head-requires-clause-room : goal.write_head-requires-clause-room
 write_head-requires-clause-room g c =
     let laws : Laws g.K.Plain = record { spells = g.met.K.Plain.spells; reads = g.met.K.Plain.reads; irreflexive = g.met.K.Plain.irreflexive; transitive = g.met.K.Plain.transitive } in
     let vaws : Laws g.V.Plain = record { spells = g.met.V.Plain.spells; reads = g.met.V.Plain.reads; irreflexive = g.met.V.Plain.irreflexive; transitive = g.met.V.Plain.transitive } in
-    let r = c.requires in
+    let r = c.requires.there in
     subst (λ l. IsTrue (has_room l c.args.handle (c.args.at + 24))) (sym (live_put g.K.Plain g.V.Plain laws vaws c.args.heap.now c.args.handle c.args.at c.link-root.result r.pairs r.map c.link-root.ensures r.pair r.loose
     c.link-top.new.heap c.args.node r.is c.link-top.result (c.link-top.new.steps - c.args.steps.now) c.link-top.ensures.change)) r.map.room
 
@@ -55,7 +55,7 @@ pub write_head-requires-clause-root : goal.write_head-requires-clause-root
 write_head-requires-clause-root g c =
     let laws : Laws g.K.Plain = record { spells = g.met.K.Plain.spells; reads = g.met.K.Plain.reads; irreflexive = g.met.K.Plain.irreflexive; transitive = g.met.K.Plain.transitive } in
     let vaws : Laws g.V.Plain = record { spells = g.met.V.Plain.spells; reads = g.met.V.Plain.reads; irreflexive = g.met.V.Plain.irreflexive; transitive = g.met.V.Plain.transitive } in
-    let r = c.requires in
+    let r = c.requires.there in
     top_put g.K.Plain g.V.Plain laws vaws c.args.heap.now c.args.handle c.args.at c.link-root.result r.pairs r.map c.link-root.ensures r.pair r.loose
     c.link-top.new.heap c.args.node r.is c.link-top.result (c.link-top.new.steps - c.args.steps.now) c.link-top.ensures.change
 
@@ -73,7 +73,7 @@ pub returns-clause-steps : goal.returns-clause-steps
 returns-clause-steps g c = λ ps s.
     let laws : Laws g.K.Plain = record { spells = g.met.K.Plain.spells; reads = g.met.K.Plain.reads; irreflexive = g.met.K.Plain.irreflexive; transitive = g.met.K.Plain.transitive } in
     let vaws : Laws g.V.Plain = record { spells = g.met.V.Plain.spells; reads = g.met.V.Plain.reads; irreflexive = g.met.V.Plain.irreflexive; transitive = g.met.V.Plain.transitive } in
-    let r = c.requires in
+    let r = c.requires.there in
     let few = few_put g.K.Plain g.V.Plain laws vaws c.args.heap.now c.args.handle c.args.at c.link-root.result r.pairs r.map c.link-root.ensures r.pair r.loose
     c.link-top.new.heap c.args.node r.is c.link-top.result (c.link-top.new.steps - c.args.steps.now) c.link-top.ensures.change in
     let same : length r.pairs ≡ length ps = sym r.map.map.count ∙ s.map.count in

@@ -2,7 +2,7 @@
 
 use crate::benches::{Bench, Runner};
 use crate::checks::Wanted;
-use crate::images::{copy_of, word_at};
+use crate::images::{copy_of, size_said};
 use crate::scripts::Script;
 use crate::tasks::{Place, Way};
 use crate::troubles::Trouble;
@@ -81,7 +81,7 @@ impl<R: Runner> Bench<R> {
     /// The reader of the image fails or ends behind each byte, though there may be a fault of the image that comes first. Nothing is
     /// printed or saved.
     pub fn cut_reading(&self, line: usize, way: &Way, image: &[u8], script: &[u8], fault: &str) {
-        let size = word_at(image, 16);
+        let size = size_said(image);
         let from = bytes_of(size, fault);
         for len in 0..image.len().saturating_add(1) {
             let front = front_of(image, len);
@@ -129,5 +129,5 @@ fn bytes_of(size: u64, fault: &str) -> u64 {
 
 /// Whether a segment may have so many bytes. Where one that says so is of a wrong size, the first byte behind it tells.
 fn is_size(size: u64) -> bool {
-    size == 144 || (176..=1073741824).contains(&size) && size % 16 == 0
+    size % 16 == 0 && (size == 144 || 176 <= size && size <= 1073741824)
 }

@@ -1,7 +1,7 @@
 //! The items of a row file, one after another.
 
 use crate::benches::{Bench, Runner};
-use crate::images::{Images, word_at};
+use crate::images::{Images, size_said};
 use crate::lines::{Begins, Line, parted};
 use crate::part_lines::{Deed, Part};
 use crate::tasks::{Place, Start};
@@ -87,13 +87,25 @@ impl<R: Runner> Bench<R> {
         lines: &[Line<'a>],
     ) -> Result<(), Trouble> {
         for size in sizes.rest.split_whitespace() {
-            let mut left = Left {
-                start: Start::Fresh(sizes.number_of(size)?),
-                image: Vec::new(self.alloc),
-            };
-            self.note(self.check_parts(images, sizes, lines, &mut left));
+            let size = sizes.number_of(size)?;
+            self.note(self.check_fresh(images, sizes, lines, size));
         }
         Ok(())
+    }
+
+    /// Runs a row in a fresh segment.
+    fn check_fresh<'a>(
+        &self,
+        images: &mut Images<'a>,
+        row: &Line<'a>,
+        lines: &[Line<'a>],
+        size: u64,
+    ) -> Result<(), Trouble> {
+        let mut left = Left {
+            start: Start::Fresh(size),
+            image: Vec::new(self.alloc),
+        };
+        self.check_parts(images, row, lines, &mut left)
     }
 
     /// Runs a row on an image with changes.
@@ -231,7 +243,7 @@ impl Left {
     fn size(&self) -> u64 {
         match self.start {
             Start::Fresh(size) => size,
-            Start::Image => size_said(&self.image).max(self.image.len() as u64),
+            Start::Image => likely(size_said(&self.image)).max(self.image.len() as u64),
         }
     }
 }
@@ -265,8 +277,7 @@ fn is_once(lines: &[Line<'_>]) -> bool {
     lines.iter().any(|line| line.word == "once")
 }
 
-/// How many bytes an image says that it has, and 0 where these are too many.
-fn size_said(image: &[u8]) -> u64 {
-    let said = word_at(image, 16);
+/// The size that an image says that it has, and 0 where these are too many bytes.
+fn likely(said: u64) -> u64 {
     if said <= MOST_SAID { said } else { 0 }
 }

@@ -3,20 +3,16 @@
 use crate::lines::Line;
 use crate::part_lines::Part;
 use crate::troubles::Trouble;
+use raw_region::word_in;
 use std::alloc::{AllocError, Global};
-
-/// An image under a name.
-#[derive(Drop)]
-struct Named<'a> {
-    name: &'a str,
-    bytes: Vec<u8>,
-}
 
 /// The images of a file that have names.
 #[derive(Drop)]
 pub struct Images<'a> {
     alloc: Global,
-    named: Vec<Named<'a>>,
+    names: Vec<&'a str>,
+    /// The image of each of the names.
+    images: Vec<Vec<u8>>,
 }
 
 impl<'a> Images<'a> {
@@ -24,14 +20,16 @@ impl<'a> Images<'a> {
     pub fn new(alloc: Global) -> Images<'a> {
         Images {
             alloc,
-            named: Vec::new(alloc),
+            names: Vec::new(alloc),
+            images: Vec::new(alloc),
         }
     }
 
     /// The image of a name, which is said in a line: the last one that got it.
     pub fn get(&self, line: &Line<'_>, name: &str) -> Result<&[u8], Trouble> {
-        match self.named.iter().rev().find(|named| named.name == name) {
-            Some(named) => Ok(&named.bytes),
+        let last = self.names.iter().rposition(|named| *named == name);
+        match self.images.get(last.unwrap_or(self.images.len())) {
+            Some(image) => Ok(image),
             None => Err(line.trouble("there is no image of this name")),
         }
     }
@@ -42,8 +40,9 @@ impl<'a> Images<'a> {
     }
 
     /// Keeps an image under a name.
-    pub fn keep(&mut self, name: &'a str, bytes: Vec<u8>) -> Result<(), AllocError> {
-        self.named.push(Named { name, bytes })?;
+    pub fn keep(&mut self, name: &'a str, image: Vec<u8>) -> Result<(), AllocError> {
+        self.images.push(image)?;
+        self.names.push(name)?;
         Ok(())
     }
 
@@ -98,10 +97,7 @@ impl<'a> Images<'a> {
     fn begun(&self, line: &Line<'a>, text: &str) -> Result<Vec<u8>, Trouble> {
         match text.strip_prefix("of ") {
             Some(other) => self.copy(line, other),
-            None => {
-                let len = line.number_of(text)? as usize;
-                Ok(Vec::from_elem(self.alloc, 0u8, len)?)
-            }
+            None => Ok(zeros(self.alloc, line.number_of(text)?)?),
         }
     }
 }
@@ -142,10 +138,10 @@ impl Line<'_> {
         Ok(image.resize(image.len().saturating_add(more), 0)?)
     }
 
-    /// Makes changes that commas part.
+    /// Makes changes that commas part, each perhaps with a blank behind it.
     fn put_all(&self, image: &mut [u8]) -> Result<(), Trouble> {
         for change in self.rest.split(',') {
-            self.put(image, change.trim_start())?;
+            self.put(image, change.strip_prefix(' ').unwrap_or(change))?;
         }
         Ok(())
     }
@@ -164,9 +160,8 @@ fn put(image: &mut [u8], offset: u64, len: u64, number: u64) {
     let Some(rest) = image.get_mut(offset as usize..) else {
         return;
     };
-    for (slot, byte) in rest.iter_mut().take(len as usize).zip(number.to_le_bytes()) {
-        *slot = byte;
-    }
+    let count = rest.len().min(len as usize).min(8);
+    rest[..count].copy_from_slice(&number.to_le_bytes()[..count]);
 }
 
 /// Makes the changes of an image that some lines say.
@@ -187,15 +182,20 @@ fn change_by(image: &mut Vec<u8>, lines: &[Line<'_>]) -> Result<(), Trouble> {
     Ok(())
 }
 
+/// So many zeros.
+fn zeros(alloc: Global, len: u64) -> Result<Vec<u8>, AllocError> {
+    Vec::from_elem(alloc, 0u8, len as usize)
+}
+
 /// A copy of some bytes.
 pub fn copy_of(alloc: Global, bytes: &[u8]) -> Result<Vec<u8>, AllocError> {
     bytes.to_vec(alloc)
 }
 
-/// The number in the 8 bytes from an offset on, or 0 where the image ends before.
-pub fn word_at(image: &[u8], offset: usize) -> u64 {
-    match image.get(offset..).and_then(|rest| rest.first_chunk()) {
-        Some(word) => u64::from_le_bytes(*word),
-        None => 0,
+/// How many bytes an image says that it has: the number in the 8 bytes from 16 on, or 0 where the image ends before.
+pub fn size_said(image: &[u8]) -> u64 {
+    if image.len() < 24 {
+        return 0;
     }
+    word_in(image, 16)
 }

@@ -7,14 +7,13 @@ use std::alloc::{AllocError, Global};
 /// The most bytes of a region.
 const LARGEST: u64 = 1 << 40;
 
-/// What a line begins, if anything.
-#[derive(Clone, Copy, PartialEq, Eq)]
+/// What a line may begin.
+#[derive(Clone, Copy)]
 pub enum Begins {
     /// An image, a row, or a table of images or of requests.
     Item,
     /// A part of a row.
     Part,
-    Nothing,
 }
 
 /// A line that is neither empty nor a remark: where it stands in the file, its first word, and what stands behind the blank.
@@ -25,7 +24,6 @@ pub struct Line<'a> {
     pub rest: &'a str,
     /// All of it.
     pub text: &'a str,
-    pub begins: Begins,
 }
 
 impl<'a> Line<'a> {
@@ -36,7 +34,17 @@ impl<'a> Line<'a> {
             word,
             rest,
             text,
-            begins: begins_of(word, rest),
+        }
+    }
+
+    /// Whether it begins such a thing.
+    fn is_first(&self, begins: Begins) -> bool {
+        match begins {
+            Begins::Item => {
+                ["row", "damaged", "requests"].contains(&self.word)
+                    || self.word == "image" && self.rest.contains(' ')
+            }
+            Begins::Part => ["again", "read", "alone", "migrate"].contains(&self.word),
         }
     }
 
@@ -72,11 +80,16 @@ impl<'a> Line<'a> {
     /// Where a segment lies: the capacity of its region, and its base, both multiples of 16.
     pub fn place(&self) -> Result<Place, Trouble> {
         let (capacity, base) = self.pair_of(self.rest, ' ')?;
-        if capacity % 16 != 0 || capacity < 16 || LARGEST < capacity || base % 16 != 0 {
-            return Err(self.trouble("there is no such place"));
+        if is_place(capacity, base) {
+            return Ok(Place { capacity, base });
         }
-        Ok(Place { capacity, base })
+        Err(self.trouble("there is no such place"))
     }
+}
+
+/// Whether a region may have this capacity, and a segment this base.
+fn is_place(capacity: u64, base: u64) -> bool {
+    16 <= capacity && capacity <= LARGEST && capacity % 16 == 0 && base % 16 == 0
 }
 
 /// The number that digits spell.
@@ -105,17 +118,6 @@ fn is_remark(line: &str) -> bool {
     line.is_empty() || line.starts_with('#')
 }
 
-/// What a line begins with this word and this rest.
-fn begins_of(word: &str, rest: &str) -> Begins {
-    if ["row", "damaged", "requests"].contains(&word) || word == "image" && rest.contains(' ') {
-        return Begins::Item;
-    }
-    if ["again", "read", "alone", "migrate"].contains(&word) {
-        return Begins::Part;
-    }
-    Begins::Nothing
-}
-
 /// The lines of each item.
 pub fn items_of<'b, 'a>(
     alloc: Global,
@@ -142,7 +144,7 @@ fn add_parts<'b, 'a>(
 ) -> Result<(), AllocError> {
     let mut from = 0usize;
     for (index, line) in lines.iter().enumerate() {
-        if line.begins == begins {
+        if line.is_first(begins) {
             parts.push(between(lines, from, index))?;
             from = index;
         }

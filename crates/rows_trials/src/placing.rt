@@ -54,5 +54,6 @@ fn stands_among(region: &RawRegion, place: Place, segment: &[u8]) -> bool {
 
 /// Whether all of these bytes are marked.
 fn is_marked(bytes: Option<&[u8]>) -> bool {
-    bytes.unwrap_or(&[]).iter().all(|byte| *byte == MARK)
+    let mut bytes = bytes.unwrap_or(&[]).iter();
+    !bytes.any(|byte| *byte != MARK)
 }

@@ -4,7 +4,7 @@ use crate::benches::{Bench, Runner};
 use crate::checks::Wanted;
 use crate::desks::usual_places;
 use crate::lines::Line;
-use crate::scripts::Script;
+use crate::scripts::{Script, has_piece};
 use crate::tasks::{Call, Mode, Outcome, Start, Way};
 use crate::trials::PIECES;
 use crate::troubles::Trouble;
@@ -189,5 +189,5 @@ fn free_behind(alloc: Global, command: &Script, free: &[u8]) -> Result<Script, A
 
 /// Whether one of the answers is an error.
 fn has_error(answers: &[u8]) -> bool {
-    answers.windows(5).any(|piece| piece == b"error".as_slice())
+    has_piece(answers, b"error")
 }

@@ -97,10 +97,15 @@ impl Script {
     /// Adds a line and its answers, so that it stands there so often.
     fn add_again(&mut self, number: usize, line: &Script, times: usize) -> Result<(), AllocError> {
         for _ in 1..times {
-            self.add_bare(&line.text, &line.answers)?;
-            self.mark(number)?;
+            self.add_marked(number, line)?;
         }
         Ok(())
+    }
+
+    /// Adds a line and its answers.
+    fn add_marked(&mut self, number: usize, line: &Script) -> Result<(), AllocError> {
+        self.add_bare(&line.text, &line.answers)?;
+        self.mark(number)
     }
 
     /// Where the line with so many before it begins.
@@ -129,15 +134,13 @@ impl Script {
 
     /// The script without the last end of a line.
     pub fn without_end(&self) -> &[u8] {
-        match self.text.split_last() {
-            Some((_, rest)) => rest,
-            None => &[],
-        }
+        let len = self.text.len().saturating_sub(1);
+        self.text.get(..len).unwrap_or(&[])
     }
 
     /// Whether a line ends with a CR.
     pub fn has_return(&self) -> bool {
-        self.text.windows(2).any(|pair| pair == b"\r\n".as_slice())
+        has_piece(&self.text, b"\r\n")
     }
 
     /// The script with a CR more at the end of each line.
@@ -168,4 +171,9 @@ fn put_with_return(byte: u8, text: &mut Vec<u8>) -> Result<(), AllocError> {
         return text.extend_from_slice(b"\r\n");
     }
     text.extend_from_slice(&[byte])
+}
+
+/// Whether some bytes stand one behind another among others.
+pub fn has_piece(bytes: &[u8], piece: &[u8]) -> bool {
+    bytes.windows(piece.len().max(1)).any(|it| it == piece)
 }

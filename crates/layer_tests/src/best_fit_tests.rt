@@ -122,9 +122,9 @@ fn header_words_are_read_back(rt: HostRuntime) -> Result<(), Fail> {
     heap.zero_free();
     same(&rt, heap.header_word(40), 7);
     let again = Heap::adopt(heap.into_window());
-    same(&rt, (again.size(), again.region_left()), (1024, 0));
-    same(&rt, again.as_bytes().len(), 1024);
-    same(&rt, again.tile(1), None);
+    holds(&rt, again.size() == 1024 && again.region_left() == 0);
+    holds(&rt, again.as_bytes().len() == 1024);
+    holds(&rt, again.tile(1).is_none());
     Ok(())
 }
 
@@ -168,11 +168,8 @@ fn header_links_are_read_back(rt: HostRuntime) -> Result<(), Fail> {
     let mut heap = empty(rt.alloc())?;
     heap.set_header_link(32, Some(144));
     heap.set_header_link(40, None);
-    same(
-        &rt,
-        (heap.header_link(32), heap.header_link(40)),
-        (Some(144), None),
-    );
+    same(&rt, heap.header_link(32), Some(144));
+    same(&rt, heap.header_link(40), None);
     Ok(())
 }
 
@@ -182,11 +179,8 @@ fn links_of_a_block_are_read_back(rt: HostRuntime) -> Result<(), Fail> {
     let handle = heap.allocate(32, Role::Node, &mut Steps::new())?;
     heap.set_link(handle, 0, Some(144));
     heap.set_link(handle, 8, None);
-    same(
-        &rt,
-        (heap.link(handle, 0), heap.link(handle, 8)),
-        (Some(144), None),
-    );
+    same(&rt, heap.link(handle, 0), Some(144));
+    same(&rt, heap.link(handle, 8), None);
     Ok(())
 }
 
@@ -198,11 +192,8 @@ fn links_of_a_block_move(rt: HostRuntime) -> Result<(), Fail> {
     heap.set_link(handle, 8, None);
     heap.shift_links(handle, 0, handle, 8, 2);
     same(&rt, heap.link(handle, 0), Some(144));
-    same(
-        &rt,
-        (heap.link(handle, 8), heap.link(handle, 16)),
-        (Some(144), None),
-    );
+    same(&rt, heap.link(handle, 8), Some(144));
+    same(&rt, heap.link(handle, 16), None);
     Ok(())
 }
 

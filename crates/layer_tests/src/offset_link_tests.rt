@@ -6,22 +6,31 @@ use raw_region::{RawRegion, Window};
 use std::process::Abort;
 use std::test::Fail;
 
+/// A window has these bytes from an offset on.
+fn reads(rt: &impl Abort, w: &Window, at: u64, bytes: &[u8]) {
+    let len = bytes.len() as u64;
+    assert!(rt; w.in_range(at, len));
+    same(rt, w.bytes(at, len), bytes);
+}
+
+/// The link at an offset leads to a target, or nowhere.
+fn leads(rt: &impl Abort, w: &Window, at: u64, target: Option<u64>) {
+    assert!(rt; at % 8 == 0 && w.in_range(at, 8));
+    same(rt, load(w, at), target);
+}
+
 #[test]
 fn a_link_stores_its_distance(rt: HostRuntime) -> Result<(), Fail> {
     let mut w = Window::new(RawRegion::new(rt.alloc(), 512)?, 64, 400);
     store(&mut w, 24, 144);
-    same(&rt, load(&w, 24), Some(144));
-    same(&rt, w.bytes(24, 8), [120u8, 0, 0, 0, 0, 0, 0, 0].as_slice());
+    leads(&rt, &w, 24, Some(144));
+    reads(&rt, &w, 24, b"\x78\0\0\0\0\0\0\0");
     store(&mut w, 160, 144);
-    same(&rt, load(&w, 160), Some(144));
-    same(
-        &rt,
-        w.bytes(160, 8),
-        [240u8, 255, 255, 255, 255, 255, 255, 255].as_slice(),
-    );
+    leads(&rt, &w, 160, Some(144));
+    reads(&rt, &w, 160, b"\xF0\xFF\xFF\xFF\xFF\xFF\xFF\xFF");
     store_null(&mut w, 24);
-    same(&rt, load(&w, 24), None);
-    same(&rt, w.bytes(24, 8), [1u8, 0, 0, 0, 0, 0, 0, 0].as_slice());
+    leads(&rt, &w, 24, None);
+    reads(&rt, &w, 24, b"\x01\0\0\0\0\0\0\0");
     Ok(())
 }
 
@@ -30,10 +39,11 @@ fn a_copy_leads_where_its_source_leads(rt: HostRuntime) -> Result<(), Fail> {
     let mut w = Window::new(RawRegion::new(rt.alloc(), 512)?, 64, 400);
     store(&mut w, 32, 176);
     copy(&mut w, 32, 200);
-    same(&rt, (load(&w, 32), load(&w, 200)), (Some(176), Some(176)));
+    leads(&rt, &w, 32, Some(176));
+    leads(&rt, &w, 200, Some(176));
     store_null(&mut w, 32);
     copy(&mut w, 32, 200);
-    same(&rt, load(&w, 200), None);
+    leads(&rt, &w, 200, None);
     Ok(())
 }
 
@@ -45,12 +55,10 @@ fn links_move_over_one_another(rt: HostRuntime) -> Result<(), Fail> {
     store(&mut w, 40, 352);
     assert!(rt; are_links(&w, 24, 3));
     shift(&mut w, 24, 3, Places::Up(1));
-    same(
-        &rt,
-        (load(&w, 32), load(&w, 40), load(&w, 48)),
-        (Some(144), None, Some(352)),
-    );
-    same(&rt, load(&w, 24), Some(144));
+    leads(&rt, &w, 24, Some(144));
+    leads(&rt, &w, 32, Some(144));
+    leads(&rt, &w, 40, None);
+    leads(&rt, &w, 48, Some(352));
     Ok(())
 }
 
@@ -61,9 +69,10 @@ fn links_move_back(rt: HostRuntime) -> Result<(), Fail> {
     store(&mut w, 32, 160);
     assert!(rt; are_links(&w, 24, 2));
     shift(&mut w, 24, 2, Places::Down(2));
-    same(&rt, (load(&w, 8), load(&w, 16)), (Some(144), Some(160)));
+    leads(&rt, &w, 8, Some(144));
+    leads(&rt, &w, 16, Some(160));
     w.write_u64(24, 4);
-    assert!(rt; !are_links(&w, 24, 2));
+    holds(&rt, !are_links(&w, 24, 2));
     Ok(())
 }
 

@@ -18,8 +18,8 @@ const TEXT: &[u8; 9] = b"one\ntwo\n3";
 fn a_new_region_is_zero(rt: HostRuntime) -> Result<(), Fail> {
     let region = RawRegion::new(rt.alloc(), 64)?;
     same(&rt, region.capacity(), 64);
-    same(&rt, region.bytes(0, 64), [0u8; 64].as_slice());
-    assert!(rt; region.in_range(64, 0) && !region.in_range(u64::MAX, 2));
+    reads(&rt, &region, 0, &[0; 64]);
+    holds(&rt, region.in_range(64, 0) && !region.in_range(u64::MAX, 2));
     Ok(())
 }
 
@@ -27,11 +27,7 @@ fn a_new_region_is_zero(rt: HostRuntime) -> Result<(), Fail> {
 fn words_have_their_lowest_byte_first(rt: HostRuntime) -> Result<(), Fail> {
     let mut region = RawRegion::new(rt.alloc(), 64)?;
     region.write_u64(8, 0x0102_0304_0506_0708);
-    same(
-        &rt,
-        region.bytes(8, 8),
-        [8u8, 7, 6, 5, 4, 3, 2, 1].as_slice(),
-    );
+    reads(&rt, &region, 8, b"\x08\x07\x06\x05\x04\x03\x02\x01");
     same(&rt, region.read_u64(8), 0x0102_0304_0506_0708);
     same(&rt, region.read_u64(9), 0x0001_0203_0405_0607);
     Ok(())
@@ -41,12 +37,11 @@ fn words_have_their_lowest_byte_first(rt: HostRuntime) -> Result<(), Fail> {
 fn bytes_are_filled_and_written(rt: HostRuntime) -> Result<(), Fail> {
     let mut region = RawRegion::new(rt.alloc(), 64)?;
     region.fill(15, 2, 9);
-    same(&rt, region.bytes(14, 4), [0u8, 9, 9, 0].as_slice());
+    reads(&rt, &region, 14, b"\0\x09\x09\0");
     region.write(60, b"last");
-    same(&rt, region.bytes(59, 5), b"\0last".as_slice());
+    reads(&rt, &region, 59, b"\0last");
     region.bytes_mut(61, 2).copy_from_slice(b"os");
-    assert!(rt; region.in_range(60, 4));
-    same(&rt, region.bytes(60, 4), b"lost".as_slice());
+    reads(&rt, &region, 60, b"lost");
     Ok(())
 }
 
@@ -55,9 +50,9 @@ fn bytes_move_over_an_overlap(rt: HostRuntime) -> Result<(), Fail> {
     let mut region = RawRegion::new(rt.alloc(), 16)?;
     region.write(0, b"abcdefgh");
     region.move_within(0, 2, 8);
-    same(&rt, region.bytes(0, 11), b"ababcdefgh\0".as_slice());
+    reads(&rt, &region, 0, b"ababcdefgh\0");
     region.move_within(2, 1, 8);
-    same(&rt, region.bytes(0, 11), b"aabcdefghh\0".as_slice());
+    reads(&rt, &region, 0, b"aabcdefghh\0");
     Ok(())
 }
 
@@ -97,8 +92,8 @@ fn window(alloc: Global) -> Result<Window, OutOfMemory>
 #[test]
 fn a_window_is_read_from_its_base(rt: HostRuntime) -> Result<(), Fail> {
     let mut window = window(rt.alloc())?;
-    same(&rt, (window.base(), window.size()), (32, 48));
-    same(&rt, window.capacity(), 96);
+    holds(&rt, window.base() == 32 && window.size() == 48);
+    holds(&rt, window.capacity() == 96);
     holds(&rt, window.in_range(0, 48) && !window.in_range(0, 49));
     window.fill(0, 48, 0);
     window.write_u64(40, 258);
@@ -134,21 +129,21 @@ fn reads(rt: &impl Abort, region: &RawRegion, at: u64, bytes: &[u8]) {
 fn two_ranges_are_lent_together(rt: HostRuntime) {
     let mut bytes = *b"0123456789";
     let (front, back) = (Span { from: 1, len: 3 }, Span { from: 4, len: 3 });
-    holds(&rt, apart(front, back) && apart(back, front));
-    holds(&rt, !apart(front, Span { from: 3, len: 1 }));
-    holds(
-        &rt,
-        !apart(
-            Span {
-                from: 0,
-                len: u64::MAX,
-            },
-            front,
-        ),
-    );
     let (a, b) = two_mut(&mut bytes, back, front);
     a.copy_from_slice(b);
     same(&rt, bytes.as_slice(), b"0123123789".as_slice());
+}
+
+#[test]
+fn ranges_are_apart_or_not(rt: HostRuntime) {
+    let (front, back) = (Span { from: 1, len: 3 }, Span { from: 4, len: 3 });
+    let whole = Span {
+        from: 0,
+        len: u64::MAX,
+    };
+    holds(&rt, apart(front, back) && apart(back, front));
+    holds(&rt, !apart(front, Span { from: 3, len: 1 }));
+    holds(&rt, !apart(whole, front));
 }
 
 #[test]
@@ -156,11 +151,8 @@ fn words_of_a_slice(rt: HostRuntime) {
     let mut bytes = [0u8; 12];
     set_word_in(&mut bytes, 3, 513);
     same(&rt, word_in(&bytes, 3), 513);
-    same(
-        &rt,
-        bytes.as_slice(),
-        [0u8, 0, 0, 1, 2, 0, 0, 0, 0, 0, 0, 0].as_slice(),
-    );
+    let wanted = b"\0\0\0\x01\x02\0\0\0\0\0\0\0";
+    same(&rt, bytes.as_slice(), wanted.as_slice());
 }
 
 /// Reads the text in pieces of so many bytes, into room for five bytes.
@@ -184,32 +176,48 @@ fn a_reader_gives_its_pieces_and_ends(rt: HostRuntime) {
 #[test]
 fn a_reader_fails_after_each_byte(rt: HostRuntime) {
     for good in 0..9 {
-        let mut source = MemorySource::new(&TEXT[..good], 2, Last::Fails);
-        let mut into = [0u8; 9];
-        holds(&rt, fill(&mut source, &mut into).is_err());
-        same(&rt, &into[..good], &TEXT[..good]);
+        fails_behind(&rt, &TEXT[..good]);
     }
+}
+
+/// A reader that fails behind these bytes gives them before.
+fn fails_behind(rt: &impl Abort, good: &[u8]) {
+    let mut source = MemorySource::new(good, 2, Last::Fails);
+    let mut into = [0u8; 9];
+    holds(rt, fill(&mut source, &mut into).is_err());
+    holds(rt, into.starts_with(good));
 }
 
 #[test]
 fn a_writer_takes_pieces(rt: HostRuntime) -> Result<(), Fail> {
     for piece in 1..10 {
-        let mut sink = MemorySink::new(rt.alloc(), 9, piece, Last::Fails)?;
-        write_all(&mut sink, TEXT)?;
-        same(&rt, sink.taken(), TEXT.as_slice());
+        is_taken(&rt, rt.alloc(), piece)?;
     }
+    Ok(())
+}
+
+/// A writer that takes so many bytes at once takes the text.
+fn is_taken(rt: &impl Abort, alloc: Global, piece: usize) -> Result<(), Fail> {
+    let mut sink = MemorySink::new(alloc, 9, piece, Last::Fails)?;
+    holds(rt, write_all(&mut sink, TEXT).is_ok());
+    same(rt, sink.taken(), TEXT.as_slice());
     Ok(())
 }
 
 #[test]
 fn a_writer_fails_or_takes_none_after_each_byte(rt: HostRuntime) -> Result<(), Fail> {
     for room in 0..9 {
-        for last in [Last::Fails, Last::Ends] {
-            let mut sink = MemorySink::new(rt.alloc(), room, 2, last)?;
-            holds(&rt, write_all(&mut sink, TEXT).is_err());
-            same(&rt, sink.taken(), &TEXT[..room]);
-        }
+        is_cut(&rt, rt.alloc(), Last::Fails, &TEXT[..room])?;
+        is_cut(&rt, rt.alloc(), Last::Ends, &TEXT[..room])?;
     }
+    Ok(())
+}
+
+/// A writer that has no room behind these bytes takes them before it fails, or takes none.
+fn is_cut(rt: &impl Abort, alloc: Global, last: Last, taken: &[u8]) -> Result<(), Fail> {
+    let mut sink = MemorySink::new(alloc, taken.len(), 2, last)?;
+    holds(rt, write_all(&mut sink, TEXT).is_err());
+    same(rt, sink.taken(), taken);
     Ok(())
 }
 

@@ -1,7 +1,7 @@
 //! Values as bytes: those of the five scalar types, and those of a type that a caller gives the trait.
 ghost use Rattle.std.specs.Prelude.{◌≡◌, ◌≤◌, length};
 
-use crate::checks::{holds, same};
+use crate::checks::holds;
 use crate::ticket::Ticket;
 use seg_types::theorems::{
     scalar_is_number, unordered_are_same, values_spell_one, written_is_read,
@@ -24,6 +24,12 @@ fn check_spelled<T: Plain + PartialEq + Drop>(rt: &impl Abort, value: T, spelled
     holds(rt, unordered_are_same(value, value));
 }
 
+/// Asserts that a scalar type has this size, this code and this kind.
+fn has_codes<T: Scalar>(rt: &impl Abort, size: u64, code: u32, kind: ScalarKind) {
+    holds(rt, T::SIZE == size && T::CODE == code);
+    holds(rt, T::kind() == kind);
+}
+
 /// Asserts that each of these stands before the next, and not the other way round.
 fn check_rising<T: Plain>(rt: &impl Abort, values: &[T]) {
     for pair in values.windows(2) {
@@ -34,25 +40,17 @@ fn check_rising<T: Plain>(rt: &impl Abort, values: &[T]) {
 
 #[test]
 fn truths(rt: HostRuntime) {
-    same(
-        &rt,
-        (bool::SIZE, bool::CODE, bool::kind()),
-        (1, 1, ScalarKind::Bool),
-    );
+    has_codes::<bool>(&rt, 1, 1, ScalarKind::Bool);
     check_spelled(&rt, false, &[0]);
     check_spelled(&rt, true, &[1]);
     check_rising(&rt, &[false, true]);
-    same(&rt, bool::read(&[2]), None);
-    same(&rt, bool::read(&[255]), None);
+    holds(&rt, bool::read(&[2]).is_none());
+    holds(&rt, bool::read(&[255]).is_none());
 }
 
 #[test]
 fn bytes(rt: HostRuntime) {
-    same(
-        &rt,
-        (u8::SIZE, u8::CODE, u8::kind()),
-        (1, 2, ScalarKind::U8),
-    );
+    has_codes::<u8>(&rt, 1, 2, ScalarKind::U8);
     check_spelled(&rt, 0u8, &[0]);
     check_spelled(&rt, 255u8, &[255]);
     check_rising(&rt, &[0u8, 127, 128, 255]);
@@ -60,11 +58,7 @@ fn bytes(rt: HostRuntime) {
 
 #[test]
 fn numbers_of_four_bytes(rt: HostRuntime) {
-    same(
-        &rt,
-        (i32::SIZE, i32::CODE, i32::kind()),
-        (4, 3, ScalarKind::I32),
-    );
+    has_codes::<i32>(&rt, 4, 3, ScalarKind::I32);
     check_spelled(&rt, 0i32, &[0; 4]);
     check_spelled(&rt, -1i32, &[255; 4]);
     check_spelled(&rt, 67305985i32, &[1, 2, 3, 4]);
@@ -75,11 +69,7 @@ fn numbers_of_four_bytes(rt: HostRuntime) {
 
 #[test]
 fn numbers_of_eight_bytes(rt: HostRuntime) {
-    same(
-        &rt,
-        (i64::SIZE, i64::CODE, i64::kind()),
-        (8, 4, ScalarKind::I64),
-    );
+    has_codes::<i64>(&rt, 8, 4, ScalarKind::I64);
     check_spelled(&rt, -2i64, &[254, 255, 255, 255, 255, 255, 255, 255]);
     check_spelled(&rt, 578437695752307201i64, &[1, 2, 3, 4, 5, 6, 7, 8]);
     check_spelled(&rt, i64::MIN, &[0, 0, 0, 0, 0, 0, 0, 128]);
@@ -89,11 +79,7 @@ fn numbers_of_eight_bytes(rt: HostRuntime) {
 
 #[test]
 fn numbers_without_a_sign(rt: HostRuntime) {
-    same(
-        &rt,
-        (u64::SIZE, u64::CODE, u64::kind()),
-        (8, 5, ScalarKind::U64),
-    );
+    has_codes::<u64>(&rt, 8, 5, ScalarKind::U64);
     check_spelled(&rt, 578437695752307201u64, &[1, 2, 3, 4, 5, 6, 7, 8]);
     check_spelled(&rt, u64::MAX, &[255; 8]);
     check_rising(
@@ -105,18 +91,15 @@ fn numbers_without_a_sign(rt: HostRuntime) {
 #[test]
 fn laws_are_called(rt: HostRuntime) {
     values_spell_one();
-    same(&rt, scalar_is_number::<bool>(&[2]), None);
-    same(
-        &rt,
-        scalar_is_number::<i32>(&[0, 0, 0, 128]),
-        Some(i32::MIN),
-    );
+    holds(&rt, scalar_is_number::<bool>(&[2]).is_none());
+    let least = scalar_is_number::<i32>(&[0, 0, 0, 128]);
+    holds(&rt, least == Some(i32::MIN));
     holds(&rt, !unordered_are_same(1u8, 2u8));
 }
 
 #[test]
 fn tickets(rt: HostRuntime) {
-    same(&rt, (Ticket::SIZE, Ticket::CODE), (3, 200));
+    holds(&rt, Ticket::SIZE == 3 && Ticket::CODE == 200);
     check_spelled(&rt, Ticket::urgent(258), &[1, 2, 1]);
     check_spelled(&rt, Ticket::plain(65535), &[0, 255, 255]);
     check_rising(
@@ -128,8 +111,18 @@ fn tickets(rt: HostRuntime) {
             Ticket::plain(1),
         ],
     );
-    same(&rt, Ticket::read(&[2, 0, 0]), None);
+    holds(&rt, Ticket::read(&[2, 0, 0]).is_none());
 }
+
+/// What is a name: with blanks and quotes, and with characters of two, three and four bytes.
+const NAMES: [&[u8]; 3] = [
+    b"a",
+    b" with blanks, and \"quotes\"",
+    b"\xC3\xA4\xE2\x82\xAC\xF0\x9F\x98\x80",
+];
+
+/// What is no name: empty, with control characters, and no UTF-8.
+const NO_NAMES: [&[u8]; 5] = [b"", b"line\n", b"\x7F", b"\xFF", b"\xC2\x85"];
 
 /// Whether these bytes are a name, which then holds them.
 fn is_held(bytes: &[u8]) -> bool {
@@ -141,24 +134,22 @@ fn is_held(bytes: &[u8]) -> bool {
 
 #[test]
 fn names(rt: HostRuntime) {
-    same(&rt, LONGEST_NAME, 255);
+    holds(&rt, LONGEST_NAME == 255);
     let long = [b'~'; LONGEST_NAME + 1];
-    holds(&rt, is_held(b"a"));
-    holds(&rt, is_held(b" with blanks, and \"quotes\""));
-    holds(&rt, is_held("\u{e4}\u{20ac}\u{1f600}".as_bytes()));
     holds(&rt, is_held(&long[..LONGEST_NAME]));
     holds(&rt, Name::new(&long).is_none());
-    holds(&rt, Name::new(b"").is_none());
-    holds(&rt, Name::new(b"line\n").is_none());
-    holds(&rt, Name::new(&[0x7F]).is_none());
-    holds(&rt, Name::new(b"\xFF").is_none());
-    holds(&rt, Name::new(b"\xC2\x85").is_none());
+    for name in NAMES {
+        holds(&rt, is_held(name));
+    }
+    for bytes in NO_NAMES {
+        holds(&rt, Name::new(bytes).is_none());
+    }
 }
 
 /// A kind has a code.
 fn has_code(rt: &impl Abort, kind: Kind, code: u32) {
-    same(rt, Kind::from_code(code), Some(kind));
-    same(rt, kind.code(), code);
+    holds(rt, Kind::from_code(code) == Some(kind));
+    holds(rt, kind.code() == code);
 }
 
 #[test]
@@ -174,7 +165,7 @@ fn kinds_have_codes(rt: HostRuntime) {
 #[test]
 fn codes_of_no_kind(rt: HostRuntime) {
     for code in [0, 6, 131072, 196608, 197894, 4294967295] {
-        same(&rt, Kind::from_code(code), None);
+        holds(&rt, Kind::from_code(code).is_none());
     }
     holds(&rt, !Kind::Texts.is_of(1));
     holds(&rt, Kind::Texts.is_of(2));
@@ -183,8 +174,8 @@ fn codes_of_no_kind(rt: HostRuntime) {
 
 /// A number is a value of a kind, which has this number and this kind.
 fn is_value(rt: &impl Abort, kind: ScalarKind, number: i128, value: ScalarValue) {
-    same(rt, ScalarValue::of_number(kind, number), Some(value));
-    same(rt, (value.number(), value.kind()), (number, kind));
+    holds(rt, ScalarValue::of_number(kind, number) == Some(value));
+    holds(rt, value.number() == number && value.kind() == kind);
 }
 
 #[test]
@@ -193,19 +184,19 @@ fn values_of_a_kind(rt: HostRuntime) {
     is_value(&rt, ScalarKind::U8, 255, ScalarValue::U8(255));
     is_value(&rt, ScalarKind::I64, -1, ScalarValue::I64(-1));
     let none = ScalarValue::of_number(ScalarKind::Bool, 2);
-    same(&rt, none, None);
+    holds(&rt, none.is_none());
     let none = ScalarValue::of_number(ScalarKind::I32, 2147483648);
-    same(&rt, none, None);
+    holds(&rt, none.is_none());
 }
 
 #[test]
 fn values_are_spelled(rt: HostRuntime) {
     let mut bytes = [0; 4];
     ScalarValue::I32(-2).write(&mut bytes);
-    same(&rt, bytes, [0xFE, 0xFF, 0xFF, 0xFF]);
+    holds(&rt, bytes.as_slice() == b"\xFE\xFF\xFF\xFF".as_slice());
     let read = ScalarValue::read(ScalarKind::I32, &bytes);
-    same(&rt, read, Some(ScalarValue::I32(-2)));
-    same(&rt, ScalarValue::read(ScalarKind::Bool, &[2]), None);
+    holds(&rt, read == Some(ScalarValue::I32(-2)));
+    holds(&rt, ScalarValue::read(ScalarKind::Bool, &[2]).is_none());
     holds(&rt, !ScalarKind::Bool.is_spelling(&[2]));
     holds(&rt, ScalarKind::U8.is_spelling(&[2]));
 }
@@ -217,20 +208,23 @@ fn spellings_are_in_order(rt: HostRuntime) {
     holds(&rt, ScalarKind::I64.precedes(&[255; 8], &[0; 8]));
 }
 
+/// What is no name of format 2: with control characters, no UTF-8, and empty.
+const NO_NAMES_OF_TWO: [&[u8]; 6] = [b"a\xC2\x85", b"a\x7F", b"\xC3", b"", b"\xC2\x9F", b"\x1F"];
+
 #[test]
 fn names_of_each_format(rt: HostRuntime) {
     holds(&rt, is_name(0, b"a ~"));
-    holds(&rt, !is_name(1, "\u{e4}".as_bytes()));
-    holds(&rt, is_name(2, "\u{e4}\u{20ac}\u{1f600}".as_bytes()));
-    holds(&rt, !is_name(2, "a\u{85}".as_bytes()));
-    holds(&rt, !is_name(2, b"a\x7F"));
-    holds(&rt, !is_name(2, b"\xC3"));
-    holds(&rt, !is_name(2, b""));
-    holds(&rt, !is_name(2, "\u{9f}".as_bytes()));
-    holds(&rt, is_name(2, "\u{a0}".as_bytes()));
-    holds(&rt, !is_name(2, b"\x1F"));
-    holds(&rt, is_name(1, &[b'a'; 63]));
-    holds(&rt, !is_name(1, &[b'a'; 64]));
-    holds(&rt, is_name(2, &[b'a'; 255]));
-    holds(&rt, !is_name(2, &[b'a'; 256]));
+    holds(&rt, !is_name(1, b"\xC3\xA4"));
+    holds(&rt, is_name(2, b"\xC3\xA4\xE2\x82\xAC\xF0\x9F\x98\x80"));
+    holds(&rt, is_name(2, b"\xC2\xA0"));
+    for bytes in NO_NAMES_OF_TWO {
+        holds(&rt, !is_name(2, bytes));
+    }
+}
+
+#[test]
+fn names_have_a_longest(rt: HostRuntime) {
+    let long = [b'a'; 256];
+    holds(&rt, is_name(1, &long[..63]) && !is_name(1, &long[..64]));
+    holds(&rt, is_name(2, &long[..255]) && !is_name(2, &long));
 }

@@ -35,59 +35,54 @@ fn is_whole(literal: Option<Literal<'_>>, wanted: i128) -> bool {
     }
 }
 
+/// What a line makes an object with, where it asks for one.
+fn content<'a>(line: &'a [u8], scratch: &'a mut Text) -> Option<Content<'a>> {
+    match parse_line(line, scratch) {
+        Reading::Asked(Command::Construct { content, .. }) => Some(content),
+        _ => None,
+    }
+}
+
 #[test]
 fn numbers_are_read_one_after_another(rt: HostRuntime) {
     let mut scratch = Text::new();
-    match parse_line(b"construct vec<i32> v -1 7", &mut scratch) {
-        Reading::Asked(
-            Command::Construct {
-                content: Content::Elements(mut values),
-                ..
-            },
-        ) => {
-            holds(&rt, values.kind() == ScalarKind::I32);
-            holds(&rt, values.next() == Some(ScalarValue::I32(-1)));
-            holds(&rt, values.next() == Some(ScalarValue::I32(7)));
-            holds(&rt, values.next().is_none());
-        }
-        _ => assert!(rt; false, "another command"),
-    }
+    let Some(Content::Elements(mut values)) = content(b"construct vec<i32> v -1 7", &mut scratch)
+    else {
+        panic!(rt; "another command");
+    };
+    holds(&rt, values.kind() == ScalarKind::I32);
+    holds(&rt, values.next() == Some(ScalarValue::I32(-1)));
+    holds(&rt, values.next() == Some(ScalarValue::I32(7)));
+    holds(&rt, values.next().is_none());
 }
 
 #[test]
 fn texts_are_read_one_after_another(rt: HostRuntime) {
     let mut scratch = Text::new();
-    match parse_line(b"construct vec<string> v \"a\"", &mut scratch) {
-        Reading::Asked(
-            Command::Construct {
-                content: Content::Texts(mut texts),
-                ..
-            },
-        ) => {
-            match texts.next() {
-                Some(text) => {
-                    let mut name = Text::new();
-                    holds(&rt, text.to_name(&mut name).is_some());
-                }
-                None => assert!(rt; false, "no text"),
-            }
-            holds(&rt, texts.next().is_none());
-        }
-        _ => assert!(rt; false, "another command"),
-    }
+    let Some(Content::Texts(mut texts)) = content(b"construct vec<string> v \"a\"", &mut scratch)
+    else {
+        panic!(rt; "another command");
+    };
+    let Some(text) = texts.next() else {
+        panic!(rt; "no text");
+    };
+    let mut name = Text::new();
+    holds(&rt, text.to_name(&mut name).is_some());
+    holds(&rt, texts.next().is_none());
 }
 
 #[test]
 fn literals_are_read_one_after_another(rt: HostRuntime) {
     let mut scratch = Text::new();
-    match parse_line(b"assign v 5 true", &mut scratch) {
-        Reading::Asked(Command::Assign { mut values, .. }) => {
-            holds(&rt, is_whole(values.next(), 5));
-            holds(&rt, matches!(values.next(), Some(Literal::Truth(true))));
-            holds(&rt, values.next().is_none());
-        }
-        _ => assert!(rt; false, "another command"),
-    }
+    let Reading::Asked(Command::Assign { mut values, .. }) = parse_line(
+        b"assign v 5 true",
+        &mut scratch,
+    ) else {
+        panic!(rt; "another command");
+    };
+    holds(&rt, is_whole(values.next(), 5));
+    holds(&rt, matches!(values.next(), Some(Literal::Truth(true))));
+    holds(&rt, values.next().is_none());
 }
 
 /// The first word of a line, and what stands behind it.
@@ -159,24 +154,27 @@ fn names_may_be_copied(rt: HostRuntime) -> Result<(), Fail> {
     Ok(())
 }
 
+/// What spells no number: one too large, nothing, and one with a zero before it.
+const NO_NUMBERS: [&[u8]; 3] = [b"18446744073709551616", b"", b"01"];
+
 #[test]
 fn numbers_have_one_spelling(rt: HostRuntime) {
-    same(&rt, number_of(b"10"), Some(10));
+    holds(&rt, number_of(b"10") == Some(10));
     let most = number_of(b"18446744073709551615");
-    same(&rt, most, Some(18446744073709551615));
-    same(&rt, number_of(b"18446744073709551616"), None);
-    same(&rt, number_of(b""), None);
-    same(&rt, number_of(b"01"), None);
+    holds(&rt, most == Some(18446744073709551615));
+    for word in NO_NUMBERS {
+        holds(&rt, number_of(word).is_none());
+    }
 }
 
 #[test]
 fn whole_numbers_have_one_spelling(rt: HostRuntime) {
     let least = whole(b"-9223372036854775808");
-    same(&rt, least, Some(-9223372036854775808));
-    same(&rt, whole(b"-9223372036854775809"), None);
-    same(&rt, whole(b"-0"), None);
+    holds(&rt, least == Some(-9223372036854775808));
+    holds(&rt, whole(b"-9223372036854775809").is_none());
+    holds(&rt, whole(b"-0").is_none());
     let most = whole(b"18446744073709551615");
-    same(&rt, most, Some(18446744073709551615));
+    holds(&rt, most == Some(18446744073709551615));
 }
 
 /// A writer with room for so many bytes.

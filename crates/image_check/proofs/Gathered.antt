@@ -1,6 +1,6 @@
 -- The blocks of tiles that stand one behind the other are looked up by payload.
 use Rattle.std.proofs.Common.{◌≡◌, ◌≢◌, refl, sym, ap, subst, ◌∙◌, ℕ, ◌+◌, ◌-◌, ◌*◌, ◌/◌, ◌≤◌, ◌<◌, Bool, true, false, ◌&&◌, ◌==◌, List, [], ◌∷◌, ◌++◌, length, arith, cond}
-use Rattle.std.specs.Prelude.{Option, Some, None, IsTrue, is_some, nat_eq, option_to_list}
+use Rattle.std.specs.Prelude.{Option, Some, None, IsTrue, is_some, nat_eq, option_to_list, slice_get}
 use Rattle.std.specs.List.{cons_option}
 use Rattle.std.proofs.lemmas.Bool.{and_parts, and_from, eqb-true, eq-eqb, ne_eqb, cond-true, cond-false, false≢true}
 use mathlib.Core.Logic.{inl}
@@ -14,9 +14,10 @@ use Rattle.best_fit.proofs.Laws.{Row}
 use Rattle.image_check.specs.declared.owners.Block.{Block}
 use Rattle.image_check.specs.declared.owners.Owner.{Owner}
 use Rattle.image_check.specs.ObjectTests.{is_use, tile_of}
+use Rattle.image_check.specs.Rows.{AreBelow}
 use Rattle.image_check.specs.Passes.{HasTiles, tiles_in}
 use Rattle.image_check.specs.Owners.{Blocks, block_at, owner_in, owner_at, IsTileAt, IsBlockAt, AreBlocks, due, due_of, debt, debts, frame_of, frames, AreAligned, IsUnmarked, IsMarkingOf, new_block, entry_of, entries_of}
-use Rattle.std.proofs.Common.{suc}
+use Rattle.std.proofs.Common.{zero, suc}
 use Rattle.std.proofs.lemmas.List.{length-append}
 use Rattle.raw_region.specs.Memory.{Cut}
 use Rattle.block_tags.proofs.Laws.{tiles_are_read_off}
@@ -253,18 +254,22 @@ unmarked-marking format b es h u = record {
 
 -- ---- the walk that gathers them
 
--- what stands behind a place is not among the blocks before it
-pub absent-before : (from : ℕ) (front : List Tile) (here : Tile) (back : List Tile) (to : ℕ) → Row from (front ++ here ∷ back) to → block_at (entries_of front) (here.offset + 16) ≡ None
-absent-before from [] here back to h = refl
-absent-before from (f ∷ front) here back to h =
+-- what stands before a place has its blocks before it
+below-first : (o : Option (ℕ × Block)) (es : Blocks) (n : ℕ) → ((k : ℕ) (b : Block) → o ≡ Some (k, b) → k < n) → AreBelow es n → AreBelow (cons_option o es) n
+below-first None es n f h = h
+below-first (Some (k, b)) es n f h = λ i x g. by i x g
+  where
+    by : (i : ℕ) (x : ℕ × Block) → slice_get ((k, b) ∷ es) i ≡ Some x → x.0 < n
+    by zero x g = let same : (k, b) ≡ x = cc in subst (λ (y : ℕ × Block). y.0 < n) same (f k b refl)
+    by (suc i) x g = h i x g
+
+below-here : (from : ℕ) (front : List Tile) (here : Tile) (back : List Tile) (to : ℕ) → Row from (front ++ here ∷ back) to → AreBelow (entries_of front) (here.offset + 16)
+below-here from [] here back to h = λ i x g. absurd (cc)
+below-here from (f ∷ front) here back to h =
     let low = (in_row (from + f.len) (front ++ here ∷ back) to here h.3 (mem_right here front (here ∷ back) (inl refl))).low in
     let there = h.0 in
     let long = h.1 in
-    behind (entry_of f) (here.offset + 16) (λ k b e. let key = entry-key f.offset f.len f.use_of f.red k b e in λ g. absurd (omega arith)) (absent-before (from + f.len) front here back to h.3)
-  where
-    behind : (o : Option (ℕ × Block)) (n : ℕ) → ((k : ℕ) (b : Block) → o ≡ Some (k, b) → n ≢ k) → block_at (entries_of front) n ≡ None → block_at (cons_option o (entries_of front)) n ≡ None
-    behind None n d e = e
-    behind (Some (k, b)) n d e = cond-false (nat_eq n k) (Some b) (block_at (entries_of front) n) (ne_eqb n k (d k b refl)) ∙ e
+    below-first (entry_of f) (entries_of front) (here.offset + 16) (λ k b e. let key = entry-key f.offset f.len f.use_of f.red k b e in omega arith) (below-here (from + f.len) front here back to h.3)
 
 pub entries-push : (front : List Tile) (t : Tile) → entries_of (front ++ t ∷ []) ≡ entries_of front ++ option_to_list (entry_of t)
 entries-push [] t = last (entry_of t)
@@ -344,10 +349,10 @@ gathering-room c seen visits room spared es here a h =
     let left = a.kept.spare in
     omega arith
 
-pub gathering-absent : (c : Cut) (seen visits room spared : ℕ) (es : Blocks) (here : Tile) → WalksAt c (Gathering seen visits room spared es) here → block_at es (here.offset + 16) ≡ None
-gathering-absent c seen visits room spared es here a =
-    ap (λ (fs : Blocks). block_at fs (here.offset + 16)) a.kept.entries
-    ∙ absent-before 128 a.front here a.back (length c.bytes - 16) (said_row c (a.front ++ here ∷ a.back) a.said)
+pub gathering-below : (c : Cut) (seen visits room spared : ℕ) (es : Blocks) (here : Tile) → WalksAt c (Gathering seen visits room spared es) here → AreBelow es (here.offset + 16)
+gathering-below c seen visits room spared es here a =
+    subst (λ (fs : Blocks). AreBelow fs (here.offset + 16)) (sym a.kept.entries)
+    (below-here 128 a.front here a.back (length c.bytes - 16) (said_row c (a.front ++ here ∷ a.back) a.said))
 
 pub gathering-more : (seen visits room spared : ℕ) (es : Blocks) (front : List Tile) (here : Tile) (v2 s2 : ℕ) (fs : Blocks) → Gathering seen visits room spared es front
     → visits ≤ v2 → v2 ≤ visits + 2 → fs ≡ es ++ option_to_list (entry_of here) → spared ≤ s2 + length (option_to_list (entry_of here)) → Gathering seen v2 room s2 fs (front ++ here ∷ [])

@@ -13,6 +13,7 @@ pub mod FreeLaws
 pub mod Visits
 pub mod Passes
 pub mod Owners
+pub mod Rows
 pub mod Checking
 pub mod Entered
 pub mod ObjectPasses

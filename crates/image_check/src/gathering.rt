@@ -1,7 +1,8 @@
 //! Gathering the blocks in use.
 ghost use Rattle.std.specs.Prelude.{◌≡◌, ◌+◌, ◌++◌, ◌<◌, ◌≤◌, ◌^◌, IfOk, IsOk, None, [], length, option_to_list};
-ghost use Rattle.image_check.specs.Owners.{block_at, entries_of, entry_of};
+ghost use Rattle.image_check.specs.Owners.{entries_of, entry_of};
 ghost use Rattle.image_check.specs.Passes.{HasTiles, Spends, tiles_in};
+ghost use Rattle.image_check.specs.Rows.{AreBelow};
 ghost use Rattle.image_check.specs.Visits.{Adds, gathering_rates};
 
 use crate::checking::Visits;
@@ -28,8 +29,8 @@ pub(crate) fn gather(
     ensures memory { entries_of (tiles_in window.now.bytes) ≡ [] → IsOk result }
     ensures visits { Spends gathering_rates 2 window.now.bytes visits.old visits.new }
 {
-    let count = count_used(window, visits);
-    match room_for(alloc, count) {
+    let used = count_used(window, visits);
+    match room_for(alloc, used.0, used.1) {
         Ok(mut blocks) => {
             add_all(window, &mut blocks, visits);
             Ok(Owners {
@@ -42,22 +43,24 @@ pub(crate) fn gather(
     }
 }
 
-/// The number of blocks in use. One visit for each tile.
-fn count_used(window: &ImageWindow, visits: &mut Visits) -> usize
+/// The number of blocks in use, and where the last of them stands. One visit for each tile.
+fn count_used(window: &ImageWindow, visits: &mut Visits) -> (usize, u64)
     requires tiles { HasTiles window.now.bytes }
-    ensures count { result ≡ length (entries_of (tiles_in window.now.bytes)) }
+    ensures count { result.0 ≡ length (entries_of (tiles_in window.now.bytes)) }
     ensures visits { visits.new ≡ visits.old + length (tiles_in window.now.bytes) }
 {
     let mut count = 0;
+    let mut end = 0;
     let mut tile = window.first();
     'tiles: while let Some(unread) = tile {
         let here = unread.read(visits);
         if here.use_of.is_some() {
             count += 1;
+            end = here.offset;
         }
         tile = window.next(here.offset);
     }
-    count
+    (count, end)
 }
 
 /// Adds the blocks in use to a map with room for them. At most two visits for each tile.
@@ -76,10 +79,10 @@ fn add_all(window: &ImageWindow, blocks: &mut Blocks, visits: &mut Visits)
     }
 }
 
-/// Adds the block of a tile, where it is in use, to a map with room for it. At most one visit.
+/// Adds the block of a tile, where it is in use, behind all others to a map with room for it. At most one visit.
 fn add(blocks: &mut Blocks, tile: Tile, visits: &mut Visits)
     requires small { tile.offset < 2 ^ 63 }
-    requires absent { block_at blocks.old.entries (tile.offset + 16) ≡ None }
+    requires below { AreBelow blocks.old.entries (tile.offset + 16) }
     requires room { length (option_to_list (entry_of tile)) ≤ blocks.old.room }
     ensures entries { blocks.new.entries ≡ blocks.old.entries ++ option_to_list (entry_of tile) }
     ensures room { blocks.old.room ≤ blocks.new.room + length (option_to_list (entry_of tile)) }

@@ -29,6 +29,7 @@ mod ranks;
 mod reading;
 mod renewing;
 mod room;
+mod rows;
 mod sharing;
 mod spellings;
 mod versions;

@@ -1,36 +1,76 @@
 //! The map of the blocks in use, in which each look-up is counted.
-ghost use Rattle.std.specs.Prelude.{◌≡◌, ◌+◌, ◌++◌, ◌∷◌, ◌<◌, ◌≤◌, [], nat_eq, IsSome, None};
+ghost use Rattle.std.specs.Prelude.{◌≡◌, ◌+◌, ◌++◌, ◌∷◌, ◌<◌, ◌≤◌, [], nat_eq, length, IsSome, IfSome, IfNone, None, vec_capacity};
 ghost use Rattle.std.specs.Map.{set_value};
-ghost use Rattle.indexmap.specs.IndexMap.{spare};
 ghost use Rattle.image_check.specs.Owners.{block_at};
+ghost use Rattle.image_check.specs.Rows.{AreBelow, IsRow};
 
 use crate::checking::Visits;
 use crate::owners::Block;
-use indexmap::IndexMap;
+use crate::rows::{halved, near};
 use std::marker::Model;
 
 /// The blocks in use by payload.
 #[derive(Drop)]
 pub(crate) struct Blocks {
-    pub(super) map: IndexMap<u64, Block>,
+    /// Each with its payload, in the order of their places.
+    rows: Vec<(u64, Block)>,
+    /// For each stretch of the image the number of the last block whose payload begins in it: where a look-up begins. It may be
+    /// any number, since what is found there is compared.
+    lasts: Vec<u32>,
+    /// A stretch is 2 to the power of so many bytes, of which 64 and more are as many less.
+    shift: u32,
 }
 
 impl Model for Blocks {
-    ghost use Rattle.indexmap.specs.IndexMap.{spare};
+    ghost use Rattle.std.specs.Prelude.{◌-◌, length, vec_capacity};
     ghost use Rattle.image_check.specs.Owners.{BlockMap};
+    ghost use Rattle.image_check.specs.Rows.{Rises};
 
     ghost Value = { BlockMap };
 
-    ghost view = { λ b. record { entries = b.map.entries; room = spare b.map } };
+    ghost view = { λ b. record { entries = b.rows.items; room = vec_capacity b.rows - length b.rows.items } };
+
+    ghost invariant = { λ b. Rises b.rows.items };
 }
 
 impl Blocks {
-    /// The blocks of a map.
-    pub(crate) fn new(map: IndexMap<u64, Block>) -> Blocks
-        ensures entries { result.entries ≡ map.entries }
-        ensures room { result.room ≡ spare map }
+    /// No blocks, with the room of `rows`, and with `lasts` for stretches of 2 to the power of `shift` bytes.
+    pub(crate) fn new(rows: Vec<(u64, Block)>, lasts: Vec<u32>, shift: u32) -> Blocks
+        requires { rows.items ≡ [] }
+        ensures entries { result.entries ≡ [] }
+        ensures room { result.room ≡ vec_capacity rows }
     {
-        Blocks { map }
+        Blocks { rows, lasts, shift }
+    }
+
+    /// The place among `lasts` of the stretch in which `target` lies.
+    fn stretch(&self, target: u64) -> usize {
+        (target >> (self.shift % 64)) as usize
+    }
+
+    /// The number of the block whose payload begins at `target`.
+    fn number_of(&self, target: u64) -> Option<usize>
+        ensures found { IfSome result (IsRow self.now.entries target) }
+        ensures none { IfNone result (block_at self.now.entries target ≡ None) }
+    {
+        let stretch = self.stretch(target);
+        if stretch < self.lasts.len() {
+            let last = self.lasts[stretch] as usize;
+            if let Some(number) = near(self.rows.as_slice(), last, target) {
+                return Some(number);
+            }
+        }
+        halved(self.rows.as_slice(), target)
+    }
+
+    /// The block whose payload begins at `target`. The caller counts it.
+    pub(super) fn get(&self, target: u64) -> Option<Block>
+        ensures { result ≡ block_at self.now.entries target }
+    {
+        match self.number_of(target) {
+            Some(number) => Some(self.rows[number].1),
+            None => None,
+        }
     }
 
     /// The block whose payload begins at `target`. One visit.
@@ -39,7 +79,7 @@ impl Blocks {
         ensures visits { visits.new ≡ visits.old + 1 }
     {
         visits.visit();
-        self.map.get(&target).copied()
+        self.get(target)
     }
 
     /// The same. It is quick where the block is that of number `guess`, in the order of the blocks, and right whatever the guess is.
@@ -49,10 +89,13 @@ impl Blocks {
         ensures visits { visits.new ≡ visits.old + 1 }
     {
         visits.visit();
-        match self.map.get_index(guess) {
-            Some((payload, block)) if *payload == target => Some(*block),
-            _ => self.map.get(&target).copied(),
+        if guess < self.rows.len() {
+            let row = self.rows[guess];
+            if row.0 == target {
+                return Some(row.1);
+            }
         }
+        self.get(target)
     }
 
     /// Puts another block in the place of the one at `target`. One visit.
@@ -62,21 +105,24 @@ impl Blocks {
         ensures visits { visits.new ≡ visits.old + 1 }
     {
         visits.visit();
-        if let Some(place) = self.map.get_mut(&target) {
-            *place = block;
+        if let Some(number) = self.number_of(target) {
+            self.rows[number] = (target, block);
         }
     }
 
-    /// Adds a block at `target`, where there is none, to those of which there is room for one more. One visit.
+    /// Adds a block at `target`, behind all others, to those of which there is room for one more. One visit.
     pub(crate) fn add(&mut self, target: u64, block: Block, visits: &mut Visits)
-        requires absent { block_at self.old.entries target ≡ None }
+        requires below { AreBelow self.old.entries target }
         requires room { 0 < self.old.room }
         ensures entries { self.new.entries ≡ self.old.entries ++ (target, block) ∷ [] }
         ensures room { self.old.room ≤ self.new.room + 1 }
         ensures visits { visits.new ≡ visits.old + 1 }
     {
         visits.visit();
-        // There is room, so that no memory is asked for.
-        let _ = self.map.insert(target, block);
+        let stretch = self.stretch(target);
+        if stretch < self.lasts.len() {
+            self.lasts[stretch] = u32::try_from(self.rows.len()).unwrap_or(0);
+        }
+        self.rows.push_reserved((target, block));
     }
 }

@@ -61,8 +61,7 @@ impl Pairs<'_> {
     fn has_node(&self, node: u64) -> bool
         ensures { result ≡ is_node_block self.now.root (pair_len self.now.key self.now.value) (block_at self.now.blocks.now.entries node) }
     {
-        let blocks = self.blocks;
-        let Some(block) = blocks.map.get(&node).copied() else {
+        let Some(block) = self.blocks.get(node) else {
             return false;
         };
         if !is_same(Role::Node, block.role) {

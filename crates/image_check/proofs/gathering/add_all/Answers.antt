@@ -1,7 +1,7 @@
 use Rattle.std.proofs.Common.{length, arith}
 use Rattle.image_check.proofs.Inside.{legal-small}
 use Rattle.image_check.proofs.WalkedTiles.{at-meets, at-within, tags-IsTiled, walk-at, walk-end, walk-nearer, walk-on, walk-read, walk-start}
-use Rattle.image_check.proofs.Gathered.{Gathering, gathering-absent, gathering-more, gathering-room}
+use Rattle.image_check.proofs.Gathered.{Gathering, gathering-below, gathering-more, gathering-room}
 use Rattle.image_check.proofs.gathering.add_all.Goals as goal
 
 pub first-tile-requires : goal.first-tile-requires
@@ -22,11 +22,11 @@ add-requires-clause-small c =
     let small = legal-small (length w.bytes) c.requires.tiles.size in
     omega arith
 
-pub add-requires-clause-absent : goal.add-requires-clause-absent
-add-requires-clause-absent c =
+pub add-requires-clause-below : goal.add-requires-clause-below
+add-requires-clause-below c =
     let w = c.args.window.now in
     let kept = Gathering c.args.visits.now c.tiles.visits c.args.blocks.now.room c.tiles.blocks.room c.tiles.blocks.entries in
-    gathering-absent w c.args.visits.now c.tiles.visits c.args.blocks.now.room c.tiles.blocks.room c.tiles.blocks.entries c.read-here.result
+    gathering-below w c.args.visits.now c.tiles.visits c.args.blocks.now.room c.tiles.blocks.room c.tiles.blocks.entries c.read-here.result
     (walk-at w kept c.tiles.tile c.read-here.result c.tiles.invariant (walk-read c.tiles.tile c.in-Some.unread c.read-here.result c.in-Some.is c.read-here.ensures.tile))
 
 pub add-requires-clause-room : goal.add-requires-clause-room

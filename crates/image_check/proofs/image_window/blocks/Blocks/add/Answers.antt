@@ -1,13 +1,15 @@
-use Rattle.std.proofs.Common.{sym, ap, subst, ◌∙◌, ◌<◌, ◌∷◌, ◌++◌, [], nat_eq}
-use Rattle.indexmap.proofs.CallerLemmas.{insert_entry-new}
-use Rattle.image_check.specs.Owners.{BlockMap, block_at}
-use Rattle.image_check.proofs.Following.{IsOk-OnOk}
+use Rattle.std.proofs.Common.{◌≡◌, sym, ap, subst, ◌∙◌, [], ◌∷◌, ◌++◌}
+use Rattle.image_check.specs.Owners.{BlockMap}
+use Rattle.image_check.specs.Rows.{AreBelow, Rises}
+use Rattle.image_check.proofs.Numbered.{rises-push}
 use Rattle.image_check.proofs.image_window.blocks.Blocks.add.Goals as goal
+use Rattle.image_check.proofs.image_window.blocks.Blocks.add.Goals.{then-stretch-len, else-stretch-len}
 
-pub returns-clause-entries : goal.returns-clause-entries
-returns-clause-entries c =
-    let room = subst (λ (v : BlockMap). 0 < v.room) (sym c.self.view_is) c.requires.room in
-    let absent = ap (λ (v : BlockMap). block_at v.entries c.args.target) c.self.view_is ∙ c.requires.absent in
-    IsOk-OnOk _ c.insert.result (c.insert.ensures.succeeds room) c.insert.ensures.entries
-    ∙ insert_entry-new nat_eq c.self.inside.map c.args.target c.args.block absent
-    ∙ ap (λ (v : BlockMap). v.entries ++ (c.args.target, c.args.block) ∷ []) c.self.view_is
+pub invariant_of-self : goal.invariant_of-self
+invariant_of-self c =
+    let below = subst (λ (v : BlockMap). AreBelow v.entries c.args.target) (sym c.self.view_is) c.requires.below in
+    let same : c.if-stretch-len.self-inside.rows ≡ c.self.inside.rows =
+    elim c.if-stretch-len.branch [ then-stretch-len w ↦ ap (λ b. b.rows) w.self-inside-is | else-stretch-len w ↦ ap (λ b. b.rows) w.self-inside-is ] in
+    let items = ap (λ v. v.items) same in
+    subst Rises (sym (c.push_reserved.ensures.items ∙ ap (λ es. es ++ (c.args.target, c.args.block) ∷ []) items))
+    (rises-push c.self.inside.rows.items c.args.target c.args.block c.self.invariant below)

@@ -1,0 +1,12 @@
+use Rattle.std.proofs.Common.{sym, ap, subst, ◌∙◌, nat_eq}
+use Rattle.std.specs.Map.{set_value}
+use Rattle.image_check.specs.Owners.{BlockMap}
+use Rattle.image_check.specs.Rows.{IsRow}
+use Rattle.image_check.proofs.Numbered.{set-row}
+use Rattle.image_check.proofs.image_window.blocks.Blocks.put.Goals as goal
+
+pub returns-in-Some-clause-value : goal.returns-in-Some-clause-value
+returns-in-Some-clause-value c =
+    let row = subst (λ (v : BlockMap). IsRow v.entries c.args.target c.in-Some.number) (sym c.self.view_is) c.in-Some.ensures.found in
+    sym (set-row c.self.inside.rows.items c.args.target c.in-Some.number c.args.block c.self.invariant row)
+    ∙ ap (λ (v : BlockMap). set_value (nat_eq c.args.target) v.entries c.args.block) c.self.view_is

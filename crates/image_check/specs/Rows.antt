@@ -1,0 +1,17 @@
+-- Blocks in the order of their places, by number.
+use Rattle.std.specs.Prelude.{◌≡◌, ℕ, ◌<◌, Some, slice_get}
+use Rattle.image_check.specs.declared.owners.Block.{Block}
+use Rattle.image_check.specs.Owners.{Blocks}
+
+-- the block of a number has this payload
+pub record IsRow (es : Blocks) (target number : ℕ) : Type 0 where
+  pub block : Block
+  pub is : slice_get es number ≡ Some (target, block)
+
+-- payloads rise with the numbers
+abbrev pub Rises : Blocks → Type 0
+Rises es = (i j : ℕ) (x y : ℕ × Block) → i < j → slice_get es i ≡ Some x → slice_get es j ≡ Some y → x.0 < y.0
+
+-- all payloads are below a place
+abbrev pub AreBelow : Blocks → ℕ → Type 0
+AreBelow es n = (i : ℕ) (x : ℕ × Block) → slice_get es i ≡ Some x → x.0 < n

@@ -101,12 +101,7 @@ impl Tally {
     /// Runs a script on a segment with a writer that takes so many bytes: these go out, and the line whose answer is cut is executed,
     /// so that so many bytes are free.
     fn stops(&mut self, alloc: Global, room: usize, free: u64) -> Result<(), AllocError> {
-        let Ok(region) = RawRegion::new(alloc, 1024) else {
-            return Err(AllocError);
-        };
-        let Ok(mut segment) = Segment::create(region, 0, 1024, Mode::Write) else {
-            return Err(AllocError);
-        };
+        let mut segment = empty_segment(alloc)?;
         let mut script = MemorySource::new(b"size\nconstruct i64 - 5\nfree\n", 4096, Last::Ends);
         let mut out = MemorySink::new(alloc, room, 3, Last::Fails)?;
         let result = run(&mut segment, &mut script, &mut out);
@@ -114,37 +109,69 @@ impl Tally {
         self.count(is_cut && result == Err(RunFault::WriteFault) && segment.free() == free);
         Ok(())
     }
+    /// Reads the script in pieces.
+    fn read_pieces(&mut self, alloc: Global) -> Result<(), AllocError> {
+        for piece in [1, 7, 4096] {
+            self.reads(alloc, SCRIPT, piece, Last::Ends, &ANSWERS)?;
+        }
+        Ok(())
+    }
+
+    /// Reads no line, empty lines, and one that is too long.
+    fn read_others(&mut self, alloc: Global) -> Result<(), AllocError> {
+        self.reads(alloc, b"", 9, Last::Ends, &[])?;
+        self.reads(alloc, b"\n\n", 9, Last::Ends, &[0, 0, 0, 1, 0, 0])?;
+        let mut long = Vec::from_elem(alloc, b'x', 5000)?;
+        long.extend_from_slice(b"\nab")?;
+        self.reads(alloc, &long, 4096, Last::Ends, &[0, 16, 2, 1, 0, 2])
+    }
+
+    /// Reads with a reader that fails behind each of the first bytes: the lines are answered that ended before.
+    fn fail_reading(&mut self, alloc: Global) -> Result<(), AllocError> {
+        for (len, answered) in [0usize, 0, 0, 3, 6, 6, 6, 6, 9, 9].into_iter().enumerate() {
+            let script = SCRIPT.get(..len).unwrap_or(SCRIPT);
+            let answers = ANSWERS.get(..answered).unwrap_or(&[]);
+            self.reads(alloc, script, 3, Last::Fails, answers)?;
+        }
+        Ok(())
+    }
+
+    /// Writes the answers of the machine with too little room.
+    fn fail_writing(&mut self, alloc: Global) -> Result<(), AllocError> {
+        for (room, lines) in [(0, 1), (3, 2), (4, 2), (8, 3), (9, 4), (11, 4)] {
+            self.writes(alloc, room, Last::Fails, lines)?;
+            self.writes(alloc, room, Last::Ends, lines)?;
+        }
+        Ok(())
+    }
+
+    /// Writes the answers of a segment with too little room.
+    fn stop_writing(&mut self, alloc: Global) -> Result<(), AllocError> {
+        for (room, free) in [(0, 880), (4, 880), (5, 832), (9, 832), (13, 832)] {
+            self.stops(alloc, room, free)?;
+        }
+        Ok(())
+    }
+}
+
+/// A segment of 1024 bytes without an object.
+fn empty_segment(alloc: Global) -> Result<Segment, AllocError> {
+    let Ok(region) = RawRegion::new(alloc, 1024) else {
+        return Err(AllocError);
+    };
+    match Segment::create(region, 0, 1024, Mode::Write) {
+        Ok(segment) => Ok(segment),
+        Err(_) => Err(AllocError),
+    }
 }
 
 /// Makes all runs.
 pub fn make_runs(alloc: Global) -> Result<Tally, AllocError> {
     let mut tally = Tally { runs: 0, wrong: 0 };
-    for piece in [1, 7, 4096] {
-        tally.reads(alloc, SCRIPT, piece, Last::Ends, &ANSWERS)?;
-    }
-    tally.reads(alloc, b"", 9, Last::Ends, &[])?;
-    tally.reads(alloc, b"\n\n", 9, Last::Ends, &[0, 0, 0, 1, 0, 0])?;
-    let mut long = Vec::from_elem(alloc, b'x', 5000)?;
-    long.extend_from_slice(b"\nab")?;
-    tally.reads(alloc, &long, 4096, Last::Ends, &[0, 16, 2, 1, 0, 2])?;
-    fail_in_turn(alloc, &mut tally)?;
+    tally.read_pieces(alloc)?;
+    tally.read_others(alloc)?;
+    tally.fail_reading(alloc)?;
+    tally.fail_writing(alloc)?;
+    tally.stop_writing(alloc)?;
     Ok(tally)
-}
-
-/// Makes the runs with devices that fail. Where the reader does, the lines are answered that ended before.
-fn fail_in_turn(alloc: Global, tally: &mut Tally) -> Result<(), AllocError> {
-    for (len, answered) in [0usize, 0, 0, 3, 6, 6, 6, 6, 9, 9].into_iter().enumerate() {
-        let script = SCRIPT.get(..len).unwrap_or(SCRIPT);
-        let answers = ANSWERS.get(..answered).unwrap_or(&[]);
-        tally.reads(alloc, script, 3, Last::Fails, answers)?;
-    }
-    for last in [Last::Fails, Last::Ends] {
-        for (room, lines) in [(0, 1), (3, 2), (4, 2), (8, 3), (9, 4), (11, 4)] {
-            tally.writes(alloc, room, last, lines)?;
-        }
-    }
-    for (room, free) in [(0, 880), (4, 880), (5, 832), (9, 832), (13, 832)] {
-        tally.stops(alloc, room, free)?;
-    }
-    Ok(())
 }

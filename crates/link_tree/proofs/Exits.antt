@@ -70,34 +70,49 @@ pub record IsTurned (lt : ℕ → ℕ → Bool) (h : ℕ → Cell) (x : ℕ) (t 
   pub shrinks : Shrinks lt h (Some p) below
   pub inside : (m : ℕ) → is_in m (nodes_of below) ≡ true → is_in m (nodes_of t) ≡ true
   pub lower : height below ≤ height t
-  pub carries : (h1 : ℕ → Cell) (link : Option ℕ) (fell : Bool) → Leaves h h1 (nodes_of below) link fell (shrunk lt x below) → IsTree h1 (root_of t) (shrunk lt x t).tree
+  pub carries : (h1 : ℕ → Cell) (link : Option ℕ) (fell : Bool)
+      → Leaves h h1 (nodes_of below) link fell (shrunk lt x below) → IsTree h1 (root_of t) (shrunk lt x t).tree
   pub still : (shrunk lt x t).fell ≡ false
   pub colour : has_black_root (shrunk lt x t).tree ≡ has_black_root t
 
-module _ (lt : ℕ → ℕ → Bool) (transitive : (a b c : ℕ) → lt a b ≡ true → lt b c ≡ true → lt a c ≡ true) (irreflexive : (n : ℕ) → lt n n ≡ false) (h : ℕ → Cell) (x : ℕ) where
+module _ (lt : ℕ → ℕ → Bool) (transitive : (a b c : ℕ) → lt a b ≡ true → lt b c ≡ true → lt a c ≡ true)
+    (irreflexive : (n : ℕ) → lt n n ≡ false) (h : ℕ → Cell) (x : ℕ) where
   -- what has not fallen on one side
-  over_still : (side : Side) (red : Bool) (near : Tree) (n : ℕ) (far : Tree) → nat_eq n x ≡ false → side_of (lt x n) ≡ side → (shrunk lt x near).fell ≡ false
-      → shrunk lt x (joined_at side red near n far) ≡ record { tree = joined_at side red (shrunk lt x near).tree n far; fell = false }
-  over_still side red near n far d s f = shrunk-joined lt transitive irreflexive x side red near n far d s ∙ settled_still side red (shrunk lt x near) n far f
+  over_still : (side : Side) (red : Bool) (near : Tree) (n : ℕ) (far : Tree) → nat_eq n x ≡ false
+      → side_of (lt x n) ≡ side → (shrunk lt x near).fell ≡ false
+      → shrunk lt x (joined_at side red near n far) ≡ record
+      { tree = joined_at side red (shrunk lt x near).tree n far; fell = false }
+  over_still side red near n far d s f = shrunk-joined lt transitive irreflexive x side red near n far d s
+      ∙ settled_still side red (shrunk lt x near) n far f
 
-  turned_here : (side : Side) (red : Bool) (near : Tree) (n : ℕ) (far : Tree) → Holds h (joined_at side red near n far) → rises lt (nodes_of (joined_at side red near n far)) ≡ true
-      → nat_eq n x ≡ false → side_of (lt x n) ≡ side → has_black_root near ≡ false → IsTurned lt h x (joined_at side red near n far) n
+  turned_here : (side : Side) (red : Bool) (near : Tree) (n : ℕ) (far : Tree)
+      → Holds h (joined_at side red near n far) → rises lt (nodes_of (joined_at side red near n far)) ≡ true
+      → nat_eq n x ≡ false → side_of (lt x n) ≡ side → has_black_root near ≡ false
+      → IsTurned lt h x (joined_at side red near n far) n
   turned_here side red near n far w o d s k =
       let t = joined_at side red near n far in
       let is = over_still side red near n far d s (shrunk_red lt x near k) in
-      let root : root_of (shrunk lt x t).tree ≡ Some n = ap (λ (r : Rest). root_of r.tree) is ∙ root_joined side red (shrunk lt x near).tree n far in
+      let root : root_of (shrunk lt x t).tree ≡ Some n = ap (λ (r : Rest). root_of r.tree) is
+      ∙ root_joined side red (shrunk lt x near).tree n far in
       record {
         below = t;
         shrinks = record { tree = record { root = sym (root_joined side red near n far); holds = w }; ordered = o };
         inside = λ m i. i;
         lower = omega arith;
-        carries = λ h1 link fell u. record { root = root_joined side red near n far ∙ sym root; holds = u.turned.tree.holds };
+        carries = λ h1 link fell u. record {
+          root = root_joined side red near n far ∙ sym root;
+          holds =
+              u.turned.tree.holds;
+        };
         still = ap (λ (r : Rest). r.fell) is;
-        colour = ap (λ (r : Rest). has_black_root r.tree) is ∙ colour_joined side red (shrunk lt x near).tree n far ∙ sym (colour_joined side red near n far);
+        colour = ap (λ (r : Rest). has_black_root r.tree) is ∙ colour_joined side red (shrunk lt x near).tree n far
+            ∙ sym (colour_joined side red near n far);
       }
 
-  turned_deeper : (side : Side) (red : Bool) (near : Tree) (n : ℕ) (far : Tree) (q : ℕ) → Holds h (joined_at side red near n far) → rises lt (nodes_of (joined_at side red near n far)) ≡ true
-      → nat_eq n x ≡ false → side_of (lt x n) ≡ side → IsTurned lt h x near q → IsTurned lt h x (joined_at side red near n far) q
+  turned_deeper : (side : Side) (red : Bool) (near : Tree) (n : ℕ) (far : Tree) (q : ℕ)
+      → Holds h (joined_at side red near n far) → rises lt (nodes_of (joined_at side red near n far)) ≡ true
+      → nat_eq n x ≡ false → side_of (lt x n) ≡ side → IsTurned lt h x near q
+      → IsTurned lt h x (joined_at side red near n far) q
   turned_deeper side red near n far q w o d s g =
       let t = joined_at side red near n far in
       let is = over_still side red near n far d s g.still in
@@ -113,7 +128,8 @@ module _ (lt : ℕ → ℕ → Bool) (transitive : (a b c : ℕ) → lt a b ≡ 
         carries = λ h1 link fell u.
             let near' = g.carries h1 link fell u in
             let out : (m : ℕ) → is_in m (nodes_of near) ≡ false → h1 m ≡ h m =
-            λ m b. u.turned.frame m (false_from_ne_true (is_in m (nodes_of g.below)) (λ i. true≢false (sym (g.inside m i) ∙ b))) in
+            λ m b. u.turned.frame m
+            (false_from_ne_true (is_in m (nodes_of g.below)) (λ i. true≢false (sym (g.inside m i) ∙ b))) in
             let all = tree_joint h1 side red (shrunk lt x near).tree n far (record {
               cell = out n apart.not_near ∙ joint.cell ∙ ap (λ r. cell_at side red r (root_of far)) near'.root;
               near_holds = near'.holds;
@@ -121,18 +137,22 @@ module _ (lt : ℕ → ℕ → Bool) (transitive : (a b c : ℕ) → lt a b ≡ 
             }) in
             rw is (record { root = root_joined side red near n far ∙ all.root; holds = all.holds });
         still = ap (λ (r : Rest). r.fell) is;
-        colour = ap (λ (r : Rest). has_black_root r.tree) is ∙ colour_joined side red (shrunk lt x near).tree n far ∙ sym (colour_joined side red near n far);
+        colour = ap (λ (r : Rest). has_black_root r.tree) is ∙ colour_joined side red (shrunk lt x near).tree n far
+            ∙ sym (colour_joined side red near n far);
       }
 
-  turned_over : (side : Side) (red : Bool) (near : Tree) (n : ℕ) (far : Tree) (q : ℕ) → Holds h (joined_at side red near n far) → rises lt (nodes_of (joined_at side red near n far)) ≡ true
+  turned_over : (side : Side) (red : Bool) (near : Tree) (n : ℕ) (far : Tree) (q : ℕ)
+      → Holds h (joined_at side red near n far) → rises lt (nodes_of (joined_at side red near n far)) ≡ true
       → nat_eq n x ≡ false → side_of (lt x n) ≡ side → (below : Option ℕ) → exit_over n near below ≡ Some q
       → (Holds h near → rises lt (nodes_of near) ≡ true → below ≡ Some q → IsTurned lt h x near q)
       → IsTurned lt h x (joined_at side red near n far) q
   turned_over side red near n far q w o d s below is more =
       elim (turns n near below q is) [
         | deeper k ↦ turned_deeper side red near n far q w o d s
-            (more (joint_of h side red near n far w).near_holds (apart_of lt transitive irreflexive side red near n far o).near_rises k)
-        | here k m ↦ subst (λ j. IsTurned lt h x (joined_at side red near n far) j) m (turned_here side red near n far w o d s k)
+            (more (joint_of h side red near n far w).near_holds
+            (apart_of lt transitive irreflexive side red near n far o).near_rises k)
+        | here k m ↦ subst (λ j. IsTurned lt h x (joined_at side red near n far) j) m
+            (turned_here side red near n far w o d s k)
       ]
 
   turned : (t : Tree) (q : ℕ) → Holds h t → rises lt (nodes_of t) ≡ true → exit_of lt x t ≡ Some q → IsTurned lt h x t q
@@ -150,10 +170,12 @@ module _ (lt : ℕ → ℕ → Bool) (transitive : (a b c : ℕ) → lt a b ≡ 
         ]
       ]
 
-  pub turned_whole : (root : Option ℕ) (t : Tree) (p : ℕ) → IsSearchTree lt h root t → exit_of lt x t ≡ Some p → IsTurned lt h x t p
+  pub turned_whole : (root : Option ℕ) (t : Tree) (p : ℕ) → IsSearchTree lt h root t → exit_of lt x t ≡ Some p
+      → IsTurned lt h x t p
   turned_whole root t p s e = turned t p s.tree.holds s.ordered e
 
-  pub left_tree : (lt' : ℕ → ℕ → Bool) (h1 h' : ℕ → Cell) (root link : Option ℕ) (fell : Bool) (t : Tree) (p : ℕ) → IsSearchTree lt h root t
+  pub left_tree : (lt' : ℕ → ℕ → Bool) (h1 h' : ℕ → Cell) (root link : Option ℕ) (fell : Bool) (t : Tree) (p : ℕ)
+      → IsSearchTree lt h root t
       → (g : IsTurned lt h x t p) → Leaves h h1 (nodes_of g.below) link fell (shrunk lt x g.below) → h' ≡ h1 → lt' ≡ lt
       → (t' : Tree) × IsSearchTree lt' h' root t' × (nodes_of t' ≡ without x (nodes_of t))
   left_tree lt' h1 h' root link fell t p s g u eh el =
@@ -165,12 +187,20 @@ module _ (lt : ℕ → ℕ → Bool) (transitive : (a b c : ℕ) → lt a b ≡ 
         rw (eh, el) (record {
           tree = record { root = s.tree.root ∙ new.root; holds = new.holds };
           ordered = ap (rises lt) nodes ∙ rises_without lt x (nodes_of t) s.ordered;
-          red_black = record { root = g.colour ∙ s.red_black.root; no_red_pair = e.even.no_red_pair; black = (e.level, e.even.black) };
+          red_black = record {
+            root = g.colour ∙ s.red_black.root;
+            no_red_pair = e.even.no_red_pair;
+            black =
+                (e.level, e.even.black);
+          };
         }),
         nodes,
       )
 
-  pub left_frame : (h1 h' : ℕ → Cell) (link : Option ℕ) (fell : Bool) (t : Tree) (p : ℕ) (g : IsTurned lt h x t p) → Leaves h h1 (nodes_of g.below) link fell (shrunk lt x g.below) → h' ≡ h1
+  pub left_frame : (h1 h' : ℕ → Cell) (link : Option ℕ) (fell : Bool) (t : Tree) (p : ℕ) (g : IsTurned lt h x t p)
+      → Leaves h h1 (nodes_of g.below) link fell (shrunk lt x g.below) → h' ≡ h1
       → (m : ℕ) → is_in m (nodes_of t) ≡ false → h' m ≡ h m
   left_frame h1 h' link fell t p g u eh m o =
-      ap (λ (f : ℕ → Cell). f m) eh ∙ u.turned.frame m (false_from_ne_true (is_in m (nodes_of g.below)) (λ i. true≢false (sym (g.inside m i) ∙ o)))
+      ap (λ (f : ℕ → Cell). f m) eh
+      ∙ u.turned.frame m
+      (false_from_ne_true (is_in m (nodes_of g.below)) (λ i. true≢false (sym (g.inside m i) ∙ o)))

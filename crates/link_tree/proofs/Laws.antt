@@ -93,9 +93,11 @@ bits_most = heights.bits_most
 -- ---- where a change begins
 
 -- an insertion begins where what is asked of the nodes of the tree alone says
-pub entry_same : (f g : ℕ → Bool) (t : Tree) → ((m : ℕ) → is_in m (nodes_of t) ≡ true → f m ≡ g m) → entry_of f t ≡ entry_of g t
+pub entry_same : (f g : ℕ → Bool) (t : Tree) → ((m : ℕ) → is_in m (nodes_of t) ≡ true → f m ≡ g m)
+    → entry_of f t ≡ entry_of g t
 entry_same = approaches.entry_same
 
 -- and a removal where the order of the node and those of the tree says
-pub exit_same : (f g : ℕ → ℕ → Bool) (x : ℕ) (t : Tree) → ((m : ℕ) → is_in m (nodes_of t) ≡ true → f x m ≡ g x m) → exit_of f x t ≡ exit_of g x t
+pub exit_same : (f g : ℕ → ℕ → Bool) (x : ℕ) (t : Tree) → ((m : ℕ) → is_in m (nodes_of t) ≡ true → f x m ≡ g x m)
+    → exit_of f x t ≡ exit_of g x t
 exit_same = approaches.exit_same

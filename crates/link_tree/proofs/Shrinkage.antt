@@ -277,7 +277,8 @@ without_root_even red l n (fork red' p k q) b e =
     let more = without_least_even (fork red' p k q) f.below f.right_even in
     rw f.is (settled_even Right red (has_black_root (fork red' p k q)) (without_least (fork red' p k q)) (least_of k p) l f.below more f.left_even f.right_root f.left_root)
 
-pub shrunk_even : (lt : ℕ → ℕ → Bool) (x : ℕ) (t : Tree) (b : ℕ) → IsEven t b → IsRestEven (has_black_root t) (shrunk lt x t) b
+pub shrunk_even : (lt : ℕ → ℕ → Bool) (x : ℕ) (t : Tree) (b : ℕ) → IsEven t b
+    → IsRestEven (has_black_root t) (shrunk lt x t) b
 shrunk_even lt x leaf b e = record { level = b; even = e; total = omega arith; root = λ q f. refl }
 shrunk_even lt x (fork red l n r) b e =
     let p = even_fork red l n r b e in

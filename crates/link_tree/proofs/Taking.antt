@@ -150,7 +150,8 @@ module _ (lt : ℕ → ℕ → Bool) (transitive : (a b c : ℕ) → lt a b ≡ 
       → rises lt (nodes_of (joined_at side red rest.tree n far)) ≡ true
   settled_order side red rest n far o = ap (rises lt) (sym (nodes_of-settled side red rest n far)) ∙ o
 
-  pub shrunk-joined : (x : ℕ) (side : Side) (red : Bool) (near : Tree) (n : ℕ) (far : Tree) → nat_eq n x ≡ false → side_of (lt x n) ≡ side
+  pub shrunk-joined : (x : ℕ) (side : Side) (red : Bool) (near : Tree) (n : ℕ) (far : Tree) → nat_eq n x ≡ false
+      → side_of (lt x n) ≡ side
       → shrunk lt x (joined_at side red near n far) ≡ settled side red (shrunk lt x near) n far
   shrunk-joined x Left red near n far d e = shrunk_left x red near n far d e
   shrunk-joined x Right red near n far d e = shrunk_right x red far n near d e

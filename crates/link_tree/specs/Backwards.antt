@@ -8,18 +8,21 @@ use Rattle.link_tree.specs.Nodes.{is_in, leads}
 abbrev pub crossed : Cell → Cell
 crossed c = record { left = c.right; right = c.left; red = c.red }
 
--- where what precedes a node that stands before a probe stands before it too, what follows one that does not does not either
+-- where what precedes a node that stands before a probe stands before it too, what follows one that does not does not
+-- either
 pub stays_behind : (p q : Bool) → (p ≡ true → q ≡ true) → not q ≡ true → not p ≡ true
 stays_behind true q f h = absurd (false≢true (sym (ap not (f refl)) ∙ h))
 stays_behind false q f h = refl
 
 -- nodes that are asked for beside another node are nodes
-pub both_finite : (b : Bool) (good : ℕ → Bool) → ((ns : List ℕ) × (length ns ≤ 2 ^ 40) × ((n : ℕ) → good n ≡ true → is_in n ns ≡ true))
+pub both_finite : (b : Bool) (good : ℕ → Bool)
+    → ((ns : List ℕ) × (length ns ≤ 2 ^ 40) × ((n : ℕ) → good n ≡ true → is_in n ns ≡ true))
     → ((ns : List ℕ) × (length ns ≤ 2 ^ 40) × ((n : ℕ) → (b && good n) ≡ true → is_in n ns ≡ true))
 both_finite true good f = f
 both_finite false good f = (f.0, f.1, λ n h. absurd (false≢true h))
 
-pub both_lead : (b : Bool) (good : ℕ → Bool) (n : ℕ) (to : Option ℕ) → (good n ≡ true → leads good to ≡ true) → (b && good n) ≡ true
+pub both_lead : (b : Bool) (good : ℕ → Bool) (n : ℕ) (to : Option ℕ) → (good n ≡ true → leads good to ≡ true)
+    → (b && good n) ≡ true
     → leads (λ m. b && good m) to ≡ true
 both_lead true good n None f h = refl
 both_lead true good n (Some m) f h = f h

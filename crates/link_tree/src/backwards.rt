@@ -16,7 +16,7 @@ pub struct AllBefore<'a, N> {
     pub nodes: &'a N,
 }
 
-/// Nodes among which the place of one of them is looked for. To ask whether a node stands before it is to compare the two.
+/// Nodes among which the place of one of them is looked for. To ask whether one stands before it is to compare the two.
 #[derive(Drop)]
 pub struct Beside<'a, N> {
     pub nodes: &'a N,
@@ -150,13 +150,16 @@ impl<'a, N: Nodes> Nodes for Beside<'a, N> {
 
     ghost finite = { λ s. both_finite (N.is_node s.nodes.now s.node) (N.is_node s.nodes.now) (N.finite s.nodes.now) };
 
-    ghost left_closed = { λ s n h. both_lead (N.is_node s.nodes.now s.node) (N.is_node s.nodes.now) n (N.cells s.nodes.now n).left (N.left_closed s.nodes.now n) h };
+    ghost left_closed = { λ s n h. both_lead (N.is_node s.nodes.now s.node) (N.is_node s.nodes.now) n
+        (N.cells s.nodes.now n).left (N.left_closed s.nodes.now n) h };
 
-    ghost right_closed = { λ s n h. both_lead (N.is_node s.nodes.now s.node) (N.is_node s.nodes.now) n (N.cells s.nodes.now n).right (N.right_closed s.nodes.now n) h };
+    ghost right_closed = { λ s n h. both_lead (N.is_node s.nodes.now s.node) (N.is_node s.nodes.now) n
+        (N.cells s.nodes.now n).right (N.right_closed s.nodes.now n) h };
 
     ghost irreflexive = { λ s. N.irreflexive s.nodes.now };
 
     ghost transitive = { λ s. N.transitive s.nodes.now };
 
-    ghost agrees = { λ s probe a b h. stays_behind (N.order s.nodes.now s.node a) (N.order s.nodes.now s.node b) (λ k. N.transitive s.nodes.now s.node a b k h) };
+    ghost agrees = { λ s probe a b h. stays_behind (N.order s.nodes.now s.node a)
+        (N.order s.nodes.now s.node b) (λ k. N.transitive s.nodes.now s.node a b k h) };
 }

@@ -84,7 +84,8 @@ pub fn insert_at<N: NodesMut>(
 ) -> Changed
     requires root { leads (N.is_node nodes.old) root ≡ true }
     requires node { N.is_node nodes.old node ≡ true }
-    // The node must precede or follow each node of the tree, and the insertion begin at the root or where `find_way_in` says.
+    // The node must precede or follow each node of the tree, and the insertion begin at the root or where
+    // `find_way_in` says.
     requires tree { (t : Tree) × IsSearchTree (N.order nodes.old) (N.cells nodes.old) root t
         × IsTrue (has_place (N.order nodes.old) node (nodes_of t))
         × IfSome entry (λ n. entry_of (λ m. not (N.order nodes.old node m)) t ≡ Some n) }
@@ -101,7 +102,8 @@ pub fn insert_at<N: NodesMut>(
         → result.steps ≤ 28 * bits (length (nodes_of t) + 1) + 32 }
     ensures counted { 0 < result.steps }
     ensures root { leads (N.is_node nodes.new) result.root ≡ true }
-    // Nothing but links and colours changed: the nodes, their order, the reference they are reached by, and what else there is stay.
+    // Nothing but links and colours changed: the nodes, their order, the reference they are reached by, and what else
+    // there is stay.
     ensures same { SameBesideCells N.Nodes nodes.old nodes.new }
 {
     let mut visits = VisitsMut::new(nodes);
@@ -120,8 +122,8 @@ pub fn insert_at<N: NodesMut>(
     }
 }
 
-/// Puts the node into the tree: a search for its place, and `insert_at` where that ended. Each node on the way is compared
-/// with it, and a comparison goes to both, so the search takes two steps for each.
+/// Puts the node into the tree: a search for its place, and `insert_at` where that ended. Each node on the way is
+/// compared with it, and a comparison goes to both, so the search takes two steps for each.
 ///
 /// Only links and colours of the tree's nodes and of the node change.
 /// A step is going to a node, with all that is read and written there before the call goes to another.
@@ -145,7 +147,8 @@ pub fn insert<N: NodesMut>(nodes: &mut N, root: Option<u64>, node: u64) -> Chang
         → result.steps ≤ 32 * bits (length (nodes_of t) + 1) + 32 }
     ensures counted { 0 < result.steps }
     ensures root { leads (N.is_node nodes.new) result.root ≡ true }
-    // Nothing but links and colours changed: the nodes, their order, the reference they are reached by, and what else there is stay.
+    // Nothing but links and colours changed: the nodes, their order, the reference they are reached by, and what else
+    // there is stay.
     ensures same { SameBesideCells N.Nodes nodes.old nodes.new }
 {
     let way = find_way_in(

@@ -314,7 +314,8 @@ pub fn remove_at<N: NodesMut>(
         → result.steps ≤ 32 * bits (length (nodes_of t) + 1) + 32 }
     ensures counted { 0 < result.steps }
     ensures root { leads (N.is_node nodes.new) result.root ≡ true }
-    // Nothing but links and colours changed: the nodes, their order, the reference they are reached by, and what else there is stay.
+    // Nothing but links and colours changed: the nodes, their order, the reference they are reached by, and what else
+    // there is stay.
     ensures same { SameBesideCells N.Nodes nodes.old nodes.new }
 {
     let mut visits = VisitsMut::new(nodes);
@@ -355,7 +356,8 @@ pub fn remove<N: NodesMut>(nodes: &mut N, root: Option<u64>, node: u64) -> Chang
         → result.steps ≤ 32 * bits (length (nodes_of t) + 1) + 32 }
     ensures counted { 0 < result.steps }
     ensures root { leads (N.is_node nodes.new) result.root ≡ true }
-    // Nothing but links and colours changed: the nodes, their order, the reference they are reached by, and what else there is stay.
+    // Nothing but links and colours changed: the nodes, their order, the reference they are reached by, and what else
+    // there is stay.
     ensures same { SameBesideCells N.Nodes nodes.old nodes.new }
 {
     remove_at(nodes, root, None, node)

@@ -93,7 +93,8 @@ impl Followed {
     }
 }
 
-/// Looks for the first node that does not stand before the probe, and for the place where a node with this probe would enter.
+/// Looks for the first node that does not stand before the probe, and for the place where a node with this probe would
+/// enter.
 ///
 /// It goes down the same path as `find_first_not_before`, with as many steps, and reads the colours there.
 pub fn find_way_in<N: Nodes>(nodes: &N, root: Option<u64>, probe: &N::Probe) -> WayIn

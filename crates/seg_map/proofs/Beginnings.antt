@@ -24,13 +24,15 @@ pub narrowed : (r f : Option ℕ) (P : ℕ → Type 0) → IfSome r (λ n. f ≡
 narrowed None f P e h = tt
 narrowed (Some n) f P e h = let k = rw e at h in k
 
-pub begun : (r start : Option ℕ) (n : ℕ) (P : ℕ → Option ℕ) → r ≡ Some n → IfSome r (λ m. start ≡ P m) → IfSome start (λ q. P n ≡ Some q)
+pub begun : (r start : Option ℕ) (n : ℕ) (P : ℕ → Option ℕ) → r ≡ Some n → IfSome r (λ m. start ≡ P m)
+    → IfSome start (λ q. P n ≡ Some q)
 begun r start n P e h = let k = rw e at h in known start (P n) k
 
 -- ---- keys of nodes
 
 -- two ways to read keys that read those of the pairs read the same of their nodes
-pub keys_agree : {K V : Type 0} (f g : ℕ → Option K) (ps : List (Pair K V)) → HaveKeys f ps → HaveKeys g ps → (m : ℕ) → is_in m (nodes_of_pairs ps) ≡ true → f m ≡ g m
+pub keys_agree : {K V : Type 0} (f g : ℕ → Option K) (ps : List (Pair K V)) → HaveKeys f ps → HaveKeys g ps → (m : ℕ)
+    → is_in m (nodes_of_pairs ps) ≡ true → f m ≡ g m
 keys_agree f g [] k j m i = absurd (false≢true i)
 keys_agree f g (p ∷ ps) k j m i =
     elim (or_cases (m == pair_node p) (is_in m (nodes_of_pairs ps)) i) [
@@ -38,7 +40,8 @@ keys_agree f g (p ∷ ps) k j m i =
       | inr e ↦ keys_agree f g ps k.1 j.1 m e
     ]
 
-module _ {K : Type 0} (less : K → K → Bool) (irreflexive : (x : K) → less x x ≡ false) (transitive : (x y z : K) → less x y ≡ true → less y z ≡ true → less x z ≡ true) where
+module _ {K : Type 0} (less : K → K → Bool) (irreflexive : (x : K) → less x x ≡ false) (transitive : (x y z : K)
+    → less x y ≡ true → less y z ≡ true → less x z ≡ true) where
   -- of two keys of which one is below the other, one is not
   one_side : (x y : K) → not (less x y || less y x) ≡ false → less y x ≡ not (less x y)
   one_side x y e =
@@ -48,14 +51,17 @@ module _ {K : Type 0} (less : K → K → Bool) (irreflexive : (x : K) → less 
       ]
 
   -- the nodes that stand before a key are those that its node does not come before
-  pub beside : {V : Type 0} (keys : ℕ → Option K) (p : Pair K V) → keys (pair_node p) ≡ Some p.key → (ps : List (Pair K V)) → HaveKeys keys ps → pair_at less ps p.key ≡ None
-      → (m : ℕ) → is_in m (nodes_of_pairs ps) ≡ true → stands_before less keys false p.key m ≡ not (comes_before less keys (pair_node p) m)
+  pub beside : {V : Type 0} (keys : ℕ → Option K) (p : Pair K V) → keys (pair_node p) ≡ Some p.key
+      → (ps : List (Pair K V)) → HaveKeys keys ps → pair_at less ps p.key ≡ None
+      → (m : ℕ) → is_in m (nodes_of_pairs ps) ≡ true → stands_before less keys false p.key m ≡ not
+      (comes_before less keys (pair_node p) m)
   beside keys p own [] k absent m i = absurd (false≢true i)
   beside keys p own (q ∷ qs) k absent m i =
       let two = absent_here less p.key q qs absent in
       elim (or_cases (m == pair_node q) (is_in m (nodes_of_pairs qs)) i) [
         | inl e ↦
             let key : keys m ≡ Some q.key = ap keys (eqb-true m (pair_node q) e) ∙ k.0 in
-            ap (stands less false p.key) key ∙ one_side p.key q.key two.0 ∙ sym (λ j. not (before_key less (own j) (key j)))
+            ap (stands less false p.key) key ∙ one_side p.key q.key two.0
+            ∙ sym (λ j. not (before_key less (own j) (key j)))
         | inr e ↦ beside keys p own qs k.1 two.1 m e
       ]

@@ -65,13 +65,16 @@ module _ {K V : Type 0} (kp : Plain K) (vp : Plain V) (kl : Laws kp) (vl : Laws 
   key_tree : IsKeyTree kp (own_nodes c.bytes root None) c root s.map.tree.tree
   key_tree = record { tree = lent_tree kp vp kl c h at ps s root (own_nodes c.bytes root None) is refl; leads = lent_leads kp vp kl c h at ps s root (own_nodes c.bytes root None) is refl }
 
-  pub can_unlink : (start : Option ℕ) (node : ℕ) → pair_node p ≡ node → IfSome start (λ n. exit_in kp c node s.map.tree.tree ≡ Some n)
+  pub can_unlink : (start : Option ℕ) (node : ℕ) → pair_node p ≡ node
+      → IfSome start (λ n. exit_in kp c node s.map.tree.tree ≡ Some n)
       → CanUnlink kp (own_nodes c.bytes root None) c root start node
   can_unlink start node e begins = record {
     shape = s.map.tree.tree;
     tree = key_tree;
     listed = ap (λ n. is_in n (nodes_of s.map.tree.tree)) (sym e) ∙ in_tree;
-    begins = subst (λ (ms : List ℕ). IfSome start (λ n. exit_of (comes_before kp.order (keys_in kp ms c)) node s.map.tree.tree ≡ Some n)) (sym ns_is) begins;
+    begins =
+        subst (λ (ms : List ℕ). IfSome start
+        (λ n. exit_of (comes_before kp.order (keys_in kp ms c)) node s.map.tree.tree ≡ Some n)) (sym ns_is) begins;
   }
 
   module _ (d : Cut) (node : ℕ) (here : pair_node p ≡ node) (top : Option ℕ) (steps : ℕ) (u : Unlinked kp (own_nodes c.bytes root None) c d root node top steps) where

@@ -82,13 +82,15 @@ module _ {K V : Type 0} (kp : Plain K) (vp : Plain V) (kl : Laws kp) (vl : Laws 
       (record { at = λ n a b. same.payload.at n (omega arith) (omega arith) }) (stills ps s.pairs)
 
   -- an insertion begins where it did before the block was taken
-  pub entry_there : (start : Option ℕ) → start ≡ entry_in kp c key s.map.tree.tree → IfSome start (λ n. entry_in kp d key map_there.map.tree.tree ≡ Some n)
+  pub entry_there : (start : Option ℕ) → start ≡ entry_in kp c key s.map.tree.tree
+      → IfSome start (λ n. entry_in kp d key map_there.map.tree.tree ≡ Some n)
   entry_there start e =
       let old = keys_in kp (nodes_of s.map.tree.tree) c in let new = keys_in kp (nodes_of map_there.map.tree.tree) d in
       let before = keys kp vp kl c h at ps s in let after = keys kp vp kl d h at ps map_there in
       known start (entry_in kp d key map_there.map.tree.tree) (e
       ∙ entry_same (stands_before kp.order old false key) (stands_before kp.order new false key) s.map.tree.tree
-      (λ n i. ap (stands kp.order false key) (keys_agree old new ps before after n (ap (is_in n) (sym s.map.tree.lists) ∙ i)))
+      (λ n i. ap (stands kp.order false key)
+      (keys_agree old new ps before after n (ap (is_in n) (sym s.map.tree.lists) ∙ i)))
       ∙ ap (entry_of (stands_before kp.order new false key)) (sym there_tree))
 
   abbrev pub new_pair : Pair K V

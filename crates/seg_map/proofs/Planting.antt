@@ -125,14 +125,21 @@ module _ {K V : Type 0} (kp : Plain K) (vp : Plain V) (kl : Laws kp) (vl : Laws 
 
   -- an insertion begins where the search for the key says
   begins_all : (start : Option ℕ) → IfSome start (λ n. entry_in kp c p.key s.map.tree.tree ≡ Some n)
-      → IfSome start (λ n. entry_of (λ m. not (comes_before kp.order (keys_in kp (pair_node p ∷ nodes_of s.map.tree.tree) c) (pair_node p) m)) s.map.tree.tree ≡ Some n)
+      → IfSome start
+      (λ n. entry_of
+      (λ m. not (comes_before kp.order (keys_in kp (pair_node p ∷ nodes_of s.map.tree.tree) c) (pair_node p)
+      m)) s.map.tree.tree ≡ Some n)
   begins_all start b =
-      moved start (entry_in kp c p.key s.map.tree.tree) (entry_of (λ m. not (comes_before kp.order (keys_in kp all c) (pair_node p) m)) s.map.tree.tree)
-      (entry_same (stands_before kp.order (keys_in kp (nodes_of s.map.tree.tree) c) false p.key) (λ m. not (comes_before kp.order (keys_in kp all c) (pair_node p) m)) s.map.tree.tree
+      moved start (entry_in kp c p.key s.map.tree.tree)
+      (entry_of (λ m. not (comes_before kp.order (keys_in kp all c) (pair_node p) m)) s.map.tree.tree)
+      (entry_same (stands_before kp.order (keys_in kp (nodes_of s.map.tree.tree) c) false p.key)
+      (λ m. not (comes_before kp.order (keys_in kp all c) (pair_node p) m)) s.map.tree.tree
       (λ m i. ap (stands kp.order false p.key) (sym (key_same m i))
-      ∙ not_beside kp.order kl.irreflexive kl.transitive (keys_in kp all c) p own_key ps keys_all l.absent m (ap (is_in m) (sym (listed kp vp kl c h at ps s)) ∙ i))) b
+      ∙ not_beside kp.order kl.irreflexive kl.transitive (keys_in kp all c) p own_key ps keys_all l.absent m
+      (ap (is_in m) (sym (listed kp vp kl c h at ps s)) ∙ i))) b
 
-  pub can_link : (start : Option ℕ) → IfSome start (λ n. entry_in kp c p.key s.map.tree.tree ≡ Some n) → (node : ℕ) → pair_node p ≡ node
+  pub can_link : (start : Option ℕ) → IfSome start (λ n. entry_in kp c p.key s.map.tree.tree ≡ Some n) → (node : ℕ)
+      → pair_node p ≡ node
       → CanLink kp (own_nodes c.bytes root (Some node)) c root start node
   can_link start begins node e =
       subst (λ (n : ℕ). CanLink kp (own_nodes c.bytes root (Some n)) c root start n) e

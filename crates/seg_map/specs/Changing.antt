@@ -48,7 +48,8 @@ pub record HasKeyNode {K V : Type 0} (k : Plain K) (v : Plain V) (b : List ℕ) 
   pub is : pair_node pair ≡ node
 
 -- such a node, and where its removal begins, if that is known
-pub record CanTakeOut {K V : Type 0} (k : Plain K) (v : Plain V) (c : Cut) (h at : ℕ) (start : Option ℕ) (node : ℕ) : Type 0 where
+pub record CanTakeOut {K V : Type 0} (k : Plain K) (v : Plain V) (c : Cut) (h at : ℕ) (start : Option ℕ)
+    (node : ℕ) : Type 0 where
   pub there : HasKeyNode k v c.bytes h at node
   pub begins : IfSome start (λ n. exit_in k c node there.map.map.tree.tree ≡ Some n)
 
@@ -122,7 +123,8 @@ pub record HasLooseNode {K V : Type 0} (k : Plain K) (v : Plain V) (b : List ℕ
   pub is : pair_node pair ≡ node
 
 -- the same, and where the insertion of the node begins, if that is known
-pub record CanPutIn {K V : Type 0} (k : Plain K) (v : Plain V) (c : Cut) (h at : ℕ) (start : Option ℕ) (node : ℕ) : Type 0 where
+pub record CanPutIn {K V : Type 0} (k : Plain K) (v : Plain V) (c : Cut) (h at : ℕ) (start : Option ℕ)
+    (node : ℕ) : Type 0 where
   pub there : HasLooseNode k v c.bytes h at node
   pub begins : IfSome start (λ n. entry_in k c there.pair.key there.map.map.tree.tree ≡ Some n)
 

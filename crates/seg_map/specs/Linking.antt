@@ -18,11 +18,12 @@ pub record IsKeyTree {K : Type 0} (k : Plain K) (ns : List ℕ) (c : Cut) (root 
   pub leads : leads (is_pair_node (16 + k.SIZE) ns c) root ≡ true
 
 -- a node of the tree that can be taken out, from the root on or from where its removal begins
-pub record CanUnlink {K : Type 0} (k : Plain K) (ns : List ℕ) (c : Cut) (root start : Option ℕ) (node : ℕ) : Type 0 where
-  pub shape : Tree
-  pub tree : IsKeyTree k ns c root shape
-  pub listed : is_in node (nodes_of shape) ≡ true
-  pub begins : IfSome start (λ n. exit_of (comes_before k.order (keys_in k ns c)) node shape ≡ Some n)
+pub record CanUnlink {K : Type 0} (k : Plain K) (ns : List ℕ) (c : Cut) (root start : Option ℕ) (node : ℕ) : Type 0
+  where
+    pub shape : Tree
+    pub tree : IsKeyTree k ns c root shape
+    pub listed : is_in node (nodes_of shape) ≡ true
+    pub begins : IfSome start (λ n. exit_of (comes_before k.order (keys_in k ns c)) node shape ≡ Some n)
 
 -- the node is no longer in the tree; nothing changes but links and colours of the nodes
 pub record Unlinked {K : Type 0} (k : Plain K) (ns : List ℕ) (old new : Cut) (root : Option ℕ) (node : ℕ) (top : Option ℕ) (steps : ℕ) : Type 0 where

@@ -27,12 +27,14 @@ reading_steps (Some x) = 1
 -- a look-up takes the steps of a search, and one more where there is such a pair
 abbrev pub LookUpTakes : {K V : Type 0} → Plain K → Plain V → Cut → ℕ → ℕ → Bool → K → ℕ → ℕ → Type 0
 LookUpTakes {K} {V} k v c h at past key before after =
-    (ps : List (Pair K V)) (s : HoldsMap k v c.bytes h at ps) → after ≡ before + path_in k c past key s.map.tree.tree + reading_steps (first_pair k.order past key ps)
+    (ps : List (Pair K V)) (s : HoldsMap k v c.bytes h at ps) → after ≡ before + path_in k c past key s.map.tree.tree
+    + reading_steps (first_pair k.order past key ps)
 
 -- So does one that looks back: it goes down the same path as the look-up of that key.
 abbrev pub LookBackTakes : {K V : Type 0} → Plain K → Plain V → Cut → ℕ → ℕ → Bool → K → ℕ → ℕ → Type 0
 LookBackTakes {K} {V} k v c h at past key before after =
-    (ps : List (Pair K V)) (s : HoldsMap k v c.bytes h at ps) → after ≡ before + path_in k c past key s.map.tree.tree + reading_steps (last_pair k.order past key ps)
+    (ps : List (Pair K V)) (s : HoldsMap k v c.bytes h at ps) → after ≡ before + path_in k c past key s.map.tree.tree
+    + reading_steps (last_pair k.order past key ps)
 
 -- the path to the last pair goes to the right from each node
 abbrev pub last_path : Tree → ℕ
@@ -44,7 +46,8 @@ LastSearchTakes {K} {V} k v c h at before after =
 
 abbrev pub LastTakes : {K V : Type 0} → Plain K → Plain V → Cut → ℕ → ℕ → ℕ → ℕ → Type 0
 LastTakes {K} {V} k v c h at before after =
-    (ps : List (Pair K V)) (s : HoldsMap k v c.bytes h at ps) → after ≡ before + last_path s.map.tree.tree + reading_steps (final_pair ps)
+    (ps : List (Pair K V)) (s : HoldsMap k v c.bytes h at ps) → after ≡ before + last_path s.map.tree.tree
+    + reading_steps (final_pair ps)
 
 -- the steps that are taken where what a search has found is read
 abbrev pub ReadingTakes : {K V : Type 0} → Plain K → Plain V → List ℕ → ℕ → ℕ → K → ℕ → ℕ → Type 0

@@ -10,8 +10,8 @@ use best_fit::Heap;
 use raw_region::Steps;
 use seg_types::Plain;
 
-/// Takes a pair out of the map, from the root of the tree on or from where a search has found that it changes. Its block is
-/// still in use.
+/// Takes a pair out of the map, from the root of the tree on or from where a search has found that it changes. Its
+/// block is still in use.
 pub fn take_out<K: Plain, V: Plain>(
     heap: &mut Heap,
     handle: u64,

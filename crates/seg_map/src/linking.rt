@@ -61,8 +61,8 @@ fn plant<K: Plain>(
     changed.root
 }
 
-/// Takes a node out of the tree that a link leads to, from the root on or from where a search has found that its removal
-/// begins, and answers the new root.
+/// Takes a node out of the tree that a link leads to, from the root on or from where a search has found that its
+/// removal begins, and answers the new root.
 pub fn unlink<K: Plain>(
     heap: &mut Heap,
     root: Option<u64>,
@@ -78,8 +78,8 @@ pub fn unlink<K: Plain>(
     uproot(&mut pairs, root, start, node, steps)
 }
 
-/// Puts a node into the tree that a link leads to, from the root on or from where a search has found that its insertion
-/// begins, and answers the new root.
+/// Puts a node into the tree that a link leads to, from the root on or from where a search has found that its
+/// insertion begins, and answers the new root.
 pub fn link<K: Plain>(
     heap: &mut Heap,
     root: Option<u64>,

@@ -5,15 +5,18 @@ use Rattle.link_tree.proofs.Limits.{height_limit}
 use Rattle.link_tree.proofs.inserting.insert.Goals as goal
 
 -- a tree of few nodes is gone through in few steps
-few : (digits search change : ℕ) → digits ≤ 41 → search ≤ 2 * digits → change ≤ 28 * digits + 32 → 2 * search + change < 2 ^ 64
+few : (digits search change : ℕ) → digits ≤ 41 → search ≤ 2 * digits → change ≤ 28 * digits + 32
+    → 2 * search + change < 2 ^ 64
 few digits search change a b c = omega arith
 
 pub overflow_mul-result : goal.overflow_mul-result
 overflow_mul-result g c =
     let t = c.requires.tree in
     let s = c.args.nodes.now in
-    let low = height_limit (g.met.N.Nodes.transitive s) (g.met.N.Nodes.irreflexive s) (g.met.N.Nodes.finite s) (g.met.N.Nodes.left_closed s) (g.met.N.Nodes.right_closed s) t.1 c.requires.root in
-    let all = few (bits (length (nodes_of t.0) + 1)) c.find_way_in-way.result.steps c.insert_at-changed.result.steps (bits_most (length (nodes_of t.0)) low.1)
+    let low = height_limit (g.met.N.Nodes.transitive s) (g.met.N.Nodes.irreflexive s) (g.met.N.Nodes.finite s)
+    (g.met.N.Nodes.left_closed s) (g.met.N.Nodes.right_closed s) t.1 c.requires.root in
+    let all = few (bits (length (nodes_of t.0) + 1)) c.find_way_in-way.result.steps c.insert_at-changed.result.steps
+    (bits_most (length (nodes_of t.0)) low.1)
     (c.find_way_in-way.ensures.steps t.0 t.1) (c.insert_at-changed.ensures.steps t.0 t.1) in
     omega (arith, all)
 
@@ -21,7 +24,9 @@ pub overflow_add-result : goal.overflow_add-result
 overflow_add-result g c =
     let t = c.requires.tree in
     let s = c.args.nodes.now in
-    let low = height_limit (g.met.N.Nodes.transitive s) (g.met.N.Nodes.irreflexive s) (g.met.N.Nodes.finite s) (g.met.N.Nodes.left_closed s) (g.met.N.Nodes.right_closed s) t.1 c.requires.root in
-    let all = few (bits (length (nodes_of t.0) + 1)) c.find_way_in-way.result.steps c.insert_at-changed.result.steps (bits_most (length (nodes_of t.0)) low.1)
+    let low = height_limit (g.met.N.Nodes.transitive s) (g.met.N.Nodes.irreflexive s) (g.met.N.Nodes.finite s)
+    (g.met.N.Nodes.left_closed s) (g.met.N.Nodes.right_closed s) t.1 c.requires.root in
+    let all = few (bits (length (nodes_of t.0) + 1)) c.find_way_in-way.result.steps c.insert_at-changed.result.steps
+    (bits_most (length (nodes_of t.0)) low.1)
     (c.find_way_in-way.ensures.steps t.0 t.1) (c.insert_at-changed.ensures.steps t.0 t.1) in
     omega (arith, all)

@@ -10,7 +10,8 @@ invariant-loop-link g l = record {
   same : l.visits.nodes.now ≡ l.nodes;
   good : leads (g.N.Nodes.is_node l.nodes) l.link ≡ true;
   seeks : (t : Tree) → IsSearchTree (g.N.Nodes.order l.nodes) (g.N.Nodes.cells l.nodes) l.fn.root t
-      → Seeking (g.N.Nodes.order l.nodes) (g.N.Nodes.cells l.nodes) (g.N.Nodes.before l.nodes l.probe) t l.link l.found l.visits.at l.visits.steps;
+      → Seeking (g.N.Nodes.order l.nodes) (g.N.Nodes.cells l.nodes) (g.N.Nodes.before l.nodes l.probe) t l.link
+      l.found l.visits.at l.visits.steps;
   passes : (t : Tree) → IsSearchTree (g.N.Nodes.order l.nodes) (g.N.Nodes.cells l.nodes) l.fn.root t
       → Passes (g.N.Nodes.cells l.nodes) (g.N.Nodes.before l.nodes l.probe) t l.link l.passed.above l.passed.entry;
 }

@@ -10,9 +10,11 @@ invariant-loop-link g l = record {
   same : l.visits.nodes.now ≡ l.nodes;
   good : leads (g.N.Nodes.is_node l.nodes) l.link ≡ true;
   seeks : (t : Tree) → IsSearchTree (g.N.Nodes.order l.nodes) (g.N.Nodes.cells l.nodes) l.fn.root t
-      → Seeking (g.N.Nodes.order l.nodes) (g.N.Nodes.cells l.nodes) (g.N.Nodes.before l.nodes l.probe) t l.link l.found l.visits.at l.visits.steps;
+      → Seeking (g.N.Nodes.order l.nodes) (g.N.Nodes.cells l.nodes) (g.N.Nodes.before l.nodes l.probe) t l.link
+      l.found l.visits.at l.visits.steps;
   follows : (t : Tree) → IsSearchTree (g.N.Nodes.order l.nodes) (g.N.Nodes.cells l.nodes) l.fn.root t
-      → Follows (g.N.Nodes.order l.nodes) (g.N.Nodes.cells l.nodes) (g.N.Nodes.before l.nodes l.probe) t l.link l.found l.exit l.followed.above l.followed.exit;
+      → Follows (g.N.Nodes.order l.nodes) (g.N.Nodes.cells l.nodes) (g.N.Nodes.before l.nodes l.probe) t l.link
+      l.found l.exit l.followed.above l.followed.exit;
 }
 
 abbrev pub decreases-loop-link : goal.decreases-loop-link

@@ -16,17 +16,20 @@ use Rattle.seg_map.proofs.erasing.erase.Goals as goal
 pub take_out-requires : goal.take_out-requires
 take_out-requires g c =
     let ps = c.requires.0 in let s = c.requires.1 in
-    let k = key_at_node (pair_at g.K.Plain.order ps c.args.key) c.in-Some.node (sym c.in-Some.is ∙ c.find_out-trace.ensures.node ps s) in
+    let k = key_at_node (pair_at g.K.Plain.order ps c.args.key) c.in-Some.node
+    (sym c.in-Some.is ∙ c.find_out-trace.ensures.node ps s) in
     record {
       there = record { pairs = ps; key = c.args.key; pair = k.pair; map = s; found = k.is; is = k.at };
-      begins = begun c.find_out-trace.result.node c.find_out-trace.result.start c.in-Some.node (λ n. exit_in g.K.Plain c.args.heap.now n s.map.tree.tree) c.in-Some.is
+      begins = begun c.find_out-trace.result.node c.find_out-trace.result.start c.in-Some.node
+          (λ n. exit_in g.K.Plain c.args.heap.now n s.map.tree.tree) c.in-Some.is
           (c.find_out-trace.ensures.exit ps s);
     }
 
 pub deallocate-requires : goal.deallocate-requires
 deallocate-requires g c =
     let ps = c.requires.0 in let s = c.requires.1 in
-    let k = key_at_node (pair_at g.K.Plain.order ps c.args.key) c.in-Some.node (sym c.in-Some.is ∙ c.find_out-trace.ensures.node ps s) in
+    let k = key_at_node (pair_at g.K.Plain.order ps c.args.key) c.in-Some.node
+    (sym c.in-Some.is ∙ c.find_out-trace.ensures.node ps s) in
     let t = c.take_out.ensures.taken ps c.args.key k.pair s k.is k.at in
     subst (λ l. IsTrue (is_live_in l c.in-Some.node)) (sym (lay_out_one current c.take_out.new.heap.bytes (live_of c.args.heap.now.bytes) t.live))
     (subst (λ n. IsTrue (is_live_in (live_of c.args.heap.now.bytes) n)) k.at (pair_live g.K.Plain g.V.Plain c.args.heap.now.bytes c.args.handle ps c.args.key k.pair s.pairs k.is))
@@ -43,7 +46,8 @@ pub returns-clause-erased : goal.returns-clause-erased
 returns-clause-erased g c = λ ps s.
     let kl : Laws g.K.Plain = record { spells = g.met.K.Plain.spells; reads = g.met.K.Plain.reads; irreflexive = g.met.K.Plain.irreflexive; transitive = g.met.K.Plain.transitive } in
     let vl : Laws g.V.Plain = record { spells = g.met.V.Plain.spells; reads = g.met.V.Plain.reads; irreflexive = g.met.V.Plain.irreflexive; transitive = g.met.V.Plain.transitive } in
-    let k = key_at_node (pair_at g.K.Plain.order ps c.args.key) c.in-Some.node (sym c.in-Some.is ∙ c.find_out-trace.ensures.node ps s) in
+    let k = key_at_node (pair_at g.K.Plain.order ps c.args.key) c.in-Some.node
+    (sym c.in-Some.is ∙ c.find_out-trace.ensures.node ps s) in
     let t = c.take_out.ensures.taken ps c.args.key k.pair s k.is k.at in
     match_some (pair_at g.K.Plain.order ps c.args.key) ((true ≡ false) × (c.deallocate.new.self ≡ c.args.heap.now))
     (λ p. (true ≡ true) × IsErased g.K.Plain g.V.Plain c.args.heap.now c.deallocate.new.self c.args.handle c.args.at ps p c.args.key) k.pair k.is
@@ -51,8 +55,10 @@ returns-clause-erased g c = λ ps s.
 
 pub returns-clause-steps : goal.returns-clause-steps
 returns-clause-steps g c = λ ps s.
-    let k = key_at_node (pair_at g.K.Plain.order ps c.args.key) c.in-Some.node (sym c.in-Some.is ∙ c.find_out-trace.ensures.node ps s) in
+    let k = key_at_node (pair_at g.K.Plain.order ps c.args.key) c.in-Some.node
+    (sym c.in-Some.is ∙ c.find_out-trace.ensures.node ps s) in
     let t = c.take_out.ensures.taken ps c.args.key k.pair s k.is k.at in
     let live = ap heap_touches (lay_out_one current c.take_out.new.heap.bytes (live_of c.args.heap.now.bytes) t.live) in
-    let first = c.find_out-trace.ensures.steps ps s in let second = c.take_out.ensures.steps ps s in let third = c.deallocate.ensures.steps in
+    let first = c.find_out-trace.ensures.steps ps s in let second = c.take_out.ensures.steps ps s in let third =
+    c.deallocate.ensures.steps in
     omega (arith, first, second, third, live)

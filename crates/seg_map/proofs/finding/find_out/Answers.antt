@@ -11,5 +11,7 @@ returns-clause-exact g c = λ ps s.
 
 pub returns-clause-exit : goal.returns-clause-exit
 returns-clause-exit g c = λ ps s.
-    narrowed c.with_key.result c.seek_out-trace.result.node (λ n. c.seek_out-trace.result.start ≡ exit_in g.K.Plain c.args.heap.now n s.map.tree.tree) c.with_key.ensures.same
+    narrowed c.with_key.result c.seek_out-trace.result.node
+    (λ n. c.seek_out-trace.result.start ≡ exit_in g.K.Plain c.args.heap.now n s.map.tree.tree)
+    c.with_key.ensures.same
     (c.seek_out-trace.ensures.exit ps s)

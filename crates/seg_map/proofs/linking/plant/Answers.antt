@@ -8,12 +8,15 @@ pub insert_at-changed-requires-clause-root : goal.insert_at-changed-requires-cla
 insert_at-changed-requires-clause-root g c = c.requires.tree.leads
 
 pub insert_at-changed-requires-clause-tree : goal.insert_at-changed-requires-clause-tree
-insert_at-changed-requires-clause-tree g c = (c.requires.shape, c.requires.tree.tree, c.requires.place, c.requires.begins)
+insert_at-changed-requires-clause-tree g c =
+    (c.requires.shape, c.requires.tree.tree, c.requires.place, c.requires.begins)
 
 pub returns-clause-change : goal.returns-clause-change
 returns-clause-change g c =
     let p = c.args.pairs.now in let q = c.insert_at-changed.new.nodes in
     let same : c.insert_at-changed.result.steps ≡ c.add.new.self - c.args.steps.now = omega (arith, c.add.ensures) in
-    subst (λ n. Linked g.K.Plain p.own p.heap.now q.heap.now c.args.root c.args.node c.insert_at-changed.result.root n) same
-    (linked g.K.Plain p.own q.own p.heap.now q.heap.now c.args.root c.args.node c.insert_at-changed.result.root c.insert_at-changed.result.steps c.insert_at-changed.ensures.same.kept c.insert_at-changed.ensures.root
+    subst (λ n. Linked g.K.Plain p.own p.heap.now q.heap.now c.args.root c.args.node c.insert_at-changed.result.root
+    n) same
+    (linked g.K.Plain p.own q.own p.heap.now q.heap.now c.args.root c.args.node c.insert_at-changed.result.root
+    c.insert_at-changed.result.steps c.insert_at-changed.ensures.same.kept c.insert_at-changed.ensures.root
     c.insert_at-changed.ensures.tree (λ t k. let few = c.insert_at-changed.ensures.steps t k in omega arith))

@@ -8,12 +8,15 @@ pub remove_at-changed-requires-clause-root : goal.remove_at-changed-requires-cla
 remove_at-changed-requires-clause-root g c = c.requires.tree.leads
 
 pub remove_at-changed-requires-clause-tree : goal.remove_at-changed-requires-clause-tree
-remove_at-changed-requires-clause-tree g c = (c.requires.shape, c.requires.tree.tree, c.requires.listed, c.requires.begins)
+remove_at-changed-requires-clause-tree g c =
+    (c.requires.shape, c.requires.tree.tree, c.requires.listed, c.requires.begins)
 
 pub returns-clause-change : goal.returns-clause-change
 returns-clause-change g c =
     let p = c.args.pairs.now in let q = c.remove_at-changed.new.nodes in
     let same : c.remove_at-changed.result.steps ≡ c.add.new.self - c.args.steps.now = omega (arith, c.add.ensures) in
-    subst (λ n. Unlinked g.K.Plain p.own p.heap.now q.heap.now c.args.root c.args.node c.remove_at-changed.result.root n) same
-    (unlinked g.K.Plain p.own q.own p.heap.now q.heap.now c.args.root c.args.node c.remove_at-changed.result.root c.remove_at-changed.result.steps c.remove_at-changed.ensures.same.kept c.remove_at-changed.ensures.root
+    subst (λ n. Unlinked g.K.Plain p.own p.heap.now q.heap.now c.args.root c.args.node
+    c.remove_at-changed.result.root n) same
+    (unlinked g.K.Plain p.own q.own p.heap.now q.heap.now c.args.root c.args.node c.remove_at-changed.result.root
+    c.remove_at-changed.result.steps c.remove_at-changed.ensures.same.kept c.remove_at-changed.ensures.root
     c.remove_at-changed.ensures.tree c.remove_at-changed.ensures.steps)

@@ -19,7 +19,8 @@ write_value-requires g c =
     let ps = c.requires.0 in let s = c.requires.1 in
     let kl : Laws g.K.Plain = record { spells = g.met.K.Plain.spells; reads = g.met.K.Plain.reads; irreflexive = g.met.K.Plain.irreflexive; transitive = g.met.K.Plain.transitive } in
     let vl : Laws g.V.Plain = record { spells = g.met.V.Plain.spells; reads = g.met.V.Plain.reads; irreflexive = g.met.V.Plain.irreflexive; transitive = g.met.V.Plain.transitive } in
-    let k = key_at_node (pair_at g.K.Plain.order ps c.args.key) c.in-Some.node (sym c.in-Some.is ∙ c.find_in-trace.ensures.node ps s) in
+    let k = key_at_node (pair_at g.K.Plain.order ps c.args.key) c.in-Some.node
+    (sym c.in-Some.is ∙ c.find_in-trace.ensures.node ps s) in
     subst (λ n. IsTrue (has_room (live_of c.args.heap.now.bytes) n (16 + c.SIZE.result + g.V.Plain.SIZE))) k.at
     (subst (λ z. IsTrue (has_room (live_of c.args.heap.now.bytes) (handle k.pair.node) (16 + z + g.V.Plain.SIZE))) (sym c.SIZE.ensures)
     (value_room g.K.Plain g.V.Plain kl vl g.met.K.Plain.total c.args.heap.now c.args.heap.now c.args.handle c.args.at ps s c.args.key c.args.value k.pair k.is))
@@ -28,12 +29,14 @@ pub returns-in-Some-clause-put : goal.returns-in-Some-clause-put
 returns-in-Some-clause-put g c = λ ps s.
     let kl : Laws g.K.Plain = record { spells = g.met.K.Plain.spells; reads = g.met.K.Plain.reads; irreflexive = g.met.K.Plain.irreflexive; transitive = g.met.K.Plain.transitive } in
     let vl : Laws g.V.Plain = record { spells = g.met.V.Plain.spells; reads = g.met.V.Plain.reads; irreflexive = g.met.V.Plain.irreflexive; transitive = g.met.V.Plain.transitive } in
-    let k = key_at_node (pair_at g.K.Plain.order ps c.args.key) c.in-Some.node (sym c.in-Some.is ∙ c.find_in-trace.ensures.node ps s) in
+    let k = key_at_node (pair_at g.K.Plain.order ps c.args.key) c.in-Some.node
+    (sym c.in-Some.is ∙ c.find_in-trace.ensures.node ps s) in
     let place : c.in-Some.node + (16 + c.SIZE.result) ≡ handle k.pair.node + (16 + g.K.Plain.SIZE) = (λ i. sym k.at i + (16 + c.SIZE.ensures i)) in
     let r : Result Bool NoSpace = Ok false in
     let one : g.K.Plain.is_value c.args.key ≡ true = rw c.in-Some.is at c.find_in-trace.ensures.value in
     answer_old g.K.Plain g.V.Plain c.args.heap.now c.write_value.new.heap c.args.handle c.args.at c.args.key c.args.value ps k.pair r refl k.is
-    (is_put_again g.K.Plain g.V.Plain kl vl g.met.K.Plain.total c.args.heap.now c.write_value.new.heap c.args.handle c.args.at ps s c.args.key c.args.value k.pair k.is one c.write_value.ensures.value
+    (is_put_again g.K.Plain g.V.Plain kl vl g.met.K.Plain.total c.args.heap.now c.write_value.new.heap c.args.handle
+    c.args.at ps s c.args.key c.args.value k.pair k.is one c.write_value.ensures.value
     (subst (λ a. IsChanged current c.args.heap.now c.write_value.new.heap a g.V.Plain.SIZE) place c.write_value.ensures.change)
     (subst (λ a. Has (bytes_of c.write_value.new.heap.bytes) a (g.V.Plain.spelling c.args.value)) place c.write_value.ensures.content))
 
@@ -43,17 +46,21 @@ put_in-requires g c =
     let ps = c.requires.0 in let s = c.requires.1 in
     let kl : Laws g.K.Plain = record { spells = g.met.K.Plain.spells; reads = g.met.K.Plain.reads; irreflexive = g.met.K.Plain.irreflexive; transitive = g.met.K.Plain.transitive } in
     let vl : Laws g.V.Plain = record { spells = g.met.V.Plain.spells; reads = g.met.V.Plain.reads; irreflexive = g.met.V.Plain.irreflexive; transitive = g.met.V.Plain.transitive } in
-    let absent : pair_at g.K.Plain.order ps c.args.key ≡ None = key_absent (pair_at g.K.Plain.order ps c.args.key) (sym none ∙ c.find_in-trace.ensures.node ps s) in
+    let absent : pair_at g.K.Plain.order ps c.args.key ≡ None = key_absent (pair_at g.K.Plain.order ps c.args.key)
+    (sym none ∙ c.find_in-trace.ensures.node ps s) in
     let m : IsMade g.K.Plain g.V.Plain c.args.heap.now c.make_node.new.heap c.args.key c.args.value c.in_ok-node.node = c.in_ok-node.ensures.made in
     record {
       there = record {
         pairs = ps;
         pair = record { key = c.args.key; value = c.args.value; node = m.block.extent };
-        map = map_there g.K.Plain g.V.Plain kl vl c.args.heap.now c.make_node.new.heap c.args.handle c.args.at ps s c.args.key c.args.value c.in_ok-node.node absent m;
-        loose = loose g.K.Plain g.V.Plain kl vl c.args.heap.now c.make_node.new.heap c.args.handle c.args.at ps s c.args.key c.args.value c.in_ok-node.node absent m;
+        map = map_there g.K.Plain g.V.Plain kl vl c.args.heap.now c.make_node.new.heap c.args.handle c.args.at ps s
+            c.args.key c.args.value c.in_ok-node.node absent m;
+        loose = loose g.K.Plain g.V.Plain kl vl c.args.heap.now c.make_node.new.heap c.args.handle c.args.at ps s
+            c.args.key c.args.value c.in_ok-node.node absent m;
         is = sym m.block.at;
       };
-      begins = entry_there g.K.Plain g.V.Plain kl vl c.args.heap.now c.make_node.new.heap c.args.handle c.args.at ps s c.args.key c.args.value c.in_ok-node.node absent m
+      begins = entry_there g.K.Plain g.V.Plain kl vl c.args.heap.now c.make_node.new.heap c.args.handle c.args.at ps
+          s c.args.key c.args.value c.in_ok-node.node absent m
           c.find_in-trace.result.start (c.find_in-trace.ensures.entry ps s);
     }
 
@@ -63,7 +70,8 @@ returns-clause-put g c =
     λ ps s.
     let kl : Laws g.K.Plain = record { spells = g.met.K.Plain.spells; reads = g.met.K.Plain.reads; irreflexive = g.met.K.Plain.irreflexive; transitive = g.met.K.Plain.transitive } in
     let vl : Laws g.V.Plain = record { spells = g.met.V.Plain.spells; reads = g.met.V.Plain.reads; irreflexive = g.met.V.Plain.irreflexive; transitive = g.met.V.Plain.transitive } in
-    let absent : pair_at g.K.Plain.order ps c.args.key ≡ None = key_absent (pair_at g.K.Plain.order ps c.args.key) (sym none ∙ c.find_in-trace.ensures.node ps s) in
+    let absent : pair_at g.K.Plain.order ps c.args.key ≡ None = key_absent (pair_at g.K.Plain.order ps c.args.key)
+    (sym none ∙ c.find_in-trace.ensures.node ps s) in
     let m : IsMade g.K.Plain g.V.Plain c.args.heap.now c.make_node.new.heap c.args.key c.args.value c.in_ok-node.node = c.in_ok-node.ensures.made in
     let r : Result Bool NoSpace = Ok true in
     answer_new g.K.Plain g.V.Plain c.args.heap.now c.put_in.new.heap c.args.handle c.args.at c.args.key c.args.value ps r refl absent
@@ -78,7 +86,8 @@ returns-clause-steps g c =
     λ ps s.
     let kl : Laws g.K.Plain = record { spells = g.met.K.Plain.spells; reads = g.met.K.Plain.reads; irreflexive = g.met.K.Plain.irreflexive; transitive = g.met.K.Plain.transitive } in
     let vl : Laws g.V.Plain = record { spells = g.met.V.Plain.spells; reads = g.met.V.Plain.reads; irreflexive = g.met.V.Plain.irreflexive; transitive = g.met.V.Plain.transitive } in
-    let absent : pair_at g.K.Plain.order ps c.args.key ≡ None = key_absent (pair_at g.K.Plain.order ps c.args.key) (sym none ∙ c.find_in-trace.ensures.node ps s) in
+    let absent : pair_at g.K.Plain.order ps c.args.key ≡ None = key_absent (pair_at g.K.Plain.order ps c.args.key)
+    (sym none ∙ c.find_in-trace.ensures.node ps s) in
     let m : IsMade g.K.Plain g.V.Plain c.args.heap.now c.make_node.new.heap c.args.key c.args.value c.in_ok-node.node = c.in_ok-node.ensures.made in
     let first = c.find_in-trace.ensures.steps ps s in let second = c.make_node.ensures.steps in
     let third = c.put_in.ensures.steps ps (map_there g.K.Plain g.V.Plain kl vl c.args.heap.now c.make_node.new.heap c.args.handle c.args.at ps s c.args.key c.args.value c.in_ok-node.node absent m) in

@@ -11,20 +11,24 @@ use Rattle.seg_map.proofs.Planting.{can_link, few_in_map, few_put, live_put, pla
 use Rattle.seg_map.proofs.putting.put_in.Goals as goal
 
 pub link-root-requires-clause-room : goal.link-root-requires-clause-room
-link-root-requires-clause-room g c = room-less (live_of c.args.heap.now.bytes) c.args.handle (c.args.at + 24) (c.args.at + 8) (omega arith) c.requires.there.map.room
+link-root-requires-clause-room g c = room-less (live_of c.args.heap.now.bytes) c.args.handle (c.args.at + 24)
+    (c.args.at + 8) (omega arith) c.requires.there.map.room
 
 pub overflow_add-at : goal.overflow_add-at
-overflow_add-at g c = let few = small c.args.heap.now.bytes c.args.handle (c.args.at + 24) c.requires.there.map.heap.proper c.requires.there.map.room in omega arith
+overflow_add-at g c = let few = small c.args.heap.now.bytes c.args.handle (c.args.at + 24)
+    c.requires.there.map.heap.proper c.requires.there.map.room in omega arith
 
 pub word-count-requires : goal.word-count-requires
-word-count-requires g c = room-less (live_of c.args.heap.now.bytes) c.args.handle (c.args.at + 24) (c.args.at + 8 + 8) (omega arith) c.requires.there.map.room
+word-count-requires g c = room-less (live_of c.args.heap.now.bytes) c.args.handle (c.args.at + 24)
+    (c.args.at + 8 + 8) (omega arith) c.requires.there.map.room
 
 pub link-top-requires : goal.link-top-requires
 link-top-requires g c =
     let laws : Laws g.K.Plain = record { spells = g.met.K.Plain.spells; reads = g.met.K.Plain.reads; irreflexive = g.met.K.Plain.irreflexive; transitive = g.met.K.Plain.transitive } in
     let vaws : Laws g.V.Plain = record { spells = g.met.V.Plain.spells; reads = g.met.V.Plain.reads; irreflexive = g.met.V.Plain.irreflexive; transitive = g.met.V.Plain.transitive } in
     let r = c.requires.there in
-    can_link g.K.Plain g.V.Plain laws vaws c.args.heap.now c.args.handle c.args.at c.link-root.result r.pairs r.map c.link-root.ensures r.pair r.loose c.args.start c.requires.begins c.args.node r.is
+    can_link g.K.Plain g.V.Plain laws vaws c.args.heap.now c.args.handle c.args.at c.link-root.result r.pairs r.map
+    c.link-root.ensures r.pair r.loose c.args.start c.requires.begins c.args.node r.is
 
 pub overflow_add-count : goal.overflow_add-count
 overflow_add-count g c =

@@ -1,6 +1,6 @@
 //! Growing when space runs out. Boost: `managed_mapped_file::grow`, with the file closed.
 use anyhow::Result;
-use zaluxhoni::{FileError, HostDisk, Name, Refusal, SegmentFile, named};
+use zaluxhoni::{Disk, FileError, Name, Refusal, SegmentFile, named};
 
 /// Asks a segment for a hundred numbers, and makes it longer when they find no space.
 fn keep_numbers(rt: &HostRuntime, file: &mut SegmentFile, numbers: &Name) -> Result<()> {
@@ -12,19 +12,22 @@ fn keep_numbers(rt: &HostRuntime, file: &mut SegmentFile, numbers: &Name) -> Res
 }
 
 /// Gives up what is free at the end of a segment, and saves it to another file.
-fn keep_it_short(rt: &HostRuntime, file: &mut SegmentFile) -> Result<u64, FileError> {
-    let mut disk = HostDisk::new(rt);
+fn keep_it_short(disk: &mut impl Disk, file: &mut SegmentFile) -> Result<u64, FileError> {
     file.shrink()?;
-    file.save_as(&mut disk, "grown.seg")?;
+    file.save_as(disk, "grown.seg")?;
     Ok(file.segment.size())
 }
 
-/// Keeps a hundred numbers in a segment of 208 bytes, which becomes as long as they are.
-pub fn grow_when_full(rt: &HostRuntime) -> Result<()> {
-    let mut disk = HostDisk::new(rt);
-    let mut file = SegmentFile::create(rt.alloc(), &mut disk, "small.seg", 208)?;
-    keep_numbers(rt, &mut file, &named("numbers")?)?;
-    let size = keep_it_short(rt, &mut file)?;
+/// Keeps a hundred numbers in a segment, which becomes as long as they are.
+fn grow(rt: &HostRuntime, disk: &mut impl Disk, file: &mut SegmentFile) -> Result<()> {
+    keep_numbers(rt, file, &named("numbers")?)?;
+    let size = keep_it_short(disk, file)?;
     println!(rt; "growing: {size} bytes hold a hundred numbers")?;
     Ok(())
+}
+
+/// Makes a segment of 208 bytes, and lets it grow.
+pub fn grow_when_full(rt: &HostRuntime, disk: &mut impl Disk) -> Result<()> {
+    let mut file = SegmentFile::create(rt.alloc(), disk, "small.seg", 208)?;
+    grow(rt, disk, &mut file)
 }

@@ -1,8 +1,6 @@
 //! Handles that are kept in objects. Boost: `get_handle_from_address`, `get_address_from_handle`.
 use anyhow::Result;
-use zaluxhoni::{
-    AnonymousInstance, HostDisk, Key, Mode, Name, Refusal, Segment, SegmentFile, named,
-};
+use zaluxhoni::{AnonymousInstance, Disk, Key, Mode, Name, Refusal, Segment, SegmentFile, named};
 
 /// Makes an object without a name, and keeps its handle in one that has a name.
 fn link(segment: &mut Segment, first: &Name) -> Result<u64, Refusal> {
@@ -18,21 +16,24 @@ fn follow(segment: &Segment, first: &Name) -> Result<(u64, i32), Refusal> {
 }
 
 /// Makes a file with two such objects.
-fn make_a_chain(rt: &HostRuntime, first: &Name) -> Result<()> {
-    let mut disk = HostDisk::new(rt);
-    let mut file = SegmentFile::create(rt.alloc(), &mut disk, "chain.seg", 1024)?;
+fn make_a_chain(rt: &HostRuntime, disk: &mut impl Disk, first: &Name) -> Result<()> {
+    let mut file = SegmentFile::create(rt.alloc(), disk, "chain.seg", 1024)?;
     link(&mut file.segment, first)?;
-    file.replace(&mut disk)?;
+    file.replace(disk)?;
     Ok(())
 }
 
-/// Opens the file and follows the handle.
-pub fn follow_a_handle(rt: &HostRuntime) -> Result<()> {
-    let first = named("first")?;
-    make_a_chain(rt, &first)?;
-    let mut disk = HostDisk::new(rt);
-    let file = SegmentFile::open(rt.alloc(), &mut disk, "chain.seg", Mode::ReadOnly)?;
-    let (handle, number) = follow(&file.segment, &first)?;
+/// Follows the handle, and tells what is there.
+fn tell(rt: &HostRuntime, segment: &Segment, first: &Name) -> Result<()> {
+    let (handle, number) = follow(segment, first)?;
     println!(rt; "handles: #{handle} has {number}")?;
     Ok(())
+}
+
+/// Makes the file, opens it and follows the handle.
+pub fn follow_a_handle(rt: &HostRuntime, disk: &mut impl Disk) -> Result<()> {
+    let first = named("first")?;
+    make_a_chain(rt, disk, &first)?;
+    let file = SegmentFile::open(rt.alloc(), disk, "chain.seg", Mode::ReadOnly)?;
+    tell(rt, &file.segment, &first)
 }

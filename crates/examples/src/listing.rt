@@ -1,7 +1,7 @@
 //! What is in a segment. Boost: `named_begin`, `unique_begin`, `anonymous_instance`, `unique_instance`.
 use anyhow::Result;
 use zaluxhoni::{
-    AnonymousInstance, HostDisk, Name, Refusal, Segment, SegmentFile, UniqueInstance, named,
+    AnonymousInstance, Disk, Name, Refusal, Segment, SegmentFile, UniqueInstance, named,
 };
 
 /// Makes a number under a name, the only `i32`, and three bytes that go by their handle alone.
@@ -43,18 +43,24 @@ fn tell_of_all(rt: &HostRuntime, segment: &Segment) -> Result<()> {
     Ok(())
 }
 
-/// Makes a segment, and tells what is in it.
-pub fn list_a_segment(rt: &HostRuntime) -> Result<()> {
-    let mut disk = HostDisk::new(rt);
-    let mut file = SegmentFile::create(rt.alloc(), &mut disk, "listed.seg", 1024)?;
-    let handle = fill(&mut file.segment, &named("width")?)?;
-    tell_the_first(rt, &file.segment)?;
-    tell_the_names(rt, &file.segment)?;
-    tell_of_all(rt, &file.segment)?;
-    let (known, len) = (
-        file.segment.belongs(handle),
-        file.segment.length_of(handle)?,
-    );
+/// Tells of one object by its handle.
+fn tell_of_one(rt: &HostRuntime, segment: &Segment, handle: u64) -> Result<()> {
+    let (known, len) = (segment.belongs(handle), segment.length_of(handle)?);
     println!(rt; "a list: #{handle} is an object: {known}, of {len} elements")?;
     Ok(())
+}
+
+/// Fills a segment, and tells what is in it.
+fn tell(rt: &HostRuntime, segment: &mut Segment) -> Result<()> {
+    let handle = fill(segment, &named("width")?)?;
+    tell_the_first(rt, segment)?;
+    tell_the_names(rt, segment)?;
+    tell_of_all(rt, segment)?;
+    tell_of_one(rt, segment, handle)
+}
+
+/// Makes a segment, and tells what is in it.
+pub fn list_a_segment(rt: &HostRuntime, disk: &mut impl Disk) -> Result<()> {
+    let mut file = SegmentFile::create(rt.alloc(), disk, "listed.seg", 1024)?;
+    tell(rt, &mut file.segment)
 }

@@ -17,9 +17,10 @@ mod views;
 
 use anyhow::Result;
 use std::fs;
+use zaluxhoni::{Disk, HostDisk};
 
-/// Takes away the files that a run before this one made, and runs all twelve.
-fn main(rt: HostRuntime) -> Result<()> {
+/// Takes away the files that a run before this one made.
+fn clean(rt: &HostRuntime) {
     for path in [
         "shop.seg",
         "list.seg",
@@ -30,19 +31,34 @@ fn main(rt: HostRuntime) -> Result<()> {
         "views.seg",
         "listed.seg",
     ] {
-        let _ = fs::remove_file(&rt, path);
+        let _ = fs::remove_file(rt, path);
     }
-    shop::visit_a_shop(&rt)?;
-    shop::visit_a_shop(&rt)?;
-    prices::look_up_prices(&rt)?;
-    texts::keep_a_list(&rt)?;
-    numbers::keep_primes(&rt)?;
-    growing::grow_when_full(&rt)?;
-    strangers::open_a_stranger(&rt)?;
-    moving::move_a_segment(&rt)?;
-    migrating::migrate_an_older_file(&rt)?;
-    handles::follow_a_handle(&rt)?;
-    timetable::note_departures(&rt)?;
-    views::view_objects(&rt)?;
-    listing::list_a_segment(&rt)
+}
+
+/// The first six programs, the first of them twice.
+fn run_six(rt: &HostRuntime, disk: &mut impl Disk) -> Result<()> {
+    shop::visit_a_shop(rt, disk)?;
+    shop::visit_a_shop(rt, disk)?;
+    prices::look_up_prices(rt, disk)?;
+    texts::keep_a_list(rt, disk)?;
+    numbers::keep_primes(rt, disk)?;
+    growing::grow_when_full(rt, disk)?;
+    strangers::open_a_stranger(rt, disk)
+}
+
+/// Runs all twelve.
+fn run(rt: &HostRuntime, disk: &mut impl Disk) -> Result<()> {
+    run_six(rt, disk)?;
+    moving::move_a_segment(rt, disk)?;
+    migrating::migrate_an_older_file(rt, disk)?;
+    handles::follow_a_handle(rt, disk)?;
+    timetable::note_departures(rt)?;
+    views::view_objects(rt, disk)?;
+    listing::list_a_segment(rt, disk)
+}
+
+/// Runs all twelve programs over the files of the system.
+fn main(rt: HostRuntime) -> Result<()> {
+    clean(&rt);
+    run(&rt, &mut HostDisk::new(&rt))
 }

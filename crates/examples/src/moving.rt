@@ -1,6 +1,6 @@
 //! A segment in another region. Boost: a mapping at another address, through `offset_ptr`.
 use anyhow::Result;
-use zaluxhoni::{HostDisk, Mode, RawRegion, Segment, SegmentFile, named};
+use zaluxhoni::{Disk, Mode, RawRegion, Segment, SegmentFile, named};
 
 /// Moves a segment to byte 512 of a region of its own; its objects are where they were in it.
 fn moved(rt: &HostRuntime, segment: Segment) -> Result<Segment> {
@@ -9,13 +9,16 @@ fn moved(rt: &HostRuntime, segment: Segment) -> Result<Segment> {
     Ok(moved)
 }
 
-/// Moves the segment of a file, and reads it where it lies then.
-pub fn move_a_segment(rt: &HostRuntime) -> Result<()> {
-    let mut disk = HostDisk::new(rt);
-    let file = SegmentFile::open(rt.alloc(), &mut disk, "primes.seg", Mode::Write)?;
-    let moved = moved(rt, file.segment)?;
-    let first: i64 = moved.get(&named("primes")?, 0)?;
-    let behind = moved.region_left();
+/// Reads a segment where it lies.
+fn tell(rt: &HostRuntime, segment: &Segment) -> Result<()> {
+    let first: i64 = segment.get(&named("primes")?, 0)?;
+    let behind = segment.region_left();
     println!(rt; "another region: the first number is {first}, and {behind} bytes lie behind")?;
     Ok(())
+}
+
+/// Moves the segment of a file, and reads it where it lies then.
+pub fn move_a_segment(rt: &HostRuntime, disk: &mut impl Disk) -> Result<()> {
+    let file = SegmentFile::open(rt.alloc(), disk, "primes.seg", Mode::Write)?;
+    tell(rt, &moved(rt, file.segment)?)
 }

@@ -1,6 +1,6 @@
 //! An array from an iterator. Boost: `construct_it<long>("primes")[5](it)`.
 use anyhow::Result;
-use zaluxhoni::{HostDisk, Name, Refusal, Segment, SegmentFile, named};
+use zaluxhoni::{Disk, Name, Refusal, Segment, SegmentFile, named};
 
 /// Makes an array of the next five items of an iterator, which goes on behind them. Where the array is there already,
 /// no item is taken.
@@ -12,12 +12,16 @@ fn keep_five(segment: &mut Segment, name: &Name) -> Result<(i64, usize), Refusal
     Ok((last, primes.count()))
 }
 
-/// Makes such an array in a file.
-pub fn keep_primes(rt: &HostRuntime) -> Result<()> {
-    let mut disk = HostDisk::new(rt);
-    let mut file = SegmentFile::create(rt.alloc(), &mut disk, "primes.seg", 1024)?;
+/// Keeps such an array in a file, and tells of it.
+fn keep(rt: &HostRuntime, disk: &mut impl Disk, file: &mut SegmentFile) -> Result<()> {
     let (last, left) = keep_five(&mut file.segment, &named("primes")?)?;
-    file.save(&mut disk)?;
+    file.save(disk)?;
     println!(rt; "an array: its last number is {last}, and the iterator has {left} left")?;
     Ok(())
+}
+
+/// Makes a file with such an array.
+pub fn keep_primes(rt: &HostRuntime, disk: &mut impl Disk) -> Result<()> {
+    let mut file = SegmentFile::create(rt.alloc(), disk, "primes.seg", 1024)?;
+    keep(rt, disk, &mut file)
 }

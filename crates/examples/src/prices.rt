@@ -1,17 +1,21 @@
 //! A map that outlives the run. Boost: `open_only`, `find<map<int, long>>("prices")`.
 use anyhow::Result;
-use zaluxhoni::{HostDisk, Mode, Name, Refusal, Segment, SegmentFile, named};
+use zaluxhoni::{Disk, Mode, Name, Refusal, Segment, SegmentFile, named};
 
 /// The prices of two articles.
 fn two_prices(shop: &Segment, prices: &Name) -> Result<[Option<i64>; 2], Refusal> {
     Ok([shop.map_get(prices, 2i32)?, shop.map_get(prices, 4i32)?])
 }
 
-/// Opens the shop of another run for reading, and asks for two prices.
-pub fn look_up_prices(rt: &HostRuntime) -> Result<()> {
-    let mut disk = HostDisk::new(rt);
-    let file = SegmentFile::open(rt.alloc(), &mut disk, "shop.seg", Mode::ReadOnly)?;
-    let [second, fourth] = two_prices(&file.segment, &named("prices")?)?;
+/// Asks a shop for two prices.
+fn tell(rt: &HostRuntime, shop: &Segment) -> Result<()> {
+    let [second, fourth] = two_prices(shop, &named("prices")?)?;
     println!(rt; "a map: article 2 costs {second:?}, article 4 {fourth:?}")?;
     Ok(())
+}
+
+/// Opens the shop of another run for reading, and asks for two prices.
+pub fn look_up_prices(rt: &HostRuntime, disk: &mut impl Disk) -> Result<()> {
+    let file = SegmentFile::open(rt.alloc(), disk, "shop.seg", Mode::ReadOnly)?;
+    tell(rt, &file.segment)
 }

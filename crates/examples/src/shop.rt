@@ -1,6 +1,6 @@
 //! The program of the README: a shop in a file, which the first run makes and each later one opens.
 use anyhow::Result;
-use zaluxhoni::{HostDisk, Mode, Segment, SegmentFile, named};
+use zaluxhoni::{Disk, Mode, Segment, SegmentFile, named};
 
 /// Writes three prices into the map of a shop, and puts one more thing into its basket.
 fn fill(shop: &mut Segment) -> Result<()> {
@@ -13,14 +13,25 @@ fn fill(shop: &mut Segment) -> Result<()> {
     Ok(shop.texts_push(&basket, b"apples")?)
 }
 
-/// Opens the shop or makes it, fills it, saves it, and reads it again.
-pub fn visit_a_shop(rt: &HostRuntime) -> Result<()> {
-    let mut disk = HostDisk::new(rt);
-    let mut file = SegmentFile::open_or_create(rt.alloc(), &mut disk, "shop.seg", 4096)?;
+/// Counts the things in the basket of a shop.
+fn count(shop: &Segment) -> Result<u64> {
+    let (count, _places) = shop.measure(&named("basket")?)?;
+    Ok(count)
+}
+
+/// Opens the shop or makes it, fills it, and saves it.
+fn keep_a_shop(rt: &HostRuntime, disk: &mut impl Disk) -> Result<()> {
+    let mut file = SegmentFile::open_or_create(rt.alloc(), disk, "shop.seg", 4096)?;
     fill(&mut file.segment)?;
-    file.save(&mut disk)?;
-    let kept = SegmentFile::open(rt.alloc(), &mut disk, "shop.seg", Mode::ReadOnly)?.segment;
-    let (count, _places) = kept.measure(&named("basket")?)?;
+    file.save(disk)?;
+    Ok(())
+}
+
+/// Keeps a shop in a file, and reads it again.
+pub fn visit_a_shop(rt: &HostRuntime, disk: &mut impl Disk) -> Result<()> {
+    keep_a_shop(rt, disk)?;
+    let kept = SegmentFile::open(rt.alloc(), disk, "shop.seg", Mode::ReadOnly)?;
+    let count = count(&kept.segment)?;
     println!(rt; "open or create: the basket has {count}")?;
     Ok(())
 }

@@ -1,11 +1,10 @@
 //! A file that nobody vouches for. Boost trusts what it maps.
 use anyhow::Result;
-use zaluxhoni::{FileError, HostDisk, Mode, SegmentFile};
+use zaluxhoni::{Disk, FileError, Mode, SegmentFile};
 
 /// Opens a file that somebody else wrote, and tells why it is no segment.
-pub fn open_a_stranger(rt: &HostRuntime) -> Result<()> {
-    let mut disk = HostDisk::new(rt);
-    match SegmentFile::open(rt.alloc(), &mut disk, "stranger.seg", Mode::Write) {
+pub fn open_a_stranger(rt: &HostRuntime, disk: &mut impl Disk) -> Result<()> {
+    match SegmentFile::open(rt.alloc(), disk, "stranger.seg", Mode::Write) {
         Ok(file) => println!(rt; "a stranger: {} bytes", file.segment.size())?,
         Err(FileError::Image(class)) => {
             let number = class.number();

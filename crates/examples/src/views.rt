@@ -1,7 +1,7 @@
 //! Views: an object that is looked up once. Boost: the pointer that `find` and `construct` give.
 use anyhow::Result;
 use zaluxhoni::{
-    ArrayView, HostDisk, MapView, Name, Refusal, Segment, SegmentFile, StringView, StringsView,
+    ArrayView, Disk, MapView, Name, Refusal, Segment, SegmentFile, StringView, StringsView,
     VectorView, named,
 };
 
@@ -99,23 +99,34 @@ fn shorten_a_list(segment: &mut Segment, name: &Name) -> Result<usize, Refusal> 
     Ok(bytes)
 }
 
-/// Goes through an object of numbers of each sort.
-fn view_numbers(rt: &HostRuntime, segment: &mut Segment) -> Result<()> {
+/// Goes through a vector of numbers.
+fn view_a_queue(rt: &HostRuntime, segment: &mut Segment) -> Result<()> {
     let (sum, len, last) = take_of_a_queue(segment, &named("queue")?)?;
     println!(rt; "views: a queue of {len} with the sum {sum}, the last is {last}")?;
-    let flag = change_an_array(segment, &named("flags")?)?;
-    let (years, sum) = look_into_a_map(segment, &named("years")?)?;
-    println!(rt; "views: a flag {flag}, in the map {years:?}, and {sum} in all")?;
-    tell_the_last(rt, &MapView::of(segment, &named("years")?)?)
+    Ok(())
+}
+
+/// Goes through an array, and a map, first by rising keys and then by falling ones.
+fn view_a_map(rt: &HostRuntime, segment: &mut Segment) -> Result<()> {
+    let (flags, years) = (named("flags")?, named("years")?);
+    let flag = change_an_array(segment, &flags)?;
+    let (ends, sum) = look_into_a_map(segment, &years)?;
+    println!(rt; "views: a flag {flag}, in the map {ends:?}, and {sum} in all")?;
+    tell_the_last(rt, &MapView::of(segment, &years)?)
+}
+
+/// Goes through an object of texts of each sort.
+fn view_texts(rt: &HostRuntime, segment: &mut Segment) -> Result<()> {
+    let title = lengthen_a_text(segment, &named("title")?)?;
+    let line = shorten_a_list(segment, &named("lines")?)?;
+    println!(rt; "views: a title of {title} bytes, and a line of {line}")?;
+    Ok(())
 }
 
 /// Goes through an object of each sort.
-pub fn view_objects(rt: &HostRuntime) -> Result<()> {
-    let mut disk = HostDisk::new(rt);
-    let mut file = SegmentFile::create(rt.alloc(), &mut disk, "views.seg", 4096)?;
-    view_numbers(rt, &mut file.segment)?;
-    let title = lengthen_a_text(&mut file.segment, &named("title")?)?;
-    let line = shorten_a_list(&mut file.segment, &named("lines")?)?;
-    println!(rt; "views: a title of {title} bytes, and a line of {line}")?;
-    Ok(())
+pub fn view_objects(rt: &HostRuntime, disk: &mut impl Disk) -> Result<()> {
+    let mut file = SegmentFile::create(rt.alloc(), disk, "views.seg", 4096)?;
+    view_a_queue(rt, &mut file.segment)?;
+    view_a_map(rt, &mut file.segment)?;
+    view_texts(rt, &mut file.segment)
 }

@@ -39,15 +39,18 @@ fn map(rt: &impl Abort, alloc: Global) -> Option<Segment> {
     Some(segment)
 }
 
-/// The image of a segment with the map, with other bytes from `from` on.
-fn image(rt: &impl Abort, alloc: Global, from: usize, bytes: &[u8]) -> Option<Vec<u8>> {
-    let segment = map(rt, alloc)?;
-    let mut image = segment.as_bytes().to_vec(alloc).ok()?;
-    let room = image
-        .as_mut_slice()
-        .get_mut(from..from.saturating_add(bytes.len()))?;
+/// Writes other bytes into an image from `from` on.
+fn write(rt: &impl Abort, image: &mut [u8], from: usize, bytes: &[u8]) {
+    let Some(room) = image.get_mut(from..from.saturating_add(bytes.len())) else {
+        panic!(rt; "no such bytes");
+    };
     room.copy_from_slice(bytes);
-    Some(image)
+}
+
+/// The image of a segment with the map.
+fn image(rt: &impl Abort, alloc: Global) -> Option<Vec<u8>> {
+    let segment = map(rt, alloc)?;
+    segment.as_bytes().to_vec(alloc).ok()
 }
 
 /// Opens an image in a region, of which it takes the last 1024 bytes.
@@ -70,40 +73,57 @@ fn handed_back(rt: &impl Abort, refused: OpenRefused) -> RawRegion {
     refused.region
 }
 
-/// Opens an image. Where memory is refused, the region comes back, and serves then.
-fn open_image(rt: &impl Abort, alloc: Global) -> Option<Tried> {
-    let segment = map(rt, alloc)?;
+/// What was opened is the segment of the image.
+fn is_opened(rt: &impl Abort, image: &[u8], opened: &Segment) -> Tried {
+    holds(rt, opened.as_bytes() == image);
+    same(rt, opened.map_get(&named(rt, b"m"), 1i64), Ok(Some(10i64)));
+    Tried::Done
+}
+
+/// The region came back where memory was refused, and serves then.
+fn serves(rt: &impl Abort, alloc: Global, image: &[u8], refused: OpenRefused) -> Tried {
+    let region = handed_back(rt, refused);
+    holds(rt, opens(alloc, image, region).is_ok());
+    Tried::Refused
+}
+
+/// Opens an image in a region of its own.
+fn open_anew(rt: &impl Abort, alloc: Global, image: &[u8]) -> Option<Tried> {
     let region = RawRegion::new(alloc, 2048).ok()?;
-    match opens(alloc, segment.as_bytes(), region) {
-        Ok(opened) => {
-            holds(rt, opened.as_bytes() == segment.as_bytes());
-            same(rt, opened.map_get(&named(rt, b"m"), 1i64), Ok(Some(10i64)));
-            Some(Tried::Done)
-        }
-        Err(refused) => {
-            let region = handed_back(rt, refused);
-            holds(rt, opens(alloc, segment.as_bytes(), region).is_ok());
-            Some(Tried::Refused)
-        }
+    match opens(alloc, image, region) {
+        Ok(opened) => Some(is_opened(rt, image, &opened)),
+        Err(refused) => Some(serves(rt, alloc, image, refused)),
     }
 }
 
+/// Opens the image of a segment. Where memory is refused, the region comes back, and serves then.
+fn open_image(rt: &impl Abort, alloc: Global) -> Option<Tried> {
+    let segment = map(rt, alloc)?;
+    open_anew(rt, alloc, segment.as_bytes())
+}
+
 /// Refuses an image whose free tree begins at its own root's word. Its class is told without memory.
-fn refuse_damaged(rt: &impl Abort, alloc: Global) -> Option<Tried> {
-    let image = image(rt, alloc, 24, &[0; 8])?;
+fn refuse(rt: &impl Abort, alloc: Global, image: &mut [u8]) -> Option<Tried> {
+    write(rt, image, 24, &[0; 8]);
     let region = RawRegion::new(alloc, 2048).ok()?;
-    let Err(refused) = opens(alloc, image.as_slice(), region) else {
+    let Err(refused) = opens(alloc, image, region) else {
         panic!(rt; "opened");
     };
     same(rt, refused.cause, OpenError::Image(ImageClass::BadFreeTree));
     Some(Tried::Done)
 }
 
+/// Makes such an image and refuses it.
+fn refuse_damaged(rt: &impl Abort, alloc: Global) -> Option<Tried> {
+    let mut image = image(rt, alloc)?;
+    refuse(rt, alloc, image.as_mut_slice())
+}
+
 /// Opens an image in format 1. Where memory is refused, the region comes back.
-fn open_older(rt: &impl Abort, alloc: Global) -> Option<Tried> {
-    let image = image(rt, alloc, 8, &[1])?;
+fn open_format_1(rt: &impl Abort, alloc: Global, image: &mut [u8]) -> Option<Tried> {
+    write(rt, image, 8, &[1]);
     let region = RawRegion::new(alloc, 2048).ok()?;
-    let mut reader = MemorySource::new(image.as_slice(), 4096, Last::Ends);
+    let mut reader = MemorySource::new(image, 4096, Last::Ends);
     let mut steps = Steps::new();
     match open_any(alloc, &mut reader, region, 1024, Mode::Write, &mut steps) {
         Ok(opened) => {
@@ -115,6 +135,12 @@ fn open_older(rt: &impl Abort, alloc: Global) -> Option<Tried> {
             Some(Tried::Refused)
         }
     }
+}
+
+/// Makes such an image and opens it.
+fn open_older(rt: &impl Abort, alloc: Global) -> Option<Tried> {
+    let mut image = image(rt, alloc)?;
+    open_format_1(rt, alloc, image.as_mut_slice())
 }
 
 /// Takes a region.

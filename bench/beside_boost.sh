@@ -1,11 +1,12 @@
 #!/usr/bin/env bash
 # The program beside Boost.Interprocess's managed_mapped_file on the same scripts: instructions, counted by valgrind's
-# callgrind, and seconds, the least of seven runs, taken in turn. Run it at the top of the repository, once `rt run` has
-# built crates/segment/out/segment; it needs g++, valgrind and Boost (Debian's libboost1.81-dev), makes Boost's side of
-# bench/boost/script.cpp, and writes into a folder of its own, which it removes. Words pick some of the scripts.
+# callgrind, and seconds of the processor, user and system together, the least of seven runs, taken in turn. Run it at
+# the top of the repository, once `rt run` has built crates/segment/out/segment, or with the program's path in
+# PROGRAM; it needs g++, valgrind and Boost (Debian's libboost1.81-dev), makes Boost's side of bench/boost/script.cpp,
+# and writes into a folder of its own, which it removes. Words pick some of the scripts.
 set -euo pipefail
 cd "$(dirname "$0")/.."
-program=$PWD/crates/segment/out/segment
+program=${PROGRAM:-$PWD/crates/segment/out/segment}
 peer=$PWD/bench/boost/script.cpp
 room=$(mktemp -d -p "${TMPDIR:-/dev/shm}")
 trap 'rm -rf "$room"' EXIT
@@ -52,9 +53,9 @@ instructions() {
 
 # seconds WHOSE FILE: of one run
 seconds() {
-  local before=() TIMEFORMAT=%R
+  local before=() TIMEFORMAT='%3U %3S'
   rm -f segment.seg
-  { time "$1" "$2" > /dev/null; } 2>&1
+  { time "$1" "$2" > /dev/null; } 2>&1 | awk '{ printf "%.3f\n", $1 + $2 }'
 }
 
 echo '| Script | Instructions | of Boost | Ratio | Seconds | of Boost | Ratio |'

@@ -1,7 +1,10 @@
 #!/usr/bin/env bash
-# How the costs of the program grow with the number of names, gaps, pairs, blocks and bytes: seconds of scripts that become twice as long, the least of
-# three runs, and beside them those of Boost's managed_mapped_file, where g++ and Boost are installed (Debian's libboost1.81-dev). Run it at the top of the
-# repository, once `rt run` has built crates/segment/out/segment, or with the program's path in PROGRAM; it writes into a folder of its own, which it removes.
+# How the costs of the program grow with the number of names, gaps, pairs, blocks and bytes: scripts that become twice
+# as long, and beside them Boost's managed_mapped_file, where g++ and Boost are installed (Debian's libboost1.81-dev).
+# Of each script it prints the instructions of a line, counted by valgrind's callgrind, without those of a script of
+# no lines; and seconds of the processor, user and system together, the least of three runs. Run it at the top of the
+# repository, once `rt run` has built crates/segment/out/segment, or with the program's path in PROGRAM; it writes
+# into a folder of its own, which it removes. Words pick some of the scripts.
 set -euo pipefail
 cd "$(dirname "$0")/.."
 program=${PROGRAM:-$PWD/crates/segment/out/segment}
@@ -42,20 +45,30 @@ bytes() {
   awk -v n="$1" 'BEGIN { for (i = 0; i < n; i++) print "push v", i % 1000 }'
 }
 
-ours() { "$program" run segment.seg --mode create_only --size 33554432 < script; }
-theirs() { ./peer segment.seg 33554432 < script; }
+ours() { "${before[@]}" "$program" run segment.seg --mode create_only --size 33554432 < "$1"; }
+theirs() { "${before[@]}" ./peer segment.seg 33554432 < "$1"; }
 
-# least WHOSE: of three runs, in seconds
-least() {
-  local TIMEFORMAT=%R
-  for _ in 1 2 3; do
-    rm -f segment.seg
-    { time "$1" > answers; } 2>&1
-  done | sort -n | head -n 1
+# counted WHOSE FILE: the instructions of a run of the script
+counted() {
+  local before=(valgrind --tool=callgrind --callgrind-out-file=/dev/null)
+  rm -f segment.seg
+  "$1" "$2" 2>&1 > answers | sed -n 's/.*Collected : *//p'
 }
 
-echo '| Script | n | Seconds | of Boost | Ratio |'
-echo '|---|---|---|---|---|'
+# least WHOSE FILE: of three runs, in seconds of the processor
+least() {
+  local before=() TIMEFORMAT='%3U %3S'
+  for _ in 1 2 3; do
+    rm -f segment.seg
+    { time "$1" "$2" > answers; } 2>&1
+  done | awk '{ t = $1 + $2; if (NR == 1 || t < least) least = t } END { printf "%.3f\n", least }'
+}
+
+: > nothing
+start=$(counted ours nothing)
+if [ -x peer ]; then their_start=$(counted theirs nothing); fi
+echo '| Script | n | Instructions a line | of Boost | Seconds | of Boost | Ratio |'
+echo '|---|---|---|---|---|---|---|'
 for kind in ${*:-names gaps pairs blocks bytes}; do
   case $kind in
     names) first=5000 ;;
@@ -65,9 +78,12 @@ for kind in ${*:-names gaps pairs blocks bytes}; do
   esac
   for n in $first $((2 * first)) $((4 * first)) $((8 * first)); do
     $kind $n > script
-    mine=$(least ours) boost=-
-    if [ -x peer ] && [ "$kind" != blocks ]; then boost=$(least theirs); fi
-    awk -v kind="$kind" -v n="$n" -v s="$mine" -v t="$boost" 'BEGIN {
-      printf "| %s | %d | %.3f | %s | %s |\n", kind, n, s, t, (t > 0 ? sprintf("%.2f", s / t) : "-") }'
+    lines=$(wc -l < script)
+    a_line=$((($(counted ours script) - start) / lines)) seconds=$(least ours script) their_line=- boost=-
+    if [ -x peer ] && [ "$kind" != blocks ]; then
+      their_line=$((($(counted theirs script) - their_start) / lines)) boost=$(least theirs script)
+    fi
+    awk -v kind="$kind" -v n="$n" -v a="$a_line" -v b="$their_line" -v s="$seconds" -v t="$boost" 'BEGIN {
+      printf "| %s | %d | %s | %s | %s | %s | %s |\n", kind, n, a, b, s, t, (t > 0 ? sprintf("%.2f", s / t) : "-") }'
   done
 done

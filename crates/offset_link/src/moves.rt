@@ -116,8 +116,8 @@ fn move_up(bytes: &mut [u8], at: usize, n: usize, by: usize, non_null: bool)
     requires non_null { IsTrue non_null → NoneIsNull (bytes_of bytes.old) at n }
     ensures { bytes.new ≡ patched bytes.old (at + by) (relinked (bytes_of bytes.old) at (at + by) n) }
 {
-    // The last one moves alone where the runs before it then end at a multiple of 16: their stores of 16 bytes lie in one
-    // line of the cache each.
+    // The last one moves alone where the runs before it then end at a multiple of 16: each of their stores of 16 bytes
+    // then lies in one line of the cache.
     let last = n.min((at + by + 8 * n) / 8 % 2);
     let others = n - last;
     let rest = others % RUN;
@@ -176,7 +176,7 @@ fn move_down(bytes: &mut [u8], at: usize, n: usize, by: usize, non_null: bool)
     requires non_null { IsTrue non_null → NoneIsNull (bytes_of bytes.old) at n }
     ensures { bytes.new ≡ patched bytes.old (at - by) (relinked (bytes_of bytes.old) at (at - by) n) }
 {
-    // The first one moves alone where the runs behind it then begin at a multiple of 16, as those of `move_up` end there.
+    // The first one moves alone where the runs behind it then begin at a multiple of 16, as those of `move_up` end at one.
     let first = n.min((at - by) / 8 % 2);
     let others = n - first;
     let runs = others / RUN;

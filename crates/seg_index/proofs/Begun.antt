@@ -1,5 +1,6 @@
 -- Fronts of names: where two differ, they stand as the names do; and how the front of a name in a block is read.
-use Rattle.std.proofs.Common.{◌≡◌, ◌≢◌, refl, sym, ap, subst, ◌∙◌, ℕ, zero, suc, ◌+◌, ◌-◌, ◌*◌, ◌/◌, ◌%◌, ◌^◌, ◌<◌, ◌≤◌, inl, inr, List, [], ◌∷◌, length, take, drop, slice_index, bit_and, arith}
+use Rattle.std.proofs.Common.{◌≡◌, ◌≢◌, refl, sym, ap, subst, ◌∙◌, ℕ, zero, suc, ◌+◌, ◌-◌, ◌*◌, ◌/◌, ◌%◌, ◌^◌, ◌<◌, ◌≤◌}
+use Rattle.std.proofs.Common.{inl, inr, List, [], ◌∷◌, length, take, drop, slice_index, bit_and, arith}
 use Rattle.std.specs.Cmp.{nat_cmp_is}
 use Rattle.std.specs.Cmp.Lexicographic.{slice_cmp}
 use Rattle.std.specs.List.{slice_range}
@@ -125,7 +126,8 @@ range_bytes b at bytes k = elim (cases_lt k 8) [
       let e = get_or_past (slice_range b at (at + 8)) k 0 (omega arith) in omega arith
 ]
 
-module _ (b : List ℕ) (bytes : AreBytes b) (h len word : ℕ) (is : word ≡ big_number 8 (slice_range b (h + 16) (h + 16 + 8))) where
+module _ (b : List ℕ) (bytes : AreBytes b) (h len word : ℕ)
+    (is : word ≡ big_number 8 (slice_range b (h + 16) (h + 16 + 8))) where
   abbrev name : List ℕ
   name = read (bytes_of b) (h + 16) len
 
@@ -154,11 +156,13 @@ module _ (b : List ℕ) (bytes : AreBytes b) (h len word : ℕ) (is : word ≡ b
         let e : 64 - 8 * len ≡ 8 * rest = omega arith in
         let size = pow256 rest in
         let small : big_from len rest eight < 2 ^ (8 * rest) =
-        subst (λ (n : ℕ). big_from len rest eight < n) size (big_from-lt len rest eight (range_bytes b (h + 16) bytes)) in
+        subst (λ (n : ℕ). big_from len rest eight < n) size
+        (big_from-lt len rest eight (range_bytes b (h + 16) bytes)) in
         let parts : word ≡ big_from 0 len eight * 2 ^ (8 * rest) + big_from len rest eight =
         is ∙ split eight ∙ ap (λ (n : ℕ). big_from 0 len eight * n + big_from len rest eight) size in
         ap (bit_and word) (ones ∙ ap (λ (n : ℕ). 2 ^ n - 1) e) ∙ and_mask word (8 * rest)
-        ∙ ap (λ (n : ℕ). n % 2 ^ (8 * rest)) parts ∙ mod_low (big_from 0 len eight) (8 * rest) (big_from len rest eight) small
+        ∙ ap (λ (n : ℕ). n % 2 ^ (8 * rest)) parts
+        ∙ mod_low (big_from 0 len eight) (8 * rest) (big_from len rest eight) small
 
     pub short_front : word - bit_and word ((2 ^ 64 - 1) / 2 ^ (8 * len)) ≡ front name
     short_front =
@@ -166,5 +170,6 @@ module _ (b : List ℕ) (bytes : AreBytes b) (h len word : ℕ) (is : word ≡ b
         let own = split name in
         let none = big_from-zeros len rest name (λ k low. read_past (bytes_of b) (h + 16) len k low) in
         let alike = big_from-same 0 len name eight (λ k low high. same k (omega arith) (omega arith)) in
-        let worth : big_from 0 len name * 256 ^ rest ≡ big_from 0 len eight * 256 ^ rest = ap (λ (n : ℕ). n * 256 ^ rest) alike in
+        let worth : big_from 0 len name * 256 ^ rest ≡ big_from 0 len eight * 256 ^ rest =
+        ap (λ (n : ℕ). n * 256 ^ rest) alike in
         omega (arith, behind, whole, own, none, worth)

@@ -36,11 +36,12 @@ fn front_of(name: &[u8]) -> u64
     BigEndian::read_u64(&bytes)
 }
 
-/// The front of the name of an object. Eight bytes are read also of a shorter name, for behind each block there are as many,
-/// and those that are not of the name count as zeros.
+/// The front of the name of an object. Eight bytes are read also of a shorter name, for behind each block there are as
+/// many, and those that are not of the name count as zeros.
 pub fn front_at(heap: &Heap, handle: u64) -> u64
     requires heap { IsHeap current heap.now.bytes }
-    requires room { IsTrue (has_room (live_of heap.now.bytes) handle (16 + name_len_at (bytes_of heap.now.bytes) handle)) }
+    requires room { IsTrue (has_room (live_of heap.now.bytes) handle
+        (16 + name_len_at (bytes_of heap.now.bytes) handle)) }
     ensures { result ≡ front (name_at (bytes_of heap.now.bytes) handle) }
 {
     let len = heap.word(handle, 8) % HALF;

@@ -15,7 +15,8 @@ module _ (b one : List ℕ) (at by n first q rest : ℕ) (within : at + 8 * n �
 
   three : (two new : List ℕ)
       → two ≡ patched one (at + 8 * first - by) (relinked (bytes_of one) (at + 8 * first) (at + 8 * first - by) (8 * q))
-      → new ≡ patched two (at + 8 * first + 64 * q - by) (relinked (bytes_of two) (at + 8 * first + 64 * q) (at + 8 * first + 64 * q - by) rest)
+      → new ≡ patched two (at + 8 * first + 64 * q - by)
+      (relinked (bytes_of two) (at + 8 * first + 64 * q) (at + 8 * first + 64 * q - by) rest)
       → new ≡ patched b (at - by) (relinked (bytes_of b) at (at - by) n)
   three two new f g =
       let to = at - by in
@@ -32,11 +33,13 @@ module _ (b one : List ℕ) (at by n first q rest : ℕ) (within : at + 8 * n �
 pub runs_down-requires-clause-non_null : goal.runs_down-requires-clause-non_null
 runs_down-requires-clause-non_null c = λ known.
     let others = c.args.n - c.min-first.result in
-    set c.args.bytes.now c.links_down.new.bytes c.args.at c.args.by c.args.n c.min-first.result (others / 8) (others % 8)
+    set c.args.bytes.now c.links_down.new.bytes c.args.at c.args.by c.args.n c.min-first.result (others / 8)
+    (others % 8)
     c.requires.source c.requires.inside (omega arith) c.links_down.ensures (c.requires.non_null known)
 
 pub returns : goal.returns
 returns c =
     let others = c.args.n - c.min-first.result in
-    three c.args.bytes.now c.links_down.new.bytes c.args.at c.args.by c.args.n c.min-first.result (others / 8) (others % 8)
-    c.requires.source c.requires.inside (omega arith) c.links_down.ensures c.runs_down.new.bytes c.links_down-2.new.bytes c.runs_down.ensures c.links_down-2.ensures
+    three c.args.bytes.now c.links_down.new.bytes c.args.at c.args.by c.args.n c.min-first.result (others / 8)
+    (others % 8) c.requires.source c.requires.inside (omega arith) c.links_down.ensures c.runs_down.new.bytes
+    c.links_down-2.new.bytes c.runs_down.ensures c.links_down-2.ensures

@@ -7,10 +7,12 @@ use Rattle.offset_link.proofs.moves.move_up.Goals as goal
 -- the last link, the runs before it, and the rest before them
 module _ (b one : List ℕ) (at by n last others rest q : ℕ) (within : at + by + 8 * n ≤ length b)
     (split : others + last ≡ n) (parts : rest + 8 * q ≡ others)
-    (e : one ≡ patched b (at + 8 * others + by) (relinked (bytes_of b) (at + 8 * others) (at + 8 * others + by) last)) where
+    (e : one ≡ patched b (at + 8 * others + by)
+    (relinked (bytes_of b) (at + 8 * others) (at + 8 * others + by) last)) where
   set : NoneIsNull (bytes_of b) at n → NoneIsNull (bytes_of one) (at + 8 * rest) (8 * q)
   set all =
-      non_null-before b one (at + 8 * rest) (8 * q) (at + 8 * others + by) last (at + 8 * others) (omega arith) (omega arith) e
+      non_null-before b one (at + 8 * rest) (8 * q) (at + 8 * others + by) last (at + 8 * others) (omega arith)
+      (omega arith) e
       (non_null-part (bytes_of b) at n (at + 8 * rest) rest (8 * q) (omega arith) (omega arith) all)
 
   three : (two new : List ℕ)
@@ -32,11 +34,13 @@ module _ (b one : List ℕ) (at by n last others rest q : ℕ) (within : at + by
 pub runs_up-requires-clause-non_null : goal.runs_up-requires-clause-non_null
 runs_up-requires-clause-non_null c = λ known.
     let others = c.args.n - c.min-last.result in
-    set c.args.bytes.now c.links_up.new.bytes c.args.at c.args.by c.args.n c.min-last.result others (others % 8) (others / 8)
+    set c.args.bytes.now c.links_up.new.bytes c.args.at c.args.by c.args.n c.min-last.result others (others % 8)
+    (others / 8)
     c.requires.inside (omega arith) (omega arith) c.links_up.ensures (c.requires.non_null known)
 
 pub returns : goal.returns
 returns c =
     let others = c.args.n - c.min-last.result in
-    three c.args.bytes.now c.links_up.new.bytes c.args.at c.args.by c.args.n c.min-last.result others (others % 8) (others / 8)
-    c.requires.inside (omega arith) (omega arith) c.links_up.ensures c.runs_up.new.bytes c.links_up-2.new.bytes c.runs_up.ensures c.links_up-2.ensures
+    three c.args.bytes.now c.links_up.new.bytes c.args.at c.args.by c.args.n c.min-last.result others (others % 8)
+    (others / 8) c.requires.inside (omega arith) (omega arith) c.links_up.ensures c.runs_up.new.bytes
+    c.links_up-2.new.bytes c.runs_up.ensures c.links_up-2.ensures

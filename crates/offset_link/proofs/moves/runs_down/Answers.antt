@@ -46,7 +46,8 @@ module _ (b cur : List ℕ) (at by n i : ℕ) (within : at + 64 * n ≤ length b
         → Moved b new at by (2 * (i + 1))
     both new g =
         let e : 2 * i + 1 + 1 ≡ 2 * (i + 1) = omega arith in
-        subst (Moved b new at by) e (step b mid at by n (2 * i + 1) (from + 64) within inside (omega arith) (omega arith) later new g)
+        subst (Moved b new at by) e
+        (step b mid at by n (2 * i + 1) (from + 64) within inside (omega arith) (omega arith) later new g)
 
 module _ (b cur : List ℕ) (at by n i : ℕ) (within : at + 64 * n ≤ length b) (inside : by ≤ at) (odd : n % 2 ≡ 1)
     (is : i ≡ n / 2) (moved : Moved b cur at by (2 * i)) where
@@ -56,11 +57,13 @@ module _ (b cur : List ℕ) (at by n i : ℕ) (within : at + 64 * n ≤ length b
   set_last : NoneIsNull (bytes_of b) at (8 * n) → NoneIsNull (bytes_of cur) (at + 64 * (n - 1)) 8
   set_last all = set b cur at by n (n - 1) (at + 64 * (n - 1)) within inside (omega arith) refl nearly all
 
-  ends : (new : List ℕ) → new ≡ patched cur (at + 64 * (n - 1) - by) (relinked (bytes_of cur) (at + 64 * (n - 1)) (at + 64 * (n - 1) - by) 8)
+  ends : (new : List ℕ)
+      → new ≡ patched cur (at + 64 * (n - 1) - by) (relinked (bytes_of cur) (at + 64 * (n - 1)) (at + 64 * (n - 1) - by) 8)
       → Moved b new at by n
   ends new f =
       let e : n - 1 + 1 ≡ n = omega arith in
-      subst (Moved b new at by) e (step b cur at by n (n - 1) (at + 64 * (n - 1)) within inside (omega arith) refl nearly new f)
+      subst (Moved b new at by) e
+      (step b cur at by n (n - 1) (at + 64 * (n - 1)) within inside (omega arith) refl nearly new f)
 
 pub run_down-requires-clause-non_null : goal.run_down-requires-clause-non_null
 run_down-requires-clause-non_null c = λ known.
@@ -75,7 +78,8 @@ run_down-requires-in-runs-clause-non_null c = λ known.
 pub runs-preserved : goal.runs-preserved
 runs-preserved c =
     both c.args.bytes.now c.runs.bytes c.args.at c.args.by c.args.n c.runs.i c.requires.source c.requires.inside
-    (omega arith) c.runs.invariant c.run_down.new.bytes c.run_down.ensures c.run_down-in-runs.new.bytes c.run_down-in-runs.ensures
+    (omega arith) c.runs.invariant c.run_down.new.bytes c.run_down.ensures c.run_down-in-runs.new.bytes
+    c.run_down-in-runs.ensures
 
 pub run_down-requires-then-n-eq1-clause-non_null : goal.run_down-requires-then-n-eq1-clause-non_null
 run_down-requires-then-n-eq1-clause-non_null c = λ known.

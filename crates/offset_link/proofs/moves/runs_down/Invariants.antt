@@ -5,4 +5,5 @@ use Rattle.offset_link.proofs.moves.runs_down.Given as goal
 
 abbrev pub invariant-runs : goal.invariant-runs
 invariant-runs l =
-    l.bytes ≡ patched l.initial.bytes (l.at - l.by) (relinked (bytes_of l.initial.bytes) l.at (l.at - l.by) (8 * (2 * l.i)))
+    l.bytes ≡ patched l.initial.bytes (l.at - l.by)
+    (relinked (bytes_of l.initial.bytes) l.at (l.at - l.by) (8 * (2 * l.i)))

@@ -10,7 +10,8 @@ Moved b cur at by n k =
     cur ≡ patched b (at + by + 64 * k) (relinked (bytes_of b) (at + 64 * k) (at + by + 64 * k) (8 * (n - k)))
 
 -- all of them
-all : (b cur : List ℕ) (at by n : ℕ) → Moved b cur at by n 0 → cur ≡ patched b (at + by) (relinked (bytes_of b) at (at + by) (8 * n))
+all : (b cur : List ℕ) (at by n : ℕ) → Moved b cur at by n 0
+    → cur ≡ patched b (at + by) (relinked (bytes_of b) at (at + by) (8 * n))
 all b cur at by n moved =
     let e : at + by + 64 * 0 ≡ at + by = omega arith in let f : at + 64 * 0 ≡ at = omega arith in
     let g : 8 * (n - 0) ≡ 8 * n = omega arith in
@@ -23,7 +24,8 @@ module _ (b cur : List ℕ) (at by n k from : ℕ) (within : at + by + 64 * n �
       → Moved b new at by n k
   step new f =
       let to = at + by + 64 * k in
-      let e₁ : at + by + 64 * suc k ≡ to + 8 * 8 = omega arith in let e₂ : at + 64 * suc k ≡ at + 64 * k + 8 * 8 = omega arith in
+      let e₁ : at + by + 64 * suc k ≡ to + 8 * 8 = omega arith in
+      let e₂ : at + 64 * suc k ≡ at + 64 * k + 8 * 8 = omega arith in
       let t : from + by ≡ to = omega arith in let g : 8 + 8 * (n - suc k) ≡ 8 * (n - k) = omega arith in
       run_before b cur new (at + 64 * k) to 8 (8 * (n - suc k)) (omega arith) (omega arith)
       (moved ∙ (λ i. patched b (e₁ i) (relinked (bytes_of b) (e₂ i) (e₁ i) (8 * (n - suc k)))))
@@ -47,16 +49,19 @@ module _ (b cur : List ℕ) (at by n left : ℕ) (within : at + by + 64 * n ≤ 
   set_first : NoneIsNull (bytes_of b) at (8 * n) → NoneIsNull (bytes_of cur) (from + 64) 8
   set_first all = set b cur at by n (left - 1) (from + 64) within (omega arith) (omega arith) later all
 
-  module _ (mid : List ℕ) (f : mid ≡ patched cur (from + 64 + by) (relinked (bytes_of cur) (from + 64) (from + 64 + by) 8)) where
+  module _ (mid : List ℕ)
+      (f : mid ≡ patched cur (from + 64 + by) (relinked (bytes_of cur) (from + 64) (from + 64 + by) 8)) where
     earlier : Moved b mid at by n (suc (left - 2))
     earlier =
         let e : left - 1 ≡ suc (left - 2) = omega arith in
-        subst (Moved b mid at by n) e (step b cur at by n (left - 1) (from + 64) within (omega arith) (omega arith) later mid f)
+        subst (Moved b mid at by n) e
+        (step b cur at by n (left - 1) (from + 64) within (omega arith) (omega arith) later mid f)
 
     set_second : NoneIsNull (bytes_of b) at (8 * n) → NoneIsNull (bytes_of mid) from 8
     set_second all = set b mid at by n (left - 2) from within (omega arith) refl earlier all
 
-    both : (new : List ℕ) → new ≡ patched mid (from + by) (relinked (bytes_of mid) from (from + by) 8) → Moved b new at by n (left - 2)
+    both : (new : List ℕ) → new ≡ patched mid (from + by) (relinked (bytes_of mid) from (from + by) 8)
+        → Moved b new at by n (left - 2)
     both new g = step b mid at by n (left - 2) from within (omega arith) refl earlier new g
 
 module _ (b cur : List ℕ) (at by n left : ℕ) (within : at + by + 64 * n ≤ length b) (one : left ≡ 1) (few : left ≤ n)
@@ -85,7 +90,8 @@ pub runs-preserved : goal.runs-preserved
 runs-preserved c = record {
   some = omega arith;
   moved = both c.args.bytes.now c.runs.bytes c.args.at c.args.by c.args.n c.runs.left c.requires.inside (omega arith)
-      c.runs.invariant.some c.runs.invariant.moved c.run_up.new.bytes c.run_up.ensures c.run_up-in-runs.new.bytes c.run_up-in-runs.ensures;
+      c.runs.invariant.some c.runs.invariant.moved c.run_up.new.bytes c.run_up.ensures c.run_up-in-runs.new.bytes
+      c.run_up-in-runs.ensures;
 }
 
 pub run_up-requires-then-left-eq1-clause-non_null : goal.run_up-requires-then-left-eq1-clause-non_null

@@ -18,5 +18,5 @@ pub returns-then-begun-front : goal.returns-then-begun-front
 returns-then-begun-front c =
     let there = name_at (bytes_of c.args.heap.now.bytes) c.args.handle in
     apart there c.args.name.now c.front_at-begun.result c.args.front c.cmp.result
-    (subst AreBytes c.name_of-found.ensures c.hold_bytes.ensures) c.hold_bytes-2.ensures c.front_at-begun.ensures c.requires.front
-    c.if-begun-front.true c.cmp.ensures
+    (subst AreBytes c.name_of-found.ensures c.hold_bytes.ensures) c.hold_bytes-2.ensures c.front_at-begun.ensures
+    c.requires.front c.if-begun-front.true c.cmp.ensures

@@ -1,5 +1,6 @@
 -- The eight bytes lie in the heap, whose last 16 bytes are no block's.
-use Rattle.std.proofs.Common.{◌≡◌, ◌<◌, ◌+◌, ◌-◌, ◌*◌, ◌/◌, ◌%◌, ◌^◌, ◌≤◌, ◌∙◌, sym, ap, subst, arith, bit_and, IsTrue, ℕ, List, length}
+use Rattle.std.proofs.Common.{◌≡◌, ◌<◌, ◌+◌, ◌-◌, ◌*◌, ◌/◌, ◌%◌, ◌^◌, ◌≤◌, ◌∙◌, sym, ap, subst, arith}
+use Rattle.std.proofs.Common.{bit_and, IsTrue, ℕ, List, length}
 use Rattle.std.specs.List.{slice_range}
 use Rattle.byteorder.specs.Endian.{big_number}
 use Rattle.raw_region.specs.Memory.{bytes_of, read}

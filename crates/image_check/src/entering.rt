@@ -24,7 +24,7 @@ pub(crate) fn enter(
     let Some(target) = link else {
         return false;
     };
-    let Some(block) = owners.blocks.block_of(target, visits) else {
+    let Some((number, block)) = owners.blocks.find(target, visits) else {
         return false;
     };
     if !is_new(block) {
@@ -34,7 +34,7 @@ pub(crate) fn enter(
         owner: Some(Owner { at: place, root }),
         ..block
     };
-    owners.blocks.put(target, entered, visits);
+    owners.blocks.put(number, target, entered, visits);
     true
 }
 

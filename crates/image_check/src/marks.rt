@@ -40,7 +40,7 @@ pub(crate) fn mark(
     let Some(target) = target else {
         return Ok(());
     };
-    let Some(block) = owners.blocks.block_of(target, visits) else {
+    let Some((number, block)) = owners.blocks.find(target, visits) else {
         return Ok(());
     };
     if !is_same(block.role, role) {
@@ -57,7 +57,7 @@ pub(crate) fn mark(
         next: owners.pending,
         ..block
     };
-    owners.blocks.put(target, owned, visits);
+    owners.blocks.put(number, target, owned, visits);
     if is_same(role, Role::Node) {
         owners.pending = Some(target);
         owners.waiting += 1;

@@ -1,5 +1,5 @@
 //! The map of the blocks in use, in which each look-up is counted.
-ghost use Rattle.std.specs.Prelude.{◌≡◌, ◌+◌, ◌++◌, ◌∷◌, ◌<◌, ◌≤◌, [], nat_eq, length, IsSome, IfSome, IfNone, None, vec_capacity};
+ghost use Rattle.std.specs.Prelude.{◌≡◌, ◌+◌, ◌++◌, ◌∷◌, ◌<◌, ◌≤◌, [], nat_eq, length, IfSome, IfNone, None, Some, vec_capacity};
 ghost use Rattle.std.specs.Map.{set_value};
 ghost use Rattle.image_check.specs.Owners.{block_at};
 ghost use Rattle.image_check.specs.Rows.{AreBelow, IsRow};
@@ -73,6 +73,20 @@ impl Blocks {
         }
     }
 
+    /// The block whose payload begins at `target`, behind its number. One visit.
+    pub(crate) fn find(&self, target: u64, visits: &mut Visits) -> Option<(usize, Block)>
+        ensures number { IfSome result (λ found. IsRow self.now.entries target found.0) }
+        ensures block { IfSome result (λ found. block_at self.now.entries target ≡ Some found.1) }
+        ensures none { IfNone result (block_at self.now.entries target ≡ None) }
+        ensures visits { visits.new ≡ visits.old + 1 }
+    {
+        visits.visit();
+        match self.number_of(target) {
+            Some(number) => Some((number, self.rows[number].1)),
+            None => None,
+        }
+    }
+
     /// The block whose payload begins at `target`. One visit.
     pub(crate) fn block_of(&self, target: u64, visits: &mut Visits) -> Option<Block>
         ensures value { result ≡ block_at self.now.entries target }
@@ -98,16 +112,14 @@ impl Blocks {
         self.get(target)
     }
 
-    /// Puts another block in the place of the one at `target`. One visit.
-    pub(crate) fn put(&mut self, target: u64, block: Block, visits: &mut Visits)
-        requires { IsSome (block_at self.old.entries target) }
+    /// Puts another block in the place of the one of this number, at `target`. One visit.
+    pub(crate) fn put(&mut self, number: usize, target: u64, block: Block, visits: &mut Visits)
+        requires { IsRow self.old.entries target number }
         ensures value { self.new.entries ≡ set_value (nat_eq target) self.old.entries block }
         ensures visits { visits.new ≡ visits.old + 1 }
     {
         visits.visit();
-        if let Some(number) = self.number_of(target) {
-            self.rows[number] = (target, block);
-        }
+        self.rows[number] = (target, block);
     }
 
     /// Adds a block at `target`, behind all others, to those of which there is room for one more. One visit.

@@ -5,8 +5,8 @@ use Rattle.image_check.specs.Rows.{IsRow}
 use Rattle.image_check.proofs.Numbered.{set-row}
 use Rattle.image_check.proofs.image_window.blocks.Blocks.put.Goals as goal
 
-pub returns-in-Some-clause-value : goal.returns-in-Some-clause-value
-returns-in-Some-clause-value c =
-    let row = subst (λ (v : BlockMap). IsRow v.entries c.args.target c.in-Some.number) (sym c.self.view_is) c.in-Some.ensures.found in
-    sym (set-row c.self.inside.rows.items c.args.target c.in-Some.number c.args.block c.self.invariant row)
+pub returns-clause-value : goal.returns-clause-value
+returns-clause-value c =
+    let row = subst (λ (v : BlockMap). IsRow v.entries c.args.target c.args.number) (sym c.self.view_is) c.requires in
+    sym (set-row c.self.inside.rows.items c.args.target c.args.number c.args.block c.self.invariant row)
     ∙ ap (λ (v : BlockMap). set_value (nat_eq c.args.target) v.entries c.args.block) c.self.view_is

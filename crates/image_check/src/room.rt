@@ -1,4 +1,4 @@
-//! Room for the blocks in use: the one request for memory that the check of an image makes.
+//! Room for the blocks in use: the one place where the check of an image asks for memory.
 ghost use Rattle.std.specs.Prelude.{◌≡◌, ◌≤◌, IfOk, IsOk, []};
 
 use crate::image_window::Blocks;
@@ -10,8 +10,8 @@ pub struct NoMemory {
     refusal: AllocError,
 }
 
-/// No blocks, with room for so many, all before `end`. Memory is asked for here alone, a row and a number of four bytes for each
-/// block, and not where they are none.
+/// No blocks, with room for so many, the last of which has its tile at `end`. Memory is asked for here alone, for each block a row
+/// and a number of four bytes, and not where they are none.
 ///
 /// # Errors
 ///
@@ -21,27 +21,16 @@ pub(crate) fn room_for(alloc: Global, count: usize, end: u64) -> Result<Blocks, 
     ensures room { IfOk result (λ blocks. count ≤ blocks.room) }
     ensures memory { count ≡ 0 → IsOk result }
 {
-    let lasts = match zeros(alloc, count) {
+    let mut lasts = match Vec::with_capacity(alloc, count) {
         Ok(lasts) => lasts,
         Err(refusal) => return Err(NoMemory { refusal }),
     };
+    // There is room, so that no memory is asked for.
+    let _ = lasts.resize(count, 0);
     match Vec::with_capacity(alloc, count) {
         Ok(rows) => Ok(Blocks::new(rows, lasts, shift_for(count, end))),
         Err(refusal) => Err(NoMemory { refusal }),
     }
-}
-
-/// So many zeros.
-///
-/// # Errors
-///
-/// Where the allocator refuses memory for them.
-fn zeros(alloc: Global, count: usize) -> Result<Vec<u32>, AllocError>
-    ensures memory { count ≡ 0 → IsOk result }
-{
-    let mut lasts = Vec::with_capacity(alloc, count)?;
-    lasts.resize(count, 0)?;
-    Ok(lasts)
 }
 
 /// The least power of 2 of which `count` together reach beyond `end`, by its exponent.

@@ -17,7 +17,7 @@ pub(crate) struct Blocks {
     /// For each stretch of the image the number of the last block whose payload begins in it: where a look-up begins. It may be
     /// any number, since what is found there is compared.
     lasts: Vec<u32>,
-    /// A stretch is 2 to the power of so many bytes, of which 64 and more are as many less.
+    /// A stretch is `1 << (shift % 64)` bytes.
     shift: u32,
 }
 

@@ -6,7 +6,7 @@ use Rattle.std.proofs.lemmas.Bool.{eq-eqb, ne_eqb, cond-true, cond-false}
 use Rattle.std.proofs.lemmas.Option.{get_or_from_slice_get, slice_get-get_or, slice_get_within}
 use Rattle.image_check.specs.declared.owners.Block.{Block}
 use Rattle.image_check.specs.Owners.{Blocks, block_at}
-use Rattle.image_check.specs.Rows.{AreBelow, IsRow, Rises}
+use Rattle.image_check.specs.Rows.{AreBelow, IsBetween, IsRow, Rises}
 
 -- ---- a block of a number
 
@@ -89,12 +89,6 @@ rises-set es n i b r w j k x y l f g =
 
 -- ---- a search by halves
 
--- a payload that is looked for stands between two numbers, if anywhere
-pub record IsBetween (es : Blocks) (n low high : ℕ) : Type 0 where
-  pub within : high ≤ length es
-  pub below : (i : ℕ) (x : ℕ × Block) → i < low → slice_get es i ≡ Some x → x.0 < n
-  pub above : (i : ℕ) (x : ℕ × Block) → high ≤ i → slice_get es i ≡ Some x → n < x.0
-
 pub between-all : (es : Blocks) (n : ℕ) → IsBetween es n 0 (length es)
 between-all es n = record {
   within = omega arith;
@@ -137,6 +131,29 @@ between-down es n low high i d r b h other l = record { within = omega arith; be
         (λ k. let same = get_or_from_slice_get es i y d (ap (slice_get es) (sym k) ∙ g) in subst (λ (z : ℕ × Block). n < z.0) same behind)
         (λ k. let z = r i j (slice_index_or es i d) y k (slice_get-get_or es i d h) g in omega arith)
         (one-up i j m)
+
+-- from a number on all payloads are above a place
+abbrev pub AreAbove : Blocks → ℕ → ℕ → Type 0
+AreAbove es n high = (i : ℕ) (x : ℕ × Block) → high ≤ i → slice_get es i ≡ Some x → n < x.0
+
+pub above-behind : (es : Blocks) (n i : ℕ) (d : ℕ × Block) → Rises es → i < length es → n ≤ (slice_index_or es i d).0 → AreAbove es n (i + 1)
+above-behind es n i d r h l j y m g = let z = r i j (slice_index_or es i d) y (omega arith) (slice_get-get_or es i d h) g in omega arith
+
+pub above-here : (es : Blocks) (n i : ℕ) (d : ℕ × Block) → Rises es → i < length es → n < (slice_index_or es i d).0 → AreAbove es n i
+above-here es n i d r h l j y m g = ⊎_elim
+    (λ k. let same = get_or_from_slice_get es i y d (ap (slice_get es) (sym k) ∙ g) in subst (λ (z : ℕ × Block). n < z.0) same l)
+    (λ k. let z = r i j (slice_index_or es i d) y k (slice_get-get_or es i d h) g in omega arith)
+    (one-up i j m)
+
+pub between-from : (es : Blocks) (n low high : ℕ) (d : ℕ × Block) → Rises es → low < length es → high ≤ length es → (slice_index_or es low d).0 ≤ n → AreAbove es n high → IsBetween es n low high
+between-from es n low high d r h w l a = record {
+  within = w;
+  below = λ j y m g. let z = r j low y (slice_index_or es low d) m g (slice_get-get_or es low d h) in omega arith;
+  above = a;
+}
+
+pub between-first : (es : Blocks) (n high : ℕ) → high ≤ length es → AreAbove es n high → IsBetween es n 0 high
+between-first es n high w a = record { within = w; below = λ i x l g. absurd (omega arith); above = a }
 
 -- nothing is left between them
 pub between-none : (es : Blocks) (n low high : ℕ) → IsBetween es n low high → high ≤ low → block_at es n ≡ None

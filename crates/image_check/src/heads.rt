@@ -43,7 +43,8 @@ pub(crate) fn kind_of(format: u64, window: &ImageWindow, object: Object) -> Opti
     }
 }
 
-/// The kind of this code, or `None` where no kind has it. Codes of maps, and those of no kind, are looked at by their parts.
+/// The kind of this code, or `None` where no kind has it. Codes of maps, and those of no kind, are looked at by their
+/// parts.
 fn kind_of_code(code: u32) -> Option<Kind>
     ensures { result ≡ code_kind code }
 {

@@ -10,8 +10,8 @@ pub struct NoMemory {
     refusal: AllocError,
 }
 
-/// No blocks, with room for so many, the last of which has its tile at `end`. Memory is asked for here alone, for each block a row
-/// and a number of four bytes, and not where they are none.
+/// No blocks, with room for so many, the last of which has its tile at `end`. Memory is asked for here alone, for each
+/// block a row and a number of four bytes, and not where they are none.
 ///
 /// # Errors
 ///

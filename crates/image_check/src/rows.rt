@@ -1,11 +1,11 @@
 //! Blocks in the order of their places: the number of one that is looked for.
 ghost use Rattle.std.specs.Prelude.{◌≡◌, IfSome, IfNone, None};
 ghost use Rattle.image_check.specs.Owners.{block_at};
-ghost use Rattle.image_check.specs.Rows.{IsRow, Rises};
+ghost use Rattle.image_check.specs.Rows.{IsBetween, IsRow, Rises};
 
 use crate::owners::Block;
 
-/// How many blocks are looked at before the others are halved.
+/// How many blocks are looked at one by one.
 const NEAR: usize = 8;
 
 /// The number of the block at `target`, where it is `last` or one of a few before it.
@@ -31,14 +31,42 @@ pub(crate) fn near(rows: &[(u64, Block)], last: usize, target: u64) -> Option<us
     None
 }
 
-/// The number of the block at `target`, which is looked for in one half after another.
-pub(crate) fn halved(rows: &[(u64, Block)], target: u64) -> Option<usize>
+/// Two numbers between which the block at `target` stands, if anywhere, the second not included. They are near each
+/// other where `last` is its number, or that of a block not far behind it: steps back from there become twice as long
+/// each time.
+pub(crate) fn bounds(rows: &[(u64, Block)], last: usize, target: u64) -> (usize, usize)
     requires { Rises rows.now }
+    ensures { IsBetween rows.now target result.0 result.1 }
+{
+    if last >= rows.len() {
+        return (0, rows.len());
+    }
+    if rows[last].0 < target {
+        return (0, rows.len());
+    }
+    let mut low = last;
+    let mut high = last + 1;
+    'steps: while low > 0 {
+        if rows[low].0 <= target {
+            return (low, high);
+        }
+        let step = high - low;
+        high = low;
+        low = low.saturating_sub(step).saturating_sub(step);
+    }
+    (0, high)
+}
+
+/// The number of the block at `target`, which stands between two numbers, if anywhere: it is looked for in one half
+/// after another.
+pub(crate) fn halved(rows: &[(u64, Block)], low: usize, high: usize, target: u64) -> Option<usize>
+    requires rises { Rises rows.now }
+    requires between { IsBetween rows.now target low high }
     ensures found { IfSome result (IsRow rows.now target) }
     ensures none { IfNone result (block_at rows.now target ≡ None) }
 {
-    let mut low = 0;
-    let mut high = rows.len();
+    let mut low = low;
+    let mut high = high;
     'halves: while low < high {
         let middle = low + (high - low) / 2;
         let payload = rows[middle].0;

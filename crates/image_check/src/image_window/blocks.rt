@@ -6,7 +6,7 @@ ghost use Rattle.image_check.specs.Rows.{AreBelow, IsRow};
 
 use crate::checking::Visits;
 use crate::owners::Block;
-use crate::rows::{halved, near};
+use crate::rows::{bounds, halved, near};
 use std::marker::Model;
 
 /// The blocks in use by payload.
@@ -14,8 +14,8 @@ use std::marker::Model;
 pub(crate) struct Blocks {
     /// Each with its payload, in the order of their places.
     rows: Vec<(u64, Block)>,
-    /// For each stretch of the image the number of the last block whose payload begins in it: where a look-up begins. It may be
-    /// any number, since what is found there is compared.
+    /// For each stretch of the image the number of the last block whose payload begins in it: where a look-up begins.
+    /// It may be any number, since what is found there is compared.
     lasts: Vec<u32>,
     /// A stretch is `1 << (shift % 64)` bytes.
     shift: u32,
@@ -53,14 +53,18 @@ impl Blocks {
         ensures found { IfSome result (IsRow self.now.entries target) }
         ensures none { IfNone result (block_at self.now.entries target ≡ None) }
     {
+        let rows = self.rows.as_slice();
         let stretch = self.stretch(target);
-        if stretch < self.lasts.len() {
-            let last = self.lasts[stretch] as usize;
-            if let Some(number) = near(self.rows.as_slice(), last, target) {
-                return Some(number);
-            }
+        let last = if stretch < self.lasts.len() {
+            self.lasts[stretch] as usize
+        } else {
+            rows.len()
+        };
+        if let Some(number) = near(rows, last, target) {
+            return Some(number);
         }
-        halved(self.rows.as_slice(), target)
+        let (low, high) = bounds(rows, last, target);
+        halved(rows, low, high, target)
     }
 
     /// The block whose payload begins at `target`. The caller counts it.

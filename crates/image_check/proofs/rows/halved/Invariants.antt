@@ -1,5 +1,5 @@
 use Rattle.std.proofs.Common.{◌-◌}
-use Rattle.image_check.proofs.Numbered.{IsBetween}
+use Rattle.image_check.specs.Rows.{IsBetween}
 use Rattle.image_check.proofs.rows.halved.Given as goal
 
 -- what is looked for stands between the two numbers, if anywhere

@@ -90,6 +90,40 @@ front_less (suc n) (x ∷ xs) (y ∷ ys) bx by l = elim (cases_lt x y) [
         → slice_cmp nat_cmp (x ∷ xs) (y ∷ ys) ≡ ordering_then r (slice_cmp nat_cmp xs ys)
     then_rest r e = ap (λ (o : Ordering). ordering_then o (slice_cmp nat_cmp xs ys)) (sym e)
 
+-- and no two names of one length up to n have one front
+pub front_equal : (n : ℕ) (xs ys : List ℕ) → AreBytes xs → AreBytes ys → length xs ≡ length ys → length xs ≤ n
+    → big_from 0 n xs ≡ big_from 0 n ys → slice_cmp nat_cmp xs ys ≡ Equal
+front_equal n [] [] bx by e few l = refl
+front_equal n [] (y ∷ ys) bx by e few l = absurd (omega (arith, e))
+front_equal n (x ∷ xs) [] bx by e few l = absurd (omega (arith, e))
+front_equal zero (x ∷ xs) (y ∷ ys) bx by e few l = absurd (omega (arith, few))
+front_equal (suc n) (x ∷ xs) (y ∷ ys) bx by e few l = elim (cases_lt x y) [
+  | inl before ↦
+      let rises : (x + 1) * 256 ^ n ≤ y * 256 ^ n = mul-le-mul_right (256 ^ n) (omega arith) in
+      let parts : (x + 1) * 256 ^ n ≡ x * 256 ^ n + 1 * 256 ^ n = add-mul x 1 (256 ^ n) in
+      let small = big_from-lt 0 n xs (λ k. bx (suc k)) in
+      absurd (omega (arith, l, first, second, rises, parts, small))
+  | inr not_before ↦ elim (cases_lt y x) [
+    | inl behind ↦
+        let rises : (y + 1) * 256 ^ n ≤ x * 256 ^ n = mul-le-mul_right (256 ^ n) (omega arith) in
+        let parts : (y + 1) * 256 ^ n ≡ y * 256 ^ n + 1 * 256 ^ n = add-mul y 1 (256 ^ n) in
+        let small = big_from-lt 0 n ys (λ k. by (suc k)) in
+        absurd (omega (arith, l, first, second, rises, parts, small))
+    | inr not_behind ↦
+        let level : x ≡ y = omega arith in
+        let worth : x * 256 ^ n ≡ y * 256 ^ n = ap (λ (z : ℕ). z * 256 ^ n) level in
+        ap (λ (o : Ordering). ordering_then o (slice_cmp nat_cmp xs ys)) (sym (nat_cmp_is x y Equal level))
+        ∙ front_equal n xs ys (λ k. bx (suc k)) (λ k. by (suc k)) (omega (arith, e)) (omega (arith, few))
+        (omega (arith, l, first, second, worth))
+  ]
+]
+  where
+    first : big_from 1 n (x ∷ xs) ≡ big_from 0 n xs
+    first = big_from-cons 0 n x xs
+
+    second : big_from 1 n (y ∷ ys) ≡ big_from 0 n ys
+    second = big_from-cons 0 n y ys
+
 pub front_order : (xs ys : List ℕ) → AreBytes xs → AreBytes ys → front xs ≢ front ys
     → nat_cmp (front xs) (front ys) ≡ slice_cmp nat_cmp xs ys
 front_order xs ys bx by apart = elim (cases_lt (front xs) (front ys)) [

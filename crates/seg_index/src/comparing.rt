@@ -84,7 +84,8 @@ fn order_of(heap: &Heap, key: Key<'_>, front: u64, handle: u64) -> Ordering
     }
 }
 
-/// The same of a name: where the two begin alike, all their bytes are compared.
+/// The same of a name. Names of one length, of at most eight bytes, that begin alike are equal; of others that begin alike
+/// all bytes are compared.
 fn order_of_name(heap: &Heap, name: &[u8], front: u64, handle: u64) -> Ordering
     requires heap { IsHeap current heap.now.bytes }
     requires room { IsTrue (has_room (live_of heap.now.bytes) handle (16 + name_len_at (bytes_of heap.now.bytes) handle)) }
@@ -97,6 +98,9 @@ fn order_of_name(heap: &Heap, name: &[u8], front: u64, handle: u64) -> Ordering
     let begun = front_at(heap, handle);
     if begun != front {
         return begun.cmp(&front);
+    }
+    if found.len() == name.len() && name.len() <= 8 {
+        return Ordering::Equal;
     }
     found.cmp(name)
 }

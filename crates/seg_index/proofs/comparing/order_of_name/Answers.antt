@@ -1,12 +1,13 @@
 -- Where the fronts differ, the names stand as they do.
-use Rattle.std.proofs.Common.{◌≡◌, ◌≢◌, ◌∙◌, sym, ap₂, subst, ℕ, List}
+use Rattle.std.proofs.Common.{◌≡◌, ◌≢◌, ◌≤◌, ◌∙◌, sym, ap, ap₂, subst, arith, ℕ, List, length}
+use Rattle.std.specs.declared.cmp.Ordering.TheVariants.{Equal}
 use Rattle.std.specs.Cmp.Lexicographic.{slice_cmp}
 use Rattle.std.specs.Ordering.{nat_cmp}
 use Rattle.std.specs.declared.cmp.Ordering.{Ordering}
 use Rattle.raw_region.specs.Memory.{bytes_of}
 use Rattle.seg_index.specs.Beginnings.{AreBytes, front}
 use Rattle.seg_index.specs.Keys.{name_at}
-use Rattle.seg_index.proofs.Begun.{front_order}
+use Rattle.seg_index.proofs.Begun.{front_equal, front_order}
 use Rattle.seg_index.proofs.comparing.order_of_name.Goals as goal
 
 apart : (xs ys : List ℕ) (f g : ℕ) (r : Ordering) → AreBytes xs → AreBytes ys → f ≡ front xs → g ≡ front ys → f ≢ g
@@ -20,3 +21,16 @@ returns-then-begun-front c =
     apart there c.args.name.now c.front_at-begun.result c.args.front c.cmp.result
     (subst AreBytes c.name_of-found.ensures c.hold_bytes.ensures) c.hold_bytes-2.ensures c.front_at-begun.ensures
     c.requires.front c.if-begun-front.true c.cmp.ensures
+
+alike : (xs ys : List ℕ) (f g : ℕ) → AreBytes xs → AreBytes ys → f ≡ front xs → g ≡ front ys → f ≡ g
+    → length xs ≡ length ys → length ys ≤ 8 → Equal ≡ slice_cmp nat_cmp xs ys
+alike xs ys f g bx by e e' same long few =
+    sym (front_equal 8 xs ys bx by long (omega (arith, long, few)) (sym e ∙ same ∙ e'))
+
+pub returns-then-name-le8 : goal.returns-then-name-le8
+returns-then-name-le8 c =
+    let there = name_at (bytes_of c.args.heap.now.bytes) c.args.handle in
+    let is = ap (λ (l : List ℕ). length l) c.name_of-found.ensures in
+    alike there c.args.name.now c.front_at-begun.result c.args.front
+    (subst AreBytes c.name_of-found.ensures c.hold_bytes.ensures) c.hold_bytes-2.ensures c.front_at-begun.ensures
+    c.requires.front c.if-begun-front.false (omega arith) (omega arith)

@@ -151,6 +151,10 @@ pub fn insert<N: NodesMut>(nodes: &mut N, root: Option<u64>, node: u64) -> Chang
     // there is stay.
     ensures same { SameBesideCells N.Nodes nodes.old nodes.new }
 {
+    // A tree with nothing in it needs no search, as that of the gaps has where there was one.
+    if root.is_none() {
+        return insert_at(nodes, root, None, node);
+    }
     let way = find_way_in(
         &Beside {
             nodes: &*nodes,

@@ -18,7 +18,7 @@ pub no_end-both : (a b : List ℕ) → HasNoEnd a → HasNoEnd b → HasNoEnd (a
 no_end-both [] b p q = q
 no_end-both (c ∷ a) b p q = (p.0, no_end-both a b p.1 q)
 
-word-no_end : (w : List ℕ) → IsWord w → HasNoEnd w
+pub word-no_end : (w : List ℕ) → IsWord w → HasNoEnd w
 word-no_end [] h = tt
 word-no_end (c ∷ cs) h = ((λ e. omega (arith, h.0)), word-no_end cs h.1)
 
@@ -40,10 +40,10 @@ bytes-no_end : (bs : List ℕ) → HasNoEnd (flat_map item_text bs)
 bytes-no_end [] = tt
 bytes-no_end (b ∷ bs) = no_end-both (item_text b) (flat_map item_text bs) (byte-by b ((b == 0x22) || (b == 0x5C)) (between 0x20 0x7E b) refl refl) (bytes-no_end bs)
 
-quoted-no_end : (bs : List ℕ) → HasNoEnd (quoted_text bs)
+pub quoted-no_end : (bs : List ℕ) → HasNoEnd (quoted_text bs)
 quoted-no_end bs = ((λ e. omega arith), no_end-both (flat_map item_text bs) (0x22 ∷ []) (bytes-no_end bs) ((λ e. omega arith), tt))
 
-blanks-no_end : (l : List ℕ) → HasNoEnd l → HasNoEnd (0x20 ∷ 0x20 ∷ l)
+pub blanks-no_end : (l : List ℕ) → HasNoEnd l → HasNoEnd (0x20 ∷ 0x20 ∷ l)
 blanks-no_end l h = ((λ e. omega arith), ((λ e. omega arith), h))
 
 -- ---- elements
@@ -70,10 +70,10 @@ pub element-lines : (k : ScalarKind) (zs : List ℤ) → IsLines (length zs) (fl
 element-lines k zs =
     each-line (element_line k) (λ z. 0x20 ∷ 0x20 ∷ value_text k z) (λ z. blanks-no_end (value_text k z) (word-no_end (value_text k z) (value-word k z))) (λ z. refl) zs
 
-abbrev pair_front : ScalarKind → ScalarKind → ℤ × ℤ → List ℕ
+abbrev pub pair_front : ScalarKind → ScalarKind → ℤ × ℤ → List ℕ
 pair_front k v p = 0x20 ∷ 0x20 ∷ value_text k p.0 ++ 0x20 ∷ value_text v p.1
 
-pair-no_end : (k v : ScalarKind) (p : ℤ × ℤ) → HasNoEnd (pair_front k v p)
+pub pair-no_end : (k v : ScalarKind) (p : ℤ × ℤ) → HasNoEnd (pair_front k v p)
 pair-no_end k v p =
     no_end-both (0x20 ∷ 0x20 ∷ value_text k p.0) (0x20 ∷ value_text v p.1) (blanks-no_end (value_text k p.0) (word-no_end (value_text k p.0) (value-word k p.0)))
     ((λ e. omega arith), word-no_end (value_text v p.1) (value-word v p.1))
@@ -83,11 +83,11 @@ pair-lines k v ps = each-line (pair_line k v) (pair_front k v) (pair-no_end k v)
 
 -- ---- pieces of a text
 
-lead-no_end : (i : ℕ) → HasNoEnd (piece_lead i)
+pub lead-no_end : (i : ℕ) → HasNoEnd (piece_lead i)
 lead-no_end zero = ((λ e. omega arith), tt)
 lead-no_end (suc i) = ((λ e. omega arith), ((λ e. omega arith), ((λ e. omega arith), ((λ e. omega arith), tt))))
 
-abbrev piece_front : List ℕ → ℕ → List ℕ
+abbrev pub piece_front : List ℕ → ℕ → List ℕ
 piece_front bs i = piece_lead i ++ quoted_text (piece_of bs i)
 
 abbrev piece_fronts : List ℕ → ℕ → List (List ℕ)

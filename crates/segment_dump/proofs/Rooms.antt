@@ -6,6 +6,8 @@ use Rattle.std.proofs.lemmas.Bool.{and_parts}
 use Rattle.std.proofs.lemmas.Bool.Decides.{nat_tests}
 use Rattle.best_fit.specs.Extents.{Extent, end_of, holds, is_block, is_hole, proper_from}
 use Rattle.best_fit.specs.Fit.{insert, room}
+-- all bytes of some blocks
+unfoldable pub use Rattle.segment_dump.specs.Building.{total}
 
 -- ---- one block
 
@@ -37,10 +39,6 @@ pub held-fits : (x : Extent) (n : ℕ) → IsLong x → holds x n ≡ true → r
 held-fits x n l e = room-fits n x.len (le-test (n + 16) x.len e) l.least l.even
 
 -- ---- all blocks
-
-unfoldable pub total : List Extent → ℕ
-total [] = 0
-total (x ∷ xs) = x.len + total xs
 
 pub total-append : (xs ys : List Extent) → total (xs ++ ys) ≡ total xs + total ys
 unfolding total

@@ -1,16 +1,41 @@
 -- How far a text was written that is known before.
-use Rattle.std.specs.Prelude.{◌≡◌, ℕ, List}
+use Rattle.std.specs.Prelude.{◌≡◌, ◌≢◌, ◌≤◌, ⊤, ℕ, Option, Some, None, List, ◌∷◌, ◌++◌, length, take, drop, option_to_list}
+use Rattle.raw_region.specs.Device.{Took}
 use Rattle.segment_manager.specs.Directory.{Directory}
 use Rattle.segment_manager.specs.State.{State, StandsFor}
 use Rattle.segment_dump.specs.Items.{portable}
 use Rattle.segment_dump.specs.Texts.{dump_text}
 
--- the text, how many bytes of it were written, and how many writes were refused
+-- the text, how many bytes of it were written, then the first byte that was another, and how many writes were refused
 pub record Compared : Type 0 where
   pub text : List ℕ
   pub at : ℕ
+  pub other : Option ℕ
   pub failures : ℕ
+
+-- what was taken
+abbrev pub taken : Compared → List ℕ
+taken a = take a.at a.text ++ option_to_list a.other
+
+-- What it did so far, said behind its text: so whoever writes to it leaves it its text.
+abbrev pub compared : Compared → Took
+compared a = record { bytes = length a.text ∷ a.text ++ taken a; failures = a.failures }
+
+-- these bytes do not go on with the byte, if there is one
+abbrev pub IsOther : List ℕ → Option ℕ → Type 0
+IsOther behind None = ⊤
+IsOther behind (Some b) = (rest : List ℕ) → behind ≢ b ∷ rest
+
+-- nothing is refused before a byte is another
+pub record IsComparing (a : Compared) : Type 0 where
+  pub inside : a.at ≤ length a.text
+  pub other : IsOther (drop a.at a.text) a.other
+  pub failed : a.other ≡ None → a.failures ≡ 0
 
 -- of each directory that the segment's bytes denote the text is the dump, with this size in it
 pub record IsDumpOf (s : State) (size : ℕ) (text : List ℕ) : Type 0 where
   pub is : (d : Directory) → StandsFor s.cut.bytes d → text ≡ dump_text size (portable d)
+
+-- of none is it the dump
+pub record IsNoDumpOf (s : State) (size : ℕ) (text : List ℕ) : Type 0 where
+  pub is_not : (d : Directory) → StandsFor s.cut.bytes d → text ≢ dump_text size (portable d)

@@ -11,3 +11,7 @@ pub mod Reads
 pub mod Leads
 pub mod Need
 pub mod Counting
+pub mod Lines
+pub mod Building
+pub mod Filling
+pub mod Builders

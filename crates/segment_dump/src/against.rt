@@ -1,73 +1,93 @@
-//! A sink that is given what it should be: it takes bytes as long as they are those of a text.
-ghost use Rattle.std.specs.Prelude.{◌≡◌, ◌+◌, ◌-◌, ◌^◌, ◌<◌, ◌≤◌, ◌++◌, length, take, true, IfOk, OnErr};
+//! A sink that is given what it should be: it takes bytes as long as they are those of a text, and one more.
+ghost use Rattle.std.specs.Prelude.{◌≡◌, ◌+◌, ◌-◌, ◌^◌, ◌<◌, ◌≤◌, ◌++◌, ◌↔◌, length, take, drop, true, IsTrue, slice_get, None, Some, OnErr};
 ghost use Rattle.std.specs.Bool.{OnTrue};
-ghost use Rattle.raw_region.specs.Answers.{write_failures_in};
+ghost use Rattle.segment_dump.specs.Comparing.{IsComparing, IsOther, compared, taken};
 
 use raw_region::{DeviceFault, Sink};
 use std::marker::Model;
 
-/// A sink that takes what a text says, from its first byte on, and fails where anything else is written, or more.
+/// A sink that takes what a text says, from its first byte on, and the first byte that is another. Then it fails.
 #[derive(Drop)]
 pub struct Against<'a> {
     text: &'a [u8],
     at: usize,
-    // How many bytes were alike when a write was refused.
-    like: usize,
+    // The byte that is not the next one of the text.
+    other: Option<u8>,
     failures: u64,
 }
 
 impl<'a> Model for Against<'a> {
-    ghost use Rattle.std.specs.Prelude.{◌≤◌, length};
-    ghost use Rattle.segment_dump.specs.Comparing.{Compared};
+    ghost use Rattle.segment_dump.specs.Comparing.{Compared, IsComparing};
 
     ghost Value = { Compared };
 
-    ghost view = { λ a. record { text = a.text.now; at = a.at; failures = a.failures } };
+    ghost view = { λ a. record { text = a.text.now; at = a.at; other = a.other; failures = a.failures } };
 
-    ghost invariant = { λ a. a.at ≤ length a.text.now };
+    ghost invariant = { λ a. IsComparing (record { text = a.text.now; at = a.at; other = a.other; failures = a.failures }) };
 }
 
 impl<'a> Against<'a> {
     /// It has taken nothing of the text.
     pub fn new(text: &'a [u8]) -> Against<'a>
-        ensures { result ≡ record { text = text.now; at = 0; failures = 0 } }
+        ensures { result ≡ record { text = text.now; at = 0; other = None; failures = 0 } }
     {
         Against {
             text,
             at: 0,
-            like: 0,
+            other: None,
             failures: 0,
         }
     }
 
     /// How many bytes of the text, from the first on, are those that were to be written.
-    pub fn alike(&self) -> usize {
-        self.like.max(self.at)
+    pub fn alike(&self) -> usize
+        ensures { IsComparing self.now }
+    {
+        self.at
     }
 
-    /// Whether it has taken all of a text, which is its own.
-    pub fn has_all(&self, text: &[u8]) -> bool
-        ensures { OnTrue result (take self.now.at self.now.text ≡ text.now) }
+    /// Whether it has taken all of its text, and nothing else.
+    pub fn has_all(&self) -> bool
+        ensures all { OnTrue result (taken self.now ≡ self.now.text) }
+        ensures known { IsComparing self.now }
+        ensures always { taken self.now ≡ self.now.text → result ≡ true }
     {
-        let taken = &self.text[..self.at];
-        are_same(taken, text)
+        self.other.is_none() && self.at == self.text.len()
+    }
+
+    /// Takes bytes up to the first that is another.
+    fn take_other(&mut self, bytes: &[u8]) -> usize
+        requires { self.old.other ≡ None }
+        ensures count { result ≤ length bytes.now }
+        ensures some { 0 < length bytes.now → 0 < result }
+        ensures bytes { compared self.new ≡ record { bytes = (compared self.old).bytes ++ take result bytes.now; failures = self.old.failures } }
+    {
+        let (_, behind) = self.text.split_at(self.at);
+        let count = common(behind, bytes);
+        self.at += count;
+        if count == bytes.len() {
+            return count;
+        }
+        self.other = Some(bytes[count]);
+        count + 1
     }
 }
 
 impl<'a> Sink for Against<'a> {
-    ghost use Rattle.std.specs.Prelude.{take};
+    ghost use Rattle.segment_dump.specs.Comparing.{compared};
 
-    ghost history = { λ a. record { bytes = take a.at a.text; failures = a.failures } };
+    ghost history = { compared };
 
     fn write(&mut self, bytes: &[u8]) -> Result<usize, DeviceFault> {
-        if !goes_on(self.text, self.at, bytes) {
-            let (_, behind) = self.text.split_at(self.at);
-            self.like = self.at.saturating_add(common(behind, bytes));
+        if self.other.is_some() {
             self.failures += 1;
             return Err(DeviceFault);
         }
-        self.at += bytes.len();
-        Ok(bytes.len())
+        if goes_on(self.text, self.at, bytes) {
+            self.at += bytes.len();
+            return Ok(bytes.len());
+        }
+        Ok(self.take_other(bytes))
     }
 }
 
@@ -93,9 +113,17 @@ fn are_same(some: &[u8], other: &[u8]) -> bool
 }
 
 /// How many bytes two slices have in common, from the first on.
-fn common(some: &[u8], other: &[u8]) -> usize {
+fn common(some: &[u8], other: &[u8]) -> usize
+    ensures some { result ≤ length some.now }
+    ensures other { result ≤ length other.now }
+    ensures same { take result some.now ≡ take result other.now }
+    ensures differs { IsOther (drop result some.now) (slice_get other.now result) }
+{
     'bytes: for index in 0..some.len() {
-        if index >= other.len() || some[index] != other[index] {
+        if index >= other.len() {
+            return index;
+        }
+        if some[index] != other[index] {
             return index;
         }
     }

@@ -1,12 +1,20 @@
 //! Objects made of the lines of a dump. Nothing here is believed: the segment that comes out is compared with the whole text.
-ghost use Rattle.std.specs.Prelude.{⊤};
+ghost use Rattle.std.specs.Prelude.{◌≡◌, ◌≤◌, ◌↔◌, ⊤, length, option_map, IsTrue, Some, None, if◌then◌else◌};
+ghost use Rattle.raw_region.specs.Format.{current};
+ghost use Rattle.seg_types.specs.Commands.{Construct};
+ghost use Rattle.seg_types.specs.Keys.{name_seen};
+ghost use Rattle.seg_types.specs.Names.{is_name};
+ghost use Rattle.segment_lang.specs.Seen.{bytes_said};
 ghost use Rattle.seg_types.specs.declared.kinds.Kind.{Kind as AnyKind};
+ghost use Rattle.seg_types.specs.declared.kinds.Kind.TheVariants.{Scalar as ScalarOf, Vector as VectorOf};
+ghost use Rattle.segment_manager.specs.State.{IsStep, handle_answer};
+ghost use Rattle.segment_dump.specs.Builders.{Builds, BuildsObject, IsCountOf, IsGone, ReadsClass, ReadsShape, StartsNamed, StartsNext, StartsUnder, first_content};
 
 use crate::faults::{DumpFault, Misfit};
-use crate::filling_texts::{fill_string, fill_strings};
+use crate::filling::fill;
 use crate::reading::{Lines, Words};
-use seg_types::{Handle, Key, Kind, Name, Refusal, ScalarKind, ScalarValue};
-use segment_lang::{Text, Word};
+use seg_types::{Class, Handle, Kind, Name, Refusal, ScalarKind};
+use segment_lang::{Text, Word, numbers_are_decimals, texts_are_spelled};
 use segment_manager::{AnonymousInstance, Destination, Segment, UniqueInstance};
 
 /// Why building stops.
@@ -45,7 +53,9 @@ pub fn build(
     lines: &mut Lines<'_>,
     room: &mut [u8],
     most: usize,
-) -> Result<(), Stop> {
+) -> Result<(), Stop>
+    ensures { Builds segment.old segment.new lines.old most (length room.old) result }
+{
     let mut scratch = Text::new();
     'objects: for _ in 0..most {
         let mut words = lines.next_line()?;
@@ -58,7 +68,9 @@ pub fn build(
 }
 
 /// Nothing stands behind the last line.
-fn finish(lines: &Lines<'_>) -> Result<(), Stop> {
+fn finish(lines: &Lines<'_>) -> Result<(), Stop>
+    ensures { IsGone lines.now result }
+{
     if lines.is_empty() {
         return Ok(());
     }
@@ -83,25 +95,52 @@ fn build_object(
     lines: &mut Lines<'_>,
     room: &mut [u8],
     scratch: &mut Text,
-) -> Result<(), Stop> {
+) -> Result<(), Stop>
+    ensures { BuildsObject segment.old segment.new words.old lines.old lines.new (length room.old) result }
+{
+    let (handle, shape) = start_next(segment, words, scratch)?;
+    fill(segment, handle, shape, lines, room, scratch)
+}
+
+/// Makes the object of a line, with room for its elements and none of them yet, or zeros.
+fn start_next(
+    segment: &mut Segment,
+    words: &mut Words<'_>,
+    scratch: &mut Text,
+) -> Result<(Handle, Shape), Stop>
+    ensures { StartsNext segment.old segment.new words.old result }
+{
+    match next_class(words)? {
+        Class::Named => start_named(segment, words, scratch),
+        Class::Unique => start_under(segment, words, &UniqueInstance),
+        Class::Anonymous => start_under(segment, words, &AnonymousInstance),
+    }
+}
+
+/// The class that comes next.
+fn next_class(words: &mut Words<'_>) -> Result<Class, Misfit>
+    ensures { ReadsClass words.old words.new result }
+{
     let at = words.at();
-    let Word::Bare(class) = words.next_word()? else {
-        return Err(misfit(at, DumpFault::BadSyntax));
-    };
-    let handle = if is(class, b"named") {
-        construct_named(segment, words, scratch)?
-    } else if is(class, b"unique") {
-        construct_under(segment, words, &UniqueInstance)?
-    } else if is(class, b"anonymous") {
-        construct_under(segment, words, &AnonymousInstance)?
+    let word = words.next_bare()?;
+    if is(word, b"named") {
+        Ok(Class::Named)
+    } else if is(word, b"unique") {
+        Ok(Class::Unique)
+    } else if is(word, b"anonymous") {
+        Ok(Class::Anonymous)
     } else {
-        return Err(misfit(at, DumpFault::BadSyntax));
-    };
-    fill(segment, handle.0, handle.1, lines, room, scratch)
+        Err(Misfit {
+            at,
+            cause: DumpFault::BadSyntax,
+        })
+    }
 }
 
 /// Whether a word is this one.
-fn is(word: &[u8], other: &[u8]) -> bool {
+fn is(word: &[u8], other: &[u8]) -> bool
+    ensures { IsTrue result ↔ (word.now ≡ other.now) }
+{
     word == other
 }
 
@@ -111,43 +150,58 @@ pub fn misfit(at: usize, cause: DumpFault) -> Stop {
 }
 
 /// Makes an object under the name that comes next.
-fn construct_named(
+fn start_named(
     segment: &mut Segment,
     words: &mut Words<'_>,
     scratch: &mut Text,
-) -> Result<(Handle, Shape), Stop> {
+) -> Result<(Handle, Shape), Stop>
+    ensures { StartsNamed segment.old segment.new words.old result }
+{
+    texts_are_spelled();
     let at = words.at();
-    match words.next_word()? {
-        Word::Bare(bytes) => match Name::new(bytes) {
-            Some(name) => construct_under(segment, words, &name),
-            None => Err(misfit(at, DumpFault::BadName)),
-        },
-        Word::Text(text) => match text.to_name(scratch) {
-            Some(name) => construct_under(segment, words, &name),
-            None => Err(misfit(at, DumpFault::BadName)),
-        },
+    let word = words.next_word()?;
+    match name_of(word, scratch) {
+        Some(name) => start_under(segment, words, &name),
+        None => Err(misfit(at, DumpFault::BadName)),
+    }
+}
+
+/// The name that a word stands for, or `None` where it stands for none.
+fn name_of<'a>(word: Word<'a>, scratch: &'a mut Text) -> Option<Name<'a>>
+    ensures { option_map name_seen result ≡ (if is_name current (bytes_said word.entry) then Some (bytes_said word.entry) else None) }
+{
+    match word {
+        Word::Bare(bytes) => Name::new(bytes),
+        Word::Text(text) => text.to_name(scratch),
     }
 }
 
 /// Makes an object of the kind and the count that come next, with room for its elements and none of them yet, or zeros.
-fn construct_under<D: Destination>(
+fn start_under<D: Destination>(
     segment: &mut Segment,
     words: &mut Words<'_>,
     under: &D,
 ) -> Result<(Handle, Shape), Stop>
     requires { (kind : AnyKind) → D.suits under.now kind }
+    ensures { StartsUnder segment.old segment.new (D.key under.now) words.old result }
 {
-    let at = words.at();
-    let shape = Shape {
-        kind: words.next_kind()?,
-        count: words.next_number()?,
-        at,
-    };
-    words.finish()?;
+    let shape = next_shape(words)?;
     match construct(segment, under, shape) {
         Ok(handle) => Ok((handle, shape)),
-        Err(why) => Err(stop_of(why, at)),
+        Err(why) => Err(stop_of(why, shape.at)),
     }
+}
+
+/// The kind and the count that come next, and no more.
+fn next_shape(words: &mut Words<'_>) -> Result<Shape, Misfit>
+    ensures { ReadsShape words.old result }
+{
+    numbers_are_decimals();
+    let at = words.at();
+    let kind = words.next_kind()?;
+    let count = words.next_number()?;
+    words.finish()?;
+    Ok(Shape { kind, count, at })
 }
 
 /// Why an object is not made, or not filled.
@@ -166,6 +220,7 @@ fn construct<D: Destination>(
     shape: Shape,
 ) -> Result<Handle, Refusal>
     requires { (kind : AnyKind) → D.suits under.now kind }
+    ensures { IsCountOf shape.kind shape.count → IsStep segment.old segment.new (Construct (D.key under.now shape.kind) (first_content shape.kind shape.count)) (handle_answer result) }
 {
     match shape.kind {
         Kind::Scalar(kind) => construct_scalars(segment, under, kind, shape.count),
@@ -184,6 +239,7 @@ fn construct_scalars<D: Destination>(
     count: u64,
 ) -> Result<Handle, Refusal>
     requires { (kind : AnyKind) → D.suits under.now kind }
+    ensures { IsCountOf (ScalarOf kind) count → IsStep segment.old segment.new (Construct (D.key under.now (ScalarOf kind)) (first_content (ScalarOf kind) count)) (handle_answer result) }
 {
     if count < 1 || count > 1048576 {
         return Err(Refusal::OutOfRange);
@@ -205,6 +261,7 @@ fn construct_vector<D: Destination>(
     kind: ScalarKind,
 ) -> Result<Handle, Refusal>
     requires { (kind : AnyKind) → D.suits under.now kind }
+    ensures { IsStep segment.old segment.new (Construct (D.key under.now (VectorOf kind)) (first_content (VectorOf kind) 0)) (handle_answer result) }
 {
     match kind {
         ScalarKind::Bool => segment.construct_vec::<bool, D>(under, &[]),
@@ -213,120 +270,4 @@ fn construct_vector<D: Destination>(
         ScalarKind::I64 => segment.construct_vec::<i64, D>(under, &[]),
         ScalarKind::U64 => segment.construct_vec::<u64, D>(under, &[]),
     }
-}
-
-/// Fills an object with what the next lines say.
-fn fill(
-    segment: &mut Segment,
-    handle: Handle,
-    shape: Shape,
-    lines: &mut Lines<'_>,
-    room: &mut [u8],
-    scratch: &mut Text,
-) -> Result<(), Stop> {
-    match shape.kind {
-        Kind::Scalar(kind) => fill_scalars(segment, handle, kind, shape.count, lines),
-        Kind::Vector(kind) => fill_vector(segment, handle, kind, shape, lines),
-        Kind::Text => fill_string(segment, handle, lines, scratch),
-        Kind::Texts => fill_strings(segment, handle, shape, lines, room, scratch),
-        Kind::Map(keys, values) => fill_map(segment, handle, keys, values, shape.count, lines),
-    }
-}
-
-/// The value that the next line is, alone.
-fn next_value(lines: &mut Lines<'_>, kind: ScalarKind) -> Result<ScalarValue, Stop> {
-    let mut words = lines.next_line()?;
-    let value = words.next_value(kind)?;
-    words.finish()?;
-    Ok(value)
-}
-
-/// Makes values those of an array.
-fn fill_scalars(
-    segment: &mut Segment,
-    handle: Handle,
-    kind: ScalarKind,
-    count: u64,
-    lines: &mut Lines<'_>,
-) -> Result<(), Stop> {
-    'values: for index in 0..count {
-        let at = lines.at();
-        let value = next_value(lines, kind)?;
-        if let Err(why) = set_value(segment, handle, index, value) {
-            return Err(stop_of(why, at));
-        }
-    }
-    Ok(())
-}
-
-/// Makes a value the element at an index of an array.
-fn set_value(
-    segment: &mut Segment,
-    handle: Handle,
-    index: u64,
-    value: ScalarValue,
-) -> Result<(), Refusal> {
-    let key = Key::Handle(handle);
-    match value {
-        ScalarValue::Bool(truth) => segment.set(&key, index, truth),
-        ScalarValue::U8(number) => segment.set(&key, index, number),
-        ScalarValue::I32(number) => segment.set(&key, index, number),
-        ScalarValue::I64(number) => segment.set(&key, index, number),
-        ScalarValue::U64(number) => segment.set(&key, index, number),
-    }
-}
-
-/// Puts values into a vector, with places for just as many.
-fn fill_vector(
-    segment: &mut Segment,
-    handle: Handle,
-    kind: ScalarKind,
-    shape: Shape,
-    lines: &mut Lines<'_>,
-) -> Result<(), Stop> {
-    if let Err(why) = segment.reserve(&Key::Handle(handle), shape.count) {
-        return Err(stop_of(why, shape.at));
-    }
-    'values: for _ in 0..shape.count {
-        let at = lines.at();
-        let value = next_value(lines, kind)?;
-        if let Err(why) = push_value(segment, handle, value) {
-            return Err(stop_of(why, at));
-        }
-    }
-    Ok(())
-}
-
-/// Puts a value behind the elements of a vector.
-fn push_value(segment: &mut Segment, handle: Handle, value: ScalarValue) -> Result<(), Refusal> {
-    let key = Key::Handle(handle);
-    match value {
-        ScalarValue::Bool(truth) => segment.vec_push(&key, truth),
-        ScalarValue::U8(number) => segment.vec_push(&key, number),
-        ScalarValue::I32(number) => segment.vec_push(&key, number),
-        ScalarValue::I64(number) => segment.vec_push(&key, number),
-        ScalarValue::U64(number) => segment.vec_push(&key, number),
-    }
-}
-
-/// Puts pairs into a map.
-fn fill_map(
-    segment: &mut Segment,
-    handle: Handle,
-    keys: ScalarKind,
-    values: ScalarKind,
-    count: u64,
-    lines: &mut Lines<'_>,
-) -> Result<(), Stop> {
-    'pairs: for _ in 0..count {
-        let at = lines.at();
-        let mut words = lines.next_line()?;
-        let key = words.next_value(keys)?;
-        let value = words.next_value(values)?;
-        words.finish()?;
-        if let Err(why) = segment.map_put_any(&Key::Handle(handle), key, value) {
-            return Err(stop_of(why, at));
-        }
-    }
-    Ok(())
 }

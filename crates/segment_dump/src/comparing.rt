@@ -1,6 +1,6 @@
 //! Whether a text is the dump of a segment.
-ghost use Rattle.std.specs.Prelude.{OnOk};
-ghost use Rattle.segment_dump.specs.Comparing.{IsDumpOf};
+ghost use Rattle.std.specs.Prelude.{OnErr, OnOk};
+ghost use Rattle.segment_dump.specs.Comparing.{IsDumpOf, IsNoDumpOf};
 
 use crate::against::Against;
 use crate::dumping::dump_as;
@@ -12,12 +12,13 @@ use segment_manager::Segment;
 ///
 /// Where it is not: how many of its bytes, from the first on, are those of the segment. No clause says that number.
 pub fn compare(segment: &Segment, size: u64, text: &[u8]) -> Result<(), usize>
-    ensures { OnOk result (IsDumpOf segment.now size text.now) }
+    ensures same { OnOk result (IsDumpOf segment.now size text.now) }
+    ensures other { OnErr result (IsNoDumpOf segment.now size text.now) }
 {
     let mut out = Against::new(text);
     match dump_as(segment, size, &mut out) {
         Ok(()) => {
-            if out.has_all(text) {
+            if out.has_all() {
                 Ok(())
             } else {
                 Err(out.alike())

@@ -1,12 +1,15 @@
 //! Texts made of the lines of a dump.
-ghost use Rattle.std.specs.Prelude.{◌≤◌, length, IfOk};
+ghost use Rattle.std.specs.Prelude.{◌≡◌, ◌+◌, ◌-◌, ◌/◌, ◌≤◌, ◌++◌, ℕ, length, take, IfOk};
+ghost use Rattle.seg_types.specs.declared.kinds.Kind.TheVariants.{Text as TextKind, Texts as TextsKind};
+ghost use Rattle.segment_dump.specs.Builders.{AddsElement, AppendsPiece, Collects, CopiesPiece, FillsNew, ReadsLength, ReadsPiece};
 
-use crate::building::{Shape, Stop, misfit, stop_of};
-use crate::faults::DumpFault;
+use crate::building::{Stop, stop_of};
+use crate::faults::Misfit;
+use crate::filling::ended;
 use crate::reading::{Lines, Words};
 use crate::texts::PIECE;
 use seg_types::{Handle, Key};
-use segment_lang::Text;
+use segment_lang::{Quoted, Text, numbers_are_decimals, texts_are_spelled};
 use segment_manager::Segment;
 
 /// Makes the text of the next lines that of a string, with places for just as many bytes.
@@ -15,10 +18,11 @@ pub fn fill_string(
     handle: Handle,
     lines: &mut Lines<'_>,
     scratch: &mut Text,
-) -> Result<(), Stop> {
-    let mut words = lines.next_line()?;
-    let at = words.at();
-    let len = words.next_number()?;
+) -> Result<(), Stop>
+    ensures { (room : ℕ) → FillsNew segment.old segment.new handle TextKind 1 lines.old lines.new room result }
+{
+    let at = lines.at();
+    let (mut words, len) = first_line(lines)?;
     if let Err(why) = segment.reserve(&Key::Handle(handle), len) {
         return Err(stop_of(why, at));
     }
@@ -31,8 +35,31 @@ pub fn fill_string(
 }
 
 /// How many pieces of a text stand in lines of their own.
-fn pieces_behind(len: u64) -> u64 {
+fn pieces_behind(len: u64) -> u64
+    ensures { result ≡ (len - 1) / 1000 }
+{
     len.saturating_sub(1) / PIECE as u64
+}
+
+/// The line that a text begins with, from its first piece on, and the length of the text.
+fn first_line<'a>(lines: &mut Lines<'a>) -> Result<(Words<'a>, u64), Misfit>
+    ensures { ReadsLength lines.old lines.new result }
+{
+    numbers_are_decimals();
+    let mut words = lines.next_line()?;
+    let len = words.next_number()?;
+    Ok((words, len))
+}
+
+/// The piece of a text that is alone in a line.
+fn last_text<'a>(words: &mut Words<'a>) -> Result<Quoted<'a>, Misfit>
+    ensures short { IfOk result (λ text. length text ≤ 4096) }
+    ensures piece { ReadsPiece words.old result }
+{
+    texts_are_spelled();
+    let piece = words.next_text()?;
+    words.finish()?;
+    Ok(piece)
 }
 
 /// Adds the piece of a text that is alone in a line to a string.
@@ -41,45 +68,38 @@ fn append_piece(
     handle: Handle,
     words: &mut Words<'_>,
     scratch: &mut Text,
-) -> Result<(), Stop> {
+) -> Result<(), Stop>
+    ensures { AppendsPiece segment.old segment.new handle words.old result }
+{
     let at = words.at();
-    let piece = words.next_text()?;
-    words.finish()?;
-    match segment.string_append(&Key::Handle(handle), piece.bytes(scratch)) {
-        Ok(()) => Ok(()),
-        Err(why) => Err(stop_of(why, at)),
-    }
+    let piece = last_text(words)?;
+    ended(
+        segment.string_append(&Key::Handle(handle), piece.bytes(scratch)),
+        at,
+    )
 }
 
-/// Puts the texts of the next lines into a vector of strings, with places for just as many.
-pub fn fill_strings(
+/// Puts the text of the next lines behind those of a vector of strings.
+pub fn push_text(
     segment: &mut Segment,
     handle: Handle,
-    shape: Shape,
     lines: &mut Lines<'_>,
     room: &mut [u8],
     scratch: &mut Text,
-) -> Result<(), Stop> {
-    let key = Key::Handle(handle);
-    if let Err(why) = segment.reserve(&key, shape.count) {
-        return Err(stop_of(why, shape.at));
-    }
-    'texts: for _ in 0..shape.count {
-        let at = lines.at();
-        let len = collect(lines, room, scratch)?;
-        if let Err(why) = segment.texts_push(&key, &room[..len]) {
-            return Err(stop_of(why, at));
-        }
-    }
-    Ok(())
+) -> Result<(), Stop>
+    ensures { (index : ℕ) → AddsElement segment.old segment.new handle TextsKind index lines.old lines.new (length room.old) result }
+{
+    let at = lines.at();
+    let len = collect(lines, room, scratch)?;
+    ended(segment.texts_push(&Key::Handle(handle), &room[..len]), at)
 }
 
 /// Collects the text of the next lines in the front of the room, and answers how many bytes it has.
 fn collect(lines: &mut Lines<'_>, room: &mut [u8], scratch: &mut Text) -> Result<usize, Stop>
-    ensures { IfOk result (λ n. n ≤ length room.new) }
+    ensures inside { IfOk result (λ n. n ≤ length room.new) }
+    ensures text { Collects lines.old lines.new room.old room.new result }
 {
-    let mut words = lines.next_line()?;
-    let len = words.next_number()?;
+    let (mut words, len) = first_line(lines)?;
     let mut filled = copy_piece(&mut words, room, 0, scratch)?;
     'pieces: for _ in 0..pieces_behind(len) {
         let mut words = lines.next_line()?;
@@ -96,16 +116,23 @@ fn copy_piece(
     scratch: &mut Text,
 ) -> Result<usize, Stop>
     requires { from ≤ length room.old }
-    ensures { IfOk result (λ n. n ≤ length room.new) }
+    ensures inside { IfOk result (λ n. n ≤ length room.new) }
+    ensures piece { CopiesPiece words.old room.old room.new from result }
 {
     let at = words.at();
-    let piece = words.next_text()?;
-    words.finish()?;
+    let piece = last_text(words)?;
     let bytes = piece.bytes(scratch);
     if room.len() - from < bytes.len() {
         return Err(Stop::LongText(at));
     }
-    let end = from + bytes.len();
-    room[from..end].copy_from_slice(bytes);
-    Ok(end)
+    put_at(room, from, bytes);
+    Ok(from + bytes.len())
+}
+
+/// Puts bytes into the room, behind so many.
+fn put_at(room: &mut [u8], from: usize, bytes: &[u8])
+    requires { from + length bytes.now ≤ length room.old }
+    ensures { take (from + length bytes.now) room.new ≡ take from room.old ++ bytes.now }
+{
+    room[from..from + bytes.len()].copy_from_slice(bytes);
 }

@@ -9,6 +9,7 @@ mod counting;
 mod dumping;
 mod entries;
 mod faults;
+mod filling;
 mod filling_texts;
 mod front_reading;
 mod loading;

@@ -1,0 +1,260 @@
+-- What the steps lead to by which an object comes to be, and how the objects of a segment are those of a dump in the end.
+use Rattle.std.proofs.Common.{◌≡◌, ◌≢◌, ℕ, suc, ◌+◌, ◌-◌, ◌*◌, ◌<◌, ◌≤◌, ◌==◌, ◌&&◌, ℤ, pos, Bool, true, false, nat_le, nat_lt, cond, List, [], ◌∷◌, ◌++◌, length, map, replicate, Option, Some, None, Result, if◌then◌else◌, refl, sym, ap, subst, ◌∙◌, arith, append_assoc, zero-add}
+use Rattle.std.specs.Prelude.{IsTrue, find, filter, flat_map, fold, option_to_list, ⊤}
+use Rattle.std.specs.List.{AllByRecursion}
+use Rattle.std.proofs.lemmas.Bool.Decides.{nat_tests}
+use Rattle.std.proofs.lemmas.Grind.{flat_map-append}
+use Rattle.std.proofs.lemmas.List.{append-nil, length-append, map-append}
+use Rattle.block_tags.specs.declared.tile.Role.TheVariants.{Index, Object as ObjectRole}
+use Rattle.best_fit.specs.Extents.{Extent, end_of, handle}
+use Rattle.best_fit.specs.Fit.{place, resized, room}
+use Rattle.best_fit.specs.Table.{Table, no_table}
+use Rattle.raw_region.specs.Format.{current}
+use Rattle.seg_types.specs.declared.kinds.Class.{Class}
+use Rattle.seg_types.specs.declared.kinds.Class.TheVariants.{Anonymous, Named, Unique}
+use Rattle.seg_types.specs.declared.kinds.Kind.{Kind}
+use Rattle.seg_types.specs.declared.kinds.Kind.TheVariants as kinds
+use Rattle.seg_types.specs.declared.kinds.ScalarKind.{ScalarKind}
+use Rattle.seg_types.specs.declared.refusals.Refusal.TheVariants.{Exists, NoSpace}
+use Rattle.seg_types.specs.Commands as asked
+use Rattle.seg_types.specs.Names.{Key, ByHandle, ByKind, ByName, NoKey}
+use Rattle.segment_manager.specs.declared.modes.Mode.TheVariants.{Write}
+use Rattle.segment_manager.specs.Answers.{Answer, Done, Made, Refused}
+use Rattle.segment_manager.specs.Directory.{Bytes, Directory, Elements, IsDirectory, Numbers, Object, Pairs, Texts, Value, empty, extents_of, insert_by, is_class, live, named_objects, object_at, object_len, put_object, table_extents, unique_objects, value_extents, with_object}
+use Rattle.segment_manager.specs.Plan.{Plan, Reply, Request, New, bare, class_of, name_of, perform, with_entry, with_new_index, with_new_object, with_value}
+use Rattle.segment_manager.specs.Step.{effect, step}
+use Rattle.segment_manager.proofs.Laws.{AllByRecursion-behind, AllByRecursion-front}
+use Rattle.segment_dump.specs.Building.{EndBy, HasRoom, Head, IsBuilt, IsFilling, Site, all_extents, total}
+use Rattle.segment_dump.specs.Items.{Item, content_of, item_of_object}
+use Rattle.segment_dump.specs.Need.{block_room}
+use Rattle.segment_dump.proofs.Fills.{StepsTo, met-perform}
+use Rattle.segment_dump.proofs.Spaces.{IsRest, IsTaken, block-some, room-taken, room-with}
+use Rattle.segment_dump.proofs.Steps.{put-last, writes}
+
+-- ---- an object is made
+
+-- a content without storage
+pub record IsPlain (content : asked.Content) : Type 0 where
+  pub alone : value_extents (bare content) ≡ []
+  pub plain : (next : Value → Plan) → with_value content next ≡ next (bare content)
+
+pub numbers-plain : (k : ScalarKind) (zs : List ℤ) → IsPlain (asked.Numbers k zs)
+numbers-plain k zs = record { alone = refl; plain = λ next. refl }
+
+pub vector-plain : (k : ScalarKind) → IsPlain (asked.Elements k [])
+vector-plain k = record { alone = refl; plain = λ next. refl }
+
+pub string-plain : IsPlain (asked.Bytes [])
+string-plain = record { alone = refl; plain = λ next. refl }
+
+pub map-plain : (k v : ScalarKind) → IsPlain (asked.NoPairs k v)
+map-plain k v = record { alone = refl; plain = λ next. refl }
+
+pub texts-plain : IsPlain (asked.Strings [])
+texts-plain = record { alone = refl; plain = λ next. refl }
+
+-- the index of the class has a place
+abbrev pub HasEntry : Directory → Class → Type 0
+HasEntry d Anonymous = ⊤
+HasEntry d Named = length (named_objects d) < d.named.capacity
+HasEntry d Unique = length (unique_objects d) < d.unique.capacity
+
+lt-test : (m n : ℕ) → m < n → nat_lt m n ≡ true
+lt-test m n h = grind (arith, nat_tests)
+
+if-true : (b : Bool) (x y : Plan) → b ≡ true → (if b then x else y) ≡ x
+if-true b x y e = ap (λ c. if c then x else y) e
+
+entry-there : (d : Directory) (c : Class) (next : Directory → Plan) → HasEntry d c → with_entry d c next ≡ next d
+entry-there d Anonymous next h = refl
+entry-there d Named next h = if-true (nat_lt (length (named_objects d)) d.named.capacity) (next d) _ (lt-test (length (named_objects d)) d.named.capacity h)
+entry-there d Unique next h = if-true (nat_lt (length (unique_objects d)) d.unique.capacity) (next d) _ (lt-test (length (unique_objects d)) d.unique.capacity h)
+
+all-by : (e : ℕ) (os : List Object) → EndBy e (flat_map extents_of os) → AllByRecursion (λ (p : Object). p.extent.offset ≤ e) os
+all-by e [] h = tt
+all-by e (p ∷ os) h =
+    let own = AllByRecursion-front (λ (x : Extent). end_of x ≤ e) (extents_of p) (flat_map extents_of os) h in
+    (omega (arith, own.0), all-by e os (AllByRecursion-behind (λ (x : Extent). end_of x ≤ e) (extents_of p) (flat_map extents_of os) h))
+
+-- a handle is answered, and the object of it is there, with nothing in it
+pub record IsMade (outcome : Answer × Directory) (site : Site) (done : List Item) (class : Class) (name : List ℕ) (v : Value) (rest : ℕ) : Type 0 where
+  pub handle : ℕ
+  pub next : Directory
+  pub is : outcome ≡ (Made handle, next)
+  pub filling : IsFilling next site done (record { class = class; name = name; handle = handle }) v rest
+
+module _ (d : Directory) (site : Site) (done : List Item) (key : Key) (content : asked.Content) (rest : ℕ) (i : IsDirectory current d) (none : object_at d key ≡ None) (entry : HasEntry d (class_of key)) (p : IsPlain content) where
+  abbrev len : ℕ
+  len = object_len (name_of key) (bare content)
+
+  abbrev object_in : Extent → Object
+  object_in x = record { class = class_of key; name = name_of key; value = bare content; extent = x }
+
+  abbrev reply_with : Object → Directory → Plan
+  reply_with o e = Reply (Made (handle o.extent)) e
+
+  abbrev object_plan : Directory → Plan
+  object_plan e = Request (New ObjectRole len) (λ x. with_value content (λ v. let o : Object = record { class = class_of key; name = name_of key; value = v; extent = x } in reply_with o (with_object e o)))
+
+  asks : effect d (asked.Construct key content) ≡ object_plan d
+  asks =
+      ap (λ (r : Option Object). elim r as (λ _. Plan) [ Some o ↦ Plan.Refuse Exists | None ↦ with_new_object d key content reply_with ]) none
+      ∙ entry-there d (class_of key) object_plan entry
+
+  pub made : 0 < len → IsBuilt d site done (block_room len + rest) → IsRest rest → IsMade (step Write d (asked.Construct key content)) site done (class_of key) (name_of key) (bare content) rest
+  made long b r =
+      let h = b.room in
+      let h' : HasRoom (all_extents d) d.size (room len + rest) =
+      record { end = h.end; start = h.start; below = h.below; full = h.full; room = subst (λ m. h.end + 16 + (m + rest) ≤ d.size) (block-some len long) h.room } in
+      let taken = room-taken d len ObjectRole rest i.proper h' r in
+      let x = taken.extent in
+      let o : Object = object_in x in
+      let fronts : List Extent = flat_map extents_of d.objects in
+      let tables : List Extent = table_extents d.named ++ table_extents d.unique in
+      let before : AllByRecursion (λ (p : Object). p.extent.offset ≤ o.extent.offset) d.objects =
+      subst (λ n. AllByRecursion (λ (p : Object). p.extent.offset ≤ n) d.objects) (sym taken.front) (all-by h.end d.objects (AllByRecursion-front (λ (y : Extent). end_of y ≤ h.end) fronts tables h.below)) in
+      let objects : (with_object d o).objects ≡ d.objects ++ o ∷ [] = put-last o d.objects before in
+      let alone : extents_of o ++ [] ≡ x ∷ [] = append-nil (extents_of o) ∙ ap (λ l. x ∷ l) p.alone in
+      let all : fronts ++ x ∷ tables ≡ all_extents (with_object d o) =
+      sym (ap (λ os. flat_map extents_of os ++ tables) objects ∙ ap (λ l. l ++ tables) (flat_map-append extents_of d.objects (o ∷ []) ∙ ap (λ l. fronts ++ l) alone) ∙ append_assoc fronts (x ∷ []) tables) in
+      record {
+        handle = handle x;
+        next = with_object d o;
+        is = writes d (asked.Construct key content) ∙ ap (perform d (live d)) asks
+            ∙ met-perform d len ObjectRole x (λ x. with_value content (λ v. let o : Object = record { class = class_of key; name = name_of key; value = v; extent = x } in reply_with o (with_object d o))) (Made (handle x)) (with_object d o) taken.is
+            (p.plain (λ v. let o : Object = record { class = class_of key; name = name_of key; value = v; extent = x } in reply_with o (with_object d o)));
+        filling = record {
+          size_is = b.size_is;
+          named = b.named;
+          unique = b.unique;
+          before = d.objects;
+          object = o;
+          objects = objects;
+          items = b.items;
+          class_is = refl;
+          name_is = refl;
+          handle_is = refl;
+          value_is = refl;
+          room = subst (λ xs. HasRoom xs d.size rest) all (room-with fronts tables x d.size (room len + rest) rest h' taken.front taken.fits);
+        };
+      }
+
+-- ---- an object is done
+
+pub built : (d : Directory) (site : Site) (done : List Item) (head : Head) (v : Value) (rest : ℕ) → IsFilling d site done head v rest
+    → IsBuilt d site (done ++ record { class = head.class; name = head.name; content = content_of v } ∷ []) rest
+built d site done head v rest f = record {
+  size_is = f.size_is;
+  named = f.named;
+  unique = f.unique;
+  items = ap (map item_of_object) f.objects ∙ map-append item_of_object f.before (f.object ∷ [])
+      ∙ (λ i. f.items i ++ record { class = f.class_is i; name = f.name_is i; content = content_of (f.value_is i) } ∷ []);
+  room = f.room;
+}
+
+-- ---- the indexes
+
+pub empty-built : (size rest : ℕ) → 144 + rest ≤ size → IsBuilt (empty size) (record { named = 0; unique = 0; size = size }) [] rest
+unfolding total
+empty-built size rest h = record {
+  size_is = refl;
+  named = omega arith;
+  unique = omega arith;
+  items = refl;
+  room = record { end = 128; start = omega arith; below = tt; full = omega arith; room = omega arith };
+}
+
+-- no objects, and an index of names
+abbrev pub fronted : ℕ → Table → Directory
+fronted size t = record { size = size; objects = []; named = t; unique = no_table }
+
+abbrev table_of : ℕ → Extent → Table
+table_of n x = record { capacity = n; extent = Some x }
+
+pub record IsFronted (size n rest : ℕ) (e : Directory) : Type 0 where
+  pub table : Table
+  pub is : e ≡ fronted size table
+  pub built : IsBuilt (fronted size table) (record { named = n; unique = 0; size = size }) [] rest
+
+none-test : (n : ℕ) → n ≡ 0 → nat_le n 0 ≡ true
+none-test n e = grind (arith, nat_tests)
+
+some-test : (n : ℕ) → 0 < n → nat_le n 0 ≡ false
+some-test n h = grind (arith, nat_tests)
+
+no-block : (n rest : ℕ) → n ≡ 0 → block_room (8 * n) + rest ≡ rest
+unfolding block_room
+no-block n rest e = ap (λ m. block_room (8 * m) + rest) e ∙ zero-add rest
+
+-- the same room, for what is left of it
+abbrev room_for : (d : Directory) (n rest : ℕ) → 0 < n → (h : HasRoom (all_extents d) d.size (block_room (8 * n) + rest)) → HasRoom (all_extents d) d.size (room (8 * n) + rest)
+room_for d n rest l h = record { end = h.end; start = h.start; below = h.below; full = h.full; room = subst (λ m. h.end + 16 + (m + rest) ≤ d.size) (block-some (8 * n) (omega arith)) h.room }
+
+module _ (size n rest : ℕ) (i : IsDirectory current (empty size)) (b : IsBuilt (empty size) (record { named = 0; unique = 0; size = size }) [] (block_room (8 * n) + rest)) (r : IsRest rest) where
+  abbrev NamedReserved : Type 0
+  NamedReserved = StepsTo (step Write (empty size) (asked.ReserveNamed n)) Done (IsFronted size n rest)
+
+  abbrev named_plan : Bool → Plan
+  named_plan x = if x then Reply Done (empty size) else Request (New Index (8 * n)) (λ x. Reply Done (fronted size (table_of n x)))
+
+  named-by : (x : Bool) → (n == 0) ≡ x → NamedReserved
+  named-by true e =
+      let z : n ≡ 0 = grind (arith, nat_tests) in
+      record {
+        next = empty size;
+        is = writes (empty size) (asked.ReserveNamed n) ∙ ap (λ x. perform (empty size) (live (empty size)) (named_plan x)) (none-test n z);
+        holds = record {
+          table = no_table;
+          is = refl;
+          built = record { size_is = refl; named = omega (arith, z); unique = omega arith; items = refl; room = subst (λ m. HasRoom [] size m) (no-block n rest z) b.room };
+        };
+      }
+  named-by false e =
+      let l : 0 < n = grind (arith, nat_tests) in
+      let h = room_for (empty size) n rest l b.room in
+      let taken = room-taken (empty size) (8 * n) Index rest i.proper h r in
+      record {
+        next = fronted size (table_of n taken.extent);
+        is = writes (empty size) (asked.ReserveNamed n) ∙ ap (λ x. perform (empty size) (live (empty size)) (named_plan x)) (some-test n l)
+            ∙ met-perform (empty size) (8 * n) Index taken.extent (λ x. Reply Done (fronted size (table_of n x))) Done (fronted size (table_of n taken.extent)) taken.is refl;
+        holds = record {
+          table = table_of n taken.extent;
+          is = refl;
+          built = record { size_is = refl; named = omega arith; unique = omega arith; items = refl; room = room-with [] [] taken.extent size (room (8 * n) + rest) rest h taken.front taken.fits };
+        };
+      }
+
+  pub named-reserved : NamedReserved
+  named-reserved = named-by (n == 0) refl
+
+module _ (size named n rest : ℕ) (t : Table) (i : IsDirectory current (fronted size t)) (b : IsBuilt (fronted size t) (record { named = named; unique = 0; size = size }) [] (block_room (8 * n) + rest)) (r : IsRest rest) where
+  abbrev UniqueReserved : Type 0
+  UniqueReserved = StepsTo (step Write (fronted size t) (asked.ReserveUnique n)) Done (λ e. IsBuilt e (record { named = named; unique = n; size = size }) [] rest)
+
+  abbrev with_unique : Table → Directory
+  with_unique u = record { size = size; objects = []; named = t; unique = u }
+
+  abbrev unique_plan : Bool → Plan
+  unique_plan x = if x then Reply Done (fronted size t) else Request (New Index (8 * n)) (λ x. Reply Done (with_unique (table_of n x)))
+
+  unique-by : (x : Bool) → (n == 0) ≡ x → UniqueReserved
+  unique-by true e =
+      let z : n ≡ 0 = grind (arith, nat_tests) in
+      record {
+        next = fronted size t;
+        is = writes (fronted size t) (asked.ReserveUnique n) ∙ ap (λ x. perform (fronted size t) (live (fronted size t)) (unique_plan x)) (none-test n z);
+        holds = record { size_is = refl; named = b.named; unique = omega (arith, z); items = refl; room = subst (λ m. HasRoom (all_extents (fronted size t)) size m) (no-block n rest z) b.room };
+      }
+  unique-by false e =
+      let l : 0 < n = grind (arith, nat_tests) in
+      let h = room_for (fronted size t) n rest l b.room in
+      let taken = room-taken (fronted size t) (8 * n) Index rest i.proper h r in
+      record {
+        next = with_unique (table_of n taken.extent);
+        is = writes (fronted size t) (asked.ReserveUnique n) ∙ ap (λ x. perform (fronted size t) (live (fronted size t)) (unique_plan x)) (some-test n l)
+            ∙ met-perform (fronted size t) (8 * n) Index taken.extent (λ x. Reply Done (with_unique (table_of n x))) Done (with_unique (table_of n taken.extent)) taken.is refl;
+        holds = record { size_is = refl; named = b.named; unique = omega arith; items = refl; room = room-with (table_extents t) [] taken.extent size (room (8 * n) + rest) rest h taken.front taken.fits };
+      }
+
+  pub unique-reserved : UniqueReserved
+  unique-reserved = unique-by (n == 0) refl

@@ -1,0 +1,176 @@
+-- An object of a line is made, with nothing in it.
+use Rattle.std.proofs.Common.{◌≡◌, ◌≢◌, inl, inr, ℕ, ◌+◌, ◌*◌, ◌^◌, ◌<◌, ◌≤◌, ℤ, pos, true, false, List, [], ◌∷◌, ◌++◌, length, replicate, Option, Some, None, Result, Ok, Err, refl, sym, ap, subst, ◌∙◌, arith, append-nil, append_assoc, zero-add}
+use Rattle.std.specs.Prelude.{codes, decimal}
+use Rattle.std.specs.List.{AllByRecursion}
+use Rattle.std.proofs.lemmas.List.{length-replicate}
+use Rattle.seg_types.specs.declared.kinds.Class.{Class}
+use Rattle.seg_types.specs.declared.kinds.Class.TheVariants.{Anonymous, Named, Unique}
+use Rattle.seg_types.specs.declared.kinds.Kind.{Kind}
+use Rattle.seg_types.specs.declared.kinds.Kind.TheVariants as kinds
+use Rattle.seg_types.specs.declared.kinds.ScalarKind.{ScalarKind}
+use Rattle.seg_types.specs.declared.refusals.Refusal.{Refusal}
+use Rattle.seg_types.specs.Commands as asked
+use Rattle.seg_types.specs.Kinds.{size_of}
+use Rattle.seg_types.specs.Names.{Key, ByHandle, ByKind, ByName, NoKey}
+use Rattle.seg_map.specs.Map.{node_len}
+use Rattle.segment_manager.specs.declared.modes.Mode.TheVariants.{Write}
+use Rattle.segment_manager.specs.Answers.{Answer, Made}
+use Rattle.segment_manager.specs.Directory.{Directory, Value, object_at, object_len, padded, value_len}
+use Rattle.segment_manager.specs.Layout.{head_len}
+use Rattle.segment_manager.specs.Plan.{bare, class_of, name_of}
+use Rattle.segment_manager.specs.State.{IsStep, Moves, State, StandsFor, handle_answer}
+use Rattle.segment_manager.specs.Step.{step}
+use Rattle.segment_dump.specs.declared.building.Shape.{Shape}
+use Rattle.segment_dump.specs.Builders.{HasPlace, IsCountOf, IsNext, IsStarted, ReadsShape, StartsUnder, content_need, first_content}
+use Rattle.segment_dump.specs.Building.{Head, IsBuilt, IsFilling, IsRest, Site, count_class, has_item_key, item_key, key_in, measure_words}
+use Rattle.segment_dump.specs.Filling.{IsBuildable, IsBuildableContent, IsNameIn, StandsBuilt, StandsFilling}
+use Rattle.segment_dump.specs.Items.{Content, Item, Map, Scalars, String, Strings, Vector, count_of_content, kind_of_content}
+use Rattle.segment_dump.specs.Need.{all_needs, block_room, body_len, elements_room, item_needs, object_room, text_needs, texts_needs}
+use Rattle.segment_dump.proofs.Builds.{HasEntry, IsMade, IsPlain, made, map-plain, numbers-plain, string-plain, texts-plain, vector-plain}
+use Rattle.segment_dump.proofs.ElementReads.{never-ok, ok-same}
+use Rattle.segment_dump.proofs.Fillings.{times-rest, writing}
+use Rattle.segment_dump.proofs.Orders.{named-len, new-none, unique-len}
+use Rattle.segment_dump.proofs.Spaces.{block-rest, rest-both}
+use Rattle.segment_dump.proofs.Starts.{texts-rest}
+
+-- ---- the key of an item
+
+class-key : (c : Class) (name : List ℕ) (kind : Kind) → class_of (key_in c name kind) ≡ c
+class-key Named name kind = refl
+class-key Unique name kind = refl
+class-key Anonymous name kind = refl
+
+name-key : (c : Class) (name : List ℕ) (kind : Kind) → IsNameIn c name → name_of (key_in c name kind) ≡ name
+name-key Named name kind h = refl
+name-key Unique name kind h = sym h
+name-key Anonymous name kind h = sym h
+
+-- ---- what it is made with
+
+first-plain : (kind : Kind) (n : ℕ) → IsPlain (first_content kind n)
+first-plain (kinds.Scalar k) n = numbers-plain k (replicate n (pos 0))
+first-plain kinds.Text n = string-plain
+first-plain (kinds.Vector k) n = vector-plain k
+first-plain (kinds.Map k v) n = map-plain k v
+first-plain kinds.Texts n = texts-plain
+
+first-len : (kind : Kind) (n : ℕ) → value_len (bare (first_content kind n)) ≡ body_len kind n
+first-len (kinds.Scalar k) n = ap (λ m. size_of k * m) (length-replicate n (pos 0))
+first-len kinds.Text n = refl
+first-len (kinds.Vector k) n = refl
+first-len (kinds.Map k v) n = refl
+first-len kinds.Texts n = refl
+
+elements-rest : (kind : Kind) (n : ℕ) → IsRest (elements_room kind n)
+elements-rest (kinds.Scalar k) n = inl refl
+elements-rest kinds.Text n = inl refl
+elements-rest (kinds.Vector k) n = block-rest (size_of k * n)
+elements-rest (kinds.Map k v) n = times-rest (block_room (node_len (size_of k) (size_of v))) n (block-rest (node_len (size_of k) (size_of v)))
+elements-rest kinds.Texts n = block-rest (16 * n)
+
+content-rest : (c : Content) → IsRest (texts_needs c).room
+content-rest (Scalars k zs) = inl refl
+content-rest (Vector k zs) = inl refl
+content-rest (String bs) = block-rest (length bs)
+content-rest (Map k v ps) = inl refl
+content-rest (Strings ts) = texts-rest ts
+
+count-good : (c : Content) → IsBuildableContent c → IsCountOf (kind_of_content c) (count_of_content c) × (count_of_content c < 2 ^ 64)
+count-good (Scalars k zs) h = ((h.0, h.1), omega (arith, h.1))
+count-good (Vector k zs) h = (tt, h.0)
+count-good (String bs) h = (tt, omega arith)
+count-good (Map k v ps) h = (tt, h.0)
+count-good (Strings ts) h = (tt, h.0)
+
+-- the bytes of its own block, and those of its elements
+needs-apart : (i : Item) (name : List ℕ) → name ≡ i.name
+    → (item_needs i).room ≡ block_room (object_len name (bare (first_content (kind_of_content i.content) (count_of_content i.content)))) + content_need i.content
+unfolding object_room
+needs-apart i name e =
+    let kind = kind_of_content i.content in
+    let n = count_of_content i.content in
+    let len : object_len name (bare (first_content kind n)) ≡ head_len + padded (length i.name) + body_len kind n = (λ j. head_len + padded (length (e j)) + first-len kind n j) in
+    omega (arith, ap block_room len)
+
+pub item-rest : (i : Item) → IsRest (item_needs i).room
+item-rest i =
+    let kind = kind_of_content i.content in
+    let n = count_of_content i.content in
+    let content = first_content kind n in
+    let own : ℕ = object_len i.name (bare content) in
+    subst IsRest (sym (needs-apart i i.name refl)) (rest-both (block_room own) (content_need i.content) (block-rest own) (rest-both (elements_room kind n) (texts_needs i.content).room (elements-rest kind n) (content-rest i.content)))
+
+-- ---- a place in the index
+
+entry-in : (d : Directory) (site : Site) (done : List Item) (rest : ℕ) (c : Class) → IsBuilt d site done rest → HasPlace site done c → HasEntry d c
+entry-in d site done rest Named b h = omega (arith, named-len d done b.items, b.named, h)
+entry-in d site done rest Unique b h = omega (arith, unique-len d done b.items, b.unique, h)
+entry-in d site done rest Anonymous b h = tt
+
+-- ---- the object is made
+
+made-handle : (called : Result ℕ Refusal) (h : ℕ) → handle_answer called ≡ Made h → called ≡ Ok h
+made-handle (Ok g) h e = let same : g ≡ h = cc in ap Ok same
+made-handle (Err why) h e = absurd (cc)
+
+pub record IsNew (s : State) (site : Site) (done : List Item) (i : Item) (more : ℕ) (called : Result ℕ Refusal) : Type 0 where
+  pub handle : ℕ
+  pub is : called ≡ Ok handle
+  pub stands : StandsFilling s site done (record { class = i.class; name = i.name; handle = handle }) (bare (first_content (kind_of_content i.content) (count_of_content i.content))) (content_need i.content + more)
+
+pub new-object : (old new : State) (site : Site) (done : List Item) (i : Item) (more room : ℕ) (called : Result ℕ Refusal) → IsNext old site done i more room
+    → IsStep old new (asked.Construct (item_key i) (first_content (kind_of_content i.content) (count_of_content i.content))) (handle_answer called) → IsNew new site done i more called
+new-object old new site done i more room called next moved =
+    let s = next.stands in
+    let d = s.directory in
+    let key = item_key i in
+    let kind = kind_of_content i.content in
+    let n = count_of_content i.content in
+    let content = first_content kind n in
+    let rest : ℕ = content_need i.content + more in
+    let class : class_of key ≡ i.class = class-key i.class i.name kind in
+    let name : name_of key ≡ i.name = name-key i.class i.name kind next.good.name in
+    let needs : (item_needs i).room + more ≡ block_room (object_len (name_of key) (bare content)) + rest = omega (arith, needs-apart i (name_of key) name) in
+    let built : IsBuilt d site done (block_room (object_len (name_of key) (bare content)) + rest) = subst (IsBuilt d site done) needs s.built in
+    let r : IsRest rest = rest-both (content_need i.content) more (rest-both (elements_room kind n) (texts_needs i.content).room (elements-rest kind n) (content-rest i.content)) next.rest in
+    let entry : HasEntry d (class_of key) = subst (HasEntry d) (sym class) (entry-in d site done ((item_needs i).room + more) i.class s.built next.place) in
+    let m = made d site done key content rest s.stands.denotes.directory (new-none d done i s.built.items next.new) entry (first-plain kind n) (omega arith) built r in
+    let w = writing old new (asked.Construct key content) (handle_answer called) s.mode moved in
+    let answer : handle_answer called ≡ Made m.handle = w.answers d s.stands ∙ ap (λ (o : Answer × Directory). o.0) m.is in
+    record {
+      handle = m.handle;
+      is = made-handle called m.handle answer;
+      stands = record {
+        directory = m.next;
+        stands = subst (λ (o : Answer × Directory). StandsFor new.cut.bytes o.1) m.is (w.denotes d s.stands);
+        mode = w.stays.mode ∙ s.mode;
+        filling = subst (λ l. IsFilling m.next site done (record { class = i.class; name = l; handle = m.handle }) (bare content) rest) name
+            (subst (λ c. IsFilling m.next site done (record { class = c; name = name_of key; handle = m.handle }) (bare content) rest) class m.filling);
+      };
+    }
+
+-- ---- behind its kind and its count
+
+module _ {E F : Type 0} (old new : State) (key : Kind → Key) (words : List ℕ) where
+  pub shape-unread : (e : E) (result : Result (ℕ × Shape) F) → ReadsShape words (Err e) → StartsUnder old new key words result
+  shape-unread e result r = record {
+    starts = λ site done i more room next k w.
+        let q = r.reads (kind_of_content i.content) (count_of_content i.content) (count-good i.content next.good.content).1 w in
+        absurd (never-ok e (record { kind = kind_of_content i.content; count = count_of_content i.content; at = q.0 }) q.1);
+  }
+
+  pub started : (shape : Shape) (called : Result ℕ Refusal) (result : Result (ℕ × Shape) F) → ReadsShape {E = E} words (Ok shape)
+      → (IsCountOf shape.kind shape.count → IsStep old new (asked.Construct (key shape.kind) (first_content shape.kind shape.count)) (handle_answer called)) → ((h : ℕ) → called ≡ Ok h → result ≡ Ok (h, shape)) → StartsUnder old new key words result
+  started shape called result r moved ok = record {
+    starts = λ site done i more room next k w.
+        let kind = kind_of_content i.content in
+        let n = count_of_content i.content in
+        let good = count-good i.content next.good.content in
+        let q = r.reads kind n good.1 w in
+        let said : Shape = record { kind = kind; count = n; at = q.0 } in
+        let is : shape ≡ said = ok-same {E = E} shape said q.1 in
+        let step' : IsStep old new (asked.Construct (key kind) (first_content kind n)) (handle_answer called) =
+        subst (λ (s : Shape). IsCountOf s.kind s.count → IsStep old new (asked.Construct (key s.kind) (first_content s.kind s.count)) (handle_answer called)) is moved good.0 in
+        let m = new-object old new site done i more room called next (subst (λ l. IsStep old new (asked.Construct l (first_content kind n)) (handle_answer called)) k step') in
+        record { handle = m.handle; at = q.0; is = ok m.handle m.is ∙ ap (λ (s : Shape). Ok (m.handle, s)) is; stands = m.stands };
+  }

@@ -1,0 +1,6 @@
+use Rattle.std.proofs.Common.{◌≡◌, length}
+use Rattle.segment_dump.proofs.BuildLines.{InBuild}
+use Rattle.segment_dump.proofs.building.build.Given as goal
+
+abbrev pub invariant-objects : goal.invariant-objects
+invariant-objects l = InBuild l.fn.segment l.segment l.fn.lines l.lines l.most (length l.fn.room) l.counter × (length l.room ≡ length l.fn.room)

@@ -1,0 +1,11 @@
+use Rattle.std.proofs.Common.{◌≡◌, Some, None, if◌then◌else◌, sym, subst}
+use Rattle.std.specs.Prelude.{option_map}
+use Rattle.raw_region.specs.Format.{current}
+use Rattle.seg_types.specs.Keys.{name_seen}
+use Rattle.seg_types.specs.Names.{is_name}
+use Rattle.segment_lang.specs.Seen.{bytes_said}
+use Rattle.segment_dump.proofs.building.name_of.Goals as goal
+
+pub returns-in-Bare : goal.returns-in-Bare
+unfolding current
+returns-in-Bare c = subst (λ w. option_map name_seen c.new.result ≡ (if is_name current (bytes_said w) then Some (bytes_said w) else None)) (sym c.in-Bare.is) c.new.ensures

@@ -1,0 +1,194 @@
+-- What the calls promise that build a segment of a text.
+use Rattle.std.specs.Prelude.{◌≡◌, ℕ, ◌+◌, ◌<◌, ◌≤◌, ℤ, pos, true, false, List, [], ◌∷◌, ◌++◌, Some, Result, Ok, length, replicate, take}
+use Rattle.std.specs.List.{AllByRecursion}
+use Rattle.seg_types.specs.declared.kinds.Class.{Class}
+use Rattle.seg_types.specs.declared.kinds.Class.TheVariants.{Anonymous, Named, Unique}
+use Rattle.seg_types.specs.declared.kinds.Kind.{Kind}
+use Rattle.seg_types.specs.declared.kinds.Kind.TheVariants as kinds
+use Rattle.seg_types.specs.declared.kinds.ScalarKind.{ScalarKind}
+use Rattle.seg_types.specs.declared.values.ScalarValue.{ScalarValue}
+use Rattle.seg_types.specs.Commands as asked
+use Rattle.seg_types.specs.Commands.{Command, Content as Asked, literal_of}
+use Rattle.seg_types.specs.Kinds.{is_value}
+use Rattle.seg_types.specs.Names.{Key, ByHandle}
+use Rattle.seg_types.specs.Values.{kind_of_scalar, scalar_of, value_of_scalar}
+use Rattle.best_fit.specs.Table.{Table}
+use Rattle.segment_manager.specs.Directory.{Bytes}
+use Rattle.segment_manager.specs.Plan.{bare}
+use Rattle.segment_manager.specs.State.{State}
+use Rattle.seg_types.specs.Texts.{class_text, name_text, quoted_text}
+use Rattle.segment_lang.specs.Tokens.{next_word}
+use Rattle.segment_lang.specs.Words.{Bare}
+use Rattle.segment_dump.specs.declared.building.Shape.{Shape}
+use Rattle.segment_dump.specs.Building.{AreNew, Head, IsRest, Site, count_class, has_item_key, head_words, item_key, measure_words}
+use Rattle.segment_dump.specs.Filling.{AreBytes, Fill, FillsAt, IsBuildable, IsBuildableContent, IsCounted, IsNameIn, IsPairOf, StandsBuilt, StandsFilling, filled_item, head_of}
+use Rattle.segment_dump.specs.Items.{Content, Item, count_of_content, kind_of_content}
+use Rattle.segment_dump.specs.Need.{all_needs, block_room, elements_room, item_needs, texts_needs}
+use Rattle.segment_dump.specs.Parts.{parts_until}
+use Rattle.segment_dump.specs.Texts.{content_text, element_line, end_text, items_text, pair_line, piece_lead, piece_line, piece_of, pieces_text, text_lines}
+
+-- ---- lines of elements
+
+pub record ReadsElement {E : Type 0} (kind : ScalarKind) (text rest : List ℕ) (result : Result ScalarValue E) : Type 0 where
+  pub reads : (z : ℤ) (a : List ℕ) → is_value kind z ≡ true → text ≡ element_line kind z ++ a → (result ≡ Ok (scalar_of kind z)) × (rest ≡ a)
+
+pub record ReadsPair {E : Type 0} (k w : ScalarKind) (text rest : List ℕ) (result : Result (ScalarValue × ScalarValue) E) : Type 0 where
+  pub reads : (p : ℤ × ℤ) (a : List ℕ) → IsPairOf k w p → text ≡ pair_line k w p ++ a → (result ≡ Ok (scalar_of k p.0, scalar_of w p.1)) × (rest ≡ a)
+
+-- ---- objects that are filled
+
+-- all elements are there
+pub record IsFilled (s : State) (text : List ℕ) (p : Fill) : Type 0 where
+  pub stands : StandsBuilt s p.site (p.done ++ filled_item p ∷ []) p.more
+  pub text_is : text ≡ p.after
+
+-- a content that can be made, of a kind, with room for its texts
+pub record IsFillable (p : Fill) (kind : Kind) (room : ℕ) : Type 0 where
+  pub kind_is : kind_of_content p.content ≡ kind
+  pub good : IsBuildableContent p.content
+  pub rest : IsRest p.more
+  pub longest : (texts_needs p.content).longest ≤ room
+
+-- an element more
+pub record AddsElement {E : Type 0} (old new : State) (h : ℕ) (kind : Kind) (n : ℕ) (text rest : List ℕ) (room : ℕ) (result : Result (Unit {0}) E) : Type 0 where
+  pub adds : (p : Fill) → IsFillable p kind room → n < count_of_content p.content → FillsAt old text p h n → (result ≡ Ok tt) × FillsAt new rest p h (n + 1)
+
+-- all of them
+pub record FillsElements {E : Type 0} (old new : State) (h : ℕ) (kind : Kind) (count : ℕ) (text rest : List ℕ) (room : ℕ) (result : Result (Unit {0}) E) : Type 0 where
+  pub fills : (p : Fill) → IsFillable p kind room → count ≡ count_of_content p.content → FillsAt old text p h 0 → (result ≡ Ok tt) × IsFilled new rest p
+
+-- what an object is made with: zeros, or nothing yet
+abbrev pub first_content : Kind → ℕ → Asked
+first_content (kinds.Scalar k) n = asked.Numbers k (replicate n (pos 0))
+first_content kinds.Text n = asked.Bytes []
+first_content (kinds.Vector k) n = asked.Elements k []
+first_content (kinds.Map k v) n = asked.NoPairs k v
+first_content kinds.Texts n = asked.Strings []
+
+-- the bytes that its elements need
+abbrev pub content_need : Content → ℕ
+content_need c = elements_room (kind_of_content c) (count_of_content c) + (texts_needs c).room
+
+-- an object is there with nothing in it, and its lines follow
+pub record IsBegun (s : State) (text : List ℕ) (p : Fill) (h : ℕ) : Type 0 where
+  pub stands : StandsFilling s p.site p.done (head_of p h) (bare (first_content (kind_of_content p.content) (count_of_content p.content))) (content_need p.content + p.more)
+  pub text_is : text ≡ content_text p.content ++ p.after
+
+pub record FillsNew {E : Type 0} (old new : State) (h : ℕ) (kind : Kind) (count : ℕ) (text rest : List ℕ) (room : ℕ) (result : Result (Unit {0}) E) : Type 0 where
+  pub fills : (p : Fill) → IsFillable p kind room → count ≡ count_of_content p.content → IsBegun old text p h → (result ≡ Ok tt) × IsFilled new rest p
+
+-- ---- objects that are made
+
+-- an index has a place for one more
+abbrev pub HasPlace : Site → List Item → Class → Type 0
+HasPlace site done Named = count_class Named done < site.named
+HasPlace site done Unique = count_class Unique done < site.unique
+HasPlace site done Anonymous = Unit {0}
+
+-- the next item can be made
+pub record IsNext (s : State) (site : Site) (done : List Item) (i : Item) (more room : ℕ) : Type 0 where
+  pub stands : StandsBuilt s site done ((item_needs i).room + more)
+  pub rest : IsRest more
+  pub good : IsBuildable i
+  pub new : AllByRecursion (λ j. has_item_key (item_key i) j ≡ false) done
+  pub place : HasPlace site done i.class
+  pub longest : (texts_needs i.content).longest ≤ room
+
+-- it is made, with nothing in it
+pub record IsStarted {E : Type 0} (s : State) (site : Site) (done : List Item) (i : Item) (more : ℕ) (result : Result (ℕ × Shape) E) : Type 0 where
+  pub handle : ℕ
+  pub at : ℕ
+  pub is : result ≡ Ok (handle, record { kind = kind_of_content i.content; count = count_of_content i.content; at = at })
+  pub stands : StandsFilling s site done (record { class = i.class; name = i.name; handle = handle }) (bare (first_content (kind_of_content i.content) (count_of_content i.content))) (content_need i.content + more)
+
+-- so many elements an object can have
+abbrev pub IsCountOf : Kind → ℕ → Type 0
+IsCountOf (kinds.Scalar k) n = (1 ≤ n) × (n ≤ 1048576)
+IsCountOf kinds.Text n = Unit {0}
+IsCountOf (kinds.Vector k) n = Unit {0}
+IsCountOf (kinds.Map k v) n = Unit {0}
+IsCountOf kinds.Texts n = Unit {0}
+
+-- vectors, whose places are reserved
+abbrev pub IsVectorKind : Kind → Type 0
+IsVectorKind (kinds.Scalar k) = ⊥
+IsVectorKind kinds.Text = ⊥
+IsVectorKind (kinds.Vector k) = Unit {0}
+IsVectorKind (kinds.Map k v) = ⊥
+IsVectorKind kinds.Texts = Unit {0}
+
+-- a class comes next
+pub record ReadsClass {E : Type 0} (text rest : List ℕ) (result : Result Class E) : Type 0 where
+  pub reads : (c : Class) (a : List ℕ) → next_word text ≡ Some (Bare (class_text c), a) → (result ≡ Ok c) × (rest ≡ a)
+
+-- a kind and a count come next, and no more
+pub record ReadsShape {E : Type 0} (text : List ℕ) (result : Result Shape E) : Type 0 where
+  pub reads : (kind : Kind) (n : ℕ) → IsCounted n → text ≡ 0x20 ∷ measure_words kind n → (at : ℕ) × (result ≡ Ok (record { kind = kind; count = n; at = at }))
+
+-- nothing is left
+pub record IsGone {E : Type 0} (text : List ℕ) (result : Result (Unit {0}) E) : Type 0 where
+  pub gone : text ≡ [] → result ≡ Ok tt
+
+-- behind the words in front of its kind
+pub record StartsUnder {E : Type 0} (old new : State) (key : Kind → Key) (words : List ℕ) (result : Result (ℕ × Shape) E) : Type 0 where
+  pub starts : (site : Site) (done : List Item) (i : Item) (more room : ℕ) → IsNext old site done i more room → key (kind_of_content i.content) ≡ item_key i → words ≡ 0x20 ∷ measure_words (kind_of_content i.content) (count_of_content i.content)
+      → IsStarted new site done i more result
+
+-- behind the word of its class
+pub record StartsNamed {E : Type 0} (old new : State) (words : List ℕ) (result : Result (ℕ × Shape) E) : Type 0 where
+  pub starts : (site : Site) (done : List Item) (i : Item) (more room : ℕ) → IsNext old site done i more room → i.class ≡ Named → words ≡ 0x20 ∷ (name_text i.name ++ 0x20 ∷ measure_words (kind_of_content i.content) (count_of_content i.content))
+      → IsStarted new site done i more result
+
+-- by all words of its line
+pub record StartsNext {E : Type 0} (old new : State) (words : List ℕ) (result : Result (ℕ × Shape) E) : Type 0 where
+  pub starts : (site : Site) (done : List Item) (i : Item) (more room : ℕ) → IsNext old site done i more room → words ≡ head_words i → IsStarted new site done i more result
+
+-- an object is made of its lines
+pub record BuildsObject {E : Type 0} (old new : State) (words text rest : List ℕ) (room : ℕ) (result : Result (Unit {0}) E) : Type 0 where
+  pub builds : (site : Site) (done : List Item) (i : Item) (more : ℕ) (a : List ℕ) → IsNext old site done i more room → words ≡ head_words i → text ≡ content_text i.content ++ a
+      → (result ≡ Ok tt) × StandsBuilt new site (done ++ i ∷ []) more × (rest ≡ a)
+
+-- ---- all objects
+
+-- these are still to be made
+pub record AreLeft (site : Site) (room : ℕ) (done items : List Item) : Type 0 where
+  pub good : AllByRecursion IsBuildable items
+  pub new : AreNew done items
+  pub named : count_class Named (done ++ items) ≤ site.named
+  pub unique : count_class Unique (done ++ items) ≤ site.unique
+  pub longest : (all_needs item_needs items).longest ≤ room
+
+-- their lines follow, and the line `end`
+pub record IsAt (s : State) (text : List ℕ) (site : Site) (done items : List Item) : Type 0 where
+  pub stands : StandsBuilt s site done (all_needs item_needs items).room
+  pub text_is : text ≡ items_text items ++ end_text
+
+pub record Builds {E : Type 0} (old new : State) (text : List ℕ) (most room : ℕ) (result : Result (Unit {0}) E) : Type 0 where
+  pub builds : (site : Site) (items : List Item) → IsAt old text site [] items → AreLeft site room [] items → length text ≤ most → (result ≡ Ok tt) × StandsBuilt new site items 0
+
+-- ---- texts
+
+-- so many pieces were read, and this is left of a text's lines and of what follows
+abbrev pub PiecesLeft : List ℕ → List ℕ → ℕ → List ℕ → Type 0
+PiecesLeft bs a n rest = parts_until (piece_line bs) n ++ rest ≡ pieces_text bs ++ a
+
+-- the piece that is alone in a line, behind what leads it
+pub record ReadsPiece {E : Type 0} (words : List ℕ) (result : Result (List ℕ) E) : Type 0 where
+  pub reads : (i : ℕ) (bs : List ℕ) → AreBytes bs → words ≡ piece_lead i ++ quoted_text bs → result ≡ Ok bs
+
+-- the length of a text; its first piece follows
+pub record ReadsLength {E : Type 0} (text rest : List ℕ) (result : Result (List ℕ × ℕ) E) : Type 0 where
+  pub reads : (bs a : List ℕ) → IsCounted (length bs) → text ≡ text_lines bs ++ a → (result ≡ Ok (piece_lead 0 ++ quoted_text (piece_of bs 0), length bs)) × PiecesLeft bs a 1 rest
+
+-- a piece goes behind so many bytes of the room
+pub record CopiesPiece {E : Type 0} (words old new : List ℕ) (from : ℕ) (result : Result ℕ E) : Type 0 where
+  pub copies : (i : ℕ) (bs : List ℕ) → AreBytes bs → words ≡ piece_lead i ++ quoted_text bs → from + length bs ≤ length old → (result ≡ Ok (from + length bs)) × (take (from + length bs) new ≡ take from old ++ bs)
+
+-- a text is collected in the front of the room
+pub record Collects {E : Type 0} (text rest old new : List ℕ) (result : Result ℕ E) : Type 0 where
+  pub collects : (bs a : List ℕ) → AreBytes bs → IsCounted (length bs) → length bs ≤ length old → text ≡ text_lines bs ++ a → (result ≡ Ok (length bs)) × (take (length bs) new ≡ bs) × (rest ≡ a)
+
+-- a piece goes behind the bytes of a string, which has places for it
+pub record AppendsPiece {E : Type 0} (old new : State) (h : ℕ) (words : List ℕ) (result : Result (Unit {0}) E) : Type 0 where
+  pub appends : (site : Site) (done : List Item) (class : Class) (name front : List ℕ) (t : Table) (rest i : ℕ) (bs : List ℕ) → StandsFilling old site done (record { class = class; name = name; handle = h }) (Bytes front t) rest → AreBytes bs
+      → words ≡ piece_lead i ++ quoted_text bs → length (front ++ bs) ≤ t.capacity → (result ≡ Ok tt) × StandsFilling new site done (record { class = class; name = name; handle = h }) (Bytes (front ++ bs) t) rest

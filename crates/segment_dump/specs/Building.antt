@@ -1,0 +1,134 @@
+-- A segment that is being built: its objects so far, and room for the rest behind all its blocks.
+use Rattle.std.specs.Prelude.{◌≡◌, ◌⊎◌, ℕ, ◌+◌, ◌≤◌, ⊤, Bool, true, false, ◌&&◌, ◌==◌, nat_lt, List, [], ◌∷◌, ◌++◌, codes, length, map, filter, flat_map}
+use Rattle.std.specs.List.{AllByRecursion}
+use Rattle.best_fit.specs.Extents.{Extent, end_of, handle}
+use Rattle.std.specs.Cmp.Lexicographic.{slice_cmp}
+use Rattle.std.specs.Ordering.{nat_cmp, is_lt}
+use Rattle.seg_types.specs.declared.kinds.Class.{Class}
+use Rattle.seg_types.specs.declared.kinds.Class.TheVariants.{Anonymous, Named, Unique}
+use Rattle.seg_types.specs.declared.kinds.Kind.{Kind}
+use Rattle.seg_types.specs.Kinds.{class_code, code_of, same_kind}
+use Rattle.seg_types.specs.Names.{Key, ByHandle, ByKind, ByName, NoKey}
+use Rattle.segment_manager.specs.Directory.{Directory, Object, Value, extents_of, same_bytes, table_extents}
+use Rattle.segment_dump.specs.Items.{Item, count_of_content, item_of_object, kind_of_content}
+use Rattle.segment_lang.specs.Texts.{kind_text, name_text, number_text}
+
+-- ---- blocks one behind another
+
+-- all their bytes
+unfoldable pub total : List Extent → ℕ
+total [] = 0
+total (x ∷ xs) = x.len + total xs
+
+-- each ends up to there
+abbrev pub EndBy : ℕ → List Extent → Type 0
+EndBy e = AllByRecursion (λ (x : Extent). end_of x ≤ e)
+
+-- Extents fill all from 128 on up to where the last one ends, since they have as many bytes as there are; and behind it, up to the
+-- end tag, is room for the rest.
+pub record HasRoom (xs : List Extent) (size rest : ℕ) : Type 0 where
+  pub end : ℕ
+  pub start : 128 ≤ end
+  pub below : EndBy end xs
+  pub full : end ≤ 128 + total xs
+  pub room : end + 16 + rest ≤ size
+
+-- the blocks of a directory's objects and of its indexes
+abbrev pub all_extents : Directory → List Extent
+all_extents d = flat_map extents_of d.objects ++ (table_extents d.named ++ table_extents d.unique)
+
+-- nothing more, or a block and more
+abbrev pub IsRest : ℕ → Type 0
+IsRest n = (n ≡ 0) ⊎ (32 ≤ n)
+
+-- ---- a directory that is being built
+
+-- how many places its indexes have at least, and how many bytes it has
+pub record Site : Type 0 where
+  pub named : ℕ
+  pub unique : ℕ
+  pub size : ℕ
+
+-- there are these objects, by their places, and room for the rest
+pub record IsBuilt (d : Directory) (site : Site) (done : List Item) (rest : ℕ) : Type 0 where
+  pub size_is : d.size ≡ site.size
+  pub named : site.named ≤ d.named.capacity
+  pub unique : site.unique ≤ d.unique.capacity
+  pub items : map item_of_object d.objects ≡ done
+  pub room : HasRoom (all_extents d) d.size rest
+
+-- the class, the name and the handle of the object that is being filled
+pub record Head : Type 0 where
+  pub class : Class
+  pub name : List ℕ
+  pub handle : ℕ
+
+-- the last of its objects is one with this value so far
+pub record IsFilling (d : Directory) (site : Site) (done : List Item) (head : Head) (v : Value) (rest : ℕ) : Type 0 where
+  pub size_is : d.size ≡ site.size
+  pub named : site.named ≤ d.named.capacity
+  pub unique : site.unique ≤ d.unique.capacity
+  pub before : List Object
+  pub object : Object
+  pub objects : d.objects ≡ before ++ object ∷ []
+  pub items : map item_of_object before ≡ done
+  pub class_is : object.class ≡ head.class
+  pub name_is : object.name ≡ head.name
+  pub handle_is : head.handle ≡ handle object.extent
+  pub value_is : object.value ≡ v
+  pub room : HasRoom (all_extents d) d.size rest
+
+-- ---- the items that are to be made
+
+-- by which key an item is made
+abbrev pub key_in : Class → List ℕ → Kind → Key
+key_in Named name kind = ByName name
+key_in Unique name kind = ByKind kind
+key_in Anonymous name kind = NoKey
+
+abbrev pub item_key : Item → Key
+item_key i = key_in i.class i.name (kind_of_content i.content)
+
+-- an item has the key
+abbrev pub has_item_key : Key → Item → Bool
+has_item_key (ByName name) i = (class_code Named == class_code i.class) && same_bytes name i.name
+has_item_key (ByKind k) i = (class_code Unique == class_code i.class) && same_kind k (kind_of_content i.content)
+has_item_key (ByHandle h) i = false
+has_item_key NoKey i = false
+
+-- none of those that are done has the key of one that is to come
+abbrev pub AreNew : List Item → List Item → Type 0
+AreNew done [] = ⊤
+AreNew done (i ∷ is) = AllByRecursion (λ j. has_item_key (item_key i) j ≡ false) done × AreNew (done ++ i ∷ []) is
+
+abbrev pub of_class : Class → List Item → List Item
+of_class c is = filter (λ (i : Item). class_code c == class_code i.class) is
+
+abbrev pub count_class : Class → List Item → ℕ
+count_class c is = length (of_class c is)
+
+-- by name, and by kind
+abbrev pub name_less : Item → Item → Bool
+name_less i j = is_lt (slice_cmp nat_cmp i.name j.name)
+
+abbrev pub kind_less : Item → Item → Bool
+kind_less i j = nat_lt (code_of (kind_of_content i.content)) (code_of (kind_of_content j.content))
+
+-- each comes before all behind it
+abbrev pub AreInOrder : (Item → Item → Bool) → List Item → Type 0
+AreInOrder lt [] = ⊤
+AreInOrder lt (i ∷ is) = AllByRecursion (λ j. lt i j ≡ true) is × AreInOrder lt is
+
+-- ---- the words of an object's line
+
+abbrev pub measure_words : Kind → ℕ → List ℕ
+measure_words kind n = kind_text kind ++ 0x20 ∷ number_text n
+
+-- its class, and its name where it has one
+abbrev pub class_words : Class → List ℕ → List ℕ
+class_words Named name = codes "named " ++ name_text name ++ 0x20 ∷ []
+class_words Unique name = codes "unique "
+class_words Anonymous name = codes "anonymous "
+
+abbrev pub head_words : Item → List ℕ
+head_words i = class_words i.class i.name ++ measure_words (kind_of_content i.content) (count_of_content i.content)

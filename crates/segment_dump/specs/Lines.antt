@@ -1,0 +1,64 @@
+-- A text that is read line by line, and a line word by word: what is read where it stands there as it is written.
+use Rattle.std.specs.Prelude.{◌≡◌, ◌≤◌, ℕ, List, [], ◌++◌, Option, Some, None, Result, Ok, Err, length, option_map}
+use Rattle.std.specs.Borrow.{Bor}
+use Rattle.raw_region.specs.Format.{current}
+use Rattle.seg_types.specs.declared.kinds.ScalarKind.{ScalarKind}
+use Rattle.seg_types.specs.declared.values.ScalarValue.{ScalarValue}
+use Rattle.seg_types.specs.Values.{scalar_of}
+use Rattle.segment_lang.specs.Reading.{value_for}
+use Rattle.segment_lang.specs.Seen.{word_of}
+use Rattle.segment_lang.specs.Tokens.{next_word}
+use Rattle.segment_lang.specs.Words.{Word, Bare, Text}
+use Rattle.segment_lang.specs.declared.words.Word.{Word as Held}
+use Rattle.segment_dump.specs.Reads.{HasNoEnd, ended}
+
+-- no line of a dump is longer
+abbrev pub IsShortLine : List ℕ → Type 0
+IsShortLine line = length line ≤ 4096
+
+-- a line in front is read, and what is behind its end is left
+pub record ReadsLine {E : Type 0} (text rest : List ℕ) (result : Result (List ℕ) E) : Type 0 where
+  pub reads : (line a : List ℕ) → HasNoEnd line → IsShortLine line → text ≡ ended line ++ a → (result ≡ Ok line) × (rest ≡ a)
+
+-- what the next word is the spelling of is read, and what is behind the word is left
+pub record ReadsWord {X E : Type 0} (value : Word → Option X) (text rest : List ℕ) (result : Result X E) : Type 0 where
+  pub reads : (w : Word) (a : List ℕ) (x : X) → next_word text ≡ Some (w, a) → value w ≡ Some x → (result ≡ Ok x) × (rest ≡ a)
+
+-- ---- what a word is
+
+abbrev pub any_word : Word → Option Word
+any_word w = Some w
+
+abbrev pub bare_word : Word → Option (List ℕ)
+bare_word (Bare bytes) = Some bytes
+bare_word (Text bytes) = None
+
+abbrev pub quoted_word : Word → Option (List ℕ)
+quoted_word (Bare bytes) = None
+quoted_word (Text bytes) = Some bytes
+
+-- the value of a kind that a word is
+abbrev pub value_word : ScalarKind → Word → Option ScalarValue
+value_word kind w = option_map (scalar_of kind) (value_for kind w)
+
+-- a word, and bytes, as the code has them
+abbrev pub seen_word : {E : Type 0} → Result Held E → Result Word E
+seen_word (Ok w) = Ok (word_of w)
+seen_word (Err e) = Err e
+
+abbrev pub seen_bytes : {E : Type 0} → Result (Bor (List ℕ)) E → Result (List ℕ) E
+seen_bytes (Ok bytes) = Ok bytes.now
+seen_bytes (Err e) = Err e
+
+-- this word comes next
+pub record ReadsThis {E : Type 0} (word text rest : List ℕ) (result : Result (Unit {0}) E) : Type 0 where
+  pub reads : (a : List ℕ) → next_word text ≡ Some (Bare word, a) → (result ≡ Ok tt) × (rest ≡ a)
+
+-- nothing is left
+pub record ReadsEnd {E : Type 0} (text : List ℕ) (result : Result (Unit {0}) E) : Type 0 where
+  pub reads : text ≡ [] → result ≡ Ok tt
+
+-- a word that stands for the bytes
+pub data IsWordOf (bytes : List ℕ) : Word → Type 0 where
+  bare : IsWordOf bytes (Bare bytes)
+  text : IsWordOf bytes (Text bytes)

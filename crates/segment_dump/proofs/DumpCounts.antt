@@ -13,6 +13,7 @@ use Rattle.segment_dump.specs.Counting.{AreCountable, CountsDump, CountsObjects,
 use Rattle.segment_dump.specs.Items.{Item, Items}
 use Rattle.segment_dump.specs.Leads.{IsSmall}
 use Rattle.segment_dump.specs.Need.{all_needs, both, front_room, item_needs, items_needs, nothing, only_room}
+use Rattle.segment_dump.specs.Order.{all_items}
 use Rattle.segment_dump.specs.Texts.{dump_text, end_text, item_text, items_text}
 use Rattle.segment_dump.proofs.Codes.{heads}
 use Rattle.segment_dump.proofs.FrontLines.{FrontReads}
@@ -134,13 +135,10 @@ all-nameless : (xs ys : List Item) → AllByRecursion IsNameless xs → AllByRec
 all-nameless [] ys p q = q
 all-nameless (x ∷ xs) ys p q = (p.0, all-nameless xs ys p.1 q)
 
-abbrev all_items : Items → List Item
-all_items items = items.named ++ (items.unique ++ items.anonymous)
-
 items-apart : (xs ys : List Item) (a : List ℕ) → items_text (xs ++ ys) ++ a ≡ items_text xs ++ (items_text ys ++ a)
 items-apart xs ys a = ap (λ l. l ++ a) (flat_map-append item_text xs ys) ∙ append_assoc (items_text xs) (items_text ys) a
 
-all-text : (items : Items) → items_text items.named ++ (items_text items.unique ++ (items_text items.anonymous ++ end_text)) ≡ items_text (all_items items) ++ end_text
+pub all-text : (items : Items) → items_text items.named ++ (items_text items.unique ++ (items_text items.anonymous ++ end_text)) ≡ items_text (all_items items) ++ end_text
 all-text items =
     ap (λ l. items_text items.named ++ l) (sym (items-apart items.unique items.anonymous end_text)) ∙ sym (items-apart items.named (items.unique ++ items.anonymous) end_text)
 
@@ -155,7 +153,7 @@ front-least named unique = let p = block-least (8 * named) in let q = block-leas
 abbrev front_of : ℕ → Items → Front
 front_of n items = record { size = n; named = length items.named; unique = length items.unique }
 
-is-front : (n : ℕ) (items : Items) → n < 2 ^ 64 → AreCountable items → IsFront (front_of n items)
+pub is-front : (n : ℕ) (items : Items) → n < 2 ^ 64 → AreCountable items → IsFront (front_of n items)
 is-front n items l h =
     let p = front-least (length items.named) (length items.unique) in
     let s = h.small in

@@ -96,7 +96,7 @@ not-created text region base size room n refused said a h e f = record {
 legal-most : (n : ℕ) → is_legal_size n ≡ true → n ≤ 1073741824
 legal-most n e = grind (arith, nat_tests)
 
-size-most : (b : List ℕ) (d : Directory) → StandsFor b d → d.size ≤ 1073741824
+pub size-most : (b : List ℕ) (d : Directory) → StandsFor b d → d.size ≤ 1073741824
 unfolding is_proper
 size-most b d s =
     let legal = and_parts (is_legal_size (live d).size) (proper_from 128 (live d).extents ((live d).size - 16)) s.denotes.directory.proper in
@@ -107,7 +107,7 @@ nameless-items c [] a = tt
 nameless-items c (i ∷ is) a = let good = a.0 in ((λ n. good.nameless (λ e. n (good.class ∙ e))), nameless-items c is a.1)
 
 -- what is portable of a directory can be counted
-portable-countable : (b : List ℕ) (d : Directory) → StandsFor b d → AreCountable (portable d)
+pub portable-countable : (b : List ℕ) (d : Directory) → StandsFor b d → AreCountable (portable d)
 portable-countable b d s =
     let told = portable-told b d s in
     record {

@@ -42,3 +42,7 @@ mod Strings
 mod Makes
 mod HeadReads
 mod BuildLines
+mod Buildables
+mod FrontReads
+mod Finishes
+mod Succeeds

@@ -117,7 +117,7 @@ items-ordered lt acc [] a h = tt
 items-ordered lt acc (i ∷ is) a h = (less-all lt i acc is a, items-ordered lt (acc ++ i ∷ []) is (less-rest lt i acc is a h.0) h.1)
 
 -- an order of objects that their items tell
-abbrev Tells : (Item → Item → Bool) → (Object → Object → Bool) → Type 0
+abbrev pub Tells : (Item → Item → Bool) → (Object → Object → Bool) → Type 0
 Tells said lt = (o p : Object) → lt o p ≡ said (item_of_object o) (item_of_object p)
 
 objects-less : (said : Item → Item → Bool) (lt : Object → Object → Bool) → Tells said lt → (o : Object) (acc : List Object) → LessAll said (item_of_object o) (map item_of_object acc) → AllLess lt o acc
@@ -131,7 +131,7 @@ objects-ordered said lt t acc (o ∷ os) a = (
   objects-ordered said lt t (acc ++ o ∷ []) os (subst (λ l. AreItemsOrdered said l (map item_of_object os)) (sym (map-append item_of_object acc (o ∷ []))) a.1),
 )
 
-kinds-tell : Tells kind_less by_kind
+pub kinds-tell : Tells kind_less by_kind
 kinds-tell o p = λ i. nat_lt (code_of (sym (kind-made o.value) i)) (code_of (sym (kind-made p.value) i))
 
 -- objects of a class, by the order of their items

@@ -15,3 +15,5 @@ pub mod Lines
 pub mod Building
 pub mod Filling
 pub mod Builders
+pub mod Order
+pub mod Succeeding

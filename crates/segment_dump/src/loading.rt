@@ -1,8 +1,11 @@
 //! A segment made of a dump. What the lines ask for is done, and then the segment is compared with the whole text, so that no
 //! line needs to be believed.
-ghost use Rattle.std.specs.Prelude.{◌≡◌, ◌%◌, length, IfOk, MatchResult, Some, None};
+ghost use Rattle.std.specs.Prelude.{◌≡◌, ◌↔◌, ◌%◌, length, IfOk, IsTrue, MatchResult, Some, None};
 ghost use Rattle.std.specs.Bool.{OnTrue};
 ghost use Rattle.segment_manager.specs.declared.modes.Mode.TheVariants.{Write};
+ghost use Rattle.segment_dump.specs.Counting.{IsFront, fronted};
+ghost use Rattle.segment_dump.specs.Reads.{Any};
+ghost use Rattle.segment_dump.specs.Succeeding.{AreNumbers, IsNumber, Judges, MakesObjects, ReadsLead, Sizes, Succeeds, SucceedsOf, Takes, Trims, entries_said, size_said, version_said};
 ghost use Rattle.segment_dump.specs.Loading.{HasSize, IsAsked, IsExact, IsJudged, IsLetGo, IsLoaded, IsMade, IsNotLoaded, IsRefusalOf, IsWrong, asked_of, cause_in, load_error, refusal_for};
 
 use crate::building::{Stop, build, stop_of};
@@ -10,9 +13,10 @@ use crate::comparing::compare;
 use crate::counting::{Count, Front, count_dump};
 use crate::faults::{BadDump, DumpFault, LoadError, LoadRefused, Misfit};
 use crate::places::place_at;
-use crate::reading::Lines;
+use crate::reading::{Lines, Words};
 use block_tags::is_legal_size;
 use raw_region::RawRegion;
+use segment_lang::numbers_are_decimals;
 use segment_manager::conditioned::cut_end;
 use segment_manager::{CreateError, CreateRefused, Mode, Segment};
 
@@ -37,6 +41,7 @@ pub fn load(
     requires aligned { base % 16 ≡ 0 }
     ensures done { MatchResult result (IsLoaded text.now size) (IsNotLoaded text.now region base size (length room.old)) }
     ensures exact { IsExact text.now (length region) base size (length room.old) (cause_in result) }
+    ensures succeeds { Succeeds text.now (length region) base size (length room.old) result }
 {
     let counted = count_dump(text);
     if let Some(cause) = refusal_of(counted, &region, base, size, room.len()) {
@@ -60,6 +65,7 @@ fn make(
     requires aligned { base % 16 ≡ 0 }
     ensures done { MatchResult result (IsLoaded text.now size) (IsNotLoaded text.now region base size (length room.old)) }
     ensures exact { IsMade (length region) base size (length room.old) counted (cause_in result) }
+    ensures succeeds { SucceedsOf text.now (length region) base size (length room.old) counted result }
 {
     let mut lines = Lines::new(text);
     let front = match read_front(&mut lines) {
@@ -93,26 +99,59 @@ fn said_size(counted: Result<Count, usize>, said: u64) -> u64
 }
 
 /// What the first three lines say.
-fn read_front(lines: &mut Lines<'_>) -> Result<Front, Misfit> {
-    let mut words = lines.next_line()?;
-    words.expect(b"segment")?;
-    words.expect(b"dump")?;
-    words.expect(b"1")?;
-    words.finish()?;
-    let mut words = lines.next_line()?;
-    words.expect(b"size")?;
-    let size = words.next_number()?;
-    words.finish()?;
-    let mut words = lines.next_line()?;
-    words.expect(b"indexes")?;
-    let named = words.next_number()?;
-    let unique = words.next_number()?;
-    words.finish()?;
+fn read_front(lines: &mut Lines<'_>) -> Result<Front, Misfit>
+    ensures { Takes fronted IsFront lines.old lines.new result }
+{
+    read_version(lines)?;
+    let size = read_size(lines)?;
+    let (named, unique) = read_entries(lines)?;
     Ok(Front {
         size,
         named,
         unique,
     })
+}
+
+/// The next line, behind its first word, which is this one.
+fn read_lead<'a>(lines: &mut Lines<'a>, word: &[u8]) -> Result<Words<'a>, Misfit>
+    ensures { ReadsLead word.now lines.old lines.new result }
+{
+    let mut words = lines.next_line()?;
+    words.expect(word)?;
+    Ok(words)
+}
+
+/// The first line.
+fn read_version(lines: &mut Lines<'_>) -> Result<(), Misfit>
+    ensures { Takes version_said Any lines.old lines.new result }
+{
+    let mut words = read_lead(lines, b"segment")?;
+    words.expect(b"dump")?;
+    words.expect(b"1")?;
+    words.finish()
+}
+
+/// The size.
+fn read_size(lines: &mut Lines<'_>) -> Result<u64, Misfit>
+    ensures { Takes size_said IsNumber lines.old lines.new result }
+{
+    numbers_are_decimals();
+    let mut words = read_lead(lines, b"size")?;
+    let size = words.next_number()?;
+    words.finish()?;
+    Ok(size)
+}
+
+/// How many entries the indexes have.
+fn read_entries(lines: &mut Lines<'_>) -> Result<(u64, u64), Misfit>
+    ensures { Takes entries_said AreNumbers lines.old lines.new result }
+{
+    numbers_are_decimals();
+    let mut words = read_lead(lines, b"indexes")?;
+    let named = words.next_number()?;
+    let unique = words.next_number()?;
+    words.finish()?;
+    Ok((named, unique))
 }
 
 /// The size that is asked for, or else that of the text.
@@ -240,7 +279,9 @@ fn make_objects(
     lines: &mut Lines<'_>,
     room: &mut [u8],
     most: usize,
-) -> Result<(), Stop> {
+) -> Result<(), Stop>
+    ensures { MakesObjects segment.old segment.new front lines.old most (length room.old) result }
+{
     let at = lines.at();
     if let Err(why) = segment.reserve_named(front.named) {
         return Err(stop_of(why, at));
@@ -258,23 +299,33 @@ fn judge(
     said: u64,
     size: Option<u64>,
 ) -> Result<Segment, LoadRefused>
-    ensures { MatchResult result (IsJudged text.now size) (IsLetGo text.now) }
+    ensures done { MatchResult result (IsJudged text.now size) (IsLetGo text.now) }
+    ensures succeeds { Judges segment text.now said size result }
 {
     if !is_open(&segment) {
         return Err(unlike(text, 0));
     }
-    if size.is_none() {
-        cut_end(&mut segment);
-    }
+    trim(&mut segment, size);
     match compare(&segment, said, text) {
         Err(at) => Err(unlike(text, at)),
         Ok(()) => {
-            if is_open(&segment) && has_size(&segment, size) {
+            if has_size(&segment, size) {
                 Ok(segment)
             } else {
                 Err(unlike(text, 0))
             }
         }
+    }
+}
+
+/// Without a size, cuts off what is free at the end.
+fn trim(segment: &mut Segment, size: Option<u64>)
+    requires writing { segment.old.mode ≡ Write }
+    ensures { Trims segment.old segment.new size }
+{
+    match size {
+        None => cut_end(segment),
+        Some(_) => {}
     }
 }
 
@@ -288,7 +339,7 @@ fn unlike(text: &[u8], at: usize) -> LoadRefused
 
 /// Whether a segment is open for writing.
 fn is_open(segment: &Segment) -> bool
-    ensures { OnTrue result (segment.now.mode ≡ Write) }
+    ensures { IsTrue result ↔ (segment.now.mode ≡ Write) }
 {
     match segment.mode() {
         Mode::Write => true,
@@ -298,7 +349,8 @@ fn is_open(segment: &Segment) -> bool
 
 /// Whether a segment has the size that was asked for, or nothing free where none was.
 fn has_size(segment: &Segment, size: Option<u64>) -> bool
-    ensures { OnTrue result (HasSize segment.now size) }
+    ensures has { OnTrue result (HasSize segment.now size) }
+    ensures all { Sizes segment.now size result }
 {
     match size {
         None => segment.free() == 0,

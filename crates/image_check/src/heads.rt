@@ -43,41 +43,27 @@ pub(crate) fn kind_of(format: u64, window: &ImageWindow, object: Object) -> Opti
     }
 }
 
-/// The kind of this code, or `None` where no kind has it. Codes of maps, and those of no kind, are looked at by their
-/// parts.
+/// The kind of this code, or `None` where no kind has it. The code of an object is looked for among all only where the kind that
+/// its parts name has another.
 fn kind_of_code(code: u32) -> Option<Kind>
     ensures { result ≡ code_kind code }
 {
-    match code {
-        1 => Some(Kind::Scalar(ScalarKind::Bool)),
-        2 => Some(Kind::Scalar(ScalarKind::U8)),
-        3 => Some(Kind::Scalar(ScalarKind::I32)),
-        4 => Some(Kind::Scalar(ScalarKind::I64)),
-        5 => Some(Kind::Scalar(ScalarKind::U64)),
-        65536 => Some(Kind::Text),
-        131073 => Some(Kind::Vector(ScalarKind::Bool)),
-        131074 => Some(Kind::Vector(ScalarKind::U8)),
-        131075 => Some(Kind::Vector(ScalarKind::I32)),
-        131076 => Some(Kind::Vector(ScalarKind::I64)),
-        131077 => Some(Kind::Vector(ScalarKind::U64)),
-        262144 => Some(Kind::Texts),
-        _ => kind_of_parts(code),
-    }
-}
-
-/// The same. The code of an object is looked for among all only where the map that its parts name has another.
-fn kind_of_parts(code: u32) -> Option<Kind>
-    ensures { result ≡ code_kind code }
-{
-    match named_map(code) {
+    match named_kind(code) {
         Some(kind) if kind.code() == code => Some(kind),
         _ => Kind::from_code(code),
     }
 }
 
-/// The map whose key and value the last two bytes of a code name. Its own code may be another one.
-fn named_map(code: u32) -> Option<Kind> {
-    Some(Kind::Map(named_scalar(code / 256 % 256)?, named_scalar(code % 256)?))
+/// The kind that the parts of a code name. Its own code may be another one.
+fn named_kind(code: u32) -> Option<Kind> {
+    match code / 65536 {
+        0 => Some(Kind::Scalar(named_scalar(code)?)),
+        1 => Some(Kind::Text),
+        2 => Some(Kind::Vector(named_scalar(code % 256)?)),
+        3 => Some(Kind::Map(named_scalar(code / 256 % 256)?, named_scalar(code % 256)?)),
+        4 => Some(Kind::Texts),
+        _ => None,
+    }
 }
 
 /// The scalar of a code.

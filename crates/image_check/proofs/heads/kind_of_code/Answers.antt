@@ -2,7 +2,7 @@
 use Rattle.std.proofs.Common.{sym, ap, ◌∙◌}
 use Rattle.seg_types.specs.Kinds.{kind_of_code}
 use Rattle.segment_manager.proofs.Laws.{code-read}
-use Rattle.image_check.proofs.heads.kind_of_parts.Goals as goal
+use Rattle.image_check.proofs.heads.kind_of_code.Goals as goal
 
 pub returns-in-Some : goal.returns-in-Some
 returns-in-Some c = sym (code-read c.in-Some.kind) ∙ ap kind_of_code (sym c.code.ensures ∙ c.if-code.true)

@@ -7,6 +7,7 @@ use crate::durable::write_through;
 use crate::locks::lock;
 use crate::outlet::Outlet;
 use crate::presence::{InUse, Making, Presence, Trouble};
+use crate::sparse::SparseFile;
 use raw_region::stream::Reading;
 use raw_region::{DeviceFault, fill};
 use std::fs::{self, File, OpenFile};
@@ -98,7 +99,7 @@ impl<'a, R: Files<File = File> + AllocGlobal> Disk for HostDisk<'a, R> {
 
     type Reader = Reading<File>;
 
-    type Writer = Outlet<File>;
+    type Writer = Outlet<SparseFile>;
 
     type Hold = HostHold;
 
@@ -147,11 +148,11 @@ impl<'a, R: Files<File = File> + AllocGlobal> Disk for HostDisk<'a, R> {
 
     fn close(&mut self, _reader: Reading<File>) {}
 
-    fn make(&mut self, path: &str, how: Making) -> Result<Outlet<File>, DeviceFault> {
+    fn make(&mut self, path: &str, how: Making) -> Result<Outlet<SparseFile>, DeviceFault> {
         match self.file_for(path, how) {
             Ok(file) => {
                 self.trouble = None;
-                Ok(Outlet::new(file))
+                Ok(Outlet::new(SparseFile::new(file)))
             }
             Err(error) => {
                 self.trouble = match trouble_of(&error) {
@@ -163,8 +164,9 @@ impl<'a, R: Files<File = File> + AllocGlobal> Disk for HostDisk<'a, R> {
         }
     }
 
-    fn finish(&mut self, writer: Outlet<File>) -> Result<(), DeviceFault> {
-        if write_through(writer.inner()) {
+    fn finish(&mut self, writer: Outlet<SparseFile>) -> Result<(), DeviceFault> {
+        let written = writer.inner();
+        if written.end().is_ok() && write_through(written.file()) {
             Ok(())
         } else {
             Err(DeviceFault)

@@ -9,6 +9,7 @@ mod locks;
 mod numbering;
 mod outlet;
 mod presence;
+mod sparse;
 mod stopping;
 
 pub use disk::{Disk, Opened, Output};

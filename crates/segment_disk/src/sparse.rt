@@ -1,0 +1,79 @@
+//! Files of the system that keep no place for long runs of zeros.
+ghost use Rattle.std.specs.Prelude.{◌≡◌, ◌≤◌, length, take, IsTrue};
+ghost use Rattle.raw_region.specs.Memory.{AreZero, bytes_of};
+
+use std::fs::{File, OpenFile};
+use std::io::{self, Seek, SeekFrom, Write};
+
+/// The most bytes that are passed over or written together as one piece.
+const PIECE: usize = 65_536;
+
+/// A file that is written from its first byte on. Where it is a file of a disk that was empty, pieces of zeros are passed
+/// over: what was never written reads as zeros, and takes no place.
+#[derive(Drop)]
+pub struct SparseFile {
+    file: File,
+    /// Whether pieces may be passed over.
+    has_holes: bool,
+}
+
+impl SparseFile {
+    /// A file that was just made or emptied.
+    pub(crate) fn new(file: File) -> SparseFile {
+        let has_holes = match file.metadata() {
+            Ok(found) => found.is_file() && found.len() == 0,
+            Err(_) => false,
+        };
+        SparseFile { file, has_holes }
+    }
+
+    /// Ends the file behind all that it took: what was passed over last is a part of it.
+    pub(crate) fn end(&self) -> io::Result<()> {
+        if !self.has_holes {
+            return Ok(());
+        }
+        let mut file = &self.file;
+        let len = file.stream_position()?;
+        self.file.set_len(len)
+    }
+
+    /// The file itself.
+    pub(crate) fn file(&self) -> &File {
+        &self.file
+    }
+}
+
+/// The first piece of some bytes, or all of them.
+fn front_piece(bytes: &[u8]) -> &[u8]
+    ensures within { length result.now ≤ length bytes.now }
+    ensures front { result.now ≡ take (length result.now) bytes.now }
+{
+    &bytes[..bytes.len().min(PIECE)]
+}
+
+/// Whether all bytes are 0.
+fn are_zeros(bytes: &[u8]) -> bool
+    ensures { IsTrue result → AreZero (bytes_of bytes.now) 0 (length bytes.now) }
+{
+    let mut largest = 0;
+    'bytes: for at in 0..bytes.len() {
+        largest = largest.max(bytes[at]);
+    }
+    largest == 0
+}
+
+impl Write for SparseFile {
+    fn write(&mut self, bytes: &[u8]) -> io::Result<usize> {
+        let front = front_piece(bytes);
+        if self.has_holes && are_zeros(front) {
+            self.file.seek(SeekFrom::Current(front.len() as i64))?;
+            Ok(front.len())
+        } else {
+            self.file.write(front)
+        }
+    }
+
+    fn flush(&mut self) -> io::Result<()> {
+        self.file.flush()
+    }
+}

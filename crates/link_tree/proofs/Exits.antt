@@ -1,18 +1,19 @@
 -- Above the node where a removal begins nothing changes.
-use Rattle.std.proofs.Common.{◌≡◌, ℕ, ◌≤◌, arith, Bool, true, false, Option, Some, None, refl, sym, ap, ◌∙◌, inl, inr, nat_eq, subst}
-use Rattle.std.proofs.lemmas.Bool.{true≢false, cases_Bool, false_from_ne_true}
-use Rattle.link_tree.specs.Tree.{Cell, Tree, leaf, fork, root_of, nodes_of, Holds, IsTree, IsSearchTree, rises, has_black_root, height}
-use Rattle.link_tree.specs.Nodes.{is_in, without}
+use Rattle.std.proofs.Common.{◌≡◌, ℕ, Bool, true, false, Option, Some, None, [], refl, ap, ◌∙◌, inl, inr, nat_eq, subst}
+use Rattle.std.proofs.lemmas.Bool.{true≢false, cases_Bool}
+use Rattle.link_tree.specs.Tree.{Cell, Tree, leaf, fork, nodes_of, Holds, IsSearchTree, rises, has_black_root}
+use Rattle.link_tree.specs.Nodes.{without}
 use Rattle.link_tree.specs.Sides.{opposite, joined_at, side_of}
-use Rattle.link_tree.specs.Shrinking.{Rest, Shrinks, Leaves, mended_at, settled, without_root, without_least, least_of, shrunk}
+use Rattle.link_tree.specs.Shrinking.{Rest, Leaves, mended_at, settled, without_root, without_least, least_of, shrunk}
 use Rattle.link_tree.specs.Ways.{exit_of, exit_over}
 use Rattle.link_tree.specs.declared.visits.Side.{Side}
 use Rattle.link_tree.specs.declared.visits.Side.TheVariants.{Left, Right}
-use Rattle.link_tree.proofs.Trees.{holds_same, some_same, none_some}
-use Rattle.link_tree.proofs.Joints.{cell_at, joint_of, tree_joint, root_joined, apart_of, in_near}
+use Rattle.link_tree.proofs.Orders.{IsStrict}
+use Rattle.link_tree.proofs.Trees.{IsChanged, some_same, none_some}
+use Rattle.link_tree.proofs.Joints.{joint_of, apart_of}
 use Rattle.link_tree.proofs.Shrinkage.{nodes_of-shrunk, rises_without, shrunk_even}
 use Rattle.link_tree.proofs.Taking.{shrunk-joined}
-use Rattle.link_tree.proofs.Entries.{colour_joined, lower_in}
+use Rattle.link_tree.proofs.Beginnings.{Begins, begins_deeper, begins_here, begun}
 
 -- ---- under a red root nothing falls
 
@@ -64,25 +65,21 @@ turns n next None q e =
     ]
 turns n next (Some m) q e = deeper e
 
+-- what is left of a tree without the node
+abbrev pub left_of : (ℕ → ℕ → Bool) → ℕ → Tree → Tree
+left_of lt x t = (shrunk lt x t).tree
+
 -- what a removal does that begins at a node of the tree
 pub record IsTurned (lt : ℕ → ℕ → Bool) (h : ℕ → Cell) (x : ℕ) (t : Tree) (p : ℕ) : Type 0 where
-  pub below : Tree
-  pub shrinks : Shrinks lt h (Some p) below
-  pub inside : (m : ℕ) → is_in m (nodes_of below) ≡ true → is_in m (nodes_of t) ≡ true
-  pub lower : height below ≤ height t
-  pub carries : (h1 : ℕ → Cell) (link : Option ℕ) (fell : Bool)
-      → Leaves h h1 (nodes_of below) link fell (shrunk lt x below) → IsTree h1 (root_of t) (shrunk lt x t).tree
+  pub begins : Begins lt h [] (left_of lt x) (Some p) t
   pub still : (shrunk lt x t).fell ≡ false
-  pub colour : has_black_root (shrunk lt x t).tree ≡ has_black_root t
 
-module _ (lt : ℕ → ℕ → Bool) (transitive : (a b c : ℕ) → lt a b ≡ true → lt b c ≡ true → lt a c ≡ true)
-    (irreflexive : (n : ℕ) → lt n n ≡ false) (h : ℕ → Cell) (x : ℕ) where
+module _ {lt : ℕ → ℕ → Bool} (strict : IsStrict lt) (h : ℕ → Cell) (x : ℕ) where
   -- what has not fallen on one side
   over_still : (side : Side) (red : Bool) (near : Tree) (n : ℕ) (far : Tree) → nat_eq n x ≡ false
-      → side_of (lt x n) ≡ side → (shrunk lt x near).fell ≡ false
-      → shrunk lt x (joined_at side red near n far) ≡ record
-      { tree = joined_at side red (shrunk lt x near).tree n far; fell = false }
-  over_still side red near n far d s f = shrunk-joined lt transitive irreflexive x side red near n far d s
+      → side_of (lt x n) ≡ side → (shrunk lt x near).fell ≡ false → shrunk lt x (joined_at side red near n far)
+      ≡ record { tree = joined_at side red (shrunk lt x near).tree n far; fell = false }
+  over_still side red near n far d s f = shrunk-joined strict x side red near n far d s
       ∙ settled_still side red (shrunk lt x near) n far f
 
   turned_here : (side : Side) (red : Bool) (near : Tree) (n : ℕ) (far : Tree)
@@ -90,23 +87,11 @@ module _ (lt : ℕ → ℕ → Bool) (transitive : (a b c : ℕ) → lt a b ≡ 
       → nat_eq n x ≡ false → side_of (lt x n) ≡ side → has_black_root near ≡ false
       → IsTurned lt h x (joined_at side red near n far) n
   turned_here side red near n far w o d s k =
-      let t = joined_at side red near n far in
       let is = over_still side red near n far d s (shrunk_red lt x near k) in
-      let root : root_of (shrunk lt x t).tree ≡ Some n = ap (λ (r : Rest). root_of r.tree) is
-      ∙ root_joined side red (shrunk lt x near).tree n far in
       record {
-        below = t;
-        shrinks = record { tree = record { root = sym (root_joined side red near n far); holds = w }; ordered = o };
-        inside = λ m i. i;
-        lower = omega arith;
-        carries = λ h1 link fell u. record {
-          root = root_joined side red near n far ∙ sym root;
-          holds =
-              u.turned.tree.holds;
-        };
+        begins = begins_here strict h [] (left_of lt x) side red near (left_of lt x near) n far w o
+            (ap (λ (r : Rest). r.tree) is);
         still = ap (λ (r : Rest). r.fell) is;
-        colour = ap (λ (r : Rest). has_black_root r.tree) is ∙ colour_joined side red (shrunk lt x near).tree n far
-            ∙ sym (colour_joined side red near n far);
       }
 
   turned_deeper : (side : Side) (red : Bool) (near : Tree) (n : ℕ) (far : Tree) (q : ℕ)
@@ -114,31 +99,11 @@ module _ (lt : ℕ → ℕ → Bool) (transitive : (a b c : ℕ) → lt a b ≡ 
       → nat_eq n x ≡ false → side_of (lt x n) ≡ side → IsTurned lt h x near q
       → IsTurned lt h x (joined_at side red near n far) q
   turned_deeper side red near n far q w o d s g =
-      let t = joined_at side red near n far in
       let is = over_still side red near n far d s g.still in
-      let apart = apart_of lt transitive irreflexive side red near n far o in
-      let joint = joint_of h side red near n far w in
-      let low = lower_in side red near n far in
-      let lower = g.lower in
       record {
-        below = g.below;
-        shrinks = g.shrinks;
-        inside = λ m i. in_near side red near n far m (g.inside m i);
-        lower = omega arith;
-        carries = λ h1 link fell u.
-            let near' = g.carries h1 link fell u in
-            let out : (m : ℕ) → is_in m (nodes_of near) ≡ false → h1 m ≡ h m =
-            λ m b. u.turned.frame m
-            (false_from_ne_true (is_in m (nodes_of g.below)) (λ i. true≢false (sym (g.inside m i) ∙ b))) in
-            let all = tree_joint h1 side red (shrunk lt x near).tree n far (record {
-              cell = out n apart.not_near ∙ joint.cell ∙ ap (λ r. cell_at side red r (root_of far)) near'.root;
-              near_holds = near'.holds;
-              far_holds = holds_same h h1 far (λ m i. out m (apart.near_of_far m i)) joint.far_holds;
-            }) in
-            rw is (record { root = root_joined side red near n far ∙ all.root; holds = all.holds });
+        begins = begins_deeper strict h [] (left_of lt x) side red near n far (Some q) w o (λ m i. refl)
+            (ap (λ (r : Rest). r.tree) is) g.begins;
         still = ap (λ (r : Rest). r.fell) is;
-        colour = ap (λ (r : Rest). has_black_root r.tree) is ∙ colour_joined side red (shrunk lt x near).tree n far
-            ∙ sym (colour_joined side red near n far);
       }
 
   turned_over : (side : Side) (red : Bool) (near : Tree) (n : ℕ) (far : Tree) (q : ℕ)
@@ -150,7 +115,7 @@ module _ (lt : ℕ → ℕ → Bool) (transitive : (a b c : ℕ) → lt a b ≡ 
       elim (turns n near below q is) [
         | deeper k ↦ turned_deeper side red near n far q w o d s
             (more (joint_of h side red near n far w).near_holds
-            (apart_of lt transitive irreflexive side red near n far o).near_rises k)
+            (apart_of strict side red near n far o).near_rises k)
         | here k m ↦ subst (λ j. IsTurned lt h x (joined_at side red near n far) j) m
             (turned_here side red near n far w o d s k)
       ]
@@ -174,33 +139,13 @@ module _ (lt : ℕ → ℕ → Bool) (transitive : (a b c : ℕ) → lt a b ≡ 
       → IsTurned lt h x t p
   turned_whole root t p s e = turned t p s.tree.holds s.ordered e
 
-  pub left_tree : (lt' : ℕ → ℕ → Bool) (h1 h' : ℕ → Cell) (root link : Option ℕ) (fell : Bool) (t : Tree) (p : ℕ)
-      → IsSearchTree lt h root t
-      → (g : IsTurned lt h x t p) → Leaves h h1 (nodes_of g.below) link fell (shrunk lt x g.below) → h' ≡ h1 → lt' ≡ lt
-      → (t' : Tree) × IsSearchTree lt' h' root t' × (nodes_of t' ≡ without x (nodes_of t))
-  left_tree lt' h1 h' root link fell t p s g u eh el =
+  pub left : (lt' : ℕ → ℕ → Bool) (h1 h' : ℕ → Cell) (root link : Option ℕ) (fell : Bool) (t : Tree) (p : ℕ)
+      → IsSearchTree lt h root t → (g : IsTurned lt h x t p)
+      → Leaves h h1 (nodes_of g.begins.below) link fell (shrunk lt x g.begins.below) → h' ≡ h1 → lt' ≡ lt
+      → IsChanged lt' h h' root (nodes_of t) (without x (nodes_of t))
+  left lt' h1 h' root link fell t p s g u eh el =
       let b = s.red_black.black.0 in
-      let nodes = nodes_of-shrunk lt transitive irreflexive x t s.ordered in
       let e = shrunk_even lt x t b (record { no_red_pair = s.red_black.no_red_pair; black = s.red_black.black.1 }) in
-      let new = g.carries h1 link fell u in (
-        (shrunk lt x t).tree,
-        rw (eh, el) (record {
-          tree = record { root = s.tree.root ∙ new.root; holds = new.holds };
-          ordered = ap (rises lt) nodes ∙ rises_without lt x (nodes_of t) s.ordered;
-          red_black = record {
-            root = g.colour ∙ s.red_black.root;
-            no_red_pair = e.even.no_red_pair;
-            black =
-                (e.level, e.even.black);
-          };
-        }),
-        nodes,
-      )
-
-  pub left_frame : (h1 h' : ℕ → Cell) (link : Option ℕ) (fell : Bool) (t : Tree) (p : ℕ) (g : IsTurned lt h x t p)
-      → Leaves h h1 (nodes_of g.below) link fell (shrunk lt x g.below) → h' ≡ h1
-      → (m : ℕ) → is_in m (nodes_of t) ≡ false → h' m ≡ h m
-  left_frame h1 h' link fell t p g u eh m o =
-      ap (λ (f : ℕ → Cell). f m) eh
-      ∙ u.turned.frame m
-      (false_from_ne_true (is_in m (nodes_of g.below)) (λ i. true≢false (sym (g.inside m i) ∙ o)))
+      begun strict h [] (left_of lt x) lt' h1 h' root (Some p) link t e.level (without x (nodes_of t)) s g.begins
+      u.turned
+      e.even (nodes_of-shrunk strict x t s.ordered) (rises_without lt x (nodes_of t) s.ordered) eh el

@@ -1,22 +1,25 @@
 -- The insertion keeps order, colours and black heights.
-use Rattle.std.proofs.Common.{◌≡◌, ℕ, zero, suc, ◌+◌, ◌≤◌, arith, Bool, true, false, not, ◌&&◌, ◌||◌, Option, Some, None, List, [], ◌∷◌, ◌++◌, nat_eq, refl, sym, ap, ◌∙◌, inl, inr, ◌⊎◌, subst}
+use Rattle.std.proofs.Common.{◌≡◌, ℕ, zero, suc, ◌+◌, ◌≤◌, Bool, true, false, not, ◌&&◌, ◌||◌, Option, Some, None, List, [], ◌∷◌, ◌++◌, nat_eq, refl, sym, ap, ◌∙◌, inl, inr, ◌⊎◌}
 use Rattle.std.specs.List.{list_all}
 use Rattle.std.proofs.lemmas.Bool.{true≢false, false≢true, and_parts, and_from, or_cases, or_from, or_parts, eqb-false, or_left, or_right, cases_Bool, eqb-true, ne_eqb, not-true, not_from_false, false_from_ne_true}
-use Rattle.link_tree.specs.Tree.{Cell, Tree, leaf, fork, root_of, nodes_of, Holds, IsTree, IsSearchTree, rises, has_black_root, has_no_red_pair, has_black_height, IsRedBlack, height}
+use Rattle.link_tree.specs.Tree.{Cell, Tree, leaf, fork, root_of, nodes_of, IsSearchTree, rises, has_black_root, has_no_red_pair, has_black_height, IsRedBlack, height}
 use Rattle.link_tree.specs.Nodes.{is_in, has_place, put, with_left, with_right, with_red}
 use Rattle.link_tree.specs.Sides.{child_of, with_child, joined_at, side_of}
 use Rattle.link_tree.specs.Turning.{Turned, blackened, rebalanced, is_red_tree, balanced_outer, balanced_inner}
 use Rattle.link_tree.specs.Growing.{Grows, grown}
 use Rattle.link_tree.specs.declared.visits.Side.{Side}
 use Rattle.link_tree.specs.declared.visits.Side.TheVariants.{Left, Right}
-use Rattle.link_tree.proofs.Orders.{Splits, rises_split, all_at, all_from, above_more}
-use Rattle.link_tree.proofs.Joints.{cell_at, with_red-same, with_red-other, with_child-other, with_child-near, open_side, apart_of, in_near, in_far, in_root, outside_all, joint_of, nodes_of-joined, nodes_of-blackened, nodes_of-turn}
+use Rattle.link_tree.proofs.Orders.{IsStrict, Splits, rises_split, all_at, all_from, above_more}
+use Rattle.link_tree.proofs.Trees.{IsChanged}
+use Rattle.link_tree.proofs.Beginnings.{blackened_whole}
+use Rattle.link_tree.proofs.Joints.{Makes, parted, cell_at, with_red-same, with_red-other, with_child-other, with_child-near, in_near, in_far, in_root, outside_all, nodes_of-joined, nodes_of-painted, nodes_of-turn}
 use Rattle.link_tree.proofs.Turns.{graft}
 use Rattle.link_tree.proofs.Colours.{IsEven, IsNearlyEven, red_nearly, rebalanced_even, rebalanced_red, red_of_join, nearly_even, under_red, sides_of_red, sides_of_black, blackened_even, blackened_root, blackened_same}
 
 -- ---- lists
 
-pub put_in_left : (lt : ℕ → ℕ → Bool) (x : ℕ) (xs : List ℕ) (n : ℕ) (ys : List ℕ) → lt x n ≡ true → put lt x (xs ++ n ∷ ys) ≡ put lt x xs ++ n ∷ ys
+pub put_in_left : (lt : ℕ → ℕ → Bool) (x : ℕ) (xs : List ℕ) (n : ℕ) (ys : List ℕ) → lt x n ≡ true
+    → put lt x (xs ++ n ∷ ys) ≡ put lt x xs ++ n ∷ ys
 put_in_left lt x [] n ys e = rw e refl
 put_in_left lt x (y ∷ xs) n ys e =
     elim (cases_Bool (lt x y)) [
@@ -24,7 +27,8 @@ put_in_left lt x (y ∷ xs) n ys e =
       | inr a ↦ rw a (ap (λ zs. y ∷ zs) (put_in_left lt x xs n ys e))
     ]
 
-pub put_in_right : (lt : ℕ → ℕ → Bool) (x : ℕ) (xs : List ℕ) (n : ℕ) (ys : List ℕ) → lt x n ≡ false → list_all (λ y. not (lt x y)) xs ≡ true
+pub put_in_right : (lt : ℕ → ℕ → Bool) (x : ℕ) (xs : List ℕ) (n : ℕ) (ys : List ℕ) → lt x n ≡ false
+    → list_all (λ y. not (lt x y)) xs ≡ true
     → put lt x (xs ++ n ∷ ys) ≡ xs ++ n ∷ put lt x ys
 put_in_right lt x [] n ys e a = rw e refl
 put_in_right lt x (y ∷ xs) n ys e a =
@@ -32,8 +36,13 @@ put_in_right lt x (y ∷ xs) n ys e a =
     let f = not-true (lt x y) p.0 in
     rw f (ap (λ zs. y ∷ zs) (put_in_right lt x xs n ys e p.1))
 
-pub put_parts : (lt : ℕ → ℕ → Bool) (x : ℕ) (xs : List ℕ) (m : ℕ) → is_in m (put lt x xs) ≡ true → (m ≡ x) ⊎ (is_in m xs ≡ true)
-put_parts lt x [] m i = elim (or_cases (nat_eq m x) false i) [ inl e ↦ inl (eqb-true m x e) | inr e ↦ absurd (false≢true e) ]
+pub put_parts : (lt : ℕ → ℕ → Bool) (x : ℕ) (xs : List ℕ) (m : ℕ) → is_in m (put lt x xs) ≡ true
+    → (m ≡ x) ⊎ (is_in m xs ≡ true)
+put_parts lt x [] m i = elim (or_cases (nat_eq m x) false i) [
+  | inl e ↦ inl (eqb-true m x e)
+  | inr e ↦ absurd
+      (false≢true e)
+]
 put_parts lt x (y ∷ xs) m i =
     elim (cases_Bool (lt x y)) [
       | inl a ↦
@@ -43,24 +52,32 @@ put_parts lt x (y ∷ xs) m i =
           let j : is_in m (y ∷ put lt x xs) ≡ true = rw a at i in
           elim (or_cases (nat_eq m y) (is_in m (put lt x xs)) j) [
             | inl e ↦ inr (or_left (nat_eq m y) (is_in m xs) e)
-            | inr e ↦ elim (put_parts lt x xs m e) [ inl f ↦ inl f | inr f ↦ inr (or_right (nat_eq m y) (is_in m xs) f) ]
+            | inr e ↦ elim (put_parts lt x xs m e) [
+              | inl f ↦ inl f
+              | inr f ↦ inr (or_right (nat_eq m y) (is_in m xs) f)
+            ]
           ]
     ]
 
-pub put_out : (lt : ℕ → ℕ → Bool) (x : ℕ) (xs : List ℕ) (m : ℕ) → (m ≡ x → ⊥) → is_in m xs ≡ false → is_in m (put lt x xs) ≡ false
+pub put_out : (lt : ℕ → ℕ → Bool) (x : ℕ) (xs : List ℕ) (m : ℕ) → (m ≡ x → ⊥) → is_in m xs ≡ false
+    → is_in m (put lt x xs) ≡ false
 put_out lt x xs m d o =
-    false_from_ne_true (is_in m (put lt x xs)) (λ i. elim (put_parts lt x xs m i) [ inl e ↦ d e | inr e ↦ true≢false (sym e ∙ o) ])
+    false_from_ne_true (is_in m (put lt x xs))
+    (λ i. elim (put_parts lt x xs m i) [ inl e ↦ d e | inr e ↦ true≢false (sym e ∙ o) ])
 
 -- a node has its place in each part of a list in which it has one
-pub place_part : (lt : ℕ → ℕ → Bool) (x : ℕ) (xs ys : List ℕ) → ((m : ℕ) → is_in m xs ≡ true → is_in m ys ≡ true) → has_place lt x ys ≡ true → has_place lt x xs ≡ true
-place_part lt x xs ys sub p = all_from (λ m. lt x m || lt m x) xs (λ m i. all_at (λ m. lt x m || lt m x) ys m p (sub m i))
+pub place_part : (lt : ℕ → ℕ → Bool) (x : ℕ) (xs ys : List ℕ) → ((m : ℕ) → is_in m xs ≡ true → is_in m ys ≡ true)
+    → has_place lt x ys ≡ true → has_place lt x xs ≡ true
+place_part lt x xs ys sub p = all_from (λ m. lt x m || lt m x) xs (λ m i. all_at (λ m. lt x m || lt m x) ys m p
+    (sub m i))
 
 pub outside_x : (m x : ℕ) (ns : List ℕ) → is_in m (x ∷ ns) ≡ false → (m ≡ x → ⊥) × (is_in m ns ≡ false)
 outside_x m x ns i = let p = or_parts (nat_eq m x) (is_in m ns) i in (eqb-false m x p.0, p.1)
 
 -- ---- trees
 
-pub grown-joined : (lt : ℕ → ℕ → Bool) (x : ℕ) (side : Side) (red : Bool) (near : Tree) (n : ℕ) (far : Tree) → side_of (lt x n) ≡ side
+pub grown-joined : (lt : ℕ → ℕ → Bool) (x : ℕ) (side : Side) (red : Bool) (near : Tree) (n : ℕ) (far : Tree)
+    → side_of (lt x n) ≡ side
     → grown lt x (joined_at side red near n far) ≡ rebalanced side (joined_at side red (grown lt x near) n far)
 grown-joined lt x Left red near n far e = rw e refl
 grown-joined lt x Right red near n far e = rw e refl
@@ -69,16 +86,23 @@ nodes_of-inner : (side : Side) (a : Tree) (m : ℕ) (b : Tree) (n : ℕ) (far : 
     → nodes_of (balanced_inner side a m b n far) ≡ nodes_of (joined_at side false (joined_at side true a m b) n far)
 nodes_of-inner side a m leaf n far = refl
 nodes_of-inner side a m (fork false p k q) n far = refl
-nodes_of-inner Left a m (fork true p k q) n far = nodes_of-turn Left false true true false (joined_at Left false a m p) k q n far
-    ∙ nodes_of-joined Left false false (joined_at Left true a m (fork true p k q)) (joined_at Left true (joined_at Left false a m p) k q) n far (sym (nodes_of-turn Left true false true true a m p k q))
-nodes_of-inner Right a m (fork true p k q) n far = nodes_of-turn Right false true true false (joined_at Right false a m q) k p n far
-    ∙ nodes_of-joined Right false false (joined_at Right true a m (fork true p k q)) (joined_at Right true (joined_at Right false a m q) k p) n far (sym (nodes_of-turn Right true false true true a m q k p))
+nodes_of-inner Left a m (fork true p k q) n far = nodes_of-turn Left false true true false (joined_at Left false a m p)
+    k q n far
+    ∙ nodes_of-joined Left false false (joined_at Left true a m (fork true p k q))
+    (joined_at Left true (joined_at Left false a m p) k q) n far
+    (sym (nodes_of-turn Left true false true true a m p k q))
+nodes_of-inner Right a m (fork true p k q) n far = nodes_of-turn Right false true true false
+    (joined_at Right false a m q) k p n far
+    ∙ nodes_of-joined Right false false (joined_at Right true a m (fork true p k q))
+    (joined_at Right true (joined_at Right false a m q) k p) n far
+    (sym (nodes_of-turn Right true false true true a m q k p))
 
 nodes_of-outer : (side : Side) (a : Tree) (m : ℕ) (b : Tree) (n : ℕ) (far : Tree)
     → nodes_of (balanced_outer side a m b n far) ≡ nodes_of (joined_at side false (joined_at side true a m b) n far)
 nodes_of-outer side a m b n far =
     elim (cases_Bool (is_red_tree a)) [
-      | inl e ↦ rw e (nodes_of-joined side true true a (blackened a) m (joined_at side false b n far) (nodes_of-blackened a)
+      | inl e ↦ rw e (nodes_of-joined side true true a (blackened a) m (joined_at side false b n far)
+          (nodes_of-painted false a)
           ∙ nodes_of-turn side false true false true a m b n far)
       | inr e ↦ rw e (nodes_of-inner side a m b n far)
     ]
@@ -104,13 +128,17 @@ module _ (lt : ℕ → ℕ → Bool) (transitive : (a b c : ℕ) → lt a b ≡ 
         | inl a ↦ rw a (and_from (lt x y && list_all (lt x) ys) (list_all (lt y) ys && rises lt ys)
             (and_from (lt x y) (list_all (lt x) ys) a (above_more lt transitive x y ys a q.0)) o)
         | inr a ↦
-            let b : lt y x ≡ true = elim (or_cases (lt x y) (lt y x) k.0) [ inl c ↦ absurd (true≢false (sym c ∙ a)) | inr c ↦ c ] in
+            let b : lt y x ≡ true =
+            elim (or_cases (lt x y) (lt y x) k.0) [ inl c ↦ absurd (true≢false (sym c ∙ a)) | inr c ↦ c ] in
             rw a (and_from (list_all (lt y) (put lt x ys)) (rises lt (put lt x ys))
-            (all_from (lt y) (put lt x ys) (λ m i. elim (put_parts lt x ys m i) [ inl e ↦ rw e b | inr j ↦ all_at (lt y) ys m q.0 j ]))
+            (all_from (lt y) (put lt x ys)
+            (λ m i. elim (put_parts lt x ys m i) [ inl e ↦ rw e b | inr j ↦ all_at (lt y) ys m q.0 j ]))
             (rises_put x ys q.1 k.1))
       ]
 
-  grown-nodes_left : (x : ℕ) (red : Bool) (l : Tree) (n : ℕ) (r : Tree) → lt x n ≡ true → nodes_of (grown lt x l) ≡ put lt x (nodes_of l)
+module _ {lt : ℕ → ℕ → Bool} (strict : IsStrict lt) where
+  grown-nodes_left : (x : ℕ) (red : Bool) (l : Tree) (n : ℕ) (r : Tree) → lt x n ≡ true
+      → nodes_of (grown lt x l) ≡ put lt x (nodes_of l)
       → nodes_of (grown lt x (fork red l n r)) ≡ put lt x (nodes_of (fork red l n r))
   grown-nodes_left x red l n r e more =
       ap nodes_of (grown-joined lt x Left red l n r (ap side_of e))
@@ -118,17 +146,21 @@ module _ (lt : ℕ → ℕ → Bool) (transitive : (a b c : ℕ) → lt a b ≡ 
       ∙ ap (λ zs. zs ++ n ∷ nodes_of r) more
       ∙ sym (put_in_left lt x (nodes_of l) n (nodes_of r) e)
 
-  grown-nodes_right : (x : ℕ) (red : Bool) (l : Tree) (n : ℕ) (r : Tree) → lt x n ≡ false → Splits lt (nodes_of l) n (nodes_of r) → nodes_of (grown lt x r) ≡ put lt x (nodes_of r)
+  grown-nodes_right : (x : ℕ) (red : Bool) (l : Tree) (n : ℕ) (r : Tree) → lt x n ≡ false
+      → Splits lt (nodes_of l) n (nodes_of r) → nodes_of (grown lt x r) ≡ put lt x (nodes_of r)
       → nodes_of (grown lt x (fork red l n r)) ≡ put lt x (nodes_of (fork red l n r))
   grown-nodes_right x red l n r e s more =
       let behind : list_all (λ y. not (lt x y)) (nodes_of l) ≡ true = all_from (λ y. not (lt x y)) (nodes_of l)
-      (λ m i. not_from_false (lt x m) (false_from_ne_true (lt x m) (λ k. true≢false (sym (transitive x m n k (all_at (λ z. lt z n) (nodes_of l) m s.below i)) ∙ e)))) in
+      (λ m i. not_from_false (lt x m)
+      (false_from_ne_true (lt x m)
+      (λ k. true≢false (sym (strict.transitive x m n k (all_at (λ z. lt z n) (nodes_of l) m s.below i)) ∙ e)))) in
       ap nodes_of (grown-joined lt x Right red r n l (ap side_of e))
       ∙ nodes_of-rebalanced Right red (grown lt x r) n l
       ∙ ap (λ zs. nodes_of l ++ n ∷ zs) more
       ∙ sym (put_in_right lt x (nodes_of l) n (nodes_of r) e behind)
 
-  pub nodes_of-grown : (x : ℕ) (t : Tree) → rises lt (nodes_of t) ≡ true → nodes_of (grown lt x t) ≡ put lt x (nodes_of t)
+  pub nodes_of-grown : (x : ℕ) (t : Tree) → rises lt (nodes_of t) ≡ true
+      → nodes_of (grown lt x t) ≡ put lt x (nodes_of t)
   nodes_of-grown x leaf o = refl
   nodes_of-grown x (fork red l n r) o =
       let s = rises_split lt (nodes_of l) n (nodes_of r) o in
@@ -144,7 +176,8 @@ pub record IsGrownEven (t t' : Tree) (b : ℕ) : Type 0 where
   pub nearly : IsNearlyEven t' b
   pub even : has_black_root t ≡ true → has_no_red_pair t' ≡ true
 
-grown_red : (side : Side) (near near' : Tree) (n : ℕ) (far : Tree) (b : ℕ) → IsGrownEven near near' b → IsEven far b → has_black_root near ≡ true
+grown_red : (side : Side) (near near' : Tree) (n : ℕ) (far : Tree) (b : ℕ) → IsGrownEven near near' b → IsEven far b
+    → has_black_root near ≡ true
     → IsGrownEven (joined_at side true near n far) (rebalanced side (joined_at side true near' n far)) b
 grown_red side near near' n far b e f k =
     let even : IsEven near' b = record { no_red_pair = e.even k; black = e.nearly.black } in
@@ -157,11 +190,23 @@ grown_black : (side : Side) (near near' : Tree) (n : ℕ) (far : Tree) (b : ℕ)
     → IsGrownEven (joined_at side false near n far) (rebalanced side (joined_at side false near' n far)) (suc b)
 grown_black side near near' n far b e f =
     let even = rebalanced_even side near' n far b e.nearly f in
-    record { nearly = nearly_even (rebalanced side (joined_at side false near' n far)) (suc b) even; even = λ q. even.no_red_pair }
+    record {
+      nearly = nearly_even (rebalanced side (joined_at side false near' n far)) (suc b) even;
+      even = λ q.
+          even.no_red_pair;
+    }
 
 module _ (lt : ℕ → ℕ → Bool) (x : ℕ) where
   pub grown_even : (t : Tree) (b : ℕ) → IsEven t b → IsGrownEven t (grown lt x t) b
-  grown_even leaf b e = record { nearly = record { children = refl; black = and_from (has_black_height leaf b) (has_black_height leaf b) e.black e.black }; even = λ q. refl }
+  grown_even leaf b e =
+      record {
+        nearly = record {
+          children = refl;
+          black = and_from (has_black_height leaf b) (has_black_height leaf b)
+              e.black e.black;
+        };
+        even = λ q. refl;
+      }
   grown_even (fork true l n r) b e =
       let u = under_red l n r e.no_red_pair in
       let s = sides_of_red Left l n r b (u.nearly n b e.black) in
@@ -187,7 +232,8 @@ module _ (lt : ℕ → ℕ → Bool) (x : ℕ) where
       let b = k.black.0 in
       let e = grown_even t b (record { no_red_pair = k.no_red_pair; black = k.black.1 }) in
       elim (cases_Bool (has_black_root (grown lt x t))) [
-        | inl q ↦ rw (blackened_same (grown lt x t) q) (record { root = q; no_red_pair = e.even k.root; black = (b, e.nearly.black) })
+        | inl q ↦ rw (blackened_same (grown lt x t) q)
+            (record { root = q; no_red_pair = e.even k.root; black = (b, e.nearly.black) })
         | inr q ↦
             let even = blackened_even (grown lt x t) b e.nearly (ap not q) in
             record { root = blackened_root (grown lt x t); no_red_pair = even.no_red_pair; black = (suc b, even.black) }
@@ -195,14 +241,14 @@ module _ (lt : ℕ → ℕ → Bool) (x : ℕ) where
 
 -- ---- cells
 
-module _ (lt : ℕ → ℕ → Bool) (transitive : (a b c : ℕ) → lt a b ≡ true → lt b c ≡ true → lt a c ≡ true) (irreflexive : (n : ℕ) → lt n n ≡ false) where
+module _ {lt : ℕ → ℕ → Bool} (strict : IsStrict lt) where
   -- a node that has its place beside another is another
   pub placed_apart : (x : ℕ) (ns : List ℕ) (m : ℕ) → has_place lt x ns ≡ true → is_in m ns ≡ true → m ≡ x → ⊥
   placed_apart x ns m p i e =
       let k = all_at (λ n. lt x n || lt n x) ns m p i in
       elim (or_cases (lt x m) (lt m x) k) [
-        | inl a ↦ let a' : lt x x ≡ true = rw e at a in true≢false (sym a' ∙ irreflexive x)
-        | inr a ↦ let a' : lt x x ≡ true = rw e at a in true≢false (sym a' ∙ irreflexive x)
+        | inl a ↦ let a' : lt x x ≡ true = rw e at a in true≢false (sym a' ∙ strict.irreflexive x)
+        | inr a ↦ let a' : lt x x ≡ true = rw e at a in true≢false (sym a' ∙ strict.irreflexive x)
       ]
 
   pub not_placed : (x : ℕ) (ns : List ℕ) → has_place lt x ns ≡ true → is_in x ns ≡ false
@@ -216,34 +262,38 @@ module _ (lt : ℕ → ℕ → Bool) (transitive : (a b c : ℕ) → lt a b ≡ 
       → side_of (lt x at) ≡ side → Grows lt h (Some at) x t
       → ((u : Tree) → Grows lt h (child_of side (h at)) x u → Turned h h1 (x ∷ nodes_of u) (Some child) (grown lt x u))
       → h2 ≡ with_child side h1 at (Some child)
-      → ((u : Tree) → IsTree h2 (Some at) u → rises lt (nodes_of u) ≡ true → Turned h2 h3 (nodes_of u) (Some result) (rebalanced side u))
+      → Makes lt h2 h3 (Some at) (Some result) (rebalanced side)
       → Turned h h3 (x ∷ nodes_of t) (Some result) (grown lt x t)
   grow_step side h h1 h2 h3 x at child result t before w below set balance =
-      let o = open_side h side at t w.tree in
+      let o = parted strict side h at t w.tree w.ordered in
       let red = (h at).red in
       let old = joined_at side red o.near at o.far in
-      let order : rises lt (nodes_of old) ≡ true = ap (λ u. rises lt (nodes_of u)) (sym o.is) ∙ w.ordered in
-      let placed : has_place lt x (nodes_of old) ≡ true = ap (λ u. has_place lt x (nodes_of u)) (sym o.is) ∙ w.placed in
-      let holds : Holds h old = rw o.is at w.tree.holds in
-      let apart = apart_of lt transitive irreflexive side red o.near at o.far order in
+      let order = o.order in
+      let apart = o.apart in
+      let placed : has_place lt x (nodes_of old) ≡ true = rw o.is at w.placed in
       let near_placed = place_part lt x (nodes_of o.near) (nodes_of old) (in_near side red o.near at o.far) placed in
       let new = grown lt x o.near in
       let u = below o.near (record { tree = o.near_tree; ordered = apart.near_rises; placed = near_placed }) in
-      let new_nodes = nodes_of-grown lt transitive x o.near apart.near_rises in
+      let new_nodes = nodes_of-grown strict x o.near apart.near_rises in
       let at_x = placed_apart x (nodes_of old) at placed (in_root side red o.near at o.far) in
-      let far_x : (m : ℕ) → is_in m (nodes_of o.far) ≡ true → m ≡ x → ⊥ = λ m i. placed_apart x (nodes_of old) m placed (in_far side red o.near at o.far m i) in
+      let far_x : (m : ℕ) → is_in m (nodes_of o.far) ≡ true → m ≡ x → ⊥ = λ m i. placed_apart x (nodes_of old) m placed
+      (in_far side red o.near at o.far m i) in
       let set_at : (m : ℕ) → h2 m ≡ with_child side h1 at (Some child) m = λ m. ap (λ (f : ℕ → Cell). f m) set in
-      let joint = joint_of h side red o.near at o.far holds in
       let at_out = out_of at x (nodes_of o.near) at_x apart.not_near in
-      let cell = set_at at ∙ with_child-near side h1 at red (root_of o.near) (root_of o.far) (Some child) (u.frame at at_out ∙ joint.cell) in
-      let rest : (m : ℕ) → (m ≡ at → ⊥) → h2 m ≡ h1 m = λ m d. set_at m ∙ with_child-other side h1 at m (Some child) d in
-      let grafted = graft side h h1 h2 red o.near new at o.far (Some child) (x ∷ nodes_of o.near) holds u at_out
+      let cell = set_at at ∙ with_child-near side h1 at red (root_of o.near) (root_of o.far) (Some child)
+      (u.frame at at_out ∙ o.joint.cell) in
+      let rest : (m : ℕ) → (m ≡ at → ⊥) → h2 m ≡ h1 m = λ m d. set_at m
+      ∙ with_child-other side h1 at m (Some child) d in
+      let grafted = graft side h h1 h2 red o.near new at o.far (Some child) (x ∷ nodes_of o.near) o.holds u at_out
       (λ m i. out_of m x (nodes_of o.near) (far_x m i) (apart.near_of_far m i))
       (ap (is_in at) new_nodes ∙ put_out lt x (nodes_of o.near) at at_x apart.not_near) apart.not_far cell rest in
-      let is_grown : grown lt x t ≡ rebalanced side (joined_at side red new at o.far) = ap (λ v. grown lt x v) o.is ∙ grown-joined lt x side red o.near at o.far before in
+      let is_grown : grown lt x t ≡ rebalanced side (joined_at side red new at o.far) = ap (λ v. grown lt x v) o.is
+      ∙ grown-joined lt x side red o.near at o.far before in
       let grown_nodes : nodes_of (joined_at side red new at o.far) ≡ put lt x (nodes_of old) =
-      sym (nodes_of-rebalanced side red new at o.far) ∙ ap nodes_of (sym (grown-joined lt x side red o.near at o.far before)) ∙ nodes_of-grown lt transitive x old order in
-      let new_order : rises lt (nodes_of (joined_at side red new at o.far)) ≡ true = ap (rises lt) grown_nodes ∙ rises_put lt transitive x (nodes_of old) order placed in
+      sym (nodes_of-rebalanced side red new at o.far)
+      ∙ ap nodes_of (sym (grown-joined lt x side red o.near at o.far before)) ∙ nodes_of-grown strict x old order in
+      let new_order : rises lt (nodes_of (joined_at side red new at o.far)) ≡ true = ap (rises lt) grown_nodes
+      ∙ rises_put lt strict.transitive x (nodes_of old) order placed in
       let turned = balance (joined_at side red new at o.far) grafted new_order in
       record {
         tree = rw is_grown turned.tree;
@@ -257,13 +307,24 @@ module _ (lt : ℕ → ℕ → Bool) (transitive : (a b c : ℕ) → lt a b ≡ 
       }
 
 -- a node alone
-pub lay_step : (h h1 h2 h3 : ℕ → Cell) (n : ℕ) → h1 ≡ with_left h n None → h2 ≡ with_right h1 n None → h3 ≡ with_red h2 n true
+pub lay_step : (h h1 h2 h3 : ℕ → Cell) (n : ℕ) → h1 ≡ with_left h n None → h2 ≡ with_right h1 n None
+    → h3 ≡ with_red h2 n true
     → Turned h h3 (n ∷ []) (Some n) (fork true leaf n leaf)
 lay_step h h1 h2 h3 n e1 e2 e3 =
-    let c1 : h1 n ≡ cell_at Left (h n).red None (h n).right = ap (λ (f : ℕ → Cell). f n) e1 ∙ with_child-near Left h n (h n).red (h n).left (h n).right None refl in
-    let c2 : h2 n ≡ cell_at Right (h n).red None None = ap (λ (f : ℕ → Cell). f n) e2 ∙ with_child-near Right h1 n (h n).red (h n).right None None c1 in
+    let c1 : h1 n ≡ cell_at Left (h n).red None (h n).right = ap (λ (f : ℕ → Cell). f n) e1
+    ∙ with_child-near Left h n (h n).red (h n).left (h n).right None refl in
+    let c2 : h2 n ≡ cell_at Right (h n).red None None = ap (λ (f : ℕ → Cell). f n) e2
+    ∙ with_child-near Right h1 n (h n).red (h n).right None None c1 in
     record {
-      tree = record { root = refl; holds = (ap (λ (f : ℕ → Cell). f n) e3 ∙ with_red-same h2 n (h n).red true None None c2, tt, tt) };
+      tree = record {
+        root = refl;
+        holds = (
+          ap (λ (f : ℕ → Cell). f n) e3
+              ∙ with_red-same h2 n (h n).red true None None c2,
+          tt,
+          tt,
+        );
+      };
       frame = λ m i.
           let d = (outside_x m n [] i).0 in
           ap (λ (f : ℕ → Cell). f m) e3 ∙ with_red-other h2 n m true d
@@ -278,61 +339,36 @@ pub record GrowsBelow (lt : ℕ → ℕ → Bool) (h : ℕ → Cell) (side : Sid
   pub lower : height tree + 1 ≤ height t
   pub apart : at ≡ x → ⊥
 
-pub lower_near : (side : Side) (red : Bool) (near : Tree) (n : ℕ) (far : Tree) → height near + 1 ≤ height (joined_at side red near n far)
-lower_near Left red near n far = omega arith
-lower_near Right red near n far = omega arith
-
-pub grows_below : (lt : ℕ → ℕ → Bool) → ((a b c : ℕ) → lt a b ≡ true → lt b c ≡ true → lt a c ≡ true) → ((n : ℕ) → lt n n ≡ false)
-    → (side : Side) (h : ℕ → Cell) (x at : ℕ) (t : Tree) → Grows lt h (Some at) x t → GrowsBelow lt h side at x t
-grows_below lt transitive irreflexive side h x at t w =
-    let o = open_side h side at t w.tree in
-    let red = (h at).red in
-    let old = joined_at side red o.near at o.far in
-    let order : rises lt (nodes_of old) ≡ true = ap (λ u. rises lt (nodes_of u)) (sym o.is) ∙ w.ordered in
-    let placed : has_place lt x (nodes_of old) ≡ true = ap (λ u. has_place lt x (nodes_of u)) (sym o.is) ∙ w.placed in
-    let apart = apart_of lt transitive irreflexive side red o.near at o.far order in
-    let low = lower_near side red o.near at o.far in
+pub grows_below : {lt : ℕ → ℕ → Bool} → IsStrict lt → (side : Side) (h : ℕ → Cell) (x at : ℕ) (t : Tree)
+    → Grows lt h (Some at) x t → GrowsBelow lt h side at x t
+grows_below {lt = lt} strict side h x at t w =
+    let o = parted strict side h at t w.tree w.ordered in
+    let old = joined_at side (h at).red o.near at o.far in
+    let placed : has_place lt x (nodes_of old) ≡ true = rw o.is at w.placed in
     record {
       tree = o.near;
       grows = record {
         tree = o.near_tree;
-        ordered = apart.near_rises;
-        placed = place_part lt x (nodes_of o.near) (nodes_of old) (in_near side red o.near at o.far) placed;
+        ordered = o.apart.near_rises;
+        placed = place_part lt x (nodes_of o.near) (nodes_of old) (in_near side (h at).red o.near at o.far) placed;
       };
-      lower = subst (λ u. height o.near + 1 ≤ height u) (sym o.is) low;
-      apart = placed_apart lt transitive irreflexive x (nodes_of old) at placed (in_root side red o.near at o.far);
+      lower = o.lower;
+      apart = placed_apart strict x (nodes_of old) at placed (in_root side (h at).red o.near at o.far);
     }
 
--- the whole insertion, its root made black
-module _ (lt lt' : ℕ → ℕ → Bool) (transitive : (a b c : ℕ) → lt a b ≡ true → lt b c ≡ true → lt a c ≡ true) where
-  pub inserted_tree : (h h1 h2 h' : ℕ → Cell) (root : Option ℕ) (x top : ℕ) (t : Tree) → IsSearchTree lt h root t → has_place lt x (nodes_of t) ≡ true
-      → Turned h h1 (x ∷ nodes_of t) (Some top) (grown lt x t)
-      → ((u : Tree) → IsTree h1 (Some top) u → rises lt (nodes_of u) ≡ true → Turned h1 h2 (nodes_of u) (Some top) (blackened u))
-      → h' ≡ h2 → lt' ≡ lt
-      → (t' : Tree) × IsSearchTree lt' h' (Some top) t' × (nodes_of t' ≡ put lt x (nodes_of t))
-  inserted_tree h h1 h2 h' root x top t k p g black eh el =
-      let nodes = nodes_of-grown lt transitive x t k.ordered in
-      let order : rises lt (nodes_of (grown lt x t)) ≡ true = ap (rises lt) nodes ∙ rises_put lt transitive x (nodes_of t) k.ordered p in
-      let b = black (grown lt x t) g.tree order in
-      let nodes' = nodes_of-blackened (grown lt x t) ∙ nodes in (
-        blackened (grown lt x t),
-        rw (eh, el) (record {
-          tree = b.tree;
-          ordered = ap (rises lt) (nodes_of-blackened (grown lt x t)) ∙ order;
-          red_black = grown_red_black lt x t k.red_black;
-        }),
-        nodes',
-      )
+-- no cell of another node changed, and none of the node that is put in
+pub frame_beside : {lt : ℕ → ℕ → Bool} {h h' : ℕ → Cell} {root : Option ℕ} {x : ℕ} {ns ms : List ℕ}
+    → IsChanged lt h h' root (x ∷ ns) ms → (m : ℕ) → (m ≡ x → ⊥) → is_in m ns ≡ false → h' m ≡ h m
+frame_beside {x = x} {ns = ns} c m d o = c.frame m (or_from (nat_eq m x) (is_in m ns) (ne_eqb m x d) o)
 
-pub inserted_frame : (lt : ℕ → ℕ → Bool) → ((a b c : ℕ) → lt a b ≡ true → lt b c ≡ true → lt a c ≡ true)
-    → (h h1 h2 h' : ℕ → Cell) (root : Option ℕ) (x top : ℕ) (t : Tree) → IsSearchTree lt h root t → has_place lt x (nodes_of t) ≡ true
+-- the whole insertion, its root made black
+pub inserted : {lt : ℕ → ℕ → Bool} → IsStrict lt → (lt' : ℕ → ℕ → Bool) (h h1 h2 h' : ℕ → Cell) (root : Option ℕ)
+    (x top : ℕ) (t : Tree) → IsSearchTree lt h root t → has_place lt x (nodes_of t) ≡ true
     → Turned h h1 (x ∷ nodes_of t) (Some top) (grown lt x t)
-    → ((u : Tree) → IsTree h1 (Some top) u → rises lt (nodes_of u) ≡ true → Turned h1 h2 (nodes_of u) (Some top) (blackened u))
-    → h' ≡ h2
-    → (m : ℕ) → (m ≡ x → ⊥) → is_in m (nodes_of t) ≡ false → h' m ≡ h m
-inserted_frame lt transitive h h1 h2 h' root x top t k p g black eh m d o =
-    let nodes = nodes_of-grown lt transitive x t k.ordered in
-    let order : rises lt (nodes_of (grown lt x t)) ≡ true = ap (rises lt) nodes ∙ rises_put lt transitive x (nodes_of t) k.ordered p in
-    let b = black (grown lt x t) g.tree order in
-    ap (λ (f : ℕ → Cell). f m) eh ∙ b.frame m (ap (is_in m) nodes ∙ put_out lt x (nodes_of t) m d o)
-    ∙ g.frame m (or_from (nat_eq m x) (is_in m (nodes_of t)) (ne_eqb m x d) o)
+    → Makes lt h1 h2 (Some top) (Some top) blackened
+    → h' ≡ h2 → lt' ≡ lt → IsChanged lt' h h' (Some top) (x ∷ nodes_of t) (put lt x (nodes_of t))
+inserted {lt = lt} strict lt' h h1 h2 h' root x top t k p g black eh el =
+    blackened_whole lt' h h1 h2 h' (Some top) (grown lt x t) (x ∷ nodes_of t) (put lt x (nodes_of t)) g black
+    (grown_red_black lt x t k.red_black) (nodes_of-grown strict x t k.ordered)
+    (rises_put lt strict.transitive x (nodes_of t) k.ordered p)
+    (λ m i. let out = outside_x m x (nodes_of t) i in put_out lt x (nodes_of t) m out.0 out.1) eh el

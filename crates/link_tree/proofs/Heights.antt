@@ -35,7 +35,8 @@ tall (fork false l n r) (suc b) hb nr =
     let ur : redness r ≤ 1 = redness_le r in
     omega arith
 
-black_tall : (t : Tree) (b : ℕ) → has_black_root t ≡ true → has_black_height t b ≡ true → has_no_red_pair t ≡ true → height t ≤ 2 * b
+black_tall : (t : Tree) (b : ℕ) → has_black_root t ≡ true → has_black_height t b ≡ true → has_no_red_pair t ≡ true
+    → height t ≤ 2 * b
 unfolding redness
 black_tall t b k hb nr =
     let h = tall t b hb nr in

@@ -1,13 +1,13 @@
 -- Trees seen from one side of their root, and what a change of one cell does to them.
-use Rattle.std.proofs.Common.{◌≡◌, ℕ, Bool, true, false, Option, Some, List, ◌∷◌, refl, sym, ◌∙◌, append_assoc}
+use Rattle.std.proofs.Common.{◌≡◌, ℕ, ◌+◌, ◌≤◌, arith, Bool, true, false, Option, Some, List, ◌∷◌, refl, sym, ◌∙◌, append_assoc, subst}
 use Rattle.std.proofs.lemmas.Bool.{true≢false, eq-eqb, ne_eqb}
-use Rattle.link_tree.specs.Tree.{Cell, Tree, leaf, fork, root_of, nodes_of, Holds, IsTree, rises}
+use Rattle.link_tree.specs.Tree.{Cell, Tree, leaf, fork, root_of, nodes_of, Holds, IsTree, rises, height}
 use Rattle.link_tree.specs.Nodes.{is_in, with_left, with_right, with_red}
 use Rattle.link_tree.specs.Sides.{opposite, child_of, with_child, tree_on, joined_at}
-use Rattle.link_tree.specs.Turning.{blackened, lifted}
+use Rattle.link_tree.specs.Turning.{Turned, lifted, painted}
 use Rattle.link_tree.specs.declared.visits.Side.{Side}
 use Rattle.link_tree.specs.declared.visits.Side.TheVariants.{Left, Right}
-use Rattle.link_tree.proofs.Orders.{rises_split, in_left, in_right, in_middle, outside_parts, not_left, not_right, not_both}
+use Rattle.link_tree.proofs.Orders.{IsStrict, rises_split, in_left, in_right, in_middle, outside_parts, not_left, not_right, not_both}
 use Rattle.link_tree.proofs.Trees.{open_tree}
 
 -- a cell by its side
@@ -23,7 +23,8 @@ pub child_of_cell : (side : Side) (red : Bool) (near far : Option ℕ) → child
 child_of_cell Left red near far = refl
 child_of_cell Right red near far = refl
 
-pub far_of_cell : (side : Side) (red : Bool) (near far : Option ℕ) → child_of (opposite side) (cell_at side red near far) ≡ far
+pub far_of_cell : (side : Side) (red : Bool) (near far : Option ℕ)
+    → child_of (opposite side) (cell_at side red near far) ≡ far
 far_of_cell Left red near far = refl
 far_of_cell Right red near far = refl
 
@@ -31,18 +32,21 @@ pub red_of_cell : (side : Side) (red : Bool) (near far : Option ℕ) → (cell_a
 red_of_cell Left red near far = refl
 red_of_cell Right red near far = refl
 
-pub with_child-other : (side : Side) (h : ℕ → Cell) (n m : ℕ) (to : Option ℕ) → (m ≡ n → ⊥) → with_child side h n to m ≡ h m
+pub with_child-other : (side : Side) (h : ℕ → Cell) (n m : ℕ) (to : Option ℕ) → (m ≡ n → ⊥)
+    → with_child side h n to m ≡ h m
 unfolding with_left with_right
 with_child-other Left h n m to d = let e = ne_eqb m n d in rw e refl
 with_child-other Right h n m to d = let e = ne_eqb m n d in rw e refl
 
-pub with_child-near : (side : Side) (h : ℕ → Cell) (n : ℕ) (red : Bool) (near far to : Option ℕ) → h n ≡ cell_at side red near far
+pub with_child-near : (side : Side) (h : ℕ → Cell) (n : ℕ) (red : Bool) (near far to : Option ℕ)
+    → h n ≡ cell_at side red near far
     → with_child side h n to n ≡ cell_at side red to far
 unfolding with_left with_right
 with_child-near Left h n red near far to w = let e = eq-eqb n n refl in rw (e, w) refl
 with_child-near Right h n red near far to w = let e = eq-eqb n n refl in rw (e, w) refl
 
-pub with_child-far : (side : Side) (h : ℕ → Cell) (n : ℕ) (red : Bool) (near far to : Option ℕ) → h n ≡ cell_at side red near far
+pub with_child-far : (side : Side) (h : ℕ → Cell) (n : ℕ) (red : Bool) (near far to : Option ℕ)
+    → h n ≡ cell_at side red near far
     → with_child (opposite side) h n to n ≡ cell_at side red near to
 unfolding with_left with_right
 with_child-far Left h n red near far to w = let e = eq-eqb n n refl in rw (e, w) refl
@@ -52,7 +56,8 @@ pub with_red-other : (h : ℕ → Cell) (n m : ℕ) (red : Bool) → (m ≡ n �
 unfolding with_red
 with_red-other h n m red d = let e = ne_eqb m n d in rw e refl
 
-pub with_red-same : (h : ℕ → Cell) (n : ℕ) (old red : Bool) (left right : Option ℕ) → h n ≡ record { left = left; right = right; red = old }
+pub with_red-same : (h : ℕ → Cell) (n : ℕ) (old red : Bool) (left right : Option ℕ)
+    → h n ≡ record { left = left; right = right; red = old }
     → with_red h n red n ≡ record { left = left; right = right; red = red }
 unfolding with_red
 with_red-same h n old red left right w = let e = eq-eqb n n refl in rw (e, w) refl
@@ -63,15 +68,18 @@ pub opposite_twice : (side : Side) → opposite (opposite side) ≡ side
 opposite_twice Left = refl
 opposite_twice Right = refl
 
-pub fork_joined : (side : Side) (red : Bool) (l : Tree) (n : ℕ) (r : Tree) → fork red l n r ≡ joined_at side red (tree_on side l r) n (tree_on (opposite side) l r)
+pub fork_joined : (side : Side) (red : Bool) (l : Tree) (n : ℕ) (r : Tree)
+    → fork red l n r ≡ joined_at side red (tree_on side l r) n (tree_on (opposite side) l r)
 fork_joined Left red l n r = refl
 fork_joined Right red l n r = refl
 
-pub joined_opposite : (side : Side) (red : Bool) (near : Tree) (n : ℕ) (far : Tree) → joined_at side red near n far ≡ joined_at (opposite side) red far n near
+pub joined_opposite : (side : Side) (red : Bool) (near : Tree) (n : ℕ) (far : Tree)
+    → joined_at side red near n far ≡ joined_at (opposite side) red far n near
 joined_opposite Left red near n far = refl
 joined_opposite Right red near n far = refl
 
-pub root_joined : (side : Side) (red : Bool) (near : Tree) (n : ℕ) (far : Tree) → root_of (joined_at side red near n far) ≡ Some n
+pub root_joined : (side : Side) (red : Bool) (near : Tree) (n : ℕ) (far : Tree)
+    → root_of (joined_at side red near n far) ≡ Some n
 root_joined Left red near n far = refl
 root_joined Right red near n far = refl
 
@@ -80,16 +88,20 @@ pub record IsJoint (h : ℕ → Cell) (side : Side) (red : Bool) (near : Tree) (
   pub near_holds : Holds h near
   pub far_holds : Holds h far
 
-pub joint_of : (h : ℕ → Cell) (side : Side) (red : Bool) (near : Tree) (n : ℕ) (far : Tree) → Holds h (joined_at side red near n far) → IsJoint h side red near n far
+pub joint_of : (h : ℕ → Cell) (side : Side) (red : Bool) (near : Tree) (n : ℕ) (far : Tree)
+    → Holds h (joined_at side red near n far) → IsJoint h side red near n far
 joint_of h Left red near n far w = record { cell = w.0; near_holds = w.1; far_holds = w.2 }
 joint_of h Right red near n far w = record { cell = w.0; near_holds = w.2; far_holds = w.1 }
 
-pub holds_joint : (h : ℕ → Cell) (side : Side) (red : Bool) (near : Tree) (n : ℕ) (far : Tree) → IsJoint h side red near n far → Holds h (joined_at side red near n far)
+pub holds_joint : (h : ℕ → Cell) (side : Side) (red : Bool) (near : Tree) (n : ℕ) (far : Tree)
+    → IsJoint h side red near n far → Holds h (joined_at side red near n far)
 holds_joint h Left red near n far j = (j.cell, j.near_holds, j.far_holds)
 holds_joint h Right red near n far j = (j.cell, j.far_holds, j.near_holds)
 
-pub tree_joint : (h : ℕ → Cell) (side : Side) (red : Bool) (near : Tree) (n : ℕ) (far : Tree) → IsJoint h side red near n far → IsTree h (Some n) (joined_at side red near n far)
-tree_joint h side red near n far j = record { root = sym (root_joined side red near n far); holds = holds_joint h side red near n far j }
+pub tree_joint : (h : ℕ → Cell) (side : Side) (red : Bool) (near : Tree) (n : ℕ) (far : Tree)
+    → IsJoint h side red near n far → IsTree h (Some n) (joined_at side red near n far)
+tree_joint h side red near n far j =
+    record { root = sym (root_joined side red near n far); holds = holds_joint h side red near n far j }
 
 -- the tree of a node, seen from a side
 pub record IsOpenAt (h : ℕ → Cell) (side : Side) (n : ℕ) (t : Tree) : Type 0 where
@@ -120,15 +132,18 @@ pub turn_round : (a b : Bool) → (a ≡ true → b ≡ false) → b ≡ true �
 turn_round true b f e = absurd (true≢false (sym e ∙ f refl))
 turn_round false b f e = refl
 
-pub in_near : (side : Side) (red : Bool) (near : Tree) (n : ℕ) (far : Tree) (m : ℕ) → is_in m (nodes_of near) ≡ true → is_in m (nodes_of (joined_at side red near n far)) ≡ true
+pub in_near : (side : Side) (red : Bool) (near : Tree) (n : ℕ) (far : Tree) (m : ℕ) → is_in m (nodes_of near) ≡ true
+    → is_in m (nodes_of (joined_at side red near n far)) ≡ true
 in_near Left red near n far m i = in_left m (nodes_of near) n (nodes_of far) i
 in_near Right red near n far m i = in_right m (nodes_of far) n (nodes_of near) i
 
-pub in_far : (side : Side) (red : Bool) (near : Tree) (n : ℕ) (far : Tree) (m : ℕ) → is_in m (nodes_of far) ≡ true → is_in m (nodes_of (joined_at side red near n far)) ≡ true
+pub in_far : (side : Side) (red : Bool) (near : Tree) (n : ℕ) (far : Tree) (m : ℕ) → is_in m (nodes_of far) ≡ true
+    → is_in m (nodes_of (joined_at side red near n far)) ≡ true
 in_far Left red near n far m i = in_right m (nodes_of near) n (nodes_of far) i
 in_far Right red near n far m i = in_left m (nodes_of far) n (nodes_of near) i
 
-pub in_root : (side : Side) (red : Bool) (near : Tree) (n : ℕ) (far : Tree) → is_in n (nodes_of (joined_at side red near n far)) ≡ true
+pub in_root : (side : Side) (red : Bool) (near : Tree) (n : ℕ) (far : Tree)
+    → is_in n (nodes_of (joined_at side red near n far)) ≡ true
 in_root Left red near n far = in_middle (nodes_of near) n (nodes_of far)
 in_root Right red near n far = in_middle (nodes_of far) n (nodes_of near)
 
@@ -138,18 +153,27 @@ pub record IsOutsideAll (near : Tree) (n : ℕ) (far : Tree) (m : ℕ) : Type 0 
   pub root_out : m ≡ n → ⊥
   pub far_out : is_in m (nodes_of far) ≡ false
 
-pub outside_all : (side : Side) (red : Bool) (near : Tree) (n : ℕ) (far : Tree) (m : ℕ) → is_in m (nodes_of (joined_at side red near n far)) ≡ false → IsOutsideAll near n far m
+pub outside_all : (side : Side) (red : Bool) (near : Tree) (n : ℕ) (far : Tree) (m : ℕ)
+    → is_in m (nodes_of (joined_at side red near n far)) ≡ false → IsOutsideAll near n far m
 outside_all Left red near n far m o =
-    let p = outside_parts m (nodes_of near) n (nodes_of far) o in record { near_out = p.left; root_out = p.middle; far_out = p.right }
+    let p = outside_parts m (nodes_of near) n (nodes_of far) o in
+    record { near_out = p.left; root_out = p.middle; far_out = p.right }
 outside_all Right red near n far m o =
-    let p = outside_parts m (nodes_of far) n (nodes_of near) o in record { near_out = p.right; root_out = p.middle; far_out = p.left }
+    let p = outside_parts m (nodes_of far) n (nodes_of near) o in
+    record { near_out = p.right; root_out = p.middle; far_out = p.left }
+
+pub lower_near : (side : Side) (red : Bool) (near : Tree) (n : ℕ) (far : Tree)
+    → height near + 1 ≤ height (joined_at side red near n far)
+lower_near Left red near n far = omega arith
+lower_near Right red near n far = omega arith
 
 -- one node of a list is not another that is outside
 pub other_than : (m n : ℕ) (ns : List ℕ) → is_in m ns ≡ true → is_in n ns ≡ false → m ≡ n → ⊥
 other_than m n ns i o e = let j = rw e at i in true≢false (sym j ∙ o)
 
-module _ (lt : ℕ → ℕ → Bool) (transitive : (a b c : ℕ) → lt a b ≡ true → lt b c ≡ true → lt a c ≡ true) (irreflexive : (n : ℕ) → lt n n ≡ false) where
-  pub apart_of : (side : Side) (red : Bool) (near : Tree) (n : ℕ) (far : Tree) → rises lt (nodes_of (joined_at side red near n far)) ≡ true → IsApart lt near n far
+module _ {lt : ℕ → ℕ → Bool} (strict : IsStrict lt) where
+  pub apart_of : (side : Side) (red : Bool) (near : Tree) (n : ℕ) (far : Tree)
+      → rises lt (nodes_of (joined_at side red near n far)) ≡ true → IsApart lt near n far
   apart_of Left red near n far o =
       let xs = nodes_of near in
       let ys = nodes_of far in
@@ -157,10 +181,10 @@ module _ (lt : ℕ → ℕ → Bool) (transitive : (a b c : ℕ) → lt a b ≡ 
       record {
         near_rises = s.left;
         far_rises = s.right;
-        not_near = not_left lt transitive irreflexive xs n ys s;
-        not_far = not_right lt transitive irreflexive xs n ys s;
-        far_of_near = not_both lt transitive irreflexive xs n ys s;
-        near_of_far = λ m i. turn_round (is_in m xs) (is_in m ys) (not_both lt transitive irreflexive xs n ys s m) i;
+        not_near = not_left strict xs n ys s;
+        not_far = not_right strict xs n ys s;
+        far_of_near = not_both strict xs n ys s;
+        near_of_far = λ m i. turn_round (is_in m xs) (is_in m ys) (not_both strict xs n ys s m) i;
       }
   apart_of Right red near n far o =
       let xs = nodes_of far in
@@ -169,30 +193,72 @@ module _ (lt : ℕ → ℕ → Bool) (transitive : (a b c : ℕ) → lt a b ≡ 
       record {
         near_rises = s.right;
         far_rises = s.left;
-        not_near = not_right lt transitive irreflexive xs n ys s;
-        not_far = not_left lt transitive irreflexive xs n ys s;
-        far_of_near = λ m i. turn_round (is_in m xs) (is_in m ys) (not_both lt transitive irreflexive xs n ys s m) i;
-        near_of_far = not_both lt transitive irreflexive xs n ys s;
+        not_near = not_right strict xs n ys s;
+        not_far = not_left strict xs n ys s;
+        far_of_near = λ m i. turn_round (is_in m xs) (is_in m ys) (not_both strict xs n ys s m) i;
+        near_of_far = not_both strict xs n ys s;
       }
+
+  -- the ordered tree of a node, seen from a side, and its parts
+  pub record IsParted (h : ℕ → Cell) (side : Side) (n : ℕ) (t : Tree) : Type 0 where
+    pub near : Tree
+    pub far : Tree
+    pub is : t ≡ joined_at side (h n).red near n far
+    pub near_tree : IsTree h (child_of side (h n)) near
+    pub far_tree : IsTree h (child_of (opposite side) (h n)) far
+    pub order : rises lt (nodes_of (joined_at side (h n).red near n far)) ≡ true
+    pub holds : Holds h (joined_at side (h n).red near n far)
+    pub joint : IsJoint h side (h n).red near n far
+    pub apart : IsApart lt near n far
+    pub lower : height near + 1 ≤ height t
+
+  pub parted : (side : Side) (h : ℕ → Cell) (n : ℕ) (t : Tree) → IsTree h (Some n) t → rises lt (nodes_of t) ≡ true
+      → IsParted h side n t
+  parted side h n t w o =
+      let p = open_side h side n t w in
+      let red = (h n).red in
+      let order : rises lt (nodes_of (joined_at side red p.near n p.far)) ≡ true = rw p.is at o in
+      let holds : Holds h (joined_at side red p.near n p.far) = rw p.is at w.holds in
+      let low = lower_near side red p.near n p.far in
+      record {
+        near = p.near;
+        far = p.far;
+        is = p.is;
+        near_tree = p.near_tree;
+        far_tree = p.far_tree;
+        order = order;
+        holds = holds;
+        joint = joint_of h side red p.near n p.far holds;
+        apart = apart_of side red p.near n p.far order;
+        lower = subst (λ u. height p.near + 1 ≤ height u) (sym p.is) low;
+      }
+
+-- what a call makes of each ordered tree that the link leads to
+abbrev pub Makes : (ℕ → ℕ → Bool) → (h h' : ℕ → Cell) (link link' : Option ℕ) → (Tree → Tree) → Type 0
+Makes lt h h' link link' f =
+    (t : Tree) → IsTree h link t → rises lt (nodes_of t) ≡ true → Turned h h' (nodes_of t) link' (f t)
 
 -- ---- nodes
 
-pub nodes_of-joined : (side : Side) (red red' : Bool) (near near' : Tree) (n : ℕ) (far : Tree) → nodes_of near' ≡ nodes_of near
+pub nodes_of-joined : (side : Side) (red red' : Bool) (near near' : Tree) (n : ℕ) (far : Tree)
+    → nodes_of near' ≡ nodes_of near
     → nodes_of (joined_at side red' near' n far) ≡ nodes_of (joined_at side red near n far)
 nodes_of-joined Left red red' near near' n far e = rw e refl
 nodes_of-joined Right red red' near near' n far e = rw e refl
 
-pub nodes_of-joined_far : (side : Side) (red red' : Bool) (near : Tree) (n : ℕ) (far far' : Tree) → nodes_of far' ≡ nodes_of far
+pub nodes_of-joined_far : (side : Side) (red red' : Bool) (near : Tree) (n : ℕ) (far far' : Tree)
+    → nodes_of far' ≡ nodes_of far
     → nodes_of (joined_at side red' near n far') ≡ nodes_of (joined_at side red near n far)
 nodes_of-joined_far Left red red' near n far far' e = rw e refl
 nodes_of-joined_far Right red red' near n far far' e = rw e refl
 
-pub nodes_of-blackened : (t : Tree) → nodes_of (blackened t) ≡ nodes_of t
-nodes_of-blackened leaf = refl
-nodes_of-blackened (fork red l n r) = refl
+pub nodes_of-painted : (red : Bool) (t : Tree) → nodes_of (painted red t) ≡ nodes_of t
+nodes_of-painted red leaf = refl
+nodes_of-painted red (fork old l n r) = refl
 
 pub nodes_of-turn : (side : Side) (c d c' d' : Bool) (a : Tree) (m : ℕ) (b : Tree) (n : ℕ) (far : Tree)
-    → nodes_of (joined_at side d' a m (joined_at side c' b n far)) ≡ nodes_of (joined_at side c (joined_at side d a m b) n far)
+    → nodes_of (joined_at side d' a m (joined_at side c' b n far)) ≡ nodes_of
+    (joined_at side c (joined_at side d a m b) n far)
 nodes_of-turn Left c d c' d' a m b n far = sym (append_assoc (nodes_of a) (m ∷ nodes_of b) (n ∷ nodes_of far))
 nodes_of-turn Right c d c' d' a m b n far = append_assoc (nodes_of far) (n ∷ nodes_of b) (m ∷ nodes_of a)
 

@@ -2,12 +2,14 @@ mod Orders
 mod Trees
 mod Heights
 mod Limits
+mod Keepers
 mod Seeking
 mod Approaches
 mod Mirrors
 mod Joints
 mod Turns
 mod Colours
+mod Beginnings
 mod Growth
 mod Entries
 mod Mending

@@ -4,13 +4,15 @@ use Rattle.std.proofs.lemmas.Bool.{and_parts, and_from, or_cases, eqb-true, case
 use Rattle.link_tree.specs.Tree.{Cell, Tree, leaf, fork, root_of, nodes_of, IsTree, IsSearchTree, rises, height}
 use Rattle.link_tree.specs.Nodes.{is_in, leads}
 use Rattle.link_tree.specs.Between.{is_above, is_below, is_between, count_between}
-use Rattle.link_tree.proofs.Orders.{rises_split, all_at, in_left, in_right, in_middle, in_parts}
+use Rattle.link_tree.proofs.Orders.{IsStrict, rises_split, all_at, in_left, in_right, in_middle, in_parts}
 use Rattle.link_tree.proofs.Heights.{height_bits, bits_most}
 
 -- each node that a good link leads to is good, where links of good nodes are
 pub tree_good : (h : ℕ → Cell) (good : ℕ → Bool)
-    → ((n : ℕ) → good n ≡ true → leads good (h n).left ≡ true) → ((n : ℕ) → good n ≡ true → leads good (h n).right ≡ true)
-    → (t : Tree) (link : Option ℕ) → IsTree h link t → leads good link ≡ true → (m : ℕ) → is_in m (nodes_of t) ≡ true → good m ≡ true
+    → ((n : ℕ) → good n ≡ true → leads good (h n).left ≡ true)
+    → ((n : ℕ) → good n ≡ true → leads good (h n).right ≡ true)
+    → (t : Tree) (link : Option ℕ) → IsTree h link t → leads good link ≡ true → (m : ℕ) → is_in m (nodes_of t) ≡ true
+    → good m ≡ true
 tree_good h good cl cr leaf link w k m i = absurd (false≢true i)
 tree_good h good cl cr (fork red l n r) link w k m i =
     let here : good n ≡ true = subst (λ (o : Option ℕ). leads good o ≡ true) w.root k in
@@ -31,34 +33,37 @@ pub count_all : (lt : ℕ → ℕ → Bool) (ns : List ℕ) → count_between lt
 count_all lt [] = omega arith
 count_all lt (n ∷ ns) = omega (arith, count_all lt ns)
 
-module _ (lt : ℕ → ℕ → Bool) (transitive : (a b c : ℕ) → lt a b ≡ true → lt b c ≡ true → lt a c ≡ true) (irreflexive : (n : ℕ) → lt n n ≡ false) where
+module _ {lt : ℕ → ℕ → Bool} (strict : IsStrict lt) where
   pub above_less : (low : Option ℕ) (n m : ℕ) → is_above lt low n ≡ true → lt n m ≡ true → is_above lt low m ≡ true
   above_less None n m a b = refl
-  above_less (Some k) n m a b = transitive k n m a b
+  above_less (Some k) n m a b = strict.transitive k n m a b
 
   pub below_less : (high : Option ℕ) (n m : ℕ) → is_below lt n high ≡ true → lt m n ≡ true → is_below lt m high ≡ true
   below_less None n m a b = refl
-  below_less (Some k) n m a b = transitive m n k b a
+  below_less (Some k) n m a b = strict.transitive m n k b a
 
   -- a node between low and n, or between n and high, is between low and high, and not both
   one_side : (low high : Option ℕ) (n m : ℕ) → is_between lt low n high ≡ true
-      → test_count (is_between lt low m (Some n)) + test_count (is_between lt (Some n) m high) ≤ test_count (is_between lt low m high)
+      → test_count (is_between lt low m (Some n)) + test_count (is_between lt (Some n) m high) ≤ test_count
+      (is_between lt low m high)
   unfolding test_count
   one_side low high n m b =
       let p = and_parts (is_above lt low n) (is_below lt n high) b in
       elim (cases_Bool (is_above lt low m && lt m n)) [
         | inl e ↦
             let q = and_parts (is_above lt low m) (lt m n) e in
-            let both : is_between lt low m high ≡ true = and_from (is_above lt low m) (is_below lt m high) q.0 (below_less high n m p.1 q.1) in
+            let both : is_between lt low m high ≡ true = and_from (is_above lt low m) (is_below lt m high) q.0
+            (below_less high n m p.1 q.1) in
             let no : lt n m ≡ false = elim (cases_Bool (lt n m)) [
-              | inl k ↦ absurd (true≢false (sym (transitive n m n k q.1) ∙ irreflexive n))
+              | inl k ↦ absurd (true≢false (sym (strict.transitive n m n k q.1) ∙ strict.irreflexive n))
               | inr k ↦ k
             ] in
             rw (e, both, no) (omega arith)
         | inr e ↦ elim (cases_Bool (lt n m && is_below lt m high)) [
           | inl k ↦
               let q = and_parts (lt n m) (is_below lt m high) k in
-              let both : is_between lt low m high ≡ true = and_from (is_above lt low m) (is_below lt m high) (above_less low n m p.0 q.0) q.1 in
+              let both : is_between lt low m high ≡ true = and_from (is_above lt low m) (is_below lt m high)
+              (above_less low n m p.0 q.0) q.1 in
               rw (e, k, both) (omega arith)
           | inr k ↦ rw (e, k) (omega arith)
         ]
@@ -71,10 +76,11 @@ module _ (lt : ℕ → ℕ → Bool) (transitive : (a b c : ℕ) → lt a b ≡ 
   count_sides low high n (m ∷ ns) b = omega (arith, one_side low high n m b, count_sides low high n ns b)
 
   self_count : (low high : Option ℕ) (n : ℕ) → is_between lt low n high ≡ true
-      → test_count (is_between lt low n (Some n)) + test_count (is_between lt (Some n) n high) + 1 ≤ test_count (is_between lt low n high)
+      → test_count (is_between lt low n (Some n)) + test_count (is_between lt (Some n) n high) + 1 ≤ test_count
+      (is_between lt low n high)
   unfolding test_count
   self_count low high n b =
-      let no = irreflexive n in
+      let no = strict.irreflexive n in
       let a : (is_above lt low n && lt n n) ≡ false = and_right (is_above lt low n) (lt n n) no in
       let k : (lt n n && is_below lt n high) ≡ false = and_left (lt n n) (is_below lt n high) no in
       rw (a, k, b) (omega arith)
@@ -94,7 +100,8 @@ module _ (lt : ℕ → ℕ → Bool) (transitive : (a b c : ℕ) → lt a b ≡ 
 
   -- a tree between low and high has no more nodes than the list has there
   pub count_tree : (ns : List ℕ) (t : Tree) (low high : Option ℕ) → rises lt (nodes_of t) ≡ true
-      → ((m : ℕ) → is_in m (nodes_of t) ≡ true → is_between lt low m high ≡ true) → ((m : ℕ) → is_in m (nodes_of t) ≡ true → is_in m ns ≡ true)
+      → ((m : ℕ) → is_in m (nodes_of t) ≡ true → is_between lt low m high ≡ true)
+      → ((m : ℕ) → is_in m (nodes_of t) ≡ true → is_in m ns ≡ true)
       → length (nodes_of t) ≤ count_between lt low high ns
   count_tree ns leaf low high o b i = omega arith
   count_tree ns (fork red l n r) low high o b i =
@@ -102,24 +109,41 @@ module _ (lt : ℕ → ℕ → Bool) (transitive : (a b c : ℕ) → lt a b ≡ 
       let ys = nodes_of r in
       let sp = rises_split lt xs n ys o in
       let cl = count_tree ns l low (Some n) sp.left
-      (λ m j. and_from (is_above lt low m) (lt m n) (and_parts (is_above lt low m) (is_below lt m high) (b m (in_left m xs n ys j))).0 (all_at (λ k. lt k n) xs m sp.below j))
+      (λ m j. and_from (is_above lt low m) (lt m n) (and_parts (is_above lt low m) (is_below lt m high)
+      (b m (in_left m xs n ys j))).0 (all_at (λ k. lt k n) xs m sp.below j))
       (λ m j. i m (in_left m xs n ys j)) in
       let cr = count_tree ns r (Some n) high sp.right
-      (λ m j. and_from (lt n m) (is_below lt m high) (all_at (lt n) ys m sp.above j) (and_parts (is_above lt low m) (is_below lt m high) (b m (in_right m xs n ys j))).1)
+      (λ m j. and_from (lt n m) (is_below lt m high) (all_at (lt n) ys m sp.above j)
+      (and_parts (is_above lt low m) (is_below lt m high) (b m (in_right m xs n ys j))).1)
       (λ m j. i m (in_right m xs n ys j)) in
-      omega (arith, cl, cr, count_split low high n ns (b n (in_middle xs n ys)) (i n (in_middle xs n ys)), length-append xs (n ∷ ys))
+      omega (
+        arith,
+        cl,
+        cr,
+        count_split low high n ns (b n (in_middle xs n ys)) (i n (in_middle xs n ys)),
+        length-append xs (n ∷ ys),
+      )
 
   -- an ordered tree of nodes of the list has no more nodes than the list
-  pub tree_limit : (ns : List ℕ) (t : Tree) → rises lt (nodes_of t) ≡ true → ((m : ℕ) → is_in m (nodes_of t) ≡ true → is_in m ns ≡ true) → length (nodes_of t) ≤ length ns
+  pub tree_limit : (ns : List ℕ) (t : Tree) → rises lt (nodes_of t) ≡ true
+      → ((m : ℕ) → is_in m (nodes_of t) ≡ true → is_in m ns ≡ true) → length (nodes_of t) ≤ length ns
   tree_limit ns t o i = omega (arith, count_tree ns t None None o (λ m j. refl) i, count_all lt ns)
 
--- a search tree of nodes, of which there are finitely many, is no higher than 80
-pub height_limit : {lt : ℕ → ℕ → Bool} {h : ℕ → Cell} {good : ℕ → Bool} {link : Option ℕ} {t : Tree}
-    → ((a b c : ℕ) → lt a b ≡ true → lt b c ≡ true → lt a c ≡ true) → ((n : ℕ) → lt n n ≡ false)
-    → ((ns : List ℕ) × (length ns ≤ 2 ^ 40) × ((n : ℕ) → good n ≡ true → is_in n ns ≡ true))
-    → ((n : ℕ) → good n ≡ true → leads good (h n).left ≡ true) → ((n : ℕ) → good n ≡ true → leads good (h n).right ≡ true)
-    → IsSearchTree lt h link t → leads good link ≡ true → (height t ≤ 80) × (length (nodes_of t) ≤ 2 ^ 40)
-height_limit {lt = lt} {h = h} {good = good} {link = link} {t = t} transitive irreflexive finite cl cr s k =
-    let fits : length (nodes_of t) ≤ length finite.0 = tree_limit lt transitive irreflexive finite.0 t s.ordered (λ m i. finite.2 m (tree_good h good cl cr t link s.tree k m i)) in
-    let few = finite.1 in
-    (omega (arith, height_bits t s.red_black, bits_most (length (nodes_of t)) (omega arith)), omega arith)
+-- nodes, of which there are finitely many, with links that lead to nodes
+pub record AreLinked (good : ℕ → Bool) (h : ℕ → Cell) : Type 0 where
+  pub finite : (ns : List ℕ) × (length ns ≤ 2 ^ 40) × ((n : ℕ) → good n ≡ true → is_in n ns ≡ true)
+  pub left : (n : ℕ) → good n ≡ true → leads good (h n).left ≡ true
+  pub right : (n : ℕ) → good n ≡ true → leads good (h n).right ≡ true
+
+module _ {good : ℕ → Bool} {h : ℕ → Cell} (linked : AreLinked good h) {link : Option ℕ} {t : Tree} where
+  pub tree_node : IsTree h link t → leads good link ≡ true → (m : ℕ) → is_in m (nodes_of t) ≡ true → good m ≡ true
+  tree_node w k = tree_good h good linked.left linked.right t link w k
+
+  -- a search tree of nodes is no higher than 80
+  pub height_limit : {lt : ℕ → ℕ → Bool} → IsStrict lt → IsSearchTree lt h link t → leads good link ≡ true
+      → (height t ≤ 80) × (length (nodes_of t) ≤ 2 ^ 40)
+  height_limit strict s k =
+      let fits : length (nodes_of t) ≤ length linked.finite.0 =
+      tree_limit strict linked.finite.0 t s.ordered (λ m i. linked.finite.2 m (tree_node s.tree k m i)) in
+      let few = linked.finite.1 in
+      (omega (arith, height_bits t s.red_black, bits_most (length (nodes_of t)) (omega arith)), omega arith)

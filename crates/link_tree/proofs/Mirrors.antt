@@ -12,7 +12,7 @@ use Rattle.link_tree.specs.Tree.{Cell, Tree, leaf, fork, root_of, nodes_of, Hold
 use Rattle.link_tree.specs.Nodes.{first_not, last_before}
 use Rattle.link_tree.specs.Searching.{path_length}
 use Rattle.link_tree.specs.Backwards.{crossed}
-use Rattle.link_tree.proofs.Orders.{rises_join}
+use Rattle.link_tree.proofs.Orders.{IsStrict, rises_join}
 use Rattle.link_tree.proofs.Seeking.{or_none, or_some}
 
 -- the tree with left and right exchanged at each node
@@ -61,17 +61,23 @@ no_red_pair_mirrored (fork true l n r) e =
     rw (a, b, c, d) refl
 no_red_pair_mirrored (fork false l n r) e =
     let p = and_parts (has_no_red_pair l) (has_no_red_pair r) e in
-    and_from (has_no_red_pair (mirrored r)) (has_no_red_pair (mirrored l)) (no_red_pair_mirrored r p.1) (no_red_pair_mirrored l p.0)
+    let c = no_red_pair_mirrored r p.1 in
+    let d = no_red_pair_mirrored l p.0 in
+    rw (c, d) refl
+
+both_mirrored : (l r : Tree) (b : ℕ) → (has_black_height l b && has_black_height r b) ≡ true
+    → (has_black_height l b ≡ true → has_black_height (mirrored l) b ≡ true)
+    → (has_black_height r b ≡ true → has_black_height (mirrored r) b ≡ true)
+    → (has_black_height (mirrored r) b && has_black_height (mirrored l) b) ≡ true
+both_mirrored l r b e f g =
+    let p = and_parts (has_black_height l b) (has_black_height r b) e in
+    and_from (has_black_height (mirrored r) b) (has_black_height (mirrored l) b) (g p.1) (f p.0)
 
 black_mirrored : (t : Tree) (b : ℕ) → has_black_height t b ≡ true → has_black_height (mirrored t) b ≡ true
 black_mirrored leaf b e = e
-black_mirrored (fork true l n r) b e =
-    let p = and_parts (has_black_height l b) (has_black_height r b) e in
-    and_from (has_black_height (mirrored r) b) (has_black_height (mirrored l) b) (black_mirrored r b p.1) (black_mirrored l b p.0)
+black_mirrored (fork true l n r) b e = both_mirrored l r b e (black_mirrored l b) (black_mirrored r b)
 black_mirrored (fork false l n r) zero e = absurd (false≢true e)
-black_mirrored (fork false l n r) (suc b) e =
-    let p = and_parts (has_black_height l b) (has_black_height r b) e in
-    and_from (has_black_height (mirrored r) b) (has_black_height (mirrored l) b) (black_mirrored r b p.1) (black_mirrored l b p.0)
+black_mirrored (fork false l n r) (suc b) e = both_mirrored l r b e (black_mirrored l b) (black_mirrored r b)
 
 red_black_mirrored : (t : Tree) → IsRedBlack t → IsRedBlack (mirrored t)
 red_black_mirrored t k = record {
@@ -89,31 +95,36 @@ all_reverse p (n ∷ ns) a =
     ap (list_all p) (reverse-cons n ns) ∙ list_all-append p (reverse ns) (n ∷ [])
     ∙ and_from (list_all p (reverse ns)) (list_all p (n ∷ [])) (all_reverse p ns two.1) (and_from (p n) true two.0 refl)
 
-rises_reverse : (lt : ℕ → ℕ → Bool) → ((a b c : ℕ) → lt a b ≡ true → lt b c ≡ true → lt a c ≡ true) → (ns : List ℕ)
-    → rises lt ns ≡ true → rises (λ a b. lt b a) (reverse ns) ≡ true
-rises_reverse lt transitive [] o = refl
-rises_reverse lt transitive (n ∷ ns) o =
+rises_reverse : {lt : ℕ → ℕ → Bool} → IsStrict lt → (ns : List ℕ) → rises lt ns ≡ true
+    → rises (λ a b. lt b a) (reverse ns) ≡ true
+rises_reverse strict [] o = refl
+rises_reverse {lt = lt} strict (n ∷ ns) o =
     let two = and_parts (list_all (lt n) ns) (rises lt ns) o in
     ap (rises (λ a b. lt b a)) (reverse-cons n ns)
-    ∙ rises_join (λ a b. lt b a) (λ a b c h k. transitive c b a k h) (reverse ns) n []
-    (record { left = rises_reverse lt transitive ns two.1; below = all_reverse (lt n) ns two.0; above = refl; right = refl })
+    ∙ rises_join (λ a b. lt b a) (λ a b c h k. strict.transitive c b a k h) (reverse ns) n [] (record {
+      left = rises_reverse strict ns two.1;
+      below = all_reverse (lt n) ns two.0;
+      above = refl;
+      right = refl;
+    })
 
-pub search_tree_mirrored : (lt : ℕ → ℕ → Bool) → ((a b c : ℕ) → lt a b ≡ true → lt b c ≡ true → lt a c ≡ true)
-    → (h : ℕ → Cell) (link : Option ℕ) (t : Tree) → IsSearchTree lt h link t
-    → IsSearchTree (λ a b. lt b a) (λ n. crossed (h n)) link (mirrored t)
-search_tree_mirrored lt transitive h link t s = record {
+pub search_tree_mirrored : {lt : ℕ → ℕ → Bool} {h : ℕ → Cell} {link : Option ℕ} {t : Tree} → IsStrict lt
+    → IsSearchTree lt h link t → IsSearchTree (λ a b. lt b a) (λ n. crossed (h n)) link (mirrored t)
+search_tree_mirrored {lt = lt} {h = h} {link = link} {t = t} strict s = record {
   tree = record { root = s.tree.root ∙ sym (root_mirrored t); holds = holds_mirrored h t s.tree.holds };
-  ordered = ap (rises (λ a b. lt b a)) (nodes_mirrored t) ∙ rises_reverse lt transitive (nodes_of t) s.ordered;
+  ordered = ap (rises (λ a b. lt b a)) (nodes_mirrored t) ∙ rises_reverse strict (nodes_of t) s.ordered;
   red_black = red_black_mirrored t s.red_black;
 }
 
 -- ---- what a search finds there, and its path
 
-pub first_mirrored : (before : ℕ → Bool) (t : Tree) → first_not (λ n. not (before n)) (nodes_of (mirrored t)) ≡ last_before before (nodes_of t)
+pub first_mirrored : (before : ℕ → Bool) (t : Tree)
+    → first_not (λ n. not (before n)) (nodes_of (mirrored t)) ≡ last_before before (nodes_of t)
 first_mirrored before t =
     ap (λ p. find p (nodes_of (mirrored t))) (λ i n. not-not (before n) i) ∙ ap (find before) (nodes_mirrored t)
 
-pub path_mirrored : (before : ℕ → Bool) (t : Tree) → path_length (λ n. not (before n)) (mirrored t) ≡ path_length before t
+pub path_mirrored : (before : ℕ → Bool) (t : Tree)
+    → path_length (λ n. not (before n)) (mirrored t) ≡ path_length before t
 path_mirrored before leaf = refl
 path_mirrored before (fork red l n r) =
     let pl = path_mirrored before l in

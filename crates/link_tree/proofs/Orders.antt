@@ -6,6 +6,11 @@ use Rattle.std.proofs.lemmas.List.Folds.{list_all-append}
 use Rattle.link_tree.specs.Tree.{rises}
 use Rattle.link_tree.specs.Nodes.{is_in}
 
+-- a strict order of nodes: each precedes what a node precedes that it precedes, and none itself
+pub record IsStrict (lt : ℕ → ℕ → Bool) : Type 0 where
+  pub transitive : (a b c : ℕ) → lt a b ≡ true → lt b c ≡ true → lt a c ≡ true
+  pub irreflexive : (n : ℕ) → lt n n ≡ false
+
 -- what holds of all holds of each
 pub all_at : (p : ℕ → Bool) (ns : List ℕ) (m : ℕ) → list_all p ns ≡ true → is_in m ns ≡ true → p m ≡ true
 all_at p [] m a i = absurd (false≢true i)
@@ -35,13 +40,16 @@ pub in_left : (m : ℕ) (xs : List ℕ) (n : ℕ) (ys : List ℕ) → is_in m xs
 in_left m xs n ys i = is_in-append m xs (n ∷ ys) ∙ or_left (is_in m xs) (is_in m (n ∷ ys)) i
 
 pub in_right : (m : ℕ) (xs : List ℕ) (n : ℕ) (ys : List ℕ) → is_in m ys ≡ true → is_in m (xs ++ n ∷ ys) ≡ true
-in_right m xs n ys i = is_in-append m xs (n ∷ ys) ∙ or_right (is_in m xs) (is_in m (n ∷ ys)) (or_right (nat_eq m n) (is_in m ys) i)
+in_right m xs n ys i = is_in-append m xs (n ∷ ys)
+    ∙ or_right (is_in m xs) (is_in m (n ∷ ys)) (or_right (nat_eq m n) (is_in m ys) i)
 
 pub in_middle : (xs : List ℕ) (n : ℕ) (ys : List ℕ) → is_in n (xs ++ n ∷ ys) ≡ true
-in_middle xs n ys = is_in-append n xs (n ∷ ys) ∙ or_right (is_in n xs) (is_in n (n ∷ ys)) (or_left (nat_eq n n) (is_in n ys) (eq-eqb n n refl))
+in_middle xs n ys = is_in-append n xs (n ∷ ys)
+    ∙ or_right (is_in n xs) (is_in n (n ∷ ys)) (or_left (nat_eq n n) (is_in n ys) (eq-eqb n n refl))
 
 -- a node of the whole is in one of the three parts
-pub in_parts : (m : ℕ) (xs : List ℕ) (n : ℕ) (ys : List ℕ) → is_in m (xs ++ n ∷ ys) ≡ true → (is_in m xs ≡ true) ⊎ ((m ≡ n) ⊎ (is_in m ys ≡ true))
+pub in_parts : (m : ℕ) (xs : List ℕ) (n : ℕ) (ys : List ℕ) → is_in m (xs ++ n ∷ ys) ≡ true
+    → (is_in m xs ≡ true) ⊎ ((m ≡ n) ⊎ (is_in m ys ≡ true))
 in_parts m xs n ys i =
     elim (or_cases (is_in m xs) (is_in m (n ∷ ys)) (sym (is_in-append m xs (n ∷ ys)) ∙ i)) [
       | inl a ↦ inl a
@@ -70,14 +78,16 @@ pub record Splits (lt : ℕ → ℕ → Bool) (xs : List ℕ) (n : ℕ) (ys : Li
   pub above : list_all (lt n) ys ≡ true
   pub right : rises lt ys ≡ true
 
-pub rises_split : (lt : ℕ → ℕ → Bool) (xs : List ℕ) (n : ℕ) (ys : List ℕ) → rises lt (xs ++ n ∷ ys) ≡ true → Splits lt xs n ys
+pub rises_split : (lt : ℕ → ℕ → Bool) (xs : List ℕ) (n : ℕ) (ys : List ℕ) → rises lt (xs ++ n ∷ ys) ≡ true
+    → Splits lt xs n ys
 rises_split lt [] n ys h =
     let p = and_parts (list_all (lt n) ys) (rises lt ys) h in
     record { left = refl; below = refl; above = p.0; right = p.1 }
 rises_split lt (x ∷ xs) n ys h =
     let p = and_parts (list_all (lt x) (xs ++ n ∷ ys)) (rises lt (xs ++ n ∷ ys)) h in
     let s = rises_split lt xs n ys p.1 in
-    let q = and_parts (list_all (lt x) xs) (list_all (lt x) (n ∷ ys)) (sym (list_all-append (lt x) xs (n ∷ ys)) ∙ p.0) in
+    let q = and_parts (list_all (lt x) xs) (list_all (lt x) (n ∷ ys)) (sym (list_all-append (lt x) xs (n ∷ ys))
+    ∙ p.0) in
     record {
       left = and_from (list_all (lt x) xs) (rises lt xs) q.0 s.left;
       below = and_from (lt x n) (list_all (λ m. lt m n) xs) (and_parts (lt x n) (list_all (lt x) ys) q.1).0 s.below;
@@ -97,20 +107,24 @@ module _ (lt : ℕ → ℕ → Bool) (transitive : (a b c : ℕ) → lt a b ≡ 
       let more = rises_join xs n ys (record { left = p.1; below = q.1; above = s.above; right = s.right }) in
       let first : list_all (lt x) (xs ++ n ∷ ys) ≡ true =
       list_all-append (lt x) xs (n ∷ ys)
-      ∙ and_from (list_all (lt x) xs) (list_all (lt x) (n ∷ ys)) p.0 (and_from (lt x n) (list_all (lt x) ys) q.0 (above_more x n ys q.0 s.above)) in
+      ∙ and_from (list_all (lt x) xs) (list_all (lt x) (n ∷ ys)) p.0
+      (and_from (lt x n) (list_all (lt x) ys) q.0 (above_more x n ys q.0 s.above)) in
       and_from (list_all (lt x) (xs ++ n ∷ ys)) (rises lt (xs ++ n ∷ ys)) first more
 
-  module _ (irreflexive : (n : ℕ) → lt n n ≡ false) where
-    -- the parts have no node in common
-    pub not_left : (xs : List ℕ) (n : ℕ) (ys : List ℕ) → Splits lt xs n ys → is_in n xs ≡ false
-    not_left xs n ys s =
-        false_from_ne_true (is_in n xs) (λ i. true≢false (sym (all_at (λ m. lt m n) xs n s.below i) ∙ irreflexive n))
+module _ {lt : ℕ → ℕ → Bool} (strict : IsStrict lt) where
+  -- the parts have no node in common
+  pub not_left : (xs : List ℕ) (n : ℕ) (ys : List ℕ) → Splits lt xs n ys → is_in n xs ≡ false
+  not_left xs n ys s =
+      false_from_ne_true (is_in n xs) (λ i. true≢false (sym (all_at (λ m. lt m n) xs n s.below i)
+      ∙ strict.irreflexive n))
 
-    pub not_right : (xs : List ℕ) (n : ℕ) (ys : List ℕ) → Splits lt xs n ys → is_in n ys ≡ false
-    not_right xs n ys s =
-        false_from_ne_true (is_in n ys) (λ i. true≢false (sym (all_at (lt n) ys n s.above i) ∙ irreflexive n))
+  pub not_right : (xs : List ℕ) (n : ℕ) (ys : List ℕ) → Splits lt xs n ys → is_in n ys ≡ false
+  not_right xs n ys s =
+      false_from_ne_true (is_in n ys) (λ i. true≢false (sym (all_at (lt n) ys n s.above i) ∙ strict.irreflexive n))
 
-    pub not_both : (xs : List ℕ) (n : ℕ) (ys : List ℕ) → Splits lt xs n ys → (m : ℕ) → is_in m xs ≡ true → is_in m ys ≡ false
-    not_both xs n ys s m i =
-        false_from_ne_true (is_in m ys)
-        (λ j. true≢false (sym (transitive m n m (all_at (λ k. lt k n) xs m s.below i) (all_at (lt n) ys m s.above j)) ∙ irreflexive m))
+  pub not_both : (xs : List ℕ) (n : ℕ) (ys : List ℕ) → Splits lt xs n ys → (m : ℕ) → is_in m xs ≡ true
+      → is_in m ys ≡ false
+  not_both xs n ys s m i =
+      false_from_ne_true (is_in m ys)
+      (λ j. true≢false (sym (strict.transitive m n m (all_at (λ k. lt k n) xs m s.below i)
+      (all_at (lt n) ys m s.above j)) ∙ strict.irreflexive m))

@@ -1,5 +1,5 @@
 -- The removal keeps order, colours and black heights.
-use Rattle.std.proofs.Common.{◌≡◌, ℕ, zero, suc, ◌+◌, Bool, true, false, not, cond, List, [], ◌∷◌, ◌++◌, nat_eq, refl, sym, ap, ◌∙◌, inl, inr, arith}
+use Rattle.std.proofs.Common.{◌≡◌, ℕ, suc, ◌+◌, Bool, true, false, not, cond, List, [], ◌∷◌, ◌++◌, nat_eq, refl, sym, ap, ◌∙◌, inl, inr, arith}
 use Rattle.std.specs.List.{list_all}
 use Rattle.std.proofs.lemmas.Bool.{true≢false, false≢true, and_parts, and_from, or_cases, or_parts, or_left, or_right, cases_Bool, eqb-true, eqb-false, eq-eqb, ne_eqb, not-false, false_from_ne_true}
 use Rattle.link_tree.specs.Tree.{Tree, leaf, fork, nodes_of, rises, has_black_root, has_no_red_pair, has_black_height, IsRedBlack}
@@ -9,11 +9,10 @@ use Rattle.link_tree.specs.Turning.{blackened, rebalanced, is_red_tree}
 use Rattle.link_tree.specs.Shrinking.{Rest, reddened, mended_at, settled, sunk, least_of, without_least, without_root, shrunk}
 use Rattle.link_tree.specs.declared.visits.Side.{Side}
 use Rattle.link_tree.specs.declared.visits.Side.TheVariants.{Left, Right}
-use Rattle.link_tree.proofs.Orders.{rises_split, all_at, all_from, is_in-append, in_left, in_right, not_left, not_right}
-use Rattle.link_tree.proofs.Joints.{joined_opposite, nodes_of-joined, nodes_of-joined_far, nodes_of-blackened, nodes_of-turn}
-use Rattle.link_tree.proofs.Colours.{IsEven, IsNearlyEven, black_join, black_root_join, red_join, rebalanced_even, nearly_even, under_red, sides_of_red, sides_of_black, blackened_even, blackened_root, blackened_same}
+use Rattle.link_tree.proofs.Orders.{IsStrict, rises_split, all_at, all_from, is_in-append, in_left, in_right, not_left, not_right}
+use Rattle.link_tree.proofs.Joints.{joined_opposite, nodes_of-joined, nodes_of-joined_far, nodes_of-painted, nodes_of-turn}
+use Rattle.link_tree.proofs.Colours.{IsEven, IsNearlyEven, black_join, black_root_join, red_join, rebalanced_even, nearly_even, under_red, sides_of_red, even_fork, blackened_even, blackened_root, blackened_same}
 use Rattle.link_tree.proofs.Growth.{nodes_of-rebalanced}
-use Rattle.link_tree.proofs.Mending.{nodes_of-reddened}
 use Rattle.std.proofs.lemmas.List.{append-nil}
 
 -- ---- lists
@@ -37,7 +36,8 @@ pub without_in : (x : ℕ) (xs : List ℕ) (m : ℕ) → is_in m (without x xs) 
 without_in x [] m i = i
 without_in x (y ∷ ys) m i =
     elim (cases_Bool (nat_eq x y)) [
-      | inl e ↦ let j : is_in m (without x ys) ≡ true = rw e at i in or_right (nat_eq m y) (is_in m ys) (without_in x ys m j)
+      | inl e ↦ let j : is_in m (without x ys) ≡ true = rw e at i in
+          or_right (nat_eq m y) (is_in m ys) (without_in x ys m j)
       | inr e ↦
           let j : is_in m (y ∷ without x ys) ≡ true = rw e at i in
           elim (or_cases (nat_eq m y) (is_in m (without x ys)) j) [
@@ -60,7 +60,8 @@ rises_without lt x (y ∷ ys) o =
           (all_from (lt y) (without x ys) (λ m i. all_at (lt y) ys m p.0 (without_in x ys m i))) more)
     ]
 
-pub rises_skip : (lt : ℕ → ℕ → Bool) (xs : List ℕ) (n : ℕ) (ys : List ℕ) → rises lt (xs ++ n ∷ ys) ≡ true → rises lt (xs ++ ys) ≡ true
+pub rises_skip : (lt : ℕ → ℕ → Bool) (xs : List ℕ) (n : ℕ) (ys : List ℕ) → rises lt (xs ++ n ∷ ys) ≡ true
+    → rises lt (xs ++ ys) ≡ true
 rises_skip lt [] n ys o = (and_parts (list_all (lt n) ys) (rises lt ys) o).1
 rises_skip lt (x ∷ xs) n ys o =
     let p = and_parts (list_all (lt x) (xs ++ n ∷ ys)) (rises lt (xs ++ n ∷ ys)) o in
@@ -78,32 +79,41 @@ pub nodes_of-sunk : (red : Bool) (t : Tree) → nodes_of (sunk red t).tree ≡ n
 nodes_of-sunk true t = refl
 nodes_of-sunk false t =
     elim (cases_Bool (is_red_tree t)) [
-      | inl e ↦ rw e (nodes_of-blackened t)
+      | inl e ↦ rw e (nodes_of-painted false t)
       | inr e ↦ rw e refl
     ]
 
-pub nodes_of-mended : (side : Side) (red : Bool) (near : Tree) (n : ℕ) (far : Tree) → nodes_of (mended_at side red near n far).tree ≡ nodes_of (joined_at side red near n far)
+pub nodes_of-mended : (side : Side) (red : Bool) (near : Tree) (n : ℕ) (far : Tree)
+    → nodes_of (mended_at side red near n far).tree ≡ nodes_of (joined_at side red near n far)
 nodes_of-mended side red leaf n far = refl
 nodes_of-mended side red (fork false l m r) n far =
-    nodes_of-rebalanced side false (fork true l m r) n far ∙ nodes_of-joined side red false (fork false l m r) (fork true l m r) n far refl
+    nodes_of-rebalanced side false (fork true l m r) n far ∙ nodes_of-joined side red false (fork false l m r)
+    (fork true l m r) n far refl
 nodes_of-mended Left red (fork true l m r) n far =
-    nodes_of-joined_far Left false false l m (joined_at Left red r n far) (rebalanced Left (joined_at Left red (reddened r) n far))
-    (nodes_of-rebalanced Left red (reddened r) n far ∙ nodes_of-joined Left red red r (reddened r) n far (nodes_of-reddened r))
+    nodes_of-joined_far Left false false l m (joined_at Left red r n far)
+    (rebalanced Left (joined_at Left red (reddened r) n far))
+    (nodes_of-rebalanced Left red (reddened r) n far ∙ nodes_of-joined Left red red r (reddened r) n far
+    (nodes_of-painted true r))
     ∙ nodes_of-turn Left red true false red l m r n far
 nodes_of-mended Right red (fork true l m r) n far =
-    nodes_of-joined_far Right false false r m (joined_at Right red l n far) (rebalanced Right (joined_at Right red (reddened l) n far))
-    (nodes_of-rebalanced Right red (reddened l) n far ∙ nodes_of-joined Right red red l (reddened l) n far (nodes_of-reddened l))
+    nodes_of-joined_far Right false false r m (joined_at Right red l n far)
+    (rebalanced Right (joined_at Right red (reddened l) n far))
+    (nodes_of-rebalanced Right red (reddened l) n far ∙ nodes_of-joined Right red red l (reddened l) n far
+    (nodes_of-painted true l))
     ∙ nodes_of-turn Right red true false red r m l n far
 
-pub nodes_of-settled : (side : Side) (red : Bool) (rest : Rest) (n : ℕ) (far : Tree) → nodes_of (settled side red rest n far).tree ≡ nodes_of (joined_at side red rest.tree n far)
+pub nodes_of-settled : (side : Side) (red : Bool) (rest : Rest) (n : ℕ) (far : Tree)
+    → nodes_of (settled side red rest n far).tree ≡ nodes_of (joined_at side red rest.tree n far)
 nodes_of-settled side red rest n far =
     elim (cases_Bool rest.fell) [
-      | inl e ↦ rw e (nodes_of-mended (opposite side) red far n rest.tree ∙ ap nodes_of (sym (joined_opposite side red rest.tree n far)))
+      | inl e ↦ rw e (nodes_of-mended (opposite side) red far n rest.tree
+          ∙ ap nodes_of (sym (joined_opposite side red rest.tree n far)))
       | inr e ↦ rw e refl
     ]
 
 -- the first node, and the rest
-pub nodes_of-least : (red : Bool) (l : Tree) (n : ℕ) (r : Tree) → nodes_of (fork red l n r) ≡ least_of n l ∷ nodes_of (without_least (fork red l n r)).tree
+pub nodes_of-least : (red : Bool) (l : Tree) (n : ℕ) (r : Tree) → nodes_of (fork red l n r) ≡ least_of n l ∷ nodes_of
+    (without_least (fork red l n r)).tree
 nodes_of-least red leaf n r = ap (λ zs. n ∷ zs) (sym (nodes_of-sunk red r))
 nodes_of-least red (fork red' l m k) n r =
     ap (λ zs. zs ++ n ∷ nodes_of r) (nodes_of-least red' l m k)
@@ -115,8 +125,9 @@ nodes_of-without_root red l (fork red' p k q) =
     nodes_of-settled Right red (without_least (fork red' p k q)) (least_of k p) l
     ∙ ap (λ zs. nodes_of l ++ zs) (sym (nodes_of-least red' p k q))
 
-module _ (lt : ℕ → ℕ → Bool) (transitive : (a b c : ℕ) → lt a b ≡ true → lt b c ≡ true → lt a c ≡ true) (irreflexive : (n : ℕ) → lt n n ≡ false) where
-  pub nodes_of-shrunk : (x : ℕ) (t : Tree) → rises lt (nodes_of t) ≡ true → nodes_of (shrunk lt x t).tree ≡ without x (nodes_of t)
+module _ {lt : ℕ → ℕ → Bool} (strict : IsStrict lt) where
+  pub nodes_of-shrunk : (x : ℕ) (t : Tree) → rises lt (nodes_of t) ≡ true
+      → nodes_of (shrunk lt x t).tree ≡ without x (nodes_of t)
   nodes_of-shrunk x leaf o = refl
   nodes_of-shrunk x (fork red l n r) o =
       let xs = nodes_of l in
@@ -129,8 +140,8 @@ module _ (lt : ℕ → ℕ → Bool) (transitive : (a b c : ℕ) → lt a b ≡ 
         | inl e ↦
             let same = eqb-true n x e in
             let here : nat_eq x n ≡ true = eq-eqb x n (sym same) in
-            let no_l : is_in x xs ≡ false = rw (← same) (not_left lt transitive irreflexive xs n ys s) in
-            let no_r : is_in x ys ≡ false = rw (← same) (not_right lt transitive irreflexive xs n ys s) in
+            let no_l : is_in x xs ≡ false = rw (← same) (not_left strict xs n ys s) in
+            let no_r : is_in x ys ≡ false = rw (← same) (not_right strict xs n ys s) in
             let wl = without_none x xs no_l in
             let wr = without_none x ys no_r in
             rw e (nodes_of-without_root red l r ∙ sym (parts ∙ rw (wl, here, wr) refl))
@@ -138,13 +149,20 @@ module _ (lt : ℕ → ℕ → Bool) (transitive : (a b c : ℕ) → lt a b ≡ 
             let other : nat_eq x n ≡ false = ne_eqb x n (λ q. eqb-false n x e (sym q)) in
             elim (cases_Bool (lt x n)) [
               | inl k ↦
-                  let no_r : is_in x ys ≡ false = false_from_ne_true (is_in x ys) (λ i. true≢false (sym (transitive x n x k (all_at (lt n) ys x s.above i)) ∙ irreflexive x)) in
+                  let no_r : is_in x ys ≡ false =
+                  false_from_ne_true (is_in x ys)
+                  (λ i. true≢false (sym (strict.transitive x n x k (all_at (lt n) ys x s.above i))
+                  ∙ strict.irreflexive x)) in
                   let wr = without_none x ys no_r in
-                  rw (e, k) (nodes_of-settled Left red (shrunk lt x l) n r ∙ ap (λ zs. zs ++ n ∷ ys) ml ∙ sym (parts ∙ rw (other, wr) refl))
+                  rw (e, k) (nodes_of-settled Left red (shrunk lt x l) n r ∙ ap (λ zs. zs ++ n ∷ ys) ml
+                  ∙ sym (parts ∙ rw (other, wr) refl))
               | inr k ↦
-                  let no_l : is_in x xs ≡ false = false_from_ne_true (is_in x xs) (λ i. true≢false (sym (all_at (λ m. lt m n) xs x s.below i) ∙ k)) in
+                  let no_l : is_in x xs ≡ false =
+                  false_from_ne_true (is_in x xs) (λ i. true≢false (sym (all_at (λ m. lt m n) xs x s.below i)
+                  ∙ k)) in
                   let wl = without_none x xs no_l in
-                  rw (e, k) (nodes_of-settled Right red (shrunk lt x r) n l ∙ ap (λ zs. xs ++ n ∷ zs) mr ∙ sym (parts ∙ rw (wl, other) refl))
+                  rw (e, k) (nodes_of-settled Right red (shrunk lt x r) n l ∙ ap (λ zs. xs ++ n ∷ zs) mr
+                  ∙ sym (parts ∙ rw (wl, other) refl))
             ]
       ]
 
@@ -157,15 +175,16 @@ pub record IsRestEven (black : Bool) (rest : Rest) (b : ℕ) : Type 0 where
   pub total : level + cond rest.fell 1 0 ≡ b
   pub root : black ≡ true → rest.fell ≡ false → has_black_root rest.tree ≡ true
 
-above_red : Bool → ℕ → ℕ
-above_red red b = cond red b (suc b)
-
-sunk_even : (red : Bool) (t : Tree) (b : ℕ) → IsEven t b → IsRestEven (not red) (sunk red t) (above_red red b)
-unfolding above_red
+sunk_even : (red : Bool) (t : Tree) (b : ℕ) → IsEven t b → IsRestEven (not red) (sunk red t) (cond red b (suc b))
 sunk_even true t b e = record { level = b; even = e; total = omega arith; root = λ k f. absurd (false≢true k) }
 sunk_even false t b e =
     elim (cases_Bool (is_red_tree t)) [
-      | inl k ↦ rw k (record { level = suc b; even = blackened_even t b (nearly_even t b e) k; total = omega arith; root = λ q f. blackened_root t })
+      | inl k ↦ rw k (record {
+        level = suc b;
+        even = blackened_even t b (nearly_even t b e) k;
+        total = omega arith;
+        root = λ q f. blackened_root t;
+      })
       | inr k ↦ rw k (record { level = b; even = e; total = omega arith; root = λ q f. absurd (true≢false f) })
     ]
 
@@ -182,13 +201,14 @@ record HasBlackSides (side : Side) (l r : Tree) : Type 0 where
   near_root : has_black_root (tree_on side l r) ≡ true
   far_root : has_black_root (tree_on (opposite side) l r) ≡ true
 
-black_sides : (side : Side) (l : Tree) (n : ℕ) (r : Tree) → has_no_red_pair (fork true l n r) ≡ true → HasBlackSides side l r
+black_sides : (side : Side) (l : Tree) (n : ℕ) (r : Tree) → has_no_red_pair (fork true l n r) ≡ true
+    → HasBlackSides side l r
 black_sides Left l n r e = let u = under_red l n r e in record { near_root = u.left_root; far_root = u.right_root }
 black_sides Right l n r e = let u = under_red l n r e in record { near_root = u.right_root; far_root = u.left_root }
 
 mended_even : (side : Side) (red : Bool) (near : Tree) (n : ℕ) (far : Tree) (b : ℕ) → IsEven near (suc b) → IsEven far b
-    → (red ≡ true → has_black_root near ≡ true) → IsRestEven (not red) (mended_at side red near n far) (above_red red (suc b))
-unfolding above_red
+    → (red ≡ true → has_black_root near ≡ true) → IsRestEven (not red) (mended_at side red near n far)
+    (cond red (suc b) (suc (suc b)))
 mended_even side red leaf n far b e f k = absurd (no_black b e.black)
 mended_even side true (fork false l m r) n far b e f k = record {
   level = suc b;
@@ -210,20 +230,38 @@ mended_even side false (fork true l m r) n far b e f k =
     let inner = rebalanced_even side (reddened (tree_on (opposite side) l r)) n far b low f in
     record {
       level = suc (suc b);
-      even = black_join side (tree_on side l r) m (rebalanced side (joined_at side false (reddened (tree_on (opposite side) l r)) n far)) (suc b) s.near_even inner;
+      even = black_join side (tree_on side l r) m
+          (rebalanced side (joined_at side false (reddened (tree_on (opposite side) l r)) n far)) (suc b) s.near_even
+          inner;
       total = omega arith;
-      root = λ q g. black_root_join side (tree_on side l r) m (rebalanced side (joined_at side false (reddened (tree_on (opposite side) l r)) n far));
+      root = λ q g. black_root_join side (tree_on side l r) m
+          (rebalanced side (joined_at side false (reddened (tree_on (opposite side) l r)) n far));
     }
 
 done_even : (side : Side) (red : Bool) (near : Tree) (n : ℕ) (far : Tree) (b : ℕ) → IsEven near b → IsEven far b
     → (red ≡ true → has_black_root near ≡ true) → (red ≡ true → has_black_root far ≡ true)
-    → IsRestEven (not red) (record { tree = joined_at side red near n far; fell = false }) (above_red red b)
-unfolding above_red
-done_even side true near n far b e f k m = record { level = b; even = red_join side near n far b e f (k refl) (m refl); total = omega arith; root = λ q g. absurd (false≢true q) }
-done_even side false near n far b e f k m = record { level = suc b; even = black_join side near n far b e f; total = omega arith; root = λ q g. black_root_join side near n far }
+    → IsRestEven (not red) (record { tree = joined_at side red near n far; fell = false }) (cond red b (suc b))
+done_even side true near n far b e f k m =
+    record {
+      level = b;
+      even = red_join side near n far b e f (k refl) (m refl);
+      total = omega arith;
+      root = λ q g.
+          absurd (false≢true q);
+    }
+done_even side false near n far b e f k m =
+    record {
+      level = suc b;
+      even = black_join side near n far b e f;
+      total = omega arith;
+      root = λ q g. black_root_join
+          side near n far;
+    }
 
-settled_even : (side : Side) (red black : Bool) (rest : Rest) (n : ℕ) (far : Tree) (b : ℕ) → IsRestEven black rest b → IsEven far b
-    → (red ≡ true → black ≡ true) → (red ≡ true → has_black_root far ≡ true) → IsRestEven (not red) (settled side red rest n far) (above_red red b)
+settled_even : (side : Side) (red black : Bool) (rest : Rest) (n : ℕ) (far : Tree) (b : ℕ) → IsRestEven black rest b
+    → IsEven far b
+    → (red ≡ true → black ≡ true) → (red ≡ true → has_black_root far ≡ true)
+    → IsRestEven (not red) (settled side red rest n far) (cond red b (suc b))
 settled_even side red black rest n far b e f k m =
     elim (cases_Bool rest.fell) [
       | inl q ↦
@@ -238,26 +276,6 @@ settled_even side red black rest n far b e f k m =
           rw q (done_even side red rest.tree n far b near_even f (λ r. e.root (k r) q) m)
     ]
 
--- the parts of an even tree
-record IsEvenFork (red : Bool) (l r : Tree) (b : ℕ) : Type 0 where
-  below : ℕ
-  is : b ≡ above_red red below
-  left_even : IsEven l below
-  right_even : IsEven r below
-  left_root : red ≡ true → has_black_root l ≡ true
-  right_root : red ≡ true → has_black_root r ≡ true
-
-even_fork : (red : Bool) (l : Tree) (n : ℕ) (r : Tree) (b : ℕ) → IsEven (fork red l n r) b → IsEvenFork red l r b
-unfolding above_red
-even_fork true l n r b e =
-    let u = under_red l n r e.no_red_pair in
-    let s = sides_of_red Left l n r b (u.nearly n b e.black) in
-    record { below = b; is = refl; left_even = s.near_even; right_even = s.far_even; left_root = λ q. u.left_root; right_root = λ q. u.right_root }
-even_fork false l n r zero e = absurd (false≢true e.black)
-even_fork false l n r (suc b) e =
-    let s = sides_of_black Left l n r b e in
-    record { below = b; is = refl; left_even = s.near_even; right_even = s.far_even; left_root = λ q. absurd (false≢true q); right_root = λ q. absurd (false≢true q) }
-
 without_least_even : (t : Tree) (b : ℕ) → IsEven t b → IsRestEven (has_black_root t) (without_least t) b
 without_least_even leaf b e = record { level = b; even = e; total = omega arith; root = λ q f. refl }
 without_least_even (fork red leaf n r) b e =
@@ -266,16 +284,19 @@ without_least_even (fork red leaf n r) b e =
 without_least_even (fork red (fork red' l m k) n r) b e =
     let p = even_fork red (fork red' l m k) n r b e in
     let more = without_least_even (fork red' l m k) p.below p.left_even in
-    rw p.is (settled_even Left red (has_black_root (fork red' l m k)) (without_least (fork red' l m k)) n r p.below more p.right_even p.left_root p.right_root)
+    rw p.is (settled_even Left red (has_black_root (fork red' l m k)) (without_least (fork red' l m k)) n r p.below
+    more p.right_even p.left_root p.right_root)
 
-without_root_even : (red : Bool) (l : Tree) (n : ℕ) (r : Tree) (b : ℕ) → IsEven (fork red l n r) b → IsRestEven (not red) (without_root red l r) b
+without_root_even : (red : Bool) (l : Tree) (n : ℕ) (r : Tree) (b : ℕ) → IsEven (fork red l n r) b
+    → IsRestEven (not red) (without_root red l r) b
 without_root_even red l n leaf b e =
     let p = even_fork red l n leaf b e in
     rw p.is (sunk_even red l p.below p.left_even)
 without_root_even red l n (fork red' p k q) b e =
     let f = even_fork red l n (fork red' p k q) b e in
     let more = without_least_even (fork red' p k q) f.below f.right_even in
-    rw f.is (settled_even Right red (has_black_root (fork red' p k q)) (without_least (fork red' p k q)) (least_of k p) l f.below more f.left_even f.right_root f.left_root)
+    rw f.is (settled_even Right red (has_black_root (fork red' p k q)) (without_least (fork red' p k q))
+    (least_of k p) l f.below more f.left_even f.right_root f.left_root)
 
 pub shrunk_even : (lt : ℕ → ℕ → Bool) (x : ℕ) (t : Tree) (b : ℕ) → IsEven t b
     → IsRestEven (has_black_root t) (shrunk lt x t) b
@@ -288,13 +309,16 @@ shrunk_even lt x (fork red l n r) b e =
     elim (cases_Bool (nat_eq n x)) [
       | inl k ↦ rw k root
       | inr k ↦ elim (cases_Bool (lt x n)) [
-        | inl m ↦ rw (k, m) (rw p.is (settled_even Left red (has_black_root l) (shrunk lt x l) n r p.below ml p.right_even p.left_root p.right_root))
-        | inr m ↦ rw (k, m) (rw p.is (settled_even Right red (has_black_root r) (shrunk lt x r) n l p.below mr p.left_even p.right_root p.left_root))
+        | inl m ↦ rw (k, m) (rw p.is (settled_even Left red (has_black_root l) (shrunk lt x l) n r p.below ml
+            p.right_even p.left_root p.right_root))
+        | inr m ↦ rw (k, m) (rw p.is (settled_even Right red (has_black_root r) (shrunk lt x r) n l p.below mr
+            p.left_even p.right_root p.left_root))
       ]
     ]
 
 -- with its root made black, what is left is red-black again
-pub shrunk_red_black : (lt : ℕ → ℕ → Bool) (x : ℕ) (t : Tree) → IsRedBlack t → IsRedBlack (blackened (shrunk lt x t).tree)
+pub shrunk_red_black : (lt : ℕ → ℕ → Bool) (x : ℕ) (t : Tree) → IsRedBlack t
+    → IsRedBlack (blackened (shrunk lt x t).tree)
 shrunk_red_black lt x t k =
     let b = k.black.0 in
     let e = shrunk_even lt x t b (record { no_red_pair = k.no_red_pair; black = k.black.1 }) in
@@ -305,5 +329,6 @@ shrunk_red_black lt x t k =
           record { root = blackened_root u; no_red_pair = even.no_red_pair; black = (suc e.level, even.black) }
       | inr q ↦
           let black = not-false (has_black_root u) q in
-          rw (blackened_same u black) (record { root = black; no_red_pair = e.even.no_red_pair; black = (e.level, e.even.black) })
+          rw (blackened_same u black)
+          (record { root = black; no_red_pair = e.even.no_red_pair; black = (e.level, e.even.black) })
     ]

@@ -1,62 +1,33 @@
 -- A check of the parts is a check of the tree.
-use Rattle.std.proofs.Common.{◌≡◌, ℕ, zero, suc, ◌+◌, ◌≤◌, Bool, true, false, ◌&&◌, cond, Option, Some, None, List, [], ◌∷◌, ◌++◌, length, nat_eq, refl, sym, ap, ◌∙◌, arith, inl, inr, subst}
+use Rattle.std.proofs.Common.{◌≡◌, ℕ, zero, suc, ◌+◌, ◌≤◌, Bool, true, false, cond, Option, Some, None, List, [], ◌∷◌, ◌++◌, length, nat_eq, refl, sym, ap, ◌∙◌, arith, inl, inr, subst}
 use Rattle.std.specs.List.{list_all}
 use Rattle.std.proofs.lemmas.Bool.{false≢true, and_parts, and_from, cases_Bool, or_cases, or_left, or_right, eqb-true}
 use Rattle.link_tree.specs.Tree.{Cell, Tree, leaf, fork, nodes_of, IsSearchTree, rises, height, has_black_root, has_no_red_pair, has_black_height}
 use Rattle.link_tree.specs.Nodes.{is_in, leads}
 use Rattle.link_tree.specs.Between.{is_above, is_below, is_between, count_between}
 use Rattle.link_tree.specs.Checking.{IsClosed, IsSound}
-use Rattle.link_tree.proofs.Orders.{rises_split, rises_join, all_at, all_from, in_left, in_right, in_middle, in_parts}
+use Rattle.link_tree.proofs.Orders.{IsStrict, rises_split, rises_join, all_at, all_from, in_left, in_right, in_middle, in_parts}
+use Rattle.link_tree.proofs.Colours.{even_fork, even_join}
 use Rattle.link_tree.proofs.Trees.{open_tree, close_tree, one_tree}
 use Rattle.link_tree.proofs.Limits.{tree_good, count_split, above_less, below_less, count_tree}
 
 pub black_height_once : (t : Tree) (a b : ℕ) → has_black_height t a ≡ true → has_black_height t b ≡ true → a ≡ b
 black_height_once leaf a b x y = eqb-true a 0 x ∙ sym (eqb-true b 0 y)
-black_height_once (fork true l n r) a b x y = black_height_once l a b (and_parts (has_black_height l a) (has_black_height r a) x).0 (and_parts (has_black_height l b) (has_black_height r b) y).0
+black_height_once (fork true l n r) a b x y =
+    black_height_once l a b (and_parts (has_black_height l a) (has_black_height r a) x).0
+    (and_parts (has_black_height l b) (has_black_height r b) y).0
 black_height_once (fork false l n r) zero b x y = absurd (false≢true x)
 black_height_once (fork false l n r) (suc a) zero x y = absurd (false≢true y)
 black_height_once (fork false l n r) (suc a) (suc b) x y =
-    ap suc (black_height_once l a b (and_parts (has_black_height l a) (has_black_height r a) x).0 (and_parts (has_black_height l b) (has_black_height r b) y).0)
+    ap suc (black_height_once l a b (and_parts (has_black_height l a) (has_black_height r a) x).0
+    (and_parts (has_black_height l b) (has_black_height r b) y).0)
 
-pairs : (red : Bool) (l : Tree) (n : ℕ) (r : Tree) → has_no_red_pair l ≡ true → has_no_red_pair r ≡ true
-    → (red ≡ true → has_black_root l ≡ true) → (red ≡ true → has_black_root r ≡ true) → has_no_red_pair (fork red l n r) ≡ true
-pairs true l n r pl pr bl br =
-    and_from (has_black_root l && has_black_root r && has_no_red_pair l) (has_no_red_pair r)
-    (and_from (has_black_root l && has_black_root r) (has_no_red_pair l) (and_from (has_black_root l) (has_black_root r) (bl refl) (br refl)) pl) pr
-pairs false l n r pl pr bl br = and_from (has_no_red_pair l) (has_no_red_pair r) pl pr
-
-root_black : (red red_above : Bool) (l : Tree) (n : ℕ) (r : Tree) → (red ≡ true → red_above ≡ true → ⊥) → red_above ≡ true → has_black_root (fork red l n r) ≡ true
+root_black : (red red_above : Bool) (l : Tree) (n : ℕ) (r : Tree) → (red ≡ true → red_above ≡ true → ⊥)
+    → red_above ≡ true → has_black_root (fork red l n r) ≡ true
 root_black true red_above l n r free e = absurd (free refl e)
 root_black false red_above l n r free e = refl
 
-blacks : (red : Bool) (l : Tree) (n : ℕ) (r : Tree) (b : ℕ) → has_black_height l b ≡ true → has_black_height r b ≡ true → has_black_height (fork red l n r) (cond red b (suc b)) ≡ true
-blacks true l n r b x y = and_from (has_black_height l b) (has_black_height r b) x y
-blacks false l n r b x y = and_from (has_black_height l b) (has_black_height r b) x y
-
--- colours and black heights of the parts of a fork
-record IsColouredFork (red : Bool) (l r : Tree) : Type 0 where
-  level : ℕ
-  left_pairs : has_no_red_pair l ≡ true
-  right_pairs : has_no_red_pair r ≡ true
-  left_root : red ≡ true → has_black_root l ≡ true
-  right_root : red ≡ true → has_black_root r ≡ true
-  left_black : has_black_height l level ≡ true
-  right_black : has_black_height r level ≡ true
-
-coloured_fork : (red : Bool) (l : Tree) (n : ℕ) (r : Tree) (b : ℕ) → has_no_red_pair (fork red l n r) ≡ true → has_black_height (fork red l n r) b ≡ true → IsColouredFork red l r
-coloured_fork true l n r b p h =
-    let q = and_parts (has_black_root l && has_black_root r && has_no_red_pair l) (has_no_red_pair r) p in
-    let q1 = and_parts (has_black_root l && has_black_root r) (has_no_red_pair l) q.0 in
-    let q2 = and_parts (has_black_root l) (has_black_root r) q1.0 in
-    let k = and_parts (has_black_height l b) (has_black_height r b) h in
-    record { level = b; left_pairs = q1.1; right_pairs = q.1; left_root = λ e. q2.0; right_root = λ e. q2.1; left_black = k.0; right_black = k.1 }
-coloured_fork false l n r zero p h = absurd (false≢true h)
-coloured_fork false l n r (suc b) p h =
-    let q = and_parts (has_no_red_pair l) (has_no_red_pair r) p in
-    let k = and_parts (has_black_height l b) (has_black_height r b) h in
-    record { level = b; left_pairs = q.0; right_pairs = q.1; left_root = λ e. absurd (false≢true e); right_root = λ e. absurd (false≢true e); left_black = k.0; right_black = k.1 }
-
-module _ (lt : ℕ → ℕ → Bool) (transitive : (a b c : ℕ) → lt a b ≡ true → lt b c ≡ true → lt a c ≡ true) (irreflexive : (n : ℕ) → lt n n ≡ false) (h : ℕ → Cell) where
+module _ {lt : ℕ → ℕ → Bool} (strict : IsStrict lt) (h : ℕ → Cell) where
   pub sound_none : (low high : Option ℕ) (red_above : Bool) → IsSound lt h None low high red_above leaf 0
   sound_none low high red_above = record {
     tree = record { root = refl; holds = tt };
@@ -77,26 +48,31 @@ module _ (lt : ℕ → ℕ → Bool) (transitive : (a b c : ℕ) → lt a b ≡ 
       let ys = nodes_of r in
       let in_l : (m : ℕ) → is_in m xs ≡ true → (is_above lt low m ≡ true) × (lt m n ≡ true) =
       λ m i. and_parts (is_above lt low m) (lt m n) (all_at (λ k. is_between lt low k (Some n)) xs m sl.between i) in
+      let even = even_join red l n r b (record { no_red_pair = sl.no_red_pair; black = sl.black })
+      (record { no_red_pair = sr.no_red_pair; black = sr.black }) sl.root sr.root in
       let in_r : (m : ℕ) → is_in m ys ≡ true → (lt n m ≡ true) × (is_below lt m high ≡ true) =
       λ m i. and_parts (lt n m) (is_below lt m high) (all_at (λ k. is_between lt (Some n) k high) ys m sr.between i) in
       record {
-        tree = close_tree h n red l r (h n).left (h n).right (ap (λ c. record { left = (h n).left; right = (h n).right; red = c }) is_red) sl.tree sr.tree;
-        ordered = rises_join lt transitive xs n ys (record {
+        tree = close_tree h n red l r (h n).left (h n).right
+            (ap (λ c. record { left = (h n).left; right = (h n).right; red = c }) is_red) sl.tree sr.tree;
+        ordered = rises_join lt strict.transitive xs n ys (record {
           left = sl.ordered;
           below = all_from (λ m. lt m n) xs (λ m i. (in_l m i).1);
           above = all_from (lt n) ys (λ m i. (in_r m i).0);
           right = sr.ordered;
         });
         between = all_from (λ m. is_between lt low m high) (xs ++ n ∷ ys) (λ m i. elim (in_parts m xs n ys i) [
-          | inl a ↦ and_from (is_above lt low m) (is_below lt m high) (in_l m a).0 (below_less lt transitive irreflexive high n m below (in_l m a).1)
+          | inl a ↦ and_from (is_above lt low m) (is_below lt m high) (in_l m a).0
+              (below_less strict high n m below (in_l m a).1)
           | inr k ↦ elim k [
             | inl e ↦ rw e (and_from (is_above lt low n) (is_below lt n high) above below)
-            | inr a ↦ and_from (is_above lt low m) (is_below lt m high) (above_less lt transitive irreflexive low n m above (in_r m a).0) (in_r m a).1
+            | inr a ↦ and_from (is_above lt low m) (is_below lt m high) (above_less strict low n m above (in_r m a).0)
+                (in_r m a).1
           ]
         ]);
-        no_red_pair = pairs red l n r sl.no_red_pair sr.no_red_pair sl.root sr.root;
+        no_red_pair = even.no_red_pair;
         root = λ q. root_black red red_above l n r free q;
-        black = blacks red l n r b sl.black sr.black;
+        black = even.black;
       }
 
   -- the parts of a tree that is sound
@@ -113,11 +89,13 @@ module _ (lt : ℕ → ℕ → Bool) (transitive : (a b c : ℕ) → lt a b ≡ 
     pub left_lower : height left + 1 ≤ height t
     pub right_lower : height right + 1 ≤ height t
 
-  not_red_root : (red red_above : Bool) (l : Tree) (n : ℕ) (r : Tree) → (red_above ≡ true → has_black_root (fork red l n r) ≡ true) → red ≡ true → red_above ≡ true → ⊥
+  not_red_root : (red red_above : Bool) (l : Tree) (n : ℕ) (r : Tree)
+      → (red_above ≡ true → has_black_root (fork red l n r) ≡ true) → red ≡ true → red_above ≡ true → ⊥
   not_red_root true red_above l n r f e k = false≢true (f k)
   not_red_root false red_above l n r f e k = false≢true e
 
-  pub parts_of : (n : ℕ) (low high : Option ℕ) (red_above : Bool) (t : Tree) (b : ℕ) → IsSound lt h (Some n) low high red_above t b → HasParts n low high red_above t b
+  pub parts_of : (n : ℕ) (low high : Option ℕ) (red_above : Bool) (t : Tree) (b : ℕ)
+      → IsSound lt h (Some n) low high red_above t b → HasParts n low high red_above t b
   parts_of n low high red_above t b s =
       let o = open_tree h n t s.tree in
       let red = (h n).red in
@@ -126,36 +104,42 @@ module _ (lt : ℕ → ℕ → Bool) (transitive : (a b c : ℕ) → lt a b ≡ 
       let xs = nodes_of l in
       let ys = nodes_of r in
       let order : rises lt (xs ++ n ∷ ys) ≡ true = ap (λ u. rises lt (nodes_of u)) (sym o.is) ∙ s.ordered in
-      let between : list_all (λ m. is_between lt low m high) (xs ++ n ∷ ys) ≡ true = ap (λ u. list_all (λ m. is_between lt low m high) (nodes_of u)) (sym o.is) ∙ s.between in
+      let between : list_all (λ m. is_between lt low m high) (xs ++ n ∷ ys) ≡ true =
+      ap (λ u. list_all (λ m. is_between lt low m high) (nodes_of u)) (sym o.is) ∙ s.between in
       let pairs_here : has_no_red_pair (fork red l n r) ≡ true = ap has_no_red_pair (sym o.is) ∙ s.no_red_pair in
-      let black_here : has_black_height (fork red l n r) b ≡ true = ap (λ u. has_black_height u b) (sym o.is) ∙ s.black in
-      let root_here : red_above ≡ true → has_black_root (fork red l n r) ≡ true = λ e. ap has_black_root (sym o.is) ∙ s.root e in
+      let black_here : has_black_height (fork red l n r) b ≡ true = ap (λ u. has_black_height u b) (sym o.is)
+      ∙ s.black in
+      let root_here : red_above ≡ true → has_black_root (fork red l n r) ≡ true = λ e. ap has_black_root (sym o.is)
+      ∙ s.root e in
       let sp = rises_split lt xs n ys order in
-      let c = coloured_fork red l n r b pairs_here black_here in
+      let c = even_fork red l n r b (record { no_red_pair = pairs_here; black = black_here }) in
       let at : (m : ℕ) → is_in m (xs ++ n ∷ ys) ≡ true → (is_above lt low m ≡ true) × (is_below lt m high ≡ true) =
-      λ m i. and_parts (is_above lt low m) (is_below lt m high) (all_at (λ k. is_between lt low k high) (xs ++ n ∷ ys) m between i) in
+      λ m i. and_parts (is_above lt low m) (is_below lt m high)
+      (all_at (λ k. is_between lt low k high) (xs ++ n ∷ ys) m between i) in
       let lows : height l + 1 ≤ height (fork red l n r) = omega arith in
       let highs : height r + 1 ≤ height (fork red l n r) = omega arith in
       record {
         left = l;
         right = r;
         is = o.is;
-        level = c.level;
+        level = c.below;
         left_sound = record {
           tree = o.left_tree;
           ordered = sp.left;
-          between = all_from (λ m. is_between lt low m (Some n)) xs (λ m i. and_from (is_above lt low m) (lt m n) (at m (in_left m xs n ys i)).0 (all_at (λ k. lt k n) xs m sp.below i));
-          no_red_pair = c.left_pairs;
+          between = all_from (λ m. is_between lt low m (Some n)) xs (λ m i. and_from (is_above lt low m) (lt m n)
+              (at m (in_left m xs n ys i)).0 (all_at (λ k. lt k n) xs m sp.below i));
+          no_red_pair = c.left_even.no_red_pair;
           root = c.left_root;
-          black = c.left_black;
+          black = c.left_even.black;
         };
         right_sound = record {
           tree = o.right_tree;
           ordered = sp.right;
-          between = all_from (λ m. is_between lt (Some n) m high) ys (λ m i. and_from (lt n m) (is_below lt m high) (all_at (lt n) ys m sp.above i) (at m (in_right m xs n ys i)).1);
-          no_red_pair = c.right_pairs;
+          between = all_from (λ m. is_between lt (Some n) m high) ys (λ m i. and_from (lt n m) (is_below lt m high)
+              (all_at (lt n) ys m sp.above i) (at m (in_right m xs n ys i)).1);
+          no_red_pair = c.right_even.no_red_pair;
           root = c.right_root;
-          black = c.right_black;
+          black = c.right_even.black;
         };
         above = (at n (in_middle xs n ys)).0;
         below = (at n (in_middle xs n ys)).1;
@@ -165,29 +149,35 @@ module _ (lt : ℕ → ℕ → Bool) (transitive : (a b c : ℕ) → lt a b ≡ 
       }
 
   -- no part has two black heights
-  pub one_height : (link low high low' high' : Option ℕ) (red red' : Bool) (t u : Tree) (a b : ℕ) → IsSound lt h link low high red t a → IsSound lt h link low' high' red' u b → a ≡ b
+  pub one_height : (link low high low' high' : Option ℕ) (red red' : Bool) (t u : Tree) (a b : ℕ)
+      → IsSound lt h link low high red t a → IsSound lt h link low' high' red' u b → a ≡ b
   one_height link low high low' high' red red' t u a b s k =
       let e = one_tree h link t u s.tree k.tree in
       black_height_once t a b s.black (subst (λ v. has_black_height v b ≡ true) (sym e) k.black)
 
   -- steps: a node of a closed list parts what is between two others
-  pub closed_link : (ns : List ℕ) (n : ℕ) (link : Option ℕ) → link ≡ Some n → leads (λ m. is_in m ns) link ≡ true → is_in n ns ≡ true
+  pub closed_link : (ns : List ℕ) (n : ℕ) (link : Option ℕ) → link ≡ Some n → leads (λ m. is_in m ns) link ≡ true
+      → is_in n ns ≡ true
   closed_link ns n link e k = subst (λ (o : Option ℕ). leads (λ m. is_in m ns) o ≡ true) e k
 
-  pub counts_split : (ns : List ℕ) (n : ℕ) (low high : Option ℕ) → is_in n ns ≡ true → is_above lt low n ≡ true → is_below lt n high ≡ true
+  pub counts_split : (ns : List ℕ) (n : ℕ) (low high : Option ℕ) → is_in n ns ≡ true → is_above lt low n ≡ true
+      → is_below lt n high ≡ true
       → count_between lt low (Some n) ns + count_between lt (Some n) high ns + 1 ≤ count_between lt low high ns
-  counts_split ns n low high i a b = count_split lt transitive irreflexive low high n ns (and_from (is_above lt low n) (is_below lt n high) a b) i
+  counts_split ns n low high i a b =
+      count_split strict low high n ns (and_from (is_above lt low n) (is_below lt n high) a b) i
 
   -- a part has no more nodes than the closed list has between its bounds
-  pub part_size : (ns : List ℕ) → IsClosed h ns → (link low high : Option ℕ) (red : Bool) (t : Tree) (b : ℕ) → leads (λ m. is_in m ns) link ≡ true
+  pub part_size : (ns : List ℕ) → IsClosed h ns → (link low high : Option ℕ) (red : Bool) (t : Tree) (b : ℕ)
+      → leads (λ m. is_in m ns) link ≡ true
       → IsSound lt h link low high red t b → length (nodes_of t) ≤ count_between lt low high ns
   part_size ns closed link low high red t b k s =
-      count_tree lt transitive irreflexive ns t low high s.ordered
+      count_tree strict ns t low high s.ordered
       (λ m i. all_at (λ m. is_between lt low m high) (nodes_of t) m s.between i)
       (tree_good h (λ m. is_in m ns) closed.left closed.right t link s.tree k)
 
   -- the whole tree as a part
-  pub sound_whole : (root : Option ℕ) (t : Tree) (k : IsSearchTree lt h root t) → IsSound lt h root None None true t k.red_black.black.0
+  pub sound_whole : (root : Option ℕ) (t : Tree) (k : IsSearchTree lt h root t)
+      → IsSound lt h root None None true t k.red_black.black.0
   sound_whole root t k = record {
     tree = k.tree;
     ordered = k.ordered;
@@ -197,7 +187,8 @@ module _ (lt : ℕ → ℕ → Bool) (transitive : (a b c : ℕ) → lt a b ≡ 
     black = k.red_black.black.1;
   }
 
-  pub whole_sound : (root : Option ℕ) (t : Tree) (b : ℕ) → IsSound lt h root None None true t b → IsSearchTree lt h root t
+  pub whole_sound : (root : Option ℕ) (t : Tree) (b : ℕ) → IsSound lt h root None None true t b
+      → IsSearchTree lt h root t
   whole_sound root t b s = record {
     tree = s.tree;
     ordered = s.ordered;
@@ -245,12 +236,15 @@ only_in good (n ∷ ns) m g i =
       ]
     ]
 
-pub leads_only : (good : ℕ → Bool) (ns : List ℕ) → ((n : ℕ) → good n ≡ true → is_in n ns ≡ true) → (link : Option ℕ) → leads good link ≡ true
+pub leads_only : (good : ℕ → Bool) (ns : List ℕ) → ((n : ℕ) → good n ≡ true → is_in n ns ≡ true) → (link : Option ℕ)
+    → leads good link ≡ true
     → leads (λ m. is_in m (only good ns)) link ≡ true
 leads_only good ns all None k = refl
 leads_only good ns all (Some n) k = only_in good ns n k (all n k)
 
-pub only_closed : (h : ℕ → Cell) (good : ℕ → Bool) (ns : List ℕ) → ((n : ℕ) → good n ≡ true → leads good (h n).left ≡ true) → ((n : ℕ) → good n ≡ true → leads good (h n).right ≡ true)
+pub only_closed : (h : ℕ → Cell) (good : ℕ → Bool) (ns : List ℕ)
+    → ((n : ℕ) → good n ≡ true → leads good (h n).left ≡ true)
+    → ((n : ℕ) → good n ≡ true → leads good (h n).right ≡ true)
     → ((n : ℕ) → good n ≡ true → is_in n ns ≡ true) → IsClosed h (only good ns)
 only_closed h good ns cl cr all = record {
   left = λ n i. leads_only good ns all (h n).left (cl n (only_good good ns n i));

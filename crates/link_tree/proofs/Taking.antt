@@ -1,25 +1,27 @@
 -- How a removal takes the root of a tree, or a node below it, and makes the root of what is left black.
-use Rattle.std.proofs.Common.{◌≡◌, ℕ, ◌+◌, ◌≤◌, Bool, true, false, Option, Some, None, [], ◌∷◌, ◌++◌, nat_eq, refl, sym, ap, ◌∙◌, inl, inr, subst}
+use Rattle.std.proofs.Common.{◌≡◌, ℕ, ◌+◌, Bool, true, false, Option, Some, None, [], ◌∷◌, ◌++◌, nat_eq, refl, sym, ap, ◌∙◌, inl, inr, subst}
 use Rattle.std.proofs.lemmas.Bool.{eqb-false, ne_eqb, or_parts, cases_Bool}
-use Rattle.link_tree.specs.Tree.{Cell, Tree, leaf, fork, nodes_of, Holds, IsTree, IsSearchTree, rises, height}
+use Rattle.link_tree.specs.Tree.{Cell, Tree, leaf, fork, nodes_of, IsTree, IsSearchTree, rises}
 use Rattle.link_tree.specs.Nodes.{is_in, with_left, with_red, without}
-use Rattle.link_tree.specs.Sides.{opposite, child_of, joined_at, side_of}
-use Rattle.link_tree.specs.Turning.{Turned, blackened}
+use Rattle.link_tree.specs.Sides.{child_of, joined_at, side_of}
+use Rattle.link_tree.specs.Turning.{blackened}
 use Rattle.link_tree.specs.Shrinking.{Rest, Shrinks, Leaves, settled, sunk, least_of, without_least, without_root, uprooted, shrunk}
 use Rattle.link_tree.specs.declared.visits.Side.{Side}
 use Rattle.link_tree.specs.declared.visits.Side.TheVariants.{Left, Right}
-use Rattle.link_tree.proofs.Orders.{rises_split, in_middle, outside_parts}
-use Rattle.link_tree.proofs.Trees.{open_tree, tree_same, none_some, no_tree, root_in}
-use Rattle.link_tree.proofs.Joints.{with_child-other, with_child-near, with_red-other, with_red-same, open_side, apart_of, outside_all, other_than, nodes_of-blackened}
-use Rattle.link_tree.proofs.Growth.{lower_near}
+use Rattle.link_tree.proofs.Orders.{IsStrict, rises_split, in_middle, outside_parts}
+use Rattle.link_tree.proofs.Beginnings.{blackened_whole}
+use Rattle.link_tree.proofs.Trees.{IsChanged, open_tree, tree_same, none_some, no_tree}
+use Rattle.link_tree.proofs.Joints.{Makes, parted, with_child-other, with_child-near, with_red-other, with_red-same, outside_all, other_than}
 use Rattle.link_tree.proofs.Shrinkage.{without_out, rises_without, rises_skip, nodes_of-shrunk, nodes_of-settled, shrunk_red_black}
-use Rattle.link_tree.proofs.TakingLeast.{outside_join, widen, right_left, settle_below, apart_head, has_least}
+use Rattle.link_tree.proofs.TakingLeast.{Settles, outside_join, widen, right_left, settle_below, apart_head, has_least}
 
-module _ (lt : ℕ → ℕ → Bool) (transitive : (a b c : ℕ) → lt a b ≡ true → lt b c ≡ true → lt a c ≡ true) (irreflexive : (n : ℕ) → lt n n ≡ false) where
+module _ {lt : ℕ → ℕ → Bool} (strict : IsStrict lt) where
   -- ---- a tree without its root
 
-  pub uproot_last : (h h' : ℕ → Cell) (at : ℕ) (root : Option ℕ) (fell : Bool) (t : Tree) → IsTree h (Some at) t → (h at).right ≡ None → rises lt (nodes_of t) ≡ true
-      → ((u : Tree) → IsTree h (h at).left u → rises lt (nodes_of u) ≡ true → Leaves h h' (nodes_of u) root fell (sunk (h at).red u))
+  pub uproot_last : (h h' : ℕ → Cell) (at : ℕ) (root : Option ℕ) (fell : Bool) (t : Tree) → IsTree h (Some at) t
+      → (h at).right ≡ None → rises lt (nodes_of t) ≡ true
+      → ((u : Tree) → IsTree h (h at).left u → rises lt (nodes_of u) ≡ true
+      → Leaves h h' (nodes_of u) root fell (sunk (h at).red u))
       → Leaves h h' (nodes_of t) root fell (uprooted t)
   uproot_last h h' at root fell t w e o sink =
       let p = open_tree h at t w in
@@ -32,121 +34,95 @@ module _ (lt : ℕ → ℕ → Bool) (transitive : (a b c : ℕ) → lt a b ≡ 
       rw is_rest (widen h h' (nodes_of p.left) (nodes_of t) root fell (sunk (h at).red p.left)
       (λ m i. (outside_parts m (nodes_of p.left) at [] (subst (λ x. is_in m (nodes_of x) ≡ false) is i)).left) s)
 
-  pub record HasRight (h : ℕ → Cell) (at right : ℕ) (t : Tree) : Type 0 where
-    pub tree : Tree
-    pub shrinks : Shrinks lt h (Some right) tree
-    pub lower : height tree + 1 ≤ height t
-    pub apart : right ≡ at → ⊥
-
-  pub right_of : (h : ℕ → Cell) (at right : ℕ) (t : Tree) → IsTree h (Some at) t → rises lt (nodes_of t) ≡ true → (h at).right ≡ Some right → HasRight h at right t
-  right_of h at right t w o e =
-      let p = open_side h Right at t w in
-      let red = (h at).red in
-      let order : rises lt (nodes_of (joined_at Right red p.near at p.far)) ≡ true = ap (λ x. rises lt (nodes_of x)) (sym p.is) ∙ o in
-      let apart = apart_of lt transitive irreflexive Right red p.near at p.far order in
-      let tree = rw e at p.near_tree in
-      let low = lower_near Right red p.near at p.far in
-      record {
-        tree = p.near;
-        shrinks = record { tree = tree; ordered = apart.near_rises };
-        lower = subst (λ u. height p.near + 1 ≤ height u) (sym p.is) low;
-        apart = other_than right at (nodes_of p.near) (root_in h right p.near tree) apart.not_near;
-      }
-
   without_root_over : (h : ℕ → Cell) (red : Bool) (right : ℕ) (l r : Tree) → IsTree h (Some right) r
       → without_root red l r ≡ settled Right red (without_least r) (least_of right r) l
   without_root_over h red right l leaf w = absurd (none_some right (sym w.root))
   without_root_over h red right l (fork red' a m b) w = refl
 
-  pub uproot_more : (h h1 h2 h3 h4 : ℕ → Cell) (at right next : ℕ) (link root : Option ℕ) (fell_below fell : Bool) (t : Tree)
+  pub uproot_more : (h h1 h2 h3 h4 : ℕ → Cell) (at right next : ℕ) (link root : Option ℕ) (fell_below fell : Bool)
+      (t : Tree)
       → IsTree h (Some at) t → rises lt (nodes_of t) ≡ true → (h at).right ≡ Some right
       → ((u : Tree) → Shrinks lt h (Some right) u → next ≡ least_of right u)
       → ((u : Tree) → Shrinks lt h (Some right) u → Leaves h h1 (nodes_of u) link fell_below (without_least u))
       → h2 ≡ with_left h1 next (h at).left → h3 ≡ with_red h2 next (h at).red
-      → ((near' far' : Tree) → IsTree h3 link near' → IsTree h3 (h3 next).left far'
-      → rises lt (nodes_of (joined_at Right (h3 next).red near' next far')) ≡ true
-      → Leaves h3 h4 (nodes_of (joined_at Right (h3 next).red near' next far')) root fell (settled Right (h3 next).red (record { tree = near'; fell = fell_below }) next far'))
+      → Settles lt h3 h4 Right next link root fell_below fell
       → Leaves h h4 (nodes_of t) root fell (uprooted t)
   uproot_more h h1 h2 h3 h4 at right next link root fell_below fell t w o e is_next take s2 s3 settle =
-      let p = open_tree h at t w in
+      let p = parted strict Left h at t w o in
       let red = (h at).red in
-      let l = p.left in
-      let r = p.right in
-      let order : rises lt (nodes_of (joined_at Left red l at r)) ≡ true = ap (λ x. rises lt (nodes_of x)) (sym p.is) ∙ o in
-      let apart = apart_of lt transitive irreflexive Left red l at r order in
-      let r_tree = rw e at p.right_tree in
+      let l = p.near in
+      let r = p.far in
+      let apart = p.apart in
+      let r_tree = rw e at p.far_tree in
       let shrinks : Shrinks lt h (Some right) r = record { tree = r_tree; ordered = apart.far_rises } in
       let u = take r shrinks in
       let left_over = (without_least r).tree in
-      let least = has_least lt transitive irreflexive h right r r_tree in
-      let nodes_r : nodes_of r ≡ next ∷ nodes_of left_over = least.nodes ∙ ap (λ x. x ∷ nodes_of left_over) (sym (is_next r shrinks)) in
+      let least = has_least strict h right r r_tree in
+      let nodes_r : nodes_of r ≡ next ∷ nodes_of left_over = least.nodes
+      ∙ ap (λ x. x ∷ nodes_of left_over) (sym (is_next r shrinks)) in
       let next_in : is_in next (nodes_of r) ≡ true = ap (is_in next) nodes_r ∙ in_middle [] next (nodes_of left_over) in
       let r_order : rises lt (next ∷ nodes_of left_over) ≡ true = ap (rises lt) (sym nodes_r) ∙ apart.far_rises in
-      let next_out : is_in next (nodes_of left_over) ≡ false = apart_head lt transitive irreflexive next (nodes_of left_over) r_order in
+      let next_out : is_in next (nodes_of left_over) ≡ false = apart_head strict next (nodes_of left_over) r_order in
       let next_not_left : is_in next (nodes_of l) ≡ false = apart.near_of_far next next_in in
       let rest : (m : ℕ) → (m ≡ next → ⊥) → h3 m ≡ h1 m =
-      λ m d. ap (λ (f : ℕ → Cell). f m) s3 ∙ with_red-other h2 next m red d ∙ ap (λ (f : ℕ → Cell). f m) s2 ∙ with_child-other Left h1 next m (h at).left d in
+      λ m d. ap (λ (f : ℕ → Cell). f m) s3 ∙ with_red-other h2 next m red d ∙ ap (λ (f : ℕ → Cell). f m) s2
+      ∙ with_child-other Left h1 next m (h at).left d in
       let cell2 : h2 next ≡ record { left = (h at).left; right = (h1 next).right; red = (h1 next).red } =
-      ap (λ (f : ℕ → Cell). f next) s2 ∙ with_child-near Left h1 next (h1 next).red (h1 next).left (h1 next).right (h at).left refl in
+      ap (λ (f : ℕ → Cell). f next) s2 ∙ with_child-near Left h1 next (h1 next).red (h1 next).left (h1 next).right
+      (h at).left refl in
       let cell3 : h3 next ≡ record { left = (h at).left; right = (h1 next).right; red = red } =
       ap (λ (f : ℕ → Cell). f next) s3 ∙ with_red-same h2 next (h1 next).red red (h at).left (h1 next).right cell2 in
       let is_red : (h3 next).red ≡ red = ap (λ (c : Cell). c.red) cell3 in
       let is_left : (h3 next).left ≡ (h at).left = ap (λ (c : Cell). c.left) cell3 in
-      let near3 : IsTree h3 link left_over = tree_same h1 h3 link left_over (λ m i. rest m (other_than m next (nodes_of left_over) i next_out)) u.turned.tree in
+      let near3 : IsTree h3 link left_over =
+      tree_same h1 h3 link left_over (λ m i. rest m (other_than m next (nodes_of left_over) i next_out))
+      u.turned.tree in
       let far3 : IsTree h3 (h at).left l = tree_same h h3 (h at).left l
-      (λ m i. rest m (other_than m next (nodes_of l) i next_not_left) ∙ u.turned.frame m (apart.far_of_near m i)) p.left_tree in
-      let joined_order : rises lt (nodes_of l ++ next ∷ nodes_of left_over) ≡ true = ap (λ x. rises lt (nodes_of l ++ x)) (sym nodes_r) ∙ rises_skip lt (nodes_of l) at (nodes_of r) order in
+      (λ m i. rest m (other_than m next (nodes_of l) i next_not_left) ∙ u.turned.frame m (apart.far_of_near m i))
+      p.near_tree in
+      let joined_order : rises lt (nodes_of l ++ next ∷ nodes_of left_over) ≡ true =
+      ap (λ x. rises lt (nodes_of l ++ x)) (sym nodes_r) ∙ rises_skip lt (nodes_of l) at (nodes_of r) p.order in
       let far3' : IsTree h3 (h3 next).left l = subst (λ (k : Option ℕ). IsTree h3 k l) (sym is_left) far3 in
       let first = settle left_over l near3 far3' joined_order in
-      let second = subst (λ (c : Bool). Leaves h3 h4 (nodes_of (joined_at Right c left_over next l)) root fell (settled Right c (record { tree = left_over; fell = fell_below }) next l)) is_red first in
-      let s = subst (λ (f : Bool). Leaves h3 h4 (nodes_of (joined_at Right red left_over next l)) root fell (settled Right red (record { tree = left_over; fell = f }) next l)) u.fallen second in
+      let second = subst (λ (c : Bool). Leaves h3 h4 (nodes_of (joined_at Right c left_over next l)) root fell
+      (settled Right c (record { tree = left_over; fell = fell_below }) next l)) is_red first in
+      let s = subst (λ (f : Bool). Leaves h3 h4 (nodes_of (joined_at Right red left_over next l)) root fell
+      (settled Right red (record { tree = left_over; fell = f }) next l)) u.fallen second in
       let is_rest : uprooted t ≡ settled Right red (without_least r) next l =
-      ap uprooted p.is ∙ without_root_over h red right l r r_tree ∙ ap (λ x. settled Right red (without_least r) x l) (sym (is_next r shrinks)) in
+      ap uprooted p.is ∙ without_root_over h red right l r r_tree ∙ ap (λ x. settled Right red (without_least r) x l)
+      (sym (is_next r shrinks)) in
       rw is_rest (record {
         turned = record {
           tree = s.turned.tree;
           frame = λ m i.
               let out = outside_all Left red l at r m (subst (λ x. is_in m (nodes_of x) ≡ false) p.is i) in
-              let q = or_parts (nat_eq m next) (is_in m (nodes_of left_over)) (ap (is_in m) (sym nodes_r) ∙ out.far_out) in
+              let q = or_parts (nat_eq m next) (is_in m (nodes_of left_over)) (ap (is_in m) (sym nodes_r)
+              ∙ out.far_out) in
               let d = eqb-false m next q.0 in
-              s.turned.frame m (outside_join Right red left_over next l m q.1 d out.near_out) ∙ rest m d ∙ u.turned.frame m out.far_out;
+              s.turned.frame m (outside_join Right red left_over next l m q.1 d out.near_out) ∙ rest m d
+              ∙ u.turned.frame m out.far_out;
         };
         fallen = s.fallen;
       })
 
   -- ---- a tree without a node
 
-  pub record ShrinksBelow (h : ℕ → Cell) (side : Side) (at : ℕ) (t : Tree) : Type 0 where
-    pub tree : Tree
-    pub shrinks : Shrinks lt h (child_of side (h at)) tree
-    pub lower : height tree + 1 ≤ height t
-
-  pub shrinks_below : (side : Side) (h : ℕ → Cell) (at : ℕ) (t : Tree) → Shrinks lt h (Some at) t → ShrinksBelow h side at t
-  shrinks_below side h at t w =
-      let p = open_side h side at t w.tree in
-      let red = (h at).red in
-      let order : rises lt (nodes_of (joined_at side red p.near at p.far)) ≡ true = ap (λ x. rises lt (nodes_of x)) (sym p.is) ∙ w.ordered in
-      let apart = apart_of lt transitive irreflexive side red p.near at p.far order in
-      let low = lower_near side red p.near at p.far in
-      record {
-        tree = p.near;
-        shrinks = record { tree = p.near_tree; ordered = apart.near_rises };
-        lower = subst (λ u. height p.near + 1 ≤ height u) (sym p.is) low;
-      }
-
-  shrunk_left : (x : ℕ) (red : Bool) (l : Tree) (n : ℕ) (r : Tree) → nat_eq n x ≡ false → side_of (lt x n) ≡ Left → shrunk lt x (fork red l n r) ≡ settled Left red (shrunk lt x l) n r
+  shrunk_left : (x : ℕ) (red : Bool) (l : Tree) (n : ℕ) (r : Tree) → nat_eq n x ≡ false → side_of (lt x n) ≡ Left
+      → shrunk lt x (fork red l n r) ≡ settled Left red (shrunk lt x l) n r
   shrunk_left x red l n r d e = elim (cases_Bool (lt x n)) [
     | inl k ↦ rw (d, k) refl
     | inr k ↦ absurd (right_left (ap side_of (sym k) ∙ e))
   ]
 
-  shrunk_right : (x : ℕ) (red : Bool) (l : Tree) (n : ℕ) (r : Tree) → nat_eq n x ≡ false → side_of (lt x n) ≡ Right → shrunk lt x (fork red l n r) ≡ settled Right red (shrunk lt x r) n l
+  shrunk_right : (x : ℕ) (red : Bool) (l : Tree) (n : ℕ) (r : Tree) → nat_eq n x ≡ false → side_of (lt x n) ≡ Right
+      → shrunk lt x (fork red l n r) ≡ settled Right red (shrunk lt x r) n l
   shrunk_right x red l n r d e = elim (cases_Bool (lt x n)) [
     | inl k ↦ absurd (right_left (sym (ap side_of (sym k) ∙ e)))
     | inr k ↦ rw (d, k) refl
   ]
 
-  settled_order : (side : Side) (red : Bool) (rest : Rest) (n : ℕ) (far : Tree) → rises lt (nodes_of (settled side red rest n far).tree) ≡ true
+  settled_order : (side : Side) (red : Bool) (rest : Rest) (n : ℕ) (far : Tree)
+      → rises lt (nodes_of (settled side red rest n far).tree) ≡ true
       → rises lt (nodes_of (joined_at side red rest.tree n far)) ≡ true
   settled_order side red rest n far o = ap (rises lt) (sym (nodes_of-settled side red rest n far)) ∙ o
 
@@ -156,60 +132,37 @@ module _ (lt : ℕ → ℕ → Bool) (transitive : (a b c : ℕ) → lt a b ≡ 
   shrunk-joined x Left red near n far d e = shrunk_left x red near n far d e
   shrunk-joined x Right red near n far d e = shrunk_right x red far n near d e
 
-  pub cut_step : (side : Side) (h h1 h2 : ℕ → Cell) (x at : ℕ) (link root : Option ℕ) (fell_below fell : Bool) (t : Tree)
+  pub cut_step : (side : Side) (h h1 h2 : ℕ → Cell) (x at : ℕ) (link root : Option ℕ) (fell_below fell : Bool)
+      (t : Tree)
       → (at ≡ x → ⊥) → side_of (lt x at) ≡ side → Shrinks lt h (Some at) t
       → ((u : Tree) → Shrinks lt h (child_of side (h at)) u → Leaves h h1 (nodes_of u) link fell_below (shrunk lt x u))
-      → ((near' far' : Tree) → IsTree h1 link near' → IsTree h1 (child_of (opposite side) (h1 at)) far'
-      → rises lt (nodes_of (joined_at side (h1 at).red near' at far')) ≡ true
-      → Leaves h1 h2 (nodes_of (joined_at side (h1 at).red near' at far')) root fell (settled side (h1 at).red (record { tree = near'; fell = fell_below }) at far'))
+      → Settles lt h1 h2 side at link root fell_below fell
       → Leaves h h2 (nodes_of t) root fell (shrunk lt x t)
   cut_step side h h1 h2 x at link root fell_below fell t d e w cut settle =
-      let p = open_side h side at t w.tree in
+      let p = parted strict side h at t w.tree w.ordered in
       let red = (h at).red in
-      let order : rises lt (nodes_of (joined_at side red p.near at p.far)) ≡ true = ap (λ x. rises lt (nodes_of x)) (sym p.is) ∙ w.ordered in
-      let holds : Holds h (joined_at side red p.near at p.far) = rw p.is at w.tree.holds in
-      let apart = apart_of lt transitive irreflexive side red p.near at p.far order in
-      let u = cut p.near (record { tree = p.near_tree; ordered = apart.near_rises }) in
-      let nodes = nodes_of-shrunk lt transitive irreflexive x p.near apart.near_rises in
+      let u = cut p.near (record { tree = p.near_tree; ordered = p.apart.near_rises }) in
+      let nodes = nodes_of-shrunk strict x p.near p.apart.near_rises in
       let other = ne_eqb at x d in
-      let whole = nodes_of-shrunk lt transitive irreflexive x (joined_at side red p.near at p.far) order in
+      let whole = nodes_of-shrunk strict x (joined_at side red p.near at p.far) p.order in
       let is_joined = shrunk-joined x side red p.near at p.far other e in
       let o' : rises lt (nodes_of (joined_at side red (shrunk lt x p.near).tree at p.far)) ≡ true =
-      settled_order side red (shrunk lt x p.near) at p.far (ap (λ r. rises lt (nodes_of r.tree)) (sym is_joined) ∙ ap (rises lt) whole ∙ rises_without lt x (nodes_of (joined_at side red p.near at p.far)) order) in
-      let s = settle_below lt transitive irreflexive side h h1 h2 red p.near at p.far (shrunk lt x p.near) link root fell_below fell holds order u
+      settled_order side red (shrunk lt x p.near) at p.far (ap (λ r. rises lt (nodes_of r.tree)) (sym is_joined)
+      ∙ ap (rises lt) whole ∙ rises_without lt x (nodes_of (joined_at side red p.near at p.far)) p.order) in
+      let s = settle_below strict side h h1 h2 red p.near at p.far (shrunk lt x p.near) link root fell_below fell p.holds
+      p.order u
       (λ m i. ap (is_in m) nodes ∙ without_out x (nodes_of p.near) m i) o' settle in
       let is : shrunk lt x t ≡ settled side red (shrunk lt x p.near) at p.far = ap (shrunk lt x) p.is ∙ is_joined in
-      rw is (subst (λ v. Leaves h h2 (nodes_of v) root fell (settled side red (shrunk lt x p.near) at p.far)) (sym p.is) s)
+      rw is (subst (λ v. Leaves h h2 (nodes_of v) root fell (settled side red (shrunk lt x p.near) at p.far))
+      (sym p.is) s)
 
   -- ---- the whole removal, its root made black
 
-  pub removed_tree : (lt' : ℕ → ℕ → Bool) (h h1 h2 h' : ℕ → Cell) (root link : Option ℕ) (fell : Bool) (x : ℕ) (t : Tree) → IsSearchTree lt h root t
-      → Leaves h h1 (nodes_of t) link fell (shrunk lt x t)
-      → ((u : Tree) → IsTree h1 link u → rises lt (nodes_of u) ≡ true → Turned h1 h2 (nodes_of u) link (blackened u))
-      → h' ≡ h2 → lt' ≡ lt
-      → (t' : Tree) × IsSearchTree lt' h' link t' × (nodes_of t' ≡ without x (nodes_of t))
-  removed_tree lt' h h1 h2 h' root link fell x t k u black eh el =
-      let nodes = nodes_of-shrunk lt transitive irreflexive x t k.ordered in
-      let rest = (shrunk lt x t).tree in
-      let order : rises lt (nodes_of rest) ≡ true = ap (rises lt) nodes ∙ rises_without lt x (nodes_of t) k.ordered in
-      let b = black rest u.turned.tree order in (
-        blackened rest,
-        rw (eh, el) (record {
-          tree = b.tree;
-          ordered = ap (rises lt) (nodes_of-blackened rest) ∙ order;
-          red_black = shrunk_red_black lt x t k.red_black;
-        }),
-        nodes_of-blackened rest ∙ nodes,
-      )
-
-  pub removed_frame : (h h1 h2 h' : ℕ → Cell) (root link : Option ℕ) (fell : Bool) (x : ℕ) (t : Tree) → IsSearchTree lt h root t
-      → Leaves h h1 (nodes_of t) link fell (shrunk lt x t)
-      → ((u : Tree) → IsTree h1 link u → rises lt (nodes_of u) ≡ true → Turned h1 h2 (nodes_of u) link (blackened u))
-      → h' ≡ h2
-      → (m : ℕ) → is_in m (nodes_of t) ≡ false → h' m ≡ h m
-  removed_frame h h1 h2 h' root link fell x t k u black eh m o =
-      let nodes = nodes_of-shrunk lt transitive irreflexive x t k.ordered in
-      let rest = (shrunk lt x t).tree in
-      let order : rises lt (nodes_of rest) ≡ true = ap (rises lt) nodes ∙ rises_without lt x (nodes_of t) k.ordered in
-      let b = black rest u.turned.tree order in
-      ap (λ (f : ℕ → Cell). f m) eh ∙ b.frame m (ap (is_in m) nodes ∙ without_out x (nodes_of t) m o) ∙ u.turned.frame m o
+  pub removed : (lt' : ℕ → ℕ → Bool) (h h1 h2 h' : ℕ → Cell) (root link : Option ℕ) (fell : Bool) (x : ℕ) (t : Tree)
+      → IsSearchTree lt h root t → Leaves h h1 (nodes_of t) link fell (shrunk lt x t)
+      → Makes lt h1 h2 link link blackened
+      → h' ≡ h2 → lt' ≡ lt → IsChanged lt' h h' link (nodes_of t) (without x (nodes_of t))
+  removed lt' h h1 h2 h' root link fell x t k u black eh el =
+      blackened_whole lt' h h1 h2 h' link (shrunk lt x t).tree (nodes_of t) (without x (nodes_of t)) u.turned black
+      (shrunk_red_black lt x t k.red_black) (nodes_of-shrunk strict x t k.ordered)
+      (rises_without lt x (nodes_of t) k.ordered) (without_out x (nodes_of t)) eh el

@@ -7,20 +7,25 @@ use Rattle.link_tree.specs.Sides.{opposite, child_of, joined_at}
 use Rattle.link_tree.specs.Shrinking.{Rest, Shrinks, Leaves, settled, sunk, least_of, without_least}
 use Rattle.link_tree.specs.declared.visits.Side.{Side}
 use Rattle.link_tree.specs.declared.visits.Side.TheVariants.{Left, Right}
-use Rattle.link_tree.proofs.Orders.{rises_split, is_in-append, not_right}
+use Rattle.link_tree.proofs.Orders.{IsStrict, rises_split, is_in-append, not_right}
 use Rattle.link_tree.proofs.Trees.{open_tree, holds_same, none_some, no_tree, root_in}
-use Rattle.link_tree.proofs.Joints.{far_of_cell, red_of_cell, joint_of, open_side, apart_of, outside_all, other_than}
-use Rattle.link_tree.proofs.Growth.{lower_near}
+use Rattle.link_tree.proofs.Joints.{parted, far_of_cell, red_of_cell, joint_of, apart_of, outside_all, other_than}
 use Rattle.link_tree.proofs.Shrinkage.{nodes_of-least}
 
 -- a node outside the parts is outside a joined tree
-pub outside_join : (side : Side) (red : Bool) (near : Tree) (n : ℕ) (far : Tree) (m : ℕ) → is_in m (nodes_of near) ≡ false → (m ≡ n → ⊥) → is_in m (nodes_of far) ≡ false
+pub outside_join : (side : Side) (red : Bool) (near : Tree) (n : ℕ) (far : Tree) (m : ℕ)
+    → is_in m (nodes_of near) ≡ false → (m ≡ n → ⊥) → is_in m (nodes_of far) ≡ false
     → is_in m (nodes_of (joined_at side red near n far)) ≡ false
-outside_join Left red near n far m a d b = is_in-append m (nodes_of near) (n ∷ nodes_of far) ∙ or_from (is_in m (nodes_of near)) (is_in m (n ∷ nodes_of far)) a (or_from (nat_eq m n) (is_in m (nodes_of far)) (ne_eqb m n d) b)
-outside_join Right red near n far m a d b = is_in-append m (nodes_of far) (n ∷ nodes_of near) ∙ or_from (is_in m (nodes_of far)) (is_in m (n ∷ nodes_of near)) b (or_from (nat_eq m n) (is_in m (nodes_of near)) (ne_eqb m n d) a)
+outside_join Left red near n far m a d b = is_in-append m (nodes_of near) (n ∷ nodes_of far)
+    ∙ or_from (is_in m (nodes_of near)) (is_in m (n ∷ nodes_of far)) a (or_from (nat_eq m n) (is_in m (nodes_of far))
+    (ne_eqb m n d) b)
+outside_join Right red near n far m a d b = is_in-append m (nodes_of far) (n ∷ nodes_of near)
+    ∙ or_from (is_in m (nodes_of far)) (is_in m (n ∷ nodes_of near)) b (or_from (nat_eq m n) (is_in m (nodes_of near))
+    (ne_eqb m n d) a)
 
 -- changes of fewer nodes are changes of more
-pub widen : (h h' : ℕ → Cell) (xs ys : List ℕ) (link : Option ℕ) (fell : Bool) (rest : Rest) → ((m : ℕ) → is_in m ys ≡ false → is_in m xs ≡ false)
+pub widen : (h h' : ℕ → Cell) (xs ys : List ℕ) (link : Option ℕ) (fell : Bool) (rest : Rest)
+    → ((m : ℕ) → is_in m ys ≡ false → is_in m xs ≡ false)
     → Leaves h h' xs link fell rest → Leaves h h' ys link fell rest
 widen h h' xs ys link fell rest sub u = record {
   turned = record { tree = u.turned.tree; frame = λ m i. u.turned.frame m (sub m i) };
@@ -30,34 +35,47 @@ widen h h' xs ys link fell rest sub u = record {
 pub right_left : Right ≡ Left → ⊥
 right_left e = cc
 
-module _ (lt : ℕ → ℕ → Bool) (transitive : (a b c : ℕ) → lt a b ≡ true → lt b c ≡ true → lt a c ≡ true) (irreflexive : (n : ℕ) → lt n n ≡ false) where
+-- what `settle` makes of each tree that the link leads to, hung under its parent
+abbrev pub Settles : (ℕ → ℕ → Bool) → (h h' : ℕ → Cell) → Side → ℕ → (link root : Option ℕ) → (fell_below fell : Bool)
+    → Type 0
+Settles lt h h' side at link root fell_below fell =
+    (near far : Tree) → IsTree h link near → IsTree h (child_of (opposite side) (h at)) far
+    → rises lt (nodes_of (joined_at side (h at).red near at far)) ≡ true
+    → Leaves h h' (nodes_of (joined_at side (h at).red near at far)) root fell
+    (settled side (h at).red (record { tree = near; fell = fell_below }) at far)
+
+module _ {lt : ℕ → ℕ → Bool} (strict : IsStrict lt) where
   -- the tree below shrank, and was hung under its parent again
-  pub settle_below : (side : Side) (h h1 h2 : ℕ → Cell) (red : Bool) (near : Tree) (at : ℕ) (far : Tree) (rest : Rest) (link root : Option ℕ) (fell_below fell : Bool)
+  pub settle_below : (side : Side) (h h1 h2 : ℕ → Cell) (red : Bool) (near : Tree) (at : ℕ) (far : Tree) (rest : Rest)
+      (link root : Option ℕ) (fell_below fell : Bool)
       → Holds h (joined_at side red near at far) → rises lt (nodes_of (joined_at side red near at far)) ≡ true
       → Leaves h h1 (nodes_of near) link fell_below rest
       → ((m : ℕ) → is_in m (nodes_of near) ≡ false → is_in m (nodes_of rest.tree) ≡ false)
       → rises lt (nodes_of (joined_at side red rest.tree at far)) ≡ true
-      → ((near' far' : Tree) → IsTree h1 link near' → IsTree h1 (child_of (opposite side) (h1 at)) far'
-      → rises lt (nodes_of (joined_at side (h1 at).red near' at far')) ≡ true
-      → Leaves h1 h2 (nodes_of (joined_at side (h1 at).red near' at far')) root fell (settled side (h1 at).red (record { tree = near'; fell = fell_below }) at far'))
+      → Settles lt h1 h2 side at link root fell_below fell
       → Leaves h h2 (nodes_of (joined_at side red near at far)) root fell (settled side red rest at far)
   settle_below side h h1 h2 red near at far rest link root fell_below fell w o u sub o' settle =
-      let apart = apart_of lt transitive irreflexive side red near at far o in
+      let apart = apart_of strict side red near at far o in
       let joint = joint_of h side red near at far w in
       let cell = u.turned.frame at apart.not_near ∙ joint.cell in
-      let is_red : (h1 at).red ≡ red = ap (λ (c : Cell). c.red) cell ∙ red_of_cell side red (root_of near) (root_of far) in
-      let far_link : child_of (opposite side) (h1 at) ≡ root_of far = ap (child_of (opposite side)) cell ∙ far_of_cell side red (root_of near) (root_of far) in
+      let is_red : (h1 at).red ≡ red = ap (λ (c : Cell). c.red) cell
+      ∙ red_of_cell side red (root_of near) (root_of far) in
+      let far_link : child_of (opposite side) (h1 at) ≡ root_of far = ap (child_of (opposite side)) cell
+      ∙ far_of_cell side red (root_of near) (root_of far) in
       let far_holds = holds_same h h1 far (λ m i. u.turned.frame m (apart.near_of_far m i)) joint.far_holds in
       let first = settle rest.tree far u.turned.tree (record { root = far_link; holds = far_holds })
       (subst (λ (c : Bool). rises lt (nodes_of (joined_at side c rest.tree at far)) ≡ true) (sym is_red) o') in
-      let second = subst (λ (c : Bool). Leaves h1 h2 (nodes_of (joined_at side c rest.tree at far)) root fell (settled side c (record { tree = rest.tree; fell = fell_below }) at far)) is_red first in
-      let s = subst (λ (f : Bool). Leaves h1 h2 (nodes_of (joined_at side red rest.tree at far)) root fell (settled side red (record { tree = rest.tree; fell = f }) at far)) u.fallen second in
+      let second = subst (λ (c : Bool). Leaves h1 h2 (nodes_of (joined_at side c rest.tree at far)) root fell
+      (settled side c (record { tree = rest.tree; fell = fell_below }) at far)) is_red first in
+      let s = subst (λ (f : Bool). Leaves h1 h2 (nodes_of (joined_at side red rest.tree at far)) root fell
+      (settled side red (record { tree = rest.tree; fell = f }) at far)) u.fallen second in
       record {
         turned = record {
           tree = s.turned.tree;
           frame = λ m i.
               let out = outside_all side red near at far m i in
-              s.turned.frame m (outside_join side red rest.tree at far m (sub m out.near_out) out.root_out out.far_out) ∙ u.turned.frame m out.near_out;
+              s.turned.frame m (outside_join side red rest.tree at far m (sub m out.near_out) out.root_out out.far_out)
+              ∙ u.turned.frame m out.near_out;
         };
         fallen = s.fallen;
       }
@@ -65,9 +83,10 @@ module _ (lt : ℕ → ℕ → Bool) (transitive : (a b c : ℕ) → lt a b ≡ 
   -- ---- the first node
 
   pub apart_head : (n : ℕ) (ns : List ℕ) → rises lt (n ∷ ns) ≡ true → is_in n ns ≡ false
-  apart_head n ns o = not_right lt transitive irreflexive [] n ns (rises_split lt [] n ns o)
+  apart_head n ns o = not_right strict [] n ns (rises_split lt [] n ns o)
 
-  least_any : (a b : ℕ) (red : Bool) (l : Tree) (n : ℕ) (r : Tree) → least_of a (fork red l n r) ≡ least_of b (fork red l n r)
+  least_any : (a b : ℕ) (red : Bool) (l : Tree) (n : ℕ) (r : Tree)
+      → least_of a (fork red l n r) ≡ least_of b (fork red l n r)
   least_any a b red l n r = refl
 
   -- what is left of a tree without its first node has its other nodes
@@ -81,8 +100,10 @@ module _ (lt : ℕ → ℕ → Bool) (transitive : (a b c : ℕ) → lt a b ≡ 
   rest_out : (m n : ℕ) (xs ys : List ℕ) → xs ≡ n ∷ ys → is_in m xs ≡ false → is_in m ys ≡ false
   rest_out m n xs ys e o = (or_parts (nat_eq m n) (is_in m ys) (ap (is_in m) (sym e) ∙ o)).1
 
-  pub take_last : (h h' : ℕ → Cell) (at : ℕ) (root : Option ℕ) (fell : Bool) (t : Tree) → IsTree h (Some at) t → (h at).left ≡ None → rises lt (nodes_of t) ≡ true
-      → ((u : Tree) → IsTree h (h at).right u → rises lt (nodes_of u) ≡ true → Leaves h h' (nodes_of u) root fell (sunk (h at).red u))
+  pub take_last : (h h' : ℕ → Cell) (at : ℕ) (root : Option ℕ) (fell : Bool) (t : Tree) → IsTree h (Some at) t
+      → (h at).left ≡ None → rises lt (nodes_of t) ≡ true
+      → ((u : Tree) → IsTree h (h at).right u → rises lt (nodes_of u) ≡ true
+      → Leaves h h' (nodes_of u) root fell (sunk (h at).red u))
       → Leaves h h' (nodes_of t) root fell (without_least t)
   take_last h h' at root fell t w e o sink =
       let p = open_tree h at t w in
@@ -93,7 +114,8 @@ module _ (lt : ℕ → ℕ → Bool) (transitive : (a b c : ℕ) → lt a b ≡ 
       let s = sink p.right p.right_tree (rises_split lt [] at (nodes_of p.right) o').right in
       let is_rest : without_least t ≡ sunk (h at).red p.right = ap without_least is in
       let nodes : nodes_of t ≡ at ∷ nodes_of p.right = ap nodes_of is in
-      rw is_rest (widen h h' (nodes_of p.right) (nodes_of t) root fell (sunk (h at).red p.right) (λ m i. rest_out m at (nodes_of t) (nodes_of p.right) nodes i) s)
+      rw is_rest (widen h h' (nodes_of p.right) (nodes_of t) root fell (sunk (h at).red p.right)
+      (λ m i. rest_out m at (nodes_of t) (nodes_of p.right) nodes i) s)
 
   pub least_last : (h : ℕ → Cell) (at : ℕ) (t : Tree) → IsTree h (Some at) t → (h at).left ≡ None → at ≡ least_of at t
   least_last h at t w e =
@@ -102,35 +124,61 @@ module _ (lt : ℕ → ℕ → Bool) (transitive : (a b c : ℕ) → lt a b ≡ 
       let no_left = no_tree h p.left l_tree in
       sym (ap (least_of at) (p.is ∙ ap (λ x. fork (h at).red x at p.right) no_left))
 
-  -- the tree on the left, which is not empty
-  pub record HasLeft (h : ℕ → Cell) (at left : ℕ) (t : Tree) : Type 0 where
+  -- the tree on one side
+  pub record ShrinksBelow (h : ℕ → Cell) (side : Side) (at : ℕ) (t : Tree) : Type 0 where
     pub tree : Tree
-    pub shrinks : Shrinks lt h (Some left) tree
+    pub far : Tree
+    pub is : t ≡ joined_at side (h at).red tree at far
+    pub shrinks : Shrinks lt h (child_of side (h at)) tree
     pub lower : height tree + 1 ≤ height t
-    pub least : least_of at t ≡ least_of left tree
-    pub apart : left ≡ at → ⊥
+    pub apart : is_in at (nodes_of tree) ≡ false
+
+  pub shrinks_below : (side : Side) (h : ℕ → Cell) (at : ℕ) (t : Tree) → Shrinks lt h (Some at) t
+      → ShrinksBelow h side at t
+  shrinks_below side h at t w =
+      let p = parted strict side h at t w.tree w.ordered in
+      record {
+        tree = p.near;
+        far = p.far;
+        is = p.is;
+        shrinks = record { tree = p.near_tree; ordered = p.apart.near_rises };
+        lower = p.lower;
+        apart = p.apart.not_near;
+      }
+
+  -- which is not empty
+  pub record HasChild (h : ℕ → Cell) (side : Side) (at child : ℕ) (t : Tree) : Type 0 where
+    pub tree : Tree
+    pub far : Tree
+    pub is : t ≡ joined_at side (h at).red tree at far
+    pub shrinks : Shrinks lt h (Some child) tree
+    pub lower : height tree + 1 ≤ height t
+    pub apart : child ≡ at → ⊥
+
+  pub child_tree : (side : Side) (h : ℕ → Cell) (at child : ℕ) (t : Tree) → Shrinks lt h (Some at) t
+      → child_of side (h at) ≡ Some child → HasChild h side at child t
+  child_tree side h at child t w e =
+      let b = shrinks_below side h at t w in
+      let shrinks = rw e at b.shrinks in
+      record {
+        tree = b.tree;
+        far = b.far;
+        is = b.is;
+        shrinks = shrinks;
+        lower = b.lower;
+        apart = other_than child at (nodes_of b.tree) (root_in h child b.tree shrinks.tree) b.apart;
+      }
 
   least_over : (h : ℕ → Cell) (left : ℕ) (l : Tree) (at : ℕ) → IsTree h (Some left) l → least_of at l ≡ least_of left l
   least_over h left leaf at w = absurd (none_some left (sym w.root))
   least_over h left (fork red a m b) at w = refl
 
-  pub left_of : (h : ℕ → Cell) (at left : ℕ) (t : Tree) → IsTree h (Some at) t → rises lt (nodes_of t) ≡ true → (h at).left ≡ Some left → HasLeft h at left t
-  left_of h at left t w o e =
-      let p = open_side h Left at t w in
-      let red = (h at).red in
-      let order : rises lt (nodes_of (joined_at Left red p.near at p.far)) ≡ true = ap (λ x. rises lt (nodes_of x)) (sym p.is) ∙ o in
-      let apart = apart_of lt transitive irreflexive Left red p.near at p.far order in
-      let tree = rw e at p.near_tree in
-      let low = lower_near Left red p.near at p.far in
-      record {
-        tree = p.near;
-        shrinks = record { tree = tree; ordered = apart.near_rises };
-        lower = subst (λ u. height p.near + 1 ≤ height u) (sym p.is) low;
-        least = ap (least_of at) p.is ∙ least_over h left p.near at tree;
-        apart = other_than left at (nodes_of p.near) (root_in h left p.near tree) apart.not_near;
-      }
+  pub least_below : (h : ℕ → Cell) (at left : ℕ) (t : Tree) (b : HasChild h Left at left t)
+      → least_of at t ≡ least_of left b.tree
+  least_below h at left t b = ap (least_of at) b.is ∙ least_over h left b.tree at b.shrinks.tree
 
-  rises_rest : (xs ys zs : List ℕ) (n m : ℕ) → xs ≡ m ∷ ys → rises lt (xs ++ n ∷ zs) ≡ true → rises lt (ys ++ n ∷ zs) ≡ true
+  rises_rest : (xs ys zs : List ℕ) (n m : ℕ) → xs ≡ m ∷ ys → rises lt (xs ++ n ∷ zs) ≡ true
+      → rises lt (ys ++ n ∷ zs) ≡ true
   rises_rest xs ys zs n m e o =
       let o' : rises lt (m ∷ (ys ++ n ∷ zs)) ≡ true = ap (λ x. rises lt (x ++ n ∷ zs)) (sym e) ∙ o in
       (rises_split lt [] m (ys ++ n ∷ zs) o').right
@@ -143,21 +191,20 @@ module _ (lt : ℕ → ℕ → Bool) (transitive : (a b c : ℕ) → lt a b ≡ 
   pub take_more : (h h1 h2 : ℕ → Cell) (at left : ℕ) (link root : Option ℕ) (fell_below fell : Bool) (t : Tree)
       → IsTree h (Some at) t → rises lt (nodes_of t) ≡ true → (h at).left ≡ Some left
       → ((u : Tree) → Shrinks lt h (Some left) u → Leaves h h1 (nodes_of u) link fell_below (without_least u))
-      → ((near' far' : Tree) → IsTree h1 link near' → IsTree h1 (h1 at).right far'
-      → rises lt (nodes_of (joined_at Left (h1 at).red near' at far')) ≡ true
-      → Leaves h1 h2 (nodes_of (joined_at Left (h1 at).red near' at far')) root fell (settled Left (h1 at).red (record { tree = near'; fell = fell_below }) at far'))
+      → Settles lt h1 h2 Left at link root fell_below fell
       → Leaves h h2 (nodes_of t) root fell (without_least t)
   take_more h h1 h2 at left link root fell_below fell t w o e take settle =
-      let p = open_side h Left at t w in
+      let p = parted strict Left h at t w o in
       let red = (h at).red in
-      let order : rises lt (nodes_of (joined_at Left red p.near at p.far)) ≡ true = ap (λ x. rises lt (nodes_of x)) (sym p.is) ∙ o in
-      let holds : Holds h (joined_at Left red p.near at p.far) = rw p.is at w.holds in
       let tree = rw e at p.near_tree in
-      let apart = apart_of lt transitive irreflexive Left red p.near at p.far order in
-      let u = take p.near (record { tree = tree; ordered = apart.near_rises }) in
+      let u = take p.near (record { tree = tree; ordered = p.apart.near_rises }) in
       let least = has_least h left p.near tree in
-      let s = settle_below Left h h1 h2 red p.near at p.far (without_least p.near) link root fell_below fell holds order u
+      let s = settle_below Left h h1 h2 red p.near at p.far (without_least p.near) link root fell_below fell p.holds
+      p.order u
       (λ m i. rest_out m (least_of left p.near) (nodes_of p.near) (nodes_of (without_least p.near).tree) least.nodes i)
-      (rises_rest (nodes_of p.near) (nodes_of (without_least p.near).tree) (nodes_of p.far) at (least_of left p.near) least.nodes order) settle in
-      let is : without_least t ≡ settled Left red (without_least p.near) at p.far = ap without_least p.is ∙ without_least_over h red left p.near at p.far tree in
-      rw is (subst (λ x. Leaves h h2 (nodes_of x) root fell (settled Left red (without_least p.near) at p.far)) (sym p.is) s)
+      (rises_rest (nodes_of p.near) (nodes_of (without_least p.near).tree) (nodes_of p.far) at (least_of left p.near)
+      least.nodes p.order) settle in
+      let is : without_least t ≡ settled Left red (without_least p.near) at p.far = ap without_least p.is
+      ∙ without_least_over h red left p.near at p.far tree in
+      rw is (subst (λ x. Leaves h h2 (nodes_of x) root fell (settled Left red (without_least p.near) at p.far))
+      (sym p.is) s)

@@ -1,6 +1,6 @@
 -- Trees that links lead to: what one says of its root, and when it stays where it is.
-use Rattle.std.proofs.Common.{◌≡◌, ℕ, Bool, true, Option, Some, None, refl, sym, ap, ◌∙◌, subst}
-use Rattle.link_tree.specs.Tree.{Cell, Tree, leaf, fork, root_of, nodes_of, Holds, IsTree}
+use Rattle.std.proofs.Common.{◌≡◌, ℕ, Bool, true, false, List, Option, Some, None, refl, sym, ap, ◌∙◌, subst}
+use Rattle.link_tree.specs.Tree.{Cell, Tree, leaf, fork, root_of, nodes_of, Holds, IsTree, IsSearchTree}
 use Rattle.link_tree.specs.Nodes.{is_in}
 use Rattle.link_tree.proofs.Orders.{in_left, in_right, in_middle}
 
@@ -33,7 +33,8 @@ open_tree h n (fork red l m r) w =
     }
 
 pub close_tree : (h : ℕ → Cell) (n : ℕ) (red : Bool) (l r : Tree) (left right : Option ℕ)
-    → h n ≡ record { left = left; right = right; red = red } → IsTree h left l → IsTree h right r → IsTree h (Some n) (fork red l n r)
+    → h n ≡ record { left = left; right = right; red = red } → IsTree h left l → IsTree h right r
+    → IsTree h (Some n) (fork red l n r)
 close_tree h n red l r left right e wl wr =
     record { root = refl; holds = (e ∙ (rw (wl.root, wr.root) refl), wl.holds, wr.holds) }
 
@@ -47,7 +48,8 @@ root_in h n t w =
     subst (λ (u : Tree). is_in n (nodes_of u) ≡ true) (sym o.is) (in_middle (nodes_of o.left) n (nodes_of o.right))
 
 -- a tree stays where no cell of its nodes changes
-pub holds_same : (h h' : ℕ → Cell) (t : Tree) → ((m : ℕ) → is_in m (nodes_of t) ≡ true → h' m ≡ h m) → Holds h t → Holds h' t
+pub holds_same : (h h' : ℕ → Cell) (t : Tree) → ((m : ℕ) → is_in m (nodes_of t) ≡ true → h' m ≡ h m) → Holds h t
+    → Holds h' t
 holds_same h h' leaf same w = tt
 holds_same h h' (fork red l n r) same w = (
   same n (in_middle (nodes_of l) n (nodes_of r)) ∙ w.0,
@@ -55,8 +57,14 @@ holds_same h h' (fork red l n r) same w = (
   holds_same h h' r (λ m i. same m (in_right m (nodes_of l) n (nodes_of r) i)) w.2,
 )
 
-pub tree_same : (h h' : ℕ → Cell) (link : Option ℕ) (t : Tree) → ((m : ℕ) → is_in m (nodes_of t) ≡ true → h' m ≡ h m) → IsTree h link t → IsTree h' link t
+pub tree_same : (h h' : ℕ → Cell) (link : Option ℕ) (t : Tree) → ((m : ℕ) → is_in m (nodes_of t) ≡ true → h' m ≡ h m)
+    → IsTree h link t → IsTree h' link t
 tree_same h h' link t same w = record { root = w.root; holds = holds_same h h' t same w.holds }
+
+-- what a change made of a tree: an ordered red-black one of these nodes, where the cells of no others changed
+pub record IsChanged (lt : ℕ → ℕ → Bool) (h h' : ℕ → Cell) (root : Option ℕ) (changed ns : List ℕ) : Type 0 where
+  pub tree : (t : Tree) × IsSearchTree lt h' root t × (nodes_of t ≡ ns)
+  pub frame : (m : ℕ) → is_in m changed ≡ false → h' m ≡ h m
 
 -- a link leads to one tree at most
 pub one_tree : (h : ℕ → Cell) (link : Option ℕ) (s t : Tree) → IsTree h link s → IsTree h link t → s ≡ t

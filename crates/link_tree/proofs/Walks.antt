@@ -1,13 +1,14 @@
 -- Walks over trees: what is ahead of one at a node.
-use Rattle.std.proofs.Common.{◌≡◌, ◌≢◌, ℕ, ◌+◌, ◌-◌, ◌<◌, Bool, true, false, Option, Some, List, ◌∷◌, ◌++◌, length, sym, ap, ◌∙◌, arith, length-append}
+use Rattle.std.proofs.Common.{◌≡◌, ◌≢◌, ℕ, ◌+◌, ◌-◌, ◌<◌, Bool, false, Option, Some, List, ◌∷◌, ◌++◌, length, sym, ap, ◌∙◌, arith, length-append}
 use Rattle.std.proofs.lemmas.Bool.{false_from_ne_true, true≢false}
 use Rattle.link_tree.specs.Tree.{Cell, Tree, nodes_of, IsTree}
 use Rattle.link_tree.specs.Nodes.{is_in}
 use Rattle.link_tree.specs.Walking.{IsAhead}
-use Rattle.link_tree.proofs.Orders.{rises_split, not_left, not_right, not_both}
+use Rattle.link_tree.proofs.Orders.{IsStrict, rises_split, not_left, not_right, not_both}
 use Rattle.link_tree.proofs.Trees.{open_tree, some_same, root_in}
 
--- a walk stands at a node: the left tree is ahead of it, and the right one from wherever the walk over the left one ends
+-- a walk stands at a node: the left tree is ahead of it, and the right one from wherever the walk over the left one
+-- ends
 pub record AreAhead (lt : ℕ → ℕ → Bool) (h : ℕ → Cell) (n levels : ℕ) (here : Option ℕ) (ns : List ℕ) : Type 0 where
   pub left : Tree
   pub right : Tree
@@ -20,10 +21,10 @@ pub record AreAhead (lt : ℕ → ℕ → Bool) (h : ℕ → Cell) (n levels : �
       → ((m : ℕ) → is_in m (nodes_of left) ≡ false → at_node ≢ Some m → later ≢ Some m)
       → IsAhead lt h (h n).right (levels - 1) later right
 
-pub ahead_at : (lt : ℕ → ℕ → Bool) → ((a b c : ℕ) → lt a b ≡ true → lt b c ≡ true → lt a c ≡ true) → ((n : ℕ) → lt n n ≡ false)
-    → (h : ℕ → Cell) (n levels : ℕ) (link here : Option ℕ) (t : Tree) → link ≡ Some n → IsAhead lt h link levels here t
+pub ahead_at : {lt : ℕ → ℕ → Bool} → IsStrict lt → (h : ℕ → Cell) (n levels : ℕ) (link here : Option ℕ) (t : Tree)
+    → link ≡ Some n → IsAhead lt h link levels here t
     → AreAhead lt h n levels here (nodes_of t)
-ahead_at lt transitive irreflexive h n levels link here t e a =
+ahead_at {lt = lt} strict h n levels link here t e a =
     let w : IsTree h (Some n) t = rw e at a.tree in
     let o = open_tree h n t w in
     let l = nodes_of o.left in
@@ -43,7 +44,7 @@ ahead_at lt transitive irreflexive h n levels link here t e a =
         low = omega arith;
         away = λ m i k.
             let same : n ≡ m = some_same n m (sym f ∙ k) in
-            true≢false (sym (rw (← same) at i) ∙ not_left lt transitive irreflexive l n r sp);
+            true≢false (sym (rw (← same) at i) ∙ not_left strict l n r sp);
       };
       right_ahead = λ at_node later f stays. record {
         tree = o.right_tree;
@@ -51,14 +52,15 @@ ahead_at lt transitive irreflexive h n levels link here t e a =
         low = omega arith;
         away = λ m i.
             stays m
-            (false_from_ne_true (is_in m l) (λ j. true≢false (sym i ∙ not_both lt transitive irreflexive l n r sp m j)))
+            (false_from_ne_true (is_in m l) (λ j. true≢false (sym i ∙ not_both strict l n r sp m j)))
             (λ k.
             let same : n ≡ m = some_same n m (sym f ∙ k) in
-            true≢false (sym (rw (← same) at i) ∙ not_right lt transitive irreflexive l n r sp));
+            true≢false (sym (rw (← same) at i) ∙ not_right strict l n r sp));
       };
     }
 
--- both walks below a node are ahead: one over the left tree from the node, and one over the right tree from where the first one ends
+-- both walks below a node are ahead: one over the left tree from the node, and one over the right tree from where the
+-- first one ends
 pub record BothAhead {S : Type 0} (order : S → ℕ → ℕ → Bool) (cells : S → ℕ → Cell) (n levels : ℕ) (ns : List ℕ)
     (s s' : S) (left_link here right_link later : Option ℕ) : Type 0 where
   pub left : Tree
@@ -70,12 +72,16 @@ pub record BothAhead {S : Type 0} (order : S → ℕ → ℕ → Bool) (cells : 
   pub right_ahead : IsAhead (order s') (cells s') right_link (levels - 1) later right
 
 pub both_ahead : {S : Type 0} (order : S → ℕ → ℕ → Bool) (cells : S → ℕ → Cell) (n levels : ℕ) (ns : List ℕ)
-    (s s' s'' : S) (left_link here right_link later before : Option ℕ) → AreAhead (order s) (cells s) n levels before ns → here ≡ Some n
-    → ((t : Tree) → IsAhead (order s') (cells s') left_link (levels - 1) here t → (m : ℕ) → is_in m (nodes_of t) ≡ false → here ≢ Some m → later ≢ Some m)
+    (s s' s'' : S) (left_link here right_link later before : Option ℕ)
+    → AreAhead (order s) (cells s) n levels before ns → here ≡ Some n
+    → ((t : Tree) → IsAhead (order s') (cells s') left_link (levels - 1) here t → (m : ℕ)
+    → is_in m (nodes_of t) ≡ false → here ≢ Some m → later ≢ Some m)
     → s' ≡ s → s'' ≡ s → left_link ≡ (cells s n).left → right_link ≡ (cells s n).right
     → BothAhead order cells n levels ns s' s'' left_link here right_link later
-both_ahead order cells n levels ns s s' s'' left_link here right_link later before p at_node stands same same' is_left is_right =
-    let first : IsAhead (order s') (cells s') left_link (levels - 1) here p.left = rw (same, is_left) (p.left_ahead here at_node) in
+both_ahead order cells n levels ns s s' s'' left_link here right_link later before p at_node stands same same' is_left
+    is_right =
+    let first : IsAhead (order s') (cells s') left_link (levels - 1) here p.left =
+    rw (same, is_left) (p.left_ahead here at_node) in
     record {
       left = p.left;
       right = p.right;

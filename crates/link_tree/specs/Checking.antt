@@ -10,8 +10,10 @@ pub record IsClosed (cells : ℕ → Cell) (ns : List ℕ) : Type 0 where
   pub left : (n : ℕ) → is_in n ns ≡ true → leads (λ m. is_in m ns) (cells n).left ≡ true
   pub right : (n : ℕ) → is_in n ns ≡ true → leads (λ m. is_in m ns) (cells n).right ≡ true
 
--- the link leads to a tree that is ordered and red-black as a part of one: between two nodes, and below a red node or not
-pub record IsSound (precedes : ℕ → ℕ → Bool) (cells : ℕ → Cell) (link low high : Option ℕ) (red_above : Bool) (t : Tree) (blacks : ℕ) : Type 0 where
+-- the link leads to a tree that is ordered and red-black as a part of one: between two nodes, and below a red node or
+-- not
+pub record IsSound (precedes : ℕ → ℕ → Bool) (cells : ℕ → Cell) (link low high : Option ℕ) (red_above : Bool)
+    (t : Tree) (blacks : ℕ) : Type 0 where
   pub tree : IsTree cells link t
   pub ordered : rises precedes (nodes_of t) ≡ true
   pub between : list_all (λ m. is_between precedes low m high) (nodes_of t) ≡ true

@@ -1,10 +1,19 @@
 -- The way that a search goes.
-use Rattle.std.specs.Prelude.{ℕ, suc, Bool, if◌then◌else◌}
+use Rattle.std.specs.Prelude.{ℕ, suc, Bool, true, false, if◌then◌else◌}
 use Rattle.link_tree.specs.Tree.{Tree, leaf, fork}
 
--- the number of nodes on the path that a search for a probe goes down from the root: on to the right of a node that stands
+-- the number of nodes on the path that a search for a probe goes down from the root: on to the right of a node that
+-- stands
 -- before the probe, and to the left of any other
 abbrev pub path_length : (ℕ → Bool) → Tree → ℕ
 path_length before leaf = 0
 path_length before (fork red left n right) =
     suc (if before n then path_length before right else path_length before left)
+
+-- what is kept at the end of that path, where each node on it is noted with its colour and whether it stands before the
+-- probe
+abbrev pub noted : {K : Type 0} → (K → ℕ → Bool → Bool → K) → (ℕ → Bool) → K → Tree → K
+noted pass before notes leaf = notes
+noted pass before notes (fork red left n right) =
+    if before n then noted pass before (pass notes n red true) right
+    else noted pass before (pass notes n red false) left

@@ -2,7 +2,7 @@
 use Rattle.std.specs.Prelude.{◌≡◌, ℕ, Bool, true, false, not, ◌==◌, Option, List, if◌then◌else◌}
 use Rattle.link_tree.specs.Tree.{Cell, Tree, leaf, fork, nodes_of, IsTree, rises}
 use Rattle.link_tree.specs.Sides.{opposite, tree_on, joined_at}
-use Rattle.link_tree.specs.Turning.{Turned, rebalanced, blackened, is_red_tree}
+use Rattle.link_tree.specs.Turning.{Turned, painted, rebalanced, blackened, is_red_tree}
 use Rattle.link_tree.specs.declared.visits.Side.{Side}
 use Rattle.link_tree.specs.declared.visits.Side.TheVariants.{Left, Right}
 
@@ -17,14 +17,14 @@ pub record Shrinks (precedes : ℕ → ℕ → Bool) (cells : ℕ → Cell) (lin
   pub ordered : rises precedes (nodes_of t) ≡ true
 
 -- the link leads to what is left, and the cells of no other nodes changed
-pub record Leaves (cells cells' : ℕ → Cell) (ns : List ℕ) (link : Option ℕ) (has_fallen : Bool) (rest : Rest) : Type 0 where
-  pub turned : Turned cells cells' ns link rest.tree
-  pub fallen : has_fallen ≡ rest.fell
+pub record Leaves (cells cells' : ℕ → Cell) (ns : List ℕ) (link : Option ℕ) (has_fallen : Bool) (rest : Rest) : Type 0
+  where
+    pub turned : Turned cells cells' ns link rest.tree
+    pub fallen : has_fallen ≡ rest.fell
 
 -- the tree with a red root
 abbrev pub reddened : Tree → Tree
-reddened leaf = leaf
-reddened (fork red left n right) = fork true left n right
+reddened t = painted true t
 
 -- where the tree on the far side has fallen, the heavy tree near by gives a black node away, after Filliâtre
 abbrev pub mended_at : Side → Bool → Tree → ℕ → Tree → Rest
@@ -40,12 +40,14 @@ mended_at side red (fork true left m right) n far =
 
 abbrev pub mended : Side → Tree → Rest
 mended side leaf = record { tree = leaf; fell = false }
-mended side (fork red left n right) = mended_at side red (tree_on side left right) n (tree_on (opposite side) left right)
+mended side (fork red left n right) = mended_at side red (tree_on side left right) n
+    (tree_on (opposite side) left right)
 
 -- a node over what is left on this side
 abbrev pub settled : Side → Bool → Rest → ℕ → Tree → Rest
 settled side red rest n far =
-    if rest.fell then mended_at (opposite side) red far n rest.tree else record { tree = joined_at side red rest.tree n far; fell = false }
+    if rest.fell then mended_at (opposite side) red far n rest.tree else record
+    { tree = joined_at side red rest.tree n far; fell = false }
 
 -- a tree in the place of its parent, which had no other
 abbrev pub sunk : Bool → Tree → Rest
@@ -62,7 +64,8 @@ least_of other (fork red left n right) = least_of n left
 abbrev pub without_least : Tree → Rest
 without_least leaf = record { tree = leaf; fell = false }
 without_least (fork red leaf n right) = sunk red right
-without_least (fork red (fork red' left m middle) n right) = settled Left red (without_least (fork red' left m middle)) n right
+without_least (fork red (fork red' left m middle) n right) = settled Left red (without_least (fork red' left m middle))
+    n right
 
 -- the tree without its root, whose place the next node takes
 abbrev pub without_root : Bool → Tree → Tree → Rest
@@ -79,7 +82,8 @@ abbrev pub shrunk : (ℕ → ℕ → Bool) → ℕ → Tree → Rest
 shrunk precedes x leaf = record { tree = leaf; fell = false }
 shrunk precedes x (fork red left n right) =
     if n == x then without_root red left right
-    else (if precedes x n then settled Left red (shrunk precedes x left) n right else settled Right red (shrunk precedes x right) n left)
+    else (if precedes x n then settled Left red (shrunk precedes x left) n right else settled Right red
+    (shrunk precedes x right) n left)
 
 -- steps that are kept in hand while the tree falls
 abbrev pub spare : Bool → ℕ

@@ -90,12 +90,14 @@ abbrev pub joined : ℕ → Bool → Option Tree → Option Tree → Option Tree
 joined n red None right = None
 joined n red (Some left) right = elim right [ None ↦ None | Some right ↦ Some (fork red left n right) ]
 
--- the tree that a link leads to, read off to this depth; none where it is deeper, or where a node is met that is not good
+-- the tree that a link leads to, read off to this depth; none where it is deeper, or where a node is met that is not
+-- good
 abbrev pub tree_from : ℕ → (ℕ → Bool) → (ℕ → Cell) → Option ℕ → Option Tree
 tree_from zero good cells link = elim link [ None ↦ Some leaf | Some n ↦ None ]
 tree_from (suc depth) good cells link = elim link [
   | None ↦ Some leaf
-  | Some n ↦ if good n then joined n (cells n).red (tree_from depth good cells (cells n).left) (tree_from depth good cells (cells n).right) else None
+  | Some n ↦ if good n then joined n (cells n).red (tree_from depth good cells (cells n).left)
+      (tree_from depth good cells (cells n).right) else None
 ]
 
 -- the black nodes on the leftmost path
@@ -113,5 +115,6 @@ pub record ReadsOff : Type 0 where
   pub sound : (depth : ℕ) (good : ℕ → Bool) (cells : ℕ → Cell) (link : Option ℕ) (t : Tree)
       → tree_from depth good cells link ≡ Some t → IsTree cells link t × IsTrue (list_all good (nodes_of t))
   pub whole : (depth : ℕ) (good : ℕ → Bool) (cells : ℕ → Cell) (link : Option ℕ) (t : Tree)
-      → IsTree cells link t → IsTrue (list_all good (nodes_of t)) → height t ≤ depth → tree_from depth good cells link ≡ Some t
+      → IsTree cells link t → IsTrue (list_all good (nodes_of t)) → height t ≤ depth
+      → tree_from depth good cells link ≡ Some t
   pub red_black : (t : Tree) → IsTrue (is_red_black t) ↔ IsRedBlack t

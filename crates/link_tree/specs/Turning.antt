@@ -10,10 +10,14 @@ pub record Turned (cells cells' : ℕ → Cell) (ns : List ℕ) (link : Option �
   pub tree : IsTree cells' link t
   pub frame : (m : ℕ) → is_in m ns ≡ false → cells' m ≡ cells m
 
+-- the tree with a root of this colour
+abbrev pub painted : Bool → Tree → Tree
+painted red leaf = leaf
+painted red (fork old left n right) = fork red left n right
+
 -- the tree with a black root
 abbrev pub blackened : Tree → Tree
-blackened leaf = leaf
-blackened (fork red left n right) = fork false left n right
+blackened t = painted false t
 
 abbrev pub is_red_tree : Tree → Bool
 is_red_tree t = not (has_black_root t)
@@ -26,25 +30,32 @@ lifted_over side red (fork red' left m right) n far =
 -- the child on this side turned up over its parent
 abbrev pub lifted : Side → Tree → Tree
 lifted side leaf = leaf
-lifted side (fork red left n right) = lifted_over side red (tree_on side left right) n (tree_on (opposite side) left right)
+lifted side (fork red left n right) = lifted_over side red (tree_on side left right) n
+    (tree_on (opposite side) left right)
 
 abbrev pub balanced_inner : Side → Tree → ℕ → Tree → ℕ → Tree → Tree
 balanced_inner side a m leaf n far = joined_at side false (joined_at side true a m leaf) n far
-balanced_inner side a m (fork false p k q) n far = joined_at side false (joined_at side true a m (fork false p k q)) n far
+balanced_inner side a m (fork false p k q) n far = joined_at side false (joined_at side true a m (fork false p k q)) n
+    far
 balanced_inner side a m (fork true p k q) n far =
-    joined_at side true (joined_at side false a m (tree_on side p q)) k (joined_at side false (tree_on (opposite side) p q) n far)
+    joined_at side true (joined_at side false a m (tree_on side p q)) k
+    (joined_at side false (tree_on (opposite side) p q) n far)
 
 abbrev pub balanced_outer : Side → Tree → ℕ → Tree → ℕ → Tree → Tree
 balanced_outer side a m b n far =
-    if is_red_tree a then joined_at side true (blackened a) m (joined_at side false b n far) else balanced_inner side a m b n far
+    if is_red_tree a then joined_at side true (blackened a) m (joined_at side false b n far) else balanced_inner side a
+    m b n far
 
 abbrev pub balanced : Side → Tree → ℕ → Tree → Tree
 balanced side leaf n far = joined_at side false leaf n far
 balanced side (fork false left m right) n far = joined_at side false (fork false left m right) n far
-balanced side (fork true left m right) n far = balanced_outer side (tree_on side left right) m (tree_on (opposite side) left right) n far
+balanced side (fork true left m right) n far = balanced_outer side (tree_on side left right) m
+    (tree_on (opposite side) left right) n far
 
--- a black root over a red child that has a red child on this side: turned to a red root over two black ones, after Okasaki
+-- a black root over a red child that has a red child on this side: turned to a red root over two black ones, after
+-- Okasaki
 abbrev pub rebalanced : Side → Tree → Tree
 rebalanced side leaf = leaf
 rebalanced side (fork true left n right) = fork true left n right
-rebalanced side (fork false left n right) = balanced side (tree_on side left right) n (tree_on (opposite side) left right)
+rebalanced side (fork false left n right) = balanced side (tree_on side left right) n
+    (tree_on (opposite side) left right)

@@ -4,7 +4,8 @@ use Rattle.link_tree.specs.Tree.{Cell, Tree, nodes_of, IsTree, rises, height}
 use Rattle.link_tree.specs.Nodes.{is_in}
 
 -- the link leads to this ordered tree, at most so high, and a walk that stands here has been to none of its nodes
-pub record IsAhead (precedes : ℕ → ℕ → Bool) (cells : ℕ → Cell) (link : Option ℕ) (levels : ℕ) (here : Option ℕ) (t : Tree) : Type 0 where
+pub record IsAhead (precedes : ℕ → ℕ → Bool) (cells : ℕ → Cell) (link : Option ℕ) (levels : ℕ) (here : Option ℕ)
+    (t : Tree) : Type 0 where
   pub tree : IsTree cells link t
   pub ordered : rises precedes (nodes_of t) ≡ true
   pub low : height t ≤ levels

@@ -2,6 +2,8 @@
 use Rattle.std.specs.Prelude.{ℕ, Bool, not, ◌&&◌, ◌==◌, Option, Some, None, if◌then◌else◌}
 use Rattle.std.specs.Option.{option_or}
 use Rattle.link_tree.specs.Tree.{Tree, leaf, fork, has_black_root}
+use Rattle.link_tree.specs.declared.ways.Passed.{Passed}
+use Rattle.link_tree.specs.declared.ways.Followed.{Followed}
 
 -- what is found below a node, or else the node, where it is black and the way goes on to no red one
 abbrev pub entry_over : Bool → ℕ → Tree → Option ℕ → Option ℕ
@@ -14,6 +16,12 @@ abbrev pub entry_of : (ℕ → Bool) → Tree → Option ℕ
 entry_of before leaf = None
 entry_of before (fork red left n right) =
     if before n then entry_over red n right (entry_of before right) else entry_over red n left (entry_of before left)
+
+-- one node further down, on the way in
+abbrev pub passed : Passed → ℕ → Bool → Bool → Passed
+passed notes n red before =
+    if red then record { above = None; entry = notes.entry }
+    else record { above = Some n; entry = option_or notes.above notes.entry }
 
 -- what is found below a node, or else the node, where the way goes on to a red one
 abbrev pub exit_over : ℕ → Tree → Option ℕ → Option ℕ
@@ -28,3 +36,11 @@ exit_of precedes x (fork red left n right) =
     if n == x then None
     else (if precedes x n then exit_over n left (exit_of precedes x left) else exit_over n right
     (exit_of precedes x right))
+
+-- one node further down, on the way out
+abbrev pub followed : Followed → ℕ → Bool → Bool → Followed
+followed notes n red before = record {
+  above = Some n;
+  exit = if red then notes.above else notes.exit;
+  of_node = if before then notes.of_node else (if red then notes.above else notes.exit);
+}

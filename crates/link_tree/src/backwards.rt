@@ -66,7 +66,8 @@ impl<'a, N: Nodes> Nodes for Backwards<'a, N> {
 
     ghost transitive = { λ s a b c h k. N.transitive s.nodes.now c b a k h };
 
-    ghost agrees = { λ s probe a b h. stays_behind (N.before s.nodes.now probe a) (N.before s.nodes.now probe b) (N.agrees s.nodes.now probe b a h) };
+    ghost agrees = { λ s probe a b h. stays_behind (N.before s.nodes.now probe a)
+        (N.before s.nodes.now probe b) (N.agrees s.nodes.now probe b a h) };
 }
 
 impl<'a, N: Nodes> Nodes for AllBefore<'a, N> {

@@ -10,7 +10,7 @@ ghost use Rattle.link_tree.specs.Frame.{SameBesideCells};
 
 use crate::backwards::Beside;
 use crate::nodes::NodesMut;
-use crate::turning::{balance, blacken};
+use crate::turning::{balance, paint};
 use crate::visits::{Side, VisitsMut};
 use crate::ways::find_way_in;
 
@@ -64,11 +64,10 @@ fn grow<N: NodesMut>(visits: &mut VisitsMut<N>, link: Option<u64>, node: u64) ->
         lay(visits, node);
         return node;
     };
-    let side = Side::of(visits.precedes(node, at));
-    let below = visits.child(at, side);
-    let child = grow(visits, below, node);
-    visits.set_child(at, side, Some(child));
-    balance(visits, at, side)
+    let way = visits.toward(node, at);
+    let child = grow(visits, way.link, node);
+    visits.set_child(at, way.side, Some(child));
+    balance(visits, at, way.side)
 }
 
 /// Puts the node into the tree, from where a search for its place has found that the tree changes.
@@ -115,7 +114,7 @@ pub fn insert_at<N: NodesMut>(
         };
     }
     let top = grow(&mut visits, root, node);
-    blacken(&mut visits, Some(top));
+    paint(&mut visits, Some(top), false);
     Changed {
         root: Some(top),
         steps: visits.steps(),

@@ -5,13 +5,13 @@ ghost use Rattle.link_tree.specs.Tree.{Cell, Tree, IsTree, IsSearchTree, nodes_o
 ghost use Rattle.link_tree.specs.Nodes.{leads, is_in, without};
 ghost use Rattle.link_tree.specs.Sides.{opposite, child_of, joined_at};
 ghost use Rattle.link_tree.specs.Turning.{Turned};
-ghost use Rattle.link_tree.specs.Shrinking.{Rest, Shrinks, Leaves, reddened, mended, settled, sunk, least_of, without_least, uprooted, shrunk, spare};
+ghost use Rattle.link_tree.specs.Shrinking.{Rest, Shrinks, Leaves, mended, settled, sunk, least_of, without_least, uprooted, shrunk, spare};
 ghost use Rattle.link_tree.specs.Ways.{exit_of};
 ghost use Rattle.link_tree.specs.Frame.{SameBesideCells};
 
 use crate::inserting::Changed;
 use crate::nodes::NodesMut;
-use crate::turning::{balance, blacken, is_red, lift};
+use crate::turning::{balance, is_red, lift, paint};
 use crate::visits::{Side, VisitsMut};
 
 /// What is left of a tree, and whether each path to its end has one black node fewer than before.
@@ -26,24 +26,6 @@ struct Leftover {
 struct Least {
     node: u64,
     rest: Leftover,
-}
-
-/// Makes the root red.
-fn redden<N: NodesMut>(visits: &mut VisitsMut<N>, link: Option<u64>)
-    requires link { leads (N.is_node visits.old.nodes.now) link ≡ true }
-    requires room { visits.old.steps + 1 < 2 ^ 64 }
-    ensures reddened { (t : Tree) → IsTree (N.cells visits.old.nodes.now) link t
-        → rises (N.order visits.old.nodes.now) (nodes_of t) ≡ true
-        → Turned (N.cells visits.old.nodes.now) (N.cells visits.new.nodes.now) (nodes_of t) link
-        (reddened t) }
-    ensures most { visits.new.steps ≤ visits.old.steps + 1 }
-    ensures counted { visits.old.steps ≤ visits.new.steps }
-    ensures reference { visits.new.nodes.ghost_name ≡ visits.old.nodes.ghost_name }
-    ensures same { SameBesideCells N.Nodes visits.old.nodes.now visits.new.nodes.now }
-{
-    if let Some(node) = link {
-        visits.set_red(node, true);
-    }
 }
 
 /// `mend` under a heavy child that is red: its inner child gives the black node away.
@@ -66,7 +48,7 @@ fn mend_red<N: NodesMut>(visits: &mut VisitsMut<N>, top: u64, heavy: u64, side: 
     lift(visits, top, side);
     visits.set_red(heavy, false);
     let inner = visits.child(top, side);
-    redden(visits, inner);
+    paint(visits, inner, true);
     let root = balance(visits, top, side);
     visits.set_child(heavy, side.other(), Some(root));
     Leftover {
@@ -170,7 +152,7 @@ fn sink<N: NodesMut>(visits: &mut VisitsMut<N>, red: bool, link: Option<u64>) ->
         };
     }
     if is_red(visits, link) {
-        blacken(visits, link);
+        paint(visits, link, false);
         return Leftover {
             root: link,
             fell: false,
@@ -280,10 +262,9 @@ fn cut<N: NodesMut>(visits: &mut VisitsMut<N>, link: Option<u64>, node: u64) -> 
     if at == node {
         return uproot(visits, at);
     }
-    let side = Side::of(visits.precedes(node, at));
-    let link = visits.child(at, side);
-    let below = cut(visits, link, node);
-    settle(visits, at, side, below)
+    let way = visits.toward(node, at);
+    let below = cut(visits, way.link, node);
+    settle(visits, at, way.side, below)
 }
 
 /// Takes the node out of the tree, from where a search for it has found that the tree changes.
@@ -327,7 +308,7 @@ pub fn remove_at<N: NodesMut>(
         };
     }
     let rest = cut(&mut visits, root, node);
-    blacken(&mut visits, rest.root);
+    paint(&mut visits, rest.root, false);
     Changed {
         root: rest.root,
         steps: visits.steps(),

@@ -7,6 +7,7 @@ ghost use Rattle.link_tree.specs.Nodes.{leads, first_not, last_before};
 ghost use Rattle.link_tree.specs.Searching.{path_length};
 
 use crate::backwards::{AllBefore, Backwards};
+use crate::descending::{Notes, descend};
 use crate::nodes::Nodes;
 use crate::visits::Visits;
 
@@ -17,6 +18,18 @@ pub struct Found {
     pub node: Option<u64>,
     /// How often the search went to a node.
     pub steps: u64,
+}
+
+/// The notes of a search that keeps none.
+#[derive(Clone, Copy)]
+struct Unnoted;
+
+impl Notes for Unnoted {
+    ghost passed = { λ notes node red before. notes };
+
+    fn pass<N: Nodes>(self, _visits: &mut Visits<N>, _node: u64, _before: bool) -> Unnoted {
+        self
+    }
 }
 
 /// The first node of the tree that does not stand before the probe.
@@ -35,20 +48,10 @@ pub fn find_first_not_before<N: Nodes>(nodes: &N, root: Option<u64>, probe: &N::
     ensures exact { (t : Tree) → IsSearchTree (N.order nodes.now) (N.cells nodes.now) root t
         → result.steps ≡ path_length (N.before nodes.now probe.now) t }
 {
-    let mut visits = Visits::new(nodes);
-    let mut link = root;
-    let mut found = None;
-    while let Some(node) = link {
-        if visits.before_probe(node, probe) {
-            link = visits.right(node);
-        } else {
-            found = link;
-            link = visits.left(node);
-        }
-    }
+    let way = descend(nodes, root, probe, Unnoted);
     Found {
-        node: found,
-        steps: visits.steps(),
+        node: way.node,
+        steps: way.steps,
     }
 }
 

@@ -3,7 +3,7 @@
 ghost use Rattle.std.specs.Prelude.{◌≡◌, ℕ, ◌+◌, ◌<◌, ◌≤◌, ◌^◌, Bool, true, false, Option, Some, None};
 ghost use Rattle.link_tree.specs.Tree.{Cell, Tree, IsTree, nodes_of, rises};
 ghost use Rattle.link_tree.specs.Nodes.{leads};
-ghost use Rattle.link_tree.specs.Turning.{Turned, lifted, blackened, rebalanced, is_red_tree};
+ghost use Rattle.link_tree.specs.Turning.{Turned, lifted, painted, rebalanced, is_red_tree};
 ghost use Rattle.link_tree.specs.Frame.{SameBesideCells};
 
 use crate::nodes::NodesMut;
@@ -26,21 +26,21 @@ pub fn is_red<N: NodesMut>(visits: &mut VisitsMut<N>, link: Option<u64>) -> bool
     }
 }
 
-/// Makes the root black.
-pub fn blacken<N: NodesMut>(visits: &mut VisitsMut<N>, link: Option<u64>)
+/// Gives the root this colour.
+pub fn paint<N: NodesMut>(visits: &mut VisitsMut<N>, link: Option<u64>, red: bool)
     requires link { leads (N.is_node visits.old.nodes.now) link ≡ true }
     requires room { visits.old.steps + 1 < 2 ^ 64 }
-    ensures blackened { (t : Tree) → IsTree (N.cells visits.old.nodes.now) link t
+    ensures painted { (t : Tree) → IsTree (N.cells visits.old.nodes.now) link t
         → rises (N.order visits.old.nodes.now) (nodes_of t) ≡ true
         → Turned (N.cells visits.old.nodes.now) (N.cells visits.new.nodes.now) (nodes_of t) link
-        (blackened t) }
+        (painted red t) }
     ensures most { visits.new.steps ≤ visits.old.steps + 1 }
     ensures counted { visits.old.steps ≤ visits.new.steps }
     ensures reference { visits.new.nodes.ghost_name ≡ visits.old.nodes.ghost_name }
     ensures same { SameBesideCells N.Nodes visits.old.nodes.now visits.new.nodes.now }
 {
     if let Some(node) = link {
-        visits.set_red(node, false);
+        visits.set_red(node, red);
     }
 }
 
@@ -100,7 +100,7 @@ pub fn balance<N: NodesMut>(visits: &mut VisitsMut<N>, top: u64, side: Side) -> 
     let inner = visits.child(near, side.other());
     if is_red(visits, outer) {
         let risen = lift(visits, top, side);
-        blacken(visits, outer);
+        paint(visits, outer, false);
         return risen;
     }
     if is_red(visits, inner) {

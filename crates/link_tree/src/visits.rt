@@ -37,6 +37,13 @@ impl Side {
     }
 }
 
+/// One side of a node, and its link there.
+#[derive(Clone, Copy)]
+pub struct Onward {
+    pub side: Side,
+    pub link: Option<u64>,
+}
+
 /// Nodes that are read, where one stands, and the steps that led there.
 #[derive(Drop)]
 pub struct Visits<'a, N> {
@@ -156,7 +163,7 @@ pub struct VisitsMut<'a, N> {
 }
 
 impl<'a, N: NodesMut> VisitsMut<'a, N> {
-    ghost use Rattle.link_tree.specs.Sides.{child_of, with_child};
+    ghost use Rattle.link_tree.specs.Sides.{child_of, side_of, with_child};
 
     pub fn new(nodes: &'a mut N) -> VisitsMut<'a, N>
         ensures reference { result.nodes.ghost_name ≡ nodes.entry.ghost_name }
@@ -245,6 +252,27 @@ impl<'a, N: NodesMut> VisitsMut<'a, N> {
         self.go(first);
         self.go(second);
         self.nodes.precedes(first, second)
+    }
+
+    /// The side of `at` on which the node stands or is to stand, and the link there.
+    pub fn toward(&mut self, node: u64, at: u64) -> Onward
+        requires node { N.is_node self.old.nodes.now node ≡ true }
+        requires at { N.is_node self.old.nodes.now at ≡ true }
+        requires room { self.old.steps + 3 < 2 ^ 64 }
+        ensures side { result.side ≡ side_of (N.order self.old.nodes.now node at) }
+        ensures link { result.link ≡ child_of (side_of (N.order self.old.nodes.now node at))
+            (N.cells self.old.nodes.now at) }
+        ensures leads { leads (N.is_node self.old.nodes.now) result.link ≡ true }
+        ensures reference { self.new.nodes.ghost_name ≡ self.old.nodes.ghost_name }
+        ensures nodes { self.new.nodes.now ≡ self.old.nodes.now }
+        ensures counted { self.old.steps ≤ self.new.steps }
+        ensures most { self.new.steps ≤ self.old.steps + 2 }
+        ensures goes { node ≢ at → self.old.steps < self.new.steps }
+        ensures went { self.old.at ≡ None → self.old.steps < self.new.steps }
+    {
+        let side = Side::of(self.precedes(node, at));
+        let link = self.child(at, side);
+        Onward { side, link }
     }
 
     pub fn set_child(&mut self, node: u64, side: Side, to: Option<u64>)

@@ -49,7 +49,8 @@ fn walk_below<N: Nodes, F: FnMut(u64)>(
     walk_below(visits, right, visit, levels - 1);
 }
 
-/// Calls `visit` on each node of the tree, in order, and answers the steps that the walk took: as many as there are nodes.
+/// Calls `visit` on each node of the tree, in order, and answers the steps that the walk took: as many as there are
+/// nodes.
 ///
 /// A step is going to a node, with all that is read there before the walk goes to another.
 pub fn walk<N: Nodes, F: FnMut(u64)>(nodes: &N, root: Option<u64>, visit: &mut F) -> u64

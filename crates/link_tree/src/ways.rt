@@ -5,8 +5,9 @@ ghost use Rattle.std.specs.Option.{option_or};
 ghost use Rattle.link_tree.specs.Tree.{Tree, IsSearchTree, nodes_of, bits};
 ghost use Rattle.link_tree.specs.Nodes.{leads, first_not};
 ghost use Rattle.link_tree.specs.Searching.{path_length};
-ghost use Rattle.link_tree.specs.Ways.{entry_of, exit_of};
+ghost use Rattle.link_tree.specs.Ways.{entry_of, exit_of, passed, followed};
 
+use crate::descending::{Notes, descend};
 use crate::nodes::Nodes;
 use crate::visits::Visits;
 
@@ -31,12 +32,22 @@ struct Passed {
 }
 
 impl Passed {
-    /// One node further down.
-    fn on(self, node: u64, red: bool) -> Passed
-        ensures above { result.above ≡ (if red then None else Some node) }
-        ensures entry { result.entry ≡ (if red then self.entry else option_or self.above self.entry) }
+    /// Where the insertion begins, if the way ends here.
+    fn end(self) -> Option<u64>
+        ensures { result ≡ option_or self.above self.entry }
     {
-        if red {
+        match self.above {
+            Some(node) => Some(node),
+            None => self.entry,
+        }
+    }
+}
+
+impl Notes for Passed {
+    ghost passed = { passed };
+
+    fn pass<N: Nodes>(self, visits: &mut Visits<N>, node: u64, _before: bool) -> Passed {
+        if visits.red(node) {
             return Passed {
                 above: None,
                 entry: self.entry,
@@ -45,16 +56,6 @@ impl Passed {
         Passed {
             above: Some(node),
             entry: self.end(),
-        }
-    }
-
-    /// Where the insertion begins, if the way ends here.
-    fn end(self) -> Option<u64>
-        ensures { result ≡ option_or self.above self.entry }
-    {
-        match self.above {
-            Some(node) => Some(node),
-            None => self.entry,
         }
     }
 }
@@ -77,18 +78,20 @@ struct Followed {
     above: Option<u64>,
     /// The lowest node above it that a red one followed.
     exit: Option<u64>,
+    /// That of the last node that did not stand before the probe.
+    of_node: Option<u64>,
 }
 
-impl Followed {
-    /// One node further down.
-    fn on(self, node: u64, red: bool) -> Followed
-        ensures above { result.above ≡ Some node }
-        ensures exit { result.exit ≡ (if red then self.above else self.exit) }
-    {
+impl Notes for Followed {
+    ghost passed = { followed };
+
+    fn pass<N: Nodes>(self, visits: &mut Visits<N>, node: u64, before: bool) -> Followed {
+        let red = visits.red(node);
         let exit = if red { self.above } else { self.exit };
         Followed {
             above: Some(node),
             exit,
+            of_node: if before { self.of_node } else { exit },
         }
     }
 }
@@ -111,27 +114,15 @@ pub fn find_way_in<N: Nodes>(nodes: &N, root: Option<u64>, probe: &N::Probe) -> 
     ensures exact { (t : Tree) → IsSearchTree (N.order nodes.now) (N.cells nodes.now) root t
         → result.steps ≡ path_length (N.before nodes.now probe.now) t }
 {
-    let mut visits = Visits::new(nodes);
-    let mut link = root;
-    let mut found = None;
-    let mut passed = Passed {
+    let start = Passed {
         above: None,
         entry: None,
     };
-    while let Some(node) = link {
-        let before = visits.before_probe(node, probe);
-        passed = passed.on(node, visits.red(node));
-        if before {
-            link = visits.right(node);
-        } else {
-            found = link;
-            link = visits.left(node);
-        }
-    }
+    let way = descend(nodes, root, probe, start);
     WayIn {
-        node: found,
-        entry: passed.end(),
-        steps: visits.steps(),
+        node: way.node,
+        entry: way.notes.end(),
+        steps: way.steps,
     }
 }
 
@@ -152,29 +143,15 @@ pub fn find_way_out<N: Nodes>(nodes: &N, root: Option<u64>, probe: &N::Probe) ->
     ensures exact { (t : Tree) → IsSearchTree (N.order nodes.now) (N.cells nodes.now) root t
         → result.steps ≡ path_length (N.before nodes.now probe.now) t }
 {
-    let mut visits = Visits::new(nodes);
-    let mut link = root;
-    let mut found = None;
-    let mut exit = None;
-    let mut followed = Followed {
+    let start = Followed {
         above: None,
         exit: None,
+        of_node: None,
     };
-    while let Some(node) = link {
-        let before = visits.before_probe(node, probe);
-        followed = followed.on(node, visits.red(node));
-        if before {
-            link = visits.right(node);
-        } else {
-            found = link;
-            exit = followed.exit;
-            link = visits.left(node);
-        }
-    }
-    let steps = visits.steps();
+    let way = descend(nodes, root, probe, start);
     WayOut {
-        node: found,
-        exit,
-        steps,
+        node: way.node,
+        exit: way.notes.of_node,
+        steps: way.steps,
     }
 }

@@ -7,8 +7,9 @@ use Rattle.link_tree.specs.Nodes.{is_in, leads}
 use Rattle.link_tree.specs.Between.{is_above, is_below, count_between}
 use Rattle.link_tree.specs.Checking.{IsClosed, IsSound}
 use Rattle.link_tree.proofs.Soundness.{sound_fork, parts_of, HasParts, one_height, closed_link, counts_split, part_size}
+use Rattle.link_tree.proofs.Keepers.{strict}
 use Rattle.link_tree.proofs.checking.+check_below.Goals as goal
-use Rattle.link_tree.proofs.checking.+check_below.Goals.{After-right-right, else-red-via-then-red+else-red_above}
+use Rattle.link_tree.proofs.checking.+check_below.Goals.{After-red-red, After-right-right, else-red-via-then-red+else-red_above}
 use Rattle.link_tree.proofs.checking.+check_below.Goals.{else-red-via-else-red}
 use Rattle.link_tree.proofs.checking.+check_below.Given.{Over}
 
@@ -138,17 +139,16 @@ module _ {g : Over} {s now : g.row.N.Denot} {link : Option ℕ} {n : ℕ} {low h
   split : (ns : List ℕ) → leads (λ m. is_in m ns) link ≡ true
       → count g s low (Some n) ns + count g s (Some n) high ns + 1 ≤ count g s low high ns
   split ns k =
-      let order = g.N.Nodes.order s in
       let h = g.N.Nodes.cells s in
-      let listed = closed_link order (g.met.N.Nodes.transitive s) (g.met.N.Nodes.irreflexive s) h ns n link r.is k in
-      counts_split order (g.met.N.Nodes.transitive s) (g.met.N.Nodes.irreflexive s) h ns n low high listed r.above
+      let listed = closed_link (strict g.met.N.Nodes s) h ns n link r.is k in
+      counts_split (strict g.met.N.Nodes s) h ns n low high listed r.above
       r.below
 
   parts : (red_above : Bool) (t : Tree) (b : ℕ) → Sound g s link low high red_above t b
-      → HasParts (g.N.Nodes.order s) (g.met.N.Nodes.transitive s) (g.met.N.Nodes.irreflexive s) (g.N.Nodes.cells s) n
+      → HasParts (strict g.met.N.Nodes s) (g.N.Nodes.cells s) n
       low high red_above t b
   parts red_above t b k =
-      parts_of (g.N.Nodes.order s) (g.met.N.Nodes.transitive s) (g.met.N.Nodes.irreflexive s) (g.N.Nodes.cells s) n low
+      parts_of (strict g.met.N.Nodes s) (g.N.Nodes.cells s) n low
       high red_above t b (subst (λ (o : Option ℕ). Sound g s o low high red_above t b) r.is k)
 
   closed_left : (ns : List ℕ) → IsClosed (g.N.Nodes.cells s) ns → leads (λ m. is_in m ns) link ≡ true
@@ -212,17 +212,25 @@ module _ {g : Over} {s now : g.row.N.Denot} {link : Option ℕ} {n : ℕ} {low h
   spent_right later ns end' end'' found is e closed k f told =
       let here = rw (e, r.here, r.right_is, f) at told in here ns closed (closed_right ns closed k)
 
+  spent_both : (ns : List ℕ) (later : g.row.N.Denot) (end' end'' : ℕ) (found found' is : Bool)
+      → IsClosed (g.N.Nodes.cells s) ns → leads (λ m. is_in m ns) link ≡ true → found ≡ true → later ≡ now
+      → found' ≡ is → Spends g now left low (Some n) end end' found
+      → Spends g later right (Some n) high end' end'' found'
+      → end'' ≤ start + 5 * count g s low high ns + (if is then 0 else 5)
+  spent_both ns later end' end'' found found' is closed k f e f' told told' =
+      steps_right _ _ _ _ _ _ _ _ r.few (spent_left ns end' found true closed k f told)
+      (spent_right later ns end' end'' found' is e closed k f' told') (split ns k)
+
   -- two parts have no more nodes than the closed list has on both sides of the node
   sizes : (ns : List ℕ) (b b' k k' : ℕ) → IsClosed (g.N.Nodes.cells s) ns → leads (λ m. is_in m ns) link ≡ true
       → Found g s (g.N.Nodes.cells s n).left low (Some n) (g.N.Nodes.cells s n).red b k
       → Found g s (g.N.Nodes.cells s n).right (Some n) high (g.N.Nodes.cells s n).red b' k'
       → k + k' ≤ count g s low (Some n) ns + count g s (Some n) high ns
   sizes ns b b' k k' closed l before behind =
-      let order = g.N.Nodes.order s in
       let h = g.N.Nodes.cells s in
-      let size = part_size order (g.met.N.Nodes.transitive s) (g.met.N.Nodes.irreflexive s) h ns closed (h n).left low
+      let size = part_size (strict g.met.N.Nodes s) h ns closed (h n).left low
       (Some n) (h n).red before.0 b (closed_left ns closed l) before.1 in
-      let size' = part_size order (g.met.N.Nodes.transitive s) (g.met.N.Nodes.irreflexive s) h ns closed (h n).right
+      let size' = part_size (strict g.met.N.Nodes s) h ns closed (h n).right
       (Some n) high (h n).red behind.0 b' (closed_right ns closed l) behind.1 in
       rw (← before.2, ← behind.2) (sum_most _ _ _ _ size size')
 
@@ -235,7 +243,7 @@ module _ {g : Over} {s now : g.row.N.Denot} {link : Option ℕ} {n : ℕ} {low h
   joined red_above b b' k k' level before behind same free blacks =
       let h = g.N.Nodes.cells s in
       let second = subst (λ (a : ℕ). Sound g s (h n).right (Some n) high (h n).red behind.0 a) (sym same) behind.1 in
-      let whole = sound_fork (g.N.Nodes.order s) (g.met.N.Nodes.transitive s) (g.met.N.Nodes.irreflexive s) h n low high
+      let whole = sound_fork (strict g.met.N.Nodes s) h n low high
       red_above (h n).red before.0 behind.0 b before.1 second r.above r.below refl (λ x y. free (r.red_is ∙ x) y) in
       let t = fork (h n).red before.0 n behind.0 in
       let black : cond (h n).red b (suc b) ≡ level = rw (← r.red_is) blacks in (
@@ -250,39 +258,36 @@ pub returns-then-not-stands_above-clause-complete : goal.returns-then-not-stands
 returns-then-not-stands_above-clause-complete g t c = λ u b k lower.
     let s = c.args.visits.now.nodes.now in
     let here = subst (λ (o : Option ℕ). Sound g s o c.args.low c.args.high c.args.red_above u b) c.in-Some.is k in
-    let p = parts_of (g.N.Nodes.order s) (g.met.N.Nodes.transitive s) (g.met.N.Nodes.irreflexive s) (g.N.Nodes.cells s)
+    let p = parts_of (strict g.met.N.Nodes s) (g.N.Nodes.cells s)
     c.in-Some.node c.args.low c.args.high c.args.red_above u b here in
     sym c.if-not-stands_above.true ∙ (c.stands_above.ensures.value ∙ p.above)
 
-pub left-left-requires-clause-room : goal.left-left-requires-clause-room
-left-left-requires-clause-room g t c =
+-- the node parts those of the closed list
+counted : (g : Over) (t : ℕ) (c : After-red-red g t)
+    → count g c.args.visits.now.nodes.now c.args.low (Some c.in-Some.node) c.requires.room.0
+    + count g c.args.visits.now.nodes.now (Some c.in-Some.node) c.args.high c.requires.room.0 + 1
+    ≤ count g c.args.visits.now.nodes.now c.args.low c.args.high c.requires.room.0
+counted g t c =
     let s = c.args.visits.now.nodes.now in
     let n = c.in-Some.node in
     let ns = c.requires.room.0 in
-    let order = g.N.Nodes.order s in
-    let listed = closed_link order (g.met.N.Nodes.transitive s) (g.met.N.Nodes.irreflexive s) (g.N.Nodes.cells s) ns n
-    c.args.link c.in-Some.is c.requires.room.2 in
+    let h = g.N.Nodes.cells s in
+    let listed = closed_link (strict g.met.N.Nodes s) h ns n c.args.link c.in-Some.is c.requires.room.2 in
     let below = is_below_at g s c.stands_above.new.visits.nodes.now n c.args.high c.stands_below.result
     c.stands_above.ensures.nodes c.stands_below.ensures.value c.if-not-stands_below.false in
-    let counts = counts_split order (g.met.N.Nodes.transitive s) (g.met.N.Nodes.irreflexive s) (g.N.Nodes.cells s) ns n
-    c.args.low c.args.high listed (sym c.stands_above.ensures.value ∙ c.if-not-stands_above.false) below in
+    counts_split (strict g.met.N.Nodes s) h ns n c.args.low c.args.high listed
+    (sym c.stands_above.ensures.value ∙ c.if-not-stands_above.false) below
+
+pub left-left-requires-clause-room : goal.left-left-requires-clause-room
+left-left-requires-clause-room g t c =
     room_read _ _ _ _ _ _ _ c.stands_above.ensures.most c.stands_below.ensures.most c.red-red.ensures.most
-    counts c.requires.room.3
+    (counted g t (goal.at.left-left-requires-clause-room g t c).After-red-red) c.requires.room.3
 
 pub right-right-requires-clause-room : goal.right-right-requires-clause-room
 right-right-requires-clause-room g t c =
-    let s = c.args.visits.now.nodes.now in
-    let n = c.in-Some.node in
-    let ns = c.requires.room.0 in
-    let order = g.N.Nodes.order s in
-    let listed = closed_link order (g.met.N.Nodes.transitive s) (g.met.N.Nodes.irreflexive s) (g.N.Nodes.cells s) ns n
-    c.args.link c.in-Some.is c.requires.room.2 in
-    let below = is_below_at g s c.stands_above.new.visits.nodes.now n c.args.high c.stands_below.result
-    c.stands_above.ensures.nodes c.stands_below.ensures.value c.if-not-stands_below.false in
-    let counts = counts_split order (g.met.N.Nodes.transitive s) (g.met.N.Nodes.irreflexive s) (g.N.Nodes.cells s) ns n
-    c.args.low c.args.high listed (sym c.stands_above.ensures.value ∙ c.if-not-stands_above.false) below in
     room_read _ _ _ _ _ _ _ c.stands_above.ensures.most c.stands_below.ensures.most
-    (rw (c.left-left.ensures.stays c.red-red.ensures.at) c.red-red.ensures.most) counts c.requires.room.3
+    (rw (c.left-left.ensures.stays c.red-red.ensures.at) c.red-red.ensures.most)
+    (counted g t (goal.at.right-right-requires-clause-room g t c).After-red-red) c.requires.room.3
 
 pub check_below-requires : goal.check_below-requires
 check_below-requires g t c =
@@ -311,8 +316,7 @@ check_below-requires-2 g t c =
     let ns = c.requires.room.0 in
     let closed = c.requires.room.1 in
     let k = c.requires.room.2 in
-    let first = spent_left r ns c.check_below.new.visits.steps _ true closed k (ap is_some c.in-Some-check_below.is)
-    c.check_below.ensures.steps in
+    let first = spent_left r ns _ _ true closed k (ap is_some c.in-Some-check_below.is) c.check_below.ensures.steps in
     let asked = asked_right r c.check_below.new.visits.nodes.now c.check_below.new.visits.steps
     c.check_below.ensures.nodes c.requires.link c.requires.high c.requires.room first in
     λ κs lives. (falls _ _ c.decreases c.if-levels-eq0.false, (lives.0, (lives.1, asked)))
@@ -329,12 +333,8 @@ returns-in_default-check_below-2-clause-complete g t c = λ u b k lower.
 pub returns-in_default-check_below-2-clause-steps : goal.returns-in_default-check_below-2-clause-steps
 returns-in_default-check_below-2-clause-steps g t c = λ ns closed k.
     let r = read g t (goal.at.returns-in_default-check_below-2-clause-steps g t c).After-right-right in
-    let first = spent_left r ns c.check_below.new.visits.steps _ true closed k (ap is_some c.in-Some-check_below.is)
-    c.check_below.ensures.steps in
-    let second = spent_right r c.check_below.new.visits.nodes.now ns c.check_below.new.visits.steps
-    c.check_below-2.new.visits.steps _ false c.check_below.ensures.nodes closed k
-    (ap is_some c.in_default-check_below-2.is) c.check_below-2.ensures.steps in
-    steps_right _ _ _ _ 5 _ _ _ r.few first second (split r ns k)
+    spent_both r ns _ _ _ _ _ false closed k (ap is_some c.in-Some-check_below.is) c.check_below.ensures.nodes
+    (ap is_some c.in_default-check_below-2.is) c.check_below.ensures.steps c.check_below-2.ensures.steps
 
 pub returns-then-before-behind-clause-complete : goal.returns-then-before-behind-clause-complete
 returns-then-before-behind-clause-complete g t c = λ u b k lower.
@@ -342,15 +342,13 @@ returns-then-before-behind-clause-complete g t c = λ u b k lower.
     let s = c.args.visits.now.nodes.now in
     let h = g.N.Nodes.cells s in
     let node = c.in-Some.node in
-    let before = found_left r c.in-Some-check_below.before.blacks c.in-Some-check_below.before.nodes
-    c.in-Some-check_below.ensures.sound in
-    let behind = found_right r c.check_below.new.visits.nodes.now c.in-Some-check_below-2.behind.blacks
-    c.in-Some-check_below-2.behind.nodes c.check_below.ensures.nodes c.in-Some-check_below-2.ensures.sound in
+    let before = found_left r _ _ c.in-Some-check_below.ensures.sound in
+    let behind = found_right r _ _ _ c.check_below.ensures.nodes c.in-Some-check_below-2.ensures.sound in
     let p = parts r c.args.red_above u b k in
-    let same1 = one_height (g.N.Nodes.order s) (g.met.N.Nodes.transitive s) (g.met.N.Nodes.irreflexive s) h
+    let same1 = one_height (strict g.met.N.Nodes s) h
     (h node).left c.args.low (Some node) c.args.low (Some node) (h node).red (h node).red before.0 p.left _ p.level
     before.1 p.left_sound in
-    let same2 = one_height (g.N.Nodes.order s) (g.met.N.Nodes.transitive s) (g.met.N.Nodes.irreflexive s) h
+    let same2 = one_height (strict g.met.N.Nodes s) h
     (h node).right (Some node) c.args.high (Some node) c.args.high (h node).red (h node).red behind.0 p.right _ p.level
     behind.1 p.right_sound in
     absurd (c.if-before-behind.true (same1 ∙ sym same2))
@@ -358,40 +356,30 @@ returns-then-before-behind-clause-complete g t c = λ u b k lower.
 pub returns-then-before-behind-clause-steps : goal.returns-then-before-behind-clause-steps
 returns-then-before-behind-clause-steps g t c = λ ns closed k.
     let r = read g t (goal.at.returns-then-before-behind-clause-steps g t c).After-right-right in
-    let first = spent_left r ns c.check_below.new.visits.steps _ true closed k (ap is_some c.in-Some-check_below.is)
-    c.check_below.ensures.steps in
-    let second = spent_right r c.check_below.new.visits.nodes.now ns c.check_below.new.visits.steps
-    c.check_below-2.new.visits.steps _ true c.check_below.ensures.nodes closed k
-    (ap is_some c.in-Some-check_below-2.is) c.check_below-2.ensures.steps in
-    more _ _ (steps_right _ _ _ _ 0 _ _ _ r.few first second (split r ns k))
+    more _ _ (spent_both r ns _ _ _ _ _ true closed k (ap is_some c.in-Some-check_below.is) c.check_below.ensures.nodes
+    (ap is_some c.in-Some-check_below-2.is) c.check_below.ensures.steps c.check_below-2.ensures.steps)
 
 pub overflow_add-nodes : goal.overflow_add-nodes
 overflow_add-nodes g t c =
     let r = read g t (goal.at.overflow_add-nodes g t c).After-right-right in
-    let before = found_left r c.in-Some-check_below.before.blacks c.in-Some-check_below.before.nodes
-    c.in-Some-check_below.ensures.sound in
-    let behind = found_right r c.check_below.new.visits.nodes.now c.in-Some-check_below-2.behind.blacks
-    c.in-Some-check_below-2.behind.nodes c.check_below.ensures.nodes c.in-Some-check_below-2.ensures.sound in
+    let before = found_left r _ _ c.in-Some-check_below.ensures.sound in
+    let behind = found_right r _ _ _ c.check_below.ensures.nodes c.in-Some-check_below-2.ensures.sound in
     let few = sizes r c.requires.room.0 _ _ _ _ c.requires.room.1 c.requires.room.2 before behind in
     fits_less _ (fits_nodes _ _ _ _ _ _ few (split r c.requires.room.0 c.requires.room.2) c.requires.room.3)
 
 pub overflow_add-nodes-2 : goal.overflow_add-nodes-2
 overflow_add-nodes-2 g t c =
     let r = read g t (goal.at.overflow_add-nodes-2 g t c).After-right-right in
-    let before = found_left r c.in-Some-check_below.before.blacks c.in-Some-check_below.before.nodes
-    c.in-Some-check_below.ensures.sound in
-    let behind = found_right r c.check_below.new.visits.nodes.now c.in-Some-check_below-2.behind.blacks
-    c.in-Some-check_below-2.behind.nodes c.check_below.ensures.nodes c.in-Some-check_below-2.ensures.sound in
+    let before = found_left r _ _ c.in-Some-check_below.ensures.sound in
+    let behind = found_right r _ _ _ c.check_below.ensures.nodes c.in-Some-check_below-2.ensures.sound in
     let few = sizes r c.requires.room.0 _ _ _ _ c.requires.room.1 c.requires.room.2 before behind in
     fits_nodes _ _ _ _ _ _ few (split r c.requires.room.0 c.requires.room.2) c.requires.room.3
 
 pub returns-then-red-2-clause-sound : goal.returns-then-red-2-clause-sound
 returns-then-red-2-clause-sound g t c =
     let r = read g t (goal.at.returns-then-red-2-clause-sound g t c).After-right-right in
-    let before = found_left r c.in-Some-check_below.before.blacks c.in-Some-check_below.before.nodes
-    c.in-Some-check_below.ensures.sound in
-    let behind = found_right r c.check_below.new.visits.nodes.now c.in-Some-check_below-2.behind.blacks
-    c.in-Some-check_below-2.behind.nodes c.check_below.ensures.nodes c.in-Some-check_below-2.ensures.sound in
+    let before = found_left r _ _ c.in-Some-check_below.ensures.sound in
+    let behind = found_right r _ _ _ c.check_below.ensures.nodes c.in-Some-check_below-2.ensures.sound in
     joined r c.args.red_above _ _ _ _ _ before behind c.if-before-behind.false
     (λ x y. elim c.else-red.branch as (λ _. ⊥) [
       | else-red-via-then-red+else-red_above w ↦ true≢false (sym y ∙ w.if-red_above.false)
@@ -401,10 +389,8 @@ returns-then-red-2-clause-sound g t c =
 pub returns-clause-sound : goal.returns-clause-sound
 returns-clause-sound g t c =
     let r = read g t (goal.at.returns-clause-sound g t c).After-right-right in
-    let before = found_left r c.in-Some-check_below.before.blacks c.in-Some-check_below.before.nodes
-    c.in-Some-check_below.ensures.sound in
-    let behind = found_right r c.check_below.new.visits.nodes.now c.in-Some-check_below-2.behind.blacks
-    c.in-Some-check_below-2.behind.nodes c.check_below.ensures.nodes c.in-Some-check_below-2.ensures.sound in
+    let before = found_left r _ _ c.in-Some-check_below.ensures.sound in
+    let behind = found_right r _ _ _ c.check_below.ensures.nodes c.in-Some-check_below-2.ensures.sound in
     joined r c.args.red_above _ _ _ _ _ before behind c.if-before-behind.false
     (λ x y. elim c.else-red.branch as (λ _. ⊥) [
       | else-red-via-then-red+else-red_above w ↦ true≢false (sym y ∙ w.if-red_above.false)
@@ -414,19 +400,11 @@ returns-clause-sound g t c =
 pub returns-then-red-2-clause-steps : goal.returns-then-red-2-clause-steps
 returns-then-red-2-clause-steps g t c = λ ns closed k.
     let r = read g t (goal.at.returns-then-red-2-clause-steps g t c).After-right-right in
-    let first = spent_left r ns c.check_below.new.visits.steps _ true closed k (ap is_some c.in-Some-check_below.is)
-    c.check_below.ensures.steps in
-    let second = spent_right r c.check_below.new.visits.nodes.now ns c.check_below.new.visits.steps
-    c.check_below-2.new.visits.steps _ true c.check_below.ensures.nodes closed k
-    (ap is_some c.in-Some-check_below-2.is) c.check_below-2.ensures.steps in
-    steps_right _ _ _ _ 0 _ _ _ r.few first second (split r ns k)
+    spent_both r ns _ _ _ _ _ true closed k (ap is_some c.in-Some-check_below.is) c.check_below.ensures.nodes
+    (ap is_some c.in-Some-check_below-2.is) c.check_below.ensures.steps c.check_below-2.ensures.steps
 
 pub returns-clause-steps : goal.returns-clause-steps
 returns-clause-steps g t c = λ ns closed k.
     let r = read g t (goal.at.returns-clause-steps g t c).After-right-right in
-    let first = spent_left r ns c.check_below.new.visits.steps _ true closed k (ap is_some c.in-Some-check_below.is)
-    c.check_below.ensures.steps in
-    let second = spent_right r c.check_below.new.visits.nodes.now ns c.check_below.new.visits.steps
-    c.check_below-2.new.visits.steps _ true c.check_below.ensures.nodes closed k
-    (ap is_some c.in-Some-check_below-2.is) c.check_below-2.ensures.steps in
-    steps_right _ _ _ _ 0 _ _ _ r.few first second (split r ns k)
+    spent_both r ns _ _ _ _ _ true closed k (ap is_some c.in-Some-check_below.is) c.check_below.ensures.nodes
+    (ap is_some c.in-Some-check_below-2.is) c.check_below.ensures.steps c.check_below-2.ensures.steps

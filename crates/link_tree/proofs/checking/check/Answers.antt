@@ -2,8 +2,9 @@ use Rattle.std.proofs.Common.{Some, length, sym, ap, ◌∙◌, arith}
 use Rattle.std.proofs.lemmas.Bool.{false≢true}
 use Rattle.link_tree.specs.Tree.{nodes_of}
 use Rattle.link_tree.proofs.Trees.{one_tree, some_same, none_some}
-use Rattle.link_tree.proofs.Limits.{count_all, height_limit}
+use Rattle.link_tree.proofs.Limits.{count_all}
 use Rattle.link_tree.proofs.Soundness.{only, length-only, leads_only, only_closed, sound_whole, whole_sound}
+use Rattle.link_tree.proofs.Keepers.{low_tree, strict}
 use Rattle.link_tree.proofs.checking.check.Goals as goal
 
 pub check_below-requires-clause-room : goal.check_below-requires-clause-room
@@ -16,7 +17,8 @@ check_below-requires-clause-room g c =
     let fewer = length-only good f.0 in
     let counts = count_all (g.N.Nodes.order s) ns in
     let zero = c.new-visits.ensures.steps in
-    let closed = only_closed (g.N.Nodes.cells s) good f.0 (g.met.N.Nodes.left_closed s) (g.met.N.Nodes.right_closed s) f.2 in
+    let closed = only_closed (g.N.Nodes.cells s) good f.0 (g.met.N.Nodes.left_closed s) (g.met.N.Nodes.right_closed s)
+    f.2 in
     let e = c.new-visits.ensures.nodes in
     (ns, rw e closed, leads_only good f.0 f.2 c.args.root c.requires, rw e (omega arith))
 
@@ -25,9 +27,10 @@ returns-in_default-clause-counts g c = λ m. (
   λ e. absurd (none_some m e),
   λ w.
       let s = c.args.nodes.now in
-      let low = height_limit (g.met.N.Nodes.transitive s) (g.met.N.Nodes.irreflexive s) (g.met.N.Nodes.finite s) (g.met.N.Nodes.left_closed s) (g.met.N.Nodes.right_closed s) w.1 c.requires in
+      let low = low_tree g.met.N.Nodes s w.1 c.requires in
       let complete = rw c.new-visits.ensures.nodes at c.check_below.ensures.complete in
-      let some = complete w.0 w.1.red_black.black.0 (sound_whole (g.N.Nodes.order s) (g.met.N.Nodes.transitive s) (g.met.N.Nodes.irreflexive s) (g.N.Nodes.cells s) c.args.root w.0 w.1) (omega arith) in
+      let some = complete w.0 w.1.red_black.black.0
+      (sound_whole (strict g.met.N.Nodes s) (g.N.Nodes.cells s) c.args.root w.0 w.1) (omega arith) in
       absurd (false≢true (rw c.in_default.is at some)),
 )
 
@@ -44,7 +47,8 @@ pub returns-clause-counts : goal.returns-clause-counts
 returns-clause-counts g c = λ m.
     let s = c.args.nodes.now in
     let sound = rw c.new-visits.ensures.nodes at c.in-Some.ensures.sound in
-    let whole = whole_sound (g.N.Nodes.order s) (g.met.N.Nodes.transitive s) (g.met.N.Nodes.irreflexive s) (g.N.Nodes.cells s) c.args.root sound.0 c.in-Some.part.blacks sound.1 in (
+    let whole = whole_sound (strict g.met.N.Nodes s) (g.N.Nodes.cells s) c.args.root sound.0 c.in-Some.part.blacks
+    sound.1 in (
       λ e. (sound.0, whole, sound.2 ∙ some_same c.in-Some.part.nodes m e),
       λ w.
           let same = one_tree (g.N.Nodes.cells s) c.args.root sound.0 w.0 whole.tree w.1.tree in

@@ -1,7 +1,7 @@
 use Rattle.std.proofs.Common.{ℕ, ◌+◌, ◌*◌, ◌<◌, ◌≤◌, ◌^◌, arith, length}
 use Rattle.link_tree.specs.Tree.{nodes_of, bits}
 use Rattle.link_tree.proofs.Heights.{bits_most}
-use Rattle.link_tree.proofs.Limits.{height_limit}
+use Rattle.link_tree.proofs.Keepers.{low_tree}
 use Rattle.link_tree.proofs.inserting.insert.Goals as goal
 
 -- a tree of few nodes is gone through in few steps
@@ -13,8 +13,7 @@ pub overflow_mul-result : goal.overflow_mul-result
 overflow_mul-result g c =
     let t = c.requires.tree in
     let s = c.args.nodes.now in
-    let low = height_limit (g.met.N.Nodes.transitive s) (g.met.N.Nodes.irreflexive s) (g.met.N.Nodes.finite s)
-    (g.met.N.Nodes.left_closed s) (g.met.N.Nodes.right_closed s) t.1 c.requires.root in
+    let low = low_tree g.met.N.Nodes s t.1 c.requires.root in
     let all = few (bits (length (nodes_of t.0) + 1)) c.find_way_in-way.result.steps c.insert_at-changed.result.steps
     (bits_most (length (nodes_of t.0)) low.1)
     (c.find_way_in-way.ensures.steps t.0 t.1) (c.insert_at-changed.ensures.steps t.0 t.1) in
@@ -24,8 +23,7 @@ pub overflow_add-result : goal.overflow_add-result
 overflow_add-result g c =
     let t = c.requires.tree in
     let s = c.args.nodes.now in
-    let low = height_limit (g.met.N.Nodes.transitive s) (g.met.N.Nodes.irreflexive s) (g.met.N.Nodes.finite s)
-    (g.met.N.Nodes.left_closed s) (g.met.N.Nodes.right_closed s) t.1 c.requires.root in
+    let low = low_tree g.met.N.Nodes s t.1 c.requires.root in
     let all = few (bits (length (nodes_of t.0) + 1)) c.find_way_in-way.result.steps c.insert_at-changed.result.steps
     (bits_most (length (nodes_of t.0)) low.1)
     (c.find_way_in-way.ensures.steps t.0 t.1) (c.insert_at-changed.ensures.steps t.0 t.1) in

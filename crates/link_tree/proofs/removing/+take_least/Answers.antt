@@ -2,16 +2,16 @@ use Rattle.std.proofs.Common.{◌≡◌, ℕ, ◌+◌, ◌*◌, ◌<◌, ◌^◌
 use Rattle.link_tree.specs.Tree.{Tree, height}
 use Rattle.link_tree.specs.Shrinking.{Shrinks}
 use Rattle.link_tree.proofs.Trees.{some_same}
-use Rattle.link_tree.proofs.TakingLeast.{take_last, take_more, left_of, HasLeft}
+use Rattle.link_tree.proofs.TakingLeast.{take_last, take_more, child_tree, HasChild, least_below}
+use Rattle.link_tree.specs.declared.visits.Side.TheVariants.{Left}
+use Rattle.link_tree.proofs.Keepers.{strict}
 use Rattle.link_tree.proofs.removing.+take_least.Goals as goal
 use Rattle.link_tree.proofs.removing.+take_least.Given.{Over}
 
-below : (g : Over) (s : g.row.N.Denot) (at left : ℕ) (t : Tree) → Shrinks (g.N.Nodes.order s) (g.N.Nodes.cells s)
-    (Some at) t → (g.N.Nodes.cells s at).left ≡ Some left
-    → HasLeft (g.N.Nodes.order s) (g.met.N.Nodes.transitive s) (g.met.N.Nodes.irreflexive s) (g.N.Nodes.cells s) at
-    left t
-below g s at left t w e = left_of (g.N.Nodes.order s) (g.met.N.Nodes.transitive s) (g.met.N.Nodes.irreflexive s)
-    (g.N.Nodes.cells s) at left t w.tree w.ordered e
+below : (g : Over) (s : g.row.N.Denot) (at left : ℕ) (t : Tree)
+    → Shrinks (g.N.Nodes.order s) (g.N.Nodes.cells s) (Some at) t → (g.N.Nodes.cells s at).left ≡ Some left
+    → HasChild (strict g.met.N.Nodes s) (g.N.Nodes.cells s) Left at left t
+below g s at left t w e = child_tree (strict g.met.N.Nodes s) Left (g.N.Nodes.cells s) at left t w e
 
 pub returns-in_default-clause-rest : goal.returns-in_default-clause-rest
 returns-in_default-clause-rest g t c = λ u w.
@@ -24,7 +24,7 @@ returns-in_default-clause-rest g t c = λ u w.
     let red : c.red-red.result ≡ (h c.args.at).red =
     c.red-red.ensures.value ∙ ap (λ (x : g.row.N.Denot). (g.N.Nodes.cells x c.args.at).red) c.child.ensures.nodes in
     let sink = rw (e, right, red) at c.sink.ensures.sunk in
-    take_last (g.N.Nodes.order s) (g.met.N.Nodes.transitive s) (g.met.N.Nodes.irreflexive s) h
+    take_last (strict g.met.N.Nodes s) h
     (g.N.Nodes.cells c.sink.new.visits.nodes.now)
     c.args.at c.sink.result.root c.sink.result.fell u w.tree (sym c.child.ensures.value ∙ c.in_default.is) w.ordered
     sink
@@ -75,7 +75,7 @@ returns-clause-node g t c = λ u w.
     let b = below g s c.args.at left u w is_left in
     let e : c.child.new.self.nodes.now ≡ s = c.child.ensures.nodes in
     let node = rw e at c.take_least-below.ensures.node in
-    node b.tree b.shrinks ∙ sym b.least
+    node b.tree b.shrinks ∙ sym (least_below (strict g.met.N.Nodes s) (g.N.Nodes.cells s) c.args.at left u b)
 
 pub returns-clause-rest : goal.returns-clause-rest
 returns-clause-rest g t c = λ u w.
@@ -88,7 +88,7 @@ returns-clause-rest g t c = λ u w.
     c.take_least-below.ensures.same.order ∙ ap (λ (x : g.row.N.Denot). g.N.Nodes.order x) e in
     let take = rw e at c.take_least-below.ensures.rest in
     let settle = rw eo at c.settle.ensures.settled in
-    take_more (g.N.Nodes.order s) (g.met.N.Nodes.transitive s) (g.met.N.Nodes.irreflexive s) h
+    take_more (strict g.met.N.Nodes s) h
     (g.N.Nodes.cells c.take_least-below.new.visits.nodes.now) (g.N.Nodes.cells c.settle.new.visits.nodes.now)
     c.args.at left c.take_least-below.result.rest.root c.settle.result.root c.take_least-below.result.rest.fell
     c.settle.result.fell u w.tree w.ordered is_left take settle

@@ -1,6 +1,7 @@
 use Rattle.std.proofs.Common.{◌≡◌, true, false, sym, ap, ◌∙◌}
 use Rattle.link_tree.specs.Nodes.{with_red}
 use Rattle.link_tree.proofs.Mending.{mend_black}
+use Rattle.link_tree.proofs.Keepers.{strict}
 use Rattle.link_tree.proofs.removing.mend.Goals as goal
 
 pub returns-clause-mended : goal.returns-clause-mended
@@ -21,7 +22,7 @@ returns-clause-mended g c = λ t w o.
     ∙ ap (λ (x : g.row.N.Denot). with_red (g.N.Nodes.cells x) c.in-Some.heavy true) e3 in
     let balance = rw eo at c.balance-root.ensures.balanced in
     rw red
-    (mend_black (g.N.Nodes.order s) (g.met.N.Nodes.transitive s) (g.met.N.Nodes.irreflexive s) c.args.side h
+    (mend_black (strict g.met.N.Nodes s) c.args.side h
     (g.N.Nodes.cells c.set_red.new.self.nodes.now) (g.N.Nodes.cells c.set_red-2.new.self.nodes.now)
     (g.N.Nodes.cells c.balance-root.new.visits.nodes.now)
     c.args.top c.in-Some.heavy c.balance-root.result t w o (sym c.child.ensures.value ∙ c.in-Some.is)

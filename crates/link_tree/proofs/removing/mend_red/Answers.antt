@@ -3,6 +3,7 @@ use Rattle.link_tree.specs.Sides.{with_child}
 use Rattle.link_tree.specs.declared.visits.Side.{Side}
 use Rattle.link_tree.proofs.Growth.{nodes_of-rebalanced}
 use Rattle.link_tree.proofs.Mending.{mend_red_at}
+use Rattle.link_tree.proofs.Keepers.{strict}
 use Rattle.link_tree.proofs.removing.mend_red.Goals as goal
 
 pub returns-clause-mended : goal.returns-clause-mended
@@ -13,13 +14,13 @@ returns-clause-mended g c = λ t w o.
     let e2 : c.child-inner.new.self.nodes.now ≡ c.set_red.new.self.nodes.now = c.child-inner.ensures.nodes in
     let eo2 : g.N.Nodes.order c.set_red.new.self.nodes.now ≡ g.N.Nodes.order s =
     c.set_red.ensures.same.order ∙ c.lift.ensures.same.order in
-    let eo3 : g.N.Nodes.order c.redden.new.visits.nodes.now ≡ g.N.Nodes.order s =
-    c.redden.ensures.same.order ∙ (ap (λ (x : g.row.N.Denot). g.N.Nodes.order x) e2 ∙ eo2) in
-    let redden = rw (e2, eo2) at c.redden.ensures.reddened in
+    let eo3 : g.N.Nodes.order c.paint.new.visits.nodes.now ≡ g.N.Nodes.order s =
+    c.paint.ensures.same.order ∙ (ap (λ (x : g.row.N.Denot). g.N.Nodes.order x) e2 ∙ eo2) in
+    let redden = rw (e2, eo2) at c.paint.ensures.painted in
     let balance = rw eo3 at c.balance-root.ensures.balanced in
-    mend_red_at (g.N.Nodes.order s) (g.met.N.Nodes.transitive s) (g.met.N.Nodes.irreflexive s) side h
+    mend_red_at (strict g.met.N.Nodes s) side h
     (g.N.Nodes.cells c.lift.new.visits.nodes.now) (g.N.Nodes.cells c.set_red.new.self.nodes.now)
-    (g.N.Nodes.cells c.redden.new.visits.nodes.now)
+    (g.N.Nodes.cells c.paint.new.visits.nodes.now)
     (g.N.Nodes.cells c.balance-root.new.visits.nodes.now) (g.N.Nodes.cells c.set_child.new.self.nodes.now)
     c.args.top c.args.heavy c.balance-root.result c.lift.result c.child-inner.result t w o c.requires.heavy
     c.requires.red c.lift.ensures.lifted c.set_red.ensures.cells

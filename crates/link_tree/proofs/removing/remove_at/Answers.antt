@@ -1,13 +1,14 @@
-use Rattle.std.proofs.Common.{◌≡◌, ℕ, true, Option, Some, arith, subst, rules}
+use Rattle.std.proofs.Common.{◌≡◌, ℕ, Bool, List, Option, Some, arith, refl, subst, rules}
 use Rattle.std.specs.Prelude.{IfSome}
-use Rattle.link_tree.specs.Tree.{Tree, IsSearchTree}
+use Rattle.link_tree.specs.Tree.{Cell, Tree, IsSearchTree}
 use Rattle.link_tree.specs.Shrinking.{Shrinks}
 use Rattle.link_tree.specs.Ways.{exit_of}
 use Rattle.link_tree.proofs.Trees.{one_tree, root_in}
-use Rattle.link_tree.proofs.Exits.{IsTurned, left_frame, left_tree, turned_whole}
+use Rattle.link_tree.proofs.Beginnings.{Begins}
+use Rattle.link_tree.proofs.Exits.{IsTurned, left, turned_whole}
 use Rattle.link_tree.proofs.Heights.{height_bits}
-use Rattle.link_tree.proofs.Limits.{height_limit, tree_good}
-use Rattle.link_tree.proofs.Taking.{removed_tree, removed_frame}
+use Rattle.link_tree.proofs.Keepers.{low_tree, node_of, strict}
+use Rattle.link_tree.proofs.Taking.{removed}
 use Rattle.link_tree.proofs.removing.remove_at.Goals as goal
 use Rattle.link_tree.proofs.removing.remove_at.Given.{Over}
 
@@ -16,109 +17,100 @@ shrinks : (g : Over) (s : g.row.N.Denot) (link : Option ℕ) (t : Tree)
     → Shrinks (g.N.Nodes.order s) (g.N.Nodes.cells s) link t
 shrinks g s link t k = record { tree = k.tree; ordered = k.ordered }
 
+below_of : {lt : ℕ → ℕ → Bool} {h : ℕ → Cell} {xs : List ℕ} {change : Tree → Tree} {link : Option ℕ} {t : Tree}
+    (b : Begins lt h xs change link t) → Shrinks lt h link b.below
+below_of b = record { tree = b.is_tree; ordered = b.ordered }
+
 -- the removal begins at a node of each tree of the root
-turns : (g : Over) (s : g.row.N.Denot) (root exit : Option ℕ) (x p : ℕ) (t u : Tree)
+begins : (g : Over) (s : g.row.N.Denot) (root exit : Option ℕ) (x p : ℕ) (t u : Tree)
     → IsSearchTree (g.N.Nodes.order s) (g.N.Nodes.cells s) root t
     → IfSome exit (λ n. exit_of (g.N.Nodes.order s) x t ≡ Some n) → exit ≡ Some p
-    → IsSearchTree (g.N.Nodes.order s) (g.N.Nodes.cells s) root u → IsTurned (g.N.Nodes.order s) (g.N.Nodes.cells s)
-    x u p
-turns g s root exit x p t u k way is m =
+    → IsSearchTree (g.N.Nodes.order s) (g.N.Nodes.cells s) root u
+    → IsTurned (g.N.Nodes.order s) (g.N.Nodes.cells s) x u p
+begins g s root exit x p t u k way is m =
     let e = one_tree (g.N.Nodes.cells s) root t u k.tree m.tree in
     let at : exit_of (g.N.Nodes.order s) x t ≡ Some p = rw is at way in
     subst (λ v. IsTurned (g.N.Nodes.order s) (g.N.Nodes.cells s) x v p) e
-    (turned_whole (g.N.Nodes.order s) (g.met.N.Nodes.transitive s) (g.met.N.Nodes.irreflexive s) (g.N.Nodes.cells s)
-    x root t p k at)
+    (turned_whole (strict g.met.N.Nodes s) (g.N.Nodes.cells s) x root t p k at)
 
 pub cut-requires-clause-link : goal.cut-requires-clause-link
 cut-requires-clause-link g c =
     let t = c.requires.tree in
     let s = c.args.nodes.now in
-    let b = turns g s c.args.root c.args.exit c.args.node c.in-Some.start t.0 t.0 t.1 t.3 c.in-Some.is t.1 in
-    let node : g.N.Nodes.is_node s c.in-Some.start ≡ true = tree_good (g.N.Nodes.cells s) (g.N.Nodes.is_node s)
-    (g.met.N.Nodes.left_closed s) (g.met.N.Nodes.right_closed s) t.0 c.args.root t.1.tree c.requires.root
-    c.in-Some.start (b.inside c.in-Some.start (root_in (g.N.Nodes.cells s) c.in-Some.start b.below b.shrinks.tree)) in
-    rw c.new-visits.ensures.nodes node
+    let b = begins g s c.args.root c.args.exit c.args.node _ t.0 t.0 t.1 t.3 c.in-Some.is t.1 in
+    rw c.new-visits.ensures.nodes (node_of g.met.N.Nodes s t.1.tree c.requires.root c.in-Some.start
+    (b.begins.inside c.in-Some.start (root_in (g.N.Nodes.cells s) c.in-Some.start b.begins.below b.begins.is_tree)))
 
 pub cut-requires-clause-node : goal.cut-requires-clause-node
 cut-requires-clause-node g c =
     let t = c.requires.tree in
-    let s = c.args.nodes.now in
-    rw c.new-visits.ensures.nodes
-    (tree_good (g.N.Nodes.cells s) (g.N.Nodes.is_node s) (g.met.N.Nodes.left_closed s) (g.met.N.Nodes.right_closed s)
-    t.0 c.args.root t.1.tree c.requires.root c.args.node t.2)
+    rw c.new-visits.ensures.nodes (node_of g.met.N.Nodes c.args.nodes.now t.1.tree c.requires.root c.args.node t.2)
 
 pub cut-requires-clause-tree : goal.cut-requires-clause-tree
 cut-requires-clause-tree g c =
     let t = c.requires.tree in
     let s = c.args.nodes.now in
-    let low = height_limit (g.met.N.Nodes.transitive s) (g.met.N.Nodes.irreflexive s) (g.met.N.Nodes.finite s)
-    (g.met.N.Nodes.left_closed s) (g.met.N.Nodes.right_closed s) t.1 c.requires.root in
+    let low = low_tree g.met.N.Nodes s t.1 c.requires.root in
     let zero = c.new-visits.ensures.steps in
-    let b = turns g s c.args.root c.args.exit c.args.node c.in-Some.start t.0 t.0 t.1 t.3 c.in-Some.is t.1 in
-    let lower = b.lower in
-    (b.below, rw c.new-visits.ensures.nodes b.shrinks, omega arith)
+    let b = begins g s c.args.root c.args.exit c.args.node _ t.0 t.0 t.1 t.3 c.in-Some.is t.1 in
+    let lower = b.begins.lower in
+    (b.begins.below, rw c.new-visits.ensures.nodes (below_of b.begins), omega arith)
 
 pub returns-in-Some-clause-tree : goal.returns-in-Some-clause-tree
 returns-in-Some-clause-tree g c = λ u k.
     let t = c.requires.tree in
     let s = c.args.nodes.now in
-    let b = turns g s c.args.root c.args.exit c.args.node c.in-Some.start t.0 u t.1 t.3 c.in-Some.is k in
+    let b = begins g s c.args.root c.args.exit c.args.node _ t.0 u t.1 t.3 c.in-Some.is k in
     let cut = rw c.new-visits.ensures.nodes at c.cut.ensures.rest in
-    left_tree (g.N.Nodes.order s) (g.met.N.Nodes.transitive s) (g.met.N.Nodes.irreflexive s) (g.N.Nodes.cells s)
-    c.args.node
-    _ (g.N.Nodes.cells c.cut.new.visits.nodes.now) _ c.args.root c.cut.result.root c.cut.result.fell u
-    c.in-Some.start k b (cut b.below b.shrinks) (search rules) (search rules)
+    (left (strict g.met.N.Nodes s) (g.N.Nodes.cells s) c.args.node _ (g.N.Nodes.cells c.cut.new.visits.nodes.now) _
+    c.args.root c.cut.result.root c.cut.result.fell u c.in-Some.start k b (cut b.begins.below (below_of b.begins))
+    (search rules)
+    (search rules)).tree
 
 pub returns-in-Some-clause-frame : goal.returns-in-Some-clause-frame
 returns-in-Some-clause-frame g c = λ u k.
     let t = c.requires.tree in
     let s = c.args.nodes.now in
-    let b = turns g s c.args.root c.args.exit c.args.node c.in-Some.start t.0 u t.1 t.3 c.in-Some.is k in
+    let b = begins g s c.args.root c.args.exit c.args.node _ t.0 u t.1 t.3 c.in-Some.is k in
     let cut = rw c.new-visits.ensures.nodes at c.cut.ensures.rest in
-    left_frame (g.N.Nodes.order s) (g.met.N.Nodes.transitive s) (g.met.N.Nodes.irreflexive s) (g.N.Nodes.cells s)
-    c.args.node
-    (g.N.Nodes.cells c.cut.new.visits.nodes.now) _ c.cut.result.root c.cut.result.fell u c.in-Some.start b
-    (cut b.below b.shrinks) (search rules)
+    (left (strict g.met.N.Nodes s) (g.N.Nodes.cells s) c.args.node _ (g.N.Nodes.cells c.cut.new.visits.nodes.now) _
+    c.args.root c.cut.result.root c.cut.result.fell u c.in-Some.start k b (cut b.begins.below (below_of b.begins))
+    (search rules)
+    refl).frame
 
 pub returns-in-Some-clause-steps : goal.returns-in-Some-clause-steps
 returns-in-Some-clause-steps g c = λ u k.
     let t = c.requires.tree in
     let s = c.args.nodes.now in
-    let b = turns g s c.args.root c.args.exit c.args.node c.in-Some.start t.0 u t.1 t.3 c.in-Some.is k in
+    let b = begins g s c.args.root c.args.exit c.args.node _ t.0 u t.1 t.3 c.in-Some.is k in
     let steps = rw c.new-visits.ensures.nodes at c.cut.ensures.steps in
     omega (
       arith,
       c.steps.ensures,
-      steps b.below b.shrinks,
-      b.lower,
+      steps b.begins.below (below_of b.begins),
+      b.begins.lower,
       c.new-visits.ensures.steps,
-      height_bits u
-          k.red_black,
+      height_bits u k.red_black,
     )
 
 pub cut-rest-requires-clause-node : goal.cut-rest-requires-clause-node
 cut-rest-requires-clause-node g c =
     let t = c.requires.tree in
-    let s = c.args.nodes.now in
-    rw c.new-visits.ensures.nodes
-    (tree_good (g.N.Nodes.cells s) (g.N.Nodes.is_node s) (g.met.N.Nodes.left_closed s) (g.met.N.Nodes.right_closed s)
-    t.0 c.args.root t.1.tree c.requires.root c.args.node t.2)
+    rw c.new-visits.ensures.nodes (node_of g.met.N.Nodes c.args.nodes.now t.1.tree c.requires.root c.args.node t.2)
 
 pub cut-rest-requires-clause-tree : goal.cut-rest-requires-clause-tree
 cut-rest-requires-clause-tree g c =
     let t = c.requires.tree in
     let s = c.args.nodes.now in
-    let low = height_limit (g.met.N.Nodes.transitive s) (g.met.N.Nodes.irreflexive s) (g.met.N.Nodes.finite s)
-    (g.met.N.Nodes.left_closed s) (g.met.N.Nodes.right_closed s) t.1 c.requires.root in
+    let low = low_tree g.met.N.Nodes s t.1 c.requires.root in
     let zero = c.new-visits.ensures.steps in
     (t.0, rw c.new-visits.ensures.nodes (shrinks g s c.args.root t.0 t.1), omega arith)
 
-pub blacken-requires-clause-room : goal.blacken-requires-clause-room
-blacken-requires-clause-room g c =
+pub paint-requires-clause-room : goal.paint-requires-clause-room
+paint-requires-clause-room g c =
     let t = c.requires.tree in
     let s = c.args.nodes.now in
-    let low = height_limit (g.met.N.Nodes.transitive s) (g.met.N.Nodes.irreflexive s) (g.met.N.Nodes.finite s)
-    (g.met.N.Nodes.left_closed s) (g.met.N.Nodes.right_closed s) t.1 c.requires.root in
+    let low = low_tree g.met.N.Nodes s t.1 c.requires.root in
     let zero = c.new-visits.ensures.steps in
     let steps = rw c.new-visits.ensures.nodes at c.cut-rest.ensures.steps in
     omega (arith, steps t.0 (shrinks g s c.args.root t.0 t.1))
@@ -128,22 +120,20 @@ returns-clause-tree g c = λ u k.
     let s = c.args.nodes.now in
     let cut = rw c.new-visits.ensures.nodes at c.cut-rest.ensures.rest in
     let eo : g.N.Nodes.order c.cut-rest.new.visits.nodes.now ≡ g.N.Nodes.order s = cc in
-    let black = rw eo at c.blacken.ensures.blackened in
-    removed_tree (g.N.Nodes.order s) (g.met.N.Nodes.transitive s) (g.met.N.Nodes.irreflexive s) _ (g.N.Nodes.cells s)
-    (g.N.Nodes.cells c.cut-rest.new.visits.nodes.now)
-    (g.N.Nodes.cells c.blacken.new.visits.nodes.now) _ c.args.root c.cut-rest.result.root c.cut-rest.result.fell
-    c.args.node u k (cut u (shrinks g s c.args.root u k)) black (search rules) (search rules)
+    let black = rw eo at c.paint.ensures.painted in
+    (removed (strict g.met.N.Nodes s) _ (g.N.Nodes.cells s) (g.N.Nodes.cells c.cut-rest.new.visits.nodes.now)
+    (g.N.Nodes.cells c.paint.new.visits.nodes.now) _ c.args.root c.cut-rest.result.root c.cut-rest.result.fell
+    c.args.node u k (cut u (shrinks g s c.args.root u k)) black (search rules) (search rules)).tree
 
 pub returns-clause-frame : goal.returns-clause-frame
 returns-clause-frame g c = λ u k.
     let s = c.args.nodes.now in
     let cut = rw c.new-visits.ensures.nodes at c.cut-rest.ensures.rest in
     let eo : g.N.Nodes.order c.cut-rest.new.visits.nodes.now ≡ g.N.Nodes.order s = cc in
-    let black = rw eo at c.blacken.ensures.blackened in
-    removed_frame (g.N.Nodes.order s) (g.met.N.Nodes.transitive s) (g.met.N.Nodes.irreflexive s) (g.N.Nodes.cells s)
-    (g.N.Nodes.cells c.cut-rest.new.visits.nodes.now)
-    (g.N.Nodes.cells c.blacken.new.visits.nodes.now) _ c.args.root c.cut-rest.result.root c.cut-rest.result.fell
-    c.args.node u k (cut u (shrinks g s c.args.root u k)) black (search rules)
+    let black = rw eo at c.paint.ensures.painted in
+    (removed (strict g.met.N.Nodes s) _ (g.N.Nodes.cells s) (g.N.Nodes.cells c.cut-rest.new.visits.nodes.now)
+    (g.N.Nodes.cells c.paint.new.visits.nodes.now) _ c.args.root c.cut-rest.result.root c.cut-rest.result.fell
+    c.args.node u k (cut u (shrinks g s c.args.root u k)) black (search rules) refl).frame
 
 pub returns-clause-steps : goal.returns-clause-steps
 returns-clause-steps g c = λ u k.

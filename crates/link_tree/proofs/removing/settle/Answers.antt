@@ -1,6 +1,7 @@
 use Rattle.std.proofs.Common.{◌≡◌}
 use Rattle.link_tree.specs.Sides.{opposite}
 use Rattle.link_tree.proofs.Mending.{settle_done, settle_mended}
+use Rattle.link_tree.proofs.Keepers.{strict}
 use Rattle.link_tree.proofs.removing.settle.Goals as goal
 
 pub returns-then-below-clause-settled : goal.returns-then-below-clause-settled
@@ -10,7 +11,7 @@ returns-then-below-clause-settled g c = λ near far wn wf o.
     let es : c.other.result ≡ opposite c.args.side = c.other.ensures in
     let mend = rw (eo, es) at c.mend.ensures.mended in
     rw c.if-below.true
-    (settle_mended (g.N.Nodes.order s) (g.met.N.Nodes.transitive s) (g.met.N.Nodes.irreflexive s) c.args.side
+    (settle_mended (strict g.met.N.Nodes s) c.args.side
     (g.N.Nodes.cells s)
     (g.N.Nodes.cells c.set_child.new.self.nodes.now) (g.N.Nodes.cells c.mend.new.visits.nodes.now)
     c.args.parent near far c.args.below.root c.mend.result.root c.mend.result.fell wn wf o c.set_child.ensures.cells
@@ -20,7 +21,7 @@ pub returns-clause-settled : goal.returns-clause-settled
 returns-clause-settled g c = λ near far wn wf o.
     let s = c.args.visits.now.nodes.now in
     rw c.if-below.false
-    (settle_done (g.N.Nodes.order s) (g.met.N.Nodes.transitive s) (g.met.N.Nodes.irreflexive s) c.args.side
+    (settle_done (strict g.met.N.Nodes s) c.args.side
     (g.N.Nodes.cells s)
     (g.N.Nodes.cells c.set_child.new.self.nodes.now) c.args.parent near far c.args.below.root wn wf o
     c.set_child.ensures.cells)

@@ -3,17 +3,18 @@ use Rattle.link_tree.specs.Tree.{Tree, height}
 use Rattle.link_tree.specs.Nodes.{with_left, with_red}
 use Rattle.link_tree.specs.Shrinking.{Shrinks}
 use Rattle.link_tree.proofs.Trees.{some_same}
-use Rattle.link_tree.proofs.Taking.{uproot_last, uproot_more, right_of, HasRight}
+use Rattle.link_tree.proofs.Taking.{uproot_last, uproot_more}
+use Rattle.link_tree.proofs.TakingLeast.{child_tree, HasChild}
+use Rattle.link_tree.specs.declared.visits.Side.TheVariants.{Right}
+use Rattle.link_tree.proofs.Keepers.{strict}
 use Rattle.link_tree.proofs.removing.uproot.Goals as goal
 use Rattle.link_tree.proofs.removing.uproot.Goals.{After-child}
 use Rattle.link_tree.proofs.removing.uproot.Given.{Over}
 
-right_tree : (g : Over) (s : g.row.N.Denot) (at right : ℕ) (t : Tree) → Shrinks (g.N.Nodes.order s) (g.N.Nodes.cells s)
-    (Some at) t → (g.N.Nodes.cells s at).right ≡ Some right
-    → HasRight (g.N.Nodes.order s) (g.met.N.Nodes.transitive s) (g.met.N.Nodes.irreflexive s) (g.N.Nodes.cells s) at
-    right t
-right_tree g s at right t w e = right_of (g.N.Nodes.order s) (g.met.N.Nodes.transitive s) (g.met.N.Nodes.irreflexive s)
-    (g.N.Nodes.cells s) at right t w.tree w.ordered e
+right_tree : (g : Over) (s : g.row.N.Denot) (at right : ℕ) (t : Tree)
+    → Shrinks (g.N.Nodes.order s) (g.N.Nodes.cells s) (Some at) t → (g.N.Nodes.cells s at).right ≡ Some right
+    → HasChild (strict g.met.N.Nodes s) (g.N.Nodes.cells s) Right at right t
+right_tree g s at right t w e = child_tree (strict g.met.N.Nodes s) Right (g.N.Nodes.cells s) at right t w e
 
 -- what was read of the node
 record IsRead (g : Over) (s now : g.row.N.Denot) (at : ℕ) (red : Bool) (left right : Option ℕ) : Type 0 where
@@ -41,7 +42,7 @@ returns-in_default-clause-rest g c = λ u w.
     let s = c.args.visits.now.nodes.now in
     let h = g.N.Nodes.cells s in
     let sink = rw (r.here, r.left_is, r.red_is) at c.sink.ensures.sunk in
-    uproot_last (g.N.Nodes.order s) (g.met.N.Nodes.transitive s) (g.met.N.Nodes.irreflexive s) h
+    uproot_last (strict g.met.N.Nodes s) h
     (g.N.Nodes.cells c.sink.new.visits.nodes.now)
     c.args.at c.sink.result.root c.sink.result.fell u w.tree (sym r.right_is ∙ c.in_default.is) w.ordered sink
 
@@ -120,7 +121,7 @@ returns-clause-rest g c = λ u w.
     let set_red = c.set_red.ensures.cells
     ∙ ap (λ (o : Bool). with_red (g.N.Nodes.cells c.set_child.new.self.nodes.now) c.take_least-next.result.node o)
     r.red_is in
-    uproot_more (g.N.Nodes.order s) (g.met.N.Nodes.transitive s) (g.met.N.Nodes.irreflexive s) h
+    uproot_more (strict g.met.N.Nodes s) h
     (g.N.Nodes.cells c.take_least-next.new.visits.nodes.now) (g.N.Nodes.cells c.set_child.new.self.nodes.now)
     (g.N.Nodes.cells c.set_red.new.self.nodes.now) (g.N.Nodes.cells c.settle.new.visits.nodes.now)
     c.args.at right c.take_least-next.result.node c.take_least-next.result.rest.root c.settle.result.root

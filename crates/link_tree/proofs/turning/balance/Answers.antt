@@ -4,6 +4,7 @@ use Rattle.link_tree.specs.Sides.{opposite, child_of}
 use Rattle.link_tree.specs.Turning.{is_red_tree}
 use Rattle.link_tree.specs.declared.visits.Side.{Side}
 use Rattle.link_tree.proofs.Turns.{balance_outer, balance_inner, balance_none}
+use Rattle.link_tree.proofs.Keepers.{strict}
 use Rattle.link_tree.proofs.turning.balance.Goals as goal
 use Rattle.link_tree.proofs.turning.balance.Goals.{After-child-inner}
 use Rattle.link_tree.proofs.turning.balance.Given.{Over}
@@ -64,10 +65,10 @@ returns-then-is_red-clause-balanced g c = λ t w o.
     c.lift-risen.ensures.same.order e in
     let red = tells g s _ c.child-outer.result _ _ true c.is_red.ensures.value r.here refl c.if-is_red.true in
     let lift = rw e at c.lift-risen.ensures.lifted in
-    let black = rw eo at c.blacken.ensures.blackened in
-    balance_outer (g.N.Nodes.order s) (g.met.N.Nodes.transitive s) (g.met.N.Nodes.irreflexive s) c.args.side
+    let black = rw eo at c.paint.ensures.painted in
+    balance_outer (strict g.met.N.Nodes s) c.args.side
     (g.N.Nodes.cells s) (g.N.Nodes.cells c.lift-risen.new.visits.nodes.now)
-    (g.N.Nodes.cells c.blacken.new.visits.nodes.now) c.args.top c.in-Some.near c.lift-risen.result c.child-outer.result
+    (g.N.Nodes.cells c.paint.new.visits.nodes.now) c.args.top c.in-Some.near c.lift-risen.result c.child-outer.result
     t w o r.near_is r.top_black r.near_red r.outer_is red lift black
 
 pub returns-then-is_red-2-clause-balanced : goal.returns-then-is_red-2-clause-balanced
@@ -82,7 +83,7 @@ returns-then-is_red-2-clause-balanced g c = λ t w o.
     let red = tells g s _ c.child-inner.result _ _ true c.is_red-2.ensures.value e1 refl c.if-is_red-2.true in
     let lift1 = rw (e2, c.other-then-is_red-2.ensures) at c.lift-lower.ensures.lifted in
     let lift2 = rw eo at c.lift-risen-then-is_red-2.ensures.lifted in
-    balance_inner (g.N.Nodes.order s) (g.met.N.Nodes.transitive s) (g.met.N.Nodes.irreflexive s) c.args.side
+    balance_inner (strict g.met.N.Nodes s) c.args.side
     (g.N.Nodes.cells s) (g.N.Nodes.cells c.lift-lower.new.visits.nodes.now)
     (g.N.Nodes.cells c.set_child.new.self.nodes.now)
     (g.N.Nodes.cells c.lift-risen-then-is_red-2.new.visits.nodes.now) (g.N.Nodes.cells c.set_red.new.self.nodes.now)
@@ -98,5 +99,5 @@ returns-clause-balanced g c = λ t w o.
     let black = tells g s _ _ _ _ false c.is_red.ensures.value r.here r.outer_is c.if-is_red.false in
     let black2 = tells g s _ _ _ _ false c.is_red-2.ensures.value e1 r.inner_is c.if-is_red-2.false in
     rw e2
-    (balance_none (g.N.Nodes.order s) (g.met.N.Nodes.transitive s) (g.met.N.Nodes.irreflexive s) c.args.side
+    (balance_none (strict g.met.N.Nodes s) c.args.side
     (g.N.Nodes.cells s) c.args.top c.in-Some.near t w o r.near_is r.top_black r.near_red black black2)

@@ -3,6 +3,7 @@ use Rattle.link_tree.specs.Tree.{Cell}
 use Rattle.link_tree.specs.Sides.{opposite, child_of, with_child}
 use Rattle.link_tree.specs.declared.visits.Side.{Side}
 use Rattle.link_tree.proofs.Turns.{lift_step}
+use Rattle.link_tree.proofs.Keepers.{strict}
 use Rattle.link_tree.proofs.turning.lift.Goals as goal
 
 middle_is : (h h' : ℕ → Cell) (n : ℕ) (side other : Side) (link : Option ℕ) → link ≡ child_of other (h' n)
@@ -19,7 +20,7 @@ returns-clause-lifted g c = λ t w o.
     let s = c.args.visits.now.nodes.now in
     let h = g.N.Nodes.cells s in
     let child = c.in-Some.child in
-    lift_step (g.N.Nodes.order s) (g.met.N.Nodes.transitive s) (g.met.N.Nodes.irreflexive s) c.args.side h
+    lift_step (strict g.met.N.Nodes s) c.args.side h
     (g.N.Nodes.cells c.set_child-2.new.self.nodes.now)
     c.args.top child c.child-middle.result t w o (sym c.child.ensures.value ∙ c.in-Some.is)
     (middle_is h (g.N.Nodes.cells c.child.new.self.nodes.now) child c.args.side _ _ c.child-middle.ensures.value

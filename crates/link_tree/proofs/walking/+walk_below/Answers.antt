@@ -1,19 +1,21 @@
-use Rattle.std.proofs.Common.{◌≡◌, ◌≢◌, false, ℕ, ◌+◌, ◌-◌, ◌<◌, ◌^◌, true}
+use Rattle.std.proofs.Common.{◌≡◌, ℕ, ◌+◌, ◌-◌, ◌<◌, ◌^◌, true}
 use Rattle.std.proofs.Common.{Option, Some, length, sym, ap, ◌∙◌, arith, rules, of_calls}
 use Rattle.link_tree.specs.Tree.{Tree, nodes_of}
-use Rattle.link_tree.specs.Nodes.{is_in, leads}
+use Rattle.link_tree.specs.Nodes.{leads}
 use Rattle.link_tree.specs.Walking.{IsAhead}
 use Rattle.link_tree.proofs.Orders.{outside_parts}
 use Rattle.link_tree.proofs.Folding.{folds_join}
 use Rattle.link_tree.proofs.Trees.{some_same}
 use Rattle.link_tree.proofs.Walks.{ahead_at, AreAhead, both_ahead, BothAhead}
+use Rattle.link_tree.proofs.Keepers.{strict}
 use Rattle.link_tree.proofs.walking.+walk_below.Goals as goal
+use Rattle.link_tree.proofs.walking.+walk_below.Goals.{After-walk_below}
 use Rattle.link_tree.proofs.walking.+walk_below.Given.{Over}
 
 ahead : (g : Over) (s : g.row.N.Denot) (n levels : ℕ) (link here : Option ℕ) (t : Tree) → link ≡ Some n
     → IsAhead (g.N.Nodes.order s) (g.N.Nodes.cells s) link levels here t
     → AreAhead (g.N.Nodes.order s) (g.N.Nodes.cells s) n levels here (nodes_of t)
-ahead g s = ahead_at (g.N.Nodes.order s) (g.met.N.Nodes.transitive s) (g.met.N.Nodes.irreflexive s) (g.N.Nodes.cells s)
+ahead g s = ahead_at (strict g.met.N.Nodes s) (g.N.Nodes.cells s)
 
 pub walk_below-requires : goal.walk_below-requires
 walk_below-requires g t c =
@@ -34,28 +36,27 @@ walk_below-requires g t c =
       (search rules, (search rules, (search rules, (c.requires.callable, (good, tree))))),
     )
 
--- what is ahead of the two calls, of which the first leaves the walk at `later`
-both : (g : Over) (s s' s'' : g.row.N.Denot) (n levels : ℕ) (link left here right later before : Option ℕ) (t : Tree) →
-    link ≡ Some n
-    → IsAhead (g.N.Nodes.order s) (g.N.Nodes.cells s) link levels before t → here ≡ Some n
-    → ((u : Tree) → IsAhead (g.N.Nodes.order s') (g.N.Nodes.cells s') left (levels - 1) here u → (m : ℕ) → is_in m
-    (nodes_of u) ≡ false → here ≢ Some m → later ≢ Some m)
-    → s' ≡ s → s'' ≡ s → left ≡ (g.N.Nodes.cells s n).left → right ≡ (g.N.Nodes.cells s n).right
-    → BothAhead g.N.Nodes.order g.N.Nodes.cells n levels (nodes_of t) s' s'' left here right later
-both g s s' s'' n levels link left here right later before t is a =
-    both_ahead g.N.Nodes.order g.N.Nodes.cells n levels (nodes_of t) s s' s'' left here right later before
-    (ahead g s n levels link before t is a)
+-- what is ahead of the two calls, of which the first one is done
+both : (g : Over) (t : ℕ) (c : After-walk_below g t) (u : Tree)
+    → IsAhead (g.N.Nodes.order c.args.visits.now.nodes.now) (g.N.Nodes.cells c.args.visits.now.nodes.now) c.args.link
+    c.args.levels c.args.visits.now.at u
+    → BothAhead g.N.Nodes.order g.N.Nodes.cells c.in-Some.node c.args.levels (nodes_of u)
+    c.right-right.new.self.nodes.now c.walk_below.new.visits.nodes.now c.left-left.result c.right-right.new.self.at
+    c.right-right.result c.walk_below.new.visits.at
+both g t c u a =
+    let s = c.args.visits.now.nodes.now in
+    let n = c.in-Some.node in
+    let same : c.right-right.new.self.nodes.now ≡ s = c.right-right.ensures.nodes ∙ c.left-left.ensures.nodes in
+    both_ahead g.N.Nodes.order g.N.Nodes.cells n c.args.levels (nodes_of u) s _ _ _ _ _ _ c.args.visits.now.at
+    (ahead g s n c.args.levels c.args.link c.args.visits.now.at u c.in-Some.is a) c.right-right.ensures.at
+    c.walk_below.ensures.at same (c.walk_below.ensures.nodes ∙ same) c.left-left.ensures.value
+    (c.right-right.ensures.value ∙ ap (λ (x : g.row.N.Denot). (g.N.Nodes.cells x n).right) c.left-left.ensures.nodes)
 
 pub walk_below-requires-2 : goal.walk_below-requires-2
 walk_below-requires-2 g t c =
     let same : c.right-right.new.self.nodes.now ≡ c.args.visits.now.nodes.now = c.right-right.ensures.nodes ∙
     c.left-left.ensures.nodes in
-    let b = both g c.args.visits.now.nodes.now c.right-right.new.self.nodes.now c.walk_below.new.visits.nodes.now
-    c.in-Some.node c.args.levels c.args.link c.left-left.result c.right-right.new.self.at c.right-right.result
-    c.walk_below.new.visits.at c.args.visits.now.at c.requires.tree.0 c.in-Some.is c.requires.tree.1
-    c.right-right.ensures.at c.walk_below.ensures.at same (c.walk_below.ensures.nodes ∙ same)
-    c.left-left.ensures.value (c.right-right.ensures.value ∙ ap
-    (λ (x : g.row.N.Denot). (g.N.Nodes.cells x c.in-Some.node).right) c.left-left.ensures.nodes) in
+    let b = both g t (goal.at.walk_below-requires-2 g t c).After-walk_below c.requires.tree.0 c.requires.tree.1 in
     let e : c.walk_below.new.visits.nodes.now ≡ c.args.visits.now.nodes.now = c.walk_below.ensures.nodes ∙ same in
     let right : c.right-right.result ≡ (g.N.Nodes.cells c.args.visits.now.nodes.now c.in-Some.node).right =
     c.right-right.ensures.value ∙ ap (λ (x : g.row.N.Denot). (g.N.Nodes.cells x c.in-Some.node).right)
@@ -86,14 +87,7 @@ walk_below-requires-2 g t c =
 
 pub returns-clause-walked : goal.returns-clause-walked
 returns-clause-walked g t c = λ u a.
-    let same : c.right-right.new.self.nodes.now ≡ c.args.visits.now.nodes.now = c.right-right.ensures.nodes ∙
-    c.left-left.ensures.nodes in
-    let b = both g c.args.visits.now.nodes.now c.right-right.new.self.nodes.now c.walk_below.new.visits.nodes.now
-    c.in-Some.node c.args.levels c.args.link c.left-left.result c.right-right.new.self.at c.right-right.result
-    c.walk_below.new.visits.at c.args.visits.now.at u c.in-Some.is a c.right-right.ensures.at c.walk_below.ensures.at
-    same (c.walk_below.ensures.nodes ∙ same)
-    c.left-left.ensures.value (c.right-right.ensures.value ∙ ap
-    (λ (x : g.row.N.Denot). (g.N.Nodes.cells x c.in-Some.node).right) c.left-left.ensures.nodes) in
+    let b = both g t (goal.at.returns-clause-walked g t c).After-walk_below u a in
     rw b.nodes
     (folds_join (λ x k y. goal.F-step g x k tt y) c.args.visit.now (nodes_of b.left) c.walk_below.new.visit
     c.in-Some.node c.visit.new.self (nodes_of b.right) c.walk_below-2.new.visit
@@ -102,14 +96,7 @@ returns-clause-walked g t c = λ u a.
 
 pub returns-clause-steps : goal.returns-clause-steps
 returns-clause-steps g t c = λ u a.
-    let same : c.right-right.new.self.nodes.now ≡ c.args.visits.now.nodes.now = c.right-right.ensures.nodes ∙
-    c.left-left.ensures.nodes in
-    let b = both g c.args.visits.now.nodes.now c.right-right.new.self.nodes.now c.walk_below.new.visits.nodes.now
-    c.in-Some.node c.args.levels c.args.link c.left-left.result c.right-right.new.self.at c.right-right.result
-    c.walk_below.new.visits.at c.args.visits.now.at u c.in-Some.is a c.right-right.ensures.at c.walk_below.ensures.at
-    same (c.walk_below.ensures.nodes ∙ same)
-    c.left-left.ensures.value (c.right-right.ensures.value ∙ ap
-    (λ (x : g.row.N.Denot). (g.N.Nodes.cells x c.in-Some.node).right) c.left-left.ensures.nodes) in
+    let b = both g t (goal.at.returns-clause-steps g t c).After-walk_below u a in
     let comes = (ahead g c.args.visits.now.nodes.now c.in-Some.node c.args.levels c.args.link c.args.visits.now.at u
     c.in-Some.is a).comes in
     let goes = c.left-left.ensures.goes comes in
@@ -122,14 +109,7 @@ returns-clause-steps g t c = λ u a.
 pub returns-clause-at : goal.returns-clause-at
 returns-clause-at g t c = λ u a m out here.
     let n = c.in-Some.node in
-    let same : c.right-right.new.self.nodes.now ≡ c.args.visits.now.nodes.now = c.right-right.ensures.nodes ∙
-    c.left-left.ensures.nodes in
-    let b = both g c.args.visits.now.nodes.now c.right-right.new.self.nodes.now c.walk_below.new.visits.nodes.now
-    c.in-Some.node c.args.levels c.args.link c.left-left.result c.right-right.new.self.at c.right-right.result
-    c.walk_below.new.visits.at c.args.visits.now.at u c.in-Some.is a c.right-right.ensures.at c.walk_below.ensures.at
-    same (c.walk_below.ensures.nodes ∙ same)
-    c.left-left.ensures.value (c.right-right.ensures.value ∙ ap
-    (λ (x : g.row.N.Denot). (g.N.Nodes.cells x c.in-Some.node).right) c.left-left.ensures.nodes) in
+    let b = both g t (goal.at.returns-clause-at g t c).After-walk_below u a in
     let o = outside_parts m (nodes_of b.left) n (nodes_of b.right) (rw b.nodes at out) in
     let at_node = c.right-right.ensures.at in
     c.walk_below-2.ensures.at b.right b.right_ahead m o.right (c.walk_below.ensures.at b.left b.left_ahead m o.left

@@ -2,24 +2,30 @@ use Rattle.std.proofs.Common.{◌≡◌, ℕ, true, Option, None, arith}
 use Rattle.link_tree.specs.Tree.{Tree, IsSearchTree}
 use Rattle.link_tree.specs.Nodes.{leads}
 use Rattle.link_tree.specs.Walking.{IsAhead}
-use Rattle.link_tree.proofs.Limits.{height_limit}
+use Rattle.link_tree.proofs.Keepers.{low_tree}
 use Rattle.link_tree.proofs.walking.walk.Goals as goal
 use Rattle.link_tree.proofs.walking.walk.Given.{Over}
 
 -- the whole tree is ahead of a walk that stands nowhere
-ahead : (g : Over) (s : g.row.N.Denot) (link here : Option ℕ) (t : Tree) → IsSearchTree (g.N.Nodes.order s) (g.N.Nodes.cells s) link t
-    → leads (g.N.Nodes.is_node s) link ≡ true → here ≡ None → IsAhead (g.N.Nodes.order s) (g.N.Nodes.cells s) link 82 here t
+ahead : (g : Over) (s : g.row.N.Denot) (link here : Option ℕ) (t : Tree)
+    → IsSearchTree (g.N.Nodes.order s) (g.N.Nodes.cells s) link t
+    → leads (g.N.Nodes.is_node s) link ≡ true → here ≡ None
+    → IsAhead (g.N.Nodes.order s) (g.N.Nodes.cells s) link 82 here t
 ahead g s link here t k at_node nowhere =
-    let f = height_limit (g.met.N.Nodes.transitive s) (g.met.N.Nodes.irreflexive s) (g.met.N.Nodes.finite s) (g.met.N.Nodes.left_closed s) (g.met.N.Nodes.right_closed s) k at_node in
+    let f = low_tree g.met.N.Nodes s k at_node in
     record { tree = k.tree; ordered = k.ordered; low = omega arith; away = λ m i e. cc }
 
 pub walk_below-requires-clause-tree : goal.walk_below-requires-clause-tree
 walk_below-requires-clause-tree g c =
     let s = c.args.nodes.now in
     let t = c.requires.tree in
-    let low = height_limit (g.met.N.Nodes.transitive s) (g.met.N.Nodes.irreflexive s) (g.met.N.Nodes.finite s) (g.met.N.Nodes.left_closed s) (g.met.N.Nodes.right_closed s) t.1 c.requires.root in
-    let zero = c.new-visits.ensures.steps in
-    (t.0, rw c.new-visits.ensures.nodes (ahead g s c.args.root c.new-visits.result.at t.0 t.1 c.requires.root c.new-visits.ensures.at), omega arith)
+    let low = low_tree g.met.N.Nodes s t.1 c.requires.root in
+    let zero = c.new-visits.ensures.steps in (
+      t.0,
+      rw c.new-visits.ensures.nodes (ahead g s c.args.root c.new-visits.result.at t.0 t.1 c.requires.root
+          c.new-visits.ensures.at),
+      omega arith,
+    )
 
 pub returns : goal.returns
 returns g c = record {
@@ -32,7 +38,8 @@ returns g c = record {
       let s = c.args.nodes.now in
       let zero = c.new-visits.ensures.steps in
       let stepped = rw c.new-visits.ensures.nodes at c.walk_below.ensures.steps in
-      let spent = stepped u (ahead g s c.args.root c.new-visits.result.at u k c.requires.root c.new-visits.ensures.at) in
+      let spent = stepped u (ahead g s c.args.root c.new-visits.result.at u k c.requires.root c.new-visits.ensures.at)
+      in
       let told = c.steps.ensures in
       omega arith;
 }

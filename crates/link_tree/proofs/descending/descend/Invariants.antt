@@ -1,15 +1,17 @@
-use Rattle.std.proofs.Common.{◌≡◌, ◌-◌, ◌^◌, true}
+use Rattle.std.proofs.Common.{◌≡◌, ◌≤◌, ◌-◌, ◌^◌, true}
 use Rattle.link_tree.specs.Tree.{Tree, IsSearchTree}
 use Rattle.link_tree.specs.Nodes.{leads}
 use Rattle.link_tree.proofs.Seeking.{Seeking}
-use Rattle.link_tree.proofs.searching.find_first_not_before.Given as goal
+use Rattle.link_tree.proofs.descending.descend.Given as goal
 
 abbrev pub invariant-loop-link : goal.invariant-loop-link
 invariant-loop-link g l = record {
   same : l.visits.nodes.now ≡ l.nodes;
   good : leads (g.N.Nodes.is_node l.nodes) l.link ≡ true;
+  room : l.visits.steps ≤ 80;
   seeks : (t : Tree) → IsSearchTree (g.N.Nodes.order l.nodes) (g.N.Nodes.cells l.nodes) l.fn.root t
-      → Seeking (g.N.Nodes.order l.nodes) (g.N.Nodes.cells l.nodes) (g.N.Nodes.before l.nodes l.probe) t l.link l.found l.visits.at l.visits.steps;
+      → Seeking g.K.Notes.passed l.fn.start (g.N.Nodes.order l.nodes) (g.N.Nodes.cells l.nodes)
+      (g.N.Nodes.before l.nodes l.probe) t l.link l.found l.visits.at l.notes l.visits.steps;
 }
 
 abbrev pub decreases-loop-link : goal.decreases-loop-link

@@ -1,0 +1,73 @@
+//! The one way of a search down a tree, with what it keeps of the nodes that it passes.
+
+ghost use Rattle.std.specs.Prelude.{◌≡◌, ℕ, ◌+◌, ◌*◌, ◌<◌, ◌≤◌, ◌^◌, Bool, true, false, Option, Some, None, List, length};
+ghost use Rattle.link_tree.specs.Tree.{Tree, IsSearchTree, nodes_of, bits};
+ghost use Rattle.link_tree.specs.Nodes.{leads, first_not};
+ghost use Rattle.link_tree.specs.Searching.{path_length, noted};
+
+use crate::nodes::Nodes;
+use crate::visits::Visits;
+
+/// What a search keeps of the nodes that it passes.
+pub trait Notes: Copy {
+    // What is kept after one more node, of its number, whether it is red, and whether it stands before the probe.
+    ghost passed: { Self → ℕ → Bool → Bool → Self };
+
+    /// Passes the node that the search stands at.
+    fn pass<N: Nodes>(self, visits: &mut Visits<N>, node: u64, before: bool) -> Self
+        requires node { N.is_node visits.old.nodes.now node ≡ true }
+        requires at { visits.old.at ≡ Some node }
+        requires room { visits.old.steps + 1 < 2 ^ 64 }
+        ensures noted { result ≡ passed self node (N.cells visits.old.nodes.now node).red before }
+        ensures nodes { visits.new.nodes.now ≡ visits.old.nodes.now }
+        ensures at { visits.new.at ≡ Some node }
+        ensures steps { visits.new.steps ≡ visits.old.steps };
+}
+
+/// The node that was looked for, if there is one, what was kept of the way, and the steps that it took.
+#[derive(Clone, Copy)]
+pub struct Descent<K> {
+    pub node: Option<u64>,
+    pub notes: K,
+    pub steps: u64,
+}
+
+/// Looks for the first node that does not stand before the probe, and keeps notes of the nodes on the way, which goes
+/// on where that node is found to the end of the path.
+pub fn descend<N: Nodes, K: Notes>(
+    nodes: &N,
+    root: Option<u64>,
+    probe: &N::Probe,
+    start: K,
+) -> Descent<K>
+    requires root { leads (N.is_node nodes.now) root ≡ true }
+    requires tree { (t : Tree) × IsSearchTree (N.order nodes.now) (N.cells nodes.now) root t }
+    ensures first { (t : Tree) → IsSearchTree (N.order nodes.now) (N.cells nodes.now) root t
+        → result.node ≡ first_not (N.before nodes.now probe.now) (nodes_of t) }
+    ensures noted { (t : Tree) → IsSearchTree (N.order nodes.now) (N.cells nodes.now) root t
+        → result.notes ≡ noted K.passed (N.before nodes.now probe.now) start t }
+    ensures steps { (t : Tree) → IsSearchTree (N.order nodes.now) (N.cells nodes.now) root t
+        → result.steps ≤ 2 * bits (length (nodes_of t) + 1) }
+    ensures exact { (t : Tree) → IsSearchTree (N.order nodes.now) (N.cells nodes.now) root t
+        → result.steps ≡ path_length (N.before nodes.now probe.now) t }
+{
+    let mut visits = Visits::new(nodes);
+    let mut link = root;
+    let mut found = None;
+    let mut notes = start;
+    while let Some(node) = link {
+        let before = visits.before_probe(node, probe);
+        notes = notes.pass(&mut visits, node, before);
+        if before {
+            link = visits.right(node);
+        } else {
+            found = link;
+            link = visits.left(node);
+        }
+    }
+    Descent {
+        node: found,
+        notes,
+        steps: visits.steps(),
+    }
+}

@@ -178,15 +178,16 @@ going_first k v c h at ps s =
       left = refl;
     }
 
-module _ {K V : Type 0} (k : Plain K) (v : Plain V) (kl : Laws k) (old now : Cut) (h at : ℕ) (ps : List (Pair K V)) (g : IsGoing k v old now h at ps) where
+module _ {K V : Type 0} {k : Plain K} {v : Plain V} (kl : Laws k) {old now : Cut} {h at : ℕ} {ps : List (Pair K V)}
+    (g : IsGoing k v old now h at ps) where
   -- the node at the root is that of a pair
-  pub root_pair : (node : ℕ) → link_at (bytes_of now.bytes) (h + at) ≡ Some node → AtNode k v (λ (q : Pair K V). pair_at k.order g.pairs q.key ≡ Some q) node
-  root_pair node e =
+  pub root_pair : {node : ℕ} → link_at (bytes_of now.bytes) (h + at) ≡ Some node → AtNode (λ (q : Pair K V). pair_at k.order g.pairs q.key ≡ Some q) node
+  root_pair {node} e =
       let s = g.holds in
       let i = root_in (cells_of (bytes_of now.bytes)) node s.map.tree.tree (subst (λ (o : Option ℕ). IsTree (cells_of (bytes_of now.bytes)) o s.map.tree.tree) e s.map.tree.linked) in
-      at_node k v (λ (q : Pair K V). pair_at k.order g.pairs q.key ≡ Some q) g.pairs node (ap (λ ms. is_in node ms) (sym s.map.tree.lists) ∙ i) (own_found k.order kl.irreflexive kl.transitive g.pairs s.rising)
+      at_node (λ (q : Pair K V). pair_at k.order g.pairs q.key ≡ Some q) g.pairs node (ap (λ ms. is_in node ms) (sym s.map.tree.lists) ∙ i) (own_found k.order kl.irreflexive kl.transitive g.pairs s.rising)
 
-  module _ (new : Cut) (key : K) (p : Pair K V) (has : pair_at k.order g.pairs key ≡ Some p) (e : IsErased k v now new h at g.pairs p key) where
+  module _ {new : Cut} {key : K} {p : Pair K V} (has : pair_at k.order g.pairs key ≡ Some p) (e : IsErased k v now new h at g.pairs p key) where
     live_new : live_of new.bytes ≡ released (live_of now.bytes) (handle p.node)
     live_new = lay_out_one current new.bytes (released (live_of now.bytes) (handle p.node)) e.live
 

@@ -11,7 +11,7 @@ use Rattle.offset_link.specs.Link.{link_at}
 use Rattle.link_tree.specs.Tree.{Tree, IsTree, IsSearchTree, nodes_of, rises}
 use Rattle.link_tree.specs.Nodes.{first_not, is_in, last_before, leads}
 use Rattle.link_tree.proofs.Laws.{above_more, all_from, bits_most, bounds_height, reads_off, root_in, tree_limit, tree_same}
-use Rattle.best_fit.specs.Extents.{Extent, handle, holds, is_proper}
+use Rattle.best_fit.specs.Extents.{Extent, LiveSet, handle, holds, is_proper}
 use Rattle.best_fit.specs.FreeTree.{cells_of}
 use Rattle.best_fit.specs.Heap.{live_of}
 use Rattle.best_fit.specs.Table.{same_role, serves}
@@ -33,6 +33,13 @@ pub record Laws {T : Type 0} (p : Plain T) : Type 0 where
   pub irreflexive : (x : T) → p.order x x ≡ false
   pub transitive : (x y z : T) → p.order x y ≡ true → p.order y z ≡ true → p.order x z ≡ true
 
+-- the same of those that a trait bound has
+pub laws_of : {T : Type 0} (p : Plain T) → ((x : T) → p.is_value x ≡ true → length (p.spelling x) ≡ p.SIZE)
+    → ((x : T) → p.is_value x ≡ true → p.reading (p.spelling x) ≡ Some x) → ((x : T) → p.order x x ≡ false)
+    → ((x y z : T) → p.order x y ≡ true → p.order y z ≡ true → p.order x z ≡ true) → Laws p
+laws_of p spells reads irreflexive transitive =
+    record { spells = spells; reads = reads; irreflexive = irreflexive; transitive = transitive }
+
 -- the value that bytes spell
 abbrev pub value_of : {T : Type 0} → Plain T → List ℕ → Option T
 value_of p = value_in p.reading p.is_value p.spelling
@@ -40,6 +47,28 @@ value_of p = value_in p.reading p.is_value p.spelling
 -- a value that is spelled is read
 pub read_spelled : {T : Type 0} (p : Plain T) → Laws p → (m : Memory) (at : ℕ) (x : T) → p.is_value x ≡ true → Has m at (p.spelling x) → value_of p (read m at p.SIZE) ≡ Some x
 read_spelled p l m at x one h = value-spelled p.reading p.is_value p.spelling l.reads x (read m at p.SIZE) one (sym h ∙ ap (read m at) (l.spells x one))
+
+-- a pair of a map: its key, its value, and what its block holds
+pub record PairParts {K V : Type 0} (kp : Plain K) (vp : Plain V) (p : Pair K V) : Type 0 where
+  pub key : kp.is_value p.key ≡ true
+  pub value : vp.is_value p.value ≡ true
+  pub serves : serves p.node Node (16 + kp.SIZE + vp.SIZE) ≡ true
+  pub role : same_role p.node.role Node ≡ true
+  pub long : 16 + kp.SIZE + vp.SIZE + 16 ≤ p.node.len
+
+pub pair_parts : {K V : Type 0} {kp : Plain K} {vp : Plain V} {live : LiveSet} {h : ℕ} {p : Pair K V}
+    → IsPairIn kp vp live h p → PairParts kp vp p
+pair_parts {kp = kp} {vp = vp} {p = p} i =
+    let parts = and_parts (kp.is_value p.key && vp.is_value p.value) (serves p.node Node (16 + kp.SIZE + vp.SIZE)) i.good in
+    let values = and_parts (kp.is_value p.key) (vp.is_value p.value) parts.0 in
+    let two = and_parts (same_role p.node.role Node) (holds p.node (16 + kp.SIZE + vp.SIZE)) parts.1 in
+    record {
+      key = values.0;
+      value = values.1;
+      serves = parts.1;
+      role = two.0;
+      long = leb-true (16 + kp.SIZE + vp.SIZE + 16) p.node.len two.1;
+    }
 
 -- the block that is found is one of those
 pub found_in : (xs : List Extent) (h : ℕ) (x : Extent) → find (λ (y : Extent). handle y == h) xs ≡ Some x → In x xs
@@ -106,7 +135,8 @@ length-nodes (p ∷ ps) = ap suc (length-nodes ps)
 
 -- ---- the tree of a map
 
-module _ {K V : Type 0} (kp : Plain K) (vp : Plain V) (laws : Laws kp) (c : Cut) (h at : ℕ) (ps : List (Pair K V)) (s : HoldsMap kp vp c.bytes h at ps) where
+module _ {K V : Type 0} {kp : Plain K} {vp : Plain V} (laws : Laws kp) (c : Cut) {h at : ℕ} {ps : List (Pair K V)}
+    (s : HoldsMap kp vp c.bytes h at ps) where
   abbrev len : ℕ
   len = 16 + kp.SIZE
 
@@ -130,12 +160,10 @@ module _ {K V : Type 0} (kp : Plain K) (vp : Plain V) (laws : Laws kp) (c : Cut)
 
   pub pair_block : (p : Pair K V) → IsPairIn kp vp (live_of c.bytes) h p → is_block_in (16 + kp.SIZE) (live_of c.bytes) (pair_node p) ≡ true
   pair_block p i =
-      let parts = and_parts (kp.is_value p.key && vp.is_value p.value) (serves p.node Node (16 + kp.SIZE + vp.SIZE)) i.good in
-      let two = and_parts (same_role p.node.role Node) (holds p.node (16 + kp.SIZE + vp.SIZE)) parts.1 in
-      let long = leb-true (16 + kp.SIZE + vp.SIZE + 16) p.node.len two.1 in
+      let q = pair_parts i in let long = q.long in
       any_at (λ (x : Extent). (handle x == pair_node p) && serves x Node (16 + kp.SIZE)) (live_of c.bytes).extents p.node (pair_in p i)
       (and_from (handle p.node == pair_node p) (serves p.node Node (16 + kp.SIZE)) (eq-eqb (handle p.node) (pair_node p) refl)
-      (and_from (same_role p.node.role Node) (holds p.node (16 + kp.SIZE)) two.0 (le-leb (16 + kp.SIZE + 16) p.node.len (omega arith))))
+      (and_from (same_role p.node.role Node) (holds p.node (16 + kp.SIZE)) q.role (le-leb (16 + kp.SIZE + 16) p.node.len (omega arith))))
 
   pub good : Good (16 + kp.SIZE) (nodes_of s.map.tree.tree) c
   good =
@@ -154,10 +182,8 @@ module _ {K V : Type 0} (kp : Plain K) (vp : Plain V) (laws : Laws kp) (c : Cut)
       → key_of (value_of kp) kp.SIZE (nodes_of s.map.tree.tree) c (pair_node p) ≡ Some p.key
   unfolding key_of key_at
   key_read p i k b =
-      let parts = and_parts (kp.is_value p.key && vp.is_value p.value) (serves p.node Node (16 + kp.SIZE + vp.SIZE)) k.good in
-      let values = and_parts (kp.is_value p.key) (vp.is_value p.value) parts.0 in
       cond-true (is_pair_node len ns c (pair_node p)) (key_at (value_of kp) kp.SIZE (bytes_of c.bytes) (pair_node p)) None (node_here (pair_node p) i)
-      ∙ read_spelled kp laws (bytes_of c.bytes) (handle p.node + 16) p.key values.0 b.0
+      ∙ read_spelled kp laws (bytes_of c.bytes) (handle p.node + 16) p.key (pair_parts k).key b.0
 
   keys_from : (qs : List (Pair K V)) → list_all (λ n. is_in n (nodes_of s.map.tree.tree)) (nodes_of_pairs qs) ≡ true → AllByRecursion (IsPairIn kp vp (live_of c.bytes) h) qs
       → AllByRecursion (IsPairAt kp.SIZE kp.spelling vp.spelling (bytes_of c.bytes)) qs → HaveKeys (key_of (value_of kp) kp.SIZE (nodes_of s.map.tree.tree) c) qs

@@ -7,7 +7,7 @@ use Rattle.link_tree.specs.Nodes.{is_in}
 use Rattle.best_fit.specs.Extents.{Extent, LiveSet, handle, end_of}
 use Rattle.best_fit.specs.Heap.{Keeps, SameBlock, is_live_in, live_of}
 use Rattle.seg_map.specs.PairNodes.{Kept, is_kept, is_link_byte, is_other, kept_of, lies_in_block}
-use Rattle.seg_map.specs.PairLaws.{Good, In}
+use Rattle.seg_map.specs.PairLaws.{Good, In, PairNode}
 use Rattle.seg_map.proofs.PairSteps.{any_at, block_apart}
 
 -- the live set is kept
@@ -42,7 +42,8 @@ pub record IsOther (ns : List ℕ) (live : LiveSet) (x : Extent) : Type 0 where
   pub listed : In x live.extents
   pub no_node : is_in (handle x) ns ≡ false
 
-module _ (len : ℕ) (ns : List ℕ) (c d : Cut) (long : 16 ≤ len) (good : Good len ns c) (same : kept_of ns d ≡ kept_of ns c) where
+module _ {len : ℕ} {ns : List ℕ} {c : Cut} (d : Cut) (good : Good len ns c) (same : kept_of ns d ≡ kept_of ns c)
+    (long : 16 ≤ len) where
   pub kept_live : live_of d.bytes ≡ live_of c.bytes
   unfolding kept_of
   kept_live = ap (λ (k : Kept). k.live) same
@@ -105,7 +106,8 @@ module _ (len : ℕ) (ns : List ℕ) (c d : Cut) (long : 16 ≤ len) (good : Goo
     where
       apart : (n : ℕ) → is_in n ns ≡ true → (k : ℕ) → handle x ≤ k → k < end_of x → (k < n) ⊎ (n + 16 ≤ k)
       apart n i k low high =
-          elim (block_apart len ns c n x (record { good = good; listed = i }) o.listed (λ e. both_ways (is_in (handle x) ns) o.no_node (ap (λ m. is_in m ns) e ∙ i))) [
+          let q : PairNode len ns c n = record { good = good; listed = i } in
+          elim (block_apart x q o.listed (λ e. both_ways (is_in (handle x) ns) o.no_node (ap (λ m. is_in m ns) e ∙ i))) [
             | inl l ↦ inl (omega arith)
             | inr l ↦ inr (omega arith)
           ]

@@ -12,7 +12,7 @@ use Rattle.best_fit.proofs.Laws.{changed-live, laid-heap}
 use Rattle.seg_types.specs.declared.plain.Plain.{Ghosts as Plain}
 use Rattle.seg_map.specs.Changing.{IsHeaded, IsNew}
 
-module _ (a b c d : Cut) (at : ℕ) (root : Option ℕ) (count : ℕ) (first : IsChanged current a b at 8) (link : link_at (bytes_of b.bytes) at ≡ root)
+module _ {a b c d : Cut} {at : ℕ} {root : Option ℕ} {count : ℕ} (first : IsChanged current a b at 8) (link : link_at (bytes_of b.bytes) at ≡ root)
     (second : IsChanged current b c (at + 8) 8) (counted : word_at (bytes_of c.bytes) (at + 8) ≡ count)
     (third : IsChanged current c d (at + 16) 8) (zero : word_at (bytes_of d.bytes) (at + 16) ≡ 0) where
   live_d : live_of c.bytes ≡ live_of a.bytes
@@ -35,8 +35,8 @@ module _ (a b c d : Cut) (at : ℕ) (root : Option ℕ) (count : ℕ) (first : I
       }
 
 -- a map without pairs
-pub is_new : {K V : Type 0} (k : Plain K) (v : Plain V) (a d : Cut) (h at : ℕ) → at % 8 ≡ 0 → IsTrue (has_room (live_of a.bytes) h (at + 24)) → IsHeaded a d (h + at) None 0 → IsNew k v a d h at
-is_new {K} {V} k v a d h at whole room w =
+pub is_new : {K V : Type 0} (k : Plain K) (v : Plain V) {a d : Cut} (h at : ℕ) → at % 8 ≡ 0 → IsTrue (has_room (live_of a.bytes) h (at + 24)) → IsHeaded a d (h + at) None 0 → IsNew k v a d h at
+is_new {K} {V} k v {a} {d} h at whole room w =
     record {
       change = w.change;
       map = record {

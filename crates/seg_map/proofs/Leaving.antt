@@ -1,6 +1,6 @@
 -- A pair leaves the map.
 use Rattle.std.proofs.Common.{◌≡◌, refl, sym, ap, subst, ◌∙◌, ℕ, ◌+◌, ◌*◌, ◌%◌, ◌≤◌, ◌≢◌, inl, inr, Bool, true, false, List, [], ◌∷◌, length, arith, ◌==◌, IsTrue}
-use Rattle.std.specs.Prelude.{Option, Some, None, MatchOption, IfSome}
+use Rattle.std.specs.Prelude.{Option, Some, None, IfSome}
 use Rattle.std.specs.List.{AllByRecursion}
 use Rattle.std.proofs.lemmas.Bool.{both_ways, eqb-true, eq-eqb, false≢true, or_cases, or_left, or_right}
 use Rattle.raw_region.specs.Format.{current}
@@ -23,7 +23,7 @@ use Rattle.seg_map.specs.Linking.{CanUnlink, IsKeyTree, Unlinked, keys_in}
 use Rattle.seg_map.specs.Changing.{IsBesideMap, IsErased, IsHeaded, IsTaken}
 use Rattle.seg_map.specs.Searches.{exit_in}
 use Rattle.seg_map.proofs.Entering.{Laws, count_pairs, found_in, good, keys, listed}
-use Rattle.seg_map.proofs.Searching.{lent_leads, lent_own, lent_tree}
+use Rattle.seg_map.proofs.Searching.{lent_own, lent_tree}
 use Rattle.seg_map.proofs.PairLists.{in_nodes, none_left, not_among, other_nodes, removed_all, removed_length, removed_rising, without_nodes}
 use Rattle.seg_map.proofs.PairSteps.{all_in, any_at, in_others, target_whole}
 use Rattle.seg_map.proofs.Rewriting.{beside, rewritten}
@@ -54,21 +54,25 @@ nodes_in ms (p ∷ ps) f = (
   nodes_in ms ps (λ m i. f m (or_right (m == pair_node p) (is_in m (nodes_of_pairs ps)) i)),
 )
 
-module _ {K V : Type 0} (kp : Plain K) (vp : Plain V) (kl : Laws kp) (vl : Laws vp) (c : Cut) (h at : ℕ) (root : Option ℕ) (ps : List (Pair K V)) (s : HoldsMap kp vp c.bytes h at ps) (is : root ≡ link_at (bytes_of c.bytes) (h + at))
-    (key : K) (p : Pair K V) (has : pair_at kp.order ps key ≡ Some p) where
-  ns_is : own_nodes c.bytes root None ≡ nodes_of s.map.tree.tree
-  ns_is = lent_own kp vp kl c h at ps s root (own_nodes c.bytes root None) is refl
+module _ {K V : Type 0} {kp : Plain K} {vp : Plain V} (kl : Laws kp) (c : Cut) {h at : ℕ} {root : Option ℕ}
+    {ps : List (Pair K V)} (s : HoldsMap kp vp c.bytes h at ps) (is : root ≡ link_at (bytes_of c.bytes) (h + at))
+    (key : K) {p : Pair K V} (has : pair_at kp.order ps key ≡ Some p) where
+  abbrev lent : List ℕ
+  lent = own_nodes c.bytes root None
+
+  ns_is : lent ≡ nodes_of s.map.tree.tree
+  ns_is = lent_own kl c s is refl
 
   in_tree : is_in (pair_node p) (nodes_of s.map.tree.tree) ≡ true
-  in_tree = ap (λ ms. is_in (pair_node p) ms) (listed kp vp kl c h at ps s) ∙ in_nodes kp.order ps key p has
+  in_tree = ap (λ ms. is_in (pair_node p) ms) (listed kl c s) ∙ in_nodes kp.order ps key p has
 
-  key_tree : IsKeyTree kp (own_nodes c.bytes root None) c root s.map.tree.tree
-  key_tree = record { tree = lent_tree kp vp kl c h at ps s root (own_nodes c.bytes root None) is refl; leads = lent_leads kp vp kl c h at ps s root (own_nodes c.bytes root None) is refl }
+  key_tree : IsKeyTree kp lent c root s.map.tree.tree
+  key_tree = lent_tree kl c s is refl
 
-  pub can_unlink : (start : Option ℕ) (node : ℕ) → pair_node p ≡ node
+  pub can_unlink : (start : Option ℕ) {node : ℕ} → pair_node p ≡ node
       → IfSome start (λ n. exit_in kp c node s.map.tree.tree ≡ Some n)
-      → CanUnlink kp (own_nodes c.bytes root None) c root start node
-  can_unlink start node e begins = record {
+      → CanUnlink kp lent c root start node
+  can_unlink start {node} e begins = record {
     shape = s.map.tree.tree;
     tree = key_tree;
     listed = ap (λ n. is_in n (nodes_of s.map.tree.tree)) (sym e) ∙ in_tree;
@@ -77,42 +81,44 @@ module _ {K V : Type 0} (kp : Plain K) (vp : Plain V) (kl : Laws kp) (vl : Laws 
         (λ n. exit_of (comes_before kp.order (keys_in kp ms c)) node s.map.tree.tree ≡ Some n)) (sym ns_is) begins;
   }
 
-  module _ (d : Cut) (node : ℕ) (here : pair_node p ≡ node) (top : Option ℕ) (steps : ℕ) (u : Unlinked kp (own_nodes c.bytes root None) c d root node top steps) where
+  module _ {d : Cut} {node : ℕ} (here : pair_node p ≡ node) {top : Option ℕ} {steps : ℕ} (u : Unlinked kp lent c d root node top steps) where
     pub live_left : live_of d.bytes ≡ live_of c.bytes
-    live_left = live_stays c d (own_nodes c.bytes root None) (own_nodes c.bytes root None) u.kept
+    live_left = live_stays c d lent lent u.kept
 
     pub top_whole : IfSome top (λ t. t % 16 ≡ 0)
-    top_whole = let r = u.tree s.map.tree.tree key_tree in target_whole (16 + kp.SIZE) (own_nodes c.bytes root None) d top r.1.leads
+    top_whole = let r = u.tree s.map.tree.tree key_tree in target_whole (16 + kp.SIZE) lent d top r.1.leads
 
-    good_here : Good (16 + kp.SIZE) (own_nodes c.bytes root None) c
-    good_here = subst (λ ms. Good (16 + kp.SIZE) ms c) (sym ns_is) (good kp vp kl c h at ps s)
+    good_here : Good (16 + kp.SIZE) lent c
+    good_here = subst (λ ms. Good (16 + kp.SIZE) ms c) (sym ns_is) (good kl c s)
 
-    all_own : own_nodes c.bytes root None ≡ nodes_of_pairs ps
-    all_own = ns_is ∙ listed kp vp kl c h at ps s
+    all_own : lent ≡ nodes_of_pairs ps
+    all_own = ns_is ∙ listed kl c s
 
-    off : is_in h (own_nodes c.bytes root None) ≡ false
+    off : is_in h lent ≡ false
     off = ap (is_in h) all_own ∙ apart_all kp vp (live_of c.bytes) h ps s.pairs
 
     -- the map without the pair
-    pub taken : (e : Cut) (n : ℕ) → n + 1 ≡ length ps → IsHeaded d e (h + at) top n → IsTaken kp vp c e h at ps key
-    taken e n count head =
+    pub taken : Laws vp → {e : Cut} {n : ℕ} → n + 1 ≡ length ps → IsHeaded d e (h + at) top n → IsTaken kp vp c e h at ps key
+    taken vl {e} {n} count head =
         let r = u.tree s.map.tree.tree key_tree in
         let lists : nodes_of r.0 ≡ nodes_of_pairs (remove_pair kp.order ps key) =
-        r.2 ∙ (λ i. without (sym here i) (listed kp vp kl c h at ps s i))
-        ∙ without_nodes kp.order kl.irreflexive kl.transitive (keys_in kp (nodes_of s.map.tree.tree) c) p key ps (keys kp vp kl c h at ps s) s.rising has in
+        r.2 ∙ (λ i. without (sym here i) (listed kl c s i))
+        ∙ without_nodes kp.order kl.irreflexive kl.transitive (keys_in kp (nodes_of s.map.tree.tree) c) p key ps (keys kl c s) s.rising has in
         let gone = removed_length kp.order ps key p has in
         record {
           live = subst (LaysOut current e.bytes) live_left head.change.live;
-          beside = subst (IsBesideMap c e (h + at)) all_own (beside kp vp kl vl c d e h at (own_nodes c.bytes root None) s.heap good_here u.kept s.room off top n head);
-          map = rewritten kp vp kl vl c d e h at (own_nodes c.bytes root None) s.heap good_here u.kept s.room off top n head (remove_pair kp.order ps key) r.0 r.1 lists
+          beside = subst (IsBesideMap c e (h + at)) all_own (beside kl vl h at s.heap good_here u.kept s.room off head);
+          map = rewritten kl vl h at s.heap good_here u.kept s.room off head (remove_pair kp.order ps key) r.1 lists
               (removed_all kp.order (IsPairIn kp vp (live_of c.bytes) h) ps key s.pairs)
-              (in_from (own_nodes c.bytes root None) (remove_pair kp.order ps key) (removed_all kp.order (λ q. is_in (pair_node q) (own_nodes c.bytes root None) ≡ true) ps key (nodes_in (own_nodes c.bytes root None) ps (λ m i. ap (is_in m) all_own ∙ i))))
+              (in_from lent (remove_pair kp.order ps key) (removed_all kp.order (λ q. is_in (pair_node q) lent ≡ true) ps key (nodes_in lent ps (λ m i. ap (is_in m) all_own ∙ i))))
               s.aligned (removed_rising kp.order kl.transitive ps key s.rising) (removed_all kp.order (IsPairAt kp.SIZE kp.spelling vp.spelling (bytes_of c.bytes)) ps key s.map.pairs) (omega (arith, gone, count));
         }
 
 -- the block of a pair that is gone is given back
-module _ {K V : Type 0} (kp : Plain K) (vp : Plain V) (kl : Laws kp) (vl : Laws vp) (c e f : Cut) (h at : ℕ) (ps : List (Pair K V)) (s : HoldsMap kp vp c.bytes h at ps) (key : K) (p : Pair K V) (has : pair_at kp.order ps key ≡ Some p)
-    (node : ℕ) (here : pair_node p ≡ node) (t : IsTaken kp vp c e h at ps key) (r : IsReleased current e f node) where
+module _ {K V : Type 0} {kp : Plain K} {vp : Plain V} (kl : Laws kp) (vl : Laws vp) {c e f : Cut} {h at : ℕ}
+    {ps : List (Pair K V)} (s : HoldsMap kp vp c.bytes h at ps) {key : K} {p : Pair K V}
+    (has : pair_at kp.order ps key ≡ Some p) {node : ℕ} (here : pair_node p ≡ node) (t : IsTaken kp vp c e h at ps key)
+    (r : IsReleased current e f node) where
   live_is : live_of e.bytes ≡ live_of c.bytes
   live_is = lay_out_one current e.bytes (live_of c.bytes) t.live
 
@@ -149,36 +155,30 @@ module _ {K V : Type 0} (kp : Plain K) (vp : Plain V) (kl : Laws kp) (vl : Laws 
               let k = all_in (SameBlock (bytes_of e.bytes) (bytes_of f.bytes)) (others node (live_of e.bytes).extents) x r.keeps.blocks (in_others node x (live_of e.bytes).extents listed' apart) in
               record { payload = λ n a b g. k.payload.at n a b ∙ q.payload n a b g; colour = k.colour ∙ q.colour };
         };
-        map = map_stays kp vp kl vl e f h at (remove_pair kp.order ps key) t.map (laid-heap f.bytes (released (live_of e.bytes) node) r.live)
-            (subst (λ l. IsTrue (has_room l h (at + 24))) (sym (released-live current e f node r)) (found-room (released (live_of e.bytes) node) h (at + 24) room.extent (found-less h node room.extent (live_of e.bytes).extents other room.found) room.room))
+        map = map_stays kl vl e f t.map (laid-heap f.bytes (released (live_of e.bytes) node) r.live) (subst (λ l. IsTrue (has_room l h (at + 24))) (sym (released-live current e f node r)) (found-room (released (live_of e.bytes) node) h (at + 24) room.extent (found-less h node room.extent (live_of e.bytes).extents other room.found) room.room))
             (record { at = λ n a b. same.payload.at n (omega arith) (omega arith) })
             (stills (remove_pair kp.order ps key) t.map.pairs (other_nodes node (remove_pair kp.order ps key) gone));
       }
     where
       gone : is_in node (nodes_of_pairs (remove_pair kp.order ps key)) ≡ false
       gone =
-          let w = without_nodes kp.order kl.irreflexive kl.transitive (keys_in kp (nodes_of s.map.tree.tree) c) p key ps (keys kp vp kl c h at ps s) s.rising has in
+          let w = without_nodes kp.order kl.irreflexive kl.transitive (keys_in kp (nodes_of s.map.tree.tree) c) p key ps (keys kl c s) s.rising has in
           ap (is_in node) (sym w) ∙ ap (λ n. is_in node (without n (nodes_of_pairs ps))) here ∙ none_left node (nodes_of_pairs ps)
 
--- an answer that is matched
-pub match_none : {T : Type 0} (o : Option T) (P : Type 0) (Q : T → Type 0) → o ≡ None → P → MatchOption o P Q
-match_none o P Q e p = subst (λ x. MatchOption x P Q) (sym e) p
-
-pub match_some : {T : Type 0} (o : Option T) (P : Type 0) (Q : T → Type 0) (x : T) → o ≡ Some x → Q x → MatchOption o P Q
-match_some o P Q x e q = subst (λ y. MatchOption y P Q) (sym e) q
-
-pub removed_one : {K V : Type 0} (less : K → K → Bool) (ps : List (Pair K V)) (key : K) (p : Pair K V) → pair_at less ps key ≡ Some p → 1 ≤ length ps
-removed_one less ps key p e = let l = removed_length less ps key p e in omega (arith, l)
-
 -- the steps of the tree
-pub few_all : {K V : Type 0} (kp : Plain K) (vp : Plain V) (kl : Laws kp) (c : Cut) (h at : ℕ) (root : Option ℕ) (ps : List (Pair K V)) (s : HoldsMap kp vp c.bytes h at ps) (is : root ≡ link_at (bytes_of c.bytes) (h + at))
-    (d : Cut) (node : ℕ) (top : Option ℕ) (steps : ℕ) → Unlinked kp (own_nodes c.bytes root None) c d root node top steps → steps ≤ 32 * bits (length ps + 1) + 32
-few_all kp vp kl c h at root ps s is d node top steps u =
-    subst (λ n. steps ≤ 32 * bits (n + 1) + 32) (count_pairs kp vp kl c h at ps s)
-    (u.few s.map.tree.tree (record { tree = lent_tree kp vp kl c h at ps s root (own_nodes c.bytes root None) is refl; leads = lent_leads kp vp kl c h at ps s root (own_nodes c.bytes root None) is refl }))
+pub few_all : {K V : Type 0} {kp : Plain K} {vp : Plain V} (kl : Laws kp) (c : Cut) {h at : ℕ} {root : Option ℕ}
+    {ps : List (Pair K V)} (s : HoldsMap kp vp c.bytes h at ps) → root ≡ link_at (bytes_of c.bytes) (h + at)
+    → {d : Cut} {node : ℕ} {top : Option ℕ} {steps : ℕ} → Unlinked kp (own_nodes c.bytes root None) c d root node top steps
+    → steps ≤ 32 * bits (length ps + 1) + 32
+few_all kl c s is {steps = steps} u =
+    subst (λ n. steps ≤ 32 * bits (n + 1) + 32) (count_pairs kl c s) (u.few s.map.tree.tree (lent_tree kl c s is refl))
 
--- the block of a pair is in use
-pub pair_live : {K V : Type 0} (kp : Plain K) (vp : Plain V) (b : List ℕ) (h : ℕ) (ps : List (Pair K V)) (key : K) (p : Pair K V) → AllByRecursion (IsPairIn kp vp (live_of b) h) ps → pair_at kp.order ps key ≡ Some p → IsTrue (is_live_in (live_of b) (pair_node p))
-pair_live {K} {V} kp vp b h ps key p a e =
-    let n = at_node kp vp (IsPairIn kp vp (live_of b) h) ps (pair_node p) (in_nodes kp.order ps key p e) a in
-    any_at (λ (x : Extent). handle x == pair_node p) (live_of b).extents n.pair.node (found_in (live_of b).extents (handle n.pair.node) n.pair.node n.holds.listed) (eq-eqb (handle n.pair.node) (pair_node p) n.at)
+-- the block of a pair is in use, also where the pair is gone
+pub gone_live : {K V : Type 0} {kp : Plain K} {vp : Plain V} {c e : Cut} {h at : ℕ} {ps : List (Pair K V)}
+    (s : HoldsMap kp vp c.bytes h at ps) {key : K} {p : Pair K V} → pair_at kp.order ps key ≡ Some p
+    → {node : ℕ} → pair_node p ≡ node → IsTaken kp vp c e h at ps key → IsTrue (is_live_in (live_of e.bytes) node)
+gone_live {kp = kp} {vp = vp} {c = c} {e = e} {h = h} {ps = ps} s {key} {p} has {node} here t =
+    let n = at_node (IsPairIn kp vp (live_of c.bytes) h) ps (pair_node p) (in_nodes kp.order ps key p has) s.pairs in
+    let x = n.pair.node in let xs = (live_of c.bytes).extents in
+    subst (λ l. IsTrue (is_live_in l node)) (sym (lay_out_one current e.bytes (live_of c.bytes) t.live))
+    (any_at (λ (x : Extent). handle x == node) xs x (found_in xs (handle x) x n.holds.listed) (eq-eqb (handle x) node (n.at ∙ here)))

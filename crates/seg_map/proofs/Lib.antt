@@ -2,8 +2,8 @@ mod PairSteps
 mod Payloads
 mod FoundLists
 mod Entering
-mod Searching
 mod FoundPairs
+mod Searching
 mod Frames
 mod Relinking
 mod Heads

@@ -15,41 +15,41 @@ use Rattle.seg_map.specs.Map.{node_len}
 use Rattle.seg_map.proofs.Entering.{Laws}
 
 -- a new block, once a part of it is written
-still : (a b c : Cut) (n node from k room : ℕ) → IsAllocated current a b n Node node → IsChanged current b c from k → room ≤ n → node ≤ from → from + k ≤ node + room → IsAllocated current a c n Node node
-still a b c n node from k room new change long low high = still_allocated-block current a b c n Node node from k room new change (allocated-room current a b n Node node room new long) low high
+still : {a b c : Cut} {n node from k : ℕ} (room : ℕ) → IsAllocated current a b n Node node → IsChanged current b c from k → room ≤ n → node ≤ from → from + k ≤ node + room → IsAllocated current a c n Node node
+still {a} {b} {c} {n} {node} {from} {k} room new change long low high = still_allocated-block current a b c n Node node from k room new change (allocated-room current a b n Node node room new long) low high
 
-module _ {K V : Type 0} (kp : Plain K) (vp : Plain V) (kl : Laws kp) (a b c : Cut) (node : ℕ) (new : IsAllocated current a b (node_len kp.SIZE vp.SIZE) Node node) where
+module _ {K V : Type 0} {kp : Plain K} (kl : Laws kp) (vp : Plain V) {a b : Cut} {node : ℕ} (new : IsAllocated current a b (node_len kp.SIZE vp.SIZE) Node node) where
   pub room_left : IsTrue (has_room (live_of b.bytes) node 8)
   room_left = allocated-room current a b (node_len kp.SIZE vp.SIZE) Node node 8 new (omega arith)
 
-  module _ (first : IsChanged current b c (node + 0) 8) (left : link_at (bytes_of c.bytes) (node + 0) ≡ None) where
+  module _ {c : Cut} (first : IsChanged current b c (node + 0) 8) (left : link_at (bytes_of c.bytes) (node + 0) ≡ None) where
     one : IsAllocated current a c (node_len kp.SIZE vp.SIZE) Node node
-    one = still a b c (node_len kp.SIZE vp.SIZE) node (node + 0) 8 16 new first (omega arith) (omega arith) (omega arith)
+    one = still 16 new first (omega arith) (omega arith) (omega arith)
 
     pub room_right : IsTrue (has_room (live_of c.bytes) node 16)
     room_right = allocated-room current a c (node_len kp.SIZE vp.SIZE) Node node 16 one (omega arith)
 
-    module _ (d : Cut) (second : IsChanged current c d (node + 8) 8) (right : link_at (bytes_of d.bytes) (node + 8) ≡ None) where
+    module _ {d : Cut} (second : IsChanged current c d (node + 8) 8) (right : link_at (bytes_of d.bytes) (node + 8) ≡ None) where
       two : IsAllocated current a d (node_len kp.SIZE vp.SIZE) Node node
-      two = still a c d (node_len kp.SIZE vp.SIZE) node (node + 8) 8 16 one second (omega arith) (omega arith) (omega arith)
+      two = still 16 one second (omega arith) (omega arith) (omega arith)
 
       pub room_key : IsTrue (has_room (live_of d.bytes) node (16 + kp.SIZE))
       room_key = allocated-room current a d (node_len kp.SIZE vp.SIZE) Node node (16 + kp.SIZE) two (omega arith)
 
-      module _ (e : Cut) (key : K) (is_key : kp.is_value key ≡ true) (third : IsChanged current d e (node + 16) kp.SIZE) (spelled : Has (bytes_of e.bytes) (node + 16) (kp.spelling key)) where
+      module _ {e : Cut} {key : K} (is_key : kp.is_value key ≡ true) (third : IsChanged current d e (node + 16) kp.SIZE) (spelled : Has (bytes_of e.bytes) (node + 16) (kp.spelling key)) where
         three : IsAllocated current a e (node_len kp.SIZE vp.SIZE) Node node
-        three = still a d e (node_len kp.SIZE vp.SIZE) node (node + 16) kp.SIZE (16 + kp.SIZE) two third (omega arith) (omega arith) (omega arith)
+        three = still (16 + kp.SIZE) two third (omega arith) (omega arith) (omega arith)
 
         pub room_value : IsTrue (has_room (live_of e.bytes) node (16 + kp.SIZE + vp.SIZE))
         room_value = allocated-room current a e (node_len kp.SIZE vp.SIZE) Node node (16 + kp.SIZE + vp.SIZE) three (omega arith)
 
-        pub made : (f : Cut) (value : V) → vp.is_value value ≡ true → IsChanged current e f (node + (16 + kp.SIZE)) vp.SIZE → Has (bytes_of f.bytes) (node + (16 + kp.SIZE)) (vp.spelling value) → IsMade kp vp a f key value node
-        made f value is_value fourth there =
+        pub made : {f : Cut} (value : V) → vp.is_value value ≡ true → IsChanged current e f (node + (16 + kp.SIZE)) vp.SIZE → Has (bytes_of f.bytes) (node + (16 + kp.SIZE)) (vp.spelling value) → IsMade kp vp a f key value node
+        made {f} value is_value fourth there =
             let begin : node + 0 ≡ node = omega arith in
             let behind : node + (16 + kp.SIZE) ≡ node + 16 + kp.SIZE = omega arith in
             let size = kl.spells key is_key in
             record {
-              block = still a e f (node_len kp.SIZE vp.SIZE) node (node + (16 + kp.SIZE)) vp.SIZE (16 + kp.SIZE + vp.SIZE) three fourth (omega arith) (omega arith) (omega arith);
+              block = still (16 + kp.SIZE + vp.SIZE) three fourth (omega arith) (omega arith) (omega arith);
               left = SameBut-link (bytes_of e.bytes) (bytes_of f.bytes) (node + (16 + kp.SIZE)) vp.SIZE node fourth.rest (inl (omega arith))
                   ∙ SameBut-link (bytes_of d.bytes) (bytes_of e.bytes) (node + 16) kp.SIZE node third.rest (inl (omega arith))
                   ∙ SameBut-link (bytes_of c.bytes) (bytes_of d.bytes) (node + 8) 8 node second.rest (inl (omega arith))

@@ -1,6 +1,6 @@
 -- A new pair: its node is made, and enters the map.
 use Rattle.std.proofs.Common.{◌≡◌, refl, sym, ap, subst, ◌∙◌, ℕ, ◌+◌, ◌≢◌, Bool, true, false, ◌&&◌, ◌||◌, List, [], ◌∷◌, arith}
-use Rattle.std.specs.Prelude.{Option, Some, None, Result, Ok, IfSome, MatchOption, MatchResult}
+use Rattle.std.specs.Prelude.{Option, Some, None, IfSome}
 use Rattle.std.specs.List.{AllByRecursion}
 use Rattle.std.proofs.lemmas.Bool.{and_from, ne_eqb}
 use Rattle.raw_region.specs.Format.{current}
@@ -24,15 +24,15 @@ use Rattle.seg_map.specs.PairLaws.{In}
 use Rattle.seg_map.specs.PairNodes.{stands, stands_before}
 use Rattle.seg_map.specs.Linking.{keys_in}
 use Rattle.seg_map.specs.Searches.{entry_in}
-use Rattle.seg_map.specs.Changing.{IsFull, IsLoose, IsMade, IsPlanted, IsPut, IsPutAgain}
+use Rattle.seg_map.specs.Changing.{IsLoose, IsMade, IsPlanted, IsPut}
 use Rattle.seg_map.proofs.Beginnings.{keys_agree, known}
 use Rattle.seg_map.proofs.Entering.{Laws, found_in, keys}
-use Rattle.seg_map.proofs.Leaving.{match_none, match_some}
 use Rattle.seg_map.proofs.PairLists.{not_among}
 use Rattle.seg_map.proofs.PairSteps.{all_in}
 use Rattle.seg_map.proofs.Staying.{Still, map_stays, stays_tree}
 
-module _ {K V : Type 0} (kp : Plain K) (vp : Plain V) (kl : Laws kp) (vl : Laws vp) (c d : Cut) (h at : ℕ) (ps : List (Pair K V)) (s : HoldsMap kp vp c.bytes h at ps) (key : K) (value : V) (node : ℕ)
+module _ {K V : Type 0} {kp : Plain K} {vp : Plain V} (kl : Laws kp) (vl : Laws vp) {c d : Cut} {h at : ℕ}
+    {ps : List (Pair K V)} (s : HoldsMap kp vp c.bytes h at ps) {key : K} {value : V} {node : ℕ}
     (absent : pair_at kp.order ps key ≡ None) (m : IsMade kp vp c d key value node) where
   abbrev x : Extent
   x = m.block.extent
@@ -68,8 +68,7 @@ module _ {K V : Type 0} (kp : Plain K) (vp : Plain V) (kl : Laws kp) (vl : Laws 
   map_there =
       let r = roomy c h (at + 24) s.heap s.room in let begins = r.at in let long = r.room in
       let same = kept r.extent (found_in (live_of c.bytes).extents h r.extent r.found) in
-      map_stays kp vp kl vl c d h at ps s (laid-heap d.bytes (added (live_of c.bytes) x) m.block.live)
-      (allocated-room_before current c d (node_len kp.SIZE vp.SIZE) Node node h (at + 24) m.block s.room)
+      map_stays kl vl c d s (laid-heap d.bytes (added (live_of c.bytes) x) m.block.live) (allocated-room_before current c d (node_len kp.SIZE vp.SIZE) Node node h (at + 24) m.block s.room)
       (record { at = λ n a b. same.payload.at n (omega arith) (omega arith) }) (stills ps s.pairs)
 
   there_tree : map_there.map.tree.tree ≡ s.map.tree.tree
@@ -77,16 +76,15 @@ module _ {K V : Type 0} (kp : Plain K) (vp : Plain V) (kl : Laws kp) (vl : Laws 
   there_tree =
       let r = roomy c h (at + 24) s.heap s.room in let begins = r.at in let long = r.room in
       let same = kept r.extent (found_in (live_of c.bytes).extents h r.extent r.found) in
-      stays_tree kp vp kl vl c d h at ps s (laid-heap d.bytes (added (live_of c.bytes) x) m.block.live)
-      (allocated-room_before current c d (node_len kp.SIZE vp.SIZE) Node node h (at + 24) m.block s.room)
+      stays_tree kl vl c d s (laid-heap d.bytes (added (live_of c.bytes) x) m.block.live) (allocated-room_before current c d (node_len kp.SIZE vp.SIZE) Node node h (at + 24) m.block s.room)
       (record { at = λ n a b. same.payload.at n (omega arith) (omega arith) }) (stills ps s.pairs)
 
   -- an insertion begins where it did before the block was taken
-  pub entry_there : (start : Option ℕ) → start ≡ entry_in kp c key s.map.tree.tree
+  pub entry_there : {start : Option ℕ} → start ≡ entry_in kp c key s.map.tree.tree
       → IfSome start (λ n. entry_in kp d key map_there.map.tree.tree ≡ Some n)
-  entry_there start e =
+  entry_there {start} e =
       let old = keys_in kp (nodes_of s.map.tree.tree) c in let new = keys_in kp (nodes_of map_there.map.tree.tree) d in
-      let before = keys kp vp kl c h at ps s in let after = keys kp vp kl d h at ps map_there in
+      let before = keys kl c s in let after = keys kl d map_there in
       known start (entry_in kp d key map_there.map.tree.tree) (e
       ∙ entry_same (stands_before kp.order old false key) (stands_before kp.order new false key) s.map.tree.tree
       (λ n i. ap (stands kp.order false key)
@@ -113,8 +111,8 @@ module _ {K V : Type 0} (kp : Plain K) (vp : Plain V) (kl : Laws kp) (vl : Laws 
         bytes = (subst (λ k. Has (bytes_of d.bytes) (k + 16) (kp.spelling key)) m.block.at m.key_there, subst (λ k. Has (bytes_of d.bytes) (k + 16 + kp.SIZE) (vp.spelling value)) m.block.at m.value_there);
       }
 
-  pub is_put : (e : Cut) → IsPlanted kp vp d e h at ps (record { key = key; value = value; node = m.block.extent }) → IsPut kp vp c e h at ps key value
-  is_put e q =
+  pub is_put : {e : Cut} → IsPlanted kp vp d e h at ps (record { key = key; value = value; node = m.block.extent }) → IsPut kp vp c e h at ps key value
+  is_put {e} q =
       record {
         extent = x;
         placed = m.block.placed;
@@ -131,19 +129,3 @@ module _ {K V : Type 0} (kp : Plain K) (vp : Plain V) (kl : Laws kp) (vl : Laws 
         };
         map = q.map;
       }
-
--- what is answered
-abbrev pub IsAnswered : {K V E : Type 0} → Plain K → Plain V → Cut → Cut → ℕ → ℕ → K → V → List (Pair K V) → Result Bool E → Type 0
-IsAnswered {K} {V} k v old new h at key value ps result =
-    MatchOption (pair_at k.order ps key) (MatchResult result (λ b. (b ≡ true) × IsPut k v old new h at ps key value) (λ e. IsFull k v old new))
-    (λ p. (result ≡ Ok false) × IsPutAgain k v old new h at ps p key value)
-
-module _ {K V E : Type 0} (kp : Plain K) (vp : Plain V) (c d : Cut) (h at : ℕ) (key : K) (value : V) (ps : List (Pair K V)) where
-  pub answer_new : (r : Result Bool E) → r ≡ Ok true → pair_at kp.order ps key ≡ None → IsPut kp vp c d h at ps key value → IsAnswered kp vp c d h at key value ps r
-  answer_new r is e p =
-      match_none (pair_at kp.order ps key) (MatchResult r (λ b. (b ≡ true) × IsPut kp vp c d h at ps key value) (λ x. IsFull kp vp c d)) (λ q. (r ≡ Ok false) × IsPutAgain kp vp c d h at ps q key value) e
-      (subst (λ (o : Result Bool E). MatchResult o (λ b. (b ≡ true) × IsPut kp vp c d h at ps key value) (λ x. IsFull kp vp c d)) (sym is) (refl, p))
-
-  pub answer_old : (p : Pair K V) (r : Result Bool E) → r ≡ Ok false → pair_at kp.order ps key ≡ Some p → IsPutAgain kp vp c d h at ps p key value → IsAnswered kp vp c d h at key value ps r
-  answer_old p r is e q =
-      match_some (pair_at kp.order ps key) (MatchResult r (λ b. (b ≡ true) × IsPut kp vp c d h at ps key value) (λ x. IsFull kp vp c d)) (λ z. (r ≡ Ok false) × IsPutAgain kp vp c d h at ps z key value) p e (is, q)

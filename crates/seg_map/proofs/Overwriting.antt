@@ -23,34 +23,35 @@ use Rattle.seg_map.specs.Places.{HoldsMap, IsPairIn, nodes_of_pairs, pair_node}
 use Rattle.seg_map.specs.PairLaws.{In, PairNode, node_place}
 use Rattle.seg_map.specs.Linking.{keys_in}
 use Rattle.seg_map.specs.Changing.{IsPutAgain}
-use Rattle.seg_map.proofs.Entering.{HaveKeys, Laws, found_in, good, keys, length-nodes}
+use Rattle.seg_map.proofs.Entering.{HaveKeys, Laws, found_in, good, keys, length-nodes, pair_parts}
 use Rattle.seg_map.proofs.PairLists.{in_nodes}
 use Rattle.seg_map.proofs.PairSteps.{all_in, in_others}
 use Rattle.seg_map.proofs.PutLists.{neither_parts, pair_of, replaced_all, replaced_nodes, replaced_rising}
-use Rattle.seg_map.proofs.Staying.{at_node, block_cells, lengths, pair_long, pair_stays}
+use Rattle.seg_map.proofs.Staying.{at_node, block_cells, lengths, pair_stays}
 
 some_key : {K : Type 0} (x y : K) → Some x ≡ Some y → x ≡ y
 some_key x y e = cc
 
-module _ {K V : Type 0} (kp : Plain K) (vp : Plain V) (kl : Laws kp) (vl : Laws vp) (total : (x y : K) → kp.is_value x ≡ true → kp.is_value y ≡ true → kp.order x y ≡ false → kp.order y x ≡ false → x ≡ y)
-    (c d : Cut) (h at : ℕ) (ps : List (Pair K V)) (s : HoldsMap kp vp c.bytes h at ps) (key : K) (value : V) (p : Pair K V) (has : pair_at kp.order ps key ≡ Some p) where
+module _ {K V : Type 0} {kp : Plain K} {vp : Plain V} (c : Cut) {h at : ℕ} {ps : List (Pair K V)}
+    (s : HoldsMap kp vp c.bytes h at ps) (key : K) {p : Pair K V} (has : pair_at kp.order ps key ≡ Some p) where
   own : IsPairIn kp vp (live_of c.bytes) h p
   own = (pair_of kp.order (IsPairIn kp vp (live_of c.bytes) h) ps key p has s.pairs).0
 
   -- its block has room for the value
   pub value_room : IsTrue (has_room (live_of c.bytes) (handle p.node) (16 + kp.SIZE + vp.SIZE))
-  value_room = found-room (live_of c.bytes) (handle p.node) (16 + kp.SIZE + vp.SIZE) p.node own.listed (pair_long kp vp (live_of c.bytes) h p own)
+  value_room = found-room (live_of c.bytes) (handle p.node) (16 + kp.SIZE + vp.SIZE) p.node own.listed (pair_parts own).long
 
-  module _ (is_key_value : kp.is_value key ≡ true) (is_value : vp.is_value value ≡ true) (change : IsChanged current c d (handle p.node + (16 + kp.SIZE)) vp.SIZE) (there : Has (bytes_of d.bytes) (handle p.node + (16 + kp.SIZE)) (vp.spelling value)) where
+  module _ (kl : Laws kp) (vl : Laws vp)
+      (total : (x y : K) → kp.is_value x ≡ true → kp.is_value y ≡ true → kp.order x y ≡ false → kp.order y x ≡ false → x ≡ y)
+      {d : Cut} (value : V) (is_key_value : kp.is_value key ≡ true) (is_value : vp.is_value value ≡ true)
+      (change : IsChanged current c d (handle p.node + (16 + kp.SIZE)) vp.SIZE) (there : Has (bytes_of d.bytes) (handle p.node + (16 + kp.SIZE)) (vp.spelling value)) where
     abbrev new : Pair K V
     new = record { key = key; value = value; node = p.node }
 
     same_key_is : key ≡ p.key
     same_key_is =
-        let parts = and_parts (kp.is_value p.key && vp.is_value p.value) (serves p.node Node (node_len kp.SIZE vp.SIZE)) own.good in
-        let values = and_parts (kp.is_value p.key) (vp.is_value p.value) parts.0 in
         let two = neither_parts (kp.order key p.key) (kp.order p.key key) (pair_of kp.order (IsPairIn kp vp (live_of c.bytes) h) ps key p has s.pairs).1 in
-        total key p.key is_key_value values.0 two.0 two.1
+        total key p.key is_key_value (pair_parts own).key two.0 two.1
 
     live_d : live_of d.bytes ≡ live_of c.bytes
     live_d = changed-live current c d (handle p.node + (16 + kp.SIZE)) vp.SIZE change
@@ -66,11 +67,11 @@ module _ {K V : Type 0} (kp : Plain K) (vp : Plain V) (kl : Laws kp) (vl : Laws 
       where
         by_place : (m ≡ handle p.node) ⊎ (m ≡ handle p.node → ⊥) → cells_of (bytes_of d.bytes) m ≡ cells_of (bytes_of c.bytes) m
         by_place (inl e) =
-            let g : PairNode (16 + kp.SIZE) (nodes_of s.map.tree.tree) c m = record { good = good kp vp kl c h at ps s; listed = i } in
+            let g : PairNode (16 + kp.SIZE) (nodes_of s.map.tree.tree) c m = record { good = good kl c s; listed = i } in
             beside_cell (bytes_of c.bytes) (bytes_of d.bytes) (handle p.node + (16 + kp.SIZE)) vp.SIZE m change.rest (node_place (16 + kp.SIZE) (nodes_of s.map.tree.tree) c m g).low (inl (omega (arith, e)))
         by_place (inr o) =
-            let n = at_node kp vp (IsPairIn kp vp (live_of c.bytes) h) ps m (ap (λ ns. is_in m ns) (sym s.map.tree.lists) ∙ i) s.pairs in
-            let long = pair_long kp vp (live_of c.bytes) h n.pair n.holds in
+            let n = at_node (IsPairIn kp vp (live_of c.bytes) h) ps m (ap (λ ns. is_in m ns) (sym s.map.tree.lists) ∙ i) s.pairs in
+            let long = (pair_parts n.holds).long in
             let apart : handle n.pair.node ≢ handle p.node = λ e. o (sym n.at ∙ e) in
             subst (λ k. cells_of (bytes_of d.bytes) k ≡ cells_of (bytes_of c.bytes) k) n.at
             (block_cells (bytes_of c.bytes) (bytes_of d.bytes) n.pair.node (block_stays n.pair.node (found_in (live_of c.bytes).extents (handle n.pair.node) n.pair.node n.holds.listed) apart) (omega arith))
@@ -90,7 +91,7 @@ module _ {K V : Type 0} (kp : Plain K) (vp : Plain V) (kl : Laws kp) (vl : Laws 
     all_were (q ∷ qs) a b k = (record { block = a.0; bytes = b.0; key_is = k.0 }, all_were qs a.1 b.1 k.1)
 
     were : AllByRecursion Was ps
-    were = all_were ps s.pairs s.map.pairs (keys kp vp kl c h at ps s)
+    were = all_were ps s.pairs s.map.pairs (keys kl c s)
 
     -- another pair has another node
     other_node : (q : Pair K V) → Was q → (kp.order key q.key ≡ true) ⊎ (kp.order q.key key ≡ true) → handle q.node ≢ handle p.node
@@ -104,14 +105,14 @@ module _ {K V : Type 0} (kp : Plain K) (vp : Plain V) (kl : Laws kp) (vl : Laws 
 
     bytes_stay : (q : Pair K V) → Was q → (kp.order key q.key ≡ true) ⊎ (kp.order q.key key ≡ true) → IsPairAt kp.SIZE kp.spelling vp.spelling (bytes_of d.bytes) q
     bytes_stay q w o =
-        let l = lengths kp vp kl vl (live_of c.bytes) h q w.block in let long = pair_long kp vp (live_of c.bytes) h q w.block in
+        let long = (pair_parts w.block).long in
         let same = block_stays q.node (found_in (live_of c.bytes).extents (handle q.node) q.node w.block.listed) (other_node q w o) in
-        pair_stays kp vp (bytes_of c.bytes) (bytes_of d.bytes) q l.key l.value (record { at = λ k low high. same.payload.at k (omega arith) (omega arith) }) w.bytes
+        pair_stays (bytes_of c.bytes) (bytes_of d.bytes) (lengths kl vl w.block) (record { at = λ k low high. same.payload.at k (omega arith) (omega arith) }) w.bytes
 
     own_bytes : IsPairAt kp.SIZE kp.spelling vp.spelling (bytes_of d.bytes) (record { key = key; value = value; node = p.node })
     own_bytes =
         let found = pair_of kp.order Was ps key p has were in
-        let size = (lengths kp vp kl vl (live_of c.bytes) h p own).key in
+        let size = (lengths kl vl own).key in
         let old = Has-same (bytes_of c.bytes) (bytes_of d.bytes) (handle p.node + 16) (handle p.node + 16 + kp.SIZE) (handle p.node + 16) (kp.spelling p.key)
         (SameBut-Same (bytes_of c.bytes) (bytes_of d.bytes) (handle p.node + (16 + kp.SIZE)) vp.SIZE (handle p.node + 16) (handle p.node + 16 + kp.SIZE) change.rest (inl (omega arith))) (omega arith) (omega (arith, size)) found.0.bytes.0 in
         let behind : handle p.node + (16 + kp.SIZE) ≡ handle p.node + 16 + kp.SIZE = omega arith in
@@ -119,9 +120,8 @@ module _ {K V : Type 0} (kp : Plain K) (vp : Plain V) (kl : Laws kp) (vl : Laws 
 
     own_block : IsPairIn kp vp (live_of c.bytes) h (record { key = key; value = value; node = p.node })
     own_block =
-        let parts = and_parts (kp.is_value p.key && vp.is_value p.value) (serves p.node Node (node_len kp.SIZE vp.SIZE)) own.good in
         record {
-          good = and_from (kp.is_value key && vp.is_value value) (serves p.node Node (node_len kp.SIZE vp.SIZE)) (and_from (kp.is_value key) (vp.is_value value) is_key_value is_value) parts.1;
+          good = and_from (kp.is_value key && vp.is_value value) (serves p.node Node (node_len kp.SIZE vp.SIZE)) (and_from (kp.is_value key) (vp.is_value value) is_key_value is_value) (pair_parts own).serves;
           listed = own.listed;
           apart = own.apart;
         }

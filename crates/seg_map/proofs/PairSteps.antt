@@ -1,5 +1,6 @@
 -- One field of one node changes.
 use Rattle.std.proofs.Common.{◌≡◌, refl, sym, ap, subst, ◌∙◌, ℕ, ◌+◌, ◌-◌, ◌%◌, ◌/◌, ◌<◌, ◌≤◌, ◌⊎◌, inl, inr, Bool, true, false, ◌&&◌, ◌||◌, not, List, [], ◌∷◌, arith, nat_lt, nat_le, ◌==◌, IsTrue}
+use Rattle.std.proofs.Math.Nat.{le_refl, le_trans, lt_of_lt_of_le}
 use Rattle.std.specs.Prelude.{Option, Some, None, IfSome, if◌then◌else◌}
 use Rattle.std.specs.List.{AllByRecursion, list_all, list_any}
 use Rattle.std.proofs.lemmas.Bool.{false≢true, both_ways, cases_Bool, cases_eq, cases_lt, and_parts, and_from, or_cases, or_left, or_right, eqb-true, eq-eqb, ne_eqb, leb-true, le-leb, ltb-true, lt-ltb, cond-true, cond-false}
@@ -20,15 +21,6 @@ use Rattle.seg_map.specs.PairNodes.{comes_before, is_block_in, is_good, is_kept,
 use Rattle.seg_map.specs.PairLaws.{Good, Good-is_good, In, PairNode, PairNode-is_pair_node, Place, cells_at, cells_off, disjoint, is_pair_node-PairNode, lies, links_at, node_block, node_place}
 
 -- ---- numbers, of which each lemma names all that it needs
-
-equal_le : (k : ℕ) → k ≤ k
-equal_le k = omega arith
-
-chain : (a b c : ℕ) → a ≤ b → b ≤ c → a ≤ c
-chain a b c h g = omega arith
-
-lower : (k n from : ℕ) → k < n → n ≤ from → k < from
-lower k n from h g = omega arith
 
 tag_at : (o k : ℕ) → o + 16 ≡ k → o + 8 ≡ k - 8
 tag_at o k e = omega arith
@@ -126,7 +118,7 @@ not_true false h = refl
 in_own : (n : ℕ) (ns : List ℕ) → is_in n ns ≡ true → (h : ℕ) → is_in h ns ≡ false → h ≡ n → ⊥
 in_own n ns i h o e = both_ways (is_in n ns) (subst (λ k. is_in k ns ≡ false) e o) i
 
-module _ (len : ℕ) (ns : List ℕ) (c d : Cut) (n : ℕ) (g : PairNode len ns c n) (h : Changed len ns c d n) where
+module _ {len : ℕ} {ns : List ℕ} {c d : Cut} {n : ℕ} (g : PairNode len ns c n) (h : Changed len ns c d n) where
   links_d : (m : ℕ) → is_in m ns ≡ true → links_among (bytes_of d.bytes) ns m ≡ true
   links_d m i = by_place (cases_eq m n)
     where
@@ -218,26 +210,21 @@ module _ (len : ℕ) (ns : List ℕ) (c d : Cut) (n : ℕ) (g : PairNode len ns 
 key_ends : (m size : ℕ) → m + 16 + size ≤ m + (16 + size)
 key_ends m size = omega arith
 
-module _ {K : Type 0} (value : List ℕ → Option K) (size : ℕ) (ns : List ℕ) (c d : Cut) (n : ℕ) (g : PairNode (16 + size) ns c n) (h : Changed (16 + size) ns c d n) where
+module _ {K : Type 0} (value : List ℕ → Option K) (size : ℕ) {ns : List ℕ} {c d : Cut} {n : ℕ} (g : PairNode (16 + size) ns c n)
+    (h : Changed (16 + size) ns c d n) where
   key_stays : (m : ℕ) → (is_pair_node (16 + size) ns c m ≡ true) ⊎ (is_pair_node (16 + size) ns c m ≡ false) → key_of value size ns d m ≡ key_of value size ns c m
   unfolding key_of key_at
   key_stays m (inl e) =
-      let e' = ap (λ (p : ℕ → Bool). p m) (nodes_stay (16 + size) ns c d n g h) ∙ e in
+      let e' = ap (λ (p : ℕ → Bool). p m) (nodes_stay g h) ∙ e in
       cond-true (is_pair_node (16 + size) ns d m) (key_at value size (bytes_of d.bytes) m) None e'
-      ∙ ap value (Same-read (bytes_of c.bytes) (bytes_of d.bytes) (m + 16) (m + (16 + size)) (m + 16) size (h.keys m (is_pair_node-PairNode (16 + size) ns c m e).listed) (equal_le (m + 16)) (key_ends m size))
+      ∙ ap value (Same-read (bytes_of c.bytes) (bytes_of d.bytes) (m + 16) (m + (16 + size)) (m + 16) size (h.keys m (is_pair_node-PairNode (16 + size) ns c m e).listed) (le_refl (m + 16)) (key_ends m size))
       ∙ sym (cond-true (is_pair_node (16 + size) ns c m) (key_at value size (bytes_of c.bytes) m) None e)
   key_stays m (inr e) =
-      let e' = ap (λ (p : ℕ → Bool). p m) (nodes_stay (16 + size) ns c d n g h) ∙ e in
+      let e' = ap (λ (p : ℕ → Bool). p m) (nodes_stay g h) ∙ e in
       cond-false (is_pair_node (16 + size) ns d m) (key_at value size (bytes_of d.bytes) m) None e' ∙ sym (cond-false (is_pair_node (16 + size) ns c m) (key_at value size (bytes_of c.bytes) m) None e)
 
   pub keys_stay : key_of value size ns d ≡ key_of value size ns c
   keys_stay = λ i m. key_stays m (cases_Bool (is_pair_node (16 + size) ns c m)) i
-
-  pub order_stays : (less : K → K → Bool) → comes_before less (key_of value size ns d) ≡ comes_before less (key_of value size ns c)
-  order_stays less = ap (comes_before less) keys_stay
-
-  pub probes_stay : (less : K → K → Bool) (past : Bool) (key : K) → stands_before less (key_of value size ns d) past key ≡ stands_before less (key_of value size ns c) past key
-  probes_stay less past key = ap (λ (ks : ℕ → Option K). stands_before less ks past key) keys_stay
 
 -- ---- what a call of the heap needs of a node
 
@@ -254,17 +241,17 @@ any_at q [] x i h = absurd i
 any_at q (y ∷ ys) x (inl e) h = or_left (q y) (list_any q ys) (ap q e ∙ h)
 any_at q (y ∷ ys) x (inr i) h = or_right (q y) (list_any q ys) (any_at q ys x i h)
 
-pub room_of : (len : ℕ) (c : Cut) (n k : ℕ) → Place len c n → k ≤ len → IsTrue (has_room (live_of c.bytes) n k)
-room_of len c n k p l =
+pub room_of : {len : ℕ} {c : Cut} {n : ℕ} (k : ℕ) → Place len c n → k ≤ len → IsTrue (has_room (live_of c.bytes) n k)
+room_of {len} {c} {n} k p l =
     let b = p.block in let enough = b.holds in
     any_at (λ (x : Extent). (handle x == n) && nat_le (k + 16) x.len) (live_of c.bytes).extents b.extent b.listed
     (and_from (handle b.extent == n) (nat_le (k + 16) b.extent.len) (eq-eqb (handle b.extent) n b.at) (le-leb (k + 16) b.extent.len (widened k len b.extent.len enough l)))
 
-pub live_node : (len : ℕ) (c : Cut) (n : ℕ) → Place len c n → IsTrue (is_live_in (live_of c.bytes) n)
-live_node len c n p = let b = p.block in any_at (λ (x : Extent). handle x == n) (live_of c.bytes).extents b.extent b.listed (eq-eqb (handle b.extent) n b.at)
+pub live_node : {len : ℕ} {c : Cut} {n : ℕ} → Place len c n → IsTrue (is_live_in (live_of c.bytes) n)
+live_node {c = c} {n = n} p = let b = p.block in any_at (λ (x : Extent). handle x == n) (live_of c.bytes).extents b.extent b.listed (eq-eqb (handle b.extent) n b.at)
 
-pub node_live : (len : ℕ) (c : Cut) (n : ℕ) → Place len c n → IsTrue (is_node_in (live_of c.bytes) n)
-node_live len c n p =
+pub node_live : {len : ℕ} {c : Cut} {n : ℕ} → Place len c n → IsTrue (is_node_in (live_of c.bytes) n)
+node_live {c = c} {n = n} p =
     let b = p.block in
     any_at (λ (x : Extent). (handle x == n) && is_node_role x.role) (live_of c.bytes).extents b.extent b.listed
     (and_from (handle b.extent == n) (is_node_role b.extent.role) (eq-eqb (handle b.extent) n b.at) (ap is_node_role b.node))
@@ -301,9 +288,9 @@ kept_away ns live n k i t =
         ]
 
 -- another block lies away from a node's payload
-pub block_apart : (len : ℕ) (ns : List ℕ) (c : Cut) (n : ℕ) (x : Extent) → PairNode len ns c n → In x (live_of c.bytes).extents → (handle x ≡ n → ⊥)
+pub block_apart : {len : ℕ} {ns : List ℕ} {c : Cut} {n : ℕ} (x : Extent) → PairNode len ns c n → In x (live_of c.bytes).extents → (handle x ≡ n → ⊥)
     → (x.offset + x.len ≤ n - 16) ⊎ (n + len ≤ x.offset)
-block_apart len ns c n x g i o =
+block_apart {len} {ns} {c} {n} x g i o =
     let p = node_place len ns c n g in let b = p.block in let at = b.at in let enough = b.holds in let low = p.low in
     let r = is_proper-IsProper (live_of c.bytes) g.good.proper in
     elim (disjoint 128 (live_of c.bytes).extents ((live_of c.bytes).size - 16) b.extent x r.list b.listed i) [
@@ -314,18 +301,18 @@ block_apart len ns c n x g i o =
       ]
     ]
 
-pub nodes_apart : (len : ℕ) (ns : List ℕ) (c : Cut) (n m : ℕ) → PairNode len ns c n → PairNode len ns c m → (m ≡ n → ⊥) → (m + len ≤ n - 16) ⊎ (n + len ≤ m - 16)
-nodes_apart len ns c n m g h o =
+pub nodes_apart : {len : ℕ} {ns : List ℕ} {c : Cut} {n m : ℕ} → PairNode len ns c n → PairNode len ns c m → (m ≡ n → ⊥) → (m + len ≤ n - 16) ⊎ (n + len ≤ m - 16)
+nodes_apart {len} {ns} {c} {n} {m} g h o =
     let p = node_place len ns c m h in let b = p.block in let at = b.at in let enough = b.holds in
-    elim (block_apart len ns c n b.extent g b.listed (λ e. o (sym at ∙ e))) [
+    elim (block_apart b.extent g b.listed (λ e. o (sym at ∙ e))) [
       | inl l ↦ inl (ends_past b.extent.offset b.extent.len m len (n - 16) at enough l)
       | inr l ↦ inr (begins_behind (n + len) b.extent.offset m at l)
     ]
 
 -- ---- a link is set
 
-module _ (len : ℕ) (ns : List ℕ) (c d : Cut) (n from : ℕ) (to : Option ℕ) (long : 16 ≤ len) (g : PairNode len ns c n) (target : leads (is_pair_node len ns c) to ≡ true) (low : n ≤ from) (high : from + 8 ≤ n + 16)
-    (set : link_at (bytes_of d.bytes) from ≡ to) (change : IsChanged current c d from 8) where
+module _ {len : ℕ} {ns : List ℕ} {c d : Cut} {n from : ℕ} (g : PairNode len ns c n) (change : IsChanged current c d from 8)
+    (long : 16 ≤ len) (low : n ≤ from) (high : from + 8 ≤ n + 16) where
   p : Place len c n
   p = node_place len ns c n g
 
@@ -333,7 +320,7 @@ module _ (len : ℕ) (ns : List ℕ) (c d : Cut) (n from : ℕ) (to : Option ℕ
   other_cell m i o =
       let q : PairNode len ns c m = record { good = g.good; listed = i } in let least = (node_place len ns c m q).low in
       beside_cell (bytes_of c.bytes) (bytes_of d.bytes) from 8 m change.rest least
-      (elim (nodes_apart len ns c n m g q o) [
+      (elim (nodes_apart g q o) [
         | inl l ↦ inl (cell_before m len n from long l low)
         | inr l ↦ inr (cell_behind m len n from long least l high)
       ])
@@ -343,7 +330,7 @@ module _ (len : ℕ) (ns : List ℕ) (c d : Cut) (n from : ℕ) (to : Option ℕ
       record {
         place = change.place;
         live = lay_out_one current d.bytes (live_of c.bytes) change.live;
-        bytes = λ k t. change.rest.at k (elim (kept_away ns (live_of c.bytes) n k g.listed t) [ inl l ↦ inl (lower k n from l low) | inr l ↦ inr (chain (from + 8) (n + 16) k high l) ]);
+        bytes = λ k t. change.rest.at k (elim (kept_away ns (live_of c.bytes) n k g.listed t) [ inl l ↦ inl (lt_of_lt_of_le l low) | inr l ↦ inr (le_trans high l) ]);
         colours = λ x i o. ap (λ w. w % 16) (SameBut-word (bytes_of c.bytes) (bytes_of d.bytes) from 8 (x.offset + 8) change.rest (tag_apart x i o));
         links = links;
         others = other_cell;
@@ -354,7 +341,7 @@ module _ (len : ℕ) (ns : List ℕ) (c d : Cut) (n from : ℕ) (to : Option ℕ
       tag_apart x i o =
           let r = is_proper-IsProper (live_of c.bytes) g.good.proper in
           let b = (lies 128 (live_of c.bytes).extents ((live_of c.bytes).size - 16) x r.list i).long in
-          elim (block_apart len ns c n x g i o) [
+          elim (block_apart x g i o) [
             | inl l ↦ inl (tag_before x.offset x.len n from b l low)
             | inr l ↦ inr (tag_behind x.offset len n from long l high)
           ]
@@ -362,13 +349,15 @@ module _ (len : ℕ) (ns : List ℕ) (c d : Cut) (n from : ℕ) (to : Option ℕ
       key_apart : (m : ℕ) → is_in m ns ≡ true → (m ≡ n) ⊎ (m ≡ n → ⊥) → (m + len ≤ from) ⊎ (from + 8 ≤ m + 16)
       key_apart m i (inl e) = inr (subst (λ k. from + 8 ≤ k + 16) (sym e) high)
       key_apart m i (inr o) =
-          elim (nodes_apart len ns c n m g (record { good = g.good; listed = i }) o) [
+          let q : PairNode len ns c m = record { good = g.good; listed = i } in
+          elim (nodes_apart g q o) [
             | inl l ↦ inl (key_before m len n from l low)
             | inr l ↦ inr (key_behind m len n from long l high)
           ]
 
-module _ (len : ℕ) (ns : List ℕ) (c d : Cut) (n from : ℕ) (to : Option ℕ) (long : 16 ≤ len) (at : from ≡ n) (g : PairNode len ns c n) (target : leads (is_pair_node len ns c) to ≡ true)
-    (set : link_at (bytes_of d.bytes) from ≡ to) (change : IsChanged current c d from 8) where
+module _ {len : ℕ} {ns : List ℕ} {c d : Cut} {n from : ℕ} {to : Option ℕ} (g : PairNode len ns c n)
+    (target : leads (is_pair_node len ns c) to ≡ true) (set : link_at (bytes_of d.bytes) from ≡ to) (change : IsChanged current c d from 8)
+    (long : 16 ≤ len) (at : from ≡ n) where
   left_own : cells_of (bytes_of d.bytes) n ≡ record (cells_of (bytes_of c.bytes) n) { left = to }
   left_own =
       let low = (node_place len ns c n g).low in
@@ -380,16 +369,17 @@ module _ (len : ℕ) (ns : List ℕ) (c d : Cut) (n from : ℕ) (to : Option ℕ
   pub left_changed : Changed len ns c d n
   left_changed =
       let two = and_parts (leads (λ k. is_in k ns) (cells_of (bytes_of c.bytes) n).left) (leads (λ k. is_in k ns) (cells_of (bytes_of c.bytes) n).right) (links_at len ns c n g) in
-      link_changed len ns c d n from to long g target (left_low n from at) (left_high n from at) set change
+      link_changed g change long (left_low n from at) (left_high n from at)
       (subst (λ (x : Cell). (leads (λ k. is_in k ns) x.left && leads (λ k. is_in k ns) x.right) ≡ true) (sym left_own)
       (and_from (leads (λ k. is_in k ns) to) (leads (λ k. is_in k ns) (cells_of (bytes_of c.bytes) n).right) (leads_in len ns c to target) two.1))
 
   pub left_cells : pair_cells len ns d ≡ with_left (pair_cells len ns c) n to
   unfolding with_left
-  left_cells = one_cell len ns c d n g left_changed (λ (x : Cell). record x { left = to }) left_own
+  left_cells = one_cell g left_changed (λ (x : Cell). record x { left = to }) left_own
 
-module _ (len : ℕ) (ns : List ℕ) (c d : Cut) (n from : ℕ) (to : Option ℕ) (long : 16 ≤ len) (at : from ≡ n + 8) (g : PairNode len ns c n) (target : leads (is_pair_node len ns c) to ≡ true)
-    (set : link_at (bytes_of d.bytes) from ≡ to) (change : IsChanged current c d from 8) where
+module _ {len : ℕ} {ns : List ℕ} {c d : Cut} {n from : ℕ} {to : Option ℕ} (g : PairNode len ns c n)
+    (target : leads (is_pair_node len ns c) to ≡ true) (set : link_at (bytes_of d.bytes) from ≡ to) (change : IsChanged current c d from 8)
+    (long : 16 ≤ len) (at : from ≡ n + 8) where
   right_own : cells_of (bytes_of d.bytes) n ≡ record (cells_of (bytes_of c.bytes) n) { right = to }
   right_own =
       let low = (node_place len ns c n g).low in
@@ -401,13 +391,13 @@ module _ (len : ℕ) (ns : List ℕ) (c d : Cut) (n from : ℕ) (to : Option ℕ
   pub right_changed : Changed len ns c d n
   right_changed =
       let two = and_parts (leads (λ k. is_in k ns) (cells_of (bytes_of c.bytes) n).left) (leads (λ k. is_in k ns) (cells_of (bytes_of c.bytes) n).right) (links_at len ns c n g) in
-      link_changed len ns c d n from to long g target (right_low n from at) (right_high n from at) set change
+      link_changed g change long (right_low n from at) (right_high n from at)
       (subst (λ (x : Cell). (leads (λ k. is_in k ns) x.left && leads (λ k. is_in k ns) x.right) ≡ true) (sym right_own)
       (and_from (leads (λ k. is_in k ns) (cells_of (bytes_of c.bytes) n).left) (leads (λ k. is_in k ns) to) two.0 (leads_in len ns c to target)))
 
   pub right_cells : pair_cells len ns d ≡ with_right (pair_cells len ns c) n to
   unfolding with_right
-  right_cells = one_cell len ns c d n g right_changed (λ (x : Cell). record x { right = to }) right_own
+  right_cells = one_cell g right_changed (λ (x : Cell). record x { right = to }) right_own
 
 -- ---- a colour is set
 
@@ -456,7 +446,8 @@ in_block (x ∷ xs) k h =
       | inr e ↦ let b = in_block xs k e in record { extent = b.extent; listed = inr b.listed; low = b.low; high = b.high }
     ]
 
-module _ (len : ℕ) (ns : List ℕ) (c d : Cut) (n : ℕ) (red : Bool) (long : 16 ≤ len) (g : PairNode len ns c n) (change : IsRecoloured current c d n red) where
+module _ {len : ℕ} {ns : List ℕ} {c d : Cut} {n : ℕ} {red : Bool} (g : PairNode len ns c n)
+    (change : IsRecoloured current c d n red) (long : 16 ≤ len) where
   same_payload : (x : Extent) → In x (live_of c.bytes).extents → Same (bytes_of c.bytes) (bytes_of d.bytes) (handle x) (end_of x)
   same_payload x i = all_in (λ (y : Extent). Same (bytes_of c.bytes) (bytes_of d.bytes) (handle y) (end_of y)) (live_of c.bytes).extents x change.payloads i
 
@@ -467,7 +458,7 @@ module _ (len : ℕ) (ns : List ℕ) (c d : Cut) (n : ℕ) (red : Bool) (long : 
       record { at = λ k l h. s.at k (payload_low b.extent.offset m k at l) (payload_high b.extent.offset b.extent.len m len k at enough h) }
 
   left_link : (m : ℕ) → PairNode len ns c m → link_at (bytes_of d.bytes) m ≡ link_at (bytes_of c.bytes) m
-  left_link m q = Same-link (bytes_of c.bytes) (bytes_of d.bytes) m (m + len) m (node_same m q) (equal_le m) (left_inside m len long)
+  left_link m q = Same-link (bytes_of c.bytes) (bytes_of d.bytes) m (m + len) m (node_same m q) (le_refl m) (left_inside m len long)
 
   right_link : (m : ℕ) → PairNode len ns c m → link_at (bytes_of d.bytes) (m + 8) ≡ link_at (bytes_of c.bytes) (m + 8)
   right_link m q = Same-link (bytes_of c.bytes) (bytes_of d.bytes) m (m + len) (m + 8) (node_same m q) (more m 8) (right_inside m len long)
@@ -507,12 +498,12 @@ module _ (len : ℕ) (ns : List ℕ) (c d : Cut) (n : ℕ) (red : Bool) (long : 
         links = subst (λ (x : Cell). (leads (λ k. is_in k ns) x.left && leads (λ k. is_in k ns) x.right) ≡ true) (sym red_own) (links_at len ns c n g);
         others = λ m i o. let q : PairNode len ns c m = record { good = g.good; listed = i } in
             cell_stays (bytes_of c.bytes) (bytes_of d.bytes) m (left_link m q) (right_link m q) (other_red m q o);
-        keys = λ m i. let s = node_same m (record { good = g.good; listed = i }) in record { at = λ k l h. s.at k (chain m (m + 16) k (more m 16) l) h };
+        keys = λ m i. let s = node_same m (record { good = g.good; listed = i }) in record { at = λ k l h. s.at k (le_trans (more m 16) l) h };
       }
 
   pub red_cells : pair_cells len ns d ≡ with_red (pair_cells len ns c) n red
   unfolding with_red
-  red_cells = one_cell len ns c d n g red_changed (λ (x : Cell). record x { red = red }) red_own
+  red_cells = one_cell g red_changed (λ (x : Cell). record x { red = red }) red_own
 
 -- ---- what is asked and answered of a node
 
@@ -524,7 +515,7 @@ module _ (len : ℕ) (ns : List ℕ) (c : Cut) (n : ℕ) (h : is_pair_node len n
   proper_of = (is_pair_node-PairNode len ns c n h).good.proper
 
   pub room_in : (k : ℕ) → k ≤ len → IsTrue (has_room (live_of c.bytes) n k)
-  room_in k l = room_of len c n k place_of l
+  room_in k l = room_of k place_of l
 
   pub left_is : link_at (bytes_of c.bytes) (n + 0) ≡ (pair_cells len ns c n).left
   left_is = let e : n + 0 ≡ n = omega arith in ap (link_at (bytes_of c.bytes)) e ∙ ap (λ (x : Cell). x.left) (sym (cells_at len ns c n h))
@@ -534,6 +525,15 @@ module _ (len : ℕ) (ns : List ℕ) (c : Cut) (n : ℕ) (h : is_pair_node len n
 
   pub red_is : is_red (bytes_of c.bytes) n ≡ (pair_cells len ns c n).red
   red_is = ap (λ (x : Cell). x.red) (sym (cells_at len ns c n h))
+
+-- what reading its key asks for
+pub record KeyRoom (size : ℕ) (c : Cut) (n : ℕ) : Type 0 where
+  pub proper : IsTrue (is_proper (live_of c.bytes))
+  pub room : IsTrue (has_room (live_of c.bytes) n (16 + size))
+
+pub key_room : (size : ℕ) (ns : List ℕ) (c : Cut) (n : ℕ) → is_pair_node (16 + size) ns c n ≡ true → KeyRoom size c n
+key_room size ns c n h =
+    record { proper = proper_of (16 + size) ns c n h; room = room_in (16 + size) ns c n h (16 + size) (le_refl (16 + size)) }
 
 -- the key that is read
 pub key_is : {K : Type 0} (value : List ℕ → Option K) (size : ℕ) (ns : List ℕ) (c : Cut) (n : ℕ) → is_pair_node (16 + size) ns c n ≡ true → value (read (bytes_of c.bytes) (n + 16) size) ≡ key_of value size ns c n

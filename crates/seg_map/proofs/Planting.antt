@@ -22,7 +22,7 @@ use Rattle.seg_map.specs.Linking.{CanLink, IsKeyTree, Linked, keys_in}
 use Rattle.seg_map.specs.Changing.{IsBesideMap, IsHeaded, IsLoose, IsPlanted}
 use Rattle.seg_map.specs.Searches.{entry_in}
 use Rattle.seg_map.proofs.Beginnings.{beside as not_beside, moved}
-use Rattle.seg_map.proofs.Entering.{HaveKeys, Laws, count_pairs, few_pairs, good, keys, listed, node_here, pair_block, read_spelled, rising_nodes, value_of}
+use Rattle.seg_map.proofs.Entering.{HaveKeys, Laws, count_pairs, few_pairs, good, keys, listed, node_here, pair_block, pair_parts, read_spelled, rising_nodes, value_of}
 use Rattle.seg_map.proofs.Searching.{lent_own}
 use Rattle.seg_map.proofs.PairSteps.{target_whole}
 use Rattle.seg_map.proofs.Rewriting.{beside, rewritten}
@@ -35,91 +35,90 @@ leads_more : (n : ℕ) (ns : List ℕ) (o : Option ℕ) → leads (λ j. is_in j
 leads_more n ns None h = refl
 leads_more n ns (Some m) h = or_right (m == n) (is_in m ns) h
 
-module _ {K V : Type 0} (kp : Plain K) (vp : Plain V) (kl : Laws kp) (vl : Laws vp) (c : Cut) (h at : ℕ) (root : Option ℕ) (ps : List (Pair K V)) (s : HoldsMap kp vp c.bytes h at ps) (is : root ≡ link_at (bytes_of c.bytes) (h + at))
-    (p : Pair K V) (l : IsLoose kp vp c.bytes h ps p) where
-  t : Tree
-  t = s.map.tree.tree
+module _ {K V : Type 0} {kp : Plain K} {vp : Plain V} (kl : Laws kp) (c : Cut) {h at : ℕ} {root : Option ℕ}
+    {ps : List (Pair K V)} (s : HoldsMap kp vp c.bytes h at ps) (is : root ≡ link_at (bytes_of c.bytes) (h + at))
+    {p : Pair K V} (l : IsLoose kp vp c.bytes h ps p) where
+  abbrev ns : List ℕ
+  ns = nodes_of s.map.tree.tree
 
   abbrev all : List ℕ
   all = pair_node p ∷ nodes_of s.map.tree.tree
 
-  ns_is : own_nodes c.bytes root (Some (pair_node p)) ≡ pair_node p ∷ nodes_of s.map.tree.tree
+  ns_is : own_nodes c.bytes root (Some (pair_node p)) ≡ all
   unfolding own_nodes
-  ns_is = ap (λ (ms : List ℕ). pair_node p ∷ ms) (lent_own kp vp kl c h at ps s root (own_nodes c.bytes root None) is refl)
+  ns_is = ap (λ (ms : List ℕ). pair_node p ∷ ms) (lent_own kl c s is refl)
 
-  all_own : pair_node p ∷ nodes_of s.map.tree.tree ≡ pair_node p ∷ nodes_of_pairs ps
-  all_own = ap (λ (ms : List ℕ). pair_node p ∷ ms) (listed kp vp kl c h at ps s)
+  all_own : all ≡ pair_node p ∷ nodes_of_pairs ps
+  all_own = ap (λ (ms : List ℕ). pair_node p ∷ ms) (listed kl c s)
 
-  links_all : (m : ℕ) → is_in m (pair_node p ∷ nodes_of s.map.tree.tree) ≡ true → links_among (bytes_of c.bytes) (pair_node p ∷ nodes_of s.map.tree.tree) m ≡ true
+  links_all : (m : ℕ) → is_in m all ≡ true → links_among (bytes_of c.bytes) all m ≡ true
   links_all m i =
-      elim (or_cases (m == pair_node p) (is_in m (nodes_of s.map.tree.tree)) i) [
+      elim (or_cases (m == pair_node p) (is_in m ns) i) [
         | inl e ↦
             let at' = eqb-true m (pair_node p) e in
             let a : (cells_of (bytes_of c.bytes) m).left ≡ None = ap (link_at (bytes_of c.bytes)) at' ∙ l.left in
             let b : (cells_of (bytes_of c.bytes) m).right ≡ None = ap (λ k. link_at (bytes_of c.bytes) (k + 8)) at' ∙ l.right in
             (λ j. leads (λ k. is_in k all) (a j) && leads (λ k. is_in k all) (b j))
         | inr e ↦
-            let g = good kp vp kl c h at ps s in
-            let two = and_parts (leads (λ k. is_in k (nodes_of s.map.tree.tree)) (cells_of (bytes_of c.bytes) m).left) (leads (λ k. is_in k (nodes_of s.map.tree.tree)) (cells_of (bytes_of c.bytes) m).right)
-            (all_at (links_among (bytes_of c.bytes) (nodes_of s.map.tree.tree)) (nodes_of s.map.tree.tree) m g.links e) in
+            let g = good kl c s in
+            let two = and_parts (leads (λ k. is_in k ns) (cells_of (bytes_of c.bytes) m).left) (leads (λ k. is_in k ns) (cells_of (bytes_of c.bytes) m).right)
+            (all_at (links_among (bytes_of c.bytes) ns) ns m g.links e) in
             and_from (leads (λ k. is_in k all) (cells_of (bytes_of c.bytes) m).left) (leads (λ k. is_in k all) (cells_of (bytes_of c.bytes) m).right)
-            (leads_more (pair_node p) (nodes_of s.map.tree.tree) (cells_of (bytes_of c.bytes) m).left two.0) (leads_more (pair_node p) (nodes_of s.map.tree.tree) (cells_of (bytes_of c.bytes) m).right two.1)
+            (leads_more (pair_node p) ns (cells_of (bytes_of c.bytes) m).left two.0) (leads_more (pair_node p) ns (cells_of (bytes_of c.bytes) m).right two.1)
       ]
 
-  good_all : Good (16 + kp.SIZE) (pair_node p ∷ nodes_of s.map.tree.tree) c
+  good_all : Good (16 + kp.SIZE) all c
   good_all =
       record {
         proper = s.heap.proper;
-        blocks = and_from (is_block_in (16 + kp.SIZE) (live_of c.bytes) (pair_node p)) (list_all (is_block_in (16 + kp.SIZE) (live_of c.bytes)) (nodes_of s.map.tree.tree)) (pair_block kp vp kl c h at ps s p l.block) (good kp vp kl c h at ps s).blocks;
+        blocks = and_from (is_block_in (16 + kp.SIZE) (live_of c.bytes) (pair_node p)) (list_all (is_block_in (16 + kp.SIZE) (live_of c.bytes)) ns) (pair_block kl c s p l.block) (good kl c s).blocks;
         links = all_from (links_among (bytes_of c.bytes) all) all links_all;
       }
 
-  node_all : (m : ℕ) → is_in m (pair_node p ∷ nodes_of s.map.tree.tree) ≡ true → is_pair_node (16 + kp.SIZE) (pair_node p ∷ nodes_of s.map.tree.tree) c m ≡ true
+  node_all : (m : ℕ) → is_in m all ≡ true → is_pair_node (16 + kp.SIZE) all c m ≡ true
   node_all m i = PairNode-is_pair_node (16 + kp.SIZE) all c m (record { good = good_all; listed = i })
 
-  in_all : (m : ℕ) → is_in m (nodes_of s.map.tree.tree) ≡ true → is_in m (pair_node p ∷ nodes_of s.map.tree.tree) ≡ true
-  in_all m i = or_right (m == pair_node p) (is_in m (nodes_of s.map.tree.tree)) i
+  in_all : (m : ℕ) → is_in m ns ≡ true → is_in m all ≡ true
+  in_all m i = or_right (m == pair_node p) (is_in m ns) i
 
-  own_in : is_in (pair_node p) (pair_node p ∷ nodes_of s.map.tree.tree) ≡ true
-  own_in = or_left (pair_node p == pair_node p) (is_in (pair_node p) (nodes_of s.map.tree.tree)) (eq-eqb (pair_node p) (pair_node p) refl)
+  own_in : is_in (pair_node p) all ≡ true
+  own_in = or_left (pair_node p == pair_node p) (is_in (pair_node p) ns) (eq-eqb (pair_node p) (pair_node p) refl)
 
   -- the keys of the nodes are as before, and the new one has its own
-  key_same : (m : ℕ) → is_in m (nodes_of s.map.tree.tree) ≡ true → keys_in kp (pair_node p ∷ nodes_of s.map.tree.tree) c m ≡ keys_in kp (nodes_of s.map.tree.tree) c m
+  key_same : (m : ℕ) → is_in m ns ≡ true → keys_in kp all c m ≡ keys_in kp ns c m
   unfolding key_of
   key_same m i =
       cond-true (is_pair_node (16 + kp.SIZE) all c m) (key_at (value_of kp) kp.SIZE (bytes_of c.bytes) m) None (node_all m (in_all m i))
-      ∙ sym (cond-true (is_pair_node (16 + kp.SIZE) (nodes_of s.map.tree.tree) c m) (key_at (value_of kp) kp.SIZE (bytes_of c.bytes) m) None (node_here kp vp kl c h at ps s m i))
+      ∙ sym (cond-true (is_pair_node (16 + kp.SIZE) ns c m) (key_at (value_of kp) kp.SIZE (bytes_of c.bytes) m) None (node_here kl c s m i))
 
-  own_key : keys_in kp (pair_node p ∷ nodes_of s.map.tree.tree) c (pair_node p) ≡ Some p.key
+  own_key : keys_in kp all c (pair_node p) ≡ Some p.key
   unfolding key_of key_at
   own_key =
-      let parts = and_parts (kp.is_value p.key && vp.is_value p.value) (_) l.block.good in
-      let values = and_parts (kp.is_value p.key) (vp.is_value p.value) parts.0 in
       cond-true (is_pair_node (16 + kp.SIZE) all c (pair_node p)) (key_at (value_of kp) kp.SIZE (bytes_of c.bytes) (pair_node p)) None (node_all (pair_node p) own_in)
-      ∙ read_spelled kp kl (bytes_of c.bytes) (handle p.node + 16) p.key values.0 l.bytes.0
+      ∙ read_spelled kp kl (bytes_of c.bytes) (handle p.node + 16) p.key (pair_parts l.block).key l.bytes.0
 
-  keys_from : (qs : List (Pair K V)) → list_all (λ n. is_in n (nodes_of s.map.tree.tree)) (nodes_of_pairs qs) ≡ true → HaveKeys (keys_in kp (nodes_of s.map.tree.tree) c) qs → HaveKeys (keys_in kp (pair_node p ∷ nodes_of s.map.tree.tree) c) qs
+  keys_from : (qs : List (Pair K V)) → list_all (λ n. is_in n ns) (nodes_of_pairs qs) ≡ true → HaveKeys (keys_in kp ns c) qs → HaveKeys (keys_in kp all c) qs
   keys_from [] i k = tt
   keys_from (q ∷ qs) i k =
-      let two = and_parts (is_in (pair_node q) (nodes_of s.map.tree.tree)) (list_all (λ n. is_in n (nodes_of s.map.tree.tree)) (nodes_of_pairs qs)) i in
+      let two = and_parts (is_in (pair_node q) ns) (list_all (λ n. is_in n ns) (nodes_of_pairs qs)) i in
       (key_same (pair_node q) two.0 ∙ k.0, keys_from qs two.1 k.1)
 
-  keys_all : HaveKeys (keys_in kp (pair_node p ∷ nodes_of s.map.tree.tree) c) ps
-  keys_all = keys_from ps (all_from (λ n. is_in n (nodes_of s.map.tree.tree)) (nodes_of_pairs ps) (λ m i. ap (λ ms. is_in m ms) (listed kp vp kl c h at ps s) ∙ i)) (keys kp vp kl c h at ps s)
+  keys_all : HaveKeys (keys_in kp all c) ps
+  keys_all = keys_from ps (all_from (λ n. is_in n ns) (nodes_of_pairs ps) (λ m i. ap (λ ms. is_in m ms) (listed kl c s) ∙ i)) (keys kl c s)
 
-  key_tree : IsKeyTree kp (pair_node p ∷ nodes_of s.map.tree.tree) c root s.map.tree.tree
+  key_tree : IsKeyTree kp all c root s.map.tree.tree
   key_tree =
       record {
         tree = record {
-          tree = subst (λ (o : Option ℕ). IsTree (pair_cells (16 + kp.SIZE) (pair_node p ∷ nodes_of s.map.tree.tree) c) o s.map.tree.tree) (sym is)
+          tree = subst (λ (o : Option ℕ). IsTree (pair_cells (16 + kp.SIZE) all c) o s.map.tree.tree) (sym is)
               (tree_same (cells_of (bytes_of c.bytes)) (pair_cells (16 + kp.SIZE) all c) (link_at (bytes_of c.bytes) (h + at)) s.map.tree.tree (λ m i. cells_at (16 + kp.SIZE) all c m (node_all m (in_all m i))) s.map.tree.linked);
-          ordered = ap (rises (comes_before kp.order (keys_in kp all c))) (listed kp vp kl c h at ps s) ∙ rising_nodes kp.order kl.transitive (keys_in kp all c) ps keys_all s.rising;
+          ordered = ap (rises (comes_before kp.order (keys_in kp all c))) (listed kl c s) ∙ rising_nodes kp.order kl.transitive (keys_in kp all c) ps keys_all s.rising;
           red_black = s.map.tree.red_black;
         };
         leads = by_root root (subst (λ (o : Option ℕ). IsTree (cells_of (bytes_of c.bytes)) o s.map.tree.tree) (sym is) s.map.tree.linked);
       }
     where
-      by_root : (o : Option ℕ) → IsTree (cells_of (bytes_of c.bytes)) o s.map.tree.tree → leads (is_pair_node (16 + kp.SIZE) (pair_node p ∷ nodes_of s.map.tree.tree) c) o ≡ true
+      by_root : (o : Option ℕ) → IsTree (cells_of (bytes_of c.bytes)) o s.map.tree.tree → leads (is_pair_node (16 + kp.SIZE) all c) o ≡ true
       by_root None k = refl
       by_root (Some n) k = node_all n (in_all n (root_in (cells_of (bytes_of c.bytes)) n s.map.tree.tree k))
 
@@ -127,33 +126,33 @@ module _ {K V : Type 0} (kp : Plain K) (vp : Plain V) (kl : Laws kp) (vl : Laws 
   begins_all : (start : Option ℕ) → IfSome start (λ n. entry_in kp c p.key s.map.tree.tree ≡ Some n)
       → IfSome start
       (λ n. entry_of
-      (λ m. not (comes_before kp.order (keys_in kp (pair_node p ∷ nodes_of s.map.tree.tree) c) (pair_node p)
+      (λ m. not (comes_before kp.order (keys_in kp all c) (pair_node p)
       m)) s.map.tree.tree ≡ Some n)
   begins_all start b =
       moved start (entry_in kp c p.key s.map.tree.tree)
       (entry_of (λ m. not (comes_before kp.order (keys_in kp all c) (pair_node p) m)) s.map.tree.tree)
-      (entry_same (stands_before kp.order (keys_in kp (nodes_of s.map.tree.tree) c) false p.key)
+      (entry_same (stands_before kp.order (keys_in kp ns c) false p.key)
       (λ m. not (comes_before kp.order (keys_in kp all c) (pair_node p) m)) s.map.tree.tree
       (λ m i. ap (stands kp.order false p.key) (sym (key_same m i))
       ∙ not_beside kp.order kl.irreflexive kl.transitive (keys_in kp all c) p own_key ps keys_all l.absent m
-      (ap (is_in m) (sym (listed kp vp kl c h at ps s)) ∙ i))) b
+      (ap (is_in m) (sym (listed kl c s)) ∙ i))) b
 
-  pub can_link : (start : Option ℕ) → IfSome start (λ n. entry_in kp c p.key s.map.tree.tree ≡ Some n) → (node : ℕ)
+  pub can_link : (start : Option ℕ) → IfSome start (λ n. entry_in kp c p.key s.map.tree.tree ≡ Some n) → {node : ℕ}
       → pair_node p ≡ node
       → CanLink kp (own_nodes c.bytes root (Some node)) c root start node
-  can_link start begins node e =
+  can_link start begins {node} e =
       subst (λ (n : ℕ). CanLink kp (own_nodes c.bytes root (Some n)) c root start n) e
       (subst (λ (ms : List ℕ). CanLink kp ms c root start (pair_node p)) (sym ns_is)
       (record {
         shape = s.map.tree.tree;
         tree = key_tree;
         own = node_all (pair_node p) own_in;
-        place = ap (has_place (comes_before kp.order (keys_in kp all c)) (pair_node p)) (listed kp vp kl c h at ps s) ∙ place_of kp.order (keys_in kp all c) p own_key ps keys_all l.absent;
+        place = ap (has_place (comes_before kp.order (keys_in kp all c)) (pair_node p)) (listed kl c s) ∙ place_of kp.order (keys_in kp all c) p own_key ps keys_all l.absent;
         begins = begins_all start begins;
       }))
 
-  module _ (d : Cut) (node : ℕ) (here : pair_node p ≡ node) (top : Option ℕ) (steps : ℕ) (k : Linked kp (own_nodes c.bytes root (Some node)) c d root node top steps) where
-    u : Linked kp (pair_node p ∷ nodes_of s.map.tree.tree) c d root (pair_node p) top steps
+  module _ {d : Cut} {node : ℕ} (here : pair_node p ≡ node) {top : Option ℕ} {steps : ℕ} (k : Linked kp (own_nodes c.bytes root (Some node)) c d root node top steps) where
+    u : Linked kp all c d root (pair_node p) top steps
     u = subst (λ (ms : List ℕ). Linked kp ms c d root (pair_node p) top steps) ns_is (subst (λ (n : ℕ). Linked kp (own_nodes c.bytes root (Some n)) c d root n top steps) (sym here) k)
 
     pub live_put : live_of d.bytes ≡ live_of c.bytes
@@ -163,27 +162,28 @@ module _ {K V : Type 0} (kp : Plain K) (vp : Plain V) (kl : Laws kp) (vl : Laws 
     top_put = let r = u.tree s.map.tree.tree key_tree in target_whole (16 + kp.SIZE) all d top r.1.leads
 
     pub few_put : steps ≤ 32 * bits (length ps + 1) + 32
-    few_put = subst (λ n. steps ≤ 32 * bits (n + 1) + 32) (count_pairs kp vp kl c h at ps s) (u.few s.map.tree.tree key_tree)
+    few_put = subst (λ n. steps ≤ 32 * bits (n + 1) + 32) (count_pairs kl c s) (u.few s.map.tree.tree key_tree)
 
-    off : is_in h (pair_node p ∷ nodes_of s.map.tree.tree) ≡ false
+    off : is_in h all ≡ false
     off = ap (is_in h) all_own ∙ apart_all kp vp (live_of c.bytes) h (p ∷ ps) (l.block, s.pairs)
 
     -- the map with the pair
-    pub planted : (e : Cut) (n : ℕ) → n ≡ length ps + 1 → IsHeaded d e (h + at) top n → IsPlanted kp vp c e h at ps p
-    planted e n count head =
+    pub planted : Laws vp → {e : Cut} {n : ℕ} → n ≡ length ps + 1 → IsHeaded d e (h + at) top n → IsPlanted kp vp c e h at ps p
+    planted vl {e} {n} count head =
         let r = u.tree s.map.tree.tree key_tree in
         let lists : nodes_of r.0 ≡ nodes_of_pairs (put_pair kp.order p ps) =
-        r.2 ∙ ap (put (comes_before kp.order (keys_in kp all c)) (pair_node p)) (listed kp vp kl c h at ps s) ∙ put_nodes kp.order (keys_in kp all c) p own_key ps keys_all l.absent in
+        r.2 ∙ ap (put (comes_before kp.order (keys_in kp all c)) (pair_node p)) (listed kl c s) ∙ put_nodes kp.order (keys_in kp all c) p own_key ps keys_all l.absent in
         let more = put_length kp.order p ps l.absent in
         record {
           live = subst (LaysOut current e.bytes) live_put head.change.live;
-          beside = subst (IsBesideMap c e (h + at)) all_own (beside kp vp kl vl c d e h at all s.heap good_all u.kept s.room off top n head);
-          map = rewritten kp vp kl vl c d e h at all s.heap good_all u.kept s.room off top n head (put_pair kp.order p ps) r.0 r.1 lists
+          beside = subst (IsBesideMap c e (h + at)) all_own (beside kl vl h at s.heap good_all u.kept s.room off head);
+          map = rewritten kl vl h at s.heap good_all u.kept s.room off head (put_pair kp.order p ps) r.1 lists
               (put_all kp.order (IsPairIn kp vp (live_of c.bytes) h) p ps l.block s.pairs)
-              (in_from all (put_pair kp.order p ps) (put_all kp.order (λ q. is_in (pair_node q) all ≡ true) p ps own_in (nodes_in all ps (λ m i. in_all m (ap (λ ms. is_in m ms) (listed kp vp kl c h at ps s) ∙ i)))))
+              (in_from all (put_pair kp.order p ps) (put_all kp.order (λ q. is_in (pair_node q) all ≡ true) p ps own_in (nodes_in all ps (λ m i. in_all m (ap (λ ms. is_in m ms) (listed kl c s) ∙ i)))))
               s.aligned (put_rising kp.order kl.transitive p ps l.absent s.rising) (put_all kp.order (IsPairAt kp.SIZE kp.spelling vp.spelling (bytes_of c.bytes)) p ps l.bytes s.map.pairs) (omega (arith, more, count));
         }
 
 -- a map has few pairs
-pub few_in_map : {K V : Type 0} (kp : Plain K) (vp : Plain V) (kl : Laws kp) (c : Cut) (h at : ℕ) (ps : List (Pair K V)) (s : HoldsMap kp vp c.bytes h at ps) → length ps ≤ 1073741824
-few_in_map kp vp kl c h at ps s = let few = few_pairs kp vp kl c h at ps s in let same = count_pairs kp vp kl c h at ps s in omega (arith, few, same)
+pub few_in_map : {K V : Type 0} {kp : Plain K} {vp : Plain V} (kl : Laws kp) (c : Cut) {h at : ℕ} {ps : List (Pair K V)}
+    (s : HoldsMap kp vp c.bytes h at ps) → length ps ≤ 1073741824
+few_in_map kl c s = let few = few_pairs kl c s in let same = count_pairs kl c s in omega (arith, few, same)

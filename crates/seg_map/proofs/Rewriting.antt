@@ -19,16 +19,18 @@ use Rattle.seg_types.specs.declared.plain.Plain.{Ghosts as Plain}
 use Rattle.seg_map.specs.Map.{Pair, IsPairAt, is_rising}
 use Rattle.seg_map.specs.Places.{HoldsMap, IsPairIn, nodes_of_pairs}
 use Rattle.seg_map.specs.PairNodes.{is_link_byte, is_pair_node, kept_of, lies_in_block, pair_cells}
-use Rattle.seg_map.specs.PairLaws.{Good, In, cells_at, PairNode-is_pair_node, is_pair_node-PairNode, node_place}
+use Rattle.seg_map.specs.PairLaws.{Good, In, cells_at, PairNode, PairNode-is_pair_node, is_pair_node-PairNode, node_place}
 use Rattle.seg_map.specs.Linking.{IsKeyTree}
 use Rattle.seg_map.specs.Changing.{IsBesideMap, IsHeaded}
-use Rattle.seg_map.proofs.Entering.{Laws, found_in}
+use Rattle.seg_map.proofs.Entering.{Laws, found_in, pair_parts}
 use Rattle.seg_map.proofs.PairSteps.{all_in, any_at, block_apart, in_others}
 use Rattle.seg_map.proofs.Frames.{kept_block, kept_byte, kept_keeps, live_stays, no_link}
-use Rattle.seg_map.proofs.Staying.{at_node, block_cells, lengths, pair_long, pair_stays}
+use Rattle.seg_map.proofs.Staying.{at_node, block_cells, lengths, pair_stays}
 
-module _ {K V : Type 0} (kp : Plain K) (vp : Plain V) (kl : Laws kp) (vl : Laws vp) (c d e : Cut) (h at : ℕ) (ns : List ℕ) (heap : IsHeap current c.bytes) (good : Good (16 + kp.SIZE) ns c)
-    (kept : kept_of ns d ≡ kept_of ns c) (room : IsTrue (has_room (live_of c.bytes) h (at + 24))) (off : is_in h ns ≡ false) (top : Option ℕ) (n : ℕ) (head : IsHeaded d e (h + at) top n) where
+module _ {K V : Type 0} {kp : Plain K} {vp : Plain V} (kl : Laws kp) (vl : Laws vp) {c d e : Cut} (h at : ℕ) {ns : List ℕ}
+    (heap : IsHeap current c.bytes) (good : Good (16 + kp.SIZE) ns c) (kept : kept_of ns d ≡ kept_of ns c)
+    (room : IsTrue (has_room (live_of c.bytes) h (at + 24))) (off : is_in h ns ≡ false) {top : Option ℕ} {n : ℕ}
+    (head : IsHeaded d e (h + at) top n) where
   live_d : live_of d.bytes ≡ live_of c.bytes
   live_d = live_stays c d ns ns kept
 
@@ -51,7 +53,7 @@ module _ {K V : Type 0} (kp : Plain K) (vp : Plain V) (kl : Laws kp) (vl : Laws 
   low m i = (node_place (16 + kp.SIZE) ns c m (record { good = good; listed = i })).low
 
   rest_kept : Keeps c d []
-  rest_kept = kept_keeps (16 + kp.SIZE) ns c d (omega arith) good kept [] tt low
+  rest_kept = kept_keeps d good kept (omega arith) [] tt low
 
   pub beside : IsBesideMap c e (h + at) ns
   beside =
@@ -63,7 +65,7 @@ module _ {K V : Type 0} (kp : Plain K) (vp : Plain V) (kl : Laws kp) (vl : Laws 
         behind = Same-trans (bytes_of c.bytes) (bytes_of d.bytes) (bytes_of e.bytes) 32 128 rest_kept.behind others_stay.behind;
         blocks = λ x f o.
             let i = found_in (live_of c.bytes).extents (handle x) x f in
-            let p = kept_block (16 + kp.SIZE) ns c d (omega arith) good kept x (record { listed = i; no_node = o }) in
+            let p = kept_block d good kept (omega arith) x (record { listed = i; no_node = o }) in
             let q = all_in (SameBlockBut (bytes_of d.bytes) (bytes_of e.bytes) (h + at) 24) (live_of c.bytes).extents x written i in
             (but-trans (bytes_of c.bytes) (bytes_of d.bytes) (bytes_of e.bytes) (h + at) 24 (x ∷ []) (p, tt) (q, tt)).0;
       }
@@ -84,20 +86,21 @@ module _ {K V : Type 0} (kp : Plain K) (vp : Plain V) (kl : Laws kp) (vl : Laws 
   pair_kept : (p : Pair K V) → IsPairIn kp vp (live_of c.bytes) h p → Same (bytes_of c.bytes) (bytes_of e.bytes) (handle p.node + 16) (handle p.node + (16 + kp.SIZE + vp.SIZE))
   pair_kept p i =
       let x = p.node in let listed = found_in (live_of c.bytes).extents (handle x) x i.listed in
-      let long = pair_long kp vp (live_of c.bytes) h p i in let same = block_stays x listed i.apart in
+      let long = (pair_parts i).long in let same = block_stays x listed i.apart in
       record {
         at = λ k from to. same.payload.at k (omega arith) (omega arith)
-            ∙ kept_byte (16 + kp.SIZE) ns c d (omega arith) good kept k (and_from (nat_lt k 24 || (nat_le 32 k && nat_lt k 128) || lies_in_block (live_of c.bytes) k) (not (is_link_byte ns k))
+            ∙ kept_byte d good kept (omega arith) k (and_from (nat_lt k 24 || (nat_le 32 k && nat_lt k 128) || lies_in_block (live_of c.bytes) k) (not (is_link_byte ns k))
             (or_right (nat_lt k 24 || (nat_le 32 k && nat_lt k 128)) (lies_in_block (live_of c.bytes) k)
             (any_at (λ (y : Extent). nat_le (handle y) k && nat_lt k (end_of y)) (live_of c.bytes).extents x listed
             (and_from (nat_le (handle x) k) (nat_lt k (end_of x)) (le-leb (handle x) k (omega arith)) (lt-ltb k (end_of x) (omega arith)))))
-            (ap not (no_link (16 + kp.SIZE) ns c d (omega arith) good kept k (λ m j. apart k from (omega arith) m j (cases_eq (handle x) m)))));
+            (ap not (no_link d good kept (omega arith) k (λ m j. apart k from (omega arith) m j (cases_eq (handle x) m)))));
       }
     where
       apart : (k : ℕ) → handle p.node + 16 ≤ k → k < end_of p.node → (m : ℕ) → is_in m ns ≡ true → (handle p.node ≡ m) ⊎ (handle p.node ≡ m → ⊥) → (k < m) ⊎ (m + 16 ≤ k)
       apart k from to m j (inl f) = inr (omega arith)
       apart k from to m j (inr o) =
-          elim (block_apart (16 + kp.SIZE) ns c m p.node (record { good = good; listed = j }) (found_in (live_of c.bytes).extents (handle p.node) p.node i.listed) o) [
+          let q : PairNode (16 + kp.SIZE) ns c m = record { good = good; listed = j } in
+          elim (block_apart p.node q (found_in (live_of c.bytes).extents (handle p.node) p.node i.listed) o) [
             | inl l ↦ inl (omega arith)
             | inr l ↦ inr (omega arith)
           ]
@@ -105,16 +108,15 @@ module _ {K V : Type 0} (kp : Plain K) (vp : Plain V) (kl : Laws kp) (vl : Laws 
   pairs_at : (qs : List (Pair K V)) → AllByRecursion (IsPairIn kp vp (live_of c.bytes) h) qs → AllByRecursion (IsPairAt kp.SIZE kp.spelling vp.spelling (bytes_of c.bytes)) qs → AllByRecursion (IsPairAt kp.SIZE kp.spelling vp.spelling (bytes_of e.bytes)) qs
   pairs_at [] a b = tt
   pairs_at (q ∷ qs) a b =
-      let l = lengths kp vp kl vl (live_of c.bytes) h q a.0 in
-      (pair_stays kp vp (bytes_of c.bytes) (bytes_of e.bytes) q l.key l.value (pair_kept q a.0) b.0, pairs_at qs a.1 b.1)
+      (pair_stays (bytes_of c.bytes) (bytes_of e.bytes) (lengths kl vl a.0) (pair_kept q a.0) b.0, pairs_at qs a.1 b.1)
 
-  module _ (qs : List (Pair K V)) (t : Tree) (k : IsKeyTree kp ns d top t) (lists : nodes_of t ≡ nodes_of_pairs qs) (pairs : AllByRecursion (IsPairIn kp vp (live_of c.bytes) h) qs)
+  module _ (qs : List (Pair K V)) {t : Tree} (k : IsKeyTree kp ns d top t) (lists : nodes_of t ≡ nodes_of_pairs qs) (pairs : AllByRecursion (IsPairIn kp vp (live_of c.bytes) h) qs)
       (own : (m : ℕ) → is_in m (nodes_of_pairs qs) ≡ true → is_in m ns ≡ true) where
     tree_cells : (m : ℕ) → is_in m (nodes_of t) ≡ true → cells_of (bytes_of e.bytes) m ≡ pair_cells (16 + kp.SIZE) ns d m
     tree_cells m i =
         let j = ap (λ ms. is_in m ms) (sym lists) ∙ i in
-        let a = at_node kp vp (IsPairIn kp vp (live_of c.bytes) h) qs m j pairs in
-        let long = pair_long kp vp (live_of c.bytes) h a.pair a.holds in
+        let a = at_node (IsPairIn kp vp (live_of c.bytes) h) qs m j pairs in
+        let long = (pair_parts a.holds).long in
         let same = block_stays a.pair.node (found_in (live_of c.bytes).extents (handle a.pair.node) a.pair.node a.holds.listed) a.holds.apart in
         subst (λ x. cells_of (bytes_of e.bytes) x ≡ cells_of (bytes_of d.bytes) x) a.at (block_cells (bytes_of d.bytes) (bytes_of e.bytes) a.pair.node same (omega arith))
         ∙ sym (cells_at (16 + kp.SIZE) ns d m (node_d t k m i (own m j)))

@@ -1,26 +1,307 @@
--- The pairs of a map that are lent to a call of the tree.
-use Rattle.std.proofs.Common.{◌≡◌, sym, ap, subst, ◌∙◌, ℕ, ◌+◌, List, true}
-use Rattle.std.specs.Prelude.{Option, None}
-use Rattle.raw_region.specs.Memory.{Cut, bytes_of}
+-- The pairs of a map that are lent to a call of the tree, and what a search among them finds.
+use Rattle.std.proofs.Common.{◌≡◌, refl, sym, ap, subst, ◌∙◌, ℕ, ◌+◌, ◌*◌, ◌≤◌, Bool, List, [], ◌∷◌, length, true, false, arith, not, IsTrue}
+use mathlib.Core.List.{reverse}
+use Rattle.std.specs.Prelude.{Option, Some, None, IfSome, find, option_and_then, option_map, if◌then◌else◌}
+use Rattle.std.specs.List.{AllByRecursion, last_or}
+use Rattle.raw_region.specs.Memory.{Cut, Memory, bytes_of, read}
 use Rattle.offset_link.specs.Link.{link_at}
-use Rattle.link_tree.specs.Tree.{IsSearchTree, nodes_of}
-use Rattle.link_tree.specs.Nodes.{leads}
+use Rattle.link_tree.specs.Tree.{IsSearchTree, Tree, bits, nodes_of}
+use Rattle.link_tree.specs.Nodes.{first_not, last_before}
+use Rattle.link_tree.specs.Searching.{path_length}
+use Rattle.link_tree.specs.Ways.{entry_of, exit_of}
+use Rattle.best_fit.specs.Heap.{has_room, live_of}
+use Rattle.best_fit.proofs.Laws.{found-room, room-less}
 use Rattle.seg_types.specs.declared.plain.Plain.{Ghosts as Plain}
-use Rattle.seg_map.specs.Map.{Pair}
-use Rattle.seg_map.specs.Places.{HoldsMap}
-use Rattle.seg_map.specs.PairNodes.{comes_before, is_pair_node, key_of, own_nodes, pair_cells}
-use Rattle.seg_map.proofs.Entering.{Laws, own, root_leads, search_tree, value_of}
+use Rattle.seg_map.specs.Linking.{IsKeyTree, keys_in}
+use Rattle.seg_map.specs.Map.{Pair, IsPairAt, is_rising, pair_at}
+use Rattle.seg_map.specs.PairNodes.{both, comes_before, own_nodes, pair_cells, stands_before}
+use Rattle.seg_map.specs.Places.{HoldsMap, IsPairIn, IsSomeMap, SearchSteps, final_pair, first_pair, is_passed, item_of, last_pair, pair_node, value_of_pair}
+use Rattle.seg_map.specs.Searches.{FindsExit, IsOpened, IsRead, LooksFor, entry_in, exit_in, item_at, last_path, node_with, path_in, reading_steps}
+use Rattle.seg_map.proofs.Entering.{HaveKeys, Laws, count_pairs, found_back, found_last, found_pair, keys, own, pair_parts, read_spelled, root_leads, search_tree, value_of}
+use Rattle.seg_map.proofs.FoundLists.{all_reversed}
+use Rattle.seg_map.proofs.FoundPairs.{by_key, pair_by_key}
 
-module _ {K V : Type 0} (kp : Plain K) (vp : Plain V) (laws : Laws kp) (c : Cut) (h at : ℕ) (ps : List (Pair K V)) (s : HoldsMap kp vp c.bytes h at ps) (root : Option ℕ) (ms : List ℕ)
-    (is : root ≡ link_at (bytes_of c.bytes) (h + at)) (are : ms ≡ own_nodes c.bytes root None) where
+module _ {K V : Type 0} {kp : Plain K} {vp : Plain V} (laws : Laws kp) (c : Cut) {h at : ℕ} {ps : List (Pair K V)}
+    (s : HoldsMap kp vp c.bytes h at ps) {root : Option ℕ} {ms : List ℕ} (is : root ≡ link_at (bytes_of c.bytes) (h + at))
+    (are : ms ≡ own_nodes c.bytes root None) where
   pub lent_own : ms ≡ nodes_of s.map.tree.tree
-  lent_own = are ∙ ap (λ o. own_nodes c.bytes o None) is ∙ own kp vp laws c h at ps s
+  lent_own = are ∙ ap (λ o. own_nodes c.bytes o None) is ∙ own laws c s
 
-  pub lent_leads : leads (is_pair_node (16 + kp.SIZE) ms c) root ≡ true
-  lent_leads = (λ i. leads (is_pair_node (16 + kp.SIZE) (lent_own i) c) (is i)) ∙ root_leads kp vp laws c h at ps s
-
-  pub lent_tree : IsSearchTree (comes_before kp.order (key_of (value_of kp) kp.SIZE ms c)) (pair_cells (16 + kp.SIZE) ms c) root s.map.tree.tree
+  pub lent_tree : IsKeyTree kp ms c root s.map.tree.tree
   lent_tree =
-      subst (λ (ks : List ℕ). IsSearchTree (comes_before kp.order (key_of (value_of kp) kp.SIZE ks c)) (pair_cells (16 + kp.SIZE) ks c) root s.map.tree.tree) (sym lent_own)
-      (subst (λ (o : Option ℕ). IsSearchTree (comes_before kp.order (key_of (value_of kp) kp.SIZE (nodes_of s.map.tree.tree) c)) (pair_cells (16 + kp.SIZE) (nodes_of s.map.tree.tree) c) o s.map.tree.tree) (sym is)
-      (search_tree kp vp laws c h at ps s))
+      subst (λ (ks : List ℕ). IsKeyTree kp ks c root s.map.tree.tree) (sym lent_own)
+      (subst (λ (o : Option ℕ). IsKeyTree kp (nodes_of s.map.tree.tree) c o s.map.tree.tree) (sym is)
+      (record { tree = search_tree laws c s; leads = root_leads laws c s }))
+
+-- ---- a map is opened to a search
+
+module _ {K V : Type 0} {kp : Plain K} {vp : Plain V} (kl : Laws kp) (vl : Laws vp) (c : Cut) (h : ℕ) where
+  read_pair : (by : ℕ → Option K) (p : Pair K V) → IsPairIn kp vp (live_of c.bytes) h p
+      → IsPairAt kp.SIZE kp.spelling vp.spelling (bytes_of c.bytes) p → by (pair_node p) ≡ Some p.key → IsRead kp vp c by p
+  read_pair by p i b e =
+      let q = pair_parts i in
+      let m = bytes_of c.bytes in let behind : pair_node p + (16 + kp.SIZE) ≡ pair_node p + 16 + kp.SIZE = omega arith in
+      let k = read_spelled kp kl m (pair_node p + 16) p.key q.key b.0 in
+      let v = ap (λ a. value_of vp (read m a vp.SIZE)) behind
+      ∙ read_spelled vp vl m (pair_node p + 16 + kp.SIZE) p.value q.value b.1 in
+      record {
+        key = e;
+        item = λ j. both (k j) (v j);
+        room = found-room (live_of c.bytes) (pair_node p) (16 + kp.SIZE + vp.SIZE) p.node i.listed q.long;
+      }
+
+  read_pairs : (by : ℕ → Option K) (ps : List (Pair K V)) → AllByRecursion (IsPairIn kp vp (live_of c.bytes) h) ps
+      → AllByRecursion (IsPairAt kp.SIZE kp.spelling vp.spelling (bytes_of c.bytes)) ps → HaveKeys by ps
+      → AllByRecursion (IsRead kp vp c by) ps
+  read_pairs by [] i b k = tt
+  read_pairs by (p ∷ ps) i b k = (read_pair by p i.0 b.0 k.0, read_pairs by ps i.1 b.1 k.1)
+
+  pub opened : (at : ℕ) {root : Option ℕ} {ms : List ℕ} → root ≡ link_at (bytes_of c.bytes) (h + at)
+      → ms ≡ own_nodes c.bytes root None → IsOpened kp vp c c h at ms root
+  opened at {root} {ms} is are =
+      record {
+        same = refl;
+        nodes = λ ps s. lent_own kl c s is are;
+        tree = λ ps s. lent_tree kl c s is are;
+        pairs = λ ps s. read_pairs (keys_in kp ms c) ps s.pairs s.map.pairs
+            (subst (λ (ns : List ℕ). HaveKeys (keys_in kp ns c) ps) (sym (lent_own kl c s is are)) (keys kl c s));
+      }
+
+-- ---- what a search finds
+
+-- the node of a pair, or none, after so many steps
+pub record Finds {K V : Type 0} (k : Plain K) (v : Plain V) (c : Cut) (h at : ℕ)
+    (pair : List (Pair K V) → Option (Pair K V)) (path : Tree → ℕ) (found : Option ℕ) (taken : ℕ) : Type 0 where
+  pub keys : ℕ → Option K
+  pub good : (ps : List (Pair K V)) → HoldsMap k v c.bytes h at ps → IfSome (pair ps) (IsRead k v c keys)
+  pub node : (ps : List (Pair K V)) → HoldsMap k v c.bytes h at ps → found ≡ option_map pair_node (pair ps)
+  pub exact : (ps : List (Pair K V)) (s : HoldsMap k v c.bytes h at ps) → taken ≡ path s.map.tree.tree
+  pub most : SearchSteps k v c.bytes h at 0 0 taken
+
+find_good : {A : Type 0} (P : A → Type 0) (test : A → Bool) (xs : List A) → AllByRecursion P xs → IfSome (find test xs) P
+find_good P test [] a = tt
+find_good P test (x ∷ xs) a = by_test (find_good P test xs a.1) (test x)
+  where
+    by_test : IfSome (find test xs) P → (b : Bool) → IfSome (if b then Some x else find test xs) P
+    by_test rest true = a.0
+    by_test rest false = rest
+
+last_good : {A : Type 0} (P : A → Type 0) (o : Option A) (xs : List A) → IfSome o P → AllByRecursion P xs
+    → IfSome (last_or o xs) P
+last_good P o [] h a = h
+last_good P o (x ∷ xs) h a = last_good P (Some x) xs a.0 a.1
+
+module _ {K V : Type 0} {k : Plain K} {v : Plain V} (kl : Laws k) {now c : Cut} {h at : ℕ} {own : List ℕ}
+    {root : Option ℕ} (o : IsOpened k v now c h at own root) where
+  abbrev Asked : (Tree → Type 0) → Type 0
+  Asked P = (t : Tree) → IsSearchTree (comes_before k.order (keys_in k own now)) (pair_cells (16 + k.SIZE) own now) root t
+      → P t
+
+  keys_are : (ps : List (Pair K V)) (s : HoldsMap k v c.bytes h at ps)
+      → keys_in k own now ≡ keys_in k (nodes_of s.map.tree.tree) c
+  keys_are ps s = λ i. keys_in k (o.nodes ps s i) (o.same i)
+
+  few : {taken : ℕ} → Asked (λ t. taken ≤ 2 * bits (length (nodes_of t) + 1)) → SearchSteps k v c.bytes h at 0 0 taken
+  few {taken} most = λ ps s.
+      let m = most s.map.tree.tree (o.tree ps s).tree in
+      let n = ap (λ n. bits (n + 1)) (count_pairs kl c s) in omega arith
+
+  module _ (past : Bool) (key : K) {taken : ℕ} (exact : Asked (λ t. taken ≡ path_length (stands_before k.order (keys_in k own now) past key) t))
+      (most : Asked (λ t. taken ≤ 2 * bits (length (nodes_of t) + 1))) where
+    path_is : (ps : List (Pair K V)) (s : HoldsMap k v c.bytes h at ps) → taken ≡ path_in k c past key s.map.tree.tree
+    path_is ps s = exact s.map.tree.tree (o.tree ps s).tree
+        ∙ ap (λ ks. path_length (stands_before k.order ks past key) s.map.tree.tree) (keys_are ps s)
+
+    pub finds_first : {found : Option ℕ} → Asked (λ t. found ≡ first_not (stands_before k.order (keys_in k own now) past key) (nodes_of t))
+        → Finds k v c h at (first_pair k.order past key) (path_in k c past key) found taken
+    finds_first first =
+        record {
+          keys = keys_in k own now;
+          good = λ ps s. find_good (IsRead k v c (keys_in k own now)) (λ p. not (is_passed k.order past key p)) ps (o.pairs ps s);
+          node = λ ps s. first s.map.tree.tree (o.tree ps s).tree
+              ∙ ap (λ ks. first_not (stands_before k.order ks past key) (nodes_of s.map.tree.tree)) (keys_are ps s)
+              ∙ found_pair kl c s past key;
+          exact = path_is;
+          most = few most;
+        }
+
+    pub finds_before : {found : Option ℕ} → Asked (λ t. found ≡ last_before (stands_before k.order (keys_in k own now) past key) (nodes_of t))
+        → Finds k v c h at (last_pair k.order past key) (path_in k c past key) found taken
+    finds_before last =
+        record {
+          keys = keys_in k own now;
+          good = λ ps s. find_good (IsRead k v c (keys_in k own now)) (is_passed k.order past key) (reverse ps)
+              (all_reversed (IsRead k v c (keys_in k own now)) ps (o.pairs ps s));
+          node = λ ps s. last s.map.tree.tree (o.tree ps s).tree
+              ∙ ap (λ ks. last_before (stands_before k.order ks past key) (nodes_of s.map.tree.tree)) (keys_are ps s)
+              ∙ found_back kl c s past key;
+          exact = path_is;
+          most = few most;
+        }
+
+  pub finds_last : {found : Option ℕ} {taken : ℕ} → Asked (λ t. found ≡ last_or None (nodes_of t)) → Asked (λ t. taken ≡ path_length (λ n. true) t)
+      → Asked (λ t. taken ≤ 2 * bits (length (nodes_of t) + 1)) → Finds k v c h at final_pair last_path found taken
+  finds_last last exact most =
+      record {
+        keys = keys_in k own now;
+        good = λ ps s. last_good (IsRead k v c (keys_in k own now)) None ps tt (o.pairs ps s);
+        node = λ ps s. last s.map.tree.tree (o.tree ps s).tree ∙ found_last kl c s;
+        exact = λ ps s. exact s.map.tree.tree (o.tree ps s).tree;
+        most = few most;
+      }
+
+  -- where a change begins, by the keys of the map
+  pub entry_is : (key : K) {start : Option ℕ} → Asked (λ t. start ≡ entry_of (stands_before k.order (keys_in k own now) false key) t)
+      → (ps : List (Pair K V)) (s : HoldsMap k v c.bytes h at ps) → start ≡ entry_in k c key s.map.tree.tree
+  entry_is key entry ps s = entry s.map.tree.tree (o.tree ps s).tree
+      ∙ ap (λ ks. entry_of (stands_before k.order ks false key) s.map.tree.tree) (keys_are ps s)
+
+  pub exit_is : (r found start : Option ℕ) → IfSome r (λ n. found ≡ Some n)
+      → Asked (λ t. IfSome found (λ n. start ≡ exit_of (comes_before k.order (keys_in k own now)) n t))
+      → FindsExit k v c h at r start
+  exit_is r found start same exit = λ ps s.
+      narrowed r found (λ n. start ≡ exit_in k c n s.map.tree.tree) same
+      (subst (λ (ks : ℕ → Option K). IfSome found (λ n. start ≡ exit_of (comes_before k.order ks) n s.map.tree.tree))
+      (keys_are ps s) (exit s.map.tree.tree (o.tree ps s).tree))
+    where
+      -- what is said of the node that was found is said of what is left of it
+      narrowed : (r f : Option ℕ) (P : ℕ → Type 0) → IfSome r (λ n. f ≡ Some n) → IfSome f P → IfSome r P
+      narrowed None f P e h = tt
+      narrowed (Some n) f P e h = let k = rw e at h in k
+
+-- ---- what is read of it
+
+module _ {K V : Type 0} (k : Plain K) (v : Plain V) (c : Cut) (by : ℕ → Option K) where
+  item_read : (o : Option (Pair K V)) → IfSome o (IsRead k v c by)
+      → option_and_then (item_at k v (bytes_of c.bytes)) (option_map pair_node o) ≡ option_map item_of o
+  item_read None h = refl
+  item_read (Some p) h = h.item
+
+  room_read : (o : Option (Pair K V)) → IfSome o (IsRead k v c by)
+      → IfSome (option_map pair_node o) (λ n. IsTrue (has_room (live_of c.bytes) n (16 + k.SIZE + v.SIZE)))
+  room_read None h = tt
+  room_read (Some p) h = h.room
+
+  both_first : (x : Option K) (y : Option V) (a : K) (b : V) → both x y ≡ Some (a, b) → x ≡ Some a
+  both_first None y a b e = absurd (cc)
+  both_first (Some x) None a b e = absurd (cc)
+  both_first (Some x) (Some y) a b e = let two : (x, y) ≡ (a, b) = cc in ap (λ (z : K × V). Some z.0) two
+
+  key_read : (key : K) (o : Option (Pair K V)) → IfSome o (IsRead k v c by)
+      → option_and_then (node_with k (bytes_of c.bytes) key) (option_map pair_node o)
+      ≡ option_map pair_node (by_key k.order key o)
+  key_read key None h = refl
+  key_read key (Some p) h =
+      let e = both_first (value_of k (read (bytes_of c.bytes) (pair_node p + 16) k.SIZE)) (value_of v (read (bytes_of c.bytes) (pair_node p + (16 + k.SIZE)) v.SIZE)) p.key p.value h.item in
+      ap (option_and_then (λ (x : K). if k.order key x then None else Some (pair_node p))) e ∙ by_test (k.order key p.key)
+    where
+      by_test : (b : Bool) → (if b then None else Some (pair_node p)) ≡ option_map pair_node (if b then None else Some p)
+      by_test true = refl
+      by_test false = refl
+
+reads_same : {K V : Type 0} (o : Option (Pair K V)) → reading_steps (option_map pair_node o) ≡ reading_steps o
+reads_same None = refl
+reads_same (Some p) = refl
+
+-- what a look-up answers, and its steps
+pub record LooksUp {K V : Type 0} (k : Plain K) (v : Plain V) (c : Cut) (h at : ℕ)
+    (pair : List (Pair K V) → Option (Pair K V)) (path : Tree → ℕ) (result : Option (K × V)) (before after : ℕ) : Type 0
+  where
+    pub item : (ps : List (Pair K V)) → HoldsMap k v c.bytes h at ps → result ≡ option_map item_of (pair ps)
+    pub steps : SearchSteps k v c.bytes h at 1 before after
+    pub exact : (ps : List (Pair K V)) (s : HoldsMap k v c.bytes h at ps) → after ≡ before + path s.map.tree.tree + reading_steps (pair ps)
+
+module _ {K V : Type 0} {k : Plain K} {v : Plain V} {c : Cut} {h at : ℕ} {pair : List (Pair K V) → Option (Pair K V)}
+    {path : Tree → ℕ} {found : Option ℕ} {taken : ℕ} (f : Finds k v c h at pair path found taken) where
+  pub found_room : IsSomeMap k v c.bytes h at
+      → IfSome found (λ n. IsTrue (has_room (live_of c.bytes) n (16 + k.SIZE + v.SIZE)))
+  found_room s =
+      subst (λ (o : Option ℕ). IfSome o (λ n. IsTrue (has_room (live_of c.bytes) n (16 + k.SIZE + v.SIZE))))
+      (sym (f.node s.0 s.1)) (room_read k v c f.keys (pair s.0) (f.good s.0 s.1))
+
+  pub key_room : IsSomeMap k v c.bytes h at
+      → IfSome found (λ n. IsTrue (has_room (live_of c.bytes) n (16 + k.SIZE)))
+  key_room s = less found (found_room s)
+    where
+      less : (o : Option ℕ) → IfSome o (λ n. IsTrue (has_room (live_of c.bytes) n (16 + k.SIZE + v.SIZE)))
+          → IfSome o (λ n. IsTrue (has_room (live_of c.bytes) n (16 + k.SIZE)))
+      less None r = tt
+      less (Some n) r = room-less (live_of c.bytes) n (16 + k.SIZE + v.SIZE) (16 + k.SIZE) (omega arith) r
+
+  steps_read : (before after : ℕ) → after ≡ before + taken + reading_steps found → (ps : List (Pair K V))
+      (s : HoldsMap k v c.bytes h at ps) → after ≡ before + path s.map.tree.tree + reading_steps (pair ps)
+  steps_read before after e ps s =
+      let t = f.exact ps s in let r = ap reading_steps (f.node ps s) ∙ reads_same (pair ps) in omega (arith, e, t, r)
+
+  few_read : (before after : ℕ) → after ≡ before + taken + reading_steps found → SearchSteps k v c.bytes h at 1 before after
+  few_read before after e = λ ps s. let t = f.most ps s in let r = one found in omega (arith, e, t, r)
+    where
+      one : (o : Option ℕ) → reading_steps o ≤ 1
+      one None = omega arith
+      one (Some n) = omega arith
+
+  pub looked_up : {result : Option (K × V)} {before after : ℕ}
+      → result ≡ option_and_then (item_at k v (bytes_of c.bytes)) found → after ≡ before + taken + reading_steps found
+      → LooksUp k v c h at pair path result before after
+  looked_up {before = before} {after = after} i e =
+      record {
+        item = λ ps s. i ∙ ap (option_and_then (item_at k v (bytes_of c.bytes))) (f.node ps s) ∙ item_read k v c f.keys (pair ps) (f.good ps s);
+        steps = few_read before after e;
+        exact = steps_read before after e;
+      }
+
+pub looked_for : {K V : Type 0} {k : Plain K} {v : Plain V} (kl : Laws k) {c : Cut} {h at : ℕ} (key : K)
+    {found result : Option ℕ} {taken before after : ℕ}
+    → Finds k v c h at (first_pair k.order false key) (path_in k c false key) found taken
+    → result ≡ option_and_then (node_with k (bytes_of c.bytes) key) found → after ≡ before + taken + reading_steps found
+    → LooksFor k v c h at key result before after
+looked_for {k = k} {v = v} kl {c} key {before = before} {after = after} f i e =
+    record {
+      node = λ ps s. i ∙ ap (option_and_then (node_with k (bytes_of c.bytes) key)) (f.node ps s)
+          ∙ key_read k v c f.keys key (first_pair k.order false key ps) (f.good ps s)
+          ∙ sym (ap (option_map pair_node) (pair_by_key k.order kl.transitive key ps s.rising));
+      counted = omega (arith, e);
+      steps = few_read f before after e;
+      exact = steps_read f before after e;
+    }
+
+-- the value of a key, of the item that is not below it
+pub value_by_key : {K V : Type 0} (k : Plain K) (kl : Laws k) (key : K) (ps : List (Pair K V)) (i : Option (K × V))
+    → is_rising k.order ps ≡ true → i ≡ option_map item_of (first_pair k.order false key ps)
+    → option_and_then (λ (x : K × V). if k.order key x.0 then None else Some x.1) i
+    ≡ option_map value_of_pair (pair_at k.order ps key)
+value_by_key {K} {V} k kl key ps i r e =
+    ap (option_and_then (λ (x : K × V). if k.order key x.0 then None else Some x.1)) e ∙ by_pair (first_pair k.order false key ps)
+    ∙ sym (ap (option_map value_of_pair) (pair_by_key k.order kl.transitive key ps r))
+  where
+    by_test : (p : Pair K V) (b : Bool) → (if b then None else Some p.value) ≡ option_map value_of_pair (if b then None else Some p)
+    by_test p true = refl
+    by_test p false = refl
+
+    by_pair : (o : Option (Pair K V)) → option_and_then (λ (x : K × V). if k.order key x.0 then None else Some x.1) (option_map item_of o)
+        ≡ option_map value_of_pair (by_key k.order key o)
+    by_pair None = refl
+    by_pair (Some p) = by_test p (k.order key p.key)
+
+-- ---- the pair of a node that was looked for by its key
+
+pub record KeyAt {K V : Type 0} (o : Option (Pair K V)) (node : ℕ) : Type 0 where
+  pub pair : Pair K V
+  pub is : o ≡ Some pair
+  pub at : pair_node pair ≡ node
+
+module _ {K V : Type 0} {k : Plain K} {v : Plain V} {c : Cut} {h at : ℕ} {key : K} {found : Option ℕ} {before after : ℕ}
+    (f : LooksFor k v c h at key found before after) {ps : List (Pair K V)} (s : HoldsMap k v c.bytes h at ps) where
+  pub key_at_node : {node : ℕ} → found ≡ Some node → KeyAt (pair_at k.order ps key) node
+  key_at_node {node} e = by_pair (pair_at k.order ps key) (sym e ∙ f.node ps s)
+    where
+      by_pair : (o : Option (Pair K V)) → Some node ≡ option_map pair_node o → KeyAt o node
+      by_pair None n = absurd (cc)
+      by_pair (Some p) n = let is : node ≡ pair_node p = cc in record { pair = p; is = refl; at = sym is }
+
+  pub key_absent : found ≡ None → pair_at k.order ps key ≡ None
+  key_absent e = by_pair (pair_at k.order ps key) (sym e ∙ f.node ps s)
+    where
+      by_pair : (o : Option (Pair K V)) → None ≡ option_map pair_node o → o ≡ None
+      by_pair None n = refl
+      by_pair (Some p) n = absurd (cc)

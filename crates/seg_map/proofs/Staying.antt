@@ -19,7 +19,7 @@ use Rattle.best_fit.proofs.Laws.{cell_stays}
 use Rattle.seg_types.specs.declared.plain.Plain.{Ghosts as Plain}
 use Rattle.seg_map.specs.Map.{Pair, IsPairAt}
 use Rattle.seg_map.specs.Places.{HoldsMap, IsPairIn, nodes_of_pairs, pair_node}
-use Rattle.seg_map.proofs.Entering.{Laws}
+use Rattle.seg_map.proofs.Entering.{Laws, pair_parts}
 use Rattle.seg_map.proofs.PairSteps.{same_red}
 
 -- the fields of a node in a block that stays
@@ -29,52 +29,49 @@ block_cells m m' x s long =
     cell_stays m m' (handle x) (Same-link m m' (handle x) (end_of x) (handle x) s.payload (omega arith) (omega arith)) (Same-link m m' (handle x) (end_of x) (handle x + 8) s.payload (omega arith) (omega arith))
     (same_red (word_at m (handle x - 8)) (word_at m' (handle x - 8)) (subst (λ a. word_at m' a % 16 ≡ word_at m a % 16) e s.colour))
 
-module _ {K V : Type 0} (kp : Plain K) (vp : Plain V) where
-  pub pair_long : (live : LiveSet) (h : ℕ) (p : Pair K V) → IsPairIn kp vp live h p → 16 + kp.SIZE + vp.SIZE + 16 ≤ p.node.len
-  pair_long live h p i =
-      let parts = and_parts (kp.is_value p.key && vp.is_value p.value) (serves p.node Node (16 + kp.SIZE + vp.SIZE)) i.good in
-      let two = and_parts (same_role p.node.role Node) (holds p.node (16 + kp.SIZE + vp.SIZE)) parts.1 in
-      leb-true (16 + kp.SIZE + vp.SIZE + 16) p.node.len two.1
+-- the pair of a node
+pub record AtNode {K V : Type 0} (P : Pair K V → Type 0) (m : ℕ) : Type 0 where
+  pub pair : Pair K V
+  pub holds : P pair
+  pub at : pair_node pair ≡ m
 
-  -- the pair of a node
-  pub record AtNode (P : Pair K V → Type 0) (m : ℕ) : Type 0 where
-    pub pair : Pair K V
-    pub holds : P pair
-    pub at : pair_node pair ≡ m
+pub at_node : {K V : Type 0} (P : Pair K V → Type 0) (ps : List (Pair K V)) (m : ℕ) → is_in m (nodes_of_pairs ps) ≡ true
+    → AllByRecursion P ps → AtNode P m
+at_node P [] m i a = absurd (false≢true i)
+at_node P (p ∷ ps) m i a =
+    elim (or_cases (m == pair_node p) (is_in m (nodes_of_pairs ps)) i) [
+      | inl e ↦ record { pair = p; holds = a.0; at = sym (eqb-true m (pair_node p) e) }
+      | inr e ↦ at_node P ps m e a.1
+    ]
 
-  pub at_node : (P : Pair K V → Type 0) (ps : List (Pair K V)) (m : ℕ) → is_in m (nodes_of_pairs ps) ≡ true → AllByRecursion P ps → AtNode P m
-  at_node P [] m i a = absurd (false≢true i)
-  at_node P (p ∷ ps) m i a =
-      elim (or_cases (m == pair_node p) (is_in m (nodes_of_pairs ps)) i) [
-        | inl e ↦ record { pair = p; holds = a.0; at = sym (eqb-true m (pair_node p) e) }
-        | inr e ↦ at_node P ps m e a.1
-      ]
+-- both values of a pair have the length of their types
+pub record Lengths {K V : Type 0} (kp : Plain K) (vp : Plain V) (p : Pair K V) : Type 0 where
+  pub key : length (kp.spelling p.key) ≡ kp.SIZE
+  pub value : length (vp.spelling p.value) ≡ vp.SIZE
 
-  -- the bytes of a pair stay
-  pub pair_stays : (m m' : Memory) (p : Pair K V) → length (kp.spelling p.key) ≡ kp.SIZE → length (vp.spelling p.value) ≡ vp.SIZE → Same m m' (handle p.node + 16) (handle p.node + (16 + kp.SIZE + vp.SIZE))
-      → IsPairAt kp.SIZE kp.spelling vp.spelling m p → IsPairAt kp.SIZE kp.spelling vp.spelling m' p
-  pair_stays m m' p el fl s h = (
-    Has-same m m' (handle p.node + 16) (handle p.node + (16 + kp.SIZE + vp.SIZE)) (handle p.node + 16) (kp.spelling p.key) s (omega arith) (omega arith) h.0,
-    Has-same m m' (handle p.node + 16) (handle p.node + (16 + kp.SIZE + vp.SIZE)) (handle p.node + 16 + kp.SIZE) (vp.spelling p.value) s (omega arith) (omega arith) h.1,
-  )
+pub lengths : {K V : Type 0} {kp : Plain K} {vp : Plain V} → Laws kp → Laws vp → {live : LiveSet} {h : ℕ} {p : Pair K V}
+    → IsPairIn kp vp live h p → Lengths kp vp p
+lengths kl vl {p = p} i =
+    let q = pair_parts i in record { key = kl.spells p.key q.key; value = vl.spells p.value q.value }
 
-  -- both values of a pair have the length of their types
-  pub record Lengths (p : Pair K V) : Type 0 where
-    pub key : length (kp.spelling p.key) ≡ kp.SIZE
-    pub value : length (vp.spelling p.value) ≡ vp.SIZE
-
-  pub lengths : Laws kp → Laws vp → (live : LiveSet) (h : ℕ) (p : Pair K V) → IsPairIn kp vp live h p → Lengths p
-  lengths kl vl live h p i =
-      let parts = and_parts (kp.is_value p.key && vp.is_value p.value) (serves p.node Node (16 + kp.SIZE + vp.SIZE)) i.good in
-      let values = and_parts (kp.is_value p.key) (vp.is_value p.value) parts.0 in
-      record { key = kl.spells p.key values.0; value = vl.spells p.value values.1 }
+-- the bytes of a pair stay
+pub pair_stays : {K V : Type 0} {kp : Plain K} {vp : Plain V} (m m' : Memory) {p : Pair K V} → Lengths kp vp p
+    → Same m m' (handle p.node + 16) (handle p.node + (16 + kp.SIZE + vp.SIZE))
+    → IsPairAt kp.SIZE kp.spelling vp.spelling m p → IsPairAt kp.SIZE kp.spelling vp.spelling m' p
+pair_stays {kp = kp} {vp = vp} m m' {p} l s h =
+    let first = handle p.node + 16 in let last = handle p.node + (16 + kp.SIZE + vp.SIZE) in
+    let el = l.key in let fl = l.value in (
+      Has-same m m' first last first (kp.spelling p.key) s (omega arith) (omega arith) h.0,
+      Has-same m m' first last (first + kp.SIZE) (vp.spelling p.value) s (omega arith) (omega arith) h.1,
+    )
 
 -- a block that is still there, with its bytes
 pub record Still (c e : Cut) (x : Extent) : Type 0 where
   pub found : extent_at (live_of e.bytes) (handle x) ≡ Some x
   pub same : SameBlock (bytes_of c.bytes) (bytes_of e.bytes) x
 
-module _ {K V : Type 0} (kp : Plain K) (vp : Plain V) (kl : Laws kp) (vl : Laws vp) (c e : Cut) (h at : ℕ) (ps : List (Pair K V)) (s : HoldsMap kp vp c.bytes h at ps) (heap : IsHeap current e.bytes)
+module _ {K V : Type 0} {kp : Plain K} {vp : Plain V} (kl : Laws kp) (vl : Laws vp) (c e : Cut) {h at : ℕ}
+    {ps : List (Pair K V)} (s : HoldsMap kp vp c.bytes h at ps) (heap : IsHeap current e.bytes)
     (room : IsTrue (has_room (live_of e.bytes) h (at + 24))) (words : Same (bytes_of c.bytes) (bytes_of e.bytes) (h + at) (h + at + 24))
     (blocks : AllByRecursion (λ (p : Pair K V). Still c e p.node) ps) where
   pairs_in : (qs : List (Pair K V)) → AllByRecursion (IsPairIn kp vp (live_of c.bytes) h) qs → AllByRecursion (λ (p : Pair K V). Still c e p.node) qs → AllByRecursion (IsPairIn kp vp (live_of e.bytes) h) qs
@@ -84,8 +81,8 @@ module _ {K V : Type 0} (kp : Plain K) (vp : Plain V) (kl : Laws kp) (vl : Laws 
   pairs_at : (qs : List (Pair K V)) → AllByRecursion (IsPairIn kp vp (live_of c.bytes) h) qs → AllByRecursion (IsPairAt kp.SIZE kp.spelling vp.spelling (bytes_of c.bytes)) qs → AllByRecursion (λ (p : Pair K V). Still c e p.node) qs → AllByRecursion (IsPairAt kp.SIZE kp.spelling vp.spelling (bytes_of e.bytes)) qs
   pairs_at [] a b f = tt
   pairs_at (q ∷ qs) a b f =
-      let l = lengths kp vp kl vl (live_of c.bytes) h q a.0 in let long = pair_long kp vp (live_of c.bytes) h q a.0 in let same = f.0.same in
-      (pair_stays kp vp (bytes_of c.bytes) (bytes_of e.bytes) q l.key l.value (record { at = λ k low high. same.payload.at k (omega arith) (omega arith) }) b.0, pairs_at qs a.1 b.1 f.1)
+      let long = (pair_parts a.0).long in let same = f.0.same in
+      (pair_stays (bytes_of c.bytes) (bytes_of e.bytes) (lengths kl vl a.0) (record { at = λ k low high. same.payload.at k (omega arith) (omega arith) }) b.0, pairs_at qs a.1 b.1 f.1)
 
   with_blocks : (qs : List (Pair K V)) → AllByRecursion (IsPairIn kp vp (live_of c.bytes) h) qs → AllByRecursion (λ (p : Pair K V). Still c e p.node) qs → AllByRecursion (λ (p : Pair K V). IsPairIn kp vp (live_of c.bytes) h p × Still c e p.node) qs
   with_blocks [] a f = tt
@@ -93,8 +90,8 @@ module _ {K V : Type 0} (kp : Plain K) (vp : Plain V) (kl : Laws kp) (vl : Laws 
 
   cells : (m : ℕ) → is_in m (nodes_of s.map.tree.tree) ≡ true → cells_of (bytes_of e.bytes) m ≡ cells_of (bytes_of c.bytes) m
   cells m i =
-      let n = at_node kp vp (λ (p : Pair K V). IsPairIn kp vp (live_of c.bytes) h p × Still c e p.node) ps m (ap (λ ns. is_in m ns) (sym s.map.tree.lists) ∙ i) (with_blocks ps s.pairs blocks) in
-      let long = pair_long kp vp (live_of c.bytes) h n.pair n.holds.0 in
+      let n = at_node (λ (p : Pair K V). IsPairIn kp vp (live_of c.bytes) h p × Still c e p.node) ps m (ap (λ ns. is_in m ns) (sym s.map.tree.lists) ∙ i) (with_blocks ps s.pairs blocks) in
+      let long = (pair_parts n.holds.0).long in
       subst (λ k. cells_of (bytes_of e.bytes) k ≡ cells_of (bytes_of c.bytes) k) n.at (block_cells (bytes_of c.bytes) (bytes_of e.bytes) n.pair.node n.holds.1.same (omega arith))
 
   pub map_stays : HoldsMap kp vp e.bytes h at ps

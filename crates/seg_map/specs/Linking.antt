@@ -17,6 +17,11 @@ pub record IsKeyTree {K : Type 0} (k : Plain K) (ns : List ℕ) (c : Cut) (root 
   pub tree : IsSearchTree (comes_before k.order (keys_in k ns c)) (pair_cells (16 + k.SIZE) ns c) root t
   pub leads : leads (is_pair_node (16 + k.SIZE) ns c) root ≡ true
 
+-- the same of some tree, as a search asks for it
+abbrev pub HasTree : {K : Type 0} → Plain K → List ℕ → Cut → Option ℕ → Type 0
+HasTree k ns c root =
+    (t : Tree) × IsSearchTree (comes_before k.order (keys_in k ns c)) (pair_cells (16 + k.SIZE) ns c) root t
+
 -- a node of the tree that can be taken out, from the root on or from where its removal begins
 pub record CanUnlink {K : Type 0} (k : Plain K) (ns : List ℕ) (c : Cut) (root start : Option ℕ) (node : ℕ) : Type 0
   where

@@ -58,21 +58,12 @@ item_of p = (p.key, p.value)
 abbrev pub value_of_pair : {K V : Type 0} → Pair K V → V
 value_of_pair p = p.value
 
-abbrev pub FindsNode : {K V : Type 0} → Plain K → Plain V → List ℕ → ℕ → ℕ → Bool → K → Option ℕ → Type 0
-FindsNode {K} {V} k v b h at past key r = (ps : List (Pair K V)) → HoldsMap k v b h at ps → r ≡ option_map pair_node (first_pair k.order past key ps)
-
 abbrev pub FindsItem : {K V : Type 0} → Plain K → Plain V → List ℕ → ℕ → ℕ → Bool → K → Option (K × V) → Type 0
 FindsItem {K} {V} k v b h at past key r = (ps : List (Pair K V)) → HoldsMap k v b h at ps → r ≡ option_map item_of (first_pair k.order past key ps)
 
 -- the same of the other way: from the last pair back
-abbrev pub FindsNodeBefore : {K V : Type 0} → Plain K → Plain V → List ℕ → ℕ → ℕ → Bool → K → Option ℕ → Type 0
-FindsNodeBefore {K} {V} k v b h at past key r = (ps : List (Pair K V)) → HoldsMap k v b h at ps → r ≡ option_map pair_node (last_pair k.order past key ps)
-
 abbrev pub FindsItemBefore : {K V : Type 0} → Plain K → Plain V → List ℕ → ℕ → ℕ → Bool → K → Option (K × V) → Type 0
 FindsItemBefore {K} {V} k v b h at past key r = (ps : List (Pair K V)) → HoldsMap k v b h at ps → r ≡ option_map item_of (last_pair k.order past key ps)
-
-abbrev pub FindsLastNode : {K V : Type 0} → Plain K → Plain V → List ℕ → ℕ → ℕ → Option ℕ → Type 0
-FindsLastNode {K} {V} k v b h at r = (ps : List (Pair K V)) → HoldsMap k v b h at ps → r ≡ option_map pair_node (final_pair ps)
 
 abbrev pub FindsLastItem : {K V : Type 0} → Plain K → Plain V → List ℕ → ℕ → ℕ → Option (K × V) → Type 0
 FindsLastItem {K} {V} k v b h at r = (ps : List (Pair K V)) → HoldsMap k v b h at ps → r ≡ option_map item_of (final_pair ps)

@@ -1,23 +1,21 @@
 -- The steps of a search in a map, one by one: those of its path, from the root of the tree of its pairs down.
-use Rattle.std.specs.Prelude.{◌≡◌, ℕ, ◌+◌, Bool, true, false, Option, Some, None, List, IfSome}
-use Rattle.raw_region.specs.Memory.{Cut}
+use Rattle.std.specs.Prelude.{◌≡◌, ℕ, ◌+◌, ◌≤◌, Bool, true, false, Option, Some, None, List, IfSome, IsTrue, if◌then◌else◌, option_and_then}
+use Rattle.std.specs.List.{AllByRecursion}
+use Rattle.raw_region.specs.Memory.{Cut, Memory, bytes_of, read}
 use Rattle.link_tree.specs.Searching.{path_length}
 use Rattle.link_tree.specs.Tree.{Tree, nodes_of}
 use Rattle.link_tree.specs.Ways.{entry_of, exit_of}
+use Rattle.best_fit.specs.Heap.{has_room, live_of}
 use Rattle.seg_types.specs.declared.plain.Plain.{Ghosts as Plain}
-use Rattle.seg_map.specs.Linking.{keys_in}
+use Rattle.seg_types.specs.Plain.{value_in}
+use Rattle.seg_map.specs.Linking.{IsKeyTree, keys_in}
 use Rattle.seg_map.specs.Map.{Pair}
-use Rattle.seg_map.specs.PairNodes.{comes_before, stands_before}
-use Rattle.seg_map.specs.Places.{HoldsMap, final_pair, first_pair, last_pair}
+use Rattle.seg_map.specs.PairNodes.{both, comes_before, stands_before}
+use Rattle.seg_map.specs.Places.{FindsKey, HoldsMap, SearchSteps, final_pair, first_pair, item_of, last_pair, pair_node}
 
 -- the nodes that a search goes to, for the first pair that is not below a key, or that is above it
 abbrev pub path_in : {K : Type 0} → Plain K → Cut → Bool → K → Tree → ℕ
 path_in k c past key t = path_length (stands_before k.order (keys_in k (nodes_of t) c) past key) t
-
--- a search takes one step for each of them
-abbrev pub SearchTakes : {K V : Type 0} → Plain K → Plain V → Cut → ℕ → ℕ → Bool → K → ℕ → ℕ → Type 0
-SearchTakes {K} {V} k v c h at past key before after =
-    (ps : List (Pair K V)) (s : HoldsMap k v c.bytes h at ps) → after ≡ before + path_in k c past key s.map.tree.tree
 
 -- what is found is read, in one step
 abbrev pub reading_steps : {A : Type 0} → Option A → ℕ
@@ -40,19 +38,47 @@ LookBackTakes {K} {V} k v c h at past key before after =
 abbrev pub last_path : Tree → ℕ
 last_path t = path_length (λ n. true) t
 
-abbrev pub LastSearchTakes : {K V : Type 0} → Plain K → Plain V → Cut → ℕ → ℕ → ℕ → ℕ → Type 0
-LastSearchTakes {K} {V} k v c h at before after =
-    (ps : List (Pair K V)) (s : HoldsMap k v c.bytes h at ps) → after ≡ before + last_path s.map.tree.tree
-
 abbrev pub LastTakes : {K V : Type 0} → Plain K → Plain V → Cut → ℕ → ℕ → ℕ → ℕ → Type 0
 LastTakes {K} {V} k v c h at before after =
     (ps : List (Pair K V)) (s : HoldsMap k v c.bytes h at ps) → after ≡ before + last_path s.map.tree.tree
     + reading_steps (final_pair ps)
 
--- the steps that are taken where what a search has found is read
-abbrev pub ReadingTakes : {K V : Type 0} → Plain K → Plain V → List ℕ → ℕ → ℕ → K → ℕ → ℕ → Type 0
-ReadingTakes {K} {V} k v b h at key before after =
-    (ps : List (Pair K V)) → HoldsMap k v b h at ps → after ≡ before + reading_steps (first_pair k.order false key ps)
+-- ---- what is read where a search has ended
+
+-- the key and the value that the bytes of a node spell, or none
+abbrev pub item_at : {K V : Type 0} → Plain K → Plain V → Memory → ℕ → Option (K × V)
+item_at k v m n =
+    both (value_in k.reading k.is_value k.spelling (read m (n + 16) k.SIZE))
+    (value_in v.reading v.is_value v.spelling (read m (n + (16 + k.SIZE)) v.SIZE))
+
+-- the node, where a key is not below that of its bytes
+abbrev pub node_with : {K : Type 0} → Plain K → Memory → K → ℕ → Option ℕ
+node_with k m key n =
+    option_and_then (λ x. if k.order key x then None else Some n)
+    (value_in k.reading k.is_value k.spelling (read m (n + 16) k.SIZE))
+
+-- the node of a pair has its key, and is read as its key and value
+pub record IsRead {K V : Type 0} (k : Plain K) (v : Plain V) (c : Cut) (keys : ℕ → Option K) (p : Pair K V) : Type 0
+  where
+    pub key : keys (pair_node p) ≡ Some p.key
+    pub item : item_at k v (bytes_of c.bytes) (pair_node p) ≡ Some (item_of p)
+    pub room : IsTrue (has_room (live_of c.bytes) (pair_node p) (16 + k.SIZE + v.SIZE))
+
+-- the nodes that are searched are those of a map, with its tree and its pairs
+pub record IsOpened {K V : Type 0} (k : Plain K) (v : Plain V) (now c : Cut) (h at : ℕ) (own : List ℕ)
+    (root : Option ℕ) : Type 0 where
+  pub same : now ≡ c
+  pub nodes : (ps : List (Pair K V)) (s : HoldsMap k v c.bytes h at ps) → own ≡ nodes_of s.map.tree.tree
+  pub tree : (ps : List (Pair K V)) (s : HoldsMap k v c.bytes h at ps) → IsKeyTree k own now root s.map.tree.tree
+  pub pairs : (ps : List (Pair K V)) → HoldsMap k v c.bytes h at ps → AllByRecursion (IsRead k v c (keys_in k own now)) ps
+
+-- the node of a key, with the steps of a look-up
+pub record LooksFor {K V : Type 0} (k : Plain K) (v : Plain V) (c : Cut) (h at : ℕ) (key : K) (found : Option ℕ)
+    (before after : ℕ) : Type 0 where
+  pub node : FindsKey k v c.bytes h at key found
+  pub counted : before ≤ after
+  pub steps : SearchSteps k v c.bytes h at 1 before after
+  pub exact : LookUpTakes k v c h at false key before after
 
 -- ---- where a change of the tree begins
 

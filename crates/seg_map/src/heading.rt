@@ -2,14 +2,14 @@
 ghost use Rattle.std.specs.Prelude.{◌≡◌, ◌+◌, ◌%◌, IfSome, IsTrue};
 ghost use Rattle.best_fit.specs.Extents.{is_proper};
 ghost use Rattle.best_fit.specs.Heap.{has_room, live_of};
-ghost use Rattle.seg_map.specs.Changing.{CountsPairs, IsHeaded, IsNew};
+ghost use Rattle.seg_map.specs.Changing.{CountsPairs, IsHeaded};
 ghost use Rattle.seg_map.specs.Places.{IsSomeMap};
 
 use best_fit::Heap;
 use seg_types::Plain;
 
 /// Where the number of pairs stands behind the link, and the word that is 0.
-pub const COUNT: u64 = 8;
+const COUNT: u64 = 8;
 
 const THIRD: u64 = 16;
 
@@ -24,16 +24,6 @@ pub fn write_head(heap: &mut Heap, handle: u64, at: u64, root: Option<u64>, coun
     heap.set_link(handle, at, root);
     heap.set_word(handle, at + COUNT, count);
     heap.set_word(handle, at + THIRD, 0);
-}
-
-/// Makes a map without pairs of 24 bytes in the block of a handle.
-pub fn new<K: Plain, V: Plain>(heap: &mut Heap, handle: u64, at: u64)
-    requires aligned { at % 8 ≡ 0 }
-    requires proper { IsTrue (is_proper (live_of heap.old.bytes)) }
-    requires room { IsTrue (has_room (live_of heap.old.bytes) handle (at + 24)) }
-    ensures { IsNew K.Plain V.Plain heap.old heap.new handle at }
-{
-    write_head(heap, handle, at, None, 0);
 }
 
 /// The number of pairs.

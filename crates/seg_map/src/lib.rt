@@ -11,7 +11,6 @@ mod owned;
 mod places;
 mod putting;
 mod reading;
-mod releasing;
 
 pub use maps::SegMap;
 pub use places::Place;

@@ -6,10 +6,14 @@ ghost use Rattle.seg_map.specs.Changing.{ChangeSteps, CountsPairs, Erases, IsNew
 ghost use Rattle.seg_map.specs.Places.{FindsItem, FindsItemBefore, FindsLastItem, FindsValue, IsSomeMap, SearchSteps};
 ghost use Rattle.seg_map.specs.Searches.{LastTakes, LookBackTakes, LookUpTakes};
 
+use crate::erasing::{give_up, take_out};
+use crate::finding::{find_in, find_out, open, read_found};
+use crate::heading::{len, write_head};
 use crate::places::Place;
-use crate::releasing::give_up_all;
-use crate::{erasing, finding, heading, putting};
+use crate::putting::{make_node, put_in, write_value};
+use crate::reading::{KEY, Sought};
 use best_fit::{Heap, NoSpace};
+use link_tree::{find_first_not_before, find_last, find_last_before};
 use raw_region::Steps;
 use seg_types::Plain;
 use std::marker::PhantomData;
@@ -46,7 +50,7 @@ impl<K: Plain, V: Plain> SegMap<K, V> {
         ensures place { result.place ≡ place }
         ensures map { IsNew K.Plain V.Plain heap.old heap.new place.handle place.at }
     {
-        heading::new::<K, V>(heap, place.handle, place.at);
+        write_head(heap, place.handle, place.at, None, 0);
         SegMap::at(place)
     }
 
@@ -55,7 +59,7 @@ impl<K: Plain, V: Plain> SegMap<K, V> {
         requires { IsSomeMap K.Plain V.Plain heap.now.bytes self.place.handle self.place.at }
         ensures { CountsPairs K.Plain V.Plain heap.now.bytes self.place.handle self.place.at result }
     {
-        heading::len::<K, V>(heap, self.place.handle, self.place.at)
+        len::<K, V>(heap, self.place.handle, self.place.at)
     }
 
     /// The value of a key.
@@ -66,7 +70,12 @@ impl<K: Plain, V: Plain> SegMap<K, V> {
         ensures steps { SearchSteps K.Plain V.Plain heap.now.bytes self.place.handle self.place.at 1 steps.old steps.new }
         ensures exact { LookUpTakes K.Plain V.Plain heap.now self.place.handle self.place.at false key steps.old steps.new }
     {
-        finding::get::<K, V>(heap, self.place.handle, self.place.at, key, steps)
+        let (found, value) = self.first_from(heap, key, steps)?;
+        if key.precedes(found) {
+            None
+        } else {
+            Some(value)
+        }
     }
 
     /// The key and the value of the pair with the least key that is not below `key`.
@@ -77,7 +86,9 @@ impl<K: Plain, V: Plain> SegMap<K, V> {
         ensures steps { SearchSteps K.Plain V.Plain heap.now.bytes self.place.handle self.place.at 1 steps.old steps.new }
         ensures exact { LookUpTakes K.Plain V.Plain heap.now self.place.handle self.place.at false key steps.old steps.new }
     {
-        finding::first_from::<K, V>(heap, self.place.handle, self.place.at, key, steps)
+        let pairs = open::<K, V>(heap, self.place.handle, self.place.at);
+        let found = find_first_not_before(&pairs, pairs.root, &Sought { key, past: false });
+        read_found(heap, found, steps)
     }
 
     /// The key and the value of the pair with the least key above `key`.
@@ -88,7 +99,9 @@ impl<K: Plain, V: Plain> SegMap<K, V> {
         ensures steps { SearchSteps K.Plain V.Plain heap.now.bytes self.place.handle self.place.at 1 steps.old steps.new }
         ensures exact { LookUpTakes K.Plain V.Plain heap.now self.place.handle self.place.at true key steps.old steps.new }
     {
-        finding::next_after::<K, V>(heap, self.place.handle, self.place.at, key, steps)
+        let pairs = open::<K, V>(heap, self.place.handle, self.place.at);
+        let found = find_first_not_before(&pairs, pairs.root, &Sought { key, past: true });
+        read_found(heap, found, steps)
     }
 
     /// The key and the value of the pair with the greatest key.
@@ -99,7 +112,9 @@ impl<K: Plain, V: Plain> SegMap<K, V> {
         ensures steps { SearchSteps K.Plain V.Plain heap.now.bytes self.place.handle self.place.at 1 steps.old steps.new }
         ensures exact { LastTakes K.Plain V.Plain heap.now self.place.handle self.place.at steps.old steps.new }
     {
-        finding::last::<K, V>(heap, self.place.handle, self.place.at, steps)
+        let pairs = open::<K, V>(heap, self.place.handle, self.place.at);
+        let found = find_last(&pairs, pairs.root);
+        read_found(heap, found, steps)
     }
 
     /// The key and the value of the pair with the greatest key that is not above `key`.
@@ -110,7 +125,9 @@ impl<K: Plain, V: Plain> SegMap<K, V> {
         ensures steps { SearchSteps K.Plain V.Plain heap.now.bytes self.place.handle self.place.at 1 steps.old steps.new }
         ensures exact { LookBackTakes K.Plain V.Plain heap.now self.place.handle self.place.at true key steps.old steps.new }
     {
-        finding::last_up_to::<K, V>(heap, self.place.handle, self.place.at, key, steps)
+        let pairs = open::<K, V>(heap, self.place.handle, self.place.at);
+        let found = find_last_before(&pairs, pairs.root, &Sought { key, past: true });
+        read_found(heap, found, steps)
     }
 
     /// The key and the value of the pair with the greatest key below `key`.
@@ -121,7 +138,9 @@ impl<K: Plain, V: Plain> SegMap<K, V> {
         ensures steps { SearchSteps K.Plain V.Plain heap.now.bytes self.place.handle self.place.at 1 steps.old steps.new }
         ensures exact { LookBackTakes K.Plain V.Plain heap.now self.place.handle self.place.at false key steps.old steps.new }
     {
-        finding::previous_before::<K, V>(heap, self.place.handle, self.place.at, key, steps)
+        let pairs = open::<K, V>(heap, self.place.handle, self.place.at);
+        let found = find_last_before(&pairs, pairs.root, &Sought { key, past: false });
+        read_found(heap, found, steps)
     }
 
     /// Puts the value of a key, and answers whether the key is new. All other pairs keep their blocks, and so does this one
@@ -136,7 +155,15 @@ impl<K: Plain, V: Plain> SegMap<K, V> {
         ensures counted { steps.old ≤ steps.new }
         ensures steps { ChangeSteps K.Plain V.Plain heap.old self.place.handle self.place.at steps.old steps.new }
     {
-        putting::put::<K, V>(heap, self.place.handle, self.place.at, key, value, steps)
+        let place = self.place;
+        let trace = find_in::<K, V>(&*heap, place.handle, place.at, key, steps);
+        if let Some(node) = trace.node {
+            write_value::<V>(heap, node, KEY + K::SIZE, value);
+            return Ok(false);
+        }
+        let node = make_node::<K, V>(heap, key, value, steps)?;
+        put_in::<K, V>(heap, place.handle, place.at, trace.start, node, steps);
+        Ok(true)
     }
 
     /// Erases a key, and answers whether it was there: else nothing changes. Its block is given back; all others keep theirs.
@@ -147,7 +174,14 @@ impl<K: Plain, V: Plain> SegMap<K, V> {
         ensures steps { ChangeSteps K.Plain V.Plain heap.old self.place.handle self.place.at steps.old steps.new }
         ensures absent { result ≡ false → heap.new ≡ heap.old }
     {
-        erasing::erase::<K, V>(heap, self.place.handle, self.place.at, key, steps)
+        let place = self.place;
+        let trace = find_out::<K, V>(&*heap, place.handle, place.at, key, steps);
+        let Some(node) = trace.node else {
+            return false;
+        };
+        take_out::<K, V>(heap, place.handle, place.at, trace.start, node, steps);
+        heap.deallocate(node, steps);
+        true
     }
 
     /// Gives the blocks of all pairs back. There is no pair then.
@@ -155,6 +189,9 @@ impl<K: Plain, V: Plain> SegMap<K, V> {
         requires { IsSomeMap K.Plain V.Plain heap.old.bytes self.place.handle self.place.at }
         ensures { Releases K.Plain V.Plain heap.old heap.new self.place.handle self.place.at }
     {
-        give_up_all::<K, V>(heap, self.place.handle, self.place.at);
+        // the pair at the root goes each time: the tree needs no walk then, and the map is one at each moment
+        'pairs: while let Some(node) = heap.link(self.place.handle, self.place.at) {
+            give_up::<K, V>(heap, self.place.handle, self.place.at, node);
+        }
     }
 }

@@ -19,11 +19,12 @@ pub struct Pairs<'a, K> {
     pub keys: PhantomData<K>,
 }
 
-/// A heap with the pairs of one map in it, to be read.
+/// A heap with the pairs of one map in it, to be read, and the link to the root of their tree.
 #[derive(Drop)]
 pub struct Reading<'a, K> {
     pub heap: &'a Heap,
     pub own: Own,
+    pub root: Option<u64>,
     pub keys: PhantomData<K>,
 }
 

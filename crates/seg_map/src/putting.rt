@@ -3,11 +3,9 @@ ghost use Rattle.std.specs.Prelude.{◌≡◌, ◌+◌, ◌≤◌, IsTrue, true}
 ghost use Rattle.raw_region.specs.Format.{current};
 ghost use Rattle.raw_region.specs.Memory.{Has, bytes_of};
 ghost use Rattle.best_fit.specs.Heap.{IsChanged, has_room, heap_touches, live_of};
-ghost use Rattle.seg_map.specs.Changing.{CanPutIn, ChangeSteps, Makes, Puts, PutsIn, TreeSteps};
-ghost use Rattle.seg_map.specs.Places.{IsSomeMap};
+ghost use Rattle.seg_map.specs.Changing.{CanPutIn, Makes, PutsIn, TreeSteps};
 
-use crate::finding::find_in;
-use crate::heading::{COUNT, write_head};
+use crate::heading::{len, write_head};
 use crate::linking::link;
 use crate::reading::KEY;
 use best_fit::{Heap, NoSpace, RIGHT};
@@ -21,7 +19,7 @@ const SHORT: usize = 16;
 const LONGEST: usize = 4096;
 
 /// Writes a value at `at` in the block of a handle.
-fn write_value<T: Plain>(heap: &mut Heap, handle: u64, at: u64, value: T)
+pub fn write_value<T: Plain>(heap: &mut Heap, handle: u64, at: u64, value: T)
     requires { IsTrue (has_room (live_of heap.old.bytes) handle (at + T.SIZE)) }
     ensures value { T.is_value value ≡ true }
     ensures change { IsChanged current heap.old heap.new (handle + at) T.SIZE }
@@ -54,7 +52,7 @@ fn write_by<T: Plain, const N: usize>(heap: &mut Heap, handle: u64, at: u64, val
 /// # Errors
 ///
 /// `NoSpace` where no gap is long enough. Nothing changes.
-fn make_node<K: Plain, V: Plain>(
+pub fn make_node<K: Plain, V: Plain>(
     heap: &mut Heap,
     key: K,
     value: V,
@@ -73,7 +71,7 @@ fn make_node<K: Plain, V: Plain>(
 }
 
 /// Puts a pair into the map, whose node is made, from where the search for its key has found that the tree changes.
-fn put_in<K: Plain, V: Plain>(
+pub fn put_in<K: Plain, V: Plain>(
     heap: &mut Heap,
     handle: u64,
     at: u64,
@@ -87,36 +85,7 @@ fn put_in<K: Plain, V: Plain>(
     ensures steps { TreeSteps K.Plain V.Plain heap.old handle at steps.old steps.new }
 {
     let root = heap.link(handle, at);
-    let count = heap.word(handle, at + COUNT);
+    let count = len::<K, V>(&*heap, handle, at);
     let top = link::<K>(heap, root, start, node, steps);
     write_head(heap, handle, at, top, count + 1);
-}
-
-/// Puts the value of a key, and answers whether the key is new. All other pairs keep their blocks, and so does this one
-/// where the key is not new.
-///
-/// # Errors
-///
-/// `NoSpace` where the key is new and no gap is long enough for its block. Nothing changes.
-pub fn put<K: Plain, V: Plain>(
-    heap: &mut Heap,
-    handle: u64,
-    at: u64,
-    key: K,
-    value: V,
-    steps: &mut Steps,
-) -> Result<bool, NoSpace>
-    requires { IsSomeMap K.Plain V.Plain heap.old.bytes handle at }
-    ensures put { Puts K.Plain V.Plain heap.old heap.new handle at key value result }
-    ensures counted { steps.old ≤ steps.new }
-    ensures steps { ChangeSteps K.Plain V.Plain heap.old handle at steps.old steps.new }
-{
-    let trace = find_in::<K, V>(&*heap, handle, at, key, steps);
-    if let Some(node) = trace.node {
-        write_value::<V>(heap, node, KEY + K::SIZE, value);
-        return Ok(false);
-    }
-    let node = make_node::<K, V>(heap, key, value, steps)?;
-    put_in::<K, V>(heap, handle, at, trace.start, node, steps);
-    Ok(true)
 }

@@ -1,17 +1,24 @@
 -- What the search has found is looked at once more.
-use Rattle.std.proofs.Common.{◌≡◌, arith}
-use Rattle.seg_map.specs.Searches.{exit_in}
-use Rattle.seg_map.proofs.Beginnings.{narrowed}
+use Rattle.std.proofs.Common.{◌∙◌, ◌+◌, false, ap, arith}
+use Rattle.std.specs.Prelude.{IfSome}
+use Rattle.seg_map.specs.Searches.{reading_steps}
+use Rattle.seg_map.proofs.Entering.{laws_of}
+use Rattle.seg_map.proofs.Searching.{exit_is, finds_first, key_room, looked_for}
 use Rattle.seg_map.proofs.finding.find_out.Goals as goal
 
-pub returns-clause-exact : goal.returns-clause-exact
-returns-clause-exact g c = λ ps s.
-    let path = c.seek_out-trace.ensures.exact ps s in let read = c.with_key.ensures.exact ps s in
-    omega (arith, path, read)
+pub with_key-requires-clause-room : goal.with_key-requires-clause-room
+with_key-requires-clause-room g c =
+    let m = g.met.K.Plain in let kl = laws_of g.K.Plain m.spells m.reads m.irreflexive m.transitive in
+    let way = c.find_way_out-way.ensures in
+    key_room (finds_first kl c.open-pairs.ensures.opened false c.args.key way.exact way.steps way.first) c.requires.map
 
-pub returns-clause-exit : goal.returns-clause-exit
-returns-clause-exit g c = λ ps s.
-    narrowed c.with_key.result c.seek_out-trace.result.node
-    (λ n. c.seek_out-trace.result.start ≡ exit_in g.K.Plain c.args.heap.now n s.map.tree.tree)
-    c.with_key.ensures.same
-    (c.seek_out-trace.ensures.exit ps s)
+pub returns : goal.returns
+returns g c =
+    let m = g.met.K.Plain in let kl = laws_of g.K.Plain m.spells m.reads m.irreflexive m.transitive in
+    let way = c.find_way_out-way.ensures in let o = c.open-pairs.ensures.opened in
+    record {
+      found = looked_for kl c.args.key (finds_first kl o false c.args.key way.exact way.steps way.first)
+          c.with_key.ensures.node (omega arith);
+      value = c.with_key.ensures.value;
+      exit = exit_is kl o c.with_key.result c.find_way_out-way.result.node c.find_way_out-way.result.exit c.with_key.ensures.same way.exit;
+    }

@@ -4,12 +4,9 @@ use Rattle.seg_map.specs.Linking.{Linked}
 use Rattle.seg_map.proofs.Relinking.{linked}
 use Rattle.seg_map.proofs.linking.plant.Goals as goal
 
-pub insert_at-changed-requires-clause-root : goal.insert_at-changed-requires-clause-root
-insert_at-changed-requires-clause-root g c = c.requires.tree.leads
-
-pub insert_at-changed-requires-clause-tree : goal.insert_at-changed-requires-clause-tree
-insert_at-changed-requires-clause-tree g c =
-    (c.requires.shape, c.requires.tree.tree, c.requires.place, c.requires.begins)
+pub insert_at-changed-requires : goal.insert_at-changed-requires
+insert_at-changed-requires g c =
+    let r = c.requires in record { root = r.tree.leads; node = r.own; tree = (r.shape, r.tree.tree, r.place, r.begins) }
 
 pub returns-clause-change : goal.returns-clause-change
 returns-clause-change g c =

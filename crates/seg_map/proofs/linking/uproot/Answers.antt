@@ -4,12 +4,9 @@ use Rattle.seg_map.specs.Linking.{Unlinked}
 use Rattle.seg_map.proofs.Relinking.{unlinked}
 use Rattle.seg_map.proofs.linking.uproot.Goals as goal
 
-pub remove_at-changed-requires-clause-root : goal.remove_at-changed-requires-clause-root
-remove_at-changed-requires-clause-root g c = c.requires.tree.leads
-
-pub remove_at-changed-requires-clause-tree : goal.remove_at-changed-requires-clause-tree
-remove_at-changed-requires-clause-tree g c =
-    (c.requires.shape, c.requires.tree.tree, c.requires.listed, c.requires.begins)
+pub remove_at-changed-requires : goal.remove_at-changed-requires
+remove_at-changed-requires g c =
+    let r = c.requires in record { root = r.tree.leads; tree = (r.shape, r.tree.tree, r.listed, r.begins) }
 
 pub returns-clause-change : goal.returns-clause-change
 returns-clause-change g c =

@@ -1,56 +1,51 @@
 -- The links, the key and the value are written one after another.
-use Rattle.std.proofs.Common.{◌≡◌, sym, subst, ◌+◌, IsTrue}
+use Rattle.std.proofs.Common.{sym, subst, ◌+◌, IsTrue}
 use Rattle.raw_region.specs.Format.{current}
 use Rattle.raw_region.specs.Memory.{Has, bytes_of}
 use Rattle.block_tags.specs.declared.tile.Role.TheVariants.{Node}
 use Rattle.best_fit.specs.Heap.{IsAllocated, IsChanged, has_room, live_of}
 use Rattle.seg_map.specs.Map.{node_len}
-use Rattle.seg_map.proofs.Entering.{Laws}
+use Rattle.seg_map.proofs.Entering.{Laws, laws_of}
 use Rattle.seg_map.proofs.Making.{made, room_key, room_left, room_right, room_value}
+use Rattle.seg_map.proofs.putting.make_node.Given.{Over}
 use Rattle.seg_map.proofs.putting.make_node.Goals as goal
+use Rattle.seg_map.proofs.putting.make_node.Goals.{In_ok-node}
+
+kl : (g : Over) → Laws g.K.Plain
+kl g = let m = g.met.K.Plain in laws_of g.K.Plain m.spells m.reads m.irreflexive m.transitive
+
+-- the block is as long as a node
+new : (g : Over) (c : In_ok-node g) → IsAllocated current c.args.heap.now c.allocate.new.self (node_len g.K.Plain.SIZE g.V.Plain.SIZE) Node c.in_ok-node.node
+new g c =
+    subst (λ n. IsAllocated current c.args.heap.now c.allocate.new.self n Node c.in_ok-node.node)
+    (λ i. 16 + c.SIZE.ensures i + c.SIZE-2.ensures i) c.in_ok-node.ensures.answer
 
 pub set_link-requires-clause-room : goal.set_link-requires-clause-room
-set_link-requires-clause-room g c =
-    let kl : Laws g.K.Plain = record { spells = g.met.K.Plain.spells; reads = g.met.K.Plain.reads; irreflexive = g.met.K.Plain.irreflexive; transitive = g.met.K.Plain.transitive } in
-    let long : 16 + c.SIZE.result + c.SIZE-2.result ≡ node_len g.K.Plain.SIZE g.V.Plain.SIZE = (λ i. 16 + c.SIZE.ensures i + c.SIZE-2.ensures i) in
-    let new : IsAllocated current c.args.heap.now c.allocate.new.self (node_len g.K.Plain.SIZE g.V.Plain.SIZE) Node c.in_ok-node.node =
-    subst (λ n. IsAllocated current c.args.heap.now c.allocate.new.self n Node c.in_ok-node.node) long c.in_ok-node.ensures.answer in
-    room_left g.K.Plain g.V.Plain kl c.args.heap.now c.allocate.new.self c.allocate.new.self c.in_ok-node.node new
+set_link-requires-clause-room g c = room_left (kl g) g.V.Plain (new g (goal.at.set_link-requires-clause-room g c).In_ok-node)
 
 pub set_link-requires-2-clause-room : goal.set_link-requires-2-clause-room
 set_link-requires-2-clause-room g c =
-    let kl : Laws g.K.Plain = record { spells = g.met.K.Plain.spells; reads = g.met.K.Plain.reads; irreflexive = g.met.K.Plain.irreflexive; transitive = g.met.K.Plain.transitive } in
-    let long : 16 + c.SIZE.result + c.SIZE-2.result ≡ node_len g.K.Plain.SIZE g.V.Plain.SIZE = (λ i. 16 + c.SIZE.ensures i + c.SIZE-2.ensures i) in
-    let new : IsAllocated current c.args.heap.now c.allocate.new.self (node_len g.K.Plain.SIZE g.V.Plain.SIZE) Node c.in_ok-node.node =
-    subst (λ n. IsAllocated current c.args.heap.now c.allocate.new.self n Node c.in_ok-node.node) long c.in_ok-node.ensures.answer in
-    room_right g.K.Plain g.V.Plain kl c.args.heap.now c.allocate.new.self c.set_link.new.self c.in_ok-node.node new c.set_link.ensures.change c.set_link.ensures.leads
+    let left = c.set_link.ensures in
+    room_right (kl g) g.V.Plain (new g (goal.at.set_link-requires-2-clause-room g c).In_ok-node) left.change left.leads
 
 pub write_value-requires : goal.write_value-requires
 write_value-requires g c =
-    let kl : Laws g.K.Plain = record { spells = g.met.K.Plain.spells; reads = g.met.K.Plain.reads; irreflexive = g.met.K.Plain.irreflexive; transitive = g.met.K.Plain.transitive } in
-    let long : 16 + c.SIZE.result + c.SIZE-2.result ≡ node_len g.K.Plain.SIZE g.V.Plain.SIZE = (λ i. 16 + c.SIZE.ensures i + c.SIZE-2.ensures i) in
-    let new : IsAllocated current c.args.heap.now c.allocate.new.self (node_len g.K.Plain.SIZE g.V.Plain.SIZE) Node c.in_ok-node.node =
-    subst (λ n. IsAllocated current c.args.heap.now c.allocate.new.self n Node c.in_ok-node.node) long c.in_ok-node.ensures.answer in
-    room_key g.K.Plain g.V.Plain kl c.args.heap.now c.allocate.new.self c.set_link.new.self c.in_ok-node.node new c.set_link.ensures.change c.set_link.ensures.leads c.set_link-2.new.self c.set_link-2.ensures.change c.set_link-2.ensures.leads
+    let left = c.set_link.ensures in let right = c.set_link-2.ensures in
+    room_key (kl g) g.V.Plain (new g (goal.at.write_value-requires g c).In_ok-node) left.change left.leads right.change right.leads
 
 pub write_value-requires-2 : goal.write_value-requires-2
 write_value-requires-2 g c =
-    let kl : Laws g.K.Plain = record { spells = g.met.K.Plain.spells; reads = g.met.K.Plain.reads; irreflexive = g.met.K.Plain.irreflexive; transitive = g.met.K.Plain.transitive } in
-    let long : 16 + c.SIZE.result + c.SIZE-2.result ≡ node_len g.K.Plain.SIZE g.V.Plain.SIZE = (λ i. 16 + c.SIZE.ensures i + c.SIZE-2.ensures i) in
-    let new : IsAllocated current c.args.heap.now c.allocate.new.self (node_len g.K.Plain.SIZE g.V.Plain.SIZE) Node c.in_ok-node.node =
-    subst (λ n. IsAllocated current c.args.heap.now c.allocate.new.self n Node c.in_ok-node.node) long c.in_ok-node.ensures.answer in
-    subst (λ k. IsTrue (has_room (live_of c.write_value.new.heap.bytes) c.in_ok-node.node (16 + k + g.V.Plain.SIZE))) (sym c.SIZE-3.ensures)
-    (room_value g.K.Plain g.V.Plain kl c.args.heap.now c.allocate.new.self c.set_link.new.self c.in_ok-node.node new c.set_link.ensures.change c.set_link.ensures.leads c.set_link-2.new.self c.set_link-2.ensures.change c.set_link-2.ensures.leads
-    c.write_value.new.heap c.args.key c.write_value.ensures.value c.write_value.ensures.change c.write_value.ensures.content)
+    let left = c.set_link.ensures in let right = c.set_link-2.ensures in let key = c.write_value.ensures in
+    subst (λ k. IsTrue (has_room (live_of c.write_value.new.heap.bytes) c.in_ok-node.node (16 + k + g.V.Plain.SIZE)))
+    (sym c.SIZE-3.ensures)
+    (room_value (kl g) g.V.Plain (new g (goal.at.write_value-requires-2 g c).In_ok-node) left.change left.leads right.change
+    right.leads key.value key.change key.content)
 
 pub returns-clause-made : goal.returns-clause-made
 returns-clause-made g c =
-    let kl : Laws g.K.Plain = record { spells = g.met.K.Plain.spells; reads = g.met.K.Plain.reads; irreflexive = g.met.K.Plain.irreflexive; transitive = g.met.K.Plain.transitive } in
-    let long : 16 + c.SIZE.result + c.SIZE-2.result ≡ node_len g.K.Plain.SIZE g.V.Plain.SIZE = (λ i. 16 + c.SIZE.ensures i + c.SIZE-2.ensures i) in
-    let new : IsAllocated current c.args.heap.now c.allocate.new.self (node_len g.K.Plain.SIZE g.V.Plain.SIZE) Node c.in_ok-node.node =
-    subst (λ n. IsAllocated current c.args.heap.now c.allocate.new.self n Node c.in_ok-node.node) long c.in_ok-node.ensures.answer in
-    made g.K.Plain g.V.Plain kl c.args.heap.now c.allocate.new.self c.set_link.new.self c.in_ok-node.node new c.set_link.ensures.change c.set_link.ensures.leads c.set_link-2.new.self c.set_link-2.ensures.change c.set_link-2.ensures.leads
-    c.write_value.new.heap c.args.key c.write_value.ensures.value c.write_value.ensures.change c.write_value.ensures.content
-    c.write_value-2.new.heap c.args.value c.write_value-2.ensures.value
-    (subst (λ k. IsChanged current c.write_value.new.heap c.write_value-2.new.heap (c.in_ok-node.node + (16 + k)) g.V.Plain.SIZE) c.SIZE-3.ensures c.write_value-2.ensures.change)
-    (subst (λ k. Has (bytes_of c.write_value-2.new.heap.bytes) (c.in_ok-node.node + (16 + k)) (g.V.Plain.spelling c.args.value)) c.SIZE-3.ensures c.write_value-2.ensures.content)
+    let left = c.set_link.ensures in let right = c.set_link-2.ensures in let key = c.write_value.ensures in
+    let value = c.write_value-2.ensures in let d = c.write_value-2.new.heap in
+    made (kl g) g.V.Plain (new g (goal.at.returns-clause-made g c).In_ok-node) left.change left.leads right.change right.leads
+    key.value key.change key.content c.args.value value.value
+    (subst (λ k. IsChanged current c.write_value.new.heap d (c.in_ok-node.node + (16 + k)) g.V.Plain.SIZE) c.SIZE-3.ensures value.change)
+    (subst (λ k. Has (bytes_of d.bytes) (c.in_ok-node.node + (16 + k)) (g.V.Plain.spelling c.args.value)) c.SIZE-3.ensures value.content)

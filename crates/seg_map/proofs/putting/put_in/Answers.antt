@@ -1,85 +1,58 @@
 -- The node enters the tree, and the three words say so.
-use Rattle.std.proofs.Common.{◌≡◌, sym, ap, subst, ◌∙◌, ◌+◌, ◌-◌, length, arith, IsTrue}
-use Rattle.raw_region.specs.Memory.{bytes_of, word_at}
+use Rattle.std.proofs.Common.{sym, ap, subst, ◌∙◌, ◌+◌, ◌-◌, arith, IsTrue}
 use Rattle.link_tree.specs.Tree.{bits}
 use Rattle.best_fit.specs.Extents.{is_proper}
 use Rattle.best_fit.specs.Heap.{has_room, live_of}
 use Rattle.best_fit.proofs.Laws.{room-less}
-use Rattle.seg_map.proofs.Entering.{Laws}
-use Rattle.seg_map.proofs.Payloads.{small}
+use Rattle.seg_map.proofs.Entering.{Laws, laws_of}
 use Rattle.seg_map.proofs.Planting.{can_link, few_in_map, few_put, live_put, planted, top_put}
+use Rattle.seg_map.proofs.putting.put_in.Given.{Over}
 use Rattle.seg_map.proofs.putting.put_in.Goals as goal
+
+kl : (g : Over) → Laws g.K.Plain
+kl g = let m = g.met.K.Plain in laws_of g.K.Plain m.spells m.reads m.irreflexive m.transitive
+
+vl : (g : Over) → Laws g.V.Plain
+vl g = let m = g.met.V.Plain in laws_of g.V.Plain m.spells m.reads m.irreflexive m.transitive
 
 pub link-root-requires-clause-room : goal.link-root-requires-clause-room
 link-root-requires-clause-room g c = room-less (live_of c.args.heap.now.bytes) c.args.handle (c.args.at + 24)
     (c.args.at + 8) (omega arith) c.requires.there.map.room
 
-pub overflow_add-at : goal.overflow_add-at
-overflow_add-at g c = let few = small c.args.heap.now.bytes c.args.handle (c.args.at + 24)
-    c.requires.there.map.heap.proper c.requires.there.map.room in omega arith
-
-pub word-count-requires : goal.word-count-requires
-word-count-requires g c = room-less (live_of c.args.heap.now.bytes) c.args.handle (c.args.at + 24)
-    (c.args.at + 8 + 8) (omega arith) c.requires.there.map.room
+pub len-count-requires : goal.len-count-requires
+len-count-requires g c = (c.requires.there.pairs, c.requires.there.map)
 
 pub link-top-requires : goal.link-top-requires
 link-top-requires g c =
-    let laws : Laws g.K.Plain = record { spells = g.met.K.Plain.spells; reads = g.met.K.Plain.reads; irreflexive = g.met.K.Plain.irreflexive; transitive = g.met.K.Plain.transitive } in
-    let vaws : Laws g.V.Plain = record { spells = g.met.V.Plain.spells; reads = g.met.V.Plain.reads; irreflexive = g.met.V.Plain.irreflexive; transitive = g.met.V.Plain.transitive } in
     let r = c.requires.there in
-    can_link g.K.Plain g.V.Plain laws vaws c.args.heap.now c.args.handle c.args.at c.link-root.result r.pairs r.map
-    c.link-root.ensures r.pair r.loose c.args.start c.requires.begins c.args.node r.is
+    can_link (kl g) c.args.heap.now r.map c.link-root.ensures r.loose c.args.start c.requires.begins r.is
 
 pub overflow_add-count : goal.overflow_add-count
 overflow_add-count g c =
-    let laws : Laws g.K.Plain = record { spells = g.met.K.Plain.spells; reads = g.met.K.Plain.reads; irreflexive = g.met.K.Plain.irreflexive; transitive = g.met.K.Plain.transitive } in
     let r = c.requires.there in
-    let place : c.args.handle + (c.args.at + 8) ≡ c.args.handle + c.args.at + 8 = omega arith in
-    let count : c.word-count.result ≡ length r.pairs = c.word-count.ensures ∙ ap (word_at (bytes_of c.args.heap.now.bytes)) place ∙ r.map.map.count in
-    let few = few_in_map g.K.Plain g.V.Plain laws c.args.heap.now c.args.handle c.args.at r.pairs r.map in
-    omega (arith, count, few)
+    omega (arith, c.len-count.ensures r.pairs r.map, few_in_map (kl g) c.args.heap.now r.map)
 
-pub write_head-requires-clause-proper : goal.write_head-requires-clause-proper
-write_head-requires-clause-proper g c =
-    let laws : Laws g.K.Plain = record { spells = g.met.K.Plain.spells; reads = g.met.K.Plain.reads; irreflexive = g.met.K.Plain.irreflexive; transitive = g.met.K.Plain.transitive } in
-    let vaws : Laws g.V.Plain = record { spells = g.met.V.Plain.spells; reads = g.met.V.Plain.reads; irreflexive = g.met.V.Plain.irreflexive; transitive = g.met.V.Plain.transitive } in
-    let r = c.requires.there in
-    subst (λ l. IsTrue (is_proper l)) (sym (live_put g.K.Plain g.V.Plain laws vaws c.args.heap.now c.args.handle c.args.at c.link-root.result r.pairs r.map c.link-root.ensures r.pair r.loose
-    c.link-top.new.heap c.args.node r.is c.link-top.result (c.link-top.new.steps - c.args.steps.now) c.link-top.ensures.change)) r.map.heap.proper
+pub write_head-requires : goal.write_head-requires
+write_head-requires g c =
+    let r = c.requires.there in let w = c.args.heap.now in let u = c.link-top.ensures.change in
+    let live = sym (live_put (kl g) w r.map c.link-root.ensures r.loose r.is u) in
+    record {
+      aligned = r.map.aligned;
+      proper = subst (λ l. IsTrue (is_proper l)) live r.map.heap.proper;
+      room = subst (λ l. IsTrue (has_room l c.args.handle (c.args.at + 24))) live r.map.room;
+      root = top_put (kl g) w r.map c.link-root.ensures r.loose r.is u;
+    }
 
-pub write_head-requires-clause-room : goal.write_head-requires-clause-room
-write_head-requires-clause-room g c =
-    let laws : Laws g.K.Plain = record { spells = g.met.K.Plain.spells; reads = g.met.K.Plain.reads; irreflexive = g.met.K.Plain.irreflexive; transitive = g.met.K.Plain.transitive } in
-    let vaws : Laws g.V.Plain = record { spells = g.met.V.Plain.spells; reads = g.met.V.Plain.reads; irreflexive = g.met.V.Plain.irreflexive; transitive = g.met.V.Plain.transitive } in
-    let r = c.requires.there in
-    subst (λ l. IsTrue (has_room l c.args.handle (c.args.at + 24))) (sym (live_put g.K.Plain g.V.Plain laws vaws c.args.heap.now c.args.handle c.args.at c.link-root.result r.pairs r.map c.link-root.ensures r.pair r.loose
-    c.link-top.new.heap c.args.node r.is c.link-top.result (c.link-top.new.steps - c.args.steps.now) c.link-top.ensures.change)) r.map.room
-
-pub write_head-requires-clause-root : goal.write_head-requires-clause-root
-write_head-requires-clause-root g c =
-    let laws : Laws g.K.Plain = record { spells = g.met.K.Plain.spells; reads = g.met.K.Plain.reads; irreflexive = g.met.K.Plain.irreflexive; transitive = g.met.K.Plain.transitive } in
-    let vaws : Laws g.V.Plain = record { spells = g.met.V.Plain.spells; reads = g.met.V.Plain.reads; irreflexive = g.met.V.Plain.irreflexive; transitive = g.met.V.Plain.transitive } in
-    let r = c.requires.there in
-    top_put g.K.Plain g.V.Plain laws vaws c.args.heap.now c.args.handle c.args.at c.link-root.result r.pairs r.map c.link-root.ensures r.pair r.loose
-    c.link-top.new.heap c.args.node r.is c.link-top.result (c.link-top.new.steps - c.args.steps.now) c.link-top.ensures.change
-
-pub returns-clause-planted : goal.returns-clause-planted
-returns-clause-planted g c = λ ps p s loose is.
-    let laws : Laws g.K.Plain = record { spells = g.met.K.Plain.spells; reads = g.met.K.Plain.reads; irreflexive = g.met.K.Plain.irreflexive; transitive = g.met.K.Plain.transitive } in
-    let vaws : Laws g.V.Plain = record { spells = g.met.V.Plain.spells; reads = g.met.V.Plain.reads; irreflexive = g.met.V.Plain.irreflexive; transitive = g.met.V.Plain.transitive } in
-    let w = c.args.heap.now in
-    let place : c.args.handle + (c.args.at + 8) ≡ c.args.handle + c.args.at + 8 = omega arith in
-    let count : c.word-count.result ≡ length ps = c.word-count.ensures ∙ ap (word_at (bytes_of w.bytes)) place ∙ s.map.count in
-    planted g.K.Plain g.V.Plain laws vaws w c.args.handle c.args.at c.link-root.result ps s c.link-root.ensures p loose
-    c.link-top.new.heap c.args.node is c.link-top.result (c.link-top.new.steps - c.args.steps.now) c.link-top.ensures.change c.write_head.new.heap (c.word-count.result + 1) (omega (arith, count)) c.write_head.ensures
-
-pub returns-clause-steps : goal.returns-clause-steps
-returns-clause-steps g c = λ ps s.
-    let laws : Laws g.K.Plain = record { spells = g.met.K.Plain.spells; reads = g.met.K.Plain.reads; irreflexive = g.met.K.Plain.irreflexive; transitive = g.met.K.Plain.transitive } in
-    let vaws : Laws g.V.Plain = record { spells = g.met.V.Plain.spells; reads = g.met.V.Plain.reads; irreflexive = g.met.V.Plain.irreflexive; transitive = g.met.V.Plain.transitive } in
-    let r = c.requires.there in
-    let few = few_put g.K.Plain g.V.Plain laws vaws c.args.heap.now c.args.handle c.args.at c.link-root.result r.pairs r.map c.link-root.ensures r.pair r.loose
-    c.link-top.new.heap c.args.node r.is c.link-top.result (c.link-top.new.steps - c.args.steps.now) c.link-top.ensures.change in
-    let same : length r.pairs ≡ length ps = sym r.map.map.count ∙ s.map.count in
-    let digits = ap (λ n. bits (n + 1)) same in
-    omega (arith, few, digits, c.link-top.ensures.counted)
+pub returns : goal.returns
+returns g c =
+    let r = c.requires.there in let w = c.args.heap.now in let u = c.link-top.ensures in
+    record {
+      planted = λ ps p s loose is.
+          planted (kl g) w s c.link-root.ensures loose is u.change (vl g) (omega (arith, c.len-count.ensures ps s))
+          c.write_head.ensures;
+      counted = u.counted;
+      steps = λ ps s.
+          let few = few_put (kl g) w r.map c.link-root.ensures r.loose r.is u.change in
+          let digits = ap (λ n. bits (n + 1)) (sym r.map.map.count ∙ s.map.count) in
+          omega (arith, few, digits, u.counted);
+    }

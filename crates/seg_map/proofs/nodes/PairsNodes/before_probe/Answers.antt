@@ -2,17 +2,16 @@
 use Rattle.std.proofs.Common.{ap, ◌∙◌, ◌+◌, arith}
 use Rattle.seg_types.specs.Plain.{value_in}
 use Rattle.seg_map.specs.PairNodes.{stands}
-use Rattle.seg_map.proofs.PairSteps.{key_is, proper_of, room_in}
+use Rattle.seg_map.proofs.PairSteps.{key_is, key_room}
 use Rattle.seg_map.proofs.nodes.PairsNodes.before_probe.Goals as goal
 
-pub value_at-requires-clause-proper : goal.value_at-requires-clause-proper
-value_at-requires-clause-proper g c = proper_of (16 + g.K.Plain.SIZE) c.args.self.now.own c.args.self.now.heap.now c.args.node c.requires
-
-pub value_at-requires-clause-room : goal.value_at-requires-clause-room
-value_at-requires-clause-room g c = room_in (16 + g.K.Plain.SIZE) c.args.self.now.own c.args.self.now.heap.now c.args.node c.requires (16 + g.K.Plain.SIZE) (omega arith)
+pub value_at-requires : goal.value_at-requires
+value_at-requires g c =
+    let r = key_room g.K.Plain.SIZE c.args.self.now.own c.args.self.now.heap.now c.args.node c.requires in
+    record { proper = r.proper; room = r.room }
 
 pub returns : goal.returns
 returns g c =
-    let p = g.K.Plain in let probe = c.args.probe.now in
-    let key = c.value_at.ensures ∙ key_is (value_in p.reading p.is_value p.spelling) p.SIZE c.args.self.now.own c.args.self.now.heap.now c.args.node c.requires in
+    let p = g.K.Plain in let probe = c.args.probe.now in let value = value_in p.reading p.is_value p.spelling in
+    let key = c.value_at.ensures ∙ key_is value p.SIZE c.args.self.now.own c.args.self.now.heap.now c.args.node c.requires in
     c.is_before.ensures ∙ ap (stands p.order probe.past probe.key) key

@@ -1,0 +1,78 @@
+-- The value of a key that is there is written over; else a node is made, and enters the map.
+use Rattle.std.proofs.Common.{◌≡◌, refl, sym, subst, ◌∙◌, ◌+◌, arith, true, IsTrue}
+use Rattle.std.specs.Prelude.{None}
+use Rattle.raw_region.specs.Format.{current}
+use Rattle.raw_region.specs.Memory.{Has, bytes_of}
+use Rattle.best_fit.specs.Extents.{handle}
+use Rattle.best_fit.specs.Heap.{IsChanged, has_room, live_of}
+use Rattle.seg_map.proofs.Entering.{Laws, laws_of}
+use Rattle.seg_map.proofs.Searching.{key_absent, key_at_node}
+use Rattle.seg_map.proofs.Overwriting.{is_put_again, value_room}
+use Rattle.seg_map.proofs.NewPairs.{entry_there, is_put, loose, map_there}
+use Rattle.seg_map.proofs.maps.SegMap.put.Given.{Over}
+use Rattle.seg_map.proofs.maps.SegMap.put.Goals as goal
+
+kl : (g : Over) → Laws g.K.Plain
+kl g = let m = g.met.K.Plain in laws_of g.K.Plain m.spells m.reads m.irreflexive m.transitive
+
+vl : (g : Over) → Laws g.V.Plain
+vl g = let m = g.met.V.Plain in laws_of g.V.Plain m.spells m.reads m.irreflexive m.transitive
+
+pub write_value-requires : goal.write_value-requires
+write_value-requires g c =
+    let ps = c.requires.0 in let s = c.requires.1 in let live = live_of c.args.heap.now.bytes in
+    let k = key_at_node c.find_in-trace.ensures.found s c.in-Some.is in
+    subst (λ n. IsTrue (has_room live n (16 + c.SIZE.result + g.V.Plain.SIZE))) k.at
+    (subst (λ z. IsTrue (has_room live (handle k.pair.node) (16 + z + g.V.Plain.SIZE))) (sym c.SIZE.ensures)
+    (value_room c.args.heap.now s c.args.key k.is))
+
+pub returns-in-Some-clause-put : goal.returns-in-Some-clause-put
+returns-in-Some-clause-put g c = λ ps s.
+    let w = c.args.heap.now in let d = c.write_value.new.heap in let written = c.write_value.ensures in
+    let k = key_at_node c.find_in-trace.ensures.found s c.in-Some.is in
+    let place : c.in-Some.node + (16 + c.SIZE.result) ≡ handle k.pair.node + (16 + g.K.Plain.SIZE) =
+    (λ i. sym k.at i + (16 + c.SIZE.ensures i)) in
+    let one : g.K.Plain.is_value c.args.key ≡ true = rw c.in-Some.is at c.find_in-trace.ensures.value in
+    rw k.is (
+      refl,
+      is_put_again w s c.args.key k.is (kl g) (vl g) g.met.K.Plain.total c.args.value one written.value
+          (subst (λ a. IsChanged current w d a g.V.Plain.SIZE) place written.change)
+          (subst (λ a. Has (bytes_of d.bytes) a (g.V.Plain.spelling c.args.value)) place written.content),
+    )
+
+pub put_in-requires : goal.put_in-requires
+put_in-requires g c =
+    let none : c.find_in-trace.result.node ≡ None = cc in
+    let ps = c.requires.0 in let s = c.requires.1 in let m = c.in_ok-node.ensures.made in
+    let absent = key_absent c.find_in-trace.ensures.found s none in
+    record {
+      there = record {
+        pairs = ps;
+        pair = record { key = c.args.key; value = c.args.value; node = m.block.extent };
+        map = map_there (kl g) (vl g) s absent m;
+        loose = loose (kl g) (vl g) s absent m;
+        is = sym m.block.at;
+      };
+      begins = entry_there (kl g) (vl g) s absent m (c.find_in-trace.ensures.entry ps s);
+    }
+
+pub returns-clause-put : goal.returns-clause-put
+returns-clause-put g c =
+    let none : c.find_in-trace.result.node ≡ None = cc in
+    λ ps s.
+    let m = c.in_ok-node.ensures.made in
+    let absent = key_absent c.find_in-trace.ensures.found s none in
+    rw absent (
+      refl,
+      is_put (kl g) (vl g) s absent m
+          (c.put_in.ensures.planted ps (record { key = c.args.key; value = c.args.value; node = m.block.extent })
+          (map_there (kl g) (vl g) s absent m) (loose (kl g) (vl g) s absent m) (sym m.block.at)),
+    )
+
+pub returns-clause-steps : goal.returns-clause-steps
+returns-clause-steps g c =
+    let none : c.find_in-trace.result.node ≡ None = cc in
+    λ ps s.
+    let absent = key_absent c.find_in-trace.ensures.found s none in
+    let there = map_there (kl g) (vl g) s absent c.in_ok-node.ensures.made in
+    omega (arith, c.find_in-trace.ensures.found.steps ps s, c.make_node.ensures.steps, c.put_in.ensures.steps ps there)

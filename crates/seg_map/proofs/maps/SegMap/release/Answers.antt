@@ -1,0 +1,44 @@
+-- A pair is given up as long as there is a root.
+use Rattle.std.proofs.Common.{◌≡◌, sym, ◌∙◌, ◌+◌, arith}
+use Rattle.std.specs.Prelude.{None}
+use Rattle.best_fit.specs.Heap.{live_of}
+use Rattle.best_fit.proofs.Laws.{room-less}
+use Rattle.seg_map.proofs.Entering.{Laws, laws_of}
+use Rattle.seg_map.proofs.Emptying.{given_up, going_first, going_on, one_less, root_pair}
+use Rattle.seg_map.proofs.maps.SegMap.release.Given.{Over}
+use Rattle.seg_map.proofs.maps.SegMap.release.Goals as goal
+
+kl : (g : Over) → Laws g.K.Plain
+kl g = let m = g.met.K.Plain in laws_of g.K.Plain m.spells m.reads m.irreflexive m.transitive
+
+pub link-requires-clause-room : goal.link-requires-clause-room
+link-requires-clause-room g c =
+    let at = c.args.self.place.at in
+    room-less (live_of c.pairs.heap.bytes) c.args.self.place.handle (at + 24) (at + 8) (omega arith)
+    (c.pairs.invariant c.requires.0 c.requires.1).holds.room
+
+pub give_up-requires : goal.give_up-requires
+give_up-requires g c =
+    let going = c.pairs.invariant c.requires.0 c.requires.1 in
+    let n = root_pair (kl g) going (sym c.link.ensures ∙ c.in-Some.is) in
+    record { pairs = going.pairs; key = n.pair.key; pair = n.pair; map = going.holds; found = n.holds; is = n.at }
+
+pub pairs-init : goal.pairs-init
+pairs-init g c = λ ps s. going_first g.K.Plain g.V.Plain c.args.heap.now c.args.self.place.handle c.args.self.place.at ps s
+
+pub pairs-smaller : goal.pairs-smaller
+pairs-smaller g c =
+    let going = c.pairs.invariant c.requires.0 c.requires.1 in
+    let n = root_pair (kl g) going (sym c.link.ensures ∙ c.in-Some.is) in
+    one_less (kl g) going n.holds (c.give_up.ensures going.pairs n.pair.key n.pair going.holds n.holds n.at)
+
+pub pairs-preserved : goal.pairs-preserved
+pairs-preserved g c = λ ps s.
+    let going = c.pairs.invariant ps s in
+    let n = root_pair (kl g) going (sym c.link.ensures ∙ c.in-Some.is) in
+    going_on (kl g) going n.holds (c.give_up.ensures going.pairs n.pair.key n.pair going.holds n.holds n.at)
+
+pub returns : goal.returns
+returns g c =
+    let none : c.link.result ≡ None = cc in
+    λ ps s. given_up (kl g) (c.pairs.invariant ps s) s.heap.proper (sym c.link.ensures ∙ none)

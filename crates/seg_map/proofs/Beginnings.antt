@@ -35,7 +35,7 @@ pub keys_agree : {K V : Type 0} (f g : ℕ → Option K) (ps : List (Pair K V)) 
     → is_in m (nodes_of_pairs ps) ≡ true → f m ≡ g m
 keys_agree f g [] k j m i = absurd (false≢true i)
 keys_agree f g (p ∷ ps) k j m i =
-    elim (or_cases (m == pair_node p) (is_in m (nodes_of_pairs ps)) i) [
+    elim (or_cases _ _ i) [
       | inl e ↦ let here = eqb-true m (pair_node p) e in ap f here ∙ k.0 ∙ sym (ap g here ∙ j.0)
       | inr e ↦ keys_agree f g ps k.1 j.1 m e
     ]
@@ -58,7 +58,7 @@ module _ {K : Type 0} (less : K → K → Bool) (irreflexive : (x : K) → less 
   beside keys p own [] k absent m i = absurd (false≢true i)
   beside keys p own (q ∷ qs) k absent m i =
       let two = absent_here less p.key q qs absent in
-      elim (or_cases (m == pair_node q) (is_in m (nodes_of_pairs qs)) i) [
+      elim (or_cases _ _ i) [
         | inl e ↦
             let key : keys m ≡ Some q.key = ap keys (eqb-true m (pair_node q) e) ∙ k.0 in
             ap (stands less false p.key) key ∙ one_side p.key q.key two.0

@@ -15,13 +15,13 @@ use Rattle.best_fit.specs.Extents.{Extent, LiveSet, handle, is_proper}
 use Rattle.best_fit.specs.Fit.{others, released}
 use Rattle.best_fit.specs.FreeTree.{cells_of}
 use Rattle.best_fit.specs.Heap.{LaysOut, extent_at, live_of}
-use Rattle.best_fit.proofs.Laws.{AllByRecursion-others, found-less, lay_out_one, live-rises, others-here, others-past}
+use Rattle.best_fit.proofs.Laws.{AllByRecursion-others, found-less, lay_out_one, live-rises}
 use Rattle.seg_types.specs.declared.plain.Plain.{Ghosts as Plain}
 use Rattle.seg_map.specs.Map.{Pair, is_key, is_rising, pair_at, remove_pair}
 use Rattle.seg_map.specs.Places.{HoldsMap, nodes_of_pairs, pair_node}
 use Rattle.seg_map.specs.Changing.{IsBesideMap, IsErased, IsGivenUp}
 use Rattle.seg_map.proofs.Entering.{Laws}
-use Rattle.seg_map.proofs.FoundPairs.{either_right, neither, rising_rest}
+use Rattle.seg_map.proofs.FoundPairs.{either_right, rising_rest}
 use Rattle.seg_map.proofs.Leaving.{in_from, nodes_in}
 use Rattle.seg_map.proofs.PairLists.{Below, in_nodes, removed_all, removed_length, rising_below}
 use Rattle.seg_map.proofs.Staying.{AtNode, at_node}
@@ -30,53 +30,49 @@ use Rattle.seg_map.proofs.Staying.{AtNode, at_node}
 
 others-comm : (a b : ℕ) (zs : List Extent) → others a (others b zs) ≡ others b (others a zs)
 others-comm a b [] = refl
-others-comm a b (y ∷ ys) = by_place (others-comm a b ys) (cases_eq (handle y) a) (cases_eq (handle y) b)
-  where
-    by_place : others a (others b ys) ≡ others b (others a ys) → (handle y ≡ a) ⊎ (handle y ≡ a → ⊥) → (handle y ≡ b) ⊎ (handle y ≡ b → ⊥) → others a (others b (y ∷ ys)) ≡ others b (others a (y ∷ ys))
-    by_place rest (inl e) (inl f) = let same : a ≡ b = sym e ∙ f in ap (λ (k : ℕ). others k (others b (y ∷ ys))) same ∙ ap (λ (k : ℕ). others b (others k (y ∷ ys))) (sym same)
-    by_place rest (inl e) (inr o) = ap (others a) (others-past b y ys o) ∙ others-here a y (others b ys) e ∙ ap (others b) (sym (others-here a y ys e))
-    by_place rest (inr o) (inl f) = ap (others a) (others-here b y ys f) ∙ sym (others-here b y (others a ys) f) ∙ ap (others b) (sym (others-past a y ys o))
-    by_place rest (inr o) (inr n) =
-        ap (others a) (others-past b y ys n) ∙ others-past a y (others b ys) o ∙ ap (λ (zs : List Extent). y ∷ zs) rest
-        ∙ sym (others-past b y (others a ys) n) ∙ ap (others b) (sym (others-past a y ys o))
+others-comm a b (y ∷ ys) =
+    elim (cases_eq (handle y) a) [
+      | inl e ↦ let here = eq-eqb (handle y) a e in
+          elim (cases_eq (handle y) b) [
+            | inl f ↦ rw (here, eq-eqb (handle y) b f) (ap (λ (k : ℕ). others k ys) (sym e ∙ f))
+            | inr o ↦ rw (here, ne_eqb (handle y) b o, here) refl
+          ]
+      | inr n ↦ let past = ne_eqb (handle y) a n in
+          elim (cases_eq (handle y) b) [
+            | inl f ↦ rw (past, eq-eqb (handle y) b f) refl
+            | inr o ↦ rw (past, ne_eqb (handle y) b o, past) (ap (λ (zs : List Extent). y ∷ zs) (others-comm a b ys))
+          ]
+    ]
 
 abbrev blocks_of : {K V : Type 0} → List (Pair K V) → List Extent
 blocks_of {K} {V} ps = map (λ (p : Pair K V). p.node) ps
 
 module _ {K V : Type 0} (less : K → K → Bool) where
-  none_some : (p : Pair K V) → Some p ≡ None → ⊥
-  none_some p e = let o : Option (Pair K V) = None in let f : Some p ≡ o = e in cc
-
-  same_pair : (p q : Pair K V) → Some q ≡ Some p → q ≡ p
-  same_pair p q e = cc
-
   -- one block and then those of the other pairs
   without_removed : (qs : List (Pair K V)) (key : K) (p : Pair K V) (zs : List Extent) → pair_at less qs key ≡ Some p
       → without_all (map (λ (q : Pair K V). q.node) (remove_pair less qs key)) (others (handle p.node) zs) ≡ without_all (map (λ (q : Pair K V). q.node) qs) zs
-  without_removed [] key p zs e = absurd (none_some p (sym e))
+  without_removed [] key p zs e = absurd (cc)
   without_removed (q ∷ qs) key p zs e =
       elim (cases_Bool (is_key less key q)) [
         | inl y ↦
-            let same : q ≡ p = same_pair p q (sym (cond-true (is_key less key q) (Some q) (pair_at less qs key) y) ∙ e) in
-            ap (λ (l : List (Pair K V)). without_all (blocks_of l) (others (handle p.node) zs)) (cond-true (is_key less key q) qs (q ∷ remove_pair less qs key) y)
-            ∙ ap (λ (x : Pair K V). without_all (blocks_of qs) (others (handle x.node) zs)) (sym same)
+            let f = rw y at e in let same : p ≡ q = cc in
+            rw y (ap (λ (x : Pair K V). without_all (blocks_of qs) (others (handle x.node) zs)) same)
         | inr z ↦
-            ap (λ (l : List (Pair K V)). without_all (blocks_of l) (others (handle p.node) zs)) (cond-false (is_key less key q) qs (q ∷ remove_pair less qs key) z)
-            ∙ ap (without_all (blocks_of (remove_pair less qs key))) (others-comm (handle q.node) (handle p.node) zs)
-            ∙ without_removed qs key p (others (handle q.node) zs) (sym (cond-false (is_key less key q) (Some q) (pair_at less qs key) z) ∙ e)
+            rw z (ap (without_all (blocks_of (remove_pair less qs key))) (others-comm (handle q.node) (handle p.node) zs)
+            ∙ without_removed qs key p (others (handle q.node) zs) (rw z at e))
       ]
 
   -- each pair is the one of its key
   own_found : ((x : K) → less x x ≡ false) → ((x y z : K) → less x y ≡ true → less y z ≡ true → less x z ≡ true) → (qs : List (Pair K V)) → is_rising less qs ≡ true → AllByRecursion (λ (q : Pair K V). pair_at less qs q.key ≡ Some q) qs
   own_found strict on [] r = tt
   own_found strict on (q ∷ qs) r = (
-    cond-true (is_key less q.key q) (Some q) (pair_at less qs q.key) (neither (less q.key q.key) (less q.key q.key) (strict q.key) (strict q.key)),
+    rw (strict q.key) refl,
     behind qs (rising_below less on q qs r) (own_found strict on qs (rising_rest less on q qs r)),
   )
     where
       behind : (xs : List (Pair K V)) → Below less q.key xs → AllByRecursion (λ (x : Pair K V). pair_at less qs x.key ≡ Some x) xs → AllByRecursion (λ (x : Pair K V). pair_at less (q ∷ qs) x.key ≡ Some x) xs
       behind [] b a = tt
-      behind (x ∷ xs) b a = (cond-false (is_key less x.key q) (Some q) (pair_at less qs x.key) (either_right (less x.key q.key) (less q.key x.key) b.0) ∙ a.0, behind xs b.1 a.1)
+      behind (x ∷ xs) b a = (rw (either_right (less x.key q.key) (less q.key x.key) b.0) a.0, behind xs b.1 a.1)
 
 -- ---- extents in order
 
@@ -96,8 +92,8 @@ rises_others : (n h : ℕ) (zs : List Extent) → Rises n zs → Rises n (others
 rises_others n h [] r = tt
 rises_others n h (z ∷ zs) r =
     elim (cases_eq (handle z) h) [
-      | inl e ↦ subst (Rises n) (sym (others-here h z zs e)) (rises_more n (z.offset + 1) zs (omega (arith, r.0)) r.1)
-      | inr o ↦ subst (Rises n) (sym (others-past h z zs o)) (r.0, rises_others (z.offset + 1) h zs r.1)
+      | inl e ↦ rw (eq-eqb (handle z) h e) (rises_more n (z.offset + 1) zs (omega (arith, r.0)) r.1)
+      | inr o ↦ rw (ne_eqb (handle z) h o) (r.0, rises_others (z.offset + 1) h zs r.1)
     ]
 
 -- the one that is taken out is gone
@@ -105,8 +101,8 @@ others_apart : (n h : ℕ) (zs : List Extent) → Rises n zs → AllByRecursion 
 others_apart n h [] r = tt
 others_apart n h (z ∷ zs) r =
     elim (cases_eq (handle z) h) [
-      | inl e ↦ subst (AllByRecursion (λ (x : Extent). handle x ≢ h)) (sym (others-here h z zs e)) (differ e zs (rises_above (z.offset + 1) zs r.1))
-      | inr o ↦ subst (AllByRecursion (λ (x : Extent). handle x ≢ h)) (sym (others-past h z zs o)) (o, others_apart (z.offset + 1) h zs r.1)
+      | inl e ↦ rw (eq-eqb (handle z) h e) (differ e zs (rises_above (z.offset + 1) zs r.1))
+      | inr o ↦ rw (ne_eqb (handle z) h o) (o, others_apart (z.offset + 1) h zs r.1)
     ]
   where
     differ : handle z ≡ h → (xs : List Extent) → AllByRecursion (λ (x : Extent). z.offset + 1 ≤ x.offset) xs → AllByRecursion (λ (x : Extent). handle x ≢ h) xs
@@ -137,7 +133,7 @@ left_over {K} {V} n (p ∷ ps) zs r =
 found_each : (n : ℕ) (zs : List Extent) → Rises n zs → AllByRecursion (λ (x : Extent). find (λ (w : Extent). handle w == handle x) zs ≡ Some x) zs
 found_each n [] r = tt
 found_each n (z ∷ zs) r = (
-  cond-true (handle z == handle z) (Some z) (find (λ (w : Extent). handle w == handle z) zs) (eq-eqb (handle z) (handle z) refl),
+  rw (eq-eqb (handle z) (handle z) refl) refl,
   behind zs (rises_above (z.offset + 1) zs r.1) (found_each (z.offset + 1) zs r.1),
 )
   where
@@ -145,7 +141,7 @@ found_each n (z ∷ zs) r = (
         → AllByRecursion (λ (x : Extent). find (λ (w : Extent). handle w == handle x) (z ∷ zs) ≡ Some x) xs
     behind [] a b = tt
     behind (x ∷ xs) a b = (
-      cond-false (handle z == handle x) (Some z) (find (λ (w : Extent). handle w == handle x) zs) (ne_eqb (handle z) (handle x) (λ e. omega (arith, a.0, e))) ∙ b.0,
+      rw (ne_eqb (handle z) (handle x) (λ e. omega (arith, a.0, e))) b.0,
       behind xs a.1 b.1,
     )
 
@@ -216,7 +212,7 @@ module _ {K V : Type 0} {k : Plain K} {v : Plain V} (kl : Laws k) {old now : Cut
                 let a = g.beside.blocks x f o in let b = e.beside.blocks x (g.there x f o) (off x o) in
                 record { payload = λ n low high z. b.payload n low high z ∙ a.payload n low high z; colour = b.colour ∙ a.colour };
           };
-          there = λ x f o. subst (λ l. extent_at l (handle x) ≡ Some x) (sym live_new) (found-less (handle x) (handle p.node) x (live_of now.bytes).extents (apart x o) (g.there x f o));
+          there = λ x f o. rw live_new (found-less (handle x) (handle p.node) x (live_of now.bytes).extents (apart x o) (g.there x f o));
           size = ap (λ (l : LiveSet). l.size) live_new ∙ g.size;
           left = ap (λ (l : LiveSet). without_all (blocks_of (remove_pair k.order g.pairs key)) l.extents) live_new ∙ without_removed k.order g.pairs key p (live_of now.bytes).extents has ∙ g.left;
         }

@@ -1,5 +1,5 @@
 -- The pairs of a map as a search tree.
-use Rattle.std.proofs.Common.{◌≡◌, refl, sym, ap, subst, ◌∙◌, ℕ, suc, ◌+◌, ◌^◌, ◌≤◌, ◌⊎◌, inl, inr, Bool, true, false, ◌&&◌, not, List, [], ◌∷◌, length, map, arith, ◌==◌, IsTrue}
+use Rattle.std.proofs.Common.{◌≡◌, refl, sym, ap, subst, ◌∙◌, ℕ, suc, ◌+◌, ◌^◌, ◌≤◌, ◌≢◌, ◌⊎◌, inl, inr, Bool, true, false, ◌&&◌, not, List, [], ◌∷◌, length, map, arith, ◌==◌, IsTrue}
 use Rattle.std.specs.Prelude.{Option, Some, None, find, option_map}
 use Rattle.std.specs.List.{AllByRecursion, last_or, list_all}
 use mathlib.Core.List.{reverse}
@@ -13,7 +13,8 @@ use Rattle.link_tree.specs.Nodes.{first_not, is_in, last_before, leads}
 use Rattle.link_tree.proofs.Laws.{above_more, all_from, bits_most, bounds_height, reads_off, root_in, tree_limit, tree_same}
 use Rattle.best_fit.specs.Extents.{Extent, LiveSet, handle, holds, is_proper}
 use Rattle.best_fit.specs.FreeTree.{cells_of}
-use Rattle.best_fit.specs.Heap.{live_of}
+use Rattle.best_fit.specs.Fit.{others}
+use Rattle.best_fit.specs.Heap.{Keeps, SameBlock, extent_at, live_of}
 use Rattle.best_fit.specs.Table.{same_role, serves}
 use Rattle.best_fit.proofs.Laws.{holds_closed}
 use Rattle.seg_types.specs.declared.plain.Plain.{Ghosts as Plain}
@@ -24,7 +25,7 @@ use Rattle.seg_map.specs.Places.{HoldsMap, IsPairIn, final_pair, first_pair, is_
 use Rattle.seg_map.specs.PairNodes.{before_key, comes_before, stands, is_block_in, is_pair_node, key_at, key_of, links_among, own_nodes, nodes_in, pair_cells, stands_before}
 use Rattle.seg_map.specs.PairLaws.{Good, In, PairNode-is_pair_node, cells_at, comes_irreflexive, comes_transitive, node_block, few_extents, handles_length, in_handles}
 use Rattle.seg_map.proofs.FoundLists.{all_reversed, find_mapped, last_mapped, map_reversed}
-use Rattle.seg_map.proofs.PairSteps.{any_at}
+use Rattle.seg_map.proofs.PairSteps.{all_in, any_at, in_others}
 
 -- the laws of a plain type
 pub record Laws {T : Type 0} (p : Plain T) : Type 0 where
@@ -59,9 +60,9 @@ pub record PairParts {K V : Type 0} (kp : Plain K) (vp : Plain V) (p : Pair K V)
 pub pair_parts : {K V : Type 0} {kp : Plain K} {vp : Plain V} {live : LiveSet} {h : ℕ} {p : Pair K V}
     → IsPairIn kp vp live h p → PairParts kp vp p
 pair_parts {kp = kp} {vp = vp} {p = p} i =
-    let parts = and_parts (kp.is_value p.key && vp.is_value p.value) (serves p.node Node (16 + kp.SIZE + vp.SIZE)) i.good in
-    let values = and_parts (kp.is_value p.key) (vp.is_value p.value) parts.0 in
-    let two = and_parts (same_role p.node.role Node) (holds p.node (16 + kp.SIZE + vp.SIZE)) parts.1 in
+    let parts = and_parts _ _ i.good in
+    let values = and_parts _ _ parts.0 in
+    let two = and_parts _ _ parts.1 in
     record {
       key = values.0;
       value = values.1;
@@ -73,11 +74,18 @@ pair_parts {kp = kp} {vp = vp} {p = p} i =
 -- the block that is found is one of those
 pub found_in : (xs : List Extent) (h : ℕ) (x : Extent) → find (λ (y : Extent). handle y == h) xs ≡ Some x → In x xs
 found_in [] h x e = absurd (cc)
-found_in (y ∷ ys) h x e = by_test (λ f. found_in ys h x f) (cases_Bool (handle y == h))
-  where
-    by_test : (find (λ (z : Extent). handle z == h) ys ≡ Some x → In x ys) → ((handle y == h) ≡ true) ⊎ ((handle y == h) ≡ false) → (y ≡ x) ⊎ In x ys
-    by_test rest (inl t) = let f = sym (cond-true (handle y == h) (Some y) (find (λ (z : Extent). handle z == h) ys) t) ∙ e in inl (cc f)
-    by_test rest (inr f) = inr (rest (sym (cond-false (handle y == h) (Some y) (find (λ (z : Extent). handle z == h) ys) f) ∙ e))
+found_in (y ∷ ys) h x e =
+    elim (cases_Bool (handle y == h)) [
+      | inl t ↦ let f = rw t at e in let is : y ≡ x = cc in inl is
+      | inr n ↦ inr (found_in ys h x (rw n at e))
+    ]
+
+-- a block stays where all but another do
+pub other_block : {c d : Cut} (live : LiveSet) (h g : ℕ) {x : Extent} → Keeps c d (others h live.extents)
+    → extent_at live g ≡ Some x → handle x ≢ h → SameBlock (bytes_of c.bytes) (bytes_of d.bytes) x
+other_block {c} {d} live h g {x} k f o =
+    all_in (SameBlock (bytes_of c.bytes) (bytes_of d.bytes)) (others h live.extents) x k.blocks
+    (in_others h x live.extents (found_in live.extents g x f) o)
 
 -- ---- lists of pairs
 
@@ -91,13 +99,11 @@ module _ {K V : Type 0} (less : K → K → Bool) where
   rising_nodes on keys [] k r = refl
   rising_nodes on keys (p ∷ []) k r = refl
   rising_nodes on keys (p ∷ q ∷ qs) k r =
-      let two = and_parts (less p.key q.key) (is_rising less (q ∷ qs)) r in
+      let two = and_parts _ _ r in
       let rest = rising_nodes on keys (q ∷ qs) k.1 two.1 in
-      let parts = and_parts (list_all (comes_before less keys (pair_node q)) (nodes_of_pairs qs)) (rises (comes_before less keys) (nodes_of_pairs qs)) rest in
+      let parts = and_parts _ _ rest in
       let below : comes_before less keys (pair_node p) (pair_node q) ≡ true = (λ i. before_key less (k.0 i) (k.1.0 i)) ∙ two.0 in
-      and_from (list_all (comes_before less keys (pair_node p)) (nodes_of_pairs (q ∷ qs))) (rises (comes_before less keys) (nodes_of_pairs (q ∷ qs)))
-      (and_from (comes_before less keys (pair_node p) (pair_node q)) (list_all (comes_before less keys (pair_node p)) (nodes_of_pairs qs)) below
-      (above_more (comes_before less keys) (comes_transitive less on keys) (pair_node p) (pair_node q) (nodes_of_pairs qs) below parts.0)) rest
+      rw (below, above_more (comes_before less keys) (comes_transitive less on keys) (pair_node p) (pair_node q) (nodes_of_pairs qs) below parts.0, rest) refl
 
   -- a node stands before a key where its pair is passed
   passes : (keys : ℕ → Option K) (past : Bool) (key : K) (ps : List (Pair K V)) → HaveKeys keys ps
@@ -127,7 +133,7 @@ module _ {K V : Type 0} (less : K → K → Bool) where
 -- what holds of each pair
 pub pairs_all : {K V : Type 0} (P : ℕ → Bool) (Q : Pair K V → Type 0) (ps : List (Pair K V)) → ((p : Pair K V) → Q p → P (pair_node p) ≡ true) → AllByRecursion Q ps → list_all P (nodes_of_pairs ps) ≡ true
 pairs_all P Q [] f a = refl
-pairs_all P Q (p ∷ ps) f a = and_from (P (pair_node p)) (list_all P (nodes_of_pairs ps)) (f p a.0) (pairs_all P Q ps f a.1)
+pairs_all P Q (p ∷ ps) f a = rw (f p a.0, pairs_all P Q ps f a.1) refl
 
 pub length-nodes : {K V : Type 0} (ps : List (Pair K V)) → length (nodes_of_pairs ps) ≡ length ps
 length-nodes [] = refl
@@ -162,17 +168,16 @@ module _ {K V : Type 0} {kp : Plain K} {vp : Plain V} (laws : Laws kp) (c : Cut)
   pair_block p i =
       let q = pair_parts i in let long = q.long in
       any_at (λ (x : Extent). (handle x == pair_node p) && serves x Node (16 + kp.SIZE)) (live_of c.bytes).extents p.node (pair_in p i)
-      (and_from (handle p.node == pair_node p) (serves p.node Node (16 + kp.SIZE)) (eq-eqb (handle p.node) (pair_node p) refl)
-      (and_from (same_role p.node.role Node) (holds p.node (16 + kp.SIZE)) q.role (le-leb (16 + kp.SIZE + 16) p.node.len (omega arith))))
+      (rw (eq-eqb (handle p.node) (pair_node p) refl, q.role, le-leb (16 + kp.SIZE + 16) p.node.len (omega arith)) refl)
 
   pub good : Good (16 + kp.SIZE) (nodes_of s.map.tree.tree) c
   good =
       record {
         proper = s.heap.proper;
-        blocks = subst (λ (ms : List ℕ). list_all (is_block_in (16 + kp.SIZE) (live_of c.bytes)) ms ≡ true) (sym listed) (pairs_all (is_block_in (16 + kp.SIZE) (live_of c.bytes)) (IsPairIn kp vp (live_of c.bytes) h) ps pair_block s.pairs);
+        blocks = rw listed (pairs_all (is_block_in (16 + kp.SIZE) (live_of c.bytes)) (IsPairIn kp vp (live_of c.bytes) h) ps pair_block s.pairs);
         links = all_from (links_among (bytes_of c.bytes) ns) ns (λ m i.
             let k = holds_closed (cells_of (bytes_of c.bytes)) t m s.map.tree.linked.holds i in
-            and_from (leads (λ j. is_in j ns) (cells_of (bytes_of c.bytes) m).left) (leads (λ j. is_in j ns) (cells_of (bytes_of c.bytes) m).right) k.left k.right);
+            rw (k.left, k.right) refl);
       }
 
   pub node_here : (n : ℕ) → is_in n (nodes_of s.map.tree.tree) ≡ true → is_pair_node (16 + kp.SIZE) (nodes_of s.map.tree.tree) c n ≡ true
@@ -182,14 +187,13 @@ module _ {K V : Type 0} {kp : Plain K} {vp : Plain V} (laws : Laws kp) (c : Cut)
       → key_of (value_of kp) kp.SIZE (nodes_of s.map.tree.tree) c (pair_node p) ≡ Some p.key
   unfolding key_of key_at
   key_read p i k b =
-      cond-true (is_pair_node len ns c (pair_node p)) (key_at (value_of kp) kp.SIZE (bytes_of c.bytes) (pair_node p)) None (node_here (pair_node p) i)
-      ∙ read_spelled kp laws (bytes_of c.bytes) (handle p.node + 16) p.key (pair_parts k).key b.0
+      rw (node_here (pair_node p) i) (read_spelled kp laws (bytes_of c.bytes) (handle p.node + 16) p.key (pair_parts k).key b.0)
 
   keys_from : (qs : List (Pair K V)) → list_all (λ n. is_in n (nodes_of s.map.tree.tree)) (nodes_of_pairs qs) ≡ true → AllByRecursion (IsPairIn kp vp (live_of c.bytes) h) qs
       → AllByRecursion (IsPairAt kp.SIZE kp.spelling vp.spelling (bytes_of c.bytes)) qs → HaveKeys (key_of (value_of kp) kp.SIZE (nodes_of s.map.tree.tree) c) qs
   keys_from [] i k b = tt
   keys_from (q ∷ qs) i k b =
-      let two = and_parts (is_in (pair_node q) ns) (list_all (λ n. is_in n ns) (nodes_of_pairs qs)) i in
+      let two = and_parts _ _ i in
       (key_read q two.0 k.0 b.0, keys_from qs two.1 k.1 b.1)
 
   pub keys : HaveKeys (key_of (value_of kp) kp.SIZE (nodes_of s.map.tree.tree) c) ps

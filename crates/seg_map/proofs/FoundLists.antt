@@ -32,8 +32,8 @@ find_mapped f test test' [] a = refl
 find_mapped f test test' (x ∷ xs) a =
     let rest = find_mapped f test test' xs a.1 in
     elim (cases_Bool (test' x)) [
-      | inl e ↦ cond-true (test (f x)) (Some (f x)) (find test (map f xs)) (a.0 ∙ e) ∙ ap (option_map f) (sym (cond-true (test' x) (Some x) (find test' xs) e))
-      | inr e ↦ cond-false (test (f x)) (Some (f x)) (find test (map f xs)) (a.0 ∙ e) ∙ rest ∙ ap (option_map f) (sym (cond-false (test' x) (Some x) (find test' xs) e))
+      | inl e ↦ rw (a.0 ∙ e, e) refl
+      | inr e ↦ rw (a.0 ∙ e, e) rest
     ]
 
 pub last_mapped : {A B : Type 0} (f : A → B) (o : Option A) (xs : List A) → last_or (option_map f o) (map f xs) ≡ option_map f (last_or o xs)

@@ -30,9 +30,9 @@ record OfNode (ns : List ℕ) (k : ℕ) : Type 0 where
 of_node : (ns : List ℕ) (k : ℕ) → is_link_byte ns k ≡ true → OfNode ns k
 of_node [] k h = absurd (false≢true h)
 of_node (n ∷ ns) k h =
-    elim (or_cases (nat_le n k && nat_lt k (n + 16)) (is_link_byte ns k) h) [
+    elim (or_cases _ _ h) [
       | inl e ↦
-          let two = and_parts (nat_le n k) (nat_lt k (n + 16)) e in
+          let two = and_parts _ _ e in
           record { node = n; listed = or_left (n == n) (is_in n ns) (eq-eqb n n refl); low = leb-true n k two.0; high = ltb-true k (n + 16) two.1 }
       | inr e ↦ let r = of_node ns k e in record { node = r.node; listed = or_right (r.node == n) (is_in r.node ns) r.listed; low = r.low; high = r.high }
     ]
@@ -54,15 +54,11 @@ module _ {len : ℕ} {ns : List ℕ} {c : Cut} (d : Cut) (good : Good len ns c) 
 
   pub kept_byte : (k : ℕ) → is_kept ns (live_of c.bytes) k ≡ true → bytes_of d.bytes k ≡ bytes_of c.bytes k
   unfolding kept_of
-  kept_byte k t =
-      sym (cond-true (is_kept ns (live_of d.bytes) k) (bytes_of d.bytes k) 0 (ap (λ (l : LiveSet). is_kept ns l k) kept_live ∙ t))
-      ∙ ap (λ (r : Kept). r.byte k) same ∙ cond-true (is_kept ns (live_of c.bytes) k) (bytes_of c.bytes k) 0 t
+  kept_byte k t = let e = ap (λ (r : Kept). r.byte k) same in rw (kept_live, t) at e
 
   kept_colour : (h : ℕ) → is_other ns (live_of c.bytes) h ≡ true → word_at (bytes_of d.bytes) (h - 8) % 16 ≡ word_at (bytes_of c.bytes) (h - 8) % 16
   unfolding kept_of
-  kept_colour h t =
-      sym (cond-true (is_other ns (live_of d.bytes) h) (word_at (bytes_of d.bytes) (h - 8) % 16) 0 (ap (λ (l : LiveSet). is_other ns l h) kept_live ∙ t))
-      ∙ ap (λ (r : Kept). r.colour h) same ∙ cond-true (is_other ns (live_of c.bytes) h) (word_at (bytes_of c.bytes) (h - 8) % 16) 0 t
+  kept_colour h t = let e = ap (λ (r : Kept). r.colour h) same in rw (kept_live, t) at e
 
   pub no_link : (k : ℕ) → ((n : ℕ) → is_in n ns ≡ true → (k < n) ⊎ (n + 16 ≤ k)) → is_link_byte ns k ≡ false
   no_link k off = elim (cases_Bool (is_link_byte ns k)) [
@@ -73,14 +69,13 @@ module _ {len : ℕ} {ns : List ℕ} {c : Cut} (d : Cut) (good : Good len ns c) 
   -- a header byte but word 24 stays
   pub kept_header : (k : ℕ) → (k < 24) ⊎ ((32 ≤ k) × (k < 128)) → ((n : ℕ) → is_in n ns ≡ true → 144 ≤ n) → bytes_of d.bytes k ≡ bytes_of c.bytes k
   kept_header k place low =
-      kept_byte k (and_from (nat_lt k 24 || (nat_le 32 k && nat_lt k 128) || lies_in_block (live_of c.bytes) k) (not (is_link_byte ns k)) (here place)
-      (ap not (no_link k (λ n i. let l = low n i in inl (below place n l)))))
+      kept_byte k (rw (here place, ap not (no_link k (λ n i. let l = low n i in inl (below place n l)))) refl)
     where
       here : (k < 24) ⊎ ((32 ≤ k) × (k < 128)) → (nat_lt k 24 || (nat_le 32 k && nat_lt k 128) || lies_in_block (live_of c.bytes) k) ≡ true
       here (inl l) = or_left (nat_lt k 24 || (nat_le 32 k && nat_lt k 128)) (lies_in_block (live_of c.bytes) k) (or_left (nat_lt k 24) (nat_le 32 k && nat_lt k 128) (lt-ltb k 24 l))
       here (inr p) =
           or_left (nat_lt k 24 || (nat_le 32 k && nat_lt k 128)) (lies_in_block (live_of c.bytes) k)
-          (or_right (nat_lt k 24) (nat_le 32 k && nat_lt k 128) (and_from (nat_le 32 k) (nat_lt k 128) (le-leb 32 k p.0) (lt-ltb k 128 p.1)))
+          (or_right (nat_lt k 24) (nat_le 32 k && nat_lt k 128) (rw (le-leb 32 k p.0, lt-ltb k 128 p.1) refl))
 
       below : (k < 24) ⊎ ((32 ≤ k) × (k < 128)) → (n : ℕ) → 144 ≤ n → k < n
       below (inl l) n low' = omega arith
@@ -93,15 +88,10 @@ module _ {len : ℕ} {ns : List ℕ} {c : Cut} (d : Cut) (good : Good len ns c) 
       record {
         payload = record {
           at = λ k low high.
-              kept_byte k (and_from (nat_lt k 24 || (nat_le 32 k && nat_lt k 128) || lies_in_block (live_of c.bytes) k) (not (is_link_byte ns k))
-              (or_right (nat_lt k 24 || (nat_le 32 k && nat_lt k 128)) (lies_in_block (live_of c.bytes) k)
-              (any_at (λ (y : Extent). nat_le (handle y) k && nat_lt k (end_of y)) (live_of c.bytes).extents x o.listed
-              (and_from (nat_le (handle x) k) (nat_lt k (end_of x)) (le-leb (handle x) k low) (lt-ltb k (end_of x) high))))
-              (ap not (no_link k (λ n i. apart n i k low high))));
+              kept_byte k (rw (or_right (nat_lt k 24 || (nat_le 32 k && nat_lt k 128)) (lies_in_block (live_of c.bytes) k) (any_at (λ (y : Extent). nat_le (handle y) k && nat_lt k (end_of y)) (live_of c.bytes).extents x o.listed (and_from (nat_le (handle x) k) (nat_lt k (end_of x)) (le-leb (handle x) k low) (lt-ltb k (end_of x) high))), ap not (no_link k (λ n i. apart n i k low high))) refl);
         };
         colour = subst (λ a. word_at (bytes_of d.bytes) a % 16 ≡ word_at (bytes_of c.bytes) a % 16) w
-            (kept_colour (handle x) (and_from (is_live_in (live_of c.bytes) (handle x)) (not (is_in (handle x) ns))
-            (any_at (λ (y : Extent). handle y == handle x) (live_of c.bytes).extents x o.listed (eq-eqb (handle x) (handle x) refl)) (ap not o.no_node)));
+            (kept_colour (handle x) (rw (any_at (λ (y : Extent). handle y == handle x) (live_of c.bytes).extents x o.listed (eq-eqb (handle x) (handle x) refl), ap not o.no_node) refl));
       }
     where
       apart : (n : ℕ) → is_in n ns ≡ true → (k : ℕ) → handle x ≤ k → k < end_of x → (k < n) ⊎ (n + 16 ≤ k)

@@ -48,7 +48,7 @@ is_new {K} {V} k v {a} {d} h at whole room w =
           pairs = tt;
         };
         aligned = whole;
-        room = subst (λ l. IsTrue (has_room l h (at + 24))) (sym (changed-live current a d (h + at) 24 w.change)) room;
+        room = rw (changed-live current a d (h + at) 24 w.change) room;
         rising = refl;
         pairs = tt;
       };

@@ -22,10 +22,10 @@ use Rattle.seg_map.specs.PairLaws.{Good, In}
 use Rattle.seg_map.specs.Linking.{CanUnlink, IsKeyTree, Unlinked, keys_in}
 use Rattle.seg_map.specs.Changing.{IsBesideMap, IsErased, IsHeaded, IsTaken}
 use Rattle.seg_map.specs.Searches.{exit_in}
-use Rattle.seg_map.proofs.Entering.{Laws, count_pairs, found_in, good, keys, listed}
+use Rattle.seg_map.proofs.Entering.{Laws, count_pairs, found_in, good, keys, listed, other_block}
 use Rattle.seg_map.proofs.Searching.{lent_own, lent_tree}
 use Rattle.seg_map.proofs.PairLists.{in_nodes, none_left, not_among, other_nodes, removed_all, removed_length, removed_rising, without_nodes}
-use Rattle.seg_map.proofs.PairSteps.{all_in, any_at, in_others, target_whole}
+use Rattle.seg_map.proofs.PairSteps.{any_at, target_whole}
 use Rattle.seg_map.proofs.Rewriting.{beside, rewritten}
 use Rattle.seg_map.proofs.Staying.{Still, at_node, map_stays}
 use Rattle.seg_map.proofs.Frames.{live_stays}
@@ -41,7 +41,7 @@ apart_all {K} {V} kp vp live h ps a = not_among h ps (differ ps a)
 pub in_from : {K V : Type 0} (ms : List ℕ) (ps : List (Pair K V)) → AllByRecursion (λ p. is_in (pair_node p) ms ≡ true) ps → (m : ℕ) → is_in m (nodes_of_pairs ps) ≡ true → is_in m ms ≡ true
 in_from ms [] a m i = absurd (false≢true i)
 in_from ms (p ∷ ps) a m i =
-    elim (or_cases (m == pair_node p) (is_in m (nodes_of_pairs ps)) i) [
+    elim (or_cases _ _ i) [
       | inl e ↦ ap (λ n. is_in n ms) (eqb-true m (pair_node p) e) ∙ a.0
       | inr e ↦ in_from ms ps a.1 m e
     ]
@@ -77,8 +77,7 @@ module _ {K V : Type 0} {kp : Plain K} {vp : Plain V} (kl : Laws kp) (c : Cut) {
     tree = key_tree;
     listed = ap (λ n. is_in n (nodes_of s.map.tree.tree)) (sym e) ∙ in_tree;
     begins =
-        subst (λ (ms : List ℕ). IfSome start
-        (λ n. exit_of (comes_before kp.order (keys_in kp ms c)) node s.map.tree.tree ≡ Some n)) (sym ns_is) begins;
+        rw ns_is begins;
   }
 
   module _ {d : Cut} {node : ℕ} (here : pair_node p ≡ node) {top : Option ℕ} {steps : ℕ} (u : Unlinked kp lent c d root node top steps) where
@@ -89,7 +88,7 @@ module _ {K V : Type 0} {kp : Plain K} {vp : Plain V} (kl : Laws kp) (c : Cut) {
     top_whole = let r = u.tree s.map.tree.tree key_tree in target_whole (16 + kp.SIZE) lent d top r.1.leads
 
     good_here : Good (16 + kp.SIZE) lent c
-    good_here = subst (λ ms. Good (16 + kp.SIZE) ms c) (sym ns_is) (good kl c s)
+    good_here = rw ns_is (good kl c s)
 
     all_own : lent ≡ nodes_of_pairs ps
     all_own = ns_is ∙ listed kl c s
@@ -129,9 +128,8 @@ module _ {K V : Type 0} {kp : Plain K} {vp : Plain V} (kl : Laws kp) (vl : Laws 
   stills [] a o = tt
   stills (q ∷ qs) a o = (
     record {
-      found = subst (λ l. extent_at l (handle q.node) ≡ Some q.node) (sym (released-live current e f node r)) (found-less (handle q.node) node q.node (live_of e.bytes).extents o.0 a.0.listed);
-      same = all_in (SameBlock (bytes_of e.bytes) (bytes_of f.bytes)) (others node (live_of e.bytes).extents) q.node r.keeps.blocks
-          (in_others node q.node (live_of e.bytes).extents (found_in (live_of e.bytes).extents (handle q.node) q.node a.0.listed) o.0);
+      found = rw (released-live current e f node r) (found-less (handle q.node) node q.node (live_of e.bytes).extents o.0 a.0.listed);
+      same = other_block (live_of e.bytes) node (handle q.node) r.keeps a.0.listed o.0;
     },
     stills qs a.1 o.1,
   )
@@ -140,8 +138,7 @@ module _ {K V : Type 0} {kp : Plain K} {vp : Plain V} (kl : Laws kp) (vl : Laws 
   erased =
       let room = roomy e h (at + 24) t.map.heap t.map.room in
       let begins = room.at in let long = room.room in
-      let there = in_others node room.extent (live_of e.bytes).extents (found_in (live_of e.bytes).extents h room.extent room.found) (λ g. other (sym begins ∙ g)) in
-      let same = all_in (SameBlock (bytes_of e.bytes) (bytes_of f.bytes)) (others node (live_of e.bytes).extents) room.extent r.keeps.blocks there in
+      let same = other_block (live_of e.bytes) node h r.keeps room.found (λ g. other (sym begins ∙ g)) in
       record {
         live = subst (λ l. LaysOut current f.bytes l) (λ i. released (live_is i) (sym here i)) r.live;
         beside = record {
@@ -150,12 +147,11 @@ module _ {K V : Type 0} {kp : Plain K} {vp : Plain V} (kl : Laws kp) (vl : Laws 
           behind = Same-trans (bytes_of c.bytes) (bytes_of e.bytes) (bytes_of f.bytes) 32 128 t.beside.behind r.keeps.behind;
           blocks = λ x found o.
               let q = t.beside.blocks x found o in
-              let listed' = subst (λ (l : LiveSet). In x l.extents) (sym live_is) (found_in (live_of c.bytes).extents (handle x) x found) in
               let apart : handle x ≢ node = λ g. both_ways (is_in (handle x) (nodes_of_pairs ps)) o (ap (λ n. is_in n (nodes_of_pairs ps)) (g ∙ sym here) ∙ in_nodes kp.order ps key p has) in
-              let k = all_in (SameBlock (bytes_of e.bytes) (bytes_of f.bytes)) (others node (live_of e.bytes).extents) x r.keeps.blocks (in_others node x (live_of e.bytes).extents listed' apart) in
+              let k = other_block (live_of e.bytes) node (handle x) {x = x} r.keeps (rw live_is found) apart in
               record { payload = λ n a b g. k.payload.at n a b ∙ q.payload n a b g; colour = k.colour ∙ q.colour };
         };
-        map = map_stays kl vl e f t.map (laid-heap f.bytes (released (live_of e.bytes) node) r.live) (subst (λ l. IsTrue (has_room l h (at + 24))) (sym (released-live current e f node r)) (found-room (released (live_of e.bytes) node) h (at + 24) room.extent (found-less h node room.extent (live_of e.bytes).extents other room.found) room.room))
+        map = map_stays kl vl e f t.map (laid-heap f.bytes (released (live_of e.bytes) node) r.live) (rw (released-live current e f node r) (found-room (released (live_of e.bytes) node) h (at + 24) room.extent (found-less h node room.extent (live_of e.bytes).extents other room.found) room.room))
             (record { at = λ n a b. same.payload.at n (omega arith) (omega arith) })
             (stills (remove_pair kp.order ps key) t.map.pairs (other_nodes node (remove_pair kp.order ps key) gone));
       }
@@ -180,5 +176,4 @@ pub gone_live : {K V : Type 0} {kp : Plain K} {vp : Plain V} {c e : Cut} {h at :
 gone_live {kp = kp} {vp = vp} {c = c} {e = e} {h = h} {ps = ps} s {key} {p} has {node} here t =
     let n = at_node (IsPairIn kp vp (live_of c.bytes) h) ps (pair_node p) (in_nodes kp.order ps key p has) s.pairs in
     let x = n.pair.node in let xs = (live_of c.bytes).extents in
-    subst (λ l. IsTrue (is_live_in l node)) (sym (lay_out_one current e.bytes (live_of c.bytes) t.live))
-    (any_at (λ (x : Extent). handle x == node) xs x (found_in xs (handle x) x n.holds.listed) (eq-eqb (handle x) node (n.at ∙ here)))
+    rw (lay_out_one current e.bytes (live_of c.bytes) t.live) (any_at (λ (x : Extent). handle x == node) xs x (found_in xs (handle x) x n.holds.listed) (eq-eqb (handle x) node (n.at ∙ here)))

@@ -29,7 +29,7 @@ use Rattle.seg_map.proofs.Beginnings.{keys_agree, known}
 use Rattle.seg_map.proofs.Entering.{Laws, found_in, keys}
 use Rattle.seg_map.proofs.PairLists.{not_among}
 use Rattle.seg_map.proofs.PairSteps.{all_in}
-use Rattle.seg_map.proofs.Staying.{Still, map_stays, stays_tree}
+use Rattle.seg_map.proofs.Staying.{Still, map_stays}
 
 module _ {K V : Type 0} {kp : Plain K} {vp : Plain V} (kl : Laws kp) (vl : Laws vp) {c d : Cut} {h at : ℕ}
     {ps : List (Pair K V)} (s : HoldsMap kp vp c.bytes h at ps) {key : K} {value : V} {node : ℕ}
@@ -52,8 +52,7 @@ module _ {K V : Type 0} {kp : Plain K} {vp : Plain V} (kl : Laws kp) (vl : Laws 
 
   still_there : (y : Extent) → extent_at (live_of c.bytes) (handle y) ≡ Some y → extent_at (live_of d.bytes) (handle y) ≡ Some y
   still_there y f =
-      subst (λ l. extent_at l (handle y) ≡ Some y) (sym live_d)
-      (found-more (handle y) x y (live_of c.bytes).extents (λ e. differs_at y (found_in (live_of c.bytes).extents (handle y) y f) (sym e)) f)
+      rw live_d (found-more (handle y) x y (live_of c.bytes).extents (λ e. differs_at y (found_in (live_of c.bytes).extents (handle y) y f) (sym e)) f)
 
   stills : (qs : List (Pair K V)) → AllByRecursion (IsPairIn kp vp (live_of c.bytes) h) qs → AllByRecursion (λ (q : Pair K V). Still c d q.node) qs
   stills [] a = tt
@@ -72,12 +71,8 @@ module _ {K V : Type 0} {kp : Plain K} {vp : Plain V} (kl : Laws kp) (vl : Laws 
       (record { at = λ n a b. same.payload.at n (omega arith) (omega arith) }) (stills ps s.pairs)
 
   there_tree : map_there.map.tree.tree ≡ s.map.tree.tree
-  unfolding map_there
-  there_tree =
-      let r = roomy c h (at + 24) s.heap s.room in let begins = r.at in let long = r.room in
-      let same = kept r.extent (found_in (live_of c.bytes).extents h r.extent r.found) in
-      stays_tree kl vl c d s (laid-heap d.bytes (added (live_of c.bytes) x) m.block.live) (allocated-room_before current c d (node_len kp.SIZE vp.SIZE) Node node h (at + 24) m.block s.room)
-      (record { at = λ n a b. same.payload.at n (omega arith) (omega arith) }) (stills ps s.pairs)
+  unfolding map_there map_stays
+  there_tree = refl
 
   -- an insertion begins where it did before the block was taken
   pub entry_there : {start : Option ℕ} → start ≡ entry_in kp c key s.map.tree.tree
@@ -100,9 +95,8 @@ module _ {K V : Type 0} {kp : Plain K} {vp : Plain V} (kl : Laws kp) (vl : Laws 
       record {
         absent = absent;
         block = record {
-          good = and_from (kp.is_value key && vp.is_value value) (serves x Node (node_len kp.SIZE vp.SIZE)) (and_from (kp.is_value key) (vp.is_value value) m.is_a_key m.is_a_value)
-              (place-serves (live_of c.bytes) (node_len kp.SIZE vp.SIZE) Node x m.block.placed);
-          listed = subst (λ l. extent_at l (handle m.block.extent) ≡ Some m.block.extent) (sym live_d) (found-new x (live_of c.bytes).extents differs);
+          good = rw (m.is_a_key, m.is_a_value, place-serves (live_of c.bytes) (node_len kp.SIZE vp.SIZE) Node x m.block.placed) refl;
+          listed = rw live_d (found-new x (live_of c.bytes).extents differs);
           apart = λ e. differs_at r.extent (found_in (live_of c.bytes).extents h r.extent r.found) (begins ∙ sym e);
         };
         other = not_among (handle x) ps (others_differ ps s.pairs);

@@ -14,18 +14,17 @@ use Rattle.link_tree.proofs.Laws.{holds_same}
 use Rattle.best_fit.specs.Extents.{Extent, handle}
 use Rattle.best_fit.specs.Fit.{others}
 use Rattle.best_fit.specs.FreeTree.{cells_of}
-use Rattle.best_fit.specs.Heap.{IsChanged, Keeps, SameBlock, has_room, live_of}
+use Rattle.best_fit.specs.Heap.{IsChanged, Keeps, SameBlock, extent_at, has_room, live_of}
 use Rattle.best_fit.specs.Table.{serves}
 use Rattle.best_fit.proofs.Laws.{beside_cell, changed-keeps, changed-live, changed-room, found-room, laid-heap, roomy}
 use Rattle.seg_types.specs.declared.plain.Plain.{Ghosts as Plain}
 use Rattle.seg_map.specs.Map.{Pair, IsPairAt, node_len, pair_at, put_pair}
 use Rattle.seg_map.specs.Places.{HoldsMap, IsPairIn, nodes_of_pairs, pair_node}
-use Rattle.seg_map.specs.PairLaws.{In, PairNode, node_place}
+use Rattle.seg_map.specs.PairLaws.{PairNode, node_place}
 use Rattle.seg_map.specs.Linking.{keys_in}
 use Rattle.seg_map.specs.Changing.{IsPutAgain}
-use Rattle.seg_map.proofs.Entering.{HaveKeys, Laws, found_in, good, keys, length-nodes, pair_parts}
+use Rattle.seg_map.proofs.Entering.{HaveKeys, Laws, good, keys, length-nodes, other_block, pair_parts}
 use Rattle.seg_map.proofs.PairLists.{in_nodes}
-use Rattle.seg_map.proofs.PairSteps.{all_in, in_others}
 use Rattle.seg_map.proofs.PutLists.{neither_parts, pair_of, replaced_all, replaced_nodes, replaced_rising}
 use Rattle.seg_map.proofs.Staying.{at_node, block_cells, lengths, pair_stays}
 
@@ -59,8 +58,9 @@ module _ {K V : Type 0} {kp : Plain K} {vp : Plain V} (c : Cut) {h at : ℕ} {ps
     keeps : Keeps c d (others (handle p.node) (live_of c.bytes).extents)
     keeps = changed-keeps current c d (handle p.node) (16 + kp.SIZE) vp.SIZE change value_room
 
-    block_stays : (y : Extent) → In y (live_of c.bytes).extents → handle y ≢ handle p.node → SameBlock (bytes_of c.bytes) (bytes_of d.bytes) y
-    block_stays y i o = all_in (SameBlock (bytes_of c.bytes) (bytes_of d.bytes)) (others (handle p.node) (live_of c.bytes).extents) y keeps.blocks (in_others (handle p.node) y (live_of c.bytes).extents i o)
+    block_stays : (y : Extent) (g : ℕ) → extent_at (live_of c.bytes) g ≡ Some y → handle y ≢ handle p.node
+        → SameBlock (bytes_of c.bytes) (bytes_of d.bytes) y
+    block_stays y g f o = other_block (live_of c.bytes) (handle p.node) g keeps f o
 
     cells : (m : ℕ) → is_in m (nodes_of s.map.tree.tree) ≡ true → cells_of (bytes_of d.bytes) m ≡ cells_of (bytes_of c.bytes) m
     cells m i = by_place (cases_eq m (handle p.node))
@@ -74,7 +74,7 @@ module _ {K V : Type 0} {kp : Plain K} {vp : Plain V} (c : Cut) {h at : ℕ} {ps
             let long = (pair_parts n.holds).long in
             let apart : handle n.pair.node ≢ handle p.node = λ e. o (sym n.at ∙ e) in
             subst (λ k. cells_of (bytes_of d.bytes) k ≡ cells_of (bytes_of c.bytes) k) n.at
-            (block_cells (bytes_of c.bytes) (bytes_of d.bytes) n.pair.node (block_stays n.pair.node (found_in (live_of c.bytes).extents (handle n.pair.node) n.pair.node n.holds.listed) apart) (omega arith))
+            (block_cells (bytes_of c.bytes) (bytes_of d.bytes) n.pair.node (block_stays n.pair.node (handle n.pair.node) n.holds.listed apart) (omega arith))
 
     abbrev keys_of : ℕ → Option K
     keys_of = keys_in kp (nodes_of s.map.tree.tree) c
@@ -106,7 +106,7 @@ module _ {K V : Type 0} {kp : Plain K} {vp : Plain V} (c : Cut) {h at : ℕ} {ps
     bytes_stay : (q : Pair K V) → Was q → (kp.order key q.key ≡ true) ⊎ (kp.order q.key key ≡ true) → IsPairAt kp.SIZE kp.spelling vp.spelling (bytes_of d.bytes) q
     bytes_stay q w o =
         let long = (pair_parts w.block).long in
-        let same = block_stays q.node (found_in (live_of c.bytes).extents (handle q.node) q.node w.block.listed) (other_node q w o) in
+        let same = block_stays q.node (handle q.node) w.block.listed (other_node q w o) in
         pair_stays (bytes_of c.bytes) (bytes_of d.bytes) (lengths kl vl w.block) (record { at = λ k low high. same.payload.at k (omega arith) (omega arith) }) w.bytes
 
     own_bytes : IsPairAt kp.SIZE kp.spelling vp.spelling (bytes_of d.bytes) (record { key = key; value = value; node = p.node })
@@ -116,12 +116,12 @@ module _ {K V : Type 0} {kp : Plain K} {vp : Plain V} (c : Cut) {h at : ℕ} {ps
         let old = Has-same (bytes_of c.bytes) (bytes_of d.bytes) (handle p.node + 16) (handle p.node + 16 + kp.SIZE) (handle p.node + 16) (kp.spelling p.key)
         (SameBut-Same (bytes_of c.bytes) (bytes_of d.bytes) (handle p.node + (16 + kp.SIZE)) vp.SIZE (handle p.node + 16) (handle p.node + 16 + kp.SIZE) change.rest (inl (omega arith))) (omega arith) (omega (arith, size)) found.0.bytes.0 in
         let behind : handle p.node + (16 + kp.SIZE) ≡ handle p.node + 16 + kp.SIZE = omega arith in
-        (subst (λ k. Has (bytes_of d.bytes) (handle p.node + 16) (kp.spelling k)) (sym same_key_is) old, subst (λ k. Has (bytes_of d.bytes) k (vp.spelling value)) behind there)
+        (rw same_key_is old, subst (λ k. Has (bytes_of d.bytes) k (vp.spelling value)) behind there)
 
     own_block : IsPairIn kp vp (live_of c.bytes) h (record { key = key; value = value; node = p.node })
     own_block =
         record {
-          good = and_from (kp.is_value key && vp.is_value value) (serves p.node Node (node_len kp.SIZE vp.SIZE)) (and_from (kp.is_value key) (vp.is_value value) is_key_value is_value) (pair_parts own).serves;
+          good = rw (is_key_value, is_value, (pair_parts own).serves) refl;
           listed = own.listed;
           apart = own.apart;
         }
@@ -132,7 +132,7 @@ module _ {K V : Type 0} {kp : Plain K} {vp : Plain V} (c : Cut) {h at : ℕ} {ps
     map_after : HoldsMap kp vp d.bytes h at (put_pair kp.order (record { key = key; value = value; node = p.node }) ps)
     map_after =
         let r = roomy c h (at + 24) s.heap s.room in let begins = r.at in let long = r.room in
-        let block = block_stays r.extent (found_in (live_of c.bytes).extents h r.extent r.found) (λ e. own.apart (sym e ∙ begins)) in
+        let block = block_stays r.extent h r.found (λ e. own.apart (sym e ∙ begins)) in
         let words : Same (bytes_of c.bytes) (bytes_of d.bytes) (h + at) (h + at + 24) = record { at = λ n a b. block.payload.at n (omega arith) (omega arith) } in
         let many : length ps ≡ length (put_pair kp.order new ps) = sym (length-nodes ps) ∙ ap (λ (ms : List ℕ). length ms) (sym nodes_same) ∙ length-nodes (put_pair kp.order new ps) in
         record {
@@ -154,8 +154,7 @@ module _ {K V : Type 0} {kp : Plain K} {vp : Plain V} (c : Cut) {h at : ℕ} {ps
           aligned = s.aligned;
           room = changed-room current c d (handle p.node + (16 + kp.SIZE)) vp.SIZE h (at + 24) change s.room;
           rising = replaced_rising kp.order kl.transitive p new same_key_is ps s.rising has;
-          pairs = subst (λ l. AllByRecursion (IsPairIn kp vp l h) (put_pair kp.order new ps)) (sym live_d)
-              (replaced_all kp.order kl.transitive p new same_key_is (IsPairIn kp vp (live_of c.bytes) h) (IsPairIn kp vp (live_of c.bytes) h) (λ q a o. a) own_block ps s.rising has s.pairs);
+          pairs = rw live_d (replaced_all kp.order kl.transitive p new same_key_is (IsPairIn kp vp (live_of c.bytes) h) (IsPairIn kp vp (live_of c.bytes) h) (λ q a o. a) own_block ps s.rising has s.pairs);
         }
 
     pub is_put_again : IsPutAgain kp vp c d h at ps p key value
@@ -167,7 +166,7 @@ module _ {K V : Type 0} {kp : Plain K} {vp : Plain V} (c : Cut) {h at : ℕ} {ps
             front = keeps.front;
             behind = keeps.behind;
             blocks = λ y f o.
-                let b = block_stays y (found_in (live_of c.bytes).extents (handle y) y f) (λ e. both_ways (is_in (handle y) (nodes_of_pairs ps)) o (ap (λ n. is_in n (nodes_of_pairs ps)) e ∙ in_nodes kp.order ps key p has)) in
+                let b = block_stays y (handle y) f (λ e. both_ways (is_in (handle y) (nodes_of_pairs ps)) o (ap (λ n. is_in n (nodes_of_pairs ps)) e ∙ in_nodes kp.order ps key p has)) in
                 record { payload = λ n low high g. b.payload.at n low high; colour = b.colour };
           };
           map = map_after;

@@ -15,11 +15,7 @@ use Rattle.seg_map.proofs.FoundPairs.{rising_rest}
 pub none_left : (n : ℕ) (ns : List ℕ) → is_in n (without n ns) ≡ false
 none_left n [] = refl
 none_left n (m ∷ ms) =
-    let rest = none_left n ms in
-    elim (cases_Bool (nat_eq n m)) [
-      | inl t ↦ ap (is_in n) (cond-true (nat_eq n m) (without n ms) (m ∷ without n ms) t) ∙ rest
-      | inr f ↦ ap (is_in n) (cond-false (nat_eq n m) (without n ms) (m ∷ without n ms) f) ∙ ap (λ (b : Bool). b || is_in n (without n ms)) f ∙ rest
-    ]
+    elim (cases_Bool (nat_eq n m)) [ inl t ↦ rw t (none_left n ms) | inr f ↦ rw (f, f) (none_left n ms) ]
 
 -- pairs whose nodes are others
 pub other_nodes : {K V : Type 0} (n : ℕ) (ps : List (Pair K V)) → is_in n (nodes_of_pairs ps) ≡ false → AllByRecursion (λ p. pair_node p ≢ n) ps
@@ -33,38 +29,31 @@ not_among n [] a = refl
 not_among n (p ∷ ps) a = ap (λ (b : Bool). b || is_in n (nodes_of_pairs ps)) (ne_eqb n (pair_node p) (λ e. a.0 (sym e))) ∙ not_among n ps a.1
 
 module _ {K V : Type 0} (less : K → K → Bool) where
-  same_pair : (p q : Pair K V) → Some q ≡ Some p → q ≡ p
-  same_pair p q e = cc
-
-  none_pair : (p : Pair K V) → Some p ≡ None → ⊥
-  none_pair p e = let o : Option (Pair K V) = None in let f : Some p ≡ o = e in cc
-
-  pub in_nodes : (ps : List (Pair K V)) (key : K) (p : Pair K V) → pair_at less ps key ≡ Some p → is_in (pair_node p) (nodes_of_pairs ps) ≡ true
-  in_nodes [] key p e = absurd (none_pair p (sym e))
+  pub in_nodes : (ps : List (Pair K V)) (key : K) (p : Pair K V) → pair_at less ps key ≡ Some p
+      → is_in (pair_node p) (nodes_of_pairs ps) ≡ true
+  in_nodes [] key p e = absurd (cc)
   in_nodes (q ∷ qs) key p e =
       elim (cases_Bool (is_key less key q)) [
         | inl y ↦
-            let same : q ≡ p = same_pair p q (sym (cond-true (is_key less key q) (Some q) (pair_at less qs key) y) ∙ e) in
-            or_left (pair_node p == pair_node q) (is_in (pair_node p) (nodes_of_pairs qs)) (eq-eqb (pair_node p) (pair_node q) (ap pair_node (sym same)))
-        | inr z ↦ or_right (pair_node p == pair_node q) (is_in (pair_node p) (nodes_of_pairs qs)) (in_nodes qs key p (sym (cond-false (is_key less key q) (Some q) (pair_at less qs key) z) ∙ e))
+            let f = rw y at e in let same : p ≡ q = cc in
+            or_left (pair_node p == pair_node q) (is_in (pair_node p) (nodes_of_pairs qs)) (eq-eqb (pair_node p) (pair_node q) (ap pair_node same))
+        | inr z ↦ or_right (pair_node p == pair_node q) (is_in (pair_node p) (nodes_of_pairs qs)) (in_nodes qs key p (rw z at e))
       ]
 
   -- what holds of all pairs holds of those that are left
-  pub removed_all : (P : Pair K V → Type 0) (ps : List (Pair K V)) (key : K) → AllByRecursion P ps → AllByRecursion P (remove_pair less ps key)
+  pub removed_all : (P : Pair K V → Type 0) (ps : List (Pair K V)) (key : K) → AllByRecursion P ps
+      → AllByRecursion P (remove_pair less ps key)
   removed_all P [] key a = tt
   removed_all P (q ∷ qs) key a =
-      elim (cases_Bool (is_key less key q)) [
-        | inl y ↦ subst (AllByRecursion P) (sym (cond-true (is_key less key q) qs (q ∷ remove_pair less qs key) y)) a.1
-        | inr z ↦ subst (AllByRecursion P) (sym (cond-false (is_key less key q) qs (q ∷ remove_pair less qs key) z)) (a.0, removed_all P qs key a.1)
-      ]
+      elim (cases_Bool (is_key less key q)) [ inl y ↦ rw y a.1 | inr z ↦ rw z (a.0, removed_all P qs key a.1) ]
 
-  pub removed_length : (ps : List (Pair K V)) (key : K) (p : Pair K V) → pair_at less ps key ≡ Some p → length ps ≡ suc (length (remove_pair less ps key))
-  removed_length [] key p e = absurd (none_pair p (sym e))
+  pub removed_length : (ps : List (Pair K V)) (key : K) (p : Pair K V) → pair_at less ps key ≡ Some p
+      → length ps ≡ suc (length (remove_pair less ps key))
+  removed_length [] key p e = absurd (cc)
   removed_length (q ∷ qs) key p e =
       elim (cases_Bool (is_key less key q)) [
-        | inl y ↦ ap (λ (l : List (Pair K V)). suc (length l)) (sym (cond-true (is_key less key q) qs (q ∷ remove_pair less qs key) y))
-        | inr z ↦ ap suc (removed_length qs key p (sym (cond-false (is_key less key q) (Some q) (pair_at less qs key) z) ∙ e))
-            ∙ ap (λ (l : List (Pair K V)). suc (length l)) (sym (cond-false (is_key less key q) qs (q ∷ remove_pair less qs key) z))
+        | inl y ↦ rw y refl
+        | inr z ↦ rw z (ap suc (removed_length qs key p (rw z at e)))
       ]
 
   -- ---- rising
@@ -75,7 +64,7 @@ module _ {K V : Type 0} (less : K → K → Bool) where
   pub rising_below : ((x y z : K) → less x y ≡ true → less y z ≡ true → less x z ≡ true) → (q : Pair K V) (qs : List (Pair K V)) → is_rising less (q ∷ qs) ≡ true → Below q.key qs
   rising_below on q [] r = tt
   rising_below on q (p ∷ ps) r =
-      let two = and_parts (less q.key p.key) (is_rising less (p ∷ ps)) r in
+      let two = and_parts _ _ r in
       (two.0, further p.key ps two.0 (rising_below on p ps two.1))
     where
       further : (k : K) (rs : List (Pair K V)) → less q.key k ≡ true → Below k rs → Below q.key rs
@@ -84,16 +73,17 @@ module _ {K V : Type 0} (less : K → K → Bool) where
 
   pub below_rising : (q : Pair K V) (qs : List (Pair K V)) → Below q.key qs → is_rising less qs ≡ true → is_rising less (q ∷ qs) ≡ true
   below_rising q [] b r = refl
-  below_rising q (p ∷ ps) b r = and_from (less q.key p.key) (is_rising less (p ∷ ps)) b.0 r
+  below_rising q (p ∷ ps) b r = rw (b.0, r) refl
 
   module _ (on : (x y z : K) → less x y ≡ true → less y z ≡ true → less x z ≡ true) where
     pub removed_rising : (ps : List (Pair K V)) (key : K) → is_rising less ps ≡ true → is_rising less (remove_pair less ps key) ≡ true
     removed_rising [] key r = refl
     removed_rising (q ∷ qs) key r =
+        let rest = rising_rest less on q qs r in
         elim (cases_Bool (is_key less key q)) [
-          | inl y ↦ ap (is_rising less) (cond-true (is_key less key q) qs (q ∷ remove_pair less qs key) y) ∙ rising_rest less on q qs r
-          | inr z ↦ ap (is_rising less) (cond-false (is_key less key q) qs (q ∷ remove_pair less qs key) z)
-              ∙ below_rising q (remove_pair less qs key) (removed_all (λ (p : Pair K V). less q.key p.key ≡ true) qs key (rising_below on q qs r)) (removed_rising qs key (rising_rest less on q qs r))
+          | inl y ↦ rw y rest
+          | inr z ↦ rw z (below_rising q (remove_pair less qs key)
+              (removed_all (λ (p : Pair K V). less q.key p.key ≡ true) qs key (rising_below on q qs r)) (removed_rising qs key rest))
         ]
 
 -- behind a pair all nodes have greater keys
@@ -114,18 +104,16 @@ module _ {K V : Type 0} (less : K → K → Bool) (strict : (x : K) → less x x
       → without (pair_node p) (nodes_of_pairs ps) ≡ nodes_of_pairs (remove_pair less ps key)
   without_nodes p key [] k r h = absurd (cc)
   without_nodes p key (q ∷ qs) k r h =
+      let behind = none_behind less strict keys q qs k.0 k.1 (rising_below less on q qs r) in
       elim (cases_Bool (is_key less key q)) [
         | inl y ↦
-            let found = sym (cond-true (is_key less key q) (Some q) (pair_at less qs key) y) ∙ h in
-            let same : q ≡ p = cc found in
-            let here : is_in (pair_node p) (nodes_of_pairs qs) ≡ false = ap (λ (x : Pair K V). is_in (pair_node x) (nodes_of_pairs qs)) (sym same) ∙ none_behind less strict keys q qs k.0 k.1 (rising_below less on q qs r) in
-            cond-true (nat_eq (pair_node p) (pair_node q)) (without (pair_node p) (nodes_of_pairs qs)) (pair_node q ∷ without (pair_node p) (nodes_of_pairs qs)) (eq-eqb (pair_node p) (pair_node q) (ap pair_node (sym same)))
-            ∙ without_none (pair_node p) (nodes_of_pairs qs) here ∙ ap nodes_of_pairs (sym (cond-true (is_key less key q) qs (q ∷ remove_pair less qs key) y))
+            let found = rw y at h in let same : p ≡ q = cc in
+            let here : is_in (pair_node p) (nodes_of_pairs qs) ≡ false = ap (λ (x : Pair K V). is_in (pair_node x) (nodes_of_pairs qs)) same ∙ behind in
+            rw (eq-eqb (pair_node p) (pair_node q) (ap pair_node same), y) (without_none (pair_node p) (nodes_of_pairs qs) here)
         | inr z ↦
-            let found = sym (cond-false (is_key less key q) (Some q) (pair_at less qs key) z) ∙ h in
-            let rest = without_nodes p key qs k.1 (rising_rest less on q qs r) found in
-            let behind = none_behind less strict keys q qs k.0 k.1 (rising_below less on q qs r) in
-            let differs : pair_node p ≡ pair_node q → ⊥ = λ e. both_ways (is_in (pair_node p) (nodes_of_pairs qs)) (ap (λ n. is_in n (nodes_of_pairs qs)) e ∙ behind) (in_nodes less qs key p found) in
-            cond-false (nat_eq (pair_node p) (pair_node q)) (without (pair_node p) (nodes_of_pairs qs)) (pair_node q ∷ without (pair_node p) (nodes_of_pairs qs)) (ne_eqb (pair_node p) (pair_node q) differs)
-            ∙ ap (λ ms. pair_node q ∷ ms) rest ∙ ap nodes_of_pairs (sym (cond-false (is_key less key q) qs (q ∷ remove_pair less qs key) z))
+            let found = rw z at h in
+            let differs : pair_node p ≡ pair_node q → ⊥ =
+            λ e. both_ways (is_in (pair_node p) (nodes_of_pairs qs)) (ap (λ n. is_in n (nodes_of_pairs qs)) e ∙ behind) (in_nodes less qs key p found) in
+            rw (ne_eqb (pair_node p) (pair_node q) differs, z)
+            (ap (λ ms. pair_node q ∷ ms) (without_nodes p key qs k.1 (rising_rest less on q qs r) found))
       ]

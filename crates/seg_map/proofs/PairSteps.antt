@@ -18,74 +18,7 @@ use Rattle.best_fit.specs.FreeTree.{cells_of, is_red}
 use Rattle.best_fit.specs.Heap.{IsChanged, IsRecoloured, SameBlock, is_live_in, is_node_in, is_node_role, has_room, live_of}
 use Rattle.best_fit.proofs.Laws.{beside_cell, cell_stays, is_proper-IsProper, lay_out_one, others-here, others-past}
 use Rattle.seg_map.specs.PairNodes.{comes_before, is_block_in, is_good, is_kept, is_link_byte, is_other, is_pair_node, kept_of, key_at, key_of, lies_in_block, links_among, pair_cells, stands_before}
-use Rattle.seg_map.specs.PairLaws.{Good, Good-is_good, In, PairNode, PairNode-is_pair_node, Place, cells_at, cells_off, disjoint, is_pair_node-PairNode, lies, links_at, node_block, node_place}
-
--- ---- numbers, of which each lemma names all that it needs
-
-tag_at : (o k : ℕ) → o + 16 ≡ k → o + 8 ≡ k - 8
-tag_at o k e = omega arith
-
-widened : (k len l : ℕ) → len + 16 ≤ l → k ≤ len → k + 16 ≤ l
-widened k len l h g = omega arith
-
-own_low : (n k m : ℕ) → n ≤ k → n ≡ m → m ≤ k
-own_low n k m h e = omega arith
-
-own_high : (n k m : ℕ) → k < n + 16 → n ≡ m → k < m + 16
-own_high n k m h e = omega arith
-
--- a block of l bytes at o, with a payload of len bytes at n
-ends_past : (o l n len to : ℕ) → o + 16 ≡ n → len + 16 ≤ l → o + l ≤ to → n + len ≤ to
-ends_past o l n len to e h g = omega arith
-
-begins_behind : (end o n : ℕ) → o + 16 ≡ n → end ≤ o → end ≤ n - 16
-begins_behind end o n e h = omega arith
-
-payload_low : (o n k : ℕ) → o + 16 ≡ n → n ≤ k → o + 16 ≤ k
-payload_low o n k e h = omega arith
-
-payload_high : (o l n len k : ℕ) → o + 16 ≡ n → len + 16 ≤ l → k < n + len → k < o + l
-payload_high o l n len k e h g = omega arith
-
--- the 8 bytes of a link at from, in the 16 of a node at n
-cell_before : (m len n from : ℕ) → 16 ≤ len → m + len ≤ n - 16 → n ≤ from → m + 16 ≤ from
-cell_before m len n from w h g = omega arith
-
-cell_behind : (m len n from : ℕ) → 16 ≤ len → 144 ≤ m → n + len ≤ m - 16 → from + 8 ≤ n + 16 → from + 8 ≤ m - 8
-cell_behind m len n from w f h g = omega arith
-
-key_before : (m len n from : ℕ) → m + len ≤ n - 16 → n ≤ from → m + len ≤ from
-key_before m len n from h g = omega arith
-
-key_behind : (m len n from : ℕ) → 16 ≤ len → n + len ≤ m - 16 → from + 8 ≤ n + 16 → from + 8 ≤ m + 16
-key_behind m len n from w h g = omega arith
-
-tag_before : (o l n from : ℕ) → 32 ≤ l → o + l ≤ n - 16 → n ≤ from → o + 8 + 8 ≤ from
-tag_before o l n from w h g = omega arith
-
-tag_behind : (o len n from : ℕ) → 16 ≤ len → n + len ≤ o → from + 8 ≤ n + 16 → from + 8 ≤ o + 8
-tag_behind o len n from w h g = omega arith
-
-left_low : (n from : ℕ) → from ≡ n → n ≤ from
-left_low n from e = omega arith
-
-left_end : (n from : ℕ) → from ≡ n → from + 8 ≤ n + 8
-left_end n from e = omega arith
-
-left_high : (n from : ℕ) → from ≡ n → from + 8 ≤ n + 16
-left_high n from e = omega arith
-
-right_low : (n from : ℕ) → from ≡ n + 8 → n ≤ from
-right_low n from e = omega arith
-
-right_start : (n from : ℕ) → from ≡ n + 8 → n + 8 ≤ from
-right_start n from e = omega arith
-
-right_high : (n from : ℕ) → from ≡ n + 8 → from + 8 ≤ n + 16
-right_high n from e = omega arith
-
-tag_end : (n from : ℕ) → 144 ≤ n → n ≤ from → n - 8 + 8 ≤ from
-tag_end n from f h = omega arith
+use Rattle.seg_map.specs.PairLaws.{Good, Good-is_good, In, PairNode, PairNode-is_pair_node, Place, cells_at, cells_off, disjoint, is_pair_node-PairNode, lies, link_parts, links_at, node_block, node_place}
 
 -- what a setter does to the window
 pub record Changed (len : ℕ) (ns : List ℕ) (c d : Cut) (n : ℕ) : Type 0 where
@@ -106,7 +39,7 @@ pub record LiveAt (xs : List Extent) (h : ℕ) : Type 0 where
 pub live_at : (xs : List Extent) (h : ℕ) → list_any (λ (x : Extent). handle x == h) xs ≡ true → LiveAt xs h
 live_at [] h i = absurd (false≢true i)
 live_at (x ∷ xs) h i =
-    elim (or_cases (handle x == h) (list_any (λ (y : Extent). handle y == h) xs) i) [
+    elim (or_cases _ _ i) [
       | inl e ↦ record { extent = x; listed = inl refl; at = eqb-true (handle x) h e }
       | inr e ↦ let r = live_at xs h e in record { extent = r.extent; listed = inr r.listed; at = r.at }
     ]
@@ -123,7 +56,7 @@ module _ {len : ℕ} {ns : List ℕ} {c d : Cut} {n : ℕ} (g : PairNode len ns 
   links_d m i = by_place (cases_eq m n)
     where
       by_place : (m ≡ n) ⊎ (m ≡ n → ⊥) → links_among (bytes_of d.bytes) ns m ≡ true
-      by_place (inl e) = subst (λ k. links_among (bytes_of d.bytes) ns k ≡ true) (sym e) h.links
+      by_place (inl e) = rw e h.links
       by_place (inr o) =
           subst (λ (x : Cell). (leads (λ k. is_in k ns) x.left && leads (λ k. is_in k ns) x.right) ≡ true) (sym (h.others m i o))
           (links_at len ns c m (record { good = g.good; listed = i }))
@@ -131,8 +64,8 @@ module _ {len : ℕ} {ns : List ℕ} {c d : Cut} {n : ℕ} (g : PairNode len ns 
   pub good_stays : Good len ns d
   good_stays =
       record {
-        proper = subst (λ (l : LiveSet). IsTrue (is_proper l)) (sym h.live) g.good.proper;
-        blocks = subst (λ (l : LiveSet). list_all (is_block_in len l) ns ≡ true) (sym h.live) g.good.blocks;
+        proper = rw h.live g.good.proper;
+        blocks = rw h.live g.good.blocks;
         links = all_from (links_among (bytes_of d.bytes) ns) ns links_d;
       }
 
@@ -142,32 +75,22 @@ module _ {len : ℕ} {ns : List ℕ} {c d : Cut} {n : ℕ} (g : PairNode len ns 
 
   byte_stays : (k : ℕ) → (is_kept ns (live_of c.bytes) k ≡ true) ⊎ (is_kept ns (live_of c.bytes) k ≡ false)
       → (if is_kept ns (live_of d.bytes) k then bytes_of d.bytes k else 0) ≡ (if is_kept ns (live_of c.bytes) k then bytes_of c.bytes k else 0)
-  byte_stays k (inl t) =
-      ap (λ (l : LiveSet). if is_kept ns l k then bytes_of d.bytes k else 0) h.live
-      ∙ cond-true (is_kept ns (live_of c.bytes) k) (bytes_of d.bytes k) 0 t ∙ h.bytes k t ∙ sym (cond-true (is_kept ns (live_of c.bytes) k) (bytes_of c.bytes k) 0 t)
-  byte_stays k (inr f) =
-      ap (λ (l : LiveSet). if is_kept ns l k then bytes_of d.bytes k else 0) h.live
-      ∙ cond-false (is_kept ns (live_of c.bytes) k) (bytes_of d.bytes k) 0 f ∙ sym (cond-false (is_kept ns (live_of c.bytes) k) (bytes_of c.bytes k) 0 f)
+  byte_stays k (inl t) = rw (h.live, t) (h.bytes k t)
+  byte_stays k (inr f) = rw (h.live, f) refl
 
   other_colour : (k : ℕ) → is_other ns (live_of c.bytes) k ≡ true → word_at (bytes_of d.bytes) (k - 8) % 16 ≡ word_at (bytes_of c.bytes) (k - 8) % 16
   other_colour k t =
-      let two = and_parts (is_live_in (live_of c.bytes) k) (not (is_in k ns)) t in
+      let two = and_parts _ _ t in
       let l = live_at (live_of c.bytes).extents k two.0 in
       let far = in_own n ns g.listed k (not_true (is_in k ns) two.1) in
       let at = l.at in
-      let w : l.extent.offset + 8 ≡ k - 8 = tag_at l.extent.offset k at in
+      let w : l.extent.offset + 8 ≡ k - 8 = omega arith in
       subst (λ a. word_at (bytes_of d.bytes) a % 16 ≡ word_at (bytes_of c.bytes) a % 16) w (h.colours l.extent l.listed (λ e. far (sym at ∙ e)))
 
   colour_stays : (k : ℕ) → (is_other ns (live_of c.bytes) k ≡ true) ⊎ (is_other ns (live_of c.bytes) k ≡ false)
       → (if is_other ns (live_of d.bytes) k then word_at (bytes_of d.bytes) (k - 8) % 16 else 0) ≡ (if is_other ns (live_of c.bytes) k then word_at (bytes_of c.bytes) (k - 8) % 16 else 0)
-  colour_stays k (inl t) =
-      ap (λ (l : LiveSet). if is_other ns l k then word_at (bytes_of d.bytes) (k - 8) % 16 else 0) h.live
-      ∙ cond-true (is_other ns (live_of c.bytes) k) (word_at (bytes_of d.bytes) (k - 8) % 16) 0 t ∙ other_colour k t
-      ∙ sym (cond-true (is_other ns (live_of c.bytes) k) (word_at (bytes_of c.bytes) (k - 8) % 16) 0 t)
-  colour_stays k (inr f) =
-      ap (λ (l : LiveSet). if is_other ns l k then word_at (bytes_of d.bytes) (k - 8) % 16 else 0) h.live
-      ∙ cond-false (is_other ns (live_of c.bytes) k) (word_at (bytes_of d.bytes) (k - 8) % 16) 0 f
-      ∙ sym (cond-false (is_other ns (live_of c.bytes) k) (word_at (bytes_of c.bytes) (k - 8) % 16) 0 f)
+  colour_stays k (inl t) = rw (h.live, t) (other_colour k t)
+  colour_stays k (inr f) = rw (h.live, f) refl
 
   pub kept_stays : kept_of ns d ≡ kept_of ns c
   unfolding kept_of
@@ -200,28 +123,20 @@ module _ {len : ℕ} {ns : List ℕ} {c d : Cut} {n : ℕ} (g : PairNode len ns 
           cells_at len ns d n (ap (λ (p : ℕ → Bool). p n) nodes_stay ∙ e) ∙ own ∙ ap f (sym (cells_at len ns c n e))
 
       at : (m : ℕ) → (m ≡ n) ⊎ (m ≡ n → ⊥) → pair_cells len ns d m ≡ (if m == n then f (pair_cells len ns c m) else pair_cells len ns c m)
-      at m (inl e) =
-          ap (λ k. pair_cells len ns d k) e ∙ here ∙ ap (λ k. f (pair_cells len ns c k)) (sym e)
-          ∙ sym (cond-true (m == n) (f (pair_cells len ns c m)) (pair_cells len ns c m) (eq-eqb m n e))
-      at m (inr o) = other m o (cases_Bool (is_pair_node len ns c m)) ∙ sym (cond-false (m == n) (f (pair_cells len ns c m)) (pair_cells len ns c m) (ne_eqb m n o))
+      at m (inl e) = rw (eq-eqb m n e, e) here
+      at m (inr o) = rw (ne_eqb m n o) (other m o (cases_Bool (is_pair_node len ns c m)))
 
 -- ---- the keys stay
-
-key_ends : (m size : ℕ) → m + 16 + size ≤ m + (16 + size)
-key_ends m size = omega arith
 
 module _ {K : Type 0} (value : List ℕ → Option K) (size : ℕ) {ns : List ℕ} {c d : Cut} {n : ℕ} (g : PairNode (16 + size) ns c n)
     (h : Changed (16 + size) ns c d n) where
   key_stays : (m : ℕ) → (is_pair_node (16 + size) ns c m ≡ true) ⊎ (is_pair_node (16 + size) ns c m ≡ false) → key_of value size ns d m ≡ key_of value size ns c m
   unfolding key_of key_at
   key_stays m (inl e) =
-      let e' = ap (λ (p : ℕ → Bool). p m) (nodes_stay g h) ∙ e in
-      cond-true (is_pair_node (16 + size) ns d m) (key_at value size (bytes_of d.bytes) m) None e'
-      ∙ ap value (Same-read (bytes_of c.bytes) (bytes_of d.bytes) (m + 16) (m + (16 + size)) (m + 16) size (h.keys m (is_pair_node-PairNode (16 + size) ns c m e).listed) (le_refl (m + 16)) (key_ends m size))
-      ∙ sym (cond-true (is_pair_node (16 + size) ns c m) (key_at value size (bytes_of c.bytes) m) None e)
-  key_stays m (inr e) =
-      let e' = ap (λ (p : ℕ → Bool). p m) (nodes_stay g h) ∙ e in
-      cond-false (is_pair_node (16 + size) ns d m) (key_at value size (bytes_of d.bytes) m) None e' ∙ sym (cond-false (is_pair_node (16 + size) ns c m) (key_at value size (bytes_of c.bytes) m) None e)
+      rw (ap (λ (p : ℕ → Bool). p m) (nodes_stay g h) ∙ e, e)
+      (ap value (Same-read (bytes_of c.bytes) (bytes_of d.bytes) (m + 16) (m + (16 + size)) (m + 16) size
+      (h.keys m (is_pair_node-PairNode (16 + size) ns c m e).listed) (le_refl (m + 16)) (omega arith)))
+  key_stays m (inr e) = rw (ap (λ (p : ℕ → Bool). p m) (nodes_stay g h) ∙ e, e) refl
 
   pub keys_stay : key_of value size ns d ≡ key_of value size ns c
   keys_stay = λ i m. key_stays m (cases_Bool (is_pair_node (16 + size) ns c m)) i
@@ -231,7 +146,7 @@ module _ {K : Type 0} (value : List ℕ → Option K) (size : ℕ) {ns : List �
 any_weaker : (p q : Extent → Bool) (xs : List Extent) → ((x : Extent) → p x ≡ true → q x ≡ true) → list_any p xs ≡ true → list_any q xs ≡ true
 any_weaker p q [] f h = absurd (false≢true h)
 any_weaker p q (x ∷ xs) f h =
-    elim (or_cases (p x) (list_any p xs) h) [
+    elim (or_cases _ _ h) [
       | inl e ↦ or_left (q x) (list_any q xs) (f x e)
       | inr e ↦ or_right (q x) (list_any q xs) (any_weaker p q xs f e)
     ]
@@ -245,7 +160,7 @@ pub room_of : {len : ℕ} {c : Cut} {n : ℕ} (k : ℕ) → Place len c n → k 
 room_of {len} {c} {n} k p l =
     let b = p.block in let enough = b.holds in
     any_at (λ (x : Extent). (handle x == n) && nat_le (k + 16) x.len) (live_of c.bytes).extents b.extent b.listed
-    (and_from (handle b.extent == n) (nat_le (k + 16) b.extent.len) (eq-eqb (handle b.extent) n b.at) (le-leb (k + 16) b.extent.len (widened k len b.extent.len enough l)))
+    (rw (eq-eqb (handle b.extent) n b.at, le-leb (k + 16) b.extent.len (omega arith)) refl)
 
 pub live_node : {len : ℕ} {c : Cut} {n : ℕ} → Place len c n → IsTrue (is_live_in (live_of c.bytes) n)
 live_node {c = c} {n = n} p = let b = p.block in any_at (λ (x : Extent). handle x == n) (live_of c.bytes).extents b.extent b.listed (eq-eqb (handle b.extent) n b.at)
@@ -254,7 +169,7 @@ pub node_live : {len : ℕ} {c : Cut} {n : ℕ} → Place len c n → IsTrue (is
 node_live {c = c} {n = n} p =
     let b = p.block in
     any_at (λ (x : Extent). (handle x == n) && is_node_role x.role) (live_of c.bytes).extents b.extent b.listed
-    (and_from (handle b.extent == n) (is_node_role b.extent.role) (eq-eqb (handle b.extent) n b.at) (ap is_node_role b.node))
+    (rw (eq-eqb (handle b.extent) n b.at, ap is_node_role b.node) refl)
 
 pub target_whole : (len : ℕ) (ns : List ℕ) (c : Cut) (to : Option ℕ) → leads (is_pair_node len ns c) to ≡ true → IfSome to (λ t. t % 16 ≡ 0)
 target_whole len ns c None h = tt
@@ -269,7 +184,7 @@ leads_in len ns c (Some n) h = (is_pair_node-PairNode len ns c n h).listed
 -- a byte of a node's links is not kept
 kept_away : (ns : List ℕ) (live : LiveSet) (n k : ℕ) → is_in n ns ≡ true → is_kept ns live k ≡ true → (k < n) ⊎ (n + 16 ≤ k)
 kept_away ns live n k i t =
-    let two = and_parts (nat_lt k 24 || (nat_le 32 k && nat_lt k 128) || lies_in_block live k) (not (is_link_byte ns k)) t in
+    let two = and_parts _ _ t in
     let off = not_true (is_link_byte ns k) two.1 in
     elim (cases_lt k n) [
       | inl l ↦ inl l
@@ -282,8 +197,8 @@ kept_away ns live n k i t =
     link_byte : (ms : List ℕ) → is_in n ms ≡ true → n ≤ k → k < n + 16 → is_link_byte ms k ≡ true
     link_byte [] j l m = absurd (false≢true j)
     link_byte (m' ∷ ms) j l m =
-        elim (or_cases (n == m') (is_in n ms) j) [
-          | inl e ↦ let e' = eqb-true n m' e in or_left (nat_le m' k && nat_lt k (m' + 16)) (is_link_byte ms k) (and_from (nat_le m' k) (nat_lt k (m' + 16)) (le-leb m' k (own_low n k m' l e')) (lt-ltb k (m' + 16) (own_high n k m' m e')))
+        elim (or_cases _ _ j) [
+          | inl e ↦ let e' = eqb-true n m' e in or_left (nat_le m' k && nat_lt k (m' + 16)) (is_link_byte ms k) (rw (le-leb m' k (omega arith), lt-ltb k (m' + 16) (omega arith)) refl)
           | inr r ↦ or_right (nat_le m' k && nat_lt k (m' + 16)) (is_link_byte ms k) (link_byte ms r l m)
         ]
 
@@ -296,8 +211,8 @@ block_apart {len} {ns} {c} {n} x g i o =
     elim (disjoint 128 (live_of c.bytes).extents ((live_of c.bytes).size - 16) b.extent x r.list b.listed i) [
       | inl e ↦ absurd (o (ap handle (sym e) ∙ at))
       | inr d ↦ elim d [
-        | inl l ↦ inr (ends_past b.extent.offset b.extent.len n len x.offset at enough l)
-        | inr l ↦ inl (begins_behind (x.offset + x.len) b.extent.offset n at l)
+        | inl l ↦ inr (omega arith)
+        | inr l ↦ inl (omega arith)
       ]
     ]
 
@@ -305,8 +220,8 @@ pub nodes_apart : {len : ℕ} {ns : List ℕ} {c : Cut} {n m : ℕ} → PairNode
 nodes_apart {len} {ns} {c} {n} {m} g h o =
     let p = node_place len ns c m h in let b = p.block in let at = b.at in let enough = b.holds in
     elim (block_apart b.extent g b.listed (λ e. o (sym at ∙ e))) [
-      | inl l ↦ inl (ends_past b.extent.offset b.extent.len m len (n - 16) at enough l)
-      | inr l ↦ inr (begins_behind (n + len) b.extent.offset m at l)
+      | inl l ↦ inl (omega arith)
+      | inr l ↦ inr (omega arith)
     ]
 
 -- ---- a link is set
@@ -321,8 +236,8 @@ module _ {len : ℕ} {ns : List ℕ} {c d : Cut} {n from : ℕ} (g : PairNode le
       let q : PairNode len ns c m = record { good = g.good; listed = i } in let least = (node_place len ns c m q).low in
       beside_cell (bytes_of c.bytes) (bytes_of d.bytes) from 8 m change.rest least
       (elim (nodes_apart g q o) [
-        | inl l ↦ inl (cell_before m len n from long l low)
-        | inr l ↦ inr (cell_behind m len n from long least l high)
+        | inl l ↦ inl (omega arith)
+        | inr l ↦ inr (omega arith)
       ])
 
   link_changed : links_among (bytes_of d.bytes) ns n ≡ true → Changed len ns c d n
@@ -342,17 +257,17 @@ module _ {len : ℕ} {ns : List ℕ} {c d : Cut} {n from : ℕ} (g : PairNode le
           let r = is_proper-IsProper (live_of c.bytes) g.good.proper in
           let b = (lies 128 (live_of c.bytes).extents ((live_of c.bytes).size - 16) x r.list i).long in
           elim (block_apart x g i o) [
-            | inl l ↦ inl (tag_before x.offset x.len n from b l low)
-            | inr l ↦ inr (tag_behind x.offset len n from long l high)
+            | inl l ↦ inl (omega arith)
+            | inr l ↦ inr (omega arith)
           ]
 
       key_apart : (m : ℕ) → is_in m ns ≡ true → (m ≡ n) ⊎ (m ≡ n → ⊥) → (m + len ≤ from) ⊎ (from + 8 ≤ m + 16)
-      key_apart m i (inl e) = inr (subst (λ k. from + 8 ≤ k + 16) (sym e) high)
+      key_apart m i (inl e) = inr (rw e high)
       key_apart m i (inr o) =
           let q : PairNode len ns c m = record { good = g.good; listed = i } in
           elim (nodes_apart g q o) [
-            | inl l ↦ inl (key_before m len n from l low)
-            | inr l ↦ inr (key_behind m len n from long l high)
+            | inl l ↦ inl (omega arith)
+            | inr l ↦ inr (omega arith)
           ]
 
 module _ {len : ℕ} {ns : List ℕ} {c d : Cut} {n from : ℕ} {to : Option ℕ} (g : PairNode len ns c n)
@@ -362,16 +277,16 @@ module _ {len : ℕ} {ns : List ℕ} {c d : Cut} {n from : ℕ} {to : Option ℕ
   left_own =
       let low = (node_place len ns c n g).low in
       let left : link_at (bytes_of d.bytes) n ≡ to = subst (λ k. link_at (bytes_of d.bytes) k ≡ to) at set in
-      let right = SameBut-link (bytes_of c.bytes) (bytes_of d.bytes) from 8 (n + 8) change.rest (inr (left_end n from at)) in
-      let red = ap (λ w. w / 2 % 2 == 1) (SameBut-word (bytes_of c.bytes) (bytes_of d.bytes) from 8 (n - 8) change.rest (inl (tag_end n from low (left_low n from at)))) in
+      let right = SameBut-link (bytes_of c.bytes) (bytes_of d.bytes) from 8 (n + 8) change.rest (inr (omega arith)) in
+      let red = ap (λ w. w / 2 % 2 == 1) (SameBut-word (bytes_of c.bytes) (bytes_of d.bytes) from 8 (n - 8) change.rest (inl (omega arith))) in
       λ i. record { left = left i; right = right i; red = red i }
 
   pub left_changed : Changed len ns c d n
   left_changed =
-      let two = and_parts (leads (λ k. is_in k ns) (cells_of (bytes_of c.bytes) n).left) (leads (λ k. is_in k ns) (cells_of (bytes_of c.bytes) n).right) (links_at len ns c n g) in
-      link_changed g change long (left_low n from at) (left_high n from at)
+      let two = link_parts g in
+      link_changed g change long (omega arith) (omega arith)
       (subst (λ (x : Cell). (leads (λ k. is_in k ns) x.left && leads (λ k. is_in k ns) x.right) ≡ true) (sym left_own)
-      (and_from (leads (λ k. is_in k ns) to) (leads (λ k. is_in k ns) (cells_of (bytes_of c.bytes) n).right) (leads_in len ns c to target) two.1))
+      (rw (leads_in len ns c to target, two.1) refl))
 
   pub left_cells : pair_cells len ns d ≡ with_left (pair_cells len ns c) n to
   unfolding with_left
@@ -383,17 +298,17 @@ module _ {len : ℕ} {ns : List ℕ} {c d : Cut} {n from : ℕ} {to : Option ℕ
   right_own : cells_of (bytes_of d.bytes) n ≡ record (cells_of (bytes_of c.bytes) n) { right = to }
   right_own =
       let low = (node_place len ns c n g).low in
-      let left = SameBut-link (bytes_of c.bytes) (bytes_of d.bytes) from 8 n change.rest (inl (right_start n from at)) in
+      let left = SameBut-link (bytes_of c.bytes) (bytes_of d.bytes) from 8 n change.rest (inl (omega arith)) in
       let right : link_at (bytes_of d.bytes) (n + 8) ≡ to = subst (λ k. link_at (bytes_of d.bytes) k ≡ to) at set in
-      let red = ap (λ w. w / 2 % 2 == 1) (SameBut-word (bytes_of c.bytes) (bytes_of d.bytes) from 8 (n - 8) change.rest (inl (tag_end n from low (right_low n from at)))) in
+      let red = ap (λ w. w / 2 % 2 == 1) (SameBut-word (bytes_of c.bytes) (bytes_of d.bytes) from 8 (n - 8) change.rest (inl (omega arith))) in
       λ i. record { left = left i; right = right i; red = red i }
 
   pub right_changed : Changed len ns c d n
   right_changed =
-      let two = and_parts (leads (λ k. is_in k ns) (cells_of (bytes_of c.bytes) n).left) (leads (λ k. is_in k ns) (cells_of (bytes_of c.bytes) n).right) (links_at len ns c n g) in
-      link_changed g change long (right_low n from at) (right_high n from at)
+      let two = link_parts g in
+      link_changed g change long (omega arith) (omega arith)
       (subst (λ (x : Cell). (leads (λ k. is_in k ns) x.left && leads (λ k. is_in k ns) x.right) ≡ true) (sym right_own)
-      (and_from (leads (λ k. is_in k ns) (cells_of (bytes_of c.bytes) n).left) (leads (λ k. is_in k ns) to) two.0 (leads_in len ns c to target)))
+      (rw (two.0, leads_in len ns c to target) refl))
 
   pub right_cells : pair_cells len ns d ≡ with_right (pair_cells len ns c) n to
   unfolding with_right
@@ -419,18 +334,6 @@ all_in P (y ∷ ys) x a (inr i) = all_in P ys x a.1 i
 pub same_red : (v w : ℕ) → w % 16 ≡ v % 16 → (w / 2 % 2 == 1) ≡ (v / 2 % 2 == 1)
 same_red v w e = let f : w / 2 % 2 ≡ v / 2 % 2 = omega arith in ap (λ k. k == 1) f
 
-left_inside : (m len : ℕ) → 16 ≤ len → m + 8 ≤ m + len
-left_inside m len h = omega arith
-
-right_inside : (m len : ℕ) → 16 ≤ len → m + 8 + 8 ≤ m + len
-right_inside m len h = omega arith
-
-none_below : (k : ℕ) → 0 ≤ k
-none_below k = omega arith
-
-more : (m k : ℕ) → m ≤ m + k
-more m k = omega arith
-
 -- a byte in the payload of a block
 record InBlock (xs : List Extent) (k : ℕ) : Type 0 where
   extent : Extent
@@ -441,8 +344,8 @@ record InBlock (xs : List Extent) (k : ℕ) : Type 0 where
 in_block : (xs : List Extent) (k : ℕ) → list_any (λ (x : Extent). nat_le (handle x) k && nat_lt k (end_of x)) xs ≡ true → InBlock xs k
 in_block [] k h = absurd (false≢true h)
 in_block (x ∷ xs) k h =
-    elim (or_cases (nat_le (handle x) k && nat_lt k (end_of x)) (list_any (λ (y : Extent). nat_le (handle y) k && nat_lt k (end_of y)) xs) h) [
-      | inl e ↦ let two = and_parts (nat_le (handle x) k) (nat_lt k (end_of x)) e in record { extent = x; listed = inl refl; low = leb-true (handle x) k two.0; high = ltb-true k (end_of x) two.1 }
+    elim (or_cases _ _ h) [
+      | inl e ↦ let two = and_parts _ _ e in record { extent = x; listed = inl refl; low = leb-true (handle x) k two.0; high = ltb-true k (end_of x) two.1 }
       | inr e ↦ let b = in_block xs k e in record { extent = b.extent; listed = inr b.listed; low = b.low; high = b.high }
     ]
 
@@ -455,13 +358,13 @@ module _ {len : ℕ} {ns : List ℕ} {c d : Cut} {n : ℕ} {red : Bool} (g : Pai
   node_same m q =
       let b = node_block len ns c m q in let at = b.at in let enough = b.holds in
       let s = same_payload b.extent b.listed in
-      record { at = λ k l h. s.at k (payload_low b.extent.offset m k at l) (payload_high b.extent.offset b.extent.len m len k at enough h) }
+      record { at = λ k l h. s.at k (omega arith) (omega arith) }
 
   left_link : (m : ℕ) → PairNode len ns c m → link_at (bytes_of d.bytes) m ≡ link_at (bytes_of c.bytes) m
-  left_link m q = Same-link (bytes_of c.bytes) (bytes_of d.bytes) m (m + len) m (node_same m q) (le_refl m) (left_inside m len long)
+  left_link m q = Same-link (bytes_of c.bytes) (bytes_of d.bytes) m (m + len) m (node_same m q) (le_refl m) (omega arith)
 
   right_link : (m : ℕ) → PairNode len ns c m → link_at (bytes_of d.bytes) (m + 8) ≡ link_at (bytes_of c.bytes) (m + 8)
-  right_link m q = Same-link (bytes_of c.bytes) (bytes_of d.bytes) m (m + len) (m + 8) (node_same m q) (more m 8) (right_inside m len long)
+  right_link m q = Same-link (bytes_of c.bytes) (bytes_of d.bytes) m (m + len) (m + 8) (node_same m q) (omega arith) (omega arith)
 
   red_own : cells_of (bytes_of d.bytes) n ≡ record (cells_of (bytes_of c.bytes) n) { red = red }
   red_own = let a = left_link n g in let b = right_link n g in let r = change.colour in λ i. record { left = a i; right = b i; red = r i }
@@ -473,17 +376,17 @@ module _ {len : ℕ} {ns : List ℕ} {c d : Cut} {n : ℕ} {red : Bool} (g : Pai
   other_red : (m : ℕ) → PairNode len ns c m → (m ≡ n → ⊥) → is_red (bytes_of d.bytes) m ≡ is_red (bytes_of c.bytes) m
   other_red m q o =
       let b = node_block len ns c m q in let at = b.at in
-      let w : b.extent.offset + 8 ≡ m - 8 = tag_at b.extent.offset m at in
+      let w : b.extent.offset + 8 ≡ m - 8 = omega arith in
       let e = subst (λ a. word_at (bytes_of d.bytes) a % 16 ≡ word_at (bytes_of c.bytes) a % 16) w (colour_at b.extent b.listed (λ f. o (sym at ∙ f))) in
       same_red (word_at (bytes_of c.bytes) (m - 8)) (word_at (bytes_of d.bytes) (m - 8)) e
 
   byte_kept : (k : ℕ) → is_kept ns (live_of c.bytes) k ≡ true → bytes_of d.bytes k ≡ bytes_of c.bytes k
   byte_kept k t =
-      let two = and_parts (nat_lt k 24 || (nat_le 32 k && nat_lt k 128) || lies_in_block (live_of c.bytes) k) (not (is_link_byte ns k)) t in
-      elim (or_cases (nat_lt k 24 || (nat_le 32 k && nat_lt k 128)) (lies_in_block (live_of c.bytes) k) two.0) [
-        | inl e ↦ elim (or_cases (nat_lt k 24) (nat_le 32 k && nat_lt k 128) e) [
-          | inl l ↦ change.keeps.front.at k (none_below k) (ltb-true k 24 l)
-          | inr l ↦ let both = and_parts (nat_le 32 k) (nat_lt k 128) l in change.keeps.behind.at k (leb-true 32 k both.0) (ltb-true k 128 both.1)
+      let two = and_parts _ _ t in
+      elim (or_cases _ _ two.0) [
+        | inl e ↦ elim (or_cases _ _ e) [
+          | inl l ↦ change.keeps.front.at k (omega arith) (ltb-true k 24 l)
+          | inr l ↦ let both = and_parts _ _ l in change.keeps.behind.at k (leb-true 32 k both.0) (ltb-true k 128 both.1)
         ]
         | inr e ↦ let b = in_block (live_of c.bytes).extents k e in (same_payload b.extent b.listed).at k b.low b.high
       ]
@@ -498,7 +401,7 @@ module _ {len : ℕ} {ns : List ℕ} {c d : Cut} {n : ℕ} {red : Bool} (g : Pai
         links = subst (λ (x : Cell). (leads (λ k. is_in k ns) x.left && leads (λ k. is_in k ns) x.right) ≡ true) (sym red_own) (links_at len ns c n g);
         others = λ m i o. let q : PairNode len ns c m = record { good = g.good; listed = i } in
             cell_stays (bytes_of c.bytes) (bytes_of d.bytes) m (left_link m q) (right_link m q) (other_red m q o);
-        keys = λ m i. let s = node_same m (record { good = g.good; listed = i }) in record { at = λ k l h. s.at k (le_trans (more m 16) l) h };
+        keys = λ m i. let s = node_same m (record { good = g.good; listed = i }) in record { at = λ k l h. s.at k (omega arith) h };
       }
 
   pub red_cells : pair_cells len ns d ≡ with_red (pair_cells len ns c) n red
@@ -538,4 +441,4 @@ key_room size ns c n h =
 -- the key that is read
 pub key_is : {K : Type 0} (value : List ℕ → Option K) (size : ℕ) (ns : List ℕ) (c : Cut) (n : ℕ) → is_pair_node (16 + size) ns c n ≡ true → value (read (bytes_of c.bytes) (n + 16) size) ≡ key_of value size ns c n
 unfolding key_of key_at
-key_is value size ns c n h = sym (cond-true (is_pair_node (16 + size) ns c n) (key_at value size (bytes_of c.bytes) n) None h)
+key_is value size ns c n h = rw h refl

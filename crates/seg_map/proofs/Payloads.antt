@@ -21,8 +21,8 @@ pub record RoomAt (xs : List Extent) (h n : ℕ) : Type 0 where
 pub room_at : (xs : List Extent) (h n : ℕ) → list_any (λ (x : Extent). (handle x == h) && holds x n) xs ≡ true → RoomAt xs h n
 room_at [] h n e = absurd (false≢true e)
 room_at (x ∷ xs) h n e =
-    elim (or_cases ((handle x == h) && holds x n) (list_any (λ (y : Extent). (handle y == h) && holds y n) xs) e) [
-      | inl t ↦ let two = and_parts (handle x == h) (holds x n) t in record { extent = x; listed = inl refl; at = eqb-true (handle x) h two.0; long = leb-true (n + 16) x.len two.1 }
+    elim (or_cases _ _ e) [
+      | inl t ↦ let two = and_parts _ _ t in record { extent = x; listed = inl refl; at = eqb-true (handle x) h two.0; long = leb-true (n + 16) x.len two.1 }
       | inr r ↦ let b = room_at xs h n r in record { extent = b.extent; listed = inr b.listed; at = b.at; long = b.long }
     ]
 
@@ -35,14 +35,14 @@ record First (xs : List Extent) (h : ℕ) : Type 0 where
 
 first_at : (xs : List Extent) (h : ℕ) (x : Extent) → In x xs → handle x ≡ h → First xs h
 first_at [] h x i e = absurd i
-first_at (y ∷ ys) h x i e = by_test (λ j. first_at ys h x j e) (cases_Bool (handle y == h)) i
-  where
-    by_test : (In x ys → First ys h) → ((handle y == h) ≡ true) ⊎ ((handle y == h) ≡ false) → ((y ≡ x) ⊎ In x ys) → First (y ∷ ys) h
-    by_test rest (inl t) j = record { extent = y; found = cond-true (handle y == h) (Some y) (find (λ (z : Extent). handle z == h) ys) t; listed = inl refl; at = eqb-true (handle y) h t }
-    by_test rest (inr f) (inl s) = absurd (false≢true (sym f ∙ eq-eqb (handle y) h (ap handle s ∙ e)))
-    by_test rest (inr f) (inr j) =
-        let r = rest j in
-        record { extent = r.extent; found = cond-false (handle y == h) (Some y) (find (λ (z : Extent). handle z == h) ys) f ∙ r.found; listed = inr r.listed; at = r.at }
+first_at (y ∷ ys) h x i e =
+    elim (cases_Bool (handle y == h)) [
+      | inl t ↦ record { extent = y; found = rw t refl; listed = inl refl; at = eqb-true (handle y) h t }
+      | inr f ↦ elim i [
+        | inl s ↦ absurd (false≢true (sym f ∙ eq-eqb (handle y) h (ap handle s ∙ e)))
+        | inr j ↦ let r = first_at ys h x j e in record { extent = r.extent; found = rw f r.found; listed = inr r.listed; at = r.at }
+      ]
+    ]
 
 module _ (b : List ℕ) (h n : ℕ) (proper : IsTrue (is_proper (live_of b))) (room : IsTrue (has_room (live_of b) h n)) where
   r : RoomAt (live_of b).extents h n

@@ -53,7 +53,7 @@ module _ {K V : Type 0} {kp : Plain K} {vp : Plain V} (kl : Laws kp) (c : Cut) {
 
   links_all : (m : ℕ) → is_in m all ≡ true → links_among (bytes_of c.bytes) all m ≡ true
   links_all m i =
-      elim (or_cases (m == pair_node p) (is_in m ns) i) [
+      elim (or_cases _ _ i) [
         | inl e ↦
             let at' = eqb-true m (pair_node p) e in
             let a : (cells_of (bytes_of c.bytes) m).left ≡ None = ap (link_at (bytes_of c.bytes)) at' ∙ l.left in
@@ -61,17 +61,15 @@ module _ {K V : Type 0} {kp : Plain K} {vp : Plain V} (kl : Laws kp) (c : Cut) {
             (λ j. leads (λ k. is_in k all) (a j) && leads (λ k. is_in k all) (b j))
         | inr e ↦
             let g = good kl c s in
-            let two = and_parts (leads (λ k. is_in k ns) (cells_of (bytes_of c.bytes) m).left) (leads (λ k. is_in k ns) (cells_of (bytes_of c.bytes) m).right)
-            (all_at (links_among (bytes_of c.bytes) ns) ns m g.links e) in
-            and_from (leads (λ k. is_in k all) (cells_of (bytes_of c.bytes) m).left) (leads (λ k. is_in k all) (cells_of (bytes_of c.bytes) m).right)
-            (leads_more (pair_node p) ns (cells_of (bytes_of c.bytes) m).left two.0) (leads_more (pair_node p) ns (cells_of (bytes_of c.bytes) m).right two.1)
+            let two = and_parts _ _ (all_at (links_among (bytes_of c.bytes) ns) ns m g.links e) in
+            rw (leads_more (pair_node p) ns (cells_of (bytes_of c.bytes) m).left two.0, leads_more (pair_node p) ns (cells_of (bytes_of c.bytes) m).right two.1) refl
       ]
 
   good_all : Good (16 + kp.SIZE) all c
   good_all =
       record {
         proper = s.heap.proper;
-        blocks = and_from (is_block_in (16 + kp.SIZE) (live_of c.bytes) (pair_node p)) (list_all (is_block_in (16 + kp.SIZE) (live_of c.bytes)) ns) (pair_block kl c s p l.block) (good kl c s).blocks;
+        blocks = rw (pair_block kl c s p l.block, (good kl c s).blocks) refl;
         links = all_from (links_among (bytes_of c.bytes) all) all links_all;
       }
 
@@ -88,19 +86,18 @@ module _ {K V : Type 0} {kp : Plain K} {vp : Plain V} (kl : Laws kp) (c : Cut) {
   key_same : (m : ℕ) → is_in m ns ≡ true → keys_in kp all c m ≡ keys_in kp ns c m
   unfolding key_of
   key_same m i =
-      cond-true (is_pair_node (16 + kp.SIZE) all c m) (key_at (value_of kp) kp.SIZE (bytes_of c.bytes) m) None (node_all m (in_all m i))
-      ∙ sym (cond-true (is_pair_node (16 + kp.SIZE) ns c m) (key_at (value_of kp) kp.SIZE (bytes_of c.bytes) m) None (node_here kl c s m i))
+      rw (node_all m (in_all m i), node_here kl c s m i) refl
 
   own_key : keys_in kp all c (pair_node p) ≡ Some p.key
   unfolding key_of key_at
   own_key =
-      cond-true (is_pair_node (16 + kp.SIZE) all c (pair_node p)) (key_at (value_of kp) kp.SIZE (bytes_of c.bytes) (pair_node p)) None (node_all (pair_node p) own_in)
-      ∙ read_spelled kp kl (bytes_of c.bytes) (handle p.node + 16) p.key (pair_parts l.block).key l.bytes.0
+      rw (node_all (pair_node p) own_in)
+      (read_spelled kp kl (bytes_of c.bytes) (handle p.node + 16) p.key (pair_parts l.block).key l.bytes.0)
 
   keys_from : (qs : List (Pair K V)) → list_all (λ n. is_in n ns) (nodes_of_pairs qs) ≡ true → HaveKeys (keys_in kp ns c) qs → HaveKeys (keys_in kp all c) qs
   keys_from [] i k = tt
   keys_from (q ∷ qs) i k =
-      let two = and_parts (is_in (pair_node q) ns) (list_all (λ n. is_in n ns) (nodes_of_pairs qs)) i in
+      let two = and_parts _ _ i in
       (key_same (pair_node q) two.0 ∙ k.0, keys_from qs two.1 k.1)
 
   keys_all : HaveKeys (keys_in kp all c) ps
@@ -110,12 +107,11 @@ module _ {K V : Type 0} {kp : Plain K} {vp : Plain V} (kl : Laws kp) (c : Cut) {
   key_tree =
       record {
         tree = record {
-          tree = subst (λ (o : Option ℕ). IsTree (pair_cells (16 + kp.SIZE) all c) o s.map.tree.tree) (sym is)
-              (tree_same (cells_of (bytes_of c.bytes)) (pair_cells (16 + kp.SIZE) all c) (link_at (bytes_of c.bytes) (h + at)) s.map.tree.tree (λ m i. cells_at (16 + kp.SIZE) all c m (node_all m (in_all m i))) s.map.tree.linked);
+          tree = rw is (tree_same (cells_of (bytes_of c.bytes)) (pair_cells (16 + kp.SIZE) all c) (link_at (bytes_of c.bytes) (h + at)) s.map.tree.tree (λ m i. cells_at (16 + kp.SIZE) all c m (node_all m (in_all m i))) s.map.tree.linked);
           ordered = ap (rises (comes_before kp.order (keys_in kp all c))) (listed kl c s) ∙ rising_nodes kp.order kl.transitive (keys_in kp all c) ps keys_all s.rising;
           red_black = s.map.tree.red_black;
         };
-        leads = by_root root (subst (λ (o : Option ℕ). IsTree (cells_of (bytes_of c.bytes)) o s.map.tree.tree) (sym is) s.map.tree.linked);
+        leads = by_root root (rw is s.map.tree.linked);
       }
     where
       by_root : (o : Option ℕ) → IsTree (cells_of (bytes_of c.bytes)) o s.map.tree.tree → leads (is_pair_node (16 + kp.SIZE) all c) o ≡ true
@@ -142,8 +138,7 @@ module _ {K V : Type 0} {kp : Plain K} {vp : Plain V} (kl : Laws kp) (c : Cut) {
       → CanLink kp (own_nodes c.bytes root (Some node)) c root start node
   can_link start begins {node} e =
       subst (λ (n : ℕ). CanLink kp (own_nodes c.bytes root (Some n)) c root start n) e
-      (subst (λ (ms : List ℕ). CanLink kp ms c root start (pair_node p)) (sym ns_is)
-      (record {
+      (rw ns_is (record {
         shape = s.map.tree.tree;
         tree = key_tree;
         own = node_all (pair_node p) own_in;
@@ -153,7 +148,7 @@ module _ {K V : Type 0} {kp : Plain K} {vp : Plain V} (kl : Laws kp) (c : Cut) {
 
   module _ {d : Cut} {node : ℕ} (here : pair_node p ≡ node) {top : Option ℕ} {steps : ℕ} (k : Linked kp (own_nodes c.bytes root (Some node)) c d root node top steps) where
     u : Linked kp all c d root (pair_node p) top steps
-    u = subst (λ (ms : List ℕ). Linked kp ms c d root (pair_node p) top steps) ns_is (subst (λ (n : ℕ). Linked kp (own_nodes c.bytes root (Some n)) c d root n top steps) (sym here) k)
+    u = subst (λ (ms : List ℕ). Linked kp ms c d root (pair_node p) top steps) ns_is (rw here k)
 
     pub live_put : live_of d.bytes ≡ live_of c.bytes
     live_put = live_stays c d all all u.kept

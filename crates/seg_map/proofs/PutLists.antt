@@ -8,7 +8,7 @@ use Rattle.seg_map.specs.Map.{Pair, is_key, is_rising, pair_at, put_pair}
 use Rattle.seg_map.specs.Places.{nodes_of_pairs, pair_node}
 use Rattle.seg_map.specs.PairNodes.{before_key, comes_before}
 use Rattle.seg_map.proofs.Entering.{HaveKeys}
-use Rattle.seg_map.proofs.FoundPairs.{either_left, none_above, rising_rest}
+use Rattle.seg_map.proofs.FoundPairs.{none_above, rising_rest}
 use Rattle.seg_map.proofs.PairLists.{Below, below_rising, rising_below}
 
 pub either_one : (b c : Bool) → not (b || c) ≡ false → b ≡ false → c ≡ true
@@ -27,74 +27,60 @@ neither_parts false true e = absurd (false≢true e)
 neither_parts false false e = (refl, refl)
 
 module _ {K V : Type 0} (less : K → K → Bool) where
-  none_some : (p : Pair K V) → Some p ≡ None → ⊥
-  none_some p e = let o : Option (Pair K V) = None in let f : Some p ≡ o = e in cc
-
-  same_pair : (p q : Pair K V) → Some q ≡ Some p → q ≡ p
-  same_pair p q e = cc
-
   -- a key that no pair has
-  pub absent_here : (key : K) (q : Pair K V) (qs : List (Pair K V)) → pair_at less (q ∷ qs) key ≡ None → (is_key less key q ≡ false) × (pair_at less qs key ≡ None)
+  pub absent_here : (key : K) (q : Pair K V) (qs : List (Pair K V)) → pair_at less (q ∷ qs) key ≡ None
+      → (is_key less key q ≡ false) × (pair_at less qs key ≡ None)
   absent_here key q qs e =
-      elim (cases_Bool (is_key less key q)) [
-        | inl y ↦ absurd (none_some q (sym (cond-true (is_key less key q) (Some q) (pair_at less qs key) y) ∙ e))
-        | inr z ↦ (z, sym (cond-false (is_key less key q) (Some q) (pair_at less qs key) z) ∙ e)
-      ]
+      elim (cases_Bool (is_key less key q)) [ inl y ↦ let f = rw y at e in absurd (cc) | inr z ↦ (z, rw z at e) ]
 
   -- the pair that is found is one of them, and has the key
-  pub pair_of : (P : Pair K V → Type 0) (ps : List (Pair K V)) (key : K) (p : Pair K V) → pair_at less ps key ≡ Some p → AllByRecursion P ps → P p × (is_key less key p ≡ true)
-  pair_of P [] key p e a = absurd (none_some p (sym e))
+  pub pair_of : (P : Pair K V → Type 0) (ps : List (Pair K V)) (key : K) (p : Pair K V) → pair_at less ps key ≡ Some p
+      → AllByRecursion P ps → P p × (is_key less key p ≡ true)
+  pair_of P [] key p e a = absurd (cc)
   pair_of P (q ∷ qs) key p e a =
       elim (cases_Bool (is_key less key q)) [
         | inl y ↦
-            let same : q ≡ p = same_pair p q (sym (cond-true (is_key less key q) (Some q) (pair_at less qs key) y) ∙ e) in
+            let f = rw y at e in let same : q ≡ p = cc in
             (subst P same a.0, ap (is_key less key) (sym same) ∙ y)
-        | inr z ↦ pair_of P qs key p (sym (cond-false (is_key less key q) (Some q) (pair_at less qs key) z) ∙ e) a.1
+        | inr z ↦ pair_of P qs key p (rw z at e) a.1
       ]
 
   -- ---- a new pair
 
-  pub put_all : (P : Pair K V → Type 0) (p : Pair K V) (ps : List (Pair K V)) → P p → AllByRecursion P ps → AllByRecursion P (put_pair less p ps)
+  pub put_all : (P : Pair K V → Type 0) (p : Pair K V) (ps : List (Pair K V)) → P p → AllByRecursion P ps
+      → AllByRecursion P (put_pair less p ps)
   put_all P p [] h a = (h, tt)
   put_all P p (q ∷ qs) h a =
       elim (cases_Bool (less p.key q.key)) [
-        | inl y ↦ subst (AllByRecursion P) (sym (cond-true (less p.key q.key) (p ∷ q ∷ qs) (if less q.key p.key then q ∷ put_pair less p qs else p ∷ qs) y)) (h, a)
-        | inr n ↦ subst (AllByRecursion P) (sym (cond-false (less p.key q.key) (p ∷ q ∷ qs) (if less q.key p.key then q ∷ put_pair less p qs else p ∷ qs) n))
-            (elim (cases_Bool (less q.key p.key)) [
-              | inl y ↦ subst (AllByRecursion P) (sym (cond-true (less q.key p.key) (q ∷ put_pair less p qs) (p ∷ qs) y)) (a.0, put_all P p qs h a.1)
-              | inr z ↦ subst (AllByRecursion P) (sym (cond-false (less q.key p.key) (q ∷ put_pair less p qs) (p ∷ qs) z)) (h, a.1)
-            ])
+        | inl y ↦ rw y (h, a)
+        | inr n ↦ rw n (elim (cases_Bool (less q.key p.key)) [
+          | inl y ↦ rw y (a.0, put_all P p qs h a.1)
+          | inr z ↦ rw z (h, a.1)
+        ])
       ]
 
-  -- the three places
-  put_first : (p q : Pair K V) (qs : List (Pair K V)) → less p.key q.key ≡ true → put_pair less p (q ∷ qs) ≡ p ∷ q ∷ qs
-  put_first p q qs y = cond-true (less p.key q.key) (p ∷ q ∷ qs) (if less q.key p.key then q ∷ put_pair less p qs else p ∷ qs) y
-
-  put_later : (p q : Pair K V) (qs : List (Pair K V)) → less p.key q.key ≡ false → less q.key p.key ≡ true → put_pair less p (q ∷ qs) ≡ q ∷ put_pair less p qs
-  put_later p q qs n y = cond-false (less p.key q.key) (p ∷ q ∷ qs) (if less q.key p.key then q ∷ put_pair less p qs else p ∷ qs) n ∙ cond-true (less q.key p.key) (q ∷ put_pair less p qs) (p ∷ qs) y
-
-  put_here : (p q : Pair K V) (qs : List (Pair K V)) → less p.key q.key ≡ false → less q.key p.key ≡ false → put_pair less p (q ∷ qs) ≡ p ∷ qs
-  put_here p q qs n z = cond-false (less p.key q.key) (p ∷ q ∷ qs) (if less q.key p.key then q ∷ put_pair less p qs else p ∷ qs) n ∙ cond-false (less q.key p.key) (q ∷ put_pair less p qs) (p ∷ qs) z
-
-  pub put_length : (p : Pair K V) (ps : List (Pair K V)) → pair_at less ps p.key ≡ None → length (put_pair less p ps) ≡ suc (length ps)
+  pub put_length : (p : Pair K V) (ps : List (Pair K V)) → pair_at less ps p.key ≡ None
+      → length (put_pair less p ps) ≡ suc (length ps)
   put_length p [] e = refl
   put_length p (q ∷ qs) e =
       let two = absent_here p.key q qs e in
       elim (cases_Bool (less p.key q.key)) [
-        | inl y ↦ ap (λ (l : List (Pair K V)). length l) (put_first p q qs y)
-        | inr n ↦ ap (λ (l : List (Pair K V)). length l) (put_later p q qs n (either_one (less p.key q.key) (less q.key p.key) two.0 n)) ∙ ap suc (put_length p qs two.1)
+        | inl y ↦ rw y refl
+        | inr n ↦ rw (n, either_one (less p.key q.key) (less q.key p.key) two.0 n) (ap suc (put_length p qs two.1))
       ]
 
-  pub put_rising : ((x y z : K) → less x y ≡ true → less y z ≡ true → less x z ≡ true) → (p : Pair K V) (ps : List (Pair K V)) → pair_at less ps p.key ≡ None → is_rising less ps ≡ true → is_rising less (put_pair less p ps) ≡ true
+  pub put_rising : ((x y z : K) → less x y ≡ true → less y z ≡ true → less x z ≡ true) → (p : Pair K V) (ps : List (Pair K V))
+      → pair_at less ps p.key ≡ None → is_rising less ps ≡ true → is_rising less (put_pair less p ps) ≡ true
   put_rising on p [] e r = refl
   put_rising on p (q ∷ qs) e r =
       let two = absent_here p.key q qs e in
       elim (cases_Bool (less p.key q.key)) [
-        | inl y ↦ ap (is_rising less) (put_first p q qs y) ∙ and_from (less p.key q.key) (is_rising less (q ∷ qs)) y r
+        | inl y ↦ rw y (rw (y, r) refl)
         | inr n ↦
             let below = either_one (less p.key q.key) (less q.key p.key) two.0 n in
-            ap (is_rising less) (put_later p q qs n below)
-            ∙ below_rising less q (put_pair less p qs) (put_all (λ (x : Pair K V). less q.key x.key ≡ true) p qs below (rising_below less on q qs r)) (put_rising on p qs two.1 (rising_rest less on q qs r))
+            rw (n, below) (below_rising less q (put_pair less p qs)
+            (put_all (λ (x : Pair K V). less q.key x.key ≡ true) p qs below (rising_below less on q qs r))
+            (put_rising on p qs two.1 (rising_rest less on q qs r)))
       ]
 
   module _ (keys : ℕ → Option K) (p : Pair K V) (own : keys (pair_node p) ≡ Some p.key) where
@@ -113,12 +99,9 @@ module _ {K V : Type 0} (less : K → K → Bool) where
         let two = absent_here p.key q qs e in
         let same : comes_before less keys (pair_node p) (pair_node q) ≡ less p.key q.key = λ i. before_key less (own i) (k.0 i) in
         elim (cases_Bool (less p.key q.key)) [
-          | inl y ↦
-              cond-true (comes_before less keys (pair_node p) (pair_node q)) (pair_node p ∷ pair_node q ∷ nodes_of_pairs qs) (pair_node q ∷ put (comes_before less keys) (pair_node p) (nodes_of_pairs qs)) (same ∙ y)
-              ∙ sym (ap nodes_of_pairs (put_first p q qs y))
-          | inr n ↦
-              cond-false (comes_before less keys (pair_node p) (pair_node q)) (pair_node p ∷ pair_node q ∷ nodes_of_pairs qs) (pair_node q ∷ put (comes_before less keys) (pair_node p) (nodes_of_pairs qs)) (same ∙ n)
-              ∙ ap (λ (ms : List ℕ). pair_node q ∷ ms) (put_nodes qs k.1 two.1) ∙ sym (ap nodes_of_pairs (put_later p q qs n (either_one (less p.key q.key) (less q.key p.key) two.0 n)))
+          | inl y ↦ rw (same ∙ y, y) refl
+          | inr n ↦ rw (same ∙ n, n, either_one (less p.key q.key) (less q.key p.key) two.0 n)
+              (ap (λ (ms : List ℕ). pair_node q ∷ ms) (put_nodes qs k.1 two.1))
         ]
 
   -- ---- a pair in the place of another
@@ -128,18 +111,9 @@ module _ {K V : Type 0} (less : K → K → Bool) where
     later : (q : Pair K V) (qs : List (Pair K V)) → is_rising less (q ∷ qs) ≡ true → pair_at less (q ∷ qs) p'.key ≡ Some p → less p'.key q.key ≡ false
     later q qs r e =
         elim (cases_Bool (less p'.key q.key)) [
-          | inl y ↦ absurd (none_some p (sym e ∙ cond-false (is_key less p'.key q) (Some q) (pair_at less qs p'.key) (either_left (less p'.key q.key) (less q.key p'.key) y) ∙ none_above less on p'.key q qs r y))
+          | inl y ↦ let f = rw y at e in let g = none_above less on p'.key q qs r y in absurd (cc)
           | inr n ↦ n
         ]
-
-    found_later : (q : Pair K V) (qs : List (Pair K V)) → pair_at less (q ∷ qs) p'.key ≡ Some p → less p'.key q.key ≡ false → less q.key p'.key ≡ true → pair_at less qs p'.key ≡ Some p
-    found_later q qs e n y = sym (cond-false (is_key less p'.key q) (Some q) (pair_at less qs p'.key) ((λ i. not (n i || y i)))) ∙ e
-
-    found_here : (q : Pair K V) (qs : List (Pair K V)) → pair_at less (q ∷ qs) p'.key ≡ Some p → less p'.key q.key ≡ false → less q.key p'.key ≡ false → q ≡ p
-    found_here q qs e n z = same_pair p q (sym (cond-true (is_key less p'.key q) (Some q) (pair_at less qs p'.key) (λ i. not (n i || z i))) ∙ e)
-
-    abbrev Is : Pair K V → Type 0
-    Is q = (less p'.key q.key ≡ true) ⊎ (less q.key p'.key ≡ true)
 
     module _ (P Q : Pair K V → Type 0) (step : (q : Pair K V) → P q → (less p'.key q.key ≡ true) ⊎ (less q.key p'.key ≡ true) → Q q) (own : Q p') where
       behind : (qs : List (Pair K V)) → Below less p'.key qs → AllByRecursion P qs → AllByRecursion Q qs
@@ -147,36 +121,38 @@ module _ {K V : Type 0} (less : K → K → Bool) where
       behind (q ∷ qs) b a = (step q a.0 (inl b.0), behind qs b.1 a.1)
 
       pub replaced_all : (ps : List (Pair K V)) → is_rising less ps ≡ true → pair_at less ps p'.key ≡ Some p → AllByRecursion P ps → AllByRecursion Q (put_pair less p' ps)
-      replaced_all [] r e a = absurd (none_some p (sym e))
+      replaced_all [] r e a = absurd (cc)
       replaced_all (q ∷ qs) r e a =
           let n = later q qs r e in
           elim (cases_Bool (less q.key p'.key)) [
-            | inl y ↦ subst (AllByRecursion Q) (sym (put_later p' q qs n y)) (step q a.0 (inr y), replaced_all qs (rising_rest less on q qs r) (found_later q qs e n y) a.1)
+            | inl y ↦ rw (n, y) (step q a.0 (inr y), replaced_all qs (rising_rest less on q qs r) (rw (n, y) at e) a.1)
             | inr z ↦
-                let is : q.key ≡ p'.key = ap (λ (x : Pair K V). x.key) (found_here q qs e n z) ∙ sym same in
-                subst (AllByRecursion Q) (sym (put_here p' q qs n z)) (own, behind qs (subst (λ k. Below less k qs) is (rising_below less on q qs r)) a.1)
+                let f = rw (n, z) at e in let is : q.key ≡ p'.key = cc in
+                rw (n, z) (own, behind qs (subst (λ k. Below less k qs) is (rising_below less on q qs r)) a.1)
           ]
 
     pub replaced_nodes : pair_node p' ≡ pair_node p → (ps : List (Pair K V)) → is_rising less ps ≡ true → pair_at less ps p'.key ≡ Some p → nodes_of_pairs (put_pair less p' ps) ≡ nodes_of_pairs ps
-    replaced_nodes at [] r e = absurd (none_some p (sym e))
+    replaced_nodes at [] r e = absurd (cc)
     replaced_nodes at (q ∷ qs) r e =
         let n = later q qs r e in
         elim (cases_Bool (less q.key p'.key)) [
-          | inl y ↦ ap nodes_of_pairs (put_later p' q qs n y) ∙ ap (λ (ms : List ℕ). pair_node q ∷ ms) (replaced_nodes at qs (rising_rest less on q qs r) (found_later q qs e n y))
-          | inr z ↦ ap nodes_of_pairs (put_here p' q qs n z) ∙ ap (λ (m : ℕ). m ∷ nodes_of_pairs qs) (at ∙ ap pair_node (sym (found_here q qs e n z)))
+          | inl y ↦ rw (n, y) (ap (λ (ms : List ℕ). pair_node q ∷ ms) (replaced_nodes at qs (rising_rest less on q qs r) (rw (n, y) at e)))
+          | inr z ↦
+              let f = rw (n, z) at e in let is : p ≡ q = cc in
+              rw (n, z) (ap (λ (m : ℕ). m ∷ nodes_of_pairs qs) (at ∙ ap pair_node is))
         ]
 
     pub replaced_rising : (ps : List (Pair K V)) → is_rising less ps ≡ true → pair_at less ps p'.key ≡ Some p → is_rising less (put_pair less p' ps) ≡ true
-    replaced_rising [] r e = absurd (none_some p (sym e))
+    replaced_rising [] r e = absurd (cc)
     replaced_rising (q ∷ qs) r e =
-        let n = later q qs r e in
+        let n = later q qs r e in let rest = rising_rest less on q qs r in
         elim (cases_Bool (less q.key p'.key)) [
           | inl y ↦
-              let found = found_later q qs e n y in
-              ap (is_rising less) (put_later p' q qs n y)
-              ∙ below_rising less q (put_pair less p' qs) (replaced_all (λ (x : Pair K V). less q.key x.key ≡ true) (λ (x : Pair K V). less q.key x.key ≡ true) (λ x h o. h) y qs (rising_rest less on q qs r) found (rising_below less on q qs r))
-              (replaced_rising qs (rising_rest less on q qs r) found)
+              let found = rw (n, y) at e in
+              rw (n, y) (below_rising less q (put_pair less p' qs)
+              (replaced_all (λ (x : Pair K V). less q.key x.key ≡ true) (λ (x : Pair K V). less q.key x.key ≡ true) (λ x h o. h) y qs rest found
+              (rising_below less on q qs r)) (replaced_rising qs rest found))
           | inr z ↦
-              let is : q.key ≡ p'.key = ap (λ (x : Pair K V). x.key) (found_here q qs e n z) ∙ sym same in
-              ap (is_rising less) (put_here p' q qs n z) ∙ below_rising less p' qs (subst (λ k. Below less k qs) is (rising_below less on q qs r)) (rising_rest less on q qs r)
+              let f = rw (n, z) at e in let is : q.key ≡ p'.key = cc in
+              rw (n, z) (below_rising less p' qs (subst (λ k. Below less k qs) is (rising_below less on q qs r)) rest)
         ]

@@ -1,5 +1,5 @@
 -- The tree of a map is changed, and its three words are written.
-use Rattle.std.proofs.Common.{◌≡◌, sym, ap, subst, ◌∙◌, ℕ, ◌+◌, ◌%◌, ◌<◌, ◌≤◌, ◌≢◌, ◌⊎◌, inl, inr, true, false, not, ◌&&◌, ◌||◌, List, [], ◌∷◌, length, arith, nat_lt, nat_le, IsTrue}
+use Rattle.std.proofs.Common.{◌≡◌, refl, sym, ap, subst, ◌∙◌, ℕ, ◌+◌, ◌%◌, ◌<◌, ◌≤◌, ◌≢◌, ◌⊎◌, inl, inr, true, false, not, ◌&&◌, ◌||◌, List, [], ◌∷◌, length, arith, nat_lt, nat_le, IsTrue}
 use Rattle.std.specs.Prelude.{Option, Some, None}
 use Rattle.std.specs.List.{AllByRecursion}
 use Rattle.std.proofs.lemmas.Bool.{false≢true, and_from, or_right, cases_eq, le-leb, lt-ltb}
@@ -13,7 +13,7 @@ use Rattle.best_fit.specs.Exchange.{SameBlockBut}
 use Rattle.best_fit.specs.Extents.{Extent, LiveSet, handle, end_of}
 use Rattle.best_fit.specs.Fit.{others}
 use Rattle.best_fit.specs.FreeTree.{cells_of}
-use Rattle.best_fit.specs.Heap.{IsHeap, Keeps, SameBlock, has_room, live_of}
+use Rattle.best_fit.specs.Heap.{IsHeap, Keeps, SameBlock, extent_at, has_room, live_of}
 use Rattle.best_fit.proofs.Laws.{but-trans, changed-keeps, changed-live, laid-heap, roomy, written-but}
 use Rattle.seg_types.specs.declared.plain.Plain.{Ghosts as Plain}
 use Rattle.seg_map.specs.Map.{Pair, IsPairAt, is_rising}
@@ -22,8 +22,8 @@ use Rattle.seg_map.specs.PairNodes.{is_link_byte, is_pair_node, kept_of, lies_in
 use Rattle.seg_map.specs.PairLaws.{Good, In, cells_at, PairNode, PairNode-is_pair_node, is_pair_node-PairNode, node_place}
 use Rattle.seg_map.specs.Linking.{IsKeyTree}
 use Rattle.seg_map.specs.Changing.{IsBesideMap, IsHeaded}
-use Rattle.seg_map.proofs.Entering.{Laws, found_in, pair_parts}
-use Rattle.seg_map.proofs.PairSteps.{all_in, any_at, block_apart, in_others}
+use Rattle.seg_map.proofs.Entering.{Laws, found_in, other_block, pair_parts}
+use Rattle.seg_map.proofs.PairSteps.{all_in, any_at, block_apart}
 use Rattle.seg_map.proofs.Frames.{kept_block, kept_byte, kept_keeps, live_stays, no_link}
 use Rattle.seg_map.proofs.Staying.{at_node, block_cells, lengths, pair_stays}
 
@@ -38,16 +38,15 @@ module _ {K V : Type 0} {kp : Plain K} {vp : Plain V} (kl : Laws kp) (vl : Laws 
   live_e = changed-live current d e (h + at) 24 head.change ∙ live_d
 
   room_d : IsTrue (has_room (live_of d.bytes) h (at + 24))
-  room_d = subst (λ l. IsTrue (has_room l h (at + 24))) (sym live_d) room
+  room_d = rw live_d room
 
   others_stay : Keeps d e (others h (live_of d.bytes).extents)
   others_stay = changed-keeps current d e h at 24 head.change room_d
 
   -- the words are written in another block
-  block_stays : (x : Extent) → In x (live_of c.bytes).extents → handle x ≢ h → SameBlock (bytes_of d.bytes) (bytes_of e.bytes) x
-  block_stays x i o =
-      all_in (SameBlock (bytes_of d.bytes) (bytes_of e.bytes)) (others h (live_of d.bytes).extents) x others_stay.blocks
-      (in_others h x (live_of d.bytes).extents (subst (λ (l : LiveSet). In x l.extents) (sym live_d) i) o)
+  block_stays : (x : Extent) → extent_at (live_of c.bytes) (handle x) ≡ Some x → handle x ≢ h
+      → SameBlock (bytes_of d.bytes) (bytes_of e.bytes) x
+  block_stays x f o = other_block (live_of d.bytes) h (handle x) others_stay (rw live_d f) o
 
   low : (m : ℕ) → is_in m ns ≡ true → 144 ≤ m
   low m i = (node_place (16 + kp.SIZE) ns c m (record { good = good; listed = i })).low
@@ -86,14 +85,10 @@ module _ {K V : Type 0} {kp : Plain K} {vp : Plain V} (kl : Laws kp) (vl : Laws 
   pair_kept : (p : Pair K V) → IsPairIn kp vp (live_of c.bytes) h p → Same (bytes_of c.bytes) (bytes_of e.bytes) (handle p.node + 16) (handle p.node + (16 + kp.SIZE + vp.SIZE))
   pair_kept p i =
       let x = p.node in let listed = found_in (live_of c.bytes).extents (handle x) x i.listed in
-      let long = (pair_parts i).long in let same = block_stays x listed i.apart in
+      let long = (pair_parts i).long in let same = block_stays x i.listed i.apart in
       record {
         at = λ k from to. same.payload.at k (omega arith) (omega arith)
-            ∙ kept_byte d good kept (omega arith) k (and_from (nat_lt k 24 || (nat_le 32 k && nat_lt k 128) || lies_in_block (live_of c.bytes) k) (not (is_link_byte ns k))
-            (or_right (nat_lt k 24 || (nat_le 32 k && nat_lt k 128)) (lies_in_block (live_of c.bytes) k)
-            (any_at (λ (y : Extent). nat_le (handle y) k && nat_lt k (end_of y)) (live_of c.bytes).extents x listed
-            (and_from (nat_le (handle x) k) (nat_lt k (end_of x)) (le-leb (handle x) k (omega arith)) (lt-ltb k (end_of x) (omega arith)))))
-            (ap not (no_link d good kept (omega arith) k (λ m j. apart k from (omega arith) m j (cases_eq (handle x) m)))));
+            ∙ kept_byte d good kept (omega arith) k (rw (or_right (nat_lt k 24 || (nat_le 32 k && nat_lt k 128)) (lies_in_block (live_of c.bytes) k) (any_at (λ (y : Extent). nat_le (handle y) k && nat_lt k (end_of y)) (live_of c.bytes).extents x listed (and_from (nat_le (handle x) k) (nat_lt k (end_of x)) (le-leb (handle x) k (omega arith)) (lt-ltb k (end_of x) (omega arith)))), ap not (no_link d good kept (omega arith) k (λ m j. apart k from (omega arith) m j (cases_eq (handle x) m)))) refl);
       }
     where
       apart : (k : ℕ) → handle p.node + 16 ≤ k → k < end_of p.node → (m : ℕ) → is_in m ns ≡ true → (handle p.node ≡ m) ⊎ (handle p.node ≡ m → ⊥) → (k < m) ⊎ (m + 16 ≤ k)
@@ -117,7 +112,7 @@ module _ {K V : Type 0} {kp : Plain K} {vp : Plain V} (kl : Laws kp) (vl : Laws 
         let j = ap (λ ms. is_in m ms) (sym lists) ∙ i in
         let a = at_node (IsPairIn kp vp (live_of c.bytes) h) qs m j pairs in
         let long = (pair_parts a.holds).long in
-        let same = block_stays a.pair.node (found_in (live_of c.bytes).extents (handle a.pair.node) a.pair.node a.holds.listed) a.holds.apart in
+        let same = block_stays a.pair.node a.holds.listed a.holds.apart in
         subst (λ x. cells_of (bytes_of e.bytes) x ≡ cells_of (bytes_of d.bytes) x) a.at (block_cells (bytes_of d.bytes) (bytes_of e.bytes) a.pair.node same (omega arith))
         ∙ sym (cells_at (16 + kp.SIZE) ns d m (node_d t k m i (own m j)))
 
@@ -131,14 +126,14 @@ module _ {K V : Type 0} {kp : Plain K} {vp : Plain V} (kl : Laws kp) (vl : Laws 
             third = head.third;
             tree = record {
               tree = t;
-              linked = subst (λ o. IsTree (cells_of (bytes_of e.bytes)) o t) (sym head.link) (tree_same (pair_cells (16 + kp.SIZE) ns d) (cells_of (bytes_of e.bytes)) top t tree_cells k.tree.tree);
+              linked = rw head.link (tree_same (pair_cells (16 + kp.SIZE) ns d) (cells_of (bytes_of e.bytes)) top t tree_cells k.tree.tree);
               red_black = k.tree.red_black;
               lists = lists;
             };
             pairs = pairs_at qs pairs bytes;
           };
           aligned = whole;
-          room = subst (λ l. IsTrue (has_room l h (at + 24))) (sym live_e) room;
+          room = rw live_e room;
           rising = rising;
-          pairs = subst (λ l. AllByRecursion (IsPairIn kp vp l h) qs) (sym live_e) pairs;
+          pairs = rw live_e pairs;
         }

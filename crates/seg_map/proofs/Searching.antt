@@ -16,7 +16,7 @@ use Rattle.seg_map.specs.Linking.{IsKeyTree, keys_in}
 use Rattle.seg_map.specs.Map.{Pair, IsPairAt, is_rising, pair_at}
 use Rattle.seg_map.specs.PairNodes.{both, comes_before, own_nodes, pair_cells, stands_before}
 use Rattle.seg_map.specs.Places.{HoldsMap, IsPairIn, IsSomeMap, SearchSteps, final_pair, first_pair, is_passed, item_of, last_pair, pair_node, value_of_pair}
-use Rattle.seg_map.specs.Searches.{FindsExit, IsOpened, IsRead, LooksFor, entry_in, exit_in, item_at, last_path, node_with, path_in, reading_steps}
+use Rattle.seg_map.specs.Searches.{FindsExit, IsOpened, IsRead, LooksFor, LooksUp, entry_in, exit_in, item_at, last_path, node_with, path_in, reading_steps}
 use Rattle.seg_map.proofs.Entering.{HaveKeys, Laws, count_pairs, found_back, found_last, found_pair, keys, own, pair_parts, read_spelled, root_leads, search_tree, value_of}
 use Rattle.seg_map.proofs.FoundLists.{all_reversed}
 use Rattle.seg_map.proofs.FoundPairs.{by_key, pair_by_key}
@@ -29,9 +29,7 @@ module _ {K V : Type 0} {kp : Plain K} {vp : Plain V} (laws : Laws kp) (c : Cut)
 
   pub lent_tree : IsKeyTree kp ms c root s.map.tree.tree
   lent_tree =
-      subst (λ (ks : List ℕ). IsKeyTree kp ks c root s.map.tree.tree) (sym lent_own)
-      (subst (λ (o : Option ℕ). IsKeyTree kp (nodes_of s.map.tree.tree) c o s.map.tree.tree) (sym is)
-      (record { tree = search_tree laws c s; leads = root_leads laws c s }))
+      rw lent_own (rw is (record { tree = search_tree laws c s; leads = root_leads laws c s }))
 
 -- ---- a map is opened to a search
 
@@ -64,7 +62,7 @@ module _ {K V : Type 0} {kp : Plain K} {vp : Plain V} (kl : Laws kp) (vl : Laws 
         nodes = λ ps s. lent_own kl c s is are;
         tree = λ ps s. lent_tree kl c s is are;
         pairs = λ ps s. read_pairs (keys_in kp ms c) ps s.pairs s.map.pairs
-            (subst (λ (ns : List ℕ). HaveKeys (keys_in kp ns c) ps) (sym (lent_own kl c s is are)) (keys kl c s));
+            (rw (lent_own kl c s is are) (keys kl c s));
       }
 
 -- ---- what a search finds
@@ -203,21 +201,12 @@ reads_same : {K V : Type 0} (o : Option (Pair K V)) → reading_steps (option_ma
 reads_same None = refl
 reads_same (Some p) = refl
 
--- what a look-up answers, and its steps
-pub record LooksUp {K V : Type 0} (k : Plain K) (v : Plain V) (c : Cut) (h at : ℕ)
-    (pair : List (Pair K V) → Option (Pair K V)) (path : Tree → ℕ) (result : Option (K × V)) (before after : ℕ) : Type 0
-  where
-    pub item : (ps : List (Pair K V)) → HoldsMap k v c.bytes h at ps → result ≡ option_map item_of (pair ps)
-    pub steps : SearchSteps k v c.bytes h at 1 before after
-    pub exact : (ps : List (Pair K V)) (s : HoldsMap k v c.bytes h at ps) → after ≡ before + path s.map.tree.tree + reading_steps (pair ps)
-
 module _ {K V : Type 0} {k : Plain K} {v : Plain V} {c : Cut} {h at : ℕ} {pair : List (Pair K V) → Option (Pair K V)}
     {path : Tree → ℕ} {found : Option ℕ} {taken : ℕ} (f : Finds k v c h at pair path found taken) where
   pub found_room : IsSomeMap k v c.bytes h at
       → IfSome found (λ n. IsTrue (has_room (live_of c.bytes) n (16 + k.SIZE + v.SIZE)))
   found_room s =
-      subst (λ (o : Option ℕ). IfSome o (λ n. IsTrue (has_room (live_of c.bytes) n (16 + k.SIZE + v.SIZE))))
-      (sym (f.node s.0 s.1)) (room_read k v c f.keys (pair s.0) (f.good s.0 s.1))
+      rw (f.node s.0 s.1) (room_read k v c f.keys (pair s.0) (f.good s.0 s.1))
 
   pub key_room : IsSomeMap k v c.bytes h at
       → IfSome found (λ n. IsTrue (has_room (live_of c.bytes) n (16 + k.SIZE)))
@@ -246,6 +235,7 @@ module _ {K V : Type 0} {k : Plain K} {v : Plain V} {c : Cut} {h at : ℕ} {pair
   looked_up {before = before} {after = after} i e =
       record {
         item = λ ps s. i ∙ ap (option_and_then (item_at k v (bytes_of c.bytes))) (f.node ps s) ∙ item_read k v c f.keys (pair ps) (f.good ps s);
+        counted = omega (arith, e);
         steps = few_read before after e;
         exact = steps_read before after e;
       }

@@ -39,7 +39,7 @@ pub at_node : {K V : Type 0} (P : Pair K V → Type 0) (ps : List (Pair K V)) (m
     → AllByRecursion P ps → AtNode P m
 at_node P [] m i a = absurd (false≢true i)
 at_node P (p ∷ ps) m i a =
-    elim (or_cases (m == pair_node p) (is_in m (nodes_of_pairs ps)) i) [
+    elim (or_cases _ _ i) [
       | inl e ↦ record { pair = p; holds = a.0; at = sym (eqb-true m (pair_node p) e) }
       | inr e ↦ at_node P ps m e a.1
     ]
@@ -74,11 +74,11 @@ module _ {K V : Type 0} {kp : Plain K} {vp : Plain V} (kl : Laws kp) (vl : Laws 
     {ps : List (Pair K V)} (s : HoldsMap kp vp c.bytes h at ps) (heap : IsHeap current e.bytes)
     (room : IsTrue (has_room (live_of e.bytes) h (at + 24))) (words : Same (bytes_of c.bytes) (bytes_of e.bytes) (h + at) (h + at + 24))
     (blocks : AllByRecursion (λ (p : Pair K V). Still c e p.node) ps) where
-  pairs_in : (qs : List (Pair K V)) → AllByRecursion (IsPairIn kp vp (live_of c.bytes) h) qs → AllByRecursion (λ (p : Pair K V). Still c e p.node) qs → AllByRecursion (IsPairIn kp vp (live_of e.bytes) h) qs
+  pub pairs_in : (qs : List (Pair K V)) → AllByRecursion (IsPairIn kp vp (live_of c.bytes) h) qs → AllByRecursion (λ (p : Pair K V). Still c e p.node) qs → AllByRecursion (IsPairIn kp vp (live_of e.bytes) h) qs
   pairs_in [] a f = tt
   pairs_in (q ∷ qs) a f = (record { good = a.0.good; listed = f.0.found; apart = a.0.apart }, pairs_in qs a.1 f.1)
 
-  pairs_at : (qs : List (Pair K V)) → AllByRecursion (IsPairIn kp vp (live_of c.bytes) h) qs → AllByRecursion (IsPairAt kp.SIZE kp.spelling vp.spelling (bytes_of c.bytes)) qs → AllByRecursion (λ (p : Pair K V). Still c e p.node) qs → AllByRecursion (IsPairAt kp.SIZE kp.spelling vp.spelling (bytes_of e.bytes)) qs
+  pub pairs_at : (qs : List (Pair K V)) → AllByRecursion (IsPairIn kp vp (live_of c.bytes) h) qs → AllByRecursion (IsPairAt kp.SIZE kp.spelling vp.spelling (bytes_of c.bytes)) qs → AllByRecursion (λ (p : Pair K V). Still c e p.node) qs → AllByRecursion (IsPairAt kp.SIZE kp.spelling vp.spelling (bytes_of e.bytes)) qs
   pairs_at [] a b f = tt
   pairs_at (q ∷ qs) a b f =
       let long = (pair_parts a.0).long in let same = f.0.same in
@@ -88,13 +88,13 @@ module _ {K V : Type 0} {kp : Plain K} {vp : Plain V} (kl : Laws kp) (vl : Laws 
   with_blocks [] a f = tt
   with_blocks (q ∷ qs) a f = ((a.0, f.0), with_blocks qs a.1 f.1)
 
-  cells : (m : ℕ) → is_in m (nodes_of s.map.tree.tree) ≡ true → cells_of (bytes_of e.bytes) m ≡ cells_of (bytes_of c.bytes) m
+  pub cells : (m : ℕ) → is_in m (nodes_of s.map.tree.tree) ≡ true → cells_of (bytes_of e.bytes) m ≡ cells_of (bytes_of c.bytes) m
   cells m i =
       let n = at_node (λ (p : Pair K V). IsPairIn kp vp (live_of c.bytes) h p × Still c e p.node) ps m (ap (λ ns. is_in m ns) (sym s.map.tree.lists) ∙ i) (with_blocks ps s.pairs blocks) in
       let long = (pair_parts n.holds.0).long in
       subst (λ k. cells_of (bytes_of e.bytes) k ≡ cells_of (bytes_of c.bytes) k) n.at (block_cells (bytes_of c.bytes) (bytes_of e.bytes) n.pair.node n.holds.1.same (omega arith))
 
-  pub map_stays : HoldsMap kp vp e.bytes h at ps
+  unfoldable pub map_stays : HoldsMap kp vp e.bytes h at ps
   map_stays =
       record {
         heap = heap;
@@ -117,8 +117,3 @@ module _ {K V : Type 0} {kp : Plain K} {vp : Plain V} (kl : Laws kp) (vl : Laws 
         rising = s.rising;
         pairs = pairs_in ps s.pairs blocks;
       }
-
-  -- its tree is the same
-  pub stays_tree : map_stays.map.tree.tree ≡ s.map.tree.tree
-  unfolding map_stays
-  stays_tree = refl

@@ -182,6 +182,13 @@ pairs_finite len ns c = by_test (is_good len ns c) refl
 pub links_at : (len : ℕ) (ns : List ℕ) (c : Cut) (n : ℕ) → PairNode len ns c n → links_among (bytes_of c.bytes) ns n ≡ true
 links_at len ns c n g = all_at (links_among (bytes_of c.bytes) ns) ns n g.good.links g.listed
 
+pub link_parts : {len : ℕ} {ns : List ℕ} {c : Cut} {n : ℕ} → PairNode len ns c n
+    → (leads (λ k. is_in k ns) (cells_of (bytes_of c.bytes) n).left ≡ true)
+    × (leads (λ k. is_in k ns) (cells_of (bytes_of c.bytes) n).right ≡ true)
+link_parts {len} {ns} {c} {n} g =
+    and_parts (leads (λ k. is_in k ns) (cells_of (bytes_of c.bytes) n).left)
+    (leads (λ k. is_in k ns) (cells_of (bytes_of c.bytes) n).right) (links_at len ns c n g)
+
 leads_to_node : (len : ℕ) (ns : List ℕ) (c : Cut) (o : Option ℕ) → Good len ns c → leads (λ k. is_in k ns) o ≡ true → leads (is_pair_node len ns c) o ≡ true
 leads_to_node len ns c None g h = refl
 leads_to_node len ns c (Some n) g h = PairNode-is_pair_node len ns c n (record { good = g; listed = h })
@@ -197,16 +204,14 @@ cells_off len ns c n h = cond-false (is_pair_node len ns c n) (cells_of (bytes_o
 pub pairs_left : (len : ℕ) (ns : List ℕ) (c : Cut) (n : ℕ) → is_pair_node len ns c n ≡ true → leads (is_pair_node len ns c) (pair_cells len ns c n).left ≡ true
 pairs_left len ns c n h =
     let g = is_pair_node-PairNode len ns c n h in
-    let m = bytes_of c.bytes in
-    let two = and_parts (leads (λ k. is_in k ns) (cells_of m n).left) (leads (λ k. is_in k ns) (cells_of m n).right) (links_at len ns c n g) in
-    subst (λ (x : Cell). leads (is_pair_node len ns c) x.left ≡ true) (sym (cells_at len ns c n h)) (leads_to_node len ns c (cells_of m n).left g.good two.0)
+    subst (λ (x : Cell). leads (is_pair_node len ns c) x.left ≡ true) (sym (cells_at len ns c n h))
+    (leads_to_node len ns c (cells_of (bytes_of c.bytes) n).left g.good (link_parts g).0)
 
 pub pairs_right : (len : ℕ) (ns : List ℕ) (c : Cut) (n : ℕ) → is_pair_node len ns c n ≡ true → leads (is_pair_node len ns c) (pair_cells len ns c n).right ≡ true
 pairs_right len ns c n h =
     let g = is_pair_node-PairNode len ns c n h in
-    let m = bytes_of c.bytes in
-    let two = and_parts (leads (λ k. is_in k ns) (cells_of m n).left) (leads (λ k. is_in k ns) (cells_of m n).right) (links_at len ns c n g) in
-    subst (λ (x : Cell). leads (is_pair_node len ns c) x.right ≡ true) (sym (cells_at len ns c n h)) (leads_to_node len ns c (cells_of m n).right g.good two.1)
+    subst (λ (x : Cell). leads (is_pair_node len ns c) x.right ≡ true) (sym (cells_at len ns c n h))
+    (leads_to_node len ns c (cells_of (bytes_of c.bytes) n).right g.good (link_parts g).1)
 
 -- ---- the order is strict
 

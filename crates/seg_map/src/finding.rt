@@ -6,14 +6,15 @@ ghost use Rattle.best_fit.specs.Extents.{is_proper};
 ghost use Rattle.best_fit.specs.Heap.{has_room, live_of};
 ghost use Rattle.seg_map.specs.Linking.{HasTree};
 ghost use Rattle.seg_map.specs.PairNodes.{is_pair_node};
-ghost use Rattle.seg_map.specs.Places.{IsSomeMap};
-ghost use Rattle.seg_map.specs.Searches.{FindsEntry, FindsExit, IsOpened, LooksFor, item_at, node_with, reading_steps};
+ghost use Rattle.seg_map.specs.Places.{IsSomeMap, first_pair, last_pair};
+ghost use Rattle.seg_map.specs.Searches.{FindsEntry, FindsExit, IsOpened, LooksFor, LooksUp};
+ghost use Rattle.seg_map.specs.Searches.{item_at, node_with, path_in, reading_steps};
 
 use crate::nodes::Reading;
 use crate::owned::Own;
 use crate::reading::{KEY, Sought, value_at};
 use best_fit::Heap;
-use link_tree::{Found, find_way_in, find_way_out};
+use link_tree::{Found, find_first_not_before, find_last_before, find_way_in, find_way_out};
 use raw_region::Steps;
 use seg_types::Plain;
 use std::marker::PhantomData;
@@ -60,6 +61,40 @@ pub fn read_found<K: Plain, V: Plain>(
     let node = found.node?;
     steps.add(1);
     item(heap, node)
+}
+
+/// The key and the value of the first pair that does not stand before what is looked for.
+pub fn find_from<K: Plain, V: Plain>(
+    heap: &Heap,
+    handle: u64,
+    at: u64,
+    sought: &Sought<K>,
+    steps: &mut Steps,
+) -> Option<(K, V)>
+    requires { IsSomeMap K.Plain V.Plain heap.now.bytes handle at }
+    ensures { LooksUp K.Plain V.Plain heap.now handle at (first_pair K.order sought.now.past sought.now.key)
+        (path_in K.Plain heap.now sought.now.past sought.now.key) result steps.old steps.new }
+{
+    let pairs = open::<K, V>(heap, handle, at);
+    let found = find_first_not_before(&pairs, pairs.root, sought);
+    read_found(heap, found, steps)
+}
+
+/// The key and the value of the last pair that stands before what is looked for.
+pub fn find_before<K: Plain, V: Plain>(
+    heap: &Heap,
+    handle: u64,
+    at: u64,
+    sought: &Sought<K>,
+    steps: &mut Steps,
+) -> Option<(K, V)>
+    requires { IsSomeMap K.Plain V.Plain heap.now.bytes handle at }
+    ensures { LooksUp K.Plain V.Plain heap.now handle at (last_pair K.order sought.now.past sought.now.key)
+        (path_in K.Plain heap.now sought.now.past sought.now.key) result steps.old steps.new }
+{
+    let pairs = open::<K, V>(heap, handle, at);
+    let found = find_last_before(&pairs, pairs.root, sought);
+    read_found(heap, found, steps)
 }
 
 /// The node that a search for a key has found, where it has that key.

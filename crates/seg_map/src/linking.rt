@@ -36,7 +36,8 @@ fn uproot<K: Plain>(
     requires { CanUnlink K.Plain pairs.old.own pairs.old.heap.now root start node }
     ensures reference { pairs.new.heap.ghost_name ≡ pairs.old.heap.ghost_name }
     ensures counted { steps.old ≤ steps.new }
-    ensures change { Unlinked K.Plain pairs.old.own pairs.old.heap.now pairs.new.heap.now root node result (steps.new - steps.old) }
+    ensures change { Unlinked K.Plain pairs.old.own pairs.old.heap.now pairs.new.heap.now
+        root node result (steps.new - steps.old) }
 {
     let changed = remove_at(pairs, root, start, node);
     steps.add(changed.steps);
@@ -54,7 +55,8 @@ fn plant<K: Plain>(
     requires { CanLink K.Plain pairs.old.own pairs.old.heap.now root start node }
     ensures reference { pairs.new.heap.ghost_name ≡ pairs.old.heap.ghost_name }
     ensures counted { steps.old ≤ steps.new }
-    ensures change { Linked K.Plain pairs.old.own pairs.old.heap.now pairs.new.heap.now root node result (steps.new - steps.old) }
+    ensures change { Linked K.Plain pairs.old.own pairs.old.heap.now pairs.new.heap.now
+        root node result (steps.new - steps.old) }
 {
     let changed = insert_at(pairs, root, start, node);
     steps.add(changed.steps);
@@ -72,7 +74,8 @@ pub fn unlink<K: Plain>(
 ) -> Option<u64>
     requires { CanUnlink K.Plain (own_nodes heap.old.bytes root None) heap.old root start node }
     ensures counted { steps.old ≤ steps.new }
-    ensures change { Unlinked K.Plain (own_nodes heap.old.bytes root None) heap.old heap.new root node result (steps.new - steps.old) }
+    ensures change { Unlinked K.Plain (own_nodes heap.old.bytes root None) heap.old heap.new
+        root node result (steps.new - steps.old) }
 {
     let mut pairs = lend::<K>(heap, root, None);
     uproot(&mut pairs, root, start, node, steps)
@@ -89,7 +92,8 @@ pub fn link<K: Plain>(
 ) -> Option<u64>
     requires { CanLink K.Plain (own_nodes heap.old.bytes root (Some node)) heap.old root start node }
     ensures counted { steps.old ≤ steps.new }
-    ensures change { Linked K.Plain (own_nodes heap.old.bytes root (Some node)) heap.old heap.new root node result (steps.new - steps.old) }
+    ensures change { Linked K.Plain (own_nodes heap.old.bytes root (Some node)) heap.old heap.new
+        root node result (steps.new - steps.old) }
 {
     let mut pairs = lend::<K>(heap, root, Some(node));
     plant(&mut pairs, root, start, node, steps)

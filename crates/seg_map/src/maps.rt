@@ -7,19 +7,19 @@ ghost use Rattle.seg_map.specs.Places.{FindsItem, FindsItemBefore, FindsLastItem
 ghost use Rattle.seg_map.specs.Searches.{LastTakes, LookBackTakes, LookUpTakes};
 
 use crate::erasing::{give_up, take_out};
-use crate::finding::{find_in, find_out, open, read_found};
+use crate::finding::{find_before, find_from, find_in, find_out, open, read_found};
 use crate::heading::{len, write_head};
 use crate::places::Place;
 use crate::putting::{make_node, put_in, write_value};
 use crate::reading::{KEY, Sought};
 use best_fit::{Heap, NoSpace};
-use link_tree::{find_first_not_before, find_last, find_last_before};
+use link_tree::find_last;
 use raw_region::Steps;
 use seg_types::Plain;
 use std::marker::PhantomData;
 
-/// A map at a place in a heap: three words there (the link to the root of a red-black tree, the number of pairs, and 0), and
-/// a block for each pair, which it keeps until its key is erased.
+/// A map at a place in a heap: three words there (the link to the root of a red-black tree, the number of pairs, and
+/// 0), and a block for each pair, which it keeps until its key is erased.
 ///
 /// It is the place alone. Each call takes the heap anew, so that nothing is borrowed between two calls.
 #[derive(Clone, Copy)]
@@ -67,8 +67,10 @@ impl<K: Plain, V: Plain> SegMap<K, V> {
         requires { IsSomeMap K.Plain V.Plain heap.now.bytes self.place.handle self.place.at }
         ensures value { FindsValue K.Plain V.Plain heap.now.bytes self.place.handle self.place.at key result }
         ensures counted { steps.old ≤ steps.new }
-        ensures steps { SearchSteps K.Plain V.Plain heap.now.bytes self.place.handle self.place.at 1 steps.old steps.new }
-        ensures exact { LookUpTakes K.Plain V.Plain heap.now self.place.handle self.place.at false key steps.old steps.new }
+        ensures steps { SearchSteps K.Plain V.Plain heap.now.bytes self.place.handle self.place.at 1
+            steps.old steps.new }
+        ensures exact { LookUpTakes K.Plain V.Plain heap.now self.place.handle self.place.at false key
+            steps.old steps.new }
     {
         let (found, value) = self.first_from(heap, key, steps)?;
         if key.precedes(found) {
@@ -83,12 +85,13 @@ impl<K: Plain, V: Plain> SegMap<K, V> {
         requires { IsSomeMap K.Plain V.Plain heap.now.bytes self.place.handle self.place.at }
         ensures item { FindsItem K.Plain V.Plain heap.now.bytes self.place.handle self.place.at false key result }
         ensures counted { steps.old ≤ steps.new }
-        ensures steps { SearchSteps K.Plain V.Plain heap.now.bytes self.place.handle self.place.at 1 steps.old steps.new }
-        ensures exact { LookUpTakes K.Plain V.Plain heap.now self.place.handle self.place.at false key steps.old steps.new }
+        ensures steps { SearchSteps K.Plain V.Plain heap.now.bytes self.place.handle self.place.at 1
+            steps.old steps.new }
+        ensures exact { LookUpTakes K.Plain V.Plain heap.now self.place.handle self.place.at false key
+            steps.old steps.new }
     {
-        let pairs = open::<K, V>(heap, self.place.handle, self.place.at);
-        let found = find_first_not_before(&pairs, pairs.root, &Sought { key, past: false });
-        read_found(heap, found, steps)
+        let from = Sought { key, past: false };
+        find_from::<K, V>(heap, self.place.handle, self.place.at, &from, steps)
     }
 
     /// The key and the value of the pair with the least key above `key`.
@@ -96,12 +99,13 @@ impl<K: Plain, V: Plain> SegMap<K, V> {
         requires { IsSomeMap K.Plain V.Plain heap.now.bytes self.place.handle self.place.at }
         ensures item { FindsItem K.Plain V.Plain heap.now.bytes self.place.handle self.place.at true key result }
         ensures counted { steps.old ≤ steps.new }
-        ensures steps { SearchSteps K.Plain V.Plain heap.now.bytes self.place.handle self.place.at 1 steps.old steps.new }
-        ensures exact { LookUpTakes K.Plain V.Plain heap.now self.place.handle self.place.at true key steps.old steps.new }
+        ensures steps { SearchSteps K.Plain V.Plain heap.now.bytes self.place.handle self.place.at 1
+            steps.old steps.new }
+        ensures exact { LookUpTakes K.Plain V.Plain heap.now self.place.handle self.place.at true key
+            steps.old steps.new }
     {
-        let pairs = open::<K, V>(heap, self.place.handle, self.place.at);
-        let found = find_first_not_before(&pairs, pairs.root, &Sought { key, past: true });
-        read_found(heap, found, steps)
+        let above = Sought { key, past: true };
+        find_from::<K, V>(heap, self.place.handle, self.place.at, &above, steps)
     }
 
     /// The key and the value of the pair with the greatest key.
@@ -109,7 +113,8 @@ impl<K: Plain, V: Plain> SegMap<K, V> {
         requires { IsSomeMap K.Plain V.Plain heap.now.bytes self.place.handle self.place.at }
         ensures item { FindsLastItem K.Plain V.Plain heap.now.bytes self.place.handle self.place.at result }
         ensures counted { steps.old ≤ steps.new }
-        ensures steps { SearchSteps K.Plain V.Plain heap.now.bytes self.place.handle self.place.at 1 steps.old steps.new }
+        ensures steps { SearchSteps K.Plain V.Plain heap.now.bytes self.place.handle self.place.at 1
+            steps.old steps.new }
         ensures exact { LastTakes K.Plain V.Plain heap.now self.place.handle self.place.at steps.old steps.new }
     {
         let pairs = open::<K, V>(heap, self.place.handle, self.place.at);
@@ -122,12 +127,13 @@ impl<K: Plain, V: Plain> SegMap<K, V> {
         requires { IsSomeMap K.Plain V.Plain heap.now.bytes self.place.handle self.place.at }
         ensures item { FindsItemBefore K.Plain V.Plain heap.now.bytes self.place.handle self.place.at true key result }
         ensures counted { steps.old ≤ steps.new }
-        ensures steps { SearchSteps K.Plain V.Plain heap.now.bytes self.place.handle self.place.at 1 steps.old steps.new }
-        ensures exact { LookBackTakes K.Plain V.Plain heap.now self.place.handle self.place.at true key steps.old steps.new }
+        ensures steps { SearchSteps K.Plain V.Plain heap.now.bytes self.place.handle self.place.at 1
+            steps.old steps.new }
+        ensures exact { LookBackTakes K.Plain V.Plain heap.now self.place.handle self.place.at true key
+            steps.old steps.new }
     {
-        let pairs = open::<K, V>(heap, self.place.handle, self.place.at);
-        let found = find_last_before(&pairs, pairs.root, &Sought { key, past: true });
-        read_found(heap, found, steps)
+        let up_to = Sought { key, past: true };
+        find_before::<K, V>(heap, self.place.handle, self.place.at, &up_to, steps)
     }
 
     /// The key and the value of the pair with the greatest key below `key`.
@@ -135,16 +141,17 @@ impl<K: Plain, V: Plain> SegMap<K, V> {
         requires { IsSomeMap K.Plain V.Plain heap.now.bytes self.place.handle self.place.at }
         ensures item { FindsItemBefore K.Plain V.Plain heap.now.bytes self.place.handle self.place.at false key result }
         ensures counted { steps.old ≤ steps.new }
-        ensures steps { SearchSteps K.Plain V.Plain heap.now.bytes self.place.handle self.place.at 1 steps.old steps.new }
-        ensures exact { LookBackTakes K.Plain V.Plain heap.now self.place.handle self.place.at false key steps.old steps.new }
+        ensures steps { SearchSteps K.Plain V.Plain heap.now.bytes self.place.handle self.place.at 1
+            steps.old steps.new }
+        ensures exact { LookBackTakes K.Plain V.Plain heap.now self.place.handle self.place.at false key
+            steps.old steps.new }
     {
-        let pairs = open::<K, V>(heap, self.place.handle, self.place.at);
-        let found = find_last_before(&pairs, pairs.root, &Sought { key, past: false });
-        read_found(heap, found, steps)
+        let below = Sought { key, past: false };
+        find_before::<K, V>(heap, self.place.handle, self.place.at, &below, steps)
     }
 
-    /// Puts the value of a key, and answers whether the key is new. All other pairs keep their blocks, and so does this one
-    /// where the key is not new.
+    /// Puts the value of a key, and answers whether the key is new. All other pairs keep their blocks, and so does this
+    /// one where the key is not new.
     ///
     /// # Errors
     ///
@@ -166,7 +173,8 @@ impl<K: Plain, V: Plain> SegMap<K, V> {
         Ok(true)
     }
 
-    /// Erases a key, and answers whether it was there: else nothing changes. Its block is given back; all others keep theirs.
+    /// Erases a key, and answers whether it was there: else nothing changes. Its block is given back; all others keep
+    /// theirs.
     pub fn erase(self, heap: &mut Heap, key: K, steps: &mut Steps) -> bool
         requires { IsSomeMap K.Plain V.Plain heap.old.bytes self.place.handle self.place.at }
         ensures erased { Erases K.Plain V.Plain heap.old heap.new self.place.handle self.place.at key result }

@@ -1,8 +1,11 @@
 //! The pairs of a map as the nodes of a tree.
 ghost use Rattle.std.specs.Prelude.{◌+◌};
 ghost use Rattle.seg_types.specs.Plain.{value_in};
-ghost use Rattle.seg_map.specs.PairNodes.{Kept as WhatStays, comes_before, is_pair_node, kept_of, key_of, pair_cells, stands_before};
-ghost use Rattle.seg_map.specs.PairLaws.{comes_agrees, comes_irreflexive, comes_transitive, pairs_finite, pairs_left, pairs_right};
+ghost use Rattle.seg_map.specs.Linking.{keys_in};
+ghost use Rattle.seg_map.specs.PairNodes.{Kept as WhatStays, comes_before, is_pair_node, kept_of, key_of};
+ghost use Rattle.seg_map.specs.PairNodes.{pair_cells, stands_before};
+ghost use Rattle.seg_map.specs.PairLaws.{comes_agrees, comes_irreflexive, comes_transitive};
+ghost use Rattle.seg_map.specs.PairLaws.{pairs_finite, pairs_left, pairs_right};
 
 use crate::owned::Own;
 use crate::reading::{KEY, Sought, is_before, is_below, value_at};
@@ -35,9 +38,9 @@ impl<'a, K: Plain> Nodes for Pairs<'a, K> {
 
     ghost is_node = { λ s. is_pair_node (16 + K.SIZE) s.own s.heap.now };
 
-    ghost order = { λ s. comes_before K.order (key_of (value_in K.reading K.is_value K.spelling) K.SIZE s.own s.heap.now) };
+    ghost order = { λ s. comes_before K.order (keys_in K.Plain s.own s.heap.now) };
 
-    ghost before = { λ s wanted. stands_before K.order (key_of (value_in K.reading K.is_value K.spelling) K.SIZE s.own s.heap.now) wanted.past wanted.key };
+    ghost before = { λ s wanted. stands_before K.order (keys_in K.Plain s.own s.heap.now) wanted.past wanted.key };
 
     ghost lender = { λ s. s.heap.ghost_name };
 
@@ -71,11 +74,14 @@ impl<'a, K: Plain> Nodes for Pairs<'a, K> {
 
     ghost right_closed = { λ s. pairs_right (16 + K.SIZE) s.own s.heap.now };
 
-    ghost irreflexive = { λ s. comes_irreflexive K.order K.irreflexive (key_of (value_in K.reading K.is_value K.spelling) K.SIZE s.own s.heap.now) };
+    ghost irreflexive = { λ s. comes_irreflexive K.order K.irreflexive
+        (key_of (value_in K.reading K.is_value K.spelling) K.SIZE s.own s.heap.now) };
 
-    ghost transitive = { λ s. comes_transitive K.order K.transitive (key_of (value_in K.reading K.is_value K.spelling) K.SIZE s.own s.heap.now) };
+    ghost transitive = { λ s. comes_transitive K.order K.transitive
+        (key_of (value_in K.reading K.is_value K.spelling) K.SIZE s.own s.heap.now) };
 
-    ghost agrees = { λ s wanted. comes_agrees K.order K.transitive (key_of (value_in K.reading K.is_value K.spelling) K.SIZE s.own s.heap.now) wanted.past wanted.key };
+    ghost agrees = { λ s wanted. comes_agrees K.order K.transitive
+        (key_of (value_in K.reading K.is_value K.spelling) K.SIZE s.own s.heap.now) wanted.past wanted.key };
 }
 
 impl<'a, K: Plain> NodesMut for Pairs<'a, K> {
@@ -99,9 +105,9 @@ impl<'a, K: Plain> Nodes for Reading<'a, K> {
 
     ghost is_node = { λ s. is_pair_node (16 + K.SIZE) s.own s.heap.now };
 
-    ghost order = { λ s. comes_before K.order (key_of (value_in K.reading K.is_value K.spelling) K.SIZE s.own s.heap.now) };
+    ghost order = { λ s. comes_before K.order (keys_in K.Plain s.own s.heap.now) };
 
-    ghost before = { λ s wanted. stands_before K.order (key_of (value_in K.reading K.is_value K.spelling) K.SIZE s.own s.heap.now) wanted.past wanted.key };
+    ghost before = { λ s wanted. stands_before K.order (keys_in K.Plain s.own s.heap.now) wanted.past wanted.key };
 
     ghost kept = { λ s. tt };
 
@@ -131,9 +137,12 @@ impl<'a, K: Plain> Nodes for Reading<'a, K> {
 
     ghost right_closed = { λ s. pairs_right (16 + K.SIZE) s.own s.heap.now };
 
-    ghost irreflexive = { λ s. comes_irreflexive K.order K.irreflexive (key_of (value_in K.reading K.is_value K.spelling) K.SIZE s.own s.heap.now) };
+    ghost irreflexive = { λ s. comes_irreflexive K.order K.irreflexive
+        (key_of (value_in K.reading K.is_value K.spelling) K.SIZE s.own s.heap.now) };
 
-    ghost transitive = { λ s. comes_transitive K.order K.transitive (key_of (value_in K.reading K.is_value K.spelling) K.SIZE s.own s.heap.now) };
+    ghost transitive = { λ s. comes_transitive K.order K.transitive
+        (key_of (value_in K.reading K.is_value K.spelling) K.SIZE s.own s.heap.now) };
 
-    ghost agrees = { λ s wanted. comes_agrees K.order K.transitive (key_of (value_in K.reading K.is_value K.spelling) K.SIZE s.own s.heap.now) wanted.past wanted.key };
+    ghost agrees = { λ s wanted. comes_agrees K.order K.transitive
+        (key_of (value_in K.reading K.is_value K.spelling) K.SIZE s.own s.heap.now) wanted.past wanted.key };
 }

@@ -4,8 +4,8 @@ use best_fit::Heap;
 use raw_region::Snapshot;
 use std::marker::Model;
 
-/// The nodes of one map: those of the tree that led from a link when it was made, and one more. What is written since does
-/// not change which they are.
+/// The nodes of one map: those of the tree that led from a link when it was made, and one more. What is written since
+/// does not change which they are.
 #[derive(Drop)]
 pub struct Own {
     then: Snapshot,

@@ -29,6 +29,6 @@ set_word-requires-2 c =
 
 pub returns : goal.returns
 returns c =
-    let at = c.args.handle + c.args.at in let B = c.set_link.new.self in let C = c.set_word.new.self in let D = c.set_word-2.new.self in
+    let at = c.args.handle + c.args.at in
     let second : c.args.handle + (c.args.at + 8) ≡ at + 8 = omega arith in let third : c.args.handle + (c.args.at + 16) ≡ at + 16 = omega arith in
-    headed c.set_link.ensures.change c.set_link.ensures.leads (subst (λ k. IsChanged current B C k 8) second c.set_word.ensures.change) (subst (λ k. word_at (bytes_of C.bytes) k ≡ c.args.count) second c.set_word.ensures.word) (subst (λ k. IsChanged current C D k 8) third c.set_word-2.ensures.change) (subst (λ k. word_at (bytes_of D.bytes) k ≡ 0) third c.set_word-2.ensures.word)
+    headed c.set_link.ensures.change c.set_link.ensures.leads (rw second at c.set_word.ensures.change) (rw second at c.set_word.ensures.word) (rw third at c.set_word-2.ensures.change) (rw third at c.set_word-2.ensures.word)

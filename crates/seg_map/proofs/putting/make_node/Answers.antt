@@ -17,8 +17,7 @@ kl g = let m = g.met.K.Plain in laws_of g.K.Plain m.spells m.reads m.irreflexive
 -- the block is as long as a node
 new : (g : Over) (c : In_ok-node g) → IsAllocated current c.args.heap.now c.allocate.new.self (node_len g.K.Plain.SIZE g.V.Plain.SIZE) Node c.in_ok-node.node
 new g c =
-    subst (λ n. IsAllocated current c.args.heap.now c.allocate.new.self n Node c.in_ok-node.node)
-    (λ i. 16 + c.SIZE.ensures i + c.SIZE-2.ensures i) c.in_ok-node.ensures.answer
+    rw (c.SIZE.ensures, c.SIZE-2.ensures) at c.in_ok-node.ensures.answer
 
 pub set_link-requires-clause-room : goal.set_link-requires-clause-room
 set_link-requires-clause-room g c = room_left (kl g) g.V.Plain (new g (goal.at.set_link-requires-clause-room g c).In_ok-node)
@@ -36,16 +35,14 @@ write_value-requires g c =
 pub write_value-requires-2 : goal.write_value-requires-2
 write_value-requires-2 g c =
     let left = c.set_link.ensures in let right = c.set_link-2.ensures in let key = c.write_value.ensures in
-    subst (λ k. IsTrue (has_room (live_of c.write_value.new.heap.bytes) c.in_ok-node.node (16 + k + g.V.Plain.SIZE)))
-    (sym c.SIZE-3.ensures)
-    (room_value (kl g) g.V.Plain (new g (goal.at.write_value-requires-2 g c).In_ok-node) left.change left.leads right.change
+    rw c.SIZE-3.ensures (room_value (kl g) g.V.Plain (new g (goal.at.write_value-requires-2 g c).In_ok-node) left.change left.leads right.change
     right.leads key.value key.change key.content)
 
 pub returns-clause-made : goal.returns-clause-made
 returns-clause-made g c =
     let left = c.set_link.ensures in let right = c.set_link-2.ensures in let key = c.write_value.ensures in
-    let value = c.write_value-2.ensures in let d = c.write_value-2.new.heap in
+    let value = c.write_value-2.ensures in
     made (kl g) g.V.Plain (new g (goal.at.returns-clause-made g c).In_ok-node) left.change left.leads right.change right.leads
     key.value key.change key.content c.args.value value.value
-    (subst (λ k. IsChanged current c.write_value.new.heap d (c.in_ok-node.node + (16 + k)) g.V.Plain.SIZE) c.SIZE-3.ensures value.change)
-    (subst (λ k. Has (bytes_of d.bytes) (c.in_ok-node.node + (16 + k)) (g.V.Plain.spelling c.args.value)) c.SIZE-3.ensures value.content)
+    (rw c.SIZE-3.ensures at value.change)
+    (rw c.SIZE-3.ensures at value.content)

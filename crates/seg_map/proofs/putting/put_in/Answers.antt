@@ -35,11 +35,11 @@ overflow_add-count g c =
 pub write_head-requires : goal.write_head-requires
 write_head-requires g c =
     let r = c.requires.there in let w = c.args.heap.now in let u = c.link-top.ensures.change in
-    let live = sym (live_put (kl g) w r.map c.link-root.ensures r.loose r.is u) in
+    let live = live_put (kl g) w r.map c.link-root.ensures r.loose r.is u in
     record {
       aligned = r.map.aligned;
-      proper = subst (λ l. IsTrue (is_proper l)) live r.map.heap.proper;
-      room = subst (λ l. IsTrue (has_room l c.args.handle (c.args.at + 24))) live r.map.room;
+      proper = rw live r.map.heap.proper;
+      room = rw live r.map.room;
       root = top_put (kl g) w r.map c.link-root.ensures r.loose r.is u;
     }
 

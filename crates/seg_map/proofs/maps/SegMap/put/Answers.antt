@@ -20,15 +20,13 @@ vl g = let m = g.met.V.Plain in laws_of g.V.Plain m.spells m.reads m.irreflexive
 
 pub write_value-requires : goal.write_value-requires
 write_value-requires g c =
-    let ps = c.requires.0 in let s = c.requires.1 in let live = live_of c.args.heap.now.bytes in
+    let ps = c.requires.0 in let s = c.requires.1 in
     let k = key_at_node c.find_in-trace.ensures.found s c.in-Some.is in
-    subst (λ n. IsTrue (has_room live n (16 + c.SIZE.result + g.V.Plain.SIZE))) k.at
-    (subst (λ z. IsTrue (has_room live (handle k.pair.node) (16 + z + g.V.Plain.SIZE))) (sym c.SIZE.ensures)
-    (value_room c.args.heap.now s c.args.key k.is))
+    rw (← k.at, c.SIZE.ensures) (value_room c.args.heap.now s c.args.key k.is)
 
 pub returns-in-Some-clause-put : goal.returns-in-Some-clause-put
 returns-in-Some-clause-put g c = λ ps s.
-    let w = c.args.heap.now in let d = c.write_value.new.heap in let written = c.write_value.ensures in
+    let w = c.args.heap.now in let written = c.write_value.ensures in
     let k = key_at_node c.find_in-trace.ensures.found s c.in-Some.is in
     let place : c.in-Some.node + (16 + c.SIZE.result) ≡ handle k.pair.node + (16 + g.K.Plain.SIZE) =
     (λ i. sym k.at i + (16 + c.SIZE.ensures i)) in
@@ -36,8 +34,8 @@ returns-in-Some-clause-put g c = λ ps s.
     rw k.is (
       refl,
       is_put_again w s c.args.key k.is (kl g) (vl g) g.met.K.Plain.total c.args.value one written.value
-          (subst (λ a. IsChanged current w d a g.V.Plain.SIZE) place written.change)
-          (subst (λ a. Has (bytes_of d.bytes) a (g.V.Plain.spelling c.args.value)) place written.content),
+          (rw place at written.change)
+          (rw place at written.content),
     )
 
 pub put_in-requires : goal.put_in-requires

@@ -89,6 +89,13 @@ other_block {c} {d} live h g {x} k f o =
 
 -- ---- lists of pairs
 
+-- all are pairs of a map, and the bytes of each are there
+abbrev pub AreIn : {K V : Type 0} → Plain K → Plain V → LiveSet → ℕ → List (Pair K V) → Type 0
+AreIn kp vp live h = AllByRecursion (IsPairIn kp vp live h)
+
+abbrev pub AreAt : {K V : Type 0} → Plain K → Plain V → Memory → List (Pair K V) → Type 0
+AreAt kp vp m = AllByRecursion (IsPairAt kp.SIZE kp.spelling vp.spelling m)
+
 -- the keys are those of the pairs
 abbrev pub HaveKeys : {K V : Type 0} → (ℕ → Option K) → List (Pair K V) → Type 0
 HaveKeys {K} {V} keys ps = AllByRecursion (λ (p : Pair K V). keys (pair_node p) ≡ Some p.key) ps
@@ -155,54 +162,51 @@ module _ {K V : Type 0} {kp : Plain K} {vp : Plain V} (laws : Laws kp) (c : Cut)
   abbrev keys_in : ℕ → Option K
   keys_in = key_of (value_of kp) kp.SIZE (nodes_of s.map.tree.tree) c
 
-  pub proper : IsTrue (is_proper (live_of c.bytes))
-  proper = s.heap.proper
-
-  pub listed : nodes_of s.map.tree.tree ≡ nodes_of_pairs ps
+  pub listed : ns ≡ nodes_of_pairs ps
   listed = s.map.tree.lists
 
   pub pair_in : (p : Pair K V) → IsPairIn kp vp (live_of c.bytes) h p → In p.node (live_of c.bytes).extents
   pair_in p i = found_in (live_of c.bytes).extents (handle p.node) p.node i.listed
 
-  pub pair_block : (p : Pair K V) → IsPairIn kp vp (live_of c.bytes) h p → is_block_in (16 + kp.SIZE) (live_of c.bytes) (pair_node p) ≡ true
+  pub pair_block : (p : Pair K V) → IsPairIn kp vp (live_of c.bytes) h p → is_block_in len (live_of c.bytes) (pair_node p) ≡ true
   pair_block p i =
       let q = pair_parts i in let long = q.long in
-      any_at (λ (x : Extent). (handle x == pair_node p) && serves x Node (16 + kp.SIZE)) (live_of c.bytes).extents p.node (pair_in p i)
+      any_at (λ (x : Extent). (handle x == pair_node p) && serves x Node len) (live_of c.bytes).extents p.node (pair_in p i)
       (rw (eq-eqb (handle p.node) (pair_node p) refl, q.role, le-leb (16 + kp.SIZE + 16) p.node.len (omega arith)) refl)
 
-  pub good : Good (16 + kp.SIZE) (nodes_of s.map.tree.tree) c
+  pub good : Good len ns c
   good =
       record {
         proper = s.heap.proper;
-        blocks = rw listed (pairs_all (is_block_in (16 + kp.SIZE) (live_of c.bytes)) (IsPairIn kp vp (live_of c.bytes) h) ps pair_block s.pairs);
+        blocks = rw listed (pairs_all (is_block_in len (live_of c.bytes)) (IsPairIn kp vp (live_of c.bytes) h) ps pair_block s.pairs);
         links = all_from (links_among (bytes_of c.bytes) ns) ns (λ m i.
             let k = holds_closed (cells_of (bytes_of c.bytes)) t m s.map.tree.linked.holds i in
             rw (k.left, k.right) refl);
       }
 
-  pub node_here : (n : ℕ) → is_in n (nodes_of s.map.tree.tree) ≡ true → is_pair_node (16 + kp.SIZE) (nodes_of s.map.tree.tree) c n ≡ true
+  pub node_here : (n : ℕ) → is_in n ns ≡ true → is_pair_node len ns c n ≡ true
   node_here n i = PairNode-is_pair_node len ns c n (record { good = good; listed = i })
 
-  key_read : (p : Pair K V) → is_in (pair_node p) (nodes_of s.map.tree.tree) ≡ true → IsPairIn kp vp (live_of c.bytes) h p → IsPairAt kp.SIZE kp.spelling vp.spelling (bytes_of c.bytes) p
-      → key_of (value_of kp) kp.SIZE (nodes_of s.map.tree.tree) c (pair_node p) ≡ Some p.key
+  key_read : (p : Pair K V) → is_in (pair_node p) ns ≡ true → IsPairIn kp vp (live_of c.bytes) h p → IsPairAt kp.SIZE kp.spelling vp.spelling (bytes_of c.bytes) p
+      → keys_in (pair_node p) ≡ Some p.key
   unfolding key_of key_at
   key_read p i k b =
       rw (node_here (pair_node p) i) (read_spelled kp laws (bytes_of c.bytes) (handle p.node + 16) p.key (pair_parts k).key b.0)
 
-  keys_from : (qs : List (Pair K V)) → list_all (λ n. is_in n (nodes_of s.map.tree.tree)) (nodes_of_pairs qs) ≡ true → AllByRecursion (IsPairIn kp vp (live_of c.bytes) h) qs
-      → AllByRecursion (IsPairAt kp.SIZE kp.spelling vp.spelling (bytes_of c.bytes)) qs → HaveKeys (key_of (value_of kp) kp.SIZE (nodes_of s.map.tree.tree) c) qs
+  keys_from : (qs : List (Pair K V)) → list_all (λ n. is_in n ns) (nodes_of_pairs qs) ≡ true → AreIn kp vp (live_of c.bytes) h qs
+      → AreAt kp vp (bytes_of c.bytes) qs → HaveKeys keys_in qs
   keys_from [] i k b = tt
   keys_from (q ∷ qs) i k b =
       let two = and_parts _ _ i in
       (key_read q two.0 k.0 b.0, keys_from qs two.1 k.1 b.1)
 
-  pub keys : HaveKeys (key_of (value_of kp) kp.SIZE (nodes_of s.map.tree.tree) c) ps
+  pub keys : HaveKeys keys_in ps
   keys = keys_from ps (all_from (λ n. is_in n ns) (nodes_of_pairs ps) (λ m i. ap (λ ms. is_in m ms) listed ∙ i)) s.pairs s.map.pairs
 
-  pub ordered : rises (comes_before kp.order (key_of (value_of kp) kp.SIZE (nodes_of s.map.tree.tree) c)) (nodes_of s.map.tree.tree) ≡ true
+  pub ordered : rises (comes_before kp.order keys_in) ns ≡ true
   ordered = ap (rises (comes_before kp.order keys_in)) listed ∙ rising_nodes kp.order laws.transitive keys_in ps keys s.rising
 
-  pub search_tree : IsSearchTree (comes_before kp.order (key_of (value_of kp) kp.SIZE (nodes_of s.map.tree.tree) c)) (pair_cells (16 + kp.SIZE) (nodes_of s.map.tree.tree) c) (link_at (bytes_of c.bytes) (h + at)) s.map.tree.tree
+  pub search_tree : IsSearchTree (comes_before kp.order keys_in) (pair_cells len ns c) (link_at (bytes_of c.bytes) (h + at)) s.map.tree.tree
   search_tree =
       record {
         tree = tree_same (cells_of (bytes_of c.bytes)) (pair_cells len ns c) (link_at (bytes_of c.bytes) (h + at)) t (λ m i. cells_at len ns c m (node_here m i)) s.map.tree.linked;
@@ -210,35 +214,35 @@ module _ {K V : Type 0} {kp : Plain K} {vp : Plain V} (laws : Laws kp) (c : Cut)
         red_black = s.map.tree.red_black;
       }
 
-  pub few_pairs : length (nodes_of s.map.tree.tree) ≤ 2 ^ 30
+  pub few_pairs : length ns ≤ 2 ^ 30
   few_pairs =
       let xs = (live_of c.bytes).extents in
       let l = tree_limit (comes_before kp.order keys_in) (comes_transitive kp.order laws.transitive keys_in) (comes_irreflexive kp.order laws.irreflexive keys_in) (map handle xs) t ordered (λ m i.
       let b = node_block len ns c m (record { good = good; listed = i }) in in_handles xs b.extent m b.listed b.at) in
       let f = few_extents (live_of c.bytes) s.heap.proper in let e = handles_length xs in omega arith
 
-  pub own : own_nodes c.bytes (link_at (bytes_of c.bytes) (h + at)) None ≡ nodes_of s.map.tree.tree
+  pub own : own_nodes c.bytes (link_at (bytes_of c.bytes) (h + at)) None ≡ ns
   unfolding own_nodes
   own =
       let few = few_pairs in
       let tall = bounds_height t s.map.tree.red_black in let most = bits_most (length ns) (omega arith) in
       ap nodes_in (reads_off.whole 82 (λ n. true) (cells_of (bytes_of c.bytes)) (link_at (bytes_of c.bytes) (h + at)) t s.map.tree.linked (all_from (λ n. true) ns (λ m i. refl)) (omega arith))
 
-  pub root_leads : leads (is_pair_node (16 + kp.SIZE) (nodes_of s.map.tree.tree) c) (link_at (bytes_of c.bytes) (h + at)) ≡ true
+  pub root_leads : leads (is_pair_node len ns c) (link_at (bytes_of c.bytes) (h + at)) ≡ true
   root_leads = by_root (link_at (bytes_of c.bytes) (h + at)) s.map.tree.linked
     where
-      by_root : (o : Option ℕ) → IsTree (cells_of (bytes_of c.bytes)) o s.map.tree.tree → leads (is_pair_node (16 + kp.SIZE) (nodes_of s.map.tree.tree) c) o ≡ true
+      by_root : (o : Option ℕ) → IsTree (cells_of (bytes_of c.bytes)) o s.map.tree.tree → leads (is_pair_node len ns c) o ≡ true
       by_root None k = refl
       by_root (Some n) k = node_here n (root_in (cells_of (bytes_of c.bytes)) n t k)
 
-  pub found_pair : (past : Bool) (key : K) → first_not (stands_before kp.order (key_of (value_of kp) kp.SIZE (nodes_of s.map.tree.tree) c) past key) (nodes_of s.map.tree.tree) ≡ option_map pair_node (first_pair kp.order past key ps)
+  pub found_pair : (past : Bool) (key : K) → first_not (stands_before kp.order keys_in past key) ns ≡ option_map pair_node (first_pair kp.order past key ps)
   found_pair past key = ap (first_not (stands_before kp.order keys_in past key)) listed ∙ first_node kp.order keys_in past key ps keys
 
-  pub found_back : (past : Bool) (key : K) → last_before (stands_before kp.order (key_of (value_of kp) kp.SIZE (nodes_of s.map.tree.tree) c) past key) (nodes_of s.map.tree.tree) ≡ option_map pair_node (last_pair kp.order past key ps)
+  pub found_back : (past : Bool) (key : K) → last_before (stands_before kp.order keys_in past key) ns ≡ option_map pair_node (last_pair kp.order past key ps)
   found_back past key = ap (last_before (stands_before kp.order keys_in past key)) listed ∙ last_node kp.order keys_in past key ps keys
 
-  pub found_last : last_or None (nodes_of s.map.tree.tree) ≡ option_map pair_node (final_pair ps)
+  pub found_last : last_or None ns ≡ option_map pair_node (final_pair ps)
   found_last = let none : Option ℕ = None in ap (last_or none) listed ∙ last_mapped pair_node None ps
 
-  pub count_pairs : length (nodes_of s.map.tree.tree) ≡ length ps
+  pub count_pairs : length ns ≡ length ps
   count_pairs = ap length listed ∙ length-nodes ps

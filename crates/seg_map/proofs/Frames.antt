@@ -7,7 +7,7 @@ use Rattle.link_tree.specs.Nodes.{is_in}
 use Rattle.best_fit.specs.Extents.{Extent, LiveSet, handle, end_of}
 use Rattle.best_fit.specs.Heap.{Keeps, SameBlock, is_live_in, live_of}
 use Rattle.seg_map.specs.PairNodes.{Kept, is_kept, is_link_byte, is_other, kept_of, lies_in_block}
-use Rattle.seg_map.specs.PairLaws.{Good, In, PairNode}
+use Rattle.seg_map.specs.PairLaws.{Good, In, PairNode, node_place}
 use Rattle.seg_map.proofs.PairSteps.{any_at, block_apart}
 
 -- the live set is kept
@@ -37,39 +37,34 @@ of_node (n ∷ ns) k h =
       | inr e ↦ let r = of_node ns k e in record { node = r.node; listed = or_right (r.node == n) (is_in r.node ns) r.listed; low = r.low; high = r.high }
     ]
 
--- a block in use that is no node
-pub record IsOther (ns : List ℕ) (live : LiveSet) (x : Extent) : Type 0 where
-  pub listed : In x live.extents
-  pub no_node : is_in (handle x) ns ≡ false
-
 module _ {len : ℕ} {ns : List ℕ} {c : Cut} (d : Cut) (good : Good len ns c) (same : kept_of ns d ≡ kept_of ns c)
     (long : 16 ≤ len) where
-  pub kept_live : live_of d.bytes ≡ live_of c.bytes
-  unfolding kept_of
-  kept_live = ap (λ (k : Kept). k.live) same
-
-  pub kept_place : SamePlace c d
+  kept_place : SamePlace c d
   unfolding kept_of
   kept_place = record { before = ap (λ (k : Kept). k.before) same; after = ap (λ (k : Kept). k.after) same }
 
-  pub kept_byte : (k : ℕ) → is_kept ns (live_of c.bytes) k ≡ true → bytes_of d.bytes k ≡ bytes_of c.bytes k
+  kept_byte : (k : ℕ) → is_kept ns (live_of c.bytes) k ≡ true → bytes_of d.bytes k ≡ bytes_of c.bytes k
   unfolding kept_of
-  kept_byte k t = let e = ap (λ (r : Kept). r.byte k) same in rw (kept_live, t) at e
+  kept_byte k t = let e = ap (λ (r : Kept). r.byte k) same in rw (live_stays c d ns ns same, t) at e
 
   kept_colour : (h : ℕ) → is_other ns (live_of c.bytes) h ≡ true → word_at (bytes_of d.bytes) (h - 8) % 16 ≡ word_at (bytes_of c.bytes) (h - 8) % 16
   unfolding kept_of
-  kept_colour h t = let e = ap (λ (r : Kept). r.colour h) same in rw (kept_live, t) at e
+  kept_colour h t = let e = ap (λ (r : Kept). r.colour h) same in rw (live_stays c d ns ns same, t) at e
 
-  pub no_link : (k : ℕ) → ((n : ℕ) → is_in n ns ≡ true → (k < n) ⊎ (n + 16 ≤ k)) → is_link_byte ns k ≡ false
+  no_link : (k : ℕ) → ((n : ℕ) → is_in n ns ≡ true → (k < n) ⊎ (n + 16 ≤ k)) → is_link_byte ns k ≡ false
   no_link k off = elim (cases_Bool (is_link_byte ns k)) [
     | inl t ↦ let o = of_node ns k t in let low = o.low in let high = o.high in absurd (elim (off o.node o.listed) [ inl l ↦ omega arith | inr l ↦ omega arith ])
     | inr f ↦ f
   ]
 
   -- a header byte but word 24 stays
-  pub kept_header : (k : ℕ) → (k < 24) ⊎ ((32 ≤ k) × (k < 128)) → ((n : ℕ) → is_in n ns ≡ true → 144 ≤ n) → bytes_of d.bytes k ≡ bytes_of c.bytes k
-  kept_header k place low =
-      kept_byte k (rw (here place, ap not (no_link k (λ n i. let l = low n i in inl (below place n l)))) refl)
+  kept_header : (k : ℕ) → (k < 24) ⊎ ((32 ≤ k) × (k < 128)) → bytes_of d.bytes k ≡ bytes_of c.bytes k
+  kept_header k place =
+      kept_byte k (rw (
+        here place,
+        ap not (no_link k (λ n i.
+            let l = (node_place len ns c n (record { good = good; listed = i })).low in inl (below place n l))),
+      ) refl)
     where
       here : (k < 24) ⊎ ((32 ≤ k) × (k < 128)) → (nat_lt k 24 || (nat_le 32 k && nat_lt k 128) || lies_in_block (live_of c.bytes) k) ≡ true
       here (inl l) = or_left (nat_lt k 24 || (nat_le 32 k && nat_lt k 128)) (lies_in_block (live_of c.bytes) k) (or_left (nat_lt k 24) (nat_le 32 k && nat_lt k 128) (lt-ltb k 24 l))
@@ -81,37 +76,45 @@ module _ {len : ℕ} {ns : List ℕ} {c : Cut} (d : Cut) (good : Good len ns c) 
       below (inl l) n low' = omega arith
       below (inr p) n low' = let l = p.1 in omega arith
 
+  -- a byte in the payload of a block stays, but for links of nodes
+  pub kept_inside : (x : Extent) → In x (live_of c.bytes).extents → (k : ℕ) → handle x ≤ k → k < end_of x
+      → ((n : ℕ) → is_in n ns ≡ true → (k < n) ⊎ (n + 16 ≤ k)) → bytes_of d.bytes k ≡ bytes_of c.bytes k
+  kept_inside x i k low high off =
+      kept_byte k (rw (
+        or_right (nat_lt k 24 || (nat_le 32 k && nat_lt k 128)) (lies_in_block (live_of c.bytes) k)
+            (any_at (λ (y : Extent). nat_le (handle y) k && nat_lt k (end_of y)) (live_of c.bytes).extents x i
+            (rw (le-leb (handle x) k low, lt-ltb k (end_of x) high) refl)),
+        ap not (no_link k off),
+      ) refl)
+
   -- a block that is no node stays
-  pub kept_block : (x : Extent) → IsOther ns (live_of c.bytes) x → SameBlock (bytes_of c.bytes) (bytes_of d.bytes) x
-  kept_block x o =
+  pub kept_block : (x : Extent) → In x (live_of c.bytes).extents → is_in (handle x) ns ≡ false
+      → SameBlock (bytes_of c.bytes) (bytes_of d.bytes) x
+  kept_block x i o =
       let w : x.offset + 16 - 8 ≡ x.offset + 8 = omega arith in
       record {
-        payload = record {
-          at = λ k low high.
-              kept_byte k (rw (or_right (nat_lt k 24 || (nat_le 32 k && nat_lt k 128)) (lies_in_block (live_of c.bytes) k) (any_at (λ (y : Extent). nat_le (handle y) k && nat_lt k (end_of y)) (live_of c.bytes).extents x o.listed (and_from (nat_le (handle x) k) (nat_lt k (end_of x)) (le-leb (handle x) k low) (lt-ltb k (end_of x) high))), ap not (no_link k (λ n i. apart n i k low high))) refl);
-        };
-        colour = subst (λ a. word_at (bytes_of d.bytes) a % 16 ≡ word_at (bytes_of c.bytes) a % 16) w
-            (kept_colour (handle x) (rw (any_at (λ (y : Extent). handle y == handle x) (live_of c.bytes).extents x o.listed (eq-eqb (handle x) (handle x) refl), ap not o.no_node) refl));
+        payload = record { at = λ k low high. kept_inside x i k low high (λ n j. apart n j k low high) };
+        colour = rw w at (kept_colour (handle x) (rw (
+          any_at (λ (y : Extent). handle y == handle x) (live_of c.bytes).extents x i
+              (eq-eqb (handle x) (handle x) refl),
+          ap not o,
+        ) refl));
       }
     where
       apart : (n : ℕ) → is_in n ns ≡ true → (k : ℕ) → handle x ≤ k → k < end_of x → (k < n) ⊎ (n + 16 ≤ k)
-      apart n i k low high =
-          let q : PairNode len ns c n = record { good = good; listed = i } in
-          elim (block_apart x q o.listed (λ e. both_ways (is_in (handle x) ns) o.no_node (ap (λ m. is_in m ns) e ∙ i))) [
+      apart n j k low high =
+          let q : PairNode len ns c n = record { good = good; listed = j } in
+          elim (block_apart x q i (λ e. both_ways (is_in (handle x) ns) o (ap (λ m. is_in m ns) e ∙ j))) [
             | inl l ↦ inl (omega arith)
             | inr l ↦ inr (omega arith)
           ]
 
-  pub kept_blocks : (xs : List Extent) → AllByRecursion (IsOther ns (live_of c.bytes)) xs → AllByRecursion (SameBlock (bytes_of c.bytes) (bytes_of d.bytes)) xs
-  kept_blocks [] a = tt
-  kept_blocks (x ∷ xs) a = (kept_block x a.0, kept_blocks xs a.1)
-
-  -- all blocks but the nodes stay, and the header but word 24
-  pub kept_keeps : (xs : List Extent) → AllByRecursion (IsOther ns (live_of c.bytes)) xs → ((n : ℕ) → is_in n ns ≡ true → 144 ≤ n) → Keeps c d xs
-  kept_keeps xs a low =
+  -- the header but word 24 stays, and what lies round the window
+  pub kept_keeps : Keeps c d []
+  kept_keeps =
       record {
         place = kept_place;
-        front = record { at = λ k l h. kept_header k (inl h) low };
-        behind = record { at = λ k l h. kept_header k (inr (l, h)) low };
-        blocks = kept_blocks xs a;
+        front = record { at = λ k l h. kept_header k (inl h) };
+        behind = record { at = λ k l h. kept_header k (inr (l, h)) };
+        blocks = tt;
       }

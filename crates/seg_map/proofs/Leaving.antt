@@ -22,7 +22,7 @@ use Rattle.seg_map.specs.PairLaws.{Good, In}
 use Rattle.seg_map.specs.Linking.{CanUnlink, IsKeyTree, Unlinked, keys_in}
 use Rattle.seg_map.specs.Changing.{IsBesideMap, IsErased, IsHeaded, IsTaken}
 use Rattle.seg_map.specs.Searches.{exit_in}
-use Rattle.seg_map.proofs.Entering.{Laws, count_pairs, found_in, good, keys, listed, other_block}
+use Rattle.seg_map.proofs.Entering.{AreIn, Laws, count_pairs, found_in, good, keys, listed, other_block}
 use Rattle.seg_map.proofs.Searching.{lent_own, lent_tree}
 use Rattle.seg_map.proofs.PairLists.{in_nodes, none_left, not_among, other_nodes, removed_all, removed_length, removed_rising, without_nodes}
 use Rattle.seg_map.proofs.PairSteps.{any_at, target_whole}
@@ -31,10 +31,10 @@ use Rattle.seg_map.proofs.Staying.{Still, at_node, map_stays}
 use Rattle.seg_map.proofs.Frames.{live_stays}
 
 -- the object's block is no node
-pub apart_all : {K V : Type 0} (kp : Plain K) (vp : Plain V) (live : LiveSet) (h : ℕ) (ps : List (Pair K V)) → AllByRecursion (IsPairIn kp vp live h) ps → is_in h (nodes_of_pairs ps) ≡ false
+pub apart_all : {K V : Type 0} (kp : Plain K) (vp : Plain V) (live : LiveSet) (h : ℕ) (ps : List (Pair K V)) → AreIn kp vp live h ps → is_in h (nodes_of_pairs ps) ≡ false
 apart_all {K} {V} kp vp live h ps a = not_among h ps (differ ps a)
   where
-    differ : (qs : List (Pair K V)) → AllByRecursion (IsPairIn kp vp live h) qs → AllByRecursion (λ p. pair_node p ≢ h) qs
+    differ : (qs : List (Pair K V)) → AreIn kp vp live h qs → AllByRecursion (λ p. pair_node p ≢ h) qs
     differ [] b = tt
     differ (q ∷ qs) b = (b.0.apart, differ qs b.1)
 
@@ -124,7 +124,7 @@ module _ {K V : Type 0} {kp : Plain K} {vp : Plain V} (kl : Laws kp) (vl : Laws 
   other : h ≢ node
   other e' = both_ways (is_in h (nodes_of_pairs ps)) (apart_all kp vp (live_of c.bytes) h ps s.pairs) (ap (λ n. is_in n (nodes_of_pairs ps)) (e' ∙ sym here) ∙ in_nodes kp.order ps key p has)
 
-  stills : (qs : List (Pair K V)) → AllByRecursion (IsPairIn kp vp (live_of e.bytes) h) qs → AllByRecursion (λ q. pair_node q ≢ node) qs → AllByRecursion (λ (q : Pair K V). Still e f q.node) qs
+  stills : (qs : List (Pair K V)) → AreIn kp vp (live_of e.bytes) h qs → AllByRecursion (λ q. pair_node q ≢ node) qs → AllByRecursion (λ (q : Pair K V). Still e f q.node) qs
   stills [] a o = tt
   stills (q ∷ qs) a o = (
     record {

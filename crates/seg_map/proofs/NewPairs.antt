@@ -26,7 +26,7 @@ use Rattle.seg_map.specs.Linking.{keys_in}
 use Rattle.seg_map.specs.Searches.{entry_in}
 use Rattle.seg_map.specs.Changing.{IsLoose, IsMade, IsPlanted, IsPut}
 use Rattle.seg_map.proofs.Beginnings.{keys_agree, known}
-use Rattle.seg_map.proofs.Entering.{Laws, found_in, keys}
+use Rattle.seg_map.proofs.Entering.{AreIn, Laws, found_in, keys}
 use Rattle.seg_map.proofs.PairLists.{not_among}
 use Rattle.seg_map.proofs.PairSteps.{all_in}
 use Rattle.seg_map.proofs.Staying.{Still, map_stays}
@@ -54,11 +54,11 @@ module _ {K V : Type 0} {kp : Plain K} {vp : Plain V} (kl : Laws kp) (vl : Laws 
   still_there y f =
       rw live_d (found-more (handle y) x y (live_of c.bytes).extents (λ e. differs_at y (found_in (live_of c.bytes).extents (handle y) y f) (sym e)) f)
 
-  stills : (qs : List (Pair K V)) → AllByRecursion (IsPairIn kp vp (live_of c.bytes) h) qs → AllByRecursion (λ (q : Pair K V). Still c d q.node) qs
+  stills : (qs : List (Pair K V)) → AreIn kp vp (live_of c.bytes) h qs → AllByRecursion (λ (q : Pair K V). Still c d q.node) qs
   stills [] a = tt
   stills (q ∷ qs) a = (record { found = still_there q.node a.0.listed; same = kept q.node (found_in (live_of c.bytes).extents (handle q.node) q.node a.0.listed) }, stills qs a.1)
 
-  others_differ : (qs : List (Pair K V)) → AllByRecursion (IsPairIn kp vp (live_of c.bytes) h) qs → AllByRecursion (λ (q : Pair K V). pair_node q ≢ handle m.block.extent) qs
+  others_differ : (qs : List (Pair K V)) → AreIn kp vp (live_of c.bytes) h qs → AllByRecursion (λ (q : Pair K V). pair_node q ≢ handle m.block.extent) qs
   others_differ [] a = tt
   others_differ (q ∷ qs) a = (differs_at q.node (found_in (live_of c.bytes).extents (handle q.node) q.node a.0.listed), others_differ qs a.1)
 

@@ -23,7 +23,7 @@ use Rattle.seg_map.specs.Places.{HoldsMap, IsPairIn, nodes_of_pairs, pair_node}
 use Rattle.seg_map.specs.PairLaws.{PairNode, node_place}
 use Rattle.seg_map.specs.Linking.{keys_in}
 use Rattle.seg_map.specs.Changing.{IsPutAgain}
-use Rattle.seg_map.proofs.Entering.{HaveKeys, Laws, good, keys, length-nodes, other_block, pair_parts}
+use Rattle.seg_map.proofs.Entering.{AreAt, AreIn, HaveKeys, Laws, good, keys, length-nodes, other_block, pair_parts}
 use Rattle.seg_map.proofs.PairLists.{in_nodes}
 use Rattle.seg_map.proofs.PutLists.{neither_parts, pair_of, replaced_all, replaced_nodes, replaced_rising}
 use Rattle.seg_map.proofs.Staying.{at_node, block_cells, lengths, pair_stays}
@@ -85,7 +85,7 @@ module _ {K V : Type 0} {kp : Plain K} {vp : Plain V} (c : Cut) {h at : ℕ} {ps
       bytes : IsPairAt kp.SIZE kp.spelling vp.spelling (bytes_of c.bytes) q
       key_is : keys_in kp (nodes_of s.map.tree.tree) c (pair_node q) ≡ Some q.key
 
-    all_were : (qs : List (Pair K V)) → AllByRecursion (IsPairIn kp vp (live_of c.bytes) h) qs → AllByRecursion (IsPairAt kp.SIZE kp.spelling vp.spelling (bytes_of c.bytes)) qs
+    all_were : (qs : List (Pair K V)) → AreIn kp vp (live_of c.bytes) h qs → AreAt kp vp (bytes_of c.bytes) qs
         → HaveKeys (keys_in kp (nodes_of s.map.tree.tree) c) qs → AllByRecursion Was qs
     all_were [] a b k = tt
     all_were (q ∷ qs) a b k = (record { block = a.0; bytes = b.0; key_is = k.0 }, all_were qs a.1 b.1 k.1)

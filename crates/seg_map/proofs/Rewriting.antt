@@ -22,9 +22,9 @@ use Rattle.seg_map.specs.PairNodes.{is_link_byte, is_pair_node, kept_of, lies_in
 use Rattle.seg_map.specs.PairLaws.{Good, In, cells_at, PairNode, PairNode-is_pair_node, is_pair_node-PairNode, node_place}
 use Rattle.seg_map.specs.Linking.{IsKeyTree}
 use Rattle.seg_map.specs.Changing.{IsBesideMap, IsHeaded}
-use Rattle.seg_map.proofs.Entering.{Laws, found_in, other_block, pair_parts}
+use Rattle.seg_map.proofs.Entering.{AreAt, AreIn, Laws, found_in, other_block, pair_parts}
 use Rattle.seg_map.proofs.PairSteps.{all_in, any_at, block_apart}
-use Rattle.seg_map.proofs.Frames.{kept_block, kept_byte, kept_keeps, live_stays, no_link}
+use Rattle.seg_map.proofs.Frames.{kept_block, kept_inside, kept_keeps, live_stays}
 use Rattle.seg_map.proofs.Staying.{at_node, block_cells, lengths, pair_stays}
 
 module _ {K V : Type 0} {kp : Plain K} {vp : Plain V} (kl : Laws kp) (vl : Laws vp) {c d e : Cut} (h at : ℕ) {ns : List ℕ}
@@ -48,11 +48,8 @@ module _ {K V : Type 0} {kp : Plain K} {vp : Plain V} (kl : Laws kp) (vl : Laws 
       → SameBlock (bytes_of d.bytes) (bytes_of e.bytes) x
   block_stays x f o = other_block (live_of d.bytes) h (handle x) others_stay (rw live_d f) o
 
-  low : (m : ℕ) → is_in m ns ≡ true → 144 ≤ m
-  low m i = (node_place (16 + kp.SIZE) ns c m (record { good = good; listed = i })).low
-
   rest_kept : Keeps c d []
-  rest_kept = kept_keeps d good kept (omega arith) [] tt low
+  rest_kept = kept_keeps d good kept (omega arith)
 
   pub beside : IsBesideMap c e (h + at) ns
   beside =
@@ -64,7 +61,7 @@ module _ {K V : Type 0} {kp : Plain K} {vp : Plain V} (kl : Laws kp) (vl : Laws 
         behind = Same-trans (bytes_of c.bytes) (bytes_of d.bytes) (bytes_of e.bytes) 32 128 rest_kept.behind others_stay.behind;
         blocks = λ x f o.
             let i = found_in (live_of c.bytes).extents (handle x) x f in
-            let p = kept_block d good kept (omega arith) x (record { listed = i; no_node = o }) in
+            let p = kept_block d good kept (omega arith) x i o in
             let q = all_in (SameBlockBut (bytes_of d.bytes) (bytes_of e.bytes) (h + at) 24) (live_of c.bytes).extents x written i in
             (but-trans (bytes_of c.bytes) (bytes_of d.bytes) (bytes_of e.bytes) (h + at) 24 (x ∷ []) (p, tt) (q, tt)).0;
       }
@@ -88,7 +85,8 @@ module _ {K V : Type 0} {kp : Plain K} {vp : Plain V} (kl : Laws kp) (vl : Laws 
       let long = (pair_parts i).long in let same = block_stays x i.listed i.apart in
       record {
         at = λ k from to. same.payload.at k (omega arith) (omega arith)
-            ∙ kept_byte d good kept (omega arith) k (rw (or_right (nat_lt k 24 || (nat_le 32 k && nat_lt k 128)) (lies_in_block (live_of c.bytes) k) (any_at (λ (y : Extent). nat_le (handle y) k && nat_lt k (end_of y)) (live_of c.bytes).extents x listed (and_from (nat_le (handle x) k) (nat_lt k (end_of x)) (le-leb (handle x) k (omega arith)) (lt-ltb k (end_of x) (omega arith)))), ap not (no_link d good kept (omega arith) k (λ m j. apart k from (omega arith) m j (cases_eq (handle x) m)))) refl);
+            ∙ kept_inside d good kept (omega arith) x listed k (omega arith) (omega arith)
+            (λ m j. apart k from (omega arith) m j (cases_eq (handle x) m));
       }
     where
       apart : (k : ℕ) → handle p.node + 16 ≤ k → k < end_of p.node → (m : ℕ) → is_in m ns ≡ true → (handle p.node ≡ m) ⊎ (handle p.node ≡ m → ⊥) → (k < m) ⊎ (m + 16 ≤ k)
@@ -100,12 +98,12 @@ module _ {K V : Type 0} {kp : Plain K} {vp : Plain V} (kl : Laws kp) (vl : Laws 
             | inr l ↦ inr (omega arith)
           ]
 
-  pairs_at : (qs : List (Pair K V)) → AllByRecursion (IsPairIn kp vp (live_of c.bytes) h) qs → AllByRecursion (IsPairAt kp.SIZE kp.spelling vp.spelling (bytes_of c.bytes)) qs → AllByRecursion (IsPairAt kp.SIZE kp.spelling vp.spelling (bytes_of e.bytes)) qs
+  pairs_at : (qs : List (Pair K V)) → AreIn kp vp (live_of c.bytes) h qs → AreAt kp vp (bytes_of c.bytes) qs → AreAt kp vp (bytes_of e.bytes) qs
   pairs_at [] a b = tt
   pairs_at (q ∷ qs) a b =
       (pair_stays (bytes_of c.bytes) (bytes_of e.bytes) (lengths kl vl a.0) (pair_kept q a.0) b.0, pairs_at qs a.1 b.1)
 
-  module _ (qs : List (Pair K V)) {t : Tree} (k : IsKeyTree kp ns d top t) (lists : nodes_of t ≡ nodes_of_pairs qs) (pairs : AllByRecursion (IsPairIn kp vp (live_of c.bytes) h) qs)
+  module _ (qs : List (Pair K V)) {t : Tree} (k : IsKeyTree kp ns d top t) (lists : nodes_of t ≡ nodes_of_pairs qs) (pairs : AreIn kp vp (live_of c.bytes) h qs)
       (own : (m : ℕ) → is_in m (nodes_of_pairs qs) ≡ true → is_in m ns ≡ true) where
     tree_cells : (m : ℕ) → is_in m (nodes_of t) ≡ true → cells_of (bytes_of e.bytes) m ≡ pair_cells (16 + kp.SIZE) ns d m
     tree_cells m i =
@@ -117,7 +115,7 @@ module _ {K V : Type 0} {kp : Plain K} {vp : Plain V} (kl : Laws kp) (vl : Laws 
         ∙ sym (cells_at (16 + kp.SIZE) ns d m (node_d t k m i (own m j)))
 
     -- the map has the pairs of the tree
-    pub rewritten : at % 8 ≡ 0 → is_rising kp.order qs ≡ true → AllByRecursion (IsPairAt kp.SIZE kp.spelling vp.spelling (bytes_of c.bytes)) qs → n ≡ length qs → HoldsMap kp vp e.bytes h at qs
+    pub rewritten : at % 8 ≡ 0 → is_rising kp.order qs ≡ true → AreAt kp vp (bytes_of c.bytes) qs → n ≡ length qs → HoldsMap kp vp e.bytes h at qs
     rewritten whole rising bytes count =
         record {
           heap = laid-heap e.bytes (live_of d.bytes) head.change.live;

@@ -17,7 +17,7 @@ use Rattle.seg_map.specs.Map.{Pair, IsPairAt, is_rising, pair_at}
 use Rattle.seg_map.specs.PairNodes.{both, comes_before, own_nodes, pair_cells, stands_before}
 use Rattle.seg_map.specs.Places.{HoldsMap, IsPairIn, IsSomeMap, SearchSteps, final_pair, first_pair, is_passed, item_of, last_pair, pair_node, value_of_pair}
 use Rattle.seg_map.specs.Searches.{FindsExit, IsOpened, IsRead, LooksFor, LooksUp, entry_in, exit_in, item_at, last_path, node_with, path_in, reading_steps}
-use Rattle.seg_map.proofs.Entering.{HaveKeys, Laws, count_pairs, found_back, found_last, found_pair, keys, own, pair_parts, read_spelled, root_leads, search_tree, value_of}
+use Rattle.seg_map.proofs.Entering.{AreAt, AreIn, HaveKeys, Laws, count_pairs, found_back, found_last, found_pair, keys, own, pair_parts, read_spelled, root_leads, search_tree, value_of}
 use Rattle.seg_map.proofs.FoundLists.{all_reversed}
 use Rattle.seg_map.proofs.FoundPairs.{by_key, pair_by_key}
 
@@ -48,8 +48,8 @@ module _ {K V : Type 0} {kp : Plain K} {vp : Plain V} (kl : Laws kp) (vl : Laws 
         room = found-room (live_of c.bytes) (pair_node p) (16 + kp.SIZE + vp.SIZE) p.node i.listed q.long;
       }
 
-  read_pairs : (by : ℕ → Option K) (ps : List (Pair K V)) → AllByRecursion (IsPairIn kp vp (live_of c.bytes) h) ps
-      → AllByRecursion (IsPairAt kp.SIZE kp.spelling vp.spelling (bytes_of c.bytes)) ps → HaveKeys by ps
+  read_pairs : (by : ℕ → Option K) (ps : List (Pair K V)) → AreIn kp vp (live_of c.bytes) h ps
+      → AreAt kp vp (bytes_of c.bytes) ps → HaveKeys by ps
       → AllByRecursion (IsRead kp vp c by) ps
   read_pairs by [] i b k = tt
   read_pairs by (p ∷ ps) i b k = (read_pair by p i.0 b.0 k.0, read_pairs by ps i.1 b.1 k.1)

@@ -19,7 +19,7 @@ use Rattle.best_fit.proofs.Laws.{cell_stays}
 use Rattle.seg_types.specs.declared.plain.Plain.{Ghosts as Plain}
 use Rattle.seg_map.specs.Map.{Pair, IsPairAt}
 use Rattle.seg_map.specs.Places.{HoldsMap, IsPairIn, nodes_of_pairs, pair_node}
-use Rattle.seg_map.proofs.Entering.{Laws, pair_parts}
+use Rattle.seg_map.proofs.Entering.{AreAt, AreIn, Laws, pair_parts}
 use Rattle.seg_map.proofs.PairSteps.{same_red}
 
 -- the fields of a node in a block that stays
@@ -74,17 +74,17 @@ module _ {K V : Type 0} {kp : Plain K} {vp : Plain V} (kl : Laws kp) (vl : Laws 
     {ps : List (Pair K V)} (s : HoldsMap kp vp c.bytes h at ps) (heap : IsHeap current e.bytes)
     (room : IsTrue (has_room (live_of e.bytes) h (at + 24))) (words : Same (bytes_of c.bytes) (bytes_of e.bytes) (h + at) (h + at + 24))
     (blocks : AllByRecursion (λ (p : Pair K V). Still c e p.node) ps) where
-  pub pairs_in : (qs : List (Pair K V)) → AllByRecursion (IsPairIn kp vp (live_of c.bytes) h) qs → AllByRecursion (λ (p : Pair K V). Still c e p.node) qs → AllByRecursion (IsPairIn kp vp (live_of e.bytes) h) qs
+  pub pairs_in : (qs : List (Pair K V)) → AreIn kp vp (live_of c.bytes) h qs → AllByRecursion (λ (p : Pair K V). Still c e p.node) qs → AreIn kp vp (live_of e.bytes) h qs
   pairs_in [] a f = tt
   pairs_in (q ∷ qs) a f = (record { good = a.0.good; listed = f.0.found; apart = a.0.apart }, pairs_in qs a.1 f.1)
 
-  pub pairs_at : (qs : List (Pair K V)) → AllByRecursion (IsPairIn kp vp (live_of c.bytes) h) qs → AllByRecursion (IsPairAt kp.SIZE kp.spelling vp.spelling (bytes_of c.bytes)) qs → AllByRecursion (λ (p : Pair K V). Still c e p.node) qs → AllByRecursion (IsPairAt kp.SIZE kp.spelling vp.spelling (bytes_of e.bytes)) qs
+  pub pairs_at : (qs : List (Pair K V)) → AreIn kp vp (live_of c.bytes) h qs → AreAt kp vp (bytes_of c.bytes) qs → AllByRecursion (λ (p : Pair K V). Still c e p.node) qs → AreAt kp vp (bytes_of e.bytes) qs
   pairs_at [] a b f = tt
   pairs_at (q ∷ qs) a b f =
       let long = (pair_parts a.0).long in let same = f.0.same in
       (pair_stays (bytes_of c.bytes) (bytes_of e.bytes) (lengths kl vl a.0) (record { at = λ k low high. same.payload.at k (omega arith) (omega arith) }) b.0, pairs_at qs a.1 b.1 f.1)
 
-  with_blocks : (qs : List (Pair K V)) → AllByRecursion (IsPairIn kp vp (live_of c.bytes) h) qs → AllByRecursion (λ (p : Pair K V). Still c e p.node) qs → AllByRecursion (λ (p : Pair K V). IsPairIn kp vp (live_of c.bytes) h p × Still c e p.node) qs
+  with_blocks : (qs : List (Pair K V)) → AreIn kp vp (live_of c.bytes) h qs → AllByRecursion (λ (p : Pair K V). Still c e p.node) qs → AllByRecursion (λ (p : Pair K V). IsPairIn kp vp (live_of c.bytes) h p × Still c e p.node) qs
   with_blocks [] a f = tt
   with_blocks (q ∷ qs) a f = ((a.0, f.0), with_blocks qs a.1 f.1)
 

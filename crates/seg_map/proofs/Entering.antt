@@ -1,9 +1,9 @@
 -- The pairs of a map as a search tree.
-use Rattle.std.proofs.Common.{◌≡◌, refl, sym, ap, subst, ◌∙◌, ℕ, suc, ◌+◌, ◌^◌, ◌≤◌, ◌≢◌, ◌⊎◌, inl, inr, Bool, true, false, ◌&&◌, not, List, [], ◌∷◌, length, map, arith, ◌==◌, IsTrue}
+use Rattle.std.proofs.Common.{◌≡◌, refl, sym, ap, ◌∙◌, ℕ, suc, ◌+◌, ◌^◌, ◌≤◌, ◌≢◌, inl, inr, Bool, true, false, ◌&&◌, not, List, [], ◌∷◌, length, map, arith, ◌==◌}
 use Rattle.std.specs.Prelude.{Option, Some, None, find, option_map}
 use Rattle.std.specs.List.{AllByRecursion, last_or, list_all}
 use mathlib.Core.List.{reverse}
-use Rattle.std.proofs.lemmas.Bool.{and_parts, and_from, cases_Bool, cond-true, cond-false, eq-eqb, le-leb, leb-true}
+use Rattle.std.proofs.lemmas.Bool.{and_parts, cases_Bool, eq-eqb, le-leb, leb-true}
 use Rattle.raw_region.specs.Memory.{Memory, Has, bytes_of, read}
 use Rattle.raw_region.specs.Memory.{Cut}
 use Rattle.block_tags.specs.declared.tile.Role.TheVariants.{Node}
@@ -11,7 +11,7 @@ use Rattle.offset_link.specs.Link.{link_at}
 use Rattle.link_tree.specs.Tree.{Tree, IsTree, IsSearchTree, nodes_of, rises}
 use Rattle.link_tree.specs.Nodes.{first_not, is_in, last_before, leads}
 use Rattle.link_tree.proofs.Laws.{above_more, all_from, bits_most, bounds_height, reads_off, root_in, tree_limit, tree_same}
-use Rattle.best_fit.specs.Extents.{Extent, LiveSet, handle, holds, is_proper}
+use Rattle.best_fit.specs.Extents.{Extent, LiveSet, handle}
 use Rattle.best_fit.specs.FreeTree.{cells_of}
 use Rattle.best_fit.specs.Fit.{others}
 use Rattle.best_fit.specs.Heap.{Keeps, SameBlock, extent_at, live_of}

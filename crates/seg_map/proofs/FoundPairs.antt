@@ -1,7 +1,7 @@
 -- The pair of a key in a list of pairs.
 use Rattle.std.proofs.Common.{◌≡◌, refl, ap, inl, inr, Bool, true, false, ◌||◌, not, List, [], ◌∷◌}
 use Rattle.std.specs.Prelude.{Option, Some, None, if◌then◌else◌}
-use Rattle.std.proofs.lemmas.Bool.{false≢true, and_parts, cases_Bool}
+use Rattle.std.proofs.lemmas.Bool.{and_parts, cases_Bool}
 use Rattle.seg_map.specs.Map.{Pair, is_rising, pair_at}
 use Rattle.seg_map.specs.Places.{first_pair}
 

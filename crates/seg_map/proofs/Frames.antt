@@ -1,11 +1,10 @@
 -- What stays where a tree call changes the links and the colours of nodes alone.
-use Rattle.std.proofs.Common.{◌≡◌, refl, sym, ap, subst, ◌∙◌, ℕ, ◌+◌, ◌-◌, ◌%◌, ◌<◌, ◌≤◌, ◌⊎◌, inl, inr, true, false, ◌&&◌, ◌||◌, not, List, [], ◌∷◌, arith, nat_lt, nat_le, ◌==◌}
-use Rattle.std.specs.List.{AllByRecursion}
-use Rattle.std.proofs.lemmas.Bool.{false≢true, both_ways, cases_Bool, and_parts, and_from, or_cases, or_left, or_right, eq-eqb, leb-true, le-leb, ltb-true, lt-ltb, cond-true}
+use Rattle.std.proofs.Common.{◌≡◌, refl, ap, ◌∙◌, ℕ, ◌+◌, ◌-◌, ◌%◌, ◌<◌, ◌≤◌, ◌⊎◌, inl, inr, true, false, ◌&&◌, ◌||◌, not, List, [], ◌∷◌, arith, nat_lt, nat_le, ◌==◌}
+use Rattle.std.proofs.lemmas.Bool.{false≢true, both_ways, cases_Bool, and_parts, or_cases, or_left, or_right, eq-eqb, leb-true, le-leb, ltb-true, lt-ltb}
 use Rattle.raw_region.specs.Memory.{Cut, SamePlace, bytes_of, word_at}
 use Rattle.link_tree.specs.Nodes.{is_in}
-use Rattle.best_fit.specs.Extents.{Extent, LiveSet, handle, end_of}
-use Rattle.best_fit.specs.Heap.{Keeps, SameBlock, is_live_in, live_of}
+use Rattle.best_fit.specs.Extents.{Extent, handle, end_of}
+use Rattle.best_fit.specs.Heap.{Keeps, SameBlock, live_of}
 use Rattle.seg_map.specs.PairNodes.{Kept, is_kept, is_link_byte, is_other, kept_of, lies_in_block}
 use Rattle.seg_map.specs.PairLaws.{Good, In, PairNode, node_place}
 use Rattle.seg_map.proofs.PairSteps.{any_at, block_apart}

@@ -1,5 +1,5 @@
 -- The three words of a map are written.
-use Rattle.std.proofs.Common.{◌≡◌, refl, sym, subst, ◌∙◌, ℕ, ◌+◌, ◌%◌, inl, arith, IsTrue}
+use Rattle.std.proofs.Common.{◌≡◌, refl, subst, ◌∙◌, ℕ, ◌+◌, ◌%◌, inl, arith, IsTrue}
 use Rattle.std.specs.Prelude.{Option, None}
 use Rattle.raw_region.specs.Format.{current}
 use Rattle.raw_region.specs.Memory.{Cut, bytes_of, word_at}

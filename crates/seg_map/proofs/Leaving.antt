@@ -1,5 +1,5 @@
 -- A pair leaves the map.
-use Rattle.std.proofs.Common.{◌≡◌, refl, sym, ap, subst, ◌∙◌, ℕ, ◌+◌, ◌*◌, ◌%◌, ◌≤◌, ◌≢◌, inl, inr, Bool, true, false, List, [], ◌∷◌, length, arith, ◌==◌, IsTrue}
+use Rattle.std.proofs.Common.{◌≡◌, refl, sym, ap, subst, ◌∙◌, ℕ, ◌+◌, ◌*◌, ◌%◌, ◌≤◌, ◌≢◌, inl, inr, true, false, List, [], ◌∷◌, length, arith, ◌==◌, IsTrue}
 use Rattle.std.specs.Prelude.{Option, Some, None, IfSome}
 use Rattle.std.specs.List.{AllByRecursion}
 use Rattle.std.proofs.lemmas.Bool.{both_ways, eqb-true, eq-eqb, false≢true, or_cases, or_left, or_right}
@@ -9,16 +9,15 @@ use Rattle.raw_region.proofs.Laws.{SamePlace-trans, Same-trans}
 use Rattle.offset_link.specs.Link.{link_at}
 use Rattle.link_tree.specs.Tree.{bits, nodes_of}
 use Rattle.link_tree.specs.Nodes.{is_in, without}
-use Rattle.link_tree.specs.Ways.{exit_of}
 use Rattle.best_fit.specs.Extents.{Extent, LiveSet, handle}
-use Rattle.best_fit.specs.Fit.{others, released}
-use Rattle.best_fit.specs.Heap.{IsReleased, LaysOut, SameBlock, extent_at, has_room, is_live_in, live_of}
+use Rattle.best_fit.specs.Fit.{released}
+use Rattle.best_fit.specs.Heap.{IsReleased, LaysOut, is_live_in, live_of}
 use Rattle.best_fit.proofs.Laws.{found-less, found-room, laid-heap, lay_out_one, released-live, roomy}
 use Rattle.seg_types.specs.declared.plain.Plain.{Ghosts as Plain}
 use Rattle.seg_map.specs.Map.{Pair, IsPairAt, pair_at, remove_pair}
 use Rattle.seg_map.specs.Places.{HoldsMap, IsPairIn, nodes_of_pairs, pair_node}
-use Rattle.seg_map.specs.PairNodes.{comes_before, own_nodes}
-use Rattle.seg_map.specs.PairLaws.{Good, In}
+use Rattle.seg_map.specs.PairNodes.{own_nodes}
+use Rattle.seg_map.specs.PairLaws.{Good}
 use Rattle.seg_map.specs.Linking.{CanUnlink, IsKeyTree, Unlinked, keys_in}
 use Rattle.seg_map.specs.Changing.{IsBesideMap, IsErased, IsHeaded, IsTaken}
 use Rattle.seg_map.specs.Searches.{exit_in}

@@ -1,8 +1,8 @@
 -- A new pair: its node is made, and enters the map.
-use Rattle.std.proofs.Common.{◌≡◌, refl, sym, ap, subst, ◌∙◌, ℕ, ◌+◌, ◌≢◌, Bool, true, false, ◌&&◌, ◌||◌, List, [], ◌∷◌, arith}
+use Rattle.std.proofs.Common.{◌≡◌, refl, sym, ap, subst, ◌∙◌, ℕ, ◌+◌, ◌≢◌, Bool, false, ◌||◌, List, [], ◌∷◌, arith}
 use Rattle.std.specs.Prelude.{Option, Some, None, IfSome}
 use Rattle.std.specs.List.{AllByRecursion}
-use Rattle.std.proofs.lemmas.Bool.{and_from, ne_eqb}
+use Rattle.std.proofs.lemmas.Bool.{ne_eqb}
 use Rattle.raw_region.specs.Format.{current}
 use Rattle.raw_region.specs.Memory.{Cut, Has, bytes_of}
 use Rattle.raw_region.proofs.Laws.{SamePlace-trans, Same-trans}
@@ -15,11 +15,10 @@ use Rattle.link_tree.proofs.Laws.{entry_same}
 use Rattle.best_fit.specs.Extents.{Extent, handle}
 use Rattle.best_fit.specs.Fit.{added}
 use Rattle.best_fit.specs.Heap.{LaysOut, SameBlock, extent_at, live_of}
-use Rattle.best_fit.specs.Table.{serves}
 use Rattle.best_fit.proofs.Laws.{Differs, allocated-live, allocated-room_before, found-more, found-new, laid-heap, live-rises, place-serves, rising-insert, roomy}
 use Rattle.seg_types.specs.declared.plain.Plain.{Ghosts as Plain}
 use Rattle.seg_map.specs.Map.{Pair, node_len, pair_at}
-use Rattle.seg_map.specs.Places.{HoldsMap, IsPairIn, nodes_of_pairs, pair_node}
+use Rattle.seg_map.specs.Places.{HoldsMap, nodes_of_pairs, pair_node}
 use Rattle.seg_map.specs.PairLaws.{In}
 use Rattle.seg_map.specs.PairNodes.{stands, stands_before}
 use Rattle.seg_map.specs.Linking.{keys_in}

@@ -1,12 +1,11 @@
 -- Another value is written over that of a key.
-use Rattle.std.proofs.Common.{◌≡◌, refl, sym, ap, subst, ◌∙◌, ℕ, ◌+◌, ◌≢◌, ◌⊎◌, inl, inr, true, false, ◌&&◌, List, [], ◌∷◌, length, arith, IsTrue}
+use Rattle.std.proofs.Common.{◌≡◌, refl, sym, ap, subst, ◌∙◌, ℕ, ◌+◌, ◌≢◌, ◌⊎◌, inl, inr, true, false, List, [], ◌∷◌, length, arith, IsTrue}
 use Rattle.std.specs.Prelude.{Option, Some}
 use Rattle.std.specs.List.{AllByRecursion}
-use Rattle.std.proofs.lemmas.Bool.{both_ways, and_parts, and_from, cases_eq}
+use Rattle.std.proofs.lemmas.Bool.{both_ways, cases_eq}
 use Rattle.raw_region.specs.Format.{current}
 use Rattle.raw_region.specs.Memory.{Cut, Has, Same, bytes_of}
 use Rattle.raw_region.proofs.Laws.{Has-same, Same-word, SameBut-Same}
-use Rattle.block_tags.specs.declared.tile.Role.TheVariants.{Node}
 use Rattle.offset_link.proofs.Laws.{Same-link}
 use Rattle.link_tree.specs.Tree.{nodes_of}
 use Rattle.link_tree.specs.Nodes.{is_in}
@@ -15,10 +14,9 @@ use Rattle.best_fit.specs.Extents.{Extent, handle}
 use Rattle.best_fit.specs.Fit.{others}
 use Rattle.best_fit.specs.FreeTree.{cells_of}
 use Rattle.best_fit.specs.Heap.{IsChanged, Keeps, SameBlock, extent_at, has_room, live_of}
-use Rattle.best_fit.specs.Table.{serves}
 use Rattle.best_fit.proofs.Laws.{beside_cell, changed-keeps, changed-live, changed-room, found-room, laid-heap, roomy}
 use Rattle.seg_types.specs.declared.plain.Plain.{Ghosts as Plain}
-use Rattle.seg_map.specs.Map.{Pair, IsPairAt, node_len, pair_at, put_pair}
+use Rattle.seg_map.specs.Map.{Pair, IsPairAt, pair_at, put_pair}
 use Rattle.seg_map.specs.Places.{HoldsMap, IsPairIn, nodes_of_pairs, pair_node}
 use Rattle.seg_map.specs.PairLaws.{PairNode, node_place}
 use Rattle.seg_map.specs.Linking.{keys_in}

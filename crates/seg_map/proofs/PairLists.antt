@@ -1,8 +1,8 @@
 -- Pairs that are put and removed, and their nodes.
-use Rattle.std.proofs.Common.{◌≡◌, refl, sym, ap, subst, ◌∙◌, ℕ, suc, ◌≢◌, inl, inr, Bool, true, false, ◌||◌, List, [], ◌∷◌, length, nat_eq, ◌==◌}
-use Rattle.std.specs.Prelude.{Option, Some, None}
+use Rattle.std.proofs.Common.{◌≡◌, refl, sym, ap, ◌∙◌, ℕ, suc, ◌≢◌, inl, inr, Bool, true, false, ◌||◌, List, [], ◌∷◌, length, nat_eq, ◌==◌}
+use Rattle.std.specs.Prelude.{Option, Some}
 use Rattle.std.specs.List.{AllByRecursion}
-use Rattle.std.proofs.lemmas.Bool.{both_ways, cases_Bool, and_parts, and_from, or_left, or_right, or_parts, cond-true, cond-false, eq-eqb, ne_eqb}
+use Rattle.std.proofs.lemmas.Bool.{both_ways, cases_Bool, and_parts, or_left, or_right, or_parts, eq-eqb, ne_eqb}
 use Rattle.link_tree.specs.Nodes.{is_in, without}
 use Rattle.link_tree.proofs.Laws.{without_none}
 use Rattle.seg_map.specs.Map.{Pair, is_key, is_rising, pair_at, remove_pair}

@@ -1,9 +1,9 @@
 -- One field of one node changes.
-use Rattle.std.proofs.Common.{◌≡◌, refl, sym, ap, subst, ◌∙◌, ℕ, ◌+◌, ◌-◌, ◌%◌, ◌/◌, ◌<◌, ◌≤◌, ◌⊎◌, inl, inr, Bool, true, false, ◌&&◌, ◌||◌, not, List, [], ◌∷◌, arith, nat_lt, nat_le, ◌==◌, IsTrue}
+use Rattle.std.proofs.Common.{◌≡◌, refl, sym, ap, subst, ◌∙◌, ℕ, ◌+◌, ◌-◌, ◌%◌, ◌/◌, ◌<◌, ◌≤◌, ◌⊎◌, inl, inr, Bool, true, false, ◌&&◌, not, List, [], ◌∷◌, arith, nat_lt, nat_le, ◌==◌, IsTrue}
 use Rattle.std.proofs.Math.Nat.{le_refl, le_trans, lt_of_lt_of_le}
 use Rattle.std.specs.Prelude.{Option, Some, None, IfSome, if◌then◌else◌}
-use Rattle.std.specs.List.{AllByRecursion, list_all, list_any}
-use Rattle.std.proofs.lemmas.Bool.{false≢true, both_ways, cases_Bool, cases_eq, cases_lt, and_parts, and_from, or_cases, or_left, or_right, eqb-true, eq-eqb, ne_eqb, leb-true, le-leb, ltb-true, lt-ltb, cond-true, cond-false}
+use Rattle.std.specs.List.{AllByRecursion, list_any}
+use Rattle.std.proofs.lemmas.Bool.{false≢true, both_ways, cases_Bool, cases_eq, cases_lt, and_parts, or_cases, or_left, or_right, eqb-true, eq-eqb, ne_eqb, leb-true, le-leb, ltb-true, lt-ltb}
 use Rattle.raw_region.specs.Memory.{Cut, Same, SamePlace, bytes_of, read, word_at}
 use Rattle.raw_region.specs.Format.{current}
 use Rattle.raw_region.proofs.Laws.{Same-read, SameBut-Same, SameBut-word}
@@ -17,7 +17,7 @@ use Rattle.best_fit.specs.Fit.{others}
 use Rattle.best_fit.specs.FreeTree.{cells_of, is_red}
 use Rattle.best_fit.specs.Heap.{IsChanged, IsRecoloured, SameBlock, is_live_in, is_node_in, is_node_role, has_room, live_of}
 use Rattle.best_fit.proofs.Laws.{beside_cell, cell_stays, is_proper-IsProper, lay_out_one, others-here, others-past}
-use Rattle.seg_map.specs.PairNodes.{comes_before, is_block_in, is_good, is_kept, is_link_byte, is_other, is_pair_node, kept_of, key_at, key_of, lies_in_block, links_among, pair_cells, stands_before}
+use Rattle.seg_map.specs.PairNodes.{is_good, is_kept, is_link_byte, is_other, is_pair_node, kept_of, key_at, key_of, links_among, pair_cells}
 use Rattle.seg_map.specs.PairLaws.{Good, Good-is_good, In, PairNode, PairNode-is_pair_node, Place, cells_at, cells_off, disjoint, is_pair_node-PairNode, lies, link_parts, links_at, node_block, node_place}
 
 -- what a setter does to the window

@@ -1,8 +1,8 @@
 -- Bytes of a block that are read.
-use Rattle.std.proofs.Common.{◌≡◌, refl, sym, ap, ◌∙◌, ℕ, ◌+◌, ◌-◌, ◌≤◌, ◌⊎◌, inl, inr, true, false, ◌&&◌, List, [], ◌∷◌, length, take, drop, arith, ◌==◌, IsTrue}
+use Rattle.std.proofs.Common.{◌≡◌, refl, sym, ap, ◌∙◌, ℕ, ◌+◌, ◌-◌, ◌≤◌, inl, inr, true, ◌&&◌, List, [], ◌∷◌, length, take, drop, arith, ◌==◌, IsTrue}
 use Rattle.std.specs.Prelude.{Option, Some, None, find}
 use Rattle.std.specs.List.{list_any}
-use Rattle.std.proofs.lemmas.Bool.{false≢true, cases_Bool, and_parts, or_cases, eqb-true, eq-eqb, leb-true, cond-true, cond-false}
+use Rattle.std.proofs.lemmas.Bool.{false≢true, cases_Bool, and_parts, or_cases, eqb-true, eq-eqb, leb-true}
 use Rattle.raw_region.specs.Memory.{bytes_of, part, read}
 use Rattle.raw_region.proofs.Laws.{length-part, part-part, read-part}
 use Rattle.best_fit.specs.Extents.{Extent, handle, holds, is_proper}

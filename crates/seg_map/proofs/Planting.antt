@@ -2,11 +2,11 @@
 use Rattle.std.proofs.Common.{◌≡◌, refl, sym, ap, subst, ◌∙◌, ℕ, ◌+◌, ◌*◌, ◌%◌, ◌≤◌, inl, inr, true, false, not, ◌&&◌, List, [], ◌∷◌, length, arith, ◌==◌}
 use Rattle.std.specs.Prelude.{Option, Some, None, IfSome}
 use Rattle.std.specs.List.{list_all}
-use Rattle.std.proofs.lemmas.Bool.{and_parts, and_from, cond-true, eqb-true, eq-eqb, or_cases, or_left, or_right}
+use Rattle.std.proofs.lemmas.Bool.{and_parts, eqb-true, eq-eqb, or_cases, or_left, or_right}
 use Rattle.raw_region.specs.Format.{current}
 use Rattle.raw_region.specs.Memory.{Cut, bytes_of}
 use Rattle.offset_link.specs.Link.{link_at}
-use Rattle.link_tree.specs.Tree.{IsTree, Tree, bits, nodes_of, rises}
+use Rattle.link_tree.specs.Tree.{IsTree, bits, nodes_of, rises}
 use Rattle.link_tree.specs.Nodes.{has_place, is_in, leads, put}
 use Rattle.link_tree.specs.Ways.{entry_of}
 use Rattle.link_tree.proofs.Laws.{all_at, all_from, entry_same, root_in, tree_same}
@@ -16,13 +16,13 @@ use Rattle.best_fit.specs.Heap.{LaysOut, live_of}
 use Rattle.seg_types.specs.declared.plain.Plain.{Ghosts as Plain}
 use Rattle.seg_map.specs.Map.{Pair, IsPairAt, put_pair}
 use Rattle.seg_map.specs.Places.{HoldsMap, IsPairIn, nodes_of_pairs, pair_node}
-use Rattle.seg_map.specs.PairNodes.{comes_before, is_block_in, is_pair_node, key_at, key_of, links_among, own_nodes, pair_cells, stands, stands_before}
+use Rattle.seg_map.specs.PairNodes.{comes_before, is_pair_node, key_at, key_of, links_among, own_nodes, pair_cells, stands, stands_before}
 use Rattle.seg_map.specs.PairLaws.{Good, PairNode-is_pair_node, cells_at}
 use Rattle.seg_map.specs.Linking.{CanLink, IsKeyTree, Linked, keys_in}
 use Rattle.seg_map.specs.Changing.{IsBesideMap, IsHeaded, IsLoose, IsPlanted}
 use Rattle.seg_map.specs.Searches.{entry_in}
 use Rattle.seg_map.proofs.Beginnings.{beside as not_beside, moved}
-use Rattle.seg_map.proofs.Entering.{HaveKeys, Laws, count_pairs, few_pairs, good, keys, listed, node_here, pair_block, pair_parts, read_spelled, rising_nodes, value_of}
+use Rattle.seg_map.proofs.Entering.{HaveKeys, Laws, count_pairs, few_pairs, good, keys, listed, node_here, pair_block, pair_parts, read_spelled, rising_nodes}
 use Rattle.seg_map.proofs.Searching.{lent_own}
 use Rattle.seg_map.proofs.PairSteps.{target_whole}
 use Rattle.seg_map.proofs.Rewriting.{beside, rewritten}

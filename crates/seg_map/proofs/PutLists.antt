@@ -1,8 +1,8 @@
 -- Pairs that are put, and their nodes.
 use Rattle.std.proofs.Common.{◌≡◌, refl, sym, ap, subst, ◌∙◌, ℕ, suc, ◌⊎◌, inl, inr, Bool, true, false, ◌||◌, not, List, [], ◌∷◌, length}
-use Rattle.std.specs.Prelude.{Option, Some, None, if◌then◌else◌}
+use Rattle.std.specs.Prelude.{Option, Some, None}
 use Rattle.std.specs.List.{AllByRecursion}
-use Rattle.std.proofs.lemmas.Bool.{false≢true, cases_Bool, and_from, cond-true, cond-false}
+use Rattle.std.proofs.lemmas.Bool.{false≢true, cases_Bool, and_from}
 use Rattle.link_tree.specs.Nodes.{has_place, put}
 use Rattle.seg_map.specs.Map.{Pair, is_key, is_rising, pair_at, put_pair}
 use Rattle.seg_map.specs.Places.{nodes_of_pairs, pair_node}

@@ -3,7 +3,7 @@ use Rattle.std.proofs.Common.{◌≡◌, refl, sym, ap, subst, ◌∙◌, ℕ, �
 use mathlib.Core.List.{reverse}
 use Rattle.std.specs.Prelude.{Option, Some, None, IfSome, find, option_and_then, option_map, if◌then◌else◌}
 use Rattle.std.specs.List.{AllByRecursion, last_or}
-use Rattle.raw_region.specs.Memory.{Cut, Memory, bytes_of, read}
+use Rattle.raw_region.specs.Memory.{Cut, bytes_of, read}
 use Rattle.offset_link.specs.Link.{link_at}
 use Rattle.link_tree.specs.Tree.{IsSearchTree, Tree, bits, nodes_of}
 use Rattle.link_tree.specs.Nodes.{first_not, last_before}

@@ -1,20 +1,18 @@
 -- A map whose blocks stay stays.
-use Rattle.std.proofs.Common.{◌≡◌, refl, sym, ap, subst, ◌∙◌, ℕ, ◌+◌, ◌-◌, ◌%◌, ◌≤◌, inl, inr, true, ◌&&◌, List, [], ◌∷◌, length, arith, ◌==◌, IsTrue}
+use Rattle.std.proofs.Common.{◌≡◌, sym, ap, subst, ◌∙◌, ℕ, ◌+◌, ◌-◌, ◌%◌, ◌≤◌, inl, inr, true, List, [], ◌∷◌, length, arith, IsTrue}
 use Rattle.std.specs.Prelude.{Some}
 use Rattle.std.specs.List.{AllByRecursion}
-use Rattle.std.proofs.lemmas.Bool.{false≢true, and_parts, or_cases, eqb-true, leb-true}
+use Rattle.std.proofs.lemmas.Bool.{false≢true, or_cases, eqb-true}
 use Rattle.raw_region.specs.Format.{current}
 use Rattle.raw_region.specs.Memory.{Memory, Cut, Same, bytes_of, word_at}
 use Rattle.raw_region.proofs.Laws.{Has-same, Same-word}
-use Rattle.block_tags.specs.declared.tile.Role.TheVariants.{Node}
 use Rattle.offset_link.proofs.Laws.{Same-link}
 use Rattle.link_tree.specs.Tree.{nodes_of}
 use Rattle.link_tree.specs.Nodes.{is_in}
 use Rattle.link_tree.proofs.Laws.{holds_same}
-use Rattle.best_fit.specs.Extents.{Extent, LiveSet, handle, end_of, holds}
+use Rattle.best_fit.specs.Extents.{Extent, LiveSet, handle, end_of}
 use Rattle.best_fit.specs.FreeTree.{cells_of}
 use Rattle.best_fit.specs.Heap.{IsHeap, SameBlock, extent_at, has_room, live_of}
-use Rattle.best_fit.specs.Table.{same_role, serves}
 use Rattle.best_fit.proofs.Laws.{cell_stays}
 use Rattle.seg_types.specs.declared.plain.Plain.{Ghosts as Plain}
 use Rattle.seg_map.specs.Map.{Pair, IsPairAt}

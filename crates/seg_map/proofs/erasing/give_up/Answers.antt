@@ -1,8 +1,4 @@
 -- The pair leaves the map, and its block is given back.
-use Rattle.std.proofs.Common.{sym, subst, IsTrue}
-use Rattle.best_fit.specs.Heap.{is_live_in, live_of}
-use Rattle.best_fit.proofs.Laws.{lay_out_one}
-use Rattle.raw_region.specs.Format.{current}
 use Rattle.seg_map.proofs.Entering.{laws_of}
 use Rattle.seg_map.proofs.Leaving.{erased, gone_live}
 use Rattle.seg_map.proofs.erasing.give_up.Goals as goal

@@ -1,7 +1,5 @@
 -- What the search has found is looked at once more.
-use Rattle.std.proofs.Common.{◌∙◌, ◌+◌, false, ap, arith}
-use Rattle.std.specs.Prelude.{IfSome}
-use Rattle.seg_map.specs.Searches.{reading_steps}
+use Rattle.std.proofs.Common.{false, arith}
 use Rattle.seg_map.proofs.Entering.{laws_of}
 use Rattle.seg_map.proofs.Searching.{exit_is, finds_first, key_room, looked_for}
 use Rattle.seg_map.proofs.finding.find_out.Goals as goal

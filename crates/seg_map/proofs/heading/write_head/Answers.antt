@@ -1,8 +1,7 @@
 -- Three words that follow each other.
-use Rattle.std.proofs.Common.{◌≡◌, subst, ◌+◌, arith}
+use Rattle.std.proofs.Common.{◌≡◌, ◌+◌, arith}
 use Rattle.raw_region.specs.Format.{current}
-use Rattle.raw_region.specs.Memory.{bytes_of, word_at}
-use Rattle.best_fit.specs.Heap.{IsChanged, live_of}
+use Rattle.best_fit.specs.Heap.{live_of}
 use Rattle.best_fit.proofs.Laws.{changed-room, room-less}
 use Rattle.seg_map.proofs.Heads.{headed}
 use Rattle.seg_map.proofs.Payloads.{small}

@@ -1,9 +1,7 @@
 -- The links, the key and the value are written one after another.
-use Rattle.std.proofs.Common.{sym, subst, ◌+◌, IsTrue}
 use Rattle.raw_region.specs.Format.{current}
-use Rattle.raw_region.specs.Memory.{Has, bytes_of}
 use Rattle.block_tags.specs.declared.tile.Role.TheVariants.{Node}
-use Rattle.best_fit.specs.Heap.{IsAllocated, IsChanged, has_room, live_of}
+use Rattle.best_fit.specs.Heap.{IsAllocated}
 use Rattle.seg_map.specs.Map.{node_len}
 use Rattle.seg_map.proofs.Entering.{Laws, laws_of}
 use Rattle.seg_map.proofs.Making.{made, room_key, room_left, room_right, room_value}

@@ -1,11 +1,9 @@
 -- The pair is found, leaves the map, and its block is given back.
-use Rattle.std.proofs.Common.{◌≡◌, refl, sym, ap, ◌∙◌, arith, true, false}
+use Rattle.std.proofs.Common.{◌≡◌, refl, ap, arith}
 use Rattle.std.specs.Prelude.{None}
 use Rattle.best_fit.specs.Heap.{heap_touches, live_of}
 use Rattle.best_fit.proofs.Laws.{lay_out_one}
 use Rattle.raw_region.specs.Format.{current}
-use Rattle.seg_map.specs.Map.{pair_at}
-use Rattle.seg_map.specs.Changing.{IsErased}
 use Rattle.seg_map.specs.Searches.{exit_in}
 use Rattle.seg_map.proofs.Beginnings.{begun}
 use Rattle.seg_map.proofs.Entering.{laws_of}

@@ -1,5 +1,5 @@
 -- The key of the node is read.
-use Rattle.std.proofs.Common.{ap, ◌∙◌, ◌+◌, arith}
+use Rattle.std.proofs.Common.{ap, ◌∙◌}
 use Rattle.seg_types.specs.Plain.{value_in}
 use Rattle.seg_map.specs.PairNodes.{stands}
 use Rattle.seg_map.proofs.PairSteps.{key_is, key_room}

@@ -2,13 +2,13 @@ mod Begun
 mod Changing
 mod Counting
 mod Entries
-mod Finding
 mod Grows
+mod Keeping
 pub mod Laws
+mod Links
 mod Narrowing
 mod Orders
 mod Requested
-mod Reserving
 mod Rooms
 mod Settling
 mod Shrinking

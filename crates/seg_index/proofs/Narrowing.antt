@@ -1,17 +1,20 @@
--- What a search knows of the keys before and behind those that are left.
-use Rattle.std.proofs.Common.{◌≡◌, sym, ap, ◌∙◌, ℕ, ◌+◌, ◌*◌, ◌<◌, ◌≤◌, ◌⊎◌, inl, inr, arith, subst}
+-- What a search knows of the keys before and behind those that are left, and of its comparisons.
+use Rattle.std.proofs.Common.{◌≡◌, refl, sym, ap, ◌∙◌, ℕ, ◌+◌, ◌-◌, ◌*◌, ◌<◌, ◌≤◌, inl, inr, arith, subst}
 use Rattle.std.specs.Prelude.{Some, Option, unwrap_or}
 use Rattle.std.proofs.lemmas.Bool.{cases_lt}
 use Rattle.std.specs.declared.cmp.Ordering.{Ordering}
-use Rattle.std.specs.declared.cmp.Ordering.TheVariants.{Less, Greater}
+use Rattle.std.specs.declared.cmp.Ordering.TheVariants.{Less, Equal, Greater}
 use Rattle.raw_region.specs.Memory.{Cut, Memory, bytes_of}
-use Rattle.offset_link.specs.Link.{link_at}
-use Rattle.seg_index.specs.declared.keys.Key.{Key}
+use Rattle.link_tree.specs.Tree.{bits}
 use Rattle.best_fit.specs.Heap.{live_of}
-use Rattle.seg_index.specs.Comparing.{HasEntry, order_at}
-use Rattle.seg_index.specs.Lookups.{AreKeys, KeysRise, Leads, order}
-use Rattle.seg_index.proofs.Orders.{less_before, greater_behind}
-use Rattle.seg_index.proofs.Rooms.{has_room-less}
+use Rattle.best_fit.proofs.Laws.{room-less}
+use Rattle.seg_index.specs.declared.keys.Key.{Key}
+use Rattle.seg_index.specs.declared.keys.Lookup.{Lookup}
+use Rattle.seg_index.specs.declared.keys.Lookup.TheVariants.{Absent, Found}
+use Rattle.seg_index.specs.Comparing.{HasEntry, comparisons_in, middle, order_at}
+use Rattle.seg_index.specs.Lookups.{AreKeys, IsPlaceIn, KeysRise, Leads, order}
+use Rattle.seg_index.proofs.Counting.{Counting, counting_start, counts_down, counts_found, counts_none, counts_up}
+use Rattle.seg_index.proofs.Orders.{bits_half, greater_behind, less_before}
 
 pub record Narrowed (c : Cut) (key : Key) (block count low high : ℕ) : Type 0 where
   pub rises : low ≤ high
@@ -21,111 +24,131 @@ pub record Narrowed (c : Cut) (key : Key) (block count low high : ℕ) : Type 0 
   pub behind : KeysRise (bytes_of c.bytes) block count key → (j h : ℕ) → high ≤ j → j < count
       → Leads (bytes_of c.bytes) block j h → order (bytes_of c.bytes) key h ≡ Greater
 
-pub narrowed_start : (c : Cut) (key : Key) (block count : ℕ) → Narrowed c key block count 0 count
-narrowed_start c key block count = record {
-  rises = omega arith;
-  within = omega arith;
-  before = λ r j h l e. absurd (omega arith);
-  behind = λ r j h l k e. absurd (omega arith);
-}
-
-same_handle : (g h : ℕ) (o : Option ℕ) → o ≡ Some g → o ≡ Some h → g ≡ h
-same_handle g h o a b = cc
-
-lt_or_eq : (j i : ℕ) → j < i + 1 → (j < i) ⊎ (j ≡ i)
-lt_or_eq j i l = elim (cases_lt j i) [ inl a ↦ inl a | inr b ↦ inr (omega arith) ]
-
-gt_or_eq : (j i : ℕ) → i ≤ j → (i < j) ⊎ (j ≡ i)
-gt_or_eq j i l = elim (cases_lt i j) [ inl a ↦ inl a | inr b ↦ inr (omega arith) ]
+-- a link leads to one handle, of which it is known how its key stands
+one_order : (m : Memory) (key : Key) (block i j h : ℕ) (x : Ordering) → j ≡ i → Leads m block j h
+    → order_at m key block i ≡ x → order m key h ≡ x
+one_order m key block i j h x q e is =
+    sym (ap (λ k. order_at m key block k) (sym q) ∙ ap (λ (o : Option ℕ). order m key (unwrap_or o 0)) e) ∙ is
 
 -- a key that stands before the one that is looked up, and so all before it do
-pub narrowed_up : (c : Cut) (key : Key) (block count low high mid at : ℕ) → Narrowed c key block count low high
-    → low ≤ mid → mid < high
-    → Leads (bytes_of c.bytes) block mid at → order (bytes_of c.bytes) key at ≡ Less
-    → Narrowed c key block count (mid + 1) high
-narrowed_up c key block count low high mid at n above below leads is = record {
-  rises = omega arith;
-  within = n.within;
-  before = λ r j h l e. by_case r j h e (lt_or_eq j mid l);
-  behind = n.behind;
-}
-  where
-    m : Memory
-    m = bytes_of c.bytes
+narrowed_up : {c : Cut} {key : Key} {block count low high : ℕ} (mid : ℕ) → AreKeys c block count key
+    → Narrowed c key block count low high → low ≤ mid → mid < high
+    → order_at (bytes_of c.bytes) key block mid ≡ Less → Narrowed c key block count (mid + 1) high
+narrowed_up {c} {key} {block} {count} {high = high} mid keys n above below is =
+    let m = bytes_of c.bytes in let w = n.within in let t = keys.target mid (omega arith) in
+    record {
+      rises = omega arith;
+      within = n.within;
+      before = λ r j h l e. elim (cases_lt j mid) [
+        | inl first ↦ less_before m key h t.0 (r.each j mid h t.0 first (omega arith) e t.1)
+            (one_order m key block mid mid t.0 Less refl t.1 is)
+        | inr last ↦ one_order m key block mid j h Less (omega arith) e is
+      ];
+      behind = n.behind;
+    }
 
-    by_case : KeysRise (bytes_of c.bytes) block count key → (j h : ℕ) → Leads (bytes_of c.bytes) block j h
-        → (j < mid) ⊎ (j ≡ mid) → order (bytes_of c.bytes) key h ≡ Less
-    by_case r j h e (inl l) = let w = n.within in
-        less_before (bytes_of c.bytes) key h at (r.each j mid h at l (omega arith) e leads) is
-    by_case r j h e (inr q) =
-        let same : h ≡ at = same_handle h at (link_at (bytes_of c.bytes) (block + 8 * mid))
-        (ap (λ k. link_at (bytes_of c.bytes) (block + 8 * k)) (sym q) ∙ e) leads in
-        ap (λ k. order (bytes_of c.bytes) key k) same ∙ is
+narrowed_down : {c : Cut} {key : Key} {block count low high : ℕ} (mid : ℕ) → AreKeys c block count key
+    → Narrowed c key block count low high → low ≤ mid → mid < high
+    → order_at (bytes_of c.bytes) key block mid ≡ Greater → Narrowed c key block count low mid
+narrowed_down {c} {key} {block} {count} mid keys n above below is =
+    let m = bytes_of c.bytes in let w = n.within in let t = keys.target mid (omega arith) in
+    record {
+      rises = above;
+      within = omega arith;
+      before = n.before;
+      behind = λ r j h l k e. elim (cases_lt mid j) [
+        | inl last ↦ greater_behind m key t.0 h (r.each mid j t.0 h last k t.1 e)
+            (one_order m key block mid mid t.0 Greater refl t.1 is)
+        | inr first ↦ one_order m key block mid j h Greater (omega arith) e is
+      ];
+    }
 
-pub narrowed_down : (c : Cut) (key : Key) (block count low high mid at : ℕ) → Narrowed c key block count low high
-    → low ≤ mid → mid < high
-    → Leads (bytes_of c.bytes) block mid at → order (bytes_of c.bytes) key at ≡ Greater
-    → Narrowed c key block count low mid
-narrowed_down c key block count low high mid at n above below leads is = record {
-  rises = above;
-  within = let w = n.within in omega arith;
-  before = n.before;
-  behind = λ r j h l k e. by_case r j h k e (gt_or_eq j mid l);
+-- ---- what is left of a search
+
+pub record IsLeft (c : Cut) (key : Key) (block count low high made : ℕ) : Type 0 where
+  pub narrowed : Narrowed c key block count low high
+  pub few : made + bits (high - low) ≤ bits count
+  pub counting : Counting (order_at (bytes_of c.bytes) key block) count low high made
+
+pub left_first : (c : Cut) (key : Key) (block count : ℕ) → IsLeft c key block count 0 count 0
+left_first c key block count = let all : count - 0 ≡ count = omega arith in record {
+  narrowed = record {
+    rises = omega arith;
+    within = omega arith;
+    before = λ r j h l e. absurd (omega arith);
+    behind = λ r j h l k e. absurd (omega arith);
+  };
+  few = omega (arith, ap bits all);
+  counting = counting_start (order_at (bytes_of c.bytes) key block) count;
 }
-  where
-    by_case : KeysRise (bytes_of c.bytes) block count key → (j h : ℕ) → j < count → Leads (bytes_of c.bytes) block j h
-        → (mid < j) ⊎ (j ≡ mid) → order (bytes_of c.bytes) key h ≡ Greater
-    by_case r j h k e (inl l) = greater_behind (bytes_of c.bytes) key at h (r.each mid j at h l k leads e) is
-    by_case r j h k e (inr q) =
-        let same : h ≡ at = same_handle h at (link_at (bytes_of c.bytes) (block + 8 * mid))
-        (ap (λ i. link_at (bytes_of c.bytes) (block + 8 * i)) (sym q) ∙ e) leads in
-        ap (λ i. order (bytes_of c.bytes) key i) same ∙ is
+
+pub left_up : {c : Cut} {key : Key} {block count low high made : ℕ} → AreKeys c block count key
+    → IsLeft c key block count low high made → low < high
+    → order_at (bytes_of c.bytes) key block (middle low high) ≡ Less
+    → IsLeft c key block count (middle low high + 1) high (made + 1)
+left_up {low = low} {high} keys i l is =
+    let half = bits_half (high - low) (high - (middle low high + 1)) (omega arith) (omega arith) in let few = i.few in
+    record {
+      narrowed = narrowed_up (middle low high) keys i.narrowed (omega arith) (omega arith) is;
+      few = omega arith;
+      counting = counts_up i.counting l is;
+    }
+
+pub left_down : {c : Cut} {key : Key} {block count low high made : ℕ} → AreKeys c block count key
+    → IsLeft c key block count low high made → low < high
+    → order_at (bytes_of c.bytes) key block (middle low high) ≡ Greater
+    → IsLeft c key block count low (middle low high) (made + 1)
+left_down {low = low} {high} keys i l is =
+    let half = bits_half (high - low) (middle low high - low) (omega arith) (omega arith) in let few = i.few in
+    record {
+      narrowed = narrowed_down (middle low high) keys i.narrowed (omega arith) (omega arith) is;
+      few = omega arith;
+      counting = counts_down i.counting l is;
+    }
+
+-- what a search answers
+pub record Answers (c : Cut) (key : Key) (block count made : ℕ) (r : Lookup) : Type 0 where
+  pub place : IsPlaceIn (bytes_of c.bytes) key block count r
+  pub few : made ≤ bits count
+  pub exact : made ≡ comparisons_in (bytes_of c.bytes) key block count
+
+pub left_found : {c : Cut} {key : Key} {block count low high made : ℕ} → IsLeft c key block count low high made
+    → low < high → order_at (bytes_of c.bytes) key block (middle low high) ≡ Equal
+    → Answers c key block count (made + 1) (Found (middle low high))
+left_found {c} {key} {block} {low = low} {high} i l is =
+    let half = bits_half (high - low) 0 (omega arith) (omega arith) in let few = i.few in
+    let within = i.narrowed.within in let mid = middle low high in
+    record {
+      place = (omega arith, λ h e. one_order (bytes_of c.bytes) key block mid mid h Equal refl e is);
+      few = omega arith;
+      exact = counts_found i.counting l is;
+    }
+
+pub left_none : {c : Cut} {key : Key} {block count low high made : ℕ} → IsLeft c key block count low high made
+    → high ≤ low → Answers c key block count made (Absent low)
+left_none i l =
+    let n = i.narrowed in let rises = n.rises in let within = n.within in let few = i.few in
+    record {
+      place = (omega arith, λ r j h k e. (λ f. n.before r j h f e, λ f. n.behind r j h (omega arith) k e));
+      few = omega arith;
+      exact = counts_none i.counting l;
+    }
 
 -- ---- the entry that is compared
 
-pub entry_of : (c : Cut) (key : Key) (block count i : ℕ) → AreKeys c block count key → i < count
+pub entry_of : {c : Cut} {key : Key} {block count : ℕ} (i : ℕ) → AreKeys c block count key → i < count
     → HasEntry c key block i
-entry_of c key block count i keys l =
+entry_of {c} {block = block} {count} i keys l =
     let t = keys.target i l in
     record {
-      room = has_room-less (live_of c.bytes) block (8 * i + 8) (8 * count) (omega arith) keys.room;
+      room = room-less (live_of c.bytes) block (8 * count) (8 * i + 8) (omega arith) keys.room;
       handle = t.0;
       leads = t.1;
       keyed = keys.keyed i t.0 l t.1;
     }
 
-order_of_leads : (m : Memory) (key : Key) (block i h : ℕ) (x : Ordering) → Leads m block i h
-    → order_at m key block i ≡ x → order m key h ≡ x
-order_of_leads m key block i h x e is = sym (ap (λ (o : Option ℕ). order m key (unwrap_or o 0)) e) ∙ is
-
--- where it stands before the key, so do all before it; where it stands behind, so do all behind it
-pub goes_up : (c : Cut) (key : Key) (block count low high mid : ℕ) → AreKeys c block count key
-    → Narrowed c key block count low high → low ≤ mid → mid < high
-    → order_at (bytes_of c.bytes) key block mid ≡ Less → Narrowed c key block count (mid + 1) high
-goes_up c key block count low high mid keys n above below is =
-    let w = n.within in let t = keys.target mid (omega arith) in
-    narrowed_up c key block count low high mid t.0 n above below t.1
-    (order_of_leads (bytes_of c.bytes) key block mid t.0 Less t.1 is)
-
-pub goes_down : (c : Cut) (key : Key) (block count low high mid : ℕ) → AreKeys c block count key
-    → Narrowed c key block count low high → low ≤ mid → mid < high
-    → order_at (bytes_of c.bytes) key block mid ≡ Greater → Narrowed c key block count low mid
-goes_down c key block count low high mid keys n above below is =
-    let w = n.within in let t = keys.target mid (omega arith) in
-    narrowed_down c key block count low high mid t.0 n above below t.1
-    (order_of_leads (bytes_of c.bytes) key block mid t.0 Greater t.1 is)
-
--- the same of the values that are equal to these
-pub entry_at : (c v : Cut) (key k : Key) (block b i : ℕ) → v ≡ c → k ≡ key → b ≡ block → HasEntry c key block i
-    → HasEntry v k b i
-entry_at c v key k block b i e f g h =
-    let one : HasEntry v key block i = subst (λ (u : Cut). HasEntry u key block i) (sym e) h in
-    let two : HasEntry v k block i = subst (λ (q : Key). HasEntry v q block i) (sym f) one in
-    subst (λ (n : ℕ). HasEntry v k n i) (sym g) two
-
-pub order_here : (c v : Cut) (key k : Key) (block b i : ℕ) (r x : Ordering) → v ≡ c → k ≡ key → b ≡ block
-    → r ≡ order_at (bytes_of v.bytes) k b i → r ≡ x → order_at (bytes_of c.bytes) key block i ≡ x
-order_here c v key k block b i r x e f g is a =
-    ap (λ (u : Cut). order_at (bytes_of u.bytes) key block i) (sym e)
-    ∙ ap (λ (q : Key). order_at (bytes_of v.bytes) q block i) (sym f)
-    ∙ ap (λ (n : ℕ). order_at (bytes_of v.bytes) k n i) (sym g) ∙ sym is ∙ a
+-- what holds of a heap, a key and a block holds of those that are equal to them
+pub same_search : {c v : Cut} {key k : Key} {block b : ℕ} (P : Cut → Key → ℕ → Type 0) → c ≡ v → key ≡ k → block ≡ b
+    → P c key block → P v k b
+same_search {c} {key = key} {k} {b = b} P e f g h =
+    subst (λ (v : Cut). P v k b) e (subst (λ (q : Key). P c q b) f (subst (λ (n : ℕ). P c key n) g h))

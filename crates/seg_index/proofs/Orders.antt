@@ -15,17 +15,20 @@ use Rattle.seg_index.specs.declared.keys.Key.TheVariants.{Name, Code}
 use Rattle.seg_index.specs.Lookups.{order, order_of_two}
 use Rattle.seg_index.specs.Keys.{code_at, name_at}
 
-greater_on : {K : Type 0} {R : K → K → Ordering} → IsTotalOrder R → (x y z : K) → R x y ≡ Less → R x z ≡ Greater → R y z ≡ Greater
+greater_on : {K : Type 0} {R : K → K → Ordering} → IsTotalOrder R → (x y z : K) → R x y ≡ Less → R x z ≡ Greater
+    → R y z ≡ Greater
 greater_on {K} {R} o x y z a b =
     let c : R z x ≡ Less = o.antisymm z x ∙ ap ordering_reverse b in
     o.antisymm y z ∙ ap ordering_reverse (o.trans z x y c a)
 
 -- what stands before a key that stands before another
-pub less_before : (m : Memory) (key : Key) (g h : ℕ) → order_of_two m key g h ≡ Less → order m key h ≡ Less → order m key g ≡ Less
+pub less_before : (m : Memory) (key : Key) (g h : ℕ) → order_of_two m key g h ≡ Less → order m key h ≡ Less
+    → order m key g ≡ Less
 less_before m (Name s) g h a b = nat_list_cmp_total.trans (name_at m g) (name_at m h) s.now a b
 less_before m (Code n) g h a b = nat_cmp_total.trans (code_at m g) (code_at m h) n a b
 
-pub greater_behind : (m : Memory) (key : Key) (g h : ℕ) → order_of_two m key g h ≡ Less → order m key g ≡ Greater → order m key h ≡ Greater
+pub greater_behind : (m : Memory) (key : Key) (g h : ℕ) → order_of_two m key g h ≡ Less → order m key g ≡ Greater
+    → order m key h ≡ Greater
 greater_behind m (Name s) g h a b = greater_on nat_list_cmp_total (name_at m g) (name_at m h) s.now a b
 greater_behind m (Code n) g h a b = greater_on nat_cmp_total (code_at m g) (code_at m h) n a b
 

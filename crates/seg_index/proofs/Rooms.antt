@@ -1,74 +1,57 @@
--- Room in blocks.
-use Rattle.std.proofs.Common.{◌≡◌, refl, sym, ap, subst, ◌∙◌, ℕ, ◌+◌, ◌-◌, ◌≤◌, ◌⊎◌, inl, inr, Bool, true, false, ◌&&◌, ◌||◌, List, [], ◌∷◌, length, arith, IsTrue, ◌==◌}
-use Rattle.std.specs.List.{list_any}
-use Rattle.std.specs.Prelude.{Option, Some, None, find}
-use Rattle.std.proofs.lemmas.Bool.{and_parts, and_from, or_cases, or_left, or_right, leb-true, le-leb, eq-eqb, eqb-true, cond-true, cond-false}
-use Rattle.raw_region.specs.Memory.{Cut}
+-- Blocks in use: what is found by a handle, and where it lies.
+use Rattle.std.proofs.Common.{◌≡◌, refl, subst, ℕ, ◌+◌, ◌≤◌, Bool, true, false, ◌||◌, cond, List, [], ◌∷◌, length}
+use Rattle.std.proofs.Common.{arith, IsTrue, ◌==◌}
+use Rattle.std.specs.List.{AllByRecursion, list_any}
+use Rattle.std.specs.Prelude.{Option, Some, find}
+use Rattle.std.proofs.lemmas.Option.{none-some, same_Some}
 use Rattle.raw_region.specs.Format.{current}
-use Rattle.best_fit.specs.Extents.{Extent, LiveSet, handle, holds}
+use Rattle.raw_region.specs.Memory.{Cut}
+use Rattle.best_fit.specs.Extents.{Extent, LiveSet, handle}
 use Rattle.best_fit.specs.Heap.{IsHeap, extent_at, has_room, is_live_in, live_of}
-use Rattle.best_fit.proofs.Laws.{room_block}
+use Rattle.best_fit.proofs.Laws.{among, live-rises, room_block}
 
-none_some : (x : Extent) → None ≡ Some x → ⊥
-none_some x e = let o : Option Extent = None in let f : o ≡ Some x = e in cc
+-- the first extent of a handle
+abbrev pub first : ℕ → List Extent → Option Extent
+first h xs = find (λ (y : Extent). handle y == h) xs
 
-any_here : (p q : Extent → Bool) (x : Extent) (xs : List Extent) → (IsTrue (p x) → IsTrue (q x)) → (IsTrue (list_any p xs) → IsTrue (list_any q xs))
-    → (p x ≡ true) ⊎ (list_any p xs ≡ true) → IsTrue (q x || list_any q xs)
-any_here p q x xs f g (inl e) = or_left (q x) (list_any q xs) (f e)
-any_here p q x xs f g (inr e) = or_right (q x) (list_any q xs) (g e)
-
-any_mono : (p q : Extent → Bool) → ((x : Extent) → IsTrue (p x) → IsTrue (q x)) → (xs : List Extent) → IsTrue (list_any p xs) → IsTrue (list_any q xs)
-any_mono p q f [] h = h
-any_mono p q f (x ∷ xs) h = any_here p q x xs (f x) (any_mono p q f xs) (or_cases (p x) (list_any p xs) h)
-
-pub has_room-less : (l : LiveSet) (h a b : ℕ) → a ≤ b → IsTrue (has_room l h b) → IsTrue (has_room l h a)
-has_room-less l h a b le = any_mono (λ (x : Extent). (handle x == h) && holds x b) (λ (x : Extent). (handle x == h) && holds x a)
-    (λ (x : Extent) t. let two = and_parts (handle x == h) (holds x b) t in let long = leb-true (b + 16) x.len two.1 in
-    and_from (handle x == h) (holds x a) two.0 (le-leb (a + 16) x.len (omega arith))) l.extents
-
-pub has_room-live : (l : LiveSet) (h n : ℕ) → IsTrue (has_room l h n) → IsTrue (is_live_in l h)
-has_room-live l h n = any_mono (λ (x : Extent). (handle x == h) && holds x n) (λ (x : Extent). handle x == h)
-    (λ (x : Extent) t. (and_parts (handle x == h) (holds x n) t).0) l.extents
-
--- the extent that is found by its handle has the room that it holds
-pub found_any : (test : Extent → Bool) (h : ℕ) (x : Extent) (xs : List Extent) → find (λ (y : Extent). handle y == h) xs ≡ Some x → IsTrue (test x) → IsTrue (list_any test xs)
-found_any test h x [] e t = absurd (none_some x e)
-found_any test h x (y ∷ ys) e t = by_case (handle y == h) refl (found_any test h x ys)
+-- what holds of all extents holds of the one that is found
+pub all_found : (P : Extent → Type 0) (h : ℕ) (xs : List Extent) (x : Extent) → AllByRecursion P xs
+    → first h xs ≡ Some x → P x
+all_found P h [] x a e = absurd (none-some x e)
+all_found P h (y ∷ ys) x a e = by_case (handle y == h) e (all_found P h ys x a.1)
   where
-    same : Some y ≡ Some x → y ≡ x
-    same q = cc
+    by_case : (b : Bool) → cond b (Some y) (first h ys) ≡ Some x → (first h ys ≡ Some x → P x) → P x
+    by_case true e rest = subst P (same_Some y x e) a.0
+    by_case false e rest = rest e
 
-    by_case : (b : Bool) → (handle y == h) ≡ b → (find (λ (z : Extent). handle z == h) ys ≡ Some x → IsTrue (test x) → IsTrue (list_any test ys)) → IsTrue (test y || list_any test ys)
-    by_case true q rest = or_left (test y) (list_any test ys) (subst (λ (z : Extent). IsTrue (test z)) (sym (same (sym (cond-true (handle y == h) (Some y) (find (λ (z : Extent). handle z == h) ys) q) ∙ e))) t)
-    by_case false q rest = or_right (test y) (list_any test ys) (rest (sym (cond-false (handle y == h) (Some y) (find (λ (z : Extent). handle z == h) ys) q) ∙ e) t)
-
-pub found_handle : (h : ℕ) (x : Extent) (xs : List Extent) → find (λ (y : Extent). handle y == h) xs ≡ Some x → handle x ≡ h
-found_handle h x [] e = absurd (none_some x e)
-found_handle h x (y ∷ ys) e = by_case (handle y == h) refl (found_handle h x ys)
+any_found : (h : ℕ) (xs : List Extent) (x : Extent) → first h xs ≡ Some x
+    → IsTrue (list_any (λ (y : Extent). handle y == h) xs)
+any_found h [] x e = absurd (none-some x e)
+any_found h (y ∷ ys) x e = by_case (handle y == h) e (any_found h ys x)
   where
-    same : Some y ≡ Some x → y ≡ x
-    same q = cc
+    any : Bool
+    any = list_any (λ (z : Extent). handle z == h) ys
 
-    by_case : (b : Bool) → (handle y == h) ≡ b → (find (λ (z : Extent). handle z == h) ys ≡ Some x → handle x ≡ h) → handle x ≡ h
-    by_case true q rest = ap (λ (z : Extent). handle z) (sym (same (sym (cond-true (handle y == h) (Some y) (find (λ (z : Extent). handle z == h) ys) q) ∙ e))) ∙ eqb-true (handle y) h q
-    by_case false q rest = rest (sym (cond-false (handle y == h) (Some y) (find (λ (z : Extent). handle z == h) ys) q) ∙ e)
+    by_case : (b : Bool) → cond b (Some y) (first h ys) ≡ Some x → (first h ys ≡ Some x → IsTrue any)
+        → IsTrue (b || any)
+    by_case true e rest = refl
+    by_case false e rest = rest e
 
-pub found_room : (l : LiveSet) (h n : ℕ) (x : Extent) → extent_at l h ≡ Some x → IsTrue (holds x n) → IsTrue (has_room l h n)
-found_room l h n x e t =
-    let same = found_handle h x l.extents e in
-    found_any (λ (y : Extent). (handle y == h) && holds y n) h x l.extents e (and_from (handle x == h) (holds x n) (eq-eqb (handle x) h same) t)
+pub found_live : (l : LiveSet) (h : ℕ) (x : Extent) → extent_at l h ≡ Some x → IsTrue (is_live_in l h)
+found_live l h x e = any_found h l.extents x e
 
-pub room_small : (c : Cut) (h n : ℕ) → IsHeap current c.bytes → IsTrue (has_room (live_of c.bytes) h n) → h + n ≤ 1073741824
-room_small c h n heap has =
-    let r = room_block c h n heap has in let b = r.block in
-    let enough = r.enough in let o = b.at in let ends = b.inside in let size = b.size in omega arith
+pub found_handle : (c : Cut) (h : ℕ) (x : Extent) → IsHeap current c.bytes → extent_at (live_of c.bytes) h ≡ Some x
+    → handle x ≡ h
+found_handle c h x heap e = let l = live_of c.bytes in (among 128 h x l.extents (live-rises l heap.proper) e).at
 
-pub room_low : (c : Cut) (h n : ℕ) → IsHeap current c.bytes → IsTrue (has_room (live_of c.bytes) h n) → 144 ≤ h
-room_low c h n heap has = let r = room_block c h n heap has in let b = r.block in let o = b.at in let l = b.low in omega arith
+-- a block lies behind the header, and behind it are 16 bytes more
+pub record Inside (c : Cut) (h n : ℕ) : Type 0 where
+  pub low : 144 ≤ h
+  pub ends : h + n + 16 ≤ length c.bytes
+  pub small : length c.bytes ≤ 1073741824
 
--- behind a block are 16 bytes more
-pub room_inside : (c : Cut) (h n : ℕ) → IsHeap current c.bytes → IsTrue (has_room (live_of c.bytes) h n)
-    → (h + n + 16 ≤ length c.bytes) × (length c.bytes ≤ 1073741824)
-room_inside c h n heap has =
-    let r = room_block c h n heap has in let b = r.block in
-    let enough = r.enough in let o = b.at in let ends = b.inside in let size = b.size in (omega arith, omega arith)
+pub inside : (c : Cut) (h n : ℕ) → IsHeap current c.bytes → IsTrue (has_room (live_of c.bytes) h n) → Inside c h n
+inside c h n heap has =
+    let r = room_block c h n heap has in let b = r.block in let o = b.at in let low = b.low in
+    let enough = r.enough in let ends = b.inside in let size = b.size in
+    record { low = omega arith; ends = omega arith; small = omega arith }

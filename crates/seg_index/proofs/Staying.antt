@@ -1,38 +1,37 @@
 -- An index stays where its words and its block do.
-use Rattle.std.proofs.Common.{◌≡◌, refl, sym, ap, subst, ◌∙◌, ℕ, ◌+◌, ◌-◌, ◌*◌, ◌≤◌, List, arith, IsTrue}
+use Rattle.std.proofs.Common.{◌≡◌, refl, sym, ap, subst, ◌∙◌, ℕ, ◌+◌, ◌-◌, ◌*◌, ◌≤◌, List, []}
+use Rattle.std.proofs.Common.{◌∷◌, arith, IsTrue}
 use Rattle.std.specs.Prelude.{Option, Some, None, IfSome, nat_lt}
 use Rattle.std.specs.List.{AllByRecursion}
 use Rattle.std.proofs.lemmas.Bool.{and_parts, leb-true}
+use Rattle.std.proofs.lemmas.Option.{none-some, same_Some}
 use Rattle.raw_region.specs.Format.{current}
 use Rattle.raw_region.specs.Memory.{Cut, Same, bytes_of}
 use Rattle.raw_region.proofs.Laws.{Same-part, Same-word}
 use Rattle.block_tags.specs.declared.tile.Role.{Role}
 use Rattle.block_tags.specs.declared.tile.Role.TheVariants.{Index as IndexRole}
 use Rattle.offset_link.specs.Link.{link_at}
+use Rattle.offset_link.proofs.Laws.{Same-link}
 use Rattle.best_fit.specs.Extents.{Extent, LiveSet, end_of, handle, holds}
-use Rattle.best_fit.specs.Fit.{added, insert, others, released}
+use Rattle.best_fit.specs.Fit.{added, others, released}
 use Rattle.best_fit.specs.Heap.{IsAllocated, IsChanged, IsHeap, IsReleased, SameBlock, extent_at, has_room, live_of}
 use Rattle.best_fit.specs.Table.{Table, same_role, serves}
-use Rattle.offset_link.proofs.Laws.{Same-link}
-use Rattle.best_fit.proofs.Laws.{allocated-live, changed-keeps, changed-live, is_proper-IsProper, laid-heap, others-insert_same, released-live}
+use Rattle.best_fit.proofs.Laws.{changed-keeps, exchange-taken, found-less, kept-found, laid-heap, released-live}
 use Rattle.seg_index.specs.Held.{IsIndexOf}
-use Rattle.seg_index.proofs.Entries.{with_extent}
-use Rattle.seg_index.proofs.Finding.{all_found, first, found_insert, found_others, gone}
-use Rattle.seg_index.proofs.Spreading.{links_moved}
+use Rattle.seg_index.proofs.Changing.{changed_heap, same_live}
+use Rattle.seg_index.proofs.Entries.{InHeader, table_cases}
+use Rattle.seg_index.proofs.Links.{links_moved}
+use Rattle.seg_index.proofs.Rooms.{all_found, first}
 
 -- the words and the links of an index are as they were, and its block is still in use
 pub record Around (a b : Cut) (at : ℕ) (t : Table) : Type 0 where
   pub heap : IsHeap current b.bytes
   pub words : Same (bytes_of a.bytes) (bytes_of b.bytes) at (at + 24)
-  pub block : IfSome t.extent (λ x. (extent_at (live_of b.bytes) (handle x) ≡ Some x) × Same (bytes_of a.bytes) (bytes_of b.bytes) (handle x) (end_of x))
+  pub block : IfSome t.extent (λ x. (extent_at (live_of b.bytes) (handle x) ≡ Some x)
+      × Same (bytes_of a.bytes) (bytes_of b.bytes) (handle x) (end_of x))
 
--- the block of an index has room for its links
-long_enough : (c : Cut) (at cap : ℕ) (x : Extent) (hs : List ℕ) → IsIndexOf c at (record { capacity = cap; extent = Some x }) hs → 8 * cap + 16 ≤ x.len
-long_enough c at cap x hs i =
-    let two = and_parts (nat_lt 0 cap) (serves x IndexRole (8 * cap)) i.places in
-    leb-true (8 * cap + 16) x.len (and_parts (same_role x.role IndexRole) (holds x (8 * cap)) two.1).1
-
-stays_none : (a b : Cut) (at cap : ℕ) (hs : List ℕ) → IsIndexOf a at (record { capacity = cap; extent = None }) hs → Around a b at (record { capacity = cap; extent = None })
+stays_none : (a b : Cut) (at cap : ℕ) (hs : List ℕ) → IsIndexOf a at (record { capacity = cap; extent = None }) hs
+    → Around a b at (record { capacity = cap; extent = None })
     → IsIndexOf b at (record { capacity = cap; extent = None }) hs
 stays_none a b at cap hs i r =
     let A = bytes_of a.bytes in let B = bytes_of b.bytes in
@@ -50,19 +49,22 @@ stays_none a b at cap hs i r =
       whole = i.whole;
     }
 
-stays_some : (a b : Cut) (at cap : ℕ) (x : Extent) (hs : List ℕ) → IsIndexOf a at (record { capacity = cap; extent = Some x }) hs → Around a b at (record { capacity = cap; extent = Some x })
+stays_some : (a b : Cut) (at cap : ℕ) (x : Extent) (hs : List ℕ)
+    → IsIndexOf a at (record { capacity = cap; extent = Some x }) hs
+    → Around a b at (record { capacity = cap; extent = Some x })
     → IsIndexOf b at (record { capacity = cap; extent = Some x }) hs
 stays_some a b at cap x hs i r =
-    let A = bytes_of a.bytes in let B = bytes_of b.bytes in
-    let long = long_enough a at cap x hs i in let few = i.few in
+    let A = bytes_of a.bytes in let B = bytes_of b.bytes in let few = i.few in
+    let two = and_parts (nat_lt 0 cap) (serves x IndexRole (8 * cap)) i.places in
+    let long = leb-true (8 * cap + 16) x.len (and_parts (same_role x.role IndexRole) (holds x (8 * cap)) two.1).1 in
     record {
       heap = r.heap;
       stands = record {
         link = Same-link A B at (at + 24) at r.words (omega arith) (omega arith) ∙ i.stands.link;
         count = Same-word A B at (at + 24) (at + 8) r.words (omega arith) (omega arith) ∙ i.stands.count;
         capacity = Same-word A B at (at + 24) (at + 16) r.words (omega arith) (omega arith) ∙ i.stands.capacity;
-        entries = links_moved A B (handle x) (handle x) hs i.stands.entries
-            (λ j l. Same-link A B (handle x) (end_of x) (handle x + 8 * j) r.block.1 (omega arith) (omega arith));
+        entries = links_moved A B (handle x) (handle x) hs i.stands.entries (λ j l.
+            Same-link A B (handle x) (end_of x) (handle x + 8 * j) r.block.1 (omega arith) (omega arith));
       };
       places = i.places;
       few = i.few;
@@ -71,82 +73,92 @@ stays_some a b at cap x hs i r =
     }
 
 pub stays : (a b : Cut) (at : ℕ) (t : Table) (hs : List ℕ) → IsIndexOf a at t hs → Around a b at t → IsIndexOf b at t hs
-stays a b at t hs i r = by_case t.extent refl
-  where
-    by_case : (o : Option Extent) → t.extent ≡ o → IsIndexOf b at t hs
-    by_case None e =
-        subst (λ (v : Table). IsIndexOf b at v hs) (sym (with_extent t None e))
-        (stays_none a b at t.capacity hs (subst (λ (v : Table). IsIndexOf a at v hs) (with_extent t None e) i) (subst (λ (v : Table). Around a b at v) (with_extent t None e) r))
-    by_case (Some x) e =
-        subst (λ (v : Table). IsIndexOf b at v hs) (sym (with_extent t (Some x) e))
-        (stays_some a b at t.capacity x hs (subst (λ (v : Table). IsIndexOf a at v hs) (with_extent t (Some x) e) i) (subst (λ (v : Table). Around a b at v) (with_extent t (Some x) e) r))
+stays a b at t hs = table_cases (λ u. IsIndexOf a at u hs → Around a b at u → IsIndexOf b at u hs)
+    (λ cap. stays_none a b at cap hs) (λ cap x. stays_some a b at cap x hs) t
 
 -- the block of an index is among those that stay, and in use
-pub Around-kept : (a b : Cut) (at : ℕ) (t : Table) (xs : List Extent) → IsHeap current b.bytes → Same (bytes_of a.bytes) (bytes_of b.bytes) at (at + 24)
+pub Around-kept : (a b : Cut) (at : ℕ) (t : Table) (xs : List Extent) → IsHeap current b.bytes
+    → Same (bytes_of a.bytes) (bytes_of b.bytes) at (at + 24)
     → AllByRecursion (SameBlock (bytes_of a.bytes) (bytes_of b.bytes)) xs
-    → ((x : Extent) → t.extent ≡ Some x → (first (handle x) xs ≡ Some x) × (extent_at (live_of b.bytes) (handle x) ≡ Some x)) → Around a b at t
+    → ((x : Extent) → t.extent ≡ Some x
+    → (first (handle x) xs ≡ Some x) × (extent_at (live_of b.bytes) (handle x) ≡ Some x))
+    → Around a b at t
 Around-kept a b at t xs heap words same found = record { heap = heap; words = words; block = by_case t.extent refl }
   where
-    A : Same (bytes_of a.bytes) (bytes_of b.bytes) at (at + 24)
-    A = words
-
-    by_case : (o : Option Extent) → t.extent ≡ o → IfSome o (λ x. (extent_at (live_of b.bytes) (handle x) ≡ Some x) × Same (bytes_of a.bytes) (bytes_of b.bytes) (handle x) (end_of x))
+    by_case : (o : Option Extent) → t.extent ≡ o → IfSome o (λ x. (extent_at (live_of b.bytes) (handle x) ≡ Some x)
+        × Same (bytes_of a.bytes) (bytes_of b.bytes) (handle x) (end_of x))
     by_case None e = tt
-    by_case (Some x) e = let f = found x e in (f.1, (all_found (SameBlock (bytes_of a.bytes) (bytes_of b.bytes)) (handle x) xs x same f.0).payload)
+    by_case (Some x) e =
+        let f = found x e in
+        (f.1, (all_found (SameBlock (bytes_of a.bytes) (bytes_of b.bytes)) (handle x) xs x same f.0).payload)
 
 -- where an index has a block, its link leads there, and the block is found
 pub record HasBlock (c : Cut) (at : ℕ) (x : Extent) : Type 0 where
   pub leads : link_at (bytes_of c.bytes) at ≡ Some (handle x)
   pub found : extent_at (live_of c.bytes) (handle x) ≡ Some x
 
-pub block_of : (c : Cut) (at : ℕ) (t : Table) (hs : List ℕ) (x : Extent) → IsIndexOf c at t hs → t.extent ≡ Some x → HasBlock c at x
-block_of c at t hs x i e =
-    let j = subst (λ (v : Table). IsIndexOf c at v hs) (with_extent t (Some x) e) i in
-    record { leads = j.stands.link; found = j.held }
+pub block_of : {c : Cut} {at : ℕ} {t : Table} {hs : List ℕ} (x : Extent) → IsIndexOf c at t hs → t.extent ≡ Some x
+    → HasBlock c at x
+block_of {c} {at} {t} {hs} x i e = table_cases (λ u. IsIndexOf c at u hs → u.extent ≡ Some x → HasBlock c at x)
+    (λ cap j f. absurd (none-some x f)) (λ cap y j f.
+    subst (λ z. HasBlock c at z) (same_Some y x f) (record { leads = j.stands.link; found = j.held })) t i e
 
 -- ---- where a block is taken
 
 -- a block that was in use is found where another is taken
-pub found_still : (a b : Cut) (n : ℕ) (role : Role) (h g : ℕ) (x : Extent) → IsAllocated current a b n role h → extent_at (live_of a.bytes) g ≡ Some x → extent_at (live_of b.bytes) g ≡ Some x
-found_still a b n role h g x i e =
-    let l = live_of a.bytes in let y = i.extent in
-    let proper = (is_proper-IsProper (added l y) i.live.proper).list in
-    let back = others-insert_same 128 y l.extents (l.size - 16) proper in
-    let apart : handle y ≡ g → ⊥ = λ q.
-    gone 128 (insert y l.extents) (l.size - 16) g x proper (ap (λ k. first g (others k (insert y l.extents))) (sym q) ∙ ap (first g) back ∙ e) in
-    ap (λ (s : LiveSet). extent_at s g) (allocated-live current a b n role h i) ∙ found_insert g y l.extents x apart e
+pub found_still : {a b : Cut} {n h : ℕ} {role : Role} (g : ℕ) (x : Extent) → IsAllocated current a b n role h
+    → extent_at (live_of a.bytes) g ≡ Some x → extent_at (live_of b.bytes) g ≡ Some x
+found_still {a} {b} {n} {h} {role} g x i e =
+    kept-found a b 0 0 g x [] (i.extent ∷ []) current (exchange-taken current a b n role h 0 0 i) e tt
 
-pub Around-taken : (a b : Cut) (at n : ℕ) (role : Role) (h : ℕ) (t : Table) (hs : List ℕ) → IsIndexOf a at t hs → IsAllocated current a b n role h → 32 ≤ at → at + 24 ≤ 128 → Around a b at t
+pub Around-taken : (a b : Cut) (at n : ℕ) (role : Role) (h : ℕ) (t : Table) (hs : List ℕ) → IsIndexOf a at t hs
+    → IsAllocated current a b n role h → 32 ≤ at → at + 24 ≤ 128 → Around a b at t
 Around-taken a b at n role h t hs i d low head =
     Around-kept a b at t (live_of a.bytes).extents (laid-heap b.bytes (added (live_of a.bytes) d.extent) d.live)
     (Same-part (bytes_of a.bytes) (bytes_of b.bytes) 32 128 at (at + 24) d.keeps.behind low head) d.keeps.blocks
-    (λ x e. let f = (block_of a at t hs x i e).found in (f, found_still a b n role h (handle x) x d f))
+    (λ x e. let f = (block_of x i e).found in (f, found_still (handle x) x d f))
 
 -- ---- where another block is released
 
-some_handle : (g h : ℕ) (o : Option ℕ) → o ≡ Some h → (o ≡ Some g → ⊥) → h ≡ g → ⊥
-some_handle g h o e n q = n (e ∙ ap (λ k. Some k) q)
+-- what leads to another block leads not to this one
+pub other_block : {g h : ℕ} (o : Option ℕ) → o ≡ Some h → (o ≡ Some g → ⊥) → h ≡ g → ⊥
+other_block o e n q = n (e ∙ ap (λ k. Some k) q)
 
-pub Around-released : (a b : Cut) (at h : ℕ) (t : Table) (hs : List ℕ) → IsIndexOf a at t hs → IsReleased current a b h → (link_at (bytes_of a.bytes) at ≡ Some h → ⊥) → 32 ≤ at → at + 24 ≤ 128
-    → Around a b at t
+pub Around-released : (a b : Cut) (at h : ℕ) (t : Table) (hs : List ℕ) → IsIndexOf a at t hs → IsReleased current a b h
+    → (link_at (bytes_of a.bytes) at ≡ Some h → ⊥) → 32 ≤ at → at + 24 ≤ 128 → Around a b at t
 Around-released a b at h t hs i r other low head =
-    Around-kept a b at t (others h (live_of a.bytes).extents) (laid-heap b.bytes (released (live_of a.bytes) h) r.live)
-    (Same-part (bytes_of a.bytes) (bytes_of b.bytes) 32 128 at (at + 24) r.keeps.behind low head) r.keeps.blocks
-    (λ x e.
-    let k = block_of a at t hs x i e in
-    let f = found_others (handle x) h (live_of a.bytes).extents x k.found (some_handle h (handle x) (link_at (bytes_of a.bytes) at) k.leads other) in
-    (f, ap (λ (l : LiveSet). extent_at l (handle x)) (released-live current a b h r) ∙ f))
+    let l = live_of a.bytes in
+    Around-kept a b at t (others h l.extents) (laid-heap b.bytes (released l h) r.live)
+    (Same-part (bytes_of a.bytes) (bytes_of b.bytes) 32 128 at (at + 24) r.keeps.behind low head) r.keeps.blocks (λ x e.
+    let k = block_of x i e in
+    let f = found-less (handle x) h x l.extents (other_block (link_at (bytes_of a.bytes) at) k.leads other) k.found in
+    (f, ap (λ (s : LiveSet). extent_at s (handle x)) (released-live current a b h r) ∙ f))
 
 -- ---- where another block is written
 
-pub Around-written : (a b : Cut) (at h k n : ℕ) (t : Table) (hs : List ℕ) → IsIndexOf a at t hs → IsChanged current a b (h + k) n → IsTrue (has_room (live_of a.bytes) h (k + n))
+pub Around-written : (a b : Cut) (at h k n : ℕ) (t : Table) (hs : List ℕ) → IsIndexOf a at t hs
+    → IsChanged current a b (h + k) n → IsTrue (has_room (live_of a.bytes) h (k + n))
     → (link_at (bytes_of a.bytes) at ≡ Some h → ⊥) → 32 ≤ at → at + 24 ≤ 128 → Around a b at t
 Around-written a b at h k n t hs i d room other low head =
-    let keeps = changed-keeps current a b h k n d room in
-    Around-kept a b at t (others h (live_of a.bytes).extents) (laid-heap b.bytes (live_of a.bytes) d.live)
-    (Same-part (bytes_of a.bytes) (bytes_of b.bytes) 32 128 at (at + 24) keeps.behind low head) keeps.blocks
-    (λ x e.
-    let q = block_of a at t hs x i e in (
-      found_others (handle x) h (live_of a.bytes).extents x q.found (some_handle h (handle x) (link_at (bytes_of a.bytes) at) q.leads other),
-      ap (λ (l : LiveSet). extent_at l (handle x)) (changed-live current a b (h + k) n d) ∙ q.found,
+    let keeps = changed-keeps current a b h k n d room in let l = live_of a.bytes in
+    Around-kept a b at t (others h l.extents) (changed_heap d)
+    (Same-part (bytes_of a.bytes) (bytes_of b.bytes) 32 128 at (at + 24) keeps.behind low head) keeps.blocks (λ x e.
+    let q = block_of x i e in (
+      found-less (handle x) h x l.extents (other_block (link_at (bytes_of a.bytes) at) q.leads other) q.found,
+      ap (λ (s : LiveSet). extent_at s (handle x)) (same_live d) ∙ q.found,
     ))
+
+-- ---- the index there
+
+pub still_taken : {a b : Cut} {at n h : ℕ} {role : Role} {t : Table} {hs : List ℕ} → InHeader at
+    → IsAllocated current a b n role h → IsIndexOf a at t hs → IsIndexOf b at t hs
+still_taken w d i = stays _ _ _ _ _ i (Around-taken _ _ _ _ _ _ _ _ i d w.behind w.small)
+
+pub still_released : {a b : Cut} {at h : ℕ} {t : Table} {hs : List ℕ} → InHeader at → IsReleased current a b h
+    → (link_at (bytes_of a.bytes) at ≡ Some h → ⊥) → IsIndexOf a at t hs → IsIndexOf b at t hs
+still_released w r other i = stays _ _ _ _ _ i (Around-released _ _ _ _ _ _ i r other w.behind w.small)
+
+pub still_written : {a b : Cut} {at n : ℕ} {t : Table} {hs : List ℕ} (h k : ℕ) → InHeader at
+    → IsChanged current a b (h + k) n → IsTrue (has_room (live_of a.bytes) h (k + n))
+    → (link_at (bytes_of a.bytes) at ≡ Some h → ⊥) → IsIndexOf a at t hs → IsIndexOf b at t hs
+still_written h k w d room other i = stays _ _ _ _ _ i (Around-written _ _ _ h k _ _ _ i d room other w.behind w.small)

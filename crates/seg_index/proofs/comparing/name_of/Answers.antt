@@ -1,21 +1,22 @@
 -- The name lies in the payload.
-use Rattle.std.proofs.Common.{◌≡◌, sym, subst, ◌+◌, ◌%◌, ◌∙◌, ap, arith, IsTrue, ℕ}
+use Rattle.std.proofs.Common.{sym, subst, ◌+◌, ◌%◌, ◌∙◌, ap, arith, IsTrue}
 use Rattle.raw_region.specs.Memory.{bytes_of, read}
 use Rattle.best_fit.specs.Heap.{has_room, live_of}
+use Rattle.best_fit.proofs.Laws.{room-less}
 use Rattle.seg_index.specs.Keys.{name_len_at}
-use Rattle.seg_index.proofs.Rooms.{has_room-less}
 use Rattle.seg_index.proofs.comparing.name_of.Goals as goal
 
 pub word-len-requires : goal.word-len-requires
-word-len-requires c = has_room-less (live_of c.args.heap.now.bytes) c.args.handle 16 (16 + name_len_at (bytes_of c.args.heap.now.bytes) c.args.handle) (omega arith) c.requires.room
+word-len-requires c =
+    let b = c.args.heap.now.bytes in let h = c.args.handle in
+    room-less (live_of b) h (16 + name_len_at (bytes_of b) h) 16 (omega arith) c.requires.room
 
 pub bytes-requires : goal.bytes-requires
 bytes-requires c =
-    let same : c.word-len.result % 4294967296 ≡ name_len_at (bytes_of c.args.heap.now.bytes) c.args.handle = ap (λ k. k % 4294967296) c.word-len.ensures in
-    subst (λ (k : ℕ). IsTrue (has_room (live_of c.args.heap.now.bytes) c.args.handle (16 + k))) (sym same) c.requires.room
+    let same = ap (λ k. k % 4294967296) c.word-len.ensures in
+    subst (λ k. IsTrue (has_room (live_of c.args.heap.now.bytes) c.args.handle (16 + k))) (sym same) c.requires.room
 
 pub returns : goal.returns
 returns c =
-    let m = bytes_of c.args.heap.now.bytes in
-    let same : c.word-len.result % 4294967296 ≡ name_len_at m c.args.handle = ap (λ k. k % 4294967296) c.word-len.ensures in
-    c.bytes.ensures ∙ ap (λ (k : ℕ). read m (c.args.handle + 16) k) same
+    let same = ap (λ k. k % 4294967296) c.word-len.ensures in
+    c.bytes.ensures ∙ ap (λ k. read (bytes_of c.args.heap.now.bytes) (c.args.handle + 16) k) same

@@ -2,12 +2,14 @@
 use Rattle.std.proofs.Common.{subst, arith, IsTrue}
 use Rattle.raw_region.specs.Memory.{bytes_of}
 use Rattle.best_fit.specs.Heap.{has_room, live_of}
+use Rattle.best_fit.proofs.Laws.{room-less}
 use Rattle.seg_index.specs.declared.keys.Key.{Key}
 use Rattle.seg_index.specs.Lookups.{key_end}
-use Rattle.seg_index.proofs.Rooms.{has_room-less}
 use Rattle.seg_index.proofs.comparing.order_of.Goals as goal
 
 pub word-requires : goal.word-requires
 word-requires c =
-    let room = subst (λ (k : Key). IsTrue (has_room (live_of c.args.heap.now.bytes) c.args.handle (key_end (bytes_of c.args.heap.now.bytes) k c.args.handle))) c.in-Code.is c.requires.key.room in
-    has_room-less (live_of c.args.heap.now.bytes) c.args.handle 8 16 (omega arith) room
+    let b = c.args.heap.now.bytes in let h = c.args.handle in
+    let room = subst (λ (k : Key). IsTrue (has_room (live_of b) h (key_end (bytes_of b) k h))) c.in-Code.is
+    c.requires.key.room in
+    room-less (live_of b) h 16 8 (omega arith) room

@@ -4,34 +4,34 @@ use Rattle.std.proofs.Common.{bit_and, IsTrue, ℕ, List, length}
 use Rattle.std.specs.List.{slice_range}
 use Rattle.byteorder.specs.Endian.{big_number}
 use Rattle.raw_region.specs.Memory.{bytes_of, read}
-use Rattle.best_fit.specs.Heap.{has_room, live_of}
-use Rattle.best_fit.proofs.Laws.{room_block}
+use Rattle.best_fit.specs.Heap.{live_of}
+use Rattle.best_fit.proofs.Laws.{room-less}
 use Rattle.seg_index.specs.Beginnings.{AreBytes, front}
 use Rattle.seg_index.specs.Keys.{name_len_at}
 use Rattle.seg_index.proofs.Begun.{long_front, short_front}
-use Rattle.seg_index.proofs.Rooms.{has_room-less, room_inside}
+use Rattle.seg_index.proofs.Rooms.{inside}
 use Rattle.seg_index.proofs.fronts.front_at.Goals as goal
 
 pub word-len-requires : goal.word-len-requires
 word-len-requires c =
-    has_room-less (live_of c.args.heap.now.bytes) c.args.handle 16
-    (16 + name_len_at (bytes_of c.args.heap.now.bytes) c.args.handle) (omega arith) c.requires.room
+    let b = c.args.heap.now.bytes in let h = c.args.handle in
+    room-less (live_of b) h (16 + name_len_at (bytes_of b) h) 16 (omega arith) c.requires.room
 
 pub overflow_add-at : goal.overflow_add-at
 overflow_add-at c =
-    let inside = room_inside c.args.heap.now c.args.handle
-    (16 + name_len_at (bytes_of c.args.heap.now.bytes) c.args.handle) c.requires.heap c.requires.room in omega arith
+    let n = 16 + name_len_at (bytes_of c.args.heap.now.bytes) c.args.handle in
+    let lies = inside c.args.heap.now c.args.handle n c.requires.heap c.requires.room in omega arith
 
 pub overflow_add-at-2 : goal.overflow_add-at-2
 overflow_add-at-2 c =
-    let inside = room_inside c.args.heap.now c.args.handle
-    (16 + name_len_at (bytes_of c.args.heap.now.bytes) c.args.handle) c.requires.heap c.requires.room in omega arith
+    let n = 16 + name_len_at (bytes_of c.args.heap.now.bytes) c.args.handle in
+    let lies = inside c.args.heap.now c.args.handle n c.requires.heap c.requires.room in omega arith
 
 pub slice_bounds-read_u64-end : goal.slice_bounds-read_u64-end
 slice_bounds-read_u64-end c =
-    let inside = room_inside c.args.heap.now c.args.handle
-    (16 + name_len_at (bytes_of c.args.heap.now.bytes) c.args.handle) c.requires.heap c.requires.room in
-    let whole = ap (λ (b : List ℕ). length b) c.as_bytes-bytes.ensures in omega (arith, inside, whole)
+    let n = 16 + name_len_at (bytes_of c.args.heap.now.bytes) c.args.handle in
+    let lies = inside c.args.heap.now c.args.handle n c.requires.heap c.requires.room in
+    let whole = ap (λ (b : List ℕ). length b) c.as_bytes-bytes.ensures in omega (arith, lies.ends, whole)
 
 -- the bytes of the name, of the length that was read
 bytes_there : (b held : List ℕ) → held ≡ b → AreBytes held → AreBytes b

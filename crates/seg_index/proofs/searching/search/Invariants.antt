@@ -1,10 +1,6 @@
 -- What is left of the entries, and how many comparisons are left for them.
-use Rattle.std.proofs.Common.{◌≡◌, ◌+◌, ◌-◌, ◌≤◌}
-use Rattle.raw_region.specs.Memory.{bytes_of}
-use Rattle.link_tree.specs.Tree.{bits}
-use Rattle.seg_index.specs.Comparing.{order_at}
-use Rattle.seg_index.proofs.Counting.{Counting}
-use Rattle.seg_index.proofs.Narrowing.{Narrowed}
+use Rattle.std.proofs.Common.{◌≡◌, ◌-◌}
+use Rattle.seg_index.proofs.Narrowing.{IsLeft}
 use Rattle.seg_index.proofs.searching.search.Given as goal
 
 abbrev pub invariant-halves : goal.invariant-halves
@@ -13,10 +9,7 @@ invariant-halves l = record {
   key : l.comparisons.key ≡ l.fn.comparisons.key;
   front : l.comparisons.front ≡ l.fn.comparisons.front;
   block : l.comparisons.block ≡ l.fn.comparisons.block;
-  narrowed : Narrowed l.fn.comparisons.heap.now l.fn.comparisons.key l.fn.comparisons.block l.count l.low l.high;
-  counted : l.comparisons.count + bits (l.high - l.low) ≤ bits l.count;
-  counting : Counting (order_at
-      (bytes_of l.fn.comparisons.heap.now.bytes) l.fn.comparisons.key l.fn.comparisons.block) l.count l.low l.high
+  left : IsLeft l.fn.comparisons.heap.now l.fn.comparisons.key l.fn.comparisons.block l.count l.low l.high
       l.comparisons.count;
 }
 

@@ -1,14 +1,15 @@
 -- The words of the index and the block of the growth stay.
-use Rattle.seg_index.proofs.Entries.{place_behind, place_small}
 use Rattle.seg_index.specs.Held.{place_of}
+use Rattle.seg_index.proofs.Entries.{in_header, place_behind, place_small}
 use Rattle.seg_index.proofs.Grows.{prepared, released, taken, written}
 use Rattle.seg_index.proofs.theorems.growths_stay.Goals as goal
 
 pub returns : goal.returns
 returns c =
     record {
-      prepared = λ i a b g t hs index growth. prepared a b (place_of i) g t hs index growth (place_behind i) (place_small i);
-      taken = λ i a b g n role h can d. taken a b (place_of i) g n role h can d (place_behind i) (place_small i);
-      released = λ i a b g h can d other. released a b (place_of i) g h can d other (place_behind i) (place_small i);
-      written = λ i a b g h at n can d room. written a b (place_of i) g h at n can d room (place_behind i) (place_small i);
+      prepared = λ i a b g t hs index growth.
+          prepared a b (place_of i) g t hs index growth (place_behind i) (place_small i);
+      taken = λ i a b g n role h can d. taken g can d (in_header i);
+      released = λ i a b g h can d other. released g can d other (in_header i);
+      written = λ i a b g h at n can d room. written g h at can d room (in_header i);
     }

@@ -1,15 +1,14 @@
 -- The capacity of an index is small.
 use Rattle.std.proofs.Common.{arith}
-use Rattle.seg_index.specs.Held.{place_of}
 use Rattle.seg_index.proofs.Entries.{capacity_small}
 use Rattle.seg_index.proofs.index.Index.prepare.Goals as goal
 
 pub grown-requires : goal.grown-requires
 grown-requires c =
-    let q = c.requires.index in let s = capacity_small c.args.heap.now (place_of c.args.self) q.table q.handles q.index in
+    let q = c.requires.index in let s = capacity_small q.index in
     let e = c.capacity-capacity.ensures.capacity q.table q.handles q.index in omega arith
 
 pub overflow_mul-grown : goal.overflow_mul-grown
 overflow_mul-grown c =
-    let q = c.requires.index in let s = capacity_small c.args.heap.now (place_of c.args.self) q.table q.handles q.index in
+    let q = c.requires.index in let s = capacity_small q.index in
     let e = c.capacity-capacity.ensures.capacity q.table q.handles q.index in let g = c.grown.ensures in omega arith

@@ -1,0 +1,134 @@
+-- The links of a block, and the handles that they lead to.
+use Rattle.std.proofs.Common.{◌≡◌, sym, ap, subst, ◌∙◌, ℕ, zero, suc, ◌+◌, ◌-◌, ◌*◌, ◌%◌, ◌<◌, ◌≤◌, inl, inr, List, []}
+use Rattle.std.proofs.Common.{◌∷◌, length, get_or, arith}
+use Rattle.std.specs.List.{AllByRecursion}
+use Rattle.std.specs.Prelude.{Some, insert, remove, slice_get}
+use Rattle.std.proofs.lemmas.Bool.{cases_lt}
+use Rattle.std.proofs.lemmas.List.Edits.{get_or-insert_above, get_or-insert_at, get_or-insert_below}
+use Rattle.std.proofs.lemmas.List.Edits.{get_or-remove_above, get_or-remove_below, length-insert, length-remove}
+use Rattle.std.proofs.lemmas.Option.{get_or_from_slice_get, none-some, same_Some, slice_get-get_or, slice_get_within}
+use Rattle.raw_region.specs.Memory.{Memory}
+use Rattle.offset_link.specs.Link.{link_at}
+use Rattle.offset_link.specs.Relinked.{AllLead, KeepTargets}
+use Rattle.seg_index.specs.Index.{AreLinks}
+
+-- an element of a list of which all hold
+pub all_at : (P : ℕ → Type 0) (hs : List ℕ) (j h : ℕ) → AllByRecursion P hs → slice_get hs j ≡ Some h → P h
+all_at P [] j h a e = absurd (none-some h e)
+all_at P (x ∷ xs) zero h a e = subst P (same_Some x h e) a.0
+all_at P (x ∷ xs) (suc j) h a e = all_at P xs j h a.1 e
+
+all_from : (P : ℕ → Type 0) (hs : List ℕ) → ((k : ℕ) → k < length hs → P (get_or hs k 0)) → AllByRecursion P hs
+all_from P [] f = tt
+all_from P (x ∷ xs) f = (f 0 (omega arith), all_from P xs (λ k l. f (suc k) (omega arith)))
+
+-- the link of an entry
+pub links_at : (m : Memory) (at : ℕ) (hs : List ℕ) (j h : ℕ) → AreLinks m at hs → slice_get hs j ≡ Some h
+    → link_at m (at + 8 * j) ≡ Some h
+links_at m at [] j h a e = absurd (none-some h e)
+links_at m at (x ∷ xs) zero h a e = let z : at + 8 * 0 ≡ at = omega arith in ap (λ k. link_at m k) z ∙ a.0 ∙ e
+links_at m at (x ∷ xs) (suc j) h a e =
+    let z : at + 8 * suc j ≡ at + 8 + 8 * j = omega arith in ap (λ k. link_at m k) z ∙ links_at m (at + 8) xs j h a.1 e
+
+pub entry_here : (m : Memory) (at : ℕ) (hs : List ℕ) (j : ℕ) → AreLinks m at hs → j < length hs
+    → link_at m (at + 8 * j) ≡ Some (get_or hs j 0)
+entry_here m at hs j a l = links_at m at hs j (get_or hs j 0) a (slice_get-get_or hs j 0 l)
+
+pub at_links : (m : Memory) (at : ℕ) (hs : List ℕ) (j h : ℕ) → AreLinks m at hs → j < length hs
+    → link_at m (at + 8 * j) ≡ Some h → slice_get hs j ≡ Some h
+at_links m at hs j h a l e = slice_get-get_or hs j 0 l ∙ sym (entry_here m at hs j a l) ∙ e
+
+links_from : (m : Memory) (at : ℕ) (hs : List ℕ)
+    → ((k : ℕ) → k < length hs → link_at m (at + 8 * k) ≡ Some (get_or hs k 0)) → AreLinks m at hs
+links_from m at [] f = tt
+links_from m at (x ∷ xs) f =
+    let z : at ≡ at + 8 * 0 = omega arith in (
+      ap (λ k. link_at m k) z ∙ f 0 (omega arith),
+      links_from m (at + 8) xs (λ k l.
+          let e : at + 8 + 8 * k ≡ at + 8 * suc k = omega arith in ap (λ j. link_at m j) e ∙ f (suc k) (omega arith)),
+    )
+
+pub links_moved : (m m' : Memory) (at to : ℕ) (hs : List ℕ) → AreLinks m at hs
+    → ((k : ℕ) → k < length hs → link_at m' (to + 8 * k) ≡ link_at m (at + 8 * k)) → AreLinks m' to hs
+links_moved m m' at to hs a f = links_from m' to hs (λ k l. f k l ∙ entry_here m at hs k a l)
+
+-- a run of the links of an index leads to multiples of 16
+pub links_lead : {m : Memory} (block i n : ℕ) (hs : List ℕ) → AreLinks m block hs
+    → AllByRecursion (λ h. h % 16 ≡ 0) hs → i + n ≤ length hs → AllLead m (block + 8 * i) n
+links_lead {m} block i n hs a whole within = record {
+  each = λ k l.
+      let e : block + 8 * i + 8 * k ≡ block + 8 * (i + k) = omega arith in
+      let s = slice_get-get_or hs (i + k) 0 (omega arith) in (
+        get_or hs (i + k) 0,
+        ap (λ j. link_at m j) e ∙ entry_here m block hs (i + k) a (omega arith),
+        all_at (λ h. h % 16 ≡ 0) hs (i + k) (get_or hs (i + k) 0) whole s,
+      );
+}
+
+-- ---- one more, and one less
+
+-- what holds of each element at its place, where one more is put in
+insert_each : (P : ℕ → ℕ → Type 0) (hs : List ℕ) (i h : ℕ) → i ≤ length hs → ((k : ℕ) → k < i → P k (get_or hs k 0))
+    → P i h → ((k : ℕ) → i ≤ k → k < length hs → P (k + 1) (get_or hs k 0))
+    → (k : ℕ) → k < length (insert hs i h) → P k (get_or (insert hs i h) k 0)
+insert_each P hs i h within low here high k l = elim (cases_lt k i) [
+  | inl before ↦ subst (P k) (sym (get_or-insert_below hs i h 0 k before within)) (low k before)
+  | inr not_before ↦ elim (cases_lt i k) [
+    | inl behind ↦
+        let long = length-insert hs i h within in let e : k - 1 + 1 ≡ k = omega arith in
+        subst (λ j. P j (get_or (insert hs i h) j 0)) e
+        (subst (P (k - 1 + 1)) (sym (get_or-insert_above hs i h 0 (k - 1) (omega arith) within))
+        (high (k - 1) (omega arith) (omega arith)))
+    | inr not_behind ↦
+        let e : i ≡ k = omega arith in
+        subst (λ j. P j (get_or (insert hs i h) j 0)) e (subst (P i) (sym (get_or-insert_at hs i h 0 within)) here)
+  ]
+]
+
+pub insert_all : (P : ℕ → Type 0) (hs : List ℕ) (i h : ℕ) → i ≤ length hs → AllByRecursion P hs → P h
+    → AllByRecursion P (insert hs i h)
+insert_all P hs i h within a p =
+    let each : (k : ℕ) → k < length hs → P (get_or hs k 0) =
+    λ k l. all_at P hs k (get_or hs k 0) a (slice_get-get_or hs k 0 l) in
+    all_from P (insert hs i h) (insert_each (λ k x. P x) hs i h within (λ k l. each k (omega arith)) p (λ k l. each k))
+
+-- the links behind a place make way for a new one
+pub insert_links : {m m' : Memory} (from to i h : ℕ) (hs : List ℕ) → AreLinks m from hs → i ≤ length hs
+    → ((k : ℕ) → k < i → link_at m' (to + 8 * k) ≡ link_at m (from + 8 * k)) → link_at m' (to + 8 * i) ≡ Some h
+    → KeepTargets m m' (from + 8 * i) (to + 8 * i + 8) (length hs - i) → AreLinks m' to (insert hs i h)
+insert_links {m} {m'} from to i h hs a within low here tail =
+    links_from m' to (insert hs i h) (insert_each (λ k x. link_at m' (to + 8 * k) ≡ Some x) hs i h within
+    (λ k l. low k l ∙ entry_here m from hs k a (omega arith)) here (λ k f l.
+    let p : to + 8 * (k + 1) ≡ to + 8 * i + 8 + 8 * (k - i) = omega arith in
+    let q : from + 8 * i + 8 * (k - i) ≡ from + 8 * k = omega arith in
+    ap (λ j. link_at m' j) p ∙ tail.each (k - i) (omega arith) ∙ ap (λ j. link_at m j) q ∙ entry_here m from hs k a l))
+
+-- what holds of each element at its place, where one is taken out
+remove_each : (P : ℕ → ℕ → Type 0) (hs : List ℕ) (i : ℕ) → i < length hs → ((k : ℕ) → k < i → P k (get_or hs k 0))
+    → ((k : ℕ) → i ≤ k → k + 1 < length hs → P k (get_or hs (k + 1) 0))
+    → (k : ℕ) → k < length (remove hs i) → P k (get_or (remove hs i) k 0)
+remove_each P hs i within low high k l = elim (cases_lt k i) [
+  | inl before ↦ subst (P k) (sym (get_or-remove_below hs i 0 k before within)) (low k before)
+  | inr behind ↦
+      let long = length-remove hs i within in
+      subst (P k) (sym (get_or-remove_above hs i 0 k behind within)) (high k behind (omega arith))
+]
+
+pub remove_all : (P : ℕ → Type 0) (hs : List ℕ) (i : ℕ) → i < length hs → AllByRecursion P hs
+    → AllByRecursion P (remove hs i)
+remove_all P hs i within a =
+    let each : (k : ℕ) → k < length hs → P (get_or hs k 0) =
+    λ k l. all_at P hs k (get_or hs k 0) a (slice_get-get_or hs k 0 l) in
+    all_from P (remove hs i) (remove_each (λ k x. P x) hs i within (λ k l. each k (omega arith)) (λ k f. each (k + 1)))
+
+-- the links behind a place close up
+pub remove_links : {m m' : Memory} (at i : ℕ) (hs : List ℕ) → AreLinks m at hs → i < length hs
+    → ((k : ℕ) → k < i → link_at m' (at + 8 * k) ≡ link_at m (at + 8 * k))
+    → KeepTargets m m' (at + (8 * i + 8)) (at + 8 * i) (length hs - i - 1) → AreLinks m' at (remove hs i)
+remove_links {m} {m'} at i hs a within low tail =
+    links_from m' at (remove hs i) (remove_each (λ k x. link_at m' (at + 8 * k) ≡ Some x) hs i within
+    (λ k l. low k l ∙ entry_here m at hs k a (omega arith)) (λ k f l.
+    let p : at + 8 * k ≡ at + 8 * i + 8 * (k - i) = omega arith in
+    let q : at + (8 * i + 8) + 8 * (k - i) ≡ at + 8 * (k + 1) = omega arith in
+    ap (λ j. link_at m' j) p ∙ tail.each (k - i) (omega arith) ∙ ap (λ j. link_at m j) q
+    ∙ entry_here m at hs (k + 1) a l))

@@ -1,6 +1,6 @@
 -- Fronts of names: where two differ, they stand as the names do; and how the front of a name in a block is read.
 use Rattle.std.proofs.Common.{◌≡◌, ◌≢◌, refl, sym, ap, subst, ◌∙◌, ℕ, zero, suc, ◌+◌, ◌-◌, ◌*◌, ◌/◌, ◌%◌, ◌^◌, ◌<◌, ◌≤◌}
-use Rattle.std.proofs.Common.{inl, inr, List, [], ◌∷◌, length, take, drop, slice_index, bit_and, arith}
+use Rattle.std.proofs.Common.{inl, inr, List, [], ◌∷◌, length, drop, slice_index, bit_and, arith}
 use Rattle.std.specs.Cmp.{nat_cmp_is}
 use Rattle.std.specs.Cmp.Lexicographic.{slice_cmp}
 use Rattle.std.specs.List.{slice_range}
@@ -58,6 +58,23 @@ big_from-split i (suc a) k xs =
     ap (λ (n : ℕ). big_from i n xs) f ∙ step
 
 -- ---- fronts in order
+
+big_cons : (n x : ℕ) (xs : List ℕ) → big_from 0 (suc n) (x ∷ xs) ≡ x * 256 ^ n + big_from 0 n xs
+big_cons n x xs = ap (λ k. x * 256 ^ n + k) (big_from-cons 0 n x xs)
+
+-- a higher first byte makes a higher number
+higher : (n x y : ℕ) (xs ys : List ℕ) → AreBytes (x ∷ xs) → x < y
+    → big_from 0 (suc n) (x ∷ xs) < big_from 0 (suc n) (y ∷ ys)
+higher n x y xs ys bytes l =
+    let rises : (x + 1) * 256 ^ n ≤ y * 256 ^ n = mul-le-mul_right (256 ^ n) (omega arith) in
+    let parts : (x + 1) * 256 ^ n ≡ x * 256 ^ n + 1 * 256 ^ n = add-mul x 1 (256 ^ n) in
+    let small = big_from-lt 0 n xs (λ k. bytes (suc k)) in
+    omega (arith, big_cons n x xs, big_cons n y ys, rises, parts, small)
+
+then_rest : (x y : ℕ) (xs ys : List ℕ) (r : Ordering) → r ≡ nat_cmp x y
+    → slice_cmp nat_cmp (x ∷ xs) (y ∷ ys) ≡ ordering_then r (slice_cmp nat_cmp xs ys)
+then_rest x y xs ys r e = ap (λ (o : Ordering). ordering_then o (slice_cmp nat_cmp xs ys)) (sym e)
+
 front_less : (n : ℕ) (xs ys : List ℕ) → AreBytes xs → AreBytes ys → big_from 0 n xs < big_from 0 n ys
     → slice_cmp nat_cmp xs ys ≡ Less
 front_less zero xs ys bx by l = absurd (omega arith)
@@ -65,30 +82,17 @@ front_less (suc n) [] [] bx by l = absurd (omega arith)
 front_less (suc n) [] (y ∷ ys) bx by l = refl
 front_less (suc n) (x ∷ xs) [] bx by l = absurd (omega (arith, nothing 0 (suc n)))
 front_less (suc n) (x ∷ xs) (y ∷ ys) bx by l = elim (cases_lt x y) [
-  | inl before ↦ then_rest Less (nat_cmp_is x y Less before)
+  | inl before ↦ then_rest x y xs ys Less (nat_cmp_is x y Less before)
   | inr not_before ↦ elim (cases_lt y x) [
-    | inl behind ↦
-        let rises : (y + 1) * 256 ^ n ≤ x * 256 ^ n = mul-le-mul_right (256 ^ n) (omega arith) in
-        let parts : (y + 1) * 256 ^ n ≡ y * 256 ^ n + 1 * 256 ^ n = add-mul y 1 (256 ^ n) in
-        let small = big_from-lt 0 n ys (λ k. by (suc k)) in
-        absurd (omega (arith, first, second, rises, parts, small))
+    | inl behind ↦ absurd (omega (arith, l, higher n y x ys xs by behind))
     | inr not_behind ↦
         let level : x ≡ y = omega arith in
         let worth : x * 256 ^ n ≡ y * 256 ^ n = ap (λ (z : ℕ). z * 256 ^ n) level in
-        then_rest Equal (nat_cmp_is x y Equal level)
-        ∙ front_less n xs ys (λ k. bx (suc k)) (λ k. by (suc k)) (omega (arith, first, second, worth))
+        then_rest x y xs ys Equal (nat_cmp_is x y Equal level)
+        ∙ front_less n xs ys (λ k. bx (suc k)) (λ k. by (suc k))
+        (omega (arith, l, big_cons n x xs, big_cons n y ys, worth))
   ]
 ]
-  where
-    first : big_from 1 n (x ∷ xs) ≡ big_from 0 n xs
-    first = big_from-cons 0 n x xs
-
-    second : big_from 1 n (y ∷ ys) ≡ big_from 0 n ys
-    second = big_from-cons 0 n y ys
-
-    then_rest : (r : Ordering) → r ≡ nat_cmp x y
-        → slice_cmp nat_cmp (x ∷ xs) (y ∷ ys) ≡ ordering_then r (slice_cmp nat_cmp xs ys)
-    then_rest r e = ap (λ (o : Ordering). ordering_then o (slice_cmp nat_cmp xs ys)) (sym e)
 
 -- and no two names of one length up to n have one front
 pub front_equal : (n : ℕ) (xs ys : List ℕ) → AreBytes xs → AreBytes ys → length xs ≡ length ys → length xs ≤ n
@@ -98,31 +102,17 @@ front_equal n [] (y ∷ ys) bx by e few l = absurd (omega (arith, e))
 front_equal n (x ∷ xs) [] bx by e few l = absurd (omega (arith, e))
 front_equal zero (x ∷ xs) (y ∷ ys) bx by e few l = absurd (omega (arith, few))
 front_equal (suc n) (x ∷ xs) (y ∷ ys) bx by e few l = elim (cases_lt x y) [
-  | inl before ↦
-      let rises : (x + 1) * 256 ^ n ≤ y * 256 ^ n = mul-le-mul_right (256 ^ n) (omega arith) in
-      let parts : (x + 1) * 256 ^ n ≡ x * 256 ^ n + 1 * 256 ^ n = add-mul x 1 (256 ^ n) in
-      let small = big_from-lt 0 n xs (λ k. bx (suc k)) in
-      absurd (omega (arith, l, first, second, rises, parts, small))
+  | inl before ↦ absurd (omega (arith, l, higher n x y xs ys bx before))
   | inr not_before ↦ elim (cases_lt y x) [
-    | inl behind ↦
-        let rises : (y + 1) * 256 ^ n ≤ x * 256 ^ n = mul-le-mul_right (256 ^ n) (omega arith) in
-        let parts : (y + 1) * 256 ^ n ≡ y * 256 ^ n + 1 * 256 ^ n = add-mul y 1 (256 ^ n) in
-        let small = big_from-lt 0 n ys (λ k. by (suc k)) in
-        absurd (omega (arith, l, first, second, rises, parts, small))
+    | inl behind ↦ absurd (omega (arith, l, higher n y x ys xs by behind))
     | inr not_behind ↦
         let level : x ≡ y = omega arith in
         let worth : x * 256 ^ n ≡ y * 256 ^ n = ap (λ (z : ℕ). z * 256 ^ n) level in
-        ap (λ (o : Ordering). ordering_then o (slice_cmp nat_cmp xs ys)) (sym (nat_cmp_is x y Equal level))
+        then_rest x y xs ys Equal (nat_cmp_is x y Equal level)
         ∙ front_equal n xs ys (λ k. bx (suc k)) (λ k. by (suc k)) (omega (arith, e)) (omega (arith, few))
-        (omega (arith, l, first, second, worth))
+        (omega (arith, l, big_cons n x xs, big_cons n y ys, worth))
   ]
 ]
-  where
-    first : big_from 1 n (x ∷ xs) ≡ big_from 0 n xs
-    first = big_from-cons 0 n x xs
-
-    second : big_from 1 n (y ∷ ys) ≡ big_from 0 n ys
-    second = big_from-cons 0 n y ys
 
 pub front_order : (xs ys : List ℕ) → AreBytes xs → AreBytes ys → front xs ≢ front ys
     → nat_cmp (front xs) (front ys) ≡ slice_cmp nat_cmp xs ys

@@ -1,5 +1,5 @@
 -- The entries of an index: the links of its block.
-use Rattle.std.proofs.Common.{◌≡◌, refl, sym, ap, subst, ◌∙◌, ℕ, ◌+◌, ◌*◌, ◌%◌, ◌^◌, ◌<◌, ◌≤◌, List, length, arith}
+use Rattle.std.proofs.Common.{◌≡◌, refl, sym, ap, subst, ◌∙◌, ℕ, ◌+◌, ◌*◌, ◌<◌, ◌≤◌, List, length, arith}
 use Rattle.std.proofs.Common.{IsTrue, get_or}
 use Rattle.std.specs.Prelude.{Option, Some, None, slice_get, unwrap_or, nat_lt}
 use Rattle.std.proofs.lemmas.Bool.{and_parts, eqb-true, leb-true}
@@ -63,6 +63,12 @@ pub record Placed (c : Cut) (at : ℕ) (t : Table) (hs : List ℕ) (block : ℕ)
   pub inside : Inside c block (8 * t.capacity)
   pub links : AreLinks (bytes_of c.bytes) block hs
 
+pub long_enough : {c : Cut} {at cap : ℕ} {x : Extent} {hs : List ℕ}
+    → IsIndexOf c at (record { capacity = cap; extent = Some x }) hs → 8 * cap + 16 ≤ x.len
+long_enough {cap = cap} {x} i =
+    let two = and_parts (nat_lt 0 cap) (serves x IndexRole (8 * cap)) i.places in
+    leb-true (8 * cap + 16) x.len (and_parts (same_role x.role IndexRole) (holds x (8 * cap)) two.1).1
+
 placed_some : (c : Cut) (at cap : ℕ) (x : Extent) (hs : List ℕ) (block : ℕ)
     → IsIndexOf c at (record { capacity = cap; extent = Some x }) hs → link_at (bytes_of c.bytes) at ≡ Some block
     → Placed c at (record { capacity = cap; extent = Some x }) hs block
@@ -70,9 +76,7 @@ placed_some c at cap x hs block i leads =
     let same : handle x ≡ block = same_Some (handle x) block (sym i.stands.link ∙ leads) in
     let found : extent_at (live_of c.bytes) block ≡ Some x =
     subst (λ k. extent_at (live_of c.bytes) k ≡ Some x) same i.held in
-    let two = and_parts (nat_lt 0 cap) (serves x IndexRole (8 * cap)) i.places in
-    let long = leb-true (8 * cap + 16) x.len (and_parts (same_role x.role IndexRole) (holds x (8 * cap)) two.1).1 in
-    let room = found-room (live_of c.bytes) block (8 * cap) x found long in
+    let room = found-room (live_of c.bytes) block (8 * cap) x found (long_enough i) in
     record {
       index = i;
       extent = x;

@@ -6,7 +6,7 @@ use Rattle.std.specs.Prelude.{Some, insert, remove, slice_get}
 use Rattle.std.proofs.lemmas.Bool.{cases_lt}
 use Rattle.std.proofs.lemmas.List.Edits.{get_or-insert_above, get_or-insert_at, get_or-insert_below}
 use Rattle.std.proofs.lemmas.List.Edits.{get_or-remove_above, get_or-remove_below, length-insert, length-remove}
-use Rattle.std.proofs.lemmas.Option.{get_or_from_slice_get, none-some, same_Some, slice_get-get_or, slice_get_within}
+use Rattle.std.proofs.lemmas.Option.{none-some, same_Some, slice_get-get_or}
 use Rattle.raw_region.specs.Memory.{Memory}
 use Rattle.offset_link.specs.Link.{link_at}
 use Rattle.offset_link.specs.Relinked.{AllLead, KeepTargets}

@@ -1,6 +1,6 @@
 -- What a search knows of the keys before and behind those that are left, and of its comparisons.
 use Rattle.std.proofs.Common.{◌≡◌, refl, sym, ap, ◌∙◌, ℕ, ◌+◌, ◌-◌, ◌*◌, ◌<◌, ◌≤◌, inl, inr, arith, subst}
-use Rattle.std.specs.Prelude.{Some, Option, unwrap_or}
+use Rattle.std.specs.Prelude.{Option, unwrap_or}
 use Rattle.std.proofs.lemmas.Bool.{cases_lt}
 use Rattle.std.specs.declared.cmp.Ordering.{Ordering}
 use Rattle.std.specs.declared.cmp.Ordering.TheVariants.{Less, Equal, Greater}
@@ -16,80 +16,52 @@ use Rattle.seg_index.specs.Lookups.{AreKeys, IsPlaceIn, KeysRise, Leads, order}
 use Rattle.seg_index.proofs.Counting.{Counting, counting_start, counts_down, counts_found, counts_none, counts_up}
 use Rattle.seg_index.proofs.Orders.{bits_half, greater_behind, less_before}
 
-pub record Narrowed (c : Cut) (key : Key) (block count low high : ℕ) : Type 0 where
-  pub rises : low ≤ high
-  pub within : high ≤ count
-  pub before : KeysRise (bytes_of c.bytes) block count key → (j h : ℕ) → j < low → Leads (bytes_of c.bytes) block j h
-      → order (bytes_of c.bytes) key h ≡ Less
-  pub behind : KeysRise (bytes_of c.bytes) block count key → (j h : ℕ) → high ≤ j → j < count
-      → Leads (bytes_of c.bytes) block j h → order (bytes_of c.bytes) key h ≡ Greater
-
 -- a link leads to one handle, of which it is known how its key stands
 one_order : (m : Memory) (key : Key) (block i j h : ℕ) (x : Ordering) → j ≡ i → Leads m block j h
     → order_at m key block i ≡ x → order m key h ≡ x
 one_order m key block i j h x q e is =
     sym (ap (λ k. order_at m key block k) (sym q) ∙ ap (λ (o : Option ℕ). order m key (unwrap_or o 0)) e) ∙ is
 
--- a key that stands before the one that is looked up, and so all before it do
-narrowed_up : {c : Cut} {key : Key} {block count low high : ℕ} (mid : ℕ) → AreKeys c block count key
-    → Narrowed c key block count low high → low ≤ mid → mid < high
-    → order_at (bytes_of c.bytes) key block mid ≡ Less → Narrowed c key block count (mid + 1) high
-narrowed_up {c} {key} {block} {count} {high = high} mid keys n above below is =
-    let m = bytes_of c.bytes in let w = n.within in let t = keys.target mid (omega arith) in
-    record {
-      rises = omega arith;
-      within = n.within;
-      before = λ r j h l e. elim (cases_lt j mid) [
-        | inl first ↦ less_before m key h t.0 (r.each j mid h t.0 first (omega arith) e t.1)
-            (one_order m key block mid mid t.0 Less refl t.1 is)
-        | inr last ↦ one_order m key block mid j h Less (omega arith) e is
-      ];
-      behind = n.behind;
-    }
-
-narrowed_down : {c : Cut} {key : Key} {block count low high : ℕ} (mid : ℕ) → AreKeys c block count key
-    → Narrowed c key block count low high → low ≤ mid → mid < high
-    → order_at (bytes_of c.bytes) key block mid ≡ Greater → Narrowed c key block count low mid
-narrowed_down {c} {key} {block} {count} mid keys n above below is =
-    let m = bytes_of c.bytes in let w = n.within in let t = keys.target mid (omega arith) in
-    record {
-      rises = above;
-      within = omega arith;
-      before = n.before;
-      behind = λ r j h l k e. elim (cases_lt mid j) [
-        | inl last ↦ greater_behind m key t.0 h (r.each mid j t.0 h last k t.1 e)
-            (one_order m key block mid mid t.0 Greater refl t.1 is)
-        | inr first ↦ one_order m key block mid j h Greater (omega arith) e is
-      ];
-    }
-
--- ---- what is left of a search
+-- ---- what is left of a search: the keys from `low` on and below `high`
 
 pub record IsLeft (c : Cut) (key : Key) (block count low high made : ℕ) : Type 0 where
-  pub narrowed : Narrowed c key block count low high
+  pub rises : low ≤ high
+  pub within : high ≤ count
+  pub before : KeysRise (bytes_of c.bytes) block count key → (j h : ℕ) → j < low → Leads (bytes_of c.bytes) block j h
+      → order (bytes_of c.bytes) key h ≡ Less
+  pub behind : KeysRise (bytes_of c.bytes) block count key → (j h : ℕ) → high ≤ j → j < count
+      → Leads (bytes_of c.bytes) block j h → order (bytes_of c.bytes) key h ≡ Greater
   pub few : made + bits (high - low) ≤ bits count
   pub counting : Counting (order_at (bytes_of c.bytes) key block) count low high made
 
 pub left_first : (c : Cut) (key : Key) (block count : ℕ) → IsLeft c key block count 0 count 0
 left_first c key block count = let all : count - 0 ≡ count = omega arith in record {
-  narrowed = record {
-    rises = omega arith;
-    within = omega arith;
-    before = λ r j h l e. absurd (omega arith);
-    behind = λ r j h l k e. absurd (omega arith);
-  };
+  rises = omega arith;
+  within = omega arith;
+  before = λ r j h l e. absurd (omega arith);
+  behind = λ r j h l k e. absurd (omega arith);
   few = omega (arith, ap bits all);
   counting = counting_start (order_at (bytes_of c.bytes) key block) count;
 }
 
+-- a key that stands before the one that is looked up, and so all before it do
 pub left_up : {c : Cut} {key : Key} {block count low high made : ℕ} → AreKeys c block count key
     → IsLeft c key block count low high made → low < high
     → order_at (bytes_of c.bytes) key block (middle low high) ≡ Less
     → IsLeft c key block count (middle low high + 1) high (made + 1)
-left_up {low = low} {high} keys i l is =
-    let half = bits_half (high - low) (high - (middle low high + 1)) (omega arith) (omega arith) in let few = i.few in
+left_up {c} {key} {block} {low = low} {high} keys i l is =
+    let m = bytes_of c.bytes in let mid = middle low high in let w = i.within in let few = i.few in
+    let t = keys.target mid (omega arith) in
+    let half = bits_half (high - low) (high - (mid + 1)) (omega arith) (omega arith) in
     record {
-      narrowed = narrowed_up (middle low high) keys i.narrowed (omega arith) (omega arith) is;
+      rises = omega arith;
+      within = i.within;
+      before = λ r j h k e. elim (cases_lt j mid) [
+        | inl first ↦ less_before m key h t.0 (r.each j mid h t.0 first (omega arith) e t.1)
+            (one_order m key block mid mid t.0 Less refl t.1 is)
+        | inr last ↦ one_order m key block mid j h Less (omega arith) e is
+      ];
+      behind = i.behind;
       few = omega arith;
       counting = counts_up i.counting l is;
     }
@@ -98,10 +70,19 @@ pub left_down : {c : Cut} {key : Key} {block count low high made : ℕ} → AreK
     → IsLeft c key block count low high made → low < high
     → order_at (bytes_of c.bytes) key block (middle low high) ≡ Greater
     → IsLeft c key block count low (middle low high) (made + 1)
-left_down {low = low} {high} keys i l is =
-    let half = bits_half (high - low) (middle low high - low) (omega arith) (omega arith) in let few = i.few in
+left_down {c} {key} {block} {low = low} {high} keys i l is =
+    let m = bytes_of c.bytes in let mid = middle low high in let w = i.within in let few = i.few in
+    let t = keys.target mid (omega arith) in let half = bits_half (high - low) (mid - low) (omega arith) (omega arith)
+    in
     record {
-      narrowed = narrowed_down (middle low high) keys i.narrowed (omega arith) (omega arith) is;
+      rises = omega arith;
+      within = omega arith;
+      before = i.before;
+      behind = λ r j h b k e. elim (cases_lt mid j) [
+        | inl last ↦ greater_behind m key t.0 h (r.each mid j t.0 h last k t.1 e)
+            (one_order m key block mid mid t.0 Greater refl t.1 is)
+        | inr first ↦ one_order m key block mid j h Greater (omega arith) e is
+      ];
       few = omega arith;
       counting = counts_down i.counting l is;
     }
@@ -117,7 +98,7 @@ pub left_found : {c : Cut} {key : Key} {block count low high made : ℕ} → IsL
     → Answers c key block count (made + 1) (Found (middle low high))
 left_found {c} {key} {block} {low = low} {high} i l is =
     let half = bits_half (high - low) 0 (omega arith) (omega arith) in let few = i.few in
-    let within = i.narrowed.within in let mid = middle low high in
+    let within = i.within in let mid = middle low high in
     record {
       place = (omega arith, λ h e. one_order (bytes_of c.bytes) key block mid mid h Equal refl e is);
       few = omega arith;
@@ -127,9 +108,9 @@ left_found {c} {key} {block} {low = low} {high} i l is =
 pub left_none : {c : Cut} {key : Key} {block count low high made : ℕ} → IsLeft c key block count low high made
     → high ≤ low → Answers c key block count made (Absent low)
 left_none i l =
-    let n = i.narrowed in let rises = n.rises in let within = n.within in let few = i.few in
+    let rises = i.rises in let within = i.within in let few = i.few in
     record {
-      place = (omega arith, λ r j h k e. (λ f. n.before r j h f e, λ f. n.behind r j h (omega arith) k e));
+      place = (omega arith, λ r j h k e. (λ f. i.before r j h f e, λ f. i.behind r j h (omega arith) k e));
       few = omega arith;
       exact = counts_none i.counting l;
     }

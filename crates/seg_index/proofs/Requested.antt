@@ -1,5 +1,5 @@
 -- The block that a request took.
-use Rattle.std.proofs.Common.{◌≡◌, sym, ap, subst, ◌∙◌, ℕ, ◌+◌, ◌*◌, ◌-◌, ◌^◌, ◌<◌, ◌≤◌, ◌⊎◌, inl, inr, min, List}
+use Rattle.std.proofs.Common.{◌≡◌, sym, ap, subst, ◌∙◌, ℕ, ◌*◌, ◌-◌, ◌^◌, inl, inr, min, List}
 use Rattle.std.proofs.Common.{arith}
 use Rattle.std.proofs.Common.{IsTrue}
 use Rattle.std.specs.Prelude.{Some}
@@ -14,7 +14,7 @@ use Rattle.best_fit.specs.Extents.{Extent, LiveSet}
 use Rattle.best_fit.specs.Fit.{added, insert, place}
 use Rattle.best_fit.specs.Heap.{IsAllocated, IsHeap, extent_at, live_of}
 use Rattle.best_fit.specs.Table.{Table, serves}
-use Rattle.best_fit.proofs.Laws.{IsFresh, allocated-live, among, found-new, live-rises, place-serves, rising-insert}
+use Rattle.best_fit.proofs.Laws.{IsFresh, allocated-live, found-new, live-rises, place-serves, rising-insert}
 use Rattle.best_fit.proofs.Laws.{too_long}
 use Rattle.seg_index.specs.Growth.{IsBlockFor}
 use Rattle.seg_index.specs.Held.{IsIndexOf}

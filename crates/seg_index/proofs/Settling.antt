@@ -131,86 +131,91 @@ headed_released_keeps {a} {d} {e} {at} h w r in_header =
 -- ---- an index and a block to which it may go, which is not its own
 
 -- its links stand from a place on, in its block; without a block there are none, and they stand anywhere
-pub record Offer (c : Cut) (at h places from : ℕ) (link : Option ℕ) (t : Table) (hs : List ℕ) : Type 0 where
-  pub index : IsIndexOf c at t hs
-  pub leads : link_at (bytes_of c.bytes) at ≡ link
-  pub begins : from ≡ unwrap_or link h
-  pub block : IsBlockFor c h places
-  pub apart : link ≡ Some h → ⊥
+pub record Move : Type 0 where
+  pub at : ℕ
+  pub block : ℕ
+  pub places : ℕ
+  pub from : ℕ
+  pub link : Option ℕ
+  pub table : Table
+  pub handles : List ℕ
 
-pub target : {c : Cut} {at h places from : ℕ} {link : Option ℕ} {t : Table} {hs : List ℕ} (n : ℕ)
-    → Offer c at h places from link t hs → n ≤ 8 * places → IsTrue (has_room (live_of c.bytes) h n)
-target {c} {h = h} {places} n o few = room-less (live_of c.bytes) h (8 * places) n few (block_room c h places o.block)
+pub record Offer (c : Cut) (m : Move) : Type 0 where
+  pub header : InHeader m.at
+  pub index : IsIndexOf c m.at m.table m.handles
+  pub leads : link_at (bytes_of c.bytes) m.at ≡ m.link
+  pub begins : m.from ≡ unwrap_or m.link m.block
+  pub offered : IsBlockFor c m.block m.places
+  pub apart : m.link ≡ Some m.block → ⊥
 
-pub offer : {c : Cut} {at h places from place : ℕ} {link : Option ℕ} {t : Table} {hs : List ℕ} → place ≡ at
-    → link ≡ link_at (bytes_of c.bytes) place → from ≡ unwrap_or link h → IsBlockFor c h places
-    → (link_at (bytes_of c.bytes) at ≡ Some h → ⊥) → IsIndexOf c at t hs → Offer c at h places from link t hs
-offer {c} e f begins block apart i =
-    let leads = leads_from c e f refl in
-    record { index = i; leads = leads; begins = begins; block = block; apart = λ q. apart (leads ∙ q) }
+pub target : {c : Cut} {m : Move} (n : ℕ) → Offer c m → n ≤ 8 * m.places → IsTrue (has_room (live_of c.bytes) m.block n)
+target {c} {m} n o few =
+    room-less (live_of c.bytes) m.block (8 * m.places) n few (block_room c m.block m.places o.offered)
+
+pub offer : {c : Cut} {at h places from place : ℕ} {link : Option ℕ} {t : Table} {hs : List ℕ} → InHeader at
+    → place ≡ at → link ≡ link_at (bytes_of c.bytes) place → from ≡ unwrap_or link h → IsBlockFor c h places
+    → (link_at (bytes_of c.bytes) at ≡ Some h → ⊥) → IsIndexOf c at t hs
+    → Offer c (record { at = at; block = h; places = places; from = from; link = link; table = t; handles = hs })
+offer {c} w e f begins block apart i =
+    let leads = leads_from c e f refl in record {
+      header = w;
+      index = i;
+      leads = leads;
+      begins = begins;
+      offered = block;
+      apart = λ q. apart (leads ∙ q);
+    }
 
 -- such is a block that was taken
 pub taken_offer : {a b : Cut} {at n k h from place : ℕ} {link : Option ℕ} {t : Table} {hs : List ℕ} → InHeader at
     → IsAllocated current a b k IndexRole h → k ≡ min (n * 8) (2 ^ 64 - 1) → place ≡ at
     → link ≡ link_at (bytes_of b.bytes) place → from ≡ unwrap_or link h → IsIndexOf a at t hs
-    → Offer b at h n from link t hs
+    → Offer b (record { at = at; block = h; places = n; from = from; link = link; table = t; handles = hs })
 taken_offer {a} {b} {at} {n} {k} {h} {t = t} {hs} w al much e f begins i =
     let j = still_taken w al i in let same = i.stands.link ∙ sym j.stands.link in
-    offer e f begins (taken_block a b k n h al (meant n i.heap al much))
+    offer w e f begins (taken_block a b k n h al (meant n i.heap al much))
     (λ q. not_its_own a b at k IndexRole h t hs i al (same ∙ q)) j
 
 no_links : (m : Memory) (at : ℕ) (hs : List ℕ) → length hs ≡ 0 → AreLinks m at hs
 no_links m at [] e = tt
 no_links m at (x ∷ xs) e = absurd (omega arith)
 
--- what is known of the place from which the links are moved
-pub record Source (c : Cut) (from : ℕ) (hs : List ℕ) : Type 0 where
-  pub links : AreLinks (bytes_of c.bytes) from hs
-  pub room : (n : ℕ) → n ≤ 8 * length hs → IsTrue (has_room (live_of c.bytes) from n)
+-- what is known of the place from which the links are moved, and of the block that is left
+pub record Source (c : Cut) (m : Move) (link : Option ℕ) : Type 0 where
+  pub links : AreLinks (bytes_of c.bytes) m.from m.handles
+  pub room : (n : ℕ) → n ≤ 8 * length m.handles → IsTrue (has_room (live_of c.bytes) m.from n)
+  pub left : IfSome link (λ g. IsTrue (is_live_in (live_of c.bytes) g) × (g ≡ m.block → ⊥))
 
-pub source : {c : Cut} {at h places from : ℕ} (link : Option ℕ) {t : Table} {hs : List ℕ}
-    → Offer c at h places from link t hs
-    → Source c from hs
-source {c} {from = from} None {hs = hs} o =
-    let none = no_entries o.index o.leads in
-    record {
-      links = no_links (bytes_of c.bytes) from hs none;
-      room = λ n few. subst (λ k. IsTrue (has_room (live_of c.bytes) k n)) (sym o.begins) (target n o (omega arith));
-    }
-source {c} (Some b) {t} {hs} o =
-    let p = placed b o.index o.leads in let enough = o.index.few in
-    record {
-      links = subst (λ k. AreLinks (bytes_of c.bytes) k hs) (sym o.begins) p.links;
-      room = λ n few. subst (λ k. IsTrue (has_room (live_of c.bytes) k n)) (sym o.begins)
-          (room-less (live_of c.bytes) b (8 * t.capacity) n (omega arith) p.room);
-    }
-
--- the block that the index leaves is in use, and it is not this one
-leaves : {c : Cut} {at h places from : ℕ} (link : Option ℕ) {t : Table} {hs : List ℕ}
-    → Offer c at h places from link t hs
-    → IfSome link (λ g. IsTrue (is_live_in (live_of c.bytes) g) × (g ≡ h → ⊥))
-leaves None o = tt
-leaves {c} (Some b) o =
-    let p = placed b o.index o.leads in
-    (found_live (live_of c.bytes) b p.extent p.found, λ q. o.apart (ap (λ k. Some k) q))
-
-pub left : {c : Cut} {at h places from : ℕ} {link : Option ℕ} {t : Table} {hs : List ℕ}
-    → Offer c at h places from link t hs
-    → IfSome (link_at (bytes_of c.bytes) at) (λ g. IsTrue (is_live_in (live_of c.bytes) g) × (g ≡ h → ⊥))
-left {c} {h = h} {link = link} o = subst (λ (p : Option ℕ).
-    IfSome p (λ g. IsTrue (is_live_in (live_of c.bytes) g) × (g ≡ h → ⊥))) (sym o.leads) (leaves link o)
+pub source : {c : Cut} {m : Move} → Offer c m → Source c m (link_at (bytes_of c.bytes) m.at)
+source {c} {m} o = subst (λ (p : Option ℕ). Source c m p) (sym o.leads) (by_case m.link o.leads o.begins o.apart)
+  where
+    by_case : (p : Option ℕ) → link_at (bytes_of c.bytes) m.at ≡ p → m.from ≡ unwrap_or p m.block
+        → (p ≡ Some m.block → ⊥) → Source c m p
+    by_case None leads begins apart =
+        let none = no_entries o.index leads in record {
+          links = no_links (bytes_of c.bytes) m.from m.handles none;
+          room = λ n few. subst (λ k. IsTrue (has_room (live_of c.bytes) k n)) (sym begins) (target n o (omega arith));
+          left = tt;
+        }
+    by_case (Some b) leads begins apart =
+        let p = placed b o.index leads in let enough = o.index.few in record {
+          links = subst (λ k. AreLinks (bytes_of c.bytes) k m.handles) (sym begins) p.links;
+          room = λ n few. subst (λ k. IsTrue (has_room (live_of c.bytes) k n)) (sym begins)
+              (room-less (live_of c.bytes) b (8 * m.table.capacity) n (omega arith) p.room);
+          left = (found_live (live_of c.bytes) b p.extent p.found, λ q. apart (ap (λ k. Some k) q));
+        }
 
 -- where the block is written it is still offered
-pub written : {a b : Cut} {at h places from n : ℕ} {link : Option ℕ} {t : Table} {hs : List ℕ} → InHeader at
-    → Offer a at h places from link t hs → IsChanged current a b (h + 0) n → n ≤ 8 * places
-    → Offer b at h places from link t hs
-written {h = h} {n = n} w o c few =
-    let i = still_written h 0 w c (target (0 + n) o (omega arith)) (λ e. o.apart (sym o.leads ∙ e)) o.index in
-    record {
+pub written : {a b : Cut} {m : Move} {n : ℕ} → Offer a m → IsChanged current a b (m.block + 0) n → n ≤ 8 * m.places
+    → Offer b m
+written {m = m} {n} o c few =
+    let room = target (0 + n) o (omega arith) in
+    let i = still_written m.block 0 o.header c room (λ e. o.apart (sym o.leads ∙ e)) o.index in record {
+      header = o.header;
       index = i;
       leads = i.stands.link ∙ sym o.index.stands.link ∙ o.leads;
       begins = o.begins;
-      block = still_offered c o.block;
+      offered = still_offered c o.offered;
       apart = o.apart;
     }
 
@@ -247,18 +252,18 @@ written_both {count = count} h one two l =
 -- ---- what stays then
 
 -- the blocks but two: one is written, and then the index leaves the other
-pub written_keeps : {a d e : Cut} {at h places from n : ℕ} {link : Option ℕ} {t : Table} {hs : List ℕ} → InHeader at
-    → Offer a at h places from link t hs → IsChanged current a d (h + 0) n → n ≤ 8 * places
-    → KeepsRest d e at (unlinked d at).extents → KeepsRest a e at (others h (unlinked a at).extents)
-written_keeps {a} {d} {e} {at} {h} {n = n} w o c few k =
-    let l = live_of a.bytes in let to = link_at (bytes_of a.bytes) at in
-    let less : LiveSet = record l { extents = others h l.extents } in
-    let alike : unlinked d at ≡ unlinked a at = ap₂ without_link (same_live c) ((written w o c few).leads ∙ sym o.leads)
-    in
-    let first : KeepsRest a d at (others h (unlinked a at).extents) =
-    subst (λ (zs : List Extent). KeepsRest a d at zs) (sym (others_without h l less to refl))
-    (rest_without less to (keeps_written h 0 c (target (0 + n) o (omega arith)) w)) in
-    rest_trans first (rest_others h (subst (λ (s : LiveSet). KeepsRest d e at s.extents) alike k))
+pub written_keeps : {a d e : Cut} {m : Move} {n : ℕ} → Offer a m → IsChanged current a d (m.block + 0) n
+    → n ≤ 8 * m.places → KeepsRest d e m.at (unlinked d m.at).extents
+    → KeepsRest a e m.at (others m.block (unlinked a m.at).extents)
+written_keeps {a} {d} {e} {m} {n} o c few k =
+    let l = live_of a.bytes in let to = link_at (bytes_of a.bytes) m.at in
+    let less : LiveSet = record l { extents = others m.block l.extents } in
+    let alike : unlinked d m.at ≡ unlinked a m.at =
+    ap₂ without_link (same_live c) ((written o c few).leads ∙ sym o.leads) in
+    let first : KeepsRest a d m.at (others m.block (unlinked a m.at).extents) =
+    subst (λ (zs : List Extent). KeepsRest a d m.at zs) (sym (others_without m.block l less to refl))
+    (rest_without less to (keeps_written m.block 0 c (target (0 + n) o (omega arith)) o.header)) in
+    rest_trans first (rest_others m.block (subst (λ (s : LiveSet). KeepsRest d e m.at s.extents) alike k))
 
 -- the one that is written was taken before
 pub taken_keeps : {a b e : Cut} {at n h : ℕ} {role : Role} → InHeader at → IsAllocated current a b n role h

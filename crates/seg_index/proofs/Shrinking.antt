@@ -1,7 +1,7 @@
 -- An index whose capacity becomes the number of its entries.
-use Rattle.std.proofs.Common.{◌≡◌, refl, sym, ap, subst, ◌∙◌, ℕ, ◌+◌, ◌*◌, ◌-◌, ◌%◌, ◌≤◌, inl, inr, min, List, []}
+use Rattle.std.proofs.Common.{◌≡◌, refl, sym, ap, subst, ◌∙◌, ℕ, ◌+◌, ◌*◌, ◌%◌, ◌≤◌, inl, inr, min, List, []}
 use Rattle.std.proofs.Common.{◌∷◌, length, arith, IsTrue, ◌==◌}
-use Rattle.std.specs.Prelude.{Option, Some, None, option_map, nat_lt, if◌then◌else◌}
+use Rattle.std.specs.Prelude.{Option, Some, None, option_map, nat_lt}
 use Rattle.std.specs.List.{AllByRecursion}
 use Rattle.std.proofs.lemmas.Bool.{and_from, and_parts, cond-false, cond-true, eq-eqb, le-leb, leb-true, lt-ltb, ne_eqb}
 use Rattle.std.proofs.lemmas.Option.{none-some, same_Some}
@@ -13,18 +13,18 @@ use Rattle.block_tags.specs.declared.tile.Role.TheVariants.{Index as IndexRole}
 use Rattle.offset_link.specs.Link.{link_at}
 use Rattle.offset_link.proofs.Laws.{Same-link, SameBut-link}
 use Rattle.best_fit.specs.Extents.{Extent, LiveSet, handle, holds}
-use Rattle.best_fit.specs.Fit.{insert, others, released, resized, shorter}
+use Rattle.best_fit.specs.Fit.{others, released, resized, shorter}
 use Rattle.best_fit.specs.Heap.{IsChanged, IsReleased, IsResized, IsShortened, LaysOut, extent_at, live_of}
 use Rattle.best_fit.specs.Table.{Table, cut_table, no_table, same_role, serves}
-use Rattle.best_fit.proofs.Laws.{IsFresh, among, found-new, keeps-refl, laid-heap, live-rises, resized-live}
+use Rattle.best_fit.proofs.Laws.{among, found-new, keeps-refl, laid-heap, live-rises, resized-live}
 use Rattle.best_fit.proofs.Laws.{rising-insert}
 use Rattle.best_fit.proofs.Laws.{Rising, shorter-IsShorter}
 use Rattle.seg_index.specs.Capacities.{IsShrunk, with_cut}
-use Rattle.seg_index.specs.Growth.{KeepsRest, beside_table}
+use Rattle.seg_index.specs.Growth.{KeepsRest}
 use Rattle.seg_index.specs.Held.{IsIndexOf}
 use Rattle.seg_index.specs.Index.{AreLinks}
 use Rattle.seg_index.proofs.Changing.{changed_heap, changed_trans, same_live}
-use Rattle.seg_index.proofs.Entries.{InHeader, Placed, bare, beside, no_entries, placed, table_cases}
+use Rattle.seg_index.proofs.Entries.{InHeader, Placed, bare, beside, no_entries, table_cases}
 use Rattle.seg_index.proofs.Keeping.{keeps_words, rest_of, rest_others, rest_trans}
 use Rattle.seg_index.proofs.Links.{links_moved}
 use Rattle.seg_index.proofs.Settling.{Headed, headed_released_keeps}

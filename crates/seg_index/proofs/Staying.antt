@@ -1,25 +1,24 @@
 -- An index stays where its words and its block do.
-use Rattle.std.proofs.Common.{◌≡◌, refl, sym, ap, subst, ◌∙◌, ℕ, ◌+◌, ◌-◌, ◌*◌, ◌≤◌, List, []}
+use Rattle.std.proofs.Common.{◌≡◌, refl, ap, subst, ◌∙◌, ℕ, ◌+◌, ◌*◌, ◌≤◌, List, []}
 use Rattle.std.proofs.Common.{◌∷◌, arith, IsTrue}
-use Rattle.std.specs.Prelude.{Option, Some, None, IfSome, nat_lt}
+use Rattle.std.specs.Prelude.{Option, Some, None, IfSome}
 use Rattle.std.specs.List.{AllByRecursion}
-use Rattle.std.proofs.lemmas.Bool.{and_parts, leb-true}
 use Rattle.std.proofs.lemmas.Option.{none-some, same_Some}
 use Rattle.raw_region.specs.Format.{current}
 use Rattle.raw_region.specs.Memory.{Cut, Same, bytes_of}
 use Rattle.raw_region.proofs.Laws.{Same-part, Same-word}
 use Rattle.block_tags.specs.declared.tile.Role.{Role}
-use Rattle.block_tags.specs.declared.tile.Role.TheVariants.{Index as IndexRole}
 use Rattle.offset_link.specs.Link.{link_at}
 use Rattle.offset_link.proofs.Laws.{Same-link}
-use Rattle.best_fit.specs.Extents.{Extent, LiveSet, end_of, handle, holds}
+use Rattle.best_fit.specs.Extents.{Extent, LiveSet, end_of, handle}
 use Rattle.best_fit.specs.Fit.{added, others, released}
 use Rattle.best_fit.specs.Heap.{IsAllocated, IsChanged, IsHeap, IsReleased, SameBlock, extent_at, has_room, live_of}
-use Rattle.best_fit.specs.Table.{Table, same_role, serves}
+use Rattle.best_fit.specs.Table.{Table}
 use Rattle.best_fit.proofs.Laws.{changed-keeps, exchange-taken, found-less, kept-found, laid-heap, released-live}
 use Rattle.seg_index.specs.Held.{IsIndexOf}
+use Rattle.seg_index.specs.Index.{AreEntries}
 use Rattle.seg_index.proofs.Changing.{changed_heap, same_live}
-use Rattle.seg_index.proofs.Entries.{InHeader, table_cases}
+use Rattle.seg_index.proofs.Entries.{InHeader, long_enough, table_cases}
 use Rattle.seg_index.proofs.Links.{links_moved}
 use Rattle.seg_index.proofs.Rooms.{all_found, first}
 
@@ -30,10 +29,17 @@ pub record Around (a b : Cut) (at : ℕ) (t : Table) : Type 0 where
   pub block : IfSome t.extent (λ x. (extent_at (live_of b.bytes) (handle x) ≡ Some x)
       × Same (bytes_of a.bytes) (bytes_of b.bytes) (handle x) (end_of x))
 
-stays_none : (a b : Cut) (at cap : ℕ) (hs : List ℕ) → IsIndexOf a at (record { capacity = cap; extent = None }) hs
-    → Around a b at (record { capacity = cap; extent = None })
-    → IsIndexOf b at (record { capacity = cap; extent = None }) hs
-stays_none a b at cap hs i r =
+-- the links are in the block, which has room for them
+same_entries : {a b : Cut} {at : ℕ} {t : Table} {hs : List ℕ} → IsIndexOf a at t hs → Around a b at t
+    → AreEntries (bytes_of b.bytes) t hs
+same_entries {a} {b} {at} {t} {hs} = table_cases (λ u. IsIndexOf a at u hs → Around a b at u
+    → AreEntries (bytes_of b.bytes) u hs) (λ cap i r. i.stands.entries) (λ cap x i r.
+    let A = bytes_of a.bytes in let B = bytes_of b.bytes in let few = i.few in let long = long_enough i in
+    links_moved A B (handle x) (handle x) hs i.stands.entries
+    (λ j l. Same-link A B (handle x) (end_of x) (handle x + 8 * j) r.block.1 (omega arith) (omega arith))) t
+
+pub stays : (a b : Cut) (at : ℕ) (t : Table) (hs : List ℕ) → IsIndexOf a at t hs → Around a b at t → IsIndexOf b at t hs
+stays a b at t hs i r =
     let A = bytes_of a.bytes in let B = bytes_of b.bytes in
     record {
       heap = r.heap;
@@ -41,40 +47,14 @@ stays_none a b at cap hs i r =
         link = Same-link A B at (at + 24) at r.words (omega arith) (omega arith) ∙ i.stands.link;
         count = Same-word A B at (at + 24) (at + 8) r.words (omega arith) (omega arith) ∙ i.stands.count;
         capacity = Same-word A B at (at + 24) (at + 16) r.words (omega arith) (omega arith) ∙ i.stands.capacity;
-        entries = i.stands.entries;
+        entries = same_entries i r;
       };
       places = i.places;
       few = i.few;
-      held = tt;
+      held = table_cases (λ u. Around a b at u → IfSome u.extent (λ x. extent_at (live_of b.bytes) (handle x) ≡ Some x))
+          (λ cap q. tt) (λ cap x q. q.block.0) t r;
       whole = i.whole;
     }
-
-stays_some : (a b : Cut) (at cap : ℕ) (x : Extent) (hs : List ℕ)
-    → IsIndexOf a at (record { capacity = cap; extent = Some x }) hs
-    → Around a b at (record { capacity = cap; extent = Some x })
-    → IsIndexOf b at (record { capacity = cap; extent = Some x }) hs
-stays_some a b at cap x hs i r =
-    let A = bytes_of a.bytes in let B = bytes_of b.bytes in let few = i.few in
-    let two = and_parts (nat_lt 0 cap) (serves x IndexRole (8 * cap)) i.places in
-    let long = leb-true (8 * cap + 16) x.len (and_parts (same_role x.role IndexRole) (holds x (8 * cap)) two.1).1 in
-    record {
-      heap = r.heap;
-      stands = record {
-        link = Same-link A B at (at + 24) at r.words (omega arith) (omega arith) ∙ i.stands.link;
-        count = Same-word A B at (at + 24) (at + 8) r.words (omega arith) (omega arith) ∙ i.stands.count;
-        capacity = Same-word A B at (at + 24) (at + 16) r.words (omega arith) (omega arith) ∙ i.stands.capacity;
-        entries = links_moved A B (handle x) (handle x) hs i.stands.entries (λ j l.
-            Same-link A B (handle x) (end_of x) (handle x + 8 * j) r.block.1 (omega arith) (omega arith));
-      };
-      places = i.places;
-      few = i.few;
-      held = r.block.0;
-      whole = i.whole;
-    }
-
-pub stays : (a b : Cut) (at : ℕ) (t : Table) (hs : List ℕ) → IsIndexOf a at t hs → Around a b at t → IsIndexOf b at t hs
-stays a b at t hs = table_cases (λ u. IsIndexOf a at u hs → Around a b at u → IsIndexOf b at u hs)
-    (λ cap. stays_none a b at cap hs) (λ cap x. stays_some a b at cap x hs) t
 
 -- the block of an index is among those that stay, and in use
 pub Around-kept : (a b : Cut) (at : ℕ) (t : Table) (xs : List Extent) → IsHeap current b.bytes

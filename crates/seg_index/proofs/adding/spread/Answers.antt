@@ -1,5 +1,5 @@
 -- The links that make way, and then the new one.
-use Rattle.std.proofs.Common.{◌≡◌, ◌+◌, ◌-◌, ◌*◌, ◌∙◌, ap, refl, sym, subst, arith, IsTrue, inr}
+use Rattle.std.proofs.Common.{◌≡◌, ◌+◌, ◌-◌, ◌*◌, ◌∙◌, ap, sym, subst, arith, IsTrue, inr}
 use Rattle.raw_region.specs.Memory.{bytes_of}
 use Rattle.offset_link.specs.Link.{link_at}
 use Rattle.offset_link.proofs.Laws.{SameBut-link}

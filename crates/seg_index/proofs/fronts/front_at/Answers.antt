@@ -1,12 +1,12 @@
 -- The eight bytes lie in the heap, whose last 16 bytes are no block's.
-use Rattle.std.proofs.Common.{◌≡◌, ◌<◌, ◌+◌, ◌-◌, ◌*◌, ◌/◌, ◌%◌, ◌^◌, ◌≤◌, ◌∙◌, sym, ap, subst, arith}
-use Rattle.std.proofs.Common.{bit_and, IsTrue, ℕ, List, length}
+use Rattle.std.proofs.Common.{◌≡◌, ◌+◌, ◌-◌, ◌*◌, ◌/◌, ◌%◌, ◌^◌, ◌∙◌, ap, subst, arith}
+use Rattle.std.proofs.Common.{bit_and, ℕ, List, length}
 use Rattle.std.specs.List.{slice_range}
 use Rattle.byteorder.specs.Endian.{big_number}
-use Rattle.raw_region.specs.Memory.{bytes_of, read}
+use Rattle.raw_region.specs.Memory.{bytes_of}
 use Rattle.best_fit.specs.Heap.{live_of}
 use Rattle.best_fit.proofs.Laws.{room-less}
-use Rattle.seg_index.specs.Beginnings.{AreBytes, front}
+use Rattle.seg_index.specs.Beginnings.{AreBytes}
 use Rattle.seg_index.specs.Keys.{name_len_at}
 use Rattle.seg_index.proofs.Begun.{long_front, short_front}
 use Rattle.seg_index.proofs.Rooms.{inside}

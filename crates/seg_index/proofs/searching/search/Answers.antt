@@ -1,5 +1,5 @@
 -- Each turn halves what is left, and compares one key.
-use Rattle.std.proofs.Common.{◌≡◌, ◌+◌, ◌-◌, ap, refl, sym, subst, ◌∙◌, ◌≤◌, arith}
+use Rattle.std.proofs.Common.{◌≡◌, ◌+◌, ap, refl, sym, subst, ◌∙◌, ◌≤◌, arith}
 use Rattle.raw_region.specs.Memory.{bytes_of}
 use Rattle.link_tree.specs.Tree.{bits}
 use Rattle.seg_index.specs.Beginnings.{key_front}
@@ -24,7 +24,7 @@ halves-init c =
 pub compare-requires : goal.compare-requires
 compare-requires c =
     let i = c.halves.invariant in let few = i.left.few in let most = bits_few c.args.count c.requires.few in
-    let within = i.left.narrowed.within in
+    let within = i.left.within in
     let entry = entry_of (middle c.halves.low c.halves.high) c.requires.keys (omega arith) in
     record {
       entry = same_search (λ v k b. HasEntry v k b (middle c.halves.low c.halves.high))

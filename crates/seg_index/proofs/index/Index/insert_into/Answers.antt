@@ -1,5 +1,5 @@
 -- The links are put round the new one, and then the block is the index's.
-use Rattle.std.proofs.Common.{◌≡◌, ap, ap₂, refl, sym, subst, ◌∙◌, ◌+◌, ◌-◌, ◌*◌, ◌%◌, ◌≤◌, length, arith}
+use Rattle.std.proofs.Common.{◌≡◌, ap, ap₂, refl, sym, subst, ◌∙◌, ◌+◌, ◌-◌, ◌*◌, ◌%◌, ◌≤◌, arith}
 use Rattle.std.specs.Prelude.{insert}
 use Rattle.std.proofs.lemmas.List.Edits.{length-insert}
 use Rattle.raw_region.specs.Format.{current}
@@ -11,15 +11,15 @@ use Rattle.seg_index.specs.Index.{grown_capacity}
 use Rattle.seg_index.proofs.Changing.{same_live}
 use Rattle.seg_index.proofs.Entries.{capacity_small, in_header}
 use Rattle.seg_index.proofs.Links.{insert_all, links_lead}
-use Rattle.seg_index.proofs.Settling.{filled, left, offer, source, target, written, written_both, written_keeps}
+use Rattle.seg_index.proofs.Settling.{filled, offer, source, target, written, written_both, written_keeps}
 use Rattle.seg_index.proofs.index.Index.insert_into.Goals as goal
 
 pub shift_non_null_links-requires : goal.shift_non_null_links-requires
 shift_non_null_links-requires c =
     let q = c.requires.index in let place = c.args.place in
-    let o = offer c.place.ensures c.header_link.ensures c.unwrap_or-from.ensures c.requires.block c.requires.apart
-    q.index in
-    let s = source c.header_link.result o in
+    let o = offer (in_header c.args.self) c.place.ensures c.header_link.ensures c.unwrap_or-from.ensures
+    c.requires.block c.requires.apart q.index in
+    let s = source o in
     record {
       from_whole = refl;
       to_whole = refl;
@@ -31,10 +31,10 @@ shift_non_null_links-requires c =
 pub spread-requires : goal.spread-requires
 spread-requires c =
     let q = c.requires.index in let place = c.args.place in let count = c.len-count.result in
-    let o = offer c.place.ensures c.header_link.ensures c.unwrap_or-from.ensures c.requires.block c.requires.apart
-    q.index in
-    let p = written (in_header c.args.self) o c.shift_non_null_links.ensures.change (omega arith) in
-    let s = source c.header_link.result p in
+    let o = offer (in_header c.args.self) c.place.ensures c.header_link.ensures c.unwrap_or-from.ensures
+    c.requires.block c.requires.apart q.index in
+    let p = written o c.shift_non_null_links.ensures.change (omega arith) in
+    let s = source p in
     record {
       heap = p.index.heap;
       within = omega arith;
@@ -52,35 +52,35 @@ grown-capacity-requires c =
 pub settle-requires : goal.settle-requires
 settle-requires c =
     let q = c.requires.index in let cap = c.grown-capacity.ensures ∙ ap grown_capacity c.capacity.ensures.word in
-    let o = offer c.place.ensures c.header_link.ensures c.unwrap_or-from.ensures c.requires.block c.requires.apart
-    q.index in
+    let o = offer (in_header c.args.self) c.place.ensures c.header_link.ensures c.unwrap_or-from.ensures
+    c.requires.block c.requires.apart q.index in
     let all = written_both c.args.block c.shift_non_null_links.ensures.change c.spread.ensures.change (omega arith) in
-    let p = written (in_header c.args.self) o all (omega arith) in
+    let p = written o all (omega arith) in
     record {
       heap = p.index.heap;
-      block = subst (λ k. IsBlockFor c.spread.new.heap c.args.block k) (sym cap) p.block;
-      released = left p;
+      block = subst (λ k. IsBlockFor c.spread.new.heap c.args.block k) (sym cap) p.offered;
+      released = (source p).left;
       some = omega arith;
       within = omega arith;
     }
 
 pub returns : goal.returns
 returns c =
-    let w = in_header c.args.self in let q = c.requires.index in let at = place_of c.args.self in
+    let q = c.requires.index in let at = place_of c.args.self in
     let E = c.settle.new.heap in let place = c.args.place in
     let cap = c.grown-capacity.ensures ∙ ap grown_capacity c.capacity.ensures.word in
-    let o = offer c.place.ensures c.header_link.ensures c.unwrap_or-from.ensures c.requires.block c.requires.apart
-    q.index in
+    let o = offer (in_header c.args.self) c.place.ensures c.header_link.ensures c.unwrap_or-from.ensures
+    c.requires.block c.requires.apart q.index in
     let all = written_both c.args.block c.shift_non_null_links.ensures.change c.spread.ensures.change (omega arith) in
-    let p = written w o all (omega arith) in let live = same_live all in
+    let p = written o all (omega arith) in let live = same_live all in
     record {
       index = λ t hs i.
-          let before = offer c.place.ensures c.header_link.ensures c.unwrap_or-from.ensures c.requires.block
-          c.requires.apart i in
-          let behind = written w before c.shift_non_null_links.ensures.change (omega arith) in
+          let before = offer (in_header c.args.self) c.place.ensures c.header_link.ensures c.unwrap_or-from.ensures
+          c.requires.block c.requires.apart i in
+          let behind = written before c.shift_non_null_links.ensures.change (omega arith) in
           let long = c.len-count.ensures.len t hs i in let more = length-insert hs place c.args.handle (omega arith) in
-          let links = filled c.unwrap_or-from.result c.args.block hs (source c.header_link.result before).links
-          (source c.header_link.result behind).links
+          let links = filled c.unwrap_or-from.result c.args.block hs (source before).links
+          (source behind).links
           long (omega arith) c.shift_non_null_links.ensures.lead c.spread.ensures.change c.spread.ensures.here
           c.spread.ensures.tail in
           let whole = insert_all (λ k. k % 16 ≡ 0) hs place c.args.handle (omega arith) i.whole c.requires.handle in
@@ -96,7 +96,7 @@ returns c =
           (c.settle.ensures.index (insert hs place c.args.handle) links (omega arith) whole));
       live = subst (λ (l : LiveSet). LaysOut current E.bytes l) (ap₂ without_link live (p.leads ∙ sym o.leads))
           c.settle.ensures.live;
-      keeps = written_keeps w o all (omega arith) c.settle.ensures.keeps;
+      keeps = written_keeps o all (omega arith) c.settle.ensures.keeps;
       counted = c.settle.ensures.counted;
       steps = subst (λ (l : LiveSet). c.settle.new.steps ≤ c.args.steps.now + heap_touches l) live
           c.settle.ensures.steps;

@@ -1,5 +1,5 @@
 -- A new block, and then the links go there.
-use Rattle.std.proofs.Common.{◌≡◌, ap, ap₂, refl, sym, subst, ◌∙◌, ◌+◌, ◌*◌, ◌<◌, ◌≤◌, length, arith}
+use Rattle.std.proofs.Common.{◌≡◌, ap, ap₂, refl, sym, subst, ◌∙◌, ◌+◌, ◌*◌, ◌<◌, ◌≤◌, arith}
 use Rattle.std.specs.Prelude.{None, Option, Some}
 use Rattle.std.proofs.lemmas.Result.{MatchResult-from_err}
 use Rattle.raw_region.specs.Format.{current}
@@ -8,14 +8,14 @@ use Rattle.best_fit.specs.Extents.{Extent, LiveSet}
 use Rattle.best_fit.specs.Fit.{added, place}
 use Rattle.best_fit.specs.Heap.{IsRefused, LaysOut, extent_at, heap_touches, live_of}
 use Rattle.best_fit.proofs.Laws.{allocated-live}
-use Rattle.seg_index.specs.Capacities.{IsReserved, IsRoomy}
+use Rattle.seg_index.specs.Capacities.{IsRoomy}
 use Rattle.seg_index.specs.Growth.{without_link}
 use Rattle.seg_index.specs.Held.{IsIndexOf, capacity_at, place_of}
 use Rattle.seg_index.proofs.Changing.{same_live}
 use Rattle.seg_index.proofs.Entries.{in_header}
 use Rattle.seg_index.proofs.Links.{links_lead}
 use Rattle.seg_index.proofs.Requested.{asked, is_found, meant}
-use Rattle.seg_index.proofs.Settling.{left, moved, source, taken_keeps, taken_offer, target, written, written_keeps}
+use Rattle.seg_index.proofs.Settling.{moved, source, taken_keeps, taken_offer, target, written, written_keeps}
 use Rattle.seg_index.proofs.index.Index.reserve.Goals as goal
 
 pub returns-in_err-block-clause-reserved : goal.returns-in_err-block-clause-reserved
@@ -32,7 +32,7 @@ shift_non_null_links-requires c =
     let q = c.requires.index in let count = c.len-count.result in
     let o = taken_offer (in_header c.args.self) c.in_ok-block.ensures.answer c.saturating_mul.ensures c.place.ensures
     c.header_link.ensures c.unwrap_or-from.ensures q.index in
-    let long = c.len-count.ensures.len q.table q.handles o.index in let s = source c.header_link.result o in
+    let long = c.len-count.ensures.len q.table q.handles o.index in let s = source o in
     record {
       from_whole = refl;
       to_whole = refl;
@@ -47,8 +47,15 @@ settle-requires c =
     let o = taken_offer (in_header c.args.self) c.in_ok-block.ensures.answer c.saturating_mul.ensures c.place.ensures
     c.header_link.ensures c.unwrap_or-from.ensures q.index in
     let long = c.len-count.ensures.len q.table q.handles o.index in
-    let p = written (in_header c.args.self) o c.shift_non_null_links.ensures.change (omega arith) in
-    record { heap = p.index.heap; block = p.block; released = left p; some = omega arith; within = omega arith }
+    let p = written o c.shift_non_null_links.ensures.change (omega arith) in
+    record {
+      heap = p.index.heap;
+      block = p.offered;
+      released = (source p).left;
+      some = omega arith;
+      within = omega
+          arith;
+    }
 
 pub returns : goal.returns
 returns c =
@@ -61,7 +68,7 @@ returns c =
     q.index in
     let long = c.len-count.ensures.len q.table q.handles o.index in
     let few : 8 * c.len-count.result ≤ 8 * n = omega arith in
-    let p = written w o one few in let same = o.index.stands.link ∙ sym q.index.stands.link in
+    let p = written o one few in let same = o.index.stands.link ∙ sym q.index.stands.link in
     let live : live_of c.shift_non_null_links.new.self.bytes ≡ added (live_of A.bytes) al.extent =
     same_live one ∙ allocated-live current A B c.saturating_mul.result IndexRole h al in
     let there : place (live_of A.bytes) (8 * n) IndexRole ≡ Some al.extent =
@@ -76,14 +83,14 @@ returns c =
               let before = taken_offer w al c.saturating_mul.ensures c.place.ensures c.header_link.ensures
               c.unwrap_or-from.ensures i in
               let many = c.len-count.ensures.len t hs before.index in
-              let links = moved c.unwrap_or-from.result h hs (source c.header_link.result before).links many
+              let links = moved c.unwrap_or-from.result h hs (source before).links many
               c.shift_non_null_links.ensures.lead in
               subst (λ (x : Option Extent). IsIndexOf E at (record { capacity = n; extent = x }) hs)
               (ap (λ (l : LiveSet). extent_at l h) (same_live one) ∙ is_found al)
               (c.settle.ensures.index hs links many i.whole);
           live = subst (λ (l : LiveSet). LaysOut current E.bytes l)
               (ap₂ without_link live (p.leads ∙ sym o.leads ∙ same)) c.settle.ensures.live;
-          keeps = taken_keeps w al same (written_keeps w o one few c.settle.ensures.keeps);
+          keeps = taken_keeps w al same (written_keeps o one few c.settle.ensures.keeps);
         };
       };
       counted = let first = c.in_ok-block.ensures.counted in let second = c.settle.ensures.counted in omega arith;

@@ -1,6 +1,5 @@
 -- The words lead to the block, and the old one goes.
-use Rattle.std.proofs.Common.{◌≡◌, ap, sym, subst, ◌∙◌, ℕ, ◌+◌, ◌≤◌, IsTrue, arith}
-use Rattle.std.specs.Prelude.{IfSome, Option, Some}
+use Rattle.std.proofs.Common.{◌≡◌, ap, sym, subst, ◌∙◌, ◌+◌, ◌≤◌, IsTrue, arith}
 use Rattle.raw_region.specs.Format.{current}
 use Rattle.best_fit.specs.Extents.{LiveSet}
 use Rattle.best_fit.specs.Fit.{released}
@@ -10,7 +9,7 @@ use Rattle.seg_index.specs.Held.{place_of}
 use Rattle.seg_index.proofs.Changing.{same_live}
 use Rattle.seg_index.proofs.Entries.{in_header, leads_from}
 use Rattle.seg_index.proofs.Keeping.{keeps_words}
-use Rattle.seg_index.proofs.Settling.{Headed, block_whole, gone, headed, headed_released_keeps, settled}
+use Rattle.seg_index.proofs.Settling.{block_whole, gone, headed, headed_released_keeps, settled}
 use Rattle.seg_index.proofs.Settling.{settled_released}
 use Rattle.seg_index.proofs.index.Index.settle.Goals as goal
 
@@ -20,9 +19,7 @@ set_header_link-requires-clause-target c = block_whole c.requires.heap c.require
 pub deallocate-requires : goal.deallocate-requires
 deallocate-requires c =
     let A = c.args.heap.now in let old = c.in-Some.old in
-    let w : Headed A c.set_header_word-2.new.self (place_of c.args.self) (Some c.args.block) c.args.count
-    c.args.capacity =
-    headed c.place-place.ensures c.set_header_link.ensures.change c.set_header_link.ensures.leads
+    let w = headed c.place-place.ensures c.set_header_link.ensures.change c.set_header_link.ensures.leads
     c.set_header_word.ensures.change c.set_header_word.ensures.word c.set_header_word-2.ensures.change
     c.set_header_word-2.ensures.word in
     let leads = leads_from A c.place-place.ensures c.header_link-old.ensures c.in-Some.is in
@@ -32,9 +29,7 @@ deallocate-requires c =
 pub returns-in-Some : goal.returns-in-Some
 returns-in-Some c =
     let A = c.args.heap.now in
-    let w : Headed A c.set_header_word-2.new.self (place_of c.args.self) (Some c.args.block) c.args.count
-    c.args.capacity =
-    headed c.place-place.ensures c.set_header_link.ensures.change c.set_header_link.ensures.leads
+    let w = headed c.place-place.ensures c.set_header_link.ensures.change c.set_header_link.ensures.leads
     c.set_header_word.ensures.change c.set_header_word.ensures.word c.set_header_word-2.ensures.change
     c.set_header_word-2.ensures.word in
     let leads = leads_from A c.place-place.ensures c.header_link-old.ensures c.in-Some.is in
@@ -58,7 +53,7 @@ pub returns-in_default : goal.returns-in_default
 returns-in_default c =
     let A = c.args.heap.now in let D = c.set_header_word-2.new.self in let h = in_header c.args.self in
     let at = place_of c.args.self in
-    let w : Headed A D at (Some c.args.block) c.args.count c.args.capacity = headed c.place-place.ensures
+    let w = headed c.place-place.ensures
     c.set_header_link.ensures.change c.set_header_link.ensures.leads c.set_header_word.ensures.change
     c.set_header_word.ensures.word c.set_header_word-2.ensures.change c.set_header_word-2.ensures.word in
     let is : unlinked A at ≡ live_of A.bytes = ap (without_link (live_of A.bytes))

@@ -1,13 +1,10 @@
 -- The block goes, or is cut.
-use Rattle.std.proofs.Common.{sym, subst, ◌∙◌, ◌+◌, ◌*◌, ◌≤◌, IsTrue, arith}
-use Rattle.std.specs.Prelude.{None}
+use Rattle.std.proofs.Common.{sym, subst, ◌∙◌, ◌+◌, ◌≤◌, IsTrue, arith}
 use Rattle.best_fit.specs.Extents.{LiveSet}
 use Rattle.best_fit.specs.Heap.{heap_touches, is_live_in, live_of}
-use Rattle.seg_index.specs.Held.{place_of}
 use Rattle.seg_index.proofs.Changing.{same_live}
 use Rattle.seg_index.proofs.Entries.{capacity_small, in_header, leads_from, placed}
 use Rattle.seg_index.proofs.Rooms.{found_live}
-use Rattle.seg_index.proofs.Settling.{Headed}
 use Rattle.seg_index.proofs.Shrinking.{emptied, shrunk_bare, shrunk_empty, shrunk_short}
 use Rattle.seg_index.proofs.index.Index.shrink.Goals as goal
 
@@ -18,8 +15,7 @@ returns-in_default-clause-shrunk c = λ t hs i.
 
 pub deallocate-requires : goal.deallocate-requires
 deallocate-requires c =
-    let w : Headed c.args.heap.now c.set_header_link.new.self (place_of c.args.self) None 0 0 =
-    emptied c.place-place.ensures c.set_header_word.ensures.change c.set_header_word.ensures.word
+    let w = emptied c.place-place.ensures c.set_header_word.ensures.change c.set_header_word.ensures.word
     c.set_header_link.ensures.change c.set_header_link.ensures.leads c.len-count.ensures.word c.if-count-eq0.true in
     let leads = leads_from c.args.heap.now c.place-place.ensures c.header_link.ensures c.in-Some.is in
     let p = placed c.in-Some.block c.requires.index.index leads in
@@ -40,8 +36,7 @@ shrink_in_place-requires c =
 
 pub returns-then-count-eq0 : goal.returns-then-count-eq0
 returns-then-count-eq0 c =
-    let w : Headed c.args.heap.now c.set_header_link.new.self (place_of c.args.self) None 0 0 =
-    emptied c.place-place.ensures c.set_header_word.ensures.change c.set_header_word.ensures.word
+    let w = emptied c.place-place.ensures c.set_header_word.ensures.change c.set_header_word.ensures.word
     c.set_header_link.ensures.change c.set_header_link.ensures.leads c.len-count.ensures.word c.if-count-eq0.true in
     record {
       shrunk = λ t hs i.

@@ -1,15 +1,12 @@
 -- The three words are written.
 use Rattle.std.proofs.Common.{refl, []}
-use Rattle.std.specs.Prelude.{None}
-use Rattle.seg_index.specs.Held.{place_of}
-use Rattle.seg_index.proofs.Settling.{Headed, headed}
+use Rattle.seg_index.proofs.Settling.{headed}
 use Rattle.seg_index.proofs.Shrinking.{empty_index}
 use Rattle.seg_index.proofs.index.Index.start.Goals as goal
 
 pub returns : goal.returns
 returns c =
-    let w : Headed c.args.heap.now c.set_header_word-2.new.self (place_of c.args.self) None 0 0 =
-    headed c.place-place.ensures c.set_header_link.ensures.change c.set_header_link.ensures.leads
+    let w = headed c.place-place.ensures c.set_header_link.ensures.change c.set_header_link.ensures.leads
     c.set_header_word.ensures.change c.set_header_word.ensures.word c.set_header_word-2.ensures.change
     c.set_header_word-2.ensures.word in
     record { index = empty_index [] w refl tt; change = w.change }

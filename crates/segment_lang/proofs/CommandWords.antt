@@ -1,5 +1,6 @@
 -- What stands behind a command word, read one word after another.
-use Rattle.std.proofs.Common.{◌≡◌, ℕ, ℤ, Bool, true, false, cond, List, [], ◌∷◌, Option, Some, None, ap, sym, refl, ◌∙◌, ◌==◌, replicate, length, nat_lt, slice_index}
+use Rattle.std.proofs.Common.{◌≡◌, ℕ, ℤ, Bool, true, false, cond, List, [], ◌∷◌, Option, Some, None, ap, sym, refl, ◌∙◌}
+use Rattle.std.proofs.Common.{◌==◌, replicate, length, nat_lt, slice_index}
 use Rattle.std.specs.Option.{option_map, option_and_then}
 use Rattle.raw_region.specs.Format.{current}
 use Rattle.seg_types.specs.declared.kinds.Kind.{Kind}
@@ -10,34 +11,48 @@ use Rattle.seg_types.specs.Names.{Key}
 use Rattle.seg_types.specs.Kinds.{is_value}
 use Rattle.seg_types.specs.Values.{kind_of_scalar, scalar_of, value_of_scalar}
 use Rattle.seg_types.proofs.Laws.{scalar_of-kind, scalar_of-value}
-use Rattle.seg_types.specs.Commands.{Assign, Bytes, Command, ConstructIt, Content, Elements, Literal, LineTooLong, NoPairs, Nothing, Numbers, Put, Strings, UnknownCommand, DestroyPtr}
+use Rattle.seg_types.specs.Commands.{Assign, Bytes, Command, ConstructIt, Content, Elements, Literal, LineTooLong}
+use Rattle.seg_types.specs.Commands.{NoPairs, Nothing, Numbers, Put, Strings, UnknownCommand, DestroyPtr}
 use Rattle.segment_lang.specs.Words as said
 use Rattle.segment_lang.specs.Words.{Word, Bare, literal_of_word, number_of, words}
 use Rattle.segment_lang.specs.Language.{Language, whole}
-use Rattle.segment_lang.specs.Reading.{Form, Reader, all, alone, appending, as_reading, assigning, command_line, content, counted_kind, destroying_ptr, each, finding, for_kind, form_of, items, key_of, making, making_each, new_key, putting, quoted_of, reading, skip_blanks, without_return, value_for, with_key, with_key_literal, with_key_number, with_key_number_literal, with_number}
-use Rattle.segment_lang.specs.Tokens.{at_end, behind_word, next_two, next_word, only_word, three_words, two_words, up_to_blank}
-use Rattle.segment_lang.specs.Arguments.{Written, assigning_at, counted_values, handle_of, literals_at, making_at, making_each_at, numbers_at, of_one, of_two, of_three, pair_at, putting_at, scalar_at, scalar_in, texts_at, written}
+use Rattle.segment_lang.specs.Reading.{Form, Reader, all, alone, appending, as_reading, assigning, command_line}
+use Rattle.segment_lang.specs.Reading.{content, counted_kind, destroying_ptr, each, finding, for_kind, form_of, items}
+use Rattle.segment_lang.specs.Reading.{key_of, making, making_each, new_key, putting, quoted_of, reading, skip_blanks}
+use Rattle.segment_lang.specs.Reading.{without_return, value_for, with_key, with_key_literal, with_key_number}
+use Rattle.segment_lang.specs.Reading.{with_key_number_literal, with_number}
+use Rattle.segment_lang.specs.Tokens.{at_end, behind_word, next_two, next_word, only_word, three_words, two_words}
+use Rattle.segment_lang.specs.Tokens.{up_to_blank}
+use Rattle.segment_lang.specs.Arguments.{Written, assigning_at, counted_values, handle_of, literals_at, making_at}
+use Rattle.segment_lang.specs.Arguments.{making_each_at, numbers_at, of_one, of_two, of_three, pair_at, putting_at}
+use Rattle.segment_lang.specs.Arguments.{scalar_at, scalar_in, texts_at, written}
 use Rattle.segment_lang.proofs.WordList.{take_end, take_only, take_word}
 use Rattle.segment_lang.proofs.ArrayValues.{word-value}
-use Rattle.segment_lang.proofs.WordReaders.{take_two, take_three, take_next_two}
+use Rattle.segment_lang.proofs.WordReaders.{both_made, map_then, swap, take_next_two, take_three, take_two, then_some}
+use Rattle.segment_lang.proofs.WordReaders.{then_then, under}
 use Rattle.segment_lang.proofs.FirstWords.{command_has_byte, command_is_plain}
 use Rattle.segment_lang.specs.Seen.{with_rest}
 
 -- ---- nothing, one word, two, three
 
-pub alone_at_end : (c : Command) (bytes : List ℕ) → option_and_then (alone c (whole current)) (words bytes) ≡ cond (at_end bytes) (Some c) None
+pub alone_at_end : (c : Command) (bytes : List ℕ) → option_and_then (alone c (whole current)) (words bytes)
+    ≡ cond (at_end bytes) (Some c) None
 alone_at_end c bytes = take_end (alone c (whole current)) (λ w ws. refl) bytes
 
-pub of_key : (f : Key → Command) (key_in : Language → Word → Option Key) (bytes : List ℕ) → option_and_then (with_key f key_in (whole current)) (words bytes) ≡ of_one (with_key f key_in) bytes
+pub of_key : (f : Key → Command) (key_in : Language → Word → Option Key) (bytes : List ℕ)
+    → option_and_then (with_key f key_in (whole current)) (words bytes) ≡ of_one (with_key f key_in) bytes
 of_key f key_in bytes = take_only (with_key f key_in (whole current)) refl (λ w v ws. refl) bytes
 
-pub of_number : (f : ℕ → Command) (bytes : List ℕ) → option_and_then (with_number f (whole current)) (words bytes) ≡ of_one (with_number f) bytes
+pub of_number : (f : ℕ → Command) (bytes : List ℕ) → option_and_then (with_number f (whole current)) (words bytes)
+    ≡ of_one (with_number f) bytes
 of_number f bytes = take_only (with_number f (whole current)) refl (λ w v ws. refl) bytes
 
-pub of_key_number : (f : Key → ℕ → Command) (bytes : List ℕ) → option_and_then (with_key_number f (whole current)) (words bytes) ≡ of_two (with_key_number f) bytes
+pub of_key_number : (f : Key → ℕ → Command) (bytes : List ℕ) → option_and_then (with_key_number f (whole current))
+    (words bytes) ≡ of_two (with_key_number f) bytes
 of_key_number f bytes = take_two (with_key_number f (whole current)) refl (λ w. refl) (λ w v u ws. refl) bytes
 
-pub of_key_literal : (f : Key → Literal → Command) (bytes : List ℕ) → option_and_then (with_key_literal f (whole current)) (words bytes) ≡ of_two (with_key_literal f) bytes
+pub of_key_literal : (f : Key → Literal → Command) (bytes : List ℕ)
+    → option_and_then (with_key_literal f (whole current)) (words bytes) ≡ of_two (with_key_literal f) bytes
 of_key_literal f bytes = take_two (with_key_literal f (whole current)) refl (λ w. refl) (λ w v u ws. refl) bytes
 
 no_appending : (w v u : Word) (ws : List Word) → appending (whole current) (w ∷ v ∷ u ∷ ws) ≡ None
@@ -47,55 +62,49 @@ no_appending w (Bare bs) u ws = refl
 pub of_appending : (bytes : List ℕ) → option_and_then (appending (whole current)) (words bytes) ≡ of_two appending bytes
 of_appending bytes = take_two (appending (whole current)) refl (λ w. refl) no_appending bytes
 
-assign_given : (key : Option Key) (ws : Option (List Word)) → option_and_then (λ ws. option_and_then (λ key. option_map (Assign key) (all literal_of_word ws)) key) ws ≡ option_and_then (λ key. option_and_then (λ ls. Some (Assign key ls)) (option_and_then (all literal_of_word) ws)) key
-assign_given None None = refl
-assign_given (Some key) None = refl
-assign_given None (Some ws) = refl
-assign_given (Some key) (Some ws) = go (all literal_of_word ws)
-  where
-    go : (ls : Option (List Literal)) → option_map (Assign key) ls ≡ option_and_then (λ ls. Some (Assign key ls)) ls
-    go None = refl
-    go (Some ls) = refl
-
 pub of_assigning : (bytes : List ℕ) → option_and_then (assigning (whole current)) (words bytes) ≡ assigning_at bytes
 unfolding assigning_at literals_at
-of_assigning bytes = take_word (assigning (whole current)) refl bytes ∙ go (next_word bytes)
-  where
-    go : (x : Option (Word × List ℕ)) → option_and_then (λ x. option_and_then (λ ws. assigning (whole current) (x.0 ∷ ws)) (words x.1)) x ≡ option_and_then (λ x. option_and_then (λ key. option_and_then (λ ls. Some (Assign key ls)) (option_and_then (all literal_of_word) (words x.1))) (key_of (whole current) x.0)) x
-    go None = refl
-    go (Some (w, r)) = assign_given (key_of (whole current) w) (words r)
+of_assigning bytes =
+    take_word (assigning (whole current)) refl bytes
+    ∙ under _ _ (λ x.
+    swap (λ ws key. option_map (Assign key) (all literal_of_word ws)) (words x.1) (key_of (whole current) x.0)
+    ∙ under _ _ (λ key. then_some (Assign key) (all literal_of_word) (words x.1)) (key_of (whole current) x.0))
+    (next_word bytes)
 
 pub of_finding : (bytes : List ℕ) → option_and_then (finding (whole current)) (words bytes) ≡ of_two finding bytes
 of_finding bytes = take_two (finding (whole current)) refl (λ w. refl) (λ w v u ws. refl) bytes
 
-pub of_key_number_literal : (f : Key → ℕ → Literal → Command) (bytes : List ℕ) → option_and_then (with_key_number_literal f (whole current)) (words bytes) ≡ of_three (with_key_number_literal f) bytes
-of_key_number_literal f bytes = take_three (with_key_number_literal f (whole current)) refl (λ w. refl) (λ w v. refl) (λ w v u t ws. refl) bytes
+pub of_key_number_literal : (f : Key → ℕ → Literal → Command) (bytes : List ℕ)
+    → option_and_then (with_key_number_literal f (whole current)) (words bytes) ≡ of_three (with_key_number_literal f)
+    bytes
+of_key_number_literal f bytes = take_three (with_key_number_literal f (whole current)) refl (λ w. refl) (λ w v. refl)
+    (λ w v u t ws. refl) bytes
 
 pub of_putting : (bytes : List ℕ) → option_and_then (putting (whole current)) (words bytes) ≡ of_three putting bytes
 of_putting bytes = take_three (putting (whole current)) refl (λ w. refl) (λ w v. refl) (λ w v u t ws. refl) bytes
 
-put_given : (key : Option Key) (k v : Option Literal) → option_and_then (λ key. option_and_then (λ k. option_map (Put key k) v) k) key ≡ option_and_then (λ key. option_and_then (λ (p : Literal × Literal). Some (Put key p.0 p.1)) (option_and_then (λ k. option_and_then (λ v. Some (k, v)) v) k)) key
-put_given None k v = refl
-put_given (Some key) None v = refl
-put_given (Some key) (Some k) None = refl
-put_given (Some key) (Some k) (Some v) = refl
-
-put_nothing : (key : Option Key) → ◌≡◌ {A = Option Command} None (option_and_then (λ key. None) key)
-put_nothing None = refl
-put_nothing (Some key) = refl
+put_given : (key : Key) (k v : Option Literal) → option_and_then (λ k. option_map (Put key k) v) k
+    ≡ option_and_then (λ (p : Literal × Literal). Some (Put key p.0 p.1))
+    (option_and_then (λ k. option_and_then (λ v. Some (k, v)) v) k)
+put_given key None v = refl
+put_given key (Some k) None = refl
+put_given key (Some k) (Some v) = refl
 
 -- the key and then the pair
 pub putting_in_parts : (bytes : List ℕ) → of_three putting bytes ≡ putting_at bytes
 unfolding putting_at pair_at three_words
-putting_in_parts bytes = go (next_word bytes)
-  where
-    two : (w : Word) (y : Option (Word × Word)) → option_and_then (λ (x : Word × Word × Word). putting (whole current) (x.0 ∷ x.1 ∷ x.2 ∷ [])) (option_and_then (λ (y : Word × Word). Some (w, y.0, y.1)) y) ≡ option_and_then (λ key. option_and_then (λ (p : Literal × Literal). Some (Put key p.0 p.1)) (option_and_then (λ (y : Word × Word). option_and_then (λ (k : Literal). option_and_then (λ (v : Literal). Some (k, v)) (literal_of_word y.1)) (literal_of_word y.0)) y)) (key_of (whole current) w)
-    two w None = put_nothing (key_of (whole current) w)
-    two w (Some y) = put_given (key_of (whole current) w) (literal_of_word y.0) (literal_of_word y.1)
-
-    go : (x : Option (Word × List ℕ)) → option_and_then (λ (x : Word × Word × Word). putting (whole current) (x.0 ∷ x.1 ∷ x.2 ∷ [])) (option_and_then (λ (x : Word × List ℕ). option_and_then (λ (y : Word × Word). Some (x.0, y.0, y.1)) (two_words x.1)) x) ≡ option_and_then (λ (x : Word × List ℕ). option_and_then (λ key. option_and_then (λ (p : Literal × Literal). Some (Put key p.0 p.1)) (option_and_then (λ (y : Word × Word). option_and_then (λ (k : Literal). option_and_then (λ (v : Literal). Some (k, v)) (literal_of_word y.1)) (literal_of_word y.0)) (two_words x.1))) (key_of (whole current) x.0)) x
-    go None = refl
-    go (Some x) = two x.0 (two_words x.1)
+putting_in_parts bytes =
+    both_made (λ (x : Word × Word × Word). putting (whole current) (x.0 ∷ x.1 ∷ x.2 ∷ []))
+    (λ (x : Word × List ℕ) (y : Word × Word). (x.0, y.0, y.1)) (λ x. two_words x.1) (next_word bytes)
+    ∙ under _ _ (λ x.
+    swap (λ (y : Word × Word) key. option_and_then (λ k. option_map (Put key k) (literal_of_word y.1))
+    (literal_of_word y.0))
+    (two_words x.1) (key_of (whole current) x.0)
+    ∙ under _ _ (λ key.
+    under _ _ (λ (y : Word × Word). put_given key (literal_of_word y.0) (literal_of_word y.1)) (two_words x.1)
+    ∙ sym (then_then (λ (p : Literal × Literal). Some (Put key p.0 p.1)) (λ (y : Word × Word).
+    option_and_then (λ k. option_and_then (λ v. Some (k, v)) (literal_of_word y.1)) (literal_of_word y.0))
+    (two_words x.1))) (key_of (whole current) x.0)) (next_word bytes)
 
 -- ---- a handle
 
@@ -113,56 +122,57 @@ ptr_word (said.Text bs) = refl
 ptr_word (Bare []) = refl
 ptr_word (Bare (c ∷ cs)) = ptr_if (c == 0x23) (number_of cs)
 
-ptr : (x : Option Word) → option_and_then (λ w. destroying_ptr (whole current) (w ∷ [])) x ≡ option_map DestroyPtr (option_and_then handle_of x)
-ptr None = refl
-ptr (Some w) = ptr_word w
-
-pub of_handle : (bytes : List ℕ) → option_and_then (destroying_ptr (whole current)) (words bytes) ≡ option_map DestroyPtr (option_and_then handle_of (only_word bytes))
-of_handle bytes = take_only (destroying_ptr (whole current)) refl no_ptr bytes ∙ ptr (only_word bytes)
+pub of_handle : (bytes : List ℕ) → option_and_then (destroying_ptr (whole current)) (words bytes)
+    ≡ option_map DestroyPtr (option_and_then handle_of (only_word bytes))
+of_handle bytes =
+    take_only (destroying_ptr (whole current)) refl no_ptr bytes ∙ under _ _ ptr_word (only_word bytes)
+    ∙ map_then DestroyPtr handle_of (only_word bytes)
 
 -- ---- a value
 
-pub scalar_content : (k : ScalarKind) (n : ℕ) (bytes : List ℕ) → option_and_then (content (Scalar k) n) (words bytes) ≡ scalar_at k n bytes
+pub scalar_content : (k : ScalarKind) (n : ℕ) (bytes : List ℕ) → option_and_then (content (Scalar k) n) (words bytes)
+    ≡ scalar_at k n bytes
 unfolding scalar_at
 scalar_content k n bytes = take_only (content (Scalar k) n) refl (λ w v ws. refl) bytes
 
-pub elements_content : (k : ScalarKind) (n : ℕ) (bytes : List ℕ) → option_and_then (content (Vector k) n) (words bytes) ≡ option_map (Elements k) (numbers_at k bytes)
+pub elements_content : (k : ScalarKind) (n : ℕ) (bytes : List ℕ)
+    → option_and_then (content (Vector k) n) (words bytes) ≡ option_map (Elements k) (numbers_at k bytes)
 unfolding numbers_at
-elements_content k n bytes = go (words bytes)
-  where
-    go : (ws : Option (List Word)) → option_and_then (content (Vector k) n) ws ≡ option_map (Elements k) (option_and_then (all (value_for k)) ws)
-    go None = refl
-    go (Some ws) = refl
+elements_content k n bytes = map_then (Elements k) (all (value_for k)) (words bytes)
 
 no_text : (n : ℕ) (w v : Word) (ws : List Word) → content Text n (w ∷ v ∷ ws) ≡ None
 no_text n (said.Text bs) v ws = refl
 no_text n (Bare bs) v ws = refl
 
-one_text : (n : ℕ) (x : Option Word) → option_and_then (λ w. content Text n (w ∷ [])) x ≡ option_map Bytes (option_and_then quoted_of x)
-one_text n None = refl
-one_text n (Some (said.Text bs)) = refl
-one_text n (Some (Bare bs)) = refl
+one_text : (n : ℕ) (w : Word) → content Text n (w ∷ []) ≡ option_map Bytes (quoted_of w)
+one_text n (said.Text bs) = refl
+one_text n (Bare bs) = refl
 
-pub text_content : (n : ℕ) (bytes : List ℕ) → option_and_then (content Text n) (words bytes) ≡ option_map Bytes (option_and_then quoted_of (only_word bytes))
-text_content n bytes = take_only (content Text n) refl (no_text n) bytes ∙ one_text n (only_word bytes)
+pub text_content : (n : ℕ) (bytes : List ℕ)
+    → option_and_then (content Text n) (words bytes) ≡ option_map Bytes (option_and_then quoted_of (only_word bytes))
+text_content n bytes =
+    take_only (content Text n) refl (no_text n) bytes ∙ under _ _ (one_text n) (only_word bytes)
+    ∙ map_then Bytes quoted_of (only_word bytes)
 
-pub texts_content : (n : ℕ) (bytes : List ℕ) → option_and_then (content Texts n) (words bytes) ≡ option_map Strings (texts_at bytes)
+pub texts_content : (n : ℕ) (bytes : List ℕ)
+    → option_and_then (content Texts n) (words bytes) ≡ option_map Strings (texts_at bytes)
 unfolding texts_at
-texts_content n bytes = go (words bytes)
-  where
-    go : (ws : Option (List Word)) → option_and_then (content Texts n) ws ≡ option_map Strings (option_and_then (all quoted_of) ws)
-    go None = refl
-    go (Some ws) = refl
+texts_content n bytes = map_then Strings (all quoted_of) (words bytes)
 
-pub no_pairs_content : (k v : ScalarKind) (n : ℕ) (bytes : List ℕ) → option_and_then (content (Map k v) n) (words bytes) ≡ cond (at_end bytes) (Some (NoPairs k v)) None
+pub no_pairs_content : (k v : ScalarKind) (n : ℕ) (bytes : List ℕ) → option_and_then (content (Map k v) n) (words bytes)
+    ≡ cond (at_end bytes) (Some (NoPairs k v)) None
 no_pairs_content k v n bytes = take_end (content (Map k v) n) (λ w ws. refl) bytes
 
 -- the values that are read are the elements
-pub elements_read : (k : ScalarKind) (o : Option (List ℤ)) (w : Written) → Some w ≡ option_map (written k) o → Some (Elements w.kind w.numbers) ≡ option_map (Elements k) o
+pub elements_read : (k : ScalarKind) (o : Option (List ℤ)) (w : Written) → Some w ≡ option_map (written k) o
+    → Some (Elements w.kind w.numbers) ≡ option_map (Elements k) o
 elements_read k None w h = cc
-elements_read k (Some zs) w h = let e : w ≡ written k zs = cc in ap (λ (w : Written). Some (Elements w.kind w.numbers)) e
+elements_read k (Some zs) w h = let e : w ≡ written k zs = cc in
+    ap (λ (w : Written). Some (Elements w.kind w.numbers)) e
 
-one_scalar : (k : ScalarKind) (n : ℕ) (o : Option ℤ) (v : ScalarValue) → Some v ≡ option_map (scalar_of k) o → ((z : ℤ) → o ≡ Some z → is_value k z ≡ true) → Some (Numbers (kind_of_scalar v) (replicate n (value_of_scalar v))) ≡ option_map (λ z. Numbers k (replicate n z)) o
+one_scalar : (k : ScalarKind) (n : ℕ) (o : Option ℤ) (v : ScalarValue) → Some v ≡ option_map (scalar_of k) o
+    → ((z : ℤ) → o ≡ Some z → is_value k z ≡ true) → Some (Numbers (kind_of_scalar v) (replicate n (value_of_scalar v)))
+    ≡ option_map (λ z. Numbers k (replicate n z)) o
 one_scalar k n None v h f = cc
 one_scalar k n (Some z) v h f =
     let e : v ≡ scalar_of k z = cc in
@@ -171,126 +181,125 @@ one_scalar k n (Some z) v h f =
     ap (λ k. Some (Numbers k (replicate n (value_of_scalar v)))) kind ∙ ap (λ z. Some (Numbers k (replicate n z))) value
 
 -- the value that is read is what the scalars are made with
-pub scalar_read : (k : ScalarKind) (n : ℕ) (bytes : List ℕ) (w : Word) (v : ScalarValue) → Some w ≡ only_word bytes → Some v ≡ option_map (scalar_of k) (value_for k w) → Some (Numbers (kind_of_scalar v) (replicate n (value_of_scalar v))) ≡ scalar_at k n bytes
+pub scalar_read : (k : ScalarKind) (n : ℕ) (bytes : List ℕ) (w : Word) (v : ScalarValue) → Some w ≡ only_word bytes
+    → Some v ≡ option_map (scalar_of k) (value_for k w)
+    → Some (Numbers (kind_of_scalar v) (replicate n (value_of_scalar v))) ≡ scalar_at k n bytes
 unfolding scalar_at
-scalar_read k n bytes w v h e = one_scalar k n (value_for k w) v e (word-value k (literal_of_word w)) ∙ ap (option_and_then (λ x. content (Scalar k) n (x ∷ []))) h
+scalar_read k n bytes w v h e = one_scalar k n (value_for k w) v e (word-value k (literal_of_word w))
+    ∙ ap (option_and_then (λ x. content (Scalar k) n (x ∷ []))) h
 
 -- ---- a kind, a key, and what an object is made with
 
-made : (make : Key → Content → Command) (key : Key) (made_with : Option Content) → option_map (make key) made_with ≡ option_and_then (λ m. Some (make key m)) made_with
-made make key None = refl
-made make key (Some m) = refl
-
-made_under : (make : Key → Content → Command) (key : Option Key) (made_with : Option Content) → option_and_then (λ key. option_map (make key) made_with) key ≡ option_and_then (λ key. option_and_then (λ m. Some (make key m)) made_with) key
-made_under make None m = refl
-made_under make (Some key) m = made make key m
-
-nothing_made : (make : Key → Content → Command) (key : Option Key) → None ≡ option_and_then (λ key. option_and_then (λ m. Some (make key m)) None) key
-nothing_made make None = refl
-nothing_made make (Some key) = refl
-
-arguments : (make : Key → Content → Command) (args : Option (List Word)) (kind : Option (Kind × ℕ)) (key : Option Key) → option_and_then (λ args. option_and_then (λ (k, n). option_and_then (λ key. option_map (make key) (content k n args)) (for_kind k key)) kind) args ≡ option_and_then (λ k. option_and_then (λ key. option_and_then (λ m. Some (make key m)) (option_and_then (content k.0 k.1) args)) (for_kind k.0 key)) kind
-arguments make None None key = refl
-arguments make None (Some (k, n)) key = nothing_made make (for_kind k key)
-arguments make (Some args) None key = refl
-arguments make (Some args) (Some (k, n)) key = made_under make (for_kind k key) (content k n args)
-
-pub of_making : (make : Key → Content → Command) (key_in : Language → Word → Option Key) (bytes : List ℕ) → option_and_then (making make key_in (whole current)) (words bytes) ≡ making_at make key_in bytes
+pub of_making : (make : Key → Content → Command) (key_in : Language → Word → Option Key) (bytes : List ℕ)
+    → option_and_then (making make key_in (whole current)) (words bytes) ≡ making_at make key_in bytes
 unfolding making_at
-of_making make key_in bytes = take_next_two (making make key_in (whole current)) refl (λ w. refl) bytes ∙ go (next_two bytes)
-  where
-    go : (x : Option (Word × Word × List ℕ)) → option_and_then (λ x. option_and_then (λ ws. making make key_in (whole current) (x.0 ∷ x.1 ∷ ws)) (words x.2)) x ≡ option_and_then (λ x. option_and_then (λ k. option_and_then (λ key. option_and_then (λ m. Some (make key m)) (option_and_then (content k.0 k.1) (words x.2))) (for_kind k.0 (key_in (whole current) x.1))) (counted_kind (whole current) x.0)) x
-    go None = refl
-    go (Some (kind, key, r)) = arguments make (words r) (counted_kind (whole current) kind) (key_in (whole current) key)
+of_making make key_in bytes =
+    take_next_two (making make key_in (whole current)) refl (λ w. refl) bytes
+    ∙ under _ _ (λ x.
+    let key : Kind → Option Key = λ k. for_kind k (key_in (whole current) x.1) in
+    swap (λ args (k : Kind × ℕ). option_and_then (λ key. option_map (make key) (content k.0 k.1 args)) (key k.0))
+    (words x.2) (counted_kind (whole current) x.0)
+    ∙ under _ _ (λ (k : Kind × ℕ).
+    swap (λ args key. option_map (make key) (content k.0 k.1 args)) (words x.2) (key k.0)
+    ∙ under _ _ (λ key. then_some (make key) (content k.0 k.1) (words x.2)) (key k.0))
+    (counted_kind (whole current) x.0)) (next_two bytes)
 
 -- ---- a scalar kind, a key, and as many values
 
-no_values : (k : Kind) (n : ℕ) (key : Key) → None ≡ option_and_then {U = Command} (λ kind. option_and_then (λ zs. items n kind key zs) None) (scalar_in k)
-no_values (Scalar k) n key = refl
-no_values Text n key = refl
-no_values (Vector k) n key = refl
-no_values (Map k v) n key = refl
-no_values Texts n key = refl
-
-the_values : (vs : List Word) (k : Kind) (n : ℕ) (key : Key) → each vs k n key ≡ option_and_then (λ kind. option_and_then (λ zs. items n kind key zs) (all (value_for kind) vs)) (scalar_in k)
+the_values : (vs : List Word) (k : Kind) (n : ℕ) (key : Key) → each vs k n key
+    ≡ option_and_then (λ kind. option_and_then (λ zs. items n kind key zs) (all (value_for kind) vs)) (scalar_in k)
 the_values vs (Scalar k) n key = refl
 the_values vs Text n key = refl
 the_values vs (Vector k) n key = refl
 the_values vs (Map k v) n key = refl
 the_values vs Texts n key = refl
 
-no_values_under : (k : Kind) (n : ℕ) (key : Option Key) → None ≡ option_and_then (λ key. option_and_then {U = Command} (λ kind. option_and_then (λ zs. items n kind key zs) None) (scalar_in k)) key
-no_values_under k n None = refl
-no_values_under k n (Some key) = no_values k n key
+each_given : (args : Option (List Word)) (k : Kind) (n : ℕ) (key : Key) → option_and_then (λ vs. each vs k n key) args
+    ≡ option_and_then (λ kind. option_and_then (λ zs. items n kind key zs)
+    (option_and_then (all (value_for kind)) args))
+    (scalar_in k)
+each_given args k n key =
+    under _ _ (λ vs. the_values vs k n key) args
+    ∙ swap (λ vs kind. option_and_then (λ zs. items n kind key zs) (all (value_for kind) vs)) args (scalar_in k)
+    ∙ under _ _ (λ kind. sym (then_then (λ zs. items n kind key zs) (all (value_for kind)) args)) (scalar_in k)
 
-the_values_under : (vs : List Word) (k : Kind) (n : ℕ) (key : Option Key) → option_and_then (λ key. each vs k n key) key ≡ option_and_then (λ key. option_and_then (λ kind. option_and_then (λ zs. items n kind key zs) (all (value_for kind) vs)) (scalar_in k)) key
-the_values_under vs k n None = refl
-the_values_under vs k n (Some key) = the_values vs k n key
-
-each_argument : (args : Option (List Word)) (kind : Option (Kind × ℕ)) (key : Option Key) → option_and_then (λ args. option_and_then (λ (k, n). option_and_then (λ key. each args k n key) (for_kind k key)) kind) args ≡ option_and_then (λ k. option_and_then (λ key. option_and_then (λ kind. option_and_then (λ zs. items k.1 kind key zs) (option_and_then (all (value_for kind)) args)) (scalar_in k.0)) (for_kind k.0 key)) kind
-each_argument None None key = refl
-each_argument None (Some (k, n)) key = no_values_under k n (for_kind k key)
-each_argument (Some args) None key = refl
-each_argument (Some args) (Some (k, n)) key = the_values_under args k n (for_kind k key)
-
-pub of_making_each : (bytes : List ℕ) → option_and_then (making_each (whole current)) (words bytes) ≡ making_each_at bytes
+pub of_making_each : (bytes : List ℕ)
+    → option_and_then (making_each (whole current)) (words bytes) ≡ making_each_at bytes
 unfolding making_each_at numbers_at
-of_making_each bytes = take_next_two (making_each (whole current)) refl (λ w. refl) bytes ∙ go (next_two bytes)
-  where
-    go : (x : Option (Word × Word × List ℕ)) → option_and_then (λ x. option_and_then (λ ws. making_each (whole current) (x.0 ∷ x.1 ∷ ws)) (words x.2)) x ≡ option_and_then (λ x. option_and_then (λ k. option_and_then (λ key. option_and_then (λ kind. option_and_then (λ zs. items k.1 kind key zs) (option_and_then (all (value_for kind)) (words x.2))) (scalar_in k.0)) (for_kind k.0 (new_key (whole current) x.1))) (counted_kind (whole current) x.0)) x
-    go None = refl
-    go (Some (kind, key, r)) = each_argument (words r) (counted_kind (whole current) kind) (new_key (whole current) key)
+of_making_each bytes =
+    take_next_two (making_each (whole current)) refl (λ w. refl) bytes
+    ∙ under _ _ (λ x.
+    let key : Kind → Option Key = λ k. for_kind k (new_key (whole current) x.1) in
+    swap (λ args (k : Kind × ℕ). option_and_then (λ key. each args k.0 k.1 key) (key k.0)) (words x.2)
+    (counted_kind (whole current) x.0)
+    ∙ under _ _ (λ (k : Kind × ℕ).
+    swap (λ args key. each args k.0 k.1 key) (words x.2) (key k.0)
+    ∙ under _ _ (λ key. each_given (words x.2) k.0 k.1 key) (key k.0))
+    (counted_kind (whole current) x.0)) (next_two bytes)
 
-if_as_many : (b : Bool) (k : ScalarKind) (n : ℕ) (key : Key) (zs : List ℤ) (w : Written) → Some w ≡ cond b (Some (written k zs)) None → Some (ConstructIt key w.kind n w.numbers) ≡ cond b (Some (ConstructIt key k n zs)) None
-if_as_many true k n key zs w h = let e : w ≡ written k zs = cc in ap (λ (w : Written). Some (ConstructIt key w.kind n w.numbers)) e
+if_as_many : (b : Bool) (k : ScalarKind) (n : ℕ) (key : Key) (zs : List ℤ) (w : Written)
+    → Some w ≡ cond b (Some (written k zs)) None → Some (ConstructIt key w.kind n w.numbers)
+    ≡ cond b (Some (ConstructIt key k n zs)) None
+if_as_many true k n key zs w h = let e : w ≡ written k zs = cc in
+    ap (λ (w : Written). Some (ConstructIt key w.kind n w.numbers)) e
 if_as_many false k n key zs w h = cc
 
-as_many : (k : ScalarKind) (n : ℕ) (key : Key) (o : Option (List ℤ)) (w : Written) → Some w ≡ option_and_then (λ zs. cond (length zs == n) (Some (written k zs)) None) o → Some (ConstructIt key w.kind n w.numbers) ≡ option_and_then (λ zs. items n k key zs) o
+as_many : (k : ScalarKind) (n : ℕ) (key : Key) (o : Option (List ℤ)) (w : Written)
+    → Some w ≡ option_and_then (λ zs. cond (length zs == n) (Some (written k zs)) None) o
+    → Some (ConstructIt key w.kind n w.numbers) ≡ option_and_then (λ zs. items n k key zs) o
 as_many k n key None w h = cc
 as_many k n key (Some zs) w h = if_as_many (length zs == n) k n key zs w h
 
 -- what is read of each part is the command
-pub each_read : (bytes r : List ℕ) (w v : Word) (kind : Kind) (k : ScalarKind) (n : ℕ) (key : Key) (x : Written) → Some (w, v, r) ≡ next_two bytes → Some (kind, n) ≡ counted_kind (whole current) w → Some key ≡ for_kind kind (new_key (whole current) v) → kind ≡ Scalar k → Some x ≡ counted_values k n r → Some (ConstructIt key x.kind n x.numbers) ≡ making_each_at bytes
+pub each_read : (bytes r : List ℕ) (w v : Word) (kind : Kind) (k : ScalarKind) (n : ℕ) (key : Key) (x : Written)
+    → Some (w, v, r) ≡ next_two bytes → Some (kind, n) ≡ counted_kind (whole current) w
+    → Some key ≡ for_kind kind (new_key (whole current) v) → kind ≡ Scalar k → Some x ≡ counted_values k n r
+    → Some (ConstructIt key x.kind n x.numbers) ≡ making_each_at bytes
 unfolding making_each_at
 each_read bytes r w v kind k n key x a b d e f =
-    as_many k n key (numbers_at k r) x f
-    ∙ ap (λ kind. option_and_then (λ kind. option_and_then (λ zs. items n kind key zs) (numbers_at kind r)) (scalar_in kind)) (sym e)
-    ∙ ap (λ key. option_and_then (λ key. option_and_then (λ kind. option_and_then (λ zs. items n kind key zs) (numbers_at kind r)) (scalar_in kind)) key) d
-    ∙ ap (λ k. option_and_then (λ k. option_and_then (λ key. option_and_then (λ kind. option_and_then (λ zs. items k.1 kind key zs) (numbers_at kind r)) (scalar_in k.0)) (for_kind k.0 (new_key (whole current) v))) k) b
-    ∙ ap (λ x. option_and_then (λ x. option_and_then (λ k. option_and_then (λ key. option_and_then (λ kind. option_and_then (λ zs. items k.1 kind key zs) (numbers_at kind x.2)) (scalar_in k.0)) (for_kind k.0 (new_key (whole current) x.1))) (counted_kind (whole current) x.0)) x) a
+    rw (← a, ← b, ← d, e) (as_many k n key (numbers_at k r) x f)
 
 -- ---- the command word
 
-known : (form : Option Form) (reader : Reader) (line rest : List ℕ) → Some (reader, rest) ≡ with_rest line (option_map (λ (f : Form). f.1) form) → as_reading (option_and_then (reader (whole current)) (words rest)) ≡ elim form [ None ↦ UnknownCommand | Some f ↦ as_reading (option_and_then (f.1 (whole current)) (words (behind_word line))) ]
+known : (form : Option Form) (reader : Reader) (line rest : List ℕ) → Some (reader, rest)
+    ≡ with_rest line (option_map (λ (f : Form). f.1) form)
+    → as_reading (option_and_then (reader (whole current)) (words rest))
+    ≡ elim form [
+      | None ↦ UnknownCommand
+      | Some f ↦ as_reading
+          (option_and_then (f.1 (whole current)) (words (behind_word line)))
+    ]
 known None reader line rest h = cc
 known (Some f) reader line rest h =
     let e : (reader, rest) ≡ (f.1, behind_word line) = cc in
     ap (λ (y : Reader × List ℕ). as_reading (option_and_then (y.0 (whole current)) (words y.1))) e
 
 -- a line that begins with a command word is read by the form of the command
-pub known_command : (line rest : List ℕ) (reader : Reader) → (length line == 0) ≡ false → Some (reader, rest) ≡ with_rest line (option_map (λ (f : Form). f.1) (form_of (up_to_blank line))) → as_reading (option_and_then (reader (whole current)) (words rest)) ≡ command_line (whole current) line
+pub known_command : (line rest : List ℕ) (reader : Reader) → (length line == 0) ≡ false → Some (reader, rest)
+    ≡ with_rest line (option_map (λ (f : Form). f.1) (form_of (up_to_blank line)))
+    → as_reading (option_and_then (reader (whole current)) (words rest)) ≡ command_line (whole current) line
 known_command [] rest reader h k = cc
 known_command (c ∷ cs) rest reader h k = known (form_of (up_to_blank (c ∷ cs))) reader (c ∷ cs) rest k
 
-unknown : (form : Option Form) (line : List ℕ) → None ≡ with_rest line (option_map (λ (f : Form). f.1) form) → UnknownCommand ≡ elim form [ None ↦ UnknownCommand | Some f ↦ as_reading (option_and_then (f.1 (whole current)) (words (behind_word line))) ]
-unknown None line h = refl
-unknown (Some f) line h = cc
-
-pub unknown_command : (line : List ℕ) → (length line == 0) ≡ false → None ≡ with_rest line (option_map (λ (f : Form). f.1) (form_of (up_to_blank line))) → UnknownCommand ≡ command_line (whole current) line
-unknown_command [] h k = cc
-unknown_command (c ∷ cs) h k = unknown (form_of (up_to_blank (c ∷ cs))) (c ∷ cs) k
-
 -- a line whose first word is a command word is no comment, and has no blank in front
-led_by_command : (line rest : List ℕ) (reader : Reader) → Some (reader, rest) ≡ with_rest line (option_map (λ (f : Form). f.1) (form_of (up_to_blank line))) → as_reading (option_and_then (reader (whole current)) (words rest)) ≡ cond (slice_index line 0 == 0x23) Nothing (command_line (whole current) (skip_blanks line))
+led_by_command : (line rest : List ℕ) (reader : Reader) → Some (reader, rest)
+    ≡ with_rest line (option_map (λ (f : Form). f.1) (form_of (up_to_blank line)))
+    → as_reading (option_and_then (reader (whole current)) (words rest)) ≡ cond (slice_index line 0 == 0x23) Nothing
+    (command_line (whole current) (skip_blanks line))
 led_by_command line rest reader h =
     let plain = command_is_plain line (reader, rest) h in
     known_command line rest reader (command_has_byte line (reader, rest) h) h
     ∙ ap (command_line (whole current)) (sym plain.1)
     ∙ ap (λ b. cond b Nothing (command_line (whole current) (skip_blanks line))) (sym plain.0)
 
-pub command_in_front : (line part rest : List ℕ) (reader : Reader) → part ≡ without_return line → nat_lt 4096 (length part) ≡ false → Some (reader, rest) ≡ with_rest part (option_map (λ (f : Form). f.1) (form_of (up_to_blank part))) → as_reading (option_and_then (reader (whole current)) (words rest)) ≡ reading (whole current) line
+pub command_in_front : (line part rest : List ℕ) (reader : Reader) → part ≡ without_return line
+    → nat_lt 4096 (length part) ≡ false → Some (reader, rest)
+    ≡ with_rest part (option_map (λ (f : Form). f.1) (form_of (up_to_blank part)))
+    → as_reading (option_and_then (reader (whole current)) (words rest)) ≡ reading (whole current) line
 unfolding reading
 command_in_front line part rest reader e short h =
     led_by_command part rest reader h
-    ∙ ap (λ b. cond b LineTooLong (cond (slice_index part 0 == 0x23) Nothing (command_line (whole current) (skip_blanks part)))) (sym short)
-    ∙ ap (λ line. cond (nat_lt 4096 (length line)) LineTooLong (cond (slice_index line 0 == 0x23) Nothing (command_line (whole current) (skip_blanks line)))) e
+    ∙ ap (λ b. cond b LineTooLong
+    (cond (slice_index part 0 == 0x23) Nothing (command_line (whole current) (skip_blanks part)))) (sym short)
+    ∙ ap (λ line. cond (nat_lt 4096 (length line)) LineTooLong
+    (cond (slice_index line 0 == 0x23) Nothing (command_line (whole current) (skip_blanks line)))) e

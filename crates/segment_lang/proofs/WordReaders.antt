@@ -1,42 +1,83 @@
 -- Readers that want two words, three, or two and those behind them.
-use Rattle.std.proofs.Common.{◌≡◌, ℕ, List, [], ◌∷◌, Option, Some, None, refl, ◌∙◌}
-use Rattle.std.specs.Option.{option_and_then}
+use Rattle.std.proofs.Common.{◌≡◌, ℕ, List, [], ◌∷◌, Option, Some, None, sym, refl, ◌∙◌}
+use Rattle.std.specs.Option.{option_map, option_and_then}
 use Rattle.segment_lang.specs.Words.{Word, words}
 use Rattle.segment_lang.specs.Tokens.{next_two, next_word, only_word, two_words, three_words}
 use Rattle.segment_lang.proofs.WordList.{take_only, take_word}
 
-pub take_two : {B : Type 0} (g : List Word → Option B) → g [] ≡ None → ((w : Word) → g (w ∷ []) ≡ None) → ((w v u : Word) (ws : List Word) → g (w ∷ v ∷ u ∷ ws) ≡ None) → (bytes : List ℕ) → option_and_then g (words bytes) ≡ option_and_then (λ x. g (x.0 ∷ x.1 ∷ [])) (two_words bytes)
+-- ---- one step after another, each of which may give nothing
+
+pub under : {A B : Type 0} (f g : A → Option B) → ((a : A) → f a ≡ g a) → (x : Option A)
+    → option_and_then f x ≡ option_and_then g x
+under f g e None = refl
+under f g e (Some a) = e a
+
+pub swap : {A B C : Type 0} (f : A → B → Option C) (x : Option A) (y : Option B)
+    → option_and_then (λ a. option_and_then (f a) y) x ≡ option_and_then (λ b. option_and_then (λ a. f a b) x) y
+swap f None None = refl
+swap f None (Some b) = refl
+swap f (Some a) None = refl
+swap f (Some a) (Some b) = refl
+
+pub then_then : {A B C : Type 0} (g : B → Option C) (f : A → Option B) (x : Option A)
+    → option_and_then g (option_and_then f x) ≡ option_and_then (λ a. option_and_then g (f a)) x
+then_then g f None = refl
+then_then g f (Some a) = refl
+
+made : {A B C : Type 0} (g : B → Option C) (k : A → B) (x : Option A)
+    → option_and_then g (option_and_then (λ a. Some (k a)) x) ≡ option_and_then (λ a. g (k a)) x
+made g k None = refl
+made g k (Some a) = refl
+
+-- what two steps give is made one thing
+pub both_made : {A B C D : Type 0} (g : C → Option D) (k : A → B → C) (f : A → Option B) (x : Option A)
+    → option_and_then g (option_and_then (λ a. option_and_then (λ b. Some (k a b)) (f a)) x)
+    ≡ option_and_then (λ a. option_and_then (λ b. g (k a b)) (f a)) x
+both_made g k f None = refl
+both_made g k f (Some a) = made g (k a) (f a)
+
+pub map_then : {A B C : Type 0} (g : B → C) (f : A → Option B) (x : Option A)
+    → option_and_then (λ a. option_map g (f a)) x ≡ option_map g (option_and_then f x)
+map_then g f None = refl
+map_then g f (Some a) = refl
+
+some_map : {B C : Type 0} (g : B → C) (x : Option B) → option_map g x ≡ option_and_then (λ b. Some (g b)) x
+some_map g None = refl
+some_map g (Some b) = refl
+
+pub then_some : {A B C : Type 0} (g : B → C) (f : A → Option B) (x : Option A)
+    → option_and_then (λ a. option_map g (f a)) x ≡ option_and_then (λ b. Some (g b)) (option_and_then f x)
+then_some g f x = map_then g f x ∙ some_map g (option_and_then f x)
+
+-- ---- the readers
+
+pub take_two : {B : Type 0} (g : List Word → Option B) → g [] ≡ None → ((w : Word) → g (w ∷ []) ≡ None)
+    → ((w v u : Word) (ws : List Word) → g (w ∷ v ∷ u ∷ ws) ≡ None) → (bytes : List ℕ)
+    → option_and_then g (words bytes) ≡ option_and_then (λ x. g (x.0 ∷ x.1 ∷ [])) (two_words bytes)
 unfolding two_words
-take_two {B} g n o m bytes = take_word g n bytes ∙ go (next_word bytes)
-  where
-    pair : (w : Word) (x : Option Word) → option_and_then (λ v. g (w ∷ v ∷ [])) x ≡ option_and_then {U = B} (λ x. g (x.0 ∷ x.1 ∷ [])) (option_and_then {U = Word × Word} (λ v. Some (w, v)) x)
-    pair w None = refl
-    pair w (Some v) = refl
+take_two g n o m bytes =
+    take_word g n bytes
+    ∙ under _ _ (λ x. take_only (λ ws. g (x.0 ∷ ws)) (o x.0) (m x.0) x.1) (next_word bytes)
+    ∙ sym (both_made (λ (y : Word × Word). g (y.0 ∷ y.1 ∷ [])) (λ (x : Word × List ℕ) v. (x.0, v)) (λ x. only_word x.1)
+    (next_word bytes))
 
-    go : (x : Option (Word × List ℕ)) → option_and_then (λ x. option_and_then (λ ws. g (x.0 ∷ ws)) (words x.1)) x ≡ option_and_then (λ x. g (x.0 ∷ x.1 ∷ [])) (option_and_then {U = Word × Word} (λ x. option_and_then {U = Word × Word} (λ v. Some (x.0, v)) (only_word x.1)) x)
-    go None = refl
-    go (Some (w, r)) = take_only (λ ws. g (w ∷ ws)) (o w) (m w) r ∙ pair w (only_word r)
-
-pub take_three : {B : Type 0} (g : List Word → Option B) → g [] ≡ None → ((w : Word) → g (w ∷ []) ≡ None) → ((w v : Word) → g (w ∷ v ∷ []) ≡ None) → ((w v u t : Word) (ws : List Word) → g (w ∷ v ∷ u ∷ t ∷ ws) ≡ None) → (bytes : List ℕ) → option_and_then g (words bytes) ≡ option_and_then (λ x. g (x.0 ∷ x.1 ∷ x.2 ∷ [])) (three_words bytes)
+pub take_three : {B : Type 0} (g : List Word → Option B) → g [] ≡ None → ((w : Word) → g (w ∷ []) ≡ None)
+    → ((w v : Word) → g (w ∷ v ∷ []) ≡ None) → ((w v u t : Word) (ws : List Word) → g (w ∷ v ∷ u ∷ t ∷ ws) ≡ None)
+    → (bytes : List ℕ)
+    → option_and_then g (words bytes) ≡ option_and_then (λ x. g (x.0 ∷ x.1 ∷ x.2 ∷ [])) (three_words bytes)
 unfolding three_words
-take_three {B} g n o p m bytes = take_word g n bytes ∙ go (next_word bytes)
-  where
-    triple : (w : Word) (x : Option (Word × Word)) → option_and_then (λ x. g (w ∷ x.0 ∷ x.1 ∷ [])) x ≡ option_and_then {U = B} (λ x. g (x.0 ∷ x.1 ∷ x.2 ∷ [])) (option_and_then {U = Word × Word × Word} (λ y. Some (w, y.0, y.1)) x)
-    triple w None = refl
-    triple w (Some x) = refl
+take_three g n o p m bytes =
+    take_word g n bytes
+    ∙ under _ _ (λ x. take_two (λ ws. g (x.0 ∷ ws)) (o x.0) (p x.0) (m x.0) x.1) (next_word bytes)
+    ∙ sym (both_made (λ (y : Word × Word × Word). g (y.0 ∷ y.1 ∷ y.2 ∷ []))
+    (λ (x : Word × List ℕ) (v : Word × Word). (x.0, v.0, v.1)) (λ x. two_words x.1) (next_word bytes))
 
-    go : (x : Option (Word × List ℕ)) → option_and_then (λ x. option_and_then (λ ws. g (x.0 ∷ ws)) (words x.1)) x ≡ option_and_then (λ x. g (x.0 ∷ x.1 ∷ x.2 ∷ [])) (option_and_then {U = Word × Word × Word} (λ x. option_and_then {U = Word × Word × Word} (λ y. Some (x.0, y.0, y.1)) (two_words x.1)) x)
-    go None = refl
-    go (Some (w, r)) = take_two (λ ws. g (w ∷ ws)) (o w) (p w) (m w) r ∙ triple w (two_words r)
-
-pub take_next_two : {B : Type 0} (g : List Word → Option B) → g [] ≡ None → ((w : Word) → g (w ∷ []) ≡ None) → (bytes : List ℕ) → option_and_then g (words bytes) ≡ option_and_then (λ x. option_and_then (λ ws. g (x.0 ∷ x.1 ∷ ws)) (words x.2)) (next_two bytes)
+pub take_next_two : {B : Type 0} (g : List Word → Option B) → g [] ≡ None → ((w : Word) → g (w ∷ []) ≡ None)
+    → (bytes : List ℕ) → option_and_then g (words bytes)
+    ≡ option_and_then (λ x. option_and_then (λ ws. g (x.0 ∷ x.1 ∷ ws)) (words x.2)) (next_two bytes)
 unfolding next_two
-take_next_two {B} g n o bytes = take_word g n bytes ∙ go (next_word bytes)
-  where
-    pair : (w : Word) (x : Option (Word × List ℕ)) → option_and_then (λ x. option_and_then (λ ws. g (w ∷ x.0 ∷ ws)) (words x.1)) x ≡ option_and_then {U = B} (λ x. option_and_then (λ ws. g (x.0 ∷ x.1 ∷ ws)) (words x.2)) (option_and_then {U = Word × Word × List ℕ} (λ y. Some (w, y.0, y.1)) x)
-    pair w None = refl
-    pair w (Some x) = refl
-
-    go : (x : Option (Word × List ℕ)) → option_and_then (λ x. option_and_then (λ ws. g (x.0 ∷ ws)) (words x.1)) x ≡ option_and_then (λ x. option_and_then (λ ws. g (x.0 ∷ x.1 ∷ ws)) (words x.2)) (option_and_then {U = Word × Word × List ℕ} (λ x. option_and_then {U = Word × Word × List ℕ} (λ y. Some (x.0, y.0, y.1)) (next_word x.1)) x)
-    go None = refl
-    go (Some (w, r)) = take_word (λ ws. g (w ∷ ws)) (o w) r ∙ pair w (next_word r)
+take_next_two g n o bytes =
+    take_word g n bytes
+    ∙ under _ _ (λ x. take_word (λ ws. g (x.0 ∷ ws)) (o x.0) x.1) (next_word bytes)
+    ∙ sym (both_made (λ (y : Word × Word × List ℕ). option_and_then (λ ws. g (y.0 ∷ y.1 ∷ ws)) (words y.2))
+    (λ (x : Word × List ℕ) (v : Word × List ℕ). (x.0, v.0, v.1)) (λ x. next_word x.1) (next_word bytes))

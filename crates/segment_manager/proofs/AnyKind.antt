@@ -197,14 +197,6 @@ pub any-no_value : (s : State) (key : Key) (k : ScalarKind) (i : ℕ) (l : Liter
 any-no_value s key k i l r a writing f =
     refused-steps s (asked.Set key i l) r writing (λ d w. ap (perform d (live d)) (set-effect d key k i l (Err r) (has-elements d key k (a.answers d w)) f))
 
--- of an object whose elements are no scalars none is written
-not_set : (d : Directory) (o : Object) (v : Value) (i : ℕ) (l : Literal) (r : Refusal) → elements_of (kind_of v) ≡ Err r → (kind_of v ≡ TextsKind → ⊥) → set d o v i l ≡ Refuse r
-not_set d o (Numbers k zs) i l r e n = absurd (cc)
-not_set d o (Elements k zs t) i l r e n = absurd (cc)
-not_set d o (Bytes bs t) i l r e n = absurd (cc)
-not_set d o (Pairs k v ps) i l r e n = let why : WrongKind ≡ r = cc in ap Refuse why
-not_set d o (Texts ps t) i l r e n = absurd (n refl)
-
 -- ---- objects of other kinds than texts
 
 not-both : (a b : Kind) → a ≡ b → (b ≡ TextsKind → ⊥) → a ≡ TextsKind → ⊥

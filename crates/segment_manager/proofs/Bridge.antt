@@ -18,7 +18,6 @@ use Rattle.seg_index.specs.declared.index.Index.{Index}
 use Rattle.seg_index.specs.declared.index.Index.TheVariants.{Named, Unique}
 use Rattle.seg_index.specs.declared.keys.Key.{Key}
 use Rattle.seg_index.specs.declared.keys.Key.TheVariants.{Name, Code}
-use Rattle.seg_index.specs.declared.keys.Lookup.{Lookup}
 use Rattle.seg_index.specs.declared.keys.Lookup.TheVariants.{Found, Absent}
 use Rattle.seg_index.specs.Lookups.{IsPlace, order}
 use Rattle.segment_manager.specs.Directory.{Object, Directory, IsDirectory, has_key, insert_by, is_class, kind_of, object_at, remove_object, rises_from, same_bytes, with_object, without_object}
@@ -47,10 +46,6 @@ pub record IsEntryFor (i : Index) (d : Directory) (key : names.Key) (at : ℕ) :
 pub record IsNoEntryFor (i : Index) (d : Directory) (key : names.Key) (at : ℕ) : Type 0 where
   pub none : object_at d key ≡ None
   pub within : at ≤ length (entries_of i d)
-
-abbrev pub Means : Index → Directory → names.Key → Lookup → Type 0
-Means i d key (Found at) = IsEntryFor i d key at
-Means i d key (Absent at) = IsNoEntryFor i d key at
 
 -- ---- keys that an index looks up
 

@@ -15,7 +15,7 @@ use Rattle.segment_manager.specs.Answers.{Done, Element}
 use Rattle.segment_manager.specs.Directory.{Value, Numbers, Elements, Bytes, Pairs, Texts, Object, Directory, live, object_at}
 use Rattle.segment_manager.specs.Plan.{Plan, Refuse, Reply, with, with_capacity}
 use Rattle.segment_manager.specs.Step as step
-use Rattle.segment_manager.specs.Step.{changed, effect, storage_of, text_among, text_of, values_of, vector_of, with_items, with_table}
+use Rattle.segment_manager.specs.Step.{changed, effect, storage_of, text_among, text_of, values_of, with_items, with_table}
 use Rattle.segment_manager.proofs.Steps.{with-found}
 
 abbrev of_slice : Option ℤ → Result ℤ Refusal
@@ -116,9 +116,6 @@ module _ (d : Directory) (key : Key) (o : Object) (k : ScalarKind) (zs : List �
 
   pub set-past : (i : ℕ) (l : Literal) (z : ℤ) → value_of_literal k l ≡ Ok z → slice_get zs i ≡ None → effect d (asked.Set key i l) ≡ Refuse OutOfRange
   set-past i l z g h = set-literal i l ∙ (λ j. with (g j) (λ z. with (of_slice (h j)) (set_with i z)))
-
-  pub set-refused : (i : ℕ) (l : Literal) (r : Refusal) → value_of_literal k l ≡ Err r → effect d (asked.Set key i l) ≡ Refuse r
-  set-refused i l r g = set-literal i l ∙ ap (λ r. with r (λ z. with (of_slice (slice_get zs i)) (set_with i z))) g
 
 -- ---- texts
 

@@ -5,7 +5,7 @@ use Rattle.std.specs.List.{AllByRecursion}
 use Rattle.raw_region.specs.Memory.{Memory, Cut, Same, bytes_of}
 use Rattle.block_tags.specs.declared.tile.Role.TheVariants.{Index}
 use Rattle.best_fit.specs.Extents.{Extent, LiveSet, handle, is_proper}
-use Rattle.best_fit.specs.Fit.{added, released}
+use Rattle.best_fit.specs.Fit.{released}
 use Rattle.best_fit.specs.Heap.{LaysOut, SameBlock, Keeps}
 use Rattle.best_fit.specs.Table.{Table, is_table}
 use Rattle.seg_types.specs.declared.kinds.Class.TheVariants.{Anonymous}
@@ -93,13 +93,6 @@ denotes-with format old new d o h is_there c l k at =
       objects = all-put (IsObjectAt (bytes_of new.bytes)) o d.objects at
           (any_objects-same format (bytes_of old.bytes) (bytes_of new.bytes) d.objects h.directory.objects blocks.objects h.objects);
     }
-
--- one that has no block but its own
-pub denotes-added : (format : ℕ) (old new : Cut) (d : Directory) (o : Object) → Denotes format old.bytes d → IsTrue (is_object format o) → IsPlain o
-    → LaysOut format new.bytes (added (live d) o.extent) → Keeps old new (live d).extents → IsObjectAt (bytes_of new.bytes) o
-    → Denotes format new.bytes (with_object d o)
-denotes-added format old new d o h is_there plain l k at =
-    denotes-with format old new d o h is_there plain.class (subst (LaysOut format new.bytes) (ap (λ xs. adding (live d) (o.extent ∷ xs)) (sym plain.alone)) l) k at
 
 -- ---- one object less
 

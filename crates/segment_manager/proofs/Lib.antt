@@ -72,6 +72,7 @@ mod VectorCalls
 mod TextSteps
 mod StorageSteps
 mod Safely
+mod ScalarTypes
 mod TextAnswers
 mod VectorAnswers
 mod AnyStorage

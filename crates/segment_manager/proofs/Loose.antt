@@ -1,5 +1,5 @@
 -- The blocks of an object that no entry leads to yet: what an index wants to lead there, and how they are given back.
-use Rattle.std.proofs.Common.{◌≡◌, sym, subst, ℕ, ◌+◌, ◌%◌, ◌≤◌, Some, None, Option, List, [], length, arith}
+use Rattle.std.proofs.Common.{sym, subst, ℕ, ◌+◌, ◌≤◌, Some, None, Option, List, [], arith}
 use Rattle.std.specs.Prelude.{IfSome, IsTrue}
 use Rattle.raw_region.specs.Memory.{Cut}
 use Rattle.raw_region.specs.Format.{current}
@@ -15,7 +15,6 @@ use Rattle.seg_index.specs.Growth.{GivesBack}
 use Rattle.seg_index.specs.Held.{place_of}
 use Rattle.segment_manager.specs.declared.beginning.NewEntry.{NewEntry}
 use Rattle.segment_manager.specs.Begun.{IsBegun, IsHeaded, IsLoose, IsLooseAlone, IsLooseEntry, IsReadyFor, IsWanted}
-use Rattle.segment_manager.specs.Directory.{padded}
 use Rattle.segment_manager.specs.Indexed.{class_of_index}
 use Rattle.segment_manager.specs.NewObjects.{IsRestored}
 use Rattle.segment_manager.specs.Standing.{room_for}
@@ -41,11 +40,6 @@ begun-room (Some e) a m key kind count body h at g =
 pub begun-heap : (entry : Option NewEntry) (a m : Cut) (key : Key) (kind : Kind) (count body h at : ℕ) → IsBegun a m key kind count body h at entry → IsHeap current m.bytes
 begun-heap None a m key kind count body h at g = changed-heap g.taken m h _ g.headed.change
 begun-heap (Some e) a m key kind count body h at g = changed-heap g.taken m h _ g.headed.change
-
--- it stands at a multiple of 8
-pub begun-aligned : (entry : Option NewEntry) (a m : Cut) (key : Key) (kind : Kind) (count body h at : ℕ) → IsBegun a m key kind count body h at entry → at % 8 ≡ 0
-begun-aligned None a m key kind count body h at g = let e : at ≡ 16 = g.headed.start in omega arith
-begun-aligned (Some e) a m key kind count body h at g = let s : at ≡ 16 + padded (length g.name) = g.headed.start in omega arith
 
 -- ---- an entry is to lead there
 

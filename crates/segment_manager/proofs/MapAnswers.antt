@@ -8,6 +8,7 @@ use Rattle.best_fit.proofs.Laws.{room-less}
 use Rattle.seg_types.specs.declared.kinds.Kind.TheVariants.{Map}
 use Rattle.seg_types.specs.declared.kinds.ScalarKind.{ScalarKind}
 use Rattle.seg_types.specs.declared.plain.Plain.{Ghosts as Plain}
+use Rattle.seg_types.specs.declared.refusals.Refusal.{Refusal}
 use Rattle.seg_types.specs.Kinds.{is_value}
 use Rattle.seg_types.specs.Names.{Key}
 use Rattle.seg_types.specs.Commands.{Lookup, Put, Remove, literal_of}
@@ -86,11 +87,13 @@ module _ {K V : Type 0} (k v : ScalarKind) (kp : Plain K) (vp : Plain V) (kw : K
     writing-there : is_read_only s.mode ≡ false
     writing-there = subst (λ (u : State). is_read_only u.mode ≡ false) (sym view) writing
 
-    pub put-there : {E : Type 0} (x : K) (y : V) (r : Result Bool E) → kp.is_value x ≡ true → vp.is_value y ≡ true → Puts kp vp s.cut new q.handle q.at x y r
-        → TellsSafely s new key (Map k v) (Put key (literal_of k (kw x)) (literal_of v (vw y))) (put_result r)
-    put-there x y r good fair each =
-        map-put s key k v p b found-there new writing-there (kw x) (vw y) r (as-value k kp kw kl x good) (as-value v vp vw vl y fair)
-        (puts-numbers k v kp vp kw vw kl vl s.cut new p.handle p.at x y r (subst (λ (r' : Place). Puts kp vp s.cut new r'.handle r'.at x y r) same each))
+    -- as the call answers it
+    pub put-there : {E : Type 0} (x : K) (y : V) (r : Result Bool E) (out : Result Bool Refusal) → out ≡ put_result r → kp.is_value x ≡ true → vp.is_value y ≡ true
+        → Puts kp vp s.cut new q.handle q.at x y r → TellsSafely s new key (Map k v) (Put key (literal_of k (kw x)) (literal_of v (vw y))) out
+    put-there x y r out told good fair each =
+        subst (TellsSafely s new key (Map k v) (Put key (literal_of k (kw x)) (literal_of v (vw y)))) (sym told)
+        (map-put s key k v p b found-there new writing-there (kw x) (vw y) r (as-value k kp kw kl x good) (as-value v vp vw vl y fair)
+        (puts-numbers k v kp vp kw vw kl vl s.cut new p.handle p.at x y r (subst (λ (r' : Place). Puts kp vp s.cut new r'.handle r'.at x y r) same each)))
 
     pub erased-there : (x : K) (r : Bool) → kp.is_value x ≡ true → Erases kp vp s.cut new q.handle q.at x r → TellsSafely s new key (Map k v) (Remove key (literal_of k (kw x))) (Ok r)
     erased-there x r good each =

@@ -1,6 +1,6 @@
 -- The calls on maps of numbers, each as one step: what the calls of seg_map ensure of the map at its place comes to the directory.
 use Rattle.std.proofs.Common.{◌≡◌, refl, sym, ap, subst, ◌∙◌, ℕ, ℤ, Bool, true, false, Option, Some, None, Result, Ok, Err, List, [], if◌then◌else◌}
-use Rattle.std.specs.Prelude.{MatchOption, MatchResult, OnErr, int_lt, option_map}
+use Rattle.std.specs.Prelude.{MatchOption, MatchResult, int_lt, option_map}
 use Rattle.std.proofs.lemmas.Bool.{eq-eqb}
 use Rattle.raw_region.specs.Format.{current}
 use Rattle.raw_region.specs.Memory.{Cut, SamePlace}
@@ -38,7 +38,8 @@ use Rattle.segment_manager.proofs.MapBlocks.{blocks-in_use, found-key}
 use Rattle.segment_manager.proofs.MapSteps.{IsMapObject, again-denotes, erased-denotes, map-only, map_place, object-map, put-denotes}
 use Rattle.segment_manager.proofs.ObjectLists.{key-found}
 use Rattle.segment_manager.proofs.Refilled.{HoldsAt, finds-no_container, holds-at}
-use Rattle.segment_manager.proofs.Steps.{IsMove, IsOpenFor, by_no_change_of_kind, by_step_of_kind, open-reading, open-writing, perform-new, perform-no_space, step_of_kind-found, step_of_kind-segment, with-found}
+use Rattle.segment_manager.proofs.Safely.{AnswersSafely}
+use Rattle.segment_manager.proofs.Steps.{IsMove, IsOpenFor, by_no_change_of_kind, by_step_of_kind, open-reading, open-writing, perform-new, perform-no_space, step_of_kind-found, with-found}
 use Rattle.segment_manager.proofs.StorageSteps.{step_of_kind-reply}
 use Rattle.segment_manager.proofs.Stored.{literal-read}
 
@@ -130,23 +131,8 @@ module _ (d : Directory) (key : Key) (o : Object) (k v : ScalarKind) (ps : List 
 -- ---- steps that answer a truth
 
 -- the step of a call, and that it changes nothing where it is refused
-pub record TellsSafely (s : State) (new : Cut) (key : Key) (kind : Kind) (c : Command) (r : Result Bool Refusal) : Type 0 where
-  pub step : IsStepOfKind s (record s { cut = new }) key kind c (truth_answer r)
-  pub refused : OnErr r (new ≡ s.cut)
-
-module _ (s t : State) (view : s ≡ t) (new : Cut) (key : Key) (kind : Kind) (c : Command) (r : Result Bool Refusal) (done : TellsSafely s new key kind c r) where
-  pub tells-step : IsStepOfKind t (record s { cut = new }) key kind c (truth_answer r)
-  tells-step = subst (λ (u : State). IsStepOfKind u (record s { cut = new }) key kind c (truth_answer r)) view done.step
-
-  pub tells-refused : OnErr r ((record s { cut = new }) ≡ t)
-  tells-refused = kept r done.refused
-    where
-      kept : (q : Result Bool Refusal) → OnErr q (new ≡ s.cut) → OnErr q ((record s { cut = new }) ≡ t)
-      kept (Ok u) e = tt
-      kept (Err w) e = (λ i. record s { cut = e i }) ∙ view
-
-  pub tells-segment : IsSegment s.cut.bytes → IsSegment new.bytes
-  tells-segment b = step_of_kind-segment s (record s { cut = new }) key kind c (truth_answer r) done.step b
+abbrev pub TellsSafely : State → Cut → Key → Kind → Command → Result Bool Refusal → Type 0
+TellsSafely = AnswersSafely truth_answer
 
 -- what a put answers
 abbrev pub put_result : {E : Type 0} → Result Bool E → Result Bool Refusal

@@ -16,7 +16,7 @@ use Rattle.segment_manager.specs.Denotes.{Denotes}
 use Rattle.segment_manager.specs.Directory.{Value, Object, Directory, kind_of, object_at}
 use Rattle.segment_manager.specs.ElementLists.{first_size, length_at_kind, number_or_none}
 use Rattle.segment_manager.specs.Maps.{pair_from, told_of, told_of_map}
-use Rattle.segment_manager.specs.Walks.{first_of, pairs_at, pairs_at_kinds, pairs_of}
+use Rattle.segment_manager.specs.Walks.{first_of, pairs_at_kinds, pairs_of}
 use Rattle.segment_manager.proofs.AnyStorage.{IsOfKindAt}
 use Rattle.segment_manager.proofs.ElementLists.{its-list, listed-length, none-listed, other-listed}
 use Rattle.segment_manager.proofs.Here.{standing}

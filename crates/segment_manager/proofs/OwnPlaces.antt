@@ -5,10 +5,6 @@ use Rattle.std.proofs.lemmas.Option.{none-some, same_Some}
 
 -- ---- a list, and those of it that pass
 
--- how many pass of the first ones
-abbrev passed : {X : Type 0} → (X → Bool) → List X → ℕ → ℕ
-passed p xs i = length (filter p (take i xs))
-
 past-one : {X : Type 0} (b : Bool) (x : X) (ys zs : List X) → length ys ≡ length zs → length (cond b (x ∷ ys) ys) ≡ length (cond b (x ∷ zs) zs)
 past-one true x ys zs e = ap suc e
 past-one false x ys zs e = e

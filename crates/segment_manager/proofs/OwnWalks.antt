@@ -14,7 +14,7 @@ use Rattle.segment_manager.specs.Calls.{as_span}
 use Rattle.segment_manager.specs.Directory.{Object, Directory, live, object_at, rises_from}
 use Rattle.segment_manager.specs.Found.{IsBelow, is_object_at}
 use Rattle.segment_manager.specs.Instances.{IsInstance, SaysAt, SaysOf}
-use Rattle.segment_manager.specs.Iterating.{GoesOnOwn, GoesOnTiles, HasPassed, IsOwnBlock, TileWalk, is_own, is_own_span, own_before, own_count, own_spans, place_behind}
+use Rattle.segment_manager.specs.Iterating.{GoesOnOwn, GoesOnTiles, HasPassed, IsOwnBlock, TileWalk, is_own, is_own_span, own_before, own_count, own_spans}
 use Rattle.segment_manager.specs.State.{Answers, IsSegment, State, StandsFor}
 use Rattle.segment_manager.proofs.Bridge.{each-by_handle}
 use Rattle.segment_manager.proofs.Calling.{denotes-live}
@@ -31,9 +31,6 @@ use Rattle.segment_manager.proofs.Words.{second}
 pub record IsStill (old new : TileWalk) : Type 0 where
   pub segment : new.segment ≡ old.segment
   pub count : (d : Directory) → StandsFor old.segment.cut.bytes d → own_before d new.at ≡ own_before d old.at
-
-pub still-here : (w : TileWalk) → IsStill w w
-still-here w = record { segment = refl; count = λ d k. refl }
 
 module _ (old cur new : TileWalk) (s : IsStill old cur) where
   same-bytes : (d : Directory) → StandsFor old.segment.cut.bytes d → StandsFor cur.segment.cut.bytes d
@@ -207,22 +204,6 @@ module _ (s : State) (old new : TileWalk) (at : ℕ) (r : Option Span) (h : HasP
   -- a block came
   pub block-at : (span : Span) → r ≡ Some span → IsOwnBlock s at span
   block-at span e = record { stands = λ d k. ap (option_map as_span) (sym e) ∙ at-own d k }
-
-  pub passed-one : (span : Span) (n : ℕ) → r ≡ Some span → n ≡ at + 1 → HasPassed s new n
-  passed-one span n e f = record {
-    segment = g.segment ∙ h.segment;
-    count = record {
-      answers = λ d k.
-          f ∙ ap (λ m. m + 1) (h.count.answers d k) ∙ sym (g.count d (the-bytes d k) ∙ ap (place_behind (own_before d old.at)) e);
-    };
-  }
-
-  -- none came
-  pub passed-all : r ≡ None → HasPassed s new at
-  passed-all e = record {
-    segment = g.segment ∙ h.segment;
-    count = record { answers = λ d k. h.count.answers d k ∙ sym (g.count d (the-bytes d k) ∙ ap (place_behind (own_before d old.at)) e) };
-  }
 
   pub none-left : r ≡ None → (d : Directory) → StandsFor s.cut.bytes d → length d.objects ≤ at
   none-left e d k = objects-end s at d k (ap (option_map as_span) (sym e) ∙ at-own d k)

@@ -1,5 +1,5 @@
 -- A call that changes a vector or text of an object is one step of the directory machine.
-use Rattle.std.proofs.Common.{◌≡◌, refl, sym, ap, subst, ◌∙◌, ℕ, true, false, Bool, Option, Some, None, Result, Ok, Err, List, if◌then◌else◌}
+use Rattle.std.proofs.Common.{◌≡◌, refl, sym, ap, ◌∙◌, ℕ, true, false, Bool, Option, Some, None, Result, Ok, Err, List, if◌then◌else◌}
 use Rattle.std.specs.Prelude.{IsTrue}
 use Rattle.raw_region.specs.Memory.{Cut}
 use Rattle.best_fit.specs.Heap.{live_of}
@@ -23,7 +23,7 @@ use Rattle.segment_manager.specs.Step.{changed, effect, is_read_only, step_of_ki
 use Rattle.segment_manager.proofs.Calling.{denotes-live}
 use Rattle.segment_manager.proofs.Contained.{contents-changed}
 use Rattle.segment_manager.proofs.Grown.{answered, grows}
-use Rattle.segment_manager.proofs.Steps.{IsMove, IsOpenFor, by_no_change, by_no_change_of_kind, by_step_of_kind, open-writing, step-effect, step_of_kind-found, step_of_kind-not_found, step_of_kind-other, step_of_kind-step}
+use Rattle.segment_manager.proofs.Steps.{IsMove, IsOpenFor, by_no_change, by_no_change_of_kind, by_step_of_kind, open-writing, step-effect, step_of_kind-found, step_of_kind-not_found, step_of_kind-other}
 
 -- ---- a directory
 
@@ -125,15 +125,3 @@ missing-of mode d key kind c r (Some o) w e f = missing-if mode d key kind c r o
 -- why there is no such container is why every call for the kind is refused
 pub finds-no_container : (s : State) (key : Key) (kind : Kind) (c : Command) (r : Refusal) → IsOpenFor s.mode c → Answers s (λ d. container_at d key kind) (Err r) → IsStepOfKind s s key kind c (Refused r)
 finds-no_container s key kind c r w a = by_no_change_of_kind s key kind c (Refused r) (λ d k. missing-of s.mode d key kind c r (object_at d key) w refl (a.answers d k))
-
--- where there is one, the step of the kind is the command's
-pub any_container-steps : (old new : State) (key : Key) (kind : Kind) (p : Place) (c : Command) (answer : Answer) → Answers old (λ d. container_at d key kind) (Ok p) → IsStepOfKind old new key kind c answer → IsStep old new c answer
-any_container-steps old new key kind p c answer a r = record {
-  stays = r.stays;
-  answers = λ d k.
-      let e : HoldsAt d key kind p = holds-at d key kind p (a.answers d k) in
-      r.answers d k ∙ ap (λ (n : Answer × Directory). n.0) (step_of_kind-step old.mode d key kind c e.object e.is e.same);
-  denotes = λ d k.
-      let e : HoldsAt d key kind p = holds-at d key kind p (a.answers d k) in
-      subst (λ (n : Answer × Directory). StandsFor new.cut.bytes n.1) (step_of_kind-step old.mode d key kind c e.object e.is e.same) (r.denotes d k);
-}

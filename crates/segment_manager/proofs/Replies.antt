@@ -15,7 +15,6 @@ use Rattle.seg_types.specs.declared.values.ScalarValue.{ScalarValue}
 use Rattle.seg_types.specs.Kinds.{code_of, is_spelling, is_value, same_kind, size_of, spelling, value_of}
 use Rattle.seg_types.specs.Names.{Key}
 use Rattle.seg_types.specs.Commands as asked
-use Rattle.seg_types.specs.Commands.{Command}
 use Rattle.seg_types.specs.Values.{SpelledBy, value_of_scalar}
 use Rattle.segment_manager.specs.declared.accessing.Place.{Place}
 use Rattle.segment_manager.specs.declared.modes.Mode.{Mode}

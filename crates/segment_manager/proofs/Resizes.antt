@@ -1,7 +1,7 @@
 -- What the bytes stand for where the end of the heap moves, and then the size is written.
 use Rattle.std.proofs.Common.{◌≡◌, refl, sym, ap, subst, ◌∙◌, ℕ, ◌+◌, ◌≤◌, inl, inr, List, length, arith}
 use Rattle.std.specs.List.{AllByRecursion}
-use Rattle.raw_region.specs.Memory.{Memory, Cut, Same, bytes_of, word_at}
+use Rattle.raw_region.specs.Memory.{Cut, Same, bytes_of, word_at}
 use Rattle.raw_region.specs.Format.{current}
 use Rattle.raw_region.proofs.Laws.{Same-part, Same-word}
 use Rattle.best_fit.specs.Ends.{EndsAt, HasEndMoved, least_size, of_size}
@@ -23,12 +23,6 @@ unfolding live
 live-of_size d n = refl
 
 module _ (old mid new : Cut) (n : ℕ) (moved : HasEndMoved current old mid n) (change : IsChanged current mid new 16 8) (word : word_at (bytes_of new.bytes) 16 ≡ n) where
-  abbrev m : Memory
-  m = bytes_of old.bytes
-
-  abbrev m' : Memory
-  m' = bytes_of new.bytes
-
   mid_live : live_of mid.bytes ≡ of_size (live_of old.bytes) n
   mid_live = lay_out_one current mid.bytes (of_size (live_of old.bytes) n) moved.live
 

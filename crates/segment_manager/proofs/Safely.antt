@@ -12,7 +12,7 @@ use Rattle.seg_types.specs.Names.{Key}
 use Rattle.seg_types.specs.Commands.{Command}
 use Rattle.seg_vector.specs.declared.places.Place.{Place}
 use Rattle.segment_manager.specs.declared.head.Head.{Head}
-use Rattle.segment_manager.specs.Answers.{Refused}
+use Rattle.segment_manager.specs.Answers.{Answer, Done, Refused}
 use Rattle.segment_manager.specs.Contents.{container_at, container_place, place_of_kind}
 use Rattle.segment_manager.specs.Directory.{Object, kind_of, padded}
 use Rattle.segment_manager.specs.Found.{handle_at}
@@ -31,18 +31,41 @@ stays s new key kind c e why is same step = record {
   refused = same;
 }
 
+-- it is done
+pub done-so : {s : State} {new : Cut} {key : Key} {kind : Kind} {c : Command} {u : Unit {0}} → IsStepOfKind s (record s { cut = new }) key kind c Done
+    → StepsSafely s new key kind c (Ok u)
+done-so step = record { step = step; refused = tt }
+
 -- ---- the segment afterwards, as its view before the call is named
+
+-- nothing has changed where it was refused
+pub seen-refused : {R : Type 0} (s t : State) (view : s ≡ t) (new : Cut) (r : Result R Refusal) → OnErr r (new ≡ s.cut)
+    → OnErr r ((record s { cut = new }) ≡ t)
+seen-refused s t view new (Ok u) e = tt
+seen-refused s t view new (Err w) e = (λ i. record s { cut = e i }) ∙ view
+
+-- the same of a call with an answer
+pub record AnswersSafely {R : Type 0} (says : Result R Refusal → Answer) (s : State) (new : Cut) (key : Key) (kind : Kind) (c : Command) (r : Result R Refusal) : Type 0 where
+  pub step : IsStepOfKind s (record s { cut = new }) key kind c (says r)
+  pub refused : OnErr r (new ≡ s.cut)
+
+module _ {R : Type 0} {says : Result R Refusal → Answer} (s t : State) (view : s ≡ t) (new : Cut) (key : Key) (kind : Kind) (c : Command)
+    (r : Result R Refusal) (done : AnswersSafely says s new key kind c r) where
+  pub answer-step : IsStepOfKind t (record s { cut = new }) key kind c (says r)
+  answer-step = subst (λ (u : State). IsStepOfKind u (record s { cut = new }) key kind c (says r)) view done.step
+
+  pub answer-refused : OnErr r ((record s { cut = new }) ≡ t)
+  answer-refused = seen-refused s t view new r done.refused
+
+  pub answer-segment : IsSegment s.cut.bytes → IsSegment new.bytes
+  answer-segment b = step_of_kind-segment s (record s { cut = new }) key kind c (says r) done.step b
 
 module _ (s t : State) (view : s ≡ t) (new : Cut) (key : Key) (kind : Kind) (c : Command) (r : Result (Unit {0}) Refusal) (done : StepsSafely s new key kind c r) where
   pub safe-step : IsStepOfKind t (record s { cut = new }) key kind c (done_answer r)
   safe-step = subst (λ (u : State). IsStepOfKind u (record s { cut = new }) key kind c (done_answer r)) view done.step
 
   pub safe-refused : OnErr r ((record s { cut = new }) ≡ t)
-  safe-refused = kept r done.refused
-    where
-      kept : (q : Result (Unit {0}) Refusal) → OnErr q (new ≡ s.cut) → OnErr q ((record s { cut = new }) ≡ t)
-      kept (Ok u) e = tt
-      kept (Err w) e = (λ i. record s { cut = e i }) ∙ view
+  safe-refused = seen-refused s t view new r done.refused
 
   pub safe-segment : IsSegment s.cut.bytes → IsSegment new.bytes
   safe-segment b = step_of_kind-segment s (record s { cut = new }) key kind c (done_answer r) done.step b

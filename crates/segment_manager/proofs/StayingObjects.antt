@@ -75,10 +75,6 @@ texts-keep h (bs ∷ bss) next k = text-keeps h bs _ (λ p. texts-keep h bss _ (
 
 -- ---- an object of another value
 
-any-first : (b : Bool) (p : Object) (rest : Option Object) → b ≡ true → is_some (cond b (Some p) rest) ≡ true
-any-first true p rest e = refl
-any-first false p rest e = cc
-
 either : (b : Bool) (p : Object) (rest other : Option Object) → (is_some rest ≡ true → is_some other ≡ true) → is_some (cond b (Some p) rest) ≡ true → is_some (cond b (Some p) other) ≡ true
 either true p rest other k e = refl
 either false p rest other k e = k e

@@ -1,5 +1,5 @@
 -- The calls on whatever has storage, each as one step: reserve, shrink and clear. And the refusals of an object that is not there.
-use Rattle.std.proofs.Common.{◌≡◌, refl, sym, ap, ◌∙◌, ℕ, ℤ, Bool, true, false, Some, None, Ok, Err, List, [], length}
+use Rattle.std.proofs.Common.{◌≡◌, refl, sym, ap, subst, ◌∙◌, ℕ, ℤ, Bool, true, false, Some, None, Ok, Err, List, [], length}
 use Rattle.raw_region.specs.Format.{current}
 use Rattle.raw_region.specs.Memory.{Cut}
 use Rattle.best_fit.specs.Heap.{live_of}
@@ -7,11 +7,12 @@ use Rattle.best_fit.specs.Table.{Table, cut_table}
 use Rattle.seg_types.specs.declared.kinds.ScalarKind.{ScalarKind}
 use Rattle.seg_types.specs.declared.kinds.Kind.{Kind}
 use Rattle.seg_types.specs.declared.kinds.Kind.TheVariants.{Scalar, Text, Vector, Map, Texts as TextsKind}
+use Rattle.seg_types.specs.declared.refusals.Refusal.{Refusal}
 use Rattle.seg_types.specs.declared.refusals.Refusal.TheVariants.{NoSpace, NotFound, WrongKind}
 use Rattle.seg_types.specs.Kinds.{size_of}
 use Rattle.seg_types.specs.Names.{Key}
 use Rattle.seg_types.specs.Commands as asked
-use Rattle.seg_types.specs.Commands.{Command}
+use Rattle.seg_types.specs.Commands.{Command, is_changing}
 use Rattle.seg_vector.specs.declared.places.Place.{Place}
 use Rattle.segment_manager.specs.Answers.{Answer, Done, Refused}
 use Rattle.segment_manager.specs.Contents.{HasNoRoom, IsBytes, IsBytesGrown, IsBytesNow, IsNumbers, IsNumbersGrown, IsNumbersNow, container_at}
@@ -21,8 +22,8 @@ use Rattle.segment_manager.specs.State.{Answers, IsReplyOfKind, IsSegment, IsSte
 use Rattle.segment_manager.specs.Step.{changed, effect, is_read_only, storage_of, with_items, with_table}
 use Rattle.segment_manager.proofs.Calling.{denotes-live}
 use Rattle.segment_manager.proofs.ContentPlans.{clear-plan, clear-refused, reserve-plan, reserve-refused, shrink-plan, shrink-refused}
-use Rattle.segment_manager.proofs.Refilled.{refused-steps}
-use Rattle.segment_manager.proofs.Steps.{open-writing, with-not_found}
+use Rattle.segment_manager.proofs.Refilled.{finds-no_container, refused-steps}
+use Rattle.segment_manager.proofs.Steps.{open-reading, open-writing, with-not_found}
 use Rattle.segment_manager.proofs.TextSteps.{HoldsText, text-grown, text-not_grown, text-now, text-stays, text-steps}
 use Rattle.segment_manager.proofs.VectorSteps.{HoldsVector, vector-grown, vector-not_grown, vector-now, vector-stays, vector-steps}
 
@@ -164,3 +165,14 @@ module _ (d : Directory) (key : Key) (e : object_at d key ≡ None) where
 -- a step that leaves the segment is the machine's answer
 pub step_of_kind-reply : (s : State) (key : Key) (kind : Kind) (c : Command) (answer : Answer) → IsStepOfKind s s key kind c answer → IsReplyOfKind s key kind c answer
 step_of_kind-reply s key kind c answer r = record { answers = r.answers }
+
+-- the same in the segment, as its view before the call is named
+pub seen-reply : (s t : State) (view : s ≡ t) (key : Key) (kind : Kind) (c : Command) (answer : Answer) → IsStepOfKind s s key kind c answer
+    → IsReplyOfKind t key kind c answer
+seen-reply s t view key kind c answer r = subst (λ (u : State). IsReplyOfKind u key kind c answer) view (step_of_kind-reply s key kind c answer r)
+
+-- there is no such container
+pub no_container-reply : (s : State) (key : Key) (kind : Kind) (c : Command) (why : Refusal) → is_changing c ≡ false
+    → Answers s (λ d. container_at d key kind) (Err why) → IsReplyOfKind s key kind c (Refused why)
+no_container-reply s key kind c why reads a =
+    step_of_kind-reply s key kind c (Refused why) (finds-no_container s key kind c why (open-reading s.mode c reads) a)

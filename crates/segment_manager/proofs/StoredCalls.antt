@@ -1,5 +1,5 @@
 -- The calls on what has storage, as the code makes them: the container is found, and then the call at its place is the step.
-use Rattle.std.proofs.Common.{◌≡◌, refl, sym, subst, false, Ok, Err, Result}
+use Rattle.std.proofs.Common.{◌≡◌, refl, sym, ap, subst, ◌∙◌, false, Ok, Err, Result}
 use Rattle.raw_region.specs.Memory.{Cut}
 use Rattle.seg_types.specs.declared.kinds.Kind.{Kind}
 use Rattle.seg_types.specs.declared.refusals.Refusal.{Refusal}
@@ -9,7 +9,7 @@ use Rattle.seg_vector.specs.declared.places.Place.{Place}
 use Rattle.segment_manager.specs.Contents.{container_at}
 use Rattle.segment_manager.specs.State.{Answers, State}
 use Rattle.segment_manager.specs.Step.{is_read_only}
-use Rattle.segment_manager.specs.Stored.{ChangesStorage, StandsThere, StepsSafely}
+use Rattle.segment_manager.specs.Stored.{ChangesStorage, StandsThere, StepsSafely, StepsThere}
 use Rattle.segment_manager.proofs.Refilled.{finds-no_container}
 use Rattle.segment_manager.proofs.Safely.{safe-refused, safe-step}
 use Rattle.segment_manager.proofs.Steps.{open-writing}
@@ -20,6 +20,13 @@ stands-there s t view key l kind p e found =
     let at : Answers s (λ d. container_at d key kind) (Ok p) =
     subst (λ (u : State). Answers u (λ d. container_at d key kind) (Ok p)) (sym view) (subst (λ (m : Kind). Answers t (λ d. container_at d key m) (Ok p)) e found) in
     at.answers
+
+-- what the call at its place does
+pub changes-there : (s t : State) (view : s ≡ t) (new : Cut) (key : Key) (l kind : Kind) (p : Place) (command : Key → Command)
+    (r : Result (Unit {0}) Refusal) → is_read_only t.mode ≡ false → l ≡ kind → Answers t (λ d. container_at d key l) (Ok p)
+    → StepsThere s.cut new kind p command r → StepsSafely s new key kind (command key) r
+changes-there s t view new key l kind p command r writing e found each =
+    each s.mode key (ap (λ (u : State). is_read_only u.mode) view ∙ writing) (stands-there s t view key l kind p e found)
 
 -- it is found, and changed
 pub storage-changed : (s t : State) (view : s ≡ t) (new : Cut) (key : Key) (kind : Kind) (c : Command) (r : Result (Unit {0}) Refusal) → StepsSafely s new key kind c r

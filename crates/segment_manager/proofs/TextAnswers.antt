@@ -23,7 +23,7 @@ use Rattle.segment_manager.specs.Stored.{StepsSafely}
 use Rattle.segment_manager.proofs.StorageSteps.{clears-text, reserves-bytes, reserves_bytes-no_space, shrinks-text}
 use Rattle.segment_manager.proofs.TextSteps.{HoldsText, appends-bytes, appends-no_space, assigns-bytes, assigns_bytes-no_space, gets-byte, gets_byte-past, holds-text, sets-byte, sets_byte-past}
 use Rattle.segment_manager.proofs.AnyStorage.{sizes-found}
-use Rattle.segment_manager.proofs.Safely.{stays}
+use Rattle.segment_manager.proofs.Safely.{done-so, stays}
 use Rattle.segment_manager.proofs.Words.{first, second}
 
 -- ---- bytes
@@ -122,31 +122,25 @@ module _ (s : State) (key : Key) (p : Place) (b : IsSegment s.cut.bytes) (found 
   some-text = (some.bytes, (some.table, some.text.stands))
 
   pub text-appended : (more : List ℕ) (r : Result (Unit {0}) Refusal) → IsTrue (are_bytes more) → AppendsText s.cut new p more r → StepsSafely s new key Text (Append key more) r
-  text-appended more (Ok u) small a = record {
-    step = appends-bytes s key p b found new more writing (λ bs t h. bytes-grown s.cut new p t _ (bs ++ more) (are_bytes-append bs more h.values small) (a bs t h.stands));
-    refused = tt;
-  }
+  text-appended more (Ok u) small a =
+      done-so (appends-bytes s key p b found new more writing (λ bs t h. bytes-grown s.cut new p t _ (bs ++ more) (are_bytes-append bs more h.values small) (a bs t h.stands)))
   text-appended more (Err e) small a =
       let r = a some.bytes some.table some.text.stands in
       stays s new key Text (Append key more) e _ r.refusal r.same (appends-no_space s key p b found more writing (λ bs t h. (a bs t h.stands).none))
 
   pub text-assigned : (bytes : List ℕ) (r : Result (Unit {0}) Refusal) → IsTrue (are_bytes bytes) → AssignsText s.cut new p bytes r → StepsSafely s new key Text (Assign key (Quoted bytes ∷ [])) r
-  text-assigned bytes (Ok u) small a = record {
-    step = assigns-bytes s key p b found new bytes writing (λ bs t h. bytes-grown s.cut new p t _ bytes small (a bs t h.stands));
-    refused = tt;
-  }
+  text-assigned bytes (Ok u) small a =
+      done-so (assigns-bytes s key p b found new bytes writing (λ bs t h. bytes-grown s.cut new p t _ bytes small (a bs t h.stands)))
   text-assigned bytes (Err e) small a =
       let r = a some.bytes some.table some.text.stands in
       stays s new key Text (Assign key (Quoted bytes ∷ [])) e _ r.refusal r.same (assigns_bytes-no_space s key p b found bytes writing (λ bs t h. (a bs t h.stands).none))
 
   pub text-set : (i x : ℕ) (r : Result (Unit {0}) Refusal) → IsTrue (nat_lt x 256) → is_value U8 (pos x) ≡ true → SetsByte s.cut new p i x r → StepsSafely s new key Text (Set key i (literal_of U8 (pos x))) r
-  text-set i x (Ok u) small v a = record {
-    step = sets-byte s key p b found new i x writing v
-        (λ bs t h.
-        let r = a bs t h.stands in
-        (r.0, bytes-now s.cut new p t (slice_set bs i x) t (are_bytes-set bs i x h.values small) r.1));
-    refused = tt;
-  }
+  text-set i x (Ok u) small v a =
+      done-so (sets-byte s key p b found new i x writing v
+      (λ bs t h.
+      let r = a bs t h.stands in
+      (r.0, bytes-now s.cut new p t (slice_set bs i x) t (are_bytes-set bs i x h.values small) r.1)))
   text-set i x (Err e) small v a =
       let r = a some.bytes some.table some.text.stands in
       stays s new key Text (Set key i (literal_of U8 (pos x))) e _ r.refusal r.same
@@ -155,22 +149,16 @@ module _ (s : State) (key : Key) (p : Place) (b : IsSegment s.cut.bytes) (found 
   -- ---- places
 
   pub text-reserved : (n : ℕ) (r : Result (Unit {0}) Refusal) → ReservesBytes s.cut new p n r → StepsSafely s new key Text (Reserve key n) r
-  text-reserved n (Ok u) a = record {
-    step = reserves-bytes s key p b found new n writing (λ bs t h. bytes-grown s.cut new p t n bs h.values (a bs t h.stands));
-    refused = tt;
-  }
+  text-reserved n (Ok u) a =
+      done-so (reserves-bytes s key p b found new n writing (λ bs t h. bytes-grown s.cut new p t n bs h.values (a bs t h.stands)))
   text-reserved n (Err e) a =
       let r = a some.bytes some.table some.text.stands in
       stays s new key Text (Reserve key n) e _ r.refusal r.same (reserves_bytes-no_space s key p b found n writing (λ bs t h. (a bs t h.stands).none))
 
   pub text-shrunk : ShrinksText s.cut new p → StepsSafely s new key Text (Shrink key) (Ok tt)
-  text-shrunk a = record {
-    step = shrinks-text s key p b found new writing (λ bs t h. bytes-now s.cut new p t bs _ h.values (a bs t h.stands));
-    refused = tt;
-  }
+  text-shrunk a =
+      done-so (shrinks-text s key p b found new writing (λ bs t h. bytes-now s.cut new p t bs _ h.values (a bs t h.stands)))
 
   pub text-cleared : ClearsText s.cut new p → StepsSafely s new key Text (Clear key) (Ok tt)
-  text-cleared a = record {
-    step = clears-text s key p b found new writing (λ bs t h. bytes-now s.cut new p t [] t refl (a bs t h.stands));
-    refused = tt;
-  }
+  text-cleared a =
+      done-so (clears-text s key p b found new writing (λ bs t h. bytes-now s.cut new p t [] t refl (a bs t h.stands)))

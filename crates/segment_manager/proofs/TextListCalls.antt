@@ -18,7 +18,7 @@ use Rattle.seg_types.specs.declared.refusals.Refusal.{Refusal}
 use Rattle.seg_types.specs.declared.refusals.Refusal.TheVariants.{NoSpace, OutOfRange}
 use Rattle.seg_types.specs.Names.{Key}
 use Rattle.seg_types.specs.Commands as asked
-use Rattle.seg_types.specs.Commands.{Command, Literal}
+use Rattle.seg_types.specs.Commands.{Command}
 use Rattle.seg_vector.specs.declared.places.Place.{Place}
 use Rattle.seg_vector.specs.TextsCalls.{AreTextsAssigned, AssignsTexts, ClearsTexts, CountsTextPlaces, CountsTexts, ErasesText, GetsText, InsertsText, IsGivenUp, IsTextLeftOut, IsTextPutIn, IsTextSet, IsTextsNow, IsWithoutFit, PopsText, PushesText, ReservesTexts, SetsText, ShrinksTexts, all_texts, new_array, one_more, placed_text, placed_texts, text_blocks, with_array, with_text}
 use Rattle.seg_vector.specs.Vector.{OwnedText, capacity_for_one, grown_table}
@@ -33,7 +33,7 @@ use Rattle.segment_manager.specs.Stored.{StepsSafely}
 use Rattle.segment_manager.proofs.AnyStorage.{sizes-found}
 use Rattle.segment_manager.proofs.Calling.{denotes-live}
 use Rattle.segment_manager.proofs.Refilled.{made_room, no_room}
-use Rattle.segment_manager.proofs.Safely.{stays}
+use Rattle.segment_manager.proofs.Safely.{done-so, stays}
 use Rattle.segment_manager.proofs.Steps.{open-reading, open-writing}
 use Rattle.segment_manager.proofs.TextLists.{part-all, part-inserted, part-none, part-removed, part-set, pushed-last, removed-last}
 use Rattle.segment_manager.proofs.TextMoves.{IsTextsMove, LeadsSafely, StepsKeeping, step-leads-on, texts-lead-on, texts-restored, texts-stay, texts-steps, texts_in}
@@ -116,8 +116,7 @@ module _ (s : State) (key : Key) (p : Place) (b : IsSegment s.cut.bytes) (found 
   pub text-got : (i : ℕ) (r : Result (Bor (List ℕ)) Refusal) → GetsText s.cut p i r → IsStepOfKind s s key TextsKind (asked.Get key i) (answer_of (λ (x : Bor (List ℕ)). TextElement x.now) r)
   text-got i (Ok x) a =
       texts-stay s key p b found (asked.Get key i) (TextElement x.now) (open-reading s.mode (asked.Get key i) refl)
-      (λ d l.
-      let h : HoldsTexts s.cut.bytes d key p = holds d l in
+      (λ d l h.
       one d h (slice_get h.texts i) refl (a h.texts h.table h.stand))
     where
       one : (d : Directory) (h : HoldsTexts s.cut.bytes d key p) (r : Option OwnedText) → slice_get h.texts i ≡ r → option_map (λ (q : OwnedText). q.bytes) r ≡ Some x.now
@@ -128,8 +127,7 @@ module _ (s : State) (key : Key) (p : Place) (b : IsSegment s.cut.bytes) (found 
       let h : HoldsTexts s.cut.bytes b.0 key p = some in
       subst (λ (q : Refusal). IsStepOfKind s s key TextsKind (asked.Get key i) (Refused q)) (sym (a h.texts h.table h.stand).refusal)
       (texts-stay s key p b found (asked.Get key i) (Refused OutOfRange) (open-reading s.mode (asked.Get key i) refl)
-      (λ d l.
-      let h : HoldsTexts s.cut.bytes d key p = holds d l in
+      (λ d l h.
       ap (perform d (live d)) (got-past d key h.object h.texts h.table h.is h.value i (slice_get_past h.texts i (a h.texts h.table h.stand).outside))))
 
   pub texts-measured : (m n : ℕ) → CountsTexts s.cut.bytes p m → CountsTextPlaces s.cut.bytes p n → Answers s (λ d. sizes_at_kind d key TextsKind) (Ok (m, n))
@@ -213,19 +211,17 @@ module _ (s : State) (key : Key) (p : Place) (b : IsSegment s.cut.bytes) (found 
 
     -- ---- another text
 
-    set-outcome : (d : Directory) (l : StandsFor s.cut.bytes d) (i : ℕ) (bs : List ℕ) → (r : IsTextSet s.cut new p (holds d l).texts (holds d l).table i bs)
-        → perform d (live d) (effect d (asked.Set key i (asked.Quoted bs))) ≡ after d (holds d l) (slice_set (holds d l).texts i r.text) (holds d l).table
-    set-outcome d l i bs r =
-        let h : HoldsTexts s.cut.bytes d key p = holds d l in
+    set-outcome : (d : Directory) (l : StandsFor s.cut.bytes d) (h : HoldsTexts s.cut.bytes d key p) (i : ℕ) (bs : List ℕ) → (r : IsTextSet s.cut new p h.texts h.table i bs)
+        → perform d (live d) (effect d (asked.Set key i (asked.Quoted bs))) ≡ after d h (slice_set h.texts i r.text) h.table
+    set-outcome d l h i bs r =
         let next : OwnedText → Plan = λ q. Reply Done (changed d h.object (Texts (slice_set h.texts i q) h.table)) in
         ap (perform d (live d)) (set-text d key h.object h.texts h.table h.is h.value i bs r.before r.found)
         ∙ text-placed d (live d) bs next
         ∙ ap (then_text d (live d) next) (ap (λ (m : LiveSet). placed_text m bs) (sym (heap-live d l)) ∙ r.placed)
 
-    set-unmet : (d : Directory) (l : StandsFor s.cut.bytes d) (i : ℕ) (bs : List ℕ) → i < length (holds d l).texts → placed_text (live_of s.cut.bytes) bs ≡ None
+    set-unmet : (d : Directory) (l : StandsFor s.cut.bytes d) (h : HoldsTexts s.cut.bytes d key p) (i : ℕ) (bs : List ℕ) → i < length h.texts → placed_text (live_of s.cut.bytes) bs ≡ None
         → perform d (live d) (effect d (asked.Set key i (asked.Quoted bs))) ≡ (Refused NoSpace, d)
-    set-unmet d l i bs within none =
-        let h : HoldsTexts s.cut.bytes d key p = holds d l in
+    set-unmet d l h i bs within none =
         let next : OwnedText → Plan = λ q. Reply Done (changed d h.object (Texts (slice_set h.texts i q) h.table)) in
         let empty : OwnedText = record { bytes = []; extent = None } in
         ap (perform d (live d)) (set-text d key h.object h.texts h.table h.is h.value i bs (get_or h.texts i empty) (slice_get-get_or h.texts i empty within))
@@ -233,14 +229,11 @@ module _ (s : State) (key : Key) (p : Place) (b : IsSegment s.cut.bytes) (found 
         ∙ ap (then_text d (live d) next) (ap (λ (m : LiveSet). placed_text m bs) (sym (heap-live d l)) ∙ none)
 
     pub text-set : (i : ℕ) (bs : List ℕ) (r : Result (Unit {0}) Refusal) → IsTrue (are_bytes bs) → SetsText s.cut new p i bs r → StepsSafely s new key TextsKind (asked.Set key i (asked.Quoted bs)) r
-    text-set i bs (Ok u) small a = record {
-      step = texts-steps s key p b found new (asked.Set key i (asked.Quoted bs)) Done writing
-          (λ d l.
-          let h : HoldsTexts s.cut.bytes d key p = holds d l in
-          let r : IsTextSet s.cut new p h.texts h.table i bs = a h.texts h.table h.stand in
-          record { texts = slice_set h.texts i r.text; table = h.table; move = other-set i bs h.texts h.table small r; outcome = set-outcome d l i bs r });
-      refused = tt;
-    }
+    text-set i bs (Ok u) small a =
+        done-so (texts-steps s key p b found new (asked.Set key i (asked.Quoted bs)) Done writing
+        (λ d l h.
+        let r : IsTextSet s.cut new p h.texts h.table i bs = a h.texts h.table h.stand in
+        record { texts = slice_set h.texts i r.text; table = h.table; move = other-set i bs h.texts h.table small r; outcome = set-outcome d l h i bs r }))
     text-set i bs (Err e) small a = not_set i bs e a (a some.texts some.table some.stand)
       where
         not_set : (i : ℕ) (bs : List ℕ) (e : Refusal) → SetsText s.cut new p i bs (Err e)
@@ -249,17 +242,15 @@ module _ (s : State) (key : Key) (p : Place) (b : IsSegment s.cut.bytes) (found 
         not_set i bs e a (inl o) =
             stays s new key TextsKind (asked.Set key i (asked.Quoted bs)) e OutOfRange o.refusal o.same
             (texts-stay s key p b found (asked.Set key i (asked.Quoted bs)) (Refused OutOfRange) (open-writing s.mode (asked.Set key i (asked.Quoted bs)) writing)
-            (λ d l.
-            let h : HoldsTexts s.cut.bytes d key p = holds d l in
+            (λ d l h.
             let q : IsOutside s.cut new (length h.texts) i e = pick-outside e (λ w. w.1.refusal) o.refusal (a h.texts h.table h.stand) in
             ap (perform d (live d)) (set_text-past d key h.object h.texts h.table h.is h.value i bs (slice_get_past h.texts i q.outside))))
         not_set i bs e a (inr o) =
             stays s new key TextsKind (asked.Set key i (asked.Quoted bs)) e NoSpace o.1.refusal o.1.same
             (texts-stay s key p b found (asked.Set key i (asked.Quoted bs)) (Refused NoSpace) (open-writing s.mode (asked.Set key i (asked.Quoted bs)) writing)
-            (λ d l.
-            let h : HoldsTexts s.cut.bytes d key p = holds d l in
+            (λ d l h.
             let q : (i < length h.texts) × IsWithoutFit s.cut new (placed_text (live_of s.cut.bytes) bs) e = pick-space e (λ w. w.refusal) o.1.refusal (a h.texts h.table h.stand) in
-            set-unmet d l i bs q.0 q.1.none))
+            set-unmet d l h i bs q.0 q.1.none))
 
     -- ---- one more
 
@@ -273,24 +264,22 @@ module _ (s : State) (key : Key) (p : Place) (b : IsSegment s.cut.bytes) (found 
     none-live : (d : Directory) (l : StandsFor s.cut.bytes d) (ps : List OwnedText) (t : Table) (bs : List ℕ) → one_more (live_of s.cut.bytes) ps t bs ≡ None → one_more (live d) ps t bs ≡ None
     none-live d l ps t bs e = ap (λ (m : LiveSet). one_more m ps t bs) (sym (heap-live d l)) ∙ e
 
-    push-outcome : (d : Directory) (l : StandsFor s.cut.bytes d) (bs : List ℕ) → (r : IsTextPutIn s.cut new p (holds d l).texts (holds d l).table (length (holds d l).texts) bs)
-        → perform d (live d) (effect d (asked.Push key (asked.Quoted bs))) ≡ after d (holds d l) (insert (holds d l).texts (length (holds d l).texts) r.text) r.table
-    push-outcome d l bs r =
-        let h : HoldsTexts s.cut.bytes d key p = holds d l in
+    push-outcome : (d : Directory) (l : StandsFor s.cut.bytes d) (h : HoldsTexts s.cut.bytes d key p) (bs : List ℕ) → (r : IsTextPutIn s.cut new p h.texts h.table (length h.texts) bs)
+        → perform d (live d) (effect d (asked.Push key (asked.Quoted bs))) ≡ after d h (insert h.texts (length h.texts) r.text) r.table
+    push-outcome d l h bs r =
         ap (perform d (live d)) (push-text d key h.object h.texts h.table h.is h.value bs)
         ∙ one-more-met d (live d) h.texts h.table bs (λ u q. Reply Done (changed d h.object (Texts (h.texts ++ q ∷ []) u))) r.table r.text
         (room-live d l (capacity_for_one (length h.texts) h.table.capacity) h.table r.table r.grown) (text-live d l h.table r.table bs r.text r.placed)
         ∙ ap (λ (qs : List OwnedText). after d h qs r.table) (sym (pushed-last h.texts r.text))
 
-    push-unmet : (d : Directory) (l : StandsFor s.cut.bytes d) (bs : List ℕ) → one_more (live_of s.cut.bytes) (holds d l).texts (holds d l).table bs ≡ None
+    push-unmet : (d : Directory) (l : StandsFor s.cut.bytes d) (h : HoldsTexts s.cut.bytes d key p) (bs : List ℕ) → one_more (live_of s.cut.bytes) h.texts h.table bs ≡ None
         → perform d (live d) (effect d (asked.Push key (asked.Quoted bs))) ≡ (Refused NoSpace, d)
-    push-unmet d l bs none =
-        let h : HoldsTexts s.cut.bytes d key p = holds d l in
+    push-unmet d l h bs none =
         ap (perform d (live d)) (push-text d key h.object h.texts h.table h.is h.value bs)
         ∙ one-more-unmet d (live d) h.texts h.table bs (λ u q. Reply Done (changed d h.object (Texts (h.texts ++ q ∷ []) u))) (none-live d l h.texts h.table bs none)
 
     -- a refusal for want of space, after which the blocks are as they were
-    given-up : (c : Command) (e : Refusal) → e ≡ NoSpace → IsRestored current s.cut new → ((d : Directory) (l : StandsFor s.cut.bytes d) → perform d (live d) (effect d c) ≡ (Refused NoSpace, d))
+    given-up : (c : Command) (e : Refusal) → e ≡ NoSpace → IsRestored current s.cut new → ((d : Directory) (l : StandsFor s.cut.bytes d) (h : HoldsTexts s.cut.bytes d key p) → perform d (live d) (effect d c) ≡ (Refused NoSpace, d))
         → StepsKeeping s new key c (Err e)
     given-up c e is back each = record {
       step = subst (λ (r : Refusal). IsStepOfKind s (record s { cut = new }) key TextsKind c (Refused r)) (sym is)
@@ -301,41 +290,36 @@ module _ (s : State) (key : Key) (p : Place) (b : IsSegment s.cut.bytes) (found 
     pub text-pushed : (bs : List ℕ) (r : Result (Unit {0}) Refusal) → IsTrue (are_bytes bs) → PushesText s.cut new p bs r → StepsKeeping s new key (asked.Push key (asked.Quoted bs)) r
     text-pushed bs (Ok u) small a = record {
       step = texts-steps s key p b found new (asked.Push key (asked.Quoted bs)) Done writing
-          (λ d l.
-          let h : HoldsTexts s.cut.bytes d key p = holds d l in
+          (λ d l h.
           let r : IsTextPutIn s.cut new p h.texts h.table (length h.texts) bs = a h.texts h.table h.stand in
-          record { texts = insert h.texts (length h.texts) r.text; table = r.table; move = put-in (length h.texts) bs h.texts h.table small r; outcome = push-outcome d l bs r });
+          record { texts = insert h.texts (length h.texts) r.text; table = r.table; move = put-in (length h.texts) bs h.texts h.table small r; outcome = push-outcome d l h bs r });
       refused = tt;
     }
     text-pushed bs (Err e) small a =
         let o : IsGivenUp s.cut new (one_more (live_of s.cut.bytes) some.texts some.table bs) e = a some.texts some.table some.stand in
         given-up (asked.Push key (asked.Quoted bs)) e o.refusal o.restored
-        (λ d l.
-        let h : HoldsTexts s.cut.bytes d key p = holds d l in
-        push-unmet d l bs (a h.texts h.table h.stand).none)
+        (λ d l h.
+        push-unmet d l h bs (a h.texts h.table h.stand).none)
 
-    insert-outcome : (d : Directory) (l : StandsFor s.cut.bytes d) (i : ℕ) (bs : List ℕ) → i ≤ length (holds d l).texts → (r : IsTextPutIn s.cut new p (holds d l).texts (holds d l).table i bs)
-        → perform d (live d) (effect d (asked.Insert key i (asked.Quoted bs))) ≡ after d (holds d l) (insert (holds d l).texts i r.text) r.table
-    insert-outcome d l i bs within r =
-        let h : HoldsTexts s.cut.bytes d key p = holds d l in
+    insert-outcome : (d : Directory) (l : StandsFor s.cut.bytes d) (h : HoldsTexts s.cut.bytes d key p) (i : ℕ) (bs : List ℕ) → i ≤ length h.texts → (r : IsTextPutIn s.cut new p h.texts h.table i bs)
+        → perform d (live d) (effect d (asked.Insert key i (asked.Quoted bs))) ≡ after d h (insert h.texts i r.text) r.table
+    insert-outcome d l h i bs within r =
         ap (perform d (live d)) (insert-text d key h.object h.texts h.table h.is h.value i bs (le-ltb (length h.texts) i within))
         ∙ one-more-met d (live d) h.texts h.table bs (λ u q. Reply Done (changed d h.object (Texts (insert h.texts i q) u))) r.table r.text
         (room-live d l (capacity_for_one (length h.texts) h.table.capacity) h.table r.table r.grown) (text-live d l h.table r.table bs r.text r.placed)
 
-    insert-unmet : (d : Directory) (l : StandsFor s.cut.bytes d) (i : ℕ) (bs : List ℕ) → i ≤ length (holds d l).texts → one_more (live_of s.cut.bytes) (holds d l).texts (holds d l).table bs ≡ None
+    insert-unmet : (d : Directory) (l : StandsFor s.cut.bytes d) (h : HoldsTexts s.cut.bytes d key p) (i : ℕ) (bs : List ℕ) → i ≤ length h.texts → one_more (live_of s.cut.bytes) h.texts h.table bs ≡ None
         → perform d (live d) (effect d (asked.Insert key i (asked.Quoted bs))) ≡ (Refused NoSpace, d)
-    insert-unmet d l i bs within none =
-        let h : HoldsTexts s.cut.bytes d key p = holds d l in
+    insert-unmet d l h i bs within none =
         ap (perform d (live d)) (insert-text d key h.object h.texts h.table h.is h.value i bs (le-ltb (length h.texts) i within))
         ∙ one-more-unmet d (live d) h.texts h.table bs (λ u q. Reply Done (changed d h.object (Texts (insert h.texts i q) u))) (none-live d l h.texts h.table bs none)
 
     pub text-inserted : (i : ℕ) (bs : List ℕ) (r : Result (Unit {0}) Refusal) → IsTrue (are_bytes bs) → InsertsText s.cut new p i bs r → StepsKeeping s new key (asked.Insert key i (asked.Quoted bs)) r
     text-inserted i bs (Ok u) small a = record {
       step = texts-steps s key p b found new (asked.Insert key i (asked.Quoted bs)) Done writing
-          (λ d l.
-          let h : HoldsTexts s.cut.bytes d key p = holds d l in
+          (λ d l h.
           let r : (i ≤ length h.texts) × IsTextPutIn s.cut new p h.texts h.table i bs = a h.texts h.table h.stand in
-          record { texts = insert h.texts i r.1.text; table = r.1.table; move = put-in i bs h.texts h.table small r.1; outcome = insert-outcome d l i bs r.0 r.1 });
+          record { texts = insert h.texts i r.1.text; table = r.1.table; move = put-in i bs h.texts h.table small r.1; outcome = insert-outcome d l h i bs r.0 r.1 });
       refused = tt;
     }
     text-inserted i bs (Err e) small a = not_inserted i bs e a (a some.texts some.table some.stand)
@@ -347,41 +331,35 @@ module _ (s : State) (key : Key) (p : Place) (b : IsSegment s.cut.bytes) (found 
             let safe : StepsSafely s new key TextsKind (asked.Insert key i (asked.Quoted bs)) (Err e) =
             stays s new key TextsKind (asked.Insert key i (asked.Quoted bs)) e OutOfRange o.refusal o.same
             (texts-stay s key p b found (asked.Insert key i (asked.Quoted bs)) (Refused OutOfRange) (open-writing s.mode (asked.Insert key i (asked.Quoted bs)) writing)
-            (λ d l.
-            let h : HoldsTexts s.cut.bytes d key p = holds d l in
+            (λ d l h.
             let q : IsOutside s.cut new (length h.texts + 1) i e = pick-outside e (λ w. w.1.refusal) o.refusal (a h.texts h.table h.stand) in
             let past : length h.texts < i = let f = q.outside in omega arith in
             ap (perform d (live d)) (insert_text-past d key h.object h.texts h.table h.is h.value i bs (lt-ltb (length h.texts) i past)))) in
             record { step = safe.step; refused = λ h. o.same }
         not_inserted i bs e a (inr o) =
             given-up (asked.Insert key i (asked.Quoted bs)) e o.1.refusal o.1.restored
-            (λ d l.
-            let h : HoldsTexts s.cut.bytes d key p = holds d l in
+            (λ d l h.
             let q : (i ≤ length h.texts) × IsGivenUp s.cut new (one_more (live_of s.cut.bytes) h.texts h.table bs) e = pick-space e (λ w. w.refusal) o.1.refusal (a h.texts h.table h.stand) in
-            insert-unmet d l i bs q.0 q.1.none)
+            insert-unmet d l h i bs q.0 q.1.none)
 
     -- ---- one less
 
     pub text-erased : (i : ℕ) (r : Result (Unit {0}) Refusal) → ErasesText s.cut new p i r → StepsSafely s new key TextsKind (asked.Erase key i) r
-    text-erased i (Ok u) a = record {
-      step = texts-steps s key p b found new (asked.Erase key i) Done writing
-          (λ d l.
-          let h : HoldsTexts s.cut.bytes d key p = holds d l in
-          let r : IsTextLeftOut s.cut new p h.texts h.table i = a h.texts h.table h.stand in
-          record {
-            texts = remove h.texts i;
-            table = h.table;
-            move = left-out i h.texts h.table r;
-            outcome = ap (perform d (live d)) (erase-text d key h.object h.texts h.table h.is h.value i r.before r.found);
-          });
-      refused = tt;
-    }
+    text-erased i (Ok u) a =
+        done-so (texts-steps s key p b found new (asked.Erase key i) Done writing
+        (λ d l h.
+        let r : IsTextLeftOut s.cut new p h.texts h.table i = a h.texts h.table h.stand in
+        record {
+          texts = remove h.texts i;
+          table = h.table;
+          move = left-out i h.texts h.table r;
+          outcome = ap (perform d (live d)) (erase-text d key h.object h.texts h.table h.is h.value i r.before r.found);
+        }))
     text-erased i (Err e) a =
         let o : IsOutside s.cut new (length some.texts) i e = a some.texts some.table some.stand in
         stays s new key TextsKind (asked.Erase key i) e OutOfRange o.refusal o.same
         (texts-stay s key p b found (asked.Erase key i) (Refused OutOfRange) (open-writing s.mode (asked.Erase key i) writing)
-        (λ d l.
-        let h : HoldsTexts s.cut.bytes d key p = holds d l in
+        (λ d l h.
         ap (perform d (live d)) (erase_text-past d key h.object h.texts h.table h.is h.value i (slice_get_past h.texts i (a h.texts h.table h.stand).outside))))
 
     pop-outcome : (d : Directory) (l : StandsFor s.cut.bytes d) → (r : IsTextLeftOut s.cut new p (holds d l).texts (holds d l).table (length (holds d l).texts - 1))
@@ -413,114 +391,99 @@ module _ (s : State) (key : Key) (p : Place) (b : IsSegment s.cut.bytes) (found 
         let safe : StepsSafely s new key TextsKind (asked.Pop key) (Err e) =
         stays s new key TextsKind (asked.Pop key) e OutOfRange o.refusal o.same
         (texts-stay s key p b found (asked.Pop key) (Refused OutOfRange) (open-writing s.mode (asked.Pop key) writing)
-        (λ d l.
-        let h : HoldsTexts s.cut.bytes d key p = holds d l in
+        (λ d l h.
         let none : length h.texts ≤ length h.texts - 1 = let f = (a h.texts h.table h.stand).outside in omega arith in
         ap (perform d (live d)) (pop_text-past d key h.object h.texts h.table h.is h.value (slice_get_past h.texts (length h.texts - 1) none)))) in
         record { step = step-leads-on s (record s { cut = new }) key (asked.Pop key) (Refused e) safe.step; refused = o.same }
 
     -- ---- none, and others in the place of all
 
-    cleared : (c : Command) → ClearsTexts s.cut new p → ((d : Directory) (l : StandsFor s.cut.bytes d) → effect d c ≡ Reply Done (changed d (holds d l).object (Texts [] (holds d l).table)))
+    cleared : (c : Command) → ClearsTexts s.cut new p → ((d : Directory) (h : HoldsTexts s.cut.bytes d key p) → effect d c ≡ Reply Done (changed d h.object (Texts [] h.table)))
         → IsStepOfKind s (record s { cut = new }) key TextsKind c Done
     cleared c a each =
         texts-steps s key p b found new c Done writing
-        (λ d l.
-        let h : HoldsTexts s.cut.bytes d key p = holds d l in
+        (λ d l h.
         record {
           texts = [];
           table = h.table;
           move = all-other h.texts [] h.table h.table (option_to_list h.table.extent) tt (sym (append-nil (option_to_list h.table.extent))) (a h.texts h.table h.stand);
-          outcome = ap (perform d (live d)) (each d l);
+          outcome = ap (perform d (live d)) (each d h);
         })
 
     pub texts-cleared : ClearsTexts s.cut new p → StepsSafely s new key TextsKind (asked.Clear key) (Ok tt)
-    texts-cleared a = record {
-      step = cleared (asked.Clear key) a (λ d l. let h : HoldsTexts s.cut.bytes d key p = holds d l in clear-texts d key h.object h.texts h.table h.is h.value);
-      refused = tt;
-    }
+    texts-cleared a =
+        done-so (cleared (asked.Clear key) a (λ d h. clear-texts d key h.object h.texts h.table h.is h.value))
 
-    assign-outcome : (d : Directory) (l : StandsFor s.cut.bytes d) (bs : List ℕ) (bss : List (List ℕ)) → (r : AreTextsAssigned s.cut new p (holds d l).texts (holds d l).table (bs ∷ bss))
-        → perform d (live d) (effect d (asked.Assign key (map asked.Quoted (bs ∷ bss)))) ≡ after d (holds d l) r.texts r.table
-    assign-outcome d l bs bss r =
-        let h : HoldsTexts s.cut.bytes d key p = holds d l in
+    assign-outcome : (d : Directory) (l : StandsFor s.cut.bytes d) (h : HoldsTexts s.cut.bytes d key p) (bs : List ℕ) (bss : List (List ℕ)) → (r : AreTextsAssigned s.cut new p h.texts h.table (bs ∷ bss))
+        → perform d (live d) (effect d (asked.Assign key (map asked.Quoted (bs ∷ bss)))) ≡ after d h r.texts r.table
+    assign-outcome d l h bs bss r =
         ap (perform d (live d)) (assign-some d key h.object h.texts h.table h.is h.value (asked.Quoted bs) (map asked.Quoted bss) (bs ∷ bss) (texts-read (bs ∷ bss)))
         ∙ all-met d (live d) (bs ∷ bss) (λ u qs. Reply Done (changed d h.object (Texts qs u))) r.table r.texts
         (ap (λ (m : LiveSet). new_array m (length (bs ∷ bss))) (sym (heap-live d l)) ∙ r.array)
         (ap (λ (m : LiveSet). placed_texts (elim r.table.extent as (λ _. LiveSet) [ None ↦ m | Some x ↦ resized m x ]) (bs ∷ bss)) (sym (heap-live d l)) ∙ r.placed)
 
-    assign-unmet : (d : Directory) (l : StandsFor s.cut.bytes d) (bs : List ℕ) (bss : List (List ℕ)) → all_texts (live_of s.cut.bytes) (bs ∷ bss) ≡ None
+    assign-unmet : (d : Directory) (l : StandsFor s.cut.bytes d) (h : HoldsTexts s.cut.bytes d key p) (bs : List ℕ) (bss : List (List ℕ)) → all_texts (live_of s.cut.bytes) (bs ∷ bss) ≡ None
         → perform d (live d) (effect d (asked.Assign key (map asked.Quoted (bs ∷ bss)))) ≡ (Refused NoSpace, d)
-    assign-unmet d l bs bss none =
-        let h : HoldsTexts s.cut.bytes d key p = holds d l in
+    assign-unmet d l h bs bss none =
         ap (perform d (live d)) (assign-some d key h.object h.texts h.table h.is h.value (asked.Quoted bs) (map asked.Quoted bss) (bs ∷ bss) (texts-read (bs ∷ bss)))
         ∙ all-unmet d (live d) (bs ∷ bss) (λ u qs. Reply Done (changed d h.object (Texts qs u))) (ap (λ (m : LiveSet). all_texts m (bs ∷ bss)) (sym (heap-live d l)) ∙ none)
 
     pub texts-assigned : (bss : List (List ℕ)) (r : Result (Unit {0}) Refusal) → IsTrue (list_all are_bytes bss) → AssignsTexts s.cut new p bss r → StepsKeeping s new key (asked.Assign key (map asked.Quoted bss)) r
     texts-assigned [] r small a =
         let done : StepsKeeping s new key (asked.Assign key []) (Ok tt) = record {
-          step = cleared (asked.Assign key []) a.1 (λ d l. let h : HoldsTexts s.cut.bytes d key p = holds d l in assign-none d key h.object h.texts h.table h.is h.value);
+          step = cleared (asked.Assign key []) a.1 (λ d h. assign-none d key h.object h.texts h.table h.is h.value);
           refused = tt;
         } in
         subst (StepsKeeping s new key (asked.Assign key [])) (sym a.0) done
     texts-assigned (bs ∷ bss) (Ok u) small a = record {
       step = texts-steps s key p b found new (asked.Assign key (map asked.Quoted (bs ∷ bss))) Done writing
-          (λ d l.
-          let h : HoldsTexts s.cut.bytes d key p = holds d l in
+          (λ d l h.
           let r : AreTextsAssigned s.cut new p h.texts h.table (bs ∷ bss) = a h.texts h.table h.stand in
           record {
             texts = r.texts;
             table = r.table;
             move = all-other h.texts r.texts h.table r.table (option_to_list r.table.extent ++ text_blocks r.texts)
                 (texts-bytes (elim r.table.extent as (λ _. LiveSet) [ None ↦ live_of s.cut.bytes | Some x ↦ resized (live_of s.cut.bytes) x ]) (bs ∷ bss) r.texts small r.placed) refl r.now;
-            outcome = assign-outcome d l bs bss r;
+            outcome = assign-outcome d l h bs bss r;
           });
       refused = tt;
     }
     texts-assigned (bs ∷ bss) (Err e) small a =
         let o : IsGivenUp s.cut new (all_texts (live_of s.cut.bytes) (bs ∷ bss)) e = a some.texts some.table some.stand in
         given-up (asked.Assign key (map asked.Quoted (bs ∷ bss))) e o.refusal o.restored
-        (λ d l.
-        let h : HoldsTexts s.cut.bytes d key p = holds d l in
-        assign-unmet d l bs bss (a h.texts h.table h.stand).none)
+        (λ d l h.
+        assign-unmet d l h bs bss (a h.texts h.table h.stand).none)
 
     -- ---- places
 
     pub texts-reserved : (n : ℕ) (r : Result (Unit {0}) Refusal) → ReservesTexts s.cut new p n r → StepsSafely s new key TextsKind (asked.Reserve key n) r
-    texts-reserved n (Ok u) a = record {
-      step = texts-steps s key p b found new (asked.Reserve key n) Done writing
-          (λ d l.
-          let h : HoldsTexts s.cut.bytes d key p = holds d l in
-          let r = a h.texts h.table h.stand in
-          record {
-            texts = h.texts;
-            table = r.0;
-            move = in-array h.texts h.table r.0 r.2;
-            outcome = made_room current s.cut.bytes d (asked.Reserve key n) 16 n h.table r.0 Done (λ u. changed d h.object (Texts h.texts u)) l.denotes
-                (reserve-texts d key h.object h.texts h.table h.is h.value n) r.1;
-          });
-      refused = tt;
-    }
+    texts-reserved n (Ok u) a =
+        done-so (texts-steps s key p b found new (asked.Reserve key n) Done writing
+        (λ d l h.
+        let r = a h.texts h.table h.stand in
+        record {
+          texts = h.texts;
+          table = r.0;
+          move = in-array h.texts h.table r.0 r.2;
+          outcome = made_room current s.cut.bytes d (asked.Reserve key n) 16 n h.table r.0 Done (λ u. changed d h.object (Texts h.texts u)) l.denotes
+              (reserve-texts d key h.object h.texts h.table h.is h.value n) r.1;
+        }))
     texts-reserved n (Err e) a =
         let o : IsWithoutFit s.cut new (grown_table (live_of s.cut.bytes) 16 n some.table) e = a some.texts some.table some.stand in
         stays s new key TextsKind (asked.Reserve key n) e NoSpace o.refusal o.same
         (texts-stay s key p b found (asked.Reserve key n) (Refused NoSpace) (open-writing s.mode (asked.Reserve key n) writing)
-        (λ d l.
-        let h : HoldsTexts s.cut.bytes d key p = holds d l in
+        (λ d l h.
         no_room current s.cut.bytes d (asked.Reserve key n) 16 n h.table Done (λ u. changed d h.object (Texts h.texts u)) l.denotes
         (reserve-texts d key h.object h.texts h.table h.is h.value n) (a h.texts h.table h.stand).none))
 
     pub texts-shrunk : ShrinksTexts s.cut new p → StepsSafely s new key TextsKind (asked.Shrink key) (Ok tt)
-    texts-shrunk a = record {
-      step = texts-steps s key p b found new (asked.Shrink key) Done writing
-          (λ d l.
-          let h : HoldsTexts s.cut.bytes d key p = holds d l in
-          record {
-            texts = h.texts;
-            table = cut_table (live_of s.cut.bytes) 16 (length h.texts) h.table;
-            move = in-array h.texts h.table (cut_table (live_of s.cut.bytes) 16 (length h.texts) h.table) (a h.texts h.table h.stand);
-            outcome = ap (perform d (live d)) (shrink-texts d key h.object h.texts h.table h.is h.value)
-                ∙ ap (λ (m : LiveSet). after d h h.texts (cut_table m 16 (length h.texts) h.table)) (sym (heap-live d l));
-          });
-      refused = tt;
-    }
+    texts-shrunk a =
+        done-so (texts-steps s key p b found new (asked.Shrink key) Done writing
+        (λ d l h.
+        record {
+          texts = h.texts;
+          table = cut_table (live_of s.cut.bytes) 16 (length h.texts) h.table;
+          move = in-array h.texts h.table (cut_table (live_of s.cut.bytes) 16 (length h.texts) h.table) (a h.texts h.table h.stand);
+          outcome = ap (perform d (live d)) (shrink-texts d key h.object h.texts h.table h.is h.value)
+              ∙ ap (λ (m : LiveSet). after d h h.texts (cut_table m 16 (length h.texts) h.table)) (sym (heap-live d l));
+        }))

@@ -27,6 +27,7 @@ use Rattle.segment_manager.specs.Step.{changed, effect, is_read_only, step, step
 use Rattle.segment_manager.specs.TextLists.{LeadsOnOfKind}
 use Rattle.segment_manager.proofs.AnyStorage.{IsOfKindAt, kind-told}
 use Rattle.segment_manager.proofs.Constructed.{restored-denotes}
+use Rattle.segment_manager.proofs.Safely.{seen-refused}
 use Rattle.segment_manager.proofs.Steps.{IsMove, IsOpenFor, by_no_change_of_kind, by_step_of_kind, open-writing, step_of_kind-found, step_of_kind-segment, step_of_kind-step}
 use Rattle.segment_manager.proofs.TextBlocks.{IsPartOther}
 use Rattle.segment_manager.proofs.TextsHeld.{HasBytes, HoldsTexts, holds-texts, texts-changed}
@@ -76,11 +77,11 @@ module _ (s : State) (key : Key) (p : Place) (b : IsSegment s.cut.bytes) (found 
   -- ---- all directories
 
   -- the call is the step
-  pub texts-steps : (new : Cut) (c : Command) (answer : Answer) → is_read_only s.mode ≡ false → ((d : Directory) (l : StandsFor s.cut.bytes d) → TextsMove s.cut new d key p (texts_in d l) c answer)
+  pub texts-steps : (new : Cut) (c : Command) (answer : Answer) → is_read_only s.mode ≡ false → ((d : Directory) (l : StandsFor s.cut.bytes d) (h : HoldsTexts s.cut.bytes d key p) → TextsMove s.cut new d key p h c answer)
       → IsStepOfKind s (record s { cut = new }) key TextsKind c answer
   texts-steps new c answer writing each =
-      by_step_of_kind s (record s { cut = new }) key TextsKind c answer (record { mode = refl; place = (each b.0 b.1).move.now.change.place })
-      (λ d l. texts-move new d l c answer writing (each d l))
+      by_step_of_kind s (record s { cut = new }) key TextsKind c answer (record { mode = refl; place = (each b.0 b.1 (texts_in b.0 b.1)).move.now.change.place })
+      (λ d l. texts-move new d l c answer writing (each d l (texts_in d l)))
 
   -- the same of a call that does not say what it took away
   pub texts-lead-on : (new : Cut) (c : Command) (answer : (d : Directory) → StandsFor s.cut.bytes d → Answer) → is_read_only s.mode ≡ false
@@ -98,19 +99,19 @@ module _ (s : State) (key : Key) (p : Place) (b : IsSegment s.cut.bytes) (found 
 
   -- it answers so, and nothing changes
   pub texts-stay : (c : Command) (answer : Answer) → IsOpenFor s.mode c
-      → ((d : Directory) (l : StandsFor s.cut.bytes d) → perform d (live d) (effect d c) ≡ (answer, d)) → IsStepOfKind s s key TextsKind c answer
+      → ((d : Directory) (l : StandsFor s.cut.bytes d) (h : HoldsTexts s.cut.bytes d key p) → perform d (live d) (effect d c) ≡ (answer, d)) → IsStepOfKind s s key TextsKind c answer
   texts-stay c answer may each =
       by_no_change_of_kind s key TextsKind c answer
-      (λ d l. step_of_kind-found s.mode d key TextsKind c (texts_in d l).object may (texts_in d l).is (of-kind d l) ∙ each d l)
+      (λ d l. step_of_kind-found s.mode d key TextsKind c (texts_in d l).object may (texts_in d l).is (of-kind d l) ∙ each d l (texts_in d l))
 
   -- it answers so, and all blocks are as they were
   pub texts-restored : (new : Cut) (c : Command) (answer : Answer) → IsOpenFor s.mode c → IsRestored current s.cut new
-      → ((d : Directory) (l : StandsFor s.cut.bytes d) → perform d (live d) (effect d c) ≡ (answer, d)) → IsStepOfKind s (record s { cut = new }) key TextsKind c answer
+      → ((d : Directory) (l : StandsFor s.cut.bytes d) (h : HoldsTexts s.cut.bytes d key p) → perform d (live d) (effect d c) ≡ (answer, d)) → IsStepOfKind s (record s { cut = new }) key TextsKind c answer
   texts-restored new c answer may back each =
       by_step_of_kind s (record s { cut = new }) key TextsKind c answer (record { mode = refl; place = back.keeps.place })
       (λ d l. record {
         after = d;
-        is = step_of_kind-found s.mode d key TextsKind c (texts_in d l).object may (texts_in d l).is (of-kind d l) ∙ each d l;
+        is = step_of_kind-found s.mode d key TextsKind c (texts_in d l).object may (texts_in d l).is (of-kind d l) ∙ each d l (texts_in d l);
         stands = record { denotes = restored-denotes s.cut new d l.denotes (record { laid = back.laid; keeps = back.keeps }) };
       })
 
@@ -147,11 +148,7 @@ module _ (s t : State) (view : s ≡ t) (new : Cut) (key : Key) (c : Command) (r
   led-step = subst (λ (u : State). LeadsOnOfKind u (record s { cut = new }) key TextsKind c why) view done.step
 
   pub led-refused : OnErr r ((record s { cut = new }) ≡ t)
-  led-refused = kept r done.refused
-    where
-      kept : (q : Result (Unit {0}) Refusal) → OnErr q (new ≡ s.cut) → OnErr q ((record s { cut = new }) ≡ t)
-      kept (Ok u) e = tt
-      kept (Err w) e = (λ i. record s { cut = e i }) ∙ view
+  led-refused = seen-refused s t view new r done.refused
 
   pub led-segment : IsSegment s.cut.bytes → IsSegment new.bytes
   led-segment b = ((step_of_kind s.mode b.0 key TextsKind c).1, done.step.denotes b.0 b.1)

@@ -1,6 +1,6 @@
 -- What the calls of seg_vector ensure of the vector at the place that was found, as the steps of the calls on the object's vector.
 use Rattle.std.proofs.Common.{◌≡◌, refl, sym, ap, subst, ◌∙◌, ℕ, ◌+◌, ◌-◌, ◌<◌, ◌≤◌, ◌⊎◌, inl, inr, ℤ, Bool, true, false, Some, Result, Ok, Err, List, [], ◌∷◌, ◌++◌, length, map, take, arith}
-use Rattle.std.specs.Prelude.{IsTrue, OnErr, insert, option_map, remove, slice_get, slice_set}
+use Rattle.std.specs.Prelude.{IsTrue, insert, option_map, remove, slice_get, slice_set}
 use Rattle.std.specs.List.{list_all}
 use Rattle.raw_region.specs.Memory.{Cut}
 use Rattle.best_fit.specs.Heap.{live_of}
@@ -15,15 +15,15 @@ use Rattle.seg_types.specs.Commands.{Assign, Clear, Erase, Get, Insert, Pop, Pus
 use Rattle.seg_vector.specs.declared.places.Place.{Place}
 use Rattle.seg_vector.specs.Vector.{capacity_for_one}
 use Rattle.seg_vector.specs.VectorCalls.{Assigns, Clears, Counts, CountsPlaces, ErasesFrom, Gets, InsertsInto, IsOutside, IsSomeVector, IsVector, IsVectorGrown, IsVectorNow, IsWithoutSpace, Pops, Pushes, Reserves, Sets, Shrinks}
+use Rattle.segment_manager.specs.declared.modes.Mode.{Mode}
 use Rattle.segment_manager.specs.Answers.{Element, Refused}
 use Rattle.segment_manager.specs.Contents.{HasNoRoom, IsNumbers, IsNumbersGrown, IsNumbersNow, container_at, sizes_at_kind, sizes_of}
 use Rattle.segment_manager.specs.Directory.{kind_of}
 use Rattle.segment_manager.specs.State.{Answers, IsSegment, IsStepOfKind, State, answer_of}
 use Rattle.segment_manager.specs.Step.{is_read_only}
-use Rattle.segment_manager.specs.Stored.{StepsSafely}
+use Rattle.segment_manager.specs.Stored.{StandsThere, StepsSafely}
 use Rattle.segment_manager.proofs.AnyStorage.{sizes-found}
-use Rattle.segment_manager.proofs.Safely.{stays}
-use Rattle.segment_manager.proofs.Steps.{step_of_kind-segment}
+use Rattle.segment_manager.proofs.Safely.{AnswersSafely, done-so, stays}
 use Rattle.segment_manager.proofs.StorageSteps.{clears-vector, reserves-no_space, reserves-places, shrinks-vector}
 use Rattle.segment_manager.proofs.VectorCalls.{assigns-no_space, assigns-numbers, erases-number, erases-past, gets-number, gets-past, inserts-no_space, inserts-number, inserts-past, pops-nothing, pops-number, pushes-no_space, pushes-number, sets-number, sets-past}
 use Rattle.segment_manager.proofs.VectorSteps.{HoldsVector, holds-vector, stands-vector}
@@ -38,28 +38,23 @@ range-not_space : OutOfRange ≡ NoSpace → ⊥
 range-not_space e = cc
 
 -- the step of a call that takes an element out, and that it changes nothing where it is refused
-pub record PopsSafely {T : Type 0} (s : State) (new : Cut) (key : Key) (k : ScalarKind) (w : T → ℤ) (r : Result T Refusal) : Type 0 where
-  pub step : IsStepOfKind s (record s { cut = new }) key (Vector k) (Pop key) (answer_of (λ x. Element k (w x)) r)
-  pub refused : OnErr r (new ≡ s.cut)
-
-module _ {T : Type 0} (s t : State) (view : s ≡ t) (new : Cut) (key : Key) (k : ScalarKind) (w : T → ℤ) (r : Result T Refusal) (done : PopsSafely s new key k w r) where
-  pub popped-step : IsStepOfKind t (record s { cut = new }) key (Vector k) (Pop key) (answer_of (λ x. Element k (w x)) r)
-  popped-step = subst (λ (u : State). IsStepOfKind u (record s { cut = new }) key (Vector k) (Pop key) (answer_of (λ x. Element k (w x)) r)) view done.step
-
-  pub popped-refused : OnErr r ((record s { cut = new }) ≡ t)
-  popped-refused = kept r done.refused
-    where
-      kept : (q : Result T Refusal) → OnErr q (new ≡ s.cut) → OnErr q ((record s { cut = new }) ≡ t)
-      kept (Ok u) e = tt
-      kept (Err v) e = (λ i. record s { cut = e i }) ∙ view
-
-  pub popped-segment : IsSegment s.cut.bytes → IsSegment new.bytes
-  popped-segment b = step_of_kind-segment s (record s { cut = new }) key (Vector k) (Pop key) (answer_of (λ x. Element k (w x)) r) done.step b
+abbrev pub PopsSafely : {T : Type 0} → State → Cut → Key → ScalarKind → (T → ℤ) → Result T Refusal → Type 0
+PopsSafely s new key k w = AnswersSafely (answer_of (λ x. Element k (w x))) s new key (Vector k) (Pop key)
 
 -- the place that was found, as the type and the vector name it
 pub found-at : (s : State) (key : Key) (l k : ScalarKind) (q p : Place) → l ≡ k → p ≡ q → Answers s (λ d. container_at d key (Vector l)) (Ok q) → Answers s (λ d. container_at d key (Vector k)) (Ok p)
 found-at s key l k q p e f a =
     subst (λ (r : Place). Answers s (λ d. container_at d key (Vector k)) (Ok r)) (sym f) (subst (λ (m : ScalarKind). Answers s (λ d. container_at d key (Vector m)) (Ok q)) e a)
+
+-- whichever key has the object
+pub there-at : (c : Cut) (mode : Mode) (key : Key) (k : ScalarKind) (q p : Place) → p ≡ q → StandsThere c (Vector k) q key
+    → Answers (record { cut = c; mode = mode }) (λ d. container_at d key (Vector k)) (Ok p)
+there-at c mode key k q p f there = found-at (record { cut = c; mode = mode }) key k k q p refl f (record { answers = there })
+
+-- in the segment, as its view is named
+pub seen-at : (s t : State) (view : s ≡ t) (key : Key) (l k : ScalarKind) (q p : Place) → l ≡ k → p ≡ q → Answers t (λ d. container_at d key (Vector l)) (Ok q)
+    → Answers s (λ d. container_at d key (Vector k)) (Ok p)
+seen-at s t view key l k q p e f a = found-at s key l k q p e f (subst (λ (u : State). Answers u (λ d. container_at d key (Vector l)) (Ok q)) (sym view) a)
 
 -- why nothing was put in
 module _ {old new : Cut} {size : ℕ} where
@@ -127,14 +122,12 @@ module _ {T : Type 0} (k : ScalarKind) (w : T → ℤ) (size : ℕ) (test : T �
 
     module _ (new : Cut) (writing : is_read_only s.mode ≡ false) where
       pub vector-set : (i : ℕ) (x : T) (r : Result (Unit {0}) Refusal) → test x ≡ true → Sets size test sp s.cut new p i x r → StepsSafely s new key (Vector k) (Set key i (literal_of k (w x))) r
-      vector-set i x (Ok u) v a = record {
-        step = sets-number s key k p b found new i (w x) writing (sym (law.values x) ∙ v)
-            (of-values s.cut.bytes p (λ zs t. (i < length zs) × IsNumbersNow k s.cut new p t (slice_set zs i (w x)) t)
-            (λ xs t h.
-            let r = a xs t h in
-            (subst (λ (n : ℕ). i < n) (sym (whole-length w xs)) r.0, now-as s.cut new p t t (slice_set xs i x) (slice_set (map w xs) i (w x)) (whole-set w xs i x) r.1)));
-        refused = tt;
-      }
+      vector-set i x (Ok u) v a =
+          done-so (sets-number s key k p b found new i (w x) writing (sym (law.values x) ∙ v)
+          (of-values s.cut.bytes p (λ zs t. (i < length zs) × IsNumbersNow k s.cut new p t (slice_set zs i (w x)) t)
+          (λ xs t h.
+          let r = a xs t h in
+          (subst (λ (n : ℕ). i < n) (sym (whole-length w xs)) r.0, now-as s.cut new p t t (slice_set xs i x) (slice_set (map w xs) i (w x)) (whole-set w xs i x) r.1))))
       vector-set i x (Err e) v a =
           let o = some-vector in
           let r = a o.0 o.1.0 o.1.1 in
@@ -143,14 +136,12 @@ module _ {T : Type 0} (k : ScalarKind) (w : T → ℤ) (size : ℕ) (test : T �
           (of-values s.cut.bytes p (λ zs t. length zs ≤ i) (λ xs t h. subst (λ (n : ℕ). n ≤ i) (sym (whole-length w xs)) (a xs t h).outside)))
 
       pub vector-erased : (i : ℕ) (r : Result (Unit {0}) Refusal) → ErasesFrom size test sp s.cut new p i r → StepsSafely s new key (Vector k) (Erase key i) r
-      vector-erased i (Ok u) a = record {
-        step = erases-number s key k p b found new i writing
-            (of-values s.cut.bytes p (λ zs t. (i < length zs) × IsNumbersNow k s.cut new p t (remove zs i) t)
-            (λ xs t h.
-            let r = a xs t h in
-            (subst (λ (n : ℕ). i < n) (sym (whole-length w xs)) r.0, now-as s.cut new p t t (remove xs i) (remove (map w xs) i) (whole-remove w xs i) r.1)));
-        refused = tt;
-      }
+      vector-erased i (Ok u) a =
+          done-so (erases-number s key k p b found new i writing
+          (of-values s.cut.bytes p (λ zs t. (i < length zs) × IsNumbersNow k s.cut new p t (remove zs i) t)
+          (λ xs t h.
+          let r = a xs t h in
+          (subst (λ (n : ℕ). i < n) (sym (whole-length w xs)) r.0, now-as s.cut new p t t (remove xs i) (remove (map w xs) i) (whole-remove w xs i) r.1))))
       vector-erased i (Err e) a =
           let o = some-vector in
           let r = a o.0 o.1.0 o.1.1 in
@@ -161,14 +152,12 @@ module _ {T : Type 0} (k : ScalarKind) (w : T → ℤ) (size : ℕ) (test : T �
       -- ---- one more
 
       pub vector-pushed : (x : T) (r : Result (Unit {0}) Refusal) → test x ≡ true → Pushes size test sp s.cut new p x r → StepsSafely s new key (Vector k) (Push key (literal_of k (w x))) r
-      vector-pushed x (Ok u) v a = record {
-        step = pushes-number s key k p b found new (w x) writing (sym (law.values x) ∙ v)
-            (of-values s.cut.bytes p (λ zs t. IsNumbersGrown k s.cut new p t (capacity_for_one (length zs) t.capacity) (zs ++ w x ∷ []))
-            (λ xs t h.
-            grown-as s.cut new p t (capacity_for_one (length xs) t.capacity) (capacity_for_one (length (map w xs)) t.capacity) (xs ++ x ∷ []) (map w xs ++ w x ∷ [])
-            (ap (λ (n : ℕ). capacity_for_one n t.capacity) (sym (whole-length w xs))) (whole-append w xs (x ∷ [])) (a xs t h)));
-        refused = tt;
-      }
+      vector-pushed x (Ok u) v a =
+          done-so (pushes-number s key k p b found new (w x) writing (sym (law.values x) ∙ v)
+          (of-values s.cut.bytes p (λ zs t. IsNumbersGrown k s.cut new p t (capacity_for_one (length zs) t.capacity) (zs ++ w x ∷ []))
+          (λ xs t h.
+          grown-as s.cut new p t (capacity_for_one (length xs) t.capacity) (capacity_for_one (length (map w xs)) t.capacity) (xs ++ x ∷ []) (map w xs ++ w x ∷ [])
+          (ap (λ (n : ℕ). capacity_for_one n t.capacity) (sym (whole-length w xs))) (whole-append w xs (x ∷ [])) (a xs t h))))
       vector-pushed x (Err e) v a =
           let o = some-vector in
           let r = a o.0 o.1.0 o.1.1 in
@@ -180,17 +169,15 @@ module _ {T : Type 0} (k : ScalarKind) (w : T → ℤ) (size : ℕ) (test : T �
           (ap (λ (n : ℕ). capacity_for_one n t.capacity) (sym (whole-length w xs))) (a xs t h))))
 
       pub vector-inserted : (i : ℕ) (x : T) (r : Result (Unit {0}) Refusal) → test x ≡ true → InsertsInto size test sp s.cut new p i x r → StepsSafely s new key (Vector k) (Insert key i (literal_of k (w x))) r
-      vector-inserted i x (Ok u) v a = record {
-        step = inserts-number s key k p b found new i (w x) writing (sym (law.values x) ∙ v)
-            (of-values s.cut.bytes p (λ zs t. (i ≤ length zs) × IsNumbersGrown k s.cut new p t (capacity_for_one (length zs) t.capacity) (insert zs i (w x)))
-            (λ xs t h.
-            let r = a xs t h in (
-              subst (λ (n : ℕ). i ≤ n) (sym (whole-length w xs)) r.0,
-              grown-as s.cut new p t (capacity_for_one (length xs) t.capacity) (capacity_for_one (length (map w xs)) t.capacity) (insert xs i x) (insert (map w xs) i (w x))
-                  (ap (λ (n : ℕ). capacity_for_one n t.capacity) (sym (whole-length w xs))) (whole-insert w xs i x) r.1,
-            )));
-        refused = tt;
-      }
+      vector-inserted i x (Ok u) v a =
+          done-so (inserts-number s key k p b found new i (w x) writing (sym (law.values x) ∙ v)
+          (of-values s.cut.bytes p (λ zs t. (i ≤ length zs) × IsNumbersGrown k s.cut new p t (capacity_for_one (length zs) t.capacity) (insert zs i (w x)))
+          (λ xs t h.
+          let r = a xs t h in (
+            subst (λ (n : ℕ). i ≤ n) (sym (whole-length w xs)) r.0,
+            grown-as s.cut new p t (capacity_for_one (length xs) t.capacity) (capacity_for_one (length (map w xs)) t.capacity) (insert xs i x) (insert (map w xs) i (w x))
+                (ap (λ (n : ℕ). capacity_for_one n t.capacity) (sym (whole-length w xs))) (whole-insert w xs i x) r.1,
+          ))))
       vector-inserted i x (Err e) v a = let o = some-vector in not-inserted i x e v a (inserted-why i e (length o.0) (capacity_for_one (length o.0) o.1.0.capacity) o.1.0 (a o.0 o.1.0 o.1.1))
         where
           not-inserted : (i : ℕ) (x : T) (e : Refusal) → test x ≡ true → InsertsInto size test sp s.cut new p i x (Err e) → (new ≡ s.cut) × ((e ≡ OutOfRange) ⊎ (e ≡ NoSpace))
@@ -238,12 +225,10 @@ module _ {T : Type 0} (k : ScalarKind) (w : T → ℤ) (size : ℕ) (test : T �
       -- ---- others in the place of all
 
       pub vector-assigned : (ys : List T) (r : Result (Unit {0}) Refusal) → IsTrue (list_all test ys) → Assigns size test sp s.cut new p ys r → StepsSafely s new key (Vector k) (Assign key (map (literal_of k) (map w ys))) r
-      vector-assigned ys (Ok u) v a = record {
-        step = assigns-numbers s key k p b found new (map w ys) writing (sym (whole-values k w size test sp law ys) ∙ v)
-            (of-values s.cut.bytes p (λ zs t. IsNumbersGrown k s.cut new p t (length (map w ys)) (map w ys))
-            (λ xs t h. grown-as s.cut new p t (length ys) (length (map w ys)) ys (map w ys) (sym (whole-length w ys)) refl (a xs t h)));
-        refused = tt;
-      }
+      vector-assigned ys (Ok u) v a =
+          done-so (assigns-numbers s key k p b found new (map w ys) writing (sym (whole-values k w size test sp law ys) ∙ v)
+          (of-values s.cut.bytes p (λ zs t. IsNumbersGrown k s.cut new p t (length (map w ys)) (map w ys))
+          (λ xs t h. grown-as s.cut new p t (length ys) (length (map w ys)) ys (map w ys) (sym (whole-length w ys)) refl (a xs t h))))
       vector-assigned ys (Err e) v a =
           let o = some-vector in
           let r = a o.0 o.1.0 o.1.1 in
@@ -255,11 +240,9 @@ module _ {T : Type 0} (k : ScalarKind) (w : T → ℤ) (size : ℕ) (test : T �
       -- ---- places
 
       pub vector-reserved : (n : ℕ) (r : Result (Unit {0}) Refusal) → Reserves size test sp s.cut new p n r → StepsSafely s new key (Vector k) (Reserve key n) r
-      vector-reserved n (Ok u) a = record {
-        step = reserves-places s key k p b found new n writing
-            (of-values s.cut.bytes p (λ zs t. IsNumbersGrown k s.cut new p t n zs) (λ xs t h. grown-as s.cut new p t n n xs (map w xs) refl refl (a xs t h)));
-        refused = tt;
-      }
+      vector-reserved n (Ok u) a =
+          done-so (reserves-places s key k p b found new n writing
+          (of-values s.cut.bytes p (λ zs t. IsNumbersGrown k s.cut new p t n zs) (λ xs t h. grown-as s.cut new p t n n xs (map w xs) refl refl (a xs t h))))
       vector-reserved n (Err e) a =
           let o = some-vector in
           let r = a o.0 o.1.0 o.1.1 in
@@ -267,17 +250,13 @@ module _ {T : Type 0} (k : ScalarKind) (w : T → ℤ) (size : ℕ) (test : T �
           (reserves-no_space s key k p b found n writing (of-values s.cut.bytes p (λ zs t. HasNoRoom s.cut.bytes (size_of k) n t) (λ xs t h. room-as s.cut new t n n e refl (a xs t h))))
 
       pub vector-shrunk : Shrinks size test sp s.cut new p → StepsSafely s new key (Vector k) (Shrink key) (Ok tt)
-      vector-shrunk a = record {
-        step = shrinks-vector s key k p b found new writing
-            (of-values s.cut.bytes p (λ zs t. IsNumbersNow k s.cut new p t zs (cut_table (live_of s.cut.bytes) (size_of k) (length zs) t))
-            (λ xs t h.
-            subst (λ (u : Table). IsNumbersNow k s.cut new p t (map w xs) u) (λ i. cut_table (live_of s.cut.bytes) (law.long i) (sym (whole-length w xs) i) t)
-            (now-as s.cut new p t (cut_table (live_of s.cut.bytes) size (length xs) t) xs (map w xs) refl (a xs t h))));
-        refused = tt;
-      }
+      vector-shrunk a =
+          done-so (shrinks-vector s key k p b found new writing
+          (of-values s.cut.bytes p (λ zs t. IsNumbersNow k s.cut new p t zs (cut_table (live_of s.cut.bytes) (size_of k) (length zs) t))
+          (λ xs t h.
+          subst (λ (u : Table). IsNumbersNow k s.cut new p t (map w xs) u) (λ i. cut_table (live_of s.cut.bytes) (law.long i) (sym (whole-length w xs) i) t)
+          (now-as s.cut new p t (cut_table (live_of s.cut.bytes) size (length xs) t) xs (map w xs) refl (a xs t h)))))
 
       pub vector-cleared : Clears size test sp s.cut new p → StepsSafely s new key (Vector k) (Clear key) (Ok tt)
-      vector-cleared a = record {
-        step = clears-vector s key k p b found new writing (of-values s.cut.bytes p (λ zs t. IsNumbersNow k s.cut new p t [] t) (λ xs t h. now-as s.cut new p t t [] [] refl (a xs t h)));
-        refused = tt;
-      }
+      vector-cleared a =
+          done-so (clears-vector s key k p b found new writing (of-values s.cut.bytes p (λ zs t. IsNumbersNow k s.cut new p t [] t) (λ xs t h. now-as s.cut new p t t [] [] refl (a xs t h))))

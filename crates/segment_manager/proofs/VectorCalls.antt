@@ -12,7 +12,7 @@ use Rattle.seg_types.specs.declared.refusals.Refusal.TheVariants.{NoSpace, OutOf
 use Rattle.seg_types.specs.Kinds.{is_value, size_of}
 use Rattle.seg_types.specs.Names.{Key}
 use Rattle.seg_types.specs.Commands as asked
-use Rattle.seg_types.specs.Commands.{Literal, literal_of}
+use Rattle.seg_types.specs.Commands.{literal_of}
 use Rattle.seg_vector.specs.declared.places.Place.{Place}
 use Rattle.seg_vector.specs.Vector.{capacity_for_one}
 use Rattle.segment_manager.specs.Answers.{Done, Element, Refused}

@@ -1,23 +1,14 @@
 -- The places of an iterator over the objects of an index.
-use Rattle.std.proofs.Common.{◌≡◌, sym, ap, subst, ◌∙◌, ℕ, ◌<◌, ◌≤◌, Some, None, List, length}
+use Rattle.std.proofs.Common.{◌≡◌, sym, ap, subst, ◌∙◌, ℕ, ◌≤◌, Some, None, List, length}
 use Rattle.std.specs.Prelude.{option_map, slice_get}
 use Rattle.std.proofs.lemmas.Option.{slice_get-map, slice_get_past}
 use Rattle.seg_index.specs.declared.index.Index.TheVariants.{Named}
 use Rattle.segment_manager.specs.declared.telling.Instance.{Instance}
 use Rattle.segment_manager.specs.Directory.{Directory, Object, named_objects}
-use Rattle.segment_manager.specs.Found.{IsBelow}
 use Rattle.segment_manager.specs.Instances.{SaysAt}
 use Rattle.segment_manager.specs.Indexed.{objects_of}
 use Rattle.segment_manager.specs.Iterating.{GoesOn, GoesOnNames, NameWalk, Walk, names_of}
 use Rattle.segment_manager.specs.State.{Answers, State, StandsFor}
-
--- a place below the number of them has an object
-pub counted-below : (s : State) (count : Directory → ℕ) (n i : ℕ) → Answers s count n → i < n → IsBelow s count i
-counted-below s count n i h l = record { below = λ d k. subst (λ m. i < m) (h.answers d k) l }
-
--- and none else
-pub counted-above : (s : State) (count : Directory → ℕ) (n i : ℕ) → Answers s count n → n ≤ i → (d : Directory) → StandsFor s.cut.bytes d → count d ≤ i
-counted-above s count n i h l d k = subst (λ m. m ≤ i) (h.answers d k) l
 
 -- what stands at a place of the list of named objects is the name that is said, and behind the last there is none
 pub name-said : (s : State) (at : ℕ) (said : Instance) → SaysAt s named_objects at said → Answers s (λ d. slice_get (names_of d) at) (Some said.name.now)

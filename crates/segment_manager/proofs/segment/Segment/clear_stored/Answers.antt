@@ -1,39 +1,27 @@
--- The container that is found has no element.
-use Rattle.std.proofs.Common.{◌≡◌, ap, ◌∙◌, false, Ok}
-use Rattle.seg_types.specs.Names.{Key}
+use Rattle.std.proofs.Common.{Ok}
 use Rattle.seg_types.specs.Commands.{Clear}
-use Rattle.segment_manager.specs.State.{State}
-use Rattle.segment_manager.specs.Step.{is_read_only}
 use Rattle.segment_manager.specs.Stored.{StepsSafely}
 use Rattle.segment_manager.proofs.Safely.{safe-segment}
-use Rattle.segment_manager.proofs.StoredCalls.{stands-there, storage-changed, storage-missing}
+use Rattle.segment_manager.proofs.StoredCalls.{changes-there, stands-there, storage-changed, storage-missing}
 use Rattle.segment_manager.proofs.segment.Segment.clear_stored.Goals as goal
+use Rattle.segment_manager.proofs.segment.Segment.clear_stored.Goals.{After-clear}
+use Rattle.segment_manager.proofs.segment.Segment.clear_stored.Given.{Over}
+
+-- what the call does, in each goal behind it
+done : (g : Over) (c : After-clear g) → StepsSafely (record { cut = c.self.inside.heap; mode = c.self.inside.mode })
+    c.clear.new.heap (g.O.Target.key c.args.key.now) g.S.Stored.kind (Clear (g.O.Target.key c.args.key.now)) (Ok tt)
+done g c = changes-there _ _ c.self.view_is _ _ _ _ _ Clear (Ok tt) c.requires.writing c.kind.ensures c.in-Ok.ensures c.clear.ensures
 
 pub clear-requires : goal.clear-requires
-clear-requires g c =
-    let s : State = record { cut = c.self.inside.heap; mode = c.self.inside.mode } in
-    let key : Key = g.O.Target.key c.args.key.now in
-    (c.self.invariant, (key, stands-there s c.args.self.now c.self.view_is key c.kind.result g.S.Stored.kind c.in-Ok.place c.kind.ensures c.in-Ok.ensures))
+clear-requires g c = (c.self.invariant, (g.O.Target.key c.args.key.now, stands-there _ _ c.self.view_is _ _ _ _ c.kind.ensures c.in-Ok.ensures))
 
 pub invariant_of-self : goal.invariant_of-self
 invariant_of-self g c =
-    let s : State = record { cut = c.self.inside.heap; mode = c.self.inside.mode } in
-    let key : Key = g.O.Target.key c.args.key.now in
-    let writing : is_read_only s.mode ≡ false = ap (λ (t : State). is_read_only t.mode) c.self.view_is ∙ c.requires.writing in
-    let done : StepsSafely s c.clear.new.heap key g.S.Stored.kind (Clear key) (Ok tt) =
-    c.clear.ensures s.mode key writing (stands-there s c.args.self.now c.self.view_is key c.kind.result g.S.Stored.kind c.in-Ok.place c.kind.ensures c.in-Ok.ensures) in
-    safe-segment s c.args.self.now c.self.view_is c.clear.new.heap key g.S.Stored.kind (Clear key) (Ok tt) done c.self.invariant
+    safe-segment _ _ c.self.view_is _ _ _ _ _ (done g (goal.at.invariant_of-self g c).After-clear) c.self.invariant
 
 pub returns-in-Err : goal.returns-in-Err
 returns-in-Err g c =
-    let key : Key = g.O.Target.key c.args.key.now in
-    storage-missing c.args.self.now key c.kind.result g.S.Stored.kind (Clear key) c.in-Err.why c.requires.writing c.kind.ensures c.in-Err.ensures
+    storage-missing _ _ _ _ (Clear (g.O.Target.key c.args.key.now)) _ c.requires.writing c.kind.ensures c.in-Err.ensures
 
 pub returns-in-Ok : goal.returns-in-Ok
-returns-in-Ok g c =
-    let s : State = record { cut = c.self.inside.heap; mode = c.self.inside.mode } in
-    let key : Key = g.O.Target.key c.args.key.now in
-    let writing : is_read_only s.mode ≡ false = ap (λ (t : State). is_read_only t.mode) c.self.view_is ∙ c.requires.writing in
-    let done : StepsSafely s c.clear.new.heap key g.S.Stored.kind (Clear key) (Ok tt) =
-    c.clear.ensures s.mode key writing (stands-there s c.args.self.now c.self.view_is key c.kind.result g.S.Stored.kind c.in-Ok.place c.kind.ensures c.in-Ok.ensures) in
-    storage-changed s c.args.self.now c.self.view_is c.clear.new.heap key g.S.Stored.kind (Clear key) (Ok tt) done
+returns-in-Ok g c = storage-changed _ _ c.self.view_is _ _ _ _ _ (done g (goal.at.returns-in-Ok g c).After-clear)

@@ -9,19 +9,15 @@ use Rattle.segment_manager.proofs.StoredCalls.{stands-there}
 use Rattle.segment_manager.proofs.segment.Segment.measure_stored.Goals as goal
 
 pub sizes-requires : goal.sizes-requires
-sizes-requires g c =
-    let s : State = record { cut = c.self.inside.heap; mode = c.self.inside.mode } in
-    let key : Key = g.O.Target.key c.args.key.now in
-    (c.self.invariant, (key, stands-there s c.args.self.now c.self.view_is key c.kind.result g.S.Stored.kind c.in-Ok.place c.kind.ensures c.in-Ok.ensures))
+sizes-requires g c = (c.self.invariant, (g.O.Target.key c.args.key.now, stands-there _ _ c.self.view_is _ _ _ _ c.kind.ensures c.in-Ok.ensures))
 
 pub returns-in-Err : goal.returns-in-Err
 returns-in-Err g c =
     let key : Key = g.O.Target.key c.args.key.now in
-    measures-nothing c.args.self.now key g.S.Stored.kind c.in-Err.why (subst (λ (l : Kind). Answers c.args.self.now (λ d. container_at d key l) (Err c.in-Err.why)) c.kind.ensures c.in-Err.ensures)
+    measures-nothing _ _ _ _ (subst (λ (l : Kind). Answers c.args.self.now (λ d. container_at d key l) (Err c.in-Err.why)) c.kind.ensures c.in-Err.ensures)
 
 pub returns-in-Ok : goal.returns-in-Ok
 returns-in-Ok g c =
-    let s : State = record { cut = c.self.inside.heap; mode = c.self.inside.mode } in
     let key : Key = g.O.Target.key c.args.key.now in
     subst (λ (t : State). Answers t (λ d. sizes_at_kind d key g.S.Stored.kind) (Ok c.sizes.result)) c.self.view_is
-    (record { answers = c.sizes.ensures key (stands-there s c.args.self.now c.self.view_is key c.kind.result g.S.Stored.kind c.in-Ok.place c.kind.ensures c.in-Ok.ensures) })
+    (record { answers = c.sizes.ensures key (stands-there _ _ c.self.view_is _ _ _ _ c.kind.ensures c.in-Ok.ensures) })

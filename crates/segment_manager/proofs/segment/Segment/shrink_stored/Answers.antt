@@ -1,39 +1,27 @@
--- The container that is found has as many places as elements.
-use Rattle.std.proofs.Common.{◌≡◌, ap, ◌∙◌, false, Ok}
-use Rattle.seg_types.specs.Names.{Key}
+use Rattle.std.proofs.Common.{Ok}
 use Rattle.seg_types.specs.Commands.{Shrink}
-use Rattle.segment_manager.specs.State.{State}
-use Rattle.segment_manager.specs.Step.{is_read_only}
 use Rattle.segment_manager.specs.Stored.{StepsSafely}
 use Rattle.segment_manager.proofs.Safely.{safe-segment}
-use Rattle.segment_manager.proofs.StoredCalls.{stands-there, storage-changed, storage-missing}
+use Rattle.segment_manager.proofs.StoredCalls.{changes-there, stands-there, storage-changed, storage-missing}
 use Rattle.segment_manager.proofs.segment.Segment.shrink_stored.Goals as goal
+use Rattle.segment_manager.proofs.segment.Segment.shrink_stored.Goals.{After-shrink}
+use Rattle.segment_manager.proofs.segment.Segment.shrink_stored.Given.{Over}
+
+-- what the call does, in each goal behind it
+done : (g : Over) (c : After-shrink g) → StepsSafely (record { cut = c.self.inside.heap; mode = c.self.inside.mode })
+    c.shrink.new.heap (g.O.Target.key c.args.key.now) g.S.Stored.kind (Shrink (g.O.Target.key c.args.key.now)) (Ok tt)
+done g c = changes-there _ _ c.self.view_is _ _ _ _ _ Shrink (Ok tt) c.requires.writing c.kind.ensures c.in-Ok.ensures c.shrink.ensures
 
 pub shrink-requires : goal.shrink-requires
-shrink-requires g c =
-    let s : State = record { cut = c.self.inside.heap; mode = c.self.inside.mode } in
-    let key : Key = g.O.Target.key c.args.key.now in
-    (c.self.invariant, (key, stands-there s c.args.self.now c.self.view_is key c.kind.result g.S.Stored.kind c.in-Ok.place c.kind.ensures c.in-Ok.ensures))
+shrink-requires g c = (c.self.invariant, (g.O.Target.key c.args.key.now, stands-there _ _ c.self.view_is _ _ _ _ c.kind.ensures c.in-Ok.ensures))
 
 pub invariant_of-self : goal.invariant_of-self
 invariant_of-self g c =
-    let s : State = record { cut = c.self.inside.heap; mode = c.self.inside.mode } in
-    let key : Key = g.O.Target.key c.args.key.now in
-    let writing : is_read_only s.mode ≡ false = ap (λ (t : State). is_read_only t.mode) c.self.view_is ∙ c.requires.writing in
-    let done : StepsSafely s c.shrink.new.heap key g.S.Stored.kind (Shrink key) (Ok tt) =
-    c.shrink.ensures s.mode key writing (stands-there s c.args.self.now c.self.view_is key c.kind.result g.S.Stored.kind c.in-Ok.place c.kind.ensures c.in-Ok.ensures) in
-    safe-segment s c.args.self.now c.self.view_is c.shrink.new.heap key g.S.Stored.kind (Shrink key) (Ok tt) done c.self.invariant
+    safe-segment _ _ c.self.view_is _ _ _ _ _ (done g (goal.at.invariant_of-self g c).After-shrink) c.self.invariant
 
 pub returns-in-Err : goal.returns-in-Err
 returns-in-Err g c =
-    let key : Key = g.O.Target.key c.args.key.now in
-    storage-missing c.args.self.now key c.kind.result g.S.Stored.kind (Shrink key) c.in-Err.why c.requires.writing c.kind.ensures c.in-Err.ensures
+    storage-missing _ _ _ _ (Shrink (g.O.Target.key c.args.key.now)) _ c.requires.writing c.kind.ensures c.in-Err.ensures
 
 pub returns-in-Ok : goal.returns-in-Ok
-returns-in-Ok g c =
-    let s : State = record { cut = c.self.inside.heap; mode = c.self.inside.mode } in
-    let key : Key = g.O.Target.key c.args.key.now in
-    let writing : is_read_only s.mode ≡ false = ap (λ (t : State). is_read_only t.mode) c.self.view_is ∙ c.requires.writing in
-    let done : StepsSafely s c.shrink.new.heap key g.S.Stored.kind (Shrink key) (Ok tt) =
-    c.shrink.ensures s.mode key writing (stands-there s c.args.self.now c.self.view_is key c.kind.result g.S.Stored.kind c.in-Ok.place c.kind.ensures c.in-Ok.ensures) in
-    storage-changed s c.args.self.now c.self.view_is c.shrink.new.heap key g.S.Stored.kind (Shrink key) (Ok tt) done
+returns-in-Ok g c = storage-changed _ _ c.self.view_is _ _ _ _ _ (done g (goal.at.returns-in-Ok g c).After-shrink)

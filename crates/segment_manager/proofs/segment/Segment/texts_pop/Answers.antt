@@ -31,10 +31,7 @@ pub returns-in-Err-clause-step : goal.returns-in-Err-clause-step
 returns-in-Err-clause-step g c =
     step-leads-on _ _ _ _ _ (c.in-Err.ensures.refused (Pop (g.O.Target.key c.args.key.now)) refl)
 
-pub returns-in-Ok-clause-step : goal.returns-in-Ok-clause-step
-returns-in-Ok-clause-step g c =
-    led-step _ _ c.self.view_is _ _ _ _ _ (done g (goal.at.returns-in-Ok-clause-step g c).After-pop)
-
-pub returns-in-Ok-clause-refused : goal.returns-in-Ok-clause-refused
-returns-in-Ok-clause-refused g c =
-    led-refused _ _ c.self.view_is _ _ _ _ _ (done g (goal.at.returns-in-Ok-clause-refused g c).After-pop)
+pub returns-in-Ok : goal.returns-in-Ok
+returns-in-Ok g c =
+    let d = done g (goal.at.returns-in-Ok g c).After-pop in
+    record { step = led-step _ _ c.self.view_is _ _ _ _ _ d; refused = led-refused _ _ c.self.view_is _ _ _ _ _ d }

@@ -32,10 +32,7 @@ pub returns-in-Err-clause-step : goal.returns-in-Err-clause-step
 returns-in-Err-clause-step g c =
     c.in-Err.ensures.refused (Push (g.O.Target.key c.args.key.now) (Quoted c.args.text.now)) refl
 
-pub returns-in-Ok-clause-step : goal.returns-in-Ok-clause-step
-returns-in-Ok-clause-step g c =
-    kept-step _ _ c.self.view_is _ _ _ _ (done g (goal.at.returns-in-Ok-clause-step g c).After-push)
-
-pub returns-in-Ok-clause-refused : goal.returns-in-Ok-clause-refused
-returns-in-Ok-clause-refused g c =
-    kept-refused _ _ c.self.view_is _ _ _ _ (done g (goal.at.returns-in-Ok-clause-refused g c).After-push)
+pub returns-in-Ok : goal.returns-in-Ok
+returns-in-Ok g c =
+    let d = done g (goal.at.returns-in-Ok g c).After-push in
+    record { step = kept-step _ _ c.self.view_is _ _ _ _ d; refused = kept-refused _ _ c.self.view_is _ _ _ _ d }

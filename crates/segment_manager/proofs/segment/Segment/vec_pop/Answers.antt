@@ -2,46 +2,38 @@
 use Rattle.std.proofs.Common.{refl, subst}
 use Rattle.seg_types.specs.declared.kinds.Kind.TheVariants.{Vector}
 use Rattle.seg_types.specs.Commands.{Pop}
-use Rattle.segment_manager.proofs.VectorAnswers.{PopsSafely, popped-refused, popped-segment, popped-step, some-vector, vector-popped}
-use Rattle.segment_manager.proofs.Whole.{IsOfKind}
+use Rattle.segment_manager.proofs.Safely.{answer-refused, answer-segment, answer-step}
+use Rattle.segment_manager.proofs.VectorAnswers.{PopsSafely, some-vector, vector-popped}
+use Rattle.segment_manager.proofs.ScalarTypes.{of-vector}
 use Rattle.segment_manager.specs.ToChange.{IsNotToChange}
 use Rattle.segment_manager.proofs.ToChange.{vector-to_change}
 use Rattle.segment_manager.proofs.segment.Segment.vec_pop.Goals as goal
 use Rattle.segment_manager.proofs.segment.Segment.vec_pop.Goals.{After-pop}
 use Rattle.segment_manager.proofs.segment.Segment.vec_pop.Given.{Over}
 
--- what holds of the type
-law : (g : Over) → IsOfKind g.T.Scalar.kind g.T.Scalar.whole g.T.Plain.SIZE g.T.Plain.is_value g.T.Plain.spelling
-law g =
-    let m = g.met.T.Scalar in
-    record { long = m.size; values = m.values; spelled = m.spelled; reached = m.reached }
-
 -- what the call does, in each goal behind it
 done : (g : Over) (c : After-pop g) → PopsSafely (record { cut = c.self.inside.heap; mode = c.self.inside.mode })
     c.pop.new.heap (g.O.Target.key c.args.key.now) g.T.Scalar.kind g.T.Scalar.whole c.pop.result
 done g c =
     let place = vector-to_change _ _ c.self.view_is _ _ _ _ _ c.kind.ensures c.at.ensures c.in-Ok.ensures in
-    vector-popped _ _ _ _ _ (law g) _ _ _ c.self.invariant place.at c.pop.new.heap place.writing c.pop.result
+    vector-popped _ _ _ _ _ (of-vector g.met.T.Scalar) _ _ _ c.self.invariant place.at c.pop.new.heap place.writing c.pop.result
     c.pop.ensures
 
 pub pop-requires : goal.pop-requires
 pop-requires g c =
     let place = vector-to_change _ _ c.self.view_is _ _ _ _ _ c.kind.ensures c.at.ensures c.in-Ok.ensures in
-    some-vector _ _ _ _ _ (law g) _ _ _ c.self.invariant place.at
+    some-vector _ _ _ _ _ (of-vector g.met.T.Scalar) _ _ _ c.self.invariant place.at
 
 pub invariant_of-self : goal.invariant_of-self
 invariant_of-self g c =
-    popped-segment _ _ c.self.view_is _ _ _ _ _ (done g (goal.at.invariant_of-self g c).After-pop) c.self.invariant
+    answer-segment _ _ c.self.view_is _ _ _ _ _ (done g (goal.at.invariant_of-self g c).After-pop) c.self.invariant
 
 pub returns-in-Err-clause-step : goal.returns-in-Err-clause-step
 returns-in-Err-clause-step g c =
     (subst (λ l. IsNotToChange c.args.self.now (g.O.Target.key c.args.key.now) (Vector l) c.in-Err.why) c.kind.ensures
     c.in-Err.ensures).refused (Pop (g.O.Target.key c.args.key.now)) refl
 
-pub returns-in-Ok-clause-step : goal.returns-in-Ok-clause-step
-returns-in-Ok-clause-step g c =
-    popped-step _ _ c.self.view_is _ _ _ _ _ (done g (goal.at.returns-in-Ok-clause-step g c).After-pop)
-
-pub returns-in-Ok-clause-refused : goal.returns-in-Ok-clause-refused
-returns-in-Ok-clause-refused g c =
-    popped-refused _ _ c.self.view_is _ _ _ _ _ (done g (goal.at.returns-in-Ok-clause-refused g c).After-pop)
+pub returns-in-Ok : goal.returns-in-Ok
+returns-in-Ok g c =
+    let d = done g (goal.at.returns-in-Ok g c).After-pop in
+    record { step = answer-step _ _ c.self.view_is _ _ _ _ _ d; refused = answer-refused _ _ c.self.view_is _ _ _ _ _ d }

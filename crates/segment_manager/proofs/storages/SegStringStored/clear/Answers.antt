@@ -1,16 +1,13 @@
 -- The call is the step of each key that has the object.
 use Rattle.segment_manager.specs.declared.modes.Mode.TheVariants.{Write}
-use Rattle.segment_manager.specs.State.{State}
 use Rattle.segment_manager.proofs.TextAnswers.{text-cleared, text-standing}
 use Rattle.segment_manager.proofs.storages.SegStringStored.clear.Goals as goal
 
 pub clear-requires : goal.clear-requires
 clear-requires c =
-    let s : State = record { cut = c.args.heap.now; mode = Write } in
-    text-standing s c.requires.1.0 c.args.place c.requires.0 (record { answers = c.requires.1.1 })
+    text-standing (record { cut = c.args.heap.now; mode = Write }) c.requires.1.0 _ c.requires.0 (record { answers = c.requires.1.1 })
 
 pub returns : goal.returns
-returns c =
-    λ mode key writing there.
-    let s : State = record { cut = c.args.heap.now; mode = mode } in
-    text-cleared s key c.args.place c.requires.0 (record { answers = there }) c.clear.new.heap writing c.clear.ensures
+returns c = λ mode key writing there.
+    text-cleared (record { cut = c.args.heap.now; mode = mode }) key _ c.requires.0 (record { answers = there })
+    c.clear.new.heap writing c.clear.ensures

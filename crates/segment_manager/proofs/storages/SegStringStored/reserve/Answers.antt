@@ -1,23 +1,19 @@
 -- The call is the step of each key that has the object.
 use Rattle.segment_manager.specs.declared.modes.Mode.TheVariants.{Write}
-use Rattle.segment_manager.specs.State.{State}
 use Rattle.segment_manager.proofs.KeptContainers.{text-kept}
 use Rattle.segment_manager.proofs.TextAnswers.{text-reserved, text-standing}
 use Rattle.segment_manager.proofs.storages.SegStringStored.reserve.Goals as goal
 
 pub reserve-requires : goal.reserve-requires
 reserve-requires c =
-    let s : State = record { cut = c.args.heap.now; mode = Write } in
-    text-standing s c.requires.1.0 c.args.place c.requires.0 (record { answers = c.requires.1.1 })
+    text-standing (record { cut = c.args.heap.now; mode = Write }) c.requires.1.0 _ c.requires.0 (record { answers = c.requires.1.1 })
 
 pub returns-clause-change : goal.returns-clause-change
-returns-clause-change c =
-    λ mode key writing there.
-    let s : State = record { cut = c.args.heap.now; mode = mode } in
-    text-reserved s key c.args.place c.requires.0 (record { answers = there }) c.reserve.new.heap writing c.args.n c.reserve.result c.reserve.ensures.reserved
+returns-clause-change c = λ mode key writing there.
+    text-reserved (record { cut = c.args.heap.now; mode = mode }) key _ c.requires.0 (record { answers = there })
+    c.reserve.new.heap writing c.args.n c.reserve.result c.reserve.ensures.reserved
 
 pub returns-clause-enough : goal.returns-clause-enough
-returns-clause-enough c =
-    λ key there.
-    let s : State = record { cut = c.args.heap.now; mode = Write } in
-    text-kept s key c.args.place c.reserve.new.heap c.args.n c.reserve.result (record { answers = there }) c.reserve.ensures.enough
+returns-clause-enough c = λ key there.
+    text-kept (record { cut = c.args.heap.now; mode = Write }) key _ c.reserve.new.heap c.args.n c.reserve.result
+    (record { answers = there }) c.reserve.ensures.enough

@@ -1,6 +1,5 @@
 -- The call is the step of each key that has the object.
 use Rattle.segment_manager.specs.declared.modes.Mode.TheVariants.{Write}
-use Rattle.segment_manager.specs.State.{State}
 use Rattle.segment_manager.proofs.KeptContainers.{texts-kept}
 use Rattle.segment_manager.proofs.TextListCalls.{texts-reserved}
 use Rattle.segment_manager.proofs.TextsHeld.{some-texts}
@@ -8,17 +7,14 @@ use Rattle.segment_manager.proofs.storages.SegTextsStored.reserve.Goals as goal
 
 pub reserve-requires : goal.reserve-requires
 reserve-requires c =
-    let s : State = record { cut = c.args.heap.now; mode = Write } in
-    some-texts s c.requires.1.0 c.args.place c.requires.0 (record { answers = c.requires.1.1 })
+    some-texts (record { cut = c.args.heap.now; mode = Write }) c.requires.1.0 _ c.requires.0 (record { answers = c.requires.1.1 })
 
 pub returns-clause-change : goal.returns-clause-change
-returns-clause-change c =
-    λ mode key writing there.
-    let s : State = record { cut = c.args.heap.now; mode = mode } in
-    texts-reserved s key c.args.place c.requires.0 (record { answers = there }) c.reserve.new.heap writing c.args.n c.reserve.result c.reserve.ensures.reserved
+returns-clause-change c = λ mode key writing there.
+    texts-reserved (record { cut = c.args.heap.now; mode = mode }) key _ c.requires.0 (record { answers = there })
+    c.reserve.new.heap writing c.args.n c.reserve.result c.reserve.ensures.reserved
 
 pub returns-clause-enough : goal.returns-clause-enough
-returns-clause-enough c =
-    λ key there.
-    let s : State = record { cut = c.args.heap.now; mode = Write } in
-    texts-kept s key c.args.place c.reserve.new.heap c.args.n c.reserve.result (record { answers = there }) c.reserve.ensures.enough
+returns-clause-enough c = λ key there.
+    texts-kept (record { cut = c.args.heap.now; mode = Write }) key _ c.reserve.new.heap c.args.n c.reserve.result
+    (record { answers = there }) c.reserve.ensures.enough

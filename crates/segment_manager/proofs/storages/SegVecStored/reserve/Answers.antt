@@ -1,41 +1,22 @@
 -- What is so of a vector of values is so of one of numbers.
-use Rattle.std.proofs.Common.{refl, Ok}
-use Rattle.seg_types.specs.declared.kinds.ScalarKind.{ScalarKind}
-use Rattle.seg_types.specs.declared.kinds.Kind.TheVariants.{Vector}
 use Rattle.segment_manager.specs.declared.modes.Mode.TheVariants.{Write}
-use Rattle.segment_manager.specs.Contents.{container_at}
-use Rattle.segment_manager.specs.State.{Answers, State}
 use Rattle.segment_manager.proofs.KeptContainers.{vector-kept}
-use Rattle.segment_manager.proofs.VectorAnswers.{found-at, some-vector, vector-reserved}
-use Rattle.segment_manager.proofs.Whole.{IsOfKind}
+use Rattle.segment_manager.proofs.ScalarTypes.{of-vector}
+use Rattle.segment_manager.proofs.VectorAnswers.{some-vector, there-at, vector-reserved}
 use Rattle.segment_manager.proofs.storages.SegVecStored.reserve.Goals as goal
 
 pub reserve-requires : goal.reserve-requires
 reserve-requires g c =
-    let k : ScalarKind = g.T.Scalar.kind in
-    let law : IsOfKind k g.T.Scalar.whole g.T.Plain.SIZE g.T.Plain.is_value g.T.Plain.spelling =
-    record { long = g.met.T.Scalar.size; values = g.met.T.Scalar.values; spelled = g.met.T.Scalar.spelled; reached = g.met.T.Scalar.reached } in
-    let s : State = record { cut = c.args.heap.now; mode = Write } in
-    let key = c.requires.1.0 in
-    let found : Answers s (λ d. container_at d key (Vector k)) (Ok c.at.result.place) = found-at s key k k c.args.place c.at.result.place refl c.at.ensures (record { answers = c.requires.1.1 }) in
-    some-vector k g.T.Scalar.whole g.T.Plain.SIZE g.T.Plain.is_value g.T.Plain.spelling law s key c.at.result.place c.requires.0 found
+    some-vector _ _ _ _ _ (of-vector g.met.T.Scalar) _ _ _ c.requires.0
+    (there-at c.args.heap.now Write c.requires.1.0 _ _ _ c.at.ensures c.requires.1.1)
 
 pub returns-clause-change : goal.returns-clause-change
-returns-clause-change g c =
-    λ mode key writing there.
-    let k : ScalarKind = g.T.Scalar.kind in
-    let law : IsOfKind k g.T.Scalar.whole g.T.Plain.SIZE g.T.Plain.is_value g.T.Plain.spelling =
-    record { long = g.met.T.Scalar.size; values = g.met.T.Scalar.values; spelled = g.met.T.Scalar.spelled; reached = g.met.T.Scalar.reached } in
-    let s : State = record { cut = c.args.heap.now; mode = mode } in
-    let found : Answers s (λ d. container_at d key (Vector k)) (Ok c.at.result.place) = found-at s key k k c.args.place c.at.result.place refl c.at.ensures (record { answers = there }) in
-    vector-reserved k g.T.Scalar.whole g.T.Plain.SIZE g.T.Plain.is_value g.T.Plain.spelling law s key c.at.result.place c.requires.0 found c.reserve.new.heap writing c.args.n c.reserve.result c.reserve.ensures.reserved
+returns-clause-change g c = λ mode key writing there.
+    vector-reserved _ _ _ _ _ (of-vector g.met.T.Scalar) _ _ _ c.requires.0
+    (there-at c.args.heap.now mode key _ _ _ c.at.ensures there) c.reserve.new.heap writing c.args.n c.reserve.result
+    c.reserve.ensures.reserved
 
 pub returns-clause-enough : goal.returns-clause-enough
-returns-clause-enough g c =
-    λ key there.
-    let k : ScalarKind = g.T.Scalar.kind in
-    let law : IsOfKind k g.T.Scalar.whole g.T.Plain.SIZE g.T.Plain.is_value g.T.Plain.spelling =
-    record { long = g.met.T.Scalar.size; values = g.met.T.Scalar.values; spelled = g.met.T.Scalar.spelled; reached = g.met.T.Scalar.reached } in
-    let s : State = record { cut = c.args.heap.now; mode = Write } in
-    let found : Answers s (λ d. container_at d key (Vector k)) (Ok c.at.result.place) = found-at s key k k c.args.place c.at.result.place refl c.at.ensures (record { answers = there }) in
-    vector-kept s key c.at.result.place c.reserve.new.heap c.args.n c.reserve.result k g.T.Scalar.whole g.T.Plain.SIZE g.T.Plain.is_value g.T.Plain.spelling law found c.reserve.ensures.enough
+returns-clause-enough g c = λ key there.
+    vector-kept _ key _ c.reserve.new.heap c.args.n c.reserve.result _ _ _ _ _ (of-vector g.met.T.Scalar)
+    (there-at c.args.heap.now Write key _ _ _ c.at.ensures there) c.reserve.ensures.enough

@@ -26,8 +26,8 @@ write_name-requires-clause-room c =
     changed-room current c.args.heap.now c.set_word.new.self (c.args.handle + 0) 8 c.args.handle n c.set_word.ensures.change c.requires.room in
     changed-room current c.set_word.new.self c.set_word-2.new.self (c.args.handle + 8) 8 c.args.handle n c.set_word-2.ensures.change room
 
-pub returns-clause-change : goal.returns-clause-change
-returns-clause-change c =
+pub returns : goal.returns
+returns c =
     let kinds : word_at (bytes_of c.set_word.new.self.bytes) (c.args.handle + 0) ≡ two_halves (code_of c.args.kind) c.args.count =
     c.set_word.ensures.word ∙ (λ i. two_halves ((c.from.ensures ∙ c.code.ensures) i) (c.from-2.ensures i)) in
     let names : word_at (bytes_of c.set_word-2.new.self.bytes) (c.args.handle + 8) ≡ two_halves (length c.args.name.now) (class_code c.args.class) =
@@ -35,15 +35,4 @@ returns-clause-change c =
     let w : HasHead c.args.heap.now c.write_name.new.heap c.args.handle c.args.kind c.args.count c.args.class c.args.name.now =
     head-written c.args.heap.now c.set_word.new.self c.set_word-2.new.self c.write_name.new.heap c.args.handle c.args.kind c.args.count c.args.class c.args.name.now
     c.set_word.ensures.change kinds c.set_word-2.ensures.change names (record { change = c.write_name.ensures.change; content = c.write_name.ensures.name }) in
-    w.change
-
-pub returns-clause-head : goal.returns-clause-head
-returns-clause-head c =
-    let kinds : word_at (bytes_of c.set_word.new.self.bytes) (c.args.handle + 0) ≡ two_halves (code_of c.args.kind) c.args.count =
-    c.set_word.ensures.word ∙ (λ i. two_halves ((c.from.ensures ∙ c.code.ensures) i) (c.from-2.ensures i)) in
-    let names : word_at (bytes_of c.set_word-2.new.self.bytes) (c.args.handle + 8) ≡ two_halves (length c.args.name.now) (class_code c.args.class) =
-    c.set_word-2.ensures.word ∙ ap (two_halves (length c.args.name.now)) (c.from-3.ensures ∙ c.code_of_class.ensures) in
-    let w : HasHead c.args.heap.now c.write_name.new.heap c.args.handle c.args.kind c.args.count c.args.class c.args.name.now =
-    head-written c.args.heap.now c.set_word.new.self c.set_word-2.new.self c.write_name.new.heap c.args.handle c.args.kind c.args.count c.args.class c.args.name.now
-    c.set_word.ensures.change kinds c.set_word-2.ensures.change names (record { change = c.write_name.ensures.change; content = c.write_name.ensures.name }) in
-    w.head
+    record { change = w.change; head = w.head }

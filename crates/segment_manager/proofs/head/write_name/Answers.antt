@@ -22,20 +22,11 @@ write-requires-2 c =
     changed-room current c.args.heap.now c.write.new.self (c.args.handle + 16) n c.args.handle (16 + padded n) c.write.ensures.change c.requires.room in
     subst (λ k. IsTrue (has_room (live_of c.write.new.self.bytes) c.args.handle k)) sum room
 
-pub returns-clause-change : goal.returns-clause-change
-returns-clause-change c =
+pub returns : goal.returns
+returns c =
     let n : ℕ = length c.args.name.now in
     let e : c.padded.result - n ≡ padded n - n = ap (λ (k : ℕ). k - n) c.padded.ensures in
     let w : HasName c.args.heap.now c.write-2.new.self c.args.handle c.args.name.now =
     name-written c.args.heap.now c.write.new.self c.write-2.new.self c.args.handle c.args.name.now (take {A = ℕ} (c.padded.result - n) (replicate 8 0)) (zeros-taken (c.padded.result - n) n e)
     c.write.ensures.change c.write.ensures.content c.write-2.ensures.change c.write-2.ensures.content in
-    w.change
-
-pub returns-clause-name : goal.returns-clause-name
-returns-clause-name c =
-    let n : ℕ = length c.args.name.now in
-    let e : c.padded.result - n ≡ padded n - n = ap (λ (k : ℕ). k - n) c.padded.ensures in
-    let w : HasName c.args.heap.now c.write-2.new.self c.args.handle c.args.name.now =
-    name-written c.args.heap.now c.write.new.self c.write-2.new.self c.args.handle c.args.name.now (take {A = ℕ} (c.padded.result - n) (replicate 8 0)) (zeros-taken (c.padded.result - n) n e)
-    c.write.ensures.change c.write.ensures.content c.write-2.ensures.change c.write-2.ensures.content in
-    w.content
+    record { change = w.change; name = w.content }

@@ -1,40 +1,28 @@
 -- The call on the heap, as one on the segment.
 use Rattle.std.proofs.Common.{refl, sym, ◌∙◌}
 use Rattle.seg_types.specs.Keys.{index_key_seen}
-use Rattle.seg_types.specs.Commands.{Command, FindOrConstruct}
-use Rattle.segment_manager.specs.Found.{pair_answer}
+use Rattle.seg_types.specs.Commands.{FindOrConstruct}
 use Rattle.segment_manager.specs.Keeping.{HasKey}
-use Rattle.segment_manager.specs.State.{State}
 use Rattle.segment_manager.proofs.FilledCalls.{made-refused, made-segment, made-step}
-use Rattle.segment_manager.proofs.Steps.{refuses-read_only}
 use Rattle.segment_manager.proofs.KeptContainers.{keeps-cut}
+use Rattle.segment_manager.proofs.Steps.{refuses-read_only}
 use Rattle.segment_manager.proofs.segment.Segment.find_or_construct_filled.Goals as goal
 
 pub returns-then-is_read_only-clause-step : goal.returns-then-is_read_only-clause-step
 returns-then-is_read_only-clause-step g c =
-    refuses-read_only c.args.self.now (FindOrConstruct (index_key_seen c.args.key.now) (g.F.Filling.content c.args.filling.now)) (sym c.is_read_only.ensures ∙ c.if-is_read_only.true) refl
+    refuses-read_only _ (FindOrConstruct (index_key_seen c.args.key.now) (g.F.Filling.content c.args.filling.now)) (sym c.is_read_only.ensures ∙ c.if-is_read_only.true) refl
 
 pub invariant_of-self : goal.invariant_of-self
 invariant_of-self g c =
-    let s : State = record { cut = c.self.inside.heap; mode = c.self.inside.mode } in
-    let command : Command = FindOrConstruct (index_key_seen c.args.key.now) (g.F.Filling.content c.args.filling.now) in
-    made-segment s c.args.self.now c.self.view_is c.find_or_construct_in.new.heap command pair_answer c.find_or_construct_in.result c.find_or_construct_in.ensures.constructs
-    (sym c.is_read_only.ensures ∙ c.if-is_read_only.false) c.self.invariant
+    made-segment _ _ c.self.view_is _ _ _ _ c.find_or_construct_in.ensures.constructs (sym c.is_read_only.ensures ∙ c.if-is_read_only.false) c.self.invariant
 
 pub returns-clause-step : goal.returns-clause-step
 returns-clause-step g c =
-    let s : State = record { cut = c.self.inside.heap; mode = c.self.inside.mode } in
-    let command : Command = FindOrConstruct (index_key_seen c.args.key.now) (g.F.Filling.content c.args.filling.now) in
-    made-step s c.args.self.now c.self.view_is c.find_or_construct_in.new.heap command pair_answer c.find_or_construct_in.result c.find_or_construct_in.ensures.constructs
-    (sym c.is_read_only.ensures ∙ c.if-is_read_only.false)
+    made-step _ _ c.self.view_is _ _ _ _ c.find_or_construct_in.ensures.constructs (sym c.is_read_only.ensures ∙ c.if-is_read_only.false)
 
 pub returns-clause-refused : goal.returns-clause-refused
-returns-clause-refused g c =
-    let s : State = record { cut = c.self.inside.heap; mode = c.self.inside.mode } in
-    let command : Command = FindOrConstruct (index_key_seen c.args.key.now) (g.F.Filling.content c.args.filling.now) in
-    made-refused s c.args.self.now c.self.view_is c.find_or_construct_in.new.heap command pair_answer c.find_or_construct_in.result c.find_or_construct_in.ensures.constructs
+returns-clause-refused g c = made-refused _ _ c.self.view_is _ _ _ _ c.find_or_construct_in.ensures.constructs
 
 pub returns-clause-found : goal.returns-clause-found
 returns-clause-found g c =
-    let s : State = record { cut = c.self.inside.heap; mode = c.self.inside.mode } in
-    keeps-cut s c.args.self.now c.self.view_is c.find_or_construct_in.new.heap (HasKey (index_key_seen c.args.key.now)) c.find_or_construct_in.ensures.found
+    keeps-cut _ _ c.self.view_is c.find_or_construct_in.new.heap (HasKey (index_key_seen c.args.key.now)) c.find_or_construct_in.ensures.found

@@ -1,11 +1,9 @@
 -- The object of the key is read.
-use Rattle.std.proofs.Common.{sym, subst, Some}
+use Rattle.std.proofs.Common.{subst}
 use Rattle.raw_region.specs.Format.{current}
-use Rattle.segment_manager.specs.Found.{handle_at}
 use Rattle.segment_manager.specs.Instances.{SaysOf}
-use Rattle.segment_manager.specs.State.{Answers, State}
 use Rattle.segment_manager.proofs.Calling.{denotes-heap}
-use Rattle.segment_manager.proofs.Here.{has-object}
+use Rattle.segment_manager.proofs.Here.{seen-handle, seen-object}
 use Rattle.segment_manager.proofs.Tellings.{key-missing, key-says}
 use Rattle.segment_manager.proofs.segment.Segment.instance.Goals as goal
 
@@ -16,13 +14,10 @@ pub read_instance-requires-clause-heap : goal.read_instance-requires-clause-heap
 read_instance-requires-clause-heap g c = denotes-heap current c.self.inside.heap.bytes c.self.invariant.0 c.self.invariant.1.denotes
 
 pub read_instance-requires-clause-object : goal.read_instance-requires-clause-object
-read_instance-requires-clause-object g c =
-    let s : State = record { cut = c.self.inside.heap; mode = c.self.inside.mode } in
-    has-object s (g.O.Target.key c.args.key.now) c.in-Some.handle c.self.invariant (subst (λ t. Answers t (λ d. handle_at d (g.O.Target.key c.args.key.now)) (Some c.in-Some.handle)) (sym c.self.view_is) c.in-Some.ensures)
+read_instance-requires-clause-object g c = seen-object _ _ c.self.view_is (g.O.Target.key c.args.key.now) _ c.self.invariant c.in-Some.ensures
 
 pub returns-in-Some : goal.returns-in-Some
 returns-in-Some g c =
-    let s : State = record { cut = c.self.inside.heap; mode = c.self.inside.mode } in
     subst (λ t. SaysOf t (g.O.Target.key c.args.key.now) c.read_instance.result) c.self.view_is
-    (key-says s (g.O.Target.key c.args.key.now) c.in-Some.handle c.read_instance.result
-    (subst (λ t. Answers t (λ d. handle_at d (g.O.Target.key c.args.key.now)) (Some c.in-Some.handle)) (sym c.self.view_is) c.in-Some.ensures) c.read_instance.ensures)
+    (key-says _ (g.O.Target.key c.args.key.now) c.in-Some.handle c.read_instance.result
+    (seen-handle _ _ c.self.view_is (g.O.Target.key c.args.key.now) _ c.in-Some.ensures) c.read_instance.ensures)

@@ -99,6 +99,11 @@ mod Stored
 mod AnyKind
 mod PlacedTexts
 mod InUse
+mod Changeable
+mod ElementCommands
+mod PairCommands
+mod ArrayItems
+pub mod CommandLaws
 mod EntryPlaces
 mod KeyOrder
 mod HeldIndexes

@@ -1,12 +1,7 @@
 pub mod AbsentPairs
-pub mod ArrayCalls
-pub mod ElementCalls
-pub mod PairCalls
+pub mod NoTexts
 pub mod RangeLists
 pub mod RangeObjects
 pub mod RangeReads
 pub mod RangeRows
 pub mod RangeWrites
-pub mod Reading
-pub mod SetElements
-pub mod SetKinds

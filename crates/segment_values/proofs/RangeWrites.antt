@@ -27,7 +27,7 @@ use Rattle.segment_values.specs.Ranges.{HasRange, WritesRange, numbers_if, range
 use Rattle.segment_values.proofs.RangeLists.{many-mapped, replaced-length, replaced-more, taken-length, taken-more, value-at}
 use Rattle.segment_values.proofs.RangeObjects.{found-replaced, itself-replaced, replaced-twice}
 use Rattle.segment_values.proofs.RangeRows.{IsRow, its-numbers, of-same}
-use Rattle.segment_values.proofs.Reading.{performed}
+use Rattle.segment_manager.proofs.CommandLaws.{open-writing, step-effect}
 
 -- ---- one directory, in which the object of a handle has some elements
 
@@ -75,7 +75,7 @@ module _ (d : Directory) (h : ℕ) (o : Object) (is : object_at d (ByHandle h) �
         let c : Command = asked.Set (ByHandle h) i (literal_of k z) in
         ap (λ (n : Answer × Directory). n.1)
         (step_of_kind-step mode e (ByHandle h) kind c p (found-changed (with_items o.value ws)) (of-same kind (kind_of (with_items o.value ws)) (sym (row.same ws ∙ of_kind)))
-        ∙ performed mode e c writing ∙ ap (perform e (live e)) (set-plan ws i z _ good (slice_get-get_or ws i (pos 0) within)))
+        ∙ step-effect mode e c (open-writing mode c writing) ∙ ap (perform e (live e)) (set-plan ws i z _ good (slice_get-get_or ws i (pos 0) within)))
         ∙ changed-twice (with_items o.value ws) (with_items o.value (slice_set ws i z))
 
     -- one element more

@@ -1,16 +1,18 @@
 -- All values are taken, or none.
-use Rattle.seg_types.specs.Keys.{new_key_seen}
-use Rattle.segment_values.proofs.ArrayCalls.{array-step, array-refused, is-count}
-use Rattle.segment_values.proofs.RangeLists.{many-mapped}
-use Rattle.std.proofs.Common.{length}
+use Rattle.std.proofs.Common.{◌≡◌, refl, ℕ, ◌≤◌, true, length}
+use Rattle.std.specs.Prelude.{nat_le}
+use Rattle.std.proofs.lemmas.Bool.{and_from, le-leb}
+use Rattle.segment_manager.specs.Counted.{is_count}
+use Rattle.segment_manager.proofs.CommandLaws.{array-refused, array-step}
 use Rattle.segment_values.proofs.arrays.construct_array.Goals as goal
+
+is-count : (n : ℕ) → 1 ≤ n → n ≤ 1048576 → is_count n ≡ true
+is-count n some few = and_from (nat_le 1 n) (nat_le n 1048576) (le-leb 1 n some) (le-leb n 1048576 few)
 
 pub returns-clause-step : goal.returns-clause-step
 returns-clause-step g c =
-    array-step _ g.T.Scalar.whole c.args.segment.now c.construct_it.new.self (new_key_seen c.args.key.now) g.T.Scalar.kind _ c.construct_it.new.items c.construct_it.result c.requires.some (many-mapped g.T.Scalar.whole c.args.row.now)
-    (c.construct_it.ensures.items (is-count (length c.args.row.now) c.requires.some c.requires.few))
+    array-step _ (c.construct_it.ensures.items (is-count (length c.args.row.now) c.requires.some c.requires.few)) refl refl c.requires.some
 
 pub returns-clause-refused : goal.returns-clause-refused
 returns-clause-refused g c =
-    array-refused _ g.T.Scalar.whole c.args.segment.now c.construct_it.new.self (new_key_seen c.args.key.now) g.T.Scalar.kind _ c.construct_it.new.items c.construct_it.result
-    (c.construct_it.ensures.items (is-count (length c.args.row.now) c.requires.some c.requires.few))
+    array-refused _ (c.construct_it.ensures.items (is-count (length c.args.row.now) c.requires.some c.requires.few)) refl

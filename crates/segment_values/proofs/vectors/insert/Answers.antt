@@ -1,21 +1,8 @@
-use Rattle.seg_types.specs.declared.kinds.Kind.TheVariants.{Vector}
-use Rattle.seg_types.specs.Commands.{Insert, literal_of}
-use Rattle.seg_types.specs.Keys.{key_seen}
-use Rattle.seg_types.specs.Values.{kind_of_scalar, value_of_scalar}
-use Rattle.segment_values.specs.Literals.{literal_seen}
-use Rattle.segment_manager.specs.State.{done_answer}
-use Rattle.segment_manager.proofs.Laws.{step_of_kind-by_key}
-use Rattle.segment_values.proofs.ElementCalls.{insert-element}
+use Rattle.segment_manager.proofs.CommandLaws.{insert-element}
 use Rattle.segment_values.proofs.vectors.insert.Goals as goal
 
 pub returns-in-Err-clause-step : goal.returns-in-Err-clause-step
 returns-in-Err-clause-step c = c.in-Err.ensures.insert c.args.index
 
 pub returns-in-Ok-clause-step : goal.returns-in-Ok-clause-step
-returns-in-Ok-clause-step c =
-    let s = c.args.segment.now in
-    let key = key_seen c.args.key.now in
-    let l = literal_seen c.args.value in
-    let v = c.in-Ok.element in
-    insert-element s c.insert_value.new.segment key l v c.in-Ok.ensures.1 (done_answer c.insert_value.result) c.args.index
-    (step_of_kind-by_key s key c.in-Ok.object c.in-Ok.ensures.0 c.insert_value.new.segment (Vector (kind_of_scalar v)) (Insert key c.args.index (literal_of (kind_of_scalar v) (value_of_scalar v))) (done_answer c.insert_value.result) c.insert_value.ensures.step)
+returns-in-Ok-clause-step c = insert-element c.in-Ok.ensures.0 c.in-Ok.ensures.1 c.args.index c.insert_value.ensures.step

@@ -1,9 +1,9 @@
--- An array that is made of items: as many are there as are taken.
-use Rattle.std.proofs.Common.{◌≡◌, refl, sym, ap, subst, ◌∙◌, ℕ, ◌+◌, ◌*◌, ◌≤◌, ℤ, Bool, true, false, if◌then◌else◌, Option, Some, None, Result, Ok, Err, List, [], ◌∷◌, ◌++◌, length, replicate, arith}
-use Rattle.std.specs.Prelude.{map, nat_le, nat_lt, pos, take}
+-- An array that is made of items: the call takes all of them, or none.
+use Rattle.std.proofs.Common.{◌≡◌, refl, sym, ap, subst, ◌∙◌, ℕ, ◌+◌, ◌*◌, ◌≤◌, ℤ, Bool, true, false, if◌then◌else◌, Option, Some, None, Result, Ok, Err, List, [], ◌∷◌, ◌++◌, length, map, replicate, arith}
+use Rattle.std.specs.Prelude.{IfErr, MatchResult, nat_lt, pos, take}
 use Rattle.std.specs.Iterator.{Yields, YieldsFirst, YieldsThen}
-use Rattle.std.proofs.lemmas.Bool.{and_from, le-leb, le-ltb, lt-ltb}
-use Rattle.std.proofs.lemmas.List.{append-nil, length-append, length-replicate, take_all}
+use Rattle.std.proofs.lemmas.Bool.{le-ltb, lt-ltb}
+use Rattle.std.proofs.lemmas.List.{append-nil, length-append, length-map, length-replicate, take_all}
 use Rattle.block_tags.specs.declared.tile.Role.TheVariants.{Object as ObjectRole}
 use Rattle.best_fit.specs.Extents.{Extent, LiveSet, handle}
 use Rattle.best_fit.specs.Fit.{resized}
@@ -19,18 +19,12 @@ use Rattle.seg_types.specs.Commands as asked
 use Rattle.segment_manager.specs.declared.modes.Mode.{Mode}
 use Rattle.segment_manager.specs.declared.modes.Mode.TheVariants.{Write, ReadOnly, CopyOnWrite}
 use Rattle.segment_manager.specs.Answers.{Answer, Made, Refused, is_untouched}
-use Rattle.segment_manager.specs.Counted.{is_count}
 use Rattle.segment_manager.specs.Directory.{Numbers, Object, Directory, live, named_objects, object_at, object_len, padded, unique_objects, with_object}
 use Rattle.segment_manager.specs.Items.{KeepsUnasked, TakesItems, TakesUntil}
 use Rattle.segment_manager.specs.Layout.{head_len}
 use Rattle.segment_manager.specs.Plan.{Need, New, Plan, Refuse, Reply, Request, class_of, met, name_of, perform, with_entry, with_new_object}
 use Rattle.segment_manager.specs.State.{IsStep, KeepsRefused, State, StandsFor, handle_answer}
 use Rattle.segment_manager.specs.Step.{step}
-
--- ---- how many they may be
-
-pub is-count : (n : ℕ) → 1 ≤ n → n ≤ 1048576 → is_count n ≡ true
-is-count n some few = and_from (nat_le 1 n) (nat_le n 1048576) (le-leb 1 n some) (le-leb n 1048576 few)
 
 -- ---- the items
 
@@ -40,7 +34,7 @@ no_more (x ∷ xs) e = absurd (omega arith)
 
 module _ {S A : Type 0} (items : S → List A) where
   -- what was taken is the front of what there was
-  taken-front : (w t : S) (xs : List A) → Yields (YieldsFirst items) w xs t → items w ≡ xs ++ items t
+  pub taken-front : (w t : S) (xs : List A) → Yields (YieldsFirst items) w xs t → items w ≡ xs ++ items t
   taken-front w t [] h = ap items h
   taken-front w t (x ∷ xs) h = h.1 ∙ ap (λ l. x ∷ l) (taken-front h.0 t xs h.2)
 
@@ -148,15 +142,10 @@ module _ (r : Refusal) (other : r ≡ OutOfRange → ⊥) where
 
 -- ---- the call takes all items, or none
 
-module _ {S A : Type 0} (items : S → List A) (whole : A → ℤ) (old new : State) (key : Key) (k : ScalarKind) (w t : S) where
-  abbrev count : ℕ
-  count = length (items w)
-
-  abbrev Takes : Result ℕ Refusal → Type 0
-  Takes result = TakesItems (YieldsFirst items) whole old new key k count w t result
-
+module _ {S A : Type 0} (items : S → List A) {whole : A → ℤ} {old new : State} {key : Key} {k : ScalarKind} {n : ℕ} {w t : S} {result : Result ℕ Refusal}
+    (takes : TakesItems (YieldsFirst items) whole old new key k n w t result) (long : length (items w) ≡ n) where
   -- it is refused before an item is taken
-  early : (xs : List A) (r : Refusal) → (r ≡ OutOfRange → ⊥) → TakesUntil (YieldsFirst items) count w xs t r → xs ≡ []
+  early : (xs : List A) (r : Refusal) → (r ≡ OutOfRange → ⊥) → TakesUntil (YieldsFirst items) n w xs t r → xs ≡ []
   early xs refusal.ReadOnly other h = h.0
   early xs Exists other h = h.0
   early xs refusal.NotFound other h = h.0
@@ -173,21 +162,32 @@ module _ {S A : Type 0} (items : S → List A) (whole : A → ℤ) (old new : St
   kept NoSpace other h e = absurd (cc)
 
   -- there are as many as are wanted
-  enough : (r : Refusal) → Takes (Err r) → r ≡ OutOfRange → ⊥
-  enough r h e =
-      let until : TakesUntil (YieldsFirst items) count w h.items t OutOfRange = subst (TakesUntil (YieldsFirst items) count w h.items t) e h.taken in
-      let all = taken-until items w t h.items until.0 in
+  enough : (xs : List A) (r : Refusal) → TakesUntil (YieldsFirst items) n w xs t r → r ≡ OutOfRange → ⊥
+  enough xs r h e =
+      let until : TakesUntil (YieldsFirst items) n w xs t OutOfRange = subst (TakesUntil (YieldsFirst items) n w xs t) e h in
+      let all = taken-until items w t xs until.0 in
       let fewer = until.1 in
       omega arith
 
-  pub array-step : (result : Result ℕ Refusal) → 1 ≤ count → length (map whole (items w)) ≡ count → Takes result → IsStep old new (asked.ConstructIt key k count (map whole (items w))) (handle_answer result)
-  array-step (Ok h) some long takes =
-      subst (λ (xs : List A). IsStep old new (asked.ConstructIt key k count (map whole xs)) (Made h)) (taken-all items w t takes.items takes.taken.0 takes.taken.1) takes.step
-  array-step (Err r) some long takes =
-      let other = enough r takes in
-      let none : map whole takes.items ≡ [] = ap (map whole) (early takes.items r other takes.taken) in
-      refused-array r other old new key k count (map whole (items w)) some long (subst (λ (zs : List ℤ). IsStep old new (asked.ConstructIt key k count zs) (Refused r)) none takes.step)
+  abbrev IsTaken : List A → Result ℕ Refusal → Type 0
+  IsTaken xs q = MatchResult q (λ h. Yields (YieldsFirst items) w xs t × (length xs ≡ n)) (TakesUntil (YieldsFirst items) n w xs t)
 
-  pub array-refused : (result : Result ℕ Refusal) → Takes result → KeepsRefused old new result
-  array-refused (Ok h) takes = tt
-  array-refused (Err r) takes = kept r (enough r takes) takes.unchanged
+  step-of : (numbers : List ℤ) → map whole (items w) ≡ numbers → 1 ≤ n → (xs : List A) (q : Result ℕ Refusal) → IsTaken xs q → IsStep old new (asked.ConstructIt key k n (map whole xs)) (handle_answer q)
+      → IsStep old new (asked.ConstructIt key k n numbers) (handle_answer q)
+  step-of numbers are some xs (Ok h) taken step =
+      subst (λ (zs : List ℤ). IsStep old new (asked.ConstructIt key k n zs) (Made h)) (ap (map whole) (taken-all items w t xs taken.0 (taken.1 ∙ sym long)) ∙ are) step
+  step-of numbers are some xs (Err r) taken step =
+      let other = enough xs r taken in
+      let none : map whole xs ≡ [] = ap (map whole) (early xs r other taken) in
+      refused-array r other old new key k n numbers some (ap length (sym are) ∙ length-map (items w) whole ∙ long)
+      (subst (λ (zs : List ℤ). IsStep old new (asked.ConstructIt key k n zs) (Refused r)) none step)
+
+  pub array-step : {numbers : List ℤ} → map whole (items w) ≡ numbers → 1 ≤ n → IsStep old new (asked.ConstructIt key k n numbers) (handle_answer result)
+  array-step {numbers} are some = step-of numbers are some takes.items result takes.taken takes.step
+
+  refused-of : (xs : List A) (q : Result ℕ Refusal) → IsTaken xs q → IfErr q (KeepsUnasked old new) → KeepsRefused old new q
+  refused-of xs (Ok h) taken same = tt
+  refused-of xs (Err r) taken same = kept r (enough xs r taken) same
+
+  pub array-refused : KeepsRefused old new result
+  array-refused = refused-of takes.items result takes.taken takes.unchanged

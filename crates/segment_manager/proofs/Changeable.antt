@@ -1,0 +1,116 @@
+-- Objects that a command changes, and literals that it changes them by: what a crate that calls by kinds learns of both.
+use Rattle.std.proofs.Common.{◌≡◌, refl, sym, ap, subst, ◌∙◌, ℕ, ℤ, true, false, None, Result, Ok, Err, List, ◌∷◌, []}
+use Rattle.std.specs.Prelude.{MatchResult}
+use Rattle.seg_types.specs.declared.kinds.Kind.{Kind}
+use Rattle.seg_types.specs.declared.kinds.Kind.TheVariants.{Vector}
+use Rattle.seg_types.specs.declared.kinds.ScalarKind.{ScalarKind}
+use Rattle.seg_types.specs.declared.refusals.Refusal.{Refusal}
+use Rattle.seg_types.specs.declared.refusals.Refusal.TheVariants as refusal
+use Rattle.seg_types.specs.declared.refusals.Refusal.TheVariants.{NotFound}
+use Rattle.seg_types.specs.declared.values.ScalarValue.{ScalarValue}
+use Rattle.seg_types.specs.Kinds.{is_value}
+use Rattle.seg_types.specs.Names.{Key, ByHandle}
+use Rattle.seg_types.specs.Commands.{Command, Insert, Literal, Push, is_changing, value_of_literal}
+use Rattle.seg_types.specs.Values.{kind_of_scalar, value_of_scalar}
+use Rattle.segment_manager.specs.declared.modes.Mode.{Mode}
+use Rattle.segment_manager.specs.declared.modes.Mode.TheVariants.{Write, ReadOnly, CopyOnWrite}
+use Rattle.segment_manager.specs.declared.targets.Object.{Object}
+use Rattle.segment_manager.specs.Answers.{Answer, Refused}
+use Rattle.segment_manager.specs.Calls.{kind_at}
+use Rattle.segment_manager.specs.Directory.{Directory, live, object_at}
+use Rattle.segment_manager.specs.Instances.{IsMissing}
+use Rattle.segment_manager.specs.Located.{IsLocated}
+use Rattle.segment_manager.specs.Plan.{Plan, Refuse, perform}
+use Rattle.segment_manager.specs.State.{Answers, IsReply, IsStep, State, StandsFor}
+use Rattle.segment_manager.specs.Step.{effect, is_read_only, step}
+use Rattle.segment_manager.proofs.AnyStorage.{nowhere-steps}
+use Rattle.segment_manager.proofs.Locating.{kind-by_key, located-here}
+use Rattle.segment_manager.proofs.Refilled.{refused-steps}
+use Rattle.segment_manager.proofs.Steps.{open-reading, refuses-read_only, step-effect}
+
+-- ---- what is known of the object
+
+-- the segment may be changed, and the object of the key is of the kind
+pub record IsChangeable (s : State) (key : Key) (kind : Kind) : Type 0 where
+  pub writing : is_read_only s.mode ≡ false
+  pub is : Answers s (λ d. kind_at d key) (Ok kind)
+
+-- the same of an object of the key, which was located
+pub record IsToChange (s : State) (key : Key) (o : Object) : Type 0 where
+  pub writing : is_read_only s.mode ≡ false
+  pub located : IsLocated s key o
+
+-- for this reason each command is refused that changes an object, and needs one of the key
+pub record IsUnchangeable (s : State) (key : Key) (why : Refusal) : Type 0 where
+  pub refuses : (c : Command) → is_changing c ≡ true → ((d : Directory) → object_at d key ≡ None → effect d c ≡ Refuse NotFound) → IsStep s s c (Refused why)
+
+-- ---- what is known of literals
+
+-- the value has the kind, and is the number that is wanted, or it is refused for the same reason
+abbrev pub IsValueOf : ScalarKind → Result ℤ Refusal → Result ScalarValue Refusal → Type 0
+IsValueOf k wanted (Ok v) = (kind_of_scalar v ≡ k) × (wanted ≡ Ok (value_of_scalar v)) × (is_value k (value_of_scalar v) ≡ true)
+IsValueOf k wanted (Err r) = wanted ≡ Err r
+
+-- a value has the kind, and is in its range
+abbrev pub IsOfScalarKind : ScalarKind → ScalarValue → Type 0
+IsOfScalarKind k v = (kind_of_scalar v ≡ k) × (is_value k (value_of_scalar v) ≡ true)
+
+-- key and value have the kinds, and are the numbers that are wanted, or they are refused for the same reason
+abbrev pub IsPairOf : ScalarKind → ScalarKind → Result (List ℤ) Refusal → Result (ScalarValue × ScalarValue) Refusal → Type 0
+IsPairOf k v wanted (Ok p) = IsOfScalarKind k p.0 × IsOfScalarKind v p.1 × (wanted ≡ Ok (value_of_scalar p.0 ∷ value_of_scalar p.1 ∷ []))
+IsPairOf k v wanted (Err r) = wanted ≡ Err r
+
+-- the literal is a value for the vector of the key
+pub record IsElement (s : State) (key : Key) (l : Literal) (v : ScalarValue) : Type 0 where
+  pub is : Answers s (λ d. kind_at d key) (Ok (Vector (kind_of_scalar v)))
+  pub value : value_of_literal (kind_of_scalar v) l ≡ Ok (value_of_scalar v)
+  pub range : is_value (kind_of_scalar v) (value_of_scalar v) ≡ true
+
+-- or for this reason it can be no new element
+pub record IsNoElement (s : State) (key : Key) (l : Literal) (why : Refusal) : Type 0 where
+  pub push : IsStep s s (Push key l) (Refused why)
+  pub insert : (i : ℕ) → IsStep s s (Insert key i l) (Refused why)
+
+-- ---- an object that was located
+
+-- it is of the kind that it says
+pub says-kind : {s : State} {key : Key} {o : Object} {kind : Kind} → IsLocated s key o → o.kind ≡ kind → Answers s (λ d. kind_at d key) (Ok kind)
+says-kind {s} {key} {o} l e = subst (λ k. Answers s (λ d. kind_at d key) (Ok k)) e (kind-by_key s key o l)
+
+module _ {s : State} {key : Key} {o : Object} (h : IsToChange s key o) {kind : Kind} (e : o.kind ≡ kind) where
+  pub to-change : IsChangeable s key kind
+  to-change = record { writing = h.writing; is = says-kind h.located e }
+
+  -- under its handle too
+  pub handle-to-change : IsChangeable s (ByHandle o.handle) kind
+  handle-to-change = record { writing = h.writing; is = says-kind (located-here s key o h.located) e }
+
+-- ---- whether there is one to change
+
+not-reading : (mode : Mode) → (mode ≡ ReadOnly → ⊥) → is_read_only mode ≡ false
+not-reading Write h = refl
+not-reading ReadOnly h = absurd (h refl)
+not-reading CopyOnWrite h = refl
+
+-- the segment is open for reading
+pub reading-unchangeable : (s : State) (key : Key) → s.mode ≡ ReadOnly → IsUnchangeable s key refusal.ReadOnly
+reading-unchangeable s key e = record { refuses = λ c changes none. refuses-read_only s c (ap is_read_only e) changes }
+
+-- or the object of the key decides
+pub changeable : (s : State) (key : Key) (r : Result Object Refusal) → (s.mode ≡ ReadOnly → ⊥) → MatchResult r (IsLocated s key) (IsMissing s key)
+    → MatchResult r (IsToChange s key) (IsUnchangeable s key)
+changeable s key (Ok o) writing l = record { writing = not-reading s.mode writing; located = l }
+changeable s key (Err why) writing m = record { refuses = λ c changes none. nowhere-steps s key why c (not-reading s.mode writing) m none }
+
+-- ---- commands by their plans
+
+-- a plan that comes to a refusal
+pub refuses : (s : State) (c : Command) (why : Refusal) → is_read_only s.mode ≡ false → ((d : Directory) → StandsFor s.cut.bytes d → effect d c ≡ Refuse why) → IsStep s s c (Refused why)
+refuses s c why writing each = refused-steps s c why writing (λ d st. ap (perform d (live d)) (each d st))
+
+-- a command that changes nothing is answered as its plan is, whatever the mode
+pub answered-reads : (mode : Mode) (d : Directory) (c : Command) → is_changing c ≡ false → (step mode d c).0 ≡ (perform d (live d) (effect d c)).0
+answered-reads mode d c e = ap (λ (r : Answer × Directory). r.0) (step-effect mode d c (open-reading mode c e))
+
+pub refuses-read : (s : State) (c : Command) (why : Refusal) → is_changing c ≡ false → ((d : Directory) → StandsFor s.cut.bytes d → effect d c ≡ Refuse why) → IsReply s c (Refused why)
+refuses-read s c why e each = record { answers = λ d st. sym (answered-reads s.mode d c e ∙ ap (λ (p : Plan). (perform d (live d) p).0) (each d st)) }

@@ -1,0 +1,262 @@
+-- Commands on elements by literals: which call is the step of the command, by the kind of the object.
+use Rattle.std.proofs.Common.{◌≡◌, refl, sym, ap, subst, ◌∙◌, ◌⊎◌, inl, inr, ℕ, ℤ, Bool, true, false, Option, Some, None, Result, Ok, Err, List, length}
+use Rattle.std.specs.Prelude.{nat_lt}
+use Rattle.best_fit.specs.Table.{Table}
+use Rattle.seg_types.specs.declared.kinds.Kind.{Kind}
+use Rattle.seg_types.specs.declared.kinds.Kind.TheVariants.{Map as MapKind, Scalar, Texts as TextsKind, Vector}
+use Rattle.seg_types.specs.declared.kinds.ScalarKind.{ScalarKind}
+use Rattle.seg_types.specs.declared.refusals.Refusal.{Refusal}
+use Rattle.seg_types.specs.declared.refusals.Refusal.TheVariants.{NotFound, WrongKind}
+use Rattle.seg_types.specs.declared.values.ScalarValue.{ScalarValue}
+use Rattle.seg_types.specs.Kinds.{is_value}
+use Rattle.seg_types.specs.Names.{Key, ByHandle}
+use Rattle.seg_types.specs.Commands as asked
+use Rattle.seg_types.specs.Commands.{Literal, Quoted, Truth, Whole, literal_of, value_of_literal}
+use Rattle.seg_types.specs.Values.{kind_of_scalar, value_of_scalar}
+use Rattle.seg_vector.specs.Vector.{OwnedText}
+use Rattle.segment_manager.specs.declared.targets.Object.{Object as Located}
+use Rattle.segment_manager.specs.Answers.{Answer, Refused}
+use Rattle.segment_manager.specs.Calls.{elements_at, elements_of, kind_at}
+use Rattle.segment_manager.specs.Directory.{Value, Numbers, Elements, Bytes, Pairs, Texts, Object, Directory, kind_of, object_at}
+use Rattle.segment_manager.specs.Located.{IsLocated}
+use Rattle.segment_manager.specs.Plan.{Refuse}
+use Rattle.segment_manager.specs.State.{Answers, IsStep, IsStepOfKind, State, StandsFor}
+use Rattle.segment_manager.specs.Step as step
+use Rattle.segment_manager.specs.Step.{effect, is_read_only}
+use Rattle.segment_manager.proofs.AnyKind.{any-literal}
+use Rattle.segment_manager.proofs.AnyStorage.{IsOfKindAt, kind-told, of_kind-steps}
+use Rattle.segment_manager.proofs.Changeable.{IsChangeable, IsElement, IsNoElement, IsToChange, IsUnchangeable, IsValueOf, refuses, says-kind}
+use Rattle.segment_manager.proofs.ContentPlans.{erase-other, insert-other, insert-past, insert-plan, insert-refused, is_no_vector, pop-other, push-other, push-plan, push-refused}
+use Rattle.segment_manager.proofs.Locating.{step_of_kind-by_key}
+use Rattle.segment_manager.proofs.Steps.{with-found, with-not_found}
+use Rattle.segment_manager.proofs.Stored.{literal-read}
+use Rattle.segment_manager.proofs.VectorLiterals.{same_plan-steps}
+
+-- ---- values by their kinds
+
+-- a vector of numbers of a kind
+pub record IsElements (k : ScalarKind) (v : Value) : Type 0 where
+  pub numbers : List ℤ
+  pub table : Table
+  pub is : v ≡ Elements k numbers table
+
+pub vector-if : (k : ScalarKind) (v : Value) → kind_of v ≡ Vector k → IsElements k v
+vector-if k (Numbers l zs) e = absurd (cc)
+vector-if k (Elements l zs t) e = let same : l ≡ k = cc in record { numbers = zs; table = t; is = λ i. Elements (same i) zs t }
+vector-if k (Bytes bs t) e = absurd (cc)
+vector-if k (Pairs l m ps) e = absurd (cc)
+vector-if k (Texts ps t) e = absurd (cc)
+
+-- or of texts
+pub record IsTexts (v : Value) : Type 0 where
+  pub texts : List OwnedText
+  pub table : Table
+  pub is : v ≡ Texts texts table
+
+pub texts-if : (v : Value) → kind_of v ≡ TextsKind → IsTexts v
+texts-if (Numbers l zs) e = absurd (cc)
+texts-if (Elements l zs t) e = absurd (cc)
+texts-if (Bytes bs t) e = absurd (cc)
+texts-if (Pairs l m ps) e = absurd (cc)
+texts-if (Texts ps t) e = record { texts = ps; table = t; is = refl }
+
+-- or of neither
+no_vector-if : (v : Value) → ((k : ScalarKind) → kind_of v ≡ Vector k → ⊥) → (kind_of v ≡ TextsKind → ⊥) → is_no_vector v ≡ true
+no_vector-if (Numbers k zs) n m = refl
+no_vector-if (Elements k zs t) n m = absurd (n k refl)
+no_vector-if (Bytes bs t) n m = refl
+no_vector-if (Pairs k v ps) n m = refl
+no_vector-if (Texts ps t) n m = absurd (m refl)
+
+-- ---- no object that may be changed has the key
+
+module _ {s : State} {key : Key} {why : Refusal} (h : IsUnchangeable s key why) where
+  pub unchangeable-element : (l : Literal) → IsNoElement s key l why
+  unchangeable-element l = record {
+    push = h.refuses (asked.Push key l) refl (λ d n. with-not_found d key (λ o. step.push d o o.value l) n);
+    insert = λ i. h.refuses (asked.Insert key i l) refl (λ d n. with-not_found d key (λ o. step.insert_at d o o.value i l) n);
+  }
+
+  pub pop-unchangeable : IsStep s s (asked.Pop key) (Refused why)
+  pop-unchangeable = h.refuses (asked.Pop key) refl (λ d n. with-not_found d key (λ o. step.pop d o o.value) n)
+
+  pub erase-unchangeable : (i : ℕ) → IsStep s s (asked.Erase key i) (Refused why)
+  erase-unchangeable i = h.refuses (asked.Erase key i) refl (λ d n. with-not_found d key (λ o. step.erase d o o.value i) n)
+
+  pub assign-unchangeable : (ls : List Literal) → IsStep s s (asked.Assign key ls) (Refused why)
+  assign-unchangeable ls = h.refuses (asked.Assign key ls) refl (λ d n. with-not_found d key (λ o. step.assign d o o.value ls) n)
+
+  pub set-unchangeable : (i : ℕ) (l : Literal) → IsStep s s (asked.Set key i l) (Refused why)
+  set-unchangeable i l = h.refuses (asked.Set key i l) refl (λ d n. with-not_found d key (λ o. step.set d o o.value i l) n)
+
+-- ---- the object of the key is no vector
+
+pub told : {s : State} {key : Key} {kind : Kind} → Answers s (λ d. kind_at d key) (Ok kind) → (d : Directory) → StandsFor s.cut.bytes d → IsOfKindAt d key kind
+told {s} {key} {kind} a d st = kind-told d key kind (a.answers d st)
+
+module _ {s : State} {key : Key} {o : Located} (h : IsToChange s key o) (other : (k : ScalarKind) → o.kind ≡ Vector k → ⊥) (no_texts : o.kind ≡ TextsKind → ⊥) where
+  there : (d : Directory) → StandsFor s.cut.bytes d → IsOfKindAt d key o.kind
+  there d st = told (says-kind h.located refl) d st
+
+  none : (d : Directory) (st : StandsFor s.cut.bytes d) → is_no_vector (there d st).object.value ≡ true
+  none d st = no_vector-if (there d st).object.value (λ k e. other k (sym (there d st).kind_is ∙ e)) (λ e. no_texts (sym (there d st).kind_is ∙ e))
+
+  pub no_vector-element : (l : Literal) → IsNoElement s key l WrongKind
+  no_vector-element l = record {
+    push = refuses s (asked.Push key l) WrongKind h.writing (λ d st. push-other d key (there d st).object (there d st).is (none d st) l);
+    insert = λ i. refuses s (asked.Insert key i l) WrongKind h.writing (λ d st. insert-other d key (there d st).object (there d st).is (none d st) i l);
+  }
+
+  pub pop-no_vector : IsStep s s (asked.Pop key) (Refused WrongKind)
+  pop-no_vector = refuses s (asked.Pop key) WrongKind h.writing (λ d st. pop-other d key (there d st).object (there d st).is (none d st))
+
+  pub erase-no_vector : (i : ℕ) → IsStep s s (asked.Erase key i) (Refused WrongKind)
+  erase-no_vector i = refuses s (asked.Erase key i) WrongKind h.writing (λ d st. erase-other d key (there d st).object (there d st).is (none d st) i)
+
+-- ---- it is a vector
+
+insert-same : (d : Directory) (key : Key) (o : Object) (k : ScalarKind) (zs : List ℤ) (t : Table) (i : ℕ) (l m : Literal) (z : ℤ) (b : Bool) → object_at d key ≡ Some o → o.value ≡ Elements k zs t
+    → nat_lt (length zs) i ≡ b → value_of_literal k l ≡ Ok z → value_of_literal k m ≡ Ok z → effect d (asked.Insert key i l) ≡ effect d (asked.Insert key i m)
+insert-same d key o k zs t i l m z true e f h p q = insert-past d key o k zs t e f i l z p h ∙ sym (insert-past d key o k zs t e f i m z q h)
+insert-same d key o k zs t i l m z false e f h p q = insert-plan d key o k zs t e f i l z p h ∙ sym (insert-plan d key o k zs t e f i m z q h)
+
+module _ (s : State) (key : Key) (k : ScalarKind) (a : Answers s (λ d. kind_at d key) (Ok (Vector k))) where
+  held : (d : Directory) (st : StandsFor s.cut.bytes d) → IsElements k (told a d st).object.value
+  held d st = vector-if k (told a d st).object.value (told a d st).kind_is
+
+  -- a literal that is read as a value of the kind is as good as the value's own
+  push-read : (new : State) (l : Literal) (z : ℤ) (answer : Answer) → value_of_literal k l ≡ Ok z → is_value k z ≡ true
+      → IsStepOfKind s new key (Vector k) (asked.Push key (literal_of k z)) answer → IsStep s new (asked.Push key l) answer
+  push-read new l z answer e v r =
+      same_plan-steps s new (asked.Push key l) (asked.Push key (literal_of k z)) answer refl
+      (λ d st.
+      let f = told a d st in
+      let h = held d st in
+      push-plan d key f.object k h.numbers h.table f.is h.is l z e ∙ sym (push-plan d key f.object k h.numbers h.table f.is h.is (literal_of k z) z (literal-read k z v)))
+      (of_kind-steps s new key (Vector k) (asked.Push key (literal_of k z)) answer a r)
+
+  insert-read : (new : State) (i : ℕ) (l : Literal) (z : ℤ) (answer : Answer) → value_of_literal k l ≡ Ok z → is_value k z ≡ true
+      → IsStepOfKind s new key (Vector k) (asked.Insert key i (literal_of k z)) answer → IsStep s new (asked.Insert key i l) answer
+  insert-read new i l z answer e v r =
+      same_plan-steps s new (asked.Insert key i l) (asked.Insert key i (literal_of k z)) answer refl
+      (λ d st.
+      let f = told a d st in
+      let h = held d st in
+      insert-same d key f.object k h.numbers h.table i l (literal_of k z) z (nat_lt (length h.numbers) i) f.is h.is refl e (literal-read k z v))
+      (of_kind-steps s new key (Vector k) (asked.Insert key i (literal_of k z)) answer a r)
+
+  -- one that is no value of the kind is refused
+  refused-element : (l : Literal) (why : Refusal) → is_read_only s.mode ≡ false → value_of_literal k l ≡ Err why → IsNoElement s key l why
+  refused-element l why writing e = record {
+    push = refuses s (asked.Push key l) why writing
+        (λ d st. push-refused d key (told a d st).object k (held d st).numbers (held d st).table (told a d st).is (held d st).is l why e);
+    insert = λ i. refuses s (asked.Insert key i l) why writing
+        (λ d st. insert-refused d key (told a d st).object k (held d st).numbers (held d st).table (told a d st).is (held d st).is i l why e);
+  }
+
+-- what the literal is for it
+module _ {s : State} {key : Key} {o : Located} (h : IsToChange s key o) {k : ScalarKind} (is : o.kind ≡ Vector k) where
+  pub element-read : {l : Literal} (v : ScalarValue) → IsValueOf k (value_of_literal k l) (Ok v) → IsElement s key l v
+  element-read {l} v (same, value, range) = record {
+    is = says-kind h.located (is ∙ ap Vector (sym same));
+    value = subst (λ j. value_of_literal j l ≡ Ok (value_of_scalar v)) (sym same) value;
+    range = subst (λ j. is_value j (value_of_scalar v) ≡ true) (sym same) range;
+  }
+
+  pub no_value-element : {l : Literal} {why : Refusal} → value_of_literal k l ≡ Err why → IsNoElement s key l why
+  no_value-element {l} {why} e = refused-element s key k (says-kind h.located is) l why h.writing e
+
+abbrev own : ScalarValue → Literal
+own v = literal_of (kind_of_scalar v) (value_of_scalar v)
+
+-- a new element, put there under the handle of the vector
+module _ {s : State} {key : Key} {o : Located} (located : IsLocated s key o) {l : Literal} {v : ScalarValue} (e : IsElement s key l v) {new : State} {answer : Answer} where
+  pub push-element : IsStepOfKind s new (ByHandle o.handle) (Vector (kind_of_scalar v)) (asked.Push (ByHandle o.handle) (own v)) answer → IsStep s new (asked.Push key l) answer
+  push-element r =
+      push-read s key (kind_of_scalar v) e.is new l (value_of_scalar v) answer e.value e.range
+      (step_of_kind-by_key s key o located new (Vector (kind_of_scalar v)) (asked.Push key (own v)) answer r)
+
+  pub insert-element : (i : ℕ) → IsStepOfKind s new (ByHandle o.handle) (Vector (kind_of_scalar v)) (asked.Insert (ByHandle o.handle) i (own v)) answer → IsStep s new (asked.Insert key i l) answer
+  insert-element i r =
+      insert-read s key (kind_of_scalar v) e.is new i l (value_of_scalar v) answer e.value e.range
+      (step_of_kind-by_key s key o located new (Vector (kind_of_scalar v)) (asked.Insert key i (own v)) answer r)
+
+-- ---- it is a vector of strings, and the literal no text
+
+abbrev pub NoText : Literal → Type 0
+NoText l = (bs : List ℕ) → l ≡ Quoted bs → ⊥
+
+not_pushed : (d : Directory) (o : Object) (ps : List OwnedText) (t : Table) (l : Literal) → NoText l → step.push d o (Texts ps t) l ≡ Refuse WrongKind
+not_pushed d o ps t (Whole z) n = refl
+not_pushed d o ps t (Truth b) n = refl
+not_pushed d o ps t (Quoted bs) n = absurd (n bs refl)
+
+not_inserted : (d : Directory) (o : Object) (ps : List OwnedText) (t : Table) (i : ℕ) (l : Literal) → NoText l → step.insert_at d o (Texts ps t) i l ≡ Refuse WrongKind
+not_inserted d o ps t i (Whole z) n = refl
+not_inserted d o ps t i (Truth b) n = refl
+not_inserted d o ps t i (Quoted bs) n = absurd (n bs refl)
+
+not_set : (d : Directory) (o : Object) (ps : List OwnedText) (t : Table) (i : ℕ) (l : Literal) → NoText l → step.set d o (Texts ps t) i l ≡ Refuse WrongKind
+not_set d o ps t i (Whole z) n = refl
+not_set d o ps t i (Truth b) n = refl
+not_set d o ps t i (Quoted bs) n = absurd (n bs refl)
+
+module _ {s : State} {key : Key} (h : IsChangeable s key TextsKind) {l : Literal} (n : NoText l) where
+  found : (d : Directory) → StandsFor s.cut.bytes d → IsOfKindAt d key TextsKind
+  found d st = told h.is d st
+
+  owned : (d : Directory) (st : StandsFor s.cut.bytes d) → IsTexts (found d st).object.value
+  owned d st = texts-if (found d st).object.value (found d st).kind_is
+
+  pub set-no_text : (i : ℕ) → IsStep s s (asked.Set key i l) (Refused WrongKind)
+  set-no_text i =
+      refuses s (asked.Set key i l) WrongKind h.writing
+      (λ d st.
+      let o : Object = (found d st).object in
+      with-found d key o (λ o. step.set d o o.value i l) (found d st).is ∙ ap (λ v. step.set d o v i l) (owned d st).is ∙ not_set d o (owned d st).texts (owned d st).table i l n)
+
+  pub no_text-element : IsNoElement s key l WrongKind
+  no_text-element = record {
+    push = refuses s (asked.Push key l) WrongKind h.writing
+        (λ d st.
+        let o : Object = (found d st).object in
+        with-found d key o (λ o. step.push d o o.value l) (found d st).is ∙ ap (λ v. step.push d o v l) (owned d st).is ∙ not_pushed d o (owned d st).texts (owned d st).table l n);
+    insert = λ i. refuses s (asked.Insert key i l) WrongKind h.writing
+        (λ d st.
+        let o : Object = (found d st).object in
+        with-found d key o (λ o. step.insert_at d o o.value i l) (found d st).is ∙ ap (λ v. step.insert_at d o v i l) (owned d st).is
+        ∙ not_inserted d o (owned d st).texts (owned d st).table i l n);
+  }
+
+-- ---- an element of scalars that is set
+
+abbrev elements_of_object : Option Object → Result ScalarKind Refusal
+elements_of_object r = elim r as (λ _. Result ScalarKind Refusal) [ None ↦ Err NotFound | Some o ↦ elements_of (kind_of o.value) ]
+
+pub elements-told : {s : State} {key : Key} {kind : Kind} {k : ScalarKind} → IsChangeable s key kind → elements_of kind ≡ Ok k → Answers s (λ d. elements_at d key) (Ok k)
+elements-told h e = record { answers = λ d st. let f = told h.is d st in sym (ap elements_of_object f.is ∙ ap elements_of f.kind_is ∙ e) }
+
+-- of scalars, or of a vector of them
+pub elements-either : {s : State} {key : Key} {kind : Kind} {k : ScalarKind} → IsChangeable s key kind → (kind ≡ Scalar k) ⊎ (kind ≡ Vector k) → Answers s (λ d. elements_at d key) (Ok k)
+elements-either h (inl e) = elements-told h (ap elements_of e)
+elements-either h (inr e) = elements-told h (ap elements_of e)
+
+-- a value of the kind that they have
+pub set-step : {old new : State} (key : Key) {k : ScalarKind} (i : ℕ) (l : Literal) (v : ScalarValue) {answer : Answer} → Answers old (λ d. elements_at d key) (Ok k) → IsValueOf k (value_of_literal k l) (Ok v)
+    → IsStep old new (asked.Set key i (literal_of (kind_of_scalar v) (value_of_scalar v))) answer → IsStep old new (asked.Set key i l) answer
+set-step {old} {new} key {k} i l v {answer} a (same, value, range) h =
+    any-literal old new key k i l (value_of_scalar v) answer a value range
+    (subst (λ j. IsStep old new (asked.Set key i (literal_of j (value_of_scalar v))) answer) same h)
+
+-- a map has none
+no_map_set : (d : Directory) (o : Object) (v : Value) (i : ℕ) (l : Literal) (k m : ScalarKind) → kind_of v ≡ MapKind k m → step.set d o v i l ≡ Refuse WrongKind
+no_map_set d o (Numbers j zs) i l k m e = absurd (cc)
+no_map_set d o (Elements j zs t) i l k m e = absurd (cc)
+no_map_set d o (Bytes bs t) i l k m e = absurd (cc)
+no_map_set d o (Pairs j n ps) i l k m e = refl
+no_map_set d o (Texts ps t) i l k m e = absurd (cc)
+
+pub set-map : {s : State} {key : Key} {k m : ScalarKind} (i : ℕ) (l : Literal) → IsChangeable s key (MapKind k m) → IsStep s s (asked.Set key i l) (Refused WrongKind)
+set-map {s} {key} {k} {m} i l h =
+    refuses s (asked.Set key i l) WrongKind h.writing
+    (λ d st. let f = told h.is d st in with-found d key f.object (λ o. step.set d o o.value i l) f.is ∙ no_map_set d f.object f.object.value i l k m f.kind_is)

@@ -1,0 +1,226 @@
+-- Commands on the pairs of a map by literals: which call is the step of the command, by the kind of the object.
+use Rattle.std.proofs.Common.{◌≡◌, refl, sym, ap, subst, ◌∙◌, ℤ, true, false, Some, Option, None, Result, Ok, Err, List, ◌∷◌, []}
+use Rattle.std.specs.Prelude.{int_lt}
+use Rattle.std.proofs.lemmas.Bool.{eq-eqb}
+use Rattle.seg_types.specs.declared.kinds.Kind.TheVariants.{Map}
+use Rattle.seg_types.specs.declared.kinds.ScalarKind.{ScalarKind}
+use Rattle.seg_types.specs.declared.refusals.Refusal.{Refusal}
+use Rattle.seg_types.specs.declared.refusals.Refusal.TheVariants.{WrongKind}
+use Rattle.seg_types.specs.declared.values.ScalarValue.{ScalarValue}
+use Rattle.seg_types.specs.Kinds.{code_of, is_value}
+use Rattle.seg_types.specs.Names.{Key, ByHandle}
+use Rattle.seg_types.specs.Commands as asked
+use Rattle.seg_types.specs.Commands.{Literal, literal_of, value_of_literal}
+use Rattle.seg_types.specs.Values.{kind_of_scalar, value_of_scalar}
+use Rattle.seg_map.specs.Map.{pair_at, remove_pair}
+use Rattle.seg_map.specs.Numbers.{NumberPair}
+use Rattle.segment_manager.specs.declared.targets.Object.{Object as Located}
+use Rattle.segment_manager.specs.Answers.{Answer, Absent, Element, Refused, Truth}
+use Rattle.segment_manager.specs.Calls.{kind_at}
+use Rattle.segment_manager.specs.Directory.{Value, Numbers, Elements, Bytes, Pairs, Texts, Object, Directory, kind_of, live, object_at}
+use Rattle.segment_manager.specs.Instances.{IsMissing}
+use Rattle.segment_manager.specs.Located.{IsLocated}
+use Rattle.segment_manager.specs.Plan.{Plan, Refuse, Reply, perform, with}
+use Rattle.segment_manager.specs.State.{Answers, IsReply, IsReplyOfKind, IsStep, IsStepOfKind, State, StandsFor}
+use Rattle.segment_manager.specs.Step as step
+use Rattle.segment_manager.specs.Step.{and_then, changed, effect, is_read_only, map_of, pair_of}
+use Rattle.segment_manager.proofs.AnyStorage.{IsOfKindAt, kind-told, of_kind-steps}
+use Rattle.segment_manager.proofs.Changeable.{IsPairOf, IsToChange, IsUnchangeable, IsValueOf, answered-reads, refuses, refuses-read, says-kind}
+use Rattle.segment_manager.proofs.Locating.{kind-by_key, reply_of_kind-by_key, step_of_kind-by_key}
+use Rattle.segment_manager.proofs.Steps.{step_of_kind-step, with-found, with-not_found}
+use Rattle.segment_manager.proofs.Stored.{literal-read}
+use Rattle.segment_manager.proofs.VectorLiterals.{same_plan-steps}
+
+-- ---- the plans
+
+abbrev puts : Directory → Object → Literal → Literal → ScalarKind × ScalarKind × List NumberPair → Plan
+puts d o l m (k, v, ps) = with (pair_of k v l m) (λ new. step.put d o k v ps new)
+
+abbrev found_with : Directory → ScalarKind → Option NumberPair → Plan
+found_with d v r = elim r as (λ _. Plan) [ None ↦ Reply Absent d | Some p ↦ Reply (Element v p.value) d ]
+
+abbrev looks_up : Directory → Literal → ScalarKind × ScalarKind × List NumberPair → Plan
+looks_up d l (k, v, ps) = with (value_of_literal k l) (λ x. elim (pair_at int_lt ps x) [ None ↦ Reply Absent d | Some p ↦ Reply (Element v p.value) d ])
+
+abbrev removes_at : Directory → Object → ScalarKind → ScalarKind → List NumberPair → ℤ → Plan
+removes_at d o k v ps x =
+    elim (pair_at int_lt ps x) as (λ _. Plan) [ None ↦ Reply (Truth false) d | Some p ↦ Reply (Truth true) (changed d o (Pairs k v (remove_pair int_lt ps x))) ]
+
+abbrev removes : Directory → Object → Literal → ScalarKind × ScalarKind × List NumberPair → Plan
+removes d o l (k, v, ps) = with (value_of_literal k l) (removes_at d o k v ps)
+
+module _ (d : Directory) (key : Key) (o : Object) (e : object_at d key ≡ Some o) (r : Result (ScalarKind × ScalarKind × List NumberPair) Refusal) (f : map_of o.value ≡ r) where
+  put-plan : (l m : Literal) → effect d (asked.Put key l m) ≡ with r (puts d o l m)
+  put-plan l m = with-found d key o (λ o. with (map_of o.value) (puts d o l m)) e ∙ ap (λ q. with q (puts d o l m)) f
+
+  lookup-plan : (l : Literal) → effect d (asked.Lookup key l) ≡ with r (looks_up d l)
+  lookup-plan l = with-found d key o (λ o. with (map_of o.value) (looks_up d l)) e ∙ ap (λ q. with q (looks_up d l)) f
+
+  remove-plan : (l : Literal) → effect d (asked.Remove key l) ≡ with r (removes d o l)
+  remove-plan l = with-found d key o (λ o. with (map_of o.value) (removes d o l)) e ∙ ap (λ q. with q (removes d o l)) f
+
+-- ---- the object of the key, of a kind
+
+record IsMap (k v : ScalarKind) (w : Value) : Type 0 where
+  pairs : List NumberPair
+  is : map_of w ≡ Ok (k, v, pairs)
+
+map-if : (k v : ScalarKind) (w : Value) → kind_of w ≡ Map k v → IsMap k v w
+map-if k v (Numbers l zs) e = absurd (cc)
+map-if k v (Elements l zs t) e = absurd (cc)
+map-if k v (Bytes bs t) e = absurd (cc)
+map-if k v (Pairs l m ps) e = let keys : l ≡ k = cc in let values : m ≡ v = cc in record { pairs = ps; is = λ i. Ok (keys i, values i, ps) }
+map-if k v (Texts ps t) e = absurd (cc)
+
+no_map-if : (w : Value) → ((k v : ScalarKind) → kind_of w ≡ Map k v → ⊥) → map_of w ≡ Err WrongKind
+no_map-if (Numbers k zs) n = refl
+no_map-if (Elements k zs t) n = refl
+no_map-if (Bytes bs t) n = refl
+no_map-if (Pairs k v ps) n = absurd (n k v refl)
+no_map-if (Texts ps t) n = refl
+
+-- ---- it is no map
+
+module _ {s : State} {key : Key} {o : Located} (l : IsLocated s key o) (other : (k v : ScalarKind) → o.kind ≡ Map k v → ⊥) where
+  told : (d : Directory) → StandsFor s.cut.bytes d → IsOfKindAt d key o.kind
+  told d st = kind-told d key o.kind ((kind-by_key s key o l).answers d st)
+
+  none : (d : Directory) (st : StandsFor s.cut.bytes d) → map_of (told d st).object.value ≡ Err WrongKind
+  none d st = no_map-if (told d st).object.value (λ k v e. other k v (sym (told d st).kind_is ∙ e))
+
+  pub lookup-no_map : (at : Literal) → IsReply s (asked.Lookup key at) (Refused WrongKind)
+  lookup-no_map at = refuses-read s (asked.Lookup key at) WrongKind refl (λ d st. lookup-plan d key (told d st).object (told d st).is (Err WrongKind) (none d st) at)
+
+module _ {s : State} {key : Key} {o : Located} (h : IsToChange s key o) (other : (k v : ScalarKind) → o.kind ≡ Map k v → ⊥) where
+  pub put-no_map : (at value : Literal) → IsStep s s (asked.Put key at value) (Refused WrongKind)
+  put-no_map at value =
+      refuses s (asked.Put key at value) WrongKind h.writing
+      (λ d st. let f = told h.located other d st in put-plan d key f.object f.is (Err WrongKind) (none h.located other d st) at value)
+
+  pub remove-no_map : (at : Literal) → IsStep s s (asked.Remove key at) (Refused WrongKind)
+  remove-no_map at =
+      refuses s (asked.Remove key at) WrongKind h.writing
+      (λ d st. let f = told h.located other d st in remove-plan d key f.object f.is (Err WrongKind) (none h.located other d st) at)
+
+-- ---- it is a map
+
+module _ (s : State) (key : Key) (k v : ScalarKind) (a : Answers s (λ d. kind_at d key) (Ok (Map k v))) where
+  found : (d : Directory) → StandsFor s.cut.bytes d → IsOfKindAt d key (Map k v)
+  found d st = kind-told d key (Map k v) (a.answers d st)
+
+  held : (d : Directory) (st : StandsFor s.cut.bytes d) → IsMap k v (found d st).object.value
+  held d st = map-if k v (found d st).object.value (found d st).kind_is
+
+  put-of : (d : Directory) (st : StandsFor s.cut.bytes d) (l m : Literal) → effect d (asked.Put key l m) ≡ puts d (found d st).object l m (k, v, (held d st).pairs)
+  put-of d st l m = put-plan d key (found d st).object (found d st).is (Ok (k, v, (held d st).pairs)) (held d st).is l m
+
+  lookup-of : (d : Directory) (st : StandsFor s.cut.bytes d) (l : Literal) → effect d (asked.Lookup key l) ≡ looks_up d l (k, v, (held d st).pairs)
+  lookup-of d st l = lookup-plan d key (found d st).object (found d st).is (Ok (k, v, (held d st).pairs)) (held d st).is l
+
+  remove-of : (d : Directory) (st : StandsFor s.cut.bytes d) (l : Literal) → effect d (asked.Remove key l) ≡ removes d (found d st).object l (k, v, (held d st).pairs)
+  remove-of d st l = remove-plan d key (found d st).object (found d st).is (Ok (k, v, (held d st).pairs)) (held d st).is l
+
+  -- literals that are read as values are as good as the values' own
+  put-read : (new : State) (l m : Literal) (x y : ℤ) (answer : Answer) → pair_of k v l m ≡ Ok (x ∷ y ∷ []) → is_value k x ≡ true → is_value v y ≡ true
+      → IsStepOfKind s new key (Map k v) (asked.Put key (literal_of k x) (literal_of v y)) answer → IsStep s new (asked.Put key l m) answer
+  put-read new l m x y answer e good fair r =
+      let own : pair_of k v (literal_of k x) (literal_of v y) ≡ Ok (x ∷ y ∷ []) = λ i. and_then (literal-read k x good i) (and_then (literal-read v y fair i) (Ok [])) in
+      same_plan-steps s new (asked.Put key l m) (asked.Put key (literal_of k x) (literal_of v y)) answer refl
+      (λ d st.
+      put-of d st l m ∙ ap (λ (q : Result (List ℤ) Refusal). with q (λ new. step.put d (found d st).object k v (held d st).pairs new)) (e ∙ sym own)
+      ∙ sym (put-of d st (literal_of k x) (literal_of v y)))
+      (of_kind-steps s new key (Map k v) (asked.Put key (literal_of k x) (literal_of v y)) answer a r)
+
+  remove-read : (new : State) (l : Literal) (x : ℤ) (answer : Answer) → value_of_literal k l ≡ Ok x → is_value k x ≡ true
+      → IsStepOfKind s new key (Map k v) (asked.Remove key (literal_of k x)) answer → IsStep s new (asked.Remove key l) answer
+  remove-read new l x answer e good r =
+      same_plan-steps s new (asked.Remove key l) (asked.Remove key (literal_of k x)) answer refl
+      (λ d st.
+      remove-of d st l
+      ∙ ap (λ (q : Result ℤ Refusal). with q (removes_at d (found d st).object k v (held d st).pairs)) (e ∙ sym (literal-read k x good))
+      ∙ sym (remove-of d st (literal_of k x)))
+      (of_kind-steps s new key (Map k v) (asked.Remove key (literal_of k x)) answer a r)
+
+  lookup-same : (d : Directory) (st : StandsFor s.cut.bytes d) (l : Literal) (x : ℤ) → value_of_literal k l ≡ Ok x → is_value k x ≡ true → effect d (asked.Lookup key (literal_of k x)) ≡ effect d (asked.Lookup key l)
+  lookup-same d st l x e good =
+      lookup-of d st (literal_of k x) ∙ ap (λ (q : Result ℤ Refusal). with q (λ x. found_with d v (pair_at int_lt (held d st).pairs x))) (literal-read k x good ∙ sym e) ∙ sym (lookup-of d st l)
+
+  lookup-read : (l : Literal) (x : ℤ) (answer : Answer) → value_of_literal k l ≡ Ok x → is_value k x ≡ true → IsReplyOfKind s key (Map k v) (asked.Lookup key (literal_of k x)) answer → IsReply s (asked.Lookup key l) answer
+  lookup-read l x answer e good r = record {
+    answers = λ d st.
+        let f : IsOfKindAt d key (Map k v) = found d st in
+        r.answers d st
+        ∙ ap (λ (q : Answer × Directory). q.0)
+        (step_of_kind-step s.mode d key (Map k v) (asked.Lookup key (literal_of k x)) f.object f.is (eq-eqb (code_of (Map k v)) (code_of (kind_of f.object.value)) (ap code_of (sym f.kind_is))))
+        ∙ answered-reads s.mode d (asked.Lookup key (literal_of k x)) refl
+        ∙ ap (λ (p : Plan). (perform d (live d) p).0) (lookup-same d st l x e good)
+        ∙ sym (answered-reads s.mode d (asked.Lookup key l) refl);
+  }
+
+  -- those that are none are refused
+  put-refused : (l m : Literal) (why : Refusal) → is_read_only s.mode ≡ false → pair_of k v l m ≡ Err why → IsStep s s (asked.Put key l m) (Refused why)
+  put-refused l m why writing e =
+      refuses s (asked.Put key l m) why writing
+      (λ d st. put-of d st l m ∙ ap (λ (q : Result (List ℤ) Refusal). with q (λ new. step.put d (found d st).object k v (held d st).pairs new)) e)
+
+  remove-refused : (l : Literal) (why : Refusal) → is_read_only s.mode ≡ false → value_of_literal k l ≡ Err why → IsStep s s (asked.Remove key l) (Refused why)
+  remove-refused l why writing e =
+      refuses s (asked.Remove key l) why writing
+      (λ d st. remove-of d st l ∙ ap (λ (q : Result ℤ Refusal). with q (removes_at d (found d st).object k v (held d st).pairs)) e)
+
+  lookup-refused : (l : Literal) (why : Refusal) → value_of_literal k l ≡ Err why → IsReply s (asked.Lookup key l) (Refused why)
+  lookup-refused l why e =
+      refuses-read s (asked.Lookup key l) why refl
+      (λ d st. lookup-of d st l ∙ ap (λ (q : Result ℤ Refusal). with q (λ x. found_with d v (pair_at int_lt (held d st).pairs x))) e)
+
+-- ---- as the calls say it
+
+module _ {s : State} {key : Key} {o : Located} (h : IsToChange s key o) {k v : ScalarKind} (is : o.kind ≡ Map k v) where
+  -- a pair of the map's kinds
+  pub puts-pair : {new : State} (at value : Literal) (p : ScalarValue × ScalarValue) {answer : Answer} → IsPairOf k v (pair_of k v at value) (Ok p)
+      → IsStepOfKind s new (ByHandle o.handle) (Map (kind_of_scalar p.0) (kind_of_scalar p.1))
+      (asked.Put (ByHandle o.handle) (literal_of (kind_of_scalar p.0) (value_of_scalar p.0)) (literal_of (kind_of_scalar p.1) (value_of_scalar p.1))) answer
+      → IsStep s new (asked.Put key at value) answer
+  puts-pair {new} at value p {answer} ((same, good), (other, fair), read) r =
+      put-read s key k v (says-kind h.located is) new at value (value_of_scalar p.0) (value_of_scalar p.1) answer read good fair
+      (step_of_kind-by_key s key o h.located new (Map k v) (asked.Put key (literal_of k (value_of_scalar p.0)) (literal_of v (value_of_scalar p.1))) answer
+      (subst (λ j. IsStepOfKind s new (ByHandle o.handle) (Map k j) (asked.Put (ByHandle o.handle) (literal_of k (value_of_scalar p.0)) (literal_of j (value_of_scalar p.1))) answer) other
+      (subst (λ j. IsStepOfKind s new (ByHandle o.handle) (Map j (kind_of_scalar p.1)) (asked.Put (ByHandle o.handle) (literal_of j (value_of_scalar p.0)) (literal_of (kind_of_scalar p.1) (value_of_scalar p.1))) answer) same r)))
+
+  pub put-no_pair : (at value : Literal) {why : Refusal} → pair_of k v at value ≡ Err why → IsStep s s (asked.Put key at value) (Refused why)
+  put-no_pair at value {why} e = put-refused s key k v (says-kind h.located is) at value why h.writing e
+
+  -- a key of its kind
+  pub removes-key : {new : State} (at : Literal) (x : ScalarValue) {answer : Answer} → IsValueOf k (value_of_literal k at) (Ok x)
+      → IsStepOfKind s new (ByHandle o.handle) (Map (kind_of_scalar x) v) (asked.Remove (ByHandle o.handle) (literal_of (kind_of_scalar x) (value_of_scalar x))) answer → IsStep s new (asked.Remove key at) answer
+  removes-key {new} at x {answer} (same, read, good) r =
+      remove-read s key k v (says-kind h.located is) new at (value_of_scalar x) answer read good
+      (step_of_kind-by_key s key o h.located new (Map k v) (asked.Remove key (literal_of k (value_of_scalar x))) answer
+      (subst (λ j. IsStepOfKind s new (ByHandle o.handle) (Map j v) (asked.Remove (ByHandle o.handle) (literal_of j (value_of_scalar x))) answer) same r))
+
+  pub remove-no_value : (at : Literal) {why : Refusal} → value_of_literal k at ≡ Err why → IsStep s s (asked.Remove key at) (Refused why)
+  remove-no_value at {why} e = remove-refused s key k v (says-kind h.located is) at why h.writing e
+
+module _ {s : State} {key : Key} {o : Located} (l : IsLocated s key o) {k v : ScalarKind} (is : o.kind ≡ Map k v) where
+  pub looks-up-key : (at : Literal) (x : ScalarValue) {answer : Answer} → IsValueOf k (value_of_literal k at) (Ok x)
+      → IsReplyOfKind s (ByHandle o.handle) (Map (kind_of_scalar x) v) (asked.Lookup (ByHandle o.handle) (literal_of (kind_of_scalar x) (value_of_scalar x))) answer → IsReply s (asked.Lookup key at) answer
+  looks-up-key at x {answer} (same, read, good) r =
+      lookup-read s key k v (says-kind l is) at (value_of_scalar x) answer read good
+      (reply_of_kind-by_key s key o l (Map k v) (asked.Lookup key (literal_of k (value_of_scalar x))) answer
+      (subst (λ j. IsReplyOfKind s (ByHandle o.handle) (Map j v) (asked.Lookup (ByHandle o.handle) (literal_of j (value_of_scalar x))) answer) same r))
+
+  pub lookup-no_value : (at : Literal) {why : Refusal} → value_of_literal k at ≡ Err why → IsReply s (asked.Lookup key at) (Refused why)
+  lookup-no_value at {why} e = lookup-refused s key k v (says-kind l is) at why e
+
+-- no object that may be changed has the key
+module _ {s : State} {key : Key} {why : Refusal} (h : IsUnchangeable s key why) where
+  pub put-unchangeable : (at value : Literal) → IsStep s s (asked.Put key at value) (Refused why)
+  put-unchangeable at value = h.refuses (asked.Put key at value) refl (λ d n. with-not_found d key (λ o. with (map_of o.value) (puts d o at value)) n)
+
+  pub remove-unchangeable : (at : Literal) → IsStep s s (asked.Remove key at) (Refused why)
+  remove-unchangeable at = h.refuses (asked.Remove key at) refl (λ d n. with-not_found d key (λ o. with (map_of o.value) (removes d o at)) n)
+
+-- none has it
+pub lookup-nowhere : {s : State} {key : Key} (at : Literal) {why : Refusal} → IsMissing s key why → IsReply s (asked.Lookup key at) (Refused why)
+lookup-nowhere {s} {key} at {why} m =
+    refuses-read s (asked.Lookup key at) why refl (λ d st. with-not_found d key (λ o. with (map_of o.value) (looks_up d at)) (m.missing d st) ∙ ap Refuse (sym m.is))

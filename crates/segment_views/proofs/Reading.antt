@@ -1,6 +1,6 @@
 -- What a reading of one element says of the list of all.
 use Rattle.std.proofs.Common.{◌≡◌, refl, sym, subst, ◌∙◌, ℕ, ◌≤◌, ℤ, None, Result, Ok, Err, List, length}
-use Rattle.std.specs.Prelude.{option_map, slice_get}
+use Rattle.std.specs.Prelude.{slice_get}
 use Rattle.std.proofs.lemmas.Option.{slice_get_past}
 use Rattle.seg_types.specs.declared.kinds.Kind.TheVariants.{Scalar as ScalarOf, Vector as VectorOf, Texts as TextsKind}
 use Rattle.seg_types.specs.declared.kinds.ScalarKind.{ScalarKind}
@@ -11,7 +11,8 @@ use Rattle.segment_manager.specs.Answers.{Answer, Element, TextElement}
 use Rattle.segment_manager.specs.Directory.{Directory}
 use Rattle.segment_manager.specs.ElementLists.{array_at, array_length_at, length_at_kind, number_or_none, texts_at, vector_at}
 use Rattle.segment_manager.specs.State.{Answers, IsReplyOfKind, State, answer_of}
-use Rattle.segment_manager.proofs.Laws.{array-length, array-read, got, text-read, texts-length, vector-length, vector-read}
+use Rattle.segment_views.specs.Walked.{element_of}
+use Rattle.segment_manager.proofs.Laws.{array-length, array-read, got, text-read, vector-length, vector-read}
 
 -- behind the last element there is none
 pub none-past : {B : Type 0} (elements : Directory → List B) (s : State) (at len : ℕ) → Answers s (λ d. length (elements d)) len → len ≤ at → Answers s (λ d. slice_get (elements d) at) None
@@ -27,7 +28,7 @@ answer-mapped : {A B : Type 0} (say : B → Answer) (f : A → B) (r : Result A 
 answer-mapped say f (Ok a) = refl
 answer-mapped say f (Err why) = refl
 
-got-mapped : {A B : Type 0} (f : A → B) (r : Result A Refusal) → got (mapped f r) ≡ option_map f (got r)
+got-mapped : {A B : Type 0} (f : A → B) (r : Result A Refusal) → got (mapped f r) ≡ element_of f r
 got-mapped f (Ok a) = refl
 got-mapped f (Err why) = refl
 
@@ -35,25 +36,22 @@ got-mapped f (Err why) = refl
 
 module _ (s : State) (key : Key) (at : ℕ) where
   pub vector-item : {A : Type 0} (k : ScalarKind) (whole : A → ℤ) (r : Result A Refusal) → IsReplyOfKind s key (VectorOf k) (Get key at) (answer_of (λ x. Element k (whole x)) r)
-      → Answers s (λ d. slice_get (vector_at d key k) at) (option_map whole (got r))
+      → Answers s (λ d. slice_get (vector_at d key k) at) (element_of whole r)
   vector-item k whole r a = record { answers = λ d h. sym (got-mapped whole r) ∙ vector-read s.mode d key k at (mapped whole r) (answer-mapped (Element k) whole r ∙ a.answers d h) }
 
   pub array-item : {A : Type 0} (k : ScalarKind) (whole : A → ℤ) (r : Result A Refusal) → IsReplyOfKind s key (ScalarOf k) (Get key at) (answer_of (λ x. Element k (whole x)) r)
-      → Answers s (λ d. slice_get (array_at d key k) at) (option_map whole (got r))
+      → Answers s (λ d. slice_get (array_at d key k) at) (element_of whole r)
   array-item k whole r a = record { answers = λ d h. sym (got-mapped whole r) ∙ array-read s.mode d key k at (mapped whole r) (answer-mapped (Element k) whole r ∙ a.answers d h) }
 
   pub text-item : {A : Type 0} (bytes : A → List ℕ) (r : Result A Refusal) → IsReplyOfKind s key TextsKind (Get key at) (answer_of (λ x. TextElement (bytes x)) r)
-      → Answers s (λ d. slice_get (texts_at d key) at) (option_map bytes (got r))
+      → Answers s (λ d. slice_get (texts_at d key) at) (element_of bytes r)
   text-item bytes r a = record { answers = λ d h. sym (got-mapped bytes r) ∙ text-read s.mode d key at (mapped bytes r) (answer-mapped TextElement bytes r ∙ a.answers d h) }
 
 -- ---- how many
 
-module _ (s : State) (key : Key) (n : ℕ) (r : Result ℕ Refusal) (e : n ≡ number_or_none r) where
-  pub vector-many : (k : ScalarKind) → Answers s (λ d. length_at_kind d key (VectorOf k)) r → Answers s (λ d. length (vector_at d key k)) n
-  vector-many k a = record { answers = λ d h. e ∙ vector-length d key k r (a.answers d h) }
+module _ (s : State) (key : Key) (r : Result ℕ Refusal) where
+  pub vector-many : (k : ScalarKind) → Answers s (λ d. length_at_kind d key (VectorOf k)) r → Answers s (λ d. length (vector_at d key k)) (number_or_none r)
+  vector-many k a = record { answers = λ d h. vector-length d key k r (a.answers d h) }
 
-  pub array-many : (k : ScalarKind) → Answers s (λ d. array_length_at d key k) r → Answers s (λ d. length (array_at d key k)) n
-  array-many k a = record { answers = λ d h. e ∙ array-length d key k r (a.answers d h) }
-
-  pub texts-many : Answers s (λ d. length_at_kind d key TextsKind) r → Answers s (λ d. length (texts_at d key)) n
-  texts-many a = record { answers = λ d h. e ∙ texts-length d key r (a.answers d h) }
+  pub array-many : (k : ScalarKind) → Answers s (λ d. array_length_at d key k) r → Answers s (λ d. length (array_at d key k)) (number_or_none r)
+  array-many k a = record { answers = λ d h. array-length d key k r (a.answers d h) }

@@ -1,8 +1,4 @@
-pub mod OfVectorView
-pub mod OfArrayView
-pub mod OfStringView
-pub mod OfMapView
-pub mod OfStringsView
+pub mod OfView
 pub mod Opened
 pub mod Walked
 pub mod Repeated

@@ -1,5 +1,6 @@
 -- What the iterators of views give.
-use Rattle.std.specs.Prelude.{◌≡◌, ℕ, Option, List, length, option_map, slice_get}
+use Rattle.std.specs.Prelude.{◌≡◌, ℕ, Option, Some, None, Result, Ok, Err, List, length, option_map, slice_get}
+use Rattle.seg_types.specs.declared.refusals.Refusal.{Refusal}
 use Rattle.seg_types.specs.Names.{Key}
 use Rattle.segment_manager.specs.declared.targets.Object.{Object as Located}
 use Rattle.segment_manager.specs.Directory.{Directory}
@@ -24,3 +25,8 @@ pub record GoesOnElements {A B : Type 0} (elements : Directory → Key → List 
 pub record IsWalkOver {B : Type 0} (elements : Directory → List B) (s : State) (o : Located) (len : ℕ) : Type 0 where
   pub here : IsObject o s
   pub length_is : Answers s (λ d. length (elements d)) len
+
+-- the element that is read, as it is seen; none where the reading is refused
+abbrev pub element_of : {A B : Type 0} → (A → B) → Result A Refusal → Option B
+element_of seen (Ok a) = Some (seen a)
+element_of seen (Err why) = None

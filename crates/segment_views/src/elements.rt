@@ -2,46 +2,46 @@
 ghost use Rattle.std.specs.Prelude.{◌≡◌, ◌-◌};
 ghost use Rattle.std.specs.Iterator.{at_most};
 ghost use Rattle.seg_types.specs.Names.{ByHandle};
-ghost use Rattle.segment_manager.specs.ElementLists.{array_at, number_or_none as number_of, texts_at, vector_at};
+ghost use Rattle.segment_manager.specs.ElementLists.{number_or_none as number_of, texts_at};
 ghost use Rattle.segment_manager.specs.Located.{IsObject};
 ghost use Rattle.segment_views.specs.Walked.{GoesOnElements};
 
+use crate::rows::Storage;
 use seg_types::{Refusal, Scalar};
 use segment_manager::{Object, Segment};
 use std::marker::{Model, PhantomData};
 
-/// The elements of an array of scalars, one after another. There are none where the object is of another kind.
+/// The scalars of an array or a vector, one after another. There are none where the object is of another kind.
 ///
-/// Contracts see the segment, the array's key, and how many elements came.
+/// Contracts see the segment, the object's key, and how many elements came.
 #[derive(Drop)]
-pub struct ArrayItems<'a, T: Scalar> {
+pub struct RowItems<'a, T: Scalar, S: Storage> {
     segment: &'a Segment,
     object: Object,
     at: u64,
     len: u64,
-    of: PhantomData<T>,
+    of: PhantomData<(T, S)>,
 }
 
-impl<'a, T: Scalar> Model for ArrayItems<'a, T> {
+impl<'a, T: Scalar, S: Storage> Model for RowItems<'a, T, S> {
     ghost use Rattle.seg_types.specs.Names.{ByHandle};
-    ghost use Rattle.segment_manager.specs.ElementLists.{array_at};
     ghost use Rattle.segment_views.specs.Walked.{ElementWalk, IsWalkOver};
 
     ghost Value = { ElementWalk };
 
     ghost view = { λ w. record { segment = w.segment.now; key = ByHandle w.object.handle; at = w.at } };
 
-    ghost invariant = { λ w. IsWalkOver (λ d. array_at d (ByHandle w.object.handle) T.kind) w.segment.now w.object w.len };
+    ghost invariant = { λ w. IsWalkOver (λ d. S.elements d (ByHandle w.object.handle) T.kind) w.segment.now w.object w.len };
 }
 
-impl<'a, T: Scalar> ArrayItems<'a, T> {
+impl<'a, T: Scalar, S: Storage> RowItems<'a, T, S> {
     /// The elements of an object that was located.
-    pub(crate) fn new(segment: &'a Segment, object: Object) -> ArrayItems<'a, T>
+    pub(crate) fn new(segment: &'a Segment, object: Object) -> RowItems<'a, T, S>
         requires { IsObject object segment.now }
         ensures { result ≡ record { segment = segment.now; key = ByHandle object.handle; at = 0 } }
     {
-        let len = number_or_none(segment.array_len::<T, Object>(&object));
-        ArrayItems {
+        let len = number_or_none(S::len::<T>(segment, &object));
+        RowItems {
             segment,
             object,
             at: 0,
@@ -51,10 +51,10 @@ impl<'a, T: Scalar> ArrayItems<'a, T> {
     }
 }
 
-impl<'a, T: Scalar> Iterator for ArrayItems<'a, T> {
+impl<'a, T: Scalar, S: Storage> Iterator for RowItems<'a, T, S> {
     type Item = T;
 
-    ghost next_gives = { GoesOnElements (λ d key. array_at d key T.kind) T.whole };
+    ghost next_gives = { GoesOnElements (λ d key. S.elements d key T.kind) T.whole };
 
     ghost remaining = { λ w. at_most (18446744073709551615 - w.at) };
 
@@ -62,69 +62,7 @@ impl<'a, T: Scalar> Iterator for ArrayItems<'a, T> {
         if self.at >= self.len {
             return None;
         }
-        match self.segment.get::<T, Object>(&self.object, self.at) {
-            Err(_) => None,
-            Ok(value) => {
-                self.at += 1;
-                Some(value)
-            }
-        }
-    }
-}
-
-/// The elements of a vector of scalars, one after another. There are none where the object is no vector of the type.
-///
-/// Contracts see the segment, the vector's key, and how many elements came.
-#[derive(Drop)]
-pub struct VectorItems<'a, T: Scalar> {
-    segment: &'a Segment,
-    object: Object,
-    at: u64,
-    len: u64,
-    of: PhantomData<T>,
-}
-
-impl<'a, T: Scalar> Model for VectorItems<'a, T> {
-    ghost use Rattle.seg_types.specs.Names.{ByHandle};
-    ghost use Rattle.segment_manager.specs.ElementLists.{vector_at};
-    ghost use Rattle.segment_views.specs.Walked.{ElementWalk, IsWalkOver};
-
-    ghost Value = { ElementWalk };
-
-    ghost view = { λ w. record { segment = w.segment.now; key = ByHandle w.object.handle; at = w.at } };
-
-    ghost invariant = { λ w. IsWalkOver (λ d. vector_at d (ByHandle w.object.handle) T.kind) w.segment.now w.object w.len };
-}
-
-impl<'a, T: Scalar> VectorItems<'a, T> {
-    /// The elements of an object that was located.
-    pub(crate) fn new(segment: &'a Segment, object: Object) -> VectorItems<'a, T>
-        requires { IsObject object segment.now }
-        ensures { result ≡ record { segment = segment.now; key = ByHandle object.handle; at = 0 } }
-    {
-        let len = number_or_none(segment.vec_len::<T, Object>(&object));
-        VectorItems {
-            segment,
-            object,
-            at: 0,
-            len,
-            of: PhantomData,
-        }
-    }
-}
-
-impl<'a, T: Scalar> Iterator for VectorItems<'a, T> {
-    type Item = T;
-
-    ghost next_gives = { GoesOnElements (λ d key. vector_at d key T.kind) T.whole };
-
-    ghost remaining = { λ w. at_most (18446744073709551615 - w.at) };
-
-    fn next(&mut self) -> Option<T> {
-        if self.at >= self.len {
-            return None;
-        }
-        match self.segment.vec_get::<T, Object>(&self.object, self.at) {
+        match S::get::<T>(self.segment, &self.object, self.at) {
             Err(_) => None,
             Ok(value) => {
                 self.at += 1;

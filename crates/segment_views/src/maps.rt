@@ -1,5 +1,5 @@
 //! A map of keys and values of two types in a segment that may be changed, looked up once.
-ghost use Rattle.std.specs.Prelude.{◌≡◌, OnErr, IfOk, option_map};
+ghost use Rattle.std.specs.Prelude.{◌≡◌, OnErr, option_map};
 ghost use Rattle.seg_types.specs.declared.kinds.Kind.TheVariants.{Map as MapOf};
 ghost use Rattle.seg_types.specs.Commands.{Lookup, Put, Remove, literal_of};
 ghost use Rattle.segment_manager.specs.ElementLists.{length_at_kind};
@@ -9,65 +9,33 @@ ghost use Rattle.seg_map.specs.Places.{item_of};
 ghost use Rattle.std.specs.Range.Bound.{bound_map};
 ghost use Rattle.std.specs.declared.ops.Bound.TheVariants.{Unbounded};
 ghost use Rattle.segment_manager.specs.State.{Answers, IsReplyOfKind, IsStepOfKind, truth_answer};
-ghost use Rattle.seg_types.specs.Names.{ByHandle};
-ghost use Rattle.segment_manager.specs.Located.{IsObject};
-ghost use Rattle.segment_manager.specs.contracts.segment.Segment.{the_row};
-ghost use Rattle.segment_views.specs.Opened.{handle_of, opened_at};
-ghost use Rattle.std.specs.Borrow.{sem, RestsIfErr};
 
-use crate::opening::locate_of_kind;
 use crate::ranges::{MapItems, first_of_all};
+use crate::views::{Content, View};
 use seg_types::{Kind, Refusal, Scalar};
-use segment_manager::{Object, Segment, Target};
+use segment_manager::Object;
 use std::marker::PhantomData;
 use std::ops::{Bound, RangeBounds};
 
-/// A map of keys and values of two types in a segment that may be changed, looked up once. It borrows the segment, and
-/// the object is there as long as it does.
+/// Keys of one type with values of another.
 #[derive(Drop)]
-pub struct MapView<'a, K, V> {
-    segment: &'a mut Segment,
-    object: Object,
+pub struct Pairs<K, V> {
     of: PhantomData<(K, V)>,
-    ghost here: { IsObject object segment.now },
 }
 
-impl<'a, K: Scalar, V: Scalar> MapView<'a, K, V> {
-    ghost use Rattle.segment_views.specs.OfMapView.{Borrows, IsSame, key_of, loan_of, object_of, segment_of};
+/// A map of keys and values of two types in a segment that may be changed, looked up once.
+pub type MapView<'a, K, V> = View<'a, Pairs<K, V>>;
 
-    /// The view of the object of a key, which is looked up once.
-    ///
-    /// Example: `let mut years = MapView::<i32, i64>::of(&mut segment, &name)?`.
-    ///
-    /// # Errors
-    ///
-    /// `NotFound` where no object has the key, `WrongKind` where it is no such map. Nothing changes.
-    pub fn of<O: Target>(segment: &'a mut Segment, key: &O) -> Result<MapView<'a, K, V>, Refusal>
-        requires { O.stands key.now segment.old }
-        ensures* rests { sem 𝓛 (RestsIfErr the_row segment.entry loan_of result (λ last. last ≡ segment.old)) }
-        ensures opens { Answers segment.old (λ d. opened_at d (O.key key.now) (MapOf K.kind V.kind)) (handle_of object_of result) }
-        ensures borrows { IfOk result (λ v. Borrows v segment.entry) }
-        ensures segment { IfOk result (λ v. segment_of v ≡ segment.old) }
-    {
-        match locate_of_kind(segment, key, Kind::Map(K::kind(), V::kind())) {
-            Err(why) => Err(why),
-            Ok(object) => Ok(MapView::new(segment, object)),
-        }
-    }
+impl<K: Scalar, V: Scalar> Content for Pairs<K, V> {
+    ghost kind = { MapOf K.kind V.kind };
 
-    /// The view of an object that was located and is still there.
-    fn new(segment: &'a mut Segment, object: Object) -> MapView<'a, K, V>
-        requires { IsObject object segment.old }
-        ensures loan { Borrows result segment.entry }
-        ensures segment { segment_of result ≡ segment.old }
-        ensures key { key_of result ≡ ByHandle object.handle }
-    {
-        MapView {
-            segment,
-            object,
-            of: PhantomData,
-        }
+    fn kind() -> Kind {
+        Kind::Map(K::kind(), V::kind())
     }
+}
+
+impl<'a, K: Scalar, V: Scalar> View<'a, Pairs<K, V>> {
+    ghost use Rattle.segment_views.specs.OfView.{IsSame, key_of, segment_of};
 
     /// The value of a key.
     ///

@@ -1,63 +1,33 @@
 //! A vector of strings in a segment that may be changed, looked up once.
-ghost use Rattle.std.specs.Prelude.{◌≡◌, OnErr, IfOk};
+ghost use Rattle.std.specs.Prelude.{◌≡◌, OnErr};
 ghost use Rattle.seg_types.specs.declared.kinds.Kind.TheVariants.{Texts as TextsKind};
 ghost use Rattle.seg_types.specs.Commands.{Erase, Get, Insert, Pop, Push, Quoted, Set};
 ghost use Rattle.segment_manager.specs.Answers.{TextElement};
 ghost use Rattle.segment_manager.specs.ElementLists.{length_at_kind};
 ghost use Rattle.segment_manager.specs.State.{Answers, IsReplyOfKind, IsStepOfKind, KeepsRefused, answer_of, done_answer, refusal_in};
 ghost use Rattle.segment_manager.specs.TextLists.{LeadsOnOfKind};
-ghost use Rattle.seg_types.specs.Names.{ByHandle};
-ghost use Rattle.segment_manager.specs.Located.{IsObject};
-ghost use Rattle.segment_manager.specs.contracts.segment.Segment.{the_row};
-ghost use Rattle.segment_views.specs.Opened.{handle_of, opened_at};
-ghost use Rattle.std.specs.Borrow.{sem, RestsIfErr};
 
 use crate::elements::TextItems;
-use crate::opening::locate_of_kind;
+use crate::views::{Content, View};
 use seg_types::{Kind, Refusal};
-use segment_manager::{Object, Segment, Target};
 
-/// A vector of strings in a segment that may be changed, looked up once. It borrows the segment, and the object is
-/// there as long as it does.
+/// Strings, one after another.
 #[derive(Drop)]
-pub struct StringsView<'a> {
-    segment: &'a mut Segment,
-    object: Object,
-    ghost here: { IsObject object segment.now },
+pub struct Texts;
+
+/// A vector of strings in a segment that may be changed, looked up once.
+pub type StringsView<'a> = View<'a, Texts>;
+
+impl Content for Texts {
+    ghost kind = { TextsKind };
+
+    fn kind() -> Kind {
+        Kind::Texts
+    }
 }
 
-impl<'a> StringsView<'a> {
-    ghost use Rattle.segment_views.specs.OfStringsView.{Borrows, IsSame, key_of, loan_of, object_of, segment_of};
-
-    /// The view of the object of a key, which is looked up once.
-    ///
-    /// Example: `let mut lines = StringsView::of(&mut segment, &name)?`.
-    ///
-    /// # Errors
-    ///
-    /// `NotFound` where no object has the key, `WrongKind` where it is no vector of strings. Nothing changes.
-    pub fn of<O: Target>(segment: &'a mut Segment, key: &O) -> Result<StringsView<'a>, Refusal>
-        requires { O.stands key.now segment.old }
-        ensures* rests { sem 𝓛 (RestsIfErr the_row segment.entry loan_of result (λ last. last ≡ segment.old)) }
-        ensures opens { Answers segment.old (λ d. opened_at d (O.key key.now) (TextsKind)) (handle_of object_of result) }
-        ensures borrows { IfOk result (λ v. Borrows v segment.entry) }
-        ensures segment { IfOk result (λ v. segment_of v ≡ segment.old) }
-    {
-        match locate_of_kind(segment, key, Kind::Texts) {
-            Err(why) => Err(why),
-            Ok(object) => Ok(StringsView::new(segment, object)),
-        }
-    }
-
-    /// The view of an object that was located and is still there.
-    fn new(segment: &'a mut Segment, object: Object) -> StringsView<'a>
-        requires { IsObject object segment.old }
-        ensures loan { Borrows result segment.entry }
-        ensures segment { segment_of result ≡ segment.old }
-        ensures key { key_of result ≡ ByHandle object.handle }
-    {
-        StringsView { segment, object }
-    }
+impl<'a> View<'a, Texts> {
+    ghost use Rattle.segment_views.specs.OfView.{IsSame, key_of, segment_of};
 
     /// The bytes of the string at `index`.
     ///

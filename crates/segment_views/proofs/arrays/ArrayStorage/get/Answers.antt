@@ -1,0 +1,7 @@
+-- What is read stands at the place.
+use Rattle.seg_types.specs.Names.{ByHandle}
+use Rattle.segment_views.proofs.Reading.{array-item}
+use Rattle.segment_views.proofs.arrays.ArrayStorage.get.Goals as goal
+
+pub returns-clause-stands : goal.returns-clause-stands
+returns-clause-stands g c = array-item c.args.segment.now (ByHandle c.args.object.now.handle) c.args.index g.T.Scalar.kind g.T.Scalar.whole c.get.result c.get.ensures

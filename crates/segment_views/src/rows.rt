@@ -1,0 +1,163 @@
+//! Scalars of a type one after another, an array of them or a vector, in a segment that may be changed, looked up once.
+ghost use Rattle.std.specs.Prelude.{◌≡◌, ℕ, ℤ, List, OnErr, OnOk, Result as AnyResult, length, map, slice_get, take};
+ghost use Rattle.seg_types.specs.declared.kinds.Kind.{Kind as AnyKind};
+ghost use Rattle.seg_types.specs.declared.kinds.ScalarKind.{ScalarKind as AnyScalarKind};
+ghost use Rattle.seg_types.specs.declared.refusals.Refusal.{Refusal as AnyRefusal};
+ghost use Rattle.seg_types.specs.Commands.{Get, Set, literal_of};
+ghost use Rattle.seg_types.specs.Names.{ByHandle, Key};
+ghost use Rattle.segment_manager.specs.Answers.{Element};
+ghost use Rattle.segment_manager.specs.Directory.{Directory};
+ghost use Rattle.segment_manager.specs.ElementLists.{number_or_none};
+ghost use Rattle.segment_manager.specs.Located.{IsObject};
+ghost use Rattle.segment_manager.specs.State.{Answers, IsReplyOfKind, IsStepOfKind, answer_of, done_answer, refusal_in};
+ghost use Rattle.segment_views.specs.Copied.{lacking};
+ghost use Rattle.segment_views.specs.Walked.{element_of};
+
+use crate::copying::copy_row;
+use crate::elements::RowItems;
+use crate::views::{Content, View};
+use seg_types::{Kind, Refusal, Scalar, ScalarKind};
+use segment_manager::{Object, Segment};
+use std::marker::PhantomData;
+
+/// Where the scalars of a row are: in the object itself, an array, or in a block of their own, those of a vector.
+pub trait Storage {
+    // The kind of the object, by that of its scalars.
+    ghost kind: { AnyScalarKind → AnyKind };
+
+    // The scalars of the object of a key.
+    ghost elements: { Directory → Key → AnyScalarKind → List ℤ };
+
+    // How many they are, or why there are none.
+    ghost count: { Directory → Key → AnyScalarKind → AnyResult ℕ AnyRefusal };
+
+    /// The kind of the object, by that of its scalars.
+    fn kind(of: ScalarKind) -> Kind
+        ensures { result ≡ kind of };
+
+    /// The element at `index` of an object that was located.
+    ///
+    /// # Errors
+    ///
+    /// `OutOfRange` where there is none, `WrongKind` where the object is of another kind.
+    fn get<T: Scalar>(segment: &Segment, object: &Object, index: u64) -> Result<T, Refusal>
+        requires { IsObject object.now segment.now }
+        ensures reply { IsReplyOfKind segment.now (ByHandle object.now.handle) (kind T.kind) (Get (ByHandle object.now.handle) index) (answer_of (λ x. Element T.kind (T.whole x)) result) }
+        ensures stands { Answers segment.now (λ d. slice_get (elements d (ByHandle object.now.handle) T.kind) index) (element_of T.whole result) };
+
+    /// How many elements an object has that was located.
+    ///
+    /// # Errors
+    ///
+    /// `WrongKind` where it is of another kind.
+    fn len<T: Scalar>(segment: &Segment, object: &Object) -> Result<u64, Refusal>
+        requires { IsObject object.now segment.now }
+        ensures told { Answers segment.now (λ d. count d (ByHandle object.now.handle) T.kind) result }
+        ensures many { Answers segment.now (λ d. length (elements d (ByHandle object.now.handle) T.kind)) (number_or_none result) };
+
+    /// Makes a value the element at `index` of an object that was located.
+    ///
+    /// # Errors
+    ///
+    /// Those of `View::set`.
+    fn set<T: Scalar>(
+        segment: &mut Segment,
+        object: &Object,
+        index: u64,
+        value: T,
+    ) -> Result<(), Refusal>
+        requires { IsObject object.now segment.old }
+        ensures step { IsStepOfKind segment.old segment.new (ByHandle object.now.handle) (kind T.kind) (Set (ByHandle object.now.handle) index (literal_of T.kind (T.whole value))) (done_answer result) }
+        ensures refused { OnErr result (segment.new ≡ segment.old) };
+}
+
+/// Scalars of a type, one after another.
+#[derive(Drop)]
+pub struct Row<T, S> {
+    of: PhantomData<(T, S)>,
+}
+
+impl<T: Scalar, S: Storage> Content for Row<T, S> {
+    ghost kind = { S.kind T.kind };
+
+    fn kind() -> Kind {
+        S::kind(T::kind())
+    }
+}
+
+impl<'a, T: Scalar, S: Storage> View<'a, Row<T, S>> {
+    ghost use Rattle.segment_views.specs.OfView.{IsSame, key_of, segment_of};
+
+    /// The element at `index`.
+    ///
+    /// # Errors
+    ///
+    /// `OutOfRange` where there is none, `WrongKind` where the object is of another kind.
+    pub fn get(&self, index: u64) -> Result<T, Refusal>
+        ensures { IsReplyOfKind (segment_of self.now) (key_of self.now) (S.kind T.kind) (Get (key_of self.now) index) (answer_of (λ x. Element T.kind (T.whole x)) result) }
+    {
+        S::get::<T>(self.segment, &self.object, index)
+    }
+
+    /// How many elements it has.
+    ///
+    /// Example: `let count = queue.len()?`.
+    ///
+    /// # Errors
+    ///
+    /// `WrongKind` where the object is of another kind.
+    pub fn len(&self) -> Result<u64, Refusal>
+        ensures { Answers (segment_of self.now) (λ d. S.count d (key_of self.now) T.kind) result }
+    {
+        S::len::<T>(self.segment, &self.object)
+    }
+
+    /// Its elements, one after another. There are none where the object is of another kind.
+    ///
+    /// Example: `for number in queue.iter()`.
+    pub fn iter(&self) -> RowItems<'_, T, S>
+        ensures { result ≡ record { segment = segment_of self.now; key = key_of self.now; at = 0 } }
+    {
+        RowItems::new(self.segment, self.object)
+    }
+
+    /// Makes the values of a slice its first elements, as many as the slice has places.
+    ///
+    /// Example: `queue.copy_to(&mut room)?`.
+    ///
+    /// # Errors
+    ///
+    /// `WrongKind` where the object is of another kind, `OutOfRange` where the slice has more places than there are
+    /// elements. The slice does not change.
+    pub fn copy_to(&self, values: &mut [T]) -> Result<(), Refusal>
+        ensures refusal { Answers (segment_of self.now) (λ d. lacking (length values.old) (S.count d (key_of self.now) T.kind)) (refusal_in result) }
+        ensures copied { OnOk result (Answers (segment_of self.now) (λ d. take (length values.old) (S.elements d (key_of self.now) T.kind)) (map T.whole values.new)) }
+        ensures unchanged { OnErr result (values.new ≡ values.old) }
+    {
+        match S::len::<T>(self.segment, &self.object) {
+            Err(why) => Err(why),
+            Ok(len) => {
+                if len < values.len() as u64 {
+                    return Err(Refusal::OutOfRange);
+                }
+                copy_row::<T, S>(self.segment, &self.object, values);
+                Ok(())
+            }
+        }
+    }
+
+    /// Makes a value the element at `index`.
+    ///
+    /// # Errors
+    ///
+    /// `ReadOnly` where the segment is open for reading, else `WrongKind` where the object is of another kind,
+    /// `OutOfRange` where it has no element there. Nothing changes.
+    pub fn set(&mut self, index: u64, value: T) -> Result<(), Refusal>
+        ensures same { IsSame self.old self.new }
+        ensures step { IsStepOfKind (segment_of self.old) (segment_of self.new) (key_of self.old) (S.kind T.kind) (Set (key_of self.old) index (literal_of T.kind (T.whole value))) (done_answer result) }
+        ensures refused { OnErr result (segment_of self.new ≡ segment_of self.old) }
+    {
+        let _ = self.segment.as_bytes();
+        S::set::<T>(self.segment, &self.object, index, value)
+    }
+}

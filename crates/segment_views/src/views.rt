@@ -1,0 +1,75 @@
+//! One object in a segment that may be changed, looked up once.
+ghost use Rattle.std.specs.Prelude.{◌≡◌, IfOk};
+ghost use Rattle.std.specs.Borrow.{sem, RestsIfErr};
+ghost use Rattle.seg_types.specs.declared.kinds.Kind.{Kind as AnyKind};
+ghost use Rattle.seg_types.specs.Names.{ByHandle};
+ghost use Rattle.segment_manager.specs.Located.{IsObject};
+ghost use Rattle.segment_manager.specs.State.{Answers};
+ghost use Rattle.segment_manager.specs.contracts.segment.Segment.{the_row};
+ghost use Rattle.segment_views.specs.Opened.{handle_of, opened_at};
+
+use crate::opening::locate_of_kind;
+use seg_types::{Kind, Refusal};
+use segment_manager::{Object, Segment, Target};
+use std::marker::PhantomData;
+
+/// What an object holds that a view is of: it says the kind of the object.
+pub trait Content {
+    ghost kind: { AnyKind };
+
+    /// The kind of the object.
+    fn kind() -> Kind
+        ensures { result ≡ kind };
+}
+
+/// One object in a segment that may be changed, looked up once. It borrows the segment, and the object is there as long
+/// as it does.
+#[derive(Drop)]
+pub struct View<'a, C> {
+    pub(crate) segment: &'a mut Segment,
+    pub(crate) object: Object,
+    of: PhantomData<C>,
+    ghost here: { IsObject object segment.now },
+}
+
+impl<'a, C: Content> View<'a, C> {
+    ghost use Rattle.segment_views.specs.OfView.{Borrows, key_of, loan_of, object_of, segment_of};
+
+    /// The view of the object of a key, which is looked up once.
+    ///
+    /// Examples: `let mut queue = VectorView::<i64>::of(&mut segment, &name)?`,
+    /// `let mut flags = ArrayView::<u8>::of(&mut segment, &name)?`,
+    /// `let mut years = MapView::<i32, i64>::of(&mut segment, &name)?`,
+    /// `let mut title = StringView::of(&mut segment, &name)?`,
+    /// `let mut lines = StringsView::of(&mut segment, &name)?`.
+    ///
+    /// # Errors
+    ///
+    /// `NotFound` where no object has the key, `WrongKind` where it is of another kind than the view. Nothing changes.
+    pub fn of<O: Target>(segment: &'a mut Segment, key: &O) -> Result<View<'a, C>, Refusal>
+        requires { O.stands key.now segment.old }
+        ensures* rests { sem 𝓛 (RestsIfErr the_row segment.entry loan_of result (λ last. last ≡ segment.old)) }
+        ensures opens { Answers segment.old (λ d. opened_at d (O.key key.now) C.kind) (handle_of object_of result) }
+        ensures borrows { IfOk result (λ v. Borrows v segment.entry) }
+        ensures segment { IfOk result (λ v. segment_of v ≡ segment.old) }
+    {
+        match locate_of_kind(segment, key, C::kind()) {
+            Err(why) => Err(why),
+            Ok(object) => Ok(View::new(segment, object)),
+        }
+    }
+
+    /// The view of an object that was located and is still there.
+    fn new(segment: &'a mut Segment, object: Object) -> View<'a, C>
+        requires { IsObject object segment.old }
+        ensures loan { Borrows result segment.entry }
+        ensures segment { segment_of result ≡ segment.old }
+        ensures key { key_of result ≡ ByHandle object.handle }
+    {
+        View {
+            segment,
+            object,
+            of: PhantomData,
+        }
+    }
+}

@@ -4,3 +4,13 @@ pub use Rattle.image_check.proofs.Deciding.{all_decided}
 pub use Rattle.image_check.proofs.Ends.{ends_at_most_once}
 pub use Rattle.image_check.proofs.Law.{one_directory}
 pub use Rattle.image_check.proofs.MeantMaps.{tests_mean_relations}
+-- And what is true of the tests of indexes and objects, whoever reads the bytes.
+pub use Rattle.image_check.proofs.EntriesNoted.{targets-split}
+pub use Rattle.image_check.proofs.HeadBytes.{element-spelled, named-right, padding-read}
+pub use Rattle.image_check.proofs.IndexOrdered.{entry-among, entry-some}
+pub use Rattle.image_check.proofs.MapPairs.{size-least, size-most}
+pub use Rattle.image_check.proofs.Members.{find_mem, list_any_of}
+pub use Rattle.image_check.proofs.ObjectTested.{no-room, room-wider}
+pub use Rattle.image_check.proofs.ObjectsRight.{heads-of, right-from, wrong-named, wrong-tiles, wrong-unique}
+pub use Rattle.image_check.proofs.Ranges.{all-broken, all-further, split}
+pub use Rattle.image_check.proofs.Ranked.{last_of, last-of-more, ranked-broken, ranked-more}

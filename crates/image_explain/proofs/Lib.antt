@@ -1,3 +1,6 @@
 mod Stopping
 mod Leading
 mod Places
+mod Walked
+mod Entries
+mod ObjectOrder

@@ -7,7 +7,8 @@ use Rattle.byteorder.specs.Endian.{little_number}
 use Rattle.raw_region.specs.Format.{current}
 use Rattle.raw_region.specs.Memory.{AreZero, Memory, bytes_of, read, word_at}
 use Rattle.block_tags.specs.Format.{is_legal_size}
-use Rattle.block_tags.specs.Tiles.{has_tags}
+use Rattle.block_tags.specs.Tiles.{has_tags, tiles_of}
+use Rattle.block_tags.specs.declared.tile.Tile.{Tile}
 use Rattle.best_fit.proofs.Laws.{legal_size}
 use Rattle.segment_manager.specs.Denotes.{magic_number}
 use Rattle.image_check.specs.declared.classes.ImageClass.{ImageClass}
@@ -15,8 +16,14 @@ use Rattle.image_check.specs.declared.classes.ImageClass.TheVariants.{Truncated,
 use Rattle.image_check.specs.Classes.{classes, class_of, holds, number_of}
 use Rattle.image_check.specs.EarlyTests.{has_front, has_magic, has_reserved, has_size, has_version, is_tiled, is_truncated, is_zero, size_word}
 use Rattle.image_explain.specs.Explains.{IsShown}
-use Rattle.image_explain.specs.Shows.{IsFirstFilled, IsFirstOther, Shows, shown_size}
+use Rattle.image_check.specs.ObjectTests.{has_indexes, has_objects}
+use Rattle.image_check.specs.Passes.{HasTiles, tiles_in}
+use Rattle.image_explain.specs.IndexPlaces.{IsWrongIndex}
+use Rattle.image_explain.specs.ObjectPlaces.{IsWrongObject}
+use Rattle.image_explain.specs.Shows.{IsFirstFilled, IsFirstOther, Shows, has_place, said_tiles, shown_size}
 use Rattle.image_explain.specs.WrongTags.{StopsAt}
+use Rattle.image_explain.proofs.Entries.{index-wrong}
+use Rattle.image_explain.proofs.ObjectOrder.{object-wrong}
 use Rattle.image_explain.proofs.Stopping.{stop-wrong}
 
 -- ---- the class is the first that holds
@@ -112,14 +119,23 @@ and-false : (x y : Bool) → x ≡ true → (x && y) ≡ false → y ≡ false
 and-false true y e h = h
 and-false false y e h = absurd (true≢false (sym e))
 
-whole-class : (b : List ℕ) → class_of current b ≡ Some BadTag → IsWhole b
-whole-class b f =
+-- the classes from the sixth on
+abbrev later : List ImageClass
+later = BadTag ∷ BadFreeTree ∷ BadIndex ∷ BadObject ∷ SharedBlock ∷ BadContainer ∷ OrphanBlock ∷ []
+
+-- none of the first five holds, and the class is the first of the others that does
+record IsLater (b : List ℕ) (k : ImageClass) : Type 0 where
+  whole : IsWhole b
+  found : find (holds current b) later ≡ Some k
+
+later-class : (b : List ℕ) (k : ImageClass) → 6 ≤ number_of k → class_of current b ≡ Some k → IsLater b k
+later-class b k n f =
     let p = holds current b in
-    let late = BadIndex ∷ BadObject ∷ SharedBlock ∷ BadContainer ∷ OrphanBlock ∷ [] in
-    let one = past p Truncated BadTag (BadMagic ∷ UnsupportedVersion ∷ BadSize ∷ BadReserved ∷ BadTag ∷ BadFreeTree ∷ late) f (omega arith) in
-    let two = past p BadMagic BadTag (UnsupportedVersion ∷ BadSize ∷ BadReserved ∷ BadTag ∷ BadFreeTree ∷ late) one.1 (omega arith) in
-    let three = past p UnsupportedVersion BadTag (BadSize ∷ BadReserved ∷ BadTag ∷ BadFreeTree ∷ late) two.1 (omega arith) in
-    let four = past p BadSize BadTag (BadReserved ∷ BadTag ∷ BadFreeTree ∷ late) three.1 (omega arith) in
+    let one = past p Truncated k (BadMagic ∷ UnsupportedVersion ∷ BadSize ∷ BadReserved ∷ later) f (omega arith) in
+    let two = past p BadMagic k (UnsupportedVersion ∷ BadSize ∷ BadReserved ∷ later) one.1 (omega arith) in
+    let three = past p UnsupportedVersion k (BadSize ∷ BadReserved ∷ later) two.1 (omega arith) in
+    let four = past p BadSize k (BadReserved ∷ later) three.1 (omega arith) in
+    let five = past p BadReserved k later four.1 (omega arith) in
     let magic = not-false (has_magic b) two.0 in
     let version = not-false (has_version current b) three.0 in
     let size = and_parts (is_legal_size (size_word b)) (nat_le (length b) (size_word b)) (not-false (has_size b) four.0) in
@@ -127,7 +143,7 @@ whole-class b f =
     let least = (or_parts (nat_lt (length b) 144) (has_front current b && nat_lt (length b) (size_word b)) one.0).1 in
     let low = ltb-false (length b) (size_word b) (and-false (has_front current b) (nat_lt (length b) (size_word b)) front least) in
     let high = leb-true (length b) (size_word b) size.1 in
-    record { legal = size.0; size = omega arith }
+    record { whole = record { legal = size.0; size = omega arith }; found = five.1 }
 
 by-place : (b : List ℕ) (place : Option ℕ) → length b ≡ size_word b → MatchOption place (has_tags current (bytes_of b) (length b) ≡ true) (StopsAt current (bytes_of b) (length b)) → has_tags current (bytes_of b) (length b) ≡ false
     → IsShown b BadTag place
@@ -137,10 +153,75 @@ by-place b (Some at) size stops wrong = record { given = refl; shows = subst (λ
 pub tag-shown : (b : List ℕ) (place : Option ℕ) → (length b ≤ 2 ^ 30 → MatchOption place (has_tags current (bytes_of b) (length b) ≡ true) (StopsAt current (bytes_of b) (length b)))
     → class_of current b ≡ Some BadTag → IsShown b BadTag place
 tag-shown b place h f =
-    let whole = whole-class b f in
+    let whole = (later-class b BadTag (omega arith) f).whole in
     let high = (legal_size (size_word b) whole.legal).high in
     let size = whole.size in
     by-place b place size (h (omega arith)) (ap (has_tags current (bytes_of b)) size ∙ not-true (is_tiled current b) (holds-class b BadTag f))
+
+-- ---- the indexes and the objects
+
+-- the tags are right, and say the tiles by either size
+record IsTiled (b : List ℕ) : Type 0 where
+  tiles : HasTiles b
+  tiled : is_tiled current b ≡ true
+  same : tiles_in b ≡ said_tiles b
+
+tiled-class : (b : List ℕ) (k : ImageClass) → 7 ≤ number_of k → class_of current b ≡ Some k → IsTiled b
+tiled-class b k n f =
+    let l = later-class b k (omega arith) f in
+    let tiled = not-false (is_tiled current b) (past (holds current b) BadTag k (BadFreeTree ∷ BadIndex ∷ BadObject ∷ SharedBlock ∷ BadContainer ∷ OrphanBlock ∷ []) l.found (omega arith)).0 in
+    let size = l.whole.size in
+    record {
+      tiles = record { size = ap is_legal_size size ∙ l.whole.legal; tags = ap (has_tags current (bytes_of b)) size ∙ tiled };
+      tiled = tiled;
+      same = ap (tiles_of (bytes_of b)) size;
+    }
+
+-- an image of such a class has tags that are right
+pub has-tiles : (b : List ℕ) (k : ImageClass) → 7 ≤ number_of k → class_of current b ≡ Some k → HasTiles b
+has-tiles b k n f = (tiled-class b k n f).tiles
+
+-- a test of the tiles that fails in an image of a class
+fails-class : (b : List ℕ) (k : ImageClass) (test : List Tile → Bool) → IsTiled b → (is_tiled current b && not (test (said_tiles b))) ≡ true → test (tiles_in b) ≡ false
+fails-class b k test t h = ap test t.same ∙ not-true (test (said_tiles b)) (and_parts (is_tiled current b) (not (test (said_tiles b))) h).1
+
+pub index-shown : (b : List ℕ) (place : Option ℕ) → MatchOption place (has_indexes (bytes_of b) (tiles_in b) ≡ true) (IsWrongIndex (bytes_of b) (tiles_in b)) → class_of current b ≡ Some BadIndex
+    → IsShown b BadIndex place
+index-shown b None h f =
+    let t = tiled-class b BadIndex (omega arith) f in
+    absurd (true≢false (sym h ∙ fails-class b BadIndex (has_indexes (bytes_of b)) t (holds-class b BadIndex f)))
+index-shown b (Some at) h f =
+    let t = tiled-class b BadIndex (omega arith) f in
+    record { given = refl; shows = (t.tiled, subst (λ ts. IsWrongIndex (bytes_of b) ts at) t.same h) }
+
+-- an image of a class behind that of the indexes has indexes that are right
+pub has-indexes : (b : List ℕ) (k : ImageClass) → 9 ≤ number_of k → class_of current b ≡ Some k → has_indexes (bytes_of b) (tiles_in b) ≡ true
+has-indexes b k n f =
+    let p = holds current b in
+    let rest = BadObject ∷ SharedBlock ∷ BadContainer ∷ OrphanBlock ∷ [] in
+    let l = later-class b k (omega arith) f in
+    let t = tiled-class b k (omega arith) f in
+    let one = past p BadTag k (BadFreeTree ∷ BadIndex ∷ rest) l.found (omega arith) in
+    let two = past p BadFreeTree k (BadIndex ∷ rest) one.1 (omega arith) in
+    let three = past p BadIndex k rest two.1 (omega arith) in
+    ap (has_indexes (bytes_of b)) t.same ∙ not-false (has_indexes (bytes_of b) (said_tiles b)) (and-false (is_tiled current b) (not (has_indexes (bytes_of b) (said_tiles b))) t.tiled three.0)
+
+pub object-shown : (b : List ℕ) (place : Option ℕ)
+    → (has_indexes (bytes_of b) (tiles_in b) ≡ true → MatchOption place (has_objects current (bytes_of b) (tiles_in b) ≡ true) (IsWrongObject current (bytes_of b) (tiles_in b)))
+    → class_of current b ≡ Some BadObject → IsShown b BadObject place
+object-shown b place h f = by-place place (h (has-indexes b BadObject (omega arith) f))
+  where
+    by-place : (place : Option ℕ) → MatchOption place (has_objects current (bytes_of b) (tiles_in b) ≡ true) (IsWrongObject current (bytes_of b) (tiles_in b)) → IsShown b BadObject place
+    by-place None h =
+        let t = tiled-class b BadObject (omega arith) f in
+        absurd (true≢false (sym h ∙ fails-class b BadObject (has_objects current (bytes_of b)) t (holds-class b BadObject f)))
+    by-place (Some at) h =
+        let t = tiled-class b BadObject (omega arith) f in
+        record { given = refl; shows = (t.tiled, subst (λ ts. IsWrongObject current (bytes_of b) ts at) t.same h) }
+
+-- a class whose place is never said
+pub none-shown : (b : List ℕ) (k : ImageClass) → has_place k ≡ false → IsShown b k None
+none-shown b k h = record { given = sym h; shows = tt }
 
 -- what is so of one class, said of a class that is that one
 pub at-class : (b : List ℕ) (class k : ImageClass) (place : Option ℕ) → class ≡ k → (class_of current b ≡ Some k → IsShown b k place) → class_of current b ≡ Some class → IsShown b class place
@@ -185,8 +266,8 @@ places_show b BadSize at h = ap not h.1
 places_show b BadReserved at h = ap not (not-reserved b at h)
 places_show b BadTag at h = ap not (stop-wrong current (bytes_of b) (size_word b) at h)
 places_show b BadFreeTree at h = h.1
-places_show b BadIndex at h = absurd h
-places_show b BadObject at h = absurd h
+places_show b BadIndex at h = and_from (is_tiled current b) (not (has_indexes (bytes_of b) (said_tiles b))) h.0 (ap not (index-wrong (bytes_of b) (said_tiles b) at h.1))
+places_show b BadObject at h = and_from (is_tiled current b) (not (has_objects current (bytes_of b) (said_tiles b))) h.0 (ap not (object-wrong current (bytes_of b) (said_tiles b) at h.1))
 places_show b SharedBlock at h = absurd h
 places_show b BadContainer at h = absurd h
 places_show b OrphanBlock at h = absurd h

@@ -22,12 +22,12 @@ merged-all (t ∷ ts) = refl
 
 -- ---- tiles that are read off
 
-tiles-none : (more : ℕ) (m : Memory) (at end : ℕ) → end ≤ at → tiles_from more m at end ≡ []
+pub tiles-none : (more : ℕ) (m : Memory) (at end : ℕ) → end ≤ at → tiles_from more m at end ≡ []
 tiles-none zero m at end h = refl
 tiles-none (suc more) m at end h =
     ap (λ (c : Bool). elim c [ false ↦ [] | true ↦ tile_at m at ∷ tiles_from more m (at + (tile_at m at).len) end ]) (le-ltb at end h)
 
-tiles-some : (more : ℕ) (m : Memory) (at end : ℕ) → at < end → tiles_from (suc more) m at end ≡ tile_at m at ∷ tiles_from more m (at + (tile_at m at).len) end
+pub tiles-some : (more : ℕ) (m : Memory) (at end : ℕ) → at < end → tiles_from (suc more) m at end ≡ tile_at m at ∷ tiles_from more m (at + (tile_at m at).len) end
 tiles-some more m at end h =
     ap (λ (c : Bool). elim c [ false ↦ [] | true ↦ tile_at m at ∷ tiles_from more m (at + (tile_at m at).len) end ]) (lt-ltb at end h)
 
@@ -41,7 +41,7 @@ record IsRight (format : ℕ) (m : Memory) (end at before : ℕ) (free : Bool) :
   inside : at + (tile_at m at).len ≤ end
   merged : not (free && is_free (tile_at m at)) ≡ true
 
-tile-long : (format : ℕ) (t : Tile) → is_tile format t ≡ true → 32 ≤ t.len
+pub tile-long : (format : ℕ) (t : Tile) → is_tile format t ≡ true → 32 ≤ t.len
 tile-long format t h =
     let two = and_parts (nat_le 32 t.len && (t.len % 16 == 0)) (not t.red || may_be_red format t.use_of) h in
     leb-true 32 t.len (and_parts (nat_le 32 t.len) (t.len % 16 == 0) two.0).0
@@ -107,7 +107,7 @@ record Stand (format : ℕ) (m : Memory) (end at before : ℕ) (free : Bool) : T
   tags : are_tags format m at before (tiles_from more m at end) end ≡ true
   merged : is_merged_behind free (tiles_from more m at end) ≡ true
 
-tags-reach : (format : ℕ) (m : Memory) (at before : ℕ) (ts : List Tile) (end : ℕ) → are_tags format m at before ts end ≡ true → at ≤ end
+pub tags-reach : (format : ℕ) (m : Memory) (at before : ℕ) (ts : List Tile) (end : ℕ) → are_tags format m at before ts end ≡ true → at ≤ end
 tags-reach format m at before [] end h =
     let two = and_parts ((at == end) && (word_at m at == before)) (word_at m (at + 8) == 1) h in
     let e = eqb-true at end (and_parts (at == end) (word_at m at == before) two.0).0 in

@@ -1,14 +1,20 @@
 //! Why an image is refused, and the place that shows it.
-ghost use Rattle.std.specs.Prelude.{◌≡◌, ◌≤◌, ◌^◌, ◌⊎◌, codes, length, true, Some, MatchOption};
+ghost use Rattle.std.specs.Prelude.{◌≡◌, ◌≤◌, ◌^◌, ◌⊎◌, codes, length, true, Some, MatchBool, MatchOption};
 ghost use Rattle.raw_region.specs.Format.{current};
 ghost use Rattle.raw_region.specs.Memory.{AreZero, bytes_of};
 ghost use Rattle.block_tags.specs.Tiles.{has_tags};
 ghost use Rattle.image_check.specs.Classes.{class_of};
 ghost use Rattle.image_check.specs.EarlyTests.{has_magic, has_reserved};
+ghost use Rattle.image_check.specs.ObjectTests.{has_indexes, has_objects};
+ghost use Rattle.image_check.specs.Passes.{HasTiles, tiles_in};
 ghost use Rattle.image_explain.specs.Explains.{Explains, IsShown, words_of};
+ghost use Rattle.image_explain.specs.IndexPlaces.{IsWrongIndex};
+ghost use Rattle.image_explain.specs.ObjectPlaces.{IsWrongObject};
 ghost use Rattle.image_explain.specs.Shows.{IsFirstFilled, IsFirstOther, shown_size};
 ghost use Rattle.image_explain.specs.WrongTags.{StopsAt};
 
+use crate::indexes::index_place;
+use crate::objects::object_place;
 use crate::tags::wrong_tag;
 use block_tags::is_legal_size;
 use image_check::ImageClass;
@@ -44,7 +50,7 @@ const MAGIC: &[u8; 8] = b"MSEGFILE";
 /// Why an image of a class is refused, and the place that shows it. That is for the bytes that were found to have the class:
 /// where they have another one, the place says nothing.
 ///
-/// A place is said of the classes before the eighth; of the others only the words are.
+/// A place is said of the classes before the tenth; of the others only the words are.
 pub fn explain(image: &[u8], class: ImageClass) -> Explanation
     ensures { Explains image.now class result }
 {
@@ -69,11 +75,9 @@ fn place_of(image: &[u8], class: ImageClass) -> Option<u64>
         ImageClass::BadReserved => reserved_place(image),
         ImageClass::BadTag => tag_place(image),
         ImageClass::BadFreeTree => Some(FREE_TREE_AT),
-        ImageClass::BadIndex
-        | ImageClass::BadObject
-        | ImageClass::SharedBlock
-        | ImageClass::BadContainer
-        | ImageClass::OrphanBlock => None,
+        ImageClass::BadIndex => shown_index(image),
+        ImageClass::BadObject => shown_object(image),
+        ImageClass::SharedBlock | ImageClass::BadContainer | ImageClass::OrphanBlock => None,
     }
 }
 
@@ -132,6 +136,43 @@ fn tag_place(image: &[u8]) -> Option<u64>
         return None;
     }
     wrong_tag(image)
+}
+
+/// The word or entry of an index that is wrong, or nothing where the tags are.
+fn shown_index(image: &[u8]) -> Option<u64>
+    requires { 144 ≤ length image.now }
+    ensures { HasTiles image.now → MatchOption result (has_indexes (bytes_of image.now) (tiles_in image.now) ≡ true) (IsWrongIndex (bytes_of image.now) (tiles_in image.now)) }
+{
+    if !has_tiles(image) {
+        return None;
+    }
+    index_place(image)
+}
+
+/// The object or entry of an index that is wrong, or nothing where the tags or the indexes are.
+fn shown_object(image: &[u8]) -> Option<u64>
+    requires { 144 ≤ length image.now }
+    ensures { HasTiles image.now → has_indexes (bytes_of image.now) (tiles_in image.now) ≡ true
+        → MatchOption result (has_objects current (bytes_of image.now) (tiles_in image.now) ≡ true) (IsWrongObject current (bytes_of image.now) (tiles_in image.now)) }
+{
+    if !has_tiles(image) {
+        return None;
+    }
+    object_place(image)
+}
+
+/// Whether an image has a legal size, and all its tags are right.
+fn has_tiles(image: &[u8]) -> bool
+    requires { 144 ≤ length image.now }
+    ensures { MatchBool result (HasTiles image.now) (HasTiles image.now → ⊥) }
+{
+    if !is_legal_size(image.len() as u64) {
+        return false;
+    }
+    match wrong_tag(image) {
+        Some(_) => false,
+        None => true,
+    }
 }
 
 /// Why an image of a class is refused.

@@ -1,7 +1,11 @@
 //! Why an image is refused, and the place in it that shows it.
 #![tactic(auto)]
 
+mod blocks;
 mod explaining;
+mod heads;
+mod indexes;
+mod objects;
 mod tags;
 pub mod theorems;
 

@@ -100,7 +100,7 @@ fn is_end(image: &[u8], place: Place) -> bool
 }
 
 /// The tile that the tag at an offset says.
-fn tile_at(image: &[u8], at: u64) -> Tile
+pub fn tile_at(image: &[u8], at: u64) -> Tile
     requires most { length image.now ≤ 2 ^ 30 }
     requires inside { at + 16 ≤ length image.now }
     ensures { result ≡ tile_at (bytes_of image.now) at }

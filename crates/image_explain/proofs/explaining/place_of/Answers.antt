@@ -1,6 +1,6 @@
-use Rattle.std.proofs.Common.{Some, length}
-use Rattle.image_check.specs.declared.classes.ImageClass.TheVariants.{Truncated, BadMagic, UnsupportedVersion, BadSize, BadReserved, BadTag, BadFreeTree}
-use Rattle.image_explain.proofs.Places.{at-class, magic-shown, reserved-shown, size-shown, tag-shown, tree-shown, truncated-shown, version-shown}
+use Rattle.std.proofs.Common.{Some, length, arith}
+use Rattle.image_check.specs.declared.classes.ImageClass.TheVariants.{Truncated, BadMagic, UnsupportedVersion, BadSize, BadReserved, BadTag, BadFreeTree, BadIndex, BadObject}
+use Rattle.image_explain.proofs.Places.{at-class, has-tiles, index-shown, magic-shown, object-shown, reserved-shown, size-shown, tag-shown, tree-shown, truncated-shown, version-shown}
 use Rattle.image_explain.proofs.explaining.place_of.Goals as goal
 
 pub returns-in-BadMagic : goal.returns-in-BadMagic
@@ -37,3 +37,13 @@ pub returns-in-BadFreeTree : goal.returns-in-BadFreeTree
 returns-in-BadFreeTree c =
     let b = c.args.image.now in
     at-class b c.args.class BadFreeTree (Some 24) c.in-BadFreeTree.is (tree-shown b)
+
+pub returns-in-BadIndex : goal.returns-in-BadIndex
+returns-in-BadIndex c =
+    let b = c.args.image.now in
+    at-class b c.args.class BadIndex c.shown_index.result c.in-BadIndex.is (λ f. index-shown b c.shown_index.result (c.shown_index.ensures (has-tiles b BadIndex (omega arith) f)) f)
+
+pub returns-in-BadObject : goal.returns-in-BadObject
+returns-in-BadObject c =
+    let b = c.args.image.now in
+    at-class b c.args.class BadObject c.shown_object.result c.in-BadObject.is (λ f. object-shown b c.shown_object.result (c.shown_object.ensures (has-tiles b BadObject (omega arith) f)) f)

@@ -1,0 +1,34 @@
+-- The place that shows that an object is wrong, or the order of an index.
+use Rattle.std.specs.Prelude.{◌≡◌, ◌<◌, ◌⊎◌, ℕ, zero, suc, ◌+◌, ◌*◌, Bool, false, not, Option, Some, None, List, find}
+use Rattle.raw_region.specs.Memory.{Memory, word_at}
+use Rattle.offset_link.specs.Link.{link_at}
+use Rattle.block_tags.specs.declared.tile.Tile.{Tile}
+use Rattle.image_check.specs.ObjectPasses.{follows, is_right_tile}
+use Rattle.image_check.specs.ObjectTests.{payload}
+
+-- the payload of the first tile that passes a test begins at a place
+pub record IsFirstTile (test : Tile → Bool) (ts : List Tile) (place : ℕ) : Type 0 where
+  pub tile : Tile
+  pub is : find test ts ≡ Some tile
+  pub at : place ≡ payload tile
+
+-- the link in the place before one of a block, if there is one
+abbrev pub link_before : Memory → ℕ → ℕ → Option ℕ
+link_before m block zero = None
+link_before m block (suc number) = link_at m (block + 8 * number)
+
+-- the entry at a place of the index at an offset leads to an object of another class than the index has, or of one whose key does not stand
+-- behind that of the object to which the entry before it leads
+pub record IsMisplaced (class : ℕ) (m : Memory) (at place : ℕ) : Type 0 where
+  pub block : ℕ
+  pub number : ℕ
+  pub link : link_at m at ≡ Some block
+  pub inside : number < word_at m (at + 8)
+  pub is : place ≡ block + 8 * number
+  pub here : ℕ
+  pub leads : link_at m place ≡ Some here
+  pub wrong : follows class m (link_before m block number) here ≡ false
+
+-- the first object that is wrong by itself or has no entry in the index of its class; or else an entry out of order
+abbrev pub IsWrongObject : ℕ → Memory → List Tile → ℕ → Type 0
+IsWrongObject format m ts place = IsFirstTile (λ t. not (is_right_tile format m t)) ts place ⊎ (IsMisplaced 1 m 32 place ⊎ IsMisplaced 2 m 56 place)

@@ -1,7 +1,7 @@
 //! Segments that are dumped and loaded.
 
+use memory_devices::{Last, MemorySink};
 use raw_region::RawRegion;
-use raw_region::fake::{Last, MemorySink};
 use segment_dump::{LoadError, LoadRefused, dump, load};
 use segment_manager::{Mode, Segment};
 use std::alloc::Global;

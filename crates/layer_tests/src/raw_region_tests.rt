@@ -2,7 +2,7 @@ ghost use Rattle.std.specs.Prelude.{◌≡◌, length};
 ghost use Rattle.std.specs.Result.{IfOk};
 
 use crate::checks::{holds, same};
-use raw_region::fake::{Last, MemorySink, MemorySource};
+use memory_devices::{Last, MemorySink, MemorySource};
 use raw_region::stream::{Reading, Writing};
 use raw_region::{
     OutOfMemory, RawRegion, Sink, Source, Span, Steps, Window, apart, fill, set_word_in, two_mut,

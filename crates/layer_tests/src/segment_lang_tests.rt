@@ -3,7 +3,7 @@
 ghost use Rattle.std.specs.Prelude.{◌≡◌};
 
 use crate::checks::{holds, same};
-use raw_region::fake::{Last, MemorySink};
+use memory_devices::{Last, MemorySink};
 use seg_types::{IndexKey, Key, Kind, Name, NewKey, ScalarKind, ScalarValue};
 use segment_lang::{
     Command, Content, LineError, Literal, Reading, Text, Word, literal_of, next_word, number_of,

@@ -2,7 +2,7 @@
 use crate::checks::same;
 use crate::segments::{named, new_named};
 use image_check::open;
-use raw_region::fake::{Last, MemorySource};
+use memory_devices::{Last, MemorySource};
 use raw_region::{RawRegion, Steps};
 use segment_manager::{Mode, Segment};
 use std::alloc::Global;

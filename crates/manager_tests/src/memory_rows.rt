@@ -5,7 +5,7 @@
 use crate::checks::{holds, same};
 use crate::segments::{named, new_named};
 use image_check::{ImageClass, OpenError, OpenRefused, open, open_any};
-use raw_region::fake::{Last, MemorySource};
+use memory_devices::{Last, MemorySource};
 use raw_region::{RawRegion, Steps};
 use segment_manager::{Mode, Segment};
 use std::alloc::Global;

@@ -5,7 +5,7 @@ use crate::checks::{holds, same};
 use crate::regions::{are_sevens, region_of_sevens};
 use crate::segments::fresh;
 use image_check::{ImageClass, OpenError, open, open_bytes};
-use raw_region::fake::{Last, MemorySource};
+use memory_devices::{Last, MemorySource};
 use raw_region::{RawRegion, Steps};
 use seg_types::Refusal;
 use segment_manager::{CreateError, Mode, Segment};

@@ -8,7 +8,7 @@ ghost use Rattle.segment_manager.specs.NewObjects.{IsOfKind};
 use crate::bench::Bench;
 use crate::checks::same;
 use image_check::open;
-use raw_region::fake::{Last, MemorySource};
+use memory_devices::{Last, MemorySource};
 use raw_region::{RawRegion, Steps};
 use seg_types::{Handle, IndexKey, Key, Name, NewKey};
 use segment_manager::conditioned::{named_at, unique_at};

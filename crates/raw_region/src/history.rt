@@ -4,9 +4,9 @@ ghost use base.Fml.{ftrue};
 
 use std::marker::Model;
 
-/// The bytes that went by, and a count.
+/// The bytes that went by, and a count: what a `Source` or a `Sink` of one's own keeps to say what it did so far.
 #[derive(Drop)]
-pub(crate) struct History {
+pub struct History {
     ghost bytes: { List ℕ },
     ghost count: { ℕ },
 }
@@ -16,13 +16,15 @@ impl Model for History {
 }
 
 impl History {
-    pub(crate) fn new() -> History
+    /// Nothing went by yet.
+    pub fn new() -> History
         ensures { (result.bytes ≡ []) × (result.count ≡ 0) }
     {
         History {}
     }
 
-    pub(crate) fn record(&mut self, bytes: &[u8], count: u64)
+    /// These bytes went by, and the count rises by as much.
+    pub fn record(&mut self, bytes: &[u8], count: u64)
         ensures { (self.new.bytes ≡ self.old.bytes ++ bytes.now) × (self.new.count ≡ self.old.count + count) }
     {}
 }

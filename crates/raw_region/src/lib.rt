@@ -3,7 +3,6 @@
 
 mod block;
 pub mod device;
-pub mod fake;
 mod history;
 mod region;
 mod slices;
@@ -13,6 +12,7 @@ pub mod stream;
 mod window;
 
 pub use device::{DeviceFault, Sink, Source, fill, write_all};
+pub use history::History;
 pub use region::{OutOfMemory, RawRegion, Span, apart, two_mut};
 pub use slices::{set_word_in, word_in};
 pub use snapshot::Snapshot;

@@ -3,7 +3,7 @@ ghost use Rattle.std.specs.Prelude.{◌≡◌, ◌%◌};
 
 use crate::segments::{base_of, region_of};
 use image_check::open;
-use raw_region::fake::{Last, MemorySink, MemorySource};
+use memory_devices::{Last, MemorySink, MemorySource};
 use raw_region::{RawRegion, Steps};
 use rows_trials::{MARK, Moved, Place, Script, copy_of};
 use segment_cli::{Start, run};

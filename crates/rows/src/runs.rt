@@ -2,7 +2,7 @@
 ghost use Rattle.std.specs.Prelude.{◌≡◌, ◌+◌, ◌/◌, ◌%◌, ◌∷◌, [], ℕ, min, length, take};
 ghost use Rattle.std.proofs.Common.{ap, arith, length-take};
 
-use raw_region::fake::{Last, MemorySink, MemorySource};
+use memory_devices::{Last, MemorySink, MemorySource};
 use raw_region::{DeviceFault, RawRegion, Sink, write_all};
 use segment_cli::{Machine, RunFault, Scratch, run};
 use segment_manager::{Mode, Segment};

@@ -3,8 +3,8 @@ ghost use Rattle.std.specs.Prelude.{◌≡◌, ◌%◌};
 
 use crate::among::{begun, marked, moved};
 use crate::names::{fault_name, mode_of, start_of};
+use memory_devices::{MemorySink, MemorySource};
 use raw_region::RawRegion;
-use raw_region::fake::{MemorySink, MemorySource};
 use rows_trials::{Call, Moved, Outcome, Place, Runner, Script, Way};
 use segment_cli::{SessionFault, Start, migrate, session};
 use segment_manager::Mode;

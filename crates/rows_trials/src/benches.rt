@@ -4,8 +4,8 @@ use crate::checks::Wanted;
 use crate::scripts::Script;
 use crate::tasks::{Outcome, Place, Start, Way};
 use crate::troubles::Trouble;
+use memory_devices::MemorySink;
 use raw_region::RawRegion;
-use raw_region::fake::MemorySink;
 use std::alloc::{AllocError, Global};
 use std::cell::Cell;
 

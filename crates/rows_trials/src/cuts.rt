@@ -6,7 +6,7 @@ use crate::images::{copy_of, size_said};
 use crate::scripts::Script;
 use crate::tasks::{Place, Way};
 use crate::troubles::Trouble;
-use raw_region::fake::Last;
+use memory_devices::Last;
 use std::alloc::{AllocError, Global};
 
 /// What a full writer does.

@@ -2,7 +2,7 @@
 
 use crate::images::copy_of;
 use crate::troubles::Trouble;
-use raw_region::fake::{Last, MemorySink};
+use memory_devices::{Last, MemorySink};
 use std::alloc::Global;
 
 /// Where a segment lies: the capacity of its region, and its base. It may be too small for it.

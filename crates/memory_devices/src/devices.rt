@@ -1,10 +1,8 @@
-//! Readers and writers in memory, for tests: they give or take a few bytes at a time, and fail where
-//! they are told to.
+//! Readers and writers in memory: they give or take a few bytes at a time, and fail where they are told to.
 ghost use Rattle.std.specs.Prelude.{◌≡◌, ◌<◌, [], false, IfOk, vec_len};
 ghost use Rattle.raw_region.specs.Device.{Gave, Took};
 
-use crate::device::{DeviceFault, Sink, Source};
-use crate::history::History;
+use raw_region::{DeviceFault, History, Sink, Source};
 use std::alloc::{AllocError, Global};
 use std::marker::Model;
 

@@ -1,0 +1,6 @@
+//! A part of the tests: readers and writers in memory.
+#![tactic(auto)]
+
+mod devices;
+
+pub use devices::{Last, MemorySink, MemorySource};

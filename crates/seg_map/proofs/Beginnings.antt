@@ -3,6 +3,7 @@ use Rattle.std.proofs.Common.{◌≡◌, sym, ap, ◌∙◌, ℕ, inl, inr, Bool
 use Rattle.std.specs.Prelude.{Option, Some, None, IfSome}
 use Rattle.std.proofs.lemmas.Bool.{cases_Bool, eqb-true, false≢true, or_cases, true≢false, false_from_ne_true}
 use Rattle.link_tree.specs.Nodes.{is_in}
+use Rattle.seg_map.specs.PairLaws.{Chains, IsStrict}
 use Rattle.seg_map.specs.Map.{Pair, pair_at}
 use Rattle.seg_map.specs.Places.{nodes_of_pairs, pair_node}
 use Rattle.seg_map.specs.PairNodes.{before_key, comes_before, stands, stands_before}
@@ -40,8 +41,7 @@ keys_agree f g (p ∷ ps) k j m i =
       | inr e ↦ keys_agree f g ps k.1 j.1 m e
     ]
 
-module _ {K : Type 0} (less : K → K → Bool) (irreflexive : (x : K) → less x x ≡ false) (transitive : (x y z : K)
-    → less x y ≡ true → less y z ≡ true → less x z ≡ true) where
+module _ {K : Type 0} (less : K → K → Bool) (irreflexive : IsStrict less) (transitive : Chains less) where
   -- of two keys of which one is below the other, one is not
   one_side : (x y : K) → not (less x y || less y x) ≡ false → less y x ≡ not (less x y)
   one_side x y e =

@@ -17,6 +17,7 @@ use Rattle.best_fit.specs.FreeTree.{cells_of}
 use Rattle.best_fit.specs.Heap.{LaysOut, extent_at, live_of}
 use Rattle.best_fit.proofs.Laws.{AllByRecursion-others, found-less, lay_out_one, live-rises}
 use Rattle.seg_types.specs.declared.plain.Plain.{Ghosts as Plain}
+use Rattle.seg_map.specs.PairLaws.{Chains, IsStrict}
 use Rattle.seg_map.specs.Map.{Pair, is_key, is_rising, pair_at, remove_pair}
 use Rattle.seg_map.specs.Places.{HoldsMap, nodes_of_pairs, pair_node}
 use Rattle.seg_map.specs.Changing.{IsBesideMap, IsErased, IsGivenUp}
@@ -63,7 +64,7 @@ module _ {K V : Type 0} (less : K → K → Bool) where
       ]
 
   -- each pair is the one of its key
-  own_found : ((x : K) → less x x ≡ false) → ((x y z : K) → less x y ≡ true → less y z ≡ true → less x z ≡ true) → (qs : List (Pair K V)) → is_rising less qs ≡ true → AllByRecursion (λ (q : Pair K V). pair_at less qs q.key ≡ Some q) qs
+  own_found : IsStrict less → Chains less → (qs : List (Pair K V)) → is_rising less qs ≡ true → AllByRecursion (λ (q : Pair K V). pair_at less qs q.key ≡ Some q) qs
   own_found strict on [] r = tt
   own_found strict on (q ∷ qs) r = (
     rw (strict q.key) refl,
@@ -185,7 +186,7 @@ module _ {K V : Type 0} {k : Plain K} {v : Plain V} (kl : Laws k) {old now : Cut
 
   module _ {new : Cut} {key : K} {p : Pair K V} (has : pair_at k.order g.pairs key ≡ Some p) (e : IsErased k v now new h at g.pairs p key) where
     live_new : live_of new.bytes ≡ released (live_of now.bytes) (handle p.node)
-    live_new = lay_out_one current new.bytes (released (live_of now.bytes) (handle p.node)) e.live
+    live_new = lay_out_one _ _ _ e.live
 
     off : (x : Extent) → is_in (handle x) (nodes_of_pairs ps) ≡ false → is_in (handle x) (nodes_of_pairs g.pairs) ≡ false
     off x o = elim (cases_Bool (is_in (handle x) (nodes_of_pairs g.pairs))) [ inl t ↦ absurd (both_ways (is_in (handle x) (nodes_of_pairs ps)) o (g.among (handle x) t)) | inr f ↦ f ]
@@ -205,9 +206,9 @@ module _ {K V : Type 0} {k : Plain K} {v : Plain V} (kl : Laws k) {old now : Cut
           holds = e.map;
           among = λ m i. g.among m (fewer_nodes m i);
           beside = record {
-            place = SamePlace-trans old now new g.beside.place e.beside.place;
-            front = Same-trans (bytes_of old.bytes) (bytes_of now.bytes) (bytes_of new.bytes) 0 24 g.beside.front e.beside.front;
-            behind = Same-trans (bytes_of old.bytes) (bytes_of now.bytes) (bytes_of new.bytes) 32 128 g.beside.behind e.beside.behind;
+            place = SamePlace-trans _ _ _ g.beside.place e.beside.place;
+            front = Same-trans _ _ _ _ _ g.beside.front e.beside.front;
+            behind = Same-trans _ _ _ _ _ g.beside.behind e.beside.behind;
             blocks = λ x f o.
                 let a = g.beside.blocks x f o in let b = e.beside.blocks x (g.there x f o) (off x o) in
                 record { payload = λ n low high z. b.payload n low high z ∙ a.payload n low high z; colour = b.colour ∙ a.colour };

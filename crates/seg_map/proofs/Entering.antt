@@ -23,7 +23,7 @@ use Rattle.seg_types.proofs.Laws.{value-spelled}
 use Rattle.seg_map.specs.Map.{Pair, IsPairAt, is_rising}
 use Rattle.seg_map.specs.Places.{HoldsMap, IsPairIn, final_pair, first_pair, is_passed, last_pair, nodes_of_pairs, pair_node}
 use Rattle.seg_map.specs.PairNodes.{before_key, comes_before, stands, is_block_in, is_pair_node, key_at, key_of, links_among, own_nodes, nodes_in, pair_cells, stands_before}
-use Rattle.seg_map.specs.PairLaws.{Good, In, PairNode-is_pair_node, cells_at, comes_irreflexive, comes_transitive, node_block, few_extents, handles_length, in_handles}
+use Rattle.seg_map.specs.PairLaws.{Chains, IsStrict, Good, In, PairNode-is_pair_node, cells_at, comes_irreflexive, comes_transitive, node_block, few_extents, handles_length, in_handles}
 use Rattle.seg_map.proofs.FoundLists.{all_reversed, find_mapped, last_mapped, map_reversed}
 use Rattle.seg_map.proofs.PairSteps.{all_in, any_at, in_others}
 
@@ -31,13 +31,12 @@ use Rattle.seg_map.proofs.PairSteps.{all_in, any_at, in_others}
 pub record Laws {T : Type 0} (p : Plain T) : Type 0 where
   pub spells : (x : T) → p.is_value x ≡ true → length (p.spelling x) ≡ p.SIZE
   pub reads : (x : T) → p.is_value x ≡ true → p.reading (p.spelling x) ≡ Some x
-  pub irreflexive : (x : T) → p.order x x ≡ false
-  pub transitive : (x y z : T) → p.order x y ≡ true → p.order y z ≡ true → p.order x z ≡ true
+  pub irreflexive : IsStrict p.order
+  pub transitive : Chains p.order
 
 -- the same of those that a trait bound has
 pub laws_of : {T : Type 0} (p : Plain T) → ((x : T) → p.is_value x ≡ true → length (p.spelling x) ≡ p.SIZE)
-    → ((x : T) → p.is_value x ≡ true → p.reading (p.spelling x) ≡ Some x) → ((x : T) → p.order x x ≡ false)
-    → ((x y z : T) → p.order x y ≡ true → p.order y z ≡ true → p.order x z ≡ true) → Laws p
+    → ((x : T) → p.is_value x ≡ true → p.reading (p.spelling x) ≡ Some x) → IsStrict p.order → Chains p.order → Laws p
 laws_of p spells reads irreflexive transitive =
     record { spells = spells; reads = reads; irreflexive = irreflexive; transitive = transitive }
 
@@ -101,7 +100,7 @@ abbrev pub HaveKeys : {K V : Type 0} → (ℕ → Option K) → List (Pair K V) 
 HaveKeys {K} {V} keys ps = AllByRecursion (λ (p : Pair K V). keys (pair_node p) ≡ Some p.key) ps
 
 module _ {K V : Type 0} (less : K → K → Bool) where
-  pub rising_nodes : ((x y z : K) → less x y ≡ true → less y z ≡ true → less x z ≡ true) → (keys : ℕ → Option K) (ps : List (Pair K V)) → HaveKeys keys ps → is_rising less ps ≡ true
+  pub rising_nodes : Chains less → (keys : ℕ → Option K) (ps : List (Pair K V)) → HaveKeys keys ps → is_rising less ps ≡ true
       → rises (comes_before less keys) (nodes_of_pairs ps) ≡ true
   rising_nodes on keys [] k r = refl
   rising_nodes on keys (p ∷ []) k r = refl

@@ -2,6 +2,7 @@
 use Rattle.std.proofs.Common.{◌≡◌, refl, ap, inl, inr, Bool, true, false, ◌||◌, not, List, [], ◌∷◌}
 use Rattle.std.specs.Prelude.{Option, Some, None, if◌then◌else◌}
 use Rattle.std.proofs.lemmas.Bool.{and_parts, cases_Bool}
+use Rattle.seg_map.specs.PairLaws.{Chains}
 use Rattle.seg_map.specs.Map.{Pair, is_rising, pair_at}
 use Rattle.seg_map.specs.Places.{first_pair}
 
@@ -14,7 +15,7 @@ abbrev pub by_key : {K V : Type 0} → (K → K → Bool) → K → Option (Pair
 by_key less key None = None
 by_key less key (Some p) = if less key p.key then None else Some p
 
-module _ {K V : Type 0} (less : K → K → Bool) (on : (x y z : K) → less x y ≡ true → less y z ≡ true → less x z ≡ true) where
+module _ {K V : Type 0} (less : K → K → Bool) (on : Chains less) where
   pub none_above : (key : K) (q : Pair K V) (qs : List (Pair K V)) → is_rising less (q ∷ qs) ≡ true → less key q.key ≡ true
       → pair_at less qs key ≡ None
   none_above key q [] r l = refl

@@ -16,21 +16,21 @@ module _ {a b c d : Cut} {at : ℕ} {root : Option ℕ} {count : ℕ} (first : I
     (second : IsChanged current b c (at + 8) 8) (counted : word_at (bytes_of c.bytes) (at + 8) ≡ count)
     (third : IsChanged current c d (at + 16) 8) (zero : word_at (bytes_of d.bytes) (at + 16) ≡ 0) where
   live_d : live_of c.bytes ≡ live_of a.bytes
-  live_d = changed-live current b c (at + 8) 8 second ∙ changed-live current a b at 8 first
+  live_d = changed-live _ _ _ _ _ second ∙ changed-live _ _ _ _ _ first
 
   pub headed : IsHeaded a d at root count
   headed =
-      let p = SameBut-wider (bytes_of a.bytes) (bytes_of b.bytes) at 8 at 24 first.rest (omega arith) (omega arith) in
-      let q = SameBut-wider (bytes_of b.bytes) (bytes_of c.bytes) (at + 8) 8 at 24 second.rest (omega arith) (omega arith) in
-      let r = SameBut-wider (bytes_of c.bytes) (bytes_of d.bytes) (at + 16) 8 at 24 third.rest (omega arith) (omega arith) in
+      let p = SameBut-wider _ _ _ _ at 24 first.rest (omega arith) (omega arith) in
+      let q = SameBut-wider _ _ _ _ at 24 second.rest (omega arith) (omega arith) in
+      let r = SameBut-wider _ _ _ _ at 24 third.rest (omega arith) (omega arith) in
       record {
         change = record {
-          place = SamePlace-trans a b d first.place (SamePlace-trans b c d second.place third.place);
+          place = SamePlace-trans _ _ _ first.place (SamePlace-trans _ _ _ second.place third.place);
           live = subst (LaysOut current d.bytes) live_d third.live;
-          rest = SameBut-trans (bytes_of a.bytes) (bytes_of b.bytes) (bytes_of d.bytes) at 24 p (SameBut-trans (bytes_of b.bytes) (bytes_of c.bytes) (bytes_of d.bytes) at 24 q r);
+          rest = SameBut-trans _ _ _ _ _ p (SameBut-trans _ _ _ _ _ q r);
         };
-        link = SameBut-link (bytes_of c.bytes) (bytes_of d.bytes) (at + 16) 8 at third.rest (inl (omega arith)) ∙ SameBut-link (bytes_of b.bytes) (bytes_of c.bytes) (at + 8) 8 at second.rest (inl (omega arith)) ∙ link;
-        counted = SameBut-word (bytes_of c.bytes) (bytes_of d.bytes) (at + 16) 8 (at + 8) third.rest (inl (omega arith)) ∙ counted;
+        link = SameBut-link _ _ _ _ at third.rest (inl (omega arith)) ∙ SameBut-link _ _ _ _ at second.rest (inl (omega arith)) ∙ link;
+        counted = SameBut-word _ _ _ _ (at + 8) third.rest (inl (omega arith)) ∙ counted;
         third = zero;
       }
 
@@ -40,7 +40,7 @@ is_new {K} {V} k v {a} {d} h at whole room w =
     record {
       change = w.change;
       map = record {
-        heap = laid-heap d.bytes (live_of a.bytes) w.change.live;
+        heap = laid-heap _ _ w.change.live;
         map = record {
           count = w.counted;
           third = w.third;
@@ -48,7 +48,7 @@ is_new {K} {V} k v {a} {d} h at whole room w =
           pairs = tt;
         };
         aligned = whole;
-        room = rw (changed-live current a d (h + at) 24 w.change) room;
+        room = rw (changed-live _ _ _ _ _ w.change) room;
         rising = refl;
         pairs = tt;
       };

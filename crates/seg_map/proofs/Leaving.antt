@@ -118,7 +118,7 @@ module _ {K V : Type 0} {kp : Plain K} {vp : Plain V} (kl : Laws kp) (vl : Laws 
     (has : pair_at kp.order ps key ≡ Some p) {node : ℕ} (here : pair_node p ≡ node) (t : IsTaken kp vp c e h at ps key)
     (r : IsReleased current e f node) where
   live_is : live_of e.bytes ≡ live_of c.bytes
-  live_is = lay_out_one current e.bytes (live_of c.bytes) t.live
+  live_is = lay_out_one _ _ _ t.live
 
   other : h ≢ node
   other e' = both_ways (is_in h (nodes_of_pairs ps)) (apart_all kp vp (live_of c.bytes) h ps s.pairs) (ap (λ n. is_in n (nodes_of_pairs ps)) (e' ∙ sym here) ∙ in_nodes kp.order ps key p has)
@@ -127,7 +127,7 @@ module _ {K V : Type 0} {kp : Plain K} {vp : Plain V} (kl : Laws kp) (vl : Laws 
   stills [] a o = tt
   stills (q ∷ qs) a o = (
     record {
-      found = rw (released-live current e f node r) (found-less (handle q.node) node q.node (live_of e.bytes).extents o.0 a.0.listed);
+      found = rw (released-live _ _ _ _ r) (found-less (handle q.node) node q.node (live_of e.bytes).extents o.0 a.0.listed);
       same = other_block (live_of e.bytes) node (handle q.node) r.keeps a.0.listed o.0;
     },
     stills qs a.1 o.1,
@@ -141,16 +141,16 @@ module _ {K V : Type 0} {kp : Plain K} {vp : Plain V} (kl : Laws kp) (vl : Laws 
       record {
         live = subst (λ l. LaysOut current f.bytes l) (λ i. released (live_is i) (sym here i)) r.live;
         beside = record {
-          place = SamePlace-trans c e f t.beside.place r.keeps.place;
-          front = Same-trans (bytes_of c.bytes) (bytes_of e.bytes) (bytes_of f.bytes) 0 24 t.beside.front r.keeps.front;
-          behind = Same-trans (bytes_of c.bytes) (bytes_of e.bytes) (bytes_of f.bytes) 32 128 t.beside.behind r.keeps.behind;
+          place = SamePlace-trans _ _ _ t.beside.place r.keeps.place;
+          front = Same-trans _ _ _ _ _ t.beside.front r.keeps.front;
+          behind = Same-trans _ _ _ _ _ t.beside.behind r.keeps.behind;
           blocks = λ x found o.
               let q = t.beside.blocks x found o in
               let apart : handle x ≢ node = λ g. both_ways (is_in (handle x) (nodes_of_pairs ps)) o (ap (λ n. is_in n (nodes_of_pairs ps)) (g ∙ sym here) ∙ in_nodes kp.order ps key p has) in
               let k = other_block (live_of e.bytes) node (handle x) {x = x} r.keeps (rw live_is found) apart in
               record { payload = λ n a b g. k.payload.at n a b ∙ q.payload n a b g; colour = k.colour ∙ q.colour };
         };
-        map = map_stays kl vl e f t.map (laid-heap f.bytes (released (live_of e.bytes) node) r.live) (rw (released-live current e f node r) (found-room (released (live_of e.bytes) node) h (at + 24) room.extent (found-less h node room.extent (live_of e.bytes).extents other room.found) room.room))
+        map = map_stays kl vl e f t.map (laid-heap _ _ r.live) (rw (released-live _ _ _ _ r) (found-room (released (live_of e.bytes) node) h (at + 24) room.extent (found-less h node room.extent (live_of e.bytes).extents other room.found) room.room))
             (record { at = λ n a b. same.payload.at n (omega arith) (omega arith) })
             (stills (remove_pair kp.order ps key) t.map.pairs (other_nodes node (remove_pair kp.order ps key) gone));
       }
@@ -175,4 +175,4 @@ pub gone_live : {K V : Type 0} {kp : Plain K} {vp : Plain V} {c e : Cut} {h at :
 gone_live {kp = kp} {vp = vp} {c = c} {e = e} {h = h} {ps = ps} s {key} {p} has {node} here t =
     let n = at_node (IsPairIn kp vp (live_of c.bytes) h) ps (pair_node p) (in_nodes kp.order ps key p has) s.pairs in
     let x = n.pair.node in let xs = (live_of c.bytes).extents in
-    rw (lay_out_one current e.bytes (live_of c.bytes) t.live) (any_at (λ (x : Extent). handle x == node) xs x (found_in xs (handle x) x n.holds.listed) (eq-eqb (handle x) node (n.at ∙ here)))
+    rw (lay_out_one _ _ _ t.live) (any_at (λ (x : Extent). handle x == node) xs x (found_in xs (handle x) x n.holds.listed) (eq-eqb (handle x) node (n.at ∙ here)))

@@ -37,7 +37,7 @@ module _ {K V : Type 0} {kp : Plain K} {vp : Plain V} (kl : Laws kp) (vl : Laws 
   x = m.block.extent
 
   live_d : live_of d.bytes ≡ added (live_of c.bytes) m.block.extent
-  live_d = allocated-live current c d (node_len kp.SIZE vp.SIZE) Node node m.block
+  live_d = allocated-live _ _ _ _ _ _ m.block
 
   differs : Differs m.block.extent (live_of c.bytes).extents
   differs = (rising-insert 128 x (live_of c.bytes).extents (live-rises (added (live_of c.bytes) x) m.block.live.proper)).differs
@@ -66,7 +66,7 @@ module _ {K V : Type 0} {kp : Plain K} {vp : Plain V} (kl : Laws kp) (vl : Laws 
   map_there =
       let r = roomy c h (at + 24) s.heap s.room in let begins = r.at in let long = r.room in
       let same = kept r.extent (found_in (live_of c.bytes).extents h r.extent r.found) in
-      map_stays kl vl c d s (laid-heap d.bytes (added (live_of c.bytes) x) m.block.live) (allocated-room_before current c d (node_len kp.SIZE vp.SIZE) Node node h (at + 24) m.block s.room)
+      map_stays kl vl c d s (laid-heap _ _ m.block.live) (allocated-room_before current c d (node_len kp.SIZE vp.SIZE) Node node h (at + 24) m.block s.room)
       (record { at = λ n a b. same.payload.at n (omega arith) (omega arith) }) (stills ps s.pairs)
 
   there_tree : map_there.map.tree.tree ≡ s.map.tree.tree
@@ -111,9 +111,9 @@ module _ {K V : Type 0} {kp : Plain K} {vp : Plain V} (kl : Laws kp) (vl : Laws 
         placed = m.block.placed;
         live = subst (LaysOut current e.bytes) live_d q.live;
         beside = record {
-          place = SamePlace-trans c d e m.block.keeps.place q.beside.place;
-          front = Same-trans (bytes_of c.bytes) (bytes_of d.bytes) (bytes_of e.bytes) 0 24 m.block.keeps.front q.beside.front;
-          behind = Same-trans (bytes_of c.bytes) (bytes_of d.bytes) (bytes_of e.bytes) 32 128 m.block.keeps.behind q.beside.behind;
+          place = SamePlace-trans _ _ _ m.block.keeps.place q.beside.place;
+          front = Same-trans _ _ _ _ _ m.block.keeps.front q.beside.front;
+          behind = Same-trans _ _ _ _ _ m.block.keeps.behind q.beside.behind;
           blocks = λ y f o.
               let i = found_in (live_of c.bytes).extents (handle y) y f in
               let k = kept y i in

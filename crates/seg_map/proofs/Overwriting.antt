@@ -51,7 +51,7 @@ module _ {K V : Type 0} {kp : Plain K} {vp : Plain V} (c : Cut) {h at : ℕ} {ps
         total key p.key is_key_value (pair_parts own).key two.0 two.1
 
     live_d : live_of d.bytes ≡ live_of c.bytes
-    live_d = changed-live current c d (handle p.node + (16 + kp.SIZE)) vp.SIZE change
+    live_d = changed-live _ _ _ _ _ change
 
     keeps : Keeps c d (others (handle p.node) (live_of c.bytes).extents)
     keeps = changed-keeps current c d (handle p.node) (16 + kp.SIZE) vp.SIZE change value_room
@@ -66,7 +66,7 @@ module _ {K V : Type 0} {kp : Plain K} {vp : Plain V} (c : Cut) {h at : ℕ} {ps
         by_place : (m ≡ handle p.node) ⊎ (m ≡ handle p.node → ⊥) → cells_of (bytes_of d.bytes) m ≡ cells_of (bytes_of c.bytes) m
         by_place (inl e) =
             let g : PairNode (16 + kp.SIZE) (nodes_of s.map.tree.tree) c m = record { good = good kl c s; listed = i } in
-            beside_cell (bytes_of c.bytes) (bytes_of d.bytes) (handle p.node + (16 + kp.SIZE)) vp.SIZE m change.rest (node_place (16 + kp.SIZE) (nodes_of s.map.tree.tree) c m g).low (inl (omega (arith, e)))
+            beside_cell _ _ _ _ m change.rest (node_place (16 + kp.SIZE) (nodes_of s.map.tree.tree) c m g).low (inl (omega (arith, e)))
         by_place (inr o) =
             let n = at_node (IsPairIn kp vp (live_of c.bytes) h) ps m (ap (λ ns. is_in m ns) (sym s.map.tree.lists) ∙ i) s.pairs in
             let long = (pair_parts n.holds).long in
@@ -111,8 +111,7 @@ module _ {K V : Type 0} {kp : Plain K} {vp : Plain V} (c : Cut) {h at : ℕ} {ps
     own_bytes =
         let found = pair_of kp.order Was ps key p has were in
         let size = (lengths kl vl own).key in
-        let old = Has-same (bytes_of c.bytes) (bytes_of d.bytes) (handle p.node + 16) (handle p.node + 16 + kp.SIZE) (handle p.node + 16) (kp.spelling p.key)
-        (SameBut-Same (bytes_of c.bytes) (bytes_of d.bytes) (handle p.node + (16 + kp.SIZE)) vp.SIZE (handle p.node + 16) (handle p.node + 16 + kp.SIZE) change.rest (inl (omega arith))) (omega arith) (omega (arith, size)) found.0.bytes.0 in
+        let old = Has-same _ _ _ _ (handle p.node + 16) (kp.spelling p.key) (SameBut-Same _ _ _ _ (handle p.node + 16) (handle p.node + 16 + kp.SIZE) change.rest (inl (omega arith))) (omega arith) (omega (arith, size)) found.0.bytes.0 in
         let behind : handle p.node + (16 + kp.SIZE) ≡ handle p.node + 16 + kp.SIZE = omega arith in
         (rw same_key_is old, subst (λ k. Has (bytes_of d.bytes) k (vp.spelling value)) behind there)
 
@@ -134,14 +133,14 @@ module _ {K V : Type 0} {kp : Plain K} {vp : Plain V} (c : Cut) {h at : ℕ} {ps
         let words : Same (bytes_of c.bytes) (bytes_of d.bytes) (h + at) (h + at + 24) = record { at = λ n a b. block.payload.at n (omega arith) (omega arith) } in
         let many : length ps ≡ length (put_pair kp.order new ps) = sym (length-nodes ps) ∙ ap (λ (ms : List ℕ). length ms) (sym nodes_same) ∙ length-nodes (put_pair kp.order new ps) in
         record {
-          heap = laid-heap d.bytes (live_of c.bytes) change.live;
+          heap = laid-heap _ _ change.live;
           map = record {
-            count = Same-word (bytes_of c.bytes) (bytes_of d.bytes) (h + at) (h + at + 24) (h + at + 8) words (omega arith) (omega arith) ∙ s.map.count ∙ many;
-            third = Same-word (bytes_of c.bytes) (bytes_of d.bytes) (h + at) (h + at + 24) (h + at + 16) words (omega arith) (omega arith) ∙ s.map.third;
+            count = Same-word _ _ _ _ (h + at + 8) words (omega arith) (omega arith) ∙ s.map.count ∙ many;
+            third = Same-word _ _ _ _ (h + at + 16) words (omega arith) (omega arith) ∙ s.map.third;
             tree = record {
               tree = s.map.tree.tree;
               linked = record {
-                root = Same-link (bytes_of c.bytes) (bytes_of d.bytes) (h + at) (h + at + 24) (h + at) words (omega arith) (omega arith) ∙ s.map.tree.linked.root;
+                root = Same-link _ _ _ _ (h + at) words (omega arith) (omega arith) ∙ s.map.tree.linked.root;
                 holds = holds_same (cells_of (bytes_of c.bytes)) (cells_of (bytes_of d.bytes)) s.map.tree.tree cells s.map.tree.linked.holds;
               };
               red_black = s.map.tree.red_black;
@@ -150,7 +149,7 @@ module _ {K V : Type 0} {kp : Plain K} {vp : Plain V} (c : Cut) {h at : ℕ} {ps
             pairs = replaced_all kp.order kl.transitive p new same_key_is Was (IsPairAt kp.SIZE kp.spelling vp.spelling (bytes_of d.bytes)) bytes_stay own_bytes ps s.rising has were;
           };
           aligned = s.aligned;
-          room = changed-room current c d (handle p.node + (16 + kp.SIZE)) vp.SIZE h (at + 24) change s.room;
+          room = changed-room _ _ _ _ _ h (at + 24) change s.room;
           rising = replaced_rising kp.order kl.transitive p new same_key_is ps s.rising has;
           pairs = rw live_d (replaced_all kp.order kl.transitive p new same_key_is (IsPairIn kp vp (live_of c.bytes) h) (IsPairIn kp vp (live_of c.bytes) h) (λ q a o. a) own_block ps s.rising has s.pairs);
         }

@@ -5,6 +5,7 @@ use Rattle.std.specs.List.{AllByRecursion}
 use Rattle.std.proofs.lemmas.Bool.{both_ways, cases_Bool, and_parts, or_left, or_right, or_parts, eq-eqb, ne_eqb}
 use Rattle.link_tree.specs.Nodes.{is_in, without}
 use Rattle.link_tree.proofs.Laws.{without_none}
+use Rattle.seg_map.specs.PairLaws.{Chains, IsStrict}
 use Rattle.seg_map.specs.Map.{Pair, is_key, is_rising, pair_at, remove_pair}
 use Rattle.seg_map.specs.Places.{nodes_of_pairs, pair_node}
 use Rattle.seg_map.proofs.Entering.{HaveKeys}
@@ -61,7 +62,7 @@ module _ {K V : Type 0} (less : K → K → Bool) where
   abbrev pub Below : K → List (Pair K V) → Type 0
   Below key ps = AllByRecursion (λ (p : Pair K V). less key p.key ≡ true) ps
 
-  pub rising_below : ((x y z : K) → less x y ≡ true → less y z ≡ true → less x z ≡ true) → (q : Pair K V) (qs : List (Pair K V)) → is_rising less (q ∷ qs) ≡ true → Below q.key qs
+  pub rising_below : Chains less → (q : Pair K V) (qs : List (Pair K V)) → is_rising less (q ∷ qs) ≡ true → Below q.key qs
   rising_below on q [] r = tt
   rising_below on q (p ∷ ps) r =
       let two = and_parts _ _ r in
@@ -75,7 +76,7 @@ module _ {K V : Type 0} (less : K → K → Bool) where
   below_rising q [] b r = refl
   below_rising q (p ∷ ps) b r = rw (b.0, r) refl
 
-  module _ (on : (x y z : K) → less x y ≡ true → less y z ≡ true → less x z ≡ true) where
+  module _ (on : Chains less) where
     pub removed_rising : (ps : List (Pair K V)) (key : K) → is_rising less ps ≡ true → is_rising less (remove_pair less ps key) ≡ true
     removed_rising [] key r = refl
     removed_rising (q ∷ qs) key r =
@@ -87,7 +88,7 @@ module _ {K V : Type 0} (less : K → K → Bool) where
         ]
 
 -- behind a pair all nodes have greater keys
-none_behind : {K V : Type 0} (less : K → K → Bool) → ((x : K) → less x x ≡ false) → (keys : ℕ → Option K) (q : Pair K V) (qs : List (Pair K V)) → keys (pair_node q) ≡ Some q.key → HaveKeys keys qs
+none_behind : {K V : Type 0} (less : K → K → Bool) → IsStrict less → (keys : ℕ → Option K) (q : Pair K V) (qs : List (Pair K V)) → keys (pair_node q) ≡ Some q.key → HaveKeys keys qs
     → Below less q.key qs → is_in (pair_node q) (nodes_of_pairs qs) ≡ false
 none_behind less strict keys q [] e k b = refl
 none_behind {K} {V} less strict keys q (p ∷ ps) e k b =
@@ -99,7 +100,7 @@ none_behind {K} {V} less strict keys q (p ∷ ps) e k b =
         let is : q.key ≡ p.key = cc same in
         both_ways (less q.key p.key) (ap (less q.key) (sym is) ∙ strict q.key) b.0
 
-module _ {K V : Type 0} (less : K → K → Bool) (strict : (x : K) → less x x ≡ false) (on : (x y z : K) → less x y ≡ true → less y z ≡ true → less x z ≡ true) (keys : ℕ → Option K) where
+module _ {K V : Type 0} (less : K → K → Bool) (strict : IsStrict less) (on : Chains less) (keys : ℕ → Option K) where
   pub without_nodes : (p : Pair K V) (key : K) (ps : List (Pair K V)) → HaveKeys keys ps → is_rising less ps ≡ true → pair_at less ps key ≡ Some p
       → without (pair_node p) (nodes_of_pairs ps) ≡ nodes_of_pairs (remove_pair less ps key)
   without_nodes p key [] k r h = absurd (cc)

@@ -134,8 +134,7 @@ module _ {K : Type 0} (value : List ℕ → Option K) (size : ℕ) {ns : List �
   unfolding key_of key_at
   key_stays m (inl e) =
       rw (ap (λ (p : ℕ → Bool). p m) (nodes_stay g h) ∙ e, e)
-      (ap value (Same-read (bytes_of c.bytes) (bytes_of d.bytes) (m + 16) (m + (16 + size)) (m + 16) size
-      (h.keys m (is_pair_node-PairNode (16 + size) ns c m e).listed) (le_refl (m + 16)) (omega arith)))
+      (ap value (Same-read _ _ _ _ (m + 16) size (h.keys m (is_pair_node-PairNode (16 + size) ns c m e).listed) (le_refl (m + 16)) (omega arith)))
   key_stays m (inr e) = rw (ap (λ (p : ℕ → Bool). p m) (nodes_stay g h) ∙ e, e) refl
 
   pub keys_stay : key_of value size ns d ≡ key_of value size ns c
@@ -234,7 +233,7 @@ module _ {len : ℕ} {ns : List ℕ} {c d : Cut} {n from : ℕ} (g : PairNode le
   other_cell : (m : ℕ) → is_in m ns ≡ true → (m ≡ n → ⊥) → cells_of (bytes_of d.bytes) m ≡ cells_of (bytes_of c.bytes) m
   other_cell m i o =
       let q : PairNode len ns c m = record { good = g.good; listed = i } in let least = (node_place len ns c m q).low in
-      beside_cell (bytes_of c.bytes) (bytes_of d.bytes) from 8 m change.rest least
+      beside_cell _ _ _ _ m change.rest least
       (elim (nodes_apart g q o) [
         | inl l ↦ inl (omega arith)
         | inr l ↦ inr (omega arith)
@@ -244,12 +243,12 @@ module _ {len : ℕ} {ns : List ℕ} {c d : Cut} {n from : ℕ} (g : PairNode le
   link_changed links =
       record {
         place = change.place;
-        live = lay_out_one current d.bytes (live_of c.bytes) change.live;
+        live = lay_out_one _ _ _ change.live;
         bytes = λ k t. change.rest.at k (elim (kept_away ns (live_of c.bytes) n k g.listed t) [ inl l ↦ inl (lt_of_lt_of_le l low) | inr l ↦ inr (le_trans high l) ]);
-        colours = λ x i o. ap (λ w. w % 16) (SameBut-word (bytes_of c.bytes) (bytes_of d.bytes) from 8 (x.offset + 8) change.rest (tag_apart x i o));
+        colours = λ x i o. ap (λ w. w % 16) (SameBut-word _ _ _ _ (x.offset + 8) change.rest (tag_apart x i o));
         links = links;
         others = other_cell;
-        keys = λ m i. SameBut-Same (bytes_of c.bytes) (bytes_of d.bytes) from 8 (m + 16) (m + len) change.rest (key_apart m i (cases_eq m n));
+        keys = λ m i. SameBut-Same _ _ _ _ (m + 16) (m + len) change.rest (key_apart m i (cases_eq m n));
       }
     where
       tag_apart : (x : Extent) → In x (live_of c.bytes).extents → (handle x ≡ n → ⊥) → (x.offset + 8 + 8 ≤ from) ⊎ (from + 8 ≤ x.offset + 8)
@@ -277,8 +276,8 @@ module _ {len : ℕ} {ns : List ℕ} {c d : Cut} {n from : ℕ} {to : Option ℕ
   left_own =
       let low = (node_place len ns c n g).low in
       let left : link_at (bytes_of d.bytes) n ≡ to = subst (λ k. link_at (bytes_of d.bytes) k ≡ to) at set in
-      let right = SameBut-link (bytes_of c.bytes) (bytes_of d.bytes) from 8 (n + 8) change.rest (inr (omega arith)) in
-      let red = ap (λ w. w / 2 % 2 == 1) (SameBut-word (bytes_of c.bytes) (bytes_of d.bytes) from 8 (n - 8) change.rest (inl (omega arith))) in
+      let right = SameBut-link _ _ _ _ (n + 8) change.rest (inr (omega arith)) in
+      let red = ap (λ w. w / 2 % 2 == 1) (SameBut-word _ _ _ _ (n - 8) change.rest (inl (omega arith))) in
       λ i. record { left = left i; right = right i; red = red i }
 
   pub left_changed : Changed len ns c d n
@@ -298,9 +297,9 @@ module _ {len : ℕ} {ns : List ℕ} {c d : Cut} {n from : ℕ} {to : Option ℕ
   right_own : cells_of (bytes_of d.bytes) n ≡ record (cells_of (bytes_of c.bytes) n) { right = to }
   right_own =
       let low = (node_place len ns c n g).low in
-      let left = SameBut-link (bytes_of c.bytes) (bytes_of d.bytes) from 8 n change.rest (inl (omega arith)) in
+      let left = SameBut-link _ _ _ _ n change.rest (inl (omega arith)) in
       let right : link_at (bytes_of d.bytes) (n + 8) ≡ to = subst (λ k. link_at (bytes_of d.bytes) k ≡ to) at set in
-      let red = ap (λ w. w / 2 % 2 == 1) (SameBut-word (bytes_of c.bytes) (bytes_of d.bytes) from 8 (n - 8) change.rest (inl (omega arith))) in
+      let red = ap (λ w. w / 2 % 2 == 1) (SameBut-word _ _ _ _ (n - 8) change.rest (inl (omega arith))) in
       λ i. record { left = left i; right = right i; red = red i }
 
   pub right_changed : Changed len ns c d n
@@ -361,10 +360,10 @@ module _ {len : ℕ} {ns : List ℕ} {c d : Cut} {n : ℕ} {red : Bool} (g : Pai
       record { at = λ k l h. s.at k (omega arith) (omega arith) }
 
   left_link : (m : ℕ) → PairNode len ns c m → link_at (bytes_of d.bytes) m ≡ link_at (bytes_of c.bytes) m
-  left_link m q = Same-link (bytes_of c.bytes) (bytes_of d.bytes) m (m + len) m (node_same m q) (le_refl m) (omega arith)
+  left_link m q = Same-link _ _ _ _ m (node_same m q) (le_refl m) (omega arith)
 
   right_link : (m : ℕ) → PairNode len ns c m → link_at (bytes_of d.bytes) (m + 8) ≡ link_at (bytes_of c.bytes) (m + 8)
-  right_link m q = Same-link (bytes_of c.bytes) (bytes_of d.bytes) m (m + len) (m + 8) (node_same m q) (omega arith) (omega arith)
+  right_link m q = Same-link _ _ _ _ (m + 8) (node_same m q) (omega arith) (omega arith)
 
   red_own : cells_of (bytes_of d.bytes) n ≡ record (cells_of (bytes_of c.bytes) n) { red = red }
   red_own = let a = left_link n g in let b = right_link n g in let r = change.colour in λ i. record { left = a i; right = b i; red = r i }
@@ -395,7 +394,7 @@ module _ {len : ℕ} {ns : List ℕ} {c d : Cut} {n : ℕ} {red : Bool} (g : Pai
   red_changed =
       record {
         place = change.keeps.place;
-        live = lay_out_one current d.bytes (live_of c.bytes) change.live;
+        live = lay_out_one _ _ _ change.live;
         bytes = byte_kept;
         colours = colour_at;
         links = subst (λ (x : Cell). (leads (λ k. is_in k ns) x.left && leads (λ k. is_in k ns) x.right) ≡ true) (sym red_own) (links_at len ns c n g);

@@ -4,6 +4,7 @@ use Rattle.std.specs.Prelude.{Option, Some, None}
 use Rattle.std.specs.List.{AllByRecursion}
 use Rattle.std.proofs.lemmas.Bool.{false≢true, cases_Bool, and_from}
 use Rattle.link_tree.specs.Nodes.{has_place, put}
+use Rattle.seg_map.specs.PairLaws.{Chains}
 use Rattle.seg_map.specs.Map.{Pair, is_key, is_rising, pair_at, put_pair}
 use Rattle.seg_map.specs.Places.{nodes_of_pairs, pair_node}
 use Rattle.seg_map.specs.PairNodes.{before_key, comes_before}
@@ -69,7 +70,7 @@ module _ {K V : Type 0} (less : K → K → Bool) where
         | inr n ↦ rw (n, either_one (less p.key q.key) (less q.key p.key) two.0 n) (ap suc (put_length p qs two.1))
       ]
 
-  pub put_rising : ((x y z : K) → less x y ≡ true → less y z ≡ true → less x z ≡ true) → (p : Pair K V) (ps : List (Pair K V))
+  pub put_rising : Chains less → (p : Pair K V) (ps : List (Pair K V))
       → pair_at less ps p.key ≡ None → is_rising less ps ≡ true → is_rising less (put_pair less p ps) ≡ true
   put_rising on p [] e r = refl
   put_rising on p (q ∷ qs) e r =
@@ -106,7 +107,7 @@ module _ {K V : Type 0} (less : K → K → Bool) where
 
   -- ---- a pair in the place of another
 
-  module _ (on : (x y z : K) → less x y ≡ true → less y z ≡ true → less x z ≡ true) (p p' : Pair K V) (same : p'.key ≡ p.key) where
+  module _ (on : Chains less) (p p' : Pair K V) (same : p'.key ≡ p.key) where
     -- the pair with the key stands behind this one, or is it
     later : (q : Pair K V) (qs : List (Pair K V)) → is_rising less (q ∷ qs) ≡ true → pair_at less (q ∷ qs) p'.key ≡ Some p → less p'.key q.key ≡ false
     later q qs r e =

@@ -34,7 +34,7 @@ module _ {K V : Type 0} {kp : Plain K} {vp : Plain V} (kl : Laws kp) (vl : Laws 
   live_d = live_stays c d ns ns kept
 
   pub live_e : live_of e.bytes ≡ live_of c.bytes
-  live_e = changed-live current d e (h + at) 24 head.change ∙ live_d
+  live_e = changed-live _ _ _ _ _ head.change ∙ live_d
 
   room_d : IsTrue (has_room (live_of d.bytes) h (at + 24))
   room_d = rw live_d room
@@ -55,9 +55,9 @@ module _ {K V : Type 0} {kp : Plain K} {vp : Plain V} (kl : Laws kp) (vl : Laws 
       let r = roomy c h (at + 24) heap room in let here = r.at in let long = r.room in
       let written = written-but d e (live_of c.bytes) h (h + at) 24 r.extent heap.proper r.found head.change (omega arith) (omega arith) in
       record {
-        place = SamePlace-trans c d e rest_kept.place head.change.place;
-        front = Same-trans (bytes_of c.bytes) (bytes_of d.bytes) (bytes_of e.bytes) 0 24 rest_kept.front others_stay.front;
-        behind = Same-trans (bytes_of c.bytes) (bytes_of d.bytes) (bytes_of e.bytes) 32 128 rest_kept.behind others_stay.behind;
+        place = SamePlace-trans _ _ _ rest_kept.place head.change.place;
+        front = Same-trans _ _ _ _ _ rest_kept.front others_stay.front;
+        behind = Same-trans _ _ _ _ _ rest_kept.behind others_stay.behind;
         blocks = λ x f o.
             let i = found_in (live_of c.bytes).extents (handle x) x f in
             let p = kept_block d good kept (omega arith) x i o in
@@ -117,7 +117,7 @@ module _ {K V : Type 0} {kp : Plain K} {vp : Plain V} (kl : Laws kp) (vl : Laws 
     pub rewritten : at % 8 ≡ 0 → is_rising kp.order qs ≡ true → AreAt kp vp (bytes_of c.bytes) qs → n ≡ length qs → HoldsMap kp vp e.bytes h at qs
     rewritten whole rising bytes count =
         record {
-          heap = laid-heap e.bytes (live_of d.bytes) head.change.live;
+          heap = laid-heap _ _ head.change.live;
           map = record {
             count = head.counted ∙ count;
             third = head.third;

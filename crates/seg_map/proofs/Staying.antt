@@ -24,7 +24,7 @@ use Rattle.seg_map.proofs.PairSteps.{same_red}
 pub block_cells : (m m' : Memory) (x : Extent) → SameBlock m m' x → 32 ≤ x.len → cells_of m' (handle x) ≡ cells_of m (handle x)
 block_cells m m' x s long =
     let e : x.offset + 8 ≡ handle x - 8 = omega arith in
-    cell_stays m m' (handle x) (Same-link m m' (handle x) (end_of x) (handle x) s.payload (omega arith) (omega arith)) (Same-link m m' (handle x) (end_of x) (handle x + 8) s.payload (omega arith) (omega arith))
+    cell_stays m m' (handle x) (Same-link _ _ _ _ (handle x) s.payload (omega arith) (omega arith)) (Same-link _ _ _ _ (handle x + 8) s.payload (omega arith) (omega arith))
     (same_red (word_at m (handle x - 8)) (word_at m' (handle x - 8)) (subst (λ a. word_at m' a % 16 ≡ word_at m a % 16) e s.colour))
 
 -- the pair of a node
@@ -59,8 +59,8 @@ pub pair_stays : {K V : Type 0} {kp : Plain K} {vp : Plain V} (m m' : Memory) {p
 pair_stays {kp = kp} {vp = vp} m m' {p} l s h =
     let first = handle p.node + 16 in let last = handle p.node + (16 + kp.SIZE + vp.SIZE) in
     let el = l.key in let fl = l.value in (
-      Has-same m m' first last first (kp.spelling p.key) s (omega arith) (omega arith) h.0,
-      Has-same m m' first last (first + kp.SIZE) (vp.spelling p.value) s (omega arith) (omega arith) h.1,
+      Has-same _ _ _ _ first (kp.spelling p.key) s (omega arith) (omega arith) h.0,
+      Has-same _ _ _ _ (first + kp.SIZE) (vp.spelling p.value) s (omega arith) (omega arith) h.1,
     )
 
 -- a block that is still there, with its bytes
@@ -97,12 +97,12 @@ module _ {K V : Type 0} {kp : Plain K} {vp : Plain V} (kl : Laws kp) (vl : Laws 
       record {
         heap = heap;
         map = record {
-          count = Same-word (bytes_of c.bytes) (bytes_of e.bytes) (h + at) (h + at + 24) (h + at + 8) words (omega arith) (omega arith) ∙ s.map.count;
-          third = Same-word (bytes_of c.bytes) (bytes_of e.bytes) (h + at) (h + at + 24) (h + at + 16) words (omega arith) (omega arith) ∙ s.map.third;
+          count = Same-word _ _ _ _ (h + at + 8) words (omega arith) (omega arith) ∙ s.map.count;
+          third = Same-word _ _ _ _ (h + at + 16) words (omega arith) (omega arith) ∙ s.map.third;
           tree = record {
             tree = s.map.tree.tree;
             linked = record {
-              root = Same-link (bytes_of c.bytes) (bytes_of e.bytes) (h + at) (h + at + 24) (h + at) words (omega arith) (omega arith) ∙ s.map.tree.linked.root;
+              root = Same-link _ _ _ _ (h + at) words (omega arith) (omega arith) ∙ s.map.tree.linked.root;
               holds = holds_same (cells_of (bytes_of c.bytes)) (cells_of (bytes_of e.bytes)) s.map.tree.tree cells s.map.tree.linked.holds;
             };
             red_black = s.map.tree.red_black;

@@ -16,6 +16,13 @@ use Rattle.best_fit.proofs.Laws.{is_proper-IsProper, legal_size, proper_from-IsF
 use Rattle.link_tree.proofs.Laws.{all_at}
 use Rattle.seg_map.specs.PairNodes.{is_block_in, links_among, is_good, is_pair_node, pair_cells, before_key, comes_before, stands, stands_before, no_cell}
 
+-- an order is strict where nothing stands before itself, and what stands before another stands before all behind that
+abbrev pub IsStrict : {K : Type 0} → (K → K → Bool) → Type 0
+IsStrict {K} less = (x : K) → less x x ≡ false
+
+abbrev pub Chains : {K : Type 0} → (K → K → Bool) → Type 0
+Chains {K} less = (x y z : K) → less x y ≡ true → less y z ≡ true → less x z ≡ true
+
 -- ---- blocks of a proper live set
 
 abbrev pub In : Extent → List Extent → Type 0
@@ -87,14 +94,14 @@ is_node Node e = refl
 
 block_here : (len : ℕ) (x : Extent) (xs : List Extent) (n : ℕ) → ((handle x == n) && serves x Node len) ≡ true → Block len (x ∷ xs) n
 block_here len x xs n h =
-    let two = and_parts (handle x == n) (serves x Node len) h in
-    let s = and_parts (same_role x.role Node) (holds x len) two.1 in
+    let two = and_parts _ _ h in
+    let s = and_parts _ _ two.1 in
     record { extent = x; listed = inl refl; at = eqb-true (handle x) n two.0; node = is_node x.role s.0; holds = leb-true (len + 16) x.len s.1 }
 
 pub block_at : (len : ℕ) (xs : List Extent) (n : ℕ) → list_any (λ (x : Extent). (handle x == n) && serves x Node len) xs ≡ true → Block len xs n
 block_at len [] n h = absurd (false≢true h)
 block_at len (x ∷ xs) n h =
-    elim (or_cases ((handle x == n) && serves x Node len) (list_any (λ (y : Extent). (handle y == n) && serves y Node len) xs) h) [
+    elim (or_cases _ _ h) [
       | inl e ↦ block_here len x xs n e
       | inr e ↦ let b = block_at len xs n e in record { extent = b.extent; listed = inr b.listed; at = b.at; node = b.node; holds = b.holds }
     ]
@@ -108,8 +115,8 @@ pub record Good (len : ℕ) (ns : List ℕ) (c : Cut) : Type 0 where
 
 pub is_good-Good : (len : ℕ) (ns : List ℕ) (c : Cut) → IsTrue (is_good len ns c) → Good len ns c
 is_good-Good len ns c h =
-    let two = and_parts (is_proper (live_of c.bytes) && list_all (is_block_in len (live_of c.bytes)) ns) (list_all (links_among (bytes_of c.bytes) ns) ns) h in
-    let one = and_parts (is_proper (live_of c.bytes)) (list_all (is_block_in len (live_of c.bytes)) ns) two.0 in
+    let two = and_parts _ _ h in
+    let one = and_parts _ _ two.0 in
     record { proper = one.0; blocks = one.1; links = two.1 }
 
 pub Good-is_good : (len : ℕ) (ns : List ℕ) (c : Cut) → Good len ns c → IsTrue (is_good len ns c)
@@ -123,7 +130,7 @@ pub record PairNode (len : ℕ) (ns : List ℕ) (c : Cut) (n : ℕ) : Type 0 whe
 
 pub is_pair_node-PairNode : (len : ℕ) (ns : List ℕ) (c : Cut) (n : ℕ) → is_pair_node len ns c n ≡ true → PairNode len ns c n
 unfolding is_pair_node
-is_pair_node-PairNode len ns c n h = let two = and_parts (is_good len ns c) (is_in n ns) h in record { good = is_good-Good len ns c two.0; listed = two.1 }
+is_pair_node-PairNode len ns c n h = let two = and_parts _ _ h in record { good = is_good-Good len ns c two.0; listed = two.1 }
 
 pub PairNode-is_pair_node : (len : ℕ) (ns : List ℕ) (c : Cut) (n : ℕ) → PairNode len ns c n → is_pair_node len ns c n ≡ true
 unfolding is_pair_node
@@ -186,8 +193,7 @@ pub link_parts : {len : ℕ} {ns : List ℕ} {c : Cut} {n : ℕ} → PairNode le
     → (leads (λ k. is_in k ns) (cells_of (bytes_of c.bytes) n).left ≡ true)
     × (leads (λ k. is_in k ns) (cells_of (bytes_of c.bytes) n).right ≡ true)
 link_parts {len} {ns} {c} {n} g =
-    and_parts (leads (λ k. is_in k ns) (cells_of (bytes_of c.bytes) n).left)
-    (leads (λ k. is_in k ns) (cells_of (bytes_of c.bytes) n).right) (links_at len ns c n g)
+    and_parts _ _ (links_at len ns c n g)
 
 leads_to_node : (len : ℕ) (ns : List ℕ) (c : Cut) (o : Option ℕ) → Good len ns c → leads (λ k. is_in k ns) o ≡ true → leads (is_pair_node len ns c) o ≡ true
 leads_to_node len ns c None g h = refl
@@ -216,11 +222,11 @@ pairs_right len ns c n h =
 -- ---- the order is strict
 
 module _ {K : Type 0} (less : K → K → Bool) where
-  pub key_irreflexive : ((x : K) → less x x ≡ false) → (x : Option K) → before_key less x x ≡ false
+  pub key_irreflexive : IsStrict less → (x : Option K) → before_key less x x ≡ false
   key_irreflexive strict None = refl
   key_irreflexive strict (Some x) = strict x
 
-  pub key_transitive : ((x y z : K) → less x y ≡ true → less y z ≡ true → less x z ≡ true) → (x y z : Option K)
+  pub key_transitive : Chains less → (x y z : Option K)
       → before_key less x y ≡ true → before_key less y z ≡ true → before_key less x z ≡ true
   key_transitive on None y z h k = absurd (false≢true h)
   key_transitive on (Some x) None z h k = absurd (false≢true h)
@@ -231,7 +237,7 @@ module _ {K : Type 0} (less : K → K → Bool) where
   not_true true h = absurd (false≢true h)
   not_true false h = refl
 
-  pub key_agrees : ((x y z : K) → less x y ≡ true → less y z ≡ true → less x z ≡ true) → (past : Bool) (key : K) (x y : Option K)
+  pub key_agrees : Chains less → (past : Bool) (key : K) (x y : Option K)
       → before_key less x y ≡ true → stands less past key y ≡ true → stands less past key x ≡ true
   key_agrees on past key None y h s = absurd (false≢true h)
   key_agrees on past key (Some x) None h s = absurd (false≢true h)
@@ -242,13 +248,13 @@ module _ {K : Type 0} (less : K → K → Bool) where
       by_test true e = absurd (both_ways (less key y) (not_true (less key y) s) (on key x y e h))
       by_test false e = ap not e
 
-pub comes_irreflexive : {K : Type 0} (less : K → K → Bool) → ((x : K) → less x x ≡ false) → (keys : ℕ → Option K) (n : ℕ) → comes_before less keys n n ≡ false
+pub comes_irreflexive : {K : Type 0} (less : K → K → Bool) → IsStrict less → (keys : ℕ → Option K) (n : ℕ) → comes_before less keys n n ≡ false
 comes_irreflexive less strict keys n = key_irreflexive less strict (keys n)
 
-pub comes_transitive : {K : Type 0} (less : K → K → Bool) → ((x y z : K) → less x y ≡ true → less y z ≡ true → less x z ≡ true) → (keys : ℕ → Option K) (a b c : ℕ)
+pub comes_transitive : {K : Type 0} (less : K → K → Bool) → Chains less → (keys : ℕ → Option K) (a b c : ℕ)
     → comes_before less keys a b ≡ true → comes_before less keys b c ≡ true → comes_before less keys a c ≡ true
 comes_transitive less on keys a b c h k = key_transitive less on (keys a) (keys b) (keys c) h k
 
-pub comes_agrees : {K : Type 0} (less : K → K → Bool) → ((x y z : K) → less x y ≡ true → less y z ≡ true → less x z ≡ true) → (keys : ℕ → Option K) (past : Bool) (key : K) (a b : ℕ)
+pub comes_agrees : {K : Type 0} (less : K → K → Bool) → Chains less → (keys : ℕ → Option K) (past : Bool) (key : K) (a b : ℕ)
     → comes_before less keys a b ≡ true → stands_before less keys past key b ≡ true → stands_before less keys past key a ≡ true
 comes_agrees less on keys past key a b h s = key_agrees less on past key (keys a) (keys b) h s

@@ -47,7 +47,7 @@ module _ {K : Type 0} (less : K → K → Bool) (irreflexive : IsStrict less) (t
   one_side x y e =
       elim (cases_Bool (less x y)) [
         | inl a ↦ rw a (false_from_ne_true (less y x) (λ b. true≢false (sym (transitive x y x a b) ∙ irreflexive x)))
-        | inr a ↦ rw a (either_one (less x y) (less y x) e a)
+        | inr a ↦ rw a (either_one _ _ e a)
       ]
 
   -- the nodes that stand before a key are those that its node does not come before

@@ -33,15 +33,15 @@ others-comm : (a b : ℕ) (zs : List Extent) → others a (others b zs) ≡ othe
 others-comm a b [] = refl
 others-comm a b (y ∷ ys) =
     elim (cases_eq (handle y) a) [
-      | inl e ↦ let here = eq-eqb (handle y) a e in
+      | inl e ↦ let here = eq-eqb _ _ e in
           elim (cases_eq (handle y) b) [
-            | inl f ↦ rw (here, eq-eqb (handle y) b f) (ap (λ (k : ℕ). others k ys) (sym e ∙ f))
-            | inr o ↦ rw (here, ne_eqb (handle y) b o, here) refl
+            | inl f ↦ rw (here, eq-eqb _ _ f) (ap (λ (k : ℕ). others k ys) (sym e ∙ f))
+            | inr o ↦ rw (here, ne_eqb _ _ o, here) refl
           ]
-      | inr n ↦ let past = ne_eqb (handle y) a n in
+      | inr n ↦ let past = ne_eqb _ _ n in
           elim (cases_eq (handle y) b) [
-            | inl f ↦ rw (past, eq-eqb (handle y) b f) refl
-            | inr o ↦ rw (past, ne_eqb (handle y) b o, past) (ap (λ (zs : List Extent). y ∷ zs) (others-comm a b ys))
+            | inl f ↦ rw (past, eq-eqb _ _ f) refl
+            | inr o ↦ rw (past, ne_eqb _ _ o, past) (ap (λ (zs : List Extent). y ∷ zs) (others-comm a b ys))
           ]
     ]
 
@@ -93,8 +93,8 @@ rises_others : (n h : ℕ) (zs : List Extent) → Rises n zs → Rises n (others
 rises_others n h [] r = tt
 rises_others n h (z ∷ zs) r =
     elim (cases_eq (handle z) h) [
-      | inl e ↦ rw (eq-eqb (handle z) h e) (rises_more n (z.offset + 1) zs (omega (arith, r.0)) r.1)
-      | inr o ↦ rw (ne_eqb (handle z) h o) (r.0, rises_others (z.offset + 1) h zs r.1)
+      | inl e ↦ rw (eq-eqb _ _ e) (rises_more n (z.offset + 1) zs (omega (arith, r.0)) r.1)
+      | inr o ↦ rw (ne_eqb _ _ o) (r.0, rises_others (z.offset + 1) h zs r.1)
     ]
 
 -- the one that is taken out is gone
@@ -102,8 +102,8 @@ others_apart : (n h : ℕ) (zs : List Extent) → Rises n zs → AllByRecursion 
 others_apart n h [] r = tt
 others_apart n h (z ∷ zs) r =
     elim (cases_eq (handle z) h) [
-      | inl e ↦ rw (eq-eqb (handle z) h e) (differ e zs (rises_above (z.offset + 1) zs r.1))
-      | inr o ↦ rw (ne_eqb (handle z) h o) (o, others_apart (z.offset + 1) h zs r.1)
+      | inl e ↦ rw (eq-eqb _ _ e) (differ e zs (rises_above (z.offset + 1) zs r.1))
+      | inr o ↦ rw (ne_eqb _ _ o) (o, others_apart (z.offset + 1) h zs r.1)
     ]
   where
     differ : handle z ≡ h → (xs : List Extent) → AllByRecursion (λ (x : Extent). z.offset + 1 ≤ x.offset) xs → AllByRecursion (λ (x : Extent). handle x ≢ h) xs
@@ -128,7 +128,7 @@ left_over {K} {V} n (p ∷ ps) zs r =
     both : (xs : List Extent) → AllByRecursion (λ (x : Extent). handle x ≢ handle p.node) xs → AllByRecursion (λ (x : Extent). is_in (handle x) (nodes_of_pairs ps) ≡ false) xs
         → AllByRecursion (λ (x : Extent). is_in (handle x) (nodes_of_pairs (p ∷ ps)) ≡ false) xs
     both [] a b = tt
-    both (x ∷ xs) a b = (ap (λ (t : Bool). t || is_in (handle x) (nodes_of_pairs ps)) (ne_eqb (handle x) (handle p.node) a.0) ∙ b.0, both xs a.1 b.1)
+    both (x ∷ xs) a b = (ap (λ (t : Bool). t || is_in (handle x) (nodes_of_pairs ps)) (ne_eqb _ _ a.0) ∙ b.0, both xs a.1 b.1)
 
 -- each extent is the one of its handle
 found_each : (n : ℕ) (zs : List Extent) → Rises n zs → AllByRecursion (λ (x : Extent). find (λ (w : Extent). handle w == handle x) zs ≡ Some x) zs
@@ -189,10 +189,10 @@ module _ {K V : Type 0} {k : Plain K} {v : Plain V} (kl : Laws k) {old now : Cut
     live_new = lay_out_one _ _ _ e.live
 
     off : (x : Extent) → is_in (handle x) (nodes_of_pairs ps) ≡ false → is_in (handle x) (nodes_of_pairs g.pairs) ≡ false
-    off x o = elim (cases_Bool (is_in (handle x) (nodes_of_pairs g.pairs))) [ inl t ↦ absurd (both_ways (is_in (handle x) (nodes_of_pairs ps)) o (g.among (handle x) t)) | inr f ↦ f ]
+    off x o = elim (cases_Bool (is_in (handle x) (nodes_of_pairs g.pairs))) [ inl t ↦ absurd (both_ways _ o (g.among (handle x) t)) | inr f ↦ f ]
 
     apart : (x : Extent) → is_in (handle x) (nodes_of_pairs ps) ≡ false → handle x ≢ handle p.node
-    apart x o f = both_ways (is_in (handle x) (nodes_of_pairs g.pairs)) (off x o) (ap (λ n. is_in n (nodes_of_pairs g.pairs)) f ∙ in_nodes k.order g.pairs key p has)
+    apart x o f = both_ways _ (off x o) (ap (λ n. is_in n (nodes_of_pairs g.pairs)) f ∙ in_nodes k.order g.pairs key p has)
 
     fewer_nodes : (m : ℕ) → is_in m (nodes_of_pairs (remove_pair k.order g.pairs key)) ≡ true → is_in m (nodes_of_pairs g.pairs) ≡ true
     fewer_nodes =

@@ -32,8 +32,8 @@ of_node (n ∷ ns) k h =
     elim (or_cases _ _ h) [
       | inl e ↦
           let two = and_parts _ _ e in
-          record { node = n; listed = or_left (n == n) (is_in n ns) (eq-eqb n n refl); low = leb-true n k two.0; high = ltb-true k (n + 16) two.1 }
-      | inr e ↦ let r = of_node ns k e in record { node = r.node; listed = or_right (r.node == n) (is_in r.node ns) r.listed; low = r.low; high = r.high }
+          record { node = n; listed = or_left _ _ (eq-eqb n n refl); low = leb-true n k two.0; high = ltb-true k (n + 16) two.1 }
+      | inr e ↦ let r = of_node ns k e in record { node = r.node; listed = or_right _ _ r.listed; low = r.low; high = r.high }
     ]
 
 module _ {len : ℕ} {ns : List ℕ} {c : Cut} (d : Cut) (good : Good len ns c) (same : kept_of ns d ≡ kept_of ns c)
@@ -66,10 +66,9 @@ module _ {len : ℕ} {ns : List ℕ} {c : Cut} (d : Cut) (good : Good len ns c) 
       ) refl)
     where
       here : (k < 24) ⊎ ((32 ≤ k) × (k < 128)) → (nat_lt k 24 || (nat_le 32 k && nat_lt k 128) || lies_in_block (live_of c.bytes) k) ≡ true
-      here (inl l) = or_left (nat_lt k 24 || (nat_le 32 k && nat_lt k 128)) (lies_in_block (live_of c.bytes) k) (or_left (nat_lt k 24) (nat_le 32 k && nat_lt k 128) (lt-ltb k 24 l))
+      here (inl l) = or_left _ _ (or_left _ _ (lt-ltb k 24 l))
       here (inr p) =
-          or_left (nat_lt k 24 || (nat_le 32 k && nat_lt k 128)) (lies_in_block (live_of c.bytes) k)
-          (or_right (nat_lt k 24) (nat_le 32 k && nat_lt k 128) (rw (le-leb 32 k p.0, lt-ltb k 128 p.1) refl))
+          or_left _ _ (or_right (nat_lt k 24) (nat_le 32 k && nat_lt k 128) (rw (le-leb 32 k p.0, lt-ltb k 128 p.1) refl))
 
       below : (k < 24) ⊎ ((32 ≤ k) × (k < 128)) → (n : ℕ) → 144 ≤ n → k < n
       below (inl l) n low' = omega arith
@@ -95,7 +94,7 @@ module _ {len : ℕ} {ns : List ℕ} {c : Cut} (d : Cut) (good : Good len ns c) 
         payload = record { at = λ k low high. kept_inside x i k low high (λ n j. apart n j k low high) };
         colour = rw w at (kept_colour (handle x) (rw (
           any_at (λ (y : Extent). handle y == handle x) (live_of c.bytes).extents x i
-              (eq-eqb (handle x) (handle x) refl),
+              (eq-eqb _ _ refl),
           ap not o,
         ) refl));
       }
@@ -103,7 +102,7 @@ module _ {len : ℕ} {ns : List ℕ} {c : Cut} (d : Cut) (good : Good len ns c) 
       apart : (n : ℕ) → is_in n ns ≡ true → (k : ℕ) → handle x ≤ k → k < end_of x → (k < n) ⊎ (n + 16 ≤ k)
       apart n j k low high =
           let q : PairNode len ns c n = record { good = good; listed = j } in
-          elim (block_apart x q i (λ e. both_ways (is_in (handle x) ns) o (ap (λ m. is_in m ns) e ∙ j))) [
+          elim (block_apart x q i (λ e. both_ways _ o (ap (λ m. is_in m ns) e ∙ j))) [
             | inl l ↦ inl (omega arith)
             | inr l ↦ inr (omega arith)
           ]

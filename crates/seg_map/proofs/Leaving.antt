@@ -49,8 +49,8 @@ in_from ms (p ∷ ps) a m i =
 pub nodes_in : {K V : Type 0} (ms : List ℕ) (ps : List (Pair K V)) → ((m : ℕ) → is_in m (nodes_of_pairs ps) ≡ true → is_in m ms ≡ true) → AllByRecursion (λ p. is_in (pair_node p) ms ≡ true) ps
 nodes_in ms [] f = tt
 nodes_in ms (p ∷ ps) f = (
-  f (pair_node p) (or_left (pair_node p == pair_node p) (is_in (pair_node p) (nodes_of_pairs ps)) (eq-eqb (pair_node p) (pair_node p) refl)),
-  nodes_in ms ps (λ m i. f m (or_right (m == pair_node p) (is_in m (nodes_of_pairs ps)) i)),
+  f (pair_node p) (or_left _ _ (eq-eqb (pair_node p) (pair_node p) refl)),
+  nodes_in ms ps (λ m i. f m (or_right _ _ i)),
 )
 
 module _ {K V : Type 0} {kp : Plain K} {vp : Plain V} (kl : Laws kp) (c : Cut) {h at : ℕ} {root : Option ℕ}
@@ -121,7 +121,7 @@ module _ {K V : Type 0} {kp : Plain K} {vp : Plain V} (kl : Laws kp) (vl : Laws 
   live_is = lay_out_one _ _ _ t.live
 
   other : h ≢ node
-  other e' = both_ways (is_in h (nodes_of_pairs ps)) (apart_all kp vp (live_of c.bytes) h ps s.pairs) (ap (λ n. is_in n (nodes_of_pairs ps)) (e' ∙ sym here) ∙ in_nodes kp.order ps key p has)
+  other e' = both_ways _ (apart_all kp vp (live_of c.bytes) h ps s.pairs) (ap (λ n. is_in n (nodes_of_pairs ps)) (e' ∙ sym here) ∙ in_nodes kp.order ps key p has)
 
   stills : (qs : List (Pair K V)) → AreIn kp vp (live_of e.bytes) h qs → AllByRecursion (λ q. pair_node q ≢ node) qs → AllByRecursion (λ (q : Pair K V). Still e f q.node) qs
   stills [] a o = tt
@@ -146,7 +146,7 @@ module _ {K V : Type 0} {kp : Plain K} {vp : Plain V} (kl : Laws kp) (vl : Laws 
           behind = Same-trans _ _ _ _ _ t.beside.behind r.keeps.behind;
           blocks = λ x found o.
               let q = t.beside.blocks x found o in
-              let apart : handle x ≢ node = λ g. both_ways (is_in (handle x) (nodes_of_pairs ps)) o (ap (λ n. is_in n (nodes_of_pairs ps)) (g ∙ sym here) ∙ in_nodes kp.order ps key p has) in
+              let apart : handle x ≢ node = λ g. both_ways _ o (ap (λ n. is_in n (nodes_of_pairs ps)) (g ∙ sym here) ∙ in_nodes kp.order ps key p has) in
               let k = other_block (live_of e.bytes) node (handle x) {x = x} r.keeps (rw live_is found) apart in
               record { payload = λ n a b g. k.payload.at n a b ∙ q.payload n a b g; colour = k.colour ∙ q.colour };
         };
@@ -175,4 +175,4 @@ pub gone_live : {K V : Type 0} {kp : Plain K} {vp : Plain V} {c e : Cut} {h at :
 gone_live {kp = kp} {vp = vp} {c = c} {e = e} {h = h} {ps = ps} s {key} {p} has {node} here t =
     let n = at_node (IsPairIn kp vp (live_of c.bytes) h) ps (pair_node p) (in_nodes kp.order ps key p has) s.pairs in
     let x = n.pair.node in let xs = (live_of c.bytes).extents in
-    rw (lay_out_one _ _ _ t.live) (any_at (λ (x : Extent). handle x == node) xs x (found_in xs (handle x) x n.holds.listed) (eq-eqb (handle x) node (n.at ∙ here)))
+    rw (lay_out_one _ _ _ t.live) (any_at (λ (x : Extent). handle x == node) xs x (found_in xs (handle x) x n.holds.listed) (eq-eqb _ _ (n.at ∙ here)))

@@ -117,7 +117,7 @@ module _ {K V : Type 0} {kp : Plain K} {vp : Plain V} (kl : Laws kp) (vl : Laws 
           blocks = λ y f o.
               let i = found_in (live_of c.bytes).extents (handle y) y f in
               let k = kept y i in
-              let b = q.beside.blocks y (still_there y f) (ap (λ (t : Bool). t || is_in (handle y) (nodes_of_pairs ps)) (ne_eqb (handle y) (handle x) (differs_at y i)) ∙ o) in
+              let b = q.beside.blocks y (still_there y f) (ap (λ (t : Bool). t || is_in (handle y) (nodes_of_pairs ps)) (ne_eqb _ _ (differs_at y i)) ∙ o) in
               record { payload = λ n low high g. b.payload n low high g ∙ k.payload.at n low high; colour = b.colour ∙ k.colour };
         };
         map = q.map;

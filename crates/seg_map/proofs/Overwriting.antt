@@ -97,8 +97,8 @@ module _ {K V : Type 0} {kp : Plain K} {vp : Plain V} (c : Cut) {h at : ℕ} {ps
         let found = pair_of kp.order Was ps key p has were in
         let is : q.key ≡ key = some_key q.key p.key (sym w.key_is ∙ ap keys_of e ∙ found.0.key_is) ∙ sym same_key_is in
         elim o [
-          | inl l ↦ both_ways (kp.order key q.key) (ap (kp.order key) is ∙ kl.irreflexive key) l
-          | inr l ↦ both_ways (kp.order q.key key) (ap (λ k. kp.order k key) is ∙ kl.irreflexive key) l
+          | inl l ↦ both_ways _ (ap (kp.order key) is ∙ kl.irreflexive key) l
+          | inr l ↦ both_ways _ (ap (λ k. kp.order k key) is ∙ kl.irreflexive key) l
         ]
 
     bytes_stay : (q : Pair K V) → Was q → (kp.order key q.key ≡ true) ⊎ (kp.order q.key key ≡ true) → IsPairAt kp.SIZE kp.spelling vp.spelling (bytes_of d.bytes) q
@@ -163,7 +163,7 @@ module _ {K V : Type 0} {kp : Plain K} {vp : Plain V} (c : Cut) {h at : ℕ} {ps
             front = keeps.front;
             behind = keeps.behind;
             blocks = λ y f o.
-                let b = block_stays y (handle y) f (λ e. both_ways (is_in (handle y) (nodes_of_pairs ps)) o (ap (λ n. is_in n (nodes_of_pairs ps)) e ∙ in_nodes kp.order ps key p has)) in
+                let b = block_stays y (handle y) f (λ e. both_ways _ o (ap (λ n. is_in n (nodes_of_pairs ps)) e ∙ in_nodes kp.order ps key p has)) in
                 record { payload = λ n low high g. b.payload.at n low high; colour = b.colour };
           };
           map = map_after;

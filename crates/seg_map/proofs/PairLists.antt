@@ -23,7 +23,7 @@ pub other_nodes : {K V : Type 0} (n : ℕ) (ps : List (Pair K V)) → is_in n (n
 other_nodes n [] h = tt
 other_nodes n (p ∷ ps) h =
     let two = or_parts (n == pair_node p) (is_in n (nodes_of_pairs ps)) h in
-    ((λ e. both_ways (n == pair_node p) two.0 (eq-eqb n (pair_node p) (sym e))), other_nodes n ps two.1)
+    ((λ e. both_ways _ two.0 (eq-eqb _ _ (sym e))), other_nodes n ps two.1)
 
 pub not_among : {K V : Type 0} (n : ℕ) (ps : List (Pair K V)) → AllByRecursion (λ p. pair_node p ≢ n) ps → is_in n (nodes_of_pairs ps) ≡ false
 not_among n [] a = refl
@@ -37,8 +37,8 @@ module _ {K V : Type 0} (less : K → K → Bool) where
       elim (cases_Bool (is_key less key q)) [
         | inl y ↦
             let f = rw y at e in let same : p ≡ q = cc in
-            or_left (pair_node p == pair_node q) (is_in (pair_node p) (nodes_of_pairs qs)) (eq-eqb (pair_node p) (pair_node q) (ap pair_node same))
-        | inr z ↦ or_right (pair_node p == pair_node q) (is_in (pair_node p) (nodes_of_pairs qs)) (in_nodes qs key p (rw z at e))
+            or_left _ _ (eq-eqb _ _ (ap pair_node same))
+        | inr z ↦ or_right _ _ (in_nodes qs key p (rw z at e))
       ]
 
   -- what holds of all pairs holds of those that are left
@@ -92,13 +92,13 @@ none_behind : {K V : Type 0} (less : K → K → Bool) → IsStrict less → (ke
     → Below less q.key qs → is_in (pair_node q) (nodes_of_pairs qs) ≡ false
 none_behind less strict keys q [] e k b = refl
 none_behind {K} {V} less strict keys q (p ∷ ps) e k b =
-    ap (λ (x : Bool). x || is_in (pair_node q) (nodes_of_pairs ps)) (ne_eqb (pair_node q) (pair_node p) differs) ∙ none_behind less strict keys q ps e k.1 b.1
+    ap (λ (x : Bool). x || is_in (pair_node q) (nodes_of_pairs ps)) (ne_eqb _ _ differs) ∙ none_behind less strict keys q ps e k.1 b.1
   where
     differs : pair_node q ≡ pair_node p → ⊥
     differs f =
         let same : Some q.key ≡ Some p.key = sym e ∙ ap keys f ∙ k.0 in
         let is : q.key ≡ p.key = cc same in
-        both_ways (less q.key p.key) (ap (less q.key) (sym is) ∙ strict q.key) b.0
+        both_ways _ (ap (less q.key) (sym is) ∙ strict q.key) b.0
 
 module _ {K V : Type 0} (less : K → K → Bool) (strict : IsStrict less) (on : Chains less) (keys : ℕ → Option K) where
   pub without_nodes : (p : Pair K V) (key : K) (ps : List (Pair K V)) → HaveKeys keys ps → is_rising less ps ≡ true → pair_at less ps key ≡ Some p
@@ -110,11 +110,11 @@ module _ {K V : Type 0} (less : K → K → Bool) (strict : IsStrict less) (on :
         | inl y ↦
             let found = rw y at h in let same : p ≡ q = cc in
             let here : is_in (pair_node p) (nodes_of_pairs qs) ≡ false = ap (λ (x : Pair K V). is_in (pair_node x) (nodes_of_pairs qs)) same ∙ behind in
-            rw (eq-eqb (pair_node p) (pair_node q) (ap pair_node same), y) (without_none (pair_node p) (nodes_of_pairs qs) here)
+            rw (eq-eqb _ _ (ap pair_node same), y) (without_none (pair_node p) (nodes_of_pairs qs) here)
         | inr z ↦
             let found = rw z at h in
             let differs : pair_node p ≡ pair_node q → ⊥ =
-            λ e. both_ways (is_in (pair_node p) (nodes_of_pairs qs)) (ap (λ n. is_in n (nodes_of_pairs qs)) e ∙ behind) (in_nodes less qs key p found) in
-            rw (ne_eqb (pair_node p) (pair_node q) differs, z)
+            λ e. both_ways _ (ap (λ n. is_in n (nodes_of_pairs qs)) e ∙ behind) (in_nodes less qs key p found) in
+            rw (ne_eqb _ _ differs, z)
             (ap (λ ms. pair_node q ∷ ms) (without_nodes p key qs k.1 (rising_rest less on q qs r) found))
       ]

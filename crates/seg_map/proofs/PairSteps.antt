@@ -123,8 +123,8 @@ module _ {len : ℕ} {ns : List ℕ} {c d : Cut} {n : ℕ} (g : PairNode len ns 
           cells_at len ns d n (ap (λ (p : ℕ → Bool). p n) nodes_stay ∙ e) ∙ own ∙ ap f (sym (cells_at len ns c n e))
 
       at : (m : ℕ) → (m ≡ n) ⊎ (m ≡ n → ⊥) → pair_cells len ns d m ≡ (if m == n then f (pair_cells len ns c m) else pair_cells len ns c m)
-      at m (inl e) = rw (eq-eqb m n e, e) here
-      at m (inr o) = rw (ne_eqb m n o) (other m o (cases_Bool (is_pair_node len ns c m)))
+      at m (inl e) = rw (eq-eqb _ _ e, e) here
+      at m (inr o) = rw (ne_eqb _ _ o) (other m o (cases_Bool (is_pair_node len ns c m)))
 
 -- ---- the keys stay
 
@@ -146,29 +146,29 @@ any_weaker : (p q : Extent → Bool) (xs : List Extent) → ((x : Extent) → p 
 any_weaker p q [] f h = absurd (false≢true h)
 any_weaker p q (x ∷ xs) f h =
     elim (or_cases _ _ h) [
-      | inl e ↦ or_left (q x) (list_any q xs) (f x e)
-      | inr e ↦ or_right (q x) (list_any q xs) (any_weaker p q xs f e)
+      | inl e ↦ or_left _ _ (f x e)
+      | inr e ↦ or_right _ _ (any_weaker p q xs f e)
     ]
 
 pub any_at : (q : Extent → Bool) (xs : List Extent) (x : Extent) → In x xs → q x ≡ true → list_any q xs ≡ true
 any_at q [] x i h = absurd i
-any_at q (y ∷ ys) x (inl e) h = or_left (q y) (list_any q ys) (ap q e ∙ h)
-any_at q (y ∷ ys) x (inr i) h = or_right (q y) (list_any q ys) (any_at q ys x i h)
+any_at q (y ∷ ys) x (inl e) h = or_left _ _ (ap q e ∙ h)
+any_at q (y ∷ ys) x (inr i) h = or_right _ _ (any_at q ys x i h)
 
 pub room_of : {len : ℕ} {c : Cut} {n : ℕ} (k : ℕ) → Place len c n → k ≤ len → IsTrue (has_room (live_of c.bytes) n k)
 room_of {len} {c} {n} k p l =
     let b = p.block in let enough = b.holds in
     any_at (λ (x : Extent). (handle x == n) && nat_le (k + 16) x.len) (live_of c.bytes).extents b.extent b.listed
-    (rw (eq-eqb (handle b.extent) n b.at, le-leb (k + 16) b.extent.len (omega arith)) refl)
+    (rw (eq-eqb _ _ b.at, le-leb (k + 16) b.extent.len (omega arith)) refl)
 
 pub live_node : {len : ℕ} {c : Cut} {n : ℕ} → Place len c n → IsTrue (is_live_in (live_of c.bytes) n)
-live_node {c = c} {n = n} p = let b = p.block in any_at (λ (x : Extent). handle x == n) (live_of c.bytes).extents b.extent b.listed (eq-eqb (handle b.extent) n b.at)
+live_node {c = c} {n = n} p = let b = p.block in any_at (λ (x : Extent). handle x == n) (live_of c.bytes).extents b.extent b.listed (eq-eqb _ _ b.at)
 
 pub node_live : {len : ℕ} {c : Cut} {n : ℕ} → Place len c n → IsTrue (is_node_in (live_of c.bytes) n)
 node_live {c = c} {n = n} p =
     let b = p.block in
     any_at (λ (x : Extent). (handle x == n) && is_node_role x.role) (live_of c.bytes).extents b.extent b.listed
-    (rw (eq-eqb (handle b.extent) n b.at, ap is_node_role b.node) refl)
+    (rw (eq-eqb _ _ b.at, ap is_node_role b.node) refl)
 
 pub target_whole : (len : ℕ) (ns : List ℕ) (c : Cut) (to : Option ℕ) → leads (is_pair_node len ns c) to ≡ true → IfSome to (λ t. t % 16 ≡ 0)
 target_whole len ns c None h = tt
@@ -188,7 +188,7 @@ kept_away ns live n k i t =
     elim (cases_lt k n) [
       | inl l ↦ inl l
       | inr l ↦ elim (cases_lt k (n + 16)) [
-        | inl m ↦ absurd (both_ways (is_link_byte ns k) off (link_byte ns i l m))
+        | inl m ↦ absurd (both_ways _ off (link_byte ns i l m))
         | inr m ↦ inr m
       ]
     ]
@@ -198,7 +198,7 @@ kept_away ns live n k i t =
     link_byte (m' ∷ ms) j l m =
         elim (or_cases _ _ j) [
           | inl e ↦ let e' = eqb-true n m' e in or_left (nat_le m' k && nat_lt k (m' + 16)) (is_link_byte ms k) (rw (le-leb m' k (omega arith), lt-ltb k (m' + 16) (omega arith)) refl)
-          | inr r ↦ or_right (nat_le m' k && nat_lt k (m' + 16)) (is_link_byte ms k) (link_byte ms r l m)
+          | inr r ↦ or_right _ _ (link_byte ms r l m)
         ]
 
 -- another block lies away from a node's payload

@@ -39,7 +39,7 @@ first_at (y ∷ ys) h x i e =
     elim (cases_Bool (handle y == h)) [
       | inl t ↦ record { extent = y; found = rw t refl; listed = inl refl; at = eqb-true (handle y) h t }
       | inr f ↦ elim i [
-        | inl s ↦ absurd (false≢true (sym f ∙ eq-eqb (handle y) h (ap handle s ∙ e)))
+        | inl s ↦ absurd (false≢true (sym f ∙ eq-eqb _ _ (ap handle s ∙ e)))
         | inr j ↦ let r = first_at ys h x j e in record { extent = r.extent; found = rw f r.found; listed = inr r.listed; at = r.at }
       ]
     ]
@@ -61,7 +61,7 @@ module _ (b : List ℕ) (h n : ℕ) (proper : IsTrue (is_proper (live_of b))) (r
       ]
 
   pub live : IsTrue (is_live_in (live_of b) h)
-  live = any_at (λ (x : Extent). handle x == h) (live_of b).extents r.extent r.listed (eq-eqb (handle r.extent) h r.at)
+  live = any_at (λ (x : Extent). handle x == h) (live_of b).extents r.extent r.listed (eq-eqb _ _ r.at)
 
   pub ends : h + n ≤ length b
   unfolding live_of

@@ -33,7 +33,7 @@ use Rattle.seg_map.proofs.PutLists.{place_of, put_all, put_length, put_nodes, pu
 -- a link among nodes is one among more of them
 leads_more : (n : ℕ) (ns : List ℕ) (o : Option ℕ) → leads (λ j. is_in j ns) o ≡ true → leads (λ j. is_in j (n ∷ ns)) o ≡ true
 leads_more n ns None h = refl
-leads_more n ns (Some m) h = or_right (m == n) (is_in m ns) h
+leads_more n ns (Some m) h = or_right _ _ h
 
 module _ {K V : Type 0} {kp : Plain K} {vp : Plain V} (kl : Laws kp) (c : Cut) {h at : ℕ} {root : Option ℕ}
     {ps : List (Pair K V)} (s : HoldsMap kp vp c.bytes h at ps) (is : root ≡ link_at (bytes_of c.bytes) (h + at))
@@ -77,10 +77,10 @@ module _ {K V : Type 0} {kp : Plain K} {vp : Plain V} (kl : Laws kp) (c : Cut) {
   node_all m i = PairNode-is_pair_node (16 + kp.SIZE) all c m (record { good = good_all; listed = i })
 
   in_all : (m : ℕ) → is_in m ns ≡ true → is_in m all ≡ true
-  in_all m i = or_right (m == pair_node p) (is_in m ns) i
+  in_all m i = or_right _ _ i
 
   own_in : is_in (pair_node p) all ≡ true
-  own_in = or_left (pair_node p == pair_node p) (is_in (pair_node p) ns) (eq-eqb (pair_node p) (pair_node p) refl)
+  own_in = or_left _ _ (eq-eqb (pair_node p) (pair_node p) refl)
 
   -- the keys of the nodes are as before, and the new one has its own
   key_same : (m : ℕ) → is_in m ns ≡ true → keys_in kp all c m ≡ keys_in kp ns c m

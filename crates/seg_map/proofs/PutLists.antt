@@ -67,7 +67,7 @@ module _ {K V : Type 0} (less : K → K → Bool) where
       let two = absent_here p.key q qs e in
       elim (cases_Bool (less p.key q.key)) [
         | inl y ↦ rw y refl
-        | inr n ↦ rw (n, either_one (less p.key q.key) (less q.key p.key) two.0 n) (ap suc (put_length p qs two.1))
+        | inr n ↦ rw (n, either_one _ _ two.0 n) (ap suc (put_length p qs two.1))
       ]
 
   pub put_rising : Chains less → (p : Pair K V) (ps : List (Pair K V))
@@ -78,7 +78,7 @@ module _ {K V : Type 0} (less : K → K → Bool) where
       elim (cases_Bool (less p.key q.key)) [
         | inl y ↦ rw y (rw (y, r) refl)
         | inr n ↦
-            let below = either_one (less p.key q.key) (less q.key p.key) two.0 n in
+            let below = either_one _ _ two.0 n in
             rw (n, below) (below_rising less q (put_pair less p qs)
             (put_all (λ (x : Pair K V). less q.key x.key ≡ true) p qs below (rising_below less on q qs r))
             (put_rising on p qs two.1 (rising_rest less on q qs r)))
@@ -101,7 +101,7 @@ module _ {K V : Type 0} (less : K → K → Bool) where
         let same : comes_before less keys (pair_node p) (pair_node q) ≡ less p.key q.key = λ i. before_key less (own i) (k.0 i) in
         elim (cases_Bool (less p.key q.key)) [
           | inl y ↦ rw (same ∙ y, y) refl
-          | inr n ↦ rw (same ∙ n, n, either_one (less p.key q.key) (less q.key p.key) two.0 n)
+          | inr n ↦ rw (same ∙ n, n, either_one _ _ two.0 n)
               (ap (λ (ms : List ℕ). pair_node q ∷ ms) (put_nodes qs k.1 two.1))
         ]
 

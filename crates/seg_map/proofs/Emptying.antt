@@ -1,5 +1,6 @@
 -- A map is given up pair by pair.
-use Rattle.std.proofs.Common.{◌≡◌, refl, sym, ap, subst, ◌∙◌, ℕ, ◌+◌, ◌≤◌, ◌<◌, ◌≢◌, inl, inr, Bool, true, false, ◌||◌, List, [], ◌∷◌, map, arith, ◌==◌, IsTrue}
+use Rattle.std.proofs.Common.{◌≡◌, refl, sym, ap, subst, ◌∙◌, ℕ, ◌+◌, ◌≤◌, ◌<◌, ◌≢◌, inl, inr, Bool, true, false, ◌||◌}
+use Rattle.std.proofs.Common.{List, [], ◌∷◌, map, arith, ◌==◌, IsTrue}
 use Rattle.std.specs.Prelude.{Option, Some, None, find}
 use Rattle.std.specs.List.{AllByRecursion}
 use Rattle.std.proofs.lemmas.Bool.{both_ways, cases_Bool, cases_eq, eq-eqb, ne_eqb}
@@ -51,7 +52,8 @@ blocks_of {K} {V} ps = map (λ (p : Pair K V). p.node) ps
 module _ {K V : Type 0} (less : K → K → Bool) where
   -- one block and then those of the other pairs
   without_removed : (qs : List (Pair K V)) (key : K) (p : Pair K V) (zs : List Extent) → pair_at less qs key ≡ Some p
-      → without_all (map (λ (q : Pair K V). q.node) (remove_pair less qs key)) (others (handle p.node) zs) ≡ without_all (map (λ (q : Pair K V). q.node) qs) zs
+      → without_all (map (λ (q : Pair K V). q.node) (remove_pair less qs key)) (others (handle p.node) zs)
+      ≡ without_all (map (λ (q : Pair K V). q.node) qs) zs
   without_removed [] key p zs e = absurd (cc)
   without_removed (q ∷ qs) key p zs e =
       elim (cases_Bool (is_key less key q)) [
@@ -59,19 +61,23 @@ module _ {K V : Type 0} (less : K → K → Bool) where
             let f = rw y at e in let same : p ≡ q = cc in
             rw y (ap (λ (x : Pair K V). without_all (blocks_of qs) (others (handle x.node) zs)) same)
         | inr z ↦
-            rw z (ap (without_all (blocks_of (remove_pair less qs key))) (others-comm (handle q.node) (handle p.node) zs)
+            rw z (ap (without_all (blocks_of (remove_pair less qs key))) (others-comm (handle q.node)
+            (handle p.node) zs)
             ∙ without_removed qs key p (others (handle q.node) zs) (rw z at e))
       ]
 
   -- each pair is the one of its key
-  own_found : IsStrict less → Chains less → (qs : List (Pair K V)) → is_rising less qs ≡ true → AllByRecursion (λ (q : Pair K V). pair_at less qs q.key ≡ Some q) qs
+  own_found : IsStrict less → Chains less → (qs : List (Pair K V)) → is_rising less qs ≡ true
+      → AllByRecursion (λ (q : Pair K V). pair_at less qs q.key ≡ Some q) qs
   own_found strict on [] r = tt
   own_found strict on (q ∷ qs) r = (
     rw (strict q.key) refl,
     behind qs (rising_below less on q qs r) (own_found strict on qs (rising_rest less on q qs r)),
   )
     where
-      behind : (xs : List (Pair K V)) → Below less q.key xs → AllByRecursion (λ (x : Pair K V). pair_at less qs x.key ≡ Some x) xs → AllByRecursion (λ (x : Pair K V). pair_at less (q ∷ qs) x.key ≡ Some x) xs
+      behind : (xs : List (Pair K V)) → Below less q.key xs → AllByRecursion (λ (x : Pair K V).
+          pair_at less qs x.key ≡ Some x) xs → AllByRecursion (λ (x : Pair K V). pair_at less (q ∷ qs) x.key ≡ Some x)
+          xs
       behind [] b a = tt
       behind (x ∷ xs) b a = (rw (either_right (less x.key q.key) (less q.key x.key) b.0) a.0, behind xs b.1 a.1)
 
@@ -106,39 +112,51 @@ others_apart n h (z ∷ zs) r =
       | inr o ↦ rw (ne_eqb _ _ o) (o, others_apart (z.offset + 1) h zs r.1)
     ]
   where
-    differ : handle z ≡ h → (xs : List Extent) → AllByRecursion (λ (x : Extent). z.offset + 1 ≤ x.offset) xs → AllByRecursion (λ (x : Extent). handle x ≢ h) xs
+    differ : handle z ≡ h → (xs : List Extent) → AllByRecursion (λ (x : Extent). z.offset + 1 ≤ x.offset) xs
+        → AllByRecursion (λ (x : Extent). handle x ≢ h) xs
     differ e [] a = tt
     differ e (x ∷ xs) a = ((λ f. omega (arith, a.0, e, f)), differ e xs a.1)
 
-without_keeps : (P : Extent → Type 0) (gone zs : List Extent) → AllByRecursion P zs → AllByRecursion P (without_all gone zs)
+without_keeps : (P : Extent → Type 0) (gone zs : List Extent) → AllByRecursion P zs → AllByRecursion P
+    (without_all gone zs)
 without_keeps P [] zs a = a
 without_keeps P (x ∷ xs) zs a = without_keeps P xs (others (handle x) zs) (AllByRecursion-others P (handle x) zs a)
 
 -- what is left is none of those that are gone
-left_over : {K V : Type 0} (n : ℕ) (ps : List (Pair K V)) (zs : List Extent) → Rises n zs → AllByRecursion (λ (x : Extent). is_in (handle x) (nodes_of_pairs ps) ≡ false) (without_all (map (λ (p : Pair K V). p.node) ps) zs)
+left_over : {K V : Type 0} (n : ℕ) (ps : List (Pair K V)) (zs : List Extent) → Rises n zs
+    → AllByRecursion (λ (x : Extent). is_in (handle x) (nodes_of_pairs ps) ≡ false) (without_all
+    (map (λ (p : Pair K V). p.node) ps) zs)
 left_over n [] zs r = each zs
   where
     each : (xs : List Extent) → AllByRecursion (λ (x : Extent). false ≡ false) xs
     each [] = tt
     each (x ∷ xs) = (refl, each xs)
 left_over {K} {V} n (p ∷ ps) zs r =
-    both (without_all (blocks_of ps) (others (handle p.node) zs)) (without_keeps (λ (x : Extent). handle x ≢ handle p.node) (blocks_of ps) (others (handle p.node) zs) (others_apart n (handle p.node) zs r))
+    both (without_all (blocks_of ps) (others (handle p.node) zs)) (without_keeps (λ (x : Extent).
+    handle x ≢ handle p.node) (blocks_of ps) (others (handle p.node) zs) (others_apart n (handle p.node) zs r))
     (left_over n ps (others (handle p.node) zs) (rises_others n (handle p.node) zs r))
   where
-    both : (xs : List Extent) → AllByRecursion (λ (x : Extent). handle x ≢ handle p.node) xs → AllByRecursion (λ (x : Extent). is_in (handle x) (nodes_of_pairs ps) ≡ false) xs
+    both : (xs : List Extent) → AllByRecursion (λ (x : Extent). handle x ≢ handle p.node) xs
+        → AllByRecursion (λ (x : Extent). is_in (handle x) (nodes_of_pairs ps) ≡ false) xs
         → AllByRecursion (λ (x : Extent). is_in (handle x) (nodes_of_pairs (p ∷ ps)) ≡ false) xs
     both [] a b = tt
-    both (x ∷ xs) a b = (ap (λ (t : Bool). t || is_in (handle x) (nodes_of_pairs ps)) (ne_eqb _ _ a.0) ∙ b.0, both xs a.1 b.1)
+    both (x ∷ xs) a b = (
+      ap (λ (t : Bool). t || is_in (handle x) (nodes_of_pairs ps)) (ne_eqb _ _ a.0)
+          ∙ b.0,
+      both xs a.1 b.1,
+    )
 
 -- each extent is the one of its handle
-found_each : (n : ℕ) (zs : List Extent) → Rises n zs → AllByRecursion (λ (x : Extent). find (λ (w : Extent). handle w == handle x) zs ≡ Some x) zs
+found_each : (n : ℕ) (zs : List Extent) → Rises n zs → AllByRecursion (λ (x : Extent). find
+    (λ (w : Extent). handle w == handle x) zs ≡ Some x) zs
 found_each n [] r = tt
 found_each n (z ∷ zs) r = (
   rw (eq-eqb (handle z) (handle z) refl) refl,
   behind zs (rises_above (z.offset + 1) zs r.1) (found_each (z.offset + 1) zs r.1),
 )
   where
-    behind : (xs : List Extent) → AllByRecursion (λ (x : Extent). z.offset + 1 ≤ x.offset) xs → AllByRecursion (λ (x : Extent). find (λ (w : Extent). handle w == handle x) zs ≡ Some x) xs
+    behind : (xs : List Extent) → AllByRecursion (λ (x : Extent). z.offset + 1 ≤ x.offset) xs
+        → AllByRecursion (λ (x : Extent). find (λ (w : Extent). handle w == handle x) zs ≡ Some x) xs
         → AllByRecursion (λ (x : Extent). find (λ (w : Extent). handle w == handle x) (z ∷ zs) ≡ Some x) xs
     behind [] a b = tt
     behind (x ∷ xs) a b = (
@@ -149,16 +167,20 @@ found_each n (z ∷ zs) r = (
 -- ---- the map on its way
 
 -- the pairs that are left, and what is beside them
-pub record IsGoing {K V : Type 0} (k : Plain K) (v : Plain V) (old now : Cut) (h at : ℕ) (ps : List (Pair K V)) : Type 0 where
+pub record IsGoing {K V : Type 0} (k : Plain K) (v : Plain V) (old now : Cut) (h at : ℕ) (ps : List (Pair K V)) : Type
+    0 where
   pub pairs : List (Pair K V)
   pub holds : HoldsMap k v now.bytes h at pairs
   pub among : (m : ℕ) → is_in m (nodes_of_pairs pairs) ≡ true → is_in m (nodes_of_pairs ps) ≡ true
   pub beside : IsBesideMap old now (h + at) (nodes_of_pairs ps)
-  pub there : (x : Extent) → extent_at (live_of old.bytes) (handle x) ≡ Some x → is_in (handle x) (nodes_of_pairs ps) ≡ false → extent_at (live_of now.bytes) (handle x) ≡ Some x
+  pub there : (x : Extent) → extent_at (live_of old.bytes) (handle x) ≡ Some x → is_in (handle x) (nodes_of_pairs ps)
+      ≡ false → extent_at (live_of now.bytes) (handle x) ≡ Some x
   pub size : (live_of now.bytes).size ≡ (live_of old.bytes).size
-  pub left : without_all (map (λ (p : Pair K V). p.node) pairs) (live_of now.bytes).extents ≡ without_all (map (λ (p : Pair K V). p.node) ps) (live_of old.bytes).extents
+  pub left : without_all (map (λ (p : Pair K V). p.node) pairs) (live_of now.bytes).extents
+      ≡ without_all (map (λ (p : Pair K V). p.node) ps) (live_of old.bytes).extents
 
-pub going_first : {K V : Type 0} (k : Plain K) (v : Plain V) (c : Cut) (h at : ℕ) (ps : List (Pair K V)) → HoldsMap k v c.bytes h at ps → IsGoing k v c c h at ps
+pub going_first : {K V : Type 0} (k : Plain K) (v : Plain V) (c : Cut) (h at : ℕ) (ps : List (Pair K V))
+    → HoldsMap k v c.bytes h at ps → IsGoing k v c c h at ps
 going_first k v c h at ps s =
     record {
       pairs = ps;
@@ -178,26 +200,38 @@ going_first k v c h at ps s =
 module _ {K V : Type 0} {k : Plain K} {v : Plain V} (kl : Laws k) {old now : Cut} {h at : ℕ} {ps : List (Pair K V)}
     (g : IsGoing k v old now h at ps) where
   -- the node at the root is that of a pair
-  pub root_pair : {node : ℕ} → link_at (bytes_of now.bytes) (h + at) ≡ Some node → AtNode (λ (q : Pair K V). pair_at k.order g.pairs q.key ≡ Some q) node
+  pub root_pair : {node : ℕ} → link_at (bytes_of now.bytes) (h + at) ≡ Some node → AtNode (λ (q : Pair K V).
+      pair_at k.order g.pairs q.key ≡ Some q) node
   root_pair {node} e =
       let s = g.holds in
-      let i = root_in (cells_of (bytes_of now.bytes)) node s.map.tree.tree (subst (λ (o : Option ℕ). IsTree (cells_of (bytes_of now.bytes)) o s.map.tree.tree) e s.map.tree.linked) in
-      at_node (λ (q : Pair K V). pair_at k.order g.pairs q.key ≡ Some q) g.pairs node (ap (λ ms. is_in node ms) (sym s.map.tree.lists) ∙ i) (own_found k.order kl.irreflexive kl.transitive g.pairs s.rising)
+      let i = root_in (cells_of (bytes_of now.bytes)) node s.map.tree.tree (subst (λ (o : Option ℕ).
+      IsTree (cells_of (bytes_of now.bytes)) o s.map.tree.tree) e s.map.tree.linked) in
+      at_node (λ (q : Pair K V). pair_at k.order g.pairs q.key ≡ Some q) g.pairs node (ap (λ ms. is_in node ms)
+      (sym s.map.tree.lists) ∙ i) (own_found k.order kl.irreflexive kl.transitive g.pairs s.rising)
 
-  module _ {new : Cut} {key : K} {p : Pair K V} (has : pair_at k.order g.pairs key ≡ Some p) (e : IsErased k v now new h at g.pairs p key) where
+  module _ {new : Cut} {key : K} {p : Pair K V} (has : pair_at k.order g.pairs key ≡ Some p)
+      (e : IsErased k v now new h at g.pairs p key) where
     live_new : live_of new.bytes ≡ released (live_of now.bytes) (handle p.node)
     live_new = lay_out_one _ _ _ e.live
 
-    off : (x : Extent) → is_in (handle x) (nodes_of_pairs ps) ≡ false → is_in (handle x) (nodes_of_pairs g.pairs) ≡ false
-    off x o = elim (cases_Bool (is_in (handle x) (nodes_of_pairs g.pairs))) [ inl t ↦ absurd (both_ways _ o (g.among (handle x) t)) | inr f ↦ f ]
+    off : (x : Extent) → is_in (handle x) (nodes_of_pairs ps) ≡ false → is_in (handle x) (nodes_of_pairs g.pairs)
+        ≡ false
+    off x o = elim (cases_Bool (is_in (handle x) (nodes_of_pairs g.pairs))) [
+      | inl t ↦ absurd
+          (both_ways _ o (g.among (handle x) t))
+      | inr f ↦ f
+    ]
 
     apart : (x : Extent) → is_in (handle x) (nodes_of_pairs ps) ≡ false → handle x ≢ handle p.node
-    apart x o f = both_ways _ (off x o) (ap (λ n. is_in n (nodes_of_pairs g.pairs)) f ∙ in_nodes k.order g.pairs key p has)
+    apart x o f = both_ways _ (off x o) (ap (λ n. is_in n (nodes_of_pairs g.pairs)) f ∙ in_nodes k.order g.pairs key p
+        has)
 
-    fewer_nodes : (m : ℕ) → is_in m (nodes_of_pairs (remove_pair k.order g.pairs key)) ≡ true → is_in m (nodes_of_pairs g.pairs) ≡ true
+    fewer_nodes : (m : ℕ) → is_in m (nodes_of_pairs (remove_pair k.order g.pairs key)) ≡ true
+        → is_in m (nodes_of_pairs g.pairs) ≡ true
     fewer_nodes =
         in_from (nodes_of_pairs g.pairs) (remove_pair k.order g.pairs key)
-        (removed_all k.order (λ q. is_in (pair_node q) (nodes_of_pairs g.pairs) ≡ true) g.pairs key (nodes_in (nodes_of_pairs g.pairs) g.pairs (λ m i. i)))
+        (removed_all k.order (λ q. is_in (pair_node q) (nodes_of_pairs g.pairs) ≡ true) g.pairs key
+        (nodes_in (nodes_of_pairs g.pairs) g.pairs (λ m i. i)))
 
     pub going_on : IsGoing k v old new h at ps
     going_on =
@@ -211,11 +245,17 @@ module _ {K V : Type 0} {k : Plain K} {v : Plain V} (kl : Laws k) {old now : Cut
             behind = Same-trans _ _ _ _ _ g.beside.behind e.beside.behind;
             blocks = λ x f o.
                 let a = g.beside.blocks x f o in let b = e.beside.blocks x (g.there x f o) (off x o) in
-                record { payload = λ n low high z. b.payload n low high z ∙ a.payload n low high z; colour = b.colour ∙ a.colour };
+                record {
+                  payload = λ n low high z. b.payload n low high z ∙ a.payload n low high z;
+                  colour =
+                      b.colour ∙ a.colour;
+                };
           };
-          there = λ x f o. rw live_new (found-less (handle x) (handle p.node) x (live_of now.bytes).extents (apart x o) (g.there x f o));
+          there = λ x f o. rw live_new (found-less (handle x) (handle p.node) x (live_of now.bytes).extents (apart x o)
+              (g.there x f o));
           size = ap (λ (l : LiveSet). l.size) live_new ∙ g.size;
-          left = ap (λ (l : LiveSet). without_all (blocks_of (remove_pair k.order g.pairs key)) l.extents) live_new ∙ without_removed k.order g.pairs key p (live_of now.bytes).extents has ∙ g.left;
+          left = ap (λ (l : LiveSet). without_all (blocks_of (remove_pair k.order g.pairs key)) l.extents) live_new
+              ∙ without_removed k.order g.pairs key p (live_of now.bytes).extents has ∙ g.left;
         }
 
     -- there is a pair less
@@ -229,11 +269,15 @@ module _ {K V : Type 0} {k : Plain K} {v : Plain V} (kl : Laws k) {old now : Cut
   no_pairs leaf (q ∷ qs) e f = absurd (cc)
   no_pairs (fork red left n right) qs e f = absurd (cc)
 
-  pub given_up : IsTrue (is_proper (live_of old.bytes)) → link_at (bytes_of now.bytes) (h + at) ≡ None → IsGivenUp k v old now h at ps
+  pub given_up : IsTrue (is_proper (live_of old.bytes)) → link_at (bytes_of now.bytes) (h + at) ≡ None
+      → IsGivenUp k v old now h at ps
   given_up proper e =
-      let none : g.pairs ≡ [] = no_pairs g.holds.map.tree.tree g.pairs (sym e ∙ g.holds.map.tree.linked.root) g.holds.map.tree.lists in
-      let rest : (live_of now.bytes).extents ≡ without_all (blocks_of ps) (live_of old.bytes).extents = ap (λ (qs : List (Pair K V)). without_all (blocks_of qs) (live_of now.bytes).extents) (sym none) ∙ g.left in
-      let live : live_of now.bytes ≡ exchanged (live_of old.bytes) (blocks_of ps) [] = λ i. record { size = g.size i; extents = rest i } in
+      let none : g.pairs ≡ [] = no_pairs g.holds.map.tree.tree g.pairs (sym e ∙ g.holds.map.tree.linked.root)
+      g.holds.map.tree.lists in
+      let rest : (live_of now.bytes).extents ≡ without_all (blocks_of ps) (live_of old.bytes).extents =
+      ap (λ (qs : List (Pair K V)). without_all (blocks_of qs) (live_of now.bytes).extents) (sym none) ∙ g.left in
+      let live : live_of now.bytes ≡ exchanged (live_of old.bytes) (blocks_of ps) [] = λ i.
+      record { size = g.size i; extents = rest i } in
       let rises = live-rises (live_of old.bytes) proper in
       record {
         change = record {
@@ -242,13 +286,15 @@ module _ {K V : Type 0} {k : Plain K} {v : Plain V} (kl : Laws k) {old now : Cut
           front = g.beside.front;
           behind = g.beside.behind;
           blocks = stay (without_all (blocks_of ps) (live_of old.bytes).extents)
-              (without_keeps (λ (x : Extent). extent_at (live_of old.bytes) (handle x) ≡ Some x) (blocks_of ps) (live_of old.bytes).extents (found_each 128 (live_of old.bytes).extents rises))
+              (without_keeps (λ (x : Extent). extent_at (live_of old.bytes) (handle x) ≡ Some x) (blocks_of ps)
+              (live_of old.bytes).extents (found_each 128 (live_of old.bytes).extents rises))
               (left_over 128 ps (live_of old.bytes).extents rises);
         };
         empty = subst (λ (qs : List (Pair K V)). HoldsMap k v now.bytes h at qs) none g.holds;
       }
     where
-      stay : (xs : List Extent) → AllByRecursion (λ (x : Extent). extent_at (live_of old.bytes) (handle x) ≡ Some x) xs → AllByRecursion (λ (x : Extent). is_in (handle x) (nodes_of_pairs ps) ≡ false) xs
+      stay : (xs : List Extent) → AllByRecursion (λ (x : Extent). extent_at (live_of old.bytes) (handle x) ≡ Some x) xs
+          → AllByRecursion (λ (x : Extent). is_in (handle x) (nodes_of_pairs ps) ≡ false) xs
           → AllByRecursion (SameBlockBut (bytes_of old.bytes) (bytes_of now.bytes) (h + at) 24) xs
       stay [] a b = tt
       stay (x ∷ xs) a b = (g.beside.blocks x a.0 b.0, stay xs a.1 b.1)

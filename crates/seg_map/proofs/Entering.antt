@@ -1,5 +1,6 @@
 -- The pairs of a map as a search tree.
-use Rattle.std.proofs.Common.{◌≡◌, refl, sym, ap, ◌∙◌, ℕ, suc, ◌+◌, ◌^◌, ◌≤◌, ◌≢◌, inl, inr, Bool, true, false, ◌&&◌, not, List, [], ◌∷◌, length, map, arith, ◌==◌}
+use Rattle.std.proofs.Common.{◌≡◌, refl, sym, ap, ◌∙◌, ℕ, suc, ◌+◌, ◌^◌, ◌≤◌, ◌≢◌, inl, inr, Bool, true, false, ◌&&◌}
+use Rattle.std.proofs.Common.{not, List, [], ◌∷◌, length, map, arith, ◌==◌}
 use Rattle.std.specs.Prelude.{Option, Some, None, find, option_map}
 use Rattle.std.specs.List.{AllByRecursion, last_or, list_all}
 use mathlib.Core.List.{reverse}
@@ -10,7 +11,8 @@ use Rattle.block_tags.specs.declared.tile.Role.TheVariants.{Node}
 use Rattle.offset_link.specs.Link.{link_at}
 use Rattle.link_tree.specs.Tree.{Tree, IsTree, IsSearchTree, nodes_of, rises}
 use Rattle.link_tree.specs.Nodes.{first_not, is_in, last_before, leads}
-use Rattle.link_tree.proofs.Laws.{above_more, all_from, bits_most, bounds_height, reads_off, root_in, tree_limit, tree_same}
+use Rattle.link_tree.proofs.Laws.{above_more, all_from, bits_most, bounds_height, reads_off, root_in, tree_limit}
+use Rattle.link_tree.proofs.Laws.{tree_same}
 use Rattle.best_fit.specs.Extents.{Extent, LiveSet, handle}
 use Rattle.best_fit.specs.FreeTree.{cells_of}
 use Rattle.best_fit.specs.Fit.{others}
@@ -21,9 +23,12 @@ use Rattle.seg_types.specs.declared.plain.Plain.{Ghosts as Plain}
 use Rattle.seg_types.specs.Plain.{value_in}
 use Rattle.seg_types.proofs.Laws.{value-spelled}
 use Rattle.seg_map.specs.Map.{Pair, IsPairAt, is_rising}
-use Rattle.seg_map.specs.Places.{HoldsMap, IsPairIn, final_pair, first_pair, is_passed, last_pair, nodes_of_pairs, pair_node}
-use Rattle.seg_map.specs.PairNodes.{before_key, comes_before, stands, is_block_in, is_pair_node, key_at, key_of, links_among, own_nodes, nodes_in, pair_cells, stands_before}
-use Rattle.seg_map.specs.PairLaws.{Chains, IsStrict, Good, In, PairNode-is_pair_node, cells_at, comes_irreflexive, comes_transitive, node_block, few_extents, handles_length, in_handles}
+use Rattle.seg_map.specs.Places.{HoldsMap, IsPairIn, final_pair, first_pair, is_passed, last_pair, nodes_of_pairs}
+use Rattle.seg_map.specs.Places.{pair_node}
+use Rattle.seg_map.specs.PairNodes.{before_key, comes_before, stands, is_block_in, is_pair_node, key_at, key_of}
+use Rattle.seg_map.specs.PairNodes.{links_among, own_nodes, nodes_in, pair_cells, stands_before}
+use Rattle.seg_map.specs.PairLaws.{Chains, IsStrict, Good, In, PairNode-is_pair_node, cells_at, comes_irreflexive}
+use Rattle.seg_map.specs.PairLaws.{comes_transitive, node_block, few_extents, handles_length, in_handles}
 use Rattle.seg_map.proofs.FoundLists.{all_reversed, find_mapped, last_mapped, map_reversed}
 use Rattle.seg_map.proofs.PairSteps.{all_in, any_at, in_others}
 
@@ -45,8 +50,10 @@ abbrev pub value_of : {T : Type 0} → Plain T → List ℕ → Option T
 value_of p = value_in p.reading p.is_value p.spelling
 
 -- a value that is spelled is read
-pub read_spelled : {T : Type 0} (p : Plain T) → Laws p → (m : Memory) (at : ℕ) (x : T) → p.is_value x ≡ true → Has m at (p.spelling x) → value_of p (read m at p.SIZE) ≡ Some x
-read_spelled p l m at x one h = value-spelled p.reading p.is_value p.spelling l.reads x (read m at p.SIZE) one (sym h ∙ ap (read m at) (l.spells x one))
+pub read_spelled : {T : Type 0} (p : Plain T) → Laws p → (m : Memory) (at : ℕ) (x : T) → p.is_value x ≡ true
+    → Has m at (p.spelling x) → value_of p (read m at p.SIZE) ≡ Some x
+read_spelled p l m at x one h = value-spelled p.reading p.is_value p.spelling l.reads x (read m at p.SIZE) one
+    (sym h ∙ ap (read m at) (l.spells x one))
 
 -- a pair of a map: its key, its value, and what its block holds
 pub record PairParts {K V : Type 0} (kp : Plain K) (vp : Plain V) (p : Pair K V) : Type 0 where
@@ -100,7 +107,8 @@ abbrev pub HaveKeys : {K V : Type 0} → (ℕ → Option K) → List (Pair K V) 
 HaveKeys {K} {V} keys ps = AllByRecursion (λ (p : Pair K V). keys (pair_node p) ≡ Some p.key) ps
 
 module _ {K V : Type 0} (less : K → K → Bool) where
-  pub rising_nodes : Chains less → (keys : ℕ → Option K) (ps : List (Pair K V)) → HaveKeys keys ps → is_rising less ps ≡ true
+  pub rising_nodes : Chains less → (keys : ℕ → Option K) (ps : List (Pair K V)) → HaveKeys keys ps → is_rising less ps
+      ≡ true
       → rises (comes_before less keys) (nodes_of_pairs ps) ≡ true
   rising_nodes on keys [] k r = refl
   rising_nodes on keys (p ∷ []) k r = refl
@@ -108,8 +116,14 @@ module _ {K V : Type 0} (less : K → K → Bool) where
       let two = and_parts _ _ r in
       let rest = rising_nodes on keys (q ∷ qs) k.1 two.1 in
       let parts = and_parts _ _ rest in
-      let below : comes_before less keys (pair_node p) (pair_node q) ≡ true = (λ i. before_key less (k.0 i) (k.1.0 i)) ∙ two.0 in
-      rw (below, above_more (comes_before less keys) (comes_transitive less on keys) (pair_node p) (pair_node q) (nodes_of_pairs qs) below parts.0, rest) refl
+      let below : comes_before less keys (pair_node p) (pair_node q) ≡ true = (λ i. before_key less (k.0 i) (k.1.0 i))
+      ∙ two.0 in
+      rw (
+        below,
+        above_more (comes_before less keys) (comes_transitive less on keys) (pair_node p) (pair_node q)
+            (nodes_of_pairs qs) below parts.0,
+        rest,
+      ) refl
 
   -- a node stands before a key where its pair is passed
   passes : (keys : ℕ → Option K) (past : Bool) (key : K) (ps : List (Pair K V)) → HaveKeys keys ps
@@ -118,26 +132,32 @@ module _ {K V : Type 0} (less : K → K → Bool) where
   passes keys past key (p ∷ ps) k = (ap (stands less past key) k.0, passes keys past key ps k.1)
 
   passes_not : (keys : ℕ → Option K) (past : Bool) (key : K) (ps : List (Pair K V)) → HaveKeys keys ps
-      → AllByRecursion (λ (p : Pair K V). not (stands_before less keys past key (pair_node p)) ≡ not (is_passed less past key p)) ps
+      → AllByRecursion (λ (p : Pair K V). not (stands_before less keys past key (pair_node p))
+      ≡ not (is_passed less past key p)) ps
   passes_not keys past key [] k = tt
   passes_not keys past key (p ∷ ps) k = (ap (λ o. not (stands less past key o)) k.0, passes_not keys past key ps k.1)
 
   -- the first node is that of the first pair
   pub first_node : (keys : ℕ → Option K) (past : Bool) (key : K) (ps : List (Pair K V)) → HaveKeys keys ps
-      → first_not (stands_before less keys past key) (nodes_of_pairs ps) ≡ option_map pair_node (first_pair less past key ps)
+      → first_not (stands_before less keys past key) (nodes_of_pairs ps) ≡ option_map pair_node
+      (first_pair less past key ps)
   first_node keys past key ps k =
-      find_mapped pair_node (λ n. not (stands_before less keys past key n)) (λ p. not (is_passed less past key p)) ps (passes_not keys past key ps k)
+      find_mapped pair_node (λ n. not (stands_before less keys past key n)) (λ p. not (is_passed less past key p)) ps
+      (passes_not keys past key ps k)
 
   -- and the last node that of the last pair
   pub last_node : (keys : ℕ → Option K) (past : Bool) (key : K) (ps : List (Pair K V)) → HaveKeys keys ps
-      → last_before (stands_before less keys past key) (nodes_of_pairs ps) ≡ option_map pair_node (last_pair less past key ps)
+      → last_before (stands_before less keys past key) (nodes_of_pairs ps) ≡ option_map pair_node
+      (last_pair less past key ps)
   last_node keys past key ps k =
       ap (find (stands_before less keys past key)) (map_reversed pair_node ps)
       ∙ find_mapped pair_node (stands_before less keys past key) (is_passed less past key) (reverse ps)
-      (all_reversed (λ (p : Pair K V). stands_before less keys past key (pair_node p) ≡ is_passed less past key p) ps (passes keys past key ps k))
+      (all_reversed (λ (p : Pair K V). stands_before less keys past key (pair_node p) ≡ is_passed less past key p) ps
+      (passes keys past key ps k))
 
 -- what holds of each pair
-pub pairs_all : {K V : Type 0} (P : ℕ → Bool) (Q : Pair K V → Type 0) (ps : List (Pair K V)) → ((p : Pair K V) → Q p → P (pair_node p) ≡ true) → AllByRecursion Q ps → list_all P (nodes_of_pairs ps) ≡ true
+pub pairs_all : {K V : Type 0} (P : ℕ → Bool) (Q : Pair K V → Type 0) (ps : List (Pair K V))
+    → ((p : Pair K V) → Q p → P (pair_node p) ≡ true) → AllByRecursion Q ps → list_all P (nodes_of_pairs ps) ≡ true
 pairs_all P Q [] f a = refl
 pairs_all P Q (p ∷ ps) f a = rw (f p a.0, pairs_all P Q ps f a.1) refl
 
@@ -167,17 +187,20 @@ module _ {K V : Type 0} {kp : Plain K} {vp : Plain V} (laws : Laws kp) (c : Cut)
   pub pair_in : (p : Pair K V) → IsPairIn kp vp (live_of c.bytes) h p → In p.node (live_of c.bytes).extents
   pair_in p i = found_in (live_of c.bytes).extents (handle p.node) p.node i.listed
 
-  pub pair_block : (p : Pair K V) → IsPairIn kp vp (live_of c.bytes) h p → is_block_in len (live_of c.bytes) (pair_node p) ≡ true
+  pub pair_block : (p : Pair K V) → IsPairIn kp vp (live_of c.bytes) h p → is_block_in len (live_of c.bytes)
+      (pair_node p) ≡ true
   pair_block p i =
       let q = pair_parts i in let long = q.long in
-      any_at (λ (x : Extent). (handle x == pair_node p) && serves x Node len) (live_of c.bytes).extents p.node (pair_in p i)
+      any_at (λ (x : Extent). (handle x == pair_node p) && serves x Node len) (live_of c.bytes).extents p.node
+      (pair_in p i)
       (rw (eq-eqb (handle p.node) (pair_node p) refl, q.role, le-leb (16 + kp.SIZE + 16) p.node.len (omega arith)) refl)
 
   pub good : Good len ns c
   good =
       record {
         proper = s.heap.proper;
-        blocks = rw listed (pairs_all (is_block_in len (live_of c.bytes)) (IsPairIn kp vp (live_of c.bytes) h) ps pair_block s.pairs);
+        blocks = rw listed (pairs_all (is_block_in len (live_of c.bytes)) (IsPairIn kp vp (live_of c.bytes) h) ps
+            pair_block s.pairs);
         links = all_from (links_among (bytes_of c.bytes) ns) ns (λ m i.
             let k = holds_closed (cells_of (bytes_of c.bytes)) t m s.map.tree.linked.holds i in
             rw (k.left, k.right) refl);
@@ -186,13 +209,16 @@ module _ {K V : Type 0} {kp : Plain K} {vp : Plain V} (laws : Laws kp) (c : Cut)
   pub node_here : (n : ℕ) → is_in n ns ≡ true → is_pair_node len ns c n ≡ true
   node_here n i = PairNode-is_pair_node len ns c n (record { good = good; listed = i })
 
-  key_read : (p : Pair K V) → is_in (pair_node p) ns ≡ true → IsPairIn kp vp (live_of c.bytes) h p → IsPairAt kp.SIZE kp.spelling vp.spelling (bytes_of c.bytes) p
+  key_read : (p : Pair K V) → is_in (pair_node p) ns ≡ true → IsPairIn kp vp (live_of c.bytes) h p
+      → IsPairAt kp.SIZE kp.spelling vp.spelling (bytes_of c.bytes) p
       → keys_in (pair_node p) ≡ Some p.key
   unfolding key_of key_at
   key_read p i k b =
-      rw (node_here (pair_node p) i) (read_spelled kp laws (bytes_of c.bytes) (handle p.node + 16) p.key (pair_parts k).key b.0)
+      rw (node_here (pair_node p) i) (read_spelled kp laws (bytes_of c.bytes) (handle p.node + 16) p.key
+      (pair_parts k).key b.0)
 
-  keys_from : (qs : List (Pair K V)) → list_all (λ n. is_in n ns) (nodes_of_pairs qs) ≡ true → AreIn kp vp (live_of c.bytes) h qs
+  keys_from : (qs : List (Pair K V)) → list_all (λ n. is_in n ns) (nodes_of_pairs qs) ≡ true
+      → AreIn kp vp (live_of c.bytes) h qs
       → AreAt kp vp (bytes_of c.bytes) qs → HaveKeys keys_in qs
   keys_from [] i k b = tt
   keys_from (q ∷ qs) i k b =
@@ -200,15 +226,19 @@ module _ {K V : Type 0} {kp : Plain K} {vp : Plain V} (laws : Laws kp) (c : Cut)
       (key_read q two.0 k.0 b.0, keys_from qs two.1 k.1 b.1)
 
   pub keys : HaveKeys keys_in ps
-  keys = keys_from ps (all_from (λ n. is_in n ns) (nodes_of_pairs ps) (λ m i. ap (λ ms. is_in m ms) listed ∙ i)) s.pairs s.map.pairs
+  keys = keys_from ps (all_from (λ n. is_in n ns) (nodes_of_pairs ps) (λ m i. ap (λ ms. is_in m ms) listed ∙ i))
+      s.pairs s.map.pairs
 
   pub ordered : rises (comes_before kp.order keys_in) ns ≡ true
-  ordered = ap (rises (comes_before kp.order keys_in)) listed ∙ rising_nodes kp.order laws.transitive keys_in ps keys s.rising
+  ordered = ap (rises (comes_before kp.order keys_in)) listed ∙ rising_nodes kp.order laws.transitive keys_in ps keys
+      s.rising
 
-  pub search_tree : IsSearchTree (comes_before kp.order keys_in) (pair_cells len ns c) (link_at (bytes_of c.bytes) (h + at)) s.map.tree.tree
+  pub search_tree : IsSearchTree (comes_before kp.order keys_in) (pair_cells len ns c) (link_at (bytes_of c.bytes)
+      (h + at)) s.map.tree.tree
   search_tree =
       record {
-        tree = tree_same (cells_of (bytes_of c.bytes)) (pair_cells len ns c) (link_at (bytes_of c.bytes) (h + at)) t (λ m i. cells_at len ns c m (node_here m i)) s.map.tree.linked;
+        tree = tree_same (cells_of (bytes_of c.bytes)) (pair_cells len ns c) (link_at (bytes_of c.bytes) (h + at)) t
+            (λ m i. cells_at len ns c m (node_here m i)) s.map.tree.linked;
         ordered = ordered;
         red_black = s.map.tree.red_black;
       }
@@ -216,7 +246,8 @@ module _ {K V : Type 0} {kp : Plain K} {vp : Plain V} (laws : Laws kp) (c : Cut)
   pub few_pairs : length ns ≤ 2 ^ 30
   few_pairs =
       let xs = (live_of c.bytes).extents in
-      let l = tree_limit (comes_before kp.order keys_in) (comes_transitive kp.order laws.transitive keys_in) (comes_irreflexive kp.order laws.irreflexive keys_in) (map handle xs) t ordered (λ m i.
+      let l = tree_limit (comes_before kp.order keys_in) (comes_transitive kp.order laws.transitive keys_in)
+      (comes_irreflexive kp.order laws.irreflexive keys_in) (map handle xs) t ordered (λ m i.
       let b = node_block len ns c m (record { good = good; listed = i }) in in_handles xs b.extent m b.listed b.at) in
       let f = few_extents (live_of c.bytes) s.heap.proper in let e = handles_length xs in omega arith
 
@@ -225,20 +256,26 @@ module _ {K V : Type 0} {kp : Plain K} {vp : Plain V} (laws : Laws kp) (c : Cut)
   own =
       let few = few_pairs in
       let tall = bounds_height t s.map.tree.red_black in let most = bits_most (length ns) (omega arith) in
-      ap nodes_in (reads_off.whole 82 (λ n. true) (cells_of (bytes_of c.bytes)) (link_at (bytes_of c.bytes) (h + at)) t s.map.tree.linked (all_from (λ n. true) ns (λ m i. refl)) (omega arith))
+      ap nodes_in (reads_off.whole 82 (λ n. true) (cells_of (bytes_of c.bytes)) (link_at (bytes_of c.bytes) (h + at)) t
+      s.map.tree.linked (all_from (λ n. true) ns (λ m i. refl)) (omega arith))
 
   pub root_leads : leads (is_pair_node len ns c) (link_at (bytes_of c.bytes) (h + at)) ≡ true
   root_leads = by_root (link_at (bytes_of c.bytes) (h + at)) s.map.tree.linked
     where
-      by_root : (o : Option ℕ) → IsTree (cells_of (bytes_of c.bytes)) o s.map.tree.tree → leads (is_pair_node len ns c) o ≡ true
+      by_root : (o : Option ℕ) → IsTree (cells_of (bytes_of c.bytes)) o s.map.tree.tree → leads
+          (is_pair_node len ns c) o ≡ true
       by_root None k = refl
       by_root (Some n) k = node_here n (root_in (cells_of (bytes_of c.bytes)) n t k)
 
-  pub found_pair : (past : Bool) (key : K) → first_not (stands_before kp.order keys_in past key) ns ≡ option_map pair_node (first_pair kp.order past key ps)
-  found_pair past key = ap (first_not (stands_before kp.order keys_in past key)) listed ∙ first_node kp.order keys_in past key ps keys
+  pub found_pair : (past : Bool) (key : K) → first_not (stands_before kp.order keys_in past key) ns
+      ≡ option_map pair_node (first_pair kp.order past key ps)
+  found_pair past key = ap (first_not (stands_before kp.order keys_in past key)) listed ∙ first_node kp.order keys_in
+      past key ps keys
 
-  pub found_back : (past : Bool) (key : K) → last_before (stands_before kp.order keys_in past key) ns ≡ option_map pair_node (last_pair kp.order past key ps)
-  found_back past key = ap (last_before (stands_before kp.order keys_in past key)) listed ∙ last_node kp.order keys_in past key ps keys
+  pub found_back : (past : Bool) (key : K) → last_before (stands_before kp.order keys_in past key) ns
+      ≡ option_map pair_node (last_pair kp.order past key ps)
+  found_back past key = ap (last_before (stands_before kp.order keys_in past key)) listed ∙ last_node kp.order keys_in
+      past key ps keys
 
   pub found_last : last_or None ns ≡ option_map pair_node (final_pair ps)
   found_last = let none : Option ℕ = None in ap (last_or none) listed ∙ last_mapped pair_node None ps

@@ -5,7 +5,8 @@ use Rattle.std.specs.Prelude.{Option, Some, find, option_map}
 use Rattle.std.specs.List.{AllByRecursion, last_or}
 use Rattle.std.proofs.lemmas.Bool.{cases_Bool}
 
-all_append : {A : Type 0} (P : A → Type 0) (xs ys : List A) → AllByRecursion P xs → AllByRecursion P ys → AllByRecursion P (xs ++ ys)
+all_append : {A : Type 0} (P : A → Type 0) (xs ys : List A) → AllByRecursion P xs → AllByRecursion P ys
+    → AllByRecursion P (xs ++ ys)
 all_append P [] ys a b = b
 all_append P (x ∷ xs) ys a b = (a.0, all_append P xs ys a.1 b)
 
@@ -13,7 +14,8 @@ all_append P (x ∷ xs) ys a b = (a.0, all_append P xs ys a.1 b)
 pub all_reversed : {A : Type 0} (P : A → Type 0) (xs : List A) → AllByRecursion P xs → AllByRecursion P (reverse xs)
 all_reversed P [] a = tt
 all_reversed P (x ∷ xs) a =
-    subst (AllByRecursion P) (sym (reverse-cons x xs)) (all_append P (reverse xs) (x ∷ []) (all_reversed P xs a.1) (a.0, tt))
+    subst (AllByRecursion P) (sym (reverse-cons x xs)) (all_append P (reverse xs) (x ∷ []) (all_reversed P xs a.1)
+    (a.0, tt))
 
 map_append : {A B : Type 0} (f : A → B) (xs ys : List A) → map f (xs ++ ys) ≡ map f xs ++ map f ys
 map_append f [] ys = refl
@@ -25,8 +27,10 @@ map_reversed f (x ∷ xs) =
     reverse-cons (f x) (map f xs) ∙ ap (λ zs. zs ++ f x ∷ []) (map_reversed f xs)
     ∙ sym (ap (map f) (reverse-cons x xs) ∙ map_append f (reverse xs) (x ∷ []))
 
--- where a test says of what is made of each what another says of it, the first that passes is made of the first that passes
-pub find_mapped : {A B : Type 0} (f : A → B) (test : B → Bool) (test' : A → Bool) (xs : List A) → AllByRecursion (λ x. test (f x) ≡ test' x) xs
+-- where a test says of what is made of each what another says of it, the first that passes is made of the first that
+-- passes
+pub find_mapped : {A B : Type 0} (f : A → B) (test : B → Bool) (test' : A → Bool) (xs : List A)
+    → AllByRecursion (λ x. test (f x) ≡ test' x) xs
     → find test (map f xs) ≡ option_map f (find test' xs)
 find_mapped f test test' [] a = refl
 find_mapped f test test' (x ∷ xs) a =
@@ -36,6 +40,7 @@ find_mapped f test test' (x ∷ xs) a =
       | inr e ↦ rw (a.0 ∙ e, e) rest
     ]
 
-pub last_mapped : {A B : Type 0} (f : A → B) (o : Option A) (xs : List A) → last_or (option_map f o) (map f xs) ≡ option_map f (last_or o xs)
+pub last_mapped : {A B : Type 0} (f : A → B) (o : Option A) (xs : List A) → last_or (option_map f o) (map f xs)
+    ≡ option_map f (last_or o xs)
 last_mapped f o [] = refl
 last_mapped f o (x ∷ xs) = last_mapped f (Some x) xs

@@ -16,7 +16,8 @@ by_key less key None = None
 by_key less key (Some p) = if less key p.key then None else Some p
 
 module _ {K V : Type 0} (less : K → K → Bool) (on : Chains less) where
-  pub none_above : (key : K) (q : Pair K V) (qs : List (Pair K V)) → is_rising less (q ∷ qs) ≡ true → less key q.key ≡ true
+  pub none_above : (key : K) (q : Pair K V) (qs : List (Pair K V)) → is_rising less (q ∷ qs) ≡ true → less key q.key
+      ≡ true
       → pair_at less qs key ≡ None
   none_above key q [] r l = refl
   none_above key q (p ∷ ps) r l =
@@ -34,5 +35,9 @@ module _ {K V : Type 0} (less : K → K → Bool) (on : Chains less) where
       let rest = pair_by_key key qs (rising_rest q qs r) in
       elim (cases_Bool (less q.key key)) [
         | inl f ↦ elim (cases_Bool (less key q.key)) [ inl y ↦ rw (f, y) rest | inr n ↦ rw (f, n) rest ]
-        | inr t ↦ elim (cases_Bool (less key q.key)) [ inl y ↦ rw (t, y) (none_above key q qs r y) | inr n ↦ rw (t, n) refl ]
+        | inr t ↦ elim (cases_Bool (less key q.key)) [
+          | inl y ↦ rw (t, y) (none_above key q qs r y)
+          | inr n ↦
+              rw (t, n) refl
+        ]
       ]

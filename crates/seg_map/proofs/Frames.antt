@@ -1,6 +1,8 @@
 -- What stays where a tree call changes the links and the colours of nodes alone.
-use Rattle.std.proofs.Common.{◌≡◌, refl, ap, ◌∙◌, ℕ, ◌+◌, ◌-◌, ◌%◌, ◌<◌, ◌≤◌, ◌⊎◌, inl, inr, true, false, ◌&&◌, ◌||◌, not, List, [], ◌∷◌, arith, nat_lt, nat_le, ◌==◌}
-use Rattle.std.proofs.lemmas.Bool.{false≢true, both_ways, cases_Bool, and_parts, or_cases, or_left, or_right, eq-eqb, leb-true, le-leb, ltb-true, lt-ltb}
+use Rattle.std.proofs.Common.{◌≡◌, refl, ap, ◌∙◌, ℕ, ◌+◌, ◌-◌, ◌%◌, ◌<◌, ◌≤◌, ◌⊎◌, inl, inr, true, false, ◌&&◌, ◌||◌}
+use Rattle.std.proofs.Common.{not, List, [], ◌∷◌, arith, nat_lt, nat_le, ◌==◌}
+use Rattle.std.proofs.lemmas.Bool.{false≢true, both_ways, cases_Bool, and_parts, or_cases, or_left, or_right, eq-eqb}
+use Rattle.std.proofs.lemmas.Bool.{leb-true, le-leb, ltb-true, lt-ltb}
 use Rattle.raw_region.specs.Memory.{Cut, SamePlace, bytes_of, word_at}
 use Rattle.link_tree.specs.Nodes.{is_in}
 use Rattle.best_fit.specs.Extents.{Extent, handle, end_of}
@@ -32,8 +34,20 @@ of_node (n ∷ ns) k h =
     elim (or_cases _ _ h) [
       | inl e ↦
           let two = and_parts _ _ e in
-          record { node = n; listed = or_left _ _ (eq-eqb n n refl); low = leb-true n k two.0; high = ltb-true k (n + 16) two.1 }
-      | inr e ↦ let r = of_node ns k e in record { node = r.node; listed = or_right _ _ r.listed; low = r.low; high = r.high }
+          record {
+            node = n;
+            listed = or_left _ _ (eq-eqb n n refl);
+            low = leb-true n k two.0;
+            high =
+                ltb-true k (n + 16) two.1;
+          }
+      | inr e ↦ let r = of_node ns k e in record {
+        node = r.node;
+        listed = or_right _ _ r.listed;
+        low = r.low;
+        high =
+            r.high;
+      }
     ]
 
 module _ {len : ℕ} {ns : List ℕ} {c : Cut} (d : Cut) (good : Good len ns c) (same : kept_of ns d ≡ kept_of ns c)
@@ -46,13 +60,15 @@ module _ {len : ℕ} {ns : List ℕ} {c : Cut} (d : Cut) (good : Good len ns c) 
   unfolding kept_of
   kept_byte k t = let e = ap (λ (r : Kept). r.byte k) same in rw (live_stays c d ns ns same, t) at e
 
-  kept_colour : (h : ℕ) → is_other ns (live_of c.bytes) h ≡ true → word_at (bytes_of d.bytes) (h - 8) % 16 ≡ word_at (bytes_of c.bytes) (h - 8) % 16
+  kept_colour : (h : ℕ) → is_other ns (live_of c.bytes) h ≡ true → word_at (bytes_of d.bytes) (h - 8) % 16
+      ≡ word_at (bytes_of c.bytes) (h - 8) % 16
   unfolding kept_of
   kept_colour h t = let e = ap (λ (r : Kept). r.colour h) same in rw (live_stays c d ns ns same, t) at e
 
   no_link : (k : ℕ) → ((n : ℕ) → is_in n ns ≡ true → (k < n) ⊎ (n + 16 ≤ k)) → is_link_byte ns k ≡ false
   no_link k off = elim (cases_Bool (is_link_byte ns k)) [
-    | inl t ↦ let o = of_node ns k t in let low = o.low in let high = o.high in absurd (elim (off o.node o.listed) [ inl l ↦ omega arith | inr l ↦ omega arith ])
+    | inl t ↦ let o = of_node ns k t in let low = o.low in let high = o.high in absurd (elim (off o.node o.listed)
+        [ inl l ↦ omega arith | inr l ↦ omega arith ])
     | inr f ↦ f
   ]
 
@@ -65,10 +81,12 @@ module _ {len : ℕ} {ns : List ℕ} {c : Cut} (d : Cut) (good : Good len ns c) 
             let l = (node_place len ns c n (record { good = good; listed = i })).low in inl (below place n l))),
       ) refl)
     where
-      here : (k < 24) ⊎ ((32 ≤ k) × (k < 128)) → (nat_lt k 24 || (nat_le 32 k && nat_lt k 128) || lies_in_block (live_of c.bytes) k) ≡ true
+      here : (k < 24) ⊎ ((32 ≤ k) × (k < 128)) → (nat_lt k 24 || (nat_le 32 k && nat_lt k 128)
+          || lies_in_block (live_of c.bytes) k) ≡ true
       here (inl l) = or_left _ _ (or_left _ _ (lt-ltb k 24 l))
       here (inr p) =
-          or_left _ _ (or_right (nat_lt k 24) (nat_le 32 k && nat_lt k 128) (rw (le-leb 32 k p.0, lt-ltb k 128 p.1) refl))
+          or_left _ _ (or_right (nat_lt k 24) (nat_le 32 k && nat_lt k 128) (rw (le-leb 32 k p.0, lt-ltb k 128 p.1)
+          refl))
 
       below : (k < 24) ⊎ ((32 ≤ k) × (k < 128)) → (n : ℕ) → 144 ≤ n → k < n
       below (inl l) n low' = omega arith

@@ -1,5 +1,6 @@
 -- A pair leaves the map.
-use Rattle.std.proofs.Common.{◌≡◌, refl, sym, ap, subst, ◌∙◌, ℕ, ◌+◌, ◌*◌, ◌%◌, ◌≤◌, ◌≢◌, inl, inr, true, false, List, [], ◌∷◌, length, arith, ◌==◌, IsTrue}
+use Rattle.std.proofs.Common.{◌≡◌, refl, sym, ap, subst, ◌∙◌, ℕ, ◌+◌, ◌*◌, ◌%◌, ◌≤◌, ◌≢◌, inl, inr, true, false, List}
+use Rattle.std.proofs.Common.{[], ◌∷◌, length, arith, ◌==◌, IsTrue}
 use Rattle.std.specs.Prelude.{Option, Some, None, IfSome}
 use Rattle.std.specs.List.{AllByRecursion}
 use Rattle.std.proofs.lemmas.Bool.{both_ways, eqb-true, eq-eqb, false≢true, or_cases, or_left, or_right}
@@ -23,21 +24,24 @@ use Rattle.seg_map.specs.Changing.{IsBesideMap, IsErased, IsHeaded, IsTaken}
 use Rattle.seg_map.specs.Searches.{exit_in}
 use Rattle.seg_map.proofs.Entering.{AreIn, Laws, count_pairs, found_in, good, keys, listed, other_block}
 use Rattle.seg_map.proofs.Searching.{lent_own, lent_tree}
-use Rattle.seg_map.proofs.PairLists.{in_nodes, none_left, not_among, other_nodes, removed_all, removed_length, removed_rising, without_nodes}
+use Rattle.seg_map.proofs.PairLists.{in_nodes, none_left, not_among, other_nodes, removed_all, removed_length}
+use Rattle.seg_map.proofs.PairLists.{removed_rising, without_nodes}
 use Rattle.seg_map.proofs.PairSteps.{any_at, target_whole}
 use Rattle.seg_map.proofs.Rewriting.{beside, rewritten}
 use Rattle.seg_map.proofs.Staying.{Still, at_node, map_stays}
 use Rattle.seg_map.proofs.Frames.{live_stays}
 
 -- the object's block is no node
-pub apart_all : {K V : Type 0} (kp : Plain K) (vp : Plain V) (live : LiveSet) (h : ℕ) (ps : List (Pair K V)) → AreIn kp vp live h ps → is_in h (nodes_of_pairs ps) ≡ false
+pub apart_all : {K V : Type 0} (kp : Plain K) (vp : Plain V) (live : LiveSet) (h : ℕ) (ps : List (Pair K V))
+    → AreIn kp vp live h ps → is_in h (nodes_of_pairs ps) ≡ false
 apart_all {K} {V} kp vp live h ps a = not_among h ps (differ ps a)
   where
     differ : (qs : List (Pair K V)) → AreIn kp vp live h qs → AllByRecursion (λ p. pair_node p ≢ h) qs
     differ [] b = tt
     differ (q ∷ qs) b = (b.0.apart, differ qs b.1)
 
-pub in_from : {K V : Type 0} (ms : List ℕ) (ps : List (Pair K V)) → AllByRecursion (λ p. is_in (pair_node p) ms ≡ true) ps → (m : ℕ) → is_in m (nodes_of_pairs ps) ≡ true → is_in m ms ≡ true
+pub in_from : {K V : Type 0} (ms : List ℕ) (ps : List (Pair K V)) → AllByRecursion (λ p. is_in (pair_node p) ms ≡ true)
+    ps → (m : ℕ) → is_in m (nodes_of_pairs ps) ≡ true → is_in m ms ≡ true
 in_from ms [] a m i = absurd (false≢true i)
 in_from ms (p ∷ ps) a m i =
     elim (or_cases _ _ i) [
@@ -46,7 +50,8 @@ in_from ms (p ∷ ps) a m i =
     ]
 
 -- each pair's node is among the nodes
-pub nodes_in : {K V : Type 0} (ms : List ℕ) (ps : List (Pair K V)) → ((m : ℕ) → is_in m (nodes_of_pairs ps) ≡ true → is_in m ms ≡ true) → AllByRecursion (λ p. is_in (pair_node p) ms ≡ true) ps
+pub nodes_in : {K V : Type 0} (ms : List ℕ) (ps : List (Pair K V)) → ((m : ℕ) → is_in m (nodes_of_pairs ps) ≡ true
+    → is_in m ms ≡ true) → AllByRecursion (λ p. is_in (pair_node p) ms ≡ true) ps
 nodes_in ms [] f = tt
 nodes_in ms (p ∷ ps) f = (
   f (pair_node p) (or_left _ _ (eq-eqb (pair_node p) (pair_node p) refl)),
@@ -79,7 +84,8 @@ module _ {K V : Type 0} {kp : Plain K} {vp : Plain V} (kl : Laws kp) (c : Cut) {
         rw ns_is begins;
   }
 
-  module _ {d : Cut} {node : ℕ} (here : pair_node p ≡ node) {top : Option ℕ} {steps : ℕ} (u : Unlinked kp lent c d root node top steps) where
+  module _ {d : Cut} {node : ℕ} (here : pair_node p ≡ node) {top : Option ℕ} {steps : ℕ} (u : Unlinked kp lent c d root
+      node top steps) where
     pub live_left : live_of d.bytes ≡ live_of c.bytes
     live_left = live_stays c d lent lent u.kept
 
@@ -96,20 +102,25 @@ module _ {K V : Type 0} {kp : Plain K} {vp : Plain V} (kl : Laws kp) (c : Cut) {
     off = ap (is_in h) all_own ∙ apart_all kp vp (live_of c.bytes) h ps s.pairs
 
     -- the map without the pair
-    pub taken : Laws vp → {e : Cut} {n : ℕ} → n + 1 ≡ length ps → IsHeaded d e (h + at) top n → IsTaken kp vp c e h at ps key
+    pub taken : Laws vp → {e : Cut} {n : ℕ} → n + 1 ≡ length ps → IsHeaded d e (h + at) top n
+        → IsTaken kp vp c e h at ps key
     taken vl {e} {n} count head =
         let r = u.tree s.map.tree.tree key_tree in
         let lists : nodes_of r.0 ≡ nodes_of_pairs (remove_pair kp.order ps key) =
         r.2 ∙ (λ i. without (sym here i) (listed kl c s i))
-        ∙ without_nodes kp.order kl.irreflexive kl.transitive (keys_in kp (nodes_of s.map.tree.tree) c) p key ps (keys kl c s) s.rising has in
+        ∙ without_nodes kp.order kl.irreflexive kl.transitive (keys_in kp (nodes_of s.map.tree.tree) c) p key ps
+        (keys kl c s) s.rising has in
         let gone = removed_length kp.order ps key p has in
         record {
           live = subst (LaysOut current e.bytes) live_left head.change.live;
           beside = subst (IsBesideMap c e (h + at)) all_own (beside kl vl h at s.heap good_here u.kept s.room off head);
           map = rewritten kl vl h at s.heap good_here u.kept s.room off head (remove_pair kp.order ps key) r.1 lists
               (removed_all kp.order (IsPairIn kp vp (live_of c.bytes) h) ps key s.pairs)
-              (in_from lent (remove_pair kp.order ps key) (removed_all kp.order (λ q. is_in (pair_node q) lent ≡ true) ps key (nodes_in lent ps (λ m i. ap (is_in m) all_own ∙ i))))
-              s.aligned (removed_rising kp.order kl.transitive ps key s.rising) (removed_all kp.order (IsPairAt kp.SIZE kp.spelling vp.spelling (bytes_of c.bytes)) ps key s.map.pairs) (omega (arith, gone, count));
+              (in_from lent (remove_pair kp.order ps key) (removed_all kp.order (λ q. is_in (pair_node q) lent ≡ true)
+              ps key (nodes_in lent ps (λ m i. ap (is_in m) all_own ∙ i))))
+              s.aligned (removed_rising kp.order kl.transitive ps key s.rising) (removed_all kp.order
+              (IsPairAt kp.SIZE kp.spelling vp.spelling (bytes_of c.bytes)) ps key s.map.pairs)
+              (omega (arith, gone, count));
         }
 
 -- the block of a pair that is gone is given back
@@ -121,13 +132,16 @@ module _ {K V : Type 0} {kp : Plain K} {vp : Plain V} (kl : Laws kp) (vl : Laws 
   live_is = lay_out_one _ _ _ t.live
 
   other : h ≢ node
-  other e' = both_ways _ (apart_all kp vp (live_of c.bytes) h ps s.pairs) (ap (λ n. is_in n (nodes_of_pairs ps)) (e' ∙ sym here) ∙ in_nodes kp.order ps key p has)
+  other e' = both_ways _ (apart_all kp vp (live_of c.bytes) h ps s.pairs) (ap (λ n. is_in n (nodes_of_pairs ps))
+      (e' ∙ sym here) ∙ in_nodes kp.order ps key p has)
 
-  stills : (qs : List (Pair K V)) → AreIn kp vp (live_of e.bytes) h qs → AllByRecursion (λ q. pair_node q ≢ node) qs → AllByRecursion (λ (q : Pair K V). Still e f q.node) qs
+  stills : (qs : List (Pair K V)) → AreIn kp vp (live_of e.bytes) h qs → AllByRecursion (λ q. pair_node q ≢ node) qs
+      → AllByRecursion (λ (q : Pair K V). Still e f q.node) qs
   stills [] a o = tt
   stills (q ∷ qs) a o = (
     record {
-      found = rw (released-live _ _ _ _ r) (found-less (handle q.node) node q.node (live_of e.bytes).extents o.0 a.0.listed);
+      found = rw (released-live _ _ _ _ r) (found-less (handle q.node) node q.node (live_of e.bytes).extents o.0
+          a.0.listed);
       same = other_block (live_of e.bytes) node (handle q.node) r.keeps a.0.listed o.0;
     },
     stills qs a.1 o.1,
@@ -146,24 +160,30 @@ module _ {K V : Type 0} {kp : Plain K} {vp : Plain V} (kl : Laws kp) (vl : Laws 
           behind = Same-trans _ _ _ _ _ t.beside.behind r.keeps.behind;
           blocks = λ x found o.
               let q = t.beside.blocks x found o in
-              let apart : handle x ≢ node = λ g. both_ways _ o (ap (λ n. is_in n (nodes_of_pairs ps)) (g ∙ sym here) ∙ in_nodes kp.order ps key p has) in
+              let apart : handle x ≢ node = λ g. both_ways _ o (ap (λ n. is_in n (nodes_of_pairs ps)) (g ∙ sym here)
+              ∙ in_nodes kp.order ps key p has) in
               let k = other_block (live_of e.bytes) node (handle x) {x = x} r.keeps (rw live_is found) apart in
               record { payload = λ n a b g. k.payload.at n a b ∙ q.payload n a b g; colour = k.colour ∙ q.colour };
         };
-        map = map_stays kl vl e f t.map (laid-heap _ _ r.live) (rw (released-live _ _ _ _ r) (found-room (released (live_of e.bytes) node) h (at + 24) room.extent (found-less h node room.extent (live_of e.bytes).extents other room.found) room.room))
+        map = map_stays kl vl e f t.map (laid-heap _ _ r.live) (rw (released-live _ _ _ _ r)
+            (found-room (released (live_of e.bytes) node) h (at + 24) room.extent (found-less h node room.extent
+            (live_of e.bytes).extents other room.found) room.room))
             (record { at = λ n a b. same.payload.at n (omega arith) (omega arith) })
             (stills (remove_pair kp.order ps key) t.map.pairs (other_nodes node (remove_pair kp.order ps key) gone));
       }
     where
       gone : is_in node (nodes_of_pairs (remove_pair kp.order ps key)) ≡ false
       gone =
-          let w = without_nodes kp.order kl.irreflexive kl.transitive (keys_in kp (nodes_of s.map.tree.tree) c) p key ps (keys kl c s) s.rising has in
-          ap (is_in node) (sym w) ∙ ap (λ n. is_in node (without n (nodes_of_pairs ps))) here ∙ none_left node (nodes_of_pairs ps)
+          let w = without_nodes kp.order kl.irreflexive kl.transitive (keys_in kp (nodes_of s.map.tree.tree) c) p key
+          ps (keys kl c s) s.rising has in
+          ap (is_in node) (sym w) ∙ ap (λ n. is_in node (without n (nodes_of_pairs ps))) here
+          ∙ none_left node (nodes_of_pairs ps)
 
 -- the steps of the tree
 pub few_all : {K V : Type 0} {kp : Plain K} {vp : Plain V} (kl : Laws kp) (c : Cut) {h at : ℕ} {root : Option ℕ}
     {ps : List (Pair K V)} (s : HoldsMap kp vp c.bytes h at ps) → root ≡ link_at (bytes_of c.bytes) (h + at)
-    → {d : Cut} {node : ℕ} {top : Option ℕ} {steps : ℕ} → Unlinked kp (own_nodes c.bytes root None) c d root node top steps
+    → {d : Cut} {node : ℕ} {top : Option ℕ} {steps : ℕ} → Unlinked kp (own_nodes c.bytes root None) c d root node top
+    steps
     → steps ≤ 32 * bits (length ps + 1) + 32
 few_all kl c s is {steps = steps} u =
     subst (λ n. steps ≤ 32 * bits (n + 1) + 32) (count_pairs kl c s) (u.few s.map.tree.tree (lent_tree kl c s is refl))
@@ -175,4 +195,5 @@ pub gone_live : {K V : Type 0} {kp : Plain K} {vp : Plain V} {c e : Cut} {h at :
 gone_live {kp = kp} {vp = vp} {c = c} {e = e} {h = h} {ps = ps} s {key} {p} has {node} here t =
     let n = at_node (IsPairIn kp vp (live_of c.bytes) h) ps (pair_node p) (in_nodes kp.order ps key p has) s.pairs in
     let x = n.pair.node in let xs = (live_of c.bytes).extents in
-    rw (lay_out_one _ _ _ t.live) (any_at (λ (x : Extent). handle x == node) xs x (found_in xs (handle x) x n.holds.listed) (eq-eqb _ _ (n.at ∙ here)))
+    rw (lay_out_one _ _ _ t.live) (any_at (λ (x : Extent). handle x == node) xs x (found_in xs
+    (handle x) x n.holds.listed) (eq-eqb _ _ (n.at ∙ here)))

@@ -15,7 +15,8 @@ use Rattle.link_tree.proofs.Laws.{entry_same}
 use Rattle.best_fit.specs.Extents.{Extent, handle}
 use Rattle.best_fit.specs.Fit.{added}
 use Rattle.best_fit.specs.Heap.{LaysOut, SameBlock, extent_at, live_of}
-use Rattle.best_fit.proofs.Laws.{Differs, allocated-live, allocated-room_before, found-more, found-new, laid-heap, live-rises, place-serves, rising-insert, roomy}
+use Rattle.best_fit.proofs.Laws.{Differs, allocated-live, allocated-room_before, found-more, found-new, laid-heap}
+use Rattle.best_fit.proofs.Laws.{live-rises, place-serves, rising-insert, roomy}
 use Rattle.seg_types.specs.declared.plain.Plain.{Ghosts as Plain}
 use Rattle.seg_map.specs.Map.{Pair, node_len, pair_at}
 use Rattle.seg_map.specs.Places.{HoldsMap, nodes_of_pairs, pair_node}
@@ -40,33 +41,50 @@ module _ {K V : Type 0} {kp : Plain K} {vp : Plain V} (kl : Laws kp) (vl : Laws 
   live_d = allocated-live _ _ _ _ _ _ m.block
 
   differs : Differs m.block.extent (live_of c.bytes).extents
-  differs = (rising-insert 128 x (live_of c.bytes).extents (live-rises (added (live_of c.bytes) x) m.block.live.proper)).differs
+  differs = (rising-insert 128 x (live_of c.bytes).extents (live-rises (added (live_of c.bytes) x)
+      m.block.live.proper)).differs
 
   -- no block was there
   differs_at : (y : Extent) → In y (live_of c.bytes).extents → handle y ≢ handle m.block.extent
-  differs_at y i e = all_in (λ (z : Extent). x.offset ≢ z.offset) (live_of c.bytes).extents y differs i (omega (arith, e))
+  differs_at y i e = all_in (λ (z : Extent). x.offset ≢ z.offset) (live_of c.bytes).extents y differs i
+      (omega (arith, e))
 
   kept : (y : Extent) → In y (live_of c.bytes).extents → SameBlock (bytes_of c.bytes) (bytes_of d.bytes) y
   kept y i = all_in (SameBlock (bytes_of c.bytes) (bytes_of d.bytes)) (live_of c.bytes).extents y m.block.keeps.blocks i
 
-  still_there : (y : Extent) → extent_at (live_of c.bytes) (handle y) ≡ Some y → extent_at (live_of d.bytes) (handle y) ≡ Some y
+  still_there : (y : Extent) → extent_at (live_of c.bytes) (handle y) ≡ Some y → extent_at (live_of d.bytes) (handle y)
+      ≡ Some y
   still_there y f =
-      rw live_d (found-more (handle y) x y (live_of c.bytes).extents (λ e. differs_at y (found_in (live_of c.bytes).extents (handle y) y f) (sym e)) f)
+      rw live_d (found-more (handle y) x y (live_of c.bytes).extents (λ e. differs_at y (found_in
+      (live_of c.bytes).extents (handle y) y f) (sym e)) f)
 
-  stills : (qs : List (Pair K V)) → AreIn kp vp (live_of c.bytes) h qs → AllByRecursion (λ (q : Pair K V). Still c d q.node) qs
+  stills : (qs : List (Pair K V)) → AreIn kp vp (live_of c.bytes) h qs → AllByRecursion (λ (q : Pair K V).
+      Still c d q.node) qs
   stills [] a = tt
-  stills (q ∷ qs) a = (record { found = still_there q.node a.0.listed; same = kept q.node (found_in (live_of c.bytes).extents (handle q.node) q.node a.0.listed) }, stills qs a.1)
+  stills (q ∷ qs) a = (
+    record {
+      found = still_there q.node a.0.listed;
+      same = kept q.node (found_in
+          (live_of c.bytes).extents (handle q.node) q.node a.0.listed);
+    },
+    stills qs a.1,
+  )
 
-  others_differ : (qs : List (Pair K V)) → AreIn kp vp (live_of c.bytes) h qs → AllByRecursion (λ (q : Pair K V). pair_node q ≢ handle m.block.extent) qs
+  others_differ : (qs : List (Pair K V)) → AreIn kp vp (live_of c.bytes) h qs → AllByRecursion
+      (λ (q : Pair K V). pair_node q ≢ handle m.block.extent) qs
   others_differ [] a = tt
-  others_differ (q ∷ qs) a = (differs_at q.node (found_in (live_of c.bytes).extents (handle q.node) q.node a.0.listed), others_differ qs a.1)
+  others_differ (q ∷ qs) a = (
+    differs_at q.node (found_in (live_of c.bytes).extents (handle q.node) q.node a.0.listed),
+    others_differ qs a.1,
+  )
 
   -- the map is as it was, beside the new block
   pub map_there : HoldsMap kp vp d.bytes h at ps
   map_there =
       let r = roomy c h (at + 24) s.heap s.room in let begins = r.at in let long = r.room in
       let same = kept r.extent (found_in (live_of c.bytes).extents h r.extent r.found) in
-      map_stays kl vl c d s (laid-heap _ _ m.block.live) (allocated-room_before current c d (node_len kp.SIZE vp.SIZE) Node node h (at + 24) m.block s.room)
+      map_stays kl vl c d s (laid-heap _ _ m.block.live) (allocated-room_before current c d
+      (node_len kp.SIZE vp.SIZE) Node node h (at + 24) m.block s.room)
       (record { at = λ n a b. same.payload.at n (omega arith) (omega arith) }) (stills ps s.pairs)
 
   there_tree : map_there.map.tree.tree ≡ s.map.tree.tree
@@ -94,17 +112,27 @@ module _ {K V : Type 0} {kp : Plain K} {vp : Plain V} (kl : Laws kp) (vl : Laws 
       record {
         absent = absent;
         block = record {
-          good = rw (m.is_a_key, m.is_a_value, place-serves (live_of c.bytes) (node_len kp.SIZE vp.SIZE) Node x m.block.placed) refl;
+          good = rw (
+            m.is_a_key,
+            m.is_a_value,
+            place-serves (live_of c.bytes) (node_len kp.SIZE vp.SIZE) Node x
+                m.block.placed,
+          ) refl;
           listed = rw live_d (found-new x (live_of c.bytes).extents differs);
           apart = λ e. differs_at r.extent (found_in (live_of c.bytes).extents h r.extent r.found) (begins ∙ sym e);
         };
         other = not_among (handle x) ps (others_differ ps s.pairs);
         left = subst (λ k. link_at (bytes_of d.bytes) k ≡ None) m.block.at m.left;
         right = subst (λ k. link_at (bytes_of d.bytes) (k + 8) ≡ None) m.block.at m.right;
-        bytes = (subst (λ k. Has (bytes_of d.bytes) (k + 16) (kp.spelling key)) m.block.at m.key_there, subst (λ k. Has (bytes_of d.bytes) (k + 16 + kp.SIZE) (vp.spelling value)) m.block.at m.value_there);
+        bytes = (
+          subst (λ k. Has (bytes_of d.bytes) (k + 16) (kp.spelling key)) m.block.at m.key_there,
+          subst
+              (λ k. Has (bytes_of d.bytes) (k + 16 + kp.SIZE) (vp.spelling value)) m.block.at m.value_there,
+        );
       }
 
-  pub is_put : {e : Cut} → IsPlanted kp vp d e h at ps (record { key = key; value = value; node = m.block.extent }) → IsPut kp vp c e h at ps key value
+  pub is_put : {e : Cut} → IsPlanted kp vp d e h at ps (record { key = key; value = value; node = m.block.extent })
+      → IsPut kp vp c e h at ps key value
   is_put {e} q =
       record {
         extent = x;
@@ -117,8 +145,13 @@ module _ {K V : Type 0} {kp : Plain K} {vp : Plain V} (kl : Laws kp) (vl : Laws 
           blocks = λ y f o.
               let i = found_in (live_of c.bytes).extents (handle y) y f in
               let k = kept y i in
-              let b = q.beside.blocks y (still_there y f) (ap (λ (t : Bool). t || is_in (handle y) (nodes_of_pairs ps)) (ne_eqb _ _ (differs_at y i)) ∙ o) in
-              record { payload = λ n low high g. b.payload n low high g ∙ k.payload.at n low high; colour = b.colour ∙ k.colour };
+              let b = q.beside.blocks y (still_there y f) (ap (λ (t : Bool). t || is_in (handle y) (nodes_of_pairs ps))
+              (ne_eqb _ _ (differs_at y i)) ∙ o) in
+              record {
+                payload = λ n low high g. b.payload n low high g ∙ k.payload.at n low high;
+                colour =
+                    b.colour ∙ k.colour;
+              };
         };
         map = q.map;
       }

@@ -1,5 +1,6 @@
 -- Pairs that are put and removed, and their nodes.
-use Rattle.std.proofs.Common.{◌≡◌, refl, sym, ap, ◌∙◌, ℕ, suc, ◌≢◌, inl, inr, Bool, true, false, ◌||◌, List, [], ◌∷◌, length, nat_eq, ◌==◌}
+use Rattle.std.proofs.Common.{◌≡◌, refl, sym, ap, ◌∙◌, ℕ, suc, ◌≢◌, inl, inr, Bool, true, false, ◌||◌, List, [], ◌∷◌}
+use Rattle.std.proofs.Common.{length, nat_eq, ◌==◌}
 use Rattle.std.specs.Prelude.{Option, Some}
 use Rattle.std.specs.List.{AllByRecursion}
 use Rattle.std.proofs.lemmas.Bool.{both_ways, cases_Bool, and_parts, or_left, or_right, or_parts, eq-eqb, ne_eqb}
@@ -19,15 +20,18 @@ none_left n (m ∷ ms) =
     elim (cases_Bool (nat_eq n m)) [ inl t ↦ rw t (none_left n ms) | inr f ↦ rw (f, f) (none_left n ms) ]
 
 -- pairs whose nodes are others
-pub other_nodes : {K V : Type 0} (n : ℕ) (ps : List (Pair K V)) → is_in n (nodes_of_pairs ps) ≡ false → AllByRecursion (λ p. pair_node p ≢ n) ps
+pub other_nodes : {K V : Type 0} (n : ℕ) (ps : List (Pair K V)) → is_in n (nodes_of_pairs ps) ≡ false
+    → AllByRecursion (λ p. pair_node p ≢ n) ps
 other_nodes n [] h = tt
 other_nodes n (p ∷ ps) h =
     let two = or_parts (n == pair_node p) (is_in n (nodes_of_pairs ps)) h in
     ((λ e. both_ways _ two.0 (eq-eqb _ _ (sym e))), other_nodes n ps two.1)
 
-pub not_among : {K V : Type 0} (n : ℕ) (ps : List (Pair K V)) → AllByRecursion (λ p. pair_node p ≢ n) ps → is_in n (nodes_of_pairs ps) ≡ false
+pub not_among : {K V : Type 0} (n : ℕ) (ps : List (Pair K V)) → AllByRecursion (λ p. pair_node p ≢ n) ps
+    → is_in n (nodes_of_pairs ps) ≡ false
 not_among n [] a = refl
-not_among n (p ∷ ps) a = ap (λ (b : Bool). b || is_in n (nodes_of_pairs ps)) (ne_eqb n (pair_node p) (λ e. a.0 (sym e))) ∙ not_among n ps a.1
+not_among n (p ∷ ps) a = ap (λ (b : Bool). b || is_in n (nodes_of_pairs ps)) (ne_eqb n (pair_node p)
+    (λ e. a.0 (sym e))) ∙ not_among n ps a.1
 
 module _ {K V : Type 0} (less : K → K → Bool) where
   pub in_nodes : (ps : List (Pair K V)) (key : K) (p : Pair K V) → pair_at less ps key ≡ Some p
@@ -62,7 +66,8 @@ module _ {K V : Type 0} (less : K → K → Bool) where
   abbrev pub Below : K → List (Pair K V) → Type 0
   Below key ps = AllByRecursion (λ (p : Pair K V). less key p.key ≡ true) ps
 
-  pub rising_below : Chains less → (q : Pair K V) (qs : List (Pair K V)) → is_rising less (q ∷ qs) ≡ true → Below q.key qs
+  pub rising_below : Chains less → (q : Pair K V) (qs : List (Pair K V)) → is_rising less (q ∷ qs) ≡ true
+      → Below q.key qs
   rising_below on q [] r = tt
   rising_below on q (p ∷ ps) r =
       let two = and_parts _ _ r in
@@ -72,27 +77,32 @@ module _ {K V : Type 0} (less : K → K → Bool) where
       further k [] l b = tt
       further k (x ∷ rs) l b = (on q.key k x.key l b.0, further k rs l b.1)
 
-  pub below_rising : (q : Pair K V) (qs : List (Pair K V)) → Below q.key qs → is_rising less qs ≡ true → is_rising less (q ∷ qs) ≡ true
+  pub below_rising : (q : Pair K V) (qs : List (Pair K V)) → Below q.key qs → is_rising less qs ≡ true
+      → is_rising less (q ∷ qs) ≡ true
   below_rising q [] b r = refl
   below_rising q (p ∷ ps) b r = rw (b.0, r) refl
 
   module _ (on : Chains less) where
-    pub removed_rising : (ps : List (Pair K V)) (key : K) → is_rising less ps ≡ true → is_rising less (remove_pair less ps key) ≡ true
+    pub removed_rising : (ps : List (Pair K V)) (key : K) → is_rising less ps ≡ true → is_rising less
+        (remove_pair less ps key) ≡ true
     removed_rising [] key r = refl
     removed_rising (q ∷ qs) key r =
         let rest = rising_rest less on q qs r in
         elim (cases_Bool (is_key less key q)) [
           | inl y ↦ rw y rest
           | inr z ↦ rw z (below_rising q (remove_pair less qs key)
-              (removed_all (λ (p : Pair K V). less q.key p.key ≡ true) qs key (rising_below on q qs r)) (removed_rising qs key rest))
+              (removed_all (λ (p : Pair K V). less q.key p.key ≡ true) qs key (rising_below on q qs r))
+              (removed_rising qs key rest))
         ]
 
 -- behind a pair all nodes have greater keys
-none_behind : {K V : Type 0} (less : K → K → Bool) → IsStrict less → (keys : ℕ → Option K) (q : Pair K V) (qs : List (Pair K V)) → keys (pair_node q) ≡ Some q.key → HaveKeys keys qs
+none_behind : {K V : Type 0} (less : K → K → Bool) → IsStrict less → (keys : ℕ → Option K) (q : Pair K V)
+    (qs : List (Pair K V)) → keys (pair_node q) ≡ Some q.key → HaveKeys keys qs
     → Below less q.key qs → is_in (pair_node q) (nodes_of_pairs qs) ≡ false
 none_behind less strict keys q [] e k b = refl
 none_behind {K} {V} less strict keys q (p ∷ ps) e k b =
-    ap (λ (x : Bool). x || is_in (pair_node q) (nodes_of_pairs ps)) (ne_eqb _ _ differs) ∙ none_behind less strict keys q ps e k.1 b.1
+    ap (λ (x : Bool). x || is_in (pair_node q) (nodes_of_pairs ps)) (ne_eqb _ _ differs) ∙ none_behind less strict keys
+    q ps e k.1 b.1
   where
     differs : pair_node q ≡ pair_node p → ⊥
     differs f =
@@ -101,7 +111,8 @@ none_behind {K} {V} less strict keys q (p ∷ ps) e k b =
         both_ways _ (ap (less q.key) (sym is) ∙ strict q.key) b.0
 
 module _ {K V : Type 0} (less : K → K → Bool) (strict : IsStrict less) (on : Chains less) (keys : ℕ → Option K) where
-  pub without_nodes : (p : Pair K V) (key : K) (ps : List (Pair K V)) → HaveKeys keys ps → is_rising less ps ≡ true → pair_at less ps key ≡ Some p
+  pub without_nodes : (p : Pair K V) (key : K) (ps : List (Pair K V)) → HaveKeys keys ps → is_rising less ps ≡ true
+      → pair_at less ps key ≡ Some p
       → without (pair_node p) (nodes_of_pairs ps) ≡ nodes_of_pairs (remove_pair less ps key)
   without_nodes p key [] k r h = absurd (cc)
   without_nodes p key (q ∷ qs) k r h =
@@ -109,7 +120,8 @@ module _ {K V : Type 0} (less : K → K → Bool) (strict : IsStrict less) (on :
       elim (cases_Bool (is_key less key q)) [
         | inl y ↦
             let found = rw y at h in let same : p ≡ q = cc in
-            let here : is_in (pair_node p) (nodes_of_pairs qs) ≡ false = ap (λ (x : Pair K V). is_in (pair_node x) (nodes_of_pairs qs)) same ∙ behind in
+            let here : is_in (pair_node p) (nodes_of_pairs qs) ≡ false = ap (λ (x : Pair K V).
+            is_in (pair_node x) (nodes_of_pairs qs)) same ∙ behind in
             rw (eq-eqb _ _ (ap pair_node same), y) (without_none (pair_node p) (nodes_of_pairs qs) here)
         | inr z ↦
             let found = rw z at h in

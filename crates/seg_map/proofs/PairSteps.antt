@@ -1,9 +1,11 @@
 -- One field of one node changes.
-use Rattle.std.proofs.Common.{◌≡◌, refl, sym, ap, subst, ◌∙◌, ℕ, ◌+◌, ◌-◌, ◌%◌, ◌/◌, ◌<◌, ◌≤◌, ◌⊎◌, inl, inr, Bool, true, false, ◌&&◌, not, List, [], ◌∷◌, arith, nat_lt, nat_le, ◌==◌, IsTrue}
+use Rattle.std.proofs.Common.{◌≡◌, refl, sym, ap, subst, ◌∙◌, ℕ, ◌+◌, ◌-◌, ◌%◌, ◌/◌, ◌<◌, ◌≤◌, ◌⊎◌, inl, inr, Bool}
+use Rattle.std.proofs.Common.{true, false, ◌&&◌, not, List, [], ◌∷◌, arith, nat_lt, nat_le, ◌==◌, IsTrue}
 use Rattle.std.proofs.Math.Nat.{le_refl, le_trans, lt_of_lt_of_le}
 use Rattle.std.specs.Prelude.{Option, Some, None, IfSome, if◌then◌else◌}
 use Rattle.std.specs.List.{AllByRecursion, list_any}
-use Rattle.std.proofs.lemmas.Bool.{false≢true, both_ways, cases_Bool, cases_eq, cases_lt, and_parts, or_cases, or_left, or_right, eqb-true, eq-eqb, ne_eqb, leb-true, le-leb, ltb-true, lt-ltb}
+use Rattle.std.proofs.lemmas.Bool.{false≢true, both_ways, cases_Bool, cases_eq, cases_lt, and_parts, or_cases, or_left}
+use Rattle.std.proofs.lemmas.Bool.{or_right, eqb-true, eq-eqb, ne_eqb, leb-true, le-leb, ltb-true, lt-ltb}
 use Rattle.raw_region.specs.Memory.{Cut, Same, SamePlace, bytes_of, read, word_at}
 use Rattle.raw_region.specs.Format.{current}
 use Rattle.raw_region.proofs.Laws.{Same-read, SameBut-Same, SameBut-word}
@@ -15,17 +17,21 @@ use Rattle.offset_link.proofs.Laws.{Same-link, SameBut-link}
 use Rattle.best_fit.specs.Extents.{Extent, LiveSet, handle, end_of, is_proper}
 use Rattle.best_fit.specs.Fit.{others}
 use Rattle.best_fit.specs.FreeTree.{cells_of, is_red}
-use Rattle.best_fit.specs.Heap.{IsChanged, IsRecoloured, SameBlock, is_live_in, is_node_in, is_node_role, has_room, live_of}
+use Rattle.best_fit.specs.Heap.{IsChanged, IsRecoloured, SameBlock, is_live_in, is_node_in, is_node_role, has_room}
+use Rattle.best_fit.specs.Heap.{live_of}
 use Rattle.best_fit.proofs.Laws.{beside_cell, cell_stays, is_proper-IsProper, lay_out_one, others-here, others-past}
-use Rattle.seg_map.specs.PairNodes.{is_good, is_kept, is_link_byte, is_other, is_pair_node, kept_of, key_at, key_of, links_among, pair_cells}
-use Rattle.seg_map.specs.PairLaws.{Good, Good-is_good, In, PairNode, PairNode-is_pair_node, Place, cells_at, cells_off, disjoint, is_pair_node-PairNode, lies, link_parts, links_at, node_block, node_place}
+use Rattle.seg_map.specs.PairNodes.{is_good, is_kept, is_link_byte, is_other, is_pair_node, kept_of, key_at, key_of}
+use Rattle.seg_map.specs.PairNodes.{links_among, pair_cells}
+use Rattle.seg_map.specs.PairLaws.{Good, Good-is_good, In, PairNode, PairNode-is_pair_node, Place, cells_at, cells_off}
+use Rattle.seg_map.specs.PairLaws.{disjoint, is_pair_node-PairNode, lies, link_parts, links_at, node_block, node_place}
 
 -- what a setter does to the window
 pub record Changed (len : ℕ) (ns : List ℕ) (c d : Cut) (n : ℕ) : Type 0 where
   pub place : SamePlace c d
   pub live : live_of d.bytes ≡ live_of c.bytes
   pub bytes : (k : ℕ) → is_kept ns (live_of c.bytes) k ≡ true → bytes_of d.bytes k ≡ bytes_of c.bytes k
-  pub colours : (x : Extent) → In x (live_of c.bytes).extents → (handle x ≡ n → ⊥) → word_at (bytes_of d.bytes) (x.offset + 8) % 16 ≡ word_at (bytes_of c.bytes) (x.offset + 8) % 16
+  pub colours : (x : Extent) → In x (live_of c.bytes).extents → (handle x ≡ n → ⊥) → word_at (bytes_of d.bytes)
+      (x.offset + 8) % 16 ≡ word_at (bytes_of c.bytes) (x.offset + 8) % 16
   pub links : links_among (bytes_of d.bytes) ns n ≡ true
   pub others : (m : ℕ) → is_in m ns ≡ true → (m ≡ n → ⊥) → cells_of (bytes_of d.bytes) m ≡ cells_of (bytes_of c.bytes) m
   pub keys : (m : ℕ) → is_in m ns ≡ true → Same (bytes_of c.bytes) (bytes_of d.bytes) (m + 16) (m + len)
@@ -58,7 +64,8 @@ module _ {len : ℕ} {ns : List ℕ} {c d : Cut} {n : ℕ} (g : PairNode len ns 
       by_place : (m ≡ n) ⊎ (m ≡ n → ⊥) → links_among (bytes_of d.bytes) ns m ≡ true
       by_place (inl e) = rw e h.links
       by_place (inr o) =
-          subst (λ (x : Cell). (leads (λ k. is_in k ns) x.left && leads (λ k. is_in k ns) x.right) ≡ true) (sym (h.others m i o))
+          subst (λ (x : Cell). (leads (λ k. is_in k ns) x.left && leads (λ k. is_in k ns) x.right) ≡ true)
+          (sym (h.others m i o))
           (links_at len ns c m (record { good = g.good; listed = i }))
 
   pub good_stays : Good len ns d
@@ -71,24 +78,29 @@ module _ {len : ℕ} {ns : List ℕ} {c d : Cut} {n : ℕ} (g : PairNode len ns 
 
   pub nodes_stay : is_pair_node len ns d ≡ is_pair_node len ns c
   unfolding is_pair_node
-  nodes_stay = let good : is_good len ns d ≡ is_good len ns c = Good-is_good len ns d good_stays ∙ sym (Good-is_good len ns c g.good) in λ i m. good i && is_in m ns
+  nodes_stay = let good : is_good len ns d ≡ is_good len ns c = Good-is_good len ns d good_stays
+      ∙ sym (Good-is_good len ns c g.good) in λ i m. good i && is_in m ns
 
   byte_stays : (k : ℕ) → (is_kept ns (live_of c.bytes) k ≡ true) ⊎ (is_kept ns (live_of c.bytes) k ≡ false)
-      → (if is_kept ns (live_of d.bytes) k then bytes_of d.bytes k else 0) ≡ (if is_kept ns (live_of c.bytes) k then bytes_of c.bytes k else 0)
+      → (if is_kept ns (live_of d.bytes) k then bytes_of d.bytes k else 0) ≡ (if is_kept ns
+      (live_of c.bytes) k then bytes_of c.bytes k else 0)
   byte_stays k (inl t) = rw (h.live, t) (h.bytes k t)
   byte_stays k (inr f) = rw (h.live, f) refl
 
-  other_colour : (k : ℕ) → is_other ns (live_of c.bytes) k ≡ true → word_at (bytes_of d.bytes) (k - 8) % 16 ≡ word_at (bytes_of c.bytes) (k - 8) % 16
+  other_colour : (k : ℕ) → is_other ns (live_of c.bytes) k ≡ true → word_at (bytes_of d.bytes) (k - 8) % 16
+      ≡ word_at (bytes_of c.bytes) (k - 8) % 16
   other_colour k t =
       let two = and_parts _ _ t in
       let l = live_at (live_of c.bytes).extents k two.0 in
       let far = in_own n ns g.listed k (not_true (is_in k ns) two.1) in
       let at = l.at in
       let w : l.extent.offset + 8 ≡ k - 8 = omega arith in
-      subst (λ a. word_at (bytes_of d.bytes) a % 16 ≡ word_at (bytes_of c.bytes) a % 16) w (h.colours l.extent l.listed (λ e. far (sym at ∙ e)))
+      subst (λ a. word_at (bytes_of d.bytes) a % 16 ≡ word_at (bytes_of c.bytes) a % 16) w (h.colours l.extent l.listed
+      (λ e. far (sym at ∙ e)))
 
   colour_stays : (k : ℕ) → (is_other ns (live_of c.bytes) k ≡ true) ⊎ (is_other ns (live_of c.bytes) k ≡ false)
-      → (if is_other ns (live_of d.bytes) k then word_at (bytes_of d.bytes) (k - 8) % 16 else 0) ≡ (if is_other ns (live_of c.bytes) k then word_at (bytes_of c.bytes) (k - 8) % 16 else 0)
+      → (if is_other ns (live_of d.bytes) k then word_at (bytes_of d.bytes) (k - 8) % 16 else 0)
+      ≡ (if is_other ns (live_of c.bytes) k then word_at (bytes_of c.bytes) (k - 8) % 16 else 0)
   colour_stays k (inl t) = rw (h.live, t) (other_colour k t)
   colour_stays k (inr f) = rw (h.live, f) refl
 
@@ -106,35 +118,43 @@ module _ {len : ℕ} {ns : List ℕ} {c d : Cut} {n : ℕ} (g : PairNode len ns 
       }
 
   -- the cells, where one of them becomes another
-  pub one_cell : (f : Cell → Cell) → cells_of (bytes_of d.bytes) n ≡ f (cells_of (bytes_of c.bytes) n) → pair_cells len ns d ≡ (λ (m : ℕ). if m == n then f (pair_cells len ns c m) else pair_cells len ns c m)
+  pub one_cell : (f : Cell → Cell) → cells_of (bytes_of d.bytes) n ≡ f (cells_of (bytes_of c.bytes) n)
+      → pair_cells len ns d ≡ (λ (m : ℕ). if m == n then f (pair_cells len ns c m) else pair_cells len ns c m)
   one_cell f own = λ i m. at m (cases_eq m n) i
     where
       at_node : (m : ℕ) → is_pair_node len ns c m ≡ true → (m ≡ n → ⊥) → pair_cells len ns d m ≡ pair_cells len ns c m
       at_node m e o =
-          cells_at len ns d m (ap (λ (p : ℕ → Bool). p m) nodes_stay ∙ e) ∙ h.others m (is_pair_node-PairNode len ns c m e).listed o ∙ sym (cells_at len ns c m e)
+          cells_at len ns d m (ap (λ (p : ℕ → Bool). p m) nodes_stay ∙ e) ∙ h.others m (is_pair_node-PairNode len ns c
+          m e).listed o ∙ sym (cells_at len ns c m e)
 
-      other : (m : ℕ) → (m ≡ n → ⊥) → (is_pair_node len ns c m ≡ true) ⊎ (is_pair_node len ns c m ≡ false) → pair_cells len ns d m ≡ pair_cells len ns c m
+      other : (m : ℕ) → (m ≡ n → ⊥) → (is_pair_node len ns c m ≡ true) ⊎ (is_pair_node len ns c m ≡ false)
+          → pair_cells len ns d m ≡ pair_cells len ns c m
       other m o (inl e) = at_node m e o
-      other m o (inr e) = cells_off len ns d m (ap (λ (p : ℕ → Bool). p m) nodes_stay ∙ e) ∙ sym (cells_off len ns c m e)
+      other m o (inr e) = cells_off len ns d m (ap (λ (p : ℕ → Bool). p m) nodes_stay ∙ e) ∙ sym
+          (cells_off len ns c m e)
 
       here : pair_cells len ns d n ≡ f (pair_cells len ns c n)
       here =
           let e = PairNode-is_pair_node len ns c n g in
           cells_at len ns d n (ap (λ (p : ℕ → Bool). p n) nodes_stay ∙ e) ∙ own ∙ ap f (sym (cells_at len ns c n e))
 
-      at : (m : ℕ) → (m ≡ n) ⊎ (m ≡ n → ⊥) → pair_cells len ns d m ≡ (if m == n then f (pair_cells len ns c m) else pair_cells len ns c m)
+      at : (m : ℕ) → (m ≡ n) ⊎ (m ≡ n → ⊥) → pair_cells len ns d m ≡ (if m == n then f (pair_cells len ns c m)
+          else pair_cells len ns c m)
       at m (inl e) = rw (eq-eqb _ _ e, e) here
       at m (inr o) = rw (ne_eqb _ _ o) (other m o (cases_Bool (is_pair_node len ns c m)))
 
 -- ---- the keys stay
 
-module _ {K : Type 0} (value : List ℕ → Option K) (size : ℕ) {ns : List ℕ} {c d : Cut} {n : ℕ} (g : PairNode (16 + size) ns c n)
+module _ {K : Type 0} (value : List ℕ → Option K) (size : ℕ) {ns : List ℕ} {c d : Cut} {n : ℕ}
+    (g : PairNode (16 + size) ns c n)
     (h : Changed (16 + size) ns c d n) where
-  key_stays : (m : ℕ) → (is_pair_node (16 + size) ns c m ≡ true) ⊎ (is_pair_node (16 + size) ns c m ≡ false) → key_of value size ns d m ≡ key_of value size ns c m
+  key_stays : (m : ℕ) → (is_pair_node (16 + size) ns c m ≡ true) ⊎ (is_pair_node (16 + size) ns c m ≡ false)
+      → key_of value size ns d m ≡ key_of value size ns c m
   unfolding key_of key_at
   key_stays m (inl e) =
       rw (ap (λ (p : ℕ → Bool). p m) (nodes_stay g h) ∙ e, e)
-      (ap value (Same-read _ _ _ _ (m + 16) size (h.keys m (is_pair_node-PairNode (16 + size) ns c m e).listed) (le_refl (m + 16)) (omega arith)))
+      (ap value (Same-read _ _ _ _ (m + 16) size (h.keys m (is_pair_node-PairNode (16 + size) ns c m e).listed)
+      (le_refl (m + 16)) (omega arith)))
   key_stays m (inr e) = rw (ap (λ (p : ℕ → Bool). p m) (nodes_stay g h) ∙ e, e) refl
 
   pub keys_stay : key_of value size ns d ≡ key_of value size ns c
@@ -142,7 +162,8 @@ module _ {K : Type 0} (value : List ℕ → Option K) (size : ℕ) {ns : List �
 
 -- ---- what a call of the heap needs of a node
 
-any_weaker : (p q : Extent → Bool) (xs : List Extent) → ((x : Extent) → p x ≡ true → q x ≡ true) → list_any p xs ≡ true → list_any q xs ≡ true
+any_weaker : (p q : Extent → Bool) (xs : List Extent) → ((x : Extent) → p x ≡ true → q x ≡ true) → list_any p xs ≡ true
+    → list_any q xs ≡ true
 any_weaker p q [] f h = absurd (false≢true h)
 any_weaker p q (x ∷ xs) f h =
     elim (or_cases _ _ h) [
@@ -162,7 +183,8 @@ room_of {len} {c} {n} k p l =
     (rw (eq-eqb _ _ b.at, le-leb (k + 16) b.extent.len (omega arith)) refl)
 
 pub live_node : {len : ℕ} {c : Cut} {n : ℕ} → Place len c n → IsTrue (is_live_in (live_of c.bytes) n)
-live_node {c = c} {n = n} p = let b = p.block in any_at (λ (x : Extent). handle x == n) (live_of c.bytes).extents b.extent b.listed (eq-eqb _ _ b.at)
+live_node {c = c} {n = n} p = let b = p.block in any_at (λ (x : Extent). handle x == n) (live_of c.bytes).extents
+    b.extent b.listed (eq-eqb _ _ b.at)
 
 pub node_live : {len : ℕ} {c : Cut} {n : ℕ} → Place len c n → IsTrue (is_node_in (live_of c.bytes) n)
 node_live {c = c} {n = n} p =
@@ -170,18 +192,21 @@ node_live {c = c} {n = n} p =
     any_at (λ (x : Extent). (handle x == n) && is_node_role x.role) (live_of c.bytes).extents b.extent b.listed
     (rw (eq-eqb _ _ b.at, ap is_node_role b.node) refl)
 
-pub target_whole : (len : ℕ) (ns : List ℕ) (c : Cut) (to : Option ℕ) → leads (is_pair_node len ns c) to ≡ true → IfSome to (λ t. t % 16 ≡ 0)
+pub target_whole : (len : ℕ) (ns : List ℕ) (c : Cut) (to : Option ℕ) → leads (is_pair_node len ns c) to ≡ true
+    → IfSome to (λ t. t % 16 ≡ 0)
 target_whole len ns c None h = tt
 target_whole len ns c (Some n) h = (node_place len ns c n (is_pair_node-PairNode len ns c n h)).whole
 
-leads_in : (len : ℕ) (ns : List ℕ) (c : Cut) (to : Option ℕ) → leads (is_pair_node len ns c) to ≡ true → leads (λ k. is_in k ns) to ≡ true
+leads_in : (len : ℕ) (ns : List ℕ) (c : Cut) (to : Option ℕ) → leads (is_pair_node len ns c) to ≡ true
+    → leads (λ k. is_in k ns) to ≡ true
 leads_in len ns c None h = refl
 leads_in len ns c (Some n) h = (is_pair_node-PairNode len ns c n h).listed
 
 -- ---- the bytes of a node
 
 -- a byte of a node's links is not kept
-kept_away : (ns : List ℕ) (live : LiveSet) (n k : ℕ) → is_in n ns ≡ true → is_kept ns live k ≡ true → (k < n) ⊎ (n + 16 ≤ k)
+kept_away : (ns : List ℕ) (live : LiveSet) (n k : ℕ) → is_in n ns ≡ true → is_kept ns live k ≡ true → (k < n)
+    ⊎ (n + 16 ≤ k)
 kept_away ns live n k i t =
     let two = and_parts _ _ t in
     let off = not_true (is_link_byte ns k) two.1 in
@@ -197,12 +222,14 @@ kept_away ns live n k i t =
     link_byte [] j l m = absurd (false≢true j)
     link_byte (m' ∷ ms) j l m =
         elim (or_cases _ _ j) [
-          | inl e ↦ let e' = eqb-true n m' e in or_left (nat_le m' k && nat_lt k (m' + 16)) (is_link_byte ms k) (rw (le-leb m' k (omega arith), lt-ltb k (m' + 16) (omega arith)) refl)
+          | inl e ↦ let e' = eqb-true n m' e in or_left (nat_le m' k && nat_lt k (m' + 16)) (is_link_byte ms k)
+              (rw (le-leb m' k (omega arith), lt-ltb k (m' + 16) (omega arith)) refl)
           | inr r ↦ or_right _ _ (link_byte ms r l m)
         ]
 
 -- another block lies away from a node's payload
-pub block_apart : {len : ℕ} {ns : List ℕ} {c : Cut} {n : ℕ} (x : Extent) → PairNode len ns c n → In x (live_of c.bytes).extents → (handle x ≡ n → ⊥)
+pub block_apart : {len : ℕ} {ns : List ℕ} {c : Cut} {n : ℕ} (x : Extent) → PairNode len ns c n
+    → In x (live_of c.bytes).extents → (handle x ≡ n → ⊥)
     → (x.offset + x.len ≤ n - 16) ⊎ (n + len ≤ x.offset)
 block_apart {len} {ns} {c} {n} x g i o =
     let p = node_place len ns c n g in let b = p.block in let at = b.at in let enough = b.holds in let low = p.low in
@@ -215,7 +242,8 @@ block_apart {len} {ns} {c} {n} x g i o =
       ]
     ]
 
-pub nodes_apart : {len : ℕ} {ns : List ℕ} {c : Cut} {n m : ℕ} → PairNode len ns c n → PairNode len ns c m → (m ≡ n → ⊥) → (m + len ≤ n - 16) ⊎ (n + len ≤ m - 16)
+pub nodes_apart : {len : ℕ} {ns : List ℕ} {c : Cut} {n m : ℕ} → PairNode len ns c n → PairNode len ns c m → (m ≡ n → ⊥)
+    → (m + len ≤ n - 16) ⊎ (n + len ≤ m - 16)
 nodes_apart {len} {ns} {c} {n} {m} g h o =
     let p = node_place len ns c m h in let b = p.block in let at = b.at in let enough = b.holds in
     elim (block_apart b.extent g b.listed (λ e. o (sym at ∙ e))) [
@@ -225,7 +253,8 @@ nodes_apart {len} {ns} {c} {n} {m} g h o =
 
 -- ---- a link is set
 
-module _ {len : ℕ} {ns : List ℕ} {c d : Cut} {n from : ℕ} (g : PairNode len ns c n) (change : IsChanged current c d from 8)
+module _ {len : ℕ} {ns : List ℕ} {c d : Cut} {n from : ℕ} (g : PairNode len ns c n) (change : IsChanged current c d
+    from 8)
     (long : 16 ≤ len) (low : n ≤ from) (high : from + 8 ≤ n + 16) where
   p : Place len c n
   p = node_place len ns c n g
@@ -244,14 +273,16 @@ module _ {len : ℕ} {ns : List ℕ} {c d : Cut} {n from : ℕ} (g : PairNode le
       record {
         place = change.place;
         live = lay_out_one _ _ _ change.live;
-        bytes = λ k t. change.rest.at k (elim (kept_away ns (live_of c.bytes) n k g.listed t) [ inl l ↦ inl (lt_of_lt_of_le l low) | inr l ↦ inr (le_trans high l) ]);
+        bytes = λ k t. change.rest.at k (elim (kept_away ns (live_of c.bytes) n k g.listed t)
+            [ inl l ↦ inl (lt_of_lt_of_le l low) | inr l ↦ inr (le_trans high l) ]);
         colours = λ x i o. ap (λ w. w % 16) (SameBut-word _ _ _ _ (x.offset + 8) change.rest (tag_apart x i o));
         links = links;
         others = other_cell;
         keys = λ m i. SameBut-Same _ _ _ _ (m + 16) (m + len) change.rest (key_apart m i (cases_eq m n));
       }
     where
-      tag_apart : (x : Extent) → In x (live_of c.bytes).extents → (handle x ≡ n → ⊥) → (x.offset + 8 + 8 ≤ from) ⊎ (from + 8 ≤ x.offset + 8)
+      tag_apart : (x : Extent) → In x (live_of c.bytes).extents → (handle x ≡ n → ⊥) → (x.offset + 8 + 8 ≤ from)
+          ⊎ (from + 8 ≤ x.offset + 8)
       tag_apart x i o =
           let r = is_proper-IsProper (live_of c.bytes) g.good.proper in
           let b = (lies 128 (live_of c.bytes).extents ((live_of c.bytes).size - 16) x r.list i).long in
@@ -270,7 +301,8 @@ module _ {len : ℕ} {ns : List ℕ} {c d : Cut} {n from : ℕ} (g : PairNode le
           ]
 
 module _ {len : ℕ} {ns : List ℕ} {c d : Cut} {n from : ℕ} {to : Option ℕ} (g : PairNode len ns c n)
-    (target : leads (is_pair_node len ns c) to ≡ true) (set : link_at (bytes_of d.bytes) from ≡ to) (change : IsChanged current c d from 8)
+    (target : leads (is_pair_node len ns c) to ≡ true) (set : link_at (bytes_of d.bytes) from ≡ to)
+    (change : IsChanged current c d from 8)
     (long : 16 ≤ len) (at : from ≡ n) where
   left_own : cells_of (bytes_of d.bytes) n ≡ record (cells_of (bytes_of c.bytes) n) { left = to }
   left_own =
@@ -292,7 +324,8 @@ module _ {len : ℕ} {ns : List ℕ} {c d : Cut} {n from : ℕ} {to : Option ℕ
   left_cells = one_cell g left_changed (λ (x : Cell). record x { left = to }) left_own
 
 module _ {len : ℕ} {ns : List ℕ} {c d : Cut} {n from : ℕ} {to : Option ℕ} (g : PairNode len ns c n)
-    (target : leads (is_pair_node len ns c) to ≡ true) (set : link_at (bytes_of d.bytes) from ≡ to) (change : IsChanged current c d from 8)
+    (target : leads (is_pair_node len ns c) to ≡ true) (set : link_at (bytes_of d.bytes) from ≡ to)
+    (change : IsChanged current c d from 8)
     (long : 16 ≤ len) (at : from ≡ n + 8) where
   right_own : cells_of (bytes_of d.bytes) n ≡ record (cells_of (bytes_of c.bytes) n) { right = to }
   right_own =
@@ -319,7 +352,8 @@ pub in_others : (h : ℕ) (x : Extent) (xs : List Extent) → In x xs → (handl
 in_others h x [] i o = absurd i
 in_others h x (y ∷ ys) i o = by_place (λ j. in_others h x ys j o) (cases_eq (handle y) h) i
   where
-    by_place : (In x ys → In x (others h ys)) → (handle y ≡ h) ⊎ (handle y ≡ h → ⊥) → ((y ≡ x) ⊎ In x ys) → In x (others h (y ∷ ys))
+    by_place : (In x ys → In x (others h ys)) → (handle y ≡ h) ⊎ (handle y ≡ h → ⊥) → ((y ≡ x) ⊎ In x ys)
+        → In x (others h (y ∷ ys))
     by_place rest (inl e) (inl f) = absurd (o (ap handle (sym f) ∙ e))
     by_place rest (inl e) (inr j) = subst (In x) (sym (others-here h y ys e)) j
     by_place rest (inr n) (inl f) = subst (In x) (sym (others-past h y ys n)) (inl f)
@@ -340,18 +374,33 @@ record InBlock (xs : List Extent) (k : ℕ) : Type 0 where
   low : handle extent ≤ k
   high : k < end_of extent
 
-in_block : (xs : List Extent) (k : ℕ) → list_any (λ (x : Extent). nat_le (handle x) k && nat_lt k (end_of x)) xs ≡ true → InBlock xs k
+in_block : (xs : List Extent) (k : ℕ) → list_any (λ (x : Extent). nat_le (handle x) k && nat_lt k (end_of x)) xs ≡ true
+    → InBlock xs k
 in_block [] k h = absurd (false≢true h)
 in_block (x ∷ xs) k h =
     elim (or_cases _ _ h) [
-      | inl e ↦ let two = and_parts _ _ e in record { extent = x; listed = inl refl; low = leb-true (handle x) k two.0; high = ltb-true k (end_of x) two.1 }
-      | inr e ↦ let b = in_block xs k e in record { extent = b.extent; listed = inr b.listed; low = b.low; high = b.high }
+      | inl e ↦ let two = and_parts _ _ e in record {
+        extent = x;
+        listed = inl refl;
+        low = leb-true
+            (handle x) k two.0;
+        high = ltb-true k (end_of x) two.1;
+      }
+      | inr e ↦ let b = in_block xs k e in record {
+        extent = b.extent;
+        listed = inr b.listed;
+        low = b.low;
+        high =
+            b.high;
+      }
     ]
 
 module _ {len : ℕ} {ns : List ℕ} {c d : Cut} {n : ℕ} {red : Bool} (g : PairNode len ns c n)
     (change : IsRecoloured current c d n red) (long : 16 ≤ len) where
-  same_payload : (x : Extent) → In x (live_of c.bytes).extents → Same (bytes_of c.bytes) (bytes_of d.bytes) (handle x) (end_of x)
-  same_payload x i = all_in (λ (y : Extent). Same (bytes_of c.bytes) (bytes_of d.bytes) (handle y) (end_of y)) (live_of c.bytes).extents x change.payloads i
+  same_payload : (x : Extent) → In x (live_of c.bytes).extents → Same (bytes_of c.bytes) (bytes_of d.bytes) (handle x)
+      (end_of x)
+  same_payload x i = all_in (λ (y : Extent). Same (bytes_of c.bytes) (bytes_of d.bytes) (handle y) (end_of y))
+      (live_of c.bytes).extents x change.payloads i
 
   node_same : (m : ℕ) → PairNode len ns c m → Same (bytes_of c.bytes) (bytes_of d.bytes) m (m + len)
   node_same m q =
@@ -366,17 +415,21 @@ module _ {len : ℕ} {ns : List ℕ} {c d : Cut} {n : ℕ} {red : Bool} (g : Pai
   right_link m q = Same-link _ _ _ _ (m + 8) (node_same m q) (omega arith) (omega arith)
 
   red_own : cells_of (bytes_of d.bytes) n ≡ record (cells_of (bytes_of c.bytes) n) { red = red }
-  red_own = let a = left_link n g in let b = right_link n g in let r = change.colour in λ i. record { left = a i; right = b i; red = r i }
+  red_own = let a = left_link n g in let b = right_link n g in let r = change.colour in λ i.
+      record { left = a i; right = b i; red = r i }
 
-  colour_at : (x : Extent) → In x (live_of c.bytes).extents → (handle x ≡ n → ⊥) → word_at (bytes_of d.bytes) (x.offset + 8) % 16 ≡ word_at (bytes_of c.bytes) (x.offset + 8) % 16
+  colour_at : (x : Extent) → In x (live_of c.bytes).extents → (handle x ≡ n → ⊥) → word_at (bytes_of d.bytes)
+      (x.offset + 8) % 16 ≡ word_at (bytes_of c.bytes) (x.offset + 8) % 16
   colour_at x i o =
-      (all_in (SameBlock (bytes_of c.bytes) (bytes_of d.bytes)) (others n (live_of c.bytes).extents) x change.keeps.blocks (in_others n x (live_of c.bytes).extents i o)).colour
+      (all_in (SameBlock (bytes_of c.bytes) (bytes_of d.bytes)) (others n (live_of c.bytes).extents) x
+      change.keeps.blocks (in_others n x (live_of c.bytes).extents i o)).colour
 
   other_red : (m : ℕ) → PairNode len ns c m → (m ≡ n → ⊥) → is_red (bytes_of d.bytes) m ≡ is_red (bytes_of c.bytes) m
   other_red m q o =
       let b = node_block len ns c m q in let at = b.at in
       let w : b.extent.offset + 8 ≡ m - 8 = omega arith in
-      let e = subst (λ a. word_at (bytes_of d.bytes) a % 16 ≡ word_at (bytes_of c.bytes) a % 16) w (colour_at b.extent b.listed (λ f. o (sym at ∙ f))) in
+      let e = subst (λ a. word_at (bytes_of d.bytes) a % 16 ≡ word_at (bytes_of c.bytes) a % 16) w
+      (colour_at b.extent b.listed (λ f. o (sym at ∙ f))) in
       same_red (word_at (bytes_of c.bytes) (m - 8)) (word_at (bytes_of d.bytes) (m - 8)) e
 
   byte_kept : (k : ℕ) → is_kept ns (live_of c.bytes) k ≡ true → bytes_of d.bytes k ≡ bytes_of c.bytes k
@@ -385,7 +438,8 @@ module _ {len : ℕ} {ns : List ℕ} {c d : Cut} {n : ℕ} {red : Bool} (g : Pai
       elim (or_cases _ _ two.0) [
         | inl e ↦ elim (or_cases _ _ e) [
           | inl l ↦ change.keeps.front.at k (omega arith) (ltb-true k 24 l)
-          | inr l ↦ let both = and_parts _ _ l in change.keeps.behind.at k (leb-true 32 k both.0) (ltb-true k 128 both.1)
+          | inr l ↦ let both = and_parts _ _ l in change.keeps.behind.at k (leb-true 32 k both.0)
+              (ltb-true k 128 both.1)
         ]
         | inr e ↦ let b = in_block (live_of c.bytes).extents k e in (same_payload b.extent b.listed).at k b.low b.high
       ]
@@ -397,10 +451,14 @@ module _ {len : ℕ} {ns : List ℕ} {c d : Cut} {n : ℕ} {red : Bool} (g : Pai
         live = lay_out_one _ _ _ change.live;
         bytes = byte_kept;
         colours = colour_at;
-        links = subst (λ (x : Cell). (leads (λ k. is_in k ns) x.left && leads (λ k. is_in k ns) x.right) ≡ true) (sym red_own) (links_at len ns c n g);
+        links = subst (λ (x : Cell). (leads (λ k. is_in k ns) x.left && leads (λ k. is_in k ns) x.right) ≡ true)
+            (sym red_own) (links_at len ns c n g);
         others = λ m i o. let q : PairNode len ns c m = record { good = g.good; listed = i } in
             cell_stays (bytes_of c.bytes) (bytes_of d.bytes) m (left_link m q) (right_link m q) (other_red m q o);
-        keys = λ m i. let s = node_same m (record { good = g.good; listed = i }) in record { at = λ k l h. s.at k (omega arith) h };
+        keys = λ m i. let s = node_same m (record { good = g.good; listed = i }) in record {
+          at = λ k l h.
+              s.at k (omega arith) h;
+        };
       }
 
   pub red_cells : pair_cells len ns d ≡ with_red (pair_cells len ns c) n red
@@ -420,7 +478,8 @@ module _ (len : ℕ) (ns : List ℕ) (c : Cut) (n : ℕ) (h : is_pair_node len n
   room_in k l = room_of k place_of l
 
   pub left_is : link_at (bytes_of c.bytes) (n + 0) ≡ (pair_cells len ns c n).left
-  left_is = let e : n + 0 ≡ n = omega arith in ap (link_at (bytes_of c.bytes)) e ∙ ap (λ (x : Cell). x.left) (sym (cells_at len ns c n h))
+  left_is = let e : n + 0 ≡ n = omega arith in ap (link_at (bytes_of c.bytes)) e ∙ ap (λ (x : Cell). x.left)
+      (sym (cells_at len ns c n h))
 
   pub right_is : link_at (bytes_of c.bytes) (n + 8) ≡ (pair_cells len ns c n).right
   right_is = ap (λ (x : Cell). x.right) (sym (cells_at len ns c n h))
@@ -435,9 +494,14 @@ pub record KeyRoom (size : ℕ) (c : Cut) (n : ℕ) : Type 0 where
 
 pub key_room : (size : ℕ) (ns : List ℕ) (c : Cut) (n : ℕ) → is_pair_node (16 + size) ns c n ≡ true → KeyRoom size c n
 key_room size ns c n h =
-    record { proper = proper_of (16 + size) ns c n h; room = room_in (16 + size) ns c n h (16 + size) (le_refl (16 + size)) }
+    record {
+      proper = proper_of (16 + size) ns c n h;
+      room = room_in (16 + size) ns c n h (16 + size)
+          (le_refl (16 + size));
+    }
 
 -- the key that is read
-pub key_is : {K : Type 0} (value : List ℕ → Option K) (size : ℕ) (ns : List ℕ) (c : Cut) (n : ℕ) → is_pair_node (16 + size) ns c n ≡ true → value (read (bytes_of c.bytes) (n + 16) size) ≡ key_of value size ns c n
+pub key_is : {K : Type 0} (value : List ℕ → Option K) (size : ℕ) (ns : List ℕ) (c : Cut) (n : ℕ)
+    → is_pair_node (16 + size) ns c n ≡ true → value (read (bytes_of c.bytes) (n + 16) size) ≡ key_of value size ns c n
 unfolding key_of key_at
 key_is value size ns c n h = rw h refl

@@ -1,5 +1,6 @@
 -- A pair whose node is made enters the map.
-use Rattle.std.proofs.Common.{◌≡◌, refl, sym, ap, subst, ◌∙◌, ℕ, ◌+◌, ◌*◌, ◌%◌, ◌≤◌, inl, inr, true, false, not, ◌&&◌, List, [], ◌∷◌, length, arith, ◌==◌}
+use Rattle.std.proofs.Common.{◌≡◌, refl, sym, ap, subst, ◌∙◌, ℕ, ◌+◌, ◌*◌, ◌%◌, ◌≤◌, inl, inr, true, false, not, ◌&&◌}
+use Rattle.std.proofs.Common.{List, [], ◌∷◌, length, arith, ◌==◌}
 use Rattle.std.specs.Prelude.{Option, Some, None, IfSome}
 use Rattle.std.specs.List.{list_all}
 use Rattle.std.proofs.lemmas.Bool.{and_parts, eqb-true, eq-eqb, or_cases, or_left, or_right}
@@ -16,13 +17,15 @@ use Rattle.best_fit.specs.Heap.{LaysOut, live_of}
 use Rattle.seg_types.specs.declared.plain.Plain.{Ghosts as Plain}
 use Rattle.seg_map.specs.Map.{Pair, IsPairAt, put_pair}
 use Rattle.seg_map.specs.Places.{HoldsMap, IsPairIn, nodes_of_pairs, pair_node}
-use Rattle.seg_map.specs.PairNodes.{comes_before, is_pair_node, key_at, key_of, links_among, own_nodes, pair_cells, stands, stands_before}
+use Rattle.seg_map.specs.PairNodes.{comes_before, is_pair_node, key_at, key_of, links_among, own_nodes, pair_cells}
+use Rattle.seg_map.specs.PairNodes.{stands, stands_before}
 use Rattle.seg_map.specs.PairLaws.{Good, PairNode-is_pair_node, cells_at}
 use Rattle.seg_map.specs.Linking.{CanLink, IsKeyTree, Linked, keys_in}
 use Rattle.seg_map.specs.Changing.{IsBesideMap, IsHeaded, IsLoose, IsPlanted}
 use Rattle.seg_map.specs.Searches.{entry_in}
 use Rattle.seg_map.proofs.Beginnings.{beside as not_beside, moved}
-use Rattle.seg_map.proofs.Entering.{HaveKeys, Laws, count_pairs, few_pairs, good, keys, listed, node_here, pair_block, pair_parts, read_spelled, rising_nodes}
+use Rattle.seg_map.proofs.Entering.{HaveKeys, Laws, count_pairs, few_pairs, good, keys, listed, node_here, pair_block}
+use Rattle.seg_map.proofs.Entering.{pair_parts, read_spelled, rising_nodes}
 use Rattle.seg_map.proofs.Searching.{lent_own}
 use Rattle.seg_map.proofs.PairSteps.{target_whole}
 use Rattle.seg_map.proofs.Rewriting.{beside, rewritten}
@@ -31,7 +34,8 @@ use Rattle.seg_map.proofs.Leaving.{apart_all, in_from, nodes_in}
 use Rattle.seg_map.proofs.PutLists.{place_of, put_all, put_length, put_nodes, put_rising}
 
 -- a link among nodes is one among more of them
-leads_more : (n : ℕ) (ns : List ℕ) (o : Option ℕ) → leads (λ j. is_in j ns) o ≡ true → leads (λ j. is_in j (n ∷ ns)) o ≡ true
+leads_more : (n : ℕ) (ns : List ℕ) (o : Option ℕ) → leads (λ j. is_in j ns) o ≡ true → leads (λ j. is_in j (n ∷ ns)) o
+    ≡ true
 leads_more n ns None h = refl
 leads_more n ns (Some m) h = or_right _ _ h
 
@@ -57,12 +61,17 @@ module _ {K V : Type 0} {kp : Plain K} {vp : Plain V} (kl : Laws kp) (c : Cut) {
         | inl e ↦
             let at' = eqb-true m (pair_node p) e in
             let a : (cells_of (bytes_of c.bytes) m).left ≡ None = ap (link_at (bytes_of c.bytes)) at' ∙ l.left in
-            let b : (cells_of (bytes_of c.bytes) m).right ≡ None = ap (λ k. link_at (bytes_of c.bytes) (k + 8)) at' ∙ l.right in
+            let b : (cells_of (bytes_of c.bytes) m).right ≡ None = ap (λ k. link_at (bytes_of c.bytes) (k + 8)) at'
+            ∙ l.right in
             (λ j. leads (λ k. is_in k all) (a j) && leads (λ k. is_in k all) (b j))
         | inr e ↦
             let g = good kl c s in
             let two = and_parts _ _ (all_at (links_among (bytes_of c.bytes) ns) ns m g.links e) in
-            rw (leads_more (pair_node p) ns (cells_of (bytes_of c.bytes) m).left two.0, leads_more (pair_node p) ns (cells_of (bytes_of c.bytes) m).right two.1) refl
+            rw (
+              leads_more (pair_node p) ns (cells_of (bytes_of c.bytes) m).left two.0,
+              leads_more (pair_node p) ns
+                  (cells_of (bytes_of c.bytes) m).right two.1,
+            ) refl
       ]
 
   good_all : Good (16 + kp.SIZE) all c
@@ -94,27 +103,33 @@ module _ {K V : Type 0} {kp : Plain K} {vp : Plain V} (kl : Laws kp) (c : Cut) {
       rw (node_all (pair_node p) own_in)
       (read_spelled kp kl (bytes_of c.bytes) (handle p.node + 16) p.key (pair_parts l.block).key l.bytes.0)
 
-  keys_from : (qs : List (Pair K V)) → list_all (λ n. is_in n ns) (nodes_of_pairs qs) ≡ true → HaveKeys (keys_in kp ns c) qs → HaveKeys (keys_in kp all c) qs
+  keys_from : (qs : List (Pair K V)) → list_all (λ n. is_in n ns) (nodes_of_pairs qs) ≡ true
+      → HaveKeys (keys_in kp ns c) qs → HaveKeys (keys_in kp all c) qs
   keys_from [] i k = tt
   keys_from (q ∷ qs) i k =
       let two = and_parts _ _ i in
       (key_same (pair_node q) two.0 ∙ k.0, keys_from qs two.1 k.1)
 
   keys_all : HaveKeys (keys_in kp all c) ps
-  keys_all = keys_from ps (all_from (λ n. is_in n ns) (nodes_of_pairs ps) (λ m i. ap (λ ms. is_in m ms) (listed kl c s) ∙ i)) (keys kl c s)
+  keys_all = keys_from ps (all_from (λ n. is_in n ns) (nodes_of_pairs ps) (λ m i. ap (λ ms. is_in m ms) (listed kl c s)
+      ∙ i)) (keys kl c s)
 
   key_tree : IsKeyTree kp all c root s.map.tree.tree
   key_tree =
       record {
         tree = record {
-          tree = rw is (tree_same (cells_of (bytes_of c.bytes)) (pair_cells (16 + kp.SIZE) all c) (link_at (bytes_of c.bytes) (h + at)) s.map.tree.tree (λ m i. cells_at (16 + kp.SIZE) all c m (node_all m (in_all m i))) s.map.tree.linked);
-          ordered = ap (rises (comes_before kp.order (keys_in kp all c))) (listed kl c s) ∙ rising_nodes kp.order kl.transitive (keys_in kp all c) ps keys_all s.rising;
+          tree = rw is (tree_same (cells_of (bytes_of c.bytes)) (pair_cells (16 + kp.SIZE) all c)
+              (link_at (bytes_of c.bytes) (h + at)) s.map.tree.tree (λ m i. cells_at (16 + kp.SIZE) all c m
+              (node_all m (in_all m i))) s.map.tree.linked);
+          ordered = ap (rises (comes_before kp.order (keys_in kp all c))) (listed kl c s) ∙ rising_nodes kp.order
+              kl.transitive (keys_in kp all c) ps keys_all s.rising;
           red_black = s.map.tree.red_black;
         };
         leads = by_root root (rw is s.map.tree.linked);
       }
     where
-      by_root : (o : Option ℕ) → IsTree (cells_of (bytes_of c.bytes)) o s.map.tree.tree → leads (is_pair_node (16 + kp.SIZE) all c) o ≡ true
+      by_root : (o : Option ℕ) → IsTree (cells_of (bytes_of c.bytes)) o s.map.tree.tree → leads
+          (is_pair_node (16 + kp.SIZE) all c) o ≡ true
       by_root None k = refl
       by_root (Some n) k = node_all n (in_all n (root_in (cells_of (bytes_of c.bytes)) n s.map.tree.tree k))
 
@@ -142,11 +157,13 @@ module _ {K V : Type 0} {kp : Plain K} {vp : Plain V} (kl : Laws kp) (c : Cut) {
         shape = s.map.tree.tree;
         tree = key_tree;
         own = node_all (pair_node p) own_in;
-        place = ap (has_place (comes_before kp.order (keys_in kp all c)) (pair_node p)) (listed kl c s) ∙ place_of kp.order (keys_in kp all c) p own_key ps keys_all l.absent;
+        place = ap (has_place (comes_before kp.order (keys_in kp all c)) (pair_node p)) (listed kl c s)
+            ∙ place_of kp.order (keys_in kp all c) p own_key ps keys_all l.absent;
         begins = begins_all start begins;
       }))
 
-  module _ {d : Cut} {node : ℕ} (here : pair_node p ≡ node) {top : Option ℕ} {steps : ℕ} (k : Linked kp (own_nodes c.bytes root (Some node)) c d root node top steps) where
+  module _ {d : Cut} {node : ℕ} (here : pair_node p ≡ node) {top : Option ℕ} {steps : ℕ} (k : Linked kp
+      (own_nodes c.bytes root (Some node)) c d root node top steps) where
     u : Linked kp all c d root (pair_node p) top steps
     u = subst (λ (ms : List ℕ). Linked kp ms c d root (pair_node p) top steps) ns_is (rw here k)
 
@@ -163,19 +180,24 @@ module _ {K V : Type 0} {kp : Plain K} {vp : Plain V} (kl : Laws kp) (c : Cut) {
     off = ap (is_in h) all_own ∙ apart_all kp vp (live_of c.bytes) h (p ∷ ps) (l.block, s.pairs)
 
     -- the map with the pair
-    pub planted : Laws vp → {e : Cut} {n : ℕ} → n ≡ length ps + 1 → IsHeaded d e (h + at) top n → IsPlanted kp vp c e h at ps p
+    pub planted : Laws vp → {e : Cut} {n : ℕ} → n ≡ length ps + 1 → IsHeaded d e (h + at) top n
+        → IsPlanted kp vp c e h at ps p
     planted vl {e} {n} count head =
         let r = u.tree s.map.tree.tree key_tree in
         let lists : nodes_of r.0 ≡ nodes_of_pairs (put_pair kp.order p ps) =
-        r.2 ∙ ap (put (comes_before kp.order (keys_in kp all c)) (pair_node p)) (listed kl c s) ∙ put_nodes kp.order (keys_in kp all c) p own_key ps keys_all l.absent in
+        r.2 ∙ ap (put (comes_before kp.order (keys_in kp all c)) (pair_node p)) (listed kl c s)
+        ∙ put_nodes kp.order (keys_in kp all c) p own_key ps keys_all l.absent in
         let more = put_length kp.order p ps l.absent in
         record {
           live = subst (LaysOut current e.bytes) live_put head.change.live;
           beside = subst (IsBesideMap c e (h + at)) all_own (beside kl vl h at s.heap good_all u.kept s.room off head);
           map = rewritten kl vl h at s.heap good_all u.kept s.room off head (put_pair kp.order p ps) r.1 lists
               (put_all kp.order (IsPairIn kp vp (live_of c.bytes) h) p ps l.block s.pairs)
-              (in_from all (put_pair kp.order p ps) (put_all kp.order (λ q. is_in (pair_node q) all ≡ true) p ps own_in (nodes_in all ps (λ m i. in_all m (ap (λ ms. is_in m ms) (listed kl c s) ∙ i)))))
-              s.aligned (put_rising kp.order kl.transitive p ps l.absent s.rising) (put_all kp.order (IsPairAt kp.SIZE kp.spelling vp.spelling (bytes_of c.bytes)) p ps l.bytes s.map.pairs) (omega (arith, more, count));
+              (in_from all (put_pair kp.order p ps) (put_all kp.order (λ q. is_in (pair_node q) all ≡ true) p ps own_in
+              (nodes_in all ps (λ m i. in_all m (ap (λ ms. is_in m ms) (listed kl c s) ∙ i)))))
+              s.aligned (put_rising kp.order kl.transitive p ps l.absent s.rising) (put_all kp.order
+              (IsPairAt kp.SIZE kp.spelling vp.spelling (bytes_of c.bytes)) p ps l.bytes s.map.pairs)
+              (omega (arith, more, count));
         }
 
 -- a map has few pairs

@@ -1,5 +1,6 @@
 -- Pairs that are put, and their nodes.
-use Rattle.std.proofs.Common.{◌≡◌, refl, sym, ap, subst, ◌∙◌, ℕ, suc, ◌⊎◌, inl, inr, Bool, true, false, ◌||◌, not, List, [], ◌∷◌, length}
+use Rattle.std.proofs.Common.{◌≡◌, refl, sym, ap, subst, ◌∙◌, ℕ, suc, ◌⊎◌, inl, inr, Bool, true, false, ◌||◌, not, List}
+use Rattle.std.proofs.Common.{[], ◌∷◌, length}
 use Rattle.std.specs.Prelude.{Option, Some, None}
 use Rattle.std.specs.List.{AllByRecursion}
 use Rattle.std.proofs.lemmas.Bool.{false≢true, cases_Bool, and_from}
@@ -86,19 +87,24 @@ module _ {K V : Type 0} (less : K → K → Bool) where
 
   module _ (keys : ℕ → Option K) (p : Pair K V) (own : keys (pair_node p) ≡ Some p.key) where
     -- the node has a place among those of the others
-    pub place_of : (ps : List (Pair K V)) → HaveKeys keys ps → pair_at less ps p.key ≡ None → has_place (comes_before less keys) (pair_node p) (nodes_of_pairs ps) ≡ true
+    pub place_of : (ps : List (Pair K V)) → HaveKeys keys ps → pair_at less ps p.key ≡ None
+        → has_place (comes_before less keys) (pair_node p) (nodes_of_pairs ps) ≡ true
     place_of [] k e = refl
     place_of (q ∷ qs) k e =
         let two = absent_here p.key q qs e in
-        and_from (comes_before less keys (pair_node p) (pair_node q) || comes_before less keys (pair_node q) (pair_node p)) (has_place (comes_before less keys) (pair_node p) (nodes_of_pairs qs))
-        ((λ i. before_key less (own i) (k.0 i) || before_key less (k.0 i) (own i)) ∙ either_two (less p.key q.key) (less q.key p.key) two.0)
+        and_from (comes_before less keys (pair_node p) (pair_node q) || comes_before less keys (pair_node q)
+        (pair_node p)) (has_place (comes_before less keys) (pair_node p) (nodes_of_pairs qs))
+        ((λ i. before_key less (own i) (k.0 i) || before_key less (k.0 i) (own i)) ∙ either_two (less p.key q.key)
+        (less q.key p.key) two.0)
         (place_of qs k.1 two.1)
 
-    pub put_nodes : (ps : List (Pair K V)) → HaveKeys keys ps → pair_at less ps p.key ≡ None → put (comes_before less keys) (pair_node p) (nodes_of_pairs ps) ≡ nodes_of_pairs (put_pair less p ps)
+    pub put_nodes : (ps : List (Pair K V)) → HaveKeys keys ps → pair_at less ps p.key ≡ None
+        → put (comes_before less keys) (pair_node p) (nodes_of_pairs ps) ≡ nodes_of_pairs (put_pair less p ps)
     put_nodes [] k e = refl
     put_nodes (q ∷ qs) k e =
         let two = absent_here p.key q qs e in
-        let same : comes_before less keys (pair_node p) (pair_node q) ≡ less p.key q.key = λ i. before_key less (own i) (k.0 i) in
+        let same : comes_before less keys (pair_node p) (pair_node q) ≡ less p.key q.key = λ i.
+        before_key less (own i) (k.0 i) in
         elim (cases_Bool (less p.key q.key)) [
           | inl y ↦ rw (same ∙ y, y) refl
           | inr n ↦ rw (same ∙ n, n, either_one _ _ two.0 n)
@@ -109,19 +115,22 @@ module _ {K V : Type 0} (less : K → K → Bool) where
 
   module _ (on : Chains less) (p p' : Pair K V) (same : p'.key ≡ p.key) where
     -- the pair with the key stands behind this one, or is it
-    later : (q : Pair K V) (qs : List (Pair K V)) → is_rising less (q ∷ qs) ≡ true → pair_at less (q ∷ qs) p'.key ≡ Some p → less p'.key q.key ≡ false
+    later : (q : Pair K V) (qs : List (Pair K V)) → is_rising less (q ∷ qs) ≡ true → pair_at less (q ∷ qs) p'.key
+        ≡ Some p → less p'.key q.key ≡ false
     later q qs r e =
         elim (cases_Bool (less p'.key q.key)) [
           | inl y ↦ let f = rw y at e in let g = none_above less on p'.key q qs r y in absurd (cc)
           | inr n ↦ n
         ]
 
-    module _ (P Q : Pair K V → Type 0) (step : (q : Pair K V) → P q → (less p'.key q.key ≡ true) ⊎ (less q.key p'.key ≡ true) → Q q) (own : Q p') where
+    module _ (P Q : Pair K V → Type 0) (step : (q : Pair K V) → P q → (less p'.key q.key ≡ true)
+        ⊎ (less q.key p'.key ≡ true) → Q q) (own : Q p') where
       behind : (qs : List (Pair K V)) → Below less p'.key qs → AllByRecursion P qs → AllByRecursion Q qs
       behind [] b a = tt
       behind (q ∷ qs) b a = (step q a.0 (inl b.0), behind qs b.1 a.1)
 
-      pub replaced_all : (ps : List (Pair K V)) → is_rising less ps ≡ true → pair_at less ps p'.key ≡ Some p → AllByRecursion P ps → AllByRecursion Q (put_pair less p' ps)
+      pub replaced_all : (ps : List (Pair K V)) → is_rising less ps ≡ true → pair_at less ps p'.key ≡ Some p
+          → AllByRecursion P ps → AllByRecursion Q (put_pair less p' ps)
       replaced_all [] r e a = absurd (cc)
       replaced_all (q ∷ qs) r e a =
           let n = later q qs r e in
@@ -132,18 +141,21 @@ module _ {K V : Type 0} (less : K → K → Bool) where
                 rw (n, z) (own, behind qs (subst (λ k. Below less k qs) is (rising_below less on q qs r)) a.1)
           ]
 
-    pub replaced_nodes : pair_node p' ≡ pair_node p → (ps : List (Pair K V)) → is_rising less ps ≡ true → pair_at less ps p'.key ≡ Some p → nodes_of_pairs (put_pair less p' ps) ≡ nodes_of_pairs ps
+    pub replaced_nodes : pair_node p' ≡ pair_node p → (ps : List (Pair K V)) → is_rising less ps ≡ true
+        → pair_at less ps p'.key ≡ Some p → nodes_of_pairs (put_pair less p' ps) ≡ nodes_of_pairs ps
     replaced_nodes at [] r e = absurd (cc)
     replaced_nodes at (q ∷ qs) r e =
         let n = later q qs r e in
         elim (cases_Bool (less q.key p'.key)) [
-          | inl y ↦ rw (n, y) (ap (λ (ms : List ℕ). pair_node q ∷ ms) (replaced_nodes at qs (rising_rest less on q qs r) (rw (n, y) at e)))
+          | inl y ↦ rw (n, y) (ap (λ (ms : List ℕ). pair_node q ∷ ms) (replaced_nodes at qs (rising_rest less on q qs
+              r) (rw (n, y) at e)))
           | inr z ↦
               let f = rw (n, z) at e in let is : p ≡ q = cc in
               rw (n, z) (ap (λ (m : ℕ). m ∷ nodes_of_pairs qs) (at ∙ ap pair_node is))
         ]
 
-    pub replaced_rising : (ps : List (Pair K V)) → is_rising less ps ≡ true → pair_at less ps p'.key ≡ Some p → is_rising less (put_pair less p' ps) ≡ true
+    pub replaced_rising : (ps : List (Pair K V)) → is_rising less ps ≡ true → pair_at less ps p'.key ≡ Some p
+        → is_rising less (put_pair less p' ps) ≡ true
     replaced_rising [] r e = absurd (cc)
     replaced_rising (q ∷ qs) r e =
         let n = later q qs r e in let rest = rising_rest less on q qs r in
@@ -151,7 +163,8 @@ module _ {K V : Type 0} (less : K → K → Bool) where
           | inl y ↦
               let found = rw (n, y) at e in
               rw (n, y) (below_rising less q (put_pair less p' qs)
-              (replaced_all (λ (x : Pair K V). less q.key x.key ≡ true) (λ (x : Pair K V). less q.key x.key ≡ true) (λ x h o. h) y qs rest found
+              (replaced_all (λ (x : Pair K V). less q.key x.key ≡ true) (λ (x : Pair K V). less q.key x.key ≡ true)
+              (λ x h o. h) y qs rest found
               (rising_below less on q qs r)) (replaced_rising qs rest found))
           | inr z ↦
               let f = rw (n, z) at e in let is : q.key ≡ p'.key = cc in

@@ -1,5 +1,6 @@
 -- The tree of a map is changed, and its three words are written.
-use Rattle.std.proofs.Common.{◌≡◌, sym, ap, subst, ◌∙◌, ℕ, ◌+◌, ◌%◌, ◌<◌, ◌≤◌, ◌≢◌, ◌⊎◌, inl, inr, true, false, List, [], ◌∷◌, length, arith, IsTrue}
+use Rattle.std.proofs.Common.{◌≡◌, sym, ap, subst, ◌∙◌, ℕ, ◌+◌, ◌%◌, ◌<◌, ◌≤◌, ◌≢◌, ◌⊎◌, inl, inr, true, false, List}
+use Rattle.std.proofs.Common.{[], ◌∷◌, length, arith, IsTrue}
 use Rattle.std.specs.Prelude.{Option, Some, None}
 use Rattle.std.proofs.lemmas.Bool.{false≢true, cases_eq}
 use Rattle.raw_region.specs.Format.{current}
@@ -26,7 +27,8 @@ use Rattle.seg_map.proofs.PairSteps.{all_in, block_apart}
 use Rattle.seg_map.proofs.Frames.{kept_block, kept_inside, kept_keeps, live_stays}
 use Rattle.seg_map.proofs.Staying.{at_node, block_cells, lengths, pair_stays}
 
-module _ {K V : Type 0} {kp : Plain K} {vp : Plain V} (kl : Laws kp) (vl : Laws vp) {c d e : Cut} (h at : ℕ) {ns : List ℕ}
+module _ {K V : Type 0} {kp : Plain K} {vp : Plain V} (kl : Laws kp) (vl : Laws vp) {c d e : Cut} (h at : ℕ)
+    {ns : List ℕ}
     (heap : IsHeap current c.bytes) (good : Good (16 + kp.SIZE) ns c) (kept : kept_of ns d ≡ kept_of ns c)
     (room : IsTrue (has_room (live_of c.bytes) h (at + 24))) (off : is_in h ns ≡ false) {top : Option ℕ} {n : ℕ}
     (head : IsHeaded d e (h + at) top n) where
@@ -53,7 +55,8 @@ module _ {K V : Type 0} {kp : Plain K} {vp : Plain V} (kl : Laws kp) (vl : Laws 
   pub beside : IsBesideMap c e (h + at) ns
   beside =
       let r = roomy c h (at + 24) heap room in let here = r.at in let long = r.room in
-      let written = written-but d e (live_of c.bytes) h (h + at) 24 r.extent heap.proper r.found head.change (omega arith) (omega arith) in
+      let written = written-but d e (live_of c.bytes) h (h + at) 24 r.extent heap.proper r.found head.change
+      (omega arith) (omega arith) in
       record {
         place = SamePlace-trans _ _ _ rest_kept.place head.change.place;
         front = Same-trans _ _ _ _ _ rest_kept.front others_stay.front;
@@ -61,16 +64,23 @@ module _ {K V : Type 0} {kp : Plain K} {vp : Plain V} (kl : Laws kp) (vl : Laws 
         blocks = λ x f o.
             let i = found_in (live_of c.bytes).extents (handle x) x f in
             let p = kept_block d good kept (omega arith) x i o in
-            let q = all_in (SameBlockBut (bytes_of d.bytes) (bytes_of e.bytes) (h + at) 24) (live_of c.bytes).extents x written i in
+            let q = all_in (SameBlockBut (bytes_of d.bytes) (bytes_of e.bytes) (h + at) 24) (live_of c.bytes).extents x
+            written i in
             (but-trans (bytes_of c.bytes) (bytes_of d.bytes) (bytes_of e.bytes) (h + at) 24 (x ∷ []) (p, tt) (q, tt)).0;
       }
 
   -- a node of the tree is one of the nodes, whose links lead to nodes
-  node_d : (t : Tree) → IsKeyTree kp ns d top t → (m : ℕ) → is_in m (nodes_of t) ≡ true → is_in m ns ≡ true → is_pair_node (16 + kp.SIZE) ns d m ≡ true
+  node_d : (t : Tree) → IsKeyTree kp ns d top t → (m : ℕ) → is_in m (nodes_of t) ≡ true → is_in m ns ≡ true
+      → is_pair_node (16 + kp.SIZE) ns d m ≡ true
   node_d t k m i j = by_root top k.leads k.tree.tree.root
     where
-      by_root : (o : Option ℕ) → leads (is_pair_node (16 + kp.SIZE) ns d) o ≡ true → o ≡ root_of t → is_pair_node (16 + kp.SIZE) ns d m ≡ true
-      by_root (Some r) l is = PairNode-is_pair_node (16 + kp.SIZE) ns d m (record { good = (is_pair_node-PairNode (16 + kp.SIZE) ns d r l).good; listed = j })
+      by_root : (o : Option ℕ) → leads (is_pair_node (16 + kp.SIZE) ns d) o ≡ true → o ≡ root_of t
+          → is_pair_node (16 + kp.SIZE) ns d m ≡ true
+      by_root (Some r) l is = PairNode-is_pair_node (16 + kp.SIZE) ns d m (record {
+        good = (is_pair_node-PairNode
+            (16 + kp.SIZE) ns d r l).good;
+        listed = j;
+      })
       by_root None l is = absurd (no_node t is i)
         where
           no_node : (u : Tree) → None ≡ root_of u → is_in m (nodes_of u) ≡ true → ⊥
@@ -78,7 +88,8 @@ module _ {K V : Type 0} {kp : Plain K} {vp : Plain V} (kl : Laws kp) (vl : Laws 
           no_node (fork red left x right) f g = absurd (cc)
 
   -- the key and the value of a pair stay
-  pair_kept : (p : Pair K V) → IsPairIn kp vp (live_of c.bytes) h p → Same (bytes_of c.bytes) (bytes_of e.bytes) (handle p.node + 16) (handle p.node + (16 + kp.SIZE + vp.SIZE))
+  pair_kept : (p : Pair K V) → IsPairIn kp vp (live_of c.bytes) h p → Same (bytes_of c.bytes) (bytes_of e.bytes)
+      (handle p.node + 16) (handle p.node + (16 + kp.SIZE + vp.SIZE))
   pair_kept p i =
       let x = p.node in let listed = found_in (live_of c.bytes).extents (handle x) x i.listed in
       let long = (pair_parts i).long in let same = block_stays x i.listed i.apart in
@@ -88,7 +99,8 @@ module _ {K V : Type 0} {kp : Plain K} {vp : Plain V} (kl : Laws kp) (vl : Laws 
             (λ m j. apart k from (omega arith) m j (cases_eq (handle x) m));
       }
     where
-      apart : (k : ℕ) → handle p.node + 16 ≤ k → k < end_of p.node → (m : ℕ) → is_in m ns ≡ true → (handle p.node ≡ m) ⊎ (handle p.node ≡ m → ⊥) → (k < m) ⊎ (m + 16 ≤ k)
+      apart : (k : ℕ) → handle p.node + 16 ≤ k → k < end_of p.node → (m : ℕ) → is_in m ns ≡ true → (handle p.node ≡ m)
+          ⊎ (handle p.node ≡ m → ⊥) → (k < m) ⊎ (m + 16 ≤ k)
       apart k from to m j (inl f) = inr (omega arith)
       apart k from to m j (inr o) =
           let q : PairNode (16 + kp.SIZE) ns c m = record { good = good; listed = j } in
@@ -97,24 +109,29 @@ module _ {K V : Type 0} {kp : Plain K} {vp : Plain V} (kl : Laws kp) (vl : Laws 
             | inr l ↦ inr (omega arith)
           ]
 
-  pairs_at : (qs : List (Pair K V)) → AreIn kp vp (live_of c.bytes) h qs → AreAt kp vp (bytes_of c.bytes) qs → AreAt kp vp (bytes_of e.bytes) qs
+  pairs_at : (qs : List (Pair K V)) → AreIn kp vp (live_of c.bytes) h qs → AreAt kp vp (bytes_of c.bytes) qs
+      → AreAt kp vp (bytes_of e.bytes) qs
   pairs_at [] a b = tt
   pairs_at (q ∷ qs) a b =
       (pair_stays (bytes_of c.bytes) (bytes_of e.bytes) (lengths kl vl a.0) (pair_kept q a.0) b.0, pairs_at qs a.1 b.1)
 
-  module _ (qs : List (Pair K V)) {t : Tree} (k : IsKeyTree kp ns d top t) (lists : nodes_of t ≡ nodes_of_pairs qs) (pairs : AreIn kp vp (live_of c.bytes) h qs)
+  module _ (qs : List (Pair K V)) {t : Tree} (k : IsKeyTree kp ns d top t) (lists : nodes_of t ≡ nodes_of_pairs qs)
+      (pairs : AreIn kp vp (live_of c.bytes) h qs)
       (own : (m : ℕ) → is_in m (nodes_of_pairs qs) ≡ true → is_in m ns ≡ true) where
-    tree_cells : (m : ℕ) → is_in m (nodes_of t) ≡ true → cells_of (bytes_of e.bytes) m ≡ pair_cells (16 + kp.SIZE) ns d m
+    tree_cells : (m : ℕ) → is_in m (nodes_of t) ≡ true → cells_of (bytes_of e.bytes) m ≡ pair_cells
+        (16 + kp.SIZE) ns d m
     tree_cells m i =
         let j = ap (λ ms. is_in m ms) (sym lists) ∙ i in
         let a = at_node (IsPairIn kp vp (live_of c.bytes) h) qs m j pairs in
         let long = (pair_parts a.holds).long in
         let same = block_stays a.pair.node a.holds.listed a.holds.apart in
-        subst (λ x. cells_of (bytes_of e.bytes) x ≡ cells_of (bytes_of d.bytes) x) a.at (block_cells (bytes_of d.bytes) (bytes_of e.bytes) a.pair.node same (omega arith))
+        subst (λ x. cells_of (bytes_of e.bytes) x ≡ cells_of (bytes_of d.bytes) x) a.at (block_cells (bytes_of d.bytes)
+        (bytes_of e.bytes) a.pair.node same (omega arith))
         ∙ sym (cells_at (16 + kp.SIZE) ns d m (node_d t k m i (own m j)))
 
     -- the map has the pairs of the tree
-    pub rewritten : at % 8 ≡ 0 → is_rising kp.order qs ≡ true → AreAt kp vp (bytes_of c.bytes) qs → n ≡ length qs → HoldsMap kp vp e.bytes h at qs
+    pub rewritten : at % 8 ≡ 0 → is_rising kp.order qs ≡ true → AreAt kp vp (bytes_of c.bytes) qs → n ≡ length qs
+        → HoldsMap kp vp e.bytes h at qs
     rewritten whole rising bytes count =
         record {
           heap = laid-heap _ _ head.change.live;
@@ -123,7 +140,8 @@ module _ {K V : Type 0} {kp : Plain K} {vp : Plain V} (kl : Laws kp) (vl : Laws 
             third = head.third;
             tree = record {
               tree = t;
-              linked = rw head.link (tree_same (pair_cells (16 + kp.SIZE) ns d) (cells_of (bytes_of e.bytes)) top t tree_cells k.tree.tree);
+              linked = rw head.link (tree_same (pair_cells (16 + kp.SIZE) ns d) (cells_of (bytes_of e.bytes)) top t
+                  tree_cells k.tree.tree);
               red_black = k.tree.red_black;
               lists = lists;
             };

@@ -1,5 +1,6 @@
 -- The pairs of a map that are lent to a call of the tree, and what a search among them finds.
-use Rattle.std.proofs.Common.{◌≡◌, refl, sym, ap, subst, ◌∙◌, ℕ, ◌+◌, ◌*◌, ◌≤◌, Bool, List, [], ◌∷◌, length, true, false, arith, not, IsTrue}
+use Rattle.std.proofs.Common.{◌≡◌, refl, sym, ap, subst, ◌∙◌, ℕ, ◌+◌, ◌*◌, ◌≤◌, Bool, List, [], ◌∷◌, length, true}
+use Rattle.std.proofs.Common.{false, arith, not, IsTrue}
 use mathlib.Core.List.{reverse}
 use Rattle.std.specs.Prelude.{Option, Some, None, IfSome, find, option_and_then, option_map, if◌then◌else◌}
 use Rattle.std.specs.List.{AllByRecursion, last_or}
@@ -15,14 +16,18 @@ use Rattle.seg_types.specs.declared.plain.Plain.{Ghosts as Plain}
 use Rattle.seg_map.specs.Linking.{IsKeyTree, keys_in}
 use Rattle.seg_map.specs.Map.{Pair, IsPairAt, is_rising, pair_at}
 use Rattle.seg_map.specs.PairNodes.{both, comes_before, own_nodes, pair_cells, stands_before}
-use Rattle.seg_map.specs.Places.{HoldsMap, IsPairIn, IsSomeMap, SearchSteps, final_pair, first_pair, is_passed, item_of, last_pair, pair_node, value_of_pair}
-use Rattle.seg_map.specs.Searches.{FindsExit, IsOpened, IsRead, LooksFor, LooksUp, entry_in, exit_in, item_at, last_path, node_with, path_in, reading_steps}
-use Rattle.seg_map.proofs.Entering.{AreAt, AreIn, HaveKeys, Laws, count_pairs, found_back, found_last, found_pair, keys, own, pair_parts, read_spelled, root_leads, search_tree, value_of}
+use Rattle.seg_map.specs.Places.{HoldsMap, IsPairIn, IsSomeMap, SearchSteps, final_pair, first_pair, is_passed, item_of}
+use Rattle.seg_map.specs.Places.{last_pair, pair_node, value_of_pair}
+use Rattle.seg_map.specs.Searches.{FindsExit, IsOpened, IsRead, LooksFor, LooksUp, entry_in, exit_in, item_at}
+use Rattle.seg_map.specs.Searches.{last_path, node_with, path_in, reading_steps}
+use Rattle.seg_map.proofs.Entering.{AreAt, AreIn, HaveKeys, Laws, count_pairs, found_back, found_last, found_pair, keys}
+use Rattle.seg_map.proofs.Entering.{own, pair_parts, read_spelled, root_leads, search_tree, value_of}
 use Rattle.seg_map.proofs.FoundLists.{all_reversed}
 use Rattle.seg_map.proofs.FoundPairs.{by_key, pair_by_key}
 
 module _ {K V : Type 0} {kp : Plain K} {vp : Plain V} (laws : Laws kp) (c : Cut) {h at : ℕ} {ps : List (Pair K V)}
-    (s : HoldsMap kp vp c.bytes h at ps) {root : Option ℕ} {ms : List ℕ} (is : root ≡ link_at (bytes_of c.bytes) (h + at))
+    (s : HoldsMap kp vp c.bytes h at ps) {root : Option ℕ} {ms : List ℕ} (is : root ≡ link_at (bytes_of c.bytes)
+    (h + at))
     (are : ms ≡ own_nodes c.bytes root None) where
   pub lent_own : ms ≡ nodes_of s.map.tree.tree
   lent_own = are ∙ ap (λ o. own_nodes c.bytes o None) is ∙ own laws c s
@@ -35,10 +40,12 @@ module _ {K V : Type 0} {kp : Plain K} {vp : Plain V} (laws : Laws kp) (c : Cut)
 
 module _ {K V : Type 0} {kp : Plain K} {vp : Plain V} (kl : Laws kp) (vl : Laws vp) (c : Cut) (h : ℕ) where
   read_pair : (by : ℕ → Option K) (p : Pair K V) → IsPairIn kp vp (live_of c.bytes) h p
-      → IsPairAt kp.SIZE kp.spelling vp.spelling (bytes_of c.bytes) p → by (pair_node p) ≡ Some p.key → IsRead kp vp c by p
+      → IsPairAt kp.SIZE kp.spelling vp.spelling (bytes_of c.bytes) p → by (pair_node p) ≡ Some p.key
+      → IsRead kp vp c by p
   read_pair by p i b e =
       let q = pair_parts i in
-      let m = bytes_of c.bytes in let behind : pair_node p + (16 + kp.SIZE) ≡ pair_node p + 16 + kp.SIZE = omega arith in
+      let m = bytes_of c.bytes in let behind : pair_node p + (16 + kp.SIZE) ≡ pair_node p + 16 + kp.SIZE =
+      omega arith in
       let k = read_spelled kp kl m (pair_node p + 16) p.key q.key b.0 in
       let v = ap (λ a. value_of vp (read m a vp.SIZE)) behind
       ∙ read_spelled vp vl m (pair_node p + 16 + kp.SIZE) p.value q.value b.1 in
@@ -76,7 +83,8 @@ pub record Finds {K V : Type 0} (k : Plain K) (v : Plain V) (c : Cut) (h at : �
   pub exact : (ps : List (Pair K V)) (s : HoldsMap k v c.bytes h at ps) → taken ≡ path s.map.tree.tree
   pub most : SearchSteps k v c.bytes h at 0 0 taken
 
-find_good : {A : Type 0} (P : A → Type 0) (test : A → Bool) (xs : List A) → AllByRecursion P xs → IfSome (find test xs) P
+find_good : {A : Type 0} (P : A → Type 0) (test : A → Bool) (xs : List A) → AllByRecursion P xs
+    → IfSome (find test xs) P
 find_good P test [] a = tt
 find_good P test (x ∷ xs) a = by_test (find_good P test xs a.1) (test x)
   where
@@ -92,7 +100,8 @@ last_good P o (x ∷ xs) h a = last_good P (Some x) xs a.0 a.1
 module _ {K V : Type 0} {k : Plain K} {v : Plain V} (kl : Laws k) {now c : Cut} {h at : ℕ} {own : List ℕ}
     {root : Option ℕ} (o : IsOpened k v now c h at own root) where
   abbrev Asked : (Tree → Type 0) → Type 0
-  Asked P = (t : Tree) → IsSearchTree (comes_before k.order (keys_in k own now)) (pair_cells (16 + k.SIZE) own now) root t
+  Asked P = (t : Tree) → IsSearchTree (comes_before k.order (keys_in k own now)) (pair_cells (16 + k.SIZE) own now)
+      root t
       → P t
 
   keys_are : (ps : List (Pair K V)) (s : HoldsMap k v c.bytes h at ps)
@@ -104,18 +113,21 @@ module _ {K V : Type 0} {k : Plain K} {v : Plain V} (kl : Laws k) {now c : Cut} 
       let m = most s.map.tree.tree (o.tree ps s).tree in
       let n = ap (λ n. bits (n + 1)) (count_pairs kl c s) in omega arith
 
-  module _ (past : Bool) (key : K) {taken : ℕ} (exact : Asked (λ t. taken ≡ path_length (stands_before k.order (keys_in k own now) past key) t))
+  module _ (past : Bool) (key : K) {taken : ℕ} (exact : Asked (λ t. taken ≡ path_length (stands_before k.order
+      (keys_in k own now) past key) t))
       (most : Asked (λ t. taken ≤ 2 * bits (length (nodes_of t) + 1))) where
     path_is : (ps : List (Pair K V)) (s : HoldsMap k v c.bytes h at ps) → taken ≡ path_in k c past key s.map.tree.tree
     path_is ps s = exact s.map.tree.tree (o.tree ps s).tree
         ∙ ap (λ ks. path_length (stands_before k.order ks past key) s.map.tree.tree) (keys_are ps s)
 
-    pub finds_first : {found : Option ℕ} → Asked (λ t. found ≡ first_not (stands_before k.order (keys_in k own now) past key) (nodes_of t))
+    pub finds_first : {found : Option ℕ} → Asked (λ t. found ≡ first_not (stands_before k.order
+        (keys_in k own now) past key) (nodes_of t))
         → Finds k v c h at (first_pair k.order past key) (path_in k c past key) found taken
     finds_first first =
         record {
           keys = keys_in k own now;
-          good = λ ps s. find_good (IsRead k v c (keys_in k own now)) (λ p. not (is_passed k.order past key p)) ps (o.pairs ps s);
+          good = λ ps s. find_good (IsRead k v c (keys_in k own now)) (λ p. not (is_passed k.order past key p)) ps
+              (o.pairs ps s);
           node = λ ps s. first s.map.tree.tree (o.tree ps s).tree
               ∙ ap (λ ks. first_not (stands_before k.order ks past key) (nodes_of s.map.tree.tree)) (keys_are ps s)
               ∙ found_pair kl c s past key;
@@ -123,7 +135,8 @@ module _ {K V : Type 0} {k : Plain K} {v : Plain V} (kl : Laws k) {now c : Cut} 
           most = few most;
         }
 
-    pub finds_before : {found : Option ℕ} → Asked (λ t. found ≡ last_before (stands_before k.order (keys_in k own now) past key) (nodes_of t))
+    pub finds_before : {found : Option ℕ} → Asked (λ t. found ≡ last_before (stands_before k.order
+        (keys_in k own now) past key) (nodes_of t))
         → Finds k v c h at (last_pair k.order past key) (path_in k c past key) found taken
     finds_before last =
         record {
@@ -137,7 +150,8 @@ module _ {K V : Type 0} {k : Plain K} {v : Plain V} (kl : Laws k) {now c : Cut} 
           most = few most;
         }
 
-  pub finds_last : {found : Option ℕ} {taken : ℕ} → Asked (λ t. found ≡ last_or None (nodes_of t)) → Asked (λ t. taken ≡ path_length (λ n. true) t)
+  pub finds_last : {found : Option ℕ} {taken : ℕ} → Asked (λ t. found ≡ last_or None (nodes_of t))
+      → Asked (λ t. taken ≡ path_length (λ n. true) t)
       → Asked (λ t. taken ≤ 2 * bits (length (nodes_of t) + 1)) → Finds k v c h at final_pair last_path found taken
   finds_last last exact most =
       record {
@@ -149,7 +163,8 @@ module _ {K V : Type 0} {k : Plain K} {v : Plain V} (kl : Laws k) {now c : Cut} 
       }
 
   -- where a change begins, by the keys of the map
-  pub entry_is : (key : K) {start : Option ℕ} → Asked (λ t. start ≡ entry_of (stands_before k.order (keys_in k own now) false key) t)
+  pub entry_is : (key : K) {start : Option ℕ} → Asked (λ t. start ≡ entry_of (stands_before k.order
+      (keys_in k own now) false key) t)
       → (ps : List (Pair K V)) (s : HoldsMap k v c.bytes h at ps) → start ≡ entry_in k c key s.map.tree.tree
   entry_is key entry ps s = entry s.map.tree.tree (o.tree ps s).tree
       ∙ ap (λ ks. entry_of (stands_before k.order ks false key) s.map.tree.tree) (keys_are ps s)
@@ -190,10 +205,13 @@ module _ {K V : Type 0} (k : Plain K) (v : Plain V) (c : Cut) (by : ℕ → Opti
       ≡ option_map pair_node (by_key k.order key o)
   key_read key None h = refl
   key_read key (Some p) h =
-      let e = both_first (value_of k (read (bytes_of c.bytes) (pair_node p + 16) k.SIZE)) (value_of v (read (bytes_of c.bytes) (pair_node p + (16 + k.SIZE)) v.SIZE)) p.key p.value h.item in
-      ap (option_and_then (λ (x : K). if k.order key x then None else Some (pair_node p))) e ∙ by_test (k.order key p.key)
+      let e = both_first (value_of k (read (bytes_of c.bytes) (pair_node p + 16) k.SIZE)) (value_of v
+      (read (bytes_of c.bytes) (pair_node p + (16 + k.SIZE)) v.SIZE)) p.key p.value h.item in
+      ap (option_and_then (λ (x : K). if k.order key x then None else Some (pair_node p))) e
+      ∙ by_test (k.order key p.key)
     where
-      by_test : (b : Bool) → (if b then None else Some (pair_node p)) ≡ option_map pair_node (if b then None else Some p)
+      by_test : (b : Bool) → (if b then None else Some (pair_node p)) ≡ option_map pair_node
+          (if b then None else Some p)
       by_test true = refl
       by_test false = refl
 
@@ -222,7 +240,8 @@ module _ {K V : Type 0} {k : Plain K} {v : Plain V} {c : Cut} {h at : ℕ} {pair
   steps_read before after e ps s =
       let t = f.exact ps s in let r = ap reading_steps (f.node ps s) ∙ reads_same (pair ps) in omega (arith, e, t, r)
 
-  few_read : (before after : ℕ) → after ≡ before + taken + reading_steps found → SearchSteps k v c.bytes h at 1 before after
+  few_read : (before after : ℕ) → after ≡ before + taken + reading_steps found → SearchSteps k v c.bytes h at 1 before
+      after
   few_read before after e = λ ps s. let t = f.most ps s in let r = one found in omega (arith, e, t, r)
     where
       one : (o : Option ℕ) → reading_steps o ≤ 1
@@ -234,7 +253,8 @@ module _ {K V : Type 0} {k : Plain K} {v : Plain V} {c : Cut} {h at : ℕ} {pair
       → LooksUp k v c h at pair path result before after
   looked_up {before = before} {after = after} i e =
       record {
-        item = λ ps s. i ∙ ap (option_and_then (item_at k v (bytes_of c.bytes))) (f.node ps s) ∙ item_read k v c f.keys (pair ps) (f.good ps s);
+        item = λ ps s. i ∙ ap (option_and_then (item_at k v (bytes_of c.bytes))) (f.node ps s)
+            ∙ item_read k v c f.keys (pair ps) (f.good ps s);
         counted = omega (arith, e);
         steps = few_read before after e;
         exact = steps_read before after e;
@@ -261,14 +281,17 @@ pub value_by_key : {K V : Type 0} (k : Plain K) (kl : Laws k) (key : K) (ps : Li
     → option_and_then (λ (x : K × V). if k.order key x.0 then None else Some x.1) i
     ≡ option_map value_of_pair (pair_at k.order ps key)
 value_by_key {K} {V} k kl key ps i r e =
-    ap (option_and_then (λ (x : K × V). if k.order key x.0 then None else Some x.1)) e ∙ by_pair (first_pair k.order false key ps)
+    ap (option_and_then (λ (x : K × V). if k.order key x.0 then None else Some x.1)) e ∙ by_pair
+    (first_pair k.order false key ps)
     ∙ sym (ap (option_map value_of_pair) (pair_by_key k.order kl.transitive key ps r))
   where
-    by_test : (p : Pair K V) (b : Bool) → (if b then None else Some p.value) ≡ option_map value_of_pair (if b then None else Some p)
+    by_test : (p : Pair K V) (b : Bool) → (if b then None else Some p.value) ≡ option_map value_of_pair
+        (if b then None else Some p)
     by_test p true = refl
     by_test p false = refl
 
-    by_pair : (o : Option (Pair K V)) → option_and_then (λ (x : K × V). if k.order key x.0 then None else Some x.1) (option_map item_of o)
+    by_pair : (o : Option (Pair K V)) → option_and_then (λ (x : K × V). if k.order key x.0 then None else Some x.1)
+        (option_map item_of o)
         ≡ option_map value_of_pair (by_key k.order key o)
     by_pair None = refl
     by_pair (Some p) = by_test p (k.order key p.key)

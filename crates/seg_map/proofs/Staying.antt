@@ -1,5 +1,6 @@
 -- A map whose blocks stay stays.
-use Rattle.std.proofs.Common.{◌≡◌, sym, ap, subst, ◌∙◌, ℕ, ◌+◌, ◌-◌, ◌%◌, ◌≤◌, inl, inr, true, List, [], ◌∷◌, length, arith, IsTrue}
+use Rattle.std.proofs.Common.{◌≡◌, sym, ap, subst, ◌∙◌, ℕ, ◌+◌, ◌-◌, ◌%◌, ◌≤◌, inl, inr, true, List, [], ◌∷◌, length}
+use Rattle.std.proofs.Common.{arith, IsTrue}
 use Rattle.std.specs.Prelude.{Some}
 use Rattle.std.specs.List.{AllByRecursion}
 use Rattle.std.proofs.lemmas.Bool.{false≢true, or_cases, eqb-true}
@@ -21,11 +22,14 @@ use Rattle.seg_map.proofs.Entering.{AreAt, AreIn, Laws, pair_parts}
 use Rattle.seg_map.proofs.PairSteps.{same_red}
 
 -- the fields of a node in a block that stays
-pub block_cells : (m m' : Memory) (x : Extent) → SameBlock m m' x → 32 ≤ x.len → cells_of m' (handle x) ≡ cells_of m (handle x)
+pub block_cells : (m m' : Memory) (x : Extent) → SameBlock m m' x → 32 ≤ x.len → cells_of m' (handle x)
+    ≡ cells_of m (handle x)
 block_cells m m' x s long =
     let e : x.offset + 8 ≡ handle x - 8 = omega arith in
-    cell_stays m m' (handle x) (Same-link _ _ _ _ (handle x) s.payload (omega arith) (omega arith)) (Same-link _ _ _ _ (handle x + 8) s.payload (omega arith) (omega arith))
-    (same_red (word_at m (handle x - 8)) (word_at m' (handle x - 8)) (subst (λ a. word_at m' a % 16 ≡ word_at m a % 16) e s.colour))
+    cell_stays m m' (handle x) (Same-link _ _ _ _ (handle x) s.payload (omega arith) (omega arith))
+    (Same-link _ _ _ _ (handle x + 8) s.payload (omega arith) (omega arith))
+    (same_red (word_at m (handle x - 8)) (word_at m' (handle x - 8)) (subst (λ a. word_at m' a % 16 ≡ word_at m a % 16)
+    e s.colour))
 
 -- the pair of a node
 pub record AtNode {K V : Type 0} (P : Pair K V → Type 0) (m : ℕ) : Type 0 where
@@ -70,27 +74,40 @@ pub record Still (c e : Cut) (x : Extent) : Type 0 where
 
 module _ {K V : Type 0} {kp : Plain K} {vp : Plain V} (kl : Laws kp) (vl : Laws vp) (c e : Cut) {h at : ℕ}
     {ps : List (Pair K V)} (s : HoldsMap kp vp c.bytes h at ps) (heap : IsHeap current e.bytes)
-    (room : IsTrue (has_room (live_of e.bytes) h (at + 24))) (words : Same (bytes_of c.bytes) (bytes_of e.bytes) (h + at) (h + at + 24))
+    (room : IsTrue (has_room (live_of e.bytes) h (at + 24))) (words : Same (bytes_of c.bytes) (bytes_of e.bytes)
+    (h + at) (h + at + 24))
     (blocks : AllByRecursion (λ (p : Pair K V). Still c e p.node) ps) where
-  pub pairs_in : (qs : List (Pair K V)) → AreIn kp vp (live_of c.bytes) h qs → AllByRecursion (λ (p : Pair K V). Still c e p.node) qs → AreIn kp vp (live_of e.bytes) h qs
+  pub pairs_in : (qs : List (Pair K V)) → AreIn kp vp (live_of c.bytes) h qs → AllByRecursion
+      (λ (p : Pair K V). Still c e p.node) qs → AreIn kp vp (live_of e.bytes) h qs
   pairs_in [] a f = tt
   pairs_in (q ∷ qs) a f = (record { good = a.0.good; listed = f.0.found; apart = a.0.apart }, pairs_in qs a.1 f.1)
 
-  pub pairs_at : (qs : List (Pair K V)) → AreIn kp vp (live_of c.bytes) h qs → AreAt kp vp (bytes_of c.bytes) qs → AllByRecursion (λ (p : Pair K V). Still c e p.node) qs → AreAt kp vp (bytes_of e.bytes) qs
+  pub pairs_at : (qs : List (Pair K V)) → AreIn kp vp (live_of c.bytes) h qs → AreAt kp vp (bytes_of c.bytes) qs
+      → AllByRecursion (λ (p : Pair K V). Still c e p.node) qs → AreAt kp vp (bytes_of e.bytes) qs
   pairs_at [] a b f = tt
   pairs_at (q ∷ qs) a b f =
-      let long = (pair_parts a.0).long in let same = f.0.same in
-      (pair_stays (bytes_of c.bytes) (bytes_of e.bytes) (lengths kl vl a.0) (record { at = λ k low high. same.payload.at k (omega arith) (omega arith) }) b.0, pairs_at qs a.1 b.1 f.1)
+      let long = (pair_parts a.0).long in let same = f.0.same in (
+        pair_stays (bytes_of c.bytes) (bytes_of e.bytes) (lengths kl vl a.0) (record {
+          at = λ k low high.
+              same.payload.at k (omega arith) (omega arith);
+        }) b.0,
+        pairs_at qs a.1 b.1 f.1,
+      )
 
-  with_blocks : (qs : List (Pair K V)) → AreIn kp vp (live_of c.bytes) h qs → AllByRecursion (λ (p : Pair K V). Still c e p.node) qs → AllByRecursion (λ (p : Pair K V). IsPairIn kp vp (live_of c.bytes) h p × Still c e p.node) qs
+  with_blocks : (qs : List (Pair K V)) → AreIn kp vp (live_of c.bytes) h qs → AllByRecursion
+      (λ (p : Pair K V). Still c e p.node) qs → AllByRecursion (λ (p : Pair K V). IsPairIn kp vp (live_of c.bytes) h p
+      × Still c e p.node) qs
   with_blocks [] a f = tt
   with_blocks (q ∷ qs) a f = ((a.0, f.0), with_blocks qs a.1 f.1)
 
-  pub cells : (m : ℕ) → is_in m (nodes_of s.map.tree.tree) ≡ true → cells_of (bytes_of e.bytes) m ≡ cells_of (bytes_of c.bytes) m
+  pub cells : (m : ℕ) → is_in m (nodes_of s.map.tree.tree) ≡ true → cells_of (bytes_of e.bytes) m
+      ≡ cells_of (bytes_of c.bytes) m
   cells m i =
-      let n = at_node (λ (p : Pair K V). IsPairIn kp vp (live_of c.bytes) h p × Still c e p.node) ps m (ap (λ ns. is_in m ns) (sym s.map.tree.lists) ∙ i) (with_blocks ps s.pairs blocks) in
+      let n = at_node (λ (p : Pair K V). IsPairIn kp vp (live_of c.bytes) h p × Still c e p.node) ps m
+      (ap (λ ns. is_in m ns) (sym s.map.tree.lists) ∙ i) (with_blocks ps s.pairs blocks) in
       let long = (pair_parts n.holds.0).long in
-      subst (λ k. cells_of (bytes_of e.bytes) k ≡ cells_of (bytes_of c.bytes) k) n.at (block_cells (bytes_of c.bytes) (bytes_of e.bytes) n.pair.node n.holds.1.same (omega arith))
+      subst (λ k. cells_of (bytes_of e.bytes) k ≡ cells_of (bytes_of c.bytes) k) n.at (block_cells (bytes_of c.bytes)
+      (bytes_of e.bytes) n.pair.node n.holds.1.same (omega arith))
 
   unfoldable pub map_stays : HoldsMap kp vp e.bytes h at ps
   map_stays =
@@ -103,7 +120,8 @@ module _ {K V : Type 0} {kp : Plain K} {vp : Plain V} (kl : Laws kp) (vl : Laws 
             tree = s.map.tree.tree;
             linked = record {
               root = Same-link _ _ _ _ (h + at) words (omega arith) (omega arith) ∙ s.map.tree.linked.root;
-              holds = holds_same (cells_of (bytes_of c.bytes)) (cells_of (bytes_of e.bytes)) s.map.tree.tree cells s.map.tree.linked.holds;
+              holds = holds_same (cells_of (bytes_of c.bytes)) (cells_of (bytes_of e.bytes)) s.map.tree.tree cells
+                  s.map.tree.linked.holds;
             };
             red_black = s.map.tree.red_black;
             lists = s.map.tree.lists;

@@ -1,5 +1,6 @@
 -- What changes where pairs are put and erased.
-use Rattle.std.specs.Prelude.{◌≡◌, ℕ, ◌+◌, ◌*◌, ◌≤◌, Bool, true, false, Option, Some, None, Result, Ok, List, [], ◌∷◌, IfSome, MatchOption, MatchResult, length, map}
+use Rattle.std.specs.Prelude.{◌≡◌, ℕ, ◌+◌, ◌*◌, ◌≤◌, Bool, true, false, Option, Some, None, Result, Ok, List, [], ◌∷◌}
+use Rattle.std.specs.Prelude.{IfSome, MatchOption, MatchResult, length, map}
 use Rattle.raw_region.specs.Format.{current}
 use Rattle.raw_region.specs.Memory.{Cut, Has, Same, SamePlace, bytes_of, word_at}
 use Rattle.block_tags.specs.declared.tile.Role.TheVariants.{Node}
@@ -22,12 +23,14 @@ pub record IsHeaded (old new : Cut) (at : ℕ) (root : Option ℕ) (count : ℕ)
   pub counted : word_at (bytes_of new.bytes) (at + 8) ≡ count
   pub third : word_at (bytes_of new.bytes) (at + 16) ≡ 0
 
--- of all blocks but these nodes no byte changes but the 24 of the map, nor does the header or what lies round the window
+-- of all blocks but these nodes no byte changes but the 24 of the map, nor does the header or what lies round the
+-- window
 pub record IsBesideMap (old new : Cut) (at : ℕ) (ns : List ℕ) : Type 0 where
   pub place : SamePlace old new
   pub front : Same (bytes_of old.bytes) (bytes_of new.bytes) 0 24
   pub behind : Same (bytes_of old.bytes) (bytes_of new.bytes) 32 128
-  pub blocks : (x : Extent) → extent_at (live_of old.bytes) (handle x) ≡ Some x → is_in (handle x) ns ≡ false → SameBlockBut (bytes_of old.bytes) (bytes_of new.bytes) at 24 x
+  pub blocks : (x : Extent) → extent_at (live_of old.bytes) (handle x) ≡ Some x → is_in (handle x) ns ≡ false
+      → SameBlockBut (bytes_of old.bytes) (bytes_of new.bytes) at 24 x
 
 -- how many pairs there are
 abbrev pub CountsPairs : {K V : Type 0} → Plain K → Plain V → List ℕ → ℕ → ℕ → ℕ → Type 0
@@ -54,20 +57,24 @@ pub record CanTakeOut {K V : Type 0} (k : Plain K) (v : Plain V) (c : Cut) (h at
   pub begins : IfSome start (λ n. exit_in k c node there.map.map.tree.tree ≡ Some n)
 
 -- the pair of a key is no longer in the map; its block is still in use
-pub record IsTaken {K V : Type 0} (k : Plain K) (v : Plain V) (old new : Cut) (h at : ℕ) (ps : List (Pair K V)) (key : K) : Type 0 where
+pub record IsTaken {K V : Type 0} (k : Plain K) (v : Plain V) (old new : Cut) (h at : ℕ) (ps : List (Pair K V))
+    (key : K) : Type 0 where
   pub live : LaysOut current new.bytes (live_of old.bytes)
   pub beside : IsBesideMap old new (h + at) (nodes_of_pairs ps)
   pub map : HoldsMap k v new.bytes h at (remove_pair k.order ps key)
 
 abbrev pub TakesOut : {K V : Type 0} → Plain K → Plain V → Cut → Cut → ℕ → ℕ → ℕ → Type 0
 TakesOut {K} {V} k v old new h at node =
-    (ps : List (Pair K V)) (key : K) (p : Pair K V) → HoldsMap k v old.bytes h at ps → pair_at k.order ps key ≡ Some p → pair_node p ≡ node → IsTaken k v old new h at ps key
+    (ps : List (Pair K V)) (key : K) (p : Pair K V) → HoldsMap k v old.bytes h at ps → pair_at k.order ps key ≡ Some p
+    → pair_node p ≡ node → IsTaken k v old new h at ps key
 
 abbrev pub TreeSteps : {K V : Type 0} → Plain K → Plain V → Cut → ℕ → ℕ → ℕ → ℕ → Type 0
-TreeSteps {K} {V} k v old h at before after = (ps : List (Pair K V)) → HoldsMap k v old.bytes h at ps → after ≤ before + 32 * bits (length ps + 1) + 32
+TreeSteps {K} {V} k v old h at before after = (ps : List (Pair K V)) → HoldsMap k v old.bytes h at ps → after
+    ≤ before + 32 * bits (length ps + 1) + 32
 
 -- the pair of a key is gone, and its block
-pub record IsErased {K V : Type 0} (k : Plain K) (v : Plain V) (old new : Cut) (h at : ℕ) (ps : List (Pair K V)) (p : Pair K V) (key : K) : Type 0 where
+pub record IsErased {K V : Type 0} (k : Plain K) (v : Plain V) (old new : Cut) (h at : ℕ) (ps : List (Pair K V))
+    (p : Pair K V) (key : K) : Type 0 where
   pub live : LaysOut current new.bytes (released (live_of old.bytes) (handle p.node))
   pub beside : IsBesideMap old new (h + at) (nodes_of_pairs ps)
   pub map : HoldsMap k v new.bytes h at (remove_pair k.order ps key)
@@ -76,23 +83,28 @@ pub record IsErased {K V : Type 0} (k : Plain K) (v : Plain V) (old new : Cut) (
 abbrev pub Erases : {K V : Type 0} → Plain K → Plain V → Cut → Cut → ℕ → ℕ → K → Bool → Type 0
 Erases {K} {V} k v old new h at key result =
     (ps : List (Pair K V)) → HoldsMap k v old.bytes h at ps
-    → MatchOption (pair_at k.order ps key) ((result ≡ false) × (new ≡ old)) (λ p. (result ≡ true) × IsErased k v old new h at ps p key)
+    → MatchOption (pair_at k.order ps key) ((result ≡ false) × (new ≡ old)) (λ p. (result ≡ true)
+    × IsErased k v old new h at ps p key)
 
 -- the pair of a node is gone, and its block
 abbrev pub Drops : {K V : Type 0} → Plain K → Plain V → Cut → Cut → ℕ → ℕ → ℕ → Type 0
 Drops {K} {V} k v old new h at node =
-    (ps : List (Pair K V)) (key : K) (p : Pair K V) → HoldsMap k v old.bytes h at ps → pair_at k.order ps key ≡ Some p → pair_node p ≡ node → IsErased k v old new h at ps p key
+    (ps : List (Pair K V)) (key : K) (p : Pair K V) → HoldsMap k v old.bytes h at ps → pair_at k.order ps key ≡ Some p
+    → pair_node p ≡ node → IsErased k v old new h at ps p key
 
 -- all pairs are gone, and their blocks; of all other blocks no byte changes but the 24 of the map
-pub record IsGivenUp {K V : Type 0} (k : Plain K) (v : Plain V) (old new : Cut) (h at : ℕ) (ps : List (Pair K V)) : Type 0 where
+pub record IsGivenUp {K V : Type 0} (k : Plain K) (v : Plain V) (old new : Cut) (h at : ℕ)
+    (ps : List (Pair K V)) : Type 0 where
   pub change : IsExchanged current old new (h + at) 24 (map (λ (p : Pair K V). p.node) ps) []
   pub empty : let none : List (Pair K V) = [] in HoldsMap k v new.bytes h at none
 
 abbrev pub Releases : {K V : Type 0} → Plain K → Plain V → Cut → Cut → ℕ → ℕ → Type 0
-Releases {K} {V} k v old new h at = (ps : List (Pair K V)) → HoldsMap k v old.bytes h at ps → IsGivenUp k v old new h at ps
+Releases {K} {V} k v old new h at = (ps : List (Pair K V)) → HoldsMap k v old.bytes h at ps
+    → IsGivenUp k v old new h at ps
 
 -- a node that is made: a new block with null links, a key and a value
-pub record IsMade {K V : Type 0} (k : Plain K) (v : Plain V) (old new : Cut) (key : K) (value : V) (node : ℕ) : Type 0 where
+pub record IsMade {K V : Type 0} (k : Plain K) (v : Plain V) (old new : Cut) (key : K) (value : V)
+    (node : ℕ) : Type 0 where
   pub block : IsAllocated current old new (node_len k.SIZE v.SIZE) Node node
   pub left : link_at (bytes_of new.bytes) node ≡ None
   pub right : link_at (bytes_of new.bytes) (node + 8) ≡ None
@@ -103,10 +115,12 @@ pub record IsMade {K V : Type 0} (k : Plain K) (v : Plain V) (old new : Cut) (ke
 
 -- a node, or no space for its block, and then nothing changes
 abbrev pub Makes : {K V E : Type 0} → Plain K → Plain V → Cut → Cut → K → V → Result ℕ E → Type 0
-Makes {K} {V} k v old new key value result = MatchResult result (IsMade k v old new key value) (λ e. IsRefused old new (node_len k.SIZE v.SIZE) Node)
+Makes {K} {V} k v old new key value result = MatchResult result (IsMade k v old new key value)
+    (λ e. IsRefused old new (node_len k.SIZE v.SIZE) Node)
 
 -- a pair with a node that leads nowhere, which is none of the map, as its key is not
-pub record IsLoose {K V : Type 0} (k : Plain K) (v : Plain V) (b : List ℕ) (h : ℕ) (ps : List (Pair K V)) (p : Pair K V) : Type 0 where
+pub record IsLoose {K V : Type 0} (k : Plain K) (v : Plain V) (b : List ℕ) (h : ℕ) (ps : List (Pair K V))
+    (p : Pair K V) : Type 0 where
   pub absent : pair_at k.order ps p.key ≡ None
   pub block : IsPairIn k v (live_of b) h p
   pub other : is_in (pair_node p) (nodes_of_pairs ps) ≡ false
@@ -129,17 +143,20 @@ pub record CanPutIn {K V : Type 0} (k : Plain K) (v : Plain V) (c : Cut) (h at :
   pub begins : IfSome start (λ n. entry_in k c there.pair.key there.map.map.tree.tree ≡ Some n)
 
 -- the pair is in the map
-pub record IsPlanted {K V : Type 0} (k : Plain K) (v : Plain V) (old new : Cut) (h at : ℕ) (ps : List (Pair K V)) (p : Pair K V) : Type 0 where
+pub record IsPlanted {K V : Type 0} (k : Plain K) (v : Plain V) (old new : Cut) (h at : ℕ) (ps : List (Pair K V))
+    (p : Pair K V) : Type 0 where
   pub live : LaysOut current new.bytes (live_of old.bytes)
   pub beside : IsBesideMap old new (h + at) (pair_node p ∷ nodes_of_pairs ps)
   pub map : HoldsMap k v new.bytes h at (put_pair k.order p ps)
 
 abbrev pub PutsIn : {K V : Type 0} → Plain K → Plain V → Cut → Cut → ℕ → ℕ → ℕ → Type 0
 PutsIn {K} {V} k v old new h at node =
-    (ps : List (Pair K V)) (p : Pair K V) → HoldsMap k v old.bytes h at ps → IsLoose k v old.bytes h ps p → pair_node p ≡ node → IsPlanted k v old new h at ps p
+    (ps : List (Pair K V)) (p : Pair K V) → HoldsMap k v old.bytes h at ps → IsLoose k v old.bytes h ps p → pair_node p
+    ≡ node → IsPlanted k v old new h at ps p
 
 -- a pair more, in a new block
-pub record IsPut {K V : Type 0} (k : Plain K) (v : Plain V) (old new : Cut) (h at : ℕ) (ps : List (Pair K V)) (key : K) (value : V) : Type 0 where
+pub record IsPut {K V : Type 0} (k : Plain K) (v : Plain V) (old new : Cut) (h at : ℕ) (ps : List (Pair K V)) (key : K)
+    (value : V) : Type 0 where
   pub extent : Extent
   pub placed : place (live_of old.bytes) (node_len k.SIZE v.SIZE) Node ≡ Some extent
   pub live : LaysOut current new.bytes (added (live_of old.bytes) extent)
@@ -147,7 +164,8 @@ pub record IsPut {K V : Type 0} (k : Plain K) (v : Plain V) (old new : Cut) (h a
   pub map : HoldsMap k v new.bytes h at (put_pair k.order (record { key = key; value = value; node = extent }) ps)
 
 -- another value of a key, in the block that it had
-pub record IsPutAgain {K V : Type 0} (k : Plain K) (v : Plain V) (old new : Cut) (h at : ℕ) (ps : List (Pair K V)) (p : Pair K V) (key : K) (value : V) : Type 0 where
+pub record IsPutAgain {K V : Type 0} (k : Plain K) (v : Plain V) (old new : Cut) (h at : ℕ) (ps : List (Pair K V))
+    (p : Pair K V) (key : K) (value : V) : Type 0 where
   pub live : LaysOut current new.bytes (live_of old.bytes)
   pub beside : IsBesideMap old new (h + at) (nodes_of_pairs ps)
   pub map : HoldsMap k v new.bytes h at (put_pair k.order (record { key = key; value = value; node = p.node }) ps)
@@ -161,10 +179,12 @@ pub record IsFull {K V : Type 0} (k : Plain K) (v : Plain V) (old new : Cut) : T
 abbrev pub Puts : {K V E : Type 0} → Plain K → Plain V → Cut → Cut → ℕ → ℕ → K → V → Result Bool E → Type 0
 Puts {K} {V} k v old new h at key value result =
     (ps : List (Pair K V)) → HoldsMap k v old.bytes h at ps
-    → MatchOption (pair_at k.order ps key) (MatchResult result (λ b. (b ≡ true) × IsPut k v old new h at ps key value) (λ e. IsFull k v old new))
+    → MatchOption (pair_at k.order ps key) (MatchResult result (λ b. (b ≡ true) × IsPut k v old new h at ps key value)
+    (λ e. IsFull k v old new))
     (λ p. (result ≡ Ok false) × IsPutAgain k v old new h at ps p key value)
 
 -- the steps of the two tree calls of a change, and the touches of one call of the heap
 abbrev pub ChangeSteps : {K V : Type 0} → Plain K → Plain V → Cut → ℕ → ℕ → ℕ → ℕ → Type 0
 ChangeSteps {K} {V} k v old h at before after =
-    (ps : List (Pair K V)) → HoldsMap k v old.bytes h at ps → after ≤ before + 34 * bits (length ps + 1) + 36 + heap_touches (live_of old.bytes)
+    (ps : List (Pair K V)) → HoldsMap k v old.bytes h at ps → after ≤ before + 34 * bits (length
+    ps + 1) + 36 + heap_touches (live_of old.bytes)

@@ -31,9 +31,11 @@ pub record CanUnlink {K : Type 0} (k : Plain K) (ns : List ℕ) (c : Cut) (root 
     pub begins : IfSome start (λ n. exit_of (comes_before k.order (keys_in k ns c)) node shape ≡ Some n)
 
 -- the node is no longer in the tree; nothing changes but links and colours of the nodes
-pub record Unlinked {K : Type 0} (k : Plain K) (ns : List ℕ) (old new : Cut) (root : Option ℕ) (node : ℕ) (top : Option ℕ) (steps : ℕ) : Type 0 where
+pub record Unlinked {K : Type 0} (k : Plain K) (ns : List ℕ) (old new : Cut) (root : Option ℕ) (node : ℕ)
+    (top : Option ℕ) (steps : ℕ) : Type 0 where
   pub kept : kept_of ns new ≡ kept_of ns old
-  pub tree : (t : Tree) → IsKeyTree k ns old root t → (s : Tree) × IsKeyTree k ns new top s × (nodes_of s ≡ without node (nodes_of t))
+  pub tree : (t : Tree) → IsKeyTree k ns old root t → (s : Tree) × IsKeyTree k ns new top s
+      × (nodes_of s ≡ without node (nodes_of t))
   pub few : (t : Tree) → IsKeyTree k ns old root t → steps ≤ 32 * bits (length (nodes_of t) + 1) + 32
 
 -- a node that has a place in the tree, and is put there from the root on or from where its insertion begins
@@ -45,7 +47,9 @@ pub record CanLink {K : Type 0} (k : Plain K) (ns : List ℕ) (c : Cut) (root st
   pub begins : IfSome start (λ n. entry_of (λ m. not (comes_before k.order (keys_in k ns c) node m)) shape ≡ Some n)
 
 -- the node is in the tree too
-pub record Linked {K : Type 0} (k : Plain K) (ns : List ℕ) (old new : Cut) (root : Option ℕ) (node : ℕ) (top : Option ℕ) (steps : ℕ) : Type 0 where
+pub record Linked {K : Type 0} (k : Plain K) (ns : List ℕ) (old new : Cut) (root : Option ℕ) (node : ℕ)
+    (top : Option ℕ) (steps : ℕ) : Type 0 where
   pub kept : kept_of ns new ≡ kept_of ns old
-  pub tree : (t : Tree) → IsKeyTree k ns old root t → (s : Tree) × IsKeyTree k ns new top s × (nodes_of s ≡ put (comes_before k.order (keys_in k ns old)) node (nodes_of t))
+  pub tree : (t : Tree) → IsKeyTree k ns old root t → (s : Tree) × IsKeyTree k ns new top s
+      × (nodes_of s ≡ put (comes_before k.order (keys_in k ns old)) node (nodes_of t))
   pub few : (t : Tree) → IsKeyTree k ns old root t → steps ≤ 32 * bits (length (nodes_of t) + 1) + 32

@@ -1,8 +1,10 @@
 -- The laws of the pairs as nodes.
-use Rattle.std.proofs.Common.{◌≡◌, refl, sym, ap, subst, ◌∙◌, ℕ, suc, ◌+◌, ◌-◌, ◌%◌, ◌^◌, ◌≤◌, ◌⊎◌, inl, inr, Bool, true, false, ◌&&◌, not, List, [], ◌∷◌, length, map, arith, ◌==◌, IsTrue}
+use Rattle.std.proofs.Common.{◌≡◌, refl, sym, ap, subst, ◌∙◌, ℕ, suc, ◌+◌, ◌-◌, ◌%◌, ◌^◌, ◌≤◌, ◌⊎◌, inl, inr, Bool}
+use Rattle.std.proofs.Common.{true, false, ◌&&◌, not, List, [], ◌∷◌, length, map, arith, ◌==◌, IsTrue}
 use Rattle.std.specs.Prelude.{Option, Some, None}
 use Rattle.std.specs.List.{list_all, list_any}
-use Rattle.std.proofs.lemmas.Bool.{false≢true, both_ways, and_parts, and_from, or_cases, or_left, or_right, eqb-true, eq-eqb, leb-true, cond-true, cond-false}
+use Rattle.std.proofs.lemmas.Bool.{false≢true, both_ways, and_parts, and_from, or_cases, or_left, or_right, eqb-true}
+use Rattle.std.proofs.lemmas.Bool.{eq-eqb, leb-true, cond-true, cond-false}
 use Rattle.raw_region.specs.Memory.{Cut, bytes_of}
 use Rattle.block_tags.specs.declared.tile.Role.{Role}
 use Rattle.block_tags.specs.declared.tile.Role.TheVariants.{Object, Index, Storage, Node}
@@ -14,7 +16,8 @@ use Rattle.best_fit.specs.Heap.{live_of}
 use Rattle.best_fit.specs.Table.{same_role, serves}
 use Rattle.best_fit.proofs.Laws.{is_proper-IsProper, legal_size, proper_from-IsFirst, proper_from-reaches, IsHole}
 use Rattle.link_tree.proofs.Laws.{all_at}
-use Rattle.seg_map.specs.PairNodes.{is_block_in, links_among, is_good, is_pair_node, pair_cells, before_key, comes_before, stands, stands_before, no_cell}
+use Rattle.seg_map.specs.PairNodes.{is_block_in, links_among, is_good, is_pair_node, pair_cells, before_key}
+use Rattle.seg_map.specs.PairNodes.{comes_before, stands, stands_before, no_cell}
 
 -- an order is strict where nothing stands before itself, and what stands before another stands before all behind that
 abbrev pub IsStrict : {K : Type 0} → (K → K → Bool) → Type 0
@@ -40,10 +43,12 @@ hole_reaches : (a b : ℕ) → IsHole a b → a ≤ b
 hole_reaches a b (inl e) = omega arith
 hole_reaches a b (inr l) = omega arith
 
-pub lies : (from : ℕ) (xs : List Extent) (to : ℕ) (x : Extent) → IsTrue (proper_from from xs to) → In x xs → Lies from x to
+pub lies : (from : ℕ) (xs : List Extent) (to : ℕ) (x : Extent) → IsTrue (proper_from from xs to) → In x xs
+    → Lies from x to
 lies from [] to x h i = absurd i
 lies from (y ∷ ys) to x h (inl e) =
-    let f = proper_from-IsFirst from y ys to h in let a = hole_reaches from y.offset f.hole in let b = proper_from-reaches (y.offset + y.len) ys to f.rest in
+    let f = proper_from-IsFirst from y ys to h in let a = hole_reaches from y.offset f.hole in let b =
+    proper_from-reaches (y.offset + y.len) ys to f.rest in
     let P : Extent → Type 0 = λ (z : Extent). Lies from z to in
     subst P e (record { low = a; high = b; long = f.block.long; whole = f.block.offset })
 lies from (y ∷ ys) to x h (inr i) =
@@ -55,21 +60,28 @@ lies from (y ∷ ys) to x h (inr i) =
 abbrev pub Disjoint : Extent → Extent → Type 0
 Disjoint x y = (x ≡ y) ⊎ ((x.offset + x.len ≤ y.offset) ⊎ (y.offset + y.len ≤ x.offset))
 
-pub disjoint : (from : ℕ) (xs : List Extent) (to : ℕ) (x y : Extent) → IsTrue (proper_from from xs to) → In x xs → In y xs → Disjoint x y
+pub disjoint : (from : ℕ) (xs : List Extent) (to : ℕ) (x y : Extent) → IsTrue (proper_from from xs to) → In x xs
+    → In y xs → Disjoint x y
 disjoint from [] to x y h i j = absurd i
 disjoint from (z ∷ zs) to x y h (inl e) (inl f) = inl (sym e ∙ f)
 disjoint from (z ∷ zs) to x y h (inl e) (inr j) =
-    let o : z.offset ≡ x.offset = ap (λ (w : Extent). w.offset) e in let l : z.len ≡ x.len = ap (λ (w : Extent). w.len) e in
-    let far = (lies (z.offset + z.len) zs to y (proper_from-IsFirst from z zs to h).rest j).low in inr (inl (omega arith))
+    let o : z.offset ≡ x.offset = ap (λ (w : Extent). w.offset) e in let l : z.len ≡ x.len =
+    ap (λ (w : Extent). w.len) e in
+    let far = (lies (z.offset + z.len) zs to y (proper_from-IsFirst from z zs to h).rest j).low in
+    inr (inl (omega arith))
 disjoint from (z ∷ zs) to x y h (inr i) (inl f) =
-    let o : z.offset ≡ y.offset = ap (λ (w : Extent). w.offset) f in let l : z.len ≡ y.len = ap (λ (w : Extent). w.len) f in
-    let far = (lies (z.offset + z.len) zs to x (proper_from-IsFirst from z zs to h).rest i).low in inr (inr (omega arith))
-disjoint from (z ∷ zs) to x y h (inr i) (inr j) = disjoint (z.offset + z.len) zs to x y (proper_from-IsFirst from z zs to h).rest i j
+    let o : z.offset ≡ y.offset = ap (λ (w : Extent). w.offset) f in let l : z.len ≡ y.len =
+    ap (λ (w : Extent). w.len) f in
+    let far = (lies (z.offset + z.len) zs to x (proper_from-IsFirst from z zs to h).rest i).low in
+    inr (inr (omega arith))
+disjoint from (z ∷ zs) to x y h (inr i) (inr j) = disjoint (z.offset + z.len) zs to x y (proper_from-IsFirst from z zs
+    to h).rest i j
 
 few : (from : ℕ) (xs : List Extent) (to : ℕ) → IsTrue (proper_from from xs to) → length xs + from ≤ to
 few from [] to h = let r = proper_from-reaches from [] to h in omega arith
 few from (x ∷ xs) to h =
-    let f = proper_from-IsFirst from x xs to h in let a = hole_reaches from x.offset f.hole in let long = f.block.long in
+    let f = proper_from-IsFirst from x xs to h in let a = hole_reaches from x.offset f.hole in let long =
+    f.block.long in
     let r = few (x.offset + x.len) xs to f.rest in omega arith
 
 pub few_extents : (live : LiveSet) → IsTrue (is_proper live) → length live.extents ≤ 2 ^ 30
@@ -92,18 +104,34 @@ is_node Index e = absurd (false≢true e)
 is_node Storage e = absurd (false≢true e)
 is_node Node e = refl
 
-block_here : (len : ℕ) (x : Extent) (xs : List Extent) (n : ℕ) → ((handle x == n) && serves x Node len) ≡ true → Block len (x ∷ xs) n
+block_here : (len : ℕ) (x : Extent) (xs : List Extent) (n : ℕ) → ((handle x == n) && serves x Node len) ≡ true
+    → Block len (x ∷ xs) n
 block_here len x xs n h =
     let two = and_parts _ _ h in
     let s = and_parts _ _ two.1 in
-    record { extent = x; listed = inl refl; at = eqb-true (handle x) n two.0; node = is_node x.role s.0; holds = leb-true (len + 16) x.len s.1 }
+    record {
+      extent = x;
+      listed = inl refl;
+      at = eqb-true (handle x) n two.0;
+      node = is_node x.role s.0;
+      holds =
+          leb-true (len + 16) x.len s.1;
+    }
 
-pub block_at : (len : ℕ) (xs : List Extent) (n : ℕ) → list_any (λ (x : Extent). (handle x == n) && serves x Node len) xs ≡ true → Block len xs n
+pub block_at : (len : ℕ) (xs : List Extent) (n : ℕ) → list_any (λ (x : Extent). (handle x == n) && serves x Node len)
+    xs ≡ true → Block len xs n
 block_at len [] n h = absurd (false≢true h)
 block_at len (x ∷ xs) n h =
     elim (or_cases _ _ h) [
       | inl e ↦ block_here len x xs n e
-      | inr e ↦ let b = block_at len xs n e in record { extent = b.extent; listed = inr b.listed; at = b.at; node = b.node; holds = b.holds }
+      | inr e ↦ let b = block_at len xs n e in record {
+        extent = b.extent;
+        listed = inr b.listed;
+        at = b.at;
+        node =
+            b.node;
+        holds = b.holds;
+      }
     ]
 
 -- ---- the parts of the test
@@ -121,23 +149,31 @@ is_good-Good len ns c h =
 
 pub Good-is_good : (len : ℕ) (ns : List ℕ) (c : Cut) → Good len ns c → IsTrue (is_good len ns c)
 Good-is_good len ns c g =
-    and_from (is_proper (live_of c.bytes) && list_all (is_block_in len (live_of c.bytes)) ns) (list_all (links_among (bytes_of c.bytes) ns) ns)
+    and_from (is_proper (live_of c.bytes) && list_all (is_block_in len (live_of c.bytes)) ns)
+    (list_all (links_among (bytes_of c.bytes) ns) ns)
     (and_from (is_proper (live_of c.bytes)) (list_all (is_block_in len (live_of c.bytes)) ns) g.proper g.blocks) g.links
 
 pub record PairNode (len : ℕ) (ns : List ℕ) (c : Cut) (n : ℕ) : Type 0 where
   pub good : Good len ns c
   pub listed : is_in n ns ≡ true
 
-pub is_pair_node-PairNode : (len : ℕ) (ns : List ℕ) (c : Cut) (n : ℕ) → is_pair_node len ns c n ≡ true → PairNode len ns c n
+pub is_pair_node-PairNode : (len : ℕ) (ns : List ℕ) (c : Cut) (n : ℕ) → is_pair_node len ns c n ≡ true
+    → PairNode len ns c n
 unfolding is_pair_node
-is_pair_node-PairNode len ns c n h = let two = and_parts _ _ h in record { good = is_good-Good len ns c two.0; listed = two.1 }
+is_pair_node-PairNode len ns c n h = let two = and_parts _ _ h in record {
+  good = is_good-Good len ns c two.0;
+  listed =
+      two.1;
+}
 
-pub PairNode-is_pair_node : (len : ℕ) (ns : List ℕ) (c : Cut) (n : ℕ) → PairNode len ns c n → is_pair_node len ns c n ≡ true
+pub PairNode-is_pair_node : (len : ℕ) (ns : List ℕ) (c : Cut) (n : ℕ) → PairNode len ns c n → is_pair_node len ns c n
+    ≡ true
 unfolding is_pair_node
 PairNode-is_pair_node len ns c n g = and_from (is_good len ns c) (is_in n ns) (Good-is_good len ns c g.good) g.listed
 
 pub node_block : (len : ℕ) (ns : List ℕ) (c : Cut) (n : ℕ) → PairNode len ns c n → Block len (live_of c.bytes).extents n
-node_block len ns c n g = block_at len (live_of c.bytes).extents n (all_at (is_block_in len (live_of c.bytes)) ns n g.good.blocks g.listed)
+node_block len ns c n g = block_at len (live_of c.bytes).extents n (all_at (is_block_in len (live_of c.bytes)) ns n
+    g.good.blocks g.listed)
 
 -- where a node lies
 pub record Place (len : ℕ) (c : Cut) (n : ℕ) : Type 0 where
@@ -159,7 +195,8 @@ node_place len ns c n g =
 
 pub in_handles : (xs : List Extent) (x : Extent) (n : ℕ) → In x xs → handle x ≡ n → is_in n (map handle xs) ≡ true
 in_handles [] x n i e = absurd i
-in_handles (y ∷ ys) x n (inl f) e = or_left (n == handle y) (is_in n (map handle ys)) (eq-eqb n (handle y) (sym e ∙ ap handle (sym f)))
+in_handles (y ∷ ys) x n (inl f) e = or_left (n == handle y) (is_in n (map handle ys)) (eq-eqb n (handle y)
+    (sym e ∙ ap handle (sym f)))
 in_handles (y ∷ ys) x n (inr i) e = or_right (n == handle y) (is_in n (map handle ys)) (in_handles ys x n i e)
 
 pub handles_length : (xs : List Extent) → length (map handle xs) ≡ length xs
@@ -172,7 +209,8 @@ Finite len ns c = (ms : List ℕ) × (length ms ≤ 2 ^ 40) × ((n : ℕ) → is
 pub pairs_finite : (len : ℕ) (ns : List ℕ) (c : Cut) → Finite len ns c
 pairs_finite len ns c = by_test (is_good len ns c) refl
   where
-    by_test : (b : Bool) → is_good len ns c ≡ b → (ms : List ℕ) × (length ms ≤ 2 ^ 40) × ((n : ℕ) → is_pair_node len ns c n ≡ true → is_in n ms ≡ true)
+    by_test : (b : Bool) → is_good len ns c ≡ b → (ms : List ℕ) × (length ms ≤ 2 ^ 40) × ((n : ℕ)
+        → is_pair_node len ns c n ≡ true → is_in n ms ≡ true)
     by_test true e =
         let g = is_good-Good len ns c e in
         let n = few_extents (live_of c.bytes) g.proper in
@@ -180,13 +218,20 @@ pairs_finite len ns c = by_test (is_good len ns c) refl
           map handle (live_of c.bytes).extents,
           omega arith,
           λ n h.
-              let b = node_block len ns c n (is_pair_node-PairNode len ns c n h) in in_handles (live_of c.bytes).extents b.extent n b.listed b.at,
+              let b = node_block len ns c n (is_pair_node-PairNode len ns c n h) in in_handles
+              (live_of c.bytes).extents b.extent n b.listed b.at,
         )
-    by_test false e = ([], omega arith, λ n h. absurd (both_ways (is_good len ns c) e (Good-is_good len ns c (is_pair_node-PairNode len ns c n h).good)))
+    by_test false e = (
+      [],
+      omega arith,
+      λ n h. absurd (both_ways (is_good len ns c) e (Good-is_good len ns c
+          (is_pair_node-PairNode len ns c n h).good)),
+    )
 
 -- ---- links lead to nodes
 
-pub links_at : (len : ℕ) (ns : List ℕ) (c : Cut) (n : ℕ) → PairNode len ns c n → links_among (bytes_of c.bytes) ns n ≡ true
+pub links_at : (len : ℕ) (ns : List ℕ) (c : Cut) (n : ℕ) → PairNode len ns c n → links_among (bytes_of c.bytes) ns n
+    ≡ true
 links_at len ns c n g = all_at (links_among (bytes_of c.bytes) ns) ns n g.good.links g.listed
 
 pub link_parts : {len : ℕ} {ns : List ℕ} {c : Cut} {n : ℕ} → PairNode len ns c n
@@ -195,25 +240,30 @@ pub link_parts : {len : ℕ} {ns : List ℕ} {c : Cut} {n : ℕ} → PairNode le
 link_parts {len} {ns} {c} {n} g =
     and_parts _ _ (links_at len ns c n g)
 
-leads_to_node : (len : ℕ) (ns : List ℕ) (c : Cut) (o : Option ℕ) → Good len ns c → leads (λ k. is_in k ns) o ≡ true → leads (is_pair_node len ns c) o ≡ true
+leads_to_node : (len : ℕ) (ns : List ℕ) (c : Cut) (o : Option ℕ) → Good len ns c → leads (λ k. is_in k ns) o ≡ true
+    → leads (is_pair_node len ns c) o ≡ true
 leads_to_node len ns c None g h = refl
 leads_to_node len ns c (Some n) g h = PairNode-is_pair_node len ns c n (record { good = g; listed = h })
 
-pub cells_at : (len : ℕ) (ns : List ℕ) (c : Cut) (n : ℕ) → is_pair_node len ns c n ≡ true → pair_cells len ns c n ≡ cells_of (bytes_of c.bytes) n
+pub cells_at : (len : ℕ) (ns : List ℕ) (c : Cut) (n : ℕ) → is_pair_node len ns c n ≡ true → pair_cells len ns c n
+    ≡ cells_of (bytes_of c.bytes) n
 unfolding pair_cells
 cells_at len ns c n h = cond-true (is_pair_node len ns c n) (cells_of (bytes_of c.bytes) n) no_cell h
 
-pub cells_off : (len : ℕ) (ns : List ℕ) (c : Cut) (n : ℕ) → is_pair_node len ns c n ≡ false → pair_cells len ns c n ≡ no_cell
+pub cells_off : (len : ℕ) (ns : List ℕ) (c : Cut) (n : ℕ) → is_pair_node len ns c n ≡ false → pair_cells len ns c n
+    ≡ no_cell
 unfolding pair_cells
 cells_off len ns c n h = cond-false (is_pair_node len ns c n) (cells_of (bytes_of c.bytes) n) no_cell h
 
-pub pairs_left : (len : ℕ) (ns : List ℕ) (c : Cut) (n : ℕ) → is_pair_node len ns c n ≡ true → leads (is_pair_node len ns c) (pair_cells len ns c n).left ≡ true
+pub pairs_left : (len : ℕ) (ns : List ℕ) (c : Cut) (n : ℕ) → is_pair_node len ns c n ≡ true
+    → leads (is_pair_node len ns c) (pair_cells len ns c n).left ≡ true
 pairs_left len ns c n h =
     let g = is_pair_node-PairNode len ns c n h in
     subst (λ (x : Cell). leads (is_pair_node len ns c) x.left ≡ true) (sym (cells_at len ns c n h))
     (leads_to_node len ns c (cells_of (bytes_of c.bytes) n).left g.good (link_parts g).0)
 
-pub pairs_right : (len : ℕ) (ns : List ℕ) (c : Cut) (n : ℕ) → is_pair_node len ns c n ≡ true → leads (is_pair_node len ns c) (pair_cells len ns c n).right ≡ true
+pub pairs_right : (len : ℕ) (ns : List ℕ) (c : Cut) (n : ℕ) → is_pair_node len ns c n ≡ true
+    → leads (is_pair_node len ns c) (pair_cells len ns c n).right ≡ true
 pairs_right len ns c n h =
     let g = is_pair_node-PairNode len ns c n h in
     subst (λ (x : Cell). leads (is_pair_node len ns c) x.right ≡ true) (sym (cells_at len ns c n h))
@@ -248,13 +298,16 @@ module _ {K : Type 0} (less : K → K → Bool) where
       by_test true e = absurd (both_ways (less key y) (not_true (less key y) s) (on key x y e h))
       by_test false e = ap not e
 
-pub comes_irreflexive : {K : Type 0} (less : K → K → Bool) → IsStrict less → (keys : ℕ → Option K) (n : ℕ) → comes_before less keys n n ≡ false
+pub comes_irreflexive : {K : Type 0} (less : K → K → Bool) → IsStrict less → (keys : ℕ → Option K) (n : ℕ)
+    → comes_before less keys n n ≡ false
 comes_irreflexive less strict keys n = key_irreflexive less strict (keys n)
 
 pub comes_transitive : {K : Type 0} (less : K → K → Bool) → Chains less → (keys : ℕ → Option K) (a b c : ℕ)
     → comes_before less keys a b ≡ true → comes_before less keys b c ≡ true → comes_before less keys a c ≡ true
 comes_transitive less on keys a b c h k = key_transitive less on (keys a) (keys b) (keys c) h k
 
-pub comes_agrees : {K : Type 0} (less : K → K → Bool) → Chains less → (keys : ℕ → Option K) (past : Bool) (key : K) (a b : ℕ)
-    → comes_before less keys a b ≡ true → stands_before less keys past key b ≡ true → stands_before less keys past key a ≡ true
+pub comes_agrees : {K : Type 0} (less : K → K → Bool) → Chains less → (keys : ℕ → Option K) (past : Bool) (key : K)
+    (a b : ℕ)
+    → comes_before less keys a b ≡ true → stands_before less keys past key b ≡ true → stands_before less keys past key
+    a ≡ true
 comes_agrees less on keys past key a b h s = key_agrees less on past key (keys a) (keys b) h s

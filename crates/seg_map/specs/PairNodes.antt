@@ -1,6 +1,8 @@
--- The pairs of a map as the nodes of a tree: each is named by the handle of its block, where its two links stand, and its colour
+-- The pairs of a map as the nodes of a tree: each is named by the handle of its block, where its two links stand, and
+-- its colour
 -- is in the block's tag.
-use Rattle.std.specs.Prelude.{ℕ, ◌+◌, ◌-◌, ◌%◌, Bool, true, false, ◌&&◌, ◌||◌, not, Option, Some, None, List, [], ◌∷◌, ◌++◌, ◌==◌, nat_le, nat_lt, if◌then◌else◌}
+use Rattle.std.specs.Prelude.{ℕ, ◌+◌, ◌-◌, ◌%◌, Bool, true, false, ◌&&◌, ◌||◌, not, Option, Some, None, List, [], ◌∷◌}
+use Rattle.std.specs.Prelude.{◌++◌, ◌==◌, nat_le, nat_lt, if◌then◌else◌}
 use Rattle.std.specs.List.{list_all, list_any}
 use Rattle.raw_region.specs.Memory.{Memory, Cut, bytes_of, read, word_at}
 use Rattle.block_tags.specs.declared.tile.Role.TheVariants.{Node}
@@ -22,7 +24,8 @@ links_among m ns n = leads (λ k. is_in k ns) (cells_of m n).left && leads (λ k
 -- the list names node blocks whose links lead to each other
 abbrev pub is_good : ℕ → List ℕ → Cut → Bool
 is_good len ns c =
-    is_proper (live_of c.bytes) && list_all (is_block_in len (live_of c.bytes)) ns && list_all (links_among (bytes_of c.bytes) ns) ns
+    is_proper (live_of c.bytes) && list_all (is_block_in len (live_of c.bytes)) ns && list_all
+    (links_among (bytes_of c.bytes) ns) ns
 
 -- where blocks and links are good, the list has the nodes
 unfoldable pub is_pair_node : ℕ → List ℕ → Cut → ℕ → Bool
@@ -80,7 +83,8 @@ is_kept ns live k = (nat_lt k 24 || (nat_le 32 k && nat_lt k 128) || lies_in_blo
 abbrev pub is_other : List ℕ → LiveSet → ℕ → Bool
 is_other ns live h = is_live_in live h && not (is_in h ns)
 
--- the nodes, what lies round the window, the blocks in use, their bytes and colours but for the nodes' links and colours
+-- the nodes, what lies round the window, the blocks in use, their bytes and colours but for the nodes' links and
+-- colours
 pub record Kept : Type 0 where
   pub own : List ℕ
   pub before : List ℕ

@@ -18,5 +18,6 @@ returns g c =
       found = looked_for kl c.args.key (finds_first kl o false c.args.key way.exact way.steps way.first)
           c.with_key.ensures.node (omega arith);
       value = c.with_key.ensures.value;
-      exit = exit_is kl o c.with_key.result c.find_way_out-way.result.node c.find_way_out-way.result.exit c.with_key.ensures.same way.exit;
+      exit = exit_is kl o c.with_key.result c.find_way_out-way.result.node c.find_way_out-way.result.exit
+          c.with_key.ensures.same way.exit;
     }

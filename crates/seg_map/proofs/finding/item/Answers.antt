@@ -5,4 +5,5 @@ use Rattle.best_fit.proofs.Laws.{room-less}
 use Rattle.seg_map.proofs.finding.item.Goals as goal
 
 pub value_at-requires-clause-room : goal.value_at-requires-clause-room
-value_at-requires-clause-room g c = room-less (live_of c.args.heap.now.bytes) c.args.node (16 + g.K.Plain.SIZE + g.V.Plain.SIZE) (16 + g.K.Plain.SIZE) (omega arith) c.requires.room
+value_at-requires-clause-room g c = room-less (live_of c.args.heap.now.bytes) c.args.node
+    (16 + g.K.Plain.SIZE + g.V.Plain.SIZE) (16 + g.K.Plain.SIZE) (omega arith) c.requires.room

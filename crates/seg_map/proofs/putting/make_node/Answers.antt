@@ -13,12 +13,14 @@ kl : (g : Over) → Laws g.K.Plain
 kl g = let m = g.met.K.Plain in laws_of g.K.Plain m.spells m.reads m.irreflexive m.transitive
 
 -- the block is as long as a node
-new : (g : Over) (c : In_ok-node g) → IsAllocated current c.args.heap.now c.allocate.new.self (node_len g.K.Plain.SIZE g.V.Plain.SIZE) Node c.in_ok-node.node
+new : (g : Over) (c : In_ok-node g) → IsAllocated current c.args.heap.now c.allocate.new.self
+    (node_len g.K.Plain.SIZE g.V.Plain.SIZE) Node c.in_ok-node.node
 new g c =
     rw (c.SIZE.ensures, c.SIZE-2.ensures) at c.in_ok-node.ensures.answer
 
 pub set_link-requires-clause-room : goal.set_link-requires-clause-room
-set_link-requires-clause-room g c = room_left (kl g) g.V.Plain (new g (goal.at.set_link-requires-clause-room g c).In_ok-node)
+set_link-requires-clause-room g c = room_left (kl g) g.V.Plain (new g (goal.at.set_link-requires-clause-room g
+    c).In_ok-node)
 
 pub set_link-requires-2-clause-room : goal.set_link-requires-2-clause-room
 set_link-requires-2-clause-room g c =
@@ -28,19 +30,22 @@ set_link-requires-2-clause-room g c =
 pub write_value-requires : goal.write_value-requires
 write_value-requires g c =
     let left = c.set_link.ensures in let right = c.set_link-2.ensures in
-    room_key (kl g) g.V.Plain (new g (goal.at.write_value-requires g c).In_ok-node) left.change left.leads right.change right.leads
+    room_key (kl g) g.V.Plain (new g (goal.at.write_value-requires g c).In_ok-node) left.change left.leads right.change
+    right.leads
 
 pub write_value-requires-2 : goal.write_value-requires-2
 write_value-requires-2 g c =
     let left = c.set_link.ensures in let right = c.set_link-2.ensures in let key = c.write_value.ensures in
-    rw c.SIZE-3.ensures (room_value (kl g) g.V.Plain (new g (goal.at.write_value-requires-2 g c).In_ok-node) left.change left.leads right.change
+    rw c.SIZE-3.ensures (room_value (kl g) g.V.Plain (new g (goal.at.write_value-requires-2 g c).In_ok-node)
+    left.change left.leads right.change
     right.leads key.value key.change key.content)
 
 pub returns-clause-made : goal.returns-clause-made
 returns-clause-made g c =
     let left = c.set_link.ensures in let right = c.set_link-2.ensures in let key = c.write_value.ensures in
     let value = c.write_value-2.ensures in
-    made (kl g) g.V.Plain (new g (goal.at.returns-clause-made g c).In_ok-node) left.change left.leads right.change right.leads
+    made (kl g) g.V.Plain (new g (goal.at.returns-clause-made g c).In_ok-node) left.change left.leads right.change
+    right.leads
     key.value key.change key.content c.args.value value.value
     (rw c.SIZE-3.ensures at value.change)
     (rw c.SIZE-3.ensures at value.content)

@@ -48,4 +48,10 @@ returns-clause-steps g c = λ ps s.
     let k = key_at_node c.find_out-trace.ensures.found s c.in-Some.is in
     let t = c.take_out.ensures.taken ps c.args.key k.pair s k.is k.at in
     let live = ap heap_touches (lay_out_one _ _ _ t.live) in
-    omega (arith, c.find_out-trace.ensures.found.steps ps s, c.take_out.ensures.steps ps s, c.deallocate.ensures.steps, live)
+    omega (
+      arith,
+      c.find_out-trace.ensures.found.steps ps s,
+      c.take_out.ensures.steps ps s,
+      c.deallocate.ensures.steps,
+      live,
+    )

@@ -9,7 +9,8 @@ pub returns-in_err-found-clause-value : goal.returns-in_err-found-clause-value
 returns-in_err-found-clause-value g c = λ ps s.
     let m = g.met.K.Plain in let kl = laws_of g.K.Plain m.spells m.reads m.irreflexive m.transitive in
     let none : c.first_from.result ≡ None = cc in let result : c.from_residual.result ≡ None = cc in
-    result ∙ rw none at (value_by_key g.K.Plain kl c.args.key ps c.first_from.result s.rising (c.first_from.ensures.item ps s))
+    result ∙ rw none at (value_by_key g.K.Plain kl c.args.key ps c.first_from.result s.rising
+    (c.first_from.ensures.item ps s))
 
 pub returns-then-precedes-clause-value : goal.returns-then-precedes-clause-value
 returns-then-precedes-clause-value g c = λ ps s.

@@ -24,7 +24,8 @@ give_up-requires g c =
     record { pairs = going.pairs; key = n.pair.key; pair = n.pair; map = going.holds; found = n.holds; is = n.at }
 
 pub pairs-init : goal.pairs-init
-pairs-init g c = λ ps s. going_first g.K.Plain g.V.Plain c.args.heap.now c.args.self.place.handle c.args.self.place.at ps s
+pairs-init g c = λ ps s. going_first g.K.Plain g.V.Plain c.args.heap.now c.args.self.place.handle c.args.self.place.at
+    ps s
 
 pub pairs-smaller : goal.pairs-smaller
 pairs-smaller g c =

@@ -13,5 +13,6 @@ value_at-requires g c =
 pub returns : goal.returns
 returns g c =
     let p = g.K.Plain in let probe = c.args.probe.now in let value = value_in p.reading p.is_value p.spelling in
-    let key = c.value_at.ensures ∙ key_is value p.SIZE c.args.self.now.own c.args.self.now.heap.now c.args.node c.requires in
+    let key = c.value_at.ensures ∙ key_is value p.SIZE c.args.self.now.own c.args.self.now.heap.now c.args.node
+    c.requires in
     c.is_before.ensures ∙ ap (stands p.order probe.past probe.key) key

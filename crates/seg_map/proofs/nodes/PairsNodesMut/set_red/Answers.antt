@@ -8,7 +8,8 @@ use Rattle.seg_map.proofs.nodes.PairsNodesMut.set_red.Goals as goal
 
 pub set_node_red-requires : goal.set_node_red-requires
 set_node_red-requires g c =
-    let self = c.args.self.now in node_live (place_of (16 + g.K.Plain.SIZE) self.own self.heap.now c.args.node c.requires)
+    let self = c.args.self.now in node_live (place_of (16 + g.K.Plain.SIZE) self.own self.heap.now c.args.node
+    c.requires)
 
 pub returns : goal.returns
 returns g c =

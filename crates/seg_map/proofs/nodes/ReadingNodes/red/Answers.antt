@@ -9,4 +9,5 @@ node_red-requires g c =
     live_node (place_of (16 + g.K.Plain.SIZE) c.args.self.now.own w c.args.node c.requires)
 
 pub returns : goal.returns
-returns g c = c.node_red.ensures ∙ red_is (16 + g.K.Plain.SIZE) c.args.self.now.own c.args.self.now.heap.now c.args.node c.requires
+returns g c = c.node_red.ensures ∙ red_is (16 + g.K.Plain.SIZE) c.args.self.now.own c.args.self.now.heap.now
+    c.args.node c.requires

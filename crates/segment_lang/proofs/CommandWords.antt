@@ -12,7 +12,7 @@ use Rattle.seg_types.specs.Kinds.{is_value}
 use Rattle.seg_types.specs.Values.{kind_of_scalar, scalar_of, value_of_scalar}
 use Rattle.seg_types.proofs.Laws.{scalar_of-kind, scalar_of-value}
 use Rattle.seg_types.specs.Commands.{Assign, Bytes, Command, ConstructIt, Content, Elements, Literal, LineTooLong}
-use Rattle.seg_types.specs.Commands.{NoPairs, Nothing, Numbers, Put, Strings, UnknownCommand, DestroyPtr}
+use Rattle.seg_types.specs.Commands.{NoPairs, Nothing, Numbers, Put, Reading, Strings, UnknownCommand, DestroyPtr}
 use Rattle.segment_lang.specs.Words as said
 use Rattle.segment_lang.specs.Words.{Word, Bare, literal_of_word, number_of, words}
 use Rattle.segment_lang.specs.Language.{Language, whole}
@@ -33,36 +33,38 @@ use Rattle.segment_lang.proofs.WordReaders.{then_then, under}
 use Rattle.segment_lang.proofs.FirstWords.{command_has_byte, command_is_plain}
 use Rattle.segment_lang.specs.Seen.{with_rest}
 
+-- what words ask for
+abbrev pub asks : Reader → List ℕ → Option Command
+asks reader bytes = option_and_then (reader (whole current)) (words bytes)
+
 -- ---- nothing, one word, two, three
 
-pub alone_at_end : (c : Command) (bytes : List ℕ) → option_and_then (alone c (whole current)) (words bytes)
-    ≡ cond (at_end bytes) (Some c) None
+pub alone_at_end : (c : Command) (bytes : List ℕ) → asks (alone c) bytes ≡ cond (at_end bytes) (Some c) None
 alone_at_end c bytes = take_end (alone c (whole current)) (λ w ws. refl) bytes
 
 pub of_key : (f : Key → Command) (key_in : Language → Word → Option Key) (bytes : List ℕ)
-    → option_and_then (with_key f key_in (whole current)) (words bytes) ≡ of_one (with_key f key_in) bytes
+    → asks (with_key f key_in) bytes ≡ of_one (with_key f key_in) bytes
 of_key f key_in bytes = take_only (with_key f key_in (whole current)) refl (λ w v ws. refl) bytes
 
-pub of_number : (f : ℕ → Command) (bytes : List ℕ) → option_and_then (with_number f (whole current)) (words bytes)
-    ≡ of_one (with_number f) bytes
+pub of_number : (f : ℕ → Command) (bytes : List ℕ) → asks (with_number f) bytes ≡ of_one (with_number f) bytes
 of_number f bytes = take_only (with_number f (whole current)) refl (λ w v ws. refl) bytes
 
-pub of_key_number : (f : Key → ℕ → Command) (bytes : List ℕ) → option_and_then (with_key_number f (whole current))
-    (words bytes) ≡ of_two (with_key_number f) bytes
+pub of_key_number : (f : Key → ℕ → Command) (bytes : List ℕ)
+    → asks (with_key_number f) bytes ≡ of_two (with_key_number f) bytes
 of_key_number f bytes = take_two (with_key_number f (whole current)) refl (λ w. refl) (λ w v u ws. refl) bytes
 
 pub of_key_literal : (f : Key → Literal → Command) (bytes : List ℕ)
-    → option_and_then (with_key_literal f (whole current)) (words bytes) ≡ of_two (with_key_literal f) bytes
+    → asks (with_key_literal f) bytes ≡ of_two (with_key_literal f) bytes
 of_key_literal f bytes = take_two (with_key_literal f (whole current)) refl (λ w. refl) (λ w v u ws. refl) bytes
 
 no_appending : (w v u : Word) (ws : List Word) → appending (whole current) (w ∷ v ∷ u ∷ ws) ≡ None
 no_appending w (said.Text bs) u ws = refl
 no_appending w (Bare bs) u ws = refl
 
-pub of_appending : (bytes : List ℕ) → option_and_then (appending (whole current)) (words bytes) ≡ of_two appending bytes
+pub of_appending : (bytes : List ℕ) → asks appending bytes ≡ of_two appending bytes
 of_appending bytes = take_two (appending (whole current)) refl (λ w. refl) no_appending bytes
 
-pub of_assigning : (bytes : List ℕ) → option_and_then (assigning (whole current)) (words bytes) ≡ assigning_at bytes
+pub of_assigning : (bytes : List ℕ) → asks assigning bytes ≡ assigning_at bytes
 unfolding assigning_at literals_at
 of_assigning bytes =
     take_word (assigning (whole current)) refl bytes
@@ -71,19 +73,19 @@ of_assigning bytes =
     ∙ under _ _ (λ key. then_some (Assign key) (all literal_of_word) (words x.1)) (key_of (whole current) x.0))
     (next_word bytes)
 
-pub of_finding : (bytes : List ℕ) → option_and_then (finding (whole current)) (words bytes) ≡ of_two finding bytes
+pub of_finding : (bytes : List ℕ) → asks finding bytes ≡ of_two finding bytes
 of_finding bytes = take_two (finding (whole current)) refl (λ w. refl) (λ w v u ws. refl) bytes
 
 pub of_key_number_literal : (f : Key → ℕ → Literal → Command) (bytes : List ℕ)
-    → option_and_then (with_key_number_literal f (whole current)) (words bytes) ≡ of_three (with_key_number_literal f)
-    bytes
+    → asks (with_key_number_literal f) bytes ≡ of_three (with_key_number_literal f) bytes
 of_key_number_literal f bytes = take_three (with_key_number_literal f (whole current)) refl (λ w. refl) (λ w v. refl)
     (λ w v u t ws. refl) bytes
 
-pub of_putting : (bytes : List ℕ) → option_and_then (putting (whole current)) (words bytes) ≡ of_three putting bytes
+pub of_putting : (bytes : List ℕ) → asks putting bytes ≡ of_three putting bytes
 of_putting bytes = take_three (putting (whole current)) refl (λ w. refl) (λ w v. refl) (λ w v u t ws. refl) bytes
 
-put_given : (key : Key) (k v : Option Literal) → option_and_then (λ k. option_map (Put key k) v) k
+put_given : (key : Key) (k v : Option Literal)
+    → option_and_then (λ k. option_map (Put key k) v) k
     ≡ option_and_then (λ (p : Literal × Literal). Some (Put key p.0 p.1))
     (option_and_then (λ k. option_and_then (λ v. Some (k, v)) v) k)
 put_given key None v = refl
@@ -122,16 +124,16 @@ ptr_word (said.Text bs) = refl
 ptr_word (Bare []) = refl
 ptr_word (Bare (c ∷ cs)) = ptr_if (c == 0x23) (number_of cs)
 
-pub of_handle : (bytes : List ℕ) → option_and_then (destroying_ptr (whole current)) (words bytes)
-    ≡ option_map DestroyPtr (option_and_then handle_of (only_word bytes))
+pub of_handle : (bytes : List ℕ)
+    → asks destroying_ptr bytes ≡ option_map DestroyPtr (option_and_then handle_of (only_word bytes))
 of_handle bytes =
     take_only (destroying_ptr (whole current)) refl no_ptr bytes ∙ under _ _ ptr_word (only_word bytes)
     ∙ map_then DestroyPtr handle_of (only_word bytes)
 
 -- ---- a value
 
-pub scalar_content : (k : ScalarKind) (n : ℕ) (bytes : List ℕ) → option_and_then (content (Scalar k) n) (words bytes)
-    ≡ scalar_at k n bytes
+pub scalar_content : (k : ScalarKind) (n : ℕ) (bytes : List ℕ)
+    → option_and_then (content (Scalar k) n) (words bytes) ≡ scalar_at k n bytes
 unfolding scalar_at
 scalar_content k n bytes = take_only (content (Scalar k) n) refl (λ w v ws. refl) bytes
 
@@ -159,8 +161,8 @@ pub texts_content : (n : ℕ) (bytes : List ℕ)
 unfolding texts_at
 texts_content n bytes = map_then Strings (all quoted_of) (words bytes)
 
-pub no_pairs_content : (k v : ScalarKind) (n : ℕ) (bytes : List ℕ) → option_and_then (content (Map k v) n) (words bytes)
-    ≡ cond (at_end bytes) (Some (NoPairs k v)) None
+pub no_pairs_content : (k v : ScalarKind) (n : ℕ) (bytes : List ℕ)
+    → option_and_then (content (Map k v) n) (words bytes) ≡ cond (at_end bytes) (Some (NoPairs k v)) None
 no_pairs_content k v n bytes = take_end (content (Map k v) n) (λ w ws. refl) bytes
 
 -- the values that are read are the elements
@@ -171,8 +173,9 @@ elements_read k (Some zs) w h = let e : w ≡ written k zs = cc in
     ap (λ (w : Written). Some (Elements w.kind w.numbers)) e
 
 one_scalar : (k : ScalarKind) (n : ℕ) (o : Option ℤ) (v : ScalarValue) → Some v ≡ option_map (scalar_of k) o
-    → ((z : ℤ) → o ≡ Some z → is_value k z ≡ true) → Some (Numbers (kind_of_scalar v) (replicate n (value_of_scalar v)))
-    ≡ option_map (λ z. Numbers k (replicate n z)) o
+    → ((z : ℤ) → o ≡ Some z → is_value k z ≡ true)
+    → Some (Numbers (kind_of_scalar v) (replicate n (value_of_scalar v))) ≡ option_map (λ z. Numbers k (replicate n z))
+    o
 one_scalar k n None v h f = cc
 one_scalar k n (Some z) v h f =
     let e : v ≡ scalar_of k z = cc in
@@ -191,7 +194,7 @@ scalar_read k n bytes w v h e = one_scalar k n (value_for k w) v e (word-value k
 -- ---- a kind, a key, and what an object is made with
 
 pub of_making : (make : Key → Content → Command) (key_in : Language → Word → Option Key) (bytes : List ℕ)
-    → option_and_then (making make key_in (whole current)) (words bytes) ≡ making_at make key_in bytes
+    → asks (making make key_in) bytes ≡ making_at make key_in bytes
 unfolding making_at
 of_making make key_in bytes =
     take_next_two (making make key_in (whole current)) refl (λ w. refl) bytes
@@ -206,25 +209,22 @@ of_making make key_in bytes =
 
 -- ---- a scalar kind, a key, and as many values
 
-the_values : (vs : List Word) (k : Kind) (n : ℕ) (key : Key) → each vs k n key
-    ≡ option_and_then (λ kind. option_and_then (λ zs. items n kind key zs) (all (value_for kind) vs)) (scalar_in k)
-the_values vs (Scalar k) n key = refl
-the_values vs Text n key = refl
-the_values vs (Vector k) n key = refl
-the_values vs (Map k v) n key = refl
-the_values vs Texts n key = refl
-
-each_given : (args : Option (List Word)) (k : Kind) (n : ℕ) (key : Key) → option_and_then (λ vs. each vs k n key) args
-    ≡ option_and_then (λ kind. option_and_then (λ zs. items n kind key zs)
-    (option_and_then (all (value_for kind)) args))
+the_values : (vs : List Word) (k : Kind) (n : ℕ) (key : Key)
+    → each vs k n key ≡ option_and_then (λ kind. option_and_then (λ zs. items n kind key zs) (all (value_for kind) vs))
     (scalar_in k)
+the_values vs (Scalar k) n key = refl
+the_values vs k n key = refl
+
+each_given : (args : Option (List Word)) (k : Kind) (n : ℕ) (key : Key)
+    → option_and_then (λ vs. each vs k n key) args
+    ≡ option_and_then (λ kind. option_and_then (λ zs. items n kind key zs)
+    (option_and_then (all (value_for kind)) args)) (scalar_in k)
 each_given args k n key =
     under _ _ (λ vs. the_values vs k n key) args
     ∙ swap (λ vs kind. option_and_then (λ zs. items n kind key zs) (all (value_for kind) vs)) args (scalar_in k)
     ∙ under _ _ (λ kind. sym (then_then (λ zs. items n kind key zs) (all (value_for kind)) args)) (scalar_in k)
 
-pub of_making_each : (bytes : List ℕ)
-    → option_and_then (making_each (whole current)) (words bytes) ≡ making_each_at bytes
+pub of_making_each : (bytes : List ℕ) → asks making_each bytes ≡ making_each_at bytes
 unfolding making_each_at numbers_at
 of_making_each bytes =
     take_next_two (making_each (whole current)) refl (λ w. refl) bytes
@@ -238,8 +238,8 @@ of_making_each bytes =
     (counted_kind (whole current) x.0)) (next_two bytes)
 
 if_as_many : (b : Bool) (k : ScalarKind) (n : ℕ) (key : Key) (zs : List ℤ) (w : Written)
-    → Some w ≡ cond b (Some (written k zs)) None → Some (ConstructIt key w.kind n w.numbers)
-    ≡ cond b (Some (ConstructIt key k n zs)) None
+    → Some w ≡ cond b (Some (written k zs)) None
+    → Some (ConstructIt key w.kind n w.numbers) ≡ cond b (Some (ConstructIt key k n zs)) None
 if_as_many true k n key zs w h = let e : w ≡ written k zs = cc in
     ap (λ (w : Written). Some (ConstructIt key w.kind n w.numbers)) e
 if_as_many false k n key zs w h = cc
@@ -261,30 +261,28 @@ each_read bytes r w v kind k n key x a b d e f =
 
 -- ---- the command word
 
-known : (form : Option Form) (reader : Reader) (line rest : List ℕ) → Some (reader, rest)
-    ≡ with_rest line (option_map (λ (f : Form). f.1) form)
-    → as_reading (option_and_then (reader (whole current)) (words rest))
-    ≡ elim form [
-      | None ↦ UnknownCommand
-      | Some f ↦ as_reading
-          (option_and_then (f.1 (whole current)) (words (behind_word line)))
-    ]
+abbrev answered : Option Form → List ℕ → Reading
+answered form rest = elim form [ None ↦ UnknownCommand | Some f ↦ as_reading (asks f.1 rest) ]
+
+known : (form : Option Form) (reader : Reader) (line rest : List ℕ)
+    → Some (reader, rest) ≡ with_rest line (option_map (λ (f : Form). f.1) form)
+    → as_reading (asks reader rest) ≡ answered form (behind_word line)
 known None reader line rest h = cc
 known (Some f) reader line rest h =
     let e : (reader, rest) ≡ (f.1, behind_word line) = cc in
-    ap (λ (y : Reader × List ℕ). as_reading (option_and_then (y.0 (whole current)) (words y.1))) e
+    ap (λ (y : Reader × List ℕ). as_reading (asks y.0 y.1)) e
 
 -- a line that begins with a command word is read by the form of the command
-pub known_command : (line rest : List ℕ) (reader : Reader) → (length line == 0) ≡ false → Some (reader, rest)
-    ≡ with_rest line (option_map (λ (f : Form). f.1) (form_of (up_to_blank line)))
-    → as_reading (option_and_then (reader (whole current)) (words rest)) ≡ command_line (whole current) line
+pub known_command : (line rest : List ℕ) (reader : Reader) → (length line == 0) ≡ false
+    → Some (reader, rest) ≡ with_rest line (option_map (λ (f : Form). f.1) (form_of (up_to_blank line)))
+    → as_reading (asks reader rest) ≡ command_line (whole current) line
 known_command [] rest reader h k = cc
 known_command (c ∷ cs) rest reader h k = known (form_of (up_to_blank (c ∷ cs))) reader (c ∷ cs) rest k
 
 -- a line whose first word is a command word is no comment, and has no blank in front
-led_by_command : (line rest : List ℕ) (reader : Reader) → Some (reader, rest)
-    ≡ with_rest line (option_map (λ (f : Form). f.1) (form_of (up_to_blank line)))
-    → as_reading (option_and_then (reader (whole current)) (words rest)) ≡ cond (slice_index line 0 == 0x23) Nothing
+led_by_command : (line rest : List ℕ) (reader : Reader)
+    → Some (reader, rest) ≡ with_rest line (option_map (λ (f : Form). f.1) (form_of (up_to_blank line)))
+    → as_reading (asks reader rest) ≡ cond (slice_index line 0 == 0x23) Nothing
     (command_line (whole current) (skip_blanks line))
 led_by_command line rest reader h =
     let plain = command_is_plain line (reader, rest) h in
@@ -293,9 +291,9 @@ led_by_command line rest reader h =
     ∙ ap (λ b. cond b Nothing (command_line (whole current) (skip_blanks line))) (sym plain.0)
 
 pub command_in_front : (line part rest : List ℕ) (reader : Reader) → part ≡ without_return line
-    → nat_lt 4096 (length part) ≡ false → Some (reader, rest)
-    ≡ with_rest part (option_map (λ (f : Form). f.1) (form_of (up_to_blank part)))
-    → as_reading (option_and_then (reader (whole current)) (words rest)) ≡ reading (whole current) line
+    → nat_lt 4096 (length part) ≡ false
+    → Some (reader, rest) ≡ with_rest part (option_map (λ (f : Form). f.1) (form_of (up_to_blank part)))
+    → as_reading (asks reader rest) ≡ reading (whole current) line
 unfolding reading
 command_in_front line part rest reader e short h =
     led_by_command part rest reader h

@@ -1,5 +1,7 @@
 -- Numbers and their decimal texts.
-use Rattle.std.proofs.Common.{◌≡◌, ℕ, zero, suc, ℤ, pos, negsuc, ◌≤ℤ◌, ◌+◌, ◌*◌, ◌-◌, ◌≤◌, ◌<◌, ◌^◌, ◌&&◌, ◌==◌, Bool, true, false, cond, List, [], ◌∷◌, length, drop, get_or, Option, Some, None, arith, rules, refl, sym, ap, subst, ◌∙◌}
+use Rattle.std.proofs.Common.{◌≡◌, ℕ, zero, suc, ℤ, pos, negsuc, ◌≤ℤ◌, ◌+◌, ◌*◌, ◌-◌, ◌≤◌, ◌<◌, ◌^◌, ◌&&◌, ◌==◌, Bool}
+use Rattle.std.proofs.Common.{true, false, cond, List, [], ◌∷◌, length, drop, get_or, Option, Some, None, arith, rules}
+use Rattle.std.proofs.Common.{refl, sym, ap, subst, ◌∙◌}
 use Rattle.std.proofs.lemmas.Int.{ints}
 use Rattle.std.specs.Prelude.{nat_le, nat_lt, decimal}
 use Rattle.std.specs.Option.{option_map}
@@ -9,7 +11,8 @@ use Rattle.std.proofs.lemmas.Bool.{and_parts, le-leb, leb-true, lt-ltb, ltb-true
 use Rattle.std.proofs.lemmas.Bool.Decides.{nat_tests}
 use Rattle.std.proofs.lemmas.Option.{cond_some}
 use Rattle.std.proofs.lemmas.Str.Parse.{IsNumeralModel, numerals_by_fold}
-use Rattle.std.proofs.lemmas.Fmt.{decimal-digits_value, decimal_digit, decimal_nonempty, digits_decimal, digits_value-decimal, first_decimal}
+use Rattle.std.proofs.lemmas.Fmt.{decimal-digits_value, decimal_digit, decimal_nonempty, digits_decimal}
+use Rattle.std.proofs.lemmas.Fmt.{digits_value-decimal, first_decimal}
 use Rattle.segment_lang.specs.Words.{number_after, is_numeral, is_digit, between, number_of, negative_of, whole_of}
 use Rattle.segment_lang.specs.Laws.{NumbersAreDecimals, WholesAreDecimals}
 
@@ -22,7 +25,8 @@ pub further_digits : (n : ℕ) (ds : List ℕ) → 1 ≤ length ds → 10 * n + 
 further_digits n [] h = absurd (omega arith)
 further_digits n (d ∷ ds) h = number_after-le (10 * n + (d - 0x30)) ds
 
-pub next_digit : (n : ℕ) (ds : List ℕ) → 1 ≤ length ds → number_after n ds ≡ number_after (10 * n + (get_or ds 0 0 - 0x30)) (drop 1 ds)
+pub next_digit : (n : ℕ) (ds : List ℕ) → 1 ≤ length ds
+    → number_after n ds ≡ number_after (10 * n + (get_or ds 0 0 - 0x30)) (drop 1 ds)
 next_digit n [] h = absurd (omega arith)
 next_digit n (d ∷ ds) h = refl
 
@@ -31,7 +35,8 @@ no_further_digits n [] h = refl
 no_further_digits n (d ∷ ds) h = absurd (omega arith)
 
 -- of two digits or more the first is not 0
-pub long_numeral : (w : List ℕ) → 2 ≤ length w → is_numeral w ≡ (between 0x31 0x39 (get_or w 0 0) && list_all is_digit (drop 1 w))
+pub long_numeral : (w : List ℕ) → 2 ≤ length w
+    → is_numeral w ≡ (between 0x31 0x39 (get_or w 0 0) && list_all is_digit (drop 1 w))
 long_numeral [] h = absurd (omega arith)
 long_numeral (d ∷ []) h = absurd (omega arith)
 long_numeral (d ∷ e ∷ ds) h = refl
@@ -61,11 +66,13 @@ high_digit d h k = grind (arith, nat_tests)
 parts_numeral : (w : List ℕ) → list_all is_digit w ≡ true → 0 < length w → 48 < get_or w 0 0 → is_numeral w ≡ true
 parts_numeral [] h k l = absurd (omega arith)
 parts_numeral (d ∷ []) h k l = (and_parts (is_digit d) true h).0
-parts_numeral (d ∷ e ∷ ds) h k l = let p = and_parts (is_digit d) (list_all is_digit (e ∷ ds)) h in rw (high_digit d p.0 l) p.1
+parts_numeral (d ∷ e ∷ ds) h k l = let p = and_parts (is_digit d) (list_all is_digit (e ∷ ds)) h in
+    rw (high_digit d p.0 l) p.1
 
 decimal_numeral : (n : ℕ) → n < 2 ^ 64 → is_numeral (decimal n) ≡ true
 decimal_numeral zero h = rw (decimal_digit 0 (omega arith)) refl
-decimal_numeral (suc n) h = parts_numeral (decimal (suc n)) (digits_decimal own (suc n) h) (decimal_nonempty (suc n) h) (first_decimal (suc n) (omega arith) h)
+decimal_numeral (suc n) h = parts_numeral (decimal (suc n)) (digits_decimal own (suc n) h) (decimal_nonempty (suc n) h)
+    (first_decimal (suc n) (omega arith) h)
 
 numeral_decimal : (w : List ℕ) → is_numeral w ≡ true → number_after 0 w < 2 ^ 64 → w ≡ decimal (number_after 0 w)
 numeral_decimal w h f = let p = numeral_parts w h in sym (decimal-digits_value own w p.0 p.1 p.2 f)
@@ -85,14 +92,19 @@ number_of-decimal n h =
     rw (decimal_numeral n h, v, le-leb n 18446744073709551615 b) refl
 
 pub numbers_are_decimals : NumbersAreDecimals
-numbers_are_decimals w n = (number_is w n, λ (h : (n < 2 ^ 64) × (w ≡ decimal n)). ap number_of h.1 ∙ number_of-decimal n h.0)
+numbers_are_decimals w n = (
+  number_is w n,
+  λ (h : (n < 2 ^ 64) × (w ≡ decimal n)). ap number_of h.1
+      ∙ number_of-decimal n h.0,
+)
 
 -- ---- whole numbers
 
 abbrev IsWhole : List ℕ → ℤ → Type 0
 IsWhole w z = (negsuc 9223372036854775807 ≤ℤ z) × (z ≤ℤ pos 18446744073709551615) × (w ≡ signed_decimal z)
 
-negative_whole : (v : ℕ) (w : List ℕ) → w ≡ decimal v → 0 < v → v ≤ 9223372036854775808 → IsWhole (45 ∷ w) (negsuc (v - 1))
+negative_whole : (v : ℕ) (w : List ℕ) → w ≡ decimal v → 0 < v → v ≤ 9223372036854775808
+    → IsWhole (45 ∷ w) (negsuc (v - 1))
 negative_whole v w e p m =
     let s : v ≡ suc (v - 1) = omega arith in
     (omega (arith, ints), omega (arith, ints), ap (λ w. 45 ∷ w) (e ∙ ap decimal s))
@@ -126,7 +138,8 @@ positive_is w z h =
     let k : IsWhole w (pos p.0) = (omega (arith, ints), omega (arith, ints, q.0), q.1) in
     subst (IsWhole w) p.2 k
 
-whole_cases : (b : Bool) (c : ℕ) (cs : List ℕ) (z : ℤ) → (b ≡ true → c ≡ 45) → cond b (negative_of cs) (option_map pos (number_of (c ∷ cs))) ≡ Some z → IsWhole (c ∷ cs) z
+whole_cases : (b : Bool) (c : ℕ) (cs : List ℕ) (z : ℤ) → (b ≡ true → c ≡ 45)
+    → cond b (negative_of cs) (option_map pos (number_of (c ∷ cs))) ≡ Some z → IsWhole (c ∷ cs) z
 whole_cases true c cs z k h = rw (k refl) (negative_is cs z h)
 whole_cases false c cs z k h = positive_is (c ∷ cs) z h
 

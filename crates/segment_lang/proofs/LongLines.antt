@@ -1,5 +1,6 @@
 -- Lines that are too long.
-use Rattle.std.proofs.Common.{◌≡◌, ℕ, ◌-◌, ◌≤◌, ◌<◌, Bool, true, false, cond, List, length, take, arith, sym, refl, ap, ◌∙◌, ◌⊎◌, inl, inr}
+use Rattle.std.proofs.Common.{◌≡◌, ℕ, ◌-◌, ◌≤◌, ◌<◌, Bool, true, false, cond, List, length, take, arith, sym, refl, ap}
+use Rattle.std.proofs.Common.{◌∙◌, ◌⊎◌, inl, inr}
 use Rattle.std.proofs.lemmas.List.{length-take, take_all}
 use Rattle.std.proofs.lemmas.Bool.{lt-ltb}
 use Rattle.seg_types.specs.Commands.{LineTooLong}
@@ -15,7 +16,8 @@ too_long : (l : Language) (line : List ℕ) → 4098 ≤ length line → reading
 unfolding reading
 too_long l line h = rw (lt-ltb 4096 (length (without_return line)) (one_less _ line h)) refl
 
-long_or_whole : (l : Language) (line : List ℕ) → (length line ≤ 4098) ⊎ (4098 < length line) → reading l (take 4098 line) ≡ reading l line
+long_or_whole : (l : Language) (line : List ℕ) → (length line ≤ 4098) ⊎ (4098 < length line)
+    → reading l (take 4098 line) ≡ reading l line
 long_or_whole l line (inl h) = ap (reading l) (take_all 4098 line h)
 long_or_whole l line (inr h) =
     let n : 4098 ≤ length (take 4098 line) = omega (arith, length-take 4098 line) in

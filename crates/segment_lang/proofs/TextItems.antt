@@ -1,19 +1,24 @@
 -- A text item by item.
-use Rattle.std.proofs.Common.{◌≡◌, ℕ, Bool, true, false, cond, List, [], ◌∷◌, Option, Some, None, ap, subst, sym, refl, ◌∙◌, arith, ◌==◌, ◌||◌, length, ◌≤◌, ◌+◌, ◌++◌, append_assoc, append-nil, length-append, drop, get_or, not}
+use Rattle.std.proofs.Common.{◌≡◌, ℕ, Bool, true, false, cond, List, [], ◌∷◌, Option, Some, None, ap, subst, sym, refl}
+use Rattle.std.proofs.Common.{◌∙◌, arith, ◌==◌, ◌||◌, length, ◌≤◌, ◌+◌, ◌++◌, append_assoc, append-nil, length-append}
+use Rattle.std.proofs.Common.{drop, get_or, not}
 use Rattle.std.specs.List.{take_while}
 use Rattle.std.specs.Option.{option_map, option_and_then, unwrap_or, IsSome}
 use Rattle.std.proofs.lemmas.Bool.Decides.{nat_tests}
 use Rattle.std.proofs.lemmas.List.Sums.{take_while-cons}
 use Rattle.std.proofs.lemmas.Option.{some_pair_parts}
 use Rattle.segment_lang.specs.Words.{is_plain, byte_of_digits}
-use Rattle.segment_lang.specs.Tokens.{text_at, escaped_at, high_digit_at, item_at, escape_at, digits_at, longer, closed_at, quote_at, behind_quote, ends_word, behind_text, is_unescaped, text_in}
+use Rattle.segment_lang.specs.Tokens.{text_at, escaped_at, high_digit_at, item_at, escape_at, digits_at, longer}
+use Rattle.segment_lang.specs.Tokens.{closed_at, quote_at, behind_quote, ends_word, behind_text, is_unescaped, text_in}
 
 -- ---- an item in front
 
-same_longer : (c b : ℕ) (cs r : List ℕ) → ◌≡◌ {A = Option (ℕ × List ℕ)} (Some (c, cs)) (Some (b, r)) → longer c (text_at cs) ≡ longer b (text_at r)
+same_longer : (c b : ℕ) (cs r : List ℕ) → ◌≡◌ {A = Option (ℕ × List ℕ)} (Some (c, cs)) (Some (b, r))
+    → longer c (text_at cs) ≡ longer b (text_at r)
 same_longer c b cs r h = let e : (c ≡ b) × (cs ≡ r) = some_pair_parts c b cs r h in cc (e.0, e.1)
 
-digits_some : (o : Option ℕ) (b : ℕ) (cs r : List ℕ) → option_map {U = ℕ × List ℕ} (λ c. (c, cs)) o ≡ Some (b, r) → option_and_then (λ c. longer c (text_at cs)) o ≡ longer b (text_at r)
+digits_some : (o : Option ℕ) (b : ℕ) (cs r : List ℕ) → option_map {U = ℕ × List ℕ} (λ c. (c, cs)) o ≡ Some (b, r)
+    → option_and_then (λ c. longer c (text_at cs)) o ≡ longer b (text_at r)
 digits_some None b cs r h = cc
 digits_some (Some x) b cs r h = same_longer x b cs r h
 
@@ -23,7 +28,10 @@ high_digit_some [] r b h = cc
 high_digit_some (c ∷ []) r b h = cc
 high_digit_some (c ∷ l ∷ cs) r b h = digits_some (byte_of_digits c l) b cs r h
 
-escape_choice : (q x : Bool) (c b : ℕ) (cs r : List ℕ) → (digits_at cs ≡ Some (b, r) → high_digit_at cs ≡ longer b (text_at r)) → cond q (Some (c, cs)) (cond x (digits_at cs) None) ≡ Some (b, r) → cond q (longer c (text_at cs)) (cond x (high_digit_at cs) None) ≡ longer b (text_at r)
+escape_choice : (q x : Bool) (c b : ℕ) (cs r : List ℕ)
+    → (digits_at cs ≡ Some (b, r) → high_digit_at cs ≡ longer b (text_at r))
+    → cond q (Some (c, cs)) (cond x (digits_at cs) None) ≡ Some (b, r)
+    → cond q (longer c (text_at cs)) (cond x (high_digit_at cs) None) ≡ longer b (text_at r)
 escape_choice true x c b cs r f h = same_longer c b cs r h
 escape_choice false true c b cs r f h = f h
 escape_choice false false c b cs r f h = cc
@@ -33,7 +41,10 @@ unfolding escape_at text_at
 escape_some [] r b h = cc
 escape_some (c ∷ cs) r b h = escape_choice ((c == 0x22) || (c == 0x5C)) (c == 0x78) c b cs r (high_digit_some cs r b) h
 
-item_choice : (q e p : Bool) (c b : ℕ) (cs r : List ℕ) → (q ≡ true → (e ≡ false) × (p ≡ false)) → (escape_at cs ≡ Some (b, r) → escaped_at cs ≡ longer b (text_at r)) → cond e (escape_at cs) (cond p (Some (c, cs)) None) ≡ Some (b, r) → cond q (closed_at cs) (cond e (escaped_at cs) (cond p (longer c (text_at cs)) None)) ≡ longer b (text_at r)
+item_choice : (q e p : Bool) (c b : ℕ) (cs r : List ℕ) → (q ≡ true → (e ≡ false) × (p ≡ false))
+    → (escape_at cs ≡ Some (b, r) → escaped_at cs ≡ longer b (text_at r))
+    → cond e (escape_at cs) (cond p (Some (c, cs)) None) ≡ Some (b, r)
+    → cond q (closed_at cs) (cond e (escaped_at cs) (cond p (longer c (text_at cs)) None)) ≡ longer b (text_at r)
 item_choice true true p c b cs r k f h = cc (k refl).0
 item_choice true false true c b cs r k f h = cc (k refl).1
 item_choice true false false c b cs r k f h = cc
@@ -48,7 +59,8 @@ quote_is_none c h = grind (arith, nat_tests)
 pub text_at-item : (bytes r : List ℕ) (b : ℕ) → item_at bytes ≡ Some (b, r) → text_at bytes ≡ longer b (text_at r)
 unfolding item_at text_at
 text_at-item [] r b h = cc
-text_at-item (c ∷ cs) r b h = item_choice (c == 0x22) (c == 0x5C) (is_plain c) c b cs r (quote_is_none c) (escape_some cs r b) h
+text_at-item (c ∷ cs) r b h = item_choice (c == 0x22) (c == 0x5C) (is_plain c) c b cs r (quote_is_none c)
+    (escape_some cs r b) h
 
 behind_longer : (b : ℕ) (t : Option (List ℕ × List ℕ)) → option_map (λ x. x.1) (longer b t) ≡ option_map (λ x. x.1) t
 behind_longer b None = refl
@@ -59,7 +71,8 @@ behind_text-item bytes r b h = sym (ap (option_map (λ x. x.1)) (text_at-item by
 
 -- ---- no item in front
 
-digits_none : (o : Option ℕ) (cs : List ℕ) → option_map {U = ℕ × List ℕ} (λ c. (c, cs)) o ≡ None → option_and_then (λ c. longer c (text_at cs)) o ≡ None
+digits_none : (o : Option ℕ) (cs : List ℕ) → option_map {U = ℕ × List ℕ} (λ c. (c, cs)) o ≡ None
+    → option_and_then (λ c. longer c (text_at cs)) o ≡ None
 digits_none None cs h = refl
 digits_none (Some x) cs h = cc
 
@@ -69,7 +82,9 @@ high_digit_none [] h = refl
 high_digit_none (c ∷ []) h = refl
 high_digit_none (c ∷ l ∷ cs) h = digits_none (byte_of_digits c l) cs h
 
-escape_choice_none : (q x : Bool) (c : ℕ) (cs : List ℕ) → (digits_at cs ≡ None → high_digit_at cs ≡ None) → cond q (Some (c, cs)) (cond x (digits_at cs) None) ≡ None → cond q (longer c (text_at cs)) (cond x (high_digit_at cs) None) ≡ None
+escape_choice_none : (q x : Bool) (c : ℕ) (cs : List ℕ) → (digits_at cs ≡ None → high_digit_at cs ≡ None)
+    → cond q (Some (c, cs)) (cond x (digits_at cs) None) ≡ None
+    → cond q (longer c (text_at cs)) (cond x (high_digit_at cs) None) ≡ None
 escape_choice_none true x c cs f h = cc
 escape_choice_none false true c cs f h = f h
 escape_choice_none false false c cs f h = refl
@@ -79,7 +94,9 @@ unfolding escape_at text_at
 escape_none [] h = refl
 escape_none (c ∷ cs) h = escape_choice_none ((c == 0x22) || (c == 0x5C)) (c == 0x78) c cs (high_digit_none cs) h
 
-item_choice_none : (q e p : Bool) (c : ℕ) (cs : List ℕ) → (escape_at cs ≡ None → escaped_at cs ≡ None) → cond e (escape_at cs) (cond p (Some (c, cs)) None) ≡ None → cond q (closed_at cs) (cond e (escaped_at cs) (cond p (longer c (text_at cs)) None)) ≡ cond q (closed_at cs) None
+item_choice_none : (q e p : Bool) (c : ℕ) (cs : List ℕ) → (escape_at cs ≡ None → escaped_at cs ≡ None)
+    → cond e (escape_at cs) (cond p (Some (c, cs)) None) ≡ None
+    → cond q (closed_at cs) (cond e (escaped_at cs) (cond p (longer c (text_at cs)) None)) ≡ cond q (closed_at cs) None
 item_choice_none true e p c cs f h = refl
 item_choice_none false true p c cs f h = f h
 item_choice_none false false true c cs f h = cc
@@ -101,7 +118,8 @@ nothing_before cs = Some ([], cs)
 abbrev bytes_in : Option (List ℕ × List ℕ) → List ℕ
 bytes_in t = (unwrap_or t ([], [])).0
 
-quote_behind : (q e : Bool) (cs : List ℕ) → option_map (λ x. x.1) (cond q (cond e (nothing_before cs) None) None) ≡ cond q (cond e (Some cs) None) None
+quote_behind : (q e : Bool) (cs : List ℕ)
+    → option_map (λ x. x.1) (cond q (cond e (nothing_before cs) None) None) ≡ cond q (cond e (Some cs) None) None
 quote_behind true true cs = refl
 quote_behind true false cs = refl
 quote_behind false e cs = refl
@@ -120,18 +138,22 @@ no_text (Some x) h = cc
 pub text_at-none : (bytes : List ℕ) → behind_text bytes ≡ None → text_at bytes ≡ None
 text_at-none bytes h = no_text (text_at bytes) h
 
-a_text : (t : Option (List ℕ × List ℕ)) (r : List ℕ) → option_map (λ x. x.1) t ≡ Some r → (IsSome t) × (t ≡ Some (bytes_in t, r))
+a_text : (t : Option (List ℕ × List ℕ)) (r : List ℕ) → option_map (λ x. x.1) t ≡ Some r
+    → (IsSome t) × (t ≡ Some (bytes_in t, r))
 a_text None r h = cc
 a_text (Some (bs, rest)) r h = (refl, let e : rest ≡ r = cc in cc)
 
-pub text_at-some : (bytes r : List ℕ) → behind_text bytes ≡ Some r → (IsSome (text_at bytes)) × (text_at bytes ≡ Some (text_in bytes, r))
+pub text_at-some : (bytes r : List ℕ) → behind_text bytes ≡ Some r
+    → (IsSome (text_at bytes)) × (text_at bytes ≡ Some (text_in bytes, r))
 text_at-some bytes r h = a_text (text_at bytes) r h
 
-longer_in : (b : ℕ) (t : Option (List ℕ × List ℕ)) → IsSome (longer b t) → (IsSome t) × (bytes_in (longer b t) ≡ b ∷ bytes_in t)
+longer_in : (b : ℕ) (t : Option (List ℕ × List ℕ)) → IsSome (longer b t)
+    → (IsSome t) × (bytes_in (longer b t) ≡ b ∷ bytes_in t)
 longer_in b None h = cc
 longer_in b (Some (bs, rest)) h = (refl, refl)
 
-pub text_in-item : (bytes r : List ℕ) (b : ℕ) → item_at bytes ≡ Some (b, r) → IsSome (text_at bytes) → (IsSome (text_at r)) × (text_in bytes ≡ b ∷ text_in r)
+pub text_in-item : (bytes r : List ℕ) (b : ℕ) → item_at bytes ≡ Some (b, r) → IsSome (text_at bytes)
+    → (IsSome (text_at r)) × (text_in bytes ≡ b ∷ text_in r)
 text_in-item bytes r b h s =
     let e = text_at-item bytes r b h in
     let p = longer_in b (text_at r) (subst (λ t. IsSome t) e s) in
@@ -151,10 +173,13 @@ text_in-end bytes h = ap bytes_in (text_at-end bytes h) ∙ quote_at-empty bytes
 
 -- ---- a text that is copied byte by byte
 
-pub moved_byte : (b : ℕ) (done done' left left' : List ℕ) → done' ≡ done ++ b ∷ [] → left ≡ b ∷ left' → done' ++ left' ≡ done ++ left
-moved_byte b done done' left left' d l = ap (λ xs. xs ++ left') d ∙ append_assoc done (b ∷ []) left' ∙ ap (λ xs. done ++ xs) (sym l)
+pub moved_byte : (b : ℕ) (done done' left left' : List ℕ) → done' ≡ done ++ b ∷ [] → left ≡ b ∷ left' → done' ++ left'
+    ≡ done ++ left
+moved_byte b done done' left left' d l = ap (λ xs. xs ++ left') d ∙ append_assoc done (b ∷ []) left'
+    ∙ ap (λ xs. done ++ xs) (sym l)
 
-pub moved_room : (b : ℕ) (done done' left left' : List ℕ) → done' ≡ done ++ b ∷ [] → left ≡ b ∷ left' → length done + length left ≤ 4096 → length done' + length left' ≤ 4096
+pub moved_room : (b : ℕ) (done done' left left' : List ℕ) → done' ≡ done ++ b ∷ [] → left ≡ b ∷ left'
+    → length done + length left ≤ 4096 → length done' + length left' ≤ 4096
 moved_room b done done' left left' d l h = omega (arith, ap length d, ap length l, length-append done (b ∷ []))
 
 pub last_byte : (done left all : List ℕ) → left ≡ [] → done ++ left ≡ all → done ≡ all
@@ -162,13 +187,17 @@ last_byte done left all l h = sym (append-nil done) ∙ sym (ap (λ xs. done ++ 
 
 -- ---- a text with nothing escaped
 
-unescaped_byte : (q e p : Bool) (c : ℕ) (front cs : List ℕ) → (q || e) ≡ false → (IsSome (text_at cs) → bytes_in (text_at cs) ≡ front) → IsSome (cond q (closed_at cs) (cond e (escaped_at cs) (cond p (longer c (text_at cs)) None))) → bytes_in (cond q (closed_at cs) (cond e (escaped_at cs) (cond p (longer c (text_at cs)) None))) ≡ c ∷ front
+unescaped_byte : (q e p : Bool) (c : ℕ) (front cs : List ℕ) → (q || e) ≡ false
+    → (IsSome (text_at cs) → bytes_in (text_at cs) ≡ front)
+    → IsSome (cond q (closed_at cs) (cond e (escaped_at cs) (cond p (longer c (text_at cs)) None)))
+    → bytes_in (cond q (closed_at cs) (cond e (escaped_at cs) (cond p (longer c (text_at cs)) None))) ≡ c ∷ front
 unescaped_byte true e p c front cs u f s = cc
 unescaped_byte false true p c front cs u f s = cc
 unescaped_byte false false true c front cs u f s = let l = longer_in c (text_at cs) s in l.1 ∙ ap (λ bs. c ∷ bs) (f l.0)
 unescaped_byte false false false c front cs u f s = cc
 
-quote_closes : (q e : Bool) (cs : List ℕ) (other : Option (List ℕ × List ℕ)) → q ≡ true → bytes_in (cond q (cond e (nothing_before cs) None) other) ≡ []
+quote_closes : (q e : Bool) (cs : List ℕ) (other : Option (List ℕ × List ℕ)) → q ≡ true
+    → bytes_in (cond q (cond e (nothing_before cs) None) other) ≡ []
 quote_closes true true cs other h = refl
 quote_closes true false cs other h = refl
 quote_closes false e cs other h = cc
@@ -177,18 +206,25 @@ not-false : (b : Bool) → not b ≡ true → b ≡ false
 not-false true h = cc
 not-false false h = refl
 
-unescaped_step : (u : Bool) (c : ℕ) (cs rest : List ℕ) → is_unescaped c ≡ u → (drop (length (take_while is_unescaped cs)) cs ≡ 0x22 ∷ rest → IsSome (text_at cs) → text_in cs ≡ take_while is_unescaped cs) → drop (length (cond u (c ∷ take_while is_unescaped cs) [])) (c ∷ cs) ≡ 0x22 ∷ rest → IsSome (text_at (c ∷ cs)) → text_in (c ∷ cs) ≡ cond u (c ∷ take_while is_unescaped cs) []
+unescaped_step : (u : Bool) (c : ℕ) (cs rest : List ℕ) → is_unescaped c ≡ u
+    → (drop (length (take_while is_unescaped cs)) cs ≡ 0x22 ∷ rest → IsSome (text_at cs)
+    → text_in cs ≡ take_while is_unescaped cs) → drop (length (cond u (c ∷ take_while is_unescaped cs) [])) (c ∷ cs)
+    ≡ 0x22 ∷ rest → IsSome (text_at (c ∷ cs)) → text_in (c ∷ cs) ≡ cond u (c ∷ take_while is_unescaped cs) []
 unfolding text_at
-unescaped_step true c cs rest u f d s = unescaped_byte (c == 0x22) (c == 0x5C) (is_plain c) c (take_while is_unescaped cs) cs (not-false ((c == 0x22) || (c == 0x5C)) u) (f d) s
-unescaped_step false c cs rest u f d s = let q : c ≡ 0x22 = cc in quote_closes (c == 0x22) (ends_word cs) cs _ (grind (arith, nat_tests))
+unescaped_step true c cs rest u f d s = unescaped_byte (c == 0x22) (c == 0x5C) (is_plain c) c
+    (take_while is_unescaped cs) cs (not-false ((c == 0x22) || (c == 0x5C)) u) (f d) s
+unescaped_step false c cs rest u f d s = let q : c ≡ 0x22 = cc in
+    quote_closes (c == 0x22) (ends_word cs) cs _ (grind (arith, nat_tests))
 
 pub quote_in_front : (bytes : List ℕ) → 1 ≤ length bytes → get_or bytes 0 0 ≡ 0x22 → bytes ≡ 0x22 ∷ drop 1 bytes
 quote_in_front [] some h = absurd (omega arith)
 quote_in_front (c ∷ cs) some h = ap (λ c. c ∷ cs) h
 
 -- where nothing is escaped up to the quote that ends a text, the text stands for the very bytes in front of the quote
-pub unescaped_text : (bytes rest : List ℕ) → drop (length (take_while is_unescaped bytes)) bytes ≡ 0x22 ∷ rest → IsSome (text_at bytes) → text_in bytes ≡ take_while is_unescaped bytes
+pub unescaped_text : (bytes rest : List ℕ) → drop (length (take_while is_unescaped bytes)) bytes ≡ 0x22 ∷ rest
+    → IsSome (text_at bytes) → text_in bytes ≡ take_while is_unescaped bytes
 unescaped_text [] rest d s = cc
 unescaped_text (c ∷ cs) rest d s =
     let front = take_while-cons is_unescaped c cs in
-    unescaped_step (is_unescaped c) c cs rest refl (unescaped_text cs rest) (subst (λ front. drop (length front) (c ∷ cs) ≡ 0x22 ∷ rest) front d) s ∙ sym front
+    unescaped_step (is_unescaped c) c cs rest refl (unescaped_text cs rest)
+    (subst (λ front. drop (length front) (c ∷ cs) ≡ 0x22 ∷ rest) front d) s ∙ sym front

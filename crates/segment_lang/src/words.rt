@@ -307,7 +307,6 @@ pub fn only_word(bytes: &[u8]) -> Option<Word<'_>>
 }
 
 /// The only two words of the bytes.
-#[tactic(auto, unfolding(crate::specs::Tokens::two_words))]
 pub fn two_words(bytes: &[u8]) -> Option<(Word<'_>, Word<'_>)>
     ensures { option_map (λ x. (word_of x.0, word_of x.1)) result ≡ two_words bytes.now }
 {
@@ -317,7 +316,6 @@ pub fn two_words(bytes: &[u8]) -> Option<(Word<'_>, Word<'_>)>
 }
 
 /// The only three words of the bytes.
-#[tactic(auto, unfolding(crate::specs::Tokens::three_words))]
 pub fn three_words(bytes: &[u8]) -> Option<(Word<'_>, Word<'_>, Word<'_>)>
     ensures { option_map (λ x. (word_of x.0, word_of x.1, word_of x.2)) result ≡ three_words bytes.now }
 {
@@ -327,7 +325,6 @@ pub fn three_words(bytes: &[u8]) -> Option<(Word<'_>, Word<'_>, Word<'_>)>
 }
 
 /// The next two words, and what is behind them.
-#[tactic(auto, unfolding(crate::specs::Tokens::next_two))]
 pub fn next_two(bytes: &[u8]) -> Option<(Word<'_>, Word<'_>, &[u8])>
     ensures { option_map (λ x. (word_of x.0, word_of x.1, x.2.now)) result ≡ next_two bytes.now }
 {

@@ -6,7 +6,8 @@ use Rattle.segment_lang.proofs.forms.find_row.Given as goal
 
 abbrev pub invariant-rows : goal.invariant-rows
 invariant-rows l = record {
-  same : found_in (map (λ row. (row.0.now, row.1)) l.rest) (up_to_blank l.line) ≡ found_in (map (λ row. (row.0.now, row.1)) l.rows) (up_to_blank l.line);
+  same : found_in (map (λ row. (row.0.now, row.1)) l.rest) (up_to_blank l.line)
+      ≡ found_in (map (λ row. (row.0.now, row.1)) l.rows) (up_to_blank l.line);
   unbroken : list_all (λ row. is_unbroken row.0.now) l.rest ≡ true;
 }
 

@@ -8,5 +8,7 @@ use Rattle.segment_lang.proofs.kinds.find_kind.Goals as goal
 
 pub returns : goal.returns
 returns c =
-    let found = find_from_yields_List (λ (row : LentRow Kind). is c.args.word.now row.0.now) _ _ c.find.result c.find.ensures.ran (YieldsList-from_slice c.args.rows.now c.iter.ensures.rest) (λ x b q k. search (rules, tests)) in
+    let found = find_from_yields_List (λ (row : LentRow Kind). is c.args.word.now row.0.now) _ _ c.find.result
+    c.find.ensures.ran (YieldsList-from_slice c.args.rows.now c.iter.ensures.rest)
+    (λ x b q k. search (rules, tests)) in
     found_row c.args.rows.now c.args.word.now c.find.result c.map.result found (search rules)

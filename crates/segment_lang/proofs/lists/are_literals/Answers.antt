@@ -1,15 +1,22 @@
 use Rattle.std.proofs.Common.{sym, ◌∙◌, ap, not}
-use Rattle.segment_lang.proofs.EachWord.{literals_more, literals_none, literals_some}
+use Rattle.segment_lang.specs.Arguments.{literals_at}
+use Rattle.segment_lang.specs.Words.{literal_of_word}
+use Rattle.segment_lang.proofs.EachWord.{literal_is, words_end, words_more, words_none}
 use Rattle.segment_lang.proofs.lists.are_literals.Goals as goal
 
 pub returns-then-is_none : goal.returns-then-is_none
+unfolding literals_at
 returns-then-is_none c =
-    sym (literals_none _ _ _ _ (sym c.in-Some.ensures.value) c.literal_of.ensures (c.is_none.ensures ∙ ap not c.if-is_none.true)) ∙ c.literals.invariant.same
+    let some = literal_is _ _ c.literal_of.ensures ∙ c.is_none.ensures ∙ ap not c.if-is_none.true in
+    sym (words_none literal_of_word _ _ _ (sym c.in-Some.ensures.value) some) ∙ c.literals.invariant.same
 
 pub literals-preserved : goal.literals-preserved
-literals-preserved c = record {
-  same = literals_more _ _ _ _ (sym c.in-Some.ensures.value) c.literal_of.ensures (c.is_none.ensures ∙ ap not c.if-is_none.false) ∙ c.literals.invariant.same;
-}
+unfolding literals_at
+literals-preserved c =
+    let some = literal_is _ _ c.literal_of.ensures ∙ c.is_none.ensures ∙ ap not c.if-is_none.false in
+    record { same = words_more literal_of_word _ _ _ (sym c.in-Some.ensures.value) some ∙ c.literals.invariant.same }
 
 pub returns : goal.returns
-returns c = c.at_end.ensures ∙ sym (literals_some _ (sym c.in_default.ensures.value)) ∙ c.literals.invariant.same
+unfolding literals_at
+returns c =
+    c.at_end.ensures ∙ sym (words_end literal_of_word _ (sym c.in_default.ensures.value)) ∙ c.literals.invariant.same

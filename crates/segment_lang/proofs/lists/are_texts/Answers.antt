@@ -1,15 +1,23 @@
 use Rattle.std.proofs.Common.{sym, ◌∙◌, ap, not}
-use Rattle.segment_lang.proofs.EachWord.{texts_more, texts_none, texts_some}
+use Rattle.std.specs.Option.{is_some}
+use Rattle.segment_lang.specs.Arguments.{texts_at}
+use Rattle.segment_lang.specs.Reading.{quoted_of}
+use Rattle.segment_lang.proofs.EachWord.{words_end, words_more, words_none}
 use Rattle.segment_lang.proofs.lists.are_texts.Goals as goal
 
 pub returns-then-is_none : goal.returns-then-is_none
+unfolding texts_at
 returns-then-is_none c =
-    sym (texts_none _ _ _ _ (sym c.in-Some.ensures.value) c.quoted_of.ensures (c.is_none.ensures ∙ ap not c.if-is_none.true)) ∙ c.texts.invariant.same
+    let some = sym (ap is_some c.quoted_of.ensures) ∙ c.is_none.ensures ∙ ap not c.if-is_none.true in
+    sym (words_none quoted_of _ _ _ (sym c.in-Some.ensures.value) some) ∙ c.texts.invariant.same
 
 pub texts-preserved : goal.texts-preserved
-texts-preserved c = record {
-  same = texts_more _ _ _ _ (sym c.in-Some.ensures.value) c.quoted_of.ensures (c.is_none.ensures ∙ ap not c.if-is_none.false) ∙ c.texts.invariant.same;
-}
+unfolding texts_at
+texts-preserved c =
+    let some = sym (ap is_some c.quoted_of.ensures) ∙ c.is_none.ensures ∙ ap not c.if-is_none.false in
+    record { same = words_more quoted_of _ _ _ (sym c.in-Some.ensures.value) some ∙ c.texts.invariant.same }
 
 pub returns : goal.returns
-returns c = c.at_end.ensures ∙ sym (texts_some _ (sym c.in_default.ensures.value)) ∙ c.texts.invariant.same
+unfolding texts_at
+returns c =
+    c.at_end.ensures ∙ sym (words_end quoted_of _ (sym c.in_default.ensures.value)) ∙ c.texts.invariant.same

@@ -5,7 +5,8 @@ use Rattle.segment_lang.proofs.values.count_values.Given as goal
 
 abbrev pub invariant-values : goal.invariant-values
 invariant-values l = record {
-  counted : option_map (λ zs. l.count + length zs) (numbers_at l.kind l.rest) ≡ option_map length (numbers_at l.kind l.bytes);
+  counted : option_map (λ zs. l.count + length zs) (numbers_at l.kind l.rest)
+      ≡ option_map length (numbers_at l.kind l.bytes);
   room : l.count + length l.rest ≤ length l.bytes;
 }
 

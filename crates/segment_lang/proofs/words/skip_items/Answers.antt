@@ -3,5 +3,8 @@ use Rattle.segment_lang.proofs.TextItems.{behind_text-item}
 use Rattle.segment_lang.proofs.words.skip_items.Goals as goal
 
 pub items-preserved : goal.items-preserved
-items-preserved c =
-    (behind_text-item _ _ _ (sym c.in-Some.ensures.value) ∙ c.items.invariant.0, omega (arith, c.in-Some.ensures.shorter))
+items-preserved c = (
+  behind_text-item _ _ _ (sym c.in-Some.ensures.value)
+      ∙ c.items.invariant.0,
+  omega (arith, c.in-Some.ensures.shorter),
+)

@@ -4,7 +4,8 @@ use Rattle.segment_lang.specs.Tokens.{is_unescaped}
 use Rattle.segment_lang.proofs.words.split_unescaped.Given as goal
 
 abbrev pub invariant-front : goal.invariant-front
-invariant-front l = (prefix_len is_unescaped l.rest + length l.bytes ≡ prefix_len is_unescaped l.bytes + length l.rest) × (length l.rest ≤ length l.bytes)
+invariant-front l = (prefix_len is_unescaped l.rest + length l.bytes ≡ prefix_len is_unescaped l.bytes + length l.rest)
+    × (length l.rest ≤ length l.bytes)
 
 abbrev pub decreases-front : goal.decreases-front
 decreases-front l = length l.rest

@@ -167,9 +167,6 @@ place_found m key hs block count (Absent j) a long p =
           k h (let w = slice_get_within hs k h e in omega arith) (links_at m block hs k h a e),
     )
 
-pub place_none : (m : Memory) (key : Key) (hs : List ℕ) → length hs ≡ 0 → IsPlace m key hs (Absent 0)
-place_none m key hs z = (omega arith, λ rises k h e. let w = slice_get_within hs k h e in absurd (omega arith))
-
 -- the comparisons over the links of the block are those over the handles
 pub comparisons_found : (m : Memory) (key : Key) (hs : List ℕ) (block count : ℕ) → AreLinks m block hs
     → count ≡ length hs → comparisons_in m key block count ≡ comparisons m key hs

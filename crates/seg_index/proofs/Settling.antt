@@ -105,6 +105,13 @@ settled {a} {d} {at} {block} {count} {capacity} hs h w heap f within some links 
     } in
     subst (λ (o : Option Extent). IsIndexOf d at (record { capacity = capacity; extent = o }) hs) (sym f.found) index
 
+-- as many places as were meant, in a block that was in use before
+pub index_in : (b d e : Cut) (h : ℕ) {at k places : ℕ} {hs : List ℕ} → live_of d.bytes ≡ live_of b.bytes → k ≡ places
+    → IsIndexIn d e at h k hs → IsIndexIn b e at h places hs
+index_in b d e h {at} {places = places} {hs} same is i =
+    subst (λ (l : LiveSet). IsIndexOf e at (record { capacity = places; extent = extent_at l h }) hs) same
+    (subst (λ n. IsIndexIn d e at h n hs) is i)
+
 -- what is known of the block that they led to before
 pub gone : (c : Cut) {link : Option ℕ} {block : ℕ} (old : ℕ) → link ≡ Some old
     → IfSome link (λ h. IsTrue (is_live_in (live_of c.bytes) h) × (h ≡ block → ⊥))

@@ -4,14 +4,13 @@ use Rattle.std.specs.Prelude.{insert}
 use Rattle.std.proofs.lemmas.List.Edits.{length-insert}
 use Rattle.raw_region.specs.Format.{current}
 use Rattle.best_fit.specs.Extents.{LiveSet}
-use Rattle.best_fit.specs.Heap.{LaysOut, extent_at, heap_touches, live_of}
+use Rattle.best_fit.specs.Heap.{LaysOut, heap_touches}
 use Rattle.seg_index.specs.Growth.{IsBlockFor, without_link}
-use Rattle.seg_index.specs.Held.{IsIndexOf, capacity_at, place_of}
 use Rattle.seg_index.specs.Index.{grown_capacity}
 use Rattle.seg_index.proofs.Changing.{same_live}
 use Rattle.seg_index.proofs.Entries.{capacity_small, in_header}
 use Rattle.seg_index.proofs.Links.{insert_all, links_lead}
-use Rattle.seg_index.proofs.Settling.{filled, offer, source, target, written, written_both, written_keeps}
+use Rattle.seg_index.proofs.Settling.{filled, index_in, offer, source, target, written, written_both, written_keeps}
 use Rattle.seg_index.proofs.index.Index.insert_into.Goals as goal
 
 pub shift_non_null_links-requires : goal.shift_non_null_links-requires
@@ -66,8 +65,7 @@ settle-requires c =
 
 pub returns : goal.returns
 returns c =
-    let q = c.requires.index in let at = place_of c.args.self in
-    let E = c.settle.new.heap in let place = c.args.place in
+    let q = c.requires.index in let E = c.settle.new.heap in let place = c.args.place in
     let cap = c.grown-capacity.ensures ∙ ap grown_capacity c.capacity.ensures.word in
     let o = offer (in_header c.args.self) c.place.ensures c.header_link.ensures c.unwrap_or-from.ensures
     c.requires.block c.requires.apart q.index in
@@ -79,21 +77,12 @@ returns c =
           c.requires.block c.requires.apart i in
           let behind = written before c.shift_non_null_links.ensures.change (omega arith) in
           let long = c.len-count.ensures.len t hs i in let more = length-insert hs place c.args.handle (omega arith) in
-          let links = filled c.unwrap_or-from.result c.args.block hs (source before).links
-          (source behind).links
+          let links = filled c.unwrap_or-from.result c.args.block hs (source before).links (source behind).links
           long (omega arith) c.shift_non_null_links.ensures.lead c.spread.ensures.change c.spread.ensures.here
           c.spread.ensures.tail in
           let whole = insert_all (λ k. k % 16 ≡ 0) hs place c.args.handle (omega arith) i.whole c.requires.handle in
-          subst (λ (l : LiveSet). IsIndexOf E at (record {
-            capacity = grown_capacity (capacity_at c.args.heap.now at);
-            extent = extent_at l c.args.block;
-          }) (insert hs place c.args.handle)) live
-          (subst (λ k. IsIndexOf E at (record {
-            capacity = k;
-            extent = extent_at (live_of c.spread.new.heap.bytes)
-                c.args.block;
-          }) (insert hs place c.args.handle)) cap
-          (c.settle.ensures.index (insert hs place c.args.handle) links (omega arith) whole));
+          index_in c.args.heap.now c.spread.new.heap E c.args.block live cap
+          (c.settle.ensures.index (insert hs place c.args.handle) links (omega arith) whole);
       live = subst (λ (l : LiveSet). LaysOut current E.bytes l) (ap₂ without_link live (p.leads ∙ sym o.leads))
           c.settle.ensures.live;
       keeps = written_keeps o all (omega arith) c.settle.ensures.keeps;

@@ -213,46 +213,32 @@ is_no_vector (Bytes bs t) = true
 is_no_vector (Pairs k v ps) = true
 is_no_vector (Texts ps t) = false
 
-push-value : (d : Directory) (o : Object) (v : Value) (l : Literal) → is_no_vector v ≡ true → step.push d o v l ≡ Refuse WrongKind
-push-value d o (Numbers k zs) l h = refl
-push-value d o (Elements k zs t) l h = absurd (cc)
-push-value d o (Bytes bs t) l h = refl
-push-value d o (Pairs k v ps) l h = refl
-push-value d o (Texts ps t) l h = absurd (cc)
+-- no call on vectors changes it
+record HasNoPlan (d : Directory) (o : Object) (v : Value) : Type 0 where
+  pub push : (l : Literal) → step.push d o v l ≡ Refuse WrongKind
+  pub pop : step.pop d o v ≡ Refuse WrongKind
+  pub insert_at : (i : ℕ) (l : Literal) → step.insert_at d o v i l ≡ Refuse WrongKind
+  pub erase : (i : ℕ) → step.erase d o v i ≡ Refuse WrongKind
 
-pop-value : (d : Directory) (o : Object) (v : Value) → is_no_vector v ≡ true → step.pop d o v ≡ Refuse WrongKind
-pop-value d o (Numbers k zs) h = refl
-pop-value d o (Elements k zs t) h = absurd (cc)
-pop-value d o (Bytes bs t) h = refl
-pop-value d o (Pairs k v ps) h = refl
-pop-value d o (Texts ps t) h = absurd (cc)
-
-insert-value : (d : Directory) (o : Object) (v : Value) (i : ℕ) (l : Literal) → is_no_vector v ≡ true → step.insert_at d o v i l ≡ Refuse WrongKind
-insert-value d o (Numbers k zs) i l h = refl
-insert-value d o (Elements k zs t) i l h = absurd (cc)
-insert-value d o (Bytes bs t) i l h = refl
-insert-value d o (Pairs k v ps) i l h = refl
-insert-value d o (Texts ps t) i l h = absurd (cc)
-
-erase-value : (d : Directory) (o : Object) (v : Value) (i : ℕ) → is_no_vector v ≡ true → step.erase d o v i ≡ Refuse WrongKind
-erase-value d o (Numbers k zs) i h = refl
-erase-value d o (Elements k zs t) i h = absurd (cc)
-erase-value d o (Bytes bs t) i h = refl
-erase-value d o (Pairs k v ps) i h = refl
-erase-value d o (Texts ps t) i h = absurd (cc)
+no-plan : (d : Directory) (o : Object) (v : Value) → is_no_vector v ≡ true → HasNoPlan d o v
+no-plan d o (Numbers k zs) h = record { push = λ l. refl; pop = refl; insert_at = λ i l. refl; erase = λ i. refl }
+no-plan d o (Elements k zs t) h = absurd (cc)
+no-plan d o (Bytes bs t) h = record { push = λ l. refl; pop = refl; insert_at = λ i l. refl; erase = λ i. refl }
+no-plan d o (Pairs k v ps) h = record { push = λ l. refl; pop = refl; insert_at = λ i l. refl; erase = λ i. refl }
+no-plan d o (Texts ps t) h = absurd (cc)
 
 module _ (d : Directory) (key : Key) (o : Object) (e : object_at d key ≡ Some o) (h : is_no_vector o.value ≡ true) where
   pub push-other : (l : Literal) → effect d (asked.Push key l) ≡ Refuse WrongKind
-  push-other l = with-found d key o (λ o. step.push d o o.value l) e ∙ push-value d o o.value l h
+  push-other l = with-found d key o (λ o. step.push d o o.value l) e ∙ (no-plan d o o.value h).push l
 
   pub pop-other : effect d (asked.Pop key) ≡ Refuse WrongKind
-  pop-other = with-found d key o (λ o. step.pop d o o.value) e ∙ pop-value d o o.value h
+  pop-other = with-found d key o (λ o. step.pop d o o.value) e ∙ (no-plan d o o.value h).pop
 
   pub insert-other : (i : ℕ) (l : Literal) → effect d (asked.Insert key i l) ≡ Refuse WrongKind
-  insert-other i l = with-found d key o (λ o. step.insert_at d o o.value i l) e ∙ insert-value d o o.value i l h
+  insert-other i l = with-found d key o (λ o. step.insert_at d o o.value i l) e ∙ (no-plan d o o.value h).insert_at i l
 
   pub erase-other : (i : ℕ) → effect d (asked.Erase key i) ≡ Refuse WrongKind
-  erase-other i = with-found d key o (λ o. step.erase d o o.value i) e ∙ erase-value d o o.value i h
+  erase-other i = with-found d key o (λ o. step.erase d o o.value i) e ∙ (no-plan d o o.value h).erase i
 
 -- it is no text
 pub append-other : (d : Directory) (key : Key) (o : Object) (more : List ℕ) (r : Refusal) → object_at d key ≡ Some o → text_of o.value ≡ Err r → effect d (asked.Append key more) ≡ Refuse r

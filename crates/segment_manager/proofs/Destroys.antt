@@ -35,7 +35,7 @@ use Rattle.segment_manager.specs.State.{Answers, IsSegment, IsStep, StandsFor, S
 use Rattle.segment_manager.specs.Step.{changed, effect, is_read_only, step}
 use Rattle.segment_manager.proofs.Bridge.{IsEntryFor, entry-removed, in-handles, lookup-absent, lookup-found}
 use Rattle.segment_manager.proofs.Calling.{denotes-live, denotes-released, object-live}
-use Rattle.segment_manager.proofs.Emptied.{changed-entries, changed-in, changed-others, emptied-alone, emptied-kind}
+use Rattle.segment_manager.proofs.Emptied.{changed-entries, changed-in, changed-others, emptied-is}
 use Rattle.segment_manager.proofs.EntryPlaces.{all-at, at-handle, of-class}
 use Rattle.segment_manager.proofs.Here.{IsHere}
 use Rattle.segment_manager.proofs.HeldIndexes.{denotes-index}
@@ -124,7 +124,7 @@ module _ (a b : Cut) (h : ℕ) (empties : Empties a b h) (d : Directory) (o : Ob
   -- an index has the entries that it had
   emptied-index : (i : Index) → IsIndexOf b (place_of i) (table_of i emptied_directory) (entries_of i d)
   emptied-index i =
-      subst (IsIndexOf b (place_of i) (table_of i emptied_directory)) (changed-entries d o is-in i (emptied o.value) (emptied-kind o.value)) (denotes-index i b emptied_directory emptied-denotes)
+      subst (IsIndexOf b (place_of i) (table_of i emptied_directory)) (changed-entries d o is-in i (emptied o.value) (emptied-is o.value).kind) (denotes-index i b emptied_directory emptied-denotes)
 
   -- where its own block was released and nothing else, and it has no key
   anonymous-gone : (c : Cut) → o.class ≡ class.Anonymous → IsReleased current b c h → Becomes a c (without_object d o)
@@ -133,7 +133,7 @@ module _ (a b : Cut) (h : ℕ) (empties : Empties a b h) (d : Directory) (o : Ob
       record {
         place = SamePlace-trans a b c (empties d o k e).place r.keeps.place;
         denotes = subst (Denotes current c.bytes) (changed-others d o is-in (emptied o.value))
-            (denotes-released current b c emptied_directory emptied_object emptied-denotes emptied-in (record { class = is; alone = emptied-alone o.value })
+            (denotes-released current b c emptied_directory emptied_object emptied-denotes emptied-in (record { class = is; alone = (emptied-is o.value).alone })
             (subst (IsReleased current b c) at r));
       }
 
@@ -157,7 +157,7 @@ module _ (a b : Cut) (h : ℕ) (empties : Empties a b h) (d : Directory) (o : Ob
         place = SamePlace-trans a b f (empties d o k e).place (SamePlace-trans b c f (u.keeps t (entries_of i d) before).place r.keeps.place);
         denotes = subst (Denotes current f.bytes) rest
             (removed-denotes i b c f emptied_directory emptied_object emptied-denotes emptied-in (entry-class i d at o there) left
-            (subst (IsGone c f) (ap (λ xs. o.extent ∷ xs) (sym (emptied-alone o.value))) none));
+            (subst (IsGone c f) (ap (λ xs. o.extent ∷ xs) (sym (emptied-is o.value).alone)) none));
       }
 
 -- the same of the object that an entry leads to

@@ -18,41 +18,20 @@ use Rattle.segment_manager.proofs.Rewritten.{with_value}
 
 -- ---- the value
 
-pub emptied-kind : (v : Value) → kind_of (emptied v) ≡ kind_of v
-emptied-kind (Numbers k zs) = refl
-emptied-kind (Elements k zs t) = refl
-emptied-kind (Bytes bs t) = refl
-emptied-kind (Pairs k v ps) = refl
-emptied-kind (Texts ps t) = refl
+-- it has the kind, the count and the length in its own block, and no block
+pub record IsEmptied (v : Value) : Type 0 where
+  pub kind : kind_of (emptied v) ≡ kind_of v
+  pub count : count_of (emptied v) ≡ count_of v
+  pub len : value_len (emptied v) ≡ value_len v
+  pub good : IsTrue (is_good_value v) → IsTrue (is_good_value (emptied v))
+  pub alone : value_extents (emptied v) ≡ []
 
-pub emptied-count : (v : Value) → count_of (emptied v) ≡ count_of v
-emptied-count (Numbers k zs) = refl
-emptied-count (Elements k zs t) = refl
-emptied-count (Bytes bs t) = refl
-emptied-count (Pairs k v ps) = refl
-emptied-count (Texts ps t) = refl
-
-pub emptied-len : (v : Value) → value_len (emptied v) ≡ value_len v
-emptied-len (Numbers k zs) = refl
-emptied-len (Elements k zs t) = refl
-emptied-len (Bytes bs t) = refl
-emptied-len (Pairs k v ps) = refl
-emptied-len (Texts ps t) = refl
-
-pub emptied-good : (v : Value) → IsTrue (is_good_value v) → IsTrue (is_good_value (emptied v))
-emptied-good (Numbers k zs) h = h
-emptied-good (Elements k zs t) h = refl
-emptied-good (Bytes bs t) h = refl
-emptied-good (Pairs k v ps) h = refl
-emptied-good (Texts ps t) h = refl
-
--- it has no block
-pub emptied-alone : (v : Value) → value_extents (emptied v) ≡ []
-emptied-alone (Numbers k zs) = refl
-emptied-alone (Elements k zs t) = refl
-emptied-alone (Bytes bs t) = refl
-emptied-alone (Pairs k v ps) = refl
-emptied-alone (Texts ps t) = refl
+pub emptied-is : (v : Value) → IsEmptied v
+emptied-is (Numbers k zs) = record { kind = refl; count = refl; len = refl; good = λ h. h; alone = refl }
+emptied-is (Elements k zs t) = record { kind = refl; count = refl; len = refl; good = λ h. refl; alone = refl }
+emptied-is (Bytes bs t) = record { kind = refl; count = refl; len = refl; good = λ h. refl; alone = refl }
+emptied-is (Pairs k v ps) = record { kind = refl; count = refl; len = refl; good = λ h. refl; alone = refl }
+emptied-is (Texts ps t) = record { kind = refl; count = refl; len = refl; good = λ h. refl; alone = refl }
 
 -- numbers have none before
 pub emptied-numbers : (k : ScalarKind) (v : Value) → kind_of v ≡ Scalar k → emptied v ≡ v

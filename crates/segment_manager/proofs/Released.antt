@@ -33,7 +33,7 @@ use Rattle.segment_manager.specs.Standing.{HasObject, IsHeadOf, StandsAt}
 use Rattle.segment_manager.specs.State.{StandsFor}
 use Rattle.segment_manager.specs.Step.{changed}
 use Rattle.segment_manager.proofs.Contained.{good-with, start-place}
-use Rattle.segment_manager.proofs.Emptied.{changed-itself, emptied-alone, emptied-count, emptied-good, emptied-kind, emptied-len, emptied-numbers}
+use Rattle.segment_manager.proofs.Emptied.{changed-itself, emptied-is, emptied-numbers}
 use Rattle.segment_manager.proofs.Exchanged.{Exchange, between, denotes-container}
 use Rattle.segment_manager.proofs.Frame.{object-roomy}
 use Rattle.segment_manager.proofs.Here.{standing}
@@ -139,9 +139,9 @@ contents-released old new d o k f len change said =
     let gone : List Extent = value_extents o.value in
     let was : IsTrue (is_object current o) =
     all-found (λ p. IsTrue (is_object current p)) (has_key (ByHandle (handle o.extent))) d.objects o (each-true (is_object current) d.objects k.directory.objects) f.is in
-    let good : IsTrue (is_object current (with_value o v)) = good-with current o v was (emptied-kind o.value) (emptied-len o.value) (emptied-good o.value (object-roomy current o was).value) in
-    let x : Exchange o (with_value o v) gone [] = between o (with_value o v) [] gone [] [] (sym (append-nil gone)) (emptied-alone o.value) in
-    record { place = change.place; denotes = denotes-container current old new d o v gone [] k f x (emptied-kind o.value) (emptied-count o.value) len was good change said }
+    let good : IsTrue (is_object current (with_value o v)) = good-with current o v was (emptied-is o.value).kind (emptied-is o.value).len ((emptied-is o.value).good (object-roomy current o was).value) in
+    let x : Exchange o (with_value o v) gone [] = between o (with_value o v) [] gone [] [] (sym (append-nil gone)) (emptied-is o.value).alone in
+    record { place = change.place; denotes = denotes-container current old new d o v gone [] k f x (emptied-is o.value).kind (emptied-is o.value).count len was good change said }
 
 -- The same as a call says it of the container at a place: all that is to be known of a call that releases a kind of value.
 pub container-released : (old new : Cut) (d : Directory) (key : Key) (o : Object) (p : Place) (v : Value) → Denotes current old.bytes d → object_at d key ≡ Some o → o.value ≡ v → container_place o ≡ p

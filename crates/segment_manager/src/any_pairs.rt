@@ -48,28 +48,13 @@ impl Segment {
         requires { O.stands key.now self.now }
         ensures { IsReplyOfKind self.now (O.key key.now) (MapOf K.kind values) (Lookup (O.key key.now) (literal_of K.kind (K.whole at))) (any_value_answer result) }
     {
-        match values {
-            ScalarKind::Bool => match self.map_get::<K, bool, O>(key, at)? {
-                None => Ok(None),
-                Some(truth) => Ok(Some(ScalarValue::Bool(truth))),
-            },
-            ScalarKind::U8 => match self.map_get::<K, u8, O>(key, at)? {
-                None => Ok(None),
-                Some(number) => Ok(Some(ScalarValue::U8(number))),
-            },
-            ScalarKind::I32 => match self.map_get::<K, i32, O>(key, at)? {
-                None => Ok(None),
-                Some(number) => Ok(Some(ScalarValue::I32(number))),
-            },
-            ScalarKind::I64 => match self.map_get::<K, i64, O>(key, at)? {
-                None => Ok(None),
-                Some(number) => Ok(Some(ScalarValue::I64(number))),
-            },
-            ScalarKind::U64 => match self.map_get::<K, u64, O>(key, at)? {
-                None => Ok(None),
-                Some(number) => Ok(Some(ScalarValue::U64(number))),
-            },
-        }
+        Ok(match values {
+            ScalarKind::Bool => self.map_get::<K, bool, O>(key, at)?.map(ScalarValue::Bool),
+            ScalarKind::U8 => self.map_get::<K, u8, O>(key, at)?.map(ScalarValue::U8),
+            ScalarKind::I32 => self.map_get::<K, i32, O>(key, at)?.map(ScalarValue::I32),
+            ScalarKind::I64 => self.map_get::<K, i64, O>(key, at)?.map(ScalarValue::I64),
+            ScalarKind::U64 => self.map_get::<K, u64, O>(key, at)?.map(ScalarValue::U64),
+        })
     }
 
     /// Puts the value of a key into the map of a key, a map of the two values' kinds, and answers whether the key is new.

@@ -1,82 +1,44 @@
 -- What only reads leaves the directory, and a step leads on.
-use Rattle.std.specs.Prelude.{int_lt}
-use Rattle.std.proofs.Common.{◌≡◌, refl, sym, ap, subst, ℕ, Bool, true, false, Option, Some, None, Result, Ok, Err, if◌then◌else◌, ◌&&◌}
+use Rattle.std.proofs.Common.{◌≡◌, refl, sym, ap, subst, Bool, false, Option, Some, None, Result, Ok, Err}
 use Rattle.std.proofs.lemmas.Bool.{false≢true}
-use Rattle.best_fit.specs.Extents.{LiveSet}
+use Rattle.best_fit.specs.Extents.{Extent, LiveSet}
+use Rattle.best_fit.specs.Fit.{resized}
 use Rattle.seg_types.specs.declared.refusals.Refusal.{Refusal}
-use Rattle.seg_types.specs.declared.refusals.Refusal.TheVariants.{ReadOnly, WrongKind}
+use Rattle.seg_types.specs.declared.refusals.Refusal.TheVariants.{NoSpace}
 use Rattle.seg_types.specs.declared.kinds.Kind.{Kind}
-use Rattle.seg_types.specs.Kinds.{same_kind}
 use Rattle.seg_types.specs.Names.{Key}
 use Rattle.seg_types.specs.Commands as asked
-use Rattle.seg_types.specs.Commands.{Command, is_changing, value_of_literal}
-use Rattle.seg_map.specs.Map.{pair_at}
+use Rattle.seg_types.specs.Commands.{Command, is_changing}
 use Rattle.segment_manager.specs.declared.modes.Mode.{Mode}
-use Rattle.segment_manager.specs.Directory.{Value, Texts, Directory, kind_of, live, object_at}
-use Rattle.segment_manager.specs.Answers.{Answer, Absent, Element, Refused, refusal_of}
-use Rattle.segment_manager.specs.Plan.{Plan, Refuse, Reply, perform, with}
-use Rattle.segment_manager.specs.Step.{effect, element_at, found, found_at, get, is_read_only, items_of, map_of, owned_text_at, plan, step, step_of_kind}
+use Rattle.segment_manager.specs.Directory.{Directory, live}
+use Rattle.segment_manager.specs.Answers.{Answer, Refused, refusal_of}
+use Rattle.segment_manager.specs.Plan.{Plan, met, perform}
+use Rattle.segment_manager.specs.Step.{plan, step, step_of_kind}
 use Rattle.segment_manager.specs.State.{State, StandsFor, IsStep, LeadsOn, answer_of, refusal_in}
-use Rattle.segment_manager.proofs.Refusals.{step-refused}
+use Rattle.segment_manager.proofs.Refusals.{Leaves, by_change, by_other, by_refusal, by_request, by_same, plan-leaves, plan_of_kind-leaves, step-refused}
 
--- a plan that asks for nothing, and leaves the directory
-data Reads (d : Directory) : Plan → Type 0 where
-  by_refusal : {r : Refusal} → Reads d (Refuse r)
-  by_reply : {answer : Answer} → Reads d (Reply answer d)
+asked-reads : (d : Directory) (o : Option Extent) (after : Extent → Answer × Directory) → ((x : Extent) → (after x).1 ≡ d)
+    → (elim o as (λ _. Answer × Directory) [ None ↦ (Refused NoSpace, d) | Some x ↦ after x ]).1 ≡ d
+asked-reads d None after k = refl
+asked-reads d (Some x) after k = k x
 
-perform-reads : (d : Directory) (l : LiveSet) (p : Plan) → Reads d p → (perform d l p).1 ≡ d
-perform-reads d l p by_refusal = refl
-perform-reads d l p by_reply = refl
-
--- ---- the parts of plans
-
-if-reads : (d : Directory) (b : Bool) (p q : Plan) → Reads d p → Reads d q → Reads d (if b then p else q)
-if-reads d true p q h k = h
-if-reads d false p q h k = k
-
-with-reads : {A : Type 0} (d : Directory) (a : Result A Refusal) (next : A → Plan) → ((x : A) → Reads d (next x)) → Reads d (with a next)
-with-reads d (Ok x) next k = k x
-with-reads d (Err r) next k = by_refusal
-
-option-reads : {A : Type 0} (d : Directory) (o : Option A) (p : Plan) (q : A → Plan) → Reads d p → ((x : A) → Reads d (q x)) → Reads d (elim o as (λ _. Plan) [ None ↦ p | Some x ↦ q x ])
-option-reads d None p q h k = h
-option-reads d (Some x) p q h k = k x
-
-get-reads : (d : Directory) (v : Value) (i : ℕ) → Reads d (get d v i)
-get-reads d (Texts ps t) i = with-reads d (owned_text_at ps i) _ (λ p. by_reply)
-get-reads d v i = with-reads d (items_of v) _ (λ x. with-reads d (element_at x.1 i) _ (λ z. by_reply {answer = Element x.0 z}))
-
--- ---- all commands
-
-effect-reads : (d : Directory) (c : Command) → is_changing c ≡ false → Reads d (effect d c)
-effect-reads d (asked.Find key kind) e = option-reads d (object_at d key) _ _ by_reply (λ o. if-reads d (same_kind kind (kind_of o.value)) _ _ (by_reply {answer = found o}) (by_refusal {r = WrongKind}))
-effect-reads d (asked.Show key) e = with-reads d (found_at d key) _ (λ o. by_reply)
-effect-reads d (asked.Info key) e = with-reads d (found_at d key) _ (λ o. by_reply)
-effect-reads d (asked.Get key i) e = with-reads d (found_at d key) _ (λ o. get-reads d o.value i)
-effect-reads d (asked.Lookup key l) e =
-    with-reads d (found_at d key) _ (λ o. with-reads d (map_of o.value) _ (λ x. with-reads d (value_of_literal x.0 l) _ (λ z. option-reads d (pair_at int_lt x.2 z) _ _ (by_reply {answer = Absent}) (λ p. by_reply))))
-effect-reads d asked.ListNames e = by_reply
-effect-reads d asked.ListKinds e = by_reply
-effect-reads d asked.ListBlocks e = by_reply
-effect-reads d asked.Size e = by_reply
-effect-reads d asked.Free e = by_reply
-effect-reads d asked.NumNamed e = by_reply
-effect-reads d asked.NumUnique e = by_reply
-effect-reads d asked.Sanity e = by_reply
-effect-reads d asked.AllDeallocated e = by_reply
-effect-reads d c e = absurd (false≢true (sym e))
+perform-reads : (d : Directory) (changing other : Bool) → changing ≡ false → (l : LiveSet) (p : Plan) → Leaves d changing other p → (perform d l p).1 ≡ d
+perform-reads d changing other e l p by_refusal = refl
+perform-reads d changing other e l p by_same = refl
+perform-reads d changing other e l p (by_change o k) = absurd (false≢true (sym e))
+perform-reads d changing other e l p (by_other k) = absurd (false≢true (sym e))
+perform-reads d changing other e l p (by_request {need = need} {next = next} k) =
+    asked-reads d (met l need) (λ x. perform d (resized l x) (next x)) (λ x. perform-reads d changing other e (resized l x) (next x) (k x))
 
 -- a command that only reads leaves the directory
 pub step-reads : (mode : Mode) (d : Directory) (c : Command) → is_changing c ≡ false → (step mode d c).1 ≡ d
 unfolding step
-step-reads mode d c e = perform-reads d (live d) (plan mode d c) (if-reads d (is_read_only mode && is_changing c) _ _ (by_refusal {r = ReadOnly}) (effect-reads d c e))
+step-reads mode d c e = perform-reads d _ _ e (live d) (plan mode d c) (plan-leaves mode d c)
 
 -- the same of a call for objects of one kind
 pub step_of_kind-reads : (mode : Mode) (d : Directory) (key : Key) (kind : Kind) (c : Command) → is_changing c ≡ false → (step_of_kind mode d key kind c).1 ≡ d
 unfolding step_of_kind
-step_of_kind-reads mode d key kind c e =
-    perform-reads d (live d) _ (if-reads d (is_read_only mode && is_changing c) _ _ (by_refusal {r = ReadOnly})
-    (with-reads d (found_at d key) _ (λ o. if-reads d (same_kind kind (kind_of o.value)) _ _ (effect-reads d c e) (by_refusal {r = WrongKind}))))
+step_of_kind-reads mode d key kind c e = perform-reads d _ _ e (live d) _ (plan_of_kind-leaves mode d key kind c)
 
 -- ---- calls that answer less than the machine
 

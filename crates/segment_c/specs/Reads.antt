@@ -1,5 +1,5 @@
 -- What the calls read of containers.
-use Rattle.std.specs.Prelude.{◌≡◌, ℕ, ℤ, List, length, Option, Some, None, Result, Ok, Err, option_map}
+use Rattle.std.specs.Prelude.{◌≡◌, ℕ, ◌≤◌, ℤ, List, length, map, Option, Some, None, Result, Ok, Err, option_map}
 use Rattle.seg_types.specs.declared.kinds.Kind.{Kind}
 use Rattle.seg_types.specs.declared.kinds.Kind.TheVariants.{Map, Scalar, Text, Texts, Vector}
 use Rattle.seg_types.specs.declared.kinds.ScalarKind.{ScalarKind}
@@ -16,10 +16,14 @@ use Rattle.segment_manager.specs.Answers.{Answer, TextElement, Refused}
 use Rattle.segment_manager.specs.Calls.{kind_at}
 use Rattle.segment_manager.specs.Directory.{Directory}
 use Rattle.segment_manager.specs.Maps.{pair_above}
+use Rattle.segment_manager.specs.State.{StandsFor, State}
 use Rattle.segment_manager.specs.Walks.{Item, first_of, item_of_kinds, item_seen, pairs_at}
+use Rattle.segment_values.specs.Ranges.{range_at}
+use Rattle.segment_c.specs.declared.keys.ObjectKey.{ObjectKey}
 use Rattle.segment_c.specs.declared.values.Value.{Value}
+use Rattle.segment_c.specs.Calls.{IsClosed, IsStopped}
 use Rattle.segment_c.specs.Images.{Saves}
-use Rattle.segment_c.specs.Passed.{scalar_in}
+use Rattle.segment_c.specs.Passed.{key_of, key_wrong, scalar_in}
 
 -- the code is 0 and this holds, or it is that of the refusal
 abbrev pub IsCoded : {A : Type 0} → (A → Type 0) → ℕ → Result A Refusal → Type 0
@@ -45,6 +49,15 @@ abbrev pub CopiesAnswer : List ℕ → List ℕ → ℕ → ℕ → Answer → T
 CopiesAnswer old new len code (TextElement bytes) = IsCopied bytes old new len code
 CopiesAnswer old new len code (Refused why) = code ≡ refusal_number why
 CopiesAnswer old new len code answer = ⊥
+
+-- a call reads elements of the array or vector of a key from a place on, as many as a row has: a key that is wrong and a closed handle are
+-- codes; the row has the numbers of those elements then, as they are seen, or the call is refused; and no more changes
+pub record ReadsRange {X : Type 0} (seen : X → ℤ) (kind : ScalarKind) (key : ObjectKey) (first : ℕ) (old new : List X) (code : ℕ) (before after : Option State) : Type 0 where
+  pub stopped : IsStopped (key_wrong key) code before after
+  pub closed : IsClosed (key_wrong key) code before after
+  pub told : (s : State) → key_wrong key ≡ 0 → before ≡ Some s → (d : Directory) → StandsFor s.cut.bytes d → IsCoded (λ zs. map seen new ≡ zs) code (range_at d (key_of key) kind first (length old))
+  pub same : after ≡ before
+  pub results : 1 ≤ code → new ≡ old
 
 -- ---- the last element
 

@@ -10,11 +10,12 @@ ghost use Rattle.segment_manager.specs.Answers.{Made};
 ghost use Rattle.segment_manager.specs.NewObjects.{IsOfKind};
 ghost use Rattle.segment_manager.specs.State.{IsStep, KeepsRefused as KeepsOld, handle_answer};
 
-use crate::codes::{BAD_COUNT, CLOSED, made};
-use crate::handle::{Handle, put, take};
+use crate::calls::{on_segment, passed};
+use crate::codes::{BAD_COUNT, made};
+use crate::handle::Handle;
 use crate::keys::ObjectKey;
 use crate::objects::MOST;
-use crate::rows::Values;
+use crate::rows::{Values, on_slice};
 use seg_types::{Kind, NewKey, Refusal, ScalarKind};
 use segment_manager::Segment;
 use std::alloc::Global;
@@ -32,13 +33,7 @@ fn construct_row(
     ensures step { IsStep segment.old segment.new (ConstructIt (new_key_seen key.now) kind (many_of row.now kind) (numbers_of row.now kind)) (handle_answer result) }
     ensures refused { KeepsOld segment.old segment.new result }
 {
-    match kind {
-        ScalarKind::Bool => segment_values::construct_array(segment, key, row.truths),
-        ScalarKind::U8 => segment_values::construct_array(segment, key, row.bytes),
-        ScalarKind::I32 => segment_values::construct_array(segment, key, row.i32s),
-        ScalarKind::I64 => segment_values::construct_array(segment, key, row.i64s),
-        ScalarKind::U64 => segment_values::construct_array(segment, key, row.u64s),
-    }
+    on_slice!(row, kind, slice => segment_values::construct_array(segment, key, slice))
 }
 
 /// Makes an array of the values.
@@ -57,22 +52,11 @@ pub extern "C" fn zx_construct_array(
     ensures refused { KeepsRefused result h.old.value h.new.value }
     ensures results { 1 ≤ result → handle.new ≡ handle.old }
 {
-    let kind = match values.scalar_kind() {
-        Ok(it) => it,
-        Err(code) => return code,
-    };
+    let kind = passed!(values.scalar_kind());
     let count = values.count(kind);
     if count < 1 || count > MOST as usize {
         return BAD_COUNT;
     }
-    let which = match key.new_key(Kind::Scalar(kind)) {
-        Ok(it) => it,
-        Err(code) => return code,
-    };
-    let Some(mut segment) = take(alloc, h) else {
-        return CLOSED;
-    };
-    let code = made(construct_row(&mut segment, &which, kind, values), handle);
-    put(h, segment);
-    code
+    let which = passed!(key.new_key(Kind::Scalar(kind)));
+    on_segment!(alloc, h, mut segment => made(construct_row(&mut segment, &which, kind, values), handle))
 }

@@ -54,10 +54,34 @@ pub const TOO_LARGE: u32 = 29;
 /// The bytes are no image: to this the number of its class is added.
 pub const BAD_IMAGE: u32 = 100;
 
-/// The code of a refusal.
+/// The code of a result, of which what is there goes out.
+macro_rules! code_for {
+    ($result:expr, Some($there:pat) => $out:expr) => {
+        match $result {
+            Ok(Some($there)) => {
+                $out;
+                DONE
+            }
+            Ok(None) => ABSENT,
+            Err(why) => code_of(why),
+        }
+    };
+    ($result:expr, $there:pat => $out:expr) => {
+        match $result {
+            Ok($there) => {
+                $out;
+                DONE
+            }
+            Err(why) => code_of(why),
+        }
+    };
+}
+
+/// The code of a refusal, which is its number.
 pub fn code_of(why: Refusal) -> u32
     ensures answers { (a : Answer) → answer_for result a ≡ Refused why }
     ensures answer { IsTrue (is_answer result) }
+    ensures number { result ≡ refusal_number why }
     ensures refused { 1 ≤ result }
 {
     match why {
@@ -75,10 +99,7 @@ pub fn done(done: Result<(), Refusal>) -> u32
     ensures answers { answer_for result Done ≡ done_answer done }
     ensures answer { IsTrue (is_answer result) }
 {
-    match done {
-        Ok(()) => DONE,
-        Err(why) => code_of(why),
-    }
+    code_for!(done, () => {})
 }
 
 /// The code where an object was made, or not. Its handle goes out.
@@ -87,13 +108,7 @@ pub fn made(made: Result<Handle, Refusal>, handle: &mut u64) -> u32
     ensures answer { IsTrue (is_answer result) }
     ensures kept { 1 ≤ result → handle.new ≡ handle.old }
 {
-    match made {
-        Ok(at) => {
-            *handle = at;
-            DONE
-        }
-        Err(why) => code_of(why),
-    }
+    code_for!(made, at => *handle = at)
 }
 
 /// The code where something holds, or not. Whether it does goes out.
@@ -102,13 +117,7 @@ pub fn truth(truth: Result<bool, Refusal>, holds: &mut bool) -> u32
     ensures answer { IsTrue (is_answer result) }
     ensures kept { 1 ≤ result → holds.new ≡ holds.old }
 {
-    match truth {
-        Ok(it) => {
-            *holds = it;
-            DONE
-        }
-        Err(why) => code_of(why),
-    }
+    code_for!(truth, it => *holds = it)
 }
 
 /// The code where an element was asked for, or not. It goes out.
@@ -117,13 +126,7 @@ pub fn element(element: Result<ScalarValue, Refusal>, value: &mut Value) -> u32
     ensures answer { IsTrue (is_answer result) }
     ensures kept { 1 ≤ result → value.new ≡ value.old }
 {
-    match element {
-        Ok(it) => {
-            *value = Value::of(it);
-            DONE
-        }
-        Err(why) => code_of(why),
-    }
+    code_for!(element, it => *value = Value::of(it))
 }
 
 /// The code where an object was found or made, or not. Its handle and how many elements it has go out.
@@ -132,14 +135,7 @@ pub fn found(found: Result<(Handle, u32), Refusal>, handle: &mut u64, count: &mu
     ensures answer { IsTrue (is_answer result) }
     ensures kept { 1 ≤ result → (handle.new ≡ handle.old) × (count.new ≡ count.old) }
 {
-    match found {
-        Ok((at, many)) => {
-            *handle = at;
-            *count = many;
-            DONE
-        }
-        Err(why) => code_of(why),
-    }
+    code_for!(found, (at, many) => { *handle = at; *count = many; })
 }
 
 /// The same where none may be there.
@@ -152,15 +148,7 @@ pub fn found_or_absent(
     ensures answer { IsTrue (is_answer result) }
     ensures kept { 1 ≤ result → (handle.new ≡ handle.old) × (count.new ≡ count.old) }
 {
-    match found {
-        Ok(Some((at, many))) => {
-            *handle = at;
-            *count = many;
-            DONE
-        }
-        Ok(None) => ABSENT,
-        Err(why) => code_of(why),
-    }
+    code_for!(found, Some((at, many)) => { *handle = at; *count = many; })
 }
 
 /// The code where an object was destroyed, or not, and whether there was one, which goes out.
@@ -169,13 +157,7 @@ pub fn gone(gone: Result<(), Refusal>, was_there: &mut bool) -> u32
     ensures answer { IsTrue (is_answer result) }
     ensures kept { 1 ≤ result → was_there.new ≡ was_there.old }
 {
-    match gone {
-        Ok(()) => {
-            *was_there = true;
-            DONE
-        }
-        Err(why) => code_of(why),
-    }
+    code_for!(gone, () => *was_there = true)
 }
 
 /// The code where a value was looked for: it goes out where it is there.
@@ -184,27 +166,5 @@ pub fn value_found(found: Result<Option<ScalarValue>, Refusal>, value: &mut Valu
     ensures answer { IsTrue (is_answer result) }
     ensures kept { 1 ≤ result → value.new ≡ value.old }
 {
-    match found {
-        Ok(Some(it)) => {
-            *value = Value::of(it);
-            DONE
-        }
-        Ok(None) => ABSENT,
-        Err(why) => code_of(why),
-    }
-}
-
-/// The code of a refusal, which is its number.
-pub fn number_of(why: Refusal) -> u32
-    ensures number { result ≡ refusal_number why }
-    ensures refused { 1 ≤ result }
-{
-    match why {
-        Refusal::ReadOnly => 4,
-        Refusal::Exists => 5,
-        Refusal::NotFound => 6,
-        Refusal::WrongKind => 7,
-        Refusal::OutOfRange => 8,
-        Refusal::NoSpace => 9,
-    }
+    code_for!(found, Some(it) => *value = Value::of(it))
 }

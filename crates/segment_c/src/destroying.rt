@@ -8,8 +8,9 @@ ghost use Rattle.segment_manager.specs.Answers.{Truth};
 ghost use Rattle.segment_manager.specs.Keeping.{KeepsWhere, LacksKey};
 ghost use Rattle.segment_manager.specs.State.{IsStep};
 
-use crate::codes::{BAD_KEY, BAD_KIND, BAD_NAME, CLOSED, NULL_SLICE, gone, truth};
-use crate::handle::{Handle, put, take};
+use crate::calls::{on_segment, passed};
+use crate::codes::{BAD_KEY, BAD_KIND, BAD_NAME, NULL_SLICE, gone, truth};
+use crate::handle::Handle;
 use crate::keys::ObjectKey;
 use seg_types::{IndexKey, Kind, Name};
 use segment_manager::Segment;
@@ -41,16 +42,8 @@ pub extern "C" fn zx_destroy(
     ensures kept { 1 ≤ result → h.new.value ≡ h.old.value }
     ensures results { 1 ≤ result → was_there.new ≡ was_there.old }
 {
-    let which = match read_doomed(key) {
-        Ok(it) => it,
-        Err(code) => return code,
-    };
-    let Some(mut segment) = take(alloc, h) else {
-        return CLOSED;
-    };
-    let code = destroy(&mut segment, which, was_there);
-    put(h, segment);
-    code
+    let which = passed!(read_doomed(key));
+    on_segment!(alloc, h, mut segment => destroy(&mut segment, which, was_there))
 }
 
 /// The same of a segment.

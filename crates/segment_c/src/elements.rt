@@ -8,8 +8,9 @@ ghost use Rattle.segment_manager.specs.Answers.{Done};
 ghost use Rattle.segment_manager.specs.Calls.{scalar_reply};
 ghost use Rattle.segment_manager.specs.State.{Answers, IsStep};
 
-use crate::codes::{CLOSED, done, element};
-use crate::handle::{Handle, put, take};
+use crate::calls::{on_segment, passed};
+use crate::codes::{done, element};
+use crate::handle::Handle;
 use crate::keys::ObjectKey;
 use crate::values::Value;
 use std::alloc::Global;
@@ -30,16 +31,8 @@ pub extern "C" fn zx_get(
     ensures same { h.new.value ≡ h.old.value }
     ensures results { 1 ≤ result → value.new ≡ value.old }
 {
-    let which = match key.key() {
-        Ok(it) => it,
-        Err(code) => return code,
-    };
-    let Some(segment) = take(alloc, h) else {
-        return CLOSED;
-    };
-    let code = element(segment.get_any(&which, index), value);
-    put(h, segment);
-    code
+    let which = passed!(key.key());
+    on_segment!(alloc, h, segment => element(segment.get_any(&which, index), value))
 }
 
 /// Makes a value the element at `index` in the object of a key: of scalars, of a vector of scalars, or of a string.
@@ -57,20 +50,9 @@ pub extern "C" fn zx_set(
         (λ s t. IsStep s t (Set (key_of key.now) index (literal_in value.now)) (answer_for result Done)) }
     ensures kept { 1 ≤ result → h.new.value ≡ h.old.value }
 {
-    let which = match key.key() {
-        Ok(it) => it,
-        Err(code) => return code,
-    };
-    let new = match value.scalar() {
-        Ok(it) => it,
-        Err(code) => return code,
-    };
-    let Some(mut segment) = take(alloc, h) else {
-        return CLOSED;
-    };
-    let code = done(segment_values::set(&mut segment, &which, index, new));
-    put(h, segment);
-    code
+    let which = passed!(key.key());
+    let new = passed!(value.scalar());
+    on_segment!(alloc, h, mut segment => done(segment_values::set(&mut segment, &which, index, new)))
 }
 
 /// Puts a value behind the last element of the vector of a key.
@@ -82,20 +64,9 @@ pub extern "C" fn zx_push(alloc: Global, h: &mut Handle, key: &ObjectKey<'_>, va
         (λ s t. IsStep s t (Push (key_of key.now) (literal_in value.now)) (answer_for result Done)) }
     ensures kept { 1 ≤ result → h.new.value ≡ h.old.value }
 {
-    let which = match key.key() {
-        Ok(it) => it,
-        Err(code) => return code,
-    };
-    let new = match value.scalar() {
-        Ok(it) => it,
-        Err(code) => return code,
-    };
-    let Some(mut segment) = take(alloc, h) else {
-        return CLOSED;
-    };
-    let code = done(segment_values::push(&mut segment, &which, new));
-    put(h, segment);
-    code
+    let which = passed!(key.key());
+    let new = passed!(value.scalar());
+    on_segment!(alloc, h, mut segment => done(segment_values::push(&mut segment, &which, new)))
 }
 
 /// Puts a value where `index` others stand before it in the vector of a key.
@@ -113,20 +84,9 @@ pub extern "C" fn zx_insert(
         (λ s t. IsStep s t (Insert (key_of key.now) index (literal_in value.now)) (answer_for result Done)) }
     ensures kept { 1 ≤ result → h.new.value ≡ h.old.value }
 {
-    let which = match key.key() {
-        Ok(it) => it,
-        Err(code) => return code,
-    };
-    let new = match value.scalar() {
-        Ok(it) => it,
-        Err(code) => return code,
-    };
-    let Some(mut segment) = take(alloc, h) else {
-        return CLOSED;
-    };
-    let code = done(segment_values::insert(&mut segment, &which, index, new));
-    put(h, segment);
-    code
+    let which = passed!(key.key());
+    let new = passed!(value.scalar());
+    on_segment!(alloc, h, mut segment => done(segment_values::insert(&mut segment, &which, index, new)))
 }
 
 /// Leaves out the element at `index` in the vector of a key, of scalars or of strings.
@@ -138,14 +98,6 @@ pub extern "C" fn zx_erase(alloc: Global, h: &mut Handle, key: &ObjectKey<'_>, i
         (λ s t. IsStep s t (Erase (key_of key.now) index) (answer_for result Done)) }
     ensures kept { 1 ≤ result → h.new.value ≡ h.old.value }
 {
-    let which = match key.key() {
-        Ok(it) => it,
-        Err(code) => return code,
-    };
-    let Some(mut segment) = take(alloc, h) else {
-        return CLOSED;
-    };
-    let code = done(segment_values::erase(&mut segment, &which, index));
-    put(h, segment);
-    code
+    let which = passed!(key.key());
+    on_segment!(alloc, h, mut segment => done(segment_values::erase(&mut segment, &which, index)))
 }

@@ -7,8 +7,9 @@ ghost use Rattle.segment_c.specs.Growing.{IsCopyWithRoom, IsGrowthCode, IsLonger
 ghost use Rattle.segment_manager.specs.Directory.{Directory};
 ghost use Rattle.segment_manager.specs.State.{IsSegment, StandsFor, State};
 
-use crate::codes::{BAD_GROWTH, CLOSED, DONE, NO_MEMORY, READ_ONLY, TOO_LARGE};
-use crate::handle::{Handle, put, take};
+use crate::calls::on_segment;
+use crate::codes::{BAD_GROWTH, DONE, NO_MEMORY, READ_ONLY, TOO_LARGE};
+use crate::handle::Handle;
 use grow_shrink::GrowError;
 use raw_region::{OutOfMemory, RawRegion, Window};
 use segment_manager::Segment;
@@ -29,12 +30,7 @@ pub extern "C" fn zx_grow(alloc: Global, h: &mut Handle, extra: u64) -> u32
     ensures grown { (s : State) → h.old.value ≡ Held s → result ≡ 0 → Opened h.new.value (λ t. IsLonger s t extra) }
     ensures kept { 1 ≤ result → h.new.value ≡ h.old.value }
 {
-    let Some(mut segment) = take(alloc, h) else {
-        return CLOSED;
-    };
-    let code = grow(alloc, &mut segment, extra);
-    put(h, segment);
-    code
+    on_segment!(alloc, h, mut segment => grow(alloc, &mut segment, extra))
 }
 
 /// The same of a segment.

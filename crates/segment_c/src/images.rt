@@ -13,8 +13,9 @@ ghost use Rattle.segment_manager.specs.Resized.{room_behind};
 ghost use Rattle.segment_manager.specs.State.{IsReply, State};
 ghost use Rattle.segment_manager.specs.declared.modes.Mode.TheVariants.{Write};
 
-use crate::codes::{BAD_SIZE, CLOSED, DONE, NO_MEMORY, SHORT_BUFFER};
-use crate::handle::{Handle, put, take};
+use crate::calls::{on_segment, passed};
+use crate::codes::{BAD_SIZE, DONE, NO_MEMORY, SHORT_BUFFER};
+use crate::handle::{Handle, put};
 use block_tags::is_legal_size;
 use raw_region::RawRegion;
 use segment_manager::{Mode, Segment};
@@ -29,13 +30,9 @@ pub extern "C" fn zx_create(alloc: Global, h: &mut Handle, size: u64) -> u32
     ensures otherwise { 1 ≤ result → result ≢ 22 → result ≡ 26 }
     ensures kept { 1 ≤ result → h.new.value ≡ h.old.value }
 {
-    match new_segment(alloc, size) {
-        Ok(segment) => {
-            put(h, segment);
-            DONE
-        }
-        Err(code) => code,
-    }
+    let segment = passed!(new_segment(alloc, size));
+    put(h, segment);
+    DONE
 }
 
 /// Frees the segment. A closed handle stays closed.
@@ -54,12 +51,7 @@ pub extern "C" fn zx_size(alloc: Global, h: &mut Handle, size: &mut u64) -> u32
     ensures same { h.new.value ≡ h.old.value }
     ensures kept { 1 ≤ result → size.new ≡ size.old }
 {
-    let Some(segment) = take(alloc, h) else {
-        return CLOSED;
-    };
-    *size = segment.size();
-    put(h, segment);
-    DONE
+    on_segment!(alloc, h, segment => { *size = segment.size(); DONE })
 }
 
 /// The bytes of all gaps, their tags included.
@@ -70,12 +62,7 @@ pub extern "C" fn zx_free_bytes(alloc: Global, h: &mut Handle, free_bytes: &mut 
     ensures same { h.new.value ≡ h.old.value }
     ensures kept { 1 ≤ result → free_bytes.new ≡ free_bytes.old }
 {
-    let Some(segment) = take(alloc, h) else {
-        return CLOSED;
-    };
-    *free_bytes = segment.free();
-    put(h, segment);
-    DONE
+    on_segment!(alloc, h, segment => { *free_bytes = segment.free(); DONE })
 }
 
 /// How the segment is open.
@@ -86,12 +73,7 @@ pub extern "C" fn zx_mode(alloc: Global, h: &mut Handle, mode: &mut u32) -> u32
     ensures same { h.new.value ≡ h.old.value }
     ensures kept { 1 ≤ result → mode.new ≡ mode.old }
 {
-    let Some(segment) = take(alloc, h) else {
-        return CLOSED;
-    };
-    *mode = code_of_mode(segment.mode());
-    put(h, segment);
-    DONE
+    on_segment!(alloc, h, segment => { *mode = code_of_mode(segment.mode()); DONE })
 }
 
 /// The number of bytes of the region behind the segment.
@@ -102,12 +84,7 @@ pub extern "C" fn zx_region_left(alloc: Global, h: &mut Handle, left: &mut u64) 
     ensures same { h.new.value ≡ h.old.value }
     ensures kept { 1 ≤ result → left.new ≡ left.old }
 {
-    let Some(segment) = take(alloc, h) else {
-        return CLOSED;
-    };
-    *left = segment.region_left();
-    put(h, segment);
-    DONE
+    on_segment!(alloc, h, segment => { *left = segment.region_left(); DONE })
 }
 
 /// Copies the image to the front of the buffer.
@@ -118,12 +95,7 @@ pub extern "C" fn zx_save(alloc: Global, h: &mut Handle, image: &mut [u8]) -> u3
     ensures same { h.new.value ≡ h.old.value }
     ensures kept { 1 ≤ result → image.new ≡ image.old }
 {
-    let Some(segment) = take(alloc, h) else {
-        return CLOSED;
-    };
-    let code = copy_out(segment.as_bytes(), image);
-    put(h, segment);
-    code
+    on_segment!(alloc, h, segment => copy_out(segment.as_bytes(), image))
 }
 
 /// Copies bytes to the front of a buffer, where it has room for them.

@@ -4,6 +4,7 @@
 #![tactic(auto)]
 
 mod arrays;
+mod calls;
 mod codes;
 mod destroying;
 mod elements;

@@ -14,8 +14,9 @@ ghost use Rattle.segment_manager.specs.Directory.{Directory, Object, live, named
 ghost use Rattle.segment_manager.specs.Instances.{IsInstance};
 ghost use Rattle.segment_manager.specs.State.{IsReply, StandsFor, State};
 
-use crate::codes::{CLOSED, DONE, NOT_FOUND, OUT_OF_RANGE, SHORT_BUFFER, code_of};
-use crate::handle::{Handle, put, take};
+use crate::calls::{on_segment, passed};
+use crate::codes::{DONE, NOT_FOUND, OUT_OF_RANGE, SHORT_BUFFER, code_of};
+use crate::handle::Handle;
 use crate::keys::ObjectKey;
 use block_tags::Role;
 use seg_types::{Class, Key, Refusal};
@@ -147,16 +148,8 @@ pub extern "C" fn zx_tell(
     ensures same { h.new.value ≡ h.old.value }
     ensures results { 1 ≤ result → (info.new ≡ info.old) × (name.new ≡ name.old) }
 {
-    let which = match key.key() {
-        Ok(it) => it,
-        Err(code) => return code,
-    };
-    let Some(segment) = take(alloc, h) else {
-        return CLOSED;
-    };
-    let code = tell_key(&segment, &which, info, name);
-    put(h, segment);
-    code
+    let which = passed!(key.key());
+    on_segment!(alloc, h, segment => tell_key(&segment, &which, info, name))
 }
 
 /// What the object says of itself whose name has `index` others before it, in the order of their bytes.
@@ -173,12 +166,7 @@ pub extern "C" fn zx_named_at(
     ensures same { h.new.value ≡ h.old.value }
     ensures results { 1 ≤ result → (info.new ≡ info.old) × (name.new ≡ name.old) }
 {
-    let Some(segment) = take(alloc, h) else {
-        return CLOSED;
-    };
-    let code = tell_named(&segment, index, info, name);
-    put(h, segment);
-    code
+    on_segment!(alloc, h, segment => tell_named(&segment, index, info, name))
 }
 
 /// What the unique object says of itself whose kind has `index` others before it, in the order of their codes.
@@ -189,12 +177,7 @@ pub extern "C" fn zx_unique_at(alloc: Global, h: &mut Handle, index: u64, info: 
     ensures same { h.new.value ≡ h.old.value }
     ensures results { 1 ≤ result → info.new ≡ info.old }
 {
-    let Some(segment) = take(alloc, h) else {
-        return CLOSED;
-    };
-    let code = tell_unique(&segment, index, info);
-    put(h, segment);
-    code
+    on_segment!(alloc, h, segment => tell_unique(&segment, index, info))
 }
 
 /// The block or gap with `index` others before it.
@@ -205,10 +188,7 @@ pub extern "C" fn zx_tile_at(alloc: Global, h: &mut Handle, index: u64, block: &
     ensures same { h.new.value ≡ h.old.value }
     ensures results { 1 ≤ result → block.new ≡ block.old }
 {
-    let Some(segment) = take(alloc, h) else {
-        return CLOSED;
-    };
-    let code = match segment.tile(index) {
+    on_segment!(alloc, h, segment => match segment.tile(index) {
         Some(span) => {
             *block = Block {
                 offset: span.offset,
@@ -218,9 +198,7 @@ pub extern "C" fn zx_tile_at(alloc: Global, h: &mut Handle, index: u64, block: &
             DONE
         }
         None => code_of(Refusal::OutOfRange),
-    };
-    put(h, segment);
-    code
+    })
 }
 
 /// The number of objects with names.
@@ -231,12 +209,7 @@ pub extern "C" fn zx_num_named(alloc: Global, h: &mut Handle, count: &mut u64) -
     ensures same { h.new.value ≡ h.old.value }
     ensures results { 1 ≤ result → count.new ≡ count.old }
 {
-    let Some(segment) = take(alloc, h) else {
-        return CLOSED;
-    };
-    *count = segment.num_named();
-    put(h, segment);
-    DONE
+    on_segment!(alloc, h, segment => { *count = segment.num_named(); DONE })
 }
 
 /// The number of kinds with a unique object.
@@ -247,10 +220,5 @@ pub extern "C" fn zx_num_unique(alloc: Global, h: &mut Handle, count: &mut u64) 
     ensures same { h.new.value ≡ h.old.value }
     ensures results { 1 ≤ result → count.new ≡ count.old }
 {
-    let Some(segment) = take(alloc, h) else {
-        return CLOSED;
-    };
-    *count = segment.num_unique();
-    put(h, segment);
-    DONE
+    on_segment!(alloc, h, segment => { *count = segment.num_unique(); DONE })
 }

@@ -9,8 +9,9 @@ ghost use Rattle.segment_manager.specs.Keeping.{KeepsWhere};
 ghost use Rattle.segment_manager.specs.State.{IsReply, IsStep};
 ghost use Rattle.segment_values.specs.Absent.{LacksLiteral};
 
-use crate::codes::{CLOSED, truth, value_found};
-use crate::handle::{Handle, put, take};
+use crate::calls::{on_segment, passed};
+use crate::codes::{truth, value_found};
+use crate::handle::Handle;
 use crate::keys::ObjectKey;
 use crate::values::Value;
 use std::alloc::Global;
@@ -31,20 +32,9 @@ pub extern "C" fn zx_map_get(
     ensures same { h.new.value ≡ h.old.value }
     ensures results { 1 ≤ result → value.new ≡ value.old }
 {
-    let which = match key.key() {
-        Ok(it) => it,
-        Err(code) => return code,
-    };
-    let wanted = match at.scalar() {
-        Ok(it) => it,
-        Err(code) => return code,
-    };
-    let Some(segment) = take(alloc, h) else {
-        return CLOSED;
-    };
-    let code = value_found(segment_values::look_up(&segment, &which, wanted), value);
-    put(h, segment);
-    code
+    let which = passed!(key.key());
+    let wanted = passed!(at.scalar());
+    on_segment!(alloc, h, segment => value_found(segment_values::look_up(&segment, &which, wanted), value))
 }
 
 /// Puts a value at a key of the map of a key, and says whether that is new.
@@ -64,27 +54,11 @@ pub extern "C" fn zx_map_put(
     ensures kept { 1 ≤ result → h.new.value ≡ h.old.value }
     ensures results { 1 ≤ result → is_new.new ≡ is_new.old }
 {
-    let which = match key.key() {
-        Ok(it) => it,
-        Err(code) => return code,
-    };
-    let new_key = match at.scalar() {
-        Ok(it) => it,
-        Err(code) => return code,
-    };
-    let new_value = match value.scalar() {
-        Ok(it) => it,
-        Err(code) => return code,
-    };
-    let Some(mut segment) = take(alloc, h) else {
-        return CLOSED;
-    };
-    let code = truth(
-        segment_values::put_pair(&mut segment, &which, new_key, new_value),
-        is_new,
-    );
-    put(h, segment);
-    code
+    let which = passed!(key.key());
+    let new_key = passed!(at.scalar());
+    let new_value = passed!(value.scalar());
+    on_segment!(alloc, h, mut segment =>
+        truth(segment_values::put_pair(&mut segment, &which, new_key, new_value), is_new))
 }
 
 /// Takes a key out of the map of a key, and says whether it was there. Where it was not, nothing changes.
@@ -105,21 +79,7 @@ pub extern "C" fn zx_map_erase(
     ensures kept { 1 ≤ result → h.new.value ≡ h.old.value }
     ensures results { 1 ≤ result → was_there.new ≡ was_there.old }
 {
-    let which = match key.key() {
-        Ok(it) => it,
-        Err(code) => return code,
-    };
-    let gone = match at.scalar() {
-        Ok(it) => it,
-        Err(code) => return code,
-    };
-    let Some(mut segment) = take(alloc, h) else {
-        return CLOSED;
-    };
-    let code = truth(
-        segment_values::erase_pair(&mut segment, &which, gone),
-        was_there,
-    );
-    put(h, segment);
-    code
+    let which = passed!(key.key());
+    let gone = passed!(at.scalar());
+    on_segment!(alloc, h, mut segment => truth(segment_values::erase_pair(&mut segment, &which, gone), was_there))
 }

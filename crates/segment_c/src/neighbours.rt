@@ -10,8 +10,9 @@ ghost use Rattle.segment_manager.specs.Directory.{Directory};
 ghost use Rattle.segment_manager.specs.State.{StandsFor, State};
 ghost use Rattle.segment_values.specs.Literals.{literal_seen};
 
-use crate::codes::{ABSENT, CLOSED, DONE, NOT_FOUND, WRONG_KIND, number_of};
-use crate::handle::{Handle, put, take};
+use crate::calls::{on_segment, passed};
+use crate::codes::{ABSENT, DONE, NOT_FOUND, WRONG_KIND, code_of};
+use crate::handle::Handle;
 use crate::keys::ObjectKey;
 use crate::values::Value;
 use seg_types::{Key, Kind, ScalarValue};
@@ -36,16 +37,8 @@ pub extern "C" fn zx_map_first(
     ensures same { h.new.value ≡ h.old.value }
     ensures results { 1 ≤ result → (at.new ≡ at.old) × (value.new ≡ value.old) }
 {
-    let which = match key.key() {
-        Ok(it) => it,
-        Err(code) => return code,
-    };
-    let Some(segment) = take(alloc, h) else {
-        return CLOSED;
-    };
-    let code = first(&segment, &which, at, value);
-    put(h, segment);
-    code
+    let which = passed!(key.key());
+    on_segment!(alloc, h, segment => first(&segment, &which, at, value))
 }
 
 /// The same of a segment.
@@ -79,20 +72,9 @@ pub extern "C" fn zx_map_next(
     ensures same { h.new.value ≡ h.old.value }
     ensures results { 1 ≤ result → (at.new ≡ at.old) × (value.new ≡ value.old) }
 {
-    let which = match key.key() {
-        Ok(it) => it,
-        Err(code) => return code,
-    };
-    let below = match after.scalar() {
-        Ok(it) => it,
-        Err(code) => return code,
-    };
-    let Some(segment) = take(alloc, h) else {
-        return CLOSED;
-    };
-    let code = next(&segment, &which, below, at, value);
-    put(h, segment);
-    code
+    let which = passed!(key.key());
+    let below = passed!(after.scalar());
+    on_segment!(alloc, h, segment => next(&segment, &which, below, at, value))
 }
 
 /// The same of a segment.
@@ -104,7 +86,7 @@ fn next(segment: &Segment, key: &Key, after: ScalarValue, at: &mut Value, value:
         Err(_) => NOT_FOUND,
         Ok(object) => match object.kind {
             Kind::Map(keys, values) => match value_as(keys, after) {
-                Err(why) => number_of(why),
+                Err(why) => code_of(why),
                 Ok(below) => pair_out(next_pair(segment, key, below, values), at, value),
             },
             _ => WRONG_KIND,

@@ -9,8 +9,9 @@ ghost use Rattle.segment_manager.specs.Answers.{Found, Made};
 ghost use Rattle.segment_manager.specs.Keeping.{HasKey, KeepsWhere};
 ghost use Rattle.segment_manager.specs.State.{IsReply, IsStep};
 
-use crate::codes::{BAD_COUNT, BAD_KIND, CLOSED, found, found_or_absent, made};
-use crate::handle::{Handle, put, take};
+use crate::calls::{on_segment, passed};
+use crate::codes::{BAD_COUNT, BAD_KIND, found, found_or_absent, made};
+use crate::handle::Handle;
 use crate::keys::ObjectKey;
 use crate::rows::Values;
 use crate::values::{Value, scalar_kind};
@@ -37,23 +38,12 @@ pub extern "C" fn zx_construct(
     ensures refused { KeepsRefused result h.old.value h.new.value }
     ensures results { 1 ≤ result → handle.new ≡ handle.old }
 {
-    let new = match value.scalar() {
-        Ok(it) => it,
-        Err(code) => return code,
-    };
+    let new = passed!(value.scalar());
     if count < 1 || count > MOST {
         return BAD_COUNT;
     }
-    let which = match key.new_key(Kind::Scalar(new.kind())) {
-        Ok(it) => it,
-        Err(code) => return code,
-    };
-    let Some(mut segment) = take(alloc, h) else {
-        return CLOSED;
-    };
-    let code = made(segment.construct_value(&which, count, new), handle);
-    put(h, segment);
-    code
+    let which = passed!(key.new_key(Kind::Scalar(new.kind())));
+    on_segment!(alloc, h, mut segment => made(segment.construct_value(&which, count, new), handle))
 }
 
 /// The scalars of a key, or `count` times a value where no object has it.
@@ -76,27 +66,13 @@ pub extern "C" fn zx_find_or_construct(
     ensures refused { KeepsRefused result h.old.value h.new.value }
     ensures results { 1 ≤ result → (handle.new ≡ handle.old) × (count_found.new ≡ count_found.old) }
 {
-    let new = match value.scalar() {
-        Ok(it) => it,
-        Err(code) => return code,
-    };
+    let new = passed!(value.scalar());
     if count < 1 || count > MOST {
         return BAD_COUNT;
     }
-    let which = match key.entry(Kind::Scalar(new.kind())) {
-        Ok(it) => it,
-        Err(code) => return code,
-    };
-    let Some(mut segment) = take(alloc, h) else {
-        return CLOSED;
-    };
-    let code = found(
-        segment.find_or_construct_value(&which, count, new),
-        handle,
-        count_found,
-    );
-    put(h, segment);
-    code
+    let which = passed!(key.entry(Kind::Scalar(new.kind())));
+    on_segment!(alloc, h, mut segment =>
+        found(segment.find_or_construct_value(&which, count, new), handle, count_found))
 }
 
 /// Makes a string.
@@ -115,16 +91,8 @@ pub extern "C" fn zx_construct_string(
     ensures refused { KeepsRefused result h.old.value h.new.value }
     ensures results { 1 ≤ result → handle.new ≡ handle.old }
 {
-    let which = match key.new_key(Kind::Text) {
-        Ok(it) => it,
-        Err(code) => return code,
-    };
-    let Some(mut segment) = take(alloc, h) else {
-        return CLOSED;
-    };
-    let code = made(segment.construct_string(&which, text), handle);
-    put(h, segment);
-    code
+    let which = passed!(key.new_key(Kind::Text));
+    on_segment!(alloc, h, mut segment => made(segment.construct_string(&which, text), handle))
 }
 
 /// The string of a key, or a new one of these bytes where no object has it.
@@ -146,20 +114,8 @@ pub extern "C" fn zx_find_or_construct_string(
     ensures refused { KeepsRefused result h.old.value h.new.value }
     ensures results { 1 ≤ result → (handle.new ≡ handle.old) × (count_found.new ≡ count_found.old) }
 {
-    let which = match key.entry(Kind::Text) {
-        Ok(it) => it,
-        Err(code) => return code,
-    };
-    let Some(mut segment) = take(alloc, h) else {
-        return CLOSED;
-    };
-    let code = found(
-        segment.find_or_construct_string(&which, text),
-        handle,
-        count_found,
-    );
-    put(h, segment);
-    code
+    let which = passed!(key.entry(Kind::Text));
+    on_segment!(alloc, h, mut segment => found(segment.find_or_construct_string(&which, text), handle, count_found))
 }
 
 /// Makes a vector of strings.
@@ -178,16 +134,8 @@ pub extern "C" fn zx_construct_strings(
     ensures refused { KeepsRefused result h.old.value h.new.value }
     ensures results { 1 ≤ result → handle.new ≡ handle.old }
 {
-    let which = match key.new_key(Kind::Texts) {
-        Ok(it) => it,
-        Err(code) => return code,
-    };
-    let Some(mut segment) = take(alloc, h) else {
-        return CLOSED;
-    };
-    let code = made(segment.construct_texts(&which, texts), handle);
-    put(h, segment);
-    code
+    let which = passed!(key.new_key(Kind::Texts));
+    on_segment!(alloc, h, mut segment => made(segment.construct_texts(&which, texts), handle))
 }
 
 /// The vector of strings of a key, or a new one of these where no object has it.
@@ -209,20 +157,8 @@ pub extern "C" fn zx_find_or_construct_strings(
     ensures refused { KeepsRefused result h.old.value h.new.value }
     ensures results { 1 ≤ result → (handle.new ≡ handle.old) × (count_found.new ≡ count_found.old) }
 {
-    let which = match key.entry(Kind::Texts) {
-        Ok(it) => it,
-        Err(code) => return code,
-    };
-    let Some(mut segment) = take(alloc, h) else {
-        return CLOSED;
-    };
-    let code = found(
-        segment.find_or_construct_texts(&which, texts),
-        handle,
-        count_found,
-    );
-    put(h, segment);
-    code
+    let which = passed!(key.entry(Kind::Texts));
+    on_segment!(alloc, h, mut segment => found(segment.find_or_construct_texts(&which, texts), handle, count_found))
 }
 
 /// Makes an empty map from keys of one kind to values of another.
@@ -248,16 +184,8 @@ pub extern "C" fn zx_construct_map(
     let Some(of_values) = scalar_kind(values) else {
         return BAD_KIND;
     };
-    let which = match key.new_key(Kind::Map(of_keys, of_values)) {
-        Ok(it) => it,
-        Err(code) => return code,
-    };
-    let Some(mut segment) = take(alloc, h) else {
-        return CLOSED;
-    };
-    let code = made(segment.construct_map_of(&which, of_keys, of_values), handle);
-    put(h, segment);
-    code
+    let which = passed!(key.new_key(Kind::Map(of_keys, of_values)));
+    on_segment!(alloc, h, mut segment => made(segment.construct_map_of(&which, of_keys, of_values), handle))
 }
 
 /// The map of a key, or a new one where no object has it.
@@ -286,20 +214,9 @@ pub extern "C" fn zx_find_or_construct_map(
     let Some(of_values) = scalar_kind(values) else {
         return BAD_KIND;
     };
-    let which = match key.entry(Kind::Map(of_keys, of_values)) {
-        Ok(it) => it,
-        Err(code) => return code,
-    };
-    let Some(mut segment) = take(alloc, h) else {
-        return CLOSED;
-    };
-    let code = found(
-        segment.find_or_construct_map_of(&which, of_keys, of_values),
-        handle,
-        count_found,
-    );
-    put(h, segment);
-    code
+    let which = passed!(key.entry(Kind::Map(of_keys, of_values)));
+    on_segment!(alloc, h, mut segment =>
+        found(segment.find_or_construct_map_of(&which, of_keys, of_values), handle, count_found))
 }
 
 /// The object of a kind under a key.
@@ -319,17 +236,9 @@ pub extern "C" fn zx_find(
     ensures same { h.new.value ≡ h.old.value }
     ensures results { 1 ≤ result → (handle.new ≡ handle.old) × (count.new ≡ count.old) }
 {
-    let which = match key.key() {
-        Ok(it) => it,
-        Err(code) => return code,
-    };
+    let which = passed!(key.key());
     let Some(of_kind) = Kind::from_code(kind) else {
         return BAD_KIND;
     };
-    let Some(segment) = take(alloc, h) else {
-        return CLOSED;
-    };
-    let code = found_or_absent(segment.find_kind(&which, of_kind), handle, count);
-    put(h, segment);
-    code
+    on_segment!(alloc, h, segment => found_or_absent(segment.find_kind(&which, of_kind), handle, count))
 }

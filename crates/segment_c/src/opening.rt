@@ -9,6 +9,7 @@ ghost use Rattle.segment_c.specs.Opening.{IsImageOpened, IsNoImage, IsWhyNotOpen
 ghost use Rattle.segment_c.specs.Passed.{or_else};
 ghost use Rattle.segment_manager.specs.State.{IsSegment};
 
+use crate::calls::passed;
 use crate::codes::{BAD_IMAGE, BAD_MODE, BAD_SIZE, DONE, NO_MEMORY, SHORT_REGION};
 use crate::growing::capacity_for;
 use crate::handle::{Handle, put};
@@ -42,13 +43,9 @@ pub extern "C" fn zx_open(
     let Some(mode) = mode_for(mode) else {
         return BAD_MODE;
     };
-    match open_boxed(alloc, image, capacity, mode) {
-        Ok(segment) => {
-            put(h, segment);
-            DONE
-        }
-        Err(code) => code,
-    }
+    let segment = passed!(open_boxed(alloc, image, capacity, mode));
+    put(h, segment);
+    DONE
 }
 
 /// Whether the bytes are the image of a segment.

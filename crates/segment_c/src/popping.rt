@@ -12,8 +12,9 @@ ghost use Rattle.segment_manager.specs.State.{Answers, IsStepOfKind, Moves, scal
 ghost use Rattle.segment_manager.specs.Step.{step_of_kind};
 ghost use Rattle.segment_manager.specs.TextLists.{LeadsOnOfKind};
 
-use crate::codes::{CLOSED, done, element};
-use crate::handle::{Handle, put, take};
+use crate::calls::{on_segment, passed};
+use crate::codes::{done, element};
+use crate::handle::Handle;
 use crate::keys::ObjectKey;
 use crate::values::Value;
 use seg_types::{Key, Kind, Refusal, ScalarKind, ScalarValue};
@@ -35,16 +36,8 @@ pub extern "C" fn zx_pop(
     ensures kept { 1 ≤ result → h.new.value ≡ h.old.value }
     ensures results { 1 ≤ result → value.new ≡ value.old }
 {
-    let which = match key.key() {
-        Ok(it) => it,
-        Err(code) => return code,
-    };
-    let Some(mut segment) = take(alloc, h) else {
-        return CLOSED;
-    };
-    let code = element(pop(&mut segment, &which), value);
-    put(h, segment);
-    code
+    let which = passed!(key.key());
+    on_segment!(alloc, h, mut segment => element(pop(&mut segment, &which), value))
 }
 
 /// The same of a segment.
@@ -56,32 +49,27 @@ fn pop(segment: &mut Segment, key: &Key) -> Result<ScalarValue, Refusal>
     pop_of_kind(segment, key, kind)
 }
 
+/// The last element of a vector of a type, taken out, with its kind beside it.
+macro_rules! popped {
+    ($segment:ident, $key:ident, $type:ty, $kind:ident) => {
+        match $segment.vec_pop::<$type, Key>($key) {
+            Ok(it) => Ok(ScalarValue::$kind(it)),
+            Err(why) => Err(why),
+        }
+    };
+}
+
 /// The same of a vector of scalars of a kind.
 fn pop_of_kind(segment: &mut Segment, key: &Key, kind: ScalarKind) -> Result<ScalarValue, Refusal>
     ensures step { IsStepOfKind segment.old segment.new (key_seen key.now) (VectorOf kind) (Pop (key_seen key.now)) (scalar_answer result) }
     ensures refused { OnErr result (segment.new ≡ segment.old) }
 {
     match kind {
-        ScalarKind::Bool => match segment.vec_pop::<bool, Key>(key) {
-            Ok(truth) => Ok(ScalarValue::Bool(truth)),
-            Err(why) => Err(why),
-        },
-        ScalarKind::U8 => match segment.vec_pop::<u8, Key>(key) {
-            Ok(number) => Ok(ScalarValue::U8(number)),
-            Err(why) => Err(why),
-        },
-        ScalarKind::I32 => match segment.vec_pop::<i32, Key>(key) {
-            Ok(number) => Ok(ScalarValue::I32(number)),
-            Err(why) => Err(why),
-        },
-        ScalarKind::I64 => match segment.vec_pop::<i64, Key>(key) {
-            Ok(number) => Ok(ScalarValue::I64(number)),
-            Err(why) => Err(why),
-        },
-        ScalarKind::U64 => match segment.vec_pop::<u64, Key>(key) {
-            Ok(number) => Ok(ScalarValue::U64(number)),
-            Err(why) => Err(why),
-        },
+        ScalarKind::Bool => popped!(segment, key, bool, Bool),
+        ScalarKind::U8 => popped!(segment, key, u8, U8),
+        ScalarKind::I32 => popped!(segment, key, i32, I32),
+        ScalarKind::I64 => popped!(segment, key, i64, I64),
+        ScalarKind::U64 => popped!(segment, key, u64, U64),
     }
 }
 
@@ -118,15 +106,6 @@ pub extern "C" fn zx_pop_text(alloc: Global, h: &mut Handle, key: &ObjectKey<'_>
         (λ s t. LeadsOnOfKind s t (key_of key.now) TextsKind (Pop (key_of key.now)) (refusal_of (answer_for result Done))) }
     ensures kept { 1 ≤ result → h.new.value ≡ h.old.value }
 {
-    let which = match key.key() {
-        Ok(it) => it,
-        Err(code) => return code,
-    };
-    let Some(mut segment) = take(alloc, h) else {
-        return CLOSED;
-    };
-    let popped = segment.texts_pop(&which);
-    let code = done(popped);
-    put(h, segment);
-    code
+    let which = passed!(key.key());
+    on_segment!(alloc, h, mut segment => done(segment.texts_pop(&which)))
 }

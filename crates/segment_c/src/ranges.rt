@@ -7,16 +7,17 @@ ghost use Rattle.seg_types.specs.Kinds.{truth_number};
 ghost use Rattle.segment_c.specs.Calls.{IsAsked, IsClosed, IsStopped};
 ghost use Rattle.segment_c.specs.Codes.{answer_for};
 ghost use Rattle.segment_c.specs.Passed.{key_of, key_wrong, numbers_of, or_else, row_of, row_wrong, scalar_kind_in};
-ghost use Rattle.segment_c.specs.Reads.{IsCoded};
+ghost use Rattle.segment_c.specs.Reads.{IsCoded, ReadsRange};
 ghost use Rattle.segment_manager.specs.Answers.{Done};
 ghost use Rattle.segment_manager.specs.Directory.{Directory};
 ghost use Rattle.segment_manager.specs.State.{StandsFor, State, done_answer};
 ghost use Rattle.segment_values.specs.Ranges.{WritesRange, range_at};
 
-use crate::codes::{CLOSED, DONE, done, number_of};
-use crate::handle::{Handle, put, take};
+use crate::calls::{on_segment, passed};
+use crate::codes::{DONE, code_of, done};
+use crate::handle::Handle;
 use crate::keys::ObjectKey;
-use crate::rows::Values;
+use crate::rows::{Values, on_slice};
 use seg_types::{Key, Refusal, Scalar, ScalarKind};
 use segment_manager::Segment;
 use std::alloc::Global;
@@ -28,8 +29,27 @@ fn read_row<T: Scalar>(segment: &Segment, key: &Key, first: u64, row: &mut [T]) 
 {
     match segment_values::read_elements(segment, key, first, row) {
         Ok(()) => DONE,
-        Err(why) => number_of(why),
+        Err(why) => code_of(why),
     }
+}
+
+/// Copies elements of the array or vector of a key into a row, of a type: as many as the row has, from `first` on.
+fn read_range<T: Scalar>(
+    alloc: Global,
+    h: &mut Handle,
+    key: &ObjectKey<'_>,
+    first: u64,
+    row: &mut [T],
+) -> u32
+    ensures stopped { IsStopped (key_wrong key.now) result h.old.value h.new.value }
+    ensures closed { IsClosed (key_wrong key.now) result h.old.value h.new.value }
+    ensures told { (s : State) → key_wrong key.now ≡ 0 → h.old.value ≡ Some s → (d : Directory) → StandsFor s.cut.bytes d
+        → IsCoded (λ zs. map T.whole row.new ≡ zs) result (range_at d (key_of key.now) T.kind first (length row.old)) }
+    ensures same { h.new.value ≡ h.old.value }
+    ensures results { 1 ≤ result → row.new ≡ row.old }
+{
+    let which = passed!(key.key());
+    on_segment!(alloc, h, segment => read_row(&segment, &which, first, row))
 }
 
 /// Copies elements of the array or vector of a key into a row of truths: as many as the row has, from `first` on.
@@ -41,23 +61,9 @@ pub extern "C" fn zx_read_bools(
     first: u64,
     row: &mut [bool],
 ) -> u32
-    ensures stopped { IsStopped (key_wrong key.now) result h.old.value h.new.value }
-    ensures closed { IsClosed (key_wrong key.now) result h.old.value h.new.value }
-    ensures told { (s : State) → key_wrong key.now ≡ 0 → h.old.value ≡ Some s → (d : Directory) → StandsFor s.cut.bytes d
-        → IsCoded (λ zs. map truth_number row.new ≡ zs) result (range_at d (key_of key.now) BoolKind first (length row.old)) }
-    ensures same { h.new.value ≡ h.old.value }
-    ensures results { 1 ≤ result → row.new ≡ row.old }
+    ensures { ReadsRange truth_number BoolKind key.now first row.old row.new result h.old.value h.new.value }
 {
-    let which = match key.key() {
-        Ok(it) => it,
-        Err(code) => return code,
-    };
-    let Some(segment) = take(alloc, h) else {
-        return CLOSED;
-    };
-    let code = read_row::<bool>(&segment, &which, first, row);
-    put(h, segment);
-    code
+    read_range::<bool>(alloc, h, key, first, row)
 }
 
 /// Copies elements of the array or vector of a key into a row of bytes: as many as the row has, from `first` on.
@@ -69,23 +75,9 @@ pub extern "C" fn zx_read_u8s(
     first: u64,
     row: &mut [u8],
 ) -> u32
-    ensures stopped { IsStopped (key_wrong key.now) result h.old.value h.new.value }
-    ensures closed { IsClosed (key_wrong key.now) result h.old.value h.new.value }
-    ensures told { (s : State) → key_wrong key.now ≡ 0 → h.old.value ≡ Some s → (d : Directory) → StandsFor s.cut.bytes d
-        → IsCoded (λ zs. map pos row.new ≡ zs) result (range_at d (key_of key.now) U8Kind first (length row.old)) }
-    ensures same { h.new.value ≡ h.old.value }
-    ensures results { 1 ≤ result → row.new ≡ row.old }
+    ensures { ReadsRange pos U8Kind key.now first row.old row.new result h.old.value h.new.value }
 {
-    let which = match key.key() {
-        Ok(it) => it,
-        Err(code) => return code,
-    };
-    let Some(segment) = take(alloc, h) else {
-        return CLOSED;
-    };
-    let code = read_row::<u8>(&segment, &which, first, row);
-    put(h, segment);
-    code
+    read_range::<u8>(alloc, h, key, first, row)
 }
 
 /// Copies elements of the array or vector of a key into a row of numbers of 32 bits: as many as the row has, from
@@ -98,23 +90,9 @@ pub extern "C" fn zx_read_i32s(
     first: u64,
     row: &mut [i32],
 ) -> u32
-    ensures stopped { IsStopped (key_wrong key.now) result h.old.value h.new.value }
-    ensures closed { IsClosed (key_wrong key.now) result h.old.value h.new.value }
-    ensures told { (s : State) → key_wrong key.now ≡ 0 → h.old.value ≡ Some s → (d : Directory) → StandsFor s.cut.bytes d
-        → IsCoded (λ zs. map (λ x. x) row.new ≡ zs) result (range_at d (key_of key.now) I32Kind first (length row.old)) }
-    ensures same { h.new.value ≡ h.old.value }
-    ensures results { 1 ≤ result → row.new ≡ row.old }
+    ensures { ReadsRange (λ x. x) I32Kind key.now first row.old row.new result h.old.value h.new.value }
 {
-    let which = match key.key() {
-        Ok(it) => it,
-        Err(code) => return code,
-    };
-    let Some(segment) = take(alloc, h) else {
-        return CLOSED;
-    };
-    let code = read_row::<i32>(&segment, &which, first, row);
-    put(h, segment);
-    code
+    read_range::<i32>(alloc, h, key, first, row)
 }
 
 /// Copies elements of the array or vector of a key into a row of signed numbers of 64 bits: as many as the row has,
@@ -127,23 +105,9 @@ pub extern "C" fn zx_read_i64s(
     first: u64,
     row: &mut [i64],
 ) -> u32
-    ensures stopped { IsStopped (key_wrong key.now) result h.old.value h.new.value }
-    ensures closed { IsClosed (key_wrong key.now) result h.old.value h.new.value }
-    ensures told { (s : State) → key_wrong key.now ≡ 0 → h.old.value ≡ Some s → (d : Directory) → StandsFor s.cut.bytes d
-        → IsCoded (λ zs. map (λ x. x) row.new ≡ zs) result (range_at d (key_of key.now) I64Kind first (length row.old)) }
-    ensures same { h.new.value ≡ h.old.value }
-    ensures results { 1 ≤ result → row.new ≡ row.old }
+    ensures { ReadsRange (λ x. x) I64Kind key.now first row.old row.new result h.old.value h.new.value }
 {
-    let which = match key.key() {
-        Ok(it) => it,
-        Err(code) => return code,
-    };
-    let Some(segment) = take(alloc, h) else {
-        return CLOSED;
-    };
-    let code = read_row::<i64>(&segment, &which, first, row);
-    put(h, segment);
-    code
+    read_range::<i64>(alloc, h, key, first, row)
 }
 
 /// Copies elements of the array or vector of a key into a row of numbers of 64 bits without a sign: as many as the row
@@ -156,23 +120,9 @@ pub extern "C" fn zx_read_u64s(
     first: u64,
     row: &mut [u64],
 ) -> u32
-    ensures stopped { IsStopped (key_wrong key.now) result h.old.value h.new.value }
-    ensures closed { IsClosed (key_wrong key.now) result h.old.value h.new.value }
-    ensures told { (s : State) → key_wrong key.now ≡ 0 → h.old.value ≡ Some s → (d : Directory) → StandsFor s.cut.bytes d
-        → IsCoded (λ zs. map pos row.new ≡ zs) result (range_at d (key_of key.now) U64Kind first (length row.old)) }
-    ensures same { h.new.value ≡ h.old.value }
-    ensures results { 1 ≤ result → row.new ≡ row.old }
+    ensures { ReadsRange pos U64Kind key.now first row.old row.new result h.old.value h.new.value }
 {
-    let which = match key.key() {
-        Ok(it) => it,
-        Err(code) => return code,
-    };
-    let Some(segment) = take(alloc, h) else {
-        return CLOSED;
-    };
-    let code = read_row::<u64>(&segment, &which, first, row);
-    put(h, segment);
-    code
+    read_range::<u64>(alloc, h, key, first, row)
 }
 
 /// Makes the values of a row, of which the slice of a kind is meant, elements of the object of a key, from `first` on.
@@ -186,13 +136,7 @@ fn write_row(
     ensures step { WritesRange segment.old segment.new (key_seen key.now) kind first (numbers_of row.now kind) (done_answer result) }
     ensures refused { OnErr result (segment.new ≡ segment.old) }
 {
-    match kind {
-        ScalarKind::Bool => segment_values::write_elements(segment, key, first, row.truths),
-        ScalarKind::U8 => segment_values::write_elements(segment, key, first, row.bytes),
-        ScalarKind::I32 => segment_values::write_elements(segment, key, first, row.i32s),
-        ScalarKind::I64 => segment_values::write_elements(segment, key, first, row.i64s),
-        ScalarKind::U64 => segment_values::write_elements(segment, key, first, row.u64s),
-    }
+    on_slice!(row, kind, slice => segment_values::write_elements(segment, key, first, slice))
 }
 
 /// Makes the values elements of the array or vector of a key, of their kind, from `first` on: all of them or none.
@@ -210,18 +154,7 @@ pub extern "C" fn zx_write_elements(
         (λ s t. WritesRange s t (key_of key.now) (scalar_kind_in values.now.kind) first (row_of values.now) (answer_for result Done)) }
     ensures kept { 1 ≤ result → h.new.value ≡ h.old.value }
 {
-    let which = match key.key() {
-        Ok(it) => it,
-        Err(code) => return code,
-    };
-    let kind = match values.scalar_kind() {
-        Ok(it) => it,
-        Err(code) => return code,
-    };
-    let Some(mut segment) = take(alloc, h) else {
-        return CLOSED;
-    };
-    let code = done(write_row(&mut segment, &which, first, kind, values));
-    put(h, segment);
-    code
+    let which = passed!(key.key());
+    let kind = passed!(values.scalar_kind());
+    on_segment!(alloc, h, mut segment => done(write_row(&mut segment, &which, first, kind, values)))
 }

@@ -12,8 +12,9 @@ ghost use Rattle.segment_manager.specs.Directory.{Directory};
 ghost use Rattle.segment_manager.specs.State.{StandsFor, State};
 ghost use Rattle.segment_manager.specs.Step.{step_of_kind};
 
-use crate::codes::{CLOSED, DONE, number_of};
-use crate::handle::{Handle, put, take};
+use crate::calls::{on_segment, passed};
+use crate::codes::{DONE, code_of};
+use crate::handle::Handle;
 use crate::images::copy_out;
 use crate::keys::ObjectKey;
 use seg_types::Key;
@@ -36,16 +37,8 @@ pub extern "C" fn zx_measure(
     ensures same { h.new.value ≡ h.old.value }
     ensures results { 1 ≤ result → (len.new ≡ len.old) × (places.new ≡ places.old) }
 {
-    let which = match key.key() {
-        Ok(it) => it,
-        Err(code) => return code,
-    };
-    let Some(segment) = take(alloc, h) else {
-        return CLOSED;
-    };
-    let code = measure(&segment, &which, len, places);
-    put(h, segment);
-    code
+    let which = passed!(key.key());
+    on_segment!(alloc, h, segment => measure(&segment, &which, len, places))
 }
 
 /// The same of a segment.
@@ -59,7 +52,7 @@ fn measure(segment: &Segment, key: &Key, len: &mut u64, places: &mut u64) -> u32
             *places = capacity;
             DONE
         }
-        Err(why) => number_of(why),
+        Err(why) => code_of(why),
     }
 }
 
@@ -81,16 +74,8 @@ pub extern "C" fn zx_read_string(
     ensures results { 1 ≤ result → text.new ≡ text.old }
     ensures length { 1 ≤ result → result ≢ 24 → len.new ≡ len.old }
 {
-    let which = match key.key() {
-        Ok(it) => it,
-        Err(code) => return code,
-    };
-    let Some(segment) = take(alloc, h) else {
-        return CLOSED;
-    };
-    let code = read_string(&segment, &which, text, len);
-    put(h, segment);
-    code
+    let which = passed!(key.key());
+    on_segment!(alloc, h, segment => read_string(&segment, &which, text, len))
 }
 
 /// The same of a segment.
@@ -101,7 +86,7 @@ fn read_string(segment: &Segment, key: &Key, text: &mut [u8], len: &mut u64) -> 
 {
     match segment.string_bytes(key) {
         Ok(bytes) => copy_text(bytes, text, len),
-        Err(why) => number_of(why),
+        Err(why) => code_of(why),
     }
 }
 
@@ -124,16 +109,8 @@ pub extern "C" fn zx_read_text(
     ensures results { 1 ≤ result → text.new ≡ text.old }
     ensures length { 1 ≤ result → result ≢ 24 → len.new ≡ len.old }
 {
-    let which = match key.key() {
-        Ok(it) => it,
-        Err(code) => return code,
-    };
-    let Some(segment) = take(alloc, h) else {
-        return CLOSED;
-    };
-    let code = read_text(&segment, &which, index, text, len);
-    put(h, segment);
-    code
+    let which = passed!(key.key());
+    on_segment!(alloc, h, segment => read_text(&segment, &which, index, text, len))
 }
 
 /// The same of a segment.
@@ -145,7 +122,7 @@ fn read_text(segment: &Segment, key: &Key, index: u64, text: &mut [u8], len: &mu
 {
     match segment.texts_get(key, index) {
         Ok(bytes) => copy_text(bytes, text, len),
-        Err(why) => number_of(why),
+        Err(why) => code_of(why),
     }
 }
 

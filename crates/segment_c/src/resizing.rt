@@ -10,10 +10,9 @@ ghost use Rattle.segment_manager.specs.Directory.{Directory};
 ghost use Rattle.segment_manager.specs.Resized.{Resizes, shrunk};
 ghost use Rattle.segment_manager.specs.State.{StandsFor, State};
 
-use crate::codes::{
-    BAD_GROWTH, BAD_SIZE, CLOSED, DONE, NO_MEMORY, READ_ONLY, SHORT_REGION, TOO_LARGE,
-};
-use crate::handle::{Handle, put, take};
+use crate::calls::{on_segment, passed};
+use crate::codes::{BAD_GROWTH, BAD_SIZE, DONE, NO_MEMORY, READ_ONLY, SHORT_REGION, TOO_LARGE};
+use crate::handle::Handle;
 use grow_shrink::GrowError;
 use raw_region::{RawRegion, Window};
 use segment_manager::Segment;
@@ -31,12 +30,7 @@ pub extern "C" fn zx_shrink(alloc: Global, h: &mut Handle) -> u32
     ensures shrunk { (s : State) → h.old.value ≡ Some s → result ≡ 0 → Opened h.new.value (λ t. Resizes s t (λ d. shrunk d)) }
     ensures kept { 1 ≤ result → h.new.value ≡ h.old.value }
 {
-    let Some(mut segment) = take(alloc, h) else {
-        return CLOSED;
-    };
-    let code = shrink(&mut segment);
-    put(h, segment);
-    code
+    on_segment!(alloc, h, mut segment => shrink(&mut segment))
 }
 
 /// The same of a segment.
@@ -76,12 +70,7 @@ pub extern "C" fn zx_relocate(alloc: Global, h: &mut Handle, capacity: u64) -> u
     if capacity < 16 || capacity > LARGEST_REGION || capacity % 16 != 0 {
         return BAD_SIZE;
     }
-    let Some(mut segment) = take(alloc, h) else {
-        return CLOSED;
-    };
-    let code = relocate(alloc, &mut segment, capacity);
-    put(h, segment);
-    code
+    on_segment!(alloc, h, mut segment => relocate(alloc, &mut segment, capacity))
 }
 
 /// The same of a segment.
@@ -91,13 +80,9 @@ fn relocate(alloc: Global, segment: &mut Segment, capacity: u64) -> u32
     ensures why { 1 ≤ result → ((result ≡ 27) × (capacity < length segment.old.cut.bytes)) ⊎ (result ≡ 26) }
     ensures kept { 1 ≤ result → segment.new ≡ segment.old }
 {
-    match moved(alloc, segment, capacity) {
-        Ok(copy) => {
-            *segment = copy;
-            DONE
-        }
-        Err(code) => code,
-    }
+    let copy = passed!(moved(alloc, segment, capacity));
+    *segment = copy;
+    DONE
 }
 
 /// A copy of a segment at the front of a region of `capacity` bytes.

@@ -18,6 +18,36 @@ pub struct Values<'a> {
     pub u64s: &'a [u64],
 }
 
+/// What is made of the slice of a row that a kind means.
+macro_rules! on_slice {
+    ($row:expr, $kind:expr, $slice:ident => $call:expr) => {
+        match $kind {
+            ScalarKind::Bool => {
+                let $slice = $row.truths;
+                $call
+            }
+            ScalarKind::U8 => {
+                let $slice = $row.bytes;
+                $call
+            }
+            ScalarKind::I32 => {
+                let $slice = $row.i32s;
+                $call
+            }
+            ScalarKind::I64 => {
+                let $slice = $row.i64s;
+                $call
+            }
+            ScalarKind::U64 => {
+                let $slice = $row.u64s;
+                $call
+            }
+        }
+    };
+}
+
+pub(crate) use on_slice;
+
 impl Values<'_> {
     /// Which slice is meant.
     ///
@@ -40,12 +70,6 @@ impl Values<'_> {
     pub fn count(&self, kind: ScalarKind) -> usize
         ensures { result ≡ many_of self.now kind }
     {
-        match kind {
-            ScalarKind::Bool => self.truths.len(),
-            ScalarKind::U8 => self.bytes.len(),
-            ScalarKind::I32 => self.i32s.len(),
-            ScalarKind::I64 => self.i64s.len(),
-            ScalarKind::U64 => self.u64s.len(),
-        }
+        on_slice!(self, kind, slice => slice.len())
     }
 }

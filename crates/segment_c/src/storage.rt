@@ -9,8 +9,9 @@ ghost use Rattle.segment_manager.specs.Calls.{HasZeroGaps};
 ghost use Rattle.segment_manager.specs.Keeping.{HasPlaces, KeepsWhere};
 ghost use Rattle.segment_manager.specs.State.{IsReply, IsStep};
 
-use crate::codes::{CLOSED, DONE, done};
-use crate::handle::{Handle, put, take};
+use crate::calls::{on_segment, passed};
+use crate::codes::{DONE, done};
+use crate::handle::Handle;
 use crate::keys::ObjectKey;
 use std::alloc::Global;
 
@@ -24,16 +25,8 @@ pub extern "C" fn zx_reserve(alloc: Global, h: &mut Handle, key: &ObjectKey<'_>,
     ensures enough { IsAsked (key_wrong key.now) result h.old.value h.new.value (λ s t. KeepsWhere s t (HasPlaces (key_of key.now) places)) }
     ensures kept { 1 ≤ result → h.new.value ≡ h.old.value }
 {
-    let which = match key.key() {
-        Ok(it) => it,
-        Err(code) => return code,
-    };
-    let Some(mut segment) = take(alloc, h) else {
-        return CLOSED;
-    };
-    let code = done(segment.reserve(&which, places));
-    put(h, segment);
-    code
+    let which = passed!(key.key());
+    on_segment!(alloc, h, mut segment => done(segment.reserve(&which, places)))
 }
 
 /// Gives back the places of the vector or string of a key that have no element.
@@ -45,16 +38,8 @@ pub extern "C" fn zx_trim(alloc: Global, h: &mut Handle, key: &ObjectKey<'_>) ->
         (λ s t. IsStep s t (Shrink (key_of key.now)) (answer_for result Done)) }
     ensures kept { 1 ≤ result → h.new.value ≡ h.old.value }
 {
-    let which = match key.key() {
-        Ok(it) => it,
-        Err(code) => return code,
-    };
-    let Some(mut segment) = take(alloc, h) else {
-        return CLOSED;
-    };
-    let code = done(segment.shrink(&which));
-    put(h, segment);
-    code
+    let which = passed!(key.key());
+    on_segment!(alloc, h, mut segment => done(segment.shrink(&which)))
 }
 
 /// Takes all elements out of the vector or string of a key.
@@ -66,16 +51,8 @@ pub extern "C" fn zx_clear(alloc: Global, h: &mut Handle, key: &ObjectKey<'_>) -
         (λ s t. IsStep s t (Clear (key_of key.now)) (answer_for result Done)) }
     ensures kept { 1 ≤ result → h.new.value ≡ h.old.value }
 {
-    let which = match key.key() {
-        Ok(it) => it,
-        Err(code) => return code,
-    };
-    let Some(mut segment) = take(alloc, h) else {
-        return CLOSED;
-    };
-    let code = done(segment.clear(&which));
-    put(h, segment);
-    code
+    let which = passed!(key.key());
+    on_segment!(alloc, h, mut segment => done(segment.clear(&which)))
 }
 
 /// Makes room in the index of names.
@@ -87,12 +64,7 @@ pub extern "C" fn zx_reserve_named(alloc: Global, h: &mut Handle, places: u64) -
     ensures enough { IsAsked (0) result h.old.value h.new.value (λ s t. KeepsWhere s t (λ d. places ≤ d.named.capacity)) }
     ensures refused { KeepsRefused result h.old.value h.new.value }
 {
-    let Some(mut segment) = take(alloc, h) else {
-        return CLOSED;
-    };
-    let code = done(segment.reserve_named(places));
-    put(h, segment);
-    code
+    on_segment!(alloc, h, mut segment => done(segment.reserve_named(places)))
 }
 
 /// Makes room in the index of unique kinds.
@@ -104,12 +76,7 @@ pub extern "C" fn zx_reserve_unique(alloc: Global, h: &mut Handle, places: u64) 
     ensures enough { IsAsked (0) result h.old.value h.new.value (λ s t. KeepsWhere s t (λ d. places ≤ d.unique.capacity)) }
     ensures refused { KeepsRefused result h.old.value h.new.value }
 {
-    let Some(mut segment) = take(alloc, h) else {
-        return CLOSED;
-    };
-    let code = done(segment.reserve_unique(places));
-    put(h, segment);
-    code
+    on_segment!(alloc, h, mut segment => done(segment.reserve_unique(places)))
 }
 
 /// Gives back the room of the indexes that no entry uses.
@@ -120,12 +87,7 @@ pub extern "C" fn zx_shrink_indexes(alloc: Global, h: &mut Handle) -> u32
         (λ s t. IsStep s t ShrinkIndexes (answer_for result Done)) }
     ensures kept { 1 ≤ result → h.new.value ≡ h.old.value }
 {
-    let Some(mut segment) = take(alloc, h) else {
-        return CLOSED;
-    };
-    let code = done(segment.shrink_indexes());
-    put(h, segment);
-    code
+    on_segment!(alloc, h, mut segment => done(segment.shrink_indexes()))
 }
 
 /// Makes the free bytes 0 that are no part of a tag.
@@ -137,12 +99,7 @@ pub extern "C" fn zx_zero_free(alloc: Global, h: &mut Handle) -> u32
     ensures zeros { IsAsked (0) result h.old.value h.new.value (λ s t. result ≡ 0 → HasZeroGaps t) }
     ensures kept { 1 ≤ result → h.new.value ≡ h.old.value }
 {
-    let Some(mut segment) = take(alloc, h) else {
-        return CLOSED;
-    };
-    let code = done(segment.zero_free());
-    put(h, segment);
-    code
+    on_segment!(alloc, h, mut segment => done(segment.zero_free()))
 }
 
 /// Whether the segment is whole, as each segment is.
@@ -154,12 +111,7 @@ pub extern "C" fn zx_sanity(alloc: Global, h: &mut Handle, is_whole: &mut bool) 
     ensures same { h.new.value ≡ h.old.value }
     ensures results { 1 ≤ result → is_whole.new ≡ is_whole.old }
 {
-    let Some(segment) = take(alloc, h) else {
-        return CLOSED;
-    };
-    *is_whole = segment.sanity();
-    put(h, segment);
-    DONE
+    on_segment!(alloc, h, segment => { *is_whole = segment.sanity(); DONE })
 }
 
 /// Whether no block is in use, index blocks included.
@@ -171,10 +123,5 @@ pub extern "C" fn zx_all_deallocated(alloc: Global, h: &mut Handle, is_empty: &m
     ensures same { h.new.value ≡ h.old.value }
     ensures results { 1 ≤ result → is_empty.new ≡ is_empty.old }
 {
-    let Some(segment) = take(alloc, h) else {
-        return CLOSED;
-    };
-    *is_empty = segment.all_deallocated();
-    put(h, segment);
-    DONE
+    on_segment!(alloc, h, segment => { *is_empty = segment.all_deallocated(); DONE })
 }

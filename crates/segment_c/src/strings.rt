@@ -8,8 +8,9 @@ ghost use Rattle.segment_c.specs.Passed.{key_of, key_wrong};
 ghost use Rattle.segment_manager.specs.Answers.{Done};
 ghost use Rattle.segment_manager.specs.State.{IsStepOfKind};
 
-use crate::codes::{CLOSED, done};
-use crate::handle::{Handle, put, take};
+use crate::calls::{on_segment, passed};
+use crate::codes::done;
+use crate::handle::Handle;
 use crate::keys::ObjectKey;
 use std::alloc::Global;
 
@@ -27,16 +28,8 @@ pub extern "C" fn zx_assign_string(
         (λ s t. IsStepOfKind s t (key_of key.now) TextKind (Assign (key_of key.now) (Quoted text.now ∷ [])) (answer_for result Done)) }
     ensures kept { 1 ≤ result → h.new.value ≡ h.old.value }
 {
-    let which = match key.key() {
-        Ok(it) => it,
-        Err(code) => return code,
-    };
-    let Some(mut segment) = take(alloc, h) else {
-        return CLOSED;
-    };
-    let code = done(segment.string_assign(&which, text));
-    put(h, segment);
-    code
+    let which = passed!(key.key());
+    on_segment!(alloc, h, mut segment => done(segment.string_assign(&which, text)))
 }
 
 /// Puts bytes behind those of the string of a key.
@@ -48,16 +41,8 @@ pub extern "C" fn zx_append(alloc: Global, h: &mut Handle, key: &ObjectKey<'_>, 
         (λ s t. IsStepOfKind s t (key_of key.now) TextKind (Append (key_of key.now) text.now) (answer_for result Done)) }
     ensures kept { 1 ≤ result → h.new.value ≡ h.old.value }
 {
-    let which = match key.key() {
-        Ok(it) => it,
-        Err(code) => return code,
-    };
-    let Some(mut segment) = take(alloc, h) else {
-        return CLOSED;
-    };
-    let code = done(segment.string_append(&which, text));
-    put(h, segment);
-    code
+    let which = passed!(key.key());
+    on_segment!(alloc, h, mut segment => done(segment.string_append(&which, text)))
 }
 
 /// Makes a text the one at `index` in the vector of strings of a key.
@@ -75,16 +60,8 @@ pub extern "C" fn zx_set_text(
         (λ s t. IsStepOfKind s t (key_of key.now) TextsKind (Set (key_of key.now) index (Quoted text.now)) (answer_for result Done)) }
     ensures kept { 1 ≤ result → h.new.value ≡ h.old.value }
 {
-    let which = match key.key() {
-        Ok(it) => it,
-        Err(code) => return code,
-    };
-    let Some(mut segment) = take(alloc, h) else {
-        return CLOSED;
-    };
-    let code = done(segment.texts_set(&which, index, text));
-    put(h, segment);
-    code
+    let which = passed!(key.key());
+    on_segment!(alloc, h, mut segment => done(segment.texts_set(&which, index, text)))
 }
 
 /// Puts a text behind the last one of the vector of strings of a key.
@@ -101,16 +78,8 @@ pub extern "C" fn zx_push_text(
         (λ s t. IsStepOfKind s t (key_of key.now) TextsKind (Push (key_of key.now) (Quoted text.now)) (answer_for result Done)) }
     ensures refused { KeepsRefused result h.old.value h.new.value }
 {
-    let which = match key.key() {
-        Ok(it) => it,
-        Err(code) => return code,
-    };
-    let Some(mut segment) = take(alloc, h) else {
-        return CLOSED;
-    };
-    let code = done(segment.texts_push(&which, text));
-    put(h, segment);
-    code
+    let which = passed!(key.key());
+    on_segment!(alloc, h, mut segment => done(segment.texts_push(&which, text)))
 }
 
 /// Puts a text where `index` others stand before it in the vector of strings of a key.
@@ -128,16 +97,8 @@ pub extern "C" fn zx_insert_text(
         (λ s t. IsStepOfKind s t (key_of key.now) TextsKind (Insert (key_of key.now) index (Quoted text.now)) (answer_for result Done)) }
     ensures refused { KeepsRefused result h.old.value h.new.value }
 {
-    let which = match key.key() {
-        Ok(it) => it,
-        Err(code) => return code,
-    };
-    let Some(mut segment) = take(alloc, h) else {
-        return CLOSED;
-    };
-    let code = done(segment.texts_insert(&which, index, text));
-    put(h, segment);
-    code
+    let which = passed!(key.key());
+    on_segment!(alloc, h, mut segment => done(segment.texts_insert(&which, index, text)))
 }
 
 /// Makes texts those of the vector of strings of a key.
@@ -154,14 +115,6 @@ pub extern "C" fn zx_assign_texts(
         (λ s t. IsStepOfKind s t (key_of key.now) TextsKind (Assign (key_of key.now) (map Quoted (map (λ text. text.now) texts.now))) (answer_for result Done)) }
     ensures refused { KeepsRefused result h.old.value h.new.value }
 {
-    let which = match key.key() {
-        Ok(it) => it,
-        Err(code) => return code,
-    };
-    let Some(mut segment) = take(alloc, h) else {
-        return CLOSED;
-    };
-    let code = done(segment.texts_assign(&which, texts));
-    put(h, segment);
-    code
+    let which = passed!(key.key());
+    on_segment!(alloc, h, mut segment => done(segment.texts_assign(&which, texts)))
 }

@@ -12,10 +12,11 @@ ghost use Rattle.segment_manager.specs.Keeping.{HasKey, KeepsWhere};
 ghost use Rattle.segment_manager.specs.NewObjects.{IsOfKind};
 ghost use Rattle.segment_manager.specs.State.{IsStep, IsStepOfKind, KeepsRefused as KeepsOld, done_answer, handle_answer};
 
-use crate::codes::{CLOSED, done, found, made};
-use crate::handle::{Handle, put, take};
+use crate::calls::{on_segment, passed};
+use crate::codes::{done, found, made};
+use crate::handle::Handle;
 use crate::keys::ObjectKey;
-use crate::rows::Values;
+use crate::rows::{Values, on_slice};
 use seg_types::{IndexKey, Key, Kind, NewKey, Refusal, ScalarKind};
 use segment_manager::Segment;
 use std::alloc::Global;
@@ -31,13 +32,7 @@ fn construct_row(
     ensures step { IsStep segment.old segment.new (Construct (new_key_seen key.now) (Elements kind (numbers_of row.now kind))) (handle_answer result) }
     ensures refused { KeepsOld segment.old segment.new result }
 {
-    match kind {
-        ScalarKind::Bool => segment.construct_vec(key, row.truths),
-        ScalarKind::U8 => segment.construct_vec(key, row.bytes),
-        ScalarKind::I32 => segment.construct_vec(key, row.i32s),
-        ScalarKind::I64 => segment.construct_vec(key, row.i64s),
-        ScalarKind::U64 => segment.construct_vec(key, row.u64s),
-    }
+    on_slice!(row, kind, slice => segment.construct_vec(key, slice))
 }
 
 /// The vector of a key, or a new one of the values of a row, of which the slice of a kind is meant.
@@ -52,13 +47,7 @@ fn find_or_construct_row(
     ensures refused { KeepsOld segment.old segment.new result }
     ensures found { KeepsWhere segment.old segment.new (HasKey (index_key_seen key.now)) }
 {
-    match kind {
-        ScalarKind::Bool => segment.find_or_construct_vec(key, row.truths),
-        ScalarKind::U8 => segment.find_or_construct_vec(key, row.bytes),
-        ScalarKind::I32 => segment.find_or_construct_vec(key, row.i32s),
-        ScalarKind::I64 => segment.find_or_construct_vec(key, row.i64s),
-        ScalarKind::U64 => segment.find_or_construct_vec(key, row.u64s),
-    }
+    on_slice!(row, kind, slice => segment.find_or_construct_vec(key, slice))
 }
 
 /// Makes the values of a row those of a vector, of which the slice of a kind is meant.
@@ -71,13 +60,7 @@ fn assign_row(
     ensures step { IsStepOfKind segment.old segment.new (key_seen key.now) (VectorOf kind) (Assign (key_seen key.now) (map (literal_of kind) (numbers_of row.now kind))) (done_answer result) }
     ensures refused { OnErr result (segment.new ≡ segment.old) }
 {
-    match kind {
-        ScalarKind::Bool => segment.vec_assign(key, row.truths),
-        ScalarKind::U8 => segment.vec_assign(key, row.bytes),
-        ScalarKind::I32 => segment.vec_assign(key, row.i32s),
-        ScalarKind::I64 => segment.vec_assign(key, row.i64s),
-        ScalarKind::U64 => segment.vec_assign(key, row.u64s),
-    }
+    on_slice!(row, kind, slice => segment.vec_assign(key, slice))
 }
 
 /// Makes a vector of the values.
@@ -96,20 +79,9 @@ pub extern "C" fn zx_construct_vector(
     ensures refused { KeepsRefused result h.old.value h.new.value }
     ensures results { 1 ≤ result → handle.new ≡ handle.old }
 {
-    let kind = match values.scalar_kind() {
-        Ok(it) => it,
-        Err(code) => return code,
-    };
-    let which = match key.new_key(Kind::Vector(kind)) {
-        Ok(it) => it,
-        Err(code) => return code,
-    };
-    let Some(mut segment) = take(alloc, h) else {
-        return CLOSED;
-    };
-    let code = made(construct_row(&mut segment, &which, kind, values), handle);
-    put(h, segment);
-    code
+    let kind = passed!(values.scalar_kind());
+    let which = passed!(key.new_key(Kind::Vector(kind)));
+    on_segment!(alloc, h, mut segment => made(construct_row(&mut segment, &which, kind, values), handle))
 }
 
 /// The vector of a key, which stays as it is, or a new one of the values where no object has it.
@@ -131,24 +103,10 @@ pub extern "C" fn zx_find_or_construct_vector(
     ensures refused { KeepsRefused result h.old.value h.new.value }
     ensures results { 1 ≤ result → (handle.new ≡ handle.old) × (count_found.new ≡ count_found.old) }
 {
-    let kind = match values.scalar_kind() {
-        Ok(it) => it,
-        Err(code) => return code,
-    };
-    let which = match key.entry(Kind::Vector(kind)) {
-        Ok(it) => it,
-        Err(code) => return code,
-    };
-    let Some(mut segment) = take(alloc, h) else {
-        return CLOSED;
-    };
-    let code = found(
-        find_or_construct_row(&mut segment, &which, kind, values),
-        handle,
-        count_found,
-    );
-    put(h, segment);
-    code
+    let kind = passed!(values.scalar_kind());
+    let which = passed!(key.entry(Kind::Vector(kind)));
+    on_segment!(alloc, h, mut segment =>
+        found(find_or_construct_row(&mut segment, &which, kind, values), handle, count_found))
 }
 
 /// Makes the values those of the vector of a key, a vector of their kind.
@@ -165,18 +123,7 @@ pub extern "C" fn zx_assign(
         (λ s t. IsStepOfKind s t (key_of key.now) (VectorOf (scalar_kind_in values.now.kind)) (Assign (key_of key.now) (map (literal_of (scalar_kind_in values.now.kind)) (row_of values.now))) (answer_for result Done)) }
     ensures kept { 1 ≤ result → h.new.value ≡ h.old.value }
 {
-    let which = match key.key() {
-        Ok(it) => it,
-        Err(code) => return code,
-    };
-    let kind = match values.scalar_kind() {
-        Ok(it) => it,
-        Err(code) => return code,
-    };
-    let Some(mut segment) = take(alloc, h) else {
-        return CLOSED;
-    };
-    let code = done(assign_row(&mut segment, &which, kind, values));
-    put(h, segment);
-    code
+    let which = passed!(key.key());
+    let kind = passed!(values.scalar_kind());
+    on_segment!(alloc, h, mut segment => done(assign_row(&mut segment, &which, kind, values)))
 }

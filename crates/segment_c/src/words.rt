@@ -1,6 +1,6 @@
 //! The words for the codes.
 ghost use Rattle.std.specs.Prelude.{◌≡◌};
-ghost use Rattle.segment_c.specs.Words.{code_words, image_words, passed_words};
+ghost use Rattle.segment_c.specs.Words.{code_words};
 
 /// The words for a code, which stay as long as the program runs; none where it is no code.
 #[unsafe(no_mangle)]
@@ -23,15 +23,6 @@ fn code_words(code: u32) -> &'static [u8]
         8 => b"out of range",
         9 => b"no space",
         10 => b"nothing is there",
-        _ => passed_words(code),
-    }
-}
-
-/// Those that are about what was passed, and the classes of images.
-fn passed_words(code: u32) -> &'static [u8]
-    ensures { result.now ≡ passed_words code }
-{
-    match code {
         16 => b"the handle is closed",
         17 => b"no such key",
         18 => b"no name",
@@ -46,15 +37,6 @@ fn passed_words(code: u32) -> &'static [u8]
         27 => b"region too small",
         28 => b"growth is no multiple of 16 from 32 on",
         29 => b"too large",
-        _ => image_words(code),
-    }
-}
-
-/// The classes of images that are none.
-fn image_words(code: u32) -> &'static [u8]
-    ensures { result.now ≡ image_words code }
-{
-    match code {
         101 => b"the image ends too early",
         102 => b"the image does not begin with the magic",
         103 => b"the version is not supported",

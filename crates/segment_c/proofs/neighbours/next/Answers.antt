@@ -20,7 +20,7 @@ pub returns-in-Err-value_as-clause-told : goal.returns-in-Err-value_as-clause-to
 returns-in-Err-value_as-clause-told c =
     next-refused c.args.segment.now (key_seen c.args.key.now) c.args.at.now c.args.value.now c.in-Map.keys c.in-Map.values
     (subst (λ (k : Kind). Answers c.args.segment.now (λ d. kind_at d (key_seen c.args.key.now)) (Ok k)) c.in-Map.is (kind-by_key c.args.segment.now (key_seen c.args.key.now) c.in-Ok.object c.in-Ok.ensures))
-    c.number_of.result (literal_seen c.args.after) c.in-Err-value_as.why c.in-Err-value_as.ensures c.number_of.ensures.number
+    c.code_of.result (literal_seen c.args.after) c.in-Err-value_as.why c.in-Err-value_as.ensures c.code_of.ensures.number
 
 pub next_pair-requires-clause-map : goal.next_pair-requires-clause-map
 next_pair-requires-clause-map c =

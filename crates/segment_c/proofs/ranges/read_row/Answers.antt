@@ -10,5 +10,5 @@ returns-in-Ok-clause-told g c = λ d st.
 
 pub returns-in-Err-clause-told : goal.returns-in-Err-clause-told
 returns-in-Err-clause-told g c = λ d st.
-    subst (IsCoded (λ zs. map g.T.Scalar.whole c.read_elements.new.row ≡ zs) c.number_of.result)
-    (ap (read_into g.T.Scalar.whole c.read_elements.new.row) (sym c.in-Err.is) ∙ c.read_elements.ensures.read.answers d st) c.number_of.ensures.number
+    subst (IsCoded (λ zs. map g.T.Scalar.whole c.read_elements.new.row ≡ zs) c.code_of.result)
+    (ap (read_into g.T.Scalar.whole c.read_elements.new.row) (sym c.in-Err.is) ∙ c.read_elements.ensures.read.answers d st) c.code_of.ensures.number

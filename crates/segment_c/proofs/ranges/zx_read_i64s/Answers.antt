@@ -1,15 +1,5 @@
--- What was read of the segment that the handle held, by the key that the object key is.
-use Rattle.std.proofs.Common.{◌≡◌, length, map, subst, ℤ}
-use Rattle.seg_types.specs.declared.kinds.ScalarKind.TheVariants.{I64 as I64Kind}
-use Rattle.segment_manager.specs.State.{State, StandsFor}
-use Rattle.segment_values.specs.Ranges.{range_at}
-use Rattle.segment_c.specs.Reads.{IsCoded}
+-- What is said of any type is said of this one.
 use Rattle.segment_c.proofs.ranges.zx_read_i64s.Goals as goal
 
-pub returns-clause-told : goal.returns-clause-told
-returns-clause-told c = λ s w e d st.
-    let taken = c.in-Some.ensures.taken in
-    let lent = c.deref.ensures in
-    let same : s ≡ c.deref.result.now = cc in
-    subst (λ key. IsCoded (λ zs. map (λ (x : ℤ). x) c.read_row-code.new.row ≡ zs) c.read_row-code.result (range_at d key I64Kind c.args.first (length c.args.row.now))) c.in-Ok.ensures.1
-    (c.read_row-code.ensures.told d (subst (λ (z : State). StandsFor z.cut.bytes d) same st))
+pub returns : goal.returns
+returns c = let it = c.read_range.ensures in record { stopped = it.stopped; closed = it.closed; told = it.told; same = it.same; results = it.results }

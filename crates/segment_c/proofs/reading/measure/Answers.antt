@@ -6,4 +6,4 @@ pub returns-in-Ok-clause-told : goal.returns-in-Ok-clause-told
 returns-in-Ok-clause-told c = λ d st. subst (IsCoded (AreSizes c.in-Ok.elements c.in-Ok.capacity) 0) (sym c.in-Ok.is ∙ c.measure.ensures.answers d st) (refl, (refl, refl))
 
 pub returns-in-Err-clause-told : goal.returns-in-Err-clause-told
-returns-in-Err-clause-told c = λ d st. subst (IsCoded (AreSizes c.args.len.now c.args.places.now) c.number_of.result) (sym c.in-Err.is ∙ c.measure.ensures.answers d st) c.number_of.ensures.number
+returns-in-Err-clause-told c = λ d st. subst (IsCoded (AreSizes c.args.len.now c.args.places.now) c.code_of.result) (sym c.in-Err.is ∙ c.measure.ensures.answers d st) c.code_of.ensures.number

@@ -6,4 +6,4 @@ pub returns-in-Ok-clause-told : goal.returns-in-Ok-clause-told
 returns-in-Ok-clause-told c = λ d st. subst (Copies c.args.text.now c.copy_text.new.text c.copy_text.new.len c.copy_text.result) (c.in-Ok.ensures.answers d st) c.copy_text.ensures.copied
 
 pub returns-in-Err-clause-told : goal.returns-in-Err-clause-told
-returns-in-Err-clause-told c = λ d st. subst (Copies c.args.text.now c.args.text.now c.args.len.now c.number_of.result) (c.in-Err.ensures.answers d st) c.number_of.ensures.number
+returns-in-Err-clause-told c = λ d st. subst (Copies c.args.text.now c.args.text.now c.args.len.now c.code_of.result) (c.in-Err.ensures.answers d st) c.code_of.ensures.number

@@ -11,5 +11,5 @@ returns-in-Ok-clause-told c = λ d st.
 
 pub returns-in-Err-clause-told : goal.returns-in-Err-clause-told
 returns-in-Err-clause-told c = λ d st.
-    subst (CopiesAnswer c.args.text.now c.args.text.now c.args.len.now c.number_of.result)
-    (ap (answer_of (λ (t : Bor (List ℕ)). TextElement t.now)) (sym c.in-Err.is) ∙ c.texts_get.ensures.answers d st) c.number_of.ensures.number
+    subst (CopiesAnswer c.args.text.now c.args.text.now c.args.len.now c.code_of.result)
+    (ap (answer_of (λ (t : Bor (List ℕ)). TextElement t.now)) (sym c.in-Err.is) ∙ c.texts_get.ensures.answers d st) c.code_of.ensures.number

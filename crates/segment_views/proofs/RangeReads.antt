@@ -1,5 +1,6 @@
 -- What is read of a map says of the pairs between two bounds.
 use Rattle.std.proofs.Common.{◌≡◌, refl, sym, ap, ◌∙◌, ℕ, ◌-◌, ◌≤◌, ℤ, Bool, true, false, Option, Some, None, Result, Ok, Err, List, [], ◌∷◌, ◌++◌, length, arith, if◌then◌else◌}
+use Rattle.std.specs.Bool.{then_some}
 use Rattle.std.specs.Prelude.{MatchResult, option_map, slice_get}
 use Rattle.std.proofs.lemmas.List.{length-append}
 use Rattle.std.specs.declared.ops.Bound.{Bound}
@@ -21,11 +22,9 @@ use Rattle.segment_views.specs.Ranged.{GoesBackPairs, GoesOnPairs, PairWalk, is_
 use Rattle.segment_views.proofs.Between.{admitted, last-within, range-begins, range-empty, range-ends, range-few, range-none, range-within}
 
 -- a pair is admitted where its key is
-pub is-admitted : (far : ℤ → Bool) (x y : ℤ) → far x ≡ true → admitted far (Some (x, y)) ≡ Some (x, y)
-is-admitted far x y e = ap (λ (b : Bool). let o : Option (ℤ × ℤ) = if b then Some (x, y) else None in o) e
-
-pub not-admitted : (far : ℤ → Bool) (x y : ℤ) → far x ≡ false → admitted far (Some (x, y)) ≡ None
-not-admitted far x y e = ap (λ (b : Bool). let o : Option (ℤ × ℤ) = if b then Some (x, y) else None in o) e
+pub admitted-then : {K V : Type 0} (kw : K → ℤ) (vw : V → ℤ) (far : ℤ → Bool) (b : Bool) (p : K × V) → b ≡ far (kw p.0) → admitted far (Some (kw p.0, vw p.1)) ≡ numbers_in kw vw (then_some b p)
+admitted-then kw vw far true p e = ap (λ (b : Bool). let o : Option (ℤ × ℤ) = if b then Some (kw p.0, vw p.1) else None in o) (sym e)
+admitted-then kw vw far false p e = ap (λ (b : Bool). let o : Option (ℤ × ℤ) = if b then Some (kw p.0, vw p.1) else None in o) (sym e)
 
 module _ (s : State) (key : Key) (k v : ScalarKind) where
   -- what is told of a map is told of the pairs that it has, and none are there where the reading is refused

@@ -6,7 +6,6 @@ mod arrays;
 mod copying;
 mod elements;
 mod maps;
-mod opening;
 mod ranges;
 mod rows;
 mod string_lists;

@@ -126,35 +126,23 @@ fn first_between<K: Scalar, V: Scalar>(
     requires { IsObject object.now segment.now }
     ensures { Answers segment.now (λ d. slice_get (range_of (bound_map K.whole start) (bound_map K.whole end) (pairs_at_kinds d (ByHandle object.now.handle) K.kind V.kind)) 0) (numbers_in K.whole V.whole result) }
 {
-    match first_from(segment, object, start) {
-        None => None,
-        Some(pair) => {
-            if is_up_to(end, pair.0) {
-                Some(pair)
-            } else {
-                None
-            }
-        }
-    }
+    let pair = pair_or_none(first_from(segment, object, start))?;
+    is_up_to(end, pair.0).then_some(pair)
 }
 
-/// The first pair of a map with a key that is not below a bound.
+/// The first pair of a map with a key that is not below a bound, or why it has no pairs.
 fn first_from<K: Scalar, V: Scalar>(
     segment: &Segment,
     object: &Object,
     start: Bound<K>,
-) -> Option<(K, V)>
+) -> Result<Option<(K, V)>, Refusal>
     requires { IsObject object.now segment.now }
-    ensures { Answers segment.now (λ d. slice_get (range_of (bound_map K.whole start) Unbounded (pairs_at_kinds d (ByHandle object.now.handle) K.kind V.kind)) 0) (numbers_in K.whole V.whole result) }
+    ensures { Answers segment.now (λ d. slice_get (range_of (bound_map K.whole start) Unbounded (pairs_at_kinds d (ByHandle object.now.handle) K.kind V.kind)) 0) (numbers_in K.whole V.whole (pair_of result)) }
 {
     match start {
-        Bound::Included(from) => {
-            pair_or_none(segment.map_first_from::<K, V, Object>(object, from))
-        }
-        Bound::Excluded(after) => {
-            pair_or_none(segment.map_next_after::<K, V, Object>(object, after))
-        }
-        Bound::Unbounded => pair_or_none(first_of_all(segment, object)),
+        Bound::Included(from) => segment.map_first_from::<K, V, Object>(object, from),
+        Bound::Excluded(after) => segment.map_next_after::<K, V, Object>(object, after),
+        Bound::Unbounded => first_of_all(segment, object),
     }
 }
 
@@ -183,33 +171,23 @@ fn last_between<K: Scalar, V: Scalar>(
     requires { IsObject object.now segment.now }
     ensures { Answers segment.now (λ d. last_of (bound_map K.whole start) (bound_map K.whole end) (pairs_at_kinds d (ByHandle object.now.handle) K.kind V.kind)) (numbers_in K.whole V.whole result) }
 {
-    match last_up_to(segment, object, end) {
-        None => None,
-        Some(pair) => {
-            if is_from(start, pair.0) {
-                Some(pair)
-            } else {
-                None
-            }
-        }
-    }
+    let pair = pair_or_none(last_up_to(segment, object, end))?;
+    is_from(start, pair.0).then_some(pair)
 }
 
-/// The last pair of a map with a key that is not above a bound.
+/// The last pair of a map with a key that is not above a bound, or why it has no pairs.
 fn last_up_to<K: Scalar, V: Scalar>(
     segment: &Segment,
     object: &Object,
     end: Bound<K>,
-) -> Option<(K, V)>
+) -> Result<Option<(K, V)>, Refusal>
     requires { IsObject object.now segment.now }
-    ensures { Answers segment.now (λ d. last_of Unbounded (bound_map K.whole end) (pairs_at_kinds d (ByHandle object.now.handle) K.kind V.kind)) (numbers_in K.whole V.whole result) }
+    ensures { Answers segment.now (λ d. last_of Unbounded (bound_map K.whole end) (pairs_at_kinds d (ByHandle object.now.handle) K.kind V.kind)) (numbers_in K.whole V.whole (pair_of result)) }
 {
     match end {
-        Bound::Included(to) => pair_or_none(segment.map_last_up_to::<K, V, Object>(object, to)),
-        Bound::Excluded(before) => {
-            pair_or_none(segment.map_previous_before::<K, V, Object>(object, before))
-        }
-        Bound::Unbounded => pair_or_none(segment.map_last::<K, V, Object>(object)),
+        Bound::Included(to) => segment.map_last_up_to::<K, V, Object>(object, to),
+        Bound::Excluded(before) => segment.map_previous_before::<K, V, Object>(object, before),
+        Bound::Unbounded => segment.map_last::<K, V, Object>(object),
     }
 }
 

@@ -2,15 +2,13 @@
 ghost use Rattle.std.specs.Prelude.{◌≡◌, IfOk};
 ghost use Rattle.std.specs.Borrow.{sem, RestsIfErr};
 ghost use Rattle.seg_types.specs.declared.kinds.Kind.{Kind as AnyKind};
-ghost use Rattle.seg_types.specs.Names.{ByHandle};
 ghost use Rattle.segment_manager.specs.Located.{IsObject};
 ghost use Rattle.segment_manager.specs.State.{Answers};
 ghost use Rattle.segment_manager.specs.contracts.segment.Segment.{the_row};
 ghost use Rattle.segment_views.specs.Opened.{handle_of, opened_at};
 
-use crate::opening::locate_of_kind;
 use seg_types::{Kind, Refusal};
-use segment_manager::{Object, Segment, Target};
+use segment_manager::{Object, Segment, Target, locate};
 use std::marker::PhantomData;
 
 /// What an object holds that a view is of: it says the kind of the object.
@@ -33,7 +31,7 @@ pub struct View<'a, C> {
 }
 
 impl<'a, C: Content> View<'a, C> {
-    ghost use Rattle.segment_views.specs.OfView.{Borrows, key_of, loan_of, object_of, segment_of};
+    ghost use Rattle.segment_views.specs.OfView.{Borrows, loan_of, object_of, segment_of};
 
     /// The view of the object of a key, which is looked up once.
     ///
@@ -55,21 +53,32 @@ impl<'a, C: Content> View<'a, C> {
     {
         match locate_of_kind(segment, key, C::kind()) {
             Err(why) => Err(why),
-            Ok(object) => Ok(View::new(segment, object)),
+            Ok(object) => Ok(View {
+                segment,
+                object,
+                of: PhantomData,
+            }),
         }
     }
+}
 
-    /// The view of an object that was located and is still there.
-    fn new(segment: &'a mut Segment, object: Object) -> View<'a, C>
-        requires { IsObject object segment.old }
-        ensures loan { Borrows result segment.entry }
-        ensures segment { segment_of result ≡ segment.old }
-        ensures key { key_of result ≡ ByHandle object.handle }
-    {
-        View {
-            segment,
-            object,
-            of: PhantomData,
+/// The object of a key as it stands in a segment, an object of a kind.
+///
+/// # Errors
+///
+/// `NotFound` where no object has the key, `WrongKind` where it is of another kind.
+fn locate_of_kind<O: Target>(segment: &Segment, key: &O, kind: Kind) -> Result<Object, Refusal>
+    requires { O.stands key.now segment.now }
+    ensures opens { Answers segment.now (λ d. opened_at d (O.key key.now) kind) (handle_of (λ o. o) result) }
+    ensures here { IfOk result (λ o. IsObject o segment.now) }
+{
+    match locate(segment, key) {
+        Err(why) => Err(why),
+        Ok(object) => {
+            if kind.code() != object.kind.code() {
+                return Err(Refusal::WrongKind);
+            }
+            Ok(object)
         }
     }
 }

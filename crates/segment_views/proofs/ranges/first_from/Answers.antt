@@ -8,7 +8,7 @@ use Rattle.seg_map.specs.Places.{item_of}
 use Rattle.segment_manager.specs.Maps.{numbers_in, pair_above, pair_from}
 use Rattle.segment_manager.specs.State.{Answers}
 use Rattle.segment_manager.specs.Walks.{first_of, pairs_at_kinds}
-use Rattle.segment_views.specs.Ranged.{range_of}
+use Rattle.segment_views.specs.Ranged.{pair_or_none, range_of}
 use Rattle.segment_views.proofs.Between.{above-ranged, all-ranged, from-ranged}
 use Rattle.segment_views.proofs.RangeReads.{reads-told}
 use Rattle.segment_views.proofs.ranges.first_from.Goals as goal
@@ -20,8 +20,7 @@ returns-in-Included g c =
     let from = g.K.Scalar.whole c.in-Included.from in
     let read = reads-told s key g.K.Scalar.kind g.V.Scalar.kind g.K.Scalar.whole g.V.Scalar.whole (pair_from from) (λ ps. slice_get (range_of (Included from) Unbounded ps) 0) (from-ranged from) refl
     c.map_first_from.result c.map_first_from.ensures in
-    subst (λ b. Answers s (λ d. slice_get (range_of (bound_map g.K.Scalar.whole b) Unbounded (pairs_at_kinds d key g.K.Scalar.kind g.V.Scalar.kind)) 0) (numbers_in g.K.Scalar.whole g.V.Scalar.whole c.pair_or_none.result)) (sym c.in-Included.is)
-    (subst (λ o. Answers s (λ d. slice_get (range_of (Included from) Unbounded (pairs_at_kinds d key g.K.Scalar.kind g.V.Scalar.kind)) 0) (numbers_in g.K.Scalar.whole g.V.Scalar.whole o)) (sym c.pair_or_none.ensures) read)
+    subst (λ b. Answers s (λ d. slice_get (range_of (bound_map g.K.Scalar.whole b) Unbounded (pairs_at_kinds d key g.K.Scalar.kind g.V.Scalar.kind)) 0) (numbers_in g.K.Scalar.whole g.V.Scalar.whole (pair_or_none c.map_first_from.result))) (sym c.in-Included.is) read
 
 pub returns-in-Excluded : goal.returns-in-Excluded
 returns-in-Excluded g c =
@@ -30,8 +29,7 @@ returns-in-Excluded g c =
     let after = g.K.Scalar.whole c.in-Excluded.after in
     let read = reads-told s key g.K.Scalar.kind g.V.Scalar.kind g.K.Scalar.whole g.V.Scalar.whole (pair_above after) (λ ps. slice_get (range_of (Excluded after) Unbounded ps) 0) (above-ranged after) refl
     c.map_next_after.result c.map_next_after.ensures in
-    subst (λ b. Answers s (λ d. slice_get (range_of (bound_map g.K.Scalar.whole b) Unbounded (pairs_at_kinds d key g.K.Scalar.kind g.V.Scalar.kind)) 0) (numbers_in g.K.Scalar.whole g.V.Scalar.whole c.pair_or_none-in-Excluded.result)) (sym c.in-Excluded.is)
-    (subst (λ o. Answers s (λ d. slice_get (range_of (Excluded after) Unbounded (pairs_at_kinds d key g.K.Scalar.kind g.V.Scalar.kind)) 0) (numbers_in g.K.Scalar.whole g.V.Scalar.whole o)) (sym c.pair_or_none-in-Excluded.ensures) read)
+    subst (λ b. Answers s (λ d. slice_get (range_of (bound_map g.K.Scalar.whole b) Unbounded (pairs_at_kinds d key g.K.Scalar.kind g.V.Scalar.kind)) 0) (numbers_in g.K.Scalar.whole g.V.Scalar.whole (pair_or_none c.map_next_after.result))) (sym c.in-Excluded.is) read
 
 pub returns-in-Unbounded : goal.returns-in-Unbounded
 returns-in-Unbounded g c =
@@ -39,5 +37,4 @@ returns-in-Unbounded g c =
     let key = ByHandle c.args.object.now.handle in
     let read = reads-told s key g.K.Scalar.kind g.V.Scalar.kind g.K.Scalar.whole g.V.Scalar.whole (λ ps. option_map item_of (first_of ps)) (λ ps. slice_get (range_of Unbounded Unbounded ps) 0) all-ranged refl
     c.first_of_all.result c.first_of_all.ensures in
-    subst (λ b. Answers s (λ d. slice_get (range_of (bound_map g.K.Scalar.whole b) Unbounded (pairs_at_kinds d key g.K.Scalar.kind g.V.Scalar.kind)) 0) (numbers_in g.K.Scalar.whole g.V.Scalar.whole c.pair_or_none-in-Unbounded.result)) (sym c.in-Unbounded.is)
-    (subst (λ o. Answers s (λ d. slice_get (range_of Unbounded Unbounded (pairs_at_kinds d key g.K.Scalar.kind g.V.Scalar.kind)) 0) (numbers_in g.K.Scalar.whole g.V.Scalar.whole o)) (sym c.pair_or_none-in-Unbounded.ensures) read)
+    subst (λ b. Answers s (λ d. slice_get (range_of (bound_map g.K.Scalar.whole b) Unbounded (pairs_at_kinds d key g.K.Scalar.kind g.V.Scalar.kind)) 0) (numbers_in g.K.Scalar.whole g.V.Scalar.whole (pair_or_none c.first_of_all.result))) (sym c.in-Unbounded.is) read

@@ -4,3 +4,6 @@ mod Places
 mod Walked
 mod Entries
 mod ObjectOrder
+mod Searched
+mod Counted
+mod Linked

@@ -1,6 +1,6 @@
 -- The place that shows the class of an image.
 use Rattle.std.proofs.Common.{◌≡◌, ℕ, zero, suc, ◌+◌, ◌^◌, ◌<◌, ◌≤◌, Bool, true, false, not, ◌&&◌, List, [], ◌∷◌, length, nat_lt, refl, sym, ap, subst, ◌∙◌, arith, if◌then◌else◌, inr, Some, None, inl}
-use Rattle.std.specs.Prelude.{◌≢◌, Option, ◌==◌, ◌||◌, ◌⊎◌, MatchOption, codes, find, nat_le, slice_index}
+use Rattle.std.specs.Prelude.{◌≢◌, Option, ◌==◌, ◌||◌, ◌⊎◌, MatchOption, codes, find, nat_le, slice_index, IfSome, IsTrue}
 use Rattle.std.proofs.lemmas.Bool.{and_left, and_parts, and_from, and_right, cases_eq, ne_eqb, eq-eqb, leb-true, lt-ltb, ltb-false, or_parts, true≢false}
 use Rattle.std.proofs.lemmas.List.Folds.{list_all-append}
 use Rattle.byteorder.specs.Endian.{little_number}
@@ -16,13 +16,16 @@ use Rattle.image_check.specs.declared.classes.ImageClass.TheVariants.{Truncated,
 use Rattle.image_check.specs.Classes.{classes, class_of, holds, number_of}
 use Rattle.image_check.specs.EarlyTests.{has_front, has_magic, has_reserved, has_size, has_version, is_tiled, is_truncated, is_zero, size_word}
 use Rattle.image_explain.specs.Explains.{IsShown}
+use Rattle.image_check.specs.Fields.{is_orphaned, is_shared}
 use Rattle.image_check.specs.ObjectTests.{has_indexes, has_objects}
 use Rattle.image_check.specs.Passes.{HasTiles, tiles_in}
 use Rattle.image_explain.specs.IndexPlaces.{IsWrongIndex}
 use Rattle.image_explain.specs.ObjectPlaces.{IsWrongObject}
+use Rattle.image_explain.specs.OwnerPlaces.{IsOrphanAt, IsSharedAt}
 use Rattle.image_explain.specs.Shows.{IsFirstFilled, IsFirstOther, Shows, has_place, said_tiles, shown_size}
 use Rattle.image_explain.specs.WrongTags.{StopsAt}
 use Rattle.image_explain.proofs.Entries.{index-wrong}
+use Rattle.image_explain.proofs.Linked.{orphan-wrong, shared-wrong}
 use Rattle.image_explain.proofs.ObjectOrder.{object-wrong}
 use Rattle.image_explain.proofs.Stopping.{stop-wrong}
 
@@ -61,7 +64,7 @@ short-truncated : (b : List ℕ) → length b < 144 → is_truncated current b �
 short-truncated b h = ap (λ (x : Bool). x || (has_front current b && nat_lt (length b) (size_word b))) (lt-ltb (length b) 144 h)
 
 pub short-shown : (b : List ℕ) (k : ImageClass) → length b < 144 → class_of current b ≡ Some k → IsShown b k (Some (length b))
-short-shown b k h f = subst (λ c. IsShown b c (Some (length b))) (short-class b k h f) (record { given = refl; shows = (refl, short-truncated b h) })
+short-shown b k h f = subst (λ c. IsShown b c (Some (length b))) (short-class b k h f) (record { given = λ h. refl; shows = (refl, short-truncated b h) })
 
 -- ---- the magic
 
@@ -79,7 +82,7 @@ not-true false e = refl
 
 pub magic-shown : (b : List ℕ) (place : Option ℕ) → MatchOption place (has_magic b ≡ true) (IsFirstOther b (codes "MSEGFILE")) → class_of current b ≡ Some BadMagic → IsShown b BadMagic place
 magic-shown b None h f = absurd (true≢false (sym h ∙ not-true (has_magic b) (holds-class b BadMagic f)))
-magic-shown b (Some at) h f = record { given = refl; shows = (h, not-true (has_magic b) (holds-class b BadMagic f)) }
+magic-shown b (Some at) h f = record { given = λ h. refl; shows = (h, not-true (has_magic b) (holds-class b BadMagic f)) }
 
 -- ---- the reserved bytes
 
@@ -102,7 +105,7 @@ behind-reserved b (Some at) h k = inr k
 pub reserved-shown : (b : List ℕ) (place : Option ℕ) → MatchOption place (has_reserved b ≡ true) (λ at. IsFirstFilled (bytes_of b) 12 16 at ⊎ IsFirstFilled (bytes_of b) 80 128 at)
     → class_of current b ≡ Some BadReserved → IsShown b BadReserved place
 reserved-shown b None h f = absurd (true≢false (sym h ∙ not-true (has_reserved b) (holds-class b BadReserved f)))
-reserved-shown b (Some at) h f = record { given = refl; shows = h }
+reserved-shown b (Some at) h f = record { given = λ h. refl; shows = h }
 
 -- ---- the tags
 
@@ -148,7 +151,7 @@ later-class b k n f =
 by-place : (b : List ℕ) (place : Option ℕ) → length b ≡ size_word b → MatchOption place (has_tags current (bytes_of b) (length b) ≡ true) (StopsAt current (bytes_of b) (length b)) → has_tags current (bytes_of b) (length b) ≡ false
     → IsShown b BadTag place
 by-place b None size right wrong = absurd (true≢false (sym right ∙ wrong))
-by-place b (Some at) size stops wrong = record { given = refl; shows = subst (λ n. StopsAt current (bytes_of b) n at) size stops }
+by-place b (Some at) size stops wrong = record { given = λ h. refl; shows = subst (λ n. StopsAt current (bytes_of b) n at) size stops }
 
 pub tag-shown : (b : List ℕ) (place : Option ℕ) → (length b ≤ 2 ^ 30 → MatchOption place (has_tags current (bytes_of b) (length b) ≡ true) (StopsAt current (bytes_of b) (length b)))
     → class_of current b ≡ Some BadTag → IsShown b BadTag place
@@ -192,7 +195,7 @@ index-shown b None h f =
     absurd (true≢false (sym h ∙ fails-class b BadIndex (has_indexes (bytes_of b)) t (holds-class b BadIndex f)))
 index-shown b (Some at) h f =
     let t = tiled-class b BadIndex (omega arith) f in
-    record { given = refl; shows = (t.tiled, subst (λ ts. IsWrongIndex (bytes_of b) ts at) t.same h) }
+    record { given = λ h. refl; shows = (t.tiled, subst (λ ts. IsWrongIndex (bytes_of b) ts at) t.same h) }
 
 -- an image of a class behind that of the indexes has indexes that are right
 pub has-indexes : (b : List ℕ) (k : ImageClass) → 9 ≤ number_of k → class_of current b ≡ Some k → has_indexes (bytes_of b) (tiles_in b) ≡ true
@@ -217,11 +220,26 @@ object-shown b place h f = by-place place (h (has-indexes b BadObject (omega ari
         absurd (true≢false (sym h ∙ fails-class b BadObject (has_objects current (bytes_of b)) t (holds-class b BadObject f)))
     by-place (Some at) h =
         let t = tiled-class b BadObject (omega arith) f in
-        record { given = refl; shows = (t.tiled, subst (λ ts. IsWrongObject current (bytes_of b) ts at) t.same h) }
+        record { given = λ h. refl; shows = (t.tiled, subst (λ ts. IsWrongObject current (bytes_of b) ts at) t.same h) }
 
--- a class whose place is never said
-pub none-shown : (b : List ℕ) (k : ImageClass) → has_place k ≡ false → IsShown b k None
-none-shown b k h = record { given = sym h; shows = tt }
+-- ---- shared blocks and orphans
+
+module _ (b : List ℕ) (k : ImageClass) (Is : List Tile → ℕ → Type 0) (not_always : has_place k ≡ false) where
+  pub none-shown : IsShown b k None
+  none-shown = record { given = λ h. absurd (true≢false (sym h ∙ not_always)); shows = tt }
+
+  pub some-shown : (place : Option ℕ) → 7 ≤ number_of k → ((at : ℕ) → IsTrue (is_tiled current b) → Is (said_tiles b) at → Shows b k at) → IfSome place (Is (tiles_in b)) → class_of current b ≡ Some k
+      → IsShown b k place
+  some-shown None n f h c = none-shown
+  some-shown (Some at) n f h c =
+      let t = tiled-class b k n c in
+      record { given = λ h. refl; shows = f at t.tiled (subst (λ ts. Is ts at) t.same h) }
+
+pub shared-shown : (b : List ℕ) (place : Option ℕ) → IfSome place (IsSharedAt current (bytes_of b) (tiles_in b)) → class_of current b ≡ Some SharedBlock → IsShown b SharedBlock place
+shared-shown b place h c = some-shown b SharedBlock (IsSharedAt current (bytes_of b)) refl place (omega arith) (λ at t s. (t, s)) h c
+
+pub orphan-shown : (b : List ℕ) (place : Option ℕ) → IfSome place (IsOrphanAt current (bytes_of b) (tiles_in b)) → class_of current b ≡ Some OrphanBlock → IsShown b OrphanBlock place
+orphan-shown b place h c = some-shown b OrphanBlock (IsOrphanAt current (bytes_of b)) refl place (omega arith) (λ at t s. (t, s)) h c
 
 -- what is so of one class, said of a class that is that one
 pub at-class : (b : List ℕ) (class k : ImageClass) (place : Option ℕ) → class ≡ k → (class_of current b ≡ Some k → IsShown b k place) → class_of current b ≡ Some class → IsShown b class place
@@ -230,16 +248,16 @@ at-class b class k place e h f = subst (λ (x : ImageClass). IsShown b x place) 
 -- ---- the classes whose place is always the same
 
 pub truncated-shown : (b : List ℕ) → class_of current b ≡ Some Truncated → IsShown b Truncated (Some (length b))
-truncated-shown b f = record { given = refl; shows = (refl, holds-class b Truncated f) }
+truncated-shown b f = record { given = λ h. refl; shows = (refl, holds-class b Truncated f) }
 
 pub version-shown : (b : List ℕ) → class_of current b ≡ Some UnsupportedVersion → IsShown b UnsupportedVersion (Some 8)
-version-shown b f = record { given = refl; shows = (refl, not-true (has_version current b) (holds-class b UnsupportedVersion f)) }
+version-shown b f = record { given = λ h. refl; shows = (refl, not-true (has_version current b) (holds-class b UnsupportedVersion f)) }
 
 pub size-shown : (b : List ℕ) (at : ℕ) → at ≡ shown_size b → class_of current b ≡ Some BadSize → IsShown b BadSize (Some at)
-size-shown b at e f = record { given = refl; shows = (e, not-true (has_size b) (holds-class b BadSize f)) }
+size-shown b at e f = record { given = λ h. refl; shows = (e, not-true (has_size b) (holds-class b BadSize f)) }
 
 pub tree-shown : (b : List ℕ) → class_of current b ≡ Some BadFreeTree → IsShown b BadFreeTree (Some 24)
-tree-shown b f = record { given = refl; shows = (refl, holds-class b BadFreeTree f) }
+tree-shown b f = record { given = λ h. refl; shows = (refl, holds-class b BadFreeTree f) }
 
 -- ---- what a place shows holds
 
@@ -268,6 +286,6 @@ places_show b BadTag at h = ap not (stop-wrong current (bytes_of b) (size_word b
 places_show b BadFreeTree at h = h.1
 places_show b BadIndex at h = and_from (is_tiled current b) (not (has_indexes (bytes_of b) (said_tiles b))) h.0 (ap not (index-wrong (bytes_of b) (said_tiles b) at h.1))
 places_show b BadObject at h = and_from (is_tiled current b) (not (has_objects current (bytes_of b) (said_tiles b))) h.0 (ap not (object-wrong current (bytes_of b) (said_tiles b) at h.1))
-places_show b SharedBlock at h = absurd h
+places_show b SharedBlock at h = and_from (is_tiled current b) (is_shared current (bytes_of b) (said_tiles b)) h.0 (shared-wrong current (bytes_of b) (size_word b) at h.0 h.1)
 places_show b BadContainer at h = absurd h
-places_show b OrphanBlock at h = absurd h
+places_show b OrphanBlock at h = and_from (is_tiled current b) (is_orphaned current (bytes_of b) (said_tiles b)) h.0 (orphan-wrong current (bytes_of b) (size_word b) at h.0 h.1)

@@ -1,5 +1,5 @@
 -- What is said of a refused image.
-use Rattle.std.specs.Prelude.{◌≡◌, ℕ, Option, Some, IfSome, List, codes, is_some}
+use Rattle.std.specs.Prelude.{◌≡◌, ℕ, true, IsTrue, Option, Some, IfSome, List, codes, is_some}
 use Rattle.raw_region.specs.Format.{current}
 use Rattle.image_check.specs.declared.classes.ImageClass.{ImageClass}
 use Rattle.image_check.specs.declared.classes.ImageClass.TheVariants.{Truncated, BadMagic, UnsupportedVersion, BadSize, BadReserved, BadTag, BadFreeTree, BadIndex, BadObject, SharedBlock, BadContainer, OrphanBlock}
@@ -21,9 +21,9 @@ words_of SharedBlock = codes "two links lead to one block"
 words_of BadContainer = codes "the block, elements, pairs or counts of a container are wrong"
 words_of OrphanBlock = codes "a block belongs to nothing"
 
--- a place is said exactly where the class has one, and it shows the class
+-- a place is always said of some classes, and where one is said, it shows the class
 pub record IsShown (b : List ℕ) (class : ImageClass) (place : Option ℕ) : Type 0 where
-  pub given : is_some place ≡ has_place class
+  pub given : IsTrue (has_place class) → is_some place ≡ true
   pub shows : IfSome place (Shows b class)
 
 -- the words are those of the class, and the place is so where the bytes have the class

@@ -3,5 +3,7 @@ pub mod Walking
 pub mod Blocks
 pub mod IndexPlaces
 pub mod ObjectPlaces
+pub mod Searches
+pub mod OwnerPlaces
 pub mod Shows
 pub mod Explains

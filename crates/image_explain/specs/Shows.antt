@@ -11,6 +11,7 @@ use Rattle.image_check.specs.Classes.{holds}
 use Rattle.image_check.specs.EarlyTests.{has_magic, has_size, has_version, is_tiled, is_truncated, size_word}
 use Rattle.image_explain.specs.IndexPlaces.{IsWrongIndex}
 use Rattle.image_explain.specs.ObjectPlaces.{IsWrongObject}
+use Rattle.image_explain.specs.OwnerPlaces.{IsOrphanAt, IsSharedAt}
 use Rattle.image_explain.specs.WrongTags.{StopsAt}
 
 -- the first byte that is not the one of the list at its place
@@ -48,11 +49,11 @@ Shows b BadTag at = StopsAt current (bytes_of b) (size_word b) at
 Shows b BadFreeTree at = (at ≡ 24) × IsTrue (holds current b BadFreeTree)
 Shows b BadIndex at = IsTrue (is_tiled current b) × IsWrongIndex (bytes_of b) (said_tiles b) at
 Shows b BadObject at = IsTrue (is_tiled current b) × IsWrongObject current (bytes_of b) (said_tiles b) at
-Shows b SharedBlock at = ⊥
+Shows b SharedBlock at = IsTrue (is_tiled current b) × IsSharedAt current (bytes_of b) (said_tiles b) at
 Shows b BadContainer at = ⊥
-Shows b OrphanBlock at = ⊥
+Shows b OrphanBlock at = IsTrue (is_tiled current b) × IsOrphanAt current (bytes_of b) (said_tiles b) at
 
--- whether a place is said of it
+-- whether a place is said of each image of the class
 abbrev pub has_place : ImageClass → Bool
 has_place Truncated = true
 has_place BadMagic = true

@@ -1,5 +1,5 @@
 //! Why an image is refused, and the place that shows it.
-ghost use Rattle.std.specs.Prelude.{◌≡◌, ◌≤◌, ◌^◌, ◌⊎◌, codes, length, true, Some, MatchBool, MatchOption};
+ghost use Rattle.std.specs.Prelude.{◌≡◌, ◌≤◌, ◌^◌, ◌⊎◌, codes, length, true, Some, IfSome, MatchBool, MatchOption};
 ghost use Rattle.raw_region.specs.Format.{current};
 ghost use Rattle.raw_region.specs.Memory.{AreZero, bytes_of};
 ghost use Rattle.block_tags.specs.Tiles.{has_tags};
@@ -10,11 +10,13 @@ ghost use Rattle.image_check.specs.Passes.{HasTiles, tiles_in};
 ghost use Rattle.image_explain.specs.Explains.{Explains, IsShown, words_of};
 ghost use Rattle.image_explain.specs.IndexPlaces.{IsWrongIndex};
 ghost use Rattle.image_explain.specs.ObjectPlaces.{IsWrongObject};
+ghost use Rattle.image_explain.specs.OwnerPlaces.{IsOrphanAt, IsSharedAt};
 ghost use Rattle.image_explain.specs.Shows.{IsFirstFilled, IsFirstOther, shown_size};
 ghost use Rattle.image_explain.specs.WrongTags.{StopsAt};
 
 use crate::indexes::index_place;
 use crate::objects::object_place;
+use crate::owners::{orphan_place, shared_place};
 use crate::tags::wrong_tag;
 use block_tags::is_legal_size;
 use image_check::ImageClass;
@@ -50,7 +52,8 @@ const MAGIC: &[u8; 8] = b"MSEGFILE";
 /// Why an image of a class is refused, and the place that shows it. That is for the bytes that were found to have the class:
 /// where they have another one, the place says nothing.
 ///
-/// A place is said of the classes before the tenth; of the others only the words are.
+/// A place is always said of the classes before the tenth, and mostly of those with shared blocks or orphans; of containers only the
+/// words are.
 pub fn explain(image: &[u8], class: ImageClass) -> Explanation
     ensures { Explains image.now class result }
 {
@@ -77,7 +80,9 @@ fn place_of(image: &[u8], class: ImageClass) -> Option<u64>
         ImageClass::BadFreeTree => Some(FREE_TREE_AT),
         ImageClass::BadIndex => shown_index(image),
         ImageClass::BadObject => shown_object(image),
-        ImageClass::SharedBlock | ImageClass::BadContainer | ImageClass::OrphanBlock => None,
+        ImageClass::SharedBlock => shown_shared(image),
+        ImageClass::BadContainer => None,
+        ImageClass::OrphanBlock => shown_orphan(image),
     }
 }
 
@@ -159,6 +164,28 @@ fn shown_object(image: &[u8]) -> Option<u64>
         return None;
     }
     object_place(image)
+}
+
+/// A link that leads where another leads, or nothing where the tags are wrong or none was found.
+fn shown_shared(image: &[u8]) -> Option<u64>
+    requires { 144 ≤ length image.now }
+    ensures { IfSome result (IsSharedAt current (bytes_of image.now) (tiles_in image.now)) }
+{
+    if !has_tiles(image) {
+        return None;
+    }
+    shared_place(image)
+}
+
+/// A block to which no link leads, or nothing where the tags are wrong or none was found.
+fn shown_orphan(image: &[u8]) -> Option<u64>
+    requires { 144 ≤ length image.now }
+    ensures { IfSome result (IsOrphanAt current (bytes_of image.now) (tiles_in image.now)) }
+{
+    if !has_tiles(image) {
+        return None;
+    }
+    orphan_place(image)
 }
 
 /// Whether an image has a legal size, and all its tags are right.

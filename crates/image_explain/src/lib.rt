@@ -6,6 +6,8 @@ mod explaining;
 mod heads;
 mod indexes;
 mod objects;
+mod owners;
+mod searching;
 mod tags;
 pub mod theorems;
 

@@ -1,6 +1,6 @@
-use Rattle.std.proofs.Common.{Some, length, arith}
-use Rattle.image_check.specs.declared.classes.ImageClass.TheVariants.{Truncated, BadMagic, UnsupportedVersion, BadSize, BadReserved, BadTag, BadFreeTree, BadIndex, BadObject}
-use Rattle.image_explain.proofs.Places.{at-class, has-tiles, index-shown, magic-shown, object-shown, reserved-shown, size-shown, tag-shown, tree-shown, truncated-shown, version-shown}
+use Rattle.std.proofs.Common.{None, Some, length, arith, refl}
+use Rattle.image_check.specs.declared.classes.ImageClass.TheVariants.{Truncated, BadMagic, UnsupportedVersion, BadSize, BadReserved, BadTag, BadFreeTree, BadIndex, BadObject, SharedBlock, BadContainer, OrphanBlock}
+use Rattle.image_explain.proofs.Places.{at-class, has-tiles, index-shown, magic-shown, none-shown, object-shown, orphan-shown, reserved-shown, shared-shown, size-shown, tag-shown, tree-shown, truncated-shown, version-shown}
 use Rattle.image_explain.proofs.explaining.place_of.Goals as goal
 
 pub returns-in-BadMagic : goal.returns-in-BadMagic
@@ -47,3 +47,16 @@ pub returns-in-BadObject : goal.returns-in-BadObject
 returns-in-BadObject c =
     let b = c.args.image.now in
     at-class b c.args.class BadObject c.shown_object.result c.in-BadObject.is (λ f. object-shown b c.shown_object.result (c.shown_object.ensures (has-tiles b BadObject (omega arith) f)) f)
+
+pub returns-in-SharedBlock : goal.returns-in-SharedBlock
+returns-in-SharedBlock c =
+    let b = c.args.image.now in
+    at-class b c.args.class SharedBlock c.shown_shared.result c.in-SharedBlock.is (shared-shown b c.shown_shared.result c.shown_shared.ensures)
+
+pub returns-in-OrphanBlock : goal.returns-in-OrphanBlock
+returns-in-OrphanBlock c =
+    let b = c.args.image.now in
+    at-class b c.args.class OrphanBlock c.shown_orphan.result c.in-OrphanBlock.is (orphan-shown b c.shown_orphan.result c.shown_orphan.ensures)
+
+pub returns-in-BadContainer : goal.returns-in-BadContainer
+returns-in-BadContainer c = at-class c.args.image.now c.args.class BadContainer None c.in-BadContainer.is (λ f. none-shown c.args.image.now BadContainer (λ ts at. Unit {0}) refl)

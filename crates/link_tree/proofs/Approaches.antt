@@ -1,8 +1,8 @@
 -- What a search notes on its way down says where an insertion or a removal would begin.
-use Rattle.std.proofs.Common.{◌≡◌, ℕ, Bool, true, false, not, Option, Some, None, List, [], ◌∷◌, nat_eq, refl, sym, ap, ◌∙◌, inl, inr}
+use Rattle.std.proofs.Common.{◌≡◌, ℕ, Bool, true, false, not, Option, Some, None, nat_eq, refl, sym, ap, ◌∙◌, inl, inr}
 use Rattle.std.specs.Prelude.{IfSome, if◌then◌else◌}
 use Rattle.std.specs.Option.{option_or}
-use Rattle.std.proofs.lemmas.Bool.{cases_Bool, eq-eqb, false_from_ne_true, ne_eqb, or_left, or_right, true≢false}
+use Rattle.std.proofs.lemmas.Bool.{cases_Bool, eq-eqb, false_from_ne_true, ne_eqb, true≢false}
 use Rattle.link_tree.specs.Tree.{Tree, leaf, fork, nodes_of, has_black_root, rises}
 use Rattle.link_tree.specs.Nodes.{first_not, is_in}
 use Rattle.link_tree.specs.Searching.{noted}
@@ -10,8 +10,7 @@ use Rattle.link_tree.specs.Ways.{entry_of, entry_over, exit_of, exit_over, follo
 use Rattle.link_tree.specs.declared.ways.Followed.{Followed}
 use Rattle.link_tree.specs.declared.ways.Passed.{Passed}
 use Rattle.link_tree.proofs.Orders.{IsStrict, Splits, all_at, all_from, in_left, in_middle, in_right, rises_split}
-use Rattle.link_tree.proofs.Trees.{none_some, some_same}
-use Rattle.link_tree.proofs.Seeking.{first_not-left, first_not-right, or_none}
+use Rattle.link_tree.proofs.Finding.{first_from, first_in, first_not-left, first_not-right, or_none}
 
 either_none : (b : Bool) (a : Option ℕ) → option_or a (if b then None else None) ≡ a
 either_none true a = or_none a
@@ -44,24 +43,18 @@ entry_noted before notes (fork red l n r) =
           ∙ entry_step notes red l n r l (entry_of before l) false)
     ]
 
-pub way_in : (before : ℕ → Bool) (notes : Passed) (t : Tree)
-    → notes ≡ noted passed before (record { above = None; entry = None }) t
-    → option_or notes.above notes.entry ≡ entry_of before t
-way_in before notes t e = rw e (entry_noted before (record { above = None; entry = None }) t
-    ∙ either_none (has_black_root t) (entry_of before t))
+pub way_in : {lt : ℕ → ℕ → Bool} {before : ℕ → Bool} → ((a b : ℕ) → lt a b ≡ true → before b ≡ true → before a ≡ true)
+    → (notes : Passed) (t : Tree) → rises lt (nodes_of t) ≡ true
+    → notes ≡ noted passed before (record { node = None; above = None; entry = None }) t
+    → (notes.node ≡ first_not before (nodes_of t)) × (option_or notes.above notes.entry ≡ entry_of before t)
+way_in {before = before} agrees notes t o e =
+    let start : Passed = record { node = None; above = None; entry = None } in (
+      ap (λ (m : Passed). m.node) e
+          ∙ first_from agrees passed (λ (m : Passed). m.node) (λ m n red b. refl) start t o refl,
+      rw e (entry_noted before start t ∙ either_none (has_black_root t) (entry_of before t)),
+    )
 
 -- ---- where a removal begins
-
--- the first node that does not stand before is one of the nodes
-first_in : (before : ℕ → Bool) (ns : List ℕ) (x : ℕ) → first_not before ns ≡ Some x → is_in x ns ≡ true
-first_in before [] x e = absurd (none_some x e)
-first_in before (n ∷ ns) x e =
-    elim (cases_Bool (before n)) [
-      | inl k ↦ let f : first_not before ns ≡ Some x = rw k at e in or_right (nat_eq x n) (is_in x ns)
-          (first_in before ns x f)
-      | inr k ↦ let f : Some n ≡ Some x = rw k at e in or_left (nat_eq x n) (is_in x ns)
-          (eq-eqb x n (sym (some_same n x f)))
-    ]
 
 -- of the node that is found in a tree, or else of the last one that was found above it
 abbrev exit_with : (ℕ → ℕ → Bool) → Followed → Tree → Option ℕ → Option ℕ
@@ -117,18 +110,22 @@ module _ {lt : ℕ → ℕ → Bool} (strict : IsStrict lt) (before : ℕ → Bo
         ]
 
     exit_found : (t : Tree) (exit found : Option ℕ)
-        → exit ≡ exit_with lt (record { above = None; exit = None; of_node = None }) t found
+        → exit ≡ exit_with lt (record { node = None; above = None; exit = None; of_node = None }) t found
         → IfSome found (λ x. exit ≡ exit_of lt x t)
     exit_found t exit None e = tt
     exit_found t exit (Some x) e = e ∙ either_none (has_black_root t) (exit_of lt x t)
 
-    pub way_out : (notes : Followed) (t : Tree) (found : Option ℕ) → rises lt (nodes_of t) ≡ true
-        → notes ≡ noted followed before (record { above = None; exit = None; of_node = None }) t
-        → found ≡ first_not before (nodes_of t) → IfSome found (λ x. notes.of_node ≡ exit_of lt x t)
-    way_out notes t found o e f =
-        let start : Followed = record { above = None; exit = None; of_node = None } in
-        exit_found t notes.of_node found (ap (λ (m : Followed). m.of_node) e ∙ exit_noted start t o
-        ∙ ap (exit_with lt start t) (sym f))
+    pub way_out : (notes : Followed) (t : Tree) → rises lt (nodes_of t) ≡ true
+        → notes ≡ noted followed before (record { node = None; above = None; exit = None; of_node = None }) t
+        → (notes.node ≡ first_not before (nodes_of t)) × IfSome notes.node (λ x. notes.of_node ≡ exit_of lt x t)
+    way_out notes t o e =
+        let start : Followed = record { node = None; above = None; exit = None; of_node = None } in
+        let first : notes.node ≡ first_not before (nodes_of t) = ap (λ (m : Followed). m.node) e
+        ∙ first_from agrees followed (λ (m : Followed). m.node) (λ m n red b. refl) start t o refl in (
+          first,
+          exit_found t notes.of_node notes.node (ap (λ (m : Followed). m.of_node) e ∙ exit_noted start t o
+              ∙ ap (exit_with lt start t) (sym first)),
+        )
 
 -- ---- searches that are the same
 

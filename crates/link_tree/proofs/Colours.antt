@@ -1,7 +1,7 @@
 -- Balancing keeps black heights and leaves no red pair.
 use Rattle.std.proofs.Common.{◌≡◌, ℕ, zero, suc, Bool, true, false, ◌&&◌, cond, refl, inl, inr}
 use Rattle.std.proofs.lemmas.Bool.{false≢true, and_parts, cases_Bool, not-false}
-use Rattle.link_tree.specs.Tree.{Tree, leaf, fork, has_black_root, has_no_red_pair, has_black_height}
+use Rattle.link_tree.specs.Tree.{Tree, leaf, fork, has_black_root, has_no_red_pair, has_black_height, IsRedBlack}
 use Rattle.link_tree.specs.Sides.{opposite, tree_on, joined_at}
 use Rattle.link_tree.specs.Turning.{blackened, rebalanced, is_red_tree, balanced, balanced_outer, balanced_inner}
 use Rattle.link_tree.specs.declared.visits.Side.{Side}
@@ -11,6 +11,9 @@ use Rattle.link_tree.specs.declared.visits.Side.TheVariants.{Left, Right}
 pub record IsEven (t : Tree) (b : ℕ) : Type 0 where
   pub no_red_pair : has_no_red_pair t ≡ true
   pub black : has_black_height t b ≡ true
+
+pub even_tree : (t : Tree) (k : IsRedBlack t) → IsEven t k.black.0
+even_tree t k = record { no_red_pair = k.no_red_pair; black = k.black.1 }
 
 -- the same, but the root may be red over red children
 abbrev pub has_even_children : Tree → Bool

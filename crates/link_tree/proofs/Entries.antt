@@ -13,7 +13,7 @@ use Rattle.link_tree.proofs.Orders.{IsStrict}
 use Rattle.link_tree.proofs.Trees.{IsChanged, some_same, none_some}
 use Rattle.link_tree.proofs.Beginnings.{Begins, begins_deeper, begins_here, begun}
 use Rattle.link_tree.proofs.Joints.{joint_of, apart_of, in_near}
-use Rattle.link_tree.proofs.Colours.{IsEven, even_fork, under_red, rebalanced_red}
+use Rattle.link_tree.proofs.Colours.{even_tree, IsEven, even_fork, under_red, rebalanced_red}
 use Rattle.link_tree.proofs.Growth.{grown_even, grown-joined, nodes_of-grown, rises_put, placed_apart, place_part, out_of}
 
 -- ---- balancing where there is no red pair
@@ -193,7 +193,7 @@ module _ {lt : ℕ → ℕ → Bool} (strict : IsStrict lt) (h : ℕ → Cell) (
   pub begun_whole : (root : Option ℕ) (t : Tree) (p : ℕ) → IsSearchTree lt h root t
       → has_place lt x (nodes_of t) ≡ true → entry_of (λ m. not (lt x m)) t ≡ Some p → IsBegun lt h x t p
   begun_whole root t p s q e = starts t s.red_black.black.0 p s.tree.holds s.ordered q
-      (record { no_red_pair = s.red_black.no_red_pair; black = s.red_black.black.1 }) e
+      (even_tree t s.red_black) e
 
   pub entered : (lt' : ℕ → ℕ → Bool) (h1 h' : ℕ → Cell) (root : Option ℕ) (top : ℕ) (t : Tree) (p : ℕ)
       → IsSearchTree lt h root t → has_place lt x (nodes_of t) ≡ true → (g : IsBegun lt h x t p)
@@ -201,7 +201,7 @@ module _ {lt : ℕ → ℕ → Bool} (strict : IsStrict lt) (h : ℕ → Cell) (
       → lt' ≡ lt → IsChanged lt' h h' root (x ∷ nodes_of t) (put lt x (nodes_of t))
   entered lt' h1 h' root top t p s q g u eh el =
       let b = s.red_black.black.0 in
-      let e = grown_even lt x t b (record { no_red_pair = s.red_black.no_red_pair; black = s.red_black.black.1 }) in
+      let e = grown_even lt x t b (even_tree t s.red_black) in
       begun strict h (x ∷ []) (grown lt x) lt' h1 h' root (Some p) (Some top) t b (put lt x (nodes_of t)) s g.begins u
       (record { no_red_pair = g.even; black = e.nearly.black }) (nodes_of-grown strict x t s.ordered)
       (rises_put lt strict.transitive x (nodes_of t) s.ordered q) eh el

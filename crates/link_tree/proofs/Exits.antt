@@ -11,6 +11,7 @@ use Rattle.link_tree.specs.declared.visits.Side.TheVariants.{Left, Right}
 use Rattle.link_tree.proofs.Orders.{IsStrict}
 use Rattle.link_tree.proofs.Trees.{IsChanged, some_same, none_some}
 use Rattle.link_tree.proofs.Joints.{joint_of, apart_of}
+use Rattle.link_tree.proofs.Colours.{even_tree}
 use Rattle.link_tree.proofs.Shrinkage.{nodes_of-shrunk, rises_without, shrunk_even}
 use Rattle.link_tree.proofs.Taking.{shrunk-joined}
 use Rattle.link_tree.proofs.Beginnings.{Begins, begins_deeper, begins_here, begun}
@@ -145,7 +146,7 @@ module _ {lt : ℕ → ℕ → Bool} (strict : IsStrict lt) (h : ℕ → Cell) (
       → IsChanged lt' h h' root (nodes_of t) (without x (nodes_of t))
   left lt' h1 h' root link fell t p s g u eh el =
       let b = s.red_black.black.0 in
-      let e = shrunk_even lt x t b (record { no_red_pair = s.red_black.no_red_pair; black = s.red_black.black.1 }) in
+      let e = shrunk_even lt x t b (even_tree t s.red_black) in
       begun strict h [] (left_of lt x) lt' h1 h' root (Some p) link t e.level (without x (nodes_of t)) s g.begins
       u.turned
       e.even (nodes_of-shrunk strict x t s.ordered) (rises_without lt x (nodes_of t) s.ordered) eh el

@@ -4,7 +4,7 @@ use Rattle.std.specs.List.{list_all}
 use Rattle.std.proofs.lemmas.Bool.{true≢false, false≢true, and_parts, and_from, or_cases, or_from, or_parts, eqb-false, or_left, or_right, cases_Bool, eqb-true, ne_eqb, not-true, not_from_false, false_from_ne_true}
 use Rattle.link_tree.specs.Tree.{Cell, Tree, leaf, fork, root_of, nodes_of, IsSearchTree, rises, has_black_root, has_no_red_pair, has_black_height, IsRedBlack, height}
 use Rattle.link_tree.specs.Nodes.{is_in, has_place, put, with_left, with_right, with_red}
-use Rattle.link_tree.specs.Sides.{child_of, with_child, joined_at, side_of}
+use Rattle.link_tree.specs.Sides.{opposite, tree_on, child_of, with_child, joined_at, side_of}
 use Rattle.link_tree.specs.Turning.{Turned, blackened, rebalanced, is_red_tree, balanced_outer, balanced_inner}
 use Rattle.link_tree.specs.Growing.{Grows, grown}
 use Rattle.link_tree.specs.declared.visits.Side.{Side}
@@ -12,9 +12,9 @@ use Rattle.link_tree.specs.declared.visits.Side.TheVariants.{Left, Right}
 use Rattle.link_tree.proofs.Orders.{IsStrict, Splits, rises_split, all_at, all_from, above_more}
 use Rattle.link_tree.proofs.Trees.{IsChanged}
 use Rattle.link_tree.proofs.Beginnings.{blackened_whole}
-use Rattle.link_tree.proofs.Joints.{Makes, parted, cell_at, with_red-same, with_red-other, with_child-other, with_child-near, in_near, in_far, in_root, outside_all, nodes_of-joined, nodes_of-painted, nodes_of-turn}
+use Rattle.link_tree.proofs.Joints.{fork_joined, Makes, parted, cell_at, with_red-same, with_red-other, with_child-other, with_child-near, in_near, in_far, in_root, outside_all, nodes_of-joined, nodes_of-painted, nodes_of-turn}
 use Rattle.link_tree.proofs.Turns.{graft}
-use Rattle.link_tree.proofs.Colours.{IsEven, IsNearlyEven, red_nearly, rebalanced_even, rebalanced_red, red_of_join, nearly_even, under_red, sides_of_red, sides_of_black, blackened_even, blackened_root, blackened_same}
+use Rattle.link_tree.proofs.Colours.{even_tree, IsEven, IsNearlyEven, red_nearly, rebalanced_even, rebalanced_red, red_of_join, nearly_even, under_red, sides_of_red, sides_of_black, blackened_even, blackened_root, blackened_same}
 
 -- ---- lists
 
@@ -86,16 +86,14 @@ nodes_of-inner : (side : Side) (a : Tree) (m : ℕ) (b : Tree) (n : ℕ) (far : 
     → nodes_of (balanced_inner side a m b n far) ≡ nodes_of (joined_at side false (joined_at side true a m b) n far)
 nodes_of-inner side a m leaf n far = refl
 nodes_of-inner side a m (fork false p k q) n far = refl
-nodes_of-inner Left a m (fork true p k q) n far = nodes_of-turn Left false true true false (joined_at Left false a m p)
-    k q n far
-    ∙ nodes_of-joined Left false false (joined_at Left true a m (fork true p k q))
-    (joined_at Left true (joined_at Left false a m p) k q) n far
-    (sym (nodes_of-turn Left true false true true a m p k q))
-nodes_of-inner Right a m (fork true p k q) n far = nodes_of-turn Right false true true false
-    (joined_at Right false a m q) k p n far
-    ∙ nodes_of-joined Right false false (joined_at Right true a m (fork true p k q))
-    (joined_at Right true (joined_at Right false a m q) k p) n far
-    (sym (nodes_of-turn Right true false true true a m q k p))
+nodes_of-inner side a m (fork true p k q) n far =
+    let b = tree_on side p q in
+    let c = tree_on (opposite side) p q in
+    nodes_of-turn side false true false true (joined_at side false a m b) k c n far
+    ∙ nodes_of-joined side false false (joined_at side true a m (fork true p k q))
+    (joined_at side true (joined_at side false a m b) k c) n far
+    (sym (nodes_of-turn side true false true true a m b k c)
+    ∙ ap (λ t. nodes_of (joined_at side true a m t)) (sym (fork_joined side true p k q)))
 
 nodes_of-outer : (side : Side) (a : Tree) (m : ℕ) (b : Tree) (n : ℕ) (far : Tree)
     → nodes_of (balanced_outer side a m b n far) ≡ nodes_of (joined_at side false (joined_at side true a m b) n far)
@@ -230,7 +228,7 @@ module _ (lt : ℕ → ℕ → Bool) (x : ℕ) where
   pub grown_red_black : (t : Tree) → IsRedBlack t → IsRedBlack (blackened (grown lt x t))
   grown_red_black t k =
       let b = k.black.0 in
-      let e = grown_even t b (record { no_red_pair = k.no_red_pair; black = k.black.1 }) in
+      let e = grown_even t b (even_tree t k) in
       elim (cases_Bool (has_black_root (grown lt x t))) [
         | inl q ↦ rw (blackened_same (grown lt x t) q)
             (record { root = q; no_red_pair = e.even k.root; black = (b, e.nearly.black) })
@@ -250,9 +248,6 @@ module _ {lt : ℕ → ℕ → Bool} (strict : IsStrict lt) where
         | inl a ↦ let a' : lt x x ≡ true = rw e at a in true≢false (sym a' ∙ strict.irreflexive x)
         | inr a ↦ let a' : lt x x ≡ true = rw e at a in true≢false (sym a' ∙ strict.irreflexive x)
       ]
-
-  pub not_placed : (x : ℕ) (ns : List ℕ) → has_place lt x ns ≡ true → is_in x ns ≡ false
-  not_placed x ns p = false_from_ne_true (is_in x ns) (λ i. placed_apart x ns x p i refl)
 
   pub out_of : (m x : ℕ) (ns : List ℕ) → (m ≡ x → ⊥) → is_in m ns ≡ false → is_in m (x ∷ ns) ≡ false
   out_of m x ns d o = or_from (nat_eq m x) (is_in m ns) (ne_eqb m x d) o

@@ -3,9 +3,9 @@ mod Trees
 mod Heights
 mod Limits
 mod Keepers
+mod Finding
 mod Seeking
 mod Approaches
-mod Mirrors
 mod Joints
 mod Turns
 mod Colours

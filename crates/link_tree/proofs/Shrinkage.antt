@@ -10,8 +10,8 @@ use Rattle.link_tree.specs.Shrinking.{Rest, reddened, mended_at, settled, sunk, 
 use Rattle.link_tree.specs.declared.visits.Side.{Side}
 use Rattle.link_tree.specs.declared.visits.Side.TheVariants.{Left, Right}
 use Rattle.link_tree.proofs.Orders.{IsStrict, rises_split, all_at, all_from, is_in-append, in_left, in_right, not_left, not_right}
-use Rattle.link_tree.proofs.Joints.{joined_opposite, nodes_of-joined, nodes_of-joined_far, nodes_of-painted, nodes_of-turn}
-use Rattle.link_tree.proofs.Colours.{IsEven, IsNearlyEven, black_join, black_root_join, red_join, rebalanced_even, nearly_even, under_red, sides_of_red, even_fork, blackened_even, blackened_root, blackened_same}
+use Rattle.link_tree.proofs.Joints.{fork_joined, joined_opposite, nodes_of-joined, nodes_of-joined_far, nodes_of-painted, nodes_of-turn}
+use Rattle.link_tree.proofs.Colours.{even_tree, IsEven, IsNearlyEven, black_join, black_root_join, red_join, rebalanced_even, nearly_even, under_red, sides_of_red, even_fork, blackened_even, blackened_root, blackened_same}
 use Rattle.link_tree.proofs.Growth.{nodes_of-rebalanced}
 use Rattle.std.proofs.lemmas.List.{append-nil}
 
@@ -89,18 +89,15 @@ nodes_of-mended side red leaf n far = refl
 nodes_of-mended side red (fork false l m r) n far =
     nodes_of-rebalanced side false (fork true l m r) n far ∙ nodes_of-joined side red false (fork false l m r)
     (fork true l m r) n far refl
-nodes_of-mended Left red (fork true l m r) n far =
-    nodes_of-joined_far Left false false l m (joined_at Left red r n far)
-    (rebalanced Left (joined_at Left red (reddened r) n far))
-    (nodes_of-rebalanced Left red (reddened r) n far ∙ nodes_of-joined Left red red r (reddened r) n far
-    (nodes_of-painted true r))
-    ∙ nodes_of-turn Left red true false red l m r n far
-nodes_of-mended Right red (fork true l m r) n far =
-    nodes_of-joined_far Right false false r m (joined_at Right red l n far)
-    (rebalanced Right (joined_at Right red (reddened l) n far))
-    (nodes_of-rebalanced Right red (reddened l) n far ∙ nodes_of-joined Right red red l (reddened l) n far
-    (nodes_of-painted true l))
-    ∙ nodes_of-turn Right red true false red r m l n far
+nodes_of-mended side red (fork true l m r) n far =
+    let a = tree_on side l r in
+    let b = tree_on (opposite side) l r in
+    nodes_of-joined_far side false false a m (joined_at side red b n far)
+    (rebalanced side (joined_at side red (reddened b) n far))
+    (nodes_of-rebalanced side red (reddened b) n far
+    ∙ nodes_of-joined side red red b (reddened b) n far (nodes_of-painted true b))
+    ∙ nodes_of-turn side red true red false a m b n far
+    ∙ ap (λ t. nodes_of (joined_at side red t n far)) (sym (fork_joined side true l m r))
 
 pub nodes_of-settled : (side : Side) (red : Bool) (rest : Rest) (n : ℕ) (far : Tree)
     → nodes_of (settled side red rest n far).tree ≡ nodes_of (joined_at side red rest.tree n far)
@@ -321,7 +318,7 @@ pub shrunk_red_black : (lt : ℕ → ℕ → Bool) (x : ℕ) (t : Tree) → IsRe
     → IsRedBlack (blackened (shrunk lt x t).tree)
 shrunk_red_black lt x t k =
     let b = k.black.0 in
-    let e = shrunk_even lt x t b (record { no_red_pair = k.no_red_pair; black = k.black.1 }) in
+    let e = shrunk_even lt x t b (even_tree t k) in
     let u = (shrunk lt x t).tree in
     elim (cases_Bool (is_red_tree u)) [
       | inl q ↦

@@ -28,16 +28,6 @@ root_black true red_above l n r free e = absurd (free refl e)
 root_black false red_above l n r free e = refl
 
 module _ {lt : ℕ → ℕ → Bool} (strict : IsStrict lt) (h : ℕ → Cell) where
-  pub sound_none : (low high : Option ℕ) (red_above : Bool) → IsSound lt h None low high red_above leaf 0
-  sound_none low high red_above = record {
-    tree = record { root = refl; holds = tt };
-    ordered = refl;
-    between = refl;
-    no_red_pair = refl;
-    root = λ e. refl;
-    black = refl;
-  }
-
   -- two parts and a node between them
   pub sound_fork : (n : ℕ) (low high : Option ℕ) (red_above red : Bool) (l r : Tree) (b : ℕ)
       → IsSound lt h (h n).left low (Some n) red l b → IsSound lt h (h n).right (Some n) high red r b

@@ -1,38 +1,22 @@
 -- How a removal takes the root of a tree, or a node below it, and makes the root of what is left black.
-use Rattle.std.proofs.Common.{◌≡◌, ℕ, ◌+◌, Bool, true, false, Option, Some, None, [], ◌∷◌, ◌++◌, nat_eq, refl, sym, ap, ◌∙◌, inl, inr, subst}
+use Rattle.std.proofs.Common.{◌≡◌, ℕ, ◌+◌, Bool, true, false, Option, Some, [], ◌∷◌, ◌++◌, nat_eq, refl, sym, ap, ◌∙◌, inl, inr, subst}
 use Rattle.std.proofs.lemmas.Bool.{eqb-false, ne_eqb, or_parts, cases_Bool}
 use Rattle.link_tree.specs.Tree.{Cell, Tree, leaf, fork, nodes_of, IsTree, IsSearchTree, rises}
 use Rattle.link_tree.specs.Nodes.{is_in, with_left, with_red, without}
 use Rattle.link_tree.specs.Sides.{child_of, joined_at, side_of}
 use Rattle.link_tree.specs.Turning.{blackened}
-use Rattle.link_tree.specs.Shrinking.{Rest, Shrinks, Leaves, settled, sunk, least_of, without_least, without_root, uprooted, shrunk}
+use Rattle.link_tree.specs.Shrinking.{Rest, Shrinks, Leaves, settled, least_of, without_least, without_root, uprooted, shrunk}
 use Rattle.link_tree.specs.declared.visits.Side.{Side}
 use Rattle.link_tree.specs.declared.visits.Side.TheVariants.{Left, Right}
-use Rattle.link_tree.proofs.Orders.{IsStrict, rises_split, in_middle, outside_parts}
+use Rattle.link_tree.proofs.Orders.{IsStrict, in_middle}
 use Rattle.link_tree.proofs.Beginnings.{blackened_whole}
-use Rattle.link_tree.proofs.Trees.{IsChanged, open_tree, tree_same, none_some, no_tree}
+use Rattle.link_tree.proofs.Trees.{IsChanged, tree_same, none_some}
 use Rattle.link_tree.proofs.Joints.{Makes, parted, with_child-other, with_child-near, with_red-other, with_red-same, outside_all, other_than}
 use Rattle.link_tree.proofs.Shrinkage.{without_out, rises_without, rises_skip, nodes_of-shrunk, nodes_of-settled, shrunk_red_black}
-use Rattle.link_tree.proofs.TakingLeast.{Settles, outside_join, widen, right_left, settle_below, apart_head, has_least}
+use Rattle.link_tree.proofs.TakingLeast.{Settles, outside_join, right_left, settle_below, apart_head, has_least}
 
 module _ {lt : ℕ → ℕ → Bool} (strict : IsStrict lt) where
   -- ---- a tree without its root
-
-  pub uproot_last : (h h' : ℕ → Cell) (at : ℕ) (root : Option ℕ) (fell : Bool) (t : Tree) → IsTree h (Some at) t
-      → (h at).right ≡ None → rises lt (nodes_of t) ≡ true
-      → ((u : Tree) → IsTree h (h at).left u → rises lt (nodes_of u) ≡ true
-      → Leaves h h' (nodes_of u) root fell (sunk (h at).red u))
-      → Leaves h h' (nodes_of t) root fell (uprooted t)
-  uproot_last h h' at root fell t w e o sink =
-      let p = open_tree h at t w in
-      let r_tree = rw e at p.right_tree in
-      let no_right = no_tree h p.right r_tree in
-      let is : t ≡ fork (h at).red p.left at leaf = p.is ∙ ap (λ x. fork (h at).red p.left at x) no_right in
-      let o' : rises lt (nodes_of p.left ++ at ∷ []) ≡ true = ap (λ x. rises lt (nodes_of x)) (sym is) ∙ o in
-      let s = sink p.left p.left_tree (rises_split lt (nodes_of p.left) at [] o').left in
-      let is_rest : uprooted t ≡ sunk (h at).red p.left = ap uprooted is in
-      rw is_rest (widen h h' (nodes_of p.left) (nodes_of t) root fell (sunk (h at).red p.left)
-      (λ m i. (outside_parts m (nodes_of p.left) at [] (subst (λ x. is_in m (nodes_of x) ≡ false) is i)).left) s)
 
   without_root_over : (h : ℕ → Cell) (red : Bool) (right : ℕ) (l r : Tree) → IsTree h (Some right) r
       → without_root red l r ≡ settled Right red (without_least r) (least_of right r) l
@@ -149,7 +133,8 @@ module _ {lt : ℕ → ℕ → Bool} (strict : IsStrict lt) where
       let o' : rises lt (nodes_of (joined_at side red (shrunk lt x p.near).tree at p.far)) ≡ true =
       settled_order side red (shrunk lt x p.near) at p.far (ap (λ r. rises lt (nodes_of r.tree)) (sym is_joined)
       ∙ ap (rises lt) whole ∙ rises_without lt x (nodes_of (joined_at side red p.near at p.far)) p.order) in
-      let s = settle_below strict side h h1 h2 red p.near at p.far (shrunk lt x p.near) link root fell_below fell p.holds
+      let s = settle_below strict side h h1 h2 red p.near at p.far (shrunk lt x p.near) link root fell_below fell
+      p.holds
       p.order u
       (λ m i. ap (is_in m) nodes ∙ without_out x (nodes_of p.near) m i) o' settle in
       let is : shrunk lt x t ≡ settled side red (shrunk lt x p.near) at p.far = ap (shrunk lt x) p.is ∙ is_joined in

@@ -8,7 +8,7 @@ use Rattle.link_tree.specs.Shrinking.{Rest, Shrinks, Leaves, settled, sunk, leas
 use Rattle.link_tree.specs.declared.visits.Side.{Side}
 use Rattle.link_tree.specs.declared.visits.Side.TheVariants.{Left, Right}
 use Rattle.link_tree.proofs.Orders.{IsStrict, rises_split, is_in-append, not_right}
-use Rattle.link_tree.proofs.Trees.{open_tree, holds_same, none_some, no_tree, root_in}
+use Rattle.link_tree.proofs.Trees.{holds_same, none_some, no_tree, root_in}
 use Rattle.link_tree.proofs.Joints.{parted, far_of_cell, red_of_cell, joint_of, apart_of, outside_all, other_than}
 use Rattle.link_tree.proofs.Shrinkage.{nodes_of-least}
 
@@ -85,10 +85,6 @@ module _ {lt : ℕ → ℕ → Bool} (strict : IsStrict lt) where
   pub apart_head : (n : ℕ) (ns : List ℕ) → rises lt (n ∷ ns) ≡ true → is_in n ns ≡ false
   apart_head n ns o = not_right strict [] n ns (rises_split lt [] n ns o)
 
-  least_any : (a b : ℕ) (red : Bool) (l : Tree) (n : ℕ) (r : Tree)
-      → least_of a (fork red l n r) ≡ least_of b (fork red l n r)
-  least_any a b red l n r = refl
-
   -- what is left of a tree without its first node has its other nodes
   pub record HasLeast (t : Tree) (n : ℕ) : Type 0 where
     pub nodes : nodes_of t ≡ least_of n t ∷ nodes_of (without_least t).tree
@@ -100,29 +96,21 @@ module _ {lt : ℕ → ℕ → Bool} (strict : IsStrict lt) where
   rest_out : (m n : ℕ) (xs ys : List ℕ) → xs ≡ n ∷ ys → is_in m xs ≡ false → is_in m ys ≡ false
   rest_out m n xs ys e o = (or_parts (nat_eq m n) (is_in m ys) (ap (is_in m) (sym e) ∙ o)).1
 
-  pub take_last : (h h' : ℕ → Cell) (at : ℕ) (root : Option ℕ) (fell : Bool) (t : Tree) → IsTree h (Some at) t
-      → (h at).left ≡ None → rises lt (nodes_of t) ≡ true
-      → ((u : Tree) → IsTree h (h at).right u → rises lt (nodes_of u) ≡ true
-      → Leaves h h' (nodes_of u) root fell (sunk (h at).red u))
-      → Leaves h h' (nodes_of t) root fell (without_least t)
-  take_last h h' at root fell t w e o sink =
-      let p = open_tree h at t w in
-      let l_tree = rw e at p.left_tree in
-      let no_left = no_tree h p.left l_tree in
-      let is : t ≡ fork (h at).red leaf at p.right = p.is ∙ ap (λ x. fork (h at).red x at p.right) no_left in
-      let o' : rises lt (at ∷ nodes_of p.right) ≡ true = ap (λ x. rises lt (nodes_of x)) (sym is) ∙ o in
-      let s = sink p.right p.right_tree (rises_split lt [] at (nodes_of p.right) o').right in
-      let is_rest : without_least t ≡ sunk (h at).red p.right = ap without_least is in
-      let nodes : nodes_of t ≡ at ∷ nodes_of p.right = ap nodes_of is in
-      rw is_rest (widen h h' (nodes_of p.right) (nodes_of t) root fell (sunk (h at).red p.right)
-      (λ m i. rest_out m at (nodes_of t) (nodes_of p.right) nodes i) s)
-
-  pub least_last : (h : ℕ → Cell) (at : ℕ) (t : Tree) → IsTree h (Some at) t → (h at).left ≡ None → at ≡ least_of at t
-  least_last h at t w e =
-      let p = open_tree h at t w in
-      let l_tree = rw e at p.left_tree in
-      let no_left = no_tree h p.left l_tree in
-      sym (ap (least_of at) (p.is ∙ ap (λ x. fork (h at).red x at p.right) no_left))
+  -- a node without a tree on one side leaves the other one
+  pub sink_far : (side : Side) (take : Tree → Rest) (h h' : ℕ → Cell) (at : ℕ) (root : Option ℕ) (fell : Bool)
+      (t : Tree) → Shrinks lt h (Some at) t → child_of side (h at) ≡ None
+      → ((red : Bool) (far : Tree) → take (joined_at side red leaf at far) ≡ sunk red far)
+      → ((u : Tree) → IsTree h (child_of (opposite side) (h at)) u → rises lt (nodes_of u) ≡ true
+      → Leaves h h' (nodes_of u) root fell (sunk (h at).red u)) → Leaves h h' (nodes_of t) root fell (take t)
+  sink_far side take h h' at root fell t w e takes sink =
+      let p = parted strict side h at t w.tree w.ordered in
+      let red = (h at).red in
+      let none = no_tree h p.near (rw e at p.near_tree) in
+      let s = sink p.far p.far_tree p.apart.far_rises in
+      let is : take t ≡ sunk red p.far = ap take (p.is ∙ ap (λ x. joined_at side red x at p.far) none)
+      ∙ takes red p.far in
+      rw is (widen h h' (nodes_of p.far) (nodes_of t) root fell (sunk red p.far)
+      (λ m i. (outside_all side red p.near at p.far m (subst (λ x. is_in m (nodes_of x) ≡ false) p.is i)).far_out) s)
 
   -- the tree on one side
   pub record ShrinksBelow (h : ℕ → Cell) (side : Side) (at : ℕ) (t : Tree) : Type 0 where

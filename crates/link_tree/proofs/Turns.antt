@@ -11,10 +11,6 @@ use Rattle.link_tree.proofs.Orders.{IsStrict}
 use Rattle.link_tree.proofs.Trees.{holds_same, some_same, none_some}
 use Rattle.link_tree.proofs.Joints.{Makes, cell_at, with_child-other, with_child-near, with_child-far, with_red-other, with_red-same, fork_joined, root_joined, joint_of, tree_joint, open_side, apart_of, in_near, in_far, in_root, outside_all, other_than, nodes_of-joined, nodes_of-painted, nodes_of-turn, lifted-joined}
 
--- a node outside a tree stays outside trees of the same nodes
-out_same : (m : ℕ) (xs ys : List ℕ) → xs ≡ ys → is_in m ys ≡ false → is_in m xs ≡ false
-out_same m xs ys e o = rw e o
-
 -- the tree on one side is another now, and the root's link leads to it
 pub graft : (side : Side) (h h1 h2 : ℕ → Cell) (red : Bool) (near near' : Tree) (n : ℕ) (far : Tree) (link : Option ℕ)
     (xs : List ℕ)

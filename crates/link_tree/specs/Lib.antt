@@ -6,7 +6,7 @@ pub mod Turning
 pub mod Growing
 pub mod Searching
 pub mod Ways
-pub mod Backwards
+pub mod Besides
 pub mod Shrinking
 pub mod Checking
 pub mod Walking

@@ -19,9 +19,11 @@ entry_of before (fork red left n right) =
 
 -- one node further down, on the way in
 abbrev pub passed : Passed → ℕ → Bool → Bool → Passed
-passed notes n red before =
-    if red then record { above = None; entry = notes.entry }
-    else record { above = Some n; entry = option_or notes.above notes.entry }
+passed notes n red before = record {
+  node = if before then notes.node else Some n;
+  above = if red then None else Some n;
+  entry = if red then notes.entry else option_or notes.above notes.entry;
+}
 
 -- what is found below a node, or else the node, where the way goes on to a red one
 abbrev pub exit_over : ℕ → Tree → Option ℕ → Option ℕ
@@ -40,6 +42,7 @@ exit_of precedes x (fork red left n right) =
 -- one node further down, on the way out
 abbrev pub followed : Followed → ℕ → Bool → Bool → Followed
 followed notes n red before = record {
+  node = if before then notes.node else Some n;
   above = Some n;
   exit = if red then notes.above else notes.exit;
   of_node = if before then notes.of_node else (if red then notes.above else notes.exit);

@@ -2,7 +2,7 @@
 
 ghost use Rattle.std.specs.Prelude.{◌≡◌, ℕ, ◌+◌, ◌*◌, ◌<◌, ◌≤◌, ◌^◌, Bool, true, false, Option, Some, None, List, length};
 ghost use Rattle.link_tree.specs.Tree.{Tree, IsSearchTree, nodes_of, bits};
-ghost use Rattle.link_tree.specs.Nodes.{leads, first_not};
+ghost use Rattle.link_tree.specs.Nodes.{leads};
 ghost use Rattle.link_tree.specs.Searching.{path_length, noted};
 
 use crate::nodes::Nodes;
@@ -24,16 +24,15 @@ pub trait Notes: Copy {
         ensures steps { visits.new.steps ≡ visits.old.steps };
 }
 
-/// The node that was looked for, if there is one, what was kept of the way, and the steps that it took.
+/// What was kept of the way, and the steps that it took.
 #[derive(Clone, Copy)]
 pub struct Descent<K> {
-    pub node: Option<u64>,
     pub notes: K,
     pub steps: u64,
 }
 
-/// Looks for the first node that does not stand before the probe, and keeps notes of the nodes on the way, which goes
-/// on where that node is found to the end of the path.
+/// Goes down the path of a search for the probe, to its end: on to the right of a node that stands before the probe,
+/// and to the left of any other.
 pub fn descend<N: Nodes, K: Notes>(
     nodes: &N,
     root: Option<u64>,
@@ -42,8 +41,6 @@ pub fn descend<N: Nodes, K: Notes>(
 ) -> Descent<K>
     requires root { leads (N.is_node nodes.now) root ≡ true }
     requires tree { (t : Tree) × IsSearchTree (N.order nodes.now) (N.cells nodes.now) root t }
-    ensures first { (t : Tree) → IsSearchTree (N.order nodes.now) (N.cells nodes.now) root t
-        → result.node ≡ first_not (N.before nodes.now probe.now) (nodes_of t) }
     ensures noted { (t : Tree) → IsSearchTree (N.order nodes.now) (N.cells nodes.now) root t
         → result.notes ≡ noted K.passed (N.before nodes.now probe.now) start t }
     ensures steps { (t : Tree) → IsSearchTree (N.order nodes.now) (N.cells nodes.now) root t
@@ -53,20 +50,17 @@ pub fn descend<N: Nodes, K: Notes>(
 {
     let mut visits = Visits::new(nodes);
     let mut link = root;
-    let mut found = None;
     let mut notes = start;
     while let Some(node) = link {
-        let before = visits.before_probe(node, probe);
-        notes = notes.pass(&mut visits, node, before);
-        if before {
+        if visits.before_probe(node, probe) {
+            notes = notes.pass(&mut visits, node, true);
             link = visits.right(node);
         } else {
-            found = link;
+            notes = notes.pass(&mut visits, node, false);
             link = visits.left(node);
         }
     }
     Descent {
-        node: found,
         notes,
         steps: visits.steps(),
     }

@@ -8,7 +8,7 @@ ghost use Rattle.link_tree.specs.Growing.{Grows, grown};
 ghost use Rattle.link_tree.specs.Ways.{entry_of};
 ghost use Rattle.link_tree.specs.Frame.{SameBesideCells};
 
-use crate::backwards::Beside;
+use crate::besides::Beside;
 use crate::nodes::NodesMut;
 use crate::turning::{balance, paint};
 use crate::visits::{Side, VisitsMut};

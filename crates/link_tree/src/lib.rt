@@ -7,7 +7,7 @@
 //! after Okasaki, `remove` after Filliâtre and Letouzey.
 #![tactic(auto)]
 
-mod backwards;
+mod besides;
 mod checking;
 mod descending;
 mod inserting;

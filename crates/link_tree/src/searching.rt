@@ -1,12 +1,12 @@
 //! Nodes that are looked for: the neighbours of a probe, and the last node.
 
-ghost use Rattle.std.specs.Prelude.{◌≡◌, ℕ, ◌+◌, ◌*◌, ◌≤◌, Bool, true, false, Option, Some, None, List, length};
+ghost use Rattle.std.specs.Prelude.{◌≡◌, ℕ, ◌+◌, ◌*◌, ◌≤◌, Bool, true, false, Option, Some, None, List, length, if◌then◌else◌};
 ghost use Rattle.std.specs.List.{last_or};
 ghost use Rattle.link_tree.specs.Tree.{Tree, IsSearchTree, nodes_of, bits};
 ghost use Rattle.link_tree.specs.Nodes.{leads, first_not, last_before};
 ghost use Rattle.link_tree.specs.Searching.{path_length};
 
-use crate::backwards::{AllBefore, Backwards};
+use crate::besides::AllBefore;
 use crate::descending::{Notes, descend};
 use crate::nodes::Nodes;
 use crate::visits::Visits;
@@ -20,14 +20,36 @@ pub struct Found {
     pub steps: u64,
 }
 
-/// The notes of a search that keeps none.
+/// The last node passed that does not stand before the probe. At the end of the path it is the first one of the tree.
 #[derive(Clone, Copy)]
-struct Unnoted;
+struct First {
+    node: Option<u64>,
+}
 
-impl Notes for Unnoted {
-    ghost passed = { λ notes node red before. notes };
+impl Notes for First {
+    ghost passed = { λ notes n red before. record { node = if before then notes.node else Some n } };
 
-    fn pass<N: Nodes>(self, _visits: &mut Visits<N>, _node: u64, _before: bool) -> Unnoted {
+    fn pass<N: Nodes>(self, _visits: &mut Visits<N>, node: u64, before: bool) -> First {
+        if before {
+            return self;
+        }
+        First { node: Some(node) }
+    }
+}
+
+/// The last node passed that stands before the probe. At the end of the path it is the last one of the tree.
+#[derive(Clone, Copy)]
+struct Last {
+    node: Option<u64>,
+}
+
+impl Notes for Last {
+    ghost passed = { λ notes n red before. record { node = if before then Some n else notes.node } };
+
+    fn pass<N: Nodes>(self, _visits: &mut Visits<N>, node: u64, before: bool) -> Last {
+        if before {
+            return Last { node: Some(node) };
+        }
         self
     }
 }
@@ -48,9 +70,9 @@ pub fn find_first_not_before<N: Nodes>(nodes: &N, root: Option<u64>, probe: &N::
     ensures exact { (t : Tree) → IsSearchTree (N.order nodes.now) (N.cells nodes.now) root t
         → result.steps ≡ path_length (N.before nodes.now probe.now) t }
 {
-    let way = descend(nodes, root, probe, Unnoted);
+    let way = descend(nodes, root, probe, First { node: None });
     Found {
-        node: way.node,
+        node: way.notes.node,
         steps: way.steps,
     }
 }
@@ -69,7 +91,11 @@ pub fn find_last_before<N: Nodes>(nodes: &N, root: Option<u64>, probe: &N::Probe
     ensures exact { (t : Tree) → IsSearchTree (N.order nodes.now) (N.cells nodes.now) root t
         → result.steps ≡ path_length (N.before nodes.now probe.now) t }
 {
-    find_first_not_before(&Backwards { nodes }, root, probe)
+    let way = descend(nodes, root, probe, Last { node: None });
+    Found {
+        node: way.notes.node,
+        steps: way.steps,
+    }
 }
 
 /// The last node of the tree.

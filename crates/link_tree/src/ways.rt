@@ -25,6 +25,8 @@ pub struct WayIn {
 /// Where an insertion begins, as far as a search has gone.
 #[derive(Clone, Copy)]
 struct Passed {
+    /// The last node passed that does not stand before the probe.
+    node: Option<u64>,
     /// The node that was passed last, where it is black.
     above: Option<u64>,
     /// The lowest black node above it that no red one followed.
@@ -46,16 +48,12 @@ impl Passed {
 impl Notes for Passed {
     ghost passed = { passed };
 
-    fn pass<N: Nodes>(self, visits: &mut Visits<N>, node: u64, _before: bool) -> Passed {
-        if visits.red(node) {
-            return Passed {
-                above: None,
-                entry: self.entry,
-            };
-        }
+    fn pass<N: Nodes>(self, visits: &mut Visits<N>, node: u64, before: bool) -> Passed {
+        let red = visits.red(node);
         Passed {
-            above: Some(node),
-            entry: self.end(),
+            node: if before { self.node } else { Some(node) },
+            above: if red { None } else { Some(node) },
+            entry: if red { self.entry } else { self.end() },
         }
     }
 }
@@ -74,11 +72,13 @@ pub struct WayOut {
 /// Where the removal of the node that was passed last begins, as far as a search has gone.
 #[derive(Clone, Copy)]
 struct Followed {
+    /// The last node passed that does not stand before the probe.
+    node: Option<u64>,
     /// The node that was passed last.
     above: Option<u64>,
     /// The lowest node above it that a red one followed.
     exit: Option<u64>,
-    /// That of the last node that did not stand before the probe.
+    /// That of `node`.
     of_node: Option<u64>,
 }
 
@@ -89,6 +89,7 @@ impl Notes for Followed {
         let red = visits.red(node);
         let exit = if red { self.above } else { self.exit };
         Followed {
+            node: if before { self.node } else { Some(node) },
             above: Some(node),
             exit,
             of_node: if before { self.of_node } else { exit },
@@ -115,12 +116,13 @@ pub fn find_way_in<N: Nodes>(nodes: &N, root: Option<u64>, probe: &N::Probe) -> 
         → result.steps ≡ path_length (N.before nodes.now probe.now) t }
 {
     let start = Passed {
+        node: None,
         above: None,
         entry: None,
     };
     let way = descend(nodes, root, probe, start);
     WayIn {
-        node: way.node,
+        node: way.notes.node,
         entry: way.notes.end(),
         steps: way.steps,
     }
@@ -144,13 +146,14 @@ pub fn find_way_out<N: Nodes>(nodes: &N, root: Option<u64>, probe: &N::Probe) ->
         → result.steps ≡ path_length (N.before nodes.now probe.now) t }
 {
     let start = Followed {
+        node: None,
         above: None,
         exit: None,
         of_node: None,
     };
     let way = descend(nodes, root, probe, start);
     WayOut {
-        node: way.node,
+        node: way.notes.node,
         exit: way.notes.of_node,
         steps: way.steps,
     }

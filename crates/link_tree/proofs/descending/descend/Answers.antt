@@ -1,9 +1,30 @@
-use Rattle.std.proofs.Common.{◌≡◌, ◌+◌, true, false, ◌∙◌, arith, refl}
+use Rattle.std.proofs.Common.{◌≡◌, ℕ, ◌+◌, Bool, true, false, Option, Some, ◌∙◌, arith, refl}
 use Rattle.link_tree.specs.Tree.{Tree, IsSearchTree}
+use Rattle.link_tree.specs.Sides.{child_of}
 use Rattle.link_tree.proofs.Heights.{bounds_height}
 use Rattle.link_tree.proofs.Keepers.{low_tree, strict}
-use Rattle.link_tree.proofs.Seeking.{seek_start, seek_on, seek_end}
+use Rattle.link_tree.proofs.Seeking.{Seeking, onward, seek_start, seek_on, seek_end}
 use Rattle.link_tree.proofs.descending.descend.Goals as goal
+use Rattle.link_tree.proofs.descending.descend.Given.{Over}
+
+abbrev Seeks : (g : Over) → g.row.N.Denot → g.row.N-Probe.Denot → Option ℕ → g.row.K.Denot → (link at : Option ℕ)
+    → g.row.K.Denot → ℕ → Type 0
+Seeks g s probe root start link at notes steps =
+    (t : Tree) → IsSearchTree (g.N.Nodes.order s) (g.N.Nodes.cells s) root t
+    → Seeking g.K.Notes.passed start (g.N.Nodes.order s) (g.N.Nodes.cells s) (g.N.Nodes.before s probe) t link at notes
+    steps
+
+-- the search, one node further down
+further : (g : Over) (s : g.row.N.Denot) (probe : g.row.N-Probe.Denot) (root : Option ℕ) (start : g.row.K.Denot)
+    (b : Bool) (n : ℕ) (link at at' : Option ℕ) (notes notes' : g.row.K.Denot) (steps steps' : ℕ)
+    → Seeks g s probe root start (Some n) at notes steps → g.N.Nodes.before s probe n ≡ b
+    → notes' ≡ g.K.Notes.passed notes n (g.N.Nodes.cells s n).red b → ((at ≡ Some n → ⊥) → steps' ≡ steps + 1)
+    → at' ≡ Some n → link ≡ child_of (onward b) (g.N.Nodes.cells s n)
+    → Seeks g s probe root start link at' notes' steps'
+further g s probe root start b n link at at' notes notes' steps steps' seeks e k goes here is = λ t w.
+    let seeking = seeks t w in
+    rw is (seek_on (strict g.met.N.Nodes s) b n at at' notes notes' steps steps' seeking e k
+    (goes (seeking.away n refl)) here)
 
 pub loop-link-init : goal.loop-link-init
 loop-link-init g c = record {
@@ -13,44 +34,36 @@ loop-link-init g c = record {
   seeks = λ t k. seek_start c.args.root _ _ k c.new-visits.ensures.at c.new-visits.ensures.steps;
 }
 
-pub loop-link-smaller-then-before : goal.loop-link-smaller-then-before
-loop-link-smaller-then-before g c =
+pub loop-link-smaller-then-before_probe : goal.loop-link-smaller-then-before_probe
+loop-link-smaller-then-before_probe g c =
     let t = c.requires.tree in
-    let goes = c.before_probe-before.ensures.goes ((c.loop-link.invariant.seeks t.0 t.1).away _ c.in-Some.is) in
+    let goes = c.before_probe.ensures.goes ((c.loop-link.invariant.seeks t.0 t.1).away _ c.in-Some.is) in
     let stays = c.right-link.ensures.stays c.pass-notes.ensures.at in
     omega arith
 
 pub loop-link-smaller : goal.loop-link-smaller
 loop-link-smaller g c =
     let t = c.requires.tree in
-    let goes = c.before_probe-before.ensures.goes ((c.loop-link.invariant.seeks t.0 t.1).away _ c.in-Some.is) in
-    let stays = c.left-link.ensures.stays c.pass-notes.ensures.at in
+    let goes = c.before_probe.ensures.goes ((c.loop-link.invariant.seeks t.0 t.1).away _ c.in-Some.is) in
+    let stays = c.left-link.ensures.stays c.pass-notes-else-before_probe.ensures.at in
     omega arith
 
-pub loop-link-preserved-then-before : goal.loop-link-preserved-then-before
-loop-link-preserved-then-before g c =
+pub loop-link-preserved-then-before_probe : goal.loop-link-preserved-then-before_probe
+loop-link-preserved-then-before_probe g c =
     let s = c.args.nodes.now in
     let t = c.requires.tree in
     let n = c.in-Some.node in
     let here : g.N.Nodes.is_node s n ≡ true = rw c.in-Some.is at c.loop-link.invariant.good in
-    let e : c.right-link.result ≡ (g.N.Nodes.cells s n).right = cc in
-    let b : g.N.Nodes.before s c.args.probe.now n ≡ true = cc in
-    let k : c.pass-notes.result ≡ g.K.Notes.passed c.loop-link.notes n (g.N.Nodes.cells s n).red true = cc in
-    let seeks = λ (u : Tree) (w : IsSearchTree (g.N.Nodes.order s) (g.N.Nodes.cells s) c.args.root u).
-    let seeking = rw c.in-Some.is at (c.loop-link.invariant.seeks u w) in
-    let goes = c.before_probe-before.ensures.goes (seeking.away _ refl) in
+    let is : c.right-link.result ≡ (g.N.Nodes.cells s n).right = cc in
+    let seeks = further g s c.args.probe.now c.args.root c.args.start true n c.right-link.result _ _ _
+    c.pass-notes.result _ c.right-link.new.self.steps (rw c.in-Some.is at c.loop-link.invariant.seeks) (cc) (cc)
+    (λ away.
+    let goes = c.before_probe.ensures.goes away in
     let stays = c.right-link.ensures.stays c.pass-notes.ensures.at in
-    let more : c.right-link.new.self.steps ≡ c.loop-link.visits.steps + 1 = omega arith in
-    seek_on (strict g.met.N.Nodes s) (g.met.N.Nodes.agrees s c.args.probe.now) true n _ _ _ _ _ _ _ seeking b k
-    more c.right-link.ensures.at in
+    omega arith) c.right-link.ensures.at is in
     let low = low_tree g.met.N.Nodes s t.1 c.requires.root in
     let taken = (seeks t.0 t.1).taken in
-    record {
-      same = cc;
-      good = rw e (g.met.N.Nodes.right_closed s n here);
-      room = omega arith;
-      seeks = λ u w. rw e (seeks u w);
-    }
+    record { same = cc; good = rw is (g.met.N.Nodes.right_closed s n here); room = omega arith; seeks = seeks }
 
 pub loop-link-preserved : goal.loop-link-preserved
 loop-link-preserved g c =
@@ -58,30 +71,19 @@ loop-link-preserved g c =
     let t = c.requires.tree in
     let n = c.in-Some.node in
     let here : g.N.Nodes.is_node s n ≡ true = rw c.in-Some.is at c.loop-link.invariant.good in
-    let e : c.left-link.result ≡ (g.N.Nodes.cells s n).left = cc in
-    let b : g.N.Nodes.before s c.args.probe.now n ≡ false = cc in
-    let k : c.pass-notes.result ≡ g.K.Notes.passed c.loop-link.notes n (g.N.Nodes.cells s n).red false = cc in
-    let seeks = λ (u : Tree) (w : IsSearchTree (g.N.Nodes.order s) (g.N.Nodes.cells s) c.args.root u).
-    let seeking = rw c.in-Some.is at (c.loop-link.invariant.seeks u w) in
-    let goes = c.before_probe-before.ensures.goes (seeking.away _ refl) in
-    let stays = c.left-link.ensures.stays c.pass-notes.ensures.at in
-    let more : c.left-link.new.self.steps ≡ c.loop-link.visits.steps + 1 = omega arith in
-    seek_on (strict g.met.N.Nodes s) (g.met.N.Nodes.agrees s c.args.probe.now) false n _ _ _ _ _ _ _ seeking b k
-    more c.left-link.ensures.at in
+    let is : c.left-link.result ≡ (g.N.Nodes.cells s n).left = cc in
+    let seeks = further g s c.args.probe.now c.args.root c.args.start false n c.left-link.result _ _ _
+    c.pass-notes-else-before_probe.result _ c.left-link.new.self.steps (rw c.in-Some.is at c.loop-link.invariant.seeks)
+    (cc) (cc) (λ away.
+    let goes = c.before_probe.ensures.goes away in
+    let stays = c.left-link.ensures.stays c.pass-notes-else-before_probe.ensures.at in
+    omega arith) c.left-link.ensures.at is in
     let low = low_tree g.met.N.Nodes s t.1 c.requires.root in
     let taken = (seeks t.0 t.1).taken in
-    record {
-      same = cc;
-      good = rw e (g.met.N.Nodes.left_closed s n here);
-      room = omega arith;
-      seeks = λ u w. rw e (seeks u w);
-    }
-
-pub returns-clause-first : goal.returns-clause-first
-returns-clause-first g c = λ t k. (seek_end _ _ _ _ _ (cc) (c.loop-link.invariant.seeks t k)).0
+    record { same = cc; good = rw is (g.met.N.Nodes.left_closed s n here); room = omega arith; seeks = seeks }
 
 pub returns-clause-noted : goal.returns-clause-noted
-returns-clause-noted g c = λ t k. (seek_end _ _ _ _ _ (cc) (c.loop-link.invariant.seeks t k)).1
+returns-clause-noted g c = λ t k. (seek_end _ _ _ _ (cc) (c.loop-link.invariant.seeks t k)).0
 
 pub returns-clause-steps : goal.returns-clause-steps
 returns-clause-steps g c = λ t k.
@@ -90,5 +92,4 @@ returns-clause-steps g c = λ t k.
     omega (arith, c.steps.ensures)
 
 pub returns-clause-exact : goal.returns-clause-exact
-returns-clause-exact g c = λ t k.
-    c.steps.ensures ∙ (seek_end _ _ _ _ _ (cc) (c.loop-link.invariant.seeks t k)).2
+returns-clause-exact g c = λ t k. c.steps.ensures ∙ (seek_end _ _ _ _ (cc) (c.loop-link.invariant.seeks t k)).1

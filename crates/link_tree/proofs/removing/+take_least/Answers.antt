@@ -1,8 +1,8 @@
-use Rattle.std.proofs.Common.{◌≡◌, ℕ, ◌+◌, ◌*◌, ◌<◌, ◌^◌, Some, sym, ap, ◌∙◌, arith, rules}
+use Rattle.std.proofs.Common.{refl, ◌≡◌, ℕ, ◌+◌, ◌*◌, ◌<◌, ◌^◌, Some, sym, ap, ◌∙◌, arith, rules}
 use Rattle.link_tree.specs.Tree.{Tree, height}
-use Rattle.link_tree.specs.Shrinking.{Shrinks}
+use Rattle.link_tree.specs.Shrinking.{Shrinks, without_least}
 use Rattle.link_tree.proofs.Trees.{some_same}
-use Rattle.link_tree.proofs.TakingLeast.{take_last, take_more, child_tree, HasChild, least_below}
+use Rattle.link_tree.proofs.TakingLeast.{sink_far, take_more, child_tree, HasChild, least_below}
 use Rattle.link_tree.specs.declared.visits.Side.TheVariants.{Left}
 use Rattle.link_tree.proofs.Keepers.{strict}
 use Rattle.link_tree.proofs.removing.+take_least.Goals as goal
@@ -24,10 +24,8 @@ returns-in_default-clause-rest g t c = λ u w.
     let red : c.red-red.result ≡ (h c.args.at).red =
     c.red-red.ensures.value ∙ ap (λ (x : g.row.N.Denot). (g.N.Nodes.cells x c.args.at).red) c.child.ensures.nodes in
     let sink = rw (e, right, red) at c.sink.ensures.sunk in
-    take_last (strict g.met.N.Nodes s) h
-    (g.N.Nodes.cells c.sink.new.visits.nodes.now)
-    c.args.at c.sink.result.root c.sink.result.fell u w.tree (sym c.child.ensures.value ∙ c.in_default.is) w.ordered
-    sink
+    sink_far (strict g.met.N.Nodes s) Left without_least h (g.N.Nodes.cells c.sink.new.visits.nodes.now) c.args.at
+    c.sink.result.root c.sink.result.fell u w (sym c.child.ensures.value ∙ c.in_default.is) (λ r x. refl) sink
 
 pub take_least-below-requires : goal.take_least-below-requires
 take_least-below-requires g t c =

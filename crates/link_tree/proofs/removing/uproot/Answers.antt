@@ -1,10 +1,10 @@
-use Rattle.std.proofs.Common.{◌≡◌, Bool, ℕ, ◌+◌, ◌*◌, ◌≤◌, Option, Some, sym, ap, subst, ◌∙◌, arith}
+use Rattle.std.proofs.Common.{refl, ◌≡◌, Bool, ℕ, ◌+◌, ◌*◌, ◌≤◌, Option, Some, sym, ap, subst, ◌∙◌, arith}
 use Rattle.link_tree.specs.Tree.{Tree, height}
 use Rattle.link_tree.specs.Nodes.{with_left, with_red}
-use Rattle.link_tree.specs.Shrinking.{Shrinks}
+use Rattle.link_tree.specs.Shrinking.{Shrinks, uprooted}
 use Rattle.link_tree.proofs.Trees.{some_same}
-use Rattle.link_tree.proofs.Taking.{uproot_last, uproot_more}
-use Rattle.link_tree.proofs.TakingLeast.{child_tree, HasChild}
+use Rattle.link_tree.proofs.Taking.{uproot_more}
+use Rattle.link_tree.proofs.TakingLeast.{child_tree, HasChild, sink_far}
 use Rattle.link_tree.specs.declared.visits.Side.TheVariants.{Right}
 use Rattle.link_tree.proofs.Keepers.{strict}
 use Rattle.link_tree.proofs.removing.uproot.Goals as goal
@@ -42,9 +42,8 @@ returns-in_default-clause-rest g c = λ u w.
     let s = c.args.visits.now.nodes.now in
     let h = g.N.Nodes.cells s in
     let sink = rw (r.here, r.left_is, r.red_is) at c.sink.ensures.sunk in
-    uproot_last (strict g.met.N.Nodes s) h
-    (g.N.Nodes.cells c.sink.new.visits.nodes.now)
-    c.args.at c.sink.result.root c.sink.result.fell u w.tree (sym r.right_is ∙ c.in_default.is) w.ordered sink
+    sink_far (strict g.met.N.Nodes s) Right uprooted h (g.N.Nodes.cells c.sink.new.visits.nodes.now) c.args.at
+    c.sink.result.root c.sink.result.fell u w (sym r.right_is ∙ c.in_default.is) (λ r x. refl) sink
 
 pub take_least-next-requires-clause-away : goal.take_least-next-requires-clause-away
 take_least-next-requires-clause-away g c = λ k.

@@ -2,5 +2,11 @@ use Rattle.std.proofs.Common.{◌∙◌}
 use Rattle.link_tree.proofs.Approaches.{way_in}
 use Rattle.link_tree.proofs.ways.find_way_in.Goals as goal
 
+pub returns-clause-first : goal.returns-clause-first
+returns-clause-first g c = λ t k.
+    (way_in (g.met.N.Nodes.agrees c.args.nodes.now c.args.probe.now) _ t k.ordered (c.descend-way.ensures.noted t k)).0
+
 pub returns-clause-entry : goal.returns-clause-entry
-returns-clause-entry g c = λ t k. c.end.ensures ∙ way_in _ _ t (c.descend-way.ensures.noted t k)
+returns-clause-entry g c = λ t k. c.end.ensures
+    ∙ (way_in (g.met.N.Nodes.agrees c.args.nodes.now c.args.probe.now) _ t k.ordered
+    (c.descend-way.ensures.noted t k)).1

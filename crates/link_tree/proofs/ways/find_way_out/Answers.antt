@@ -2,8 +2,14 @@ use Rattle.link_tree.proofs.Approaches.{way_out}
 use Rattle.link_tree.proofs.Keepers.{strict}
 use Rattle.link_tree.proofs.ways.find_way_out.Goals as goal
 
+pub returns-clause-first : goal.returns-clause-first
+returns-clause-first g c = λ t k.
+    let s = c.args.nodes.now in
+    (way_out (strict g.met.N.Nodes s) _ (g.met.N.Nodes.agrees s c.args.probe.now) _ t k.ordered
+    (c.descend-way.ensures.noted t k)).0
+
 pub returns-clause-exit : goal.returns-clause-exit
 returns-clause-exit g c = λ t k.
     let s = c.args.nodes.now in
-    way_out (strict g.met.N.Nodes s) _ (g.met.N.Nodes.agrees s c.args.probe.now) _ t _ k.ordered
-    (c.descend-way.ensures.noted t k) (c.descend-way.ensures.first t k)
+    (way_out (strict g.met.N.Nodes s) _ (g.met.N.Nodes.agrees s c.args.probe.now) _ t k.ordered
+    (c.descend-way.ensures.noted t k)).1

@@ -1,12 +1,7 @@
--- Nodes seen from their other end, or beside one of them.
+-- Nodes that are asked for beside one of them.
 use Rattle.std.proofs.Common.{◌≡◌, ℕ, ◌≤◌, ◌^◌, Bool, true, false, not, ◌&&◌, Option, Some, None, List, length, sym, ◌∙◌, ap, refl}
 use Rattle.std.proofs.lemmas.Bool.{false≢true}
-use Rattle.link_tree.specs.Tree.{Cell}
 use Rattle.link_tree.specs.Nodes.{is_in, leads}
-
--- the cell with left and right exchanged
-abbrev pub crossed : Cell → Cell
-crossed c = record { left = c.right; right = c.left; red = c.red }
 
 -- where what precedes a node that stands before a probe stands before it too, what follows one that does not does not
 -- either

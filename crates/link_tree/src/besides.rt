@@ -1,14 +1,8 @@
-//! The same nodes seen from their other end, or looked for by one of them, so that one search serves all.
+//! The same nodes looked for in another way, so that one search serves all.
 ghost use Rattle.std.specs.Prelude.{refl, true, not, ◌&&◌};
-ghost use Rattle.link_tree.specs.Backwards.{crossed, stays_behind, both_finite, both_lead};
+ghost use Rattle.link_tree.specs.Besides.{stays_behind, both_finite, both_lead};
 
 use crate::nodes::Nodes;
-
-/// Nodes with left and right exchanged, and what precedes with what follows: the last one comes first.
-#[derive(Drop)]
-pub struct Backwards<'a, N> {
-    pub nodes: &'a N,
-}
 
 /// Nodes that stand before what is looked for, whichever they are.
 #[derive(Drop)]
@@ -21,53 +15,6 @@ pub struct AllBefore<'a, N> {
 pub struct Beside<'a, N> {
     pub nodes: &'a N,
     pub node: u64,
-}
-
-impl<'a, N: Nodes> Nodes for Backwards<'a, N> {
-    type Probe = N::Probe;
-
-    ghost cells = { λ s n. crossed (N.cells s.nodes.now n) };
-
-    ghost is_node = { λ s. N.is_node s.nodes.now };
-
-    ghost order = { λ s a b. N.order s.nodes.now b a };
-
-    ghost before = { λ s probe n. not (N.before s.nodes.now probe n) };
-
-    ghost kept = { λ s. tt };
-
-    fn left(&self, node: u64) -> Option<u64> {
-        self.nodes.right(node)
-    }
-
-    fn right(&self, node: u64) -> Option<u64> {
-        self.nodes.left(node)
-    }
-
-    fn red(&self, node: u64) -> bool {
-        self.nodes.red(node)
-    }
-
-    fn precedes(&self, a: u64, b: u64) -> bool {
-        self.nodes.precedes(b, a)
-    }
-
-    fn before_probe(&self, node: u64, probe: &N::Probe) -> bool {
-        !self.nodes.before_probe(node, probe)
-    }
-
-    ghost finite = { λ s. N.finite s.nodes.now };
-
-    ghost left_closed = { λ s. N.right_closed s.nodes.now };
-
-    ghost right_closed = { λ s. N.left_closed s.nodes.now };
-
-    ghost irreflexive = { λ s. N.irreflexive s.nodes.now };
-
-    ghost transitive = { λ s a b c h k. N.transitive s.nodes.now c b a k h };
-
-    ghost agrees = { λ s probe a b h. stays_behind (N.before s.nodes.now probe a)
-        (N.before s.nodes.now probe b) (N.agrees s.nodes.now probe b a h) };
 }
 
 impl<'a, N: Nodes> Nodes for AllBefore<'a, N> {

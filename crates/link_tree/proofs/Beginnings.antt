@@ -117,8 +117,7 @@ module _ {lt : ℕ → ℕ → Bool} (strict : IsStrict lt) (h : ℕ → Cell) (
 
 -- a change of a whole tree, whose root is made black
 pub blackened_whole : {lt : ℕ → ℕ → Bool} (lt' : ℕ → ℕ → Bool) (h h1 h2 h' : ℕ → Cell) (link : Option ℕ) (t : Tree)
-    (xs ns : List ℕ) → Turned h h1 xs link t
-    → Makes lt h1 h2 link link blackened
+    (xs ns : List ℕ) → Turned h h1 xs link t → Makes lt h1 h2 link link blackened
     → IsRedBlack (blackened t) → nodes_of t ≡ ns → rises lt ns ≡ true
     → ((m : ℕ) → is_in m xs ≡ false → is_in m ns ≡ false) → h' ≡ h2 → lt' ≡ lt → IsChanged lt' h h' link xs ns
 blackened_whole {lt = lt} lt' h h1 h2 h' link t xs ns u black red_black nodes o out eh el =
@@ -126,11 +125,7 @@ blackened_whole {lt = lt} lt' h h1 h2 h' link t xs ns u black red_black nodes o 
     rw (eh, el) (record {
       tree = (
         blackened t,
-        record {
-          tree = b.tree;
-          ordered = ap (rises lt) (nodes_of-painted false t ∙ nodes) ∙ o;
-          red_black = red_black;
-        },
+        record { tree = b.tree; ordered = ap (rises lt) (nodes_of-painted false t ∙ nodes) ∙ o; red_black = red_black },
         nodes_of-painted false t ∙ nodes,
       );
       frame = λ m i. b.frame m (ap (is_in m) nodes ∙ out m i) ∙ u.frame m i;

@@ -171,8 +171,7 @@ black_root_join Left near n far = refl
 black_root_join Right near n far = refl
 
 inner_even : (side : Side) (a : Tree) (m : ℕ) (c : Tree) (n : ℕ) (far : Tree) (b : ℕ) → IsEven a b
-    → has_black_root a ≡ true → IsEven c b → IsEven far b
-    → IsEven (balanced_inner side a m c n far) (suc b)
+    → has_black_root a ≡ true → IsEven c b → IsEven far b → IsEven (balanced_inner side a m c n far) (suc b)
 inner_even side a m leaf n far b ea k ec ef = black_join side (joined_at side true a m leaf) n far b
     (red_join side a m leaf b ea ec k refl) ef
 inner_even side a m (fork false p q r) n far b ea k ec ef =
@@ -187,8 +186,7 @@ inner_even side a m (fork true p q r) n far b ea k ec ef =
     (black_root_join side y n far)
 
 outer_even : (side : Side) (a : Tree) (m : ℕ) (c : Tree) (n : ℕ) (far : Tree) (b : ℕ) → IsEven a b → IsEven c b
-    → IsEven far b
-    → IsEven (balanced_outer side a m c n far) (suc b)
+    → IsEven far b → IsEven (balanced_outer side a m c n far) (suc b)
 outer_even side a m c n far b ea ec ef =
     elim (cases_Bool (is_red_tree a)) [
       | inl e ↦ rw e (red_join side (blackened a) m (joined_at side false c n far) (suc b)

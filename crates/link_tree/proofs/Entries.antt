@@ -1,5 +1,5 @@
 -- Above the node where an insertion begins nothing changes.
-use Rattle.std.proofs.Common.{◌≡◌, ℕ, Bool, true, false, not, Option, Some, None, [], ◌∷◌, refl, ap, ◌∙◌, subst, inl, inr}
+use Rattle.std.proofs.Common.{◌≡◌, ℕ, Bool, true, false, not, Option, Some, None, [], ◌∷◌, refl, sym, ap, ◌∙◌, subst, inl, inr}
 use Rattle.std.proofs.lemmas.Bool.{true≢false, false≢true, cases_Bool}
 use Rattle.link_tree.specs.Tree.{Cell, Tree, leaf, fork, nodes_of, Holds, IsSearchTree, rises, has_black_root, has_no_red_pair}
 use Rattle.link_tree.specs.Nodes.{is_in, has_place, put}
@@ -13,7 +13,7 @@ use Rattle.link_tree.proofs.Orders.{IsStrict}
 use Rattle.link_tree.proofs.Trees.{IsChanged, some_same, none_some}
 use Rattle.link_tree.proofs.Beginnings.{Begins, begins_deeper, begins_here, begun}
 use Rattle.link_tree.proofs.Joints.{joint_of, apart_of, in_near}
-use Rattle.link_tree.proofs.Colours.{even_tree, IsEven, even_fork, under_red, rebalanced_red}
+use Rattle.link_tree.proofs.Colours.{even_tree, IsEven, IsEvenFork, even_fork, under_red, rebalanced_red}
 use Rattle.link_tree.proofs.Growth.{grown_even, grown-joined, nodes_of-grown, rises_put, placed_apart, place_part, out_of}
 
 -- ---- balancing where there is no red pair
@@ -25,8 +25,7 @@ inner_same side a m (fork false p i q) n far k = refl
 inner_same side a m (fork true p i q) n far k = absurd (false≢true k)
 
 outer_same : (side : Side) (a : Tree) (m : ℕ) (b : Tree) (n : ℕ) (far : Tree) → has_black_root a ≡ true
-    → has_black_root b ≡ true
-    → balanced_outer side a m b n far ≡ joined_at side false (joined_at side true a m b) n far
+    → has_black_root b ≡ true → balanced_outer side a m b n far ≡ joined_at side false (joined_at side true a m b) n far
 outer_same side a m b n far j k = let e = ap not j in rw e (inner_same side a m b n far k)
 
 -- under a black root a tree without a red pair stays as it is
@@ -48,25 +47,19 @@ balance_same side false near n far e = black_same side near n far e
 
 -- ---- colours
 
--- the two trees of a root, and what a red root says of them
-record HasParts (red : Bool) (near far : Tree) (b : ℕ) : Type 0 where
-  near_even : IsEven near b
-  far_even : IsEven far b
-  near_root : red ≡ true → has_black_root near ≡ true
-  far_root : red ≡ true → has_black_root far ≡ true
-
 parts_of : (side : Side) (red : Bool) (near : Tree) (n : ℕ) (far : Tree) (b : ℕ)
-    → IsEven (joined_at side red near n far) b → (d : ℕ) × HasParts red near far d
-parts_of Left red near n far b e =
-    let p = even_fork red near n far b e in (
-      p.below,
-      record { near_even = p.left_even; far_even = p.right_even; near_root = p.left_root; far_root = p.right_root },
-    )
+    → IsEven (joined_at side red near n far) b → IsEvenFork red near far b
+parts_of Left red near n far b e = even_fork red near n far b e
 parts_of Right red near n far b e =
-    let p = even_fork red far n near b e in (
-      p.below,
-      record { near_even = p.right_even; far_even = p.left_even; near_root = p.right_root; far_root = p.left_root },
-    )
+    let p = even_fork red far n near b e in
+    record {
+      below = p.below;
+      is = p.is;
+      left_even = p.right_even;
+      right_even = p.left_even;
+      left_root = p.right_root;
+      right_root = p.left_root;
+    }
 
 no_pair_joined : (side : Side) (red : Bool) (near : Tree) (n : ℕ) (far : Tree)
     → (red ≡ true → has_black_root near ≡ true) → (red ≡ true → has_black_root far ≡ true)
@@ -117,24 +110,25 @@ module _ {lt : ℕ → ℕ → Bool} (strict : IsStrict lt) (h : ℕ → Cell) (
     placed = place_part lt x (nodes_of g.begins.below) (nodes_of t) g.begins.inside place;
   }
 
-  begun_here : (side : Side) (near : Tree) (n : ℕ) (far : Tree) (d : ℕ) → Holds h (joined_at side false near n far)
-      → rises lt (nodes_of (joined_at side false near n far)) ≡ true → HasParts false near far d
-      → side_of (lt x n) ≡ side → has_black_root near ≡ true → IsBegun lt h x (joined_at side false near n far) n
-  begun_here side near n far d w o e s k =
-      let even = (grown_even lt x near d e.near_even).even k in
-      let is : grown lt x (joined_at side false near n far) ≡ joined_at side false (grown lt x near) n far =
-      grown-joined lt x side false near n far s ∙ balance_same side false (grown lt x near) n far even in
+  begun_here : (side : Side) (red : Bool) (near : Tree) (n : ℕ) (far : Tree) (b : ℕ)
+      → Holds h (joined_at side red near n far) → rises lt (nodes_of (joined_at side red near n far)) ≡ true
+      → IsEvenFork red near far b → side_of (lt x n) ≡ side → red ≡ false → has_black_root near ≡ true
+      → IsBegun lt h x (joined_at side red near n far) n
+  begun_here side red near n far b w o e s r k =
+      let even = (grown_even lt x near e.below e.left_even).even k in
+      let is : grown lt x (joined_at side red near n far) ≡ joined_at side red (grown lt x near) n far =
+      grown-joined lt x side red near n far s ∙ balance_same side red (grown lt x near) n far even in
       record {
-        begins = begins_here strict h (x ∷ []) (grown lt x) side false near (grown lt x near) n far w o is;
-        even = ap has_no_red_pair is ∙ no_pair_joined side false (grown lt x near) n far (λ b. absurd (false≢true b))
-            (λ b. absurd (false≢true b)) even e.far_even.no_red_pair;
+        begins = begins_here strict h (x ∷ []) (grown lt x) side red near (grown lt x near) n far w o is;
+        even = ap has_no_red_pair is ∙ no_pair_joined side red (grown lt x near) n far
+            (λ q. absurd (true≢false (sym q ∙ r))) e.right_root even e.right_even.no_red_pair;
       }
 
-  begun_deeper : (side : Side) (red : Bool) (near : Tree) (n : ℕ) (far : Tree) (d q : ℕ)
+  begun_deeper : (side : Side) (red : Bool) (near : Tree) (n : ℕ) (far : Tree) (b q : ℕ)
       → Holds h (joined_at side red near n far) → rises lt (nodes_of (joined_at side red near n far)) ≡ true
-      → has_place lt x (nodes_of (joined_at side red near n far)) ≡ true → HasParts red near far d
+      → has_place lt x (nodes_of (joined_at side red near n far)) ≡ true → IsEvenFork red near far b
       → side_of (lt x n) ≡ side → IsBegun lt h x near q → IsBegun lt h x (joined_at side red near n far) q
-  begun_deeper side red near n far d q w o p e s g =
+  begun_deeper side red near n far b q w o p e s g =
       let t = joined_at side red near n far in
       let is : grown lt x t ≡ joined_at side red (grown lt x near) n far = grown-joined lt x side red near n far s
       ∙ balance_same side red (grown lt x near) n far g.even in
@@ -143,41 +137,31 @@ module _ {lt : ℕ → ℕ → Bool} (strict : IsStrict lt) (h : ℕ → Cell) (
       record {
         begins = begins_deeper strict h (x ∷ []) (grown lt x) side red near n far (Some q) w o others is g.begins;
         even = ap has_no_red_pair is ∙ no_pair_joined side red (grown lt x near) n far
-            (λ b. g.begins.colour ∙ e.near_root b) e.far_root g.even e.far_even.no_red_pair;
+            (λ r. g.begins.colour ∙ e.left_root r) e.right_root g.even e.right_even.no_red_pair;
       }
 
   begun_over : (side : Side) (red : Bool) (near : Tree) (n : ℕ) (far : Tree) (b : ℕ) (q : ℕ)
       → Holds h (joined_at side red near n far) → rises lt (nodes_of (joined_at side red near n far)) ≡ true
       → has_place lt x (nodes_of (joined_at side red near n far)) ≡ true → IsEven (joined_at side red near n far) b
-      → side_of (lt x n) ≡ side
-      → (below : Option ℕ) → entry_over red n near below ≡ Some q
+      → side_of (lt x n) ≡ side → (below : Option ℕ) → entry_over red n near below ≡ Some q
       → ((d : ℕ) → Holds h near → rises lt (nodes_of near) ≡ true → has_place lt x (nodes_of near) ≡ true
-      → IsEven near d → below ≡ Some q → IsBegun lt h x near q)
-      → IsBegun lt h x (joined_at side red near n far) q
+      → IsEven near d → below ≡ Some q → IsBegun lt h x near q) → IsBegun lt h x (joined_at side red near n far) q
   begun_over side red near n far b q w o p e s below is more =
       let parts = parts_of side red near n far b e in
       elim (enters red n near below q is) [
         | deeper k ↦
-            begun_deeper side red near n far parts.0 q w o p parts.1 s
-            (more parts.0 (joint_of h side red near n far w).near_holds
+            begun_deeper side red near n far b q w o p parts s
+            (more parts.below (joint_of h side red near n far w).near_holds
             (apart_of strict side red near n far o).near_rises
             (place_part lt x (nodes_of near) (nodes_of (joined_at side red near n far)) (in_near side red near n far)
-            p) parts.1.near_even k)
-        | here r k m ↦ found side near n far parts.0 q red r m k w o p parts.1 s
+            p) parts.left_even k)
+        | here r k m ↦
+            subst (λ j. IsBegun lt h x (joined_at side red near n far) j) m
+            (begun_here side red near n far b w o parts s r k)
       ]
-    where
-      found : (side : Side) (near : Tree) (n : ℕ) (far : Tree) (d : ℕ) (q : ℕ) (red : Bool) → red ≡ false → n ≡ q
-          → has_black_root near ≡ true
-          → Holds h (joined_at side red near n far) → rises lt (nodes_of (joined_at side red near n far)) ≡ true
-          → has_place lt x (nodes_of (joined_at side red near n far)) ≡ true
-          → HasParts red near far d → side_of (lt x n) ≡ side → IsBegun lt h x (joined_at side red near n far) q
-      found side near n far d q true r m k w o p e s = absurd (true≢false r)
-      found side near n far d q false r m k w o p e s =
-          subst (λ j. IsBegun lt h x (joined_at side false near n far) j) m (begun_here side near n far d w o e s k)
 
   starts : (t : Tree) (b : ℕ) (q : ℕ) → Holds h t → rises lt (nodes_of t) ≡ true
-      → has_place lt x (nodes_of t) ≡ true → IsEven t b
-      → entry_of (λ m. not (lt x m)) t ≡ Some q → IsBegun lt h x t q
+      → has_place lt x (nodes_of t) ≡ true → IsEven t b → entry_of (λ m. not (lt x m)) t ≡ Some q → IsBegun lt h x t q
   starts leaf b q w o p e k = absurd (none_some q k)
   starts (fork red l n r) b q w o p e k =
       elim (cases_Bool (lt x n)) [
@@ -192,8 +176,7 @@ module _ {lt : ℕ → ℕ → Bool} (strict : IsStrict lt) (h : ℕ → Cell) (
 
   pub begun_whole : (root : Option ℕ) (t : Tree) (p : ℕ) → IsSearchTree lt h root t
       → has_place lt x (nodes_of t) ≡ true → entry_of (λ m. not (lt x m)) t ≡ Some p → IsBegun lt h x t p
-  begun_whole root t p s q e = starts t s.red_black.black.0 p s.tree.holds s.ordered q
-      (even_tree t s.red_black) e
+  begun_whole root t p s q e = starts t s.red_black.black.0 p s.tree.holds s.ordered q (even_tree t s.red_black) e
 
   pub entered : (lt' : ℕ → ℕ → Bool) (h1 h' : ℕ → Cell) (root : Option ℕ) (top : ℕ) (t : Tree) (p : ℕ)
       → IsSearchTree lt h root t → has_place lt x (nodes_of t) ≡ true → (g : IsBegun lt h x t p)

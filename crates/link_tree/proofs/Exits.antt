@@ -114,8 +114,7 @@ module _ {lt : ℕ → ℕ → Bool} (strict : IsStrict lt) (h : ℕ → Cell) (
       → IsTurned lt h x (joined_at side red near n far) q
   turned_over side red near n far q w o d s below is more =
       elim (turns n near below q is) [
-        | deeper k ↦ turned_deeper side red near n far q w o d s
-            (more (joint_of h side red near n far w).near_holds
+        | deeper k ↦ turned_deeper side red near n far q w o d s (more (joint_of h side red near n far w).near_holds
             (apart_of strict side red near n far o).near_rises k)
         | here k m ↦ subst (λ j. IsTurned lt h x (joined_at side red near n far) j) m
             (turned_here side red near n far w o d s k)
@@ -148,5 +147,4 @@ module _ {lt : ℕ → ℕ → Bool} (strict : IsStrict lt) (h : ℕ → Cell) (
       let b = s.red_black.black.0 in
       let e = shrunk_even lt x t b (even_tree t s.red_black) in
       begun strict h [] (left_of lt x) lt' h1 h' root (Some p) link t e.level (without x (nodes_of t)) s g.begins
-      u.turned
-      e.even (nodes_of-shrunk strict x t s.ordered) (rises_without lt x (nodes_of t) s.ordered) eh el
+      u.turned e.even (nodes_of-shrunk strict x t s.ordered) (rises_without lt x (nodes_of t) s.ordered) eh el

@@ -22,8 +22,7 @@ find_none before (n ∷ ns) a =
     rw e (find_none before ns p.1)
 
 pub first_not-right : (before : ℕ → Bool) (xs : List ℕ) (n : ℕ) (ys : List ℕ) → list_all before xs ≡ true
-    → before n ≡ true
-    → first_not before (xs ++ n ∷ ys) ≡ first_not before ys
+    → before n ≡ true → first_not before (xs ++ n ∷ ys) ≡ first_not before ys
 first_not-right before xs n ys a b =
     let e = not_from_true (before n) b in
     let f = find_none before xs a in

@@ -28,8 +28,7 @@ put_in_left lt x (y ∷ xs) n ys e =
     ]
 
 pub put_in_right : (lt : ℕ → ℕ → Bool) (x : ℕ) (xs : List ℕ) (n : ℕ) (ys : List ℕ) → lt x n ≡ false
-    → list_all (λ y. not (lt x y)) xs ≡ true
-    → put lt x (xs ++ n ∷ ys) ≡ xs ++ n ∷ put lt x ys
+    → list_all (λ y. not (lt x y)) xs ≡ true → put lt x (xs ++ n ∷ ys) ≡ xs ++ n ∷ put lt x ys
 put_in_right lt x [] n ys e a = rw e refl
 put_in_right lt x (y ∷ xs) n ys e a =
     let p = and_parts (not (lt x y)) (list_all (λ y. not (lt x y)) xs) a in
@@ -40,8 +39,7 @@ pub put_parts : (lt : ℕ → ℕ → Bool) (x : ℕ) (xs : List ℕ) (m : ℕ) 
     → (m ≡ x) ⊎ (is_in m xs ≡ true)
 put_parts lt x [] m i = elim (or_cases (nat_eq m x) false i) [
   | inl e ↦ inl (eqb-true m x e)
-  | inr e ↦ absurd
-      (false≢true e)
+  | inr e ↦ absurd (false≢true e)
 ]
 put_parts lt x (y ∷ xs) m i =
     elim (cases_Bool (lt x y)) [
@@ -100,8 +98,7 @@ nodes_of-outer : (side : Side) (a : Tree) (m : ℕ) (b : Tree) (n : ℕ) (far : 
 nodes_of-outer side a m b n far =
     elim (cases_Bool (is_red_tree a)) [
       | inl e ↦ rw e (nodes_of-joined side true true a (blackened a) m (joined_at side false b n far)
-          (nodes_of-painted false a)
-          ∙ nodes_of-turn side false true false true a m b n far)
+          (nodes_of-painted false a) ∙ nodes_of-turn side false true false true a m b n far)
       | inr e ↦ rw e (nodes_of-inner side a m b n far)
     ]
 
@@ -128,8 +125,7 @@ module _ (lt : ℕ → ℕ → Bool) (transitive : (a b c : ℕ) → lt a b ≡ 
         | inr a ↦
             let b : lt y x ≡ true =
             elim (or_cases (lt x y) (lt y x) k.0) [ inl c ↦ absurd (true≢false (sym c ∙ a)) | inr c ↦ c ] in
-            rw a (and_from (list_all (lt y) (put lt x ys)) (rises lt (put lt x ys))
-            (all_from (lt y) (put lt x ys)
+            rw a (and_from (list_all (lt y) (put lt x ys)) (rises lt (put lt x ys)) (all_from (lt y) (put lt x ys)
             (λ m i. elim (put_parts lt x ys m i) [ inl e ↦ rw e b | inr j ↦ all_at (lt y) ys m q.0 j ]))
             (rises_put x ys q.1 k.1))
       ]
@@ -139,23 +135,18 @@ module _ {lt : ℕ → ℕ → Bool} (strict : IsStrict lt) where
       → nodes_of (grown lt x l) ≡ put lt x (nodes_of l)
       → nodes_of (grown lt x (fork red l n r)) ≡ put lt x (nodes_of (fork red l n r))
   grown-nodes_left x red l n r e more =
-      ap nodes_of (grown-joined lt x Left red l n r (ap side_of e))
-      ∙ nodes_of-rebalanced Left red (grown lt x l) n r
-      ∙ ap (λ zs. zs ++ n ∷ nodes_of r) more
-      ∙ sym (put_in_left lt x (nodes_of l) n (nodes_of r) e)
+      ap nodes_of (grown-joined lt x Left red l n r (ap side_of e)) ∙ nodes_of-rebalanced Left red (grown lt x l) n r
+      ∙ ap (λ zs. zs ++ n ∷ nodes_of r) more ∙ sym (put_in_left lt x (nodes_of l) n (nodes_of r) e)
 
   grown-nodes_right : (x : ℕ) (red : Bool) (l : Tree) (n : ℕ) (r : Tree) → lt x n ≡ false
       → Splits lt (nodes_of l) n (nodes_of r) → nodes_of (grown lt x r) ≡ put lt x (nodes_of r)
       → nodes_of (grown lt x (fork red l n r)) ≡ put lt x (nodes_of (fork red l n r))
   grown-nodes_right x red l n r e s more =
       let behind : list_all (λ y. not (lt x y)) (nodes_of l) ≡ true = all_from (λ y. not (lt x y)) (nodes_of l)
-      (λ m i. not_from_false (lt x m)
-      (false_from_ne_true (lt x m)
+      (λ m i. not_from_false (lt x m) (false_from_ne_true (lt x m)
       (λ k. true≢false (sym (strict.transitive x m n k (all_at (λ z. lt z n) (nodes_of l) m s.below i)) ∙ e)))) in
-      ap nodes_of (grown-joined lt x Right red r n l (ap side_of e))
-      ∙ nodes_of-rebalanced Right red (grown lt x r) n l
-      ∙ ap (λ zs. nodes_of l ++ n ∷ zs) more
-      ∙ sym (put_in_right lt x (nodes_of l) n (nodes_of r) e behind)
+      ap nodes_of (grown-joined lt x Right red r n l (ap side_of e)) ∙ nodes_of-rebalanced Right red (grown lt x r) n l
+      ∙ ap (λ zs. nodes_of l ++ n ∷ zs) more ∙ sym (put_in_right lt x (nodes_of l) n (nodes_of r) e behind)
 
   pub nodes_of-grown : (x : ℕ) (t : Tree) → rises lt (nodes_of t) ≡ true
       → nodes_of (grown lt x t) ≡ put lt x (nodes_of t)
@@ -200,8 +191,7 @@ module _ (lt : ℕ → ℕ → Bool) (x : ℕ) where
       record {
         nearly = record {
           children = refl;
-          black = and_from (has_black_height leaf b) (has_black_height leaf b)
-              e.black e.black;
+          black = and_from (has_black_height leaf b) (has_black_height leaf b) e.black e.black;
         };
         even = λ q. refl;
       }
@@ -256,8 +246,7 @@ module _ {lt : ℕ → ℕ → Bool} (strict : IsStrict lt) where
   pub grow_step : (side : Side) (h h1 h2 h3 : ℕ → Cell) (x at : ℕ) (child result : ℕ) (t : Tree)
       → side_of (lt x at) ≡ side → Grows lt h (Some at) x t
       → ((u : Tree) → Grows lt h (child_of side (h at)) x u → Turned h h1 (x ∷ nodes_of u) (Some child) (grown lt x u))
-      → h2 ≡ with_child side h1 at (Some child)
-      → Makes lt h2 h3 (Some at) (Some result) (rebalanced side)
+      → h2 ≡ with_child side h1 at (Some child) → Makes lt h2 h3 (Some at) (Some result) (rebalanced side)
       → Turned h h3 (x ∷ nodes_of t) (Some result) (grown lt x t)
   grow_step side h h1 h2 h3 x at child result t before w below set balance =
       let o = parted strict side h at t w.tree w.ordered in
@@ -296,15 +285,13 @@ module _ {lt : ℕ → ℕ → Bool} (strict : IsStrict lt) where
             let p = outside_x m x (nodes_of t) i in
             let out_old : is_in m (nodes_of old) ≡ false = ap (λ v. is_in m (nodes_of v)) (sym o.is) ∙ p.1 in
             let out = outside_all side red o.near at o.far m out_old in
-            turned.frame m (ap (is_in m) grown_nodes ∙ put_out lt x (nodes_of old) m p.0 out_old)
-            ∙ rest m out.root_out
+            turned.frame m (ap (is_in m) grown_nodes ∙ put_out lt x (nodes_of old) m p.0 out_old) ∙ rest m out.root_out
             ∙ u.frame m (out_of m x (nodes_of o.near) p.0 out.near_out);
       }
 
 -- a node alone
 pub lay_step : (h h1 h2 h3 : ℕ → Cell) (n : ℕ) → h1 ≡ with_left h n None → h2 ≡ with_right h1 n None
-    → h3 ≡ with_red h2 n true
-    → Turned h h3 (n ∷ []) (Some n) (fork true leaf n leaf)
+    → h3 ≡ with_red h2 n true → Turned h h3 (n ∷ []) (Some n) (fork true leaf n leaf)
 lay_step h h1 h2 h3 n e1 e2 e3 =
     let c1 : h1 n ≡ cell_at Left (h n).red None (h n).right = ap (λ (f : ℕ → Cell). f n) e1
     ∙ with_child-near Left h n (h n).red (h n).left (h n).right None refl in
@@ -314,8 +301,7 @@ lay_step h h1 h2 h3 n e1 e2 e3 =
       tree = record {
         root = refl;
         holds = (
-          ap (λ (f : ℕ → Cell). f n) e3
-              ∙ with_red-same h2 n (h n).red true None None c2,
+          ap (λ (f : ℕ → Cell). f n) e3 ∙ with_red-same h2 n (h n).red true None None c2,
           tt,
           tt,
         );
@@ -359,8 +345,7 @@ frame_beside {x = x} {ns = ns} c m d o = c.frame m (or_from (nat_eq m x) (is_in 
 -- the whole insertion, its root made black
 pub inserted : {lt : ℕ → ℕ → Bool} → IsStrict lt → (lt' : ℕ → ℕ → Bool) (h h1 h2 h' : ℕ → Cell) (root : Option ℕ)
     (x top : ℕ) (t : Tree) → IsSearchTree lt h root t → has_place lt x (nodes_of t) ≡ true
-    → Turned h h1 (x ∷ nodes_of t) (Some top) (grown lt x t)
-    → Makes lt h1 h2 (Some top) (Some top) blackened
+    → Turned h h1 (x ∷ nodes_of t) (Some top) (grown lt x t) → Makes lt h1 h2 (Some top) (Some top) blackened
     → h' ≡ h2 → lt' ≡ lt → IsChanged lt' h h' (Some top) (x ∷ nodes_of t) (put lt x (nodes_of t))
 inserted {lt = lt} strict lt' h h1 h2 h' root x top t k p g black eh el =
     blackened_whole lt' h h1 h2 h' (Some top) (grown lt x t) (x ∷ nodes_of t) (put lt x (nodes_of t)) g black

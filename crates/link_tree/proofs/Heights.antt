@@ -43,12 +43,24 @@ full leaf b e =
 full (fork true l n r) b e =
     let p = even_fork true l n r b e in
     let is : b ≡ p.below = p.is in
-    rw is (omega (arith, full l p.below p.left_even, full r p.below p.right_even, length-append (nodes_of l) (n ∷ nodes_of r)))
+    rw is (omega (
+      arith,
+      full l p.below p.left_even,
+      full r p.below p.right_even,
+      length-append (nodes_of l)
+          (n ∷ nodes_of r),
+    ))
 full (fork false l n r) b e =
     let p = even_fork false l n r b e in
     let is : b ≡ suc p.below = p.is in
     rw (is, pow-suc)
-    (omega (arith, full l p.below p.left_even, full r p.below p.right_even, length-append (nodes_of l) (n ∷ nodes_of r)))
+    (omega (
+      arith,
+      full l p.below p.left_even,
+      full r p.below p.right_even,
+      length-append (nodes_of l)
+          (n ∷ nodes_of r),
+    ))
 
 -- a number from 2 ^ b on has more than b digits
 bits_more : (b m : ℕ) → 2 ^ b ≤ m → b + 1 ≤ bits m

@@ -39,15 +39,13 @@ with_child-other Left h n m to d = let e = ne_eqb m n d in rw e refl
 with_child-other Right h n m to d = let e = ne_eqb m n d in rw e refl
 
 pub with_child-near : (side : Side) (h : ℕ → Cell) (n : ℕ) (red : Bool) (near far to : Option ℕ)
-    → h n ≡ cell_at side red near far
-    → with_child side h n to n ≡ cell_at side red to far
+    → h n ≡ cell_at side red near far → with_child side h n to n ≡ cell_at side red to far
 unfolding with_left with_right
 with_child-near Left h n red near far to w = let e = eq-eqb n n refl in rw (e, w) refl
 with_child-near Right h n red near far to w = let e = eq-eqb n n refl in rw (e, w) refl
 
 pub with_child-far : (side : Side) (h : ℕ → Cell) (n : ℕ) (red : Bool) (near far to : Option ℕ)
-    → h n ≡ cell_at side red near far
-    → with_child (opposite side) h n to n ≡ cell_at side red near to
+    → h n ≡ cell_at side red near far → with_child (opposite side) h n to n ≡ cell_at side red near to
 unfolding with_left with_right
 with_child-far Left h n red near far to w = let e = eq-eqb n n refl in rw (e, w) refl
 with_child-far Right h n red near far to w = let e = eq-eqb n n refl in rw (e, w) refl

@@ -8,8 +8,7 @@ use Rattle.link_tree.proofs.Orders.{IsStrict, rises_split, all_at, in_left, in_r
 use Rattle.link_tree.proofs.Heights.{height_bits, bits_most}
 
 -- each node that a good link leads to is good, where links of good nodes are
-pub tree_good : (h : ℕ → Cell) (good : ℕ → Bool)
-    → ((n : ℕ) → good n ≡ true → leads good (h n).left ≡ true)
+pub tree_good : (h : ℕ → Cell) (good : ℕ → Bool) → ((n : ℕ) → good n ≡ true → leads good (h n).left ≡ true)
     → ((n : ℕ) → good n ≡ true → leads good (h n).right ≡ true)
     → (t : Tree) (link : Option ℕ) → IsTree h link t → leads good link ≡ true → (m : ℕ) → is_in m (nodes_of t) ≡ true
     → good m ≡ true
@@ -101,8 +100,7 @@ module _ {lt : ℕ → ℕ → Bool} (strict : IsStrict lt) where
   -- a tree between low and high has no more nodes than the list has there
   pub count_tree : (ns : List ℕ) (t : Tree) (low high : Option ℕ) → rises lt (nodes_of t) ≡ true
       → ((m : ℕ) → is_in m (nodes_of t) ≡ true → is_between lt low m high ≡ true)
-      → ((m : ℕ) → is_in m (nodes_of t) ≡ true → is_in m ns ≡ true)
-      → length (nodes_of t) ≤ count_between lt low high ns
+      → ((m : ℕ) → is_in m (nodes_of t) ≡ true → is_in m ns ≡ true) → length (nodes_of t) ≤ count_between lt low high ns
   count_tree ns leaf low high o b i = omega arith
   count_tree ns (fork red l n r) low high o b i =
       let xs = nodes_of l in
@@ -110,8 +108,7 @@ module _ {lt : ℕ → ℕ → Bool} (strict : IsStrict lt) where
       let sp = rises_split lt xs n ys o in
       let cl = count_tree ns l low (Some n) sp.left
       (λ m j. and_from (is_above lt low m) (lt m n) (and_parts (is_above lt low m) (is_below lt m high)
-      (b m (in_left m xs n ys j))).0 (all_at (λ k. lt k n) xs m sp.below j))
-      (λ m j. i m (in_left m xs n ys j)) in
+      (b m (in_left m xs n ys j))).0 (all_at (λ k. lt k n) xs m sp.below j)) (λ m j. i m (in_left m xs n ys j)) in
       let cr = count_tree ns r (Some n) high sp.right
       (λ m j. and_from (lt n m) (is_below lt m high) (all_at (lt n) ys m sp.above j)
       (and_parts (is_above lt low m) (is_below lt m high) (b m (in_right m xs n ys j))).1)

@@ -23,8 +23,7 @@ set_near side h h2 n near far link wn wf nn nf set =
     let rest : (m : ℕ) → (m ≡ n → ⊥) → h2 m ≡ h m = λ m d. at m ∙ with_child-other side h n m link d in
     tree_joint h2 side red near n far (record {
       cell = at n ∙ with_child-near side h n red (child_of side (h n)) (child_of (opposite side) (h n)) link
-          (cell_is side (h n))
-          ∙ ap (λ x. cell_at side red x (child_of (opposite side) (h n))) wn.root
+          (cell_is side (h n)) ∙ ap (λ x. cell_at side red x (child_of (opposite side) (h n))) wn.root
           ∙ ap (λ x. cell_at side red (root_of near) x) wf.root;
       near_holds = holds_same h h2 near (λ m i. rest m (other_than m n (nodes_of near) i nn)) wn.holds;
       far_holds = holds_same h h2 far (λ m i. rest m (other_than m n (nodes_of far) i nf)) wf.holds;
@@ -43,8 +42,7 @@ mended-black Right red a m b n far = refl
 
 pub mended-red : (side : Side) (red : Bool) (a : Tree) (m : ℕ) (b : Tree) (n : ℕ) (far : Tree)
     → mended_at side red (joined_at side true a m b) n far ≡ record {
-      tree = joined_at side false a m
-          (rebalanced side (joined_at side red (reddened b) n far));
+      tree = joined_at side false a m (rebalanced side (joined_at side red (reddened b) n far));
       fell = false;
     }
 mended-red Left red a m b n far = refl
@@ -84,8 +82,7 @@ module _ {lt : ℕ → ℕ → Bool} (strict : IsStrict lt) where
       let u3 = balance (joined_at side false near' top p.far) u2.tree (ap (rises lt) nodes2 ∙ order) in
       let is_mended : mended side t ≡ record {
         tree = rebalanced side (joined_at side false near' top p.far);
-        fell =
-            not red;
+        fell = not red;
       } =
       ap (λ x. mended side x) is ∙ mended-joined side red near top p.far
       ∙ mended-black side red q.near heavy q.far top p.far in
@@ -103,13 +100,10 @@ module _ {lt : ℕ → ℕ → Bool} (strict : IsStrict lt) where
 
   -- a red heavy child
   pub mend_red_at : (side : Side) (h h1 h2 h3 h4 h5 : ℕ → Cell) (top heavy root risen : ℕ) (inner : Option ℕ) (t : Tree)
-      → IsTree h (Some top) t → rises lt (nodes_of t) ≡ true
-      → child_of side (h top) ≡ Some heavy → (h heavy).red ≡ true
+      → IsTree h (Some top) t → rises lt (nodes_of t) ≡ true → child_of side (h top) ≡ Some heavy → (h heavy).red ≡ true
       → Makes lt h h1 (Some top) (Some risen) (lifted side)
-      → h2 ≡ with_red h1 heavy false → inner ≡ child_of side (h2 top)
-      → Makes lt h2 h3 inner inner reddened
-      → Makes lt h3 h4 (Some top) (Some root) (rebalanced side)
-      → ((red : Bool) (near : Tree) (n : ℕ) (far : Tree)
+      → h2 ≡ with_red h1 heavy false → inner ≡ child_of side (h2 top) → Makes lt h2 h3 inner inner reddened
+      → Makes lt h3 h4 (Some top) (Some root) (rebalanced side) → ((red : Bool) (near : Tree) (n : ℕ) (far : Tree)
       → nodes_of (rebalanced side (joined_at side red near n far)) ≡ nodes_of (joined_at side red near n far))
       → h5 ≡ with_child (opposite side) h4 heavy (Some root)
       → Leaves h h5 (nodes_of t) (Some heavy) false (mended side t)

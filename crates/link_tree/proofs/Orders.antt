@@ -106,8 +106,7 @@ module _ (lt : ℕ → ℕ → Bool) (transitive : (a b c : ℕ) → lt a b ≡ 
       let q = and_parts (lt x n) (list_all (λ m. lt m n) xs) s.below in
       let more = rises_join xs n ys (record { left = p.1; below = q.1; above = s.above; right = s.right }) in
       let first : list_all (lt x) (xs ++ n ∷ ys) ≡ true =
-      list_all-append (lt x) xs (n ∷ ys)
-      ∙ and_from (list_all (lt x) xs) (list_all (lt x) (n ∷ ys)) p.0
+      list_all-append (lt x) xs (n ∷ ys) ∙ and_from (list_all (lt x) xs) (list_all (lt x) (n ∷ ys)) p.0
       (and_from (lt x n) (list_all (lt x) ys) q.0 (above_more x n ys q.0 s.above)) in
       and_from (list_all (lt x) (xs ++ n ∷ ys)) (rises lt (xs ++ n ∷ ys)) first more
 

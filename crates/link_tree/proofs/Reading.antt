@@ -29,8 +29,7 @@ joined_is n red (Some l) (Some r) t e =
     record { left = l; right = r; is_left = refl; is_right = refl; is = sym (same_tree (fork red l n r) t e) }
 
 all_fork : (good : ℕ → Bool) (red : Bool) (l : Tree) (n : ℕ) (r : Tree) → list_all good (nodes_of l) ≡ true
-    → good n ≡ true → list_all good (nodes_of r) ≡ true
-    → list_all good (nodes_of (fork red l n r)) ≡ true
+    → good n ≡ true → list_all good (nodes_of r) ≡ true → list_all good (nodes_of (fork red l n r)) ≡ true
 all_fork good red l n r a b c = list_all-append good (nodes_of l) (n ∷ nodes_of r)
     ∙ and_from (list_all good (nodes_of l)) (good n && list_all good (nodes_of r)) a
     (and_from (good n) (list_all good (nodes_of r)) b c)
@@ -54,8 +53,7 @@ sound (suc depth) good h (Some n) t e =
           let r = sound depth good h (h n).right j.right j.is_right in
           rw j.is (
             close_tree h n (h n).red j.left j.right (h n).left (h n).right refl l.0 r.0,
-            all_fork good
-                (h n).red j.left n j.right l.1 k r.1,
+            all_fork good (h n).red j.left n j.right l.1 k r.1,
           )
       | inr k ↦
           let e' : None ≡ Some t = rw k at e in
@@ -99,8 +97,7 @@ red_black t = (
       let b = k.black.0 in
       let same = left_blacks_is t b k.black.1 in
       and_from (has_black_root t && has_no_red_pair t) (has_black_height t (left_blacks t))
-      (and_from (has_black_root t) (has_no_red_pair t) k.root k.no_red_pair)
-      (ap (has_black_height t) same ∙ k.black.1),
+      (and_from (has_black_root t) (has_no_red_pair t) k.root k.no_red_pair) (ap (has_black_height t) same ∙ k.black.1),
 )
 
 pub reads_off : ReadsOff

@@ -78,8 +78,7 @@ module _ {K : Type 0} {pass : K → ℕ → Bool → Bool → K} {start : K} {lt
         tree = o.near;
         is_tree = o.near_tree;
         ordered = o.apart.near_rises;
-        kept = ap (λ x. noted pass before x o.near) k
-            ∙ sym (noted_on pass before notes b red o.near n o.far e) ∙ kept;
+        kept = ap (λ x. noted pass before x o.near) k ∙ sym (noted_on pass before notes b red o.near n o.far e) ∙ kept;
         taken = omega arith;
         path = omega arith;
         away = λ m f g.

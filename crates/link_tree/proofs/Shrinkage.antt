@@ -70,8 +70,7 @@ rises_skip lt (x ∷ xs) n ys o =
     (elim (or_cases (is_in m xs) (is_in m ys) (sym (is_in-append m xs ys) ∙ i)) [
       | inl a ↦ in_left m xs n ys a
       | inr a ↦ in_right m xs n ys a
-    ])))
-    (rises_skip lt xs n ys p.1)
+    ]))) (rises_skip lt xs n ys p.1)
 
 -- ---- nodes
 
@@ -93,8 +92,7 @@ nodes_of-mended side red (fork true l m r) n far =
     let a = tree_on side l r in
     let b = tree_on (opposite side) l r in
     nodes_of-joined_far side false false a m (joined_at side red b n far)
-    (rebalanced side (joined_at side red (reddened b) n far))
-    (nodes_of-rebalanced side red (reddened b) n far
+    (rebalanced side (joined_at side red (reddened b) n far)) (nodes_of-rebalanced side red (reddened b) n far
     ∙ nodes_of-joined side red red b (reddened b) n far (nodes_of-painted true b))
     ∙ nodes_of-turn side red true red false a m b n far
     ∙ ap (λ t. nodes_of (joined_at side red t n far)) (sym (fork_joined side true l m r))
@@ -155,8 +153,7 @@ module _ {lt : ℕ → ℕ → Bool} (strict : IsStrict lt) where
                   ∙ sym (parts ∙ rw (other, wr) refl))
               | inr k ↦
                   let no_l : is_in x xs ≡ false =
-                  false_from_ne_true (is_in x xs) (λ i. true≢false (sym (all_at (λ m. lt m n) xs x s.below i)
-                  ∙ k)) in
+                  false_from_ne_true (is_in x xs) (λ i. true≢false (sym (all_at (λ m. lt m n) xs x s.below i) ∙ k)) in
                   let wl = without_none x xs no_l in
                   rw (e, k) (nodes_of-settled Right red (shrunk lt x r) n l ∙ ap (λ zs. xs ++ n ∷ zs) mr
                   ∙ sym (parts ∙ rw (wl, other) refl))
@@ -251,13 +248,11 @@ done_even side false near n far b e f k m =
       level = suc b;
       even = black_join side near n far b e f;
       total = omega arith;
-      root = λ q g. black_root_join
-          side near n far;
+      root = λ q g. black_root_join side near n far;
     }
 
 settled_even : (side : Side) (red black : Bool) (rest : Rest) (n : ℕ) (far : Tree) (b : ℕ) → IsRestEven black rest b
-    → IsEven far b
-    → (red ≡ true → black ≡ true) → (red ≡ true → has_black_root far ≡ true)
+    → IsEven far b → (red ≡ true → black ≡ true) → (red ≡ true → has_black_root far ≡ true)
     → IsRestEven (not red) (settled side red rest n far) (cond red b (suc b))
 settled_even side red black rest n far b e f k m =
     elim (cases_Bool rest.fell) [

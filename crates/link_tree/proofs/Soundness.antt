@@ -227,8 +227,7 @@ only_in good (n ∷ ns) m g i =
     ]
 
 pub leads_only : (good : ℕ → Bool) (ns : List ℕ) → ((n : ℕ) → good n ≡ true → is_in n ns ≡ true) → (link : Option ℕ)
-    → leads good link ≡ true
-    → leads (λ m. is_in m (only good ns)) link ≡ true
+    → leads good link ≡ true → leads (λ m. is_in m (only good ns)) link ≡ true
 leads_only good ns all None k = refl
 leads_only good ns all (Some n) k = only_in good ns n k (all n k)
 

@@ -24,13 +24,11 @@ module _ {lt : ℕ → ℕ → Bool} (strict : IsStrict lt) where
   without_root_over h red right l (fork red' a m b) w = refl
 
   pub uproot_more : (h h1 h2 h3 h4 : ℕ → Cell) (at right next : ℕ) (link root : Option ℕ) (fell_below fell : Bool)
-      (t : Tree)
-      → IsTree h (Some at) t → rises lt (nodes_of t) ≡ true → (h at).right ≡ Some right
+      (t : Tree) → IsTree h (Some at) t → rises lt (nodes_of t) ≡ true → (h at).right ≡ Some right
       → ((u : Tree) → Shrinks lt h (Some right) u → next ≡ least_of right u)
       → ((u : Tree) → Shrinks lt h (Some right) u → Leaves h h1 (nodes_of u) link fell_below (without_least u))
       → h2 ≡ with_left h1 next (h at).left → h3 ≡ with_red h2 next (h at).red
-      → Settles lt h3 h4 Right next link root fell_below fell
-      → Leaves h h4 (nodes_of t) root fell (uprooted t)
+      → Settles lt h3 h4 Right next link root fell_below fell → Leaves h h4 (nodes_of t) root fell (uprooted t)
   uproot_more h h1 h2 h3 h4 at right next link root fell_below fell t w o e is_next take s2 s3 settle =
       let p = parted strict Left h at t w o in
       let red = (h at).red in
@@ -42,7 +40,7 @@ module _ {lt : ℕ → ℕ → Bool} (strict : IsStrict lt) where
       let u = take r shrinks in
       let left_over = (without_least r).tree in
       let least = has_least strict h right r r_tree in
-      let nodes_r : nodes_of r ≡ next ∷ nodes_of left_over = least.nodes
+      let nodes_r : nodes_of r ≡ next ∷ nodes_of left_over = least
       ∙ ap (λ x. x ∷ nodes_of left_over) (sym (is_next r shrinks)) in
       let next_in : is_in next (nodes_of r) ≡ true = ap (is_in next) nodes_r ∙ in_middle [] next (nodes_of left_over) in
       let r_order : rises lt (next ∷ nodes_of left_over) ≡ true = ap (rises lt) (sym nodes_r) ∙ apart.far_rises in
@@ -91,20 +89,6 @@ module _ {lt : ℕ → ℕ → Bool} (strict : IsStrict lt) where
 
   -- ---- a tree without a node
 
-  shrunk_left : (x : ℕ) (red : Bool) (l : Tree) (n : ℕ) (r : Tree) → nat_eq n x ≡ false → side_of (lt x n) ≡ Left
-      → shrunk lt x (fork red l n r) ≡ settled Left red (shrunk lt x l) n r
-  shrunk_left x red l n r d e = elim (cases_Bool (lt x n)) [
-    | inl k ↦ rw (d, k) refl
-    | inr k ↦ absurd (right_left (ap side_of (sym k) ∙ e))
-  ]
-
-  shrunk_right : (x : ℕ) (red : Bool) (l : Tree) (n : ℕ) (r : Tree) → nat_eq n x ≡ false → side_of (lt x n) ≡ Right
-      → shrunk lt x (fork red l n r) ≡ settled Right red (shrunk lt x r) n l
-  shrunk_right x red l n r d e = elim (cases_Bool (lt x n)) [
-    | inl k ↦ absurd (right_left (sym (ap side_of (sym k) ∙ e)))
-    | inr k ↦ rw (d, k) refl
-  ]
-
   settled_order : (side : Side) (red : Bool) (rest : Rest) (n : ℕ) (far : Tree)
       → rises lt (nodes_of (settled side red rest n far).tree) ≡ true
       → rises lt (nodes_of (joined_at side red rest.tree n far)) ≡ true
@@ -113,15 +97,19 @@ module _ {lt : ℕ → ℕ → Bool} (strict : IsStrict lt) where
   pub shrunk-joined : (x : ℕ) (side : Side) (red : Bool) (near : Tree) (n : ℕ) (far : Tree) → nat_eq n x ≡ false
       → side_of (lt x n) ≡ side
       → shrunk lt x (joined_at side red near n far) ≡ settled side red (shrunk lt x near) n far
-  shrunk-joined x Left red near n far d e = shrunk_left x red near n far d e
-  shrunk-joined x Right red near n far d e = shrunk_right x red far n near d e
+  shrunk-joined x Left red near n far d e = elim (cases_Bool (lt x n)) [
+    | inl k ↦ rw (d, k) refl
+    | inr k ↦ absurd (right_left (ap side_of (sym k) ∙ e))
+  ]
+  shrunk-joined x Right red near n far d e = elim (cases_Bool (lt x n)) [
+    | inl k ↦ absurd (right_left (sym (ap side_of (sym k) ∙ e)))
+    | inr k ↦ rw (d, k) refl
+  ]
 
   pub cut_step : (side : Side) (h h1 h2 : ℕ → Cell) (x at : ℕ) (link root : Option ℕ) (fell_below fell : Bool)
-      (t : Tree)
-      → (at ≡ x → ⊥) → side_of (lt x at) ≡ side → Shrinks lt h (Some at) t
+      (t : Tree) → (at ≡ x → ⊥) → side_of (lt x at) ≡ side → Shrinks lt h (Some at) t
       → ((u : Tree) → Shrinks lt h (child_of side (h at)) u → Leaves h h1 (nodes_of u) link fell_below (shrunk lt x u))
-      → Settles lt h1 h2 side at link root fell_below fell
-      → Leaves h h2 (nodes_of t) root fell (shrunk lt x t)
+      → Settles lt h1 h2 side at link root fell_below fell → Leaves h h2 (nodes_of t) root fell (shrunk lt x t)
   cut_step side h h1 h2 x at link root fell_below fell t d e w cut settle =
       let p = parted strict side h at t w.tree w.ordered in
       let red = (h at).red in
@@ -134,9 +122,7 @@ module _ {lt : ℕ → ℕ → Bool} (strict : IsStrict lt) where
       settled_order side red (shrunk lt x p.near) at p.far (ap (λ r. rises lt (nodes_of r.tree)) (sym is_joined)
       ∙ ap (rises lt) whole ∙ rises_without lt x (nodes_of (joined_at side red p.near at p.far)) p.order) in
       let s = settle_below strict side h h1 h2 red p.near at p.far (shrunk lt x p.near) link root fell_below fell
-      p.holds
-      p.order u
-      (λ m i. ap (is_in m) nodes ∙ without_out x (nodes_of p.near) m i) o' settle in
+      p.holds p.order u (λ m i. ap (is_in m) nodes ∙ without_out x (nodes_of p.near) m i) o' settle in
       let is : shrunk lt x t ≡ settled side red (shrunk lt x p.near) at p.far = ap (shrunk lt x) p.is ∙ is_joined in
       rw is (subst (λ v. Leaves h h2 (nodes_of v) root fell (settled side red (shrunk lt x p.near) at p.far))
       (sym p.is) s)

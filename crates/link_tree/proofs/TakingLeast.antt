@@ -86,12 +86,10 @@ module _ {lt : ℕ → ℕ → Bool} (strict : IsStrict lt) where
   apart_head n ns o = not_right strict [] n ns (rises_split lt [] n ns o)
 
   -- what is left of a tree without its first node has its other nodes
-  pub record HasLeast (t : Tree) (n : ℕ) : Type 0 where
-    pub nodes : nodes_of t ≡ least_of n t ∷ nodes_of (without_least t).tree
-
-  pub has_least : (h : ℕ → Cell) (n : ℕ) (t : Tree) → IsTree h (Some n) t → HasLeast t n
+  pub has_least : (h : ℕ → Cell) (n : ℕ) (t : Tree) → IsTree h (Some n) t
+      → nodes_of t ≡ least_of n t ∷ nodes_of (without_least t).tree
   has_least h n leaf w = absurd (none_some n (sym w.root))
-  has_least h n (fork red l m r) w = record { nodes = nodes_of-least red l m r }
+  has_least h n (fork red l m r) w = nodes_of-least red l m r
 
   rest_out : (m n : ℕ) (xs ys : List ℕ) → xs ≡ n ∷ ys → is_in m xs ≡ false → is_in m ys ≡ false
   rest_out m n xs ys e o = (or_parts (nat_eq m n) (is_in m ys) (ap (is_in m) (sym e) ∙ o)).1
@@ -179,8 +177,7 @@ module _ {lt : ℕ → ℕ → Bool} (strict : IsStrict lt) where
   pub take_more : (h h1 h2 : ℕ → Cell) (at left : ℕ) (link root : Option ℕ) (fell_below fell : Bool) (t : Tree)
       → IsTree h (Some at) t → rises lt (nodes_of t) ≡ true → (h at).left ≡ Some left
       → ((u : Tree) → Shrinks lt h (Some left) u → Leaves h h1 (nodes_of u) link fell_below (without_least u))
-      → Settles lt h1 h2 Left at link root fell_below fell
-      → Leaves h h2 (nodes_of t) root fell (without_least t)
+      → Settles lt h1 h2 Left at link root fell_below fell → Leaves h h2 (nodes_of t) root fell (without_least t)
   take_more h h1 h2 at left link root fell_below fell t w o e take settle =
       let p = parted strict Left h at t w o in
       let red = (h at).red in
@@ -189,9 +186,9 @@ module _ {lt : ℕ → ℕ → Bool} (strict : IsStrict lt) where
       let least = has_least h left p.near tree in
       let s = settle_below Left h h1 h2 red p.near at p.far (without_least p.near) link root fell_below fell p.holds
       p.order u
-      (λ m i. rest_out m (least_of left p.near) (nodes_of p.near) (nodes_of (without_least p.near).tree) least.nodes i)
+      (λ m i. rest_out m (least_of left p.near) (nodes_of p.near) (nodes_of (without_least p.near).tree) least i)
       (rises_rest (nodes_of p.near) (nodes_of (without_least p.near).tree) (nodes_of p.far) at (least_of left p.near)
-      least.nodes p.order) settle in
+      least p.order) settle in
       let is : without_least t ≡ settled Left red (without_least p.near) at p.far = ap without_least p.is
       ∙ without_least_over h red left p.near at p.far tree in
       rw is (subst (λ x. Leaves h h2 (nodes_of x) root fell (settled Left red (without_least p.near) at p.far))

@@ -13,8 +13,7 @@ use Rattle.link_tree.proofs.Joints.{Makes, cell_at, with_child-other, with_child
 
 -- the tree on one side is another now, and the root's link leads to it
 pub graft : (side : Side) (h h1 h2 : ℕ → Cell) (red : Bool) (near near' : Tree) (n : ℕ) (far : Tree) (link : Option ℕ)
-    (xs : List ℕ)
-    → Holds h (joined_at side red near n far) → Turned h h1 xs link near'
+    (xs : List ℕ) → Holds h (joined_at side red near n far) → Turned h h1 xs link near'
     → is_in n xs ≡ false → ((m : ℕ) → is_in m (nodes_of far) ≡ true → is_in m xs ≡ false)
     → is_in n (nodes_of near') ≡ false → is_in n (nodes_of far) ≡ false
     → h2 n ≡ cell_at side red link (root_of far) → ((m : ℕ) → (m ≡ n → ⊥) → h2 m ≡ h1 m)
@@ -71,8 +70,7 @@ module _ {lt : ℕ → ℕ → Bool} (strict : IsStrict lt) where
       λ x xn xm. ap (λ (f : ℕ → Cell). f x) e ∙ with_child-other side h1 n x (root_of b) xn
       ∙ with_child-other (opposite side) h m x (Some n) xm in
       let at_n : h' n ≡ cell_at side c (root_of b) (root_of far) =
-      ap (λ (f : ℕ → Cell). f n) e
-      ∙ with_child-near side h1 n c (root_of inner) (root_of far) (root_of b)
+      ap (λ (f : ℕ → Cell). f n) e ∙ with_child-near side h1 n c (root_of inner) (root_of far) (root_of b)
       (with_child-other (opposite side) h m n (Some n) nm ∙ j.cell) in
       let at_m : h' m ≡ cell_at side d (root_of a) (Some n) =
       ap (λ (f : ℕ → Cell). f m) e ∙ with_child-other side h1 n m (root_of b) mn
@@ -88,13 +86,11 @@ module _ {lt : ℕ → ℕ → Bool} (strict : IsStrict lt) where
       ∙ ap1.near_of_far m (subst (λ y. is_in y (nodes_of far) ≡ true) q i)))) j.far_holds in
       let low = tree_joint h' side c b n far (record { cell = at_n; near_holds = b_same; far_holds = f_same }) in
       record {
-        tree = tree_joint h' side d a m (joined_at side c b n far)
-            (record {
-              cell = at_m ∙ ap (λ x. cell_at side d (root_of a) x) low.root;
-              near_holds = a_same;
-              far_holds =
-                  low.holds;
-            });
+        tree = tree_joint h' side d a m (joined_at side c b n far) (record {
+          cell = at_m ∙ ap (λ x. cell_at side d (root_of a) x) low.root;
+          near_holds = a_same;
+          far_holds = low.holds;
+        });
         frame = λ x i.
             let p = outside_all side c inner n far x i in
             let q = outside_all side d a m b x p.near_out in
@@ -116,8 +112,7 @@ module _ {lt : ℕ → ℕ → Bool} (strict : IsStrict lt) where
       let holds = rw is at w.holds in
       let order = rw is at o in
       let e4 : h' ≡ with_child side (with_child (opposite side) h child (Some top)) top (root_of q.far) = e3
-      ∙ ap (λ x. with_child side (with_child (opposite side) h child (Some top)) top x) (sym e2
-      ∙ q.far_tree.root) in
+      ∙ ap (λ x. with_child side (with_child (opposite side) h child (Some top)) top x) (sym e2 ∙ q.far_tree.root) in
       let turned = lift_turns side h h' (h top).red (h child).red q.near child q.far top p.far holds order e4 in
       rw (is, lifted-joined side (h top).red (h child).red q.near child q.far top p.far) turned
 
@@ -210,8 +205,7 @@ same_root side h m n red near far w = some_same m n (w.root ∙ root_joined side
 
 module _ {lt : ℕ → ℕ → Bool} (strict : IsStrict lt) where
   pub balance_none : (side : Side) (h : ℕ → Cell) (top near : ℕ) (t : Tree) → IsTree h (Some top) t
-      → rises lt (nodes_of t) ≡ true
-      → child_of side (h top) ≡ Some near → (h top).red ≡ false → (h near).red ≡ true
+      → rises lt (nodes_of t) ≡ true → child_of side (h top) ≡ Some near → (h top).red ≡ false → (h near).red ≡ true
       → ((u : Tree) → IsTree h (child_of side (h near)) u → false ≡ is_red_tree u)
       → ((u : Tree) → IsTree h (child_of (opposite side) (h near)) u → false ≡ is_red_tree u)
       → Turned h h (nodes_of t) (Some top) (rebalanced side t)
@@ -224,10 +218,8 @@ module _ {lt : ℕ → ℕ → Bool} (strict : IsStrict lt) where
   pub balance_outer : (side : Side) (h h1 h2 : ℕ → Cell) (top near risen : ℕ) (outer : Option ℕ) (t : Tree)
       → IsTree h (Some top) t → rises lt (nodes_of t) ≡ true
       → child_of side (h top) ≡ Some near → (h top).red ≡ false → (h near).red ≡ true → child_of side (h near) ≡ outer
-      → ((u : Tree) → IsTree h outer u → true ≡ is_red_tree u)
-      → Makes lt h h1 (Some top) (Some risen) (lifted side)
-      → Makes lt h1 h2 outer outer blackened
-      → Turned h h2 (nodes_of t) (Some risen) (rebalanced side t)
+      → ((u : Tree) → IsTree h outer u → true ≡ is_red_tree u) → Makes lt h h1 (Some top) (Some risen) (lifted side)
+      → Makes lt h1 h2 outer outer blackened → Turned h h2 (nodes_of t) (Some risen) (rebalanced side t)
   balance_outer side h h1 h2 top near risen outer t w o e1 e2 e3 e4 red lift blacken =
       let s = black_red side h top near t w e1 e2 e3 in
       let low = joined_at side false s.b top s.far in
@@ -267,14 +259,11 @@ module _ {lt : ℕ → ℕ → Bool} (strict : IsStrict lt) where
       (top : ℕ) (far : Tree) (lower risen : ℕ)
       → Holds h (joined_at side false (joined_at side true a near (joined_at side true p k q)) top far)
       → rises lt (nodes_of (joined_at side false (joined_at side true a near (joined_at side true p k q)) top far))
-      ≡ true
-      → Makes lt h h1 (Some near) (Some lower) (lifted (opposite side))
-      → h2 ≡ with_child side h1 top (Some lower)
-      → Makes lt h2 h3 (Some top) (Some risen) (lifted side)
+      ≡ true → Makes lt h h1 (Some near) (Some lower) (lifted (opposite side))
+      → h2 ≡ with_child side h1 top (Some lower) → Makes lt h2 h3 (Some top) (Some risen) (lifted side)
       → h4 ≡ with_red h3 near false
       → Turned h h4 (nodes_of (joined_at side false (joined_at side true a near (joined_at side true p k q)) top far))
-      (Some risen)
-      (joined_at side true (joined_at side false a near p) k (joined_at side false q top far))
+      (Some risen) (joined_at side true (joined_at side false a near p) k (joined_at side false q top far))
   balance_inner_at side h h1 h2 h3 h4 a near p k q top far lower risen w o lift1 set lift2 blacken =
       let old = joined_at side true a near (joined_at side true p k q) in
       let new = joined_at side true (joined_at side true a near p) k q in
@@ -291,8 +280,7 @@ module _ {lt : ℕ → ℕ → Bool} (strict : IsStrict lt) where
       let rest2 : (m : ℕ) → (m ≡ top → ⊥) → h2 m ≡ h1 m = λ m d. set_at m
       ∙ with_child-other side h1 top m (Some lower) d in
       let t2 = graft side h h1 h2 false old new top far (Some lower) (nodes_of old) w l1 apart.not_near
-      apart.near_of_far
-      (ap (is_in top) nodes1 ∙ apart.not_near) apart.not_far top_cell rest2 in
+      apart.near_of_far (ap (is_in top) nodes1 ∙ apart.not_near) apart.not_far top_cell rest2 in
       let nodes2 = nodes_of-joined side false false old new top far nodes1 in
       let o2 : rises lt (nodes_of (joined_at side false new top far)) ≡ true = ap (rises lt) nodes2 ∙ o in
       let low = joined_at side false q top far in
@@ -315,8 +303,7 @@ module _ {lt : ℕ → ℕ → Bool} (strict : IsStrict lt) where
       ap (λ x. is_in k (nodes_of x)) (sym (blackened-joined side true a near p)) ∙ ap (is_in k) nodes4
       ∙ apart3.not_near in
       let whole = graft side h3 h4 h4 true up (joined_at side false a near p) k low (Some near)
-      (nodes_of up) l2.tree.holds black apart3.not_near apart3.near_of_far
-      k_out apart3.not_far top4 (λ m d. refl) in
+      (nodes_of up) l2.tree.holds black apart3.not_near apart3.near_of_far k_out apart3.not_far top4 (λ m d. refl) in
       record {
         tree = rw same2 whole;
         frame = λ m i.
@@ -333,10 +320,8 @@ module _ {lt : ℕ → ℕ → Bool} (strict : IsStrict lt) where
       → child_of (opposite side) (h near) ≡ inner
       → ((u : Tree) → IsTree h (child_of side (h near)) u → false ≡ is_red_tree u)
       → ((u : Tree) → IsTree h inner u → true ≡ is_red_tree u)
-      → Makes lt h h1 (Some near) (Some lower) (lifted (opposite side))
-      → h2 ≡ with_child side h1 top (Some lower)
-      → Makes lt h2 h3 (Some top) (Some risen) (lifted side)
-      → h4 ≡ with_red h3 near false
+      → Makes lt h h1 (Some near) (Some lower) (lifted (opposite side)) → h2 ≡ with_child side h1 top (Some lower)
+      → Makes lt h2 h3 (Some top) (Some risen) (lifted side) → h4 ≡ with_red h3 near false
       → Turned h h4 (nodes_of t) (Some risen) (rebalanced side t)
   balance_inner side h h1 h2 h3 h4 top near lower risen inner t w o e1 e2 e3 e4 outer_black inner_red lift1 set lift2
       blacken =
@@ -351,7 +336,4 @@ module _ {lt : ℕ → ℕ → Bool} (strict : IsStrict lt) where
       (joined_at side false r.q top s.far) =
       ap (λ x. rebalanced side x) is ∙ rebalanced-inner side s.a near r.p r.k r.q top s.far
       (sym (outer_black s.a s.a_tree)) in
-      record {
-        tree = rw is_balanced turned.tree;
-        frame = λ m i. let i' = rw is at i in turned.frame m i';
-      }
+      record { tree = rw is_balanced turned.tree; frame = λ m i. let i' = rw is at i in turned.frame m i' }

@@ -22,8 +22,7 @@ pub record AreAhead (lt : ℕ → ℕ → Bool) (h : ℕ → Cell) (n levels : �
       → IsAhead lt h (h n).right (levels - 1) later right
 
 pub ahead_at : {lt : ℕ → ℕ → Bool} → IsStrict lt → (h : ℕ → Cell) (n levels : ℕ) (link here : Option ℕ) (t : Tree)
-    → link ≡ Some n → IsAhead lt h link levels here t
-    → AreAhead lt h n levels here (nodes_of t)
+    → link ≡ Some n → IsAhead lt h link levels here t → AreAhead lt h n levels here (nodes_of t)
 ahead_at {lt = lt} strict h n levels link here t e a =
     let w : IsTree h (Some n) t = rw e at a.tree in
     let o = open_tree h n t w in
@@ -51,9 +50,7 @@ ahead_at {lt = lt} strict h n levels link here t e a =
         ordered = sp.right;
         low = omega arith;
         away = λ m i.
-            stays m
-            (false_from_ne_true (is_in m l) (λ j. true≢false (sym i ∙ not_both strict l n r sp m j)))
-            (λ k.
+            stays m (false_from_ne_true (is_in m l) (λ j. true≢false (sym i ∙ not_both strict l n r sp m j))) (λ k.
             let same : n ≡ m = some_same n m (sym f ∙ k) in
             true≢false (sym (rw (← same) at i) ∙ not_right strict l n r sp));
       };

@@ -141,23 +141,19 @@ module _ {g : Over} {s now : g.row.N.Denot} {link : Option ℕ} {n : ℕ} {low h
   split ns k =
       let h = g.N.Nodes.cells s in
       let listed = closed_link (strict g.met.N.Nodes s) h ns n link r.is k in
-      counts_split (strict g.met.N.Nodes s) h ns n low high listed r.above
-      r.below
+      counts_split (strict g.met.N.Nodes s) h ns n low high listed r.above r.below
 
   parts : (red_above : Bool) (t : Tree) (b : ℕ) → Sound g s link low high red_above t b
-      → HasParts (strict g.met.N.Nodes s) (g.N.Nodes.cells s) n
-      low high red_above t b
+      → HasParts (strict g.met.N.Nodes s) (g.N.Nodes.cells s) n low high red_above t b
   parts red_above t b k =
       parts_of (strict g.met.N.Nodes s) (g.N.Nodes.cells s) n low
       high red_above t b (subst (λ (o : Option ℕ). Sound g s o low high red_above t b) r.is k)
 
-  closed_left : (ns : List ℕ) → IsClosed (g.N.Nodes.cells s) ns → leads (λ m. is_in m ns) link ≡ true
-      → leads (λ m. is_in m ns) (g.N.Nodes.cells s n).left ≡ true
-  closed_left ns closed k = closed.left n (subst (λ (o : Option ℕ). leads (λ m. is_in m ns) o ≡ true) r.is k)
-
-  closed_right : (ns : List ℕ) → IsClosed (g.N.Nodes.cells s) ns → leads (λ m. is_in m ns) link ≡ true
-      → leads (λ m. is_in m ns) (g.N.Nodes.cells s n).right ≡ true
-  closed_right ns closed k = closed.right n (subst (λ (o : Option ℕ). leads (λ m. is_in m ns) o ≡ true) r.is k)
+  closed_on : (ns : List ℕ) → IsClosed (g.N.Nodes.cells s) ns → leads (λ m. is_in m ns) link ≡ true
+      → (leads (λ m. is_in m ns) (g.N.Nodes.cells s n).left ≡ true)
+      × (leads (λ m. is_in m ns) (g.N.Nodes.cells s n).right ≡ true)
+  closed_on ns closed k =
+      let i = subst (λ (o : Option ℕ). leads (λ m. is_in m ns) o ≡ true) r.is k in (closed.left n i, closed.right n i)
 
   asked_left : leads (g.N.Nodes.is_node s) link ≡ true → leads (g.N.Nodes.is_node s) low ≡ true
       → Room g s link low high start
@@ -166,8 +162,10 @@ module _ {g : Over} {s now : g.row.N.Denot} {link : Option ℕ} {n : ℕ} {low h
   asked_left good good_low room =
       let node : g.N.Nodes.is_node s n ≡ true = rw r.is at good in
       let fits = room_left _ _ _ _ _ r.few (split room.0 room.2) room.3 in
-      rw (r.here, r.left_is)
-      (g.met.N.Nodes.left_closed s n node, (good_low, (node, (room.0, room.1, closed_left room.0 room.1 room.2, fits))))
+      rw (r.here, r.left_is) (
+        g.met.N.Nodes.left_closed s n node,
+        (good_low, (node, (room.0, room.1, (closed_on room.0 room.1 room.2).0, fits))),
+      )
 
   asked_right : (later : g.row.N.Denot) (end' : ℕ) → later ≡ now → leads (g.N.Nodes.is_node s) link ≡ true
       → leads (g.N.Nodes.is_node s) high ≡ true → (room : Room g s link low high start)
@@ -179,38 +177,24 @@ module _ {g : Over} {s now : g.row.N.Denot} {link : Option ℕ} {n : ℕ} {low h
       let fits = room_right _ _ _ _ _ _ r.few spent (split room.0 room.2) room.3 in
       rw (e, r.here, r.right_is) (
         g.met.N.Nodes.right_closed s n node,
-        (node, (good_high, (room.0, room.1, closed_right room.0 room.1 room.2, fits))),
+        (node, (good_high, (room.0, room.1, (closed_on room.0 room.1 room.2).1, fits))),
       )
 
-  found_left : (b k : ℕ) → Found g now left low (Some n) red b k
-      → Found g s (g.N.Nodes.cells s n).left low (Some n) (g.N.Nodes.cells s n).red b k
-  found_left b k w = rw (r.here, r.left_is, r.red_is) at w
+  found_on : (later : g.row.N.Denot) (part part' from to : Option ℕ) (b k : ℕ) → later ≡ now → part ≡ part'
+      → Found g later part from to red b k → Found g s part' from to (g.N.Nodes.cells s n).red b k
+  found_on later part part' from to b k e is w = rw (e, r.here, is, r.red_is) at w
 
-  found_right : (later : g.row.N.Denot) (b k : ℕ) → later ≡ now → Found g later right (Some n) high red b k
-      → Found g s (g.N.Nodes.cells s n).right (Some n) high (g.N.Nodes.cells s n).red b k
-  found_right later b k e w = rw (e, r.here, r.right_is, r.red_is) at w
+  finds_on : (later : g.row.N.Denot) (part part' from to : Option ℕ) (levels : ℕ) (found : Bool) → later ≡ now
+      → part ≡ part' → Finds g later part from to red levels found
+      → Finds g s part' from to (g.N.Nodes.cells s n).red levels found
+  finds_on later part part' from to levels found e is finds = rw (e, r.here, is, r.red_is) at finds
 
-  finds_left : (levels : ℕ) (found : Bool) → Finds g now left low (Some n) red levels found
-      → Finds g s (g.N.Nodes.cells s n).left low (Some n) (g.N.Nodes.cells s n).red levels found
-  finds_left levels found finds = rw (r.here, r.left_is, r.red_is) at finds
-
-  finds_right : (later : g.row.N.Denot) (levels : ℕ) (found : Bool) → later ≡ now
-      → Finds g later right (Some n) high red levels found
-      → Finds g s (g.N.Nodes.cells s n).right (Some n) high (g.N.Nodes.cells s n).red levels found
-  finds_right later levels found e finds = rw (e, r.here, r.right_is, r.red_is) at finds
-
-  spent_left : (ns : List ℕ) (end' : ℕ) (found is : Bool) → IsClosed (g.N.Nodes.cells s) ns
-      → leads (λ m. is_in m ns) link ≡ true → found ≡ is → Spends g now left low (Some n) end end' found
-      → end' ≤ end + 5 * count g s low (Some n) ns + (if is then 0 else 5)
-  spent_left ns end' found is closed k f told =
-      let here = rw (r.here, r.left_is, f) at told in here ns closed (closed_left ns closed k)
-
-  spent_right : (later : g.row.N.Denot) (ns : List ℕ) (end' end'' : ℕ) (found is : Bool) → later ≡ now
-      → IsClosed (g.N.Nodes.cells s) ns → leads (λ m. is_in m ns) link ≡ true → found ≡ is
-      → Spends g later right (Some n) high end' end'' found
-      → end'' ≤ end' + 5 * count g s (Some n) high ns + (if is then 0 else 5)
-  spent_right later ns end' end'' found is e closed k f told =
-      let here = rw (e, r.here, r.right_is, f) at told in here ns closed (closed_right ns closed k)
+  spent_on : (later : g.row.N.Denot) (part part' from to : Option ℕ) (ns : List ℕ) (end' end'' : ℕ) (found is : Bool)
+      → later ≡ now → part ≡ part' → IsClosed (g.N.Nodes.cells s) ns → leads (λ m. is_in m ns) part' ≡ true
+      → found ≡ is → Spends g later part from to end' end'' found
+      → end'' ≤ end' + 5 * count g s from to ns + (if is then 0 else 5)
+  spent_on later part part' from to ns end' end'' found is e p closed k f told =
+      let here = rw (e, r.here, p, f) at told in here ns closed k
 
   spent_both : (ns : List ℕ) (later : g.row.N.Denot) (end' end'' : ℕ) (found found' is : Bool)
       → IsClosed (g.N.Nodes.cells s) ns → leads (λ m. is_in m ns) link ≡ true → found ≡ true → later ≡ now
@@ -218,8 +202,10 @@ module _ {g : Over} {s now : g.row.N.Denot} {link : Option ℕ} {n : ℕ} {low h
       → Spends g later right (Some n) high end' end'' found'
       → end'' ≤ start + 5 * count g s low high ns + (if is then 0 else 5)
   spent_both ns later end' end'' found found' is closed k f e f' told told' =
-      steps_right _ _ _ _ _ _ _ _ r.few (spent_left ns end' found true closed k f told)
-      (spent_right later ns end' end'' found' is e closed k f' told') (split ns k)
+      let c = closed_on ns closed k in
+      steps_right _ _ _ _ _ _ _ _ r.few (spent_on now left _ low (Some n) ns end end' found true refl r.left_is closed
+      c.0 f told)
+      (spent_on later right _ (Some n) high ns end' end'' found' is e r.right_is closed c.1 f' told') (split ns k)
 
   -- two parts have no more nodes than the closed list has on both sides of the node
   sizes : (ns : List ℕ) (b b' k k' : ℕ) → IsClosed (g.N.Nodes.cells s) ns → leads (λ m. is_in m ns) link ≡ true
@@ -229,9 +215,9 @@ module _ {g : Over} {s now : g.row.N.Denot} {link : Option ℕ} {n : ℕ} {low h
   sizes ns b b' k k' closed l before behind =
       let h = g.N.Nodes.cells s in
       let size = part_size (strict g.met.N.Nodes s) h ns closed (h n).left low
-      (Some n) (h n).red before.0 b (closed_left ns closed l) before.1 in
+      (Some n) (h n).red before.0 b (closed_on ns closed l).0 before.1 in
       let size' = part_size (strict g.met.N.Nodes s) h ns closed (h n).right
-      (Some n) high (h n).red behind.0 b' (closed_right ns closed l) behind.1 in
+      (Some n) high (h n).red behind.0 b' (closed_on ns closed l).1 behind.1 in
       rw (← before.2, ← behind.2) (sum_most _ _ _ _ size size')
 
   -- two parts and the node between them
@@ -299,15 +285,16 @@ pub returns-in_default-check_below-clause-complete : goal.returns-in_default-che
 returns-in_default-check_below-clause-complete g t c = λ u b k lower.
     let r = read g t (goal.at.returns-in_default-check_below-clause-complete g t c).After-right-right in
     let p = parts r c.args.red_above u b k in
-    let finds = finds_left r _ _ c.check_below.ensures.complete in
+    let finds = finds_on r _ _ _ _ _ _ _ refl r.left_is c.check_below.ensures.complete in
     sym (ap is_some c.in_default-check_below.is)
     ∙ finds p.left p.level p.left_sound (lower_than _ _ _ p.left_lower lower)
 
 pub returns-in_default-check_below-clause-steps : goal.returns-in_default-check_below-clause-steps
 returns-in_default-check_below-clause-steps g t c = λ ns closed k.
     let r = read g t (goal.at.returns-in_default-check_below-clause-steps g t c).After-right-right in
-    let first = spent_left r ns c.check_below.new.visits.steps _ false closed k (ap is_some c.in_default-check_below.is)
-    c.check_below.ensures.steps in
+    let first = spent_on r _ _ _ c.args.low (Some c.in-Some.node) ns _ _ _ false refl r.left_is closed
+    (closed_on r ns closed k).0
+    (ap is_some c.in_default-check_below.is) c.check_below.ensures.steps in
     steps_left _ _ _ _ _ _ r.few first (split r ns k)
 
 pub check_below-requires-2 : goal.check_below-requires-2
@@ -316,7 +303,9 @@ check_below-requires-2 g t c =
     let ns = c.requires.room.0 in
     let closed = c.requires.room.1 in
     let k = c.requires.room.2 in
-    let first = spent_left r ns _ _ true closed k (ap is_some c.in-Some-check_below.is) c.check_below.ensures.steps in
+    let first = spent_on r _ _ _ c.args.low (Some c.in-Some.node) ns _ _ _ true refl r.left_is closed
+    (closed_on r ns closed k).0
+    (ap is_some c.in-Some-check_below.is) c.check_below.ensures.steps in
     let asked = asked_right r c.check_below.new.visits.nodes.now c.check_below.new.visits.steps
     c.check_below.ensures.nodes c.requires.link c.requires.high c.requires.room first in
     λ κs lives. (falls _ _ c.decreases c.if-levels-eq0.false, (lives.0, (lives.1, asked)))
@@ -325,7 +314,7 @@ pub returns-in_default-check_below-2-clause-complete : goal.returns-in_default-c
 returns-in_default-check_below-2-clause-complete g t c = λ u b k lower.
     let r = read g t (goal.at.returns-in_default-check_below-2-clause-complete g t c).After-right-right in
     let p = parts r c.args.red_above u b k in
-    let finds = finds_right r c.check_below.new.visits.nodes.now _ _ c.check_below.ensures.nodes
+    let finds = finds_on r c.check_below.new.visits.nodes.now _ _ _ _ _ _ c.check_below.ensures.nodes r.right_is
     c.check_below-2.ensures.complete in
     sym (ap is_some c.in_default-check_below-2.is)
     ∙ finds p.right p.level p.right_sound (lower_than _ _ _ p.right_lower lower)
@@ -342,8 +331,9 @@ returns-then-before-behind-clause-complete g t c = λ u b k lower.
     let s = c.args.visits.now.nodes.now in
     let h = g.N.Nodes.cells s in
     let node = c.in-Some.node in
-    let before = found_left r _ _ c.in-Some-check_below.ensures.sound in
-    let behind = found_right r _ _ _ c.check_below.ensures.nodes c.in-Some-check_below-2.ensures.sound in
+    let before = found_on r _ _ _ _ _ _ _ refl r.left_is c.in-Some-check_below.ensures.sound in
+    let behind = found_on r _ _ _ _ _ _ _ c.check_below.ensures.nodes r.right_is
+    c.in-Some-check_below-2.ensures.sound in
     let p = parts r c.args.red_above u b k in
     let same1 = one_height (strict g.met.N.Nodes s) h
     (h node).left c.args.low (Some node) c.args.low (Some node) (h node).red (h node).red before.0 p.left _ p.level
@@ -362,24 +352,27 @@ returns-then-before-behind-clause-steps g t c = λ ns closed k.
 pub overflow_add-nodes : goal.overflow_add-nodes
 overflow_add-nodes g t c =
     let r = read g t (goal.at.overflow_add-nodes g t c).After-right-right in
-    let before = found_left r _ _ c.in-Some-check_below.ensures.sound in
-    let behind = found_right r _ _ _ c.check_below.ensures.nodes c.in-Some-check_below-2.ensures.sound in
+    let before = found_on r _ _ _ _ _ _ _ refl r.left_is c.in-Some-check_below.ensures.sound in
+    let behind = found_on r _ _ _ _ _ _ _ c.check_below.ensures.nodes r.right_is
+    c.in-Some-check_below-2.ensures.sound in
     let few = sizes r c.requires.room.0 _ _ _ _ c.requires.room.1 c.requires.room.2 before behind in
     fits_less _ (fits_nodes _ _ _ _ _ _ few (split r c.requires.room.0 c.requires.room.2) c.requires.room.3)
 
 pub overflow_add-nodes-2 : goal.overflow_add-nodes-2
 overflow_add-nodes-2 g t c =
     let r = read g t (goal.at.overflow_add-nodes-2 g t c).After-right-right in
-    let before = found_left r _ _ c.in-Some-check_below.ensures.sound in
-    let behind = found_right r _ _ _ c.check_below.ensures.nodes c.in-Some-check_below-2.ensures.sound in
+    let before = found_on r _ _ _ _ _ _ _ refl r.left_is c.in-Some-check_below.ensures.sound in
+    let behind = found_on r _ _ _ _ _ _ _ c.check_below.ensures.nodes r.right_is
+    c.in-Some-check_below-2.ensures.sound in
     let few = sizes r c.requires.room.0 _ _ _ _ c.requires.room.1 c.requires.room.2 before behind in
     fits_nodes _ _ _ _ _ _ few (split r c.requires.room.0 c.requires.room.2) c.requires.room.3
 
 pub returns-then-red-2-clause-sound : goal.returns-then-red-2-clause-sound
 returns-then-red-2-clause-sound g t c =
     let r = read g t (goal.at.returns-then-red-2-clause-sound g t c).After-right-right in
-    let before = found_left r _ _ c.in-Some-check_below.ensures.sound in
-    let behind = found_right r _ _ _ c.check_below.ensures.nodes c.in-Some-check_below-2.ensures.sound in
+    let before = found_on r _ _ _ _ _ _ _ refl r.left_is c.in-Some-check_below.ensures.sound in
+    let behind = found_on r _ _ _ _ _ _ _ c.check_below.ensures.nodes r.right_is
+    c.in-Some-check_below-2.ensures.sound in
     joined r c.args.red_above _ _ _ _ _ before behind c.if-before-behind.false
     (λ x y. elim c.else-red.branch as (λ _. ⊥) [
       | else-red-via-then-red+else-red_above w ↦ true≢false (sym y ∙ w.if-red_above.false)
@@ -389,8 +382,9 @@ returns-then-red-2-clause-sound g t c =
 pub returns-clause-sound : goal.returns-clause-sound
 returns-clause-sound g t c =
     let r = read g t (goal.at.returns-clause-sound g t c).After-right-right in
-    let before = found_left r _ _ c.in-Some-check_below.ensures.sound in
-    let behind = found_right r _ _ _ c.check_below.ensures.nodes c.in-Some-check_below-2.ensures.sound in
+    let before = found_on r _ _ _ _ _ _ _ refl r.left_is c.in-Some-check_below.ensures.sound in
+    let behind = found_on r _ _ _ _ _ _ _ c.check_below.ensures.nodes r.right_is
+    c.in-Some-check_below-2.ensures.sound in
     joined r c.args.red_above _ _ _ _ _ before behind c.if-before-behind.false
     (λ x y. elim c.else-red.branch as (λ _. ⊥) [
       | else-red-via-then-red+else-red_above w ↦ true≢false (sym y ∙ w.if-red_above.false)

@@ -21,8 +21,7 @@ returns-clause-mended g c = λ t w o.
     let set : g.N.Nodes.cells c.set_red.new.self.nodes.now ≡ with_red h c.in-Some.heavy true = c.set_red.ensures.cells
     ∙ ap (λ (x : g.row.N.Denot). with_red (g.N.Nodes.cells x) c.in-Some.heavy true) e3 in
     let balance = rw eo at c.balance-root.ensures.balanced in
-    rw red
-    (mend_black (strict g.met.N.Nodes s) c.args.side h
+    rw red (mend_black (strict g.met.N.Nodes s) c.args.side h
     (g.N.Nodes.cells c.set_red.new.self.nodes.now) (g.N.Nodes.cells c.set_red-2.new.self.nodes.now)
     (g.N.Nodes.cells c.balance-root.new.visits.nodes.now)
     c.args.top c.in-Some.heavy c.balance-root.result t w o (sym c.child.ensures.value ∙ c.in-Some.is)

@@ -64,8 +64,7 @@ returns-in-Some-clause-tree g c = λ u k.
     let cut = rw c.new-visits.ensures.nodes at c.cut.ensures.rest in
     (left (strict g.met.N.Nodes s) (g.N.Nodes.cells s) c.args.node _ (g.N.Nodes.cells c.cut.new.visits.nodes.now) _
     c.args.root c.cut.result.root c.cut.result.fell u c.in-Some.start k b (cut b.begins.below (below_of b.begins))
-    (search rules)
-    (search rules)).tree
+    (search rules) (search rules)).tree
 
 pub returns-in-Some-clause-frame : goal.returns-in-Some-clause-frame
 returns-in-Some-clause-frame g c = λ u k.
@@ -75,8 +74,7 @@ returns-in-Some-clause-frame g c = λ u k.
     let cut = rw c.new-visits.ensures.nodes at c.cut.ensures.rest in
     (left (strict g.met.N.Nodes s) (g.N.Nodes.cells s) c.args.node _ (g.N.Nodes.cells c.cut.new.visits.nodes.now) _
     c.args.root c.cut.result.root c.cut.result.fell u c.in-Some.start k b (cut b.begins.below (below_of b.begins))
-    (search rules)
-    refl).frame
+    (search rules) refl).frame
 
 pub returns-in-Some-clause-steps : goal.returns-in-Some-clause-steps
 returns-in-Some-clause-steps g c = λ u k.

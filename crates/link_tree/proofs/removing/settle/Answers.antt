@@ -10,9 +10,7 @@ returns-then-below-clause-settled g c = λ near far wn wf o.
     let eo : g.N.Nodes.order c.set_child.new.self.nodes.now ≡ g.N.Nodes.order s = c.set_child.ensures.same.order in
     let es : c.other.result ≡ opposite c.args.side = c.other.ensures in
     let mend = rw (eo, es) at c.mend.ensures.mended in
-    rw c.if-below.true
-    (settle_mended (strict g.met.N.Nodes s) c.args.side
-    (g.N.Nodes.cells s)
+    rw c.if-below.true (settle_mended (strict g.met.N.Nodes s) c.args.side (g.N.Nodes.cells s)
     (g.N.Nodes.cells c.set_child.new.self.nodes.now) (g.N.Nodes.cells c.mend.new.visits.nodes.now)
     c.args.parent near far c.args.below.root c.mend.result.root c.mend.result.fell wn wf o c.set_child.ensures.cells
     mend)
@@ -20,8 +18,6 @@ returns-then-below-clause-settled g c = λ near far wn wf o.
 pub returns-clause-settled : goal.returns-clause-settled
 returns-clause-settled g c = λ near far wn wf o.
     let s = c.args.visits.now.nodes.now in
-    rw c.if-below.false
-    (settle_done (strict g.met.N.Nodes s) c.args.side
-    (g.N.Nodes.cells s)
+    rw c.if-below.false (settle_done (strict g.met.N.Nodes s) c.args.side (g.N.Nodes.cells s)
     (g.N.Nodes.cells c.set_child.new.self.nodes.now) c.args.parent near far c.args.below.root wn wf o
     c.set_child.ensures.cells)

@@ -70,8 +70,7 @@ take_least-next-requires-clause-tree g c =
 spent : (g : Over) (s s' : g.row.N.Denot) (at right : ℕ) (t : Tree) (steps steps' more : ℕ) → Shrinks
     (g.N.Nodes.order s) (g.N.Nodes.cells s) (Some at) t
     → ((u : Tree) → Shrinks (g.N.Nodes.order s') (g.N.Nodes.cells s') (Some right) u → steps' + more ≤ steps + 14 *
-    height u + 9)
-    → (g.N.Nodes.cells s at).right ≡ Some right → s' ≡ s → steps' + 5 ≤ steps + 14 * height t
+    height u + 9) → (g.N.Nodes.cells s at).right ≡ Some right → s' ≡ s → steps' + 5 ≤ steps + 14 * height t
 spent g s s' at right t steps steps' more w told e same =
     let b = right_tree g s at right t w e in
     let here = rw same at told in

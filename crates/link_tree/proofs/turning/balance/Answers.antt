@@ -98,6 +98,5 @@ returns-clause-balanced g c = λ t w o.
     let e2 : c.is_red-2.new.visits.nodes.now ≡ s = c.is_red-2.ensures.nodes ∙ e1 in
     let black = tells g s _ _ _ _ false c.is_red.ensures.value r.here r.outer_is c.if-is_red.false in
     let black2 = tells g s _ _ _ _ false c.is_red-2.ensures.value e1 r.inner_is c.if-is_red-2.false in
-    rw e2
-    (balance_none (strict g.met.N.Nodes s) c.args.side
+    rw e2 (balance_none (strict g.met.N.Nodes s) c.args.side
     (g.N.Nodes.cells s) c.args.top c.in-Some.near t w o r.near_is r.top_black r.near_red black black2)

@@ -20,14 +20,11 @@ returns-clause-lifted g c = λ t w o.
     let s = c.args.visits.now.nodes.now in
     let h = g.N.Nodes.cells s in
     let child = c.in-Some.child in
-    lift_step (strict g.met.N.Nodes s) c.args.side h
-    (g.N.Nodes.cells c.set_child-2.new.self.nodes.now)
+    lift_step (strict g.met.N.Nodes s) c.args.side h (g.N.Nodes.cells c.set_child-2.new.self.nodes.now)
     c.args.top child c.child-middle.result t w o (sym c.child.ensures.value ∙ c.in-Some.is)
     (middle_is h (g.N.Nodes.cells c.child.new.self.nodes.now) child c.args.side _ _ c.child-middle.ensures.value
-    c.other.ensures
-    (ap (λ (x : g.row.N.Denot). g.N.Nodes.cells x) c.child.ensures.nodes))
+    c.other.ensures (ap (λ (x : g.row.N.Denot). g.N.Nodes.cells x) c.child.ensures.nodes))
     (set_both h (g.N.Nodes.cells c.child-middle.new.self.nodes.now) (g.N.Nodes.cells c.set_child.new.self.nodes.now) _
     c.args.side _ child c.args.top _
     (ap (λ (x : g.row.N.Denot). g.N.Nodes.cells x) (c.child-middle.ensures.nodes ∙ c.child.ensures.nodes))
-    c.set_child.ensures.cells c.other-2.ensures
-    c.set_child-2.ensures.cells)
+    c.set_child.ensures.cells c.other-2.ensures c.set_child-2.ensures.cells)

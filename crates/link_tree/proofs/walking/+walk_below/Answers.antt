@@ -88,8 +88,7 @@ walk_below-requires-2 g t c =
 pub returns-clause-walked : goal.returns-clause-walked
 returns-clause-walked g t c = λ u a.
     let b = both g t (goal.at.returns-clause-walked g t c).After-walk_below u a in
-    rw b.nodes
-    (folds_join (λ x k y. goal.F-step g x k tt y) c.args.visit.now (nodes_of b.left) c.walk_below.new.visit
+    rw b.nodes (folds_join (λ x k y. goal.F-step g x k tt y) c.args.visit.now (nodes_of b.left) c.walk_below.new.visit
     c.in-Some.node c.visit.new.self (nodes_of b.right) c.walk_below-2.new.visit
     (c.walk_below.ensures.walked b.left b.left_ahead) (search (rules, c.visit.ensures))
     (c.walk_below-2.ensures.walked b.right b.right_ahead))

@@ -104,6 +104,8 @@ mod ElementCommands
 mod PairCommands
 mod ArrayItems
 pub mod CommandLaws
+pub mod PartLaws
+pub mod NextPairs
 mod EntryPlaces
 mod KeyOrder
 mod HeldIndexes

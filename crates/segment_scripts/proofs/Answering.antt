@@ -9,37 +9,22 @@ use Rattle.seg_types.specs.Commands.{Command, is_changing}
 use Rattle.seg_types.specs.declared.keys.Key.{Key as CodeKey}
 use Rattle.seg_types.specs.Keys.{key_seen}
 use Rattle.segment_manager.specs.declared.modes.Mode.{Mode}
-use Rattle.segment_manager.specs.declared.modes.Mode.TheVariants.{Write, ReadOnly, CopyOnWrite}
 use Rattle.segment_manager.specs.Directory.{Directory, Object, live, named_objects, object_at, unique_objects}
 use Rattle.segment_manager.specs.Answers.{Answer, Done, Number, is_untouched}
 use Rattle.segment_manager.specs.Calls.{HasZeroGaps}
 use Rattle.segment_manager.specs.State.{KeepsRefused, State, StandsFor, IsReply, IsStep, answer_of}
 use Rattle.segment_manager.specs.Plan.{perform}
-use Rattle.segment_manager.specs.Step.{effect, is_read_only, step}
+use Rattle.segment_manager.specs.Step.{effect, step}
+use Rattle.segment_manager.proofs.CommandLaws.{answered-reads}
 use Rattle.segment_manager.proofs.Laws.{step-reads}
+use Rattle.segment_lang.specs.declared.commands.Command.{Command as CodeCommand}
+use Rattle.segment_lang.specs.Seen.{command_of}
 use Rattle.segment_scripts.specs.declared.replies.Answer.{Answer as Reply}
 use Rattle.segment_scripts.specs.declared.replies.Answer.TheVariants as said
 use Rattle.segment_scripts.specs.Replies.{Replies, answer_seen, shown_at, shown_of, told_at, told_of}
 use Rattle.segment_scripts.specs.ZeroGaps.{is_zero_free}
 
 -- ---- what only reads
-
--- a command that changes nothing is refused in no mode
-pub performed-reads : (mode : Mode) (d : Directory) (c : Command) → is_changing c ≡ false → step mode d c ≡ perform d (live d) (effect d c)
-unfolding step
-performed-reads Write d c e = refl
-performed-reads ReadOnly d c e = rw e refl
-performed-reads CopyOnWrite d c e = refl
-
--- nor is any in a segment that may be changed
-pub performed : (mode : Mode) (d : Directory) (c : Command) → is_read_only mode ≡ false → step mode d c ≡ perform d (live d) (effect d c)
-unfolding step
-performed Write d c e = refl
-performed ReadOnly d c e = absurd (cc)
-performed CopyOnWrite d c e = refl
-
-pub answered-reads : (mode : Mode) (d : Directory) (c : Command) → is_changing c ≡ false → (step mode d c).0 ≡ (perform d (live d) (effect d c)).0
-answered-reads mode d c e = ap (λ (r : Answer × Directory). r.0) (performed-reads mode d c e)
 
 -- the size that is answered is the directory's
 pub size_is : (mode : Mode) (d : Directory) (n : ℕ) → Number n ≡ (step mode d asked.Size).0 → n ≡ d.size
@@ -137,8 +122,19 @@ replies-step f plain old new c result reply e same h refused zeros = record {
 }
 
 -- the same of any command but the one that clears gaps
-pub replies-call : {A : Type 0} (f : A → Answer) → ((a : A) → is_untouched (f a) ≡ false) → (old new : State) (c : Command) (result : Result A Refusal) (reply : Reply)
+pub replies-call : {A : Type 0} (f : A → Answer) → ((a : A) → is_untouched (f a) ≡ false) → {old new : State} {c : Command} {reply : Reply} (result : Result A Refusal)
     → is_changing c ≡ true → is_zero_free c ≡ false → ((d : Directory) → answer_seen d reply ≡ answer_of f result) → IsStep old new c (answer_of f result) → KeepsRefused old new result
     → Replies old new c reply
-replies-call f plain old new c result reply e other same h refused =
+replies-call f plain {old} {new} {c} {reply} result e other same h refused =
     replies-step f plain old new c result reply e same h refused (λ is. absurd (let clears : is_zero_free c ≡ true = ap is_zero_free is in cc))
+
+-- ---- a command as the line that was read has it
+
+module _ {old new : State} {command x : CodeCommand} {reply : Reply} (is : command ≡ x) where
+  pub replies-as : Replies old new (command_of x) reply → Replies old new (command_of command) reply
+  replies-as = subst (λ y. Replies old new (command_of y) reply) (sym is)
+
+  pub replies-command : {A : Type 0} (f : A → Answer) → ((a : A) → is_untouched (f a) ≡ false) → (result : Result A Refusal)
+      → is_changing (command_of x) ≡ true → is_zero_free (command_of x) ≡ false → ((d : Directory) → answer_seen d reply ≡ answer_of f result)
+      → IsStep old new (command_of x) (answer_of f result) → KeepsRefused old new result → Replies old new (command_of command) reply
+  replies-command f plain result e other same h refused = replies-as (replies-call f plain result e other same h refused)

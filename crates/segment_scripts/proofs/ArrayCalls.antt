@@ -1,38 +1,21 @@
--- An array that is made of the values of a line: as many are there as are taken.
-use Rattle.std.proofs.Common.{◌≡◌, refl, sym, ap, subst, ◌∙◌, ℕ, suc, ◌+◌, ◌*◌, ◌≤◌, ℤ, Bool, true, false, if◌then◌else◌, Option, Some, None, Result, Ok, Err, List, [], ◌∷◌, ◌++◌, length, replicate, arith}
-use Rattle.std.specs.Prelude.{IsTrue, map, nat_lt, pos, take}
+-- An array that is made of the values of a line: the call takes all of them, or none.
+use Rattle.std.proofs.Common.{◌≡◌, refl, ap, subst, ◌∙◌, ℕ, suc, ℤ, Result, List, [], ◌∷◌, ◌++◌, length}
+use Rattle.std.specs.Prelude.{IsTrue, map}
 use Rattle.std.specs.List.{AllByRecursion}
-use Rattle.std.specs.Iterator.{Yields, YieldsFirst, YieldsThen}
-use Rattle.std.proofs.lemmas.Bool.{lt-ltb, le-ltb}
-use Rattle.std.proofs.lemmas.List.{append-nil, length-append, length-replicate, take_all}
-use Rattle.block_tags.specs.declared.tile.Role.TheVariants.{Object as ObjectRole}
-use Rattle.best_fit.specs.Extents.{Extent, LiveSet, handle}
-use Rattle.best_fit.specs.Fit.{resized}
-use Rattle.seg_types.specs.declared.kinds.Class.{Class}
-use Rattle.seg_types.specs.declared.kinds.Class.TheVariants.{Anonymous, Named, Unique}
+use Rattle.std.specs.Iterator.{Yields, YieldsFirst}
 use Rattle.seg_types.specs.declared.kinds.ScalarKind.{ScalarKind}
 use Rattle.seg_types.specs.declared.refusals.Refusal.{Refusal}
-use Rattle.seg_types.specs.declared.refusals.Refusal.TheVariants as refusal
-use Rattle.seg_types.specs.declared.refusals.Refusal.TheVariants.{Exists, NoSpace, OutOfRange}
 use Rattle.seg_types.specs.declared.values.ScalarValue.{ScalarValue}
-use Rattle.seg_types.specs.Kinds.{is_value, size_of}
+use Rattle.seg_types.specs.Kinds.{is_value}
 use Rattle.seg_types.specs.Names.{Key}
 use Rattle.seg_types.specs.Values.{kind_of_scalar, scalar_of, value_of_scalar}
 use Rattle.seg_types.specs.Commands as asked
 use Rattle.seg_types.proofs.Laws.{scalar_of-kind, scalar_of-value}
 use Rattle.segment_lang.specs.Arguments.{Written, scalars_in}
-use Rattle.segment_manager.specs.declared.modes.Mode.{Mode}
-use Rattle.segment_manager.specs.declared.modes.Mode.TheVariants.{Write, ReadOnly, CopyOnWrite}
-use Rattle.segment_manager.specs.Answers.{Answer, Made, Refused, is_untouched}
-use Rattle.segment_manager.specs.Directory.{Numbers, Object, Directory, live, named_objects, object_at, object_len, padded, unique_objects, with_object}
-use Rattle.segment_manager.specs.Layout.{head_len}
-use Rattle.segment_manager.specs.Plan.{Need, New, Plan, Refuse, Reply, Request, class_of, met, name_of, perform, with_entry, with_new_object}
-use Rattle.segment_manager.specs.State.{IsStep, KeepsRefused, State, StandsFor, handle_answer}
-use Rattle.segment_manager.specs.Step.{step}
-use Rattle.segment_manager.specs.Items.{KeepsUnasked, TakesItems, TakesUntil}
+use Rattle.segment_manager.specs.State.{IsStep, KeepsRefused, State, handle_answer}
+use Rattle.segment_manager.specs.Items.{TakesItems}
+use Rattle.segment_manager.proofs.CommandLaws.{array-refused, array-step, taken-front}
 use Rattle.segment_scripts.specs.Replies.{IsMeant}
-
--- ---- the values of a line
 
 of_kind : (k : ScalarKind) (zs : List ℤ) → AllByRecursion (λ v. kind_of_scalar v ≡ k) (map (scalar_of k) zs)
 of_kind k [] = tt
@@ -42,15 +25,10 @@ all-front : (P : ScalarValue → Type 0) (xs ys : List ScalarValue) → AllByRec
 all-front P [] ys h = tt
 all-front P (x ∷ xs) ys h = (h.0, all-front P xs ys h.1)
 
--- what was taken is the front of what there was
-pub taken-front : (w t : Written) (xs : List ScalarValue) → Yields (YieldsFirst scalars_in) w xs t → scalars_in w ≡ xs ++ scalars_in t
-taken-front w t [] h = ap scalars_in h
-taken-front w t (x ∷ xs) h = h.1 ∙ ap (λ l. x ∷ l) (taken-front h.0 t xs h.2)
-
 -- all values that are taken are of the kind
 pub taken-kind : (w t : Written) (xs : List ScalarValue) → Yields (YieldsFirst scalars_in) w xs t → AllByRecursion (λ v. kind_of_scalar v ≡ w.kind) xs
 taken-kind w t xs h =
-    all-front (λ v. kind_of_scalar v ≡ w.kind) xs (scalars_in t) (subst (AllByRecursion (λ v. kind_of_scalar v ≡ w.kind)) (taken-front w t xs h) (of_kind w.kind w.numbers))
+    all-front (λ v. kind_of_scalar v ≡ w.kind) xs (scalars_in t) (subst (AllByRecursion (λ v. kind_of_scalar v ≡ w.kind)) (taken-front scalars_in w t xs h) (of_kind w.kind w.numbers))
 
 pub length-scalars : (k : ScalarKind) (zs : List ℤ) → length (map (scalar_of k) zs) ≡ length zs
 length-scalars k [] = refl
@@ -60,157 +38,15 @@ pub numbers-back : (k : ScalarKind) (zs : List ℤ) → AllByRecursion (λ z. Is
 numbers-back k [] h = refl
 numbers-back k (z ∷ zs) h = λ j. scalar_of-value k z h.0 j ∷ numbers-back k zs h.1 j
 
-no_more : (xs : List ScalarValue) → length xs ≡ 0 → xs ≡ []
-no_more [] e = refl
-no_more (x ∷ xs) e = absurd (omega arith)
-
--- where as many are taken as there are, the numbers are the line's
-pub taken-all : (w t : Written) (xs : List ScalarValue) (n : ℕ) → AllByRecursion (λ z. IsTrue (is_value w.kind z)) w.numbers → length w.numbers ≡ n
-    → Yields (YieldsFirst scalars_in) w xs t → length xs ≡ n → map value_of_scalar xs ≡ w.numbers
-taken-all w t xs n values e h long =
-    let parts = taken-front w t xs h in
-    let all = length-scalars w.kind w.numbers in
-    let both : length (scalars_in w) ≡ length xs + length (scalars_in t) = ap length parts ∙ length-append xs (scalars_in t) in
-    let none : scalars_in t ≡ [] = no_more (scalars_in t) (omega arith) in
-    let same : scalars_in w ≡ xs = parts ∙ ap (λ l. xs ++ l) none ∙ append-nil xs in
-    ap (map value_of_scalar) (sym same) ∙ numbers-back w.kind w.numbers values
-
--- where no more come, all were taken
-pub taken-until : (w t : Written) (xs : List ScalarValue) → YieldsThen (YieldsFirst scalars_in) w xs None t → length xs ≡ length w.numbers
-taken-until w t xs h =
-    let parts = taken-front w h.0 xs h.1 in
-    let same : scalars_in w ≡ xs = parts ∙ ap (λ l. xs ++ l) h.2.0 ∙ append-nil xs in
-    ap length (sym same) ∙ length-scalars w.kind w.numbers
-
--- ---- a call that is refused before items are taken is refused whatever they are
-
-module _ (r : Refusal) (other : r ≡ OutOfRange → ⊥) where
-  -- where the one is refused for this reason, so is the other
-  abbrev IsSame : Answer × Directory → Answer × Directory → Type 0
-  IsSame p q = Refused r ≡ p.0 → q ≡ p
-
-  abbrev requested : Directory → LiveSet → (Extent → Plan) → Option Extent → Answer × Directory
-  requested d l f x = elim x as (λ _. Answer × Directory) [ None ↦ (Refused NoSpace, d) | Some x ↦ perform d (resized l x) (f x) ]
-
-  request-if : (d : Directory) (l : LiveSet) (f g : Extent → Plan) (x : Option Extent) → ((x : Extent) → IsSame (perform d (resized l x) (f x)) (perform d (resized l x) (g x)))
-      → IsSame (requested d l f x) (requested d l g x)
-  request-if d l f g None h e = refl
-  request-if d l f g (Some x) h e = h x e
-
-  request-same : (d : Directory) (l : LiveSet) (need : Need) (f g : Extent → Plan) → ((x : Extent) → IsSame (perform d (resized l x) (f x)) (perform d (resized l x) (g x)))
-      → IsSame (perform d l (Request need f)) (perform d l (Request need g))
-  request-same d l need f g h = request-if d l f g (met l need) h
-
-  place-if : (d : Directory) (l : LiveSet) (b : Bool) (need : Need) (now later : Plan) (f g : Extent → Plan) → IsSame (perform d l now) (perform d l later)
-      → ((x : Extent) → IsSame (perform d (resized l x) (f x)) (perform d (resized l x) (g x)))
-      → IsSame (perform d l (if b then now else Request need f)) (perform d l (if b then later else Request need g))
-  place-if d l true need now later f g h k = h
-  place-if d l false need now later f g h k = request-same d l need f g k
-
-  entry-same : (d : Directory) (l : LiveSet) (class : Class) (f g : Directory → Plan) → ((e : Directory) (l : LiveSet) → IsSame (perform d l (f e)) (perform d l (g e)))
-      → IsSame (perform d l (with_entry d class f)) (perform d l (with_entry d class g))
-  entry-same d l Anonymous f g h = h d l
-  entry-same d l Named f g h = place-if d l (nat_lt (length (named_objects d)) d.named.capacity) _ _ _ _ _ (h _ l) (λ x. h _ (resized l x))
-  entry-same d l Unique f g h = place-if d l (nat_lt (length (unique_objects d)) d.unique.capacity) _ _ _ _ _ (h _ l) (λ x. h _ (resized l x))
-
-  -- as many numbers ask for as much
-  object-same : (d : Directory) (l : LiveSet) (key : Key) (k : ScalarKind) (zs ws : List ℤ) (f g : Extent → Plan) → length ws ≡ length zs
-      → ((x : Extent) → IsSame (perform d (resized l x) (f x)) (perform d (resized l x) (g x)))
-      → IsSame (perform d l (Request (New ObjectRole (object_len (name_of key) (Numbers k zs))) f)) (perform d l (Request (New ObjectRole (object_len (name_of key) (Numbers k ws))) g))
-  object-same d l key k zs ws f g long h refused =
-      ap (λ n. perform d l (Request (New ObjectRole n) g)) (ap (λ n. head_len + padded (length (name_of key)) + size_of k * n) long)
-      ∙ request-same d l (New ObjectRole (object_len (name_of key) (Numbers k zs))) f g h refused
-
-  reason : Refused r ≡ Refused OutOfRange → r ≡ OutOfRange
-  reason e = cc
-
-  new-same : (d : Directory) (l : LiveSet) (key : Key) (k : ScalarKind) (zs ws : List ℤ) → length ws ≡ length zs
-      → IsSame (perform d l (with_new_object d key (asked.Numbers k zs) (λ o e. Reply (Refused OutOfRange) d)))
-      (perform d l (with_new_object d key (asked.Numbers k ws) (λ o e. Reply (Made (handle o.extent)) e)))
-  new-same d l key k zs ws long =
-      entry-same d l (class_of key) _ _ (λ e m. object-same d m key k zs ws (λ x. Reply (Refused OutOfRange) d)
-      (λ x. Reply (Made (handle x)) (with_object e (record { class = class_of key; name = name_of key; value = Numbers k ws; extent = x })))
-      long (λ x refused. absurd (other (reason refused))))
-
-  -- what the plan is where there are too few items, or enough
-  abbrev by-items : Directory → Key → ScalarKind → ℕ → List ℤ → Bool → Plan
-  by-items d key k count zs few =
-      if few
-      then with_new_object d key (asked.Numbers k (replicate count (pos 0))) (λ o e. Reply (Refused OutOfRange) d)
-      else with_new_object d key (asked.Numbers k (take count zs)) (λ o e. Reply (Made (handle o.extent)) e)
-
-  abbrev from-items : Directory → Key → ScalarKind → ℕ → List ℤ → Option Object → Plan
-  from-items d key k count zs found = elim found as (λ _. Plan) [ Some o ↦ Refuse Exists | None ↦ by-items d key k count zs (nat_lt (length zs) count) ]
-
-  items-same : (d : Directory) (l : LiveSet) (key : Key) (k : ScalarKind) (n : ℕ) (zs : List ℤ) (found : Option Object) → 1 ≤ n → length zs ≡ n
-      → IsSame (perform d l (from-items d key k n [] found)) (perform d l (from-items d key k n zs found))
-  items-same d l key k n zs (Some o) some long refused = refl
-  items-same d l key k n zs None some long refused =
-      let few : nat_lt 0 n ≡ true = lt-ltb 0 n some in
-      let enough : nat_lt (length zs) n ≡ false = le-ltb (length zs) n (omega arith) in
-      let all : take n zs ≡ zs = take_all n zs (omega arith) in
-      let told : Refused r ≡ (perform d l (by-items d key k n [] true)).0 = refused ∙ ap (λ b. (perform d l (by-items d key k n [] b)).0) few in
-      ap (λ b. perform d l (by-items d key k n zs b)) enough
-      ∙ ap (λ ws. perform d l (with_new_object d key (asked.Numbers k ws) (λ o e. Reply (Made (handle o.extent)) e))) all
-      ∙ new-same d l key k (replicate n (pos 0)) zs (long ∙ sym (length-replicate n (pos 0))) told
-      ∙ ap (λ b. perform d l (by-items d key k n [] b)) (sym few)
-
-  step-same : (mode : Mode) (d : Directory) (key : Key) (k : ScalarKind) (n : ℕ) (zs : List ℤ) → 1 ≤ n → length zs ≡ n
-      → IsSame (step mode d (asked.ConstructIt key k n [])) (step mode d (asked.ConstructIt key k n zs))
-  unfolding step
-  step-same Write d key k n zs some long refused = items-same d (live d) key k n zs (object_at d key) some long refused
-  step-same ReadOnly d key k n zs some long refused = refl
-  step-same CopyOnWrite d key k n zs some long refused = items-same d (live d) key k n zs (object_at d key) some long refused
-
-  pub refused-array : (old new : State) (key : Key) (k : ScalarKind) (n : ℕ) (zs : List ℤ) → 1 ≤ n → length zs ≡ n
-      → IsStep old new (asked.ConstructIt key k n []) (Refused r) → IsStep old new (asked.ConstructIt key k n zs) (Refused r)
-  refused-array old new key k n zs some long h = record {
-    stays = h.stays;
-    answers = λ d st. h.answers d st ∙ ap (λ (p : Answer × Directory). p.0) (sym (step-same old.mode d key k n zs some long (h.answers d st)));
-    denotes = λ d st. subst (λ (p : Answer × Directory). StandsFor new.cut.bytes p.1) (sym (step-same old.mode d key k n zs some long (h.answers d st))) (h.denotes d st);
-  }
-
 -- ---- the call takes all values of the line, or none
 
-module _ (old new : State) (key : Key) (w t : Written) (n : ℕ) where
-  abbrev Takes : Result ℕ Refusal → Type 0
-  Takes result = TakesItems (YieldsFirst scalars_in) value_of_scalar old new key w.kind n w t result
+module _ {old new : State} {key : Key} {w t : Written} {n : ℕ} {result : Result ℕ Refusal} (takes : TakesItems (YieldsFirst scalars_in) value_of_scalar old new key w.kind n w t result)
+    (meant : IsMeant (asked.ConstructIt key w.kind n w.numbers)) where
+  long : length (scalars_in w) ≡ n
+  long = length-scalars w.kind w.numbers ∙ meant.2
 
-  -- it is refused before a value is taken
-  early : (xs : List ScalarValue) (r : Refusal) → (r ≡ OutOfRange → ⊥) → TakesUntil (YieldsFirst scalars_in) n w xs t r → xs ≡ []
-  early xs refusal.ReadOnly other h = h.0
-  early xs Exists other h = h.0
-  early xs refusal.NotFound other h = h.0
-  early xs refusal.WrongKind other h = h.0
-  early xs OutOfRange other h = absurd (other refl)
-  early xs NoSpace other h = h.0
+  pub all-step : AllByRecursion (λ z. IsTrue (is_value w.kind z)) w.numbers → IsStep old new (asked.ConstructIt key w.kind n w.numbers) (handle_answer result)
+  all-step values = array-step scalars_in takes long (numbers-back w.kind w.numbers values) meant.0
 
-  kept : (r : Refusal) → (r ≡ OutOfRange → ⊥) → KeepsUnasked old new r → is_untouched (Refused r) ≡ true → new ≡ old
-  kept refusal.ReadOnly other h e = h
-  kept Exists other h e = h
-  kept refusal.NotFound other h e = h
-  kept refusal.WrongKind other h e = h
-  kept OutOfRange other h e = absurd (other refl)
-  kept NoSpace other h e = absurd (cc)
-
-  module _ (values : AllByRecursion (λ z. IsTrue (is_value w.kind z)) w.numbers) (meant : IsMeant (asked.ConstructIt key w.kind n w.numbers)) where
-    -- there are as many as are wanted
-    enough : (r : Refusal) → Takes (Err r) → r ≡ OutOfRange → ⊥
-    enough r h e =
-        let until : TakesUntil (YieldsFirst scalars_in) n w h.items t OutOfRange = subst (TakesUntil (YieldsFirst scalars_in) n w h.items t) e h.taken in
-        let all = taken-until w t h.items until.0 in
-        let long = meant.2 in
-        let fewer = until.1 in
-        omega arith
-
-    pub array-step : (result : Result ℕ Refusal) → Takes result → IsStep old new (asked.ConstructIt key w.kind n w.numbers) (handle_answer result)
-    array-step (Ok h) takes =
-        subst (λ (zs : List ℤ). IsStep old new (asked.ConstructIt key w.kind n zs) (Made h)) (taken-all w t takes.items n values meant.2 takes.taken.0 takes.taken.1) takes.step
-    array-step (Err r) takes =
-        let other = enough r takes in
-        let none : map value_of_scalar takes.items ≡ [] = ap (map value_of_scalar) (early takes.items r other takes.taken) in
-        refused-array r other old new key w.kind n w.numbers meant.0 meant.2 (subst (λ (zs : List ℤ). IsStep old new (asked.ConstructIt key w.kind n zs) (Refused r)) none takes.step)
-
-    pub array-refused : (result : Result ℕ Refusal) → Takes result → KeepsRefused old new result
-    array-refused (Ok h) takes = tt
-    array-refused (Err r) takes = kept r (enough r takes) takes.unchanged
+  pub all-refused : KeepsRefused old new result
+  all-refused = array-refused scalars_in takes long

@@ -9,13 +9,9 @@ mod Meant
 mod NewKinds
 mod ArrayCalls
 mod Answering
-mod PartLines
-mod SetElements
 mod ElementCalls
 mod RowValues
-mod PairCalls
 mod ShownObjects
-mod PairParts
 mod ListedObjects
 mod InstanceLines
 mod BlockLines

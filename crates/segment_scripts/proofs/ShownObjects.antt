@@ -1,10 +1,11 @@
--- What is shown of an object: its kind, and its numbers one after another, or its bytes.
+-- What is shown of an object: its kind, and its numbers, texts or pairs one after another, or its bytes.
 use Rattle.std.proofs.Common.{◌≡◌, ℕ, ℤ, List, [], ◌∷◌, ◌++◌, length, map, Option, Some, None, Result, Ok, Err, slice_get, refl, sym, ap, subst, ◌∙◌, append_assoc}
 use Rattle.std.specs.List.{flat_map}
 use Rattle.best_fit.specs.Table.{Table}
 use Rattle.seg_types.specs.declared.kinds.ScalarKind.{ScalarKind}
+use Rattle.seg_map.specs.Numbers.{NumberPair}
 use Rattle.seg_vector.specs.Vector.{OwnedText}
-use Rattle.seg_types.specs.declared.kinds.Kind.TheVariants.{Scalar, Text, Texts as TextsKind, Vector}
+use Rattle.seg_types.specs.declared.kinds.Kind.TheVariants.{Map, Scalar, Text, Texts as TextsKind, Vector}
 use Rattle.seg_types.specs.declared.refusals.Refusal.{Refusal}
 use Rattle.seg_types.specs.declared.refusals.Refusal.TheVariants.{NotFound, OutOfRange}
 use Rattle.seg_types.specs.Names.{ByHandle, Key}
@@ -21,14 +22,16 @@ use Rattle.segment_manager.specs.Located.{IsLocated}
 use Rattle.segment_manager.specs.Plan.{Plan, Reply, perform, with}
 use Rattle.segment_manager.specs.State.{Answers, State, StandsFor}
 use Rattle.segment_manager.specs.Step.{get, step}
+use Rattle.segment_manager.specs.Walks.{pairs_at, pairs_of}
 use Rattle.segment_manager.proofs.Laws.{said-at, same-object}
-use Rattle.segment_scripts.specs.Answer.{answer_text, line, shown_words}
-use Rattle.segment_scripts.specs.Parts.{element_part, part_of}
+use Rattle.segment_scripts.specs.Answer.{answer_text, line, pair_text, shown_words}
+use Rattle.segment_scripts.specs.Parts.{element_part, part_of, parts_until}
 use Rattle.segment_scripts.specs.Replies.{shown_at, shown_of, text_at, text_in, text_of}
+use Rattle.segment_scripts.specs.ShownPairs.{map_line, pair_part}
 use Rattle.segment_scripts.specs.Shown.{front_text, length_in, string_line, texts_line, value_line}
-use Rattle.segment_scripts.proofs.Answering.{answered-reads}
-use Rattle.segment_scripts.proofs.ElementCalls.{IsElements, IsText, IsTexts, text-if, texts-if, vector-if}
-use Rattle.segment_scripts.proofs.PartLines.{parts-all, parts-same}
+use Rattle.segment_manager.proofs.CommandLaws.{IsElements, IsTexts, answered-reads, texts-if, vector-if}
+use Rattle.segment_scripts.proofs.ElementCalls.{IsText, text-if}
+use Rattle.segment_manager.proofs.PartLaws.{parts-all, parts-same}
 
 -- ---- what the calls say of the object of a key
 
@@ -80,11 +83,11 @@ element-is mode d key o k zs i e row =
 
 -- ---- all of them
 
-line-words : (w : List ℕ) (k : ScalarKind) (zs : List ℤ) → line (w ∷ map (value_text k) zs) ≡ w ++ (flat_map (element_text k) zs ++ 0x0A ∷ [])
-line-words w k [] = refl
-line-words w k (z ∷ zs) =
-    ap (λ l. w ++ 0x20 ∷ l) (line-words (value_text k z) k zs)
-    ∙ ap (λ l. w ++ 0x20 ∷ l) (sym (append_assoc (value_text k z) (flat_map (element_text k) zs) (0x0A ∷ [])))
+line-words : {X : Type 0} (text : X → List ℕ) (w : List ℕ) (xs : List X) → line (w ∷ map text xs) ≡ w ++ (flat_map (λ x. 0x20 ∷ text x) xs ++ 0x0A ∷ [])
+line-words text w [] = refl
+line-words text w (x ∷ xs) =
+    ap (λ l. w ++ 0x20 ∷ l) (line-words text (text x) xs)
+    ∙ ap (λ l. w ++ 0x20 ∷ l) (sym (append_assoc (text x) (flat_map (λ x. 0x20 ∷ text x) xs) (0x0A ∷ [])))
 
 shown-row : (mode : Mode) (d : Directory) (key : Key) (o : Object) (k : ScalarKind) (zs : List ℤ) → object_at d key ≡ Some o → IsRow o.value k zs
     → value_line (kind_of o.value) (length zs) mode d key ≡ answer_text (Shown o.value)
@@ -92,7 +95,7 @@ shown-row mode d key o k zs e row =
     ap (λ l. front_text (kind_of o.value) (length zs) ++ (l ++ 0x0A ∷ []))
     (parts-same (λ i. element_part (step mode d (asked.Get key i)).0) (λ i. part_of (element_text k) (slice_get zs i)) (length zs) (λ i. element-is mode d key o k zs i e row)
     ∙ parts-all (element_text k) zs)
-    ∙ sym (line-words (front_text (kind_of o.value) (length zs)) k zs)
+    ∙ sym (line-words (value_text k) (front_text (kind_of o.value) (length zs)) zs)
     ∙ ap line (sym row.shows)
 
 -- ---- the kinds
@@ -117,12 +120,6 @@ text-part : (r : Option OwnedText) → element_part (elim r as (λ _. Answer) [ 
 text-part None = refl
 text-part (Some p) = refl
 
-texts-words : (w : List ℕ) (ps : List OwnedText) → line (w ∷ map (λ (p : OwnedText). quoted_text p.bytes) ps) ≡ w ++ (flat_map text_part ps ++ 0x0A ∷ [])
-texts-words w [] = refl
-texts-words w (p ∷ ps) =
-    ap (λ l. w ++ 0x20 ∷ l) (texts-words (quoted_text p.bytes) ps)
-    ∙ ap (λ l. w ++ 0x20 ∷ l) (sym (append_assoc (quoted_text p.bytes) (flat_map text_part ps) (0x0A ∷ [])))
-
 -- all texts of a vector of them
 shown-texts : (d : Directory) (key : Key) (o : Object) (ps : List OwnedText) (t : Table) → object_at d key ≡ Some o → o.value ≡ Texts ps t → texts_line d key (length ps) ≡ answer_text (Shown o.value)
 shown-texts d key o ps t e f =
@@ -130,8 +127,32 @@ shown-texts d key o ps t e f =
     (parts-same (λ i. element_part (text_at d key i)) (λ i. part_of text_part (slice_get ps i)) (length ps)
     (λ i. ap (λ r. element_part (text_in r i)) e ∙ ap (λ v. element_part (text_of v i)) f ∙ text-part (slice_get ps i))
     ∙ parts-all text_part ps)
-    ∙ sym (texts-words (kind_text TextsKind) ps)
+    ∙ sym (line-words (λ (p : OwnedText). quoted_text p.bytes) (kind_text TextsKind) ps)
     ∙ ap (λ v. answer_text (Shown v)) (sym f)
+
+-- ---- pairs
+
+record ArePairs (k v : ScalarKind) (w : Value) : Type 0 where
+  pairs : List NumberPair
+  is : w ≡ Pairs k v pairs
+
+pairs-if : (k v : ScalarKind) (w : Value) → kind_of w ≡ Map k v → ArePairs k v w
+pairs-if k v (Numbers l zs) e = absurd (cc)
+pairs-if k v (Elements l zs t) e = absurd (cc)
+pairs-if k v (Bytes bs t) e = absurd (cc)
+pairs-if k v (Pairs l m ps) e = let keys : l ≡ k = cc in let values : m ≡ v = cc in record { pairs = ps; is = λ i. Pairs (keys i) (values i) ps }
+pairs-if k v (Texts ps t) e = absurd (cc)
+
+abbrev pairs_of_object : Option Object → List NumberPair
+pairs_of_object r = elim r as (λ _. List NumberPair) [ None ↦ [] | Some o ↦ pairs_of o.value ]
+
+shown-pairs : (d : Directory) (key : Key) (o : Object) (k v : ScalarKind) (ps : List NumberPair) → object_at d key ≡ Some o → o.value ≡ Pairs k v ps → map_line k v d key (length ps) ≡ answer_text (Shown o.value)
+shown-pairs d key o k v ps e f =
+    let are : pairs_at d key ≡ ps = ap pairs_of_object e ∙ ap pairs_of f in
+    (λ i. kind_text (Map k v) ++ (parts_until (λ j. part_of (pair_part k v) (slice_get (are i) j)) (length ps) ++ 0x0A ∷ []))
+    ∙ ap (λ l. kind_text (Map k v) ++ (l ++ 0x0A ∷ [])) (parts-all (pair_part k v) ps)
+    ∙ sym (line-words (pair_text k v) (kind_text (Map k v)) ps)
+    ∙ ap (λ u. answer_text (Shown u)) (sym f)
 
 -- ---- the object of a key, by its handle
 
@@ -188,6 +209,16 @@ module _ (s : State) (key : Key) (o : Located) (l : IsLocated s key o) where
       let v : IsTexts f.object.value = texts-if f.object.value (sym (kind-said d st) ∙ e) in
       ap (λ m. texts_line d (ByHandle o.handle) m) (a.answers d st ∙ ap (λ (r : Option Object). length_in (sizes_of_object r)) (at-handle d st) ∙ ap (λ w. length_in (sizes_of w)) v.is)
       ∙ shown-texts d (ByHandle o.handle) f.object v.texts v.table (at-handle d st) v.is
+      ∙ ap (λ (r : Option Object). answer_text (shown_of r)) (sym f.is)
+
+  -- a map
+  pub map-said : (k v : ScalarKind) (n : ℕ) → o.kind ≡ Map k v → Answers s (λ d. length_in (sizes_at d (ByHandle o.handle))) n → (d : Directory) → StandsFor s.cut.bytes d
+      → map_line k v d (ByHandle o.handle) n ≡ answer_text (shown_at d key)
+  map-said k v n e a d st =
+      let f = said-at s key o l d st in
+      let w : ArePairs k v f.object.value = pairs-if k v f.object.value (sym (kind-said d st) ∙ e) in
+      ap (λ m. map_line k v d (ByHandle o.handle) m) (a.answers d st ∙ ap (λ (r : Option Object). length_in (sizes_of_object r)) (at-handle d st) ∙ ap (λ u. length_in (sizes_of u)) w.is)
+      ∙ shown-pairs d (ByHandle o.handle) f.object k v w.pairs (at-handle d st) w.is
       ∙ ap (λ (r : Option Object). answer_text (shown_of r)) (sym f.is)
 
 -- there is none

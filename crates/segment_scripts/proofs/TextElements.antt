@@ -1,10 +1,8 @@
 -- Commands on the texts of a vector of strings as a line writes them.
-use Rattle.std.proofs.Common.{◌≡◌, refl, sym, ap, subst, ◌∙◌, ℕ, ◌-◌, ◌≤◌, ◌⊎◌, inl, inr, Bool, true, false, ◌&&◌, if◌then◌else◌, Option, Some, None, Result, Ok, Err, List, ◌∷◌, [], length, map, take, arith}
+use Rattle.std.proofs.Common.{◌≡◌, refl, sym, ap, subst, ◌∙◌, ℕ, ◌-◌, ◌≤◌, Bool, true, false, ◌&&◌, if◌then◌else◌, Option, Some, None, Result, Ok, Err, List, ◌∷◌, [], length, map, take, arith}
 use Rattle.std.specs.Prelude.{OnErr, slice_get}
 use Rattle.best_fit.specs.Table.{Table}
-use Rattle.seg_types.specs.declared.kinds.Kind.{Kind}
 use Rattle.seg_types.specs.declared.kinds.Kind.TheVariants.{Map as MapKind, Scalar, Text, Texts as TextsKind, Vector}
-use Rattle.seg_types.specs.declared.kinds.ScalarKind.{ScalarKind}
 use Rattle.seg_types.specs.declared.refusals.Refusal.{Refusal}
 use Rattle.seg_types.specs.declared.refusals.Refusal.TheVariants as refusal
 use Rattle.seg_types.specs.declared.refusals.Refusal.TheVariants.{NotFound, OutOfRange, WrongKind}
@@ -19,7 +17,7 @@ use Rattle.segment_lang.specs.Seen.{literal_of}
 use Rattle.segment_manager.specs.declared.modes.Mode.{Mode}
 use Rattle.segment_manager.specs.declared.targets.Object.{Object as Located}
 use Rattle.segment_manager.specs.Answers.{Answer, Done, Refused, TextElement, is_untouched, refusal_of}
-use Rattle.segment_manager.specs.Calls.{elements_at, elements_of, kind_at}
+use Rattle.segment_manager.specs.Calls.{kind_at}
 use Rattle.segment_manager.specs.Contents.{sizes_at, sizes_of}
 use Rattle.segment_manager.specs.Directory.{Value, Numbers, Elements, Bytes, Pairs, Texts, Object, Directory, kind_of, live, object_at}
 use Rattle.segment_manager.specs.Instances.{IsMissing}
@@ -29,38 +27,19 @@ use Rattle.segment_manager.specs.Plan.{Plan, Refuse, Reply, perform, with, with_
 use Rattle.segment_manager.specs.State.{Answers, IsReplyOfKind, IsStep, IsStepOfKind, LeadsOn, State, StandsFor, refusal_in}
 use Rattle.segment_manager.specs.Step as step
 use Rattle.segment_manager.specs.Step.{changed, effect, is_read_only, step_of_kind, texts_of}
-use Rattle.segment_manager.proofs.ElementLaws.{IsOfKindAt, kind-told, of_kind-steps, refused-steps, with-found, with-not_found}
-use Rattle.segment_manager.proofs.Laws.{step-same}
-use Rattle.segment_scripts.specs.Changes.{Executes, IsChangeable, IsNoElement, IsTextElement, IsUnchangeable}
+use Rattle.segment_manager.proofs.ElementLaws.{IsOfKindAt, of_kind-steps, with-found, with-not_found}
+use Rattle.segment_manager.proofs.Laws.{step-same, step_of_kind-by_key}
+use Rattle.segment_scripts.specs.Changes.{Executes, IsTextElement}
 use Rattle.segment_scripts.specs.declared.replies.Answer.{Answer as Said}
 use Rattle.segment_scripts.specs.Answer.{answer_text}
 use Rattle.segment_scripts.specs.Replies.{answer_seen, bytes_taken, text_at, text_in, text_of}
 use Rattle.segment_scripts.specs.Writing.{WritesFor}
 use Rattle.raw_region.specs.Device.{Took, Writes}
 use Rattle.segment_scripts.specs.Shown.{length_in}
-use Rattle.segment_scripts.proofs.Answering.{answered-reads, performed}
-use Rattle.segment_scripts.proofs.ElementCalls.{IsTexts, texts-if}
+use Rattle.segment_manager.proofs.CommandLaws.{IsTexts, NoText, answered-reads, open-writing, refuses, step-effect, texts-if, told}
 use Rattle.segment_scripts.proofs.NewKinds.{kind-same}
 
--- ---- a literal that is no text
-
-abbrev NoText : Literal → Type 0
-NoText l = (bs : List ℕ) → l ≡ Quoted bs → ⊥
-
-not_pushed : (d : Directory) (o : Object) (ps : List OwnedText) (t : Table) (l : Literal) → NoText l → step.push d o (Texts ps t) l ≡ Refuse WrongKind
-not_pushed d o ps t (Whole z) n = refl
-not_pushed d o ps t (Truth b) n = refl
-not_pushed d o ps t (Quoted bs) n = absurd (n bs refl)
-
-not_inserted : (d : Directory) (o : Object) (ps : List OwnedText) (t : Table) (i : ℕ) (l : Literal) → NoText l → step.insert_at d o (Texts ps t) i l ≡ Refuse WrongKind
-not_inserted d o ps t i (Whole z) n = refl
-not_inserted d o ps t i (Truth b) n = refl
-not_inserted d o ps t i (Quoted bs) n = absurd (n bs refl)
-
-not_set : (d : Directory) (o : Object) (ps : List OwnedText) (t : Table) (i : ℕ) (l : Literal) → NoText l → step.set d o (Texts ps t) i l ≡ Refuse WrongKind
-not_set d o ps t i (Whole z) n = refl
-not_set d o ps t i (Truth b) n = refl
-not_set d o ps t i (Quoted bs) n = absurd (n bs refl)
+-- ---- literals that are texts
 
 -- texts of literals are those of the texts' own, and where a literal is none there are none
 quoted-back : (ls : List Literal) (r : Result (List (List ℕ)) Refusal) → texts_of ls ≡ r → (bss : List (List ℕ)) → r ≡ Ok bss → ls ≡ map Quoted bss
@@ -100,41 +79,17 @@ text-taken d (Some p) f = refl
 
 module _ (s : State) (key : Key) (a : Answers s (λ d. kind_at d key) (Ok TextsKind)) where
   abbrev found : (d : Directory) → StandsFor s.cut.bytes d → IsOfKindAt d key TextsKind
-  found d st = kind-told d key TextsKind (a.answers d st)
+  found d st = told a d st
 
   held : (d : Directory) (st : StandsFor s.cut.bytes d) → IsTexts (found d st).object.value
   held d st = texts-if (found d st).object.value (found d st).kind_is
 
-  module _ (writing : is_read_only s.mode ≡ false) where
-    pub set-no_text : (i : ℕ) (l : Literal) → NoText l → IsStep s s (asked.Set key i l) (Refused WrongKind)
-    set-no_text i l n =
-        refused-steps s (asked.Set key i l) WrongKind writing
-        (λ d st.
-        let o : Object = (found d st).object in
-        ap (perform d (live d))
-        (with-found d key o (λ o. step.set d o o.value i l) (found d st).is ∙ ap (λ v. step.set d o v i l) (held d st).is ∙ not_set d o (held d st).texts (held d st).table i l n))
-
-    pub no_text-element : (l : Literal) → NoText l → IsNoElement s key l WrongKind
-    no_text-element l n = record {
-      push = refused-steps s (asked.Push key l) WrongKind writing
-          (λ d st.
-          let o : Object = (found d st).object in
-          ap (perform d (live d))
-          (with-found d key o (λ o. step.push d o o.value l) (found d st).is ∙ ap (λ v. step.push d o v l) (held d st).is ∙ not_pushed d o (held d st).texts (held d st).table l n));
-      insert = λ i. refused-steps s (asked.Insert key i l) WrongKind writing
-          (λ d st.
-          let o : Object = (found d st).object in
-          ap (perform d (live d))
-          (with-found d key o (λ o. step.insert_at d o o.value i l) (found d st).is ∙ ap (λ v. step.insert_at d o v i l) (held d st).is ∙ not_inserted d o (held d st).texts (held d st).table i l n));
-    }
-
-    pub assign-no_texts : (ls : List Literal) (why : Refusal) → texts_of ls ≡ Err why → IsStep s s (asked.Assign key ls) (Refused why)
-    assign-no_texts ls why e =
-        refused-steps s (asked.Assign key ls) why writing
-        (λ d st.
-        let o : Object = (found d st).object in
-        ap (perform d (live d))
-        (with-found d key o (λ o. step.assign d o o.value ls) (found d st).is ∙ ap (λ v. step.assign d o v ls) (held d st).is ∙ not_assigned d o (held d st).texts (held d st).table ls why e))
+  pub assign-no_texts : is_read_only s.mode ≡ false → (ls : List Literal) (why : Refusal) → texts_of ls ≡ Err why → IsStep s s (asked.Assign key ls) (Refused why)
+  assign-no_texts writing ls why e =
+      refuses s (asked.Assign key ls) why writing
+      (λ d st.
+      let o : Object = (found d st).object in
+      with-found d key o (λ o. step.assign d o o.value ls) (found d st).is ∙ ap (λ v. step.assign d o v ls) (held d st).is ∙ not_assigned d o (held d st).texts (held d st).table ls why e)
 
   pub assign-texts : (new : State) (ls : List Literal) (bss : List (List ℕ)) (answer : Answer) → texts_of ls ≡ Ok bss → IsStepOfKind s new key TextsKind (asked.Assign key (map Quoted bss)) answer → IsStep s new (asked.Assign key ls) answer
   assign-texts new ls bss answer e r =
@@ -165,19 +120,15 @@ module _ (s : State) (key : Key) (a : Answers s (λ d. kind_at d key) (Ok TextsK
       ap (λ m. text_at d key (m - 1)) len
       ∙ ap (λ r. text_in r (length h.texts - 1)) (found d st).is ∙ ap (λ v. text_of v (length h.texts - 1)) h.is
       ∙ text-taken d (slice_get h.texts (length h.texts - 1)) (λ p. changed d o (Texts (take (length h.texts - 1) h.texts) h.table))
-      ∙ sym (ap (λ (n : Answer × Directory). n.0) (performed s.mode d (asked.Pop key) writing)
+      ∙ sym (ap (λ (n : Answer × Directory). n.0) (step-effect s.mode d (asked.Pop key) (open-writing s.mode (asked.Pop key) writing))
       ∙ ap (λ p. (perform d (live d) p).0) (with-found d key o (λ o. step.pop d o o.value) (found d st).is ∙ ap (λ v. step.pop d o v) h.is))
 
-no_quoted : (l : CodeLiteral) → ((q : List ℕ) → l ≡ CodeQuoted q → ⊥) → NoText (literal_of l)
+-- ---- a literal that is no text
+
+pub no_quoted : (l : CodeLiteral) → ((q : List ℕ) → l ≡ CodeQuoted q → ⊥) → NoText (literal_of l)
 no_quoted (CodeWhole z) n bs e = absurd (cc)
 no_quoted (CodeTruth b) n bs e = absurd (cc)
 no_quoted (CodeQuoted q) n bs e = absurd (n q refl)
-
-pub no_text-of : (s : State) (key : Key) (l : CodeLiteral) → IsChangeable s key TextsKind → ((q : List ℕ) → l ≡ CodeQuoted q → ⊥) → IsNoElement s key (literal_of l) WrongKind
-no_text-of s key l h n = no_text-element s key h.is h.writing (literal_of l) (no_quoted l n)
-
-pub set-no_text-of : (s : State) (key : Key) (i : ℕ) (l : CodeLiteral) → IsChangeable s key TextsKind → ((q : List ℕ) → l ≡ CodeQuoted q → ⊥) → IsStep s s (asked.Set key i (literal_of l)) (Refused WrongKind)
-set-no_text-of s key i l h n = set-no_text s key h.is h.writing i (literal_of l) (no_quoted l n)
 
 -- ---- the text of a key, whatever the kind of its object is
 
@@ -217,48 +168,21 @@ asked-step mode d key i = ap (λ p. (perform d (live d) p).0) (read-only mode (i
 pub text-asked : (s : State) (key : Key) (i : ℕ) (answer : Answer) → IsReplyOfKind s key TextsKind (asked.Get key i) answer → (d : Directory) → StandsFor s.cut.bytes d → answer ≡ text_at d key i
 text-asked s key i answer r d st = r.answers d st ∙ asked-step s.mode d key i ∙ asked-if d key i (object_at d key) refl
 
--- a new text
-pub push-text : (s new : State) (key : Key) (l : Literal) (bs : List ℕ) (answer : Answer) → IsTextElement s key l bs → IsStepOfKind s new key TextsKind (asked.Push key (Quoted bs)) answer → IsStep s new (asked.Push key l) answer
-push-text s new key l bs answer h r = subst (λ m. IsStep s new (asked.Push key m) answer) (sym h.is) (of_kind-steps s new key TextsKind (asked.Push key (Quoted bs)) answer h.of_kind.is r)
+-- a new text, put there under the handle of the vector
+module _ {s : State} {key : Key} {o : Located} (located : IsLocated s key o) {l : Literal} {bs : List ℕ} (h : IsTextElement s key l bs) {new : State} {answer : Answer} where
+  pub push-text : IsStepOfKind s new (ByHandle o.handle) TextsKind (asked.Push (ByHandle o.handle) (Quoted bs)) answer → IsStep s new (asked.Push key l) answer
+  push-text r =
+      subst (λ m. IsStep s new (asked.Push key m) answer) (sym h.is)
+      (of_kind-steps s new key TextsKind (asked.Push key (Quoted bs)) answer h.of_kind.is (step_of_kind-by_key s key o located new TextsKind (asked.Push key (Quoted bs)) answer r))
 
-pub insert-text : (s new : State) (key : Key) (i : ℕ) (l : Literal) (bs : List ℕ) (answer : Answer) → IsTextElement s key l bs → IsStepOfKind s new key TextsKind (asked.Insert key i (Quoted bs)) answer
-    → IsStep s new (asked.Insert key i l) answer
-insert-text s new key i l bs answer h r = subst (λ m. IsStep s new (asked.Insert key i m) answer) (sym h.is) (of_kind-steps s new key TextsKind (asked.Insert key i (Quoted bs)) answer h.of_kind.is r)
+  pub insert-text : (i : ℕ) → IsStepOfKind s new (ByHandle o.handle) TextsKind (asked.Insert (ByHandle o.handle) i (Quoted bs)) answer → IsStep s new (asked.Insert key i l) answer
+  insert-text i r =
+      subst (λ m. IsStep s new (asked.Insert key i m) answer) (sym h.is)
+      (of_kind-steps s new key TextsKind (asked.Insert key i (Quoted bs)) answer h.of_kind.is (step_of_kind-by_key s key o located new TextsKind (asked.Insert key i (Quoted bs)) answer r))
 
 -- a literal that takes no more bytes than a line has
 pub quoted-fits : (l : Literal) (bs : List ℕ) → l ≡ Quoted bs → bytes_taken (l ∷ []) ≤ 4097 → length bs ≤ 4096
 quoted-fits l bs e few = let same = ap (λ m. bytes_taken (m ∷ [])) e in omega arith
-
--- ---- an object of scalars, or of none
-
-pub elements-told : (s : State) (key : Key) (kind : Kind) (k : ScalarKind) → Answers s (λ d. kind_at d key) (Ok kind) → elements_of kind ≡ Ok k → Answers s (λ d. elements_at d key) (Ok k)
-elements-told s key kind k a e = record {
-  answers = λ d st.
-      let f : IsOfKindAt d key kind = kind-told d key kind (a.answers d st) in
-      sym (ap (λ r. elim r as (λ _. Result ScalarKind Refusal) [ None ↦ Err NotFound | Some o ↦ elements_of (kind_of o.value) ]) f.is ∙ ap elements_of f.kind_is ∙ e);
-}
-
--- one scalar, or a vector of scalars
-pub elements-either : (s : State) (key : Key) (kind : Kind) (k : ScalarKind) → IsChangeable s key kind → (kind ≡ Scalar k) ⊎ (kind ≡ Vector k) → Answers s (λ d. elements_at d key) (Ok k)
-elements-either s key kind k h (inl e) = elements-told s key kind k h.is (ap elements_of e)
-elements-either s key kind k h (inr e) = elements-told s key kind k h.is (ap elements_of e)
-
-no_map_set : (d : Directory) (o : Object) (v : Value) (i : ℕ) (l : Literal) (k m : ScalarKind) → kind_of v ≡ MapKind k m → step.set d o v i l ≡ Refuse WrongKind
-no_map_set d o (Numbers j zs) i l k m e = absurd (cc)
-no_map_set d o (Elements j zs t) i l k m e = absurd (cc)
-no_map_set d o (Bytes bs t) i l k m e = absurd (cc)
-no_map_set d o (Pairs j n ps) i l k m e = refl
-no_map_set d o (Texts ps t) i l k m e = absurd (cc)
-
-pub set-map : (s : State) (key : Key) (kind : Kind) (i : ℕ) (l : Literal) (k m : ScalarKind) → IsChangeable s key kind → kind ≡ MapKind k m → IsStep s s (asked.Set key i l) (Refused WrongKind)
-set-map s key kind i l k m h e =
-    refused-steps s (asked.Set key i l) WrongKind h.writing
-    (λ d st.
-    let f : IsOfKindAt d key kind = kind-told d key kind (h.is.answers d st) in
-    ap (perform d (live d)) (with-found d key f.object (λ o. step.set d o o.value i l) f.is ∙ no_map_set d f.object f.object.value i l k m (f.kind_is ∙ e)))
-
-pub set-unchangeable : (s : State) (key : Key) (why : Refusal) (i : ℕ) (l : Literal) → IsUnchangeable s key why → IsStep s s (asked.Set key i l) (Refused why)
-set-unchangeable s key why i l h = h.refuses (asked.Set key i l) refl (λ d n. with-not_found d key (λ o. step.set d o o.value i l) n)
 
 -- no object has the key
 pub get-missing : (s : State) (key : Key) (why : Refusal) → IsMissing s key why → (i : ℕ) (d : Directory) → StandsFor s.cut.bytes d → Refused why ≡ (step.step s.mode d (asked.Get key i)).0

@@ -1,10 +1,11 @@
 -- A line that is no command prints its error, and leaves the segment where it is.
-use Rattle.std.proofs.Common.{◌≡◌, Result, refl, ap, subst, ◌∙◌}
+use Rattle.std.proofs.Common.{◌≡◌, ℕ, List, Result, refl, sym, ap, subst, ◌∙◌}
 use Rattle.seg_types.specs.Commands.{Reading}
 use Rattle.seg_types.specs.declared.refusals.LineError.{LineError}
 use Rattle.seg_types.specs.declared.refusals.LineError.TheVariants.{UnknownCommand, LineTooLong, BadSyntax}
 use Rattle.raw_region.specs.Device.{Took, Writes}
-use Rattle.segment_lang.specs.Seen.{wrong_reading}
+use Rattle.segment_lang.specs.declared.forms.CommandForm.{CommandForm}
+use Rattle.segment_lang.specs.Seen.{reading_by, wrong_reading}
 use Rattle.segment_manager.specs.State.{State}
 use Rattle.segment_scripts.specs.Run.{error_line, respond}
 use Rattle.segment_scripts.specs.Segments.{IsAt, Place, Responds, place_after}
@@ -20,13 +21,14 @@ stays s at UnknownCommand h = record { mode = h.mode; denotes = h.denotes; zeros
 stays s at LineTooLong h = record { mode = h.mode; denotes = h.denotes; zeros = h.zeros }
 stays s at BadSyntax h = record { mode = h.mode; denotes = h.denotes; zeros = h.zeros }
 
-pub responds-wrong : {A E : Type 0} (took took' : Took) (result : Result A E) (asked : Reading) (s : State) (e : LineError) → wrong_reading e ≡ asked → Writes took took' result (error_line e) → Responds s s took took' result asked
-responds-wrong took took' result asked s e is w = record {
+pub responds-wrong : {A E : Type 0} {took took' : Took} {result : Result A E} {asked : Reading} (s : State) (e : LineError) → wrong_reading e ≡ asked → Writes took took' result (error_line e) → Responds s s took took' result asked
+responds-wrong {took = took} {took' = took'} {result = result} {asked = asked} s e is w = record {
   leads = λ at h. subst (λ (r : Reading). IsAt s (place_after at r)) is (stays s at e h);
   writes = writes_owed took took' result (IsAt s) (error_line e) (λ (at : Place). (respond at.mode at.directory asked).0) w
       (λ at h. printed at e ∙ ap (λ (r : Reading). (respond at.mode at.directory r).0) is);
 }
 
--- the same of a reading that is equal
-pub responds-same : {A E : Type 0} (old new : State) (took took' : Took) (result : Result A E) (asked reading : Reading) → asked ≡ reading → Responds old new took took' result asked → Responds old new took took' result reading
-responds-same old new took took' result asked reading e h = subst (Responds old new took took' result) e h
+-- what the first word asks for is what the line asks for
+pub responds-form : {A E : Type 0} {old new : State} {took took' : Took} {result : Result A E} {f g : CommandForm} {asked : Reading} (rest : List ℕ) → f ≡ g → reading_by f rest ≡ asked
+    → Responds old new took took' result (reading_by g rest) → Responds old new took took' result asked
+responds-form {old = old} {new = new} {took = took} {took' = took'} {result = result} rest is e h = subst (Responds old new took took' result) (ap (λ f. reading_by f rest) (sym is) ∙ e) h

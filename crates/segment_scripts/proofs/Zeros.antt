@@ -87,7 +87,7 @@ asked-owed old c asked e at h = ap (λ (n : Mode). answer_text (step n at.direct
 
 -- ---- what is asked is responded to
 
-module _ {A E : Type 0} (took took' : Took) (result : Result A E) (asked : Reading) where
+module _ {A E : Type 0} {took took' : Took} {result : Result A E} {asked : Reading} where
   -- a call that writes what its command answers
   told : (old : State) (c : Command) → Asked c ≡ asked → WritesFor took took' result (StandsFor old.cut.bytes) (λ d. answer_text (step old.mode d c).0)
       → WritesFor took took' result (IsAt old) (λ (at : Place). (respond at.mode at.directory asked).0)
@@ -96,19 +96,19 @@ module _ {A E : Type 0} (took took' : Took) (result : Result A E) (asked : Readi
   pub responds-read : (s : State) (c : Command) → is_changing c ≡ false → Asked c ≡ asked → WritesFor took took' result (StandsFor s.cut.bytes) (λ d. answer_text (step s.mode d c).0) → Responds s s took took' result asked
   responds-read s c r e w = record { leads = answered s c asked r e; writes = told s c e w }
 
-  pub responds-popped : (old new : State) (key : Key) → Asked (Pop key) ≡ asked → Executes old new (Pop key) → WritesFor took took' result (StandsFor old.cut.bytes) (λ d. answer_text (step old.mode d (Pop key)).0)
+  pub responds-popped : {old new : State} (key : Key) → Asked (Pop key) ≡ asked → Executes old new (Pop key) → WritesFor took took' result (StandsFor old.cut.bytes) (λ d. answer_text (step old.mode d (Pop key)).0)
       → Responds old new took took' result asked
-  responds-popped old new key e done w = record { leads = popped old new key asked e done; writes = told old (Pop key) e w }
+  responds-popped {old} {new} key e done w = record { leads = popped old new key asked e done; writes = told old (Pop key) e w }
 
   -- a number
-  pub responds-number : (s : State) (c : Command) (n : ℕ) → is_changing c ≡ false → Asked c ≡ asked → IsReply s c (Number n) → Writes took took' result (answer_text (Number n)) → Responds s s took took' result asked
-  responds-number s c n r e is w =
+  pub responds-number : (s : State) (c : Command) {n : ℕ} → is_changing c ≡ false → Asked c ≡ asked → IsReply s c (Number n) → Writes took took' result (answer_text (Number n)) → Responds s s took took' result asked
+  responds-number s c {n} r e is w =
       responds-read s c r e (writes_owed took took' result (StandsFor s.cut.bytes) (answer_text (Number n)) (λ d. answer_text (step s.mode d c).0) w (λ d st. ap answer_text (is.answers d st)))
 
   -- a reply, which is written of what is there then
-  pub responds-replied : (old new : State) (c : Command) (reply : Reply) → Asked c ≡ asked → Replies old new c reply → WritesFor took took' result (StandsFor new.cut.bytes) (λ d. answer_text (answer_seen d reply))
+  pub responds-replied : {old new : State} {c : Command} {reply : Reply} → Asked c ≡ asked → Replies old new c reply → WritesFor took took' result (StandsFor new.cut.bytes) (λ d. answer_text (answer_seen d reply))
       → Responds old new took took' result asked
-  responds-replied old new c reply e done w = record {
+  responds-replied {old} {new} {c} {reply} e done w = record {
     leads = executed old new c reply asked e done;
     writes = told old c e (record {
       writes = λ d st. subst (Writes took took' result) (ap answer_text (done.answers d st)) (w.writes (step old.mode d c).1 (done.denotes d st));

@@ -1,26 +1,18 @@
 -- A text of numbered parts, one behind another.
-use Rattle.std.specs.Prelude.{ℕ, zero, suc, List, [], ◌∷◌, ◌++◌, Option, Some, None, slice_get}
+use Rattle.std.specs.Prelude.{ℕ, List, [], ◌∷◌, slice_get}
 use Rattle.segment_lang.specs.Texts.{kind_text, number_text, quoted_text, value_text}
 use Rattle.segment_manager.specs.declared.telling.Instance.{Instance}
 use Rattle.segment_manager.specs.Answers.{Answer, Element, TextElement}
 use Rattle.segment_manager.specs.Directory.{Object}
 use Rattle.segment_scripts.specs.Answer.{handle_text, line}
-
--- the first n of them
-abbrev pub parts_until : (ℕ → List ℕ) → ℕ → List ℕ
-parts_until part zero = []
-parts_until part (suc n) = parts_until part n ++ part n
+-- the first n of them, and one of what there may be
+pub use Rattle.segment_manager.proofs.PartLaws.{part_of, parts_until}
 
 -- an element behind others, and nothing where there is none
 abbrev pub element_part : Answer → List ℕ
 element_part (Element k z) = 0x20 ∷ value_text k z
 element_part (TextElement bs) = 0x20 ∷ quoted_text bs
 element_part answer = []
-
--- a text of what there is, and nothing where there is none
-abbrev pub part_of : {X : Type 0} → (X → List ℕ) → Option X → List ℕ
-part_of text None = []
-part_of text (Some x) = text x
 
 -- the line of an object at a place in a list
 abbrev pub line_part : (Object → List (List ℕ)) → List Object → ℕ → List ℕ

@@ -8,7 +8,7 @@ use Rattle.seg_types.specs.Values.{kind_of_scalar, value_of_scalar}
 use Rattle.segment_lang.specs.Arguments.{scalars_in}
 use Rattle.segment_manager.specs.NewObjects.{IsOfItsKind}
 use Rattle.segment_manager.specs.Items.{TakesItems}
-use Rattle.segment_scripts.proofs.ArrayCalls.{array-refused, array-step, taken-kind}
+use Rattle.segment_scripts.proofs.ArrayCalls.{all-refused, all-step, taken-kind}
 use Rattle.segment_scripts.proofs.NewKinds.{array_kind}
 use Rattle.segment_scripts.proofs.constructing.construct_it.Goals as goal
 
@@ -22,14 +22,13 @@ construct_values-requires-clause-of_kind c =
 
 pub returns-clause-step : goal.returns-clause-step
 returns-clause-step c =
-    array-step c.args.segment.now c.construct_values.new.self (new_key_seen c.args.key.now) c.args.values c.construct_values.new.items c.args.count
-    (subst (λ k. AllByRecursion (λ z. IsTrue (is_value k z)) c.args.values.numbers) c.kind-kind.ensures.kind c.kind-kind.ensures.values) c.requires c.construct_values.result
+    all-step
     (subst (λ k. TakesItems (YieldsFirst scalars_in) value_of_scalar c.args.segment.now c.construct_values.new.self (new_key_seen c.args.key.now) k c.args.count c.args.values c.construct_values.new.items c.construct_values.result)
-    c.kind-kind.ensures.kind c.construct_values.ensures)
+    c.kind-kind.ensures.kind c.construct_values.ensures) c.requires
+    (subst (λ k. AllByRecursion (λ z. IsTrue (is_value k z)) c.args.values.numbers) c.kind-kind.ensures.kind c.kind-kind.ensures.values)
 
 pub returns-clause-refused : goal.returns-clause-refused
 returns-clause-refused c =
-    array-refused c.args.segment.now c.construct_values.new.self (new_key_seen c.args.key.now) c.args.values c.construct_values.new.items c.args.count
-    (subst (λ k. AllByRecursion (λ z. IsTrue (is_value k z)) c.args.values.numbers) c.kind-kind.ensures.kind c.kind-kind.ensures.values) c.requires c.construct_values.result
+    all-refused
     (subst (λ k. TakesItems (YieldsFirst scalars_in) value_of_scalar c.args.segment.now c.construct_values.new.self (new_key_seen c.args.key.now) k c.args.count c.args.values c.construct_values.new.items c.construct_values.result)
-    c.kind-kind.ensures.kind c.construct_values.ensures)
+    c.kind-kind.ensures.kind c.construct_values.ensures) c.requires

@@ -1,30 +1,15 @@
 -- The kind of the object says which keys it has.
-use Rattle.std.proofs.Common.{subst, Ok}
-use Rattle.seg_types.specs.declared.kinds.Kind.{Kind}
-use Rattle.seg_types.specs.declared.kinds.Kind.TheVariants.{Map}
-use Rattle.seg_types.specs.Commands.{Lookup}
-use Rattle.seg_types.specs.Keys.{key_seen}
-use Rattle.segment_lang.specs.Seen.{literal_of}
-use Rattle.segment_manager.specs.Calls.{kind_at}
-use Rattle.segment_manager.specs.Maps.{any_value_answer}
-use Rattle.segment_manager.specs.State.{Answers}
-use Rattle.segment_manager.proofs.Laws.{kind-by_key, reply_of_kind-by_key}
-use Rattle.segment_scripts.proofs.PairCalls.{lookup-no_map, lookup-no_value, lookup-nowhere, looks-up-key}
+use Rattle.segment_manager.proofs.CommandLaws.{lookup-no_map, lookup-no_value, lookup-nowhere, looks-up-key}
 use Rattle.segment_scripts.proofs.pairs.lookup.Goals as goal
 
 pub returns-in-Err : goal.returns-in-Err
-returns-in-Err c = lookup-nowhere c.args.segment.now (key_seen c.args.key.now) (literal_of c.args.at) c.in-Err.why c.in-Err.ensures
+returns-in-Err c = lookup-nowhere _ c.in-Err.ensures
 
 pub returns-in-Err-value_of : goal.returns-in-Err-value_of
-returns-in-Err-value_of c =
-    lookup-no_value c.args.segment.now (key_seen c.args.key.now) c.in-Map.keys c.in-Map.values
-    (subst (λ (k : Kind). Answers c.args.segment.now (λ d. kind_at d (key_seen c.args.key.now)) (Ok k)) c.in-Map.is (kind-by_key c.args.segment.now (key_seen c.args.key.now) c.in-Ok.object c.in-Ok.ensures)) (literal_of c.args.at) c.in-Err-value_of.why c.in-Err-value_of.ensures
+returns-in-Err-value_of c = lookup-no_value c.in-Ok.ensures c.in-Map.is _ c.in-Err-value_of.ensures
 
 pub returns-in-Ok-value_of : goal.returns-in-Ok-value_of
-returns-in-Ok-value_of c =
-    looks-up-key c.args.segment.now (key_seen c.args.key.now) c.in-Map.keys c.in-Map.values (literal_of c.args.at) c.in-Ok-value_of.wanted (any_value_answer c.map_get_any.result)
-    (subst (λ (k : Kind). Answers c.args.segment.now (λ d. kind_at d (key_seen c.args.key.now)) (Ok k)) c.in-Map.is (kind-by_key c.args.segment.now (key_seen c.args.key.now) c.in-Ok.object c.in-Ok.ensures)) c.in-Ok-value_of.ensures
-    (reply_of_kind-by_key c.args.segment.now (key_seen c.args.key.now) c.in-Ok.object c.in-Ok.ensures (Map _ c.in-Map.values) (Lookup (key_seen c.args.key.now) _) (any_value_answer c.map_get_any.result) c.map_get_any.ensures)
+returns-in-Ok-value_of c = looks-up-key c.in-Ok.ensures c.in-Map.is _ c.in-Ok-value_of.wanted c.in-Ok-value_of.ensures c.map_get_any.ensures
 
 pub returns-in_default : goal.returns-in_default
-returns-in_default c = lookup-no_map c.args.segment.now (key_seen c.args.key.now) c.in-Ok.object.kind (kind-by_key c.args.segment.now (key_seen c.args.key.now) c.in-Ok.object c.in-Ok.ensures) c.in_default.not-Map (literal_of c.args.at)
+returns-in_default c = lookup-no_map c.in-Ok.ensures c.in_default.not-Map _

@@ -1,32 +1,15 @@
 -- The kind of the object says which keys it has.
-use Rattle.std.proofs.Common.{subst, Ok}
-use Rattle.seg_types.specs.declared.kinds.Kind.{Kind}
-use Rattle.seg_types.specs.declared.kinds.Kind.TheVariants.{Map}
-use Rattle.seg_types.specs.Commands.{Remove}
-use Rattle.seg_types.specs.Keys.{key_seen}
-use Rattle.segment_lang.specs.Seen.{literal_of}
-use Rattle.segment_manager.specs.Calls.{kind_at}
-use Rattle.segment_manager.specs.State.{Answers, truth_answer}
-use Rattle.segment_manager.proofs.Laws.{kind-by_key, step_of_kind-by_key}
-use Rattle.segment_scripts.proofs.PairCalls.{remove-no_map, remove-no_value, remove-unchangeable, removes-key}
+use Rattle.segment_manager.proofs.CommandLaws.{remove-no_map, remove-no_value, remove-unchangeable, removes-key}
 use Rattle.segment_scripts.proofs.pairs.remove.Goals as goal
 
 pub returns-in-Err-clause-step : goal.returns-in-Err-clause-step
-returns-in-Err-clause-step c = remove-unchangeable c.args.segment.now (key_seen c.args.key.now) (literal_of c.args.at) c.in-Err.why c.in-Err.ensures
+returns-in-Err-clause-step c = remove-unchangeable c.in-Err.ensures _
 
 pub returns-in-Err-value_of-clause-step : goal.returns-in-Err-value_of-clause-step
-returns-in-Err-value_of-clause-step c =
-    remove-no_value c.args.segment.now (key_seen c.args.key.now) c.in-Map.keys c.in-Map.values
-    (subst (λ (k : Kind). Answers c.args.segment.now (λ d. kind_at d (key_seen c.args.key.now)) (Ok k)) c.in-Map.is (kind-by_key c.args.segment.now (key_seen c.args.key.now) c.in-Ok.object c.in-Ok.ensures.located))
-    (literal_of c.args.at) c.in-Err-value_of.why c.in-Ok.ensures.writing c.in-Err-value_of.ensures
+returns-in-Err-value_of-clause-step c = remove-no_value c.in-Ok.ensures c.in-Map.is _ c.in-Err-value_of.ensures
 
 pub returns-in-Ok-value_of-clause-step : goal.returns-in-Ok-value_of-clause-step
-returns-in-Ok-value_of-clause-step c =
-    removes-key c.args.segment.now c.map_erase_any.new.self (key_seen c.args.key.now) c.in-Map.keys c.in-Map.values (literal_of c.args.at) c.in-Ok-value_of.gone (truth_answer c.map_erase_any.result)
-    (subst (λ (k : Kind). Answers c.args.segment.now (λ d. kind_at d (key_seen c.args.key.now)) (Ok k)) c.in-Map.is (kind-by_key c.args.segment.now (key_seen c.args.key.now) c.in-Ok.object c.in-Ok.ensures.located))
-    c.in-Ok-value_of.ensures
-    (step_of_kind-by_key c.args.segment.now (key_seen c.args.key.now) c.in-Ok.object c.in-Ok.ensures.located c.map_erase_any.new.self (Map _ c.in-Map.values) (Remove (key_seen c.args.key.now) _) (truth_answer c.map_erase_any.result) c.map_erase_any.ensures.step)
+returns-in-Ok-value_of-clause-step c = removes-key c.in-Ok.ensures c.in-Map.is _ c.in-Ok-value_of.gone c.in-Ok-value_of.ensures c.map_erase_any.ensures.step
 
 pub returns-in_default-clause-step : goal.returns-in_default-clause-step
-returns-in_default-clause-step c =
-    remove-no_map c.args.segment.now (key_seen c.args.key.now) c.in-Ok.object.kind (kind-by_key c.args.segment.now (key_seen c.args.key.now) c.in-Ok.object c.in-Ok.ensures.located) c.in_default.not-Map c.in-Ok.ensures.writing (literal_of c.args.at)
+returns-in_default-clause-step c = remove-no_map c.in-Ok.ensures c.in_default.not-Map _

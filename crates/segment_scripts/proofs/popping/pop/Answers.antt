@@ -1,5 +1,5 @@
 use Rattle.std.proofs.Common.{ap, refl}
-use Rattle.seg_types.specs.declared.kinds.Kind.TheVariants.{Texts, Vector}
+use Rattle.seg_types.specs.declared.kinds.Kind.TheVariants.{Vector}
 use Rattle.seg_types.specs.declared.refusals.Refusal.TheVariants.{WrongKind}
 use Rattle.seg_types.specs.Commands.{Pop}
 use Rattle.seg_types.specs.Keys.{key_seen}
@@ -9,9 +9,9 @@ use Rattle.segment_manager.specs.Directory.{Directory}
 use Rattle.segment_manager.specs.State.{StandsFor, scalar_answer}
 use Rattle.segment_manager.specs.Step.{step}
 use Rattle.segment_scripts.specs.Answer.{answer_text}
-use Rattle.segment_manager.proofs.Laws.{kind-by_key, located-steps, step-same}
+use Rattle.segment_manager.proofs.Laws.{located-steps, step-same}
 use Rattle.segment_scripts.proofs.Answering.{keeps-refused, kept-refused}
-use Rattle.segment_scripts.proofs.ElementCalls.{handle-to-change, pop-no_vector, pop-unchangeable}
+use Rattle.segment_manager.proofs.CommandLaws.{handle-to-change, pop-no_vector, pop-unchangeable}
 use Rattle.segment_scripts.proofs.Owed.{writes_owed, writes_same}
 use Rattle.segment_scripts.proofs.TextElements.{executes-by_key, executes-step, step-writes}
 use Rattle.segment_scripts.proofs.popping.pop.Goals as goal
@@ -20,14 +20,14 @@ pub returns-in-Err-clause-executed : goal.returns-in-Err-clause-executed
 returns-in-Err-clause-executed g c =
     let s = c.args.segment.now in
     let key = key_seen c.args.key.now in
-    executes-step s s (Pop key) (Refused c.in-Err.why) (pop-unchangeable s key c.in-Err.why c.in-Err.ensures) (λ _. refl)
+    executes-step s s (Pop key) (Refused c.in-Err.why) (pop-unchangeable c.in-Err.ensures) (λ _. refl)
 
 pub returns-in-Err-clause-writes : goal.returns-in-Err-clause-writes
 returns-in-Err-clause-writes g c =
     let s = c.args.segment.now in
     let key = key_seen c.args.key.now in
     writes_owed (g.W.Sink.history c.args.out.now) (g.W.Sink.history c.put_refusal_line.new.out) c.put_refusal_line.result (StandsFor s.cut.bytes) (answer_text (Refused c.in-Err.why))
-    (λ (d : Directory). answer_text (step s.mode d (Pop key)).0) c.put_refusal_line.ensures (λ d st. ap answer_text ((pop-unchangeable s key c.in-Err.why c.in-Err.ensures).answers d st))
+    (λ (d : Directory). answer_text (step s.mode d (Pop key)).0) c.put_refusal_line.ensures (λ d st. ap answer_text ((pop-unchangeable c.in-Err.ensures).answers d st))
 
 pub returns-in-Vector-clause-executed : goal.returns-in-Vector-clause-executed
 returns-in-Vector-clause-executed g c =
@@ -48,7 +48,7 @@ returns-in-Vector-clause-writes g c =
     (located-steps s key c.in-Ok.object c.in-Ok.ensures.located new (Vector c.in-Vector.kind) (Pop key) (scalar_answer r) c.in-Vector.is c.pop_element.ensures.step) c.element-answer.ensures c.put_answer.ensures
 
 pub pop_text-requires-clause-of_kind : goal.pop_text-requires-clause-of_kind
-pop_text-requires-clause-of_kind g c = handle-to-change c.args.segment.now (key_seen c.args.key.now) c.in-Ok.object c.in-Ok.ensures Texts c.in-Texts.is
+pop_text-requires-clause-of_kind g c = handle-to-change c.in-Ok.ensures c.in-Texts.is
 
 pub returns-in-Texts-clause-executed : goal.returns-in-Texts-clause-executed
 returns-in-Texts-clause-executed g c = executes-by_key c.args.segment.now (key_seen c.args.key.now) c.in-Ok.object c.in-Ok.ensures.located c.pop_text.new.segment (Pop (key_seen c.args.key.now)) c.pop_text.ensures.executed
@@ -65,7 +65,7 @@ pub returns-in_default-clause-executed : goal.returns-in_default-clause-executed
 returns-in_default-clause-executed g c =
     let s = c.args.segment.now in
     let key = key_seen c.args.key.now in
-    executes-step s s (Pop key) (Refused WrongKind) (pop-no_vector s key c.in-Ok.object.kind (kind-by_key s key c.in-Ok.object c.in-Ok.ensures.located) c.in-Ok.ensures.writing c.in_default.not-Vector c.in_default.not-Texts) (λ _. refl)
+    executes-step s s (Pop key) (Refused WrongKind) (pop-no_vector c.in-Ok.ensures c.in_default.not-Vector c.in_default.not-Texts) (λ _. refl)
 
 pub returns-in_default-clause-writes : goal.returns-in_default-clause-writes
 returns-in_default-clause-writes g c =
@@ -74,4 +74,4 @@ returns-in_default-clause-writes g c =
     let last = c.put_refusal_line-in_default in
     writes_owed (g.W.Sink.history c.args.out.now) (g.W.Sink.history last.new.out) last.result (StandsFor s.cut.bytes) (answer_text (Refused WrongKind))
     (λ (d : Directory). answer_text (step s.mode d (Pop key)).0) last.ensures
-    (λ d st. ap answer_text ((pop-no_vector s key c.in-Ok.object.kind (kind-by_key s key c.in-Ok.object c.in-Ok.ensures.located) c.in-Ok.ensures.writing c.in_default.not-Vector c.in_default.not-Texts).answers d st))
+    (λ d st. ap answer_text ((pop-no_vector c.in-Ok.ensures c.in_default.not-Vector c.in_default.not-Texts).answers d st))

@@ -3,7 +3,7 @@ use Rattle.seg_types.specs.declared.refusals.LineError.TheVariants.{BadSyntax}
 use Rattle.seg_types.specs.Commands.{Asked, Get}
 use Rattle.seg_types.specs.Keys.{key_seen}
 use Rattle.segment_lang.specs.Reading.{as_reading}
-use Rattle.segment_lang.specs.Seen.{command_of, reading_by}
+use Rattle.segment_lang.specs.Seen.{command_of}
 use Rattle.segment_scripts.proofs.WrongLines.{responds-wrong}
 use Rattle.segment_scripts.proofs.Zeros.{no_element, responds-popped, responds-read, responds-replied}
 use Rattle.segment_scripts.proofs.segments.answer_form.Goals as goal
@@ -16,20 +16,18 @@ reply-answer-requires g c = record {
 
 pub returns-in-Get : goal.returns-in-Get
 returns-in-Get g c =
-    responds-read (g.W.Sink.history c.args.out.now) (g.W.Sink.history c.put_got.new.out) c.put_got.result (reading_by c.args.form c.args.rest.now) c.args.segment.now (Get (key_seen c.in-Get.key) c.in-Get.index) refl
+    responds-read c.args.segment.now (Get (key_seen c.in-Get.key) c.in-Get.index) refl
     (ap Asked (sym (ap command_of c.in-Get.is)) ∙ ap as_reading c.in-Some.ensures) c.put_got.ensures
 
 pub returns-in-Pop : goal.returns-in-Pop
 returns-in-Pop g c =
-    responds-popped (g.W.Sink.history c.args.out.now) (g.W.Sink.history c.pop.new.out) c.pop.result (reading_by c.args.form c.args.rest.now) c.args.segment.now c.pop.new.segment (key_seen c.in-Pop.key)
+    responds-popped (key_seen c.in-Pop.key)
     (ap Asked (sym (ap command_of c.in-Pop.is)) ∙ ap as_reading c.in-Some.ensures) c.pop.ensures.executed c.pop.ensures.writes
 
 pub returns-in_default : goal.returns-in_default
 returns-in_default g c =
-    responds-replied (g.W.Sink.history c.args.out.now) (g.W.Sink.history c.put_answer.new.out) c.put_answer.result (reading_by c.args.form c.args.rest.now) c.args.segment.now c.reply-answer.new.segment (command_of c.in-Some.command) c.reply-answer.result
-    (ap as_reading c.in-Some.ensures) c.reply-answer.ensures c.put_answer.ensures
+    responds-replied (ap as_reading c.in-Some.ensures) c.reply-answer.ensures c.put_answer.ensures
 
 pub returns-in-None : goal.returns-in-None
 returns-in-None g c =
-    responds-wrong (g.W.Sink.history c.args.out.now) (g.W.Sink.history c.put_wrong.new.out) c.put_wrong.result (reading_by c.args.form c.args.rest.now) c.args.segment.now BadSyntax
-    (ap as_reading c.in-None.ensures) c.put_wrong.ensures
+    responds-wrong c.args.segment.now BadSyntax (ap as_reading c.in-None.ensures) c.put_wrong.ensures

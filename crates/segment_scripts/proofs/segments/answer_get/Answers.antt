@@ -3,8 +3,6 @@ use Rattle.seg_types.specs.declared.refusals.LineError.TheVariants.{BadSyntax}
 use Rattle.seg_types.specs.Commands.{Get}
 use Rattle.seg_types.specs.Keys.{key_seen}
 use Rattle.segment_lang.specs.Reading.{as_reading}
-use Rattle.segment_lang.specs.Seen.{reading_by}
-use Rattle.segment_lang.specs.declared.forms.CommandForm.TheVariants as form
 use Rattle.segment_lang.proofs.Laws.{of_key_number}
 use Rattle.segment_scripts.proofs.WrongLines.{responds-wrong}
 use Rattle.segment_scripts.proofs.Zeros.{responds-read}
@@ -12,10 +10,9 @@ use Rattle.segment_scripts.proofs.segments.answer_get.Goals as goal
 
 pub returns-in-Some : goal.returns-in-Some
 returns-in-Some g c =
-    responds-read (g.W.Sink.history c.args.out.now) (g.W.Sink.history c.put_got.new.out) c.put_got.result (reading_by form.Get c.args.rest.now) c.args.segment.now (Get (key_seen c.in-Some.key) c.in-Some.index) refl
+    responds-read c.args.segment.now (Get (key_seen c.in-Some.key) c.in-Some.index) refl
     (ap as_reading (c.in-Some.ensures Get ∙ sym (of_key_number Get c.args.rest.now))) c.put_got.ensures
 
 pub returns-in-None : goal.returns-in-None
 returns-in-None g c =
-    responds-wrong (g.W.Sink.history c.args.out.now) (g.W.Sink.history c.put_wrong.new.out) c.put_wrong.result (reading_by form.Get c.args.rest.now) c.args.segment.now BadSyntax
-    (ap as_reading (c.in-None.ensures Get ∙ sym (of_key_number Get c.args.rest.now))) c.put_wrong.ensures
+    responds-wrong c.args.segment.now BadSyntax (ap as_reading (c.in-None.ensures Get ∙ sym (of_key_number Get c.args.rest.now))) c.put_wrong.ensures

@@ -1,10 +1,6 @@
 use Rattle.std.proofs.Common.{◌∙◌, ap, refl, sym}
 use Rattle.seg_types.specs.declared.refusals.LineError.TheVariants.{BadSyntax}
-use Rattle.seg_types.specs.Commands.{Put}
-use Rattle.seg_types.specs.Keys.{key_seen}
 use Rattle.segment_lang.specs.Reading.{as_reading}
-use Rattle.segment_lang.specs.Seen.{literal_of, reading_by}
-use Rattle.segment_lang.specs.declared.forms.CommandForm.TheVariants as form
 use Rattle.segment_lang.proofs.Laws.{of_putting}
 use Rattle.segment_manager.specs.Answers.{Truth}
 use Rattle.segment_scripts.proofs.Answering.{keeps-refused, replies-call}
@@ -14,13 +10,10 @@ use Rattle.segment_scripts.proofs.segments.answer_put.Goals as goal
 
 pub returns-in-Some : goal.returns-in-Some
 returns-in-Some g c =
-    let asked = Put (key_seen c.in-Some.key) (literal_of c.in-Some.at) (literal_of c.in-Some.value) in
-    responds-replied (g.W.Sink.history c.args.out.now) (g.W.Sink.history c.put_answer.new.out) c.put_answer.result (reading_by form.Put c.args.rest.now) c.args.segment.now c.put.new.segment asked c.truth-answer.result
-    (ap as_reading (c.in-Some.ensures ∙ sym (of_putting c.args.rest.now)))
-    (replies-call Truth (λ _. refl) c.args.segment.now c.put.new.segment asked c.put.result c.truth-answer.result refl refl c.truth-answer.ensures c.put.ensures.step (keeps-refused c.args.segment.now c.put.new.segment c.put.result c.put.ensures.refused))
+    responds-replied (ap as_reading (c.in-Some.ensures ∙ sym (of_putting c.args.rest.now)))
+    (replies-call Truth (λ _. refl) c.put.result refl refl c.truth-answer.ensures c.put.ensures.step (keeps-refused c.args.segment.now c.put.new.segment c.put.result c.put.ensures.refused))
     c.put_answer.ensures
 
 pub returns-in-None : goal.returns-in-None
 returns-in-None g c =
-    responds-wrong (g.W.Sink.history c.args.out.now) (g.W.Sink.history c.put_wrong.new.out) c.put_wrong.result (reading_by form.Put c.args.rest.now) c.args.segment.now BadSyntax
-    (ap as_reading (c.in-None.ensures ∙ sym (of_putting c.args.rest.now))) c.put_wrong.ensures
+    responds-wrong c.args.segment.now BadSyntax (ap as_reading (c.in-None.ensures ∙ sym (of_putting c.args.rest.now))) c.put_wrong.ensures

@@ -2,8 +2,6 @@ use Rattle.std.proofs.Common.{◌∙◌, Bool, None, Some, ap, cond, refl, sym}
 use Rattle.seg_types.specs.declared.refusals.LineError.TheVariants.{BadSyntax}
 use Rattle.seg_types.specs.Commands.{Size}
 use Rattle.segment_lang.specs.Reading.{as_reading}
-use Rattle.segment_lang.specs.Seen.{reading_by}
-use Rattle.segment_lang.specs.declared.forms.CommandForm.TheVariants as form
 use Rattle.segment_lang.proofs.Laws.{alone_at_end}
 use Rattle.segment_scripts.proofs.WrongLines.{responds-wrong}
 use Rattle.segment_scripts.proofs.Zeros.{responds-number}
@@ -11,10 +9,9 @@ use Rattle.segment_scripts.proofs.segments.answer_size.Goals as goal
 
 pub returns-then-not-is_alone : goal.returns-then-not-is_alone
 returns-then-not-is_alone g c =
-    responds-wrong (g.W.Sink.history c.args.out.now) (g.W.Sink.history c.put_wrong.new.out) c.put_wrong.result (reading_by form.Size c.args.rest.now) c.args.segment.now BadSyntax
-    (sym (ap as_reading (alone_at_end Size c.args.rest.now ∙ ap (λ (b : Bool). cond b (Some Size) None) (sym c.is_alone.ensures ∙ c.if-not-is_alone.true)))) c.put_wrong.ensures
+    responds-wrong c.args.segment.now BadSyntax (sym (ap as_reading (alone_at_end Size c.args.rest.now ∙ ap (λ (b : Bool). cond b (Some Size) None) (sym c.is_alone.ensures ∙ c.if-not-is_alone.true)))) c.put_wrong.ensures
 
 pub returns : goal.returns
 returns g c =
-    responds-number (g.W.Sink.history c.args.out.now) (g.W.Sink.history c.put_number_line.new.out) c.put_number_line.result (reading_by form.Size c.args.rest.now) c.args.segment.now Size c.size.result refl
+    responds-number c.args.segment.now Size refl
     (sym (ap as_reading (alone_at_end Size c.args.rest.now ∙ ap (λ (b : Bool). cond b (Some Size) None) (sym c.is_alone.ensures ∙ c.if-not-is_alone.false)))) c.size.ensures c.put_number_line.ensures

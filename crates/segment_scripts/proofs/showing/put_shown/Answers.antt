@@ -7,8 +7,9 @@ use Rattle.segment_manager.specs.State.{StandsFor}
 use Rattle.segment_scripts.specs.Answer.{answer_text}
 use Rattle.segment_scripts.specs.Replies.{shown_at}
 use Rattle.segment_scripts.proofs.Owed.{writes_owed, writes_same}
-use Rattle.segment_scripts.proofs.PairParts.{map-at, map-said}
-use Rattle.segment_scripts.proofs.ShownObjects.{scalars-at, scalars-said, shown-missing, string-said, texts-said, vector-said}
+use Rattle.segment_manager.proofs.CommandLaws.{says-kind}
+use Rattle.segment_manager.proofs.Laws.{located-here}
+use Rattle.segment_scripts.proofs.ShownObjects.{map-said, scalars-at, scalars-said, shown-missing, string-said, texts-said, vector-said}
 use Rattle.segment_scripts.proofs.showing.put_shown.Goals as goal
 
 pub put_value_line-requires-clause-elements : goal.put_value_line-requires-clause-elements
@@ -46,14 +47,14 @@ returns-in-Texts g c =
     (texts-said s (key_seen c.args.key.now) c.in-Ok.object c.in-Ok.ensures c.length_of-in-Texts.result c.in-Texts.is c.length_of-in-Texts.ensures)
 
 pub put_map_line-requires-clause-map : goal.put_map_line-requires-clause-map
-put_map_line-requires-clause-map g c = map-at c.args.segment.now (key_seen c.args.key.now) c.in-Ok.object c.in-Ok.ensures c.in-Map.keys c.in-Map.values c.in-Map.is
+put_map_line-requires-clause-map g c = says-kind (located-here c.args.segment.now (key_seen c.args.key.now) c.in-Ok.object c.in-Ok.ensures) c.in-Map.is
 
 pub returns-in-Map : goal.returns-in-Map
 returns-in-Map g c =
     let s = c.args.segment.now in
     writes_same (g.W.Sink.history c.args.out.now) (g.W.Sink.history c.put_map_line.new.out) c.put_map_line.result (StandsFor s.cut.bytes)
     _ (λ (d : Directory). answer_text (shown_at d (key_seen c.args.key.now))) c.put_map_line.ensures
-    (map-said s (key_seen c.args.key.now) c.in-Ok.object c.in-Ok.ensures c.in-Map.keys c.in-Map.values c.in-Map.is c.length_of-count.result c.length_of-count.ensures)
+    (map-said s (key_seen c.args.key.now) c.in-Ok.object c.in-Ok.ensures c.in-Map.keys c.in-Map.values c.length_of-count.result c.in-Map.is c.length_of-count.ensures)
 
 pub returns-in-Err : goal.returns-in-Err
 returns-in-Err g c =

@@ -1,19 +1,19 @@
 -- So many pairs have gone out, and the next one is that at the next place.
-use Rattle.std.proofs.Common.{◌≡◌, ◌<◌, ◌++◌, slice_get}
+use Rattle.std.proofs.Common.{◌≡◌, ◌<◌, slice_get}
 use Rattle.std.specs.Prelude.{option_map}
 use Rattle.seg_types.specs.Names.{ByHandle}
 use Rattle.seg_map.specs.Places.{item_of}
 use Rattle.segment_manager.specs.Directory.{Directory}
 use Rattle.segment_manager.specs.State.{StandsFor}
 use Rattle.segment_manager.specs.Walks.{item_of_kinds, item_seen, pairs_at}
+use Rattle.segment_manager.proofs.PartLaws.{well}
 use Rattle.segment_scripts.specs.ShownPairs.{pairs_text}
+use Rattle.segment_scripts.specs.Writing.{WritesFor}
 use Rattle.segment_scripts.proofs.showing_maps.put_pairs.Given as goal
 
 abbrev pub invariant-pairs : goal.invariant-pairs
 invariant-pairs g l = record {
-  told : (d : Directory) → StandsFor l.segment.cut.bytes d
-      → (g.W.Sink.history l.out).bytes ≡ (g.W.Sink.history l.initial.out).bytes ++ pairs_text l.fn.keys l.values d (ByHandle l.object.handle) l.index;
+  told : WritesFor (g.W.Sink.history l.initial.out) (g.W.Sink.history l.out) well (StandsFor l.segment.cut.bytes) (λ d. pairs_text l.fn.keys l.values d (ByHandle l.object.handle) l.index);
   next : (d : Directory) → StandsFor l.segment.cut.bytes d → l.index < l.fn.count
       → option_map item_seen l.next ≡ option_map (item_of_kinds l.fn.keys l.values) (option_map item_of (slice_get (pairs_at d (ByHandle l.object.handle)) l.index));
-  failures : (g.W.Sink.history l.out).failures ≡ (g.W.Sink.history l.initial.out).failures;
 }

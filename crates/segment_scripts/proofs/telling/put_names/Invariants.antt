@@ -1,14 +1,14 @@
-use Rattle.std.proofs.Common.{◌≡◌, ◌∷◌, ◌++◌}
+use Rattle.std.proofs.Common.{◌∷◌}
 use Rattle.segment_lang.specs.Texts.{name_text}
-use Rattle.segment_manager.specs.Directory.{Directory, Object, named_objects}
+use Rattle.segment_manager.specs.Directory.{Object, named_objects}
 use Rattle.segment_manager.specs.State.{StandsFor}
+use Rattle.segment_manager.proofs.PartLaws.{well}
 use Rattle.segment_scripts.specs.Answer.{entry_words}
 use Rattle.segment_scripts.specs.Parts.{line_part, parts_until}
+use Rattle.segment_scripts.specs.Writing.{WritesFor}
 use Rattle.segment_scripts.proofs.telling.put_names.Given as goal
 
 abbrev pub invariant-names : goal.invariant-names
-invariant-names g l = record {
-  told : (d : Directory) → StandsFor l.segment.cut.bytes d
-      → (g.W.Sink.history l.out).bytes ≡ (g.W.Sink.history l.initial.out).bytes ++ parts_until (line_part (λ (o : Object). name_text o.name ∷ entry_words o) (named_objects d)) l.index;
-  failures : (g.W.Sink.history l.out).failures ≡ (g.W.Sink.history l.initial.out).failures;
-}
+invariant-names g l =
+    WritesFor (g.W.Sink.history l.initial.out) (g.W.Sink.history l.out) well (StandsFor l.segment.cut.bytes)
+    (λ d. parts_until (line_part (λ (o : Object). name_text o.name ∷ entry_words o) (named_objects d)) l.index)

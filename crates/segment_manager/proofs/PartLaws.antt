@@ -1,5 +1,5 @@
--- Texts of numbered parts: what has gone out after so many of them.
-use Rattle.std.proofs.Common.{◌≡◌, ℕ, zero, suc, ◌+◌, ◌<◌, ◌≤◌, Bool, true, false, List, [], ◌∷◌, ◌++◌, length, take, nat_lt, Option, Some, None, Result, Err, slice_get, refl, sym, ap, subst, ◌∙◌, append_assoc, arith}
+-- Texts of numbered parts, for the crates that write what a segment holds: the text of so many parts, and what has gone out of it.
+use Rattle.std.proofs.Common.{◌≡◌, ℕ, zero, suc, ◌+◌, ◌<◌, ◌≤◌, Bool, true, false, List, [], ◌∷◌, ◌++◌, length, take, nat_lt, Option, Some, None, Result, Ok, Err, slice_get, refl, sym, ap, subst, ◌∙◌, append_assoc, arith}
 use Rattle.std.specs.List.{flat_map}
 use Rattle.std.specs.Result.{IsErr}
 use Rattle.std.proofs.lemmas.Bool.{ltb-true, ltb-false}
@@ -7,10 +7,19 @@ use Rattle.std.proofs.lemmas.Grind.{flat_map-append}
 use Rattle.std.proofs.lemmas.List.{append-nil, take_all, take_more}
 use Rattle.std.proofs.lemmas.Option.{get_or_from_slice_get, slice_get_within}
 use Rattle.raw_region.specs.Device.{Took, Writes}
-use Rattle.raw_region.proofs.Laws.{writes-behind, writes-cut}
-use Rattle.segment_scripts.specs.Parts.{part_of, parts_until}
+use Rattle.raw_region.proofs.Laws.{writes-cut, writes-then}
 
 -- ---- the text
+
+-- the first n parts
+abbrev pub parts_until : (ℕ → List ℕ) → ℕ → List ℕ
+parts_until part zero = []
+parts_until part (suc n) = parts_until part n ++ part n
+
+-- a text of what there is, and nothing where there is none
+abbrev pub part_of : {X : Type 0} → (X → List ℕ) → Option X → List ℕ
+part_of text None = []
+part_of text (Some x) = text x
 
 -- one part among more
 pub record IsSplit (part : ℕ → List ℕ) (i n : ℕ) : Type 0 where
@@ -68,32 +77,22 @@ parts-all f xs = parts-taken f xs (length xs) ∙ ap (flat_map f) (take_all (len
 
 -- ---- what went out
 
-module _ (part : ℕ → List ℕ) (old mid new : Took) (i : ℕ) (before : mid.bytes ≡ old.bytes ++ parts_until part i) where
+-- all has gone out so far
+abbrev pub well : Result ℕ ℕ
+well = Ok 0
+
+module _ (part : ℕ → List ℕ) (old mid new : Took) (i : ℕ) (before : Writes old mid well (parts_until part i)) where
   -- one part more
-  pub part-told : new.bytes ≡ mid.bytes ++ part i → new.bytes ≡ old.bytes ++ parts_until part (i + 1)
-  part-told e = e ∙ ap (λ l. l ++ part i) before ∙ append_assoc old.bytes (parts_until part i) (part i) ∙ ap (λ m. old.bytes ++ parts_until part m) (let same : suc i ≡ i + 1 = omega arith in same)
+  pub part-told : {B F : Type 0} (y : B) → Writes {E = F} mid new (Ok y) (part i) → Writes old new well (parts_until part (i + 1))
+  part-told {B} {F} y w =
+      let more : suc i ≡ i + 1 = omega arith in
+      let one : Result B F = Ok y in
+      subst (λ m. Writes old new well (parts_until part m)) more
+      (record { ok = (writes-then old mid new 0 one (parts_until part i) (part i) before w).ok; err = tt; counted = omega (arith, before.counted, w.counted) })
 
-  module _ (none_failed : mid.failures ≡ old.failures) {A B E F : Type 0} (n : ℕ) (within : i < n) (x : E) (w : Writes {A = A} mid new (Err x) (part i)) where
-    -- the writer failed in a part
-    pub part-cut : (result : Result B F) → IsErr result → Writes old new result (parts_until part n)
-    part-cut result is_err =
-        let s = split part i n within in
-        subst (λ text. Writes old new result text) (sym s.parts)
-        (writes-behind old mid new result (parts_until part i) (part i ++ s.more) before none_failed (writes-cut mid new x result (part i) s.more is_err w))
-
-    -- and there was more to be written behind all parts
-    pub part-cut-then : (result : Result B F) (rest : List ℕ) → IsErr result → Writes old new result (parts_until part n ++ rest)
-    part-cut-then result rest is_err =
-        let s = split part i n within in
-        let front = parts_until part i in
-        let same : (front ++ part i) ++ (s.more ++ rest) ≡ parts_until part n ++ rest =
-        append_assoc front (part i) (s.more ++ rest) ∙ ap (λ l. front ++ l) (sym (append_assoc (part i) s.more rest))
-        ∙ sym (append_assoc front (part i ++ s.more) rest) ∙ ap (λ l. l ++ rest) (sym s.parts) in
-        subst (λ text. Writes old new result text) same
-        (writes-cut old new x result (front ++ part i) (s.more ++ rest) is_err (writes-behind old mid new (Err x) front (part i) before none_failed w))
-
--- the same where the part is said by other words
-pub part-cut-said : {A B E F : Type 0} (part : ℕ → List ℕ) (old mid new : Took) (i : ℕ) → mid.bytes ≡ old.bytes ++ parts_until part i → mid.failures ≡ old.failures → (n : ℕ) → i < n
-    → (x : E) (text : List ℕ) → text ≡ part i → Writes {A = A} mid new (Err x) text → (result : Result B F) (rest : List ℕ) → IsErr result → Writes old new result (parts_until part n ++ rest)
-part-cut-said {A} part old mid new i before none_failed n within x text same w result rest is_err =
-    part-cut-then part old mid new i before none_failed n within x (subst (λ t. Writes {A = A} mid new (Err x) t) same w) result rest is_err
+  -- the writer failed in a part
+  pub part-cut : {B C F G : Type 0} (n : ℕ) → i < n → (y : F) → Writes {A = B} mid new (Err y) (part i) → (result : Result C G) → IsErr result → Writes old new result (parts_until part n)
+  part-cut n within y w result is_err =
+      let s = split part i n within in
+      subst (λ text. Writes old new result text) (sym s.parts)
+      (writes-then old mid new 0 result (parts_until part i) (part i ++ s.more) before (writes-cut mid new y result (part i) s.more is_err w))

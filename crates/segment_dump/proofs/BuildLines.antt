@@ -1,23 +1,22 @@
 -- All objects of a text are built, one after another.
 use Rattle.std.proofs.Common.{◌≡◌, ◌≢◌, inl, ℕ, suc, ◌+◌, ◌<◌, ◌≤◌, ◌==◌, Bool, true, false, cond, List, [], ◌∷◌, ◌++◌, length, get_or, Result, Ok, Err, refl, sym, ap, subst, ◌∙◌, arith, append-nil, append_assoc}
-use Rattle.std.specs.Prelude.{codes, decimal, filter}
-use Rattle.std.specs.List.{AllByRecursion}
+use Rattle.std.specs.Prelude.{codes}
 use Rattle.std.proofs.lemmas.Bool.{eq-eqb}
 use Rattle.std.proofs.lemmas.List.{length-append}
 use Rattle.seg_types.specs.declared.kinds.Class.{Class}
 use Rattle.seg_types.specs.declared.kinds.Class.TheVariants.{Anonymous, Named, Unique}
 use Rattle.seg_types.specs.declared.kinds.Kind.{Kind}
 use Rattle.seg_types.specs.Kinds.{class_code}
-use Rattle.seg_types.specs.Texts.{is_bare_name, kind_text, name_text, quoted_text}
+use Rattle.seg_types.specs.Texts.{name_text}
 use Rattle.segment_manager.specs.Plan.{bare}
 use Rattle.segment_manager.specs.State.{State}
 use Rattle.segment_dump.specs.declared.building.Shape.{Shape}
-use Rattle.segment_dump.specs.Builders.{AreLeft, Builds, BuildsObject, FillsNew, HasPlace, IsAt, IsBegun, IsFillable, IsFilled, IsGone, IsNext, IsStarted, StartsNext, content_need, first_content}
-use Rattle.segment_dump.specs.Building.{AreNew, IsRest, Site, class_words, count_class, head_words, measure_words, of_class}
-use Rattle.segment_dump.specs.Filling.{Fill, IsBuildable, IsNameIn, StandsBuilt, StandsFilling, filled_item, head_of}
+use Rattle.segment_dump.specs.Builders.{AreLeft, Builds, BuildsObject, FillsNew, HasPlace, IsAt, IsBegun, IsFillable, IsGone, IsNext, StartsNext, content_need, first_content}
+use Rattle.segment_dump.specs.Building.{IsRest, Site, class_words, count_class, head_words, measure_words, of_class}
+use Rattle.segment_dump.specs.Filling.{Fill, IsNameIn, StandsBuilt, StandsFilling}
 use Rattle.segment_dump.specs.Items.{Item, count_of_content, kind_of_content}
 use Rattle.segment_dump.specs.Lines.{IsShortLine, ReadsLine}
-use Rattle.segment_dump.specs.Need.{all_needs, item_needs, texts_needs}
+use Rattle.segment_dump.specs.Need.{all_needs, item_needs}
 use Rattle.segment_dump.specs.Reads.{HasNoEnd, ended}
 use Rattle.segment_dump.specs.Texts.{content_text, end_text, head_line, item_text, items_text}
 use Rattle.segment_dump.proofs.ContentLines.{no_end-both, quoted-no_end, word-no_end}
@@ -57,7 +56,7 @@ name-no_end : (name t : List ℕ) → IsName name t → HasNoEnd t
 name-no_end name t (said.bare c cs e n w f) = subst HasNoEnd (sym f) (word-no_end name w)
 name-no_end name t (said.quoted f) = subst HasNoEnd (sym f) (quoted-no_end name)
 
-class-no_end : (c : Class) (name : List ℕ) → HasNoEnd (class_words c name)
+pub class-no_end : (c : Class) (name : List ℕ) → HasNoEnd (class_words c name)
 class-no_end Named name =
     no_end-both (codes "named " ++ name_text name) (0x20 ∷ [])
     (no_end-both (codes "named ") (name_text name) ((λ e. omega arith), ((λ e. omega arith), ((λ e. omega arith), ((λ e. omega arith), ((λ e. omega arith), ((λ e. omega arith), tt)))))) (name-no_end name (name_text name) (name-is name)))

@@ -1,34 +1,32 @@
 -- What the steps lead to by which an object comes to be, and how the objects of a segment are those of a dump in the end.
-use Rattle.std.proofs.Common.{◌≡◌, ◌≢◌, ℕ, suc, ◌+◌, ◌-◌, ◌*◌, ◌<◌, ◌≤◌, ◌==◌, ◌&&◌, ℤ, pos, Bool, true, false, nat_le, nat_lt, cond, List, [], ◌∷◌, ◌++◌, length, map, replicate, Option, Some, None, Result, if◌then◌else◌, refl, sym, ap, subst, ◌∙◌, arith, append_assoc, zero-add}
-use Rattle.std.specs.Prelude.{IsTrue, find, filter, flat_map, fold, option_to_list, ⊤}
+use Rattle.std.proofs.Common.{◌≡◌, ℕ, ◌+◌, ◌*◌, ◌<◌, ◌≤◌, ◌==◌, ℤ, Bool, true, false, nat_le, nat_lt, List, [], ◌∷◌, ◌++◌, length, map, Option, Some, None, if◌then◌else◌, refl, sym, ap, subst, ◌∙◌, arith, append_assoc, zero-add}
+use Rattle.std.specs.Prelude.{flat_map, ⊤}
 use Rattle.std.specs.List.{AllByRecursion}
 use Rattle.std.proofs.lemmas.Bool.Decides.{nat_tests}
 use Rattle.std.proofs.lemmas.Grind.{flat_map-append}
-use Rattle.std.proofs.lemmas.List.{append-nil, length-append, map-append}
+use Rattle.std.proofs.lemmas.List.{append-nil, map-append}
 use Rattle.block_tags.specs.declared.tile.Role.TheVariants.{Index, Object as ObjectRole}
 use Rattle.best_fit.specs.Extents.{Extent, end_of, handle}
-use Rattle.best_fit.specs.Fit.{place, resized, room}
+use Rattle.best_fit.specs.Fit.{room}
 use Rattle.best_fit.specs.Table.{Table, no_table}
 use Rattle.raw_region.specs.Format.{current}
 use Rattle.seg_types.specs.declared.kinds.Class.{Class}
 use Rattle.seg_types.specs.declared.kinds.Class.TheVariants.{Anonymous, Named, Unique}
-use Rattle.seg_types.specs.declared.kinds.Kind.{Kind}
-use Rattle.seg_types.specs.declared.kinds.Kind.TheVariants as kinds
 use Rattle.seg_types.specs.declared.kinds.ScalarKind.{ScalarKind}
-use Rattle.seg_types.specs.declared.refusals.Refusal.TheVariants.{Exists, NoSpace}
+use Rattle.seg_types.specs.declared.refusals.Refusal.TheVariants.{Exists}
 use Rattle.seg_types.specs.Commands as asked
-use Rattle.seg_types.specs.Names.{Key, ByHandle, ByKind, ByName, NoKey}
+use Rattle.seg_types.specs.Names.{Key}
 use Rattle.segment_manager.specs.declared.modes.Mode.TheVariants.{Write}
-use Rattle.segment_manager.specs.Answers.{Answer, Done, Made, Refused}
-use Rattle.segment_manager.specs.Directory.{Bytes, Directory, Elements, IsDirectory, Numbers, Object, Pairs, Texts, Value, empty, extents_of, insert_by, is_class, live, named_objects, object_at, object_len, put_object, table_extents, unique_objects, value_extents, with_object}
-use Rattle.segment_manager.specs.Plan.{Plan, Reply, Request, New, bare, class_of, name_of, perform, with_entry, with_new_index, with_new_object, with_value}
+use Rattle.segment_manager.specs.Answers.{Answer, Done, Made}
+use Rattle.segment_manager.specs.Directory.{Directory, IsDirectory, Object, Value, empty, extents_of, live, named_objects, object_at, object_len, table_extents, unique_objects, value_extents, with_object}
+use Rattle.segment_manager.specs.Plan.{Plan, Reply, Request, New, bare, class_of, name_of, perform, with_entry, with_new_object, with_value}
 use Rattle.segment_manager.specs.Step.{effect, step}
 use Rattle.segment_manager.proofs.Laws.{AllByRecursion-behind, AllByRecursion-front}
 use Rattle.segment_dump.specs.Building.{EndBy, HasRoom, Head, IsBuilt, IsFilling, Site, all_extents, total}
 use Rattle.segment_dump.specs.Items.{Item, content_of, item_of_object}
 use Rattle.segment_dump.specs.Need.{block_room}
 use Rattle.segment_dump.proofs.Fills.{StepsTo, met-perform}
-use Rattle.segment_dump.proofs.Spaces.{IsRest, IsTaken, block-some, room-taken, room-with}
+use Rattle.segment_dump.proofs.Spaces.{IsRest, block-some, room-taken, room-with}
 use Rattle.segment_dump.proofs.Steps.{put-last, writes}
 
 -- ---- an object is made

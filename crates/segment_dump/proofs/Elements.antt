@@ -205,7 +205,7 @@ texts-if (Texts ps t) e = record { texts = ps; table = t; is = refl }
 
 -- ---- how many there are
 
-abbrev sizes_of_object : Option Object → Result (ℕ × ℕ) Refusal
+abbrev pub sizes_of_object : Option Object → Result (ℕ × ℕ) Refusal
 sizes_of_object r = elim r as (λ _. Result (ℕ × ℕ) Refusal) [ None ↦ Err NotFound | Some o ↦ sizes_of o.value ]
 
 abbrev elements_of_object : Option Object → Result ScalarKind Refusal

@@ -1,10 +1,18 @@
 -- Worked examples: elements and texts, as a dump has them.
-use Rattle.std.proofs.Common.{◌≡◌, [], ◌∷◌, ◌++◌, List, ℕ, map, refl}
+use Rattle.std.proofs.Common.{◌≡◌, [], ◌∷◌, ◌++◌, List, ℕ, map, None, refl}
+use Rattle.std.specs.Fmt.{digits}
 use Rattle.std.specs.Prelude.{pos, negsuc, codes, replicate}
-use Rattle.seg_types.specs.declared.kinds.ScalarKind.TheVariants.{Bool, I32}
-use Rattle.seg_types.specs.declared.kinds.Class.TheVariants.{Named, Unique}
+use Rattle.block_tags.specs.declared.tile.Role.TheVariants.{Object as ObjectRole}
+use Rattle.best_fit.specs.Table.{Table, no_table}
+use Rattle.seg_types.specs.declared.kinds.ScalarKind.TheVariants.{Bool, I32, I64}
+use Rattle.seg_types.specs.declared.kinds.Class.TheVariants.{Anonymous, Named, Unique}
+use Rattle.segment_manager.specs.Directory as directory
+use Rattle.segment_manager.specs.Directory.{Directory, Object, Value}
+use Rattle.seg_types.specs.declared.kinds.Class.{Class}
+use Rattle.segment_dump.specs.Capacities.{capacities, capacities_text}
 use Rattle.segment_dump.specs.Items.{Items, Vector, Map, Strings}
 use Rattle.segment_dump.specs.Need.{block_room, front_room, items_needs, object_room}
+use Rattle.segment_dump.specs.Notes.{without_notes}
 use Rattle.segment_dump.specs.Places.{place_behind}
 use Rattle.segment_dump.specs.Texts.{content_text, pieces_text}
 
@@ -50,3 +58,41 @@ some_items = record {
 needed : items_needs some_items ≡ record { room = 576; longest = 20 }
 unfolding block_room object_room front_room
 needed = refl
+
+-- ---- notes at the end of a text are left out, and no others
+
+abbrev some_text : List ℕ
+some_text = line (codes "a") ++ line (codes "# b") ++ line (codes "c")
+
+noted : without_notes (some_text ++ line (codes "#") ++ line (codes "# d # e")) ≡ some_text
+noted = refl
+
+only-notes : without_notes (line (codes "# a") ++ line (codes "#")) ≡ []
+only-notes = refl
+
+-- a line without an end is no note, and what stands in front of it is kept
+unended : without_notes (some_text ++ line (codes "#") ++ codes "# d") ≡ some_text ++ line (codes "#") ++ codes "# d"
+unended = refl
+
+-- ---- capacities: an array and a map have none
+
+abbrev places : ℕ → Table
+places n = record { capacity = n; extent = None }
+
+abbrev some_object : Class → List ℕ → ℕ → Value → Object
+some_object class name at value = record { class = class; name = name; value = value; extent = record { offset = at; len = 48; role = ObjectRole } }
+
+abbrev some_directory : Directory
+some_directory = record {
+  size = 1024;
+  objects = some_object Anonymous [] 192 (directory.Bytes (codes "four") (places 16)) ∷ some_object Named (codes "b") 256 (directory.Elements I64 (pos 5 ∷ []) (places 10))
+      ∷ some_object Unique [] 320 (directory.Pairs I32 Bool []) ∷ some_object Named (codes "a b") 384 (directory.Texts [] no_table) ∷ some_object Named (codes "c") 448 (directory.Numbers I64 (pos 1 ∷ [])) ∷ [];
+  named = places 4;
+  unique = places 3;
+}
+
+told : capacities_text (capacities some_directory)
+    ≡ line (codes "# capacity of names: 4") ++ line (codes "# capacity of kinds: 3") ++ line (codes "# capacity of named \"a b\" vec<string>: 0") ++ line (codes "# capacity of named b vec<i64>: 10")
+    ++ line (codes "# capacity of anonymous string: 16")
+unfolding digits
+told = refl

@@ -1,11 +1,10 @@
 -- An element more of an object that is being filled.
-use Rattle.std.proofs.Common.{◌≡◌, ◌≢◌, ◌⊎◌, inl, inr, ℕ, zero, suc, ◌+◌, ◌-◌, ◌*◌, ◌<◌, ◌≤◌, ℤ, pos, negsuc, Bool, true, false, List, [], ◌∷◌, ◌++◌, length, map, replicate, Option, Some, None, Result, Ok, Err, refl, sym, ap, subst, ◌∙◌, arith, append_assoc, append-nil}
+use Rattle.std.proofs.Common.{◌≡◌, inl, ℕ, zero, suc, ◌+◌, ◌*◌, ◌<◌, ◌≤◌, ℤ, pos, true, false, List, [], ◌∷◌, ◌++◌, length, map, replicate, refl, sym, ap, subst, ◌∙◌, arith, append_assoc, append-nil}
 use Rattle.std.specs.Prelude.{◌^◌, flat_map, int_lt, slice_set}
 use Rattle.std.specs.List.{AllByRecursion}
 use Rattle.std.proofs.Math.Nat.{suc-mul, zero-mul}
 use Rattle.std.proofs.lemmas.Int.{ints}
-use Rattle.std.proofs.lemmas.List.{length-append, length-map, length-replicate, map-append}
-use Rattle.raw_region.specs.Format.{current}
+use Rattle.std.proofs.lemmas.List.{length-append, length-map, map-append}
 use Rattle.seg_types.specs.declared.kinds.Kind.{Kind}
 use Rattle.seg_types.specs.declared.kinds.Kind.TheVariants as kinds
 use Rattle.seg_types.specs.declared.kinds.ScalarKind.{ScalarKind}
@@ -19,13 +18,13 @@ use Rattle.seg_map.specs.Places.{item_of}
 use Rattle.seg_vector.specs.Vector.{OwnedText}
 use Rattle.segment_manager.specs.declared.modes.Mode.TheVariants.{Write}
 use Rattle.segment_manager.specs.Answers.{Answer, Done, Truth}
-use Rattle.segment_manager.specs.Directory.{Bytes, Directory, Elements, Numbers, Pairs, Texts, Value}
+use Rattle.segment_manager.specs.Directory.{Directory, Elements, Numbers, Pairs, Texts, Value}
 use Rattle.segment_manager.specs.State.{IsStep, IsStepOfKind, Moves, State, StandsFor}
 use Rattle.segment_manager.specs.Step.{step, step_of_kind}
 use Rattle.segment_dump.specs.Builders.{IsFilled}
-use Rattle.segment_dump.specs.Building.{Head, IsBuilt, IsFilling, Site}
-use Rattle.segment_dump.specs.Filling.{AreBytes, AreRising, AreValues, Fill, FillsAt, IsBuildableContent, IsPairOf, IsPart, MapPart, ScalarsPart, StandsBuilt, StandsFilling, StringsPart, VectorPart, filled_item, head_of}
-use Rattle.segment_dump.specs.Items.{Content, Item, Map, Scalars, String, Strings, Vector, bytes_in, content_of, count_of_content, kind_of_content}
+use Rattle.segment_dump.specs.Building.{IsBuilt, IsFilling}
+use Rattle.segment_dump.specs.Filling.{AreBytes, AreRising, AreValues, Fill, FillsAt, IsPairOf, IsPart, MapPart, ScalarsPart, StandsFilling, StringsPart, VectorPart, filled_item, head_of}
+use Rattle.segment_dump.specs.Items.{Content, Map, Scalars, String, Strings, Vector, bytes_in, content_of, count_of_content}
 use Rattle.segment_dump.specs.Need.{all_needs, block_room, text_needs}
 use Rattle.segment_dump.specs.Texts.{element_line, pair_line, text_lines}
 use Rattle.segment_dump.proofs.Builds.{built}

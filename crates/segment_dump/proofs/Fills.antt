@@ -1,16 +1,15 @@
 -- What the steps lead to by which an object is filled.
-use Rattle.std.proofs.Common.{◌≡◌, ◌≢◌, ◌⊎◌, inl, inr, ℕ, zero, suc, ◌+◌, ◌-◌, ◌*◌, ◌<◌, ◌≤◌, ◌==◌, ◌&&◌, ◌||◌, ℤ, pos, negsuc, Bool, true, false, not, nat_le, nat_lt, cond, List, [], ◌∷◌, ◌++◌, length, map, get_or, Option, Some, None, Result, Ok, Err, if◌then◌else◌, refl, sym, ap, subst, ◌∙◌, arith, append_assoc, zero-add}
-use Rattle.std.specs.Prelude.{IsTrue, find, flat_map, max, nat_abs, option_to_list, slice_get, slice_set, int_lt}
+use Rattle.std.proofs.Common.{◌≡◌, ◌⊎◌, inl, inr, ℕ, zero, suc, ◌+◌, ◌*◌, ◌<◌, ◌≤◌, ◌==◌, ◌||◌, ℤ, pos, negsuc, Bool, true, false, not, nat_le, nat_lt, cond, List, [], ◌∷◌, ◌++◌, length, Option, Some, None, Result, Ok, Err, if◌then◌else◌, refl, sym, ap, subst, ◌∙◌, arith, append_assoc, zero-add}
+use Rattle.std.specs.Prelude.{find, flat_map, max, option_to_list, slice_get, slice_set, int_lt}
 use Rattle.std.specs.List.{AllByRecursion}
 use Rattle.std.proofs.Math.Nat.{mul-le-mul_left, mul-zero}
-use Rattle.std.proofs.lemmas.Bool.{and_parts, ltb-true, ltb-false}
 use Rattle.std.proofs.lemmas.Bool.Decides.{nat_tests}
 use Rattle.std.proofs.lemmas.Grind.{flat_map-append}
-use Rattle.std.proofs.lemmas.List.{append-nil, length-append, map-append}
+use Rattle.std.proofs.lemmas.List.{append-nil, map-append}
 use Rattle.std.proofs.lemmas.Option.{slice_get-get_or}
 use Rattle.block_tags.specs.declared.tile.Role.TheVariants.{Node, Storage}
-use Rattle.best_fit.specs.Extents.{Extent, end_of}
-use Rattle.best_fit.specs.Fit.{place, regrow, resized, room}
+use Rattle.best_fit.specs.Extents.{Extent}
+use Rattle.best_fit.specs.Fit.{place, regrow, resized}
 use Rattle.best_fit.specs.Table.{Table, no_table}
 use Rattle.raw_region.specs.Format.{current}
 use Rattle.seg_types.specs.declared.kinds.Kind.{Kind}
@@ -22,19 +21,19 @@ use Rattle.seg_types.specs.declared.refusals.Refusal.TheVariants.{OutOfRange, No
 use Rattle.seg_types.specs.Commands as asked
 use Rattle.seg_types.specs.Commands.{Command, literal_of, value_of_literal}
 use Rattle.seg_types.specs.Kinds.{is_value, size_of}
-use Rattle.seg_types.specs.Names.{Key, ByHandle}
-use Rattle.seg_map.specs.Map.{Pair, is_key, node_len, pair_at, put_pair}
+use Rattle.seg_types.specs.Names.{ByHandle}
+use Rattle.seg_map.specs.Map.{is_key, node_len, pair_at, put_pair}
 use Rattle.seg_map.specs.Numbers.{NumberPair}
 use Rattle.seg_vector.specs.Vector.{OwnedText, capacity_for_one, capacity_for_text}
 use Rattle.segment_manager.specs.declared.modes.Mode.TheVariants.{Write}
 use Rattle.segment_manager.specs.Answers.{Answer, Done, Truth, Refused}
-use Rattle.segment_manager.specs.Directory.{Bytes, Directory, Elements, IsDirectory, Numbers, Object, Pairs, Texts, Value, kind_of, live, object_at, value_extents}
+use Rattle.segment_manager.specs.Directory.{Bytes, Directory, Elements, IsDirectory, Numbers, Object, Pairs, Texts, Value, live, object_at, value_extents}
 use Rattle.segment_manager.specs.Plan.{Plan, Reply, Request, New, Regrown, perform, with, with_capacity, with_owned_text}
-use Rattle.segment_manager.specs.Step.{and_then, changed, effect, found_at, map_of, pair_of, push, put, set, step, step_of_kind, storage_of, text_of, with_table}
+use Rattle.segment_manager.specs.Step.{and_then, changed, map_of, pair_of, push, put, set, step, step_of_kind, storage_of, text_of, with_table}
 use Rattle.segment_dump.specs.Building.{Head, IsFilling, Site}
 use Rattle.segment_dump.specs.Items.{Item}
 use Rattle.segment_dump.specs.Need.{block_room}
-use Rattle.segment_dump.proofs.Spaces.{IsRest, IsTaken, block-some}
+use Rattle.segment_dump.proofs.Spaces.{IsRest, block-some}
 use Rattle.segment_dump.proofs.Steps.{at-object, block-more, filled-at, filled-kind, of-kind, requested, same-blocks, writes}
 
 -- it is answered, and leads to such a directory

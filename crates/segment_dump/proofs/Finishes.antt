@@ -1,25 +1,24 @@
 -- What was built of a dump is what the dump says, and nothing is free behind it once the end is cut off.
-use Rattle.std.proofs.Common.{◌≡◌, ◌≢◌, ℕ, ◌+◌, ◌-◌, ◌*◌, ◌<◌, ◌≤◌, ◌==◌, ◌&&◌, Bool, true, false, nat_le, nat_lt, cond, List, [], ◌∷◌, ◌++◌, length, map, Option, Some, None, Result, Ok, Err, refl, sym, ap, subst, ◌∙◌, arith, append_assoc}
-use Rattle.std.specs.Prelude.{IsTrue, filter, flat_map, fold, sum_by}
+use Rattle.std.proofs.Common.{◌≡◌, ℕ, ◌+◌, ◌-◌, ◌≤◌, ◌==◌, ◌&&◌, Bool, true, false, cond, List, [], ◌∷◌, ◌++◌, length, map, refl, sym, ap, subst, ◌∙◌, arith}
+use Rattle.std.specs.Prelude.{IsTrue, filter, sum_by}
 use Rattle.std.specs.List.{AllByRecursion}
 use Rattle.std.proofs.lemmas.Bool.{and_parts}
 use Rattle.std.proofs.lemmas.Bool.Decides.{nat_tests}
 use Rattle.std.proofs.lemmas.List.{append-nil}
 use Rattle.block_tags.specs.Format.{is_legal_size}
-use Rattle.best_fit.specs.Ends.{last_end, least_size}
-use Rattle.best_fit.specs.Extents.{Extent, Gap, end_of, free_bytes, gap_between, gaps, is_block, is_hole, is_proper, proper_from}
-use Rattle.raw_region.specs.Format.{current}
+use Rattle.best_fit.specs.Ends.{last_end}
+use Rattle.best_fit.specs.Extents.{Extent, Gap, end_of, free_bytes, gap_between, is_block, is_hole, is_proper, proper_from}
 use Rattle.seg_types.specs.declared.kinds.Class.{Class}
 use Rattle.seg_types.specs.declared.kinds.Class.TheVariants.{Anonymous, Named, Unique}
 use Rattle.seg_types.specs.Kinds.{class_code}
-use Rattle.segment_manager.specs.Directory.{Directory, Object, by_kind, by_name, insert_by, is_class, live, named_objects, sorted, unique_objects}
+use Rattle.segment_manager.specs.Directory.{Directory, Object, by_kind, by_name, is_class, live, named_objects, sorted, unique_objects}
 use Rattle.segment_manager.specs.Resized.{shrunk}
 use Rattle.segment_manager.specs.State.{StandsFor}
 use Rattle.segment_manager.proofs.Laws.{all-sorted, by_kind-strict, by_name-strict, live-extents, live-size}
-use Rattle.segment_dump.specs.Building.{AreInOrder, EndBy, HasRoom, IsBuilt, Site, all_extents, kind_less, name_less, of_class, total}
-use Rattle.segment_dump.specs.Items.{Item, Items, anonymous_objects, item_of_object, portable}
+use Rattle.segment_dump.specs.Building.{EndBy, HasRoom, all_extents, kind_less, name_less, of_class, total}
+use Rattle.segment_dump.specs.Items.{Item, Items, item_of_object, portable}
 use Rattle.segment_dump.specs.Order.{all_items}
-use Rattle.segment_dump.specs.Succeeding.{AreOf, AreSorted, IsSized}
+use Rattle.segment_dump.specs.Succeeding.{AreOf, AreSorted}
 use Rattle.segment_dump.specs.Texts.{dump_text, end_text, front_text, items_text}
 use Rattle.segment_dump.proofs.ItemLines.{IsGoodItem}
 use Rattle.segment_dump.proofs.Buildables.{named-in_order, unique-in_order}

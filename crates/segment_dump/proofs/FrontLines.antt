@@ -10,10 +10,10 @@ use Rattle.segment_dump.specs.Texts.{front_text}
 use Rattle.segment_dump.proofs.ItemLines.{ends-line}
 use Rattle.segment_dump.proofs.Sums.{never-some, some-pair}
 
-abbrev before_size : List ℕ
+abbrev pub before_size : List ℕ
 before_size = codes "segment dump 1" ++ 0x0A ∷ codes "size "
 
-abbrev before_entries : List ℕ
+abbrev pub before_entries : List ℕ
 before_entries = 0x0A ∷ codes "indexes "
 
 front-apart : (s i p q l x : List ℕ) → s ++ i ++ p ++ q ++ l ++ x ≡ s ++ (i ++ (p ++ q ++ l ++ x))
@@ -31,9 +31,11 @@ EntriesRead = Reads entries_text AreEntries Any itself
 abbrev pub FrontReads : List ℕ → Option (Front × List ℕ) → Type 0
 FrontReads = Reads fronted IsFront Any itself
 
+pub number-said : (text x : List ℕ) (o : Option (ℕ × List ℕ)) (s n u : ℕ) (a : List ℕ) → text ≡ before_size ++ x → NumberReads x o → s < 2 ^ 64 → text ≡ front_text s n u ++ a → o ≡ Some (s, before_entries ++ (entries_text (n, u) ++ a))
+number-said text x o s n u a e h l w = h.reads s (before_entries ++ (entries_text (n, u) ++ a)) l (ends-line (codes "indexes " ++ (entries_text (n, u) ++ a))) (front-behind text x s n u a e w)
+
 number-front : (text x : List ℕ) (o : Option (ℕ × List ℕ)) (f : Front) (a : List ℕ) → text ≡ before_size ++ x → NumberReads x o → IsFront f → text ≡ fronted f ++ a → o ≡ Some (f.size, before_entries ++ (entries_text (f.named, f.unique) ++ a))
-number-front text x o f a e h g w =
-    h.reads f.size (before_entries ++ (entries_text (f.named, f.unique) ++ a)) g.size (ends-line (codes "indexes " ++ (entries_text (f.named, f.unique) ++ a))) (front-behind text x f.size f.named f.unique a e w)
+number-front text x o f a e h g w = number-said text x o f.size f.named f.unique a e h g.size w
 
 pub front-none : (text : List ℕ) → ((y : List ℕ) → text ≡ before_size ++ y → ⊥) → FrontReads text None
 front-none text n = record { reads = λ f a g w k. absurd (n (drop 20 (fronted f ++ a)) k) }

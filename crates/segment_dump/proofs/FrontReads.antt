@@ -1,5 +1,5 @@
 -- The first three lines of a dump are read, line by line.
-use Rattle.std.proofs.Common.{◌≡◌, ℕ, ◌+◌, ◌^◌, ◌<◌, ◌≤◌, nat_lt, true, false, List, [], ◌∷◌, ◌++◌, length, Option, Some, None, Result, Ok, Err, refl, sym, ap, subst, ◌∙◌, arith, append-nil, append_assoc}
+use Rattle.std.proofs.Common.{◌≡◌, ℕ, ◌^◌, ◌<◌, nat_lt, true, List, [], ◌∷◌, ◌++◌, Some, Result, Ok, Err, refl, sym, ap, ◌∙◌, arith, append-nil, append_assoc}
 use Rattle.std.specs.Prelude.{codes, decimal}
 use Rattle.std.specs.List.{list_all}
 use Rattle.std.proofs.lemmas.Bool.{and_parts, ltb-true}
@@ -11,7 +11,7 @@ use Rattle.segment_lang.specs.Words.{Bare}
 use Rattle.segment_dump.specs.declared.counting.Front.{Front}
 use Rattle.segment_dump.specs.Counting.{IsFront, fronted}
 use Rattle.segment_dump.specs.Lines.{IsShortLine, ReadsEnd, ReadsLine, ReadsThis, ReadsWord}
-use Rattle.segment_dump.specs.Reads.{Any, HasNoEnd, ended}
+use Rattle.segment_dump.specs.Reads.{Any, HasNoEnd}
 use Rattle.segment_dump.specs.Succeeding.{AreNumbers, IsNumber, ReadsLead, Takes, entries_line, entries_said, size_line, size_said, version_line, version_said}
 use Rattle.segment_dump.proofs.ContentLines.{no_end-both, word-no_end}
 use Rattle.segment_dump.proofs.ElementReads.{never-ok, ok-same}

@@ -1,11 +1,11 @@
 -- The line of an object is read.
-use Rattle.std.proofs.Common.{◌≡◌, ◌≢◌, ℕ, ◌+◌, ◌^◌, ◌<◌, true, false, List, [], ◌∷◌, ◌++◌, length, get_or, Option, Some, None, Result, Ok, Err, if◌then◌else◌, refl, sym, ap, subst, ◌∙◌, arith, append-nil, append_assoc}
-use Rattle.std.specs.Prelude.{codes, decimal, option_map}
+use Rattle.std.proofs.Common.{◌≡◌, ◌≢◌, ℕ, ◌^◌, ◌<◌, true, List, [], ◌∷◌, ◌++◌, get_or, Option, Some, None, Result, Ok, Err, if◌then◌else◌, refl, sym, ap, subst, ◌∙◌, arith, append-nil, append_assoc}
+use Rattle.std.specs.Prelude.{codes, decimal}
 use Rattle.raw_region.specs.Format.{current}
 use Rattle.seg_types.specs.declared.kinds.Class.{Class}
 use Rattle.seg_types.specs.declared.kinds.Class.TheVariants.{Anonymous, Named, Unique}
 use Rattle.seg_types.specs.declared.kinds.Kind.{Kind}
-use Rattle.seg_types.specs.Names.{Key, ByKind, ByName, NoKey, is_name}
+use Rattle.seg_types.specs.Names.{Key, ByName, is_name}
 use Rattle.seg_types.specs.Texts.{class_text, kind_text, name_text}
 use Rattle.segment_lang.specs.Language.{whole}
 use Rattle.segment_lang.specs.Laws.{NumbersAreDecimals, TextsAreSpelled}
@@ -17,8 +17,8 @@ use Rattle.segment_lang.specs.declared.words.Word.{Word as Held}
 use Rattle.segment_lang.specs.declared.words.Word.TheVariants as held
 use Rattle.segment_manager.specs.State.{State}
 use Rattle.segment_dump.specs.declared.building.Shape.{Shape}
-use Rattle.segment_dump.specs.Builders.{IsNext, ReadsClass, ReadsShape, StartsNamed, StartsNext, StartsUnder}
-use Rattle.segment_dump.specs.Building.{class_words, item_key, key_in, measure_words}
+use Rattle.segment_dump.specs.Builders.{ReadsClass, ReadsShape, StartsNamed, StartsNext, StartsUnder}
+use Rattle.segment_dump.specs.Building.{class_words, key_in, measure_words}
 use Rattle.segment_dump.specs.Filling.{IsNameIn}
 use Rattle.segment_dump.specs.Items.{Item, count_of_content, kind_of_content}
 use Rattle.segment_dump.specs.Lines.{IsWordOf, ReadsEnd, ReadsWord, any_word, bare, bare_word, text}

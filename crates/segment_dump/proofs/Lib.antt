@@ -46,3 +46,7 @@ mod Buildables
 mod FrontReads
 mod Finishes
 mod Succeeds
+mod NoteLines
+mod PlaceNotes
+mod NoteLaws
+mod SaidSizes

@@ -1,5 +1,5 @@
 -- Lines and words of a text are read.
-use Rattle.std.proofs.Common.{◌≡◌, ◌≢◌, ℕ, suc, ◌+◌, ◌<◌, ◌≤◌, ◌==◌, Bool, true, false, List, [], ◌∷◌, ◌++◌, length, take, drop, cond, not, nat_lt, Option, Some, None, Result, Ok, Err, refl, sym, ap, subst, ◌∙◌, arith, append_assoc}
+use Rattle.std.proofs.Common.{◌≡◌, ◌≢◌, ℕ, suc, ◌+◌, ◌<◌, ◌==◌, Bool, true, false, List, [], ◌∷◌, ◌++◌, length, take, drop, cond, not, nat_lt, Option, Some, None, Result, Ok, Err, refl, sym, ap, ◌∙◌, arith, append_assoc}
 use Rattle.std.specs.Prelude.{position}
 use Rattle.std.specs.List.{position_or_len}
 use Rattle.std.proofs.lemmas.List.{length-append}
@@ -8,7 +8,7 @@ use Rattle.std.proofs.lemmas.Bool.Decides.{nat_tests}
 use Rattle.segment_lang.specs.Reading.{number}
 use Rattle.segment_lang.specs.Tokens.{next_word}
 use Rattle.segment_lang.specs.Words.{Word, Bare, Text, number_of}
-use Rattle.segment_dump.specs.Lines.{IsShortLine, ReadsLine, ReadsThis, ReadsWord, any_word, bare_word}
+use Rattle.segment_dump.specs.Lines.{ReadsLine, ReadsThis, ReadsWord, any_word, bare_word}
 use Rattle.segment_dump.specs.Reads.{HasNoEnd, ended}
 
 lt-test : (m n : ℕ) → m < n → nat_lt m n ≡ true

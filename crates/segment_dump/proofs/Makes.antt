@@ -1,32 +1,27 @@
 -- An object of a line is made, with nothing in it.
-use Rattle.std.proofs.Common.{◌≡◌, ◌≢◌, inl, inr, ℕ, ◌+◌, ◌*◌, ◌^◌, ◌<◌, ◌≤◌, ℤ, pos, true, false, List, [], ◌∷◌, ◌++◌, length, replicate, Option, Some, None, Result, Ok, Err, refl, sym, ap, subst, ◌∙◌, arith, append-nil, append_assoc, zero-add}
-use Rattle.std.specs.Prelude.{codes, decimal}
-use Rattle.std.specs.List.{AllByRecursion}
+use Rattle.std.proofs.Common.{◌≡◌, inl, ℕ, ◌+◌, ◌*◌, ◌^◌, ◌<◌, pos, List, length, replicate, Result, Ok, Err, refl, sym, ap, subst, ◌∙◌, arith}
 use Rattle.std.proofs.lemmas.List.{length-replicate}
 use Rattle.seg_types.specs.declared.kinds.Class.{Class}
 use Rattle.seg_types.specs.declared.kinds.Class.TheVariants.{Anonymous, Named, Unique}
 use Rattle.seg_types.specs.declared.kinds.Kind.{Kind}
 use Rattle.seg_types.specs.declared.kinds.Kind.TheVariants as kinds
-use Rattle.seg_types.specs.declared.kinds.ScalarKind.{ScalarKind}
 use Rattle.seg_types.specs.declared.refusals.Refusal.{Refusal}
 use Rattle.seg_types.specs.Commands as asked
 use Rattle.seg_types.specs.Kinds.{size_of}
-use Rattle.seg_types.specs.Names.{Key, ByHandle, ByKind, ByName, NoKey}
+use Rattle.seg_types.specs.Names.{Key}
 use Rattle.seg_map.specs.Map.{node_len}
-use Rattle.segment_manager.specs.declared.modes.Mode.TheVariants.{Write}
 use Rattle.segment_manager.specs.Answers.{Answer, Made}
-use Rattle.segment_manager.specs.Directory.{Directory, Value, object_at, object_len, padded, value_len}
+use Rattle.segment_manager.specs.Directory.{Directory, object_len, padded, value_len}
 use Rattle.segment_manager.specs.Layout.{head_len}
 use Rattle.segment_manager.specs.Plan.{bare, class_of, name_of}
-use Rattle.segment_manager.specs.State.{IsStep, Moves, State, StandsFor, handle_answer}
-use Rattle.segment_manager.specs.Step.{step}
+use Rattle.segment_manager.specs.State.{IsStep, State, StandsFor, handle_answer}
 use Rattle.segment_dump.specs.declared.building.Shape.{Shape}
-use Rattle.segment_dump.specs.Builders.{HasPlace, IsCountOf, IsNext, IsStarted, ReadsShape, StartsUnder, content_need, first_content}
-use Rattle.segment_dump.specs.Building.{Head, IsBuilt, IsFilling, IsRest, Site, count_class, has_item_key, item_key, key_in, measure_words}
-use Rattle.segment_dump.specs.Filling.{IsBuildable, IsBuildableContent, IsNameIn, StandsBuilt, StandsFilling}
+use Rattle.segment_dump.specs.Builders.{HasPlace, IsCountOf, IsNext, ReadsShape, StartsUnder, content_need, first_content}
+use Rattle.segment_dump.specs.Building.{IsBuilt, IsFilling, IsRest, Site, item_key, key_in}
+use Rattle.segment_dump.specs.Filling.{IsBuildableContent, IsNameIn, StandsFilling}
 use Rattle.segment_dump.specs.Items.{Content, Item, Map, Scalars, String, Strings, Vector, count_of_content, kind_of_content}
-use Rattle.segment_dump.specs.Need.{all_needs, block_room, body_len, elements_room, item_needs, object_room, text_needs, texts_needs}
-use Rattle.segment_dump.proofs.Builds.{HasEntry, IsMade, IsPlain, made, map-plain, numbers-plain, string-plain, texts-plain, vector-plain}
+use Rattle.segment_dump.specs.Need.{block_room, body_len, elements_room, item_needs, object_room, texts_needs}
+use Rattle.segment_dump.proofs.Builds.{HasEntry, IsPlain, made, map-plain, numbers-plain, string-plain, texts-plain, vector-plain}
 use Rattle.segment_dump.proofs.ElementReads.{never-ok, ok-same}
 use Rattle.segment_dump.proofs.Fillings.{times-rest, writing}
 use Rattle.segment_dump.proofs.Orders.{named-len, new-none, unique-len}

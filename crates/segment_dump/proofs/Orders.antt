@@ -1,16 +1,16 @@
 -- The objects of a segment, class by class and in order, are those of a dump where they were made in its order.
-use Rattle.std.proofs.Common.{◌≡◌, ◌≢◌, ℕ, suc, ◌+◌, ◌<◌, ◌≤◌, ◌==◌, ◌&&◌, Bool, true, false, nat_le, nat_lt, cond, List, [], ◌∷◌, ◌++◌, length, map, Option, Some, None, if◌then◌else◌, refl, sym, ap, subst, ◌∙◌, arith, append_assoc}
+use Rattle.std.proofs.Common.{◌≡◌, ℕ, suc, ◌+◌, ◌==◌, ◌&&◌, Bool, true, false, nat_lt, cond, List, [], ◌∷◌, ◌++◌, length, map, Some, None, if◌then◌else◌, refl, sym, ap, subst, ◌∙◌, arith, append_assoc}
 use Rattle.std.specs.Prelude.{filter, find, fold, ⊤}
 use Rattle.std.specs.List.{AllByRecursion}
-use Rattle.std.proofs.lemmas.List.{append-nil, length-append, map-append}
+use Rattle.std.proofs.lemmas.List.{append-nil, map-append}
 use Rattle.seg_types.specs.declared.kinds.Class.{Class}
 use Rattle.seg_types.specs.declared.kinds.Class.TheVariants.{Anonymous, Named, Unique}
 use Rattle.seg_types.specs.Kinds.{class_code, code_of, same_kind}
 use Rattle.seg_types.specs.Names.{Key, ByHandle, ByKind, ByName, NoKey}
-use Rattle.segment_manager.specs.Directory.{Bytes, Directory, Elements, Numbers, Object, Pairs, Texts, Value, by_kind, by_name, has_key, insert_by, is_class, kind_of, named_objects, object_at, same_bytes, unique_objects}
-use Rattle.segment_manager.proofs.Laws.{IsStrict, by_kind-strict, by_name-strict}
-use Rattle.segment_dump.specs.Building.{AreInOrder, AreNew, count_class, has_item_key, item_key, kind_less, name_less, of_class}
-use Rattle.segment_dump.specs.Items.{Item, anonymous_objects, content_of, item_of_object, kind_of_content, portable}
+use Rattle.segment_manager.specs.Directory.{Bytes, Directory, Elements, Numbers, Object, Pairs, Texts, Value, by_kind, by_name, has_key, insert_by, is_class, kind_of, named_objects, object_at, unique_objects}
+use Rattle.segment_manager.proofs.Laws.{IsStrict}
+use Rattle.segment_dump.specs.Building.{AreInOrder, count_class, has_item_key, item_key, kind_less, of_class}
+use Rattle.segment_dump.specs.Items.{Item, content_of, item_of_object, kind_of_content}
 
 -- ---- what items say of objects
 

@@ -1,8 +1,7 @@
 -- Behind all blocks there is one gap, and each request takes the front of it.
-use Rattle.std.proofs.Common.{◌≡◌, ◌⊎◌, inl, inr, ℕ, ◌+◌, ◌-◌, ◌%◌, ◌<◌, ◌≤◌, ◌==◌, ◌&&◌, Bool, true, false, nat_le, nat_lt, List, [], ◌∷◌, ◌++◌, Option, Some, None, if◌then◌else◌, refl, sym, ap, subst, ◌∙◌, arith, append_assoc}
-use Rattle.std.specs.Prelude.{IsTrue, filter, flat_map, option_map}
-use Rattle.std.specs.List.{AllByRecursion}
-use Rattle.std.proofs.lemmas.Bool.{and_parts, ltb-true, ltb-false}
+use Rattle.std.proofs.Common.{◌≡◌, inl, inr, ℕ, ◌+◌, ◌-◌, ◌<◌, ◌≤◌, ◌==◌, ◌&&◌, Bool, true, false, nat_le, nat_lt, List, [], ◌∷◌, ◌++◌, Option, Some, if◌then◌else◌, refl, sym, ap, subst, ◌∙◌, arith}
+use Rattle.std.specs.Prelude.{IsTrue, filter, option_map}
+use Rattle.std.proofs.lemmas.Bool.{and_parts, ltb-true}
 use Rattle.std.proofs.lemmas.Bool.Decides.{nat_tests}
 use Rattle.block_tags.specs.declared.tile.Role.{Role}
 use Rattle.block_tags.specs.Format.{is_legal_size}
@@ -13,7 +12,7 @@ use Rattle.segment_manager.proofs.Laws.{all-sorted, live-extents, live-size}
 use Rattle.segment_dump.specs.Building.{EndBy, HasRoom, all_extents, total}
 pub use Rattle.segment_dump.specs.Building.{IsRest}
 use Rattle.segment_dump.specs.Need.{block_room}
-use Rattle.segment_dump.proofs.Rooms.{total-append, total-insert, total-more}
+use Rattle.segment_dump.proofs.Rooms.{total-insert, total-more}
 
 -- ---- no gap but the one behind all blocks
 

@@ -1,7 +1,7 @@
 -- An object with nothing in it is ready to be filled, and is filled element by element.
-use Rattle.std.proofs.Common.{◌≡◌, inl, ℕ, ◌+◌, ◌*◌, ◌<◌, ◌≤◌, ℤ, pos, List, [], ◌∷◌, ◌++◌, length, map, replicate, Result, Ok, Err, refl, sym, ap, subst, ◌∙◌, arith, append-nil, add_assoc, zero-add}
+use Rattle.std.proofs.Common.{◌≡◌, inl, ℕ, ◌+◌, ◌*◌, ◌<◌, ◌≤◌, ℤ, pos, List, [], ◌∷◌, ◌++◌, length, replicate, Result, Ok, Err, refl, sym, ap, subst, ◌∙◌, arith, zero-add}
 use Rattle.std.specs.Prelude.{flat_map}
-use Rattle.best_fit.specs.Table.{Table, no_table}
+use Rattle.best_fit.specs.Table.{no_table}
 use Rattle.seg_types.specs.declared.kinds.Kind.{Kind}
 use Rattle.seg_types.specs.declared.kinds.Kind.TheVariants as kinds
 use Rattle.seg_types.specs.declared.kinds.ScalarKind.{ScalarKind}
@@ -10,22 +10,21 @@ use Rattle.seg_types.specs.declared.refusals.Refusal.{Refusal}
 use Rattle.seg_types.specs.Commands as asked
 use Rattle.seg_types.specs.Kinds.{size_of}
 use Rattle.seg_types.specs.Names.{ByHandle}
-use Rattle.seg_map.specs.Map.{node_len}
 use Rattle.segment_manager.specs.declared.modes.Mode.TheVariants.{Write}
-use Rattle.segment_manager.specs.Answers.{Answer, Done}
-use Rattle.segment_manager.specs.Directory.{Bytes, Elements, Numbers, Pairs, Texts, Value}
+use Rattle.segment_manager.specs.Answers.{Done}
+use Rattle.segment_manager.specs.Directory.{Elements, Numbers, Pairs, Texts, Value}
 use Rattle.segment_manager.specs.Plan.{bare}
 use Rattle.segment_manager.specs.State.{IsStep, State, done_answer}
-use Rattle.segment_manager.specs.Step.{step, with_table}
-use Rattle.segment_dump.specs.Builders.{AddsElement, FillsElements, FillsNew, IsBegun, IsFillable, IsFilled, IsVectorKind, content_need, first_content}
+use Rattle.segment_manager.specs.Step.{step}
+use Rattle.segment_dump.specs.Builders.{AddsElement, FillsElements, FillsNew, IsBegun, IsFillable, IsVectorKind, content_need, first_content}
 use Rattle.segment_dump.specs.Building.{IsFilling}
 use Rattle.segment_dump.specs.Filling.{Fill, FillsAt, IsPart, StandsFilling, StringsPart, VectorPart, head_of}
 use Rattle.segment_dump.specs.Items.{Content, Map, Scalars, String, Strings, Vector, count_of_content, kind_of_content}
-use Rattle.segment_dump.specs.Need.{all_needs, block_room, text_needs, texts_needs}
+use Rattle.segment_dump.specs.Need.{all_needs, block_room, text_needs}
 use Rattle.segment_dump.specs.Texts.{content_text, element_line, text_lines}
 use Rattle.segment_dump.proofs.Adds.{string-of, was-done}
-use Rattle.segment_dump.proofs.Fillings.{Led, filled, led, writing}
-use Rattle.segment_dump.proofs.Fills.{HasTable, IsReserved, IsStored, none, reserved, some, table_of, texts-stored, vector-stored}
+use Rattle.segment_dump.proofs.Fillings.{filled, led, writing}
+use Rattle.segment_dump.proofs.Fills.{HasTable, IsReserved, none, reserved, some, table_of, texts-stored, vector-stored}
 use Rattle.segment_dump.proofs.Spaces.{IsRest, block-rest, rest-both}
 
 -- ---- one element after another

@@ -1,40 +1,27 @@
 -- The steps of the directory machine by which a segment is built, and what each leads to.
-use Rattle.std.proofs.Common.{◌≡◌, ◌≢◌, ◌⊎◌, inl, inr, ℕ, zero, suc, ◌+◌, ◌-◌, ◌*◌, ◌<◌, ◌≤◌, ◌==◌, ◌&&◌, ℤ, Bool, true, false, nat_le, nat_lt, cond, List, [], ◌∷◌, ◌++◌, length, map, Option, Some, None, Result, Ok, Err, if◌then◌else◌, refl, sym, ap, subst, ◌∙◌, arith, append_assoc}
-use Rattle.std.specs.Prelude.{IsTrue, find, filter, flat_map, fold, option_to_list, slice_get, slice_set, int_lt, ⊤}
+use Rattle.std.proofs.Common.{◌≡◌, ℕ, ◌+◌, ◌<◌, ◌≤◌, ◌==◌, ◌&&◌, Bool, true, false, nat_le, nat_lt, cond, List, [], ◌∷◌, ◌++◌, Option, Some, None, Result, Ok, Err, if◌then◌else◌, refl, sym, ap, subst, ◌∙◌, arith, append_assoc}
+use Rattle.std.specs.Prelude.{find, flat_map}
 use Rattle.std.specs.List.{AllByRecursion}
-use Rattle.std.proofs.lemmas.Bool.{and_parts, eq-eqb, ltb-true, ltb-false}
+use Rattle.std.proofs.lemmas.Bool.{and_parts, eq-eqb}
 use Rattle.std.proofs.lemmas.Bool.Decides.{nat_tests}
 use Rattle.std.proofs.lemmas.Grind.{flat_map-append}
 use Rattle.std.proofs.lemmas.List.{append-nil}
-use Rattle.block_tags.specs.declared.tile.Role.TheVariants.{Index, Node, Object as ObjectRole, Storage}
-use Rattle.best_fit.specs.Extents.{Extent, end_of, handle, is_proper}
-use Rattle.best_fit.specs.Fit.{place, regrow, room}
-use Rattle.best_fit.specs.Table.{Table, no_table}
+use Rattle.best_fit.specs.Extents.{Extent, end_of, handle}
+use Rattle.best_fit.specs.Fit.{place, room}
 use Rattle.raw_region.specs.Format.{current}
-use Rattle.seg_types.specs.declared.kinds.Class.{Class}
-use Rattle.seg_types.specs.declared.kinds.Class.TheVariants.{Anonymous, Named, Unique}
 use Rattle.seg_types.specs.declared.kinds.Kind.{Kind}
-use Rattle.seg_types.specs.declared.kinds.Kind.TheVariants as kinds
-use Rattle.seg_types.specs.declared.kinds.ScalarKind.{ScalarKind}
 use Rattle.seg_types.specs.declared.refusals.Refusal.{Refusal}
 use Rattle.seg_types.specs.declared.refusals.Refusal.TheVariants.{NotFound, WrongKind}
-use Rattle.seg_types.specs.Commands as asked
-use Rattle.seg_types.specs.Commands.{Command, literal_of, value_of_literal}
-use Rattle.seg_types.specs.Kinds.{code_of, same_kind, size_of}
-use Rattle.seg_types.specs.Names.{Key, ByHandle, ByKind, ByName, NoKey}
-use Rattle.seg_map.specs.Map.{node_len, pair_at, put_pair}
-use Rattle.seg_map.specs.Numbers.{NumberPair}
-use Rattle.seg_vector.specs.Vector.{OwnedText, capacity_for_one, capacity_for_text}
+use Rattle.seg_types.specs.Commands.{Command}
+use Rattle.seg_types.specs.Kinds.{code_of, same_kind}
+use Rattle.seg_types.specs.Names.{Key, ByHandle}
 use Rattle.segment_manager.specs.declared.modes.Mode.TheVariants.{Write}
-use Rattle.segment_manager.specs.Answers.{Answer, Done, Made, Truth}
-use Rattle.segment_manager.specs.Directory.{Bytes, Directory, Elements, IsDirectory, Numbers, Object, Pairs, Texts, Value, extents_of, has_key, kind_of, live, named_objects, object_at, object_len, put_object, replace_object, rises_from, table_extents, unique_objects, value_extents, with_object}
-use Rattle.segment_manager.specs.Plan.{Plan, Reply, Request, New, Regrown, bare, class_of, name_of, perform, with, with_capacity, with_new_object, with_value}
-use Rattle.segment_manager.specs.Step.{changed, effect, found_at, push, put, set, step, step_of_kind, storage_of, with_table}
-use Rattle.segment_manager.proofs.Laws.{live-size}
-use Rattle.segment_dump.specs.Building.{EndBy, HasRoom, Head, IsBuilt, IsFilling, Site, all_extents, total}
-use Rattle.segment_dump.specs.Items.{Item, content_of, item_of_object}
-use Rattle.segment_dump.specs.Need.{block_room}
-use Rattle.segment_dump.proofs.Spaces.{IsRest, IsTaken, block-some, room-less, room-taken, room-with}
+use Rattle.segment_manager.specs.Directory.{Directory, IsDirectory, Object, Value, extents_of, has_key, kind_of, live, object_at, put_object, replace_object, rises_from, table_extents, value_extents}
+use Rattle.segment_manager.specs.Plan.{Plan, perform, with}
+use Rattle.segment_manager.specs.Step.{changed, effect, found_at, step, step_of_kind}
+use Rattle.segment_dump.specs.Building.{EndBy, HasRoom, Head, IsFilling, Site, all_extents, total}
+use Rattle.segment_dump.specs.Items.{Item}
+use Rattle.segment_dump.proofs.Spaces.{IsRest, IsTaken, room-taken, room-with}
 
 -- ---- a step in a segment that is open for writing
 

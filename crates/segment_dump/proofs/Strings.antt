@@ -1,34 +1,30 @@
 -- A string is filled, piece by piece.
-use Rattle.std.proofs.Common.{◌≡◌, ℕ, suc, ◌+◌, ◌-◌, ◌*◌, ◌/◌, ◌^◌, ◌<◌, ◌≤◌, List, [], ◌∷◌, ◌++◌, length, take, Result, Ok, Err, refl, sym, ap, subst, ◌∙◌, arith}
-use Rattle.std.proofs.lemmas.List.{append-nil, length-append}
+use Rattle.std.proofs.Common.{◌≡◌, ℕ, suc, ◌+◌, ◌-◌, ◌*◌, ◌/◌, ◌^◌, ◌<◌, ◌≤◌, List, [], ◌∷◌, ◌++◌, length, Result, Ok, Err, refl, sym, ap, subst, ◌∙◌, arith}
 use Rattle.best_fit.specs.Table.{Table, no_table}
-use Rattle.seg_types.specs.declared.kinds.Class.{Class}
 use Rattle.seg_types.specs.declared.kinds.Kind.TheVariants as kinds
 use Rattle.seg_types.specs.declared.refusals.Refusal.{Refusal}
 use Rattle.seg_types.specs.Commands as asked
 use Rattle.seg_types.specs.Names.{ByHandle}
-use Rattle.seg_types.specs.Texts.{quoted_text}
 use Rattle.segment_manager.specs.declared.modes.Mode.TheVariants.{Write}
-use Rattle.segment_manager.specs.Answers.{Answer, Done}
+use Rattle.segment_manager.specs.Answers.{Done}
 use Rattle.segment_manager.specs.Directory.{Bytes, Value}
 use Rattle.segment_manager.specs.Plan.{bare}
 use Rattle.segment_manager.specs.State.{IsStep, IsStepOfKind, State, done_answer}
 use Rattle.segment_manager.specs.Step.{step, step_of_kind}
-use Rattle.segment_dump.specs.Builders.{AppendsPiece, FillsNew, IsBegun, IsFillable, IsFilled, PiecesLeft, ReadsLength, ReadsPiece, content_need, first_content}
-use Rattle.segment_dump.specs.Building.{Head, IsBuilt, IsFilling, Site}
-use Rattle.segment_dump.specs.Filling.{AreBytes, Fill, IsBuildableContent, StandsBuilt, StandsFilling, filled_item, head_of}
-use Rattle.segment_dump.specs.Items.{Content, Item, String, count_of_content, kind_of_content}
+use Rattle.segment_dump.specs.Builders.{AppendsPiece, FillsNew, IsBegun, IsFillable, PiecesLeft, ReadsLength, ReadsPiece, content_need, first_content}
+use Rattle.segment_dump.specs.Building.{Head, IsBuilt, IsFilling}
+use Rattle.segment_dump.specs.Filling.{AreBytes, Fill, IsBuildableContent, StandsFilling, head_of}
+use Rattle.segment_dump.specs.Items.{Content, String, count_of_content, kind_of_content}
 use Rattle.segment_dump.specs.Lines.{ReadsLine}
 use Rattle.segment_dump.specs.Need.{block_room}
-use Rattle.segment_dump.specs.Texts.{content_text, piece_lead, piece_of, pieces_in, text_lines}
+use Rattle.segment_dump.specs.Texts.{content_text, piece_of, pieces_in, text_lines}
 use Rattle.segment_dump.proofs.Adds.{string-of, was-done}
 use Rattle.segment_dump.proofs.Builds.{built}
 use Rattle.segment_dump.proofs.ContentLines.{piece_front}
 use Rattle.segment_dump.proofs.ElementReads.{never-ok, ok-same}
-use Rattle.segment_dump.proofs.Fillings.{Led, led, writing, writing-of_kind}
+use Rattle.segment_dump.proofs.Fillings.{led, writing, writing-of_kind}
 use Rattle.segment_dump.proofs.Fills.{HasTable, IsReserved, appended, none, reserved, some, string-stored, table_of}
 use Rattle.segment_dump.proofs.PieceReads.{first-fits, front-all, front-few, front-more, front_bytes, none-left, piece-bytes, piece-line}
-use Rattle.segment_dump.proofs.Spaces.{IsRest}
 
 -- ---- one piece
 

@@ -1,12 +1,10 @@
 -- A load of a dump, where nothing is lacking for its objects, gives a segment.
-use Rattle.std.proofs.Common.{◌≡◌, ◌≢◌, inl, ℕ, ◌+◌, ◌-◌, ◌*◌, ◌^◌, ◌<◌, ◌≤◌, ◌==◌, ◌&&◌, Bool, true, false, nat_eq, nat_lt, List, [], ◌∷◌, ◌++◌, length, map, Option, Some, None, Result, Ok, Err, if◌then◌else◌, refl, sym, ap, subst, ◌∙◌, arith, zero-add}
-use Rattle.std.specs.Prelude.{IfOk, MatchResult, OnErr, not}
+use Rattle.std.proofs.Common.{◌≡◌, inl, ℕ, ◌+◌, ◌*◌, ◌^◌, ◌<◌, ◌≤◌, Bool, true, false, nat_eq, nat_lt, List, [], ◌∷◌, ◌++◌, length, map, Option, Some, None, Result, Ok, Err, if◌then◌else◌, refl, sym, ap, subst, ◌∙◌, arith}
+use Rattle.std.specs.Prelude.{IfOk, OnErr, not}
 use Rattle.std.proofs.lemmas.Bool.{false≢true, ltb-false}
 use Rattle.std.proofs.lemmas.List.{length-append}
 use Rattle.std.proofs.lemmas.Bool.Decides.{nat_tests}
 use Rattle.block_tags.specs.Format.{is_legal_size}
-use Rattle.best_fit.specs.Extents.{free_bytes}
-use Rattle.raw_region.specs.Format.{current}
 use Rattle.seg_types.specs.declared.refusals.Refusal.{Refusal}
 use Rattle.seg_types.specs.Commands as asked
 use Rattle.segment_manager.specs.declared.errors.CreateError.{CreateError}
@@ -15,7 +13,7 @@ use Rattle.segment_manager.specs.declared.errors.CreateRefused.{CreateRefused}
 use Rattle.segment_manager.specs.declared.modes.Mode.TheVariants.{Write}
 use Rattle.segment_manager.specs.Answers.{Done, Number}
 use Rattle.segment_manager.specs.Calls.{Creates, IsWhy}
-use Rattle.segment_manager.specs.Directory.{Directory, empty, live}
+use Rattle.segment_manager.specs.Directory.{Directory, empty}
 use Rattle.segment_manager.specs.Resized.{Resizes, shrunk}
 use Rattle.segment_manager.specs.State.{IsStep, State, StandsFor, done_answer}
 use Rattle.segment_manager.specs.Step.{step}
@@ -24,7 +22,7 @@ use Rattle.segment_dump.specs.declared.counting.Front.{Front}
 use Rattle.segment_dump.specs.declared.faults.LoadError.{LoadError}
 use Rattle.segment_dump.specs.declared.faults.LoadError.TheVariants.{BadSize, RegionTooSmall, NoSpace, LongText}
 use Rattle.segment_dump.specs.declared.faults.LoadRefused.{LoadRefused}
-use Rattle.segment_dump.specs.Builders.{AreLeft, Builds, IsAt}
+use Rattle.segment_dump.specs.Builders.{Builds}
 use Rattle.segment_dump.specs.Building.{IsBuilt, IsRest, Site}
 use Rattle.segment_dump.specs.Comparing.{IsNoDumpOf}
 use Rattle.segment_dump.specs.Counting.{CountsDump, IsFront, fronted}
@@ -33,7 +31,7 @@ use Rattle.segment_dump.specs.Items.{Item, Items, item_of_object, portable}
 use Rattle.segment_dump.specs.Loading.{IsAsked, IsRefusalOf, asked_of, refusal_for}
 use Rattle.segment_dump.specs.Need.{all_needs, block_room, front_room, item_needs, items_needs}
 use Rattle.segment_dump.specs.Order.{all_items}
-use Rattle.segment_dump.specs.Succeeding.{IsOk, IsSized, Judges, MakesObjects, Sizes, Succeeds, SucceedsOf, Takes, Trims, site_of, trimmed}
+use Rattle.segment_dump.specs.Succeeding.{IsSized, Judges, MakesObjects, Sizes, Succeeds, SucceedsOf, Takes, Trims, site_of, trimmed}
 use Rattle.segment_dump.specs.Texts.{dump_text, end_text, items_text}
 use Rattle.segment_dump.proofs.Buildables.{needs-all, portable-left}
 use Rattle.segment_dump.proofs.Builds.{IsFronted, empty-built, fronted as with_names, named-reserved, unique-reserved}

@@ -10,8 +10,8 @@ use Rattle.seg_types.specs.declared.values.ScalarValue.{ScalarValue}
 use Rattle.seg_types.specs.Commands as asked
 use Rattle.seg_types.specs.Commands.{Command, Content as Asked, literal_of}
 use Rattle.seg_types.specs.Kinds.{is_value}
-use Rattle.seg_types.specs.Names.{Key, ByHandle}
-use Rattle.seg_types.specs.Values.{kind_of_scalar, scalar_of, value_of_scalar}
+use Rattle.seg_types.specs.Names.{Key}
+use Rattle.seg_types.specs.Values.{scalar_of}
 use Rattle.best_fit.specs.Table.{Table}
 use Rattle.segment_manager.specs.Directory.{Bytes}
 use Rattle.segment_manager.specs.Plan.{bare}
@@ -20,10 +20,10 @@ use Rattle.seg_types.specs.Texts.{class_text, name_text, quoted_text}
 use Rattle.segment_lang.specs.Tokens.{next_word}
 use Rattle.segment_lang.specs.Words.{Bare}
 use Rattle.segment_dump.specs.declared.building.Shape.{Shape}
-use Rattle.segment_dump.specs.Building.{AreNew, Head, IsRest, Site, count_class, has_item_key, head_words, item_key, measure_words}
-use Rattle.segment_dump.specs.Filling.{AreBytes, Fill, FillsAt, IsBuildable, IsBuildableContent, IsCounted, IsNameIn, IsPairOf, StandsBuilt, StandsFilling, filled_item, head_of}
+use Rattle.segment_dump.specs.Building.{AreNew, IsRest, Site, count_class, has_item_key, head_words, item_key, measure_words}
+use Rattle.segment_dump.specs.Filling.{AreBytes, Fill, FillsAt, IsBuildable, IsBuildableContent, IsCounted, IsPairOf, StandsBuilt, StandsFilling, filled_item, head_of}
 use Rattle.segment_dump.specs.Items.{Content, Item, count_of_content, kind_of_content}
-use Rattle.segment_dump.specs.Need.{all_needs, block_room, elements_room, item_needs, texts_needs}
+use Rattle.segment_dump.specs.Need.{all_needs, elements_room, item_needs, texts_needs}
 use Rattle.segment_dump.specs.Parts.{parts_until}
 use Rattle.segment_dump.specs.Texts.{content_text, element_line, end_text, items_text, pair_line, piece_lead, piece_line, piece_of, pieces_text, text_lines}
 

@@ -1,5 +1,5 @@
 -- What is counted of a text, and of which texts it is said.
-use Rattle.std.specs.Prelude.{◌≡◌, ◌≢◌, ◌<◌, ◌^◌, ◌++◌, ℕ, List, [], Result, Ok, length}
+use Rattle.std.specs.Prelude.{◌≡◌, ◌≢◌, ◌<◌, ◌^◌, ◌++◌, ℕ, List, [], Option, Some, Result, Ok, length}
 use Rattle.std.specs.List.{AllByRecursion}
 use Rattle.seg_types.specs.declared.kinds.Class.TheVariants.{Named}
 use Rattle.seg_types.specs.declared.kinds.Kind.{Kind}
@@ -56,3 +56,7 @@ pub record CountsObjects (text : List ℕ) (result : Result Needs ℕ) : Type 0 
 -- the needs of all objects of which the text is the dump, and the size that it says
 pub record CountsDump (text : List ℕ) (result : Result Count ℕ) : Type 0 where
   pub counts : (n : ℕ) (items : Items) → n < 2 ^ 64 → AreCountable items → text ≡ dump_text n items → result ≡ Ok (record { size = n; needs = items_needs items })
+
+-- the size that it says, of whatever objects the text is the dump
+pub record SaysSize (text : List ℕ) (result : Option ℕ) : Type 0 where
+  pub says : (n : ℕ) (items : Items) → n < 2 ^ 64 → text ≡ dump_text n items → result ≡ Some n

@@ -1,5 +1,5 @@
 -- An object that is being filled: what of its content it has, and what is left in the text and of the room.
-use Rattle.std.specs.Prelude.{◌≡◌, ℕ, ◌+◌, ◌*◌, ◌^◌, ◌<◌, ◌≤◌, ℤ, pos, ⊤, Bool, true, int_lt, List, [], ◌∷◌, ◌++◌, Result, Ok, length, map, replicate, flat_map}
+use Rattle.std.specs.Prelude.{◌≡◌, ℕ, ◌+◌, ◌*◌, ◌^◌, ◌<◌, ◌≤◌, ℤ, pos, ⊤, true, int_lt, List, [], ◌∷◌, ◌++◌, length, map, replicate, flat_map}
 use Rattle.std.specs.List.{AllByRecursion}
 use Rattle.best_fit.specs.Table.{Table}
 use Rattle.raw_region.specs.Format.{current}
@@ -13,7 +13,7 @@ use Rattle.seg_map.specs.Numbers.{NumberPair}
 use Rattle.seg_map.specs.Places.{item_of}
 use Rattle.seg_vector.specs.Vector.{OwnedText}
 use Rattle.segment_manager.specs.declared.modes.Mode.TheVariants.{Write}
-use Rattle.segment_manager.specs.Directory.{Bytes, Directory, Elements, Numbers, Pairs, Texts, Value}
+use Rattle.segment_manager.specs.Directory.{Directory, Elements, Numbers, Pairs, Texts, Value}
 use Rattle.segment_manager.specs.State.{State, StandsFor}
 use Rattle.segment_dump.specs.Building.{Head, IsBuilt, IsFilling, Site}
 use Rattle.segment_dump.specs.Items.{Content, Item, Map, Scalars, String, Strings, Vector, bytes_in}

@@ -6,6 +6,8 @@ pub mod Asked
 pub mod Comparing
 pub mod Places
 pub mod Loading
+pub mod Notes
+pub mod Capacities
 pub mod Laws
 pub mod Reads
 pub mod Leads

@@ -1,7 +1,6 @@
 -- A text that is read line by line, and a line word by word: what is read where it stands there as it is written.
 use Rattle.std.specs.Prelude.{◌≡◌, ◌≤◌, ℕ, List, [], ◌++◌, Option, Some, None, Result, Ok, Err, length, option_map}
 use Rattle.std.specs.Borrow.{Bor}
-use Rattle.raw_region.specs.Format.{current}
 use Rattle.seg_types.specs.declared.kinds.ScalarKind.{ScalarKind}
 use Rattle.seg_types.specs.declared.values.ScalarValue.{ScalarValue}
 use Rattle.seg_types.specs.Values.{scalar_of}

@@ -34,9 +34,13 @@ lines_at d key = part_of object_lines (object_at d key)
 abbrev pub text_at : Directory → Key → List ℕ
 text_at d key = part_of object_text (object_at d key)
 
--- the same where it is anonymous
+-- a text of those objects that are anonymous
+abbrev pub where_anonymous : (Object → List ℕ) → Object → List ℕ
+where_anonymous text o = if is_class Anonymous o then text o else []
+
+-- the lines of an object where it is anonymous
 abbrev pub anonymous_text : Object → List ℕ
-anonymous_text o = if is_class Anonymous o then object_text o else []
+anonymous_text = where_anonymous object_text
 
 abbrev pub anonymous_at : Directory → Key → List ℕ
 anonymous_at d key = part_of anonymous_text (object_at d key)

@@ -3,6 +3,7 @@
 
 mod against;
 mod building;
+mod capacities;
 mod comparing;
 mod contents;
 mod counting;
@@ -14,16 +15,21 @@ mod filling_texts;
 mod front_reading;
 mod loading;
 mod needs;
+mod notes;
 mod pairs;
 mod places;
 mod reading;
+mod saying;
 mod texts;
 mod theorems;
 
+pub use capacities::dump_with_capacities;
 pub use comparing::compare;
 pub use counting::{Count, count_dump};
 pub use dumping::dump;
 pub use faults::{BadDump, DumpFault, LoadError, LoadRefused};
 pub use loading::load;
 pub use needs::Needs;
-pub use theorems::{dumps_tell_objects, segments_have_room};
+pub use notes::without_notes;
+pub use saying::said_size;
+pub use theorems::{dumps_tell_objects, notes_are_left_out, segments_have_room};

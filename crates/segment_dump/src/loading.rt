@@ -4,6 +4,7 @@ ghost use Rattle.std.specs.Prelude.{◌≡◌, ◌↔◌, ◌%◌, length, IfOk,
 ghost use Rattle.std.specs.Bool.{OnTrue};
 ghost use Rattle.segment_manager.specs.declared.modes.Mode.TheVariants.{Write};
 ghost use Rattle.segment_dump.specs.Counting.{IsFront, fronted};
+ghost use Rattle.segment_dump.specs.Notes.{without_notes};
 ghost use Rattle.segment_dump.specs.Reads.{Any};
 ghost use Rattle.segment_dump.specs.Succeeding.{AreNumbers, IsNumber, Judges, MakesObjects, ReadsLead, Sizes, Succeeds, SucceedsOf, Takes, Trims, entries_said, size_said, version_said};
 ghost use Rattle.segment_dump.specs.Loading.{HasSize, IsAsked, IsExact, IsJudged, IsLetGo, IsLoaded, IsMade, IsNotLoaded, IsRefusalOf, IsWrong, asked_of, cause_in, load_error, refusal_for};
@@ -12,6 +13,7 @@ use crate::building::{Stop, build, stop_of};
 use crate::comparing::compare;
 use crate::counting::{Count, Front, count_dump};
 use crate::faults::{BadDump, DumpFault, LoadError, LoadRefused, Misfit};
+use crate::notes::without_notes;
 use crate::places::place_at;
 use crate::reading::{Lines, Words};
 use block_tags::is_legal_size;
@@ -23,7 +25,8 @@ use segment_manager::{CreateError, CreateRefused, Mode, Segment};
 /// Makes a segment of a dump, in the `size` bytes of the region from `base` on, which is a multiple of 16; without a size in as
 /// many as the dump says, of which it keeps those up to its last block: nothing in it is free then. Whatever segment the dump is
 /// of, this one has the same objects: the same names, classes, kinds and values, and anonymous objects in the same order. The
-/// room is for the longest text of a vector of strings: as many bytes as the dump has are enough.
+/// room is for the longest text of a vector of strings: as many bytes as the dump has are enough. Notes behind the dump are left
+/// out ([`without_notes`]), so that capacities are not kept.
 ///
 /// # Errors
 ///
@@ -32,6 +35,22 @@ use segment_manager::{CreateError, CreateRefused, Mode, Segment};
 /// vector of strings with a text that is longer than the room. The region comes back as it was where no segment was begun, as
 /// for these two, and else is let go.
 pub fn load(
+    text: &[u8],
+    room: &mut [u8],
+    region: RawRegion,
+    base: u64,
+    size: Option<u64>,
+) -> Result<Segment, LoadRefused>
+    requires aligned { base % 16 ≡ 0 }
+    ensures done { MatchResult result (IsLoaded (without_notes text.now) size) (IsNotLoaded (without_notes text.now) region base size (length room.old)) }
+    ensures exact { IsExact (without_notes text.now) (length region) base size (length room.old) (cause_in result) }
+    ensures succeeds { Succeeds (without_notes text.now) (length region) base size (length room.old) result }
+{
+    load_lines(without_notes(text), room, region, base, size)
+}
+
+/// The same of a text without notes.
+fn load_lines(
     text: &[u8],
     room: &mut [u8],
     region: RawRegion,

@@ -1,6 +1,5 @@
-use Rattle.std.proofs.Common.{arith, length, refl, subst, ◌∙◌}
+use Rattle.std.proofs.Common.{arith, length, refl, ◌∙◌}
 use Rattle.std.proofs.lemmas.Bool.{false≢true}
-use Rattle.segment_dump.specs.Builders.{BuildsObject}
 use Rattle.segment_dump.proofs.BuildLines.{as-long, build-cut, build-end, build-long, build-more, build-no_line, build-start}
 use Rattle.segment_dump.proofs.building.build.Goals as goal
 

@@ -1,4 +1,4 @@
-use Rattle.std.proofs.Common.{refl, sym, ap, ◌∙◌}
+use Rattle.std.proofs.Common.{sym, ap, ◌∙◌}
 use Rattle.segment_dump.proofs.ElementReads.{never-ok, ok-same}
 use Rattle.std.proofs.Common.{Ok}
 use Rattle.segment_dump.proofs.Makes.{shape-unread, started}

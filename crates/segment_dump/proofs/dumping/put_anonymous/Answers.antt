@@ -5,7 +5,7 @@ use Rattle.segment_manager.specs.Directory.{Directory}
 use Rattle.segment_manager.specs.Instances.{SaysAt}
 use Rattle.segment_manager.specs.State.{State, StandsFor}
 use Rattle.segment_dump.specs.Items.{anonymous_objects}
-use Rattle.segment_dump.specs.Owed.{WritesOf, anonymous_at, anonymous_text, objects_text}
+use Rattle.segment_dump.specs.Owed.{WritesOf, anonymous_at, anonymous_text, object_text, objects_text}
 use Rattle.segment_dump.specs.Parts.{parts_until}
 use Rattle.segment_dump.proofs.Members.{all-objects, said-of, text-of}
 use Rattle.segment_dump.proofs.Owed.{of-all, of-cut_of, of-more, of-same, of-start}
@@ -23,7 +23,7 @@ objects-init g c =
       can = tt;
       finite = tt;
       segment = ap (λ w. w.segment) same;
-      told = subst (λ n. WritesOf s old old well (λ d. parts_until (anonymous_at_place d) n)) (sym (ap (λ w. w.at) same)) (of-start s anonymous_at_place old);
+      told = subst (λ n. WritesOf s old old well (λ d. parts_until (anonymous_at_place object_text d) n)) (sym (ap (λ w. w.at) same)) (of-start s (anonymous_at_place object_text) old);
     }
 
 pub put_if_anonymous-requires-clause-said : goal.put_if_anonymous-requires-clause-said
@@ -47,11 +47,11 @@ returns-in_err-put_if_anonymous g c =
     subst (λ (t : State). SaysAt t (λ (d : Directory). d.objects) walk.at said) c.objects.invariant.segment c.in-Some.ensures.steps.says in
     let within : (d : Directory) → StandsFor s.cut.bytes d → walk.at < length d.objects = λ d st. let o = at.says d st in slice_get_within d.objects walk.at o.0 o.1 in
     of-same s old new result _ (λ (d : Directory). objects_text (anonymous_objects d))
-    (of-cut_of s anonymous_at_place old mid new walk.at c.objects.invariant.told (λ (d : Directory). length d.objects) within _
-    (of-same s mid new _ (λ d. anonymous_at d (ByHandle said.handle)) (λ d. anonymous_at_place d walk.at) c.in_err-put_if_anonymous.ensures
+    (of-cut_of s (anonymous_at_place object_text) old mid new walk.at c.objects.invariant.told (λ (d : Directory). length d.objects) within _
+    (of-same s mid new _ (λ d. anonymous_at d (ByHandle said.handle)) (λ d. anonymous_at_place object_text d walk.at) c.in_err-put_if_anonymous.ensures
     (text-of s (λ (d : Directory). d.objects) walk.at said at (λ d st. all-objects s.cut.bytes d st) anonymous_text))
     result c.from_residual.ensures.0)
-    (λ d st. anonymous-places d (length d.objects) (omega arith))
+    (λ d st. anonymous-places object_text d (length d.objects) (omega arith))
 
 pub objects-preserved : goal.objects-preserved
 objects-preserved g c =
@@ -68,9 +68,9 @@ objects-preserved g c =
       finite = tt;
       segment = steps.segment ∙ c.objects.invariant.segment;
       told =
-          subst (λ n. WritesOf s old new well (λ d. parts_until (anonymous_at_place d) n)) (sym steps.place)
-          (of-more s anonymous_at_place old mid new walk.at c.objects.invariant.told _
-          (of-same s mid new _ (λ d. anonymous_at d (ByHandle said.handle)) (λ d. anonymous_at_place d walk.at) c.in_ok-put_if_anonymous.ensures
+          subst (λ n. WritesOf s old new well (λ d. parts_until (anonymous_at_place object_text d) n)) (sym steps.place)
+          (of-more s (anonymous_at_place object_text) old mid new walk.at c.objects.invariant.told _
+          (of-same s mid new _ (λ d. anonymous_at d (ByHandle said.handle)) (λ d. anonymous_at_place object_text d walk.at) c.in_ok-put_if_anonymous.ensures
           (text-of s (λ (d : Directory). d.objects) walk.at said at (λ d st. all-objects s.cut.bytes d st) anonymous_text)));
     }
 
@@ -82,6 +82,6 @@ returns g c =
     let new = g.W.Sink.history c.objects.out in
     let none : (d : Directory) → StandsFor s.cut.bytes d → length d.objects ≤ walk.at =
     subst (λ (t : State). (d : Directory) → StandsFor t.cut.bytes d → length d.objects ≤ walk.at) c.objects.invariant.segment c.in-None.ensures.steps.says in
-    of-same s old new _ (λ d. parts_until (anonymous_at_place d) walk.at) (λ (d : Directory). objects_text (anonymous_objects d))
-    (of-all s anonymous_at_place old new walk.at walk.at _ c.objects.invariant.told refl)
-    (λ d st. anonymous-places d walk.at (none d st))
+    of-same s old new _ (λ d. parts_until (anonymous_at_place object_text d) walk.at) (λ (d : Directory). objects_text (anonymous_objects d))
+    (of-all s (anonymous_at_place object_text) old new walk.at walk.at _ c.objects.invariant.told refl)
+    (λ d st. anonymous-places object_text d walk.at (none d st))

@@ -1,6 +1,6 @@
 use Rattle.seg_types.specs.Names.{ByHandle}
 use Rattle.segment_manager.specs.Directory.{Directory}
-use Rattle.segment_dump.specs.Owed.{anonymous_at, text_at}
+use Rattle.segment_dump.specs.Owed.{anonymous_at, object_text, text_at}
 use Rattle.segment_dump.proofs.Owed.{of-none, of-same}
 use Rattle.segment_dump.proofs.Sections.{anonymous-said, other-said}
 use Rattle.segment_dump.proofs.dumping.put_if_anonymous.Goals as goal
@@ -10,10 +10,10 @@ returns-in-Anonymous g c =
     let s = c.args.segment.now in
     let said = c.args.said in
     of-same s (g.W.Sink.history c.args.out.now) (g.W.Sink.history c.put_entry.new.out) c.put_entry.result (λ (d : Directory). text_at d (ByHandle said.handle)) (λ (d : Directory). anonymous_at d (ByHandle said.handle)) c.put_entry.ensures
-    (anonymous-said s said c.requires.said c.in-Anonymous.is)
+    (anonymous-said object_text s said c.requires.said c.in-Anonymous.is)
 
 pub returns-in_default : goal.returns-in_default
 returns-in_default g c =
     let s = c.args.segment.now in
     let said = c.args.said in
-    of-none s (g.W.Sink.history c.args.out.now) tt (λ (d : Directory). anonymous_at d (ByHandle said.handle)) (other-said s said c.requires.said c.in_default.not-Anonymous)
+    of-none s (g.W.Sink.history c.args.out.now) tt (λ (d : Directory). anonymous_at d (ByHandle said.handle)) (other-said object_text s said c.requires.said c.in_default.not-Anonymous)

@@ -19,7 +19,7 @@ put_entry-requires-clause-said g c =
     said-of s named_objects c.names.index c.named_instance.result c.named_instance.ensures (λ d st. all-named s.cut.bytes d st)
 
 pub names-init : goal.names-init
-names-init g c = of-start c.args.segment.now (object_at_place named_objects) (g.W.Sink.history c.args.out.now)
+names-init g c = of-start c.args.segment.now (object_at_place object_text named_objects) (g.W.Sink.history c.args.out.now)
 
 pub returns-in_err-put_entry : goal.returns-in_err-put_entry
 returns-in_err-put_entry g c =
@@ -31,11 +31,11 @@ returns-in_err-put_entry g c =
     let n = c.num_named-index-end.result in
     let result = c.from_residual.result in
     of-same s old new result _ (λ (d : Directory). objects_text (named_objects d))
-    (of-cut_in s (object_at_place named_objects) old mid new c.names.index c.names.invariant n (omega (arith, c.names-test.true)) _
-    (of-same s mid new _ (λ d. text_at d (ByHandle said.handle)) (λ d. object_at_place named_objects d c.names.index) c.in_err-put_entry.ensures
+    (of-cut_in s (object_at_place object_text named_objects) old mid new c.names.index c.names.invariant n (omega (arith, c.names-test.true)) _
+    (of-same s mid new _ (λ d. text_at d (ByHandle said.handle)) (λ d. object_at_place object_text named_objects d c.names.index) c.in_err-put_entry.ensures
     (text-of s named_objects c.names.index said c.named_instance.ensures (λ d st. all-named s.cut.bytes d st) object_text))
     result c.from_residual.ensures.0)
-    (λ d k. all-places named_objects d n (named-is s.mode d n (c.num_named-index-end.ensures.answers d k)))
+    (λ d k. all-places object_text named_objects d n (named-is s.mode d n (c.num_named-index-end.ensures.answers d k)))
 
 pub names-preserved : goal.names-preserved
 names-preserved g c =
@@ -43,8 +43,8 @@ names-preserved g c =
     let mid = g.W.Sink.history c.names.out in
     let new = g.W.Sink.history c.put_entry.new.out in
     let said = c.named_instance.result in
-    of-more s (object_at_place named_objects) (g.W.Sink.history c.args.out.now) mid new c.names.index c.names.invariant _
-    (of-same s mid new _ (λ d. text_at d (ByHandle said.handle)) (λ d. object_at_place named_objects d c.names.index) c.in_ok-put_entry.ensures
+    of-more s (object_at_place object_text named_objects) (g.W.Sink.history c.args.out.now) mid new c.names.index c.names.invariant _
+    (of-same s mid new _ (λ d. text_at d (ByHandle said.handle)) (λ d. object_at_place object_text named_objects d c.names.index) c.in_ok-put_entry.ensures
     (text-of s named_objects c.names.index said c.named_instance.ensures (λ d st. all-named s.cut.bytes d st) object_text))
 
 pub returns : goal.returns
@@ -54,5 +54,5 @@ returns g c =
     let new = g.W.Sink.history c.names.out in
     let n = c.num_named-index-end.result in
     of-same s old new _ _ (λ (d : Directory). objects_text (named_objects d))
-    (of-all s (object_at_place named_objects) old new c.names.index n _ c.names.invariant (omega (arith, c.names-test.false, c.names.auto.index-end)))
-    (λ d k. all-places named_objects d n (named-is s.mode d n (c.num_named-index-end.ensures.answers d k)))
+    (of-all s (object_at_place object_text named_objects) old new c.names.index n _ c.names.invariant (omega (arith, c.names-test.false, c.names.auto.index-end)))
+    (λ d k. all-places object_text named_objects d n (named-is s.mode d n (c.num_named-index-end.ensures.answers d k)))

@@ -19,7 +19,7 @@ put_entry-requires-clause-said g c =
     said-of s unique_objects c.kinds.index c.unique_instance.result c.unique_instance.ensures (λ d st. all-unique s.cut.bytes d st)
 
 pub kinds-init : goal.kinds-init
-kinds-init g c = of-start c.args.segment.now (object_at_place unique_objects) (g.W.Sink.history c.args.out.now)
+kinds-init g c = of-start c.args.segment.now (object_at_place object_text unique_objects) (g.W.Sink.history c.args.out.now)
 
 pub returns-in_err-put_entry : goal.returns-in_err-put_entry
 returns-in_err-put_entry g c =
@@ -31,11 +31,11 @@ returns-in_err-put_entry g c =
     let n = c.num_unique-index-end.result in
     let result = c.from_residual.result in
     of-same s old new result _ (λ (d : Directory). objects_text (unique_objects d))
-    (of-cut_in s (object_at_place unique_objects) old mid new c.kinds.index c.kinds.invariant n (omega (arith, c.kinds-test.true)) _
-    (of-same s mid new _ (λ d. text_at d (ByHandle said.handle)) (λ d. object_at_place unique_objects d c.kinds.index) c.in_err-put_entry.ensures
+    (of-cut_in s (object_at_place object_text unique_objects) old mid new c.kinds.index c.kinds.invariant n (omega (arith, c.kinds-test.true)) _
+    (of-same s mid new _ (λ d. text_at d (ByHandle said.handle)) (λ d. object_at_place object_text unique_objects d c.kinds.index) c.in_err-put_entry.ensures
     (text-of s unique_objects c.kinds.index said c.unique_instance.ensures (λ d st. all-unique s.cut.bytes d st) object_text))
     result c.from_residual.ensures.0)
-    (λ d k. all-places unique_objects d n (unique-is s.mode d n (c.num_unique-index-end.ensures.answers d k)))
+    (λ d k. all-places object_text unique_objects d n (unique-is s.mode d n (c.num_unique-index-end.ensures.answers d k)))
 
 pub kinds-preserved : goal.kinds-preserved
 kinds-preserved g c =
@@ -43,8 +43,8 @@ kinds-preserved g c =
     let mid = g.W.Sink.history c.kinds.out in
     let new = g.W.Sink.history c.put_entry.new.out in
     let said = c.unique_instance.result in
-    of-more s (object_at_place unique_objects) (g.W.Sink.history c.args.out.now) mid new c.kinds.index c.kinds.invariant _
-    (of-same s mid new _ (λ d. text_at d (ByHandle said.handle)) (λ d. object_at_place unique_objects d c.kinds.index) c.in_ok-put_entry.ensures
+    of-more s (object_at_place object_text unique_objects) (g.W.Sink.history c.args.out.now) mid new c.kinds.index c.kinds.invariant _
+    (of-same s mid new _ (λ d. text_at d (ByHandle said.handle)) (λ d. object_at_place object_text unique_objects d c.kinds.index) c.in_ok-put_entry.ensures
     (text-of s unique_objects c.kinds.index said c.unique_instance.ensures (λ d st. all-unique s.cut.bytes d st) object_text))
 
 pub returns : goal.returns
@@ -54,5 +54,5 @@ returns g c =
     let new = g.W.Sink.history c.kinds.out in
     let n = c.num_unique-index-end.result in
     of-same s old new _ _ (λ (d : Directory). objects_text (unique_objects d))
-    (of-all s (object_at_place unique_objects) old new c.kinds.index n _ c.kinds.invariant (omega (arith, c.kinds-test.false, c.kinds.auto.index-end)))
-    (λ d k. all-places unique_objects d n (unique-is s.mode d n (c.num_unique-index-end.ensures.answers d k)))
+    (of-all s (object_at_place object_text unique_objects) old new c.kinds.index n _ c.kinds.invariant (omega (arith, c.kinds-test.false, c.kinds.auto.index-end)))
+    (λ d k. all-places object_text unique_objects d n (unique-is s.mode d n (c.num_unique-index-end.ensures.answers d k)))

@@ -1,5 +1,5 @@
 use Rattle.segment_manager.specs.Directory.{unique_objects}
-use Rattle.segment_dump.specs.Owed.{WritesOf}
+use Rattle.segment_dump.specs.Owed.{WritesOf, object_text}
 use Rattle.segment_dump.specs.Parts.{parts_until}
 use Rattle.segment_dump.proofs.Sections.{object_at_place}
 use Rattle.segment_dump.proofs.PartLines.{well}
@@ -7,4 +7,4 @@ use Rattle.segment_dump.proofs.dumping.put_unique.Given as goal
 
 abbrev pub invariant-kinds : goal.invariant-kinds
 invariant-kinds g l =
-    WritesOf l.segment (g.W.Sink.history l.initial.out) (g.W.Sink.history l.out) well (λ d. parts_until (object_at_place unique_objects d) l.index)
+    WritesOf l.segment (g.W.Sink.history l.initial.out) (g.W.Sink.history l.out) well (λ d. parts_until (object_at_place object_text unique_objects d) l.index)

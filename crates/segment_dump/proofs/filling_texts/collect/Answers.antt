@@ -1,4 +1,4 @@
-use Rattle.std.proofs.Common.{arith, length, sym, subst, ◌∙◌}
+use Rattle.std.proofs.Common.{arith, ◌∙◌}
 use Rattle.segment_dump.proofs.PieceReads.{collect-no_first, collect-no_copy, collect-start, more-no_copy, more-no_line, pieces-end, pieces-more}
 use Rattle.segment_dump.proofs.filling_texts.collect.Goals as goal
 

@@ -1,4 +1,3 @@
-use Rattle.std.proofs.Common.{sym, ap, ◌∙◌}
 use Rattle.segment_dump.proofs.LineReads.{no-number, other-number, this-number}
 use Rattle.segment_dump.proofs.reading.Words.next_number.Goals as goal
 

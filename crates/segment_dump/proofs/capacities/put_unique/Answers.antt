@@ -1,0 +1,58 @@
+use Rattle.std.proofs.Common.{arith}
+use Rattle.seg_types.specs.Names.{ByHandle}
+use Rattle.segment_manager.specs.Directory.{Directory, unique_objects}
+use Rattle.segment_dump.specs.Capacities.{notes_at, notes_of, object_notes}
+use Rattle.segment_dump.proofs.Elements.{unique-is}
+use Rattle.segment_dump.proofs.Members.{all-unique, said-of, text-of}
+use Rattle.segment_dump.proofs.Owed.{of-all, of-cut_in, of-more, of-same, of-start}
+use Rattle.segment_dump.proofs.Sections.{all-places, object_at_place}
+use Rattle.segment_dump.proofs.capacities.put_unique.Goals as goal
+
+pub unique_instance-requires : goal.unique_instance-requires
+unique_instance-requires g c = record {
+  below = λ d k. omega (arith, c.kinds-test.true, unique-is c.args.segment.now.mode d c.num_unique-index-end.result (c.num_unique-index-end.ensures.answers d k));
+}
+
+pub put_capacity-requires-clause-said : goal.put_capacity-requires-clause-said
+put_capacity-requires-clause-said g c =
+    let s = c.args.segment.now in
+    said-of s unique_objects c.kinds.index c.unique_instance.result c.unique_instance.ensures (λ d st. all-unique s.cut.bytes d st)
+
+pub kinds-init : goal.kinds-init
+kinds-init g c = of-start c.args.segment.now (object_at_place object_notes unique_objects) (g.W.Sink.history c.args.out.now)
+
+pub returns-in_err-put_capacity : goal.returns-in_err-put_capacity
+returns-in_err-put_capacity g c =
+    let s = c.args.segment.now in
+    let old = g.W.Sink.history c.args.out.now in
+    let mid = g.W.Sink.history c.kinds.out in
+    let new = g.W.Sink.history c.put_capacity.new.out in
+    let said = c.unique_instance.result in
+    let n = c.num_unique-index-end.result in
+    let result = c.from_residual.result in
+    of-same s old new result _ (λ (d : Directory). notes_of (unique_objects d))
+    (of-cut_in s (object_at_place object_notes unique_objects) old mid new c.kinds.index c.kinds.invariant n (omega (arith, c.kinds-test.true)) _
+    (of-same s mid new _ (λ d. notes_at d (ByHandle said.handle)) (λ d. object_at_place object_notes unique_objects d c.kinds.index) c.in_err-put_capacity.ensures
+    (text-of s unique_objects c.kinds.index said c.unique_instance.ensures (λ d st. all-unique s.cut.bytes d st) object_notes))
+    result c.from_residual.ensures.0)
+    (λ d k. all-places object_notes unique_objects d n (unique-is s.mode d n (c.num_unique-index-end.ensures.answers d k)))
+
+pub kinds-preserved : goal.kinds-preserved
+kinds-preserved g c =
+    let s = c.args.segment.now in
+    let mid = g.W.Sink.history c.kinds.out in
+    let new = g.W.Sink.history c.put_capacity.new.out in
+    let said = c.unique_instance.result in
+    of-more s (object_at_place object_notes unique_objects) (g.W.Sink.history c.args.out.now) mid new c.kinds.index c.kinds.invariant _
+    (of-same s mid new _ (λ d. notes_at d (ByHandle said.handle)) (λ d. object_at_place object_notes unique_objects d c.kinds.index) c.in_ok-put_capacity.ensures
+    (text-of s unique_objects c.kinds.index said c.unique_instance.ensures (λ d st. all-unique s.cut.bytes d st) object_notes))
+
+pub returns : goal.returns
+returns g c =
+    let s = c.args.segment.now in
+    let old = g.W.Sink.history c.args.out.now in
+    let new = g.W.Sink.history c.kinds.out in
+    let n = c.num_unique-index-end.result in
+    of-same s old new _ _ (λ (d : Directory). notes_of (unique_objects d))
+    (of-all s (object_at_place object_notes unique_objects) old new c.kinds.index n _ c.kinds.invariant (omega (arith, c.kinds-test.false, c.kinds.auto.index-end)))
+    (λ d k. all-places object_notes unique_objects d n (unique-is s.mode d n (c.num_unique-index-end.ensures.answers d k)))

@@ -1,0 +1,10 @@
+-- Only notes are gone so far.
+use Rattle.std.proofs.Common.{◌≡◌, length}
+use Rattle.segment_dump.specs.Notes.{without_notes}
+use Rattle.segment_dump.proofs.notes.without_notes.Given as goal
+
+abbrev pub invariant-notes : goal.invariant-notes
+invariant-notes l = without_notes l.left ≡ without_notes l.text
+
+abbrev pub decreases-notes : goal.decreases-notes
+decreases-notes l = length l.left

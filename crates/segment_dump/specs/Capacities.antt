@@ -1,0 +1,107 @@
+-- The capacities of a segment: which there are, and how they are told behind its dump, each in a note.
+use Rattle.std.specs.Prelude.{ℕ, List, [], ◌∷◌, ◌++◌, Option, Some, None, Result, Ok, Err, codes, map, option_to_list}
+use Rattle.std.specs.List.{flat_map}
+use Rattle.seg_types.specs.declared.kinds.Class.{Class}
+use Rattle.seg_types.specs.declared.kinds.Kind.{Kind}
+use Rattle.seg_types.specs.declared.refusals.Refusal.{Refusal}
+use Rattle.seg_types.specs.Names.{Key}
+use Rattle.segment_lang.specs.Texts.{kind_text, number_text}
+use Rattle.segment_manager.specs.Directory.{Value, Numbers, Elements, Bytes, Pairs, Texts, Directory, Object, kind_of, named_objects, object_at, unique_objects}
+use Rattle.segment_dump.specs.Building.{class_words}
+use Rattle.segment_dump.specs.Items.{anonymous_objects}
+use Rattle.segment_dump.specs.Owed.{where_anonymous}
+use Rattle.segment_dump.specs.Parts.{part_of}
+
+-- ---- which there are
+
+-- what has a capacity: the index of names, that of kinds, or an object, by its class, its name and its kind
+pub data Holder : Type 0 where
+  Names : Holder
+  Kinds : Holder
+  Holds : Class → List ℕ → Kind → Holder
+
+-- for how many entries, elements or bytes it has places
+pub record Capacity : Type 0 where
+  pub holder : Holder
+  pub places : ℕ
+
+-- the places of a vector, of a string or of a vector of strings
+abbrev pub places_of : Value → Option ℕ
+places_of (Numbers k zs) = None
+places_of (Elements k zs t) = Some t.capacity
+places_of (Bytes bs t) = Some t.capacity
+places_of (Pairs k v ps) = None
+places_of (Texts ps t) = Some t.capacity
+
+abbrev pub holder_of : Object → Holder
+holder_of o = Holds o.class o.name (kind_of o.value)
+
+-- the capacity of an object, if it has one
+abbrev pub object_capacities : Object → List Capacity
+object_capacities o = map (λ n. record { holder = holder_of o; places = n }) (option_to_list (places_of o.value))
+
+-- those of the indexes, and then those of the objects in the order of the dump
+abbrev pub capacities : Directory → List Capacity
+capacities d =
+    record { holder = Names; places = d.named.capacity } ∷ record { holder = Kinds; places = d.unique.capacity }
+    ∷ (flat_map object_capacities (named_objects d) ++ (flat_map object_capacities (unique_objects d) ++ flat_map object_capacities (anonymous_objects d)))
+
+-- ---- how they are told
+
+-- an object as its line in the dump begins
+abbrev pub holder_text : Holder → List ℕ
+holder_text Names = codes "names"
+holder_text Kinds = codes "kinds"
+holder_text (Holds class name kind) = class_words class name ++ kind_text kind
+
+abbrev pub capacity_words : Capacity → List ℕ
+capacity_words c = codes "# capacity of " ++ (holder_text c.holder ++ (codes ": " ++ number_text c.places))
+
+abbrev pub capacity_note : Capacity → List ℕ
+capacity_note c = capacity_words c ++ 0x0A ∷ []
+
+abbrev pub capacities_text : List Capacity → List ℕ
+capacities_text = flat_map capacity_note
+
+-- ---- parts of it
+
+-- the note of an object, if it has a capacity
+abbrev pub object_notes : Object → List ℕ
+object_notes o = capacities_text (object_capacities o)
+
+abbrev pub notes_at : Directory → Key → List ℕ
+notes_at d key = part_of object_notes (object_at d key)
+
+-- the same where it is anonymous
+abbrev pub anonymous_notes : Object → List ℕ
+anonymous_notes = where_anonymous object_notes
+
+abbrev pub anonymous_notes_at : Directory → Key → List ℕ
+anonymous_notes_at d key = part_of anonymous_notes (object_at d key)
+
+-- the places of the object of a key, if it has a capacity
+abbrev pub places_in : Option Object → Option ℕ
+places_in None = None
+places_in (Some o) = places_of o.value
+
+abbrev pub places_at : Directory → Key → Option ℕ
+places_at d key = places_in (object_at d key)
+
+-- the places in what was measured of an object
+abbrev pub measured_places : Result (ℕ × ℕ) Refusal → Option ℕ
+measured_places (Ok (len, places)) = Some places
+measured_places (Err r) = None
+
+-- the notes of some objects
+abbrev pub notes_of : List Object → List ℕ
+notes_of = flat_map object_notes
+
+abbrev pub other_notes : Directory → List ℕ
+other_notes d = notes_of (unique_objects d) ++ notes_of (anonymous_objects d)
+
+abbrev pub all_notes : Directory → List ℕ
+all_notes d = notes_of (named_objects d) ++ other_notes d
+
+-- those of the indexes
+abbrev pub index_notes : ℕ → ℕ → List ℕ
+index_notes named unique = capacity_note (record { holder = Names; places = named }) ++ capacity_note (record { holder = Kinds; places = unique })

@@ -1,0 +1,38 @@
+-- Notes behind a dump, which a load leaves out: lines that begin with '#', at the end of a text.
+use Rattle.std.specs.Prelude.{◌≡◌, ◌<◌, ◌≤◌, ℕ, Bool, true, false, ◌&&◌, not, List, [], ◌∷◌, ◌==◌, length, take, drop, if◌then◌else◌}
+
+-- these bytes are notes and nothing else: from the start of a line on, or else from the midst of a note on
+abbrev pub are_notes : Bool → List ℕ → Bool
+are_notes start [] = start
+are_notes true (c ∷ cs) = (c == 0x23) && are_notes false cs
+are_notes false (c ∷ cs) = are_notes (c == 0x0A) cs
+
+-- up to the start of the first line from which on there are only notes
+abbrev pub before_notes : Bool → List ℕ → List ℕ
+before_notes start [] = []
+before_notes true (c ∷ cs) = if are_notes true (c ∷ cs) then [] else c ∷ before_notes (c == 0x0A) cs
+before_notes false (c ∷ cs) = c ∷ before_notes (c == 0x0A) cs
+
+-- what is left of a text when the lines at its end are gone that begin with '#'
+abbrev pub without_notes : List ℕ → List ℕ
+without_notes text = before_notes true text
+
+-- ---- the last line of a text
+
+-- behind these bytes a line starts, where one started before them or not
+abbrev pub ends_line : Bool → List ℕ → Bool
+ends_line start [] = start
+ends_line start (c ∷ cs) = ends_line (c == 0x0A) cs
+
+-- no line ends in these bytes but behind the last one
+abbrev pub is_line : List ℕ → Bool
+is_line [] = true
+is_line (c ∷ []) = true
+is_line (c ∷ d ∷ ds) = not (c == 0x0A) && is_line (d ∷ ds)
+
+-- it starts there
+pub record IsLastLine (text : List ℕ) (at : ℕ) : Type 0 where
+  pub inside : at ≤ length text
+  pub starts : ends_line true (take at text) ≡ true
+  pub line : is_line (drop at text) ≡ true
+  pub some : 0 < length text → at < length text

@@ -1,0 +1,239 @@
+//! A dump with the capacities of what has one. They stand behind its end, each in a note, which a load leaves out.
+ghost use Rattle.std.specs.Prelude.{◌≡◌, ◌-◌, ◌^◌, ◌<◌, ◌++◌};
+ghost use Rattle.raw_region.specs.Device.{Writes};
+ghost use Rattle.seg_types.specs.Names.{ByHandle};
+ghost use Rattle.segment_manager.specs.Contents.{sizes_at};
+ghost use Rattle.segment_manager.specs.Directory.{named_objects, unique_objects};
+ghost use Rattle.segment_manager.specs.Instances.{SaysOf};
+ghost use Rattle.segment_manager.specs.Located.{IsLocated, IsObject};
+ghost use Rattle.segment_manager.specs.State.{Answers};
+ghost use Rattle.segment_dump.specs.Capacities.{Holds, all_notes, anonymous_notes_at, capacities, capacities_text, capacity_note, index_notes, measured_places, notes_at, notes_of, other_notes, places_at};
+ghost use Rattle.segment_dump.specs.Items.{anonymous_objects, portable};
+ghost use Rattle.segment_dump.specs.Owed.{WritesOf};
+ghost use Rattle.segment_dump.specs.Texts.{dump_text};
+
+use crate::dumping::dump;
+use raw_region::{DeviceFault, Sink, word_in};
+use seg_types::{Class, Kind};
+use segment_lang::{Piece, put_pieces};
+use segment_manager::conditioned::{named_instance, unique_instance};
+use segment_manager::layout::{NAMED_AT, UNIQUE_AT};
+use segment_manager::{Instance, Object, Segment};
+
+/// Where an index has its capacity, behind its first word.
+const CAPACITY: usize = 16;
+
+/// Writes the [`dump`] of a segment, and behind its end a note for each capacity: those of the two indexes, and those of vectors,
+/// strings and vectors of strings, in the order of the dump. It needs no memory. [`load`](crate::load) takes it as it takes the
+/// dump alone.
+///
+/// # Errors
+///
+/// Where the sink fails. It has taken a part of the text then, from the first byte on, and not all.
+pub fn dump_with_capacities<W: Sink>(segment: &Segment, out: &mut W) -> Result<(), DeviceFault>
+    requires { (W.history out.old).failures < 2 ^ 64 - 1 }
+    ensures { WritesOf segment.now (W.history out.old) (W.history out.new) result (λ d. dump_text d.size (portable d) ++ capacities_text (capacities d)) }
+{
+    dump(segment, out)?;
+    put_capacities(segment, out)
+}
+
+/// Writes the notes of all capacities.
+fn put_capacities<W: Sink>(segment: &Segment, out: &mut W) -> Result<(), DeviceFault>
+    requires { (W.history out.old).failures < 2 ^ 64 - 1 }
+    ensures { WritesOf segment.now (W.history out.old) (W.history out.new) result (λ d. capacities_text (capacities d)) }
+{
+    put_indexes(segment, out)?;
+    put_objects(segment, out)
+}
+
+/// Writes the notes of the two indexes.
+fn put_indexes<W: Sink>(segment: &Segment, out: &mut W) -> Result<(), DeviceFault>
+    requires { (W.history out.old).failures < 2 ^ 64 - 1 }
+    ensures { WritesOf segment.now (W.history out.old) (W.history out.new) result (λ d. index_notes d.named.capacity d.unique.capacity) }
+{
+    put_places(named_capacity(segment), unique_capacity(segment), out)
+}
+
+/// The same for indexes with so many places.
+fn put_places<W: Sink>(named: u64, unique: u64, out: &mut W) -> Result<(), DeviceFault>
+    requires { (W.history out.old).failures < 2 ^ 64 - 1 }
+    ensures { Writes (W.history out.old) (W.history out.new) result (index_notes named unique) }
+{
+    put_pieces(
+        out,
+        &[
+            Piece::Bytes(b"# capacity of names: "),
+            Piece::Number(named),
+            Piece::Bytes(b"\n# capacity of kinds: "),
+            Piece::Number(unique),
+            Piece::Bytes(b"\n"),
+        ],
+    )
+}
+
+/// For how many entries the index of names has places.
+fn named_capacity(segment: &Segment) -> u64
+    ensures { Answers segment.now (λ d. d.named.capacity) result }
+{
+    word_in(segment.as_bytes(), NAMED_AT as usize + CAPACITY)
+}
+
+/// For how many entries the index of kinds has places.
+fn unique_capacity(segment: &Segment) -> u64
+    ensures { Answers segment.now (λ d. d.unique.capacity) result }
+{
+    word_in(segment.as_bytes(), UNIQUE_AT as usize + CAPACITY)
+}
+
+/// Writes the notes of the objects.
+fn put_objects<W: Sink>(segment: &Segment, out: &mut W) -> Result<(), DeviceFault>
+    requires { (W.history out.old).failures < 2 ^ 64 - 1 }
+    ensures { WritesOf segment.now (W.history out.old) (W.history out.new) result (λ d. all_notes d) }
+{
+    put_named(segment, out)?;
+    put_others(segment, out)
+}
+
+/// Writes the notes of the objects without names.
+fn put_others<W: Sink>(segment: &Segment, out: &mut W) -> Result<(), DeviceFault>
+    requires { (W.history out.old).failures < 2 ^ 64 - 1 }
+    ensures { WritesOf segment.now (W.history out.old) (W.history out.new) result (λ d. other_notes d) }
+{
+    put_unique(segment, out)?;
+    put_anonymous(segment, out)
+}
+
+/// Writes the notes of the objects with names, by their names.
+fn put_named<W: Sink>(segment: &Segment, out: &mut W) -> Result<(), DeviceFault>
+    requires { (W.history out.old).failures < 2 ^ 64 - 1 }
+    ensures { WritesOf segment.now (W.history out.old) (W.history out.new) result (λ d. notes_of (named_objects d)) }
+{
+    'names: for index in 0..segment.num_named() {
+        put_capacity(segment, named_instance(segment, index), out)?;
+    }
+    Ok(())
+}
+
+/// Writes the notes of the unique objects, by their kinds.
+fn put_unique<W: Sink>(segment: &Segment, out: &mut W) -> Result<(), DeviceFault>
+    requires { (W.history out.old).failures < 2 ^ 64 - 1 }
+    ensures { WritesOf segment.now (W.history out.old) (W.history out.new) result (λ d. notes_of (unique_objects d)) }
+{
+    'kinds: for index in 0..segment.num_unique() {
+        put_capacity(segment, unique_instance(segment, index), out)?;
+    }
+    Ok(())
+}
+
+/// Writes the notes of the anonymous objects, by their handles.
+fn put_anonymous<W: Sink>(segment: &Segment, out: &mut W) -> Result<(), DeviceFault>
+    requires { (W.history out.old).failures < 2 ^ 64 - 1 }
+    ensures { WritesOf segment.now (W.history out.old) (W.history out.new) result (λ d. notes_of (anonymous_objects d)) }
+{
+    'objects: for said in segment.objects() {
+        put_if_anonymous(segment, said, out)?;
+    }
+    Ok(())
+}
+
+/// Writes the note of an object where it is anonymous.
+fn put_if_anonymous<W: Sink>(
+    segment: &Segment,
+    said: Instance<'_>,
+    out: &mut W,
+) -> Result<(), DeviceFault>
+    requires writer { (W.history out.old).failures < 2 ^ 64 - 1 }
+    requires said { SaysOf segment.now (ByHandle said.handle) said }
+    ensures { WritesOf segment.now (W.history out.old) (W.history out.new) result (λ d. anonymous_notes_at d (ByHandle said.entry.handle)) }
+{
+    match said.class {
+        Class::Anonymous => put_capacity(segment, said, out),
+        _ => Ok(()),
+    }
+}
+
+/// Writes the note of an object that said this of itself, and nothing where it has no capacity.
+fn put_capacity<W: Sink>(
+    segment: &Segment,
+    said: Instance<'_>,
+    out: &mut W,
+) -> Result<(), DeviceFault>
+    requires writer { (W.history out.old).failures < 2 ^ 64 - 1 }
+    requires said { SaysOf segment.now (ByHandle said.handle) said }
+    ensures { WritesOf segment.now (W.history out.old) (W.history out.new) result (λ d. notes_at d (ByHandle said.entry.handle)) }
+{
+    let object = Object {
+        handle: said.handle,
+        kind: said.kind,
+        count: said.count,
+    };
+    match places_of(segment, object) {
+        Some(places) => put_note(said, places, out),
+        None => Ok(()),
+    }
+}
+
+/// How many places an object has, if it has a capacity.
+fn places_of(segment: &Segment, object: Object) -> Option<u64>
+    requires { IsLocated segment.now (ByHandle object.handle) object }
+    ensures { Answers segment.now (λ d. places_at d (ByHandle object.handle)) result }
+{
+    match object.kind {
+        Kind::Scalar(_) => None,
+        Kind::Map(_, _) => None,
+        _ => count_places(segment, object),
+    }
+}
+
+/// How many places a vector, a string or a vector of strings has.
+fn count_places(segment: &Segment, object: Object) -> Option<u64>
+    requires { IsObject object segment.now }
+    ensures { Answers segment.now (λ d. measured_places (sizes_at d (ByHandle object.handle))) result }
+{
+    match segment.measure(&object) {
+        Ok((_, places)) => Some(places),
+        Err(_) => None,
+    }
+}
+
+/// Writes the note of an object that said this of itself, and has so many places.
+fn put_note<W: Sink>(said: Instance<'_>, places: u64, out: &mut W) -> Result<(), DeviceFault>
+    requires { (W.history out.old).failures < 2 ^ 64 - 1 }
+    ensures { Writes (W.history out.old) (W.history out.new) result (capacity_note (record { holder = Holds said.entry.class said.entry.name.now said.entry.kind; places = places })) }
+{
+    match said.class {
+        Class::Named => put_pieces(
+            out,
+            &[
+                Piece::Bytes(b"# capacity of named "),
+                Piece::Name(said.name),
+                Piece::Bytes(b" "),
+                Piece::Kind(said.kind),
+                Piece::Bytes(b": "),
+                Piece::Number(places),
+                Piece::Bytes(b"\n"),
+            ],
+        ),
+        Class::Unique => put_pieces(
+            out,
+            &[
+                Piece::Bytes(b"# capacity of unique "),
+                Piece::Kind(said.kind),
+                Piece::Bytes(b": "),
+                Piece::Number(places),
+                Piece::Bytes(b"\n"),
+            ],
+        ),
+        Class::Anonymous => put_pieces(
+            out,
+            &[
+                Piece::Bytes(b"# capacity of anonymous "),
+                Piece::Kind(said.kind),
+                Piece::Bytes(b": "),
+                Piece::Number(places),
+                Piece::Bytes(b"\n"),
+            ],
+        ),
+    }
+}

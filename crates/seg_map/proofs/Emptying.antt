@@ -1,6 +1,6 @@
 -- A map is given up pair by pair.
-use Rattle.std.proofs.Common.{◌≡◌, refl, sym, ap, subst, ◌∙◌, ℕ, ◌+◌, ◌≤◌, ◌<◌, ◌≢◌, inl, inr, Bool, true, false, ◌||◌}
-use Rattle.std.proofs.Common.{List, [], ◌∷◌, map, arith, ◌==◌, IsTrue}
+use Rattle.std.proofs.Common.{◌≡◌, ◌⊎◌, refl, sym, ap, subst, ◌∙◌, ℕ, ◌+◌, ◌≤◌, ◌<◌, ◌≢◌, inl, inr, Bool, true, false}
+use Rattle.std.proofs.Common.{◌||◌, List, [], ◌∷◌, map, arith, ◌==◌, IsTrue}
 use Rattle.std.specs.Prelude.{Option, Some, None, find}
 use Rattle.std.specs.List.{AllByRecursion}
 use Rattle.std.proofs.lemmas.Bool.{both_ways, cases_Bool, cases_eq, eq-eqb, ne_eqb}
@@ -16,9 +16,9 @@ use Rattle.best_fit.specs.Extents.{Extent, LiveSet, handle, is_proper}
 use Rattle.best_fit.specs.Fit.{others, released}
 use Rattle.best_fit.specs.FreeTree.{cells_of}
 use Rattle.best_fit.specs.Heap.{LaysOut, extent_at, live_of}
-use Rattle.best_fit.proofs.Laws.{AllByRecursion-others, found-less, lay_out_one, live-rises}
+use Rattle.best_fit.proofs.Laws.{found-less, lay_out_one, live-rises}
 use Rattle.seg_types.specs.declared.plain.Plain.{Ghosts as Plain}
-use Rattle.seg_map.specs.PairLaws.{Chains, IsStrict}
+use Rattle.seg_map.specs.PairLaws.{Chains, In, IsStrict}
 use Rattle.seg_map.specs.Map.{Pair, is_key, is_rising, pair_at, remove_pair}
 use Rattle.seg_map.specs.Places.{HoldsMap, nodes_of_pairs, pair_node}
 use Rattle.seg_map.specs.Changing.{IsBesideMap, IsErased, IsGivenUp}
@@ -61,8 +61,8 @@ module _ {K V : Type 0} (less : K → K → Bool) where
             let f = rw y at e in let same : p ≡ q = cc in
             rw y (ap (λ (x : Pair K V). without_all (blocks_of qs) (others (handle x.node) zs)) same)
         | inr z ↦
-            rw z (ap (without_all (blocks_of (remove_pair less qs key))) (others-comm (handle q.node)
-            (handle p.node) zs)
+            rw z (ap (without_all (blocks_of (remove_pair less qs key)))
+            (others-comm (handle q.node) (handle p.node) zs)
             ∙ without_removed qs key p (others (handle q.node) zs) (rw z at e))
       ]
 
@@ -75,9 +75,9 @@ module _ {K V : Type 0} (less : K → K → Bool) where
     behind qs (rising_below less on q qs r) (own_found strict on qs (rising_rest less on q qs r)),
   )
     where
-      behind : (xs : List (Pair K V)) → Below less q.key xs → AllByRecursion (λ (x : Pair K V).
-          pair_at less qs x.key ≡ Some x) xs → AllByRecursion (λ (x : Pair K V). pair_at less (q ∷ qs) x.key ≡ Some x)
-          xs
+      behind : (xs : List (Pair K V)) → Below less q.key xs
+          → AllByRecursion (λ (x : Pair K V). pair_at less qs x.key ≡ Some x) xs
+          → AllByRecursion (λ (x : Pair K V). pair_at less (q ∷ qs) x.key ≡ Some x) xs
       behind [] b a = tt
       behind (x ∷ xs) b a = (rw (either_right (less x.key q.key) (less q.key x.key) b.0) a.0, behind xs b.1 a.1)
 
@@ -91,10 +91,6 @@ rises_more : (n m : ℕ) (zs : List Extent) → n ≤ m → Rises m zs → Rises
 rises_more n m [] l r = tt
 rises_more n m (z ∷ zs) l r = (omega (arith, r.0), r.1)
 
-rises_above : (n : ℕ) (zs : List Extent) → Rises n zs → AllByRecursion (λ (x : Extent). n ≤ x.offset) zs
-rises_above n [] r = tt
-rises_above n (z ∷ zs) r = (r.0, rises_above n zs (rises_more n (z.offset + 1) zs (omega (arith, r.0)) r.1))
-
 rises_others : (n h : ℕ) (zs : List Extent) → Rises n zs → Rises n (others h zs)
 rises_others n h [] r = tt
 rises_others n h (z ∷ zs) r =
@@ -103,72 +99,54 @@ rises_others n h (z ∷ zs) r =
       | inr o ↦ rw (ne_eqb _ _ o) (r.0, rises_others (z.offset + 1) h zs r.1)
     ]
 
--- the one that is taken out is gone
-others_apart : (n h : ℕ) (zs : List Extent) → Rises n zs → AllByRecursion (λ (x : Extent). handle x ≢ h) (others h zs)
-others_apart n h [] r = tt
-others_apart n h (z ∷ zs) r =
+above : (n : ℕ) (zs : List Extent) (x : Extent) → Rises n zs → In x zs → n ≤ x.offset
+above n [] x r i = absurd i
+above n (z ∷ zs) x r (inl e) = subst (λ (w : Extent). n ≤ w.offset) e r.0
+above n (z ∷ zs) x r (inr i) = omega (arith, r.0, above (z.offset + 1) zs x r.1 i)
+
+-- what is left beside one is another
+beside_one : (n h : ℕ) (zs : List Extent) (x : Extent) → Rises n zs → In x (others h zs) → In x zs × (handle x ≢ h)
+beside_one n h [] x r i = absurd i
+beside_one n h (z ∷ zs) x r i =
     elim (cases_eq (handle z) h) [
-      | inl e ↦ rw (eq-eqb _ _ e) (differ e zs (rises_above (z.offset + 1) zs r.1))
-      | inr o ↦ rw (ne_eqb _ _ o) (o, others_apart (z.offset + 1) h zs r.1)
+      | inl e ↦
+          let j : In x zs = rw (eq-eqb _ _ e) at i in
+          (inr j, λ f. omega (arith, above (z.offset + 1) zs x r.1 j, e, f))
+      | inr o ↦
+          let k : (z ≡ x) ⊎ In x (others h zs) = rw (ne_eqb _ _ o) at i in
+          elim k [
+            | inl e ↦ (inl e, λ f. o (ap handle e ∙ f))
+            | inr j ↦ let b = beside_one (z.offset + 1) h zs x r.1 j in (inr b.0, b.1)
+          ]
     ]
-  where
-    differ : handle z ≡ h → (xs : List Extent) → AllByRecursion (λ (x : Extent). z.offset + 1 ≤ x.offset) xs
-        → AllByRecursion (λ (x : Extent). handle x ≢ h) xs
-    differ e [] a = tt
-    differ e (x ∷ xs) a = ((λ f. omega (arith, a.0, e, f)), differ e xs a.1)
 
-without_keeps : (P : Extent → Type 0) (gone zs : List Extent) → AllByRecursion P zs → AllByRecursion P
-    (without_all gone zs)
-without_keeps P [] zs a = a
-without_keeps P (x ∷ xs) zs a = without_keeps P xs (others (handle x) zs) (AllByRecursion-others P (handle x) zs a)
-
--- what is left is none of those that are gone
-left_over : {K V : Type 0} (n : ℕ) (ps : List (Pair K V)) (zs : List Extent) → Rises n zs
-    → AllByRecursion (λ (x : Extent). is_in (handle x) (nodes_of_pairs ps) ≡ false) (without_all
-    (map (λ (p : Pair K V). p.node) ps) zs)
-left_over n [] zs r = each zs
-  where
-    each : (xs : List Extent) → AllByRecursion (λ (x : Extent). false ≡ false) xs
-    each [] = tt
-    each (x ∷ xs) = (refl, each xs)
-left_over {K} {V} n (p ∷ ps) zs r =
-    both (without_all (blocks_of ps) (others (handle p.node) zs)) (without_keeps (λ (x : Extent).
-    handle x ≢ handle p.node) (blocks_of ps) (others (handle p.node) zs) (others_apart n (handle p.node) zs r))
-    (left_over n ps (others (handle p.node) zs) (rises_others n (handle p.node) zs r))
-  where
-    both : (xs : List Extent) → AllByRecursion (λ (x : Extent). handle x ≢ handle p.node) xs
-        → AllByRecursion (λ (x : Extent). is_in (handle x) (nodes_of_pairs ps) ≡ false) xs
-        → AllByRecursion (λ (x : Extent). is_in (handle x) (nodes_of_pairs (p ∷ ps)) ≡ false) xs
-    both [] a b = tt
-    both (x ∷ xs) a b = (
-      ap (λ (t : Bool). t || is_in (handle x) (nodes_of_pairs ps)) (ne_eqb _ _ a.0)
-          ∙ b.0,
-      both xs a.1 b.1,
-    )
+-- and beside all that are gone it is none of them
+beside_all : {K V : Type 0} (n : ℕ) (ps : List (Pair K V)) (zs : List Extent) (x : Extent) → Rises n zs
+    → In x (without_all (map (λ (p : Pair K V). p.node) ps) zs) → In x zs
+    × (is_in (handle x) (nodes_of_pairs ps) ≡ false)
+beside_all n [] zs x r i = (i, refl)
+beside_all n (p ∷ ps) zs x r i =
+    let b = beside_all n ps (others (handle p.node) zs) x (rises_others n (handle p.node) zs r) i in
+    let c = beside_one n (handle p.node) zs x r b.0 in (c.0, rw (ne_eqb _ _ c.1) b.1)
 
 -- each extent is the one of its handle
-found_each : (n : ℕ) (zs : List Extent) → Rises n zs → AllByRecursion (λ (x : Extent). find
-    (λ (w : Extent). handle w == handle x) zs ≡ Some x) zs
-found_each n [] r = tt
-found_each n (z ∷ zs) r = (
-  rw (eq-eqb (handle z) (handle z) refl) refl,
-  behind zs (rises_above (z.offset + 1) zs r.1) (found_each (z.offset + 1) zs r.1),
-)
-  where
-    behind : (xs : List Extent) → AllByRecursion (λ (x : Extent). z.offset + 1 ≤ x.offset) xs
-        → AllByRecursion (λ (x : Extent). find (λ (w : Extent). handle w == handle x) zs ≡ Some x) xs
-        → AllByRecursion (λ (x : Extent). find (λ (w : Extent). handle w == handle x) (z ∷ zs) ≡ Some x) xs
-    behind [] a b = tt
-    behind (x ∷ xs) a b = (
-      rw (ne_eqb (handle z) (handle x) (λ e. omega (arith, a.0, e))) b.0,
-      behind xs a.1 b.1,
-    )
+own_handle : (n : ℕ) (zs : List Extent) (x : Extent) → Rises n zs → In x zs
+    → find (λ (w : Extent). handle w == handle x) zs ≡ Some x
+own_handle n [] x r i = absurd i
+own_handle n (z ∷ zs) x r (inl e) = rw (eq-eqb (handle z) (handle x) (ap handle e)) (ap Some e)
+own_handle n (z ∷ zs) x r (inr i) =
+    let l = above (z.offset + 1) zs x r.1 i in
+    rw (ne_eqb (handle z) (handle x) (λ f. omega (arith, l, f))) (own_handle (z.offset + 1) zs x r.1 i)
+
+all_each : (P : Extent → Type 0) (xs : List Extent) → ((x : Extent) → In x xs → P x) → AllByRecursion P xs
+all_each P [] f = tt
+all_each P (x ∷ xs) f = (f x (inl refl), all_each P xs (λ y i. f y (inr i)))
 
 -- ---- the map on its way
 
 -- the pairs that are left, and what is beside them
-pub record IsGoing {K V : Type 0} (k : Plain K) (v : Plain V) (old now : Cut) (h at : ℕ) (ps : List (Pair K V)) : Type
-    0 where
+pub record IsGoing {K V : Type 0} (k : Plain K) (v : Plain V) (old now : Cut) (h at : ℕ)
+    (ps : List (Pair K V)) : Type 0 where
   pub pairs : List (Pair K V)
   pub holds : HoldsMap k v now.bytes h at pairs
   pub among : (m : ℕ) → is_in m (nodes_of_pairs pairs) ≡ true → is_in m (nodes_of_pairs ps) ≡ true
@@ -200,14 +178,15 @@ going_first k v c h at ps s =
 module _ {K V : Type 0} {k : Plain K} {v : Plain V} (kl : Laws k) {old now : Cut} {h at : ℕ} {ps : List (Pair K V)}
     (g : IsGoing k v old now h at ps) where
   -- the node at the root is that of a pair
-  pub root_pair : {node : ℕ} → link_at (bytes_of now.bytes) (h + at) ≡ Some node → AtNode (λ (q : Pair K V).
-      pair_at k.order g.pairs q.key ≡ Some q) node
+  pub root_pair : {node : ℕ} → link_at (bytes_of now.bytes) (h + at) ≡ Some node
+      → AtNode (λ (q : Pair K V). pair_at k.order g.pairs q.key ≡ Some q) node
   root_pair {node} e =
       let s = g.holds in
-      let i = root_in (cells_of (bytes_of now.bytes)) node s.map.tree.tree (subst (λ (o : Option ℕ).
-      IsTree (cells_of (bytes_of now.bytes)) o s.map.tree.tree) e s.map.tree.linked) in
-      at_node (λ (q : Pair K V). pair_at k.order g.pairs q.key ≡ Some q) g.pairs node (ap (λ ms. is_in node ms)
-      (sym s.map.tree.lists) ∙ i) (own_found k.order kl.irreflexive kl.transitive g.pairs s.rising)
+      let i = root_in (cells_of (bytes_of now.bytes)) node s.map.tree.tree
+      (subst (λ (o : Option ℕ). IsTree (cells_of (bytes_of now.bytes)) o s.map.tree.tree) e s.map.tree.linked) in
+      at_node (λ (q : Pair K V). pair_at k.order g.pairs q.key ≡ Some q) g.pairs node
+      (ap (λ ms. is_in node ms) (sym s.map.tree.lists) ∙ i)
+      (own_found k.order kl.irreflexive kl.transitive g.pairs s.rising)
 
   module _ {new : Cut} {key : K} {p : Pair K V} (has : pair_at k.order g.pairs key ≡ Some p)
       (e : IsErased k v now new h at g.pairs p key) where
@@ -216,15 +195,12 @@ module _ {K V : Type 0} {k : Plain K} {v : Plain V} (kl : Laws k) {old now : Cut
 
     off : (x : Extent) → is_in (handle x) (nodes_of_pairs ps) ≡ false → is_in (handle x) (nodes_of_pairs g.pairs)
         ≡ false
-    off x o = elim (cases_Bool (is_in (handle x) (nodes_of_pairs g.pairs))) [
-      | inl t ↦ absurd
-          (both_ways _ o (g.among (handle x) t))
-      | inr f ↦ f
-    ]
+    off x o = elim (cases_Bool (is_in (handle x) (nodes_of_pairs g.pairs)))
+        [ inl t ↦ absurd (both_ways _ o (g.among (handle x) t)) | inr f ↦ f ]
 
     apart : (x : Extent) → is_in (handle x) (nodes_of_pairs ps) ≡ false → handle x ≢ handle p.node
-    apart x o f = both_ways _ (off x o) (ap (λ n. is_in n (nodes_of_pairs g.pairs)) f ∙ in_nodes k.order g.pairs key p
-        has)
+    apart x o f = both_ways _ (off x o) (ap (λ n. is_in n (nodes_of_pairs g.pairs)) f
+        ∙ in_nodes k.order g.pairs key p has)
 
     fewer_nodes : (m : ℕ) → is_in m (nodes_of_pairs (remove_pair k.order g.pairs key)) ≡ true
         → is_in m (nodes_of_pairs g.pairs) ≡ true
@@ -272,8 +248,8 @@ module _ {K V : Type 0} {k : Plain K} {v : Plain V} (kl : Laws k) {old now : Cut
   pub given_up : IsTrue (is_proper (live_of old.bytes)) → link_at (bytes_of now.bytes) (h + at) ≡ None
       → IsGivenUp k v old now h at ps
   given_up proper e =
-      let none : g.pairs ≡ [] = no_pairs g.holds.map.tree.tree g.pairs (sym e ∙ g.holds.map.tree.linked.root)
-      g.holds.map.tree.lists in
+      let none : g.pairs ≡ [] = no_pairs g.holds.map.tree.tree g.pairs
+      (sym e ∙ g.holds.map.tree.linked.root) g.holds.map.tree.lists in
       let rest : (live_of now.bytes).extents ≡ without_all (blocks_of ps) (live_of old.bytes).extents =
       ap (λ (qs : List (Pair K V)). without_all (blocks_of qs) (live_of now.bytes).extents) (sym none) ∙ g.left in
       let live : live_of now.bytes ≡ exchanged (live_of old.bytes) (blocks_of ps) [] = λ i.
@@ -285,16 +261,10 @@ module _ {K V : Type 0} {k : Plain K} {v : Plain V} (kl : Laws k) {old now : Cut
           place = g.beside.place;
           front = g.beside.front;
           behind = g.beside.behind;
-          blocks = stay (without_all (blocks_of ps) (live_of old.bytes).extents)
-              (without_keeps (λ (x : Extent). extent_at (live_of old.bytes) (handle x) ≡ Some x) (blocks_of ps)
-              (live_of old.bytes).extents (found_each 128 (live_of old.bytes).extents rises))
-              (left_over 128 ps (live_of old.bytes).extents rises);
+          blocks = all_each (SameBlockBut (bytes_of old.bytes) (bytes_of now.bytes) (h + at) 24)
+              (without_all (blocks_of ps) (live_of old.bytes).extents) (λ x i.
+              let b = beside_all 128 ps (live_of old.bytes).extents x rises i in
+              g.beside.blocks x (own_handle 128 (live_of old.bytes).extents x rises b.0) b.1);
         };
         empty = subst (λ (qs : List (Pair K V)). HoldsMap k v now.bytes h at qs) none g.holds;
       }
-    where
-      stay : (xs : List Extent) → AllByRecursion (λ (x : Extent). extent_at (live_of old.bytes) (handle x) ≡ Some x) xs
-          → AllByRecursion (λ (x : Extent). is_in (handle x) (nodes_of_pairs ps) ≡ false) xs
-          → AllByRecursion (SameBlockBut (bytes_of old.bytes) (bytes_of now.bytes) (h + at) 24) xs
-      stay [] a b = tt
-      stay (x ∷ xs) a b = (g.beside.blocks x a.0 b.0, stay xs a.1 b.1)

@@ -22,6 +22,7 @@ use Rattle.best_fit.proofs.Laws.{holds_closed}
 use Rattle.seg_types.specs.declared.plain.Plain.{Ghosts as Plain}
 use Rattle.seg_types.specs.Plain.{value_in}
 use Rattle.seg_types.proofs.Laws.{value-spelled}
+use Rattle.seg_map.specs.Linking.{IsKeyTree, keys_in}
 use Rattle.seg_map.specs.Map.{Pair, IsPairAt, is_rising}
 use Rattle.seg_map.specs.Places.{HoldsMap, IsPairIn, final_pair, first_pair, is_passed, last_pair, nodes_of_pairs}
 use Rattle.seg_map.specs.Places.{pair_node}
@@ -116,8 +117,8 @@ module _ {K V : Type 0} (less : K → K → Bool) where
       let two = and_parts _ _ r in
       let rest = rising_nodes on keys (q ∷ qs) k.1 two.1 in
       let parts = and_parts _ _ rest in
-      let below : comes_before less keys (pair_node p) (pair_node q) ≡ true = (λ i. before_key less (k.0 i) (k.1.0 i))
-      ∙ two.0 in
+      let below : comes_before less keys (pair_node p) (pair_node q) ≡ true =
+      (λ i. before_key less (k.0 i) (k.1.0 i)) ∙ two.0 in
       rw (
         below,
         above_more (comes_before less keys) (comes_transitive less on keys) (pair_node p) (pair_node q)
@@ -139,16 +140,16 @@ module _ {K V : Type 0} (less : K → K → Bool) where
 
   -- the first node is that of the first pair
   pub first_node : (keys : ℕ → Option K) (past : Bool) (key : K) (ps : List (Pair K V)) → HaveKeys keys ps
-      → first_not (stands_before less keys past key) (nodes_of_pairs ps) ≡ option_map pair_node
-      (first_pair less past key ps)
+      → first_not (stands_before less keys past key) (nodes_of_pairs ps)
+      ≡ option_map pair_node (first_pair less past key ps)
   first_node keys past key ps k =
       find_mapped pair_node (λ n. not (stands_before less keys past key n)) (λ p. not (is_passed less past key p)) ps
       (passes_not keys past key ps k)
 
   -- and the last node that of the last pair
   pub last_node : (keys : ℕ → Option K) (past : Bool) (key : K) (ps : List (Pair K V)) → HaveKeys keys ps
-      → last_before (stands_before less keys past key) (nodes_of_pairs ps) ≡ option_map pair_node
-      (last_pair less past key ps)
+      → last_before (stands_before less keys past key) (nodes_of_pairs ps)
+      ≡ option_map pair_node (last_pair less past key ps)
   last_node keys past key ps k =
       ap (find (stands_before less keys past key)) (map_reversed pair_node ps)
       ∙ find_mapped pair_node (stands_before less keys past key) (is_passed less past key) (reverse ps)
@@ -169,86 +170,97 @@ length-nodes (p ∷ ps) = ap suc (length-nodes ps)
 
 module _ {K V : Type 0} {kp : Plain K} {vp : Plain V} (laws : Laws kp) (c : Cut) {h at : ℕ} {ps : List (Pair K V)}
     (s : HoldsMap kp vp c.bytes h at ps) where
-  abbrev len : ℕ
-  len = 16 + kp.SIZE
+  pub listed : nodes_of s.map.tree.tree ≡ nodes_of_pairs ps
+  listed = s.map.tree.lists
 
+  pub pair_block : (p : Pair K V) → IsPairIn kp vp (live_of c.bytes) h p
+      → is_block_in (16 + kp.SIZE) (live_of c.bytes) (pair_node p) ≡ true
+  pair_block p i =
+      let q = pair_parts i in let long = q.long in
+      any_at (λ (x : Extent). (handle x == pair_node p) && serves x Node (16 + kp.SIZE))
+      (live_of c.bytes).extents p.node
+      (found_in (live_of c.bytes).extents (handle p.node) p.node i.listed)
+      (rw (eq-eqb (handle p.node) (pair_node p) refl, q.role, le-leb (16 + kp.SIZE + 16) p.node.len (omega arith)) refl)
+
+  pub good : Good (16 + kp.SIZE) (nodes_of s.map.tree.tree) c
+  good =
+      let ns = nodes_of s.map.tree.tree in
+      record {
+        proper = s.heap.proper;
+        blocks = rw listed (pairs_all (is_block_in (16 + kp.SIZE) (live_of c.bytes))
+            (IsPairIn kp vp (live_of c.bytes) h) ps
+            pair_block s.pairs);
+        links = all_from (links_among (bytes_of c.bytes) ns) ns (λ m i.
+            let k = holds_closed (cells_of (bytes_of c.bytes)) s.map.tree.tree m s.map.tree.linked.holds i in
+            rw (k.left, k.right) refl);
+      }
+
+-- the nodes may be more than those of the tree
+module _ {K V : Type 0} {kp : Plain K} {vp : Plain V} (laws : Laws kp) {c : Cut} {h at : ℕ} {ps : List (Pair K V)}
+    (s : HoldsMap kp vp c.bytes h at ps) {own : List ℕ} (g : Good (16 + kp.SIZE) own c)
+    (among : (m : ℕ) → is_in m (nodes_of s.map.tree.tree) ≡ true → is_in m own ≡ true) where
+  node_in : (n : ℕ) → is_in n (nodes_of s.map.tree.tree) ≡ true → is_pair_node (16 + kp.SIZE) own c n ≡ true
+  node_in n i = PairNode-is_pair_node (16 + kp.SIZE) own c n (record { good = g; listed = among n i })
+
+  keys_from : (qs : List (Pair K V)) → list_all (λ n. is_in n (nodes_of s.map.tree.tree)) (nodes_of_pairs qs) ≡ true
+      → AreIn kp vp (live_of c.bytes) h qs → AreAt kp vp (bytes_of c.bytes) qs → HaveKeys (keys_in kp own c) qs
+  unfolding key_of key_at
+  keys_from [] i k b = tt
+  keys_from (q ∷ qs) i k b =
+      let two = and_parts _ _ i in (
+        rw (node_in (pair_node q) two.0)
+            (read_spelled kp laws (bytes_of c.bytes) (handle q.node + 16) q.key (pair_parts k.0).key b.0.0),
+        keys_from qs two.1 k.1 b.1,
+      )
+
+  pub keys_among : HaveKeys (keys_in kp own c) ps
+  keys_among =
+      keys_from ps (all_from (λ n. is_in n (nodes_of s.map.tree.tree)) (nodes_of_pairs ps)
+      (λ m i. ap (λ ms. is_in m ms) (listed laws c s) ∙ i)) s.pairs s.map.pairs
+
+  leads_among : (o : Option ℕ) → IsTree (cells_of (bytes_of c.bytes)) o s.map.tree.tree
+      → leads (is_pair_node (16 + kp.SIZE) own c) o ≡ true
+  leads_among None k = refl
+  leads_among (Some n) k = node_in n (root_in (cells_of (bytes_of c.bytes)) n s.map.tree.tree k)
+
+  pub tree_among : IsKeyTree kp own c (link_at (bytes_of c.bytes) (h + at)) s.map.tree.tree
+  tree_among =
+      let root = link_at (bytes_of c.bytes) (h + at) in
+      record {
+        tree = record {
+          tree = tree_same (cells_of (bytes_of c.bytes)) (pair_cells (16 + kp.SIZE) own c) root s.map.tree.tree
+              (λ m i. cells_at (16 + kp.SIZE) own c m (node_in m i)) s.map.tree.linked;
+          ordered = ap (rises (comes_before kp.order (keys_in kp own c))) (listed laws c s)
+              ∙ rising_nodes kp.order laws.transitive (keys_in kp own c) ps keys_among s.rising;
+          red_black = s.map.tree.red_black;
+        };
+        leads = leads_among root s.map.tree.linked;
+      }
+
+module _ {K V : Type 0} {kp : Plain K} {vp : Plain V} (laws : Laws kp) (c : Cut) {h at : ℕ} {ps : List (Pair K V)}
+    (s : HoldsMap kp vp c.bytes h at ps) where
   abbrev t : Tree
   t = s.map.tree.tree
 
   abbrev ns : List ℕ
   ns = nodes_of s.map.tree.tree
 
-  abbrev keys_in : ℕ → Option K
-  keys_in = key_of (value_of kp) kp.SIZE (nodes_of s.map.tree.tree) c
+  abbrev by : ℕ → Option K
+  by = keys_in kp (nodes_of s.map.tree.tree) c
 
-  pub listed : ns ≡ nodes_of_pairs ps
-  listed = s.map.tree.lists
+  pub keys : HaveKeys by ps
+  keys = keys_among laws s (good laws c s) (λ m i. i)
 
-  pub pair_in : (p : Pair K V) → IsPairIn kp vp (live_of c.bytes) h p → In p.node (live_of c.bytes).extents
-  pair_in p i = found_in (live_of c.bytes).extents (handle p.node) p.node i.listed
-
-  pub pair_block : (p : Pair K V) → IsPairIn kp vp (live_of c.bytes) h p → is_block_in len (live_of c.bytes)
-      (pair_node p) ≡ true
-  pair_block p i =
-      let q = pair_parts i in let long = q.long in
-      any_at (λ (x : Extent). (handle x == pair_node p) && serves x Node len) (live_of c.bytes).extents p.node
-      (pair_in p i)
-      (rw (eq-eqb (handle p.node) (pair_node p) refl, q.role, le-leb (16 + kp.SIZE + 16) p.node.len (omega arith)) refl)
-
-  pub good : Good len ns c
-  good =
-      record {
-        proper = s.heap.proper;
-        blocks = rw listed (pairs_all (is_block_in len (live_of c.bytes)) (IsPairIn kp vp (live_of c.bytes) h) ps
-            pair_block s.pairs);
-        links = all_from (links_among (bytes_of c.bytes) ns) ns (λ m i.
-            let k = holds_closed (cells_of (bytes_of c.bytes)) t m s.map.tree.linked.holds i in
-            rw (k.left, k.right) refl);
-      }
-
-  pub node_here : (n : ℕ) → is_in n ns ≡ true → is_pair_node len ns c n ≡ true
-  node_here n i = PairNode-is_pair_node len ns c n (record { good = good; listed = i })
-
-  key_read : (p : Pair K V) → is_in (pair_node p) ns ≡ true → IsPairIn kp vp (live_of c.bytes) h p
-      → IsPairAt kp.SIZE kp.spelling vp.spelling (bytes_of c.bytes) p
-      → keys_in (pair_node p) ≡ Some p.key
-  unfolding key_of key_at
-  key_read p i k b =
-      rw (node_here (pair_node p) i) (read_spelled kp laws (bytes_of c.bytes) (handle p.node + 16) p.key
-      (pair_parts k).key b.0)
-
-  keys_from : (qs : List (Pair K V)) → list_all (λ n. is_in n ns) (nodes_of_pairs qs) ≡ true
-      → AreIn kp vp (live_of c.bytes) h qs
-      → AreAt kp vp (bytes_of c.bytes) qs → HaveKeys keys_in qs
-  keys_from [] i k b = tt
-  keys_from (q ∷ qs) i k b =
-      let two = and_parts _ _ i in
-      (key_read q two.0 k.0 b.0, keys_from qs two.1 k.1 b.1)
-
-  pub keys : HaveKeys keys_in ps
-  keys = keys_from ps (all_from (λ n. is_in n ns) (nodes_of_pairs ps) (λ m i. ap (λ ms. is_in m ms) listed ∙ i))
-      s.pairs s.map.pairs
-
-  pub ordered : rises (comes_before kp.order keys_in) ns ≡ true
-  ordered = ap (rises (comes_before kp.order keys_in)) listed ∙ rising_nodes kp.order laws.transitive keys_in ps keys
-      s.rising
-
-  pub search_tree : IsSearchTree (comes_before kp.order keys_in) (pair_cells len ns c) (link_at (bytes_of c.bytes)
-      (h + at)) s.map.tree.tree
-  search_tree =
-      record {
-        tree = tree_same (cells_of (bytes_of c.bytes)) (pair_cells len ns c) (link_at (bytes_of c.bytes) (h + at)) t
-            (λ m i. cells_at len ns c m (node_here m i)) s.map.tree.linked;
-        ordered = ordered;
-        red_black = s.map.tree.red_black;
-      }
+  pub key_tree : IsKeyTree kp ns c (link_at (bytes_of c.bytes) (h + at)) t
+  key_tree = tree_among laws s (good laws c s) (λ m i. i)
 
   pub few_pairs : length ns ≤ 2 ^ 30
   few_pairs =
       let xs = (live_of c.bytes).extents in
-      let l = tree_limit (comes_before kp.order keys_in) (comes_transitive kp.order laws.transitive keys_in)
-      (comes_irreflexive kp.order laws.irreflexive keys_in) (map handle xs) t ordered (λ m i.
-      let b = node_block len ns c m (record { good = good; listed = i }) in in_handles xs b.extent m b.listed b.at) in
+      let l = tree_limit (comes_before kp.order by) (comes_transitive kp.order laws.transitive by)
+      (comes_irreflexive kp.order laws.irreflexive by) (map handle xs) t key_tree.tree.ordered (λ m i.
+      let b = node_block (16 + kp.SIZE) ns c m (record { good = good laws c s; listed = i }) in
+      in_handles xs b.extent m b.listed b.at) in
       let f = few_extents (live_of c.bytes) s.heap.proper in let e = handles_length xs in omega arith
 
   pub own : own_nodes c.bytes (link_at (bytes_of c.bytes) (h + at)) None ≡ ns
@@ -259,26 +271,5 @@ module _ {K V : Type 0} {kp : Plain K} {vp : Plain V} (laws : Laws kp) (c : Cut)
       ap nodes_in (reads_off.whole 82 (λ n. true) (cells_of (bytes_of c.bytes)) (link_at (bytes_of c.bytes) (h + at)) t
       s.map.tree.linked (all_from (λ n. true) ns (λ m i. refl)) (omega arith))
 
-  pub root_leads : leads (is_pair_node len ns c) (link_at (bytes_of c.bytes) (h + at)) ≡ true
-  root_leads = by_root (link_at (bytes_of c.bytes) (h + at)) s.map.tree.linked
-    where
-      by_root : (o : Option ℕ) → IsTree (cells_of (bytes_of c.bytes)) o s.map.tree.tree → leads
-          (is_pair_node len ns c) o ≡ true
-      by_root None k = refl
-      by_root (Some n) k = node_here n (root_in (cells_of (bytes_of c.bytes)) n t k)
-
-  pub found_pair : (past : Bool) (key : K) → first_not (stands_before kp.order keys_in past key) ns
-      ≡ option_map pair_node (first_pair kp.order past key ps)
-  found_pair past key = ap (first_not (stands_before kp.order keys_in past key)) listed ∙ first_node kp.order keys_in
-      past key ps keys
-
-  pub found_back : (past : Bool) (key : K) → last_before (stands_before kp.order keys_in past key) ns
-      ≡ option_map pair_node (last_pair kp.order past key ps)
-  found_back past key = ap (last_before (stands_before kp.order keys_in past key)) listed ∙ last_node kp.order keys_in
-      past key ps keys
-
-  pub found_last : last_or None ns ≡ option_map pair_node (final_pair ps)
-  found_last = let none : Option ℕ = None in ap (last_or none) listed ∙ last_mapped pair_node None ps
-
   pub count_pairs : length ns ≡ length ps
-  count_pairs = ap length listed ∙ length-nodes ps
+  count_pairs = ap length s.map.tree.lists ∙ length-nodes ps

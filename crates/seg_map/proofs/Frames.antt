@@ -67,8 +67,8 @@ module _ {len : ℕ} {ns : List ℕ} {c : Cut} (d : Cut) (good : Good len ns c) 
 
   no_link : (k : ℕ) → ((n : ℕ) → is_in n ns ≡ true → (k < n) ⊎ (n + 16 ≤ k)) → is_link_byte ns k ≡ false
   no_link k off = elim (cases_Bool (is_link_byte ns k)) [
-    | inl t ↦ let o = of_node ns k t in let low = o.low in let high = o.high in absurd (elim (off o.node o.listed)
-        [ inl l ↦ omega arith | inr l ↦ omega arith ])
+    | inl t ↦ let o = of_node ns k t in let low = o.low in let high = o.high in
+        absurd (elim (off o.node o.listed) [ inl l ↦ omega arith | inr l ↦ omega arith ])
     | inr f ↦ f
   ]
 
@@ -85,8 +85,8 @@ module _ {len : ℕ} {ns : List ℕ} {c : Cut} (d : Cut) (good : Good len ns c) 
           || lies_in_block (live_of c.bytes) k) ≡ true
       here (inl l) = or_left _ _ (or_left _ _ (lt-ltb k 24 l))
       here (inr p) =
-          or_left _ _ (or_right (nat_lt k 24) (nat_le 32 k && nat_lt k 128) (rw (le-leb 32 k p.0, lt-ltb k 128 p.1)
-          refl))
+          or_left _ _ (or_right (nat_lt k 24) (nat_le 32 k && nat_lt k 128)
+          (rw (le-leb 32 k p.0, lt-ltb k 128 p.1) refl))
 
       below : (k < 24) ⊎ ((32 ≤ k) × (k < 128)) → (n : ℕ) → 144 ≤ n → k < n
       below (inl l) n low' = omega arith

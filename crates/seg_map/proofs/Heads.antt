@@ -30,8 +30,8 @@ module _ {a b c d : Cut} {at : ℕ} {root : Option ℕ} {count : ℕ} (first : I
           live = subst (LaysOut current d.bytes) live_d third.live;
           rest = SameBut-trans _ _ _ _ _ p (SameBut-trans _ _ _ _ _ q r);
         };
-        link = SameBut-link _ _ _ _ at third.rest (inl (omega arith)) ∙ SameBut-link _ _ _ _ at second.rest
-            (inl (omega arith)) ∙ link;
+        link = SameBut-link _ _ _ _ at third.rest (inl (omega arith))
+            ∙ SameBut-link _ _ _ _ at second.rest (inl (omega arith)) ∙ link;
         counted = SameBut-word _ _ _ _ (at + 8) third.rest (inl (omega arith)) ∙ counted;
         third = zero;
       }

@@ -40,8 +40,9 @@ apart_all {K} {V} kp vp live h ps a = not_among h ps (differ ps a)
     differ [] b = tt
     differ (q ∷ qs) b = (b.0.apart, differ qs b.1)
 
-pub in_from : {K V : Type 0} (ms : List ℕ) (ps : List (Pair K V)) → AllByRecursion (λ p. is_in (pair_node p) ms ≡ true)
-    ps → (m : ℕ) → is_in m (nodes_of_pairs ps) ≡ true → is_in m ms ≡ true
+pub in_from : {K V : Type 0} (ms : List ℕ) (ps : List (Pair K V))
+    → AllByRecursion (λ p. is_in (pair_node p) ms ≡ true) ps → (m : ℕ) → is_in m (nodes_of_pairs ps) ≡ true
+    → is_in m ms ≡ true
 in_from ms [] a m i = absurd (false≢true i)
 in_from ms (p ∷ ps) a m i =
     elim (or_cases _ _ i) [
@@ -50,8 +51,9 @@ in_from ms (p ∷ ps) a m i =
     ]
 
 -- each pair's node is among the nodes
-pub nodes_in : {K V : Type 0} (ms : List ℕ) (ps : List (Pair K V)) → ((m : ℕ) → is_in m (nodes_of_pairs ps) ≡ true
-    → is_in m ms ≡ true) → AllByRecursion (λ p. is_in (pair_node p) ms ≡ true) ps
+pub nodes_in : {K V : Type 0} (ms : List ℕ) (ps : List (Pair K V))
+    → ((m : ℕ) → is_in m (nodes_of_pairs ps) ≡ true → is_in m ms ≡ true)
+    → AllByRecursion (λ p. is_in (pair_node p) ms ≡ true) ps
 nodes_in ms [] f = tt
 nodes_in ms (p ∷ ps) f = (
   f (pair_node p) (or_left _ _ (eq-eqb (pair_node p) (pair_node p) refl)),
@@ -84,8 +86,8 @@ module _ {K V : Type 0} {kp : Plain K} {vp : Plain V} (kl : Laws kp) (c : Cut) {
         rw ns_is begins;
   }
 
-  module _ {d : Cut} {node : ℕ} (here : pair_node p ≡ node) {top : Option ℕ} {steps : ℕ} (u : Unlinked kp lent c d root
-      node top steps) where
+  module _ {d : Cut} {node : ℕ} (here : pair_node p ≡ node) {top : Option ℕ} {steps : ℕ}
+      (u : Unlinked kp lent c d root node top steps) where
     pub live_left : live_of d.bytes ≡ live_of c.bytes
     live_left = live_stays c d lent lent u.kept
 
@@ -116,10 +118,10 @@ module _ {K V : Type 0} {kp : Plain K} {vp : Plain V} (kl : Laws kp) (c : Cut) {
           beside = subst (IsBesideMap c e (h + at)) all_own (beside kl vl h at s.heap good_here u.kept s.room off head);
           map = rewritten kl vl h at s.heap good_here u.kept s.room off head (remove_pair kp.order ps key) r.1 lists
               (removed_all kp.order (IsPairIn kp vp (live_of c.bytes) h) ps key s.pairs)
-              (in_from lent (remove_pair kp.order ps key) (removed_all kp.order (λ q. is_in (pair_node q) lent ≡ true)
-              ps key (nodes_in lent ps (λ m i. ap (is_in m) all_own ∙ i))))
-              s.aligned (removed_rising kp.order kl.transitive ps key s.rising) (removed_all kp.order
-              (IsPairAt kp.SIZE kp.spelling vp.spelling (bytes_of c.bytes)) ps key s.map.pairs)
+              (in_from lent (remove_pair kp.order ps key) (removed_all kp.order
+              (λ q. is_in (pair_node q) lent ≡ true) ps key (nodes_in lent ps (λ m i. ap (is_in m) all_own ∙ i))))
+              s.aligned (removed_rising kp.order kl.transitive ps key s.rising)
+              (removed_all kp.order (IsPairAt kp.SIZE kp.spelling vp.spelling (bytes_of c.bytes)) ps key s.map.pairs)
               (omega (arith, gone, count));
         }
 
@@ -132,16 +134,16 @@ module _ {K V : Type 0} {kp : Plain K} {vp : Plain V} (kl : Laws kp) (vl : Laws 
   live_is = lay_out_one _ _ _ t.live
 
   other : h ≢ node
-  other e' = both_ways _ (apart_all kp vp (live_of c.bytes) h ps s.pairs) (ap (λ n. is_in n (nodes_of_pairs ps))
-      (e' ∙ sym here) ∙ in_nodes kp.order ps key p has)
+  other e' = both_ways _ (apart_all kp vp (live_of c.bytes) h ps s.pairs)
+      (ap (λ n. is_in n (nodes_of_pairs ps)) (e' ∙ sym here) ∙ in_nodes kp.order ps key p has)
 
   stills : (qs : List (Pair K V)) → AreIn kp vp (live_of e.bytes) h qs → AllByRecursion (λ q. pair_node q ≢ node) qs
       → AllByRecursion (λ (q : Pair K V). Still e f q.node) qs
   stills [] a o = tt
   stills (q ∷ qs) a o = (
     record {
-      found = rw (released-live _ _ _ _ r) (found-less (handle q.node) node q.node (live_of e.bytes).extents o.0
-          a.0.listed);
+      found = rw (released-live _ _ _ _ r) (found-less (handle q.node) node q.node
+          (live_of e.bytes).extents o.0 a.0.listed);
       same = other_block (live_of e.bytes) node (handle q.node) r.keeps a.0.listed o.0;
     },
     stills qs a.1 o.1,
@@ -160,30 +162,30 @@ module _ {K V : Type 0} {kp : Plain K} {vp : Plain V} (kl : Laws kp) (vl : Laws 
           behind = Same-trans _ _ _ _ _ t.beside.behind r.keeps.behind;
           blocks = λ x found o.
               let q = t.beside.blocks x found o in
-              let apart : handle x ≢ node = λ g. both_ways _ o (ap (λ n. is_in n (nodes_of_pairs ps)) (g ∙ sym here)
-              ∙ in_nodes kp.order ps key p has) in
+              let apart : handle x ≢ node = λ g. both_ways _ o
+              (ap (λ n. is_in n (nodes_of_pairs ps)) (g ∙ sym here) ∙ in_nodes kp.order ps key p has) in
               let k = other_block (live_of e.bytes) node (handle x) {x = x} r.keeps (rw live_is found) apart in
               record { payload = λ n a b g. k.payload.at n a b ∙ q.payload n a b g; colour = k.colour ∙ q.colour };
         };
-        map = map_stays kl vl e f t.map (laid-heap _ _ r.live) (rw (released-live _ _ _ _ r)
-            (found-room (released (live_of e.bytes) node) h (at + 24) room.extent (found-less h node room.extent
-            (live_of e.bytes).extents other room.found) room.room))
+        map = map_stays kl vl e f t.map (laid-heap _ _ r.live)
+            (rw (released-live _ _ _ _ r) (found-room (released (live_of e.bytes) node) h (at + 24) room.extent
+            (found-less h node room.extent (live_of e.bytes).extents other room.found) room.room))
             (record { at = λ n a b. same.payload.at n (omega arith) (omega arith) })
             (stills (remove_pair kp.order ps key) t.map.pairs (other_nodes node (remove_pair kp.order ps key) gone));
       }
     where
       gone : is_in node (nodes_of_pairs (remove_pair kp.order ps key)) ≡ false
       gone =
-          let w = without_nodes kp.order kl.irreflexive kl.transitive (keys_in kp (nodes_of s.map.tree.tree) c) p key
-          ps (keys kl c s) s.rising has in
+          let w = without_nodes kp.order kl.irreflexive kl.transitive
+          (keys_in kp (nodes_of s.map.tree.tree) c) p key ps (keys kl c s) s.rising has in
           ap (is_in node) (sym w) ∙ ap (λ n. is_in node (without n (nodes_of_pairs ps))) here
           ∙ none_left node (nodes_of_pairs ps)
 
 -- the steps of the tree
 pub few_all : {K V : Type 0} {kp : Plain K} {vp : Plain V} (kl : Laws kp) (c : Cut) {h at : ℕ} {root : Option ℕ}
     {ps : List (Pair K V)} (s : HoldsMap kp vp c.bytes h at ps) → root ≡ link_at (bytes_of c.bytes) (h + at)
-    → {d : Cut} {node : ℕ} {top : Option ℕ} {steps : ℕ} → Unlinked kp (own_nodes c.bytes root None) c d root node top
-    steps
+    → {d : Cut} {node : ℕ} {top : Option ℕ} {steps : ℕ} → Unlinked kp
+    (own_nodes c.bytes root None) c d root node top steps
     → steps ≤ 32 * bits (length ps + 1) + 32
 few_all kl c s is {steps = steps} u =
     subst (λ n. steps ≤ 32 * bits (n + 1) + 32) (count_pairs kl c s) (u.few s.map.tree.tree (lent_tree kl c s is refl))
@@ -195,5 +197,5 @@ pub gone_live : {K V : Type 0} {kp : Plain K} {vp : Plain V} {c e : Cut} {h at :
 gone_live {kp = kp} {vp = vp} {c = c} {e = e} {h = h} {ps = ps} s {key} {p} has {node} here t =
     let n = at_node (IsPairIn kp vp (live_of c.bytes) h) ps (pair_node p) (in_nodes kp.order ps key p has) s.pairs in
     let x = n.pair.node in let xs = (live_of c.bytes).extents in
-    rw (lay_out_one _ _ _ t.live) (any_at (λ (x : Extent). handle x == node) xs x (found_in xs
-    (handle x) x n.holds.listed) (eq-eqb _ _ (n.at ∙ here)))
+    rw (lay_out_one _ _ _ t.live) (any_at (λ (x : Extent). handle x == node) xs x
+    (found_in xs (handle x) x n.holds.listed) (eq-eqb _ _ (n.at ∙ here)))

@@ -27,48 +27,50 @@ module _ {K V : Type 0} {kp : Plain K} (kl : Laws kp) (vp : Plain V) {a b : Cut}
   pub room_left : IsTrue (has_room (live_of b.bytes) node 8)
   room_left = allocated-room _ _ _ _ _ _ 8 new (omega arith)
 
-  module _ {c : Cut} (first : IsChanged current b c (node + 0) 8) (left : link_at (bytes_of c.bytes) (node + 0) ≡ None)
-    where
-      one : IsAllocated current a c (node_len kp.SIZE vp.SIZE) Node node
-      one = still 16 new first (omega arith) (omega arith) (omega arith)
+  module _ {c : Cut} (first : IsChanged current b c (node + 0) 8)
+      (left : link_at (bytes_of c.bytes) (node + 0) ≡ None) where
+    one : IsAllocated current a c (node_len kp.SIZE vp.SIZE) Node node
+    one = still 16 new first (omega arith) (omega arith) (omega arith)
 
-      pub room_right : IsTrue (has_room (live_of c.bytes) node 16)
-      room_right = allocated-room _ _ _ _ _ _ 16 one (omega arith)
+    pub room_right : IsTrue (has_room (live_of c.bytes) node 16)
+    room_right = allocated-room _ _ _ _ _ _ 16 one (omega arith)
 
-      module _ {d : Cut} (second : IsChanged current c d (node + 8) 8) (right : link_at (bytes_of d.bytes) (node + 8)
-          ≡ None) where
-        two : IsAllocated current a d (node_len kp.SIZE vp.SIZE) Node node
-        two = still 16 one second (omega arith) (omega arith) (omega arith)
+    module _ {d : Cut} (second : IsChanged current c d (node + 8) 8)
+        (right : link_at (bytes_of d.bytes) (node + 8) ≡ None) where
+      two : IsAllocated current a d (node_len kp.SIZE vp.SIZE) Node node
+      two = still 16 one second (omega arith) (omega arith) (omega arith)
 
-        pub room_key : IsTrue (has_room (live_of d.bytes) node (16 + kp.SIZE))
-        room_key = allocated-room _ _ _ _ _ _ (16 + kp.SIZE) two (omega arith)
+      pub room_key : IsTrue (has_room (live_of d.bytes) node (16 + kp.SIZE))
+      room_key = allocated-room _ _ _ _ _ _ (16 + kp.SIZE) two (omega arith)
 
-        module _ {e : Cut} {key : K} (is_key : kp.is_value key ≡ true) (third : IsChanged current d e
-            (node + 16) kp.SIZE) (spelled : Has (bytes_of e.bytes) (node + 16) (kp.spelling key)) where
-          three : IsAllocated current a e (node_len kp.SIZE vp.SIZE) Node node
-          three = still (16 + kp.SIZE) two third (omega arith) (omega arith) (omega arith)
+      module _ {e : Cut} {key : K} (is_key : kp.is_value key ≡ true)
+          (third : IsChanged current d e (node + 16) kp.SIZE)
+          (spelled : Has (bytes_of e.bytes) (node + 16) (kp.spelling key)) where
+        three : IsAllocated current a e (node_len kp.SIZE vp.SIZE) Node node
+        three = still (16 + kp.SIZE) two third (omega arith) (omega arith) (omega arith)
 
-          pub room_value : IsTrue (has_room (live_of e.bytes) node (16 + kp.SIZE + vp.SIZE))
-          room_value = allocated-room _ _ _ _ _ _ (16 + kp.SIZE + vp.SIZE) three (omega arith)
+        pub room_value : IsTrue (has_room (live_of e.bytes) node (16 + kp.SIZE + vp.SIZE))
+        room_value = allocated-room _ _ _ _ _ _ (16 + kp.SIZE + vp.SIZE) three (omega arith)
 
-          pub made : {f : Cut} (value : V) → vp.is_value value ≡ true → IsChanged current e f
-              (node + (16 + kp.SIZE)) vp.SIZE → Has (bytes_of f.bytes) (node + (16 + kp.SIZE)) (vp.spelling value)
-              → IsMade kp vp a f key value node
-          made {f} value is_value fourth there =
-              let begin : node + 0 ≡ node = omega arith in
-              let behind : node + (16 + kp.SIZE) ≡ node + 16 + kp.SIZE = omega arith in
-              let size = kl.spells key is_key in
-              record {
-                block = still (16 + kp.SIZE + vp.SIZE) three fourth (omega arith) (omega arith) (omega arith);
-                left = SameBut-link _ _ _ _ node fourth.rest (inl (omega arith))
-                    ∙ SameBut-link _ _ _ _ node third.rest (inl (omega arith))
-                    ∙ SameBut-link _ _ _ _ node second.rest (inl (omega arith))
-                    ∙ subst (λ k. link_at (bytes_of c.bytes) k ≡ None) begin left;
-                right = SameBut-link _ _ _ _ (node + 8) fourth.rest (inl (omega arith))
-                    ∙ SameBut-link _ _ _ _ (node + 8) third.rest (inl (omega arith)) ∙ right;
-                is_a_key = is_key;
-                is_a_value = is_value;
-                key_there = Has-same _ _ _ _ (node + 16) (kp.spelling key) (SameBut-Same _ _ _ _ (node + 16)
-                    (node + 16 + kp.SIZE) fourth.rest (inl (omega arith))) (omega arith) (omega arith) spelled;
-                value_there = subst (λ k. Has (bytes_of f.bytes) k (vp.spelling value)) behind there;
-              }
+        pub made : {f : Cut} (value : V) → vp.is_value value ≡ true
+            → IsChanged current e f (node + (16 + kp.SIZE)) vp.SIZE
+            → Has (bytes_of f.bytes) (node + (16 + kp.SIZE)) (vp.spelling value) → IsMade kp vp a f key value node
+        made {f} value is_value fourth there =
+            let begin : node + 0 ≡ node = omega arith in
+            let behind : node + (16 + kp.SIZE) ≡ node + 16 + kp.SIZE = omega arith in
+            let size = kl.spells key is_key in
+            record {
+              block = still (16 + kp.SIZE + vp.SIZE) three fourth (omega arith) (omega arith) (omega arith);
+              left = SameBut-link _ _ _ _ node fourth.rest (inl (omega arith))
+                  ∙ SameBut-link _ _ _ _ node third.rest (inl (omega arith))
+                  ∙ SameBut-link _ _ _ _ node second.rest (inl (omega arith))
+                  ∙ subst (λ k. link_at (bytes_of c.bytes) k ≡ None) begin left;
+              right = SameBut-link _ _ _ _ (node + 8) fourth.rest (inl (omega arith))
+                  ∙ SameBut-link _ _ _ _ (node + 8) third.rest (inl (omega arith)) ∙ right;
+              is_a_key = is_key;
+              is_a_value = is_value;
+              key_there = Has-same _ _ _ _ (node + 16) (kp.spelling key)
+                  (SameBut-Same _ _ _ _ (node + 16) (node + 16 + kp.SIZE) fourth.rest (inl (omega arith)))
+                  (omega arith) (omega arith) spelled;
+              value_there = subst (λ k. Has (bytes_of f.bytes) k (vp.spelling value)) behind there;
+            }

@@ -41,8 +41,8 @@ module _ {K V : Type 0} {kp : Plain K} {vp : Plain V} (kl : Laws kp) (vl : Laws 
   live_d = allocated-live _ _ _ _ _ _ m.block
 
   differs : Differs m.block.extent (live_of c.bytes).extents
-  differs = (rising-insert 128 x (live_of c.bytes).extents (live-rises (added (live_of c.bytes) x)
-      m.block.live.proper)).differs
+  differs = (rising-insert 128 x (live_of c.bytes).extents
+      (live-rises (added (live_of c.bytes) x) m.block.live.proper)).differs
 
   -- no block was there
   differs_at : (y : Extent) → In y (live_of c.bytes).extents → handle y ≢ handle m.block.extent
@@ -55,23 +55,23 @@ module _ {K V : Type 0} {kp : Plain K} {vp : Plain V} (kl : Laws kp) (vl : Laws 
   still_there : (y : Extent) → extent_at (live_of c.bytes) (handle y) ≡ Some y → extent_at (live_of d.bytes) (handle y)
       ≡ Some y
   still_there y f =
-      rw live_d (found-more (handle y) x y (live_of c.bytes).extents (λ e. differs_at y (found_in
-      (live_of c.bytes).extents (handle y) y f) (sym e)) f)
+      rw live_d (found-more (handle y) x y (live_of c.bytes).extents
+      (λ e. differs_at y (found_in (live_of c.bytes).extents (handle y) y f) (sym e)) f)
 
-  stills : (qs : List (Pair K V)) → AreIn kp vp (live_of c.bytes) h qs → AllByRecursion (λ (q : Pair K V).
-      Still c d q.node) qs
+  stills : (qs : List (Pair K V)) → AreIn kp vp (live_of c.bytes) h qs
+      → AllByRecursion (λ (q : Pair K V). Still c d q.node) qs
   stills [] a = tt
   stills (q ∷ qs) a = (
     record {
       found = still_there q.node a.0.listed;
-      same = kept q.node (found_in
-          (live_of c.bytes).extents (handle q.node) q.node a.0.listed);
+      same =
+          kept q.node (found_in (live_of c.bytes).extents (handle q.node) q.node a.0.listed);
     },
     stills qs a.1,
   )
 
-  others_differ : (qs : List (Pair K V)) → AreIn kp vp (live_of c.bytes) h qs → AllByRecursion
-      (λ (q : Pair K V). pair_node q ≢ handle m.block.extent) qs
+  others_differ : (qs : List (Pair K V)) → AreIn kp vp (live_of c.bytes) h qs
+      → AllByRecursion (λ (q : Pair K V). pair_node q ≢ handle m.block.extent) qs
   others_differ [] a = tt
   others_differ (q ∷ qs) a = (
     differs_at q.node (found_in (live_of c.bytes).extents (handle q.node) q.node a.0.listed),
@@ -115,8 +115,8 @@ module _ {K V : Type 0} {kp : Plain K} {vp : Plain V} (kl : Laws kp) (vl : Laws 
           good = rw (
             m.is_a_key,
             m.is_a_value,
-            place-serves (live_of c.bytes) (node_len kp.SIZE vp.SIZE) Node x
-                m.block.placed,
+            place-serves (live_of c.bytes)
+                (node_len kp.SIZE vp.SIZE) Node x m.block.placed,
           ) refl;
           listed = rw live_d (found-new x (live_of c.bytes).extents differs);
           apart = λ e. differs_at r.extent (found_in (live_of c.bytes).extents h r.extent r.found) (begins ∙ sym e);

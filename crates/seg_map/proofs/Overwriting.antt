@@ -44,15 +44,15 @@ module _ {K V : Type 0} {kp : Plain K} {vp : Plain V} (c : Cut) {h at : ℕ} {ps
       (total : (x y : K) → kp.is_value x ≡ true → kp.is_value y ≡ true → kp.order x y ≡ false → kp.order y x ≡ false
       → x ≡ y)
       {d : Cut} (value : V) (is_key_value : kp.is_value key ≡ true) (is_value : vp.is_value value ≡ true)
-      (change : IsChanged current c d (handle p.node + (16 + kp.SIZE)) vp.SIZE) (there : Has (bytes_of d.bytes)
-      (handle p.node + (16 + kp.SIZE)) (vp.spelling value)) where
+      (change : IsChanged current c d (handle p.node + (16 + kp.SIZE)) vp.SIZE)
+      (there : Has (bytes_of d.bytes) (handle p.node + (16 + kp.SIZE)) (vp.spelling value)) where
     abbrev new : Pair K V
     new = record { key = key; value = value; node = p.node }
 
     same_key_is : key ≡ p.key
     same_key_is =
-        let two = neither_parts (kp.order key p.key) (kp.order p.key key) (pair_of kp.order
-        (IsPairIn kp vp (live_of c.bytes) h) ps key p has s.pairs).1 in
+        let two = neither_parts (kp.order key p.key) (kp.order p.key key)
+        (pair_of kp.order (IsPairIn kp vp (live_of c.bytes) h) ps key p has s.pairs).1 in
         total key p.key is_key_value (pair_parts own).key two.0 two.1
 
     live_d : live_of d.bytes ≡ live_of c.bytes
@@ -72,21 +72,18 @@ module _ {K V : Type 0} {kp : Plain K} {vp : Plain V} (c : Cut) {h at : ℕ} {ps
         by_place : (m ≡ handle p.node) ⊎ (m ≡ handle p.node → ⊥) → cells_of (bytes_of d.bytes) m
             ≡ cells_of (bytes_of c.bytes) m
         by_place (inl e) =
-            let g : PairNode (16 + kp.SIZE) (nodes_of s.map.tree.tree) c m = record {
-              good = good kl c s;
-              listed =
-                  i;
-            } in
+            let g : PairNode (16 + kp.SIZE) (nodes_of s.map.tree.tree) c m =
+            record { good = good kl c s; listed = i } in
             beside_cell _ _ _ _ m change.rest (node_place (16 + kp.SIZE) (nodes_of s.map.tree.tree) c m g).low
             (inl (omega (arith, e)))
         by_place (inr o) =
-            let n = at_node (IsPairIn kp vp (live_of c.bytes) h) ps m (ap (λ ns. is_in m ns) (sym s.map.tree.lists)
-            ∙ i) s.pairs in
+            let n = at_node (IsPairIn kp vp (live_of c.bytes) h) ps m
+            (ap (λ ns. is_in m ns) (sym s.map.tree.lists) ∙ i) s.pairs in
             let long = (pair_parts n.holds).long in
             let apart : handle n.pair.node ≢ handle p.node = λ e. o (sym n.at ∙ e) in
             subst (λ k. cells_of (bytes_of d.bytes) k ≡ cells_of (bytes_of c.bytes) k) n.at
-            (block_cells (bytes_of c.bytes) (bytes_of d.bytes) n.pair.node (block_stays n.pair.node
-            (handle n.pair.node) n.holds.listed apart) (omega arith))
+            (block_cells (bytes_of c.bytes) (bytes_of d.bytes) n.pair.node
+            (block_stays n.pair.node (handle n.pair.node) n.holds.listed apart) (omega arith))
 
     abbrev keys_of : ℕ → Option K
     keys_of = keys_in kp (nodes_of s.map.tree.tree) c
@@ -121,23 +118,17 @@ module _ {K V : Type 0} {kp : Plain K} {vp : Plain V} (c : Cut) {h at : ℕ} {ps
     bytes_stay q w o =
         let long = (pair_parts w.block).long in
         let same = block_stays q.node (handle q.node) w.block.listed (other_node q w o) in
-        pair_stays (bytes_of c.bytes) (bytes_of d.bytes) (lengths kl vl w.block) (record {
-          at = λ k low high.
-              same.payload.at k (omega arith) (omega arith);
-        }) w.bytes
+        pair_stays (bytes_of c.bytes) (bytes_of d.bytes) (lengths kl vl w.block)
+        (record { at = λ k low high. same.payload.at k (omega arith) (omega arith) }) w.bytes
 
-    own_bytes : IsPairAt kp.SIZE kp.spelling vp.spelling (bytes_of d.bytes) (record {
-      key = key;
-      value = value;
-      node =
-          p.node;
-    })
+    own_bytes : IsPairAt kp.SIZE kp.spelling vp.spelling (bytes_of d.bytes)
+        (record { key = key; value = value; node = p.node })
     own_bytes =
         let found = pair_of kp.order Was ps key p has were in
         let size = (lengths kl vl own).key in
-        let old = Has-same _ _ _ _ (handle p.node + 16) (kp.spelling p.key) (SameBut-Same _ _ _ _ (handle p.node + 16)
-        (handle p.node + 16 + kp.SIZE) change.rest (inl (omega arith))) (omega arith) (omega (arith, size))
-        found.0.bytes.0 in
+        let old = Has-same _ _ _ _ (handle p.node + 16) (kp.spelling p.key)
+        (SameBut-Same _ _ _ _ (handle p.node + 16) (handle p.node + 16 + kp.SIZE) change.rest (inl (omega arith)))
+        (omega arith) (omega (arith, size)) found.0.bytes.0 in
         let behind : handle p.node + (16 + kp.SIZE) ≡ handle p.node + 16 + kp.SIZE = omega arith in
         (rw same_key_is old, subst (λ k. Has (bytes_of d.bytes) k (vp.spelling value)) behind there)
 
@@ -157,12 +148,11 @@ module _ {K V : Type 0} {kp : Plain K} {vp : Plain V} (c : Cut) {h at : ℕ} {ps
     map_after =
         let r = roomy c h (at + 24) s.heap s.room in let begins = r.at in let long = r.room in
         let block = block_stays r.extent h r.found (λ e. own.apart (sym e ∙ begins)) in
-        let words : Same (bytes_of c.bytes) (bytes_of d.bytes) (h + at) (h + at + 24) = record {
-          at = λ n a b.
-              block.payload.at n (omega arith) (omega arith);
-        } in
-        let many : length ps ≡ length (put_pair kp.order new ps) = sym (length-nodes ps) ∙ ap
-        (λ (ms : List ℕ). length ms) (sym nodes_same) ∙ length-nodes (put_pair kp.order new ps) in
+        let words : Same (bytes_of c.bytes) (bytes_of d.bytes) (h + at) (h + at + 24) =
+        record { at = λ n a b. block.payload.at n (omega arith) (omega arith) } in
+        let many : length ps ≡ length (put_pair kp.order new ps) =
+        sym (length-nodes ps) ∙ ap (λ (ms : List ℕ). length ms) (sym nodes_same)
+        ∙ length-nodes (put_pair kp.order new ps) in
         record {
           heap = laid-heap _ _ change.live;
           map = record {
@@ -172,14 +162,15 @@ module _ {K V : Type 0} {kp : Plain K} {vp : Plain V} (c : Cut) {h at : ℕ} {ps
               tree = s.map.tree.tree;
               linked = record {
                 root = Same-link _ _ _ _ (h + at) words (omega arith) (omega arith) ∙ s.map.tree.linked.root;
-                holds = holds_same (cells_of (bytes_of c.bytes)) (cells_of (bytes_of d.bytes)) s.map.tree.tree cells
-                    s.map.tree.linked.holds;
+                holds = holds_same (cells_of (bytes_of c.bytes))
+                    (cells_of (bytes_of d.bytes)) s.map.tree.tree cells s.map.tree.linked.holds;
               };
               red_black = s.map.tree.red_black;
               lists = s.map.tree.lists ∙ sym nodes_same;
             };
-            pairs = replaced_all kp.order kl.transitive p new same_key_is Was (IsPairAt kp.SIZE kp.spelling vp.spelling
-                (bytes_of d.bytes)) bytes_stay own_bytes ps s.rising has were;
+            pairs = replaced_all kp.order kl.transitive p new same_key_is
+                Was (IsPairAt kp.SIZE kp.spelling vp.spelling (bytes_of d.bytes)) bytes_stay own_bytes ps s.rising
+                has were;
           };
           aligned = s.aligned;
           room = changed-room _ _ _ _ _ h (at + 24) change s.room;
@@ -197,8 +188,8 @@ module _ {K V : Type 0} {kp : Plain K} {vp : Plain V} (c : Cut) {h at : ℕ} {ps
             front = keeps.front;
             behind = keeps.behind;
             blocks = λ y f o.
-                let b = block_stays y (handle y) f (λ e. both_ways _ o (ap (λ n. is_in n (nodes_of_pairs ps)) e
-                ∙ in_nodes kp.order ps key p has)) in
+                let b = block_stays y (handle y) f (λ e. both_ways _ o
+                (ap (λ n. is_in n (nodes_of_pairs ps)) e ∙ in_nodes kp.order ps key p has)) in
                 record { payload = λ n low high g. b.payload.at n low high; colour = b.colour };
           };
           map = map_after;

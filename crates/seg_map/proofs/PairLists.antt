@@ -30,8 +30,8 @@ other_nodes n (p ∷ ps) h =
 pub not_among : {K V : Type 0} (n : ℕ) (ps : List (Pair K V)) → AllByRecursion (λ p. pair_node p ≢ n) ps
     → is_in n (nodes_of_pairs ps) ≡ false
 not_among n [] a = refl
-not_among n (p ∷ ps) a = ap (λ (b : Bool). b || is_in n (nodes_of_pairs ps)) (ne_eqb n (pair_node p)
-    (λ e. a.0 (sym e))) ∙ not_among n ps a.1
+not_among n (p ∷ ps) a = ap (λ (b : Bool). b || is_in n (nodes_of_pairs ps))
+    (ne_eqb n (pair_node p) (λ e. a.0 (sym e))) ∙ not_among n ps a.1
 
 module _ {K V : Type 0} (less : K → K → Bool) where
   pub in_nodes : (ps : List (Pair K V)) (key : K) (p : Pair K V) → pair_at less ps key ≡ Some p
@@ -83,8 +83,8 @@ module _ {K V : Type 0} (less : K → K → Bool) where
   below_rising q (p ∷ ps) b r = rw (b.0, r) refl
 
   module _ (on : Chains less) where
-    pub removed_rising : (ps : List (Pair K V)) (key : K) → is_rising less ps ≡ true → is_rising less
-        (remove_pair less ps key) ≡ true
+    pub removed_rising : (ps : List (Pair K V)) (key : K) → is_rising less ps ≡ true
+        → is_rising less (remove_pair less ps key) ≡ true
     removed_rising [] key r = refl
     removed_rising (q ∷ qs) key r =
         let rest = rising_rest less on q qs r in
@@ -96,13 +96,13 @@ module _ {K V : Type 0} (less : K → K → Bool) where
         ]
 
 -- behind a pair all nodes have greater keys
-none_behind : {K V : Type 0} (less : K → K → Bool) → IsStrict less → (keys : ℕ → Option K) (q : Pair K V)
-    (qs : List (Pair K V)) → keys (pair_node q) ≡ Some q.key → HaveKeys keys qs
+none_behind : {K V : Type 0} (less : K → K → Bool) → IsStrict less
+    → (keys : ℕ → Option K) (q : Pair K V) (qs : List (Pair K V)) → keys (pair_node q) ≡ Some q.key → HaveKeys keys qs
     → Below less q.key qs → is_in (pair_node q) (nodes_of_pairs qs) ≡ false
 none_behind less strict keys q [] e k b = refl
 none_behind {K} {V} less strict keys q (p ∷ ps) e k b =
-    ap (λ (x : Bool). x || is_in (pair_node q) (nodes_of_pairs ps)) (ne_eqb _ _ differs) ∙ none_behind less strict keys
-    q ps e k.1 b.1
+    ap (λ (x : Bool). x || is_in (pair_node q) (nodes_of_pairs ps)) (ne_eqb _ _ differs)
+    ∙ none_behind less strict keys q ps e k.1 b.1
   where
     differs : pair_node q ≡ pair_node p → ⊥
     differs f =
@@ -120,8 +120,8 @@ module _ {K V : Type 0} (less : K → K → Bool) (strict : IsStrict less) (on :
       elim (cases_Bool (is_key less key q)) [
         | inl y ↦
             let found = rw y at h in let same : p ≡ q = cc in
-            let here : is_in (pair_node p) (nodes_of_pairs qs) ≡ false = ap (λ (x : Pair K V).
-            is_in (pair_node x) (nodes_of_pairs qs)) same ∙ behind in
+            let here : is_in (pair_node p) (nodes_of_pairs qs) ≡ false =
+            ap (λ (x : Pair K V). is_in (pair_node x) (nodes_of_pairs qs)) same ∙ behind in
             rw (eq-eqb _ _ (ap pair_node same), y) (without_none (pair_node p) (nodes_of_pairs qs) here)
         | inr z ↦
             let found = rw z at h in

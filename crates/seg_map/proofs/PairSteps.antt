@@ -30,8 +30,8 @@ pub record Changed (len : ℕ) (ns : List ℕ) (c d : Cut) (n : ℕ) : Type 0 wh
   pub place : SamePlace c d
   pub live : live_of d.bytes ≡ live_of c.bytes
   pub bytes : (k : ℕ) → is_kept ns (live_of c.bytes) k ≡ true → bytes_of d.bytes k ≡ bytes_of c.bytes k
-  pub colours : (x : Extent) → In x (live_of c.bytes).extents → (handle x ≡ n → ⊥) → word_at (bytes_of d.bytes)
-      (x.offset + 8) % 16 ≡ word_at (bytes_of c.bytes) (x.offset + 8) % 16
+  pub colours : (x : Extent) → In x (live_of c.bytes).extents → (handle x ≡ n → ⊥)
+      → word_at (bytes_of d.bytes) (x.offset + 8) % 16 ≡ word_at (bytes_of c.bytes) (x.offset + 8) % 16
   pub links : links_among (bytes_of d.bytes) ns n ≡ true
   pub others : (m : ℕ) → is_in m ns ≡ true → (m ≡ n → ⊥) → cells_of (bytes_of d.bytes) m ≡ cells_of (bytes_of c.bytes) m
   pub keys : (m : ℕ) → is_in m ns ≡ true → Same (bytes_of c.bytes) (bytes_of d.bytes) (m + 16) (m + len)
@@ -78,12 +78,12 @@ module _ {len : ℕ} {ns : List ℕ} {c d : Cut} {n : ℕ} (g : PairNode len ns 
 
   pub nodes_stay : is_pair_node len ns d ≡ is_pair_node len ns c
   unfolding is_pair_node
-  nodes_stay = let good : is_good len ns d ≡ is_good len ns c = Good-is_good len ns d good_stays
-      ∙ sym (Good-is_good len ns c g.good) in λ i m. good i && is_in m ns
+  nodes_stay = let good : is_good len ns d ≡ is_good len ns c =
+      Good-is_good len ns d good_stays ∙ sym (Good-is_good len ns c g.good) in λ i m. good i && is_in m ns
 
   byte_stays : (k : ℕ) → (is_kept ns (live_of c.bytes) k ≡ true) ⊎ (is_kept ns (live_of c.bytes) k ≡ false)
-      → (if is_kept ns (live_of d.bytes) k then bytes_of d.bytes k else 0) ≡ (if is_kept ns
-      (live_of c.bytes) k then bytes_of c.bytes k else 0)
+      → (if is_kept ns (live_of d.bytes) k then bytes_of d.bytes k else 0)
+      ≡ (if is_kept ns (live_of c.bytes) k then bytes_of c.bytes k else 0)
   byte_stays k (inl t) = rw (h.live, t) (h.bytes k t)
   byte_stays k (inr f) = rw (h.live, f) refl
 
@@ -95,8 +95,8 @@ module _ {len : ℕ} {ns : List ℕ} {c d : Cut} {n : ℕ} (g : PairNode len ns 
       let far = in_own n ns g.listed k (not_true (is_in k ns) two.1) in
       let at = l.at in
       let w : l.extent.offset + 8 ≡ k - 8 = omega arith in
-      subst (λ a. word_at (bytes_of d.bytes) a % 16 ≡ word_at (bytes_of c.bytes) a % 16) w (h.colours l.extent l.listed
-      (λ e. far (sym at ∙ e)))
+      subst (λ a. word_at (bytes_of d.bytes) a % 16 ≡ word_at (bytes_of c.bytes) a % 16) w
+      (h.colours l.extent l.listed (λ e. far (sym at ∙ e)))
 
   colour_stays : (k : ℕ) → (is_other ns (live_of c.bytes) k ≡ true) ⊎ (is_other ns (live_of c.bytes) k ≡ false)
       → (if is_other ns (live_of d.bytes) k then word_at (bytes_of d.bytes) (k - 8) % 16 else 0)
@@ -124,22 +124,22 @@ module _ {len : ℕ} {ns : List ℕ} {c d : Cut} {n : ℕ} (g : PairNode len ns 
     where
       at_node : (m : ℕ) → is_pair_node len ns c m ≡ true → (m ≡ n → ⊥) → pair_cells len ns d m ≡ pair_cells len ns c m
       at_node m e o =
-          cells_at len ns d m (ap (λ (p : ℕ → Bool). p m) nodes_stay ∙ e) ∙ h.others m (is_pair_node-PairNode len ns c
-          m e).listed o ∙ sym (cells_at len ns c m e)
+          cells_at len ns d m (ap (λ (p : ℕ → Bool). p m) nodes_stay ∙ e)
+          ∙ h.others m (is_pair_node-PairNode len ns c m e).listed o ∙ sym (cells_at len ns c m e)
 
       other : (m : ℕ) → (m ≡ n → ⊥) → (is_pair_node len ns c m ≡ true) ⊎ (is_pair_node len ns c m ≡ false)
           → pair_cells len ns d m ≡ pair_cells len ns c m
       other m o (inl e) = at_node m e o
-      other m o (inr e) = cells_off len ns d m (ap (λ (p : ℕ → Bool). p m) nodes_stay ∙ e) ∙ sym
-          (cells_off len ns c m e)
+      other m o (inr e) = cells_off len ns d m (ap (λ (p : ℕ → Bool). p m) nodes_stay ∙ e)
+          ∙ sym (cells_off len ns c m e)
 
       here : pair_cells len ns d n ≡ f (pair_cells len ns c n)
       here =
           let e = PairNode-is_pair_node len ns c n g in
           cells_at len ns d n (ap (λ (p : ℕ → Bool). p n) nodes_stay ∙ e) ∙ own ∙ ap f (sym (cells_at len ns c n e))
 
-      at : (m : ℕ) → (m ≡ n) ⊎ (m ≡ n → ⊥) → pair_cells len ns d m ≡ (if m == n then f (pair_cells len ns c m)
-          else pair_cells len ns c m)
+      at : (m : ℕ) → (m ≡ n) ⊎ (m ≡ n → ⊥) → pair_cells len ns d m
+          ≡ (if m == n then f (pair_cells len ns c m) else pair_cells len ns c m)
       at m (inl e) = rw (eq-eqb _ _ e, e) here
       at m (inr o) = rw (ne_eqb _ _ o) (other m o (cases_Bool (is_pair_node len ns c m)))
 
@@ -183,8 +183,8 @@ room_of {len} {c} {n} k p l =
     (rw (eq-eqb _ _ b.at, le-leb (k + 16) b.extent.len (omega arith)) refl)
 
 pub live_node : {len : ℕ} {c : Cut} {n : ℕ} → Place len c n → IsTrue (is_live_in (live_of c.bytes) n)
-live_node {c = c} {n = n} p = let b = p.block in any_at (λ (x : Extent). handle x == n) (live_of c.bytes).extents
-    b.extent b.listed (eq-eqb _ _ b.at)
+live_node {c = c} {n = n} p = let b = p.block in any_at (λ (x : Extent). handle x == n)
+    (live_of c.bytes).extents b.extent b.listed (eq-eqb _ _ b.at)
 
 pub node_live : {len : ℕ} {c : Cut} {n : ℕ} → Place len c n → IsTrue (is_node_in (live_of c.bytes) n)
 node_live {c = c} {n = n} p =
@@ -253,8 +253,8 @@ nodes_apart {len} {ns} {c} {n} {m} g h o =
 
 -- ---- a link is set
 
-module _ {len : ℕ} {ns : List ℕ} {c d : Cut} {n from : ℕ} (g : PairNode len ns c n) (change : IsChanged current c d
-    from 8)
+module _ {len : ℕ} {ns : List ℕ} {c d : Cut} {n from : ℕ} (g : PairNode len ns c n)
+    (change : IsChanged current c d from 8)
     (long : 16 ≤ len) (low : n ≤ from) (high : from + 8 ≤ n + 16) where
   p : Place len c n
   p = node_place len ns c n g
@@ -382,8 +382,8 @@ in_block (x ∷ xs) k h =
       | inl e ↦ let two = and_parts _ _ e in record {
         extent = x;
         listed = inl refl;
-        low = leb-true
-            (handle x) k two.0;
+        low =
+            leb-true (handle x) k two.0;
         high = ltb-true k (end_of x) two.1;
       }
       | inr e ↦ let b = in_block xs k e in record {
@@ -397,8 +397,8 @@ in_block (x ∷ xs) k h =
 
 module _ {len : ℕ} {ns : List ℕ} {c d : Cut} {n : ℕ} {red : Bool} (g : PairNode len ns c n)
     (change : IsRecoloured current c d n red) (long : 16 ≤ len) where
-  same_payload : (x : Extent) → In x (live_of c.bytes).extents → Same (bytes_of c.bytes) (bytes_of d.bytes) (handle x)
-      (end_of x)
+  same_payload : (x : Extent) → In x (live_of c.bytes).extents
+      → Same (bytes_of c.bytes) (bytes_of d.bytes) (handle x) (end_of x)
   same_payload x i = all_in (λ (y : Extent). Same (bytes_of c.bytes) (bytes_of d.bytes) (handle y) (end_of y))
       (live_of c.bytes).extents x change.payloads i
 
@@ -418,11 +418,11 @@ module _ {len : ℕ} {ns : List ℕ} {c d : Cut} {n : ℕ} {red : Bool} (g : Pai
   red_own = let a = left_link n g in let b = right_link n g in let r = change.colour in λ i.
       record { left = a i; right = b i; red = r i }
 
-  colour_at : (x : Extent) → In x (live_of c.bytes).extents → (handle x ≡ n → ⊥) → word_at (bytes_of d.bytes)
-      (x.offset + 8) % 16 ≡ word_at (bytes_of c.bytes) (x.offset + 8) % 16
+  colour_at : (x : Extent) → In x (live_of c.bytes).extents → (handle x ≡ n → ⊥)
+      → word_at (bytes_of d.bytes) (x.offset + 8) % 16 ≡ word_at (bytes_of c.bytes) (x.offset + 8) % 16
   colour_at x i o =
-      (all_in (SameBlock (bytes_of c.bytes) (bytes_of d.bytes)) (others n (live_of c.bytes).extents) x
-      change.keeps.blocks (in_others n x (live_of c.bytes).extents i o)).colour
+      (all_in (SameBlock (bytes_of c.bytes) (bytes_of d.bytes))
+      (others n (live_of c.bytes).extents) x change.keeps.blocks (in_others n x (live_of c.bytes).extents i o)).colour
 
   other_red : (m : ℕ) → PairNode len ns c m → (m ≡ n → ⊥) → is_red (bytes_of d.bytes) m ≡ is_red (bytes_of c.bytes) m
   other_red m q o =
@@ -455,10 +455,8 @@ module _ {len : ℕ} {ns : List ℕ} {c d : Cut} {n : ℕ} {red : Bool} (g : Pai
             (sym red_own) (links_at len ns c n g);
         others = λ m i o. let q : PairNode len ns c m = record { good = g.good; listed = i } in
             cell_stays (bytes_of c.bytes) (bytes_of d.bytes) m (left_link m q) (right_link m q) (other_red m q o);
-        keys = λ m i. let s = node_same m (record { good = g.good; listed = i }) in record {
-          at = λ k l h.
-              s.at k (omega arith) h;
-        };
+        keys = λ m i. let s = node_same m (record { good = g.good; listed = i }) in
+            record { at = λ k l h. s.at k (omega arith) h };
       }
 
   pub red_cells : pair_cells len ns d ≡ with_red (pair_cells len ns c) n red
@@ -478,8 +476,8 @@ module _ (len : ℕ) (ns : List ℕ) (c : Cut) (n : ℕ) (h : is_pair_node len n
   room_in k l = room_of k place_of l
 
   pub left_is : link_at (bytes_of c.bytes) (n + 0) ≡ (pair_cells len ns c n).left
-  left_is = let e : n + 0 ≡ n = omega arith in ap (link_at (bytes_of c.bytes)) e ∙ ap (λ (x : Cell). x.left)
-      (sym (cells_at len ns c n h))
+  left_is = let e : n + 0 ≡ n = omega arith in ap (link_at (bytes_of c.bytes)) e
+      ∙ ap (λ (x : Cell). x.left) (sym (cells_at len ns c n h))
 
   pub right_is : link_at (bytes_of c.bytes) (n + 8) ≡ (pair_cells len ns c n).right
   right_is = ap (λ (x : Cell). x.right) (sym (cells_at len ns c n h))
@@ -496,8 +494,8 @@ pub key_room : (size : ℕ) (ns : List ℕ) (c : Cut) (n : ℕ) → is_pair_node
 key_room size ns c n h =
     record {
       proper = proper_of (16 + size) ns c n h;
-      room = room_in (16 + size) ns c n h (16 + size)
-          (le_refl (16 + size));
+      room =
+          room_in (16 + size) ns c n h (16 + size) (le_refl (16 + size));
     }
 
 -- the key that is read

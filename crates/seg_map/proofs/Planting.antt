@@ -23,9 +23,9 @@ use Rattle.seg_map.specs.PairLaws.{Good, PairNode-is_pair_node, cells_at}
 use Rattle.seg_map.specs.Linking.{CanLink, IsKeyTree, Linked, keys_in}
 use Rattle.seg_map.specs.Changing.{IsBesideMap, IsHeaded, IsLoose, IsPlanted}
 use Rattle.seg_map.specs.Searches.{entry_in}
-use Rattle.seg_map.proofs.Beginnings.{beside as not_beside, moved}
-use Rattle.seg_map.proofs.Entering.{HaveKeys, Laws, count_pairs, few_pairs, good, keys, listed, node_here, pair_block}
-use Rattle.seg_map.proofs.Entering.{pair_parts, read_spelled, rising_nodes}
+use Rattle.seg_map.proofs.Beginnings.{beside as not_beside, keys_agree, moved}
+use Rattle.seg_map.proofs.Entering.{HaveKeys, Laws, count_pairs, few_pairs, good, keys, keys_among, listed, pair_block}
+use Rattle.seg_map.proofs.Entering.{pair_parts, tree_among, read_spelled, rising_nodes}
 use Rattle.seg_map.proofs.Searching.{lent_own}
 use Rattle.seg_map.proofs.PairSteps.{target_whole}
 use Rattle.seg_map.proofs.Rewriting.{beside, rewritten}
@@ -61,8 +61,8 @@ module _ {K V : Type 0} {kp : Plain K} {vp : Plain V} (kl : Laws kp) (c : Cut) {
         | inl e ↦
             let at' = eqb-true m (pair_node p) e in
             let a : (cells_of (bytes_of c.bytes) m).left ≡ None = ap (link_at (bytes_of c.bytes)) at' ∙ l.left in
-            let b : (cells_of (bytes_of c.bytes) m).right ≡ None = ap (λ k. link_at (bytes_of c.bytes) (k + 8)) at'
-            ∙ l.right in
+            let b : (cells_of (bytes_of c.bytes) m).right ≡ None =
+            ap (λ k. link_at (bytes_of c.bytes) (k + 8)) at' ∙ l.right in
             (λ j. leads (λ k. is_in k all) (a j) && leads (λ k. is_in k all) (b j))
         | inr e ↦
             let g = good kl c s in
@@ -91,47 +91,17 @@ module _ {K V : Type 0} {kp : Plain K} {vp : Plain V} (kl : Laws kp) (c : Cut) {
   own_in : is_in (pair_node p) all ≡ true
   own_in = or_left _ _ (eq-eqb (pair_node p) (pair_node p) refl)
 
-  -- the keys of the nodes are as before, and the new one has its own
-  key_same : (m : ℕ) → is_in m ns ≡ true → keys_in kp all c m ≡ keys_in kp ns c m
-  unfolding key_of
-  key_same m i =
-      rw (node_all m (in_all m i), node_here kl c s m i) refl
-
   own_key : keys_in kp all c (pair_node p) ≡ Some p.key
   unfolding key_of key_at
   own_key =
       rw (node_all (pair_node p) own_in)
       (read_spelled kp kl (bytes_of c.bytes) (handle p.node + 16) p.key (pair_parts l.block).key l.bytes.0)
 
-  keys_from : (qs : List (Pair K V)) → list_all (λ n. is_in n ns) (nodes_of_pairs qs) ≡ true
-      → HaveKeys (keys_in kp ns c) qs → HaveKeys (keys_in kp all c) qs
-  keys_from [] i k = tt
-  keys_from (q ∷ qs) i k =
-      let two = and_parts _ _ i in
-      (key_same (pair_node q) two.0 ∙ k.0, keys_from qs two.1 k.1)
-
   keys_all : HaveKeys (keys_in kp all c) ps
-  keys_all = keys_from ps (all_from (λ n. is_in n ns) (nodes_of_pairs ps) (λ m i. ap (λ ms. is_in m ms) (listed kl c s)
-      ∙ i)) (keys kl c s)
+  keys_all = keys_among kl s good_all in_all
 
   key_tree : IsKeyTree kp all c root s.map.tree.tree
-  key_tree =
-      record {
-        tree = record {
-          tree = rw is (tree_same (cells_of (bytes_of c.bytes)) (pair_cells (16 + kp.SIZE) all c)
-              (link_at (bytes_of c.bytes) (h + at)) s.map.tree.tree (λ m i. cells_at (16 + kp.SIZE) all c m
-              (node_all m (in_all m i))) s.map.tree.linked);
-          ordered = ap (rises (comes_before kp.order (keys_in kp all c))) (listed kl c s) ∙ rising_nodes kp.order
-              kl.transitive (keys_in kp all c) ps keys_all s.rising;
-          red_black = s.map.tree.red_black;
-        };
-        leads = by_root root (rw is s.map.tree.linked);
-      }
-    where
-      by_root : (o : Option ℕ) → IsTree (cells_of (bytes_of c.bytes)) o s.map.tree.tree → leads
-          (is_pair_node (16 + kp.SIZE) all c) o ≡ true
-      by_root None k = refl
-      by_root (Some n) k = node_all n (in_all n (root_in (cells_of (bytes_of c.bytes)) n s.map.tree.tree k))
+  key_tree = rw is (tree_among kl s good_all in_all)
 
   -- an insertion begins where the search for the key says
   begins_all : (start : Option ℕ) → IfSome start (λ n. entry_in kp c p.key s.map.tree.tree ≡ Some n)
@@ -144,9 +114,9 @@ module _ {K V : Type 0} {kp : Plain K} {vp : Plain V} (kl : Laws kp) (c : Cut) {
       (entry_of (λ m. not (comes_before kp.order (keys_in kp all c) (pair_node p) m)) s.map.tree.tree)
       (entry_same (stands_before kp.order (keys_in kp ns c) false p.key)
       (λ m. not (comes_before kp.order (keys_in kp all c) (pair_node p) m)) s.map.tree.tree
-      (λ m i. ap (stands kp.order false p.key) (sym (key_same m i))
-      ∙ not_beside kp.order kl.irreflexive kl.transitive (keys_in kp all c) p own_key ps keys_all l.absent m
-      (ap (is_in m) (sym (listed kl c s)) ∙ i))) b
+      (λ m i. let j = ap (is_in m) (sym (listed kl c s)) ∙ i in
+      ap (stands kp.order false p.key) (keys_agree (keys_in kp ns c) (keys_in kp all c) ps (keys kl c s) keys_all m j)
+      ∙ not_beside kp.order kl.irreflexive kl.transitive (keys_in kp all c) p own_key ps keys_all l.absent m j)) b
 
   pub can_link : (start : Option ℕ) → IfSome start (λ n. entry_in kp c p.key s.map.tree.tree ≡ Some n) → {node : ℕ}
       → pair_node p ≡ node
@@ -162,10 +132,11 @@ module _ {K V : Type 0} {kp : Plain K} {vp : Plain V} (kl : Laws kp) (c : Cut) {
         begins = begins_all start begins;
       }))
 
-  module _ {d : Cut} {node : ℕ} (here : pair_node p ≡ node) {top : Option ℕ} {steps : ℕ} (k : Linked kp
-      (own_nodes c.bytes root (Some node)) c d root node top steps) where
+  module _ {d : Cut} {node : ℕ} (here : pair_node p ≡ node) {top : Option ℕ} {steps : ℕ}
+      (k : Linked kp (own_nodes c.bytes root (Some node)) c d root node top steps) where
     u : Linked kp all c d root (pair_node p) top steps
-    u = subst (λ (ms : List ℕ). Linked kp ms c d root (pair_node p) top steps) ns_is (rw here k)
+    u = subst (λ (ms : List ℕ). Linked kp ms c d root (pair_node p) top steps) ns_is
+        (subst (λ (n : ℕ). Linked kp (own_nodes c.bytes root (Some n)) c d root n top steps) (sym here) k)
 
     pub live_put : live_of d.bytes ≡ live_of c.bytes
     live_put = live_stays c d all all u.kept
@@ -195,8 +166,8 @@ module _ {K V : Type 0} {kp : Plain K} {vp : Plain V} (kl : Laws kp) (c : Cut) {
               (put_all kp.order (IsPairIn kp vp (live_of c.bytes) h) p ps l.block s.pairs)
               (in_from all (put_pair kp.order p ps) (put_all kp.order (λ q. is_in (pair_node q) all ≡ true) p ps own_in
               (nodes_in all ps (λ m i. in_all m (ap (λ ms. is_in m ms) (listed kl c s) ∙ i)))))
-              s.aligned (put_rising kp.order kl.transitive p ps l.absent s.rising) (put_all kp.order
-              (IsPairAt kp.SIZE kp.spelling vp.spelling (bytes_of c.bytes)) p ps l.bytes s.map.pairs)
+              s.aligned (put_rising kp.order kl.transitive p ps l.absent s.rising)
+              (put_all kp.order (IsPairAt kp.SIZE kp.spelling vp.spelling (bytes_of c.bytes)) p ps l.bytes s.map.pairs)
               (omega (arith, more, count));
         }
 

@@ -92,10 +92,11 @@ module _ {K V : Type 0} (less : K → K → Bool) where
     place_of [] k e = refl
     place_of (q ∷ qs) k e =
         let two = absent_here p.key q qs e in
-        and_from (comes_before less keys (pair_node p) (pair_node q) || comes_before less keys (pair_node q)
-        (pair_node p)) (has_place (comes_before less keys) (pair_node p) (nodes_of_pairs qs))
-        ((λ i. before_key less (own i) (k.0 i) || before_key less (k.0 i) (own i)) ∙ either_two (less p.key q.key)
-        (less q.key p.key) two.0)
+        and_from (comes_before less keys (pair_node p) (pair_node q)
+        || comes_before less keys (pair_node q) (pair_node p))
+        (has_place (comes_before less keys) (pair_node p) (nodes_of_pairs qs))
+        ((λ i. before_key less (own i) (k.0 i) || before_key less (k.0 i) (own i))
+        ∙ either_two (less p.key q.key) (less q.key p.key) two.0)
         (place_of qs k.1 two.1)
 
     pub put_nodes : (ps : List (Pair K V)) → HaveKeys keys ps → pair_at less ps p.key ≡ None
@@ -147,8 +148,8 @@ module _ {K V : Type 0} (less : K → K → Bool) where
     replaced_nodes at (q ∷ qs) r e =
         let n = later q qs r e in
         elim (cases_Bool (less q.key p'.key)) [
-          | inl y ↦ rw (n, y) (ap (λ (ms : List ℕ). pair_node q ∷ ms) (replaced_nodes at qs (rising_rest less on q qs
-              r) (rw (n, y) at e)))
+          | inl y ↦ rw (n, y) (ap (λ (ms : List ℕ). pair_node q ∷ ms)
+              (replaced_nodes at qs (rising_rest less on q qs r) (rw (n, y) at e)))
           | inr z ↦
               let f = rw (n, z) at e in let is : p ≡ q = cc in
               rw (n, z) (ap (λ (m : ℕ). m ∷ nodes_of_pairs qs) (at ∙ ap pair_node is))

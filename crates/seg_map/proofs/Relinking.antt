@@ -23,8 +23,8 @@ module _ {K : Type 0} (k : Plain K) (ns ms : List ℕ) (c d : Cut) (root : Optio
   all_kept : kept_of ns d ≡ kept_of ns c
   all_kept = ap (λ (ks : List ℕ). kept_of ks d) (sym same) ∙ kept
 
-  pub unlinked : ((t : Tree) → IsSearchTree (comes_before k.order (keys_in k ns c)) (pair_cells (16 + k.SIZE) ns c)
-      root t
+  pub unlinked : ((t : Tree) → IsSearchTree (comes_before k.order (keys_in k ns c))
+      (pair_cells (16 + k.SIZE) ns c) root t
       → (s : Tree) × IsSearchTree (comes_before k.order (keys_in k ms d)) (pair_cells (16 + k.SIZE) ms d) top s
       × (nodes_of s ≡ without node (nodes_of t)))
       → ((t : Tree) → IsSearchTree (comes_before k.order (keys_in k ns c)) (pair_cells (16 + k.SIZE) ns c) root t

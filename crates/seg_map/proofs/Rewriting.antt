@@ -64,8 +64,8 @@ module _ {K V : Type 0} {kp : Plain K} {vp : Plain V} (kl : Laws kp) (vl : Laws 
         blocks = λ x f o.
             let i = found_in (live_of c.bytes).extents (handle x) x f in
             let p = kept_block d good kept (omega arith) x i o in
-            let q = all_in (SameBlockBut (bytes_of d.bytes) (bytes_of e.bytes) (h + at) 24) (live_of c.bytes).extents x
-            written i in
+            let q = all_in (SameBlockBut (bytes_of d.bytes) (bytes_of e.bytes) (h + at) 24)
+            (live_of c.bytes).extents x written i in
             (but-trans (bytes_of c.bytes) (bytes_of d.bytes) (bytes_of e.bytes) (h + at) 24 (x ∷ []) (p, tt) (q, tt)).0;
       }
 
@@ -76,11 +76,8 @@ module _ {K V : Type 0} {kp : Plain K} {vp : Plain V} (kl : Laws kp) (vl : Laws 
     where
       by_root : (o : Option ℕ) → leads (is_pair_node (16 + kp.SIZE) ns d) o ≡ true → o ≡ root_of t
           → is_pair_node (16 + kp.SIZE) ns d m ≡ true
-      by_root (Some r) l is = PairNode-is_pair_node (16 + kp.SIZE) ns d m (record {
-        good = (is_pair_node-PairNode
-            (16 + kp.SIZE) ns d r l).good;
-        listed = j;
-      })
+      by_root (Some r) l is = PairNode-is_pair_node (16 + kp.SIZE) ns d m
+          (record { good = (is_pair_node-PairNode (16 + kp.SIZE) ns d r l).good; listed = j })
       by_root None l is = absurd (no_node t is i)
         where
           no_node : (u : Tree) → None ≡ root_of u → is_in m (nodes_of u) ≡ true → ⊥
@@ -88,8 +85,8 @@ module _ {K V : Type 0} {kp : Plain K} {vp : Plain V} (kl : Laws kp) (vl : Laws 
           no_node (fork red left x right) f g = absurd (cc)
 
   -- the key and the value of a pair stay
-  pair_kept : (p : Pair K V) → IsPairIn kp vp (live_of c.bytes) h p → Same (bytes_of c.bytes) (bytes_of e.bytes)
-      (handle p.node + 16) (handle p.node + (16 + kp.SIZE + vp.SIZE))
+  pair_kept : (p : Pair K V) → IsPairIn kp vp (live_of c.bytes) h p
+      → Same (bytes_of c.bytes) (bytes_of e.bytes) (handle p.node + 16) (handle p.node + (16 + kp.SIZE + vp.SIZE))
   pair_kept p i =
       let x = p.node in let listed = found_in (live_of c.bytes).extents (handle x) x i.listed in
       let long = (pair_parts i).long in let same = block_stays x i.listed i.apart in
@@ -118,15 +115,15 @@ module _ {K V : Type 0} {kp : Plain K} {vp : Plain V} (kl : Laws kp) (vl : Laws 
   module _ (qs : List (Pair K V)) {t : Tree} (k : IsKeyTree kp ns d top t) (lists : nodes_of t ≡ nodes_of_pairs qs)
       (pairs : AreIn kp vp (live_of c.bytes) h qs)
       (own : (m : ℕ) → is_in m (nodes_of_pairs qs) ≡ true → is_in m ns ≡ true) where
-    tree_cells : (m : ℕ) → is_in m (nodes_of t) ≡ true → cells_of (bytes_of e.bytes) m ≡ pair_cells
-        (16 + kp.SIZE) ns d m
+    tree_cells : (m : ℕ) → is_in m (nodes_of t) ≡ true → cells_of (bytes_of e.bytes) m
+        ≡ pair_cells (16 + kp.SIZE) ns d m
     tree_cells m i =
         let j = ap (λ ms. is_in m ms) (sym lists) ∙ i in
         let a = at_node (IsPairIn kp vp (live_of c.bytes) h) qs m j pairs in
         let long = (pair_parts a.holds).long in
         let same = block_stays a.pair.node a.holds.listed a.holds.apart in
-        subst (λ x. cells_of (bytes_of e.bytes) x ≡ cells_of (bytes_of d.bytes) x) a.at (block_cells (bytes_of d.bytes)
-        (bytes_of e.bytes) a.pair.node same (omega arith))
+        subst (λ x. cells_of (bytes_of e.bytes) x ≡ cells_of (bytes_of d.bytes) x) a.at
+        (block_cells (bytes_of d.bytes) (bytes_of e.bytes) a.pair.node same (omega arith))
         ∙ sym (cells_at (16 + kp.SIZE) ns d m (node_d t k m i (own m j)))
 
     -- the map has the pairs of the tree
@@ -140,8 +137,8 @@ module _ {K V : Type 0} {kp : Plain K} {vp : Plain V} (kl : Laws kp) (vl : Laws 
             third = head.third;
             tree = record {
               tree = t;
-              linked = rw head.link (tree_same (pair_cells (16 + kp.SIZE) ns d) (cells_of (bytes_of e.bytes)) top t
-                  tree_cells k.tree.tree);
+              linked = rw head.link (tree_same (pair_cells (16 + kp.SIZE) ns d)
+                  (cells_of (bytes_of e.bytes)) top t tree_cells k.tree.tree);
               red_black = k.tree.red_black;
               lists = lists;
             };

@@ -15,26 +15,26 @@ use Rattle.best_fit.proofs.Laws.{found-room, room-less}
 use Rattle.seg_types.specs.declared.plain.Plain.{Ghosts as Plain}
 use Rattle.seg_map.specs.Linking.{IsKeyTree, keys_in}
 use Rattle.seg_map.specs.Map.{Pair, IsPairAt, is_rising, pair_at}
+use Rattle.seg_map.specs.PairLaws.{Chains}
 use Rattle.seg_map.specs.PairNodes.{both, comes_before, own_nodes, pair_cells, stands_before}
 use Rattle.seg_map.specs.Places.{HoldsMap, IsPairIn, IsSomeMap, SearchSteps, final_pair, first_pair, is_passed, item_of}
 use Rattle.seg_map.specs.Places.{last_pair, pair_node, value_of_pair}
 use Rattle.seg_map.specs.Searches.{FindsExit, IsOpened, IsRead, LooksFor, LooksUp, entry_in, exit_in, item_at}
 use Rattle.seg_map.specs.Searches.{last_path, node_with, path_in, reading_steps}
-use Rattle.seg_map.proofs.Entering.{AreAt, AreIn, HaveKeys, Laws, count_pairs, found_back, found_last, found_pair, keys}
-use Rattle.seg_map.proofs.Entering.{own, pair_parts, read_spelled, root_leads, search_tree, value_of}
-use Rattle.seg_map.proofs.FoundLists.{all_reversed}
+use Rattle.seg_map.proofs.Entering.{AreAt, AreIn, HaveKeys, Laws, first_node, key_tree, keys, last_node, length-nodes}
+use Rattle.seg_map.proofs.Entering.{own, pair_parts, read_spelled, value_of}
+use Rattle.seg_map.proofs.FoundLists.{all_reversed, last_mapped}
 use Rattle.seg_map.proofs.FoundPairs.{by_key, pair_by_key}
 
 module _ {K V : Type 0} {kp : Plain K} {vp : Plain V} (laws : Laws kp) (c : Cut) {h at : ℕ} {ps : List (Pair K V)}
-    (s : HoldsMap kp vp c.bytes h at ps) {root : Option ℕ} {ms : List ℕ} (is : root ≡ link_at (bytes_of c.bytes)
-    (h + at))
+    (s : HoldsMap kp vp c.bytes h at ps) {root : Option ℕ} {ms : List ℕ}
+    (is : root ≡ link_at (bytes_of c.bytes) (h + at))
     (are : ms ≡ own_nodes c.bytes root None) where
   pub lent_own : ms ≡ nodes_of s.map.tree.tree
   lent_own = are ∙ ap (λ o. own_nodes c.bytes o None) is ∙ own laws c s
 
   pub lent_tree : IsKeyTree kp ms c root s.map.tree.tree
-  lent_tree =
-      rw lent_own (rw is (record { tree = search_tree laws c s; leads = root_leads laws c s }))
+  lent_tree = rw (lent_own, is) (key_tree laws c s)
 
 -- ---- a map is opened to a search
 
@@ -92,17 +92,25 @@ find_good P test (x ∷ xs) a = by_test (find_good P test xs a.1) (test x)
     by_test rest true = a.0
     by_test rest false = rest
 
+read_keys : {K V : Type 0} (k : Plain K) (v : Plain V) (c : Cut) (by : ℕ → Option K) (ps : List (Pair K V))
+    → AllByRecursion (IsRead k v c by) ps → HaveKeys by ps
+read_keys k v c by [] a = tt
+read_keys k v c by (p ∷ ps) a = (a.0.key, read_keys k v c by ps a.1)
+
 last_good : {A : Type 0} (P : A → Type 0) (o : Option A) (xs : List A) → IfSome o P → AllByRecursion P xs
     → IfSome (last_or o xs) P
 last_good P o [] h a = h
 last_good P o (x ∷ xs) h a = last_good P (Some x) xs a.0 a.1
 
-module _ {K V : Type 0} {k : Plain K} {v : Plain V} (kl : Laws k) {now c : Cut} {h at : ℕ} {own : List ℕ}
+module _ {K V : Type 0} {k : Plain K} {v : Plain V} {now c : Cut} {h at : ℕ} {own : List ℕ}
     {root : Option ℕ} (o : IsOpened k v now c h at own root) where
   abbrev Asked : (Tree → Type 0) → Type 0
-  Asked P = (t : Tree) → IsSearchTree (comes_before k.order (keys_in k own now)) (pair_cells (16 + k.SIZE) own now)
-      root t
+  Asked P = (t : Tree) → IsSearchTree (comes_before k.order (keys_in k own now))
+      (pair_cells (16 + k.SIZE) own now) root t
       → P t
+
+  abbrev ahead : Bool → K → ℕ → Bool
+  ahead past key = stands_before k.order (keys_in k own now) past key
 
   keys_are : (ps : List (Pair K V)) (s : HoldsMap k v c.bytes h at ps)
       → keys_in k own now ≡ keys_in k (nodes_of s.map.tree.tree) c
@@ -111,17 +119,15 @@ module _ {K V : Type 0} {k : Plain K} {v : Plain V} (kl : Laws k) {now c : Cut} 
   few : {taken : ℕ} → Asked (λ t. taken ≤ 2 * bits (length (nodes_of t) + 1)) → SearchSteps k v c.bytes h at 0 0 taken
   few {taken} most = λ ps s.
       let m = most s.map.tree.tree (o.tree ps s).tree in
-      let n = ap (λ n. bits (n + 1)) (count_pairs kl c s) in omega arith
+      let n = ap (λ n. bits (n + 1)) (ap length s.map.tree.lists ∙ length-nodes ps) in omega arith
 
-  module _ (past : Bool) (key : K) {taken : ℕ} (exact : Asked (λ t. taken ≡ path_length (stands_before k.order
-      (keys_in k own now) past key) t))
+  module _ (past : Bool) (key : K) {taken : ℕ} (exact : Asked (λ t. taken ≡ path_length (ahead past key) t))
       (most : Asked (λ t. taken ≤ 2 * bits (length (nodes_of t) + 1))) where
     path_is : (ps : List (Pair K V)) (s : HoldsMap k v c.bytes h at ps) → taken ≡ path_in k c past key s.map.tree.tree
     path_is ps s = exact s.map.tree.tree (o.tree ps s).tree
         ∙ ap (λ ks. path_length (stands_before k.order ks past key) s.map.tree.tree) (keys_are ps s)
 
-    pub finds_first : {found : Option ℕ} → Asked (λ t. found ≡ first_not (stands_before k.order
-        (keys_in k own now) past key) (nodes_of t))
+    pub finds_first : {found : Option ℕ} → Asked (λ t. found ≡ first_not (ahead past key) (nodes_of t))
         → Finds k v c h at (first_pair k.order past key) (path_in k c past key) found taken
     finds_first first =
         record {
@@ -129,14 +135,14 @@ module _ {K V : Type 0} {k : Plain K} {v : Plain V} (kl : Laws k) {now c : Cut} 
           good = λ ps s. find_good (IsRead k v c (keys_in k own now)) (λ p. not (is_passed k.order past key p)) ps
               (o.pairs ps s);
           node = λ ps s. first s.map.tree.tree (o.tree ps s).tree
-              ∙ ap (λ ks. first_not (stands_before k.order ks past key) (nodes_of s.map.tree.tree)) (keys_are ps s)
-              ∙ found_pair kl c s past key;
+              ∙ ap (first_not (ahead past key)) s.map.tree.lists
+              ∙ first_node k.order (keys_in k own now) past key ps
+              (read_keys k v c (keys_in k own now) ps (o.pairs ps s));
           exact = path_is;
           most = few most;
         }
 
-    pub finds_before : {found : Option ℕ} → Asked (λ t. found ≡ last_before (stands_before k.order
-        (keys_in k own now) past key) (nodes_of t))
+    pub finds_before : {found : Option ℕ} → Asked (λ t. found ≡ last_before (ahead past key) (nodes_of t))
         → Finds k v c h at (last_pair k.order past key) (path_in k c past key) found taken
     finds_before last =
         record {
@@ -144,8 +150,9 @@ module _ {K V : Type 0} {k : Plain K} {v : Plain V} (kl : Laws k) {now c : Cut} 
           good = λ ps s. find_good (IsRead k v c (keys_in k own now)) (is_passed k.order past key) (reverse ps)
               (all_reversed (IsRead k v c (keys_in k own now)) ps (o.pairs ps s));
           node = λ ps s. last s.map.tree.tree (o.tree ps s).tree
-              ∙ ap (λ ks. last_before (stands_before k.order ks past key) (nodes_of s.map.tree.tree)) (keys_are ps s)
-              ∙ found_back kl c s past key;
+              ∙ ap (last_before (ahead past key)) s.map.tree.lists
+              ∙ last_node k.order (keys_in k own now) past key ps
+              (read_keys k v c (keys_in k own now) ps (o.pairs ps s));
           exact = path_is;
           most = few most;
         }
@@ -157,14 +164,15 @@ module _ {K V : Type 0} {k : Plain K} {v : Plain V} (kl : Laws k) {now c : Cut} 
       record {
         keys = keys_in k own now;
         good = λ ps s. last_good (IsRead k v c (keys_in k own now)) None ps tt (o.pairs ps s);
-        node = λ ps s. last s.map.tree.tree (o.tree ps s).tree ∙ found_last kl c s;
+        node = λ ps s. let none : Option ℕ = None in
+            last s.map.tree.tree (o.tree ps s).tree ∙ ap (last_or none) s.map.tree.lists
+            ∙ last_mapped pair_node None ps;
         exact = λ ps s. exact s.map.tree.tree (o.tree ps s).tree;
         most = few most;
       }
 
   -- where a change begins, by the keys of the map
-  pub entry_is : (key : K) {start : Option ℕ} → Asked (λ t. start ≡ entry_of (stands_before k.order
-      (keys_in k own now) false key) t)
+  pub entry_is : (key : K) {start : Option ℕ} → Asked (λ t. start ≡ entry_of (ahead false key) t)
       → (ps : List (Pair K V)) (s : HoldsMap k v c.bytes h at ps) → start ≡ entry_in k c key s.map.tree.tree
   entry_is key entry ps s = entry s.map.tree.tree (o.tree ps s).tree
       ∙ ap (λ ks. entry_of (stands_before k.order ks false key) s.map.tree.tree) (keys_are ps s)
@@ -205,13 +213,13 @@ module _ {K V : Type 0} (k : Plain K) (v : Plain V) (c : Cut) (by : ℕ → Opti
       ≡ option_map pair_node (by_key k.order key o)
   key_read key None h = refl
   key_read key (Some p) h =
-      let e = both_first (value_of k (read (bytes_of c.bytes) (pair_node p + 16) k.SIZE)) (value_of v
-      (read (bytes_of c.bytes) (pair_node p + (16 + k.SIZE)) v.SIZE)) p.key p.value h.item in
+      let e = both_first (value_of k (read (bytes_of c.bytes) (pair_node p + 16) k.SIZE))
+      (value_of v (read (bytes_of c.bytes) (pair_node p + (16 + k.SIZE)) v.SIZE)) p.key p.value h.item in
       ap (option_and_then (λ (x : K). if k.order key x then None else Some (pair_node p))) e
       ∙ by_test (k.order key p.key)
     where
-      by_test : (b : Bool) → (if b then None else Some (pair_node p)) ≡ option_map pair_node
-          (if b then None else Some p)
+      by_test : (b : Bool) → (if b then None else Some (pair_node p))
+          ≡ option_map pair_node (if b then None else Some p)
       by_test true = refl
       by_test false = refl
 
@@ -240,8 +248,8 @@ module _ {K V : Type 0} {k : Plain K} {v : Plain V} {c : Cut} {h at : ℕ} {pair
   steps_read before after e ps s =
       let t = f.exact ps s in let r = ap reading_steps (f.node ps s) ∙ reads_same (pair ps) in omega (arith, e, t, r)
 
-  few_read : (before after : ℕ) → after ≡ before + taken + reading_steps found → SearchSteps k v c.bytes h at 1 before
-      after
+  few_read : (before after : ℕ) → after ≡ before + taken + reading_steps found
+      → SearchSteps k v c.bytes h at 1 before after
   few_read before after e = λ ps s. let t = f.most ps s in let r = one found in omega (arith, e, t, r)
     where
       one : (o : Option ℕ) → reading_steps o ≤ 1
@@ -260,33 +268,34 @@ module _ {K V : Type 0} {k : Plain K} {v : Plain V} {c : Cut} {h at : ℕ} {pair
         exact = steps_read before after e;
       }
 
-pub looked_for : {K V : Type 0} {k : Plain K} {v : Plain V} (kl : Laws k) {c : Cut} {h at : ℕ} (key : K)
+pub looked_for : {K V : Type 0} {k : Plain K} {v : Plain V} {c : Cut} {h at : ℕ} (key : K)
     {found result : Option ℕ} {taken before after : ℕ}
-    → Finds k v c h at (first_pair k.order false key) (path_in k c false key) found taken
+    → Finds k v c h at (first_pair k.order false key) (path_in k c false key) found taken → Chains k.order
     → result ≡ option_and_then (node_with k (bytes_of c.bytes) key) found → after ≡ before + taken + reading_steps found
     → LooksFor k v c h at key result before after
-looked_for {k = k} {v = v} kl {c} key {before = before} {after = after} f i e =
+looked_for {k = k} {v = v} {c} key {before = before} {after = after} f on i e =
     record {
       node = λ ps s. i ∙ ap (option_and_then (node_with k (bytes_of c.bytes) key)) (f.node ps s)
           ∙ key_read k v c f.keys key (first_pair k.order false key ps) (f.good ps s)
-          ∙ sym (ap (option_map pair_node) (pair_by_key k.order kl.transitive key ps s.rising));
+          ∙ sym (ap (option_map pair_node) (pair_by_key k.order on key ps s.rising));
       counted = omega (arith, e);
       steps = few_read f before after e;
       exact = steps_read f before after e;
     }
 
 -- the value of a key, of the item that is not below it
-pub value_by_key : {K V : Type 0} (k : Plain K) (kl : Laws k) (key : K) (ps : List (Pair K V)) (i : Option (K × V))
+pub value_by_key : {K V : Type 0} (k : Plain K) (on : Chains k.order) (key : K) (ps : List (Pair K V))
+    (i : Option (K × V))
     → is_rising k.order ps ≡ true → i ≡ option_map item_of (first_pair k.order false key ps)
     → option_and_then (λ (x : K × V). if k.order key x.0 then None else Some x.1) i
     ≡ option_map value_of_pair (pair_at k.order ps key)
-value_by_key {K} {V} k kl key ps i r e =
-    ap (option_and_then (λ (x : K × V). if k.order key x.0 then None else Some x.1)) e ∙ by_pair
-    (first_pair k.order false key ps)
-    ∙ sym (ap (option_map value_of_pair) (pair_by_key k.order kl.transitive key ps r))
+value_by_key {K} {V} k on key ps i r e =
+    ap (option_and_then (λ (x : K × V). if k.order key x.0 then None else Some x.1)) e
+    ∙ by_pair (first_pair k.order false key ps)
+    ∙ sym (ap (option_map value_of_pair) (pair_by_key k.order on key ps r))
   where
-    by_test : (p : Pair K V) (b : Bool) → (if b then None else Some p.value) ≡ option_map value_of_pair
-        (if b then None else Some p)
+    by_test : (p : Pair K V) (b : Bool) → (if b then None else Some p.value)
+        ≡ option_map value_of_pair (if b then None else Some p)
     by_test p true = refl
     by_test p false = refl
 

@@ -28,8 +28,8 @@ block_cells m m' x s long =
     let e : x.offset + 8 ≡ handle x - 8 = omega arith in
     cell_stays m m' (handle x) (Same-link _ _ _ _ (handle x) s.payload (omega arith) (omega arith))
     (Same-link _ _ _ _ (handle x + 8) s.payload (omega arith) (omega arith))
-    (same_red (word_at m (handle x - 8)) (word_at m' (handle x - 8)) (subst (λ a. word_at m' a % 16 ≡ word_at m a % 16)
-    e s.colour))
+    (same_red (word_at m (handle x - 8)) (word_at m' (handle x - 8))
+    (subst (λ a. word_at m' a % 16 ≡ word_at m a % 16) e s.colour))
 
 -- the pair of a node
 pub record AtNode {K V : Type 0} (P : Pair K V → Type 0) (m : ℕ) : Type 0 where
@@ -74,11 +74,11 @@ pub record Still (c e : Cut) (x : Extent) : Type 0 where
 
 module _ {K V : Type 0} {kp : Plain K} {vp : Plain V} (kl : Laws kp) (vl : Laws vp) (c e : Cut) {h at : ℕ}
     {ps : List (Pair K V)} (s : HoldsMap kp vp c.bytes h at ps) (heap : IsHeap current e.bytes)
-    (room : IsTrue (has_room (live_of e.bytes) h (at + 24))) (words : Same (bytes_of c.bytes) (bytes_of e.bytes)
-    (h + at) (h + at + 24))
+    (room : IsTrue (has_room (live_of e.bytes) h (at + 24)))
+    (words : Same (bytes_of c.bytes) (bytes_of e.bytes) (h + at) (h + at + 24))
     (blocks : AllByRecursion (λ (p : Pair K V). Still c e p.node) ps) where
-  pub pairs_in : (qs : List (Pair K V)) → AreIn kp vp (live_of c.bytes) h qs → AllByRecursion
-      (λ (p : Pair K V). Still c e p.node) qs → AreIn kp vp (live_of e.bytes) h qs
+  pub pairs_in : (qs : List (Pair K V)) → AreIn kp vp (live_of c.bytes) h qs
+      → AllByRecursion (λ (p : Pair K V). Still c e p.node) qs → AreIn kp vp (live_of e.bytes) h qs
   pairs_in [] a f = tt
   pairs_in (q ∷ qs) a f = (record { good = a.0.good; listed = f.0.found; apart = a.0.apart }, pairs_in qs a.1 f.1)
 
@@ -87,16 +87,14 @@ module _ {K V : Type 0} {kp : Plain K} {vp : Plain V} (kl : Laws kp) (vl : Laws 
   pairs_at [] a b f = tt
   pairs_at (q ∷ qs) a b f =
       let long = (pair_parts a.0).long in let same = f.0.same in (
-        pair_stays (bytes_of c.bytes) (bytes_of e.bytes) (lengths kl vl a.0) (record {
-          at = λ k low high.
-              same.payload.at k (omega arith) (omega arith);
-        }) b.0,
+        pair_stays (bytes_of c.bytes) (bytes_of e.bytes) (lengths kl vl a.0)
+            (record { at = λ k low high. same.payload.at k (omega arith) (omega arith) }) b.0,
         pairs_at qs a.1 b.1 f.1,
       )
 
-  with_blocks : (qs : List (Pair K V)) → AreIn kp vp (live_of c.bytes) h qs → AllByRecursion
-      (λ (p : Pair K V). Still c e p.node) qs → AllByRecursion (λ (p : Pair K V). IsPairIn kp vp (live_of c.bytes) h p
-      × Still c e p.node) qs
+  with_blocks : (qs : List (Pair K V)) → AreIn kp vp (live_of c.bytes) h qs
+      → AllByRecursion (λ (p : Pair K V). Still c e p.node) qs
+      → AllByRecursion (λ (p : Pair K V). IsPairIn kp vp (live_of c.bytes) h p × Still c e p.node) qs
   with_blocks [] a f = tt
   with_blocks (q ∷ qs) a f = ((a.0, f.0), with_blocks qs a.1 f.1)
 
@@ -106,8 +104,8 @@ module _ {K V : Type 0} {kp : Plain K} {vp : Plain V} (kl : Laws kp) (vl : Laws 
       let n = at_node (λ (p : Pair K V). IsPairIn kp vp (live_of c.bytes) h p × Still c e p.node) ps m
       (ap (λ ns. is_in m ns) (sym s.map.tree.lists) ∙ i) (with_blocks ps s.pairs blocks) in
       let long = (pair_parts n.holds.0).long in
-      subst (λ k. cells_of (bytes_of e.bytes) k ≡ cells_of (bytes_of c.bytes) k) n.at (block_cells (bytes_of c.bytes)
-      (bytes_of e.bytes) n.pair.node n.holds.1.same (omega arith))
+      subst (λ k. cells_of (bytes_of e.bytes) k ≡ cells_of (bytes_of c.bytes) k) n.at
+      (block_cells (bytes_of c.bytes) (bytes_of e.bytes) n.pair.node n.holds.1.same (omega arith))
 
   unfoldable pub map_stays : HoldsMap kp vp e.bytes h at ps
   map_stays =
@@ -120,8 +118,8 @@ module _ {K V : Type 0} {kp : Plain K} {vp : Plain V} (kl : Laws kp) (vl : Laws 
             tree = s.map.tree.tree;
             linked = record {
               root = Same-link _ _ _ _ (h + at) words (omega arith) (omega arith) ∙ s.map.tree.linked.root;
-              holds = holds_same (cells_of (bytes_of c.bytes)) (cells_of (bytes_of e.bytes)) s.map.tree.tree cells
-                  s.map.tree.linked.holds;
+              holds = holds_same (cells_of (bytes_of c.bytes))
+                  (cells_of (bytes_of e.bytes)) s.map.tree.tree cells s.map.tree.linked.holds;
             };
             red_black = s.map.tree.red_black;
             lists = s.map.tree.lists;

@@ -83,8 +83,8 @@ pub record IsErased {K V : Type 0} (k : Plain K) (v : Plain V) (old new : Cut) (
 abbrev pub Erases : {K V : Type 0} → Plain K → Plain V → Cut → Cut → ℕ → ℕ → K → Bool → Type 0
 Erases {K} {V} k v old new h at key result =
     (ps : List (Pair K V)) → HoldsMap k v old.bytes h at ps
-    → MatchOption (pair_at k.order ps key) ((result ≡ false) × (new ≡ old)) (λ p. (result ≡ true)
-    × IsErased k v old new h at ps p key)
+    → MatchOption (pair_at k.order ps key) ((result ≡ false) × (new ≡ old))
+    (λ p. (result ≡ true) × IsErased k v old new h at ps p key)
 
 -- the pair of a node is gone, and its block
 abbrev pub Drops : {K V : Type 0} → Plain K → Plain V → Cut → Cut → ℕ → ℕ → ℕ → Type 0
@@ -186,5 +186,5 @@ Puts {K} {V} k v old new h at key value result =
 -- the steps of the two tree calls of a change, and the touches of one call of the heap
 abbrev pub ChangeSteps : {K V : Type 0} → Plain K → Plain V → Cut → ℕ → ℕ → ℕ → ℕ → Type 0
 ChangeSteps {K} {V} k v old h at before after =
-    (ps : List (Pair K V)) → HoldsMap k v old.bytes h at ps → after ≤ before + 34 * bits (length
-    ps + 1) + 36 + heap_touches (live_of old.bytes)
+    (ps : List (Pair K V)) → HoldsMap k v old.bytes h at ps → after
+    ≤ before + 34 * bits (length ps + 1) + 36 + heap_touches (live_of old.bytes)

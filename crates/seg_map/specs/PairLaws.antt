@@ -74,8 +74,8 @@ disjoint from (z ∷ zs) to x y h (inr i) (inl f) =
     ap (λ (w : Extent). w.len) f in
     let far = (lies (z.offset + z.len) zs to x (proper_from-IsFirst from z zs to h).rest i).low in
     inr (inr (omega arith))
-disjoint from (z ∷ zs) to x y h (inr i) (inr j) = disjoint (z.offset + z.len) zs to x y (proper_from-IsFirst from z zs
-    to h).rest i j
+disjoint from (z ∷ zs) to x y h (inr i) (inr j) = disjoint (z.offset + z.len) zs to x y
+    (proper_from-IsFirst from z zs to h).rest i j
 
 few : (from : ℕ) (xs : List Extent) (to : ℕ) → IsTrue (proper_from from xs to) → length xs + from ≤ to
 few from [] to h = let r = proper_from-reaches from [] to h in omega arith
@@ -118,8 +118,8 @@ block_here len x xs n h =
           leb-true (len + 16) x.len s.1;
     }
 
-pub block_at : (len : ℕ) (xs : List Extent) (n : ℕ) → list_any (λ (x : Extent). (handle x == n) && serves x Node len)
-    xs ≡ true → Block len xs n
+pub block_at : (len : ℕ) (xs : List Extent) (n : ℕ) → list_any
+    (λ (x : Extent). (handle x == n) && serves x Node len) xs ≡ true → Block len xs n
 block_at len [] n h = absurd (false≢true h)
 block_at len (x ∷ xs) n h =
     elim (or_cases _ _ h) [
@@ -160,11 +160,8 @@ pub record PairNode (len : ℕ) (ns : List ℕ) (c : Cut) (n : ℕ) : Type 0 whe
 pub is_pair_node-PairNode : (len : ℕ) (ns : List ℕ) (c : Cut) (n : ℕ) → is_pair_node len ns c n ≡ true
     → PairNode len ns c n
 unfolding is_pair_node
-is_pair_node-PairNode len ns c n h = let two = and_parts _ _ h in record {
-  good = is_good-Good len ns c two.0;
-  listed =
-      two.1;
-}
+is_pair_node-PairNode len ns c n h = let two = and_parts _ _ h in
+    record { good = is_good-Good len ns c two.0; listed = two.1 }
 
 pub PairNode-is_pair_node : (len : ℕ) (ns : List ℕ) (c : Cut) (n : ℕ) → PairNode len ns c n → is_pair_node len ns c n
     ≡ true
@@ -172,8 +169,8 @@ unfolding is_pair_node
 PairNode-is_pair_node len ns c n g = and_from (is_good len ns c) (is_in n ns) (Good-is_good len ns c g.good) g.listed
 
 pub node_block : (len : ℕ) (ns : List ℕ) (c : Cut) (n : ℕ) → PairNode len ns c n → Block len (live_of c.bytes).extents n
-node_block len ns c n g = block_at len (live_of c.bytes).extents n (all_at (is_block_in len (live_of c.bytes)) ns n
-    g.good.blocks g.listed)
+node_block len ns c n g = block_at len (live_of c.bytes).extents n
+    (all_at (is_block_in len (live_of c.bytes)) ns n g.good.blocks g.listed)
 
 -- where a node lies
 pub record Place (len : ℕ) (c : Cut) (n : ℕ) : Type 0 where
@@ -195,8 +192,8 @@ node_place len ns c n g =
 
 pub in_handles : (xs : List Extent) (x : Extent) (n : ℕ) → In x xs → handle x ≡ n → is_in n (map handle xs) ≡ true
 in_handles [] x n i e = absurd i
-in_handles (y ∷ ys) x n (inl f) e = or_left (n == handle y) (is_in n (map handle ys)) (eq-eqb n (handle y)
-    (sym e ∙ ap handle (sym f)))
+in_handles (y ∷ ys) x n (inl f) e = or_left (n == handle y) (is_in n (map handle ys))
+    (eq-eqb n (handle y) (sym e ∙ ap handle (sym f)))
 in_handles (y ∷ ys) x n (inr i) e = or_right (n == handle y) (is_in n (map handle ys)) (in_handles ys x n i e)
 
 pub handles_length : (xs : List Extent) → length (map handle xs) ≡ length xs
@@ -209,8 +206,8 @@ Finite len ns c = (ms : List ℕ) × (length ms ≤ 2 ^ 40) × ((n : ℕ) → is
 pub pairs_finite : (len : ℕ) (ns : List ℕ) (c : Cut) → Finite len ns c
 pairs_finite len ns c = by_test (is_good len ns c) refl
   where
-    by_test : (b : Bool) → is_good len ns c ≡ b → (ms : List ℕ) × (length ms ≤ 2 ^ 40) × ((n : ℕ)
-        → is_pair_node len ns c n ≡ true → is_in n ms ≡ true)
+    by_test : (b : Bool) → is_good len ns c ≡ b → (ms : List ℕ) × (length ms ≤ 2 ^ 40)
+        × ((n : ℕ) → is_pair_node len ns c n ≡ true → is_in n ms ≡ true)
     by_test true e =
         let g = is_good-Good len ns c e in
         let n = few_extents (live_of c.bytes) g.proper in
@@ -218,14 +215,14 @@ pairs_finite len ns c = by_test (is_good len ns c) refl
           map handle (live_of c.bytes).extents,
           omega arith,
           λ n h.
-              let b = node_block len ns c n (is_pair_node-PairNode len ns c n h) in in_handles
-              (live_of c.bytes).extents b.extent n b.listed b.at,
+              let b = node_block len ns c n (is_pair_node-PairNode len ns c n h) in
+              in_handles (live_of c.bytes).extents b.extent n b.listed b.at,
         )
     by_test false e = (
       [],
       omega arith,
-      λ n h. absurd (both_ways (is_good len ns c) e (Good-is_good len ns c
-          (is_pair_node-PairNode len ns c n h).good)),
+      λ n h. absurd (both_ways (is_good len ns c) e
+          (Good-is_good len ns c (is_pair_node-PairNode len ns c n h).good)),
     )
 
 -- ---- links lead to nodes
@@ -306,8 +303,8 @@ pub comes_transitive : {K : Type 0} (less : K → K → Bool) → Chains less �
     → comes_before less keys a b ≡ true → comes_before less keys b c ≡ true → comes_before less keys a c ≡ true
 comes_transitive less on keys a b c h k = key_transitive less on (keys a) (keys b) (keys c) h k
 
-pub comes_agrees : {K : Type 0} (less : K → K → Bool) → Chains less → (keys : ℕ → Option K) (past : Bool) (key : K)
-    (a b : ℕ)
-    → comes_before less keys a b ≡ true → stands_before less keys past key b ≡ true → stands_before less keys past key
-    a ≡ true
+pub comes_agrees : {K : Type 0} (less : K → K → Bool) → Chains less
+    → (keys : ℕ → Option K) (past : Bool) (key : K) (a b : ℕ)
+    → comes_before less keys a b ≡ true → stands_before less keys past key b ≡ true
+    → stands_before less keys past key a ≡ true
 comes_agrees less on keys past key a b h s = key_agrees less on past key (keys a) (keys b) h s

@@ -23,14 +23,14 @@ pub record IsPairIn {K V : Type 0} (k : Plain K) (v : Plain V) (live : LiveSet) 
   pub apart : handle p.node ≢ h
 
 -- the pairs of the map whose three words stand at an offset in the block of a handle
-pub record HoldsMap {K V : Type 0} (k : Plain K) (v : Plain V) (b : List ℕ) (h at : ℕ) (ps : List (Pair K V)) : Type 0
-  where
-    pub heap : IsHeap current b
-    pub map : IsMapAt k.SIZE k.spelling v.spelling (bytes_of b) (h + at) ps
-    pub aligned : at % 8 ≡ 0
-    pub room : IsTrue (has_room (live_of b) h (at + 24))
-    pub rising : is_rising k.order ps ≡ true
-    pub pairs : AllByRecursion (IsPairIn k v (live_of b) h) ps
+pub record HoldsMap {K V : Type 0} (k : Plain K) (v : Plain V) (b : List ℕ) (h at : ℕ)
+    (ps : List (Pair K V)) : Type 0 where
+  pub heap : IsHeap current b
+  pub map : IsMapAt k.SIZE k.spelling v.spelling (bytes_of b) (h + at) ps
+  pub aligned : at % 8 ≡ 0
+  pub room : IsTrue (has_room (live_of b) h (at + 24))
+  pub rising : is_rising k.order ps ≡ true
+  pub pairs : AllByRecursion (IsPairIn k v (live_of b) h) ps
 
 abbrev pub IsSomeMap : {K V : Type 0} → Plain K → Plain V → List ℕ → ℕ → ℕ → Type 0
 IsSomeMap {K} {V} k v b h at = (ps : List (Pair K V)) × HoldsMap k v b h at ps
@@ -70,16 +70,16 @@ FindsItemBefore {K} {V} k v b h at past key r = (ps : List (Pair K V)) → Holds
     ≡ option_map item_of (last_pair k.order past key ps)
 
 abbrev pub FindsLastItem : {K V : Type 0} → Plain K → Plain V → List ℕ → ℕ → ℕ → Option (K × V) → Type 0
-FindsLastItem {K} {V} k v b h at r = (ps : List (Pair K V)) → HoldsMap k v b h at ps → r ≡ option_map item_of
-    (final_pair ps)
+FindsLastItem {K} {V} k v b h at r = (ps : List (Pair K V)) → HoldsMap k v b h at ps → r
+    ≡ option_map item_of (final_pair ps)
 
 abbrev pub FindsValue : {K V : Type 0} → Plain K → Plain V → List ℕ → ℕ → ℕ → K → Option V → Type 0
 FindsValue {K} {V} k v b h at key r = (ps : List (Pair K V)) → HoldsMap k v b h at ps → r
     ≡ option_map value_of_pair (pair_at k.order ps key)
 
 abbrev pub FindsKey : {K V : Type 0} → Plain K → Plain V → List ℕ → ℕ → ℕ → K → Option ℕ → Type 0
-FindsKey {K} {V} k v b h at key r = (ps : List (Pair K V)) → HoldsMap k v b h at ps → r ≡ option_map pair_node
-    (pair_at k.order ps key)
+FindsKey {K} {V} k v b h at key r = (ps : List (Pair K V)) → HoldsMap k v b h at ps → r
+    ≡ option_map pair_node (pair_at k.order ps key)
 
 -- a search, and so many steps more
 abbrev pub SearchSteps : {K V : Type 0} → Plain K → Plain V → List ℕ → ℕ → ℕ → ℕ → ℕ → ℕ → Type 0

@@ -71,8 +71,8 @@ pub record IsOpened {K V : Type 0} (k : Plain K) (v : Plain V) (now c : Cut) (h 
   pub same : now ≡ c
   pub nodes : (ps : List (Pair K V)) (s : HoldsMap k v c.bytes h at ps) → own ≡ nodes_of s.map.tree.tree
   pub tree : (ps : List (Pair K V)) (s : HoldsMap k v c.bytes h at ps) → IsKeyTree k own now root s.map.tree.tree
-  pub pairs : (ps : List (Pair K V)) → HoldsMap k v c.bytes h at ps → AllByRecursion (IsRead k v c (keys_in k own now))
-      ps
+  pub pairs : (ps : List (Pair K V)) → HoldsMap k v c.bytes h at ps
+      → AllByRecursion (IsRead k v c (keys_in k own now)) ps
 
 -- the key and the value of the pair that is looked for, and the steps of the path to it
 pub record LooksUp {K V : Type 0} (k : Plain K) (v : Plain V) (c : Cut) (h at : ℕ)

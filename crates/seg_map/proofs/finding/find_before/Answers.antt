@@ -1,16 +1,13 @@
 -- The pair that is found is read.
-use Rattle.seg_map.proofs.Entering.{laws_of}
 use Rattle.seg_map.proofs.Searching.{finds_before, found_room, looked_up}
 use Rattle.seg_map.proofs.finding.find_before.Goals as goal
 
 pub read_found-requires-clause-room : goal.read_found-requires-clause-room
 read_found-requires-clause-room g c =
-    let m = g.met.K.Plain in let kl = laws_of g.K.Plain m.spells m.reads m.irreflexive m.transitive in
     let f = c.find_last_before-found.ensures in let sought = c.args.sought.now in
-    found_room (finds_before kl c.open-pairs.ensures.opened sought.past sought.key f.exact f.steps f.last) c.requires
+    found_room (finds_before c.open-pairs.ensures.opened sought.past sought.key f.exact f.steps f.last) c.requires
 
 pub returns : goal.returns
 returns g c =
-    let m = g.met.K.Plain in let kl = laws_of g.K.Plain m.spells m.reads m.irreflexive m.transitive in
     let f = c.find_last_before-found.ensures in let sought = c.args.sought.now in let r = c.read_found.ensures in
-    looked_up (finds_before kl c.open-pairs.ensures.opened sought.past sought.key f.exact f.steps f.last) r.item r.steps
+    looked_up (finds_before c.open-pairs.ensures.opened sought.past sought.key f.exact f.steps f.last) r.item r.steps

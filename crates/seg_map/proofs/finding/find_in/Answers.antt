@@ -1,22 +1,19 @@
 -- What the search has found is looked at once more.
 use Rattle.std.proofs.Common.{false, arith}
-use Rattle.seg_map.proofs.Entering.{laws_of}
 use Rattle.seg_map.proofs.Searching.{entry_is, finds_first, key_room, looked_for}
 use Rattle.seg_map.proofs.finding.find_in.Goals as goal
 
 pub with_key-requires-clause-room : goal.with_key-requires-clause-room
 with_key-requires-clause-room g c =
-    let m = g.met.K.Plain in let kl = laws_of g.K.Plain m.spells m.reads m.irreflexive m.transitive in
     let way = c.find_way_in-way.ensures in
-    key_room (finds_first kl c.open-pairs.ensures.opened false c.args.key way.exact way.steps way.first) c.requires.map
+    key_room (finds_first c.open-pairs.ensures.opened false c.args.key way.exact way.steps way.first) c.requires.map
 
 pub returns : goal.returns
 returns g c =
-    let m = g.met.K.Plain in let kl = laws_of g.K.Plain m.spells m.reads m.irreflexive m.transitive in
     let way = c.find_way_in-way.ensures in let o = c.open-pairs.ensures.opened in
     record {
-      found = looked_for kl c.args.key (finds_first kl o false c.args.key way.exact way.steps way.first)
-          c.with_key.ensures.node (omega arith);
+      found = looked_for c.args.key (finds_first o false c.args.key way.exact way.steps way.first)
+          g.met.K.Plain.transitive c.with_key.ensures.node (omega arith);
       value = c.with_key.ensures.value;
-      entry = entry_is kl o c.args.key way.entry;
+      entry = entry_is o c.args.key way.entry;
     }

@@ -7,8 +7,8 @@ use Rattle.seg_map.proofs.Payloads.{small}
 use Rattle.seg_map.proofs.heading.len.Goals as goal
 
 pub overflow_add-at : goal.overflow_add-at
-overflow_add-at g c = let s = c.requires.1 in let few = small c.args.heap.now.bytes c.args.handle
-    (c.args.at + 24) s.heap.proper s.room in omega arith
+overflow_add-at g c = let s = c.requires.1 in let few =
+    small c.args.heap.now.bytes c.args.handle (c.args.at + 24) s.heap.proper s.room in omega arith
 
 pub word-requires : goal.word-requires
 word-requires g c = room-less (live_of c.args.heap.now.bytes) c.args.handle (c.args.at + 24) (c.args.at + 8 + 8)

@@ -12,8 +12,8 @@ set_link-requires-clause-room c = room-less (live_of c.args.heap.now.bytes) c.ar
     (c.args.at + 8) (omega arith) c.requires.room
 
 pub overflow_add-at : goal.overflow_add-at
-overflow_add-at c = let few = small c.args.heap.now.bytes c.args.handle (c.args.at + 24) c.requires.proper
-    c.requires.room in omega arith
+overflow_add-at c = let few = small c.args.heap.now.bytes c.args.handle
+    (c.args.at + 24) c.requires.proper c.requires.room in omega arith
 
 pub set_word-requires : goal.set_word-requires
 set_word-requires c = changed-room _ _ _ _ _ c.args.handle (c.args.at + 8 + 8) c.set_link.ensures.change
@@ -21,8 +21,8 @@ set_word-requires c = changed-room _ _ _ _ _ c.args.handle (c.args.at + 8 + 8) c
     (omega arith) c.requires.room)
 
 pub overflow_add-at-2 : goal.overflow_add-at-2
-overflow_add-at-2 c = let few = small c.args.heap.now.bytes c.args.handle (c.args.at + 24) c.requires.proper
-    c.requires.room in omega arith
+overflow_add-at-2 c = let few = small c.args.heap.now.bytes c.args.handle
+    (c.args.at + 24) c.requires.proper c.requires.room in omega arith
 
 pub set_word-requires-2 : goal.set_word-requires-2
 set_word-requires-2 c =
@@ -34,8 +34,8 @@ set_word-requires-2 c =
 pub returns : goal.returns
 returns c =
     let at = c.args.handle + c.args.at in
-    let second : c.args.handle + (c.args.at + 8) ≡ at + 8 = omega arith in let third : c.args.handle + (c.args.at + 16)
-    ≡ at + 16 = omega arith in
+    let second : c.args.handle + (c.args.at + 8) ≡ at + 8 = omega arith in
+    let third : c.args.handle + (c.args.at + 16) ≡ at + 16 = omega arith in
     headed c.set_link.ensures.change c.set_link.ensures.leads (rw second at c.set_word.ensures.change)
-    (rw second at c.set_word.ensures.word) (rw third at c.set_word-2.ensures.change) (rw third at
-    c.set_word-2.ensures.word)
+    (rw second at c.set_word.ensures.word) (rw third at c.set_word-2.ensures.change)
+    (rw third at c.set_word-2.ensures.word)

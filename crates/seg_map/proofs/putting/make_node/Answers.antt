@@ -19,8 +19,8 @@ new g c =
     rw (c.SIZE.ensures, c.SIZE-2.ensures) at c.in_ok-node.ensures.answer
 
 pub set_link-requires-clause-room : goal.set_link-requires-clause-room
-set_link-requires-clause-room g c = room_left (kl g) g.V.Plain (new g (goal.at.set_link-requires-clause-room g
-    c).In_ok-node)
+set_link-requires-clause-room g c = room_left (kl g) g.V.Plain
+    (new g (goal.at.set_link-requires-clause-room g c).In_ok-node)
 
 pub set_link-requires-2-clause-room : goal.set_link-requires-2-clause-room
 set_link-requires-2-clause-room g c =

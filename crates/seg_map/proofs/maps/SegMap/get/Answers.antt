@@ -1,25 +1,23 @@
 -- The least pair that is not below the key has it, or none has.
 use Rattle.std.proofs.Common.{◌≡◌, sym, ◌∙◌}
 use Rattle.std.specs.Prelude.{None}
-use Rattle.seg_map.proofs.Entering.{laws_of}
 use Rattle.seg_map.proofs.Searching.{value_by_key}
 use Rattle.seg_map.proofs.maps.SegMap.get.Goals as goal
 
 pub returns-in_err-found-clause-value : goal.returns-in_err-found-clause-value
 returns-in_err-found-clause-value g c = λ ps s.
-    let m = g.met.K.Plain in let kl = laws_of g.K.Plain m.spells m.reads m.irreflexive m.transitive in
     let none : c.first_from.result ≡ None = cc in let result : c.from_residual.result ≡ None = cc in
-    result ∙ rw none at (value_by_key g.K.Plain kl c.args.key ps c.first_from.result s.rising
+    result ∙ rw none at (value_by_key g.K.Plain g.met.K.Plain.transitive c.args.key ps c.first_from.result s.rising
     (c.first_from.ensures.item ps s))
 
 pub returns-then-precedes-clause-value : goal.returns-then-precedes-clause-value
 returns-then-precedes-clause-value g c = λ ps s.
-    let m = g.met.K.Plain in let kl = laws_of g.K.Plain m.spells m.reads m.irreflexive m.transitive in
     rw (c.in_ok-found.was, sym c.precedes.ensures.answer ∙ c.if-precedes.true) at
-    (value_by_key g.K.Plain kl c.args.key ps c.first_from.result s.rising (c.first_from.ensures.item ps s))
+    (value_by_key g.K.Plain g.met.K.Plain.transitive c.args.key ps c.first_from.result s.rising
+    (c.first_from.ensures.item ps s))
 
 pub returns-else-precedes-clause-value : goal.returns-else-precedes-clause-value
 returns-else-precedes-clause-value g c = λ ps s.
-    let m = g.met.K.Plain in let kl = laws_of g.K.Plain m.spells m.reads m.irreflexive m.transitive in
     rw (c.in_ok-found.was, sym c.precedes.ensures.answer ∙ c.if-precedes.false) at
-    (value_by_key g.K.Plain kl c.args.key ps c.first_from.result s.rising (c.first_from.ensures.item ps s))
+    (value_by_key g.K.Plain g.met.K.Plain.transitive c.args.key ps c.first_from.result s.rising
+    (c.first_from.ensures.item ps s))

@@ -1,18 +1,15 @@
 -- The pair that is found is read.
 use Rattle.std.proofs.Common.{arith}
-use Rattle.seg_map.proofs.Entering.{laws_of}
 use Rattle.seg_map.proofs.Searching.{finds_last, found_room, looked_up}
 use Rattle.seg_map.proofs.maps.SegMap.last.Goals as goal
 
 pub read_found-requires-clause-room : goal.read_found-requires-clause-room
 read_found-requires-clause-room g c =
-    let m = g.met.K.Plain in let kl = laws_of g.K.Plain m.spells m.reads m.irreflexive m.transitive in
     let f = c.find_last-found.ensures in
-    found_room (finds_last kl c.open-pairs.ensures.opened f.last f.exact f.steps) c.requires
+    found_room (finds_last c.open-pairs.ensures.opened f.last f.exact f.steps) c.requires
 
 pub returns : goal.returns
 returns g c =
-    let m = g.met.K.Plain in let kl = laws_of g.K.Plain m.spells m.reads m.irreflexive m.transitive in
     let f = c.find_last-found.ensures in let r = c.read_found.ensures in
-    let l = looked_up (finds_last kl c.open-pairs.ensures.opened f.last f.exact f.steps) r.item r.steps in
+    let l = looked_up (finds_last c.open-pairs.ensures.opened f.last f.exact f.steps) r.item r.steps in
     record { item = l.item; counted = omega arith; steps = l.steps; exact = l.exact }

@@ -1,5 +1,6 @@
 -- What a call leaves that gives an index another capacity.
-use Rattle.std.specs.Prelude.{◌≡◌, ℕ, ◌+◌, ◌*◌, ◌<◌, ◌≤◌, Some, None, Result, MatchResult, List, length, ◌==◌, if◌then◌else◌}
+use Rattle.std.specs.Prelude.{◌≡◌, ℕ, ◌+◌, ◌*◌, ◌<◌, ◌≤◌, Some, None, Result, MatchResult, List, length, ◌==◌}
+use Rattle.std.specs.Prelude.{if◌then◌else◌}
 use Rattle.raw_region.specs.Format.{current}
 use Rattle.raw_region.specs.Memory.{Cut, bytes_of}
 use Rattle.block_tags.specs.declared.tile.Role.TheVariants.{Index as IndexRole}
@@ -15,8 +16,10 @@ use Rattle.seg_index.specs.Held.{IsIndexOf, capacity_at}
 pub record IsReserved (old new : Cut) (at n : ℕ) : Type 0 where
   pub extent : Extent
   pub placed : place (live_of old.bytes) (8 * n) IndexRole ≡ Some extent
-  pub index : (t : Table) (handles : List ℕ) → IsIndexOf old at t handles → IsIndexOf new at (record { capacity = n; extent = Some extent }) handles
-  pub live : LaysOut current new.bytes (without_link (added (live_of old.bytes) extent) (link_at (bytes_of old.bytes) at))
+  pub index : (t : Table) (handles : List ℕ) → IsIndexOf old at t handles
+      → IsIndexOf new at (record { capacity = n; extent = Some extent }) handles
+  pub live : LaysOut current new.bytes
+      (without_link (added (live_of old.bytes) extent) (link_at (bytes_of old.bytes) at))
   pub keeps : KeepsRest old new at (unlinked old at).extents
 
 -- nothing changes where there are so many places
@@ -30,11 +33,15 @@ Reserves old new at n result =
 
 -- one for the request, and one for the release of the old block
 abbrev pub reserve_steps : LiveSet → ℕ → ℕ
-reserve_steps live n = heap_touches live + elim (place live (8 * n) IndexRole) [ None ↦ 0 | Some x ↦ heap_touches (added live x) ]
+reserve_steps live n =
+    heap_touches live + elim (place live (8 * n) IndexRole) [ None ↦ 0 | Some x ↦ heap_touches (added live x) ]
 
 -- the live set where the block of a table is cut to n places
 abbrev pub with_cut : LiveSet → ℕ → Table → LiveSet
-with_cut live n t = elim t.extent [ None ↦ live | Some x ↦ if n == 0 then released live (handle x) else resized live (shorter live x (8 * n)) ]
+with_cut live n t = elim t.extent [
+  | None ↦ live
+  | Some x ↦ if n == 0 then released live (handle x) else resized live (shorter live x (8 * n))
+]
 
 -- the index has as many places as entries
 pub record IsShrunk (old new : Cut) (at : ℕ) (t : Table) (handles : List ℕ) : Type 0 where

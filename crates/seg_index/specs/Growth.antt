@@ -5,7 +5,8 @@ use Rattle.raw_region.specs.Memory.{Cut, Same, SamePlace, bytes_of}
 use Rattle.block_tags.specs.declared.tile.Role.TheVariants.{Index as IndexRole}
 use Rattle.raw_region.specs.Format.{current}
 use Rattle.best_fit.specs.Extents.{Extent, LiveSet, handle}
-use Rattle.best_fit.specs.Heap.{extent_at, IsAllocated, IsRefused, IsReleased, Keeps, LaysOut, SameBlock, is_live_in, live_of}
+use Rattle.best_fit.specs.Heap.{extent_at, IsAllocated, IsRefused, IsReleased, Keeps, LaysOut, SameBlock, is_live_in}
+use Rattle.best_fit.specs.Heap.{live_of}
 use Rattle.best_fit.specs.Fit.{others, released}
 use Rattle.offset_link.specs.Link.{link_at}
 use Rattle.seg_index.specs.Held.{IsIndexIn, IsIndexOf, capacity_at, entry_count}
@@ -20,11 +21,13 @@ grown_bytes c at = 8 * grown_capacity (capacity_at c at)
 -- a new block exactly where the index is full
 abbrev pub IsGrowth : Cut → Cut → ℕ → Option ℕ → Type 0
 IsGrowth old new at None = (entry_count old at < capacity_at old at) × (new ≡ old)
-IsGrowth old new at (Some h) = (capacity_at old at ≤ entry_count old at) × IsAllocated current old new (grown_bytes old at) IndexRole h
+IsGrowth old new at (Some h) =
+    (capacity_at old at ≤ entry_count old at) × IsAllocated current old new (grown_bytes old at) IndexRole h
 
 abbrev pub Prepares : {E : Type 0} → Cut → Cut → ℕ → Result Growth E → Type 0
 Prepares old new at result =
-    MatchResult result (λ g. IsGrowth old new at g.block) (λ e. (capacity_at old at ≤ entry_count old at) × IsRefused old new (grown_bytes old at) IndexRole)
+    MatchResult result (λ g. IsGrowth old new at g.block)
+    (λ e. (capacity_at old at ≤ entry_count old at) × IsRefused old new (grown_bytes old at) IndexRole)
 
 -- the block is given back, if there is one
 abbrev pub GivesBack : Cut → Cut → Option ℕ → Type 0
@@ -67,7 +70,8 @@ unlinked c at = without_link (live_of c.bytes) (link_at (bytes_of c.bytes) at)
 -- a growth for an index as it is: none where there are places left, or a block of enough places that is not its own
 abbrev pub CanGrow : Cut → ℕ → Option ℕ → Type 0
 CanGrow c at None = entry_count c at < capacity_at c at
-CanGrow c at (Some h) = IsBlockFor c h (grown_capacity (capacity_at c at)) × (link_at (bytes_of c.bytes) at ≡ Some h → ⊥)
+CanGrow c at (Some h) =
+    IsBlockFor c h (grown_capacity (capacity_at c at)) × (link_at (bytes_of c.bytes) at ≡ Some h → ⊥)
 
 abbrev pub Adds : Cut → Cut → ℕ → Table → List ℕ → Option ℕ → Type 0
 Adds old new at t handles None = IsIndexOf new at t handles

@@ -39,4 +39,5 @@ pub record HasIndex (c : Cut) (at : ℕ) : Type 0 where
 
 -- the index has so many places in a block that was in use before
 abbrev pub IsIndexIn : Cut → Cut → ℕ → ℕ → ℕ → List ℕ → Type 0
-IsIndexIn old new at block places handles = IsIndexOf new at (record { capacity = places; extent = extent_at (live_of old.bytes) block }) handles
+IsIndexIn old new at block places handles =
+    IsIndexOf new at (record { capacity = places; extent = extent_at (live_of old.bytes) block }) handles

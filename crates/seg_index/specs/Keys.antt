@@ -1,4 +1,5 @@
--- What an index compares of the objects that it leads to, each by its handle, at which its payload begins: two words, and the name.
+-- What an index compares of the objects that it leads to, each by its handle, at which its payload begins: two words,
+-- and the name.
 use Rattle.std.specs.Prelude.{ℕ, ◌+◌, ◌/◌, ◌%◌, Bool, List, nat_lt}
 use Rattle.std.specs.Cmp.Lexicographic.{slice_cmp}
 use Rattle.std.specs.Ordering.{nat_cmp, is_lt}

@@ -46,14 +46,16 @@ pub record HasKeys (c : Cut) (at : ℕ) (key : Key) : Type 0 where
 
 -- each key stands before those behind it
 pub record Rises (m : Memory) (key : Key) (handles : List ℕ) : Type 0 where
-  pub each : (i j g h : ℕ) → i < j → slice_get handles i ≡ Some g → slice_get handles j ≡ Some h → order_of_two m key g h ≡ Less
+  pub each : (i j g h : ℕ) → i < j → slice_get handles i ≡ Some g → slice_get handles j ≡ Some h
+      → order_of_two m key g h ≡ Less
 
 -- the entry has the key; or no entry has it, and it belongs before this one
 abbrev pub IsPlace : Memory → Key → List ℕ → Lookup → Type 0
 IsPlace m key handles (Found i) = (h : ℕ) × (slice_get handles i ≡ Some h) × (order m key h ≡ Equal)
 IsPlace m key handles (Absent i) =
     (i ≤ length handles)
-    × (Rises m key handles → (j h : ℕ) → slice_get handles j ≡ Some h → (j < i → order m key h ≡ Less) × (i ≤ j → order m key h ≡ Greater))
+    × (Rises m key handles → (j h : ℕ) → slice_get handles j ≡ Some h
+    → (j < i → order m key h ≡ Less) × (i ≤ j → order m key h ≡ Greater))
 
 -- ---- the same over the links of a block
 
@@ -74,4 +76,5 @@ abbrev pub IsPlaceIn : Memory → Key → ℕ → ℕ → Lookup → Type 0
 IsPlaceIn m key block count (Found i) = (i < count) × ((h : ℕ) → Leads m block i h → order m key h ≡ Equal)
 IsPlaceIn m key block count (Absent i) =
     (i ≤ count)
-    × (KeysRise m block count key → (j h : ℕ) → j < count → Leads m block j h → (j < i → order m key h ≡ Less) × (i ≤ j → order m key h ≡ Greater))
+    × (KeysRise m block count key → (j h : ℕ) → j < count → Leads m block j h
+    → (j < i → order m key h ≡ Less) × (i ≤ j → order m key h ≡ Greater))

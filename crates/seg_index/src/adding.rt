@@ -7,7 +7,8 @@ ghost use Rattle.offset_link.specs.Relinked.{AllLead, KeepTargets};
 ghost use Rattle.best_fit.specs.Fit.{others};
 ghost use Rattle.best_fit.specs.Heap.{IsChanged, IsHeap, LaysOut, has_room, heap_touches, live_of};
 ghost use Rattle.best_fit.specs.Table.{Table as ATable};
-ghost use Rattle.seg_index.specs.Growth.{AddKeeps, Adds, CanGrow, IsBlockFor, KeepsRest, beside_table, grown_live, unlinked};
+ghost use Rattle.seg_index.specs.Growth.{AddKeeps, Adds, CanGrow, IsBlockFor, KeepsRest, beside_table, grown_live};
+ghost use Rattle.seg_index.specs.Growth.{unlinked};
 ghost use Rattle.seg_index.specs.Held.{HasIndex, IsIndexIn, IsIndexOf, capacity_at, entry_count, place_of};
 ghost use Rattle.seg_index.specs.Index.{grown_capacity};
 
@@ -17,8 +18,8 @@ use best_fit::Heap;
 use raw_region::Steps;
 
 impl Index {
-    /// Puts an entry at a place, in the block of a growth if there is one. The old block is then released. The entries from
-    /// that place on stand one place further.
+    /// Puts an entry at a place, in the block of a growth if there is one. The old block is then released. The entries
+    /// from that place on stand one place further.
     pub fn add(self, heap: &mut Heap, place: u64, handle: u64, growth: Growth, steps: &mut Steps)
         requires index { HasIndex heap.old (place_of self) }
         requires growth { CanGrow heap.old (place_of self) growth.block }
@@ -64,9 +65,11 @@ impl Index {
         requires within { place ≤ entry_count heap.old (place_of self) }
         requires handle { handle % 16 ≡ 0 }
         ensures index { (t : ATable) (handles : List ℕ) → IsIndexOf heap.old (place_of self) t handles
-            → IsIndexIn heap.old heap.new (place_of self) block (grown_capacity (capacity_at heap.old (place_of self))) (insert handles place handle) }
+            → IsIndexIn heap.old heap.new (place_of self) block (grown_capacity (capacity_at heap.old (place_of self)))
+            (insert handles place handle) }
         ensures live { LaysOut current heap.new.bytes (unlinked heap.old (place_of self)) }
-        ensures keeps { KeepsRest heap.old heap.new (place_of self) (others block (unlinked heap.old (place_of self)).extents) }
+        ensures keeps { KeepsRest heap.old heap.new (place_of self)
+            (others block (unlinked heap.old (place_of self)).extents) }
         ensures counted { steps.old ≤ steps.new }
         ensures steps { steps.new ≤ steps.old + heap_touches (live_of heap.old.bytes) }
     {
@@ -91,7 +94,8 @@ fn spread(heap: &mut Heap, from: u64, to: u64, place: u64, count: u64, handle: u
     requires handle { handle % 16 ≡ 0 }
     ensures change { IsChanged current heap.old heap.new (to + 8 * place) (8 * (count - place) + 8) }
     ensures here { link_at (bytes_of heap.new.bytes) (to + 8 * place) ≡ Some handle }
-    ensures tail { KeepTargets (bytes_of heap.old.bytes) (bytes_of heap.new.bytes) (from + 8 * place) (to + 8 * place + 8) (count - place) }
+    ensures tail { KeepTargets (bytes_of heap.old.bytes) (bytes_of heap.new.bytes) (from + 8 * place)
+        (to + 8 * place + 8) (count - place) }
 {
     heap.shift_non_null_links(from, LINK * place, to, LINK * place + LINK, count - place);
     heap.set_link(to, LINK * place, Some(handle));

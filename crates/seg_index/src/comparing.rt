@@ -84,11 +84,12 @@ fn order_of(heap: &Heap, key: Key<'_>, front: u64, handle: u64) -> Ordering
     }
 }
 
-/// The same of a name. Names of one length, of at most eight bytes, that begin alike are equal; of others that begin alike
-/// all bytes are compared.
+/// The same of a name. Names of one length, of at most eight bytes, that begin alike are equal; of others that begin
+/// alike all bytes are compared.
 fn order_of_name(heap: &Heap, name: &[u8], front: u64, handle: u64) -> Ordering
     requires heap { IsHeap current heap.now.bytes }
-    requires room { IsTrue (has_room (live_of heap.now.bytes) handle (16 + name_len_at (bytes_of heap.now.bytes) handle)) }
+    requires room { IsTrue (has_room (live_of heap.now.bytes) handle
+        (16 + name_len_at (bytes_of heap.now.bytes) handle)) }
     requires front { front ≡ front_of_bytes name.now }
     ensures { result ≡ slice_cmp nat_cmp (name_at (bytes_of heap.now.bytes) handle) name.now }
 {
@@ -108,7 +109,8 @@ fn order_of_name(heap: &Heap, name: &[u8], front: u64, handle: u64) -> Ordering
 /// The name of an object.
 fn name_of(heap: &Heap, handle: u64) -> &[u8]
     requires heap { IsHeap current heap.now.bytes }
-    requires room { IsTrue (has_room (live_of heap.now.bytes) handle (16 + name_len_at (bytes_of heap.now.bytes) handle)) }
+    requires room { IsTrue (has_room (live_of heap.now.bytes) handle
+        (16 + name_len_at (bytes_of heap.now.bytes) handle)) }
     ensures { result.now ≡ name_at (bytes_of heap.now.bytes) handle }
 {
     let len = heap.word(handle, 8) % HALF;

@@ -71,7 +71,8 @@ impl Index {
         requires some { 0 < capacity }
         requires within { count ≤ capacity }
         ensures index { (handles : List ℕ) → AreLinks (bytes_of heap.old.bytes) block handles → count ≡ length handles
-            → AllByRecursion (λ h. h % 16 ≡ 0) handles → IsIndexIn heap.old heap.new (place_of self) block capacity handles }
+            → AllByRecursion (λ h. h % 16 ≡ 0) handles
+            → IsIndexIn heap.old heap.new (place_of self) block capacity handles }
         ensures live { LaysOut current heap.new.bytes (unlinked heap.old (place_of self)) }
         ensures keeps { KeepsRest heap.old heap.new (place_of self) (unlinked heap.old (place_of self)).extents }
         ensures counted { steps.old ≤ steps.new }

@@ -15,8 +15,8 @@ use crate::searching::search;
 use best_fit::Heap;
 use raw_region::Steps;
 
-/// An index of a heap: three words in the header, and a block of links. Each call takes the heap anew, so that nothing is
-/// borrowed between two calls.
+/// An index of a heap: three words in the header, and a block of links. Each call takes the heap anew, so that nothing
+/// is borrowed between two calls.
 #[derive(Clone, Copy, Debug, PartialEq, Eq)]
 pub enum Index {
     /// Objects with names, by the bytes of their names.
@@ -50,7 +50,8 @@ impl Index {
     /// The number of its entries.
     pub fn len(self, heap: &Heap) -> u64
         ensures word { result ≡ entry_count heap.now (place_of self) }
-        ensures len { (t : ATable) (handles : List ℕ) → IsIndexOf heap.now (place_of self) t handles → result ≡ length handles }
+        ensures len { (t : ATable) (handles : List ℕ) → IsIndexOf heap.now (place_of self) t handles
+            → result ≡ length handles }
     {
         heap.header_word(self.place() + 8)
     }
@@ -58,7 +59,8 @@ impl Index {
     /// The number of its places. Without a block there are none.
     pub fn capacity(self, heap: &Heap) -> u64
         ensures word { result ≡ capacity_at heap.now (place_of self) }
-        ensures capacity { (t : ATable) (handles : List ℕ) → IsIndexOf heap.now (place_of self) t handles → result ≡ t.capacity }
+        ensures capacity { (t : ATable) (handles : List ℕ) → IsIndexOf heap.now (place_of self) t handles
+            → result ≡ t.capacity }
     {
         heap.header_word(self.place() + 16)
     }
@@ -67,7 +69,8 @@ impl Index {
     pub fn at(self, heap: &Heap, i: u64) -> u64
         requires index { HasIndex heap.now (place_of self) }
         requires below { i < entry_count heap.now (place_of self) }
-        ensures { (t : ATable) (handles : List ℕ) → IsIndexOf heap.now (place_of self) t handles → slice_get handles i ≡ Some result }
+        ensures { (t : ATable) (handles : List ℕ) → IsIndexOf heap.now (place_of self) t handles
+            → slice_get handles i ≡ Some result }
     {
         let block = heap.header_link(self.place()).unwrap_or(0);
         heap.link(block, 8 * i).unwrap_or(0)

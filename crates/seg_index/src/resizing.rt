@@ -12,8 +12,8 @@ use block_tags::Role;
 use raw_region::Steps;
 
 impl Index {
-    /// Moves the index into a new block for `n` places, where it has less, and releases the old one. The new block is taken
-    /// while the old one is in use. Where there are `n` places, nothing changes.
+    /// Moves the index into a new block for `n` places, where it has less, and releases the old one. The new block is
+    /// taken while the old one is in use. Where there are `n` places, nothing changes.
     ///
     /// # Errors
     ///

@@ -53,8 +53,7 @@ settle-requires c =
       block = p.offered;
       released = (source p).left;
       some = omega arith;
-      within = omega
-          arith;
+      within = omega arith;
     }
 
 pub returns : goal.returns

@@ -34,6 +34,8 @@ pub no_further_digits : (n : ℕ) (ds : List ℕ) → length ds < 1 → number_a
 no_further_digits n [] h = refl
 no_further_digits n (d ∷ ds) h = absurd (omega arith)
 
+pub ruleset digits = (further_digits, no_further_digits, next_digit)
+
 -- of two digits or more the first is not 0
 pub long_numeral : (w : List ℕ) → 2 ≤ length w
     → is_numeral w ≡ (between 0x31 0x39 (get_or w 0 0) && list_all is_digit (drop 1 w))

@@ -1,5 +1,6 @@
 -- What stands behind a command word, read one word after another.
-use Rattle.std.specs.Prelude.{ℕ, ℤ, false, Option, Some, None, List, [], ◌∷◌, length, map, ◌==◌, option_and_then, unwrap_or, if◌then◌else◌}
+use Rattle.std.specs.Prelude.{ℕ, ℤ, false, Option, Some, None, List, [], ◌∷◌, length, map, ◌==◌, option_and_then}
+use Rattle.std.specs.Prelude.{unwrap_or, if◌then◌else◌}
 use Rattle.raw_region.specs.Format.{current}
 use Rattle.seg_types.specs.declared.kinds.Kind.{Kind}
 use Rattle.seg_types.specs.declared.kinds.Kind.TheVariants.{Scalar}
@@ -10,7 +11,8 @@ use Rattle.seg_types.specs.Values.{scalar_of}
 use Rattle.seg_types.specs.Commands.{Assign, Command, Content, Literal, Put, Truth}
 use Rattle.segment_lang.specs.Words.{Word, Bare, literal_of_word, number_of, words}
 use Rattle.segment_lang.specs.Language.{Language, whole}
-use Rattle.segment_lang.specs.Reading.{Reader, all, content, counted_kind, for_kind, key_of, new_key, items, quoted_of, value_for}
+use Rattle.segment_lang.specs.Reading.{Reader, all, content, counted_kind, for_kind, key_of, new_key, items, quoted_of}
+use Rattle.segment_lang.specs.Reading.{value_for}
 use Rattle.segment_lang.specs.Tokens.{◌>>=◌, next_two, next_word, only_word, two_words, three_words}
 
 -- the kind of the elements, where they are scalars
@@ -65,7 +67,8 @@ written k zs = record { kind = k; numbers = zs }
 
 -- the values of a kind that all words are, where they are as many
 abbrev pub counted_values : ScalarKind → ℕ → List ℕ → Option Written
-counted_values k n bytes = option_and_then (λ zs. if length zs == n then Some (written k zs) else None) (numbers_at k bytes)
+counted_values k n bytes =
+    option_and_then (λ zs. if length zs == n then Some (written k zs) else None) (numbers_at k bytes)
 
 -- the values, each with its kind
 abbrev pub scalars_in : Written → List ScalarValue

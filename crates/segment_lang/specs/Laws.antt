@@ -1,5 +1,6 @@
 -- What the definitions of words and numbers mean, by the spelling of what is read.
-use Rattle.std.specs.Prelude.{◌≡◌, ◌<◌, ◌≤◌, ◌+◌, length, ◌^◌, ◌↔◌, ◌⊎◌, ℕ, ℤ, pos, negsuc, ◌≤ℤ◌, true, Some, List, [], ◌∷◌, ◌++◌, decimal, take, option_map, option_and_then, if◌then◌else◌}
+use Rattle.std.specs.Prelude.{◌≡◌, ◌<◌, ◌≤◌, ◌+◌, length, ◌^◌, ◌↔◌, ◌⊎◌, ℕ, ℤ, pos, negsuc, ◌≤ℤ◌, true, Some, List, []}
+use Rattle.std.specs.Prelude.{◌∷◌, ◌++◌, decimal, take, option_map, option_and_then, if◌then◌else◌}
 use Rattle.std.specs.List.{AllByRecursion, Contains}
 use Rattle.std.specs.Fmt.{signed_decimal}
 use Rattle.seg_types.specs.declared.kinds.Kind.{Kind}
@@ -18,12 +19,16 @@ NumbersAreDecimals = (word : List ℕ) (n : ℕ) → (number_of word ≡ Some n)
 -- A word has a whole number exactly where it is the number's decimal text, and the number is in the range.
 abbrev pub WholesAreDecimals : Type 0
 WholesAreDecimals =
-    (word : List ℕ) (z : ℤ) → (whole_of word ≡ Some z) ↔ ((negsuc 9223372036854775807 ≤ℤ z) × (z ≤ℤ pos 18446744073709551615) × (word ≡ signed_decimal z))
+    (word : List ℕ) (z : ℤ)
+    → (whole_of word ≡ Some z) ↔ ((negsuc 9223372036854775807 ≤ℤ z) × (z ≤ℤ pos 18446744073709551615) ×
+    (word ≡ signed_decimal z))
 
 -- An item of a text stands for a byte: for itself, behind a backslash, or as two digits.
 abbrev pub IsItem : List ℕ → ℕ → Type 0
 IsItem item b =
-    ((is_plain b ≡ true) × (item ≡ b ∷ [])) ⊎ ((((b ≡ 0x22) ⊎ (b ≡ 0x5C)) × (item ≡ 0x5C ∷ b ∷ [])) ⊎ ((high : ℕ) × (low : ℕ) × (byte_of_digits high low ≡ Some b) × (item ≡ 0x5C ∷ 0x78 ∷ high ∷ low ∷ [])))
+    ((is_plain b ≡ true) × (item ≡ b ∷ [])) ⊎
+    ((((b ≡ 0x22) ⊎ (b ≡ 0x5C)) × (item ≡ 0x5C ∷ b ∷ [])) ⊎
+    ((high : ℕ) × (low : ℕ) × (byte_of_digits high low ≡ Some b) × (item ≡ 0x5C ∷ 0x78 ∷ high ∷ low ∷ [])))
 
 -- Items spell the bytes that they stand for, in order.
 abbrev pub Spells : List ℕ → List ℕ → Type 0
@@ -33,7 +38,9 @@ Spells items (b ∷ bs) = (item : List ℕ) × (more : List ℕ) × IsItem item 
 -- A text is read exactly where items spell it, a quote closes it, and the word ends behind the quote.
 abbrev pub TextsAreSpelled : Type 0
 TextsAreSpelled =
-    (bytes bs rest : List ℕ) → (text_at bytes ≡ Some (bs, rest)) ↔ ((items : List ℕ) × Spells items bs × (bytes ≡ items ++ 0x22 ∷ rest) × (ends_word rest ≡ true))
+    (bytes bs rest : List ℕ)
+    → (text_at bytes ≡ Some (bs, rest)) ↔ ((items : List ℕ) × Spells items bs × (bytes ≡ items ++ 0x22 ∷ rest) ×
+    (ends_word rest ≡ true))
 
 -- A text that is printed is read as the bytes that it was printed for.
 abbrev pub PrintedTextsAreRead : Type 0
@@ -42,7 +49,9 @@ PrintedTextsAreRead = (bs : List ℕ) → AllByRecursion (λ b. b < 256) bs → 
 -- All words of the bytes are none at their end, and else the next word and those behind it.
 abbrev pub WordsFollow : Type 0
 WordsFollow =
-    (bytes : List ℕ) → words bytes ≡ (if at_end bytes then Some [] else option_and_then (λ x. option_map (λ ws. x.0 ∷ ws) (words x.1)) (next_word bytes))
+    (bytes : List ℕ) → words bytes
+    ≡ (if at_end bytes then Some [] else option_and_then (λ x. option_map (λ ws. x.0 ∷ ws) (words x.1))
+    (next_word bytes))
 
 -- how many words there are, and how many bytes they stand for
 abbrev pub room : List Word → ℕ
@@ -71,4 +80,5 @@ pub record IsReadAsName (l : Language) (name printed : List ℕ) : Type 0 where
 -- A name that is printed is read as the key of the name.
 abbrev pub PrintedNamesAreRead : Type 0
 PrintedNamesAreRead =
-    (l : Language) (name : List ℕ) → AllByRecursion (λ b. b < 256) name → is_name l.format name ≡ true → IsReadAsName l name (name_text name)
+    (l : Language) (name : List ℕ) → AllByRecursion (λ b. b < 256) name → is_name l.format name ≡ true
+    → IsReadAsName l name (name_text name)

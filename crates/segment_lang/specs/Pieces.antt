@@ -4,7 +4,8 @@ use denote.Ref.{Bor}
 use Rattle.seg_types.specs.Values.{kind_of_scalar, value_of_scalar}
 use Rattle.segment_lang.specs.Texts.{kind_text, name_text, quoted_text, line_error_text, refusal_text, value_text}
 use Rattle.segment_lang.specs.declared.pieces.Piece.{Piece}
-use Rattle.segment_lang.specs.declared.pieces.Piece.TheVariants.{Bytes, Number, Value, Text, Name, Kind, LineError, Refusal}
+use Rattle.segment_lang.specs.declared.pieces.Piece.TheVariants.{Bytes, Number, Value, Text, Name, Kind, LineError}
+use Rattle.segment_lang.specs.declared.pieces.Piece.TheVariants.{Refusal}
 
 -- a slice as it is
 abbrev pub part_text : Bor (List ℕ) → List ℕ

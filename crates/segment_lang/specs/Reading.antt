@@ -1,5 +1,7 @@
 -- What a line means: nothing, a command, or one of three errors.
-use Rattle.std.specs.Prelude.{ℕ, ◌+◌, ◌-◌, ℤ, Bool, true, not, ◌&&◌, Option, Some, None, List, [], ◌∷◌, length, find, replicate, option_map, option_and_then, ◌==◌, nat_lt, nat_le, if◌then◌else◌, codes, slice_index, take, take_while, drop}
+use Rattle.std.specs.Prelude.{ℕ, ◌+◌, ◌-◌, ℤ, Bool, true, not, ◌&&◌, Option, Some, None, List, [], ◌∷◌, length, find}
+use Rattle.std.specs.Prelude.{replicate, option_map, option_and_then, ◌==◌, nat_lt, nat_le, if◌then◌else◌, codes}
+use Rattle.std.specs.Prelude.{slice_index, take, take_while, drop}
 use Rattle.std.specs.Result.{result_ok}
 use Rattle.seg_types.specs.declared.kinds.ScalarKind.{ScalarKind}
 use Rattle.seg_types.specs.declared.kinds.Kind.{Kind}
@@ -7,7 +9,8 @@ use Rattle.seg_types.specs.declared.kinds.Kind.TheVariants.{Scalar, Text, Vector
 use Rattle.seg_types.specs.Kinds.{same_kind}
 use Rattle.seg_types.specs.Names.{Key, ByName, ByKind, ByHandle, NoKey, is_name, is_text_name}
 use Rattle.seg_types.specs.Commands as asked
-use Rattle.seg_types.specs.Commands.{Command, Content, Literal, Reading, Nothing, Asked, UnknownCommand, LineTooLong, BadSyntax, value_of_literal}
+use Rattle.seg_types.specs.Commands.{Command, Content, Literal, Reading, Nothing, Asked, UnknownCommand, LineTooLong}
+use Rattle.seg_types.specs.Commands.{BadSyntax, value_of_literal}
 use Rattle.segment_lang.specs.Words as word
 use Rattle.segment_lang.specs.Words.{Word, Bare, words, is, is_blank, is_bare_name, number_of, literal_of_word}
 use Rattle.segment_lang.specs.Texts.{kind_text}
@@ -100,7 +103,8 @@ Reader = Language → List Word → Option Command
 -- KIND[k], a key and arguments
 abbrev pub making : (Key → Content → Command) → (Language → Word → Option Key) → Reader
 making make key_in l (kw ∷ key ∷ args) =
-    option_and_then (λ (k, n). option_and_then (λ key. option_map (make key) (content k n args)) (for_kind k (key_in l key))) (counted_kind l kw)
+    option_and_then (λ (k, n). option_and_then (λ key. option_map (make key) (content k n args))
+    (for_kind k (key_in l key))) (counted_kind l kw)
 making make key_in l ws = None
 
 abbrev pub items : ℕ → ScalarKind → Key → List ℤ → Option Command
@@ -113,7 +117,8 @@ each vs k n key = None
 
 -- a scalar KIND[k], a key and k values
 abbrev pub making_each : Reader
-making_each l (kw ∷ key ∷ vs) = option_and_then (λ (k, n). option_and_then (λ key. each vs k n key) (for_kind k (new_key l key))) (counted_kind l kw)
+making_each l (kw ∷ key ∷ vs) = option_and_then
+    (λ (k, n). option_and_then (λ key. each vs k n key) (for_kind k (new_key l key))) (counted_kind l kw)
 making_each l ws = None
 
 -- nothing, a key, a number, ..
@@ -148,7 +153,8 @@ assigning l ws = None
 
 abbrev pub putting : Reader
 putting l (key ∷ k ∷ v ∷ []) =
-    option_and_then (λ key. option_and_then (λ k. option_map (asked.Put key k) (literal_of_word v)) (literal_of_word k)) (key_of l key)
+    option_and_then (λ key. option_and_then (λ k. option_map (asked.Put key k) (literal_of_word v)) (literal_of_word k))
+    (key_of l key)
 putting l ws = None
 
 abbrev pub appending : Reader
@@ -156,7 +162,8 @@ appending l (key ∷ word.Text bs ∷ []) = option_map (λ key. asked.Append key
 appending l ws = None
 
 abbrev pub finding : Reader
-finding l (kw ∷ key ∷ []) = option_and_then (λ k. option_map (λ key. asked.Find key k) (for_kind k (name_key l key))) (kind_of_word l kw)
+finding l (kw ∷ key ∷ []) = option_and_then (λ k. option_map (λ key. asked.Find key k) (for_kind k (name_key l key)))
+    (kind_of_word l kw)
 finding l ws = None
 
 abbrev pub destroying_ptr : Reader

@@ -1,5 +1,6 @@
 -- What the types of the code stand for.
-use Rattle.std.specs.Prelude.{ℕ, ◌+◌, ◌*◌, ◌%◌, List, [], ◌∷◌, Option, option_and_then, option_map, map, find, replicate}
+use Rattle.std.specs.Prelude.{ℕ, ◌+◌, ◌*◌, ◌%◌, List, [], ◌∷◌, Option, option_and_then, option_map, map, find}
+use Rattle.std.specs.Prelude.{replicate}
 use Rattle.raw_region.specs.Format.{current}
 use Rattle.seg_types.specs.Commands as asked
 use Rattle.seg_types.specs.Keys.{index_key_seen, key_seen, new_key_seen}
@@ -8,15 +9,24 @@ use Rattle.segment_lang.specs.Words as said
 use Rattle.segment_lang.specs.Words.{is, words}
 use Rattle.segment_lang.specs.Language.{whole}
 use Rattle.segment_lang.specs.Tokens.{behind_word}
-use Rattle.segment_lang.specs.Reading.{Reader, making, making_each, finding, with_key, with_key_number, with_key_literal, with_key_number_literal, with_number, alone, appending, as_reading, assigning, destroying_ptr, putting, new_key, key_of, name_key}
+use Rattle.segment_lang.specs.Reading.{Reader, making, making_each, finding, with_key, with_key_number}
+use Rattle.segment_lang.specs.Reading.{with_key_literal, with_key_number_literal, with_number, alone, appending}
+use Rattle.segment_lang.specs.Reading.{as_reading, assigning, destroying_ptr, putting, new_key, key_of, name_key}
 use Rattle.segment_lang.specs.declared.words.Word.{Word}
 use Rattle.segment_lang.specs.declared.words.Word.TheVariants.{Bare, Text}
 use Rattle.segment_lang.specs.declared.literals.Literal.{Literal}
 use Rattle.segment_lang.specs.declared.literals.Literal.TheVariants.{Whole, Truth, Quoted}
 use Rattle.segment_lang.specs.declared.commands.Content.{Content}
-use Rattle.segment_lang.specs.declared.commands.Content.TheVariants.{Scalars, Elements, Text as TextContent, Texts as TextsContent, NoPairs}
+use Rattle.segment_lang.specs.declared.commands.Content.TheVariants.{Scalars, Elements, Text as TextContent}
+use Rattle.segment_lang.specs.declared.commands.Content.TheVariants.{Texts as TextsContent, NoPairs}
 use Rattle.segment_lang.specs.declared.commands.Command.{Command}
-use Rattle.segment_lang.specs.declared.commands.Command.TheVariants.{Construct, ConstructIt, Find, FindOrConstruct, Destroy, DestroyPtr, Show, Info, Get, Set, Push, Pop, Insert, Erase, Reserve, Shrink, Clear, Assign, Append, Put, Lookup, Remove, ListNames, ListKinds, Blocks, Size, Free, NumNamed, NumUnique, ReserveNamed, ReserveUnique, ShrinkIndexes, ZeroFree, Sanity, AllDeallocated}
+use Rattle.segment_lang.specs.declared.commands.Command.TheVariants.{Construct, ConstructIt, Find, FindOrConstruct}
+use Rattle.segment_lang.specs.declared.commands.Command.TheVariants.{Destroy, DestroyPtr, Show, Info, Get, Set, Push}
+use Rattle.segment_lang.specs.declared.commands.Command.TheVariants.{Pop, Insert, Erase, Reserve, Shrink, Clear, Assign}
+use Rattle.segment_lang.specs.declared.commands.Command.TheVariants.{Append, Put, Lookup, Remove, ListNames, ListKinds}
+use Rattle.segment_lang.specs.declared.commands.Command.TheVariants.{Blocks, Size, Free, NumNamed, NumUnique}
+use Rattle.segment_lang.specs.declared.commands.Command.TheVariants.{ReserveNamed, ReserveUnique, ShrinkIndexes}
+use Rattle.segment_lang.specs.declared.commands.Command.TheVariants.{ZeroFree, Sanity, AllDeallocated}
 use Rattle.segment_lang.specs.declared.commands.Lead.{Lead}
 use Rattle.segment_lang.specs.declared.commands.Lead.TheVariants as lead
 use Rattle.segment_lang.specs.declared.commands.Reading.{Reading}

@@ -1,5 +1,6 @@
 -- The words of a line one after another: each reader takes what it reads from the front, and answers it with the rest.
-use Rattle.std.specs.Prelude.{ℕ, Bool, true, not, ◌||◌, Option, Some, None, List, [], ◌∷◌, length, option_map, option_and_then, ◌==◌, if◌then◌else◌, take_while, drop, unwrap_or}
+use Rattle.std.specs.Prelude.{ℕ, Bool, true, not, ◌||◌, Option, Some, None, List, [], ◌∷◌, length, option_map}
+use Rattle.std.specs.Prelude.{option_and_then, ◌==◌, if◌then◌else◌, take_while, drop, unwrap_or}
 use Rattle.std.specs.List.{list_all}
 use Rattle.segment_lang.specs.Words.{Word, Bare, Text, is_blank, is_bare, is_plain, byte_of_digits}
 use Rattle.segment_lang.specs.Reading.{skip_blanks}
@@ -71,11 +72,14 @@ longer c text = option_map (λ (bs, rest). (c ∷ bs, rest)) text
 unfoldable mutual
   pub text_at : List ℕ → Option (List ℕ × List ℕ)
   text_at [] = None
-  text_at (c ∷ cs) = if c == 0x22 then closed_at cs else if c == 0x5C then escaped_at cs else if is_plain c then longer c (text_at cs) else None
+  text_at (c ∷ cs) =
+      if c == 0x22 then closed_at cs
+      else if c == 0x5C then escaped_at cs else if is_plain c then longer c (text_at cs) else None
 
   pub escaped_at : List ℕ → Option (List ℕ × List ℕ)
   escaped_at [] = None
-  escaped_at (c ∷ cs) = if (c == 0x22) || (c == 0x5C) then longer c (text_at cs) else if c == 0x78 then high_digit_at cs else None
+  escaped_at (c ∷ cs) =
+      if (c == 0x22) || (c == 0x5C) then longer c (text_at cs) else if c == 0x78 then high_digit_at cs else None
 
   pub high_digit_at : List ℕ → Option (List ℕ × List ℕ)
   high_digit_at [] = None
@@ -98,7 +102,9 @@ is_unescaped c = not ((c == 0x22) || (c == 0x5C))
 -- a word with no blank in front
 unfoldable pub word_at : List ℕ → Option (Word × List ℕ)
 word_at [] = None
-word_at (c ∷ cs) = if c == 0x22 then option_map (λ (bs, rest). (Text bs, rest)) (text_at cs) else option_map (λ (bs, rest). (Bare bs, rest)) (bare_at (c ∷ cs))
+word_at (c ∷ cs) =
+    if c == 0x22 then option_map (λ (bs, rest). (Text bs, rest)) (text_at cs)
+    else option_map (λ (bs, rest). (Bare bs, rest)) (bare_at (c ∷ cs))
 
 -- the next word, behind the blanks in front of it
 unfoldable pub next_word : List ℕ → Option (Word × List ℕ)

@@ -1,5 +1,7 @@
 -- The words of a line, and the numbers, values and names that they spell.
-use Rattle.std.specs.Prelude.{ℕ, ◌+◌, ◌-◌, ◌*◌, ℤ, pos, negsuc, Bool, true, false, not, ◌&&◌, ◌||◌, Option, Some, None, List, [], ◌∷◌, option_map, option_and_then, ◌==◌, nat_lt, nat_le, if◌then◌else◌, codes, nat_eq}
+use Rattle.std.specs.Prelude.{ℕ, ◌+◌, ◌-◌, ◌*◌, ℤ, pos, negsuc, Bool, true, false, not, ◌&&◌, ◌||◌, Option, Some, None}
+use Rattle.std.specs.Prelude.{List, [], ◌∷◌, option_map, option_and_then, ◌==◌, nat_lt, nat_le, if◌then◌else◌, codes}
+use Rattle.std.specs.Prelude.{nat_eq}
 use Rattle.std.specs.List.{list_all}
 use Rattle.std.specs.Cmp.Lexicographic.{pointwise}
 use Rattle.seg_types.specs.Commands.{Literal, Whole, Truth, Quoted}
@@ -49,7 +51,9 @@ ended ws = option_map (λ ws. ([], ws)) ws
 abbrev mutual
   pub words : List ℕ → Option (List Word)
   words [] = Some []
-  words (c ∷ cs) = if is_blank c then words cs else if c == 0x22 then text_word (in_text cs) else if is_bare c then bare_word c (in_bare cs) else None
+  words (c ∷ cs) =
+      if is_blank c then words cs
+      else if c == 0x22 then text_word (in_text cs) else if is_bare c then bare_word c (in_bare cs) else None
 
   pub in_bare : List ℕ → Rest
   in_bare [] = Some ([], [])
@@ -57,7 +61,9 @@ abbrev mutual
 
   pub in_text : List ℕ → Rest
   in_text [] = None
-  in_text (c ∷ cs) = if c == 0x22 then after_text cs else if c == 0x5C then escaped cs else if is_plain c then more c (in_text cs) else None
+  in_text (c ∷ cs) =
+      if c == 0x22 then after_text cs
+      else if c == 0x5C then escaped cs else if is_plain c then more c (in_text cs) else None
 
   -- a blank or the end
   pub after_text : List ℕ → Rest
@@ -67,7 +73,8 @@ abbrev mutual
   -- behind a backslash
   pub escaped : List ℕ → Rest
   escaped [] = None
-  escaped (c ∷ cs) = if (c == 0x22) || (c == 0x5C) then more c (in_text cs) else if c == 0x78 then high_digit cs else None
+  escaped (c ∷ cs) =
+      if (c == 0x22) || (c == 0x5C) then more c (in_text cs) else if c == 0x78 then high_digit cs else None
 
   pub high_digit : List ℕ → Rest
   high_digit [] = None
@@ -90,7 +97,9 @@ abbrev pub number_of : List ℕ → Option ℕ
 number_of w = if is_numeral w && nat_le (number_after 0 w) 18446744073709551615 then Some (number_after 0 w) else None
 
 abbrev pub negative_of : List ℕ → Option ℤ
-negative_of w = if is_numeral w && nat_lt 0 (number_after 0 w) && nat_le (number_after 0 w) 9223372036854775808 then Some (negsuc (number_after 0 w - 1)) else None
+negative_of w =
+    if is_numeral w && nat_lt 0 (number_after 0 w) && nat_le (number_after 0 w) 9223372036854775808
+    then Some (negsuc (number_after 0 w - 1)) else None
 
 -- a number, or `-` and a number that is not 0
 abbrev pub whole_of : List ℕ → Option ℤ
@@ -103,4 +112,6 @@ is = pointwise nat_eq
 -- a whole number, `true`, `false` or a text
 abbrev pub literal_of_word : Word → Option Literal
 literal_of_word (Text bs) = Some (Quoted bs)
-literal_of_word (Bare w) = if is w (codes "true") then Some (Truth true) else if is w (codes "false") then Some (Truth false) else option_map Whole (whole_of w)
+literal_of_word (Bare w) =
+    if is w (codes "true") then Some (Truth true)
+    else if is w (codes "false") then Some (Truth false) else option_map Whole (whole_of w)

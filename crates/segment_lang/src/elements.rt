@@ -2,7 +2,8 @@
 
 ghost use Rattle.std.specs.Prelude.{◌≡◌, option_map};
 ghost use Rattle.seg_types.specs.Commands as asked;
-ghost use Rattle.segment_lang.specs.Reading.{appending, key_of, with_key, with_key_literal, with_key_number, with_key_number_literal};
+ghost use Rattle.segment_lang.specs.Reading.{appending, key_of, with_key, with_key_literal, with_key_number};
+ghost use Rattle.segment_lang.specs.Reading.{with_key_number_literal};
 ghost use Rattle.segment_lang.specs.Arguments.{assigning_at, of_one, of_three, of_two};
 ghost use Rattle.segment_lang.specs.Seen.{command_of};
 

@@ -1,6 +1,7 @@
 //! Command words, and the form of what stands behind each.
 
-ghost use Rattle.std.specs.Prelude.{◌≡◌, ◌<◌, [], IsTrue, Some, None, if◌then◌else◌, length, option_and_then, option_map, map, slice_index_or};
+ghost use Rattle.std.specs.Prelude.{◌≡◌, ◌<◌, [], IsTrue, Some, None, if◌then◌else◌, length, option_and_then};
+ghost use Rattle.std.specs.Prelude.{option_map, map, slice_index_or};
 ghost use Rattle.std.specs.List.{list_all};
 ghost use Rattle.raw_region.specs.Format.{current};
 ghost use Rattle.segment_lang.specs.Words.{is, words};
@@ -169,7 +170,8 @@ static FORMS: [&[(&[u8], CommandForm)]; 32] = [
 /// What is behind a word that stands in front of a line and ends there.
 fn behind<'a>(line: &'a [u8], word: &[u8]) -> Option<&'a [u8]>
     requires { IsTrue (is_unbroken word.now) }
-    ensures { option_map (λ rest. rest.now) result ≡ (if is (up_to_blank line.now) word.now then Some (behind_word line.now) else None) }
+    ensures { option_map (λ rest. rest.now) result
+        ≡ (if is (up_to_blank line.now) word.now then Some (behind_word line.now) else None) }
 {
     let rest = line.strip_prefix(word)?;
     if !ends_word(rest) {
@@ -181,7 +183,8 @@ fn behind<'a>(line: &'a [u8], word: &[u8]) -> Option<&'a [u8]>
 /// The form of the first row whose word is the first of a line, and what is behind it.
 fn find_row<'a>(rows: &[(&[u8], CommandForm)], line: &'a [u8]) -> Option<(CommandForm, &'a [u8])>
     requires { IsTrue (list_all (λ row. is_unbroken row.0.now) rows.now) }
-    ensures { option_map (λ x. (x.0, x.1.now)) result ≡ with_rest line.now (found_in (map (λ row. (row.0.now, row.1)) rows.now) (up_to_blank line.now)) }
+    ensures { option_map (λ x. (x.0, x.1.now)) result
+        ≡ with_rest line.now (found_in (map (λ row. (row.0.now, row.1)) rows.now) (up_to_blank line.now)) }
 {
     let mut rest = rows;
     'rows: while let [row, tail @ ..] = rest {
@@ -211,15 +214,19 @@ fn find_form<'a>(
 ) -> Option<(CommandForm, &'a [u8])>
     requires size { length table.now ≡ 32 }
     requires unbroken { IsTrue (list_all (λ rows. list_all (λ row. is_unbroken row.0.now) rows.now) table.now) }
-    ensures { option_map (λ x. (x.0, x.1.now)) result ≡ with_rest line.now (found_in (slice_index_or (map (λ rows. map (λ row. (row.0.now, row.1)) rows.now) table.now) (place_of line.now) []) (up_to_blank line.now)) }
+    ensures { option_map (λ x. (x.0, x.1.now)) result
+        ≡ with_rest line.now (found_in
+        (slice_index_or (map (λ rows. map (λ row. (row.0.now, row.1)) rows.now) table.now) (place_of line.now) [])
+        (up_to_blank line.now)) }
 {
     find_row(table[place_of(line)], line)
 }
 
-/// The form of the command word that a line begins with, and what is behind the word. `None` is a line whose first word is none.
-/// The word is compared where the table has its place, and its end is not looked for before.
+/// The form of the command word that a line begins with, and what is behind the word. `None` is a line whose first word
+/// is none. The word is compared where the table has its place, and its end is not looked for before.
 pub fn split_form(line: &[u8]) -> Option<(CommandForm, &[u8])>
-    ensures { option_map (λ x. (reader_of x.0, x.1.now)) result ≡ with_rest line.now (option_map (λ form. form.1) (form_of (up_to_blank line.now))) }
+    ensures { option_map (λ x. (reader_of x.0, x.1.now)) result
+        ≡ with_rest line.now (option_map (λ form. form.1) (form_of (up_to_blank line.now))) }
 {
     find_form(&FORMS, line)
 }

@@ -19,7 +19,8 @@ use seg_types::{Handle, IndexKey, Key, Kind, Name, NewKey, is_bare_name};
 
 /// The name that a bare word is.
 fn bare_name(word: &[u8]) -> Option<Name<'_>>
-    ensures { option_map name_seen result ≡ (if is_bare_name word.now && is_name current word.now then Some word.now else None) }
+    ensures { option_map name_seen result
+        ≡ (if is_bare_name word.now && is_name current word.now then Some word.now else None) }
 {
     if !is_bare_name(word) {
         return None;

@@ -1,6 +1,7 @@
 //! Kinds as a line writes them.
 
-ghost use Rattle.std.specs.Prelude.{◌≡◌, ◌==◌, ◌+◌, not, length, map, drop, take, take_while, option_map, Some, None, slice_index};
+ghost use Rattle.std.specs.Prelude.{◌≡◌, ◌==◌, ◌+◌, not, length, map, drop, take, take_while, option_map, Some, None};
+ghost use Rattle.std.specs.Prelude.{slice_index};
 ghost use Rattle.raw_region.specs.Format.{current};
 ghost use Rattle.segment_lang.specs.Words.{Bare};
 ghost use Rattle.segment_lang.specs.Language.{whole};

@@ -39,7 +39,8 @@ fn is_comment(line: &[u8]) -> bool
 /// How a line begins that no command word begins: with blanks, or with a word that is none.
 #[inline(never)]
 fn lead_behind_blanks(line: &[u8]) -> Lead<'_>
-    ensures { reading_led result ≡ (if slice_index line.now 0 == 0x23 then Nothing else command_line (whole current) (skip_blanks line.now)) }
+    ensures { reading_led result
+        ≡ (if slice_index line.now 0 == 0x23 then Nothing else command_line (whole current) (skip_blanks line.now)) }
 {
     if is_comment(line) {
         return Lead::Nothing;
@@ -71,8 +72,8 @@ pub fn lead_of(line: &[u8]) -> Lead<'_>
     }
 }
 
-/// What a line means. A name that is spelled with escapes is decoded into `scratch`, whatever it held; all else is lent from the
-/// line.
+/// What a line means. A name that is spelled with escapes is decoded into `scratch`, whatever it held; all else is lent
+/// from the line.
 pub fn parse_line<'a>(line: &'a [u8], scratch: &'a mut Text) -> Reading<'a>
     ensures { reading_of result ≡ reading (whole current) line.now }
 {

@@ -36,10 +36,11 @@ fn is_numeral(word: &[u8]) -> bool
 }
 
 /// The number that digits spell, from 0 to 18446744073709551615, or `None` where it is greater.
-#[tactic(auto, using(crate::proofs::Decimals::further_digits, crate::proofs::Decimals::no_further_digits, crate::proofs::Decimals::next_digit))]
+#[tactic(auto, using(crate::proofs::Decimals::digits))]
 fn value_of_digits(digits: &[u8]) -> Option<u64>
     requires { IsTrue (list_all is_digit digits.now) }
-    ensures { result ≡ (if nat_le (number_after 0 digits.now) 18446744073709551615 then Some (number_after 0 digits.now) else None) }
+    ensures { result ≡ (if nat_le (number_after 0 digits.now) 18446744073709551615
+        then Some (number_after 0 digits.now) else None) }
 {
     let mut number: u64 = 0;
     let mut rest = digits;

@@ -74,7 +74,8 @@ pub fn key_and_pair<'a>(
     bytes: &'a [u8],
     scratch: &'a mut Text,
 ) -> Option<(Key<'a>, Literal<'a>, Literal<'a>)>
-    ensures { option_map (λ x. asked.Put (key_seen x.0) (literal_seen x.1) (literal_seen x.2)) result ≡ of_three putting bytes.now }
+    ensures { option_map (λ x. asked.Put (key_seen x.0) (literal_seen x.1) (literal_seen x.2)) result
+        ≡ of_three putting bytes.now }
 {
     let (key, at, value) = three_words(bytes)?;
     let key = key_of(key, scratch)?;

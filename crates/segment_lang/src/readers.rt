@@ -4,7 +4,8 @@ ghost use Rattle.std.specs.Prelude.{◌≡◌, ℕ, Some, None, option_and_then,
 ghost use Rattle.seg_types.specs.Commands as asked;
 ghost use Rattle.seg_types.specs.Keys.{key_seen};
 ghost use Rattle.seg_types.specs.Names.{Key as AskedKey};
-ghost use Rattle.segment_lang.specs.Reading.{finding, key_of, name_key, new_key, with_key, with_key_literal, with_key_number, with_key_number_literal, with_number};
+ghost use Rattle.segment_lang.specs.Reading.{finding, key_of, name_key, new_key, with_key, with_key_literal};
+ghost use Rattle.segment_lang.specs.Reading.{with_key_number, with_key_number_literal, with_number};
 ghost use Rattle.segment_lang.specs.Tokens.{at_end, only_word};
 ghost use Rattle.segment_lang.specs.Arguments.{handle_of, making_at, making_each_at, of_one, of_three, of_two};
 ghost use Rattle.segment_lang.specs.Seen.{command_of, literal_of};
@@ -86,7 +87,8 @@ pub fn read_destroy<'a>(bytes: &'a [u8], scratch: &'a mut Text) -> Option<Comman
 /// A handle.
 #[inline(never)]
 pub fn read_destroy_ptr(bytes: &[u8]) -> Option<Command<'_>>
-    ensures { option_map command_of result ≡ option_map asked.DestroyPtr (option_and_then handle_of (only_word bytes.now)) }
+    ensures { option_map command_of result
+        ≡ option_map asked.DestroyPtr (option_and_then handle_of (only_word bytes.now)) }
 {
     let word = only_word(bytes)?;
     Some(Command::DestroyPtr(handle_of(word)?))
@@ -113,7 +115,8 @@ pub fn read_info<'a>(bytes: &'a [u8], scratch: &'a mut Text) -> Option<Command<'
 /// A key and a number, whatever they are read for.
 #[inline(never)]
 pub fn key_and_number<'a>(bytes: &'a [u8], scratch: &'a mut Text) -> Option<(Key<'a>, u64)>
-    ensures { (f : AskedKey → ℕ → asked.Command) → option_map (λ x. f (key_seen x.0) x.1) result ≡ of_two (with_key_number f) bytes.now }
+    ensures { (f : AskedKey → ℕ → asked.Command) → option_map (λ x. f (key_seen x.0) x.1) result
+        ≡ of_two (with_key_number f) bytes.now }
 {
     let (key, number_word) = two_words(bytes)?;
     let key = key_of(key, scratch)?;
@@ -124,7 +127,8 @@ pub fn key_and_number<'a>(bytes: &'a [u8], scratch: &'a mut Text) -> Option<(Key
 /// A key and a value, whatever they are read for.
 #[inline(never)]
 pub fn key_and_literal<'a>(bytes: &'a [u8], scratch: &'a mut Text) -> Option<(Key<'a>, Literal<'a>)>
-    ensures { (f : AskedKey → asked.Literal → asked.Command) → option_map (λ x. f (key_seen x.0) (literal_of x.1)) result ≡ of_two (with_key_literal f) bytes.now }
+    ensures { (f : AskedKey → asked.Literal → asked.Command) → option_map (λ x. f (key_seen x.0) (literal_of x.1))
+        result ≡ of_two (with_key_literal f) bytes.now }
 {
     let (key, value) = two_words(bytes)?;
     let key = key_of(key, scratch)?;

@@ -8,7 +8,8 @@ ghost use Rattle.std.specs.List.{list_all};
 ghost use Rattle.raw_region.specs.Device.{Writes};
 ghost use Rattle.seg_types.specs.Values.{kind_of_scalar, value_of_scalar};
 ghost use Rattle.segment_lang.specs.Words.{is_bare_name, is_digit, is_letter};
-ghost use Rattle.segment_lang.specs.Texts.{digit_text, item_text, kind_text, name_text, quoted_text, scalar_text, value_text};
+ghost use Rattle.segment_lang.specs.Texts.{digit_text, item_text, kind_text, name_text, quoted_text, scalar_text};
+ghost use Rattle.segment_lang.specs.Texts.{value_text};
 ghost use Rattle.segment_lang.specs.Pieces.{part_text};
 
 use itoa::{Buffer, write_digits};
@@ -27,7 +28,8 @@ pub fn put_number<S: Sink>(out: &mut S, number: u64) -> Result<(), DeviceFault>
 /// Writes a value: `true` or `false`, or a whole number in plain decimal, with a minus sign below 0.
 pub fn put_value<S: Sink>(out: &mut S, value: ScalarValue) -> Result<(), DeviceFault>
     requires { (S.history out.old).failures < 2 ^ 64 - 1 }
-    ensures { Writes (S.history out.old) (S.history out.new) result (value_text (kind_of_scalar value) (value_of_scalar value)) }
+    ensures { Writes (S.history out.old) (S.history out.new) result
+        (value_text (kind_of_scalar value) (value_of_scalar value)) }
 {
     let mut buffer = Buffer::new();
     match value {
@@ -77,7 +79,8 @@ fn put_signed_line<S: Sink>(out: &mut S, number: i64) -> Result<(), DeviceFault>
 /// Writes a value and the end of the line.
 pub fn put_value_line<S: Sink>(out: &mut S, value: ScalarValue) -> Result<(), DeviceFault>
     requires { (S.history out.old).failures < 2 ^ 64 - 1 }
-    ensures { Writes (S.history out.old) (S.history out.new) result (value_text (kind_of_scalar value) (value_of_scalar value) ++ 0x0A ∷ []) }
+    ensures { Writes (S.history out.old) (S.history out.new) result
+        (value_text (kind_of_scalar value) (value_of_scalar value) ++ 0x0A ∷ []) }
 {
     match value {
         ScalarValue::Bool(true) => write_all(out, b"true\n"),

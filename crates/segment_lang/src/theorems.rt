@@ -1,7 +1,9 @@
 //! Laws about the definitions that the contracts cite. These functions do nothing; what they ensure
 //! is proved.
 
-ghost use Rattle.segment_lang.specs.Laws.{LongLinesAreCut, NumbersAreDecimals, PrintedKindsAreRead, PrintedNamesAreRead, PrintedTextsAreRead, TextsAreSpelled, WholesAreDecimals, WordsFollow, WordsHaveRoom};
+ghost use Rattle.segment_lang.specs.Laws.{LongLinesAreCut, NumbersAreDecimals, PrintedKindsAreRead};
+ghost use Rattle.segment_lang.specs.Laws.{PrintedNamesAreRead, PrintedTextsAreRead, TextsAreSpelled, WholesAreDecimals};
+ghost use Rattle.segment_lang.specs.Laws.{WordsFollow, WordsHaveRoom};
 
 /// A word has a number exactly where it is the number's decimal text, and the number is below 2 ^ 64.
 pub fn numbers_are_decimals()

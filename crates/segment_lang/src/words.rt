@@ -1,11 +1,14 @@
 //! The words of a line, one after another.
 
-ghost use Rattle.std.specs.Prelude.{◌≡◌, ◌≤◌, ◌<◌, ◌+◌, ◌++◌, drop, length, option_map, take_while, IfSome, Some, None, if◌then◌else◌};
+ghost use Rattle.std.specs.Prelude.{◌≡◌, ◌≤◌, ◌<◌, ◌+◌, ◌++◌, drop, length, option_map, take_while, IfSome, Some, None};
+ghost use Rattle.std.specs.Prelude.{if◌then◌else◌};
 ghost use Rattle.std.specs.List.{list_all};
 ghost use Rattle.raw_region.specs.Format.{current};
 ghost use Rattle.seg_types.specs.Names.{is_name};
 ghost use Rattle.segment_lang.specs.Words.{is_bare, is_plain, digit_of};
-ghost use Rattle.segment_lang.specs.Tokens.{bare_at, digits_at, ends_word, escape_at, item_at, next_two, is_unescaped, next_word, only_word, three_words, two_words, text_at, behind_quote, behind_text, text_in, up_to_blank};
+ghost use Rattle.segment_lang.specs.Tokens.{bare_at, digits_at, ends_word, escape_at, item_at, next_two, is_unescaped};
+ghost use Rattle.segment_lang.specs.Tokens.{next_word, only_word, three_words, two_words, text_at, behind_quote};
+ghost use Rattle.segment_lang.specs.Tokens.{behind_text, text_in, up_to_blank};
 ghost use Rattle.segment_lang.specs.Seen.{bytes_said, word_of};
 
 use crate::blanks::{at_end, is_blank, skip_blanks, split_word};
@@ -63,8 +66,8 @@ impl<'a> Quoted<'a> {
         Some(bytes)
     }
 
-    /// The name that the bytes are, or `None` where they are none. It is lent from the line, or decoded into `scratch` where the
-    /// line escapes a byte of it.
+    /// The name that the bytes are, or `None` where they are none. It is lent from the line, or decoded into `scratch`
+    /// where the line escapes a byte of it.
     pub fn to_name(&self, scratch: &'a mut Text) -> Option<Name<'a>>
         ensures { option_map name_seen result ≡ (if is_name current self.now then Some self.now else None) }
     {

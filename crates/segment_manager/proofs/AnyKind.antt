@@ -125,8 +125,7 @@ pub other-elements : (kind : Kind) → ((k : ScalarKind) → kind ≡ ScalarOf k
 other-elements (ScalarOf k) n v t = absurd (n k refl)
 other-elements TextKind n v t = absurd (t refl)
 other-elements (VectorKind k) n v t = absurd (v k refl)
-other-elements (MapKind k m) n v t = refl
-other-elements TextsKind n v t = refl
+other-elements w n v t = refl
 
 -- an object that was located is of a kind that has scalars
 pub located-replies : (s : State) (key : Key) (o : Located) (l : IsLocated s key o) (kind : Kind) (k : ScalarKind) (i : ℕ) (answer : Answer) → o.kind ≡ kind → elements_of kind ≡ Ok k

@@ -13,7 +13,7 @@ use Rattle.seg_vector.specs.declared.places.Place.{Place}
 use Rattle.segment_manager.specs.Answers.{Answer, Refused}
 use Rattle.segment_manager.specs.Calls.{kind_at}
 use Rattle.segment_manager.specs.Contents.{container_at, container_place, place_of_kind, sizes_at, sizes_at_kind, sizes_of, sizes_of_kind}
-use Rattle.segment_manager.specs.Directory.{Value, Numbers, Elements, Bytes, Pairs, Texts, Directory, Object, kind_of, live, object_at}
+use Rattle.segment_manager.specs.Directory.{Value, Numbers, Directory, Object, kind_of, live, object_at}
 use Rattle.segment_manager.specs.Instances.{IsMissing}
 use Rattle.segment_manager.specs.Plan.{Refuse, perform}
 use Rattle.segment_manager.specs.State.{Answers, IsStep, IsStepOfKind, State, StandsFor}
@@ -106,10 +106,7 @@ has_sizes k = elim k [ ScalarOf l ↦ false | TextKind ↦ true | VectorKind l �
 
 no-sizes : (v : Value) → has_sizes (kind_of v) ≡ false → sizes_of v ≡ Err WrongKind
 no-sizes (Numbers k zs) h = refl
-no-sizes (Elements k zs t) h = absurd (cc)
-no-sizes (Bytes bs t) h = absurd (cc)
-no-sizes (Pairs k v ps) h = absurd (cc)
-no-sizes (Texts ps t) h = absurd (cc)
+no-sizes v h = absurd (cc)
 
 -- it is no container
 pub measures-other : (s : State) (key : Key) (kind : Kind) → has_sizes kind ≡ false → Answers s (λ d. kind_at d key) (Ok kind) → Answers s (λ d. sizes_at d key) (Err WrongKind)
@@ -124,11 +121,10 @@ measures-other s key kind h a = record {
 
 -- neither a string nor a vector, of numbers or of strings: it has no storage
 pub otherwise-no_storage : (kind : Kind) → (kind ≡ TextKind → ⊥) → (kind ≡ TextsKind → ⊥) → ((k : ScalarKind) → kind ≡ VectorKind k → ⊥) → has_storage kind ≡ false
-otherwise-no_storage (ScalarOf k) n p m = refl
 otherwise-no_storage TextKind n p m = absurd (n refl)
 otherwise-no_storage (VectorKind k) n p m = absurd (m k refl)
-otherwise-no_storage (MapKind k v) n p m = refl
 otherwise-no_storage TextsKind n p m = absurd (p refl)
+otherwise-no_storage v n p m = refl
 
 -- nor a map: it is no container
 pub otherwise-no_sizes : (kind : Kind) → (kind ≡ TextKind → ⊥) → (kind ≡ TextsKind → ⊥) → ((k : ScalarKind) → kind ≡ VectorKind k → ⊥) → ((k v : ScalarKind) → kind ≡ MapKind k v → ⊥) → has_sizes kind ≡ false

@@ -4,7 +4,7 @@ use Rattle.std.proofs.lemmas.Bool.{eqb-true}
 use Rattle.seg_types.specs.declared.kinds.ScalarKind.{ScalarKind}
 use Rattle.seg_types.specs.declared.kinds.ScalarKind.TheVariants.{Bool as BoolKind, U8, I32, I64, U64}
 use Rattle.seg_types.specs.declared.kinds.Kind.{Kind}
-use Rattle.seg_types.specs.declared.kinds.Kind.TheVariants.{Scalar, Text, Vector, Map, Texts as TextsKind}
+use Rattle.seg_types.specs.declared.kinds.Kind.TheVariants.{Scalar, Vector, Map}
 use Rattle.seg_types.specs.Kinds.{code_of, kind_of_code, same_kind, scalar_code}
 use Rattle.segment_manager.specs.Directory.{Value, Numbers, Elements, Bytes, Pairs, Texts, kind_of}
 use Rattle.segment_manager.proofs.Heads.{scalar-small}
@@ -14,71 +14,23 @@ use Rattle.segment_manager.proofs.Heads.{scalar-small}
 -- the kind of a kind's code
 pub code-read : (k : Kind) → kind_of_code (code_of k) ≡ Some k
 code-read (Scalar BoolKind) = refl
-code-read (Scalar U8) = refl
-code-read (Scalar I32) = refl
-code-read (Scalar I64) = refl
-code-read (Scalar U64) = refl
-code-read Text = refl
-code-read TextsKind = refl
 code-read (Vector BoolKind) = refl
-code-read (Vector U8) = refl
-code-read (Vector I32) = refl
-code-read (Vector I64) = refl
-code-read (Vector U64) = refl
 code-read (Map BoolKind BoolKind) = refl
-code-read (Map BoolKind U8) = refl
-code-read (Map BoolKind I32) = refl
-code-read (Map BoolKind I64) = refl
-code-read (Map BoolKind U64) = refl
 code-read (Map U8 BoolKind) = refl
-code-read (Map U8 U8) = refl
-code-read (Map U8 I32) = refl
-code-read (Map U8 I64) = refl
-code-read (Map U8 U64) = refl
 code-read (Map I32 BoolKind) = refl
-code-read (Map I32 U8) = refl
-code-read (Map I32 I32) = refl
-code-read (Map I32 I64) = refl
-code-read (Map I32 U64) = refl
 code-read (Map I64 BoolKind) = refl
-code-read (Map I64 U8) = refl
-code-read (Map I64 I32) = refl
-code-read (Map I64 I64) = refl
-code-read (Map I64 U64) = refl
 code-read (Map U64 BoolKind) = refl
-code-read (Map U64 U8) = refl
-code-read (Map U64 I32) = refl
-code-read (Map U64 I64) = refl
-code-read (Map U64 U64) = refl
+code-read kind = refl
 
 -- ---- kinds of numbers
 
 same-scalar : (k l : ScalarKind) → scalar_code k ≡ scalar_code l → k ≡ l
 same-scalar BoolKind BoolKind e = refl
-same-scalar BoolKind U8 e = absurd (omega arith)
-same-scalar BoolKind I32 e = absurd (omega arith)
-same-scalar BoolKind I64 e = absurd (omega arith)
-same-scalar BoolKind U64 e = absurd (omega arith)
-same-scalar U8 BoolKind e = absurd (omega arith)
 same-scalar U8 U8 e = refl
-same-scalar U8 I32 e = absurd (omega arith)
-same-scalar U8 I64 e = absurd (omega arith)
-same-scalar U8 U64 e = absurd (omega arith)
-same-scalar I32 BoolKind e = absurd (omega arith)
-same-scalar I32 U8 e = absurd (omega arith)
 same-scalar I32 I32 e = refl
-same-scalar I32 I64 e = absurd (omega arith)
-same-scalar I32 U64 e = absurd (omega arith)
-same-scalar I64 BoolKind e = absurd (omega arith)
-same-scalar I64 U8 e = absurd (omega arith)
-same-scalar I64 I32 e = absurd (omega arith)
 same-scalar I64 I64 e = refl
-same-scalar I64 U64 e = absurd (omega arith)
-same-scalar U64 BoolKind e = absurd (omega arith)
-same-scalar U64 U8 e = absurd (omega arith)
-same-scalar U64 I32 e = absurd (omega arith)
-same-scalar U64 I64 e = absurd (omega arith)
 same-scalar U64 U64 e = refl
+same-scalar k l e = absurd (omega arith)
 
 numbers-if : (k : ScalarKind) (v : Value) → scalar_code k ≡ code_of (kind_of v) → (zs : List ℤ) × (v ≡ Numbers k zs)
 numbers-if k (Numbers l zs) e = (zs, λ i. Numbers (same-scalar l k (sym e) i) zs)

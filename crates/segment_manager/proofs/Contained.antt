@@ -78,11 +78,9 @@ fits-bytes bs t h =
     }
 
 pub contents-fit : (v : Value) (c : Contents) → contents_of v ≡ Some c → IsTrue (is_good_value v) → Fits v c
-contents-fit (Numbers k zs) c e h = absurd (cc)
 contents-fit (Elements k zs t) c e h = subst (Fits (Elements k zs t)) (same_Some (elements_in k zs t) c e) (fits-elements k zs t h)
 contents-fit (Bytes bs t) c e h = subst (Fits (Bytes bs t)) (same_Some (bytes_in bs t) c e) (fits-bytes bs t h)
-contents-fit (Pairs k l ps) c e h = absurd (cc)
-contents-fit (Texts ps t) c e h = absurd (cc)
+contents-fit v c e h = absurd (cc)
 
 pub contents-shape : (v : Value) (c : Contents) → contents_of v ≡ Some c → Shape v c
 contents-shape (Numbers k zs) c e = absurd (cc)
@@ -93,7 +91,6 @@ contents-shape (Texts ps t) c e = absurd (cc)
 
 -- the other way round: elements that have their places make a good value
 pub contents-good : (v : Value) (c : Contents) → contents_of v ≡ Some c → c.len ≤ c.table.capacity → IsTrue (is_table Storage c.each c.table) → IsTrue (has_values v) → IsTrue (is_good_value v)
-contents-good (Numbers k zs) c e f t h = absurd (cc)
 contents-good (Elements k zs u) c e f t h =
     let same : c ≡ elements_in k zs u = sym (same_Some (elements_in k zs u) c e) in
     let fits : length zs ≤ u.capacity = subst (λ (x : Contents). x.len ≤ x.table.capacity) same f in
@@ -106,23 +103,18 @@ contents-good (Bytes bs u) c e f t h =
     let table : IsTrue (is_table Storage 1 u) = subst (λ (x : Contents). IsTrue (is_table Storage x.each x.table)) same t in
     and_from (nat_le (length bs) u.capacity && is_table Storage 1 u) (list_all (λ b. nat_lt b 256) bs)
     (and_from (nat_le (length bs) u.capacity) (is_table Storage 1 u) (le-leb (length bs) u.capacity fits) table) h
-contents-good (Pairs k l ps) c e f t h = absurd (cc)
-contents-good (Texts ps u) c e f t h = absurd (cc)
+contents-good v c e f t h = absurd (cc)
 
 -- what the bytes say of the value they say of its contents, and the other way round
 contents-said : (m : Memory) (at : ℕ) (v : Value) (c : Contents) → contents_of v ≡ Some c → IsValueAt m at v → IsContainerAt m at c.len c.table c.bytes
-contents-said m at (Numbers k zs) c e h = absurd (cc)
 contents-said m at (Elements k zs t) c e h = subst (λ (x : Contents). IsContainerAt m at x.len x.table x.bytes) (same_Some (elements_in k zs t) c e) h
 contents-said m at (Bytes bs t) c e h = subst (λ (x : Contents). IsContainerAt m at x.len x.table x.bytes) (same_Some (bytes_in bs t) c e) h
-contents-said m at (Pairs k l ps) c e h = absurd (cc)
-contents-said m at (Texts ps t) c e h = absurd (cc)
+contents-said m at v c e h = absurd (cc)
 
 pub value-said : (m : Memory) (at : ℕ) (v : Value) (c : Contents) → contents_of v ≡ Some c → IsContainerAt m at c.len c.table c.bytes → IsValueAt m at v
-value-said m at (Numbers k zs) c e h = absurd (cc)
 value-said m at (Elements k zs t) c e h = subst (λ (x : Contents). IsContainerAt m at x.len x.table x.bytes) (sym (same_Some (elements_in k zs t) c e)) h
 value-said m at (Bytes bs t) c e h = subst (λ (x : Contents). IsContainerAt m at x.len x.table x.bytes) (sym (same_Some (bytes_in bs t) c e)) h
-value-said m at (Pairs k l ps) c e h = absurd (cc)
-value-said m at (Texts ps t) c e h = absurd (cc)
+value-said m at v c e h = absurd (cc)
 
 -- ---- the object
 

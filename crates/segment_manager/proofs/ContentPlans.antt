@@ -12,7 +12,7 @@ use Rattle.seg_types.specs.Commands as asked
 use Rattle.seg_types.specs.Commands.{Literal, value_of_literal}
 use Rattle.seg_vector.specs.Vector.{capacity_for_one, capacity_for_text}
 use Rattle.segment_manager.specs.Answers.{Done, Element}
-use Rattle.segment_manager.specs.Directory.{Value, Numbers, Elements, Bytes, Pairs, Texts, Object, Directory, live, object_at}
+use Rattle.segment_manager.specs.Directory.{Value, Elements, Bytes, Texts, Object, Directory, live, object_at}
 use Rattle.segment_manager.specs.Plan.{Plan, Refuse, Reply, with, with_capacity}
 use Rattle.segment_manager.specs.Step as step
 use Rattle.segment_manager.specs.Step.{changed, effect, storage_of, text_among, text_of, values_of, with_items, with_table}
@@ -207,11 +207,9 @@ module _ (d : Directory) (key : Key) (o : Object) (e : object_at d key ≡ Some 
 
 -- it is no vector
 abbrev pub is_no_vector : Value → Bool
-is_no_vector (Numbers k zs) = true
 is_no_vector (Elements k zs t) = false
-is_no_vector (Bytes bs t) = true
-is_no_vector (Pairs k v ps) = true
 is_no_vector (Texts ps t) = false
+is_no_vector v = true
 
 -- no call on vectors changes it
 record HasNoPlan (d : Directory) (o : Object) (v : Value) : Type 0 where
@@ -221,11 +219,9 @@ record HasNoPlan (d : Directory) (o : Object) (v : Value) : Type 0 where
   pub erase : (i : ℕ) → step.erase d o v i ≡ Refuse WrongKind
 
 no-plan : (d : Directory) (o : Object) (v : Value) → is_no_vector v ≡ true → HasNoPlan d o v
-no-plan d o (Numbers k zs) h = record { push = λ l. refl; pop = refl; insert_at = λ i l. refl; erase = λ i. refl }
 no-plan d o (Elements k zs t) h = absurd (cc)
-no-plan d o (Bytes bs t) h = record { push = λ l. refl; pop = refl; insert_at = λ i l. refl; erase = λ i. refl }
-no-plan d o (Pairs k v ps) h = record { push = λ l. refl; pop = refl; insert_at = λ i l. refl; erase = λ i. refl }
 no-plan d o (Texts ps t) h = absurd (cc)
+no-plan d o v h = record { push = λ l. refl; pop = refl; insert_at = λ i l. refl; erase = λ i. refl }
 
 module _ (d : Directory) (key : Key) (o : Object) (e : object_at d key ≡ Some o) (h : is_no_vector o.value ≡ true) where
   pub push-other : (l : Literal) → effect d (asked.Push key l) ≡ Refuse WrongKind

@@ -9,7 +9,7 @@ use Rattle.seg_types.specs.Names.{ByHandle}
 use Rattle.seg_index.specs.declared.index.Index.{Index}
 use Rattle.seg_index.specs.declared.index.Index.TheVariants.{Named, Unique}
 use Rattle.segment_manager.specs.Destroyed.{emptied}
-use Rattle.segment_manager.specs.Directory.{Value, Numbers, Elements, Bytes, Pairs, Texts, Object, Directory, count_of, has_key, is_good_value, kind_of, remove_object, replace_object, value_extents, value_len, without_object}
+use Rattle.segment_manager.specs.Directory.{Value, Numbers, Object, Directory, count_of, has_key, is_good_value, kind_of, remove_object, replace_object, value_extents, value_len, without_object}
 use Rattle.segment_manager.specs.Indexed.{entries_of}
 use Rattle.segment_manager.specs.Step.{changed}
 use Rattle.segment_manager.proofs.Faces.{named-changed, unique-changed}
@@ -28,18 +28,12 @@ pub record IsEmptied (v : Value) : Type 0 where
 
 pub emptied-is : (v : Value) → IsEmptied v
 emptied-is (Numbers k zs) = record { kind = refl; count = refl; len = refl; good = λ h. h; alone = refl }
-emptied-is (Elements k zs t) = record { kind = refl; count = refl; len = refl; good = λ h. refl; alone = refl }
-emptied-is (Bytes bs t) = record { kind = refl; count = refl; len = refl; good = λ h. refl; alone = refl }
-emptied-is (Pairs k v ps) = record { kind = refl; count = refl; len = refl; good = λ h. refl; alone = refl }
-emptied-is (Texts ps t) = record { kind = refl; count = refl; len = refl; good = λ h. refl; alone = refl }
+emptied-is v = record { kind = refl; count = refl; len = refl; good = λ h. refl; alone = refl }
 
 -- numbers have none before
 pub emptied-numbers : (k : ScalarKind) (v : Value) → kind_of v ≡ Scalar k → emptied v ≡ v
 emptied-numbers k (Numbers l zs) e = refl
-emptied-numbers k (Elements l zs t) e = absurd (cc)
-emptied-numbers k (Bytes bs t) e = absurd (cc)
-emptied-numbers k (Pairs l v ps) e = absurd (cc)
-emptied-numbers k (Texts ps t) e = absurd (cc)
+emptied-numbers k v e = absurd (cc)
 
 -- ---- the objects, one of which has another value
 

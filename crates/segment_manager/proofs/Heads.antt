@@ -9,7 +9,7 @@ use Rattle.best_fit.specs.Extents.{handle}
 use Rattle.best_fit.specs.Table.{serves}
 use Rattle.block_tags.specs.declared.tile.Role.TheVariants.{Object as ObjectRole}
 use Rattle.seg_types.specs.declared.kinds.ScalarKind.{ScalarKind}
-use Rattle.seg_types.specs.declared.kinds.ScalarKind.TheVariants.{Bool as BoolKind, U8, I32, I64, U64}
+use Rattle.seg_types.specs.declared.kinds.ScalarKind.TheVariants.{Bool as BoolKind}
 use Rattle.seg_types.specs.declared.kinds.Kind.{Kind}
 use Rattle.seg_types.specs.declared.kinds.Kind.TheVariants.{Scalar, Text, Vector, Map, Texts}
 use Rattle.seg_types.specs.declared.kinds.Class.TheVariants.{Named}
@@ -25,10 +25,7 @@ use Rattle.segment_manager.proofs.Words.{first, second}
 
 pub scalar-small : (k : ScalarKind) → scalar_code k ≤ 5
 scalar-small BoolKind = omega arith
-scalar-small U8 = omega arith
-scalar-small I32 = omega arith
-scalar-small I64 = omega arith
-scalar-small U64 = omega arith
+scalar-small k = omega arith
 
 pub code-small : (k : Kind) → code_of k < 4294967296
 code-small (Scalar k) = let l = scalar-small k in omega arith

@@ -1,5 +1,5 @@
 -- Bytes that denote a directory hold its two indexes: each stands in its heap with its block, and its entries lead to rising keys.
-use Rattle.std.proofs.Common.{◌≡◌, refl, sym, subst, ◌∙◌, ℕ, ◌+◌, ◌≤◌, ◌%◌, true, Some, List, [], ◌∷◌, length, arith, Less}
+use Rattle.std.proofs.Common.{◌≡◌, sym, subst, ◌∙◌, ℕ, ◌+◌, ◌≤◌, ◌%◌, true, Some, List, [], ◌∷◌, length, arith, Less}
 use Rattle.std.specs.Prelude.{IsTrue, IfSome}
 use Rattle.std.specs.List.{AllByRecursion}
 use Rattle.std.specs.Ordering.{nat_cmp}
@@ -7,6 +7,7 @@ use Rattle.std.specs.Cmp.Lexicographic.{slice_cmp}
 use Rattle.std.proofs.lemmas.Bool.{le-leb}
 use Rattle.raw_region.specs.Format.{current}
 use Rattle.raw_region.specs.Memory.{Cut, Memory, bytes_of}
+use Rattle.std.proofs.lemmas.List.{length-map}
 use Rattle.best_fit.specs.Extents.{handle}
 use Rattle.best_fit.specs.Heap.{extent_at, has_room}
 use Rattle.seg_index.specs.declared.index.Index.{Index}
@@ -52,8 +53,7 @@ all-handles P [] a = tt
 all-handles P (o ∷ os) a = (a.0, all-handles P os a.1)
 
 pub handles-length : (os : List Object) → length (handles os) ≡ length os
-handles-length [] = refl
-handles-length (o ∷ os) = omega (arith, handles-length os)
+handles-length os = length-map os (λ o. handle o.extent)
 
 pub entries-few : (format : ℕ) (i : Index) (d : Directory) → IsDirectory format d → length (entries_of i d) ≤ (table_of i d).capacity
 entries-few format i d h = omega (arith, handles-length (objects_of i d), (index-parts (table_of i d) (objects_of i d) (order_of i) (directory-index format i d h)).1)

@@ -9,7 +9,7 @@ use Rattle.std.proofs.lemmas.Option.{none-some, same_Some, slice_get_within}
 use Rattle.raw_region.specs.Format.{current}
 use Rattle.raw_region.specs.Memory.{Cut, bytes_of}
 use Rattle.block_tags.specs.declared.tile.Role.{Role}
-use Rattle.block_tags.specs.declared.tile.Role.TheVariants.{Object as ObjectRole, Index as IndexRole, Storage, Node}
+use Rattle.block_tags.specs.declared.tile.Role.TheVariants.{Object as ObjectRole}
 use Rattle.block_tags.specs.contracts.tile.Role.{the_type}
 use denote.Enum.Bare.{sameb}
 use Rattle.best_fit.specs.Extents.{Extent, handle}
@@ -86,9 +86,7 @@ object-passes b d h k =
 
 same-test : (r : Role) → sameb the_type r ObjectRole ≡ same_role r ObjectRole
 same-test ObjectRole = refl
-same-test IndexRole = refl
-same-test Storage = refl
-same-test Node = refl
+same-test role = refl
 
 of-role : (o : Option Extent) (r : Role) → option_map (λ (x : Extent). x.role) o ≡ Some r → passes for_object o ≡ same_role r ObjectRole
 of-role None r e = absurd (none-some r e)

@@ -2,6 +2,7 @@
 -- many.
 use Rattle.std.proofs.Common.{◌≡◌, refl, sym, ap, subst, ◌∙◌, ℕ, ℤ, Bool, Some, None, Ok, Err, Result, List, [], length, map}
 use Rattle.std.specs.Prelude.{IsTrue, MatchResult, option_to_list}
+use Rattle.std.proofs.lemmas.List.{length-map}
 use Rattle.raw_region.specs.Format.{current}
 use Rattle.raw_region.specs.Memory.{Cut, bytes_of}
 use Rattle.best_fit.specs.Exchange.{IsExchanged}
@@ -25,7 +26,7 @@ use Rattle.segment_manager.specs.Filled.{IsMadeValue, IsNoValue, MakesValue}
 use Rattle.segment_manager.specs.Plan.{Plan, bare, perform, with_storage, with_value}
 use Rattle.segment_manager.proofs.Contained.{contents-good, value-said}
 use Rattle.segment_manager.proofs.MadeValues.{storage-met, storage-none, stored}
-use Rattle.segment_manager.proofs.Whole.{IsOfKind, whole-grown, whole-length, whole-no_room}
+use Rattle.segment_manager.proofs.Whole.{IsOfKind, whole-grown, whole-no_room}
 
 abbrev contents : ℕ → ℕ → List ℕ → Table → Contents
 contents each len bytes t = record { each = each; len = len; table = t; bytes = bytes }
@@ -91,10 +92,10 @@ module _ {T : Type 0} (k : ScalarKind) (w : T → ℤ) (size : ℕ) (test : T �
       made (Ok u) g =
           let n : IsNumbersGrown k mid new p no_table (length ys) (map w ys) = whole-grown k w size test sp law mid new p no_table g.table (length ys) ys g.grown g.now.change g.now.vector.stands g.now.vector.values in
           stored-value (asked.Elements k (map w ys)) (size_of k) (length (map w ys)) (spelled k (map w ys)) (Elements k (map w ys)) (elements-content k (map w ys)) old mid new p change n.table
-          (subst (λ (l : ℕ). grown_table (live_of mid.bytes) (size_of k) l no_table ≡ Some n.table) (sym (whole-length w ys)) n.grown) n.now.change n.now.vector.stands n.now.vector.values
+          (subst (λ (l : ℕ). grown_table (live_of mid.bytes) (size_of k) l no_table ≡ Some n.table) (sym (length-map ys w)) n.grown) n.now.change n.now.vector.stands n.now.vector.values
       made (Err why) g =
           unstored-value (asked.Elements k (map w ys)) (size_of k) (length (map w ys)) (spelled k (map w ys)) (Elements k (map w ys)) (elements-content k (map w ys)) old mid new p change why g.same
-          (subst (λ (l : ℕ). grown_table (live_of mid.bytes) (size_of k) l no_table ≡ None) (sym (whole-length w ys)) (whole-no_room k w size test sp law mid.bytes (length ys) no_table g.none)) g.refusal
+          (subst (λ (l : ℕ). grown_table (live_of mid.bytes) (size_of k) l no_table ≡ None) (sym (length-map ys w)) (whole-no_room k w size test sp law mid.bytes (length ys) no_table g.none)) g.refusal
 
 -- ---- a text
 

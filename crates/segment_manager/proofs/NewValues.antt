@@ -15,7 +15,7 @@ use Rattle.best_fit.proofs.Laws.{allocated-live, keeps-trans, laid-heap}
 use Rattle.seg_types.specs.declared.kinds.Class.{Class}
 use Rattle.seg_types.specs.declared.kinds.Class.TheVariants.{Anonymous}
 use Rattle.seg_types.specs.declared.kinds.Kind.{Kind}
-use Rattle.seg_types.specs.declared.kinds.Kind.TheVariants.{Map, Scalar, Text, Texts as TextsKind, Vector}
+use Rattle.seg_types.specs.declared.kinds.Kind.TheVariants.{Scalar}
 use Rattle.seg_types.specs.declared.refusals.Refusal.{Refusal}
 use Rattle.seg_types.specs.declared.refusals.Refusal.TheVariants.{NoSpace}
 use Rattle.seg_types.specs.Kinds.{is_kind_of}
@@ -60,10 +60,7 @@ use Rattle.segment_manager.proofs.Taking.{growth-index, place-high, place-low, r
 pub known-kind : (kind : Kind) → IsTrue (is_kind_of current kind)
 unfolding current
 known-kind (Scalar k) = refl
-known-kind Text = refl
-known-kind (Vector k) = refl
-known-kind (Map k v) = refl
-known-kind TextsKind = refl
+known-kind k = refl
 
 -- ---- places
 

@@ -4,6 +4,7 @@ use Rattle.std.specs.Prelude.{IsTrue, filter, is_some, option_map, slice_get}
 use Rattle.std.specs.List.{AllByRecursion}
 use Rattle.std.proofs.lemmas.Option.{none-some, same_Some, slice_get_within}
 use Rattle.raw_region.specs.Format.{current}
+use Rattle.std.proofs.lemmas.List.{length-map}
 use Rattle.best_fit.specs.Extents.{Extent, LiveSet, Span as LiveSpan, end_of, handle, is_proper, proper_from, spans}
 use Rattle.best_fit.proofs.Laws.{IsFirst, proper_from-IsFirst, proper_from-reaches}
 use Rattle.block_tags.specs.Format.{is_legal_size}
@@ -184,8 +185,7 @@ objects-few b g =
     omega (arith, rises-few 0 ((live g.0).size - 16) g.0.objects (omega arith) g.1.denotes.directory.by_offset (own-within b g.0 g.1), segment-short b g, g.1.denotes.heap.size)
 
 length-blocks : (os : List Object) → length (blocks os) ≡ length os
-length-blocks [] = refl
-length-blocks (o ∷ os) = ap suc (length-blocks os)
+length-blocks os = length-map os (λ o. o.extent)
 
 -- how many objects there are, as the tags say
 pub counts-own : (b : List ℕ) (d : Directory) → StandsFor b d → own_count b ≡ length d.objects

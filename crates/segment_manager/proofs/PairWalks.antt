@@ -18,7 +18,7 @@ use Rattle.seg_map.specs.Map.{is_rising, node_len}
 use Rattle.seg_map.specs.Numbers.{NumberPair, is_number_pair}
 use Rattle.seg_map.specs.Places.{item_of}
 use Rattle.segment_manager.specs.Denotes.{Denotes}
-use Rattle.segment_manager.specs.Directory.{Value, Numbers, Elements, Bytes, Pairs, Texts, Object, Directory, has_good_name, is_good_value, is_object, kind_of, object_at, object_len}
+use Rattle.segment_manager.specs.Directory.{Value, Pairs, Object, Directory, has_good_name, is_good_value, is_object, kind_of, object_at, object_len}
 use Rattle.segment_manager.specs.Maps.{pair_above, pair_from, told_of, told_of_map}
 use Rattle.segment_manager.specs.State.{Answers, State, StandsFor}
 use Rattle.segment_manager.specs.Walks.{AreOfKinds, IsMap, first_of, item_of_kinds, item_seen, numbers_read, pairs_at, pairs_of}
@@ -36,11 +36,8 @@ good-value o h =
     (first (has_good_name current o && is_kind_of current (kind_of o.value) && is_good_value o.value) (serves o.extent ObjectRole (object_len o.name o.value)) h)
 
 pub rising-if : (v : Value) → IsTrue (is_good_value v) → is_rising int_lt (pairs_of v) ≡ true
-rising-if (Numbers k zs) h = refl
-rising-if (Elements k zs t) h = refl
-rising-if (Bytes bs t) h = refl
 rising-if (Pairs k v ps) h = first (is_rising int_lt ps) (list_all (is_number_pair k v) ps) h
-rising-if (Texts ps t) h = refl
+rising-if v h = refl
 
 -- the keys are values of their kind
 keys-are : (k v : ScalarKind) (ps : List NumberPair) → IsTrue (list_all (is_number_pair k v) ps) → IsTrue (list_all (λ (p : NumberPair). is_value k p.key) ps)

@@ -10,7 +10,7 @@ use Rattle.raw_region.specs.Memory.{Memory, Same, bytes_of, word_at}
 use Rattle.raw_region.proofs.Laws.{Same-part, Same-word}
 use Rattle.best_fit.specs.Heap.{LaysOut, SameBlock}
 use Rattle.seg_types.specs.declared.kinds.Kind.{Kind}
-use Rattle.seg_types.specs.declared.kinds.Kind.TheVariants.{Scalar, Text, Vector, Map, Texts}
+use Rattle.seg_types.specs.declared.kinds.Kind.TheVariants.{Scalar}
 use Rattle.seg_types.specs.declared.kinds.Class.TheVariants.{Named}
 use Rattle.seg_types.specs.Kinds.{is_kind_of}
 use Rattle.seg_types.specs.Names.{is_control, is_name, is_printable_name, is_text_name}
@@ -72,10 +72,7 @@ name-later (suc (suc format)) name h = h
 kind-later : (k : Kind) → IsTrue (is_kind_of current k)
 unfolding current
 kind-later (Scalar k) = refl
-kind-later Text = refl
-kind-later (Vector k) = refl
-kind-later (Map k v) = refl
-kind-later Texts = refl
+kind-later k = refl
 
 -- ---- objects
 

@@ -16,7 +16,7 @@ use Rattle.seg_types.specs.Commands.{Command, is_changing}
 use Rattle.seg_vector.specs.declared.places.Place.{Place}
 use Rattle.segment_manager.specs.Answers.{Answer, Done, Refused}
 use Rattle.segment_manager.specs.Contents.{HasNoRoom, IsBytes, IsBytesGrown, IsBytesNow, IsNumbers, IsNumbersGrown, IsNumbersNow, container_at}
-use Rattle.segment_manager.specs.Directory.{Value, Numbers, Elements, Bytes, Pairs, Texts, Object, Directory, kind_of, live, object_at}
+use Rattle.segment_manager.specs.Directory.{Value, Numbers, Elements, Bytes, Pairs, Object, Directory, kind_of, live, object_at}
 use Rattle.segment_manager.specs.Plan.{Refuse, Reply, perform, with, with_capacity}
 use Rattle.segment_manager.specs.State.{Answers, IsReplyOfKind, IsSegment, IsStep, IsStepOfKind, State, StandsFor}
 use Rattle.segment_manager.specs.Step.{changed, effect, is_read_only, storage_of, with_items, with_table}
@@ -125,10 +125,8 @@ has_storage k = elim k [ Scalar l ↦ false | Text ↦ true | Vector l ↦ true 
 
 pub no-storage : (v : Value) → has_storage (kind_of v) ≡ false → storage_of v ≡ Err WrongKind
 no-storage (Numbers k zs) h = refl
-no-storage (Elements k zs t) h = absurd (cc)
-no-storage (Bytes bs t) h = absurd (cc)
 no-storage (Pairs k v ps) h = refl
-no-storage (Texts ps t) h = absurd (cc)
+no-storage v h = absurd (cc)
 
 -- for each directory the object of the key is of a kind without storage
 abbrev HasNoStorage : State → Key → Type 0

@@ -16,7 +16,7 @@ use Rattle.seg_vector.specs.declared.places.Place.{Place}
 use Rattle.seg_vector.specs.TextCalls.{AppendsText, AssignsText, ClearsText, CountsBytePlaces, CountsBytes, GetsByte, IsSomeText, IsTextGrown, IsTextNow, ReadsText, ReservesBytes, SetsByte, ShrinksText}
 use Rattle.segment_manager.specs.Answers.{Element, Refused}
 use Rattle.segment_manager.specs.Contents.{IsBytesGrown, IsBytesNow, are_bytes, bytes_at, container_at, container_place, place_of_kind, sizes_at_kind, sizes_of, text_bytes}
-use Rattle.segment_manager.specs.Directory.{Value, Numbers, Elements, Bytes, Pairs, Texts, Object, kind_of, object_at}
+use Rattle.segment_manager.specs.Directory.{Value, Bytes, Object, kind_of, object_at}
 use Rattle.segment_manager.specs.State.{Answers, IsSegment, IsStepOfKind, State}
 use Rattle.segment_manager.specs.Step.{is_read_only}
 use Rattle.segment_manager.specs.Stored.{StepsSafely}
@@ -94,11 +94,8 @@ text-measured s key p m n found a c = record {
 }
 
 no-text : (v : Value) → same_kind Text (kind_of v) ≡ false → text_bytes v ≡ Err WrongKind
-no-text (Numbers k zs) e = refl
-no-text (Elements k zs t) e = refl
 no-text (Bytes bs t) e = absurd (cc)
-no-text (Pairs k v ps) e = refl
-no-text (Texts ps t) e = refl
+no-text v e = refl
 
 no-text-if : (o : Object) (why : Refusal) (t : Bool) → same_kind Text (kind_of o.value) ≡ t → Err why ≡ (if t then Ok (container_place o) else Err WrongKind) → Err why ≡ text_bytes o.value
 no-text-if o why true e f = absurd (cc)

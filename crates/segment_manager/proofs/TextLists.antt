@@ -1,8 +1,8 @@
 -- Lists of texts with one more, one less, or another among them.
-use Rattle.std.proofs.Common.{◌≡◌, refl, sym, ap, ◌∙◌, ℕ, zero, suc, ◌-◌, ◌≤◌, Some, List, [], ◌∷◌, ◌++◌, length, take, drop, append-nil, arith}
+use Rattle.std.proofs.Common.{◌≡◌, refl, sym, ap, ◌∙◌, ℕ, zero, suc, ◌-◌, Some, List, [], ◌∷◌, ◌++◌, length, take, drop, append-nil, arith}
 use Rattle.std.specs.Prelude.{insert, remove, slice_get, slice_set}
 use Rattle.std.proofs.Math.Seq.{take-length, drop-length}
-use Rattle.std.proofs.lemmas.List.{take-append-drop}
+use Rattle.std.proofs.lemmas.List.{drop_all, take-append-drop}
 use Rattle.seg_vector.specs.Vector.{OwnedText}
 use Rattle.segment_manager.proofs.TextBlocks.{IsPartOther}
 
@@ -41,13 +41,7 @@ part-none ps = record { front = []; back = ps; was = refl; is = refl }
 pub pushed-last : (ps : List OwnedText) (q : OwnedText) → insert ps (length ps) q ≡ ps ++ q ∷ []
 pushed-last ps q = λ i. take-length ps i ++ q ∷ drop-length ps i
 
-drop-past : (ps : List OwnedText) (n : ℕ) → length ps ≤ n → drop n ps ≡ []
-drop-past [] zero h = refl
-drop-past [] (suc n) h = refl
-drop-past (p ∷ ps) zero h = absurd (omega arith)
-drop-past (p ∷ ps) (suc n) h = drop-past ps n (omega arith)
-
 -- the last is left out
 pub removed-last : (ps : List OwnedText) → remove ps (length ps - 1) ≡ take (length ps - 1) ps
 removed-last ps =
-    ap (λ (qs : List OwnedText). take (length ps - 1) ps ++ qs) (drop-past ps (suc (length ps - 1)) (omega arith)) ∙ append-nil (take (length ps - 1) ps)
+    ap (λ (qs : List OwnedText). take (length ps - 1) ps ++ qs) (drop_all (suc (length ps - 1)) ps (omega arith)) ∙ append-nil (take (length ps - 1) ps)

@@ -1,7 +1,7 @@
 -- A call on a text is one step: what the calls of seg_vector ensure of the bytes at its place comes to the directory.
 use Rattle.std.proofs.Common.{◌≡◌, refl, sym, ap, subst, ◌∙◌, ℕ, zero, suc, ◌<◌, get_or, pos, nat_abs, true, false, ◌&&◌, Some, None, Ok, List, [], ◌∷◌, ◌++◌, length, map}
-use Rattle.std.specs.Prelude.{IsTrue, slice_get, slice_set}
-use Rattle.std.proofs.lemmas.Option.{same_Some, slice_get-get_or}
+use Rattle.std.specs.Prelude.{IsTrue, option_map, slice_get, slice_set}
+use Rattle.std.proofs.lemmas.Option.{same_Some, slice_get-get_or, slice_get-map}
 use Rattle.raw_region.specs.Format.{current}
 use Rattle.raw_region.specs.Memory.{Cut}
 use Rattle.best_fit.specs.Table.{Table}
@@ -18,7 +18,7 @@ use Rattle.seg_vector.specs.Vector.{capacity_for_text}
 use Rattle.segment_manager.specs.Answers.{Answer, Done, Element, Refused}
 use Rattle.segment_manager.specs.Contents.{Contents, HasNoRoom, IsBytes, IsBytesGrown, IsBytesNow, IsRefilled, container_at, container_place, contents_of, has_values}
 use Rattle.segment_manager.specs.Denotes.{Denotes}
-use Rattle.segment_manager.specs.Directory.{Value, Numbers, Elements, Bytes, Pairs, Texts, Object, Directory, kind_of, live, object_at}
+use Rattle.segment_manager.specs.Directory.{Value, Bytes, Object, Directory, kind_of, live, object_at}
 use Rattle.segment_manager.specs.Plan.{Reply, perform, with_capacity}
 use Rattle.segment_manager.specs.Standing.{StandsAt}
 use Rattle.segment_manager.specs.State.{Answers, IsSegment, IsStepOfKind, State, StandsFor}
@@ -35,11 +35,8 @@ use Rattle.segment_manager.proofs.VectorSteps.{one-kind}
 -- ---- what is of the kind of a text
 
 text-if : (v : Value) → Text ≡ kind_of v → (bs : List ℕ) × ((t : Table) × (v ≡ Bytes bs t))
-text-if (Numbers l zs) e = absurd (cc)
-text-if (Elements l zs t) e = absurd (cc)
 text-if (Bytes bs t) e = (bs, (t, refl))
-text-if (Pairs l m ps) e = absurd (cc)
-text-if (Texts ps t) e = absurd (cc)
+text-if v e = absurd (cc)
 
 pub text-only : (v : Value) → same_kind Text (kind_of v) ≡ true → (bs : List ℕ) × ((t : Table) × (v ≡ Bytes bs t))
 text-only v e = text-if v (one-kind Text (kind_of v) e)
@@ -129,14 +126,10 @@ bytes-set (b ∷ bs) zero x = ap (λ ys. x ∷ ys) (bytes-back bs)
 bytes-set (b ∷ bs) (suc i) x = ap (λ ys. b ∷ ys) (bytes-set bs i x)
 
 byte-got : (bs : List ℕ) (i x : ℕ) → slice_get bs i ≡ Some x → slice_get (map pos bs) i ≡ Some (pos x)
-byte-got [] i x e = absurd (cc)
-byte-got (b ∷ bs) zero x e = ap (λ y. Some (pos y)) (same_Some b x e)
-byte-got (b ∷ bs) (suc i) x e = byte-got bs i x e
+byte-got bs i x e = slice_get-map pos bs i ∙ ap (option_map pos) e
 
 byte-none : (bs : List ℕ) (i : ℕ) → slice_get bs i ≡ None → slice_get (map pos bs) i ≡ None
-byte-none [] i e = refl
-byte-none (b ∷ bs) zero e = absurd (cc)
-byte-none (b ∷ bs) (suc i) e = byte-none bs i e
+byte-none bs i e = slice_get-map pos bs i ∙ ap (option_map pos) e
 
 -- ---- all directories
 

@@ -21,7 +21,7 @@ use Rattle.seg_vector.specs.TextsCalls.{AreOthers, IsHeldText, IsSomeTexts, IsTe
 use Rattle.seg_vector.specs.Vector.{IsTextsAt, OwnedText}
 use Rattle.segment_manager.specs.Contents.{are_bytes, container_at, container_place}
 use Rattle.segment_manager.specs.Denotes.{Denotes, IsValueAt}
-use Rattle.segment_manager.specs.Directory.{Value, Numbers, Elements, Bytes, Pairs, Texts, Object, Directory, count_of, extents_of, has_own_block, is_good_value, is_object, is_owned_text, kind_of, live, object_at, padded, value_len}
+use Rattle.segment_manager.specs.Directory.{Value, Texts, Object, Directory, count_of, extents_of, has_own_block, is_good_value, is_object, is_owned_text, kind_of, live, object_at, padded, value_len}
 use Rattle.segment_manager.specs.Standing.{StandsAt}
 use Rattle.segment_manager.specs.State.{Answers, IsSegment, State}
 use Rattle.segment_manager.specs.Step.{changed}
@@ -103,11 +103,8 @@ good-texts b p ps t h s =
 -- ---- the object
 
 texts-if : (v : Value) → TextsKind ≡ kind_of v → (ps : List OwnedText) × ((t : Table) × (v ≡ Texts ps t))
-texts-if (Numbers l zs) e = absurd (cc)
-texts-if (Elements l zs t) e = absurd (cc)
-texts-if (Bytes bs t) e = absurd (cc)
-texts-if (Pairs l m ps) e = absurd (cc)
 texts-if (Texts ps t) e = (ps, (t, refl))
+texts-if v e = absurd (cc)
 
 pub texts-only : (v : Value) → same_kind TextsKind (kind_of v) ≡ true → (ps : List OwnedText) × ((t : Table) × (v ≡ Texts ps t))
 texts-only v e = texts-if v (one-kind TextsKind (kind_of v) e)

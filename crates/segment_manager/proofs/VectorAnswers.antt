@@ -2,6 +2,8 @@
 use Rattle.std.proofs.Common.{◌≡◌, refl, sym, ap, subst, ◌∙◌, ℕ, ◌+◌, ◌-◌, ◌<◌, ◌≤◌, ◌⊎◌, inl, inr, ℤ, Bool, true, false, Some, Result, Ok, Err, List, [], ◌∷◌, ◌++◌, length, map, take, arith}
 use Rattle.std.specs.Prelude.{IsTrue, insert, option_map, remove, slice_get, slice_set}
 use Rattle.std.specs.List.{list_all}
+use Rattle.std.proofs.lemmas.List.{length-map, map-append, take-map}
+use Rattle.std.proofs.lemmas.Option.{slice_get-map}
 use Rattle.raw_region.specs.Memory.{Cut}
 use Rattle.best_fit.specs.Heap.{live_of}
 use Rattle.best_fit.specs.Table.{Table, cut_table}
@@ -27,7 +29,7 @@ use Rattle.segment_manager.proofs.Safely.{AnswersSafely, done-so, stays}
 use Rattle.segment_manager.proofs.StorageSteps.{clears-vector, reserves-no_space, reserves-places, shrinks-vector}
 use Rattle.segment_manager.proofs.VectorCalls.{assigns-no_space, assigns-numbers, erases-number, erases-past, gets-number, gets-past, inserts-no_space, inserts-number, inserts-past, pops-nothing, pops-number, pushes-no_space, pushes-number, sets-number, sets-past}
 use Rattle.segment_manager.proofs.VectorSteps.{HoldsVector, holds-vector, stands-vector}
-use Rattle.segment_manager.proofs.Whole.{IsOfKind, of-whole, stands-whole, whole-append, whole-get, whole-grown, whole-insert, whole-length, whole-no_room, whole-now, whole-reached, whole-remove, whole-set, whole-take, whole-values}
+use Rattle.segment_manager.proofs.Whole.{IsOfKind, of-whole, stands-whole, whole-grown, whole-insert, whole-no_room, whole-now, whole-reached, whole-remove, whole-set, whole-values}
 
 -- a list without elements
 none-left : {T : Type 0} (xs : List T) → length xs ≤ 0 → xs ≡ []
@@ -103,11 +105,11 @@ module _ {T : Type 0} (k : ScalarKind) (w : T → ℤ) (size : ℕ) (test : T �
 
     pub vector-got : (i : ℕ) (r : Result T Refusal) → Gets size test sp s.cut p i r → IsStepOfKind s s key (Vector k) (Get key i) (answer_of (λ x. Element k (w x)) r)
     vector-got i (Ok x) a =
-        gets-number s key k p b found i (w x) (of-values s.cut.bytes p (λ zs t. slice_get zs i ≡ Some (w x)) (λ xs t h. whole-get w xs i ∙ ap (option_map w) (a xs t h)))
+        gets-number s key k p b found i (w x) (of-values s.cut.bytes p (λ zs t. slice_get zs i ≡ Some (w x)) (λ xs t h. slice_get-map w xs i ∙ ap (option_map w) (a xs t h)))
     vector-got i (Err e) a =
         let v = some-vector in
         subst (λ (q : Refusal). IsStepOfKind s s key (Vector k) (Get key i) (Refused q)) (sym (a v.0 v.1.0 v.1.1).refusal)
-        (gets-past s key k p b found i (of-values s.cut.bytes p (λ zs t. length zs ≤ i) (λ xs t h. subst (λ (n : ℕ). n ≤ i) (sym (whole-length w xs)) (a xs t h).outside)))
+        (gets-past s key k p b found i (of-values s.cut.bytes p (λ zs t. length zs ≤ i) (λ xs t h. subst (λ (n : ℕ). n ≤ i) (sym (length-map xs w)) (a xs t h).outside)))
 
     -- ---- sizes
 
@@ -116,7 +118,7 @@ module _ {T : Type 0} (k : ScalarKind) (w : T → ℤ) (size : ℕ) (test : T �
       answers = λ d l.
           let h : HoldsVector s.cut.bytes d key k p = holds-vector s.cut.bytes d key k p l.denotes (found.answers d l) in
           let r : (m ≡ length h.numbers) × (n ≡ h.table.capacity) =
-          of-values s.cut.bytes p (λ zs t. (m ≡ length zs) × (n ≡ t.capacity)) (λ xs t v. (a xs t v ∙ sym (whole-length w xs), c xs t v)) h.numbers h.table h.vector in
+          of-values s.cut.bytes p (λ zs t. (m ≡ length zs) × (n ≡ t.capacity)) (λ xs t v. (a xs t v ∙ sym (length-map xs w), c xs t v)) h.numbers h.table h.vector in
           (λ i. Ok (r.0 i, r.1 i)) ∙ sym (ap sizes_of h.value) ∙ sym (sizes-found d key (Vector k) h.object h.is (ap kind_of h.value));
     }
 
@@ -127,13 +129,13 @@ module _ {T : Type 0} (k : ScalarKind) (w : T → ℤ) (size : ℕ) (test : T �
           (of-values s.cut.bytes p (λ zs t. (i < length zs) × IsNumbersNow k s.cut new p t (slice_set zs i (w x)) t)
           (λ xs t h.
           let r = a xs t h in
-          (subst (λ (n : ℕ). i < n) (sym (whole-length w xs)) r.0, now-as s.cut new p t t (slice_set xs i x) (slice_set (map w xs) i (w x)) (whole-set w xs i x) r.1))))
+          (subst (λ (n : ℕ). i < n) (sym (length-map xs w)) r.0, now-as s.cut new p t t (slice_set xs i x) (slice_set (map w xs) i (w x)) (whole-set w xs i x) r.1))))
       vector-set i x (Err e) v a =
           let o = some-vector in
           let r = a o.0 o.1.0 o.1.1 in
           stays s new key (Vector k) (Set key i (literal_of k (w x))) e _ r.refusal r.same
           (sets-past s key k p b found i (w x) writing (sym (law.values x) ∙ v)
-          (of-values s.cut.bytes p (λ zs t. length zs ≤ i) (λ xs t h. subst (λ (n : ℕ). n ≤ i) (sym (whole-length w xs)) (a xs t h).outside)))
+          (of-values s.cut.bytes p (λ zs t. length zs ≤ i) (λ xs t h. subst (λ (n : ℕ). n ≤ i) (sym (length-map xs w)) (a xs t h).outside)))
 
       pub vector-erased : (i : ℕ) (r : Result (Unit {0}) Refusal) → ErasesFrom size test sp s.cut new p i r → StepsSafely s new key (Vector k) (Erase key i) r
       vector-erased i (Ok u) a =
@@ -141,13 +143,13 @@ module _ {T : Type 0} (k : ScalarKind) (w : T → ℤ) (size : ℕ) (test : T �
           (of-values s.cut.bytes p (λ zs t. (i < length zs) × IsNumbersNow k s.cut new p t (remove zs i) t)
           (λ xs t h.
           let r = a xs t h in
-          (subst (λ (n : ℕ). i < n) (sym (whole-length w xs)) r.0, now-as s.cut new p t t (remove xs i) (remove (map w xs) i) (whole-remove w xs i) r.1))))
+          (subst (λ (n : ℕ). i < n) (sym (length-map xs w)) r.0, now-as s.cut new p t t (remove xs i) (remove (map w xs) i) (whole-remove w xs i) r.1))))
       vector-erased i (Err e) a =
           let o = some-vector in
           let r = a o.0 o.1.0 o.1.1 in
           stays s new key (Vector k) (Erase key i) e _ r.refusal r.same
           (erases-past s key k p b found i writing
-          (of-values s.cut.bytes p (λ zs t. length zs ≤ i) (λ xs t h. subst (λ (n : ℕ). n ≤ i) (sym (whole-length w xs)) (a xs t h).outside)))
+          (of-values s.cut.bytes p (λ zs t. length zs ≤ i) (λ xs t h. subst (λ (n : ℕ). n ≤ i) (sym (length-map xs w)) (a xs t h).outside)))
 
       -- ---- one more
 
@@ -157,7 +159,7 @@ module _ {T : Type 0} (k : ScalarKind) (w : T → ℤ) (size : ℕ) (test : T �
           (of-values s.cut.bytes p (λ zs t. IsNumbersGrown k s.cut new p t (capacity_for_one (length zs) t.capacity) (zs ++ w x ∷ []))
           (λ xs t h.
           grown-as s.cut new p t (capacity_for_one (length xs) t.capacity) (capacity_for_one (length (map w xs)) t.capacity) (xs ++ x ∷ []) (map w xs ++ w x ∷ [])
-          (ap (λ (n : ℕ). capacity_for_one n t.capacity) (sym (whole-length w xs))) (whole-append w xs (x ∷ [])) (a xs t h))))
+          (ap (λ (n : ℕ). capacity_for_one n t.capacity) (sym (length-map xs w))) (map-append w xs (x ∷ [])) (a xs t h))))
       vector-pushed x (Err e) v a =
           let o = some-vector in
           let r = a o.0 o.1.0 o.1.1 in
@@ -166,7 +168,7 @@ module _ {T : Type 0} (k : ScalarKind) (w : T → ℤ) (size : ℕ) (test : T �
           (of-values s.cut.bytes p (λ zs t. HasNoRoom s.cut.bytes (size_of k) (capacity_for_one (length zs) t.capacity) t)
           (λ xs t h.
           room-as s.cut new t (capacity_for_one (length xs) t.capacity) (capacity_for_one (length (map w xs)) t.capacity) e
-          (ap (λ (n : ℕ). capacity_for_one n t.capacity) (sym (whole-length w xs))) (a xs t h))))
+          (ap (λ (n : ℕ). capacity_for_one n t.capacity) (sym (length-map xs w))) (a xs t h))))
 
       pub vector-inserted : (i : ℕ) (x : T) (r : Result (Unit {0}) Refusal) → test x ≡ true → InsertsInto size test sp s.cut new p i x r → StepsSafely s new key (Vector k) (Insert key i (literal_of k (w x))) r
       vector-inserted i x (Ok u) v a =
@@ -174,9 +176,9 @@ module _ {T : Type 0} (k : ScalarKind) (w : T → ℤ) (size : ℕ) (test : T �
           (of-values s.cut.bytes p (λ zs t. (i ≤ length zs) × IsNumbersGrown k s.cut new p t (capacity_for_one (length zs) t.capacity) (insert zs i (w x)))
           (λ xs t h.
           let r = a xs t h in (
-            subst (λ (n : ℕ). i ≤ n) (sym (whole-length w xs)) r.0,
+            subst (λ (n : ℕ). i ≤ n) (sym (length-map xs w)) r.0,
             grown-as s.cut new p t (capacity_for_one (length xs) t.capacity) (capacity_for_one (length (map w xs)) t.capacity) (insert xs i x) (insert (map w xs) i (w x))
-                (ap (λ (n : ℕ). capacity_for_one n t.capacity) (sym (whole-length w xs))) (whole-insert w xs i x) r.1,
+                (ap (λ (n : ℕ). capacity_for_one n t.capacity) (sym (length-map xs w))) (whole-insert w xs i x) r.1,
           ))))
       vector-inserted i x (Err e) v a = let o = some-vector in not-inserted i x e v a (inserted-why i e (length o.0) (capacity_for_one (length o.0) o.1.0.capacity) o.1.0 (a o.0 o.1.0 o.1.1))
         where
@@ -186,16 +188,16 @@ module _ {T : Type 0} (k : ScalarKind) (w : T → ℤ) (size : ℕ) (test : T �
               stays s new key (Vector k) (Insert key i (literal_of k (w x))) e OutOfRange f same
               (inserts-past s key k p b found i (w x) writing (sym (law.values x) ∙ v)
               (of-values s.cut.bytes p (λ zs t. length zs < i)
-              (λ xs t h. subst (λ (n : ℕ). n < i) (sym (whole-length w xs)) (inserted-past i e (length xs) (capacity_for_one (length xs) t.capacity) t f (a xs t h)))))
+              (λ xs t h. subst (λ (n : ℕ). n < i) (sym (length-map xs w)) (inserted-past i e (length xs) (capacity_for_one (length xs) t.capacity) t f (a xs t h)))))
           not-inserted i x e v a (same, inr f) =
               stays s new key (Vector k) (Insert key i (literal_of k (w x))) e NoSpace f same
               (inserts-no_space s key k p b found i (w x) writing (sym (law.values x) ∙ v)
               (of-values s.cut.bytes p (λ zs t. (i ≤ length zs) × HasNoRoom s.cut.bytes (size_of k) (capacity_for_one (length zs) t.capacity) t)
               (λ xs t h.
               let q = inserted-full i e (length xs) (capacity_for_one (length xs) t.capacity) t f (a xs t h) in (
-                subst (λ (n : ℕ). i ≤ n) (sym (whole-length w xs)) q.0,
+                subst (λ (n : ℕ). i ≤ n) (sym (length-map xs w)) q.0,
                 room-as s.cut new t (capacity_for_one (length xs) t.capacity) (capacity_for_one (length (map w xs)) t.capacity) e
-                    (ap (λ (n : ℕ). capacity_for_one n t.capacity) (sym (whole-length w xs))) q.1,
+                    (ap (λ (n : ℕ). capacity_for_one n t.capacity) (sym (length-map xs w))) q.1,
               ))))
 
       -- ---- one less
@@ -206,9 +208,9 @@ module _ {T : Type 0} (k : ScalarKind) (w : T → ℤ) (size : ℕ) (test : T �
             (of-values s.cut.bytes p (λ zs t. (slice_get zs (length zs - 1) ≡ Some (w x)) × IsNumbersNow k s.cut new p t (take (length zs - 1) zs) t)
             (λ xs t h.
             let r = a xs t h in
-            let n : length (map w xs) - 1 ≡ length xs - 1 = ap (λ (n : ℕ). n - 1) (whole-length w xs) in (
-              ap (λ (m : ℕ). slice_get (map w xs) m) n ∙ whole-get w xs (length xs - 1) ∙ ap (option_map w) r.0,
-              now-as s.cut new p t t (take (length xs - 1) xs) (take (length (map w xs) - 1) (map w xs)) (whole-take w (length xs - 1) xs ∙ ap (λ (m : ℕ). take m (map w xs)) (sym n)) r.1,
+            let n : length (map w xs) - 1 ≡ length xs - 1 = ap (λ (n : ℕ). n - 1) (length-map xs w) in (
+              ap (λ (m : ℕ). slice_get (map w xs) m) n ∙ slice_get-map w xs (length xs - 1) ∙ ap (option_map w) r.0,
+              now-as s.cut new p t t (take (length xs - 1) xs) (take (length (map w xs) - 1) (map w xs)) (sym (take-map w (length xs - 1) xs) ∙ ap (λ (m : ℕ). take m (map w xs)) (sym n)) r.1,
             )));
         refused = tt;
       }
@@ -228,14 +230,14 @@ module _ {T : Type 0} (k : ScalarKind) (w : T → ℤ) (size : ℕ) (test : T �
       vector-assigned ys (Ok u) v a =
           done-so (assigns-numbers s key k p b found new (map w ys) writing (sym (whole-values k w size test sp law ys) ∙ v)
           (of-values s.cut.bytes p (λ zs t. IsNumbersGrown k s.cut new p t (length (map w ys)) (map w ys))
-          (λ xs t h. grown-as s.cut new p t (length ys) (length (map w ys)) ys (map w ys) (sym (whole-length w ys)) refl (a xs t h))))
+          (λ xs t h. grown-as s.cut new p t (length ys) (length (map w ys)) ys (map w ys) (sym (length-map ys w)) refl (a xs t h))))
       vector-assigned ys (Err e) v a =
           let o = some-vector in
           let r = a o.0 o.1.0 o.1.1 in
           stays s new key (Vector k) (Assign key (map (literal_of k) (map w ys))) e _ r.refusal r.same
           (assigns-no_space s key k p b found (map w ys) writing (sym (whole-values k w size test sp law ys) ∙ v)
           (of-values s.cut.bytes p (λ zs t. HasNoRoom s.cut.bytes (size_of k) (length (map w ys)) t)
-          (λ xs t h. room-as s.cut new t (length ys) (length (map w ys)) e (sym (whole-length w ys)) (a xs t h))))
+          (λ xs t h. room-as s.cut new t (length ys) (length (map w ys)) e (sym (length-map ys w)) (a xs t h))))
 
       -- ---- places
 
@@ -254,7 +256,7 @@ module _ {T : Type 0} (k : ScalarKind) (w : T → ℤ) (size : ℕ) (test : T �
           done-so (shrinks-vector s key k p b found new writing
           (of-values s.cut.bytes p (λ zs t. IsNumbersNow k s.cut new p t zs (cut_table (live_of s.cut.bytes) (size_of k) (length zs) t))
           (λ xs t h.
-          subst (λ (u : Table). IsNumbersNow k s.cut new p t (map w xs) u) (λ i. cut_table (live_of s.cut.bytes) (law.long i) (sym (whole-length w xs) i) t)
+          subst (λ (u : Table). IsNumbersNow k s.cut new p t (map w xs) u) (λ i. cut_table (live_of s.cut.bytes) (law.long i) (sym (length-map xs w) i) t)
           (now-as s.cut new p t (cut_table (live_of s.cut.bytes) size (length xs) t) xs (map w xs) refl (a xs t h)))))
 
       pub vector-cleared : Clears size test sp s.cut new p → StepsSafely s new key (Vector k) (Clear key) (Ok tt)

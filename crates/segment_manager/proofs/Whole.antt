@@ -1,7 +1,8 @@
 -- The values of a type as the whole numbers of its kind: lists of them, and vectors of them at a place.
 use Rattle.std.proofs.Common.{◌≡◌, refl, sym, ap, subst, ◌∙◌, ℕ, zero, suc, ℤ, Bool, true, ◌&&◌, Some, List, [], ◌∷◌, ◌++◌, length, map, take, drop}
-use Rattle.std.specs.Prelude.{IsTrue, flat_map, insert, option_map, option_to_list, remove, slice_get, slice_set}
+use Rattle.std.specs.Prelude.{IsTrue, flat_map, insert, option_to_list, remove, slice_set}
 use Rattle.std.specs.List.{list_all}
+use Rattle.std.proofs.lemmas.List.{drop-map, length-map, map-append, take-map}
 use Rattle.raw_region.specs.Format.{current}
 use Rattle.raw_region.specs.Memory.{Cut}
 use Rattle.best_fit.specs.Exchange.{IsExchanged}
@@ -18,39 +19,16 @@ use Rattle.segment_manager.proofs.Words.{first, second}
 -- ---- lists
 
 module _ {T : Type 0} (w : T → ℤ) where
-  pub whole-length : (xs : List T) → length (map w xs) ≡ length xs
-  whole-length [] = refl
-  whole-length (x ∷ xs) = ap suc (whole-length xs)
-
-  pub whole-append : (xs ys : List T) → map w (xs ++ ys) ≡ map w xs ++ map w ys
-  whole-append [] ys = refl
-  whole-append (x ∷ xs) ys = ap (λ zs. w x ∷ zs) (whole-append xs ys)
-
-  pub whole-take : (n : ℕ) (xs : List T) → map w (take n xs) ≡ take n (map w xs)
-  whole-take zero xs = refl
-  whole-take (suc n) [] = refl
-  whole-take (suc n) (x ∷ xs) = ap (λ zs. w x ∷ zs) (whole-take n xs)
-
-  pub whole-drop : (n : ℕ) (xs : List T) → map w (drop n xs) ≡ drop n (map w xs)
-  whole-drop zero xs = refl
-  whole-drop (suc n) [] = refl
-  whole-drop (suc n) (x ∷ xs) = whole-drop n xs
-
   pub whole-insert : (xs : List T) (i : ℕ) (x : T) → map w (insert xs i x) ≡ insert (map w xs) i (w x)
-  whole-insert xs i x = whole-append (take i xs) (x ∷ drop i xs) ∙ (λ j. whole-take i xs j ++ w x ∷ whole-drop i xs j)
+  whole-insert xs i x = map-append w (take i xs) (x ∷ drop i xs) ∙ (λ j. sym (take-map w i xs) j ++ w x ∷ sym (drop-map w i xs) j)
 
   pub whole-remove : (xs : List T) (i : ℕ) → map w (remove xs i) ≡ remove (map w xs) i
-  whole-remove xs i = whole-append (take i xs) (drop (suc i) xs) ∙ (λ j. whole-take i xs j ++ whole-drop (suc i) xs j)
+  whole-remove xs i = map-append w (take i xs) (drop (suc i) xs) ∙ (λ j. sym (take-map w i xs) j ++ sym (drop-map w (suc i) xs) j)
 
   pub whole-set : (xs : List T) (i : ℕ) (x : T) → map w (slice_set xs i x) ≡ slice_set (map w xs) i (w x)
   whole-set [] i x = refl
   whole-set (y ∷ ys) zero x = refl
   whole-set (y ∷ ys) (suc i) x = ap (λ zs. w y ∷ zs) (whole-set ys i x)
-
-  pub whole-get : (xs : List T) (i : ℕ) → slice_get (map w xs) i ≡ option_map w (slice_get xs i)
-  whole-get [] i = refl
-  whole-get (x ∷ xs) zero = refl
-  whole-get (x ∷ xs) (suc i) = whole-get xs i
 
 -- ---- spellings
 
@@ -84,7 +62,7 @@ module _ {T : Type 0} (k : ScalarKind) (w : T → ℤ) (size : ℕ) (test : T �
   pub whole-stands : (b : List ℕ) (p : Place) (xs : List T) (t : Table) → Stands b p size (length xs) t (flat_map sp xs) → IsTrue (list_all test xs) → IsNumbers k b p (map w xs) t
   whole-stands b p xs t s v = record {
     stands = subst (λ n. Stands b p n (length (map w xs)) t (spelled k (map w xs))) law.long
-        (subst (λ n. Stands b p size n t (spelled k (map w xs))) (sym (whole-length w xs)) (subst (Stands b p size (length xs) t) (whole-spelled xs) s));
+        (subst (λ n. Stands b p size n t (spelled k (map w xs))) (sym (length-map xs w)) (subst (Stands b p size (length xs) t) (whole-spelled xs) s));
     values = sym (whole-values xs) ∙ v;
   }
 
@@ -92,7 +70,7 @@ module _ {T : Type 0} (k : ScalarKind) (w : T → ℤ) (size : ℕ) (test : T �
   pub stands-whole : (b : List ℕ) (p : Place) (xs : List T) (t : Table) → IsNumbers k b p (map w xs) t → Stands b p size (length xs) t (flat_map sp xs) × IsTrue (list_all test xs)
   stands-whole b p xs t n = (
     subst (Stands b p size (length xs) t) (sym (whole-spelled xs))
-        (subst (λ m. Stands b p size m t (spelled k (map w xs))) (whole-length w xs) (subst (λ m. Stands b p m (length (map w xs)) t (spelled k (map w xs))) (sym law.long) n.stands)),
+        (subst (λ m. Stands b p size m t (spelled k (map w xs))) (length-map xs w) (subst (λ m. Stands b p m (length (map w xs)) t (spelled k (map w xs))) (sym law.long) n.stands)),
     whole-values xs ∙ n.values,
   )
 

@@ -25,10 +25,9 @@ use Rattle.segment_manager.specs.State.{Answers, IsReply, IsReplyOfKind, IsStep,
 use Rattle.segment_manager.specs.Step.{changed, effect, element_at, get, is_read_only, set, step, with_items}
 use Rattle.segment_manager.proofs.AnyStorage.{IsOfKindAt, kind-told}
 use Rattle.segment_manager.proofs.Locating.{kind-by_key, reply_of_kind-by_key}
-use Rattle.segment_manager.proofs.Refilled.{refused-steps}
+use Rattle.segment_manager.proofs.Refilled.{refused-steps, same_plan-steps}
 use Rattle.segment_manager.proofs.Steps.{open-reading, step-refuse, step_of_kind-step, with-found, with-not_found}
 use Rattle.segment_manager.proofs.Stored.{literal-read}
-use Rattle.segment_manager.proofs.VectorLiterals.{same_plan-steps}
 
 -- ---- what an object says of its elements
 

@@ -5,7 +5,7 @@
 pub use Rattle.segment_manager.proofs.AnyStorage.{IsOfKindAt, kind-told, nowhere-steps, of_kind-steps}
 pub use Rattle.segment_manager.proofs.Steps.{refuses-read_only, step_of_kind-step, with-found, with-not_found}
 -- two commands with one plan, and a plan that comes to a refusal
-pub use Rattle.segment_manager.proofs.VectorLiterals.{same_plan-steps}
+pub use Rattle.segment_manager.proofs.Refilled.{same_plan-steps}
 pub use Rattle.segment_manager.proofs.Refilled.{refused-steps}
 -- the literal of a value is read as the value
 pub use Rattle.segment_manager.proofs.Stored.{literal-read}

@@ -26,8 +26,7 @@ use Rattle.segment_manager.specs.Standing.{StandsAt, pair_of_kind}
 use Rattle.segment_manager.specs.State.{Answers, IsSegment, IsStep, KeepsRefused, State, answer_of, handle_answer}
 use Rattle.segment_manager.specs.Step.{is_read_only}
 use Rattle.segment_manager.proofs.Bridge.{lookup-absent}
-use Rattle.segment_manager.proofs.Constructs.{constructs, constructs-exists, constructs-none}
-use Rattle.segment_manager.proofs.FoundOrMade.{found-there, makes-found, makes-none}
+use Rattle.segment_manager.proofs.FoundOrMade.{constructs, constructs-exists, constructs-none, found-there, makes-found, makes-none}
 use Rattle.segment_manager.proofs.NewKeys.{key-seeks}
 use Rattle.segment_manager.proofs.NewValues.{IsMadeNever, IsMadeNow, away-in, key-taken, value-built, value-loose, value-not_begun, value-not_built, value-ready}
 use Rattle.segment_manager.proofs.Steps.{step-segment}

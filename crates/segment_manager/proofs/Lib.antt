@@ -18,10 +18,8 @@ mod AnyClass
 mod Regrown
 mod Handles
 mod OwnBlocks
-mod OwnPlaces
 mod OwnWalks
 mod ElementLists
-mod Elements
 mod Kept
 mod Fresh
 mod Tables
@@ -37,9 +35,7 @@ mod GivenBack
 mod Removed
 mod Tabled
 mod Reserves
-mod Constructs
 mod FoundOrMade
-mod FromItems
 mod Filling
 mod Loose
 mod ItemCalls
@@ -56,7 +52,6 @@ mod Pieces
 mod Rewritten
 mod Exchanged
 mod Contained
-mod Grown
 mod ContentPlans
 mod Refilled
 mod MapBlocks
@@ -91,7 +86,6 @@ mod Destroys
 mod Keeping
 mod KeptContainers
 mod StoredCalls
-mod VectorLiterals
 mod Here
 mod Places
 mod Replies
@@ -122,4 +116,3 @@ mod Renewed
 mod ToChange
 mod WalkedInstances
 mod StayingObjects
-mod TileCounts

@@ -1,13 +1,16 @@
 -- The walk over the blocks and gaps that stops at those of objects, for each directory that the bytes stand for.
-use Rattle.std.proofs.Common.{◌≡◌, refl, sym, ap, subst, ◌∙◌, ℕ, zero, suc, ◌+◌, ◌-◌, ◌≤◌, Bool, true, false, Some, None, Option, List, [], ◌∷◌, add-one, length, map, arith, cond}
-use Rattle.std.specs.Prelude.{IsTrue, filter, is_some, option_map, slice_get}
+use Rattle.std.proofs.Common.{◌≡◌, refl, sym, ap, subst, ◌∙◌, ℕ, zero, suc, ◌+◌, ◌-◌, ◌≤◌, Bool, true, false, Some, None, Option, List, [], ◌∷◌, add-one, length, map, arith, cond, ◌/◌, ◌<◌, take}
+use Rattle.std.specs.Prelude.{IsTrue, filter, is_some, option_map, slice_get, nat_lt}
 use Rattle.std.specs.List.{AllByRecursion}
 use Rattle.std.proofs.lemmas.Option.{none-some, same_Some, slice_get_within}
-use Rattle.raw_region.specs.Format.{current}
 use Rattle.std.proofs.lemmas.List.{length-map}
-use Rattle.best_fit.specs.Extents.{Extent, LiveSet, Span as LiveSpan, end_of, handle, is_proper, proper_from, spans}
-use Rattle.best_fit.proofs.Laws.{IsFirst, proper_from-IsFirst, proper_from-reaches}
+use Rattle.raw_region.specs.Format.{current}
+use Rattle.raw_region.specs.Memory.{Memory, bytes_of}
 use Rattle.block_tags.specs.Format.{is_legal_size}
+use Rattle.block_tags.specs.declared.tile.Tile.{Tile}
+use Rattle.block_tags.specs.Tiles.{tile_at, tiles_from, tiles_of}
+use Rattle.best_fit.specs.Extents.{Extent, LiveSet, Span as LiveSpan, end_of, handle, is_proper, proper_from, spans}
+use Rattle.best_fit.proofs.Laws.{IsFirst, proper_from-IsFirst, proper_from-reaches, legal_size}
 use Rattle.seg_types.specs.Names.{ByHandle}
 use Rattle.segment_manager.specs.declared.telling.Instance.{Instance}
 use Rattle.segment_manager.specs.declared.tiles.Span.{Span}
@@ -22,9 +25,75 @@ use Rattle.segment_manager.proofs.Calling.{denotes-live}
 use Rattle.segment_manager.proofs.EntryPlaces.{all-at}
 use Rattle.segment_manager.proofs.ObjectLists.{rises-front, rises-rest}
 use Rattle.segment_manager.proofs.OwnBlocks.{all-own_spans, as_used, blocks, own-blocks}
-use Rattle.segment_manager.proofs.OwnPlaces.{none-more, one-more, passes-none, passes-there}
-use Rattle.segment_manager.proofs.TileCounts.{segment-short}
-use Rattle.segment_manager.proofs.Words.{second}
+use Rattle.segment_manager.proofs.Words.{second, first}
+
+-- ---- places among those that pass
+
+-- ---- a list, and those of it that pass
+
+past-one : {X : Type 0} (b : Bool) (x : X) (ys zs : List X) → length ys ≡ length zs → length (cond b (x ∷ ys) ys) ≡ length (cond b (x ∷ zs) zs)
+past-one true x ys zs e = ap suc e
+past-one false x ys zs e = e
+
+-- one that does not pass
+pub none-more : {X : Type 0} (p : X → Bool) (xs : List X) (i : ℕ) (x : X) → slice_get xs i ≡ Some x → p x ≡ false → length (filter p (take (suc i) xs)) ≡ length (filter p (take i xs))
+none-more p [] i x e f = absurd (none-some x e)
+none-more p (y ∷ ys) zero x e f = ap (λ b. length (cond b (y ∷ []) [])) (ap p (same_Some y x e) ∙ f)
+none-more p (y ∷ ys) (suc i) x e f = past-one (p y) y (filter p (take (suc i) ys)) (filter p (take i ys)) (none-more p ys i x e f)
+
+one-behind : {X : Type 0} (b : Bool) (x : X) (ys zs : List X) → length ys ≡ suc (length zs) → length (cond b (x ∷ ys) ys) ≡ suc (length (cond b (x ∷ zs) zs))
+one-behind true x ys zs e = ap suc e
+one-behind false x ys zs e = e
+
+-- one that passes
+pub one-more : {X : Type 0} (p : X → Bool) (xs : List X) (i : ℕ) (x : X) → slice_get xs i ≡ Some x → p x ≡ true → length (filter p (take (suc i) xs)) ≡ suc (length (filter p (take i xs)))
+one-more p [] i x e f = absurd (none-some x e)
+one-more p (y ∷ ys) zero x e f = ap (λ b. length (cond b (y ∷ []) [])) (ap p (same_Some y x e) ∙ f)
+one-more p (y ∷ ys) (suc i) x e f = one-behind (p y) y (filter p (take (suc i) ys)) (filter p (take i ys)) (one-more p ys i x e f)
+
+there-if : {X : Type 0} (b : Bool) (y x : X) (ys zs : List X) → slice_get ys (length zs) ≡ Some x → slice_get (cond b (y ∷ ys) ys) (length (cond b (y ∷ zs) zs)) ≡ Some x
+there-if true y x ys zs e = e
+there-if false y x ys zs e = e
+
+-- it stands behind as many as passed before it
+pub passes-there : {X : Type 0} (p : X → Bool) (xs : List X) (i : ℕ) (x : X) → slice_get xs i ≡ Some x → p x ≡ true → slice_get (filter p xs) (length (filter p (take i xs))) ≡ Some x
+passes-there p [] i x e f = absurd (none-some x e)
+passes-there p (y ∷ ys) zero x e f = ap (λ b. slice_get (cond b (y ∷ filter p ys) (filter p ys)) 0) (ap p (same_Some y x e) ∙ f) ∙ e
+passes-there p (y ∷ ys) (suc i) x e f = there-if (p y) y x (filter p ys) (filter p (take i ys)) (passes-there p ys i x e f)
+
+end-if : {X : Type 0} (b : Bool) (y : X) (ys zs : List X) → slice_get ys (length zs) ≡ None → slice_get (cond b (y ∷ ys) ys) (length (cond b (y ∷ zs) zs)) ≡ None
+end-if true y ys zs e = e
+end-if false y ys zs e = e
+
+-- none stands there where all were passed
+pub passes-none : {X : Type 0} (p : X → Bool) (xs : List X) (i : ℕ) → slice_get xs i ≡ None → slice_get (filter p xs) (length (filter p (take i xs))) ≡ None
+passes-none p [] i e = refl
+passes-none p (y ∷ ys) zero e = absurd (none-some y (sym e))
+passes-none p (y ∷ ys) (suc i) e = end-if (p y) y (filter p ys) (filter p (take i ys)) (passes-none p ys i e)
+
+-- ---- how many tiles
+
+tile-more : (b : Bool) (m : Memory) (at end n : ℕ) → length (tiles_from n m (at + (tile_at m at).len) end) ≤ n
+    → length (elim b as (λ _. List Tile) [ false ↦ [] | true ↦ tile_at m at ∷ tiles_from n m (at + (tile_at m at).len) end ]) ≤ suc n
+tile-more false m at end n l = omega arith
+tile-more true m at end n l = omega arith
+
+-- so many are read off at most
+pub tiles-bounded : (n : ℕ) (m : Memory) (at end : ℕ) → length (tiles_from n m at end) ≤ n
+tiles-bounded zero m at end = omega arith
+tiles-bounded (suc n) m at end = tile-more (nat_lt at end) m at end n (tiles-bounded n m (at + (tile_at m at).len) end)
+
+-- a segment has no more than 2 ^ 30 bytes
+pub segment-short : (b : List ℕ) → IsSegment b → length b ≤ 1073741824
+unfolding is_proper
+segment-short b g =
+    let l = live g.0 in
+    let legal : IsTrue (is_legal_size l.size) = first (is_legal_size l.size) (proper_from 128 l.extents _) g.1.denotes.directory.proper in
+    omega (arith, (legal_size l.size legal).high, g.1.denotes.heap.size)
+
+-- and so a number of 64 bits counts its tiles
+pub tile-below : (b : List ℕ) (at : ℕ) → IsSegment b → at < length (tiles_of (bytes_of b) (length b)) → at + 1 ≤ 1073741824
+tile-below b at g l = omega (arith, segment-short b g, tiles-bounded (length b / 32) (bytes_of b) 128 (length b - 16))
 
 -- ---- one turn of the walk
 

@@ -1,15 +1,17 @@
 -- A call that changes a vector or text of an object is one step of the directory machine.
-use Rattle.std.proofs.Common.{◌≡◌, refl, sym, ap, ◌∙◌, ℕ, true, false, Bool, Option, Some, None, Result, Ok, Err, List, if◌then◌else◌}
-use Rattle.std.specs.Prelude.{IsTrue}
+use Rattle.std.proofs.Common.{◌≡◌, refl, sym, ap, ◌∙◌, ℕ, true, false, Bool, Option, Some, None, Result, Ok, Err, List, if◌then◌else◌, ◌*◌, subst, ◌&&◌}
+use Rattle.std.specs.Prelude.{IsTrue, nat_le, option_map}
 use Rattle.raw_region.specs.Memory.{Cut}
 use Rattle.best_fit.specs.Heap.{live_of}
 use Rattle.best_fit.specs.Table.{Table}
+use Rattle.best_fit.specs.Extents.{Extent, LiveSet}
+use Rattle.best_fit.specs.Fit.{regrow}
 use Rattle.seg_types.specs.declared.kinds.Kind.{Kind}
 use Rattle.seg_types.specs.declared.refusals.Refusal.{Refusal}
-use Rattle.seg_types.specs.declared.refusals.Refusal.TheVariants.{NoSpace, NotFound, WrongKind}
+use Rattle.seg_types.specs.declared.refusals.Refusal.TheVariants.{NoSpace, NotFound, WrongKind, ReadOnly}
 use Rattle.seg_types.specs.Kinds.{same_kind}
 use Rattle.seg_types.specs.Names.{Key}
-use Rattle.seg_types.specs.Commands.{Command}
+use Rattle.seg_types.specs.Commands.{Command, is_changing}
 use Rattle.seg_vector.specs.declared.places.Place.{Place}
 use Rattle.seg_vector.specs.Vector.{grown_table}
 use Rattle.segment_manager.specs.declared.modes.Mode.{Mode}
@@ -17,13 +19,39 @@ use Rattle.segment_manager.specs.Answers.{Answer, Refused}
 use Rattle.segment_manager.specs.Contents.{Contents, IsRefilled, container_at, container_place, contents_of, has_values}
 use Rattle.segment_manager.specs.Directory.{Value, Object, Directory, kind_of, live, object_at}
 use Rattle.segment_manager.specs.Denotes.{Denotes}
-use Rattle.segment_manager.specs.Plan.{Reply, perform, with_capacity}
+use Rattle.segment_manager.specs.Plan.{Reply, perform, with_capacity, Request, Regrown as RegrownNeed, Refuse}
 use Rattle.segment_manager.specs.State.{Answers, IsSegment, IsStep, IsStepOfKind, State, StandsFor}
-use Rattle.segment_manager.specs.Step.{changed, effect, is_read_only, step_of_kind}
+use Rattle.segment_manager.specs.Step.{changed, effect, is_read_only, step_of_kind, step}
 use Rattle.segment_manager.proofs.Calling.{denotes-live}
 use Rattle.segment_manager.proofs.Contained.{contents-changed}
-use Rattle.segment_manager.proofs.Grown.{answered, grows}
 use Rattle.segment_manager.proofs.Steps.{IsMove, IsOpenFor, by_no_change, by_no_change_of_kind, by_step_of_kind, open-writing, step-effect, step_of_kind-found, step_of_kind-not_found, step_of_kind-other}
+
+-- ---- a plan that asks for room
+
+-- the answer and the directory for the table with the room, or no space
+abbrev pub answered : Directory → Answer → (Table → Directory) → Option Table → Answer × Directory
+answered d a next None = (Refused NoSpace, d)
+answered d a next (Some u) = (a, next u)
+
+abbrev with_extent : ℕ → Extent → Table
+with_extent n x = record { capacity = n; extent = Some x }
+
+grown-met : (d : Directory) (n : ℕ) (a : Answer) (next : Table → Directory) (r : Option Extent)
+    → elim r as (λ _. Answer × Directory) [ None ↦ (Refused NoSpace, d) | Some x ↦ (a, next (with_extent n x)) ] ≡ answered d a next (option_map (with_extent n) r)
+grown-met d n a next None = refl
+grown-met d n a next (Some x) = refl
+
+grown-if : (d : Directory) (l : LiveSet) (each n : ℕ) (t : Table) (a : Answer) (next : Table → Directory) (b : Bool)
+    → perform d l (if b then Reply a (next t) else Request (RegrownNeed t.extent (each * n)) (λ x. Reply a (next (with_extent n x))))
+    ≡ answered d a next (if b then Some t else option_map (with_extent n) (regrow l t.extent (each * n)))
+grown-if d l each n t a next true = refl
+grown-if d l each n t a next false = grown-met d n a next (regrow l t.extent (each * n))
+
+-- push, insert, reserve, append and assign
+pub grows : (d : Directory) (l : LiveSet) (each n : ℕ) (t : Table) (a : Answer) (next : Table → Directory)
+    → perform d l (with_capacity each n t (λ u. Reply a (next u))) ≡ answered d a next (grown_table l each n t)
+unfolding grown_table
+grows d l each n t a next = grown-if d l each n t a next (nat_le n t.capacity)
 
 -- ---- a directory
 
@@ -125,3 +153,18 @@ missing-of mode d key kind c r (Some o) w e f = missing-if mode d key kind c r o
 -- why there is no such container is why every call for the kind is refused
 pub finds-no_container : (s : State) (key : Key) (kind : Kind) (c : Command) (r : Refusal) → IsOpenFor s.mode c → Answers s (λ d. container_at d key kind) (Err r) → IsStepOfKind s s key kind c (Refused r)
 finds-no_container s key kind c r w a = by_no_change_of_kind s key kind c (Refused r) (λ d k. missing-of s.mode d key kind c r (object_at d key) w refl (a.answers d k))
+
+-- ---- two commands with one plan
+
+same-step : (mode : Mode) (d : Directory) (c c' : Command) → is_changing c ≡ is_changing c' → effect d c ≡ effect d c' → step mode d c ≡ step mode d c'
+unfolding step
+same-step mode d c c' e f = λ i. perform d (live d) (if is_read_only mode && e i then Refuse ReadOnly else f i)
+
+-- what is a step of one is a step of the other
+pub same_plan-steps : (old new : State) (c c' : Command) (answer : Answer) → is_changing c ≡ is_changing c' → ((d : Directory) → StandsFor old.cut.bytes d → effect d c ≡ effect d c')
+    → IsStep old new c' answer → IsStep old new c answer
+same_plan-steps old new c c' answer e each r = record {
+  stays = r.stays;
+  answers = λ d l. r.answers d l ∙ ap (λ (n : Answer × Directory). n.0) (sym (same-step old.mode d c c' e (each d l)));
+  denotes = λ d l. subst (λ (n : Answer × Directory). StandsFor new.cut.bytes n.1) (sym (same-step old.mode d c c' e (each d l))) (r.denotes d l);
+}

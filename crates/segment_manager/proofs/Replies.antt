@@ -1,6 +1,6 @@
 -- Reading an element of the object of a key: what the step answers, for each directory that the bytes denote.
 use Rattle.std.proofs.Common.{◌≡◌, refl, sym, ap, ◌∙◌, ℕ, ◌+◌, ◌≤◌, ℤ, true, false, Option, Some, None, Result, Ok, Err, List, length, arith}
-use Rattle.std.specs.Prelude.{IsTrue, MatchOption}
+use Rattle.std.specs.Prelude.{IsTrue, MatchOption, slice_get, slice_set}
 use Rattle.std.specs.Option.{ok_or}
 use Rattle.std.proofs.lemmas.Bool.{eq-eqb, false≢true, ltb-false}
 use Rattle.std.proofs.lemmas.Option.{slice_get_past}
@@ -10,25 +10,57 @@ use Rattle.best_fit.specs.Heap.{has_room, live_of}
 use Rattle.seg_types.specs.declared.kinds.ScalarKind.{ScalarKind}
 use Rattle.seg_types.specs.declared.kinds.Kind.TheVariants.{Scalar}
 use Rattle.seg_types.specs.declared.refusals.Refusal.{Refusal}
-use Rattle.seg_types.specs.declared.refusals.Refusal.TheVariants.{WrongKind}
+use Rattle.seg_types.specs.declared.refusals.Refusal.TheVariants.{WrongKind, OutOfRange}
 use Rattle.seg_types.specs.declared.values.ScalarValue.{ScalarValue}
 use Rattle.seg_types.specs.Kinds.{code_of, is_spelling, is_value, same_kind, size_of, spelling, value_of}
 use Rattle.seg_types.specs.Names.{Key}
 use Rattle.seg_types.specs.Commands as asked
 use Rattle.seg_types.specs.Values.{SpelledBy, value_of_scalar}
+use Rattle.seg_types.proofs.Laws.{all_spell_one}
+use Rattle.seg_types.specs.Commands.{Literal, value_of_literal}
 use Rattle.segment_manager.specs.declared.accessing.Place.{Place}
 use Rattle.segment_manager.specs.declared.modes.Mode.{Mode}
-use Rattle.segment_manager.specs.Answers.{Answer, Element, Refused}
+use Rattle.segment_manager.specs.Answers.{Answer, Element, Refused, Done}
 use Rattle.segment_manager.specs.Directory.{Object, Directory, Numbers, count_of, kind_of, live, object_at}
-use Rattle.segment_manager.specs.Plan.{perform}
+use Rattle.segment_manager.specs.Plan.{perform, Refuse, Reply, with}
 use Rattle.segment_manager.specs.Standing.{place_at}
 use Rattle.segment_manager.specs.State.{Answers, IsReplyOfKind, IsSegment, State, answer_of, scalar_answer}
-use Rattle.segment_manager.specs.Step.{step_of_kind}
-use Rattle.seg_types.proofs.Laws.{all_spell_one}
+use Rattle.segment_manager.specs.Step.{step_of_kind, effect, get, set, changed}
 use Rattle.segment_manager.proofs.Codes.{numbers-only}
-use Rattle.segment_manager.proofs.Elements.{get-effect, get-past}
 use Rattle.segment_manager.proofs.Places.{ElementAt, Lacks, Other, Past, Missing, Nowhere, Within, element-found, element-missing, element-read, element-room}
-use Rattle.segment_manager.proofs.Steps.{open-reading, step_of_kind-found, step_of_kind-not_found, step_of_kind-other}
+use Rattle.segment_manager.proofs.Steps.{open-reading, step_of_kind-found, step_of_kind-not_found, step_of_kind-other, with-found}
+
+-- ---- the elements of numbers
+
+-- ---- what the plans are
+
+-- reading within an object of numbers
+pub get-effect : (d : Directory) (key : Key) (o : Object) (k : ScalarKind) (zs : List ℤ) (i : ℕ) (z : ℤ) → object_at d key ≡ Some o → o.value ≡ Numbers k zs → slice_get zs i ≡ Some z
+    → effect d (asked.Get key i) ≡ Reply (Element k z) d
+get-effect d key o k zs i z e f g =
+    with-found d key o (λ o. get d o.value i) e ∙ ap (λ v. get d v i) f
+    ∙ ap (λ (r : Option ℤ). with (elim r as (λ _. Result ℤ Refusal) [ None ↦ Err OutOfRange | Some z ↦ Ok z ]) (λ z. Reply (Element k z) d)) g
+
+-- past its end
+pub get-past : (d : Directory) (key : Key) (o : Object) (k : ScalarKind) (zs : List ℤ) (i : ℕ) → object_at d key ≡ Some o → o.value ≡ Numbers k zs → slice_get zs i ≡ None
+    → effect d (asked.Get key i) ≡ Refuse OutOfRange
+get-past d key o k zs i e f g =
+    with-found d key o (λ o. get d o.value i) e ∙ ap (λ v. get d v i) f
+    ∙ ap (λ (r : Option ℤ). with (elim r as (λ _. Result ℤ Refusal) [ None ↦ Err OutOfRange | Some z ↦ Ok z ]) (λ z. Reply (Element k z) d)) g
+
+-- writing within it
+pub set-effect : (d : Directory) (key : Key) (o : Object) (k : ScalarKind) (zs : List ℤ) (i : ℕ) (l : Literal) (z old : ℤ) → object_at d key ≡ Some o → o.value ≡ Numbers k zs
+    → value_of_literal k l ≡ Ok z → slice_get zs i ≡ Some old → effect d (asked.Set key i l) ≡ Reply Done (changed d o (Numbers k (slice_set zs i z)))
+set-effect d key o k zs i l z old e f g h =
+    with-found d key o (λ o. set d o o.value i l) e ∙ ap (λ v. set d o v i l) f
+    ∙ (λ j. with (g j) (λ z. with (elim (h j) as (λ _. Result ℤ Refusal) [ None ↦ Err OutOfRange | Some z ↦ Ok z ]) (λ old. Reply Done (changed d o (Numbers k (slice_set zs i z))))))
+
+-- past its end
+pub set-past : (d : Directory) (key : Key) (o : Object) (k : ScalarKind) (zs : List ℤ) (i : ℕ) (l : Literal) (z : ℤ) → object_at d key ≡ Some o → o.value ≡ Numbers k zs
+    → value_of_literal k l ≡ Ok z → slice_get zs i ≡ None → effect d (asked.Set key i l) ≡ Refuse OutOfRange
+set-past d key o k zs i l z e f g h =
+    with-found d key o (λ o. set d o o.value i l) e ∙ ap (λ v. set d o v i l) f
+    ∙ (λ j. with (g j) (λ z. with (elim (h j) as (λ _. Result ℤ Refusal) [ None ↦ Err OutOfRange | Some z ↦ Ok z ]) (λ old. Reply Done (changed d o (Numbers k (slice_set zs i z))))))
 
 -- ---- what the step is
 

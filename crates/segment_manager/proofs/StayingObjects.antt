@@ -9,7 +9,6 @@ use Rattle.seg_types.specs.declared.refusals.Refusal.{Refusal}
 use Rattle.seg_types.specs.declared.refusals.Refusal.TheVariants.{NoSpace}
 use Rattle.seg_types.specs.declared.kinds.Kind.{Kind}
 use Rattle.seg_types.specs.Names.{Key, ByHandle}
-use Rattle.seg_types.specs.Commands as asked
 use Rattle.seg_types.specs.Commands.{Command}
 use Rattle.segment_manager.specs.declared.modes.Mode.{Mode}
 use Rattle.segment_manager.specs.Directory.{Object, Directory, has_key, live, replace_object}

@@ -34,12 +34,11 @@ use Rattle.segment_manager.specs.Step.{is_read_only, step_of_kind}
 use Rattle.raw_region.proofs.Laws.{SameBut-Same}
 use Rattle.segment_manager.proofs.Blocks.{spelling-length}
 use Rattle.segment_manager.proofs.Codes.{numbers-only}
-use Rattle.segment_manager.proofs.Elements.{set-effect, set-past}
 use Rattle.segment_manager.proofs.Frame.{IsRoomy, object-roomy}
 use Rattle.segment_manager.proofs.Live.{IsIn}
 use Rattle.segment_manager.proofs.ObjectLists.{key-found}
 use Rattle.segment_manager.proofs.Places.{ElementAt, Lacks, Other, Past, Missing, Nowhere, Within, element-found, element-missing, numbers-good, numbers-stand}
-use Rattle.segment_manager.proofs.Replies.{element-kind}
+use Rattle.segment_manager.proofs.Replies.{element-kind, set-effect, set-past}
 use Rattle.segment_manager.proofs.Rewritten.{SameFrame, denotes-rewritten, value_start, with_value}
 use Rattle.segment_manager.proofs.Rows.{Has-set}
 use Rattle.segment_manager.proofs.Steps.{by_no_change_of_kind, by_step_of_kind, lands, open-writing, step_of_kind-found, step_of_kind-not_found, step_of_kind-other}

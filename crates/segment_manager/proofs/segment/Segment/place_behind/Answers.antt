@@ -1,7 +1,7 @@
 -- A segment has few tiles.
 use Rattle.std.proofs.Common.{subst, rules, ◌+◌, ◌≤◌}
 use Rattle.segment_manager.specs.State.{IsSegment}
-use Rattle.segment_manager.proofs.TileCounts.{tile-below}
+use Rattle.segment_manager.proofs.OwnWalks.{tile-below}
 use Rattle.segment_manager.proofs.segment.Segment.place_behind.Goals as goal
 
 pub overflow_add-result : goal.overflow_add-result

@@ -67,11 +67,9 @@ elements-told d key kind e = ap elements_in e.is ∙ ap elements_of e.kind_is
 
 -- of an object whose elements are no scalars none is read
 not_read : (d : Directory) (v : Value) (i : ℕ) (r : Refusal) → elements_of (kind_of v) ≡ Err r → (kind_of v ≡ TextsKind → ⊥) → get d v i ≡ Refuse r
-not_read d (Numbers k zs) i r e n = absurd (cc)
-not_read d (Elements k zs t) i r e n = absurd (cc)
-not_read d (Bytes bs t) i r e n = absurd (cc)
 not_read d (Pairs k v ps) i r e n = let why : WrongKind ≡ r = cc in ap Refuse why
 not_read d (Texts ps t) i r e n = absurd (n refl)
+not_read d v i r e n = absurd (cc)
 
 step-not_read : (mode : Mode) (d : Directory) (key : Key) (i : ℕ) (r : Refusal) → ((o : Object) → object_at d key ≡ Some o → kind_of o.value ≡ TextsKind → ⊥) → HasNone d key r
     → step mode d (asked.Get key i) ≡ (Refused r, d)

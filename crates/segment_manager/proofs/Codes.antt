@@ -6,7 +6,7 @@ use Rattle.seg_types.specs.declared.kinds.ScalarKind.TheVariants.{Bool as BoolKi
 use Rattle.seg_types.specs.declared.kinds.Kind.{Kind}
 use Rattle.seg_types.specs.declared.kinds.Kind.TheVariants.{Scalar, Vector, Map}
 use Rattle.seg_types.specs.Kinds.{code_of, kind_of_code, same_kind, scalar_code}
-use Rattle.segment_manager.specs.Directory.{Value, Numbers, Elements, Bytes, Pairs, Texts, kind_of}
+use Rattle.segment_manager.specs.Directory.{Value, Numbers, kind_of}
 use Rattle.segment_manager.proofs.Heads.{scalar-small}
 
 -- ---- codes are read
@@ -34,10 +34,7 @@ same-scalar k l e = absurd (omega arith)
 
 numbers-if : (k : ScalarKind) (v : Value) → scalar_code k ≡ code_of (kind_of v) → (zs : List ℤ) × (v ≡ Numbers k zs)
 numbers-if k (Numbers l zs) e = (zs, λ i. Numbers (same-scalar l k (sym e) i) zs)
-numbers-if k (Elements l zs t) e = let small = scalar-small k in absurd (omega arith)
-numbers-if k (Bytes bs t) e = let small = scalar-small k in absurd (omega arith)
-numbers-if k (Pairs l m ps) e = let small = scalar-small k in absurd (omega arith)
-numbers-if k (Texts ps t) e = let small = scalar-small k in absurd (omega arith)
+numbers-if k v e = let small = scalar-small k in absurd (omega arith)
 
 -- what is of the kind of a scalar is numbers of it
 pub numbers-only : (k : ScalarKind) (v : Value) → same_kind (Scalar k) (kind_of v) ≡ true → (zs : List ℤ) × (v ≡ Numbers k zs)

@@ -19,7 +19,7 @@ use Rattle.seg_types.specs.Names.{Key}
 use Rattle.seg_vector.specs.Standing.{IsOwnBlock, Stands, place_at}
 use Rattle.seg_vector.specs.Vector.{IsContainerAt, spelled}
 use Rattle.segment_manager.specs.Contents.{Contents, IsRefilled, container_place, contents_of, has_values}
-use Rattle.segment_manager.specs.Directory.{Value, Numbers, Elements, Bytes, Pairs, Texts, Object, Directory, count_of, extents_of, has_good_name, is_good_value, is_object, kind_of, object_at, padded, value_extents, value_len}
+use Rattle.segment_manager.specs.Directory.{Value, Elements, Bytes, Object, Directory, count_of, extents_of, has_good_name, is_good_value, is_object, kind_of, object_at, padded, value_extents, value_len}
 use Rattle.segment_manager.specs.Denotes.{Denotes, IsValueAt}
 use Rattle.segment_manager.specs.Standing.{StandsAt}
 use Rattle.segment_manager.specs.Step.{changed}
@@ -83,11 +83,9 @@ contents-fit (Bytes bs t) c e h = subst (Fits (Bytes bs t)) (same_Some (bytes_in
 contents-fit v c e h = absurd (cc)
 
 pub contents-shape : (v : Value) (c : Contents) → contents_of v ≡ Some c → Shape v c
-contents-shape (Numbers k zs) c e = absurd (cc)
 contents-shape (Elements k zs t) c e = subst (Shape (Elements k zs t)) (same_Some (elements_in k zs t) c e) (record { extents = refl; len = refl; count = refl })
 contents-shape (Bytes bs t) c e = subst (Shape (Bytes bs t)) (same_Some (bytes_in bs t) c e) (record { extents = refl; len = refl; count = refl })
-contents-shape (Pairs k l ps) c e = absurd (cc)
-contents-shape (Texts ps t) c e = absurd (cc)
+contents-shape v c e = absurd (cc)
 
 -- the other way round: elements that have their places make a good value
 pub contents-good : (v : Value) (c : Contents) → contents_of v ≡ Some c → c.len ≤ c.table.capacity → IsTrue (is_table Storage c.each c.table) → IsTrue (has_values v) → IsTrue (is_good_value v)

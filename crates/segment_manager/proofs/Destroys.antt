@@ -51,11 +51,8 @@ use Rattle.segment_manager.proofs.Steps.{by_no_change, by_step, lands, open-writ
 
 class-is : (i : Index) (c : Class) → (class_code (class_of_index i) == class_code c) ≡ true → c ≡ class_of_index i
 class-is index.Named class.Named e = refl
-class-is index.Named class.Anonymous e = absurd (cc)
-class-is index.Named class.Unique e = absurd (cc)
 class-is index.Unique class.Unique e = refl
-class-is index.Unique class.Anonymous e = absurd (cc)
-class-is index.Unique class.Named e = absurd (cc)
+class-is i c e = absurd (cc)
 
 entry-class : (i : Index) (d : Directory) (at : ℕ) (o : Object) → slice_get (objects_of i d) at ≡ Some o → o.class ≡ class_of_index i
 entry-class i d at o e =

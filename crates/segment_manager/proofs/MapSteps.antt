@@ -18,7 +18,7 @@ use Rattle.seg_map.specs.Changing.{IsBesideMap, IsErased, IsPut, IsPutAgain}
 use Rattle.seg_map.specs.Map.{is_rising, pair_at, put_pair, remove_pair}
 use Rattle.seg_map.specs.Numbers.{NumberPair, is_number_pair}
 use Rattle.seg_map.specs.Places.{HoldsMap, IsPairIn, nodes_of_pairs}
-use Rattle.segment_manager.specs.Directory.{Value, Numbers, Elements, Bytes, Pairs, Texts, Object, Directory, count_of, extents_of, is_good_value, is_object, kind_of, live, padded, value_extents, value_len}
+use Rattle.segment_manager.specs.Directory.{Value, Pairs, Object, Directory, count_of, extents_of, is_good_value, is_object, kind_of, live, padded, value_extents, value_len}
 use Rattle.segment_manager.specs.Denotes.{Denotes, IsValueAt}
 use Rattle.segment_manager.specs.Layout.{head_len}
 use Rattle.segment_manager.specs.Maps.{numbers_of}
@@ -42,11 +42,8 @@ use Rattle.segment_manager.proofs.Words.{first, second}
 -- ---- what is of the kind of a map
 
 map-if : (k v : ScalarKind) (w : Value) → Map k v ≡ kind_of w → (ps : List NumberPair) × (w ≡ Pairs k v ps)
-map-if k v (Numbers l zs) e = absurd (cc)
-map-if k v (Elements l zs t) e = absurd (cc)
-map-if k v (Bytes bs t) e = absurd (cc)
 map-if k v (Pairs l m ps) e = let keys : l ≡ k = cc in let values : m ≡ v = cc in (ps, λ i. Pairs (keys i) (values i) ps)
-map-if k v (Texts ps t) e = absurd (cc)
+map-if k v w e = absurd (cc)
 
 pub map-only : (k v : ScalarKind) (w : Value) → same_kind (Map k v) (kind_of w) ≡ true → (ps : List NumberPair) × (w ≡ Pairs k v ps)
 map-only k v w e = map-if k v w (one-kind (Map k v) (kind_of w) e)

@@ -13,7 +13,7 @@ use Rattle.best_fit.specs.Extents.{handle}
 use Rattle.best_fit.specs.Heap.{IsChanged}
 use Rattle.best_fit.specs.Table.{serves}
 use Rattle.seg_types.specs.declared.kinds.ScalarKind.{ScalarKind}
-use Rattle.seg_types.specs.declared.kinds.ScalarKind.TheVariants.{Bool as BoolKind, U8, I32, I64, U64}
+use Rattle.seg_types.specs.declared.kinds.ScalarKind.TheVariants.{Bool as BoolKind}
 use Rattle.seg_types.specs.declared.kinds.Kind.TheVariants.{Scalar}
 use Rattle.seg_types.specs.declared.refusals.Refusal.{Refusal}
 use Rattle.seg_types.specs.declared.refusals.Refusal.TheVariants.{OutOfRange}
@@ -52,10 +52,7 @@ literal-read BoolKind (pos zero) h = refl
 literal-read BoolKind (pos (suc zero)) h = refl
 literal-read BoolKind (pos (suc (suc n))) h = absurd (grind arith)
 literal-read BoolKind (negsuc n) h = absurd (cc)
-literal-read U8 z h = ap (λ (b : Bool). let r : Result ℤ Refusal = if b then Ok z else Err OutOfRange in r) h
-literal-read I32 z h = ap (λ (b : Bool). let r : Result ℤ Refusal = if b then Ok z else Err OutOfRange in r) h
-literal-read I64 z h = ap (λ (b : Bool). let r : Result ℤ Refusal = if b then Ok z else Err OutOfRange in r) h
-literal-read U64 z h = ap (λ (b : Bool). let r : Result ℤ Refusal = if b then Ok z else Err OutOfRange in r) h
+literal-read k z h = ap (λ (b : Bool). let r : Result ℤ Refusal = if b then Ok z else Err OutOfRange in r) h
 
 -- ---- the numbers with another among them
 

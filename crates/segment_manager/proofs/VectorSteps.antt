@@ -19,7 +19,7 @@ use Rattle.seg_vector.specs.Vector.{spelled}
 use Rattle.segment_manager.specs.Answers.{Answer, Refused}
 use Rattle.segment_manager.specs.Contents.{Contents, HasNoRoom, IsNumbers, IsNumbersGrown, IsNumbersNow, IsRefilled, container_at, container_place, contents_of, has_values}
 use Rattle.segment_manager.specs.Denotes.{Denotes}
-use Rattle.segment_manager.specs.Directory.{Value, Numbers, Elements, Bytes, Pairs, Texts, Object, Directory, kind_of, live, object_at}
+use Rattle.segment_manager.specs.Directory.{Value, Elements, Object, Directory, kind_of, live, object_at}
 use Rattle.segment_manager.specs.Plan.{Reply, perform, with_capacity}
 use Rattle.segment_manager.specs.Standing.{StandsAt}
 use Rattle.segment_manager.specs.State.{Answers, IsSegment, IsStepOfKind, State, StandsFor}
@@ -38,11 +38,8 @@ pub one-kind : (a b : Kind) → same_kind a b ≡ true → a ≡ b
 one-kind a b e = same_Some a b (sym (code-read a) ∙ ap kind_of_code (eqb-true (code_of a) (code_of b) e) ∙ code-read b)
 
 vector-if : (k : ScalarKind) (v : Value) → Vector k ≡ kind_of v → (zs : List ℤ) × ((t : Table) × (v ≡ Elements k zs t))
-vector-if k (Numbers l zs) e = absurd (cc)
 vector-if k (Elements l zs t) e = let same : l ≡ k = cc in (zs, (t, λ i. Elements (same i) zs t))
-vector-if k (Bytes bs t) e = absurd (cc)
-vector-if k (Pairs l m ps) e = absurd (cc)
-vector-if k (Texts ps t) e = absurd (cc)
+vector-if k v e = absurd (cc)
 
 -- it is a vector of such numbers
 pub vector-only : (k : ScalarKind) (v : Value) → same_kind (Vector k) (kind_of v) ≡ true → (zs : List ℤ) × ((t : Table) × (v ≡ Elements k zs t))

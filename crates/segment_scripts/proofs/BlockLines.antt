@@ -1,14 +1,8 @@
--- The listing of the blocks and gaps of a segment: what has gone out after so many lines.
-use Rattle.std.proofs.Common.{◌≡◌, ℕ, zero, suc, ◌+◌, ◌-◌, ◌<◌, ◌≤◌, Bool, true, false, List, [], ◌∷◌, ◌++◌, length, take, nat_lt, inl, inr, if◌then◌else◌, Some, None, slice_get, refl, sym, ap, subst, ◌∙◌, append_assoc, length-append, arith}
-use Rattle.std.specs.Prelude.{IsTrue, codes, Option, option_map, Result, Err}
-use Rattle.std.specs.List.{flat_map}
-use Rattle.std.specs.Result.{IsErr}
+-- The listing of the blocks and gaps of a segment: which is next, and that there are fewer than the segment has bytes.
+use Rattle.std.proofs.Common.{◌≡◌, ℕ, zero, suc, ◌+◌, ◌-◌, ◌<◌, ◌≤◌, Bool, true, false, List, [], ◌∷◌, length, nat_lt, inl, inr, if◌then◌else◌, Some, None, slice_get, refl, sym, ap, subst, ◌∙◌, length-append, arith}
+use Rattle.std.specs.Prelude.{IsTrue, Option, option_map}
 use Rattle.std.proofs.lemmas.Bool.{and_parts, ltb-true}
-use Rattle.std.proofs.lemmas.Grind.{flat_map-append}
-use Rattle.std.proofs.lemmas.List.{append-nil, take_all, take_more}
-use Rattle.std.proofs.lemmas.Option.{get_or_from_slice_get, slice_get_within}
-use Rattle.raw_region.specs.Device.{Took, Writes}
-use Rattle.raw_region.proofs.Laws.{writes-behind, writes-cut, writes-element}
+use Rattle.std.proofs.lemmas.Option.{slice_get_within}
 use Rattle.block_tags.specs.declared.tile.Tile.{Tile}
 use Rattle.block_tags.specs.Format.{is_legal_size}
 use Rattle.best_fit.specs.Extents.{Extent, LiveSet, Span, end_of, is_proper, proper_from, span_between, spans, spans_from}
@@ -18,44 +12,15 @@ use Rattle.best_fit.proofs.Laws.{IsHole, is_hole-IsHole, proper_from-IsFirst}
 use Rattle.seg_types.specs.Commands.{Size}
 use Rattle.segment_manager.specs.declared.modes.Mode.{Mode}
 use Rattle.segment_manager.specs.Directory.{Directory, live}
-use Rattle.segment_manager.specs.Answers.{Blocks, Number}
+use Rattle.segment_manager.specs.Answers.{Number}
 use Rattle.segment_manager.specs.Calls.{IsTileOfIndex}
 use Rattle.segment_manager.specs.State.{State, StandsFor}
 use Rattle.segment_manager.specs.Step.{step}
 use Rattle.segment_manager.proofs.Laws.{live-size}
-use Rattle.segment_scripts.specs.Answer.{answer_text, block_words, line, listing}
+use Rattle.segment_scripts.specs.Answer.{block_words, line}
+use Rattle.segment_scripts.specs.Parts.{part_of}
+use Rattle.segment_scripts.proofs.Listings.{line_part}
 use Rattle.segment_scripts.proofs.Answering.{size_is}
-
--- the line of a block or gap, and the line behind all
-abbrev pub block_line : Span → List ℕ
-block_line s = line (block_words s)
-
-abbrev pub last_line : List ℕ
-last_line = line (codes "end" ∷ [])
-
--- what has gone out before the line at an index
-abbrev pub told : List Span → ℕ → List ℕ
-told ss i = flat_map block_line (take i ss)
-
--- ---- the text
-
-listing-lines : (ss : List Span) → listing block_words ss ≡ flat_map block_line ss ++ last_line
-listing-lines [] = refl
-listing-lines (s ∷ ss) = ap (λ l. block_line s ++ l) (listing-lines ss) ∙ sym (append_assoc (block_line s) (flat_map block_line ss) last_line)
-
-taken : (ss : List Span) (i : ℕ) (s : Span) → Some s ≡ slice_get ss i → take (i + 1) ss ≡ take i ss ++ s ∷ []
-taken ss i s e =
-    let within : i < length ss = slice_get_within ss i s (sym e) in
-    take_more ss i s within ∙ ap (λ t. take i ss ++ t ∷ []) (get_or_from_slice_get ss i s s (sym e))
-
--- one line more
-lines-more : (ss : List Span) (i : ℕ) (s : Span) → Some s ≡ slice_get ss i → told ss (i + 1) ≡ told ss i ++ block_line s
-lines-more ss i s e =
-    ap (flat_map block_line) (taken ss i s e) ∙ flat_map-append block_line (take i ss) (s ∷ []) ∙ ap (λ l. told ss i ++ l) (append-nil (block_line s))
-
--- behind all spans it ends
-listing-all : (ss : List Span) (i : ℕ) → length ss ≤ i → listing block_words ss ≡ told ss i ++ last_line
-listing-all ss i h = listing-lines ss ∙ ap (λ l. flat_map block_line l ++ last_line) (sym (take_all i ss h))
 
 none_more : (ss : List Span) (i : ℕ) → None ≡ slice_get ss i → length ss ≤ i
 none_more [] i e = omega arith
@@ -92,22 +57,25 @@ few_live l h =
 pub few_blocks : (d : Directory) → IsTrue (is_proper (live d)) → length (spans (live d)) ≤ d.size
 few_blocks d h = subst (λ n. length (spans (live d)) ≤ n) (live-size d) (few_live (live d) h)
 
--- ---- what went out of the segment whose blocks are listed
-
--- this is the next span, or there is none
-abbrev pub IsNext : List ℕ → ℕ → Span → Type 0
-IsNext b i s = (d : Directory) → StandsFor b d → Some s ≡ slice_get (spans (live d)) i
-
-abbrev pub IsEnd : List ℕ → ℕ → Type 0
-IsEnd b i = (d : Directory) → StandsFor b d → length (spans (live d)) ≤ i
+-- ---- which is next
 
 -- the tile at hand is one of the segment's
 pub tile_stands : (s : State) (i : ℕ) (t : Tile) (ahead : Option Tile) → IsTileOfIndex s i ahead → ahead ≡ Some t → IsTileOf s.cut.bytes t
 tile_stands s i t ahead h e = record { index = i; stands = sym h.tile ∙ e }
 
--- it is the next span
-pub next_is : (s : State) (i : ℕ) (t : Tile) (ahead : Option Tile) → IsTileOfIndex s i ahead → ahead ≡ Some t → IsNext s.cut.bytes i (span t)
-next_is s i t ahead h e d k = ap (option_map span) (sym e) ∙ h.span.answers d k
+-- it is the next span, and its line the next one
+module _ (s : State) (i : ℕ) (t : Tile) (ahead : Option Tile) (h : IsTileOfIndex s i ahead) (e : ahead ≡ Some t) where
+  next : (d : Directory) → StandsFor s.cut.bytes d → Some (span t) ≡ slice_get (spans (live d)) i
+  next d k = ap (option_map span) (sym e) ∙ h.span.answers d k
+
+  pub next_line : (d : Directory) → StandsFor s.cut.bytes d → line (block_words (span t)) ≡ line_part block_words (spans (live d)) i
+  next_line d k = ap (part_of (λ (x : Span). line (block_words x))) (next d k)
+
+  pub next_within : (d : Directory) → StandsFor s.cut.bytes d → i < length (spans (live d))
+  next_within d k = slice_get_within (spans (live d)) i (span t) (sym (next d k))
+
+abbrev pub IsEnd : List ℕ → ℕ → Type 0
+IsEnd b i = (d : Directory) → StandsFor b d → length (spans (live d)) ≤ i
 
 -- there is none
 pub end_is : (s : State) (i : ℕ) (ahead : Option Tile) → IsTileOfIndex s i ahead → ahead ≡ None → IsEnd s.cut.bytes i
@@ -119,31 +87,3 @@ ends_by_size b mode n i size h d k =
     let few = few_blocks d k.denotes.directory.proper in
     let same = size_is mode d n (size d k) in
     omega arith
-
-abbrev pub IsTold : List ℕ → Took → Took → ℕ → Type 0
-IsTold b old mid i = (d : Directory) → StandsFor b d → mid.bytes ≡ old.bytes ++ told (spans (live d)) i
-
-module _ (b : List ℕ) (old mid new : Took) (i : ℕ) (before : IsTold b old mid i) where
-  -- one line more went out
-  pub told_more : (s : Span) → IsNext b i s → new.bytes ≡ mid.bytes ++ block_line s → IsTold b old new (i + 1)
-  told_more s next e d h =
-      let ss = spans (live d) in
-      e ∙ ap (λ l. l ++ block_line s) (before d h) ∙ append_assoc old.bytes (told ss i) (block_line s) ∙ ap (λ l. old.bytes ++ l) (sym (lines-more ss i s (next d h)))
-
-  module _ (none_failed : mid.failures ≡ old.failures) {B F : Type 0} where
-    -- the writer failed in the line of a span
-    pub lines_cut : {A E : Type 0} (x : E) (result : Result B F) (s : Span) → IsErr result → IsNext b i s → Writes {A = A} mid new (Err x) (block_line s)
-        → (d : Directory) → StandsFor b d → Writes old new result (answer_text (Blocks (spans (live d))))
-    lines_cut {A} x result s failed next w d h =
-        let ss = spans (live d) in
-        let within : i < length ss = slice_get_within ss i s (sym (next d h)) in
-        let here = subst (λ (t : Span). Writes {A = A} mid new (Err x) (block_line t)) (sym (get_or_from_slice_get ss i s s (sym (next d h)))) w in
-        let all = writes-element {B = A} block_line ss i s old mid new x (Err x) within (before d h) none_failed refl here in
-        subst (λ text. Writes old new result text) (sym (listing-lines ss)) (writes-cut old new x result (flat_map block_line ss) last_line failed all)
-
-    -- all lines went out, and then the last one, or a front of it
-    pub lines_ended : (result : Result B F) → IsEnd b i → Writes mid new result last_line
-        → (d : Directory) → StandsFor b d → Writes old new result (answer_text (Blocks (spans (live d))))
-    lines_ended result end w d h =
-        let ss = spans (live d) in
-        subst (λ text. Writes old new result text) (sym (listing-all ss i (end d h))) (writes-behind old mid new result (told ss i) last_line (before d h) none_failed w)

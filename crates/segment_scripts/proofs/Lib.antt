@@ -12,6 +12,7 @@ mod Answering
 mod ElementCalls
 mod RowValues
 mod ShownObjects
+mod Listings
 mod ListedObjects
 mod InstanceLines
 mod BlockLines

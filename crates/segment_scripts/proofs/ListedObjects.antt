@@ -1,7 +1,5 @@
 -- The lines of objects in a listing.
-use Rattle.std.proofs.Common.{◌≡◌, ℕ, ◌+◌, ◌<◌, List, [], ◌∷◌, ◌++◌, length, Option, Some, None, Result, Ok, Err, refl, sym, ap, subst, ◌∙◌, append_assoc, arith}
-use Rattle.std.specs.Prelude.{codes}
-use Rattle.std.specs.List.{flat_map}
+use Rattle.std.proofs.Common.{◌≡◌, ℕ, List, [], ◌∷◌, ◌++◌, length, Option, Some, None, Result, Ok, Err, refl, sym, ap, ◌∙◌}
 use Rattle.seg_types.specs.declared.kinds.Kind.TheVariants.{Map}
 use Rattle.seg_types.specs.declared.kinds.ScalarKind.{ScalarKind}
 use Rattle.seg_types.specs.declared.refusals.Refusal.{Refusal}
@@ -13,30 +11,12 @@ use Rattle.segment_manager.specs.Directory.{Value, Numbers, Elements, Bytes, Pai
 use Rattle.segment_manager.specs.Instances.{IsInstance, IsMissing, SaysAt, SaysOf}
 use Rattle.segment_manager.specs.State.{Answers, State, StandsFor}
 use Rattle.segment_manager.specs.Contents.{sizes_at, sizes_of}
-use Rattle.std.specs.Result.{IsErr}
-use Rattle.raw_region.specs.Device.{Took, Writes}
-use Rattle.raw_region.proofs.Laws.{writes-cut, writes-then}
-use Rattle.segment_scripts.specs.Writing.{WritesFor}
-use Rattle.segment_scripts.proofs.Owed.{parts-cut, parts-more, writes_owed}
-use Rattle.segment_scripts.specs.Answer.{answer_text, class_words, entry_words, handle_text, line, listing, measure_words}
+use Rattle.segment_scripts.specs.Answer.{answer_text, class_words, entry_words, handle_text, line, measure_words}
 use Rattle.segment_scripts.specs.Replies.{told_at, told_of}
-use Rattle.segment_scripts.specs.Parts.{line_part, part_of, parts_until, said_words}
+use Rattle.segment_scripts.specs.Parts.{part_of, said_words}
 use Rattle.segment_scripts.specs.Shown.{length_in, number_words}
-use Rattle.segment_manager.proofs.PartLaws.{parts-all, well}
+use Rattle.segment_scripts.proofs.Listings.{line_part}
 use Rattle.segment_scripts.proofs.ShownObjects.{sizes_of_object}
-
-abbrev last_line : List ℕ
-last_line = line (codes "end" ∷ [])
-
-listing-lines : (words : Object → List (List ℕ)) (os : List Object) → listing words os ≡ flat_map (λ o. line (words o)) os ++ last_line
-listing-lines words [] = refl
-listing-lines words (o ∷ os) =
-    ap (λ l. line (words o) ++ l) (listing-lines words os) ∙ sym (append_assoc (line (words o)) (flat_map (λ o. line (words o)) os) last_line)
-
--- all lines, and then the last one
-listing-parts : (words : Object → List (List ℕ)) (os : List Object) (n : ℕ) → n ≡ length os → parts_until (line_part words os) n ++ last_line ≡ listing words os
-listing-parts words os n e =
-    ap (λ m. parts_until (line_part words os) m ++ last_line) e ∙ ap (λ l. l ++ last_line) (parts-all (λ o. line (words o)) os) ∙ sym (listing-lines words os)
 
 -- what is said of an object is printed as the object's words
 pub entry-said : (o : Object) (said : Instance) → IsInstance o said → said_words said ≡ entry_words o
@@ -49,51 +29,11 @@ pub unique-said : (o : Object) (said : Instance) → IsInstance o said → line 
 unique-said o said h = ap line (entry-said o said h)
 
 -- the line of an object at a place of an index is the part of the listing
-said-part : (s : State) (words : Object → List (List ℕ)) (objects : Directory → List Object) (i : ℕ) (said : Instance) (text : List ℕ) → SaysAt s objects i said
+pub said-part : (s : State) (words : Object → List (List ℕ)) (objects : Directory → List Object) (i : ℕ) (said : Instance) (text : List ℕ) → SaysAt s objects i said
     → ((o : Object) → IsInstance o said → text ≡ line (words o)) → (d : Directory) → StandsFor s.cut.bytes d → text ≡ line_part words (objects d) i
 said-part s words objects i said text h same d k =
     let o = h.says d k in
     same o.0 o.2 ∙ sym (ap (part_of (λ p. line (words p))) o.1)
-
--- ---- a listing of the objects of an index, line by line
-
--- a text that is cut is so whatever was to be written behind it
-writes-more : {B F : Type 0} (old new : Took) (result : Result B F) (a b : List ℕ) → IsErr result → Writes old new result a → Writes old new result (a ++ b)
-writes-more old new (Ok y) a b h w = absurd (cc h)
-writes-more old new (Err x) a b h w = writes-cut old new x (Err x) a b h w
-
-module _ (s : State) (words : Object → List (List ℕ)) (objects : Directory → List Object) {old mid : Took} (i : ℕ)
-    (before : WritesFor old mid well (StandsFor s.cut.bytes) (λ d. parts_until (line_part words (objects d)) i)) where
-  -- one line more, said by other words
-  module _ {said : Instance} (h : SaysAt s objects i said) {text : List ℕ} (same : (o : Object) → IsInstance o said → text ≡ line (words o)) where
-    pub listing-more : {B F : Type 0} {new : Took} {y : B} → Writes {E = F} mid new (Ok y) text → WritesFor old new well (StandsFor s.cut.bytes) (λ d. parts_until (line_part words (objects d)) (i + 1))
-    listing-more {new = new} {y = y} w =
-        parts-more (λ d. line_part words (objects d)) i before
-        (writes_owed mid new (Ok y) (StandsFor s.cut.bytes) text (λ d. line_part words (objects d) i) w (said-part s words objects i said text h same))
-
-    -- it is cut
-    pub listing-cut : {B C F G : Type 0} {new : Took} {x : F} {result : Result C G} (n : ℕ) → i < n → ((d : Directory) → StandsFor s.cut.bytes d → n ≡ length (objects d)) → Writes {A = B} mid new (Err x) text → IsErr result
-        → WritesFor old new result (StandsFor s.cut.bytes) (λ d. listing words (objects d))
-    listing-cut {B} {C} {F} {G} {new = new} {x = x} {result = result} n within all w failed =
-        let cut : WritesFor old new result (StandsFor s.cut.bytes) (λ d. parts_until (line_part words (objects d)) n) =
-        parts-cut (λ d. line_part words (objects d)) i before (λ _. n) (λ _ _. within)
-        (writes_owed mid new (Err x) (StandsFor s.cut.bytes) text (λ d. line_part words (objects d) i) w (said-part s words objects i said text h same)) failed in
-        record {
-          writes = λ d k.
-              subst (Writes old new result) (listing-parts words (objects d) n (all d k))
-              (writes-more old new result (parts_until (line_part words (objects d)) n) last_line failed (cut.writes d k));
-          counted = cut.counted;
-        }
-
-  -- all lines, and the last one
-  pub listing-done : {C G : Type 0} {new : Took} {result : Result C G} → ((d : Directory) → StandsFor s.cut.bytes d → i ≡ length (objects d)) → Writes mid new result last_line
-      → WritesFor old new result (StandsFor s.cut.bytes) (λ d. listing words (objects d))
-  listing-done {new = new} {result = result} all w = record {
-    writes = λ d k.
-        subst (Writes old new result) (listing-parts words (objects d) i (all d k))
-        (writes-then old mid new 0 result (parts_until (line_part words (objects d)) i) last_line (before.writes d k) w);
-    counted = omega (arith, before.counted, w.counted);
-  }
 
 -- ---- one object
 

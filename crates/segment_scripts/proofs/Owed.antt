@@ -10,18 +10,21 @@ use Rattle.segment_manager.proofs.PartLaws.{part-cut, part-told, well}
 use Rattle.segment_scripts.specs.Parts.{parts_until}
 use Rattle.segment_scripts.specs.Writing.{WritesFor}
 
-module _ {P A E : Type 0} (old new : Took) (result : Result A E) (Stands : P → Type 0) where
+module _ {P A E : Type 0} {old new : Took} {result : Result A E} {Stands : P → Type 0} where
   -- one text is owed wherever the machine stands
-  pub writes_owed : (text : List ℕ) (owed : P → List ℕ) → Writes old new result text → ((p : P) → Stands p → text ≡ owed p) → WritesFor old new result Stands owed
-  writes_owed text owed w same = record { writes = λ p s. subst (Writes old new result) (same p s) w; counted = w.counted }
+  pub writes_owed : {text : List ℕ} {owed : P → List ℕ} → Writes old new result text → ((p : P) → Stands p → text ≡ owed p) → WritesFor old new result Stands owed
+  writes_owed w same = record { writes = λ p s. subst (Writes old new result) (same p s) w; counted = w.counted }
 
   -- the same text by other words
-  pub writes_same : (said owed : P → List ℕ) → WritesFor old new result Stands said → ((p : P) → Stands p → said p ≡ owed p) → WritesFor old new result Stands owed
-  writes_same said owed w same = record { writes = λ p s. subst (Writes old new result) (same p s) (w.writes p s); counted = w.counted }
+  pub writes_same : {said owed : P → List ℕ} → WritesFor old new result Stands said → ((p : P) → Stands p → said p ≡ owed p) → WritesFor old new result Stands owed
+  writes_same w same = record { writes = λ p s. subst (Writes old new result) (same p s) (w.writes p s); counted = w.counted }
 
 -- where nothing is owed nothing is written
-pub writes_none : {A E : Type 0} (old : Took) (a : A) (text : List ℕ) → text ≡ [] → Writes {E = E} old old (Ok a) text
+writes_none : {A E : Type 0} (old : Took) (a : A) (text : List ℕ) → text ≡ [] → Writes {E = E} old old (Ok a) text
 writes_none old a text e = record { ok = sym (append-nil old.bytes) ∙ ap (λ t. old.bytes ++ t) (sym e); err = tt; counted = omega arith }
+
+pub nothing_owed : {P A E : Type 0} {old : Took} {a : A} {Stands : P → Type 0} {owed : P → List ℕ} → ((p : P) → Stands p → owed p ≡ []) → WritesFor {E = E} old old (Ok a) Stands owed
+nothing_owed {old = old} {a = a} {owed = owed} none = record { writes = λ p s. writes_none old a (owed p) (none p s); counted = omega arith }
 
 -- an error is one failure
 pub failures_in-err : {A E : Type 0} (result : Result A E) → IsErr result → failures_in result ≡ 1
@@ -58,7 +61,7 @@ module _ {P A E : Type 0} {Stands : P → Type 0} {old mid : Took} (front : List
 module _ {P : Type 0} {Stands : P → Type 0} (part : P → ℕ → List ℕ) {old : Took} where
   -- nothing has gone out before the first part
   pub parts-start : WritesFor old old well Stands (λ p. parts_until (part p) 0)
-  parts-start = record { writes = λ p s. writes_none old 0 [] refl; counted = omega arith }
+  parts-start = nothing_owed (λ p s. refl)
 
   module _ {mid : Took} (i : ℕ) (before : WritesFor old mid well Stands (λ p. parts_until (part p) i)) where
     -- one part more

@@ -24,8 +24,7 @@ stays s at BadSyntax h = record { mode = h.mode; denotes = h.denotes; zeros = h.
 pub responds-wrong : {A E : Type 0} {took took' : Took} {result : Result A E} {asked : Reading} (s : State) (e : LineError) → wrong_reading e ≡ asked → Writes took took' result (error_line e) → Responds s s took took' result asked
 responds-wrong {took = took} {took' = took'} {result = result} {asked = asked} s e is w = record {
   leads = λ at h. subst (λ (r : Reading). IsAt s (place_after at r)) is (stays s at e h);
-  writes = writes_owed took took' result (IsAt s) (error_line e) (λ (at : Place). (respond at.mode at.directory asked).0) w
-      (λ at h. printed at e ∙ ap (λ (r : Reading). (respond at.mode at.directory r).0) is);
+  writes = writes_owed w (λ at h. printed at e ∙ ap (λ (r : Reading). (respond at.mode at.directory r).0) is);
 }
 
 -- what the first word asks for is what the line asks for

@@ -103,7 +103,7 @@ module _ {A E : Type 0} {took took' : Took} {result : Result A E} {asked : Readi
   -- a number
   pub responds-number : (s : State) (c : Command) {n : ℕ} → is_changing c ≡ false → Asked c ≡ asked → IsReply s c (Number n) → Writes took took' result (answer_text (Number n)) → Responds s s took took' result asked
   responds-number s c {n} r e is w =
-      responds-read s c r e (writes_owed took took' result (StandsFor s.cut.bytes) (answer_text (Number n)) (λ d. answer_text (step s.mode d c).0) w (λ d st. ap answer_text (is.answers d st)))
+      responds-read s c r e (writes_owed w (λ d st. ap answer_text (is.answers d st)))
 
   -- a reply, which is written of what is there then
   pub responds-replied : {old new : State} {c : Command} {reply : Reply} → Asked c ≡ asked → Replies old new c reply → WritesFor took took' result (StandsFor new.cut.bytes) (λ d. answer_text (answer_seen d reply))

@@ -10,7 +10,7 @@ ghost use Rattle.segment_manager.specs.Directory.{Object, named_objects, unique_
 ghost use Rattle.segment_manager.specs.Located.{IsObject};
 ghost use Rattle.segment_manager.specs.State.{StandsFor};
 ghost use Rattle.segment_scripts.specs.Answer.{answer_text, class_words, entry_words, line};
-ghost use Rattle.segment_scripts.specs.Parts.{line_part, said_words};
+ghost use Rattle.segment_scripts.specs.Parts.{said_words};
 ghost use Rattle.segment_scripts.specs.Replies.{told_at};
 ghost use Rattle.segment_scripts.specs.Shown.{behind_text, class_text, number_words};
 ghost use Rattle.segment_scripts.specs.Writing.{WritesFor};

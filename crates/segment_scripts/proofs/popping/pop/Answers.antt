@@ -5,9 +5,7 @@ use Rattle.seg_types.specs.Commands.{Pop}
 use Rattle.seg_types.specs.Keys.{key_seen}
 use Rattle.seg_types.specs.Values.{kind_of_scalar, value_of_scalar}
 use Rattle.segment_manager.specs.Answers.{Element, Refused}
-use Rattle.segment_manager.specs.Directory.{Directory}
-use Rattle.segment_manager.specs.State.{StandsFor, scalar_answer}
-use Rattle.segment_manager.specs.Step.{step}
+use Rattle.segment_manager.specs.State.{scalar_answer}
 use Rattle.segment_scripts.specs.Answer.{answer_text}
 use Rattle.segment_manager.proofs.Laws.{located-steps, step-same}
 use Rattle.segment_scripts.proofs.Answering.{keeps-refused, kept-refused}
@@ -24,10 +22,7 @@ returns-in-Err-clause-executed g c =
 
 pub returns-in-Err-clause-writes : goal.returns-in-Err-clause-writes
 returns-in-Err-clause-writes g c =
-    let s = c.args.segment.now in
-    let key = key_seen c.args.key.now in
-    writes_owed (g.W.Sink.history c.args.out.now) (g.W.Sink.history c.put_refusal_line.new.out) c.put_refusal_line.result (StandsFor s.cut.bytes) (answer_text (Refused c.in-Err.why))
-    (λ (d : Directory). answer_text (step s.mode d (Pop key)).0) c.put_refusal_line.ensures (λ d st. ap answer_text ((pop-unchangeable c.in-Err.ensures).answers d st))
+    writes_owed c.put_refusal_line.ensures (λ d st. ap answer_text ((pop-unchangeable c.in-Err.ensures).answers d st))
 
 pub returns-in-Vector-clause-executed : goal.returns-in-Vector-clause-executed
 returns-in-Vector-clause-executed g c =
@@ -57,8 +52,7 @@ pub returns-in-Texts-clause-writes : goal.returns-in-Texts-clause-writes
 returns-in-Texts-clause-writes g c =
     let s = c.args.segment.now in
     let key = key_seen c.args.key.now in
-    writes_same (g.W.Sink.history c.args.out.now) (g.W.Sink.history c.pop_text.new.out) c.pop_text.result (StandsFor s.cut.bytes)
-    _ (λ (d : Directory). answer_text (step s.mode d (Pop key)).0) c.pop_text.ensures.writes
+    writes_same c.pop_text.ensures.writes
     (λ d st. ap (λ n. answer_text n.0) (step-same s key c.in-Ok.object c.in-Ok.ensures.located (Pop key) d st))
 
 pub returns-in_default-clause-executed : goal.returns-in_default-clause-executed
@@ -69,9 +63,6 @@ returns-in_default-clause-executed g c =
 
 pub returns-in_default-clause-writes : goal.returns-in_default-clause-writes
 returns-in_default-clause-writes g c =
-    let s = c.args.segment.now in
-    let key = key_seen c.args.key.now in
     let last = c.put_refusal_line-in_default in
-    writes_owed (g.W.Sink.history c.args.out.now) (g.W.Sink.history last.new.out) last.result (StandsFor s.cut.bytes) (answer_text (Refused WrongKind))
-    (λ (d : Directory). answer_text (step s.mode d (Pop key)).0) last.ensures
+    writes_owed last.ensures
     (λ d st. ap answer_text ((pop-no_vector c.in-Ok.ensures c.in_default.not-Vector c.in_default.not-Texts).answers d st))

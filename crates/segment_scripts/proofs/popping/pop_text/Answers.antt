@@ -2,9 +2,7 @@ use Rattle.std.proofs.Common.{◌∙◌, ap}
 use Rattle.seg_types.specs.declared.kinds.Kind.TheVariants.{Texts}
 use Rattle.seg_types.specs.Commands.{Pop}
 use Rattle.seg_types.specs.Names.{ByHandle}
-use Rattle.segment_manager.specs.Directory.{Directory}
-use Rattle.segment_manager.specs.State.{StandsFor, refusal_in}
-use Rattle.segment_manager.specs.Step.{step}
+use Rattle.segment_manager.specs.State.{refusal_in}
 use Rattle.segment_manager.proofs.Laws.{of_kind-leads_on}
 use Rattle.segment_scripts.specs.Answer.{answer_text}
 use Rattle.segment_scripts.specs.Replies.{text_at}
@@ -23,6 +21,5 @@ pub returns-clause-writes : goal.returns-clause-writes
 returns-clause-writes g c =
     let s = c.args.segment.now in
     let key = ByHandle c.args.object.handle in
-    writes_same (g.W.Sink.history c.args.out.now) (g.W.Sink.history c.put_text_at-written.new.out) c.put_text_at-written.result (StandsFor s.cut.bytes)
-    (λ (d : Directory). answer_text (text_at d key c.saturating_sub-last.result)) (λ (d : Directory). answer_text (step s.mode d (Pop key)).0) c.put_text_at-written.ensures
+    writes_same c.put_text_at-written.ensures
     (λ d st. ap (λ i. answer_text (text_at d key i)) c.saturating_sub-last.ensures ∙ ap answer_text (pop-text s key c.requires.of_kind.is c.length_of.result c.requires.of_kind.writing c.length_of.ensures d st))

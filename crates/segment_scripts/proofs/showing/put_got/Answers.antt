@@ -2,11 +2,8 @@ use Rattle.std.proofs.Common.{◌∙◌, Ok, ap, subst}
 use Rattle.seg_types.specs.Commands.{Get}
 use Rattle.seg_types.specs.Keys.{key_seen}
 use Rattle.seg_types.specs.Names.{ByHandle}
-use Rattle.segment_manager.specs.Answers.{Refused}
 use Rattle.segment_manager.specs.Calls.{kind_at}
-use Rattle.segment_manager.specs.Directory.{Directory}
-use Rattle.segment_manager.specs.State.{Answers, StandsFor, scalar_answer}
-use Rattle.segment_manager.specs.Step.{step}
+use Rattle.segment_manager.specs.State.{Answers, scalar_answer}
 use Rattle.segment_manager.proofs.Laws.{kind-by_key, kind-no_texts, located-here, scalars-replies, step-same}
 use Rattle.segment_scripts.specs.Answer.{answer_text}
 use Rattle.segment_scripts.proofs.Owed.{writes_owed, writes_same}
@@ -20,8 +17,7 @@ returns-in-Texts g c =
     let o = c.in-Ok.object in
     let handle = ByHandle o.handle in
     let l = c.in-Ok.ensures in
-    writes_same (g.W.Sink.history c.args.out.now) (g.W.Sink.history c.put_text_at.new.out) c.put_text_at.result (StandsFor s.cut.bytes)
-    _ (λ (d : Directory). answer_text (step s.mode d (Get key c.args.index)).0) c.put_text_at.ensures
+    writes_same c.put_text_at.ensures
     (λ d k.
     ap answer_text (get-text s handle (subst (λ n. Answers s (λ d. kind_at d handle) (Ok n)) c.in-Texts.is (kind-by_key s handle o (located-here s key o l))) c.args.index d k)
     ∙ ap (λ n. answer_text n.0) (step-same s key o l (Get key c.args.index) d k))
@@ -34,14 +30,12 @@ returns-in_default g c =
     let handle = ByHandle o.handle in
     let l = c.in-Ok.ensures in
     let r = scalars-replies s handle c.args.index (scalar_answer c.get_any.result) (kind-no_texts s handle o.kind (kind-by_key s handle o (located-here s key o l)) c.in_default.not-Texts) c.get_any.ensures in
-    writes_same (g.W.Sink.history c.args.out.now) (g.W.Sink.history c.put_answer.new.out) c.put_answer.result (StandsFor s.cut.bytes)
-    _ (λ (d : Directory). answer_text (step s.mode d (Get key c.args.index)).0) c.put_answer.ensures
+    writes_same c.put_answer.ensures
     (λ d k. ap answer_text (c.element.ensures d ∙ r.answers d k) ∙ ap (λ n. answer_text n.0) (step-same s key o l (Get key c.args.index) d k))
 
 pub returns-in-Err : goal.returns-in-Err
 returns-in-Err g c =
     let s = c.args.segment.now in
     let key = key_seen c.args.key.now in
-    writes_owed (g.W.Sink.history c.args.out.now) (g.W.Sink.history c.put_refusal_line.new.out) c.put_refusal_line.result (StandsFor s.cut.bytes)
-    (answer_text (Refused c.in-Err.why)) (λ (d : Directory). answer_text (step s.mode d (Get key c.args.index)).0) c.put_refusal_line.ensures
+    writes_owed c.put_refusal_line.ensures
     (λ d k. ap answer_text (get-missing s key c.in-Err.why c.in-Err.ensures c.args.index d k))

@@ -1,11 +1,6 @@
 use Rattle.std.proofs.Common.{ap}
 use Rattle.seg_types.specs.Keys.{key_seen}
-use Rattle.segment_manager.specs.Answers.{Refused}
 use Rattle.segment_manager.specs.Calls.{elements_of}
-use Rattle.segment_manager.specs.Directory.{Directory}
-use Rattle.segment_manager.specs.State.{StandsFor}
-use Rattle.segment_scripts.specs.Answer.{answer_text}
-use Rattle.segment_scripts.specs.Replies.{shown_at}
 use Rattle.segment_scripts.proofs.Owed.{writes_owed, writes_same}
 use Rattle.segment_manager.proofs.CommandLaws.{says-kind}
 use Rattle.segment_manager.proofs.Laws.{located-here}
@@ -18,8 +13,7 @@ put_value_line-requires-clause-elements g c = scalars-at c.args.segment.now (key
 pub returns-in-Scalar : goal.returns-in-Scalar
 returns-in-Scalar g c =
     let s = c.args.segment.now in
-    writes_same (g.W.Sink.history c.args.out.now) (g.W.Sink.history c.put_value_line.new.out) c.put_value_line.result (StandsFor s.cut.bytes)
-    _ (λ (d : Directory). answer_text (shown_at d (key_seen c.args.key.now))) c.put_value_line.ensures
+    writes_same c.put_value_line.ensures
     (scalars-said s (key_seen c.args.key.now) c.in-Ok.object c.in-Ok.ensures c.in-Scalar.field-0 c.from.result c.in-Scalar.is c.from.ensures)
 
 pub put_value_line-requires-in-Vector-clause-elements : goal.put_value_line-requires-in-Vector-clause-elements
@@ -28,22 +22,19 @@ put_value_line-requires-in-Vector-clause-elements g c = scalars-at c.args.segmen
 pub returns-in-Vector : goal.returns-in-Vector
 returns-in-Vector g c =
     let s = c.args.segment.now in
-    writes_same (g.W.Sink.history c.args.out.now) (g.W.Sink.history c.put_value_line-in-Vector.new.out) c.put_value_line-in-Vector.result (StandsFor s.cut.bytes)
-    _ (λ (d : Directory). answer_text (shown_at d (key_seen c.args.key.now))) c.put_value_line-in-Vector.ensures
+    writes_same c.put_value_line-in-Vector.ensures
     (vector-said s (key_seen c.args.key.now) c.in-Ok.object c.in-Ok.ensures c.in-Vector.field-0 c.length_of.result c.in-Vector.is c.length_of.ensures)
 
 pub returns-in-Text : goal.returns-in-Text
 returns-in-Text g c =
     let s = c.args.segment.now in
-    writes_same (g.W.Sink.history c.args.out.now) (g.W.Sink.history c.put_string_line.new.out) c.put_string_line.result (StandsFor s.cut.bytes)
-    _ (λ (d : Directory). answer_text (shown_at d (key_seen c.args.key.now))) c.put_string_line.ensures
+    writes_same c.put_string_line.ensures
     (string-said s (key_seen c.args.key.now) c.in-Ok.object c.in-Ok.ensures c.in-Text.is)
 
 pub returns-in-Texts : goal.returns-in-Texts
 returns-in-Texts g c =
     let s = c.args.segment.now in
-    writes_same (g.W.Sink.history c.args.out.now) (g.W.Sink.history c.put_texts_line.new.out) c.put_texts_line.result (StandsFor s.cut.bytes)
-    _ (λ (d : Directory). answer_text (shown_at d (key_seen c.args.key.now))) c.put_texts_line.ensures
+    writes_same c.put_texts_line.ensures
     (texts-said s (key_seen c.args.key.now) c.in-Ok.object c.in-Ok.ensures c.length_of-in-Texts.result c.in-Texts.is c.length_of-in-Texts.ensures)
 
 pub put_map_line-requires-clause-map : goal.put_map_line-requires-clause-map
@@ -52,13 +43,10 @@ put_map_line-requires-clause-map g c = says-kind (located-here c.args.segment.no
 pub returns-in-Map : goal.returns-in-Map
 returns-in-Map g c =
     let s = c.args.segment.now in
-    writes_same (g.W.Sink.history c.args.out.now) (g.W.Sink.history c.put_map_line.new.out) c.put_map_line.result (StandsFor s.cut.bytes)
-    _ (λ (d : Directory). answer_text (shown_at d (key_seen c.args.key.now))) c.put_map_line.ensures
+    writes_same c.put_map_line.ensures
     (map-said s (key_seen c.args.key.now) c.in-Ok.object c.in-Ok.ensures c.in-Map.keys c.in-Map.values c.length_of-count.result c.in-Map.is c.length_of-count.ensures)
 
 pub returns-in-Err : goal.returns-in-Err
 returns-in-Err g c =
     let s = c.args.segment.now in
-    writes_owed (g.W.Sink.history c.args.out.now) (g.W.Sink.history c.put_refusal_line.new.out) c.put_refusal_line.result (StandsFor s.cut.bytes)
-    (answer_text (Refused c.in-Err.why)) (λ (d : Directory). answer_text (shown_at d (key_seen c.args.key.now))) c.put_refusal_line.ensures
-    (shown-missing s (key_seen c.args.key.now) c.in-Err.why c.in-Err.ensures)
+    writes_owed c.put_refusal_line.ensures (shown-missing s (key_seen c.args.key.now) c.in-Err.why c.in-Err.ensures)

@@ -1,13 +1,10 @@
-use Rattle.std.proofs.Common.{◌∷◌, sym, ap, subst, arith}
+use Rattle.std.proofs.Common.{◌∷◌, sym, ap, subst}
 use Rattle.std.proofs.lemmas.List.{append-nil}
 use Rattle.raw_region.specs.Device.{Writes}
 use Rattle.seg_types.specs.Names.{ByHandle}
 use Rattle.segment_lang.specs.Texts.{quoted_text}
-use Rattle.segment_manager.specs.Directory.{Directory}
-use Rattle.segment_manager.specs.State.{StandsFor}
 use Rattle.segment_scripts.specs.Parts.{element_part}
-use Rattle.segment_scripts.specs.Replies.{text_at}
-use Rattle.segment_scripts.proofs.Owed.{writes_none, writes_owed}
+use Rattle.segment_scripts.proofs.Owed.{nothing_owed, writes_owed}
 use Rattle.segment_scripts.proofs.TextElements.{text-asked}
 use Rattle.segment_scripts.proofs.showing.put_text.Goals as goal
 
@@ -16,16 +13,8 @@ returns-in-Ok g c =
     let s = c.args.segment.now in
     let old = g.W.Sink.history c.args.out.now in
     let new = g.W.Sink.history c.put_pieces.new.out in
-    writes_owed old new c.put_pieces.result (StandsFor s.cut.bytes) (0x20 ∷ quoted_text c.in-Ok.text.now)
-    (λ (d : Directory). element_part (text_at d (ByHandle c.args.object.handle) c.args.index))
-    (subst (λ t. Writes old new c.put_pieces.result (0x20 ∷ t)) (append-nil (quoted_text c.in-Ok.text.now)) c.put_pieces.ensures)
+    writes_owed (subst (λ t. Writes old new c.put_pieces.result (0x20 ∷ t)) (append-nil (quoted_text c.in-Ok.text.now)) c.put_pieces.ensures)
     (λ d k. ap element_part (text-asked s (ByHandle c.args.object.handle) c.args.index _ c.in-Ok.ensures d k))
 
 pub returns-in-Err : goal.returns-in-Err
-returns-in-Err g c =
-    let s = c.args.segment.now in
-    record {
-      writes = λ d k. writes_none (g.W.Sink.history c.args.out.now) tt (element_part (text_at d (ByHandle c.args.object.handle) c.args.index))
-          (sym (ap element_part (text-asked s (ByHandle c.args.object.handle) c.args.index _ c.in-Err.ensures d k)));
-      counted = omega arith;
-    }
+returns-in-Err g c = nothing_owed (λ d k. sym (ap element_part (text-asked c.args.segment.now (ByHandle c.args.object.handle) c.args.index _ c.in-Err.ensures d k)))

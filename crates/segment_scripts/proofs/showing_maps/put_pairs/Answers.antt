@@ -10,7 +10,7 @@ use Rattle.segment_manager.proofs.PartLaws.{well}
 use Rattle.segment_scripts.specs.Parts.{part_of}
 use Rattle.segment_scripts.specs.ShownPairs.{item_text, pair_part, pairs_text}
 use Rattle.segment_scripts.specs.Writing.{WritesFor}
-use Rattle.segment_scripts.proofs.Owed.{parts-cut, parts-done, parts-more, parts-start, writes_none, writes_owed}
+use Rattle.segment_scripts.proofs.Owed.{nothing_owed, parts-cut, parts-done, parts-more, parts-start, writes_owed}
 use Rattle.segment_scripts.proofs.showing_maps.put_pairs.Goals as goal
 use Rattle.segment_scripts.proofs.showing_maps.put_pairs.Goals.{in-Some+in_ok-put_pair, in_default}
 
@@ -28,8 +28,7 @@ returns-in_err-put_pair g c =
     let n : IsNext s c.args.object.handle c.args.keys c.args.values (Some (c.in-Some.key, c.in-Some.value)) i = λ d l. ap (option_map item_seen) (sym c.in-Some.is) ∙ was.next d l (omega (arith, c.pairs-test.true)) in
     parts-cut (λ d i. part_of (pair_part c.args.keys c.args.values) (slice_get (pairs_at d (ByHandle c.args.object.handle)) i)) i was.told
     (λ _. c.args.count) (λ _ _. omega (arith, c.pairs-test.true))
-    (writes_owed (g.W.Sink.history c.pairs.out) (g.W.Sink.history c.put_pair.new.out) _ (StandsFor s.cut.bytes) (item_text (item_seen (c.in-Some.key, c.in-Some.value)))
-    (λ d. part_of (pair_part c.args.keys c.args.values) (slice_get (pairs_at d (ByHandle c.args.object.handle)) i)) c.in_err-put_pair.ensures
+    (writes_owed c.in_err-put_pair.ensures
     (pair-said s c.args.object.handle c.args.keys c.args.values i c.in-Some.key c.in-Some.value n item_text))
     c.from_residual.ensures.0
 
@@ -52,8 +51,7 @@ pairs-preserved g c =
             told =
                 subst (λ o. WritesFor (g.W.Sink.history c.args.out.now) (g.W.Sink.history o) well (StandsFor s.cut.bytes) (λ d. pairs_text c.args.keys c.args.values d (ByHandle c.args.object.handle) (i + 1))) (sym w.out-is)
                 (parts-more (λ d i. part_of (pair_part c.args.keys c.args.values) (slice_get (pairs_at d (ByHandle c.args.object.handle)) i)) i was.told
-                (writes_owed mid (g.W.Sink.history w.put_pair.new.out) _ (StandsFor s.cut.bytes) (item_text (item_seen (w.in-Some.key, w.in-Some.value)))
-                (λ d. part_of (pair_part c.args.keys c.args.values) (slice_get (pairs_at d (ByHandle c.args.object.handle)) i)) w.in_ok-put_pair.ensures
+                (writes_owed w.in_ok-put_pair.ensures
                 (pair-said s c.args.object.handle c.args.keys c.args.values i w.in-Some.key w.in-Some.value n item_text)));
             next = λ d l less.
                 ap (option_map item_seen) w.next-is
@@ -63,7 +61,7 @@ pairs-preserved g c =
           let none : c.pairs.next ≡ None = no-pair c.pairs.next w.in_default.not-Some in
           let n : IsNext s c.args.object.handle c.args.keys c.args.values None i = λ d l. ap (option_map item_seen) (sym none) ∙ was.next d l (omega (arith, c.pairs-test.true)) in
           let nothing : WritesFor mid mid well (StandsFor s.cut.bytes) (λ d. part_of (pair_part c.args.keys c.args.values) (slice_get (pairs_at d (ByHandle c.args.object.handle)) i)) =
-          record { writes = λ d l. writes_none mid 0 _ (sym (none-text s c.args.object.handle c.args.keys c.args.values i n item_text d l)); counted = omega arith } in
+          nothing_owed (λ d l. sym (none-text s c.args.object.handle c.args.keys c.args.values i n item_text d l)) in
           record {
             told =
                 subst (λ o. WritesFor (g.W.Sink.history c.args.out.now) (g.W.Sink.history o) well (StandsFor s.cut.bytes) (λ d. pairs_text c.args.keys c.args.values d (ByHandle c.args.object.handle) (i + 1))) (sym w.out-is)

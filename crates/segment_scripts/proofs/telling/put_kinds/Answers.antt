@@ -1,9 +1,9 @@
 use Rattle.std.proofs.Common.{arith}
 use Rattle.segment_manager.specs.Directory.{unique_objects}
 use Rattle.segment_scripts.specs.Answer.{entry_words}
-use Rattle.segment_scripts.specs.Parts.{line_part}
 use Rattle.segment_scripts.proofs.Answering.{unique_is}
-use Rattle.segment_scripts.proofs.ListedObjects.{listing-cut, listing-done, listing-more, unique-said}
+use Rattle.segment_scripts.proofs.ListedObjects.{unique-said, said-part}
+use Rattle.segment_scripts.proofs.Listings.{listing-cut, listing-done, listing-more, line_part}
 use Rattle.segment_scripts.proofs.Owed.{parts-start}
 use Rattle.segment_scripts.proofs.telling.put_kinds.Goals as goal
 
@@ -18,13 +18,14 @@ unique_instance-requires g c = record {
 pub kinds-preserved : goal.kinds-preserved
 kinds-preserved g c =
     listing-more c.args.segment.now entry_words unique_objects c.kinds.index c.kinds.invariant
-    c.unique_instance.ensures (λ o h. unique-said o c.unique_instance.result h) c.in_ok-put_unique.ensures
+    (said-part c.args.segment.now entry_words unique_objects c.kinds.index c.unique_instance.result _ c.unique_instance.ensures (λ o h. unique-said o c.unique_instance.result h))
+    c.in_ok-put_unique.ensures
 
 pub returns-in_err-put_unique : goal.returns-in_err-put_unique
 returns-in_err-put_unique g c =
     listing-cut c.args.segment.now entry_words unique_objects c.kinds.index c.kinds.invariant
-    c.unique_instance.ensures (λ o h. unique-said o c.unique_instance.result h) c.num_unique-index-end.result c.kinds-test.true
-    (λ d k. unique_is c.args.segment.now.mode d c.num_unique-index-end.result (c.num_unique-index-end.ensures.answers d k))
+    (said-part c.args.segment.now entry_words unique_objects c.kinds.index c.unique_instance.result _ c.unique_instance.ensures (λ o h. unique-said o c.unique_instance.result h))
+    (λ d k. omega (arith, c.kinds-test.true, unique_is c.args.segment.now.mode d c.num_unique-index-end.result (c.num_unique-index-end.ensures.answers d k)))
     c.in_err-put_unique.ensures c.from_residual.ensures.0
 
 pub returns : goal.returns

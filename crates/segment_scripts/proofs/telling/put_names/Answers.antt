@@ -2,9 +2,9 @@ use Rattle.std.proofs.Common.{◌∷◌, arith}
 use Rattle.segment_lang.specs.Texts.{name_text}
 use Rattle.segment_manager.specs.Directory.{Object, named_objects}
 use Rattle.segment_scripts.specs.Answer.{entry_words}
-use Rattle.segment_scripts.specs.Parts.{line_part}
 use Rattle.segment_scripts.proofs.Answering.{named_is}
-use Rattle.segment_scripts.proofs.ListedObjects.{listing-cut, listing-done, listing-more, named-said}
+use Rattle.segment_scripts.proofs.ListedObjects.{named-said, said-part}
+use Rattle.segment_scripts.proofs.Listings.{listing-cut, listing-done, listing-more, line_part}
 use Rattle.segment_scripts.proofs.Owed.{parts-start}
 use Rattle.segment_scripts.proofs.telling.put_names.Goals as goal
 
@@ -19,13 +19,14 @@ named_instance-requires g c = record {
 pub names-preserved : goal.names-preserved
 names-preserved g c =
     listing-more c.args.segment.now (λ (o : Object). name_text o.name ∷ entry_words o) named_objects c.names.index c.names.invariant
-    c.named_instance.ensures (λ o h. named-said o c.named_instance.result h) c.in_ok-put_named.ensures
+    (said-part c.args.segment.now (λ (o : Object). name_text o.name ∷ entry_words o) named_objects c.names.index c.named_instance.result _ c.named_instance.ensures (λ o h. named-said o c.named_instance.result h))
+    c.in_ok-put_named.ensures
 
 pub returns-in_err-put_named : goal.returns-in_err-put_named
 returns-in_err-put_named g c =
     listing-cut c.args.segment.now (λ (o : Object). name_text o.name ∷ entry_words o) named_objects c.names.index c.names.invariant
-    c.named_instance.ensures (λ o h. named-said o c.named_instance.result h) c.num_named-index-end.result c.names-test.true
-    (λ d k. named_is c.args.segment.now.mode d c.num_named-index-end.result (c.num_named-index-end.ensures.answers d k))
+    (said-part c.args.segment.now (λ (o : Object). name_text o.name ∷ entry_words o) named_objects c.names.index c.named_instance.result _ c.named_instance.ensures (λ o h. named-said o c.named_instance.result h))
+    (λ d k. omega (arith, c.names-test.true, named_is c.args.segment.now.mode d c.num_named-index-end.result (c.num_named-index-end.ensures.answers d k)))
     c.in_err-put_named.ensures c.from_residual.ensures.0
 
 pub returns : goal.returns

@@ -4,8 +4,9 @@ use Rattle.segment_manager.specs.Directory.{Object, named_objects}
 use Rattle.segment_manager.specs.State.{StandsFor}
 use Rattle.segment_manager.proofs.PartLaws.{well}
 use Rattle.segment_scripts.specs.Answer.{entry_words}
-use Rattle.segment_scripts.specs.Parts.{line_part, parts_until}
+use Rattle.segment_scripts.specs.Parts.{parts_until}
 use Rattle.segment_scripts.specs.Writing.{WritesFor}
+use Rattle.segment_scripts.proofs.Listings.{line_part}
 use Rattle.segment_scripts.proofs.telling.put_names.Given as goal
 
 abbrev pub invariant-names : goal.invariant-names

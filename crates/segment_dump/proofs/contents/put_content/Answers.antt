@@ -5,7 +5,8 @@ use Rattle.segment_manager.specs.Directory.{Directory}
 use Rattle.segment_dump.specs.Owed.{lines_at}
 use Rattle.segment_dump.proofs.Elements.{scalars-at, scalars-said, string-said, strings-said, vector-said}
 use Rattle.segment_dump.proofs.Owed.{of-same}
-use Rattle.segment_dump.proofs.WalkedPairs.{map-at, map-said}
+use Rattle.segment_manager.proofs.CommandLaws.{says-kind}
+use Rattle.segment_dump.proofs.WalkedPairs.{map-said}
 use Rattle.segment_dump.proofs.contents.put_content.Goals as goal
 
 pub put_elements-requires-clause-elements : goal.put_elements-requires-clause-elements
@@ -35,7 +36,7 @@ returns-in-Texts g c =
     (strings-said c.args.segment.now c.args.object c.requires.object c.args.count c.requires.count c.in-Texts.is)
 
 pub put_pairs-requires-clause-map : goal.put_pairs-requires-clause-map
-put_pairs-requires-clause-map g c = map-at c.args.segment.now c.args.object c.requires.object c.in-Map.keys c.in-Map.values c.in-Map.is
+put_pairs-requires-clause-map g c = says-kind c.requires.object c.in-Map.is
 
 pub returns-in-Map : goal.returns-in-Map
 returns-in-Map g c =

@@ -4,12 +4,12 @@ use Rattle.std.specs.Prelude.{option_map}
 use Rattle.std.proofs.lemmas.Bool.{lt-ltb}
 use Rattle.seg_types.specs.Names.{ByHandle}
 use Rattle.segment_manager.specs.Walks.{item_seen}
-use Rattle.segment_dump.specs.Asked.{pair_part}
+use Rattle.segment_dump.specs.Asked.{pair_part, walked_line}
 use Rattle.segment_dump.specs.Owed.{WritesOf}
 use Rattle.segment_dump.specs.Parts.{parts_until}
 use Rattle.segment_dump.proofs.PartLines.{well}
 use Rattle.segment_dump.proofs.Owed.{of-all, of-cut_in, of-more, of-none, of-one, of-start}
-use Rattle.segment_dump.proofs.WalkedPairs.{IsNext, map-of-key, next-behind, next-first, next-none, no-pair, none-text, pair-said}
+use Rattle.segment_manager.proofs.NextPairs.{IsNext, map-of-key, next-behind, next-first, next-none, no-pair, none-text, pair-said}
 use Rattle.segment_dump.proofs.pairs.put_pairs.Goals as goal
 use Rattle.segment_dump.proofs.pairs.put_pairs.Goals.{in-Some+in_ok-put_pair, in_default}
 
@@ -29,7 +29,7 @@ returns-in_err-put_pair g c =
     let n : IsNext s c.args.object.handle c.args.keys c.args.values (Some (c.in-Some.key, c.in-Some.value)) i = λ d l. ap (option_map item_seen) (sym c.in-Some.is) ∙ was.next d l (omega (arith, c.pairs-test.true)) in
     of-cut_in s (λ d. pair_part c.args.keys c.args.values d (ByHandle c.args.object.handle)) (g.W.Sink.history c.args.out.now) mid new i was.told c.args.count (omega (arith, c.pairs-test.true)) _
     (of-one s mid new _ _ (λ d. pair_part c.args.keys c.args.values d (ByHandle c.args.object.handle) i) c.in_err-put_pair.ensures
-    (pair-said s c.args.object.handle c.args.keys c.args.values i c.in-Some.key c.in-Some.value n))
+    (pair-said s c.args.object.handle c.args.keys c.args.values i c.in-Some.key c.in-Some.value n walked_line))
     c.from_residual.result c.from_residual.ensures.0
 
 pub pairs-init : goal.pairs-init
@@ -53,7 +53,7 @@ pairs-preserved g c =
                 subst (λ o. WritesOf s old (g.W.Sink.history o) well (λ d. parts_until (pair_part c.args.keys c.args.values d (ByHandle c.args.object.handle)) (i + 1))) (sym w.out-is)
                 (of-more s (λ d. pair_part c.args.keys c.args.values d (ByHandle c.args.object.handle)) old mid (g.W.Sink.history w.put_pair.new.out) i was.told _
                 (of-one s mid (g.W.Sink.history w.put_pair.new.out) _ _ (λ d. pair_part c.args.keys c.args.values d (ByHandle c.args.object.handle) i) w.in_ok-put_pair.ensures
-                (pair-said s c.args.object.handle c.args.keys c.args.values i w.in-Some.key w.in-Some.value n)));
+                (pair-said s c.args.object.handle c.args.keys c.args.values i w.in-Some.key w.in-Some.value n walked_line)));
             next = λ d l less.
                 ap (option_map item_seen) w.next-is
                 ∙ next-behind s c.args.object.handle c.args.keys c.args.values i w.in-Some.key w.in-Some.value n w.pair_behind-next.result (w.pair_behind-next.ensures (lt-ltb (i + 1) c.args.count less)) d l;
@@ -64,7 +64,7 @@ pairs-preserved g c =
           record {
             told =
                 let nothing : WritesOf s mid mid well (λ d. pair_part c.args.keys c.args.values d (ByHandle c.args.object.handle) i) =
-                of-none s mid 0 (λ d. pair_part c.args.keys c.args.values d (ByHandle c.args.object.handle) i) (λ d l. sym (none-text s c.args.object.handle c.args.keys c.args.values i n d l)) in
+                of-none s mid 0 (λ d. pair_part c.args.keys c.args.values d (ByHandle c.args.object.handle) i) (λ d l. sym (none-text s c.args.object.handle c.args.keys c.args.values i n walked_line d l)) in
                 subst (λ o. WritesOf s old (g.W.Sink.history o) well (λ d. parts_until (pair_part c.args.keys c.args.values d (ByHandle c.args.object.handle)) (i + 1))) (sym w.out-is)
                 (of-more s (λ d. pair_part c.args.keys c.args.values d (ByHandle c.args.object.handle)) old mid mid i was.told 0 nothing);
             next = λ d l less. ap (option_map item_seen) (w.next-is ∙ none) ∙ next-none s c.args.object.handle c.args.keys c.args.values i n d l;

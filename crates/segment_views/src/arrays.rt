@@ -1,5 +1,5 @@
 //! One scalar of a type, or an array of them, in a segment that may be changed, looked up once.
-ghost use Rattle.std.specs.Prelude.{◌≡◌, map};
+ghost use Rattle.std.specs.Prelude.{map};
 ghost use Rattle.seg_types.specs.declared.kinds.Kind.TheVariants.{Scalar as ScalarOf};
 ghost use Rattle.seg_types.specs.Commands.{Set, literal_of};
 ghost use Rattle.segment_manager.specs.ElementLists.{array_at, array_length_at};

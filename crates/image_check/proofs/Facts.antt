@@ -9,10 +9,10 @@ pub use Rattle.image_check.proofs.EntriesNoted.{targets-split}
 pub use Rattle.image_check.proofs.HeadBytes.{element-spelled, named-right, padding-read}
 pub use Rattle.image_check.proofs.IndexOrdered.{entry-among, entry-some}
 pub use Rattle.image_check.proofs.MapPairs.{size-least, size-most}
-pub use Rattle.image_check.proofs.Members.{find_mem}
+pub use Rattle.image_check.proofs.Members.{find_mem, list_all_mem}
 pub use Rattle.image_check.proofs.ObjectTested.{no-room, room-wider}
 pub use Rattle.image_check.proofs.ObjectsRight.{heads-of, right-from, wrong-named, wrong-tiles, wrong-unique}
-pub use Rattle.image_check.proofs.Ranges.{all-broken, all-further, split}
+pub use Rattle.image_check.proofs.Ranges.{all-broken, all-further, all-map, split}
 pub use Rattle.image_check.proofs.Ranked.{last_of, last-of-more, ranked-broken, ranked-more}
 pub use Rattle.image_check.proofs.CountedFields.{Contains-Mem, Mem-Contains}
 pub use Rattle.image_check.proofs.Members.{Mem, mem_filter, mem_filter_map, mem_of_filter, mem_of_filter_map, mem_right}

@@ -30,6 +30,13 @@ use-is t (Some s) r e h = ap Some (sym (same_role-is r s h))
 role-of : (t : Tile) (r : Role) → is_use r t ≡ true → t.use_of ≡ Some r
 role-of t r h = use-is t t.use_of r refl h
 
+-- the value of an object is among all
+pub value-mem : (format : ℕ) (m : Memory) (ts : List Tile) (t : Tile) (kind : Kind) → Mem t ts → is_use Object t ≡ true → kind_at format m (payload t) ≡ Some kind → Contains (values format m ts) (kind, value_offset m (payload t))
+value-mem format m ts t kind h u e =
+    Mem-Contains (values format m ts) (kind, value_offset m (payload t))
+    (mem_filter_map (λ t. option_map (λ k. (k, value_offset m (payload t))) (kind_at format m (payload t))) t (kind, value_offset m (payload t)) (object_tiles ts) (mem_filter (is_use Object) t ts h u)
+    (ap (option_map (λ k. (k, value_offset m (payload t)))) e))
+
 module _ (b : List ℕ) (tiles : HasTiles b) where
   abbrev m : Memory
   m = bytes_of b
@@ -55,12 +62,6 @@ module _ (b : List ℕ) (tiles : HasTiles b) where
   storage-node at n l k = let e = one-role Storage Node n l.1.0 k.1.0 l.1.1 k.1.1 in absurd (cc)
 
   -- ---- the values of objects
-
-  value-mem : (t : Tile) (kind : Kind) → Mem t ts → is_use Object t ≡ true → kind_at current m (payload t) ≡ Some kind → Contains (values current m ts) (kind, value_offset m (payload t))
-  value-mem t kind h u e =
-      Mem-Contains (values current m ts) (kind, value_offset m (payload t))
-      (mem_filter_map (λ t. option_map (λ k. (k, value_offset m (payload t))) (kind_at current m (payload t))) t (kind, value_offset m (payload t)) (object_tiles ts) (mem_filter (is_use Object) t ts h u)
-      (ap (option_map (λ k. (k, value_offset m (payload t)))) e))
 
   -- the object whose value it is
   record IsValueOf (kind : Kind) (at : ℕ) : Type 0 where
@@ -162,7 +163,7 @@ module _ (b : List ℕ) (tiles : HasTiles b) where
   tiles-count : (at target : ℕ) → FromTiles current m ts ts at target → Counts current m ts at target
   tiles-count at target f =
       let r = mem-from ts at target f in
-      value-counts r.from.kind (value_offset m (payload r.tile)) at target (value-mem r.tile r.from.kind r.among r.from.object r.from.is) r.from.value
+      value-counts r.from.kind (value_offset m (payload r.tile)) at target (value-mem current m ts r.tile r.from.kind r.among r.from.object r.from.is) r.from.value
 
   index-counts : (at target : ℕ) → (at ≡ 32) ⊎ (at ≡ 56) → 0 < index_capacity m at → LeadsTo m ts Index at target → Counts current m ts at target
   index-counts at target (inl e) h l = subst (λ x. Counts current m ts x target) (sym e) (Counts.named (subst (λ x. 0 < index_capacity m x) e h) (subst (λ x. LeadsTo m ts Index x target) e l))

@@ -7,3 +7,5 @@ mod ObjectOrder
 mod Searched
 mod Counted
 mod Linked
+mod Contained
+mod MapWalks

@@ -16,14 +16,16 @@ use Rattle.image_check.specs.declared.classes.ImageClass.TheVariants.{Truncated,
 use Rattle.image_check.specs.Classes.{classes, class_of, holds, number_of}
 use Rattle.image_check.specs.EarlyTests.{has_front, has_magic, has_reserved, has_size, has_version, is_tiled, is_truncated, is_zero, size_word}
 use Rattle.image_explain.specs.Explains.{IsShown}
-use Rattle.image_check.specs.Fields.{is_orphaned, is_shared}
+use Rattle.image_check.specs.Fields.{has_containers, is_orphaned, is_shared}
 use Rattle.image_check.specs.ObjectTests.{has_indexes, has_objects}
 use Rattle.image_check.specs.Passes.{HasTiles, tiles_in}
+use Rattle.image_explain.specs.ContainerPlaces.{IsWrongContainer}
 use Rattle.image_explain.specs.IndexPlaces.{IsWrongIndex}
 use Rattle.image_explain.specs.ObjectPlaces.{IsWrongObject}
 use Rattle.image_explain.specs.OwnerPlaces.{IsOrphanAt, IsSharedAt}
 use Rattle.image_explain.specs.Shows.{IsFirstFilled, IsFirstOther, Shows, has_place, said_tiles, shown_size}
 use Rattle.image_explain.specs.WrongTags.{StopsAt}
+use Rattle.image_explain.proofs.Contained.{container-wrong}
 use Rattle.image_explain.proofs.Entries.{index-wrong}
 use Rattle.image_explain.proofs.Linked.{orphan-wrong, shared-wrong}
 use Rattle.image_explain.proofs.ObjectOrder.{object-wrong}
@@ -222,13 +224,13 @@ object-shown b place h f = by-place place (h (has-indexes b BadObject (omega ari
         let t = tiled-class b BadObject (omega arith) f in
         record { given = λ h. refl; shows = (t.tiled, subst (λ ts. IsWrongObject current (bytes_of b) ts at) t.same h) }
 
--- ---- shared blocks and orphans
+-- ---- shared blocks, containers and orphans
 
 module _ (b : List ℕ) (k : ImageClass) (Is : List Tile → ℕ → Type 0) (not_always : has_place k ≡ false) where
-  pub none-shown : IsShown b k None
+  none-shown : IsShown b k None
   none-shown = record { given = λ h. absurd (true≢false (sym h ∙ not_always)); shows = tt }
 
-  pub some-shown : (place : Option ℕ) → 7 ≤ number_of k → ((at : ℕ) → IsTrue (is_tiled current b) → Is (said_tiles b) at → Shows b k at) → IfSome place (Is (tiles_in b)) → class_of current b ≡ Some k
+  some-shown : (place : Option ℕ) → 7 ≤ number_of k → ((at : ℕ) → IsTrue (is_tiled current b) → Is (said_tiles b) at → Shows b k at) → IfSome place (Is (tiles_in b)) → class_of current b ≡ Some k
       → IsShown b k place
   some-shown None n f h c = none-shown
   some-shown (Some at) n f h c =
@@ -237,6 +239,9 @@ module _ (b : List ℕ) (k : ImageClass) (Is : List Tile → ℕ → Type 0) (no
 
 pub shared-shown : (b : List ℕ) (place : Option ℕ) → IfSome place (IsSharedAt current (bytes_of b) (tiles_in b)) → class_of current b ≡ Some SharedBlock → IsShown b SharedBlock place
 shared-shown b place h c = some-shown b SharedBlock (IsSharedAt current (bytes_of b)) refl place (omega arith) (λ at t s. (t, s)) h c
+
+pub container-shown : (b : List ℕ) (place : Option ℕ) → IfSome place (IsWrongContainer current (bytes_of b) (tiles_in b)) → class_of current b ≡ Some BadContainer → IsShown b BadContainer place
+container-shown b place h c = some-shown b BadContainer (IsWrongContainer current (bytes_of b)) refl place (omega arith) (λ at t s. (t, s)) h c
 
 pub orphan-shown : (b : List ℕ) (place : Option ℕ) → IfSome place (IsOrphanAt current (bytes_of b) (tiles_in b)) → class_of current b ≡ Some OrphanBlock → IsShown b OrphanBlock place
 orphan-shown b place h c = some-shown b OrphanBlock (IsOrphanAt current (bytes_of b)) refl place (omega arith) (λ at t s. (t, s)) h c
@@ -287,5 +292,5 @@ places_show b BadFreeTree at h = h.1
 places_show b BadIndex at h = and_from (is_tiled current b) (not (has_indexes (bytes_of b) (said_tiles b))) h.0 (ap not (index-wrong (bytes_of b) (said_tiles b) at h.1))
 places_show b BadObject at h = and_from (is_tiled current b) (not (has_objects current (bytes_of b) (said_tiles b))) h.0 (ap not (object-wrong current (bytes_of b) (said_tiles b) at h.1))
 places_show b SharedBlock at h = and_from (is_tiled current b) (is_shared current (bytes_of b) (said_tiles b)) h.0 (shared-wrong current (bytes_of b) (size_word b) at h.0 h.1)
-places_show b BadContainer at h = absurd h
+places_show b BadContainer at h = and_from (is_tiled current b) (not (has_containers current (bytes_of b) (said_tiles b))) h.0 (ap not (container-wrong current (bytes_of b) (said_tiles b) at h.1))
 places_show b OrphanBlock at h = and_from (is_tiled current b) (is_orphaned current (bytes_of b) (said_tiles b)) h.0 (orphan-wrong current (bytes_of b) (size_word b) at h.0 h.1)

@@ -5,5 +5,7 @@ pub mod IndexPlaces
 pub mod ObjectPlaces
 pub mod Searches
 pub mod OwnerPlaces
+pub mod ContainerPlaces
+pub mod Walks
 pub mod Shows
 pub mod Explains

@@ -9,6 +9,7 @@ use Rattle.image_check.specs.declared.classes.ImageClass.{ImageClass}
 use Rattle.image_check.specs.declared.classes.ImageClass.TheVariants.{Truncated, BadMagic, UnsupportedVersion, BadSize, BadReserved, BadTag, BadFreeTree, BadIndex, BadObject, SharedBlock, BadContainer, OrphanBlock}
 use Rattle.image_check.specs.Classes.{holds}
 use Rattle.image_check.specs.EarlyTests.{has_magic, has_size, has_version, is_tiled, is_truncated, size_word}
+use Rattle.image_explain.specs.ContainerPlaces.{IsWrongContainer}
 use Rattle.image_explain.specs.IndexPlaces.{IsWrongIndex}
 use Rattle.image_explain.specs.ObjectPlaces.{IsWrongObject}
 use Rattle.image_explain.specs.OwnerPlaces.{IsOrphanAt, IsSharedAt}
@@ -35,10 +36,10 @@ shown_size b = if is_legal_size (size_word b) then size_word b else 16
 abbrev pub said_tiles : List ℕ → List Tile
 said_tiles b = tiles_of (bytes_of b) (size_word b)
 
--- The place that shows a class, and that it does: the end of what is too short; the first byte that is not the magic's; the version; the size that is
--- none, or else the first byte behind it; the first reserved byte that is not zero; the first tag that is wrong; the root link of the
--- free tree; the word or entry of an index that is wrong; and the first object that is wrong, or else an entry of an index out of order. Of a
--- class from the tenth on no place is said.
+-- The place that shows a class, and that it does: the end of what is too short; the first byte that is not the magic's; the version; the
+-- size that is none, or else the first byte behind it; the first reserved byte that is not zero; the first tag that is wrong; the root link of
+-- the free tree; the word or entry of an index that is wrong; the first object that is wrong, or else an entry of an index out of order; a link
+-- that leads where another does; an object whose container is wrong; and a block to which no link leads.
 abbrev pub Shows : List ℕ → ImageClass → ℕ → Type 0
 Shows b Truncated at = (at ≡ length b) × IsTrue (is_truncated current b)
 Shows b BadMagic at = IsFirstOther b (codes "MSEGFILE") at × (has_magic b ≡ false)
@@ -50,7 +51,7 @@ Shows b BadFreeTree at = (at ≡ 24) × IsTrue (holds current b BadFreeTree)
 Shows b BadIndex at = IsTrue (is_tiled current b) × IsWrongIndex (bytes_of b) (said_tiles b) at
 Shows b BadObject at = IsTrue (is_tiled current b) × IsWrongObject current (bytes_of b) (said_tiles b) at
 Shows b SharedBlock at = IsTrue (is_tiled current b) × IsSharedAt current (bytes_of b) (said_tiles b) at
-Shows b BadContainer at = ⊥
+Shows b BadContainer at = IsTrue (is_tiled current b) × IsWrongContainer current (bytes_of b) (said_tiles b) at
 Shows b OrphanBlock at = IsTrue (is_tiled current b) × IsOrphanAt current (bytes_of b) (said_tiles b) at
 
 -- whether a place is said of each image of the class

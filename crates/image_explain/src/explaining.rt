@@ -8,12 +8,14 @@ ghost use Rattle.image_check.specs.EarlyTests.{has_magic, has_reserved};
 ghost use Rattle.image_check.specs.ObjectTests.{has_indexes, has_objects};
 ghost use Rattle.image_check.specs.Passes.{HasTiles, tiles_in};
 ghost use Rattle.image_explain.specs.Explains.{Explains, IsShown, words_of};
+ghost use Rattle.image_explain.specs.ContainerPlaces.{IsWrongContainer};
 ghost use Rattle.image_explain.specs.IndexPlaces.{IsWrongIndex};
 ghost use Rattle.image_explain.specs.ObjectPlaces.{IsWrongObject};
 ghost use Rattle.image_explain.specs.OwnerPlaces.{IsOrphanAt, IsSharedAt};
 ghost use Rattle.image_explain.specs.Shows.{IsFirstFilled, IsFirstOther, shown_size};
 ghost use Rattle.image_explain.specs.WrongTags.{StopsAt};
 
+use crate::containers::container_place;
 use crate::indexes::index_place;
 use crate::objects::object_place;
 use crate::owners::{orphan_place, shared_place};
@@ -52,8 +54,8 @@ const MAGIC: &[u8; 8] = b"MSEGFILE";
 /// Why an image of a class is refused, and the place that shows it. That is for the bytes that were found to have the class:
 /// where they have another one, the place says nothing.
 ///
-/// A place is always said of the classes before the tenth, and mostly of those with shared blocks or orphans; of containers only the
-/// words are.
+/// A place is always said of the classes before the tenth. Of the last three one is said where it was found, which it is not behind
+/// 64 nodes of a map in a row, and of a map not where the order of its keys or the colours of its nodes are wrong.
 pub fn explain(image: &[u8], class: ImageClass) -> Explanation
     ensures { Explains image.now class result }
 {
@@ -81,7 +83,7 @@ fn place_of(image: &[u8], class: ImageClass) -> Option<u64>
         ImageClass::BadIndex => shown_index(image),
         ImageClass::BadObject => shown_object(image),
         ImageClass::SharedBlock => shown_shared(image),
-        ImageClass::BadContainer => None,
+        ImageClass::BadContainer => shown_container(image),
         ImageClass::OrphanBlock => shown_orphan(image),
     }
 }
@@ -175,6 +177,17 @@ fn shown_shared(image: &[u8]) -> Option<u64>
         return None;
     }
     shared_place(image)
+}
+
+/// An object whose container is wrong, or nothing where the tags are or none was found.
+fn shown_container(image: &[u8]) -> Option<u64>
+    requires { 144 ≤ length image.now }
+    ensures { IfSome result (IsWrongContainer current (bytes_of image.now) (tiles_in image.now)) }
+{
+    if !has_tiles(image) {
+        return None;
+    }
+    container_place(image)
 }
 
 /// A block to which no link leads, or nothing where the tags are wrong or none was found.

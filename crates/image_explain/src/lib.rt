@@ -2,9 +2,11 @@
 #![tactic(auto)]
 
 mod blocks;
+mod containers;
 mod explaining;
 mod heads;
 mod indexes;
+mod maps;
 mod objects;
 mod owners;
 mod searching;

@@ -1,6 +1,6 @@
-use Rattle.std.proofs.Common.{None, Some, length, arith, refl}
+use Rattle.std.proofs.Common.{Some, length, arith}
 use Rattle.image_check.specs.declared.classes.ImageClass.TheVariants.{Truncated, BadMagic, UnsupportedVersion, BadSize, BadReserved, BadTag, BadFreeTree, BadIndex, BadObject, SharedBlock, BadContainer, OrphanBlock}
-use Rattle.image_explain.proofs.Places.{at-class, has-tiles, index-shown, magic-shown, none-shown, object-shown, orphan-shown, reserved-shown, shared-shown, size-shown, tag-shown, tree-shown, truncated-shown, version-shown}
+use Rattle.image_explain.proofs.Places.{at-class, container-shown, has-tiles, index-shown, magic-shown, object-shown, orphan-shown, reserved-shown, shared-shown, size-shown, tag-shown, tree-shown, truncated-shown, version-shown}
 use Rattle.image_explain.proofs.explaining.place_of.Goals as goal
 
 pub returns-in-BadMagic : goal.returns-in-BadMagic
@@ -59,4 +59,6 @@ returns-in-OrphanBlock c =
     at-class b c.args.class OrphanBlock c.shown_orphan.result c.in-OrphanBlock.is (orphan-shown b c.shown_orphan.result c.shown_orphan.ensures)
 
 pub returns-in-BadContainer : goal.returns-in-BadContainer
-returns-in-BadContainer c = at-class c.args.image.now c.args.class BadContainer None c.in-BadContainer.is (λ f. none-shown c.args.image.now BadContainer (λ ts at. Unit {0}) refl)
+returns-in-BadContainer c =
+    let b = c.args.image.now in
+    at-class b c.args.class BadContainer c.shown_container.result c.in-BadContainer.is (container-shown b c.shown_container.result c.shown_container.ensures)

@@ -1,5 +1,5 @@
 -- Balancing keeps black heights and leaves no red pair.
-use Rattle.std.proofs.Common.{◌≡◌, ℕ, zero, suc, Bool, true, false, ◌&&◌, cond, refl, inl, inr}
+use Rattle.std.proofs.Common.{◌≡◌, ℕ, zero, suc, Bool, true, false, ◌&&◌, cond, refl, inl, inr, not, ap}
 use Rattle.std.proofs.lemmas.Bool.{false≢true, and_parts, cases_Bool, not-false}
 use Rattle.link_tree.specs.Tree.{Tree, leaf, fork, has_black_root, has_no_red_pair, has_black_height, IsRedBlack}
 use Rattle.link_tree.specs.Sides.{opposite, tree_on, joined_at}
@@ -164,6 +164,17 @@ pub blackened_same : (t : Tree) → has_black_root t ≡ true → blackened t �
 blackened_same leaf k = refl
 blackened_same (fork false l n r) k = refl
 blackened_same (fork true l n r) k = absurd (false≢true k)
+
+-- with its root made black, a tree that is nearly even is red-black
+pub blackened_red_black : (t : Tree) (b : ℕ) → IsNearlyEven t b
+    → (has_black_root t ≡ true → has_no_red_pair t ≡ true) → IsRedBlack (blackened t)
+blackened_red_black t b e pairs =
+    elim (cases_Bool (has_black_root t)) [
+      | inl q ↦ rw (blackened_same t q) (record { root = q; no_red_pair = pairs q; black = (b, e.black) })
+      | inr q ↦
+          let even = blackened_even t b e (ap not q) in
+          record { root = blackened_root t; no_red_pair = even.no_red_pair; black = (suc b, even.black) }
+    ]
 
 pub black_root_join : (side : Side) (near : Tree) (n : ℕ) (far : Tree)
     → has_black_root (joined_at side false near n far) ≡ true

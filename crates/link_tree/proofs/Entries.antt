@@ -1,15 +1,16 @@
 -- Above the node where an insertion begins nothing changes.
 use Rattle.std.proofs.Common.{◌≡◌, ℕ, Bool, true, false, not, Option, Some, None, [], ◌∷◌, refl, sym, ap, ◌∙◌, subst, inl, inr}
-use Rattle.std.proofs.lemmas.Bool.{true≢false, false≢true, cases_Bool}
+use Rattle.std.proofs.lemmas.Bool.{true≢false, cases_Bool}
 use Rattle.link_tree.specs.Tree.{Cell, Tree, leaf, fork, nodes_of, Holds, IsSearchTree, rises, has_black_root, has_no_red_pair}
 use Rattle.link_tree.specs.Nodes.{is_in, has_place, put}
 use Rattle.link_tree.specs.Sides.{joined_at, side_of}
-use Rattle.link_tree.specs.Turning.{Turned, rebalanced, balanced_inner, balanced_outer}
+use Rattle.link_tree.specs.Turning.{Turned, rebalanced}
 use Rattle.link_tree.specs.Growing.{Grows, grown}
 use Rattle.link_tree.specs.Ways.{entry_of, entry_over}
 use Rattle.link_tree.specs.declared.visits.Side.{Side}
 use Rattle.link_tree.specs.declared.visits.Side.TheVariants.{Left, Right}
 use Rattle.link_tree.proofs.Orders.{IsStrict}
+use Rattle.link_tree.proofs.Turns.{outer_same}
 use Rattle.link_tree.proofs.Trees.{IsChanged, some_same, none_some}
 use Rattle.link_tree.proofs.Beginnings.{Begins, begins_deeper, begins_here, begun}
 use Rattle.link_tree.proofs.Joints.{joint_of, apart_of, in_near}
@@ -17,16 +18,6 @@ use Rattle.link_tree.proofs.Colours.{even_tree, IsEven, IsEvenFork, even_fork, u
 use Rattle.link_tree.proofs.Growth.{grown_even, grown-joined, nodes_of-grown, rises_put, placed_apart, place_part, out_of}
 
 -- ---- balancing where there is no red pair
-
-inner_same : (side : Side) (a : Tree) (m : ℕ) (b : Tree) (n : ℕ) (far : Tree) → has_black_root b ≡ true
-    → balanced_inner side a m b n far ≡ joined_at side false (joined_at side true a m b) n far
-inner_same side a m leaf n far k = refl
-inner_same side a m (fork false p i q) n far k = refl
-inner_same side a m (fork true p i q) n far k = absurd (false≢true k)
-
-outer_same : (side : Side) (a : Tree) (m : ℕ) (b : Tree) (n : ℕ) (far : Tree) → has_black_root a ≡ true
-    → has_black_root b ≡ true → balanced_outer side a m b n far ≡ joined_at side false (joined_at side true a m b) n far
-outer_same side a m b n far j k = let e = ap not j in rw e (inner_same side a m b n far k)
 
 -- under a black root a tree without a red pair stays as it is
 black_same : (side : Side) (near : Tree) (n : ℕ) (far : Tree) → has_no_red_pair near ≡ true

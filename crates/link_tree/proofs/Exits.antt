@@ -46,11 +46,6 @@ shrunk_red lt x (fork true l n r) k =
       ]
     ]
 
--- a node over what has not fallen
-settled_still : (side : Side) (red : Bool) (rest : Rest) (n : ℕ) (far : Tree) → rest.fell ≡ false
-    → settled side red rest n far ≡ record { tree = joined_at side red rest.tree n far; fell = false }
-settled_still side red rest n far e = rw e refl
-
 -- ---- where a removal begins
 
 -- the node is found below, or here, with a red one next
@@ -80,8 +75,7 @@ module _ {lt : ℕ → ℕ → Bool} (strict : IsStrict lt) (h : ℕ → Cell) (
   over_still : (side : Side) (red : Bool) (near : Tree) (n : ℕ) (far : Tree) → nat_eq n x ≡ false
       → side_of (lt x n) ≡ side → (shrunk lt x near).fell ≡ false → shrunk lt x (joined_at side red near n far)
       ≡ record { tree = joined_at side red (shrunk lt x near).tree n far; fell = false }
-  over_still side red near n far d s f = shrunk-joined strict x side red near n far d s
-      ∙ settled_still side red (shrunk lt x near) n far f
+  over_still side red near n far d s f = shrunk-joined strict x side red near n far d s ∙ rw f refl
 
   turned_here : (side : Side) (red : Bool) (near : Tree) (n : ℕ) (far : Tree)
       → Holds h (joined_at side red near n far) → rises lt (nodes_of (joined_at side red near n far)) ≡ true

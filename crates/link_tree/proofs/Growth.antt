@@ -14,7 +14,7 @@ use Rattle.link_tree.proofs.Trees.{IsChanged}
 use Rattle.link_tree.proofs.Beginnings.{blackened_whole}
 use Rattle.link_tree.proofs.Joints.{fork_joined, Makes, parted, cell_at, with_red-same, with_red-other, with_child-other, with_child-near, in_near, in_far, in_root, outside_all, nodes_of-joined, nodes_of-painted, nodes_of-turn}
 use Rattle.link_tree.proofs.Turns.{graft}
-use Rattle.link_tree.proofs.Colours.{even_tree, IsEven, IsNearlyEven, red_nearly, rebalanced_even, rebalanced_red, red_of_join, nearly_even, under_red, sides_of_red, sides_of_black, blackened_even, blackened_root, blackened_same}
+use Rattle.link_tree.proofs.Colours.{blackened_red_black, even_tree, IsEven, IsNearlyEven, red_nearly, rebalanced_even, rebalanced_red, red_of_join, nearly_even, under_red, sides_of_red, sides_of_black}
 
 -- ---- lists
 
@@ -217,15 +217,8 @@ module _ (lt : ℕ → ℕ → Bool) (x : ℕ) where
   -- with its root made black, the tree is red-black again
   pub grown_red_black : (t : Tree) → IsRedBlack t → IsRedBlack (blackened (grown lt x t))
   grown_red_black t k =
-      let b = k.black.0 in
-      let e = grown_even t b (even_tree t k) in
-      elim (cases_Bool (has_black_root (grown lt x t))) [
-        | inl q ↦ rw (blackened_same (grown lt x t) q)
-            (record { root = q; no_red_pair = e.even k.root; black = (b, e.nearly.black) })
-        | inr q ↦
-            let even = blackened_even (grown lt x t) b e.nearly (ap not q) in
-            record { root = blackened_root (grown lt x t); no_red_pair = even.no_red_pair; black = (suc b, even.black) }
-      ]
+      let e = grown_even t k.black.0 (even_tree t k) in
+      blackened_red_black (grown lt x t) k.black.0 e.nearly (λ q. e.even k.root)
 
 -- ---- cells
 

@@ -1,7 +1,7 @@
 -- The removal keeps order, colours and black heights.
 use Rattle.std.proofs.Common.{◌≡◌, ℕ, suc, ◌+◌, Bool, true, false, not, cond, List, [], ◌∷◌, ◌++◌, nat_eq, refl, sym, ap, ◌∙◌, inl, inr, arith}
 use Rattle.std.specs.List.{list_all}
-use Rattle.std.proofs.lemmas.Bool.{true≢false, false≢true, and_parts, and_from, or_cases, or_parts, or_left, or_right, cases_Bool, eqb-true, eqb-false, eq-eqb, ne_eqb, not-false, false_from_ne_true}
+use Rattle.std.proofs.lemmas.Bool.{true≢false, false≢true, and_parts, and_from, or_cases, or_parts, or_left, or_right, cases_Bool, eqb-true, eqb-false, eq-eqb, ne_eqb, false_from_ne_true}
 use Rattle.link_tree.specs.Tree.{Tree, leaf, fork, nodes_of, rises, has_black_root, has_no_red_pair, has_black_height, IsRedBlack}
 use Rattle.link_tree.specs.Nodes.{is_in, without}
 use Rattle.link_tree.specs.Sides.{opposite, tree_on, joined_at}
@@ -11,7 +11,7 @@ use Rattle.link_tree.specs.declared.visits.Side.{Side}
 use Rattle.link_tree.specs.declared.visits.Side.TheVariants.{Left, Right}
 use Rattle.link_tree.proofs.Orders.{IsStrict, rises_split, all_at, all_from, is_in-append, in_left, in_right, not_left, not_right}
 use Rattle.link_tree.proofs.Joints.{fork_joined, joined_opposite, nodes_of-joined, nodes_of-joined_far, nodes_of-painted, nodes_of-turn}
-use Rattle.link_tree.proofs.Colours.{even_tree, IsEven, IsNearlyEven, black_join, black_root_join, red_join, rebalanced_even, nearly_even, under_red, sides_of_red, even_fork, blackened_even, blackened_root, blackened_same}
+use Rattle.link_tree.proofs.Colours.{blackened_red_black, even_tree, IsEven, IsNearlyEven, black_join, black_root_join, red_join, rebalanced_even, nearly_even, under_red, sides_of_red, even_fork, blackened_even, blackened_root}
 use Rattle.link_tree.proofs.Growth.{nodes_of-rebalanced}
 use Rattle.std.proofs.lemmas.List.{append-nil}
 
@@ -190,15 +190,11 @@ reddened_even leaf b e k = absurd (no_black b e.black)
 reddened_even (fork true l n r) b e k = absurd (false≢true k)
 reddened_even (fork false l n r) b e k = record { children = e.no_red_pair; black = e.black }
 
--- two trees under a red root
-record HasBlackSides (side : Side) (l r : Tree) : Type 0 where
-  near_root : has_black_root (tree_on side l r) ≡ true
-  far_root : has_black_root (tree_on (opposite side) l r) ≡ true
-
-black_sides : (side : Side) (l : Tree) (n : ℕ) (r : Tree) → has_no_red_pair (fork true l n r) ≡ true
-    → HasBlackSides side l r
-black_sides Left l n r e = let u = under_red l n r e in record { near_root = u.left_root; far_root = u.right_root }
-black_sides Right l n r e = let u = under_red l n r e in record { near_root = u.right_root; far_root = u.left_root }
+-- the far tree under a red root
+far_black : (side : Side) (l : Tree) (n : ℕ) (r : Tree) → has_no_red_pair (fork true l n r) ≡ true
+    → has_black_root (tree_on (opposite side) l r) ≡ true
+far_black Left l n r e = (under_red l n r e).right_root
+far_black Right l n r e = (under_red l n r e).left_root
 
 mended_even : (side : Side) (red : Bool) (near : Tree) (n : ℕ) (far : Tree) (b : ℕ) → IsEven near (suc b) → IsEven far b
     → (red ≡ true → has_black_root near ≡ true) → IsRestEven (not red) (mended_at side red near n far)
@@ -219,37 +215,32 @@ mended_even side false (fork false l m r) n far b e f k = record {
 mended_even side true (fork true l m r) n far b e f k = absurd (false≢true (k refl))
 mended_even side false (fork true l m r) n far b e f k =
     let s = sides_of_red side l m r (suc b) (nearly_even (fork true l m r) (suc b) e) in
-    let u = black_sides side l m r e.no_red_pair in
-    let low = reddened_even (tree_on (opposite side) l r) b s.far_even u.far_root in
-    let inner = rebalanced_even side (reddened (tree_on (opposite side) l r)) n far b low f in
+    let a = tree_on side l r in
+    let c = reddened (tree_on (opposite side) l r) in
+    let d = rebalanced side (joined_at side false c n far) in
+    let low = reddened_even (tree_on (opposite side) l r) b s.far_even (far_black side l m r e.no_red_pair) in
     record {
       level = suc (suc b);
-      even = black_join side (tree_on side l r) m
-          (rebalanced side (joined_at side false (reddened (tree_on (opposite side) l r)) n far)) (suc b) s.near_even
-          inner;
+      even = black_join side a m d (suc b) s.near_even (rebalanced_even side c n far b low f);
       total = omega arith;
-      root = λ q g. black_root_join side (tree_on side l r) m
-          (rebalanced side (joined_at side false (reddened (tree_on (opposite side) l r)) n far));
+      root = λ q g. black_root_join side a m d;
     }
 
 done_even : (side : Side) (red : Bool) (near : Tree) (n : ℕ) (far : Tree) (b : ℕ) → IsEven near b → IsEven far b
     → (red ≡ true → has_black_root near ≡ true) → (red ≡ true → has_black_root far ≡ true)
     → IsRestEven (not red) (record { tree = joined_at side red near n far; fell = false }) (cond red b (suc b))
-done_even side true near n far b e f k m =
-    record {
-      level = b;
-      even = red_join side near n far b e f (k refl) (m refl);
-      total = omega arith;
-      root = λ q g.
-          absurd (false≢true q);
-    }
-done_even side false near n far b e f k m =
-    record {
-      level = suc b;
-      even = black_join side near n far b e f;
-      total = omega arith;
-      root = λ q g. black_root_join side near n far;
-    }
+done_even side true near n far b e f k m = record {
+  level = b;
+  even = red_join side near n far b e f (k refl) (m refl);
+  total = omega arith;
+  root = λ q g. absurd (false≢true q);
+}
+done_even side false near n far b e f k m = record {
+  level = suc b;
+  even = black_join side near n far b e f;
+  total = omega arith;
+  root = λ q g. black_root_join side near n far;
+}
 
 settled_even : (side : Side) (red black : Bool) (rest : Rest) (n : ℕ) (far : Tree) (b : ℕ) → IsRestEven black rest b
     → IsEven far b → (red ≡ true → black ≡ true) → (red ≡ true → has_black_root far ≡ true)
@@ -312,15 +303,6 @@ shrunk_even lt x (fork red l n r) b e =
 pub shrunk_red_black : (lt : ℕ → ℕ → Bool) (x : ℕ) (t : Tree) → IsRedBlack t
     → IsRedBlack (blackened (shrunk lt x t).tree)
 shrunk_red_black lt x t k =
-    let b = k.black.0 in
-    let e = shrunk_even lt x t b (even_tree t k) in
+    let e = shrunk_even lt x t k.black.0 (even_tree t k) in
     let u = (shrunk lt x t).tree in
-    elim (cases_Bool (is_red_tree u)) [
-      | inl q ↦
-          let even = blackened_even u e.level (nearly_even u e.level e.even) q in
-          record { root = blackened_root u; no_red_pair = even.no_red_pair; black = (suc e.level, even.black) }
-      | inr q ↦
-          let black = not-false (has_black_root u) q in
-          rw (blackened_same u black)
-          (record { root = black; no_red_pair = e.even.no_red_pair; black = (e.level, e.even.black) })
-    ]
+    blackened_red_black u e.level (nearly_even u e.level e.even) (λ q. e.even.no_red_pair)

@@ -1,10 +1,10 @@
 -- Rotations and recolourings of cells do to trees what their names say.
-use Rattle.std.proofs.Common.{◌≡◌, ℕ, Bool, true, false, Option, Some, List, refl, sym, ap, ◌∙◌, subst}
-use Rattle.std.proofs.lemmas.Bool.{true≢false, false≢true}
-use Rattle.link_tree.specs.Tree.{Cell, Tree, leaf, fork, root_of, nodes_of, Holds, IsTree, rises}
+use Rattle.std.proofs.Common.{◌≡◌, ℕ, Bool, true, false, Option, Some, List, refl, sym, ap, ◌∙◌, subst, not}
+use Rattle.std.proofs.lemmas.Bool.{true≢false, false≢true, not-false}
+use Rattle.link_tree.specs.Tree.{has_black_root, Cell, Tree, leaf, fork, root_of, nodes_of, Holds, IsTree, rises}
 use Rattle.link_tree.specs.Nodes.{is_in, with_red}
 use Rattle.link_tree.specs.Sides.{opposite, child_of, with_child, tree_on, joined_at}
-use Rattle.link_tree.specs.Turning.{Turned, blackened, painted, lifted, rebalanced, is_red_tree}
+use Rattle.link_tree.specs.Turning.{balanced_inner, balanced_outer, Turned, blackened, painted, lifted, rebalanced, is_red_tree}
 use Rattle.link_tree.specs.declared.visits.Side.{Side}
 use Rattle.link_tree.specs.declared.visits.Side.TheVariants.{Left, Right}
 use Rattle.link_tree.proofs.Orders.{IsStrict}
@@ -139,16 +139,24 @@ rebalanced-inner : (side : Side) (a : Tree) (m : ℕ) (p : Tree) (k : ℕ) (q : 
 rebalanced-inner Left a m p k q n far e = rw e refl
 rebalanced-inner Right a m p k q n far e = rw e refl
 
+-- where there is no red pair nothing is turned
+inner_same : (side : Side) (a : Tree) (m : ℕ) (b : Tree) (n : ℕ) (far : Tree) → has_black_root b ≡ true
+    → balanced_inner side a m b n far ≡ joined_at side false (joined_at side true a m b) n far
+inner_same side a m leaf n far k = refl
+inner_same side a m (fork false p i q) n far k = refl
+inner_same side a m (fork true p i q) n far k = absurd (false≢true k)
+
+pub outer_same : (side : Side) (a : Tree) (m : ℕ) (b : Tree) (n : ℕ) (far : Tree) → has_black_root a ≡ true
+    → has_black_root b ≡ true → balanced_outer side a m b n far ≡ joined_at side false (joined_at side true a m b) n far
+outer_same side a m b n far j k = let e = ap not j in rw e (inner_same side a m b n far k)
+
 rebalanced-none : (side : Side) (a : Tree) (m : ℕ) (b : Tree) (n : ℕ) (far : Tree) → is_red_tree a ≡ false
-    → is_red_tree b ≡ false
-    → rebalanced side (joined_at side false (joined_at side true a m b) n far) ≡ joined_at side false
-    (joined_at side true a m b) n far
-rebalanced-none Left a m leaf n far e f = rw e refl
-rebalanced-none Left a m (fork false p k q) n far e f = rw e refl
-rebalanced-none Left a m (fork true p k q) n far e f = absurd (true≢false f)
-rebalanced-none Right a m leaf n far e f = rw e refl
-rebalanced-none Right a m (fork false p k q) n far e f = rw e refl
-rebalanced-none Right a m (fork true p k q) n far e f = absurd (true≢false f)
+    → is_red_tree b ≡ false → rebalanced side (joined_at side false (joined_at side true a m b) n far)
+    ≡ joined_at side false (joined_at side true a m b) n far
+rebalanced-none Left a m b n far e f =
+    outer_same Left a m b n far (not-false (has_black_root a) e) (not-false (has_black_root b) f)
+rebalanced-none Right a m b n far e f =
+    outer_same Right a m b n far (not-false (has_black_root a) e) (not-false (has_black_root b) f)
 
 -- a black node over a red child, each seen from the side of the child
 record IsBlackRed (h : ℕ → Cell) (side : Side) (top near : ℕ) (t : Tree) : Type 0 where

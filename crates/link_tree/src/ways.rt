@@ -49,11 +49,17 @@ impl Notes for Passed {
     ghost passed = { passed };
 
     fn pass<N: Nodes>(self, visits: &mut Visits<N>, node: u64, before: bool) -> Passed {
-        let red = visits.red(node);
+        if visits.red(node) {
+            return Passed {
+                node: if before { self.node } else { Some(node) },
+                above: None,
+                entry: self.entry,
+            };
+        }
         Passed {
             node: if before { self.node } else { Some(node) },
-            above: if red { None } else { Some(node) },
-            entry: if red { self.entry } else { self.end() },
+            above: Some(node),
+            entry: self.end(),
         }
     }
 }

@@ -9,7 +9,7 @@ use Rattle.clap.specs.Simple.{Shape, built_leaf, inherited}
 use Rattle.clap.specs.Takes.{default_passes, is_valid, level_passes, settle_passes, turn_passes, walk_passes}
 use Rattle.clap.specs.declared.builder.value_parser.Reading.TheVariants as reading
 use Rattle.clap.specs.declared.parser.matches.ValueSource.TheVariants.{CommandLine}
-use Rattle.segment_invocation.specs.Invocations.{RunWords, asked_check, asked_load, check, check_command, explain, file_command, flag_words, load, load_command, number_command, program, run_command, run_words, size_of}
+use Rattle.segment_invocation.specs.Invocations.{RunWords, asked_check, asked_dump, asked_load, check, check_command, dump, dump_capacities, dump_command, explain, file_command, flag_words, load, load_command, number_command, program, run_command, run_words, size_of}
 use Rattle.segment_invocation.specs.declared.invocations.Saving.{Saving}
 use Rattle.segment_invocation.specs.declared.invocations.Saving.TheVariants.{InPlace, Replacing}
 use Rattle.segment_invocation.proofs.PlainWords.{IsPlain, plain_step, turn-plain, walked-plain}
@@ -93,6 +93,34 @@ unfolding clap_on_literals
 explain-passes f p =
     let s : Shape = leaf check_command in
     ap₂ (passes_at s) (ap₂ (λ a b. a && (b && true)) (turn-plain s nothing_held idle 1 f p) (ap (λ (w : Walk). turn_passes s [] w (codes "--explain")) (check-walk f p))) (explain-walk f p)
+
+-- ---- a file, which may have `--capacities` behind it
+
+dump-walk : (f : Text) → IsPlain f → walk (leaf dump_command).rules [] nothing_held (f ∷ []) ≡ plain_step (leaf dump_command).rules (walk_from nothing_held) f
+dump-walk f p = walked-plain (leaf dump_command).rules nothing_held idle 1 f p
+
+pub dump-asks : (f : Text) → IsPlain f → asked_dump (rows_after (leaf dump_command).rules [] (f ∷ [])) ≡ Some (dump f)
+unfolding clap_on_literals
+dump-asks f p = ap (λ (w : Walk). asked_dump (finished (leaf dump_command).rules w.held)) (dump-walk f p)
+
+pub dump-passes : (f : Text) → IsPlain f → level_passes (leaf dump_command) [] nothing_held (f ∷ []) false ≡ true
+unfolding clap_on_literals
+dump-passes f p = ap₂ (passes_at (leaf dump_command)) (ap (λ b. b && true) (turn-plain (leaf dump_command) nothing_held idle 1 f p)) (dump-walk f p)
+
+capacities-walk : (f : Text) → IsPlain f
+    → walk (leaf dump_command).rules [] nothing_held (f ∷ codes "--capacities" ∷ [])
+    ≡ walked (leaf dump_command).rules [] (plain_step (leaf dump_command).rules (walk_from nothing_held) f) (codes "--capacities")
+capacities-walk f p = ap (λ (w : Walk). walked (leaf dump_command).rules [] w (codes "--capacities")) (dump-walk f p)
+
+pub capacities-asks : (f : Text) → IsPlain f → asked_dump (rows_after (leaf dump_command).rules [] (f ∷ codes "--capacities" ∷ [])) ≡ Some (dump_capacities f)
+unfolding clap_on_literals
+capacities-asks f p = ap (λ (w : Walk). asked_dump (finished (leaf dump_command).rules w.held)) (capacities-walk f p)
+
+pub capacities-passes : (f : Text) → IsPlain f → level_passes (leaf dump_command) [] nothing_held (f ∷ codes "--capacities" ∷ []) false ≡ true
+unfolding clap_on_literals
+capacities-passes f p =
+    let s : Shape = leaf dump_command in
+    ap₂ (passes_at s) (ap₂ (λ a b. a && (b && true)) (turn-plain s nothing_held idle 1 f p) (ap (λ (w : Walk). turn_passes s [] w (codes "--capacities")) (dump-walk f p))) (capacities-walk f p)
 
 -- ---- a file, which may have `--size` behind it
 

@@ -9,7 +9,7 @@ use Rattle.clap.specs.declared.error.kind.ErrorKind.TheVariants.{DisplayVersion}
 use Rattle.clap.specs.declared.builder.action.ArgAction.TheVariants.{Set, SetTrue}
 use Rattle.segment_lang.specs.Words.{number_of}
 use Rattle.segment_invocation.specs.declared.invocations.Invocation.{Invocation}
-use Rattle.segment_invocation.specs.declared.invocations.Invocation.TheVariants.{Create, Run, Check, Explain, Grow, Shrink, Migrate, Stat, Draw, Dump, Load, Lint, Language, Version}
+use Rattle.segment_invocation.specs.declared.invocations.Invocation.TheVariants.{Create, Run, Check, Explain, Grow, Shrink, Migrate, Stat, Draw, Dump, DumpCapacities, Load, Lint, Language, Version}
 use Rattle.segment_invocation.specs.declared.invocations.ModeName.{ModeName}
 use Rattle.segment_invocation.specs.declared.invocations.ModeName.TheVariants.{CreateOnly, OpenOnly, OpenOrCreate, OpenReadOnly, OpenCopyOnWrite}
 use Rattle.segment_invocation.specs.declared.invocations.Saving.{Saving}
@@ -46,6 +46,9 @@ number_command name = taking name (operand (codes "file") ∷ operand (codes "nu
 abbrev pub check_command : Shape
 check_command = taking (codes "check") (operand (codes "file") ∷ flag (codes "explain") ∷ [])
 
+abbrev pub dump_command : Shape
+dump_command = taking (codes "dump") (operand (codes "file") ∷ flag (codes "capacities") ∷ [])
+
 abbrev pub load_command : Shape
 load_command = taking (codes "load") (operand (codes "file") ∷ option (codes "size") ∷ [])
 
@@ -60,7 +63,7 @@ help_command = taking (codes "help") (operand (codes "topic") ∷ [])
 
 abbrev pub subcommands : List Shape
 subcommands = number_command (codes "create") ∷ run_command ∷ check_command ∷ number_command (codes "grow") ∷ file_command (codes "shrink")
-    ∷ file_command (codes "migrate") ∷ file_command (codes "stat") ∷ file_command (codes "draw") ∷ file_command (codes "dump") ∷ load_command ∷ taking (codes "lint") [] ∷ help_command ∷ []
+    ∷ file_command (codes "migrate") ∷ file_command (codes "stat") ∷ file_command (codes "draw") ∷ dump_command ∷ load_command ∷ taking (codes "lint") [] ∷ help_command ∷ []
 
 abbrev pub command_line : App
 command_line = fold with_subcommand program subcommands
@@ -79,6 +82,7 @@ pub data Asked : Type 0 where
   stat : Text → Asked
   draw : Text → Asked
   dump : Text → Asked
+  dump_capacities : Text → Asked
   load : Text → Option ℕ → Asked
   lint : Asked
   language : Asked
@@ -95,6 +99,7 @@ asked_by (Migrate file) = migrate file.now
 asked_by (Stat file) = stat file.now
 asked_by (Draw file) = draw file.now
 asked_by (Dump file) = dump file.now
+asked_by (DumpCapacities file) = dump_capacities file.now
 asked_by (Load file size) = load file.now size
 asked_by Lint = lint
 asked_by Language = language
@@ -158,6 +163,10 @@ with_number ask words = with_file (λ file. option_map (ask file) (option_and_th
 abbrev pub asked_check : List Row → Option Asked
 asked_check words = with_file (λ file. Some (if is_set (first_of (codes "explain") words) then explain file else check file)) words
 
+-- a dump's file, and its flag --capacities
+abbrev pub asked_dump : List Row → Option Asked
+asked_dump words = with_file (λ file. Some (if is_set (first_of (codes "capacities") words) then dump_capacities file else dump file)) words
+
 -- a load's file and size
 abbrev pub asked_load : List Row → Option Asked
 asked_load words = with_file (λ file. option_map (load file) (size_of (first_of (codes "size") words))) words
@@ -200,7 +209,7 @@ asked_in subcommand words =
     else if bytes_eq subcommand (codes "migrate") then with_file (λ file. Some (migrate file)) words
     else if bytes_eq subcommand (codes "stat") then with_file (λ file. Some (stat file)) words
     else if bytes_eq subcommand (codes "draw") then with_file (λ file. Some (draw file)) words
-    else if bytes_eq subcommand (codes "dump") then with_file (λ file. Some (dump file)) words
+    else if bytes_eq subcommand (codes "dump") then asked_dump words
     else if bytes_eq subcommand (codes "load") then asked_load words
     else if bytes_eq subcommand (codes "lint") then Some lint
     else if bytes_eq subcommand (codes "help") then asked_help words
@@ -265,6 +274,7 @@ IsWritten (migrate file) words = IsTrue (is_path file) × (words ≡ codes "migr
 IsWritten (stat file) words = IsTrue (is_path file) × (words ≡ codes "stat" ∷ file ∷ [])
 IsWritten (draw file) words = IsTrue (is_path file) × (words ≡ codes "draw" ∷ file ∷ [])
 IsWritten (dump file) words = IsTrue (is_path file) × (words ≡ codes "dump" ∷ file ∷ [])
+IsWritten (dump_capacities file) words = IsTrue (is_path file) × (words ≡ codes "dump" ∷ file ∷ codes "--capacities" ∷ [])
 IsWritten (load file None) words = IsTrue (is_path file) × (words ≡ codes "load" ∷ file ∷ [])
 IsWritten (load file (Some size)) words = IsTrue (is_path file) × (sizes : List Text) × IsSized sizes size × (words ≡ codes "load" ∷ file ∷ sizes)
 IsWritten lint words = words ≡ codes "lint" ∷ []

@@ -5,7 +5,7 @@ ghost use Rattle.clap.specs.Values.{kind_of};
 ghost use Rattle.clap.specs.Walk.{first_of, rows_of};
 ghost use Rattle.clap.specs.declared.error.kind.ErrorKind.TheVariants.{DisplayVersion, OutOfMemory as NoMemory};
 ghost use Rattle.segment_lang.specs.Words.{number_of};
-ghost use Rattle.segment_invocation.specs.Invocations.{Asked, IsAskedBy, IsWritten, Reads, asked_by, asked_check, asked_help, asked_in, asked_load, asked_run, is_set, mode_of, saving_of, size_of};
+ghost use Rattle.segment_invocation.specs.Invocations.{Asked, IsAskedBy, IsWritten, Reads, asked_by, asked_check, asked_dump, asked_help, asked_in, asked_load, asked_run, is_set, mode_of, saving_of, size_of};
 ghost use Rattle.segment_invocation.specs.declared.invocations.Invocation.TheVariants.{Version};
 ghost use Rattle.segment_invocation.specs.declared.usage.InvocationFault.TheVariants.{OutOfMemory};
 
@@ -113,6 +113,17 @@ fn read_check<'a>(words: &ArgMatches<'a>) -> Result<Invocation<'a>, UsageError>
     Ok(Invocation::Check(file))
 }
 
+/// What the words of the command `dump` ask for.
+fn read_dump<'a>(words: &ArgMatches<'a>) -> Result<Invocation<'a>, UsageError>
+    ensures { MatchResult result (λ i. asked_dump (rows_of (found_of words.now)) ≡ Some (asked_by i)) (λ e. asked_dump (rows_of (found_of words.now)) ≡ None) }
+{
+    let file = file_in(words)?;
+    if is_set(words, "capacities") {
+        return Ok(Invocation::DumpCapacities(file));
+    }
+    Ok(Invocation::Dump(file))
+}
+
 /// What the words of the command `load` ask for.
 fn read_load<'a>(words: &ArgMatches<'a>) -> Result<Invocation<'a>, UsageError>
     ensures { MatchResult result (λ i. asked_load (rows_of (found_of words.now)) ≡ Some (asked_by i)) (λ e. asked_load (rows_of (found_of words.now)) ≡ None) }
@@ -162,7 +173,7 @@ fn read_command<'a>(
         "migrate" => Ok(Invocation::Migrate(file_in(words)?)),
         "stat" => Ok(Invocation::Stat(file_in(words)?)),
         "draw" => Ok(Invocation::Draw(file_in(words)?)),
-        "dump" => Ok(Invocation::Dump(file_in(words)?)),
+        "dump" => read_dump(words),
         "load" => read_load(words),
         "lint" => Ok(Invocation::Lint),
         "help" => read_help(words),

@@ -3,7 +3,7 @@ ghost use Rattle.std.specs.Prelude.{◌≡◌, [], false, codes, IfOk};
 ghost use Rattle.clap.specs.Walk.{rule_of};
 ghost use Rattle.clap.specs.Simple.{app_of, new_app, shape_of};
 ghost use Rattle.clap.specs.declared.builder.command.Command.TheViews.{out-Command as fields_of};
-ghost use Rattle.segment_invocation.specs.Invocations.{check_command, command_line, file_command, flag, help_command, load_command, number_command, operand, option, program, run_command, run_options, taking};
+ghost use Rattle.segment_invocation.specs.Invocations.{check_command, command_line, dump_command, file_command, flag, help_command, load_command, number_command, operand, option, program, run_command, run_options, taking};
 
 use crate::version::VERSION;
 use clap::{Arg, ArgAction, Command};
@@ -52,6 +52,10 @@ const DRAW: &str = "Prints a picture of the segment in FILE, as SVG";
 
 /// What the command `dump` does.
 const DUMP: &str = "Prints the objects of the segment in FILE as text";
+
+/// What a dump has behind its end.
+const CAPACITIES: &str =
+    "Behind the objects, tells the capacities: of the indexes, vectors, strings and vectors of strings";
 
 /// What the command `load` does.
 const LOAD: &str =
@@ -205,6 +209,14 @@ fn check_command<'a>(alloc: Global) -> Result<Command<'a>, AllocError>
     file_command(alloc, "check", CHECK)?.arg(flag(alloc, "explain", EXPLAIN))
 }
 
+/// The command `dump`.
+fn dump_command<'a>(alloc: Global) -> Result<Command<'a>, AllocError>
+    ensures shape { IfOk result (λ c. shape_of c ≡ dump_command) }
+    ensures local { IfOk result (λ c. (fields_of c).has_globals ≡ false) }
+{
+    file_command(alloc, "dump", DUMP)?.arg(flag(alloc, "capacities", CAPACITIES))
+}
+
 /// The command `load`.
 fn load_command<'a>(alloc: Global) -> Result<Command<'a>, AllocError>
     ensures shape { IfOk result (λ c. shape_of c ≡ load_command) }
@@ -264,7 +276,7 @@ pub fn command_line<'a>(alloc: Global) -> Result<Command<'a>, AllocError>
         .subcommand(file_command(alloc, "migrate", MIGRATE)?)?
         .subcommand(file_command(alloc, "stat", STAT)?)?
         .subcommand(file_command(alloc, "draw", DRAW)?)?
-        .subcommand(file_command(alloc, "dump", DUMP)?)?
+        .subcommand(dump_command(alloc)?)?
         .subcommand(load_command(alloc)?)?
         .subcommand(lint_command(alloc))?
         .subcommand(help_command(alloc)?)

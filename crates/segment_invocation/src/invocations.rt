@@ -82,6 +82,8 @@ pub enum Invocation<'a> {
     Draw(&'a str),
     /// To write the objects of the segment in a file as text.
     Dump(&'a str),
+    /// To write the same, and behind it the capacities of what has one.
+    DumpCapacities(&'a str),
     /// To make a segment of such a text in a file that is not there, of this size, or of the least that holds the objects.
     Load(&'a str, Option<u64>),
     /// To tell which lines of a script are no commands.

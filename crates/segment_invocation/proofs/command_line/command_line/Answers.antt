@@ -14,7 +14,7 @@ returns c =
     let six = c.in_ok-subcommand-6.ensures.shape c.in_ok-file_command-2.ensures.local ∙ ap₂ with_subcommand five c.in_ok-file_command-2.ensures.shape in
     let seven = c.in_ok-subcommand-7.ensures.shape c.in_ok-file_command-3.ensures.local ∙ ap₂ with_subcommand six c.in_ok-file_command-3.ensures.shape in
     let eight = c.in_ok-subcommand-8.ensures.shape c.in_ok-file_command-4.ensures.local ∙ ap₂ with_subcommand seven c.in_ok-file_command-4.ensures.shape in
-    let nine = c.in_ok-subcommand-9.ensures.shape c.in_ok-file_command-5.ensures.local ∙ ap₂ with_subcommand eight c.in_ok-file_command-5.ensures.shape in
+    let nine = c.in_ok-subcommand-9.ensures.shape c.in_ok-dump_command.ensures.local ∙ ap₂ with_subcommand eight c.in_ok-dump_command.ensures.shape in
     let ten = c.in_ok-subcommand-10.ensures.shape c.in_ok-load_command.ensures.local ∙ ap₂ with_subcommand nine c.in_ok-load_command.ensures.shape in
     let eleven = c.in_ok-subcommand-11.ensures.shape c.lint_command.ensures.local ∙ ap₂ with_subcommand ten c.lint_command.ensures.shape in
     IfOk-weaker c.subcommand-12.result _ _ (λ r h. h.shape c.in_ok-help_command.ensures.local ∙ ap₂ with_subcommand eleven c.in_ok-help_command.ensures.shape) c.subcommand-12.ensures

@@ -1,12 +1,14 @@
 // The part of the command language that bench/beside_boost.sh needs, over Boost.Interprocess's managed_mapped_file: a script
 // on standard input, answers on standard output. The segment is made in a new file, as `segment run FILE --mode create_only`
-// makes it.
+// makes it. With `sum` or `spell` in the place of a size the file is opened, and all its objects are read, which bench/check.sh
+// needs.
 #include <boost/container/map.hpp>
 #include <boost/container/string.hpp>
 #include <boost/container/vector.hpp>
 #include <boost/interprocess/allocators/allocator.hpp>
 #include <boost/interprocess/managed_mapped_file.hpp>
 
+#include <algorithm>
 #include <charconv>
 #include <cstdint>
 #include <cstring>
@@ -234,8 +236,61 @@ class Interpreter {
     }
 };
 
+// Calls a function with each number that the object holds; a byte of a string is one.
+template <class Call> void each_number(const Number *found, Call call) {
+    switch (found->kind) {
+    case Kind::number: call(found->value); break;
+    case Kind::string:
+        for (char byte : reinterpret_cast<const String *>(found)->bytes) call(static_cast<unsigned char>(byte));
+        break;
+    case Kind::vector:
+        for (std::int64_t value : reinterpret_cast<const Vector *>(found)->values) call(value);
+        break;
+    case Kind::map:
+        for (const auto &[key, value] : reinterpret_cast<const Map *>(found)->pairs) call(key), call(value);
+        break;
+    }
+}
+
+// Reads each named object of a segment once, with nothing checked, and adds up what it holds; or looks over Boost's own
+// structure first, and spells each name and value.
+int read_all(const char *file, bool spells) {
+    Segment segment(ipc::open_only, file);
+    static char text[65536];
+    if (spells && !segment.check_sanity()) return 1;
+    std::uint64_t sum = 0;
+    for (auto at = segment.named_begin(); at != segment.named_end(); ++at) {
+        const Number *found = static_cast<const Number *>(at->value());
+        if (!spells) {
+            sum += at->name_length();
+            each_number(found, [&](std::int64_t value) { sum += value; });
+            continue;
+        }
+        std::memcpy(text, at->name(), at->name_length());
+        char *end = text + at->name_length();
+        if (found->kind == Kind::string) {
+            auto &bytes = reinterpret_cast<const String *>(found)->bytes;
+            std::memcpy(end, bytes.data(), std::min<std::size_t>(bytes.size(), 60000));
+            end += bytes.size();
+        } else {
+            each_number(found, [&](std::int64_t value) {
+                if (end > text + 65000) end = text;
+                *end++ = ' ';
+                end = std::to_chars(end, text + sizeof text, value).ptr;
+            });
+        }
+        sum += static_cast<std::uint64_t>(end - text);
+    }
+    static Answers answers;
+    answers.line("", sum);
+    answers.flush();
+    return 0;
+}
+
 int main(int count, char **words) {
     if (count != 3) return 2;
+    std::string_view how = words[2];
+    if (how == "sum" || how == "spell") return read_all(words[1], how == "spell");
     static Interpreter interpreter(words[1], std::stoull(words[2]));
     static char piece[65536];
     std::string open;

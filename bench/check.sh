@@ -1,0 +1,57 @@
+#!/usr/bin/env bash
+# The check of an image, `segment check`, beside two walks over all objects of Boost's managed_mapped_file after the same
+# script, 200,000 objects of four kinds in 32 MiB: one that looks over Boost's own structure and spells each name and value,
+# and one that adds up what is there, with nothing checked. Instructions, counted by valgrind's callgrind; and the least of
+# 15 runs, taken in turn: seconds of the processor in the program itself, in the system for it, and as time passes. Run it
+# at the top of the repository, once `rt run` has built crates/segment/out/segment, or with the program's path in PROGRAM;
+# it needs g++, valgrind and Boost (Debian's libboost1.81-dev), and writes into a folder of its own, which it removes.
+set -euo pipefail
+cd "$(dirname "$0")/.."
+program=${PROGRAM:-$PWD/crates/segment/out/segment}
+peer=$PWD/bench/boost/script.cpp
+room=$(mktemp -d -p "${TMPDIR:-/dev/shm}")
+trap 'rm -rf "$room"' EXIT
+cd "$room"
+g++ -std=c++17 -O2 -DNDEBUG -o peer "$peer"
+
+awk 'BEGIN { text = "abcdefghijklmnopqrstuvwxyz"
+  for (i = 0; i < 200000; i++) {
+    name = sprintf("n%06d", i)
+    if (i % 4 == 0) print "construct i64", name, i
+    if (i % 4 == 1) print "construct string", name, "\"" substr(text, 1, i % 26 + 1) "\""
+    if (i % 4 == 2) { print "construct vec<i64>", name; for (k = 0; k < 4; k++) print "push", name, i + k }
+    if (i % 8 == 3) { print "construct map<i64,i64>", name; for (k = 0; k < 2; k++) print "put", name, k, i }
+    if (i % 8 == 7) print "construct i64", name, i } }' > script
+"$program" run ours.seg --mode create_only --size 33554432 < script > ours.answers
+./peer theirs.seg 33554432 < script > theirs.answers
+if grep -q '^error' ours.answers theirs.answers; then echo 'a line was refused' >&2; exit 1; fi
+
+check_ours() { "${before[@]}" "$program" check ours.seg; }
+spell_theirs() { "${before[@]}" ./peer theirs.seg spell; }
+add_theirs() { "${before[@]}" ./peer theirs.seg sum; }
+
+# instructions WHOSE
+instructions() {
+  local before=(valgrind --tool=callgrind --callgrind-out-file=/dev/null)
+  "$1" 2>&1 > /dev/null | sed -n 's/.*Collected : *//p'
+}
+
+# seconds WHOSE: of one run, those of the program, of the system, and as time passes
+seconds() {
+  local before=() TIMEFORMAT='%3U %3S %3R'
+  { time "$1" > /dev/null; } 2>&1
+}
+
+for _ in 1 2 3 4 5 6 7 8 9 10 11 12 13 14 15; do
+  for whose in check_ours spell_theirs add_theirs; do seconds $whose >> $whose.seconds; done
+done
+# least COLUMN WHOSE
+least() { awk -v column="$1" '{ print $column }' "$2.seconds" | sort -n | head -n 1; }
+
+echo '| | Instructions | Seconds of the program | of the system | as time passes |'
+echo '|---|---|---|---|---|'
+for whose in check_ours spell_theirs add_theirs; do
+  awk -v whose="$whose" -v count="$(instructions $whose)" -v own="$(least 1 $whose)" -v kernel="$(least 2 $whose)" \
+    -v whole="$(least 3 $whose)" \
+    'BEGIN { printf "| %s | %.0f million | %.3f | %.3f | %.3f |\n", whose, count / 1e6, own, kernel, whole }'
+done

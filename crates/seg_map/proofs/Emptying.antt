@@ -122,8 +122,8 @@ beside_one n h (z ∷ zs) x r i =
 
 -- and beside all that are gone it is none of them
 beside_all : {K V : Type 0} (n : ℕ) (ps : List (Pair K V)) (zs : List Extent) (x : Extent) → Rises n zs
-    → In x (without_all (map (λ (p : Pair K V). p.node) ps) zs) → In x zs
-    × (is_in (handle x) (nodes_of_pairs ps) ≡ false)
+    → In x (without_all (map (λ (p : Pair K V). p.node) ps) zs)
+    → In x zs × (is_in (handle x) (nodes_of_pairs ps) ≡ false)
 beside_all n [] zs x r i = (i, refl)
 beside_all n (p ∷ ps) zs x r i =
     let b = beside_all n ps (others (handle p.node) zs) x (rises_others n (handle p.node) zs r) i in
@@ -151,11 +151,11 @@ pub record IsGoing {K V : Type 0} (k : Plain K) (v : Plain V) (old now : Cut) (h
   pub holds : HoldsMap k v now.bytes h at pairs
   pub among : (m : ℕ) → is_in m (nodes_of_pairs pairs) ≡ true → is_in m (nodes_of_pairs ps) ≡ true
   pub beside : IsBesideMap old now (h + at) (nodes_of_pairs ps)
-  pub there : (x : Extent) → extent_at (live_of old.bytes) (handle x) ≡ Some x → is_in (handle x) (nodes_of_pairs ps)
-      ≡ false → extent_at (live_of now.bytes) (handle x) ≡ Some x
+  pub there : (x : Extent) → extent_at (live_of old.bytes) (handle x) ≡ Some x
+      → is_in (handle x) (nodes_of_pairs ps) ≡ false → extent_at (live_of now.bytes) (handle x) ≡ Some x
   pub size : (live_of now.bytes).size ≡ (live_of old.bytes).size
-  pub left : without_all (map (λ (p : Pair K V). p.node) pairs) (live_of now.bytes).extents
-      ≡ without_all (map (λ (p : Pair K V). p.node) ps) (live_of old.bytes).extents
+  pub left : without_all (map (λ (p : Pair K V). p.node) pairs) (live_of now.bytes).extents ≡ without_all
+      (map (λ (p : Pair K V). p.node) ps) (live_of old.bytes).extents
 
 pub going_first : {K V : Type 0} (k : Plain K) (v : Plain V) (c : Cut) (h at : ℕ) (ps : List (Pair K V))
     → HoldsMap k v c.bytes h at ps → IsGoing k v c c h at ps
@@ -193,8 +193,8 @@ module _ {K V : Type 0} {k : Plain K} {v : Plain V} (kl : Laws k) {old now : Cut
     live_new : live_of new.bytes ≡ released (live_of now.bytes) (handle p.node)
     live_new = lay_out_one _ _ _ e.live
 
-    off : (x : Extent) → is_in (handle x) (nodes_of_pairs ps) ≡ false → is_in (handle x) (nodes_of_pairs g.pairs)
-        ≡ false
+    off : (x : Extent) → is_in (handle x) (nodes_of_pairs ps) ≡ false
+        → is_in (handle x) (nodes_of_pairs g.pairs) ≡ false
     off x o = elim (cases_Bool (is_in (handle x) (nodes_of_pairs g.pairs)))
         [ inl t ↦ absurd (both_ways _ o (g.among (handle x) t)) | inr f ↦ f ]
 

@@ -108,8 +108,8 @@ abbrev pub HaveKeys : {K V : Type 0} → (ℕ → Option K) → List (Pair K V) 
 HaveKeys {K} {V} keys ps = AllByRecursion (λ (p : Pair K V). keys (pair_node p) ≡ Some p.key) ps
 
 module _ {K V : Type 0} (less : K → K → Bool) where
-  pub rising_nodes : Chains less → (keys : ℕ → Option K) (ps : List (Pair K V)) → HaveKeys keys ps → is_rising less ps
-      ≡ true
+  pub rising_nodes : Chains less → (keys : ℕ → Option K) (ps : List (Pair K V)) → HaveKeys keys ps
+      → is_rising less ps ≡ true
       → rises (comes_before less keys) (nodes_of_pairs ps) ≡ true
   rising_nodes on keys [] k r = refl
   rising_nodes on keys (p ∷ []) k r = refl
@@ -133,23 +133,23 @@ module _ {K V : Type 0} (less : K → K → Bool) where
   passes keys past key (p ∷ ps) k = (ap (stands less past key) k.0, passes keys past key ps k.1)
 
   passes_not : (keys : ℕ → Option K) (past : Bool) (key : K) (ps : List (Pair K V)) → HaveKeys keys ps
-      → AllByRecursion (λ (p : Pair K V). not (stands_before less keys past key (pair_node p))
-      ≡ not (is_passed less past key p)) ps
+      → AllByRecursion (λ (p : Pair K V). not (stands_before less keys past key (pair_node p)) ≡ not
+      (is_passed less past key p)) ps
   passes_not keys past key [] k = tt
   passes_not keys past key (p ∷ ps) k = (ap (λ o. not (stands less past key o)) k.0, passes_not keys past key ps k.1)
 
   -- the first node is that of the first pair
   pub first_node : (keys : ℕ → Option K) (past : Bool) (key : K) (ps : List (Pair K V)) → HaveKeys keys ps
-      → first_not (stands_before less keys past key) (nodes_of_pairs ps)
-      ≡ option_map pair_node (first_pair less past key ps)
+      → first_not (stands_before less keys past key) (nodes_of_pairs ps) ≡ option_map pair_node
+      (first_pair less past key ps)
   first_node keys past key ps k =
       find_mapped pair_node (λ n. not (stands_before less keys past key n)) (λ p. not (is_passed less past key p)) ps
       (passes_not keys past key ps k)
 
   -- and the last node that of the last pair
   pub last_node : (keys : ℕ → Option K) (past : Bool) (key : K) (ps : List (Pair K V)) → HaveKeys keys ps
-      → last_before (stands_before less keys past key) (nodes_of_pairs ps)
-      ≡ option_map pair_node (last_pair less past key ps)
+      → last_before (stands_before less keys past key) (nodes_of_pairs ps) ≡ option_map pair_node
+      (last_pair less past key ps)
   last_node keys past key ps k =
       ap (find (stands_before less keys past key)) (map_reversed pair_node ps)
       ∙ find_mapped pair_node (stands_before less keys past key) (is_passed less past key) (reverse ps)

@@ -40,7 +40,7 @@ find_mapped f test test' (x ∷ xs) a =
       | inr e ↦ rw (a.0 ∙ e, e) rest
     ]
 
-pub last_mapped : {A B : Type 0} (f : A → B) (o : Option A) (xs : List A) → last_or (option_map f o) (map f xs)
-    ≡ option_map f (last_or o xs)
+pub last_mapped : {A B : Type 0} (f : A → B) (o : Option A) (xs : List A)
+    → last_or (option_map f o) (map f xs) ≡ option_map f (last_or o xs)
 last_mapped f o [] = refl
 last_mapped f o (x ∷ xs) = last_mapped f (Some x) xs

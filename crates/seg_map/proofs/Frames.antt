@@ -60,8 +60,8 @@ module _ {len : ℕ} {ns : List ℕ} {c : Cut} (d : Cut) (good : Good len ns c) 
   unfolding kept_of
   kept_byte k t = let e = ap (λ (r : Kept). r.byte k) same in rw (live_stays c d ns ns same, t) at e
 
-  kept_colour : (h : ℕ) → is_other ns (live_of c.bytes) h ≡ true → word_at (bytes_of d.bytes) (h - 8) % 16
-      ≡ word_at (bytes_of c.bytes) (h - 8) % 16
+  kept_colour : (h : ℕ) → is_other ns (live_of c.bytes) h ≡ true
+      → word_at (bytes_of d.bytes) (h - 8) % 16 ≡ word_at (bytes_of c.bytes) (h - 8) % 16
   unfolding kept_of
   kept_colour h t = let e = ap (λ (r : Kept). r.colour h) same in rw (live_stays c d ns ns same, t) at e
 
@@ -81,8 +81,8 @@ module _ {len : ℕ} {ns : List ℕ} {c : Cut} (d : Cut) (good : Good len ns c) 
             let l = (node_place len ns c n (record { good = good; listed = i })).low in inl (below place n l))),
       ) refl)
     where
-      here : (k < 24) ⊎ ((32 ≤ k) × (k < 128)) → (nat_lt k 24 || (nat_le 32 k && nat_lt k 128)
-          || lies_in_block (live_of c.bytes) k) ≡ true
+      here : (k < 24) ⊎ ((32 ≤ k) × (k < 128)) → (nat_lt k 24 || (nat_le 32 k && nat_lt k 128) || lies_in_block
+          (live_of c.bytes) k) ≡ true
       here (inl l) = or_left _ _ (or_left _ _ (lt-ltb k 24 l))
       here (inr p) =
           or_left _ _ (or_right (nat_lt k 24) (nat_le 32 k && nat_lt k 128)

@@ -52,8 +52,8 @@ module _ {K V : Type 0} {kp : Plain K} {vp : Plain V} (kl : Laws kp) (vl : Laws 
   kept : (y : Extent) → In y (live_of c.bytes).extents → SameBlock (bytes_of c.bytes) (bytes_of d.bytes) y
   kept y i = all_in (SameBlock (bytes_of c.bytes) (bytes_of d.bytes)) (live_of c.bytes).extents y m.block.keeps.blocks i
 
-  still_there : (y : Extent) → extent_at (live_of c.bytes) (handle y) ≡ Some y → extent_at (live_of d.bytes) (handle y)
-      ≡ Some y
+  still_there : (y : Extent) → extent_at (live_of c.bytes) (handle y) ≡ Some y
+      → extent_at (live_of d.bytes) (handle y) ≡ Some y
   still_there y f =
       rw live_d (found-more (handle y) x y (live_of c.bytes).extents
       (λ e. differs_at y (found_in (live_of c.bytes).extents (handle y) y f) (sym e)) f)

@@ -65,12 +65,12 @@ module _ {K V : Type 0} {kp : Plain K} {vp : Plain V} (c : Cut) {h at : ℕ} {ps
         → SameBlock (bytes_of c.bytes) (bytes_of d.bytes) y
     block_stays y g f o = other_block (live_of c.bytes) (handle p.node) g keeps f o
 
-    cells : (m : ℕ) → is_in m (nodes_of s.map.tree.tree) ≡ true → cells_of (bytes_of d.bytes) m
-        ≡ cells_of (bytes_of c.bytes) m
+    cells : (m : ℕ) → is_in m (nodes_of s.map.tree.tree) ≡ true
+        → cells_of (bytes_of d.bytes) m ≡ cells_of (bytes_of c.bytes) m
     cells m i = by_place (cases_eq m (handle p.node))
       where
-        by_place : (m ≡ handle p.node) ⊎ (m ≡ handle p.node → ⊥) → cells_of (bytes_of d.bytes) m
-            ≡ cells_of (bytes_of c.bytes) m
+        by_place : (m ≡ handle p.node) ⊎ (m ≡ handle p.node → ⊥)
+            → cells_of (bytes_of d.bytes) m ≡ cells_of (bytes_of c.bytes) m
         by_place (inl e) =
             let g : PairNode (16 + kp.SIZE) (nodes_of s.map.tree.tree) c m =
             record { good = good kl c s; listed = i } in

@@ -87,8 +87,8 @@ module _ {len : ℕ} {ns : List ℕ} {c d : Cut} {n : ℕ} (g : PairNode len ns 
   byte_stays k (inl t) = rw (h.live, t) (h.bytes k t)
   byte_stays k (inr f) = rw (h.live, f) refl
 
-  other_colour : (k : ℕ) → is_other ns (live_of c.bytes) k ≡ true → word_at (bytes_of d.bytes) (k - 8) % 16
-      ≡ word_at (bytes_of c.bytes) (k - 8) % 16
+  other_colour : (k : ℕ) → is_other ns (live_of c.bytes) k ≡ true
+      → word_at (bytes_of d.bytes) (k - 8) % 16 ≡ word_at (bytes_of c.bytes) (k - 8) % 16
   other_colour k t =
       let two = and_parts _ _ t in
       let l = live_at (live_of c.bytes).extents k two.0 in
@@ -205,8 +205,8 @@ leads_in len ns c (Some n) h = (is_pair_node-PairNode len ns c n h).listed
 -- ---- the bytes of a node
 
 -- a byte of a node's links is not kept
-kept_away : (ns : List ℕ) (live : LiveSet) (n k : ℕ) → is_in n ns ≡ true → is_kept ns live k ≡ true → (k < n)
-    ⊎ (n + 16 ≤ k)
+kept_away : (ns : List ℕ) (live : LiveSet) (n k : ℕ) → is_in n ns ≡ true → is_kept ns live k ≡ true
+    → (k < n) ⊎ (n + 16 ≤ k)
 kept_away ns live n k i t =
     let two = and_parts _ _ t in
     let off = not_true (is_link_byte ns k) two.1 in
@@ -281,8 +281,8 @@ module _ {len : ℕ} {ns : List ℕ} {c d : Cut} {n from : ℕ} (g : PairNode le
         keys = λ m i. SameBut-Same _ _ _ _ (m + 16) (m + len) change.rest (key_apart m i (cases_eq m n));
       }
     where
-      tag_apart : (x : Extent) → In x (live_of c.bytes).extents → (handle x ≡ n → ⊥) → (x.offset + 8 + 8 ≤ from)
-          ⊎ (from + 8 ≤ x.offset + 8)
+      tag_apart : (x : Extent) → In x (live_of c.bytes).extents → (handle x ≡ n → ⊥)
+          → (x.offset + 8 + 8 ≤ from) ⊎ (from + 8 ≤ x.offset + 8)
       tag_apart x i o =
           let r = is_proper-IsProper (live_of c.bytes) g.good.proper in
           let b = (lies 128 (live_of c.bytes).extents ((live_of c.bytes).size - 16) x r.list i).long in

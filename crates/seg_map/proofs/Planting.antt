@@ -34,8 +34,8 @@ use Rattle.seg_map.proofs.Leaving.{apart_all, in_from, nodes_in}
 use Rattle.seg_map.proofs.PutLists.{place_of, put_all, put_length, put_nodes, put_rising}
 
 -- a link among nodes is one among more of them
-leads_more : (n : ℕ) (ns : List ℕ) (o : Option ℕ) → leads (λ j. is_in j ns) o ≡ true → leads (λ j. is_in j (n ∷ ns)) o
-    ≡ true
+leads_more : (n : ℕ) (ns : List ℕ) (o : Option ℕ) → leads (λ j. is_in j ns) o ≡ true
+    → leads (λ j. is_in j (n ∷ ns)) o ≡ true
 leads_more n ns None h = refl
 leads_more n ns (Some m) h = or_right _ _ h
 

@@ -92,9 +92,8 @@ module _ {K V : Type 0} (less : K → K → Bool) where
     place_of [] k e = refl
     place_of (q ∷ qs) k e =
         let two = absent_here p.key q qs e in
-        and_from (comes_before less keys (pair_node p) (pair_node q)
-        || comes_before less keys (pair_node q) (pair_node p))
-        (has_place (comes_before less keys) (pair_node p) (nodes_of_pairs qs))
+        and_from (comes_before less keys (pair_node p) (pair_node q) || comes_before less keys (pair_node q)
+        (pair_node p)) (has_place (comes_before less keys) (pair_node p) (nodes_of_pairs qs))
         ((λ i. before_key less (own i) (k.0 i) || before_key less (k.0 i) (own i))
         ∙ either_two (less p.key q.key) (less q.key p.key) two.0)
         (place_of qs k.1 two.1)
@@ -116,16 +115,16 @@ module _ {K V : Type 0} (less : K → K → Bool) where
 
   module _ (on : Chains less) (p p' : Pair K V) (same : p'.key ≡ p.key) where
     -- the pair with the key stands behind this one, or is it
-    later : (q : Pair K V) (qs : List (Pair K V)) → is_rising less (q ∷ qs) ≡ true → pair_at less (q ∷ qs) p'.key
-        ≡ Some p → less p'.key q.key ≡ false
+    later : (q : Pair K V) (qs : List (Pair K V)) → is_rising less (q ∷ qs) ≡ true
+        → pair_at less (q ∷ qs) p'.key ≡ Some p → less p'.key q.key ≡ false
     later q qs r e =
         elim (cases_Bool (less p'.key q.key)) [
           | inl y ↦ let f = rw y at e in let g = none_above less on p'.key q qs r y in absurd (cc)
           | inr n ↦ n
         ]
 
-    module _ (P Q : Pair K V → Type 0) (step : (q : Pair K V) → P q → (less p'.key q.key ≡ true)
-        ⊎ (less q.key p'.key ≡ true) → Q q) (own : Q p') where
+    module _ (P Q : Pair K V → Type 0) (step : (q : Pair K V) → P q
+        → (less p'.key q.key ≡ true) ⊎ (less q.key p'.key ≡ true) → Q q) (own : Q p') where
       behind : (qs : List (Pair K V)) → Below less p'.key qs → AllByRecursion P qs → AllByRecursion Q qs
       behind [] b a = tt
       behind (q ∷ qs) b a = (step q a.0 (inl b.0), behind qs b.1 a.1)

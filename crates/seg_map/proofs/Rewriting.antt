@@ -96,8 +96,8 @@ module _ {K V : Type 0} {kp : Plain K} {vp : Plain V} (kl : Laws kp) (vl : Laws 
             (λ m j. apart k from (omega arith) m j (cases_eq (handle x) m));
       }
     where
-      apart : (k : ℕ) → handle p.node + 16 ≤ k → k < end_of p.node → (m : ℕ) → is_in m ns ≡ true → (handle p.node ≡ m)
-          ⊎ (handle p.node ≡ m → ⊥) → (k < m) ⊎ (m + 16 ≤ k)
+      apart : (k : ℕ) → handle p.node + 16 ≤ k → k < end_of p.node → (m : ℕ) → is_in m ns ≡ true
+          → (handle p.node ≡ m) ⊎ (handle p.node ≡ m → ⊥) → (k < m) ⊎ (m + 16 ≤ k)
       apart k from to m j (inl f) = inr (omega arith)
       apart k from to m j (inr o) =
           let q : PairNode (16 + kp.SIZE) ns c m = record { good = good; listed = j } in
@@ -115,8 +115,8 @@ module _ {K V : Type 0} {kp : Plain K} {vp : Plain V} (kl : Laws kp) (vl : Laws 
   module _ (qs : List (Pair K V)) {t : Tree} (k : IsKeyTree kp ns d top t) (lists : nodes_of t ≡ nodes_of_pairs qs)
       (pairs : AreIn kp vp (live_of c.bytes) h qs)
       (own : (m : ℕ) → is_in m (nodes_of_pairs qs) ≡ true → is_in m ns ≡ true) where
-    tree_cells : (m : ℕ) → is_in m (nodes_of t) ≡ true → cells_of (bytes_of e.bytes) m
-        ≡ pair_cells (16 + kp.SIZE) ns d m
+    tree_cells : (m : ℕ) → is_in m (nodes_of t) ≡ true → cells_of (bytes_of e.bytes) m ≡ pair_cells
+        (16 + kp.SIZE) ns d m
     tree_cells m i =
         let j = ap (λ ms. is_in m ms) (sym lists) ∙ i in
         let a = at_node (IsPairIn kp vp (live_of c.bytes) h) qs m j pairs in

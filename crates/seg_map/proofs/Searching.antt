@@ -218,8 +218,8 @@ module _ {K V : Type 0} (k : Plain K) (v : Plain V) (c : Cut) (by : ℕ → Opti
       ap (option_and_then (λ (x : K). if k.order key x then None else Some (pair_node p))) e
       ∙ by_test (k.order key p.key)
     where
-      by_test : (b : Bool) → (if b then None else Some (pair_node p))
-          ≡ option_map pair_node (if b then None else Some p)
+      by_test : (b : Bool) → (if b then None else Some (pair_node p)) ≡ option_map pair_node
+          (if b then None else Some p)
       by_test true = refl
       by_test false = refl
 
@@ -294,8 +294,8 @@ value_by_key {K} {V} k on key ps i r e =
     ∙ by_pair (first_pair k.order false key ps)
     ∙ sym (ap (option_map value_of_pair) (pair_by_key k.order on key ps r))
   where
-    by_test : (p : Pair K V) (b : Bool) → (if b then None else Some p.value)
-        ≡ option_map value_of_pair (if b then None else Some p)
+    by_test : (p : Pair K V) (b : Bool) → (if b then None else Some p.value) ≡ option_map value_of_pair
+        (if b then None else Some p)
     by_test p true = refl
     by_test p false = refl
 

@@ -22,8 +22,8 @@ use Rattle.seg_map.proofs.Entering.{AreAt, AreIn, Laws, pair_parts}
 use Rattle.seg_map.proofs.PairSteps.{same_red}
 
 -- the fields of a node in a block that stays
-pub block_cells : (m m' : Memory) (x : Extent) → SameBlock m m' x → 32 ≤ x.len → cells_of m' (handle x)
-    ≡ cells_of m (handle x)
+pub block_cells : (m m' : Memory) (x : Extent) → SameBlock m m' x → 32 ≤ x.len
+    → cells_of m' (handle x) ≡ cells_of m (handle x)
 block_cells m m' x s long =
     let e : x.offset + 8 ≡ handle x - 8 = omega arith in
     cell_stays m m' (handle x) (Same-link _ _ _ _ (handle x) s.payload (omega arith) (omega arith))
@@ -98,8 +98,8 @@ module _ {K V : Type 0} {kp : Plain K} {vp : Plain V} (kl : Laws kp) (vl : Laws 
   with_blocks [] a f = tt
   with_blocks (q ∷ qs) a f = ((a.0, f.0), with_blocks qs a.1 f.1)
 
-  pub cells : (m : ℕ) → is_in m (nodes_of s.map.tree.tree) ≡ true → cells_of (bytes_of e.bytes) m
-      ≡ cells_of (bytes_of c.bytes) m
+  pub cells : (m : ℕ) → is_in m (nodes_of s.map.tree.tree) ≡ true
+      → cells_of (bytes_of e.bytes) m ≡ cells_of (bytes_of c.bytes) m
   cells m i =
       let n = at_node (λ (p : Pair K V). IsPairIn kp vp (live_of c.bytes) h p × Still c e p.node) ps m
       (ap (λ ns. is_in m ns) (sym s.map.tree.lists) ∙ i) (with_blocks ps s.pairs blocks) in

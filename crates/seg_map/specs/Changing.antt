@@ -69,8 +69,8 @@ TakesOut {K} {V} k v old new h at node =
     → pair_node p ≡ node → IsTaken k v old new h at ps key
 
 abbrev pub TreeSteps : {K V : Type 0} → Plain K → Plain V → Cut → ℕ → ℕ → ℕ → ℕ → Type 0
-TreeSteps {K} {V} k v old h at before after = (ps : List (Pair K V)) → HoldsMap k v old.bytes h at ps → after
-    ≤ before + 32 * bits (length ps + 1) + 32
+TreeSteps {K} {V} k v old h at before after = (ps : List (Pair K V)) → HoldsMap k v old.bytes h at ps
+    → after ≤ before + 32 * bits (length ps + 1) + 32
 
 -- the pair of a key is gone, and its block
 pub record IsErased {K V : Type 0} (k : Plain K) (v : Plain V) (old new : Cut) (h at : ℕ) (ps : List (Pair K V))
@@ -151,8 +151,8 @@ pub record IsPlanted {K V : Type 0} (k : Plain K) (v : Plain V) (old new : Cut) 
 
 abbrev pub PutsIn : {K V : Type 0} → Plain K → Plain V → Cut → Cut → ℕ → ℕ → ℕ → Type 0
 PutsIn {K} {V} k v old new h at node =
-    (ps : List (Pair K V)) (p : Pair K V) → HoldsMap k v old.bytes h at ps → IsLoose k v old.bytes h ps p → pair_node p
-    ≡ node → IsPlanted k v old new h at ps p
+    (ps : List (Pair K V)) (p : Pair K V) → HoldsMap k v old.bytes h at ps → IsLoose k v old.bytes h ps p
+    → pair_node p ≡ node → IsPlanted k v old new h at ps p
 
 -- a pair more, in a new block
 pub record IsPut {K V : Type 0} (k : Plain K) (v : Plain V) (old new : Cut) (h at : ℕ) (ps : List (Pair K V)) (key : K)
@@ -186,5 +186,5 @@ Puts {K} {V} k v old new h at key value result =
 -- the steps of the two tree calls of a change, and the touches of one call of the heap
 abbrev pub ChangeSteps : {K V : Type 0} → Plain K → Plain V → Cut → ℕ → ℕ → ℕ → ℕ → Type 0
 ChangeSteps {K} {V} k v old h at before after =
-    (ps : List (Pair K V)) → HoldsMap k v old.bytes h at ps → after
-    ≤ before + 34 * bits (length ps + 1) + 36 + heap_touches (live_of old.bytes)
+    (ps : List (Pair K V)) → HoldsMap k v old.bytes h at ps
+    → after ≤ before + 34 * bits (length ps + 1) + 36 + heap_touches (live_of old.bytes)

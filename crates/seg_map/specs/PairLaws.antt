@@ -163,8 +163,8 @@ unfolding is_pair_node
 is_pair_node-PairNode len ns c n h = let two = and_parts _ _ h in
     record { good = is_good-Good len ns c two.0; listed = two.1 }
 
-pub PairNode-is_pair_node : (len : ℕ) (ns : List ℕ) (c : Cut) (n : ℕ) → PairNode len ns c n → is_pair_node len ns c n
-    ≡ true
+pub PairNode-is_pair_node : (len : ℕ) (ns : List ℕ) (c : Cut) (n : ℕ) → PairNode len ns c n
+    → is_pair_node len ns c n ≡ true
 unfolding is_pair_node
 PairNode-is_pair_node len ns c n g = and_from (is_good len ns c) (is_in n ns) (Good-is_good len ns c g.good) g.listed
 
@@ -227,8 +227,8 @@ pairs_finite len ns c = by_test (is_good len ns c) refl
 
 -- ---- links lead to nodes
 
-pub links_at : (len : ℕ) (ns : List ℕ) (c : Cut) (n : ℕ) → PairNode len ns c n → links_among (bytes_of c.bytes) ns n
-    ≡ true
+pub links_at : (len : ℕ) (ns : List ℕ) (c : Cut) (n : ℕ) → PairNode len ns c n
+    → links_among (bytes_of c.bytes) ns n ≡ true
 links_at len ns c n g = all_at (links_among (bytes_of c.bytes) ns) ns n g.good.links g.listed
 
 pub link_parts : {len : ℕ} {ns : List ℕ} {c : Cut} {n : ℕ} → PairNode len ns c n
@@ -242,13 +242,13 @@ leads_to_node : (len : ℕ) (ns : List ℕ) (c : Cut) (o : Option ℕ) → Good 
 leads_to_node len ns c None g h = refl
 leads_to_node len ns c (Some n) g h = PairNode-is_pair_node len ns c n (record { good = g; listed = h })
 
-pub cells_at : (len : ℕ) (ns : List ℕ) (c : Cut) (n : ℕ) → is_pair_node len ns c n ≡ true → pair_cells len ns c n
-    ≡ cells_of (bytes_of c.bytes) n
+pub cells_at : (len : ℕ) (ns : List ℕ) (c : Cut) (n : ℕ) → is_pair_node len ns c n ≡ true
+    → pair_cells len ns c n ≡ cells_of (bytes_of c.bytes) n
 unfolding pair_cells
 cells_at len ns c n h = cond-true (is_pair_node len ns c n) (cells_of (bytes_of c.bytes) n) no_cell h
 
-pub cells_off : (len : ℕ) (ns : List ℕ) (c : Cut) (n : ℕ) → is_pair_node len ns c n ≡ false → pair_cells len ns c n
-    ≡ no_cell
+pub cells_off : (len : ℕ) (ns : List ℕ) (c : Cut) (n : ℕ) → is_pair_node len ns c n ≡ false
+    → pair_cells len ns c n ≡ no_cell
 unfolding pair_cells
 cells_off len ns c n h = cond-false (is_pair_node len ns c n) (cells_of (bytes_of c.bytes) n) no_cell h
 

@@ -24,8 +24,8 @@ links_among m ns n = leads (λ k. is_in k ns) (cells_of m n).left && leads (λ k
 -- the list names node blocks whose links lead to each other
 abbrev pub is_good : ℕ → List ℕ → Cut → Bool
 is_good len ns c =
-    is_proper (live_of c.bytes) && list_all (is_block_in len (live_of c.bytes)) ns
-    && list_all (links_among (bytes_of c.bytes) ns) ns
+    is_proper (live_of c.bytes) && list_all (is_block_in len (live_of c.bytes)) ns && list_all
+    (links_among (bytes_of c.bytes) ns) ns
 
 -- where blocks and links are good, the list has the nodes
 unfoldable pub is_pair_node : ℕ → List ℕ → Cut → ℕ → Bool

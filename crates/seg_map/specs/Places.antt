@@ -61,27 +61,27 @@ abbrev pub value_of_pair : {K V : Type 0} → Pair K V → V
 value_of_pair p = p.value
 
 abbrev pub FindsItem : {K V : Type 0} → Plain K → Plain V → List ℕ → ℕ → ℕ → Bool → K → Option (K × V) → Type 0
-FindsItem {K} {V} k v b h at past key r = (ps : List (Pair K V)) → HoldsMap k v b h at ps → r
-    ≡ option_map item_of (first_pair k.order past key ps)
+FindsItem {K} {V} k v b h at past key r = (ps : List (Pair K V)) → HoldsMap k v b h at ps
+    → r ≡ option_map item_of (first_pair k.order past key ps)
 
 -- the same of the other way: from the last pair back
 abbrev pub FindsItemBefore : {K V : Type 0} → Plain K → Plain V → List ℕ → ℕ → ℕ → Bool → K → Option (K × V) → Type 0
-FindsItemBefore {K} {V} k v b h at past key r = (ps : List (Pair K V)) → HoldsMap k v b h at ps → r
-    ≡ option_map item_of (last_pair k.order past key ps)
+FindsItemBefore {K} {V} k v b h at past key r = (ps : List (Pair K V)) → HoldsMap k v b h at ps
+    → r ≡ option_map item_of (last_pair k.order past key ps)
 
 abbrev pub FindsLastItem : {K V : Type 0} → Plain K → Plain V → List ℕ → ℕ → ℕ → Option (K × V) → Type 0
-FindsLastItem {K} {V} k v b h at r = (ps : List (Pair K V)) → HoldsMap k v b h at ps → r
-    ≡ option_map item_of (final_pair ps)
+FindsLastItem {K} {V} k v b h at r = (ps : List (Pair K V)) → HoldsMap k v b h at ps
+    → r ≡ option_map item_of (final_pair ps)
 
 abbrev pub FindsValue : {K V : Type 0} → Plain K → Plain V → List ℕ → ℕ → ℕ → K → Option V → Type 0
-FindsValue {K} {V} k v b h at key r = (ps : List (Pair K V)) → HoldsMap k v b h at ps → r
-    ≡ option_map value_of_pair (pair_at k.order ps key)
+FindsValue {K} {V} k v b h at key r = (ps : List (Pair K V)) → HoldsMap k v b h at ps
+    → r ≡ option_map value_of_pair (pair_at k.order ps key)
 
 abbrev pub FindsKey : {K V : Type 0} → Plain K → Plain V → List ℕ → ℕ → ℕ → K → Option ℕ → Type 0
-FindsKey {K} {V} k v b h at key r = (ps : List (Pair K V)) → HoldsMap k v b h at ps → r
-    ≡ option_map pair_node (pair_at k.order ps key)
+FindsKey {K} {V} k v b h at key r = (ps : List (Pair K V)) → HoldsMap k v b h at ps
+    → r ≡ option_map pair_node (pair_at k.order ps key)
 
 -- a search, and so many steps more
 abbrev pub SearchSteps : {K V : Type 0} → Plain K → Plain V → List ℕ → ℕ → ℕ → ℕ → ℕ → ℕ → Type 0
-SearchSteps {K} {V} k v b h at more before after = (ps : List (Pair K V)) → HoldsMap k v b h at ps → after
-    ≤ before + 2 * bits (length ps + 1) + more
+SearchSteps {K} {V} k v b h at more before after = (ps : List (Pair K V)) → HoldsMap k v b h at ps
+    → after ≤ before + 2 * bits (length ps + 1) + more

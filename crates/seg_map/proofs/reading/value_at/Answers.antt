@@ -26,8 +26,8 @@ slice_bounds-read-end g c =
 pub returns : goal.returns
 returns g c =
     let p = g.T.Plain in let b = c.args.heap.now.bytes in let at = c.args.at in
-    let bytes : take (at + c.SIZE.result - at) (drop at c.block.result.now)
-    ≡ read (bytes_of b) (c.args.handle + at) p.SIZE =
+    let bytes : take (at + c.SIZE.result - at) (drop at c.block.result.now) ≡ read (bytes_of b)
+    (c.args.handle + at) p.SIZE =
     (λ i. take (at + c.SIZE.ensures i - at) (drop at (c.block.ensures i)))
     ∙ payload_part b c.args.handle (at + p.SIZE) c.requires.proper c.requires.room at p.SIZE refl in
     read-value p.reading p.is_value p.spelling g.met.T.Plain.reads

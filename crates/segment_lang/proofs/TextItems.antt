@@ -6,61 +6,77 @@ use Rattle.std.specs.List.{take_while}
 use Rattle.std.specs.Option.{option_map, option_and_then, unwrap_or, IsSome}
 use Rattle.std.proofs.lemmas.Bool.Decides.{nat_tests}
 use Rattle.std.proofs.lemmas.List.Sums.{take_while-cons}
-use Rattle.std.proofs.lemmas.Option.{some_pair_parts}
 use Rattle.segment_lang.specs.Words.{is_plain, byte_of_digits}
 use Rattle.segment_lang.specs.Tokens.{text_at, escaped_at, high_digit_at, item_at, escape_at, digits_at, longer}
 use Rattle.segment_lang.specs.Tokens.{closed_at, quote_at, behind_quote, ends_word, behind_text, is_unescaped, text_in}
 
 -- ---- an item in front
 
-same_longer : (c b : ℕ) (cs r : List ℕ) → ◌≡◌ {A = Option (ℕ × List ℕ)} (Some (c, cs)) (Some (b, r))
-    → longer c (text_at cs) ≡ longer b (text_at r)
-same_longer c b cs r h = let e : (c ≡ b) × (cs ≡ r) = some_pair_parts c b cs r h in cc (e.0, e.1)
+-- an item, and the text behind it
+abbrev after : Option (ℕ × List ℕ) → Option (List ℕ × List ℕ)
+after o = option_and_then (λ x. longer x.0 (text_at x.1)) o
 
-digits_some : (o : Option ℕ) (b : ℕ) (cs r : List ℕ) → option_map {U = ℕ × List ℕ} (λ c. (c, cs)) o ≡ Some (b, r)
-    → option_and_then (λ c. longer c (text_at cs)) o ≡ longer b (text_at r)
-digits_some None b cs r h = cc
-digits_some (Some x) b cs r h = same_longer x b cs r h
+digits_after : (o : Option ℕ) (cs : List ℕ)
+    → option_and_then (λ c. longer c (text_at cs)) o ≡ after (option_map {U = ℕ × List ℕ} (λ c. (c, cs)) o)
+digits_after None cs = refl
+digits_after (Some x) cs = refl
 
-high_digit_some : (cs r : List ℕ) (b : ℕ) → digits_at cs ≡ Some (b, r) → high_digit_at cs ≡ longer b (text_at r)
+high_digit_after : (cs : List ℕ) → high_digit_at cs ≡ after (digits_at cs)
 unfolding digits_at text_at
-high_digit_some [] r b h = cc
-high_digit_some (c ∷ []) r b h = cc
-high_digit_some (c ∷ l ∷ cs) r b h = digits_some (byte_of_digits c l) b cs r h
+high_digit_after [] = refl
+high_digit_after (c ∷ []) = refl
+high_digit_after (c ∷ l ∷ cs) = digits_after (byte_of_digits c l) cs
 
-escape_choice : (q x : Bool) (c b : ℕ) (cs r : List ℕ)
-    → (digits_at cs ≡ Some (b, r) → high_digit_at cs ≡ longer b (text_at r))
-    → cond q (Some (c, cs)) (cond x (digits_at cs) None) ≡ Some (b, r)
-    → cond q (longer c (text_at cs)) (cond x (high_digit_at cs) None) ≡ longer b (text_at r)
-escape_choice true x c b cs r f h = same_longer c b cs r h
-escape_choice false true c b cs r f h = f h
-escape_choice false false c b cs r f h = cc
+escape_choice : (q x : Bool) (c : ℕ) (cs : List ℕ) → cond q (longer c (text_at cs)) (cond x (high_digit_at cs) None)
+    ≡ after (cond q (Some (c, cs)) (cond x (digits_at cs) None))
+escape_choice true x c cs = refl
+escape_choice false true c cs = high_digit_after cs
+escape_choice false false c cs = refl
 
-escape_some : (cs r : List ℕ) (b : ℕ) → escape_at cs ≡ Some (b, r) → escaped_at cs ≡ longer b (text_at r)
+escape_after : (cs : List ℕ) → escaped_at cs ≡ after (escape_at cs)
 unfolding escape_at text_at
-escape_some [] r b h = cc
-escape_some (c ∷ cs) r b h = escape_choice ((c == 0x22) || (c == 0x5C)) (c == 0x78) c b cs r (high_digit_some cs r b) h
+escape_after [] = refl
+escape_after (c ∷ cs) = escape_choice ((c == 0x22) || (c == 0x5C)) (c == 0x78) c cs
 
-item_choice : (q e p : Bool) (c b : ℕ) (cs r : List ℕ) → (q ≡ true → (e ≡ false) × (p ≡ false))
-    → (escape_at cs ≡ Some (b, r) → escaped_at cs ≡ longer b (text_at r))
-    → cond e (escape_at cs) (cond p (Some (c, cs)) None) ≡ Some (b, r)
-    → cond q (closed_at cs) (cond e (escaped_at cs) (cond p (longer c (text_at cs)) None)) ≡ longer b (text_at r)
-item_choice true true p c b cs r k f h = cc (k refl).0
-item_choice true false true c b cs r k f h = cc (k refl).1
-item_choice true false false c b cs r k f h = cc
-item_choice false true p c b cs r k f h = f h
-item_choice false false true c b cs r k f h = same_longer c b cs r h
-item_choice false false false c b cs r k f h = cc
+item_choice : (q e p : Bool) (c : ℕ) (cs : List ℕ)
+    → cond q (closed_at cs) (cond e (escaped_at cs) (cond p (longer c (text_at cs)) None))
+    ≡ cond q (closed_at cs) (after (cond e (escape_at cs) (cond p (Some (c, cs)) None)))
+item_choice q true p c cs = ap (cond q (closed_at cs)) (escape_after cs)
+item_choice q false true c cs = refl
+item_choice q false false c cs = refl
+
+-- a text ends at a quote, or begins with an item
+text_step : (c : ℕ) (cs : List ℕ) → text_at (c ∷ cs) ≡ cond (c == 0x22) (closed_at cs) (after (item_at (c ∷ cs)))
+unfolding item_at text_at
+text_step c cs = item_choice (c == 0x22) (c == 0x5C) (is_plain c) c cs
 
 quote_is_none : (c : ℕ) → (c == 0x22) ≡ true → ((c == 0x5C) ≡ false) × (is_plain c ≡ false)
 quote_is_none c h = grind (arith, nat_tests)
 
+neither : (e p : Bool) (x y : Option (ℕ × List ℕ)) → e ≡ false → p ≡ false → cond e x (cond p y None) ≡ None
+neither true p x y f g = cc
+neither false true x y f g = cc
+neither false false x y f g = refl
+
+no_item : (c : ℕ) (cs : List ℕ) → (c == 0x22) ≡ true → item_at (c ∷ cs) ≡ None
+unfolding item_at
+no_item c cs h =
+    let p = quote_is_none c h in neither (c == 0x5C) (is_plain c) (escape_at cs) (Some (c, cs)) p.0 p.1
+
+item_there : (q : Bool) (end : Option (List ℕ × List ℕ)) (o : Option (ℕ × List ℕ)) (b : ℕ) (r : List ℕ)
+    → (q ≡ true → o ≡ None) → o ≡ Some (b, r) → cond q end (after o) ≡ longer b (text_at r)
+item_there true end o b r f h = let n = f refl in cc
+item_there false end o b r f h = ap after h
+
+nothing_there : (r : List ℕ) (b : ℕ) → item_at [] ≡ Some (b, r) → text_at [] ≡ longer b (text_at r)
+unfolding item_at
+nothing_there r b h = cc
+
 -- an item is the first byte of the text
 pub text_at-item : (bytes r : List ℕ) (b : ℕ) → item_at bytes ≡ Some (b, r) → text_at bytes ≡ longer b (text_at r)
-unfolding item_at text_at
-text_at-item [] r b h = cc
-text_at-item (c ∷ cs) r b h = item_choice (c == 0x22) (c == 0x5C) (is_plain c) c b cs r (quote_is_none c)
-    (escape_some cs r b) h
+text_at-item [] r b h = nothing_there r b h
+text_at-item (c ∷ cs) r b h =
+    text_step c cs ∙ item_there (c == 0x22) (closed_at cs) (item_at (c ∷ cs)) b r (no_item c cs) h
 
 behind_longer : (b : ℕ) (t : Option (List ℕ × List ℕ)) → option_map (λ x. x.1) (longer b t) ≡ option_map (λ x. x.1) t
 behind_longer b None = refl
@@ -69,44 +85,11 @@ behind_longer b (Some x) = refl
 pub behind_text-item : (bytes r : List ℕ) (b : ℕ) → item_at bytes ≡ Some (b, r) → behind_text r ≡ behind_text bytes
 behind_text-item bytes r b h = sym (ap (option_map (λ x. x.1)) (text_at-item bytes r b h) ∙ behind_longer b (text_at r))
 
--- ---- no item in front
-
-digits_none : (o : Option ℕ) (cs : List ℕ) → option_map {U = ℕ × List ℕ} (λ c. (c, cs)) o ≡ None
-    → option_and_then (λ c. longer c (text_at cs)) o ≡ None
-digits_none None cs h = refl
-digits_none (Some x) cs h = cc
-
-high_digit_none : (cs : List ℕ) → digits_at cs ≡ None → high_digit_at cs ≡ None
-unfolding digits_at text_at
-high_digit_none [] h = refl
-high_digit_none (c ∷ []) h = refl
-high_digit_none (c ∷ l ∷ cs) h = digits_none (byte_of_digits c l) cs h
-
-escape_choice_none : (q x : Bool) (c : ℕ) (cs : List ℕ) → (digits_at cs ≡ None → high_digit_at cs ≡ None)
-    → cond q (Some (c, cs)) (cond x (digits_at cs) None) ≡ None
-    → cond q (longer c (text_at cs)) (cond x (high_digit_at cs) None) ≡ None
-escape_choice_none true x c cs f h = cc
-escape_choice_none false true c cs f h = f h
-escape_choice_none false false c cs f h = refl
-
-escape_none : (cs : List ℕ) → escape_at cs ≡ None → escaped_at cs ≡ None
-unfolding escape_at text_at
-escape_none [] h = refl
-escape_none (c ∷ cs) h = escape_choice_none ((c == 0x22) || (c == 0x5C)) (c == 0x78) c cs (high_digit_none cs) h
-
-item_choice_none : (q e p : Bool) (c : ℕ) (cs : List ℕ) → (escape_at cs ≡ None → escaped_at cs ≡ None)
-    → cond e (escape_at cs) (cond p (Some (c, cs)) None) ≡ None
-    → cond q (closed_at cs) (cond e (escaped_at cs) (cond p (longer c (text_at cs)) None)) ≡ cond q (closed_at cs) None
-item_choice_none true e p c cs f h = refl
-item_choice_none false true p c cs f h = f h
-item_choice_none false false true c cs f h = cc
-item_choice_none false false false c cs f h = refl
-
 -- where there is no item, there is the quote that ends the text, or nothing that fits
 pub text_at-end : (bytes : List ℕ) → item_at bytes ≡ None → text_at bytes ≡ quote_at bytes
-unfolding item_at text_at
+unfolding text_at
 text_at-end [] h = refl
-text_at-end (c ∷ cs) h = item_choice_none (c == 0x22) (c == 0x5C) (is_plain c) c cs (escape_none cs) h
+text_at-end (c ∷ cs) h = text_step c cs ∙ ap (λ o. cond (c == 0x22) (closed_at cs) (after o)) h
 
 -- ---- the bytes, and what is behind them
 

@@ -76,13 +76,16 @@ tells {A} s key h say x a each = record {
 -- ---- the same, as the view of the segment is named
 
 -- where a look-up ended, there it ended in the view
-pub seen-handle : (s t : State) (view : s ≡ t) (key : Key) (r : Option ℕ) → Answers t (λ d. handle_at d key) r → Answers s (λ d. handle_at d key) r
+pub seen-handle : (s t : State) (view : s ≡ t) (key : Key) (r : Option ℕ) → Answers t (λ d. handle_at d key) r
+    → Answers s (λ d. handle_at d key) r
 seen-handle s t view key r = subst (λ (u : State). Answers u (λ d. handle_at d key) r) (sym view)
 
-pub seen-object : (s t : State) (view : s ≡ t) (key : Key) (h : ℕ) → IsSegment s.cut.bytes → Answers t (λ d. handle_at d key) (Some h) → HasObject s.cut.bytes h
+pub seen-object : (s t : State) (view : s ≡ t) (key : Key) (h : ℕ) → IsSegment s.cut.bytes
+    → Answers t (λ d. handle_at d key) (Some h) → HasObject s.cut.bytes h
 seen-object s t view key h i a = has-object s key h i (seen-handle s t view key (Some h) a)
 
-pub seen-tells : {A : Type 0} (s t : State) (view : s ≡ t) (key : Key) (h : ℕ) (say : Object → A) (x : A) → Answers t (λ d. handle_at d key) (Some h)
-    → ((o : Object) → StandsAt s.cut.bytes h o → x ≡ say o) → Answers t (λ d. told_at d key say) (Ok x)
+pub seen-tells : {A : Type 0} (s t : State) (view : s ≡ t) (key : Key) (h : ℕ) (say : Object → A) (x : A)
+    → Answers t (λ d. handle_at d key) (Some h) → ((o : Object) → StandsAt s.cut.bytes h o → x ≡ say o) → Answers t (λ d. told_at d key say) (Ok x)
 seen-tells {A} s t view key h say x a each =
-    subst (λ (u : State). Answers u (λ d. told_at d key say) (Ok x)) view (tells s key h say x (seen-handle s t view key (Some h) a) each)
+    subst (λ (u : State). Answers u (λ d. told_at d key say) (Ok x)) view
+    (tells s key h say x (seen-handle s t view key (Some h) a) each)

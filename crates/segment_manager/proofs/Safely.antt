@@ -32,8 +32,8 @@ stays s new key kind c e why is same step = record {
 }
 
 -- it is done
-pub done-so : {s : State} {new : Cut} {key : Key} {kind : Kind} {c : Command} {u : Unit {0}} → IsStepOfKind s (record s { cut = new }) key kind c Done
-    → StepsSafely s new key kind c (Ok u)
+pub done-so : {s : State} {new : Cut} {key : Key} {kind : Kind} {c : Command} {u : Unit {0}}
+    → IsStepOfKind s (record s { cut = new }) key kind c Done → StepsSafely s new key kind c (Ok u)
 done-so step = record { step = step; refused = tt }
 
 -- ---- the segment afterwards, as its view before the call is named
@@ -45,12 +45,13 @@ seen-refused s t view new (Ok u) e = tt
 seen-refused s t view new (Err w) e = (λ i. record s { cut = e i }) ∙ view
 
 -- the same of a call with an answer
-pub record AnswersSafely {R : Type 0} (says : Result R Refusal → Answer) (s : State) (new : Cut) (key : Key) (kind : Kind) (c : Command) (r : Result R Refusal) : Type 0 where
+pub record AnswersSafely {R : Type 0} (says : Result R Refusal → Answer) (s : State) (new : Cut) (key : Key)
+    (kind : Kind) (c : Command) (r : Result R Refusal) : Type 0 where
   pub step : IsStepOfKind s (record s { cut = new }) key kind c (says r)
   pub refused : OnErr r (new ≡ s.cut)
 
-module _ {R : Type 0} {says : Result R Refusal → Answer} (s t : State) (view : s ≡ t) (new : Cut) (key : Key) (kind : Kind) (c : Command)
-    (r : Result R Refusal) (done : AnswersSafely says s new key kind c r) where
+module _ {R : Type 0} {says : Result R Refusal → Answer} (s t : State) (view : s ≡ t) (new : Cut) (key : Key)
+    (kind : Kind) (c : Command) (r : Result R Refusal) (done : AnswersSafely says s new key kind c r) where
   pub answer-step : IsStepOfKind t (record s { cut = new }) key kind c (says r)
   answer-step = subst (λ (u : State). IsStepOfKind u (record s { cut = new }) key kind c (says r)) view done.step
 

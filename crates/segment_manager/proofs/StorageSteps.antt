@@ -165,9 +165,10 @@ pub step_of_kind-reply : (s : State) (key : Key) (kind : Kind) (c : Command) (an
 step_of_kind-reply s key kind c answer r = record { answers = r.answers }
 
 -- the same in the segment, as its view before the call is named
-pub seen-reply : (s t : State) (view : s ≡ t) (key : Key) (kind : Kind) (c : Command) (answer : Answer) → IsStepOfKind s s key kind c answer
-    → IsReplyOfKind t key kind c answer
-seen-reply s t view key kind c answer r = subst (λ (u : State). IsReplyOfKind u key kind c answer) view (step_of_kind-reply s key kind c answer r)
+pub seen-reply : (s t : State) (view : s ≡ t) (key : Key) (kind : Kind) (c : Command) (answer : Answer)
+    → IsStepOfKind s s key kind c answer → IsReplyOfKind t key kind c answer
+seen-reply s t view key kind c answer r =
+    subst (λ (u : State). IsReplyOfKind u key kind c answer) view (step_of_kind-reply s key kind c answer r)
 
 -- there is no such container
 pub no_container-reply : (s : State) (key : Key) (kind : Kind) (c : Command) (why : Refusal) → is_changing c ≡ false

@@ -22,11 +22,12 @@ stands-there s t view key l kind p e found =
     at.answers
 
 -- what the call at its place does
-pub changes-there : (s t : State) (view : s ≡ t) (new : Cut) (key : Key) (l kind : Kind) (p : Place) (command : Key → Command)
-    (r : Result (Unit {0}) Refusal) → is_read_only t.mode ≡ false → l ≡ kind → Answers t (λ d. container_at d key l) (Ok p)
-    → StepsThere s.cut new kind p command r → StepsSafely s new key kind (command key) r
+pub changes-there : (s t : State) (view : s ≡ t) (new : Cut) (key : Key) (l kind : Kind) (p : Place)
+    (command : Key → Command) (r : Result (Unit {0}) Refusal) → is_read_only t.mode ≡ false → l ≡ kind
+    → Answers t (λ d. container_at d key l) (Ok p) → StepsThere s.cut new kind p command r → StepsSafely s new key kind (command key) r
 changes-there s t view new key l kind p command r writing e found each =
-    each s.mode key (ap (λ (u : State). is_read_only u.mode) view ∙ writing) (stands-there s t view key l kind p e found)
+    each s.mode key (ap (λ (u : State). is_read_only u.mode) view ∙ writing)
+    (stands-there s t view key l kind p e found)
 
 -- it is found, and changed
 pub storage-changed : (s t : State) (view : s ≡ t) (new : Cut) (key : Key) (kind : Kind) (c : Command) (r : Result (Unit {0}) Refusal) → StepsSafely s new key kind c r

@@ -26,8 +26,8 @@ to_change s key kind (Err why) w a = record {
 pub seen-to_change : (s t : State) (view : s ≡ t) (key : Key) (kind : Kind) (p : Place) → IsToChange t key kind p → IsToChange s key kind p
 seen-to_change s t view key kind p = subst (λ (u : State). IsToChange u key kind p) (sym view)
 
-pub seen-found : (s t : State) (view : s ≡ t) (key : Key) (kind : Kind) (p : Place) → Answers t (λ d. container_at d key kind) (Ok p)
-    → Answers s (λ d. container_at d key kind) (Ok p)
+pub seen-found : (s t : State) (view : s ≡ t) (key : Key) (kind : Kind) (p : Place)
+    → Answers t (λ d. container_at d key kind) (Ok p) → Answers s (λ d. container_at d key kind) (Ok p)
 seen-found s t view key kind p = subst (λ (u : State). Answers u (λ d. container_at d key kind) (Ok p)) (sym view)
 
 -- the same of a vector, as the type and the vector name its place

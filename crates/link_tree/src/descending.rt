@@ -52,11 +52,11 @@ pub fn descend<N: Nodes, K: Notes>(
     let mut link = root;
     let mut notes = start;
     while let Some(node) = link {
-        if visits.before_probe(node, probe) {
-            notes = notes.pass(&mut visits, node, true);
+        let before = visits.before_probe(node, probe);
+        notes = notes.pass(&mut visits, node, before);
+        if before {
             link = visits.right(node);
         } else {
-            notes = notes.pass(&mut visits, node, false);
             link = visits.left(node);
         }
     }

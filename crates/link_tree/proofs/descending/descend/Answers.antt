@@ -34,22 +34,22 @@ loop-link-init g c = record {
   seeks = λ t k. seek_start c.args.root _ _ k c.new-visits.ensures.at c.new-visits.ensures.steps;
 }
 
-pub loop-link-smaller-then-before_probe : goal.loop-link-smaller-then-before_probe
-loop-link-smaller-then-before_probe g c =
+pub loop-link-smaller-then-before : goal.loop-link-smaller-then-before
+loop-link-smaller-then-before g c =
     let t = c.requires.tree in
-    let goes = c.before_probe.ensures.goes ((c.loop-link.invariant.seeks t.0 t.1).away _ c.in-Some.is) in
+    let goes = c.before_probe-before.ensures.goes ((c.loop-link.invariant.seeks t.0 t.1).away _ c.in-Some.is) in
     let stays = c.right-link.ensures.stays c.pass-notes.ensures.at in
     omega arith
 
 pub loop-link-smaller : goal.loop-link-smaller
 loop-link-smaller g c =
     let t = c.requires.tree in
-    let goes = c.before_probe.ensures.goes ((c.loop-link.invariant.seeks t.0 t.1).away _ c.in-Some.is) in
-    let stays = c.left-link.ensures.stays c.pass-notes-else-before_probe.ensures.at in
+    let goes = c.before_probe-before.ensures.goes ((c.loop-link.invariant.seeks t.0 t.1).away _ c.in-Some.is) in
+    let stays = c.left-link.ensures.stays c.pass-notes.ensures.at in
     omega arith
 
-pub loop-link-preserved-then-before_probe : goal.loop-link-preserved-then-before_probe
-loop-link-preserved-then-before_probe g c =
+pub loop-link-preserved-then-before : goal.loop-link-preserved-then-before
+loop-link-preserved-then-before g c =
     let s = c.args.nodes.now in
     let t = c.requires.tree in
     let n = c.in-Some.node in
@@ -58,7 +58,7 @@ loop-link-preserved-then-before_probe g c =
     let seeks = further g s c.args.probe.now c.args.root c.args.start true n c.right-link.result _ _ _
     c.pass-notes.result _ c.right-link.new.self.steps (rw c.in-Some.is at c.loop-link.invariant.seeks) (cc) (cc)
     (λ away.
-    let goes = c.before_probe.ensures.goes away in
+    let goes = c.before_probe-before.ensures.goes away in
     let stays = c.right-link.ensures.stays c.pass-notes.ensures.at in
     omega arith) c.right-link.ensures.at is in
     let low = low_tree g.met.N.Nodes s t.1 c.requires.root in
@@ -73,10 +73,10 @@ loop-link-preserved g c =
     let here : g.N.Nodes.is_node s n ≡ true = rw c.in-Some.is at c.loop-link.invariant.good in
     let is : c.left-link.result ≡ (g.N.Nodes.cells s n).left = cc in
     let seeks = further g s c.args.probe.now c.args.root c.args.start false n c.left-link.result _ _ _
-    c.pass-notes-else-before_probe.result _ c.left-link.new.self.steps (rw c.in-Some.is at c.loop-link.invariant.seeks)
+    c.pass-notes.result _ c.left-link.new.self.steps (rw c.in-Some.is at c.loop-link.invariant.seeks)
     (cc) (cc) (λ away.
-    let goes = c.before_probe.ensures.goes away in
-    let stays = c.left-link.ensures.stays c.pass-notes-else-before_probe.ensures.at in
+    let goes = c.before_probe-before.ensures.goes away in
+    let stays = c.left-link.ensures.stays c.pass-notes.ensures.at in
     omega arith) c.left-link.ensures.at is in
     let low = low_tree g.met.N.Nodes s t.1 c.requires.root in
     let taken = (seeks t.0 t.1).taken in

@@ -30,7 +30,7 @@ use Rattle.segment_manager.proofs.ContentPlans.{erase-other, insert-other, inser
 use Rattle.segment_manager.proofs.Locating.{step_of_kind-by_key}
 use Rattle.segment_manager.proofs.Steps.{with-found, with-not_found}
 use Rattle.segment_manager.proofs.Stored.{literal-read}
-use Rattle.segment_manager.proofs.Refilled.{same_plan-steps}
+use Rattle.segment_manager.proofs.ElementLaws.{same_plan-steps}
 
 -- ---- values by their kinds
 

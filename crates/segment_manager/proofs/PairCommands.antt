@@ -29,7 +29,7 @@ use Rattle.segment_manager.proofs.Changeable.{IsPairOf, IsToChange, IsUnchangeab
 use Rattle.segment_manager.proofs.Locating.{kind-by_key, reply_of_kind-by_key, step_of_kind-by_key}
 use Rattle.segment_manager.proofs.Steps.{step_of_kind-step, with-found, with-not_found}
 use Rattle.segment_manager.proofs.Stored.{literal-read}
-use Rattle.segment_manager.proofs.Refilled.{same_plan-steps}
+use Rattle.segment_manager.proofs.ElementLaws.{same_plan-steps}
 
 -- ---- the plans
 

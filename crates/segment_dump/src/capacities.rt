@@ -3,20 +3,19 @@ ghost use Rattle.std.specs.Prelude.{◌≡◌, ◌-◌, ◌^◌, ◌<◌, ◌++�
 ghost use Rattle.raw_region.specs.Device.{Writes};
 ghost use Rattle.seg_types.specs.Names.{ByHandle};
 ghost use Rattle.segment_manager.specs.Contents.{sizes_at};
-ghost use Rattle.segment_manager.specs.Directory.{named_objects, unique_objects};
 ghost use Rattle.segment_manager.specs.Instances.{SaysOf};
 ghost use Rattle.segment_manager.specs.Located.{IsLocated, IsObject};
 ghost use Rattle.segment_manager.specs.State.{Answers};
-ghost use Rattle.segment_dump.specs.Capacities.{Holds, all_notes, anonymous_notes_at, capacities, capacities_text, capacity_note, index_notes, measured_places, notes_at, notes_of, other_notes, places_at};
-ghost use Rattle.segment_dump.specs.Items.{anonymous_objects, portable};
+ghost use Rattle.segment_dump.specs.Capacities.{Holds, all_notes, capacities, capacities_text, capacity_note, index_notes, measured_places, notes_at, other_notes, places_at};
+ghost use Rattle.segment_dump.specs.Items.{portable};
 ghost use Rattle.segment_dump.specs.Owed.{WritesOf};
 ghost use Rattle.segment_dump.specs.Texts.{dump_text};
 
 use crate::dumping::dump;
+use crate::objects::{Telling, put_anonymous, put_named, put_unique};
 use raw_region::{DeviceFault, Sink, word_in};
 use seg_types::{Class, Kind};
 use segment_lang::{Piece, put_pieces};
-use segment_manager::conditioned::{named_instance, unique_instance};
 use segment_manager::layout::{NAMED_AT, UNIQUE_AT};
 use segment_manager::{Instance, Object, Segment};
 
@@ -36,6 +35,24 @@ pub fn dump_with_capacities<W: Sink>(segment: &Segment, out: &mut W) -> Result<(
 {
     dump(segment, out)?;
     put_capacities(segment, out)
+}
+
+/// Tells the capacity of an object, if it has one.
+struct Notes;
+
+impl Telling for Notes {
+    ghost use Rattle.segment_dump.specs.Capacities.{object_notes};
+
+    ghost text = { λ _. object_notes };
+
+    fn tell<W: Sink>(
+        &self,
+        segment: &Segment,
+        said: Instance<'_>,
+        out: &mut W,
+    ) -> Result<(), DeviceFault> {
+        put_capacity(segment, said, out)
+    }
 }
 
 /// Writes the notes of all capacities.
@@ -91,7 +108,7 @@ fn put_objects<W: Sink>(segment: &Segment, out: &mut W) -> Result<(), DeviceFaul
     requires { (W.history out.old).failures < 2 ^ 64 - 1 }
     ensures { WritesOf segment.now (W.history out.old) (W.history out.new) result (λ d. all_notes d) }
 {
-    put_named(segment, out)?;
+    put_named(&Notes, segment, out)?;
     put_others(segment, out)
 }
 
@@ -100,57 +117,8 @@ fn put_others<W: Sink>(segment: &Segment, out: &mut W) -> Result<(), DeviceFault
     requires { (W.history out.old).failures < 2 ^ 64 - 1 }
     ensures { WritesOf segment.now (W.history out.old) (W.history out.new) result (λ d. other_notes d) }
 {
-    put_unique(segment, out)?;
-    put_anonymous(segment, out)
-}
-
-/// Writes the notes of the objects with names, by their names.
-fn put_named<W: Sink>(segment: &Segment, out: &mut W) -> Result<(), DeviceFault>
-    requires { (W.history out.old).failures < 2 ^ 64 - 1 }
-    ensures { WritesOf segment.now (W.history out.old) (W.history out.new) result (λ d. notes_of (named_objects d)) }
-{
-    'names: for index in 0..segment.num_named() {
-        put_capacity(segment, named_instance(segment, index), out)?;
-    }
-    Ok(())
-}
-
-/// Writes the notes of the unique objects, by their kinds.
-fn put_unique<W: Sink>(segment: &Segment, out: &mut W) -> Result<(), DeviceFault>
-    requires { (W.history out.old).failures < 2 ^ 64 - 1 }
-    ensures { WritesOf segment.now (W.history out.old) (W.history out.new) result (λ d. notes_of (unique_objects d)) }
-{
-    'kinds: for index in 0..segment.num_unique() {
-        put_capacity(segment, unique_instance(segment, index), out)?;
-    }
-    Ok(())
-}
-
-/// Writes the notes of the anonymous objects, by their handles.
-fn put_anonymous<W: Sink>(segment: &Segment, out: &mut W) -> Result<(), DeviceFault>
-    requires { (W.history out.old).failures < 2 ^ 64 - 1 }
-    ensures { WritesOf segment.now (W.history out.old) (W.history out.new) result (λ d. notes_of (anonymous_objects d)) }
-{
-    'objects: for said in segment.objects() {
-        put_if_anonymous(segment, said, out)?;
-    }
-    Ok(())
-}
-
-/// Writes the note of an object where it is anonymous.
-fn put_if_anonymous<W: Sink>(
-    segment: &Segment,
-    said: Instance<'_>,
-    out: &mut W,
-) -> Result<(), DeviceFault>
-    requires writer { (W.history out.old).failures < 2 ^ 64 - 1 }
-    requires said { SaysOf segment.now (ByHandle said.handle) said }
-    ensures { WritesOf segment.now (W.history out.old) (W.history out.new) result (λ d. anonymous_notes_at d (ByHandle said.entry.handle)) }
-{
-    match said.class {
-        Class::Anonymous => put_capacity(segment, said, out),
-        _ => Ok(()),
-    }
+    put_unique(&Notes, segment, out)?;
+    put_anonymous(&Notes, segment, out)
 }
 
 /// Writes the note of an object that said this of itself, and nothing where it has no capacity.

@@ -1,19 +1,16 @@
 //! The dump of a segment: its size, and all objects line by line.
 ghost use Rattle.std.specs.Prelude.{◌≡◌, ◌-◌, ◌^◌, ◌<◌, length};
 ghost use Rattle.raw_region.specs.Device.{Writes};
-ghost use Rattle.seg_types.specs.Names.{ByHandle};
 ghost use Rattle.segment_manager.specs.Directory.{named_objects, unique_objects};
-ghost use Rattle.segment_manager.specs.Instances.{SaysOf};
-ghost use Rattle.segment_dump.specs.Items.{anonymous_objects, portable};
-ghost use Rattle.segment_dump.specs.Owed.{WritesOf, all_text, anonymous_at, last_text, objects_text, others_text};
+ghost use Rattle.segment_dump.specs.Items.{portable};
+ghost use Rattle.segment_dump.specs.Owed.{WritesOf, all_text, last_text, others_text};
 ghost use Rattle.segment_dump.specs.Texts.{dump_text, front_text};
 
-use crate::entries::put_entry;
+use crate::entries::Entries;
+use crate::objects::{put_anonymous, put_named, put_unique};
 use raw_region::{DeviceFault, Sink};
-use seg_types::Class;
 use segment_lang::{Piece, put_pieces};
-use segment_manager::conditioned::{named_instance, unique_instance};
-use segment_manager::{Instance, Segment};
+use segment_manager::Segment;
 
 /// Writes all that a segment holds as text: its size in bytes, and class, name, kind and value of each object. It needs no
 /// memory, and no line has more than 4096 bytes. Two segments with the same names, classes, kinds and values, and with their
@@ -70,7 +67,7 @@ fn put_objects<W: Sink>(segment: &Segment, out: &mut W) -> Result<(), DeviceFaul
     requires { (W.history out.old).failures < 2 ^ 64 - 1 }
     ensures { WritesOf segment.now (W.history out.old) (W.history out.new) result (λ d. all_text d) }
 {
-    put_named(segment, out)?;
+    put_named(&Entries, segment, out)?;
     put_others(segment, out)
 }
 
@@ -79,7 +76,7 @@ fn put_others<W: Sink>(segment: &Segment, out: &mut W) -> Result<(), DeviceFault
     requires { (W.history out.old).failures < 2 ^ 64 - 1 }
     ensures { WritesOf segment.now (W.history out.old) (W.history out.new) result (λ d. others_text d) }
 {
-    put_unique(segment, out)?;
+    put_unique(&Entries, segment, out)?;
     put_last(segment, out)
 }
 
@@ -88,55 +85,6 @@ fn put_last<W: Sink>(segment: &Segment, out: &mut W) -> Result<(), DeviceFault>
     requires { (W.history out.old).failures < 2 ^ 64 - 1 }
     ensures { WritesOf segment.now (W.history out.old) (W.history out.new) result (λ d. last_text d) }
 {
-    put_anonymous(segment, out)?;
+    put_anonymous(&Entries, segment, out)?;
     put_pieces(out, &[Piece::Bytes(b"end\n")])
-}
-
-/// Writes the objects with names, by their names.
-fn put_named<W: Sink>(segment: &Segment, out: &mut W) -> Result<(), DeviceFault>
-    requires { (W.history out.old).failures < 2 ^ 64 - 1 }
-    ensures { WritesOf segment.now (W.history out.old) (W.history out.new) result (λ d. objects_text (named_objects d)) }
-{
-    'names: for index in 0..segment.num_named() {
-        put_entry(segment, named_instance(segment, index), out)?;
-    }
-    Ok(())
-}
-
-/// Writes the unique objects, by their kinds.
-fn put_unique<W: Sink>(segment: &Segment, out: &mut W) -> Result<(), DeviceFault>
-    requires { (W.history out.old).failures < 2 ^ 64 - 1 }
-    ensures { WritesOf segment.now (W.history out.old) (W.history out.new) result (λ d. objects_text (unique_objects d)) }
-{
-    'kinds: for index in 0..segment.num_unique() {
-        put_entry(segment, unique_instance(segment, index), out)?;
-    }
-    Ok(())
-}
-
-/// Writes the anonymous objects, by their handles.
-fn put_anonymous<W: Sink>(segment: &Segment, out: &mut W) -> Result<(), DeviceFault>
-    requires { (W.history out.old).failures < 2 ^ 64 - 1 }
-    ensures { WritesOf segment.now (W.history out.old) (W.history out.new) result (λ d. objects_text (anonymous_objects d)) }
-{
-    'objects: for said in segment.objects() {
-        put_if_anonymous(segment, said, out)?;
-    }
-    Ok(())
-}
-
-/// Writes an object where it is anonymous.
-fn put_if_anonymous<W: Sink>(
-    segment: &Segment,
-    said: Instance<'_>,
-    out: &mut W,
-) -> Result<(), DeviceFault>
-    requires writer { (W.history out.old).failures < 2 ^ 64 - 1 }
-    requires said { SaysOf segment.now (ByHandle said.handle) said }
-    ensures { WritesOf segment.now (W.history out.old) (W.history out.new) result (λ d. anonymous_at d (ByHandle said.entry.handle)) }
-{
-    match said.class {
-        Class::Anonymous => put_entry(segment, said, out),
-        _ => Ok(()),
-    }
 }

@@ -7,17 +7,32 @@ ghost use Rattle.segment_dump.specs.Owed.{WritesOf, text_at};
 ghost use Rattle.segment_dump.specs.Texts.{head_line};
 
 use crate::contents::{count_of, put_content};
+use crate::objects::Telling;
 use raw_region::{DeviceFault, Sink};
 use seg_types::Class;
 use segment_lang::{Piece, put_pieces};
 use segment_manager::{Instance, Object, Segment};
 
+/// Tells an object by its lines in a dump.
+pub(crate) struct Entries;
+
+impl Telling for Entries {
+    ghost use Rattle.segment_dump.specs.Owed.{object_text};
+
+    ghost text = { λ _. object_text };
+
+    fn tell<W: Sink>(
+        &self,
+        segment: &Segment,
+        said: Instance<'_>,
+        out: &mut W,
+    ) -> Result<(), DeviceFault> {
+        put_entry(segment, said, out)
+    }
+}
+
 /// Writes all lines of an object that said this of itself.
-pub fn put_entry<W: Sink>(
-    segment: &Segment,
-    said: Instance<'_>,
-    out: &mut W,
-) -> Result<(), DeviceFault>
+fn put_entry<W: Sink>(segment: &Segment, said: Instance<'_>, out: &mut W) -> Result<(), DeviceFault>
     requires writer { (W.history out.old).failures < 2 ^ 64 - 1 }
     requires said { SaysOf segment.now (ByHandle said.handle) said }
     ensures { WritesOf segment.now (W.history out.old) (W.history out.new) result (λ d. text_at d (ByHandle said.entry.handle)) }

@@ -16,6 +16,7 @@ mod front_reading;
 mod loading;
 mod needs;
 mod notes;
+mod objects;
 mod pairs;
 mod places;
 mod reading;

@@ -1,11 +1,10 @@
 use Rattle.segment_manager.specs.Directory.{named_objects}
-use Rattle.segment_dump.specs.Capacities.{object_notes}
 use Rattle.segment_dump.specs.Owed.{WritesOf}
 use Rattle.segment_dump.specs.Parts.{parts_until}
 use Rattle.segment_dump.proofs.Sections.{object_at_place}
 use Rattle.segment_dump.proofs.PartLines.{well}
-use Rattle.segment_dump.proofs.capacities.put_named.Given as goal
+use Rattle.segment_dump.proofs.objects.put_named.Given as goal
 
 abbrev pub invariant-names : goal.invariant-names
 invariant-names g l =
-    WritesOf l.segment (g.W.Sink.history l.initial.out) (g.W.Sink.history l.out) well (λ d. parts_until (object_at_place object_notes named_objects d) l.index)
+    WritesOf l.segment (g.W.Sink.history l.initial.out) (g.W.Sink.history l.out) well (λ d. parts_until (object_at_place (g.T.Telling.text l.initial.telling) named_objects d) l.index)

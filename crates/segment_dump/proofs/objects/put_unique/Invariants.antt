@@ -1,11 +1,10 @@
 use Rattle.segment_manager.specs.Directory.{unique_objects}
-use Rattle.segment_dump.specs.Capacities.{object_notes}
 use Rattle.segment_dump.specs.Owed.{WritesOf}
 use Rattle.segment_dump.specs.Parts.{parts_until}
 use Rattle.segment_dump.proofs.Sections.{object_at_place}
 use Rattle.segment_dump.proofs.PartLines.{well}
-use Rattle.segment_dump.proofs.capacities.put_unique.Given as goal
+use Rattle.segment_dump.proofs.objects.put_unique.Given as goal
 
 abbrev pub invariant-kinds : goal.invariant-kinds
 invariant-kinds g l =
-    WritesOf l.segment (g.W.Sink.history l.initial.out) (g.W.Sink.history l.out) well (λ d. parts_until (object_at_place object_notes unique_objects d) l.index)
+    WritesOf l.segment (g.W.Sink.history l.initial.out) (g.W.Sink.history l.out) well (λ d. parts_until (object_at_place (g.T.Telling.text l.initial.telling) unique_objects d) l.index)

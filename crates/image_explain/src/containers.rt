@@ -73,8 +73,8 @@ fn is_wrong(image: &[u8], kind: Kind, at: u64) -> bool
     }
 }
 
-/// Whether the three words of the value at `at` are those of storage with room for its capacity, and its elements spell values of
-/// the kind.
+/// Whether the three words of the value at `at` are those of storage with room for its capacity, and its elements spell
+/// values of the kind.
 fn is_storage(image: &[u8], kind: ScalarKind, at: u64) -> bool
     requires tiles { HasTiles image.now }
     requires inside { at + 24 ≤ length image.now }
@@ -92,8 +92,8 @@ fn is_storage(image: &[u8], kind: ScalarKind, at: u64) -> bool
     }
 }
 
-/// Whether the three words of the value at `at` are those of storage of texts with room for its capacity, and each element has a
-/// block for its text.
+/// Whether the three words of the value at `at` are those of storage of texts with room for its capacity, and each
+/// element has a block for its text.
 fn is_array(image: &[u8], at: u64) -> bool
     requires tiles { HasTiles image.now }
     requires inside { at + 24 ≤ length image.now }

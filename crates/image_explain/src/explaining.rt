@@ -51,11 +51,12 @@ const FREE_TREE_AT: u64 = 24;
 /// How an image begins.
 const MAGIC: &[u8; 8] = b"MSEGFILE";
 
-/// Why an image of a class is refused, and the place that shows it. That is for the bytes that were found to have the class:
-/// where they have another one, the place says nothing.
+/// Why an image of a class is refused, and the place that shows it. That is for the bytes that were found to have the
+/// class: where they have another one, the place says nothing.
 ///
-/// A place is always said of the classes before the tenth. Of the last three one is said where it was found, which it is not behind
-/// 64 nodes of a map in a row, and of a map not where the order of its keys or the colours of its nodes are wrong.
+/// A place is always said of the classes before the tenth. Of the last three one is said where it was found, which it
+/// is not behind 64 nodes of a map in a row, and of a map not where the order of its keys or the colours of its nodes
+/// are wrong.
 pub fn explain(image: &[u8], class: ImageClass) -> Explanation
     ensures { Explains image.now class result }
 {

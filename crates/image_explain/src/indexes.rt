@@ -46,8 +46,8 @@ pub fn head_place(image: &[u8], at: u64) -> Option<u64>
     }
 }
 
-/// Whether the link of a block with `capacity` places of `each` bytes leads to one of a role with room for them, or nowhere
-/// where there are none.
+/// Whether the link of a block with `capacity` places of `each` bytes leads to one of a role with room for them, or
+/// nowhere where there are none.
 pub fn is_table_link(image: &[u8], role: Role, link: Option<u64>, each: u64, capacity: u64) -> bool
     requires tiles { HasTiles image.now }
     requires each { 0 < each }
@@ -71,8 +71,8 @@ fn has_room(len: u64, each: u64, capacity: u64) -> bool
     capacity <= (len - TAG) / each
 }
 
-/// The place of the first entry of the index at `at` that leads to no object, or to one to which an earlier entry leads, or nothing
-/// where none does.
+/// The place of the first entry of the index at `at` that leads to no object, or to one to which an earlier entry
+/// leads, or nothing where none does.
 fn entry_place(image: &[u8], at: u64) -> Option<u64>
     requires tiles { HasTiles image.now }
     requires place { at + 24 ≤ 128 }

@@ -38,8 +38,8 @@ struct Walked {
     left: u64,
 }
 
-/// Whether a map of these kinds at `at` was found to be wrong, by its third word, a node or their number. The order of the keys and
-/// the colours are not looked at.
+/// Whether a map of these kinds at `at` was found to be wrong, by its third word, a node or their number. The order of
+/// the keys and the colours are not looked at.
 pub fn is_wrong_map(image: &[u8], key: ScalarKind, value: ScalarKind, at: u64) -> bool
     requires tiles { HasTiles image.now }
     requires inside { at + 24 ≤ length image.now }

@@ -23,8 +23,8 @@ use block_tags::{FIRST, Role, TAG, Tile};
 use raw_region::word_in;
 use segment_manager::layout::{HEAD_LEN, NAMED_AT, UNIQUE_AT};
 
-/// The place that shows that an object is wrong or an entry of an index out of order, or nothing where all are right. That is for an
-/// image whose indexes are right: where they are not, the place says nothing.
+/// The place that shows that an object is wrong or an entry of an index out of order, or nothing where all are right.
+/// That is for an image whose indexes are right: where they are not, the place says nothing.
 pub fn object_place(image: &[u8]) -> Option<u64>
     requires { HasTiles image.now }
     ensures { has_indexes (bytes_of image.now) (tiles_in image.now) ≡ true
@@ -118,8 +118,8 @@ fn is_indexed(image: &[u8], at: u64) -> bool
     }
 }
 
-/// The place of the first entry of the index at `at` that leads to an object of another class, or to one whose key does not stand
-/// behind that of the one before, or nothing where none does.
+/// The place of the first entry of the index at `at` that leads to an object of another class, or to one whose key does
+/// not stand behind that of the one before, or nothing where none does.
 fn misplaced(image: &[u8], at: u64, class: u64) -> Option<u64>
     requires tiles { HasTiles image.now }
     requires place { at + 24 ≤ 128 }

@@ -26,6 +26,11 @@ _segment() {
                 COMPREPLY=($(compgen -W '--explain --help' -- "$word"))
                 return
             fi ;;
+        dump)
+            if [[ $word == -* ]]; then
+                COMPREPLY=($(compgen -W '--capacities --help' -- "$word"))
+                return
+            fi ;;
         load)
             [ "$before" = --size ] && return
             if [[ $word == -* ]]; then

@@ -11,8 +11,8 @@ use segment_cli::{
 };
 use segment_disk::{HostDisk, Numbered, Outlet, Output, StopsAtError};
 use segment_file::{
-    check, create, draw, dump, explain, grow, lint, load, migrate, print, print_language, run,
-    run_strict, shrink, stat,
+    check, create, draw, dump, dump_capacities, explain, grow, lint, load, migrate, print,
+    print_language, run, run_strict, shrink, stat,
 };
 use segment_scripts::{CommandRow, LANGUAGE};
 use std::alloc::{AllocError, Global};
@@ -96,6 +96,7 @@ fn command<O: Output + Drop>(
         Invocation::Stat(file) => stat(alloc, disk, file, &mut out),
         Invocation::Draw(file) => draw(alloc, disk, file, &mut out),
         Invocation::Dump(file) => dump(alloc, disk, file, &mut out),
+        Invocation::DumpCapacities(file) => dump_capacities(alloc, disk, file, &mut out),
         Invocation::Load(file, size) => {
             load(alloc, disk, file, size, &mut Reading::new(rt.reader()))
         }
@@ -175,6 +176,7 @@ fn file_of<'a>(asked: Invocation<'a>) -> Option<&'a str> {
         | Invocation::Stat(file)
         | Invocation::Draw(file)
         | Invocation::Dump(file)
+        | Invocation::DumpCapacities(file)
         | Invocation::Load(file, _) => Some(file),
         Invocation::Lint | Invocation::Language | Invocation::Version => None,
     }

@@ -6,5 +6,6 @@ mod Commanded
 mod Enlarged
 mod CutFiles
 mod Linted
+mod Loads
 mod Explained
 mod Reported

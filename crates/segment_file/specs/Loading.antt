@@ -1,9 +1,14 @@
 -- How a segment is made of a dump, in a file that is not there: what the disk is asked, in order, and how it ends.
-use Rattle.std.specs.Prelude.{◌≡◌, ◌≢◌, ◌⊎◌, ◌<◌, ◌≤◌, ⊤, ℕ, true, false, List, [], ◌∷◌, Option, Some, None, Result, Ok, Err, MatchResult, length, min}
+use Rattle.std.specs.Prelude.{◌≡◌, ◌≢◌, ◌⊎◌, ◌^◌, ◌<◌, ◌≤◌, ⊤, ℕ, true, false, List, [], ◌∷◌, Option, Some, None, Result, Ok, Err, MatchResult, length, min}
 use Rattle.raw_region.specs.Device.{Gave, Given, given_since}
 use Rattle.block_tags.specs.Format.{is_legal_size}
-use Rattle.segment_manager.specs.State.{State}
-use Rattle.segment_dump.specs.Loading.{IsLoaded, IsWhyNot}
+use Rattle.segment_manager.specs.Directory.{Directory}
+use Rattle.segment_manager.specs.State.{State, StandsFor}
+use Rattle.segment_dump.specs.Items.{Items, portable}
+use Rattle.segment_dump.specs.Loading.{IsLoaded, IsWhyNot, asked_of}
+use Rattle.segment_dump.specs.Need.{items_needs}
+use Rattle.segment_dump.specs.Notes.{without_notes}
+use Rattle.segment_dump.specs.Texts.{dump_text}
 use Rattle.segment_dump.specs.declared.faults.LoadError.{LoadError}
 use Rattle.segment_dump.specs.declared.faults.LoadError.TheVariants as load
 use Rattle.segment_cli.specs.declared.faults.SessionFault.{SessionFault}
@@ -44,7 +49,7 @@ IsWhyUnread given ReadFault = given.failed ≡ true
 IsWhyUnread given WriteFault = ⊥
 IsWhyUnread given ScriptTooLong = IsTooLong given
 
--- ---- a segment that is made of it
+-- ---- a segment that is made of it, but for the notes at its end
 
 -- why a load is refused, as the program answers it; the room for a text is memory
 abbrev pub load_fault : LoadError → ProgramFault
@@ -66,12 +71,31 @@ pub record IsLoadRefused (text : List ℕ) (size : Option ℕ) (fault : ProgramF
   pub room : ℕ
   pub wide : min (length text) 1073741824 ≤ room
   pub cause : LoadError
-  pub why : IsWhyNot text region 0 size room cause
+  pub why : IsWhyNot (without_notes text) region 0 size room cause
   pub fault_is : fault ≡ load_fault cause
 
 -- the text is the dump of the segment, or there is none: for a reason of the load, or since memory was refused
 abbrev pub LoadsSegment : List ℕ → Option ℕ → Result State ProgramFault → Type 0
-LoadsSegment text size result = MatchResult result (IsLoaded text size) (λ fault. IsLoadRefused text size fault ⊎ (fault ≡ Session OutOfMemory))
+LoadsSegment text size result = MatchResult result (IsLoaded (without_notes text) size) (λ fault. IsLoadRefused text size fault ⊎ (fault ≡ Session OutOfMemory))
+
+-- as many bytes as are asked for, or else as the text says
+abbrev pub IsWanted : List ℕ → Option ℕ → ℕ → Type 0
+IsWanted text size wanted = (n : ℕ) (items : Items) → n < 2 ^ 64 → without_notes text ≡ dump_text n items → wanted ≡ asked_of size n
+
+-- the text is the dump of a segment, and a segment of the size that is wanted can have its objects
+pub record IsFitting (text : List ℕ) (size : Option ℕ) : Type 0 where
+  pub bytes : List ℕ
+  pub directory : Directory
+  pub stands : StandsFor bytes directory
+  pub said : ℕ
+  pub small : said < 2 ^ 64
+  pub dump : without_notes text ≡ dump_text said (portable directory)
+  pub legal : is_legal_size (asked_of size said) ≡ true
+  pub room : (items_needs (portable directory)).room ≤ asked_of size said
+
+-- a segment is made, if memory is given
+abbrev pub IsMadeIfGiven : Result State ProgramFault → Type 0
+IsMadeIfGiven result = MatchResult result (λ segment. ⊤) (λ fault. fault ≡ Session OutOfMemory)
 
 -- a segment may have the size that was asked for, if one was
 abbrev pub IsSizeFit : Option ℕ → Type 0
@@ -100,6 +124,7 @@ module _ (size : Option ℕ) (script script' : Gave) (result : Result State Prog
     pub text : List ℕ
     pub read : IsReadWhole (given_since script script') text
     pub loads : LoadsSegment text size result
+    pub makes : IsFitting text size → IsMadeIfGiven result
 
   abbrev pub LoadsDump : Type 0
   LoadsDump = IsSizeUnfit ⊎ (IsDumpUnread ⊎ IsDumpRead)
@@ -135,3 +160,8 @@ module _ {D : Type 0} (step : D → Event → D → Type 0) (old new : D) (path 
 
   abbrev pub IsLoad : Type 0
   IsLoad = IsTakenLoad ⊎ (IsNotLoadedTo ⊎ IsLoadedTo)
+
+  -- Where a dump was read that fits, of whatever segment, and with whatever notes, its segment is in the file, but for something that
+  -- is there, memory that is not given, or a file that cannot be written.
+  pub record LoadsWhatFits : Type 0 where
+    pub loads : (text : List ℕ) → IsReadWhole (given_since script script') text → IsFitting text size → IsTakenLoad ⊎ ((result ≡ Err (Session OutOfMemory)) ⊎ IsLoadedTo)

@@ -35,7 +35,7 @@ pub use linting::lint;
 pub use loading::load;
 pub use migrating::migrate;
 pub use modes::run;
-pub use reporting::{draw, dump, stat};
+pub use reporting::{draw, dump, dump_capacities, stat};
 pub use resizing::{grow, shrink};
 pub use running::{run_in_new_file, run_on_file, run_on_file_or_new};
 pub use segment_files::SegmentFile;

@@ -2,7 +2,7 @@
 ghost use Rattle.std.specs.Prelude.{◌≡◌, ◌^◌, ◌-◌, ◌<◌, ℕ, true, false, Some};
 ghost use Rattle.block_tags.specs.Format.{is_legal_size};
 ghost use Rattle.segment_dump.specs.Loading.{IsAsked};
-ghost use Rattle.segment_file.specs.Loading.{IsLoad, IsSizeFit, LoadsDump, LoadsSegment, load_fault};
+ghost use Rattle.segment_file.specs.Loading.{IsFitting, IsLoad, IsMadeIfGiven, IsSizeFit, IsWanted, LoadsDump, LoadsSegment, LoadsWhatFits, load_fault};
 
 use crate::creating::WRITE_FAULT;
 use crate::gathering::read_text;
@@ -12,37 +12,21 @@ use block_tags::is_legal_size;
 use raw_region::Source;
 use segment_cli::{ProgramFault, SessionFault};
 use segment_disk::{Disk, Making, Presence};
-use segment_dump::LoadError;
-use segment_lang::number_of;
+use segment_dump::{LoadError, said_size};
 use segment_manager::Segment;
 use std::alloc::Global;
 
 /// Memory was refused.
 const OUT_OF_MEMORY: ProgramFault = ProgramFault::Session(SessionFault::OutOfMemory);
 
-/// How many bytes a dump has before its size.
-const SIZE_AT: usize = 20;
-
-/// The size that a dump says. Of another text this is any number.
-fn said_size(text: &[u8]) -> u64 {
-    if text.len() < SIZE_AT {
-        return 0;
-    }
-    let (_, rest) = text.split_at(SIZE_AT);
-    let Some(end) = rest.iter().position(|byte| *byte == b'\n') else {
-        return 0;
-    };
-    let (digits, _) = rest.split_at(end);
-    number_of(digits).unwrap_or(0)
-}
-
 /// How many bytes the segment of a dump is to have: as many as are asked for, or else as the dump says.
 fn wanted_size(text: &[u8], size: Option<u64>) -> u64
-    ensures { IsAsked size result }
+    ensures asked { IsAsked size result }
+    ensures wanted { IsWanted text.now size result }
 {
     match size {
         Some(size) => size,
-        None => said_size(text),
+        None => said_size(text).unwrap_or(0),
     }
 }
 
@@ -61,7 +45,8 @@ fn fault_of(error: LoadError) -> ProgramFault
 
 /// A segment of a dump, of the size that is asked for, or else with nothing free.
 fn segment_of(alloc: Global, text: &[u8], size: Option<u64>) -> Result<Segment, ProgramFault>
-    ensures { LoadsSegment text.now size result }
+    ensures loads { LoadsSegment text.now size result }
+    ensures makes { IsFitting text.now size → IsMadeIfGiven result }
 {
     let Ok(region) = region_for(alloc, wanted_size(text, size)) else {
         return Err(OUT_OF_MEMORY);
@@ -106,7 +91,8 @@ fn load_dump<S: Source>(
 }
 
 /// Makes a segment of the dump that a reader gives, in a file that is not there: of `size` bytes, or without a size with nothing
-/// free.
+/// free. Notes behind the dump are left out, as those of its capacities. Whatever segment the dump is of, it is loaded where a
+/// segment of the size can have its objects and memory is given.
 ///
 /// # Errors
 ///
@@ -122,7 +108,8 @@ pub fn load<D: Disk, S: Source>(
     script: &mut S,
 ) -> Result<(), ProgramFault>
     requires { (S.history script.old).failures < 2 ^ 64 - 1 }
-    ensures { IsLoad D.step disk.old disk.new path.now size (S.history script.old) (S.history script.new) result }
+    ensures does { IsLoad D.step disk.old disk.new path.now size (S.history script.old) (S.history script.new) result }
+    ensures succeeds { LoadsWhatFits D.step disk.old disk.new path.now size (S.history script.old) (S.history script.new) result }
 {
     if disk.look(path) == Presence::There {
         return Err(ProgramFault::Exists);

@@ -1,5 +1,6 @@
 //! The commands that tell what people want to see of the segment in a file: figures, a picture, or all of it as text.
-ghost use Rattle.std.specs.Prelude.{◌≡◌, ◌^◌, ◌-◌, ◌<◌};
+ghost use Rattle.std.specs.Prelude.{◌≡◌, ◌^◌, ◌-◌, ◌<◌, ◌++◌};
+ghost use Rattle.segment_dump.specs.Capacities.{capacities, capacities_text};
 ghost use Rattle.segment_dump.specs.Items.{portable};
 ghost use Rattle.segment_dump.specs.Texts.{dump_text};
 ghost use Rattle.segment_report.specs.Picture.{picture_of};
@@ -99,6 +100,37 @@ pub fn dump<D: Disk, O: Output>(
 {
     let segment = open_segment(alloc, disk, path, Mode::ReadOnly, 0)?;
     match tell_dump(out, &segment) {
+        Ok(()) => Ok(()),
+        Err(_) => Err(WRITE_FAULT),
+    }
+}
+
+/// Writes the same, and behind it the capacities of what has one, and gives out all that was written.
+fn tell_capacities<O: Output>(out: &mut O, segment: &Segment) -> Result<(), DeviceFault>
+    requires { (O.history out.old).failures < 2 ^ 64 - 1 }
+    ensures { TellsOf O.history O.flushes out.old out.new segment.now (λ d. dump_text d.size (portable d) ++ capacities_text (capacities d)) result }
+{
+    segment_dump::dump_with_capacities(segment, out)?;
+    Output::flush(out)
+}
+
+/// Says all that the segment in a file holds as text, line by line, and behind it the capacities of what has one. The file is
+/// opened for reading.
+///
+/// # Errors
+///
+/// Those of [`check`](crate::check).
+pub fn dump_capacities<D: Disk, O: Output>(
+    alloc: Global,
+    disk: &mut D,
+    path: &str,
+    out: &mut O,
+) -> Result<(), ProgramFault>
+    requires { (O.history out.old).failures < 2 ^ 64 - 1 }
+    ensures { IsReport D.step disk.old disk.new path.now O.history O.flushes out.old out.new (λ d. dump_text d.size (portable d) ++ capacities_text (capacities d)) result }
+{
+    let segment = open_segment(alloc, disk, path, Mode::ReadOnly, 0)?;
+    match tell_capacities(out, &segment) {
         Ok(()) => Ok(()),
         Err(_) => Err(WRITE_FAULT),
     }

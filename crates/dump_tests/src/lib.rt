@@ -4,6 +4,8 @@
 #[cfg(test)]
 mod dump_tests;
 #[cfg(test)]
+mod note_tests;
+#[cfg(test)]
 mod refusal_tests;
 #[cfg(test)]
 mod segments;

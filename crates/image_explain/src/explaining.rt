@@ -39,6 +39,10 @@ const LEAST: usize = 144;
 /// The most bytes that a segment has.
 const MOST: usize = 1_073_741_824;
 
+/// The most bytes of an image in which a place is looked for through all links, which takes time that grows as the square
+/// of the number of blocks.
+const MOST_SEARCHED: usize = 1_048_576;
+
 /// Where the version of an image stands.
 const VERSION_AT: u64 = 8;
 
@@ -55,8 +59,8 @@ const MAGIC: &[u8; 8] = b"MSEGFILE";
 /// class: where they have another one, the place says nothing.
 ///
 /// A place is always said of the classes before the tenth. Of the last three one is said where it was found, which it
-/// is not behind 64 nodes of a map in a row, and of a map not where the order of its keys or the colours of its nodes
-/// are wrong.
+/// may not be in a map that is deeper than any of a segment, or is wrong in the order of its keys or its colours alone,
+/// and is not looked for in an image of more than 1 MiB.
 pub fn explain(image: &[u8], class: ImageClass) -> Explanation
     ensures { Explains image.now class result }
 {
@@ -169,34 +173,34 @@ fn shown_object(image: &[u8]) -> Option<u64>
     object_place(image)
 }
 
-/// A link that leads where another leads, or nothing where the tags are wrong or none was found.
+/// A link that leads where another leads, or nothing where the tags are wrong, the image is large, or none was found.
 fn shown_shared(image: &[u8]) -> Option<u64>
     requires { 144 ≤ length image.now }
     ensures { IfSome result (IsSharedAt current (bytes_of image.now) (tiles_in image.now)) }
 {
-    if !has_tiles(image) {
+    if image.len() > MOST_SEARCHED || !has_tiles(image) {
         return None;
     }
     shared_place(image)
 }
 
-/// An object whose container is wrong, or nothing where the tags are or none was found.
+/// An object whose container is wrong, or nothing where the tags are, the image is large, or none was found.
 fn shown_container(image: &[u8]) -> Option<u64>
     requires { 144 ≤ length image.now }
     ensures { IfSome result (IsWrongContainer current (bytes_of image.now) (tiles_in image.now)) }
 {
-    if !has_tiles(image) {
+    if image.len() > MOST_SEARCHED || !has_tiles(image) {
         return None;
     }
     container_place(image)
 }
 
-/// A block to which no link leads, or nothing where the tags are wrong or none was found.
+/// A block to which no link leads, or nothing where the tags are wrong, the image is large, or none was found.
 fn shown_orphan(image: &[u8]) -> Option<u64>
     requires { 144 ≤ length image.now }
     ensures { IfSome result (IsOrphanAt current (bytes_of image.now) (tiles_in image.now)) }
 {
-    if !has_tiles(image) {
+    if image.len() > MOST_SEARCHED || !has_tiles(image) {
         return None;
     }
     orphan_place(image)

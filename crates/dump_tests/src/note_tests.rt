@@ -1,7 +1,7 @@
 //! Dumps with notes behind them: those of capacities, and others.
 
 use crate::segments::{empty, is_dumped, loaded};
-use raw_region::fake::{Last, MemorySink};
+use memory_devices::{Last, MemorySink};
 use seg_types::Name;
 use segment_dump::{dump_with_capacities, said_size, without_notes};
 use segment_manager::{AnonymousInstance, Segment};

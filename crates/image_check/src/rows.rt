@@ -9,7 +9,6 @@ use crate::owners::Block;
 const NEAR: usize = 8;
 
 /// The number of the block at `target`, where it is `last` or one of a few before it.
-#[inline(always)]
 pub(crate) fn near(rows: &[(u64, Block)], last: usize, target: u64) -> Option<usize>
     ensures { IfSome result (IsRow rows.now target) }
 {
@@ -35,7 +34,6 @@ pub(crate) fn near(rows: &[(u64, Block)], last: usize, target: u64) -> Option<us
 /// Two numbers between which the block at `target` stands, if anywhere, the second not included. They are near each
 /// other where `last` is its number, or that of a block not far behind it: steps back from there become twice as long
 /// each time.
-#[inline(never)]
 pub(crate) fn bounds(rows: &[(u64, Block)], last: usize, target: u64) -> (usize, usize)
     requires { Rises rows.now }
     ensures { IsBetween rows.now target result.0 result.1 }
@@ -61,7 +59,6 @@ pub(crate) fn bounds(rows: &[(u64, Block)], last: usize, target: u64) -> (usize,
 
 /// The number of the block at `target`, which stands between two numbers, if anywhere: it is looked for in one half
 /// after another.
-#[inline(never)]
 pub(crate) fn halved(rows: &[(u64, Block)], low: usize, high: usize, target: u64) -> Option<usize>
     requires rises { Rises rows.now }
     requires between { IsBetween rows.now target low high }

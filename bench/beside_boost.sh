@@ -38,7 +38,7 @@ strings() {
       printf "construct string n%06d \"%s\"\n", i, substr(text, 1, (i * 7919) % 150 + 1)
       if (i >= live) printf "destroy n%06d\n", i - live } }'
 }
-sizes() { yes size | head -n "$1"; }
+sizes() { awk -v n="$1" 'BEGIN { for (i = 0; i < n; i++) print "size" }'; }
 
 # of_program FILE, of_peer FILE: a run of the script on a new segment
 of_program() { "${before[@]}" "$program" run segment.seg --mode create_only --size 33554432 < "$1"; }

@@ -1,5 +1,5 @@
 //! Files of the system that keep no place for long runs of zeros.
-ghost use Rattle.std.specs.Prelude.{◌≡◌, ◌≤◌, length, take, IsTrue};
+ghost use Rattle.std.specs.Prelude.{◌≡◌, ◌<◌, ◌≤◌, length, take, true, false};
 ghost use Rattle.raw_region.specs.Memory.{AreZero, bytes_of};
 
 use std::fs::{File, OpenFile};
@@ -47,13 +47,15 @@ impl SparseFile {
 fn front_piece(bytes: &[u8]) -> &[u8]
     ensures within { length result.now ≤ length bytes.now }
     ensures front { result.now ≡ take (length result.now) bytes.now }
+    ensures some { 0 < length bytes.now → 0 < length result.now }
 {
     &bytes[..bytes.len().min(PIECE)]
 }
 
 /// Whether all bytes are 0.
 fn are_zeros(bytes: &[u8]) -> bool
-    ensures { IsTrue result → AreZero (bytes_of bytes.now) 0 (length bytes.now) }
+    ensures zeros { result ≡ true → AreZero (bytes_of bytes.now) 0 (length bytes.now) }
+    ensures other { result ≡ false → AreZero (bytes_of bytes.now) 0 (length bytes.now) → ⊥ }
 {
     let mut largest = 0;
     'bytes: for at in 0..bytes.len() {

@@ -31,6 +31,10 @@ row-found (e ∷ es) n (suc i) r w =
 pub found-read : (es : Blocks) (n i : ℕ) (x : ℕ × Block) → Rises es → IsRow es n i → x ≡ slice_index_or es i x → Some x.1 ≡ block_at es n
 found-read es n i x r w e = ap (λ (p : ℕ × Block). Some p.1) (e ∙ get_or_from_slice_get es i (n, w.block) x w.is) ∙ sym (row-found es n i r w)
 
+-- what is read at the number of a row is of its payload
+pub row-payload : (es : Blocks) (n i : ℕ) (x : ℕ × Block) → IsRow es n i → x ≡ slice_index_or es i x → x.0 ≡ n
+row-payload es n i x w e = ap (λ (p : ℕ × Block). p.0) (e ∙ get_or_from_slice_get es i (n, w.block) x w.is)
+
 pub here-read : (es : Blocks) (n i : ℕ) (x : ℕ × Block) → Rises es → i < length es → x ≡ slice_index_or es i x → x.0 ≡ n → Some x.1 ≡ block_at es n
 here-read es n i x r h e f = found-read es n i x r (row-read es n i x h (sym (ap (λ (p : ℕ × Block). p.0) e) ∙ f)) e
 

@@ -13,8 +13,8 @@ pub(crate) fn enter(
     owners: &mut Owners,
     visits: &mut Visits,
     link: Option<u64>,
-    place: u64,
-    root: u64,
+    place: u32,
+    root: u32,
 ) -> bool
     ensures entered { MatchBool result (IsEntered owners.old.blocks.entries owners.new.blocks.entries link place root) (can_enter owners.old.blocks.entries link ≡ false) }
     ensures pending { owners.new.pending ≡ owners.old.pending }
@@ -24,7 +24,7 @@ pub(crate) fn enter(
     let Some(target) = link else {
         return false;
     };
-    let Some((number, block)) = owners.blocks.find(target, visits) else {
+    let Some((number, _, block)) = owners.blocks.find(target, visits) else {
         return false;
     };
     if !is_new(block) {

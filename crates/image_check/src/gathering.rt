@@ -81,7 +81,8 @@ fn add_all(window: &ImageWindow, blocks: &mut Blocks, visits: &mut Visits)
 
 /// Adds the block of a tile, where it is in use, behind all others to a map with room for it. At most one visit.
 fn add(blocks: &mut Blocks, tile: Tile, visits: &mut Visits)
-    requires small { tile.offset < 2 ^ 63 }
+    requires small { tile.offset + 16 < 2 ^ 32 }
+    requires short { tile.len < 2 ^ 32 }
     requires below { AreBelow blocks.old.entries (tile.offset + 16) }
     requires room { length (option_to_list (entry_of tile)) ≤ blocks.old.room }
     ensures entries { blocks.new.entries ≡ blocks.old.entries ++ option_to_list (entry_of tile) }
@@ -91,7 +92,7 @@ fn add(blocks: &mut Blocks, tile: Tile, visits: &mut Visits)
     if let Some(role) = tile.use_of {
         let block = Block {
             role,
-            len: tile.len,
+            len: tile.len as u32,
             owner: None,
             next: None,
         };

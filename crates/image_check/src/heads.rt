@@ -152,7 +152,7 @@ fn index_of(blocks: &Blocks, guess: usize, at: u64, visits: &mut Visits) -> Opti
         return None;
     }
     match block.owner {
-        Some(owner) => Some(owner.root),
+        Some(owner) => Some(owner.root as u64),
         None => None,
     }
 }

@@ -76,7 +76,7 @@ fn enter_index(window: &ImageWindow, owners: &mut Owners, visits: &mut Visits, a
             visits,
             block,
             window.header_word(at + 8),
-            at,
+            at as u32,
         ),
     }
 }
@@ -119,9 +119,9 @@ fn enter_all(
     visits: &mut Visits,
     block: u64,
     count: u64,
-    root: u64,
+    root: u32,
 ) -> bool
-    requires small { length window.now.bytes < 2 ^ 63 }
+    requires small { length window.now.bytes < 2 ^ 32 }
     requires aligned { block % 8 ≡ 0 }
     requires inside { block + 8 * count ≤ length window.now.bytes }
     ensures entered { (ts : List Tile) → AreBlocks ts owners.old.blocks.entries → MatchBool result
@@ -136,7 +136,7 @@ fn enter_all(
     'entries: while i < count {
         let place = block + 8 * i;
         let link = window.link(place, visits);
-        if !enter(owners, visits, link, place, root) {
+        if !enter(owners, visits, link, place as u32, root) {
             return false;
         }
         i += 1;

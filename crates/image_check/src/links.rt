@@ -36,7 +36,11 @@ pub(crate) fn mark_index(
     if window.header_word(at + 16) == 0 {
         return Ok(());
     }
-    let link = Owner { at, root: at };
+    let place = at as u32;
+    let link = Owner {
+        at: place,
+        root: place,
+    };
     mark(owners, Role::Index, link, window.header_link(at), visits)
 }
 
@@ -65,7 +69,7 @@ pub(crate) fn mark_storage(
     if value.capacity(window) == 0 {
         return Ok(());
     }
-    let at = value.at();
+    let at = value.at() as u32;
     let owner = Owner { at, root: at };
     mark(owners, Role::Storage, owner, value.link(window), visits)
 }
@@ -97,7 +101,11 @@ pub(crate) fn mark_elements(
     'elements: while i < count {
         let at = array + 16 * i;
         let target = window.link(at, visits);
-        let link = Owner { at, root: at };
+        let place = at as u32;
+        let link = Owner {
+            at: place,
+            root: place,
+        };
         if let Err(class) = mark(owners, Role::Storage, link, target, visits) {
             return Err(class);
         }

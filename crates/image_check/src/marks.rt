@@ -40,7 +40,7 @@ pub(crate) fn mark(
     let Some(target) = target else {
         return Ok(());
     };
-    let Some((number, block)) = owners.blocks.find(target, visits) else {
+    let Some((number, payload, block)) = owners.blocks.find(target, visits) else {
         return Ok(());
     };
     if !is_same(block.role, role) {
@@ -59,14 +59,14 @@ pub(crate) fn mark(
     };
     owners.blocks.put(number, target, owned, visits);
     if is_same(role, Role::Node) {
-        owners.pending = Some(target);
+        owners.pending = Some(payload);
         owners.waiting += 1;
     }
     Ok(())
 }
 
 /// The node that waits behind a block.
-fn next_in(block: Option<Block>) -> Option<u64>
+fn next_in(block: Option<Block>) -> Option<u32>
     ensures { result ≡ next_there block }
 {
     match block {
@@ -76,7 +76,7 @@ fn next_in(block: Option<Block>) -> Option<u64>
 }
 
 /// Where the first link stands of those that lead to a block at `target`.
-fn root_in(block: Option<Block>, target: u64) -> u64
+fn root_in(block: Option<Block>, target: u32) -> u32
     ensures { result ≡ root_there block target }
 {
     match block {
@@ -96,7 +96,7 @@ fn root_in(block: Option<Block>, target: u64) -> u64
 fn follow_next(
     window: &ImageWindow,
     owners: &mut Owners,
-    node: u64,
+    node: u32,
     visits: &mut Visits,
 ) -> Result<(), ImageClass>
     ghost format: { ℕ }
@@ -108,11 +108,11 @@ fn follow_next(
         (IsSharedIn format window.now.bytes) }
     ensures visits { Adds 6 visits.old visits.new }
 {
-    let block = owners.blocks.block_of(node, visits);
+    let block = owners.blocks.block_of(node as u64, visits);
     let root = root_in(block, node);
     owners.pending = next_in(block);
     owners.waiting -= 1;
-    let children = window.links(node, visits);
+    let children = window.links(node as u64, visits);
     let left = Owner { at: node, root };
     match mark(owners, Role::Node, left, children.0, visits) {
         Err(class) => Err(class),

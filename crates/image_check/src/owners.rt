@@ -11,14 +11,15 @@ use crate::checking::Visits;
 use crate::image_window::Blocks;
 use block_tags::{Role, Tile};
 
-/// A link that leads to a block.
+/// A link that leads to a block. Places are numbers of four bytes, since no image is longer than 2^30 bytes: there is a row for
+/// each block, and they are gone through many times.
 #[derive(Clone, Copy, Debug, PartialEq, Eq)]
 pub(crate) struct Owner {
     /// Where it stands.
-    pub(crate) at: u64,
+    pub(crate) at: u32,
     /// Where the first link stands of those that lead there: itself, or for a link of a node the root link of its map. Of an entry
     /// of an index it is the index's own link.
-    pub(crate) root: u64,
+    pub(crate) root: u32,
 }
 
 /// A block in use, and what was found of it.
@@ -27,11 +28,11 @@ pub(crate) struct Block {
     /// What it is for.
     pub(crate) role: Role,
     /// The length of its tile.
-    pub(crate) len: u64,
+    pub(crate) len: u32,
     /// The link that leads to it, if one was met; to an object that is an entry of an index.
     pub(crate) owner: Option<Owner>,
     /// The node that waits behind this one to have its links followed.
-    pub(crate) next: Option<u64>,
+    pub(crate) next: Option<u32>,
 }
 
 /// The blocks in use by payload, and the nodes whose links are to be followed.
@@ -40,7 +41,7 @@ pub(crate) struct Owners {
     /// The blocks, by offset of the payload.
     pub(crate) blocks: Blocks,
     /// The node whose turn is next.
-    pub(crate) pending: Option<u64>,
+    pub(crate) pending: Option<u32>,
     /// How many nodes wait.
     pub(crate) waiting: u64,
 }
@@ -85,7 +86,7 @@ pub(crate) fn good_len(
 {
     let target = link?;
     match blocks.block_of(target, visits) {
-        Some(block) if is_same(block.role, role) => Some(block.len),
+        Some(block) if is_same(block.role, role) => Some(block.len as u64),
         _ => None,
     }
 }

@@ -119,7 +119,7 @@ fn mark_value(
     match kind {
         Kind::Scalar(_) => Ok(()),
         Kind::Map(_, _) => {
-            let at = value.at();
+            let at = value.at() as u32;
             let owner = Owner { at, root: at };
             mark(owners, Role::Node, owner, value.link(window), visits)
         }

@@ -1,5 +1,5 @@
 //! The map of the blocks in use, in which each look-up is counted.
-ghost use Rattle.std.specs.Prelude.{◌≡◌, ◌+◌, ◌++◌, ◌∷◌, ◌<◌, ◌≤◌, [], nat_eq, length, IfSome, IfNone, None, Some, vec_capacity};
+ghost use Rattle.std.specs.Prelude.{◌≡◌, ◌+◌, ◌^◌, ◌++◌, ◌∷◌, ◌<◌, ◌≤◌, [], nat_eq, length, IfSome, IfNone, None, Some, vec_capacity};
 ghost use Rattle.std.specs.Map.{set_value};
 ghost use Rattle.image_check.specs.Owners.{block_at};
 ghost use Rattle.image_check.specs.Rows.{AreBelow, IsRow};
@@ -13,7 +13,7 @@ use std::marker::Model;
 #[derive(Drop)]
 pub(crate) struct Blocks {
     /// Each with its payload, in the order of their places.
-    rows: Vec<(u64, Block)>,
+    rows: Vec<(u32, Block)>,
     /// For each stretch of the image the number of the last block whose payload begins in it: where a look-up begins.
     /// It may be any number, since what is found there is compared.
     lasts: Vec<u32>,
@@ -35,7 +35,7 @@ impl Model for Blocks {
 
 impl Blocks {
     /// No blocks, with the room of `rows`, and with `lasts` for stretches of 2 to the power of `shift` bytes.
-    pub(crate) fn new(rows: Vec<(u64, Block)>, lasts: Vec<u32>, shift: u32) -> Blocks
+    pub(crate) fn new(rows: Vec<(u32, Block)>, lasts: Vec<u32>, shift: u32) -> Blocks
         requires { rows.items ≡ [] }
         ensures entries { result.entries ≡ [] }
         ensures room { result.room ≡ vec_capacity rows }
@@ -77,16 +77,20 @@ impl Blocks {
         }
     }
 
-    /// The block whose payload begins at `target`, behind its number. One visit.
-    pub(crate) fn find(&self, target: u64, visits: &mut Visits) -> Option<(usize, Block)>
+    /// The block whose payload begins at `target`, behind its number and `target` in four bytes. One visit.
+    pub(crate) fn find(&self, target: u64, visits: &mut Visits) -> Option<(usize, u32, Block)>
         ensures number { IfSome result (λ found. IsRow self.now.entries target found.0) }
-        ensures block { IfSome result (λ found. block_at self.now.entries target ≡ Some found.1) }
+        ensures payload { IfSome result (λ found. found.1 ≡ target) }
+        ensures block { IfSome result (λ found. block_at self.now.entries target ≡ Some found.2) }
         ensures none { IfNone result (block_at self.now.entries target ≡ None) }
         ensures visits { visits.new ≡ visits.old + 1 }
     {
         visits.visit();
         match self.number_of(target) {
-            Some(number) => Some((number, self.rows[number].1)),
+            Some(number) => {
+                let (payload, block) = self.rows[number];
+                Some((number, payload, block))
+            }
             None => None,
         }
     }
@@ -109,7 +113,7 @@ impl Blocks {
         visits.visit();
         if guess < self.rows.len() {
             let row = self.rows[guess];
-            if row.0 == target {
+            if row.0 as u64 == target {
                 return Some(row.1);
             }
         }
@@ -123,11 +127,12 @@ impl Blocks {
         ensures visits { visits.new ≡ visits.old + 1 }
     {
         visits.visit();
-        self.rows[number] = (target, block);
+        self.rows[number].1 = block;
     }
 
     /// Adds a block at `target`, behind all others, to those of which there is room for one more. One visit.
     pub(crate) fn add(&mut self, target: u64, block: Block, visits: &mut Visits)
+        requires small { target < 2 ^ 32 }
         requires below { AreBelow self.old.entries target }
         requires room { 0 < self.old.room }
         ensures entries { self.new.entries ≡ self.old.entries ++ (target, block) ∷ [] }
@@ -139,6 +144,6 @@ impl Blocks {
         if stretch < self.lasts.len() {
             self.lasts[stretch] = u32::try_from(self.rows.len()).unwrap_or(0);
         }
-        self.rows.push_reserved((target, block));
+        self.rows.push_reserved((target as u32, block));
     }
 }

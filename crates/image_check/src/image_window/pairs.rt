@@ -67,11 +67,11 @@ impl Pairs<'_> {
         if !is_same(Role::Node, block.role) {
             return false;
         }
-        if block.len < LINKS + self.key.size() + self.value.size() + TAG {
+        if (block.len as u64) < LINKS + self.key.size() + self.value.size() + TAG {
             return false;
         }
         match block.owner {
-            Some(owner) => owner.root == self.root,
+            Some(owner) => owner.root as u64 == self.root,
             None => false,
         }
     }

@@ -1,12 +1,16 @@
-use Rattle.std.proofs.Common.{sym, ap, subst, ◌∙◌, nat_eq}
+use Rattle.std.proofs.Common.{sym, ap, subst, ◌∙◌, ℕ, nat_eq}
+use Rattle.std.specs.Prelude.{slice_set}
 use Rattle.std.specs.Map.{set_value}
 use Rattle.image_check.specs.Owners.{BlockMap}
 use Rattle.image_check.specs.Rows.{IsRow}
-use Rattle.image_check.proofs.Numbered.{set-row}
+use Rattle.image_check.proofs.Numbered.{row-payload, set-row}
 use Rattle.image_check.proofs.image_window.blocks.Blocks.put.Goals as goal
 
 pub returns-clause-value : goal.returns-clause-value
 returns-clause-value c =
     let row = subst (λ (v : BlockMap). IsRow v.entries c.args.target c.args.number) (sym c.self.view_is) c.requires in
-    sym (set-row c.self.inside.rows.items c.args.target c.args.number c.args.block c.self.invariant row)
+    let same = row-payload c.self.inside.rows.items c.args.target c.args.number c.index_mut.result.now row
+    c.index_mut.ensures.value in
+    ap (λ (n : ℕ). slice_set c.self.inside.rows.items c.args.number (n, c.args.block)) same
+    ∙ sym (set-row c.self.inside.rows.items c.args.target c.args.number c.args.block c.self.invariant row)
     ∙ ap (λ (v : BlockMap). set_value (nat_eq c.args.target) v.entries c.args.block) c.self.view_is

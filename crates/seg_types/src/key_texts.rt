@@ -3,11 +3,14 @@ ghost use Rattle.std.specs.Prelude.{◌≡◌, Some, flat_map};
 ghost use Rattle.std.specs.Fmt.{DisplaysOnOk};
 ghost use Rattle.std.specs.List.{list_all};
 ghost use Rattle.seg_types.specs.Keys.{index_key_seen, key_seen, name_seen, new_key_seen};
+ghost use Rattle.seg_types.specs.Names.{ByKind};
 ghost use Rattle.seg_types.specs.Texts.{escape_text, is_bare_name, is_letter, is_name_byte, item_text, key_text, name_text, quoted_text};
 
 use crate::keys::{IndexKey, Key, NewKey};
+use crate::kinds::Kind;
 use crate::names::Name;
 use std::fmt;
+use std::fmt::Display;
 
 /// Whether a name may stand bare: a letter or `_`, then letters, digits, `_` and `.`.
 pub fn is_bare_name(name: &[u8]) -> bool
@@ -84,14 +87,21 @@ fn write_escape<W: fmt::Write>(byte: u8, f: &mut fmt::Formatter<W>) -> fmt::Resu
     write!(f, "\\x{byte:02x}")
 }
 
+/// Writes a kind behind `@`.
+fn write_unique<W: fmt::Write>(kind: Kind, f: &mut fmt::Formatter<W>) -> fmt::Result
+    ensures { DisplaysOnOk W.write_str_gives f.old result (Some (key_text (ByKind kind))) f.new }
+{
+    write!(f, "@{kind}")
+}
+
 /// A name as names are, a kind behind `@`, a handle behind `#`, and `-` for no key.
 impl fmt::Display for Key<'_> {
     ghost output = { λ key. Some (key_text (key_seen key)) };
 
     fn fmt<W: fmt::Write>(&self, f: &mut fmt::Formatter<W>) -> fmt::Result {
         match self {
-            Key::Name(name) => write!(f, "{name}"),
-            Key::Unique(kind) => write!(f, "@{kind}"),
+            Key::Name(name) => name.fmt(f),
+            Key::Unique(kind) => write_unique(*kind, f),
             Key::Handle(handle) => write!(f, "#{handle}"),
             Key::Anonymous => f.write_str("-"),
         }
@@ -104,8 +114,8 @@ impl fmt::Display for NewKey<'_> {
 
     fn fmt<W: fmt::Write>(&self, f: &mut fmt::Formatter<W>) -> fmt::Result {
         match self {
-            NewKey::Name(name) => write!(f, "{name}"),
-            NewKey::Unique(kind) => write!(f, "@{kind}"),
+            NewKey::Name(name) => name.fmt(f),
+            NewKey::Unique(kind) => write_unique(*kind, f),
             NewKey::Anonymous => f.write_str("-"),
         }
     }
@@ -117,8 +127,8 @@ impl fmt::Display for IndexKey<'_> {
 
     fn fmt<W: fmt::Write>(&self, f: &mut fmt::Formatter<W>) -> fmt::Result {
         match self {
-            IndexKey::Name(name) => write!(f, "{name}"),
-            IndexKey::Unique(kind) => write!(f, "@{kind}"),
+            IndexKey::Name(name) => name.fmt(f),
+            IndexKey::Unique(kind) => write_unique(*kind, f),
         }
     }
 }

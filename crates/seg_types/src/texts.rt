@@ -1,5 +1,6 @@
 //! How kinds and values are printed: as the command language prints them.
-ghost use Rattle.std.specs.Prelude.{◌≡◌, Some};
+ghost use Rattle.std.specs.Prelude.{◌≡◌, Some, decimal};
+ghost use Rattle.std.specs.Fmt.{DisplaysOnOk, signed_decimal};
 ghost use Rattle.seg_types.specs.Texts.{class_text, kind_text, scalar_text, value_text};
 ghost use Rattle.seg_types.specs.Values.{kind_of_scalar, value_of_scalar};
 
@@ -35,7 +36,7 @@ impl fmt::Display for Kind {
 
     fn fmt<W: fmt::Write>(&self, f: &mut fmt::Formatter<W>) -> fmt::Result {
         match self {
-            Kind::Scalar(kind) => write!(f, "{kind}"),
+            Kind::Scalar(kind) => f.write_str(kind.as_str()),
             Kind::Text => f.write_str("string"),
             Kind::Vector(element) => write!(f, "vec<{element}>"),
             Kind::Map(key, value) => write!(f, "map<{key},{value}>"),
@@ -71,10 +72,24 @@ impl fmt::Display for ScalarValue {
     fn fmt<W: fmt::Write>(&self, f: &mut fmt::Formatter<W>) -> fmt::Result {
         match self {
             ScalarValue::Bool(truth) => write!(f, "{truth}"),
-            ScalarValue::U8(number) => write!(f, "{number}"),
-            ScalarValue::I32(number) => write!(f, "{number}"),
-            ScalarValue::I64(number) => write!(f, "{number}"),
-            ScalarValue::U64(number) => write!(f, "{number}"),
+            ScalarValue::U8(number) => write_number(u64::from(*number), f),
+            ScalarValue::I32(number) => write_signed(i64::from(*number), f),
+            ScalarValue::I64(number) => write_signed(*number, f),
+            ScalarValue::U64(number) => write_number(*number, f),
         }
     }
+}
+
+/// Writes a number in plain decimal.
+fn write_number<W: fmt::Write>(number: u64, f: &mut fmt::Formatter<W>) -> fmt::Result
+    ensures { DisplaysOnOk W.write_str_gives f.old result (Some (decimal number)) f.new }
+{
+    write!(f, "{number}")
+}
+
+/// Writes a whole number that may be negative.
+fn write_signed<W: fmt::Write>(number: i64, f: &mut fmt::Formatter<W>) -> fmt::Result
+    ensures { DisplaysOnOk W.write_str_gives f.old result (Some (signed_decimal number)) f.new }
+{
+    write!(f, "{number}")
 }

@@ -60,10 +60,10 @@ impl ScalarValue {
                 1 => Some(ScalarValue::Bool(true)),
                 _ => None,
             },
-            ScalarKind::U8 => Some(ScalarValue::U8(u8::try_from(number).ok()?)),
-            ScalarKind::I32 => Some(ScalarValue::I32(i32::try_from(number).ok()?)),
-            ScalarKind::I64 => Some(ScalarValue::I64(i64::try_from(number).ok()?)),
-            ScalarKind::U64 => Some(ScalarValue::U64(u64::try_from(number).ok()?)),
+            ScalarKind::U8 => u8::try_from(number).ok().map(ScalarValue::U8),
+            ScalarKind::I32 => i32::try_from(number).ok().map(ScalarValue::I32),
+            ScalarKind::I64 => i64::try_from(number).ok().map(ScalarValue::I64),
+            ScalarKind::U64 => u64::try_from(number).ok().map(ScalarValue::U64),
         }
     }
 
@@ -73,11 +73,11 @@ impl ScalarValue {
         ensures { SpelledBy kind bytes.now result }
     {
         match kind {
-            ScalarKind::Bool => Some(ScalarValue::Bool(scalar_is_number::<bool>(bytes)?)),
-            ScalarKind::U8 => Some(ScalarValue::U8(scalar_is_number::<u8>(bytes)?)),
-            ScalarKind::I32 => Some(ScalarValue::I32(scalar_is_number::<i32>(bytes)?)),
-            ScalarKind::I64 => Some(ScalarValue::I64(scalar_is_number::<i64>(bytes)?)),
-            ScalarKind::U64 => Some(ScalarValue::U64(scalar_is_number::<u64>(bytes)?)),
+            ScalarKind::Bool => scalar_is_number::<bool>(bytes).map(ScalarValue::Bool),
+            ScalarKind::U8 => scalar_is_number::<u8>(bytes).map(ScalarValue::U8),
+            ScalarKind::I32 => scalar_is_number::<i32>(bytes).map(ScalarValue::I32),
+            ScalarKind::I64 => scalar_is_number::<i64>(bytes).map(ScalarValue::I64),
+            ScalarKind::U64 => scalar_is_number::<u64>(bytes).map(ScalarValue::U64),
         }
     }
 
